@@ -1,0 +1,14 @@
+pub mod World
+pub mod Event
+pub mod Acquire
+pub mod Release
+pub mod Table
+pub mod Row
+pub mod Journal
+pub mod Steps
+pub mod Lawful
+pub mod Invariant
+pub mod Law
+pub mod Scenario
+pub mod Run
+pub mod State

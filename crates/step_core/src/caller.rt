@@ -1,0 +1,84 @@
+//! A seat of a scenario, and the row that it runs next.
+
+ghost use Rattle.std.specs.Prelude.{◌≡◌, ◌≢◌, ◌<◌, ◌+◌, ◌^◌, ℕ, List, length, slice_get, Some, IfSome};
+ghost use Rattle.waiters.specs.declared.wait.WaitId.{WaitId};
+ghost use Rattle.step_core.specs.World.{turn_after};
+ghost use Rattle.step_core.specs.Table.{event_at};
+ghost use Rattle.step_core.specs.State.{Stored, HasRowsOf, HasWord, HasRoom, Does, IsListed, seat_of, words_of};
+ghost use Rattle.step_core.specs.Invariant.{IsWithin};
+
+use crate::acquire;
+use crate::entry::Entry;
+use crate::outcome::{Effect, Outcome};
+use crate::place::Place;
+use crate::release::{self, Sight};
+use crate::shared::Shared;
+use crate::word::Word;
+use waiters::{SeatId, WaitId};
+
+/// Where a seat stands, how many waits it has queued, and how many of its calls it has begun.
+#[derive(Clone, Copy, Debug, PartialEq, Eq, Drop)]
+pub struct Caller {
+    pub place: Place,
+    pub turn: u64,
+    pub begun: usize,
+}
+
+impl Caller {
+    /// The word of the row at which the seat stands.
+    pub(crate) fn word(&self, seat: SeatId, sight: &Sight) -> Word
+        ensures stored { (h : Stored) → HasRowsOf h seat self.now.place sight.now.in_hand → HasWord h result }
+        ensures word { (hand : List WaitId) (lists : ℕ → List WaitId) → slice_get hand 0 ≡ sight.now.in_hand → result ≡ (event_at seat (seat_of self.now hand) lists self.now.place).word }
+    {
+        match self.place {
+            Place::Rest => Word::Grant(seat),
+            Place::Acquiring(acquire, row) => acquire::word_of(seat, acquire, row),
+            Place::Releasing(release, row) => release::word_of(seat, sight, release, row),
+        }
+    }
+
+    /// The first wait of the list that a release looks at.
+    pub(crate) fn listed(&self, shared: &Shared) -> Option<WaitId>
+        requires { IsWithin (length shared.now.lists) self.now.place }
+        ensures { IsListed (words_of shared.now).lists self.now.place result }
+    {
+        match self.place {
+            Place::Releasing(release, _) => shared.first(release.counter),
+            _ => None,
+        }
+    }
+
+    /// What that row does where its word is `found`; `None` where its condition doesn't hold.
+    pub(crate) fn outcome(&self, seat: SeatId, sight: &Sight, found: u64) -> Option<Outcome>
+        requires { found + 1 < 2 ^ 64 }
+        ensures room { (counters : ℕ) → IsWithin counters self.now.place → IfSome result (λ outcome. HasRoom counters outcome.effect) }
+        ensures does { (hand : List WaitId) (lists : ℕ → List WaitId) → slice_get hand 0 ≡ sight.now.in_hand → IsListed lists self.now.place sight.now.listed → Does (event_at seat (seat_of self.now hand) lists self.now.place) found result }
+    {
+        let turn = self.turn;
+        match self.place {
+            Place::Rest => None,
+            Place::Acquiring(acquire, row) => {
+                acquire::outcome_of(seat, turn, acquire, row, found)
+            }
+            Place::Releasing(release, row) => {
+                release::outcome_of(seat, sight, release, row, found)
+            }
+        }
+    }
+
+    /// The seat after its row.
+    pub(crate) fn after(self, outcome: Outcome) -> Caller
+        requires { self.turn + 1 < 2 ^ 64 }
+        ensures { result ≡ record { place = outcome.place; turn = turn_after outcome.effect self.turn; begun = self.begun } }
+    {
+        let turn = match outcome.effect {
+            Effect::Tells(Entry::Queue(_, _, _)) => self.turn + 1,
+            _ => self.turn,
+        };
+        Caller {
+            place: outcome.place,
+            turn,
+            begun: self.begun,
+        }
+    }
+}

@@ -1,0 +1,94 @@
+ghost use Rattle.std.specs.Prelude.{◌≡◌, ◌<◌, ◌+◌, List, [], ◌∷◌, ◌++◌, length, slice_get, drop, OnOk, OnErr};
+
+use std::alloc::{AllocError, Global};
+use std::marker::Model;
+
+/// Some things in an order: a `Vec` that clauses see as the list of its elements.
+#[derive(Debug, Drop)]
+pub struct Items<T> {
+    items: Vec<T>,
+}
+
+impl<T> Model for Items<T> {
+    ghost Value = { List T };
+
+    ghost view = { λ s. s.items.items };
+}
+
+impl<T> Items<T> {
+    /// The elements of the `Vec`, which is kept as it is.
+    pub fn new(items: Vec<T>) -> Self
+        ensures { result ≡ items.items }
+    {
+        Items { items }
+    }
+
+    /// The `Vec` of the elements.
+    pub fn into_vec(self) -> Vec<T>
+        ensures { result.items ≡ self }
+    {
+        let Items { items } = self;
+        items
+    }
+
+    /// The elements in order.
+    pub fn as_slice(&self) -> &[T]
+        ensures { result.now ≡ self.now }
+    {
+        self.items.as_slice()
+    }
+
+    /// How many there are.
+    pub fn len(&self) -> usize
+        ensures { result ≡ length self.now }
+    {
+        self.items.len()
+    }
+}
+
+impl<T: Copy> Items<T> {
+    /// The first, if there is one.
+    pub fn first(&self) -> Option<T>
+        ensures { result ≡ slice_get self.now 0 }
+    {
+        self.items.first().copied()
+    }
+}
+
+impl<T: Drop> Items<T> {
+    /// No things, which take no memory.
+    pub fn empty(alloc: Global) -> Self
+        ensures { result ≡ [] }
+    {
+        Items {
+            items: Vec::new(alloc),
+        }
+    }
+
+    /// Puts one at the end.
+    pub fn push_back(&mut self, item: T) -> Result<(), AllocError>
+        ensures ok { OnOk result (self.new ≡ self.old ++ item ∷ []) }
+        ensures err { OnErr result (self.new ≡ self.old) }
+    {
+        self.items.push(item)?;
+        Ok(())
+    }
+
+    /// Puts one at the front.
+    pub fn push_front(&mut self, item: T) -> Result<(), AllocError>
+        ensures ok { OnOk result (self.new ≡ item ∷ self.old) }
+        ensures err { OnErr result (self.new ≡ self.old) }
+    {
+        self.items.insert(0, item)?;
+        Ok(())
+    }
+
+    /// Takes the first off, if there is one.
+    pub fn pop_front(&mut self)
+        ensures { self.new ≡ drop 1 self.old }
+    {
+        if self.items.len() != 0 {
+            let _ = self.items.remove(0);
+        }
+    }
+}

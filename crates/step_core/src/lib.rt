@@ -1,0 +1,45 @@
+//! The sleeping layer of semaphores as a pure machine of single steps.
+//!
+//! A scenario gives each seat a list of calls. Each step runs one row of the step table: one event of one word.
+//! The rows are those of Go's `semacquire1` and `semrelease1`.
+#![tactic(auto)]
+
+mod acquire;
+mod call;
+mod caller;
+mod entry;
+mod group_id;
+mod items;
+mod laws;
+mod list_id;
+mod misuse;
+mod outcome;
+mod phase;
+mod place;
+mod refusal;
+mod release;
+mod row;
+mod scenario;
+mod shared;
+mod step;
+mod word;
+
+pub use call::Call;
+pub use caller::Caller;
+pub use entry::Entry;
+pub use group_id::GroupId;
+pub use items::Items;
+pub use laws::law_of_the_rows;
+pub use list_id::ListId;
+pub use misuse::Misuse;
+pub use outcome::{Effect, Outcome};
+pub use phase::Phase;
+pub use place::{Acquire, AcquireRow, Place, Release, ReleaseRow};
+pub use refusal::{RunRefused, StepRefused};
+pub use row::Row;
+pub use scenario::{MAX_CALLS, MAX_COUNTERS, MAX_ROOTS, MAX_SEATS, Parts, Scenario, ScenarioRefused};
+pub use waiters::{CounterId, NoMemory, SeatId, WaitId};
+pub use word::Word;
+
+ghost use Rattle.step_core.specs.State.{IsSound};
+ghost use Rattle.step_core.specs.Run.{IsRefusedAt};
