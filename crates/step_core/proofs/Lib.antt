@@ -13,3 +13,6 @@ pub mod Bounding
 pub mod Ending
 pub mod Promises
 pub mod Storing
+pub mod Ranges
+pub mod Calling
+pub mod Stepping

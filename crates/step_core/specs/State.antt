@@ -1,6 +1,7 @@
 -- What the machine stores, and the run that it shows.
 use Rattle.std.specs.Prelude.{◌≡◌, ℕ, ◌+◌, ◌*◌, ◌%◌, ◌^◌, ◌<◌, ◌≤◌, List, [], ◌∷◌, Option, Some, None, length, slice_get, slice_index_or, MatchOption, IfSome, IsTrue}
 use Rattle.waiters.specs.declared.wait.WaitId.{WaitId}
+use Rattle.step_core.specs.declared.call.Call.{Call}
 use Rattle.step_core.specs.declared.caller.Caller.{Caller}
 use Rattle.step_core.specs.declared.entry.Entry.{Entry}
 use Rattle.step_core.specs.declared.entry.Entry.TheVariants.{Queue, Leave}
@@ -15,13 +16,13 @@ use Rattle.step_core.specs.declared.place.Place.TheVariants.{Rest, Acquiring, Re
 use Rattle.step_core.specs.declared.scenario.Parts.{Parts}
 use Rattle.step_core.specs.declared.word.Word.{Word}
 use Rattle.step_core.specs.declared.word.Word.TheVariants.{Counter, Lock, Waiters, Grant}
-use Rattle.step_core.specs.World.{Layout, Words, Seat, World, found, journal_after, hand_after}
+use Rattle.step_core.specs.World.{Layout, Words, Seat, World, found, journal_after, turn_after, hand_after}
 use Rattle.step_core.specs.Event.{Event}
 use Rattle.step_core.specs.Table.{event_at}
 use Rattle.step_core.specs.Steps.{words_after}
 use Rattle.step_core.specs.Lawful.{total, added}
 use Rattle.step_core.specs.Invariant.{IsInvariant, IsWithin}
-use Rattle.step_core.specs.Run.{Run, layout, stepped, IsTold}
+use Rattle.step_core.specs.Run.{Run, layout, first_place, stepped, IsTold}
 use Rattle.step_core.specs.Scenario.{IsWithinLimits, IsDeclared}
 
 -- the elements of a list by their places, and d past its end
@@ -72,6 +73,16 @@ ListsBecome h lists k = Becomes h (record (words_of h) { lists = lists }) k
 abbrev pub idle : Caller
 idle = record { place = Rest; turn = 0; begun = 0 }
 
+-- the seat, which has begun this call
+abbrev pub begin : Caller → Option Call → Caller
+begin caller None = caller
+begin caller (Some call) = record { place = first_place call; turn = caller.turn; begun = caller.begun + 1 }
+
+-- where its call has ended, the seat has begun its next one, if it has one
+abbrev pub continue_at : Place → Caller → Option Call → Caller
+continue_at Rest caller call = begin caller call
+continue_at _ caller call = caller
+
 pub record State : Type 0 where
   pub parts : Parts
   pub stored : Stored
@@ -111,6 +122,7 @@ pub record IsSound (m : State) : Type 0 where
   pub limits : IsWithinLimits m.parts
   pub declared : IsDeclared m.parts
   pub stored : IsStoredFor (length m.parts.starts) m.parts.roots (length m.parts.calls) m.stored
+  pub starts : (c : ℕ) → (layout m.parts).starts c < 2 ^ 32
   pub callers : length m.callers ≡ length m.parts.calls
   pub hands : length m.hands ≡ length m.parts.calls
   pub law : IsInvariant (layout m.parts) (run_of m).world
@@ -167,9 +179,12 @@ pub record HasRowsOf (h : Stored) (s : ℕ) (place : Place) (in_hand : Option Wa
   pub seat : s < length h.grants
   pub waiter : IfSome in_hand (λ w. w.seat < length h.grants)
 
--- the row of the seat ran: words and lists, hand and journal, and the outcome, are those of its event
-pub record HasRun (s : ℕ) (caller : Caller) (h : Stored) (hand : List WaitId) (journal : List Entry) (h' : Stored) (hand' : List WaitId) (journal' : List Entry) (o : Outcome) : Type 0 where
-  pub outcome : IsOutcome (row_event s caller h hand) (row_finds s caller h hand) o
+-- the row of the seat ran: the words and lists, its hand and the journal, and where it stands next, are those of its event
+pub record HasRun (s : ℕ) (caller : Caller) (h : Stored) (hand : List WaitId) (journal : List Entry) (h' : Stored) (hand' : List WaitId) (journal' : List Entry) (next : Caller) : Type 0 where
+  pub can : IsTrue ((row_event s caller h hand).can (row_finds s caller h hand))
+  pub place : next.place ≡ ((row_event s caller h hand).leads (row_finds s caller h hand)).0
+  pub turn : next.turn ≡ turn_after ((row_event s caller h hand).leads (row_finds s caller h hand)).1 caller.turn
+  pub begun : next.begun ≡ caller.begun
   pub stored : Becomes h (words_after (root_of h) (words_of h) (row_event s caller h hand) (row_finds s caller h hand)) h'
   pub hand_is : hand' ≡ hand_after ((row_event s caller h hand).leads (row_finds s caller h hand)).1 hand
   pub journal_is : journal' ≡ journal_after ((row_event s caller h hand).leads (row_finds s caller h hand)).1 journal

@@ -1,13 +1,14 @@
 //! A seat of a scenario, and the row that it runs next.
 
-ghost use Rattle.std.specs.Prelude.{◌≡◌, ◌≢◌, ◌<◌, ◌+◌, ◌^◌, ℕ, List, length, slice_get, Some, IfSome};
+ghost use Rattle.std.specs.Prelude.{◌≡◌, ◌≢◌, ◌<◌, ◌+◌, ◌^◌, ◌↔◌, ℕ, IsTrue, List, length, slice_get, Some, IfSome};
 ghost use Rattle.waiters.specs.declared.wait.WaitId.{WaitId};
 ghost use Rattle.step_core.specs.World.{turn_after};
 ghost use Rattle.step_core.specs.Table.{event_at};
-ghost use Rattle.step_core.specs.State.{Stored, HasRowsOf, HasWord, HasRoom, Does, IsListed, seat_of, words_of};
+ghost use Rattle.step_core.specs.State.{Stored, HasRowsOf, HasWord, HasRoom, Does, IsListed, seat_of, words_of, idle, begin};
 ghost use Rattle.step_core.specs.Invariant.{IsWithin};
 
 use crate::acquire;
+use crate::call::Call;
 use crate::entry::Entry;
 use crate::outcome::{Effect, Outcome};
 use crate::place::Place;
@@ -66,10 +67,43 @@ impl Caller {
         }
     }
 
+    /// A seat that has begun no call.
+    pub(crate) fn idle() -> Caller
+        ensures { result ≡ idle }
+    {
+        Caller {
+            place: Place::Rest,
+            turn: 0,
+            begun: 0,
+        }
+    }
+
+    /// The seat, which has begun its next call, if it has one.
+    pub(crate) fn begin(self, call: Option<Call>) -> Caller
+        requires { self.begun + 1 < 2 ^ 64 }
+        ensures { result ≡ begin self call }
+    {
+        match call {
+            None => self,
+            Some(call) => Caller {
+                place: call.first_place(),
+                turn: self.turn,
+                begun: self.begun + 1,
+            },
+        }
+    }
+
+    /// Whether it runs no row.
+    pub(crate) fn is_at_rest(&self) -> bool
+        ensures { IsTrue result ↔ (self.now.place ≡ Place.Rest) }
+    {
+        matches!(self.place, Place::Rest)
+    }
+
     /// The seat after its row.
-    pub(crate) fn after(self, outcome: Outcome) -> Caller
-        requires { self.turn + 1 < 2 ^ 64 }
-        ensures { result ≡ record { place = outcome.place; turn = turn_after outcome.effect self.turn; begun = self.begun } }
+    pub(crate) fn after(&self, outcome: &Outcome) -> Caller
+        requires { self.now.turn + 1 < 2 ^ 64 }
+        ensures { result ≡ record { place = outcome.now.place; turn = turn_after outcome.now.effect self.now.turn; begun = self.now.begun } }
     {
         let turn = match outcome.effect {
             Effect::Tells(Entry::Queue(_, _, _)) => self.turn + 1,

@@ -23,6 +23,7 @@ mod scenario;
 mod shared;
 mod step;
 mod word;
+mod world;
 
 pub use call::Call;
 pub use caller::Caller;
@@ -40,6 +41,7 @@ pub use row::Row;
 pub use scenario::{MAX_CALLS, MAX_COUNTERS, MAX_ROOTS, MAX_SEATS, Parts, Scenario, ScenarioRefused};
 pub use waiters::{CounterId, NoMemory, SeatId, WaitId};
 pub use word::Word;
+pub use world::World;
 
 ghost use Rattle.step_core.specs.State.{IsSound};
 ghost use Rattle.step_core.specs.Run.{IsRefusedAt};

@@ -1,6 +1,7 @@
 //! A scenario: how many roots, where the counters start, and the calls of each seat.
 
 ghost use Rattle.std.specs.Prelude.{◌≡◌, ◌<◌, ◌≤◌, ◌↔◌, ◌^◌, IsTrue, All, IfOk, List, length};
+ghost use Rattle.step_core.specs.Run.{call_of};
 ghost use Rattle.step_core.specs.Scenario.{IsWithinLimits, IsDeclared, IsScript, IsRunnable, IsCallOn};
 
 use crate::call::Call;
@@ -64,7 +65,8 @@ pub struct Scenario {
 
 impl Model for Scenario {
     ghost use Rattle.step_core.specs.declared.scenario.Parts.{Parts};
-    ghost use Rattle.step_core.specs.Scenario.{IsWithinLimits, IsDeclared};
+    ghost use Rattle.step_core.specs.Run.{call_of};
+ghost use Rattle.step_core.specs.Scenario.{IsWithinLimits, IsDeclared};
 
     ghost Value = { Parts };
 
@@ -152,5 +154,21 @@ impl Scenario {
         ensures declared { IsDeclared self.now }
     {
         &self.parts
+    }
+
+    /// How many seats there are.
+    pub fn seats(&self) -> usize
+        ensures { result ≡ length self.now.calls }
+    {
+        self.parts.calls.len()
+    }
+
+    /// The call of this number of the seat, if it has so many.
+    pub(crate) fn call(&self, seat: usize, number: usize) -> Option<Call>
+        requires { seat < length self.now.calls }
+        ensures { result ≡ call_of self.now seat number }
+    {
+        let calls = &self.parts.calls.as_slice()[seat];
+        calls.as_slice().get(number).copied()
     }
 }

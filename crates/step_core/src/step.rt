@@ -9,7 +9,7 @@ ghost use Rattle.step_core.specs.State.{words_of, seat_of, root_of, HasWord, Has
 use crate::caller::Caller;
 use crate::entry::Entry;
 use crate::items::Items;
-use crate::outcome::{Effect, Outcome};
+use crate::outcome::Effect;
 use crate::refusal::StepRefused;
 use crate::release::Sight;
 use crate::shared::Shared;
@@ -97,17 +97,18 @@ fn make(
     }
 }
 
-/// Runs the row at which the seat stands.
+/// Runs the row at which the seat stands, and says where it stands then.
 pub(crate) fn run_row(
     shared: &mut Shared,
     hand: &mut Items<WaitId>,
     journal: &mut Vec<Entry>,
     seat: SeatId,
     caller: &Caller,
-) -> Result<Outcome, StepRefused>
+) -> Result<Caller, StepRefused>
     requires rows { HasRowsOf shared.old seat caller.now.place (slice_get hand.old 0) }
     requires fits { row_finds seat caller.now shared.old hand.old + 1 < 2 ^ 64 }
-    ensures ok { IfOk result (λ outcome. HasRun seat caller.now shared.old hand.old journal.old.items shared.new hand.new journal.new.items outcome) }
+    requires turn { caller.now.turn + 1 < 2 ^ 64 }
+    ensures ok { IfOk result (λ next. HasRun seat caller.now shared.old hand.old journal.old.items shared.new hand.new journal.new.items next) }
     ensures same_words { OnErr result (shared.new ≡ shared.old) }
     ensures same_hand { OnErr result (hand.new ≡ hand.old) }
     ensures same_journal { OnErr result (journal.new.items ≡ journal.old.items) }
@@ -126,5 +127,5 @@ pub(crate) fn run_row(
         return Err(StepRefused::NoMemory);
     }
     shared.write(word, outcome.becomes);
-    Ok(outcome)
+    Ok(caller.after(&outcome))
 }
