@@ -16,3 +16,5 @@ pub mod Storing
 pub mod Ranges
 pub mod Calling
 pub mod Stepping
+pub mod Starting
+pub mod Scheduling

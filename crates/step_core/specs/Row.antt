@@ -1,4 +1,4 @@
--- The name of the row at which a seat stands.
+-- The name of the row at which a seat stands, and its phase.
 use Rattle.std.specs.Prelude.{Option, Some, None}
 use Rattle.step_core.specs.declared.place.AcquireRow.{AcquireRow}
 use Rattle.step_core.specs.declared.place.AcquireRow.TheVariants.{A1, A2, A3, A4, A5, A6, A7, A8, A9, P, A10, A11}
@@ -6,6 +6,8 @@ use Rattle.step_core.specs.declared.place.ReleaseRow.{ReleaseRow}
 use Rattle.step_core.specs.declared.place.ReleaseRow.TheVariants.{R1, R2, R3, R4, R5, R6, R7, R8, R9, R10}
 use Rattle.step_core.specs.declared.place.Place.{Place}
 use Rattle.step_core.specs.declared.place.Place.TheVariants.{Rest, Acquiring, Releasing}
+use Rattle.step_core.specs.declared.phase.Phase.{Phase}
+use Rattle.step_core.specs.declared.phase.Phase.TheVariants.{At, Ended}
 use Rattle.step_core.specs.declared.row.Row.{Row}
 use Rattle.step_core.specs.declared.row.Row.TheVariants as name
 
@@ -39,3 +41,9 @@ abbrev pub row_of : Place → Option Row
 row_of Rest = None
 row_of (Acquiring a row) = Some (acquire_row_name row)
 row_of (Releasing r row) = Some (release_row_name row)
+
+-- a seat at rest has ended all its calls
+abbrev pub phase_of : Place → Phase
+phase_of Rest = Ended
+phase_of (Acquiring a row) = At (acquire_row_name row)
+phase_of (Releasing r row) = At (release_row_name row)

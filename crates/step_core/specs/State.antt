@@ -1,5 +1,5 @@
 -- What the machine stores, and the run that it shows.
-use Rattle.std.specs.Prelude.{◌≡◌, ℕ, ◌+◌, ◌*◌, ◌%◌, ◌^◌, ◌<◌, ◌≤◌, List, [], ◌∷◌, Option, Some, None, length, slice_get, slice_index_or, MatchOption, IfSome, IsTrue}
+use Rattle.std.specs.Prelude.{◌≡◌, ℕ, ◌+◌, ◌*◌, ◌%◌, ◌^◌, ◌<◌, ◌≤◌, List, [], ◌∷◌, Option, Some, None, length, slice_get, slice_index_or, MatchOption, IfSome, IsTrue, map, replicate}
 use Rattle.waiters.specs.declared.wait.WaitId.{WaitId}
 use Rattle.step_core.specs.declared.call.Call.{Call}
 use Rattle.step_core.specs.declared.caller.Caller.{Caller}
@@ -22,7 +22,7 @@ use Rattle.step_core.specs.Table.{event_at}
 use Rattle.step_core.specs.Steps.{words_after}
 use Rattle.step_core.specs.Lawful.{total, added}
 use Rattle.step_core.specs.Invariant.{IsInvariant, IsWithin}
-use Rattle.step_core.specs.Run.{Run, layout, first_place, stepped, IsTold}
+use Rattle.step_core.specs.Run.{Run, layout, first_place, start, stepped, IsTold}
 use Rattle.step_core.specs.Scenario.{IsWithinLimits, IsDeclared}
 
 -- the elements of a list by their places, and d past its end
@@ -131,6 +131,37 @@ pub record IsSound (m : State) : Type 0 where
   pub units :
     added m.journal + 256 * total (length m.parts.calls) (λ s. pending ((run_of m).world.seats s).place)
     ≤ 256 * total (length m.parts.calls) (run_of m).begun
+
+-- the words and lists of the start: the numbers, and nothing else
+abbrev pub first_stored : List ℕ → ℕ → ℕ → Stored
+first_stored starts roots seats =
+    record {
+      numbers = starts;
+      locks = replicate roots 0;
+      waiters = replicate roots 0;
+      grants = replicate seats 0;
+      lists = map (λ n. []) starts;
+    }
+
+-- a seat that has begun the first of these calls, if there is one
+abbrev pub first_caller : List Call → Caller
+first_caller calls = begin idle (slice_get calls 0)
+
+-- what is stored at the start
+abbrev pub first_state : Parts → State
+first_state parts =
+    record {
+      parts = parts;
+      stored = first_stored parts.starts parts.roots (length parts.calls);
+      callers = map first_caller parts.calls;
+      hands = map (λ calls. []) parts.calls;
+      journal = [];
+    }
+
+-- the world starts: these parts, and the run at its start
+pub record IsStarted (scenario : Parts) (m : State) : Type 0 where
+  pub parts : m.parts ≡ scenario
+  pub run : run_of m ≡ start scenario
 
 -- the world steps: the same scenario, and the run after a step of the seat
 pub record IsStepped (m : State) (s : ℕ) (n : State) : Type 0 where

@@ -4,13 +4,16 @@ ghost use Rattle.std.specs.Prelude.{◌≡◌, ◌≢◌, ◌<◌, ◌+◌, ◌^
 ghost use Rattle.waiters.specs.declared.wait.WaitId.{WaitId};
 ghost use Rattle.step_core.specs.World.{turn_after};
 ghost use Rattle.step_core.specs.Table.{event_at};
-ghost use Rattle.step_core.specs.State.{Stored, HasRowsOf, HasWord, HasRoom, Does, IsListed, seat_of, words_of, idle, begin};
+ghost use Rattle.step_core.specs.State.{Stored, HasRowsOf, HasWord, HasRoom, Does, IsListed, seat_of, words_of, idle, begin, first_caller};
 ghost use Rattle.step_core.specs.Invariant.{IsWithin};
+ghost use Rattle.step_core.specs.Row.{phase_of};
 
 use crate::acquire;
 use crate::call::Call;
 use crate::entry::Entry;
+use crate::items::Items;
 use crate::outcome::{Effect, Outcome};
+use crate::phase::Phase;
 use crate::place::Place;
 use crate::release::{self, Sight};
 use crate::shared::Shared;
@@ -90,6 +93,23 @@ impl Caller {
                 turn: self.turn,
                 begun: self.begun + 1,
             },
+        }
+    }
+
+    /// A seat that has begun the first of these calls, if there is one.
+    pub(crate) fn first(calls: &Items<Call>) -> Caller
+        ensures { result ≡ first_caller calls.now }
+    {
+        Caller::idle().begin(calls.first())
+    }
+
+    /// How far the seat has come.
+    pub(crate) fn phase(&self) -> Phase
+        ensures { result ≡ phase_of self.now.place }
+    {
+        match self.place.row() {
+            None => Phase::Ended,
+            Some(row) => Phase::At(row),
         }
     }
 

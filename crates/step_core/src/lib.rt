@@ -20,6 +20,7 @@ mod refusal;
 mod release;
 mod row;
 mod scenario;
+mod schedule;
 mod shared;
 mod step;
 mod word;
@@ -39,9 +40,10 @@ pub use place::{Acquire, AcquireRow, Place, Release, ReleaseRow};
 pub use refusal::{RunRefused, StepRefused};
 pub use row::Row;
 pub use scenario::{MAX_CALLS, MAX_COUNTERS, MAX_ROOTS, MAX_SEATS, Parts, Scenario, ScenarioRefused};
+pub use schedule::run;
 pub use waiters::{CounterId, NoMemory, SeatId, WaitId};
 pub use word::Word;
 pub use world::World;
 
-ghost use Rattle.step_core.specs.State.{IsSound};
-ghost use Rattle.step_core.specs.Run.{IsRefusedAt};
+#[cfg(test)]
+mod tests;

@@ -1,6 +1,6 @@
 //! A scenario: how many roots, where the counters start, and the calls of each seat.
 
-ghost use Rattle.std.specs.Prelude.{◌≡◌, ◌<◌, ◌≤◌, ◌↔◌, ◌^◌, IsTrue, All, IfOk, List, length};
+ghost use Rattle.std.specs.Prelude.{◌≡◌, ◌<◌, ◌≤◌, ◌↔◌, ◌^◌, ℕ, IsTrue, All, IfOk, List, length, slice_index};
 ghost use Rattle.step_core.specs.Run.{call_of};
 ghost use Rattle.step_core.specs.Scenario.{IsWithinLimits, IsDeclared, IsScript, IsRunnable, IsCallOn};
 
@@ -154,6 +154,22 @@ impl Scenario {
         ensures declared { IsDeclared self.now }
     {
         &self.parts
+    }
+
+    /// The number at which each counter starts.
+    pub fn starts(&self) -> &[u32]
+        ensures value { result.now ≡ self.now.starts }
+        ensures fits { (c : ℕ) → slice_index self.now.starts c < 2 ^ 32 }
+    {
+        let starts = self.parts.starts.as_slice();
+        starts
+    }
+
+    /// How many counters there are.
+    pub fn counters(&self) -> usize
+        ensures { result ≡ length self.now.starts }
+    {
+        self.parts.starts.len()
     }
 
     /// How many seats there are.

@@ -1,0 +1,36 @@
+-- One more step of a schedule.
+use Rattle.std.proofs.Common.{◌≡◌, ℕ, List, [], ◌∷◌, ◌++◌, None, sym, ap, ◌∙◌, subst}
+use Rattle.step_core.specs.declared.scenario.Parts.{Parts}
+use Rattle.step_core.specs.Run.{Run, start, stepped, refusal, after_all, reached, AllRunFrom, AllRun}
+use Rattle.step_core.specs.State.{State, run_of, IsStepped}
+
+after_one_more : (parts : Parts) (run : Run) (schedule : List ℕ) (i : ℕ)
+    → after_all parts run (schedule ++ i ∷ []) ≡ stepped parts (after_all parts run schedule) i
+after_one_more parts run [] i = λ j. stepped parts run i
+after_one_more parts run (k ∷ schedule) i = after_one_more parts (stepped parts run k) schedule i
+
+all_run_with : (parts : Parts) (run : Run) (schedule : List ℕ) (i : ℕ)
+    → AllRunFrom parts run schedule → refusal parts (after_all parts run schedule) i ≡ None → AllRunFrom parts run (schedule ++ i ∷ [])
+all_run_with parts run [] i all last = (last, tt)
+all_run_with parts run (k ∷ schedule) i all last = (all.0, all_run_with parts (stepped parts run k) schedule i all.1 last)
+
+-- the world to which a schedule of a scenario led
+pub record HasRunAll (scenario : Parts) (schedule : List ℕ) (m : State) : Type 0 where
+  pub enabled : AllRun scenario schedule
+  pub parts : m.parts ≡ scenario
+  pub run : run_of m ≡ reached scenario schedule
+
+pub one_more : (scenario : Parts) (past : List ℕ) (i : ℕ) (m n : State)
+    → HasRunAll scenario past m → refusal m.parts (run_of m) i ≡ None → IsStepped m i n → HasRunAll scenario (past ++ i ∷ []) n
+one_more scenario past i m n before can step =
+    record {
+      enabled =
+        let can_here = subst (λ (parts : Parts). refusal parts (run_of m) i ≡ None) before.parts can in
+        all_run_with scenario (start scenario) past i before.enabled (subst (λ (run : Run). refusal scenario run i ≡ None) before.run can_here);
+      parts = step.parts ∙ before.parts;
+      run =
+        step.run
+        ∙ ap (λ (parts : Parts). stepped parts (run_of m) i) before.parts
+        ∙ ap (λ (run : Run). stepped scenario run i) before.run
+        ∙ sym (after_one_more scenario (start scenario) past i);
+    }

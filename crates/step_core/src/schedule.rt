@@ -1,0 +1,44 @@
+//! A whole schedule, step after step.
+
+ghost use Rattle.std.specs.Prelude.{◌≡◌, IfOk, IfErr, OnOk};
+ghost use Rattle.step_core.specs.Run.{layout, AllRun, reached, IsRefusedAt};
+ghost use Rattle.step_core.specs.State.{run_of};
+ghost use Rattle.step_core.specs.Steps.{IsEnd};
+ghost use Rattle.step_core.specs.Lawful.{IsLawfulWorld};
+ghost use Rattle.step_core.specs.Law.{IsAtRest};
+
+use crate::refusal::{RunRefused, StepRefused};
+use crate::scenario::Scenario;
+use crate::world::World;
+use std::alloc::Global;
+use waiters::SeatId;
+
+/// Runs the seats in the order of the schedule, from the start of the scenario. The world is that of the schedule, it
+/// is lawful, and where no seat can run it is at rest. A schedule is refused at its first step that can't be run, or at
+/// step 0 where there is no memory for the start.
+pub fn run<'s>(
+    alloc: Global,
+    scenario: &'s Scenario,
+    schedule: &[SeatId],
+) -> Result<World<'s>, RunRefused>
+    ensures enabled { OnOk result (AllRun scenario.now schedule.now) }
+    ensures world { IfOk result (λ world. (world.parts ≡ scenario.now) × (run_of world ≡ reached scenario.now schedule.now)) }
+    ensures lawful { IfOk result (λ world. IsLawfulWorld (layout scenario.now) (run_of world).world) }
+    ensures ends { IfOk result (λ world. IsEnd (layout scenario.now) (run_of world).world → IsAtRest (layout scenario.now) (run_of world).world) }
+    ensures refused { IfErr result (λ refused. IsRefusedAt scenario.now schedule.now refused.at refused.cause) }
+{
+    let Ok(mut world) = World::new(alloc, scenario) else {
+        return Err(RunRefused {
+            at: 0,
+            cause: StepRefused::NoMemory,
+        });
+    };
+    for (at, seat) in schedule.iter().enumerate() {
+        if let Err(cause) = world.step(*seat) {
+            return Err(RunRefused { at, cause });
+        }
+    }
+    // what the world ensures of its journal says that it is lawful
+    let _ = world.journal();
+    Ok(world)
+}

@@ -1,0 +1,262 @@
+//! Schedules that are known by hand, the refusals, and memory that runs out.
+//!
+//! A call that answers want of memory is made once more. So each test passes whichever single allocation is refused
+//! (`rt try --test --fail-alloc 1..`), and shows that the refused call changed nothing.
+
+use crate::{
+    Call, Entry, Items, MAX_CALLS, MAX_COUNTERS, MAX_ROOTS, MAX_SEATS, Parts, Phase, Row, RunRefused, Scenario,
+    ScenarioRefused, StepRefused, World, run,
+};
+use std::alloc::{AllocError, Global};
+use std::process::Abort;
+use std::test::Fail;
+use waiters::{CounterId, SeatId, WaitId};
+
+const COUNTER: u32 = 0;
+
+fn acquire() -> Call {
+    Call::Acquire(CounterId::new(COUNTER), false)
+}
+
+fn release() -> Call {
+    Call::Release(CounterId::new(COUNTER), false)
+}
+
+fn seat(number: u16) -> SeatId {
+    SeatId::new(number)
+}
+
+fn wait(number: u16, turn: u64) -> WaitId {
+    WaitId {
+        seat: seat(number),
+        turn,
+    }
+}
+
+fn script(alloc: Global, call: Call, times: usize) -> Result<Items<Call>, AllocError> {
+    let mut calls = Vec::new(alloc);
+    for _ in 0..times {
+        calls.push(call)?;
+    }
+    Ok(Items::new(calls))
+}
+
+/// One root, one counter at 0, and seats of one call each.
+fn parts(alloc: Global, calls: &[Call]) -> Result<Parts, AllocError> {
+    let mut scripts = Vec::new(alloc);
+    for call in calls {
+        scripts.push(script(alloc, *call, 1)?)?;
+    }
+    Ok(Parts {
+        roots: 1,
+        starts: Items::new(vec![in alloc; 0]?),
+        firsts: Items::new(Vec::new(alloc)),
+        groups: 0,
+        calls: Items::new(scripts),
+    })
+}
+
+fn scenario(alloc: Global, calls: &[Call]) -> Result<Scenario, Fail> {
+    let made = match parts(alloc, calls) {
+        Ok(made) => made,
+        Err(_) => parts(alloc, calls)?,
+    };
+    Ok(Scenario::of(made).ok().ok_or("the parts were refused")?)
+}
+
+fn seats(alloc: Global, schedule: &[u16]) -> Result<Vec<SeatId>, AllocError> {
+    schedule.iter().map(|number| seat(*number)).collect(alloc)
+}
+
+fn seats_again(alloc: Global, schedule: &[u16]) -> Result<Vec<SeatId>, AllocError> {
+    match seats(alloc, schedule) {
+        Ok(seats) => Ok(seats),
+        Err(_) => seats(alloc, schedule),
+    }
+}
+
+/// Runs the schedule, once more where memory was refused.
+fn run_again<'s>(alloc: Global, scenario: &'s Scenario, schedule: &[SeatId]) -> Result<World<'s>, RunRefused> {
+    match run(alloc, scenario, schedule) {
+        Err(RunRefused {
+            at: _,
+            cause: StepRefused::NoMemory,
+        }) => run(alloc, scenario, schedule),
+        answer => answer,
+    }
+}
+
+/// Makes one step, once more where memory was refused.
+fn step_again(world: &mut World<'_>, number: u16) -> Result<(), StepRefused> {
+    match world.step(seat(number)) {
+        Err(StepRefused::NoMemory) => world.step(seat(number)),
+        answer => answer,
+    }
+}
+
+fn phase(rt: &impl Abort, world: &World<'_>, number: u16) -> Phase {
+    assert!(rt; (number as usize) < world.scenario().seats());
+    world.phase(seat(number))
+}
+
+fn value(rt: &impl Abort, world: &World<'_>) -> u64 {
+    assert!(rt; (COUNTER as usize) < world.scenario().counters());
+    world.value(CounterId::new(COUNTER))
+}
+
+fn waiting(rt: &impl Abort, alloc: Global, world: &World<'_>) -> Result<Vec<WaitId>, Fail> {
+    assert!(rt; (COUNTER as usize) < world.scenario().counters());
+    match world.waiting(alloc, CounterId::new(COUNTER)) {
+        Ok(waits) => Ok(waits),
+        Err(_) => Ok(world.waiting(alloc, CounterId::new(COUNTER))?),
+    }
+}
+
+#[test]
+fn a_release_reaches_the_second_look(rt: HostRuntime) -> Result<(), Fail> {
+    let scenario = scenario(rt.alloc(), &[acquire(), release()])?;
+    let mut world = match World::new(rt.alloc(), &scenario) {
+        Ok(world) => world,
+        Err(_) => World::new(rt.alloc(), &scenario)?,
+    };
+    assert_eq!(rt; value(&rt, &world), 0);
+    assert_eq!(rt; world.journal().len(), 0);
+    let steps = [
+        (0, Row::A1),
+        (1, Row::R1),
+        (1, Row::R2),
+        (0, Row::A3),
+        (0, Row::A4),
+        (0, Row::A5),
+        (0, Row::A6),
+        (0, Row::A8),
+        (0, Row::A9),
+    ];
+    for (number, row) in steps {
+        assert_eq!(rt; phase(&rt, &world, number), Phase::At(row));
+        assert_eq!(rt; step_again(&mut world, number), Ok(()));
+    }
+    assert_eq!(rt; phase(&rt, &world, 0), Phase::Ended);
+    assert_eq!(rt; phase(&rt, &world, 1), Phase::Ended);
+    assert_eq!(rt; value(&rt, &world), 0);
+    let counter = CounterId::new(COUNTER);
+    assert_eq!(rt; world.journal(), [Entry::Add(counter, seat(1)), Entry::Take(counter, seat(0))].as_slice());
+    Ok(())
+}
+
+/// Seats 0 and 1 sleep, seat 2 hands its unit to the first of them.
+const HANDOFF: [u16; 20] = [0, 0, 0, 0, 0, 1, 1, 1, 1, 1, 2, 2, 2, 2, 2, 2, 2, 2, 2, 0];
+
+fn handoff_scenario(alloc: Global) -> Result<Scenario, Fail> {
+    let release = Call::Release(CounterId::new(COUNTER), true);
+    scenario(alloc, &[acquire(), acquire(), release])
+}
+
+#[test]
+fn a_unit_is_handed_over(rt: HostRuntime) -> Result<(), Fail> {
+    let scenario = handoff_scenario(rt.alloc())?;
+    let schedule = seats_again(rt.alloc(), &HANDOFF)?;
+    let world = run_again(rt.alloc(), &scenario, &schedule)?;
+    assert_eq!(rt; value(&rt, &world), 0);
+    let waits = waiting(&rt, rt.alloc(), &world)?;
+    assert_eq!(rt; waits.as_slice(), [wait(1, 0)].as_slice());
+    let counter = CounterId::new(COUNTER);
+    let told = [
+        Entry::Queue(counter, wait(0, 0), false),
+        Entry::Queue(counter, wait(1, 0), false),
+        Entry::Add(counter, seat(2)),
+        Entry::Leave(counter, wait(0, 0), seat(2)),
+        Entry::Take(counter, seat(0)),
+    ];
+    assert_eq!(rt; world.journal(), told.as_slice());
+    assert_eq!(rt; phase(&rt, &world, 0), Phase::Ended);
+    assert_eq!(rt; phase(&rt, &world, 1), Phase::At(Row::P));
+    Ok(())
+}
+
+#[test]
+fn a_step_too_many_is_refused(rt: HostRuntime) -> Result<(), Fail> {
+    let scenario = handoff_scenario(rt.alloc())?;
+    let refusals = [
+        (1, StepRefused::Asleep, 4),
+        (2, StepRefused::SeatEnded, 2),
+        (3, StepRefused::NoSuchSeat, 1),
+    ];
+    for (number, cause, code) in refusals {
+        let mut schedule = seats_again(rt.alloc(), &HANDOFF)?;
+        if schedule.push(seat(number)).is_err() {
+            schedule.push(seat(number))?;
+        }
+        let refused = run_again(rt.alloc(), &scenario, &schedule).err();
+        assert_eq!(rt; refused, Some(RunRefused { at: 20, cause }));
+        assert_eq!(rt; cause as u8, code);
+    }
+    Ok(())
+}
+
+#[test]
+fn a_held_lock_refuses(rt: HostRuntime) -> Result<(), Fail> {
+    let scenario = scenario(rt.alloc(), &[acquire(), release()])?;
+    let schedule = seats_again(rt.alloc(), &[0, 0, 0, 1, 1, 1])?;
+    let refused = run_again(rt.alloc(), &scenario, &schedule).err();
+    let cause = StepRefused::LockHeld;
+    assert_eq!(rt; refused, Some(RunRefused { at: 5, cause }));
+    assert_eq!(rt; cause as u8, 3);
+    assert_eq!(rt; StepRefused::NoMemory as u8, 6);
+    Ok(())
+}
+
+/// So many roots, counters, lists, groups, seats, calls a seat, and the call that each makes.
+struct Sizes(u32, usize, usize, u32, usize, usize, Call);
+
+fn sized(alloc: Global, sizes: &Sizes) -> Result<Parts, AllocError> {
+    let mut scripts = Vec::new(alloc);
+    for _ in 0..sizes.4 {
+        scripts.push(script(alloc, sizes.6, sizes.5)?)?;
+    }
+    Ok(Parts {
+        roots: sizes.0,
+        starts: Items::new(vec![in alloc; 0; sizes.1]?),
+        firsts: Items::new(vec![in alloc; 0; sizes.2]?),
+        groups: sizes.3,
+        calls: Items::new(scripts),
+    })
+}
+
+#[test]
+fn parts_are_held_to_the_limits(rt: HostRuntime) -> Result<(), Fail> {
+    let call = acquire();
+    let last = Call::Release(CounterId::new(15), false);
+    let past = Call::Acquire(CounterId::new(16), true);
+    let many = Call::ReleaseMany(CounterId::new(COUNTER), 1);
+    let most = Sizes(MAX_ROOTS, MAX_COUNTERS, 0, 0, MAX_SEATS, MAX_CALLS, last);
+    let outside = Some(ScenarioRefused::OutOfLimits);
+    let undeclared = Some(ScenarioRefused::Undeclared);
+    let rows = [
+        (Sizes(1, 1, 0, 0, 1, 1, call), None),
+        (most, None),
+        (Sizes(0, 1, 0, 0, 1, 1, call), outside),
+        (Sizes(252, 1, 0, 0, 1, 1, call), outside),
+        (Sizes(1, 17, 0, 0, 1, 1, call), outside),
+        (Sizes(1, 1, 1, 0, 1, 1, call), outside),
+        (Sizes(1, 1, 0, 1, 1, 1, call), outside),
+        (Sizes(1, 1, 0, 0, 0, 1, call), outside),
+        (Sizes(1, 1, 0, 0, 17, 1, call), outside),
+        (Sizes(1, 1, 0, 0, 1, 0, call), outside),
+        (Sizes(1, 1, 0, 0, 1, 33, call), outside),
+        (Sizes(1, 1, 0, 0, 1, 1, many), outside),
+        (Sizes(0, 16, 0, 0, 1, 1, past), outside),
+        (Sizes(1, 16, 0, 0, 1, 1, past), undeclared),
+        (Sizes(1, 0, 0, 0, 1, 1, call), undeclared),
+    ];
+    for (sizes, refusal) in &rows {
+        let parts = match sized(rt.alloc(), sizes) {
+            Ok(parts) => parts,
+            Err(_) => sized(rt.alloc(), sizes)?,
+        };
+        assert_eq!(rt; Scenario::of(parts).err(), *refusal);
+    }
+    assert_eq!(rt; ScenarioRefused::OutOfLimits as u8, 1);
+    assert_eq!(rt; ScenarioRefused::Undeclared as u8, 2);
+    Ok(())
+}
