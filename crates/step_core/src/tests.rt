@@ -3,6 +3,8 @@
 //! A call that answers want of memory is made once more. So each test passes whichever single allocation is refused
 //! (`rt try --test --fail-alloc 1..`), and shows that the refused call changed nothing.
 
+ghost use Rattle.std.specs.Prelude.{◌≡◌};
+
 use crate::{
     Call, Entry, Items, MAX_CALLS, MAX_COUNTERS, MAX_ROOTS, MAX_SEATS, Parts, Phase, Row, RunRefused, Scenario,
     ScenarioRefused, StepRefused, World, run,
@@ -10,7 +12,7 @@ use crate::{
 use std::alloc::{AllocError, Global};
 use std::process::Abort;
 use std::test::Fail;
-use waiters::{CounterId, SeatId, WaitId};
+use waiters::{CounterId, NoMemory, SeatId, WaitId};
 
 const COUNTER: u32 = 0;
 
@@ -22,7 +24,9 @@ fn release() -> Call {
     Call::Release(CounterId::new(COUNTER), false)
 }
 
-fn seat(number: u16) -> SeatId {
+fn seat(number: u16) -> SeatId
+    ensures { result ≡ number }
+{
     SeatId::new(number)
 }
 
@@ -33,10 +37,10 @@ fn wait(number: u16, turn: u64) -> WaitId {
     }
 }
 
-fn script(alloc: Global, call: Call, times: usize) -> Result<Items<Call>, AllocError> {
+fn script(alloc: Global, call: &Call, times: usize) -> Result<Items<Call>, AllocError> {
     let mut calls = Vec::new(alloc);
     for _ in 0..times {
-        calls.push(call)?;
+        calls.push(*call)?;
     }
     Ok(Items::new(calls))
 }
@@ -45,7 +49,7 @@ fn script(alloc: Global, call: Call, times: usize) -> Result<Items<Call>, AllocE
 fn parts(alloc: Global, calls: &[Call]) -> Result<Parts, AllocError> {
     let mut scripts = Vec::new(alloc);
     for call in calls {
-        scripts.push(script(alloc, *call, 1)?)?;
+        scripts.push(script(alloc, call, 1)?)?;
     }
     Ok(Parts {
         roots: 1,
@@ -86,6 +90,14 @@ fn run_again<'s>(alloc: Global, scenario: &'s Scenario, schedule: &[SeatId]) -> 
     }
 }
 
+/// The world at the start, asked for once more where memory was refused.
+fn new_again<'s>(alloc: Global, scenario: &'s Scenario) -> Result<World<'s>, NoMemory> {
+    match World::new(alloc, scenario) {
+        Err(NoMemory) => World::new(alloc, scenario),
+        answer => answer,
+    }
+}
+
 /// Makes one step, once more where memory was refused.
 fn step_again(world: &mut World<'_>, number: u16) -> Result<(), StepRefused> {
     match world.step(seat(number)) {
@@ -115,10 +127,7 @@ fn waiting(rt: &impl Abort, alloc: Global, world: &World<'_>) -> Result<Vec<Wait
 #[test]
 fn a_release_reaches_the_second_look(rt: HostRuntime) -> Result<(), Fail> {
     let scenario = scenario(rt.alloc(), &[acquire(), release()])?;
-    let mut world = match World::new(rt.alloc(), &scenario) {
-        Ok(world) => world,
-        Err(_) => World::new(rt.alloc(), &scenario)?,
-    };
+    let mut world = new_again(rt.alloc(), &scenario)?;
     assert_eq!(rt; value(&rt, &world), 0);
     assert_eq!(rt; world.journal().len(), 0);
     let steps = [
@@ -206,13 +215,18 @@ fn a_held_lock_refuses(rt: HostRuntime) -> Result<(), Fail> {
     Ok(())
 }
 
+fn release_of(counter: u32) -> Call {
+    Call::Release(CounterId::new(counter), true)
+}
+
 /// So many roots, counters, lists, groups, seats, calls a seat, and the call that each makes.
+#[derive(Drop)]
 struct Sizes(u32, usize, usize, u32, usize, usize, Call);
 
 fn sized(alloc: Global, sizes: &Sizes) -> Result<Parts, AllocError> {
     let mut scripts = Vec::new(alloc);
     for _ in 0..sizes.4 {
-        scripts.push(script(alloc, sizes.6, sizes.5)?)?;
+        scripts.push(script(alloc, &sizes.6, sizes.5)?)?;
     }
     Ok(Parts {
         roots: sizes.0,
@@ -225,29 +239,25 @@ fn sized(alloc: Global, sizes: &Sizes) -> Result<Parts, AllocError> {
 
 #[test]
 fn parts_are_held_to_the_limits(rt: HostRuntime) -> Result<(), Fail> {
-    let call = acquire();
-    let last = Call::Release(CounterId::new(15), false);
-    let past = Call::Acquire(CounterId::new(16), true);
-    let many = Call::ReleaseMany(CounterId::new(COUNTER), 1);
-    let most = Sizes(MAX_ROOTS, MAX_COUNTERS, 0, 0, MAX_SEATS, MAX_CALLS, last);
     let outside = Some(ScenarioRefused::OutOfLimits);
     let undeclared = Some(ScenarioRefused::Undeclared);
+    let most = Sizes(MAX_ROOTS, MAX_COUNTERS, 0, 0, MAX_SEATS, MAX_CALLS, release_of(15));
     let rows = [
-        (Sizes(1, 1, 0, 0, 1, 1, call), None),
+        (Sizes(1, 1, 0, 0, 1, 1, release_of(0)), None),
         (most, None),
-        (Sizes(0, 1, 0, 0, 1, 1, call), outside),
-        (Sizes(252, 1, 0, 0, 1, 1, call), outside),
-        (Sizes(1, 17, 0, 0, 1, 1, call), outside),
-        (Sizes(1, 1, 1, 0, 1, 1, call), outside),
-        (Sizes(1, 1, 0, 1, 1, 1, call), outside),
-        (Sizes(1, 1, 0, 0, 0, 1, call), outside),
-        (Sizes(1, 1, 0, 0, 17, 1, call), outside),
-        (Sizes(1, 1, 0, 0, 1, 0, call), outside),
-        (Sizes(1, 1, 0, 0, 1, 33, call), outside),
-        (Sizes(1, 1, 0, 0, 1, 1, many), outside),
-        (Sizes(0, 16, 0, 0, 1, 1, past), outside),
-        (Sizes(1, 16, 0, 0, 1, 1, past), undeclared),
-        (Sizes(1, 0, 0, 0, 1, 1, call), undeclared),
+        (Sizes(0, 1, 0, 0, 1, 1, release_of(0)), outside),
+        (Sizes(252, 1, 0, 0, 1, 1, release_of(0)), outside),
+        (Sizes(1, 17, 0, 0, 1, 1, release_of(0)), outside),
+        (Sizes(1, 1, 1, 0, 1, 1, release_of(0)), outside),
+        (Sizes(1, 1, 0, 1, 1, 1, release_of(0)), outside),
+        (Sizes(1, 1, 0, 0, 0, 1, release_of(0)), outside),
+        (Sizes(1, 1, 0, 0, 17, 1, release_of(0)), outside),
+        (Sizes(1, 1, 0, 0, 1, 0, release_of(0)), outside),
+        (Sizes(1, 1, 0, 0, 1, 33, release_of(0)), outside),
+        (Sizes(1, 1, 0, 0, 1, 1, Call::ReleaseMany(CounterId::new(0), 1)), outside),
+        (Sizes(0, 16, 0, 0, 1, 1, release_of(16)), outside),
+        (Sizes(1, 16, 0, 0, 1, 1, release_of(16)), undeclared),
+        (Sizes(1, 0, 0, 0, 1, 1, release_of(0)), undeclared),
     ];
     for (sizes, refusal) in &rows {
         let parts = match sized(rt.alloc(), sizes) {
