@@ -53,13 +53,13 @@ bounded m s inv = (numbers, (λ r. ((inv.locks r).1, waiters r)), turns)
     few_waits r =
         let counted = inv.sleepers in
         let most = one_each m.seats (λ k. asleep (s.seats k).place (s.words.grants k)) (λ k. raises m.root r (s.seats k).place)
-            (λ k. asleep_or_raises m.root r (s.seats k).place (s.words.grants k)) in omega arith
+        (λ k. asleep_or_raises m.root r (s.seats k).place (s.words.grants k)) in omega arith
 
     waiters : (r : ℕ) → s.words.waiters r ≤ m.seats
     waiters r =
         let raised = inv.waiters r in
         let of_root = total_le m.counters (λ c. on (m.root c) r (length (s.words.lists c))) (λ c. length (s.words.lists c))
-            (λ c h. on_most (m.root c) r (length (s.words.lists c))) in
+        (λ c h. on_most (m.root c) r (length (s.words.lists c))) in
         let most = few_waits r in omega arith
 
     turns : (k : ℕ) → k < m.seats → (s.seats k).turn ≤ added s.journal + m.seats

@@ -23,6 +23,7 @@ use Rattle.step_core.proofs.Counting.{added_counts}
 use Rattle.step_core.proofs.Telling.{entries, count_after}
 use Rattle.step_core.proofs.Ranges.{get_here}
 use Rattle.step_core.proofs.Promises.{kept}
+use Rattle.step_core.proofs.Starting.{begun_lawful}
 
 -- no seat has begun more calls than it has
 abbrev pub FewBegun : Parts → Run → Type 0
@@ -66,36 +67,27 @@ units_kept {m = m} {s = s} {i = i} in_range awake (post {q = q} line) =
     let seats = owned (λ k seat grant. pending seat.place) m.seats s.seats s.words.grants s.words.grants i q in_range (λ k ne. refl) in
     let row = grants_nothing line in omega arith
 
-choice : (counters : ℕ) (call : Call) → IsRunnable call → IsCallOn counters call → Choice counters Rest (first_place call)
-choice counters (Acquire c lifo) runs there = acquire (record { counter = c; lifo = lifo }) there
-choice counters (Release c handoff) runs there = release (record { counter = c; handoff = handoff }) there
-choice counters _ runs there = absurd runs
-
 module _ (parts : Parts) (limits : IsWithinLimits parts) (declared : IsDeclared parts) (i : ℕ) (in_range : i < length parts.calls) where
-  script : List Call
-  script = get_or parts.calls i []
-
   -- a seat at rest that begins its next call
-  pub begun_kept : (run : Run) (call : Call) → (run.world.seats i).place ≡ Rest → call_of parts i (run.begun i) ≡ Some call → IsKept parts run
+  begun_kept : (run : Run) (call : Call) → (run.world.seats i).place ≡ Rest → call_of parts i (run.begun i) ≡ Some call → IsKept parts run
       → IsKept parts (begun run i (Some call))
   begun_kept run call rest next is =
       let there = get_here call (get_or parts.calls i []) (run.begun i) call next in
       let known : IsRunnable call × IsCallOn (length parts.starts) call = (
         subst IsRunnable there.1 (All-get_or IsRunnable (get_or parts.calls i []) (run.begun i) call there.0
-          (All-get_or IsScript parts.calls i [] in_range limits.scripts).2),
+            (All-get_or IsScript parts.calls i [] in_range limits.scripts).2),
         subst (IsCallOn (length parts.starts)) there.1 (declared i [] in_range (run.begun i) call there.0),
       ) in
       let place = first_place call in
       let seats = owned (λ k seat grant. pending seat.place) (length parts.calls) run.world.seats run.world.words.grants run.world.words.grants
-          i (record (run.world.seats i) { place = place }) in_range (λ k ne. refl) in
+      i (record (run.world.seats i) { place = place }) in_range (λ k ne. refl) in
       let begun : total (length parts.calls) (put run.begun i (run.begun i + 1)) + run.begun i ≡ total (length parts.calls) run.begun + put run.begun i (run.begun i + 1) i
-          = total_change (length parts.calls) run.begun (put run.begun i (run.begun i + 1)) i in_range (λ k ne. put_else run.begun i (run.begun i + 1) k ne) in
+      = total_change (length parts.calls) run.begun (put run.begun i (run.begun i + 1)) i in_range (λ k ne. put_else run.begun i (run.begun i + 1) k ne) in
       let now = put_here run.begun i (run.begun i + 1) in
       let one = pending_most place in
       let few = is.added in
       record {
-        law = kept (layout parts) run.world (moved run.world i place) i in_range is.law
-            (steps.choose (subst (λ p. Choice (length parts.starts) p place) (sym rest) (choice (length parts.starts) call known.0 known.1)));
+        law = begun_lawful (layout parts) run i (Some call) in_range is.law rest known;
         begun = λ s. put_at (λ s n. n ≤ length (get_or parts.calls s [])) run.begun i (run.begun i + 1) s (let first = there.0 in omega arith) (λ ne. is.begun s);
         added = omega arith;
       }

@@ -33,7 +33,7 @@ module _ (m : Layout) (s : World) (inv : IsInvariant m s) (ended : IsEnd m s) wh
       → IsTrue (let e = table k (standing p (s.seats k).turn hand) s.words.lists in e.can (found m.root s.words e.word)) → ⊥
   runs k h p hand at in_hand can =
       ended k h (subst (λ z. IsTrue (let e = table k z s.words.lists in e.can (found m.root s.words e.word)))
-        (λ j. record { place = sym at j; turn = (s.seats k).turn; hand = sym in_hand j }) can)
+      (λ j. record { place = sym at j; turn = (s.seats k).turn; hand = sym in_hand j }) can)
 
   -- the seat k is at rest, or asleep
   abbrev Quiet : ℕ → Type 0
@@ -114,7 +114,7 @@ module _ (m : Layout) (s : World) (inv : IsInvariant m s) (ended : IsEnd m s) wh
       let in_no_hand = none_of (λ i. hands c w (s.seats i)) (no_hands c w) in
       let without_help = none_of (λ i. helps c (s.seats i) (s.words.grants i)) (no_help c) in
       let alone = single m.seats (λ i. awaits c w i (s.seats i).place (s.words.grants i)) k h
-          (λ i ne. awaits_else c w i (s.seats i).place (s.words.grants i) ne) in
+      (λ i ne. awaits_else c w i (s.seats i).place (s.words.grants i) ne) in
       let awaited = ap₂ (awaits c w k) at ungranted in
       let on_its_counter = on_here c (same w w) in
       let itself = same_here w in

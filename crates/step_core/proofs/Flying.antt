@@ -126,11 +126,11 @@ units_kept m s t i in_range locks seats waiters placed units = by
           nobody = λ c within none.
               let below = lists_below m s waiters c within in
               let each_raises = total_le m.seats (λ k. commits c (s.seats k).place) (λ k. raises m.root (m.root c) (s.seats k).place)
-                  (λ k k_in_range. (committed_holds m.root c (s.seats k).place).1) in
+              (λ k k_in_range. (committed_holds m.root c (s.seats k).place).1) in
               let raised = waiters (m.root c) in omega arith;
           alone = λ c held.
               let each_holds = total_rest m.seats (λ k. commits c (s.seats k).place) (λ k. holds m.root (m.root c) (s.seats k).place) i in_range
-                  (λ k. (committed_holds m.root c (s.seats k).place).0) in
+              (λ k. (committed_holds m.root c (s.seats k).place).0) in
               let owned_once = locks (m.root c) in omega arith;
           within = (seats i).within;
         }

@@ -55,7 +55,7 @@ pub data Line (m : Layout) (i : ℕ) (g : Words) : Seat → Seat → Words → E
       → Line m i g (acquiring a A3 t) (acquiring a A4 t) (record g { locks = put g.locks (m.root a.counter) 1 }) Nothing
   a4 : {a : Acquire} {t : ℕ}
       → Line m i g (acquiring a A4 t) (acquiring a A5 t)
-        (record g { waiters = put g.waiters (m.root a.counter) (g.waiters (m.root a.counter) + 1) }) Nothing
+      (record g { waiters = put g.waiters (m.root a.counter) (g.waiters (m.root a.counter) + 1) }) Nothing
   a5_zero : {a : Acquire} {t : ℕ} → g.numbers a.counter ≡ 0 → Line m i g (acquiring a A5 t) (acquiring a A7 t) g Nothing
   a5_some : {a : Acquire} {t n : ℕ} → g.numbers a.counter ≡ suc n → Line m i g (acquiring a A5 t) (acquiring a (A6 n) t) g Nothing
   a6_won : {a : Acquire} {t n : ℕ} → g.numbers a.counter ≡ suc n
@@ -63,11 +63,11 @@ pub data Line (m : Layout) (i : ℕ) (g : Words) : Seat → Seat → Words → E
   a6_lost : {a : Acquire} {t n : ℕ} → g.numbers a.counter ≢ suc n → Line m i g (acquiring a (A6 n) t) (acquiring a A5 t) g Nothing
   a7 : {a : Acquire} {t : ℕ}
       → Line m i g (acquiring a A7 t) (acquiring a (P t) (t + 1))
-        (record g { locks = put g.locks (m.root a.counter) 0; lists = put g.lists a.counter (insert_wait a.lifo (wait i t) (g.lists a.counter)) })
-        (Tells (Queue a.counter (wait i t) a.lifo))
+      (record g { locks = put g.locks (m.root a.counter) 0; lists = put g.lists a.counter (insert_wait a.lifo (wait i t) (g.lists a.counter)) })
+      (Tells (Queue a.counter (wait i t) a.lifo))
   a8 : {a : Acquire} {t : ℕ}
       → Line m i g (acquiring a A8 t) (acquiring a A9 t)
-        (record g { waiters = put g.waiters (m.root a.counter) (g.waiters (m.root a.counter) - 1) }) Nothing
+      (record g { waiters = put g.waiters (m.root a.counter) (g.waiters (m.root a.counter) - 1) }) Nothing
   a9 : {a : Acquire} {t : ℕ} → Line m i g (acquiring a A9 t) (resting t) (record g { locks = put g.locks (m.root a.counter) 0 }) Nothing
   p_one : {a : Acquire} {u t : ℕ} → g.grants i ≡ 1
       → Line m i g (acquiring a (P u) t) (acquiring a A10 t) (record g { grants = put g.grants i 0 }) Nothing
@@ -80,7 +80,7 @@ pub data Line (m : Layout) (i : ℕ) (g : Words) : Seat → Seat → Words → E
   a11_lost : {a : Acquire} {t n : ℕ} → g.numbers a.counter ≢ suc n → Line m i g (acquiring a (A11 n) t) (acquiring a A10 t) g Nothing
   r1 : {r : Release} {t : ℕ}
       → Line m i g (releasing r R1 t []) (releasing r R2 t [])
-        (record g { numbers = put g.numbers r.counter (g.numbers r.counter + 1) }) (Tells (Add r.counter i))
+      (record g { numbers = put g.numbers r.counter (g.numbers r.counter + 1) }) (Tells (Add r.counter i))
   r2_zero : {r : Release} {t : ℕ} → g.waiters (m.root r.counter) ≡ 0 → Line m i g (releasing r R2 t []) (resting t) g Nothing
   r2_some : {r : Release} {t : ℕ} → Line m i g (releasing r R2 t []) (releasing r R3 t []) g Nothing
   r3 : {r : Release} {t : ℕ} → g.locks (m.root r.counter) ≡ 0
@@ -90,8 +90,8 @@ pub data Line (m : Layout) (i : ℕ) (g : Words) : Seat → Seat → Words → E
   r4_some : {r : Release} {t : ℕ} → 0 < length (g.lists r.counter) → Line m i g (releasing r R4 t []) (releasing r R5 t []) g Nothing
   r5 : {r : Release} {t : ℕ} {w : WaitId} {l : List WaitId} → g.lists r.counter ≡ w ∷ l
       → Line m i g (releasing r R5 t []) (releasing r R6 t (w ∷ []))
-        (record g { waiters = put g.waiters (m.root r.counter) (g.waiters (m.root r.counter) - 1); lists = put g.lists r.counter l })
-        (Tells (Leave r.counter w i))
+      (record g { waiters = put g.waiters (m.root r.counter) (g.waiters (m.root r.counter) - 1); lists = put g.lists r.counter l })
+      (Tells (Leave r.counter w i))
   r6_none : {r : Release} {t : ℕ} → Line m i g (releasing r R6 t []) (resting t) (record g { locks = put g.locks (m.root r.counter) 0 }) Nothing
   r6_plain : {r : Release} {t : ℕ} {w : WaitId}
       → Line m i g (releasing r R6 t (w ∷ [])) (releasing r R10 t (w ∷ [])) (record g { locks = put g.locks (m.root r.counter) 0 }) Nothing
@@ -101,7 +101,7 @@ pub data Line (m : Layout) (i : ℕ) (g : Words) : Seat → Seat → Words → E
   r7_some : {r : Release} {t n : ℕ} {w : WaitId} → Line m i g (releasing r R7 t (w ∷ [])) (releasing r (R8 n) t (w ∷ [])) g Nothing
   r8_won : {r : Release} {t n : ℕ} {w : WaitId} → g.numbers r.counter ≡ suc n
       → Line m i g (releasing r (R8 n) t (w ∷ [])) (releasing r R9 t (w ∷ []))
-        (record g { numbers = put g.numbers r.counter n }) (Tells (Take r.counter w.seat))
+      (record g { numbers = put g.numbers r.counter n }) (Tells (Take r.counter w.seat))
   r8_lost : {r : Release} {t n : ℕ} {w : WaitId} → Line m i g (releasing r (R8 n) t (w ∷ [])) (releasing r R7 t (w ∷ [])) g Nothing
 
 -- the rows that store the grant word of the waiter in hand: the seat before and after, the counter, the waiter, the grant
@@ -167,7 +167,7 @@ module _ (m : Layout) (i : ℕ) (g : Words) where
   looked_for_zero : {z : Seat} (w : Word) (at_zero : Place) (above : ℕ → Place) → (found m.root g w ≡ 0 → Looks z at_zero)
       → ((left : ℕ) → found m.root g w ≡ suc left → Looks z (above left))
       → let place = zero_or at_zero above (found m.root g w) in
-        Case m i g z (record z { place = place }) (written m.root g w (found m.root g w)) Nothing
+      Case m i g z (record z { place = place }) (written m.root g w (found m.root g w)) Nothing
   looked_for_zero {z = z} w at_zero above zero_case above_case =
       looked w (zero_or at_zero above (found m.root g w)) (by_zero (Looks z) (found m.root g w) at_zero above zero_case above_case)
 
@@ -232,8 +232,8 @@ module _ (m : Layout) (i : ℕ) (g : Words) where
       by [] e = let none = ap length e in absurd (omega arith)
       by (w ∷ l) e =
           subst (λ rest. Case m i g (releasing r R5 t []) (releasing r R6 t (w ∷ []))
-            (record g { waiters = put g.waiters (m.root r.counter) (g.waiters (m.root r.counter) - 1); lists = put g.lists r.counter rest })
-            (Tells (Leave r.counter w i))) (sym (ap (drop 1) e)) (line (r5 e))
+          (record g { waiters = put g.waiters (m.root r.counter) (g.waiters (m.root r.counter) - 1); lists = put g.lists r.counter rest })
+          (Tells (Leave r.counter w i))) (sym (ap (drop 1) e)) (line (r5 e))
   runs (Releasing r R6) t [] fits granted finds can = line r6_none
   runs (Releasing r R6) t (w ∷ []) fits granted finds can = by r.handoff
     where

@@ -198,6 +198,6 @@ one_hand m s c w i k placed i_in_range k_in_range ne i_has k_has =
     let two = pair m.seats (λ z. hands c w (s.seats z)) i k i_in_range k_in_range ne in
     let waiter = waiter_of m s c w placed (omega arith) in
     let alone = single m.seats (λ z. awaits c w z (s.seats z).place (s.words.grants z)) w.seat waiter.4
-        (λ z other. awaits_else c w z (s.seats z).place (s.words.grants z) other) in
+    (λ z other. awaits_else c w z (s.seats z).place (s.words.grants z) other) in
     let most = awaits_most c w w.seat (s.seats w.seat).place (s.words.grants w.seat) in
     let counted = placed c w in omega arith

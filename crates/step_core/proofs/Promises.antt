@@ -111,7 +111,7 @@ module _ (m : Layout) (s : World) (inv : IsInvariant m s) where
   few_units : FewUnits m s
   few_units c some =
       let all_fly = total_le m.seats (λ k. helps c (s.seats k) (s.words.grants k)) (λ k. flies c (s.seats k).place (s.words.grants k))
-          (λ k h. helps_flies c (s.seats k).place (s.seats k).hand (s.words.grants k)) in
+      (λ k h. helps_flies c (s.seats k).place (s.seats k).hand (s.words.grants k)) in
       let few = inv.units c (by some) in omega arith
     where
       by : (0 < length (s.words.lists c)) ⊎ ((k : ℕ) × (k < m.seats) × IsCommitted s k c)
@@ -133,12 +133,12 @@ module _ (m : Layout) (s : World) (inv : IsInvariant m s) where
   parked_once : ParkedOnce m s
   parked_once k c turn h parked = (
     (let w = wait k turn in
-      let in_the_hands = total_same m.seats (λ i. times w (s.seats i).hand) (λ i. hands c w (s.seats i)) (in_hands m s inv.placed k c turn parked) in
-      let alone = single m.seats (λ i. awaits c w i (s.seats i).place (s.words.grants i)) k h
-          (λ i ne. awaits_else c w i (s.seats i).place (s.words.grants i) ne) in
-      let at_place = ap (λ p. awaits c w k p (s.words.grants k)) parked.2 in
-      let awaited = waits_here c k turn (s.words.grants k) parked.0 parked.1 in
-      let placed = inv.placed c w in omega arith),
+        let in_the_hands = total_same m.seats (λ i. times w (s.seats i).hand) (λ i. hands c w (s.seats i)) (in_hands m s inv.placed k c turn parked) in
+        let alone = single m.seats (λ i. awaits c w i (s.seats i).place (s.words.grants i)) k h
+        (λ i ne. awaits_else c w i (s.seats i).place (s.words.grants i) ne) in
+        let at_place = ap (λ p. awaits c w k p (s.words.grants k)) parked.2 in
+        let awaited = waits_here c k turn (s.words.grants k) parked.0 parked.1 in
+        let placed = inv.placed c w in omega arith),
     (λ d ne. by d ne (ℕ_discrete (times (wait k turn) (s.words.lists d)) 0)),
   )
     where

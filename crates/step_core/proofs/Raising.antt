@@ -19,7 +19,7 @@ waits_change : (m : Layout) (r c : ℕ) (lists : ℕ → List WaitId) (l : List 
 waits_change m r c lists l h =
     let changed : waits m r (put lists c l) + on (m.root c) r (length (lists c)) ≡ waits m r lists + on (m.root c) r (length (put lists c l c))
     = total_change m.counters (λ d. on (m.root d) r (length (lists d))) (λ d. on (m.root d) r (length (put lists c l d))) c h
-        (λ k ne. ap (λ x. on (m.root k) r (length x)) (put_else lists c l k ne)) in
+    (λ k ne. ap (λ x. on (m.root k) r (length x)) (put_else lists c l k ne)) in
     let here = ap (λ x. on (m.root c) r (length x)) (put_here lists c l) in omega arith
 
 waits_up : (m : Layout) (r c : ℕ) (lists : ℕ → List WaitId) (l : List WaitId) → c < m.counters → length l ≡ length (lists c) + 1

@@ -25,12 +25,12 @@ pub one_more : (scenario : Parts) (past : List ℕ) (i : ℕ) (m n : State)
 one_more scenario past i m n before can step =
     record {
       enabled =
-        let can_here = subst (λ (parts : Parts). refusal parts (run_of m) i ≡ None) before.parts can in
-        all_run_with scenario (start scenario) past i before.enabled (subst (λ (run : Run). refusal scenario run i ≡ None) before.run can_here);
+          let can_here = subst (λ (parts : Parts). refusal parts (run_of m) i ≡ None) before.parts can in
+          all_run_with scenario (start scenario) past i before.enabled (subst (λ (run : Run). refusal scenario run i ≡ None) before.run can_here);
       parts = step.parts ∙ before.parts;
       run =
-        step.run
-        ∙ ap (λ (parts : Parts). stepped parts (run_of m) i) before.parts
-        ∙ ap (λ (run : Run). stepped scenario run i) before.run
-        ∙ sym (after_one_more scenario (start scenario) past i);
+          step.run
+          ∙ ap (λ (parts : Parts). stepped parts (run_of m) i) before.parts
+          ∙ ap (λ (run : Run). stepped scenario run i) before.run
+          ∙ sym (after_one_more scenario (start scenario) past i);
     }

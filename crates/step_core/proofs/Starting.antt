@@ -48,8 +48,9 @@ begun_journal run i None = refl
 begun_journal run i (Some call) = refl
 
 -- a seat may begin a call that the machine runs, on a counter that is there
-begun_lawful : (m : Layout) (run : Run) (i : ℕ) (call : Option Call)
-    → i < m.seats → IsInvariant m run.world → (run.world.seats i).place ≡ Rest → IfSome call (λ call. IsRunnable call × IsCallOn m.counters call) → IsInvariant m (begun run i call).world
+pub begun_lawful : (m : Layout) (run : Run) (i : ℕ) (call : Option Call)
+    → i < m.seats → IsInvariant m run.world → (run.world.seats i).place ≡ Rest
+    → IfSome call (λ call. IsRunnable call × IsCallOn m.counters call) → IsInvariant m (begun run i call).world
 begun_lawful m run i None h inv rest may = inv
 begun_lawful m run i (Some (Acquire c lifo)) h inv rest may =
     let choice = acquire (record { counter = c; lifo = lifo }) may.1 in

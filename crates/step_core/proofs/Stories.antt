@@ -147,15 +147,18 @@ story_row r6_handoff j quiet story = story
 story_row r7_zero j quiet story = story
 story_row r7_some j quiet story = story
 story_row r8_lost j quiet story = story
-story_row (r8_won {r = r} {w = w} _) j quiet story = let o = story.0 in ((
-  o.0,
-  o.1,
-  o.2,
-  [],
-  ap (λ l. l ++ Take r.counter w.seat ∷ []) o.3 ∙ append_assoc o.1 (Leave r.counter w o.0 ∷ o.2) (Take r.counter w.seat ∷ []),
-  o.4,
-  refl,
-), tt)
+story_row (r8_won {r = r} {w = w} _) j quiet story = let o = story.0 in (
+  (
+    o.0,
+    o.1,
+    o.2,
+    [],
+    ap (λ l. l ++ Take r.counter w.seat ∷ []) o.3 ∙ append_assoc o.1 (Leave r.counter w o.0 ∷ o.2) (Take r.counter w.seat ∷ []),
+    o.4,
+    refl,
+  ),
+  tt,
+)
 story_row _ j quiet story = tt
 
 -- for whom a row takes a unit: for nobody, for its own seat, which isn't parked, or for one whose wait is in its hand
@@ -243,10 +246,10 @@ stories_kept {m = m} {s = s} {i = i} in_range placed seats stories (own {q = q} 
     elsewhere : k ≢ i → Has k (s.seats k)
     elsewhere ne hk = rw (grants_else line k ne)
         (story_more k (s.seats k).place (s.seats k).hand (s.words.grants k) e s.journal
-          (budget_after k e s.journal ∙ spends_own line k (budget k s.journal) ne)
-          (spares_hands s line placed in_range k hk ne)
-          (spares_granted s line placed in_range k ne)
-          (stories k hk))
+        (budget_after k e s.journal ∙ spends_own line k (budget k s.journal) ne)
+        (spares_hands s line placed in_range k hk ne)
+        (spares_granted s line placed in_range k ne)
+        (stories k hk))
 stories_kept {m = m} {s = s} {i = i} in_range placed seats stories (post {c = c} {x = x} {w = w} {q = q} line) k =
     put_at Has s.seats i q k here elsewhere
   where

@@ -107,7 +107,7 @@ pub owned : (f : ℕ → Seat → ℕ → ℕ) (seats : ℕ) (stand : ℕ → Se
 owned f seats stand grants after i q in_range e =
     let a : total seats (λ k. f k (put stand i q k) (after k)) + f i (stand i) (grants i) ≡ total seats (λ k. f k (stand k) (grants k)) + f i (put stand i q i) (after i)
     = total_change seats (λ k. f k (stand k) (grants k)) (λ k. f k (put stand i q k) (after k)) i in_range
-        (λ k ne. ap (λ p. f k p (after k)) (put_else stand i q k ne) ∙ ap (f k (stand k)) (e k ne)) in
+    (λ k ne. ap (λ p. f k p (after k)) (put_else stand i q k ne) ∙ ap (f k (stand k)) (e k ne)) in
     let h = ap (λ p. f i p (after i)) (put_here stand i q) in omega arith
 
 -- the same after seat i has stored x in the grant word of seat j
@@ -120,7 +120,7 @@ posted f seats stand grants i j x q in_range there ne =
     let b : total seats (λ k. f k (put stand i q k) (put grants j x k)) + f j (put stand i q j) (grants j)
     ≡ total seats (λ k. f k (put stand i q k) (grants k)) + f j (put stand i q j) (put grants j x j)
     = total_change seats (λ k. f k (put stand i q k) (grants k)) (λ k. f k (put stand i q k) (put grants j x k)) j there
-        (λ k h. ap (f k (put stand i q k)) (put_else grants j x k h)) in
+    (λ k h. ap (f k (put stand i q k)) (put_else grants j x k h)) in
     let p = put_else stand i q j ne in
     let c = ap (λ z. f j z (grants j)) p in
     let d : f j (put stand i q j) (put grants j x j) ≡ f j (stand j) x = ap (λ z. f j z (put grants j x j)) p ∙ ap (f j (stand j)) (put_here grants j x) in omega arith

@@ -152,7 +152,8 @@ StoriesTold m s = (k : ℕ) → k < m.seats → Story k (s.seats k).place (s.sea
 -- a wait is queued as often as it has left and stands in a list, and at most once
 abbrev pub QueuedOnce : Layout → World → Type 0
 QueuedOnce m s =
-    (w : WaitId) → (left w s.journal + total m.counters (λ c. times w (s.words.lists c)) ≡ queued w s.journal) × (queued w s.journal ≤ 1)
+    (w : WaitId)
+    → (left w s.journal + total m.counters (λ c. times w (s.words.lists c)) ≡ queued w s.journal) × (queued w s.journal ≤ 1)
 
 -- later turns were not queued
 abbrev pub TurnsAreNew : World → Type 0

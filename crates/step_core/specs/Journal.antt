@@ -86,7 +86,9 @@ left w (e ∷ es) = left w es
 
 -- each entry was defined where it stands, and each wait left for a unit of its releaser's own
 abbrev pub Follows : Plain → List Entry → Type 0
-Follows start journal = (before after : List Entry) (e : Entry) → journal ≡ before ++ e ∷ after → IsDefined e (replay start before) × IsOwned e before
+Follows start journal =
+    (before after : List Entry) (e : Entry) → journal ≡ before ++ e ∷ after
+    → IsDefined e (replay start before) × IsOwned e before
 
 -- and no wait was queued twice or left twice
 abbrev pub IsLawful : Plain → List Entry → Type 0
@@ -100,10 +102,13 @@ takes s (e ∷ es) = takes s es
 
 -- w has left c, and since then nothing was taken for its seat
 abbrev pub HasLeft : ℕ → WaitId → List Entry → Type 0
-HasLeft c w journal = (s : ℕ) × (before after : List Entry) × (journal ≡ before ++ Leave c w s ∷ after) × (takes w.seat after ≡ 0)
+HasLeft c w journal =
+    (s : ℕ) × (before after : List Entry)
+    × (journal ≡ before ++ Leave c w s ∷ after) × (takes w.seat after ≡ 0)
 
 -- w has left c, and since then one unit of c was taken for its seat
 abbrev pub HasItsUnit : ℕ → WaitId → List Entry → Type 0
 HasItsUnit c w journal =
     (s : ℕ) × (before between after : List Entry)
-    × (journal ≡ before ++ Leave c w s ∷ (between ++ Take c w.seat ∷ after)) × (takes w.seat between ≡ 0) × (takes w.seat after ≡ 0)
+    × (journal ≡ before ++ Leave c w s ∷ (between ++ Take c w.seat ∷ after))
+    × (takes w.seat between ≡ 0) × (takes w.seat after ≡ 0)

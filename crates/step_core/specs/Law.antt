@@ -11,7 +11,7 @@ abbrev pub IsAtRest : Layout → World → Type 0
 IsAtRest m s =
     ((r : ℕ) → s.words.locks r ≡ 0)
     × ((k : ℕ) → k < m.seats → ((s.seats k).place ≡ Rest)
-        ⊎ ((c turn : ℕ) × IsParked s k c turn × (times (wait k turn) (s.words.lists c) ≡ 1) × (s.words.numbers c ≡ 0)))
+    ⊎ ((c turn : ℕ) × IsParked s k c turn × (times (wait k turn) (s.words.lists c) ≡ 1) × (s.words.numbers c ≡ 0)))
 
 -- the invariant holds at every start, every step keeps it, and it gives the whole lawful world; so every reached world is
 -- lawful. In an end world no lock is held and each parked wait is queued on a counter whose number is 0. Rows are deterministic

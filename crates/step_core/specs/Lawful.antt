@@ -96,7 +96,7 @@ WaitersCounted m s =
     (r : ℕ)
     → (s.words.locks r ≡ 0 → s.words.waiters r ≡ waits_of m r s.words)
     × ((k : ℕ) → k < m.seats → holds m.root r (s.seats k).place ≡ 1
-        → s.words.waiters r ≡ waits_of m r s.words + raises m.root r (s.seats k).place)
+    → s.words.waiters r ≡ waits_of m r s.words + raises m.root r (s.seats k).place)
 
 -- while a wait is queued on c, or a seat is committed there, the number of c is at most the count in flight
 abbrev pub FewUnits : Layout → World → Type 0
@@ -116,7 +116,7 @@ abbrev pub EachIsParked : Layout → World → Type 0
 EachIsParked m s =
     ((c : ℕ) (w : WaitId) → 0 < times w (s.words.lists c) → (w.seat < m.seats) × IsParked s w.seat c w.turn)
     × ((k : ℕ) (w : WaitId) → k < m.seats → 0 < times w (s.seats k).hand
-        → (w.seat < m.seats) × IsParked s w.seat (counter_at (s.seats k).place) w.turn)
+    → (w.seat < m.seats) × IsParked s w.seat (counter_at (s.seats k).place) w.turn)
 
 -- a seat that isn't parked has no grant, and a grant is at most 2
 abbrev pub IsGrantOf : Place → ℕ → Type 0

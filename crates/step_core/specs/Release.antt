@@ -15,9 +15,12 @@ abbrev pub release_event : ℕ → List WaitId → List WaitId → Release → R
 release_event s hand list r R1 = add_units r.counter 1 (Releasing r R2, Tells (Add r.counter s))
 release_event s hand list r R2 = load (Waiters r.counter) (zero_or Rest (λ left. Releasing r R3))
 release_event s hand list r R3 = take_lock r.counter (Releasing r R4)
-release_event s hand list r R4 = load (Waiters r.counter) (zero_or (Releasing r R6) (λ left. by_first list (Releasing r R6) (λ w. Releasing r R5)))
-release_event s hand list r R5 = lower_waiters r.counter (by_first list (Releasing r R6, Nothing) (λ w. (Releasing r R6, Tells (Leave r.counter w s))))
-release_event s hand list r R6 = give_lock r.counter (by_first hand Rest (λ w. if r.handoff then Releasing r R7 else Releasing r R10), Nothing)
+release_event s hand list r R4 =
+    load (Waiters r.counter) (zero_or (Releasing r R6) (λ left. by_first list (Releasing r R6) (λ w. Releasing r R5)))
+release_event s hand list r R5 =
+    lower_waiters r.counter (by_first list (Releasing r R6, Nothing) (λ w. (Releasing r R6, Tells (Leave r.counter w s))))
+release_event s hand list r R6 =
+    give_lock r.counter (by_first hand Rest (λ w. if r.handoff then Releasing r R7 else Releasing r R10), Nothing)
 release_event s hand list r R7 = load (Counter r.counter) (zero_or (Releasing r R10) (λ left. Releasing r (R8 left)))
 release_event s hand list r (R8 left) = exchange r.counter left (Releasing r R9, Tells (Take r.counter (waiter s hand))) (Releasing r R7)
 release_event s hand list r R9 = store_grant (waiter s hand) 2 Rest

@@ -113,5 +113,5 @@ AllRun parts schedule = AllRunFrom parts (start parts) schedule
 pub record IsRefusedAt (parts : Parts) (schedule : List ℕ) (at : ℕ) (cause : StepRefused) : Type 0 where
   pub before : AllRun parts (take at schedule)
   pub here :
-    ((at ≡ 0) × (cause ≡ NoMemory))
-    ⊎ ((i : ℕ) × (slice_get schedule at ≡ Some i) × IsRefusedBy cause parts (reached parts (take at schedule)) i)
+      ((at ≡ 0) × (cause ≡ NoMemory))
+      ⊎ ((i : ℕ) × (slice_get schedule at ≡ Some i) × IsRefusedBy cause parts (reached parts (take at schedule)) i)

@@ -19,8 +19,10 @@ use Rattle.step_core.specs.declared.word.Word.TheVariants.{Counter, Lock, Waiter
 use Rattle.step_core.specs.World.{Layout, Words, Seat, World, found, journal_after, turn_after, hand_after}
 use Rattle.step_core.specs.Event.{Event}
 use Rattle.step_core.specs.Table.{event_at}
-use Rattle.step_core.specs.Steps.{words_after}
-use Rattle.step_core.specs.Lawful.{total, added}
+use Rattle.step_core.specs.Journal.{Plain, plain_start, replay}
+use Rattle.step_core.specs.Steps.{words_after, IsEnd}
+use Rattle.step_core.specs.Lawful.{total, added, IsLawfulWorld}
+use Rattle.step_core.specs.Law.{IsAtRest}
 use Rattle.step_core.specs.Invariant.{IsInvariant, IsWithin}
 use Rattle.step_core.specs.Run.{Run, layout, first_place, start, stepped, IsTold}
 use Rattle.step_core.specs.Scenario.{IsWithinLimits, IsDeclared}
@@ -104,6 +106,17 @@ run_of m =
       begun = λ s. (slice_index_or m.callers s idle).begun;
     }
 
+-- the numbers and lists that the journal tells
+abbrev pub told : State → Plain
+told m = replay (plain_start (layout m.parts).starts) m.journal
+
+-- the world that is shown is lawful, and where no seat can run, it is at rest
+abbrev pub ShowsLawful : State → Type 0
+ShowsLawful m = IsLawfulWorld (layout m.parts) (run_of m).world
+
+abbrev pub RestsAtEnd : State → Type 0
+RestsAtEnd m = IsEnd (layout m.parts) (run_of m).world → IsAtRest (layout m.parts) (run_of m).world
+
 -- the words are those of so many counters, roots and seats
 pub record IsStoredFor (counters roots seats : ℕ) (h : Stored) : Type 0 where
   pub numbers : length h.numbers ≡ counters
@@ -129,8 +142,8 @@ pub record IsSound (m : State) : Type 0 where
   -- each seat has begun no more calls than it has, and each release adds at most 256 units
   pub begun : (s : ℕ) → (run_of m).begun s ≤ length (slice_index_or m.parts.calls s [])
   pub units :
-    added m.journal + 256 * total (length m.parts.calls) (λ s. pending ((run_of m).world.seats s).place)
-    ≤ 256 * total (length m.parts.calls) (run_of m).begun
+      added m.journal + 256 * total (length m.parts.calls) (λ s. pending ((run_of m).world.seats s).place)
+      ≤ 256 * total (length m.parts.calls) (run_of m).begun
 
 -- the words and lists of the start: the numbers, and nothing else
 abbrev pub first_stored : List ℕ → ℕ → ℕ → Stored
@@ -211,7 +224,9 @@ pub record HasRowsOf (h : Stored) (s : ℕ) (place : Place) (in_hand : Option Wa
   pub waiter : IfSome in_hand (λ w. w.seat < length h.grants)
 
 -- the row of the seat ran: the words and lists, its hand and the journal, and where it stands next, are those of its event
-pub record HasRun (s : ℕ) (caller : Caller) (h : Stored) (hand : List WaitId) (journal : List Entry) (h' : Stored) (hand' : List WaitId) (journal' : List Entry) (next : Caller) : Type 0 where
+pub record HasRun
+  (s : ℕ) (caller : Caller) (h : Stored) (hand : List WaitId) (journal : List Entry)
+  (h' : Stored) (hand' : List WaitId) (journal' : List Entry) (next : Caller) : Type 0 where
   pub can : IsTrue ((row_event s caller h hand).can (row_finds s caller h hand))
   pub place : next.place ≡ ((row_event s caller h hand).leads (row_finds s caller h hand)).0
   pub turn : next.turn ≡ turn_after ((row_event s caller h hand).leads (row_finds s caller h hand)).1 caller.turn
@@ -226,4 +241,5 @@ IsRowRefusedBy NoMemory s caller h hand =
     IsTrue ((row_event s caller h hand).can (row_finds s caller h hand))
     × IsTold ((row_event s caller h hand).leads (row_finds s caller h hand)).1
 IsRowRefusedBy cause s caller h hand =
-    (IsTrue ((row_event s caller h hand).can (row_finds s caller h hand)) → ⊥) × (cause ≡ refused_by (row_event s caller h hand).word)
+    (IsTrue ((row_event s caller h hand).can (row_finds s caller h hand)) → ⊥)
+    × (cause ≡ refused_by (row_event s caller h hand).word)

@@ -18,7 +18,8 @@ use waiters::{SeatId, WaitId};
 /// The word of the row's event.
 pub(crate) fn word_of(seat: SeatId, acquire: Acquire, row: AcquireRow) -> Word
     ensures word { (turn : ℕ) → result ≡ (acquire_event seat turn acquire row).word }
-    ensures stored { (h : Stored) (in_hand : Option WaitId) → HasRowsOf h seat (Place.Acquiring acquire row) in_hand → HasWord h result }
+    ensures stored { (h : Stored) (in_hand : Option WaitId)
+        → HasRowsOf h seat (Place.Acquiring acquire row) in_hand → HasWord h result }
 {
     let counter = acquire.counter;
     match row {
@@ -64,10 +65,19 @@ pub(crate) fn outcome_of(
             0 => goes(found, at(AcquireRow::A7)),
             _ => goes(found, at(AcquireRow::A6(found - 1))),
         },
-        AcquireRow::A6(left) => exchange(found, left, (at(AcquireRow::A8), taken), at(AcquireRow::A5)),
+        AcquireRow::A6(left) => exchange(
+            found,
+            left,
+            (at(AcquireRow::A8), taken),
+            at(AcquireRow::A5),
+        ),
         AcquireRow::A7 => {
             let wait = WaitId { seat, turn };
-            tells(0, at(AcquireRow::P(turn)), Entry::Queue(counter, wait, acquire.lifo))
+            tells(
+                0,
+                at(AcquireRow::P(turn)),
+                Entry::Queue(counter, wait, acquire.lifo),
+            )
         }
         AcquireRow::A8 => goes(found.saturating_sub(1), at(AcquireRow::A9)),
         AcquireRow::A9 => goes(0, Place::Rest),

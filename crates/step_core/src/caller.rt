@@ -32,7 +32,8 @@ impl Caller {
     /// The word of the row at which the seat stands.
     pub(crate) fn word(&self, seat: SeatId, sight: &Sight) -> Word
         ensures stored { (h : Stored) → HasRowsOf h seat self.now.place sight.now.in_hand → HasWord h result }
-        ensures word { (hand : List WaitId) (lists : ℕ → List WaitId) → slice_get hand 0 ≡ sight.now.in_hand → result ≡ (event_at seat (seat_of self.now hand) lists self.now.place).word }
+        ensures word { (hand : List WaitId) (lists : ℕ → List WaitId) → slice_get hand 0 ≡ sight.now.in_hand
+            → result ≡ (event_at seat (seat_of self.now hand) lists self.now.place).word }
     {
         match self.place {
             Place::Rest => Word::Grant(seat),
@@ -55,8 +56,11 @@ impl Caller {
     /// What that row does where its word is `found`; `None` where its condition doesn't hold.
     pub(crate) fn outcome(&self, seat: SeatId, sight: &Sight, found: u64) -> Option<Outcome>
         requires { found + 1 < 2 ^ 64 }
-        ensures room { (counters : ℕ) → IsWithin counters self.now.place → IfSome result (λ outcome. HasRoom counters outcome.effect) }
-        ensures does { (hand : List WaitId) (lists : ℕ → List WaitId) → slice_get hand 0 ≡ sight.now.in_hand → IsListed lists self.now.place sight.now.listed → Does (event_at seat (seat_of self.now hand) lists self.now.place) found result }
+        ensures room { (counters : ℕ) → IsWithin counters self.now.place
+            → IfSome result (λ outcome. HasRoom counters outcome.effect) }
+        ensures does { (hand : List WaitId) (lists : ℕ → List WaitId) → slice_get hand 0 ≡ sight.now.in_hand
+            → IsListed lists self.now.place sight.now.listed
+            → Does (event_at seat (seat_of self.now hand) lists self.now.place) found result }
     {
         let turn = self.turn;
         match self.place {
@@ -123,7 +127,10 @@ impl Caller {
     /// The seat after its row.
     pub(crate) fn after(&self, outcome: &Outcome) -> Caller
         requires { self.now.turn + 1 < 2 ^ 64 }
-        ensures { result ≡ record { place = outcome.now.place; turn = turn_after outcome.now.effect self.now.turn; begun = self.now.begun } }
+        ensures { result ≡ record {
+            place = outcome.now.place;
+            turn = turn_after outcome.now.effect self.now.turn;
+            begun = self.now.begun } }
     {
         let turn = match outcome.effect {
             Effect::Tells(Entry::Queue(_, _, _)) => self.turn + 1,

@@ -39,7 +39,9 @@ pub use phase::Phase;
 pub use place::{Acquire, AcquireRow, Place, Release, ReleaseRow};
 pub use refusal::{RunRefused, StepRefused};
 pub use row::Row;
-pub use scenario::{MAX_CALLS, MAX_COUNTERS, MAX_ROOTS, MAX_SEATS, Parts, Scenario, ScenarioRefused};
+pub use scenario::{
+    MAX_CALLS, MAX_COUNTERS, MAX_ROOTS, MAX_SEATS, Parts, Scenario, ScenarioRefused,
+};
 pub use schedule::run;
 pub use waiters::{CounterId, NoMemory, SeatId, WaitId};
 pub use word::Word;

@@ -1,4 +1,5 @@
-ghost use Rattle.std.specs.Prelude.{◌≡◌, ℕ};
+ghost use Rattle.std.specs.Prelude.{◌≡◌, ℕ, Some};
+ghost use Rattle.std.specs.Fmt.{decimal};
 
 use std::fmt;
 use std::marker::Model;
@@ -32,6 +33,8 @@ impl ListId {
 }
 
 impl fmt::Display for ListId {
+    ghost output = { λ list. Some (decimal list) };
+
     fn fmt<W: fmt::Write>(&self, f: &mut fmt::Formatter<W>) -> fmt::Result {
         let number = self.0;
         write!(f, "{number}")

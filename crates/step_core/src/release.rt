@@ -32,13 +32,9 @@ fn waiter(seat: SeatId, in_hand: Option<WaitId>) -> SeatId
 }
 
 /// The word of the row's event.
-pub(crate) fn word_of(
-    seat: SeatId,
-    sight: &Sight,
-    release: Release,
-    row: ReleaseRow,
-) -> Word
-    ensures word { (hand list : List WaitId) → slice_get hand 0 ≡ sight.now.in_hand → result ≡ (release_event seat hand list release row).word }
+pub(crate) fn word_of(seat: SeatId, sight: &Sight, release: Release, row: ReleaseRow) -> Word
+    ensures word { (hand list : List WaitId) → slice_get hand 0 ≡ sight.now.in_hand
+        → result ≡ (release_event seat hand list release row).word }
     ensures stored { (h : Stored) → HasRowsOf h seat (Place.Releasing release row) sight.now.in_hand → HasWord h result }
 {
     let counter = release.counter;
@@ -60,7 +56,8 @@ pub(crate) fn outcome_of(
 ) -> Option<Outcome>
     requires { found + 1 < 2 ^ 64 }
     ensures room { (counters : ℕ) → release.counter < counters → IfSome result (λ outcome. HasRoom counters outcome.effect) }
-    ensures does { (hand list : List WaitId) → slice_get hand 0 ≡ sight.now.in_hand → slice_get list 0 ≡ sight.now.listed → Does (release_event seat hand list release row) found result }
+    ensures does { (hand list : List WaitId) → slice_get hand 0 ≡ sight.now.in_hand → slice_get list 0 ≡ sight.now.listed
+        → Does (release_event seat hand list release row) found result }
 {
     let counter = release.counter;
     let at = |row| Place::Releasing(release, row);
@@ -82,7 +79,11 @@ pub(crate) fn outcome_of(
             let lowered = found.saturating_sub(1);
             match sight.listed {
                 None => goes(lowered, at(ReleaseRow::R6)),
-                Some(wait) => tells(lowered, at(ReleaseRow::R6), Entry::Leave(counter, wait, seat)),
+                Some(wait) => tells(
+                    lowered,
+                    at(ReleaseRow::R6),
+                    Entry::Leave(counter, wait, seat),
+                ),
             }
         }
         ReleaseRow::R6 => match sight.in_hand {

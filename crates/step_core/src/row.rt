@@ -1,5 +1,3 @@
-use std::fmt;
-
 /// A row of the step table, by its name.
 #[derive(Clone, Copy, Debug, PartialEq, Eq, Hash, Drop)]
 pub enum Row {

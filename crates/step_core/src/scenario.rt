@@ -66,7 +66,7 @@ pub struct Scenario {
 impl Model for Scenario {
     ghost use Rattle.step_core.specs.declared.scenario.Parts.{Parts};
     ghost use Rattle.step_core.specs.Run.{call_of};
-ghost use Rattle.step_core.specs.Scenario.{IsWithinLimits, IsDeclared};
+    ghost use Rattle.step_core.specs.Scenario.{IsWithinLimits, IsDeclared};
 
     ghost Value = { Parts };
 
@@ -99,7 +99,9 @@ impl Call {
 fn is_script(calls: &Items<Call>) -> bool
     ensures { IsTrue result ↔ IsScript calls.now }
 {
-    0 < calls.len() && calls.len() <= MAX_CALLS && calls.as_slice().iter().all(|call| call.is_runnable())
+    0 < calls.len()
+        && calls.len() <= MAX_CALLS
+        && calls.as_slice().iter().all(|call| call.is_runnable())
 }
 
 fn are_on(calls: &Items<Call>, counters: usize) -> bool
@@ -126,7 +128,10 @@ impl Parts {
         ensures { IsTrue result ↔ IsDeclared self.now }
     {
         let counters = self.starts.len();
-        self.calls.as_slice().iter().all(|calls| are_on(calls, counters))
+        self.calls
+            .as_slice()
+            .iter()
+            .all(|calls| are_on(calls, counters))
     }
 }
 

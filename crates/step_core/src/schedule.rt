@@ -1,11 +1,8 @@
 //! A whole schedule, step after step.
 
 ghost use Rattle.std.specs.Prelude.{◌≡◌, IfOk, IfErr, OnOk};
-ghost use Rattle.step_core.specs.Run.{layout, AllRun, reached, IsRefusedAt};
-ghost use Rattle.step_core.specs.State.{run_of};
-ghost use Rattle.step_core.specs.Steps.{IsEnd};
-ghost use Rattle.step_core.specs.Lawful.{IsLawfulWorld};
-ghost use Rattle.step_core.specs.Law.{IsAtRest};
+ghost use Rattle.step_core.specs.Run.{AllRun, reached, IsRefusedAt};
+ghost use Rattle.step_core.specs.State.{run_of, ShowsLawful, RestsAtEnd};
 
 use crate::refusal::{RunRefused, StepRefused};
 use crate::scenario::Scenario;
@@ -23,8 +20,8 @@ pub fn run<'s>(
 ) -> Result<World<'s>, RunRefused>
     ensures enabled { OnOk result (AllRun scenario.now schedule.now) }
     ensures world { IfOk result (λ world. (world.parts ≡ scenario.now) × (run_of world ≡ reached scenario.now schedule.now)) }
-    ensures lawful { IfOk result (λ world. IsLawfulWorld (layout scenario.now) (run_of world).world) }
-    ensures ends { IfOk result (λ world. IsEnd (layout scenario.now) (run_of world).world → IsAtRest (layout scenario.now) (run_of world).world) }
+    ensures lawful { IfOk result ShowsLawful }
+    ensures ends { IfOk result RestsAtEnd }
     ensures refused { IfErr result (λ refused. IsRefusedAt scenario.now schedule.now refused.at refused.cause) }
 {
     let Ok(mut world) = World::new(alloc, scenario) else {

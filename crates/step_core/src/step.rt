@@ -28,11 +28,7 @@ fn refused_by(word: &Word) -> StepRefused
 }
 
 /// Makes an entry's change of the lists and the hand; on want of memory nothing.
-fn change(
-    shared: &mut Shared,
-    hand: &mut Items<WaitId>,
-    entry: &Entry,
-) -> Result<(), AllocError>
+fn change(shared: &mut Shared, hand: &mut Items<WaitId>, entry: &Entry) -> Result<(), AllocError>
     requires { HasRoom (length shared.old.lists) (Effect.Tells entry.now) }
     ensures lists { OnOk result (ListsBecome shared.old (lists_after (Effect.Tells entry.now) (words_of shared.old).lists) shared.new) }
     ensures hand { OnOk result (hand.new ≡ hand_after (Effect.Tells entry.now) hand.old) }
@@ -108,7 +104,8 @@ pub(crate) fn run_row(
     requires rows { HasRowsOf shared.old seat caller.now.place (slice_get hand.old 0) }
     requires fits { row_finds seat caller.now shared.old hand.old + 1 < 2 ^ 64 }
     requires turn { caller.now.turn + 1 < 2 ^ 64 }
-    ensures ok { IfOk result (λ next. HasRun seat caller.now shared.old hand.old journal.old.items shared.new hand.new journal.new.items next) }
+    ensures ok { IfOk result (λ next.
+        HasRun seat caller.now shared.old hand.old journal.old.items shared.new hand.new journal.new.items next) }
     ensures same_words { OnErr result (shared.new ≡ shared.old) }
     ensures same_hand { OnErr result (hand.new ≡ hand.old) }
     ensures same_journal { OnErr result (journal.new.items ≡ journal.old.items) }

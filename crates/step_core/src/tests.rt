@@ -6,8 +6,8 @@
 ghost use Rattle.std.specs.Prelude.{◌≡◌};
 
 use crate::{
-    Call, Entry, Items, MAX_CALLS, MAX_COUNTERS, MAX_ROOTS, MAX_SEATS, Parts, Phase, Row, RunRefused, Scenario,
-    ScenarioRefused, StepRefused, World, run,
+    Call, Entry, Items, MAX_CALLS, MAX_COUNTERS, MAX_ROOTS, MAX_SEATS, Parts, Phase, Row,
+    RunRefused, Scenario, ScenarioRefused, StepRefused, World, run,
 };
 use std::alloc::{AllocError, Global};
 use std::process::Abort;
@@ -80,12 +80,18 @@ fn seats_again(alloc: Global, schedule: &[u16]) -> Result<Vec<SeatId>, AllocErro
 }
 
 /// Runs the schedule, once more where memory was refused.
-fn run_again<'s>(alloc: Global, scenario: &'s Scenario, schedule: &[SeatId]) -> Result<World<'s>, RunRefused> {
+fn run_again<'s>(
+    alloc: Global,
+    scenario: &'s Scenario,
+    schedule: &[SeatId],
+) -> Result<World<'s>, RunRefused> {
     match run(alloc, scenario, schedule) {
-        Err(RunRefused {
-            at: _,
-            cause: StepRefused::NoMemory,
-        }) => run(alloc, scenario, schedule),
+        Err(
+            RunRefused {
+                at: _,
+                cause: StepRefused::NoMemory,
+            },
+        ) => run(alloc, scenario, schedule),
         answer => answer,
     }
 }
@@ -149,7 +155,10 @@ fn a_release_reaches_the_second_look(rt: HostRuntime) -> Result<(), Fail> {
     assert_eq!(rt; phase(&rt, &world, 1), Phase::Ended);
     assert_eq!(rt; value(&rt, &world), 0);
     let counter = CounterId::new(COUNTER);
-    assert_eq!(rt; world.journal(), [Entry::Add(counter, seat(1)), Entry::Take(counter, seat(0))].as_slice());
+    assert_eq!(rt;
+        world.journal(),
+        [Entry::Add(counter, seat(1)), Entry::Take(counter, seat(0))].as_slice()
+    );
     Ok(())
 }
 
@@ -241,7 +250,15 @@ fn sized(alloc: Global, sizes: &Sizes) -> Result<Parts, AllocError> {
 fn parts_are_held_to_the_limits(rt: HostRuntime) -> Result<(), Fail> {
     let outside = Some(ScenarioRefused::OutOfLimits);
     let undeclared = Some(ScenarioRefused::Undeclared);
-    let most = Sizes(MAX_ROOTS, MAX_COUNTERS, 0, 0, MAX_SEATS, MAX_CALLS, release_of(15));
+    let most = Sizes(
+        MAX_ROOTS,
+        MAX_COUNTERS,
+        0,
+        0,
+        MAX_SEATS,
+        MAX_CALLS,
+        release_of(15),
+    );
     let rows = [
         (Sizes(1, 1, 0, 0, 1, 1, release_of(0)), None),
         (most, None),
@@ -254,7 +271,10 @@ fn parts_are_held_to_the_limits(rt: HostRuntime) -> Result<(), Fail> {
         (Sizes(1, 1, 0, 0, 17, 1, release_of(0)), outside),
         (Sizes(1, 1, 0, 0, 1, 0, release_of(0)), outside),
         (Sizes(1, 1, 0, 0, 1, 33, release_of(0)), outside),
-        (Sizes(1, 1, 0, 0, 1, 1, Call::ReleaseMany(CounterId::new(0), 1)), outside),
+        (
+            Sizes(1, 1, 0, 0, 1, 1, Call::ReleaseMany(CounterId::new(0), 1)),
+            outside,
+        ),
         (Sizes(0, 16, 0, 0, 1, 1, release_of(16)), outside),
         (Sizes(1, 16, 0, 0, 1, 1, release_of(16)), undeclared),
         (Sizes(1, 0, 0, 0, 1, 1, release_of(0)), undeclared),

@@ -1,3 +1,6 @@
+ghost use Rattle.std.specs.Prelude.{◌∷◌, ◌++◌, Some};
+ghost use Rattle.std.specs.Fmt.{decimal};
+
 use crate::seat_id::SeatId;
 use std::fmt;
 
@@ -9,6 +12,9 @@ pub struct WaitId {
 }
 
 impl fmt::Display for WaitId {
+    // its seat, a dot and its turn
+    ghost output = { λ wait. Some (decimal wait.seat ++ 46 ∷ decimal wait.turn) };
+
     fn fmt<W: fmt::Write>(&self, f: &mut fmt::Formatter<W>) -> fmt::Result {
         let seat = self.seat;
         let turn = self.turn;

@@ -1,0 +1,51 @@
+use Rattle.std.proofs.Common.{◌≡◌, [], ◌∷◌, Result, Ok, Err, IsOk, All, false, refl, sym, subst, rules, arith}
+use Rattle.std.proofs.lemmas.List.Elements.{All-cons, All-nil}
+use Rattle.step_core.specs.declared.call.Call.{Call}
+use Rattle.step_core.specs.declared.call.Call.TheVariants.{Acquire, Release}
+use Rattle.step_core.specs.declared.scenario.Parts.{Parts}
+use Rattle.step_core.specs.declared.scenario.ScenarioRefused.{ScenarioRefused}
+use Rattle.step_core.specs.declared.scenario.ScenarioRefused.TheVariants.{OutOfLimits, Undeclared, Ticket}
+use Rattle.step_core.specs.Scenario.{IsWithinLimits, IsDeclared, IsScript, IsRunnable, IsCallOn}
+use Rattle.explorer.specs.Once.{once_parts_of}
+use Rattle.explorer.proofs.once.once_scenario.Goals as goal
+
+all_one : {X : Type 0} (P : X → Type 0) (x : X) → P x → All P (x ∷ [])
+all_one P x h = All-cons P x [] h (All-nil P)
+
+all_two : {X : Type 0} (P : X → Type 0) (x y : X) → P x → P y → All P (x ∷ y ∷ [])
+all_two P x y h k = All-cons P x (y ∷ []) h (all_one P y k)
+
+one_call : (call : Call) → IsRunnable call → IsScript (call ∷ [])
+one_call call h = (omega arith, omega arith, all_one IsRunnable call h)
+
+within : IsWithinLimits once_parts_of
+within =
+    record {
+      some_root = omega arith;
+      roots = omega arith;
+      counters = omega arith;
+      lists = refl;
+      groups = refl;
+      some_seat = omega arith;
+      seats = omega arith;
+      scripts = all_two IsScript _ _ (one_call (Acquire 0 false) tt) (one_call (Release 0 false) tt);
+    }
+
+declared : IsDeclared once_parts_of
+declared =
+    let on : Call → Type 0 = IsCallOn 1 in
+    all_two (All on) _ _ (all_one on (Acquire 0 false) (omega arith)) (all_one on (Release 0 false) (omega arith))
+
+-- a result that is none of the refusals
+taken : (r : Result Parts ScenarioRefused) → (r ≡ Err OutOfLimits → ⊥) → (r ≡ Err Undeclared → ⊥) → (r ≡ Err Ticket → ⊥) → IsOk r
+taken (Ok scenario) limits undeclared ticket = refl
+taken (Err OutOfLimits) limits undeclared ticket = absurd (limits refl)
+taken (Err Undeclared) limits undeclared ticket = absurd (undeclared refl)
+taken (Err Ticket) limits undeclared ticket = absurd (ticket refl)
+
+pub unwrap-requires : goal.unwrap-requires
+unwrap-requires c =
+    let is : c.in_ok-once_parts.field-0 ≡ once_parts_of = search rules in
+    let fits : IsWithinLimits c.in_ok-once_parts.field-0 = subst IsWithinLimits (sym is) within in
+    let names : IsDeclared c.in_ok-once_parts.field-0 = subst IsDeclared (sym is) declared in
+    taken _ (λ e. c.of.ensures.limits.0 e fits) (λ e. (c.of.ensures.undeclared.0 e).1 names) c.of.ensures.no_other

@@ -1,0 +1,5 @@
+pub mod Answer
+pub mod Exit
+pub mod Once
+pub mod Output
+pub mod Seen
