@@ -21,7 +21,7 @@ use Rattle.step_core.specs.declared.word.Word.TheVariants.{Counter, Lock, Waiter
 use Rattle.step_core.specs.World.{Layout, Words, Seat, World, put, insert_wait, found, written, lists_after, journal_after, seat_after}
 use Rattle.step_core.specs.Event.{Event, Next, zero_or, by_first}
 use Rattle.step_core.specs.Table.{event_at}
-use Rattle.step_core.specs.Steps.{Choice, acquire, enter, release, give_up, give_up_lock, words_after}
+use Rattle.step_core.specs.Steps.{Choice, acquire, enter, release, give_up, give_up_lock, decide, words_after}
 use Rattle.step_core.specs.Steps as steps
 use Rattle.step_core.specs.Lawful.{wait, IsGrantOf}
 use Rattle.step_core.specs.Invariant.{HandFits, IsSeat, Finds}
@@ -45,6 +45,7 @@ pub data Line (m : Layout) (i : ℕ) (g : Words) : Seat → Seat → Words → E
   begin_enter : {a : Acquire} {t : ℕ} → a.counter < m.counters → Line m i g (resting t) (acquiring a A3 t) g Nothing
   begin_release : {r : Release} {t : ℕ} → r.counter < m.counters → Line m i g (resting t) (releasing r R1 t []) g Nothing
   end_first : {a : Acquire} {t : ℕ} → Line m i g (acquiring a A1 t) (resting t) g Nothing
+  decides : {r : Release} {b : Bool} {t : ℕ} → Line m i g (releasing r R3 t []) (releasing (record r { handoff = b }) R3 t []) g Nothing
   end_lock : {a : Acquire} {t : ℕ} → Line m i g (acquiring a A3 t) (resting t) g Nothing
   a1_zero : {a : Acquire} {t : ℕ} → g.numbers a.counter ≡ 0 → Line m i g (acquiring a A1 t) (acquiring a A3 t) g Nothing
   a1_some : {a : Acquire} {t n : ℕ} → g.numbers a.counter ≡ suc n → Line m i g (acquiring a A1 t) (acquiring a (A2 n) t) g Nothing
@@ -255,6 +256,7 @@ module _ (m : Layout) (i : ℕ) (g : Words) where
   chosen (release r within) t [] fits = begin_release within
   chosen (give_up a) t [] fits = end_first
   chosen (give_up_lock a) t [] fits = end_lock
+  chosen (decide r handoff) t [] fits = decides
   chosen _ t hand fits = absurd (omega arith)
 
 case_step : (m : Layout) (s : World) (i : ℕ) {q : Seat} {h : Words} {e : Effect} → Case m i s.words (s.seats i) q h e

@@ -13,8 +13,8 @@ use Rattle.step_core.specs.Steps.{Turn, IsReached, first, next}
 use Rattle.step_core.specs.Steps as steps
 use Rattle.step_core.specs.Journal.{HasItsUnit, on, same}
 use Rattle.step_core.specs.Lawful.{total, wait, times, holds, raises, flies, granted, IsParked, IsCommitted}
-use Rattle.step_core.specs.Lawful.{WaitersCounted, FewUnits, ParkedOnce, EachIsParked, IsLawfulWorld}
-use Rattle.step_core.specs.Invariant.{hands, awaits, helps_at, helps, commits, IsInvariant}
+use Rattle.step_core.specs.Lawful.{WaitersCounted, FewUnits, ParkedOnce, EachIsParked, IsReleasing, counter_at, IsLawfulWorld}
+use Rattle.step_core.specs.Invariant.{hands, awaits, helps_at, helps, commits, HandFits, IsInvariant}
 use Rattle.step_core.specs.Law.{TheLaw}
 use Rattle.step_core.proofs.Sums.{on_here, on_zero, nothing, single, total_has, total_le, total_same, total_rest}
 use Rattle.step_core.proofs.Lines.{Step, step_of}
@@ -96,6 +96,14 @@ waits_here c k turn zero a here =
     let w = wait k turn in let on_it = on_here c (same w w) in let itself = same_here w in rw here (omega arith)
 waits_here c k turn (suc g) a here = omega arith
 
+some_hand : (w : WaitId) (hand : List WaitId) → 0 < times w hand → 0 < length hand
+some_hand w [] some = some
+some_hand w (x ∷ hand) some = omega arith
+
+of_release : (p : Place) (n : ℕ) → HandFits p n → 0 < n → IsReleasing p (counter_at p)
+of_release (Releasing r row) n fits some = refl
+of_release _ n fits some = absurd (omega arith)
+
 module _ (m : Layout) (s : World) (inv : IsInvariant m s) where
   waiters_counted : WaitersCounted m s
   waiters_counted r =
@@ -127,7 +135,10 @@ module _ (m : Layout) (s : World) (inv : IsInvariant m s) where
   each_is_parked : EachIsParked m s
   each_is_parked = (
     (λ c w some. let v = in_a_list m s inv.placed c w some in (v.4, (v.0, v.1, v.2))),
-    (λ k w h some. let v = in_a_hand m s inv.placed k w h some in (v.4, (v.0, v.1, v.2))),
+    (λ k w h some.
+        let v = in_a_hand m s inv.placed k w h some in
+        let its = of_release (s.seats k).place (length (s.seats k).hand) (inv.seats k).fits (some_hand w (s.seats k).hand some) in
+        (v.4, counter_at (s.seats k).place, its, (v.0, v.1, v.2))),
   )
 
   parked_once : ParkedOnce m s
@@ -156,6 +167,7 @@ module _ (m : Layout) (s : World) (inv : IsInvariant m s) where
   pub promised : IsLawfulWorld m s
   promised = record {
     journal = (inv.replays, (inv.follows, (λ w. let once = inv.once w in (once.1, omega arith))));
+    locks = λ r. (inv.locks r).0;
     waiters = waiters_counted;
     units = few_units;
     once = parked_once;

@@ -17,7 +17,7 @@ use Rattle.step_core.specs.Journal.{Budget, spent, budget_from, budget, Owes, ta
 use Rattle.step_core.specs.Lawful.{wait, times, IsGrantOf}
 use Rattle.step_core.specs.Invariant.{SeatsKnown, StoriesTold, IsSeat, hands, WaitsPlaced, AllLeft, AllHaveUnits, Story}
 use Rattle.step_core.proofs.Sums.{put_at, on_else}
-use Rattle.step_core.proofs.Lines.{Line, a2_won, a6_won, a7, a11_won, r1, r2_some, r3, r4_some, r5, r6_plain, r6_handoff, r7_zero, r7_some, r8_won, r8_lost}
+use Rattle.step_core.proofs.Lines.{Line, a2_won, a6_won, a7, a11_won, r1, r2_some, r3, r4_some, r5, r6_plain, r6_handoff, r7_zero, r7_some, r8_won, r8_lost, decides}
 use Rattle.step_core.proofs.Lines.{Post, r9, r10, Step, own, post}
 use Rattle.step_core.proofs.Placing.{same_here, grants_else, Waiter, waiter_of_post, one_hand}
 use Rattle.step_core.proofs.Parking.{one_parking, call_of, in_call, in_a_hand}
@@ -138,6 +138,7 @@ story_row : {m : Layout} {i : ℕ} {g h : Words} {p q : Seat} {e : Effect} → L
 story_row {i = i} {g = g} {e = e} (a7 {a = a} {t = t}) j quiet story =
     subst (λ x. Story i (Acquiring a (P t)) [] x (journal_after e j)) (sym quiet) tt
 story_row {i = i} (r1 {r = r}) j quiet story = owes_new i r.counter j
+story_row decides j quiet story = story
 story_row r2_some j quiet story = story
 story_row (r3 _) j quiet story = story
 story_row (r4_some _) j quiet story = story

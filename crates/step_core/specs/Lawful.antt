@@ -90,6 +90,10 @@ IsCommitted s k c = (a : Acquire) × (a.counter ≡ c) × ((s.seats k).place ≡
 abbrev pub OneJournal : Layout → World → Type 0
 OneJournal m s = (plain s.words ≡ replay (plain_start m.starts) s.journal) × IsLawful (plain_start m.starts) s.journal
 
+-- a lock word is 1 while one seat holds the lock, and else 0
+abbrev pub LocksHeld : Layout → World → Type 0
+LocksHeld m s = (r : ℕ) → s.words.locks r ≡ total m.seats (λ k. holds m.root r (s.seats k).place)
+
 -- a waiter word is the number of its root's waits, and one more while the lock's holder has raised it
 abbrev pub WaitersCounted : Layout → World → Type 0
 WaitersCounted m s =
@@ -111,12 +115,18 @@ ParkedOnce m s =
     → (times (wait k turn) (s.words.lists c) + in_hand m s (wait k turn) + granted (s.words.grants k) ≡ 1)
     × ((d : ℕ) → d ≢ c → times (wait k turn) (s.words.lists d) ≡ 0)
 
--- each wait in a list or in a hand is that of a parked seat
+-- the seat's call is a release of c
+abbrev pub IsReleasing : Place → ℕ → Type 0
+IsReleasing (Releasing r row) c = r.counter ≡ c
+IsReleasing _ c = ⊥
+
+-- each wait in a list is that of a seat that is parked there, and each wait in a hand is in that of a release of the
+-- counter on which its seat is parked
 abbrev pub EachIsParked : Layout → World → Type 0
 EachIsParked m s =
     ((c : ℕ) (w : WaitId) → 0 < times w (s.words.lists c) → (w.seat < m.seats) × IsParked s w.seat c w.turn)
     × ((k : ℕ) (w : WaitId) → k < m.seats → 0 < times w (s.seats k).hand
-    → (w.seat < m.seats) × IsParked s w.seat (counter_at (s.seats k).place) w.turn)
+    → (w.seat < m.seats) × (c : ℕ) × IsReleasing (s.seats k).place c × IsParked s w.seat c w.turn)
 
 -- a seat that isn't parked has no grant, and a grant is at most 2
 abbrev pub IsGrantOf : Place → ℕ → Type 0
@@ -146,6 +156,7 @@ AllBounded m s =
 -- a lawful world
 pub record IsLawfulWorld (m : Layout) (s : World) : Type 0 where
   pub journal : OneJournal m s
+  pub locks : LocksHeld m s
   pub waiters : WaitersCounted m s
   pub units : FewUnits m s
   pub once : ParkedOnce m s

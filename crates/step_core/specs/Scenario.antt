@@ -3,7 +3,6 @@ use Rattle.std.specs.Prelude.{◌≡◌, ℕ, ◌<◌, ◌≤◌, ◌^◌, List,
 use Rattle.step_core.specs.declared.call.Call.{Call}
 use Rattle.step_core.specs.declared.call.Call.TheVariants.{Acquire, Release}
 use Rattle.step_core.specs.declared.scenario.Parts.{Parts}
-use Rattle.step_core.specs.declared.scenario.TheConstants.{MAX_COUNTERS, MAX_SEATS, MAX_CALLS, MAX_ROOTS}
 
 -- a call of a kind that the machine runs
 abbrev pub IsRunnable : Call → Type 0
@@ -12,17 +11,17 @@ IsRunnable (Release c handoff) = Unit {0}
 IsRunnable _ = ⊥
 
 abbrev pub IsScript : List Call → Type 0
-IsScript calls = (0 < length calls) × (length calls ≤ MAX_CALLS) × All IsRunnable calls
+IsScript calls = (0 < length calls) × (length calls ≤ 32) × All IsRunnable calls
 
 -- the parts keep the limits
 pub record IsWithinLimits (parts : Parts) : Type 0 where
   pub some_root : 0 < parts.roots
-  pub roots : parts.roots ≤ MAX_ROOTS
-  pub counters : length parts.starts ≤ MAX_COUNTERS
+  pub roots : parts.roots ≤ 251
+  pub counters : length parts.starts ≤ 16
   pub lists : length parts.firsts ≡ 0
   pub groups : parts.groups ≡ 0
   pub some_seat : 0 < length parts.calls
-  pub seats : length parts.calls ≤ MAX_SEATS
+  pub seats : length parts.calls ≤ 16
   pub scripts : All IsScript parts.calls
 
 -- the call names a counter that is there

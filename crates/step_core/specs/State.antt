@@ -225,8 +225,8 @@ pub record HasRowsOf (h : Stored) (s : ℕ) (place : Place) (in_hand : Option Wa
 
 -- the row of the seat ran: the words and lists, its hand and the journal, and where it stands next, are those of its event
 pub record HasRun
-  (s : ℕ) (caller : Caller) (h : Stored) (hand : List WaitId) (journal : List Entry)
-  (h' : Stored) (hand' : List WaitId) (journal' : List Entry) (next : Caller) : Type 0 where
+    (s : ℕ) (caller : Caller) (h : Stored) (hand : List WaitId) (journal : List Entry)
+    (h' : Stored) (hand' : List WaitId) (journal' : List Entry) (next : Caller) : Type 0 where
   pub can : IsTrue ((row_event s caller h hand).can (row_finds s caller h hand))
   pub place : next.place ≡ ((row_event s caller h hand).leads (row_finds s caller h hand)).0
   pub turn : next.turn ≡ turn_after ((row_event s caller h hand).leads (row_finds s caller h hand)).1 caller.turn

@@ -128,9 +128,10 @@ impl Caller {
     pub(crate) fn after(&self, outcome: &Outcome) -> Caller
         requires { self.now.turn + 1 < 2 ^ 64 }
         ensures { result ≡ record {
-            place = outcome.now.place;
-            turn = turn_after outcome.now.effect self.now.turn;
-            begun = self.now.begun } }
+          place = outcome.now.place;
+          turn = turn_after outcome.now.effect self.now.turn;
+          begun = self.now.begun;
+        } }
     {
         let turn = match outcome.effect {
             Effect::Tells(Entry::Queue(_, _, _)) => self.turn + 1,

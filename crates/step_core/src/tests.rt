@@ -6,8 +6,8 @@
 ghost use Rattle.std.specs.Prelude.{◌≡◌};
 
 use crate::{
-    Call, Entry, Items, MAX_CALLS, MAX_COUNTERS, MAX_ROOTS, MAX_SEATS, Parts, Phase, Row,
-    RunRefused, Scenario, ScenarioRefused, StepRefused, World, run,
+    Call, Entry, Items, Misuse, Parts, Phase, Row, RunRefused, Scenario, ScenarioRefused,
+    StepRefused, World, run,
 };
 use std::alloc::{AllocError, Global};
 use std::process::Abort;
@@ -220,7 +220,11 @@ fn a_held_lock_refuses(rt: HostRuntime) -> Result<(), Fail> {
     let cause = StepRefused::LockHeld;
     assert_eq!(rt; refused, Some(RunRefused { at: 5, cause }));
     assert_eq!(rt; cause as u8, 3);
+    assert_eq!(rt; StepRefused::SeatFailed as u8, 5);
     assert_eq!(rt; StepRefused::NoMemory as u8, 6);
+    assert_eq!(rt; Misuse::Negative as u8, 1);
+    assert_eq!(rt; Misuse::AddWithWait as u8, 2);
+    assert_eq!(rt; Misuse::Reused as u8, 3);
     Ok(())
 }
 
@@ -250,15 +254,7 @@ fn sized(alloc: Global, sizes: &Sizes) -> Result<Parts, AllocError> {
 fn parts_are_held_to_the_limits(rt: HostRuntime) -> Result<(), Fail> {
     let outside = Some(ScenarioRefused::OutOfLimits);
     let undeclared = Some(ScenarioRefused::Undeclared);
-    let most = Sizes(
-        MAX_ROOTS,
-        MAX_COUNTERS,
-        0,
-        0,
-        MAX_SEATS,
-        MAX_CALLS,
-        release_of(15),
-    );
+    let most = Sizes(251, 16, 0, 0, 16, 32, release_of(15));
     let rows = [
         (Sizes(1, 1, 0, 0, 1, 1, release_of(0)), None),
         (most, None),
@@ -288,5 +284,6 @@ fn parts_are_held_to_the_limits(rt: HostRuntime) -> Result<(), Fail> {
     }
     assert_eq!(rt; ScenarioRefused::OutOfLimits as u8, 1);
     assert_eq!(rt; ScenarioRefused::Undeclared as u8, 2);
+    assert_eq!(rt; ScenarioRefused::Ticket as u8, 3);
     Ok(())
 }
