@@ -1,7 +1,7 @@
 //! Schedules that are known by hand, the refusals, and memory that runs out.
 //!
 //! A call that answers want of memory is made once more. So each test passes whichever single allocation is refused
-//! (`rt try --test --fail-alloc 1..`), and shows that the refused call changed nothing.
+//! (`rt try --test --fail-alloc N`, for each N), and shows that the refused call changed nothing.
 
 ghost use Rattle.std.specs.Prelude.{◌≡◌};
 
