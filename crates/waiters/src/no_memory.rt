@@ -1,3 +1,5 @@
+ghost use Rattle.std.specs.Prelude.{Some, codes};
+
 use std::alloc::AllocError;
 use std::error::Error;
 use std::fmt;
@@ -7,6 +9,8 @@ use std::fmt;
 pub struct NoMemory;
 
 impl fmt::Display for NoMemory {
+    ghost output = { λ _. Some (codes "no memory") };
+
     fn fmt<W: fmt::Write>(&self, f: &mut fmt::Formatter<W>) -> fmt::Result {
         f.write_str("no memory")
     }

@@ -1,0 +1,4 @@
+pub mod ChainLemmas
+pub mod CopyLemmas
+pub mod StepLemmas
+pub mod WalkLemmas
