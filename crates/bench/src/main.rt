@@ -1,0 +1,47 @@
+//! What the parts cost, in nanoseconds an operation: `bench CASE SIZE..` prints a line for each size.
+//!
+//! `treap` and `sorted` take a wait out of a root at a counter drawn at random, and queue it there again; the size
+//! is how many counters have a wait, from 1 to 65535.
+#![tactic(auto)]
+
+ghost use Rattle.std.specs.Prelude.{◌<◌};
+
+mod roots;
+
+use anyhow::{Result, bail};
+use sema_root::{SortedRoot, TreapRoot};
+use std::alloc::Global;
+use std::env;
+use std::num::NonZeroU16;
+use std::time::Clock;
+
+/// What an operation costs in this case, in nanoseconds.
+fn cost(clock: &impl Clock, alloc: Global, case: &str, size: u16) -> Result<u128>
+    requires { 0 < size }
+{
+    match case {
+        "treap" => {
+            let mut root = TreapRoot::with_room(alloc, size, 1)?;
+            Ok(roots::turn(clock, &mut root, size)?)
+        }
+        "sorted" => {
+            let mut root = SortedRoot::with_room(alloc, size)?;
+            Ok(roots::turn(clock, &mut root, size)?)
+        }
+        _ => bail!("no case {case}"),
+    }
+}
+
+fn main(rt: HostRuntime) -> Result<()> {
+    let mut words = env::args(&rt)?.skip(1);
+    let Some(case) = words.next() else {
+        println!(rt; "usage: bench treap|sorted COUNTERS..")?;
+        return Ok(());
+    };
+    for word in words {
+        let size = word.parse::<NonZeroU16>()?.get();
+        let cost = cost(&rt, rt.alloc(), &case, size)?;
+        println!(rt; "{case} {size} ns/op={cost}")?;
+    }
+    Ok(())
+}

@@ -1,0 +1,158 @@
+-- Where a tree of nodes hangs, and what a walk that ends at one link leaves of the nodes. No public clause cites this.
+use Rattle.std.specs.Prelude.{◌≡◌, ◌≢◌, ◌==◌, ◌≤◌, ◌<◌, ◌+◌, ℕ, List, [], ◌∷◌, Option, Some, None, Bool, true, false, drop, slice_get, length, ltb, if◌then◌else◌}
+use Rattle.slab.specs.Slab.{get, ContainsKey, slab_len, Updates}
+use Rattle.waiters.specs.Lists.{Lists, waits_at, Changes}
+use Rattle.waiters.specs.declared.wait.Wait.{Wait}
+use Rattle.sema_root.specs.declared.nodes.Node.{Node}
+use Rattle.sema_root.specs.declared.branches.Branches.{Branches}
+use Rattle.sema_root.specs.declared.listed.Listed.{Listed}
+use Rattle.sema_root.specs.declared.branches.Link.{Link}
+use Rattle.sema_root.specs.declared.branches.Link.TheVariants.{Top, Left, Right}
+use Rattle.sema_root.specs.Tree.{Sprig, Tree, size, entries, sought, top_value, IsTreap}
+use Rattle.sema_root.specs.Planted.{Opens}
+use Rattle.sema_root.specs.Reshaping.{grafted, pruned}
+use Rattle.sema_root.specs.Linked.{sprig, tree_at, Holds, Lacks, IsSearchable}
+
+abbrev pub left_of : Option Node → Option ℕ
+left_of None = None
+left_of (Some node) = node.left
+
+abbrev pub right_of : Option Node → Option ℕ
+right_of None = None
+right_of (Some node) = node.right
+
+-- the topmost node of the tree that hangs at a link
+abbrev pub held : Branches → Link → Option ℕ
+held branches Top = branches.top
+held branches (Left at) = left_of (get branches.nodes at)
+held branches (Right at) = right_of (get branches.nodes at)
+
+-- the node under this key, where another tree was hung at the link
+abbrev pub relinked : Link → Option ℕ → ℕ → Node → Node
+relinked Top tree key node = node
+relinked (Left at) tree key node = if key == at then record node { left = tree } else node
+relinked (Right at) tree key node = if key == at then record node { right = tree } else node
+
+-- and the topmost node of all
+abbrev pub topped : Link → Option ℕ → Option ℕ → Option ℕ
+topped Top tree top = tree
+topped (Left at) tree top = top
+topped (Right at) tree top = top
+
+-- the side of a node on which a counter must be, and what hangs there
+abbrev pub toward : ℕ → ℕ → Node → Link × Option ℕ
+toward counter key node = if ltb counter node.counter then (Left key, node.left) else (Right key, node.right)
+
+-- the node of the link is there
+abbrev pub IsThere : Branches → Link → Type 0
+IsThere branches Top = Unit {0}
+IsThere branches (Left at) = ContainsKey branches.nodes at
+IsThere branches (Right at) = ContainsKey branches.nodes at
+
+-- a tree was hung at the link
+pub record Hangs (old new : Branches) (link : Link) (tree : Option ℕ) : Type 0 where
+  pub nodes : (key : ℕ) (node : Node) → get old.nodes key ≡ Some node → get new.nodes key ≡ Some (relinked link tree key node)
+  pub there : IsThere old link → held new link ≡ tree
+  pub top : new.top ≡ topped link tree old.top
+  pub capacity : new.nodes.capacity ≡ old.nodes.capacity
+  pub len : slab_len new.nodes ≡ slab_len old.nodes
+
+-- the tree at the link became this one, and no other counter's node changed, but for the link
+pub record Regrows (old new : Branches) (link : Link) (was is : Tree ℕ) : Type 0 where
+  pub holds : Holds new.nodes (held new link) is
+  pub others : (key : ℕ) (node : Node) → get old.nodes key ≡ Some node → Lacks node.counter (entries was)
+      → get new.nodes key ≡ Some (relinked link (held new link) key node)
+  pub top : new.top ≡ topped link (held new link) old.top
+  pub capacity : new.nodes.capacity ≡ old.nodes.capacity
+
+-- the node above a link has this tree below it, and another counter than each in it and than this one
+pub record IsAbove (node : Node) (tree : Tree ℕ) (counter : ℕ) : Type 0 where
+  pub apart : node.counter ≢ counter
+  pub lacks : Lacks node.counter (entries tree)
+
+abbrev pub HangsAt : Branches → Link → Option ℕ → ℕ → Type 0
+HangsAt branches Top at counter = branches.top ≡ at
+HangsAt branches (Left above) at counter =
+    (node : Node) × (get branches.nodes above ≡ Some node) × (node.left ≡ at) × IsAbove node (tree_at branches.nodes at) counter
+HangsAt branches (Right above) at counter =
+    (node : Node) × (get branches.nodes above ≡ Some node) × (node.right ≡ at) × IsAbove node (tree_at branches.nodes at) counter
+
+-- a walk for the counter has come to this link, and what hangs there
+pub record ComesTo (branches : Branches) (link : Link) (at : Option ℕ) (counter : ℕ) : Type 0 where
+  pub searchable : IsSearchable branches.nodes at
+  pub hangs : HangsAt branches link at counter
+
+-- a new node was hung at the link, with these two trees below it
+pub record HangsNew (old new : Branches) (link : Link) (left right : Option ℕ) (sprout : Sprig ℕ) : Type 0 where
+  pub mid : Branches
+  pub key : ℕ
+  pub node : Node
+  pub is : sprig node ≡ sprout
+  pub on_left : node.left ≡ left
+  pub on_right : node.right ≡ right
+  pub vacant : get old.nodes key ≡ None
+  pub updates : Updates old.nodes mid.nodes key (Some node)
+  pub same_top : mid.top ≡ old.top
+  pub same_capacity : mid.nodes.capacity ≡ old.nodes.capacity
+  pub hangs : Hangs mid new link (Some key)
+  pub len : slab_len new.nodes ≡ slab_len old.nodes + 1
+
+-- a node with a new list was grafted on the tree at the link
+pub record Enters (old new : Branches) (link : Link) (tree : Tree ℕ) (counter ticket : ℕ) (old_lists new_lists : Lists) (listed : Listed) : Type 0 where
+  pub is_new : listed.is_new ≡ true
+  pub regrows : Regrows old new link tree (grafted (record { counter = counter; ticket = ticket; value = listed.list }) tree)
+  pub len : slab_len new.nodes ≡ slab_len old.nodes + 1
+  pub opens : Opens old_lists new_lists listed.list
+
+-- the list was found, and nothing changed
+pub record IsFound (old new : Branches) (old_lists new_lists : Lists) (listed : Listed) (key : ℕ) : Type 0 where
+  pub is_old : listed.is_new ≡ false
+  pub list : listed.list ≡ key
+  pub same : new ≡ old
+  pub same_lists : new_lists ≡ old_lists
+
+-- the first wait went, and the list with it where it was the last
+abbrev pub Pops : Lists → Lists → ℕ → List Wait → Bool → Type 0
+Pops old new key [] is_last = (is_last ≡ true) × Changes old new key None × (new.list_room ≡ old.list_room + 1)
+Pops old new key (wait ∷ rest) is_last = (is_last ≡ false) × Changes old new key (Some (wait ∷ rest)) × (new.list_room ≡ old.list_room)
+
+-- no list was found, and nothing changed
+pub record IsMissing (old new : Branches) (old_lists new_lists : Lists) (wait : Option Wait) : Type 0 where
+  pub none : wait ≡ None
+  pub same : new ≡ old
+  pub same_lists : new_lists ≡ old_lists
+
+-- the last wait went, with its list and its counter's node
+pub record Prunes (old new : Branches) (link : Link) (tree : Tree ℕ) (counter : ℕ) (old_lists new_lists : Lists) (key : ℕ) : Type 0 where
+  pub regrows : Regrows old new link tree (pruned counter tree)
+  pub len : slab_len new.nodes + 1 ≡ slab_len old.nodes
+  pub closed : Changes old_lists new_lists key None
+  pub list_room : new_lists.list_room ≡ old_lists.list_room + 1
+
+-- the tree stays, and the list keeps these waits
+pub record Shortens (old new : Branches) (old_lists new_lists : Lists) (key : ℕ) (rest : List Wait) : Type 0 where
+  pub same : new ≡ old
+  pub kept : Changes old_lists new_lists key (Some rest)
+  pub list_room : new_lists.list_room ≡ old_lists.list_room
+
+abbrev pub Leaves : Branches → Branches → Link → Tree ℕ → ℕ → Lists → Lists → ℕ → List Wait → Type 0
+Leaves old new link tree counter old_lists new_lists key [] = Prunes old new link tree counter old_lists new_lists key
+Leaves old new link tree counter old_lists new_lists key (wait ∷ rest) = Shortens old new old_lists new_lists key (wait ∷ rest)
+
+-- the first wait of a list was taken out
+pub record Takes (old new : Branches) (link : Link) (tree : Tree ℕ) (counter : ℕ) (old_lists new_lists : Lists) (wait : Option Wait) (key : ℕ) : Type 0 where
+  pub first : wait ≡ slice_get (waits_at old_lists key) 0
+  pub room : new_lists.room ≡ old_lists.room + 1
+  pub leaves : Leaves old new link tree counter old_lists new_lists key (drop 1 (waits_at old_lists key))
+
+-- a counter's list has a wait, if the tree has the counter
+pub record IsFilled (tree : Tree ℕ) (counter : ℕ) (lists : Lists) : Type 0 where
+  pub filled : (key : ℕ) → top_value (sought counter tree) ≡ Some key → 0 < length (waits_at lists key)
+
+-- the treap of these branches can take as many nodes in all as were reserved
+pub record IsPlanted (branches : Branches) (reserved : ℕ) : Type 0 where
+  pub treap : IsTreap (tree_at branches.nodes branches.top)
+  pub holds : Holds branches.nodes branches.top (tree_at branches.nodes branches.top)
+  pub counted : size (tree_at branches.nodes branches.top) ≤ slab_len branches.nodes
+  pub within : slab_len branches.nodes ≤ reserved
+  pub fits : reserved ≤ branches.nodes.capacity

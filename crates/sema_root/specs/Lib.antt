@@ -1,0 +1,14 @@
+pub mod Entries
+pub mod Queues
+pub mod Joined
+pub mod Root
+pub mod Search
+pub mod Sorted
+pub mod Tree
+pub mod TreeCode
+pub mod Treap
+pub mod Reshaping
+pub mod Linked
+pub mod Hanging
+pub mod Planted
+pub mod Rooted

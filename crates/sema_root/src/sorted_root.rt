@@ -1,0 +1,112 @@
+//! A root as a sorted vector: the reference for [`TreapRoot`](crate::TreapRoot), and faster while few counters
+//! have waits. A search takes logarithmic time; a counter that comes in or goes moves the tail.
+ghost use Rattle.std.specs.Prelude.{◌≡◌, ◌<◌, ◌+◌, [], Some, IfOk, IfErr};
+ghost use Rattle.waiters.specs.Lists.{waits_at, IsOpen, Changes as ListChanges};
+ghost use Rattle.sema_root.specs.Entries.{AreRising};
+ghost use Rattle.sema_root.specs.Queues.{joined_by};
+ghost use Rattle.sema_root.specs.Search.{pairs, IsAt, IsGapFor};
+
+use crate::push::push;
+use crate::store::RootStore;
+use std::alloc::Global;
+use std::marker::Model;
+use waiters::{CounterId, ListKey, Lists, NoMemory, Wait};
+
+/// A root as a vector of counters in rising order, each with its queue.
+#[derive(Drop)]
+pub struct SortedRoot {
+    entries: Vec<Entry>,
+    lists: Lists,
+    seats: u16,
+}
+
+/// A counter that has waits, and their list.
+#[derive(Clone, Copy, Drop)]
+struct Entry {
+    counter: CounterId,
+    list: ListKey,
+}
+
+impl Model for SortedRoot {
+    ghost use Rattle.sema_root.specs.Root.{Root};
+
+    ghost Value = { Root };
+
+    ghost use Rattle.sema_root.specs.Sorted.{root_of, IsSound};
+
+    ghost view = { root_of };
+
+    ghost invariant = { IsSound };
+}
+
+impl SortedRoot {
+    /// An empty root, with memory for a wait of each seat.
+    pub fn with_room(alloc: Global, seats: u16) -> Result<SortedRoot, NoMemory>
+        ensures empty { IfOk result (λ made. made.queues ≡ []) }
+        ensures seats { IfOk result (λ made. made.seats ≡ seats) }
+    {
+        let room = usize::from(seats);
+        Ok(SortedRoot {
+            entries: Vec::with_capacity(alloc, room)?,
+            lists: Lists::with_room(alloc, room, room)?,
+            seats,
+        })
+    }
+}
+
+impl RootStore for SortedRoot {
+    ghost queues = { λ root. root.queues };
+
+    ghost seats = { λ root. root.seats };
+
+    fn queue(&mut self, counter: CounterId, wait: Wait, lifo: bool) {
+        match search(&self.entries, counter) {
+            Ok(at) => {
+                let list = self.entries[at].list;
+                push(&mut self.lists, list, wait, lifo);
+            }
+            Err(at) => {
+                let list = self.lists.open();
+                push(&mut self.lists, list, wait, lifo);
+                self.entries.insert(at, Entry { counter, list }).unwrap();
+            }
+        }
+    }
+
+    fn dequeue(&mut self, counter: CounterId) -> Option<Wait> {
+        let Ok(at) = search(&self.entries, counter) else {
+            return None;
+        };
+        let list = self.entries[at].list;
+        let wait = self.lists.pop_front(list);
+        if self.lists.len(list) == 0 {
+            self.entries.remove(at);
+            self.lists.close(list);
+        }
+        wait
+    }
+
+    fn count(&self) -> usize {
+        usize::from(self.seats) - self.lists.room()
+    }
+
+    fn waiting(&self, counter: CounterId) -> usize {
+        match search(&self.entries, counter) {
+            Ok(at) => self.lists.len(self.entries[at].list),
+            Err(_) => 0,
+        }
+    }
+
+    fn is_full(&self) -> bool {
+        self.lists.room() == 0
+    }
+}
+
+// Where the counter is, or where it would go.
+fn search(entries: &[Entry], counter: CounterId) -> Result<usize, usize>
+    requires { AreRising (pairs entries.now) }
+    ensures found { IfOk result (IsAt entries.now counter) }
+    ensures absent { IfErr result (IsGapFor entries.now counter) }
+{
+    entries.binary_search_by_key(&counter, |entry| entry.counter)
+}

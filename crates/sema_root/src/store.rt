@@ -1,0 +1,45 @@
+ghost use Rattle.std.specs.Prelude.{◌≡◌, ◌<◌, ◌≤◌, ◌+◌, ℕ, List, drop, length, slice_get, OnSome, IfNone, IsTrue, ◌↔◌};
+ghost use Rattle.waiters.specs.declared.wait.Wait.{Wait};
+ghost use Rattle.sema_root.specs.Queues.{waits_on, total, AreQueues, joined_by, Changes};
+
+use waiters::{CounterId, Wait};
+
+/// A root: the counters that have waits, each with its queue. No call takes memory.
+pub trait RootStore {
+    /// The counters that have waits, in rising order, each with its waits from first to last.
+    ghost queues: { Self → List (ℕ × List Wait) };
+
+    /// How many waits fit.
+    ghost seats: { Self → ℕ };
+
+    /// Puts a wait at the end of its counter's queue, with lifo at the front (Go's `semaRoot.queue`).
+    fn queue(&mut self, counter: CounterId, wait: Wait, lifo: bool)
+        requires fits { total (queues self.old) < seats self.old }
+        ensures queued { Changes (queues self.old) (queues self.new) counter
+            (joined_by lifo wait (waits_on (queues self.old) counter)) }
+        ensures count { total (queues self.new) ≡ total (queues self.old) + 1 }
+        ensures seats { seats self.new ≡ seats self.old };
+
+    /// Takes the first wait out of its counter's queue, if there is one (Go's `semaRoot.dequeue`).
+    fn dequeue(&mut self, counter: CounterId) -> Option<Wait>
+        ensures first { result ≡ slice_get (waits_on (queues self.old) counter) 0 }
+        ensures rest { Changes (queues self.old) (queues self.new) counter
+            (drop 1 (waits_on (queues self.old) counter)) }
+        ensures count { OnSome result (total (queues self.new) + 1 ≡ total (queues self.old)) }
+        ensures none { IfNone result (self.new ≡ self.old) }
+        ensures seats { seats self.new ≡ seats self.old };
+
+    /// How many waits are in, on all counters together.
+    fn count(&self) -> usize
+        ensures count { result ≡ total (queues self.now) }
+        ensures fits { total (queues self.now) ≤ seats self.now }
+        ensures queues { AreQueues (queues self.now) };
+
+    /// How many wait on a counter.
+    fn waiting(&self, counter: CounterId) -> usize
+        ensures { result ≡ length (waits_on (queues self.now) counter) };
+
+    /// Whether no wait fits any more.
+    fn is_full(&self) -> bool
+        ensures { IsTrue result ↔ (seats self.now ≤ total (queues self.now)) };
+}

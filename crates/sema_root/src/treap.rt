@@ -1,0 +1,113 @@
+//! Which list each counter's waits stand in, as a treap: a search tree by counters that is a heap by tickets.
+ghost use Rattle.std.specs.Prelude.{◌≡◌, ℕ, ◌<◌, MatchOption, IfOk, length, Some, None};
+ghost use Rattle.waiters.specs.Lists.{waits_at};
+ghost use Rattle.sema_root.specs.Tree.{IsTreap, leaf, sought, top_counter, top_place, top_value};
+ghost use Rattle.sema_root.specs.Planted.{Enters, IsFound, IsMissing, Takes};
+
+use crate::branches::{Branches, Link, list_for, take_first};
+use crate::listed::Listed;
+use crate::nodes::{counter_at, list_of, place_of};
+use crate::place::Place;
+use slab::Slab;
+use std::alloc::Global;
+use std::marker::Model;
+use waiters::{CounterId, ListKey, Lists, NoMemory, Wait};
+
+/// Counters with their lists and tickets, in nodes that are reserved once.
+#[derive(Drop)]
+pub(crate) struct Treap {
+    branches: Branches,
+    reserved: usize,
+}
+
+impl Model for Treap {
+    ghost use Rattle.std.specs.Prelude.{◌-◌};
+    ghost use Rattle.slab.specs.Slab.{slab_len};
+    ghost use Rattle.sema_root.specs.Planted.{Planted, planted_code};
+    ghost use Rattle.sema_root.specs.Linked.{tree_at};
+    ghost use Rattle.sema_root.specs.Hanging.{IsPlanted};
+
+    ghost Value = { Planted };
+
+    ghost coded = { planted_code };
+
+    ghost view = { λ t. record {
+      tree = tree_at t.branches.nodes t.branches.top;
+      room = t.reserved - slab_len t.branches.nodes;
+    } };
+
+    ghost invariant = { λ t. IsPlanted t.branches t.reserved };
+}
+
+impl Treap {
+    /// An empty treap with memory for so many nodes. No later call takes memory.
+    pub(crate) fn with_room(alloc: Global, nodes: usize) -> Result<Treap, NoMemory>
+        ensures empty { IfOk result (λ made. made.tree ≡ leaf) }
+        ensures room { IfOk result (λ made. made.room ≡ nodes) }
+    {
+        let branches = Branches {
+            nodes: Slab::with_capacity(alloc, nodes)?,
+            top: None,
+        };
+        Ok(Treap {
+            branches,
+            reserved: nodes,
+        })
+    }
+
+    /// How many more nodes fit.
+    pub(crate) fn room(&self) -> usize
+        ensures { result ≡ self.now.room }
+    {
+        self.reserved - self.branches.nodes.len()
+    }
+
+    /// The list of a counter, if it is in.
+    pub(crate) fn find(&self, counter: CounterId) -> Option<ListKey>
+        ensures list { result ≡ top_value (sought counter self.now.tree) }
+        ensures treap { IsTreap self.now.tree }
+    {
+        list_of(&self.branches.nodes, self.branches.top, counter)
+    }
+
+    /// The topmost counter.
+    pub(crate) fn top(&self) -> Option<CounterId>
+        ensures counter { result ≡ top_counter self.now.tree }
+        ensures treap { IsTreap self.now.tree }
+    {
+        counter_at(&self.branches.nodes, self.branches.top)
+    }
+
+    /// Where the node of a counter stands, if it is in.
+    pub(crate) fn place(&self, counter: CounterId) -> Option<Place>
+        ensures place { result ≡ top_place (sought counter self.now.tree) }
+        ensures treap { IsTreap self.now.tree }
+    {
+        place_of(&self.branches.nodes, self.branches.top, counter)
+    }
+
+    /// The list of a counter. One that isn't in gets a node with this ticket, and a list, which is opened.
+    pub(crate) fn list_for(&mut self, counter: CounterId, ticket: u32, lists: &mut Lists) -> Listed
+        requires room { 0 < self.old.room }
+        requires list_room { 0 < lists.old.list_room }
+        ensures list { MatchOption (top_value (sought counter self.old.tree))
+            (Enters self.old self.new counter ticket lists.old lists.new result)
+            (IsFound self.old self.new lists.old lists.new result) }
+        ensures treap { IsTreap self.new.tree }
+    {
+        let top = self.branches.top;
+        list_for(&mut self.branches, Link::Top, top, counter, ticket, lists)
+    }
+
+    /// Takes the first wait of a counter out of its list. With the last wait the list is closed, and the counter goes.
+    pub(crate) fn take_first(&mut self, counter: CounterId, lists: &mut Lists) -> Option<Wait>
+        requires { (key : ℕ) → top_value (sought counter self.old.tree) ≡ Some key → 0 < length (waits_at lists.old key) }
+        ensures wait { MatchOption (top_value (sought counter self.old.tree))
+            (IsMissing self.old self.new lists.old lists.new result)
+            (Takes self.old self.new counter lists.old lists.new result) }
+        ensures treap { IsTreap self.new.tree }
+    {
+        let top = self.branches.top;
+        take_first(&mut self.branches, Link::Top, top, counter, lists)
+    }
+}

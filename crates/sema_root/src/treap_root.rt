@@ -1,0 +1,143 @@
+//! A root as a treap, with the tickets of Go's `semaRoot`.
+//!
+//! A node's ticket is the low 32 bits of the generator's next word with the lowest bit set. The generator starts as
+//! `seed_from_u64(seed)`, and a word is used for each node and for nothing else. A counter keeps its node, and so its
+//! ticket, while it has waits.
+ghost use Rattle.std.specs.Prelude.{◌≡◌, ◌<◌, ◌+◌, MatchOption, IfOk, IfNone, OnSome, drop, length, slice_get};
+ghost use Rattle.sema_root.specs.Queues.{waits_on, total, AreQueues, joined_by, Changes};
+ghost use Rattle.sema_root.specs.Rooted.{Comes, IsIn};
+ghost use Rattle.sema_root.specs.Tree.{leaf, top_counter, top_place, top_value, sought, IsTreap};
+ghost use Rattle.sema_root.specs.Treap.{queues_of, KeepsTickets, Draws, tickets_from};
+
+use crate::place::Place;
+use crate::push::push;
+use crate::store::RootStore;
+use crate::tickets::Tickets;
+use crate::treap::Treap;
+use std::alloc::Global;
+use std::marker::Model;
+use waiters::{CounterId, ListKey, Lists, NoMemory, Wait};
+
+/// A root as a treap of counters, each with its queue.
+#[derive(Drop)]
+pub struct TreapRoot {
+    treap: Treap,
+    lists: Lists,
+    tickets: Tickets,
+    seats: u16,
+}
+
+impl Model for TreapRoot {
+    ghost use Rattle.sema_root.specs.Treap.{Treap as Root, treap_code};
+
+    ghost Value = { Root };
+
+    ghost coded = { treap_code };
+
+    ghost use Rattle.sema_root.specs.Rooted.{shown, IsRooted};
+
+    ghost view = { λ root. shown root.lists root.treap.tree root.tickets root.seats };
+
+    ghost invariant = { λ root. IsRooted root.treap root.lists root.seats };
+}
+
+impl TreapRoot {
+    /// An empty root, with memory for a wait of each seat. Its tickets are drawn from the seed.
+    pub fn with_room(alloc: Global, seats: u16, seed: u64) -> Result<TreapRoot, NoMemory>
+        ensures empty { IfOk result (λ made. made.tree ≡ leaf) }
+        ensures seats { IfOk result (λ made. made.seats ≡ seats) }
+        ensures tickets { IfOk result (λ made. made.tickets ≡ tickets_from seed) }
+    {
+        let room = usize::from(seats);
+        Ok(TreapRoot {
+            treap: Treap::with_room(alloc, room)?,
+            lists: Lists::with_room(alloc, room, room)?,
+            tickets: Tickets::from_seed(seed),
+            seats,
+        })
+    }
+
+    /// The counter of the topmost node, `None` in an empty root.
+    pub fn top(&self) -> Option<CounterId>
+        ensures top { result ≡ top_counter self.now.tree }
+        ensures treap { IsTreap self.now.tree }
+    {
+        self.treap.top()
+    }
+
+    /// The node of a counter, `None` where nobody waits on it.
+    pub fn place(&self, counter: CounterId) -> Option<Place>
+        ensures { result ≡ top_place (sought counter self.now.tree) }
+    {
+        self.treap.place(counter)
+    }
+}
+
+impl RootStore for TreapRoot {
+    ghost queues = { λ root. queues_of root.tree };
+
+    ghost seats = { λ root. root.seats };
+
+    fn queue(&mut self, counter: CounterId, wait: Wait, lifo: bool)
+        requires fits { total (queues_of self.old.tree) < self.old.seats }
+        ensures queued { Changes (queues_of self.old.tree) (queues_of self.new.tree) counter
+            (joined_by lifo wait (waits_on (queues_of self.old.tree) counter)) }
+        ensures count { total (queues_of self.new.tree) ≡ total (queues_of self.old.tree) + 1 }
+        ensures seats { self.new.seats ≡ self.old.seats }
+        ensures kept { KeepsTickets self.old.tree self.new.tree }
+        ensures drawn { Draws self.old self.new counter }
+    {
+        let list = list_for(&mut self.treap, &mut self.tickets, &mut self.lists, counter);
+        push(&mut self.lists, list, wait, lifo);
+    }
+
+    fn dequeue(&mut self, counter: CounterId) -> Option<Wait>
+        ensures first { result ≡ slice_get (waits_on (queues_of self.old.tree) counter) 0 }
+        ensures rest { Changes (queues_of self.old.tree) (queues_of self.new.tree) counter
+            (drop 1 (waits_on (queues_of self.old.tree) counter)) }
+        ensures count { OnSome result (total (queues_of self.new.tree) + 1 ≡ total (queues_of self.old.tree)) }
+        ensures none { IfNone result (self.new ≡ self.old) }
+        ensures seats { self.new.seats ≡ self.old.seats }
+        ensures kept { KeepsTickets self.old.tree self.new.tree }
+        ensures undrawn { self.new.tickets ≡ self.old.tickets }
+    {
+        self.treap.take_first(counter, &mut self.lists)
+    }
+
+    fn count(&self) -> usize {
+        usize::from(self.seats) - self.lists.room()
+    }
+
+    fn waiting(&self, counter: CounterId) -> usize {
+        match self.treap.find(counter) {
+            Some(list) => self.lists.len(list),
+            None => 0,
+        }
+    }
+
+    fn is_full(&self) -> bool {
+        self.lists.room() == 0
+    }
+}
+
+// The list of a counter. One that isn't in yet comes in, with the next ticket and an empty list.
+#[inline]
+fn list_for(
+    treap: &mut Treap,
+    tickets: &mut Tickets,
+    lists: &mut Lists,
+    counter: CounterId,
+) -> ListKey
+    requires room { 0 < treap.old.room }
+    requires list_room { 0 < lists.old.list_room }
+    ensures { MatchOption (top_value (sought counter treap.old.tree))
+        (Comes treap.old treap.new tickets.old tickets.new lists.old lists.new counter result)
+        (λ found. IsIn treap.old treap.new tickets.old tickets.new lists.old lists.new found result) }
+{
+    let listed = treap.list_for(counter, tickets.next(), lists);
+    if !listed.is_new {
+        return listed.list;
+    }
+    tickets.advance();
+    listed.list
+}
