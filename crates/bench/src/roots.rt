@@ -31,8 +31,10 @@ pub fn turn<R: RootStore>(clock: &impl Clock, root: &mut R, counters: u16) -> io
     let start = Instant::now(clock)?;
     for _ in 0..TURNS {
         let counter = CounterId::new((draws.next_u64() % u64::from(counters)) as u32);
-        let wait = root.dequeue(counter);
-        if let (Some(wait), false) = (wait, root.is_full()) {
+        let Some(wait) = root.dequeue(counter) else {
+            continue;
+        };
+        if !root.is_full() {
             root.queue(counter, wait, false);
         }
     }
