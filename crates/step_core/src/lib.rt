@@ -1,7 +1,7 @@
 //! The sleeping layer of semaphores as a pure machine of single steps.
 //!
 //! A scenario gives each seat a list of calls. Each step runs one row of the step table: one event of one word.
-//! The rows are those of Go's `semacquire1` and `semrelease1`.
+//! The rows are those of Go's `semacquire1` and `semrelease1`, and those of a release of many units at once.
 #![tactic(auto)]
 
 mod acquire;
