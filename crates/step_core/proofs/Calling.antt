@@ -1,24 +1,23 @@
 -- A step of a run keeps the law, and few calls are begun and few units added.
-use Rattle.std.proofs.Common.{◌≡◌, ◌≢◌, ℕ, zero, suc, ◌+◌, ◌*◌, ◌<◌, ◌≤◌, Bool, IsTrue, List, [], ◌∷◌, ◌++◌, Option, Some, None, length, get_or, slice_get, refl, sym, ap, ◌∙◌, subst, arith}
+use Rattle.std.proofs.Common.{◌≡◌, ◌≢◌, ℕ, ◌+◌, ◌*◌, ◌<◌, ◌≤◌, IsTrue, [], Option, Some, None, length, get_or, refl, subst, arith}
 use Rattle.std.proofs.lemmas.List.Elements.{All-get_or}
 use Rattle.step_core.specs.declared.call.Call.{Call}
-use Rattle.step_core.specs.declared.call.Call.TheVariants.{Acquire, Release}
-use Rattle.step_core.specs.declared.entry.Entry.{Entry}
 use Rattle.step_core.specs.declared.outcome.Effect.{Effect}
 use Rattle.step_core.specs.declared.place.ReleaseRow.TheVariants.{R1}
+use Rattle.step_core.specs.declared.place.ManyRow.TheVariants.{M1}
 use Rattle.step_core.specs.declared.place.Place.{Place}
-use Rattle.step_core.specs.declared.place.Place.TheVariants.{Rest, Acquiring, Releasing}
+use Rattle.step_core.specs.declared.place.Place.TheVariants.{Rest, Acquiring, Releasing, ReleasingMany}
 use Rattle.step_core.specs.declared.scenario.Parts.{Parts}
-use Rattle.step_core.specs.World.{Layout, Words, Seat, World, put, journal_after}
+use Rattle.step_core.specs.World.{Layout, Words, Seat, World, put}
 use Rattle.step_core.specs.Steps.{Choice, acquire, release, can_turn, turned, moved}
 use Rattle.step_core.specs.Steps as steps
 use Rattle.step_core.specs.Lawful.{total, added}
-use Rattle.step_core.specs.Invariant.{IsInvariant}
+use Rattle.step_core.specs.Invariant.{IsInvariant, IsWithin}
 use Rattle.step_core.specs.Scenario.{IsWithinLimits, IsDeclared, IsScript, IsRunnable, IsCallOn}
 use Rattle.step_core.specs.Run.{Run, layout, call_of, first_place, begun, continued, stepped}
 use Rattle.step_core.specs.State.{pending}
 use Rattle.step_core.proofs.Sums.{put_here, put_else, total_change, put_at, owned}
-use Rattle.step_core.proofs.Lines.{Line, begin_acquire, begin_enter, begin_release, r1, Post, r9, r10, Step, own, post, step_of}
+use Rattle.step_core.proofs.Lines.{Line, begin_acquire, begin_enter, begin_release, begin_many, r1, m1, Post, r9, r10, m7_last, m7_more, Step, own, post, step_of}
 use Rattle.step_core.proofs.Counting.{added_counts}
 use Rattle.step_core.proofs.Telling.{entries, count_after}
 use Rattle.step_core.proofs.Ranges.{get_here}
@@ -42,28 +41,33 @@ pub record IsKept (parts : Parts) (run : Run) : Type 0 where
 
 pending_most : (p : Place) → pending p ≤ 1
 pending_most (Releasing r R1) = omega arith
+pending_most (ReleasingMany r M1) = omega arith
 pending_most _ = omega arith
 
 -- a row adds what its release had yet to add, and no row begins one
-units_row : {m : Layout} {i : ℕ} {g h : Words} {p q : Seat} {e : Effect} → Line m i g p q h e → p.place ≢ Rest
+units_row : {m : Layout} {i : ℕ} {g h : Words} {p q : Seat} {e : Effect} → Line m i g p q h e → p.place ≢ Rest → IsWithin m.counters p.place
     → added (entries e) + 256 * pending q.place ≤ 256 * pending p.place
-units_row (begin_acquire _) awake = absurd (awake refl)
-units_row (begin_enter _) awake = absurd (awake refl)
-units_row (begin_release _) awake = absurd (awake refl)
-units_row r1 awake = omega arith
-units_row _ awake = omega arith
+units_row (begin_acquire _) awake within = absurd (awake refl)
+units_row (begin_enter _) awake within = absurd (awake refl)
+units_row (begin_release _) awake within = absurd (awake refl)
+units_row (begin_many _ _ _) awake within = absurd (awake refl)
+units_row r1 awake within = omega arith
+units_row m1 awake within = let few = within.2 in omega arith
+units_row _ awake within = omega arith
 
 grants_nothing : {p q : Seat} {c x : ℕ} {w : _} → Post p q c w x → pending q.place ≤ pending p.place
 grants_nothing r9 = omega arith
 grants_nothing r10 = omega arith
+grants_nothing m7_last = omega arith
+grants_nothing m7_more = omega arith
 
-units_kept : {m : Layout} {s : World} {i : ℕ} {t : World} → i < m.seats → (s.seats i).place ≢ Rest → Step m s i t
+units_kept : {m : Layout} {s : World} {i : ℕ} {t : World} → i < m.seats → (s.seats i).place ≢ Rest → IsWithin m.counters (s.seats i).place → Step m s i t
     → added t.journal + 256 * total m.seats (λ k. pending (t.seats k).place) ≤ added s.journal + 256 * total m.seats (λ k. pending (s.seats k).place)
-units_kept {m = m} {s = s} {i = i} in_range awake (own {q = q} {e = e} line) =
+units_kept {m = m} {s = s} {i = i} in_range awake within (own {q = q} {e = e} line) =
     let seats = owned (λ k seat grant. pending seat.place) m.seats s.seats s.words.grants s.words.grants i q in_range (λ k ne. refl) in
     let told = count_after added added_counts e s.journal in
-    let row = units_row line awake in omega arith
-units_kept {m = m} {s = s} {i = i} in_range awake (post {q = q} line) =
+    let row = units_row line awake within in omega arith
+units_kept {m = m} {s = s} {i = i} in_range awake within (post {q = q} line) =
     let seats = owned (λ k seat grant. pending seat.place) m.seats s.seats s.words.grants s.words.grants i q in_range (λ k ne. refl) in
     let row = grants_nothing line in omega arith
 
@@ -100,6 +104,7 @@ module _ (parts : Parts) (limits : IsWithinLimits parts) (declared : IsDeclared 
   going_on run Rest at is = ended run (call_of parts i (run.begun i)) at refl is
   going_on run (Acquiring a row) at is = is
   going_on run (Releasing r row) at is = is
+  going_on run (ReleasingMany r row) at is = is
 
   -- a step of the run
   pub stepped_kept : (run : Run) → (run.world.seats i).place ≢ Rest → IsTrue (can_turn (layout parts).root run.world i) → IsKept parts run
@@ -108,7 +113,7 @@ module _ (parts : Parts) (limits : IsWithinLimits parts) (declared : IsDeclared 
       let m = layout parts in
       let after : World = turned m.root run.world i in
       let turn : steps.Step m run.world i after = steps.turn (record { can = can; is = refl }) in
-      let units = units_kept in_range awake (step_of m run.world after i (is.law.seats i) (is.law.finds i in_range) turn) in
+      let units = units_kept in_range awake (is.law.seats i).within (step_of m run.world after i (is.law.seats i) (is.law.finds i in_range) turn) in
       let few = is.added in
       going_on (record run { world = after }) (after.seats i).place refl (record {
         law = kept m run.world after i in_range is.law turn;

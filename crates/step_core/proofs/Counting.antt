@@ -9,9 +9,9 @@ use Rattle.step_core.specs.declared.place.Place.TheVariants.{Acquiring}
 use Rattle.step_core.specs.declared.place.AcquireRow.TheVariants.{P}
 use Rattle.step_core.specs.World.{Layout, Words, Seat, World, put, insert_wait}
 use Rattle.step_core.specs.Lawful.{total, wait, added}
-use Rattle.step_core.specs.Invariant.{SeatsKnown, IsWithin, IsSeat, WaitsPlaced, asleep, SleepersCounted, owing, FewTurns}
-use Rattle.step_core.proofs.Sums.{owned, posted, lists_change, length_insert}
-use Rattle.step_core.proofs.Lines.{Line, a7, p_one, p_two, r5, Post, r9, r10, Step, own, post}
+use Rattle.step_core.specs.Invariant.{SeatsKnown, IsSeat, WaitsPlaced, asleep, SleepersCounted, owing, FewTurns}
+use Rattle.step_core.proofs.Sums.{owned, posted, lists_change, length_insert, length_last}
+use Rattle.step_core.proofs.Lines.{Line, a7, p_one, p_two, r5, m5_more, m5_last, Post, r9, r10, m7_last, m7_more, Step, own, post}
 use Rattle.step_core.proofs.Placing.{grants_else, waiter_of_post, other_seat}
 use Rattle.step_core.proofs.Telling.{entries, Counts, count_after, same_turn}
 
@@ -40,6 +40,10 @@ sleepers_row {m = m} {i = i} {g = g} (a7 {a = a} {t = t}) seat =
     let queued = one_more m g i t a.counter a.lifo seat.within in
     let sleeps : asleep (Acquiring a (P t)) (g.grants i) ≡ 1 = ap (asleep (Acquiring a (P t))) seat.granted in omega arith
 sleepers_row {m = m} {g = g} (r5 {r = r} {w = w} {l = l} first) seat = let left = one_less m g r.counter w l seat.within first in omega arith
+sleepers_row {m = m} {g = g} (m5_more {r = r} {w = w} {l = l} {hand = hand} first _ _) seat =
+    let left = one_less m g r.counter w l seat.within.0 first in let longer = length_last w hand in omega arith
+sleepers_row {m = m} {g = g} (m5_last {r = r} {w = w} {l = l} {hand = hand} first _) seat =
+    let left = one_less m g r.counter w l seat.within.0 first in let longer = length_last w hand in omega arith
 sleepers_row (p_one {a = a} {u = u} one) seat = let woken : asleep (Acquiring a (P u)) _ ≡ 0 = ap (asleep (Acquiring a (P u))) one in omega arith
 sleepers_row (p_two {a = a} {u = u} two) seat = let woken : asleep (Acquiring a (P u)) _ ≡ 0 = ap (asleep (Acquiring a (P u))) two in omega arith
 sleepers_row _ seat = refl
@@ -49,6 +53,8 @@ let_go : {p q : Seat} {c x : ℕ} {w : WaitId} → Post p q c w x → (g : ℕ) 
     → (length p.hand ≡ length q.hand + 1) × (asleep p.place g ≡ asleep q.place g) × (asleep (Acquiring a (P t)) x ≡ 0)
 let_go r9 g a t = (refl, refl, refl)
 let_go r10 g a t = (refl, refl, refl)
+let_go m7_last g a t = (refl, refl, refl)
+let_go (m7_more {l = l}) g a t = (omega arith, refl, refl)
 
 pub sleepers_kept : {m : Layout} {s : World} {i : ℕ} {t : World} → i < m.seats → WaitsPlaced m s
     → SeatsKnown m s → SleepersCounted m s → Step m s i t → SleepersCounted m t
@@ -74,24 +80,30 @@ added_counts = (refl, by)
     by _ es = omega arith
 
 -- a row that queues a wait makes a turn, and one that takes a wait out of a list has done with what it owed for an added unit
-turns_row : {m : Layout} {i : ℕ} {g h : Words} {p q : Seat} {e : Effect} → Line m i g p q h e → IsWithin m.counters p.place
-    → queue m g + q.turn + owing q.place ≤ queue m h + p.turn + owing p.place + added (entries e)
-turns_row {m = m} {i = i} {g = g} (a7 {a = a} {t = t}) within = let queued = one_more m g i t a.counter a.lifo within in omega arith
-turns_row {m = m} {g = g} (r5 {r = r} {w = w} {l = l} first) within = let left = one_less m g r.counter w l within first in omega arith
-turns_row _ within = omega arith
+turns_row : {m : Layout} {i : ℕ} {g h : Words} {p q : Seat} {e : Effect} → Line m i g p q h e → IsSeat m.counters p (g.grants i)
+    → queue m g + q.turn + owing q.place (length q.hand) ≤ queue m h + p.turn + owing p.place (length p.hand) + added (entries e)
+turns_row {m = m} {i = i} {g = g} (a7 {a = a} {t = t}) seat = let queued = one_more m g i t a.counter a.lifo seat.within in omega arith
+turns_row {m = m} {g = g} (r5 {r = r} {w = w} {l = l} first) seat = let left = one_less m g r.counter w l seat.within first in omega arith
+turns_row {m = m} {g = g} (m5_more {r = r} {w = w} {l = l} {hand = hand} first fewer _) seat =
+    let left = one_less m g r.counter w l seat.within.0 first in let longer = length_last w hand in omega arith
+turns_row {m = m} {g = g} (m5_last {r = r} {w = w} {l = l} {hand = hand} first _) seat =
+    let left = one_less m g r.counter w l seat.within.0 first in let fits = seat.fits in omega arith
+turns_row _ seat = omega arith
 
-owes_none : {p q : Seat} {c x : ℕ} {w : WaitId} → Post p q c w x → owing p.place ≡ owing q.place
+owes_none : {p q : Seat} {c x : ℕ} {w : WaitId} → Post p q c w x → owing p.place (length p.hand) ≡ owing q.place (length q.hand)
 owes_none r9 = refl
 owes_none r10 = refl
+owes_none m7_last = refl
+owes_none m7_more = refl
 
 pub turns_kept : {m : Layout} {s : World} {i : ℕ} {t : World} → i < m.seats → SeatsKnown m s
     → FewTurns m s → Step m s i t → FewTurns m t
 turns_kept {m = m} {s = s} {i = i} in_range seats few (own {q = q} {h = h} {e = e} line) =
     let turns = owned (λ k seat grant. seat.turn) m.seats s.seats s.words.grants h.grants i q in_range (grants_else line) in
-    let owed = owned (λ k seat grant. owing seat.place) m.seats s.seats s.words.grants h.grants i q in_range (grants_else line) in
-    let row = turns_row line (seats i).within in
+    let owed = owned (λ k seat grant. owing seat.place (length seat.hand)) m.seats s.seats s.words.grants h.grants i q in_range (grants_else line) in
+    let row = turns_row line (seats i) in
     let units = count_after added added_counts e s.journal in omega arith
 turns_kept {m = m} {s = s} {i = i} in_range seats few (post {q = q} line) =
     let turns = owned (λ k seat grant. seat.turn) m.seats s.seats s.words.grants s.words.grants i q in_range (λ k ne. refl) in
-    let owed = owned (λ k seat grant. owing seat.place) m.seats s.seats s.words.grants s.words.grants i q in_range (λ k ne. refl) in
+    let owed = owned (λ k seat grant. owing seat.place (length seat.hand)) m.seats s.seats s.words.grants s.words.grants i q in_range (λ k ne. refl) in
     let same = same_turn line in let none = owes_none line in omega arith

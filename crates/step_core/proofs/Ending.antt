@@ -6,8 +6,9 @@ use Rattle.waiters.specs.declared.wait.WaitId.{WaitId}
 use Rattle.step_core.specs.declared.place.Acquire.{Acquire}
 use Rattle.step_core.specs.declared.place.AcquireRow.TheVariants.{A3, P}
 use Rattle.step_core.specs.declared.place.ReleaseRow.TheVariants.{R3, R9, R10}
+use Rattle.step_core.specs.declared.place.ManyRow.TheVariants.{M3}
 use Rattle.step_core.specs.declared.place.Place.{Place}
-use Rattle.step_core.specs.declared.place.Place.TheVariants.{Rest, Acquiring, Releasing}
+use Rattle.step_core.specs.declared.place.Place.TheVariants.{Rest, Acquiring, Releasing, ReleasingMany}
 use Rattle.step_core.specs.World.{Layout, World, found}
 use Rattle.step_core.specs.Table.{table}
 use Rattle.step_core.specs.Steps.{IsEnd}
@@ -53,6 +54,8 @@ module _ (m : Layout) (s : World) (inv : IsInvariant m s) (ended : IsEnd m s) wh
       inr (at_lock k (m.root a.counter) (λ q. ap (holds m.root q) at) (runs k h (Acquiring a A3) hand at in_hand))
   rests k h (Releasing r R3) hand at in_hand fits =
       inr (at_lock k (m.root r.counter) (λ q. ap (holds m.root q) at) (runs k h (Releasing r R3) hand at in_hand))
+  rests k h (ReleasingMany r M3) hand at in_hand fits =
+      inr (at_lock k (m.root r.counter) (λ q. ap (holds m.root q) at) (runs k h (ReleasingMany r M3) hand at in_hand))
   rests k h (Acquiring a (P t)) hand at in_hand fits = by (ℕ_discrete (s.words.grants k) 0)
     where
       by : Dec (s.words.grants k ≡ 0) → Quiet k ⊎ Barred k

@@ -4,14 +4,15 @@ use native.Mathlib.Decide.{ℕ_discrete}
 use Rattle.waiters.specs.declared.wait.WaitId.{WaitId}
 use Rattle.step_core.specs.declared.outcome.Effect.{Effect}
 use Rattle.step_core.specs.declared.place.Place.{Place}
-use Rattle.step_core.specs.declared.place.Place.TheVariants.{Releasing}
+use Rattle.step_core.specs.declared.place.Place.TheVariants.{Releasing, ReleasingMany}
 use Rattle.step_core.specs.declared.place.ReleaseRow.TheVariants.{R5}
+use Rattle.step_core.specs.declared.place.ManyRow.TheVariants.{M5}
 use Rattle.step_core.specs.World.{Layout, Words, Seat, World, put, insert_wait}
 use Rattle.step_core.specs.Journal.{on}
 use Rattle.step_core.specs.Lawful.{wait, holds}
 use Rattle.step_core.specs.Invariant.{LocksOwned, Finds}
-use Rattle.step_core.proofs.Sums.{put_else, put_at, on_here, pair}
-use Rattle.step_core.proofs.Lines.{Line, begin_acquire, a7, r4_some, r5, Post, r9, r10, Step, own, post}
+use Rattle.step_core.proofs.Sums.{put_here, put_else, put_at, on_here, pair}
+use Rattle.step_core.proofs.Lines.{Line, begin_acquire, a7, r4_some, r5, m4_some, m5_more, m5_last, Post, r9, r10, m7_last, m7_more, Step, own, post}
 
 -- a change to the list of d leaves the list of c, or is one of c's root
 put_list : (root : ℕ → ℕ) (lists : ℕ → List WaitId) (d : ℕ) (l : List WaitId) (c : ℕ) → (put lists d l c ≡ lists c) ⊎ (0 < on (root d) (root c) 1)
@@ -27,23 +28,31 @@ touches : {m : Layout} {i : ℕ} {g h : Words} {p q : Seat} {e : Effect} → Lin
 touches (begin_acquire _) c = inl refl
 touches {m = m} {i = i} {g = g} (a7 {a = a} {t = t}) c = put_list m.root g.lists a.counter (insert_wait a.lifo (wait i t) (g.lists a.counter)) c
 touches {m = m} {g = g} (r5 {r = r} {l = l} _) c = put_list m.root g.lists r.counter l c
+touches {m = m} {g = g} (m5_more {r = r} {l = l} _ _ _) c = put_list m.root g.lists r.counter l c
+touches {m = m} {g = g} (m5_last {r = r} {l = l} _ _) c = put_list m.root g.lists r.counter l c
 touches _ c = inl refl
 
 -- what a seat needs to find, after a row of its own, and after one of another seat
 finds_here : {m : Layout} {i : ℕ} {g h : Words} {p q : Seat} {e : Effect} → Line m i g p q h e → Finds h.lists q.place
 finds_here (begin_acquire _) = tt
 finds_here (r4_some some) = some
+finds_here (m4_some some) = some
+finds_here {g = g} (m5_more {r = r} {l = l} _ _ some) = let left = ap length (put_here g.lists r.counter l) in omega arith
 finds_here _ = tt
 
 finds_elsewhere : (root : ℕ → ℕ) (before after : ℕ → List WaitId) (p : Place) → ((c : ℕ) → 0 < holds root (root c) p → after c ≡ before c)
     → Finds before p → Finds after p
 finds_elsewhere root before after (Releasing r R5) same finds =
     let one = on_here (root r.counter) 1 in let kept = ap length (same r.counter (omega arith)) in omega arith
+finds_elsewhere root before after (ReleasingMany r M5) same finds =
+    let one = on_here (root r.counter) 1 in let kept = ap length (same r.counter (omega arith)) in omega arith
 finds_elsewhere root before after _ same finds = tt
 
 posts : {p q : Seat} {c x : ℕ} {w : WaitId} → Post p q c w x → (lists : ℕ → List WaitId) → Finds lists q.place
 posts r9 lists = tt
 posts r10 lists = tt
+posts m7_last lists = tt
+posts m7_more lists = tt
 
 pub finds_kept : (m : Layout) (s t : World) (i : ℕ) → i < m.seats → LocksOwned m s → ((k : ℕ) → k < m.seats → Finds s.words.lists (s.seats k).place)
     → Step m s i t → (k : ℕ) → k < m.seats → Finds t.words.lists (t.seats k).place

@@ -1,11 +1,12 @@
 -- The table's outcomes one by one: each has a constructor, with what the seat found. The laws go by these cases.
 use Rattle.std.proofs.Common.{◌≡◌, ℕ, zero, suc, ◌+◌, ◌-◌, ◌<◌, ◌≢◌, ◌⊎◌, ◌==◌, if◌then◌else◌, Bool, true, false, IsTrue, eqb, cond}
-use Rattle.std.proofs.Common.{List, [], ◌∷◌, length, drop, refl, sym, ap, subst, inl, inr, eqb-true, ltb-true, arith}
+use Rattle.std.proofs.Common.{◌≤◌, ◌&&◌, nat_lt, List, [], ◌∷◌, ◌++◌, length, drop, refl, sym, ap, subst, inl, inr, eqb-true, ltb-true, arith}
 use mathlib.Core.Path.{fun_ext}
-use native.Mathlib.Decide.{ℕ_discrete}
+use native.Mathlib.Decide.{ℕ_discrete, dec_lt}
+use Rattle.std.proofs.lemmas.Bool.{lt-ltb, le-ltb}
 use Rattle.std.proofs.lemmas.Bool.Decides.{eqb_tells}
 use Rattle.waiters.specs.declared.wait.WaitId.{WaitId}
-use Rattle.step_core.specs.declared.entry.Entry.TheVariants.{Add, Take, Queue, Leave}
+use Rattle.step_core.specs.declared.entry.Entry.TheVariants.{Add, AddMany, Take, Queue, Leave}
 use Rattle.step_core.specs.declared.outcome.Effect.{Effect}
 use Rattle.step_core.specs.declared.outcome.Effect.TheVariants.{Nothing, Tells, Grants}
 use Rattle.step_core.specs.declared.place.Acquire.{Acquire}
@@ -14,14 +15,18 @@ use Rattle.step_core.specs.declared.place.AcquireRow.TheVariants.{A1, A2, A3, A4
 use Rattle.step_core.specs.declared.place.Release.{Release}
 use Rattle.step_core.specs.declared.place.ReleaseRow.{ReleaseRow}
 use Rattle.step_core.specs.declared.place.ReleaseRow.TheVariants.{R1, R2, R3, R4, R5, R6, R7, R8, R9, R10}
+use Rattle.step_core.specs.declared.place.ReleaseMany.{ReleaseMany}
+use Rattle.step_core.specs.declared.place.ManyRow.{ManyRow}
+use Rattle.step_core.specs.declared.place.ManyRow.TheVariants.{M1, M2, M3, M4, M5, M6, M7}
 use Rattle.step_core.specs.declared.place.Place.{Place}
-use Rattle.step_core.specs.declared.place.Place.TheVariants.{Rest, Acquiring, Releasing}
+use Rattle.step_core.specs.declared.place.Place.TheVariants.{Rest, Acquiring, Releasing, ReleasingMany}
 use Rattle.step_core.specs.declared.word.Word.{Word}
 use Rattle.step_core.specs.declared.word.Word.TheVariants.{Counter, Lock, Waiters, Grant}
 use Rattle.step_core.specs.World.{Layout, Words, Seat, World, put, insert_wait, found, written, lists_after, journal_after, seat_after}
 use Rattle.step_core.specs.Event.{Event, Next, zero_or, by_first}
+use Rattle.step_core.specs.ReleaseMany.{after_leave}
 use Rattle.step_core.specs.Table.{event_at}
-use Rattle.step_core.specs.Steps.{Choice, acquire, enter, release, give_up, give_up_lock, decide, words_after}
+use Rattle.step_core.specs.Steps.{Choice, acquire, enter, release, release_many, give_up, give_up_lock, decide, words_after}
 use Rattle.step_core.specs.Steps as steps
 use Rattle.step_core.specs.Lawful.{wait, IsGrantOf}
 use Rattle.step_core.specs.Invariant.{HandFits, IsSeat, Finds}
@@ -38,6 +43,9 @@ acquiring a row t = standing (Acquiring a row) t []
 
 abbrev pub releasing : Release → ReleaseRow → ℕ → List WaitId → Seat
 releasing r row t hand = standing (Releasing r row) t hand
+
+abbrev pub releasing_many : ReleaseMany → ManyRow → ℕ → List WaitId → Seat
+releasing_many r row t hand = standing (ReleasingMany r row) t hand
 
 -- the steps that store no other seat's grant word: the seat, the words before, the seat before and after, the words after, the effect
 pub data Line (m : Layout) (i : ℕ) (g : Words) : Seat → Seat → Words → Effect → Type 0 where
@@ -104,11 +112,41 @@ pub data Line (m : Layout) (i : ℕ) (g : Words) : Seat → Seat → Words → E
       → Line m i g (releasing r (R8 n) t (w ∷ [])) (releasing r R9 t (w ∷ []))
       (record g { numbers = put g.numbers r.counter n }) (Tells (Take r.counter w.seat))
   r8_lost : {r : Release} {t n : ℕ} {w : WaitId} → Line m i g (releasing r (R8 n) t (w ∷ [])) (releasing r R7 t (w ∷ [])) g Nothing
+  begin_many : {r : ReleaseMany} {t : ℕ} → r.counter < m.counters → 1 ≤ r.units → r.units ≤ 256
+      → Line m i g (resting t) (releasing_many r M1 t []) g Nothing
+  m1 : {r : ReleaseMany} {t : ℕ}
+      → Line m i g (releasing_many r M1 t []) (releasing_many r M2 t [])
+      (record g { numbers = put g.numbers r.counter (g.numbers r.counter + r.units) }) (Tells (AddMany r.counter r.units i))
+  m2_zero : {r : ReleaseMany} {t : ℕ} → g.waiters (m.root r.counter) ≡ 0 → Line m i g (releasing_many r M2 t []) (resting t) g Nothing
+  m2_some : {r : ReleaseMany} {t : ℕ} → Line m i g (releasing_many r M2 t []) (releasing_many r M3 t []) g Nothing
+  m3 : {r : ReleaseMany} {t : ℕ} → g.locks (m.root r.counter) ≡ 0
+      → Line m i g (releasing_many r M3 t []) (releasing_many r M4 t []) (record g { locks = put g.locks (m.root r.counter) 1 }) Nothing
+  m4_none : {r : ReleaseMany} {t : ℕ} → (g.waiters (m.root r.counter) ≡ 0) ⊎ (g.lists r.counter ≡ [])
+      → Line m i g (releasing_many r M4 t []) (releasing_many r M6 t []) g Nothing
+  m4_some : {r : ReleaseMany} {t : ℕ} → 0 < length (g.lists r.counter)
+      → Line m i g (releasing_many r M4 t []) (releasing_many r M5 t []) g Nothing
+  m5_more : {r : ReleaseMany} {t : ℕ} {w : WaitId} {l hand : List WaitId} → g.lists r.counter ≡ w ∷ l
+      → length hand + 1 < r.units → 0 < length l
+      → Line m i g (releasing_many r M5 t hand) (releasing_many r M5 t (hand ++ w ∷ []))
+      (record g { waiters = put g.waiters (m.root r.counter) (g.waiters (m.root r.counter) - 1); lists = put g.lists r.counter l })
+      (Tells (Leave r.counter w i))
+  m5_last : {r : ReleaseMany} {t : ℕ} {w : WaitId} {l hand : List WaitId} → g.lists r.counter ≡ w ∷ l
+      → (length hand + 1 ≡ r.units) ⊎ (length l ≡ 0)
+      → Line m i g (releasing_many r M5 t hand) (releasing_many r M6 t (hand ++ w ∷ []))
+      (record g { waiters = put g.waiters (m.root r.counter) (g.waiters (m.root r.counter) - 1); lists = put g.lists r.counter l })
+      (Tells (Leave r.counter w i))
+  m6_none : {r : ReleaseMany} {t : ℕ}
+      → Line m i g (releasing_many r M6 t []) (resting t) (record g { locks = put g.locks (m.root r.counter) 0 }) Nothing
+  m6_some : {r : ReleaseMany} {t : ℕ} {w : WaitId} {l : List WaitId}
+      → Line m i g (releasing_many r M6 t (w ∷ l)) (releasing_many r M7 t (w ∷ l)) (record g { locks = put g.locks (m.root r.counter) 0 }) Nothing
 
 -- the rows that store the grant word of the waiter in hand: the seat before and after, the counter, the waiter, the grant
 pub data Post : Seat → Seat → ℕ → WaitId → ℕ → Type 0 where
   r9 : {r : Release} {t : ℕ} {w : WaitId} → Post (releasing r R9 t (w ∷ [])) (resting t) r.counter w 2
   r10 : {r : Release} {t : ℕ} {w : WaitId} → Post (releasing r R10 t (w ∷ [])) (resting t) r.counter w 1
+  m7_last : {r : ReleaseMany} {t : ℕ} {w : WaitId} → Post (releasing_many r M7 t (w ∷ [])) (resting t) r.counter w 1
+  m7_more : {r : ReleaseMany} {t : ℕ} {w x : WaitId} {l : List WaitId}
+      → Post (releasing_many r M7 t (w ∷ x ∷ l)) (releasing_many r M7 t (x ∷ l)) r.counter w 1
 
 -- one step of seat i
 pub data Step (m : Layout) (s : World) (i : ℕ) : World → Type 0 where
@@ -143,6 +181,22 @@ tested Has n v a b p q = by (eqb_tells n v)
     by : ((eqb n v ≡ true) × (n ≡ v)) ⊎ ((eqb n v ≡ false) × (n ≢ v)) → Has (if n == v then a else b)
     by (inl e) = subst (λ t. Has (cond t a b)) (sym e.0) (p e.1)
     by (inr e) = subst (λ t. Has (cond t a b)) (sym e.0) (q e.1)
+
+tested_less : {A : Type 0} (Has : A → Type 0) (n v : ℕ) (a b : A) → (n < v → Has a) → (v ≤ n → Has b) → Has (if nat_lt n v then a else b)
+tested_less Has n v a b p q = by (dec_lt n v)
+  where
+    by : Dec (n < v) → Has (if nat_lt n v then a else b)
+    by (yes less) = subst (λ t. Has (cond t a b)) (sym (lt-ltb n v less)) (p less)
+    by (no more) = let le : v ≤ n = omega arith in subst (λ t. Has (cond t a b)) (sym (le-ltb n v le)) (q le)
+
+tested_both : {A : Type 0} (Has : A → Type 0) (n v k u : ℕ) (a b : A) → (n < v → k < u → Has a) → ((v ≤ n) ⊎ (u ≤ k) → Has b)
+    → Has (if nat_lt n v && nat_lt k u then a else b)
+tested_both Has n v k u a b p q = by (dec_lt n v)
+  where
+    by : Dec (n < v) → Has (if nat_lt n v && nat_lt k u then a else b)
+    by (yes less) =
+        subst (λ t. Has (cond (t && nat_lt k u) a b)) (sym (lt-ltb n v less)) (tested_less Has k u a b (p less) (λ le. q (inr le)))
+    by (no more) = let le : v ≤ n = omega arith in subst (λ t. Has (cond (t && nat_lt k u) a b)) (sym (le-ltb n v le)) (q (inl le))
 
 -- a row of the table is one of the two, with the seat, the words and the effect that it leads to
 data Case (m : Layout) (i : ℕ) (g : Words) (p : Seat) : Seat → Words → Effect → Type 0 where
@@ -247,6 +301,50 @@ module _ (m : Layout) (i : ℕ) (g : Words) where
   runs (Releasing r (R8 n)) t (w ∷ []) fits granted finds can = exchanged r.counter n w.seat (Releasing r R9) (Releasing r R7) r8_won (λ e. r8_lost)
   runs (Releasing r R9) t (w ∷ []) fits granted finds can = grant r9
   runs (Releasing r R10) t (w ∷ []) fits granted finds can = grant r10
+  runs (ReleasingMany r M1) t [] fits granted finds can = line m1
+  runs (ReleasingMany r M2) t [] fits granted finds can =
+      looked_for_zero (Waiters r.counter) Rest (λ left. ReleasingMany r M3) m2_zero (λ n e. m2_some)
+  runs (ReleasingMany r M3) t [] fits granted finds can = line (m3 (eqb-true _ 0 can))
+  runs (ReleasingMany r M4) t [] fits granted finds can =
+      looked_for_zero (Waiters r.counter) (ReleasingMany r M6)
+      (λ left. by_first (g.lists r.counter) (ReleasingMany r M6) (λ w. ReleasingMany r M5))
+      (λ e. m4_none (inl e)) (λ n e. by (g.lists r.counter) refl)
+    where
+      by : (l : List WaitId) → g.lists r.counter ≡ l
+          → Looks (releasing_many r M4 t []) (by_first l (ReleasingMany r M6) (λ w. ReleasingMany r M5))
+      by [] e = m4_none (inr e)
+      by (w ∷ l) e = m4_some (let some = ap length e in omega arith)
+  runs (ReleasingMany r M5) t hand fits granted finds can = by (g.lists r.counter) refl
+    where
+      -- the wait w has gone into the hand, and the list is this
+      Left : WaitId → List WaitId → Place → Type 0
+      Left w list place =
+          Case m i g (releasing_many r M5 t hand) (standing place t (hand ++ w ∷ []))
+          (record g { waiters = put g.waiters (m.root r.counter) (g.waiters (m.root r.counter) - 1); lists = put g.lists r.counter list })
+          (Tells (Leave r.counter w i))
+
+      Leads : Next → Type 0
+      Leads next =
+          Case m i g (releasing_many r M5 t hand) (seat_after next.1 next.0 (releasing_many r M5 t hand))
+          (record g { waiters = put g.waiters (m.root r.counter) (g.waiters (m.root r.counter) - 1); lists = lists_after next.1 g.lists }) next.1
+
+      by : (l : List WaitId) → g.lists r.counter ≡ l
+          → Leads (by_first l (ReleasingMany r M6, Nothing) (λ w. (after_leave r (length hand) (length l), Tells (Leave r.counter w i))))
+      by [] e = let none = ap length e in absurd (omega arith)
+      by (w ∷ l) e =
+          tested_both (Left w (drop 1 (g.lists r.counter))) (length hand + 1) r.units 1 (length (w ∷ l)) (ReleasingMany r M5) (ReleasingMany r M6)
+          (λ fewer some. subst (λ rest. Left w rest (ReleasingMany r M5)) (sym (ap (drop 1) e)) (line (m5_more e fewer (omega arith))))
+          (λ last. subst (λ rest. Left w rest (ReleasingMany r M6)) (sym (ap (drop 1) e)) (line (m5_last e (at_last last))))
+        where
+          at_last : (r.units ≤ length hand + 1) ⊎ (length (w ∷ l) ≤ 1) → (length hand + 1 ≡ r.units) ⊎ (length l ≡ 0)
+          at_last (inl all) = inl (omega arith)
+          at_last (inr none) = inr (omega arith)
+  runs (ReleasingMany r M6) t [] fits granted finds can = line m6_none
+  runs (ReleasingMany r M6) t (w ∷ l) fits granted finds can = line m6_some
+  runs (ReleasingMany r M7) t (w ∷ []) fits granted finds can = grant m7_last
+  runs (ReleasingMany r M7) t (w ∷ x ∷ l) fits granted finds can =
+      tested_less (λ q. Case m i g (releasing_many r M7 t (w ∷ x ∷ l)) (standing q t (x ∷ l)) (record g { grants = put g.grants w.seat 1 }) Grants)
+      1 (length (w ∷ x ∷ l)) (ReleasingMany r M7) Rest (λ more. grant m7_more) (λ none. absurd (omega arith))
   runs _ t hand fits granted finds can = absurd (omega arith)
 
   chosen : {p q : Place} → Choice m.counters p q → (t : ℕ) (hand : List WaitId) → HandFits p (length hand)
@@ -254,6 +352,7 @@ module _ (m : Layout) (i : ℕ) (g : Words) where
   chosen (acquire a within) t [] fits = begin_acquire within
   chosen (enter a within) t [] fits = begin_enter within
   chosen (release r within) t [] fits = begin_release within
+  chosen (release_many r within some few) t [] fits = begin_many within some few
   chosen (give_up a) t [] fits = end_first
   chosen (give_up_lock a) t [] fits = end_lock
   chosen (decide r handoff) t [] fits = decides

@@ -7,7 +7,7 @@ use Rattle.step_core.specs.Journal.{on}
 use Rattle.step_core.specs.Lawful.{holds}
 use Rattle.step_core.specs.Invariant.{LocksOwned}
 use Rattle.step_core.proofs.Sums.{on_here, owned, total_has, put_most, up, down}
-use Rattle.step_core.proofs.Lines.{Line, begin_acquire, a3, a7, a9, r3, r6_none, r6_plain, r6_handoff, Post, r9, r10, Step, own, post}
+use Rattle.step_core.proofs.Lines.{Line, begin_acquire, a3, a7, a9, r3, r6_none, r6_plain, r6_handoff, m3, m6_none, m6_some, Post, r9, r10, m7_last, m7_more, Step, own, post}
 
 -- the locks that a seat holds are held, and each is held at most once
 abbrev Held : Layout → Words → Seat → Type 0
@@ -38,11 +38,16 @@ rows {m = m} {g = g} (r3 {r = q} free) held r = taken g.locks (m.root q.counter)
 rows {m = m} {g = g} (r6_none {r = q}) held r = given g.locks (m.root q.counter) held r
 rows {m = m} {g = g} (r6_plain {r = q}) held r = given g.locks (m.root q.counter) held r
 rows {m = m} {g = g} (r6_handoff {r = q}) held r = given g.locks (m.root q.counter) held r
+rows {m = m} {g = g} (m3 {r = q} free) held r = taken g.locks (m.root q.counter) free held r
+rows {m = m} {g = g} (m6_none {r = q}) held r = given g.locks (m.root q.counter) held r
+rows {m = m} {g = g} (m6_some {r = q}) held r = given g.locks (m.root q.counter) held r
 rows _ held r = (refl, (held r).1)
 
 posts : {p q : Seat} {c x : ℕ} {w : WaitId} → Post p q c w x → (root : ℕ → ℕ) (r : ℕ) → (holds root r p.place ≡ 0) × (holds root r q.place ≡ 0)
 posts r9 root r = (refl, refl)
 posts r10 root r = (refl, refl)
+posts m7_last root r = (refl, refl)
+posts m7_more root r = (refl, refl)
 
 pub locks_kept : (m : Layout) (s t : World) (i : ℕ) → i < m.seats → LocksOwned m s → Step m s i t → LocksOwned m t
 locks_kept m s t i in_range locks = by

@@ -1,5 +1,5 @@
 -- Where the waits are: in a list or a hand as often as a parked seat awaits them, and what is known of each seat stays known.
-use Rattle.std.proofs.Common.{◌≡◌, ℕ, zero, suc, ◌+◌, ◌<◌, ◌≤◌, ◌≢◌, [], ◌∷◌, refl, sym, ap, ap₂, ◌∙◌, subst, arith}
+use Rattle.std.proofs.Common.{◌≡◌, ℕ, zero, suc, ◌+◌, ◌<◌, ◌≤◌, ◌≢◌, List, [], ◌∷◌, ◌++◌, refl, sym, ap, ap₂, ◌∙◌, subst, arith}
 use native.Mathlib.Decide.{ℕ_discrete}
 use Rattle.waiters.specs.declared.wait.WaitId.{WaitId}
 use Rattle.step_core.specs.declared.outcome.Effect.{Effect}
@@ -10,10 +10,11 @@ use Rattle.step_core.specs.declared.place.Place.TheVariants.{Acquiring}
 use Rattle.step_core.specs.World.{Layout, Words, Seat, World, put, insert_wait}
 use Rattle.step_core.specs.Journal.{on, same}
 use Rattle.step_core.specs.Lawful.{total, wait, times, IsGrantOf}
-use Rattle.step_core.specs.Invariant.{SeatsKnown, hands, awaits, WaitsPlaced, IsSeat}
+use Rattle.step_core.specs.Invariant.{SeatsKnown, hands_at, hands, awaits, WaitsPlaced, IsSeat}
 use Rattle.step_core.proofs.Sums.{put_here, put_else, put_at, on_here, on_else, on_zero, on_most, flip}
-use Rattle.step_core.proofs.Sums.{total_has, total_some, owned, posted, single, pair, list_up, list_down, times_insert}
-use Rattle.step_core.proofs.Lines.{Line, begin_acquire, begin_enter, begin_release, a7, p_one, p_two, r5, Post, r9, r10, Step, own, post}
+use Rattle.step_core.proofs.Sums.{total_has, total_some, owned, posted, single, pair, list_up, list_down, times_insert, on_add, length_last, times_last}
+use Rattle.step_core.proofs.Lines.{Line, begin_acquire, begin_enter, begin_release, a7, p_one, p_two, r5, Step, own, post}
+use Rattle.step_core.proofs.Lines.{begin_many, m4_none, m4_some, m5_more, m5_last, Post, r9, r10, m7_last, m7_more}
 
 -- two numbers at which something counts are one
 pub on_some : (a b n : ℕ) → 0 < on a b n → (a ≡ b) × (0 < n)
@@ -38,6 +39,22 @@ grants_else _ k ne = refl
 hands_one : (c : ℕ) (w : WaitId) (d : ℕ) (x : WaitId) → on d c (times w (x ∷ [])) ≡ on d c (same w x)
 hands_one c w d x = ap (on d c) (omega arith)
 
+-- in a hand of d a wait counts for d
+hands_on : (c d : ℕ) (w : WaitId) (hand : List WaitId) → hands_at c w d hand ≡ on d c (times w hand)
+hands_on c d w [] = sym (on_zero d c)
+hands_on c d w (x ∷ hand) = refl
+
+-- the first wait of the list of d goes into a hand
+taken_out : (lists : ℕ → List WaitId) (c d : ℕ) (w x : WaitId) (l hand : List WaitId) → lists d ≡ x ∷ l
+    → times w (put lists d l c) + hands_at c w d (hand ++ x ∷ []) ≡ times w (lists c) + hands_at c w d hand
+taken_out lists c d w x l hand first =
+    let has_first = ap (times w) first in
+    let shorter = list_down (times w) lists d l c (same w x) (omega arith) in
+    let before = hands_on c d w hand in
+    let after = hands_on c d w (hand ++ x ∷ []) in
+    let one_more = ap (on d c) (times_last w x hand) in
+    let both = on_add d c (times w hand) (same w x) in omega arith
+
 rows : {m : Layout} {i : ℕ} {g h : Words} {p q : Seat} {e : Effect} → Line m i g p q h e → IsGrantOf p.place (g.grants i)
     → (c : ℕ) (w : WaitId) → times w (h.lists c) + hands c w q + awaits c w i p.place (g.grants i)
     ≡ times w (g.lists c) + hands c w p + awaits c w i q.place (h.grants i)
@@ -49,11 +66,11 @@ rows {i = i} {g = g} (a7 {a = a} {t = t}) granted c w =
     let asleep : awaits c w i (Acquiring a (P t)) (g.grants i) ≡ on a.counter c (same w x)
     = ap (awaits c w i (Acquiring a (P t))) granted in
     let turned : on c a.counter (same w x) ≡ on a.counter c (same w x) = flip c a.counter (same w x) in omega arith
-rows {g = g} (r5 {r = r} {w = x} {l = l} first) granted c w =
-    let has_first = ap (times w) first in
-    let shorter = list_down (times w) g.lists r.counter l c (same w x) (omega arith) in
-    let turned : on c r.counter (same w x) ≡ on r.counter c (same w x) = flip c r.counter (same w x) in
-    let one = hands_one c w r.counter x in omega arith
+rows {g = g} (r5 {r = r} {w = x} {l = l} first) granted c w = let out = taken_out g.lists c r.counter w x l [] first in omega arith
+rows {g = g} (m5_more {r = r} {w = x} {l = l} {hand = hand} first _ _) granted c w =
+    let out = taken_out g.lists c r.counter w x l hand first in omega arith
+rows {g = g} (m5_last {r = r} {w = x} {l = l} {hand = hand} first _) granted c w =
+    let out = taken_out g.lists c r.counter w x l hand first in omega arith
 rows {i = i} (p_one {a = a} {u = u} woken) granted c w = let awake = ap (awaits c w i (Acquiring a (P u))) woken in omega arith
 rows {i = i} (p_two {a = a} {u = u} served) granted c w = let awake = ap (awaits c w i (Acquiring a (P u))) served in omega arith
 rows _ granted c w = refl
@@ -86,23 +103,30 @@ waiter_of m s c w placed h =
     let in_range = subst (λ k. k < m.seats) is seat.1 in (found.0, found.1, parked, not_granted, in_range)
 
 -- what a seat that stores a grant has in hand, and that it awaits nothing
-in_hand : {p q : Seat} {c x : ℕ} {w : WaitId} → Post p q c w x → (d : ℕ) (y : WaitId) → hands d y p ≡ on c d (same y w)
-in_hand (r9 {r = r} {w = w}) d y = hands_one d y r.counter w
-in_hand (r10 {r = r} {w = w}) d y = hands_one d y r.counter w
+in_hand : {p q : Seat} {c x : ℕ} {w : WaitId} → Post p q c w x → (d : ℕ) (y : WaitId) → hands d y p ≡ hands d y q + on c d (same y w)
+in_hand (r9 {r = r} {w = w}) d y = let one = hands_one d y r.counter w in omega arith
+in_hand (r10 {r = r} {w = w}) d y = let one = hands_one d y r.counter w in omega arith
+in_hand (m7_last {r = r} {w = w}) d y = let one = hands_one d y r.counter w in omega arith
+in_hand (m7_more {r = r} {w = w} {x = x} {l = l}) d y = let both = on_add r.counter d (same y w) (times y (x ∷ l)) in omega arith
 
 awake : {p q : Seat} {c x : ℕ} {w : WaitId} → Post p q c w x → (d : ℕ) (y : WaitId) (k grant : ℕ) → awaits d y k p.place grant ≡ 0
 awake r9 d y k grant = refl
 awake r10 d y k grant = refl
+awake m7_last d y k grant = refl
+awake m7_more d y k grant = refl
 
 woken : {p q : Seat} {c x : ℕ} {w : WaitId} → Post p q c w x → (d : ℕ) (y : WaitId) (k : ℕ) (a : Acquire) (t : ℕ)
     → awaits d y k (Acquiring a (P t)) x ≡ 0
 woken r9 d y k a t = refl
 woken r10 d y k a t = refl
+woken m7_last d y k a t = refl
+woken m7_more d y k a t = refl
 
-at_rest : {p q : Seat} {c x : ℕ} {w : WaitId} → Post p q c w x → (d : ℕ) (y : WaitId) (k grant : ℕ)
-    → (hands d y q ≡ 0) × (awaits d y k q.place grant ≡ 0)
-at_rest r9 d y k grant = (refl, refl)
-at_rest r10 d y k grant = (refl, refl)
+still_awake : {p q : Seat} {c x : ℕ} {w : WaitId} → Post p q c w x → (d : ℕ) (y : WaitId) (k grant : ℕ) → awaits d y k q.place grant ≡ 0
+still_awake r9 d y k grant = refl
+still_awake r10 d y k grant = refl
+still_awake m7_last d y k grant = refl
+still_awake m7_more d y k grant = refl
 
 pub waiter_of_post : (m : Layout) (s : World) (i c x : ℕ) (w : WaitId) {q : Seat} → i < m.seats → WaitsPlaced m s
     → Post (s.seats i) q c w x → Waiter m c w s
@@ -113,6 +137,8 @@ waiter_of_post m s i c x w in_range placed grant =
 apart : {p q : Seat} {c x t : ℕ} {a : Acquire} {w : WaitId} → Post p q c w x → p.place ≡ Acquiring a (P t) → ⊥
 apart r9 e = cc
 apart r10 e = cc
+apart m7_last e = cc
+apart m7_more e = cc
 
 pub other_seat : (m : Layout) (s : World) (i c x : ℕ) (w : WaitId) {q : Seat} → Waiter m c w s → Post (s.seats i) q c w x → w.seat ≢ i
 other_seat m s i c x w waiter grant e = apart grant (ap (λ k. (s.seats k).place) (sym e) ∙ waiter.2)
@@ -134,7 +160,7 @@ placed_kept m s t i in_range seats placed = by
         let all_awaits = posted (λ k seat g. awaits c w k seat.place g) m.seats s.seats s.words.grants i y.seat x q in_range waiter.4 other in
         let own_hand = in_hand grant c w in
         let own_awaits = awake grant c w i (s.words.grants i) in
-        let rests = at_rest grant c w i (s.words.grants i) in
+        let still = still_awake grant c w i (s.words.grants i) in
         let slept : awaits c w y.seat (s.seats y.seat).place (s.words.grants y.seat) ≡ on waiter.0.counter c (same w (wait y.seat y.turn))
         = ap₂ (awaits c w y.seat) waiter.2 waiter.3 in
         let there : on waiter.0.counter c (same w y) ≡ on d c (same w y) = ap (λ z. on z c (same w y)) waiter.1 in
@@ -147,6 +173,13 @@ seat_after_row : {m : Layout} {i : ℕ} {g h : Words} {p q : Seat} {e : Effect} 
 seat_after_row (begin_acquire within) known = record { within = within; fits = omega arith; granted = known.granted }
 seat_after_row (begin_enter within) known = record { within = within; fits = omega arith; granted = known.granted }
 seat_after_row (begin_release within) known = record { within = within; fits = omega arith; granted = known.granted }
+seat_after_row (begin_many within some few) known = record { within = (within, some, few); fits = omega arith; granted = known.granted }
+seat_after_row (m4_none _) known = record { within = known.within; fits = omega arith; granted = known.granted }
+seat_after_row (m4_some _) known = record { within = known.within; fits = let some = known.within.1 in omega arith; granted = known.granted }
+seat_after_row (m5_more {w = w} {hand = hand} _ fewer _) known =
+    record { within = known.within; fits = let longer = length_last w hand in omega arith; granted = known.granted }
+seat_after_row (m5_last {w = w} {hand = hand} _ _) known =
+    record { within = known.within; fits = let longer = length_last w hand in let fits = known.fits in omega arith; granted = known.granted }
 seat_after_row {i = i} {g = g} (p_one _) known = record { within = known.within; fits = omega arith; granted = put_here g.grants i 0 }
 seat_after_row {i = i} {g = g} (p_two _) known = record { within = tt; fits = omega arith; granted = put_here g.grants i 0 }
 seat_after_row _ known = record { within = let w = known.within in assumption; fits = omega arith; granted = omega arith }
@@ -155,11 +188,15 @@ seat_after_post : {counters : ℕ} {p q : Seat} {c x : ℕ} {w : WaitId} → Pos
     → (grant : ℕ) → IsSeat counters p grant → IsSeat counters q grant
 seat_after_post r9 grant known = record { within = tt; fits = refl; granted = known.granted }
 seat_after_post r10 grant known = record { within = tt; fits = refl; granted = known.granted }
+seat_after_post m7_last grant known = record { within = tt; fits = refl; granted = known.granted }
+seat_after_post m7_more grant known = record { within = known.within; fits = omega arith; granted = known.granted }
 
 seat_granted : {counters grant : ℕ} {z : Seat} {a : Acquire} {t : ℕ} {p q : Seat} {c x : ℕ} {w : WaitId}
     → Post p q c w x → z.place ≡ Acquiring a (P t) → IsSeat counters z grant → IsSeat counters z x
 seat_granted r9 parked known = record { within = known.within; fits = known.fits; granted = rw parked (omega arith) }
 seat_granted r10 parked known = record { within = known.within; fits = known.fits; granted = rw parked (omega arith) }
+seat_granted m7_last parked known = record { within = known.within; fits = known.fits; granted = rw parked (omega arith) }
+seat_granted m7_more parked known = record { within = known.within; fits = known.fits; granted = rw parked (omega arith) }
 
 pub seats_kept : (m : Layout) (s t : World) (i : ℕ) → i < m.seats → WaitsPlaced m s
     → SeatsKnown m s → Step m s i t → (k : ℕ) → IsSeat m.counters (t.seats k) (t.words.grants k)

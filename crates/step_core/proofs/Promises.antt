@@ -6,8 +6,9 @@ use Rattle.step_core.specs.declared.entry.Entry.{Entry}
 use Rattle.step_core.specs.declared.place.Acquire.{Acquire}
 use Rattle.step_core.specs.declared.place.AcquireRow.TheVariants.{A5, A6, A7, A8, P}
 use Rattle.step_core.specs.declared.place.ReleaseRow.TheVariants.{R6}
+use Rattle.step_core.specs.declared.place.ManyRow.TheVariants.{M6}
 use Rattle.step_core.specs.declared.place.Place.{Place}
-use Rattle.step_core.specs.declared.place.Place.TheVariants.{Acquiring, Releasing}
+use Rattle.step_core.specs.declared.place.Place.TheVariants.{Acquiring, Releasing, ReleasingMany}
 use Rattle.step_core.specs.World.{Layout, World, first_world}
 use Rattle.step_core.specs.Steps.{Turn, IsReached, first, next}
 use Rattle.step_core.specs.Steps as steps
@@ -16,7 +17,7 @@ use Rattle.step_core.specs.Lawful.{total, wait, times, holds, raises, flies, gra
 use Rattle.step_core.specs.Lawful.{WaitersCounted, FewUnits, ParkedOnce, EachIsParked, IsReleasing, counter_at, IsLawfulWorld}
 use Rattle.step_core.specs.Invariant.{hands, awaits, helps_at, helps, commits, HandFits, IsInvariant}
 use Rattle.step_core.specs.Law.{TheLaw}
-use Rattle.step_core.proofs.Sums.{on_here, on_zero, nothing, single, total_has, total_le, total_same, total_rest}
+use Rattle.step_core.proofs.Sums.{on_here, on_zero, on_le, nothing, single, total_has, total_le, total_same, total_rest}
 use Rattle.step_core.proofs.Lines.{Step, step_of}
 use Rattle.step_core.proofs.Locks.{locks_kept}
 use Rattle.step_core.proofs.Raising.{raised_kept}
@@ -67,7 +68,7 @@ kept_by m s t i in_range inv step = record {
   seats = seats_kept m s t i in_range inv.placed inv.seats step;
   finds = finds_kept m s t i in_range inv.locks inv.finds step;
   replays = replays_kept inv.replays step;
-  follows = follows_kept in_range inv.replays inv.stories inv.follows step;
+  follows = follows_kept in_range inv.replays inv.seats inv.stories inv.follows step;
   once = once_kept inv.seats inv.turns_new inv.once step;
   turns_new = new_kept inv.turns_new step;
   stories = stories_kept in_range inv.placed inv.seats inv.stories step;
@@ -83,13 +84,14 @@ raises_held root r (Acquiring a A7) = omega arith
 raises_held root r (Acquiring a A8) = omega arith
 raises_held root r _ = omega arith
 
-helps_flies : (c : ℕ) (p : Place) (hand : List WaitId) (grant : ℕ) → helps_at c p hand grant ≤ flies c p grant
-helps_flies c (Acquiring a (P turn)) hand zero = omega arith
-helps_flies c (Acquiring a (P turn)) hand (suc zero) = omega arith
-helps_flies c (Acquiring a (P turn)) hand (suc (suc g)) = omega arith
-helps_flies c (Releasing r R6) (w ∷ hand) grant = omega arith
-helps_flies c (Releasing r R6) [] grant = omega arith
-helps_flies c _ hand grant = omega arith
+helps_flies : (c : ℕ) (p : Place) (hand : List WaitId) (grant : ℕ) → HandFits p (length hand) → helps_at c p hand grant ≤ flies c p (length hand) grant
+helps_flies c (Acquiring a (P turn)) hand zero fits = omega arith
+helps_flies c (Acquiring a (P turn)) hand (suc zero) fits = omega arith
+helps_flies c (Acquiring a (P turn)) hand (suc (suc g)) fits = omega arith
+helps_flies c (Releasing r R6) (w ∷ hand) grant fits = omega arith
+helps_flies c (Releasing r R6) [] grant fits = omega arith
+helps_flies c (ReleasingMany r M6) hand grant fits = on_le r.counter c (length hand) r.units fits
+helps_flies c _ hand grant fits = omega arith
 
 waits_here : (c k turn grant : ℕ) (a : Acquire) → a.counter ≡ c → awaits c (wait k turn) k (Acquiring a (P turn)) grant + granted grant ≡ 1
 waits_here c k turn zero a here =
@@ -102,6 +104,7 @@ some_hand w (x ∷ hand) some = omega arith
 
 of_release : (p : Place) (n : ℕ) → HandFits p n → 0 < n → IsReleasing p (counter_at p)
 of_release (Releasing r row) n fits some = refl
+of_release (ReleasingMany r row) n fits some = refl
 of_release _ n fits some = absurd (omega arith)
 
 module _ (m : Layout) (s : World) (inv : IsInvariant m s) where
@@ -118,8 +121,8 @@ module _ (m : Layout) (s : World) (inv : IsInvariant m s) where
 
   few_units : FewUnits m s
   few_units c some =
-      let all_fly = total_le m.seats (λ k. helps c (s.seats k) (s.words.grants k)) (λ k. flies c (s.seats k).place (s.words.grants k))
-      (λ k h. helps_flies c (s.seats k).place (s.seats k).hand (s.words.grants k)) in
+      let all_fly = total_le m.seats (λ k. helps c (s.seats k) (s.words.grants k)) (λ k. flies c (s.seats k).place (length (s.seats k).hand) (s.words.grants k))
+      (λ k h. helps_flies c (s.seats k).place (s.seats k).hand (s.words.grants k) (inv.seats k).fits) in
       let few = inv.units c (by some) in omega arith
     where
       by : (0 < length (s.words.lists c)) ⊎ ((k : ℕ) × (k < m.seats) × IsCommitted s k c)

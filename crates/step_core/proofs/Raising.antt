@@ -1,14 +1,14 @@
 -- A waiter word counts the waits of its root, and the seats that have raised it.
-use Rattle.std.proofs.Common.{◌≡◌, ℕ, ◌+◌, ◌-◌, ◌<◌, ◌≤◌, List, length, refl, ap, arith}
+use Rattle.std.proofs.Common.{◌≡◌, ℕ, ◌+◌, ◌-◌, ◌<◌, ◌≤◌, List, ◌∷◌, length, refl, ap, arith}
 use Rattle.waiters.specs.declared.wait.WaitId.{WaitId}
 use Rattle.step_core.specs.declared.outcome.Effect.{Effect}
 use Rattle.step_core.specs.declared.place.Place.{Place}
 use Rattle.step_core.specs.World.{Layout, Words, Seat, World, put, insert_wait}
 use Rattle.step_core.specs.Journal.{on}
 use Rattle.step_core.specs.Lawful.{total, wait, raises, waits_of}
-use Rattle.step_core.specs.Invariant.{SeatsKnown, WaitersRaised, IsWithin, IsSeat}
+use Rattle.step_core.specs.Invariant.{SeatsKnown, WaitersRaised, IsWithin}
 use Rattle.step_core.proofs.Sums.{put_here, put_else, on_here, on_add, total_change, total_has, up, down, length_insert, owned}
-use Rattle.step_core.proofs.Lines.{Line, begin_acquire, a4, a7, a8, r5, Post, r9, r10, Step, own, post}
+use Rattle.step_core.proofs.Lines.{Line, begin_acquire, a4, a7, a8, r5, m5_more, m5_last, Post, r9, r10, m7_last, m7_more, Step, own, post}
 
 -- how many waits these lists hold for the root r, and that number after the list of c has changed
 abbrev waits : Layout → ℕ → (ℕ → List WaitId) → ℕ
@@ -42,6 +42,16 @@ record Raised (m : Layout) (g : Words) (p : Place) : Type 0 where
   lists : (c : ℕ) → c < m.counters → length (g.lists c) ≤ g.waiters (m.root c)
   within : IsWithin m.counters p
 
+-- the first wait of the list of c has left it
+one_less : {m : Layout} {g : Words} {p : Place} → Raised m g p → (c : ℕ) (w : WaitId) (l : List WaitId) → c < m.counters → g.lists c ≡ w ∷ l
+    → (r : ℕ) → put g.waiters (m.root c) (g.waiters (m.root c) - 1) r + waits m r g.lists ≡ g.waiters r + waits m r (put g.lists c l)
+one_less {m = m} {g = g} known c w l within first r =
+    let x = m.root c in
+    let longer = ap length first in
+    let some = known.lists c within in
+    let lowered = down g.waiters x (g.waiters x - 1) r (omega arith) in
+    let left = waits_down m r c g.lists l within (omega arith) in omega arith
+
 rows : {m : Layout} {i : ℕ} {g h : Words} {p q : Seat} {e : Effect} → Line m i g p q h e → Raised m g p.place
     → (r : ℕ) → h.waiters r + waits_of m r g + raises m.root r p.place ≡ g.waiters r + waits_of m r h + raises m.root r q.place
 rows (begin_acquire _) known r = refl
@@ -53,17 +63,16 @@ rows {m = m} {g = g} (a8 {a = a}) known r =
     let x = m.root a.counter in
     let some = known.own x in let one = on_here x 1 in
     let lowered = down g.waiters x (g.waiters x - 1) r (omega arith) in omega arith
-rows {m = m} {g = g} (r5 {r = q} {l = l} first) known r =
-    let x = m.root q.counter in
-    let longer = ap length first in
-    let some = known.lists q.counter known.within in
-    let lowered = down g.waiters x (g.waiters x - 1) r (omega arith) in
-    let left = waits_down m r q.counter g.lists l known.within (omega arith) in omega arith
+rows (r5 {r = q} {w = w} {l = l} first) known r = let left = one_less known q.counter w l known.within first r in omega arith
+rows (m5_more {r = q} {w = w} {l = l} first _ _) known r = let left = one_less known q.counter w l known.within.0 first r in omega arith
+rows (m5_last {r = q} {w = w} {l = l} first _) known r = let left = one_less known q.counter w l known.within.0 first r in omega arith
 rows _ known r = refl
 
 posts : {p q : Seat} {c x : ℕ} {w : WaitId} → Post p q c w x → (root : ℕ → ℕ) (r : ℕ) → (raises root r p.place ≡ 0) × (raises root r q.place ≡ 0)
 posts r9 root r = (refl, refl)
 posts r10 root r = (refl, refl)
+posts m7_last root r = (refl, refl)
+posts m7_more root r = (refl, refl)
 
 -- a list is no longer than the waiter word of its root
 pub lists_below : (m : Layout) (s : World) → WaitersRaised m s → (c : ℕ) → c < m.counters → length (s.words.lists c) ≤ s.words.waiters (m.root c)

@@ -1,10 +1,9 @@
 -- What a stored world's own bounds give: no sum wraps, and a row's word and list are stored.
-use Rattle.std.proofs.Common.{◌≡◌, ℕ, zero, suc, ◌+◌, ◌-◌, ◌*◌, ◌^◌, ◌<◌, ◌≤◌, List, [], ◌∷◌, Option, Some, None, IfSome, length, get_or, slice_get, refl, sym, ap, ◌∙◌, subst, arith}
+use Rattle.std.proofs.Common.{◌≡◌, ℕ, zero, suc, ◌+◌, ◌-◌, ◌*◌, ◌^◌, ◌<◌, ◌≤◌, List, [], ◌∷◌, Some, IfSome, length, get_or, slice_get, sym, ap, ◌∙◌, subst, arith}
 use Rattle.std.proofs.lemmas.List.Elements.{All-get_or}
 use Rattle.std.proofs.Math.ListN.{get_or-eq_default}
 use native.Mathlib.Decide.{ℕ_discrete}
 use Rattle.waiters.specs.declared.wait.WaitId.{WaitId}
-use Rattle.step_core.specs.declared.call.Call.{Call}
 use Rattle.step_core.specs.declared.caller.Caller.{Caller}
 use Rattle.step_core.specs.declared.place.AcquireRow.TheVariants.{P}
 use Rattle.step_core.specs.declared.place.Place.{Place}
@@ -16,7 +15,7 @@ use Rattle.step_core.specs.Lawful.{total, times, added, IsGrantOf}
 use Rattle.step_core.specs.Invariant.{IsWithin}
 use Rattle.step_core.specs.Scenario.{IsScript}
 use Rattle.step_core.specs.Run.{layout}
-use Rattle.step_core.specs.State.{State, Stored, IsSound, HasRowsOf, each, idle, words_of, root_of, run_of, row_finds, row_event}
+use Rattle.step_core.specs.State.{State, IsSound, HasRowsOf, each, idle, words_of, root_of, run_of, row_finds, row_event}
 use Rattle.step_core.proofs.Sums.{total_zero, total_suc}
 use Rattle.step_core.proofs.Placing.{same_here}
 use Rattle.step_core.proofs.Bounding.{bounded}
@@ -57,7 +56,7 @@ module _ (m : State) (sound : IsSound m) where
       let seats = sound.limits.seats in let units = sound.units in omega arith
 
   -- no number in a word is near the end of its 64 bits
-  word_small : (w : Word) → found (root_of m.stored) (words_of m.stored) w + 1 < 2 ^ 64
+  word_small : (w : Word) → found (root_of m.stored) (words_of m.stored) w + 2 ^ 32 < 2 ^ 64
   word_small (Counter c) =
       let most = (bounded (layout m.parts) (run_of m).world sound.law).0 c in let start = sound.starts c in let units = few_units in omega arith
   word_small (Lock c) =
@@ -94,7 +93,7 @@ module _ (m : State) (sound : IsSound m) where
               (λ w in_it. let parked = ((promised (layout m.parts) (run_of m).world sound.law).parked.1 i w there (subst (λ l. 0 < times w l) (sym held) in_it)).0 in omega arith);
         }
 
-    pub fits : row_finds i caller m.stored hand + 1 < 2 ^ 64
+    pub fits : row_finds i caller m.stored hand + 2 ^ 32 < 2 ^ 64
     fits = word_small (row_event i caller m.stored hand).word
 
     pub turn_fits : caller.turn + 1 < 2 ^ 64

@@ -6,12 +6,12 @@ use Rattle.std.proofs.Math.ListN.{get_or-map}
 use Rattle.waiters.specs.declared.wait.WaitId.{WaitId}
 use Rattle.std.proofs.lemmas.List.{get_or-replicate, length-map, length-replicate, get_or_past}
 use Rattle.step_core.specs.declared.call.Call.{Call}
-use Rattle.step_core.specs.declared.call.Call.TheVariants.{Acquire, Release}
+use Rattle.step_core.specs.declared.call.Call.TheVariants.{Acquire, Release, ReleaseMany}
 use Rattle.step_core.specs.declared.caller.Caller.{Caller}
 use Rattle.step_core.specs.declared.place.Place.TheVariants.{Rest}
 use Rattle.step_core.specs.declared.scenario.Parts.{Parts}
 use Rattle.step_core.specs.World.{Layout, Seat, first_world}
-use Rattle.step_core.specs.Steps.{Choice, acquire, release, choose}
+use Rattle.step_core.specs.Steps.{Choice, acquire, release, release_many, choose}
 use Rattle.step_core.specs.Lawful.{total}
 use Rattle.step_core.specs.Invariant.{IsInvariant}
 use Rattle.step_core.specs.Scenario.{IsRunnable, IsCallOn, IsWithinLimits, IsDeclared}
@@ -58,6 +58,9 @@ begun_lawful m run i (Some (Acquire c lifo)) h inv rest may =
 begun_lawful m run i (Some (Release c handoff)) h inv rest may =
     let choice = release (record { counter = c; handoff = handoff }) may.1 in
     kept m run.world _ i h inv (choose (subst (λ p. Choice m.counters p (first_place (Release c handoff))) (sym rest) choice))
+begun_lawful m run i (Some (ReleaseMany c n)) h inv rest may =
+    let choice = release_many (record { counter = c; units = n }) may.1 may.0.0 may.0.1 in
+    kept m run.world _ i h inv (choose (subst (λ p. Choice m.counters p (first_place (ReleaseMany c n))) (sym rest) choice))
 begun_lawful m run i (Some _) h inv rest may = absurd may.0
 
 zeros : (n k : ℕ) → ◌≡◌ {A = ℕ} (get_or (replicate n 0) k 0) 0
@@ -76,6 +79,7 @@ adds_begun : (calls : List Call) → pending (first_caller calls).place ≤ (fir
 adds_begun [] = omega arith
 adds_begun (Acquire c lifo ∷ calls) = omega arith
 adds_begun (Release c handoff ∷ calls) = omega arith
+adds_begun (ReleaseMany c n ∷ calls) = omega arith
 adds_begun (_ ∷ calls) = omega arith
 
 -- a call that the machine runs, on a counter that is there

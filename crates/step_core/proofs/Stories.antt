@@ -1,24 +1,25 @@
 -- What the journal says of each seat's call: what its release owes, and that each wait in a hand has left and got its unit or none.
 use Rattle.std.proofs.Common.{◌≡◌, ℕ, suc, ◌+◌, ◌-◌, ◌<◌, ◌≤◌, ◌≢◌, ◌⊎◌, cond, List, [], ◌∷◌, ◌++◌}
-use Rattle.std.proofs.Common.{cond, eqb, refl, sym, ap, ◌∙◌, subst, subst₂, inl, inr, eq-eqb, ne_eqb, append_assoc, arith}
+use Rattle.std.proofs.Common.{length, eqb, refl, sym, ap, ◌∙◌, subst, subst₂, inl, inr, eq-eqb, ne_eqb, append_assoc, arith}
 use native.Mathlib.Decide.{ℕ_discrete}
 use Rattle.waiters.specs.declared.wait.WaitId.{WaitId}
 use Rattle.step_core.specs.declared.entry.Entry.{Entry}
-use Rattle.step_core.specs.declared.entry.Entry.TheVariants.{Add, Take, Leave}
+use Rattle.step_core.specs.declared.entry.Entry.TheVariants.{Add, AddMany, Take, Leave}
 use Rattle.step_core.specs.declared.outcome.Effect.{Effect}
 use Rattle.step_core.specs.declared.outcome.Effect.TheVariants.{Tells}
 use Rattle.step_core.specs.declared.place.Acquire.{Acquire}
 use Rattle.step_core.specs.declared.place.AcquireRow.TheVariants.{P}
 use Rattle.step_core.specs.declared.place.ReleaseRow.TheVariants.{R2, R3, R4, R5, R6, R7, R8, R9, R10}
+use Rattle.step_core.specs.declared.place.ManyRow.TheVariants.{M2, M3, M4, M5, M6, M7}
 use Rattle.step_core.specs.declared.place.Place.{Place}
-use Rattle.step_core.specs.declared.place.Place.TheVariants.{Rest, Acquiring, Releasing}
+use Rattle.step_core.specs.declared.place.Place.TheVariants.{Acquiring, Releasing, ReleasingMany}
 use Rattle.step_core.specs.World.{Layout, Words, Seat, World, put, journal_after}
 use Rattle.step_core.specs.Journal.{Budget, spent, budget_from, budget, Owes, takes, HasLeft, HasItsUnit}
 use Rattle.step_core.specs.Lawful.{wait, times, IsGrantOf}
-use Rattle.step_core.specs.Invariant.{SeatsKnown, StoriesTold, IsSeat, hands, WaitsPlaced, AllLeft, AllHaveUnits, Story}
-use Rattle.step_core.proofs.Sums.{put_at, on_else}
+use Rattle.step_core.specs.Invariant.{SeatsKnown, StoriesTold, hands, WaitsPlaced, AllLeft, AllHaveUnits, Story}
+use Rattle.step_core.proofs.Sums.{put_at, on_else, length_last}
 use Rattle.step_core.proofs.Lines.{Line, a2_won, a6_won, a7, a11_won, r1, r2_some, r3, r4_some, r5, r6_plain, r6_handoff, r7_zero, r7_some, r8_won, r8_lost, decides}
-use Rattle.step_core.proofs.Lines.{Post, r9, r10, Step, own, post}
+use Rattle.step_core.proofs.Lines.{m1, m2_some, m3, m4_some, m5_more, m5_last, m6_some, Post, r9, r10, m7_last, m7_more, Step, own, post}
 use Rattle.step_core.proofs.Placing.{same_here, grants_else, Waiter, waiter_of_post, one_hand}
 use Rattle.step_core.proofs.Parking.{one_parking, call_of, in_call, in_a_hand}
 use Rattle.step_core.proofs.Telling.{entries, Counts, count_append}
@@ -43,21 +44,38 @@ chosen_here s x y = ap (λ b. cond b x y) (eq-eqb s s refl)
 chosen_else : (s t : ℕ) (x y : Budget) → s ≢ t → cond (eqb s t) x y ≡ y
 chosen_else s t x y ne = ap (λ b. cond b x y) (ne_eqb s t ne)
 
-owes_by : (k c : ℕ) (j : List Entry) (b : Budget) → budget k j ≡ b → (b.counter ≡ c) × (1 ≤ b.units) → Owes k c 1 j
-owes_by k c j b is owes = subst (λ b. (b.counter ≡ c) × (1 ≤ b.units)) (sym is) owes
+owes_by : (k c n : ℕ) (j : List Entry) (b : Budget) → budget k j ≡ b → (b.counter ≡ c) × (n ≤ b.units) → Owes k c n j
+owes_by k c n j b is owes = subst (λ b. (b.counter ≡ c) × (n ≤ b.units)) (sym is) owes
 
--- an add makes its seat owe a unit
+-- an add makes its seat owe its units
 owes_new : (k c : ℕ) (j : List Entry) → Owes k c 1 (j ++ Add c k ∷ [])
 unfolding spent
 owes_new k c j =
     let b : Budget = record { counter = c; units = 1 } in
-    owes_by k c (j ++ Add c k ∷ []) b (budget_after k (Tells (Add c k)) j ∙ chosen_here k b (budget k j)) (refl, omega arith)
+    owes_by k c 1 (j ++ Add c k ∷ []) b (budget_after k (Tells (Add c k)) j ∙ chosen_here k b (budget k j)) (refl, omega arith)
+
+owes_many : (k c n : ℕ) (j : List Entry) → Owes k c n (j ++ AddMany c n k ∷ [])
+unfolding spent
+owes_many k c n j =
+    let b : Budget = record { counter = c; units = n } in
+    owes_by k c n (j ++ AddMany c n k ∷ []) b (budget_after k (Tells (AddMany c n k)) j ∙ chosen_here k b (budget k j)) (refl, omega arith)
+
+-- a wait that leaves spends one unit
+owes_less : (k c n less : ℕ) (w : WaitId) (j : List Entry) → less + 1 ≤ n → Owes k c n j → Owes k c less (j ++ Leave c w k ∷ [])
+unfolding spent
+owes_less k c n less w j fewer owes =
+    let b : Budget = record { counter = (budget k j).counter; units = (budget k j).units - 1 } in
+    owes_by k c less (j ++ Leave c w k ∷ []) b (budget_after k (Tells (Leave c w k)) j ∙ chosen_here k b (budget k j))
+    (owes.0, (let most = owes.1 in omega arith))
 
 -- a row spends nothing of another seat
 spends_own : {m : Layout} {i : ℕ} {g h : Words} {p q : Seat} {e : Effect} → Line m i g p q h e → (k : ℕ) (b : Budget) → k ≢ i → spent_by k e b ≡ b
 unfolding spent
 spends_own {i = i} (r1 {r = r}) k b ne = chosen_else k i (record { counter = r.counter; units = 1 }) b ne
 spends_own {i = i} (r5 _) k b ne = chosen_else k i (record { counter = b.counter; units = b.units - 1 }) b ne
+spends_own {i = i} (m1 {r = r}) k b ne = chosen_else k i (record { counter = r.counter; units = r.units }) b ne
+spends_own {i = i} (m5_more _ _ _) k b ne = chosen_else k i (record { counter = b.counter; units = b.units - 1 }) b ne
+spends_own {i = i} (m5_last _ _) k b ne = chosen_else k i (record { counter = b.counter; units = b.units - 1 }) b ne
 spends_own _ k b ne = refl
 
 takes_counts : (s : ℕ) → Counts (takes s)
@@ -119,18 +137,32 @@ all_units_more c (w ∷ hand) e j spares all =
 story_more : (k : ℕ) (p : Place) (hand : List WaitId) (g : ℕ) (e : Effect) (j : List Entry)
     → budget k (journal_after e j) ≡ budget k j → Spares hand e → (0 < g → takes k (entries e) ≡ 0)
     → Story k p hand g j → Story k p hand g (journal_after e j)
-story_more k (Releasing r R2) hand g e j unspent spares granted story = owes_by k r.counter (journal_after e j) (budget k j) unspent story
-story_more k (Releasing r R3) hand g e j unspent spares granted story = owes_by k r.counter (journal_after e j) (budget k j) unspent story
-story_more k (Releasing r R4) hand g e j unspent spares granted story = owes_by k r.counter (journal_after e j) (budget k j) unspent story
-story_more k (Releasing r R5) hand g e j unspent spares granted story = owes_by k r.counter (journal_after e j) (budget k j) unspent story
+story_more k (Releasing r R2) hand g e j unspent spares granted story = owes_by k r.counter 1 (journal_after e j) (budget k j) unspent story
+story_more k (Releasing r R3) hand g e j unspent spares granted story = owes_by k r.counter 1 (journal_after e j) (budget k j) unspent story
+story_more k (Releasing r R4) hand g e j unspent spares granted story = owes_by k r.counter 1 (journal_after e j) (budget k j) unspent story
+story_more k (Releasing r R5) hand g e j unspent spares granted story = owes_by k r.counter 1 (journal_after e j) (budget k j) unspent story
 story_more k (Releasing r R6) hand g e j unspent spares granted story = all_left_more r.counter hand e j spares story
 story_more k (Releasing r R7) hand g e j unspent spares granted story = all_left_more r.counter hand e j spares story
 story_more k (Releasing r (R8 n)) hand g e j unspent spares granted story = all_left_more r.counter hand e j spares story
 story_more k (Releasing r R9) hand g e j unspent spares granted story = all_units_more r.counter hand e j spares story
 story_more k (Releasing r R10) hand g e j unspent spares granted story = all_left_more r.counter hand e j spares story
+story_more k (ReleasingMany r M2) hand g e j unspent spares granted story = owes_by k r.counter r.units (journal_after e j) (budget k j) unspent story
+story_more k (ReleasingMany r M3) hand g e j unspent spares granted story = owes_by k r.counter r.units (journal_after e j) (budget k j) unspent story
+story_more k (ReleasingMany r M4) hand g e j unspent spares granted story = owes_by k r.counter r.units (journal_after e j) (budget k j) unspent story
+story_more k (ReleasingMany r M5) hand g e j unspent spares granted story = (
+  owes_by k r.counter (r.units - length hand) (journal_after e j) (budget k j) unspent story.0,
+  all_left_more r.counter hand e j spares story.1,
+)
+story_more k (ReleasingMany r M6) hand g e j unspent spares granted story = all_left_more r.counter hand e j spares story
+story_more k (ReleasingMany r M7) hand g e j unspent spares granted story = all_left_more r.counter hand e j spares story
 story_more k (Acquiring a (P t)) hand (suc (suc g)) e j unspent spares granted story =
     unit_more a.counter (wait k t) e j (granted (omega arith)) story
 story_more k _ hand g e j unspent spares granted story = tt
+
+-- one more wait has left into the hand
+all_left_last : (c i : ℕ) (w : WaitId) (hand : List WaitId) (j : List Entry) → AllLeft c hand j → AllLeft c (hand ++ w ∷ []) (j ++ Leave c w i ∷ [])
+all_left_last c i w [] j all = ((i, j, [], refl, refl), tt)
+all_left_last c i w (x ∷ hand) j all = (left_more c x (Tells (Leave c w i)) j refl all.0, all_left_last c i w hand j all.1)
 
 -- the story of the seat whose row it is
 story_row : {m : Layout} {i : ℕ} {g h : Words} {p q : Seat} {e : Effect} → Line m i g p q h e → (j : List Entry) → IsGrantOf p.place (g.grants i)
@@ -160,6 +192,17 @@ story_row (r8_won {r = r} {w = w} _) j quiet story = let o = story.0 in (
   ),
   tt,
 )
+story_row {i = i} (m1 {r = r}) j quiet story = owes_many i r.counter r.units j
+story_row m2_some j quiet story = story
+story_row (m3 _) j quiet story = story
+story_row (m4_some _) j quiet story = ((story.0, (let most = story.1 in omega arith)), tt)
+story_row {i = i} (m5_more {r = r} {w = w} {hand = hand} _ fewer _) j quiet story = (
+  owes_less i r.counter (r.units - length hand) (r.units - length (hand ++ w ∷ [])) w j
+      (let longer = length_last w hand in omega arith) story.0,
+  all_left_last r.counter i w hand j story.1,
+)
+story_row {i = i} (m5_last {r = r} {w = w} {hand = hand} _ _) j quiet story = all_left_last r.counter i w hand j story.1
+story_row m6_some j quiet story = story
 story_row _ j quiet story = tt
 
 -- for whom a row takes a unit: for nobody, for its own seat, which isn't parked, or for one whose wait is in its hand
@@ -226,10 +269,16 @@ post_story : {p q : Seat} {c x : ℕ} {w : WaitId} → Post p q c w x → (i g :
     → Story i p.place p.hand g j → Story w.seat (Acquiring a (P w.turn)) hand x j
 post_story {w = w} r9 i g a hand j here story = subst (λ c. HasItsUnit c w j) (sym here) story.0
 post_story r10 i g a hand j here story = tt
+post_story m7_last i g a hand j here story = tt
+post_story m7_more i g a hand j here story = tt
 
-rested : {p q : Seat} {c x : ℕ} {w : WaitId} → Post p q c w x → q.place ≡ Rest
-rested r9 = refl
-rested r10 = refl
+-- and of the seat that stores it
+own_story : {p q : Seat} {c x : ℕ} {w : WaitId} → Post p q c w x → (i g after : ℕ) (j : List Entry)
+    → Story i p.place p.hand g j → Story i q.place q.hand after j
+own_story r9 i g after j story = tt
+own_story r10 i g after j story = tt
+own_story m7_last i g after j story = tt
+own_story m7_more i g after j story = story.1
 
 pub stories_kept : {m : Layout} {s : World} {i : ℕ} {t : World} → i < m.seats → WaitsPlaced m s
     → SeatsKnown m s
@@ -261,7 +310,7 @@ stories_kept {m = m} {s = s} {i = i} in_range placed seats stories (post {c = c}
     Has k seat = k < m.seats → Story k seat.place seat.hand (put s.words.grants w.seat x k) s.journal
 
     here : Has i q
-    here hk = rw (rested line) tt
+    here hk = own_story line i (s.words.grants i) (put s.words.grants w.seat x i) s.journal (stories i in_range)
 
     waiter : Story w.seat (s.seats w.seat).place (s.seats w.seat).hand x s.journal
     waiter = rw v.2 (post_story line i (s.words.grants i) v.0 (s.seats w.seat).hand s.journal v.1 (stories i in_range))

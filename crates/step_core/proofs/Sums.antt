@@ -85,13 +85,16 @@ put_most f c x d m a b = by (ℕ_discrete d c)
     by (yes q) = rw q (let h = put_here f c x in omega arith)
     by (no ne) = let h = put_else f c x d ne in omega arith
 
--- one more at c
-pub up : (f : ℕ → ℕ) (c x d : ℕ) → x ≡ f c + 1 → put f c x d ≡ f d + on c d 1
-up f c x d e = by (ℕ_discrete d c)
+-- n more at c, and one more
+pub up_by : (n : ℕ) (f : ℕ → ℕ) (c x d : ℕ) → x ≡ f c + n → put f c x d ≡ f d + on c d n
+up_by n f c x d e = by (ℕ_discrete d c)
   where
-    by : Dec (d ≡ c) → put f c x d ≡ f d + on c d 1
-    by (yes q) = rw q (let a = put_here f c x in let b = on_here c 1 in omega arith)
-    by (no ne) = let a = put_else f c x d ne in let b = on_else c d 1 (λ q. ne (sym q)) in omega arith
+    by : Dec (d ≡ c) → put f c x d ≡ f d + on c d n
+    by (yes q) = rw q (let a = put_here f c x in let b = on_here c n in omega arith)
+    by (no ne) = let a = put_else f c x d ne in let b = on_else c d n (λ q. ne (sym q)) in omega arith
+
+pub up : (f : ℕ → ℕ) (c x d : ℕ) → x ≡ f c + 1 → put f c x d ≡ f d + on c d 1
+up f c x d e = up_by 1 f c x d e
 
 -- one less at c
 pub down : (f : ℕ → ℕ) (c x d : ℕ) → x + 1 ≡ f c → put f c x d + on c d 1 ≡ f d
@@ -132,6 +135,13 @@ on_add a b m n = by (ℕ_discrete a b)
     by (yes q) = rw q (let x = on_here b (m + n) in let y = on_here b m in let z = on_here b n in omega arith)
     by (no ne) = let x = on_else a b (m + n) ne in let y = on_else a b m ne in let z = on_else a b n ne in omega arith
 
+pub on_le : (a b m n : ℕ) → m ≤ n → on a b m ≤ on a b n
+on_le a b m n h = by (ℕ_discrete a b)
+  where
+    by : Dec (a ≡ b) → on a b m ≤ on a b n
+    by (yes q) = rw q (let x = on_here b m in let y = on_here b n in omega arith)
+    by (no ne) = let x = on_else a b m ne in let y = on_else a b n ne in omega arith
+
 pub on_zero : (a b : ℕ) → on a b 0 ≡ 0
 on_zero a b = by (ℕ_discrete a b)
   where
@@ -140,12 +150,12 @@ on_zero a b = by (ℕ_discrete a b)
     by (no ne) = on_else a b 0 ne
 
 -- d is c, or nothing of c counts at d
-pub pick : (f : ℕ → ℕ) (c d : ℕ) → (f c ≡ f d) ⊎ (on c d 1 ≡ 0)
-pick f c d = by (ℕ_discrete c d)
+pub pick : (n : ℕ) (f : ℕ → ℕ) (c d : ℕ) → (f c ≡ f d) ⊎ (on c d n ≡ 0)
+pick n f c d = by (ℕ_discrete c d)
   where
-    by : Dec (c ≡ d) → (f c ≡ f d) ⊎ (on c d 1 ≡ 0)
+    by : Dec (c ≡ d) → (f c ≡ f d) ⊎ (on c d n ≡ 0)
     by (yes q) = inl (ap f q)
-    by (no ne) = inr (on_else c d 1 ne)
+    by (no ne) = inr (on_else c d n ne)
 
 -- a measure of lists after the list of c has changed
 pub list_up : (f : List WaitId → ℕ) (lists : ℕ → List WaitId) (c : ℕ) (l : List WaitId) (d n : ℕ) → f l ≡ f (lists c) + n → f (put lists c l d) ≡ f (lists d) + on c d n
@@ -162,17 +172,23 @@ list_down f lists c l d n e = by (ℕ_discrete d c)
     by (yes q) = rw q (let a = ap f (put_here lists c l) in let b = on_here c n in omega arith)
     by (no ne) = let a = ap f (put_else lists c l d ne) in let b = on_else c d n (λ q. ne (sym q)) in omega arith
 
+pub length_last : (w : WaitId) (l : List WaitId) → length (l ++ w ∷ []) ≡ length l + 1
+length_last w [] = refl
+length_last w (x ∷ l) = let a : length (l ++ w ∷ []) ≡ length l + 1 = length_last w l in omega arith
+
+pub times_last : (x w : WaitId) (l : List WaitId) → times x (l ++ w ∷ []) ≡ times x l + same x w
+times_last x w [] = omega arith
+times_last x w (y ∷ l) = let a : times x (l ++ w ∷ []) ≡ times x l + same x w = times_last x w l in omega arith
+
 pub length_insert : (lifo : Bool) (w : WaitId) (l : List WaitId) → length (insert_wait lifo w l) ≡ length l + 1
 unfolding insert_wait
 length_insert true w l = omega arith
-length_insert false w [] = refl
-length_insert false w (x ∷ l) = let a : length (l ++ w ∷ []) ≡ length l + 1 = length_insert false w l in omega arith
+length_insert false w l = length_last w l
 
 pub times_insert : (x : WaitId) (lifo : Bool) (w : WaitId) (l : List WaitId) → times x (insert_wait lifo w l) ≡ times x l + same x w
 unfolding insert_wait
 times_insert x true w l = omega arith
-times_insert x false w [] = omega arith
-times_insert x false w (y ∷ l) = let a : times x (l ++ w ∷ []) ≡ times x l + same x w = times_insert x false w l in omega arith
+times_insert x false w l = times_last x w l
 
 pub flip : (a b n : ℕ) → on a b n ≡ on b a n
 flip a b n = by (ℕ_discrete a b)

@@ -1,5 +1,5 @@
 -- The journal tells what happened: the numbers and lists are its replay, each entry is lawful where it stands, and no wait is queued twice.
-use Rattle.std.proofs.Common.{◌≡◌, ℕ, suc, ◌+◌, ◌-◌, ◌<◌, ◌≤◌, ◌≢◌, ◌⊎◌, List, [], ◌∷◌, ◌++◌, drop, refl, sym, ap, ◌∙◌, subst, inl, inr, arith}
+use Rattle.std.proofs.Common.{◌≡◌, ℕ, suc, ◌+◌, ◌-◌, ◌<◌, ◌≤◌, ◌≢◌, ◌⊎◌, List, [], ◌∷◌, ◌++◌, drop, length, refl, sym, ap, ◌∙◌, subst, inl, inr, arith}
 use native.Mathlib.Decide.{ℕ_discrete}
 use Rattle.waiters.specs.declared.wait.WaitId.{WaitId}
 use Rattle.step_core.specs.declared.entry.Entry.{Entry}
@@ -9,9 +9,10 @@ use Rattle.step_core.specs.declared.outcome.Effect.TheVariants.{Tells}
 use Rattle.step_core.specs.World.{Layout, Words, Seat, World, put, insert_wait, journal_after}
 use Rattle.step_core.specs.Journal.{Plain, plain, plain_start, effect_of, replay, IsDefined, IsOwned, Follows, queued, left, on, same}
 use Rattle.step_core.specs.Lawful.{total, wait, times}
-use Rattle.step_core.specs.Invariant.{SeatsKnown, StoriesTold, IsWithin, IsSeat, Story, QueuedOnce, TurnsAreNew}
+use Rattle.step_core.specs.Invariant.{SeatsKnown, StoriesTold, HandFits, IsWithin, Story, QueuedOnce, TurnsAreNew}
 use Rattle.step_core.proofs.Sums.{on_here, on_else, on_most, put_at, lists_change, times_insert}
-use Rattle.step_core.proofs.Lines.{Line, a2_won, a6_won, a7, a11_won, r1, r5, r8_won, Post, r9, r10, Step, own, post}
+use Rattle.step_core.proofs.Lines.{Line, a2_won, a6_won, a7, a11_won, r1, r5, r8_won, Step, own, post}
+use Rattle.step_core.proofs.Lines.{m1, m5_more, m5_last, Post, r9, r10, m7_last, m7_more}
 use Rattle.step_core.proofs.Placing.{on_some}
 
 -- the entry of an effect, as a journal
@@ -36,14 +37,20 @@ replay_after x _ j = refl
 taken : (g : Words) (c n : ℕ) → g.numbers c ≡ suc n → plain (record g { numbers = put g.numbers c n }) ≡ effect_of (Take c 0) (plain g)
 taken g c n e = let left : n ≡ g.numbers c - 1 = omega arith in λ k. record { numbers = put g.numbers c (left k); lists = g.lists }
 
+-- the first wait of c has left
+left_out : (g : Words) (c : ℕ) (w : WaitId) (l : List WaitId) → g.lists c ≡ w ∷ l → plain (record g { lists = put g.lists c l }) ≡ effect_of (Leave c w 0) (plain g)
+left_out g c w l first =
+    let rest : l ≡ drop 1 (g.lists c) = sym (ap (drop 1) first) in λ k. record { numbers = g.numbers; lists = put g.lists c (rest k) }
+
 -- the words change as the effect says
 tells : {m : Layout} {i : ℕ} {g h : Words} {p q : Seat} {e : Effect} → Line m i g p q h e → plain h ≡ told e (plain g)
 tells {g = g} (a2_won {a = a} {n = n} e) = taken g a.counter n e
 tells {g = g} (a6_won {a = a} {n = n} e) = taken g a.counter n e
 tells {g = g} (a11_won {a = a} {n = n} e) = taken g a.counter n e
 tells {g = g} (r8_won {r = r} {n = n} e) = taken g r.counter n e
-tells {g = g} (r5 {r = r} {l = l} first) =
-    let rest : l ≡ drop 1 (g.lists r.counter) = sym (ap (drop 1) first) in λ k. record { numbers = g.numbers; lists = put g.lists r.counter (rest k) }
+tells {g = g} (r5 {r = r} {w = w} {l = l} first) = left_out g r.counter w l first
+tells {g = g} (m5_more {r = r} {w = w} {l = l} first _ _) = left_out g r.counter w l first
+tells {g = g} (m5_last {r = r} {w = w} {l = l} first _) = left_out g r.counter w l first
 tells _ = refl
 
 pub replays_kept : {m : Layout} {s : World} {i : ℕ} {t : World} → plain s.words ≡ replay (plain_start m.starts) s.journal → Step m s i t
@@ -81,23 +88,26 @@ follows_after start _ j f may = f
 
 -- a row tells what may be told
 may_tell : {m : Layout} {i : ℕ} {g h : Words} {p q : Seat} {e : Effect} → Line m i g p q h e
-    → (j : List Entry) → Story i p.place p.hand (g.grants i) j → IsTold e (plain g) j
-may_tell (a2_won e) j story = (omega arith, tt)
-may_tell (a6_won e) j story = (omega arith, tt)
-may_tell (a11_won e) j story = (omega arith, tt)
-may_tell (r8_won e) j story = (omega arith, tt)
-may_tell r1 j story = (tt, tt)
-may_tell a7 j story = (tt, tt)
-may_tell (r5 {l = l} first) j story = ((l, first), story)
-may_tell _ j story = tt
+    → (j : List Entry) → HandFits p.place (length p.hand) → Story i p.place p.hand (g.grants i) j → IsTold e (plain g) j
+may_tell (a2_won e) j fits story = (omega arith, tt)
+may_tell (a6_won e) j fits story = (omega arith, tt)
+may_tell (a11_won e) j fits story = (omega arith, tt)
+may_tell (r8_won e) j fits story = (omega arith, tt)
+may_tell r1 j fits story = (tt, tt)
+may_tell m1 j fits story = (tt, tt)
+may_tell a7 j fits story = (tt, tt)
+may_tell (r5 {l = l} first) j fits story = ((l, first), story)
+may_tell (m5_more {l = l} first _ _) j fits story = ((l, first), (story.0.0, (let owed = story.0.1 in omega arith)))
+may_tell (m5_last {l = l} first _) j fits story = ((l, first), (story.0.0, (let owed = story.0.1 in omega arith)))
+may_tell _ j fits story = tt
 
 pub follows_kept : {m : Layout} {s : World} {i : ℕ} {t : World} → i < m.seats → plain s.words ≡ replay (plain_start m.starts) s.journal
-    → StoriesTold m s
+    → SeatsKnown m s → StoriesTold m s
     → Follows (plain_start m.starts) s.journal → Step m s i t → Follows (plain_start m.starts) t.journal
-follows_kept {m = m} {s = s} {i = i} in_range replays stories follows (own {e = e} line) =
-    let may = may_tell line s.journal (stories i in_range) in
+follows_kept {m = m} {s = s} {i = i} in_range replays seats stories follows (own {e = e} line) =
+    let may = may_tell line s.journal (seats i).fits (stories i in_range) in
     follows_after (plain_start m.starts) e s.journal follows (subst (λ x. IsTold e x s.journal) replays may)
-follows_kept in_range replays stories follows (post line) = follows
+follows_kept in_range replays seats stories follows (post line) = follows
 
 -- a count that goes by entries
 abbrev pub Counts : (List Entry → ℕ) → Type 0
@@ -128,6 +138,12 @@ left_counts w = (refl, by)
     by (Leave c x s) es = omega arith
     by _ es = omega arith
 
+once_less : (m : Layout) (g : Words) (c : ℕ) (x : WaitId) (l : List WaitId) → c < m.counters → g.lists c ≡ x ∷ l → (w : WaitId)
+    → total m.counters (λ d. times w (put g.lists c l d)) + same w x ≡ total m.counters (λ d. times w (g.lists d))
+once_less m g c x l within first w =
+    let changed = lists_change (times w) m.counters c g.lists l within in
+    let removed : times w (g.lists c) ≡ same w x + times w l = ap (times w) first in omega arith
+
 -- a row moves a wait into a list when it queues it, and out when it leaves
 once_row : {m : Layout} {i : ℕ} {g h : Words} {p q : Seat} {e : Effect} → Line m i g p q h e → IsWithin m.counters p.place → (w : WaitId)
     → left w (entries e) + total m.counters (λ c. times w (h.lists c)) ≡ total m.counters (λ c. times w (g.lists c)) + queued w (entries e)
@@ -135,9 +151,11 @@ once_row {m = m} {i = i} {g = g} (a7 {a = a} {t = t}) within w =
     let l = g.lists a.counter in
     let changed = lists_change (times w) m.counters a.counter g.lists (insert_wait a.lifo (wait i t) l) within in
     let inserted = times_insert w a.lifo (wait i t) l in omega arith
-once_row {m = m} {g = g} (r5 {r = r} {w = x} {l = l} first) within w =
-    let changed = lists_change (times w) m.counters r.counter g.lists l within in
-    let removed : times w (g.lists r.counter) ≡ same w x + times w l = ap (times w) first in omega arith
+once_row {m = m} {g = g} (r5 {r = r} {w = x} {l = l} first) within w = let out = once_less m g r.counter x l within first w in omega arith
+once_row {m = m} {g = g} (m5_more {r = r} {w = x} {l = l} first _ _) within w =
+    let out = once_less m g r.counter x l within.0 first w in omega arith
+once_row {m = m} {g = g} (m5_last {r = r} {w = x} {l = l} first _) within w =
+    let out = once_less m g r.counter x l within.0 first w in omega arith
 once_row _ within w = omega arith
 
 same_some : (w x : WaitId) → 0 < same w x → w ≡ x
@@ -185,6 +203,8 @@ queues_now _ t later = (later, refl)
 pub same_turn : {p q : Seat} {c x : ℕ} {w : WaitId} → Post p q c w x → p.turn ≡ q.turn
 same_turn r9 = refl
 same_turn r10 = refl
+same_turn m7_last = refl
+same_turn m7_more = refl
 
 pub new_kept : {m : Layout} {s : World} {i : ℕ} {t : World} → TurnsAreNew s → Step m s i t → TurnsAreNew t
 new_kept {s = s} {i = i} new (own {q = q} {e = e} line) k t = put_at Has s.seats i q k here elsewhere

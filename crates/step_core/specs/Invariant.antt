@@ -1,13 +1,14 @@
 -- The invariant of the rows: what each row keeps, and from which the lawful world follows.
-use Rattle.std.specs.Prelude.{◌≡◌, ℕ, zero, suc, ◌+◌, ◌<◌, ◌≤◌, List, [], ◌∷◌, length}
+use Rattle.std.specs.Prelude.{◌≡◌, ℕ, zero, suc, ◌+◌, ◌-◌, ◌<◌, ◌≤◌, List, [], ◌∷◌, length}
 use Rattle.waiters.specs.declared.wait.WaitId.{WaitId}
 use Rattle.step_core.specs.declared.entry.Entry.{Entry}
 use Rattle.step_core.specs.declared.place.AcquireRow.TheVariants.{A7, P, A10, A11}
-use Rattle.step_core.specs.declared.place.ReleaseRow.TheVariants.{R1, R2, R3, R4, R5, R6, R7, R8, R9, R10}
+use Rattle.step_core.specs.declared.place.ReleaseRow.TheVariants.{R2, R3, R4, R5, R6, R7, R8, R9, R10}
+use Rattle.step_core.specs.declared.place.ManyRow.TheVariants.{M2, M3, M4, M5, M6, M7}
 use Rattle.step_core.specs.declared.place.Place.{Place}
-use Rattle.step_core.specs.declared.place.Place.TheVariants.{Rest, Acquiring, Releasing}
-use Rattle.step_core.specs.World.{Layout, Words, Seat, World}
-use Rattle.step_core.specs.Journal.{Plain, plain, plain_start, replay, Follows, Owes, queued, left, HasLeft, HasItsUnit, on, same}
+use Rattle.step_core.specs.declared.place.Place.TheVariants.{Rest, Acquiring, Releasing, ReleasingMany}
+use Rattle.step_core.specs.World.{Layout, Seat, World}
+use Rattle.step_core.specs.Journal.{plain, plain_start, replay, Follows, Owes, queued, left, HasLeft, HasItsUnit, on, same}
 use Rattle.step_core.specs.Lawful.{total, wait, times, holds, raises, counter_at, waits_of, IsGrantOf, added}
 
 -- a lock word counts the seats that hold the lock, of which there is at most one
@@ -24,7 +25,7 @@ abbrev pub commits : ℕ → Place → ℕ
 commits c (Acquiring a A7) = on a.counter c 1
 commits c _ = 0
 
--- what flies for c, less the releases that have found no wait
+-- what flies for c, less the units for which a release has found no wait
 abbrev pub helps_at : ℕ → Place → List WaitId → ℕ → ℕ
 helps_at c (Acquiring a (P turn)) hand (suc zero) = on a.counter c 1
 helps_at c (Acquiring a A10) hand grant = on a.counter c 1
@@ -37,6 +38,12 @@ helps_at c (Releasing r R6) (w ∷ hand) grant = on r.counter c 1
 helps_at c (Releasing r R7) hand grant = on r.counter c 1
 helps_at c (Releasing r (R8 left)) hand grant = on r.counter c 1
 helps_at c (Releasing r R10) hand grant = on r.counter c 1
+helps_at c (ReleasingMany r M2) hand grant = on r.counter c r.units
+helps_at c (ReleasingMany r M3) hand grant = on r.counter c r.units
+helps_at c (ReleasingMany r M4) hand grant = on r.counter c r.units
+helps_at c (ReleasingMany r M5) hand grant = on r.counter c r.units
+helps_at c (ReleasingMany r M6) hand grant = on r.counter c (length hand)
+helps_at c (ReleasingMany r M7) hand grant = on r.counter c (length hand)
 helps_at c _ hand grant = 0
 
 abbrev pub helps : ℕ → Seat → ℕ → ℕ
@@ -79,25 +86,30 @@ SleepersCounted m s =
     total m.counters (λ c. length (s.words.lists c)) + total m.seats (λ k. length (s.seats k).hand)
     ≡ total m.seats (λ k. asleep (s.seats k).place (s.words.grants k))
 
--- how many waits the seat may still take out for its release
-abbrev pub owing : Place → ℕ
-owing (Releasing r R2) = 1
-owing (Releasing r R3) = 1
-owing (Releasing r R4) = 1
-owing (Releasing r R5) = 1
-owing _ = 0
+-- how many waits the seat, which has so many in hand, may still take out for its release
+abbrev pub owing : Place → ℕ → ℕ
+owing (Releasing r R2) in_hand = 1
+owing (Releasing r R3) in_hand = 1
+owing (Releasing r R4) in_hand = 1
+owing (Releasing r R5) in_hand = 1
+owing (ReleasingMany r M2) in_hand = r.units
+owing (ReleasingMany r M3) in_hand = r.units
+owing (ReleasingMany r M4) in_hand = r.units
+owing (ReleasingMany r M5) in_hand = r.units - in_hand
+owing _ in_hand = 0
 
 -- there are few turns: each queued wait either stands in a list, or has left for a unit that was added
 abbrev pub FewTurns : Layout → World → Type 0
 FewTurns m s =
-    total m.seats (λ k. (s.seats k).turn) + total m.seats (λ k. owing (s.seats k).place)
+    total m.seats (λ k. (s.seats k).turn) + total m.seats (λ k. owing (s.seats k).place (length (s.seats k).hand))
     ≤ added s.journal + total m.counters (λ c. length (s.words.lists c))
 
--- a seat's call is on a counter that is there
+-- a seat's call is on a counter that is there, and a release of many is of 1 to 256 units
 abbrev pub IsWithin : ℕ → Place → Type 0
 IsWithin counters Rest = Unit {0}
 IsWithin counters (Acquiring a row) = a.counter < counters
 IsWithin counters (Releasing r row) = r.counter < counters
+IsWithin counters (ReleasingMany r row) = (r.counter < counters) × (1 ≤ r.units) × (r.units ≤ 256)
 
 -- how many waits a seat has in hand
 abbrev pub HandFits : Place → ℕ → Type 0
@@ -106,6 +118,9 @@ HandFits (Releasing r R7) n = n ≡ 1
 HandFits (Releasing r (R8 left)) n = n ≡ 1
 HandFits (Releasing r R9) n = n ≡ 1
 HandFits (Releasing r R10) n = n ≡ 1
+HandFits (ReleasingMany r M5) n = n < r.units
+HandFits (ReleasingMany r M6) n = n ≤ r.units
+HandFits (ReleasingMany r M7) n = 0 < n
 HandFits _ n = n ≡ 0
 
 -- what is known of one seat and its grant word
@@ -121,6 +136,7 @@ SeatsKnown m s = (k : ℕ) → IsSeat m.counters (s.seats k) (s.words.grants k)
 -- the seat that is about to take out a wait has one to take
 abbrev pub Finds : (ℕ → List WaitId) → Place → Type 0
 Finds lists (Releasing r R5) = 0 < length (lists r.counter)
+Finds lists (ReleasingMany r M5) = 0 < length (lists r.counter)
 Finds lists _ = Unit {0}
 
 -- each wait in the hand has left c, and no unit was taken for it since
@@ -143,6 +159,12 @@ Story k (Releasing r R7) hand grant journal = AllLeft r.counter hand journal
 Story k (Releasing r (R8 left)) hand grant journal = AllLeft r.counter hand journal
 Story k (Releasing r R9) hand grant journal = AllHaveUnits r.counter hand journal
 Story k (Releasing r R10) hand grant journal = AllLeft r.counter hand journal
+Story k (ReleasingMany r M2) hand grant journal = Owes k r.counter r.units journal
+Story k (ReleasingMany r M3) hand grant journal = Owes k r.counter r.units journal
+Story k (ReleasingMany r M4) hand grant journal = Owes k r.counter r.units journal
+Story k (ReleasingMany r M5) hand grant journal = Owes k r.counter (r.units - length hand) journal × AllLeft r.counter hand journal
+Story k (ReleasingMany r M6) hand grant journal = AllLeft r.counter hand journal
+Story k (ReleasingMany r M7) hand grant journal = AllLeft r.counter hand journal
 Story k (Acquiring a (P turn)) hand (suc (suc grant)) journal = HasItsUnit a.counter (wait k turn) journal
 Story k _ hand grant journal = Unit {0}
 

@@ -1,14 +1,15 @@
 -- What is promised of each world, in the words of the subject.
-use Rattle.std.specs.Prelude.{◌≡◌, ℕ, zero, suc, ◌+◌, ◌*◌, ◌<◌, ◌≤◌, ◌≢◌, ◌⊎◌, Bool, List, [], ◌∷◌, length}
+use Rattle.std.specs.Prelude.{◌≡◌, ℕ, zero, suc, ◌+◌, ◌<◌, ◌≤◌, ◌≢◌, ◌⊎◌, List, [], ◌∷◌, length}
 use Rattle.waiters.specs.declared.wait.WaitId.{WaitId}
 use Rattle.step_core.specs.declared.entry.Entry.{Entry}
 use Rattle.step_core.specs.declared.entry.Entry.TheVariants.{Add, AddMany}
 use Rattle.step_core.specs.declared.place.Acquire.{Acquire}
 use Rattle.step_core.specs.declared.place.AcquireRow.TheVariants.{A4, A5, A6, A7, A8, A9, P, A10, A11}
 use Rattle.step_core.specs.declared.place.ReleaseRow.TheVariants.{R1, R4, R5, R6, R9}
+use Rattle.step_core.specs.declared.place.ManyRow.TheVariants.{M1, M4, M5, M6, M7}
 use Rattle.step_core.specs.declared.place.Place.{Place}
-use Rattle.step_core.specs.declared.place.Place.TheVariants.{Rest, Acquiring, Releasing}
-use Rattle.step_core.specs.World.{Layout, Words, Seat, World}
+use Rattle.step_core.specs.declared.place.Place.TheVariants.{Rest, Acquiring, Releasing, ReleasingMany}
+use Rattle.step_core.specs.World.{Layout, Words, World}
 use Rattle.step_core.specs.Journal.{plain, plain_start, replay, IsLawful, HasItsUnit, on, same}
 
 -- f 0 + .. + f (n - 1)
@@ -35,6 +36,9 @@ holds root r (Acquiring a A9) = on (root a.counter) r 1
 holds root r (Releasing q R4) = on (root q.counter) r 1
 holds root r (Releasing q R5) = on (root q.counter) r 1
 holds root r (Releasing q R6) = on (root q.counter) r 1
+holds root r (ReleasingMany q M4) = on (root q.counter) r 1
+holds root r (ReleasingMany q M5) = on (root q.counter) r 1
+holds root r (ReleasingMany q M6) = on (root q.counter) r 1
 holds root r _ = 0
 
 -- 1 where the seat has raised the waiter word of the root r, and neither queued its wait nor lowered the word
@@ -45,19 +49,23 @@ raises root r (Acquiring a A7) = on (root a.counter) r 1
 raises root r (Acquiring a A8) = on (root a.counter) r 1
 raises root r _ = 0
 
--- how many units the seat has in flight for c. A release flies from its add to its end or its grant, but no longer once a
--- unit was taken for its waiter; a woken wait flies until it takes a unit or reads 0
-abbrev pub flies : ℕ → Place → ℕ → ℕ
-flies c (Acquiring a (P turn)) (suc zero) = on a.counter c 1
-flies c (Acquiring a A10) grant = on a.counter c 1
-flies c (Acquiring a (A11 left)) grant = on a.counter c 1
-flies c (Releasing r R1) grant = 0
-flies c (Releasing r R9) grant = 0
-flies c (Releasing r row) grant = on r.counter c 1
-flies c _ grant = 0
+-- how many units the seat, which has so many waits in hand, has in flight for c. A release flies from its add to its end or
+-- its grant, but no longer once a unit was taken for its waiter; a release of many flies with all its units until it ends or
+-- gives the lock back, and then with the waits in its hand; a woken wait flies until it takes a unit or reads 0
+abbrev pub flies : ℕ → Place → ℕ → ℕ → ℕ
+flies c (Acquiring a (P turn)) in_hand (suc zero) = on a.counter c 1
+flies c (Acquiring a A10) in_hand grant = on a.counter c 1
+flies c (Acquiring a (A11 left)) in_hand grant = on a.counter c 1
+flies c (Releasing r R1) in_hand grant = 0
+flies c (Releasing r R9) in_hand grant = 0
+flies c (Releasing r row) in_hand grant = on r.counter c 1
+flies c (ReleasingMany r M1) in_hand grant = 0
+flies c (ReleasingMany r M7) in_hand grant = on r.counter c in_hand
+flies c (ReleasingMany r row) in_hand grant = on r.counter c r.units
+flies c _ in_hand grant = 0
 
 abbrev pub in_flight : Layout → World → ℕ → ℕ
-in_flight m s c = total m.seats (λ k. flies c (s.seats k).place (s.words.grants k))
+in_flight m s c = total m.seats (λ k. flies c (s.seats k).place (length (s.seats k).hand) (s.words.grants k))
 
 -- how many waits the lists of a root hold
 abbrev pub waits_of : Layout → ℕ → Words → ℕ
@@ -77,6 +85,7 @@ abbrev pub counter_at : Place → ℕ
 counter_at Rest = 0
 counter_at (Acquiring a row) = a.counter
 counter_at (Releasing r row) = r.counter
+counter_at (ReleasingMany r row) = r.counter
 
 -- the seat k is parked on c with its wait of this turn
 abbrev pub IsParked : World → ℕ → ℕ → ℕ → Type 0
@@ -115,9 +124,10 @@ ParkedOnce m s =
     → (times (wait k turn) (s.words.lists c) + in_hand m s (wait k turn) + granted (s.words.grants k) ≡ 1)
     × ((d : ℕ) → d ≢ c → times (wait k turn) (s.words.lists d) ≡ 0)
 
--- the seat's call is a release of c
+-- the seat's call is a release of c, of one unit or of many
 abbrev pub IsReleasing : Place → ℕ → Type 0
 IsReleasing (Releasing r row) c = r.counter ≡ c
+IsReleasing (ReleasingMany r row) c = r.counter ≡ c
 IsReleasing _ c = ⊥
 
 -- each wait in a list is that of a seat that is parked there, and each wait in a hand is in that of a release of the

@@ -2,6 +2,7 @@ pub mod World
 pub mod Event
 pub mod Acquire
 pub mod Release
+pub mod ReleaseMany
 pub mod Table
 pub mod Row
 pub mod Journal

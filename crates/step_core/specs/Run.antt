@@ -1,13 +1,14 @@
 -- A scenario's run: each seat makes its calls one after the other, and a schedule says whose row runs next.
-use Rattle.std.specs.Prelude.{◌≡◌, ℕ, zero, suc, ◌+◌, ◌*◌, ◌%◌, ◌<◌, nat_lt, cond, Bool, true, false, List, [], ◌∷◌, Option, Some, None, length, slice_get, slice_index, slice_index_or, take, MatchOption, ◌⊎◌}
+use Rattle.std.specs.Prelude.{◌≡◌, ℕ, zero, suc, ◌+◌, ◌%◌, nat_lt, cond, Bool, true, false, List, [], ◌∷◌, Option, Some, None, length, slice_get, slice_index, slice_index_or, take, ◌⊎◌}
 use Rattle.step_core.specs.declared.call.Call.{Call}
-use Rattle.step_core.specs.declared.call.Call.TheVariants.{Acquire, Release}
+use Rattle.step_core.specs.declared.call.Call.TheVariants.{Acquire, Release, ReleaseMany}
 use Rattle.step_core.specs.declared.outcome.Effect.{Effect}
 use Rattle.step_core.specs.declared.outcome.Effect.TheVariants.{Tells}
 use Rattle.step_core.specs.declared.place.AcquireRow.TheVariants.{A1}
 use Rattle.step_core.specs.declared.place.ReleaseRow.TheVariants.{R1}
+use Rattle.step_core.specs.declared.place.ManyRow.TheVariants.{M1}
 use Rattle.step_core.specs.declared.place.Place.{Place}
-use Rattle.step_core.specs.declared.place.Place.TheVariants.{Rest, Acquiring, Releasing}
+use Rattle.step_core.specs.declared.place.Place.TheVariants.{Rest, Acquiring, Releasing, ReleasingMany}
 use Rattle.step_core.specs.declared.scenario.Parts.{Parts}
 use Rattle.step_core.specs.declared.refusal.StepRefused.{StepRefused}
 use Rattle.step_core.specs.declared.refusal.StepRefused.TheVariants.{NoSuchSeat, SeatEnded, LockHeld, Asleep, NoMemory}
@@ -39,6 +40,7 @@ call_of parts seat number = slice_get (slice_index_or parts.calls seat []) numbe
 abbrev pub first_place : Call → Place
 first_place (Acquire c lifo) = Acquiring (record { counter = c; lifo = lifo }) A1
 first_place (Release c handoff) = Releasing (record { counter = c; handoff = handoff }) R1
+first_place (ReleaseMany c n) = ReleasingMany (record { counter = c; units = n }) M1
 first_place _ = Rest
 
 -- the seat i begins this call: that is no step

@@ -1,13 +1,14 @@
 -- Which parts make a scenario.
-use Rattle.std.specs.Prelude.{◌≡◌, ℕ, ◌<◌, ◌≤◌, ◌^◌, List, length, All}
+use Rattle.std.specs.Prelude.{◌≡◌, ℕ, ◌<◌, ◌≤◌, List, length, All}
 use Rattle.step_core.specs.declared.call.Call.{Call}
-use Rattle.step_core.specs.declared.call.Call.TheVariants.{Acquire, Release}
+use Rattle.step_core.specs.declared.call.Call.TheVariants.{Acquire, Release, ReleaseMany}
 use Rattle.step_core.specs.declared.scenario.Parts.{Parts}
 
--- a call of a kind that the machine runs
+-- a call of a kind that the machine runs; a release of many is of 1 to 256 units
 abbrev pub IsRunnable : Call → Type 0
 IsRunnable (Acquire c lifo) = Unit {0}
 IsRunnable (Release c handoff) = Unit {0}
+IsRunnable (ReleaseMany c n) = (1 ≤ n) × (n ≤ 256)
 IsRunnable _ = ⊥
 
 abbrev pub IsScript : List Call → Type 0
@@ -28,6 +29,7 @@ pub record IsWithinLimits (parts : Parts) : Type 0 where
 abbrev pub IsCallOn : ℕ → Call → Type 0
 IsCallOn counters (Acquire c lifo) = c < counters
 IsCallOn counters (Release c handoff) = c < counters
+IsCallOn counters (ReleaseMany c n) = c < counters
 IsCallOn counters _ = Unit {0}
 
 -- each call names a counter that is declared

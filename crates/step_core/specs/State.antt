@@ -1,5 +1,5 @@
 -- What the machine stores, and the run that it shows.
-use Rattle.std.specs.Prelude.{◌≡◌, ℕ, ◌+◌, ◌*◌, ◌%◌, ◌^◌, ◌<◌, ◌≤◌, List, [], ◌∷◌, Option, Some, None, length, slice_get, slice_index_or, MatchOption, IfSome, IsTrue, map, replicate}
+use Rattle.std.specs.Prelude.{◌≡◌, ℕ, ◌+◌, ◌*◌, ◌%◌, ◌^◌, ◌<◌, ◌≤◌, List, [], Option, Some, None, length, slice_get, slice_index_or, MatchOption, IfSome, IsTrue, map, replicate}
 use Rattle.waiters.specs.declared.wait.WaitId.{WaitId}
 use Rattle.step_core.specs.declared.call.Call.{Call}
 use Rattle.step_core.specs.declared.caller.Caller.{Caller}
@@ -11,12 +11,13 @@ use Rattle.step_core.specs.declared.outcome.Outcome.{Outcome}
 use Rattle.step_core.specs.declared.refusal.StepRefused.{StepRefused}
 use Rattle.step_core.specs.declared.refusal.StepRefused.TheVariants.{LockHeld, Asleep, NoMemory}
 use Rattle.step_core.specs.declared.place.ReleaseRow.TheVariants.{R1}
+use Rattle.step_core.specs.declared.place.ManyRow.TheVariants.{M1}
 use Rattle.step_core.specs.declared.place.Place.{Place}
-use Rattle.step_core.specs.declared.place.Place.TheVariants.{Rest, Acquiring, Releasing}
+use Rattle.step_core.specs.declared.place.Place.TheVariants.{Rest, Releasing, ReleasingMany}
 use Rattle.step_core.specs.declared.scenario.Parts.{Parts}
 use Rattle.step_core.specs.declared.word.Word.{Word}
 use Rattle.step_core.specs.declared.word.Word.TheVariants.{Counter, Lock, Waiters, Grant}
-use Rattle.step_core.specs.World.{Layout, Words, Seat, World, found, journal_after, turn_after, hand_after}
+use Rattle.step_core.specs.World.{Words, Seat, found, journal_after, turn_after, hand_after}
 use Rattle.step_core.specs.Event.{Event}
 use Rattle.step_core.specs.Table.{event_at}
 use Rattle.step_core.specs.Journal.{Plain, plain_start, replay}
@@ -128,6 +129,7 @@ pub record IsStoredFor (counters roots seats : ℕ) (h : Stored) : Type 0 where
 -- 1 where a release has begun and hasn't added its units
 abbrev pub pending : Place → ℕ
 pending (Releasing r R1) = 1
+pending (ReleasingMany r M1) = 1
 pending _ = 0
 
 -- what is true of every world that is stored
@@ -191,10 +193,15 @@ pub record IsOutcome (e : Event) (n : ℕ) (o : Outcome) : Type 0 where
 abbrev pub Does : Event → ℕ → Option Outcome → Type 0
 Does e n r = MatchOption r (IsTrue (e.can n) → ⊥) (IsOutcome e n)
 
--- the first wait of the list of a release's counter
+-- the first wait of the list of a release's counter, and how many waits that list has
 abbrev pub IsListed : (ℕ → List WaitId) → Place → Option WaitId → Type 0
 IsListed lists (Releasing r row) first = slice_get (lists r.counter) 0 ≡ first
+IsListed lists (ReleasingMany r row) first = slice_get (lists r.counter) 0 ≡ first
 IsListed lists _ first = Unit {0}
+
+abbrev pub IsQueue : (ℕ → List WaitId) → Place → ℕ → Type 0
+IsQueue lists (ReleasingMany r row) n = length (lists r.counter) ≡ n
+IsQueue lists _ n = Unit {0}
 
 -- the counter of a place, and the list that an effect changes, are among so many
 abbrev pub HasRoom : ℕ → Effect → Type 0

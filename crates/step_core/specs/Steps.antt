@@ -1,12 +1,14 @@
 -- Steps of the world: rows of the table, and what a caller may begin or give up between them.
-use Rattle.std.specs.Prelude.{◌≡◌, ℕ, ◌<◌, Bool, IsTrue}
+use Rattle.std.specs.Prelude.{◌≡◌, ℕ, ◌<◌, ◌≤◌, Bool, IsTrue}
 use Rattle.step_core.specs.declared.place.Acquire.{Acquire}
 use Rattle.step_core.specs.declared.place.AcquireRow.TheVariants.{A1, A3}
 use Rattle.step_core.specs.declared.place.Release.{Release}
 use Rattle.step_core.specs.declared.place.ReleaseRow.TheVariants.{R1, R3}
+use Rattle.step_core.specs.declared.place.ReleaseMany.{ReleaseMany}
+use Rattle.step_core.specs.declared.place.ManyRow.TheVariants.{M1}
 use Rattle.step_core.specs.declared.place.Place.{Place}
-use Rattle.step_core.specs.declared.place.Place.TheVariants.{Rest, Acquiring, Releasing}
-use Rattle.step_core.specs.World.{Layout, Words, Seat, World, put, found, written, lists_after, journal_after, seat_after, first_world}
+use Rattle.step_core.specs.declared.place.Place.TheVariants.{Rest, Acquiring, Releasing, ReleasingMany}
+use Rattle.step_core.specs.World.{Layout, Words, World, put, found, written, lists_after, journal_after, seat_after, first_world}
 use Rattle.step_core.specs.Event.{Event}
 use Rattle.step_core.specs.Table.{table}
 
@@ -48,12 +50,13 @@ pub record Turn (root : ℕ → ℕ) (s : World) (i : ℕ) (t : World) : Type 0 
 abbrev pub moved : World → ℕ → Place → World
 moved s i place = record s { seats = put s.seats i (record (s.seats i) { place = place }) }
 
--- what a caller may choose: to begin an acquire, at its first row or at the lock, or a release; to give up an acquire before
--- it has the lock; and, of a release that goes to the lock, whether it hands its unit over
+-- what a caller may choose: to begin an acquire, at its first row or at the lock, a release, or a release of 1 to 256 units;
+-- to give up an acquire before it has the lock; and, of a release that goes to the lock, whether it hands its unit over
 pub data Choice (counters : ℕ) : Place → Place → Type 0 where
   acquire : (a : Acquire) → a.counter < counters → Choice counters Rest (Acquiring a A1)
   enter : (a : Acquire) → a.counter < counters → Choice counters Rest (Acquiring a A3)
   release : (r : Release) → r.counter < counters → Choice counters Rest (Releasing r R1)
+  release_many : (r : ReleaseMany) → r.counter < counters → 1 ≤ r.units → r.units ≤ 256 → Choice counters Rest (ReleasingMany r M1)
   give_up : (a : Acquire) → Choice counters (Acquiring a A1) Rest
   give_up_lock : (a : Acquire) → Choice counters (Acquiring a A3) Rest
   decide : (r : Release) (handoff : Bool) → Choice counters (Releasing r R3) (Releasing (record r { handoff = handoff }) R3)

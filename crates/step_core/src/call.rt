@@ -3,7 +3,7 @@ ghost use Rattle.step_core.specs.Run.{first_place};
 
 use crate::group_id::GroupId;
 use crate::list_id::ListId;
-use crate::place::{Acquire, AcquireRow, Place, Release, ReleaseRow};
+use crate::place::{Acquire, AcquireRow, ManyRow, Place, Release, ReleaseMany, ReleaseRow};
 use waiters::CounterId;
 
 /// A call of a seat in a scenario.
@@ -40,6 +40,9 @@ impl Call {
             }
             Call::Release(counter, handoff) => {
                 Place::Releasing(Release { counter, handoff }, ReleaseRow::R1)
+            }
+            Call::ReleaseMany(counter, units) => {
+                Place::ReleasingMany(ReleaseMany { counter, units }, ManyRow::M1)
             }
             _ => Place::Rest,
         }

@@ -4,20 +4,20 @@ ghost use Rattle.std.specs.Prelude.{◌≡◌, ◌≢◌, ◌<◌, ◌+◌, ◌^
 ghost use Rattle.waiters.specs.declared.wait.WaitId.{WaitId};
 ghost use Rattle.step_core.specs.World.{turn_after};
 ghost use Rattle.step_core.specs.Table.{event_at};
-ghost use Rattle.step_core.specs.State.{Stored, HasRowsOf, HasWord, HasRoom, Does, IsListed, seat_of, words_of, idle, begin, first_caller};
+ghost use Rattle.step_core.specs.State.{Stored, HasRowsOf, HasWord, HasRoom, Does, IsListed, IsQueue, seat_of, words_of, idle, begin, first_caller};
 ghost use Rattle.step_core.specs.Invariant.{IsWithin};
 ghost use Rattle.step_core.specs.Row.{phase_of};
 
-use crate::acquire;
 use crate::call::Call;
 use crate::entry::Entry;
 use crate::items::Items;
 use crate::outcome::{Effect, Outcome};
 use crate::phase::Phase;
 use crate::place::Place;
-use crate::release::{self, Sight};
 use crate::shared::Shared;
+use crate::sight::Sight;
 use crate::word::Word;
+use crate::{acquire, release, release_many};
 use waiters::{SeatId, WaitId};
 
 /// Where a seat stands, how many waits it has queued, and how many of its calls it has begun.
@@ -39,6 +39,9 @@ impl Caller {
             Place::Rest => Word::Grant(seat),
             Place::Acquiring(acquire, row) => acquire::word_of(seat, acquire, row),
             Place::Releasing(release, row) => release::word_of(seat, sight, release, row),
+            Place::ReleasingMany(release, row) => {
+                release_many::word_of(seat, sight, release, row)
+            }
         }
     }
 
@@ -49,17 +52,31 @@ impl Caller {
     {
         match self.place {
             Place::Releasing(release, _) => shared.first(release.counter),
+            Place::ReleasingMany(release, _) => shared.first(release.counter),
             _ => None,
+        }
+    }
+
+    /// How many waits are in the list that a release of many looks at.
+    pub(crate) fn queued(&self, shared: &Shared) -> usize
+        requires { IsWithin (length shared.now.lists) self.now.place }
+        ensures { IsQueue (words_of shared.now).lists self.now.place result }
+    {
+        match self.place {
+            Place::ReleasingMany(release, _) => shared.queued(release.counter),
+            _ => 0,
         }
     }
 
     /// What that row does where its word is `found`; `None` where its condition doesn't hold.
     pub(crate) fn outcome(&self, seat: SeatId, sight: &Sight, found: u64) -> Option<Outcome>
-        requires { found + 1 < 2 ^ 64 }
+        requires { found + 2 ^ 32 < 2 ^ 64 }
         ensures room { (counters : ℕ) → IsWithin counters self.now.place
             → IfSome result (λ outcome. HasRoom counters outcome.effect) }
         ensures does { (hand : List WaitId) (lists : ℕ → List WaitId) → slice_get hand 0 ≡ sight.now.in_hand
+            → length hand ≡ sight.now.held
             → IsListed lists self.now.place sight.now.listed
+            → IsQueue lists self.now.place sight.now.queued
             → Does (event_at seat (seat_of self.now hand) lists self.now.place) found result }
     {
         let turn = self.turn;
@@ -70,6 +87,9 @@ impl Caller {
             }
             Place::Releasing(release, row) => {
                 release::outcome_of(seat, sight, release, row, found)
+            }
+            Place::ReleasingMany(release, row) => {
+                release_many::outcome_of(seat, sight, release, row, found)
             }
         }
     }

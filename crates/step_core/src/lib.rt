@@ -1,7 +1,7 @@
 //! The sleeping layer of semaphores as a pure machine of single steps.
 //!
 //! A scenario gives each seat a list of calls. Each step runs one row of the step table: one event of one word.
-//! The rows are those of Go's `semacquire1` and `semrelease1`.
+//! The rows are those of Go's `semacquire1` and `semrelease1`, and those of a release of many units at once.
 #![tactic(auto)]
 
 mod acquire;
@@ -18,10 +18,12 @@ mod phase;
 mod place;
 mod refusal;
 mod release;
+mod release_many;
 mod row;
 mod scenario;
 mod schedule;
 mod shared;
+mod sight;
 mod step;
 mod word;
 mod world;
@@ -36,11 +38,12 @@ pub use list_id::ListId;
 pub use misuse::Misuse;
 pub use outcome::{Effect, Outcome};
 pub use phase::Phase;
-pub use place::{Acquire, AcquireRow, Place, Release, ReleaseRow};
+pub use place::{Acquire, AcquireRow, ManyRow, Place, Release, ReleaseMany, ReleaseRow};
 pub use refusal::{RunRefused, StepRefused};
 pub use row::Row;
 pub use scenario::{
-    MAX_CALLS, MAX_COUNTERS, MAX_ROOTS, MAX_SEATS, Parts, Scenario, ScenarioRefused,
+    MAX_CALLS, MAX_COUNTERS, MAX_ROOTS, MAX_SEATS, MAX_UNITS, MIN_UNITS, Parts, Scenario,
+    ScenarioRefused,
 };
 pub use schedule::run;
 pub use waiters::{CounterId, NoMemory, SeatId, WaitId};

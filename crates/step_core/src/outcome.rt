@@ -56,13 +56,13 @@ pub(crate) fn exchange(found: u64, left: u64, won: (Place, Entry), lost: Place) 
     }
 }
 
-/// The waiter's grant word becomes this: its wait leaves the hand, and the call ends.
-pub(crate) fn grants(becomes: u64) -> Option<Outcome>
-    ensures { result ≡ Some (record { becomes = becomes; place = Place.Rest; effect = Effect.Grants }) }
+/// The waiter's grant word becomes this, its wait leaves the hand, and the seat goes there.
+pub(crate) fn grants(becomes: u64, place: Place) -> Option<Outcome>
+    ensures { result ≡ Some (record { becomes = becomes; place = place; effect = Effect.Grants }) }
 {
     Some(Outcome {
         becomes,
-        place: Place::Rest,
+        place,
         effect: Effect::Grants,
     })
 }

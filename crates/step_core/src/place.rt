@@ -1,5 +1,5 @@
 ghost use Rattle.std.specs.Prelude.{◌≡◌};
-ghost use Rattle.step_core.specs.Row.{row_of, acquire_row_name, release_row_name};
+ghost use Rattle.step_core.specs.Row.{row_of, acquire_row_name, release_row_name, many_row_name};
 
 use crate::row::Row;
 use waiters::CounterId;
@@ -18,6 +18,14 @@ pub struct Release {
     pub counter: CounterId,
     /// Whether it tries to take a unit for the wait that it wakes.
     pub handoff: bool,
+}
+
+/// What a release of many units was called with.
+#[derive(Clone, Copy, Debug, PartialEq, Eq, Drop)]
+pub struct ReleaseMany {
+    pub counter: CounterId,
+    /// How many units it adds.
+    pub units: u32,
 }
 
 /// A row of an acquire, with what the seat carries to it.
@@ -53,12 +61,25 @@ pub enum ReleaseRow {
     R10,
 }
 
+/// A row of a release of many units. The waits that it took out are in the seat's hand.
+#[derive(Clone, Copy, Debug, PartialEq, Eq, Drop)]
+pub enum ManyRow {
+    M1,
+    M2,
+    M3,
+    M4,
+    M5,
+    M6,
+    M7,
+}
+
 /// Where a seat stands: at rest, or before a row of its call.
 #[derive(Clone, Copy, Debug, PartialEq, Eq, Drop)]
 pub enum Place {
     Rest,
     Acquiring(Acquire, AcquireRow),
     Releasing(Release, ReleaseRow),
+    ReleasingMany(ReleaseMany, ManyRow),
 }
 
 impl Place {
@@ -70,6 +91,7 @@ impl Place {
             Place::Rest => None,
             Place::Acquiring(_, row) => Some(row.name()),
             Place::Releasing(_, row) => Some(row.name()),
+            Place::ReleasingMany(_, row) => Some(row.name()),
         }
     }
 }
@@ -110,6 +132,22 @@ impl ReleaseRow {
             ReleaseRow::R8(_) => Row::R8,
             ReleaseRow::R9 => Row::R9,
             ReleaseRow::R10 => Row::R10,
+        }
+    }
+}
+
+impl ManyRow {
+    fn name(self) -> Row
+        ensures { result ≡ many_row_name self }
+    {
+        match self {
+            ManyRow::M1 => Row::M1,
+            ManyRow::M2 => Row::M2,
+            ManyRow::M3 => Row::M3,
+            ManyRow::M4 => Row::M4,
+            ManyRow::M5 => Row::M5,
+            ManyRow::M6 => Row::M6,
+            ManyRow::M7 => Row::M7,
         }
     }
 }

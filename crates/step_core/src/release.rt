@@ -6,30 +6,15 @@
 
 ghost use Rattle.std.specs.Prelude.{◌≡◌, ◌<◌, ◌+◌, ◌^◌, ℕ, List, slice_get, IfSome};
 ghost use Rattle.waiters.specs.declared.wait.WaitId.{WaitId};
-ghost use Rattle.step_core.specs.Event.{waiter};
 ghost use Rattle.step_core.specs.Release.{release_event};
 ghost use Rattle.step_core.specs.State.{Stored, HasRowsOf, HasWord, HasRoom, Does};
 
 use crate::entry::Entry;
 use crate::outcome::{Outcome, exchange, goes, grants, tells};
 use crate::place::{Place, Release, ReleaseRow};
+use crate::sight::{Sight, waiter};
 use crate::word::Word;
-use waiters::{SeatId, WaitId};
-
-/// What a release sees beside the word: the first wait of its counter's list, and the first in its hand.
-#[derive(Clone, Copy, Debug, Drop)]
-pub(crate) struct Sight {
-    pub listed: Option<WaitId>,
-    pub in_hand: Option<WaitId>,
-}
-
-/// The seat whose wait is the first in hand; without one, the seat itself.
-fn waiter(seat: SeatId, in_hand: Option<WaitId>) -> SeatId
-    ensures waiter { (hand : List WaitId) → slice_get hand 0 ≡ in_hand → result ≡ waiter seat hand }
-    ensures within { (seats : ℕ) → seat < seats → IfSome in_hand (λ wait. wait.seat < seats) → result < seats }
-{
-    in_hand.map_or(seat, |wait| wait.seat)
-}
+use waiters::SeatId;
 
 /// The word of the row's event.
 pub(crate) fn word_of(seat: SeatId, sight: &Sight, release: Release, row: ReleaseRow) -> Word
@@ -99,7 +84,7 @@ pub(crate) fn outcome_of(
             let taken = Entry::Take(counter, waiter(seat, sight.in_hand));
             exchange(found, left, (at(ReleaseRow::R9), taken), at(ReleaseRow::R7))
         }
-        ReleaseRow::R9 => grants(2),
-        ReleaseRow::R10 => grants(1),
+        ReleaseRow::R9 => grants(2, Place::Rest),
+        ReleaseRow::R10 => grants(1, Place::Rest),
     }
 }

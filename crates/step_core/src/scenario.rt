@@ -16,6 +16,10 @@ pub const MAX_COUNTERS: usize = 16;
 pub const MAX_SEATS: usize = 16;
 /// The most calls of a seat.
 pub const MAX_CALLS: usize = 32;
+/// The fewest units of a release of many.
+pub const MIN_UNITS: u32 = 1;
+/// The most units of a release of many.
+pub const MAX_UNITS: u32 = 256;
 /// The most roots.
 pub const MAX_ROOTS: u32 = 251;
 
@@ -76,23 +80,27 @@ impl Model for Scenario {
 }
 
 impl Call {
-    /// Whether the machine runs calls of this kind.
+    /// Whether the machine runs calls of this kind, and of so many units.
     fn is_runnable(&self) -> bool
         ensures { IsTrue result ↔ IsRunnable self.now }
     {
-        matches!(self, Call::Acquire(_, _) | Call::Release(_, _))
+        match *self {
+            Call::Acquire(_, _) | Call::Release(_, _) => true,
+            Call::ReleaseMany(_, units) => MIN_UNITS <= units && units <= MAX_UNITS,
+            _ => false,
+        }
     }
 
     /// Whether the call names one of so many counters.
     fn is_on(&self, counters: usize) -> bool
         ensures { IsTrue result ↔ IsCallOn counters self.now }
     {
-        match *self {
-            Call::Acquire(counter, _) | Call::Release(counter, _) => {
-                (counter.number() as usize) < counters
-            }
-            _ => true,
-        }
+        let counter = match *self {
+            Call::Acquire(counter, _) | Call::Release(counter, _) | Call::ReleaseMany(counter, _) =>
+                counter,
+            _ => return true,
+        };
+        (counter.number() as usize) < counters
     }
 }
 

@@ -11,8 +11,8 @@ use crate::entry::Entry;
 use crate::items::Items;
 use crate::outcome::Effect;
 use crate::refusal::StepRefused;
-use crate::release::Sight;
 use crate::shared::Shared;
+use crate::sight::Sight;
 use crate::word::Word;
 use std::alloc::AllocError;
 use waiters::{SeatId, WaitId};
@@ -102,7 +102,7 @@ pub(crate) fn run_row(
     caller: &Caller,
 ) -> Result<Caller, StepRefused>
     requires rows { HasRowsOf shared.old seat caller.now.place (slice_get hand.old 0) }
-    requires fits { row_finds seat caller.now shared.old hand.old + 1 < 2 ^ 64 }
+    requires fits { row_finds seat caller.now shared.old hand.old + 2 ^ 32 < 2 ^ 64 }
     requires turn { caller.now.turn + 1 < 2 ^ 64 }
     ensures ok { IfOk result (λ next.
         HasRun seat caller.now shared.old hand.old journal.old.items shared.new hand.new journal.new.items next) }
@@ -113,7 +113,9 @@ pub(crate) fn run_row(
 {
     let sight = Sight {
         listed: caller.listed(shared),
+        queued: caller.queued(shared),
         in_hand: hand.first(),
+        held: hand.len(),
     };
     let word = caller.word(seat, &sight);
     let found = shared.read(&word);

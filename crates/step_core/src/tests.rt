@@ -6,7 +6,7 @@
 ghost use Rattle.std.specs.Prelude.{◌≡◌};
 
 use crate::{
-    Call, Entry, Items, Misuse, Parts, Phase, Row, RunRefused, Scenario, ScenarioRefused,
+    Call, Entry, Items, ListId, Misuse, Parts, Phase, Row, RunRefused, Scenario, ScenarioRefused,
     StepRefused, World, run,
 };
 use std::alloc::{AllocError, Global};
@@ -22,6 +22,10 @@ fn acquire() -> Call {
 
 fn release() -> Call {
     Call::Release(CounterId::new(COUNTER), false)
+}
+
+fn release_many(counter: u32, units: u32) -> Call {
+    Call::ReleaseMany(CounterId::new(counter), units)
 }
 
 fn seat(number: u16) -> SeatId
@@ -192,6 +196,68 @@ fn a_unit_is_handed_over(rt: HostRuntime) -> Result<(), Fail> {
     Ok(())
 }
 
+/// Seats 0 to 2 sleep, and seat 3 releases two units: it wakes the first two of them.
+const TWO_UNITS: [u16; 24] = [
+    0, 0, 0, 0, 0, 1, 1, 1, 1, 1, 2, 2, 2, 2, 2, 3, 3, 3, 3, 3, 3, 3, 3, 3,
+];
+
+#[test]
+fn two_units_wake_the_first_two(rt: HostRuntime) -> Result<(), Fail> {
+    let calls = [acquire(), acquire(), acquire(), release_many(COUNTER, 2)];
+    let scenario = scenario(rt.alloc(), &calls)?;
+    let schedule = seats_again(rt.alloc(), &TWO_UNITS)?;
+    let world = run_again(rt.alloc(), &scenario, &schedule)?;
+    assert_eq!(rt; value(&rt, &world), 2);
+    let waits = waiting(&rt, rt.alloc(), &world)?;
+    assert_eq!(rt; waits.as_slice(), [wait(2, 0)].as_slice());
+    let counter = CounterId::new(COUNTER);
+    let told = [
+        Entry::Queue(counter, wait(0, 0), false),
+        Entry::Queue(counter, wait(1, 0), false),
+        Entry::Queue(counter, wait(2, 0), false),
+        Entry::AddMany(counter, 2, seat(3)),
+        Entry::Leave(counter, wait(0, 0), seat(3)),
+        Entry::Leave(counter, wait(1, 0), seat(3)),
+    ];
+    assert_eq!(rt; world.journal(), told.as_slice());
+    assert_eq!(rt; phase(&rt, &world, 0), Phase::At(Row::P));
+    assert_eq!(rt; phase(&rt, &world, 3), Phase::Ended);
+    Ok(())
+}
+
+#[test]
+fn three_units_wake_the_two_that_wait(rt: HostRuntime) -> Result<(), Fail> {
+    let calls = [acquire(), acquire(), release_many(COUNTER, 3)];
+    let scenario = scenario(rt.alloc(), &calls)?;
+    let asleep = seats_again(rt.alloc(), &[0, 0, 0, 0, 0, 1, 1, 1, 1, 1])?;
+    let mut world = run_again(rt.alloc(), &scenario, &asleep)?;
+    let rows = [
+        Row::M1,
+        Row::M2,
+        Row::M3,
+        Row::M4,
+        Row::M5,
+        Row::M5,
+        Row::M6,
+        Row::M7,
+    ];
+    for row in rows {
+        assert_eq!(rt; phase(&rt, &world, 2), Phase::At(row));
+        assert_eq!(rt; step_again(&mut world, 2), Ok(()));
+    }
+    assert_eq!(rt; step_again(&mut world, 0), Ok(()));
+    assert_eq!(rt; phase(&rt, &world, 0), Phase::At(Row::A10));
+    assert_eq!(rt; step_again(&mut world, 1), Err(StepRefused::Asleep));
+    assert_eq!(rt; phase(&rt, &world, 2), Phase::At(Row::M7));
+    assert_eq!(rt; step_again(&mut world, 2), Ok(()));
+    assert_eq!(rt; phase(&rt, &world, 2), Phase::Ended);
+    assert_eq!(rt; step_again(&mut world, 1), Ok(()));
+    assert_eq!(rt; value(&rt, &world), 3);
+    let waits = waiting(&rt, rt.alloc(), &world)?;
+    assert_eq!(rt; waits.len(), 0);
+    Ok(())
+}
+
 #[test]
 fn a_step_too_many_is_refused(rt: HostRuntime) -> Result<(), Fail> {
     let scenario = handoff_scenario(rt.alloc())?;
@@ -267,10 +333,13 @@ fn parts_are_held_to_the_limits(rt: HostRuntime) -> Result<(), Fail> {
         (Sizes(1, 1, 0, 0, 17, 1, release_of(0)), outside),
         (Sizes(1, 1, 0, 0, 1, 0, release_of(0)), outside),
         (Sizes(1, 1, 0, 0, 1, 33, release_of(0)), outside),
-        (
-            Sizes(1, 1, 0, 0, 1, 1, Call::ReleaseMany(CounterId::new(0), 1)),
-            outside,
-        ),
+        (Sizes(1, 1, 0, 0, 1, 1, Call::Add(ListId::new(0))), outside),
+        (Sizes(1, 1, 0, 0, 1, 1, release_many(0, 0)), outside),
+        (Sizes(1, 1, 0, 0, 1, 1, release_many(0, 1)), None),
+        (Sizes(1, 1, 0, 0, 1, 1, release_many(0, 256)), None),
+        (Sizes(1, 1, 0, 0, 1, 1, release_many(0, 257)), outside),
+        (Sizes(1, 1, 0, 0, 1, 1, release_many(1, 257)), outside),
+        (Sizes(1, 1, 0, 0, 1, 1, release_many(1, 1)), undeclared),
         (Sizes(0, 16, 0, 0, 1, 1, release_of(16)), outside),
         (Sizes(1, 16, 0, 0, 1, 1, release_of(16)), undeclared),
         (Sizes(1, 0, 0, 0, 1, 1, release_of(0)), undeclared),

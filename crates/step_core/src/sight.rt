@@ -1,0 +1,24 @@
+//! What a release sees beside the word of its row.
+
+ghost use Rattle.std.specs.Prelude.{◌≡◌, ◌<◌, ℕ, List, slice_get, IfSome};
+ghost use Rattle.waiters.specs.declared.wait.WaitId.{WaitId};
+ghost use Rattle.step_core.specs.Event.{waiter};
+
+use waiters::{SeatId, WaitId};
+
+/// Its counter's list and its hand: the first wait of each, and how many there are.
+#[derive(Clone, Copy, Debug, Drop)]
+pub(crate) struct Sight {
+    pub listed: Option<WaitId>,
+    pub queued: usize,
+    pub in_hand: Option<WaitId>,
+    pub held: usize,
+}
+
+/// The seat whose wait is the first in hand; without one, the seat itself.
+pub(crate) fn waiter(seat: SeatId, in_hand: Option<WaitId>) -> SeatId
+    ensures waiter { (hand : List WaitId) → slice_get hand 0 ≡ in_hand → result ≡ waiter seat hand }
+    ensures within { (seats : ℕ) → seat < seats → IfSome in_hand (λ wait. wait.seat < seats) → result < seats }
+{
+    in_hand.map_or(seat, |wait| wait.seat)
+}
