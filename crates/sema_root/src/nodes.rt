@@ -11,7 +11,6 @@ ghost use Rattle.sema_root.specs.Linked.{tree_at, AreMergeable, Holds, IsSearcha
 
 use crate::place::Place;
 use slab::Slab;
-use std::cmp::Ordering;
 use waiters::{CounterId, ListKey};
 
 /// A counter that has waits, their list, and the two nodes right below.
