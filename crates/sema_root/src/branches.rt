@@ -52,6 +52,7 @@ fn toward(counter: CounterId, key: usize, node: Node) -> (Link, Option<usize>)
 }
 
 // Opens a list, and hangs a new node for it, with these two trees below it.
+#[inline(always)]
 fn enter(
     branches: &mut Branches,
     link: Link,
@@ -141,14 +142,14 @@ pub(crate) fn leave(
         return None;
     };
     let node = branches.nodes[key];
-    if counter != node.counter {
-        let (side, next) = toward(counter, key, node);
-        return leave(branches, side, next, counter, lists);
+    if counter == node.counter {
+        if lists.len(node.list) == 1 {
+            branches.nodes.remove(key);
+            let rest = merge(&mut branches.nodes, node.left, node.right);
+            hang(branches, link, rest);
+        }
+        return Some(node.list);
     }
-    if lists.len(node.list) == 1 {
-        branches.nodes.remove(key);
-        let rest = merge(&mut branches.nodes, node.left, node.right);
-        hang(branches, link, rest);
-    }
-    Some(node.list)
+    let (side, next) = toward(counter, key, node);
+    leave(branches, side, next, counter, lists)
 }
