@@ -6,14 +6,13 @@ use Rattle.slab.specs.Slab.{Slab, slab_len}
 use Rattle.waiters.specs.Lists.{Lists, waits_at}
 use Rattle.sema_root.specs.declared.nodes.Node.{Node}
 use Rattle.sema_root.specs.declared.branches.Branches.{Branches}
-use Rattle.sema_root.specs.declared.branches.Link.TheVariants.{Top}
 use Rattle.sema_root.specs.declared.listed.Listed.{Listed}
 use Rattle.sema_root.specs.Entries.{entry_of}
 use Rattle.sema_root.specs.Tree.{Tree, leaf, entries, size, sought, top_value}
 use Rattle.sema_root.specs.Reshaping.{grafted, pruned}
 use Rattle.sema_root.specs.Planted as treap
 use Rattle.sema_root.specs.Linked.{tree_at}
-use Rattle.sema_root.specs.Hanging.{ComesTo, Enters, IsFound, Prunes, Leaves, IsPlanted}
+use Rattle.sema_root.specs.Hanging.{Enters, IsFound, Prunes, Leaves, IsPlanted}
 use Rattle.sema_root.proofs.Seeking.{sought-value}
 use Rattle.sema_root.proofs.Grafting.{grafted-size, grafted-treap}
 use Rattle.sema_root.proofs.Pruning.{pruned-size, pruned-treap}
@@ -55,10 +54,6 @@ pub record IsReplanted (new : Branches) (reserved : ℕ) (P : Type 0) : Type 0 w
   pub settled : P
 
 module _ (old : Branches) (reserved : ℕ) (planted : IsPlanted old reserved) (counter : ℕ) where
-  -- a walk begins at the top
-  pub ComesTo-top : ComesTo old Top old.top counter
-  ComesTo-top = record { searchable = record { holds = planted.holds; rising = planted.treap.searched }; hangs = refl }
-
   tree : Tree ℕ
   tree = tree_at old.nodes old.top
 
@@ -74,7 +69,7 @@ module _ (old : Branches) (reserved : ℕ) (planted : IsPlanted old reserved) (c
     -- it is a treap still after a counter's list was asked for
     pub Listed-top : (ticket : ℕ) (answer : Listed) → 0 < reserved - slab_len old.nodes
         → MatchOption (top_value (sought counter (tree_at old.nodes old.top)))
-        (Enters old new Top (tree_at old.nodes old.top) counter ticket old_lists new_lists answer) (IsFound old new old_lists new_lists answer)
+        (Enters old new (tree_at old.nodes old.top) counter ticket old_lists new_lists answer) (IsFound old new old_lists new_lists answer)
         → IsReplanted new reserved (MatchOption (top_value (sought counter (tree_at old.nodes old.top)))
         (treap.Enters (seen old reserved) (seen new reserved) counter ticket old_lists new_lists answer)
         (treap.IsFound (seen old reserved) (seen new reserved) old_lists new_lists answer))
@@ -82,7 +77,7 @@ module _ (old : Branches) (reserved : ℕ) (planted : IsPlanted old reserved) (c
     Listed-top ticket answer room settled = by (top_value (sought counter tree)) refl settled
       where
         by : (o : Option ℕ) → top_value (sought counter tree) ≡ o
-            → MatchOption o (Enters old new Top tree counter ticket old_lists new_lists answer) (IsFound old new old_lists new_lists answer)
+            → MatchOption o (Enters old new tree counter ticket old_lists new_lists answer) (IsFound old new old_lists new_lists answer)
             → IsReplanted new reserved (MatchOption o (treap.Enters (seen old reserved) (seen new reserved) counter ticket old_lists new_lists answer)
             (treap.IsFound (seen old reserved) (seen new reserved) old_lists new_lists answer))
         by None none enters =
@@ -115,7 +110,7 @@ module _ (old : Branches) (reserved : ℕ) (planted : IsPlanted old reserved) (c
 
   -- and after a counter's node went
   prunes_top : (new : Branches) (key : ℕ) → top_value (sought counter (tree_at old.nodes old.top)) ≡ Some key
-      → Prunes old new Top (tree_at old.nodes old.top) counter
+      → Prunes old new (tree_at old.nodes old.top) counter
       → IsReplanted new reserved (treap.Prunes (seen old reserved) (seen new reserved) counter)
   unfolding tree
   prunes_top new key some prunes =
@@ -135,7 +130,7 @@ module _ (old : Branches) (reserved : ℕ) (planted : IsPlanted old reserved) (c
 
   -- or may have gone
   pub Leaves-top : (new : Branches) (lists : Lists) (found : Option ℕ) → found ≡ top_value (sought counter (tree_at old.nodes old.top))
-      → MatchOption found (new ≡ old) (Leaves old new Top (tree_at old.nodes old.top) counter lists)
+      → MatchOption found (new ≡ old) (Leaves old new (tree_at old.nodes old.top) counter lists)
       → IsReplanted new reserved (MatchOption found (seen new reserved ≡ seen old reserved) (treap.Leaves (seen old reserved) (seen new reserved) counter lists))
   Leaves-top new lists None none same = record {
     stays = subst (λ (b : Branches). IsPlanted b reserved) (sym same) planted;

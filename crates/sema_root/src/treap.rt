@@ -4,7 +4,7 @@ ghost use Rattle.waiters.specs.Lists.{IsOpen};
 ghost use Rattle.sema_root.specs.Tree.{IsTreap, leaf, sought, top_counter, top_place, top_value};
 ghost use Rattle.sema_root.specs.Planted.{Enters, IsFound, Leaves};
 
-use crate::branches::{Branches, Link, leave, list_for};
+use crate::branches::{Branches, leave, list_for};
 use crate::listed::Listed;
 use crate::nodes::{counter_at, list_of, place_of};
 use crate::place::Place;
@@ -95,8 +95,7 @@ impl Treap {
             (IsFound self.old self.new lists.old lists.new result) }
         ensures treap { IsTreap self.new.tree }
     {
-        let top = self.branches.top;
-        list_for(&mut self.branches, Link::Top, top, counter, ticket, lists)
+        list_for(&mut self.branches, counter, ticket, lists)
     }
 
     /// The list of a counter, if it is in. The counter goes where only one wait is left in its list.
@@ -106,7 +105,6 @@ impl Treap {
         ensures leaves { MatchOption result (self.new ≡ self.old) (Leaves self.old self.new counter lists.now) }
         ensures treap { IsTreap self.new.tree }
     {
-        let top = self.branches.top;
-        leave(&mut self.branches, Link::Top, top, counter, lists)
+        leave(&mut self.branches, counter, lists)
     }
 }
