@@ -26,9 +26,6 @@ use Rattle.sema_root.proofs.Hanging.{ComesTo-left, ComesTo-right, Regrows-left, 
 pub MatchOption-none : {A : Type 0} (o : Option A) (P : Type 0) (Q : A → Type 0) → o ≡ None → P → MatchOption o P Q
 MatchOption-none o P Q is holds = rw is holds
 
-pub MatchOption-some : {A : Type 0} (o : Option A) (P : Type 0) (Q : A → Type 0) (value : A) → o ≡ Some value → Q value → MatchOption o P Q
-MatchOption-some o P Q value is holds = rw is holds
-
 -- what holds down either side of a node holds down the one toward a counter
 module _ (counter key : ℕ) (node : Node) (P : Link × Option ℕ → Type 0) where
   pub toward-by : (counter < node.counter → P (Left key, node.left)) → (node.counter ≤ counter → P (Right key, node.right))

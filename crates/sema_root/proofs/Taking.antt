@@ -1,9 +1,7 @@
 -- A walk finds a counter's list, and takes the counter's node out where one wait is left in the list.
-use Rattle.std.proofs.Common.{◌≡◌, ◌≢◌, inl, inr, ℕ, ◌+◌, ◌<◌, ◌≤◌, ◌^◌, List, [], ◌∷◌, ◌++◌, Option, Some, None, MatchOption, Bool, true, false, drop, length, slice_get}
+use Rattle.std.proofs.Common.{◌≡◌, ◌≢◌, inl, inr, ℕ, ◌+◌, ◌≤◌, ◌^◌, [], ◌∷◌, ◌++◌, Option, Some, None}
 use Rattle.std.proofs.Common.{refl, sym, ap, ◌∙◌, subst, arith, eq-eqb}
 use Rattle.slab.specs.Slab.{Slab, get, Updates, slab_len}
-use Rattle.waiters.specs.Lists.{Lists, waits_at}
-use Rattle.waiters.specs.declared.wait.Wait.{Wait}
 use Rattle.sema_root.specs.declared.nodes.Node.{Node}
 use Rattle.sema_root.specs.declared.branches.Branches.{Branches}
 use Rattle.sema_root.specs.declared.branches.Link.{Link}
@@ -20,7 +18,6 @@ use Rattle.sema_root.proofs.Standing.{Opens, Opens-holds, Holds-nothing, Holds-r
 use Rattle.sema_root.proofs.Linking.{Keeps-both, Apart-one}
 use Rattle.sema_root.proofs.Parting.{Lacks-around, Sides, Sides-open, Holds-kept}
 use Rattle.sema_root.proofs.Hanging.{IsThere-kept, Regrows-hung}
-use Rattle.sema_root.proofs.Listing.{MatchOption-none, MatchOption-some}
 
 -- a pruned tree is no larger
 pub pruned-fits : (counter : ℕ) (tree : Tree ℕ) → size (pruned counter tree) ≤ size tree
@@ -126,9 +123,9 @@ module _ (old : Branches) (counter ticket : ℕ) (link : Link) (at : Option ℕ)
           → Prunes old new (tree_at old.nodes old.top) counter
       unfolding left right
       Prunes-there new len len_after hung = record {
-          regrows = walked.seeks.prunes new (subst (Regrows old new link (tree_at old.nodes at)) (sym is) grown);
-          len = omega (arith, hung.len, len, len_after);
-        }
+        regrows = walked.seeks.prunes new (subst (Regrows old new link (tree_at old.nodes at)) (sym is) grown);
+        len = omega (arith, hung.len, len, len_after);
+      }
         where
           is : pruned counter (tree_at old.nodes at) ≡ merged left right
           is = ap (pruned counter) opens.is ∙ rw (eq-eqb counter node.counter same)

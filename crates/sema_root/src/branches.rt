@@ -93,7 +93,8 @@ fn enter(
     requires there { IsThere branches.old link }
     requires list_room { 0 < lists.old.list_room }
     ensures is_new { result.is_new ≡ true }
-    ensures hangs { HangsNew branches.old branches.new link sides.0 sides.1 (record { counter = counter; ticket = ticket; value = result.list }) }
+    ensures hangs { HangsNew branches.old branches.new link sides.0 sides.1
+        (record { counter = counter; ticket = ticket; value = result.list }) }
     ensures opens { Opens lists.old lists.new result.list }
 {
     let list = lists.open();
@@ -138,11 +139,7 @@ pub(crate) fn list_for(
 }
 
 // The list of a counter. Its node goes where only one wait is left in the list.
-pub(crate) fn leave(
-    branches: &mut Branches,
-    counter: CounterId,
-    lists: &Lists,
-) -> Option<ListKey>
+pub(crate) fn leave(branches: &mut Branches, counter: CounterId, lists: &Lists) -> Option<ListKey>
     requires comes { ComesTo branches.old Link.Top branches.old.top counter }
     requires listed { IsListed (tree_at branches.old.nodes branches.old.top) counter lists.now }
     ensures list { result ≡ top_value (sought counter (tree_at branches.old.nodes branches.old.top)) }

@@ -30,7 +30,7 @@ returns-clause-list c = list_here _ _ _ _ _ c.seek-link.ensures _ _ c.in-Some.is
 
 pub returns-clause-leaves : goal.returns-clause-leaves
 returns-clause-leaves c = elim c.if-len-eq1.branch [
-  then-len-eq1 w ↦ record {
+  | then-len-eq1 w ↦ record {
     last = λ one. rw w.branches-is (Prunes-there _ _ _ _ _ c.seek-link.ensures _ _ c.in-Some.is c.index-node.ensures (omega arith)
         _ w.remove.ensures.updates w.remove.ensures.capacity _ _ w.merge-rest.ensures.merges
         _ w.remove.ensures.len w.merge-rest.ensures.len w.hang.ensures);
