@@ -15,6 +15,7 @@ pub mod Parting
 pub mod Hanging
 pub mod Listing
 pub mod Taking
+pub mod Walking
 pub mod Planting
 pub mod Rooting
 pub mod Growing

@@ -1,6 +1,6 @@
 -- A walk for a counter's list finds it or enters it.
-use Rattle.std.proofs.Common.{◌≡◌, ◌≢◌, ℕ, ◌+◌, ◌<◌, ◌≤◌, [], ◌∷◌, ◌++◌, Option, Some, None, MatchOption, true}
-use Rattle.std.proofs.Common.{refl, sym, ap, ◌∙◌, subst, arith, lt-ltb, le-ltb, ltb, ltb-true, ltb-false}
+use Rattle.std.proofs.Common.{◌≡◌, ◌≢◌, inl, inr, ℕ, suc, ◌+◌, ◌<◌, ◌≤◌, [], ◌∷◌, ◌++◌, Option, Some, None, MatchOption, true}
+use Rattle.std.proofs.Common.{refl, sym, ap, ◌∙◌, subst, arith, ltb, ltb-true, ltb-false}
 use Rattle.std.proofs.lemmas.Bool.{cond_both}
 use Rattle.slab.specs.Slab.{get, slab_len}
 use Rattle.waiters.specs.Lists.{Lists}
@@ -9,31 +9,22 @@ use Rattle.sema_root.specs.declared.branches.Branches.{Branches}
 use Rattle.sema_root.specs.declared.listed.Listed.{Listed as Answer}
 use Rattle.sema_root.specs.declared.branches.Link.{Link}
 use Rattle.sema_root.specs.declared.branches.Link.TheVariants.{Left, Right}
-use Rattle.sema_root.specs.Tree.{Sprig, Tree, leaf, fork, entries, size, sought, top_value}
+use Rattle.sema_root.specs.Tree.{Sprig, Tree, leaf, fork, entries, size, sought, top_value, IsAtMost}
 use Rattle.sema_root.specs.Reshaping.{split, grafted}
 use Rattle.sema_root.specs.Linked.{sprig, tree_at, Stands, Holds, Lacks, Keeps, Splits}
-use Rattle.sema_root.specs.Hanging.{toward, HangsNew, Regrows, ComesTo, Enters, IsFound}
-use Rattle.sema_root.specs.Planted.{Opens as OpensList}
+use Rattle.sema_root.specs.Hanging.{toward, HangsNew, Regrows, ComesTo, Enters, IsFound, EndsAt, SeeksTo}
+use Rattle.sema_root.specs.Planted.{Opens as Opened}
 use Rattle.sema_root.proofs.Rising.{All-append}
-use Rattle.sema_root.proofs.Seeking.{entry}
+use Rattle.sema_root.proofs.Seeking.{entry, sought-here}
 use Rattle.sema_root.proofs.Splitting.{split-entries, split-size}
-use Rattle.sema_root.proofs.Grafting.{grafted-size}
-use Rattle.sema_root.proofs.Standing.{none_lacked, Opens, Opens-holds, Stands-kept, Holds-nothing, sought-open_here, sought-open_left, sought-open_right, top_value-some, smaller_left, smaller_right}
+use Rattle.sema_root.proofs.Grafting.{grafted-top}
+use Rattle.sema_root.proofs.Standing.{none_lacked, Opens, Opens-holds, Stands-kept, sought-open_left, sought-open_right, smaller_left, smaller_right}
 use Rattle.sema_root.proofs.Linking.{Lacks-parts, Keeps-both}
-use Rattle.sema_root.proofs.Parting.{Holds-leaf, Keeps-same}
 use Rattle.sema_root.proofs.Hanging.{ComesTo-left, ComesTo-right, Regrows-left, Regrows-right, Regrows-hung}
 
 -- a match on an option of which the variant is known
 pub MatchOption-none : {A : Type 0} (o : Option A) (P : Type 0) (Q : A → Type 0) → o ≡ None → P → MatchOption o P Q
 MatchOption-none o P Q is holds = rw is holds
-
-pub MatchOption-some : {A : Type 0} (o : Option A) (P : Type 0) (Q : A → Type 0) (value : A) → o ≡ Some value → Q value → MatchOption o P Q
-MatchOption-some o P Q value is holds = rw is holds
-
-pub MatchOption-weaken : {A : Type 0} (o other : Option A) (P R : Type 0) (Q S : A → Type 0) → other ≡ o → (P → R) → ((value : A) → Q value → S value)
-    → MatchOption o P Q → MatchOption other R S
-MatchOption-weaken None other P R Q S is on_none on_some holds = rw is (on_none holds)
-MatchOption-weaken (Some value) other P R Q S is on_none on_some holds = rw is (on_some value holds)
 
 -- what holds down either side of a node holds down the one toward a counter
 module _ (counter key : ℕ) (node : Node) (P : Link × Option ℕ → Type 0) where
@@ -125,82 +116,35 @@ Regrows-new old mid new link at left right sprout on_left on_right comes keeps t
 abbrev pub sprout : ℕ → ℕ → Answer → Sprig ℕ
 sprout counter ticket answer = record { counter = counter; ticket = ticket; value = answer.list }
 
-module _ (old new : Branches) (link : Link) (at : Option ℕ) (counter ticket : ℕ) (comes : ComesTo old link at counter)
-    (fits : size (tree_at old.nodes at) < old.nodes.capacity) (old_lists new_lists : Lists) (answer : Answer) where
-  -- an empty tree becomes the new node
-  pub Enters-leaf : at ≡ None → answer.is_new ≡ true → HangsNew old new link None None (sprout counter ticket answer) → OpensList old_lists new_lists answer.list
-      → MatchOption (top_value (sought counter (tree_at old.nodes at)))
-      (Enters old new link (tree_at old.nodes at) counter ticket old_lists new_lists answer) (IsFound old new old_lists new_lists answer)
-  Enters-leaf none is_new hangs opened =
-      let is : tree_at old.nodes at ≡ leaf = Holds-nothing old.nodes at (tree_at old.nodes at) none comes.searchable.holds in
-      let grown = Regrows-new old old new link at None None (sprout counter ticket answer) leaf leaf comes (Keeps-same old.nodes (entries (tree_at old.nodes at))) refl
-      (Holds-leaf old.nodes) (Holds-leaf old.nodes) hangs (sym (ap entries is)) (omega arith) in
-      MatchOption-none _ _ _ (ap (λ (t : Tree ℕ). top_value (sought counter t)) is) (record {
+-- where the walk has ended and the counter is not found, all tickets are larger
+larger_left : (counter ticket : ℕ) (tree : Tree ℕ) → EndsAt counter ticket tree → top_value (sought counter tree) ≡ None → IsAtMost (suc ticket) tree
+larger_left counter ticket leaf ends none = tt
+larger_left counter ticket (fork left node right) (inl same) none =
+    let here : top_value (sought counter (fork left node right)) ≡ Some node.value = ap top_value (sought-here counter left node right (sym same)) in
+    cc
+larger_left counter ticket (fork left node right) (inr larger) none = larger.0
+
+-- the walk has ended at the link
+module _ (old : Branches) (counter ticket : ℕ) (link : Link) (at : Option ℕ) (walked : SeeksTo old counter ticket link at)
+    (old_lists new_lists : Lists) (answer : Answer) where
+  -- and found nothing: a node with a new list is hung there
+  pub Enters-there : (mid new : Branches) (below above : Option ℕ) → size (tree_at old.nodes old.top) < old.nodes.capacity
+      → None ≡ top_value (sought counter (tree_at old.nodes at))
+      → Splits old.nodes mid.nodes (tree_at old.nodes at) counter below above → mid.top ≡ old.top → slab_len mid.nodes ≡ slab_len old.nodes
+      → answer.is_new ≡ true → HangsNew mid new link below above (sprout counter ticket answer) → Opened old_lists new_lists answer.list
+      → MatchOption (top_value (sought counter (tree_at old.nodes old.top)))
+      (Enters old new (tree_at old.nodes old.top) counter ticket old_lists new_lists answer) (IsFound old new old_lists new_lists answer)
+  Enters-there mid new below above fits missing splits top len is_new hangs opened =
+      let tree = tree_at old.nodes at in
+      let new_node = sprout counter ticket answer in
+      let larger : IsAtMost (suc ticket) tree = larger_left counter ticket tree walked.ends (sym missing) in
+      let is : grafted new_node tree ≡ fork (split counter tree).0 new_node (split counter tree).1 = grafted-top new_node tree larger in
+      let grown = Regrows-new old mid new link at below above new_node (split counter tree).0 (split counter tree).1
+      walked.seeks.comes splits.keeps top splits.below_holds splits.above_holds hangs (split-entries counter tree)
+      (omega (arith, split-size counter tree, walked.seeks.within)) in
+      MatchOption-none _ _ _ (ap top_value walked.seeks.same ∙ sym missing) (record {
         is_new = is_new;
-        regrows = subst (Regrows old new link (tree_at old.nodes at)) (sym (ap (grafted (sprout counter ticket answer)) is)) grown;
-        len = hangs.len;
+        regrows = walked.seeks.grafts new answer.list fits (subst (Regrows old new link tree) (sym is) grown);
+        len = hangs.len ∙ ap (λ n. n + 1) len;
         opens = opened;
       })
-
-  module _ (key : ℕ) (node : Node) (leads : at ≡ Some key) (got : get old.nodes key ≡ Some node) where
-    opened : Opens old.nodes node (tree_at old.nodes at)
-    opened = Opens-holds old.nodes at key node (tree_at old.nodes at) leads got comes.searchable.holds
-
-    -- the node is the counter's
-    pub IsFound-here : counter ≡ node.counter → IsFound old new old_lists new_lists answer node.list
-        → MatchOption (top_value (sought counter (tree_at old.nodes at)))
-        (Enters old new link (tree_at old.nodes at) counter ticket old_lists new_lists answer) (IsFound old new old_lists new_lists answer)
-    IsFound-here same found =
-        MatchOption-some _ _ _ node.list
-        (ap top_value (sought-open_here old.nodes node (tree_at old.nodes at) opened counter same)
-        ∙ top_value-some old.nodes at key node (tree_at old.nodes at) leads got comes.searchable.holds) found
-
-    module _ (apart : counter ≢ node.counter) where
-      -- the list is found below it
-      pub IsFound-below : (list : ℕ) → Some list ≡ top_value (sought counter (tree_at old.nodes (toward counter key node).1))
-          → IsFound old new old_lists new_lists answer list
-          → MatchOption (top_value (sought counter (tree_at old.nodes at)))
-          (Enters old new link (tree_at old.nodes at) counter ticket old_lists new_lists answer) (IsFound old new old_lists new_lists answer)
-      IsFound-below list is found =
-          MatchOption-some _ _ _ list (ap top_value (sought-toward old link at key node counter comes leads got apart) ∙ sym is) found
-
-      -- the walk went on below it
-      pub Settled-toward : node.ticket ≤ ticket
-          → MatchOption (top_value (sought counter (tree_at old.nodes (toward counter key node).1)))
-          (Enters old new (toward counter key node).0 (tree_at old.nodes (toward counter key node).1) counter ticket old_lists new_lists answer)
-          (IsFound old new old_lists new_lists answer)
-          → MatchOption (top_value (sought counter (tree_at old.nodes at)))
-          (Enters old new link (tree_at old.nodes at) counter ticket old_lists new_lists answer) (IsFound old new old_lists new_lists answer)
-      Settled-toward most = MatchOption-weaken _ _ _ _ _ _ (ap top_value (sought-toward old link at key node counter comes leads got apart))
-          (λ entered. record {
-            is_new = entered.is_new;
-            regrows = Regrows-toward old link at key node counter comes leads got apart new (grafted (sprout counter ticket answer))
-                (λ less left right. rw (le-ltb ticket node.ticket most, lt-ltb counter node.counter less))
-                (λ more left right. let no_less : node.counter ≤ counter = omega arith in rw (le-ltb ticket node.ticket most, le-ltb counter node.counter no_less))
-                (omega (arith, grafted-size (sprout counter ticket answer) (tree_at old.nodes at)))
-                entered.regrows;
-            len = entered.len;
-            opens = entered.opens;
-          })
-          (λ list found. found)
-
-      -- the new node comes up over it
-      pub Enters-over : (mid : Branches) (below above : Option ℕ) → ticket < node.ticket
-          → None ≡ top_value (sought counter (tree_at old.nodes (toward counter key node).1))
-          → Splits old.nodes mid.nodes (tree_at old.nodes at) counter below above → mid.top ≡ old.top → slab_len mid.nodes ≡ slab_len old.nodes
-          → answer.is_new ≡ true → HangsNew mid new link below above (sprout counter ticket answer) → OpensList old_lists new_lists answer.list
-          → MatchOption (top_value (sought counter (tree_at old.nodes at)))
-          (Enters old new link (tree_at old.nodes at) counter ticket old_lists new_lists answer) (IsFound old new old_lists new_lists answer)
-      Enters-over mid below above less missing splits top len is_new hangs opened_list =
-          let tree = tree_at old.nodes at in
-          let grown = Regrows-new old mid new link at below above (sprout counter ticket answer) (split counter tree).0 (split counter tree).1
-          comes splits.keeps top splits.below_holds splits.above_holds hangs (split-entries counter tree) (omega (arith, split-size counter tree)) in
-          let is : grafted (sprout counter ticket answer) tree ≡ fork (split counter tree).0 (sprout counter ticket answer) (split counter tree).1 =
-          subst (λ (t : Tree ℕ). grafted (sprout counter ticket answer) t ≡ fork (split counter t).0 (sprout counter ticket answer) (split counter t).1)
-          (sym opened.is) (rw (lt-ltb ticket node.ticket less)) in
-          MatchOption-none _ _ _ (ap top_value (sought-toward old link at key node counter comes leads got apart) ∙ sym missing) (record {
-            is_new = is_new;
-            regrows = subst (Regrows old new link tree) (sym is) grown;
-            len = hangs.len ∙ ap (λ n. n + 1) len;
-            opens = opened_list;
-          })

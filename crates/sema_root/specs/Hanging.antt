@@ -1,14 +1,13 @@
 -- Where a tree of nodes hangs, and what a walk that ends at one link leaves of the nodes. No public clause cites this.
-use Rattle.std.specs.Prelude.{◌≡◌, ◌≢◌, ◌==◌, ◌≤◌, ◌<◌, ◌+◌, ℕ, List, [], ◌∷◌, Option, Some, None, Bool, true, false, drop, slice_get, length, ltb, if◌then◌else◌}
+use Rattle.std.specs.Prelude.{◌≡◌, ◌≢◌, ◌==◌, ◌⊎◌, ◌^◌, ◌≤◌, ◌<◌, ◌+◌, ℕ, Option, Some, None, true, false, length, ltb, if◌then◌else◌}
 use Rattle.slab.specs.Slab.{get, ContainsKey, slab_len, Updates}
-use Rattle.waiters.specs.Lists.{Lists, waits_at, Changes}
-use Rattle.waiters.specs.declared.wait.Wait.{Wait}
+use Rattle.waiters.specs.Lists.{Lists, IsOpen, waits_at}
 use Rattle.sema_root.specs.declared.nodes.Node.{Node}
 use Rattle.sema_root.specs.declared.branches.Branches.{Branches}
 use Rattle.sema_root.specs.declared.listed.Listed.{Listed}
 use Rattle.sema_root.specs.declared.branches.Link.{Link}
 use Rattle.sema_root.specs.declared.branches.Link.TheVariants.{Top, Left, Right}
-use Rattle.sema_root.specs.Tree.{Sprig, Tree, size, entries, sought, top_value, IsTreap}
+use Rattle.sema_root.specs.Tree.{Sprig, Tree, leaf, fork, size, entries, sought, top_value, IsTreap}
 use Rattle.sema_root.specs.Planted.{Opens}
 use Rattle.sema_root.specs.Reshaping.{grafted, pruned}
 use Rattle.sema_root.specs.Linked.{sprig, tree_at, Holds, Lacks, IsSearchable}
@@ -97,10 +96,10 @@ pub record HangsNew (old new : Branches) (link : Link) (left right : Option ℕ)
   pub hangs : Hangs mid new link (Some key)
   pub len : slab_len new.nodes ≡ slab_len old.nodes + 1
 
--- a node with a new list was grafted on the tree at the link
-pub record Enters (old new : Branches) (link : Link) (tree : Tree ℕ) (counter ticket : ℕ) (old_lists new_lists : Lists) (listed : Listed) : Type 0 where
+-- a node with a new list was grafted on the tree
+pub record Enters (old new : Branches) (tree : Tree ℕ) (counter ticket : ℕ) (old_lists new_lists : Lists) (listed : Listed) : Type 0 where
   pub is_new : listed.is_new ≡ true
-  pub regrows : Regrows old new link tree (grafted (record { counter = counter; ticket = ticket; value = listed.list }) tree)
+  pub regrows : Regrows old new Top tree (grafted (record { counter = counter; ticket = ticket; value = listed.list }) tree)
   pub len : slab_len new.nodes ≡ slab_len old.nodes + 1
   pub opens : Opens old_lists new_lists listed.list
 
@@ -111,43 +110,19 @@ pub record IsFound (old new : Branches) (old_lists new_lists : Lists) (listed : 
   pub same : new ≡ old
   pub same_lists : new_lists ≡ old_lists
 
--- the first wait went, and the list with it where it was the last
-abbrev pub Pops : Lists → Lists → ℕ → List Wait → Bool → Type 0
-Pops old new key [] is_last = (is_last ≡ true) × Changes old new key None × (new.list_room ≡ old.list_room + 1)
-Pops old new key (wait ∷ rest) is_last = (is_last ≡ false) × Changes old new key (Some (wait ∷ rest)) × (new.list_room ≡ old.list_room)
-
--- no list was found, and nothing changed
-pub record IsMissing (old new : Branches) (old_lists new_lists : Lists) (wait : Option Wait) : Type 0 where
-  pub none : wait ≡ None
-  pub same : new ≡ old
-  pub same_lists : new_lists ≡ old_lists
-
--- the last wait went, with its list and its counter's node
-pub record Prunes (old new : Branches) (link : Link) (tree : Tree ℕ) (counter : ℕ) (old_lists new_lists : Lists) (key : ℕ) : Type 0 where
-  pub regrows : Regrows old new link tree (pruned counter tree)
+-- the counter's node went
+pub record Prunes (old new : Branches) (tree : Tree ℕ) (counter : ℕ) : Type 0 where
+  pub regrows : Regrows old new Top tree (pruned counter tree)
   pub len : slab_len new.nodes + 1 ≡ slab_len old.nodes
-  pub closed : Changes old_lists new_lists key None
-  pub list_room : new_lists.list_room ≡ old_lists.list_room + 1
 
--- the tree stays, and the list keeps these waits
-pub record Shortens (old new : Branches) (old_lists new_lists : Lists) (key : ℕ) (rest : List Wait) : Type 0 where
-  pub same : new ≡ old
-  pub kept : Changes old_lists new_lists key (Some rest)
-  pub list_room : new_lists.list_room ≡ old_lists.list_room
+-- the counter's node went if only one wait was left in this list, else nothing changed
+pub record Leaves (old new : Branches) (tree : Tree ℕ) (counter : ℕ) (lists : Lists) (key : ℕ) : Type 0 where
+  pub last : length (waits_at lists key) ≡ 1 → Prunes old new tree counter
+  pub others : length (waits_at lists key) ≢ 1 → new ≡ old
 
-abbrev pub Leaves : Branches → Branches → Link → Tree ℕ → ℕ → Lists → Lists → ℕ → List Wait → Type 0
-Leaves old new link tree counter old_lists new_lists key [] = Prunes old new link tree counter old_lists new_lists key
-Leaves old new link tree counter old_lists new_lists key (wait ∷ rest) = Shortens old new old_lists new_lists key (wait ∷ rest)
-
--- the first wait of a list was taken out
-pub record Takes (old new : Branches) (link : Link) (tree : Tree ℕ) (counter : ℕ) (old_lists new_lists : Lists) (wait : Option Wait) (key : ℕ) : Type 0 where
-  pub first : wait ≡ slice_get (waits_at old_lists key) 0
-  pub room : new_lists.room ≡ old_lists.room + 1
-  pub leaves : Leaves old new link tree counter old_lists new_lists key (drop 1 (waits_at old_lists key))
-
--- a counter's list has a wait, if the tree has the counter
-pub record IsFilled (tree : Tree ℕ) (counter : ℕ) (lists : Lists) : Type 0 where
-  pub filled : (key : ℕ) → top_value (sought counter tree) ≡ Some key → 0 < length (waits_at lists key)
+-- a counter's list is open, if the tree has the counter
+pub record IsListed (tree : Tree ℕ) (counter : ℕ) (lists : Lists) : Type 0 where
+  pub open_at : (key : ℕ) → top_value (sought counter tree) ≡ Some key → IsOpen lists key
 
 -- the treap of these branches can take as many nodes in all as were reserved
 pub record IsPlanted (branches : Branches) (reserved : ℕ) : Type 0 where
@@ -156,3 +131,31 @@ pub record IsPlanted (branches : Branches) (reserved : ℕ) : Type 0 where
   pub counted : size (tree_at branches.nodes branches.top) ≤ slab_len branches.nodes
   pub within : slab_len branches.nodes ≤ reserved
   pub fits : reserved ≤ branches.nodes.capacity
+
+-- a walk from the top for the counter, past no ticket larger than this, comes to this link: what becomes of the tree
+-- there by grafting or pruning becomes of the whole tree
+pub record Seeks (branches : Branches) (counter ticket : ℕ) (link : Link) (at : Option ℕ) : Type 0 where
+  pub comes : ComesTo branches link at counter
+  pub same : sought counter (tree_at branches.nodes branches.top) ≡ sought counter (tree_at branches.nodes at)
+  pub within : size (tree_at branches.nodes at) ≤ size (tree_at branches.nodes branches.top)
+  pub grafts : (new : Branches) (list : ℕ) → size (tree_at branches.nodes branches.top) < branches.nodes.capacity
+      → Regrows branches new link (tree_at branches.nodes at)
+      (grafted (record { counter = counter; ticket = ticket; value = list }) (tree_at branches.nodes at))
+      → Regrows branches new Top (tree_at branches.nodes branches.top)
+      (grafted (record { counter = counter; ticket = ticket; value = list }) (tree_at branches.nodes branches.top))
+  pub prunes : (new : Branches) → Regrows branches new link (tree_at branches.nodes at) (pruned counter (tree_at branches.nodes at))
+      → Regrows branches new Top (tree_at branches.nodes branches.top) (pruned counter (tree_at branches.nodes branches.top))
+
+-- a walk ends at this node: it is the counter's, or has a larger ticket
+abbrev pub IsEnd : ℕ → ℕ → Sprig ℕ → Type 0
+IsEnd counter ticket node = (node.counter ≡ counter) ⊎ ((ticket < node.ticket) × (node.ticket < 2 ^ 32))
+
+-- or at the empty tree
+abbrev pub EndsAt : ℕ → ℕ → Tree ℕ → Type 0
+EndsAt counter ticket leaf = Unit {0}
+EndsAt counter ticket (fork left node right) = IsEnd counter ticket node
+
+-- the walk ends where it came to
+pub record SeeksTo (branches : Branches) (counter ticket : ℕ) (link : Link) (at : Option ℕ) : Type 0 where
+  pub seeks : Seeks branches counter ticket link at
+  pub ends : EndsAt counter ticket (tree_at branches.nodes at)

@@ -1,16 +1,16 @@
-//! Walks down a treap that change it: each goes down once, and ends by writing the one link that it came through.
-ghost use Rattle.std.specs.Prelude.{◌≡◌, ◌+◌, ◌<◌, drop, length, slice_get, MatchOption, Some, None, true};
-ghost use Rattle.slab.specs.Slab.{get, slab_len, HasRoomFor};
-ghost use Rattle.waiters.specs.Lists.{waits_at};
+//! How a treap takes a counter in and gives one up: one walk goes down to where its node is or belongs, and what becomes
+//! of the tree there is hung at the one link that the walk came through.
+ghost use Rattle.std.specs.Prelude.{◌≡◌, ◌≢◌, ◌<◌, ◌≤◌, MatchBool, MatchOption, true};
+ghost use Rattle.slab.specs.Slab.{HasRoomFor};
 ghost use Rattle.sema_root.specs.Tree.{size, sought, top_value};
-ghost use Rattle.sema_root.specs.Linked.{tree_at};
-ghost use Rattle.sema_root.specs.Hanging.{ComesTo, Enters, Hangs, HangsNew, IsFilled, IsFound, IsMissing, IsThere, Pops, Takes, toward};
+ghost use Rattle.sema_root.specs.Linked.{sprig, tree_at};
+ghost use Rattle.sema_root.specs.Hanging.{ComesTo, Enters, Hangs, HangsNew, IsEnd, IsFound, IsListed, IsThere, Leaves, SeeksTo, toward};
 ghost use Rattle.sema_root.specs.Planted.{Opens};
 
 use crate::listed::Listed;
 use crate::nodes::{Node, list_of, merge, set_left, set_right, split};
 use slab::Slab;
-use waiters::{CounterId, ListKey, Lists, Wait};
+use waiters::{CounterId, ListKey, Lists};
 
 /// Nodes, and the topmost one.
 #[derive(Drop)]
@@ -42,8 +42,8 @@ fn hang(branches: &mut Branches, link: Link, tree: Option<usize>)
 
 // The side of a node on which a counter must be, and what hangs there.
 #[inline]
-fn toward(counter: CounterId, key: usize, node: Node) -> (Link, Option<usize>)
-    ensures { result ≡ toward counter key node }
+fn toward(counter: CounterId, key: usize, node: &Node) -> (Link, Option<usize>)
+    ensures { result ≡ toward counter key node.now }
 {
     if counter < node.counter {
         (Link::Left(key), node.left)
@@ -52,7 +52,35 @@ fn toward(counter: CounterId, key: usize, node: Node) -> (Link, Option<usize>)
     }
 }
 
+// Whether a walk for a counter ends at a node: it is the counter's, or has a larger ticket.
+#[inline]
+fn is_end(counter: CounterId, ticket: u32, node: &Node) -> bool
+    ensures { MatchBool result (IsEnd counter ticket (sprig node.now)) ((counter ≢ node.now.counter) × (node.now.ticket ≤ ticket)) }
+{
+    counter == node.counter || ticket < node.ticket
+}
+
+// Where a walk for a counter ends: at its node, or where a node with this ticket belongs.
+fn seek(branches: &Branches, counter: CounterId, ticket: u32) -> (Link, Option<usize>)
+    requires { ComesTo branches.now Link.Top branches.now.top counter }
+    ensures { SeeksTo branches.now counter ticket result.0 result.1 }
+{
+    let mut link = Link::Top;
+    let mut here = branches.top;
+    while let Some(key) = here {
+        let node = &branches.nodes[key];
+        if is_end(counter, ticket, node) {
+            return (link, here);
+        }
+        let (side, next) = toward(counter, key, node);
+        link = side;
+        here = next;
+    }
+    (link, here)
+}
+
 // Opens a list, and hangs a new node for it, with these two trees below it.
+#[inline(always)]
 fn enter(
     branches: &mut Branches,
     link: Link,
@@ -65,7 +93,8 @@ fn enter(
     requires there { IsThere branches.old link }
     requires list_room { 0 < lists.old.list_room }
     ensures is_new { result.is_new ≡ true }
-    ensures hangs { HangsNew branches.old branches.new link sides.0 sides.1 (record { counter = counter; ticket = ticket; value = result.list }) }
+    ensures hangs { HangsNew branches.old branches.new link sides.0 sides.1
+        (record { counter = counter; ticket = ticket; value = result.list }) }
     ensures opens { Opens lists.old lists.new result.list }
 {
     let list = lists.open();
@@ -82,39 +111,24 @@ fn enter(
     Listed { list, is_new: true }
 }
 
-// The list of a counter in the tree at a link, which is opened under a new node where there is none.
+// The list of a counter, which is opened under a new node where there is none.
 pub(crate) fn list_for(
     branches: &mut Branches,
-    link: Link,
-    at: Option<usize>,
     counter: CounterId,
     ticket: u32,
     lists: &mut Lists,
 ) -> Listed
-    requires comes { ComesTo branches.old link at counter }
+    requires comes { ComesTo branches.old Link.Top branches.old.top counter }
     requires room { HasRoomFor branches.old.nodes 1 }
-    requires fits { size (tree_at branches.old.nodes at) < branches.old.nodes.capacity }
+    requires fits { size (tree_at branches.old.nodes branches.old.top) < branches.old.nodes.capacity }
     requires list_room { 0 < lists.old.list_room }
-    ensures { let tree = tree_at branches.old.nodes at in
+    ensures { let tree = tree_at branches.old.nodes branches.old.top in
         MatchOption (top_value (sought counter tree))
-        (Enters branches.old branches.new link tree counter ticket lists.old lists.new result)
+        (Enters branches.old branches.new tree counter ticket lists.old lists.new result)
         (IsFound branches.old branches.new lists.old lists.new result) }
 {
-    let Some(key) = at else {
-        return enter(branches, link, (None, None), counter, ticket, lists);
-    };
-    let node = branches.nodes[key];
-    if counter == node.counter {
-        return Listed {
-            list: node.list,
-            is_new: false,
-        };
-    }
-    let (side, next) = toward(counter, key, node);
-    if node.ticket <= ticket {
-        return list_for(branches, side, next, counter, ticket, lists);
-    }
-    if let Some(list) = list_of(&branches.nodes, next, counter) {
+    let (link, at) = seek(branches, counter, ticket);
+    if let Some(list) = list_of(&branches.nodes, at, counter) {
         return Listed {
             list,
             is_new: false,
@@ -124,50 +138,23 @@ pub(crate) fn list_for(
     enter(branches, link, sides, counter, ticket, lists)
 }
 
-// Takes the first wait out of a list, closes the list where it was the last, and says whether it was.
-fn pop(lists: &mut Lists, list: ListKey) -> (Option<Wait>, bool)
-    requires { 0 < length (waits_at lists.old list) }
-    ensures first { result.0 ≡ slice_get (waits_at lists.old list) 0 }
-    ensures room { lists.new.room ≡ lists.old.room + 1 }
-    ensures rest { Pops lists.old lists.new list (drop 1 (waits_at lists.old list)) result.1 }
+// The list of a counter. Its node goes where only one wait is left in the list.
+pub(crate) fn leave(branches: &mut Branches, counter: CounterId, lists: &Lists) -> Option<ListKey>
+    requires comes { ComesTo branches.old Link.Top branches.old.top counter }
+    requires listed { IsListed (tree_at branches.old.nodes branches.old.top) counter lists.now }
+    ensures list { result ≡ top_value (sought counter (tree_at branches.old.nodes branches.old.top)) }
+    ensures leaves { let tree = tree_at branches.old.nodes branches.old.top in
+        MatchOption result (branches.new ≡ branches.old) (Leaves branches.old branches.new tree counter lists.now) }
 {
-    let wait = lists.pop_front(list);
-    if lists.len(list) > 0 {
-        return (wait, false);
-    }
-    lists.close(list);
-    (wait, true)
-}
-
-// Takes the first wait of a counter out of its list in the tree at a link, and with the last wait its node.
-pub(crate) fn take_first(
-    branches: &mut Branches,
-    link: Link,
-    at: Option<usize>,
-    counter: CounterId,
-    lists: &mut Lists,
-) -> Option<Wait>
-    requires comes { ComesTo branches.old link at counter }
-    requires filled { IsFilled (tree_at branches.old.nodes at) counter lists.old }
-    ensures { let tree = tree_at branches.old.nodes at in
-        MatchOption (top_value (sought counter tree))
-        (IsMissing branches.old branches.new lists.old lists.new result)
-        (Takes branches.old branches.new link tree counter lists.old lists.new result) }
-{
+    let (link, at) = seek(branches, counter, u32::MAX);
     let Some(key) = at else {
         return None;
     };
     let node = branches.nodes[key];
-    if counter != node.counter {
-        let (side, next) = toward(counter, key, node);
-        return take_first(branches, side, next, counter, lists);
+    if lists.len(node.list) == 1 {
+        branches.nodes.remove(key);
+        let rest = merge(&mut branches.nodes, node.left, node.right);
+        hang(branches, link, rest);
     }
-    let (wait, is_last) = pop(lists, node.list);
-    if !is_last {
-        return wait;
-    }
-    branches.nodes.remove(key);
-    let rest = merge(&mut branches.nodes, node.left, node.right);
-    hang(branches, link, rest);
-    wait
+    Some(node.list)
 }

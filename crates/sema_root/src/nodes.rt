@@ -24,23 +24,23 @@ pub(crate) struct Node {
 }
 
 // Where the counter's node is, in the tree below `top`.
-#[tactic(auto, using(crate::proofs::Standing::standing))]
 pub(crate) fn find(nodes: &Slab<Node>, top: Option<usize>, counter: CounterId) -> Option<usize>
     requires { Holds nodes.now top (tree_at nodes.now top) }
     ensures { Holds nodes.now result (sought counter (tree_at nodes.now top)) }
 {
-    let Some(at) = top else {
-        return None;
-    };
-    let node = &nodes[at];
-    if counter == node.counter {
-        return top;
+    let mut here = top;
+    while let Some(at) = here {
+        let node = &nodes[at];
+        if counter == node.counter {
+            return here;
+        }
+        here = if counter < node.counter {
+            node.left
+        } else {
+            node.right
+        };
     }
-    if counter < node.counter {
-        find(nodes, node.left, counter)
-    } else {
-        find(nodes, node.right, counter)
-    }
+    None
 }
 
 // The list of a counter, if it is in the tree below `top`.
