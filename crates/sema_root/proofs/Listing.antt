@@ -18,7 +18,8 @@ use Rattle.sema_root.proofs.Rising.{All-append}
 use Rattle.sema_root.proofs.Seeking.{entry, sought-here}
 use Rattle.sema_root.proofs.Splitting.{split-entries, split-size}
 use Rattle.sema_root.proofs.Grafting.{grafted-top}
-use Rattle.sema_root.proofs.Standing.{none_lacked, Opens, Opens-holds, Stands-kept, sought-open_left, sought-open_right, smaller_left, smaller_right}
+use Rattle.sema_root.proofs.Parting.{Splits-leaf}
+use Rattle.sema_root.proofs.Standing.{Holds-nothing, none_lacked, Opens, Opens-holds, Stands-kept, sought-open_left, sought-open_right, smaller_left, smaller_right}
 use Rattle.sema_root.proofs.Linking.{Lacks-parts, Keeps-both}
 use Rattle.sema_root.proofs.Hanging.{ComesTo-left, ComesTo-right, Regrows-left, Regrows-right, Regrows-hung}
 
@@ -148,3 +149,13 @@ module _ (old : Branches) (counter ticket : ℕ) (link : Link) (at : Option ℕ)
         len = hangs.len ∙ ap (λ n. n + 1) len;
         opens = opened;
       })
+
+  -- where it ended at nothing, no tree is split under the node
+  pub Enters-end : (new : Branches) → at ≡ None → size (tree_at old.nodes old.top) < old.nodes.capacity
+      → answer.is_new ≡ true → HangsNew old new link None None (sprout counter ticket answer) → Opened old_lists new_lists answer.list
+      → MatchOption (top_value (sought counter (tree_at old.nodes old.top)))
+      (Enters old new (tree_at old.nodes old.top) counter ticket old_lists new_lists answer) (IsFound old new old_lists new_lists answer)
+  Enters-end new none fits =
+      let holds = walked.seeks.comes.searchable.holds in
+      let is : tree_at old.nodes at ≡ leaf = Holds-nothing old.nodes at (tree_at old.nodes at) none holds in
+      Enters-there old new None None fits (sym (ap (λ (t : Tree ℕ). top_value (sought counter t)) is)) (Splits-leaf old.nodes at counter none holds) refl refl

@@ -61,6 +61,7 @@ fn is_end(counter: CounterId, ticket: u32, node: &Node) -> bool
 }
 
 // Where a walk for a counter ends: at its node, or where a node with this ticket belongs.
+#[inline(always)]
 fn seek(branches: &Branches, counter: CounterId, ticket: u32) -> (Link, Option<usize>)
     requires { ComesTo branches.now Link.Top branches.now.top counter }
     ensures { SeeksTo branches.now counter ticket result.0 result.1 }
@@ -112,6 +113,7 @@ fn enter(
 }
 
 // The list of a counter, which is opened under a new node where there is none.
+#[inline]
 pub(crate) fn list_for(
     branches: &mut Branches,
     counter: CounterId,
@@ -128,6 +130,9 @@ pub(crate) fn list_for(
         (IsFound branches.old branches.new lists.old lists.new result) }
 {
     let (link, at) = seek(branches, counter, ticket);
+    let Some(_) = at else {
+        return enter(branches, link, (None, None), counter, ticket, lists);
+    };
     if let Some(list) = list_of(&branches.nodes, at, counter) {
         return Listed {
             list,

@@ -24,6 +24,7 @@ pub(crate) struct Node {
 }
 
 // Where the counter's node is, in the tree below `top`.
+#[inline]
 pub(crate) fn find(nodes: &Slab<Node>, top: Option<usize>, counter: CounterId) -> Option<usize>
     requires { Holds nodes.now top (tree_at nodes.now top) }
     ensures { Holds nodes.now result (sought counter (tree_at nodes.now top)) }
@@ -44,6 +45,7 @@ pub(crate) fn find(nodes: &Slab<Node>, top: Option<usize>, counter: CounterId) -
 }
 
 // The list of a counter, if it is in the tree below `top`.
+#[inline]
 pub(crate) fn list_of(nodes: &Slab<Node>, top: Option<usize>, counter: CounterId) -> Option<ListKey>
     requires { Holds nodes.now top (tree_at nodes.now top) }
     ensures { result ≡ top_value (sought counter (tree_at nodes.now top)) }
