@@ -133,29 +133,30 @@ fn counters_of_a_root_are_apart(rt: HostRuntime) -> Result<(), Fail> {
 }
 
 #[test]
-fn who_can_step(rt: HostRuntime) -> Result<(), Fail> {
-    let two = scenario(rt.alloc(), &[acquire(), release()])?;
+fn a_held_lock_stops_the_other_seat(rt: HostRuntime) -> Result<(), Fail> {
+    let scenario = scenario(rt.alloc(), &[acquire(), release()])?;
     let before_the_lock = seats_again(rt.alloc(), &[0, 0, 0, 1, 1])?;
-    let mut world = run_again(rt.alloc(), &two, &before_the_lock)?;
-    assert!(rt; world.enabled(seat(0)));
-    assert!(rt; !world.enabled(seat(1)));
-    assert!(rt; !world.enabled(seat(2)));
-    assert!(rt; !world.enabled(seat(99)));
+    let mut world = run_again(rt.alloc(), &scenario, &before_the_lock)?;
+    for (number, can) in [(0, true), (1, false), (2, false), (99, false)] {
+        assert_eq!(rt; world.enabled(seat(number)), can);
+    }
     // seat 0 sees the unit and gives the lock back
     runs(&rt, &mut world, 0, &[Row::A5, Row::A6, Row::A8, Row::A9]);
     assert!(rt; !world.enabled(seat(0)));
     assert!(rt; world.enabled(seat(1)));
+    Ok(())
+}
 
-    let three = handoff_scenario(rt.alloc())?;
+#[test]
+fn a_sleeper_can_step_once_it_has_its_grant(rt: HostRuntime) -> Result<(), Fail> {
+    let scenario = handoff_scenario(rt.alloc())?;
     let before_the_last = seats_again(rt.alloc(), &HANDOFF[..19])?;
-    let mut world = run_again(rt.alloc(), &three, &before_the_last)?;
+    let world = run_again(rt.alloc(), &scenario, &before_the_last)?;
     assert_eq!(rt; phase(&rt, &world, 0), Phase::At(Row::P));
     assert_eq!(rt; phase(&rt, &world, 1), Phase::At(Row::P));
-    let can_step = [(0, true), (1, false), (2, false), (3, false)];
-    for (number, can) in can_step {
+    assert_eq!(rt; phase(&rt, &world, 2), Phase::Ended);
+    for (number, can) in [(0, true), (1, false), (2, false), (3, false)] {
         assert_eq!(rt; world.enabled(seat(number)), can);
     }
-    runs(&rt, &mut world, 0, &[Row::P]);
-    assert!(rt; !world.enabled(seat(0)));
     Ok(())
 }
