@@ -13,3 +13,4 @@ pub mod Law
 pub mod Scenario
 pub mod Run
 pub mod State
+pub mod Texts

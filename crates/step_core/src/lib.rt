@@ -52,3 +52,5 @@ pub use world::World;
 
 #[cfg(test)]
 mod tests;
+#[cfg(test)]
+mod turn_tests;

@@ -1,3 +1,6 @@
+ghost use Rattle.std.specs.Prelude.{Some};
+ghost use Rattle.step_core.specs.Texts.{step_refused_text, run_refused_text};
+
 use std::error::Error;
 use std::fmt;
 
@@ -19,6 +22,8 @@ pub enum StepRefused {
 }
 
 impl fmt::Display for StepRefused {
+    ghost output = { λ refused. Some (step_refused_text refused) };
+
     fn fmt<W: fmt::Write>(&self, f: &mut fmt::Formatter<W>) -> fmt::Result {
         f.write_str(match self {
             StepRefused::NoSuchSeat => "no such seat",
@@ -41,6 +46,8 @@ pub struct RunRefused {
 }
 
 impl fmt::Display for RunRefused {
+    ghost output = { λ refused. Some (run_refused_text refused) };
+
     fn fmt<W: fmt::Write>(&self, f: &mut fmt::Formatter<W>) -> fmt::Result {
         let at = self.at;
         let cause = self.cause;

@@ -1,8 +1,9 @@
 //! A scenario: how many roots, where the counters start, and the calls of each seat.
 
-ghost use Rattle.std.specs.Prelude.{◌≡◌, ◌<◌, ◌≤◌, ◌↔◌, ◌^◌, ℕ, IsTrue, All, IfOk, List, length, slice_index};
+ghost use Rattle.std.specs.Prelude.{◌≡◌, ◌<◌, ◌≤◌, ◌↔◌, ◌^◌, ℕ, IsTrue, All, IfOk, Some, List, length, slice_index};
 ghost use Rattle.step_core.specs.Run.{call_of};
 ghost use Rattle.step_core.specs.Scenario.{IsWithinLimits, IsDeclared, IsScript, IsRunnable, IsCallOn};
+ghost use Rattle.step_core.specs.Texts.{scenario_refused_text};
 
 use crate::call::Call;
 use crate::items::Items;
@@ -50,6 +51,8 @@ pub enum ScenarioRefused {
 }
 
 impl fmt::Display for ScenarioRefused {
+    ghost output = { λ refused. Some (scenario_refused_text refused) };
+
     fn fmt<W: fmt::Write>(&self, f: &mut fmt::Formatter<W>) -> fmt::Result {
         f.write_str(match self {
             ScenarioRefused::OutOfLimits => "out of limits",

@@ -1,15 +1,15 @@
 //! One row of the step table, run over the words, the lists, the seat's hand and the journal.
 
-ghost use Rattle.std.specs.Prelude.{◌≡◌, ◌≢◌, ◌<◌, ◌+◌, ◌^◌, ℕ, List, length, slice_get, OnOk, OnErr, IfOk, IfErr, vec_len, vec_capacity};
+ghost use Rattle.std.specs.Prelude.{◌≡◌, ◌≢◌, ◌<◌, ◌+◌, ◌^◌, ℕ, List, length, slice_get, OnOk, OnErr, IfOk, IfErr, IfSome, vec_len, vec_capacity};
 ghost use Rattle.step_core.specs.World.{lists_after, journal_after, hand_after};
 ghost use Rattle.step_core.specs.Table.{event_at};
 ghost use Rattle.step_core.specs.Run.{IsTold};
-ghost use Rattle.step_core.specs.State.{words_of, seat_of, root_of, HasWord, HasRoom, ListsBecome, HasRowsOf, row_finds, HasRun, IsRowRefusedBy, refused_by};
+ghost use Rattle.step_core.specs.State.{words_of, seat_of, root_of, HasWord, HasRoom, ListsBecome, Does, HasRowsOf, row_event, row_finds, HasRun, IsRowRefusedBy, refused_by};
 
 use crate::caller::Caller;
 use crate::entry::Entry;
 use crate::items::Items;
-use crate::outcome::Effect;
+use crate::outcome::{Effect, Outcome};
 use crate::refusal::StepRefused;
 use crate::shared::Shared;
 use crate::sight::Sight;
@@ -93,6 +93,40 @@ fn make(
     }
 }
 
+/// The word of the row at which the seat stands, and what the row does; `None` where its condition doesn't hold.
+fn look(
+    shared: &Shared,
+    hand: &Items<WaitId>,
+    seat: SeatId,
+    caller: &Caller,
+) -> (Word, Option<Outcome>)
+    requires rows { HasRowsOf shared.now seat caller.now.place (slice_get hand.now 0) }
+    requires fits { row_finds seat caller.now shared.now hand.now + 2 ^ 32 < 2 ^ 64 }
+    ensures word { result.0 ≡ (row_event seat caller.now shared.now hand.now).word }
+    ensures stored { HasWord shared.now result.0 }
+    ensures room { IfSome result.1 (λ outcome. HasRoom (length shared.now.lists) outcome.effect) }
+    ensures does { Does (row_event seat caller.now shared.now hand.now) (row_finds seat caller.now shared.now hand.now) result.1 }
+{
+    let sight = Sight {
+        listed: caller.listed(shared),
+        queued: caller.queued(shared),
+        in_hand: hand.first(),
+        held: hand.len(),
+    };
+    let word = caller.word(seat, &sight);
+    let found = shared.read(&word);
+    (word, caller.outcome(seat, &sight, found))
+}
+
+/// Whether the condition of the row holds at which the seat stands. A seat at rest has none that does.
+pub(crate) fn can_run(shared: &Shared, hand: &Items<WaitId>, seat: SeatId, caller: &Caller) -> bool
+    requires rows { HasRowsOf shared.now seat caller.now.place (slice_get hand.now 0) }
+    requires fits { row_finds seat caller.now shared.now hand.now + 2 ^ 32 < 2 ^ 64 }
+    ensures { result ≡ (row_event seat caller.now shared.now hand.now).can (row_finds seat caller.now shared.now hand.now) }
+{
+    look(shared, hand, seat, caller).1.is_some()
+}
+
 /// Runs the row at which the seat stands, and says where it stands then.
 pub(crate) fn run_row(
     shared: &mut Shared,
@@ -111,15 +145,8 @@ pub(crate) fn run_row(
     ensures same_journal { OnErr result (journal.new.items ≡ journal.old.items) }
     ensures why { IfErr result (λ cause. IsRowRefusedBy cause seat caller.now shared.old hand.old) }
 {
-    let sight = Sight {
-        listed: caller.listed(shared),
-        queued: caller.queued(shared),
-        in_hand: hand.first(),
-        held: hand.len(),
-    };
-    let word = caller.word(seat, &sight);
-    let found = shared.read(&word);
-    let Some(outcome) = caller.outcome(seat, &sight, found) else {
+    let (word, outcome) = look(shared, hand, seat, caller);
+    let Some(outcome) = outcome else {
         return Err(refused_by(&word));
     };
     if make(shared, hand, journal, &outcome.effect).is_err() {

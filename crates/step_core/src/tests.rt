@@ -14,13 +14,13 @@ use std::process::Abort;
 use std::test::Fail;
 use waiters::{CounterId, NoMemory, SeatId, WaitId};
 
-const COUNTER: u32 = 0;
+pub(crate) const COUNTER: u32 = 0;
 
-fn acquire() -> Call {
+pub(crate) fn acquire() -> Call {
     Call::Acquire(CounterId::new(COUNTER), false)
 }
 
-fn release() -> Call {
+pub(crate) fn release() -> Call {
     Call::Release(CounterId::new(COUNTER), false)
 }
 
@@ -28,20 +28,20 @@ fn release_many(counter: u32, units: u32) -> Call {
     Call::ReleaseMany(CounterId::new(counter), units)
 }
 
-fn seat(number: u16) -> SeatId
+pub(crate) fn seat(number: u16) -> SeatId
     ensures { result ≡ number }
 {
     SeatId::new(number)
 }
 
-fn wait(number: u16, turn: u64) -> WaitId {
+pub(crate) fn wait(number: u16, turn: u64) -> WaitId {
     WaitId {
         seat: seat(number),
         turn,
     }
 }
 
-fn script(alloc: Global, call: &Call, times: usize) -> Result<Items<Call>, AllocError> {
+pub(crate) fn script(alloc: Global, call: &Call, times: usize) -> Result<Items<Call>, AllocError> {
     let mut calls = Vec::new(alloc);
     for _ in 0..times {
         calls.push(*call)?;
@@ -64,7 +64,7 @@ fn parts(alloc: Global, calls: &[Call]) -> Result<Parts, AllocError> {
     })
 }
 
-fn scenario(alloc: Global, calls: &[Call]) -> Result<Scenario, Fail> {
+pub(crate) fn scenario(alloc: Global, calls: &[Call]) -> Result<Scenario, Fail> {
     let made = match parts(alloc, calls) {
         Ok(made) => made,
         Err(_) => parts(alloc, calls)?,
@@ -76,7 +76,7 @@ fn seats(alloc: Global, schedule: &[u16]) -> Result<Vec<SeatId>, AllocError> {
     schedule.iter().map(|number| seat(*number)).collect(alloc)
 }
 
-fn seats_again(alloc: Global, schedule: &[u16]) -> Result<Vec<SeatId>, AllocError> {
+pub(crate) fn seats_again(alloc: Global, schedule: &[u16]) -> Result<Vec<SeatId>, AllocError> {
     match seats(alloc, schedule) {
         Ok(seats) => Ok(seats),
         Err(_) => seats(alloc, schedule),
@@ -84,7 +84,7 @@ fn seats_again(alloc: Global, schedule: &[u16]) -> Result<Vec<SeatId>, AllocErro
 }
 
 /// Runs the schedule, once more where memory was refused.
-fn run_again<'s>(
+pub(crate) fn run_again<'s>(
     alloc: Global,
     scenario: &'s Scenario,
     schedule: &[SeatId],
@@ -101,7 +101,7 @@ fn run_again<'s>(
 }
 
 /// The world at the start, asked for once more where memory was refused.
-fn new_again<'s>(alloc: Global, scenario: &'s Scenario) -> Result<World<'s>, NoMemory> {
+pub(crate) fn new_again<'s>(alloc: Global, scenario: &'s Scenario) -> Result<World<'s>, NoMemory> {
     match World::new(alloc, scenario) {
         Err(NoMemory) => World::new(alloc, scenario),
         answer => answer,
@@ -109,29 +109,42 @@ fn new_again<'s>(alloc: Global, scenario: &'s Scenario) -> Result<World<'s>, NoM
 }
 
 /// Makes one step, once more where memory was refused.
-fn step_again(world: &mut World<'_>, number: u16) -> Result<(), StepRefused> {
+pub(crate) fn step_again(world: &mut World<'_>, number: u16) -> Result<(), StepRefused> {
     match world.step(seat(number)) {
         Err(StepRefused::NoMemory) => world.step(seat(number)),
         answer => answer,
     }
 }
 
-fn phase(rt: &impl Abort, world: &World<'_>, number: u16) -> Phase {
+pub(crate) fn phase(rt: &impl Abort, world: &World<'_>, number: u16) -> Phase {
     assert!(rt; (number as usize) < world.scenario().seats());
     world.phase(seat(number))
 }
 
+pub(crate) fn value_of(rt: &impl Abort, world: &World<'_>, counter: u32) -> u64 {
+    assert!(rt; (counter as usize) < world.scenario().counters());
+    world.value(CounterId::new(counter))
+}
+
 fn value(rt: &impl Abort, world: &World<'_>) -> u64 {
-    assert!(rt; (COUNTER as usize) < world.scenario().counters());
-    world.value(CounterId::new(COUNTER))
+    value_of(rt, world, COUNTER)
+}
+
+pub(crate) fn waiting_on(
+    rt: &impl Abort,
+    alloc: Global,
+    world: &World<'_>,
+    counter: u32,
+) -> Result<Vec<WaitId>, Fail> {
+    assert!(rt; (counter as usize) < world.scenario().counters());
+    match world.waiting(alloc, CounterId::new(counter)) {
+        Ok(waits) => Ok(waits),
+        Err(_) => Ok(world.waiting(alloc, CounterId::new(counter))?),
+    }
 }
 
 fn waiting(rt: &impl Abort, alloc: Global, world: &World<'_>) -> Result<Vec<WaitId>, Fail> {
-    assert!(rt; (COUNTER as usize) < world.scenario().counters());
-    match world.waiting(alloc, CounterId::new(COUNTER)) {
-        Ok(waits) => Ok(waits),
-        Err(_) => Ok(world.waiting(alloc, CounterId::new(COUNTER))?),
-    }
+    waiting_on(rt, alloc, world, COUNTER)
 }
 
 #[test]
@@ -167,9 +180,9 @@ fn a_release_reaches_the_second_look(rt: HostRuntime) -> Result<(), Fail> {
 }
 
 /// Seats 0 and 1 sleep, seat 2 hands its unit to the first of them.
-const HANDOFF: [u16; 20] = [0, 0, 0, 0, 0, 1, 1, 1, 1, 1, 2, 2, 2, 2, 2, 2, 2, 2, 2, 0];
+pub(crate) const HANDOFF: [u16; 20] = [0, 0, 0, 0, 0, 1, 1, 1, 1, 1, 2, 2, 2, 2, 2, 2, 2, 2, 2, 0];
 
-fn handoff_scenario(alloc: Global) -> Result<Scenario, Fail> {
+pub(crate) fn handoff_scenario(alloc: Global) -> Result<Scenario, Fail> {
     let release = Call::Release(CounterId::new(COUNTER), true);
     scenario(alloc, &[acquire(), acquire(), release])
 }
