@@ -15,7 +15,8 @@ pub record Planted : Type 0 where
 -- a treap is stored as the pair of its fields
 abbrev pub planted_code : Coded Planted
 planted_code =
-    code_by (Tree ℕ × ℕ) (coded× (tree_code coded_ℕ) coded_ℕ) (λ t. (t.tree, t.room)) (λ p. record { tree = p.0; room = p.1 }) (λ _. refl)
+    code_by (Tree ℕ × ℕ) (coded× (tree_code coded_ℕ) coded_ℕ)
+    (λ t. (t.tree, t.room)) (λ p. record { tree = p.0; room = p.1 }) (λ _. refl)
 
 -- an empty list was opened under this key
 pub record Opens (old new : Lists) (key : ℕ) : Type 0 where

@@ -47,7 +47,7 @@ ticket_of tree counter = entry_of counter (map (λ entry. (entry.0, entry.1.0)) 
 abbrev pub as_ticket : ℕ → ℕ
 as_ticket word = bit_or (word % 2 ^ 32) 1
 
--- a ticket is the generator's next word
+-- the ticket of the generator's next word, and the state behind that word
 abbrev pub drawn_from : List ℕ → Tickets
 drawn_from generator = let drawn = plus_plus generator in record { next = as_ticket drawn.0; generator = drawn.1 }
 

@@ -29,7 +29,7 @@ module _ {V : Type 0} where
   top_counter leaf = None
   top_counter (fork _ node _) = Some node.counter
 
-  -- the subtree below a counter, found down the side where the counter must be
+  -- the subtree that has the counter's node on top, found down the side where the counter must be
   abbrev pub sought : ℕ → Tree V → Tree V
   sought counter leaf = leaf
   sought counter (fork left node right) =

@@ -46,4 +46,5 @@ module _ {V : Type 0} where
   -- the code of a tree, from the code of what it holds
   abbrev pub tree_code : Coded V → Coded (Tree V)
   tree_code code =
-      code_by (List (Option (ℕ × (ℕ × V)))) (coded_list (coded_option (coded× coded_ℕ (coded× coded_ℕ code)))) flat grown grown-flat
+      code_by (List (Option (ℕ × (ℕ × V))))
+      (coded_list (coded_option (coded× coded_ℕ (coded× coded_ℕ code)))) flat grown grown-flat

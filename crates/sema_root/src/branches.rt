@@ -1,5 +1,6 @@
 //! How a treap takes a counter in and gives one up: one walk goes down to where its node is or belongs, and what becomes
-//! of the tree there is hung at the one link that the walk came through.
+//! of the tree there is hung at the one link that the walk came through. A counter that would come in above others is
+//! first looked for below them.
 ghost use Rattle.std.specs.Prelude.{◌≡◌, ◌≢◌, ◌<◌, ◌≤◌, MatchBool, MatchOption, true};
 ghost use Rattle.slab.specs.Slab.{HasRoomFor};
 ghost use Rattle.sema_root.specs.Tree.{size, sought, top_value};

@@ -1,4 +1,4 @@
-//! The nodes of a treap, in records that are reserved once and linked by index, and the four walks over them.
+//! The nodes of a treap, in records that are reserved once and linked by index, and three walks over them.
 //!
 //! Removal goes as by Go's rotations: of a node's two children the one with the smaller ticket comes up until the
 //! node is a leaf. [`merge`] leaves that very tree and writes one link a turn where a rotation writes three; with
@@ -87,7 +87,8 @@ pub(crate) fn place_of(nodes: &Slab<Node>, top: Option<usize>, counter: CounterI
 #[inline]
 pub(crate) fn set_left(nodes: &mut Slab<Node>, at: usize, link: Option<usize>)
     requires { ContainsKey nodes.old at }
-    ensures left { (node : Node) → get nodes.old at ≡ Some node → Updates nodes.old nodes.new at (Some (record node { left = link })) }
+    ensures left { (node : Node) → get nodes.old at ≡ Some node
+        → Updates nodes.old nodes.new at (Some (record node { left = link })) }
     ensures len { slab_len nodes.new ≡ slab_len nodes.old }
     ensures capacity { nodes.new.capacity ≡ nodes.old.capacity }
 {
@@ -98,7 +99,8 @@ pub(crate) fn set_left(nodes: &mut Slab<Node>, at: usize, link: Option<usize>)
 #[inline]
 pub(crate) fn set_right(nodes: &mut Slab<Node>, at: usize, link: Option<usize>)
     requires { ContainsKey nodes.old at }
-    ensures right { (node : Node) → get nodes.old at ≡ Some node → Updates nodes.old nodes.new at (Some (record node { right = link })) }
+    ensures right { (node : Node) → get nodes.old at ≡ Some node
+        → Updates nodes.old nodes.new at (Some (record node { right = link })) }
     ensures len { slab_len nodes.new ≡ slab_len nodes.old }
     ensures capacity { nodes.new.capacity ≡ nodes.old.capacity }
 {

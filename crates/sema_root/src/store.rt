@@ -18,6 +18,7 @@ pub trait RootStore {
         ensures queued { Changes (queues self.old) (queues self.new) counter
             (joined_by lifo wait (waits_on (queues self.old) counter)) }
         ensures count { total (queues self.new) ≡ total (queues self.old) + 1 }
+        ensures map { AreQueues (queues self.new) }
         ensures seats { seats self.new ≡ seats self.old };
 
     /// Takes the first wait out of its counter's queue, if there is one (Go's `semaRoot.dequeue`).
@@ -27,13 +28,14 @@ pub trait RootStore {
             (drop 1 (waits_on (queues self.old) counter)) }
         ensures count { OnSome result (total (queues self.new) + 1 ≡ total (queues self.old)) }
         ensures none { IfNone result (self.new ≡ self.old) }
+        ensures map { AreQueues (queues self.new) }
         ensures seats { seats self.new ≡ seats self.old };
 
     /// How many waits are in, on all counters together.
     fn count(&self) -> usize
         ensures count { result ≡ total (queues self.now) }
         ensures fits { total (queues self.now) ≤ seats self.now }
-        ensures queues { AreQueues (queues self.now) };
+        ensures map { AreQueues (queues self.now) };
 
     /// How many wait on a counter.
     fn waiting(&self, counter: CounterId) -> usize

@@ -145,6 +145,7 @@ fn places_are_in_the_order_of_counters(rt: HostRuntime) -> Result<(), Fail> {
     queue(&mut root, 3, wait(1), false);
     assert_eq!(rt; counters(alloc, &root)?.as_slice(), [3, 5].as_slice());
     queue(&mut root, 9, wait(2), false);
+    assert_eq!(rt; counters(alloc, &root)?.as_slice(), [3, 5, 9].as_slice());
     queue(&mut root, 3, wait(3), true);
     assert_eq!(rt; counters(alloc, &root)?.as_slice(), [3, 5, 9].as_slice());
     root.dequeue(counter(3));
@@ -155,7 +156,7 @@ fn places_are_in_the_order_of_counters(rt: HostRuntime) -> Result<(), Fail> {
 }
 
 #[test]
-fn both_roots_answer_as_a_plain_model(rt: HostRuntime) -> Result<(), Fail> {
+fn both_roots_answer_as_each_other(rt: HostRuntime) -> Result<(), Fail> {
     let alloc = rt.alloc();
     let mut sorted = sorted_again(alloc, 16)?;
     let mut treap = treap_again(alloc, 16, 1)?;

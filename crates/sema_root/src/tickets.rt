@@ -1,5 +1,5 @@
 ghost use Rattle.std.specs.Prelude.{◌≡◌};
-ghost use Rattle.sema_root.specs.Treap.{as_ticket, drawn_from, tickets_from};
+ghost use Rattle.sema_root.specs.Treap.{drawn_from, tickets_from};
 
 use rand_core::SeedableRng;
 use rand_core::utils::NextWord;

@@ -3,7 +3,7 @@
 //! A node's ticket is the low 32 bits of the generator's next word with the lowest bit set. The generator starts as
 //! `seed_from_u64(seed)`, and a word is used for each node and for nothing else. A counter keeps its node, and so its
 //! ticket, while it has waits.
-ghost use Rattle.std.specs.Prelude.{◌≡◌, ◌<◌, ◌+◌, MatchOption, IfOk, IfNone, OnSome, drop, length, slice_get};
+ghost use Rattle.std.specs.Prelude.{◌≡◌, ◌<◌, ◌+◌, MatchOption, IfOk, IfNone, OnSome, drop, slice_get};
 ghost use Rattle.sema_root.specs.Queues.{waits_on, total, AreQueues, joined_by, Changes};
 ghost use Rattle.sema_root.specs.Rooted.{Comes, IsIn};
 ghost use Rattle.sema_root.specs.Tree.{leaf, top_counter, top_place, top_value, sought, IsTreap};
@@ -67,7 +67,8 @@ impl TreapRoot {
 
     /// The node of a counter, `None` where nobody waits on it.
     pub fn place(&self, counter: CounterId) -> Option<Place>
-        ensures { result ≡ top_place (sought counter self.now.tree) }
+        ensures place { result ≡ top_place (sought counter self.now.tree) }
+        ensures treap { IsTreap self.now.tree }
     {
         self.treap.place(counter)
     }
@@ -83,6 +84,7 @@ impl RootStore for TreapRoot {
         ensures queued { Changes (queues_of self.old.tree) (queues_of self.new.tree) counter
             (joined_by lifo wait (waits_on (queues_of self.old.tree) counter)) }
         ensures count { total (queues_of self.new.tree) ≡ total (queues_of self.old.tree) + 1 }
+        ensures map { AreQueues (queues_of self.new.tree) }
         ensures seats { self.new.seats ≡ self.old.seats }
         ensures kept { KeepsTickets self.old.tree self.new.tree }
         ensures drawn { Draws self.old self.new counter }
@@ -97,6 +99,7 @@ impl RootStore for TreapRoot {
             (drop 1 (waits_on (queues_of self.old.tree) counter)) }
         ensures count { OnSome result (total (queues_of self.new.tree) + 1 ≡ total (queues_of self.old.tree)) }
         ensures none { IfNone result (self.new ≡ self.old) }
+        ensures map { AreQueues (queues_of self.new.tree) }
         ensures seats { self.new.seats ≡ self.old.seats }
         ensures kept { KeepsTickets self.old.tree self.new.tree }
         ensures undrawn { self.new.tickets ≡ self.old.tickets }

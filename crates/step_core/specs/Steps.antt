@@ -56,7 +56,8 @@ pub data Choice (counters : ℕ) : Place → Place → Type 0 where
   acquire : (a : Acquire) → a.counter < counters → Choice counters Rest (Acquiring a A1)
   enter : (a : Acquire) → a.counter < counters → Choice counters Rest (Acquiring a A3)
   release : (r : Release) → r.counter < counters → Choice counters Rest (Releasing r R1)
-  release_many : (r : ReleaseMany) → r.counter < counters → 1 ≤ r.units → r.units ≤ 256 → Choice counters Rest (ReleasingMany r M1)
+  release_many : (r : ReleaseMany) → r.counter < counters → 1 ≤ r.units → r.units ≤ 256
+      → Choice counters Rest (ReleasingMany r M1)
   give_up : (a : Acquire) → Choice counters (Acquiring a A1) Rest
   give_up_lock : (a : Acquire) → Choice counters (Acquiring a A3) Rest
   decide : (r : Release) (handoff : Bool) → Choice counters (Releasing r R3) (Releasing (record r { handoff = handoff }) R3)

@@ -28,7 +28,8 @@ listed records chains = map (waits_in records) chains.slots
 abbrev pub Linked : Slab Record → Option ℕ → List (ℕ × Wait) → Option ℕ → Type 0
 Linked records here [] there = here ≡ there
 Linked records here (entry ∷ rest) there =
-    (next : Option ℕ) × (here ≡ Some entry.0) × (get records entry.0 ≡ Some (record { wait = entry.1; next = next })) × Linked records next rest there
+    (next : Option ℕ) × (here ≡ Some entry.0) × (get records entry.0 ≡ Some (record { wait = entry.1; next = next }))
+    × Linked records next rest there
 
 -- the key of the last of these records, or `None` where there is none
 abbrev pub last_key : List (ℕ × Wait) → Option ℕ

@@ -3,8 +3,6 @@
 //! A call that answers want of memory is made once more. So each test passes whichever single allocation is refused
 //! (`rt try --test --fail-alloc N`, for each N), and shows that a refused call can be made again.
 
-ghost use Rattle.std.specs.Prelude.{◌≡◌};
-
 use crate::{CounterId, ListKey, Lists, NoMemory, SeatId, Wait, WaitId};
 use std::alloc::Global;
 use std::process::Abort;

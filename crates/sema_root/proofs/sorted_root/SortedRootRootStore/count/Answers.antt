@@ -3,5 +3,5 @@ use Rattle.sema_root.specs.Queues.{AreQueues}
 use Rattle.sema_root.proofs.Joining.{joined-queues}
 use Rattle.sema_root.proofs.sorted_root.SortedRootRootStore.count.Goals as goal
 
-pub returns-clause-queues : goal.returns-clause-queues
-returns-clause-queues c = subst (λ root. AreQueues root.queues) c.self.view_is (joined-queues c.self.invariant.joined)
+pub returns-clause-map : goal.returns-clause-map
+returns-clause-map c = subst (λ root. AreQueues root.queues) c.self.view_is (joined-queues c.self.invariant.joined)

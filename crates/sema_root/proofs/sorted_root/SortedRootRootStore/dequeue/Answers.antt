@@ -1,7 +1,7 @@
 use Rattle.std.proofs.Common.{◌≡◌, subst, sym, ap, ◌∙◌, [], slice_get, arith}
 use Rattle.sema_root.specs.Queues.{waits_on}
 use Rattle.sema_root.specs.Search.{pairs, IsAt, IsGapFor}
-use Rattle.sema_root.proofs.Joining.{joined-open, waits_on-absent}
+use Rattle.sema_root.proofs.Joining.{joined-queues, joined-open, waits_on-absent}
 use Rattle.sema_root.proofs.Searching.{found_list, absent_entry, removes_at}
 use Rattle.sema_root.proofs.Queueing.{Dequeued, dequeued_beside, dequeued_last, nothing_taken, on_some_from, if_none_from}
 use Rattle.sema_root.proofs.sorted_root.SortedRootRootStore.dequeue.Goals as goal
@@ -75,3 +75,12 @@ returns-in_default-clause-first c = ap (λ waits. slice_get waits 0) (sym (nobod
 
 pub returns-in_default-clause-rest : goal.returns-in_default-clause-rest
 returns-in_default-clause-rest c = nothing_taken c.args.self.now.queues c.args.counter (nobody c)
+
+pub returns-else-len-eq0-clause-map : goal.returns-else-len-eq0-clause-map
+returns-else-len-eq0-clause-map c = joined-queues (stays c).joined
+
+pub returns-then-len-eq0-clause-map : goal.returns-then-len-eq0-clause-map
+returns-then-len-eq0-clause-map c = joined-queues (goes c).joined
+
+pub returns-in_default-clause-map : goal.returns-in_default-clause-map
+returns-in_default-clause-map c = rw (← c.self.view_is) (joined-queues c.self.invariant.joined)

@@ -3,7 +3,7 @@ use Rattle.std.specs.List.{insert}
 use Rattle.sema_root.specs.declared.sorted_root.Entry.{Entry}
 use Rattle.sema_root.specs.Queues.{total}
 use Rattle.sema_root.specs.Search.{pairs, IsAt, IsGapFor}
-use Rattle.sema_root.proofs.Joining.{joined-open, joined-list_room}
+use Rattle.sema_root.proofs.Joining.{joined-queues, joined-open, joined-list_room}
 use Rattle.sema_root.proofs.Searching.{found_list, adds_at}
 use Rattle.sema_root.proofs.Queueing.{Queued, queued_beside, queued_first}
 use Rattle.sema_root.proofs.sorted_root.SortedRootRootStore.queue.Goals as goal
@@ -53,3 +53,9 @@ returns-in-Err-clause-queued c = rw (← c.self.view_is) (comes c).queued
 
 pub returns-in-Err-clause-count : goal.returns-in-Err-clause-count
 returns-in-Err-clause-count c = rw (← c.self.view_is) (comes c).count
+
+pub returns-in-Ok-clause-map : goal.returns-in-Ok-clause-map
+returns-in-Ok-clause-map c = joined-queues (joins c).joined
+
+pub returns-in-Err-clause-map : goal.returns-in-Err-clause-map
+returns-in-Err-clause-map c = joined-queues (comes c).joined

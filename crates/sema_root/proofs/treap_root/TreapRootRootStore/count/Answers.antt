@@ -9,5 +9,5 @@ returns-clause-count c =
 pub returns-clause-fits : goal.returns-clause-fits
 returns-clause-fits c = rw (← c.self.view_is) (omega (arith, shown-total c.self.invariant, c.self.invariant.joined.room))
 
-pub returns-clause-queues : goal.returns-clause-queues
-returns-clause-queues c = rw (← c.self.view_is) (shown-are_queues c.self.invariant)
+pub returns-clause-map : goal.returns-clause-map
+returns-clause-map c = rw (← c.self.view_is) (shown-are_queues c.self.invariant)

@@ -2,7 +2,7 @@ use Rattle.std.proofs.Common.{◌≡◌, sym, ap, ◌∙◌, arith, [], slice_ge
 use Rattle.sema_root.specs.Queues.{waits_on}
 use Rattle.sema_root.specs.Rooted.{shown}
 use Rattle.sema_root.specs.Treap.{queues_of}
-use Rattle.sema_root.proofs.Growing.{DequeuedOn, dequeued_alone, dequeued_among, rooted-open, rooted-nobody}
+use Rattle.sema_root.proofs.Growing.{DequeuedOn, dequeued_alone, dequeued_among, rooted-open, rooted-nobody, shown-are_queues}
 use Rattle.sema_root.proofs.Queueing.{nothing_taken, on_some_from, if_none_from}
 use Rattle.sema_root.proofs.treap_root.TreapRootRootStore.dequeue.Goals as goal
 use Rattle.sema_root.proofs.treap_root.TreapRootRootStore.dequeue.Goals.{After-close, Else-len-eq0, In_default}
@@ -82,3 +82,12 @@ returns-in_default-clause-first c = ap (λ waits. slice_get waits 0) (sym (nobod
 pub returns-in_default-clause-rest : goal.returns-in_default-clause-rest
 returns-in_default-clause-rest c =
     rw (ap (λ root. queues_of root.tree) (same c)) (nothing_taken (queues_of c.args.self.now.tree) c.args.counter (nobody c))
+
+pub returns-else-len-eq0-clause-map : goal.returns-else-len-eq0-clause-map
+returns-else-len-eq0-clause-map c = shown-are_queues (stays c).rooted
+
+pub returns-then-len-eq0-clause-map : goal.returns-then-len-eq0-clause-map
+returns-then-len-eq0-clause-map c = shown-are_queues (goes c).rooted
+
+pub returns-in_default-clause-map : goal.returns-in_default-clause-map
+returns-in_default-clause-map c = rw (ap (λ root. queues_of root.tree) (same c ∙ sym c.self.view_is)) (shown-are_queues c.self.invariant)

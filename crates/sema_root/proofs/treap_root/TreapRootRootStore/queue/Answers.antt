@@ -1,7 +1,7 @@
 use Rattle.std.proofs.Common.{◌<◌, refl, sym, subst, arith}
 use Rattle.sema_root.specs.Queues.{total}
 use Rattle.sema_root.specs.Treap.{queues_of}
-use Rattle.sema_root.proofs.Growing.{QueuedOn, queued_so, open_for, rooted-room, rooted-list_room, rooted-wait_room}
+use Rattle.sema_root.proofs.Growing.{shown-are_queues, QueuedOn, queued_so, open_for, rooted-room, rooted-list_room, rooted-wait_room}
 use Rattle.sema_root.proofs.treap_root.TreapRootRootStore.queue.Goals as goal
 use Rattle.sema_root.proofs.treap_root.TreapRootRootStore.queue.Goals.{After-push}
 
@@ -46,3 +46,6 @@ returns-clause-kept c = rw (← c.self.view_is) (queued c).kept
 
 pub returns-clause-drawn : goal.returns-clause-drawn
 returns-clause-drawn c = rw (← c.self.view_is) (queued c).drawn
+
+pub returns-clause-map : goal.returns-clause-map
+returns-clause-map c = shown-are_queues (queued c).rooted
