@@ -135,9 +135,6 @@ pub top_value-some : (nodes : Slab Node) (link : Option ℕ) (at : ℕ) (node : 
     → get nodes at ≡ Some node → Holds nodes link tree → top_value tree ≡ Some node.list
 top_value-some nodes link at node tree leads got holds = ap top_value (Opens-holds nodes link at node tree leads got holds).is
 
--- what a walk down a tree cites
-pub ruleset standing = (Opens-holds, Holds-occupied, Holds-nothing)
-
 -- a search from a node that stands goes on below it
 module _ (nodes : Slab Node) (node : Node) (tree : Tree ℕ) (opens : Opens nodes node tree) (counter : ℕ) where
   pub sought-open_here : counter ≡ node.counter → sought counter tree ≡ tree

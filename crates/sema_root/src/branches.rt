@@ -70,11 +70,11 @@ fn seek(branches: &Branches, counter: CounterId, ticket: u32) -> (Link, Option<u
     let mut link = Link::Top;
     let mut here = branches.top;
     while let Some(key) = here {
-        let node = &branches.nodes[key];
-        if is_end(counter, ticket, node) {
+        let node = branches.nodes[key];
+        if is_end(counter, ticket, &node) {
             return (link, here);
         }
-        let (side, next) = toward(counter, key, node);
+        let (side, next) = toward(counter, key, &node);
         link = side;
         here = next;
     }

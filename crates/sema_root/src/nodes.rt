@@ -31,7 +31,7 @@ pub(crate) fn find(nodes: &Slab<Node>, top: Option<usize>, counter: CounterId) -
 {
     let mut here = top;
     while let Some(at) = here {
-        let node = &nodes[at];
+        let node = nodes[at];
         if counter == node.counter {
             return here;
         }
