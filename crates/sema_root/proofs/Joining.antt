@@ -1,5 +1,5 @@
 -- What a change of one list does to the queues of all counters, whatever keeps the entries.
-use Rattle.std.proofs.Common.{◌≡◌, ◌≢◌, ◌==◌, ℕ, ◌+◌, ◌-◌, ◌<◌, ◌≤◌, Bool, true, false, List, [], ◌∷◌, ◌++◌, Option, Some, None, IsSome, length, if◌then◌else◌}
+use Rattle.std.proofs.Common.{◌≡◌, ◌≢◌, ◌==◌, ℕ, ◌+◌, ◌<◌, ◌≤◌, Bool, true, false, List, [], ◌∷◌, ◌++◌, Option, Some, None, IsSome, length, if◌then◌else◌}
 use Rattle.std.proofs.Common.{refl, sym, ap, ◌∙◌, subst, arith, eqb-true, unwrap_or}
 use Rattle.std.specs.List.{AllByRecursion}
 use Rattle.waiters.specs.declared.wait.Wait.{Wait}
@@ -188,17 +188,6 @@ module _ {lists : Lists} {entries : List (ℕ × ℕ)} {seats : ℕ} (joined : A
   -- no more counters are in than waits
   pub joined-length : length entries ≤ total (queues_in lists entries)
   joined-length = entries_le_total lists entries joined.waited
-
-  -- the waits that are in are the seats without the room
-  pub joined-total : total (queues_in lists entries) ≡ seats - lists.room
-  joined-total = omega (arith, joined.room)
-
-  pub joined-total_le : total (queues_in lists entries) ≤ seats
-  joined-total_le = omega (arith, joined.room)
-
-  -- and the room is the seats without them
-  pub joined-room_is : lists.room ≡ seats - total (queues_in lists entries)
-  joined-room_is = omega (arith, joined.room)
 
   -- while a seat is free, a wait fits
   pub joined-room : total (queues_in lists entries) < seats → 0 < lists.room

@@ -4,7 +4,7 @@ use Rattle.std.proofs.Common.{refl, sym, ap, ◌∙◌, subst}
 use Rattle.std.proofs.lemmas.List.{map-append}
 use Rattle.std.specs.List.{AllByRecursion}
 use Rattle.sema_root.specs.Entries.{entry_of, AllAbove, AreRising}
-use Rattle.sema_root.specs.Tree.{Tree, leaf, fork, entries, size, top_counter, sought, top_value, top_place}
+use Rattle.sema_root.specs.Tree.{Tree, leaf, fork, entries, size, top_counter, sought, top_place}
 use Rattle.sema_root.specs.Tree.{IsAtMost, IsHeaped, IsTreap, mapped}
 use Rattle.sema_root.proofs.Rising.{All-append_left, All-append_right}
 use Rattle.sema_root.proofs.Seeking.{entry}
@@ -57,11 +57,6 @@ module _ {V W : Type 0} (change : V → W) where
   mapped-top_place leaf = refl
   mapped-top_place (fork left node right) = rw (mapped-top_counter left, mapped-top_counter right)
 
-  -- and the changed value on top
-  pub mapped-top_value : (tree : Tree V) → top_value (mapped change tree) ≡ option_map change (top_value tree)
-  mapped-top_value leaf = refl
-  mapped-top_value (fork left node right) = refl
-
   -- a search takes the same way
   pub mapped-sought : (c : ℕ) (tree : Tree V) → sought c (mapped change tree) ≡ mapped change (sought c tree)
   mapped-sought c leaf = refl
@@ -90,21 +85,6 @@ module _ {V W : Type 0} (change : V → W) where
     mapped-at_most node.ticket right heaped.1,
     mapped-heaped left heaped.2,
     mapped-heaped right heaped.3,
-  )
-
-  -- the other way round
-  pub mapped-at_most_back : (ticket : ℕ) (tree : Tree V) → IsAtMost ticket (mapped change tree) → IsAtMost ticket tree
-  mapped-at_most_back ticket leaf most = tt
-  mapped-at_most_back ticket (fork left node right) most = most
-
-  -- and for the whole heap
-  pub mapped-heaped_back : (tree : Tree V) → IsHeaped (mapped change tree) → IsHeaped tree
-  mapped-heaped_back leaf heaped = tt
-  mapped-heaped_back (fork left node right) heaped = (
-    mapped-at_most_back node.ticket left heaped.0,
-    mapped-at_most_back node.ticket right heaped.1,
-    mapped-heaped_back left heaped.2,
-    mapped-heaped_back right heaped.3,
   )
 
   -- a search tree is a search tree still

@@ -1,5 +1,5 @@
 -- Two heaps merge into one heap with the entries of both.
-use Rattle.std.proofs.Common.{◌≡◌, ℕ, ◌+◌, ◌<◌, ◌≤◌, ltb, ◌∷◌, ◌++◌, if◌then◌else◌}
+use Rattle.std.proofs.Common.{◌≡◌, ℕ, ◌+◌, ◌<◌, ◌≤◌, ltb, ◌∷◌, ◌++◌}
 use Rattle.std.proofs.Common.{refl, sym, ap, ◌∙◌, arith, append_assoc, append-nil, le_of_lt, le_trans, ltb-true, ltb-false}
 use Rattle.std.proofs.lemmas.Bool.{cond_both}
 use Rattle.sema_root.specs.Tree.{Sprig, Tree, leaf, fork, entries, size, IsAtMost, IsHeaped}
@@ -7,16 +7,6 @@ use Rattle.sema_root.specs.Reshaping.{merged}
 use Rattle.sema_root.proofs.Seeking.{entry}
 
 module _ {V : Type 0} where
-  -- of two topmost nodes the one with the smaller ticket comes up
-  pub merged-forks : (a : Tree V) (x : Sprig V) (b c : Tree V) (y : Sprig V) (d : Tree V)
-      → merged (fork a x b) (fork c y d)
-      ≡ (if ltb x.ticket y.ticket then fork a x (merged b (fork c y d)) else fork (merged (fork a x b) c) y d)
-  merged-forks a x b c y d = refl
-
-  -- nothing merges into a tree on its left
-  pub merged-leaf_left : (tree : Tree V) → merged leaf tree ≡ tree
-  merged-leaf_left tree = refl
-
   -- nor on its right
   pub merged-leaf_right : (tree : Tree V) → merged tree leaf ≡ tree
   merged-leaf_right leaf = refl

@@ -1,13 +1,13 @@
 -- A treap gives a node up: one entry goes, and it is a treap still.
-use Rattle.std.proofs.Common.{◌≡◌, ◌≢◌, ◌⊎◌, ℕ, ◌+◌, ◌<◌, inl, inr, [], ◌∷◌, Some, None}
-use Rattle.std.proofs.Common.{refl, sym, ap, ◌∙◌, arith, le_of_lt, lt-ltb, le-ltb, eq-eqb, ne_eqb}
+use Rattle.std.proofs.Common.{◌≡◌, ◌≢◌, ◌⊎◌, ℕ, ◌+◌, ◌<◌, inl, inr, [], ◌∷◌, Some}
+use Rattle.std.proofs.Common.{sym, ◌∙◌, arith, le_of_lt, lt-ltb, le-ltb, eq-eqb, ne_eqb}
 use Rattle.std.proofs.lemmas.Bool.{cases_order}
 use Rattle.sema_root.specs.Entries.{entry_of, AreRising, Removes}
 use Rattle.sema_root.specs.Tree.{Sprig, Tree, leaf, fork, entries, size, IsAtMost, IsHeaped, IsTreap}
 use Rattle.sema_root.specs.Reshaping.{merged, pruned}
 use Rattle.sema_root.proofs.Entering.{Removes-rising, Removes-was, Removes-length, Removes-append_left, Removes-append_right}
 use Rattle.sema_root.proofs.Seeking.{held, entry, entries-length, searched-left, searched-right}
-use Rattle.sema_root.proofs.Seeking.{found-left, found-right, lacking-apart}
+use Rattle.sema_root.proofs.Seeking.{found-left, found-right}
 use Rattle.sema_root.proofs.Merging.{merged-entries, merged-at_most, merged-heaped, IsAtMost-lower}
 
 module _ {V : Type 0} (counter : ℕ) where
@@ -58,19 +58,6 @@ module _ {V : Type 0} (counter : ℕ) where
   pub pruned-value : (old : Tree V) (rising : AreRising (entries old)) (value : ℕ × V) (has : entry_of counter (entries old) ≡ Some value)
       → (pruned-removes old rising value has).value ≡ value
   pruned-value old rising value has = let was = Removes-was (pruned-removes old rising value has) rising in cc
-
-  -- a counter that a search tree lacks leaves it as it was
-  pub pruned-same : (old : Tree V) → AreRising (entries old) → entry_of counter (entries old) ≡ None → pruned counter old ≡ old
-  pruned-same = pruned-by (λ old tree. AreRising (entries old) → entry_of counter (entries old) ≡ None → tree ≡ old)
-      (λ rising lacks. refl)
-      (λ left node right same rising lacks.
-      absurd (lacking-apart left node right rising counter lacks same))
-      (λ left node right tree less is rising lacks.
-      let lacks_left = sym (found-left left node right rising counter less) ∙ lacks in
-      ap (λ t. fork t node right) (is (searched-left left node right rising) lacks_left))
-      (λ left node right tree more is rising lacks.
-      let lacks_right = sym (found-right left node right rising counter more) ∙ lacks in
-      ap (λ t. fork left node t) (is (searched-right left node right rising) lacks_right))
 
   -- it is one node less
   pub pruned-size : (old : Tree V) → AreRising (entries old) → (value : ℕ × V) → entry_of counter (entries old) ≡ Some value

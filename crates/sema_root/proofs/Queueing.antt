@@ -83,10 +83,6 @@ pub if_none_from : (P : Type 0) (taken : Option Wait) → IsSome taken → IfNon
 if_none_from P (Some wait) some = tt
 if_none_from P None some = cc
 
-pub if_none_map : {P Q : Type 0} (taken : Option Wait) → (P → Q) → IfNone taken P → IfNone taken Q
-if_none_map (Some wait) change said = tt
-if_none_map None change said = change said
-
 pub dequeued_from : {old new : Lists} {entries fewer : List (ℕ × ℕ)} {seats c : ℕ} (taken : Option Wait) (waits : List Wait)
     → waits_on (queues_in old entries) c ≡ waits → 0 < length waits → taken ≡ slice_get waits 0
     → Replaces old new entries fewer seats c (drop 1 waits)

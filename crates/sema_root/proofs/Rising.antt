@@ -154,13 +154,3 @@ module _ {A : Type 0} where
           let here : x.1 ≡ value = (let found = rw (eq-eqb x.0 c same) at has in cc) in
           subst₂ (λ d v. P (d, v)) same here all.0
       by (inr apart) further = further (rw (ne_eqb x.0 c apart) at has)
-
-  -- and in a rising list the other way round
-  pub All-from_entry : (P : ℕ × A → Type 0) (xs : List (ℕ × A)) → AreRising xs
-      → ((c : ℕ) (value : A) → entry_of c xs ≡ Some value → P (c, value)) → AllByRecursion P xs
-  All-from_entry P [] rising each = tt
-  All-from_entry P (x ∷ xs) rising each = (
-    each x.0 x.1 (entry_of-here x.0 x.1 xs),
-    All-from_entry P xs rising.1 (λ c value has.
-        each c value (rw (ne_eqb x.0 c (entry_of-apart x.0 c value xs rising.0 has)) has)),
-  )

@@ -13,7 +13,7 @@ use Rattle.sema_root.specs.Tree.{Sprig, Tree, entries, sought, top_value, mapped
 use Rattle.sema_root.proofs.Entering.{Adds-is, Adds-else, Removes-is, Removes-else}
 use Rattle.sema_root.proofs.Grafting.{grafted-adds}
 use Rattle.sema_root.proofs.Mapping.{changed-above, changed-entry_of, mapped-entries, mapped-entry_of}
-use Rattle.sema_root.proofs.Pruning.{pruned-removes, pruned-value}
+use Rattle.sema_root.proofs.Pruning.{pruned-removes}
 use Rattle.sema_root.proofs.Seeking.{sought-value}
 
 -- of what a node holds, its ticket and its list
@@ -122,9 +122,6 @@ module _ (tree : Tree ℕ) (treap : IsTreap tree) (c k : ℕ) (has : entry_of c 
 
   abbrev pub pruned-listed : Removes (listed tree) (listed (pruned c tree)) c
   pruned-listed = changed-Removes list_in gone
-
-  pub pruned-list : pruned-listed.value ≡ k
-  pruned-list = ap list_in (pruned-value c tree treap.searched (holding.0, k) holding.1)
 
 -- a counter with a ticket is in
 pub ticketed : (lists : Lists) (tree : Tree ℕ) (c : ℕ) → IsSome (ticket_of (mapped (waits_at lists) tree) c) → entry_of c (entries tree) ≡ None → ⊥

@@ -120,29 +120,6 @@ module _ {V : Type 0} where
   sought-value counter tree rising =
       top_held-value (sought counter tree) ∙ ap (option_map (λ pair. pair.1)) (sought-entry counter tree rising)
 
-  -- a counter that a search tree lacks is not found
-  pub sought-nothing : (counter : ℕ) (tree : Tree V) → AreRising (entries tree) → entry_of counter (entries tree) ≡ None
-      → sought counter tree ≡ leaf
-  sought-nothing counter tree rising lacks = by (sought counter tree) (sought-entry counter tree rising ∙ lacks)
-    where
-      by : (found : Tree V) → top_held found ≡ None → found ≡ leaf
-      by leaf none = refl
-      by (fork left node right) none = cc
-
-  -- one that it has is found, with what it has for it
-  pub sought-something : (counter : ℕ) (tree : Tree V) → AreRising (entries tree) → (value : ℕ × V)
-      → entry_of counter (entries tree) ≡ Some value
-      → (left : Tree V) × (node : Sprig V) × (right : Tree V)
-      × (sought counter tree ≡ fork left node right) × (node.counter ≡ counter) × (held node ≡ value)
-  sought-something counter tree rising value has =
-      by (sought counter tree) refl (sought-entry counter tree rising ∙ has)
-    where
-      by : (found : Tree V) → sought counter tree ≡ found → top_held found ≡ Some value
-          → (left : Tree V) × (node : Sprig V) × (right : Tree V)
-          × (sought counter tree ≡ fork left node right) × (node.counter ≡ counter) × (held node ≡ value)
-      by leaf is some = cc
-      by (fork left node right) is some = (left, node, right, is, sought-counter counter tree is, cc)
-
   -- the two subtrees of a treap are treaps: the left one
   pub treap-left : (left : Tree V) (node : Sprig V) (right : Tree V) → IsTreap (fork left node right) → IsTreap left
   treap-left left node right treap = record { searched = searched-left left node right treap.searched; heaped = treap.heaped.2 }
