@@ -142,12 +142,12 @@ module _ (old : Branches) (reserved : ℕ) (planted : IsPlanted old reserved) (c
     settled = ap (λ (b : Branches). seen b reserved) same;
   }
   Leaves-top new lists (Some key) some leaves = record {
-      stays = by (length (waits_at lists key) == 1) refl;
-      settled = record {
-        last = λ one. (prunes_top new key (sym some) (leaves.last one)).settled;
-        others = λ more. ap (λ (b : Branches). seen b reserved) (leaves.others more);
-      };
-    }
+    stays = by (length (waits_at lists key) == 1) refl;
+    settled = record {
+      last = λ one. (prunes_top new key (sym some) (leaves.last one)).settled;
+      others = λ more. ap (λ (b : Branches). seen b reserved) (leaves.others more);
+    };
+  }
     where
       by : (is_last : Bool) → (length (waits_at lists key) == 1) ≡ is_last → IsPlanted new reserved
       by true one = (prunes_top new key (sym some) (leaves.last (eqb-true (length (waits_at lists key)) 1 one))).stays

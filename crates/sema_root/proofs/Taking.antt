@@ -142,9 +142,9 @@ module _ (old : Branches) (link : Link) (at : Option ℕ) (counter : ℕ) (comes
               → Prunes old new link (tree_at old.nodes at) counter
           unfolding left right
           Prunes-here new len len_after hung = record {
-              regrows = subst (Regrows old new link (tree_at old.nodes at)) (sym is) grown;
-              len = omega (arith, hung.len, len, len_after);
-            }
+            regrows = subst (Regrows old new link (tree_at old.nodes at)) (sym is) grown;
+            len = omega (arith, hung.len, len, len_after);
+          }
             where
               is : pruned counter (tree_at old.nodes at) ≡ merged left right
               is = ap (pruned counter) opens.is ∙ rw (eq-eqb counter node.counter same)

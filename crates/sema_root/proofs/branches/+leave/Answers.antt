@@ -52,7 +52,7 @@ returns-then-eq-clause-list t c = list_here _ _ _ _ c.requires.comes _ _ c.in-So
 
 pub returns-then-eq-clause-leaves : goal.returns-then-eq-clause-leaves
 returns-then-eq-clause-leaves t c = elim c.if-len-eq1.branch [
-  then-len-eq1 w ↦ record {
+  | then-len-eq1 w ↦ record {
     last = λ one. rw w.branches-is (Prunes-here _ _ _ _ c.requires.comes _ _ c.in-Some.is c.index.ensures (same_tested _ _ c.if-eq.ensures)
         _ w.remove.ensures.updates w.remove.ensures.capacity _ _ w.merge-rest.ensures.merges
         _ w.remove.ensures.len w.merge-rest.ensures.len w.hang.ensures);
