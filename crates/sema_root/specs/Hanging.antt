@@ -97,7 +97,8 @@ pub record HangsNew (old new : Branches) (link : Link) (left right : Option ℕ)
   pub len : slab_len new.nodes ≡ slab_len old.nodes + 1
 
 -- a node with a new list was grafted on the tree at the link
-pub record Enters (old new : Branches) (link : Link) (tree : Tree ℕ) (counter ticket : ℕ) (old_lists new_lists : Lists) (listed : Listed) : Type 0 where
+pub record Enters (old new : Branches) (link : Link) (tree : Tree ℕ) (counter ticket : ℕ)
+    (old_lists new_lists : Lists) (listed : Listed) : Type 0 where
   pub is_new : listed.is_new ≡ true
   pub regrows : Regrows old new link tree (grafted (record { counter = counter; ticket = ticket; value = listed.list }) tree)
   pub len : slab_len new.nodes ≡ slab_len old.nodes + 1

@@ -65,7 +65,8 @@ fn enter(
     requires there { IsThere branches.old link }
     requires list_room { 0 < lists.old.list_room }
     ensures is_new { result.is_new ≡ true }
-    ensures hangs { HangsNew branches.old branches.new link sides.0 sides.1 (record { counter = counter; ticket = ticket; value = result.list }) }
+    ensures hangs { HangsNew branches.old branches.new link sides.0 sides.1
+        (record { counter = counter; ticket = ticket; value = result.list }) }
     ensures opens { Opens lists.old lists.new result.list }
 {
     let list = lists.open();
