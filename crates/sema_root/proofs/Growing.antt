@@ -1,21 +1,21 @@
 -- What `queue` and `dequeue` come to on a root whose entries a treap keeps.
-use Rattle.std.proofs.Common.{◌≡◌, ℕ, ◌+◌, ◌<◌, Bool, List, [], ◌∷◌, Option, Some, None, is_some, IfNone, OnSome, MatchOption, slice_get, drop, length, option_map}
+use Rattle.std.proofs.Common.{◌≡◌, ℕ, ◌+◌, ◌<◌, Bool, [], Option, Some, None, is_some, IsSome, OnSome, MatchOption, slice_get, drop, length, option_map}
 use Rattle.std.proofs.Common.{refl, sym, ap, ◌∙◌, subst, arith, length-drop}
 use Rattle.std.proofs.lemmas.List.{length-map}
 use Rattle.waiters.specs.declared.wait.Wait.{Wait}
 use Rattle.waiters.specs.Lists.{Lists, IsOpen, waits_at, Changes as ListChanges}
 use Rattle.sema_root.specs.Entries.{entry_of}
 use Rattle.sema_root.specs.Joined.{queues_in}
-use Rattle.sema_root.specs.Planted.{Planted, IsMissing, Leaves, Takes}
+use Rattle.sema_root.specs.Planted.{Planted, Leaves}
 use Rattle.sema_root.specs.Queues.{waits_on, total, AreQueues, joined_by, Changes}
 use Rattle.sema_root.specs.Reshaping.{grafted, pruned}
 use Rattle.sema_root.specs.Rooted.{listed, shown, IsRooted, Comes, IsIn}
 use Rattle.sema_root.specs.Treap.{Tickets, queues_of, KeepsTickets, Draws}
 use Rattle.sema_root.specs.Tree.{Sprig, entries, size, sought, top_value, mapped, IsTreap}
 use Rattle.sema_root.proofs.Grafting.{grafted-size, grafted-treap}
-use Rattle.sema_root.proofs.Joining.{Replaces, joined-fits, joined-list_room, joined-open, joined-queues, joined-room, joined-waited, goes, stays, waits_on-absent, waits_on-entry}
+use Rattle.sema_root.proofs.Joining.{joined-fits, joined-list_room, joined-open, joined-queues, joined-room, joined-waited, pending, waits_on-absent, waits_on-entry}
 use Rattle.sema_root.proofs.Pruning.{pruned-size, pruned-treap}
-use Rattle.sema_root.proofs.Queueing.{Queued, queued_beside, queued_first, Dequeued, dequeued_from, nothing_taken, on_some_from, if_none_from}
+use Rattle.sema_root.proofs.Queueing.{Queued, queued_beside, queued_first, Dequeued, dequeued_beside, dequeued_last}
 use Rattle.sema_root.proofs.Rooting.{grafted-listed, grafted-ticket, holding, keeps-grafted, keeps-pruned, keeps-same, lacking, pruned-listed, shown-queues, shown-ticket, sought-listed, ticket_in, ticketed}
 use Rattle.sema_root.proofs.Seeking.{entries-length}
 
@@ -40,10 +40,7 @@ module _ {treap : Planted} {lists : Lists} {seats : ℕ} (rooted : IsRooted trea
   pub rooted-wait_room : total (queues_of (mapped (waits_at lists) treap.tree)) < seats → 0 < lists.room
   rooted-wait_room free = joined-room rooted.joined (subst (λ n. n < seats) shown-total free)
 
-  -- the list of a counter that is in has somebody in it
-  pub rooted-waited : (c key : ℕ) → top_value (sought c treap.tree) ≡ Some key → 0 < length (waits_at lists key)
-  rooted-waited c key is = joined-waited rooted.joined c key (sym (sought-listed c treap.tree rooted.treap) ∙ is)
-
+  -- the list of a counter that is in is open
   pub rooted-open : (c key : ℕ) → top_value (sought c treap.tree) ≡ Some key → IsOpen lists key
   rooted-open c key is = joined-open rooted.joined c key (sym (sought-listed c treap.tree rooted.treap) ∙ is)
 
@@ -148,17 +145,21 @@ module _ (old : Planted) (old_tickets : Tickets) (old_lists : Lists) (seats : �
     ap (λ l. l.room) found.same_lists,
   )
 
--- what `dequeue` promises, and what the root keeps
+-- what `dequeue` promises of a counter that is in, and what the root keeps
 pub record DequeuedOn (old new : Planted) (old_lists new_lists : Lists) (seats counter : ℕ) (taken : Option Wait) : Type 0 where
   pub rooted : IsRooted new new_lists seats
   pub first : taken ≡ slice_get (waits_on (queues_of (mapped (waits_at old_lists) old.tree)) counter) 0
+  pub some : IsSome taken
   pub rest : Changes (queues_of (mapped (waits_at old_lists) old.tree)) (queues_of (mapped (waits_at new_lists) new.tree)) counter
       (drop 1 (waits_on (queues_of (mapped (waits_at old_lists) old.tree)) counter))
-  pub count : OnSome taken (total (queues_of (mapped (waits_at new_lists) new.tree)) + 1 ≡ total (queues_of (mapped (waits_at old_lists) old.tree)))
-  pub none : IfNone taken ((new ≡ old) × (new_lists ≡ old_lists))
+  pub count : total (queues_of (mapped (waits_at new_lists) new.tree)) + 1 ≡ total (queues_of (mapped (waits_at old_lists) old.tree))
   pub kept : KeepsTickets (mapped (waits_at old_lists) old.tree) (mapped (waits_at new_lists) new.tree)
 
-module _ (old : Planted) (old_lists : Lists) (seats : ℕ) (rooted : IsRooted old old_lists seats) (counter : ℕ) (taken : Option Wait) where
+module _ (old : Planted) (old_lists : Lists) (seats : ℕ) (rooted : IsRooted old old_lists seats) (counter key : ℕ)
+    (is : Some key ≡ top_value (sought counter old.tree)) (taken : Option Wait) where
+  has : entry_of counter (listed old.tree) ≡ Some key
+  has = sym (sought-listed counter old.tree rooted.treap) ∙ sym is
+
   -- from the queues of the entries to those that are shown
   dequeued_to : (new : Planted) (new_lists : Lists) → IsTreap new.tree → new.room + size new.tree ≡ seats
       → KeepsTickets (mapped (waits_at old_lists) old.tree) (mapped (waits_at new_lists) new.tree)
@@ -167,60 +168,36 @@ module _ (old : Planted) (old_lists : Lists) (seats : ℕ) (rooted : IsRooted ol
   dequeued_to new new_lists treap room kept done = record {
     rooted = record { joined = done.joined; treap = treap; room = room };
     first = rw (shown-queues old_lists old.tree) done.first;
+    some = done.some;
     rest = rw (shown-queues old_lists old.tree, shown-queues new_lists new.tree) done.rest;
-    count = rw (shown-queues old_lists old.tree, shown-queues new_lists new.tree) (on_some_from taken done.count);
-    none = if_none_from _ taken done.some;
+    count = rw (shown-queues old_lists old.tree, shown-queues new_lists new.tree) done.count;
     kept = kept;
   }
 
-  -- a counter that is in
-  module _ (key : ℕ) (is : top_value (sought counter old.tree) ≡ Some key) (first : taken ≡ slice_get (waits_at old_lists key) 0) where
-    has : entry_of counter (listed old.tree) ≡ Some key
-    has = sym (sought-listed counter old.tree rooted.treap) ∙ is
+  module _ (first : taken ≡ slice_get (waits_at old_lists key) 0) (new : Planted) (leaves : Leaves old new counter old_lists key)
+      (popped : Lists) (rest : ListChanges old_lists popped key (Some (drop 1 (waits_at old_lists key))))
+      (room : OnSome taken (popped.room ≡ old_lists.room + 1)) (list_room : popped.list_room ≡ old_lists.list_room) where
+    one_less : length (waits_at popped key) + 1 ≡ length (waits_at old_lists key)
+    one_less = omega (arith, ap length (pending rest), length-drop 1 (waits_at old_lists key), joined-waited rooted.joined counter key has)
 
-    waited : 0 < length (waits_at old_lists key)
-    waited = joined-waited rooted.joined counter key has
+    -- somebody still waits on the counter
+    pub dequeued_among : 0 < length (waits_at popped key) → DequeuedOn old new old_lists popped seats counter taken
+    dequeued_among left =
+        subst (λ (n : Planted). DequeuedOn old n old_lists popped seats counter taken) (sym (leaves.others (λ one. absurd (omega (arith, one, one_less, left)))))
+        (dequeued_to old popped rooted.treap rooted.room (keeps-same old_lists popped old.tree)
+        (dequeued_beside rooted.joined taken has first rest room list_room left))
 
-    -- leaves with its last wait, or stays with the rest
-    dequeued_as : (new : Planted) (new_lists : Lists) → new_lists.room ≡ old_lists.room + 1
-        → (rest : List Wait) → drop 1 (waits_at old_lists key) ≡ rest
-        → Leaves old new counter old_lists new_lists key rest
-        → DequeuedOn old new old_lists new_lists seats counter taken
-    dequeued_as new new_lists room [] empty prunes =
+    -- nobody does, and the counter goes
+    pub dequeued_alone : length (waits_at popped key) ≡ 0 → (closed : Lists)
+        → ListChanges popped closed key None → closed.room ≡ popped.room → closed.list_room ≡ popped.list_room + 1
+        → DequeuedOn old new old_lists closed seats counter taken
+    dequeued_alone left closed closes room_after list_room_after =
+        let prunes = leaves.last (omega (arith, left, one_less)) in
         let held = holding old.tree rooted.treap counter key has in
-        let short = length-drop 1 (waits_at old_lists key) in
-        let gone = goes rooted.joined (pruned-listed old.tree rooted.treap counter key has) has prunes.closed
-        (omega (arith, room, short, waited, ap length empty)) prunes.list_room in
-        subst (λ tree. DequeuedOn old (record new { tree = tree }) old_lists new_lists seats counter taken) (sym prunes.tree)
-        (dequeued_to (record new { tree = pruned counter old.tree }) new_lists
+        subst (λ tree. DequeuedOn old (record new { tree = tree }) old_lists closed seats counter taken) (sym prunes.tree)
+        (dequeued_to (record new { tree = pruned counter old.tree }) closed
         (pruned-treap counter old.tree rooted.treap (held.0, key) held.1)
         (omega (arith, pruned-size counter old.tree rooted.treap.searched (held.0, key) held.1, prunes.room, rooted.room))
-        (keeps-pruned old_lists new_lists old.tree rooted.treap counter key has)
-        (dequeued_from taken (waits_at old_lists key) (waits_on-entry old_lists counter key (listed old.tree) has) waited first
-        (subst (λ waits. Replaces old_lists new_lists (listed old.tree) (listed (pruned counter old.tree)) seats counter waits) (sym empty) gone)))
-    dequeued_as new new_lists room (wait ∷ waits) more shortens =
-        let short = length-drop 1 (waits_at old_lists key) in
-        let kept = stays rooted.joined has shortens.kept (omega arith) (omega (arith, room, short, waited, ap length more)) shortens.list_room in
-        subst (λ (n : Planted). DequeuedOn old n old_lists new_lists seats counter taken) (sym shortens.same)
-        (dequeued_to old new_lists rooted.treap rooted.room (keeps-same old_lists new_lists old.tree)
-        (dequeued_from taken (waits_at old_lists key) (waits_on-entry old_lists counter key (listed old.tree) has) waited first
-        (subst (λ waits. Replaces old_lists new_lists (listed old.tree) (listed old.tree) seats counter waits) (sym more) kept)))
-
-  -- either way the first wait is taken, if there is one
-  pub dequeued_so : (found : Option ℕ) → top_value (sought counter old.tree) ≡ found → (new : Planted) (new_lists : Lists)
-      → MatchOption found (IsMissing old new old_lists new_lists taken) (Takes old new counter old_lists new_lists taken)
-      → DequeuedOn old new old_lists new_lists seats counter taken
-  dequeued_so None is new new_lists missing =
-      let nobody = rooted-nobody rooted counter is in
-      subst (λ (n : Planted). DequeuedOn old n old_lists new_lists seats counter taken) (sym missing.same)
-      (subst (λ (l : Lists). DequeuedOn old old old_lists l seats counter taken) (sym missing.same_lists)
-      (subst (λ (w : Option Wait). DequeuedOn old old old_lists old_lists seats counter w) (sym missing.none)
-      (record {
-        rooted = rooted;
-        first = ap (λ waits. slice_get waits 0) (sym nobody);
-        rest = nothing_taken _ counter nobody;
-        count = tt;
-        none = (refl, refl);
-        kept = keeps-same old_lists old_lists old.tree;
-      })))
-  dequeued_so (Some key) is new new_lists takes = dequeued_as key is takes.first new new_lists takes.room _ refl takes.leaves
+        (keeps-pruned old_lists closed old.tree rooted.treap counter key has)
+        (dequeued_last rooted.joined taken (pruned-listed old.tree rooted.treap counter key has) has first rest room list_room left
+        closes room_after list_room_after))

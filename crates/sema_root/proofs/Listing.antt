@@ -24,13 +24,13 @@ use Rattle.sema_root.proofs.Parting.{Holds-leaf, Keeps-same}
 use Rattle.sema_root.proofs.Hanging.{ComesTo-left, ComesTo-right, Regrows-left, Regrows-right, Regrows-hung}
 
 -- a match on an option of which the variant is known
-pub MatchOption-none : {A : Type 0} (o : Option A) (P : Type 0) (Q : A → Type 0) → o ≡ None → P → MatchOption o P Q
+MatchOption-none : {A : Type 0} (o : Option A) (P : Type 0) (Q : A → Type 0) → o ≡ None → P → MatchOption o P Q
 MatchOption-none o P Q is holds = rw is holds
 
-pub MatchOption-some : {A : Type 0} (o : Option A) (P : Type 0) (Q : A → Type 0) (value : A) → o ≡ Some value → Q value → MatchOption o P Q
+MatchOption-some : {A : Type 0} (o : Option A) (P : Type 0) (Q : A → Type 0) (value : A) → o ≡ Some value → Q value → MatchOption o P Q
 MatchOption-some o P Q value is holds = rw is holds
 
-pub MatchOption-weaken : {A : Type 0} (o other : Option A) (P R : Type 0) (Q S : A → Type 0) → other ≡ o → (P → R) → ((value : A) → Q value → S value)
+MatchOption-weaken : {A : Type 0} (o other : Option A) (P R : Type 0) (Q S : A → Type 0) → other ≡ o → (P → R) → ((value : A) → Q value → S value)
     → MatchOption o P Q → MatchOption other R S
 MatchOption-weaken None other P R Q S is on_none on_some holds = rw is (on_none holds)
 MatchOption-weaken (Some value) other P R Q S is on_none on_some holds = rw is (on_some value holds)

@@ -1,9 +1,9 @@
 -- A treap stays one, and within its room, whatever a walk from its top does.
-use Rattle.std.proofs.Common.{◌≡◌, ℕ, ◌-◌, ◌<◌, ◌≤◌, List, [], ◌∷◌, Option, Some, None, MatchOption, option_map}
-use Rattle.std.proofs.Common.{refl, sym, ap, ◌∙◌, subst, arith}
+use Rattle.std.proofs.Common.{◌≡◌, ◌==◌, ℕ, ◌-◌, ◌<◌, ◌≤◌, [], Bool, true, false, Option, Some, None, MatchOption, length, option_map}
+use Rattle.std.proofs.Common.{refl, sym, ap, ◌∙◌, subst, arith, eqb-true}
+use Rattle.std.proofs.lemmas.Bool.{eqb-false}
 use Rattle.slab.specs.Slab.{Slab, slab_len}
-use Rattle.waiters.specs.Lists.{Lists}
-use Rattle.waiters.specs.declared.wait.Wait.{Wait}
+use Rattle.waiters.specs.Lists.{Lists, waits_at}
 use Rattle.sema_root.specs.declared.nodes.Node.{Node}
 use Rattle.sema_root.specs.declared.branches.Branches.{Branches}
 use Rattle.sema_root.specs.declared.branches.Link.TheVariants.{Top}
@@ -13,7 +13,7 @@ use Rattle.sema_root.specs.Tree.{Tree, leaf, entries, size, sought, top_value}
 use Rattle.sema_root.specs.Reshaping.{grafted, pruned}
 use Rattle.sema_root.specs.Planted as treap
 use Rattle.sema_root.specs.Linked.{tree_at}
-use Rattle.sema_root.specs.Hanging.{ComesTo, Enters, IsFound, IsMissing, Leaves, Takes, IsPlanted}
+use Rattle.sema_root.specs.Hanging.{ComesTo, Enters, IsFound, Prunes, Leaves, IsPlanted}
 use Rattle.sema_root.proofs.Seeking.{sought-value}
 use Rattle.sema_root.proofs.Grafting.{grafted-size, grafted-treap}
 use Rattle.sema_root.proofs.Pruning.{pruned-size, pruned-treap}
@@ -113,66 +113,42 @@ module _ (old : Branches) (reserved : ℕ) (planted : IsPlanted old reserved) (c
           };
         }
 
-    -- and after a counter's first wait was taken out
-    pub Takes-top : (wait : Option Wait)
-        → MatchOption (top_value (sought counter (tree_at old.nodes old.top)))
-        (IsMissing old new old_lists new_lists wait) (Takes old new Top (tree_at old.nodes old.top) counter old_lists new_lists wait)
-        → IsReplanted new reserved (MatchOption (top_value (sought counter (tree_at old.nodes old.top)))
-        (treap.IsMissing (seen old reserved) (seen new reserved) old_lists new_lists wait)
-        (treap.Takes (seen old reserved) (seen new reserved) counter old_lists new_lists wait))
-    unfolding tree
-    Takes-top wait settled = by (top_value (sought counter tree)) refl settled
-      where
-        left_over : (key : ℕ) → top_value (sought counter tree) ≡ Some key → (rest : List Wait)
-            → Leaves old new Top tree counter old_lists new_lists key rest
-            → IsReplanted new reserved (treap.Leaves (seen old reserved) (seen new reserved) counter old_lists new_lists key rest)
-        left_over key some [] prunes =
-            let has = having key some in
-            let less = pruned counter tree in
-            let is : tree_at new.nodes new.top ≡ less = tree_at-is new.nodes new.top less prunes.regrows.holds in
-            record {
-              stays = record {
-                treap = rw is (pruned-treap counter tree planted.treap has.0 has.1);
-                holds = Holds-read new.nodes new.top less prunes.regrows.holds;
-                counted = omega (arith, ap size is, pruned-size counter tree planted.treap.searched has.0 has.1, prunes.len, planted.counted);
-                within = omega (arith, prunes.len, planted.within);
-                fits = omega (arith, planted.fits, prunes.regrows.capacity);
-              };
-              settled = record {
-                tree = is;
-                room = omega (arith, prunes.len, planted.within);
-                closed = prunes.closed;
-                list_room = prunes.list_room;
-              };
-            }
-        left_over key some (next ∷ rest) shortens = record {
-          stays = subst (λ (b : Branches). IsPlanted b reserved) (sym shortens.same) planted;
-          settled = record {
-            same = ap (λ (b : Branches). seen b reserved) shortens.same;
-            kept = shortens.kept;
-            list_room = shortens.list_room;
-          };
-        }
+  -- and after a counter's node went
+  prunes_top : (new : Branches) (key : ℕ) → top_value (sought counter (tree_at old.nodes old.top)) ≡ Some key
+      → Prunes old new Top (tree_at old.nodes old.top) counter
+      → IsReplanted new reserved (treap.Prunes (seen old reserved) (seen new reserved) counter)
+  unfolding tree
+  prunes_top new key some prunes =
+      let has = having key some in
+      let less = pruned counter tree in
+      let is : tree_at new.nodes new.top ≡ less = tree_at-is new.nodes new.top less prunes.regrows.holds in
+      record {
+        stays = record {
+          treap = rw is (pruned-treap counter tree planted.treap has.0 has.1);
+          holds = Holds-read new.nodes new.top less prunes.regrows.holds;
+          counted = omega (arith, ap size is, pruned-size counter tree planted.treap.searched has.0 has.1, prunes.len, planted.counted);
+          within = omega (arith, prunes.len, planted.within);
+          fits = omega (arith, planted.fits, prunes.regrows.capacity);
+        };
+        settled = record { tree = is; room = omega (arith, prunes.len, planted.within) };
+      }
 
-        by : (o : Option ℕ) → top_value (sought counter tree) ≡ o
-            → MatchOption o (IsMissing old new old_lists new_lists wait) (Takes old new Top tree counter old_lists new_lists wait)
-            → IsReplanted new reserved (MatchOption o (treap.IsMissing (seen old reserved) (seen new reserved) old_lists new_lists wait)
-            (treap.Takes (seen old reserved) (seen new reserved) counter old_lists new_lists wait))
-        by None none missing = record {
-          stays = subst (λ (b : Branches). IsPlanted b reserved) (sym missing.same) planted;
-          settled = record {
-            none = missing.none;
-            same = ap (λ (b : Branches). seen b reserved) missing.same;
-            same_lists = missing.same_lists;
-          };
-        }
-        by (Some key) some takes =
-            let left = left_over key some _ takes.leaves in
-            record {
-              stays = left.stays;
-              settled = record {
-                first = takes.first;
-                room = takes.room;
-                leaves = left.settled;
-              };
-            }
+  -- or may have gone
+  pub Leaves-top : (new : Branches) (lists : Lists) (found : Option ℕ) → found ≡ top_value (sought counter (tree_at old.nodes old.top))
+      → MatchOption found (new ≡ old) (Leaves old new Top (tree_at old.nodes old.top) counter lists)
+      → IsReplanted new reserved (MatchOption found (seen new reserved ≡ seen old reserved) (treap.Leaves (seen old reserved) (seen new reserved) counter lists))
+  Leaves-top new lists None none same = record {
+    stays = subst (λ (b : Branches). IsPlanted b reserved) (sym same) planted;
+    settled = ap (λ (b : Branches). seen b reserved) same;
+  }
+  Leaves-top new lists (Some key) some leaves = record {
+    stays = by (length (waits_at lists key) == 1) refl;
+    settled = record {
+      last = λ one. (prunes_top new key (sym some) (leaves.last one)).settled;
+      others = λ more. ap (λ (b : Branches). seen b reserved) (leaves.others more);
+    };
+  }
+    where
+      by : (is_last : Bool) → (length (waits_at lists key) == 1) ≡ is_last → IsPlanted new reserved
+      by true one = (prunes_top new key (sym some) (leaves.last (eqb-true (length (waits_at lists key)) 1 one))).stays
+      by false more = subst (λ (b : Branches). IsPlanted b reserved) (sym (leaves.others (eqb-false (length (waits_at lists key)) 1 more))) planted

@@ -64,12 +64,12 @@ pub record Dequeued (old new : Lists) (entries fewer : List (ℕ × ℕ)) (seats
   pub count : total (queues_in new fewer) + 1 ≡ total (queues_in old entries)
 
 -- a list with somebody in it has a first
-pub first_of : (taken : Option Wait) (waits : List Wait) → 0 < length waits → taken ≡ slice_get waits 0 → IsSome taken
+first_of : (taken : Option Wait) (waits : List Wait) → 0 < length waits → taken ≡ slice_get waits 0 → IsSome taken
 first_of taken [] waited is = absurd (omega arith)
 first_of taken (wait ∷ rest) waited is = ap is_some is
 
 -- so what is said of a taken wait holds
-pub holds_of : {P : Type 0} (taken : Option Wait) → IsSome taken → OnSome taken P → P
+holds_of : {P : Type 0} (taken : Option Wait) → IsSome taken → OnSome taken P → P
 holds_of (Some wait) some said = said
 holds_of None some said = cc
 
@@ -83,11 +83,7 @@ pub if_none_from : (P : Type 0) (taken : Option Wait) → IsSome taken → IfNon
 if_none_from P (Some wait) some = tt
 if_none_from P None some = cc
 
-pub if_none_map : {P Q : Type 0} (taken : Option Wait) → (P → Q) → IfNone taken P → IfNone taken Q
-if_none_map (Some wait) change said = tt
-if_none_map None change said = change said
-
-pub dequeued_from : {old new : Lists} {entries fewer : List (ℕ × ℕ)} {seats c : ℕ} (taken : Option Wait) (waits : List Wait)
+dequeued_from : {old new : Lists} {entries fewer : List (ℕ × ℕ)} {seats c : ℕ} (taken : Option Wait) (waits : List Wait)
     → waits_on (queues_in old entries) c ≡ waits → 0 < length waits → taken ≡ slice_get waits 0
     → Replaces old new entries fewer seats c (drop 1 waits)
     → Dequeued old new entries fewer seats c taken

@@ -2,7 +2,7 @@
 use Rattle.std.proofs.Common.{◌≡◌, ◌≢◌, ℕ, zero, suc, ◌<◌, ◌≤◌, List, [], ◌∷◌, ◌++◌, Option, Some, None, IsSome}
 use Rattle.std.proofs.Common.{refl, sym, ap, ◌∙◌, subst, arith}
 use Rattle.std.specs.List.{AllByRecursion}
-use Rattle.std.proofs.Common.{true, false, not, eqb, nat_cmp, is_lt}
+use Rattle.std.proofs.Common.{true, false, eqb, nat_cmp, is_lt}
 use Rattle.std.proofs.lemmas.Bool.Decides.{nat_tests}
 use Rattle.slab.specs.Slab.{Slab, get}
 use Rattle.sema_root.specs.declared.nodes.Node.{Node}
@@ -171,9 +171,3 @@ same_tested x y test = grind (arith, nat_tests)
 
 pub apart_tested : (x y : ℕ) → false ≡ eqb x y → x ≢ y
 apart_tested x y test = grind (arith, nat_tests)
-
-pub differs_tested : (x y : ℕ) → true ≡ not (eqb x y) → x ≢ y
-differs_tested x y test = grind (arith, nat_tests)
-
-pub alike_tested : (x y : ℕ) → false ≡ not (eqb x y) → x ≡ y
-alike_tested x y test = grind (arith, nat_tests)

@@ -1,8 +1,7 @@
 -- Where a tree of nodes hangs, and what a walk that ends at one link leaves of the nodes. No public clause cites this.
-use Rattle.std.specs.Prelude.{◌≡◌, ◌≢◌, ◌==◌, ◌≤◌, ◌<◌, ◌+◌, ℕ, List, [], ◌∷◌, Option, Some, None, Bool, true, false, drop, slice_get, length, ltb, if◌then◌else◌}
+use Rattle.std.specs.Prelude.{◌≡◌, ◌≢◌, ◌==◌, ◌≤◌, ◌+◌, ℕ, Option, Some, None, true, false, length, ltb, if◌then◌else◌}
 use Rattle.slab.specs.Slab.{get, ContainsKey, slab_len, Updates}
-use Rattle.waiters.specs.Lists.{Lists, waits_at, Changes}
-use Rattle.waiters.specs.declared.wait.Wait.{Wait}
+use Rattle.waiters.specs.Lists.{Lists, IsOpen, waits_at}
 use Rattle.sema_root.specs.declared.nodes.Node.{Node}
 use Rattle.sema_root.specs.declared.branches.Branches.{Branches}
 use Rattle.sema_root.specs.declared.listed.Listed.{Listed}
@@ -98,7 +97,8 @@ pub record HangsNew (old new : Branches) (link : Link) (left right : Option ℕ)
   pub len : slab_len new.nodes ≡ slab_len old.nodes + 1
 
 -- a node with a new list was grafted on the tree at the link
-pub record Enters (old new : Branches) (link : Link) (tree : Tree ℕ) (counter ticket : ℕ) (old_lists new_lists : Lists) (listed : Listed) : Type 0 where
+pub record Enters (old new : Branches) (link : Link) (tree : Tree ℕ) (counter ticket : ℕ)
+    (old_lists new_lists : Lists) (listed : Listed) : Type 0 where
   pub is_new : listed.is_new ≡ true
   pub regrows : Regrows old new link tree (grafted (record { counter = counter; ticket = ticket; value = listed.list }) tree)
   pub len : slab_len new.nodes ≡ slab_len old.nodes + 1
@@ -111,43 +111,19 @@ pub record IsFound (old new : Branches) (old_lists new_lists : Lists) (listed : 
   pub same : new ≡ old
   pub same_lists : new_lists ≡ old_lists
 
--- the first wait went, and the list with it where it was the last
-abbrev pub Pops : Lists → Lists → ℕ → List Wait → Bool → Type 0
-Pops old new key [] is_last = (is_last ≡ true) × Changes old new key None × (new.list_room ≡ old.list_room + 1)
-Pops old new key (wait ∷ rest) is_last = (is_last ≡ false) × Changes old new key (Some (wait ∷ rest)) × (new.list_room ≡ old.list_room)
-
--- no list was found, and nothing changed
-pub record IsMissing (old new : Branches) (old_lists new_lists : Lists) (wait : Option Wait) : Type 0 where
-  pub none : wait ≡ None
-  pub same : new ≡ old
-  pub same_lists : new_lists ≡ old_lists
-
--- the last wait went, with its list and its counter's node
-pub record Prunes (old new : Branches) (link : Link) (tree : Tree ℕ) (counter : ℕ) (old_lists new_lists : Lists) (key : ℕ) : Type 0 where
+-- the counter's node went
+pub record Prunes (old new : Branches) (link : Link) (tree : Tree ℕ) (counter : ℕ) : Type 0 where
   pub regrows : Regrows old new link tree (pruned counter tree)
   pub len : slab_len new.nodes + 1 ≡ slab_len old.nodes
-  pub closed : Changes old_lists new_lists key None
-  pub list_room : new_lists.list_room ≡ old_lists.list_room + 1
 
--- the tree stays, and the list keeps these waits
-pub record Shortens (old new : Branches) (old_lists new_lists : Lists) (key : ℕ) (rest : List Wait) : Type 0 where
-  pub same : new ≡ old
-  pub kept : Changes old_lists new_lists key (Some rest)
-  pub list_room : new_lists.list_room ≡ old_lists.list_room
+-- the counter's node went if only one wait was left in this list, else nothing changed
+pub record Leaves (old new : Branches) (link : Link) (tree : Tree ℕ) (counter : ℕ) (lists : Lists) (key : ℕ) : Type 0 where
+  pub last : length (waits_at lists key) ≡ 1 → Prunes old new link tree counter
+  pub others : length (waits_at lists key) ≢ 1 → new ≡ old
 
-abbrev pub Leaves : Branches → Branches → Link → Tree ℕ → ℕ → Lists → Lists → ℕ → List Wait → Type 0
-Leaves old new link tree counter old_lists new_lists key [] = Prunes old new link tree counter old_lists new_lists key
-Leaves old new link tree counter old_lists new_lists key (wait ∷ rest) = Shortens old new old_lists new_lists key (wait ∷ rest)
-
--- the first wait of a list was taken out
-pub record Takes (old new : Branches) (link : Link) (tree : Tree ℕ) (counter : ℕ) (old_lists new_lists : Lists) (wait : Option Wait) (key : ℕ) : Type 0 where
-  pub first : wait ≡ slice_get (waits_at old_lists key) 0
-  pub room : new_lists.room ≡ old_lists.room + 1
-  pub leaves : Leaves old new link tree counter old_lists new_lists key (drop 1 (waits_at old_lists key))
-
--- a counter's list has a wait, if the tree has the counter
-pub record IsFilled (tree : Tree ℕ) (counter : ℕ) (lists : Lists) : Type 0 where
-  pub filled : (key : ℕ) → top_value (sought counter tree) ≡ Some key → 0 < length (waits_at lists key)
+-- a counter's list is open, if the tree has the counter
+pub record IsListed (tree : Tree ℕ) (counter : ℕ) (lists : Lists) : Type 0 where
+  pub open_at : (key : ℕ) → top_value (sought counter tree) ≡ Some key → IsOpen lists key
 
 -- the treap of these branches can take as many nodes in all as were reserved
 pub record IsPlanted (branches : Branches) (reserved : ℕ) : Type 0 where

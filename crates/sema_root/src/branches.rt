@@ -1,16 +1,15 @@
 //! Walks down a treap that change it: each goes down once, and ends by writing the one link that it came through.
-ghost use Rattle.std.specs.Prelude.{◌≡◌, ◌+◌, ◌<◌, drop, length, slice_get, MatchOption, Some, None, true};
-ghost use Rattle.slab.specs.Slab.{get, slab_len, HasRoomFor};
-ghost use Rattle.waiters.specs.Lists.{waits_at};
+ghost use Rattle.std.specs.Prelude.{◌≡◌, ◌<◌, MatchOption, true};
+ghost use Rattle.slab.specs.Slab.{HasRoomFor};
 ghost use Rattle.sema_root.specs.Tree.{size, sought, top_value};
 ghost use Rattle.sema_root.specs.Linked.{tree_at};
-ghost use Rattle.sema_root.specs.Hanging.{ComesTo, Enters, Hangs, HangsNew, IsFilled, IsFound, IsMissing, IsThere, Pops, Takes, toward};
+ghost use Rattle.sema_root.specs.Hanging.{ComesTo, Enters, Hangs, HangsNew, IsFound, IsListed, IsThere, Leaves, toward};
 ghost use Rattle.sema_root.specs.Planted.{Opens};
 
 use crate::listed::Listed;
 use crate::nodes::{Node, list_of, merge, set_left, set_right, split};
 use slab::Slab;
-use waiters::{CounterId, ListKey, Lists, Wait};
+use waiters::{CounterId, ListKey, Lists};
 
 /// Nodes, and the topmost one.
 #[derive(Drop)]
@@ -53,6 +52,7 @@ fn toward(counter: CounterId, key: usize, node: Node) -> (Link, Option<usize>)
 }
 
 // Opens a list, and hangs a new node for it, with these two trees below it.
+#[inline(always)]
 fn enter(
     branches: &mut Branches,
     link: Link,
@@ -65,7 +65,8 @@ fn enter(
     requires there { IsThere branches.old link }
     requires list_room { 0 < lists.old.list_room }
     ensures is_new { result.is_new ≡ true }
-    ensures hangs { HangsNew branches.old branches.new link sides.0 sides.1 (record { counter = counter; ticket = ticket; value = result.list }) }
+    ensures hangs { HangsNew branches.old branches.new link sides.0 sides.1
+        (record { counter = counter; ticket = ticket; value = result.list }) }
     ensures opens { Opens lists.old lists.new result.list }
 {
     let list = lists.open();
@@ -124,50 +125,32 @@ pub(crate) fn list_for(
     enter(branches, link, sides, counter, ticket, lists)
 }
 
-// Takes the first wait out of a list, closes the list where it was the last, and says whether it was.
-fn pop(lists: &mut Lists, list: ListKey) -> (Option<Wait>, bool)
-    requires { 0 < length (waits_at lists.old list) }
-    ensures first { result.0 ≡ slice_get (waits_at lists.old list) 0 }
-    ensures room { lists.new.room ≡ lists.old.room + 1 }
-    ensures rest { Pops lists.old lists.new list (drop 1 (waits_at lists.old list)) result.1 }
-{
-    let wait = lists.pop_front(list);
-    if lists.len(list) > 0 {
-        return (wait, false);
-    }
-    lists.close(list);
-    (wait, true)
-}
-
-// Takes the first wait of a counter out of its list in the tree at a link, and with the last wait its node.
-pub(crate) fn take_first(
+// The list of a counter in the tree at a link. The counter's node goes where only one wait is left in the list.
+pub(crate) fn leave(
     branches: &mut Branches,
     link: Link,
     at: Option<usize>,
     counter: CounterId,
-    lists: &mut Lists,
-) -> Option<Wait>
+    lists: &Lists,
+) -> Option<ListKey>
     requires comes { ComesTo branches.old link at counter }
-    requires filled { IsFilled (tree_at branches.old.nodes at) counter lists.old }
-    ensures { let tree = tree_at branches.old.nodes at in
-        MatchOption (top_value (sought counter tree))
-        (IsMissing branches.old branches.new lists.old lists.new result)
-        (Takes branches.old branches.new link tree counter lists.old lists.new result) }
+    requires listed { IsListed (tree_at branches.old.nodes at) counter lists.now }
+    ensures list { result ≡ top_value (sought counter (tree_at branches.old.nodes at)) }
+    ensures leaves { let tree = tree_at branches.old.nodes at in
+        MatchOption result (branches.new ≡ branches.old) (Leaves branches.old branches.new link tree counter lists.now) }
 {
     let Some(key) = at else {
         return None;
     };
     let node = branches.nodes[key];
-    if counter != node.counter {
-        let (side, next) = toward(counter, key, node);
-        return take_first(branches, side, next, counter, lists);
+    if counter == node.counter {
+        if lists.len(node.list) == 1 {
+            branches.nodes.remove(key);
+            let rest = merge(&mut branches.nodes, node.left, node.right);
+            hang(branches, link, rest);
+        }
+        return Some(node.list);
     }
-    let (wait, is_last) = pop(lists, node.list);
-    if !is_last {
-        return wait;
-    }
-    branches.nodes.remove(key);
-    let rest = merge(&mut branches.nodes, node.left, node.right);
-    hang(branches, link, rest);
-    wait
+    let (side, next) = toward(counter, key, node);
+    leave(branches, side, next, counter, lists)
 }

@@ -1,17 +1,17 @@
 //! Which list each counter's waits stand in, as a treap: a search tree by counters that is a heap by tickets.
-ghost use Rattle.std.specs.Prelude.{◌≡◌, ℕ, ◌<◌, MatchOption, IfOk, length, Some, None};
-ghost use Rattle.waiters.specs.Lists.{waits_at};
+ghost use Rattle.std.specs.Prelude.{◌≡◌, ℕ, ◌<◌, MatchOption, IfOk, Some};
+ghost use Rattle.waiters.specs.Lists.{IsOpen};
 ghost use Rattle.sema_root.specs.Tree.{IsTreap, leaf, sought, top_counter, top_place, top_value};
-ghost use Rattle.sema_root.specs.Planted.{Enters, IsFound, IsMissing, Takes};
+ghost use Rattle.sema_root.specs.Planted.{Enters, IsFound, Leaves};
 
-use crate::branches::{Branches, Link, list_for, take_first};
+use crate::branches::{Branches, Link, leave, list_for};
 use crate::listed::Listed;
 use crate::nodes::{counter_at, list_of, place_of};
 use crate::place::Place;
 use slab::Slab;
 use std::alloc::Global;
 use std::marker::Model;
-use waiters::{CounterId, ListKey, Lists, NoMemory, Wait};
+use waiters::{CounterId, ListKey, Lists, NoMemory};
 
 /// Counters with their lists and tickets, in nodes that are reserved once.
 #[derive(Drop)]
@@ -99,15 +99,14 @@ impl Treap {
         list_for(&mut self.branches, Link::Top, top, counter, ticket, lists)
     }
 
-    /// Takes the first wait of a counter out of its list. With the last wait the list is closed, and the counter goes.
-    pub(crate) fn take_first(&mut self, counter: CounterId, lists: &mut Lists) -> Option<Wait>
-        requires { (key : ℕ) → top_value (sought counter self.old.tree) ≡ Some key → 0 < length (waits_at lists.old key) }
-        ensures wait { MatchOption (top_value (sought counter self.old.tree))
-            (IsMissing self.old self.new lists.old lists.new result)
-            (Takes self.old self.new counter lists.old lists.new result) }
+    /// The list of a counter, if it is in. The counter goes where only one wait is left in its list.
+    pub(crate) fn leave(&mut self, counter: CounterId, lists: &Lists) -> Option<ListKey>
+        requires { (key : ℕ) → top_value (sought counter self.old.tree) ≡ Some key → IsOpen lists.now key }
+        ensures list { result ≡ top_value (sought counter self.old.tree) }
+        ensures leaves { MatchOption result (self.new ≡ self.old) (Leaves self.old self.new counter lists.now) }
         ensures treap { IsTreap self.new.tree }
     {
         let top = self.branches.top;
-        take_first(&mut self.branches, Link::Top, top, counter, lists)
+        leave(&mut self.branches, Link::Top, top, counter, lists)
     }
 }

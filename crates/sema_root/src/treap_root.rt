@@ -101,7 +101,14 @@ impl RootStore for TreapRoot {
         ensures kept { KeepsTickets self.old.tree self.new.tree }
         ensures undrawn { self.new.tickets ≡ self.old.tickets }
     {
-        self.treap.take_first(counter, &mut self.lists)
+        let Some(list) = self.treap.leave(counter, &self.lists) else {
+            return None;
+        };
+        let wait = self.lists.pop_front(list);
+        if self.lists.len(list) == 0 {
+            self.lists.close(list);
+        }
+        wait
     }
 
     fn count(&self) -> usize {
