@@ -18,3 +18,4 @@ pub mod Taking
 pub mod Planting
 pub mod Rooting
 pub mod Growing
+pub mod Copying
