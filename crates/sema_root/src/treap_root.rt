@@ -146,10 +146,13 @@ impl Clone for TreapRoot {
 
     // The copy has its own memory reserved, so that it takes as many waits as this root with no more.
     fn clone(&self) -> Result<Self, AllocError> {
+        let treap = self.treap.clone()?;
+        let lists = self.lists.clone()?;
+        let tickets = self.tickets.clone()?;
         Ok(TreapRoot {
-            treap: self.treap.clone()?,
-            lists: self.lists.clone()?,
-            tickets: self.tickets.clone()?,
+            treap,
+            lists,
+            tickets,
             seats: self.seats,
         })
     }

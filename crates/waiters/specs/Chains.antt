@@ -1,5 +1,6 @@
 -- How `Lists` keeps its lists: each open key has a chain of records, linked by index. No public clause cites this.
-use Rattle.std.specs.Prelude.{◌≡◌, ℕ, zero, suc, ◌+◌, ◌<◌, ◌≤◌, ◌^◌, List, [], ◌∷◌, ◌++◌, map, drop, length, Option, Some, None, if◌then◌else◌, is_none}
+use Rattle.std.specs.Prelude.{◌≡◌, ◌+◌, ◌<◌, ◌≤◌, ◌^◌, [], ◌∷◌, ◌++◌, if◌then◌else◌}
+use Rattle.std.specs.Prelude.{ℕ, zero, suc, List, map, drop, length, Option, Some, None, is_none}
 use Rattle.std.specs.Option.{option_or}
 use Rattle.slab.specs.Slab.{Slab, get, ContainsKey, slab_len, HasRoomFor, Updates, with_value}
 use Rattle.waiters.specs.Lists.{seats_of, first_with, without_first}
@@ -29,7 +30,8 @@ listed records chains = map (waits_in records) chains.slots
 abbrev pub Linked : Slab Record → Option ℕ → List (ℕ × Wait) → Option ℕ → Type 0
 Linked records here [] there = here ≡ there
 Linked records here (entry ∷ rest) there =
-    (next : Option ℕ) × (here ≡ Some entry.0) × (get records entry.0 ≡ Some (record { wait = entry.1; next = next })) × Linked records next rest there
+    (next : Option ℕ) × (here ≡ Some entry.0) × (get records entry.0 ≡ Some (record { wait = entry.1; next = next }))
+    × Linked records next rest there
 
 -- the key of the last of these records, or `None` where there is none
 abbrev pub last_key : List (ℕ × Wait) → Option ℕ
