@@ -13,7 +13,7 @@ use Rattle.sema_root.specs.Tree.{Tree, leaf, entries, size, sought, top_value}
 use Rattle.sema_root.specs.Reshaping.{grafted, pruned}
 use Rattle.sema_root.specs.Planted as treap
 use Rattle.sema_root.specs.Linked.{tree_at}
-use Rattle.sema_root.specs.Hanging.{ComesTo, Enters, IsFound, Prunes, Leaves, IsPlanted}
+use Rattle.sema_root.specs.Hanging.{Enters, IsFound, Prunes, Leaves, IsPlanted}
 use Rattle.sema_root.proofs.Seeking.{sought-value}
 use Rattle.sema_root.proofs.Grafting.{grafted-size, grafted-treap}
 use Rattle.sema_root.proofs.Pruning.{pruned-size, pruned-treap}
@@ -55,10 +55,6 @@ pub record IsReplanted (new : Branches) (reserved : ℕ) (P : Type 0) : Type 0 w
   pub settled : P
 
 module _ (old : Branches) (reserved : ℕ) (planted : IsPlanted old reserved) (counter : ℕ) where
-  -- a walk begins at the top
-  pub ComesTo-top : ComesTo old Top old.top counter
-  ComesTo-top = record { searchable = record { holds = planted.holds; rising = planted.treap.searched }; hangs = refl }
-
   tree : Tree ℕ
   tree = tree_at old.nodes old.top
 

@@ -1,16 +1,17 @@
 -- A walk finds a counter's list, and takes the counter's node out where one wait is left in the list.
-use Rattle.std.proofs.Common.{◌≡◌, ◌≢◌, ℕ, ◌+◌, ◌≤◌, [], ◌∷◌, ◌++◌, Option, Some, None, MatchOption}
+use Rattle.std.proofs.Common.{◌≡◌, ◌≢◌, ℕ, ◌+◌, ◌≤◌, [], ◌∷◌, ◌++◌, Option, Some, None}
 use Rattle.std.proofs.Common.{refl, sym, ap, ◌∙◌, subst, arith, eq-eqb, ne_eqb, lt-ltb, le-ltb}
 use Rattle.slab.specs.Slab.{Slab, get, Updates, slab_len}
 use Rattle.waiters.specs.Lists.{Lists}
 use Rattle.sema_root.specs.declared.nodes.Node.{Node}
 use Rattle.sema_root.specs.declared.branches.Branches.{Branches}
 use Rattle.sema_root.specs.declared.branches.Link.{Link}
+use Rattle.sema_root.specs.declared.branches.Link.TheVariants.{Top}
 use Rattle.sema_root.specs.Entries.{AreRising}
 use Rattle.sema_root.specs.Tree.{Tree, entries, size, sought, top_value}
 use Rattle.sema_root.specs.Reshaping.{merged, pruned}
 use Rattle.sema_root.specs.Linked.{sprig, tree_at, Holds, Lacks, Keeps, AreMergeable, Merges}
-use Rattle.sema_root.specs.Hanging.{toward, IsThere, Hangs, Regrows, ComesTo, Prunes, Leaves, IsListed}
+use Rattle.sema_root.specs.Hanging.{toward, IsThere, Hangs, Regrows, ComesTo, Prunes, Leaves}
 use Rattle.sema_root.proofs.Rising.{All-append, Rising-without}
 use Rattle.sema_root.proofs.Seeking.{entry}
 use Rattle.sema_root.proofs.Merging.{merged-entries, merged-size}
@@ -19,7 +20,7 @@ use Rattle.sema_root.proofs.Standing.{Opens, Opens-holds, Holds-nothing, Holds-r
 use Rattle.sema_root.proofs.Linking.{Keeps-both, Apart-one}
 use Rattle.sema_root.proofs.Parting.{Lacks-around, Sides, Sides-open, Holds-kept}
 use Rattle.sema_root.proofs.Hanging.{IsThere-kept, Regrows-hung}
-use Rattle.sema_root.proofs.Listing.{Regrows-toward, sought-toward}
+use Rattle.sema_root.proofs.Listing.{ComesTo-toward, Regrows-toward, sought-toward}
 
 -- a pruned tree is no larger
 pruned-fits : (counter : ℕ) (tree : Tree ℕ) → size (pruned counter tree) ≤ size tree
@@ -41,11 +42,8 @@ module _ (old : Branches) (link : Link) (at : Option ℕ) (counter : ℕ) (comes
 
     module _ (apart : counter ≢ node.counter) where
       -- below another counter's node is the list that is sought
-      pub list_toward : top_value (sought counter (tree_at old.nodes at)) ≡ top_value (sought counter (tree_at old.nodes (toward counter key node).1))
+      list_toward : top_value (sought counter (tree_at old.nodes at)) ≡ top_value (sought counter (tree_at old.nodes (toward counter key node).1))
       list_toward = ap top_value (sought-toward old link at key node counter comes leads got apart)
-
-      pub IsListed-toward : (lists : Lists) → IsListed (tree_at old.nodes at) counter lists → IsListed (tree_at old.nodes (toward counter key node).1) counter lists
-      IsListed-toward lists listed = record { open_at = λ list is. listed.open_at list (list_toward ∙ is) }
 
       -- and the node that goes
       Leaves-toward : (new : Branches) (lists : Lists) (list : ℕ)
@@ -62,12 +60,6 @@ module _ (old : Branches) (link : Link) (at : Option ℕ) (counter : ℕ) (comes
         };
         others = leaves.others;
       }
-
-      pub left_toward : (new : Branches) (lists : Lists) (found : Option ℕ)
-          → MatchOption found (new ≡ old) (Leaves old new (toward counter key node).0 (tree_at old.nodes (toward counter key node).1) counter lists)
-          → MatchOption found (new ≡ old) (Leaves old new link (tree_at old.nodes at) counter lists)
-      left_toward new lists None same = same
-      left_toward new lists (Some list) leaves = Leaves-toward new lists list leaves
 
     module _ (same : counter ≡ node.counter) where
       -- at the counter's node is its list
@@ -159,3 +151,25 @@ module _ (old : Branches) (link : Link) (at : Option ℕ) (counter : ℕ) (comes
                   let parts = Lacks-around c (entries left) (entry (sprig node)) (entries right) (subst (λ (t : Tree ℕ). Lacks c (entries t)) opens.is lacks) in
                   subst (Lacks c) (sym (merged-entries left right)) (All-append _ (entries left) (entries right) parts.0 parts.2))
                   hung
+
+-- a walk from the top has come to a link: the list that is sought and its node are there
+pub record WalksTo (start now : Branches) (link : Link) (here : Option ℕ) (counter : ℕ) (lists : Lists) : Type 0 where
+  pub same : now ≡ start
+  pub comes : ComesTo now link here counter
+  pub list : top_value (sought counter (tree_at start.nodes start.top)) ≡ top_value (sought counter (tree_at now.nodes here))
+  pub leaves : (new : Branches) (key : ℕ) → Leaves now new link (tree_at now.nodes here) counter lists key
+      → Leaves start new Top (tree_at start.nodes start.top) counter lists key
+
+pub WalksTo-start : (start : Branches) (counter : ℕ) (lists : Lists) → ComesTo start Top start.top counter
+    → WalksTo start start Top start.top counter lists
+WalksTo-start start counter lists comes = record { same = refl; comes = comes; list = refl; leaves = λ new key leaves. leaves }
+
+pub WalksTo-next : (start now : Branches) (link : Link) (here : Option ℕ) (counter : ℕ) (lists : Lists)
+    → WalksTo start now link here counter lists → (key : ℕ) (node : Node) → here ≡ Some key → get now.nodes key ≡ Some node
+    → counter ≢ node.counter → WalksTo start now (toward counter key node).0 (toward counter key node).1 counter lists
+WalksTo-next start now link here counter lists walks key node leads got apart = record {
+  same = walks.same;
+  comes = ComesTo-toward now link here key node counter walks.comes leads got apart;
+  list = walks.list ∙ list_toward now link here counter walks.comes key node leads got apart;
+  leaves = λ new list leaves. walks.leaves new list (Leaves-toward now link here counter walks.comes key node leads got apart new lists list leaves);
+}

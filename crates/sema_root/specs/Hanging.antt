@@ -1,13 +1,13 @@
 -- Where a tree of nodes hangs, and what a walk that ends at one link leaves of the nodes. No public clause cites this.
 use Rattle.std.specs.Prelude.{◌≡◌, ◌≢◌, ◌==◌, ◌≤◌, ◌+◌, ℕ, Option, Some, None, true, false, length, ltb, if◌then◌else◌}
 use Rattle.slab.specs.Slab.{get, ContainsKey, slab_len, Updates}
-use Rattle.waiters.specs.Lists.{Lists, IsOpen, waits_at}
+use Rattle.waiters.specs.Lists.{Lists, waits_at}
 use Rattle.sema_root.specs.declared.nodes.Node.{Node}
 use Rattle.sema_root.specs.declared.branches.Branches.{Branches}
 use Rattle.sema_root.specs.declared.listed.Listed.{Listed}
 use Rattle.sema_root.specs.declared.branches.Link.{Link}
 use Rattle.sema_root.specs.declared.branches.Link.TheVariants.{Top, Left, Right}
-use Rattle.sema_root.specs.Tree.{Sprig, Tree, size, entries, sought, top_value, IsTreap}
+use Rattle.sema_root.specs.Tree.{Sprig, Tree, size, entries, IsTreap}
 use Rattle.sema_root.specs.Planted.{Opens}
 use Rattle.sema_root.specs.Reshaping.{grafted, pruned}
 use Rattle.sema_root.specs.Linked.{sprig, tree_at, Holds, Lacks, IsSearchable}
@@ -120,10 +120,6 @@ pub record Prunes (old new : Branches) (link : Link) (tree : Tree ℕ) (counter 
 pub record Leaves (old new : Branches) (link : Link) (tree : Tree ℕ) (counter : ℕ) (lists : Lists) (key : ℕ) : Type 0 where
   pub last : length (waits_at lists key) ≡ 1 → Prunes old new link tree counter
   pub others : length (waits_at lists key) ≢ 1 → new ≡ old
-
--- a counter's list is open, if the tree has the counter
-pub record IsListed (tree : Tree ℕ) (counter : ℕ) (lists : Lists) : Type 0 where
-  pub open_at : (key : ℕ) → top_value (sought counter tree) ≡ Some key → IsOpen lists key
 
 -- the treap of these branches can take as many nodes in all as were reserved
 pub record IsPlanted (branches : Branches) (reserved : ℕ) : Type 0 where

@@ -1,9 +1,11 @@
 //! Walks down a treap that change it: each goes down once, and ends by writing the one link that it came through.
-ghost use Rattle.std.specs.Prelude.{◌≡◌, ◌<◌, MatchOption, true};
+ghost use Rattle.std.specs.Prelude.{◌≡◌, ◌<◌, ℕ, MatchOption, Some, true};
 ghost use Rattle.slab.specs.Slab.{HasRoomFor};
+ghost use Rattle.waiters.specs.Lists.{IsOpen};
+ghost use Rattle.sema_root.specs.declared.branches.Link.TheVariants.{Top};
 ghost use Rattle.sema_root.specs.Tree.{size, sought, top_value};
 ghost use Rattle.sema_root.specs.Linked.{tree_at};
-ghost use Rattle.sema_root.specs.Hanging.{ComesTo, Enters, Hangs, HangsNew, IsFound, IsListed, IsThere, Leaves, toward};
+ghost use Rattle.sema_root.specs.Hanging.{ComesTo, Enters, Hangs, HangsNew, IsFound, IsThere, Leaves, toward};
 ghost use Rattle.sema_root.specs.Planted.{Opens};
 
 use crate::listed::Listed;
@@ -125,32 +127,28 @@ pub(crate) fn list_for(
     enter(branches, link, sides, counter, ticket, lists)
 }
 
-// The list of a counter in the tree at a link. The counter's node goes where only one wait is left in the list.
-pub(crate) fn leave(
-    branches: &mut Branches,
-    link: Link,
-    at: Option<usize>,
-    counter: CounterId,
-    lists: &Lists,
-) -> Option<ListKey>
-    requires comes { ComesTo branches.old link at counter }
-    requires listed { IsListed (tree_at branches.old.nodes at) counter lists.now }
-    ensures list { result ≡ top_value (sought counter (tree_at branches.old.nodes at)) }
-    ensures leaves { let tree = tree_at branches.old.nodes at in
-        MatchOption result (branches.new ≡ branches.old) (Leaves branches.old branches.new link tree counter lists.now) }
+// The list of a counter, if it is in. Its node goes where only one wait is left in the list.
+pub(crate) fn leave(branches: &mut Branches, counter: CounterId, lists: &Lists) -> Option<ListKey>
+    requires comes { ComesTo branches.old Top branches.old.top counter }
+    requires listed { let tree = tree_at branches.old.nodes branches.old.top in
+        (key : ℕ) → top_value (sought counter tree) ≡ Some key → IsOpen lists.now key }
+    ensures list { result ≡ top_value (sought counter (tree_at branches.old.nodes branches.old.top)) }
+    ensures leaves { let tree = tree_at branches.old.nodes branches.old.top in
+        MatchOption result (branches.new ≡ branches.old) (Leaves branches.old branches.new Top tree counter lists.now) }
 {
-    let Some(key) = at else {
-        return None;
-    };
-    let node = branches.nodes[key];
-    if counter == node.counter {
-        if lists.len(node.list) == 1 {
-            branches.nodes.remove(key);
-            let rest = merge(&mut branches.nodes, node.left, node.right);
-            hang(branches, link, rest);
+    let mut link = Link::Top;
+    let mut here = branches.top;
+    while let Some(key) = here {
+        let node = branches.nodes[key];
+        if counter == node.counter {
+            if lists.len(node.list) == 1 {
+                branches.nodes.remove(key);
+                let rest = merge(&mut branches.nodes, node.left, node.right);
+                hang(branches, link, rest);
+            }
+            return Some(node.list);
         }
-        return Some(node.list);
+        (link, here) = toward(counter, key, node);
     }
-    let (side, next) = toward(counter, key, node);
-    leave(branches, side, next, counter, lists)
+    None
 }

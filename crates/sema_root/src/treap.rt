@@ -106,8 +106,7 @@ impl Treap {
         ensures leaves { MatchOption result (self.new ≡ self.old) (Leaves self.old self.new counter lists.now) }
         ensures treap { IsTreap self.new.tree }
     {
-        let top = self.branches.top;
-        leave(&mut self.branches, Link::Top, top, counter, lists)
+        leave(&mut self.branches, counter, lists)
     }
 }
 
