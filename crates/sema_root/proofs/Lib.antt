@@ -19,3 +19,4 @@ pub mod Walking
 pub mod Planting
 pub mod Rooting
 pub mod Growing
+pub mod Copying

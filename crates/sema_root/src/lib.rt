@@ -6,7 +6,7 @@
 //! constant time however many wait.
 //!
 //! A root is made for so many seats, at most 65,535, and holds at most a wait for each. `with_room` takes all its
-//! memory and alone can answer want of it.
+//! memory, and a copy of a `TreapRoot` as much again. But for these only `ids` takes memory, for its answer.
 #![tactic(auto)]
 
 mod branches;

@@ -8,7 +8,7 @@ use crate::push::push;
 use crate::store::RootStore;
 use std::alloc::Global;
 use std::marker::Model;
-use waiters::{CounterId, ListKey, Lists, NoMemory, Wait};
+use waiters::{CounterId, ListKey, Lists, NoMemory, Wait, WaitId};
 
 /// A root as a vector of counters in rising order, each with its queue.
 #[derive(Drop)]
@@ -92,6 +92,20 @@ impl RootStore for SortedRoot {
         match search(&self.entries, counter) {
             Ok(at) => self.lists.len(self.entries[at].list),
             Err(_) => 0,
+        }
+    }
+
+    fn first(&self, counter: CounterId) -> Option<Wait> {
+        match search(&self.entries, counter) {
+            Ok(at) => self.lists.first(self.entries[at].list),
+            Err(_) => None,
+        }
+    }
+
+    fn ids(&self, alloc: Global, counter: CounterId) -> Result<Vec<WaitId>, NoMemory> {
+        match search(&self.entries, counter) {
+            Ok(at) => self.lists.ids(alloc, self.entries[at].list),
+            Err(_) => Ok(Vec::new(alloc)),
         }
     }
 

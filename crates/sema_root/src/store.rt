@@ -1,10 +1,11 @@
-ghost use Rattle.std.specs.Prelude.{◌≡◌, ◌<◌, ◌≤◌, ◌+◌, ℕ, List, drop, length, slice_get, OnSome, IfNone, IsTrue, ◌↔◌};
+ghost use Rattle.std.specs.Prelude.{◌≡◌, ◌<◌, ◌≤◌, ◌+◌, ℕ, List, drop, length, map, slice_get, IfOk, OnSome, IfNone, IsTrue, ◌↔◌};
 ghost use Rattle.waiters.specs.declared.wait.Wait.{Wait};
 ghost use Rattle.sema_root.specs.Queues.{waits_on, total, AreQueues, joined_by, Changes};
 
-use waiters::{CounterId, Wait};
+use std::alloc::Global;
+use waiters::{CounterId, NoMemory, Wait, WaitId};
 
-/// A root: the counters that have waits, each with its queue. No call takes memory.
+/// A root: the counters that have waits, each with its queue. No call takes memory but `ids`, for its answer.
 pub trait RootStore {
     /// The counters that have waits, in rising order, each with its waits from first to last.
     ghost queues: { Self → List (ℕ × List Wait) };
@@ -40,6 +41,14 @@ pub trait RootStore {
     /// How many wait on a counter.
     fn waiting(&self, counter: CounterId) -> usize
         ensures { result ≡ length (waits_on (queues self.now) counter) };
+
+    /// The first wait of a counter's queue.
+    fn first(&self, counter: CounterId) -> Option<Wait>
+        ensures { result ≡ slice_get (waits_on (queues self.now) counter) 0 };
+
+    /// The names of the waits of a counter's queue, in order. Memory is taken for the answer alone, at once.
+    fn ids(&self, alloc: Global, counter: CounterId) -> Result<Vec<WaitId>, NoMemory>
+        ensures { IfOk result (λ ids. ids.items ≡ map (λ wait. wait.id) (waits_on (queues self.now) counter)) };
 
     /// Whether no wait fits any more.
     fn is_full(&self) -> bool

@@ -1,6 +1,6 @@
 //! Each root by one table of calls, whose answers are known by hand, and both beside each other.
 //!
-//! A refused `with_room` is called once more. So each test passes whichever single allocation is refused
+//! A refused call is made once more. So each test passes whichever single allocation is refused
 //! (`rt try --test --fail-alloc N`, for each N), and shows that after a refusal the memory can still be had.
 
 ghost use Rattle.std.specs.Prelude.{◌≡◌, ◌+◌, ◌≤◌, [], IfOk};
@@ -39,8 +39,20 @@ fn counter(number: u32) -> CounterId {
     CounterId::new(number)
 }
 
+/// The names of those that wait, asked for once more where memory was refused.
+fn ids_again<R: RootStore>(
+    alloc: Global,
+    root: &R,
+    counter: CounterId,
+) -> Result<Vec<WaitId>, NoMemory> {
+    match root.ids(alloc, counter) {
+        Err(NoMemory) => root.ids(alloc, counter),
+        answer => answer,
+    }
+}
+
 /// The table: who is queued on which counter, and who comes out.
-fn exercise<R: RootStore>(rt: &impl Abort, root: &mut R)
+fn exercise<R: RootStore>(rt: &impl Abort, alloc: Global, root: &mut R) -> Result<(), NoMemory>
     requires { total (R.queues root.old) + 4 ≤ R.seats root.old }
 {
     root.queue(counter(5), wait(0), false);
@@ -51,6 +63,9 @@ fn exercise<R: RootStore>(rt: &impl Abort, root: &mut R)
     assert!(rt; root.is_full());
     assert_eq!(rt; root.count(), 4);
     assert_eq!(rt; root.waiting(counter(3)), 2);
+    assert_eq!(rt; root.first(counter(3)), Some(wait(3)));
+    let ids = ids_again(alloc, root, counter(3))?;
+    assert_eq!(rt; ids.as_slice(), [wait(3).id, wait(1).id].as_slice());
     assert_eq!(rt; root.dequeue(counter(3)), Some(wait(3)));
     assert_eq!(rt; root.dequeue(counter(3)), Some(wait(1)));
     assert_eq!(rt; root.dequeue(counter(3)), None);
@@ -58,6 +73,10 @@ fn exercise<R: RootStore>(rt: &impl Abort, root: &mut R)
     assert_eq!(rt; root.count(), 2);
     assert_eq!(rt; root.waiting(counter(5)), 1);
     assert_eq!(rt; root.waiting(counter(3)), 0);
+    assert_eq!(rt; root.first(counter(3)), None);
+    let nobody = ids_again(alloc, root, counter(3))?;
+    assert!(rt; nobody.is_empty());
+    Ok(())
 }
 
 /// A root of so many seats, asked for once more where memory was refused.
@@ -81,17 +100,24 @@ fn treap_again(alloc: Global, seats: u16, seed: u64) -> Result<TreapRoot, NoMemo
     }
 }
 
+fn copy_again(root: &TreapRoot) -> Result<TreapRoot, NoMemory> {
+    match root.clone() {
+        Err(_) => Ok(root.clone()?),
+        Ok(copy) => Ok(copy),
+    }
+}
+
 #[test]
 fn a_sorted_root_answers_as_written(rt: HostRuntime) -> Result<(), Fail> {
     let mut root = sorted_again(rt.alloc(), 4)?;
-    exercise(&rt, &mut root);
+    exercise(&rt, rt.alloc(), &mut root)?;
     Ok(())
 }
 
 #[test]
 fn a_treap_root_answers_as_written(rt: HostRuntime) -> Result<(), Fail> {
     let mut root = treap_again(rt.alloc(), 4, 1)?;
-    exercise(&rt, &mut root);
+    exercise(&rt, rt.alloc(), &mut root)?;
     Ok(())
 }
 
@@ -152,6 +178,25 @@ fn places_are_in_the_order_of_counters(rt: HostRuntime) -> Result<(), Fail> {
     root.dequeue(counter(3));
     assert_eq!(rt; root.place(counter(7)), None);
     assert_eq!(rt; counters(alloc, &root)?.as_slice(), [5, 9].as_slice());
+    Ok(())
+}
+
+#[test]
+fn a_copy_draws_the_same_tickets(rt: HostRuntime) -> Result<(), Fail> {
+    let mut root = treap_again(rt.alloc(), 4, 1)?;
+    queue(&mut root, 5, wait(0), false);
+    let mut copy = copy_again(&root)?;
+    for (at, number) in [3u32, 9, 7].into_iter().enumerate() {
+        queue(&mut root, number, wait(1), false);
+        queue(&mut copy, number, wait(1), false);
+        assert_eq!(rt; copy.count(), at.saturating_add(2));
+        assert_eq!(rt; copy.place(counter(number)), root.place(counter(number)));
+    }
+    assert_eq!(rt; copy.top(), root.top());
+    assert!(rt; copy.is_full());
+    assert_eq!(rt; copy.dequeue(counter(5)), Some(wait(0)));
+    assert_eq!(rt; copy.first(counter(5)), None);
+    assert_eq!(rt; root.first(counter(5)), Some(wait(0)));
     Ok(())
 }
 

@@ -4,6 +4,7 @@ ghost use Rattle.sema_root.specs.Treap.{drawn_from, tickets_from};
 use rand_core::SeedableRng;
 use rand_core::utils::NextWord;
 use rand_xoshiro::Xoshiro256PlusPlus;
+use std::alloc::AllocError;
 use std::marker::Model;
 
 /// The tickets of new nodes, from a seed. The next one is drawn ahead, so that the walk that finds no node for a
@@ -45,6 +46,17 @@ impl Tickets {
         ensures { self.new ≡ drawn_from self.old.generator }
     {
         self.next = draw(&mut self.generator);
+    }
+}
+
+impl Clone for Tickets {
+    ghost is_clone = { λ tickets copy. copy ≡ tickets };
+
+    fn clone(&self) -> Result<Self, AllocError> {
+        Ok(Tickets {
+            next: self.next,
+            generator: self.generator.clone()?,
+        })
     }
 }
 

@@ -9,7 +9,7 @@ use crate::listed::Listed;
 use crate::nodes::{counter_at, list_of, place_of};
 use crate::place::Place;
 use slab::Slab;
-use std::alloc::Global;
+use std::alloc::{AllocError, Global};
 use std::marker::Model;
 use waiters::{CounterId, ListKey, Lists, NoMemory};
 
@@ -106,5 +106,23 @@ impl Treap {
         ensures treap { IsTreap self.new.tree }
     {
         leave(&mut self.branches, counter, lists)
+    }
+}
+
+impl Clone for Treap {
+    ghost is_clone = { λ treap copy. copy ≡ treap };
+
+    // The copy has memory for as many nodes.
+    fn clone(&self) -> Result<Self, AllocError> {
+        let mut nodes = self.branches.nodes.clone()?;
+        nodes.reserve_exact(self.room())?;
+        let branches = Branches {
+            nodes,
+            top: self.branches.top,
+        };
+        Ok(Treap {
+            branches,
+            reserved: self.reserved,
+        })
     }
 }

@@ -14,9 +14,9 @@ use crate::push::push;
 use crate::store::RootStore;
 use crate::tickets::Tickets;
 use crate::treap::Treap;
-use std::alloc::Global;
+use std::alloc::{AllocError, Global};
 use std::marker::Model;
-use waiters::{CounterId, ListKey, Lists, NoMemory, Wait};
+use waiters::{CounterId, ListKey, Lists, NoMemory, Wait, WaitId};
 
 /// A root as a treap of counters, each with its queue.
 #[derive(Drop)]
@@ -125,8 +125,39 @@ impl RootStore for TreapRoot {
         }
     }
 
+    fn first(&self, counter: CounterId) -> Option<Wait> {
+        match self.treap.find(counter) {
+            Some(list) => self.lists.first(list),
+            None => None,
+        }
+    }
+
+    fn ids(&self, alloc: Global, counter: CounterId) -> Result<Vec<WaitId>, NoMemory> {
+        match self.treap.find(counter) {
+            Some(list) => self.lists.ids(alloc, list),
+            None => Ok(Vec::new(alloc)),
+        }
+    }
+
     fn is_full(&self) -> bool {
         self.lists.room() == 0
+    }
+}
+
+impl Clone for TreapRoot {
+    ghost is_clone = { λ root copy. copy ≡ root };
+
+    // The copy has its own memory reserved, so that it takes as many waits as this root with no more.
+    fn clone(&self) -> Result<Self, AllocError> {
+        let treap = self.treap.clone()?;
+        let lists = self.lists.clone()?;
+        let tickets = self.tickets.clone()?;
+        Ok(TreapRoot {
+            treap,
+            lists,
+            tickets,
+            seats: self.seats,
+        })
     }
 }
 

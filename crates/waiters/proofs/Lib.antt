@@ -1,4 +1,6 @@
 pub mod ChainLemmas
+pub mod CloneLemmas
 pub mod CopyLemmas
+pub mod NameLemmas
 pub mod StepLemmas
 pub mod WalkLemmas

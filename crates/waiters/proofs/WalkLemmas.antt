@@ -23,6 +23,9 @@ pub without_first-later : (ticket : ℕ) (wait : Wait) (rest : List Wait) → wa
 without_first-later ticket wait rest differs = grind (arith, nat_tests)
 
 module _ (records : Slab Record) where
+  pub Linked-from : (here : Option ℕ) (key : ℕ) (rest : List (ℕ × Wait)) → here ≡ Some key → Linked records here rest None → Linked records (Some key) rest None
+  Linked-from here key rest is linked = rw is at linked
+
   pub Linked-there : (key : ℕ) (rest : List (ℕ × Wait)) → Linked records (Some key) rest None → ContainsKey records key
   Linked-there key [] linked = absurd (cc)
   Linked-there key (entry ∷ later) linked =

@@ -125,6 +125,24 @@ fn first_seat(rt: &impl Abort, lists: &Lists, key: ListKey) -> (usize, SeatId) {
     (copied, seats[0])
 }
 
+fn first(rt: &impl Abort, lists: &Lists, key: ListKey) -> Option<Wait> {
+    assert!(rt; lists.is_open(key));
+    lists.first(key)
+}
+
+fn ids_again(
+    rt: &impl Abort,
+    alloc: Global,
+    lists: &Lists,
+    key: ListKey,
+) -> Result<Vec<WaitId>, NoMemory> {
+    assert!(rt; lists.is_open(key));
+    match lists.ids(alloc, key) {
+        Err(NoMemory) => lists.ids(alloc, key),
+        answer => answer,
+    }
+}
+
 fn open(rt: &impl Abort, lists: &mut Lists) -> ListKey {
     assert!(rt; lists.list_room() > 0);
     lists.open()
@@ -134,6 +152,13 @@ fn close(rt: &impl Abort, lists: &mut Lists, key: ListKey) {
     assert!(rt; lists.is_open(key));
     assert!(rt; lists.len(key) == 0);
     lists.close(key);
+}
+
+fn copy_again(lists: &Lists) -> Result<Lists, NoMemory> {
+    match lists.clone() {
+        Err(_) => Ok(lists.clone()?),
+        Ok(copy) => Ok(copy),
+    }
 }
 
 fn lists_again(alloc: Global) -> Result<Lists, NoMemory> {
@@ -160,16 +185,42 @@ fn lists_answer_as_written(rt: HostRuntime) -> Result<(), Fail> {
     ];
     answers_as_written(&rt, &mut lists, key, pushed.as_slice());
     assert_eq!(rt; first_seat(&rt, &lists, key), (1, SeatId::new(0)));
+    assert_eq!(rt; first(&rt, &lists, key), Some(wait(0, 5)));
+    let ids = ids_again(&rt, rt.alloc(), &lists, key)?;
+    assert_eq!(rt; ids.as_slice(), [wait(0, 5).id, wait(1, 7).id].as_slice());
     let popped = [
         Row(Call::PopFront, Some(wait(0, 5)), 1, 2),
         Row(Call::PopFront, Some(wait(1, 7)), 0, 3),
         Row(Call::PopFront, None, 0, 3),
     ];
     answers_as_written(&rt, &mut lists, key, popped.as_slice());
+    assert_eq!(rt; first(&rt, &lists, key), None);
     close(&rt, &mut lists, key);
     assert!(rt; !lists.is_open(key));
     assert_eq!(rt; lists.room(), 3);
     assert_eq!(rt; lists.list_room(), 2);
+    Ok(())
+}
+
+#[test]
+fn a_copy_answers_for_itself(rt: HostRuntime) -> Result<(), Fail> {
+    let mut lists = lists_again(rt.alloc())?;
+    let key = open(&rt, &mut lists);
+    push_back(&rt, &mut lists, key, wait(0, 5));
+    let mut copy = copy_again(&lists)?;
+    assert_eq!(rt; copy.room(), 2);
+    assert_eq!(rt; copy.list_room(), 1);
+    let rows = [
+        Row(Call::PushBack(1, 7), None, 2, 1),
+        Row(Call::PushBack(2, 7), None, 3, 0),
+        Row(Call::PopFront, Some(wait(0, 5)), 2, 1),
+        Row(Call::TakeTicket(7), Some(wait(1, 7)), 1, 2),
+    ];
+    answers_as_written(&rt, &mut copy, key, rows.as_slice());
+    let other = open(&rt, &mut copy);
+    assert!(rt; other != key);
+    assert_eq!(rt; first(&rt, &copy, key), Some(wait(2, 7)));
+    assert_eq!(rt; first(&rt, &lists, key), Some(wait(0, 5)));
     Ok(())
 }
 
