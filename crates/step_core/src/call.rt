@@ -13,7 +13,7 @@ pub enum Call {
     Acquire(CounterId, bool),
     /// Adds one unit and wakes the first wait: with handoff the unit is tried for it.
     Release(CounterId, bool),
-    /// Adds this many units at once and wakes as many waits.
+    /// Adds this many units at once and wakes as many waits at most.
     ReleaseMany(CounterId, u32),
     /// Takes a ticket of the list.
     Add(ListId),

@@ -53,4 +53,6 @@ pub use world::World;
 #[cfg(test)]
 mod tests;
 #[cfg(test)]
+mod text_tests;
+#[cfg(test)]
 mod turn_tests;

@@ -31,7 +31,7 @@ pub(crate) fn word_of(seat: SeatId, sight: &Sight, release: ReleaseMany, row: Ma
     }
 }
 
-/// Where it goes that takes one more wait out: the units that are still owed have that wait's among them.
+/// Where it goes that takes one more wait out; `owed` counts the unit of that wait too.
 fn after_leave(sight: &Sight, release: ReleaseMany) -> Place
     ensures { result ≡ after_leave release sight.now.held sight.now.queued }
 {

@@ -6,7 +6,8 @@ ghost use Rattle.step_core.specs.Event.{waiter};
 
 use waiters::{SeatId, WaitId};
 
-/// Its counter's list and its hand: the first wait of each, and how many there are.
+/// The first wait of its counter's list and of its hand, how many the hand has, and, for a release of many, how many
+/// the list has.
 #[derive(Clone, Copy, Debug, Drop)]
 pub(crate) struct Sight {
     pub listed: Option<WaitId>,

@@ -160,3 +160,18 @@ fn a_sleeper_can_step_once_it_has_its_grant(rt: HostRuntime) -> Result<(), Fail>
     }
     Ok(())
 }
+
+#[test]
+fn many_units_are_added_at_once(rt: HostRuntime) -> Result<(), Fail> {
+    let many = Call::ReleaseMany(CounterId::new(COUNTER), 256);
+    let one = Call::ReleaseMany(CounterId::new(COUNTER), 1);
+    let scenario = scenario_of(rt.alloc(), 1, &[(many, 1), (one, 1)])?;
+    let mut world = new_again(rt.alloc(), &scenario)?;
+    runs(&rt, &mut world, 0, &[Row::M1, Row::M2]);
+    assert_eq!(rt; phase(&rt, &world, 0), Phase::Ended);
+    assert_eq!(rt; value_of(&rt, &world, COUNTER), 256);
+    runs(&rt, &mut world, 1, &[Row::M1, Row::M2]);
+    assert_eq!(rt; phase(&rt, &world, 1), Phase::Ended);
+    assert_eq!(rt; value_of(&rt, &world, COUNTER), 257);
+    Ok(())
+}
