@@ -13,6 +13,7 @@ pub mod Bounding
 pub mod Ending
 pub mod Promises
 pub mod Storing
+pub mod Rooting
 pub mod Ranges
 pub mod Calling
 pub mod Stepping
