@@ -15,6 +15,7 @@ pub mod Promises
 pub mod Storing
 pub mod Rooting
 pub mod Ranges
+pub mod Seating
 pub mod Calling
 pub mod Stepping
 pub mod Starting
