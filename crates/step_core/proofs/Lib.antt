@@ -13,7 +13,9 @@ pub mod Bounding
 pub mod Ending
 pub mod Promises
 pub mod Storing
+pub mod Rooting
 pub mod Ranges
+pub mod Seating
 pub mod Calling
 pub mod Stepping
 pub mod Starting

@@ -5,18 +5,18 @@ use Rattle.std.proofs.Math.ListN.{get_or-eq_default}
 use native.Mathlib.Decide.{ℕ_discrete}
 use Rattle.waiters.specs.declared.wait.WaitId.{WaitId}
 use Rattle.step_core.specs.declared.caller.Caller.{Caller}
-use Rattle.step_core.specs.declared.place.AcquireRow.TheVariants.{P}
+use Rattle.step_core.specs.declared.place.AcquireRow.TheVariants.{A7, P}
 use Rattle.step_core.specs.declared.place.Place.{Place}
 use Rattle.step_core.specs.declared.place.Place.TheVariants.{Acquiring}
 use Rattle.step_core.specs.declared.word.Word.{Word}
 use Rattle.step_core.specs.declared.word.Word.TheVariants.{Counter, Lock, Waiters, Grant}
 use Rattle.step_core.specs.World.{found}
 use Rattle.step_core.specs.Lawful.{total, times, added, IsGrantOf}
-use Rattle.step_core.specs.Invariant.{IsWithin}
+use Rattle.step_core.specs.Invariant.{IsWithin, asleep}
 use Rattle.step_core.specs.Scenario.{IsScript}
 use Rattle.step_core.specs.Run.{layout}
-use Rattle.step_core.specs.State.{State, IsSound, HasRowsOf, each, idle, words_of, root_of, run_of, row_finds, row_event}
-use Rattle.step_core.proofs.Sums.{total_zero, total_suc}
+use Rattle.step_core.specs.State.{State, IsSound, HasRowsOf, MayQueue, each, idle, words_of, root_of, run_of, row_finds, row_event}
+use Rattle.step_core.proofs.Sums.{total_zero, total_suc, total_rest}
 use Rattle.step_core.proofs.Placing.{same_here}
 use Rattle.step_core.proofs.Bounding.{bounded}
 use Rattle.step_core.proofs.Promises.{promised}
@@ -37,6 +37,15 @@ pub get_here : {A : Type 0} (d : A) (l : List A) (i : ℕ) (x : A) → slice_get
 get_here d [] i x e = absurd (cc)
 get_here d (y ∷ l) zero x e = (omega arith, (let f : Some y ≡ Some x = e in cc))
 get_here d (y ∷ l) (suc i) x e = let h = get_here d l i x e in (let a = h.0 in omega arith, h.1)
+
+-- where each term is at most 1 and one is 0, the sum is less than the number of terms
+total_fewer : (n : ℕ) (f : ℕ → ℕ) (i : ℕ) → i < n → ((k : ℕ) → f k ≤ 1) → f i ≡ 0 → total n f < n
+total_fewer n f i h most none =
+    let rest = total_rest n f (λ k. 1) i h most in let all = total_most n 1 (λ k. 1) (λ k h. omega arith) in omega arith
+
+asleep_most : (p : Place) (g : ℕ) → asleep p g ≤ 1
+asleep_most (Acquiring a (P turn)) zero = omega arith
+asleep_most _ g = omega arith
 
 first_in_hand : (hand : List WaitId) (seats : ℕ) → ((w : WaitId) → 0 < times w hand → w.seat < seats) → IfSome (slice_get hand 0) (λ w. w.seat < seats)
 first_in_hand [] seats all = tt
@@ -77,6 +86,17 @@ module _ (m : State) (sound : IsSound m) where
     pub caller_is : each idle m.callers i ≡ caller
     caller_is = (get_here idle m.callers i caller at).1
 
+    -- a seat that is about to queue a wait isn't asleep, and all lists together have no more waits than seats are
+    may_queue : (p : Place) → (each idle m.callers i).place ≡ p → MayQueue m.stored p
+    may_queue (Acquiring a A7) is =
+        let awake : asleep (each idle m.callers i).place (each 0 m.stored.grants i) ≡ 0 = ap (λ p. asleep p (each 0 m.stored.grants i)) is in
+        let few = total_fewer (length m.parts.calls) (λ k. asleep (each idle m.callers k).place (each 0 m.stored.grants k)) i seat_there
+            (λ k. asleep_most (each idle m.callers k).place (each 0 m.stored.grants k)) awake in
+        let counted = sound.law.sleepers in
+        let lists = ap (λ n. total n (λ c. length (each [] m.stored.lists c))) sound.stored.lists in
+        let seats = sound.stored.grants in omega arith
+    may_queue _ is = tt
+
     pub rows : HasRowsOf m.stored i caller.place (slice_get hand 0)
     rows =
         let s = sound.stored in
@@ -91,6 +111,7 @@ module _ (m : State) (sound : IsSound m) where
           seat = omega arith;
           waiter = first_in_hand hand (length m.stored.grants)
               (λ w in_it. let parked = ((promised (layout m.parts) (run_of m).world sound.law).parked.1 i w there (subst (λ l. 0 < times w l) (sym held) in_it)).0 in omega arith);
+          queues = may_queue caller.place (ap (λ (c : Caller). c.place) caller_is);
         }
 
     pub fits : row_finds i caller m.stored hand + 2 ^ 32 < 2 ^ 64

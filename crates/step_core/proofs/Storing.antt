@@ -78,17 +78,16 @@ module _ (h g : Stored) (same : h ≡ g) where
         words = λ j. record (words_of h) { grants = each_set 0 h.grants i x within j };
       }))
 
-  -- the list of the counter c has become l
-  pub list_stored : (c i : ℕ) (l : List WaitId) → c ≡ i → i < length h.lists → (change : List WaitId → List WaitId) → l ≡ change (each [] h.lists i)
-      → ListsBecome g (put (each [] g.lists) c (change (each [] g.lists c))) (record h { lists = set h.lists i l })
-  list_stored c i l at within change new =
-      subst (λ (f : Stored). ListsBecome f (put (each [] f.lists) c (change (each [] f.lists c))) (record h { lists = set h.lists i l })) same
-      (subst (λ d. ListsBecome h (put (each [] h.lists) d (change (each [] h.lists d))) (record h { lists = set h.lists i l })) (sym at)
+  -- the list of the counter c has changed
+  pub list_stored : (c : ℕ) (lists : List (List WaitId)) → c < length h.lists → (change : List WaitId → List WaitId) → lists ≡ set h.lists c (change (each [] h.lists c))
+      → ListsBecome g (put (each [] g.lists) c (change (each [] g.lists c))) (record h { lists = lists })
+  list_stored c lists within change new =
+      subst (λ (f : Stored). ListsBecome f (put (each [] f.lists) c (change (each [] f.lists c))) (record h { lists = lists })) same
       (record {
         numbers = refl;
         locks = refl;
         waiters = refl;
         grants = refl;
-        lists = length-set h.lists i l;
-        words = λ j. record (words_of h) { lists = (each_set [] h.lists i l within ∙ ap (put (each [] h.lists) i) new) j };
-      }))
+        lists = ap length new ∙ length-set h.lists c (change (each [] h.lists c));
+        words = λ j. record (words_of h) { lists = (ap (each []) new ∙ each_set [] h.lists c (change (each [] h.lists c)) within) j };
+      })

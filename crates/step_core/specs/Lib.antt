@@ -12,5 +12,6 @@ pub mod Invariant
 pub mod Law
 pub mod Scenario
 pub mod Run
+pub mod Roots
 pub mod State
 pub mod Texts

@@ -10,10 +10,11 @@ use Rattle.step_core.specs.declared.outcome.Effect.TheVariants.{Tells}
 use Rattle.step_core.specs.declared.outcome.Outcome.{Outcome}
 use Rattle.step_core.specs.declared.refusal.StepRefused.{StepRefused}
 use Rattle.step_core.specs.declared.refusal.StepRefused.TheVariants.{LockHeld, Asleep, NoMemory}
+use Rattle.step_core.specs.declared.place.AcquireRow.TheVariants.{A7}
 use Rattle.step_core.specs.declared.place.ReleaseRow.TheVariants.{R1}
 use Rattle.step_core.specs.declared.place.ManyRow.TheVariants.{M1}
 use Rattle.step_core.specs.declared.place.Place.{Place}
-use Rattle.step_core.specs.declared.place.Place.TheVariants.{Rest, Releasing, ReleasingMany}
+use Rattle.step_core.specs.declared.place.Place.TheVariants.{Rest, Acquiring, Releasing, ReleasingMany}
 use Rattle.step_core.specs.declared.scenario.Parts.{Parts}
 use Rattle.step_core.specs.declared.word.Word.{Word}
 use Rattle.step_core.specs.declared.word.Word.TheVariants.{Counter, Lock, Waiters, Grant}
@@ -27,6 +28,7 @@ use Rattle.step_core.specs.Law.{IsAtRest}
 use Rattle.step_core.specs.Invariant.{IsInvariant, IsWithin}
 use Rattle.step_core.specs.Run.{Run, layout, first_place, start, stepped, IsTold}
 use Rattle.step_core.specs.Scenario.{IsWithinLimits, IsDeclared}
+use Rattle.step_core.specs.Roots.{queued}
 
 -- the elements of a list by their places, and d past its end
 abbrev pub each : {A : Type 0} → A → List A → ℕ → A
@@ -59,6 +61,10 @@ HasWord h (Counter c) = c < length h.numbers
 HasWord h (Lock c) = 0 < length h.locks
 HasWord h (Waiters c) = (0 < length h.locks) × (length h.waiters ≡ length h.locks)
 HasWord h (Grant s) = s < length h.grants
+
+-- fewer waits are in lists than there are seats
+abbrev pub HasSpace : Stored → Type 0
+HasSpace h = queued h.lists < length h.grants
 
 -- as many words and lists, and these
 pub record Becomes (h : Stored) (g : Words) (k : Stored) : Type 0 where
@@ -209,6 +215,16 @@ HasRoom counters (Tells (Queue c w lifo)) = c < counters
 HasRoom counters (Tells (Leave c w s)) = c < counters
 HasRoom counters _ = Unit {0}
 
+-- the wait that an effect queues fits
+abbrev pub HasSeat : Stored → Effect → Type 0
+HasSeat h (Tells (Queue c w lifo)) = HasSpace h
+HasSeat h _ = Unit {0}
+
+-- and so does that which the row of this place queues
+abbrev pub MayQueue : Stored → Place → Type 0
+MayQueue h (Acquiring a A7) = HasSpace h
+MayQueue h _ = Unit {0}
+
 -- a row whose condition doesn't hold: its word tells why
 abbrev pub refused_by : Word → StepRefused
 refused_by (Lock c) = LockHeld
@@ -229,6 +245,7 @@ pub record HasRowsOf (h : Stored) (s : ℕ) (place : Place) (in_hand : Option Wa
   pub waiters : length h.waiters ≡ length h.locks
   pub seat : s < length h.grants
   pub waiter : IfSome in_hand (λ w. w.seat < length h.grants)
+  pub queues : MayQueue h place
 
 -- the row of the seat ran: the words and lists, its hand and the journal, and where it stands next, are those of its event
 pub record HasRun

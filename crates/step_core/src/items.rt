@@ -1,4 +1,4 @@
-ghost use Rattle.std.specs.Prelude.{◌≡◌, ◌<◌, ◌+◌, List, [], ◌∷◌, ◌++◌, length, slice_get, drop, OnOk, OnErr};
+ghost use Rattle.std.specs.Prelude.{◌≡◌, ◌<◌, ◌+◌, List, [], ◌∷◌, ◌++◌, length, slice_get, drop, OnOk, OnErr, IfOk};
 
 use std::alloc::{AllocError, Global};
 use std::marker::Model;
@@ -63,6 +63,15 @@ impl<T: Drop> Items<T> {
         Items {
             items: Vec::new(alloc),
         }
+    }
+
+    /// No things, with memory for so many.
+    pub fn with_room(alloc: Global, room: usize) -> Result<Self, AllocError>
+        ensures { IfOk result (λ made. made ≡ []) }
+    {
+        Ok(Items {
+            items: Vec::with_capacity(alloc, room)?,
+        })
     }
 
     /// Puts one at the end.

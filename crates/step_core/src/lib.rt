@@ -16,6 +16,7 @@ mod misuse;
 mod outcome;
 mod phase;
 mod place;
+mod queues;
 mod refusal;
 mod release;
 mod release_many;

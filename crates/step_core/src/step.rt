@@ -4,7 +4,7 @@ ghost use Rattle.std.specs.Prelude.{◌≡◌, ◌≢◌, ◌<◌, ◌+◌, ◌^
 ghost use Rattle.step_core.specs.World.{lists_after, journal_after, hand_after};
 ghost use Rattle.step_core.specs.Table.{event_at};
 ghost use Rattle.step_core.specs.Run.{IsTold};
-ghost use Rattle.step_core.specs.State.{words_of, seat_of, root_of, HasWord, HasRoom, ListsBecome, Does, HasRowsOf, row_event, row_finds, HasRun, IsRowRefusedBy, refused_by};
+ghost use Rattle.step_core.specs.State.{words_of, seat_of, root_of, HasWord, HasRoom, HasSeat, ListsBecome, Does, HasRowsOf, row_event, row_finds, HasRun, IsRowRefusedBy, refused_by};
 
 use crate::caller::Caller;
 use crate::entry::Entry;
@@ -29,14 +29,18 @@ fn refused_by(word: &Word) -> StepRefused
 
 /// Makes an entry's change of the lists and the hand; on want of memory nothing.
 fn change(shared: &mut Shared, hand: &mut Items<WaitId>, entry: &Entry) -> Result<(), AllocError>
-    requires { HasRoom (length shared.old.lists) (Effect.Tells entry.now) }
+    requires room { HasRoom (length shared.old.lists) (Effect.Tells entry.now) }
+    requires fits { HasSeat shared.old (Effect.Tells entry.now) }
     ensures lists { OnOk result (ListsBecome shared.old (lists_after (Effect.Tells entry.now) (words_of shared.old).lists) shared.new) }
     ensures hand { OnOk result (hand.new ≡ hand_after (Effect.Tells entry.now) hand.old) }
     ensures same_words { OnErr result (shared.new ≡ shared.old) }
     ensures same_hand { OnErr result (hand.new ≡ hand.old) }
 {
     match *entry {
-        Entry::Queue(counter, wait, lifo) => shared.queue(counter, wait, lifo),
+        Entry::Queue(counter, wait, lifo) => {
+            shared.queue(counter, wait, lifo);
+            Ok(())
+        }
         Entry::Leave(counter, wait, _) => {
             hand.push_back(wait)?;
             shared.leave(counter);
@@ -53,7 +57,8 @@ fn tell(
     journal: &mut Vec<Entry>,
     entry: Entry,
 ) -> Result<(), AllocError>
-    requires { HasRoom (length shared.old.lists) (Effect.Tells entry) }
+    requires room { HasRoom (length shared.old.lists) (Effect.Tells entry) }
+    requires fits { HasSeat shared.old (Effect.Tells entry) }
     ensures lists { OnOk result (ListsBecome shared.old (lists_after (Effect.Tells entry) (words_of shared.old).lists) shared.new) }
     ensures hand { OnOk result (hand.new ≡ hand_after (Effect.Tells entry) hand.old) }
     ensures journal { OnOk result (journal.new.items ≡ journal_after (Effect.Tells entry) journal.old.items) }
@@ -74,7 +79,8 @@ fn make(
     journal: &mut Vec<Entry>,
     effect: &Effect,
 ) -> Result<(), AllocError>
-    requires { HasRoom (length shared.old.lists) effect.now }
+    requires room { HasRoom (length shared.old.lists) effect.now }
+    requires fits { HasSeat shared.old effect.now }
     ensures lists { OnOk result (ListsBecome shared.old (lists_after effect.now (words_of shared.old).lists) shared.new) }
     ensures hand { OnOk result (hand.new ≡ hand_after effect.now hand.old) }
     ensures journal { OnOk result (journal.new.items ≡ journal_after effect.now journal.old.items) }
@@ -105,6 +111,7 @@ fn look(
     ensures word { result.0 ≡ (row_event seat caller.now shared.now hand.now).word }
     ensures stored { HasWord shared.now result.0 }
     ensures room { IfSome result.1 (λ outcome. HasRoom (length shared.now.lists) outcome.effect) }
+    ensures fits { IfSome result.1 (λ outcome. HasSeat shared.now outcome.effect) }
     ensures does { Does (row_event seat caller.now shared.now hand.now) (row_finds seat caller.now shared.now hand.now) result.1 }
 {
     let sight = Sight {
