@@ -91,7 +91,7 @@ module _ (m : State) (sound : IsSound m) where
     may_queue (Acquiring a A7) is =
         let awake : asleep (each idle m.callers i).place (each 0 m.stored.grants i) ≡ 0 = ap (λ p. asleep p (each 0 m.stored.grants i)) is in
         let few = total_fewer (length m.parts.calls) (λ k. asleep (each idle m.callers k).place (each 0 m.stored.grants k)) i seat_there
-            (λ k. asleep_most (each idle m.callers k).place (each 0 m.stored.grants k)) awake in
+        (λ k. asleep_most (each idle m.callers k).place (each 0 m.stored.grants k)) awake in
         let counted = sound.law.sleepers in
         let lists = ap (λ n. total n (λ c. length (each [] m.stored.lists c))) sound.stored.lists in
         let seats = sound.stored.grants in omega arith
