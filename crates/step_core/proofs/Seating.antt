@@ -1,14 +1,14 @@
 -- A row queues a wait only at A7, where one fits.
-use Rattle.std.proofs.Common.{◌≡◌, ℕ, ◌+◌, ◌==◌, Bool, true, false, if◌then◌else◌, List, [], ◌∷◌, Option, Some, None, IfSome, subst, sym}
+use Rattle.std.proofs.Common.{ℕ, ◌+◌, ◌==◌, Bool, true, false, if◌then◌else◌, List, [], ◌∷◌, Option, Some, None, IfSome, subst, sym}
 use Rattle.waiters.specs.declared.wait.WaitId.{WaitId}
 use Rattle.step_core.specs.declared.outcome.Outcome.{Outcome}
-use Rattle.step_core.specs.declared.place.AcquireRow.TheVariants.{A1, A2, A3, A4, A5, A6, A7, A8, A9, P, A10, A11}
-use Rattle.step_core.specs.declared.place.ReleaseRow.TheVariants.{R1, R2, R3, R4, R5, R6, R7, R8, R9, R10}
-use Rattle.step_core.specs.declared.place.ManyRow.TheVariants.{M1, M2, M3, M4, M5, M6, M7}
+use Rattle.step_core.specs.declared.place.AcquireRow.TheVariants.{A2, A6, A7, A11}
+use Rattle.step_core.specs.declared.place.ReleaseRow.TheVariants.{R5, R8}
+use Rattle.step_core.specs.declared.place.ManyRow.TheVariants.{M5}
 use Rattle.step_core.specs.declared.place.Place.{Place}
 use Rattle.step_core.specs.declared.place.Place.TheVariants.{Rest, Acquiring, Releasing, ReleasingMany}
 use Rattle.step_core.specs.World.{Seat}
-use Rattle.step_core.specs.Event.{Event, Next, by_first}
+use Rattle.step_core.specs.Event.{Next, by_first}
 use Rattle.step_core.specs.Table.{event_at}
 use Rattle.step_core.specs.State.{Stored, Does, HasSeat, MayQueue}
 

@@ -4,7 +4,8 @@ ghost use Rattle.std.specs.Prelude.{◌≡◌, ◌≢◌, ◌<◌, ◌+◌, ◌^
 ghost use Rattle.step_core.specs.World.{lists_after, journal_after, hand_after};
 ghost use Rattle.step_core.specs.Table.{event_at};
 ghost use Rattle.step_core.specs.Run.{IsTold};
-ghost use Rattle.step_core.specs.State.{words_of, seat_of, root_of, HasWord, HasRoom, HasSeat, ListsBecome, Does, HasRowsOf, row_event, row_finds, HasRun, IsRowRefusedBy, refused_by};
+ghost use Rattle.step_core.specs.State.{words_of, seat_of, root_of, HasWord, HasRoom, HasSeat, ListsBecome, Does};
+ghost use Rattle.step_core.specs.State.{HasRowsOf, row_event, row_finds, HasRun, IsRowRefusedBy, refused_by};
 
 use crate::caller::Caller;
 use crate::entry::Entry;
