@@ -1,5 +1,13 @@
 pub mod Answer
+pub mod Causes
 pub mod Exit
+pub mod FaultTexts
+pub mod Fitting
+pub mod Line
 pub mod Once
 pub mod Output
+pub mod Phrases
+pub mod Pieces
+pub mod Reader
+pub mod ScenarioText
 pub mod Seen

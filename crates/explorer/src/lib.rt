@@ -10,6 +10,9 @@ mod exit;
 mod fault;
 mod once;
 mod program;
+mod read_fault;
+mod reader;
+mod request;
 mod seen;
 mod sink;
 
@@ -18,7 +21,12 @@ pub use exit::Exit;
 pub use fault::IoFault;
 pub use once::{once_io, once_text};
 pub use program::{NO_MEMORY, no_words_io, parklot_io};
+pub use read_fault::{Cause, ReadFault};
+pub use reader::read_scenario;
+pub use request::{Property, Request};
 pub use sink::{Flagged, Sink};
 
+#[cfg(test)]
+mod reader_tests;
 #[cfg(test)]
 mod tests;

@@ -1,5 +1,6 @@
--- What a stored world's own bounds give: no sum wraps, and a row's word and list are stored.
-use Rattle.std.proofs.Common.{◌≡◌, ℕ, zero, suc, ◌+◌, ◌-◌, ◌*◌, ◌^◌, ◌<◌, ◌≤◌, List, [], ◌∷◌, Some, IfSome, length, get_or, slice_get, sym, ap, ◌∙◌, subst, arith}
+-- What the rows of the whole machine ask for holds in each sound state: no sum wraps, each word and list is stored, and what
+-- a seat's call is on is there.
+use Rattle.std.proofs.Common.{◌≡◌, ℕ, zero, suc, ◌+◌, ◌-◌, ◌*◌, ◌^◌, ◌<◌, ◌≤◌, List, [], ◌∷◌, IfSome, length, get_or, slice_get, refl, sym, ap, ◌∙◌, subst, arith}
 use Rattle.std.proofs.lemmas.List.Elements.{All-get_or}
 use Rattle.std.proofs.Math.ListN.{get_or-eq_default}
 use native.Mathlib.Decide.{ℕ_discrete}
@@ -7,19 +8,35 @@ use Rattle.waiters.specs.declared.wait.WaitId.{WaitId}
 use Rattle.step_core.specs.declared.caller.Caller.{Caller}
 use Rattle.step_core.specs.declared.place.AcquireRow.TheVariants.{A7, P}
 use Rattle.step_core.specs.declared.place.Place.{Place}
-use Rattle.step_core.specs.declared.place.Place.TheVariants.{Acquiring}
+use Rattle.step_core.specs.declared.place.ReleaseRow.TheVariants.{R5}
+use Rattle.step_core.specs.declared.place.ManyRow.TheVariants.{M5}
+use Rattle.step_core.specs.declared.place.Place.TheVariants.{Acquiring, Releasing, ReleasingMany}
+use Rattle.step_core.specs.declared.standing.Standing.{Standing}
+use Rattle.step_core.specs.declared.standing.Standing.TheVariants.{Rest, AtCounter, AtList, AtGroup}
 use Rattle.step_core.specs.declared.word.Word.{Word}
 use Rattle.step_core.specs.declared.word.Word.TheVariants.{Counter, Lock, Waiters, Grant}
-use Rattle.step_core.specs.World.{found}
+use Rattle.step_core.specs.World.{Layout, World, found, root_number}
 use Rattle.step_core.specs.Lawful.{total, times, added, IsGrantOf}
-use Rattle.step_core.specs.Invariant.{IsWithin, asleep}
+use Rattle.step_core.specs.Invariant.{IsInvariant, IsWithin, Finds, asleep}
+use Rattle.step_core.specs.Stored.{Stored, HasRow, HasRowsOf, HasHand, MayMove, each, idle, words_of, root_of, row_finds, row_event}
+use Rattle.step_core.specs.ListWorld.{ListWorld}
+use Rattle.step_core.specs.ListLawful.{told}
+use Rattle.step_core.specs.ListStored.{HasListRow, CanStep}
+use Rattle.step_core.specs.Roots.{queued}
+use Rattle.step_core.specs.Core.{counters_of}
+use Rattle.step_core.specs.CoreLaw.{IsStanding}
 use Rattle.step_core.specs.Scenario.{IsScript}
 use Rattle.step_core.specs.Run.{layout}
-use Rattle.step_core.specs.State.{State, IsSound, HasRowsOf, MayQueue, each, idle, words_of, root_of, run_of, row_finds, row_event}
-use Rattle.step_core.proofs.Sums.{total_zero, total_suc, total_rest}
+use Rattle.step_core.specs.RunInvariant.{calls_of}
+use Rattle.step_core.specs.State.{State, IsSound, AsksFor, no_list, run_of}
+use Rattle.step_core.proofs.Sums.{total_zero, total_suc, total_rest, total_has}
 use Rattle.step_core.proofs.Placing.{same_here}
+use Rattle.step_core.proofs.Rooting.{root_within}
 use Rattle.step_core.proofs.Bounding.{bounded}
 use Rattle.step_core.proofs.Promises.{promised}
+use Rattle.step_core.proofs.ListKeeping.{list_reached}
+use Rattle.step_core.proofs.ListLawfulness as lists
+use Rattle.step_core.proofs.ListRanges.{has_list_row}
 
 -- a sum of n terms, each at most b
 total_most : (n b : ℕ) (f : ℕ → ℕ) → ((k : ℕ) → k < n → f k ≤ b) → total n f ≤ b * n
@@ -32,11 +49,6 @@ total_most (suc n) b f most =
 grant_most : (p : Place) (g : ℕ) → IsGrantOf p g → g ≤ 2
 grant_most (Acquiring a (P turn)) g h = h
 grant_most _ g h = omega arith
-
-pub get_here : {A : Type 0} (d : A) (l : List A) (i : ℕ) (x : A) → slice_get l i ≡ Some x → (i < length l) × (each d l i ≡ x)
-get_here d [] i x e = absurd (cc)
-get_here d (y ∷ l) zero x e = (omega arith, (let f : Some y ≡ Some x = e in cc))
-get_here d (y ∷ l) (suc i) x e = let h = get_here d l i x e in (let a = h.0 in omega arith, h.1)
 
 -- where each term is at most 1 and one is 0, the sum is less than the number of terms
 total_fewer : (n : ℕ) (f : ℕ → ℕ) (i : ℕ) → i < n → ((k : ℕ) → f k ≤ 1) → f i ≡ 0 → total n f < n
@@ -52,73 +64,170 @@ first_in_hand [] seats all = tt
 first_in_hand (w ∷ hand) seats all = all w (let here = same_here w in omega arith)
 
 module _ (m : State) (sound : IsSound m) where
-  script_short : (s : ℕ) → length (get_or m.parts.calls s []) ≤ 32
+  abbrev seats : ℕ
+  seats = length m.parts.calls
+
+  abbrev h : Stored
+  h = m.machine.semaphores.stored
+
+  abbrev callers : List Caller
+  callers = m.machine.semaphores.callers
+
+  abbrev rows_of : Layout
+  rows_of = counters_of (layout m.parts)
+
+  abbrev world : World
+  world = (run_of m).core.semaphores
+
+  law : IsInvariant rows_of world
+  law = sound.run.core.semaphores
+
+  script_short : (s : ℕ) → length (calls_of m.parts s) ≤ 32
   script_short s = by (ℕ_discrete (length m.parts.calls - s) 0)
     where
       by : Dec (length m.parts.calls - s ≡ 0) → length (get_or m.parts.calls s []) ≤ 32
       by (yes past) = let none = ap length (get_or-eq_default m.parts.calls [] {n = s} (omega arith)) in omega arith
-      by (no here) = (All-get_or IsScript m.parts.calls s [] (omega arith) sound.limits.scripts).1
+      by (no here) = (All-get_or IsScript m.parts.calls s [] (omega arith) sound.scenario.limits.scripts).1
 
-  few_units : added m.journal ≤ 131072
-  few_units =
-      let calls = total_most (length m.parts.calls) 32 (run_of m).begun (λ s h. let most = script_short s in let begun = sound.begun s in omega arith) in
-      let seats = sound.limits.seats in let units = sound.units in omega arith
+  pub begun_few : (s : ℕ) → each 0 m.begun s ≤ 32
+  begun_few s = let most = script_short s in let begun = sound.run.begun s in omega arith
+
+  pub begun_small : (k : ℕ) → each 0 m.begun k + 1 < 2 ^ 64
+  begun_small k = let few = begun_few k in omega arith
+
+  -- all seats together have begun few calls, and so units and tickets are few
+  few_begun : total seats (each 0 m.begun) ≤ 512
+  few_begun =
+      let calls = total_most seats 32 (each 0 m.begun) (λ s h. begun_few s) in
+      let few = sound.scenario.limits.seats in omega arith
+
+  pub few_units : added world.journal ≤ 2199023255552
+  few_units = let begun = few_begun in let units = sound.run.units in omega arith
+
+  pub few_handed : (l : ℕ) → ((run_of m).core.lists l).words.numbers.handed ≤ 512
+  few_handed l = let begun = few_begun in let handed = sound.run.handed l in omega arith
+
+  few_seats : seats ≤ 9223372036854775808
+  few_seats = let few = sound.scenario.limits.seats in omega arith
+
+  pub handed_told : (l : ℕ) → (told ((run_of m).core.lists l).journal).handed ≤ 9223372036854775808
+  handed_told l =
+      let first : ℕ = (layout m.parts).firsts l in
+      let list : ListWorld = (run_of m).core.lists l in
+      let is = lists.handed_told first seats list (list_reached first seats list few_seats (sound.run.core.lists l)) in
+      let few = few_handed l in omega arith
 
   -- no number in a word is near the end of its 64 bits
-  word_small : (w : Word) → found (root_of m.stored) (words_of m.stored) w + 2 ^ 32 < 2 ^ 64
-  word_small (Counter c) =
-      let most = (bounded (layout m.parts) (run_of m).world sound.law).0 c in let start = sound.starts c in let units = few_units in omega arith
-  word_small (Lock c) =
-      let most = ((bounded (layout m.parts) (run_of m).world sound.law).1 (root_of m.stored c)).0 in omega arith
+  word_small : (w : Word) → found (root_of h) (words_of h) w + 2 ^ 32 < 2 ^ 64
+  word_small (Counter c) = let most = (bounded rows_of world law).0 c in let start = sound.starts c in let units = few_units in omega arith
+  word_small (Lock c) = let most = ((bounded rows_of world law).1 (root_of h c)).0 in omega arith
   word_small (Waiters c) =
-      let most = ((bounded (layout m.parts) (run_of m).world sound.law).1 (root_of m.stored c)).1 in let seats = sound.limits.seats in omega arith
-  word_small (Grant s) =
-      let most = grant_most ((run_of m).world.seats s).place (each 0 m.stored.grants s) (sound.law.seats s).granted in omega arith
+      let most = ((bounded rows_of world law).1 (root_of h c)).1 in let few = sound.scenario.limits.seats in omega arith
+  word_small (Grant s) = let most = grant_most (world.seats s).place (each 0 h.grants s) (law.seats s).granted in omega arith
 
-  pub begun_small : (s : ℕ) → (run_of m).begun s + 1 < 2 ^ 64
-  begun_small s = let most = script_short s in let begun = sound.begun s in omega arith
+  -- the seat i
+  module _ (i : ℕ) (here : i < seats) where
+    abbrev hand : List WaitId
+    hand = each [] h.hands i
 
-  -- the seat i, which stands as the caller says and has these waits in hand
-  module _ (i : ℕ) (caller : Caller) (hand : List WaitId) (at : slice_get m.callers i ≡ Some caller) (held : each [] m.hands i ≡ hand) where
-    pub seat_there : i < length m.parts.calls
-    seat_there = let here = (get_here idle m.callers i caller at).0 in let seats = sound.callers in omega arith
+    abbrev caller : Caller
+    caller = each idle callers i
 
-    pub caller_is : each idle m.callers i ≡ caller
-    caller_is = (get_here idle m.callers i caller at).1
+    -- lists and hands hold as many waits as seats are asleep
+    in_lists : total rows_of.counters (λ c. length (each [] h.lists c)) ≡ queued h.lists
+    in_lists = ap (λ n. total n (λ c. length (each [] h.lists c))) (sym sound.stored.lists)
 
-    -- a seat that is about to queue a wait isn't asleep, and all lists together have no more waits than seats are
-    may_queue : (p : Place) → (each idle m.callers i).place ≡ p → MayQueue m.stored p
-    may_queue (Acquiring a A7) is =
-        let awake : asleep (each idle m.callers i).place (each 0 m.stored.grants i) ≡ 0 = ap (λ p. asleep p (each 0 m.stored.grants i)) is in
-        let few = total_fewer (length m.parts.calls) (λ k. asleep (each idle m.callers k).place (each 0 m.stored.grants k)) i seat_there
-        (λ k. asleep_most (each idle m.callers k).place (each 0 m.stored.grants k)) awake in
-        let counted = sound.law.sleepers in
-        let lists = ap (λ n. total n (λ c. length (each [] m.stored.lists c))) sound.stored.lists in
-        let seats = sound.stored.grants in omega arith
-    may_queue _ is = tt
+    in_hands : total seats (λ k. length (each [] h.hands k)) ≡ queued h.hands
+    in_hands = ap (λ n. total n (λ k. length (each [] h.hands k))) (sym sound.stored.hands)
 
-    pub rows : HasRowsOf m.stored i caller.place (slice_get hand 0)
+    -- where there is a wait in the list of c, fewer are in hand than there are seats
+    has_hand : (c : ℕ) → c < rows_of.counters → 0 < length (each [] h.lists c) → HasHand h
+    has_hand c within some =
+        let one = total_has rows_of.counters (λ c. length (each [] h.lists c)) c within in
+        let most = total_most seats 1 (λ k. asleep (each idle callers k).place (each 0 h.grants k))
+        (λ k there. asleep_most (each idle callers k).place (each 0 h.grants k)) in
+        let counted = law.sleepers in
+        let hands = in_hands in
+        let grants = sound.stored.grants in omega arith
+
+    -- a seat that is about to queue a wait isn't asleep, and one that is about to take one out has one to take
+    within_at : (p : Place) → caller.place ≡ p → IsWithin rows_of.counters p
+    within_at p is = subst (IsWithin rows_of.counters) is (law.seats i).within
+
+    finds_at : (p : Place) → caller.place ≡ p → Finds (each [] h.lists) p
+    finds_at p is = subst (Finds (each [] h.lists)) is (law.finds i here)
+
+    may_move : (p : Place) → caller.place ≡ p → MayMove h p
+    may_move (Acquiring a A7) is =
+        let awake : asleep caller.place (each 0 h.grants i) ≡ 0 = ap (λ p. asleep p (each 0 h.grants i)) is in
+        let few = total_fewer seats (λ k. asleep (each idle callers k).place (each 0 h.grants k)) i here
+        (λ k. asleep_most (each idle callers k).place (each 0 h.grants k)) awake in
+        let counted = law.sleepers in
+        let lists = in_lists in
+        let grants = sound.stored.grants in omega arith
+    may_move (Releasing r R5) is = has_hand r.counter (within_at (Releasing r R5) is) (finds_at (Releasing r R5) is)
+    may_move (ReleasingMany r M5) is = has_hand r.counter (within_at (ReleasingMany r M5) is).0 (finds_at (ReleasingMany r M5) is)
+    may_move _ is = tt
+
+    -- the root of each counter is stored
+    rooted : (c : ℕ) → c < rows_of.counters → (words : ℕ) → words ≡ m.parts.roots + m.parts.groups → root_of h c < words
+    rooted c within words all =
+        subst (λ r. r < words) (λ j. root_number (sym sound.stored.own_is j) (sym sound.stored.roots_is j) c)
+        (let there = root_within (length m.parts.starts) m.parts.groups m.parts.roots c (λ some. sound.scenario.limits.some_root) within in omega arith)
+
+    rows : HasRowsOf h i caller.place (slice_get hand 0)
     rows =
         let s = sound.stored in
-        let seats : length m.stored.grants ≡ length m.parts.calls = s.grants in
-        let there = seat_there in
+        let grants : length h.grants ≡ seats = s.grants in
+        let there = here in
         record {
-          within = subst (λ n. IsWithin n caller.place) (sym s.numbers)
-              (subst (λ (c : Caller). IsWithin (length m.parts.starts) c.place) caller_is (sound.law.seats i).within);
+          within = subst (λ n. IsWithin n caller.place) (sym s.numbers) (law.seats i).within;
           lists = s.lists ∙ sym s.numbers;
-          some_root = let roots = s.locks in let some = sound.limits.some_root in omega arith;
-          waiters = s.waiters ∙ sym s.locks;
+          locks = λ c within. rooted c (let all = s.numbers in omega arith) (length h.locks) s.locks;
+          waiters = λ c within. rooted c (let all = s.numbers in omega arith) (length h.waiters) s.waiters;
           seat = omega arith;
-          waiter = first_in_hand hand (length m.stored.grants)
-              (λ w in_it. let parked = ((promised (layout m.parts) (run_of m).world sound.law).parked.1 i w there (subst (λ l. 0 < times w l) (sym held) in_it)).0 in omega arith);
-          queues = may_queue caller.place (ap (λ (c : Caller). c.place) caller_is);
+          hand = let hands = s.hands in omega arith;
+          waiter = first_in_hand hand (length h.grants)
+              (λ w in_it. let parked = ((promised rows_of world law).parked.1 i w there in_it).0 in omega arith);
+          moves = may_move caller.place refl;
         }
 
-    pub fits : row_finds i caller m.stored hand + 2 ^ 32 < 2 ^ 64
-    fits = word_small (row_event i caller m.stored hand).word
+    fits : row_finds i caller h hand + 2 ^ 32 < 2 ^ 64
+    fits = word_small (row_event i caller h hand).word
 
-    pub turn_fits : caller.turn + 1 < 2 ^ 64
+    turn_fits : caller.turn + 1 < 2 ^ 64
     turn_fits =
-        let most = (bounded (layout m.parts) (run_of m).world sound.law).2 i seat_there in
-        let turn = ap (λ (c : Caller). c.turn) caller_is in
-        let units = few_units in let seats = sound.limits.seats in omega arith
+        let most = (bounded rows_of world law).2 i here in
+        let units = few_units in let few = sound.scenario.limits.seats in omega arith
+
+    -- all that its row asks for of the semaphores
+    pub has_row : HasRow m.machine.semaphores i
+    has_row = record {
+      there = let are = sound.machine.callers in let there = here in omega arith;
+      rows = rows;
+      fits = fits;
+      turn = turn_fits;
+    }
+
+    -- and of a list
+    pub can_step : (l : ℕ) → l < length m.parts.firsts → CanStep (each no_list m.machine.lists l) i
+    can_step l there =
+        let list : ListWorld = (run_of m).core.lists l in
+        subst (λ n. HasListRow n list.words list.seats i) (sym (sound.machine.seats l there))
+        (has_list_row ((layout m.parts).firsts l) seats i list few_seats here (sound.run.core.lists l)
+        (let few = few_handed l in omega arith))
+
+    stands : (doing : Standing) → each Rest m.machine.standing i ≡ doing → IsStanding (layout m.parts) (run_of m).core i doing
+    stands doing is = subst (IsStanding (layout m.parts) (run_of m).core i) is (sound.run.core.standing i)
+
+    asks_at : (doing : Standing) → each Rest m.machine.standing i ≡ doing → AsksFor m.machine i doing
+    asks_at (AtCounter after) is = has_row
+    asks_at (AtList l) is =
+        let there = (stands (AtList l) is).2 in (let are = sound.machine.lists in omega arith, can_step l there)
+    asks_at (AtGroup g row) is =
+        let there = (stands (AtGroup g row) is).1 in let are = sound.machine.groups in omega arith
+    asks_at _ is = tt
+
+-- all that a seat's row asks for
+pub asks_for : (m : State) → IsSound m → (i : ℕ) → i < length m.parts.calls → AsksFor m.machine i (each Rest m.machine.standing i)
+asks_for m sound i here = asks_at m sound i here (each Rest m.machine.standing i) refl

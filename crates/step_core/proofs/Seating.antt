@@ -1,4 +1,4 @@
--- A row queues a wait only at A7, where one fits.
+-- A row puts a wait into a list only at A7, and into a hand only at R5 and M5, where one fits.
 use Rattle.std.proofs.Common.{ℕ, ◌+◌, ◌==◌, Bool, true, false, if◌then◌else◌, List, [], ◌∷◌, Option, Some, None, IfSome, subst, sym}
 use Rattle.waiters.specs.declared.wait.WaitId.{WaitId}
 use Rattle.step_core.specs.declared.outcome.Outcome.{Outcome}
@@ -10,7 +10,7 @@ use Rattle.step_core.specs.declared.place.Place.TheVariants.{Rest, Acquiring, Re
 use Rattle.step_core.specs.World.{Seat}
 use Rattle.step_core.specs.Event.{Next, by_first}
 use Rattle.step_core.specs.Table.{event_at}
-use Rattle.step_core.specs.State.{Stored, Does, HasSeat, MayQueue}
+use Rattle.step_core.specs.Stored.{Stored, Does, HasSeat, MayMove}
 
 module _ (h : Stored) where
   either : (b : Bool) (won lost : Next) → HasSeat h won.1 → HasSeat h lost.1 → HasSeat h (if b then won else lost).1
@@ -22,20 +22,20 @@ module _ (h : Stored) where
   by_wait [] none some first second = first
   by_wait (w ∷ l) none some first second = second w
 
-  queues : (s : ℕ) (seat : Seat) (lists : ℕ → List WaitId) (p : Place) (n : ℕ) → MayQueue h p → HasSeat h ((event_at s seat lists p).leads n).1
-  queues s seat lists Rest n may = tt
-  queues s seat lists (Acquiring a (A2 left)) n may = either (n == left + 1) _ _ tt tt
-  queues s seat lists (Acquiring a (A6 left)) n may = either (n == left + 1) _ _ tt tt
-  queues s seat lists (Acquiring a (A11 left)) n may = either (n == left + 1) _ _ tt tt
-  queues s seat lists (Acquiring a A7) n may = may
-  queues s seat lists (Acquiring a row) n may = tt
-  queues s seat lists (Releasing r (R8 left)) n may = either (n == left + 1) _ _ tt tt
-  queues s seat lists (Releasing r R5) n may = by_wait (lists r.counter) _ _ tt (λ w. tt)
-  queues s seat lists (Releasing r row) n may = tt
-  queues s seat lists (ReleasingMany r M5) n may = by_wait (lists r.counter) _ _ tt (λ w. tt)
-  queues s seat lists (ReleasingMany r row) n may = tt
+  moves : (s : ℕ) (seat : Seat) (lists : ℕ → List WaitId) (p : Place) (n : ℕ) → MayMove h p → HasSeat h ((event_at s seat lists p).leads n).1
+  moves s seat lists Rest n may = tt
+  moves s seat lists (Acquiring a (A2 left)) n may = either (n == left + 1) _ _ tt tt
+  moves s seat lists (Acquiring a (A6 left)) n may = either (n == left + 1) _ _ tt tt
+  moves s seat lists (Acquiring a (A11 left)) n may = either (n == left + 1) _ _ tt tt
+  moves s seat lists (Acquiring a A7) n may = may
+  moves s seat lists (Acquiring a row) n may = tt
+  moves s seat lists (Releasing r (R8 left)) n may = either (n == left + 1) _ _ tt tt
+  moves s seat lists (Releasing r R5) n may = by_wait (lists r.counter) _ _ tt (λ w. may)
+  moves s seat lists (Releasing r row) n may = tt
+  moves s seat lists (ReleasingMany r M5) n may = by_wait (lists r.counter) _ _ tt (λ w. may)
+  moves s seat lists (ReleasingMany r row) n may = tt
 
-  pub seat_fits : (s : ℕ) (seat : Seat) (lists : ℕ → List WaitId) (p : Place) (n : ℕ) (outcome : Option Outcome) → MayQueue h p
+  pub seat_fits : (s : ℕ) (seat : Seat) (lists : ℕ → List WaitId) (p : Place) (n : ℕ) (outcome : Option Outcome) → MayMove h p
       → Does (event_at s seat lists p) n outcome → IfSome outcome (λ o. HasSeat h o.effect)
   seat_fits s seat lists p n None may does = tt
-  seat_fits s seat lists p n (Some o) may does = subst (HasSeat h) (sym does.effect) (queues s seat lists p n may)
+  seat_fits s seat lists p n (Some o) may does = subst (HasSeat h) (sym does.effect) (moves s seat lists p n may)

@@ -2,7 +2,7 @@
 use Rattle.std.proofs.Common.{◌≡◌, ℕ, zero, suc, ◌+◌, ◌<◌, ◌≤◌, ◌≢◌, ◌⊎◌, Bool, true, false, cond, List, [], ◌∷◌, ◌++◌, length, refl, sym, ap, ◌∙◌, inl, inr, eq-eqb, ne_eqb, arith}
 use native.Mathlib.Decide.{ℕ_discrete}
 use Rattle.waiters.specs.declared.wait.WaitId.{WaitId}
-use Rattle.step_core.specs.World.{Seat, put, insert_wait}
+use Rattle.step_core.specs.World.{put, insert_wait}
 use Rattle.step_core.specs.Journal.{on, same}
 use Rattle.step_core.specs.Lawful.{total, times}
 
@@ -105,7 +105,7 @@ down f c x d e = by (ℕ_discrete d c)
     by (no ne) = let a = put_else f c x d ne in let b = on_else c d 1 (λ q. ne (sym q)) in omega arith
 
 -- a sum over the seats, after a row of seat i that changes no other grant word
-pub owned : (f : ℕ → Seat → ℕ → ℕ) (seats : ℕ) (stand : ℕ → Seat) (grants after : ℕ → ℕ) (i : ℕ) (q : Seat) → i < seats → ((k : ℕ) → k ≢ i → after k ≡ grants k)
+pub owned : {A : Type 0} (f : ℕ → A → ℕ → ℕ) (seats : ℕ) (stand : ℕ → A) (grants after : ℕ → ℕ) (i : ℕ) (q : A) → i < seats → ((k : ℕ) → k ≢ i → after k ≡ grants k)
     → total seats (λ k. f k (put stand i q k) (after k)) + f i (stand i) (grants i) ≡ total seats (λ k. f k (stand k) (grants k)) + f i q (after i)
 owned f seats stand grants after i q in_range e =
     let a : total seats (λ k. f k (put stand i q k) (after k)) + f i (stand i) (grants i) ≡ total seats (λ k. f k (stand k) (grants k)) + f i (put stand i q i) (after i)
@@ -114,7 +114,7 @@ owned f seats stand grants after i q in_range e =
     let h = ap (λ p. f i p (after i)) (put_here stand i q) in omega arith
 
 -- the same after seat i has stored x in the grant word of seat j
-pub posted : (f : ℕ → Seat → ℕ → ℕ) (seats : ℕ) (stand : ℕ → Seat) (grants : ℕ → ℕ) (i j x : ℕ) (q : Seat) → i < seats → j < seats → j ≢ i
+pub posted : {A : Type 0} (f : ℕ → A → ℕ → ℕ) (seats : ℕ) (stand : ℕ → A) (grants : ℕ → ℕ) (i j x : ℕ) (q : A) → i < seats → j < seats → j ≢ i
     → total seats (λ k. f k (put stand i q k) (put grants j x k)) + f i (stand i) (grants i) + f j (stand j) (grants j)
     ≡ total seats (λ k. f k (stand k) (grants k)) + f i q (grants i) + f j (stand j) x
 posted f seats stand grants i j x q in_range there ne =

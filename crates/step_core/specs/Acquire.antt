@@ -1,6 +1,5 @@
 -- The rows of an acquire.
-use Rattle.std.specs.Prelude.{ℕ, ◌==◌, if◌then◌else◌, true, false}
-use Rattle.waiters.specs.declared.wait.WaitId.{WaitId}
+use Rattle.std.specs.Prelude.{ℕ, ◌==◌, if◌then◌else◌}
 use Rattle.step_core.specs.declared.entry.Entry.TheVariants.{Take, Queue}
 use Rattle.step_core.specs.declared.outcome.Effect.TheVariants.{Nothing, Tells}
 use Rattle.step_core.specs.declared.place.Acquire.{Acquire}

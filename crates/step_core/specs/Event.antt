@@ -1,9 +1,8 @@
 -- Events of one word, and the verbs that the step table is written in.
 use Rattle.std.specs.Prelude.{ℕ, zero, suc, ◌+◌, ◌-◌, ◌==◌, nat_lt, if◌then◌else◌, Bool, true, false, List, [], ◌∷◌}
 use Rattle.waiters.specs.declared.wait.WaitId.{WaitId}
-use Rattle.step_core.specs.declared.entry.Entry.{Entry}
 use Rattle.step_core.specs.declared.outcome.Effect.{Effect}
-use Rattle.step_core.specs.declared.outcome.Effect.TheVariants.{Nothing, Tells, Grants}
+use Rattle.step_core.specs.declared.outcome.Effect.TheVariants.{Nothing, Grants}
 use Rattle.step_core.specs.declared.place.Place.{Place}
 use Rattle.step_core.specs.declared.place.Place.TheVariants.{Rest}
 use Rattle.step_core.specs.declared.word.Word.{Word}

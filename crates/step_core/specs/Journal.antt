@@ -1,5 +1,5 @@
 -- The journal's own account of the counters and lists, and when a journal is lawful.
-use Rattle.std.specs.Prelude.{◌≡◌, ℕ, ◌+◌, ◌-◌, ◌<◌, ◌≤◌, Bool, true, false, List, [], ◌∷◌, ◌++◌, drop, eqb, cond}
+use Rattle.std.specs.Prelude.{◌≡◌, ℕ, ◌+◌, ◌-◌, ◌<◌, ◌≤◌, List, [], ◌∷◌, ◌++◌, eqb, cond}
 use Rattle.waiters.specs.declared.wait.WaitId.{WaitId}
 use Rattle.step_core.specs.declared.entry.Entry.{Entry}
 use Rattle.step_core.specs.declared.entry.Entry.TheVariants.{Add, AddMany, Take, Queue, Leave}

@@ -1,5 +1,5 @@
 -- The law of the rows.
-use Rattle.std.specs.Prelude.{◌≡◌, ℕ, ◌<◌, ◌⊎◌, ◌≢◌}
+use Rattle.std.specs.Prelude.{◌≡◌, ℕ, ◌<◌, ◌⊎◌}
 use Rattle.step_core.specs.declared.place.Place.TheVariants.{Rest}
 use Rattle.step_core.specs.World.{Layout, World, first_world}
 use Rattle.step_core.specs.Steps.{Turn, Step, IsReached, IsEnd}

@@ -1,5 +1,5 @@
 -- The rows of a release.
-use Rattle.std.specs.Prelude.{ℕ, if◌then◌else◌, true, false, List, [], ◌∷◌}
+use Rattle.std.specs.Prelude.{ℕ, if◌then◌else◌, List}
 use Rattle.waiters.specs.declared.wait.WaitId.{WaitId}
 use Rattle.step_core.specs.declared.entry.Entry.TheVariants.{Add, Take, Leave}
 use Rattle.step_core.specs.declared.outcome.Effect.TheVariants.{Nothing, Tells}

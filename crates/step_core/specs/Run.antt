@@ -1,94 +1,102 @@
 -- A scenario's run: each seat makes its calls one after the other, and a schedule says whose row runs next.
-use Rattle.std.specs.Prelude.{◌≡◌, ℕ, zero, suc, ◌+◌, ◌%◌, nat_lt, cond, Bool, true, false, List, [], ◌∷◌, Option, Some, None, length, slice_get, slice_index, slice_index_or, take, ◌⊎◌}
+use Rattle.std.specs.Prelude.{◌≡◌, ℕ, zero, suc, ◌+◌, nat_lt, cond, Bool, true, false, List, [], ◌∷◌, ◌++◌, Option, Some, None, length, slice_get, slice_index_or, take, ◌⊎◌}
 use Rattle.step_core.specs.declared.call.Call.{Call}
-use Rattle.step_core.specs.declared.call.Call.TheVariants.{Acquire, Release, ReleaseMany}
-use Rattle.step_core.specs.declared.outcome.Effect.{Effect}
-use Rattle.step_core.specs.declared.outcome.Effect.TheVariants.{Tells}
-use Rattle.step_core.specs.declared.place.AcquireRow.TheVariants.{A1}
-use Rattle.step_core.specs.declared.place.ReleaseRow.TheVariants.{R1}
-use Rattle.step_core.specs.declared.place.ManyRow.TheVariants.{M1}
-use Rattle.step_core.specs.declared.place.Place.{Place}
-use Rattle.step_core.specs.declared.place.Place.TheVariants.{Rest, Acquiring, Releasing, ReleasingMany}
+use Rattle.step_core.specs.declared.entry.Entry.{Entry}
+use Rattle.step_core.specs.declared.list_place.ListWord.{ListWord}
+use Rattle.step_core.specs.declared.list_place.ListWord.TheVariants as list_word
 use Rattle.step_core.specs.declared.scenario.Parts.{Parts}
 use Rattle.step_core.specs.declared.refusal.StepRefused.{StepRefused}
-use Rattle.step_core.specs.declared.refusal.StepRefused.TheVariants.{NoSuchSeat, SeatEnded, LockHeld, Asleep, NoMemory}
+use Rattle.step_core.specs.declared.refusal.StepRefused.TheVariants.{NoSuchSeat, SeatEnded, LockHeld, Asleep, SeatFailed, NoMemory}
+use Rattle.step_core.specs.declared.standing.Standing.{Standing}
+use Rattle.step_core.specs.declared.standing.Standing.TheVariants.{Rest, AtCounter, AtList, AtGroup, Failed}
 use Rattle.step_core.specs.declared.word.Word.{Word}
-use Rattle.step_core.specs.declared.word.Word.TheVariants.{Lock}
-use Rattle.step_core.specs.World.{Layout, World, put, first_world}
-use Rattle.step_core.specs.Steps.{event_of, finds, can_turn, turned, moved}
+use Rattle.step_core.specs.declared.word.Word.TheVariants as word
+use Rattle.step_core.specs.World.{root_number, put}
+use Rattle.step_core.specs.Steps.{event_of}
+use Rattle.step_core.specs.ListSteps as list
+use Rattle.step_core.specs.Core.{CoreLayout, Core, first_core}
+use Rattle.step_core.specs.CoreSteps.{calls, can_run, core_turned}
 
--- the world, and how many of its calls each seat has begun
+-- the machine, and how many of its calls each seat has begun
 pub record Run : Type 0 where
-  pub world : World
+  pub core : Core
   pub begun : ℕ → ℕ
 
--- the root of counter c is c modulo the number of roots
-abbrev pub layout : Parts → Layout
+-- the root of counter c is c modulo the number of roots, and that of each group's semaphore one of its own
+abbrev pub root_in : Parts → ℕ → ℕ
+root_in parts = root_number (length parts.starts) parts.roots
+
+abbrev pub layout : Parts → CoreLayout
 layout parts =
     record {
-      counters = length parts.starts;
       seats = length parts.calls;
-      root = λ c. c % parts.roots;
-      starts = λ c. slice_index parts.starts c;
+      counters = length parts.starts;
+      lists = length parts.firsts;
+      groups = parts.groups;
+      root = root_in parts;
+      starts = λ c. slice_index_or parts.starts c 0;
+      firsts = λ l. slice_index_or parts.firsts l 0;
     }
 
 -- the call of this number of the seat, if it has so many
 abbrev pub call_of : Parts → ℕ → ℕ → Option Call
 call_of parts seat number = slice_get (slice_index_or parts.calls seat []) number
 
--- where a seat stands that begins this call
-abbrev pub first_place : Call → Place
-first_place (Acquire c lifo) = Acquiring (record { counter = c; lifo = lifo }) A1
-first_place (Release c handoff) = Releasing (record { counter = c; handoff = handoff }) R1
-first_place (ReleaseMany c n) = ReleasingMany (record { counter = c; units = n }) M1
-first_place _ = Rest
-
 -- the seat i begins this call: that is no step
 abbrev pub begun : Run → ℕ → Option Call → Run
 begun run i None = run
-begun run i (Some call) = record { world = moved run.world i (first_place call); begun = put run.begun i (run.begun i + 1) }
+begun run i (Some call) = record { core = calls run.core i call; begun = put run.begun i (run.begun i + 1) }
 
 -- where its call has ended, the seat i begins its next one, if it has one
-abbrev pub continued : Parts → Run → ℕ → Place → Run
+abbrev pub continued : Parts → Run → ℕ → Standing → Run
 continued parts run i Rest = begun run i (call_of parts i (run.begun i))
-continued parts run i place = run
+continued parts run i standing = run
 
 -- each of the first n seats has begun its first call
 abbrev pub all_begun : Parts → Run → ℕ → Run
 all_begun parts run zero = run
 all_begun parts run (suc n) = let before : Run = all_begun parts run n in begun before n (call_of parts n 0)
 
--- the start: each counter at its number, nobody waits, each seat at the first row of its first call, and nothing else
+-- the start: each counter at its number, each list at its first ticket, nobody waits, each seat at the first row of its first
+-- call, and nothing else
 abbrev pub start : Parts → Run
-start parts = all_begun parts (record { world = first_world (layout parts).starts; begun = λ s. 0 }) (length parts.calls)
+start parts = all_begun parts (record { core = first_core (layout parts); begun = λ s. 0 }) (length parts.calls)
 
 -- the run after a step of seat i: its row, and where that ended its call the next begins
 abbrev pub stepped : Parts → Run → ℕ → Run
 stepped parts run i =
-    let next : Run = record run { world = turned (layout parts).root run.world i } in
-    continued parts next i (next.world.seats i).place
+    let next : Run = record run { core = core_turned (layout parts) run.core i } in
+    continued parts next i (next.core.standing i)
 
-abbrev pub refusal_at : Place → Bool → Word → Option StepRefused
-refusal_at Rest can w = Some SeatEnded
-refusal_at place true w = None
-refusal_at place false (Lock c) = Some LockHeld
-refusal_at place false w = Some Asleep
+-- why a row can't run: its word is a lock that is held, or a grant that isn't there
+abbrev pub refused_at : Word → StepRefused
+refused_at (word.Lock c) = LockHeld
+refused_at w = Asleep
 
--- why seat i can't step, memory aside: there is no such seat, it has ended, or its row's condition doesn't hold
+abbrev pub list_refused_at : ListWord → StepRefused
+list_refused_at list_word.Lock = LockHeld
+list_refused_at w = Asleep
+
+abbrev pub unless : Bool → StepRefused → Option StepRefused
+unless true cause = None
+unless false cause = Some cause
+
+-- why seat i, which does this, can't step
+abbrev pub refusal_of : CoreLayout → Core → ℕ → Standing → Option StepRefused
+refusal_of m s i Rest = Some SeatEnded
+refusal_of m s i (AtCounter after) = unless (can_run m s i (AtCounter after)) (refused_at (event_of s.semaphores i).word)
+refusal_of m s i (AtList l) = unless (can_run m s i (AtList l)) (list_refused_at (list.event_of (s.lists l) i).word)
+refusal_of m s i (AtGroup g row) = None
+refusal_of m s i (Failed misuse) = Some SeatFailed
+
+-- why seat i can't step, memory aside: there is no such seat, it has ended or failed, or its row's condition doesn't hold
 abbrev pub refusal : Parts → Run → ℕ → Option StepRefused
 refusal parts run i =
-    cond (nat_lt i (length parts.calls))
-    (refusal_at (run.world.seats i).place (can_turn (layout parts).root run.world i) (event_of run.world i).word)
-    (Some NoSuchSeat)
-
--- the journal tells the effect
-abbrev pub IsTold : Effect → Type 0
-IsTold (Tells e) = Unit {0}
-IsTold _ = ⊥
+    cond (nat_lt i (length parts.calls)) (refusal_of (layout parts) run.core i (run.core.standing i)) (Some NoSuchSeat)
 
 -- the row of seat i has an entry
 abbrev pub HasEntry : Parts → Run → ℕ → Type 0
-HasEntry parts run i = IsTold ((event_of run.world i).leads (finds (layout parts).root run.world i)).1
+HasEntry parts run i = (e : Entry) × ((core_turned (layout parts) run.core i).journal ≡ run.core.journal ++ e ∷ [])
 
 -- a step is refused by this: its own cause, or want of memory, which is answered only for a row that could run and has an entry
 abbrev pub IsRefusedBy : StepRefused → Parts → Run → ℕ → Type 0

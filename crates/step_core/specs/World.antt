@@ -1,10 +1,10 @@
 -- The world that the step table speaks of: words, lists, seats and the journal, by their numbers.
-use Rattle.std.specs.Prelude.{ℕ, ◌+◌, Bool, true, false, List, [], ◌∷◌, ◌++◌, drop, eqb, cond}
+use Rattle.std.specs.Prelude.{ℕ, ◌+◌, ◌-◌, ◌%◌, Bool, true, false, List, [], ◌∷◌, ◌++◌, drop, eqb, cond, nat_lt}
 use Rattle.waiters.specs.declared.wait.WaitId.{WaitId}
 use Rattle.step_core.specs.declared.entry.Entry.{Entry}
 use Rattle.step_core.specs.declared.entry.Entry.TheVariants.{Queue, Leave}
 use Rattle.step_core.specs.declared.outcome.Effect.{Effect}
-use Rattle.step_core.specs.declared.outcome.Effect.TheVariants.{Nothing, Tells, Grants}
+use Rattle.step_core.specs.declared.outcome.Effect.TheVariants.{Tells, Grants}
 use Rattle.step_core.specs.declared.place.Place.{Place}
 use Rattle.step_core.specs.declared.place.Place.TheVariants.{Rest}
 use Rattle.step_core.specs.declared.word.Word.{Word}
@@ -16,6 +16,11 @@ pub record Layout : Type 0 where
   pub seats : ℕ
   pub root : ℕ → ℕ
   pub starts : ℕ → ℕ
+
+-- the root of counter c: one of the first so many, which are no group's, has c modulo the number of their roots, and
+-- each of the others has one of its own after those
+abbrev pub root_number : ℕ → ℕ → ℕ → ℕ
+root_number own roots c = cond (nat_lt c own) (c % roots) (roots + (c - own))
 
 -- the words that seats share, and the list of waits of each counter
 pub record Words : Type 0 where

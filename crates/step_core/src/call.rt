@@ -1,9 +1,5 @@
-ghost use Rattle.std.specs.Prelude.{◌≡◌};
-ghost use Rattle.step_core.specs.Run.{first_place};
-
 use crate::group_id::GroupId;
 use crate::list_id::ListId;
-use crate::place::{Acquire, AcquireRow, ManyRow, Place, Release, ReleaseMany, ReleaseRow};
 use waiters::CounterId;
 
 /// A call of a seat in a scenario.
@@ -27,24 +23,4 @@ pub enum Call {
     GroupAdd(GroupId, i32),
     /// Waits until the group's counter is 0.
     GroupWait(GroupId),
-}
-
-impl Call {
-    /// Where a seat stands that begins this call.
-    pub(crate) fn first_place(self) -> Place
-        ensures { result ≡ first_place self }
-    {
-        match self {
-            Call::Acquire(counter, lifo) => {
-                Place::Acquiring(Acquire { counter, lifo }, AcquireRow::A1)
-            }
-            Call::Release(counter, handoff) => {
-                Place::Releasing(Release { counter, handoff }, ReleaseRow::R1)
-            }
-            Call::ReleaseMany(counter, units) => {
-                Place::ReleasingMany(ReleaseMany { counter, units }, ManyRow::M1)
-            }
-            _ => Place::Rest,
-        }
-    }
 }

@@ -1,31 +1,28 @@
 //! A seat of a scenario, and the row that it runs next.
 
-ghost use Rattle.std.specs.Prelude.{◌≡◌, ◌≢◌, ◌<◌, ◌+◌, ◌^◌, ◌↔◌, ℕ, IsTrue, List, length, slice_get, Some, IfSome};
+ghost use Rattle.std.specs.Prelude.{◌≡◌, ◌≢◌, ◌<◌, ◌+◌, ◌^◌, ◌↔◌, ℕ, IsTrue, List, length, map, slice_get, IfOk, IfSome};
+ghost use Rattle.std.specs.List.{range_with_len};
 ghost use Rattle.waiters.specs.declared.wait.WaitId.{WaitId};
 ghost use Rattle.step_core.specs.World.{turn_after};
 ghost use Rattle.step_core.specs.Table.{event_at};
-ghost use Rattle.step_core.specs.State.{Stored, HasRowsOf, HasWord, HasRoom, Does, IsListed, IsQueue, seat_of, words_of, idle, begin, first_caller};
+ghost use Rattle.step_core.specs.Stored.{Stored, HasRowsOf, HasWord, HasRoom, Does, IsListed, IsQueue, seat_of, words_of, idle};
 ghost use Rattle.step_core.specs.Invariant.{IsWithin};
-ghost use Rattle.step_core.specs.Row.{phase_of};
 
-use crate::call::Call;
 use crate::entry::Entry;
-use crate::items::Items;
 use crate::outcome::{Effect, Outcome};
-use crate::phase::Phase;
 use crate::place::Place;
 use crate::shared::Shared;
 use crate::sight::Sight;
 use crate::word::Word;
 use crate::{acquire, release, release_many};
+use std::alloc::{AllocError, Global};
 use waiters::{SeatId, WaitId};
 
-/// Where a seat stands, how many waits it has queued, and how many of its calls it has begun.
+/// Where a seat stands on the semaphores, and how many waits it has queued there.
 #[derive(Clone, Copy, Debug, PartialEq, Eq, Drop)]
 pub struct Caller {
     pub place: Place,
     pub turn: u64,
-    pub begun: usize,
 }
 
 impl Caller {
@@ -94,54 +91,21 @@ impl Caller {
         }
     }
 
-    /// A seat that has begun no call.
+    /// A seat that has queued nothing.
     pub(crate) fn idle() -> Caller
         ensures { result ≡ idle }
     {
         Caller {
             place: Place::Rest,
             turn: 0,
-            begun: 0,
         }
     }
 
-    /// The seat, which has begun its next call, if it has one.
-    pub(crate) fn begin(self, call: Option<Call>) -> Caller
-        requires { self.begun + 1 < 2 ^ 64 }
-        ensures { result ≡ begin self call }
+    /// So many seats that have queued nothing.
+    pub(crate) fn all_idle(alloc: Global, seats: usize) -> Result<Vec<Caller>, AllocError>
+        ensures { IfOk result (λ callers. callers.items ≡ map (λ k. idle) (range_with_len 0 seats)) }
     {
-        match call {
-            None => self,
-            Some(call) => Caller {
-                place: call.first_place(),
-                turn: self.turn,
-                begun: self.begun + 1,
-            },
-        }
-    }
-
-    /// A seat that has begun the first of these calls, if there is one.
-    pub(crate) fn first(calls: &Items<Call>) -> Caller
-        ensures { result ≡ first_caller calls.now }
-    {
-        Caller::idle().begin(calls.first())
-    }
-
-    /// How far the seat has come.
-    pub(crate) fn phase(&self) -> Phase
-        ensures { result ≡ phase_of self.now.place }
-    {
-        match self.place.row() {
-            None => Phase::Ended,
-            Some(row) => Phase::At(row),
-        }
-    }
-
-    /// Whether it runs no row.
-    pub(crate) fn is_at_rest(&self) -> bool
-        ensures { IsTrue result ↔ (self.now.place ≡ Place.Rest) }
-    {
-        matches!(self.place, Place::Rest)
+        (0..seats).map(|_| Caller::idle()).collect(alloc)
     }
 
     /// The seat after its row.
@@ -150,7 +114,6 @@ impl Caller {
         ensures { result ≡ record {
           place = outcome.now.place;
           turn = turn_after outcome.now.effect self.now.turn;
-          begun = self.now.begun;
         } }
     {
         let turn = match outcome.effect {
@@ -160,7 +123,6 @@ impl Caller {
         Caller {
             place: outcome.place,
             turn,
-            begun: self.begun,
         }
     }
 }

@@ -1,4 +1,4 @@
-ghost use Rattle.std.specs.Prelude.{◌≡◌, ◌<◌, ◌+◌, List, [], ◌∷◌, ◌++◌, length, slice_get, drop, OnOk, OnErr, IfOk};
+ghost use Rattle.std.specs.Prelude.{◌≡◌, List, [], ◌∷◌, ◌++◌, length, slice_get, OnOk, OnErr};
 
 use std::alloc::{AllocError, Global};
 use std::marker::Model;
@@ -46,15 +46,6 @@ impl<T> Items<T> {
     }
 }
 
-impl<T: Copy> Items<T> {
-    /// The first, if there is one.
-    pub fn first(&self) -> Option<T>
-        ensures { result ≡ slice_get self.now 0 }
-    {
-        self.items.first().copied()
-    }
-}
-
 impl<T: Drop> Items<T> {
     /// No things, which take no memory.
     pub fn empty(alloc: Global) -> Self
@@ -65,15 +56,6 @@ impl<T: Drop> Items<T> {
         }
     }
 
-    /// No things, with memory for so many.
-    pub fn with_room(alloc: Global, room: usize) -> Result<Self, AllocError>
-        ensures { IfOk result (λ made. made ≡ []) }
-    {
-        Ok(Items {
-            items: Vec::with_capacity(alloc, room)?,
-        })
-    }
-
     /// Puts one at the end.
     pub fn push_back(&mut self, item: T) -> Result<(), AllocError>
         ensures ok { OnOk result (self.new ≡ self.old ++ item ∷ []) }
@@ -81,23 +63,5 @@ impl<T: Drop> Items<T> {
     {
         self.items.push(item)?;
         Ok(())
-    }
-
-    /// Puts one at the front.
-    pub fn push_front(&mut self, item: T) -> Result<(), AllocError>
-        ensures ok { OnOk result (self.new ≡ item ∷ self.old) }
-        ensures err { OnErr result (self.new ≡ self.old) }
-    {
-        self.items.insert(0, item)?;
-        Ok(())
-    }
-
-    /// Takes the first off, if there is one.
-    pub fn pop_front(&mut self)
-        ensures { self.new ≡ drop 1 self.old }
-    {
-        if self.items.len() != 0 {
-            let _ = self.items.remove(0);
-        }
     }
 }

@@ -1,4 +1,5 @@
 ghost use Rattle.std.specs.Prelude.{◌≡◌, ◌≢◌, ◌+◌, Some};
+ghost use Rattle.step_core.specs.Stored.{entry_of};
 
 use crate::entry::Entry;
 use crate::place::Place;
@@ -12,6 +13,18 @@ pub enum Effect {
     Tells(Entry),
     /// The first wait in the seat's hand was granted, and leaves the hand.
     Grants,
+}
+
+impl Effect {
+    /// The entry that the journal gets, if it gets one.
+    pub(crate) fn entry(&self) -> Option<Entry>
+        ensures { result ≡ entry_of self.now }
+    {
+        match *self {
+            Effect::Tells(entry) => Some(entry),
+            _ => None,
+        }
+    }
 }
 
 /// What a row does where it found a number: what the word becomes, where the seat goes, and the effect.

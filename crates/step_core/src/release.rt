@@ -7,7 +7,7 @@
 ghost use Rattle.std.specs.Prelude.{◌≡◌, ◌<◌, ◌+◌, ◌^◌, ℕ, List, slice_get, IfSome};
 ghost use Rattle.waiters.specs.declared.wait.WaitId.{WaitId};
 ghost use Rattle.step_core.specs.Release.{release_event};
-ghost use Rattle.step_core.specs.State.{Stored, HasRowsOf, HasWord, HasRoom, Does};
+ghost use Rattle.step_core.specs.Stored.{Stored, HasRowsOf, HasWord, HasRoom, Does};
 
 use crate::entry::Entry;
 use crate::outcome::{Outcome, exchange, goes, grants, tells};

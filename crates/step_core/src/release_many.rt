@@ -7,7 +7,7 @@
 ghost use Rattle.std.specs.Prelude.{◌≡◌, ◌<◌, ◌+◌, ◌^◌, ℕ, List, length, slice_get, IfSome};
 ghost use Rattle.waiters.specs.declared.wait.WaitId.{WaitId};
 ghost use Rattle.step_core.specs.ReleaseMany.{release_many_event, after_leave};
-ghost use Rattle.step_core.specs.State.{Stored, HasRowsOf, HasWord, HasRoom, Does};
+ghost use Rattle.step_core.specs.Stored.{Stored, HasRowsOf, HasWord, HasRoom, Does};
 
 use crate::entry::Entry;
 use crate::outcome::{Outcome, goes, grants, tells};

@@ -1,18 +1,24 @@
 //! A scenario: how many roots, where the counters start, and the calls of each seat.
 
-ghost use Rattle.std.specs.Prelude.{◌≡◌, ◌<◌, ◌≤◌, ◌↔◌, ◌^◌, ℕ, IsTrue, All, IfOk, Some, List, length, slice_index};
+ghost use Rattle.std.specs.Prelude.{◌≡◌, ◌<◌, ◌≤◌, ◌↔◌, ◌+◌, ◌^◌, ℕ, IsTrue, All, IfOk, ◌∷◌, [], Some, List, length, slice_index};
 ghost use Rattle.step_core.specs.Run.{call_of};
-ghost use Rattle.step_core.specs.Scenario.{IsWithinLimits, IsDeclared, IsScript, IsRunnable, IsCallOn};
+ghost use Rattle.step_core.specs.Scenario.{IsWithinLimits, IsDeclared, KeepsTickets, AreTicketsKept, IsTicketCall, IsScript, IsOfFewUnits, IsCallOn, holds_ticket, holding_after};
+ghost use Rattle.step_core.specs.RunInvariant.{IsScenario};
 ghost use Rattle.step_core.specs.Texts.{scenario_refused_text};
 
 use crate::call::Call;
 use crate::items::Items;
+use crate::list_id::ListId;
 use std::error::Error;
 use std::fmt;
 use std::marker::Model;
 
 /// The most counters of a scenario.
 pub const MAX_COUNTERS: usize = 16;
+/// The most notify lists.
+pub const MAX_LISTS: usize = 16;
+/// The most wait groups.
+pub const MAX_GROUPS: u32 = 16;
 /// The most seats.
 pub const MAX_SEATS: usize = 16;
 /// The most calls of a seat.
@@ -42,9 +48,9 @@ pub struct Parts {
 /// Why parts make no scenario, by number: the least that holds is answered.
 #[derive(Clone, Copy, Debug, PartialEq, Eq, Drop)]
 pub enum ScenarioRefused {
-    /// A limit isn't kept, or a call is of a kind that the machine doesn't run yet.
+    /// A limit isn't kept.
     OutOfLimits = 1,
-    /// A call names a counter that isn't declared.
+    /// A call names a counter, list or group that isn't declared.
     Undeclared = 2,
     /// A call takes a ticket while the seat holds one, or waits without one.
     Ticket = 3,
@@ -64,7 +70,7 @@ impl fmt::Display for ScenarioRefused {
 
 impl Error for ScenarioRefused {}
 
-/// Parts that keep the limits, and whose calls name what is declared.
+/// Parts that keep the limits, whose calls name what is declared, and whose seats take and spend tickets in turn.
 #[derive(Debug, Drop)]
 pub struct Scenario {
     parts: Parts,
@@ -73,38 +79,83 @@ pub struct Scenario {
 impl Model for Scenario {
     ghost use Rattle.step_core.specs.declared.scenario.Parts.{Parts};
     ghost use Rattle.step_core.specs.Run.{call_of};
-    ghost use Rattle.step_core.specs.Scenario.{IsWithinLimits, IsDeclared};
+    ghost use Rattle.step_core.specs.RunInvariant.{IsScenario};
 
     ghost Value = { Parts };
 
     ghost view = { λ s. s.parts };
 
-    ghost invariant = { λ s. IsWithinLimits s.parts × IsDeclared s.parts };
+    ghost invariant = { λ s. IsScenario s.parts };
 }
 
 impl Call {
-    /// Whether the machine runs calls of this kind, and of so many units.
-    fn is_runnable(&self) -> bool
-        ensures { IsTrue result ↔ IsRunnable self.now }
+    /// Whether a release of many is of as many units as it may be.
+    fn is_of_few_units(&self) -> bool
+        ensures { IsTrue result ↔ IsOfFewUnits self.now }
     {
         match *self {
-            Call::Acquire(_, _) | Call::Release(_, _) => true,
             Call::ReleaseMany(_, units) => MIN_UNITS <= units && units <= MAX_UNITS,
-            _ => false,
+            _ => true,
         }
     }
 
-    /// Whether the call names one of so many counters.
-    fn is_on(&self, counters: usize) -> bool
-        ensures { IsTrue result ↔ IsCallOn counters self.now }
+    /// Whether the call names a counter, list or group of these parts.
+    fn is_on(&self, parts: &Parts) -> bool
+        ensures { IsTrue result ↔ IsCallOn parts.now self.now }
     {
-        let counter = match *self {
+        match *self {
             Call::Acquire(counter, _) | Call::Release(counter, _) | Call::ReleaseMany(counter, _) =>
-                counter,
-            _ => return true,
-        };
-        (counter.number() as usize) < counters
+                (counter.number() as usize) < parts.starts.len(),
+            Call::Add(list) | Call::Wait(list) | Call::One(list) | Call::All(list) =>
+                (list.number() as usize) < parts.firsts.len(),
+            Call::GroupAdd(group, _) | Call::GroupWait(group) => group.number() < parts.groups,
+        }
     }
+
+    /// Whether a seat that made this call holds a ticket of the list, where it held one before or not.
+    fn leaves_ticket(&self, list: ListId, held: bool) -> bool
+        ensures { result ≡ holding_after list held (self.now ∷ []) }
+    {
+        match *self {
+            Call::Add(other) if other.number() == list.number() => true,
+            Call::Wait(other) if other.number() == list.number() => false,
+            _ => held,
+        }
+    }
+
+    /// Whether the call, made after these, takes a ticket where none of its list is held, and waits where one is.
+    fn is_ticket_call(&self, before: &[Call]) -> bool
+        ensures { IsTrue result ↔ IsTicketCall before.now self.now }
+    {
+        match *self {
+            Call::Add(list) => !holds_ticket(before, list),
+            Call::Wait(list) => holds_ticket(before, list),
+            _ => true,
+        }
+    }
+}
+
+/// Whether a seat that made these calls holds a ticket of the list.
+fn holds_ticket(calls: &[Call], list: ListId) -> bool
+    ensures { result ≡ holds_ticket list calls.now }
+{
+    let mut held = false;
+    for call in calls {
+        held = call.leaves_ticket(list, held);
+    }
+    held
+}
+
+fn are_tickets_kept(calls: &Items<Call>) -> bool
+    ensures { IsTrue result ↔ AreTicketsKept calls.now }
+{
+    let calls = calls.as_slice();
+    for (i, call) in calls.iter().enumerate() {
+        if !call.is_ticket_call(&calls[..i]) {
+            return false;
+        }
+    }
+    true
 }
 
 fn is_script(calls: &Items<Call>) -> bool
@@ -112,13 +163,13 @@ fn is_script(calls: &Items<Call>) -> bool
 {
     0 < calls.len()
         && calls.len() <= MAX_CALLS
-        && calls.as_slice().iter().all(|call| call.is_runnable())
+        && calls.as_slice().iter().all(|call| call.is_of_few_units())
 }
 
-fn are_on(calls: &Items<Call>, counters: usize) -> bool
-    ensures { IsTrue result ↔ All (IsCallOn counters) calls.now }
+fn are_on(calls: &Items<Call>, parts: &Parts) -> bool
+    ensures { IsTrue result ↔ All (IsCallOn parts.now) calls.now }
 {
-    calls.as_slice().iter().all(|call| call.is_on(counters))
+    calls.as_slice().iter().all(|call| call.is_on(parts))
 }
 
 impl Parts {
@@ -128,8 +179,8 @@ impl Parts {
         0 < self.roots
             && self.roots <= MAX_ROOTS
             && self.starts.len() <= MAX_COUNTERS
-            && self.firsts.len() == 0
-            && self.groups == 0
+            && self.firsts.len() <= MAX_LISTS
+            && self.groups <= MAX_GROUPS
             && 0 < self.calls.len()
             && self.calls.len() <= MAX_SEATS
             && self.calls.as_slice().iter().all(|calls| is_script(calls))
@@ -138,21 +189,30 @@ impl Parts {
     fn are_declared(&self) -> bool
         ensures { IsTrue result ↔ IsDeclared self.now }
     {
-        let counters = self.starts.len();
         self.calls
             .as_slice()
             .iter()
-            .all(|calls| are_on(calls, counters))
+            .all(|calls| are_on(calls, self))
+    }
+
+    fn keep_tickets(&self) -> bool
+        ensures { IsTrue result ↔ KeepsTickets self.now }
+    {
+        self.calls
+            .as_slice()
+            .iter()
+            .all(|calls| are_tickets_kept(calls))
     }
 }
 
 impl Scenario {
     /// The scenario of these parts. It takes no memory.
     pub fn of(parts: Parts) -> Result<Self, ScenarioRefused>
-        ensures ok { IfOk result (λ scenario. (scenario ≡ parts) × IsWithinLimits parts × IsDeclared parts) }
+        ensures ok { IfOk result (λ scenario. (scenario ≡ parts) × IsScenario parts) }
         ensures limits { (result ≡ Err ScenarioRefused.OutOfLimits) ↔ (¬ IsWithinLimits parts) }
         ensures undeclared { (result ≡ Err ScenarioRefused.Undeclared) ↔ (IsWithinLimits parts × (¬ IsDeclared parts)) }
-        ensures no_other { ¬ (result ≡ Err ScenarioRefused.Ticket) }
+        ensures tickets { (result ≡ Err ScenarioRefused.Ticket)
+            ↔ (IsWithinLimits parts × IsDeclared parts × (¬ KeepsTickets parts)) }
     {
         if !parts.are_within_limits() {
             return Err(ScenarioRefused::OutOfLimits);
@@ -160,14 +220,16 @@ impl Scenario {
         if !parts.are_declared() {
             return Err(ScenarioRefused::Undeclared);
         }
+        if !parts.keep_tickets() {
+            return Err(ScenarioRefused::Ticket);
+        }
         Ok(Scenario { parts })
     }
 
     /// The parts that it was made of.
     pub fn parts(&self) -> &Parts
         ensures value { result.now ≡ self.now }
-        ensures limits { IsWithinLimits self.now }
-        ensures declared { IsDeclared self.now }
+        ensures scenario { IsScenario self.now }
     {
         &self.parts
     }
@@ -186,6 +248,13 @@ impl Scenario {
         ensures { result ≡ length self.now.starts }
     {
         self.parts.starts.len()
+    }
+
+    /// How many counters there are, with those of the wait groups, which come after the others.
+    pub fn semaphores(&self) -> usize
+        ensures { result ≡ length self.now.starts + self.now.groups }
+    {
+        self.parts.starts.len() + self.parts.groups as usize
     }
 
     /// How many seats there are.

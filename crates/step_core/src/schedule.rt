@@ -1,7 +1,8 @@
 //! A whole schedule, step after step.
 
 ghost use Rattle.std.specs.Prelude.{◌≡◌, IfOk, IfErr, OnOk};
-ghost use Rattle.step_core.specs.Run.{AllRun, reached, IsRefusedAt};
+ghost use Rattle.step_core.specs.Run.{AllRun, start, reached, IsRefusedAt};
+ghost use Rattle.step_core.specs.Misused.{AllFairFrom, IsUnmisused};
 ghost use Rattle.step_core.specs.State.{run_of, ShowsLawful, RestsAtEnd};
 
 use crate::refusal::{RunRefused, StepRefused};
@@ -11,7 +12,8 @@ use std::alloc::Global;
 use waiters::SeatId;
 
 /// Runs the seats in the order of the schedule, from the start of the scenario. The world is that of the schedule, it
-/// is lawful, and where no seat can run it is at rest. A schedule is refused at its first step that can't be run, or at
+/// is lawful, and where no seat can run it is at rest. Where each add to a wait group is fair, no seat has failed, and
+/// each group's counter is the sum of its adds. A schedule is refused at its first step that can't be run, or at
 /// step 0 where there is no memory for the start.
 pub fn run<'s>(
     alloc: Global,
@@ -22,6 +24,8 @@ pub fn run<'s>(
     ensures world { IfOk result (λ world. (world.parts ≡ scenario.now) × (run_of world ≡ reached scenario.now schedule.now)) }
     ensures lawful { IfOk result ShowsLawful }
     ensures ends { IfOk result RestsAtEnd }
+    ensures unmisused { OnOk result (AllFairFrom scenario.now (start scenario.now) schedule.now
+        → IsUnmisused scenario.now schedule.now) }
     ensures refused { IfErr result (λ refused. IsRefusedAt scenario.now schedule.now refused.at refused.cause) }
 {
     let Ok(mut world) = World::new(alloc, scenario) else {
@@ -35,7 +39,8 @@ pub fn run<'s>(
             return Err(RunRefused { at, cause });
         }
     }
-    // what the world ensures of its journal says that it is lawful
+    // what is ensured of the parts and of the journal says that they make a scenario, and that the world is lawful
+    let _ = scenario.parts();
     let _ = world.journal();
     Ok(world)
 }

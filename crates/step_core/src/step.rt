@@ -1,22 +1,18 @@
-//! One row of the step table, run over the words, the lists, the seat's hand and the journal.
+//! One row of the step table, run over the words, the lists and the hands.
 
-ghost use Rattle.std.specs.Prelude.{◌≡◌, ◌≢◌, ◌<◌, ◌+◌, ◌^◌, ℕ, List, length, slice_get, OnOk, OnErr, IfOk, IfErr, IfSome, vec_len, vec_capacity};
-ghost use Rattle.step_core.specs.World.{lists_after, journal_after, hand_after};
-ghost use Rattle.step_core.specs.Table.{event_at};
-ghost use Rattle.step_core.specs.Run.{IsTold};
-ghost use Rattle.step_core.specs.State.{words_of, seat_of, root_of, HasWord, HasRoom, HasSeat, ListsBecome, Does};
-ghost use Rattle.step_core.specs.State.{HasRowsOf, row_event, row_finds, HasRun, IsRowRefusedBy, refused_by};
+ghost use Rattle.std.specs.Prelude.{◌≡◌, ◌<◌, ◌+◌, ◌^◌, ℕ, List, length, slice_get, IfOk, IfErr, IfSome};
+ghost use Rattle.step_core.specs.Stored.{hands_of, HasWord, HasRoom, HasSeat, Makes, Does};
+ghost use Rattle.step_core.specs.Stored.{HasRowsOf, row_event, row_finds, IsReady, HasRun, IsRowRefusedBy, refused_by};
 
 use crate::caller::Caller;
 use crate::entry::Entry;
-use crate::items::Items;
 use crate::outcome::{Effect, Outcome};
+use crate::ready::Ready;
 use crate::refusal::StepRefused;
 use crate::shared::Shared;
 use crate::sight::Sight;
 use crate::word::Word;
-use std::alloc::AllocError;
-use waiters::{SeatId, WaitId};
+use waiters::SeatId;
 
 /// Why a row can't run whose event is of this word.
 fn refused_by(word: &Word) -> StepRefused
@@ -28,98 +24,53 @@ fn refused_by(word: &Word) -> StepRefused
     }
 }
 
-/// Makes an entry's change of the lists and the hand; on want of memory nothing.
-fn change(shared: &mut Shared, hand: &mut Items<WaitId>, entry: &Entry) -> Result<(), AllocError>
+/// Makes an entry's change of the lists and of the seat's hand.
+fn change(shared: &mut Shared, seat: SeatId, entry: &Entry)
+    requires there { seat < length shared.old.hands }
     requires room { HasRoom (length shared.old.lists) (Effect.Tells entry.now) }
     requires fits { HasSeat shared.old (Effect.Tells entry.now) }
-    ensures lists { OnOk result (ListsBecome shared.old (lists_after (Effect.Tells entry.now) (words_of shared.old).lists) shared.new) }
-    ensures hand { OnOk result (hand.new ≡ hand_after (Effect.Tells entry.now) hand.old) }
-    ensures same_words { OnErr result (shared.new ≡ shared.old) }
-    ensures same_hand { OnErr result (hand.new ≡ hand.old) }
+    ensures { Makes (Effect.Tells entry.now) seat shared.old shared.new }
 {
     match *entry {
-        Entry::Queue(counter, wait, lifo) => {
-            shared.queue(counter, wait, lifo);
-            Ok(())
-        }
+        Entry::Queue(counter, wait, lifo) => shared.queue(counter, wait, lifo),
         Entry::Leave(counter, wait, _) => {
-            hand.push_back(wait)?;
+            shared.take(seat, wait);
             shared.leave(counter);
-            Ok(())
         }
-        _ => Ok(()),
+        _ => {}
     }
 }
 
-/// The same, and the journal tells it.
-fn tell(
-    shared: &mut Shared,
-    hand: &mut Items<WaitId>,
-    journal: &mut Vec<Entry>,
-    entry: Entry,
-) -> Result<(), AllocError>
-    requires room { HasRoom (length shared.old.lists) (Effect.Tells entry) }
-    requires fits { HasSeat shared.old (Effect.Tells entry) }
-    ensures lists { OnOk result (ListsBecome shared.old (lists_after (Effect.Tells entry) (words_of shared.old).lists) shared.new) }
-    ensures hand { OnOk result (hand.new ≡ hand_after (Effect.Tells entry) hand.old) }
-    ensures journal { OnOk result (journal.new.items ≡ journal_after (Effect.Tells entry) journal.old.items) }
-    ensures same_words { OnErr result (shared.new ≡ shared.old) }
-    ensures same_hand { OnErr result (hand.new ≡ hand.old) }
-    ensures same_journal { OnErr result (journal.new.items ≡ journal.old.items) }
-{
-    journal.reserve(1)?;
-    change(shared, hand, &entry)?;
-    journal.push_reserved(entry);
-    Ok(())
-}
-
-/// Makes an effect; on want of memory, which only one that tells meets, nothing.
-fn make(
-    shared: &mut Shared,
-    hand: &mut Items<WaitId>,
-    journal: &mut Vec<Entry>,
-    effect: &Effect,
-) -> Result<(), AllocError>
+/// Makes an effect's change of the lists and of the seat's hand.
+fn make(shared: &mut Shared, seat: SeatId, effect: &Effect)
+    requires there { seat < length shared.old.hands }
     requires room { HasRoom (length shared.old.lists) effect.now }
     requires fits { HasSeat shared.old effect.now }
-    ensures lists { OnOk result (ListsBecome shared.old (lists_after effect.now (words_of shared.old).lists) shared.new) }
-    ensures hand { OnOk result (hand.new ≡ hand_after effect.now hand.old) }
-    ensures journal { OnOk result (journal.new.items ≡ journal_after effect.now journal.old.items) }
-    ensures told { OnErr result (IsTold effect.now) }
-    ensures same_words { OnErr result (shared.new ≡ shared.old) }
-    ensures same_hand { OnErr result (hand.new ≡ hand.old) }
-    ensures same_journal { OnErr result (journal.new.items ≡ journal.old.items) }
+    ensures { Makes effect.now seat shared.old shared.new }
 {
     match *effect {
-        Effect::Nothing => Ok(()),
-        Effect::Grants => {
-            hand.pop_front();
-            Ok(())
-        }
-        Effect::Tells(entry) => tell(shared, hand, journal, entry),
+        Effect::Nothing => {}
+        Effect::Grants => shared.let_go(seat),
+        Effect::Tells(entry) => change(shared, seat, &entry),
     }
 }
 
 /// The word of the row at which the seat stands, and what the row does; `None` where its condition doesn't hold.
-fn look(
-    shared: &Shared,
-    hand: &Items<WaitId>,
-    seat: SeatId,
-    caller: &Caller,
-) -> (Word, Option<Outcome>)
-    requires rows { HasRowsOf shared.now seat caller.now.place (slice_get hand.now 0) }
-    requires fits { row_finds seat caller.now shared.now hand.now + 2 ^ 32 < 2 ^ 64 }
-    ensures word { result.0 ≡ (row_event seat caller.now shared.now hand.now).word }
+fn look(shared: &Shared, seat: SeatId, caller: &Caller) -> (Word, Option<Outcome>)
+    requires rows { HasRowsOf shared.now seat caller.now.place (slice_get (hands_of shared.now seat) 0) }
+    requires fits { row_finds seat caller.now shared.now (hands_of shared.now seat) + 2 ^ 32 < 2 ^ 64 }
+    ensures word { result.0 ≡ (row_event seat caller.now shared.now (hands_of shared.now seat)).word }
     ensures stored { HasWord shared.now result.0 }
     ensures room { IfSome result.1 (λ outcome. HasRoom (length shared.now.lists) outcome.effect) }
     ensures fits { IfSome result.1 (λ outcome. HasSeat shared.now outcome.effect) }
-    ensures does { Does (row_event seat caller.now shared.now hand.now) (row_finds seat caller.now shared.now hand.now) result.1 }
+    ensures does { Does (row_event seat caller.now shared.now (hands_of shared.now seat))
+        (row_finds seat caller.now shared.now (hands_of shared.now seat)) result.1 }
 {
     let sight = Sight {
         listed: caller.listed(shared),
         queued: caller.queued(shared),
-        in_hand: hand.first(),
-        held: hand.len(),
+        in_hand: shared.in_hand(seat),
+        held: shared.held(seat),
     };
     let word = caller.word(seat, &sight);
     let found = shared.read(&word);
@@ -127,39 +78,42 @@ fn look(
 }
 
 /// Whether the condition of the row holds at which the seat stands. A seat at rest has none that does.
-pub(crate) fn can_run(shared: &Shared, hand: &Items<WaitId>, seat: SeatId, caller: &Caller) -> bool
-    requires rows { HasRowsOf shared.now seat caller.now.place (slice_get hand.now 0) }
-    requires fits { row_finds seat caller.now shared.now hand.now + 2 ^ 32 < 2 ^ 64 }
-    ensures { result ≡ (row_event seat caller.now shared.now hand.now).can (row_finds seat caller.now shared.now hand.now) }
+pub(crate) fn can_run(shared: &Shared, seat: SeatId, caller: &Caller) -> bool
+    requires rows { HasRowsOf shared.now seat caller.now.place (slice_get (hands_of shared.now seat) 0) }
+    requires fits { row_finds seat caller.now shared.now (hands_of shared.now seat) + 2 ^ 32 < 2 ^ 64 }
+    ensures { result ≡ (row_event seat caller.now shared.now (hands_of shared.now seat)).can
+        (row_finds seat caller.now shared.now (hands_of shared.now seat)) }
 {
-    look(shared, hand, seat, caller).1.is_some()
+    look(shared, seat, caller).1.is_some()
 }
 
-/// Runs the row at which the seat stands, and says where it stands then.
-pub(crate) fn run_row(
-    shared: &mut Shared,
-    hand: &mut Items<WaitId>,
-    journal: &mut Vec<Entry>,
-    seat: SeatId,
-    caller: &Caller,
-) -> Result<Caller, StepRefused>
-    requires rows { HasRowsOf shared.old seat caller.now.place (slice_get hand.old 0) }
-    requires fits { row_finds seat caller.now shared.old hand.old + 2 ^ 32 < 2 ^ 64 }
-    requires turn { caller.now.turn + 1 < 2 ^ 64 }
-    ensures ok { IfOk result (λ next.
-        HasRun seat caller.now shared.old hand.old journal.old.items shared.new hand.new journal.new.items next) }
-    ensures same_words { OnErr result (shared.new ≡ shared.old) }
-    ensures same_hand { OnErr result (hand.new ≡ hand.old) }
-    ensures same_journal { OnErr result (journal.new.items ≡ journal.old.items) }
-    ensures why { IfErr result (λ cause. IsRowRefusedBy cause seat caller.now shared.old hand.old) }
+/// The row at which the seat stands, if it can run, or why it can't.
+pub(crate) fn ready(shared: &Shared, seat: SeatId, caller: &Caller) -> Result<Ready, StepRefused>
+    requires rows { HasRowsOf shared.now seat caller.now.place (slice_get (hands_of shared.now seat) 0) }
+    requires fits { row_finds seat caller.now shared.now (hands_of shared.now seat) + 2 ^ 32 < 2 ^ 64 }
+    ensures ok { IfOk result (λ ready. IsReady shared.now seat ready) }
+    ensures caller { IfOk result (λ ready. ready.caller ≡ caller.now) }
+    ensures why { IfErr result (λ cause. IsRowRefusedBy cause seat caller.now shared.now (hands_of shared.now seat)) }
 {
-    let (word, outcome) = look(shared, hand, seat, caller);
+    let (word, outcome) = look(shared, seat, caller);
     let Some(outcome) = outcome else {
         return Err(refused_by(&word));
     };
-    if make(shared, hand, journal, &outcome.effect).is_err() {
-        return Err(StepRefused::NoMemory);
-    }
-    shared.write(word, outcome.becomes);
-    Ok(caller.after(&outcome))
+    let caller = *caller;
+    Ok(Ready {
+        caller,
+        word,
+        outcome,
+    })
+}
+
+/// Runs a row that can run, and says where its seat stands then.
+pub(crate) fn run_row(shared: &mut Shared, seat: SeatId, ready: &Ready) -> Caller
+    requires ready { IsReady shared.old seat ready.now }
+    requires turn { ready.now.caller.turn + 1 < 2 ^ 64 }
+    ensures { HasRun seat ready.now.caller shared.old (hands_of shared.old seat) ready.now.outcome.effect shared.new result }
+{
+    make(shared, seat, &ready.outcome.effect);
+    shared.write(ready.word, ready.outcome.becomes);
+    ready.caller.after(&ready.outcome)
 }

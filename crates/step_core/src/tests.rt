@@ -6,8 +6,8 @@
 ghost use Rattle.std.specs.Prelude.{◌≡◌};
 
 use crate::{
-    Call, Entry, Items, ListId, Misuse, Parts, Phase, Row, RunRefused, Scenario, ScenarioRefused,
-    StepRefused, World, run,
+    Call, Entry, GroupId, Items, ListId, Misuse, Parts, Phase, Row, RunRefused, Scenario,
+    ScenarioRefused, StepRefused, World, run,
 };
 use std::alloc::{AllocError, Global};
 use std::process::Abort;
@@ -72,6 +72,41 @@ pub(crate) fn scenario(alloc: Global, calls: &[Call]) -> Result<Scenario, Fail> 
     Ok(Scenario::of(made).ok().ok_or("the parts were refused")?)
 }
 
+/// One root, counters at these numbers, lists at these first tickets, so many groups, and the calls of each seat.
+fn parts_of(
+    alloc: Global,
+    starts: &[u32],
+    firsts: &[u64],
+    groups: u32,
+    calls: &[&[Call]],
+) -> Result<Parts, AllocError> {
+    let mut scripts = Vec::new(alloc);
+    for script in calls {
+        scripts.push(Items::new(script.to_vec(alloc)?))?;
+    }
+    Ok(Parts {
+        roots: 1,
+        starts: Items::new(starts.to_vec(alloc)?),
+        firsts: Items::new(firsts.to_vec(alloc)?),
+        groups,
+        calls: Items::new(scripts),
+    })
+}
+
+pub(crate) fn scenario_of_parts(
+    alloc: Global,
+    starts: &[u32],
+    firsts: &[u64],
+    groups: u32,
+    calls: &[&[Call]],
+) -> Result<Scenario, Fail> {
+    let made = match parts_of(alloc, starts, firsts, groups, calls) {
+        Ok(made) => made,
+        Err(_) => parts_of(alloc, starts, firsts, groups, calls)?,
+    };
+    Ok(Scenario::of(made).ok().ok_or("the parts were refused")?)
+}
+
 fn seats(alloc: Global, schedule: &[u16]) -> Result<Vec<SeatId>, AllocError> {
     schedule.iter().map(|number| seat(*number)).collect(alloc)
 }
@@ -122,7 +157,7 @@ pub(crate) fn phase(rt: &impl Abort, world: &World<'_>, number: u16) -> Phase {
 }
 
 pub(crate) fn value_of(rt: &impl Abort, world: &World<'_>, counter: u32) -> u64 {
-    assert!(rt; (counter as usize) < world.scenario().counters());
+    assert!(rt; (counter as usize) < world.scenario().semaphores());
     world.value(CounterId::new(counter))
 }
 
@@ -136,7 +171,7 @@ pub(crate) fn waiting_on(
     world: &World<'_>,
     counter: u32,
 ) -> Result<Vec<WaitId>, Fail> {
-    assert!(rt; (counter as usize) < world.scenario().counters());
+    assert!(rt; (counter as usize) < world.scenario().semaphores());
     match world.waiting(alloc, CounterId::new(counter)) {
         Ok(waits) => Ok(waits),
         Err(_) => Ok(world.waiting(alloc, CounterId::new(counter))?),
@@ -311,6 +346,14 @@ fn release_of(counter: u32) -> Call {
     Call::Release(CounterId::new(counter), true)
 }
 
+fn add_to(list: u32) -> Call {
+    Call::Add(ListId::new(list))
+}
+
+fn wait_on(list: u32) -> Call {
+    Call::Wait(ListId::new(list))
+}
+
 /// So many roots, counters, lists, groups, seats, calls a seat, and the call that each makes.
 #[derive(Drop)]
 struct Sizes(u32, usize, usize, u32, usize, usize, Call);
@@ -333,20 +376,48 @@ fn sized(alloc: Global, sizes: &Sizes) -> Result<Parts, AllocError> {
 fn parts_are_held_to_the_limits(rt: HostRuntime) -> Result<(), Fail> {
     let outside = Some(ScenarioRefused::OutOfLimits);
     let undeclared = Some(ScenarioRefused::Undeclared);
-    let most = Sizes(251, 16, 0, 0, 16, 32, release_of(15));
+    let most = Sizes(251, 16, 16, 16, 16, 32, release_of(15));
+    let ticket = Some(ScenarioRefused::Ticket);
     let rows = [
         (Sizes(1, 1, 0, 0, 1, 1, release_of(0)), None),
         (most, None),
         (Sizes(0, 1, 0, 0, 1, 1, release_of(0)), outside),
         (Sizes(252, 1, 0, 0, 1, 1, release_of(0)), outside),
         (Sizes(1, 17, 0, 0, 1, 1, release_of(0)), outside),
-        (Sizes(1, 1, 1, 0, 1, 1, release_of(0)), outside),
-        (Sizes(1, 1, 0, 1, 1, 1, release_of(0)), outside),
+        (Sizes(1, 1, 17, 0, 1, 1, release_of(0)), outside),
+        (Sizes(1, 1, 0, 17, 1, 1, release_of(0)), outside),
         (Sizes(1, 1, 0, 0, 0, 1, release_of(0)), outside),
         (Sizes(1, 1, 0, 0, 17, 1, release_of(0)), outside),
         (Sizes(1, 1, 0, 0, 1, 0, release_of(0)), outside),
         (Sizes(1, 1, 0, 0, 1, 33, release_of(0)), outside),
-        (Sizes(1, 1, 0, 0, 1, 1, Call::Add(ListId::new(0))), outside),
+        (Sizes(1, 0, 16, 0, 16, 1, add_to(15)), None),
+        (Sizes(1, 0, 15, 0, 1, 1, add_to(15)), undeclared),
+        (Sizes(1, 0, 15, 0, 1, 2, add_to(15)), undeclared),
+        (Sizes(1, 0, 16, 0, 1, 2, add_to(15)), ticket),
+        (Sizes(1, 0, 16, 0, 1, 1, wait_on(15)), ticket),
+        (Sizes(1, 0, 1, 0, 1, 32, Call::One(ListId::new(0))), None),
+        (
+            Sizes(1, 0, 1, 0, 1, 1, Call::All(ListId::new(1))),
+            undeclared,
+        ),
+        (
+            Sizes(1, 0, 0, 16, 1, 32, Call::GroupWait(GroupId::new(15))),
+            None,
+        ),
+        (
+            Sizes(1, 0, 0, 16, 1, 1, Call::GroupWait(GroupId::new(16))),
+            undeclared,
+        ),
+        (
+            Sizes(1, 0, 0, 1, 1, 1, Call::GroupAdd(GroupId::new(0), i32::MIN)),
+            None,
+        ),
+        (
+            Sizes(1, 0, 0, 0, 1, 1, Call::GroupAdd(GroupId::new(0), 1)),
+            undeclared,
+        ),
+        // the semaphore of a group is no counter that a call may name
+        (Sizes(1, 1, 0, 1, 1, 1, release_of(1)), undeclared),
         (Sizes(1, 1, 0, 0, 1, 1, release_many(0, 0)), outside),
         (Sizes(1, 1, 0, 0, 1, 1, release_many(0, 1)), None),
         (Sizes(1, 1, 0, 0, 1, 1, release_many(0, 256)), None),

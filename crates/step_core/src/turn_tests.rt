@@ -40,7 +40,7 @@ fn scenario_of(alloc: Global, counters: usize, calls: &[(Call, usize)]) -> Resul
 }
 
 /// The seat runs these rows, and can step before each.
-fn runs(rt: &impl Abort, world: &mut World<'_>, number: u16, rows: &[Row]) {
+pub(crate) fn runs(rt: &impl Abort, world: &mut World<'_>, number: u16, rows: &[Row]) {
     for row in rows {
         assert_eq!(rt; phase(rt, world, number), Phase::At(*row));
         assert!(rt; world.enabled(seat(number)));

@@ -282,6 +282,12 @@ module _ (records : Slab Record) (chains : Slab Chain) (room list_room : ℕ) (o
         let parts = Linked-split records stands.passed chain.first ((place.key, stands.wait) ∷ stands.rest) None whole in
         rw parts.2.2 refl
 
+    pub wait_found : (found : Record) → get records place.key ≡ Some found → found.wait ≡ stands.wait
+    wait_found found is =
+        let parts = Linked-split records stands.passed chain.first ((place.key, stands.wait) ∷ stands.rest) None whole in
+        let there = parts.2.2 in
+        let same : found ≡ record { wait = stands.wait; next = parts.2.0 } = cc in ap (λ r. r.wait) same
+
     pub IsThere-before : IsThere records place.before
     IsThere-before =
         last_there records place.before chain.first None stands.passed ((place.key, stands.wait) ∷ stands.rest) whole stands.before

@@ -1,11 +1,11 @@
-use Rattle.std.proofs.Common.{◌≡◌, [], ◌∷◌, Result, Ok, Err, IsOk, All, false, refl, sym, subst, rules, arith}
+use Rattle.std.proofs.Common.{◌≡◌, zero, suc, [], ◌∷◌, Result, Ok, Err, IsOk, All, false, refl, sym, subst, rules, arith}
 use Rattle.std.proofs.lemmas.List.Elements.{All-cons, All-nil}
 use Rattle.step_core.specs.declared.call.Call.{Call}
 use Rattle.step_core.specs.declared.call.Call.TheVariants.{Acquire, Release}
 use Rattle.step_core.specs.declared.scenario.Parts.{Parts}
 use Rattle.step_core.specs.declared.scenario.ScenarioRefused.{ScenarioRefused}
 use Rattle.step_core.specs.declared.scenario.ScenarioRefused.TheVariants.{OutOfLimits, Undeclared, Ticket}
-use Rattle.step_core.specs.Scenario.{IsWithinLimits, IsDeclared, IsScript, IsRunnable, IsCallOn}
+use Rattle.step_core.specs.Scenario.{IsWithinLimits, IsDeclared, KeepsTickets, AreTicketsKept, IsTicketCall, IsScript, IsOfFewUnits, IsCallOn}
 use Rattle.explorer.specs.Once.{once_parts_of}
 use Rattle.explorer.proofs.once.once_scenario.Goals as goal
 
@@ -15,8 +15,8 @@ all_one P x h = All-cons P x [] h (All-nil P)
 all_two : {X : Type 0} (P : X → Type 0) (x y : X) → P x → P y → All P (x ∷ y ∷ [])
 all_two P x y h k = All-cons P x (y ∷ []) h (all_one P y k)
 
-one_call : (call : Call) → IsRunnable call → IsScript (call ∷ [])
-one_call call h = (omega arith, omega arith, all_one IsRunnable call h)
+one_call : (call : Call) → IsOfFewUnits call → IsScript (call ∷ [])
+one_call call h = (omega arith, omega arith, all_one IsOfFewUnits call h)
 
 within : IsWithinLimits once_parts_of
 within =
@@ -24,8 +24,8 @@ within =
       some_root = omega arith;
       roots = omega arith;
       counters = omega arith;
-      lists = refl;
-      groups = refl;
+      lists = omega arith;
+      groups = omega arith;
       some_seat = omega arith;
       seats = omega arith;
       scripts = all_two IsScript _ _ (one_call (Acquire 0 false) tt) (one_call (Release 0 false) tt);
@@ -33,8 +33,16 @@ within =
 
 declared : IsDeclared once_parts_of
 declared =
-    let on : Call → Type 0 = IsCallOn 1 in
+    let on : Call → Type 0 = IsCallOn once_parts_of in
     all_two (All on) _ _ (all_one on (Acquire 0 false) (omega arith)) (all_one on (Release 0 false) (omega arith))
+
+-- a call without tickets, alone
+no_ticket : (call : Call) → IsTicketCall [] call → AreTicketsKept (call ∷ [])
+no_ticket call h zero = h
+no_ticket call h (suc i) = tt
+
+tickets : KeepsTickets once_parts_of
+tickets = all_two AreTicketsKept _ _ (no_ticket (Acquire 0 false) tt) (no_ticket (Release 0 false) tt)
 
 -- a result that is none of the refusals
 taken : (r : Result Parts ScenarioRefused) → (r ≡ Err OutOfLimits → ⊥) → (r ≡ Err Undeclared → ⊥) → (r ≡ Err Ticket → ⊥) → IsOk r
@@ -48,4 +56,5 @@ unwrap-requires c =
     let is : c.in_ok-once_parts.field-0 ≡ once_parts_of = search rules in
     let fits : IsWithinLimits c.in_ok-once_parts.field-0 = subst IsWithinLimits (sym is) within in
     let names : IsDeclared c.in_ok-once_parts.field-0 = subst IsDeclared (sym is) declared in
-    taken _ (λ e. c.of.ensures.limits.0 e fits) (λ e. (c.of.ensures.undeclared.0 e).1 names) c.of.ensures.no_other
+    let keeps : KeepsTickets c.in_ok-once_parts.field-0 = subst KeepsTickets (sym is) tickets in
+    taken _ (λ e. c.of.ensures.limits.0 e fits) (λ e. (c.of.ensures.undeclared.0 e).1 names) (λ e. (c.of.ensures.tickets.0 e).2 keeps)

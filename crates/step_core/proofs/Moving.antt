@@ -1,0 +1,291 @@
+-- A step of a moment is a step of the run that it shows, with each journal behind it.
+use Rattle.std.proofs.Common.{◌≡◌, ◌≢◌, ℕ, zero, suc, ◌+◌, ◌^◌, ◌<◌, ◌≤◌, Bool, true, false, List, [], Option, Some, None, Result, Ok, Err, IfOk, IfErr, OnOk, nat_lt, cond, length, refl, sym, ap, ◌∙◌, subst, arith, ltb-true}
+use Rattle.std.proofs.lemmas.Bool.{lt-ltb, le-ltb}
+use Rattle.step_core.specs.declared.entry.Entry.{Entry}
+use Rattle.step_core.specs.declared.list_place.ListEffect.{ListEffect}
+use Rattle.step_core.specs.declared.list_place.ListEffect.TheVariants.{HandsOut, Grants as GrantsUpTo}
+use Rattle.step_core.specs.declared.list_place.ListPlace.{ListPlace}
+use Rattle.step_core.specs.declared.list_place.ListPlace.TheVariants as on_list
+use Rattle.step_core.specs.declared.outcome.Effect.{Effect}
+use Rattle.step_core.specs.declared.outcome.Effect.TheVariants.{Nothing, Tells, Grants}
+use Rattle.step_core.specs.declared.place.Place.{Place}
+use Rattle.step_core.specs.declared.place.Place.TheVariants.{Releasing}
+use Rattle.step_core.specs.declared.place.Place.TheVariants as on_counter
+use Rattle.step_core.specs.declared.refusal.StepRefused.{StepRefused}
+use Rattle.step_core.specs.declared.refusal.StepRefused.TheVariants.{NoSuchSeat}
+use Rattle.step_core.specs.declared.scenario.Parts.{Parts}
+use Rattle.step_core.specs.declared.standing.After.{After}
+use Rattle.step_core.specs.declared.standing.After.TheVariants.{NextCall, LooksAgain, Releases}
+use Rattle.step_core.specs.declared.standing.GroupNext.{GroupNext}
+use Rattle.step_core.specs.declared.standing.GroupNext.TheVariants as group
+use Rattle.step_core.specs.declared.standing.Standing.{Standing}
+use Rattle.step_core.specs.declared.standing.Standing.TheVariants.{Rest, AtCounter, AtList, AtGroup, Failed}
+use Rattle.step_core.specs.declared.turn.Turn.{Turn}
+use Rattle.step_core.specs.declared.turn.Turn.TheVariants.{OnCounter, OnList, OnGroup}
+use Rattle.step_core.specs.World.{Seat, journal_after}
+use Rattle.step_core.specs.Steps.{event_of, finds}
+use Rattle.step_core.specs.Stored.{each, idle, seat_of, IsStoredFor}
+use Rattle.step_core.specs.Stored as sema
+use Rattle.step_core.specs.Core.{CoreLayout, Core, journal_after_list}
+use Rattle.step_core.specs.CoreSteps.{releases, goes_on, after_counter, after_list, after_group, row_of_standing, core_turned}
+use Rattle.step_core.specs.CoreLaw.{IsCallBefore, IsStanding}
+use Rattle.step_core.specs.Run.{Run, layout, continued, stepped, refusal_of, refusal}
+use Rattle.step_core.specs.RunInvariant.{IsSoundRun}
+use Rattle.step_core.specs.State.{Machine, Moment, State, IsMachineFor, Becomes, HasBegun, HasSeat, HasSeatOn, HasSeatAt, HasGroup, MayGoOn, MayGo, AsksFor, IsRefusal, IsReady, IsReadyAt, IsSound, Steps, HasPast, core_of, run_with, run_of, run_at, telling, entry_of, list_entry, and_then}
+use Rattle.step_core.proofs.Storing.{get_here}
+use Rattle.step_core.proofs.Changing.{same_layout}
+use Rattle.step_core.proofs.Ranges.{asks_for, begun_small}
+use Rattle.step_core.proofs.CoreCalling.{core_called}
+use Rattle.step_core.proofs.CoreKeeping.{core_kept}
+use Rattle.step_core.proofs.RunStepping.{is_stepped}
+use Rattle.step_core.proofs.NextCalls.{still_stored}
+
+-- no row reads the journal, and so it refuses no step
+same_refusal_of : (m : CoreLayout) (h : Machine) (journal : List Entry) (i : ℕ) (doing : Standing)
+    → refusal_of m (core_of h journal) i doing ≡ refusal_of m (core_of h []) i doing
+same_refusal_of m h journal i Rest = refl
+same_refusal_of m h journal i (AtCounter after) = refl
+same_refusal_of m h journal i (AtList l) = refl
+same_refusal_of m h journal i (AtGroup g row) = refl
+same_refusal_of m h journal i (Failed misuse) = refl
+
+pub same_refusal : (m : Moment) (journal : List Entry) (i : ℕ) → refusal m.parts (run_of (telling m journal)) i ≡ refusal m.parts (run_at m) i
+same_refusal m journal i =
+    ap (λ r. cond (nat_lt i (length m.parts.calls)) r (Some NoSuchSeat))
+    (same_refusal_of (layout m.parts) m.machine journal i (each Rest m.machine.standing i))
+
+-- a seat that isn't refused is one of the scenario's
+pub seat_free : (parts : Parts) (run : Run) (i : ℕ) → refusal parts run i ≡ None → i < length parts.calls
+seat_free parts run i free = by (nat_lt i (length parts.calls)) refl free
+  where
+    by : (b : Bool) → nat_lt i (length parts.calls) ≡ b
+        → cond b (refusal_of (layout parts) run.core i (run.core.standing i)) (Some NoSuchSeat) ≡ None → i < length parts.calls
+    by true less e = ltb-true i (length parts.calls) less
+    by false less e = absurd cc
+
+pub no_such_seat : (parts : Parts) (run : Run) (i : ℕ) → length parts.calls ≤ i → refusal parts run i ≡ Some NoSuchSeat
+no_such_seat parts run i past =
+    ap (λ b. cond b (refusal_of (layout parts) run.core i (run.core.standing i)) (Some NoSuchSeat)) (le-ltb i (length parts.calls) past)
+
+-- a seat of a moment
+module _ (m : Moment) (past : HasPast m) (i : ℕ) (there : i < length m.parts.calls) where
+  abbrev behind : State
+  behind = telling m past.0
+
+  pub has_seat : HasSeat m.machine i
+  has_seat = (let h = there in let a = past.1.machine.callers in omega arith, let h = there in let a = past.1.machine.standing in omega arith)
+
+  pub asks : AsksFor m.machine i (each Rest m.machine.standing i)
+  asks = asks_for behind past.1 i there
+
+  seat_on : (doing : Standing) → IsStanding (layout m.parts) (run_of behind).core i doing → HasSeatOn m.machine i doing
+  seat_on (AtList l) is = (
+    let a = past.1.machine.lists in let h = is.2 in omega arith,
+    let h = there in let a = past.1.machine.seats l is.2 in omega arith,
+  )
+  seat_on _ is = tt
+
+  pub has_seat_at : HasSeatAt m.machine i
+  has_seat_at = (has_seat, seat_on (each Rest m.machine.standing i) (past.1.run.core.standing i))
+
+  has_group : (g : ℕ) → g < m.parts.groups → HasGroup m.machine g
+  has_group g within =
+      let own = past.1.stored.own_is in
+      let counters = past.1.scenario.limits.counters in
+      let groups = past.1.scenario.limits.groups in omega arith
+
+  may_go_on : (after : After) (place : Place) → IsCallBefore (layout m.parts) after place → MayGoOn m.machine after
+  may_go_on NextCall place is = tt
+  may_go_on (LooksAgain g) place is = tt
+  may_go_on (Releases g more) (Releasing r row) is = has_group g is.2
+  may_go_on (Releases g more) _ is = absurd is
+
+  may_go_at : (doing : Standing) → IsStanding (layout m.parts) (run_of behind).core i doing → MayGo m.machine doing
+  may_go_at (AtCounter after) is = may_go_on after ((run_of behind).core.semaphores.seats i).place is.0
+  may_go_at (AtGroup g row) is = has_group g is.1
+  may_go_at _ is = tt
+
+  pub may_go : MayGo m.machine (each Rest m.machine.standing i)
+  may_go = may_go_at (each Rest m.machine.standing i) (past.1.run.core.standing i)
+
+  pub room_next : each 0 m.begun i + 1 < 2 ^ 64
+  room_next = begun_small behind past.1 i
+
+  -- what the machine answers is what the run says
+  says : (cause : Option StepRefused) → IsRefusal m.machine i cause → refusal m.parts (run_at m) i ≡ cause
+  says cause is =
+      ap (λ b. cond b (refusal_of (layout m.parts) (run_at m).core i ((run_at m).core.standing i)) (Some NoSuchSeat))
+      (lt-ltb i (length m.parts.calls) there)
+      ∙ is (layout m.parts) past.1.machine []
+
+  module _ (shows : Moment) (same : m ≡ shows) where
+    said : (cause : Option StepRefused) → IsRefusal m.machine i cause → refusal shows.parts (run_at shows) i ≡ cause
+    said cause is = subst (λ (n : Moment). refusal n.parts (run_at n) i ≡ cause) same (says cause is)
+
+    pub enabled_answer : (answer : Result Turn StepRefused) → IfOk answer (λ turn. IsRefusal m.machine i None)
+        → OnOk answer (refusal shows.parts (run_at shows) i ≡ None)
+    enabled_answer (Ok turn) is = said None is
+    enabled_answer (Err cause) is = tt
+
+    pub refused_answer : (answer : Result Turn StepRefused) → IfErr answer (λ cause. IsRefusal m.machine i (Some cause))
+        → IfErr answer (λ cause. refusal shows.parts (run_at shows) i ≡ Some cause)
+    refused_answer (Ok turn) is = tt
+    refused_answer (Err cause) is = said (Some cause) is
+
+-- what comes after a row tells nothing
+released_journal : (m : CoreLayout) (s : Core) (i g n : ℕ) → (releases m s i g n).journal ≡ s.journal
+released_journal m s i g zero = refl
+released_journal m s i g (suc n) = refl
+
+went_on_journal : (m : CoreLayout) (s : Core) (i : ℕ) (after : After) → (goes_on m s i after).journal ≡ s.journal
+went_on_journal m s i NextCall = refl
+went_on_journal m s i (LooksAgain g) = refl
+went_on_journal m s i (Releases g more) = released_journal m s i g more
+
+counter_journal : (m : CoreLayout) (s : Core) (i : ℕ) (after : After) (place : Place) → (after_counter m s i after place).journal ≡ s.journal
+counter_journal m s i after on_counter.Rest = went_on_journal m s i after
+counter_journal m s i after _ = refl
+
+list_journal : (s : Core) (i : ℕ) (place : ListPlace) → (after_list s i place).journal ≡ s.journal
+list_journal s i on_list.Rest = refl
+list_journal s i _ = refl
+
+group_journal : (m : CoreLayout) (s : Core) (i g : ℕ) (next : GroupNext) → (after_group m s i g next).journal ≡ s.journal
+group_journal m s i g group.Ends = refl
+group_journal m s i g (group.Goes row) = refl
+group_journal m s i g (group.Fails misuse) = refl
+group_journal m s i g group.Acquires = refl
+group_journal m s i g (group.Releases n) = released_journal m s i g n
+
+effect_entry : (effect : Effect) (journal : List Entry) → journal_after effect journal ≡ and_then journal (sema.entry_of effect)
+effect_entry Nothing journal = refl
+effect_entry (Tells e) journal = refl
+effect_entry Grants journal = refl
+
+list_effect_entry : (l i : ℕ) (effect : ListEffect) (journal : List Entry)
+    → journal_after_list l i effect journal ≡ and_then journal (list_entry l i effect)
+list_effect_entry l i (HandsOut t) journal = refl
+list_effect_entry l i (GrantsUpTo upto) journal = refl
+list_effect_entry l i _ journal = refl
+
+-- a row that is ready tells its entry, and nothing else
+row_tells : (m : CoreLayout) (h : Machine) (i : ℕ) → IsMachineFor m h → (doing : Standing) (turn : Turn) → IsReadyAt h i doing turn
+    → (journal : List Entry) → (row_of_standing m (core_of h journal) i doing).journal ≡ and_then journal (entry_of i turn)
+row_tells m h i is (AtCounter after) (OnCounter next ready) can journal =
+    let s : Core = core_of h journal in
+    let found = get_here idle h.semaphores.callers i ready.caller can.1.there in
+    let effect_at : Seat → (ℕ → ℕ) → Effect
+    = λ z root.
+    let e = Rattle.step_core.specs.Table.event_at i z (sema.words_of h.semaphores.stored).lists z.place in
+    (e.leads (Rattle.step_core.specs.World.found root (sema.words_of h.semaphores.stored) e.word)).1 in
+    let effect : ready.outcome.effect ≡ ((event_of s.semaphores i).leads (finds m.root s.semaphores i)).1
+    = can.1.row.does.effect
+    ∙ (λ j. effect_at (seat_of (sym found.1 j) (each [] h.semaphores.stored.hands i)) (is.root j)) in
+    counter_journal m (Rattle.step_core.specs.CoreSteps.counter_row m s i) i after _
+    ∙ (λ j. journal_after (sym effect j) journal)
+    ∙ effect_entry ready.outcome.effect journal
+row_tells m h i is (AtList l) (OnList k ready) can journal =
+    let s : Core = core_of h journal in
+    list_journal (Rattle.step_core.specs.CoreSteps.list_row s i l) i _
+    ∙ (λ j. journal_after_list l i (sym can.2.does.effect j) journal)
+    ∙ list_effect_entry l i ready.outcome.effect journal
+    ∙ (λ j. and_then journal (list_entry (sym can.0 j) i ready.outcome.effect))
+row_tells m h i is (AtGroup g row) (OnGroup k now) can journal = group_journal m _ i g _
+row_tells m h i is _ _ can journal = absurd can
+
+pub turn_tells : (m : CoreLayout) (h : Machine) (i : ℕ) → IsMachineFor m h → (turn : Turn) → IsReady h i turn
+    → (journal : List Entry) → (core_turned m (core_of h journal) i).journal ≡ and_then journal (entry_of i turn)
+turn_tells m h i is turn can journal = row_tells m h i is (each Rest h.standing i) turn can journal
+
+-- where the seat's call has ended, it has begun the next; else nothing has changed
+abbrev pub GoesOn : Parts → ℕ → Machine → List ℕ → Machine → List ℕ → Standing → Type 0
+GoesOn parts i h counts k now Rest = HasBegun parts i h counts k now
+GoesOn parts i h counts k now _ = (k ≡ h) × (now ≡ counts)
+
+module _ (parts : Parts) (i : ℕ) (h : Machine) (counts : List ℕ) where
+  pub stays : (doing : Standing) → doing ≢ Rest → GoesOn parts i h counts h counts doing
+  stays Rest awake = absurd (awake refl)
+  stays (AtCounter after) awake = (refl, refl)
+  stays (AtList l) awake = (refl, refl)
+  stays (AtGroup g row) awake = (refl, refl)
+  stays (Failed misuse) awake = (refl, refl)
+
+  pub begins : (doing : Standing) → doing ≡ Rest → (k : Machine) (now : List ℕ) → HasBegun parts i h counts k now → GoesOn parts i h counts k now doing
+  begins doing rest k now is = subst (GoesOn parts i h counts k now) (sym rest) is
+
+  module _ (k : Machine) (now : List ℕ) where
+    shown : (doing : Standing) → GoesOn parts i h counts k now doing → (journal : List Entry)
+        → run_with k now journal ≡ continued parts (run_with h counts journal) i doing
+    shown Rest is journal = is.run journal
+    shown (AtCounter after) is journal = λ j. run_with (is.0 j) (is.1 j) journal
+    shown (AtList l) is journal = λ j. run_with (is.0 j) (is.1 j) journal
+    shown (AtGroup g row) is journal = λ j. run_with (is.0 j) (is.1 j) journal
+    shown (Failed misuse) is journal = λ j. run_with (is.0 j) (is.1 j) journal
+
+    -- what is kept of the machine and the numbers, either way
+    keeps : (P : Machine → Type 0) → (doing : Standing) → GoesOn parts i h counts k now doing
+        → (HasBegun parts i h counts k now → P h → P k) → P h → P k
+    keeps P Rest is by was = by is was
+    keeps P (AtCounter after) is by was = subst P (sym is.0) was
+    keeps P (AtList l) is by was = subst P (sym is.0) was
+    keeps P (AtGroup g row) is by was = subst P (sym is.0) was
+    keeps P (Failed misuse) is by was = subst P (sym is.0) was
+
+    count_kept : (doing : Standing) → GoesOn parts i h counts k now doing → length now ≡ length counts
+    count_kept Rest is = is.count
+    count_kept (AtCounter after) is = ap length is.1
+    count_kept (AtList l) is = ap length is.1
+    count_kept (AtGroup g row) is = ap length is.1
+    count_kept (Failed misuse) is = ap length is.1
+
+-- the row has run
+module _ (m : Moment) (past : HasPast m) (i : ℕ) (turn : Turn) (free : refusal m.parts (run_at m) i ≡ None) (k : Machine)
+    (turned : Becomes (λ m s. core_turned m s i) m.machine k)
+    (told : (l : CoreLayout) → IsMachineFor l m.machine → (journal : List Entry)
+    → (core_turned l (core_of m.machine journal) i).journal ≡ and_then journal (entry_of i turn)) where
+  abbrev form : CoreLayout
+  form = layout m.parts
+
+  pub machine_ran : IsMachineFor form k
+  machine_ran = same_layout form m.machine k turned.alike past.1.machine
+
+  abbrev after : List Entry → List Entry
+  after journal = and_then journal (entry_of i turn)
+
+  between : (journal : List Entry) → core_of k (after journal) ≡ core_turned form (core_of m.machine journal) i
+  between journal =
+      (λ j. core_of k (sym (told form past.1.machine journal) j)) ∙ turned.core form past.1.machine journal
+
+  module _ (n : Machine) (now : List ℕ) (goes : GoesOn m.parts i k m.begun n now (each Rest k.standing i)) where
+    abbrev new : Moment
+    new = record { parts = m.parts; machine = n; begun = now }
+
+    abbrev doing : Standing
+    doing = each Rest k.standing i
+
+    step_shown : (journal : List Entry) → run_of (telling new (after journal)) ≡ stepped m.parts (run_of (telling m journal)) i
+    step_shown journal =
+        shown m.parts i k m.begun n now doing goes (after journal)
+        ∙ (λ j. let s : Core = between journal j in continued m.parts (record { core = s; begun = each 0 m.begun }) i (s.standing i))
+
+    sound_ran : (journal : List Entry) → IsSound (telling m journal) → IsSound (telling new (after journal))
+    sound_ran journal sound = record {
+      scenario = sound.scenario;
+      starts = sound.starts;
+      stored = keeps m.parts i k m.begun n now
+          (λ h. IsStoredFor (length m.parts.starts) m.parts.groups m.parts.roots (length m.parts.calls) h.semaphores.stored) doing goes
+          (λ is. still_stored (length m.parts.starts) m.parts.groups m.parts.roots (length m.parts.calls) k n is.alike.semaphores)
+          (still_stored (length m.parts.starts) m.parts.groups m.parts.roots (length m.parts.calls) m.machine k turned.alike.semaphores sound.stored);
+      machine = keeps m.parts i k m.begun n now (IsMachineFor form) doing goes (λ is. same_layout form k n is.alike) machine_ran;
+      begun = count_kept m.parts i k m.begun n now doing goes ∙ sound.begun;
+      run = subst (IsSoundRun m.parts) (sym (step_shown journal))
+          (is_stepped core_called core_kept m.parts (run_of (telling m journal)) i sound.scenario sound.run (same_refusal m journal i ∙ free));
+    }
+
+    pub past_ran : HasPast new
+    past_ran = (after past.0, sound_ran past.0 past.1)
+
+    pub steps_ran : (shows : Moment) → m ≡ shows → Steps shows i new (entry_of i turn)
+    steps_ran shows same =
+        subst (λ (z : Moment). Steps z i new (entry_of i turn)) same
+        (record { steps = λ journal. record { parts = refl; run = step_shown journal }; sound = sound_ran })

@@ -1,0 +1,172 @@
+//! The whole machine: its semaphores, its notify lists and its wait groups, and what each seat is doing.
+//!
+//! A seat's call is on one part of the machine at a time, and in all other parts the seat is at rest. Each method here is
+//! one change of the whole, and holds for every journal that may stand behind it.
+
+ghost use Rattle.std.specs.Prelude.{◌≡◌, ◌<◌, ◌+◌, ◌^◌, length, IfOk};
+ghost use Rattle.step_core.specs.World.{put};
+ghost use Rattle.step_core.specs.Steps.{moved};
+ghost use Rattle.step_core.specs.ListSteps.{moved as moved_on_list, waiting};
+ghost use Rattle.step_core.specs.ListStored.{IsListReady};
+ghost use Rattle.step_core.specs.Core.{CoreLayout, semaphore};
+ghost use Rattle.step_core.specs.CoreSteps.{stands, at_counter, at_list, waits_on_list, releases, counter_row, list_row};
+ghost use Rattle.step_core.specs.State.{Becomes, IsMachineFor, HasSeat, HasListSeat, no_list};
+ghost use Rattle.step_core.specs.Stored.{each, CanRun};
+
+use crate::group_id::GroupId;
+use crate::group_word::GroupWord;
+use crate::list_id::ListId;
+use crate::list_outcome::ListReady;
+use crate::list_place::ListPlace;
+use crate::notify_list::NotifyList;
+use crate::place::{Place, Release, ReleaseRow};
+use crate::ready::Ready;
+use crate::semaphores::Semaphores;
+use crate::standing::{After, Standing};
+use std::marker::Model;
+use waiters::{CounterId, SeatId};
+
+/// All that rows read and write, and what each seat is doing.
+#[derive(Drop)]
+pub(crate) struct Machine {
+    pub semaphores: Semaphores,
+    pub lists: Vec<NotifyList>,
+    pub groups: Vec<GroupWord>,
+    pub standing: Vec<Standing>,
+}
+
+impl Model for Machine {
+    ghost use Rattle.step_core.specs.State.{Machine as Shown};
+
+    ghost Value = { Shown };
+
+    ghost view = { λ m. record {
+      semaphores = m.semaphores;
+      lists = m.lists.items;
+      groups = m.groups.items;
+      standing = m.standing.items;
+    } };
+}
+
+impl Machine {
+    /// What the seat does now.
+    pub fn doing(&self, seat: SeatId) -> Standing
+        requires { seat < length self.now.standing }
+        ensures { result ≡ each Standing.Rest self.now.standing seat }
+    {
+        self.standing[seat.number() as usize]
+    }
+
+    /// The seat does this now.
+    pub fn stand(&mut self, seat: SeatId, standing: Standing)
+        requires { HasSeat self.old seat }
+        ensures { Becomes (λ m s. stands s seat standing) self.old self.new }
+    {
+        self.standing[seat.number() as usize] = standing;
+    }
+
+    /// The seat stands at this place on the semaphores.
+    fn move_on_counters(&mut self, seat: SeatId, place: Place)
+        requires { HasSeat self.old seat }
+        ensures { Becomes (λ m s. record s { semaphores = moved s.semaphores seat place }) self.old self.new }
+    {
+        self.semaphores.begin(seat, place);
+    }
+
+    /// The seat stands at this place on the list.
+    fn move_on_list(&mut self, seat: SeatId, list: ListId, place: ListPlace)
+        requires { HasListSeat self.old list seat }
+        ensures { Becomes (λ m s. record s { lists = put s.lists list (moved_on_list (s.lists list) seat place) })
+            self.old self.new }
+    {
+        self.lists[list.number() as usize].begin(seat, place);
+    }
+
+    /// The seat waits with the ticket of the list that it holds.
+    fn wait_with_ticket(&mut self, seat: SeatId, list: ListId)
+        requires { HasListSeat self.old list seat }
+        ensures { Becomes (λ m s. record s { lists = put s.lists list (waiting (s.lists list) seat) }) self.old self.new }
+    {
+        self.lists[list.number() as usize].begin_wait(seat);
+    }
+
+    /// The word of the group becomes this.
+    pub fn set_group(&mut self, group: GroupId, word: GroupWord)
+        requires { group < length self.old.groups }
+        ensures { Becomes (λ m s. record s { groups = put s.groups group word }) self.old self.new }
+    {
+        self.groups[group.number() as usize] = word;
+    }
+
+    /// A row on the semaphores, which can run.
+    pub fn run_on_counter(&mut self, seat: SeatId, ready: &Ready)
+        requires { CanRun self.old.semaphores seat ready.now }
+        ensures { Becomes (λ m s. counter_row m s seat) self.old self.new }
+    {
+        self.semaphores.run(seat, ready);
+    }
+
+    /// A row on the list, which can run.
+    pub fn run_on_list(&mut self, seat: SeatId, list: ListId, ready: &ListReady)
+        requires there { list < length self.old.lists }
+        requires ready { IsListReady (each no_list self.old.lists list) seat ready.now }
+        ensures { Becomes (λ m s. list_row s seat list) self.old self.new }
+    {
+        self.lists[list.number() as usize].run(seat, ready);
+    }
+
+    /// The seat stands at this place of a call on a counter, after which this comes.
+    pub fn at_counter(&mut self, seat: SeatId, place: Place, after: After)
+        requires { HasSeat self.old seat }
+        ensures { Becomes (λ m s. at_counter s seat place after) self.old self.new }
+    {
+        self.move_on_counters(seat, place);
+        self.stand(seat, Standing::AtCounter(after));
+    }
+
+    /// The seat stands at this place of a call on the list.
+    pub fn at_list(&mut self, seat: SeatId, list: ListId, place: ListPlace)
+        requires seat { HasSeat self.old seat }
+        requires list { HasListSeat self.old list seat }
+        ensures { Becomes (λ m s. at_list s seat list place) self.old self.new }
+    {
+        self.move_on_list(seat, list, place);
+        self.stand(seat, Standing::AtList(list));
+    }
+
+    /// The seat waits on the list with the ticket that it holds.
+    pub fn wait_on_list(&mut self, seat: SeatId, list: ListId)
+        requires seat { HasSeat self.old seat }
+        requires list { HasListSeat self.old list seat }
+        ensures { Becomes (λ m s. waits_on_list s seat list) self.old self.new }
+    {
+        self.wait_with_ticket(seat, list);
+        self.stand(seat, Standing::AtList(list));
+    }
+
+    /// The counter that is the semaphore of the group.
+    pub fn semaphore(&self, group: GroupId) -> CounterId
+        requires { self.now.semaphores.stored.own + group < 2 ^ 32 }
+        ensures { (m : CoreLayout) → IsMachineFor m self.now → result ≡ semaphore m group }
+    {
+        CounterId::new(self.semaphores.own() as u32 + group.number())
+    }
+
+    /// The seat makes so many releases on the semaphore of the group, one after the other.
+    pub fn release(&mut self, seat: SeatId, group: GroupId, number: u32)
+        requires seat { HasSeat self.old seat }
+        requires group { self.old.semaphores.stored.own + group < 2 ^ 32 }
+        ensures { Becomes (λ m s. releases m s seat group number) self.old self.new }
+    {
+        if number == 0 {
+            self.stand(seat, Standing::Rest);
+            return;
+        }
+        let release = Release {
+            counter: self.semaphore(group),
+            handoff: false,
+        };
+        let place = Place::Releasing(release, ReleaseRow::R1);
+        self.at_counter(seat, place, After::Releases(group, number - 1));
+    }
+}

@@ -1,0 +1,89 @@
+//! The machine at the start of a scenario, and copies of it.
+
+ghost use Rattle.std.specs.Prelude.{◌≡◌, ◌<◌, ◌^◌, ℕ, [], length, map, IfOk};
+ghost use Rattle.std.specs.List.{range_with_len};
+ghost use Rattle.step_core.specs.Core.{first_core};
+ghost use Rattle.step_core.specs.Run.{layout};
+ghost use Rattle.step_core.specs.Group.{empty_word};
+ghost use Rattle.step_core.specs.ListStored.{first_moment, moment_of};
+ghost use Rattle.step_core.specs.State.{core_of, AreFirst, IsMachineFor};
+ghost use Rattle.step_core.specs.Stored.{IsStoredFor};
+ghost use Rattle.step_core.specs.declared.standing.Standing.TheVariants.{Rest};
+
+use crate::group::EMPTY;
+use crate::group_word::GroupWord;
+use crate::machine::Machine;
+use crate::notify_list::NotifyList;
+use crate::scenario::Scenario;
+use crate::semaphores::Semaphores;
+use crate::standing::Standing;
+use std::alloc::{AllocError, Global};
+use waiters::NoMemory;
+
+/// The lists at their first tickets.
+fn first_lists(alloc: Global, firsts: &[u64], seats: u16) -> Result<Vec<NotifyList>, NoMemory>
+    ensures { IfOk result (λ lists. AreFirst firsts.now (length firsts.now) seats lists.items) }
+{
+    let mut lists = Vec::with_capacity(alloc, firsts.len())?;
+    for first in firsts {
+        lists.push_reserved(NotifyList::new(alloc, *first, seats)?);
+    }
+    Ok(lists)
+}
+
+/// So many groups on which nothing has happened.
+fn first_words(alloc: Global, groups: usize) -> Result<Vec<GroupWord>, AllocError>
+    ensures { IfOk result (λ words. words.items ≡ map (λ g. empty_word) (range_with_len 0 groups)) }
+{
+    (0..groups).map(|_| EMPTY).collect(alloc)
+}
+
+/// So many seats that do nothing.
+fn all_at_rest(alloc: Global, seats: usize) -> Result<Vec<Standing>, AllocError>
+    ensures { IfOk result (λ standing. standing.items ≡ map (λ k. Rest) (range_with_len 0 seats)) }
+{
+    (0..seats).map(|_| Standing::Rest).collect(alloc)
+}
+
+/// The same lists, with memory of their own.
+fn copied(alloc: Global, lists: &[NotifyList]) -> Result<Vec<NotifyList>, NoMemory>
+    ensures { IfOk result (λ copy. copy.items ≡ lists.now) }
+{
+    let mut copy = Vec::with_capacity(alloc, lists.len())?;
+    for list in lists {
+        copy.push_reserved(list.clone()?);
+    }
+    Ok(copy)
+}
+
+impl Machine {
+    /// The machine before any call has begun. All memory of a run is taken here.
+    pub(crate) fn new(alloc: Global, scenario: &Scenario) -> Result<Machine, NoMemory>
+        ensures shape { IfOk result (λ h. IsMachineFor (layout scenario.now) h) }
+        ensures stored { IfOk result (λ h. IsStoredFor (length scenario.now.starts) scenario.now.groups scenario.now.roots
+            (length scenario.now.calls) h.semaphores.stored) }
+        ensures core { IfOk result (λ h. core_of h [] ≡ first_core (layout scenario.now)) }
+    {
+        let parts = scenario.parts();
+        let seats = parts.calls.len();
+        let starts = scenario.starts();
+        Ok(Machine {
+            semaphores: Semaphores::new(alloc, starts, parts.groups, parts.roots, seats)?,
+            lists: first_lists(alloc, parts.firsts.as_slice(), seats as u16)?,
+            groups: first_words(alloc, parts.groups as usize)?,
+            standing: all_at_rest(alloc, seats)?,
+        })
+    }
+
+    /// The same, with memory of its own for the rest of the run.
+    pub(crate) fn try_clone(&self, alloc: Global) -> Result<Machine, NoMemory>
+        ensures { IfOk result (λ other. other ≡ self.now) }
+    {
+        Ok(Machine {
+            semaphores: self.semaphores.try_clone(alloc)?,
+            lists: copied(alloc, self.lists.as_slice())?,
+            groups: self.groups.as_slice().to_vec(alloc)?,
+            standing: self.standing.as_slice().to_vec(alloc)?,
+        })
+    }
+}

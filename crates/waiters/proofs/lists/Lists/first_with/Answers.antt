@@ -1,0 +1,38 @@
+use Rattle.std.proofs.Common.{ap, sym, ◌∙◌, refl}
+use Rattle.std.specs.Prelude.{Some}
+use Rattle.waiters.proofs.StepLemmas.{mine, waits_at-open, none_found, FoundAt-mine, ContainsKey-place, wait_found}
+use Rattle.waiters.proofs.lists.Lists.first_with.Goals as goal
+
+pub find-requires : goal.find-requires
+find-requires c =
+    let list = c.number-list.result in
+    let chain = c.index-chain.result.now in
+    let kept = mine _ _ _ _ c.self.invariant list chain c.index-chain.ensures in (kept.entries, kept.links)
+
+pub returns-in_default : goal.returns-in_default
+returns-in_default c =
+    let list = c.number-list.result in
+    let chain = c.index-chain.result.now in
+    let was = ap (λ lists. lists.slots) (sym c.self.view_is) in
+    let finds = rw c.in_default.is at c.find.ensures in
+    let none = none_found _ _ _ _ c.self.invariant list chain c.index-chain.ensures c.args.ticket c.args.self.now was finds in
+    rw (← c.number-list.ensures) (sym none.0)
+
+pub index-requires : goal.index-requires
+index-requires c =
+    let list = c.number-list.result in
+    let chain = c.index-chain.result.now in
+    let finds = rw c.in-Some.is at c.find.ensures in
+    let found = FoundAt-mine _ _ _ _ c.self.invariant list chain c.index-chain.ensures c.args.ticket _ finds in
+    ContainsKey-place _ _ _ _ c.self.invariant list chain c.index-chain.ensures _ found.stands
+
+pub returns : goal.returns
+returns c =
+    let list = c.number-list.result in
+    let chain = c.index-chain.result.now in
+    let finds = rw c.in-Some.is at c.find.ensures in
+    let found = FoundAt-mine _ _ _ _ c.self.invariant list chain c.index-chain.ensures c.args.ticket _ finds in
+    let was = ap (λ lists. lists.slots) (sym c.self.view_is) in
+    let wait = wait_found _ _ _ _ c.self.invariant list chain c.index-chain.ensures _ found.stands c.index.result.now c.index.ensures in
+    let waits = waits_at-open _ _ _ _ c.self.invariant list chain c.index-chain.ensures c.args.self.now was in
+    rw (← c.number-list.ensures, waits) (ap Some wait ∙ sym found.first)
