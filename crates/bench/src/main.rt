@@ -2,10 +2,13 @@
 //!
 //! `treap` and `sorted` take a wait out of a root at a counter drawn at random, and queue it there again; the size
 //! is how many counters have a wait, from 1 to 65535.
+//! `steps` runs four seats of 32 calls, which acquire and release so many counters in turn, from 1 to 16. `clones` copies
+//! a moment in the middle of such a run.
 #![tactic(auto)]
 
 ghost use Rattle.std.specs.Prelude.{◌<◌};
 
+mod moments;
 mod roots;
 
 use anyhow::{Result, bail};
@@ -28,6 +31,8 @@ fn cost(clock: &impl Clock, alloc: Global, case: &str, size: u16) -> Result<u128
             let mut root = SortedRoot::with_room(alloc, size)?;
             Ok(roots::turn(clock, &mut root, size)?)
         }
+        "steps" => moments::step(clock, alloc, size),
+        "clones" => moments::clone(clock, alloc, size),
         _ => bail!("no case {case}"),
     }
 }
@@ -35,7 +40,7 @@ fn cost(clock: &impl Clock, alloc: Global, case: &str, size: u16) -> Result<u128
 fn main(rt: HostRuntime) -> Result<()> {
     let mut words = env::args(&rt)?.skip(1);
     let Some(case) = words.next() else {
-        println!(rt; "usage: bench treap|sorted COUNTERS..")?;
+        println!(rt; "usage: bench treap|sorted|steps|clones COUNTERS..")?;
         return Ok(());
     };
     for word in words {

@@ -33,9 +33,9 @@ has_append : (b : ℕ) (xs ys : List ℕ) → has b xs ≡ false → has b ys �
 has_append b [] ys p q = q
 has_append b (x ∷ xs) ys p q = neither (eqb x b) (has b xs) (has b (xs ++ ys)) p (λ r. has_append b xs ys r q)
 
-has_in : (xs ys : List ℕ) → has 59 (xs ++ (59 ∷ ys)) ≡ true
-has_in [] ys = refl
-has_in (x ∷ xs) ys = is_first (eqb x 59) (has 59 (xs ++ (59 ∷ ys))) (has_in xs ys)
+pub has_in : (b : ℕ) (xs ys : List ℕ) → has b (xs ++ (b ∷ ys)) ≡ true
+has_in b [] ys = ap (λ (t : Bool). cond t true (has b ys)) (eq-eqb b b refl)
+has_in b (x ∷ xs) ys = is_first (eqb x b) (has b (xs ++ (b ∷ ys))) (has_in b xs ys)
 
 has_none : (b : ℕ) (xs : List ℕ) → has b xs ≡ false → (i : ℕ) → i < length xs → get_or xs i 0 ≢ b
 has_none b [] p i lt e = absurd (omega arith)
@@ -50,7 +50,7 @@ none_has : (b : ℕ) (xs : List ℕ) → ((i : ℕ) → i < length xs → get_or
 none_has b [] h = refl
 none_has b (x ∷ xs) h = none_first x b (eqb x b) (has b xs) (h 0 (omega arith)) refl (none_has b xs (λ i lt. h (suc i) (omega arith)))
 
-number_has : (b n : ℕ) → n < 10 ^ 10 → 57 < b ⊎ b < 48 → has b (decimal n) ≡ false
+pub number_has : (b n : ℕ) → n < 10 ^ 10 → 57 < b ⊎ b < 48 → has b (decimal n) ≡ false
 number_has b n small out = none_has b (decimal n) (lacks n b (omega arith) out)
 
 change_has : (d : Change) → IsShortChange d → has 59 (change_text d) ≡ false
@@ -81,7 +81,7 @@ pub first_call : (rest : List ℕ) (x : Bor (List ℕ) × Bor (List ℕ)) → Is
 first_call rest x h [] p = absurd (omega (arith, p.some))
 first_call rest x h (c ∷ []) p =
     let s = split_parts 59 rest (Some x) h (omega arith) in
-    let e : has 59 rest ≡ true = ap (has 59) s.0 ∙ has_in x.0.now x.1.now in let f : has 59 rest ≡ false = ap (has 59) p.spelled ∙ call_has c p.short.0 in absurd cc
+    let e : has 59 rest ≡ true = ap (has 59) s.0 ∙ has_in 59 x.0.now x.1.now in let f : has 59 rest ≡ false = ap (has 59) p.spelled ∙ call_has c p.short.0 in absurd cc
 first_call rest x h (c ∷ d ∷ ds) p =
     let s = split_after 59 rest (call_text c) (32 ∷ calls_text (d ∷ ds)) (Some x) h (omega arith) p.spelled (call_lacks c p.short.0) in
     (c, d ∷ ds, refl, record { short = p.short.0; spelled = s.0 }, calls_text (d ∷ ds), s.1, record { some = omega arith; short = p.short.1; spelled = refl })

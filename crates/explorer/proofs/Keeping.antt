@@ -7,9 +7,9 @@ use Rattle.std.proofs.lemmas.List.Elements.{All-push, All-weaker, All-nil, All-c
 use Rattle.std.proofs.lemmas.List.Sums.{fold_push}
 use Rattle.std.proofs.lemmas.Bool.{ltb-true, ltb-false}
 use Rattle.std.proofs.lemmas.Bool.Decides.{nat_tests}
-use Rattle.step_core.specs.declared.call.Call.{Call}
-use Rattle.step_core.specs.declared.call.Call.TheVariants as core
-use Rattle.step_core.specs.declared.scenario.Parts.{Parts}
+use Rattle.step_table.specs.declared.call.Call.{Call}
+use Rattle.step_table.specs.declared.call.Call.TheVariants as core
+use Rattle.step_table.specs.declared.parts.Parts.{Parts}
 use Rattle.explorer.specs.declared.reader.call.Change.{Change}
 use Rattle.explorer.specs.declared.reader.call.Change.TheVariants.{Up, Down}
 use Rattle.explorer.specs.declared.reader.call.SpelledCall.{SpelledCall}
@@ -18,12 +18,13 @@ use Rattle.explorer.specs.declared.request.Property.{Property}
 use Rattle.explorer.specs.declared.request.Property.TheVariants as property
 use Rattle.explorer.specs.declared.reader.kind.Kind.{Kind}
 use Rattle.explorer.specs.declared.reader.kind.Kind.TheVariants.{Counter as CounterKind, NotifyList as ListKind, Group as GroupKind, Seat as SeatKind, Property as PropertyKind}
+use Rattle.explorer.specs.Bad.{IsAbout}
 use Rattle.explorer.specs.Line.{Line, Roots, Counter, NotifyList, Group, Seat, Settled, Value, NoMisuse, HasForm}
 use Rattle.explorer.specs.Pieces.{Piece}
 use Rattle.explorer.specs.Causes.{kind, rank, count_of, is_misplaced, is_out_of_range, is_too_many, is_undeclared, has_wrong_ticket, is_wide, names_missing, held_after, has_ticket, is_wrong_after, misuses_ticket, is_early_property, count_later, IsRight}
 use Rattle.explorer.specs.ScenarioText.{call_of, with_line, with_property, parts_of, property_of, no_parts}
 use Rattle.explorer.specs.Fitting.{FitsChange, FitsCall, FitsLine}
-use Rattle.step_core.specs.Scenario.{IsOfFewUnits, IsScript, IsCallOn, IsDeclared, holding_after, IsTicketCall, AreTicketsKept, KeepsTickets}
+use Rattle.step_table.specs.Scenario.{IsOfFewUnits, IsScript, IsCallOn, IsDeclared, holding_after, IsTicketCall, AreTicketsKept, KeepsTickets}
 
 -- ---- tests that fail
 
@@ -221,6 +222,7 @@ pub record Keeps (parts : Parts) (property : Option Property) (counters lists gr
   pub declared : IsDeclared parts
   pub tickets : KeepsTickets parts
   pub some_seat : IfSome property (λ p. 0 < seats)
+  pub about : IfSome property (IsAbout parts)
 
 abbrev pub Kept : List Line → Type 0
 Kept lines = Keeps (parts_of lines) (property_of lines) (count_of CounterKind lines) (count_of ListKind lines) (count_of GroupKind lines) (count_of SeatKind lines)
@@ -239,6 +241,7 @@ kept_none = record {
   declared = All-nil (All (IsCallOn no_parts));
   tickets = All-nil AreTicketsKept;
   some_seat = tt;
+  about = tt;
 }
 
 script : (lines : List Line) (k : ℕ) (calls : List SpelledCall) → Passes lines (Seat k calls) → IsScript (map call_of calls)
@@ -259,9 +262,16 @@ more_seats : (o : Option Property) (n : ℕ) → IfSome o (λ p. 0 < n) → IfSo
 more_seats None n h = tt
 more_seats (Some p) n h = omega arith
 
+-- a property is about more counters too
+about_more : (p q : Parts) → length p.starts ≤ length q.starts → (o : Option Property) → IfSome o (IsAbout p) → IfSome o (IsAbout q)
+about_more p q more None h = tt
+about_more p q more (Some property.Settled) h = tt
+about_more p q more (Some (property.Value c n)) h = omega arith
+about_more p q more (Some property.NoMisuse) h = tt
+
 -- a line that changes the property alone
-stays : (lines : List Line) (o : Option Property) → Kept lines → 0 < count_of SeatKind lines → Keeps (parts_of lines) o (count_of CounterKind lines + 0) (count_of ListKind lines + 0) (count_of GroupKind lines + 0) (count_of SeatKind lines + 0)
-stays lines o k behind = record {
+stays : (lines : List Line) (o : Option Property) → Kept lines → 0 < count_of SeatKind lines → IfSome o (IsAbout (parts_of lines)) → Keeps (parts_of lines) o (count_of CounterKind lines + 0) (count_of ListKind lines + 0) (count_of GroupKind lines + 0) (count_of SeatKind lines + 0)
+stays lines o k behind about = record {
   some_root = k.some_root;
   roots = k.roots;
   declares = record { starts = omega (arith, k.declares); firsts = omega (arith, k.declares); groups_are = omega (arith, k.declares) };
@@ -274,6 +284,7 @@ stays lines o k behind = record {
   declared = k.declared;
   tickets = k.tickets;
   some_seat = always o (count_of SeatKind lines + 0) (omega arith);
+  about = about;
 }
   where
     always : (o : Option Property) (n : ℕ) → 0 < n → IfSome o (λ p. 0 < n)
@@ -298,6 +309,7 @@ next lines (Roots n) k h = record {
   declared = declared_more (parts_of lines) (with_line (parts_of lines) (Roots n)) (omega arith) (omega arith) (omega arith) refl k.declared;
   tickets = k.tickets;
   some_seat = subst (λ (n : ℕ). IfSome (property_of lines) (λ p. 0 < n)) (omega arith) k.some_seat;
+  about = about_more (parts_of lines) (with_line (parts_of lines) (Roots n)) (omega arith) (property_of lines) k.about;
 }
   where
     some : (n : ℕ) → (n == 0) ≡ false → 0 < n
@@ -315,6 +327,7 @@ next lines (Counter start) k h = record {
   declared = declared_more (parts_of lines) (with_line (parts_of lines) (Counter start)) (omega (arith, length_push (parts_of lines).starts start)) (omega arith) (omega arith) refl k.declared;
   tickets = k.tickets;
   some_seat = subst (λ (n : ℕ). IfSome (property_of lines) (λ p. 0 < n)) (omega arith) k.some_seat;
+  about = about_more (parts_of lines) (with_line (parts_of lines) (Counter start)) (omega (arith, length_push (parts_of lines).starts start)) (property_of lines) k.about;
 }
 next lines (NotifyList first) k h = record {
   some_root = k.some_root;
@@ -329,6 +342,7 @@ next lines (NotifyList first) k h = record {
   declared = declared_more (parts_of lines) (with_line (parts_of lines) (NotifyList first)) (omega arith) (omega (arith, length_push (parts_of lines).firsts first)) (omega arith) refl k.declared;
   tickets = k.tickets;
   some_seat = subst (λ (n : ℕ). IfSome (property_of lines) (λ p. 0 < n)) (omega arith) k.some_seat;
+  about = about_more (parts_of lines) (with_line (parts_of lines) (NotifyList first)) (omega arith) (property_of lines) k.about;
 }
 next lines Group k h = record {
   some_root = k.some_root;
@@ -343,6 +357,7 @@ next lines Group k h = record {
   declared = declared_more (parts_of lines) (with_line (parts_of lines) Group) (omega arith) (omega arith) (omega arith) refl k.declared;
   tickets = k.tickets;
   some_seat = subst (λ (n : ℕ). IfSome (property_of lines) (λ p. 0 < n)) (omega arith) k.some_seat;
+  about = about_more (parts_of lines) (with_line (parts_of lines) Group) (omega arith) (property_of lines) k.about;
 }
 next lines (Seat n calls) k h = record {
   some_root = k.some_root;
@@ -357,10 +372,11 @@ next lines (Seat n calls) k h = record {
   declared = All-push (All (IsCallOn (parts_of lines))) (parts_of lines).calls (map call_of calls) k.declared (all_of_none (IsCallOn (parts_of lines)) call_of (names_missing lines) (call_on lines (parts_of lines) k.declares) calls h.declared);
   tickets = All-push AreTicketsKept (parts_of lines).calls (map call_of calls) k.tickets (tickets_kept calls h.ticket);
   some_seat = more_seats (property_of lines) (count_of SeatKind lines) k.some_seat;
+  about = about_more (parts_of lines) (with_line (parts_of lines) (Seat n calls)) (omega arith) (property_of lines) k.about;
 }
-next lines Settled k h = stays lines (Some property.Settled) k (behind_seat lines Settled h.place)
-next lines (Value c n) k h = stays lines (Some (property.Value c n)) k (behind_seat lines (Value c n) h.place)
-next lines NoMisuse k h = stays lines (Some property.NoMisuse) k (behind_seat lines NoMisuse h.place)
+next lines Settled k h = stays lines (Some property.Settled) k (behind_seat lines Settled h.place) tt
+next lines (Value c n) k h = stays lines (Some (property.Value c n)) k (behind_seat lines (Value c n) h.place) (omega (arith, k.declares, there c (count_of CounterKind lines) h.declared))
+next lines NoMisuse k h = stays lines (Some property.NoMisuse) k (behind_seat lines NoMisuse h.place) tt
 
 counted : (kinds : Kind) (lines : List Line) (l : Line) → count_of kinds (lines ++ (l ∷ [])) ≡ count_of kinds lines + cond (rank (kind l) == rank kinds) 1 0
 counted kinds lines l = fold_push (λ (n : ℕ) (x : Line). n + cond (rank (kind x) == rank kinds) 1 0) 0 lines l

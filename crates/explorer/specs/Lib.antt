@@ -10,4 +10,14 @@ pub mod Phrases
 pub mod Pieces
 pub mod Reader
 pub mod ScenarioText
+pub mod ReplayText
+pub mod ScheduleText
 pub mod Seen
+pub mod Bad
+pub mod Tables
+pub mod Found
+pub mod Explored
+pub mod ExploreText
+pub mod InputText
+pub mod Refusal
+pub mod Told

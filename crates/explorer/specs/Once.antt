@@ -1,7 +1,7 @@
 -- The scenario of `parklot once`.
 use Rattle.std.specs.Prelude.{[], ◌∷◌, false}
-use Rattle.step_core.specs.declared.call.Call.TheVariants.{Acquire, Release}
-use Rattle.step_core.specs.declared.scenario.Parts.{Parts}
+use Rattle.step_table.specs.declared.call.Call.TheVariants.{Acquire, Release}
+use Rattle.step_table.specs.declared.parts.Parts.{Parts}
 
 -- one root and one counter at 0; seat 0 acquires, and seat 1 releases
 abbrev pub once_parts_of : Parts

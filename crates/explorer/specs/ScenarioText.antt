@@ -1,8 +1,8 @@
 -- A scenario's text: its request, or its fault.
 use Rattle.std.specs.Prelude.{⊤, ◌≡◌, ℕ, ◌+◌, true, false, ℤ, pos, neg_ℤ, List, [], ◌∷◌, ◌++◌, length, map, fold, ◌⊎◌, Option, Some, None}
-use Rattle.step_core.specs.declared.call.Call.{Call}
-use Rattle.step_core.specs.declared.call.Call.TheVariants as core
-use Rattle.step_core.specs.declared.scenario.Parts.{Parts}
+use Rattle.step_table.specs.declared.call.Call.{Call}
+use Rattle.step_table.specs.declared.call.Call.TheVariants as core
+use Rattle.step_table.specs.declared.parts.Parts.{Parts}
 use Rattle.explorer.specs.declared.reader.call.Change.{Change}
 use Rattle.explorer.specs.declared.reader.call.Change.TheVariants.{Up, Down}
 use Rattle.explorer.specs.declared.reader.call.SpelledCall.{SpelledCall}

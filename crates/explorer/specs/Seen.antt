@@ -1,8 +1,8 @@
 -- What is told from a seat's phase and the journal's last entry.
 use Rattle.std.specs.Prelude.{◌≡◌, ◌↔◌, ℕ, Option, Some}
-use Rattle.step_core.specs.declared.entry.Entry.{Entry}
-use Rattle.step_core.specs.declared.entry.Entry.TheVariants.{Take, Leave}
-use Rattle.step_core.specs.declared.phase.Phase.TheVariants.{Ended}
+use Rattle.step_table.specs.declared.entry.Entry.{Entry}
+use Rattle.step_table.specs.declared.entry.Entry.TheVariants.{Take, Leave}
+use Rattle.step_table.specs.declared.phase.Phase.TheVariants.{Ended}
 use Rattle.waiters.specs.declared.wait.WaitId.{WaitId}
 use Rattle.explorer.specs.declared.answer.Woken.{Woken}
 use Rattle.explorer.specs.declared.answer.Woken.TheVariants.{One}

@@ -4,7 +4,8 @@
 //! it, and a right line adds to the draft of the request.
 
 ghost use Rattle.std.specs.Prelude.{IfOk, IfErr};
-ghost use Rattle.step_core.specs.Scenario.{IsWithinLimits, IsDeclared, KeepsTickets};
+ghost use Rattle.step_table.specs.Scenario.{IsWithinLimits, IsDeclared, KeepsTickets};
+ghost use Rattle.explorer.specs.Bad.{IsAbout};
 ghost use Rattle.explorer.specs.Reader.{IsOnly, IsNone, IsRefusal};
 ghost use Rattle.explorer.specs.ScenarioText.{IsRequestOf, IsFaultOf};
 
@@ -16,12 +17,14 @@ mod kind;
 mod line;
 mod number;
 mod pieces;
+mod schedule;
 mod tickets;
 
 use crate::read_fault::{Cause, ReadFault};
 use crate::reader::draft::Draft;
 use crate::reader::judge::judge;
 use crate::reader::pieces::first_line;
+pub(crate) use crate::reader::schedule::read_schedule;
 use crate::request::Request;
 use std::alloc::Global;
 
@@ -34,6 +37,7 @@ pub fn read_scenario(alloc: Global, text: &[u8]) -> Result<Request, ReadFault>
     ensures limits { IfOk result (λ request. IsWithinLimits request.parts) }
     ensures declared { IfOk result (λ request. IsDeclared request.parts) }
     ensures tickets { IfOk result (λ request. KeepsTickets request.parts) }
+    ensures property { IfOk result (λ request. IsAbout request.parts request.property) }
     ensures fault { IfErr result (IsRefusal text.now) }
 {
     let mut lines = Vec::new(alloc);

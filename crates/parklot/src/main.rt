@@ -7,6 +7,7 @@ use std::{env, io};
 
 fn main(rt: HostRuntime) -> ExitCode {
     let alloc = rt.alloc();
+    let mut input = Flagged::new(rt.stdin());
     let mut out = Flagged::new(rt.stdout());
     let mut err = Flagged::new(rt.stderr());
     let words: io::Result<Vec<String>> = env::args(&rt).and_then(|all| all
@@ -14,7 +15,7 @@ fn main(rt: HostRuntime) -> ExitCode {
         .collect(alloc)
         .map_err(io::Error::from));
     ExitCode::from(match words {
-        Ok(words) => parklot_io(alloc, words.as_slice(), &mut out, &mut err),
+        Ok(words) => parklot_io(alloc, words.as_slice(), &mut input, &mut out, &mut err),
         Err(error) => no_words_io(&error, &mut out, &mut err),
     })
 }

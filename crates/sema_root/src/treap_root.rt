@@ -3,7 +3,8 @@
 //! A node's ticket is the low 32 bits of the generator's next word with the lowest bit set. The generator starts as
 //! `seed_from_u64(seed)`, and a word is used for each node and for nothing else. A counter keeps its node, and so its
 //! ticket, while it has waits.
-ghost use Rattle.std.specs.Prelude.{◌≡◌, ◌<◌, ◌+◌, MatchOption, IfOk, IfNone, OnSome, drop, slice_get};
+ghost use Rattle.std.specs.Prelude.{◌≡◌, ◌<◌, ◌+◌, ◌++◌, MatchOption, IfOk, OnOk, IfNone, OnSome, drop, slice_get};
+ghost use Rattle.waiters.specs.Lists.{seats_of};
 ghost use Rattle.sema_root.specs.Queues.{waits_on, total, AreQueues, joined_by, Changes};
 ghost use Rattle.sema_root.specs.Rooted.{Comes, IsIn};
 ghost use Rattle.sema_root.specs.Tree.{leaf, top_counter, top_place, top_value, sought, IsTreap};
@@ -71,6 +72,16 @@ impl TreapRoot {
         ensures treap { IsTreap self.now.tree }
     {
         self.treap.place(counter)
+    }
+
+    /// Writes the seat of each wait of a counter's queue behind these words, in order.
+    pub fn write_seats(&self, counter: CounterId, words: &mut Vec<u64>) -> Result<(), NoMemory>
+        ensures { OnOk result (words.new.items ≡ words.old.items ++ seats_of (waits_on (queues_of self.now.tree) counter)) }
+    {
+        match self.treap.find(counter) {
+            Some(list) => self.lists.write_seats(list, words),
+            None => Ok(()),
+        }
     }
 }
 

@@ -6,17 +6,17 @@ use Rattle.std.proofs.Math.ListN.{get_or-map}
 use Rattle.std.proofs.lemmas.List.{get_or_push, get_or_append_left, get_or-append_right, get_or_past, length_push, length-append, length-replicate}
 use Rattle.std.proofs.lemmas.List.FromFn.{length-map-range_with_len}
 use Rattle.waiters.specs.declared.wait.WaitId.{WaitId}
-use Rattle.step_core.specs.declared.scenario.Parts.{Parts}
-use Rattle.step_core.specs.declared.standing.Standing.TheVariants.{Rest}
-use Rattle.step_core.specs.World.{World, first_world}
+use Rattle.step_table.specs.declared.parts.Parts.{Parts}
+use Rattle.step_table.specs.declared.standing.Standing.TheVariants.{Rest}
+use Rattle.step_table.specs.World.{World, first_world}
 use Rattle.step_core.specs.Stored.{Semaphores, Stored, IsStoredFor, each, idle, first_stored, seat_of}
 use Rattle.step_core.specs.Stored as sema
-use Rattle.step_core.specs.ListWorld.{first_list}
+use Rattle.step_table.specs.ListWorld.{first_list}
 use Rattle.step_core.specs.ListStored.{StoredList, moment_of, first_moment, world_at, world_of, ListMoment}
-use Rattle.step_core.specs.Wrapping.{word_of}
-use Rattle.step_core.specs.Group.{empty_word}
-use Rattle.step_core.specs.Core.{first_core}
-use Rattle.step_core.specs.Run.{layout}
+use Rattle.step_table.specs.Wrapping.{word_of}
+use Rattle.step_table.specs.Group.{empty_word}
+use Rattle.step_table.specs.Core.{first_core}
+use Rattle.step_table.specs.Run.{layout}
 use Rattle.step_core.specs.State.{Machine, AreFirst, IsMachineFor, core_of, list_of, no_list}
 use Rattle.step_core.proofs.Storing.{copies}
 
@@ -61,7 +61,7 @@ module _ (parts : Parts) (h : Machine) (made : IsMadeOf parts h) where
 
   pub shaped_first : IsMachineFor (layout parts) h
   shaped_first = record {
-    root = (λ j. Rattle.step_core.specs.World.root_number (made.stored j).own (made.stored j).roots);
+    root = (λ j. Rattle.step_table.specs.World.root_number (made.stored j).own (made.stored j).roots);
     counters = ap (λ (z : Stored). z.own) made.stored;
     callers = ap length made.callers ∙ length-map-range_with_len (λ k. idle) 0 (length parts.calls);
     lists = made.lists.count;

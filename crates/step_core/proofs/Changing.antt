@@ -3,38 +3,38 @@ use Rattle.std.proofs.Common.{◌≡◌, ◌≢◌, ℕ, zero, suc, ◌-◌, ◌
 use mathlib.Core.Path.{fun_ext}
 use native.Mathlib.Decide.{ℕ_discrete}
 use Rattle.std.proofs.lemmas.List.{get_or_default}
-use Rattle.step_core.specs.declared.entry.Entry.{Entry}
-use Rattle.step_core.specs.declared.group_word.GroupWord.{GroupWord}
-use Rattle.step_core.specs.declared.list_place.ListEffect.{ListEffect}
-use Rattle.step_core.specs.declared.list_place.ListPlace.{ListPlace}
-use Rattle.step_core.specs.declared.list_place.ListPlace.TheVariants as on_list
-use Rattle.step_core.specs.declared.outcome.Effect.{Effect}
-use Rattle.step_core.specs.declared.place.AcquireRow.TheVariants.{A1}
-use Rattle.step_core.specs.declared.place.ReleaseRow.TheVariants.{R1}
-use Rattle.step_core.specs.declared.place.Place.{Place}
-use Rattle.step_core.specs.declared.place.Place.TheVariants.{Acquiring, Releasing, ReleasingMany}
-use Rattle.step_core.specs.declared.place.Place.TheVariants as on_counter
-use Rattle.step_core.specs.declared.standing.After.{After}
-use Rattle.step_core.specs.declared.standing.After.TheVariants.{LooksAgain, Releases}
-use Rattle.step_core.specs.declared.standing.GroupNext.TheVariants.{Acquires}
-use Rattle.step_core.specs.declared.standing.Standing.{Standing}
-use Rattle.step_core.specs.declared.standing.Standing.TheVariants.{Rest}
-use Rattle.step_core.specs.World.{World, put, journal_after}
-use Rattle.step_core.specs.Steps.{event_of, finds, turned, moved}
+use Rattle.step_table.specs.declared.entry.Entry.{Entry}
+use Rattle.step_table.specs.declared.group_word.GroupWord.{GroupWord}
+use Rattle.step_table.specs.declared.list_place.ListEffect.{ListEffect}
+use Rattle.step_table.specs.declared.list_place.ListPlace.{ListPlace}
+use Rattle.step_table.specs.declared.list_place.ListPlace.TheVariants as on_list
+use Rattle.step_table.specs.declared.effect.Effect.{Effect}
+use Rattle.step_table.specs.declared.place.AcquireRow.TheVariants.{A1}
+use Rattle.step_table.specs.declared.place.ReleaseRow.TheVariants.{R1}
+use Rattle.step_table.specs.declared.place.Place.{Place}
+use Rattle.step_table.specs.declared.place.Place.TheVariants.{Acquiring, Releasing, ReleasingMany}
+use Rattle.step_table.specs.declared.place.Place.TheVariants as on_counter
+use Rattle.step_table.specs.declared.standing.After.{After}
+use Rattle.step_table.specs.declared.standing.After.TheVariants.{LooksAgain, Releases}
+use Rattle.step_table.specs.declared.standing.GroupNext.TheVariants.{Acquires}
+use Rattle.step_table.specs.declared.standing.Standing.{Standing}
+use Rattle.step_table.specs.declared.standing.Standing.TheVariants.{Rest}
+use Rattle.step_table.specs.World.{World, put, journal_after}
+use Rattle.step_table.specs.Steps.{event_of, finds, turned, moved}
 use Rattle.step_core.specs.Stored.{Semaphores, HasTurned, HasMoved, IsAlike, each, idle, root_of}
 use Rattle.step_core.specs.Stored as sema
-use Rattle.step_core.specs.ListWorld.{ListEntry, ListWorld}
-use Rattle.step_core.specs.ListSteps as list
+use Rattle.step_table.specs.ListWorld.{ListEntry, ListWorld}
+use Rattle.step_table.specs.ListSteps as list
 use Rattle.step_core.specs.ListStored.{StoredList, IsListTurned}
 use Rattle.step_core.specs.ListStored as stored_list
-use Rattle.step_core.specs.Group.{empty_word}
-use Rattle.step_core.specs.Core.{CoreLayout, semaphore, Core, journal_after_list, sema_entries, list_entries}
-use Rattle.step_core.specs.CoreSteps.{stands, at_counter, releases, goes_on, after_counter, after_list, after_group, counter_row, list_row}
+use Rattle.step_table.specs.Group.{empty_word}
+use Rattle.step_table.specs.Core.{CoreLayout, semaphore, Core, journal_after_list, sema_entries, list_entries}
+use Rattle.step_table.specs.CoreSteps.{stands, at_counter, releases, goes_on, after_counter, after_list, after_group, counter_row, list_row}
 use Rattle.step_core.specs.State.{Machine, core_of, list_of, no_list, IsMachineFor, AreAlike, Becomes, HasSeat}
-use Rattle.step_core.proofs.Sums.{put_here, put_else}
+use Rattle.step_table.proofs.Sums.{put_here, put_else}
 use Rattle.step_core.proofs.Storing.{each_set}
-use Rattle.step_core.proofs.CoreJournals.{sema_after, list_unchanged, sema_unchanged, list_after, other_unchanged}
-use Rattle.step_core.proofs.CoreRows.{leads_on}
+use Rattle.step_table.proofs.CoreJournals.{sema_after, list_unchanged, sema_unchanged, list_after, other_unchanged}
+use Rattle.step_table.proofs.CoreRows.{leads_on}
 
 no_change : (m : Semaphores) → IsAlike m m
 no_change m = record {
@@ -65,7 +65,7 @@ then_alike h k l a b = record {
 -- a machine that has changed has the same layout
 pub same_layout : (m : CoreLayout) (h k : Machine) → AreAlike h k → IsMachineFor m h → IsMachineFor m k
 same_layout m h k alike is = record {
-  root = (λ j. Rattle.step_core.specs.World.root_number (alike.semaphores.own j) (alike.semaphores.roots j)) ∙ is.root;
+  root = (λ j. Rattle.step_table.specs.World.root_number (alike.semaphores.own j) (alike.semaphores.roots j)) ∙ is.root;
   counters = alike.semaphores.own ∙ is.counters;
   callers = alike.semaphores.callers ∙ is.callers;
   lists = alike.lists ∙ is.lists;
@@ -74,16 +74,20 @@ same_layout m h k alike is = record {
   standing = alike.standing ∙ is.standing;
 }
 
+-- as many of everything after two changes
+pub then_all : (h k l : Machine) → AreAlike h k → AreAlike k l → AreAlike h l
+then_all h k l one two = record {
+  semaphores = then_alike h.semaphores k.semaphores l.semaphores one.semaphores two.semaphores;
+  lists = two.lists ∙ one.lists;
+  seats = λ n. two.seats n ∙ one.seats n;
+  groups = two.groups ∙ one.groups;
+  standing = two.standing ∙ one.standing;
+}
+
 -- one change after another
 pub and_then : {f g : CoreLayout → Core → Core} {h k l : Machine} → Becomes f h k → Becomes g k l → Becomes (λ m s. g m (f m s)) h l
 and_then {f = f} {g = g} {h = h} {k = k} {l = l} one two = record {
-  alike = record {
-    semaphores = then_alike h.semaphores k.semaphores l.semaphores one.alike.semaphores two.alike.semaphores;
-    lists = two.alike.lists ∙ one.alike.lists;
-    seats = λ n. two.alike.seats n ∙ one.alike.seats n;
-    groups = two.alike.groups ∙ one.alike.groups;
-    standing = two.alike.standing ∙ one.alike.standing;
-  };
+  alike = then_all h k l one.alike two.alike;
   core = λ m is journal.
       subst (λ (s : Core). core_of l (g m s).journal ≡ g m s) (one.core m is journal)
       (two.core m (same_layout m h k one.alike is) (f m (core_of h journal)).journal);
@@ -222,7 +226,7 @@ module _ (h : Machine) (l : ℕ) (here : l < length h.lists) (x : StoredList) wh
           let after : List Entry = journal_after_list l i told journal in
           let now : stored_list.world_of x (list_entries l after) ≡ list.turned w i =
           (λ j. stored_list.world_of x (list_after l i told journal j))
-          ∙ (λ j. stored_list.world_of x (Rattle.step_core.specs.ListWorld.journal_after i (sym is.effect_is j) (list_entries l journal)))
+          ∙ (λ j. stored_list.world_of x (Rattle.step_table.specs.ListWorld.journal_after i (sym is.effect_is j) (list_entries l journal)))
           ∙ (is.turn (list_entries l journal)).is in
           λ j. record {
             semaphores = sema.world_of h.semaphores (sema_unchanged l i told journal j);

@@ -8,9 +8,9 @@ use Rattle.std.specs.Prelude.{unwrap_or, IsSome}
 use Rattle.waiters.specs.declared.wait.Wait.{Wait}
 use Rattle.waiters.specs.Lists.{Lists, IsOpen, waits_at, Changes}
 use Rattle.step_core.specs.declared.notify_list.SeatRecord.{SeatRecord}
-use Rattle.step_core.specs.World.{put}
+use Rattle.step_table.specs.World.{put}
 use Rattle.step_core.specs.ListStored.{seat_of, grant_of, stored_seat, seats_in, held, AreLists}
-use Rattle.step_core.proofs.Sums.{put_here, put_else, total_same, total_change}
+use Rattle.step_table.proofs.Sums.{put_here, put_else, total_same, total_change}
 
 pub put_ext : {A : Type 0} (f g : ℕ → A) (i : ℕ) (x : A) → g i ≡ x → ((k : ℕ) → k ≢ i → g k ≡ f k) → g ≡ put f i x
 put_ext {A} f g i x here else = fun_ext (λ k. by k (ℕ_discrete k i))

@@ -1,43 +1,44 @@
 -- A step of a moment is a step of the run that it shows, with each journal behind it.
 use Rattle.std.proofs.Common.{◌≡◌, ◌≢◌, ℕ, zero, suc, ◌+◌, ◌^◌, ◌<◌, ◌≤◌, Bool, true, false, List, [], Option, Some, None, Result, Ok, Err, IfOk, IfErr, OnOk, nat_lt, cond, length, refl, sym, ap, ◌∙◌, subst, arith, ltb-true}
 use Rattle.std.proofs.lemmas.Bool.{lt-ltb, le-ltb}
-use Rattle.step_core.specs.declared.entry.Entry.{Entry}
-use Rattle.step_core.specs.declared.list_place.ListEffect.{ListEffect}
-use Rattle.step_core.specs.declared.list_place.ListEffect.TheVariants.{HandsOut, Grants as GrantsUpTo}
-use Rattle.step_core.specs.declared.list_place.ListPlace.{ListPlace}
-use Rattle.step_core.specs.declared.list_place.ListPlace.TheVariants as on_list
-use Rattle.step_core.specs.declared.outcome.Effect.{Effect}
-use Rattle.step_core.specs.declared.outcome.Effect.TheVariants.{Nothing, Tells, Grants}
-use Rattle.step_core.specs.declared.place.Place.{Place}
-use Rattle.step_core.specs.declared.place.Place.TheVariants.{Releasing}
-use Rattle.step_core.specs.declared.place.Place.TheVariants as on_counter
-use Rattle.step_core.specs.declared.refusal.StepRefused.{StepRefused}
-use Rattle.step_core.specs.declared.refusal.StepRefused.TheVariants.{NoSuchSeat}
-use Rattle.step_core.specs.declared.scenario.Parts.{Parts}
-use Rattle.step_core.specs.declared.standing.After.{After}
-use Rattle.step_core.specs.declared.standing.After.TheVariants.{NextCall, LooksAgain, Releases}
-use Rattle.step_core.specs.declared.standing.GroupNext.{GroupNext}
-use Rattle.step_core.specs.declared.standing.GroupNext.TheVariants as group
-use Rattle.step_core.specs.declared.standing.Standing.{Standing}
-use Rattle.step_core.specs.declared.standing.Standing.TheVariants.{Rest, AtCounter, AtList, AtGroup, Failed}
+use Rattle.step_table.specs.declared.entry.Entry.{Entry}
+use Rattle.step_table.specs.declared.list_place.ListEffect.{ListEffect}
+use Rattle.step_table.specs.declared.list_place.ListEffect.TheVariants.{HandsOut, Grants as GrantsUpTo}
+use Rattle.step_table.specs.declared.list_place.ListPlace.{ListPlace}
+use Rattle.step_table.specs.declared.list_place.ListPlace.TheVariants as on_list
+use Rattle.step_table.specs.declared.effect.Effect.{Effect}
+use Rattle.step_table.specs.declared.effect.Effect.TheVariants.{Nothing, Tells, Grants}
+use Rattle.step_table.specs.declared.place.Place.{Place}
+use Rattle.step_table.specs.declared.place.Place.TheVariants.{Releasing}
+use Rattle.step_table.specs.declared.place.Place.TheVariants as on_counter
+use Rattle.step_table.specs.declared.refusal.StepRefused.{StepRefused}
+use Rattle.step_table.specs.declared.refusal.StepRefused.TheVariants.{NoSuchSeat}
+use Rattle.step_table.specs.declared.parts.Parts.{Parts}
+use Rattle.step_table.specs.declared.standing.After.{After}
+use Rattle.step_table.specs.declared.standing.After.TheVariants.{NextCall, LooksAgain, Releases}
+use Rattle.step_table.specs.declared.standing.GroupNext.{GroupNext}
+use Rattle.step_table.specs.declared.standing.GroupNext.TheVariants as group
+use Rattle.step_table.specs.declared.standing.Standing.{Standing}
+use Rattle.step_table.specs.declared.standing.Standing.TheVariants.{Rest, AtCounter, AtList, AtGroup, Failed}
 use Rattle.step_core.specs.declared.turn.Turn.{Turn}
 use Rattle.step_core.specs.declared.turn.Turn.TheVariants.{OnCounter, OnList, OnGroup}
-use Rattle.step_core.specs.World.{Seat, journal_after}
-use Rattle.step_core.specs.Steps.{event_of, finds}
+use Rattle.step_table.specs.World.{Seat, journal_after}
+use Rattle.step_table.specs.Steps.{event_of, finds}
 use Rattle.step_core.specs.Stored.{each, idle, seat_of, IsStoredFor}
 use Rattle.step_core.specs.Stored as sema
-use Rattle.step_core.specs.Core.{CoreLayout, Core, journal_after_list}
-use Rattle.step_core.specs.CoreSteps.{releases, goes_on, after_counter, after_list, after_group, row_of_standing, core_turned}
-use Rattle.step_core.specs.CoreLaw.{IsCallBefore, IsStanding}
-use Rattle.step_core.specs.Run.{Run, layout, continued, stepped, refusal_of, refusal}
-use Rattle.step_core.specs.RunInvariant.{IsSoundRun}
-use Rattle.step_core.specs.State.{Machine, Moment, State, IsMachineFor, Becomes, HasBegun, HasSeat, HasSeatOn, HasSeatAt, HasGroup, MayGoOn, MayGo, AsksFor, IsRefusal, IsReady, IsReadyAt, IsSound, Steps, HasPast, core_of, run_with, run_of, run_at, telling, entry_of, list_entry, and_then}
+use Rattle.step_table.specs.Core.{CoreLayout, Core, journal_after_list}
+use Rattle.step_table.specs.CoreSteps.{releases, goes_on, after_counter, after_list, after_group, row_of_standing, core_turned}
+use Rattle.step_table.specs.CoreLaw.{IsCallBefore, IsStanding}
+use Rattle.step_table.specs.Run.{Run, layout, continued, stepped, refusal_of, refusal}
+use Rattle.step_table.specs.RunInvariant.{IsSoundRun}
+use Rattle.step_table.specs.declared.variant.Variant.TheVariants.{PlainLess}
+use Rattle.step_core.specs.BentStored.{HasBentPast}
+use Rattle.step_core.specs.State.{Machine, AreAlike, HasStepped, Moment, State, IsMachineFor, Becomes, HasBegun, HasSeat, HasSeatOn, HasSeatAt, HasGroup, MayGoOn, MayGo, AsksFor, IsRefusal, IsReady, IsReadyAt, IsSound, Steps, HasPast, core_of, run_with, run_of, run_at, telling, entry_of, list_entry, and_then}
 use Rattle.step_core.proofs.Storing.{get_here}
-use Rattle.step_core.proofs.Changing.{same_layout}
-use Rattle.step_core.proofs.Ranges.{asks_for, begun_small}
-use Rattle.step_core.proofs.CoreCalling.{core_called}
-use Rattle.step_core.proofs.CoreKeeping.{core_kept}
-use Rattle.step_core.proofs.RunStepping.{is_stepped}
+use Rattle.step_core.proofs.Changing.{same_layout, then_all}
+use Rattle.step_core.proofs.Ranges.{orderly_state}
+use Rattle.step_core.proofs.Asking as asking
+use Rattle.step_table.proofs.RunSound.{is_stepped}
 use Rattle.step_core.proofs.NextCalls.{still_stored}
 
 -- no row reads the journal, and so it refuses no step
@@ -69,68 +70,32 @@ no_such_seat parts run i past =
 
 -- a seat of a moment
 module _ (m : Moment) (past : HasPast m) (i : ℕ) (there : i < length m.parts.calls) where
-  abbrev behind : State
-  behind = telling m past.0
+  bent_past : HasBentPast PlainLess m
+  bent_past = (past.0, orderly_state (telling m past.0) past.1)
 
   pub has_seat : HasSeat m.machine i
-  has_seat = (let h = there in let a = past.1.machine.callers in omega arith, let h = there in let a = past.1.machine.standing in omega arith)
+  has_seat = asking.has_seat PlainLess m bent_past i there
 
   pub asks : AsksFor m.machine i (each Rest m.machine.standing i)
-  asks = asks_for behind past.1 i there
-
-  seat_on : (doing : Standing) → IsStanding (layout m.parts) (run_of behind).core i doing → HasSeatOn m.machine i doing
-  seat_on (AtList l) is = (
-    let a = past.1.machine.lists in let h = is.2 in omega arith,
-    let h = there in let a = past.1.machine.seats l is.2 in omega arith,
-  )
-  seat_on _ is = tt
+  asks = asking.asks PlainLess m bent_past i there
 
   pub has_seat_at : HasSeatAt m.machine i
-  has_seat_at = (has_seat, seat_on (each Rest m.machine.standing i) (past.1.run.core.standing i))
-
-  has_group : (g : ℕ) → g < m.parts.groups → HasGroup m.machine g
-  has_group g within =
-      let own = past.1.stored.own_is in
-      let counters = past.1.scenario.limits.counters in
-      let groups = past.1.scenario.limits.groups in omega arith
-
-  may_go_on : (after : After) (place : Place) → IsCallBefore (layout m.parts) after place → MayGoOn m.machine after
-  may_go_on NextCall place is = tt
-  may_go_on (LooksAgain g) place is = tt
-  may_go_on (Releases g more) (Releasing r row) is = has_group g is.2
-  may_go_on (Releases g more) _ is = absurd is
-
-  may_go_at : (doing : Standing) → IsStanding (layout m.parts) (run_of behind).core i doing → MayGo m.machine doing
-  may_go_at (AtCounter after) is = may_go_on after ((run_of behind).core.semaphores.seats i).place is.0
-  may_go_at (AtGroup g row) is = has_group g is.1
-  may_go_at _ is = tt
+  has_seat_at = asking.has_seat_at PlainLess m bent_past i there
 
   pub may_go : MayGo m.machine (each Rest m.machine.standing i)
-  may_go = may_go_at (each Rest m.machine.standing i) (past.1.run.core.standing i)
+  may_go = asking.may_go PlainLess m bent_past i there
 
   pub room_next : each 0 m.begun i + 1 < 2 ^ 64
-  room_next = begun_small behind past.1 i
-
-  -- what the machine answers is what the run says
-  says : (cause : Option StepRefused) → IsRefusal m.machine i cause → refusal m.parts (run_at m) i ≡ cause
-  says cause is =
-      ap (λ b. cond b (refusal_of (layout m.parts) (run_at m).core i ((run_at m).core.standing i)) (Some NoSuchSeat))
-      (lt-ltb i (length m.parts.calls) there)
-      ∙ is (layout m.parts) past.1.machine []
+  room_next = asking.room_next PlainLess m bent_past i there
 
   module _ (shows : Moment) (same : m ≡ shows) where
-    said : (cause : Option StepRefused) → IsRefusal m.machine i cause → refusal shows.parts (run_at shows) i ≡ cause
-    said cause is = subst (λ (n : Moment). refusal n.parts (run_at n) i ≡ cause) same (says cause is)
-
     pub enabled_answer : (answer : Result Turn StepRefused) → IfOk answer (λ turn. IsRefusal m.machine i None)
         → OnOk answer (refusal shows.parts (run_at shows) i ≡ None)
-    enabled_answer (Ok turn) is = said None is
-    enabled_answer (Err cause) is = tt
+    enabled_answer = asking.enabled_answer PlainLess m bent_past i there shows same
 
     pub refused_answer : (answer : Result Turn StepRefused) → IfErr answer (λ cause. IsRefusal m.machine i (Some cause))
         → IfErr answer (λ cause. refusal shows.parts (run_at shows) i ≡ Some cause)
-    refused_answer (Ok turn) is = tt
-    refused_answer (Err cause) is = said (Some cause) is
+    refused_answer = asking.refused_answer PlainLess m bent_past i there shows same
 
 -- what comes after a row tells nothing
 released_journal : (m : CoreLayout) (s : Core) (i g n : ℕ) → (releases m s i g n).journal ≡ s.journal
@@ -176,17 +141,17 @@ row_tells m h i is (AtCounter after) (OnCounter next ready) can journal =
     let found = get_here idle h.semaphores.callers i ready.caller can.1.there in
     let effect_at : Seat → (ℕ → ℕ) → Effect
     = λ z root.
-    let e = Rattle.step_core.specs.Table.event_at i z (sema.words_of h.semaphores.stored).lists z.place in
-    (e.leads (Rattle.step_core.specs.World.found root (sema.words_of h.semaphores.stored) e.word)).1 in
+    let e = Rattle.step_table.specs.Table.event_at i z (sema.words_of h.semaphores.stored).lists z.place in
+    (e.leads (Rattle.step_table.specs.World.found root (sema.words_of h.semaphores.stored) e.word)).1 in
     let effect : ready.outcome.effect ≡ ((event_of s.semaphores i).leads (finds m.root s.semaphores i)).1
     = can.1.row.does.effect
     ∙ (λ j. effect_at (seat_of (sym found.1 j) (each [] h.semaphores.stored.hands i)) (is.root j)) in
-    counter_journal m (Rattle.step_core.specs.CoreSteps.counter_row m s i) i after _
+    counter_journal m (Rattle.step_table.specs.CoreSteps.counter_row m s i) i after _
     ∙ (λ j. journal_after (sym effect j) journal)
     ∙ effect_entry ready.outcome.effect journal
 row_tells m h i is (AtList l) (OnList k ready) can journal =
     let s : Core = core_of h journal in
-    list_journal (Rattle.step_core.specs.CoreSteps.list_row s i l) i _
+    list_journal (Rattle.step_table.specs.CoreSteps.list_row s i l) i _
     ∙ (λ j. journal_after_list l i (sym can.2.does.effect j) journal)
     ∙ list_effect_entry l i ready.outcome.effect journal
     ∙ (λ j. and_then journal (list_entry (sym can.0 j) i ready.outcome.effect))
@@ -239,53 +204,53 @@ module _ (parts : Parts) (i : ℕ) (h : Machine) (counts : List ℕ) where
     count_kept (Failed misuse) is = ap length is.1
 
 -- the row has run
-module _ (m : Moment) (past : HasPast m) (i : ℕ) (turn : Turn) (free : refusal m.parts (run_at m) i ≡ None) (k : Machine)
-    (turned : Becomes (λ m s. core_turned m s i) m.machine k)
-    (told : (l : CoreLayout) → IsMachineFor l m.machine → (journal : List Entry)
-    → (core_turned l (core_of m.machine journal) i).journal ≡ and_then journal (entry_of i turn)) where
-  abbrev form : CoreLayout
-  form = layout m.parts
-
-  pub machine_ran : IsMachineFor form k
-  machine_ran = same_layout form m.machine k turned.alike past.1.machine
+module _ (parts : Parts) (h : Machine) (counts : List ℕ) (i : ℕ) (turn : Turn) (is : IsMachineFor (layout parts) h) (k : Machine)
+    (turned : Becomes (λ m s. core_turned m s i) h k)
+    (told : (l : CoreLayout) → IsMachineFor l h → (journal : List Entry)
+    → (core_turned l (core_of h journal) i).journal ≡ and_then journal (entry_of i turn)) where
+  pub machine_ran : IsMachineFor (layout parts) k
+  machine_ran = same_layout (layout parts) h k turned.alike is
 
   abbrev after : List Entry → List Entry
   after journal = and_then journal (entry_of i turn)
 
-  between : (journal : List Entry) → core_of k (after journal) ≡ core_turned form (core_of m.machine journal) i
+  between : (journal : List Entry) → core_of k (after journal) ≡ core_turned (layout parts) (core_of h journal) i
   between journal =
-      (λ j. core_of k (sym (told form past.1.machine journal) j)) ∙ turned.core form past.1.machine journal
+      (λ j. core_of k (sym (told (layout parts) is journal) j)) ∙ turned.core (layout parts) is journal
 
-  module _ (n : Machine) (now : List ℕ) (goes : GoesOn m.parts i k m.begun n now (each Rest k.standing i)) where
-    abbrev new : Moment
-    new = record { parts = m.parts; machine = n; begun = now }
+  -- and the next call has begun, where it ended one
+  pub has_stepped : (n : Machine) (now : List ℕ) → GoesOn parts i k counts n now (each Rest k.standing i)
+      → HasStepped parts i h counts n now (entry_of i turn)
+  has_stepped n now goes = record {
+    alike = keeps parts i k counts n now (AreAlike h) (each Rest k.standing i) goes (λ is before. then_all h k n before is.alike) turned.alike;
+    count = count_kept parts i k counts n now (each Rest k.standing i) goes;
+    run = λ journal.
+        shown parts i k counts n now (each Rest k.standing i) goes (after journal)
+        ∙ (λ j. let s : Core = between journal j in continued parts (record { core = s; begun = each 0 counts }) i (s.standing i));
+  }
 
-    abbrev doing : Standing
-    doing = each Rest k.standing i
+-- the moment has stepped
+module _ (m : Moment) (past : HasPast m) (i : ℕ) (turn : Turn) (free : refusal m.parts (run_at m) i ≡ None) (n : Machine) (now : List ℕ)
+    (is : HasStepped m.parts i m.machine m.begun n now (entry_of i turn)) where
+  abbrev new : Moment
+  new = record { parts = m.parts; machine = n; begun = now }
 
-    step_shown : (journal : List Entry) → run_of (telling new (after journal)) ≡ stepped m.parts (run_of (telling m journal)) i
-    step_shown journal =
-        shown m.parts i k m.begun n now doing goes (after journal)
-        ∙ (λ j. let s : Core = between journal j in continued m.parts (record { core = s; begun = each 0 m.begun }) i (s.standing i))
+  sound_ran : (journal : List Entry) → IsSound (telling m journal) → IsSound (telling new (and_then journal (entry_of i turn)))
+  sound_ran journal sound = record {
+    scenario = sound.scenario;
+    starts = sound.starts;
+    stored =
+        still_stored (length m.parts.starts) m.parts.groups m.parts.roots (length m.parts.calls) m.machine n is.alike.semaphores sound.stored;
+    machine = same_layout (layout m.parts) m.machine n is.alike sound.machine;
+    begun = is.count ∙ sound.begun;
+    run = subst (IsSoundRun m.parts) (sym (is.run journal))
+        (is_stepped m.parts (run_of (telling m journal)) i sound.scenario sound.run (same_refusal m journal i ∙ free));
+  }
 
-    sound_ran : (journal : List Entry) → IsSound (telling m journal) → IsSound (telling new (after journal))
-    sound_ran journal sound = record {
-      scenario = sound.scenario;
-      starts = sound.starts;
-      stored = keeps m.parts i k m.begun n now
-          (λ h. IsStoredFor (length m.parts.starts) m.parts.groups m.parts.roots (length m.parts.calls) h.semaphores.stored) doing goes
-          (λ is. still_stored (length m.parts.starts) m.parts.groups m.parts.roots (length m.parts.calls) k n is.alike.semaphores)
-          (still_stored (length m.parts.starts) m.parts.groups m.parts.roots (length m.parts.calls) m.machine k turned.alike.semaphores sound.stored);
-      machine = keeps m.parts i k m.begun n now (IsMachineFor form) doing goes (λ is. same_layout form k n is.alike) machine_ran;
-      begun = count_kept m.parts i k m.begun n now doing goes ∙ sound.begun;
-      run = subst (IsSoundRun m.parts) (sym (step_shown journal))
-          (is_stepped core_called core_kept m.parts (run_of (telling m journal)) i sound.scenario sound.run (same_refusal m journal i ∙ free));
-    }
+  pub past_ran : HasPast new
+  past_ran = (and_then past.0 (entry_of i turn), sound_ran past.0 past.1)
 
-    pub past_ran : HasPast new
-    past_ran = (after past.0, sound_ran past.0 past.1)
-
-    pub steps_ran : (shows : Moment) → m ≡ shows → Steps shows i new (entry_of i turn)
-    steps_ran shows same =
-        subst (λ (z : Moment). Steps z i new (entry_of i turn)) same
-        (record { steps = λ journal. record { parts = refl; run = step_shown journal }; sound = sound_ran })
+  pub steps_ran : (shows : Moment) → m ≡ shows → Steps shows i new (entry_of i turn)
+  steps_ran shows same =
+      subst (λ (z : Moment). Steps z i new (entry_of i turn)) same
+      (record { steps = λ journal. record { parts = refl; run = is.run journal }; sound = sound_ran })

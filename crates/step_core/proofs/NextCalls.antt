@@ -1,21 +1,20 @@
 -- A seat begins its next call; and each in turn has begun its first, which is the start.
 use Rattle.std.proofs.Common.{◌≡◌, ℕ, zero, suc, ◌+◌, ◌^◌, ◌<◌, ◌≤◌, List, [], Option, Some, None, length, set, replicate, refl, sym, ap, ◌∙◌, subst, arith, length-set}
 use Rattle.std.proofs.lemmas.List.{length-replicate}
-use Rattle.step_core.specs.declared.call.Call.{Call}
-use Rattle.step_core.specs.declared.call.Call.TheVariants.{Acquire, Release, ReleaseMany, Add, Wait, One, All as NotifyAll, GroupAdd, GroupWait}
-use Rattle.step_core.specs.declared.scenario.Parts.{Parts}
+use Rattle.step_table.specs.declared.call.Call.{Call}
+use Rattle.step_table.specs.declared.call.Call.TheVariants.{Acquire, Release, ReleaseMany, Add, Wait, One, All as NotifyAll, GroupAdd, GroupWait}
+use Rattle.step_table.specs.declared.parts.Parts.{Parts}
 use Rattle.step_core.specs.Stored.{IsStoredFor, IsAlike, each}
-use Rattle.step_core.specs.Core.{Core, first_core}
-use Rattle.step_core.specs.CoreSteps.{calls}
-use Rattle.step_core.specs.Scenario.{IsCallOn}
-use Rattle.step_core.specs.Run.{Run, layout, call_of, begun, all_begun, start}
-use Rattle.step_core.specs.RunInvariant.{IsSoundRun, IsScenario, calls_of}
+use Rattle.step_table.specs.Core.{Core, first_core}
+use Rattle.step_table.specs.CoreSteps.{calls}
+use Rattle.step_table.specs.Scenario.{IsCallOn}
+use Rattle.step_table.specs.Run.{Run, layout, call_of, begun, all_begun, start}
+use Rattle.step_table.specs.RunInvariant.{IsSoundRun, IsScenario, calls_of}
 use Rattle.step_core.specs.State.{Machine, State, IsMachineFor, Becomes, HasBegun, MayBegin, IsSound, IsStarted, core_of, run_with, telling}
-use Rattle.step_core.proofs.Sums.{put_else}
+use Rattle.step_table.proofs.Sums.{put_else}
 use Rattle.step_core.proofs.Storing.{each_set, get_here, copies}
 use Rattle.step_core.proofs.Changing.{same_layout}
-use Rattle.step_core.proofs.CoreCalling.{core_at_first, core_called}
-use Rattle.step_core.proofs.RunStarting.{is_started}
+use Rattle.step_table.proofs.RunSound.{is_started}
 
 -- to begin a call tells nothing
 call_journal : (s : Core) (i : ℕ) (call : Call) → (calls s i call).journal ≡ s.journal
@@ -168,5 +167,5 @@ module _ (parts : Parts) where
       stored = all.stored;
       machine = all.machine;
       begun = all.count;
-      run = subst (IsSoundRun parts) (sym all.run) (is_started core_at_first core_called parts scenario);
+      run = subst (IsSoundRun parts) (sym all.run) (is_started parts scenario);
     }

@@ -6,19 +6,19 @@ use Rattle.std.proofs.lemmas.Option.{slice_get-get_or}
 use Rattle.std.specs.Vec.{with_item}
 use Rattle.waiters.specs.declared.wait.Wait.{Wait}
 use Rattle.waiters.specs.Lists.{Lists, IsOpen, waits_at, Changes, first_with, without_first}
-use Rattle.step_core.specs.declared.list_place.ListEffect.{ListEffect}
-use Rattle.step_core.specs.declared.list_place.ListEffect.TheVariants.{Nothing, HandsOut, Grants, Queues, TakesOut, TakesAll, Gives}
-use Rattle.step_core.specs.declared.list_place.ListPlace.{ListPlace}
-use Rattle.step_core.specs.declared.list_place.ListPlace.TheVariants.{Waiting}
-use Rattle.step_core.specs.declared.list_place.ListWord.TheVariants.{Grant}
-use Rattle.step_core.specs.declared.list_place.Ticket.{Ticket}
-use Rattle.step_core.specs.declared.list_place.WaitRow.TheVariants.{W1}
+use Rattle.step_table.specs.declared.list_place.ListEffect.{ListEffect}
+use Rattle.step_table.specs.declared.list_place.ListEffect.TheVariants.{Nothing, HandsOut, Grants, Queues, TakesOut, TakesAll, Gives}
+use Rattle.step_table.specs.declared.list_place.ListPlace.{ListPlace}
+use Rattle.step_table.specs.declared.list_place.ListPlace.TheVariants.{Waiting}
+use Rattle.step_table.specs.declared.list_place.ListWord.TheVariants.{Grant}
+use Rattle.step_table.specs.declared.list_place.Ticket.{Ticket}
+use Rattle.step_table.specs.declared.list_place.WaitRow.TheVariants.{W1}
 use Rattle.step_core.specs.declared.notify_list.NotifyList.TheInside.{Inside}
 use Rattle.step_core.specs.declared.notify_list.SeatRecord.{SeatRecord}
 use Rattle.step_core.specs.contracts.notify_list.NotifyList.{the_view}
-use Rattle.step_core.specs.World.{put}
-use Rattle.step_core.specs.ListWorld.{ListEntry, written, one_or_none}
-use Rattle.step_core.specs.ListSteps.{with_ticket, waiting}
+use Rattle.step_table.specs.World.{put}
+use Rattle.step_table.specs.ListWorld.{ListEntry, written, one_or_none}
+use Rattle.step_table.specs.ListSteps.{with_ticket, waiting}
 use Rattle.step_core.specs.ListStored.{StoredList, ListMoment, moment_of, world_at, world_of, seat_of, stored_seat, seats_in, placed, made, waits_in, AreLists}
 use Rattle.step_core.proofs.Handing.{put_self, shown, grants_in, grants_shown, seat_at, grant_at, seats_set, grants_set, are_set, queue_kept, seats_hand, are_hand, are_swapped, queue_here, seats_queue, are_queue}
 

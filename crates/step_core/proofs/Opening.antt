@@ -7,13 +7,13 @@ use Rattle.std.specs.Prelude.{unwrap_or, IsSome}
 use Rattle.std.proofs.lemmas.List.{length_push}
 use Rattle.waiters.specs.declared.wait.Wait.{Wait}
 use Rattle.waiters.specs.Lists.{Lists, list_at, IsOpen, Changes}
-use Rattle.step_core.specs.declared.list_place.ListPlace.TheVariants.{Rest}
+use Rattle.step_table.specs.declared.list_place.ListPlace.TheVariants.{Rest}
 use Rattle.step_core.specs.declared.notify_list.NotifyList.TheInside.{Inside}
 use Rattle.step_core.specs.declared.notify_list.SeatRecord.{SeatRecord}
 use Rattle.step_core.specs.contracts.notify_list.NotifyList.{the_view}
-use Rattle.step_core.specs.Wrapping.{word_of}
+use Rattle.step_table.specs.Wrapping.{word_of}
 use Rattle.step_core.specs.ListStored.{moment_of, first_moment, seat_of, stored_seat, seats_in, AreLists, AreFresh}
-use Rattle.step_core.proofs.Sums.{nothing}
+use Rattle.step_table.proofs.Sums.{nothing}
 use Rattle.step_core.proofs.Handing.{grant_in}
 use Rattle.step_core.proofs.Noting.{told_is}
 

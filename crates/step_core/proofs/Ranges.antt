@@ -6,36 +6,41 @@ use Rattle.std.proofs.Math.ListN.{get_or-eq_default}
 use native.Mathlib.Decide.{ℕ_discrete}
 use Rattle.waiters.specs.declared.wait.WaitId.{WaitId}
 use Rattle.step_core.specs.declared.caller.Caller.{Caller}
-use Rattle.step_core.specs.declared.place.AcquireRow.TheVariants.{A7, P}
-use Rattle.step_core.specs.declared.place.Place.{Place}
-use Rattle.step_core.specs.declared.place.ReleaseRow.TheVariants.{R5}
-use Rattle.step_core.specs.declared.place.ManyRow.TheVariants.{M5}
-use Rattle.step_core.specs.declared.place.Place.TheVariants.{Acquiring, Releasing, ReleasingMany}
-use Rattle.step_core.specs.declared.standing.Standing.{Standing}
-use Rattle.step_core.specs.declared.standing.Standing.TheVariants.{Rest, AtCounter, AtList, AtGroup}
-use Rattle.step_core.specs.declared.word.Word.{Word}
-use Rattle.step_core.specs.declared.word.Word.TheVariants.{Counter, Lock, Waiters, Grant}
-use Rattle.step_core.specs.World.{Layout, World, found, root_number}
-use Rattle.step_core.specs.Lawful.{total, times, added, IsGrantOf}
-use Rattle.step_core.specs.Invariant.{IsInvariant, IsWithin, Finds, asleep}
+use Rattle.step_table.specs.declared.place.AcquireRow.TheVariants.{A7, P}
+use Rattle.step_table.specs.declared.place.Place.{Place}
+use Rattle.step_table.specs.declared.place.ReleaseRow.TheVariants.{R5}
+use Rattle.step_table.specs.declared.place.ManyRow.TheVariants.{M5}
+use Rattle.step_table.specs.declared.place.Place.TheVariants.{Acquiring, Releasing, ReleasingMany}
+use Rattle.step_table.specs.declared.standing.Standing.{Standing}
+use Rattle.step_table.specs.declared.standing.Standing.TheVariants.{Rest, AtCounter, AtList, AtGroup}
+use Rattle.step_table.specs.declared.word.Word.{Word}
+use Rattle.step_table.specs.declared.word.Word.TheVariants.{Counter, Lock, Waiters, Grant}
+use Rattle.step_table.specs.World.{Layout, World, found, root_number}
+use Rattle.step_table.specs.Lawful.{total, times, added, IsGrantOf, AllBounded}
+use Rattle.step_table.specs.Invariant.{IsWithin, Finds, asleep}
 use Rattle.step_core.specs.Stored.{Stored, HasRow, HasRowsOf, HasHand, MayMove, each, idle, words_of, root_of, row_finds, row_event}
-use Rattle.step_core.specs.ListWorld.{ListWorld}
-use Rattle.step_core.specs.ListLawful.{told}
+use Rattle.step_table.specs.ListWorld.{ListWorld}
+use Rattle.step_table.specs.ListLawful.{told}
 use Rattle.step_core.specs.ListStored.{HasListRow, CanStep}
 use Rattle.step_core.specs.Roots.{queued}
-use Rattle.step_core.specs.Core.{counters_of}
-use Rattle.step_core.specs.CoreLaw.{IsStanding}
-use Rattle.step_core.specs.Scenario.{IsScript}
-use Rattle.step_core.specs.Run.{layout}
-use Rattle.step_core.specs.RunInvariant.{calls_of}
+use Rattle.step_table.specs.Core.{counters_of}
+use Rattle.step_table.specs.CoreLaw.{IsStanding}
+use Rattle.step_table.specs.Scenario.{IsScript}
+use Rattle.step_table.specs.Run.{layout}
+use Rattle.step_table.specs.RunInvariant.{calls_of}
+use Rattle.step_table.specs.declared.variant.Variant.{Variant}
+use Rattle.step_table.specs.declared.variant.Variant.TheVariants.{PlainLess}
+use Rattle.step_table.specs.BentInvariant.{IsOrderlyWorld}
+use Rattle.step_core.specs.BentStored.{IsOrderly}
 use Rattle.step_core.specs.State.{State, IsSound, AsksFor, no_list, run_of}
-use Rattle.step_core.proofs.Sums.{total_zero, total_suc, total_rest, total_has}
-use Rattle.step_core.proofs.Placing.{same_here}
+use Rattle.step_table.proofs.Sums.{total_zero, total_suc, total_rest, total_has}
+use Rattle.step_table.proofs.Placing.{same_here}
 use Rattle.step_core.proofs.Rooting.{root_within}
-use Rattle.step_core.proofs.Bounding.{bounded}
-use Rattle.step_core.proofs.Promises.{promised}
-use Rattle.step_core.proofs.ListKeeping.{list_reached}
-use Rattle.step_core.proofs.ListLawfulness as lists
+use Rattle.step_table.proofs.Bounding.{orderly_bounded, orderly}
+use Rattle.step_table.proofs.Parking.{in_a_hand}
+use Rattle.step_core.proofs.BentLists.{orderly_list}
+use Rattle.step_table.proofs.ListKeeping.{list_reached}
+use Rattle.step_table.proofs.ListLawfulness as lists
 use Rattle.step_core.proofs.ListRanges.{has_list_row}
 
 -- a sum of n terms, each at most b
@@ -63,7 +68,7 @@ first_in_hand : (hand : List WaitId) (seats : ℕ) → ((w : WaitId) → 0 < tim
 first_in_hand [] seats all = tt
 first_in_hand (w ∷ hand) seats all = all w (let here = same_here w in omega arith)
 
-module _ (m : State) (sound : IsSound m) where
+module _ (v : Variant) (m : State) (sound : IsOrderly v m) where
   abbrev seats : ℕ
   seats = length m.parts.calls
 
@@ -79,8 +84,11 @@ module _ (m : State) (sound : IsSound m) where
   abbrev world : World
   world = (run_of m).core.semaphores
 
-  law : IsInvariant rows_of world
+  law : IsOrderlyWorld rows_of world
   law = sound.run.core.semaphores
+
+  few_words : AllBounded rows_of world
+  few_words = orderly_bounded v rows_of world law sound.waiters
 
   script_short : (s : ℕ) → length (calls_of m.parts s) ≤ 32
   script_short s = by (ℕ_discrete (length m.parts.calls - s) 0)
@@ -107,22 +115,12 @@ module _ (m : State) (sound : IsSound m) where
   pub few_handed : (l : ℕ) → ((run_of m).core.lists l).words.numbers.handed ≤ 512
   few_handed l = let begun = few_begun in let handed = sound.run.handed l in omega arith
 
-  few_seats : seats ≤ 9223372036854775808
-  few_seats = let few = sound.scenario.limits.seats in omega arith
-
-  pub handed_told : (l : ℕ) → (told ((run_of m).core.lists l).journal).handed ≤ 9223372036854775808
-  handed_told l =
-      let first : ℕ = (layout m.parts).firsts l in
-      let list : ListWorld = (run_of m).core.lists l in
-      let is = lists.handed_told first seats list (list_reached first seats list few_seats (sound.run.core.lists l)) in
-      let few = few_handed l in omega arith
-
   -- no number in a word is near the end of its 64 bits
   word_small : (w : Word) → found (root_of h) (words_of h) w + 2 ^ 32 < 2 ^ 64
-  word_small (Counter c) = let most = (bounded rows_of world law).0 c in let start = sound.starts c in let units = few_units in omega arith
-  word_small (Lock c) = let most = ((bounded rows_of world law).1 (root_of h c)).0 in omega arith
+  word_small (Counter c) = let most = few_words.0 c in let start = sound.starts c in let units = few_units in omega arith
+  word_small (Lock c) = let most = (few_words.1 (root_of h c)).0 in omega arith
   word_small (Waiters c) =
-      let most = ((bounded rows_of world law).1 (root_of h c)).1 in let few = sound.scenario.limits.seats in omega arith
+      let most = (few_words.1 (root_of h c)).1 in let few = sound.scenario.limits.seats in omega arith
   word_small (Grant s) = let most = grant_most (world.seats s).place (each 0 h.grants s) (law.seats s).granted in omega arith
 
   -- the seat i
@@ -188,7 +186,7 @@ module _ (m : State) (sound : IsSound m) where
           seat = omega arith;
           hand = let hands = s.hands in omega arith;
           waiter = first_in_hand hand (length h.grants)
-              (λ w in_it. let parked = ((promised rows_of world law).parked.1 i w there in_it).0 in omega arith);
+              (λ w in_it. let parked = (in_a_hand rows_of world law.placed i w there in_it).4 in omega arith);
           moves = may_move caller.place refl;
         }
 
@@ -197,7 +195,7 @@ module _ (m : State) (sound : IsSound m) where
 
     turn_fits : caller.turn + 1 < 2 ^ 64
     turn_fits =
-        let most = (bounded rows_of world law).2 i here in
+        let most = few_words.2 i here in
         let units = few_units in let few = sound.scenario.limits.seats in omega arith
 
     -- all that its row asks for of the semaphores
@@ -214,7 +212,7 @@ module _ (m : State) (sound : IsSound m) where
     can_step l there =
         let list : ListWorld = (run_of m).core.lists l in
         subst (λ n. HasListRow n list.words list.seats i) (sym (sound.machine.seats l there))
-        (has_list_row ((layout m.parts).firsts l) seats i list few_seats here (sound.run.core.lists l)
+        (has_list_row ((layout m.parts).firsts l) seats i list here (sound.run.core.lists l)
         (let few = few_handed l in omega arith))
 
     stands : (doing : Standing) → each Rest m.machine.standing i ≡ doing → IsStanding (layout m.parts) (run_of m).core i doing
@@ -229,5 +227,41 @@ module _ (m : State) (sound : IsSound m) where
     asks_at _ is = tt
 
 -- all that a seat's row asks for
-pub asks_for : (m : State) → IsSound m → (i : ℕ) → i < length m.parts.calls → AsksFor m.machine i (each Rest m.machine.standing i)
-asks_for m sound i here = asks_at m sound i here (each Rest m.machine.standing i) refl
+pub asks_for : (v : Variant) (m : State) → IsOrderly v m → (i : ℕ) → i < length m.parts.calls
+    → AsksFor m.machine i (each Rest m.machine.standing i)
+asks_for v m sound i here = asks_at v m sound i here (each Rest m.machine.standing i) refl
+
+-- what is true of the table's runs is orderly
+pub orderly_state : (m : State) → IsSound m → IsOrderly PlainLess m
+orderly_state m sound = record {
+  scenario = sound.scenario;
+  starts = sound.starts;
+  stored = sound.stored;
+  machine = sound.machine;
+  begun = sound.begun;
+  run = record {
+    core = record {
+      semaphores = orderly (counters_of (layout m.parts)) (run_of m).core.semaphores sound.run.core.semaphores;
+      lists = λ l. orderly_list ((layout m.parts).firsts l) (length m.parts.calls) ((run_of m).core.lists l) (sound.run.core.lists l);
+      journals = sound.run.core.journals;
+      standing = sound.run.core.standing;
+    };
+    begun = sound.run.begun;
+    ended = sound.run.ended;
+    tickets = sound.run.tickets;
+    words = sound.run.words;
+    carried = sound.run.carried;
+    units = sound.run.units;
+    handed = sound.run.handed;
+  };
+  waiters = sound.run.core.semaphores.waiters;
+}
+
+-- so few tickets are handed out that none is late
+pub handed_told : (m : State) → IsSound m → (l : ℕ) → (told ((run_of m).core.lists l).journal).handed ≤ 9223372036854775808
+handed_told m sound l =
+    let first : ℕ = (layout m.parts).firsts l in
+    let list : ListWorld = (run_of m).core.lists l in
+    let few_seats : length m.parts.calls ≤ 9223372036854775808 = (let few = sound.scenario.limits.seats in omega arith) in
+    let is = lists.handed_told first (length m.parts.calls) list (list_reached first (length m.parts.calls) list few_seats (sound.run.core.lists l)) in
+    let few = few_handed PlainLess m (orderly_state m sound) l in omega arith

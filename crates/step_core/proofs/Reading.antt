@@ -1,14 +1,14 @@
 -- What a moment and a world answer of a sound state: what the journal tells, that all is lawful, and at rest where no seat can run.
 use Rattle.std.proofs.Common.{◌≡◌, ℕ, ◌≤◌, List, [], ◌∷◌, length, Result, Ok, Err, IfOk, refl, ap, ◌∙◌, arith}
-use Rattle.step_core.specs.declared.entry.Entry.{Entry}
-use Rattle.step_core.specs.declared.entry.Entry.TheVariants.{Add, AddMany, Take, Queue, Leave, Ticket, Grant}
-use Rattle.step_core.specs.Journal.{Plain, plain_start, effect_of, replay}
-use Rattle.step_core.specs.Core.{sema_entries}
-use Rattle.step_core.specs.Run.{layout}
+use Rattle.step_table.specs.declared.entry.Entry.{Entry}
+use Rattle.step_table.specs.declared.entry.Entry.TheVariants.{Add, AddMany, Take, Queue, Leave, Ticket, Grant}
+use Rattle.step_table.specs.Journal.{Plain, plain_start, effect_of, replay}
+use Rattle.step_table.specs.Core.{sema_entries}
+use Rattle.step_table.specs.Run.{layout}
 use Rattle.step_core.specs.State.{State, IsSound, ShowsLawful, RestsAtEnd, run_of, told}
 use Rattle.step_core.proofs.Ranges.{handed_told}
-use Rattle.step_core.proofs.CoreEnding.{list_at_rest, core_lawful, core_ends}
-use Rattle.step_core.proofs.ListPromises.{the_list_law}
+use Rattle.step_table.proofs.CoreEnding.{list_at_rest, core_lawful, core_ends}
+use Rattle.step_table.proofs.ListPromises.{the_list_law}
 
 -- entries of lists change no counter
 replays_all : (x : Plain) (journal : List Entry) → replay x (sema_entries journal) ≡ replay x journal

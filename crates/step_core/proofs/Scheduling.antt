@@ -1,15 +1,12 @@
 -- One more step of a schedule, and the whole of it.
 use Rattle.std.proofs.Common.{◌≡◌, ℕ, zero, suc, ◌≤◌, List, [], ◌∷◌, ◌++◌, None, length, take, refl, sym, ap, ◌∙◌, subst, arith}
-use Rattle.step_core.specs.declared.scenario.Parts.{Parts}
-use Rattle.step_core.specs.Run.{Run, start, stepped, refusal, after_all, reached, AllRunFrom, AllRun}
+use Rattle.step_table.specs.declared.parts.Parts.{Parts}
+use Rattle.step_table.specs.Run.{Run, start, stepped, refusal, after_all, reached, AllRunFrom, AllRun}
 use Rattle.step_core.specs.State.{State, run_of, IsStepped}
-use Rattle.step_core.specs.RunInvariant.{IsScenario}
-use Rattle.step_core.specs.Misused.{AllFairFrom, IsUnmisused}
-use Rattle.step_core.proofs.CoreCalling.{core_at_first, core_called}
-use Rattle.step_core.proofs.CoreKeeping.{core_kept}
-use Rattle.step_core.proofs.RunStarting.{is_started}
-use Rattle.step_core.proofs.RunStepping.{is_stepped}
-use Rattle.step_core.proofs.GroupRuns as groups
+use Rattle.step_table.specs.RunInvariant.{IsScenario}
+use Rattle.step_table.specs.Misused.{AllFairFrom, IsUnmisused}
+use Rattle.step_table.proofs.RunSound.{is_started, is_stepped}
+use Rattle.step_table.proofs.GroupRuns as groups
 
 after_one_more : (parts : Parts) (run : Run) (schedule : List ℕ) (i : ℕ)
     → after_all parts run (schedule ++ i ∷ []) ≡ stepped parts (after_all parts run schedule) i
@@ -52,6 +49,6 @@ pub whole_unmisused : (parts : Parts) (schedule : List ℕ) (n : ℕ) → IsScen
     → AllFairFrom parts (start parts) schedule → IsUnmisused parts schedule
 whole_unmisused parts schedule n scenario all runs fair =
     groups.unmisused
-    (λ parts scenario. is_started core_at_first core_called parts scenario)
-    (λ parts run i scenario sound free. is_stepped core_called core_kept parts run i scenario sound free)
+    (λ parts scenario. is_started parts scenario)
+    (λ parts run i scenario sound free. is_stepped parts run i scenario sound free)
     parts schedule scenario (subst (AllRun parts) (taken_all n schedule all) runs) fair

@@ -2,14 +2,14 @@
 use Rattle.std.proofs.Common.{ℕ, ◌+◌, ◌==◌, Bool, true, false, if◌then◌else◌, List, [], ◌∷◌, Option, Some, None, IfSome, subst, sym}
 use Rattle.waiters.specs.declared.wait.WaitId.{WaitId}
 use Rattle.step_core.specs.declared.outcome.Outcome.{Outcome}
-use Rattle.step_core.specs.declared.place.AcquireRow.TheVariants.{A2, A6, A7, A11}
-use Rattle.step_core.specs.declared.place.ReleaseRow.TheVariants.{R5, R8}
-use Rattle.step_core.specs.declared.place.ManyRow.TheVariants.{M5}
-use Rattle.step_core.specs.declared.place.Place.{Place}
-use Rattle.step_core.specs.declared.place.Place.TheVariants.{Rest, Acquiring, Releasing, ReleasingMany}
-use Rattle.step_core.specs.World.{Seat}
-use Rattle.step_core.specs.Event.{Next, by_first}
-use Rattle.step_core.specs.Table.{event_at}
+use Rattle.step_table.specs.declared.place.AcquireRow.TheVariants.{A2, A6, A7, A11}
+use Rattle.step_table.specs.declared.place.ReleaseRow.TheVariants.{R5, R8}
+use Rattle.step_table.specs.declared.place.ManyRow.TheVariants.{M5}
+use Rattle.step_table.specs.declared.place.Place.{Place}
+use Rattle.step_table.specs.declared.place.Place.TheVariants.{Rest, Acquiring, Releasing, ReleasingMany}
+use Rattle.step_table.specs.World.{Seat}
+use Rattle.step_table.specs.Event.{Next, by_first}
+use Rattle.step_table.specs.Table.{event_at}
 use Rattle.step_core.specs.Stored.{Stored, Does, HasSeat, MayMove}
 
 module _ (h : Stored) where

@@ -4,15 +4,15 @@ use Rattle.std.proofs.lemmas.List.{get_or-replicate, get_or_past, length-replica
 use native.Mathlib.Decide.{ℕ_discrete, dec_lt}
 use mathlib.Core.Path.{fun_ext}
 use Rattle.waiters.specs.declared.wait.WaitId.{WaitId}
-use Rattle.step_core.specs.declared.entry.Entry.{Entry}
-use Rattle.step_core.specs.declared.entry.Entry.TheVariants.{Queue, Leave}
-use Rattle.step_core.specs.declared.outcome.Effect.TheVariants.{Tells}
-use Rattle.step_core.specs.declared.word.Word.{Word}
-use Rattle.step_core.specs.declared.word.Word.TheVariants.{Counter, Lock, Waiters, Grant}
-use Rattle.step_core.specs.World.{Words, put, written}
+use Rattle.step_table.specs.declared.entry.Entry.{Entry}
+use Rattle.step_table.specs.declared.entry.Entry.TheVariants.{Queue, Leave}
+use Rattle.step_table.specs.declared.effect.Effect.TheVariants.{Tells}
+use Rattle.step_table.specs.declared.word.Word.{Word}
+use Rattle.step_table.specs.declared.word.Word.TheVariants.{Counter, Lock, Waiters, Grant}
+use Rattle.step_table.specs.World.{Words, put, written}
 use Rattle.step_core.specs.Stored.{Stored, Becomes, WordsBecome, ListsBecome, HandBecomes, Makes, each, words_of, hands_of, root_of}
-use Rattle.step_core.proofs.Sums.{put_here, put_else}
-use Rattle.step_core.proofs.Lines.{put_same}
+use Rattle.step_table.proofs.Sums.{put_here, put_else}
+use Rattle.step_table.proofs.Lines.{put_same}
 
 -- a list of copies
 pub copies : {A : Type 0} (x : A) (n k : ℕ) → get_or (replicate n x) k x ≡ x

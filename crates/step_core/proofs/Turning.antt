@@ -4,22 +4,22 @@ use Rattle.std.proofs.lemmas.Bool.{le-ltb}
 use Rattle.waiters.specs.declared.wait.Wait.{Wait}
 use Rattle.waiters.specs.Lists.{first_with}
 use Rattle.step_core.specs.declared.list_outcome.ListOutcome.{ListOutcome}
-use Rattle.step_core.specs.declared.list_place.AllRow.TheVariants.{L6, L7}
-use Rattle.step_core.specs.declared.list_place.ListEffect.{ListEffect}
-use Rattle.step_core.specs.declared.list_place.ListEffect.TheVariants.{Nothing, Grants}
-use Rattle.step_core.specs.declared.list_place.ListPlace.{ListPlace}
-use Rattle.step_core.specs.declared.list_place.ListPlace.TheVariants.{Rest, Adding, Waiting, NotifyingOne, NotifyingAll}
-use Rattle.step_core.specs.declared.list_place.ListWord.{ListWord}
-use Rattle.step_core.specs.declared.list_place.ListWord.TheVariants as word
-use Rattle.step_core.specs.declared.list_place.OneRow.TheVariants.{O8}
-use Rattle.step_core.specs.declared.list_place.WaitRow.TheVariants.{W2, W4}
-use Rattle.step_core.specs.World.{put}
-use Rattle.step_core.specs.ListWorld.{ListSeat, ListEntry, written, ticket_after, hand_after, late_after, journal_after}
-use Rattle.step_core.specs.ListEvent.{ListNext, ListEvent, by_found}
-use Rattle.step_core.specs.ListTable.{list_event_at}
-use Rattle.step_core.specs.ListSteps.{event_of, finds, turned, seat_after, ListTurn}
+use Rattle.step_table.specs.declared.list_place.AllRow.TheVariants.{L6, L7}
+use Rattle.step_table.specs.declared.list_place.ListEffect.{ListEffect}
+use Rattle.step_table.specs.declared.list_place.ListEffect.TheVariants.{Nothing, Grants}
+use Rattle.step_table.specs.declared.list_place.ListPlace.{ListPlace}
+use Rattle.step_table.specs.declared.list_place.ListPlace.TheVariants.{Rest, Adding, Waiting, NotifyingOne, NotifyingAll}
+use Rattle.step_table.specs.declared.list_place.ListWord.{ListWord}
+use Rattle.step_table.specs.declared.list_place.ListWord.TheVariants as word
+use Rattle.step_table.specs.declared.list_place.OneRow.TheVariants.{O8}
+use Rattle.step_table.specs.declared.list_place.WaitRow.TheVariants.{W2, W4}
+use Rattle.step_table.specs.World.{put}
+use Rattle.step_table.specs.ListWorld.{ListSeat, ListEntry, written, ticket_after, hand_after, late_after, journal_after}
+use Rattle.step_table.specs.ListEvent.{ListNext, ListEvent, by_found}
+use Rattle.step_table.specs.ListTable.{list_event_at}
+use Rattle.step_table.specs.ListSteps.{event_of, finds, turned, seat_after, ListTurn}
 use Rattle.step_core.specs.ListStored.{ListMoment, world_at, HasListRow, AsksAt, Allows, IsListOutcome, made, placed}
-use Rattle.step_core.proofs.Sums.{put_here}
+use Rattle.step_table.proofs.Sums.{put_here}
 use Rattle.step_core.proofs.Handing.{put_put}
 
 module _ (m : ListMoment) (i : ℕ) (row : HasListRow m.count m.words m.seats i) where

@@ -4,28 +4,28 @@ use Rattle.std.specs.Prelude.{[], Option, Some, None, MatchOption, IfSome, lengt
 use Rattle.std.specs.Option.{option_map}
 use Rattle.waiters.specs.declared.wait.Wait.{Wait}
 use Rattle.waiters.specs.Lists.{Lists, list_at, IsOpen, waits_at, first_with}
-use Rattle.step_core.specs.declared.list_place.AllRow.TheVariants.{L7}
-use Rattle.step_core.specs.declared.list_place.ListEffect.{ListEffect}
-use Rattle.step_core.specs.declared.list_place.ListEffect.TheVariants.{HandsOut, Queues, TakesAll}
-use Rattle.step_core.specs.declared.list_place.ListPlace.{ListPlace}
-use Rattle.step_core.specs.declared.list_place.ListPlace.TheVariants.{Rest, Waiting, NotifyingOne, NotifyingAll}
-use Rattle.step_core.specs.declared.list_place.ListWord.{ListWord}
-use Rattle.step_core.specs.declared.list_place.ListWord.TheVariants.{Lock, Grant}
-use Rattle.step_core.specs.declared.list_place.OneRow.TheVariants.{O8}
-use Rattle.step_core.specs.declared.list_place.Ticket.{Ticket}
-use Rattle.step_core.specs.declared.list_place.WaitRow.TheVariants.{W2, W4}
+use Rattle.step_table.specs.declared.list_place.AllRow.TheVariants.{L7}
+use Rattle.step_table.specs.declared.list_place.ListEffect.{ListEffect}
+use Rattle.step_table.specs.declared.list_place.ListEffect.TheVariants.{HandsOut, Queues, TakesAll}
+use Rattle.step_table.specs.declared.list_place.ListPlace.{ListPlace}
+use Rattle.step_table.specs.declared.list_place.ListPlace.TheVariants.{Rest, Waiting, NotifyingOne, NotifyingAll}
+use Rattle.step_table.specs.declared.list_place.ListWord.{ListWord}
+use Rattle.step_table.specs.declared.list_place.ListWord.TheVariants.{Lock, Grant}
+use Rattle.step_table.specs.declared.list_place.OneRow.TheVariants.{O8}
+use Rattle.step_table.specs.declared.list_place.Ticket.{Ticket}
+use Rattle.step_table.specs.declared.list_place.WaitRow.TheVariants.{W2, W4}
 use Rattle.step_core.specs.declared.list_outcome.ListOutcome.{ListOutcome}
 use Rattle.step_core.specs.declared.list_outcome.ListReady.{ListReady}
 use Rattle.step_core.specs.declared.list_outcome.ListSight.{ListSight}
 use Rattle.step_core.specs.declared.notify_list.SeatRecord.{SeatRecord}
-use Rattle.step_core.specs.declared.refusal.StepRefused.{StepRefused}
-use Rattle.step_core.specs.declared.refusal.StepRefused.TheVariants.{LockHeld, Asleep}
-use Rattle.step_core.specs.Lawful.{total}
-use Rattle.step_core.specs.World.{put}
-use Rattle.step_core.specs.ListWorld.{ListWords, ListSeat, ListEntry, ListWorld, numbers_after}
-use Rattle.step_core.specs.ListWorld.{queue_after, hand_after, ticket_after, journal_after, first_list}
-use Rattle.step_core.specs.ListEvent.{ListEvent}
-use Rattle.step_core.specs.ListSteps.{event_of, finds, effect_of, can_turn, ListTurn}
+use Rattle.step_table.specs.declared.refusal.StepRefused.{StepRefused}
+use Rattle.step_table.specs.declared.refusal.StepRefused.TheVariants.{LockHeld, Asleep}
+use Rattle.step_table.specs.Lawful.{total}
+use Rattle.step_table.specs.World.{put}
+use Rattle.step_table.specs.ListWorld.{ListWords, ListSeat, ListEntry, ListWorld, numbers_after}
+use Rattle.step_table.specs.ListWorld.{queue_after, hand_after, ticket_after, journal_after, first_list}
+use Rattle.step_table.specs.ListEvent.{ListEvent}
+use Rattle.step_table.specs.ListSteps.{event_of, finds, effect_of, can_turn, ListTurn}
 
 -- a list as it is stored, with a record for each seat
 pub record StoredSeat : Type 0 where

@@ -1,32 +1,32 @@
 -- The machine as it is stored, and the run that it shows.
 use Rattle.std.specs.Prelude.{◌≡◌, ℕ, ◌+◌, ◌^◌, ◌<◌, List, [], ◌∷◌, ◌++◌, Option, Some, None, IsTrue, length, slice_index_or}
-use Rattle.step_core.specs.declared.call.Call.{Call}
-use Rattle.step_core.specs.declared.call.Call.TheVariants.{Add, Wait, One, All}
-use Rattle.step_core.specs.declared.entry.Entry.{Entry}
-use Rattle.step_core.specs.declared.entry.Entry.TheVariants.{Ticket, Grant}
-use Rattle.step_core.specs.declared.group_word.GroupWord.{GroupWord}
-use Rattle.step_core.specs.declared.list_place.ListEffect.{ListEffect}
-use Rattle.step_core.specs.declared.list_place.ListEffect.TheVariants.{HandsOut, Grants}
+use Rattle.step_table.specs.declared.call.Call.{Call}
+use Rattle.step_table.specs.declared.call.Call.TheVariants.{Add, Wait, One, All}
+use Rattle.step_table.specs.declared.entry.Entry.{Entry}
+use Rattle.step_table.specs.declared.entry.Entry.TheVariants.{Ticket, Grant}
+use Rattle.step_table.specs.declared.group_word.GroupWord.{GroupWord}
+use Rattle.step_table.specs.declared.list_place.ListEffect.{ListEffect}
+use Rattle.step_table.specs.declared.list_place.ListEffect.TheVariants.{HandsOut, Grants}
 use Rattle.step_core.specs.declared.turn.Turn.{Turn}
 use Rattle.step_core.specs.declared.turn.Turn.TheVariants as turn
-use Rattle.step_core.specs.declared.refusal.StepRefused.{StepRefused}
-use Rattle.step_core.specs.declared.scenario.Parts.{Parts}
-use Rattle.step_core.specs.declared.standing.After.{After}
-use Rattle.step_core.specs.declared.standing.After.TheVariants.{Releases}
-use Rattle.step_core.specs.declared.standing.Standing.{Standing}
-use Rattle.step_core.specs.declared.standing.Standing.TheVariants.{Rest, AtCounter, AtList, AtGroup}
-use Rattle.step_core.specs.Journal.{Plain, plain_start, replay}
+use Rattle.step_table.specs.declared.refusal.StepRefused.{StepRefused}
+use Rattle.step_table.specs.declared.parts.Parts.{Parts}
+use Rattle.step_table.specs.declared.standing.After.{After}
+use Rattle.step_table.specs.declared.standing.After.TheVariants.{Releases}
+use Rattle.step_table.specs.declared.standing.Standing.{Standing}
+use Rattle.step_table.specs.declared.standing.Standing.TheVariants.{Rest, AtCounter, AtList, AtGroup}
+use Rattle.step_table.specs.Journal.{Plain, plain_start, replay}
 use Rattle.step_core.specs.Stored.{Semaphores, IsStoredFor, IsAlike, HasRow, CanRun, each, root_of, event_in, finds_in}
 use Rattle.step_core.specs.Stored as sema
-use Rattle.step_core.specs.ListWorld.{ListWorld}
+use Rattle.step_table.specs.ListWorld.{ListWorld}
 use Rattle.step_core.specs.ListStored.{StoredList, CanStep, IsListReady}
 use Rattle.step_core.specs.ListStored as list
-use Rattle.step_core.specs.Group.{empty_word}
-use Rattle.step_core.specs.Core.{CoreLayout, Core, sema_entries, list_entries}
-use Rattle.step_core.specs.CoreSteps.{IsCoreEnd}
-use Rattle.step_core.specs.CoreLaw.{IsLawfulCore, IsCoreAtRest}
-use Rattle.step_core.specs.Run.{Run, layout, call_of, begun, start, stepped, refusal_of}
-use Rattle.step_core.specs.RunInvariant.{IsSoundRun, IsScenario}
+use Rattle.step_table.specs.Group.{empty_word}
+use Rattle.step_table.specs.Core.{CoreLayout, Core, sema_entries, list_entries}
+use Rattle.step_table.specs.CoreSteps.{IsCoreEnd}
+use Rattle.step_table.specs.CoreLaw.{IsLawfulCore, IsCoreAtRest}
+use Rattle.step_table.specs.Run.{Run, layout, call_of, begun, start, stepped, refusal_of}
+use Rattle.step_table.specs.RunInvariant.{IsSoundRun, IsScenario}
 
 -- the semaphores, the lists, the words of the groups, and what each seat is doing
 pub record Machine : Type 0 where
@@ -150,6 +150,11 @@ list_entry l s (HandsOut t) = Some (Ticket l s)
 list_entry l s (Grants upto) = Some (Grant l upto s)
 list_entry l s _ = None
 
+-- the journal with the entry, if there is one
+abbrev pub and_then : List Entry → Option Entry → List Entry
+and_then journal None = journal
+and_then journal (Some e) = journal ++ e ∷ []
+
 -- the run of the machine, with how many calls each seat has begun
 abbrev pub run_with : Machine → List ℕ → List Entry → Run
 run_with h counts journal = record { core = core_of h journal; begun = each 0 counts }
@@ -160,6 +165,14 @@ pub record HasBegun (parts : Parts) (i : ℕ) (h : Machine) (counts : List ℕ) 
   pub count : length now ≡ length counts
   pub run : (journal : List Entry)
       → run_with k now journal ≡ begun (run_with h counts journal) i (call_of parts i (each 0 counts i))
+
+-- the seat has run its row, which told this, and has begun its next call where that ended one: with each journal, its run is
+-- the one after a step of the seat
+pub record HasStepped (parts : Parts) (i : ℕ) (h : Machine) (counts : List ℕ) (k : Machine) (now : List ℕ) (entry : Option Entry) : Type 0 where
+  pub alike : AreAlike h k
+  pub count : length now ≡ length counts
+  pub run : (journal : List Entry)
+      → run_with k now (and_then journal entry) ≡ stepped parts (run_with h counts journal) i
 
 -- all that a run has at one moment but its journal
 pub record Moment : Type 0 where
@@ -224,11 +237,6 @@ abbrev pub entry_of : ℕ → Turn → Option Entry
 entry_of s (turn.OnCounter next ready) = sema.entry_of ready.outcome.effect
 entry_of s (turn.OnList l ready) = list_entry l s ready.outcome.effect
 entry_of s (turn.OnGroup g row) = None
-
--- the journal with the entry, if there is one
-abbrev pub and_then : List Entry → Option Entry → List Entry
-and_then journal None = journal
-and_then journal (Some e) = journal ++ e ∷ []
 
 -- the moment steps: with each journal behind it, it is that of the run after a step of the seat
 pub record Steps (m : Moment) (s : ℕ) (n : Moment) (entry : Option Entry) : Type 0 where

@@ -2,26 +2,26 @@
 use Rattle.std.specs.Prelude.{◌≡◌, ℕ, ◌+◌, ◌^◌, ◌<◌, List, [], ◌++◌, Option, Some, None, length, slice_get, slice_index_or, MatchOption, IfSome, IsTrue, replicate}
 use Rattle.waiters.specs.declared.wait.WaitId.{WaitId}
 use Rattle.step_core.specs.declared.caller.Caller.{Caller}
-use Rattle.step_core.specs.declared.entry.Entry.{Entry}
-use Rattle.step_core.specs.declared.entry.Entry.TheVariants.{Queue, Leave}
-use Rattle.step_core.specs.declared.outcome.Effect.{Effect}
-use Rattle.step_core.specs.declared.outcome.Effect.TheVariants.{Tells}
+use Rattle.step_table.specs.declared.entry.Entry.{Entry}
+use Rattle.step_table.specs.declared.entry.Entry.TheVariants.{Queue, Leave}
+use Rattle.step_table.specs.declared.effect.Effect.{Effect}
+use Rattle.step_table.specs.declared.effect.Effect.TheVariants.{Tells}
 use Rattle.step_core.specs.declared.outcome.Outcome.{Outcome}
-use Rattle.step_core.specs.declared.refusal.StepRefused.{StepRefused}
-use Rattle.step_core.specs.declared.refusal.StepRefused.TheVariants.{LockHeld, Asleep}
-use Rattle.step_core.specs.declared.place.AcquireRow.TheVariants.{A7}
-use Rattle.step_core.specs.declared.place.ReleaseRow.TheVariants.{R5}
-use Rattle.step_core.specs.declared.place.ManyRow.TheVariants.{M5}
-use Rattle.step_core.specs.declared.place.Place.{Place}
-use Rattle.step_core.specs.declared.place.Place.TheVariants.{Rest, Acquiring, Releasing, ReleasingMany}
+use Rattle.step_table.specs.declared.refusal.StepRefused.{StepRefused}
+use Rattle.step_table.specs.declared.refusal.StepRefused.TheVariants.{LockHeld, Asleep}
+use Rattle.step_table.specs.declared.place.AcquireRow.TheVariants.{A7}
+use Rattle.step_table.specs.declared.place.ReleaseRow.TheVariants.{R5}
+use Rattle.step_table.specs.declared.place.ManyRow.TheVariants.{M5}
+use Rattle.step_table.specs.declared.place.Place.{Place}
+use Rattle.step_table.specs.declared.place.Place.TheVariants.{Rest, Acquiring, Releasing, ReleasingMany}
 use Rattle.step_core.specs.declared.ready.Ready.{Ready}
-use Rattle.step_core.specs.declared.word.Word.{Word}
-use Rattle.step_core.specs.declared.word.Word.TheVariants.{Counter, Lock, Waiters, Grant}
-use Rattle.step_core.specs.World.{Words, Seat, World, root_number, put, found, lists_after, journal_after, turn_after, hand_after}
-use Rattle.step_core.specs.Event.{Event}
-use Rattle.step_core.specs.Table.{event_at}
-use Rattle.step_core.specs.Steps.{words_after, event_of, finds, turned, moved}
-use Rattle.step_core.specs.Invariant.{IsWithin}
+use Rattle.step_table.specs.declared.word.Word.{Word}
+use Rattle.step_table.specs.declared.word.Word.TheVariants.{Counter, Lock, Waiters, Grant}
+use Rattle.step_table.specs.World.{Words, Seat, World, root_number, put, found, lists_after, journal_after, turn_after, hand_after}
+use Rattle.step_table.specs.Event.{Event}
+use Rattle.step_table.specs.Table.{event_at}
+use Rattle.step_table.specs.Steps.{words_after, event_of, finds, turned, moved}
+use Rattle.step_table.specs.Invariant.{IsWithin}
 use Rattle.step_core.specs.Roots.{queued}
 
 -- the elements of a list by their places, and d past its end

@@ -6,13 +6,11 @@
 
 ghost use Rattle.std.specs.Prelude.{◌≡◌, ◌<◌, ◌+◌, ◌^◌, ℕ, IfSome, Option};
 ghost use Rattle.waiters.specs.declared.wait.WaitId.{WaitId};
-ghost use Rattle.step_core.specs.Acquire.{acquire_event};
+ghost use Rattle.step_table.specs.Acquire.{acquire_event};
 ghost use Rattle.step_core.specs.Stored.{Stored, HasRowsOf, HasWord, HasRoom, Does};
 
-use crate::entry::Entry;
 use crate::outcome::{Outcome, exchange, goes, tells};
-use crate::place::{Acquire, AcquireRow, Place};
-use crate::word::Word;
+use step_table::{Acquire, AcquireRow, Entry, Place, Word};
 use waiters::{SeatId, WaitId};
 
 /// The word of the row's event.

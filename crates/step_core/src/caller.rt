@@ -3,19 +3,17 @@
 ghost use Rattle.std.specs.Prelude.{◌≡◌, ◌≢◌, ◌<◌, ◌+◌, ◌^◌, ◌↔◌, ℕ, IsTrue, List, length, map, slice_get, IfOk, IfSome};
 ghost use Rattle.std.specs.List.{range_with_len};
 ghost use Rattle.waiters.specs.declared.wait.WaitId.{WaitId};
-ghost use Rattle.step_core.specs.World.{turn_after};
-ghost use Rattle.step_core.specs.Table.{event_at};
+ghost use Rattle.step_table.specs.World.{turn_after};
+ghost use Rattle.step_table.specs.Table.{event_at};
 ghost use Rattle.step_core.specs.Stored.{Stored, HasRowsOf, HasWord, HasRoom, Does, IsListed, IsQueue, seat_of, words_of, idle};
-ghost use Rattle.step_core.specs.Invariant.{IsWithin};
+ghost use Rattle.step_table.specs.Invariant.{IsWithin};
 
-use crate::entry::Entry;
-use crate::outcome::{Effect, Outcome};
-use crate::place::Place;
+use crate::outcome::Outcome;
 use crate::shared::Shared;
 use crate::sight::Sight;
-use crate::word::Word;
 use crate::{acquire, release, release_many};
 use std::alloc::{AllocError, Global};
+use step_table::{Effect, Entry, Place, Word};
 use waiters::{SeatId, WaitId};
 
 /// Where a seat stands on the semaphores, and how many waits it has queued there.

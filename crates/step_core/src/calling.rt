@@ -1,16 +1,14 @@
 //! What a seat does between rows: it begins a call, or goes on with what comes after a row.
 
 ghost use Rattle.std.specs.Prelude.{◌≡◌, ◌<◌, ◌+◌, ◌^◌, length};
-ghost use Rattle.step_core.specs.CoreSteps.{calls, goes_on, after_counter, after_list, after_group};
+ghost use Rattle.step_table.specs.CoreSteps.{calls, goes_on, after_counter, after_list, after_group};
 ghost use Rattle.step_core.specs.State.{Becomes, HasSeat, HasListSeat, MayBegin, MayGoOn};
 
-use crate::call::Call;
-use crate::group_id::GroupId;
-use crate::list_id::ListId;
-use crate::list_place::{AllRow, ListPlace, OneRow};
 use crate::machine::Machine;
-use crate::place::{Acquire, AcquireRow, ManyRow, Place, Release, ReleaseMany, ReleaseRow};
-use crate::standing::{After, GroupNext, GroupRow, Standing};
+use step_table::{
+    Acquire, AcquireRow, After, AllRow, Call, GroupId, GroupNext, GroupRow, ListId, ListPlace,
+    ManyRow, OneRow, Place, Release, ReleaseMany, ReleaseRow, Standing,
+};
 use waiters::SeatId;
 
 impl Machine {

@@ -6,32 +6,22 @@
 #![tactic(auto)]
 
 mod acquire;
-mod call;
+mod bent_world;
 mod caller;
 mod calling;
-mod entry;
 mod group;
-mod group_id;
-mod group_word;
-mod items;
+mod key;
 mod laws;
-mod list_id;
 mod list_outcome;
-mod list_place;
 mod list_rows;
 mod machine;
-mod misuse;
 mod moment;
 mod notify_list;
 mod outcome;
-mod phase;
-mod place;
 mod queues;
 mod ready;
-mod refusal;
 mod release;
 mod release_many;
-mod row;
 mod running;
 mod scenario;
 mod schedule;
@@ -39,48 +29,27 @@ mod seats;
 mod semaphores;
 mod shared;
 mod sight;
-mod standing;
 mod starting;
 mod step;
-mod ticket_word;
 mod turn;
-mod word;
 mod world;
 
-pub use call::Call;
+pub use bent_world::BentWorld;
 pub use caller::Caller;
-pub use entry::Entry;
-pub use group_id::GroupId;
-pub use group_word::GroupWord;
-pub use items::Items;
-pub use laws::{law_of_the_core, law_of_the_lists, law_of_the_rows};
-pub use list_id::ListId;
-pub use list_place::{AllRow, ListEffect, ListPlace, ListWord, OneRow, Reach, Ticket, WaitRow};
-pub use misuse::Misuse;
+pub use laws::{law_of_the_bent, law_of_the_keys};
 pub use moment::Moment;
-pub use outcome::{Effect, Outcome};
-pub use phase::Phase;
-pub use place::{Acquire, AcquireRow, ManyRow, Place, Release, ReleaseMany, ReleaseRow};
-pub use refusal::{RunRefused, StepRefused};
-pub use row::Row;
+pub use outcome::Outcome;
 pub use scenario::{
     MAX_CALLS, MAX_COUNTERS, MAX_GROUPS, MAX_LISTS, MAX_ROOTS, MAX_SEATS, MAX_UNITS, MIN_UNITS,
-    Parts, Scenario, ScenarioRefused,
+    Scenario,
 };
 pub use schedule::run;
-pub use standing::{After, GroupNext, GroupRow, Standing};
-pub use ticket_word::less;
+pub use step_table::{
+    Acquire, AcquireRow, After, AllRow, Call, Effect, Entry, GroupId, GroupNext, GroupRow,
+    GroupWord, Items, ListEffect, ListId, ListPlace, ListWord, ManyRow, Misuse, OneRow, Parts,
+    Phase, Place, Reach, Release, ReleaseMany, ReleaseRow, Row, RunRefused, ScenarioRefused,
+    Standing, StepRefused, Ticket, Variant, WaitRow, Word, law_of_the_alike, law_of_the_core,
+    law_of_the_lists, law_of_the_rows, less,
+};
 pub use waiters::{CounterId, NoMemory, SeatId, WaitId};
-pub use word::Word;
 pub use world::World;
-
-#[cfg(test)]
-mod group_tests;
-#[cfg(test)]
-mod list_tests;
-#[cfg(test)]
-mod tests;
-#[cfg(test)]
-mod text_tests;
-#[cfg(test)]
-mod turn_tests;

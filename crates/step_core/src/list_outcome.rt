@@ -2,9 +2,9 @@
 
 ghost use Rattle.std.specs.Prelude.{◌≡◌, ◌<◌, ℕ, List, Some, slice_get, IfSome};
 ghost use Rattle.waiters.specs.declared.wait.Wait.{Wait};
-ghost use Rattle.step_core.specs.ListEvent.{waiter};
+ghost use Rattle.step_table.specs.ListEvent.{waiter};
 
-use crate::list_place::{ListEffect, ListPlace, ListWord};
+use step_table::{ListEffect, ListPlace, ListWord};
 use waiters::{SeatId, Wait};
 
 /// How many tickets were handed out and granted; the first wait of the list; at `O8` that which it takes out; the first

@@ -6,15 +6,16 @@
 
 ghost use Rattle.std.specs.Prelude.{◌≡◌, ◌<◌, ◌+◌, ◌^◌, ℕ, List, slice_get, IfSome};
 ghost use Rattle.waiters.specs.declared.wait.Wait.{Wait};
-ghost use Rattle.step_core.specs.ListWorld.{ListWords, ListSeat};
-ghost use Rattle.step_core.specs.ListEvent.{take_ticket};
-ghost use Rattle.step_core.specs.ListTable.{wait_event, one_event, all_event, list_event_at};
+ghost use Rattle.step_table.specs.ListWorld.{ListWords, ListSeat};
+ghost use Rattle.step_table.specs.ListEvent.{take_ticket};
+ghost use Rattle.step_table.specs.ListTable.{wait_event, one_event, all_event, list_event_at};
 ghost use Rattle.step_core.specs.ListStored.{IsSeen, ListDoes, HasListWord, list_refused_by};
 
 use crate::list_outcome::{ListOutcome, ListSight, does, goes};
-use crate::list_place::{AllRow, ListEffect, ListPlace, ListWord, OneRow, Reach, Ticket, WaitRow};
-use crate::refusal::StepRefused;
-use crate::ticket_word::{less, minus, next_word};
+use step_table::{
+    AllRow, ListEffect, ListPlace, ListWord, OneRow, Reach, StepRefused, Ticket, WaitRow, less,
+    minus, next_word,
+};
 use waiters::{SeatId, Wait, WaitId};
 
 /// The word of the event of the row at this place.

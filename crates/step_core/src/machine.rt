@@ -3,28 +3,29 @@
 //! A seat's call is on one part of the machine at a time, and in all other parts the seat is at rest. Each method here is
 //! one change of the whole, and holds for every journal that may stand behind it.
 
-ghost use Rattle.std.specs.Prelude.{◌≡◌, ◌<◌, ◌+◌, ◌^◌, length, IfOk};
-ghost use Rattle.step_core.specs.World.{put};
-ghost use Rattle.step_core.specs.Steps.{moved};
-ghost use Rattle.step_core.specs.ListSteps.{moved as moved_on_list, waiting};
-ghost use Rattle.step_core.specs.ListStored.{IsListReady};
-ghost use Rattle.step_core.specs.Core.{CoreLayout, semaphore};
-ghost use Rattle.step_core.specs.CoreSteps.{stands, at_counter, at_list, waits_on_list, releases, counter_row, list_row};
-ghost use Rattle.step_core.specs.State.{Becomes, IsMachineFor, HasSeat, HasListSeat, no_list};
+ghost use Rattle.std.specs.Prelude.{◌≡◌, ◌<◌, ◌+◌, ◌^◌, ◌++◌, ℕ, [], length, IfOk, OnOk};
+ghost use Rattle.step_table.specs.World.{put};
+ghost use Rattle.step_table.specs.Steps.{moved};
+ghost use Rattle.step_table.specs.ListSteps.{moved as moved_on_list, waiting};
+ghost use Rattle.step_table.specs.Group.{empty_word};
+ghost use Rattle.step_core.specs.Key.{joined, list_words, group_words, standing_words, core_words, HasForm};
+ghost use Rattle.step_core.specs.ListStored.{IsListReady, world_of};
+ghost use Rattle.step_table.specs.Core.{CoreLayout, semaphore};
+ghost use Rattle.step_table.specs.CoreSteps.{stands, at_counter, at_list, waits_on_list, releases, counter_row, list_row};
+ghost use Rattle.step_table.specs.Scenario.{IsWithinLimits};
+ghost use Rattle.step_core.specs.State.{Becomes, IsMachineFor, HasSeat, HasListSeat, no_list, core_of};
 ghost use Rattle.step_core.specs.Stored.{each, CanRun};
 
-use crate::group_id::GroupId;
-use crate::group_word::GroupWord;
-use crate::list_id::ListId;
+use crate::key::{write_group, write_standing};
 use crate::list_outcome::ListReady;
-use crate::list_place::ListPlace;
 use crate::notify_list::NotifyList;
-use crate::place::{Place, Release, ReleaseRow};
 use crate::ready::Ready;
 use crate::semaphores::Semaphores;
-use crate::standing::{After, Standing};
 use std::marker::Model;
-use waiters::{CounterId, SeatId};
+use step_table::{
+    After, GroupId, GroupWord, ListId, ListPlace, Parts, Place, Release, ReleaseRow, Standing,
+};
+use waiters::{CounterId, NoMemory, SeatId};
 
 /// All that rows read and write, and what each seat is doing.
 #[derive(Drop)]
@@ -66,7 +67,7 @@ impl Machine {
     }
 
     /// The seat stands at this place on the semaphores.
-    fn move_on_counters(&mut self, seat: SeatId, place: Place)
+    pub fn move_on_counters(&mut self, seat: SeatId, place: Place)
         requires { HasSeat self.old seat }
         ensures { Becomes (λ m s. record s { semaphores = moved s.semaphores seat place }) self.old self.new }
     {
@@ -74,7 +75,7 @@ impl Machine {
     }
 
     /// The seat stands at this place on the list.
-    fn move_on_list(&mut self, seat: SeatId, list: ListId, place: ListPlace)
+    pub fn move_on_list(&mut self, seat: SeatId, list: ListId, place: ListPlace)
         requires { HasListSeat self.old list seat }
         ensures { Becomes (λ m s. record s { lists = put s.lists list (moved_on_list (s.lists list) seat place) })
             self.old self.new }
@@ -168,5 +169,52 @@ impl Machine {
         };
         let place = Place::Releasing(release, ReleaseRow::R1);
         self.at_counter(seat, place, After::Releases(group, number - 1));
+    }
+
+    /// Writes the words of each list, of which there are so many.
+    fn write_lists(&self, key: &mut Vec<u64>) -> Result<(), NoMemory>
+        requires { (l : ℕ) → l < length self.now.lists → length (each no_list self.now.lists l).seats < 2 ^ 16 }
+        ensures { OnOk result (key.new.items ≡ key.old.items ++ joined (length self.now.lists)
+            (λ l. list_words (length (each no_list self.now.lists l).seats) (world_of (each no_list self.now.lists l) []))) }
+    {
+        for list in &self.lists {
+            list.write_key(key)?;
+        }
+        Ok(())
+    }
+
+    /// Writes the word of each group.
+    fn write_groups(&self, key: &mut Vec<u64>) -> Result<(), NoMemory>
+        ensures { OnOk result (key.new.items
+            ≡ key.old.items ++ joined (length self.now.groups) (λ g. group_words (each empty_word self.now.groups g))) }
+    {
+        for word in &self.groups {
+            write_group(*word, key)?;
+        }
+        Ok(())
+    }
+
+    /// Writes what each seat is doing.
+    fn write_all_standing(&self, key: &mut Vec<u64>) -> Result<(), NoMemory>
+        ensures { OnOk result (key.new.items
+            ≡ key.old.items ++ joined (length self.now.standing) (λ k. standing_words (each Standing.Rest self.now.standing k))) }
+    {
+        for standing in &self.standing {
+            write_standing(standing, key)?;
+        }
+        Ok(())
+    }
+
+    /// Writes all that rows look at, for so much as the parts say.
+    pub fn write_key(&self, parts: &Parts, key: &mut Vec<u64>) -> Result<(), NoMemory>
+        requires form { HasForm parts.now self.now }
+        requires limits { IsWithinLimits parts.now }
+        ensures { OnOk result (key.new.items ≡ key.old.items ++ core_words parts.now (core_of self.now [])) }
+    {
+        self.semaphores.write_key(parts.groups, key)?;
+        self.write_lists(key)?;
+        self.write_groups(key)?;
+        self.write_all_standing(key)?;
+        Ok(())
     }
 }

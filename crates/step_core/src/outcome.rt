@@ -1,29 +1,15 @@
 ghost use Rattle.std.specs.Prelude.{◌≡◌, ◌≢◌, ◌+◌, Some};
 ghost use Rattle.step_core.specs.Stored.{entry_of};
 
-use crate::entry::Entry;
-use crate::place::Place;
+use step_table::{Effect, Entry, Place};
 
-/// What a row's event does beside its word.
-#[derive(Clone, Copy, Debug, PartialEq, Eq, Drop)]
-pub enum Effect {
-    /// Nothing.
-    Nothing,
-    /// The journal tells it, and the lists and the seat's hand change as it says.
-    Tells(Entry),
-    /// The first wait in the seat's hand was granted, and leaves the hand.
-    Grants,
-}
-
-impl Effect {
-    /// The entry that the journal gets, if it gets one.
-    pub(crate) fn entry(&self) -> Option<Entry>
-        ensures { result ≡ entry_of self.now }
-    {
-        match *self {
-            Effect::Tells(entry) => Some(entry),
-            _ => None,
-        }
+/// The entry that the journal gets of an effect, if it gets one.
+pub(crate) fn entry_of(effect: &Effect) -> Option<Entry>
+    ensures { result ≡ entry_of effect.now }
+{
+    match *effect {
+        Effect::Tells(entry) => Some(entry),
+        _ => None,
     }
 }
 

@@ -1,6 +1,6 @@
 use crate::caller::Caller;
 use crate::outcome::Outcome;
-use crate::word::Word;
+use step_table::Word;
 
 /// A row that can run: how its seat stands, the word of its event, and what it does.
 #[derive(Clone, Copy, Drop)]

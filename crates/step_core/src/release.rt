@@ -6,14 +6,12 @@
 
 ghost use Rattle.std.specs.Prelude.{◌≡◌, ◌<◌, ◌+◌, ◌^◌, ℕ, List, slice_get, IfSome};
 ghost use Rattle.waiters.specs.declared.wait.WaitId.{WaitId};
-ghost use Rattle.step_core.specs.Release.{release_event};
+ghost use Rattle.step_table.specs.Release.{release_event};
 ghost use Rattle.step_core.specs.Stored.{Stored, HasRowsOf, HasWord, HasRoom, Does};
 
-use crate::entry::Entry;
 use crate::outcome::{Outcome, exchange, goes, grants, tells};
-use crate::place::{Place, Release, ReleaseRow};
 use crate::sight::{Sight, waiter};
-use crate::word::Word;
+use step_table::{Entry, Place, Release, ReleaseRow, Word};
 use waiters::SeatId;
 
 /// The word of the row's event.

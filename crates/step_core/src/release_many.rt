@@ -6,14 +6,12 @@
 
 ghost use Rattle.std.specs.Prelude.{◌≡◌, ◌<◌, ◌+◌, ◌^◌, ℕ, List, length, slice_get, IfSome};
 ghost use Rattle.waiters.specs.declared.wait.WaitId.{WaitId};
-ghost use Rattle.step_core.specs.ReleaseMany.{release_many_event, after_leave};
+ghost use Rattle.step_table.specs.ReleaseMany.{release_many_event, after_leave};
 ghost use Rattle.step_core.specs.Stored.{Stored, HasRowsOf, HasWord, HasRoom, Does};
 
-use crate::entry::Entry;
 use crate::outcome::{Outcome, goes, grants, tells};
-use crate::place::{ManyRow, Place, ReleaseMany};
 use crate::sight::{Sight, waiter};
-use crate::word::Word;
+use step_table::{Entry, ManyRow, Place, ReleaseMany, Word};
 use waiters::SeatId;
 
 /// The word of the row's event.

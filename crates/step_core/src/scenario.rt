@@ -1,17 +1,12 @@
 //! A scenario: how many roots, where the counters start, and the calls of each seat.
 
 ghost use Rattle.std.specs.Prelude.{◌≡◌, ◌<◌, ◌≤◌, ◌↔◌, ◌+◌, ◌^◌, ℕ, IsTrue, All, IfOk, ◌∷◌, [], Some, List, length, slice_index};
-ghost use Rattle.step_core.specs.Run.{call_of};
-ghost use Rattle.step_core.specs.Scenario.{IsWithinLimits, IsDeclared, KeepsTickets, AreTicketsKept, IsTicketCall, IsScript, IsOfFewUnits, IsCallOn, holds_ticket, holding_after};
-ghost use Rattle.step_core.specs.RunInvariant.{IsScenario};
-ghost use Rattle.step_core.specs.Texts.{scenario_refused_text};
+ghost use Rattle.step_table.specs.Run.{call_of};
+ghost use Rattle.step_table.specs.Scenario.{IsWithinLimits, IsDeclared, KeepsTickets, AreTicketsKept, IsTicketCall, IsScript, IsOfFewUnits, IsCallOn, holds_ticket, holding_after};
+ghost use Rattle.step_table.specs.RunInvariant.{IsScenario};
 
-use crate::call::Call;
-use crate::items::Items;
-use crate::list_id::ListId;
-use std::error::Error;
-use std::fmt;
 use std::marker::Model;
+use step_table::{Call, Items, ListId, Parts, ScenarioRefused};
 
 /// The most counters of a scenario.
 pub const MAX_COUNTERS: usize = 16;
@@ -30,46 +25,6 @@ pub const MAX_UNITS: u32 = 256;
 /// The most roots.
 pub const MAX_ROOTS: u32 = 251;
 
-/// What a scenario is made of.
-#[derive(Debug, Drop)]
-pub struct Parts {
-    /// The number of roots: the root of counter `c` is `c` modulo it.
-    pub roots: u32,
-    /// The number at which each counter starts.
-    pub starts: Items<u32>,
-    /// The first ticket of each notify list.
-    pub firsts: Items<u64>,
-    /// The number of wait groups.
-    pub groups: u32,
-    /// The calls of each seat, in their order.
-    pub calls: Items<Items<Call>>,
-}
-
-/// Why parts make no scenario, by number: the least that holds is answered.
-#[derive(Clone, Copy, Debug, PartialEq, Eq, Drop)]
-pub enum ScenarioRefused {
-    /// A limit isn't kept.
-    OutOfLimits = 1,
-    /// A call names a counter, list or group that isn't declared.
-    Undeclared = 2,
-    /// A call takes a ticket while the seat holds one, or waits without one.
-    Ticket = 3,
-}
-
-impl fmt::Display for ScenarioRefused {
-    ghost output = { λ refused. Some (scenario_refused_text refused) };
-
-    fn fmt<W: fmt::Write>(&self, f: &mut fmt::Formatter<W>) -> fmt::Result {
-        f.write_str(match self {
-            ScenarioRefused::OutOfLimits => "out of limits",
-            ScenarioRefused::Undeclared => "undeclared",
-            ScenarioRefused::Ticket => "ticket",
-        })
-    }
-}
-
-impl Error for ScenarioRefused {}
-
 /// Parts that keep the limits, whose calls name what is declared, and whose seats take and spend tickets in turn.
 #[derive(Debug, Drop)]
 pub struct Scenario {
@@ -77,9 +32,9 @@ pub struct Scenario {
 }
 
 impl Model for Scenario {
-    ghost use Rattle.step_core.specs.declared.scenario.Parts.{Parts};
-    ghost use Rattle.step_core.specs.Run.{call_of};
-    ghost use Rattle.step_core.specs.RunInvariant.{IsScenario};
+    ghost use Rattle.step_table.specs.declared.parts.Parts.{Parts};
+    ghost use Rattle.step_table.specs.Run.{call_of};
+    ghost use Rattle.step_table.specs.RunInvariant.{IsScenario};
 
     ghost Value = { Parts };
 
@@ -88,50 +43,48 @@ impl Model for Scenario {
     ghost invariant = { λ s. IsScenario s.parts };
 }
 
-impl Call {
-    /// Whether a release of many is of as many units as it may be.
-    fn is_of_few_units(&self) -> bool
-        ensures { IsTrue result ↔ IsOfFewUnits self.now }
-    {
-        match *self {
-            Call::ReleaseMany(_, units) => MIN_UNITS <= units && units <= MAX_UNITS,
-            _ => true,
-        }
+/// Whether a release of many is of as many units as it may be.
+fn is_of_few_units(call: &Call) -> bool
+    ensures { IsTrue result ↔ IsOfFewUnits call.now }
+{
+    match *call {
+        Call::ReleaseMany(_, units) => MIN_UNITS <= units && units <= MAX_UNITS,
+        _ => true,
     }
+}
 
-    /// Whether the call names a counter, list or group of these parts.
-    fn is_on(&self, parts: &Parts) -> bool
-        ensures { IsTrue result ↔ IsCallOn parts.now self.now }
-    {
-        match *self {
-            Call::Acquire(counter, _) | Call::Release(counter, _) | Call::ReleaseMany(counter, _) =>
-                (counter.number() as usize) < parts.starts.len(),
-            Call::Add(list) | Call::Wait(list) | Call::One(list) | Call::All(list) =>
-                (list.number() as usize) < parts.firsts.len(),
-            Call::GroupAdd(group, _) | Call::GroupWait(group) => group.number() < parts.groups,
-        }
+/// Whether the call names a counter, list or group of these parts.
+fn is_on(call: &Call, parts: &Parts) -> bool
+    ensures { IsTrue result ↔ IsCallOn parts.now call.now }
+{
+    match *call {
+        Call::Acquire(counter, _) | Call::Release(counter, _) | Call::ReleaseMany(counter, _) =>
+            (counter.number() as usize) < parts.starts.len(),
+        Call::Add(list) | Call::Wait(list) | Call::One(list) | Call::All(list) =>
+            (list.number() as usize) < parts.firsts.len(),
+        Call::GroupAdd(group, _) | Call::GroupWait(group) => group.number() < parts.groups,
     }
+}
 
-    /// Whether a seat that made this call holds a ticket of the list, where it held one before or not.
-    fn leaves_ticket(&self, list: ListId, held: bool) -> bool
-        ensures { result ≡ holding_after list held (self.now ∷ []) }
-    {
-        match *self {
-            Call::Add(other) if other.number() == list.number() => true,
-            Call::Wait(other) if other.number() == list.number() => false,
-            _ => held,
-        }
+/// Whether a seat that made this call holds a ticket of the list, where it held one before or not.
+fn leaves_ticket(call: &Call, list: ListId, held: bool) -> bool
+    ensures { result ≡ holding_after list held (call.now ∷ []) }
+{
+    match *call {
+        Call::Add(other) if other.number() == list.number() => true,
+        Call::Wait(other) if other.number() == list.number() => false,
+        _ => held,
     }
+}
 
-    /// Whether the call, made after these, takes a ticket where none of its list is held, and waits where one is.
-    fn is_ticket_call(&self, before: &[Call]) -> bool
-        ensures { IsTrue result ↔ IsTicketCall before.now self.now }
-    {
-        match *self {
-            Call::Add(list) => !holds_ticket(before, list),
-            Call::Wait(list) => holds_ticket(before, list),
-            _ => true,
-        }
+/// Whether the call, made after these, takes a ticket where none of its list is held, and waits where one is.
+fn is_ticket_call(call: &Call, before: &[Call]) -> bool
+    ensures { IsTrue result ↔ IsTicketCall before.now call.now }
+{
+    match *call {
+        Call::Add(list) => !holds_ticket(before, list),
+        Call::Wait(list) => holds_ticket(before, list),
+        _ => true,
     }
 }
 
@@ -141,7 +94,7 @@ fn holds_ticket(calls: &[Call], list: ListId) -> bool
 {
     let mut held = false;
     for call in calls {
-        held = call.leaves_ticket(list, held);
+        held = leaves_ticket(call, list, held);
     }
     held
 }
@@ -151,7 +104,7 @@ fn are_tickets_kept(calls: &Items<Call>) -> bool
 {
     let calls = calls.as_slice();
     for (i, call) in calls.iter().enumerate() {
-        if !call.is_ticket_call(&calls[..i]) {
+        if !is_ticket_call(call, &calls[..i]) {
             return false;
         }
     }
@@ -163,46 +116,46 @@ fn is_script(calls: &Items<Call>) -> bool
 {
     0 < calls.len()
         && calls.len() <= MAX_CALLS
-        && calls.as_slice().iter().all(|call| call.is_of_few_units())
+        && calls.as_slice().iter().all(|call| is_of_few_units(call))
 }
 
 fn are_on(calls: &Items<Call>, parts: &Parts) -> bool
     ensures { IsTrue result ↔ All (IsCallOn parts.now) calls.now }
 {
-    calls.as_slice().iter().all(|call| call.is_on(parts))
+    calls.as_slice().iter().all(|call| is_on(call, parts))
 }
 
-impl Parts {
-    fn are_within_limits(&self) -> bool
-        ensures { IsTrue result ↔ IsWithinLimits self.now }
-    {
-        0 < self.roots
-            && self.roots <= MAX_ROOTS
-            && self.starts.len() <= MAX_COUNTERS
-            && self.firsts.len() <= MAX_LISTS
-            && self.groups <= MAX_GROUPS
-            && 0 < self.calls.len()
-            && self.calls.len() <= MAX_SEATS
-            && self.calls.as_slice().iter().all(|calls| is_script(calls))
-    }
+fn are_within_limits(parts: &Parts) -> bool
+    ensures { IsTrue result ↔ IsWithinLimits parts.now }
+{
+    0 < parts.roots
+        && parts.roots <= MAX_ROOTS
+        && parts.starts.len() <= MAX_COUNTERS
+        && parts.firsts.len() <= MAX_LISTS
+        && parts.groups <= MAX_GROUPS
+        && 0 < parts.calls.len()
+        && parts.calls.len() <= MAX_SEATS
+        && parts.calls.as_slice().iter().all(|calls| is_script(calls))
+}
 
-    fn are_declared(&self) -> bool
-        ensures { IsTrue result ↔ IsDeclared self.now }
-    {
-        self.calls
-            .as_slice()
-            .iter()
-            .all(|calls| are_on(calls, self))
-    }
+fn are_declared(parts: &Parts) -> bool
+    ensures { IsTrue result ↔ IsDeclared parts.now }
+{
+    parts
+        .calls
+        .as_slice()
+        .iter()
+        .all(|calls| are_on(calls, parts))
+}
 
-    fn keep_tickets(&self) -> bool
-        ensures { IsTrue result ↔ KeepsTickets self.now }
-    {
-        self.calls
-            .as_slice()
-            .iter()
-            .all(|calls| are_tickets_kept(calls))
-    }
+fn keep_tickets(parts: &Parts) -> bool
+    ensures { IsTrue result ↔ KeepsTickets parts.now }
+{
+    parts
+        .calls
+        .as_slice()
+        .iter()
+        .all(|calls| are_tickets_kept(calls))
 }
 
 impl Scenario {
@@ -214,13 +167,13 @@ impl Scenario {
         ensures tickets { (result ≡ Err ScenarioRefused.Ticket)
             ↔ (IsWithinLimits parts × IsDeclared parts × (¬ KeepsTickets parts)) }
     {
-        if !parts.are_within_limits() {
+        if !are_within_limits(&parts) {
             return Err(ScenarioRefused::OutOfLimits);
         }
-        if !parts.are_declared() {
+        if !are_declared(&parts) {
             return Err(ScenarioRefused::Undeclared);
         }
-        if !parts.keep_tickets() {
+        if !keep_tickets(&parts) {
             return Err(ScenarioRefused::Ticket);
         }
         Ok(Scenario { parts })

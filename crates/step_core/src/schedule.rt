@@ -1,14 +1,14 @@
 //! A whole schedule, step after step.
 
 ghost use Rattle.std.specs.Prelude.{◌≡◌, IfOk, IfErr, OnOk};
-ghost use Rattle.step_core.specs.Run.{AllRun, start, reached, IsRefusedAt};
-ghost use Rattle.step_core.specs.Misused.{AllFairFrom, IsUnmisused};
+ghost use Rattle.step_table.specs.Run.{AllRun, start, reached, IsRefusedAt};
+ghost use Rattle.step_table.specs.Misused.{AllFairFrom, IsUnmisused};
 ghost use Rattle.step_core.specs.State.{run_of, ShowsLawful, RestsAtEnd};
 
-use crate::refusal::{RunRefused, StepRefused};
 use crate::scenario::Scenario;
 use crate::world::World;
 use std::alloc::Global;
+use step_table::{RunRefused, StepRefused};
 use waiters::SeatId;
 
 /// Runs the seats in the order of the schedule, from the start of the scenario. The world is that of the schedule, it

@@ -2,7 +2,7 @@
 
 ghost use Rattle.std.specs.Prelude.{◌≡◌, ◌<◌, ℕ, List, slice_get, IfSome};
 ghost use Rattle.waiters.specs.declared.wait.WaitId.{WaitId};
-ghost use Rattle.step_core.specs.Event.{waiter};
+ghost use Rattle.step_table.specs.Event.{waiter};
 
 use waiters::{SeatId, WaitId};
 

@@ -2,22 +2,21 @@
 
 ghost use Rattle.std.specs.Prelude.{◌≡◌, ◌<◌, ◌^◌, ℕ, [], length, map, IfOk};
 ghost use Rattle.std.specs.List.{range_with_len};
-ghost use Rattle.step_core.specs.Core.{first_core};
-ghost use Rattle.step_core.specs.Run.{layout};
-ghost use Rattle.step_core.specs.Group.{empty_word};
+ghost use Rattle.step_table.specs.Core.{first_core};
+ghost use Rattle.step_table.specs.Run.{layout};
+ghost use Rattle.step_table.specs.Group.{empty_word};
 ghost use Rattle.step_core.specs.ListStored.{first_moment, moment_of};
 ghost use Rattle.step_core.specs.State.{core_of, AreFirst, IsMachineFor};
 ghost use Rattle.step_core.specs.Stored.{IsStoredFor};
-ghost use Rattle.step_core.specs.declared.standing.Standing.TheVariants.{Rest};
+ghost use Rattle.step_table.specs.declared.standing.Standing.TheVariants.{Rest};
 
 use crate::group::EMPTY;
-use crate::group_word::GroupWord;
 use crate::machine::Machine;
 use crate::notify_list::NotifyList;
 use crate::scenario::Scenario;
 use crate::semaphores::Semaphores;
-use crate::standing::Standing;
 use std::alloc::{AllocError, Global};
+use step_table::{GroupWord, Standing};
 use waiters::NoMemory;
 
 /// The lists at their first tickets.

@@ -5,13 +5,11 @@ ghost use Rattle.step_core.specs.Stored.{hands_of, HasWord, HasRoom, HasSeat, Ma
 ghost use Rattle.step_core.specs.Stored.{HasRowsOf, row_event, row_finds, IsReady, HasRun, IsRowRefusedBy, refused_by};
 
 use crate::caller::Caller;
-use crate::entry::Entry;
-use crate::outcome::{Effect, Outcome};
+use crate::outcome::Outcome;
 use crate::ready::Ready;
-use crate::refusal::StepRefused;
 use crate::shared::Shared;
 use crate::sight::Sight;
-use crate::word::Word;
+use step_table::{Effect, Entry, StepRefused, Word};
 use waiters::SeatId;
 
 /// Why a row can't run whose event is of this word.
@@ -75,16 +73,6 @@ fn look(shared: &Shared, seat: SeatId, caller: &Caller) -> (Word, Option<Outcome
     let word = caller.word(seat, &sight);
     let found = shared.read(&word);
     (word, caller.outcome(seat, &sight, found))
-}
-
-/// Whether the condition of the row holds at which the seat stands. A seat at rest has none that does.
-pub(crate) fn can_run(shared: &Shared, seat: SeatId, caller: &Caller) -> bool
-    requires rows { HasRowsOf shared.now seat caller.now.place (slice_get (hands_of shared.now seat) 0) }
-    requires fits { row_finds seat caller.now shared.now (hands_of shared.now seat) + 2 ^ 32 < 2 ^ 64 }
-    ensures { result ≡ (row_event seat caller.now shared.now (hands_of shared.now seat)).can
-        (row_finds seat caller.now shared.now (hands_of shared.now seat)) }
-{
-    look(shared, seat, caller).1.is_some()
 }
 
 /// The row at which the seat stands, if it can run, or why it can't.

@@ -1,13 +1,10 @@
 ghost use Rattle.std.specs.Prelude.{◌≡◌};
 ghost use Rattle.step_core.specs.State.{entry_of};
 
-use crate::entry::Entry;
-use crate::group_id::GroupId;
-use crate::list_id::ListId;
 use crate::list_outcome::ListReady;
-use crate::list_place::ListEffect;
+use crate::outcome::entry_of;
 use crate::ready::Ready;
-use crate::standing::{After, GroupRow};
+use step_table::{After, Entry, GroupId, GroupRow, ListEffect, ListId};
 use waiters::SeatId;
 
 /// A row that can run, by the part of the machine that it is on.
@@ -25,7 +22,7 @@ impl Turn {
         ensures { result ≡ entry_of seat self.now }
     {
         match *self {
-            Turn::OnCounter(_, ready) => ready.outcome.effect.entry(),
+            Turn::OnCounter(_, ready) => entry_of(&ready.outcome.effect),
             Turn::OnList(list, ready) => match ready.outcome.effect {
                 ListEffect::HandsOut(_) => Some(Entry::Ticket(list, seat)),
                 ListEffect::Grants(upto) => Some(Entry::Grant(list, upto, seat)),

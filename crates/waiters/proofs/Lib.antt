@@ -4,3 +4,4 @@ pub mod CopyLemmas
 pub mod NameLemmas
 pub mod StepLemmas
 pub mod WalkLemmas
+pub mod WordLemmas

@@ -44,3 +44,8 @@ seats_of = map (λ wait. wait.id.seat)
 -- a buffer, with as many of these seats at its front as fit
 abbrev pub filled : List ℕ → List ℕ → List ℕ
 filled seats buffer = take (length buffer) seats ++ drop (length seats) buffer
+
+-- the seat and the ticket of each wait
+abbrev pub seats_and_tickets : List Wait → List ℕ
+seats_and_tickets [] = []
+seats_and_tickets (wait ∷ rest) = wait.id.seat ∷ wait.ticket ∷ seats_and_tickets rest

@@ -7,7 +7,7 @@ ghost use Rattle.explorer.specs.Phrases.{ReadsAs, IsNumber, IsKeyed, IsFlagged, 
 pub(crate) const DIGITS: usize = 10;
 
 /// The number that the text spells in at most `most` digits, without a leading zero.
-fn number(text: &str, most: usize) -> Option<u128>
+pub(crate) fn number(text: &str, most: usize) -> Option<u128>
     requires some { 0 < most }
     requires few { most ≤ 20 }
     ensures { ReadsAs (IsNumber most text.now) result }

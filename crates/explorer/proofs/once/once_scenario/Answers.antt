@@ -1,11 +1,11 @@
 use Rattle.std.proofs.Common.{◌≡◌, zero, suc, [], ◌∷◌, Result, Ok, Err, IsOk, All, false, refl, sym, subst, rules, arith}
 use Rattle.std.proofs.lemmas.List.Elements.{All-cons, All-nil}
-use Rattle.step_core.specs.declared.call.Call.{Call}
-use Rattle.step_core.specs.declared.call.Call.TheVariants.{Acquire, Release}
-use Rattle.step_core.specs.declared.scenario.Parts.{Parts}
-use Rattle.step_core.specs.declared.scenario.ScenarioRefused.{ScenarioRefused}
-use Rattle.step_core.specs.declared.scenario.ScenarioRefused.TheVariants.{OutOfLimits, Undeclared, Ticket}
-use Rattle.step_core.specs.Scenario.{IsWithinLimits, IsDeclared, KeepsTickets, AreTicketsKept, IsTicketCall, IsScript, IsOfFewUnits, IsCallOn}
+use Rattle.step_table.specs.declared.call.Call.{Call}
+use Rattle.step_table.specs.declared.call.Call.TheVariants.{Acquire, Release}
+use Rattle.step_table.specs.declared.parts.Parts.{Parts}
+use Rattle.step_table.specs.declared.refusal.ScenarioRefused.{ScenarioRefused}
+use Rattle.step_table.specs.declared.refusal.ScenarioRefused.TheVariants.{OutOfLimits, Undeclared, Ticket}
+use Rattle.step_table.specs.Scenario.{IsWithinLimits, IsDeclared, KeepsTickets, AreTicketsKept, IsTicketCall, IsScript, IsOfFewUnits, IsCallOn}
 use Rattle.explorer.specs.Once.{once_parts_of}
 use Rattle.explorer.proofs.once.once_scenario.Goals as goal
 

@@ -2,7 +2,7 @@ use Rattle.std.proofs.Common.{◌≡◌, ◌+◌, List, [], ◌∷◌, ◌++◌,
 use Rattle.std.proofs.lemmas.List.{map_push, length-map, nil_from_length}
 use Rattle.explorer.specs.declared.reader.line.Line.TheVariants as code
 use Rattle.std.proofs.lemmas.List.Sums.{fold_push}
-use Rattle.step_core.specs.declared.scenario.Parts.{Parts}
+use Rattle.step_table.specs.declared.parts.Parts.{Parts}
 use Rattle.explorer.specs.declared.request.Property.{Property}
 use Rattle.explorer.specs.Line.{Line}
 use Rattle.explorer.specs.Phrases.{line_of}

@@ -1,5 +1,5 @@
 use Rattle.std.proofs.Common.{◌<◌, ℕ, IfSome, slice_get, take}
-use Rattle.step_core.specs.Scenario.{IsTicketCall}
+use Rattle.step_table.specs.Scenario.{IsTicketCall}
 use Rattle.step_core.proofs.scenario.are_tickets_kept.Given as goal
 
 abbrev pub invariant-loop-i : goal.invariant-loop-i

@@ -1,5 +1,5 @@
 use Rattle.std.proofs.Common.{◌≡◌, drop}
-use Rattle.step_core.specs.Scenario.{holds_ticket, holding_after}
+use Rattle.step_table.specs.Scenario.{holds_ticket, holding_after}
 use Rattle.step_core.proofs.scenario.holds_ticket.Given as goal
 
 abbrev pub invariant-loop-call : goal.invariant-loop-call

@@ -1,8 +1,8 @@
 use Rattle.std.proofs.Common.{subst, sym}
-use Rattle.step_core.specs.declared.entry.Entry.{Entry}
-use Rattle.step_core.specs.declared.entry.Entry.TheVariants.{Leave}
-use Rattle.step_core.specs.declared.outcome.Effect.TheVariants.{Tells}
-use Rattle.step_core.specs.World.{listed}
+use Rattle.step_table.specs.declared.entry.Entry.{Entry}
+use Rattle.step_table.specs.declared.entry.Entry.TheVariants.{Leave}
+use Rattle.step_table.specs.declared.effect.Effect.TheVariants.{Tells}
+use Rattle.step_table.specs.World.{listed}
 use Rattle.step_core.specs.Stored.{Makes}
 use Rattle.step_core.proofs.Storing.{lists_alone, then_lists, tells_alone}
 use Rattle.step_core.proofs.step.change.Goals as goal

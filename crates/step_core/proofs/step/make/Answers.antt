@@ -1,5 +1,5 @@
 use Rattle.std.proofs.Common.{subst, sym}
-use Rattle.step_core.specs.declared.outcome.Effect.{Effect}
+use Rattle.step_table.specs.declared.effect.Effect.{Effect}
 use Rattle.step_core.specs.Stored.{Makes}
 use Rattle.step_core.proofs.Storing.{moves_nothing}
 use Rattle.step_core.proofs.step.make.Goals as goal

@@ -1,7 +1,7 @@
 use Rattle.std.proofs.Common.{rules, ◌≡◌, Some}
 use Rattle.waiters.specs.declared.wait.WaitId.{WaitId}
 use Rattle.explorer.specs.declared.answer.Woken.TheVariants.{One}
-use Rattle.step_core.specs.declared.phase.Phase.TheVariants.{Ended}
+use Rattle.step_table.specs.declared.phase.Phase.TheVariants.{Ended}
 use Rattle.explorer.proofs.seen.Seen.woken.Goals as goal
 
 one_to_some : (a b : WaitId) → One a ≡ One b → Some a ≡ Some b

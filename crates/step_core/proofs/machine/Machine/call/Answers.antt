@@ -1,8 +1,8 @@
 use Rattle.std.proofs.Common.{rules, subst, ℤ, FitsSigned, w32}
 use Rattle.std.proofs.lemmas.Int.{to_z-of_z}
-use Rattle.step_core.specs.declared.standing.GroupRow.TheVariants.{G1}
-use Rattle.step_core.specs.declared.standing.Standing.TheVariants.{AtGroup}
-use Rattle.step_core.specs.CoreSteps.{stands}
+use Rattle.step_table.specs.declared.standing.GroupRow.TheVariants.{G1}
+use Rattle.step_table.specs.declared.standing.Standing.TheVariants.{AtGroup}
+use Rattle.step_table.specs.CoreSteps.{stands}
 use Rattle.step_core.specs.State.{Becomes}
 use Rattle.step_core.proofs.machine.Machine.call.Goals as goal
 

@@ -1,5 +1,5 @@
-use Rattle.step_core.specs.ListWorld.{ListWorld}
-use Rattle.step_core.specs.ListSteps.{moved}
+use Rattle.step_table.specs.ListWorld.{ListWorld}
+use Rattle.step_table.specs.ListSteps.{moved}
 use Rattle.step_core.proofs.Changing.{list_changes_at}
 use Rattle.step_core.proofs.machine.Machine.move_on_list.Goals as goal
 

@@ -1,5 +1,5 @@
-use Rattle.step_core.specs.ListWorld.{ListWorld}
-use Rattle.step_core.specs.ListSteps.{waiting}
+use Rattle.step_table.specs.ListWorld.{ListWorld}
+use Rattle.step_table.specs.ListSteps.{waiting}
 use Rattle.step_core.proofs.Changing.{list_changes_at}
 use Rattle.step_core.proofs.machine.Machine.wait_with_ticket.Goals as goal
 

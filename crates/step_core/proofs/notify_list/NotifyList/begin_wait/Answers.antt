@@ -1,6 +1,6 @@
 use Rattle.std.proofs.Common.{refl, None}
-use Rattle.step_core.specs.declared.list_place.ListPlace.TheVariants.{Waiting}
-use Rattle.step_core.specs.declared.list_place.WaitRow.TheVariants.{W1}
+use Rattle.step_table.specs.declared.list_place.ListPlace.TheVariants.{Waiting}
+use Rattle.step_table.specs.declared.list_place.WaitRow.TheVariants.{W1}
 use Rattle.step_core.proofs.Noting.{Reads, record_kept, with_record, in_world, begun, not_begun}
 use Rattle.step_core.proofs.notify_list.NotifyList.begin_wait.Goals as goal
 

@@ -1,4 +1,4 @@
-use Rattle.step_core.specs.declared.list_place.ListEffect.TheVariants.{Gives}
+use Rattle.step_table.specs.declared.list_place.ListEffect.TheVariants.{Gives}
 use Rattle.step_core.proofs.Noting.{Reads, effected, given, given_kept}
 use Rattle.step_core.proofs.notify_list.NotifyList.give.Goals as goal
 

@@ -1,5 +1,5 @@
 use Rattle.std.proofs.Common.{refl, Some, ◌+◌}
-use Rattle.step_core.specs.declared.list_place.ListEffect.TheVariants.{HandsOut}
+use Rattle.step_table.specs.declared.list_place.ListEffect.TheVariants.{HandsOut}
 use Rattle.step_core.proofs.Noting.{Reads, effected, with_record, record_kept, put_ticket}
 use Rattle.step_core.proofs.notify_list.NotifyList.hand_out.Goals as goal
 

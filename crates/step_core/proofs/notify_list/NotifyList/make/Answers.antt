@@ -1,5 +1,5 @@
 use Rattle.std.proofs.Common.{ap, sym, subst, ◌∙◌}
-use Rattle.step_core.specs.declared.list_place.ListEffect.TheVariants.{Grants, Queues}
+use Rattle.step_table.specs.declared.list_place.ListEffect.TheVariants.{Grants, Queues}
 use Rattle.step_core.specs.ListStored.{Allows, made, moment_of}
 use Rattle.step_core.proofs.Noting.{changed, made_nothing, grants_made, queue_made, queue_made_kept, fits}
 use Rattle.step_core.proofs.notify_list.NotifyList.make.Goals as goal

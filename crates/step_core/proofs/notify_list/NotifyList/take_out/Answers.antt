@@ -1,5 +1,5 @@
 use Rattle.std.proofs.Common.{sym, ◌∙◌}
-use Rattle.step_core.specs.declared.list_place.ListEffect.TheVariants.{TakesOut}
+use Rattle.step_table.specs.declared.list_place.ListEffect.TheVariants.{TakesOut}
 use Rattle.step_core.proofs.Noting.{Reads, effected, one_out, one_out_kept, none_out}
 use Rattle.step_core.proofs.notify_list.NotifyList.take_out.Goals as goal
 

@@ -1,5 +1,5 @@
 use Rattle.std.proofs.Common.{◌≡◌, ℕ, ◌<◌, ◌^◌, List, ap, ◌∙◌, slice_index, subst, rules}
-use Rattle.step_core.specs.declared.scenario.Parts.{Parts}
+use Rattle.step_table.specs.declared.parts.Parts.{Parts}
 use Rattle.step_core.proofs.scenario.Scenario.starts.Goals as goal
 
 pub returns-clause-fits : goal.returns-clause-fits

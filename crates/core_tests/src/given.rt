@@ -1,0 +1,122 @@
+//! What the tests start from: calls, seats, scenarios and schedules.
+//!
+//! What answers want of memory is made once more.
+
+ghost use Rattle.std.specs.Prelude.{◌≡◌};
+
+use std::alloc::{AllocError, Global};
+use std::test::Fail;
+use step_core::{Call, Items, Parts, Scenario};
+use waiters::{CounterId, SeatId, WaitId};
+
+pub(crate) const COUNTER: u32 = 0;
+
+pub(crate) fn acquire() -> Call {
+    Call::Acquire(CounterId::new(COUNTER), false)
+}
+
+pub(crate) fn release() -> Call {
+    Call::Release(CounterId::new(COUNTER), false)
+}
+
+pub(crate) fn release_many(counter: u32, units: u32) -> Call {
+    Call::ReleaseMany(CounterId::new(counter), units)
+}
+
+pub(crate) fn seat(number: u16) -> SeatId
+    ensures { result ≡ number }
+{
+    SeatId::new(number)
+}
+
+pub(crate) fn wait(number: u16, turn: u64) -> WaitId {
+    WaitId {
+        seat: seat(number),
+        turn,
+    }
+}
+
+pub(crate) fn script(alloc: Global, call: &Call, times: usize) -> Result<Items<Call>, AllocError> {
+    let mut calls = Vec::new(alloc);
+    for _ in 0..times {
+        calls.push(*call)?;
+    }
+    Ok(Items::new(calls))
+}
+
+/// One root, one counter at 0, and seats of one call each.
+fn parts(alloc: Global, calls: &[Call]) -> Result<Parts, AllocError> {
+    let mut scripts = Vec::new(alloc);
+    for call in calls {
+        scripts.push(script(alloc, call, 1)?)?;
+    }
+    Ok(Parts {
+        roots: 1,
+        starts: Items::new(vec![in alloc; 0]?),
+        firsts: Items::new(Vec::new(alloc)),
+        groups: 0,
+        calls: Items::new(scripts),
+    })
+}
+
+pub(crate) fn scenario(alloc: Global, calls: &[Call]) -> Result<Scenario, Fail> {
+    let made = match parts(alloc, calls) {
+        Ok(made) => made,
+        Err(_) => parts(alloc, calls)?,
+    };
+    Ok(Scenario::of(made).ok().ok_or("the parts were refused")?)
+}
+
+/// One root, counters at these numbers, lists at these first tickets, so many groups, and the calls of each seat.
+fn parts_of(
+    alloc: Global,
+    starts: &[u32],
+    firsts: &[u64],
+    groups: u32,
+    calls: &[&[Call]],
+) -> Result<Parts, AllocError> {
+    let mut scripts = Vec::new(alloc);
+    for script in calls {
+        scripts.push(Items::new(script.to_vec(alloc)?))?;
+    }
+    Ok(Parts {
+        roots: 1,
+        starts: Items::new(starts.to_vec(alloc)?),
+        firsts: Items::new(firsts.to_vec(alloc)?),
+        groups,
+        calls: Items::new(scripts),
+    })
+}
+
+pub(crate) fn scenario_of_parts(
+    alloc: Global,
+    starts: &[u32],
+    firsts: &[u64],
+    groups: u32,
+    calls: &[&[Call]],
+) -> Result<Scenario, Fail> {
+    let made = match parts_of(alloc, starts, firsts, groups, calls) {
+        Ok(made) => made,
+        Err(_) => parts_of(alloc, starts, firsts, groups, calls)?,
+    };
+    Ok(Scenario::of(made).ok().ok_or("the parts were refused")?)
+}
+
+fn seats(alloc: Global, schedule: &[u16]) -> Result<Vec<SeatId>, AllocError> {
+    schedule.iter().map(|number| seat(*number)).collect(alloc)
+}
+
+pub(crate) fn seats_again(alloc: Global, schedule: &[u16]) -> Result<Vec<SeatId>, AllocError> {
+    match seats(alloc, schedule) {
+        Ok(seats) => Ok(seats),
+        Err(_) => seats(alloc, schedule),
+    }
+}
+
+/// Seats 0 and 1 sleep, seat 2 hands its unit to the first of them.
+pub(crate) const HANDOFF: [u16; 20] = [0, 0, 0, 0, 0, 1, 1, 1, 1, 1, 2, 2, 2, 2, 2, 2, 2, 2, 2, 0];
+
+pub(crate) fn handoff_scenario(alloc: Global) -> Result<Scenario, Fail> {
+    let release = Call::Release(CounterId::new(COUNTER), true);
+    scenario(alloc, &[acquire(), acquire(), release])
+}

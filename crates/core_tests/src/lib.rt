@@ -1,0 +1,42 @@
+//! The tests of `step_core`, which use it from outside, as a crate above it does.
+//!
+//! A crate with tests is proved with them and without, and `step_core` is large: so its tests stand here.
+//!
+//! A call that answers want of memory is made once more. So each test passes whichever single allocation is refused
+//! (`rt try --test --fail-alloc N`, for each N), and shows that the refused call changed nothing.
+#![tactic(auto)]
+
+#[cfg(test)]
+mod again;
+#[cfg(test)]
+mod copy_tests;
+#[cfg(test)]
+mod given;
+#[cfg(test)]
+mod group_tests;
+#[cfg(test)]
+mod limit_tests;
+#[cfg(test)]
+mod list_tests;
+#[cfg(test)]
+mod memory_tests;
+#[cfg(test)]
+mod moment_copy_tests;
+#[cfg(test)]
+mod moment_shown;
+#[cfg(test)]
+mod moment_tests;
+#[cfg(test)]
+mod refusal_tests;
+#[cfg(test)]
+mod schedule_tests;
+#[cfg(test)]
+mod shown;
+#[cfg(test)]
+mod story;
+#[cfg(test)]
+mod text_tests;
+#[cfg(test)]
+mod ticket_tests;
+#[cfg(test)]
+mod turn_tests;

@@ -1,0 +1,84 @@
+//! What is printed. A call that answers want of memory is made once more.
+
+use std::alloc::Global;
+use std::process::Abort;
+use std::test::Fail;
+use step_core::{GroupId, ListId, RunRefused, ScenarioRefused, StepRefused};
+
+fn step_text(alloc: Global, refused: StepRefused) -> Result<String, Fail> {
+    match format!(in alloc; "{refused}") {
+        Ok(text) => Ok(text),
+        Err(_) => Ok(format!(in alloc; "{refused}")?),
+    }
+}
+
+fn scenario_text(alloc: Global, refused: ScenarioRefused) -> Result<String, Fail> {
+    match format!(in alloc; "{refused}") {
+        Ok(text) => Ok(text),
+        Err(_) => Ok(format!(in alloc; "{refused}")?),
+    }
+}
+
+fn run_text(alloc: Global, at: usize) -> Result<String, Fail> {
+    let cause = StepRefused::Asleep;
+    let refused = RunRefused { at, cause };
+    match format!(in alloc; "{refused}") {
+        Ok(text) => Ok(text),
+        Err(_) => Ok(format!(in alloc; "{refused}")?),
+    }
+}
+
+fn names(alloc: Global, list: ListId, group: GroupId) -> Result<String, Fail> {
+    match format!(in alloc; "{list} {group}") {
+        Ok(text) => Ok(text),
+        Err(_) => Ok(format!(in alloc; "{list} {group}")?),
+    }
+}
+
+fn is(rt: &impl Abort, text: &str, expected: &str) {
+    assert_eq!(rt; text, expected);
+}
+
+#[test]
+fn refusals_of_steps_are_written(rt: HostRuntime) -> Result<(), Fail> {
+    let texts = [
+        (StepRefused::NoSuchSeat, "no such seat"),
+        (StepRefused::SeatEnded, "the seat has ended"),
+        (StepRefused::LockHeld, "the lock is held"),
+        (StepRefused::Asleep, "the seat is asleep"),
+        (StepRefused::SeatFailed, "the seat has failed"),
+        (StepRefused::NoMemory, "no memory"),
+    ];
+    for (refused, text) in texts {
+        is(&rt, &step_text(rt.alloc(), refused)?, text);
+    }
+    Ok(())
+}
+
+#[test]
+fn other_refusals_are_written(rt: HostRuntime) -> Result<(), Fail> {
+    let texts = [
+        (ScenarioRefused::OutOfLimits, "out of limits"),
+        (ScenarioRefused::Undeclared, "undeclared"),
+        (ScenarioRefused::Ticket, "ticket"),
+    ];
+    for (refused, text) in texts {
+        is(&rt, &scenario_text(rt.alloc(), refused)?, text);
+    }
+    is(
+        &rt,
+        &run_text(rt.alloc(), 15)?,
+        "step 15: the seat is asleep",
+    );
+    Ok(())
+}
+
+#[test]
+fn names_are_written(rt: HostRuntime) -> Result<(), Fail> {
+    is(
+        &rt,
+        &names(rt.alloc(), ListId::new(4), GroupId::new(15))?,
+        "4 15",
+    );
+    Ok(())
+}

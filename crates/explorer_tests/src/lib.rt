@@ -1,0 +1,20 @@
+//! The tests of `explorer`, which use it from outside, as the program does.
+//!
+//! A crate with tests is proved with them and without, and `explorer` is large: so its tests stand here.
+//!
+//! A read that answers want of memory is made once more. So each test of the reader passes whichever single allocation
+//! is refused (`rt try --test --fail-alloc N`, for each N), and fails where want of memory is answered without a refusal.
+#![tactic(auto)]
+
+#[cfg(test)]
+mod fault_tests;
+#[cfg(test)]
+mod limit_tests;
+#[cfg(test)]
+mod program_tests;
+#[cfg(test)]
+mod reading;
+#[cfg(test)]
+mod replay_tests;
+#[cfg(test)]
+mod request_tests;

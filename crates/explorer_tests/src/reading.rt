@@ -1,0 +1,23 @@
+//! Reads that are made once more where memory was refused.
+
+use explorer::{Cause, ReadFault, Request, read_scenario};
+use std::alloc::Global;
+
+/// One counter, one acquire, and the property.
+pub(crate) const ONE_ACQUIRE: &[u8] = b"counter 0\nseat 0: acquire 0\nsettled\n";
+
+pub(crate) fn read(alloc: Global, text: &[u8]) -> Result<Request, ReadFault> {
+    match read_scenario(alloc, text) {
+        Err(
+            ReadFault {
+                cause: Cause::NoMemory,
+                ..
+            },
+        ) => read_scenario(alloc, text),
+        outcome => outcome,
+    }
+}
+
+pub(crate) fn fault_of(alloc: Global, text: &[u8]) -> Option<ReadFault> {
+    read(alloc, text).err()
+}

@@ -1,0 +1,102 @@
+-- What is asked for of a seat whose run is orderly, by the table or by a change of it, and what the machine answers for it.
+use Rattle.std.proofs.Common.{◌≡◌, ◌≢◌, ℕ, zero, suc, ◌+◌, ◌^◌, ◌<◌, ◌≤◌, Bool, true, false, List, [], Option, Some, None, Result, Ok, Err, IfOk, IfErr, OnOk, nat_lt, cond, length, refl, sym, ap, ◌∙◌, subst, arith, ltb-true}
+use Rattle.std.proofs.lemmas.Bool.{lt-ltb, le-ltb}
+use Rattle.step_table.specs.declared.entry.Entry.{Entry}
+use Rattle.step_table.specs.declared.list_place.ListEffect.{ListEffect}
+use Rattle.step_table.specs.declared.list_place.ListEffect.TheVariants.{HandsOut, Grants as GrantsUpTo}
+use Rattle.step_table.specs.declared.list_place.ListPlace.{ListPlace}
+use Rattle.step_table.specs.declared.list_place.ListPlace.TheVariants as on_list
+use Rattle.step_table.specs.declared.effect.Effect.{Effect}
+use Rattle.step_table.specs.declared.effect.Effect.TheVariants.{Nothing, Tells, Grants}
+use Rattle.step_table.specs.declared.place.Place.{Place}
+use Rattle.step_table.specs.declared.place.Place.TheVariants.{Releasing}
+use Rattle.step_table.specs.declared.place.Place.TheVariants as on_counter
+use Rattle.step_table.specs.declared.refusal.StepRefused.{StepRefused}
+use Rattle.step_table.specs.declared.refusal.StepRefused.TheVariants.{NoSuchSeat}
+use Rattle.step_table.specs.declared.parts.Parts.{Parts}
+use Rattle.step_table.specs.declared.standing.After.{After}
+use Rattle.step_table.specs.declared.standing.After.TheVariants.{NextCall, LooksAgain, Releases}
+use Rattle.step_table.specs.declared.standing.GroupNext.{GroupNext}
+use Rattle.step_table.specs.declared.standing.GroupNext.TheVariants as group
+use Rattle.step_table.specs.declared.standing.Standing.{Standing}
+use Rattle.step_table.specs.declared.standing.Standing.TheVariants.{Rest, AtCounter, AtList, AtGroup, Failed}
+use Rattle.step_core.specs.declared.turn.Turn.{Turn}
+use Rattle.step_core.specs.declared.turn.Turn.TheVariants.{OnCounter, OnList, OnGroup}
+use Rattle.step_table.specs.World.{Seat, journal_after}
+use Rattle.step_table.specs.Steps.{event_of, finds}
+use Rattle.step_core.specs.Stored.{each, idle, seat_of, IsStoredFor}
+use Rattle.step_core.specs.Stored as sema
+use Rattle.step_table.specs.Core.{CoreLayout, Core, journal_after_list}
+use Rattle.step_table.specs.CoreSteps.{releases, goes_on, after_counter, after_list, after_group, row_of_standing, core_turned}
+use Rattle.step_table.specs.CoreLaw.{IsCallBefore, IsStanding}
+use Rattle.step_table.specs.Run.{Run, layout, continued, stepped, refusal_of, refusal}
+use Rattle.step_table.specs.RunInvariant.{IsSoundRun}
+use Rattle.step_table.specs.declared.variant.Variant.{Variant}
+use Rattle.step_core.specs.BentStored.{HasBentPast}
+use Rattle.step_core.specs.State.{Machine, Moment, State, IsMachineFor, Becomes, HasBegun, HasSeat, HasSeatOn, HasSeatAt, HasGroup, MayGoOn, MayGo, AsksFor, IsRefusal, IsReady, IsReadyAt, IsSound, Steps, HasPast, core_of, run_with, run_of, run_at, telling, entry_of, list_entry, and_then}
+use Rattle.step_core.proofs.Ranges.{asks_for, begun_small}
+
+-- a seat of a moment
+module _ (v : Variant) (m : Moment) (past : HasBentPast v m) (i : ℕ) (there : i < length m.parts.calls) where
+  abbrev behind : State
+  behind = telling m past.0
+
+  pub has_seat : HasSeat m.machine i
+  has_seat = (let h = there in let a = past.1.machine.callers in omega arith, let h = there in let a = past.1.machine.standing in omega arith)
+
+  pub asks : AsksFor m.machine i (each Rest m.machine.standing i)
+  asks = asks_for v behind past.1 i there
+
+  seat_on : (doing : Standing) → IsStanding (layout m.parts) (run_of behind).core i doing → HasSeatOn m.machine i doing
+  seat_on (AtList l) is = (
+    let a = past.1.machine.lists in let h = is.2 in omega arith,
+    let h = there in let a = past.1.machine.seats l is.2 in omega arith,
+  )
+  seat_on _ is = tt
+
+  pub has_seat_at : HasSeatAt m.machine i
+  has_seat_at = (has_seat, seat_on (each Rest m.machine.standing i) (past.1.run.core.standing i))
+
+  has_group : (g : ℕ) → g < m.parts.groups → HasGroup m.machine g
+  has_group g within =
+      let own = past.1.stored.own_is in
+      let counters = past.1.scenario.limits.counters in
+      let groups = past.1.scenario.limits.groups in omega arith
+
+  may_go_on : (after : After) (place : Place) → IsCallBefore (layout m.parts) after place → MayGoOn m.machine after
+  may_go_on NextCall place is = tt
+  may_go_on (LooksAgain g) place is = tt
+  may_go_on (Releases g more) (Releasing r row) is = has_group g is.2
+  may_go_on (Releases g more) _ is = absurd is
+
+  may_go_at : (doing : Standing) → IsStanding (layout m.parts) (run_of behind).core i doing → MayGo m.machine doing
+  may_go_at (AtCounter after) is = may_go_on after ((run_of behind).core.semaphores.seats i).place is.0
+  may_go_at (AtGroup g row) is = has_group g is.1
+  may_go_at _ is = tt
+
+  pub may_go : MayGo m.machine (each Rest m.machine.standing i)
+  may_go = may_go_at (each Rest m.machine.standing i) (past.1.run.core.standing i)
+
+  pub room_next : each 0 m.begun i + 1 < 2 ^ 64
+  room_next = begun_small v behind past.1 i
+
+  -- what the machine answers is what the run says
+  says : (cause : Option StepRefused) → IsRefusal m.machine i cause → refusal m.parts (run_at m) i ≡ cause
+  says cause is =
+      ap (λ b. cond b (refusal_of (layout m.parts) (run_at m).core i ((run_at m).core.standing i)) (Some NoSuchSeat))
+      (lt-ltb i (length m.parts.calls) there)
+      ∙ is (layout m.parts) past.1.machine []
+
+  module _ (shows : Moment) (same : m ≡ shows) where
+    said : (cause : Option StepRefused) → IsRefusal m.machine i cause → refusal shows.parts (run_at shows) i ≡ cause
+    said cause is = subst (λ (n : Moment). refusal n.parts (run_at n) i ≡ cause) same (says cause is)
+
+    pub enabled_answer : (answer : Result Turn StepRefused) → IfOk answer (λ turn. IsRefusal m.machine i None)
+        → OnOk answer (refusal shows.parts (run_at shows) i ≡ None)
+    enabled_answer (Ok turn) is = said None is
+    enabled_answer (Err cause) is = tt
+
+    pub refused_answer : (answer : Result Turn StepRefused) → IfErr answer (λ cause. IsRefusal m.machine i (Some cause))
+        → IfErr answer (λ cause. refusal shows.parts (run_at shows) i ≡ Some cause)
+    refused_answer (Ok turn) is = tt
+    refused_answer (Err cause) is = said (Some cause) is

@@ -1,0 +1,8 @@
+use Rattle.std.proofs.Common.{◌≡◌, ◌++◌, ◌+◌, [], ◌∷◌, length}
+use Rattle.step_table.specs.Group.{empty_word}
+use Rattle.step_core.specs.Key.{joined, group_words}
+use Rattle.step_core.specs.Stored.{each}
+use Rattle.step_core.proofs.machine.Machine.write_groups.Given as goal
+
+abbrev pub invariant-loop-word : goal.invariant-loop-word
+invariant-loop-word l = l.key.items ≡ l.fn.key.items ++ joined l.word-index (λ g. group_words (each empty_word l.fn.self.groups g))

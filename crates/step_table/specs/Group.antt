@@ -1,0 +1,45 @@
+-- The rows of a wait group.
+use Rattle.std.specs.Prelude.{◌+◌, ◌==◌, ◌&&◌, ◌||◌, not, if◌then◌else◌, Bool, ℤ, pos, int_lt}
+use Rattle.std.specs.Int.{int_wrapping_add, w32}
+use Rattle.std.specs.Ordering.{int_eq}
+use Rattle.step_table.specs.declared.group_word.GroupWord.{GroupWord}
+use Rattle.step_table.specs.declared.misuse.Misuse.TheVariants.{Negative, AddWithWait, Reused}
+use Rattle.step_table.specs.declared.standing.GroupRow.{GroupRow}
+use Rattle.step_table.specs.declared.standing.GroupRow.TheVariants.{G1, G2, G3, V1, V2, V3}
+use Rattle.step_table.specs.declared.standing.GroupNext.{GroupNext}
+use Rattle.step_table.specs.declared.standing.GroupNext.TheVariants.{Ends, Goes, Fails, Acquires, Releases}
+
+-- nobody is counted, and nobody waits
+abbrev pub empty_word : GroupWord
+empty_word = record { counter = pos 0; waits = 0 }
+
+abbrev pub same_word : GroupWord → GroupWord → Bool
+same_word a b = int_eq a.counter b.counter && (a.waits == b.waits)
+
+-- the word with d added to its high half
+abbrev pub plus : GroupWord → ℤ → GroupWord
+plus w d = record w { counter = int_wrapping_add w32 w.counter d }
+
+-- the word plus 1: one more wait
+abbrev pub one_more : GroupWord → GroupWord
+one_more w =
+    if w.waits == 4294967295
+    then record { counter = int_wrapping_add w32 w.counter (pos 1); waits = 0 }
+    else record w { waits = w.waits + 1 }
+
+-- what follows an add of d that left this word
+abbrev pub after_add : ℤ → GroupWord → GroupNext
+after_add d w =
+    if int_lt w.counter (pos 0) then Fails Negative
+    else if not (w.waits == 0) && int_lt (pos 0) d && int_eq w.counter d then Fails AddWithWait
+    else if int_lt (pos 0) w.counter || (w.waits == 0) then Ends
+    else Goes (G2 w)
+
+-- what a row leaves of the word that it found, and what follows
+abbrev pub group_row : GroupRow → GroupWord → GroupWord × GroupNext
+group_row (G1 d) w = (plus w d, after_add d (plus w d))
+group_row (G2 seen) w = (w, if same_word seen w then Goes (G3 seen) else Fails AddWithWait)
+group_row (G3 seen) w = (empty_word, Releases seen.waits)
+group_row V1 w = (w, if int_eq w.counter (pos 0) then Ends else Goes (V2 w))
+group_row (V2 seen) w = if same_word seen w then (one_more w, Acquires) else (w, Goes V1)
+group_row V3 w = (w, if same_word w empty_word then Ends else Fails Reused)

@@ -1,0 +1,104 @@
+-- Steps of the world of a notify list: rows of its table, and what a caller may begin or end between them.
+use Rattle.std.specs.Prelude.{◌≡◌, ℕ, ◌<◌, Bool, IsTrue, Option, Some, None}
+use Rattle.step_table.specs.declared.list_place.AllRow.TheVariants.{L1}
+use Rattle.step_table.specs.declared.list_place.ListEffect.{ListEffect}
+use Rattle.step_table.specs.declared.list_place.ListPlace.{ListPlace}
+use Rattle.step_table.specs.declared.list_place.ListPlace.TheVariants.{Rest, Adding, Waiting, NotifyingOne, NotifyingAll}
+use Rattle.step_table.specs.declared.list_place.OneRow.TheVariants.{O1, O2, O3}
+use Rattle.step_table.specs.declared.list_place.Ticket.{Ticket}
+use Rattle.step_table.specs.declared.list_place.WaitRow.TheVariants.{W1}
+use Rattle.step_table.specs.World.{put}
+use Rattle.step_table.specs.ListWorld.{ListWords, ListSeat, ListWorld, found, written, numbers_after, queue_after, hand_after, ticket_after, late_after, journal_after, first_list}
+use Rattle.step_table.specs.ListEvent.{ListNext, ListEvent}
+use Rattle.step_table.specs.ListTable.{list_table}
+
+-- the words, numbers and waits after an event that found v
+abbrev pub words_after : ListWords → ListEvent → ℕ → ListWords
+words_after g e v =
+    record (written g e.word (e.becomes v)) {
+      numbers = numbers_after (e.leads v).1 g.numbers;
+      queue = queue_after (e.leads v).1 g.queue;
+    }
+
+-- a seat after this of its events
+abbrev pub seat_after : ListWords → ListNext → ListSeat → ListSeat
+seat_after g next seat =
+    record {
+      place = next.0;
+      ticket = ticket_after next.1 seat.ticket;
+      hand = hand_after next.1 g.queue seat.hand;
+      late = late_after seat.place g.numbers.granted seat.late;
+    }
+
+-- the world after this event of seat i, which found v
+abbrev pub after_event : ListWorld → ℕ → ListEvent → ℕ → ListWorld
+after_event s i e v =
+    record {
+      words = words_after s.words e v;
+      seats = put s.seats i (seat_after s.words (e.leads v) (s.seats i));
+      journal = journal_after i (e.leads v).1 s.journal;
+    }
+
+-- the event of seat i, and what it finds
+abbrev pub event_of : ListWorld → ℕ → ListEvent
+event_of s i = list_table i (s.seats i) s.words
+
+abbrev pub finds : ListWorld → ℕ → ℕ
+finds s i = found s.words (event_of s i).word
+
+-- what its row would do beside its word
+abbrev pub effect_of : ListWorld → ℕ → ListEffect
+effect_of s i = ((event_of s i).leads (finds s i)).1
+
+-- whether seat i can run its row
+abbrev pub can_turn : ListWorld → ℕ → Bool
+can_turn s i = (event_of s i).can (finds s i)
+
+-- the world after the row of seat i
+abbrev pub turned : ListWorld → ℕ → ListWorld
+turned s i = after_event s i (event_of s i) (finds s i)
+
+-- seat i runs its row
+pub record ListTurn (s : ListWorld) (i : ℕ) (t : ListWorld) : Type 0 where
+  pub can : IsTrue (can_turn s i)
+  pub is : t ≡ turned s i
+
+-- the seat i at another place
+abbrev pub moved : ListWorld → ℕ → ListPlace → ListWorld
+moved s i place = record s { seats = put s.seats i (record (s.seats i) { place = place }) }
+
+-- the seat i, which waits with the ticket that it holds
+abbrev pub with_ticket : ListSeat → Option Ticket → ListSeat
+with_ticket seat None = seat
+with_ticket seat (Some t) = record seat { place = Waiting t W1; ticket = None }
+
+abbrev pub waiting : ListWorld → ℕ → ListWorld
+waiting s i = record s { seats = put s.seats i (with_ticket (s.seats i) (s.seats i).ticket) }
+
+-- what a caller may choose: to notify one or all; and to end after the first look of a notification of one, or after its second
+pub data ListChoice : ListPlace → ListPlace → Type 0 where
+  notify_one : ListChoice Rest (NotifyingOne 0 O1)
+  notify_all : ListChoice Rest (NotifyingAll 0 L1)
+  end_first : (h a : ℕ) → ListChoice (NotifyingOne h (O2 a)) Rest
+  end_second : (h : ℕ) → ListChoice (NotifyingOne h O3) Rest
+
+-- one step of seat i: a row, or a choice of its caller
+pub data ListStep (s : ListWorld) (i : ℕ) : ListWorld → Type 0 where
+  turn : {t : ListWorld} → ListTurn s i t → ListStep s i t
+  choose : {place : ListPlace} → ListChoice (s.seats i).place place → ListStep s i (moved s i place)
+  -- a seat at rest that holds no ticket may take one, and one that holds one may wait with it
+  add : (s.seats i).place ≡ Rest → (s.seats i).ticket ≡ None → ListStep s i (moved s i Adding)
+  wait : {t : Ticket} → (s.seats i).place ≡ Rest → (s.seats i).ticket ≡ Some t → ListStep s i (waiting s i)
+
+-- the worlds to which steps of the seats below `seats` lead from s
+pub data Leads (seats : ℕ) (s : ListWorld) : ListWorld → Type 0 where
+  none : Leads seats s s
+  more : {t u : ListWorld} (i : ℕ) → i < seats → Leads seats s t → ListStep t i u → Leads seats s u
+
+-- the worlds to which they lead from the first
+abbrev pub IsListReached : ℕ → ℕ → ListWorld → Type 0
+IsListReached first seats s = Leads seats (first_list first) s
+
+-- no seat can run a row
+abbrev pub IsListEnd : ℕ → ListWorld → Type 0
+IsListEnd seats s = (i : ℕ) → i < seats → IsTrue (can_turn s i) → ⊥

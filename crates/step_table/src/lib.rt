@@ -1,0 +1,46 @@
+//! The step table of the sleeping layer, as definitions and types, and its laws.
+//!
+//! A row is one event of one word. The rows are those of Go's `semacquire1`, `semrelease1`, `notifyList` and `WaitGroup`,
+//! and those of a release of many units at once. What is promised of them holds for every interleaving, and is carried by
+//! the laws: nothing here runs.
+#![tactic(auto)]
+
+mod call;
+mod effect;
+mod entry;
+mod group_id;
+mod group_word;
+mod items;
+mod laws;
+mod list_id;
+mod list_place;
+mod misuse;
+mod parts;
+mod phase;
+mod place;
+mod refusal;
+mod row;
+mod standing;
+mod ticket_word;
+mod variant;
+mod word;
+
+pub use call::Call;
+pub use effect::Effect;
+pub use entry::Entry;
+pub use group_id::GroupId;
+pub use group_word::GroupWord;
+pub use items::Items;
+pub use laws::{law_of_the_alike, law_of_the_core, law_of_the_lists, law_of_the_rows};
+pub use list_id::ListId;
+pub use list_place::{AllRow, ListEffect, ListPlace, ListWord, OneRow, Reach, Ticket, WaitRow};
+pub use misuse::Misuse;
+pub use parts::Parts;
+pub use phase::Phase;
+pub use place::{Acquire, AcquireRow, ManyRow, Place, Release, ReleaseMany, ReleaseRow};
+pub use refusal::{RunRefused, ScenarioRefused, StepRefused};
+pub use row::Row;
+pub use standing::{After, GroupNext, GroupRow, Standing};
+pub use ticket_word::{less, minus, next_word};
+pub use variant::Variant;
+pub use word::Word;

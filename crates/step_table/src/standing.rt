@@ -1,0 +1,77 @@
+ghost use Rattle.std.specs.Prelude.{◌≡◌};
+ghost use Rattle.step_table.specs.Row.{group_row_name};
+
+use crate::group_id::GroupId;
+use crate::group_word::GroupWord;
+use crate::list_id::ListId;
+use crate::misuse::Misuse;
+use crate::row::Row;
+
+/// A row of a wait group, with what the seat carries to it: an add what it adds, and each row after a first look the word
+/// that was read.
+#[derive(Clone, Copy, Debug, PartialEq, Eq, Drop)]
+pub enum GroupRow {
+    G1(i32),
+    G2(GroupWord),
+    G3(GroupWord),
+    V1,
+    V2(GroupWord),
+    V3,
+}
+
+/// What follows a row of a wait group.
+#[derive(Clone, Copy, Debug, PartialEq, Eq, Drop)]
+pub enum GroupNext {
+    /// The call ends.
+    Ends,
+    /// Another row.
+    Goes(GroupRow),
+    /// The call fails, and with it the seat.
+    Fails(Misuse),
+    /// An acquire on the group's semaphore.
+    Acquires,
+    /// So many releases on the group's semaphore, one after the other.
+    Releases(u32),
+}
+
+/// What comes when a call on a counter ends.
+#[derive(Clone, Copy, Debug, PartialEq, Eq, Drop)]
+pub enum After {
+    /// The seat's next call.
+    NextCall,
+    /// The last look of a wait of this group.
+    LooksAgain(GroupId),
+    /// So many more releases on this group's semaphore.
+    Releases(GroupId, u32),
+}
+
+/// What a seat is doing.
+#[derive(Clone, Copy, Debug, PartialEq, Eq, Drop)]
+pub enum Standing {
+    /// Nothing: it has ended its call, and has no other.
+    Rest,
+    /// A call on a counter, or on the semaphore of a group.
+    AtCounter(After),
+    /// A call on a notify list.
+    AtList(ListId),
+    /// A row of a wait group.
+    AtGroup(GroupId, GroupRow),
+    /// It stopped at a misuse of a wait group.
+    Failed(Misuse),
+}
+
+impl GroupRow {
+    /// The name of the row.
+    pub fn name(self) -> Row
+        ensures { result ≡ group_row_name self }
+    {
+        match self {
+            GroupRow::G1(_) => Row::G1,
+            GroupRow::G2(_) => Row::G2,
+            GroupRow::G3(_) => Row::G3,
+            GroupRow::V1 => Row::V1,
+            GroupRow::V2(_) => Row::V2,
+            GroupRow::V3 => Row::V3,
+        }
+    }
+}
