@@ -3,20 +3,22 @@
 //! `treap` and `sorted` take a wait out of a root at a counter drawn at random, and queue it there again; the size
 //! is how many counters have a wait, from 1 to 65535.
 //! `steps` runs four seats of 32 calls, which acquire and release so many counters in turn, from 1 to 16. `clones` copies
-//! a moment in the middle of such a run.
+//! a moment in the middle of such a run, and `copies` copies it and the start, in turn, over another moment.
+//! `explore NAME..` searches scenarios of the folder `data`, and tells what a world costs.
 #![tactic(auto)]
 
 ghost use Rattle.std.specs.Prelude.{◌<◌};
 
 mod moments;
 mod roots;
+mod searches;
 
 use anyhow::{Result, bail};
 use sema_root::{SortedRoot, TreapRoot};
 use std::alloc::Global;
-use std::env;
 use std::num::NonZeroU16;
 use std::time::Clock;
+use std::{env, fs};
 
 /// What an operation costs in this case, in nanoseconds.
 fn cost(clock: &impl Clock, alloc: Global, case: &str, size: u16) -> Result<u128>
@@ -33,6 +35,7 @@ fn cost(clock: &impl Clock, alloc: Global, case: &str, size: u16) -> Result<u128
         }
         "steps" => moments::step(clock, alloc, size),
         "clones" => moments::clone(clock, alloc, size),
+        "copies" => moments::copy(clock, alloc, size),
         _ => bail!("no case {case}"),
     }
 }
@@ -40,10 +43,18 @@ fn cost(clock: &impl Clock, alloc: Global, case: &str, size: u16) -> Result<u128
 fn main(rt: HostRuntime) -> Result<()> {
     let mut words = env::args(&rt)?.skip(1);
     let Some(case) = words.next() else {
-        println!(rt; "usage: bench treap|sorted|steps|clones COUNTERS..")?;
+        println!(rt;
+            "usage: bench treap|sorted|steps|clones|copies COUNTERS.. or bench explore NAMES.."
+        )?;
         return Ok(());
     };
     for word in words {
+        if case.as_str() == "explore" {
+            let text = fs::read_to_string(&rt, format!(in rt.alloc(); "{word}.txt")?)?;
+            let (cost, worlds) = searches::world(&rt, rt.alloc(), &word, &text)?;
+            println!(rt; "{case} {word} worlds={worlds} ns/world={cost}")?;
+            continue;
+        }
         let size = word.parse::<NonZeroU16>()?.get();
         let cost = cost(&rt, rt.alloc(), &case, size)?;
         println!(rt; "{case} {size} ns/op={cost}")?;

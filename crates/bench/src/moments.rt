@@ -111,3 +111,19 @@ pub fn clone(clock: &impl Clock, alloc: Global, counters: u16) -> Result<u128>
     }
     Ok(began.elapsed(clock)?.as_nanos() / u128::from(COPIES))
 }
+
+/// What a copy over another moment costs, in nanoseconds: of one in the middle of a run and of its start, in turn.
+pub fn copy(clock: &impl Clock, alloc: Global, counters: u16) -> Result<u128>
+    requires { 0 < counters }
+{
+    let scenario = scenario(alloc, counters)?;
+    let start = Moment::new(alloc, &scenario)?;
+    let moment = middle(alloc, &scenario)?;
+    let mut copy = start.try_clone(alloc)?;
+    let began = Instant::now(clock)?;
+    for _ in 0..COPIES / 2 {
+        copy = copy.try_clone_over(alloc, &moment)?;
+        copy = copy.try_clone_over(alloc, &start)?;
+    }
+    Ok(began.elapsed(clock)?.as_nanos() / u128::from(COPIES))
+}

@@ -2,7 +2,7 @@
 
 use crate::given::seat;
 use std::alloc::Global;
-use step_core::{Moment, RunRefused, Scenario, StepRefused, World, run};
+use step_core::{BentWorld, Moment, RunRefused, Scenario, StepRefused, Variant, World, run};
 use waiters::{NoMemory, SeatId};
 
 /// Runs the schedule, once more where memory was refused.
@@ -64,6 +64,29 @@ pub(crate) fn copied_moment<'s>(
 ) -> Result<Moment<'s>, NoMemory> {
     match moment.try_clone(alloc) {
         Err(NoMemory) => moment.try_clone(alloc),
+        answer => answer,
+    }
+}
+
+/// The start of the scenario by the changed table, asked for once more where memory was refused.
+pub(crate) fn bent_again<'s>(
+    alloc: Global,
+    scenario: &'s Scenario,
+    variant: Variant,
+) -> Result<BentWorld<'s>, NoMemory> {
+    match BentWorld::new(alloc, scenario, variant) {
+        Err(NoMemory) => BentWorld::new(alloc, scenario, variant),
+        answer => answer,
+    }
+}
+
+/// A copy of the world of a changed table, asked for once more where memory was refused.
+pub(crate) fn copied_bent<'s>(
+    alloc: Global,
+    world: &BentWorld<'s>,
+) -> Result<BentWorld<'s>, NoMemory> {
+    match world.try_clone(alloc) {
+        Err(NoMemory) => world.try_clone(alloc),
         answer => answer,
     }
 }

@@ -9,11 +9,19 @@
 #[cfg(test)]
 mod again;
 #[cfg(test)]
+mod bent_shown;
+#[cfg(test)]
+mod bent_tests;
+#[cfg(test)]
 mod copy_tests;
 #[cfg(test)]
 mod given;
 #[cfg(test)]
 mod group_tests;
+#[cfg(test)]
+mod key_tests;
+#[cfg(test)]
+mod keys;
 #[cfg(test)]
 mod limit_tests;
 #[cfg(test)]
@@ -28,6 +36,8 @@ mod moment_shown;
 mod moment_tests;
 #[cfg(test)]
 mod refusal_tests;
+#[cfg(test)]
+mod scenario_tests;
 #[cfg(test)]
 mod schedule_tests;
 #[cfg(test)]

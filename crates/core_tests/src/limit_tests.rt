@@ -88,7 +88,7 @@ fn by_size() -> [Judged; 11] {
     ]
 }
 
-fn by_list() -> [Judged; 7] {
+fn by_list() -> [Judged; 10] {
     [
         (Sizes(1, 0, 16, 0, 16, 1, add_to(15)), None),
         (Sizes(1, 0, 15, 0, 1, 1, add_to(15)), UNDECLARED),
@@ -97,6 +97,9 @@ fn by_list() -> [Judged; 7] {
         (Sizes(1, 0, 16, 0, 1, 1, wait_on(15)), TICKET),
         (Sizes(1, 0, 1, 0, 1, 32, one_of(0)), None),
         (Sizes(1, 0, 1, 0, 1, 1, all_of(1)), UNDECLARED),
+        (Sizes(1, 0, 1, 0, 1, 1, wait_on(0)), TICKET),
+        (Sizes(1, 0, 1, 0, 1, 2, add_to(0)), TICKET),
+        (Sizes(1, 0, 1, 0, 1, 1, add_to(1)), UNDECLARED),
     ]
 }
 

@@ -30,7 +30,7 @@ pub(crate) fn on_list(alloc: Global, first: u64, calls: &[&[Call]]) -> Result<Sc
 }
 
 /// Two seats that take a ticket and wait, and one that notifies once.
-fn two_and_one(alloc: Global) -> Result<Scenario, Fail> {
+pub(crate) fn two_and_one(alloc: Global) -> Result<Scenario, Fail> {
     let waits = [add(), wait_for_it()];
     on_list(alloc, 0, &[&waits, &waits, &[one()]])
 }

@@ -83,3 +83,24 @@ fn a_copied_moment_steps_on_alone(rt: HostRuntime) -> Result<(), Fail> {
     let mut moment = moment_again(rt.alloc(), &scenario)?;
     copy_goes_on(&rt, rt.alloc(), &mut moment)
 }
+
+/// The copy is made over a moment elsewhere in its run. That takes no memory: it is not asked for once more.
+fn copy_over_goes_on<'s>(
+    rt: &impl Abort,
+    alloc: Global,
+    moment: &mut Moment<'s>,
+    elsewhere: Moment<'s>,
+) -> Result<(), Fail> {
+    steps(rt, moment, &HANDOFF[..10]);
+    let mut copy = elsewhere.try_clone_over(alloc, moment)?;
+    both_go_on(rt, alloc, moment, &mut copy)
+}
+
+#[test]
+fn a_copy_over_another_moment_steps_on_alone(rt: HostRuntime) -> Result<(), Fail> {
+    let scenario = handoff_scenario(rt.alloc())?;
+    let mut moment = moment_again(rt.alloc(), &scenario)?;
+    let mut elsewhere = moment_again(rt.alloc(), &scenario)?;
+    steps(&rt, &mut elsewhere, &HANDOFF[..12]);
+    copy_over_goes_on(&rt, rt.alloc(), &mut moment, elsewhere)
+}

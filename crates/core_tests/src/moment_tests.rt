@@ -32,7 +32,7 @@ fn shows_alike(
 }
 
 /// One counter, one list and one group: a ticket is granted, a wait is released, and three units are added at once.
-fn of_all_kinds(alloc: Global) -> Result<Scenario, Fail> {
+pub(crate) fn of_all_kinds(alloc: Global) -> Result<Scenario, Fail> {
     let list = ListId::new(0);
     let group = GroupId::new(0);
     let calls = [

@@ -63,7 +63,7 @@ const TO_SLEEP_ON_LIST: [Row; 4] = [Row::N1, Row::W1, Row::W2, Row::W4];
 
 const PAST_LIST: [Row; 3] = [Row::W1, Row::W2, Row::W3];
 
-const TO_GRANT: [Row; 7] = [
+pub(crate) const TO_GRANT: [Row; 7] = [
     Row::O1,
     Row::O2,
     Row::O3,

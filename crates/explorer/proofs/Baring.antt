@@ -1,15 +1,13 @@
 -- What no row looks at bears on no world's badness.
-use Rattle.std.proofs.Common.{◌≡◌, ◌≢◌, ℕ, ◌<◌, length, Option, Some, None, sym, ◌∙◌, refl}
-use Rattle.step_table.specs.declared.phase.Phase.TheVariants.{At, Ended, Failed}
-use Rattle.step_table.specs.declared.row.Row.TheVariants.{P}
+use Rattle.std.proofs.Common.{Option, Some, None, sym, ◌∙◌}
 use Rattle.step_table.specs.declared.parts.Parts.{Parts}
 use Rattle.step_table.specs.Alike.{bare_run}
 use Rattle.step_table.specs.Run.{Run}
 use Rattle.step_table.proofs.AlikeRuns.{bare_refusal, bare_phase}
 use Rattle.explorer.specs.declared.kind.Kind.{Kind}
 use Rattle.explorer.specs.declared.kind.Kind.TheVariants as kind
-use Rattle.explorer.specs.declared.request.Property.{Property}
-use Rattle.explorer.specs.declared.request.Property.TheVariants.{Settled, Value, NoMisuse}
+use Rattle.scenario_text.specs.declared.request.Property.{Property}
+use Rattle.scenario_text.specs.declared.request.Property.TheVariants.{Settled, Value, NoMisuse}
 use Rattle.step_table.specs.declared.variant.Variant.{Variant}
 use Rattle.search.specs.Rules as search_rules
 use Rattle.explorer.specs.Explored.{rules_of, asked}

@@ -64,10 +64,15 @@ pub enum Retried {
 /// What `parklot once` tells, a line for each answer.
 #[derive(Clone, Copy, Debug, PartialEq, Eq)]
 pub struct OnceAnswers {
+    /// How seat 0's first look at the number went.
     pub tried: Tried,
+    /// How seat 0 went on under the lock.
     pub entered: Entered,
+    /// How seat 1's release went up to the lock.
     pub posted: Posted,
+    /// How seat 1's release went on from the lock.
     pub woken: Woken,
+    /// How seat 0 went on after it was woken.
     pub retried: Retried,
 }
 

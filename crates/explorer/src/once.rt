@@ -56,27 +56,26 @@ fn step_times(world: &mut World<'_>, seat: SeatId, times: u8) -> Result<(), NoMe
     Ok(())
 }
 
-/// The five lines of `parklot once`, whole: each tells where the machine stands after a part of the run.
+/// The five lines of a run in this world, which has two seats.
 ///
 /// It is an `Err` where memory is short.
-pub fn once_text(alloc: Global) -> Result<String, NoMemory>
+fn run_once(alloc: Global, world: &mut World<'_>) -> Result<String, NoMemory>
+    requires { length world.old.parts.calls ≡ 2 }
     ensures { IfOk result (λ text. IsOnceText (string_bytes text)) }
 {
     let counter = CounterId::new(0);
     let acquirer = SeatId::new(0);
     let releaser = SeatId::new(1);
-    let scenario = once_scenario(alloc)?;
-    let mut world = World::new(alloc, &scenario)?;
-    step_times(&mut world, acquirer, 1)?;
-    let tried = Seen::of(&world, acquirer).tried(counter);
-    step_times(&mut world, acquirer, 4)?;
-    let entered = Seen::of(&world, acquirer).entered(counter);
-    step_times(&mut world, releaser, 2)?;
-    let posted = Seen::of(&world, releaser).posted();
-    step_times(&mut world, releaser, 5)?;
-    let woken = Seen::of(&world, releaser).woken(counter);
-    step_times(&mut world, acquirer, 3)?;
-    let retried = Seen::of(&world, acquirer).retried(counter);
+    step_times(world, acquirer, 1)?;
+    let tried = Seen::of(world, acquirer).tried(counter);
+    step_times(world, acquirer, 4)?;
+    let entered = Seen::of(world, acquirer).entered(counter);
+    step_times(world, releaser, 2)?;
+    let posted = Seen::of(world, releaser).posted();
+    step_times(world, releaser, 5)?;
+    let woken = Seen::of(world, releaser).woken(counter);
+    step_times(world, acquirer, 3)?;
+    let retried = Seen::of(world, acquirer).retried(counter);
     let answers = OnceAnswers {
         tried,
         entered,
@@ -85,6 +84,17 @@ pub fn once_text(alloc: Global) -> Result<String, NoMemory>
         retried,
     };
     Ok(format!(in alloc; "{answers}")?)
+}
+
+/// The five lines of `parklot once`, whole: each tells where the machine stands after a part of the run.
+///
+/// It is an `Err` where memory is short.
+pub fn once_text(alloc: Global) -> Result<String, NoMemory>
+    ensures { IfOk result (λ text. IsOnceText (string_bytes text)) }
+{
+    let scenario = once_scenario(alloc)?;
+    let mut world = World::new(alloc, &scenario)?;
+    run_once(alloc, &mut world)
 }
 
 /// Runs `parklot once`: writes its five lines, or the refusal alone where memory is short.

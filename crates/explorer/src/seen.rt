@@ -7,7 +7,7 @@ use crate::answer::{Entered, Posted, Retried, Tried, Woken};
 use step_core::{CounterId, Entry, Phase, Row, SeatId, WaitId, World};
 
 /// Where a seat stands, and what the journal told last.
-#[derive(Clone, Copy, Debug, PartialEq, Eq)]
+#[derive(Clone, Copy)]
 pub(crate) struct Seen {
     pub(crate) seat: SeatId,
     pub(crate) phase: Phase,

@@ -1,19 +1,11 @@
 //! Texts with one line or one call too many.
 
 use crate::reading::fault_of;
+use crate::repeated::{Repeated, bytes_again};
 use explorer::{Cause, ReadFault};
 use std::alloc::{AllocError, Global};
 use std::process::Abort;
 use std::test::Fail;
-
-/// So many times the same, with a text before and one behind.
-#[derive(Clone, Copy, Drop)]
-struct Repeated<'t> {
-    before: &'t [u8],
-    again: &'t [u8],
-    times: usize,
-    behind: &'t [u8],
-}
 
 const fn only(again: &[u8], times: usize) -> Repeated<'_> {
     Repeated {
@@ -31,23 +23,6 @@ const fn and_calls(times: usize) -> Repeated<'static> {
         again: b"; gadd 0 1",
         times,
         behind: b"\n",
-    }
-}
-
-fn bytes_of(alloc: Global, text: &Repeated<'_>) -> Result<Vec<u8>, AllocError> {
-    let mut bytes = Vec::new(alloc);
-    bytes.extend_from_slice(text.before)?;
-    for _ in 0..text.times {
-        bytes.extend_from_slice(text.again)?;
-    }
-    bytes.extend_from_slice(text.behind)?;
-    Ok(bytes)
-}
-
-fn bytes_again(alloc: Global, text: &Repeated<'_>) -> Result<Vec<u8>, AllocError> {
-    match bytes_of(alloc, text) {
-        Ok(bytes) => Ok(bytes),
-        Err(_) => bytes_of(alloc, text),
     }
 }
 

@@ -1,12 +1,17 @@
 //! Reads that are made once more where memory was refused.
 
+ghost use Rattle.std.specs.Prelude.{IfOk};
+ghost use Rattle.scenario_text.specs.Request.{IsAbout};
+
 use explorer::{Cause, ReadFault, Request, read_scenario};
 use std::alloc::Global;
 
 /// One counter, one acquire, and the property.
 pub(crate) const ONE_ACQUIRE: &[u8] = b"counter 0\nseat 0: acquire 0\nsettled\n";
 
-pub(crate) fn read(alloc: Global, text: &[u8]) -> Result<Request, ReadFault> {
+pub(crate) fn read(alloc: Global, text: &[u8]) -> Result<Request, ReadFault>
+    ensures { IfOk result (λ request. IsAbout request.parts request.property) }
+{
     match read_scenario(alloc, text) {
         Err(
             ReadFault {

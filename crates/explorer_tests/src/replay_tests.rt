@@ -1,11 +1,9 @@
-//! Replays whose text is known by hand.
+//! What `replay` answers, word for word, as it is known by hand.
 
-use explorer::{Exit, Flagged, replay_io};
-use std::process::Abort;
-use std::test::Fail;
+use crate::asked::tells;
 
-/// A text, a schedule, what it does, and how that ends.
-const REPLAYS: [(&[u8], &str, &str, Exit); 12] = [
+/// A text, a schedule, all that is told, and the status.
+const REPLAYS: [(&[u8], &str, &str, u8); 19] = [
     // the release comes between the two looks of the acquire
     (
         b"counter 0\nseat 0: acquire 0\nseat 1: release 0\nsettled\n",
@@ -23,7 +21,7 @@ const REPLAYS: [(&[u8], &str, &str, Exit); 12] = [
 counter 0: value 0, waiting -
 verdict: not bad
 ",
-        Exit::NothingBad,
+        0,
     ),
     // nobody releases
     (
@@ -38,7 +36,7 @@ verdict: not bad
 counter 0: value 0, waiting 0.0
 verdict: stuck
 ",
-        Exit::BadFound,
+        1,
     ),
     // a sleeper can't step
     (
@@ -52,35 +50,35 @@ verdict: stuck
 4: seat 0 A7
 5: refused 4 Asleep
 ",
-        Exit::Refused,
+        2,
     ),
     // there is no seat 16
     (
         b"counter 0\nseat 0: acquire 0\nsettled\n",
         "16",
         "0: refused 1 NoSuchSeat\n",
-        Exit::Refused,
+        2,
     ),
     // nothing has run
     (
         b"counter 7\nseat 0: acquire 0\nsettled\n",
         "",
         "counter 0: value 7, waiting -\nverdict: not bad\n",
-        Exit::NothingBad,
+        0,
     ),
     // a counter with another value at the end
     (
         b"counter 1\nseat 0: acquire 0\nvalue 0 1\n",
         "0 0",
         "0: seat 0 A1\n1: seat 0 A2\ncounter 0: value 0, waiting -\nverdict: value\n",
-        Exit::BadFound,
+        1,
     ),
     // the semaphore of a group comes last
     (
         b"counter 3\ngroup\nseat 0: gadd 0 -1\nno-misuse\n",
         "0",
         "0: seat 0 G1\ncounter 0: value 3, waiting -\ncounter 1: value 0, waiting -\nverdict: misuse\n",
-        Exit::BadFound,
+        1,
     ),
     // the ticket is handed out after the grant looked for one
     (
@@ -96,7 +94,7 @@ verdict: stuck
 list 0: tickets 1, granted 0
 verdict: stuck
 ",
-        Exit::BadFound,
+        1,
     ),
     // it is granted before its wait
     (
@@ -116,7 +114,7 @@ verdict: stuck
 10: seat 1 W3
 11: refused 2 SeatEnded
 ",
-        Exit::Refused,
+        2,
     ),
     (
         b"list 0\nseat 0: one 0\nseat 1: add 0; wait 0\nsettled\n",
@@ -136,31 +134,278 @@ verdict: stuck
 list 0: tickets 1, granted 1
 verdict: not bad
 ",
-        Exit::NothingBad,
+        0,
     ),
     // one misuses the group: it can't step any more
     (
         b"group\nseat 0: gadd 0 -1\nno-misuse\n",
         "0 0",
         "0: seat 0 G1\n1: refused 5 SeatFailed\n",
-        Exit::Refused,
+        2,
     ),
     // the lock of the counter's root is held
     (
         b"counter 0\nseat 0: acquire 0\nseat 1: acquire 0\nsettled\n",
         "0 0 1 1",
         "0: seat 0 A1\n1: seat 0 A3\n2: seat 1 A1\n3: refused 3 LockHeld\n",
-        Exit::Refused,
+        2,
+    ),
+    // two units wake two of three sleepers
+    (
+        b"\
+counter 0
+seat 0: acquire 0
+seat 1: acquire 0
+seat 2: acquire 0
+seat 3: release 0 many 2
+settled
+",
+        "0 0 0 0 0 1 1 1 1 1 2 2 2 2 2 3 3 3 3 3 3 3 3 3",
+        "\
+0: seat 0 A1
+1: seat 0 A3
+2: seat 0 A4
+3: seat 0 A5
+4: seat 0 A7
+5: seat 1 A1
+6: seat 1 A3
+7: seat 1 A4
+8: seat 1 A5
+9: seat 1 A7
+10: seat 2 A1
+11: seat 2 A3
+12: seat 2 A4
+13: seat 2 A5
+14: seat 2 A7
+15: seat 3 M1
+16: seat 3 M2
+17: seat 3 M3
+18: seat 3 M4
+19: seat 3 M5
+20: seat 3 M5
+21: seat 3 M6
+22: seat 3 M7
+23: seat 3 M7
+counter 0: value 2, waiting 2.0
+verdict: not bad
+",
+        0,
+    ),
+    // a unit is handed over
+    (
+        b"\
+counter 0
+seat 0: acquire 0
+seat 1: acquire 0
+seat 2: release 0 handoff
+settled
+",
+        "0 0 0 0 0 1 1 1 1 1 2 2 2 2 2 2 2 2 2 0",
+        "\
+0: seat 0 A1
+1: seat 0 A3
+2: seat 0 A4
+3: seat 0 A5
+4: seat 0 A7
+5: seat 1 A1
+6: seat 1 A3
+7: seat 1 A4
+8: seat 1 A5
+9: seat 1 A7
+10: seat 2 R1
+11: seat 2 R2
+12: seat 2 R3
+13: seat 2 R4
+14: seat 2 R5
+15: seat 2 R6
+16: seat 2 R7
+17: seat 2 R8
+18: seat 2 R9
+19: seat 0 P
+counter 0: value 0, waiting 1.0
+verdict: stuck
+",
+        1,
+    ),
+    // another seat is faster: the woken one sleeps again, as its next wait
+    (
+        b"\
+counter 0
+seat 0: acquire 0
+seat 1: release 0
+seat 2: acquire 0
+settled
+",
+        "0 0 0 0 0 1 1 1 1 1 1 2 2 1 0 0 0 0 0 0",
+        "\
+0: seat 0 A1
+1: seat 0 A3
+2: seat 0 A4
+3: seat 0 A5
+4: seat 0 A7
+5: seat 1 R1
+6: seat 1 R2
+7: seat 1 R3
+8: seat 1 R4
+9: seat 1 R5
+10: seat 1 R6
+11: seat 2 A1
+12: seat 2 A2
+13: seat 1 R10
+14: seat 0 P
+15: seat 0 A10
+16: seat 0 A3
+17: seat 0 A4
+18: seat 0 A5
+19: seat 0 A7
+counter 0: value 0, waiting 0.1
+verdict: stuck
+",
+        1,
+    ),
+    // the wait of a group is released by the add that leads to 0
+    (
+        b"\
+group
+seat 0: gadd 0 2; gadd 0 -1; gadd 0 -1
+seat 1: gwait 0
+no-misuse
+",
+        "0 1 1 1 1 1 1 1 0 0 0 0 0 0 0 0 0 0 0 1 1 1 1",
+        "\
+0: seat 0 G1
+1: seat 1 V1
+2: seat 1 V2
+3: seat 1 A1
+4: seat 1 A3
+5: seat 1 A4
+6: seat 1 A5
+7: seat 1 A7
+8: seat 0 G1
+9: seat 0 G1
+10: seat 0 G2
+11: seat 0 G3
+12: seat 0 R1
+13: seat 0 R2
+14: seat 0 R3
+15: seat 0 R4
+16: seat 0 R5
+17: seat 0 R6
+18: seat 0 R10
+19: seat 1 P
+20: seat 1 A10
+21: seat 1 A11
+22: seat 1 V3
+counter 0: value 0, waiting -
+verdict: not bad
+",
+        0,
+    ),
+    // all tickets are granted, one of them before its wait
+    (
+        b"\
+list 0
+seat 0: add 0; wait 0
+seat 1: add 0; wait 0
+seat 2: add 0; wait 0
+seat 3: all 0
+settled
+",
+        "0 0 0 0 1 1 1 1 2 3 3 3 3 3 3 3 3 3 2 2 2 0 1",
+        "\
+0: seat 0 N1
+1: seat 0 W1
+2: seat 0 W2
+3: seat 0 W4
+4: seat 1 N1
+5: seat 1 W1
+6: seat 1 W2
+7: seat 1 W4
+8: seat 2 N1
+9: seat 3 L1
+10: seat 3 L2
+11: seat 3 L3
+12: seat 3 L4
+13: seat 3 L5
+14: seat 3 L6
+15: seat 3 L7
+16: seat 3 L8
+17: seat 3 L8
+18: seat 2 W1
+19: seat 2 W2
+20: seat 2 W3
+21: seat 0 P
+22: seat 1 P
+list 0: tickets 3, granted 3
+verdict: not bad
+",
+        0,
+    ),
+    // tickets are told from 0, whatever the first is
+    (
+        b"\
+list 18446744073709551615
+seat 0: add 0; one 0; wait 0
+settled
+",
+        "0 0 0 0 0 0 0 0 0 0 0",
+        "\
+0: seat 0 N1
+1: seat 0 O1
+2: seat 0 O2
+3: seat 0 O3
+4: seat 0 O4
+5: seat 0 O5
+6: seat 0 O7
+7: seat 0 O8
+8: seat 0 W1
+9: seat 0 W2
+10: seat 0 W3
+list 0: tickets 1, granted 1
+verdict: not bad
+",
+        0,
+    ),
+    // all counters stand before all lists
+    (
+        b"\
+counter 0
+list 5
+list 7
+group
+seat 0: add 1; acquire 0 lifo
+seat 1: gadd 0 1
+value 0 0
+",
+        "0 1 0 0 0 0 0",
+        "\
+0: seat 0 N1
+1: seat 1 G1
+2: seat 0 A1
+3: seat 0 A3
+4: seat 0 A4
+5: seat 0 A5
+6: seat 0 A7
+counter 0: value 0, waiting 0.0
+counter 1: value 0, waiting -
+list 0: tickets 0, granted 0
+list 1: tickets 1, granted 0
+verdict: not bad
+",
+        0,
     ),
 ];
 
 #[test]
 fn replays_are_told_word_for_word(rt: HostRuntime) {
-    for (input, spelled, told, exit) in REPLAYS {
-        let mut reader = Flagged::new(input);
-        let mut out = Flagged::new(Vec::new(rt.alloc()));
-        let ended = replay_io(rt.alloc(), &mut reader, &mut out, spelled);
-        assert_eq!(rt; ended, Ok(exit));
-        assert_eq!(rt; out.into_inner().as_slice(), told.as_bytes());
+    for (input, spelled, told, status) in REPLAYS {
+        tells(
+            &rt,
+            rt.alloc(),
+            &["replay", "--schedule", spelled],
+            input,
+            told,
+            status,
+        );
     }
 }

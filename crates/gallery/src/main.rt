@@ -14,7 +14,7 @@ use std::fs;
 const PROMPT: &str = "$ parklot ";
 
 /// The scenarios, from the simple to the odd.
-const NAMES: [&str; 14] = [
+const NAMES: [&str; 15] = [
     "lonely_sleeper",
     "lost_wake_up",
     "newest_first",
@@ -23,6 +23,7 @@ const NAMES: [&str; 14] = [
     "two_counters_of_one_root",
     "units_for_two",
     "last_value",
+    "three_for_three",
     "lock",
     "notify_one_before_the_wait",
     "broadcast",

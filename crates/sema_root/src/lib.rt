@@ -6,7 +6,8 @@
 //! constant time however many wait.
 //!
 //! A root is made for so many seats, at most 65,535, and holds at most a wait for each. `with_room` takes all its
-//! memory, and a copy of a `TreapRoot` as much again. But for these only `ids` takes memory, for its answer.
+//! memory, and a copy of a `TreapRoot` as much again. Else only `copy_from` of a larger root takes memory, and `ids` and
+//! `write_seats` do, for what they answer or write.
 #![tactic(auto)]
 
 mod branches;

@@ -200,6 +200,49 @@ fn a_copy_draws_the_same_tickets(rt: HostRuntime) -> Result<(), Fail> {
     Ok(())
 }
 
+/// Another root, with other counters and tickets.
+fn elsewhere(root: &mut TreapRoot) {
+    for number in [2u32, 8, 5] {
+        queue(root, number, wait(3), false);
+    }
+    root.dequeue(counter(2));
+}
+
+#[test]
+fn a_copy_over_another_root_takes_no_memory(rt: HostRuntime) -> Result<(), Fail> {
+    let mut root = treap_again(rt.alloc(), 4, 1)?;
+    queue(&mut root, 5, wait(0), false);
+    queue(&mut root, 3, wait(1), false);
+    root.dequeue(counter(5));
+    let mut over = treap_again(rt.alloc(), 4, 2)?;
+    elsewhere(&mut over);
+    assert!(rt; over.copy_from(&root).is_ok());
+    assert_eq!(rt; over.count(), 1);
+    assert_eq!(rt; over.first(counter(3)), Some(wait(1)));
+    for number in [9u32, 5, 7] {
+        queue(&mut root, number, wait(2), false);
+        queue(&mut over, number, wait(2), false);
+        assert_eq!(rt; over.place(counter(number)), root.place(counter(number)));
+    }
+    assert!(rt; over.is_full());
+    assert_eq!(rt; over.top(), root.top());
+    Ok(())
+}
+
+#[test]
+fn a_copy_over_a_smaller_root_takes_memory(rt: HostRuntime) -> Result<(), Fail> {
+    let mut root = treap_again(rt.alloc(), 4, 1)?;
+    queue(&mut root, 5, wait(0), false);
+    let mut over = treap_again(rt.alloc(), 0, 2)?;
+    if over.copy_from(&root).is_err() {
+        assert!(rt; over.is_full());
+        over.copy_from(&root)?;
+    }
+    assert_eq!(rt; over.first(counter(5)), Some(wait(0)));
+    assert!(rt; !over.is_full());
+    Ok(())
+}
+
 #[test]
 fn both_roots_answer_as_each_other(rt: HostRuntime) -> Result<(), Fail> {
     let alloc = rt.alloc();

@@ -1,5 +1,5 @@
 //! Which list each counter's waits stand in, as a treap: a search tree by counters that is a heap by tickets.
-ghost use Rattle.std.specs.Prelude.{◌≡◌, ℕ, ◌<◌, MatchOption, IfOk, Some};
+ghost use Rattle.std.specs.Prelude.{◌≡◌, ℕ, ◌<◌, MatchOption, IfOk, OnOk, OnErr, Some};
 ghost use Rattle.waiters.specs.Lists.{IsOpen};
 ghost use Rattle.sema_root.specs.Tree.{IsTreap, leaf, sought, top_counter, top_place, top_value};
 ghost use Rattle.sema_root.specs.Planted.{Enters, IsFound, Leaves};
@@ -11,6 +11,7 @@ use crate::place::Place;
 use slab::Slab;
 use std::alloc::{AllocError, Global};
 use std::marker::Model;
+use waiters::slabs::{copy_values, reserve_as};
 use waiters::{CounterId, ListKey, Lists, NoMemory};
 
 /// Counters with their lists and tickets, in nodes that are reserved once.
@@ -106,6 +107,27 @@ impl Treap {
         ensures treap { IsTreap self.new.tree }
     {
         leave(&mut self.branches, counter, lists)
+    }
+
+    /// Becomes as the other treap is, and the lists as the other's lists are; or both stay as they were. No memory is
+    /// taken where there is as much as the other has.
+    pub(crate) fn copy_from(
+        &mut self,
+        other: &Treap,
+        lists: &mut Lists,
+        other_lists: &Lists,
+    ) -> Result<(), NoMemory>
+        ensures treap { OnOk result (self.new ≡ other.now) }
+        ensures lists { OnOk result (lists.new ≡ other_lists.now) }
+        ensures treap_stays { OnErr result (self.new ≡ self.old) }
+        ensures lists_stay { OnErr result (lists.new ≡ lists.old) }
+    {
+        reserve_as(&mut self.branches.nodes, &other.branches.nodes)?;
+        lists.copy_from(other_lists)?;
+        copy_values(&mut self.branches.nodes, &other.branches.nodes);
+        self.branches.top = other.branches.top;
+        self.reserved = other.reserved;
+        Ok(())
     }
 }
 

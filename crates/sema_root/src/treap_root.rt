@@ -3,7 +3,7 @@
 //! A node's ticket is the low 32 bits of the generator's next word with the lowest bit set. The generator starts as
 //! `seed_from_u64(seed)`, and a word is used for each node and for nothing else. A counter keeps its node, and so its
 //! ticket, while it has waits.
-ghost use Rattle.std.specs.Prelude.{◌≡◌, ◌<◌, ◌+◌, ◌++◌, MatchOption, IfOk, OnOk, IfNone, OnSome, drop, slice_get};
+ghost use Rattle.std.specs.Prelude.{◌≡◌, ◌<◌, ◌+◌, ◌++◌, MatchOption, IfOk, OnOk, OnErr, IfNone, OnSome, drop, slice_get};
 ghost use Rattle.waiters.specs.Lists.{seats_of};
 ghost use Rattle.sema_root.specs.Queues.{waits_on, total, AreQueues, joined_by, Changes};
 ghost use Rattle.sema_root.specs.Rooted.{Comes, IsIn};
@@ -72,6 +72,19 @@ impl TreapRoot {
         ensures treap { IsTreap self.now.tree }
     {
         self.treap.place(counter)
+    }
+
+    /// Becomes as the other root is. No memory is taken where there is as much as the other has.
+    pub fn copy_from(&mut self, other: &TreapRoot) -> Result<(), NoMemory>
+        ensures ok { OnOk result (self.new ≡ other.now) }
+        ensures err { OnErr result (self.new ≡ self.old) }
+    {
+        let tickets = other.tickets.clone()?;
+        self.treap
+            .copy_from(&other.treap, &mut self.lists, &other.lists)?;
+        self.tickets = tickets;
+        self.seats = other.seats;
+        Ok(())
     }
 
     /// Writes the seat of each wait of a counter's queue behind these words, in order.

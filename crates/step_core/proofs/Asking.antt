@@ -1,39 +1,21 @@
 -- What is asked for of a seat whose run is orderly, by the table or by a change of it, and what the machine answers for it.
-use Rattle.std.proofs.Common.{◌≡◌, ◌≢◌, ℕ, zero, suc, ◌+◌, ◌^◌, ◌<◌, ◌≤◌, Bool, true, false, List, [], Option, Some, None, Result, Ok, Err, IfOk, IfErr, OnOk, nat_lt, cond, length, refl, sym, ap, ◌∙◌, subst, arith, ltb-true}
-use Rattle.std.proofs.lemmas.Bool.{lt-ltb, le-ltb}
-use Rattle.step_table.specs.declared.entry.Entry.{Entry}
-use Rattle.step_table.specs.declared.list_place.ListEffect.{ListEffect}
-use Rattle.step_table.specs.declared.list_place.ListEffect.TheVariants.{HandsOut, Grants as GrantsUpTo}
-use Rattle.step_table.specs.declared.list_place.ListPlace.{ListPlace}
-use Rattle.step_table.specs.declared.list_place.ListPlace.TheVariants as on_list
-use Rattle.step_table.specs.declared.effect.Effect.{Effect}
-use Rattle.step_table.specs.declared.effect.Effect.TheVariants.{Nothing, Tells, Grants}
+use Rattle.std.proofs.Common.{◌≡◌, ℕ, ◌+◌, ◌^◌, ◌<◌, [], Option, Some, None, Result, Ok, Err, IfOk, IfErr, OnOk, cond, length, ap, ◌∙◌, subst, arith}
+use Rattle.std.proofs.lemmas.Bool.{lt-ltb}
 use Rattle.step_table.specs.declared.place.Place.{Place}
 use Rattle.step_table.specs.declared.place.Place.TheVariants.{Releasing}
-use Rattle.step_table.specs.declared.place.Place.TheVariants as on_counter
 use Rattle.step_table.specs.declared.refusal.StepRefused.{StepRefused}
 use Rattle.step_table.specs.declared.refusal.StepRefused.TheVariants.{NoSuchSeat}
-use Rattle.step_table.specs.declared.parts.Parts.{Parts}
 use Rattle.step_table.specs.declared.standing.After.{After}
 use Rattle.step_table.specs.declared.standing.After.TheVariants.{NextCall, LooksAgain, Releases}
-use Rattle.step_table.specs.declared.standing.GroupNext.{GroupNext}
-use Rattle.step_table.specs.declared.standing.GroupNext.TheVariants as group
 use Rattle.step_table.specs.declared.standing.Standing.{Standing}
-use Rattle.step_table.specs.declared.standing.Standing.TheVariants.{Rest, AtCounter, AtList, AtGroup, Failed}
+use Rattle.step_table.specs.declared.standing.Standing.TheVariants.{Rest, AtCounter, AtList, AtGroup}
 use Rattle.step_core.specs.declared.turn.Turn.{Turn}
-use Rattle.step_core.specs.declared.turn.Turn.TheVariants.{OnCounter, OnList, OnGroup}
-use Rattle.step_table.specs.World.{Seat, journal_after}
-use Rattle.step_table.specs.Steps.{event_of, finds}
-use Rattle.step_core.specs.Stored.{each, idle, seat_of, IsStoredFor}
-use Rattle.step_core.specs.Stored as sema
-use Rattle.step_table.specs.Core.{CoreLayout, Core, journal_after_list}
-use Rattle.step_table.specs.CoreSteps.{releases, goes_on, after_counter, after_list, after_group, row_of_standing, core_turned}
+use Rattle.step_rows.specs.Stored.{each}
 use Rattle.step_table.specs.CoreLaw.{IsCallBefore, IsStanding}
-use Rattle.step_table.specs.Run.{Run, layout, continued, stepped, refusal_of, refusal}
-use Rattle.step_table.specs.RunInvariant.{IsSoundRun}
+use Rattle.step_table.specs.Run.{layout, refusal_of, refusal}
 use Rattle.step_table.specs.declared.variant.Variant.{Variant}
 use Rattle.step_core.specs.BentStored.{HasBentPast}
-use Rattle.step_core.specs.State.{Machine, Moment, State, IsMachineFor, Becomes, HasBegun, HasSeat, HasSeatOn, HasSeatAt, HasGroup, MayGoOn, MayGo, AsksFor, IsRefusal, IsReady, IsReadyAt, IsSound, Steps, HasPast, core_of, run_with, run_of, run_at, telling, entry_of, list_entry, and_then}
+use Rattle.step_core.specs.State.{Moment, State, HasSeat, HasSeatOn, HasSeatAt, HasGroup, MayGoOn, MayGo, AsksFor, IsRefusal, run_of, run_at, telling}
 use Rattle.step_core.proofs.Ranges.{asks_for, begun_small}
 
 -- a seat of a moment

@@ -9,16 +9,16 @@ use Rattle.waiters.specs.declared.wait.WaitId.{WaitId}
 use Rattle.step_table.specs.declared.parts.Parts.{Parts}
 use Rattle.step_table.specs.declared.standing.Standing.TheVariants.{Rest}
 use Rattle.step_table.specs.World.{World, first_world}
-use Rattle.step_core.specs.Stored.{Semaphores, Stored, IsStoredFor, each, idle, first_stored, seat_of}
-use Rattle.step_core.specs.Stored as sema
+use Rattle.step_rows.specs.Stored.{Semaphores, Stored, IsStoredFor, each, idle, first_stored, seat_of}
+use Rattle.step_rows.specs.Stored as sema
 use Rattle.step_table.specs.ListWorld.{first_list}
-use Rattle.step_core.specs.ListStored.{StoredList, moment_of, first_moment, world_at, world_of, ListMoment}
+use Rattle.step_rows.specs.ListStored.{StoredList, moment_of, first_moment, world_at, world_of, ListMoment}
 use Rattle.step_table.specs.Wrapping.{word_of}
 use Rattle.step_table.specs.Group.{empty_word}
 use Rattle.step_table.specs.Core.{first_core}
 use Rattle.step_table.specs.Run.{layout}
 use Rattle.step_core.specs.State.{Machine, AreFirst, IsMachineFor, core_of, list_of, no_list}
-use Rattle.step_core.proofs.Storing.{copies}
+use Rattle.step_rows.proofs.Storing.{copies}
 
 -- one more list at its first ticket
 pub one_more : (firsts : List ℕ) (n seats : ℕ) (lists : List StoredList) (x : StoredList) → AreFirst firsts n seats lists

@@ -1,5 +1,5 @@
 -- The semaphores keep form and bounds: each step of the table does, and so does a seat that goes on where a changed table leads.
-use Rattle.std.proofs.Common.{◌≡◌, ◌≢◌, ℕ, ◌+◌, ◌<◌, ◌≤◌, List, [], ◌∷◌, length, refl, sym, ap, ◌∙◌, subst, arith}
+use Rattle.std.proofs.Common.{◌≡◌, ℕ, ◌<◌, length, refl, sym, ap, ◌∙◌, arith}
 use Rattle.waiters.specs.declared.wait.WaitId.{WaitId}
 use Rattle.step_table.specs.declared.place.Place.{Place}
 use Rattle.step_table.specs.World.{Layout, Seat, World, put, first_world}
@@ -8,7 +8,7 @@ use Rattle.step_table.specs.Steps as steps
 use Rattle.step_table.specs.Lawful.{total, holds}
 use Rattle.step_table.specs.Invariant.{hands_at, hands, awaits, asleep, owing, Finds, IsSeat}
 use Rattle.step_table.specs.BentInvariant.{IsOrderlyWorld}
-use Rattle.step_table.proofs.Sums.{put_here, put_else, put_at, total_same}
+use Rattle.step_table.proofs.Sums.{put_at, total_same}
 use Rattle.step_table.proofs.Lines.{Step, step_of}
 use Rattle.step_table.proofs.Locks.{locks_kept}
 use Rattle.step_table.proofs.Placing.{placed_kept, seats_kept}

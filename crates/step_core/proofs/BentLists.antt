@@ -1,5 +1,5 @@
 -- A notify list keeps form and bounds: each step of the table does, and so does a seat that goes on where a changed table leads.
-use Rattle.std.proofs.Common.{◌≡◌, ◌≢◌, ◌⊎◌, ℕ, ◌+◌, ◌<◌, ◌≤◌, length, refl, sym, ap, ◌∙◌, subst, inl, inr, arith}
+use Rattle.std.proofs.Common.{◌≡◌, ◌≢◌, ◌⊎◌, ℕ, ◌<◌, ◌≤◌, length, refl, sym, ap, ◌∙◌, inl, inr, arith}
 use Rattle.std.proofs.lemmas.Bool.{cases_lt}
 use Rattle.waiters.specs.declared.wait.Wait.{Wait}
 use Rattle.step_table.specs.declared.list_place.AllRow.TheVariants.{L5, L6}
@@ -21,7 +21,7 @@ use Rattle.step_table.proofs.ListRows.{Row, begin_add, begin_wait, n1, w3, woken
 use Rattle.step_table.proofs.ListCases.{step_of}
 use Rattle.step_table.proofs.ListLocks.{lock_kept, sole_holder}
 use Rattle.step_table.proofs.ListPlacing.{placed_kept, grants_kept}
-use Rattle.step_core.proofs.ListRanges.{counted_kept}
+use Rattle.step_rows.proofs.ListRanges.{counted_kept}
 use Rattle.step_core.proofs.BentPlaces.{IsAsGoodOnList}
 
 -- two words that differ are those of two numbers

@@ -1,6 +1,6 @@
 -- Where a changed table leads, a seat stands as well as where the table leads: only what has been seen, and the count of
 -- waiter words, can tell the places apart.
-use Rattle.std.proofs.Common.{◌≡◌, ℕ, ◌≢◌, Bool, true, false, if◌then◌else◌, nat_lt, List, Option, refl, ap}
+use Rattle.std.proofs.Common.{◌≡◌, ℕ, Bool, true, false, if◌then◌else◌, nat_lt, List, Option, refl}
 use Rattle.waiters.specs.declared.wait.Wait.{Wait}
 use Rattle.waiters.specs.declared.wait.WaitId.{WaitId}
 use Rattle.step_table.specs.declared.list_place.ListPlace.{ListPlace}
@@ -27,7 +27,7 @@ use Rattle.step_table.specs.ListInvariant as list
 use Rattle.step_table.specs.Core.{CoreLayout}
 use Rattle.step_table.specs.CoreLaw.{IsCallBefore}
 use Rattle.step_table.specs.RunInvariant.{to_add, to_take, has_ticket}
-use Rattle.step_table.specs.Bent.{bent_row, bent_place, plainly, bent_wait_row, bent_list_place}
+use Rattle.step_table.specs.Bent.{bent_row, bent_place, bent_wait_row, bent_list_place}
 use Rattle.step_table.specs.BentInvariant.{asleep_on_list, StillReads}
 
 -- two places between which a change of the table leads

@@ -1,5 +1,5 @@
 -- A run keeps form and bounds: it starts with them, and each step by a changed table keeps them.
-use Rattle.std.proofs.Common.{◌≡◌, ℕ, ◌+◌, ◌<◌, ◌≤◌, None, length, refl, ap, ◌∙◌, subst, arith}
+use Rattle.std.proofs.Common.{◌≡◌, ℕ, ◌+◌, ◌<◌, None, length, refl, ap, ◌∙◌, arith}
 use Rattle.step_table.specs.declared.list_place.ListPlace.{ListPlace}
 use Rattle.step_table.specs.declared.place.Place.{Place}
 use Rattle.step_table.specs.declared.parts.Parts.{Parts}
@@ -12,7 +12,7 @@ use Rattle.step_table.specs.ListWorld.{ListSeat, ListWorld}
 use Rattle.step_table.specs.ListSteps as list
 use Rattle.step_table.specs.Core.{Core, counters_of}
 use Rattle.step_table.specs.Run.{Run, layout, start, stepped, refusal_of, refusal}
-use Rattle.step_table.specs.RunInvariant.{may_add, to_take, holds, has_ticket, more_to_add, IsSoundRunOf, IsScenario}
+use Rattle.step_table.specs.RunInvariant.{may_add, to_take, holds, more_to_add, IsSoundRunOf, IsScenario}
 use Rattle.step_table.specs.Bent.{bent_place, bent_list_place, bent, bent_stepped}
 use Rattle.step_table.specs.BentInvariant.{IsOrderlyCore, WaitersRaisedIn}
 use Rattle.step_table.proofs.Sums.{put_at, total_same}

@@ -1,5 +1,5 @@
 -- A waiter word counts the waits of its root, and the seats that have raised it, by a changed table too.
-use Rattle.std.proofs.Common.{◌≡◌, ◌≢◌, ℕ, zero, suc, ◌+◌, ◌-◌, ◌<◌, ◌≤◌, List, [], ◌∷◌, length, Option, Some, None, refl, sym, ap, ◌∙◌, subst, IsTrue, arith}
+use Rattle.std.proofs.Common.{◌≡◌, ◌≢◌, ℕ, zero, suc, ◌+◌, ◌-◌, ◌<◌, length, Option, Some, None, refl, sym, ap, ◌∙◌, IsTrue, arith}
 use Rattle.waiters.specs.declared.wait.WaitId.{WaitId}
 use Rattle.step_table.specs.declared.call.Call.{Call}
 use Rattle.step_table.specs.declared.call.Call.TheVariants.{Acquire, Release, ReleaseMany, Add, Wait, One, All, GroupAdd, GroupWait}
@@ -10,7 +10,7 @@ use Rattle.step_table.specs.declared.place.Acquire.{Acquire as AcquireCall}
 use Rattle.step_table.specs.declared.place.Release.{Release as ReleaseCall}
 use Rattle.step_table.specs.declared.place.ReleaseMany.{ReleaseMany as ManyCall}
 use Rattle.step_table.specs.declared.place.AcquireRow.{AcquireRow}
-use Rattle.step_table.specs.declared.place.AcquireRow.TheVariants.{A1, A3, A4, A5, A6, A7, A8, A9}
+use Rattle.step_table.specs.declared.place.AcquireRow.TheVariants.{A1, A3, A4, A5, A6}
 use Rattle.step_table.specs.declared.place.ReleaseRow.TheVariants.{R1}
 use Rattle.step_table.specs.declared.place.ManyRow.TheVariants.{M1}
 use Rattle.step_table.specs.declared.place.Place.{Place}
@@ -27,11 +27,9 @@ use Rattle.step_table.specs.declared.variant.Variant.{Variant}
 use Rattle.step_table.specs.declared.variant.Variant.TheVariants.{NoLook, LateCount, PlainLess}
 use Rattle.step_table.specs.World.{Layout, Words, Seat, World, put, insert_wait, first_world}
 use Rattle.step_table.specs.Steps.{moved, turned, turn, can_turn}
-use Rattle.step_table.specs.Steps as steps
-use Rattle.step_table.specs.Journal.{on}
 use Rattle.step_table.specs.Lawful.{total, wait, raises, waits_of}
 use Rattle.step_table.specs.Core.{CoreLayout, Core, counters_of, first_core}
-use Rattle.step_table.specs.CoreSteps.{stands, at_counter, releases, calls, goes_on, after_counter, after_list, after_group, counter_row, list_row, row_of_standing, core_turned, can_run}
+use Rattle.step_table.specs.CoreSteps.{at_counter, releases, calls, goes_on, after_counter, after_list, after_group, counter_row, list_row, row_of_standing, core_turned, can_run}
 use Rattle.step_table.specs.CoreLaw.{IsOffCounters, IsStanding}
 use Rattle.step_table.specs.Group.{group_row}
 use Rattle.step_table.specs.Run.{Run, layout, call_of, begun, all_begun, start, continued, stepped}

@@ -21,18 +21,18 @@ use Rattle.step_table.specs.declared.standing.Standing.{Standing}
 use Rattle.step_table.specs.declared.standing.Standing.TheVariants.{Rest}
 use Rattle.step_table.specs.World.{World, put, journal_after}
 use Rattle.step_table.specs.Steps.{event_of, finds, turned, moved}
-use Rattle.step_core.specs.Stored.{Semaphores, HasTurned, HasMoved, IsAlike, each, idle, root_of}
-use Rattle.step_core.specs.Stored as sema
+use Rattle.step_rows.specs.Stored.{Semaphores, HasTurned, HasMoved, IsAlike, each, idle, root_of}
+use Rattle.step_rows.specs.Stored as sema
 use Rattle.step_table.specs.ListWorld.{ListEntry, ListWorld}
 use Rattle.step_table.specs.ListSteps as list
-use Rattle.step_core.specs.ListStored.{StoredList, IsListTurned}
-use Rattle.step_core.specs.ListStored as stored_list
+use Rattle.step_rows.specs.ListStored.{StoredList, IsListTurned}
+use Rattle.step_rows.specs.ListStored as stored_list
 use Rattle.step_table.specs.Group.{empty_word}
 use Rattle.step_table.specs.Core.{CoreLayout, semaphore, Core, journal_after_list, sema_entries, list_entries}
 use Rattle.step_table.specs.CoreSteps.{stands, at_counter, releases, goes_on, after_counter, after_list, after_group, counter_row, list_row}
 use Rattle.step_core.specs.State.{Machine, core_of, list_of, no_list, IsMachineFor, AreAlike, Becomes, HasSeat}
 use Rattle.step_table.proofs.Sums.{put_here, put_else}
-use Rattle.step_core.proofs.Storing.{each_set}
+use Rattle.step_rows.proofs.Storing.{each_set}
 use Rattle.step_table.proofs.CoreJournals.{sema_after, list_unchanged, sema_unchanged, list_after, other_unchanged}
 use Rattle.step_table.proofs.CoreRows.{leads_on}
 

@@ -1,6 +1,6 @@
 -- A step of a moment is a step of the run that it shows, with each journal behind it.
-use Rattle.std.proofs.Common.{◌≡◌, ◌≢◌, ℕ, zero, suc, ◌+◌, ◌^◌, ◌<◌, ◌≤◌, Bool, true, false, List, [], Option, Some, None, Result, Ok, Err, IfOk, IfErr, OnOk, nat_lt, cond, length, refl, sym, ap, ◌∙◌, subst, arith, ltb-true}
-use Rattle.std.proofs.lemmas.Bool.{lt-ltb, le-ltb}
+use Rattle.std.proofs.Common.{◌≡◌, ◌≢◌, ℕ, zero, suc, ◌+◌, ◌^◌, ◌<◌, ◌≤◌, Bool, true, false, List, [], Some, None, Result, IfOk, IfErr, OnOk, nat_lt, cond, length, refl, sym, ap, ◌∙◌, subst, ltb-true}
+use Rattle.std.proofs.lemmas.Bool.{le-ltb}
 use Rattle.step_table.specs.declared.entry.Entry.{Entry}
 use Rattle.step_table.specs.declared.list_place.ListEffect.{ListEffect}
 use Rattle.step_table.specs.declared.list_place.ListEffect.TheVariants.{HandsOut, Grants as GrantsUpTo}
@@ -24,17 +24,16 @@ use Rattle.step_core.specs.declared.turn.Turn.{Turn}
 use Rattle.step_core.specs.declared.turn.Turn.TheVariants.{OnCounter, OnList, OnGroup}
 use Rattle.step_table.specs.World.{Seat, journal_after}
 use Rattle.step_table.specs.Steps.{event_of, finds}
-use Rattle.step_core.specs.Stored.{each, idle, seat_of, IsStoredFor}
-use Rattle.step_core.specs.Stored as sema
+use Rattle.step_rows.specs.Stored.{each, idle, seat_of, IsStoredFor}
+use Rattle.step_rows.specs.Stored as sema
 use Rattle.step_table.specs.Core.{CoreLayout, Core, journal_after_list}
 use Rattle.step_table.specs.CoreSteps.{releases, goes_on, after_counter, after_list, after_group, row_of_standing, core_turned}
-use Rattle.step_table.specs.CoreLaw.{IsCallBefore, IsStanding}
-use Rattle.step_table.specs.Run.{Run, layout, continued, stepped, refusal_of, refusal}
+use Rattle.step_table.specs.Run.{Run, layout, continued, refusal_of, refusal}
 use Rattle.step_table.specs.RunInvariant.{IsSoundRun}
 use Rattle.step_table.specs.declared.variant.Variant.TheVariants.{PlainLess}
 use Rattle.step_core.specs.BentStored.{HasBentPast}
-use Rattle.step_core.specs.State.{Machine, AreAlike, HasStepped, Moment, State, IsMachineFor, Becomes, HasBegun, HasSeat, HasSeatOn, HasSeatAt, HasGroup, MayGoOn, MayGo, AsksFor, IsRefusal, IsReady, IsReadyAt, IsSound, Steps, HasPast, core_of, run_with, run_of, run_at, telling, entry_of, list_entry, and_then}
-use Rattle.step_core.proofs.Storing.{get_here}
+use Rattle.step_core.specs.State.{Machine, AreAlike, HasStepped, Moment, IsMachineFor, Becomes, HasBegun, HasSeat, HasSeatAt, MayGo, AsksFor, IsRefusal, IsReady, IsReadyAt, IsSound, Steps, HasPast, core_of, run_with, run_of, run_at, telling, entry_of, list_entry, and_then}
+use Rattle.step_rows.proofs.Storing.{get_here}
 use Rattle.step_core.proofs.Changing.{same_layout, then_all}
 use Rattle.step_core.proofs.Ranges.{orderly_state}
 use Rattle.step_core.proofs.Asking as asking

@@ -4,15 +4,15 @@ use Rattle.std.proofs.lemmas.List.{length-replicate}
 use Rattle.step_table.specs.declared.call.Call.{Call}
 use Rattle.step_table.specs.declared.call.Call.TheVariants.{Acquire, Release, ReleaseMany, Add, Wait, One, All as NotifyAll, GroupAdd, GroupWait}
 use Rattle.step_table.specs.declared.parts.Parts.{Parts}
-use Rattle.step_core.specs.Stored.{IsStoredFor, IsAlike, each}
+use Rattle.step_rows.specs.Stored.{IsStoredFor, IsAlike, each}
 use Rattle.step_table.specs.Core.{Core, first_core}
 use Rattle.step_table.specs.CoreSteps.{calls}
 use Rattle.step_table.specs.Scenario.{IsCallOn}
-use Rattle.step_table.specs.Run.{Run, layout, call_of, begun, all_begun, start}
+use Rattle.step_table.specs.Run.{Run, layout, call_of, begun, all_begun}
 use Rattle.step_table.specs.RunInvariant.{IsSoundRun, IsScenario, calls_of}
 use Rattle.step_core.specs.State.{Machine, State, IsMachineFor, Becomes, HasBegun, MayBegin, IsSound, IsStarted, core_of, run_with, telling}
 use Rattle.step_table.proofs.Sums.{put_else}
-use Rattle.step_core.proofs.Storing.{each_set, get_here, copies}
+use Rattle.step_rows.proofs.Storing.{each_set, get_here, copies}
 use Rattle.step_core.proofs.Changing.{same_layout}
 use Rattle.step_table.proofs.RunSound.{is_started}
 

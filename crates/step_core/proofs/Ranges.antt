@@ -5,7 +5,7 @@ use Rattle.std.proofs.lemmas.List.Elements.{All-get_or}
 use Rattle.std.proofs.Math.ListN.{get_or-eq_default}
 use native.Mathlib.Decide.{ℕ_discrete}
 use Rattle.waiters.specs.declared.wait.WaitId.{WaitId}
-use Rattle.step_core.specs.declared.caller.Caller.{Caller}
+use Rattle.step_rows.specs.declared.caller.Caller.{Caller}
 use Rattle.step_table.specs.declared.place.AcquireRow.TheVariants.{A7, P}
 use Rattle.step_table.specs.declared.place.Place.{Place}
 use Rattle.step_table.specs.declared.place.ReleaseRow.TheVariants.{R5}
@@ -18,11 +18,11 @@ use Rattle.step_table.specs.declared.word.Word.TheVariants.{Counter, Lock, Waite
 use Rattle.step_table.specs.World.{Layout, World, found, root_number}
 use Rattle.step_table.specs.Lawful.{total, times, added, IsGrantOf, AllBounded}
 use Rattle.step_table.specs.Invariant.{IsWithin, Finds, asleep}
-use Rattle.step_core.specs.Stored.{Stored, HasRow, HasRowsOf, HasHand, MayMove, each, idle, words_of, root_of, row_finds, row_event}
+use Rattle.step_rows.specs.Stored.{Stored, HasRow, HasRowsOf, HasHand, MayMove, each, idle, words_of, root_of, row_finds, row_event}
 use Rattle.step_table.specs.ListWorld.{ListWorld}
 use Rattle.step_table.specs.ListLawful.{told}
-use Rattle.step_core.specs.ListStored.{HasListRow, CanStep}
-use Rattle.step_core.specs.Roots.{queued}
+use Rattle.step_rows.specs.ListStored.{HasListRow, CanStep}
+use Rattle.step_rows.specs.Roots.{queued}
 use Rattle.step_table.specs.Core.{counters_of}
 use Rattle.step_table.specs.CoreLaw.{IsStanding}
 use Rattle.step_table.specs.Scenario.{IsScript}
@@ -35,13 +35,13 @@ use Rattle.step_core.specs.BentStored.{IsOrderly}
 use Rattle.step_core.specs.State.{State, IsSound, AsksFor, no_list, run_of}
 use Rattle.step_table.proofs.Sums.{total_zero, total_suc, total_rest, total_has}
 use Rattle.step_table.proofs.Placing.{same_here}
-use Rattle.step_core.proofs.Rooting.{root_within}
+use Rattle.step_rows.proofs.Rooting.{root_within}
 use Rattle.step_table.proofs.Bounding.{orderly_bounded, orderly}
 use Rattle.step_table.proofs.Parking.{in_a_hand}
 use Rattle.step_core.proofs.BentLists.{orderly_list}
 use Rattle.step_table.proofs.ListKeeping.{list_reached}
 use Rattle.step_table.proofs.ListLawfulness as lists
-use Rattle.step_core.proofs.ListRanges.{has_list_row}
+use Rattle.step_rows.proofs.ListRanges.{has_list_row}
 
 -- a sum of n terms, each at most b
 total_most : (n b : ℕ) (f : ℕ → ℕ) → ((k : ℕ) → k < n → f k ≤ b) → total n f ≤ b * n

@@ -4,7 +4,7 @@ use Rattle.std.proofs.Common.{◌≡◌, ℕ, zero, suc, List, [], refl, sym, �
 use Rattle.std.proofs.lemmas.List.{get_or_default}
 use Rattle.step_table.specs.declared.entry.Entry.{Entry}
 use Rattle.step_table.specs.declared.group_word.GroupWord.{GroupWord}
-use Rattle.step_core.specs.declared.list_outcome.ListReady.{ListReady}
+use Rattle.step_rows.specs.declared.list_outcome.ListReady.{ListReady}
 use Rattle.step_table.specs.declared.list_place.ListEffect.{ListEffect}
 use Rattle.step_table.specs.declared.list_place.ListEffect.TheVariants.{HandsOut, Grants}
 use Rattle.step_table.specs.declared.list_place.ListPlace.{ListPlace}
@@ -13,7 +13,7 @@ use Rattle.step_table.specs.declared.effect.Effect.{Effect}
 use Rattle.step_table.specs.declared.effect.Effect.TheVariants.{Tells}
 use Rattle.step_table.specs.declared.place.Place.{Place}
 use Rattle.step_table.specs.declared.place.Place.TheVariants as on_counter
-use Rattle.step_core.specs.declared.ready.Ready.{Ready}
+use Rattle.step_rows.specs.declared.ready.Ready.{Ready}
 use Rattle.step_table.specs.declared.standing.After.{After}
 use Rattle.step_table.specs.declared.standing.After.TheVariants.{NextCall, LooksAgain, Releases}
 use Rattle.step_table.specs.declared.standing.GroupNext.{GroupNext}
@@ -25,14 +25,14 @@ use Rattle.step_table.specs.World.{Seat, put, found, journal_after}
 use Rattle.step_table.specs.Event.{Event}
 use Rattle.step_table.specs.Table.{event_at}
 use Rattle.step_table.specs.Steps.{finds}
-use Rattle.step_core.specs.Stored.{Semaphores, CanRun, each, idle, words_of, root_of, seat_of, world_of, finds_in, event_in}
-use Rattle.step_core.specs.Stored as sema
-use Rattle.step_core.specs.ListStored.{IsListReady}
+use Rattle.step_rows.specs.Stored.{Semaphores, CanRun, each, idle, words_of, root_of, seat_of, world_of, finds_in, event_in}
+use Rattle.step_rows.specs.Stored as sema
+use Rattle.step_rows.specs.ListStored.{IsListReady}
 use Rattle.step_table.specs.Group.{empty_word, group_row}
 use Rattle.step_table.specs.Core.{CoreLayout, Core, journal_after_list}
 use Rattle.step_table.specs.CoreSteps.{releases, goes_on, after_counter, after_list, after_group, counter_row, list_row, row_of_standing, core_turned}
 use Rattle.step_core.specs.State.{Machine, Becomes, IsMachineFor, IsReadyAt, core_of, no_list, list_entry, entry_of, and_then}
-use Rattle.step_core.proofs.Storing.{get_here}
+use Rattle.step_rows.proofs.Storing.{get_here}
 
 -- the row of a seat that does this
 pub at_standing : (h k : Machine) (i : ℕ) (x : Standing) → each Rest h.standing i ≡ x

@@ -16,11 +16,11 @@ use Rattle.step_table.specs.declared.standing.After.TheVariants.{Releases}
 use Rattle.step_table.specs.declared.standing.Standing.{Standing}
 use Rattle.step_table.specs.declared.standing.Standing.TheVariants.{Rest, AtCounter, AtList, AtGroup}
 use Rattle.step_table.specs.Journal.{Plain, plain_start, replay}
-use Rattle.step_core.specs.Stored.{Semaphores, IsStoredFor, IsAlike, HasRow, CanRun, each, root_of, event_in, finds_in}
-use Rattle.step_core.specs.Stored as sema
+use Rattle.step_rows.specs.Stored.{Semaphores, IsStoredFor, IsAlike, HasRow, CanRun, each, root_of, event_in, finds_in}
+use Rattle.step_rows.specs.Stored as sema
 use Rattle.step_table.specs.ListWorld.{ListWorld}
-use Rattle.step_core.specs.ListStored.{StoredList, CanStep, IsListReady}
-use Rattle.step_core.specs.ListStored as list
+use Rattle.step_rows.specs.ListStored.{StoredList, CanStep, IsListReady}
+use Rattle.step_rows.specs.ListStored as list
 use Rattle.step_table.specs.Group.{empty_word}
 use Rattle.step_table.specs.Core.{CoreLayout, Core, sema_entries, list_entries}
 use Rattle.step_table.specs.CoreSteps.{IsCoreEnd}

@@ -5,50 +5,31 @@
 //! units at once.
 #![tactic(auto)]
 
-mod acquire;
 mod bent_world;
-mod caller;
 mod calling;
 mod group;
-mod key;
 mod laws;
-mod list_outcome;
-mod list_rows;
 mod machine;
 mod moment;
-mod notify_list;
-mod outcome;
-mod queues;
-mod ready;
-mod release;
-mod release_many;
 mod running;
 mod scenario;
 mod schedule;
-mod seats;
-mod semaphores;
-mod shared;
-mod sight;
 mod starting;
-mod step;
 mod turn;
 mod world;
 
 pub use bent_world::BentWorld;
-pub use caller::Caller;
 pub use laws::{law_of_the_bent, law_of_the_keys};
 pub use moment::Moment;
-pub use outcome::Outcome;
-pub use scenario::{
-    MAX_CALLS, MAX_COUNTERS, MAX_GROUPS, MAX_LISTS, MAX_ROOTS, MAX_SEATS, MAX_UNITS, MIN_UNITS,
-    Scenario,
-};
+pub use scenario::Scenario;
 pub use schedule::run;
+pub use step_rows::{Caller, Outcome};
 pub use step_table::{
     Acquire, AcquireRow, After, AllRow, Call, Effect, Entry, GroupId, GroupNext, GroupRow,
-    GroupWord, Items, ListEffect, ListId, ListPlace, ListWord, ManyRow, Misuse, OneRow, Parts,
-    Phase, Place, Reach, Release, ReleaseMany, ReleaseRow, Row, RunRefused, ScenarioRefused,
-    Standing, StepRefused, Ticket, Variant, WaitRow, Word, law_of_the_alike, law_of_the_core,
+    GroupWord, Items, ListEffect, ListId, ListPlace, ListWord, MAX_CALLS, MAX_COUNTERS, MAX_GROUPS,
+    MAX_LISTS, MAX_ROOTS, MAX_SEATS, MAX_UNITS, MIN_UNITS, ManyRow, Misuse, OneRow, Parts, Phase,
+    Place, Reach, Release, ReleaseMany, ReleaseRow, Row, RunRefused, ScenarioRefused, Standing,
+    StepRefused, Ticket, Variant, WaitRow, Word, law_of_the_alike, law_of_the_core,
     law_of_the_lists, law_of_the_rows, less,
 };
 pub use waiters::{CounterId, NoMemory, SeatId, WaitId};

@@ -8,20 +8,17 @@ ghost use Rattle.step_table.specs.World.{put};
 ghost use Rattle.step_table.specs.Steps.{moved};
 ghost use Rattle.step_table.specs.ListSteps.{moved as moved_on_list, waiting};
 ghost use Rattle.step_table.specs.Group.{empty_word};
-ghost use Rattle.step_core.specs.Key.{joined, list_words, group_words, standing_words, core_words, HasForm};
-ghost use Rattle.step_core.specs.ListStored.{IsListReady, world_of};
+ghost use Rattle.step_rows.specs.Key.{joined, list_words, group_words, standing_words};
+ghost use Rattle.step_core.specs.Key.{core_words, HasForm};
+ghost use Rattle.step_rows.specs.ListStored.{IsListReady, world_of};
 ghost use Rattle.step_table.specs.Core.{CoreLayout, semaphore};
 ghost use Rattle.step_table.specs.CoreSteps.{stands, at_counter, at_list, waits_on_list, releases, counter_row, list_row};
 ghost use Rattle.step_table.specs.Scenario.{IsWithinLimits};
 ghost use Rattle.step_core.specs.State.{Becomes, IsMachineFor, HasSeat, HasListSeat, no_list, core_of};
-ghost use Rattle.step_core.specs.Stored.{each, CanRun};
+ghost use Rattle.step_rows.specs.Stored.{each, CanRun};
 
-use crate::key::{write_group, write_standing};
-use crate::list_outcome::ListReady;
-use crate::notify_list::NotifyList;
-use crate::ready::Ready;
-use crate::semaphores::Semaphores;
 use std::marker::Model;
+use step_rows::{ListReady, NotifyList, Ready, Semaphores, write_group, write_standing};
 use step_table::{
     After, GroupId, GroupWord, ListId, ListPlace, Parts, Place, Release, ReleaseRow, Standing,
 };

@@ -6,24 +6,10 @@ ghost use Rattle.step_table.specs.Scenario.{IsWithinLimits, IsDeclared, KeepsTic
 ghost use Rattle.step_table.specs.RunInvariant.{IsScenario};
 
 use std::marker::Model;
-use step_table::{Call, Items, ListId, Parts, ScenarioRefused};
-
-/// The most counters of a scenario.
-pub const MAX_COUNTERS: usize = 16;
-/// The most notify lists.
-pub const MAX_LISTS: usize = 16;
-/// The most wait groups.
-pub const MAX_GROUPS: u32 = 16;
-/// The most seats.
-pub const MAX_SEATS: usize = 16;
-/// The most calls of a seat.
-pub const MAX_CALLS: usize = 32;
-/// The fewest units of a release of many.
-pub const MIN_UNITS: u32 = 1;
-/// The most units of a release of many.
-pub const MAX_UNITS: u32 = 256;
-/// The most roots.
-pub const MAX_ROOTS: u32 = 251;
+use step_table::{
+    Call, Items, ListId, MAX_CALLS, MAX_COUNTERS, MAX_GROUPS, MAX_LISTS, MAX_ROOTS, MAX_SEATS,
+    MAX_UNITS, MIN_UNITS, Parts, ScenarioRefused,
+};
 
 /// Parts that keep the limits, whose calls name what is declared, and whose seats take and spend tickets in turn.
 #[derive(Debug, Drop)]

@@ -1,21 +1,20 @@
 //! The machine at the start of a scenario, and copies of it.
 
-ghost use Rattle.std.specs.Prelude.{◌≡◌, ◌<◌, ◌^◌, ℕ, [], length, map, IfOk};
+ghost use Rattle.std.specs.Prelude.{◌≡◌, ◌<◌, ◌^◌, ℕ, [], length, map, IfOk, OnOk};
 ghost use Rattle.std.specs.List.{range_with_len};
 ghost use Rattle.step_table.specs.Core.{first_core};
 ghost use Rattle.step_table.specs.Run.{layout};
 ghost use Rattle.step_table.specs.Group.{empty_word};
-ghost use Rattle.step_core.specs.ListStored.{first_moment, moment_of};
+ghost use Rattle.step_rows.specs.ListStored.{first_moment, moment_of};
 ghost use Rattle.step_core.specs.State.{core_of, AreFirst, IsMachineFor};
-ghost use Rattle.step_core.specs.Stored.{IsStoredFor};
+ghost use Rattle.step_rows.specs.Stored.{IsStoredFor};
 ghost use Rattle.step_table.specs.declared.standing.Standing.TheVariants.{Rest};
 
 use crate::group::EMPTY;
 use crate::machine::Machine;
-use crate::notify_list::NotifyList;
 use crate::scenario::Scenario;
-use crate::semaphores::Semaphores;
 use std::alloc::{AllocError, Global};
+use step_rows::{NotifyList, Semaphores, copy_items};
 use step_table::{GroupWord, Standing};
 use waiters::NoMemory;
 
@@ -55,6 +54,17 @@ fn copied(alloc: Global, lists: &[NotifyList]) -> Result<Vec<NotifyList>, NoMemo
     Ok(copy)
 }
 
+/// The lists become as the others are, of which there are as many.
+fn copy_lists(lists: &mut [NotifyList], others: &[NotifyList]) -> Result<(), NoMemory>
+    requires { length lists.old ≡ length others.now }
+    ensures { OnOk result (lists.new ≡ others.now) }
+{
+    for at in 0..others.len() {
+        lists[at].copy_from(&others[at])?;
+    }
+    Ok(())
+}
+
 impl Machine {
     /// The machine before any call has begun. All memory of a run is taken here.
     pub(crate) fn new(alloc: Global, scenario: &Scenario) -> Result<Machine, NoMemory>
@@ -83,6 +93,30 @@ impl Machine {
             lists: copied(alloc, self.lists.as_slice())?,
             groups: self.groups.as_slice().to_vec(alloc)?,
             standing: self.standing.as_slice().to_vec(alloc)?,
+        })
+    }
+
+    /// The other machine, in the memory of this one. Memory is taken where that has other lists, roots or seats.
+    pub(crate) fn try_clone_over(self, alloc: Global, other: &Machine) -> Result<Machine, NoMemory>
+        ensures { IfOk result (λ copy. copy ≡ other.now) }
+    {
+        if self.lists.len() != other.lists.len() {
+            return other.try_clone(alloc);
+        }
+        let Machine {
+            semaphores,
+            mut lists,
+            mut groups,
+            mut standing,
+        } = self;
+        copy_lists(&mut lists, &other.lists)?;
+        copy_items(&mut groups, &other.groups)?;
+        copy_items(&mut standing, &other.standing)?;
+        Ok(Machine {
+            semaphores: semaphores.try_clone_over(alloc, &other.semaphores)?,
+            lists,
+            groups,
+            standing,
         })
     }
 }

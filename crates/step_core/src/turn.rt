@@ -1,9 +1,7 @@
 ghost use Rattle.std.specs.Prelude.{◌≡◌};
 ghost use Rattle.step_core.specs.State.{entry_of};
 
-use crate::list_outcome::ListReady;
-use crate::outcome::entry_of;
-use crate::ready::Ready;
+use step_rows::{ListReady, Ready, entry_of};
 use step_table::{After, Entry, GroupId, GroupRow, ListEffect, ListId};
 use waiters::SeatId;
 

@@ -99,7 +99,7 @@ IsCommitted s k c = (a : Acquire) × (a.counter ≡ c) × ((s.seats k).place ≡
 abbrev pub OneJournal : Layout → World → Type 0
 OneJournal m s = (plain s.words ≡ replay (plain_start m.starts) s.journal) × IsLawful (plain_start m.starts) s.journal
 
--- a lock word is 1 while one seat holds the lock, and else 0
+-- a lock word is the number of seats that hold the lock
 abbrev pub LocksHeld : Layout → World → Type 0
 LocksHeld m s = (r : ℕ) → s.words.locks r ≡ total m.seats (λ k. holds m.root r (s.seats k).place)
 

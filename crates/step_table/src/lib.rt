@@ -12,6 +12,7 @@ mod group_id;
 mod group_word;
 mod items;
 mod laws;
+mod limits;
 mod list_id;
 mod list_place;
 mod misuse;
@@ -32,6 +33,9 @@ pub use group_id::GroupId;
 pub use group_word::GroupWord;
 pub use items::Items;
 pub use laws::{law_of_the_alike, law_of_the_core, law_of_the_lists, law_of_the_rows};
+pub use limits::{
+    MAX_CALLS, MAX_COUNTERS, MAX_GROUPS, MAX_LISTS, MAX_ROOTS, MAX_SEATS, MAX_UNITS, MIN_UNITS,
+};
 pub use list_id::ListId;
 pub use list_place::{AllRow, ListEffect, ListPlace, ListWord, OneRow, Reach, Ticket, WaitRow};
 pub use misuse::Misuse;

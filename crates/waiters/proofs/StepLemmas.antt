@@ -1,5 +1,5 @@
 -- Lemmas on one step of `Lists`: one list changes, and every other keeps its records.
-use Rattle.std.proofs.Common.{◌≡◌, ◌≢◌, ℕ, ◌+◌, ◌-◌, ◌<◌, ◌≤◌, ◌^◌, List, [], ◌∷◌, ◌++◌, length, Option, Some, None, cond, eqb, refl, sym, ap, ◌∙◌, append-nil, length-append, inl, inr, arith, get_or}
+use Rattle.std.proofs.Common.{◌≡◌, ◌≢◌, ℕ, ◌+◌, ◌-◌, ◌<◌, ◌≤◌, ◌^◌, List, [], ◌∷◌, ◌++◌, length, map, Option, Some, None, is_some, cond, eqb, refl, sym, ap, ◌∙◌, append-nil, length-append, inl, inr, arith, get_or}
 use Rattle.std.proofs.lemmas.Bool.{cases_eq}
 use Rattle.std.proofs.lemmas.Bool.Decides.{nat_tests}
 use Rattle.std.proofs.lemmas.List.{map_push, length-map}
@@ -7,16 +7,30 @@ use Rattle.std.specs.Option.{unwrap_or}
 use Rattle.std.proofs.Math.ListN.{get_or-map}
 use Rattle.slab.specs.Slab.{Slab, get, ContainsKey, slab_len, Updates, with_value}
 use Rattle.slab.proofs.SlabLemmas.{Updates-with_value}
-use Rattle.waiters.specs.Lists.{Lists, list_at, waits_at, Changes, first_with, without_first}
+use Rattle.waiters.specs.Lists.{Lists, list_at, IsOpen, waits_at, Changes, first_with, without_first}
 use Rattle.waiters.specs.declared.wait.Wait.{Wait}
 use Rattle.waiters.specs.declared.lists.Record.{Record}
 use Rattle.waiters.specs.declared.lists.Chain.{Chain}
 use Rattle.waiters.specs.declared.lists.Place.{Place}
 use Rattle.waiters.specs.Chains.{waits_in, waits_of, listed, Linked, last_key, Links, Owned, IsChain, HasRoom, AreChained, IsThere, Appends, Prepends, Unlinks, StandsAt, FoundAt, Finds}
+use Rattle.waiters.proofs.SlotLemmas.{get_or-trimmed}
 use Rattle.waiters.proofs.ChainLemmas.{Avoids, Avoids-last, Linked-split, same_entries, nil_from_last, nil_from_none, Avoids-vacant, Avoids-owned, Owned-changed, Owned-split, Owned-join, front_of, waits_from-Linked, length-Linked, Linked-Updates, Linked-others, Relinks-room, last_there, slab_len-with_value, Links-appended, Links-prepended, Links-unlinked}
 
 pub list_at-listed : (records : Slab Record) (chains : Slab Chain) (key : ℕ) → get_or (listed records chains) key None ≡ waits_in records (get chains key)
-list_at-listed records chains key = get_or-map (waits_in records) chains.slots key None
+list_at-listed records chains key =
+    get_or-trimmed (map (waits_in records) chains.slots) key ∙ get_or-map (waits_in records) chains.slots key None
+
+-- a list is open where it has a chain
+pub is_some_listed : (records : Slab Record) (chains : Slab Chain) (key : ℕ) → is_some (get_or (listed records chains) key None) ≡ is_some (get chains key)
+is_some_listed records chains key = ap is_some (list_at-listed records chains key) ∙ by_chain (get chains key)
+  where
+    by_chain : (slot : Option Chain) → is_some (waits_in records slot) ≡ is_some slot
+    by_chain None = refl
+    by_chain (Some chain) = refl
+
+pub ContainsKey-open : (records : Slab Record) (chains : Slab Chain) (lists : Lists) (key at : ℕ) → at ≡ key → lists.slots ≡ listed records chains → IsOpen lists key → ContainsKey chains at
+ContainsKey-open records chains lists key at is was has =
+    rw is (sym (is_some_listed records chains key) ∙ ap (λ slots. is_some (get_or slots key None)) (sym was) ∙ has)
 
 pub waits_in-Links : (records : Slab Record) (chain : Chain) (entries : List (ℕ × Wait)) → Links records chain entries → waits_in records (Some chain) ≡ Some (waits_of entries)
 waits_in-Links records chain entries links =

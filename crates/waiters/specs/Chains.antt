@@ -22,9 +22,20 @@ abbrev pub waits_in : Slab Record → Option Chain → Option (List Wait)
 waits_in records None = None
 waits_in records (Some chain) = Some (waits_from records chain.len chain.first)
 
--- the list under each key
+-- the slot and those after it, but nothing where all are empty
+abbrev pub put_before : {T : Type 0} → Option T → List (Option T) → List (Option T)
+put_before None [] = []
+put_before None (other ∷ rest) = None ∷ other ∷ rest
+put_before (Some value) rest = Some value ∷ rest
+
+-- the slots up to the last that isn't empty
+abbrev pub trimmed : {T : Type 0} → List (Option T) → List (Option T)
+trimmed [] = []
+trimmed (slot ∷ rest) = put_before slot (trimmed rest)
+
+-- the list under each key, up to the last that is open
 abbrev pub listed : Slab Record → Slab Chain → List (Option (List Wait))
-listed records chains = map (waits_in records) chains.slots
+listed records chains = trimmed (map (waits_in records) chains.slots)
 
 -- records linked from `here` on, by their keys and waits, and the link out of the last
 abbrev pub Linked : Slab Record → Option ℕ → List (ℕ × Wait) → Option ℕ → Type 0

@@ -10,6 +10,7 @@ mod list_key;
 mod lists;
 mod no_memory;
 mod seat_id;
+pub mod slabs;
 mod wait;
 
 pub use counter_id::CounterId;

@@ -235,3 +235,62 @@ fn refused_lists_can_be_had_again(rt: HostRuntime) -> Result<(), Fail> {
     assert_eq!(rt; lists.list_room(), 2);
     Ok(())
 }
+
+/// Two lists, of which the second has a wait, in place of the first's.
+fn elsewhere(rt: &impl Abort, lists: &mut Lists) {
+    let first = open(rt, lists);
+    let second = open(rt, lists);
+    push_back(rt, lists, first, wait(2, 9));
+    push_back(rt, lists, second, wait(3, 9));
+    assert_eq!(rt; pop_front(rt, lists, first), Some(wait(2, 9)));
+}
+
+/// One list with a wait, whose record is not the first.
+fn one_list(rt: &impl Abort, lists: &mut Lists) -> ListKey {
+    let key = open(rt, lists);
+    push_back(rt, lists, key, wait(0, 5));
+    push_back(rt, lists, key, wait(1, 7));
+    assert_eq!(rt; pop_front(rt, lists, key), Some(wait(0, 5)));
+    key
+}
+
+/// Empties the list of `one_list` by calls that see each of its waits.
+fn empties(rt: &impl Abort, lists: &mut Lists, key: ListKey) {
+    let rows = [
+        Row(Call::PushFront(2, 5), None, 2, 1),
+        Row(Call::TakeTicket(7), Some(wait(1, 7)), 1, 2),
+        Row(Call::PopFront, Some(wait(2, 5)), 0, 3),
+    ];
+    answers_as_written(rt, lists, key, rows.as_slice());
+}
+
+#[test]
+fn a_copy_over_other_lists_takes_no_memory(rt: HostRuntime) -> Result<(), Fail> {
+    let mut lists = lists_again(rt.alloc())?;
+    let key = one_list(&rt, &mut lists);
+    let mut over = lists_again(rt.alloc())?;
+    elsewhere(&rt, &mut over);
+    assert!(rt; over.copy_from(&lists).is_ok());
+    assert_eq!(rt; over.list_room(), 1);
+    empties(&rt, &mut over, key);
+    assert_eq!(rt; first(&rt, &lists, key), Some(wait(1, 7)));
+    assert!(rt; over.copy_from(&lists).is_ok());
+    assert_eq!(rt; first(&rt, &over, key), Some(wait(1, 7)));
+    Ok(())
+}
+
+#[test]
+fn a_copy_over_smaller_lists_takes_memory(rt: HostRuntime) -> Result<(), Fail> {
+    let mut lists = lists_again(rt.alloc())?;
+    let key = one_list(&rt, &mut lists);
+    let mut over = match Lists::with_room(rt.alloc(), 0, 0) {
+        Ok(over) => over,
+        Err(NoMemory) => Lists::with_room(rt.alloc(), 0, 0)?,
+    };
+    if over.copy_from(&lists).is_err() {
+        assert_eq!(rt; over.room(), 0);
+        over.copy_from(&lists)?;
+    }
+    empties(&rt, &mut over, key);
+    Ok(())
+}

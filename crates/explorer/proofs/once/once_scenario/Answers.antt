@@ -1,12 +1,10 @@
-use Rattle.std.proofs.Common.{◌≡◌, zero, suc, [], ◌∷◌, Result, Ok, Err, IsOk, All, false, refl, sym, subst, rules, arith}
+use Rattle.std.proofs.Common.{◌≡◌, zero, suc, [], ◌∷◌, All, false, sym, subst, rules, arith}
 use Rattle.std.proofs.lemmas.List.Elements.{All-cons, All-nil}
 use Rattle.step_table.specs.declared.call.Call.{Call}
 use Rattle.step_table.specs.declared.call.Call.TheVariants.{Acquire, Release}
-use Rattle.step_table.specs.declared.parts.Parts.{Parts}
-use Rattle.step_table.specs.declared.refusal.ScenarioRefused.{ScenarioRefused}
-use Rattle.step_table.specs.declared.refusal.ScenarioRefused.TheVariants.{OutOfLimits, Undeclared, Ticket}
 use Rattle.step_table.specs.Scenario.{IsWithinLimits, IsDeclared, KeepsTickets, AreTicketsKept, IsTicketCall, IsScript, IsOfFewUnits, IsCallOn}
 use Rattle.explorer.specs.Once.{once_parts_of}
+use Rattle.explorer.proofs.Scenarios.{taken}
 use Rattle.explorer.proofs.once.once_scenario.Goals as goal
 
 all_one : {X : Type 0} (P : X → Type 0) (x : X) → P x → All P (x ∷ [])
@@ -43,13 +41,6 @@ no_ticket call h (suc i) = tt
 
 tickets : KeepsTickets once_parts_of
 tickets = all_two AreTicketsKept _ _ (no_ticket (Acquire 0 false) tt) (no_ticket (Release 0 false) tt)
-
--- a result that is none of the refusals
-taken : (r : Result Parts ScenarioRefused) → (r ≡ Err OutOfLimits → ⊥) → (r ≡ Err Undeclared → ⊥) → (r ≡ Err Ticket → ⊥) → IsOk r
-taken (Ok scenario) limits undeclared ticket = refl
-taken (Err OutOfLimits) limits undeclared ticket = absurd (limits refl)
-taken (Err Undeclared) limits undeclared ticket = absurd (undeclared refl)
-taken (Err Ticket) limits undeclared ticket = absurd (ticket refl)
 
 pub unwrap-requires : goal.unwrap-requires
 unwrap-requires c =

@@ -1,5 +1,5 @@
 use Rattle.std.proofs.Common.{◌≡◌, ◌≤◌, List, length, take}
-use Rattle.step_core.specs.ListStored.{StoredList}
+use Rattle.step_rows.specs.ListStored.{StoredList}
 use Rattle.step_core.proofs.starting.copied.Given as goal
 
 abbrev pub invariant-loop-list : goal.invariant-loop-list

@@ -1,7 +1,7 @@
-use Rattle.std.proofs.Common.{◌≡◌, ◌++◌, ◌+◌, [], ◌∷◌, length}
-use Rattle.step_core.specs.Key.{joined, standing_words}
+use Rattle.std.proofs.Common.{◌≡◌, ◌++◌}
+use Rattle.step_rows.specs.Key.{joined, standing_words}
 use Rattle.step_table.specs.declared.standing.Standing.TheVariants.{Rest}
-use Rattle.step_core.specs.Stored.{each}
+use Rattle.step_rows.specs.Stored.{each}
 use Rattle.step_core.proofs.machine.Machine.write_all_standing.Given as goal
 
 abbrev pub invariant-loop-standing : goal.invariant-loop-standing

@@ -1,7 +1,7 @@
-use Rattle.std.proofs.Common.{◌≡◌, ◌++◌, ◌+◌, [], ◌∷◌, length}
+use Rattle.std.proofs.Common.{◌≡◌, ◌++◌}
 use Rattle.step_table.specs.Group.{empty_word}
-use Rattle.step_core.specs.Key.{joined, group_words}
-use Rattle.step_core.specs.Stored.{each}
+use Rattle.step_rows.specs.Key.{joined, group_words}
+use Rattle.step_rows.specs.Stored.{each}
 use Rattle.step_core.proofs.machine.Machine.write_groups.Given as goal
 
 abbrev pub invariant-loop-word : goal.invariant-loop-word

@@ -1,8 +1,8 @@
-use Rattle.std.proofs.Common.{◌≡◌, ◌++◌, ◌+◌, [], ◌∷◌, length}
-use Rattle.step_core.specs.Key.{joined, list_words}
-use Rattle.step_core.specs.ListStored.{world_of}
+use Rattle.std.proofs.Common.{◌≡◌, ◌++◌, [], length}
+use Rattle.step_rows.specs.Key.{joined, list_words}
+use Rattle.step_rows.specs.ListStored.{world_of}
 use Rattle.step_core.specs.State.{no_list}
-use Rattle.step_core.specs.Stored.{each}
+use Rattle.step_rows.specs.Stored.{each}
 use Rattle.step_core.proofs.machine.Machine.write_lists.Given as goal
 
 abbrev pub invariant-loop-list : goal.invariant-loop-list

@@ -1,6 +1,11 @@
-use Rattle.std.proofs.Common.{ap, sym, refl}
-use Rattle.waiters.proofs.StepLemmas.{AreChained-step, Changes-step, Keeps-same, HasRoom-more}
+use Rattle.std.proofs.Common.{is_some, ap, sym, refl}
+use Rattle.waiters.proofs.StepLemmas.{ContainsKey-open, AreChained-step, Changes-step, Keeps-same, HasRoom-more}
 use Rattle.waiters.proofs.lists.Lists.close.Goals as goal
+
+pub remove-requires : goal.remove-requires
+remove-requires c =
+    let was = ap (λ lists. lists.slots) (sym c.self.view_is) in
+    ContainsKey-open c.self.inside.records c.self.inside.chains c.args.self.now _ _ c.number.ensures was (ap is_some c.requires)
 
 pub invariant_of-self : goal.invariant_of-self
 invariant_of-self c =

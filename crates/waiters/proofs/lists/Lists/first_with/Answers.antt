@@ -1,7 +1,12 @@
-use Rattle.std.proofs.Common.{ap, sym, ◌∙◌, refl}
+use Rattle.std.proofs.Common.{ap, sym, ◌∙◌}
 use Rattle.std.specs.Prelude.{Some}
-use Rattle.waiters.proofs.StepLemmas.{mine, waits_at-open, none_found, FoundAt-mine, ContainsKey-place, wait_found}
+use Rattle.waiters.proofs.StepLemmas.{ContainsKey-open, mine, waits_at-open, none_found, FoundAt-mine, ContainsKey-place, wait_found}
 use Rattle.waiters.proofs.lists.Lists.first_with.Goals as goal
+
+pub index-chain-requires : goal.index-chain-requires
+index-chain-requires c =
+    let was = ap (λ lists. lists.slots) (sym c.self.view_is) in
+    ContainsKey-open c.self.inside.records c.self.inside.chains c.args.self.now _ _ c.number-list.ensures was c.requires.«open»
 
 pub find-requires : goal.find-requires
 find-requires c =

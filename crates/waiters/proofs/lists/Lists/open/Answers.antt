@@ -1,5 +1,6 @@
-use Rattle.std.proofs.Common.{ap, sym, refl}
-use Rattle.waiters.proofs.StepLemmas.{AreChained-step, Changes-step, Keeps-same, IsSlot-empty, HasRoom-less}
+use Rattle.std.proofs.Common.{ap, sym, refl, ◌∙◌}
+use Rattle.waiters.proofs.StepLemmas.{list_at-listed, AreChained-step, Changes-step, Keeps-same, IsSlot-empty, HasRoom-less}
+use Rattle.waiters.specs.Chains.{waits_in}
 use Rattle.waiters.proofs.lists.Lists.open.Goals as goal
 
 pub invariant_of-self : goal.invariant_of-self
@@ -15,3 +16,8 @@ returns-clause-opened c =
     let old = c.self.invariant in
     let records = c.self.inside.records in
     rw c.new.ensures (Changes-step records records _ _ _ _ old _ _ c.insert_reserved.ensures.updates old.owner _ _ _ (Keeps-same records old.owner _) (ap (λ lists. lists.slots) (sym c.self.view_is)) refl refl)
+
+pub returns-clause-was_closed : goal.returns-clause-was_closed
+returns-clause-was_closed c =
+    let records = c.self.inside.records in
+    rw (← c.self.view_is, c.new.ensures) (list_at-listed records c.self.inside.chains _ ∙ ap (waits_in records) c.insert_reserved.ensures.was_vacant)

@@ -1,8 +1,13 @@
 use Rattle.std.proofs.Common.{drop, ap, sym, ◌∙◌, refl}
 use Rattle.std.specs.Prelude.{Some}
 use Rattle.waiters.specs.Chains.{waits_of}
-use Rattle.waiters.proofs.StepLemmas.{AreChained-unlinked, Changes-unlinked, Changes-same, wait-unlinked, first_waits, waits_at-open, list_at-open, nil_from_first, StandsAt-first, ContainsKey-place, some_counted}
+use Rattle.waiters.proofs.StepLemmas.{ContainsKey-open, AreChained-unlinked, Changes-unlinked, Changes-same, wait-unlinked, first_waits, waits_at-open, list_at-open, nil_from_first, StandsAt-first, ContainsKey-place, some_counted}
 use Rattle.waiters.proofs.lists.Lists.pop_front.Goals as goal
+
+pub index-chain-requires : goal.index-chain-requires
+index-chain-requires c =
+    let was = ap (λ lists. lists.slots) (sym c.self.view_is) in
+    ContainsKey-open c.self.inside.records c.self.inside.chains c.args.self.now _ _ c.number-list.ensures was c.requires.«open»
 
 pub returns-in_default-clause-first : goal.returns-in_default-clause-first
 returns-in_default-clause-first c =

@@ -1,6 +1,11 @@
 use Rattle.std.proofs.Common.{ap, sym, refl}
-use Rattle.waiters.proofs.StepLemmas.{AreChained-appended, Changes-appended, len_fits, IsThere-last}
+use Rattle.waiters.proofs.StepLemmas.{ContainsKey-open, AreChained-appended, Changes-appended, len_fits, IsThere-last}
 use Rattle.waiters.proofs.lists.Lists.push_back.Goals as goal
+
+pub index-chain-requires : goal.index-chain-requires
+index-chain-requires c =
+    let was = ap (λ lists. lists.slots) (sym c.self.view_is) in
+    ContainsKey-open c.self.inside.records c.self.inside.chains c.args.self.now _ _ c.number-list.ensures was c.requires.«open»
 
 pub append-requires-clause-last : goal.append-requires-clause-last
 append-requires-clause-last c =

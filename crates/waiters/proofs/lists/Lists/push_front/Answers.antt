@@ -1,6 +1,11 @@
 use Rattle.std.proofs.Common.{ap, sym, refl}
-use Rattle.waiters.proofs.StepLemmas.{AreChained-prepended, Changes-prepended, len_fits}
+use Rattle.waiters.proofs.StepLemmas.{ContainsKey-open, AreChained-prepended, Changes-prepended, len_fits}
 use Rattle.waiters.proofs.lists.Lists.push_front.Goals as goal
+
+pub index-chain-requires : goal.index-chain-requires
+index-chain-requires c =
+    let was = ap (λ lists. lists.slots) (sym c.self.view_is) in
+    ContainsKey-open c.self.inside.records c.self.inside.chains c.args.self.now _ _ c.number-list.ensures was c.requires.«open»
 
 pub prepend-requires-clause-counted : goal.prepend-requires-clause-counted
 prepend-requires-clause-counted c =

@@ -1,8 +1,13 @@
 use Rattle.std.proofs.Common.{ap, sym, ◌∙◌, refl}
 use Rattle.std.specs.Prelude.{Some}
 use Rattle.waiters.specs.Lists.{without_first}
-use Rattle.waiters.proofs.StepLemmas.{mine, AreChained-unlinked, Changes-unlinked, Changes-same, wait-unlinked, waits_at-open, none_found, FoundAt-mine, ContainsKey-place, IsThere-before, before_apart, some_counted}
+use Rattle.waiters.proofs.StepLemmas.{ContainsKey-open, mine, AreChained-unlinked, Changes-unlinked, Changes-same, wait-unlinked, waits_at-open, none_found, FoundAt-mine, ContainsKey-place, IsThere-before, before_apart, some_counted}
 use Rattle.waiters.proofs.lists.Lists.take_ticket.Goals as goal
+
+pub index-chain-requires : goal.index-chain-requires
+index-chain-requires c =
+    let was = ap (λ lists. lists.slots) (sym c.self.view_is) in
+    ContainsKey-open c.self.inside.records c.self.inside.chains c.args.self.now _ _ c.number-list.ensures was c.requires.«open»
 
 pub find-requires : goal.find-requires
 find-requires c =

@@ -1,0 +1,418 @@
+//! Changed tables: what goes wrong by each change, and doesn't by the table itself.
+
+use crate::again::{bent_again, copied_bent, moment_again};
+use crate::bent_shown::{has_number, is_at, is_enabled, runs};
+use crate::given::{
+    COUNTER, HANDOFF, acquire, handoff_scenario, release, scenario, scenario_of_parts, seat,
+};
+use crate::keys::{
+    key_after, key_of_bent, key_of_bent_after, key_of_moment, walk_bent, write_bent_key,
+};
+use crate::list_tests::{add, on_list, one, wait_for_it};
+use crate::story::{Line, TO_GRANT, follow_after};
+use std::alloc::Global;
+use std::process::Abort;
+use std::test::Fail;
+use step_core::{
+    BentWorld, Call, Entry, GroupId, ListId, Misuse, Phase, Row, Scenario, StepRefused, Variant,
+};
+use waiters::CounterId;
+
+const VARIANTS: [Variant; 3] = [Variant::NoLook, Variant::LateCount, Variant::PlainLess];
+
+/// Which rows the seats run, in this order, and what is seen then: where seats stand, why those can't step that can't, and
+/// the numbers of counters.
+#[derive(Clone, Copy, Drop)]
+struct Tale<'t> {
+    runs: &'t [(u16, &'t [Row])],
+    seats: &'t [(u16, Phase, Option<StepRefused>)],
+    numbers: &'t [(u32, u64)],
+}
+
+/// The step is refused, and changes nothing.
+fn refuses(
+    rt: &impl Abort,
+    alloc: Global,
+    world: &mut BentWorld<'_>,
+    number: u16,
+    cause: StepRefused,
+) -> Result<(), Fail> {
+    let before = key_of_bent(alloc, world)?;
+    assert_eq!(rt; world.step(seat(number)), Err(cause));
+    let after = key_of_bent(alloc, world)?;
+    assert_eq!(rt; after.as_slice(), before.as_slice());
+    Ok(())
+}
+
+fn shows(
+    rt: &impl Abort,
+    alloc: Global,
+    world: &mut BentWorld<'_>,
+    seats: &[(u16, Phase, Option<StepRefused>)],
+) -> Result<(), Fail> {
+    for (number, far, refused) in seats {
+        is_at(rt, world, *number, *far);
+        is_enabled(rt, world, *number, refused.is_none());
+        if let Some(cause) = refused {
+            refuses(rt, alloc, world, *number, *cause)?;
+        }
+    }
+    Ok(())
+}
+
+fn goes(
+    rt: &impl Abort,
+    alloc: Global,
+    world: &mut BentWorld<'_>,
+    tale: &Tale<'_>,
+) -> Result<(), Fail> {
+    for (number, rows) in tale.runs {
+        runs(rt, world, *number, rows);
+    }
+    shows(rt, alloc, world, tale.seats)?;
+    for (counter, number) in tale.numbers {
+        has_number(rt, world, *counter, *number);
+    }
+    Ok(())
+}
+
+/// From the start of the scenario the changed table goes as the tale says.
+fn follow_bent(
+    rt: &impl Abort,
+    alloc: Global,
+    scenario: &Scenario,
+    variant: Variant,
+    tale: &Tale<'_>,
+) -> Result<(), Fail> {
+    let mut world = bent_again(alloc, scenario, variant)?;
+    goes(rt, alloc, &mut world, tale)
+}
+
+/// Seat 0 sleeps, and seat 1, which has brought a unit, has ended.
+const LOST: [(u16, Phase, Option<StepRefused>); 2] = [
+    (0, Phase::At(Row::P), Some(StepRefused::Asleep)),
+    (1, Phase::Ended, Some(StepRefused::SeatEnded)),
+];
+
+const UNSEEN: Tale<'static> = Tale {
+    runs: &[
+        (0, &[Row::A1, Row::A3]),
+        (1, &[Row::R1, Row::R2]),
+        (0, &[Row::A4, Row::A7]),
+    ],
+    seats: &LOST,
+    numbers: &[(COUNTER, 1)],
+};
+
+/// The release comes between the two looks, and finds nobody.
+#[test]
+fn without_the_second_look_a_wake_up_is_lost(rt: HostRuntime) -> Result<(), Fail> {
+    let scenario = scenario(rt.alloc(), &[acquire(), release()])?;
+    follow_bent(&rt, rt.alloc(), &scenario, Variant::NoLook, &UNSEEN)
+}
+
+const SEEN: [Line; 9] = [
+    Line::Stands(0, Phase::At(Row::A6)),
+    Line::Enabled(0, true),
+    Line::Stands(1, Phase::Ended),
+    Line::Number(COUNTER, 1),
+    Line::Run(0, Row::A6),
+    Line::Run(0, Row::A8),
+    Line::Run(0, Row::A9),
+    Line::Stands(0, Phase::Ended),
+    Line::Number(COUNTER, 0),
+];
+
+/// By the table seat 0 has seen the unit at its second look.
+#[test]
+fn with_the_second_look_it_is_not(rt: HostRuntime) -> Result<(), Fail> {
+    let scenario = scenario(rt.alloc(), &[acquire(), release()])?;
+    let counter = CounterId::new(COUNTER);
+    let told = [Entry::Add(counter, seat(1)), Entry::Take(counter, seat(0))];
+    let lost = [0, 0, 1, 1, 0, 0];
+    follow_after(&rt, rt.alloc(), &scenario, &lost, &SEEN, &told)
+}
+
+const UNCOUNTED: Tale<'static> = Tale {
+    runs: &[
+        (0, &[Row::A1, Row::A3, Row::A5]),
+        (1, &[Row::R1, Row::R2]),
+        (0, &[Row::A4, Row::A7]),
+    ],
+    seats: &LOST,
+    numbers: &[(COUNTER, 1)],
+};
+
+/// The release comes between the second look and the count, and finds nobody.
+#[test]
+fn with_a_late_count_a_wake_up_is_lost(rt: HostRuntime) -> Result<(), Fail> {
+    let scenario = scenario(rt.alloc(), &[acquire(), release()])?;
+    follow_bent(&rt, rt.alloc(), &scenario, Variant::LateCount, &UNCOUNTED)
+}
+
+const COUNTED: [Line; 12] = [
+    Line::Stands(0, Phase::At(Row::A8)),
+    Line::Enabled(0, true),
+    Line::Stands(1, Phase::At(Row::R3)),
+    Line::Refused(1, StepRefused::LockHeld),
+    Line::Number(COUNTER, 0),
+    Line::Run(0, Row::A8),
+    Line::Run(0, Row::A9),
+    Line::Stands(0, Phase::Ended),
+    Line::Run(1, Row::R3),
+    Line::Run(1, Row::R4),
+    Line::Run(1, Row::R6),
+    Line::Stands(1, Phase::Ended),
+];
+
+/// By the table seat 1 has seen the raised word, and seat 0 has taken the unit.
+#[test]
+fn with_the_count_in_time_it_is_not(rt: HostRuntime) -> Result<(), Fail> {
+    let scenario = scenario(rt.alloc(), &[acquire(), release()])?;
+    let counter = CounterId::new(COUNTER);
+    let told = [Entry::Add(counter, seat(1)), Entry::Take(counter, seat(0))];
+    let lost = [0, 0, 0, 1, 1, 0, 0];
+    follow_after(&rt, rt.alloc(), &scenario, &lost, &COUNTED, &told)
+}
+
+const TAKEN_UNCOUNTED: Tale<'static> = Tale {
+    runs: &[
+        (0, &[Row::A1, Row::A3]),
+        (1, &[Row::R1]),
+        (0, &[Row::A5, Row::A6, Row::A9]),
+        (1, &[Row::R2]),
+    ],
+    seats: &[
+        (0, Phase::Ended, Some(StepRefused::SeatEnded)),
+        (1, Phase::Ended, Some(StepRefused::SeatEnded)),
+    ],
+    numbers: &[(COUNTER, 0)],
+};
+
+/// Who finds a unit at the second look has raised no word, and lowers none.
+#[test]
+fn with_a_late_count_a_unit_is_taken_uncounted(rt: HostRuntime) -> Result<(), Fail> {
+    let scenario = scenario(rt.alloc(), &[acquire(), release()])?;
+    follow_bent(
+        &rt,
+        rt.alloc(),
+        &scenario,
+        Variant::LateCount,
+        &TAKEN_UNCOUNTED,
+    )
+}
+
+const LAST_TICKET: u64 = 18_446_744_073_709_551_615;
+
+/// One seat that takes a ticket, grants it, and waits with it.
+fn lone_waiter(alloc: Global, first: u64) -> Result<Scenario, Fail> {
+    on_list(alloc, first, &[&[add(), one(), wait_for_it()]])
+}
+
+const TICKET: [Row; 1] = [Row::N1];
+
+const WRAPPED: Tale<'static> = Tale {
+    runs: &[
+        (0, &TICKET),
+        (0, &TO_GRANT),
+        (0, &[Row::W1, Row::W2, Row::W4]),
+    ],
+    seats: &[(0, Phase::At(Row::P), Some(StepRefused::Asleep))],
+    numbers: &[],
+};
+
+/// The granted ticket is the last word, and the notify word has wrapped: its wait parks.
+#[test]
+fn by_the_plain_comparison_a_granted_ticket_sleeps(rt: HostRuntime) -> Result<(), Fail> {
+    let scenario = lone_waiter(rt.alloc(), LAST_TICKET)?;
+    follow_bent(&rt, rt.alloc(), &scenario, Variant::PlainLess, &WRAPPED)
+}
+
+/// By the table the same eleven steps end its calls.
+#[test]
+fn by_the_difference_it_does_not(rt: HostRuntime) -> Result<(), Fail> {
+    let scenario = lone_waiter(rt.alloc(), LAST_TICKET)?;
+    let lines = [Line::Stands(0, Phase::Ended)];
+    let list = ListId::new(0);
+    let told = [Entry::Ticket(list, seat(0)), Entry::Grant(list, 1, seat(0))];
+    follow_after(&rt, rt.alloc(), &scenario, &[0; 11], &lines, &told)
+}
+
+const PASSED: Tale<'static> = Tale {
+    runs: &[
+        (0, &TICKET),
+        (1, &TICKET),
+        (1, &[Row::W1, Row::W2, Row::W3]),
+    ],
+    seats: &[(1, Phase::Ended, Some(StepRefused::SeatEnded))],
+    numbers: &[],
+};
+
+/// Ticket 0 comes after the last word, which nobody has granted: as a plain number it is the least, and passes.
+#[test]
+fn by_the_plain_comparison_an_ungranted_ticket_passes(rt: HostRuntime) -> Result<(), Fail> {
+    let calls = [&[add()][..], &[add(), wait_for_it()]];
+    let scenario = on_list(rt.alloc(), LAST_TICKET, &calls)?;
+    follow_bent(&rt, rt.alloc(), &scenario, Variant::PlainLess, &PASSED)
+}
+
+/// Seat 1 wants the lock that seat 0 holds.
+#[test]
+fn a_held_lock_refuses_by_each_table(rt: HostRuntime) -> Result<(), Fail> {
+    let scenario = scenario(rt.alloc(), &[acquire(), acquire()])?;
+    for (variant, next) in [
+        (Variant::NoLook, Row::A4),
+        (Variant::LateCount, Row::A5),
+        (Variant::PlainLess, Row::A4),
+    ] {
+        let tale = Tale {
+            runs: &[(0, &[Row::A1, Row::A3]), (1, &[Row::A1])],
+            seats: &[
+                (0, Phase::At(next), None),
+                (1, Phase::At(Row::A3), Some(StepRefused::LockHeld)),
+            ],
+            numbers: &[(COUNTER, 0)],
+        };
+        follow_bent(&rt, rt.alloc(), &scenario, variant, &tale)?;
+    }
+    Ok(())
+}
+
+const MISUSED: Tale<'static> = Tale {
+    runs: &[(0, &[Row::G1])],
+    seats: &[(
+        0,
+        Phase::Failed(Misuse::Negative),
+        Some(StepRefused::SeatFailed),
+    )],
+    numbers: &[(0, 0)],
+};
+
+/// One add to a group, which leads below 0.
+#[test]
+fn a_misuse_fails_by_each_table(rt: HostRuntime) -> Result<(), Fail> {
+    let below = [Call::GroupAdd(GroupId::new(0), -1)];
+    let scenario = scenario_of_parts(rt.alloc(), &[], &[], 1, &[&below])?;
+    for variant in VARIANTS {
+        follow_bent(&rt, rt.alloc(), &scenario, variant, &MISUSED)?;
+    }
+    Ok(())
+}
+
+/// The world has this key.
+fn has_key(rt: &impl Abort, alloc: Global, world: &BentWorld<'_>, key: &[u64]) -> Result<(), Fail> {
+    let told = key_of_bent(alloc, world)?;
+    assert_eq!(rt; told.as_slice(), key);
+    // what the words were before is no part of the key
+    let mut words = told;
+    write_bent_key(world, &mut words)?;
+    assert_eq!(rt; words.as_slice(), key);
+    Ok(())
+}
+
+/// It starts as the table itself does, and a seat that isn't there can't step.
+fn starts(
+    rt: &impl Abort,
+    alloc: Global,
+    scenario: &Scenario,
+    variant: Variant,
+    key: &[u64],
+) -> Result<(), Fail> {
+    let mut world = bent_again(alloc, scenario, variant)?;
+    is_start(rt, alloc, &mut world, variant, key)
+}
+
+fn is_start(
+    rt: &impl Abort,
+    alloc: Global,
+    world: &mut BentWorld<'_>,
+    variant: Variant,
+    key: &[u64],
+) -> Result<(), Fail> {
+    assert_eq!(rt; world.variant(), variant);
+    assert_eq!(rt; world.scenario().seats(), 3);
+    has_key(rt, alloc, world, key)?;
+    is_enabled(rt, world, 2, true);
+    is_enabled(rt, world, 3, false);
+    refuses(rt, alloc, world, 3, StepRefused::NoSuchSeat)
+}
+
+#[test]
+fn each_changed_table_starts_as_the_table(rt: HostRuntime) -> Result<(), Fail> {
+    let scenario = handoff_scenario(rt.alloc())?;
+    let moment = moment_again(rt.alloc(), &scenario)?;
+    let key = key_of_moment(rt.alloc(), &moment)?;
+    for variant in VARIANTS {
+        starts(&rt, rt.alloc(), &scenario, variant, &key)?;
+    }
+    Ok(())
+}
+
+/// The schedule leads the changed table where it leads the table.
+fn lead_alike(
+    rt: &impl Abort,
+    alloc: Global,
+    scenario: &Scenario,
+    schedule: &[u16],
+    variants: &[Variant],
+) -> Result<(), Fail> {
+    let key = key_after(rt, alloc, scenario, schedule)?;
+    for variant in variants {
+        let bent = key_of_bent_after(rt, alloc, scenario, *variant, schedule)?;
+        assert_eq!(rt; bent.as_slice(), key.as_slice());
+    }
+    Ok(())
+}
+
+#[test]
+fn tickets_leave_counters_alone(rt: HostRuntime) -> Result<(), Fail> {
+    let scenario = handoff_scenario(rt.alloc())?;
+    lead_alike(&rt, rt.alloc(), &scenario, &HANDOFF, &[Variant::PlainLess])
+}
+
+#[test]
+fn acquires_leave_lists_alone(rt: HostRuntime) -> Result<(), Fail> {
+    let scenario = lone_waiter(rt.alloc(), LAST_TICKET)?;
+    let acquires = [Variant::NoLook, Variant::LateCount];
+    lead_alike(&rt, rt.alloc(), &scenario, &[0; 11], &acquires)
+}
+
+/// Words that don't wrap are ordered by their difference as they are plainly.
+#[test]
+fn words_that_do_not_wrap_go_as_by_the_table(rt: HostRuntime) -> Result<(), Fail> {
+    let scenario = lone_waiter(rt.alloc(), 0)?;
+    lead_alike(&rt, rt.alloc(), &scenario, &[0; 11], &VARIANTS)
+}
+
+/// The copy steps on, and the original stays until it takes the same steps.
+fn both_go_on(
+    rt: &impl Abort,
+    alloc: Global,
+    world: &mut BentWorld<'_>,
+    copy: &mut BentWorld<'_>,
+) -> Result<(), Fail> {
+    let key = key_of_bent(alloc, world)?;
+    has_key(rt, alloc, copy, &key)?;
+    assert_eq!(rt; copy.variant(), world.variant());
+    walk_bent(rt, copy, &[1, 1, 0]);
+    has_key(rt, alloc, world, &key)?;
+    walk_bent(rt, world, &[1, 1, 0]);
+    let after = key_of_bent(alloc, world)?;
+    has_key(rt, alloc, copy, &after)?;
+    is_at(rt, world, 0, Phase::At(Row::A7));
+    is_at(rt, copy, 0, Phase::At(Row::A7));
+    Ok(())
+}
+
+fn copy_goes_on(rt: &impl Abort, alloc: Global, world: &mut BentWorld<'_>) -> Result<(), Fail> {
+    walk_bent(rt, world, &[0, 0]);
+    let mut copy = copied_bent(alloc, world)?;
+    both_go_on(rt, alloc, world, &mut copy)
+}
+
+#[test]
+fn a_copy_steps_on_alone_by_its_table(rt: HostRuntime) -> Result<(), Fail> {
+    let scenario = scenario(rt.alloc(), &[acquire(), release()])?;
+    let mut world = bent_again(rt.alloc(), &scenario, Variant::NoLook)?;
+    copy_goes_on(&rt, rt.alloc(), &mut world)
+}

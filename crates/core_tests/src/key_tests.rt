@@ -1,0 +1,361 @@
+//! Keys: they are equal where runs differ only in what no row looks at, and different where a row looks.
+
+ghost use Rattle.std.specs.Prelude.{◌≤◌};
+
+use crate::again::{moment_again, new_again, step_again};
+use crate::given::{
+    COUNTER, acquire, release, release_many, scenario, scenario_of_parts, seat, wait,
+};
+use crate::keys::{key_after, key_of, key_of_moment, walk, write_key};
+use crate::list_tests::two_and_one;
+use crate::moment_tests::of_all_kinds;
+use crate::story::follow_after;
+use std::alloc::Global;
+use std::process::Abort;
+use std::test::Fail;
+use step_core::{Call, Entry, GroupId, Moment, Scenario, World};
+use waiters::CounterId;
+
+/// Two schedules, and whether they lead to one key.
+type Compared<'t> = (&'t [u16], &'t [u16], bool);
+
+fn compare(
+    rt: &impl Abort,
+    alloc: Global,
+    scenario: &Scenario,
+    compared: &Compared<'_>,
+) -> Result<(), Fail> {
+    let (one, other, are_one) = compared;
+    let key = key_after(rt, alloc, scenario, one)?;
+    let other = key_after(rt, alloc, scenario, other)?;
+    assert_eq!(rt; key.as_slice() == other.as_slice(), *are_one);
+    Ok(())
+}
+
+fn compare_all(
+    rt: &impl Abort,
+    alloc: Global,
+    scenario: &Scenario,
+    rows: &[Compared<'_>],
+) -> Result<(), Fail> {
+    for compared in rows {
+        compare(rt, alloc, scenario, compared)?;
+    }
+    Ok(())
+}
+
+/// Two seats that release units, each on a counter of its own.
+fn two_releases(alloc: Global) -> Result<Scenario, Fail> {
+    let other = Call::Release(CounterId::new(1), false);
+    scenario_of_parts(alloc, &[0, 0], &[], 0, &[&[release()], &[other]])
+}
+
+/// The order of two seats' releases is told by the journal alone.
+const RELEASES: [Compared<'static>; 6] = [
+    (&[0, 0, 1, 1], &[1, 1, 0, 0], true),
+    (&[0, 0, 1, 1], &[0, 1, 0, 1], true),
+    (&[0, 1], &[1, 0], true),
+    (&[0], &[1], false),
+    (&[0], &[], false),
+    (&[0, 0], &[0], false),
+];
+
+#[test]
+fn releases_of_two_counters_have_one_key(rt: HostRuntime) -> Result<(), Fail> {
+    let scenario = two_releases(rt.alloc())?;
+    compare_all(&rt, rt.alloc(), &scenario, &RELEASES)
+}
+
+#[test]
+fn releases_of_one_counter_have_one_key(rt: HostRuntime) -> Result<(), Fail> {
+    let scenario = scenario(rt.alloc(), &[release(), release()])?;
+    compare_all(&rt, rt.alloc(), &scenario, &RELEASES)
+}
+
+/// Seat 0 takes the unit that seat 1 has brought.
+const AT_ONCE: [u16; 4] = [1, 1, 0, 0];
+
+/// Seat 0 sleeps, is woken by seat 1, and takes its unit.
+const SLEPT: [u16; 15] = [0, 0, 0, 0, 0, 1, 1, 1, 1, 1, 1, 1, 0, 0, 0];
+
+/// A sleep that is over is told by the journal alone: while it lasts, and until the unit is taken, seats stand elsewhere.
+const SLEEPS: [Compared<'static>; 4] = [
+    (&AT_ONCE, &SLEPT, true),
+    (&[1, 1], &[0, 0, 0, 0, 0, 1, 1, 1, 1, 1, 1, 1], false),
+    (&[1, 1], &[0, 0, 0, 0, 0, 1, 1, 1, 1, 1, 1, 1, 0], false),
+    (
+        &[1, 1, 0],
+        &[0, 0, 0, 0, 0, 1, 1, 1, 1, 1, 1, 1, 0, 0],
+        false,
+    ),
+];
+
+#[test]
+fn a_sleep_that_is_over_is_not_told(rt: HostRuntime) -> Result<(), Fail> {
+    let scenario = scenario(rt.alloc(), &[acquire(), release()])?;
+    compare_all(&rt, rt.alloc(), &scenario, &SLEEPS)
+}
+
+/// Its two runs have journals of two entries and of four.
+#[test]
+fn a_sleep_that_is_over_stays_in_the_journal(rt: HostRuntime) -> Result<(), Fail> {
+    let scenario = scenario(rt.alloc(), &[acquire(), release()])?;
+    let counter = CounterId::new(COUNTER);
+    let told = [
+        Entry::Queue(counter, wait(0, 0), false),
+        Entry::Add(counter, seat(1)),
+        Entry::Leave(counter, wait(0, 0), seat(1)),
+        Entry::Take(counter, seat(0)),
+    ];
+    let at_once = [told[1], told[3]];
+    follow_after(&rt, rt.alloc(), &scenario, &AT_ONCE, &[], &at_once)?;
+    follow_after(&rt, rt.alloc(), &scenario, &SLEPT, &[], &told)
+}
+
+/// Seats 0 and 1 sleep, in either order, and seat 2 wakes both.
+const ONE: [u16; 19] = [0, 0, 0, 0, 0, 1, 1, 1, 1, 1, 2, 2, 2, 2, 2, 2, 2, 2, 2];
+
+const OTHER: [u16; 19] = [1, 1, 1, 1, 1, 0, 0, 0, 0, 0, 2, 2, 2, 2, 2, 2, 2, 2, 2];
+
+/// After so many steps of the two, whether they have one key: both wait in the list, one and then both wait in the hand,
+/// one is woken, both are.
+const WOKEN: [(usize, bool); 6] = [
+    (10, false),
+    (15, false),
+    (16, false),
+    (17, false),
+    (18, false),
+    (19, true),
+];
+
+fn compare_woken(rt: &impl Abort, alloc: Global, scenario: &Scenario) -> Result<(), Fail> {
+    for (steps, are_one) in WOKEN {
+        let one = ONE.get(..steps).ok_or("a row is too long")?;
+        let other = OTHER.get(..steps).ok_or("a row is too long")?;
+        compare(rt, alloc, scenario, &(one, other, are_one))?;
+    }
+    Ok(())
+}
+
+#[test]
+fn the_order_of_waits_is_told(rt: HostRuntime) -> Result<(), Fail> {
+    let calls = [acquire(), acquire(), release_many(COUNTER, 2)];
+    let scenario = scenario(rt.alloc(), &calls)?;
+    compare_woken(&rt, rt.alloc(), &scenario)
+}
+
+/// Who has which ticket is told, and who sleeps before whom.
+const TICKETS: [Compared<'static>; 4] = [
+    (&[0, 1], &[1, 0], false),
+    // both sleep in one order, but not with the same tickets
+    (&[0, 1, 0, 0, 0, 1, 1, 1], &[1, 0, 0, 0, 0, 1, 1, 1], false),
+    // both sleep with the same tickets, but not in one order
+    (&[0, 1, 0, 0, 0, 1, 1, 1], &[0, 1, 1, 1, 1, 0, 0, 0], false),
+    // a wait takes the lock, and a notification looks at another word
+    (&[0, 1, 0, 2], &[0, 1, 2, 0], true),
+];
+
+#[test]
+fn who_has_which_ticket_is_told(rt: HostRuntime) -> Result<(), Fail> {
+    let scenario = two_and_one(rt.alloc())?;
+    compare_all(&rt, rt.alloc(), &scenario, &TICKETS)
+}
+
+/// One group, at 1, and two seats that sleep on its semaphore.
+fn two_group_waits(alloc: Global) -> Result<Scenario, Fail> {
+    let group = GroupId::new(0);
+    let wait = [Call::GroupWait(group)];
+    let adds = [Call::GroupAdd(group, 1)];
+    scenario_of_parts(alloc, &[0], &[], 1, &[&adds, &wait, &wait])
+}
+
+/// Two waits of a group go to sleep, in either order: from when both are counted only its semaphore tells them apart.
+const GROUP_WAITS: [Compared<'static>; 2] = [
+    (&[0, 1, 1, 2, 2], &[0, 2, 2, 1, 1], true),
+    (
+        &[0, 1, 1, 2, 2, 1, 1, 1, 1, 1, 2, 2, 2, 2, 2],
+        &[0, 2, 2, 1, 1, 2, 2, 2, 2, 2, 1, 1, 1, 1, 1],
+        false,
+    ),
+];
+
+#[test]
+fn the_semaphore_of_a_group_is_told(rt: HostRuntime) -> Result<(), Fail> {
+    let scenario = two_group_waits(rt.alloc())?;
+    compare_all(&rt, rt.alloc(), &scenario, &GROUP_WAITS)
+}
+
+/// The words of a key, by hand: the counter's number and its empty list; the words of its root; the seat before its row of
+/// a release, with no grant and nothing in hand; that it is on a counter; how many calls it has begun.
+#[test]
+fn a_key_has_its_words(rt: HostRuntime) -> Result<(), Fail> {
+    let scenario = scenario(rt.alloc(), &[release()])?;
+    let before = key_after(&rt, rt.alloc(), &scenario, &[])?;
+    assert_eq!(rt;
+        before.as_slice(),
+        [0, 0, 0, 0, 26, 0, 0, 0, 1, 1].as_slice()
+    );
+    let after = key_after(&rt, rt.alloc(), &scenario, &[0])?;
+    assert_eq!(rt;
+        after.as_slice(),
+        [1, 0, 0, 0, 28, 0, 0, 0, 1, 1].as_slice()
+    );
+    Ok(())
+}
+
+/// The world, its moment and a moment beside it have one key, and so do these words once it is written into them.
+fn is_one_key(
+    rt: &impl Abort,
+    alloc: Global,
+    world: &World<'_>,
+    moment: &Moment<'_>,
+    words: &mut Vec<u64>,
+) -> Result<(), Fail> {
+    let key = key_of(alloc, world)?;
+    let inner = key_of_moment(alloc, world.moment())?;
+    assert_eq!(rt; inner.as_slice(), key.as_slice());
+    let beside = key_of_moment(alloc, moment)?;
+    assert_eq!(rt; beside.as_slice(), key.as_slice());
+    write_key(moment, words)?;
+    assert_eq!(rt; words.as_slice(), key.as_slice());
+    Ok(())
+}
+
+fn keep_one_key(
+    rt: &impl Abort,
+    alloc: Global,
+    world: &mut World<'_>,
+    moment: &mut Moment<'_>,
+    schedule: &[u16],
+) -> Result<(), Fail> {
+    let mut words = Vec::new(alloc);
+    for number in schedule {
+        is_one_key(rt, alloc, world, moment, &mut words)?;
+        assert_eq!(rt; step_again(world, *number), Ok(()));
+        walk(rt, moment, &[*number]);
+    }
+    is_one_key(rt, alloc, world, moment, &mut words)
+}
+
+fn keep_one_key_beside(
+    rt: &impl Abort,
+    alloc: Global,
+    scenario: &Scenario,
+    world: &mut World<'_>,
+) -> Result<(), Fail> {
+    let mut moment = moment_again(alloc, scenario)?;
+    keep_one_key(rt, alloc, world, &mut moment, &ALL_KINDS)
+}
+
+/// A ticket is granted to its sleeper, a wait on a group is released, and three units are added at once.
+const ALL_KINDS: [u16; 37] = [
+    0, 0, 0, 0, 1, 1, 1, 1, 1, 1, 1, 1, 0, 2, 3, 3, 3, 3, 3, 3, 3, 2, 2, 2, 2, 2, 2, 2, 2, 2, 2, 3,
+    3, 3, 3, 4, 4,
+];
+
+#[test]
+fn a_moment_has_the_key_of_its_world(rt: HostRuntime) -> Result<(), Fail> {
+    let scenario = of_all_kinds(rt.alloc())?;
+    let mut world = new_again(rt.alloc(), &scenario)?;
+    keep_one_key_beside(&rt, rt.alloc(), &scenario, &mut world)
+}
+
+/// Steps of seats 0 and 1: a part around the first border has those of seat 0 first, one around the second last.
+const BORDERS: [u16; 12] = [0, 0, 0, 0, 1, 1, 1, 1, 0, 0, 0, 0];
+
+/// So many steps of seat 0 and so many of seat 1 lead to one key in either order. It is put to the others.
+fn reach(
+    rt: &impl Abort,
+    alloc: Global,
+    scenario: &Scenario,
+    keys: &mut Vec<Vec<u64>>,
+    zeros: usize,
+    ones: usize,
+) -> Result<(), Fail>
+    requires zeros { zeros ≤ 4 }
+    requires ones { ones ≤ 4 }
+{
+    let key = key_after(rt, alloc, scenario, &BORDERS[4 - zeros..4 + ones])?;
+    let other = key_after(rt, alloc, scenario, &BORDERS[8 - ones..8 + zeros])?;
+    assert_eq!(rt; other.as_slice(), key.as_slice());
+    keys.push(key)?;
+    Ok(())
+}
+
+/// No two keys are equal.
+fn differ(rt: &impl Abort, keys: &[Vec<u64>]) {
+    for (i, key) in keys.iter().enumerate() {
+        for other in &keys[..i] {
+            assert!(rt; other.as_slice() != key.as_slice());
+        }
+    }
+}
+
+fn room_again(alloc: Global, count: usize) -> Result<Vec<Vec<u64>>, Fail> {
+    match Vec::with_capacity(alloc, count) {
+        Ok(keys) => Ok(keys),
+        Err(_) => Ok(Vec::with_capacity(alloc, count)?),
+    }
+}
+
+fn reach_all(rt: &impl Abort, alloc: Global, scenario: &Scenario) -> Result<(), Fail> {
+    let mut keys = room_again(alloc, 25)?;
+    for zeros in 0..5 {
+        for ones in 0..5 {
+            reach(rt, alloc, scenario, &mut keys, zeros, ones)?;
+        }
+    }
+    assert_eq!(rt; keys.len(), 25);
+    differ(rt, &keys);
+    Ok(())
+}
+
+/// A part around the border has steps of seat 2 first, and then of seat 3.
+const LATER: [u16; 8] = [2, 2, 2, 2, 3, 3, 3, 3];
+
+/// The key of so many steps of each seat, in the order of the seats.
+fn reach_one(
+    rt: &impl Abort,
+    alloc: Global,
+    scenario: &Scenario,
+    keys: &mut Vec<Vec<u64>>,
+    number: usize,
+) -> Result<(), Fail> {
+    let mut moment = moment_again(alloc, scenario)?;
+    walk(
+        rt,
+        &mut moment,
+        &BORDERS[4 - number / 125 % 5..4 + number / 25 % 5],
+    );
+    walk(rt, &mut moment, &LATER[4 - number / 5 % 5..4 + number % 5]);
+    keys.push(key_of_moment(alloc, &moment)?)?;
+    Ok(())
+}
+
+fn reach_each(rt: &impl Abort, alloc: Global, scenario: &Scenario) -> Result<(), Fail> {
+    let mut keys = room_again(alloc, 625)?;
+    for number in 0..625 {
+        reach_one(rt, alloc, scenario, &mut keys, number)?;
+    }
+    assert_eq!(rt; keys.len(), 625);
+    differ(rt, &keys);
+    Ok(())
+}
+
+/// Four seats with two releases make up to four steps each: that is 625 worlds.
+#[test]
+fn two_releases_of_four_seats_have_625_keys(rt: HostRuntime) -> Result<(), Fail> {
+    let twice = [release(), release()];
+    let calls = [&twice[..]; 4];
+    let scenario = scenario_of_parts(rt.alloc(), &[0], &[], 0, &calls)?;
+    reach_each(&rt, rt.alloc(), &scenario)
+}
+
+/// Two of four seats make up to four steps each, in either order: that is one key for each pair of numbers.
+#[test]
+fn steps_of_two_seats_have_a_key_for_each_pair(rt: HostRuntime) -> Result<(), Fail> {
+    let twice = [release(), release()];
+    let calls = [&twice[..]; 4];
+    let scenario = scenario_of_parts(rt.alloc(), &[0], &[], 0, &calls)?;
+    reach_all(&rt, rt.alloc(), &scenario)
+}

@@ -1,6 +1,0 @@
-use Rattle.std.proofs.Common.{◌≡◌, take, map}
-use Rattle.explorer.specs.ScenarioText.{call_of}
-use Rattle.explorer.proofs.reader.draft.calls_of.Given as goal
-
-abbrev pub invariant-loop-call : goal.invariant-loop-call
-invariant-loop-call l = l.calls.items ≡ map call_of (take l.call-index l.spelled)

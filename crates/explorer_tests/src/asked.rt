@@ -1,0 +1,122 @@
+//! The program over memory. It is asked once more where memory was refused.
+
+use crate::devices::{Calls, Giving, SOUND, Taking};
+use explorer::{Flagged, NO_MEMORY, parklot_io};
+use std::alloc::Global;
+use std::process::Abort;
+
+/// How the program's input and its two streams behave.
+#[derive(Clone, Copy, Debug, Drop)]
+pub(crate) struct Devices {
+    pub(crate) input: Calls,
+    pub(crate) out: Calls,
+    pub(crate) err: Calls,
+}
+
+/// Nothing fails.
+pub(crate) const ALL_SOUND: Devices = Devices {
+    input: SOUND,
+    out: SOUND,
+    err: SOUND,
+};
+
+/// What goes to the two streams of the program for these words and this input, and its status.
+pub(crate) fn ask(
+    alloc: Global,
+    words: &[&str],
+    input: &[u8],
+    devices: Devices,
+) -> (Vec<u8>, Vec<u8>, u8) {
+    let mut reader = Flagged::new(Giving::new(input, devices.input));
+    let mut out = Flagged::new(Taking::new(alloc, devices.out));
+    let mut err = Flagged::new(Taking::new(alloc, devices.err));
+    let status = parklot_io(alloc, words, &mut reader, &mut out, &mut err);
+    (
+        out.into_inner().into_taken(),
+        err.into_inner().into_taken(),
+        status,
+    )
+}
+
+/// Whether memory may have been short: at most that went out, or a beginning of it.
+pub(crate) fn is_short(out: &[u8], status: u8) -> bool {
+    status == 2 && NO_MEMORY.as_bytes().starts_with(out)
+}
+
+/// What goes to the two streams, and the status. The streams have these texts, or texts that begin so.
+#[derive(Clone, Copy, Drop)]
+pub(crate) struct Told<'t> {
+    pub(crate) out: &'t [u8],
+    pub(crate) err: &'t [u8],
+    pub(crate) status: u8,
+    pub(crate) whole: bool,
+}
+
+/// Whether the stream has this text, or where it isn't whole, one that begins so. No text stands for nothing else.
+fn has(stream: &[u8], text: &[u8], whole: bool) -> bool {
+    stream == text || !whole && !text.is_empty() && stream.starts_with(text)
+}
+
+impl Told<'_> {
+    fn fits(&self, out: &[u8], err: &[u8], status: u8) -> bool {
+        status == self.status && has(out, self.out, self.whole) && has(err, self.err, self.whole)
+    }
+}
+
+/// This is what the program tells over these devices, and it ends so.
+pub(crate) fn tells_over(
+    rt: &impl Abort,
+    alloc: Global,
+    words: &[&str],
+    input: &[u8],
+    devices: Devices,
+    told: Told<'_>,
+) {
+    let (out, err, status) = ask(alloc, words, input, devices);
+    if told.fits(&out, &err, status) {
+        return;
+    }
+    assert!(rt; is_short(&out, status), "{words:?}");
+    let (out, err, status) = ask(alloc, words, input, devices);
+    assert!(rt; told.fits(&out, &err, status), "{words:?}");
+}
+
+/// This is all that the program tells, on its output, and it ends so.
+pub(crate) fn tells(
+    rt: &impl Abort,
+    alloc: Global,
+    words: &[&str],
+    input: &[u8],
+    told: &str,
+    status: u8,
+) {
+    let told = Told {
+        out: told.as_bytes(),
+        err: b"",
+        status,
+        whole: true,
+    };
+    tells_over(rt, alloc, words, input, ALL_SOUND, told);
+}
+
+/// The program ends well. Its output begins with this text, and it tells nothing else.
+pub(crate) fn answers(rt: &impl Abort, alloc: Global, words: &[&str], text: &str) {
+    let told = Told {
+        out: text.as_bytes(),
+        err: b"",
+        status: 0,
+        whole: false,
+    };
+    tells_over(rt, alloc, words, b"", ALL_SOUND, told);
+}
+
+/// These words are a mistake: what is told begins with this text, and nothing goes to the output.
+pub(crate) fn is_a_mistake(rt: &impl Abort, alloc: Global, words: &[&str], text: &str) {
+    let told = Told {
+        out: b"",
+        err: text.as_bytes(),
+        status: 2,
+        whole: false,
+    };
+    tells_over(rt, alloc, words, b"", ALL_SOUND, told);
+}

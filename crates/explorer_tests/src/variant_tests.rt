@@ -1,0 +1,75 @@
+//! What `explore` finds in changed tables, word for word. The schedules were found by another search.
+
+use crate::asked::{is_a_mistake, tells};
+use crate::explore_tests::{FROM_32_BITS, FROM_64_BITS, MET};
+use crate::reading::ONE_ACQUIRE;
+
+/// A scenario, the change of the table, how deep it is searched, all that is told, and the status.
+type Row = (&'static [u8], &'static str, &'static str, &'static str, u8);
+
+/// What goes wrong in each changed table, and what doesn't.
+const VARIANTS: [Row; 13] = [
+    (
+        MET,
+        "no-look",
+        "32",
+        "bad: stuck\nschedule: 0 0 1 1 0 0\n",
+        1,
+    ),
+    (MET, "no-look", "5", "none up to depth 5\n", 0),
+    (
+        MET,
+        "late-count",
+        "32",
+        "bad: stuck\nschedule: 0 0 0 1 1 0 0\n",
+        1,
+    ),
+    (MET, "late-count", "6", "none up to depth 6\n", 0),
+    (MET, "plain-less", "32", "none up to depth 32\n", 0),
+    (FROM_32_BITS, "plain-less", "32", "none up to depth 32\n", 0),
+    (
+        FROM_64_BITS,
+        "plain-less",
+        "32",
+        "bad: stuck\nschedule: 0 0 0 0 0 0 0 0 0 0 0\n",
+        1,
+    ),
+    (FROM_64_BITS, "plain-less", "10", "none up to depth 10\n", 0),
+    (FROM_64_BITS, "no-look", "32", "none up to depth 32\n", 0),
+    (FROM_64_BITS, "late-count", "32", "none up to depth 32\n", 0),
+    // a sleeper that looks once less sleeps a step earlier
+    (
+        ONE_ACQUIRE,
+        "no-look",
+        "32",
+        "bad: stuck\nschedule: 0 0 0 0\n",
+        1,
+    ),
+    (
+        ONE_ACQUIRE,
+        "late-count",
+        "32",
+        "bad: stuck\nschedule: 0 0 0 0 0\n",
+        1,
+    ),
+    (b"", "no-look", "32", "refused: line 1: end\n", 2),
+];
+
+#[test]
+fn what_is_found_in_a_changed_table_is_told(rt: HostRuntime) {
+    for (input, variant, depth, told, status) in VARIANTS {
+        let words = ["explore", "--depth", depth, "--variant", variant];
+        tells(&rt, rt.alloc(), &words, input, told, status);
+    }
+}
+
+#[test]
+fn another_variant_is_a_mistake(rt: HostRuntime) {
+    for (variant, text) in [
+        ("plain", "error: invalid value 'plain' for '--variant <"),
+        ("No-Look", "error: invalid value 'No-Look' for '--variant <"),
+    ] {
+        let words = ["explore", "--depth", "32", "--variant", variant];
+        is_a_mistake(&rt, rt.alloc(), &words, text);
+    }
+}

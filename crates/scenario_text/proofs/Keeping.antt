@@ -1,0 +1,442 @@
+-- The parts that right lines ask for keep the limits, name what is declared, and keep tickets in turn.
+use Rattle.std.proofs.Common.{◌≡◌, ℕ, zero, suc, ◌+◌, ◌<◌, ◌≤◌, Bool, true, false, cond, not, List, [], ◌∷◌, ◌++◌, map, length, take, All, Option, Some, None, IfSome, refl, sym, ap, subst, ◌∙◌, append_assoc, arith}
+use Rattle.std.specs.Prelude.{nat_lt, ◌==◌, ◌||◌, ◌&&◌, if◌then◌else◌, fold, slice_get}
+use Rattle.std.specs.List.{list_any}
+use Rattle.std.proofs.lemmas.List.{append-nil, length-map, map-append, length_push}
+use Rattle.std.proofs.lemmas.List.Elements.{All-push, All-weaker, All-nil, All-cons}
+use Rattle.std.proofs.lemmas.List.Sums.{fold_push}
+use Rattle.std.proofs.lemmas.Bool.{ltb-true, ltb-false}
+use Rattle.std.proofs.lemmas.Bool.Decides.{nat_tests}
+use Rattle.step_table.specs.declared.call.Call.{Call}
+use Rattle.step_table.specs.declared.call.Call.TheVariants as core
+use Rattle.step_table.specs.declared.parts.Parts.{Parts}
+use Rattle.scenario_text.specs.declared.reader.call.Change.{Change}
+use Rattle.scenario_text.specs.declared.reader.call.Change.TheVariants.{Up, Down}
+use Rattle.scenario_text.specs.declared.reader.call.SpelledCall.{SpelledCall}
+use Rattle.scenario_text.specs.declared.reader.call.SpelledCall.TheVariants.{Acquire, AcquireLifo, Release, ReleaseHandoff, ReleaseMany, Add, Wait, One, All as NotifyAll, GroupAdd, GroupWait}
+use Rattle.scenario_text.specs.declared.request.Property.{Property}
+use Rattle.scenario_text.specs.declared.request.Property.TheVariants as property
+use Rattle.scenario_text.specs.declared.reader.kind.Kind.{Kind}
+use Rattle.scenario_text.specs.declared.reader.kind.Kind.TheVariants.{Counter as CounterKind, NotifyList as ListKind, Group as GroupKind, Seat as SeatKind, Property as PropertyKind}
+use Rattle.scenario_text.specs.Request.{IsAbout}
+use Rattle.scenario_text.specs.Line.{Line, Roots, Counter, NotifyList, Group, Seat, Settled, Value, NoMisuse, HasForm}
+use Rattle.scenario_text.specs.Pieces.{Piece, pieces}
+use Rattle.scenario_text.specs.Causes.{kind, rank, count_of, is_misplaced, is_out_of_range, is_too_many, is_undeclared, has_wrong_ticket, is_wide, names_missing, held_after, has_ticket, is_wrong_after, misuses_ticket, is_early_property, count_later, IsRight}
+use Rattle.scenario_text.specs.Reader.{AreLinesOf}
+use Rattle.scenario_text.specs.ScenarioText.{AreRight, call_of, with_line, with_property, parts_of, property_of, no_parts}
+use Rattle.scenario_text.specs.Fitting.{FitsChange, FitsCall, FitsLine}
+use Rattle.step_table.specs.Scenario.{IsOfFewUnits, IsScript, IsCallOn, IsWithinLimits, IsDeclared, holding_after, IsTicketCall, AreTicketsKept, KeepsTickets}
+
+-- ---- tests that fail
+
+-- no test fails a right line
+pub record Passes (before : List Line) (line : Line) : Type 0 where
+  pub form : HasForm line
+  pub place : is_misplaced before line ≡ false
+  pub range : is_out_of_range line ≡ false
+  pub few : is_too_many before line ≡ false
+  pub declared : is_undeclared before line ≡ false
+  pub ticket : has_wrong_ticket line ≡ false
+
+is_false : (b : Bool) → (b ≡ true → ⊥) → b ≡ false
+is_false true h = absurd (h refl)
+is_false false h = refl
+
+pub passes : (before : List Line) (p : Piece) (line : Line) → IsRight before p line → Passes before line
+passes before p line h = record {
+  form = h.0.form;
+  place = is_false (is_misplaced before line) (λ e. h.1.1.1.1.0 (line, h.0, e));
+  range = is_false (is_out_of_range line) (λ e. h.1.1.1.1.1.0 (line, h.0, e));
+  few = is_false (is_too_many before line) (λ e. h.1.1.1.1.1.1.0 (line, h.0, e));
+  declared = is_false (is_undeclared before line) (λ e. h.1.1.1.1.1.1.1.0 (line, h.0, e));
+  ticket = is_false (has_wrong_ticket line) (λ e. h.1.1.1.1.1.1.1.1.0 (line, h.0, e));
+}
+
+left : (a b : Bool) → (a || b) ≡ false → a ≡ false
+left true b e = absurd cc
+left false b e = refl
+
+right : (a b : Bool) → (a || b) ≡ false → b ≡ false
+right true b e = absurd cc
+right false b e = e
+
+is_true : (b : Bool) → not b ≡ false → b ≡ true
+is_true true e = refl
+is_true false e = absurd cc
+
+at_most : (n k : ℕ) → nat_lt n k ≡ false → k ≤ n
+at_most n k e = ltb-false n k e
+
+there : (n k : ℕ) → not (nat_lt n k) ≡ false → n < k
+there n k e = ltb-true n k (is_true (nat_lt n k) e)
+
+-- of no element a test holds, so of each that which follows
+all_of_none : {X Y : Type 0} (P : Y → Type 0) (f : X → Y) (t : X → Bool) → ((x : X) → t x ≡ false → P (f x)) → (xs : List X) → list_any t xs ≡ false → All P (map f xs)
+all_of_none P f t to [] e = All-nil P
+all_of_none P f t to (x ∷ xs) e = All-cons P (f x) (map f xs) (to x (left (t x) (list_any t xs) e)) (all_of_none P f t to xs (right (t x) (list_any t xs) e))
+
+all_here : {X : Type 0} (P : X → Type 0) (t u : X → Bool) → ((x : X) → t x ≡ false → u x ≡ false → P x) → (xs : List X) → list_any t xs ≡ false → list_any u xs ≡ false → All P xs
+all_here P t u to [] e f = All-nil P
+all_here P t u to (x ∷ xs) e f =
+    All-cons P x xs (to x (left (t x) (list_any t xs) e) (left (u x) (list_any u xs) f)) (all_here P t u to xs (right (t x) (list_any t xs) e) (right (u x) (list_any u xs) f))
+
+-- ---- one call
+
+few_units : (c : SpelledCall) → is_wide c ≡ false → IsOfFewUnits (call_of c)
+few_units (ReleaseMany c n) e = (nat_some n (left (n == 0) (nat_lt 256 n) e), at_most 256 n (right (n == 0) (nat_lt 256 n) e))
+  where
+    nat_some : (n : ℕ) → (n == 0) ≡ false → 1 ≤ n
+    nat_some n e = grind (arith, nat_tests)
+few_units (Acquire c) e = tt
+few_units (AcquireLifo c) e = tt
+few_units (Release c) e = tt
+few_units (ReleaseHandoff c) e = tt
+few_units (Add l) e = tt
+few_units (Wait l) e = tt
+few_units (One l) e = tt
+few_units (NotifyAll l) e = tt
+few_units (GroupAdd g d) e = tt
+few_units (GroupWait g) e = tt
+
+-- the parts have what the lines declare
+pub record Declares (parts : Parts) (counters lists groups : ℕ) : Type 0 where
+  pub starts : length parts.starts ≡ counters
+  pub firsts : length parts.firsts ≡ lists
+  pub groups_are : parts.groups ≡ groups
+
+call_on : (lines : List Line) (parts : Parts) → Declares parts (count_of CounterKind lines) (count_of ListKind lines) (count_of GroupKind lines) → (c : SpelledCall) → names_missing lines c ≡ false → IsCallOn parts (call_of c)
+call_on lines parts h (Acquire c) e = omega (arith, there c (count_of CounterKind lines) e)
+call_on lines parts h (AcquireLifo c) e = omega (arith, there c (count_of CounterKind lines) e)
+call_on lines parts h (Release c) e = omega (arith, there c (count_of CounterKind lines) e)
+call_on lines parts h (ReleaseHandoff c) e = omega (arith, there c (count_of CounterKind lines) e)
+call_on lines parts h (ReleaseMany c n) e = omega (arith, there c (count_of CounterKind lines) e)
+call_on lines parts h (Add l) e = omega (arith, there l (count_of ListKind lines) e)
+call_on lines parts h (Wait l) e = omega (arith, there l (count_of ListKind lines) e)
+call_on lines parts h (One l) e = omega (arith, there l (count_of ListKind lines) e)
+call_on lines parts h (NotifyAll l) e = omega (arith, there l (count_of ListKind lines) e)
+call_on lines parts h (GroupAdd g d) e = omega (arith, there g (count_of GroupKind lines) e)
+call_on lines parts h (GroupWait g) e = omega (arith, there g (count_of GroupKind lines) e)
+
+fits_change : (g : ℕ) (d : Change) → is_wide (GroupAdd g d) ≡ false → FitsChange d
+fits_change g (Up n) e = omega (arith, at_most 2147483647 n e)
+fits_change g (Down n) e = omega (arith, at_most 2147483648 n e)
+
+fits_call : (lines : List Line) → count_of CounterKind lines ≤ 16 → count_of ListKind lines ≤ 16 → count_of GroupKind lines ≤ 16 → (c : SpelledCall) → is_wide c ≡ false → names_missing lines c ≡ false → FitsCall c
+fits_call lines counters lists groups (Acquire c) w e = omega (arith, there c (count_of CounterKind lines) e)
+fits_call lines counters lists groups (AcquireLifo c) w e = omega (arith, there c (count_of CounterKind lines) e)
+fits_call lines counters lists groups (Release c) w e = omega (arith, there c (count_of CounterKind lines) e)
+fits_call lines counters lists groups (ReleaseHandoff c) w e = omega (arith, there c (count_of CounterKind lines) e)
+fits_call lines counters lists groups (ReleaseMany c n) w e = (omega (arith, there c (count_of CounterKind lines) e), omega (arith, at_most 256 n (right (n == 0) (nat_lt 256 n) w)))
+fits_call lines counters lists groups (Add l) w e = omega (arith, there l (count_of ListKind lines) e)
+fits_call lines counters lists groups (Wait l) w e = omega (arith, there l (count_of ListKind lines) e)
+fits_call lines counters lists groups (One l) w e = omega (arith, there l (count_of ListKind lines) e)
+fits_call lines counters lists groups (NotifyAll l) w e = omega (arith, there l (count_of ListKind lines) e)
+fits_call lines counters lists groups (GroupAdd g d) w e = (omega (arith, there g (count_of GroupKind lines) e), fits_change g d w)
+fits_call lines counters lists groups (GroupWait g) w e = omega (arith, there g (count_of GroupKind lines) e)
+
+-- ---- tickets
+
+takes : (t h : Bool) → (if t then true else h) ≡ (h || t)
+takes true true = refl
+takes true false = refl
+takes false true = refl
+takes false false = refl
+
+spends : (t h : Bool) → (if t then false else h) ≡ (h && not t)
+spends true true = refl
+spends true false = refl
+spends false true = refl
+spends false false = refl
+
+held_is : (l : ℕ) (held : Bool) (calls : List SpelledCall) → holding_after l held (map call_of calls) ≡ fold (held_after l) held calls
+held_is l held [] = refl
+held_is l held (Add m ∷ calls) = ap (λ (b : Bool). holding_after l b (map call_of calls)) (takes (m == l) held) ∙ held_is l (held || m == l) calls
+held_is l held (Wait m ∷ calls) = ap (λ (b : Bool). holding_after l b (map call_of calls)) (spends (m == l) held) ∙ held_is l (held && not (m == l)) calls
+held_is l held (Acquire c ∷ calls) = held_is l held calls
+held_is l held (AcquireLifo c ∷ calls) = held_is l held calls
+held_is l held (Release c ∷ calls) = held_is l held calls
+held_is l held (ReleaseHandoff c ∷ calls) = held_is l held calls
+held_is l held (ReleaseMany c n ∷ calls) = held_is l held calls
+held_is l held (One m ∷ calls) = held_is l held calls
+held_is l held (NotifyAll m ∷ calls) = held_is l held calls
+held_is l held (GroupAdd g d ∷ calls) = held_is l held calls
+held_is l held (GroupWait g ∷ calls) = held_is l held calls
+
+ticket_call : (before : List SpelledCall) (c : SpelledCall) → is_wrong_after before c ≡ false → IsTicketCall (map call_of before) (call_of c)
+ticket_call before (Add l) e = held_is l false before ∙ e
+ticket_call before (Wait l) e = held_is l false before ∙ is_true (has_ticket l before) e
+ticket_call before (Acquire c) e = tt
+ticket_call before (AcquireLifo c) e = tt
+ticket_call before (Release c) e = tt
+ticket_call before (ReleaseHandoff c) e = tt
+ticket_call before (ReleaseMany c n) e = tt
+ticket_call before (One l) e = tt
+ticket_call before (NotifyAll l) e = tt
+ticket_call before (GroupAdd g d) e = tt
+ticket_call before (GroupWait g) e = tt
+
+in_turn : (before calls : List SpelledCall) → misuses_ticket before calls ≡ false → (i : ℕ) → IfSome (slice_get (map call_of calls) i) (IsTicketCall (map call_of before ++ take i (map call_of calls)))
+in_turn before [] e i = tt
+in_turn before (c ∷ calls) e zero =
+    subst (λ (xs : List Call). IsTicketCall xs (call_of c)) (sym (append-nil (map call_of before)))
+    (ticket_call before c (left (is_wrong_after before c) (misuses_ticket (before ++ (c ∷ [])) calls) e))
+in_turn before (c ∷ calls) e (suc i) =
+    let joined : map call_of (before ++ (c ∷ [])) ++ take i (map call_of calls) ≡ map call_of before ++ (call_of c ∷ take i (map call_of calls)) =
+    ap (λ (xs : List Call). xs ++ take i (map call_of calls)) (map-append call_of before (c ∷ [])) ∙ append_assoc (map call_of before) (call_of c ∷ []) (take i (map call_of calls)) in
+    subst (λ (xs : List Call). IfSome (slice_get (map call_of calls) i) (IsTicketCall xs)) joined
+    (in_turn (before ++ (c ∷ [])) calls (right (is_wrong_after before c) (misuses_ticket (before ++ (c ∷ [])) calls) e) i)
+
+pub tickets_kept : (calls : List SpelledCall) → misuses_ticket [] calls ≡ false → AreTicketsKept (map call_of calls)
+tickets_kept calls e i = in_turn [] calls e i
+
+-- ---- more is declared
+
+call_on_more : (p q : Parts) → length p.starts ≤ length q.starts → length p.firsts ≤ length q.firsts → p.groups ≤ q.groups → (c : Call) → IsCallOn p c → IsCallOn q c
+call_on_more p q starts firsts groups (core.Acquire c lifo) h = omega arith
+call_on_more p q starts firsts groups (core.Release c handoff) h = omega arith
+call_on_more p q starts firsts groups (core.ReleaseMany c n) h = omega arith
+call_on_more p q starts firsts groups (core.Add l) h = omega arith
+call_on_more p q starts firsts groups (core.Wait l) h = omega arith
+call_on_more p q starts firsts groups (core.One l) h = omega arith
+call_on_more p q starts firsts groups (core.All l) h = omega arith
+call_on_more p q starts firsts groups (core.GroupAdd g d) h = omega arith
+call_on_more p q starts firsts groups (core.GroupWait g) h = omega arith
+
+declared_more : (p q : Parts) → length p.starts ≤ length q.starts → length p.firsts ≤ length q.firsts → p.groups ≤ q.groups → p.calls ≡ q.calls → IsDeclared p → IsDeclared q
+declared_more p q starts firsts groups same h =
+    subst (λ (calls : List (List Call)). All (All (IsCallOn q)) calls) same
+    (All-weaker (All (IsCallOn p)) (All (IsCallOn q)) (λ cs all. All-weaker (IsCallOn p) (IsCallOn q) (call_on_more p q starts firsts groups) cs all) p.calls h)
+
+-- ---- what right lines keep
+
+-- of these counts of counters, lists, groups and seats, and these parts and property
+pub record Keeps (parts : Parts) (property : Option Property) (counters lists groups seats : ℕ) : Type 0 where
+  pub some_root : 0 < parts.roots
+  pub roots : parts.roots ≤ 251
+  pub declares : Declares parts counters lists groups
+  pub counters_few : counters ≤ 16
+  pub lists_few : lists ≤ 16
+  pub groups_few : groups ≤ 16
+  pub seats_are : length parts.calls ≡ seats
+  pub seats_few : seats ≤ 16
+  pub scripts : All IsScript parts.calls
+  pub declared : IsDeclared parts
+  pub tickets : KeepsTickets parts
+  pub some_seat : IfSome property (λ p. 0 < seats)
+  pub about : IfSome property (IsAbout parts)
+
+abbrev pub Kept : List Line → Type 0
+Kept lines = Keeps (parts_of lines) (property_of lines) (count_of CounterKind lines) (count_of ListKind lines) (count_of GroupKind lines) (count_of SeatKind lines)
+
+pub kept_none : Kept []
+kept_none = record {
+  some_root = omega arith;
+  roots = omega arith;
+  declares = record { starts = refl; firsts = refl; groups_are = refl };
+  counters_few = omega arith;
+  lists_few = omega arith;
+  groups_few = omega arith;
+  seats_are = refl;
+  seats_few = omega arith;
+  scripts = All-nil IsScript;
+  declared = All-nil (All (IsCallOn no_parts));
+  tickets = All-nil AreTicketsKept;
+  some_seat = tt;
+  about = tt;
+}
+
+script : (lines : List Line) (k : ℕ) (calls : List SpelledCall) → Passes lines (Seat k calls) → IsScript (map call_of calls)
+script lines k calls h =
+    let m = length-map calls call_of in
+    (omega (arith, h.form), omega (arith, at_most 32 (length calls) (right (nat_lt 15 (count_of SeatKind lines)) (nat_lt 32 (length calls)) h.few)), all_of_none IsOfFewUnits call_of is_wide few_units calls h.range)
+
+-- a property stands behind a seat
+behind_seat : (lines : List Line) (l : Line) → (nat_lt 0 (count_later (kind l) lines) || is_early_property lines) ≡ false → 0 < count_of SeatKind lines
+behind_seat lines l e =
+    let early = right (nat_lt 0 (count_later (kind l) lines)) (is_early_property lines) e in
+    some (count_of SeatKind lines) (left (count_of SeatKind lines == 0) (nat_lt 0 (count_of PropertyKind lines)) early)
+  where
+    some : (n : ℕ) → (n == 0) ≡ false → 0 < n
+    some n e = grind (arith, nat_tests)
+
+more_seats : (o : Option Property) (n : ℕ) → IfSome o (λ p. 0 < n) → IfSome o (λ p. 0 < n + 1)
+more_seats None n h = tt
+more_seats (Some p) n h = omega arith
+
+-- a property is about more counters too
+about_more : (p q : Parts) → length p.starts ≤ length q.starts → (o : Option Property) → IfSome o (IsAbout p) → IfSome o (IsAbout q)
+about_more p q more None h = tt
+about_more p q more (Some property.Settled) h = tt
+about_more p q more (Some (property.Value c n)) h = omega arith
+about_more p q more (Some property.NoMisuse) h = tt
+
+-- a line that changes the property alone
+stays : (lines : List Line) (o : Option Property) → Kept lines → 0 < count_of SeatKind lines → IfSome o (IsAbout (parts_of lines)) → Keeps (parts_of lines) o (count_of CounterKind lines + 0) (count_of ListKind lines + 0) (count_of GroupKind lines + 0) (count_of SeatKind lines + 0)
+stays lines o k behind about = record {
+  some_root = k.some_root;
+  roots = k.roots;
+  declares = record { starts = omega (arith, k.declares); firsts = omega (arith, k.declares); groups_are = omega (arith, k.declares) };
+  counters_few = omega arith;
+  lists_few = omega arith;
+  groups_few = omega arith;
+  seats_are = omega arith;
+  seats_few = omega arith;
+  scripts = k.scripts;
+  declared = k.declared;
+  tickets = k.tickets;
+  some_seat = always o (count_of SeatKind lines + 0) (omega arith);
+  about = about;
+}
+  where
+    always : (o : Option Property) (n : ℕ) → 0 < n → IfSome o (λ p. 0 < n)
+    always None n h = tt
+    always (Some p) n h = h
+
+-- one line more, in the counts that follow it
+abbrev Next : List Line → Line → Type 0
+Next lines l = Keeps (with_line (parts_of lines) l) (with_property (property_of lines) l) (count_of CounterKind lines + cond (rank (kind l) == rank CounterKind) 1 0) (count_of ListKind lines + cond (rank (kind l) == rank ListKind) 1 0) (count_of GroupKind lines + cond (rank (kind l) == rank GroupKind) 1 0) (count_of SeatKind lines + cond (rank (kind l) == rank SeatKind) 1 0)
+
+next : (lines : List Line) (l : Line) → Kept lines → Passes lines l → Next lines l
+next lines (Roots n) k h = record {
+  some_root = some n (left (n == 0) (nat_lt 251 n) h.range);
+  roots = at_most 251 n (right (n == 0) (nat_lt 251 n) h.range);
+  declares = record { starts = omega (arith, k.declares); firsts = omega (arith, k.declares); groups_are = omega (arith, k.declares) };
+  counters_few = omega arith;
+  lists_few = omega arith;
+  groups_few = omega arith;
+  seats_are = omega arith;
+  seats_few = omega arith;
+  scripts = k.scripts;
+  declared = declared_more (parts_of lines) (with_line (parts_of lines) (Roots n)) (omega arith) (omega arith) (omega arith) refl k.declared;
+  tickets = k.tickets;
+  some_seat = subst (λ (n : ℕ). IfSome (property_of lines) (λ p. 0 < n)) (omega arith) k.some_seat;
+  about = about_more (parts_of lines) (with_line (parts_of lines) (Roots n)) (omega arith) (property_of lines) k.about;
+}
+  where
+    some : (n : ℕ) → (n == 0) ≡ false → 0 < n
+    some n e = grind (arith, nat_tests)
+next lines (Counter start) k h = record {
+  some_root = k.some_root;
+  roots = k.roots;
+  declares = record { starts = omega (arith, k.declares, length_push (parts_of lines).starts start); firsts = omega (arith, k.declares); groups_are = omega (arith, k.declares) };
+  counters_few = omega (arith, at_most 15 (count_of CounterKind lines) h.few);
+  lists_few = omega arith;
+  groups_few = omega arith;
+  seats_are = omega arith;
+  seats_few = omega arith;
+  scripts = k.scripts;
+  declared = declared_more (parts_of lines) (with_line (parts_of lines) (Counter start)) (omega (arith, length_push (parts_of lines).starts start)) (omega arith) (omega arith) refl k.declared;
+  tickets = k.tickets;
+  some_seat = subst (λ (n : ℕ). IfSome (property_of lines) (λ p. 0 < n)) (omega arith) k.some_seat;
+  about = about_more (parts_of lines) (with_line (parts_of lines) (Counter start)) (omega (arith, length_push (parts_of lines).starts start)) (property_of lines) k.about;
+}
+next lines (NotifyList first) k h = record {
+  some_root = k.some_root;
+  roots = k.roots;
+  declares = record { starts = omega (arith, k.declares); firsts = omega (arith, k.declares, length_push (parts_of lines).firsts first); groups_are = omega (arith, k.declares) };
+  counters_few = omega arith;
+  lists_few = omega (arith, at_most 15 (count_of ListKind lines) h.few);
+  groups_few = omega arith;
+  seats_are = omega arith;
+  seats_few = omega arith;
+  scripts = k.scripts;
+  declared = declared_more (parts_of lines) (with_line (parts_of lines) (NotifyList first)) (omega arith) (omega (arith, length_push (parts_of lines).firsts first)) (omega arith) refl k.declared;
+  tickets = k.tickets;
+  some_seat = subst (λ (n : ℕ). IfSome (property_of lines) (λ p. 0 < n)) (omega arith) k.some_seat;
+  about = about_more (parts_of lines) (with_line (parts_of lines) (NotifyList first)) (omega arith) (property_of lines) k.about;
+}
+next lines Group k h = record {
+  some_root = k.some_root;
+  roots = k.roots;
+  declares = record { starts = omega (arith, k.declares); firsts = omega (arith, k.declares); groups_are = omega (arith, k.declares) };
+  counters_few = omega arith;
+  lists_few = omega arith;
+  groups_few = omega (arith, at_most 15 (count_of GroupKind lines) h.few);
+  seats_are = omega arith;
+  seats_few = omega arith;
+  scripts = k.scripts;
+  declared = declared_more (parts_of lines) (with_line (parts_of lines) Group) (omega arith) (omega arith) (omega arith) refl k.declared;
+  tickets = k.tickets;
+  some_seat = subst (λ (n : ℕ). IfSome (property_of lines) (λ p. 0 < n)) (omega arith) k.some_seat;
+  about = about_more (parts_of lines) (with_line (parts_of lines) Group) (omega arith) (property_of lines) k.about;
+}
+next lines (Seat n calls) k h = record {
+  some_root = k.some_root;
+  roots = k.roots;
+  declares = record { starts = omega (arith, k.declares); firsts = omega (arith, k.declares); groups_are = omega (arith, k.declares) };
+  counters_few = omega arith;
+  lists_few = omega arith;
+  groups_few = omega arith;
+  seats_are = omega (arith, length_push (parts_of lines).calls (map call_of calls));
+  seats_few = omega (arith, at_most 15 (count_of SeatKind lines) (left (nat_lt 15 (count_of SeatKind lines)) (nat_lt 32 (length calls)) h.few));
+  scripts = All-push IsScript (parts_of lines).calls (map call_of calls) k.scripts (script lines n calls h);
+  declared = All-push (All (IsCallOn (parts_of lines))) (parts_of lines).calls (map call_of calls) k.declared (all_of_none (IsCallOn (parts_of lines)) call_of (names_missing lines) (call_on lines (parts_of lines) k.declares) calls h.declared);
+  tickets = All-push AreTicketsKept (parts_of lines).calls (map call_of calls) k.tickets (tickets_kept calls h.ticket);
+  some_seat = more_seats (property_of lines) (count_of SeatKind lines) k.some_seat;
+  about = about_more (parts_of lines) (with_line (parts_of lines) (Seat n calls)) (omega arith) (property_of lines) k.about;
+}
+next lines Settled k h = stays lines (Some property.Settled) k (behind_seat lines Settled h.place) tt
+next lines (Value c n) k h = stays lines (Some (property.Value c n)) k (behind_seat lines (Value c n) h.place) (omega (arith, k.declares, there c (count_of CounterKind lines) h.declared))
+next lines NoMisuse k h = stays lines (Some property.NoMisuse) k (behind_seat lines NoMisuse h.place) tt
+
+counted : (kinds : Kind) (lines : List Line) (l : Line) → count_of kinds (lines ++ (l ∷ [])) ≡ count_of kinds lines + cond (rank (kind l) == rank kinds) 1 0
+counted kinds lines l = fold_push (λ (n : ℕ) (x : Line). n + cond (rank (kind x) == rank kinds) 1 0) 0 lines l
+
+pub kept_more : (lines : List Line) (l : Line) → Kept lines → Passes lines l → Kept (lines ++ (l ∷ []))
+kept_more lines l k h =
+    rw (fold_push with_line no_parts lines l, fold_push with_property None lines l, counted CounterKind lines l, counted ListKind lines l, counted GroupKind lines l, counted SeatKind lines l) (next lines l k h)
+
+-- the line's numbers fit
+pub fits : (lines : List Line) (l : Line) → Kept lines → Passes lines l → FitsLine l
+fits lines (Roots n) k h = omega (arith, at_most 251 n (right (n == 0) (nat_lt 251 n) h.range))
+fits lines (Counter start) k h = omega (arith, at_most 4294967295 start h.range)
+fits lines (NotifyList first) k h = omega (arith, at_most 18446744073709551615 first h.range)
+fits lines Group k h = tt
+fits lines (Seat n calls) k h = all_here FitsCall is_wide (names_missing lines) (fits_call lines k.counters_few k.lists_few k.groups_few) calls h.range h.declared
+fits lines Settled k h = tt
+fits lines (Value c n) k h = (omega (arith, k.counters_few, there c (count_of CounterKind lines) h.declared), omega (arith, at_most 4294967295 n h.range))
+fits lines NoMisuse k h = tt
+
+-- ---- a text's lines
+
+kept_behind : (before : List Line) (ps : List Piece) (lines : List Line) → AreRight before ps lines → Kept before → Kept (before ++ lines)
+kept_behind before [] [] r k = subst Kept (sym (append-nil before)) k
+kept_behind before [] (l ∷ ls) r k = absurd r
+kept_behind before (p ∷ ps) [] r k = absurd r
+kept_behind before (p ∷ ps) (l ∷ ls) r k =
+    subst Kept (append_assoc before (l ∷ []) ls) (kept_behind (before ++ (l ∷ [])) ps ls r.1 (kept_more before l k (passes before p l r.0)))
+
+-- what they ask for makes a scenario, and names a counter that is there
+pub record Makes (parts : Parts) (property : Property) : Type 0 where
+  pub limits : IsWithinLimits parts
+  pub declared : IsDeclared parts
+  pub tickets : KeepsTickets parts
+  pub about : IsAbout parts property
+
+keeps_makes : (parts : Parts) (property : Property) (counters lists groups seats : ℕ) → Keeps parts (Some property) counters lists groups seats → Makes parts property
+keeps_makes parts property counters lists groups seats k = record {
+  limits =
+      record {
+        some_root = k.some_root;
+        roots = k.roots;
+        counters = omega (arith, k.declares, k.counters_few);
+        lists = omega (arith, k.declares, k.lists_few);
+        groups = omega (arith, k.declares, k.groups_few);
+        some_seat = omega (arith, k.seats_are, k.some_seat);
+        seats = omega (arith, k.seats_are, k.seats_few);
+        scripts = k.scripts;
+      };
+  declared = k.declared;
+  tickets = k.tickets;
+  about = k.about;
+}
+
+pub makes : (text : List ℕ) (lines : List Line) (parts : Parts) (p : Property) → AreLinesOf text lines → parts ≡ parts_of lines → property_of lines ≡ Some p → Makes parts p
+makes text lines parts p are same there =
+    let counters = count_of CounterKind lines in
+    let lists = count_of ListKind lines in
+    let groups = count_of GroupKind lines in
+    let seats = count_of SeatKind lines in
+    let kept : Kept lines = kept_behind [] (pieces text) lines ((are.right lines).1 refl) kept_none in
+    subst (λ (q : Parts). Makes q p) (sym same)
+    (keeps_makes (parts_of lines) p counters lists groups seats (subst (λ (o : Option Property). Keeps (parts_of lines) o counters lists groups seats) there kept))

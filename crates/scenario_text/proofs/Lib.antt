@@ -1,0 +1,10 @@
+pub mod Numbers
+pub mod Parts
+pub mod Calls
+pub mod Joined
+pub mod Schedules
+pub mod Forms
+pub mod Judging
+pub mod Cutting
+pub mod Texts
+pub mod Keeping

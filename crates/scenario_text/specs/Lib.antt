@@ -1,0 +1,10 @@
+pub mod Causes
+pub mod FaultTexts
+pub mod Fitting
+pub mod Line
+pub mod Phrases
+pub mod Pieces
+pub mod Reader
+pub mod ScenarioText
+pub mod ScheduleText
+pub mod Request

@@ -1,0 +1,14 @@
+//! The text of a scenario: what each line says, the request that a text makes, and what is wrong with a text that makes
+//! none.
+//!
+//! [`read_scenario`] answers the request, or the first faulty line with the least cause that holds of it; [`read_schedule`]
+//! reads the numbers of a schedule. What a text says is a definition on whole lines, which the reader doesn't share.
+#![tactic(auto)]
+
+mod read_fault;
+mod reader;
+mod request;
+
+pub use read_fault::{Cause, ReadFault};
+pub use reader::{read_scenario, read_schedule};
+pub use request::{Property, Request};

@@ -1,0 +1,13 @@
+use Rattle.std.proofs.Common.{refl}
+use Rattle.step_rows.proofs.Replacing.{AreCopied-next, AreCopied-done}
+use Rattle.step_core.proofs.starting.copy_lists.Goals as goal
+
+pub loop-at-init : goal.loop-at-init
+loop-at-init c = record { counted = c.requires; same = refl }
+
+pub loop-at-preserved : goal.loop-at-preserved
+loop-at-preserved c =
+    AreCopied-next c.loop-at.lists c.args.others.now c.loop-at.at c.copy_from.new.self c.index-others-at.result c.loop-at-test.true c.index-others-at.is c.in_ok-copy_from.ensures c.loop-at.invariant
+
+pub returns : goal.returns
+returns c = AreCopied-done c.loop-at.lists c.args.others.now c.loop-at.at c.loop-at-test.false c.loop-at.invariant

@@ -1,0 +1,16 @@
+pub mod Storing
+pub mod Rooting
+pub mod Holding
+pub mod Seating
+pub mod Stepping
+pub mod Handing
+pub mod Noting
+pub mod Opening
+pub mod ListRanges
+pub mod Turning
+pub mod KeyReading
+pub mod KeyPieces
+pub mod KeySeats
+pub mod KeyWriting
+pub mod KeyWhole
+pub mod Replacing

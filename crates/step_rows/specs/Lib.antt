@@ -1,0 +1,5 @@
+pub mod Roots
+pub mod Seats
+pub mod Stored
+pub mod ListStored
+pub mod Key

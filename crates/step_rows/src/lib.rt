@@ -1,0 +1,33 @@
+//! The semaphores and the notify lists as words that rows read and write: the rows of the step table, as they run.
+//!
+//! [`Semaphores`] has the counters, their roots and the seats on them, and runs the rows of Go's `semacquire1` and
+//! `semrelease1`, and those of a release of many units; a [`NotifyList`] is Go's `notifyList`. Each row is one event of one
+//! word: whether it can run is told first (`ready`), and then it runs, which can't fail and takes no memory.
+#![tactic(auto)]
+
+mod acquire;
+mod caller;
+mod copying;
+mod key;
+mod list_outcome;
+mod list_rows;
+mod notify_list;
+mod outcome;
+mod queues;
+mod ready;
+mod release;
+mod release_many;
+mod seats;
+mod semaphores;
+mod shared;
+mod sight;
+mod step;
+
+pub use caller::Caller;
+pub use copying::copy_items;
+pub use key::{write_begun, write_group, write_standing};
+pub use list_outcome::ListReady;
+pub use notify_list::NotifyList;
+pub use outcome::{Outcome, entry_of};
+pub use ready::Ready;
+pub use semaphores::Semaphores;

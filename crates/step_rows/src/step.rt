@@ -1,0 +1,107 @@
+//! One row of the step table, run over the words, the lists and the hands.
+
+ghost use Rattle.std.specs.Prelude.{◌≡◌, ◌<◌, ◌+◌, ◌^◌, ℕ, List, length, slice_get, IfOk, IfErr, IfSome};
+ghost use Rattle.step_rows.specs.Stored.{hands_of, HasWord, HasRoom, HasSeat, Makes, Does};
+ghost use Rattle.step_rows.specs.Stored.{HasRowsOf, row_event, row_finds, IsReady, HasRun, IsRowRefusedBy, refused_by};
+
+use crate::caller::Caller;
+use crate::outcome::Outcome;
+use crate::ready::Ready;
+use crate::shared::Shared;
+use crate::sight::Sight;
+use step_table::{Effect, Entry, StepRefused, Word};
+use waiters::SeatId;
+
+/// Why a row can't run whose event is of this word.
+fn refused_by(word: &Word) -> StepRefused
+    ensures { result ≡ refused_by word.now }
+{
+    match *word {
+        Word::Lock(_) => StepRefused::LockHeld,
+        _ => StepRefused::Asleep,
+    }
+}
+
+/// Makes an entry's change of the lists and of the seat's hand.
+fn change(shared: &mut Shared, seat: SeatId, entry: &Entry)
+    requires there { seat < length shared.old.hands }
+    requires room { HasRoom (length shared.old.lists) (Effect.Tells entry.now) }
+    requires fits { HasSeat shared.old (Effect.Tells entry.now) }
+    ensures { Makes (Effect.Tells entry.now) seat shared.old shared.new }
+{
+    match *entry {
+        Entry::Queue(counter, wait, lifo) => shared.queue(counter, wait, lifo),
+        Entry::Leave(counter, wait, _) => {
+            shared.take(seat, wait);
+            shared.leave(counter);
+        }
+        _ => {}
+    }
+}
+
+/// Makes an effect's change of the lists and of the seat's hand.
+fn make(shared: &mut Shared, seat: SeatId, effect: &Effect)
+    requires there { seat < length shared.old.hands }
+    requires room { HasRoom (length shared.old.lists) effect.now }
+    requires fits { HasSeat shared.old effect.now }
+    ensures { Makes effect.now seat shared.old shared.new }
+{
+    match *effect {
+        Effect::Nothing => {}
+        Effect::Grants => shared.let_go(seat),
+        Effect::Tells(entry) => change(shared, seat, &entry),
+    }
+}
+
+/// The word of the row at which the seat stands, and what the row does; `None` where its condition doesn't hold.
+fn look(shared: &Shared, seat: SeatId, caller: &Caller) -> (Word, Option<Outcome>)
+    requires rows { HasRowsOf shared.now seat caller.now.place (slice_get (hands_of shared.now seat) 0) }
+    requires fits { row_finds seat caller.now shared.now (hands_of shared.now seat) + 2 ^ 32 < 2 ^ 64 }
+    ensures word { result.0 ≡ (row_event seat caller.now shared.now (hands_of shared.now seat)).word }
+    ensures stored { HasWord shared.now result.0 }
+    ensures room { IfSome result.1 (λ outcome. HasRoom (length shared.now.lists) outcome.effect) }
+    ensures fits { IfSome result.1 (λ outcome. HasSeat shared.now outcome.effect) }
+    ensures does { Does (row_event seat caller.now shared.now (hands_of shared.now seat))
+        (row_finds seat caller.now shared.now (hands_of shared.now seat)) result.1 }
+{
+    let sight = Sight {
+        listed: caller.listed(shared),
+        queued: caller.queued(shared),
+        in_hand: shared.in_hand(seat),
+        held: shared.held(seat),
+    };
+    let word = caller.word(seat, &sight);
+    let found = shared.read(&word);
+    (word, caller.outcome(seat, &sight, found))
+}
+
+/// The row at which the seat stands, if it can run, or why it can't.
+pub fn ready(shared: &Shared, seat: SeatId, caller: &Caller) -> Result<Ready, StepRefused>
+    requires rows { HasRowsOf shared.now seat caller.now.place (slice_get (hands_of shared.now seat) 0) }
+    requires fits { row_finds seat caller.now shared.now (hands_of shared.now seat) + 2 ^ 32 < 2 ^ 64 }
+    ensures ok { IfOk result (λ ready. IsReady shared.now seat ready) }
+    ensures caller { IfOk result (λ ready. ready.caller ≡ caller.now) }
+    ensures why { IfErr result (λ cause. IsRowRefusedBy cause seat caller.now shared.now (hands_of shared.now seat)) }
+{
+    let (word, outcome) = look(shared, seat, caller);
+    let Some(outcome) = outcome else {
+        return Err(refused_by(&word));
+    };
+    let caller = *caller;
+    Ok(Ready {
+        caller,
+        word,
+        outcome,
+    })
+}
+
+/// Runs a row that can run, and says where its seat stands then.
+pub fn run_row(shared: &mut Shared, seat: SeatId, ready: &Ready) -> Caller
+    requires ready { IsReady shared.old seat ready.now }
+    requires turn { ready.now.caller.turn + 1 < 2 ^ 64 }
+    ensures { HasRun seat ready.now.caller shared.old (hands_of shared.old seat) ready.now.outcome.effect shared.new result }
+{
+    make(shared, seat, &ready.outcome.effect);
+    shared.write(ready.word, ready.outcome.becomes);
+    ready.caller.after(&ready.outcome)
+}
