@@ -168,7 +168,8 @@ pub record HasBegun (parts : Parts) (i : ℕ) (h : Machine) (counts : List ℕ) 
 
 -- the seat has run its row, which told this, and has begun its next call where that ended one: with each journal, its run is
 -- the one after a step of the seat
-pub record HasStepped (parts : Parts) (i : ℕ) (h : Machine) (counts : List ℕ) (k : Machine) (now : List ℕ) (entry : Option Entry) : Type 0 where
+pub record HasStepped (parts : Parts) (i : ℕ) (h : Machine) (counts : List ℕ) (k : Machine) (now : List ℕ)
+    (entry : Option Entry) : Type 0 where
   pub alike : AreAlike h k
   pub count : length now ≡ length counts
   pub run : (journal : List Entry)
