@@ -40,6 +40,21 @@ fn cost(clock: &impl Clock, alloc: Global, case: &str, size: u16) -> Result<u128
     }
 }
 
+/// Tells what an operation costs in this case, at the size that the word spells.
+fn tell_cost(rt: &(impl Clock + Print), alloc: Global, case: &str, word: &str) -> Result<()> {
+    let size = word.parse::<NonZeroU16>()?.get();
+    let cost = cost(rt, alloc, case, size)?;
+    println!(rt; "{case} {size} ns/op={cost}")?;
+    Ok(())
+}
+
+/// Tells what a world costs in a search of this text.
+fn tell_search(rt: &(impl Clock + Print), alloc: Global, name: &str, text: &str) -> Result<()> {
+    let (cost, worlds) = searches::world(rt, alloc, name, text)?;
+    println!(rt; "explore {name} worlds={worlds} ns/world={cost}")?;
+    Ok(())
+}
+
 fn main(rt: HostRuntime) -> Result<()> {
     let mut words = env::args(&rt)?.skip(1);
     let Some(case) = words.next() else {
@@ -51,13 +66,10 @@ fn main(rt: HostRuntime) -> Result<()> {
     for word in words {
         if case.as_str() == "explore" {
             let text = fs::read_to_string(&rt, format!(in rt.alloc(); "{word}.txt")?)?;
-            let (cost, worlds) = searches::world(&rt, rt.alloc(), &word, &text)?;
-            println!(rt; "{case} {word} worlds={worlds} ns/world={cost}")?;
-            continue;
+            tell_search(&rt, rt.alloc(), &word, &text)?;
+        } else {
+            tell_cost(&rt, rt.alloc(), &case, &word)?;
         }
-        let size = word.parse::<NonZeroU16>()?.get();
-        let cost = cost(&rt, rt.alloc(), &case, size)?;
-        println!(rt; "{case} {size} ns/op={cost}")?;
     }
     Ok(())
 }

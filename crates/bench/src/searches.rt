@@ -9,23 +9,16 @@ use step_core::Scenario;
 /// How many steps a schedule has at most: enough for each of the scenarios here.
 const DEPTH: u32 = 64;
 
-/// The files of the folder `data`, and how many worlds each has by an independent search. The first has more than a search
-/// keeps: it gives up at the one after 200,000.
-const WORLDS: [(&str, u128); 4] = [
-    ("three_acquires_three_releases", 200_001),
-    ("two_counters_of_one_root", 61_246),
-    ("group", 58_676),
-    ("four_locks", 2_993),
-];
-
-/// How many worlds a search of this file meets.
+/// How many worlds a search of this file of the folder `data` meets, by an independent search. The first has more than a
+/// search keeps: it gives up at the one after 200,000.
 fn worlds(name: &str) -> Result<u128> {
-    for (file, worlds) in WORLDS {
-        if file == name {
-            return Ok(worlds);
-        }
+    match name {
+        "three_acquires_three_releases" => Ok(200_001),
+        "two_counters_of_one_root" => Ok(61_246),
+        "group" => Ok(58_676),
+        "four_locks" => Ok(2_993),
+        _ => bail!("no scenario {name}"),
     }
-    bail!("no scenario {name}")
 }
 
 /// What a world costs in a search of this text, in nanoseconds, and how many worlds were met.

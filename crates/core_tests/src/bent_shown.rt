@@ -1,8 +1,11 @@
 //! What a world of a changed table shows.
 
 use crate::given::seat;
+use crate::keys::key_of_bent;
+use std::alloc::Global;
 use std::process::Abort;
-use step_core::{BentWorld, Phase, Row};
+use std::test::Fail;
+use step_core::{BentWorld, Phase, Row, StepRefused};
 use waiters::CounterId;
 
 fn phase_of(rt: &impl Abort, world: &BentWorld<'_>, number: u16) -> Phase {
@@ -34,4 +37,19 @@ pub(crate) fn runs(rt: &impl Abort, world: &mut BentWorld<'_>, number: u16, rows
         is_enabled(rt, world, number, true);
         assert_eq!(rt; world.step(seat(number)), Ok(()));
     }
+}
+
+/// The step is refused, and changes nothing.
+pub(crate) fn refuses(
+    rt: &impl Abort,
+    alloc: Global,
+    world: &mut BentWorld<'_>,
+    number: u16,
+    cause: StepRefused,
+) -> Result<(), Fail> {
+    let before = key_of_bent(alloc, world)?;
+    assert_eq!(rt; world.step(seat(number)), Err(cause));
+    let after = key_of_bent(alloc, world)?;
+    assert_eq!(rt; after.as_slice(), before.as_slice());
+    Ok(())
 }

@@ -1,13 +1,8 @@
 //! Changed tables: what goes wrong by each change, and doesn't by the table itself.
 
-use crate::again::{bent_again, copied_bent, moment_again};
-use crate::bent_shown::{has_number, is_at, is_enabled, runs};
-use crate::given::{
-    COUNTER, HANDOFF, acquire, handoff_scenario, release, scenario, scenario_of_parts, seat,
-};
-use crate::keys::{
-    key_after, key_of_bent, key_of_bent_after, key_of_moment, walk_bent, write_bent_key,
-};
+use crate::again::bent_again;
+use crate::bent_shown::{has_number, is_at, is_enabled, refuses, runs};
+use crate::given::{COUNTER, acquire, release, scenario, scenario_of_parts, seat};
 use crate::list_tests::{add, on_list, one, wait_for_it};
 use crate::story::{Line, TO_GRANT, follow_after};
 use std::alloc::Global;
@@ -18,7 +13,7 @@ use step_core::{
 };
 use waiters::CounterId;
 
-const VARIANTS: [Variant; 3] = [Variant::NoLook, Variant::LateCount, Variant::PlainLess];
+pub(crate) const VARIANTS: [Variant; 3] = [Variant::NoLook, Variant::LateCount, Variant::PlainLess];
 
 /// Which rows the seats run, in this order, and what is seen then: where seats stand, why those can't step that can't, and
 /// the numbers of counters.
@@ -27,21 +22,6 @@ struct Tale<'t> {
     runs: &'t [(u16, &'t [Row])],
     seats: &'t [(u16, Phase, Option<StepRefused>)],
     numbers: &'t [(u32, u64)],
-}
-
-/// The step is refused, and changes nothing.
-fn refuses(
-    rt: &impl Abort,
-    alloc: Global,
-    world: &mut BentWorld<'_>,
-    number: u16,
-    cause: StepRefused,
-) -> Result<(), Fail> {
-    let before = key_of_bent(alloc, world)?;
-    assert_eq!(rt; world.step(seat(number)), Err(cause));
-    let after = key_of_bent(alloc, world)?;
-    assert_eq!(rt; after.as_slice(), before.as_slice());
-    Ok(())
 }
 
 fn shows(
@@ -202,10 +182,10 @@ fn with_a_late_count_a_unit_is_taken_uncounted(rt: HostRuntime) -> Result<(), Fa
     )
 }
 
-const LAST_TICKET: u64 = 18_446_744_073_709_551_615;
+pub(crate) const LAST_TICKET: u64 = 18_446_744_073_709_551_615;
 
 /// One seat that takes a ticket, grants it, and waits with it.
-fn lone_waiter(alloc: Global, first: u64) -> Result<Scenario, Fail> {
+pub(crate) fn lone_waiter(alloc: Global, first: u64) -> Result<Scenario, Fail> {
     on_list(alloc, first, &[&[add(), one(), wait_for_it()]])
 }
 
@@ -297,122 +277,4 @@ fn a_misuse_fails_by_each_table(rt: HostRuntime) -> Result<(), Fail> {
         follow_bent(&rt, rt.alloc(), &scenario, variant, &MISUSED)?;
     }
     Ok(())
-}
-
-/// The world has this key.
-fn has_key(rt: &impl Abort, alloc: Global, world: &BentWorld<'_>, key: &[u64]) -> Result<(), Fail> {
-    let told = key_of_bent(alloc, world)?;
-    assert_eq!(rt; told.as_slice(), key);
-    // what the words were before is no part of the key
-    let mut words = told;
-    write_bent_key(world, &mut words)?;
-    assert_eq!(rt; words.as_slice(), key);
-    Ok(())
-}
-
-/// It starts as the table itself does, and a seat that isn't there can't step.
-fn starts(
-    rt: &impl Abort,
-    alloc: Global,
-    scenario: &Scenario,
-    variant: Variant,
-    key: &[u64],
-) -> Result<(), Fail> {
-    let mut world = bent_again(alloc, scenario, variant)?;
-    is_start(rt, alloc, &mut world, variant, key)
-}
-
-fn is_start(
-    rt: &impl Abort,
-    alloc: Global,
-    world: &mut BentWorld<'_>,
-    variant: Variant,
-    key: &[u64],
-) -> Result<(), Fail> {
-    assert_eq!(rt; world.variant(), variant);
-    assert_eq!(rt; world.scenario().seats(), 3);
-    has_key(rt, alloc, world, key)?;
-    is_enabled(rt, world, 2, true);
-    is_enabled(rt, world, 3, false);
-    refuses(rt, alloc, world, 3, StepRefused::NoSuchSeat)
-}
-
-#[test]
-fn each_changed_table_starts_as_the_table(rt: HostRuntime) -> Result<(), Fail> {
-    let scenario = handoff_scenario(rt.alloc())?;
-    let moment = moment_again(rt.alloc(), &scenario)?;
-    let key = key_of_moment(rt.alloc(), &moment)?;
-    for variant in VARIANTS {
-        starts(&rt, rt.alloc(), &scenario, variant, &key)?;
-    }
-    Ok(())
-}
-
-/// The schedule leads the changed table where it leads the table.
-fn lead_alike(
-    rt: &impl Abort,
-    alloc: Global,
-    scenario: &Scenario,
-    schedule: &[u16],
-    variants: &[Variant],
-) -> Result<(), Fail> {
-    let key = key_after(rt, alloc, scenario, schedule)?;
-    for variant in variants {
-        let bent = key_of_bent_after(rt, alloc, scenario, *variant, schedule)?;
-        assert_eq!(rt; bent.as_slice(), key.as_slice());
-    }
-    Ok(())
-}
-
-#[test]
-fn tickets_leave_counters_alone(rt: HostRuntime) -> Result<(), Fail> {
-    let scenario = handoff_scenario(rt.alloc())?;
-    lead_alike(&rt, rt.alloc(), &scenario, &HANDOFF, &[Variant::PlainLess])
-}
-
-#[test]
-fn acquires_leave_lists_alone(rt: HostRuntime) -> Result<(), Fail> {
-    let scenario = lone_waiter(rt.alloc(), LAST_TICKET)?;
-    let acquires = [Variant::NoLook, Variant::LateCount];
-    lead_alike(&rt, rt.alloc(), &scenario, &[0; 11], &acquires)
-}
-
-/// Words that don't wrap are ordered by their difference as they are plainly.
-#[test]
-fn words_that_do_not_wrap_go_as_by_the_table(rt: HostRuntime) -> Result<(), Fail> {
-    let scenario = lone_waiter(rt.alloc(), 0)?;
-    lead_alike(&rt, rt.alloc(), &scenario, &[0; 11], &VARIANTS)
-}
-
-/// The copy steps on, and the original stays until it takes the same steps.
-fn both_go_on(
-    rt: &impl Abort,
-    alloc: Global,
-    world: &mut BentWorld<'_>,
-    copy: &mut BentWorld<'_>,
-) -> Result<(), Fail> {
-    let key = key_of_bent(alloc, world)?;
-    has_key(rt, alloc, copy, &key)?;
-    assert_eq!(rt; copy.variant(), world.variant());
-    walk_bent(rt, copy, &[1, 1, 0]);
-    has_key(rt, alloc, world, &key)?;
-    walk_bent(rt, world, &[1, 1, 0]);
-    let after = key_of_bent(alloc, world)?;
-    has_key(rt, alloc, copy, &after)?;
-    is_at(rt, world, 0, Phase::At(Row::A7));
-    is_at(rt, copy, 0, Phase::At(Row::A7));
-    Ok(())
-}
-
-fn copy_goes_on(rt: &impl Abort, alloc: Global, world: &mut BentWorld<'_>) -> Result<(), Fail> {
-    walk_bent(rt, world, &[0, 0]);
-    let mut copy = copied_bent(alloc, world)?;
-    both_go_on(rt, alloc, world, &mut copy)
-}
-
-#[test]
-fn a_copy_steps_on_alone_by_its_table(rt: HostRuntime) -> Result<(), Fail> {
-    let scenario = scenario(rt.alloc(), &[acquire(), release()])?;
-    let mut world = bent_again(rt.alloc(), &scenario, Variant::NoLook)?;
-    copy_goes_on(&rt, rt.alloc(), &mut world)
 }

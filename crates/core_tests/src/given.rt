@@ -67,9 +67,10 @@ pub(crate) fn scenario(alloc: Global, calls: &[Call]) -> Result<Scenario, Fail> 
     Ok(Scenario::of(made).ok().ok_or("the parts were refused")?)
 }
 
-/// One root, counters at these numbers, lists at these first tickets, so many groups, and the calls of each seat.
+/// So many roots, counters at these numbers, lists at these first tickets, so many groups, and the calls of each seat.
 fn parts_of(
     alloc: Global,
+    roots: u32,
     starts: &[u32],
     firsts: &[u64],
     groups: u32,
@@ -80,12 +81,27 @@ fn parts_of(
         scripts.push(Items::new(script.to_vec(alloc)?))?;
     }
     Ok(Parts {
-        roots: 1,
+        roots,
         starts: Items::new(starts.to_vec(alloc)?),
         firsts: Items::new(firsts.to_vec(alloc)?),
         groups,
         calls: Items::new(scripts),
     })
+}
+
+pub(crate) fn scenario_on_roots(
+    alloc: Global,
+    roots: u32,
+    starts: &[u32],
+    firsts: &[u64],
+    groups: u32,
+    calls: &[&[Call]],
+) -> Result<Scenario, Fail> {
+    let made = match parts_of(alloc, roots, starts, firsts, groups, calls) {
+        Ok(made) => made,
+        Err(_) => parts_of(alloc, roots, starts, firsts, groups, calls)?,
+    };
+    Ok(Scenario::of(made).ok().ok_or("the parts were refused")?)
 }
 
 pub(crate) fn scenario_of_parts(
@@ -95,11 +111,7 @@ pub(crate) fn scenario_of_parts(
     groups: u32,
     calls: &[&[Call]],
 ) -> Result<Scenario, Fail> {
-    let made = match parts_of(alloc, starts, firsts, groups, calls) {
-        Ok(made) => made,
-        Err(_) => parts_of(alloc, starts, firsts, groups, calls)?,
-    };
-    Ok(Scenario::of(made).ok().ok_or("the parts were refused")?)
+    scenario_on_roots(alloc, 1, starts, firsts, groups, calls)
 }
 
 fn seats(alloc: Global, schedule: &[u16]) -> Result<Vec<SeatId>, AllocError> {

@@ -9,9 +9,13 @@
 #[cfg(test)]
 mod again;
 #[cfg(test)]
+mod bent_alike_tests;
+#[cfg(test)]
 mod bent_shown;
 #[cfg(test)]
 mod bent_tests;
+#[cfg(test)]
+mod commute_tests;
 #[cfg(test)]
 mod copy_tests;
 #[cfg(test)]

@@ -99,6 +99,19 @@ pub(crate) fn tells(
     tells_over(rt, alloc, words, input, ALL_SOUND, told);
 }
 
+/// A replay of this schedule tells this of the input, and no more, and ends so.
+pub(crate) fn replays(
+    rt: &impl Abort,
+    alloc: Global,
+    input: &[u8],
+    spelled: &str,
+    told: &str,
+    status: u8,
+) {
+    let words = ["replay", "--schedule", spelled];
+    tells(rt, alloc, &words, input, told, status);
+}
+
 /// The program ends well. Its output begins with this text, and it tells nothing else.
 pub(crate) fn answers(rt: &impl Abort, alloc: Global, words: &[&str], text: &str) {
     let told = Told {

@@ -19,6 +19,8 @@ mod fault_tests;
 #[cfg(test)]
 mod limit_tests;
 #[cfg(test)]
+mod list_replay_tests;
+#[cfg(test)]
 mod memory_tests;
 #[cfg(test)]
 mod program_tests;

@@ -59,7 +59,7 @@ fn some_words_are_answered_whole(rt: HostRuntime) {
 const HELPS: [(&[&str], &str); 3] = [
     (
         &["--help"],
-        "Explore the sleeping layer of semaphores\n\nUsage: parklot <COMMAND>\n",
+        "Explore the interleavings of semaphores, notify lists and wait groups\n\nUsage: parklot <COMMAND>\n",
     ),
     (
         &["explore", "--help"],

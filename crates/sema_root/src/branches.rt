@@ -113,7 +113,7 @@ fn enter(
     Listed { list, is_new: true }
 }
 
-// The list of a counter, which is opened under a new node where there is none.
+/// The list of a counter, which is opened under a new node where there is none.
 #[inline]
 pub(crate) fn list_for(
     branches: &mut Branches,
@@ -144,7 +144,7 @@ pub(crate) fn list_for(
     enter(branches, link, sides, counter, ticket, lists)
 }
 
-// The list of a counter. Its node goes where only one wait is left in the list.
+/// The list of a counter. Its node goes where only one wait is left in the list.
 pub(crate) fn leave(branches: &mut Branches, counter: CounterId, lists: &Lists) -> Option<ListKey>
     requires comes { ComesTo branches.old Link.Top branches.old.top counter }
     requires listed { IsListed (tree_at branches.old.nodes branches.old.top) counter lists.now }

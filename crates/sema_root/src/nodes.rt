@@ -23,7 +23,7 @@ pub(crate) struct Node {
     pub(crate) right: Option<usize>,
 }
 
-// Where the counter's node is, in the tree below `top`.
+/// Where the counter's node is, in the tree below `top`.
 #[inline]
 pub(crate) fn find(nodes: &Slab<Node>, top: Option<usize>, counter: CounterId) -> Option<usize>
     requires { Holds nodes.now top (tree_at nodes.now top) }
@@ -44,7 +44,7 @@ pub(crate) fn find(nodes: &Slab<Node>, top: Option<usize>, counter: CounterId) -
     None
 }
 
-// The list of a counter, if it is in the tree below `top`.
+/// The list of a counter, if it is in the tree below `top`.
 #[inline]
 pub(crate) fn list_of(nodes: &Slab<Node>, top: Option<usize>, counter: CounterId) -> Option<ListKey>
     requires { Holds nodes.now top (tree_at nodes.now top) }
@@ -56,7 +56,7 @@ pub(crate) fn list_of(nodes: &Slab<Node>, top: Option<usize>, counter: CounterId
     Some(nodes[at].list)
 }
 
-// The counter of the topmost node.
+/// The counter of the topmost node.
 pub(crate) fn counter_at(nodes: &Slab<Node>, top: Option<usize>) -> Option<CounterId>
     requires { Holds nodes.now top (tree_at nodes.now top) }
     ensures { result ≡ top_counter (tree_at nodes.now top) }
@@ -67,7 +67,7 @@ pub(crate) fn counter_at(nodes: &Slab<Node>, top: Option<usize>) -> Option<Count
     Some(nodes[at].counter)
 }
 
-// Where the node of a counter stands, if it is in the tree below `top`.
+/// Where the node of a counter stands, if it is in the tree below `top`.
 pub(crate) fn place_of(nodes: &Slab<Node>, top: Option<usize>, counter: CounterId) -> Option<Place>
     requires { Holds nodes.now top (tree_at nodes.now top) }
     ensures { result ≡ top_place (sought counter (tree_at nodes.now top)) }
@@ -83,7 +83,7 @@ pub(crate) fn place_of(nodes: &Slab<Node>, top: Option<usize>, counter: CounterI
     })
 }
 
-// Puts another tree to the left of a node.
+/// Puts another tree to the left of a node.
 #[inline]
 pub(crate) fn set_left(nodes: &mut Slab<Node>, at: usize, link: Option<usize>)
     requires { ContainsKey nodes.old at }
@@ -95,7 +95,7 @@ pub(crate) fn set_left(nodes: &mut Slab<Node>, at: usize, link: Option<usize>)
     nodes[at].left = link;
 }
 
-// Puts another tree to the right of a node.
+/// Puts another tree to the right of a node.
 #[inline]
 pub(crate) fn set_right(nodes: &mut Slab<Node>, at: usize, link: Option<usize>)
     requires { ContainsKey nodes.old at }
@@ -107,7 +107,7 @@ pub(crate) fn set_right(nodes: &mut Slab<Node>, at: usize, link: Option<usize>)
     nodes[at].right = link;
 }
 
-// Two trees as one, where all counters of the first are below those of the second.
+/// Two trees as one, where all counters of the first are below those of the second.
 pub(crate) fn merge(
     nodes: &mut Slab<Node>,
     first: Option<usize>,
@@ -136,7 +136,7 @@ pub(crate) fn merge(
     }
 }
 
-// A tree as two: the counters below this one, and those above it.
+/// A tree as two: the counters below this one, and those above it.
 pub(crate) fn split(
     nodes: &mut Slab<Node>,
     top: Option<usize>,

@@ -1,5 +1,6 @@
 -- What is asked for of a seat whose run is orderly, by the table or by a change of it, and what the machine answers for it.
-use Rattle.std.proofs.Common.{◌≡◌, ℕ, ◌+◌, ◌^◌, ◌<◌, [], Option, Some, None, Result, Ok, Err, IfOk, IfErr, OnOk, cond, length, ap, ◌∙◌, subst, arith}
+use Rattle.std.proofs.Common.{◌≡◌, ℕ, ◌+◌, ◌^◌, ◌<◌, [], Option, Some, None, Result, Ok, Err, IfOk, IfErr, OnOk, cond, length, refl, ap, sym, ◌∙◌, subst, arith}
+use Rattle.std.proofs.Common.{IsTrue, ◌↔◌, Bool, true, false}
 use Rattle.std.proofs.lemmas.Bool.{lt-ltb}
 use Rattle.step_table.specs.declared.place.Place.{Place}
 use Rattle.step_table.specs.declared.place.Place.TheVariants.{Releasing}
@@ -8,15 +9,29 @@ use Rattle.step_table.specs.declared.refusal.StepRefused.TheVariants.{NoSuchSeat
 use Rattle.step_table.specs.declared.standing.After.{After}
 use Rattle.step_table.specs.declared.standing.After.TheVariants.{NextCall, LooksAgain, Releases}
 use Rattle.step_table.specs.declared.standing.Standing.{Standing}
-use Rattle.step_table.specs.declared.standing.Standing.TheVariants.{Rest, AtCounter, AtList, AtGroup}
+use Rattle.step_table.specs.declared.standing.Standing.TheVariants.{Rest, AtCounter, AtList, AtGroup, Failed}
 use Rattle.step_core.specs.declared.turn.Turn.{Turn}
 use Rattle.step_rows.specs.Stored.{each}
 use Rattle.step_table.specs.CoreLaw.{IsCallBefore, IsStanding}
-use Rattle.step_table.specs.Run.{layout, refusal_of, refusal}
+use Rattle.step_table.specs.Core.{CoreLayout, Core}
+use Rattle.step_table.specs.CoreSteps.{can_run}
+use Rattle.step_table.specs.Run.{layout, unless, refusal_of, refusal}
 use Rattle.step_table.specs.declared.variant.Variant.{Variant}
 use Rattle.step_core.specs.BentStored.{HasBentPast}
-use Rattle.step_core.specs.State.{Moment, State, HasSeat, HasSeatOn, HasSeatAt, HasGroup, MayGoOn, MayGo, AsksFor, IsRefusal, run_of, run_at, telling}
+use Rattle.step_core.specs.State.{Moment, State, HasSeat, HasSeatOn, HasSeatAt, HasGroup, MayGoOn, MayGo, AsksFor, IsMachineFor, IsRefusal, core_of, run_of, run_at, telling}
 use Rattle.step_core.proofs.Ranges.{asks_for, begun_small}
+
+-- a cause is told exactly where the row can't run
+unless_none : (b : Bool) (cause : StepRefused) → IsTrue b ↔ (unless b cause ≡ None)
+unless_none true cause = ((λ t. refl), (λ e. refl))
+unless_none false cause = ((λ f. absurd cc), (λ e. absurd cc))
+
+refused_none : (m : CoreLayout) (s : Core) (i : ℕ) (doing : Standing) → IsTrue (can_run m s i doing) ↔ (refusal_of m s i doing ≡ None)
+refused_none m s i Rest = ((λ f. absurd cc), (λ e. absurd cc))
+refused_none m s i (AtCounter after) = unless_none _ _
+refused_none m s i (AtList l) = unless_none _ _
+refused_none m s i (AtGroup g row) = ((λ t. refl), (λ e. refl))
+refused_none m s i (Failed misuse) = ((λ f. absurd cc), (λ e. absurd cc))
 
 -- a seat of a moment
 module _ (v : Variant) (m : Moment) (past : HasBentPast v m) (i : ℕ) (there : i < length m.parts.calls) where
@@ -62,12 +77,14 @@ module _ (v : Variant) (m : Moment) (past : HasBentPast v m) (i : ℕ) (there : 
   pub room_next : each 0 m.begun i + 1 < 2 ^ 64
   room_next = begun_small v behind past.1 i
 
-  -- what the machine answers is what the run says
-  says : (cause : Option StepRefused) → IsRefusal m.machine i cause → refusal m.parts (run_at m) i ≡ cause
-  says cause is =
+  here : refusal m.parts (run_at m) i ≡ refusal_of (layout m.parts) (run_at m).core i ((run_at m).core.standing i)
+  here =
       ap (λ b. cond b (refusal_of (layout m.parts) (run_at m).core i ((run_at m).core.standing i)) (Some NoSuchSeat))
       (lt-ltb i (length m.parts.calls) there)
-      ∙ is (layout m.parts) past.1.machine []
+
+  -- what the machine answers is what the run says
+  says : (cause : Option StepRefused) → IsRefusal m.machine i cause → refusal m.parts (run_at m) i ≡ cause
+  says cause is = here ∙ is (layout m.parts) past.1.machine []
 
   module _ (shows : Moment) (same : m ≡ shows) where
     said : (cause : Option StepRefused) → IsRefusal m.machine i cause → refusal shows.parts (run_at shows) i ≡ cause
@@ -82,3 +99,13 @@ module _ (v : Variant) (m : Moment) (past : HasBentPast v m) (i : ℕ) (there : 
         → IfErr answer (λ cause. refusal shows.parts (run_at shows) i ≡ Some cause)
     refused_answer (Ok turn) is = tt
     refused_answer (Err cause) is = said (Some cause) is
+
+    pub whether_enabled : (answer : Bool)
+        → ((l : CoreLayout) → IsMachineFor l m.machine
+        → IsTrue answer ↔ IsTrue (can_run l (core_of m.machine []) i (each Rest m.machine.standing i)))
+        → IsTrue answer ↔ (refusal shows.parts (run_at shows) i ≡ None)
+    whether_enabled answer is =
+        let can = is (layout m.parts) past.1.machine in
+        let none = refused_none (layout m.parts) (run_at m).core i ((run_at m).core.standing i) in
+        subst (λ (n : Moment). IsTrue answer ↔ (refusal n.parts (run_at n) i ≡ None)) same
+        (subst (λ r. IsTrue answer ↔ (r ≡ None)) (sym here) ((λ t. none.0 (can.0 t)), (λ e. can.1 (none.1 e))))

@@ -21,3 +21,4 @@ mod BentRuns
 mod BentWaiters
 mod BentMoving
 pub mod BentKeys
+mod Independent

@@ -1,5 +1,5 @@
 -- A step of a moment is a step of the run that it shows, with each journal behind it.
-use Rattle.std.proofs.Common.{◌≡◌, ◌≢◌, ℕ, zero, suc, ◌+◌, ◌^◌, ◌<◌, ◌≤◌, Bool, true, false, List, [], Some, None, Result, IfOk, IfErr, OnOk, nat_lt, cond, length, refl, sym, ap, ◌∙◌, subst, ltb-true}
+use Rattle.std.proofs.Common.{◌≡◌, ◌≢◌, ℕ, zero, suc, ◌+◌, ◌^◌, ◌<◌, ◌≤◌, Bool, true, false, List, [], Some, None, Result, IfOk, IfErr, OnOk, IsTrue, ◌↔◌, nat_lt, cond, length, refl, sym, ap, ◌∙◌, subst, ltb-true}
 use Rattle.std.proofs.lemmas.Bool.{le-ltb}
 use Rattle.step_table.specs.declared.entry.Entry.{Entry}
 use Rattle.step_table.specs.declared.list_place.ListEffect.{ListEffect}
@@ -27,7 +27,7 @@ use Rattle.step_table.specs.Steps.{event_of, finds}
 use Rattle.step_rows.specs.Stored.{each, idle, seat_of, IsStoredFor}
 use Rattle.step_rows.specs.Stored as sema
 use Rattle.step_table.specs.Core.{CoreLayout, Core, journal_after_list}
-use Rattle.step_table.specs.CoreSteps.{releases, goes_on, after_counter, after_list, after_group, row_of_standing, core_turned}
+use Rattle.step_table.specs.CoreSteps.{can_run, releases, goes_on, after_counter, after_list, after_group, row_of_standing, core_turned}
 use Rattle.step_table.specs.Run.{Run, layout, continued, refusal_of, refusal}
 use Rattle.step_table.specs.RunInvariant.{IsSoundRun}
 use Rattle.step_table.specs.declared.variant.Variant.TheVariants.{PlainLess}
@@ -95,6 +95,12 @@ module _ (m : Moment) (past : HasPast m) (i : ℕ) (there : i < length m.parts.c
     pub refused_answer : (answer : Result Turn StepRefused) → IfErr answer (λ cause. IsRefusal m.machine i (Some cause))
         → IfErr answer (λ cause. refusal shows.parts (run_at shows) i ≡ Some cause)
     refused_answer = asking.refused_answer PlainLess m bent_past i there shows same
+
+    pub whether_enabled : (answer : Bool)
+        → ((l : CoreLayout) → IsMachineFor l m.machine
+        → IsTrue answer ↔ IsTrue (can_run l (core_of m.machine []) i (each Rest m.machine.standing i)))
+        → IsTrue answer ↔ (refusal shows.parts (run_at shows) i ≡ None)
+    whether_enabled = asking.whether_enabled PlainLess m bent_past i there shows same
 
 -- what comes after a row tells nothing
 released_journal : (m : CoreLayout) (s : Core) (i g n : ℕ) → (releases m s i g n).journal ≡ s.journal

@@ -29,8 +29,8 @@ pub use step_table::{
     GroupWord, Items, ListEffect, ListId, ListPlace, ListWord, MAX_CALLS, MAX_COUNTERS, MAX_GROUPS,
     MAX_LISTS, MAX_ROOTS, MAX_SEATS, MAX_UNITS, MIN_UNITS, ManyRow, Misuse, OneRow, Parts, Phase,
     Place, Reach, Release, ReleaseMany, ReleaseRow, Row, RunRefused, ScenarioRefused, Standing,
-    StepRefused, Ticket, Variant, WaitRow, Word, law_of_the_alike, law_of_the_core,
-    law_of_the_lists, law_of_the_rows, less,
+    StepRefused, Ticket, Variant, WaitRow, Word, law_of_the_alike, law_of_the_commuting,
+    law_of_the_core, law_of_the_lists, law_of_the_rows, less,
 };
 pub use waiters::{CounterId, NoMemory, SeatId, WaitId};
 pub use world::World;

@@ -65,6 +65,13 @@ fn copy_lists(lists: &mut [NotifyList], others: &[NotifyList]) -> Result<(), NoM
     Ok(())
 }
 
+/// The machine in a box, which is moved without it.
+pub(crate) fn boxed(alloc: Global, machine: Machine) -> Result<Box<Machine>, AllocError>
+    ensures { IfOk result (λ boxed. boxed.value ≡ machine) }
+{
+    Ok(Box::new(alloc, machine)?)
+}
+
 impl Machine {
     /// The machine before any call has begun. All memory of a run is taken here.
     pub(crate) fn new(alloc: Global, scenario: &Scenario) -> Result<Machine, NoMemory>
@@ -96,27 +103,17 @@ impl Machine {
         })
     }
 
-    /// The other machine, in the memory of this one. Memory is taken where that has other lists, roots or seats.
-    pub(crate) fn try_clone_over(self, alloc: Global, other: &Machine) -> Result<Machine, NoMemory>
-        ensures { IfOk result (λ copy. copy ≡ other.now) }
+    /// Becomes as the other is, in the memory that it has. Memory is taken where that has other lists, roots or seats.
+    pub(crate) fn copy_from(&mut self, alloc: Global, other: &Machine) -> Result<(), NoMemory>
+        ensures { OnOk result (self.new ≡ other.now) }
     {
         if self.lists.len() != other.lists.len() {
-            return other.try_clone(alloc);
+            *self = other.try_clone(alloc)?;
+            return Ok(());
         }
-        let Machine {
-            semaphores,
-            mut lists,
-            mut groups,
-            mut standing,
-        } = self;
-        copy_lists(&mut lists, &other.lists)?;
-        copy_items(&mut groups, &other.groups)?;
-        copy_items(&mut standing, &other.standing)?;
-        Ok(Machine {
-            semaphores: semaphores.try_clone_over(alloc, &other.semaphores)?,
-            lists,
-            groups,
-            standing,
-        })
+        copy_lists(&mut self.lists, &other.lists)?;
+        copy_items(&mut self.groups, &other.groups)?;
+        copy_items(&mut self.standing, &other.standing)?;
+        self.semaphores.copy_from(alloc, &other.semaphores)
     }
 }

@@ -2,6 +2,7 @@ pub mod Storing
 pub mod Rooting
 pub mod Holding
 pub mod Seating
+pub mod Seeing
 pub mod Stepping
 pub mod Handing
 pub mod Noting

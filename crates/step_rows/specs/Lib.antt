@@ -3,3 +3,4 @@ pub mod Seats
 pub mod Stored
 pub mod ListStored
 pub mod Key
+pub mod Apart

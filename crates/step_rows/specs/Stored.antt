@@ -1,7 +1,10 @@
 -- The semaphores as they are stored, and their world.
 use Rattle.std.specs.Prelude.{◌≡◌, ℕ, ◌+◌, ◌^◌, ◌<◌, List, [], ◌++◌, Option, Some, None, length, slice_get, slice_index_or, MatchOption, IfSome, IsTrue, replicate}
+use Rattle.std.specs.Prelude.{Bool, true, false, cond, ◌==◌, nat_lt}
 use Rattle.waiters.specs.declared.wait.WaitId.{WaitId}
 use Rattle.step_rows.specs.declared.caller.Caller.{Caller}
+use Rattle.step_rows.specs.declared.caller.Gate.{Gate}
+use Rattle.step_rows.specs.declared.caller.Gate.TheVariants.{Shut, Open, Unlocked, Granted}
 use Rattle.step_table.specs.declared.entry.Entry.{Entry}
 use Rattle.step_table.specs.declared.entry.Entry.TheVariants.{Queue, Leave}
 use Rattle.step_table.specs.declared.effect.Effect.{Effect}
@@ -10,8 +13,8 @@ use Rattle.step_rows.specs.declared.outcome.Outcome.{Outcome}
 use Rattle.step_table.specs.declared.refusal.StepRefused.{StepRefused}
 use Rattle.step_table.specs.declared.refusal.StepRefused.TheVariants.{LockHeld, Asleep}
 use Rattle.step_table.specs.declared.place.AcquireRow.TheVariants.{A7}
-use Rattle.step_table.specs.declared.place.ReleaseRow.TheVariants.{R5}
-use Rattle.step_table.specs.declared.place.ManyRow.TheVariants.{M5}
+use Rattle.step_table.specs.declared.place.ReleaseRow.TheVariants.{R4, R5, R6, R8, R9, R10}
+use Rattle.step_table.specs.declared.place.ManyRow.TheVariants.{M4, M5, M6, M7}
 use Rattle.step_table.specs.declared.place.Place.{Place}
 use Rattle.step_table.specs.declared.place.Place.TheVariants.{Rest, Acquiring, Releasing, ReleasingMany}
 use Rattle.step_rows.specs.declared.ready.Ready.{Ready}
@@ -155,6 +158,32 @@ pub record IsOutcome (e : Event) (n : ℕ) (o : Outcome) : Type 0 where
 abbrev pub Does : Event → ℕ → Option Outcome → Type 0
 Does e n r = MatchOption r (IsTrue (e.can n) → ⊥) (IsOutcome e n)
 
+-- the row of this place looks at its counter's list
+abbrev pub looks_at_list : Place → Bool
+looks_at_list (Releasing r R4) = true
+looks_at_list (Releasing r R5) = true
+looks_at_list (ReleasingMany r M4) = true
+looks_at_list (ReleasingMany r M5) = true
+looks_at_list _ = false
+
+-- it looks at the hand of its seat
+abbrev pub looks_at_hand : Place → Bool
+looks_at_hand (Releasing r R6) = true
+looks_at_hand (Releasing r (R8 left)) = true
+looks_at_hand (Releasing r R9) = true
+looks_at_hand (Releasing r R10) = true
+looks_at_hand (ReleasingMany r M5) = true
+looks_at_hand (ReleasingMany r M6) = true
+looks_at_hand (ReleasingMany r M7) = true
+looks_at_hand _ = false
+
+-- the lists and the hand as they are to a row of this place: empty where it doesn't look
+abbrev pub lists_seen : Place → (ℕ → List WaitId) → ℕ → List WaitId
+lists_seen place lists = λ c. cond (looks_at_list place) (lists c) []
+
+abbrev pub hand_seen : Place → List WaitId → List WaitId
+hand_seen place hand = cond (looks_at_hand place) hand []
+
 -- the first wait of the list of a release's counter, and how many waits that list has
 abbrev pub IsListed : (ℕ → List WaitId) → Place → Option WaitId → Type 0
 IsListed lists (Releasing r row) first = slice_get (lists r.counter) 0 ≡ first
@@ -195,6 +224,18 @@ row_event s caller h hand = event_at s (seat_of caller hand) (words_of h).lists 
 
 abbrev pub row_finds : ℕ → Caller → Stored → List WaitId → ℕ
 row_finds s caller h hand = found (root_of h) (words_of h) (row_event s caller h hand).word
+
+-- a seat s behind this gate can run its row
+abbrev pub lets_through : Stored → ℕ → Gate → Bool
+lets_through h s Shut = false
+lets_through h s Open = true
+lets_through h s (Unlocked c) = (words_of h).locks (root_of h c) == 0
+lets_through h s Granted = nat_lt 0 ((words_of h).grants s)
+
+-- its counter is one of so many
+abbrev pub HasGate : ℕ → Gate → Type 0
+HasGate counters (Unlocked c) = c < counters
+HasGate counters _ = Unit {0}
 
 -- so many words and lists are stored that a row of this seat finds its own
 pub record HasRowsOf (h : Stored) (s : ℕ) (place : Place) (in_hand : Option WaitId) : Type 0 where

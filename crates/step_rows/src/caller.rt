@@ -6,6 +6,7 @@ ghost use Rattle.waiters.specs.declared.wait.WaitId.{WaitId};
 ghost use Rattle.step_table.specs.World.{turn_after};
 ghost use Rattle.step_table.specs.Table.{event_at};
 ghost use Rattle.step_rows.specs.Stored.{Stored, HasRowsOf, HasWord, HasRoom, Does, IsListed, IsQueue, seat_of, words_of, idle};
+ghost use Rattle.step_rows.specs.Stored.{row_event, row_finds, lets_through, hands_of, hand_seen, lists_seen, HasGate};
 ghost use Rattle.step_table.specs.Invariant.{IsWithin};
 
 use crate::outcome::Outcome;
@@ -13,8 +14,8 @@ use crate::shared::Shared;
 use crate::sight::Sight;
 use crate::{acquire, release, release_many};
 use std::alloc::{AllocError, Global};
-use step_table::{Effect, Entry, Place, Word};
-use waiters::{SeatId, WaitId};
+use step_table::{AcquireRow, Effect, Entry, ManyRow, Place, ReleaseRow, Word};
+use waiters::{CounterId, SeatId, WaitId};
 
 /// Where a seat stands on the semaphores, and how many waits it has queued there.
 #[derive(Clone, Copy, Debug, PartialEq, Eq, Drop)]
@@ -23,7 +24,44 @@ pub struct Caller {
     pub turn: u64,
 }
 
+/// What a row has to find before it can run.
+#[derive(Clone, Copy, Debug, PartialEq, Eq, Drop)]
+pub enum Gate {
+    /// No row is there.
+    Shut,
+    /// Whatever it finds, it runs.
+    Open,
+    /// Nobody may hold the lock of the counter's root.
+    Unlocked(CounterId),
+    /// The seat's grant word must be set.
+    Granted,
+}
+
 impl Caller {
+    /// What the row at which the seat stands has to find. It is told by the place alone.
+    pub fn gate(&self) -> Gate
+        ensures within { (counters : ℕ) → IsWithin counters self.now.place → HasGate counters result }
+        ensures gate { (seat : ℕ) (h : Stored) (hand : List WaitId)
+            → (row_event seat self.now h hand).can (row_finds seat self.now h hand) ≡ lets_through h seat result }
+    {
+        match self.place {
+            Place::Rest => Gate::Shut,
+            Place::Acquiring(acquire, row) => match row {
+                AcquireRow::A3 => Gate::Unlocked(acquire.counter),
+                AcquireRow::P(_) => Gate::Granted,
+                _ => Gate::Open,
+            },
+            Place::Releasing(release, row) => match row {
+                ReleaseRow::R3 => Gate::Unlocked(release.counter),
+                _ => Gate::Open,
+            },
+            Place::ReleasingMany(release, row) => match row {
+                ManyRow::M3 => Gate::Unlocked(release.counter),
+                _ => Gate::Open,
+            },
+        }
+    }
+
     /// The word of the row at which the seat stands.
     pub fn word(&self, seat: SeatId, sight: &Sight) -> Word
         ensures stored { (h : Stored) → HasRowsOf h seat self.now.place sight.now.in_hand → HasWord h result }
@@ -40,26 +78,41 @@ impl Caller {
         }
     }
 
-    /// The first wait of the list that a release looks at.
-    pub fn listed(&self, shared: &Shared) -> Option<WaitId>
-        requires { IsWithin (length shared.now.lists) self.now.place }
-        ensures { IsListed (words_of shared.now).lists self.now.place result }
+    /// What the row at which the seat stands sees. The list and the hand are looked up where that row looks at them
+    /// alone, and are empty to it elsewhere.
+    pub fn sight(&self, seat: SeatId, shared: &Shared) -> Sight
+        requires within { IsWithin (length shared.now.lists) self.now.place }
+        requires hand { seat < length shared.now.hands }
+        ensures listed { IsListed (lists_seen self.now.place (words_of shared.now).lists) self.now.place result.listed }
+        ensures queued { IsQueue (lists_seen self.now.place (words_of shared.now).lists) self.now.place result.queued }
+        ensures in_hand { slice_get (hand_seen self.now.place (hands_of shared.now seat)) 0 ≡ result.in_hand }
+        ensures held { length (hand_seen self.now.place (hands_of shared.now seat)) ≡ result.held }
     {
         match self.place {
-            Place::Releasing(release, _) => shared.first(release.counter),
-            Place::ReleasingMany(release, _) => shared.first(release.counter),
-            _ => None,
-        }
-    }
-
-    /// How many waits are in the list that a release of many looks at.
-    pub fn queued(&self, shared: &Shared) -> usize
-        requires { IsWithin (length shared.now.lists) self.now.place }
-        ensures { IsQueue (words_of shared.now).lists self.now.place result }
-    {
-        match self.place {
-            Place::ReleasingMany(release, _) => shared.queued(release.counter),
-            _ => 0,
+            Place::Releasing(release, row) => match row {
+                ReleaseRow::R4 | ReleaseRow::R5 => Sight::of_list(shared.first(release.counter), 0),
+                ReleaseRow::R6 | ReleaseRow::R8(_) | ReleaseRow::R9 | ReleaseRow::R10 => {
+                    Sight::of_hand(shared.in_hand(seat), shared.held(seat))
+                }
+                _ => Sight::nothing(),
+            },
+            Place::ReleasingMany(release, row) => match row {
+                ManyRow::M4 => {
+                    let counter = release.counter;
+                    Sight::of_list(shared.first(counter), shared.queued(counter))
+                }
+                ManyRow::M5 => Sight {
+                    listed: shared.first(release.counter),
+                    queued: shared.queued(release.counter),
+                    in_hand: shared.in_hand(seat),
+                    held: shared.held(seat),
+                },
+                ManyRow::M6 | ManyRow::M7 => {
+                    Sight::of_hand(shared.in_hand(seat), shared.held(seat))
+                }
+                _ => Sight::nothing(),
+            },
+            _ => Sight::nothing(),
         }
     }
 

@@ -6,6 +6,7 @@
 #![tactic(auto)]
 
 mod acquire;
+mod apart;
 mod caller;
 mod copying;
 mod key;

@@ -1,14 +1,13 @@
 //! One row of the step table, run over the words, the lists and the hands.
 
-ghost use Rattle.std.specs.Prelude.{◌≡◌, ◌<◌, ◌+◌, ◌^◌, ℕ, List, length, slice_get, IfOk, IfErr, IfSome};
+ghost use Rattle.std.specs.Prelude.{◌≡◌, ◌<◌, ◌+◌, ◌^◌, ◌↔◌, ℕ, IsTrue, List, length, slice_get, IfOk, IfErr, IfSome};
 ghost use Rattle.step_rows.specs.Stored.{hands_of, HasWord, HasRoom, HasSeat, Makes, Does};
 ghost use Rattle.step_rows.specs.Stored.{HasRowsOf, row_event, row_finds, IsReady, HasRun, IsRowRefusedBy, refused_by};
 
-use crate::caller::Caller;
+use crate::caller::{Caller, Gate};
 use crate::outcome::Outcome;
 use crate::ready::Ready;
 use crate::shared::Shared;
-use crate::sight::Sight;
 use step_table::{Effect, Entry, StepRefused, Word};
 use waiters::SeatId;
 
@@ -64,12 +63,7 @@ fn look(shared: &Shared, seat: SeatId, caller: &Caller) -> (Word, Option<Outcome
     ensures does { Does (row_event seat caller.now shared.now (hands_of shared.now seat))
         (row_finds seat caller.now shared.now (hands_of shared.now seat)) result.1 }
 {
-    let sight = Sight {
-        listed: caller.listed(shared),
-        queued: caller.queued(shared),
-        in_hand: shared.in_hand(seat),
-        held: shared.held(seat),
-    };
+    let sight = caller.sight(seat, shared);
     let word = caller.word(seat, &sight);
     let found = shared.read(&word);
     (word, caller.outcome(seat, &sight, found))
@@ -93,6 +87,20 @@ pub fn ready(shared: &Shared, seat: SeatId, caller: &Caller) -> Result<Ready, St
         word,
         outcome,
     })
+}
+
+/// Whether the row can run at which the seat stands. No more is read than the one word that tells.
+pub fn can_run(shared: &Shared, seat: SeatId, caller: &Caller) -> bool
+    requires { HasRowsOf shared.now seat caller.now.place (slice_get (hands_of shared.now seat) 0) }
+    ensures { IsTrue result ↔ IsTrue ((row_event seat caller.now shared.now (hands_of shared.now seat)).can
+        (row_finds seat caller.now shared.now (hands_of shared.now seat))) }
+{
+    match caller.gate() {
+        Gate::Shut => false,
+        Gate::Open => true,
+        Gate::Unlocked(counter) => shared.read(&Word::Lock(counter)) == 0,
+        Gate::Granted => shared.grant(seat) != 0,
+    }
 }
 
 /// Runs a row that can run, and says where its seat stands then.

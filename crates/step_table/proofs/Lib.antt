@@ -63,3 +63,6 @@ pub mod GroupRuns
 pub mod AlikeRows
 pub mod AlikeCore
 pub mod AlikeRuns
+pub mod CommutingWords
+pub mod CommutingOwn
+pub mod Commuting

@@ -163,7 +163,7 @@ put_same f i = fun_ext (λ k. by k (ℕ_discrete k i))
     by k (no ne) = put_else f i (f i) k ne
 
 -- a load writes back what it found
-unwritten : (root : ℕ → ℕ) (g : Words) (w : Word) → written root g w (found root g w) ≡ g
+pub unwritten : (root : ℕ → ℕ) (g : Words) (w : Word) → written root g w (found root g w) ≡ g
 unwritten root g (Counter c) = λ k. record g { numbers = put_same g.numbers c k }
 unwritten root g (Lock c) = λ k. record g { locks = put_same g.locks (root c) k }
 unwritten root g (Waiters c) = λ k. record g { waiters = put_same g.waiters (root c) k }

@@ -34,3 +34,4 @@ pub mod Texts
 pub mod Alike
 pub mod Bent
 pub mod BentInvariant
+pub mod Commuting

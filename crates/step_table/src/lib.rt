@@ -32,7 +32,9 @@ pub use entry::Entry;
 pub use group_id::GroupId;
 pub use group_word::GroupWord;
 pub use items::Items;
-pub use laws::{law_of_the_alike, law_of_the_core, law_of_the_lists, law_of_the_rows};
+pub use laws::{
+    law_of_the_alike, law_of_the_commuting, law_of_the_core, law_of_the_lists, law_of_the_rows,
+};
 pub use limits::{
     MAX_CALLS, MAX_COUNTERS, MAX_GROUPS, MAX_LISTS, MAX_ROOTS, MAX_SEATS, MAX_UNITS, MIN_UNITS,
 };

@@ -1,0 +1,5 @@
+use Rattle.std.proofs.Common.{length}
+use Rattle.step_rows.proofs.step.can_run.Goals as goal
+
+pub read-requires : goal.read-requires
+read-requires c = c.requires.locks _ (c.in-Unlocked.ensures.within (length c.args.shared.now.numbers) c.requires.within)
