@@ -7,4 +7,5 @@ pub mod Forms
 pub mod Judging
 pub mod Cutting
 pub mod Texts
+pub mod Passing
 pub mod Keeping

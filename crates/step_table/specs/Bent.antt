@@ -71,4 +71,5 @@ bent_stepped v parts run i =
 -- by a changed table too, runs that are alike step to such runs
 abbrev pub BentAlike : Type 0
 BentAlike =
-    (v : Variant) (parts : Parts) (r s : Run) → AreAlike r s → (i : ℕ) → AreAlike (bent_stepped v parts r i) (bent_stepped v parts s i)
+    (v : Variant) (parts : Parts) (r s : Run) → AreAlike r s
+    → (i : ℕ) → AreAlike (bent_stepped v parts r i) (bent_stepped v parts s i)

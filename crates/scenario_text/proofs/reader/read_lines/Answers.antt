@@ -10,7 +10,8 @@ use Rattle.scenario_text.specs.Pieces.{Piece}
 use Rattle.scenario_text.specs.Reader.{Judges, IsOnlyRight}
 use Rattle.scenario_text.specs.ScenarioText.{with_line, with_property, no_parts}
 use Rattle.scenario_text.proofs.Texts.{begins, turn, failed, are_lines}
-use Rattle.scenario_text.proofs.Keeping.{kept_none, kept_more, passes, fits}
+use Rattle.scenario_text.proofs.Keeping.{kept_none, kept_more, fits}
+use Rattle.scenario_text.proofs.Passing.{passes}
 use Rattle.scenario_text.proofs.reader.read_lines.Goals as goal
 
 pub loop-rest-init : goal.loop-rest-init
