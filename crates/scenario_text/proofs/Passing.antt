@@ -1,31 +1,24 @@
 -- What a right line passes: the tests of its numbers, of its place, of each of its calls, and of the tickets of its seat.
-use Rattle.std.proofs.Common.{◌≡◌, ℕ, zero, suc, ◌+◌, ◌<◌, ◌≤◌, Bool, true, false, cond, not, List, [], ◌∷◌, ◌++◌, map, length, take, All, Option, Some, None, IfSome, refl, sym, ap, subst, ◌∙◌, append_assoc, arith}
+use Rattle.std.proofs.Common.{◌≡◌, ℕ, zero, suc, ◌<◌, ◌≤◌, Bool, true, false, not, List, [], ◌∷◌, ◌++◌, map, length, take, All, IfSome, refl, sym, ap, subst, ◌∙◌, append_assoc, arith}
 use Rattle.std.specs.Prelude.{nat_lt, ◌==◌, ◌||◌, ◌&&◌, if◌then◌else◌, fold, slice_get}
 use Rattle.std.specs.List.{list_any}
-use Rattle.std.proofs.lemmas.List.{append-nil, length-map, map-append, length_push}
-use Rattle.std.proofs.lemmas.List.Elements.{All-push, All-weaker, All-nil, All-cons}
-use Rattle.std.proofs.lemmas.List.Sums.{fold_push}
+use Rattle.std.proofs.lemmas.List.{append-nil, map-append}
+use Rattle.std.proofs.lemmas.List.Elements.{All-nil, All-cons}
 use Rattle.std.proofs.lemmas.Bool.{ltb-true, ltb-false}
 use Rattle.std.proofs.lemmas.Bool.Decides.{nat_tests}
 use Rattle.step_table.specs.declared.call.Call.{Call}
-use Rattle.step_table.specs.declared.call.Call.TheVariants as core
 use Rattle.step_table.specs.declared.parts.Parts.{Parts}
 use Rattle.scenario_text.specs.declared.reader.call.Change.{Change}
 use Rattle.scenario_text.specs.declared.reader.call.Change.TheVariants.{Up, Down}
 use Rattle.scenario_text.specs.declared.reader.call.SpelledCall.{SpelledCall}
 use Rattle.scenario_text.specs.declared.reader.call.SpelledCall.TheVariants.{Acquire, AcquireLifo, Release, ReleaseHandoff, ReleaseMany, Add, Wait, One, All as NotifyAll, GroupAdd, GroupWait}
-use Rattle.scenario_text.specs.declared.request.Property.{Property}
-use Rattle.scenario_text.specs.declared.request.Property.TheVariants as property
-use Rattle.scenario_text.specs.declared.reader.kind.Kind.{Kind}
-use Rattle.scenario_text.specs.declared.reader.kind.Kind.TheVariants.{Counter as CounterKind, NotifyList as ListKind, Group as GroupKind, Seat as SeatKind, Property as PropertyKind}
-use Rattle.scenario_text.specs.Request.{IsAbout}
-use Rattle.scenario_text.specs.Line.{Line, Roots, Counter, NotifyList, Group, Seat, Settled, Value, NoMisuse, HasForm}
-use Rattle.scenario_text.specs.Pieces.{Piece, pieces}
-use Rattle.scenario_text.specs.Causes.{kind, rank, count_of, is_misplaced, is_out_of_range, is_too_many, is_undeclared, has_wrong_ticket, is_wide, names_missing, held_after, has_ticket, is_wrong_after, misuses_ticket, is_early_property, count_later, IsRight}
-use Rattle.scenario_text.specs.Reader.{AreLinesOf}
-use Rattle.scenario_text.specs.ScenarioText.{AreRight, call_of, with_line, with_property, parts_of, property_of, no_parts}
-use Rattle.scenario_text.specs.Fitting.{FitsChange, FitsCall, FitsLine}
-use Rattle.step_table.specs.Scenario.{IsOfFewUnits, IsScript, IsCallOn, IsWithinLimits, IsDeclared, holding_after, IsTicketCall, AreTicketsKept, KeepsTickets}
+use Rattle.scenario_text.specs.declared.reader.kind.Kind.TheVariants.{Counter as CounterKind, NotifyList as ListKind, Group as GroupKind}
+use Rattle.scenario_text.specs.Line.{Line, HasForm}
+use Rattle.scenario_text.specs.Pieces.{Piece}
+use Rattle.scenario_text.specs.Causes.{count_of, is_misplaced, is_out_of_range, is_too_many, is_undeclared, has_wrong_ticket, is_wide, names_missing, held_after, has_ticket, is_wrong_after, misuses_ticket, IsRight}
+use Rattle.scenario_text.specs.ScenarioText.{call_of}
+use Rattle.scenario_text.specs.Fitting.{FitsChange, FitsCall}
+use Rattle.step_table.specs.Scenario.{IsOfFewUnits, IsCallOn, holding_after, IsTicketCall, AreTicketsKept}
 
 -- ---- tests that fail
 
