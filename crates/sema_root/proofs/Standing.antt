@@ -1,8 +1,8 @@
 -- A tree of nodes stands below its link, and goes on standing there while other counters' nodes change.
-use Rattle.std.proofs.Common.{◌≡◌, ℕ, zero, suc, ◌<◌, ◌≤◌, List, [], ◌∷◌, ◌++◌, Option, Some, None, IsSome}
+use Rattle.std.proofs.Common.{◌≡◌, ◌↔◌, ℕ, zero, suc, ◌<◌, ◌≤◌, List, [], ◌∷◌, ◌++◌, Option, Some, None, IsSome, IsTrue, is_some}
 use Rattle.std.proofs.Common.{refl, sym, ap, ◌∙◌, subst, arith}
 use Rattle.std.specs.List.{AllByRecursion}
-use Rattle.std.proofs.Common.{true, false, eqb, nat_cmp, is_lt}
+use Rattle.std.proofs.Common.{Bool, true, false, not, eqb, nat_cmp, is_lt}
 use Rattle.std.proofs.lemmas.Bool.Decides.{nat_tests}
 use Rattle.slab.specs.Slab.{Slab, get}
 use Rattle.sema_root.specs.declared.nodes.Node.{Node}
@@ -126,6 +126,16 @@ Holds-nothing nodes link tree none holds = by tree holds.stands
     by : (tree : Tree ℕ) → Stands nodes link tree → tree ≡ leaf
     by leaf stands = refl
     by (fork left top right) (there, other, is, found, same, on_left, on_right) = cc
+
+-- and below a link stands some tree
+pub Holds-nothing_iff : (nodes : Slab Node) (link : Option ℕ) (none : Bool) (tree : Tree ℕ) → is_some link ≡ not none
+    → Holds nodes link tree → IsTrue none ↔ (tree ≡ leaf)
+unfolding Stands
+Holds-nothing_iff nodes None true tree is holds = (λ none. Holds-nothing nodes None tree refl holds, λ empty. refl)
+Holds-nothing_iff nodes None false tree is holds = absurd (cc)
+Holds-nothing_iff nodes (Some at) true tree is holds = absurd (cc)
+Holds-nothing_iff nodes (Some at) false tree is holds =
+    (λ none. absurd (cc), λ empty. let wrong : Some at ≡ None = subst (Stands nodes (Some at)) empty holds.stands in absurd (cc))
 
 -- what the topmost node holds
 pub top_value-none : (nodes : Slab Node) (link : Option ℕ) (tree : Tree ℕ) → link ≡ None → Holds nodes link tree → top_value tree ≡ None

@@ -1,5 +1,5 @@
 //! Which list each counter's waits stand in, as a treap: a search tree by counters that is a heap by tickets.
-ghost use Rattle.std.specs.Prelude.{◌≡◌, ℕ, ◌<◌, MatchOption, IfOk, OnOk, OnErr, Some};
+ghost use Rattle.std.specs.Prelude.{◌≡◌, ◌↔◌, ℕ, ◌<◌, MatchOption, IfOk, IsTrue, OnOk, OnErr, Some};
 ghost use Rattle.waiters.specs.Lists.{IsOpen};
 ghost use Rattle.sema_root.specs.Tree.{IsTreap, leaf, sought, top_counter, top_place, top_value};
 ghost use Rattle.sema_root.specs.Planted.{Enters, IsFound, Leaves};
@@ -61,6 +61,14 @@ impl Treap {
         ensures { result ≡ self.now.room }
     {
         self.reserved - self.branches.nodes.len()
+    }
+
+    /// Whether no counter is in.
+    #[inline]
+    pub(crate) fn is_empty(&self) -> bool
+        ensures { IsTrue result ↔ (self.now.tree ≡ leaf) }
+    {
+        self.branches.top.is_none()
     }
 
     /// The list of a counter, if it is in.

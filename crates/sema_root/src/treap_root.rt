@@ -80,8 +80,11 @@ impl TreapRoot {
         ensures err { OnErr result (self.new ≡ self.old) }
     {
         let tickets = other.tickets.clone()?;
-        self.treap
-            .copy_from(&other.treap, &mut self.lists, &other.lists)?;
+        // Two roots where nobody waits differ in their tickets alone.
+        if !self.treap.is_empty() || !other.treap.is_empty() || self.seats != other.seats {
+            self.treap
+                .copy_from(&other.treap, &mut self.lists, &other.lists)?;
+        }
         self.tickets = tickets;
         self.seats = other.seats;
         Ok(())

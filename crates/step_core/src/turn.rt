@@ -19,11 +19,11 @@ impl Turn {
     pub fn entry(&self, seat: SeatId) -> Option<Entry>
         ensures { result ≡ entry_of seat self.now }
     {
-        match *self {
+        match self {
             Turn::OnCounter(_, ready) => entry_of(&ready.outcome.effect),
             Turn::OnList(list, ready) => match ready.outcome.effect {
-                ListEffect::HandsOut(_) => Some(Entry::Ticket(list, seat)),
-                ListEffect::Grants(upto) => Some(Entry::Grant(list, upto, seat)),
+                ListEffect::HandsOut(_) => Some(Entry::Ticket(*list, seat)),
+                ListEffect::Grants(upto) => Some(Entry::Grant(*list, upto, seat)),
                 _ => None,
             },
             Turn::OnGroup(_, _) => None,

@@ -1,5 +1,6 @@
 pub mod Storing
 pub mod Rooting
+pub mod Passing
 pub mod Holding
 pub mod Seating
 pub mod Seeing

@@ -9,6 +9,10 @@ use std::alloc::AllocError;
 pub fn copy_items<T: Copy + Drop>(items: &mut Vec<T>, others: &[T]) -> Result<(), AllocError>
     ensures { OnOk result (items.new.items ≡ others.now) }
 {
+    if items.len() == others.len() {
+        items.copy_from_slice(others);
+        return Ok(());
+    }
     items.clear();
     items.extend_from_slice(others)
 }

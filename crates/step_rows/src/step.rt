@@ -45,10 +45,10 @@ fn make(shared: &mut Shared, seat: SeatId, effect: &Effect)
     requires fits { HasSeat shared.old effect.now }
     ensures { Makes effect.now seat shared.old shared.new }
 {
-    match *effect {
+    match effect {
         Effect::Nothing => {}
         Effect::Grants => shared.let_go(seat),
-        Effect::Tells(entry) => change(shared, seat, &entry),
+        Effect::Tells(entry) => change(shared, seat, entry),
     }
 }
 

@@ -1,6 +1,7 @@
 pub mod ChainLemmas
 pub mod CloneLemmas
 pub mod CopyLemmas
+pub mod LeftLemmas
 pub mod NameLemmas
 pub mod SlotLemmas
 pub mod StepLemmas

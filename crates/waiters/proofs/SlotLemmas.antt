@@ -38,13 +38,13 @@ module _ {T : Type 0} where
   abbrev HaveAll : List (Option T) → List (Option T) → Type 0
   HaveAll slots others = (key : ℕ) (value : T) → get_or others key None ≡ Some value → get_or slots key None ≡ Some value
 
-  abbrev values_in : List (Option T) → ℕ
+  abbrev pub values_in : List (Option T) → ℕ
   values_in = count_by is_some
 
-  some_more : (value : T) (rest : List (Option T)) → values_in (Some value ∷ rest) ≡ suc (values_in rest)
+  pub some_more : (value : T) (rest : List (Option T)) → values_in (Some value ∷ rest) ≡ suc (values_in rest)
   some_more value rest = omega (arith, sum_by-cons (λ slot. cond (is_some slot) 1 0) (Some value) rest)
 
-  none_more : (rest : List (Option T)) → values_in (None ∷ rest) ≡ values_in rest
+  pub none_more : (rest : List (Option T)) → values_in (None ∷ rest) ≡ values_in rest
   none_more rest = omega (arith, sum_by-cons (λ slot. cond (is_some slot) 1 0) None rest)
 
   later : (slot other : Option T) (slots others : List (Option T)) → HaveAll (slot ∷ slots) (other ∷ others) → HaveAll slots others
