@@ -186,20 +186,14 @@ fn the_semaphore_of_a_group_is_told(rt: HostRuntime) -> Result<(), Fail> {
 }
 
 /// The words of a key, by hand: the counter's number and its empty list; the words of its root; the seat before its row of
-/// a release, with no grant and nothing in hand; that it is on a counter; how many calls it has begun.
+/// a release, and one word for no grant and nothing in hand; that it is on a counter; how many calls it has begun.
 #[test]
 fn a_key_has_its_words(rt: HostRuntime) -> Result<(), Fail> {
     let scenario = scenario(rt.alloc(), &[release()])?;
     let before = key_after(&rt, rt.alloc(), &scenario, &[])?;
-    assert_eq!(rt;
-        before.as_slice(),
-        [0, 0, 0, 0, 26, 0, 0, 0, 1, 1].as_slice()
-    );
+    assert_eq!(rt; before.as_slice(), [0, 0, 0, 0, 26, 0, 0, 1, 1].as_slice());
     let after = key_after(&rt, rt.alloc(), &scenario, &[0])?;
-    assert_eq!(rt;
-        after.as_slice(),
-        [1, 0, 0, 0, 28, 0, 0, 0, 1, 1].as_slice()
-    );
+    assert_eq!(rt; after.as_slice(), [1, 0, 0, 0, 28, 0, 0, 1, 1].as_slice());
     Ok(())
 }
 

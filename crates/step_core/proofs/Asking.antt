@@ -87,7 +87,7 @@ module _ (v : Variant) (m : Moment) (past : HasBentPast v m) (i : ℕ) (there : 
   says cause is = here ∙ is (layout m.parts) past.1.machine []
 
   module _ (shows : Moment) (same : m ≡ shows) where
-    said : (cause : Option StepRefused) → IsRefusal m.machine i cause → refusal shows.parts (run_at shows) i ≡ cause
+    pub said : (cause : Option StepRefused) → IsRefusal m.machine i cause → refusal shows.parts (run_at shows) i ≡ cause
     said cause is = subst (λ (n : Moment). refusal n.parts (run_at n) i ≡ cause) same (says cause is)
 
     pub enabled_answer : (answer : Result Turn StepRefused) → IfOk answer (λ turn. IsRefusal m.machine i None)

@@ -1,5 +1,5 @@
 -- A step of a moment is a step of the run that it shows, with each journal behind it.
-use Rattle.std.proofs.Common.{◌≡◌, ◌≢◌, ℕ, zero, suc, ◌+◌, ◌^◌, ◌<◌, ◌≤◌, Bool, true, false, List, [], Some, None, Result, IfOk, IfErr, OnOk, IsTrue, ◌↔◌, nat_lt, cond, length, refl, sym, ap, ◌∙◌, subst, ltb-true}
+use Rattle.std.proofs.Common.{◌≡◌, ◌≢◌, ℕ, zero, suc, ◌+◌, ◌^◌, ◌<◌, ◌≤◌, Bool, true, false, List, [], Some, None, Option, Result, IfOk, IfErr, OnOk, IsTrue, ◌↔◌, nat_lt, cond, length, refl, sym, ap, ◌∙◌, subst, ltb-true}
 use Rattle.std.proofs.lemmas.Bool.{le-ltb}
 use Rattle.step_table.specs.declared.entry.Entry.{Entry}
 use Rattle.step_table.specs.declared.list_place.ListEffect.{ListEffect}
@@ -32,7 +32,7 @@ use Rattle.step_table.specs.Run.{Run, layout, continued, refusal_of, refusal}
 use Rattle.step_table.specs.RunInvariant.{IsSoundRun}
 use Rattle.step_table.specs.declared.variant.Variant.TheVariants.{PlainLess}
 use Rattle.step_core.specs.BentStored.{HasBentPast}
-use Rattle.step_core.specs.State.{Machine, AreAlike, HasStepped, Moment, IsMachineFor, Becomes, HasBegun, HasSeat, HasSeatAt, MayGo, AsksFor, IsRefusal, IsReady, IsReadyAt, IsSound, Steps, HasPast, core_of, run_with, run_of, run_at, telling, entry_of, list_entry, and_then}
+use Rattle.step_core.specs.State.{Machine, AreAlike, HasStepped, Moment, IsMachineFor, HasRunRow, HasBegun, GoesOn, HasSeat, HasSeatAt, MayGo, AsksFor, IsRefusal, IsReady, IsReadyAt, IsSound, Steps, HasPast, core_of, run_with, run_of, run_at, telling, entry_of, list_entry, and_then}
 use Rattle.step_rows.proofs.Storing.{get_here}
 use Rattle.step_core.proofs.Changing.{same_layout, then_all}
 use Rattle.step_core.proofs.Ranges.{orderly_state}
@@ -88,6 +88,9 @@ module _ (m : Moment) (past : HasPast m) (i : ℕ) (there : i < length m.parts.c
   room_next = asking.room_next PlainLess m bent_past i there
 
   module _ (shows : Moment) (same : m ≡ shows) where
+    pub said : (cause : Option StepRefused) → IsRefusal m.machine i cause → refusal shows.parts (run_at shows) i ≡ cause
+    said = asking.said PlainLess m bent_past i there shows same
+
     pub enabled_answer : (answer : Result Turn StepRefused) → IfOk answer (λ turn. IsRefusal m.machine i None)
         → OnOk answer (refusal shows.parts (run_at shows) i ≡ None)
     enabled_answer = asking.enabled_answer PlainLess m bent_past i there shows same
@@ -167,11 +170,6 @@ pub turn_tells : (m : CoreLayout) (h : Machine) (i : ℕ) → IsMachineFor m h �
     → (journal : List Entry) → (core_turned m (core_of h journal) i).journal ≡ and_then journal (entry_of i turn)
 turn_tells m h i is turn can journal = row_tells m h i is (each Rest h.standing i) turn can journal
 
--- where the seat's call has ended, it has begun the next; else nothing has changed
-abbrev pub GoesOn : Parts → ℕ → Machine → List ℕ → Machine → List ℕ → Standing → Type 0
-GoesOn parts i h counts k now Rest = HasBegun parts i h counts k now
-GoesOn parts i h counts k now _ = (k ≡ h) × (now ≡ counts)
-
 module _ (parts : Parts) (i : ℕ) (h : Machine) (counts : List ℕ) where
   pub stays : (doing : Standing) → doing ≢ Rest → GoesOn parts i h counts h counts doing
   stays Rest awake = absurd (awake refl)
@@ -209,25 +207,23 @@ module _ (parts : Parts) (i : ℕ) (h : Machine) (counts : List ℕ) where
     count_kept (Failed misuse) is = ap length is.1
 
 -- the row has run
-module _ (parts : Parts) (h : Machine) (counts : List ℕ) (i : ℕ) (turn : Turn) (is : IsMachineFor (layout parts) h) (k : Machine)
-    (turned : Becomes (λ m s. core_turned m s i) h k)
-    (told : (l : CoreLayout) → IsMachineFor l h → (journal : List Entry)
-    → (core_turned l (core_of h journal) i).journal ≡ and_then journal (entry_of i turn)) where
+module _ (parts : Parts) (h : Machine) (counts : List ℕ) (i : ℕ) (is : IsMachineFor (layout parts) h) (k : Machine) (entry : Option Entry)
+    (ran : HasRunRow i h k entry) where
   pub machine_ran : IsMachineFor (layout parts) k
-  machine_ran = same_layout (layout parts) h k turned.alike is
+  machine_ran = same_layout (layout parts) h k ran.turned.alike is
 
   abbrev after : List Entry → List Entry
-  after journal = and_then journal (entry_of i turn)
+  after journal = and_then journal entry
 
   between : (journal : List Entry) → core_of k (after journal) ≡ core_turned (layout parts) (core_of h journal) i
   between journal =
-      (λ j. core_of k (sym (told (layout parts) is journal) j)) ∙ turned.core (layout parts) is journal
+      (λ j. core_of k (sym (ran.told (layout parts) is journal) j)) ∙ ran.turned.core (layout parts) is journal
 
   -- and the next call has begun, where it ended one
   pub has_stepped : (n : Machine) (now : List ℕ) → GoesOn parts i k counts n now (each Rest k.standing i)
-      → HasStepped parts i h counts n now (entry_of i turn)
+      → HasStepped parts i h counts n now entry
   has_stepped n now goes = record {
-    alike = keeps parts i k counts n now (AreAlike h) (each Rest k.standing i) goes (λ is before. then_all h k n before is.alike) turned.alike;
+    alike = keeps parts i k counts n now (AreAlike h) (each Rest k.standing i) goes (λ is before. then_all h k n before is.alike) ran.turned.alike;
     count = count_kept parts i k counts n now (each Rest k.standing i) goes;
     run = λ journal.
         shown parts i k counts n now (each Rest k.standing i) goes (after journal)
@@ -235,12 +231,12 @@ module _ (parts : Parts) (h : Machine) (counts : List ℕ) (i : ℕ) (turn : Tur
   }
 
 -- the moment has stepped
-module _ (m : Moment) (past : HasPast m) (i : ℕ) (turn : Turn) (free : refusal m.parts (run_at m) i ≡ None) (n : Machine) (now : List ℕ)
-    (is : HasStepped m.parts i m.machine m.begun n now (entry_of i turn)) where
+module _ (m : Moment) (past : HasPast m) (i : ℕ) (entry : Option Entry) (free : refusal m.parts (run_at m) i ≡ None) (n : Machine) (now : List ℕ)
+    (is : HasStepped m.parts i m.machine m.begun n now entry) where
   abbrev new : Moment
   new = record { parts = m.parts; machine = n; begun = now }
 
-  sound_ran : (journal : List Entry) → IsSound (telling m journal) → IsSound (telling new (and_then journal (entry_of i turn)))
+  sound_ran : (journal : List Entry) → IsSound (telling m journal) → IsSound (telling new (and_then journal entry))
   sound_ran journal sound = record {
     scenario = sound.scenario;
     starts = sound.starts;
@@ -253,9 +249,28 @@ module _ (m : Moment) (past : HasPast m) (i : ℕ) (turn : Turn) (free : refusal
   }
 
   pub past_ran : HasPast new
-  past_ran = (and_then past.0 (entry_of i turn), sound_ran past.0 past.1)
+  past_ran = (and_then past.0 entry, sound_ran past.0 past.1)
 
-  pub steps_ran : (shows : Moment) → m ≡ shows → Steps shows i new (entry_of i turn)
+  pub steps_ran : (shows : Moment) → m ≡ shows → Steps shows i new entry
   steps_ran shows same =
-      subst (λ (z : Moment). Steps z i new (entry_of i turn)) same
+      subst (λ (z : Moment). Steps z i new entry) same
       (record { steps = λ journal. record { parts = refl; run = is.run journal }; sound = sound_ran })
+
+-- the machine has run the row of a seat that can, and gone on: so the moment has stepped
+module _ (m : Moment) (past : HasPast m) (i : ℕ) (there : i < length m.parts.calls) (was : Machine) (at : was ≡ m.machine)
+    (can : IsRefusal was i None) (k : Machine) (entry : Option Entry) (ran : HasRunRow i was k entry)
+    (between : Machine) (same : between ≡ k) (n : Machine) (now : List ℕ)
+    (goes : GoesOn m.parts i between m.begun n now (each Rest between.standing i)) where
+  free_at_once : refusal m.parts (run_at m) i ≡ None
+  free_at_once = said m past i there m refl None (subst (λ (z : Machine). IsRefusal z i None) at can)
+
+  stepped_at_once : HasStepped m.parts i m.machine m.begun n now entry
+  stepped_at_once =
+      has_stepped m.parts m.machine m.begun i past.1.machine k entry (subst (λ (z : Machine). HasRunRow i z k entry) at ran) n now
+      (subst (λ (z : Machine). GoesOn m.parts i z m.begun n now (each Rest z.standing i)) same goes)
+
+  pub past_at_once : HasPast (record { parts = m.parts; machine = n; begun = now })
+  past_at_once = past_ran m past i entry free_at_once n now stepped_at_once
+
+  pub steps_at_once : (shows : Moment) → m ≡ shows → Steps shows i (record { parts = m.parts; machine = n; begun = now }) entry
+  steps_at_once = steps_ran m past i entry free_at_once n now stepped_at_once

@@ -1,14 +1,10 @@
 -- A row of the whole machine: it is that of the part that the seat's call is on, and then what comes after it; and what the
 -- journal tells of it.
-use Rattle.std.proofs.Common.{◌≡◌, ℕ, zero, suc, List, [], refl, sym, ◌∙◌, subst, ◌<◌, length, get_or}
+use Rattle.std.proofs.Common.{◌≡◌, ℕ, zero, suc, List, [], Option, refl, sym, ◌∙◌, subst, ◌<◌, length, get_or}
 use Rattle.std.proofs.lemmas.List.{get_or_default}
 use Rattle.step_table.specs.declared.entry.Entry.{Entry}
 use Rattle.step_table.specs.declared.group_word.GroupWord.{GroupWord}
 use Rattle.step_rows.specs.declared.list_outcome.ListReady.{ListReady}
-use Rattle.step_table.specs.declared.list_place.ListEffect.{ListEffect}
-use Rattle.step_table.specs.declared.list_place.ListEffect.TheVariants.{HandsOut, Grants}
-use Rattle.step_table.specs.declared.list_place.ListPlace.{ListPlace}
-use Rattle.step_table.specs.declared.list_place.ListPlace.TheVariants as on_list
 use Rattle.step_table.specs.declared.effect.Effect.{Effect}
 use Rattle.step_table.specs.declared.effect.Effect.TheVariants.{Tells}
 use Rattle.step_table.specs.declared.place.Place.{Place}
@@ -21,18 +17,17 @@ use Rattle.step_table.specs.declared.standing.GroupRow.{GroupRow}
 use Rattle.step_table.specs.declared.standing.Standing.{Standing}
 use Rattle.step_table.specs.declared.standing.Standing.TheVariants.{Rest, AtCounter, AtList, AtGroup, Failed}
 use Rattle.step_core.specs.declared.turn.Turn.TheVariants.{OnCounter, OnList, OnGroup}
-use Rattle.step_table.specs.World.{Seat, put, found, journal_after}
-use Rattle.step_table.specs.Event.{Event}
-use Rattle.step_table.specs.Table.{event_at}
+use Rattle.step_table.specs.World.{put, journal_after}
 use Rattle.step_table.specs.Steps.{finds}
-use Rattle.step_rows.specs.Stored.{Semaphores, CanRun, each, idle, words_of, root_of, seat_of, world_of, finds_in, event_in}
+use Rattle.step_rows.specs.Stored.{Semaphores, CanRun, HasTurned, each, world_of, finds_in, event_in}
 use Rattle.step_rows.specs.Stored as sema
 use Rattle.step_rows.specs.ListStored.{IsListReady}
 use Rattle.step_table.specs.Group.{empty_word, group_row}
-use Rattle.step_table.specs.Core.{CoreLayout, Core, journal_after_list}
-use Rattle.step_table.specs.CoreSteps.{releases, goes_on, after_counter, after_list, after_group, counter_row, list_row, row_of_standing, core_turned}
-use Rattle.step_core.specs.State.{Machine, Becomes, IsMachineFor, IsReadyAt, core_of, no_list, list_entry, entry_of, and_then}
-use Rattle.step_rows.proofs.Storing.{get_here}
+use Rattle.step_table.specs.Core.{CoreLayout, Core}
+use Rattle.step_table.specs.CoreSteps.{releases, goes_on, after_counter, after_group, counter_row, row_of_standing, core_turned}
+use Rattle.step_core.specs.State.{Machine, Becomes, IsMachineFor, HasRunRow, IsReadyAt, core_of, no_list, and_then}
+use Rattle.step_core.proofs.Changing.{turns_at}
+use Rattle.step_core.proofs.Changing as changing
 
 -- the row of a seat that does this
 pub at_standing : (h k : Machine) (i : ℕ) (x : Standing) → each Rest h.standing i ≡ x
@@ -107,59 +102,33 @@ module _ (m : CoreLayout) (s : Core) (i : ℕ) where
   counter_quiet after (on_counter.Releasing r row) = refl
   counter_quiet after (on_counter.ReleasingMany r row) = refl
 
-  list_quiet : (place : ListPlace) → (after_list s i place).journal ≡ s.journal
-  list_quiet on_list.Rest = refl
-  list_quiet on_list.Adding = refl
-  list_quiet (on_list.Waiting t row) = refl
-  list_quiet (on_list.NotifyingOne h row) = refl
-  list_quiet (on_list.NotifyingAll h row) = refl
-
 -- the journal with what an effect tells
 counter_tells : (e : Effect) (journal : List Entry) → journal_after e journal ≡ and_then journal (sema.entry_of e)
 counter_tells (Tells e) journal = refl
 counter_tells _ journal = refl
 
-list_tells : (l i : ℕ) (e : ListEffect) (journal : List Entry) → journal_after_list l i e journal ≡ and_then journal (list_entry l i e)
-list_tells l i (HandsOut t) journal = refl
-list_tells l i (Grants upto) journal = refl
-list_tells l i _ journal = refl
-
--- the effect of a row that can run is that of the seat's event
-counter_effect : (m : Semaphores) (i : ℕ) (ready : Ready) → CanRun m i ready
-    → ready.outcome.effect ≡ ((event_in m i).leads (finds_in m i)).1
-counter_effect m i ready can =
-    let at : each idle m.callers i ≡ ready.caller = (get_here idle m.callers i ready.caller can.there).1 in
-    can.row.does.effect ∙ (λ j. let z = seat_of (sym at j) (each [] m.stored.hands i) in ((event_with z).leads (found_with z)).1)
-  where
-    event_with : Seat → Event
-    event_with seat = event_at i seat (words_of m.stored).lists seat.place
-
-    found_with : Seat → ℕ
-    found_with seat = found (root_of m.stored) (words_of m.stored) (event_with seat).word
-
--- the journal after the row
-module _ (h : Machine) (i : ℕ) (m : CoreLayout) (is : IsMachineFor m h) (journal : List Entry) where
-  at_tells : (x : Standing) → each Rest h.standing i ≡ x
-      → (core_turned m (core_of h journal) i).journal ≡ (row_of_standing m (core_of h journal) i x).journal
-  at_tells x at = λ j. (row_of_standing m (core_of h journal) i (at j)).journal
-
-  pub counter_told : (after : After) (ready : Ready) → IsReadyAt h i (each Rest h.standing i) (OnCounter after ready)
-      → (core_turned m (core_of h journal) i).journal ≡ and_then journal (entry_of i (OnCounter after ready))
-  counter_told after ready can =
-      let at = on_counter_is h i (each Rest h.standing i) after ready can in
+-- a row on a counter tells its effect
+module _ (h : Machine) (i : ℕ) (after : After) (at : each Rest h.standing i ≡ AtCounter after)
+    (effect : Effect) (is : effect ≡ ((event_in h.semaphores i).leads (finds_in h.semaphores i)).1) where
+  effect_told : (m : CoreLayout) → IsMachineFor m h → (journal : List Entry)
+      → (core_turned m (core_of h journal) i).journal ≡ and_then journal (sema.entry_of effect)
+  effect_told m shape journal =
       let t : Core = counter_row m (core_of h journal) i in
-      at_tells (AtCounter after) at.0
+      (λ j. (row_of_standing m (core_of h journal) i (at j)).journal)
       ∙ counter_quiet m t i after (t.semaphores.seats i).place
-      ∙ (λ j. journal_after ((event_in h.semaphores i).leads (finds (sym is.root j) (world_of h.semaphores []) i)).1 journal)
-      ∙ (λ j. journal_after (sym (counter_effect h.semaphores i ready at.1) j) journal)
-      ∙ counter_tells ready.outcome.effect journal
+      ∙ (λ j. journal_after ((event_in h.semaphores i).leads (finds (sym shape.root j) (world_of h.semaphores []) i)).1 journal)
+      ∙ (λ j. journal_after (sym is j) journal)
+      ∙ counter_tells effect journal
 
-  pub list_told : (l : ℕ) (ready : ListReady) → IsReadyAt h i (each Rest h.standing i) (OnList l ready)
-      → (core_turned m (core_of h journal) i).journal ≡ and_then journal (entry_of i (OnList l ready))
-  list_told l ready can =
-      let at = on_list_is h i (each Rest h.standing i) l ready can in
-      let t : Core = list_row (core_of h journal) i l in
-      at_tells (AtList l) at.0
-      ∙ list_quiet m t i ((t.lists l).seats i).place
-      ∙ (λ j. journal_after_list l i (sym at.1.does.effect j) journal)
-      ∙ list_tells l i ready.outcome.effect journal
+-- a row on a counter that was run at once, and then what comes after it
+pub ran_on_counter : (h shows : Machine) → h ≡ shows → (i : ℕ) (after : After) → each Rest shows.standing i ≡ AtCounter after
+    → (effect : Effect) (n : Semaphores) → HasTurned h.semaphores i effect n
+    → (k : Machine) → Becomes (λ m s. after_counter m s i after (s.semaphores.seats i).place) (record h { semaphores = n }) k
+    → (entry : Option Entry) → entry ≡ sema.entry_of effect → HasRunRow i shows k entry
+ran_on_counter h shows same i after at effect n turned k settled entry is =
+    let effect_is : effect ≡ ((event_in shows.semaphores i).leads (finds_in shows.semaphores i)).1
+    = turned.effect_is ∙ (λ j. ((event_in (same j).semaphores i).leads (finds_in (same j).semaphores i)).1) in
+    subst (HasRunRow i shows k) (sym is) (record {
+      turned = at_standing shows k i (AtCounter after) at (changing.and_then (turns_at h shows same i effect n turned) settled);
+      told = effect_told shows i after at effect effect_is;
+    })

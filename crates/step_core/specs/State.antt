@@ -24,7 +24,7 @@ use Rattle.step_rows.specs.ListStored.{StoredList, CanStep, IsListReady}
 use Rattle.step_rows.specs.ListStored as list
 use Rattle.step_table.specs.Group.{empty_word}
 use Rattle.step_table.specs.Core.{CoreLayout, Core, sema_entries, list_entries}
-use Rattle.step_table.specs.CoreSteps.{IsCoreEnd}
+use Rattle.step_table.specs.CoreSteps.{IsCoreEnd, core_turned}
 use Rattle.step_table.specs.CoreLaw.{IsLawfulCore, IsCoreAtRest}
 use Rattle.step_table.specs.Run.{Run, layout, call_of, begun, start, stepped, refusal_of}
 use Rattle.step_table.specs.RunInvariant.{IsSoundRun, IsScenario}
@@ -164,6 +164,12 @@ abbrev pub and_then : List Entry → Option Entry → List Entry
 and_then journal None = journal
 and_then journal (Some e) = journal ++ e ∷ []
 
+-- the seat has run its row, which told this
+pub record HasRunRow (i : ℕ) (h k : Machine) (entry : Option Entry) : Type 0 where
+  pub turned : Becomes (λ m s. core_turned m s i) h k
+  pub told : (m : CoreLayout) → IsMachineFor m h → (journal : List Entry)
+      → (core_turned m (core_of h journal) i).journal ≡ and_then journal entry
+
 -- the run of the machine, with how many calls each seat has begun
 abbrev pub run_with : Machine → List ℕ → List Entry → Run
 run_with h counts journal = record { core = core_of h journal; begun = each 0 counts }
@@ -174,6 +180,11 @@ pub record HasBegun (parts : Parts) (i : ℕ) (h : Machine) (counts : List ℕ) 
   pub count : length now ≡ length counts
   pub run : (journal : List Entry)
       → run_with k now journal ≡ begun (run_with h counts journal) i (call_of parts i (each 0 counts i))
+
+-- where the seat's call has ended, it has begun the next; else nothing has changed
+abbrev pub GoesOn : Parts → ℕ → Machine → List ℕ → Machine → List ℕ → Standing → Type 0
+GoesOn parts i h counts k now Rest = HasBegun parts i h counts k now
+GoesOn parts i h counts k now _ = (k ≡ h) × (now ≡ counts)
 
 -- the seat has run its row, which told this, and has begun its next call where that ended one: with each journal, its run is
 -- the one after a step of the seat

@@ -108,12 +108,21 @@ impl Machine {
         ensures { OnOk result (self.new ≡ other.now) }
     {
         if self.lists.len() != other.lists.len() {
-            *self = other.try_clone(alloc)?;
-            return Ok(());
+            return self.become_copy(alloc, other);
         }
         copy_lists(&mut self.lists, &other.lists)?;
         copy_items(&mut self.groups, &other.groups)?;
         copy_items(&mut self.standing, &other.standing)?;
         self.semaphores.copy_from(alloc, &other.semaphores)
+    }
+
+    /// Becomes as the other is, in memory of its own.
+    // A body of its own: what it has on the stack would else be cleared at each copy.
+    #[inline(never)]
+    fn become_copy(&mut self, alloc: Global, other: &Machine) -> Result<(), NoMemory>
+        ensures { OnOk result (self.new ≡ other.now) }
+    {
+        *self = other.try_clone(alloc)?;
+        Ok(())
     }
 }

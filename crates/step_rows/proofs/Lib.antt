@@ -1,4 +1,6 @@
 pub mod Storing
+pub mod RootWords
+pub mod WordParts
 pub mod Rooting
 pub mod Passing
 pub mod Holding

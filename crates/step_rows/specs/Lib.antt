@@ -4,3 +4,4 @@ pub mod Stored
 pub mod ListStored
 pub mod Key
 pub mod Apart
+pub mod RootWords

@@ -2,7 +2,8 @@
 //!
 //! [`Semaphores`] has the counters, their roots and the seats on them, and runs the rows of Go's `semacquire1` and
 //! `semrelease1`, and those of a release of many units; a [`NotifyList`] is Go's `notifyList`. Each row is one event of one
-//! word: whether it can run is told first (`ready`), and then it runs, which can't fail and takes no memory.
+//! word, and takes no memory. [`Semaphores::step`] runs a row where it can run; who has to know of it before it runs
+//! asks first (`ready`), and then runs it, which can't fail.
 #![tactic(auto)]
 
 mod acquire;

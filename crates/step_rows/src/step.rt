@@ -12,7 +12,7 @@ use step_table::{Effect, Entry, StepRefused, Word};
 use waiters::SeatId;
 
 /// Why a row can't run whose event is of this word.
-fn refused_by(word: &Word) -> StepRefused
+pub fn refused_by(word: &Word) -> StepRefused
     ensures { result ≡ refused_by word.now }
 {
     match *word {
@@ -39,6 +39,7 @@ fn change(shared: &mut Shared, seat: SeatId, entry: &Entry)
 }
 
 /// Makes an effect's change of the lists and of the seat's hand.
+#[inline(always)]
 fn make(shared: &mut Shared, seat: SeatId, effect: &Effect)
     requires there { seat < length shared.old.hands }
     requires room { HasRoom (length shared.old.lists) effect.now }
@@ -53,7 +54,9 @@ fn make(shared: &mut Shared, seat: SeatId, effect: &Effect)
 }
 
 /// The word of the row at which the seat stands, and what the row does; `None` where its condition doesn't hold.
-fn look(shared: &Shared, seat: SeatId, caller: &Caller) -> (Word, Option<Outcome>)
+// A body of its own: within its callers, what it answers would be moved once more.
+#[inline(never)]
+pub fn look(shared: &Shared, seat: SeatId, caller: &Caller) -> (Word, Option<Outcome>)
     requires rows { HasRowsOf shared.now seat caller.now.place (slice_get (hands_of shared.now seat) 0) }
     requires fits { row_finds seat caller.now shared.now (hands_of shared.now seat) + 2 ^ 32 < 2 ^ 64 }
     ensures word { result.0 ≡ (row_event seat caller.now shared.now (hands_of shared.now seat)).word }
@@ -104,12 +107,19 @@ pub fn can_run(shared: &Shared, seat: SeatId, caller: &Caller) -> bool
 }
 
 /// Runs a row that can run, and says where its seat stands then.
-pub fn run_row(shared: &mut Shared, seat: SeatId, ready: &Ready) -> Caller
-    requires ready { IsReady shared.old seat ready.now }
-    requires turn { ready.now.caller.turn + 1 < 2 ^ 64 }
-    ensures { HasRun seat ready.now.caller shared.old (hands_of shared.old seat) ready.now.outcome.effect shared.new result }
+#[inline(always)]
+pub fn run_row(
+    shared: &mut Shared,
+    seat: SeatId,
+    caller: &Caller,
+    word: &Word,
+    outcome: &Outcome,
+) -> Caller
+    requires ready { IsReady shared.old seat (record { caller = caller.now; word = word.now; outcome = outcome.now }) }
+    requires turn { caller.now.turn + 1 < 2 ^ 64 }
+    ensures { HasRun seat caller.now shared.old (hands_of shared.old seat) outcome.now.effect shared.new result }
 {
-    make(shared, seat, &ready.outcome.effect);
-    shared.write(ready.word, ready.outcome.becomes);
-    ready.caller.after(&ready.outcome)
+    make(shared, seat, &outcome.effect);
+    shared.write(*word, outcome.becomes);
+    caller.after(outcome)
 }
