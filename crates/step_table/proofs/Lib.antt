@@ -29,6 +29,7 @@ pub mod RunStepping
 pub mod RunStarting
 pub mod RunSound
 pub mod Wrapping
+pub mod Turns
 pub mod ListRows
 pub mod ListCases
 pub mod ListSums

@@ -1,6 +1,7 @@
 -- The law of one notify list, of its parts.
-use Rattle.std.proofs.Common.{◌∙◌, sym}
 use Rattle.step_table.specs.ListLaw.{TheListLaw}
+use Rattle.step_table.specs.ListSteps.{list_rules}
+use Rattle.step_table.proofs.Turns.{sole}
 use Rattle.step_table.proofs.Wrapping.{less_means, bounds_are_tight}
 use Rattle.step_table.proofs.ListKeeping.{list_starts, list_kept, list_reached}
 use Rattle.step_table.proofs.ListLawfulness.{list_lawful}
@@ -24,7 +25,7 @@ the_list_law =
       early = list_early;
       ends = list_ends;
       closed = list_closed;
-      sole = λ s t u i one other. one.is ∙ sym other.is;
+      sole = sole list_rules;
       less_means = less_means;
       tight = bounds_are_tight;
       blind = rows_are_blind;

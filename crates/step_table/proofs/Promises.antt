@@ -1,5 +1,5 @@
 -- The law of the rows: the invariant holds at every start, every step keeps it, and it gives what is promised of a world.
-use Rattle.std.proofs.Common.{◌≡◌, ℕ, zero, suc, ◌+◌, ◌<◌, ◌≤◌, ◌≢◌, ◌⊎◌, List, [], ◌∷◌, ◌++◌, length, refl, sym, ap, ◌∙◌, inl, inr, subst, arith}
+use Rattle.std.proofs.Common.{◌≡◌, ℕ, zero, suc, ◌+◌, ◌<◌, ◌≤◌, ◌≢◌, ◌⊎◌, List, [], ◌∷◌, ◌++◌, length, refl, ap, inl, inr, subst, arith}
 use native.Mathlib.Decide.{ℕ_discrete}
 use Rattle.waiters.specs.declared.wait.WaitId.{WaitId}
 use Rattle.step_table.specs.declared.entry.Entry.{Entry}
@@ -10,7 +10,8 @@ use Rattle.step_table.specs.declared.place.ManyRow.TheVariants.{M6}
 use Rattle.step_table.specs.declared.place.Place.{Place}
 use Rattle.step_table.specs.declared.place.Place.TheVariants.{Acquiring, Releasing, ReleasingMany}
 use Rattle.step_table.specs.World.{Layout, World, first_world}
-use Rattle.step_table.specs.Steps.{Turn, IsReached, first, next}
+use Rattle.step_table.specs.Steps.{Turn, IsReached}
+use Rattle.step_table.proofs.Turns.{steps_keep, sole}
 use Rattle.step_table.specs.Steps as steps
 use Rattle.step_table.specs.Journal.{HasItsUnit, on, same}
 use Rattle.step_table.specs.Lawful.{total, wait, times, holds, raises, flies, granted, IsParked, IsCommitted}
@@ -180,8 +181,7 @@ module _ (m : Layout) (s : World) (inv : IsInvariant m s) where
   }
 
 pub reached : (m : Layout) (s : World) → IsReached m s → IsInvariant m s
-reached m s first = at_first m
-reached m s (next {s = r} i in_range before step) = kept m r s i in_range (reached m r before) step
+reached m s led = steps_keep (steps.Step m) m.seats (IsInvariant m) (kept m) (first_world m.starts) s led (at_first m)
 
 pub the_law : TheLaw
 the_law = record {
@@ -190,5 +190,5 @@ the_law = record {
   lawful = promised;
   reached = λ m s r. promised m s (reached m s r);
   ends = at_rest;
-  sole = λ m s t u i a b. a.is ∙ sym b.is;
+  sole = λ m. sole (steps.rules m.root);
 }

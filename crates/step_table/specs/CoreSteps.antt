@@ -23,7 +23,10 @@ use Rattle.step_table.specs.declared.standing.Standing.TheVariants.{Rest, AtCoun
 use Rattle.step_table.specs.World.{put, journal_after}
 use Rattle.step_table.specs.Steps.{event_of, finds, can_turn, turned, moved}
 use Rattle.step_table.specs.ListSteps as list
-use Rattle.step_table.specs.Group.{group_row}
+use Rattle.step_table.specs.declared.group_word.GroupWord.{GroupWord}
+use Rattle.step_table.specs.EventOf.{EventOf, stays}
+use Rattle.step_table.specs.Turn.{Rules}
+use Rattle.step_table.specs.Group.{group_event, group_row}
 use Rattle.step_table.specs.Core.{CoreLayout, semaphore, Core, journal_after_list}
 
 -- seat i does this now
@@ -85,6 +88,19 @@ after_group m s i g group.Acquires =
     at_counter s i (Acquiring (record { counter = semaphore m g; lifo = false }) A1) (LooksAgain g)
 after_group m s i g (group.Releases n) = releases m s i g n
 
+-- the row of a group at which a seat stands that does this
+abbrev pub group_event_of : Standing → EventOf ℕ GroupWord GroupNext
+group_event_of (AtGroup g row) = group_event g row
+group_event_of _ = stays 0 group.Ends
+
+-- the groups
+abbrev pub group_rules : CoreLayout → Rules Core ℕ GroupWord GroupNext
+group_rules m = record {
+  event_of = λ s i. group_event_of (s.standing i);
+  found = λ s. s.groups;
+  after = λ s i g w next. after_group m (record s { groups = put s.groups g w }) i g next;
+}
+
 -- the row of seat i on the semaphores
 abbrev pub counter_row : CoreLayout → Core → ℕ → Core
 counter_row m s i =
@@ -108,7 +124,7 @@ row_of_standing m s i (AtCounter after) =
     let t : Core = counter_row m s i in after_counter m t i after (t.semaphores.seats i).place
 row_of_standing m s i (AtList l) = let t : Core = list_row s i l in after_list t i ((t.lists l).seats i).place
 row_of_standing m s i (AtGroup g row) =
-    let next : Rattle.step_table.specs.declared.group_word.GroupWord.GroupWord × GroupNext = group_row row (s.groups g) in
+    let next : GroupWord × GroupNext = group_row row (s.groups g) in
     after_group m (record s { groups = put s.groups g next.0 }) i g next.1
 row_of_standing m s i (Failed misuse) = s
 

@@ -8,6 +8,7 @@ use Rattle.step_table.specs.declared.standing.GroupRow.{GroupRow}
 use Rattle.step_table.specs.declared.standing.GroupRow.TheVariants.{G1, G2, G3, V1, V2, V3}
 use Rattle.step_table.specs.declared.standing.GroupNext.{GroupNext}
 use Rattle.step_table.specs.declared.standing.GroupNext.TheVariants.{Ends, Goes, Fails, Acquires, Releases}
+use Rattle.step_table.specs.EventOf.{EventOf, load, store, change, exchange_if}
 
 -- nobody is counted, and nobody waits
 abbrev pub empty_word : GroupWord
@@ -35,11 +36,15 @@ after_add d w =
     else if int_lt (pos 0) w.counter || (w.waits == 0) then Ends
     else Goes (G2 w)
 
--- what a row leaves of the word that it found, and what follows
+-- what a row does to the word of its group
+abbrev pub group_event : {Word : Type 0} → Word → GroupRow → EventOf Word GroupWord GroupNext
+group_event g (G1 d) = change g (λ w. plus w d) (after_add d)
+group_event g (G2 seen) = load g (λ w. if same_word seen w then Goes (G3 seen) else Fails AddWithWait)
+group_event g (G3 seen) = store g empty_word (Releases seen.waits)
+group_event g V1 = load g (λ w. if int_eq w.counter (pos 0) then Ends else Goes (V2 w))
+group_event g (V2 seen) = exchange_if g (same_word seen) one_more Acquires (Goes V1)
+group_event g V3 = load g (λ w. if same_word w empty_word then Ends else Fails Reused)
+
+-- what it leaves of the word that it found, and what follows
 abbrev pub group_row : GroupRow → GroupWord → GroupWord × GroupNext
-group_row (G1 d) w = (plus w d, after_add d (plus w d))
-group_row (G2 seen) w = (w, if same_word seen w then Goes (G3 seen) else Fails AddWithWait)
-group_row (G3 seen) w = (empty_word, Releases seen.waits)
-group_row V1 w = (w, if int_eq w.counter (pos 0) then Ends else Goes (V2 w))
-group_row (V2 seen) w = if same_word seen w then (one_more w, Acquires) else (w, Goes V1)
-group_row V3 w = (w, if same_word w empty_word then Ends else Fails Reused)
+group_row row w = let e : EventOf (Unit {0}) GroupWord GroupNext = group_event tt row in (e.becomes w, e.leads w)

@@ -1,4 +1,6 @@
 pub mod World
+pub mod EventOf
+pub mod Turn
 pub mod Event
 pub mod Acquire
 pub mod Release

@@ -1,5 +1,5 @@
 -- Steps of the world of a notify list: rows of its table, and what a caller may begin or end between them.
-use Rattle.std.specs.Prelude.{◌≡◌, ℕ, ◌<◌, Bool, IsTrue, Option, Some, None}
+use Rattle.std.specs.Prelude.{◌≡◌, ℕ, Bool, Option, Some, None}
 use Rattle.step_table.specs.declared.list_place.AllRow.TheVariants.{L1}
 use Rattle.step_table.specs.declared.list_place.ListEffect.{ListEffect}
 use Rattle.step_table.specs.declared.list_place.ListPlace.{ListPlace}
@@ -7,18 +7,23 @@ use Rattle.step_table.specs.declared.list_place.ListPlace.TheVariants.{Rest, Add
 use Rattle.step_table.specs.declared.list_place.OneRow.TheVariants.{O1, O2, O3}
 use Rattle.step_table.specs.declared.list_place.Ticket.{Ticket}
 use Rattle.step_table.specs.declared.list_place.WaitRow.TheVariants.{W1}
+use Rattle.step_table.specs.declared.list_place.ListWord.{ListWord}
 use Rattle.step_table.specs.World.{put}
 use Rattle.step_table.specs.ListWorld.{ListWords, ListSeat, ListWorld, found, written, numbers_after, queue_after, hand_after, ticket_after, late_after, journal_after, first_list}
 use Rattle.step_table.specs.ListEvent.{ListNext, ListEvent}
 use Rattle.step_table.specs.ListTable.{list_table}
+use Rattle.step_table.specs.Turn.{Rules, TurnOf, LeadsBy, IsEndOf}
+pub use Rattle.step_table.specs.Turn.{none, more}
+use Rattle.step_table.specs.Turn as turns
 
--- the words, numbers and waits after an event that found v
+-- the words, numbers and waits after x was written in this word
+abbrev pub words_with : ListWords → ListWord → ℕ → ListNext → ListWords
+words_with g w x next =
+    record (written g w x) { numbers = numbers_after next.1 g.numbers; queue = queue_after next.1 g.queue }
+
+-- those after an event that found v
 abbrev pub words_after : ListWords → ListEvent → ℕ → ListWords
-words_after g e v =
-    record (written g e.word (e.becomes v)) {
-      numbers = numbers_after (e.leads v).1 g.numbers;
-      queue = queue_after (e.leads v).1 g.queue;
-    }
+words_after g e v = words_with g e.word (e.becomes v) (e.leads v)
 
 -- a seat after this of its events
 abbrev pub seat_after : ListWords → ListNext → ListSeat → ListSeat
@@ -30,38 +35,37 @@ seat_after g next seat =
       late = late_after seat.place g.numbers.granted seat.late;
     }
 
--- the world after this event of seat i, which found v
-abbrev pub after_event : ListWorld → ℕ → ListEvent → ℕ → ListWorld
-after_event s i e v =
-    record {
-      words = words_after s.words e v;
-      seats = put s.seats i (seat_after s.words (e.leads v) (s.seats i));
-      journal = journal_after i (e.leads v).1 s.journal;
-    }
-
--- the event of seat i, and what it finds
+-- the event of seat i
 abbrev pub event_of : ListWorld → ℕ → ListEvent
 event_of s i = list_table i (s.seats i) s.words
 
+-- the world after seat i wrote x in this word
+abbrev pub after : ListWorld → ℕ → ListWord → ℕ → ListNext → ListWorld
+after s i w x next =
+    record {
+      words = words_with s.words w x next;
+      seats = put s.seats i (seat_after s.words next (s.seats i));
+      journal = journal_after i next.1 s.journal;
+    }
+
+abbrev pub list_rules : Rules ListWorld ListWord ℕ ListNext
+list_rules = record { event_of = event_of; found = λ s. found s.words; after = after }
+
 abbrev pub finds : ListWorld → ℕ → ℕ
-finds s i = found s.words (event_of s i).word
+finds = turns.finds list_rules
 
 -- what its row would do beside its word
 abbrev pub effect_of : ListWorld → ℕ → ListEffect
 effect_of s i = ((event_of s i).leads (finds s i)).1
 
--- whether seat i can run its row
 abbrev pub can_turn : ListWorld → ℕ → Bool
-can_turn s i = (event_of s i).can (finds s i)
+can_turn = turns.can_turn list_rules
 
--- the world after the row of seat i
 abbrev pub turned : ListWorld → ℕ → ListWorld
-turned s i = after_event s i (event_of s i) (finds s i)
+turned = turns.turned list_rules
 
--- seat i runs its row
-pub record ListTurn (s : ListWorld) (i : ℕ) (t : ListWorld) : Type 0 where
-  pub can : IsTrue (can_turn s i)
-  pub is : t ≡ turned s i
+abbrev pub ListTurn : ListWorld → ℕ → ListWorld → Type 0
+ListTurn = TurnOf list_rules
 
 -- the seat i at another place
 abbrev pub moved : ListWorld → ℕ → ListPlace → ListWorld
@@ -90,15 +94,13 @@ pub data ListStep (s : ListWorld) (i : ℕ) : ListWorld → Type 0 where
   add : (s.seats i).place ≡ Rest → (s.seats i).ticket ≡ None → ListStep s i (moved s i Adding)
   wait : {t : Ticket} → (s.seats i).place ≡ Rest → (s.seats i).ticket ≡ Some t → ListStep s i (waiting s i)
 
--- the worlds to which steps of the seats below `seats` lead from s
-pub data Leads (seats : ℕ) (s : ListWorld) : ListWorld → Type 0 where
-  none : Leads seats s s
-  more : {t u : ListWorld} (i : ℕ) → i < seats → Leads seats s t → ListStep t i u → Leads seats s u
+-- the worlds to which steps of the seats lead, and those to which they lead from the first
+abbrev pub Leads : ℕ → ListWorld → ListWorld → Type 0
+Leads = LeadsBy ListStep
 
--- the worlds to which they lead from the first
 abbrev pub IsListReached : ℕ → ℕ → ListWorld → Type 0
 IsListReached first seats s = Leads seats (first_list first) s
 
 -- no seat can run a row
 abbrev pub IsListEnd : ℕ → ListWorld → Type 0
-IsListEnd seats s = (i : ℕ) → i < seats → IsTrue (can_turn s i) → ⊥
+IsListEnd = IsEndOf list_rules

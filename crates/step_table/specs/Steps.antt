@@ -1,5 +1,5 @@
 -- Steps of the world: rows of the table, and what a caller may begin or give up between them.
-use Rattle.std.specs.Prelude.{◌≡◌, ℕ, ◌<◌, ◌≤◌, Bool, IsTrue}
+use Rattle.std.specs.Prelude.{ℕ, ◌<◌, ◌≤◌, Bool}
 use Rattle.step_table.specs.declared.place.Acquire.{Acquire}
 use Rattle.step_table.specs.declared.place.AcquireRow.TheVariants.{A1, A3}
 use Rattle.step_table.specs.declared.place.Release.{Release}
@@ -8,43 +8,48 @@ use Rattle.step_table.specs.declared.place.ReleaseMany.{ReleaseMany}
 use Rattle.step_table.specs.declared.place.ManyRow.TheVariants.{M1}
 use Rattle.step_table.specs.declared.place.Place.{Place}
 use Rattle.step_table.specs.declared.place.Place.TheVariants.{Rest, Acquiring, Releasing, ReleasingMany}
+use Rattle.step_table.specs.declared.word.Word.{Word}
 use Rattle.step_table.specs.World.{Layout, Words, World, put, found, written, lists_after, journal_after, seat_after, first_world}
-use Rattle.step_table.specs.Event.{Event}
+use Rattle.step_table.specs.Event.{Event, Next}
+use Rattle.step_table.specs.Turn.{Rules, TurnOf, LeadsBy, IsEndOf}
+use Rattle.step_table.specs.Turn as turns
 use Rattle.step_table.specs.Table.{table}
 
--- the words and lists after an event that found v
+-- the words and lists after x was written in this word
+abbrev pub words_with : (ℕ → ℕ) → Words → Word → ℕ → Next → Words
+words_with root g w x next = let h : Words = written root g w x in record h { lists = lists_after next.1 h.lists }
+
+-- those after an event that found v
 abbrev pub words_after : (ℕ → ℕ) → Words → Event → ℕ → Words
-words_after root g e v =
-    let h : Words = written root g e.word (e.becomes v) in record h { lists = lists_after (e.leads v).1 h.lists }
+words_after root g e v = words_with root g e.word (e.becomes v) (e.leads v)
 
--- the world after this event of seat i, which found v
-abbrev pub after_event : (ℕ → ℕ) → World → ℕ → Event → ℕ → World
-after_event root s i e v =
-    record {
-      words = words_after root s.words e v;
-      seats = put s.seats i (seat_after (e.leads v).1 (e.leads v).0 (s.seats i));
-      journal = journal_after (e.leads v).1 s.journal;
-    }
-
--- the event of seat i, and what it finds
+-- the event of seat i
 abbrev pub event_of : World → ℕ → Event
 event_of s i = table i (s.seats i) s.words.lists
 
+-- the world after seat i wrote x in this word
+abbrev pub after : (ℕ → ℕ) → World → ℕ → Word → ℕ → Next → World
+after root s i w x next =
+    record {
+      words = words_with root s.words w x next;
+      seats = put s.seats i (seat_after next.1 next.0 (s.seats i));
+      journal = journal_after next.1 s.journal;
+    }
+
+abbrev pub rules : (ℕ → ℕ) → Rules World Word ℕ Next
+rules root = record { event_of = event_of; found = λ s. found root s.words; after = after root }
+
 abbrev pub finds : (ℕ → ℕ) → World → ℕ → ℕ
-finds root s i = found root s.words (event_of s i).word
+finds root = turns.finds (rules root)
 
--- whether seat i can run its row
 abbrev pub can_turn : (ℕ → ℕ) → World → ℕ → Bool
-can_turn root s i = (event_of s i).can (finds root s i)
+can_turn root = turns.can_turn (rules root)
 
--- the world after the row of seat i
 abbrev pub turned : (ℕ → ℕ) → World → ℕ → World
-turned root s i = after_event root s i (event_of s i) (finds root s i)
+turned root = turns.turned (rules root)
 
--- seat i runs its row
-pub record Turn (root : ℕ → ℕ) (s : World) (i : ℕ) (t : World) : Type 0 where
-  pub can : IsTrue (can_turn root s i)
-  pub is : t ≡ turned root s i
+abbrev pub Turn : (ℕ → ℕ) → World → ℕ → World → Type 0
+Turn root = TurnOf (rules root)
 
 -- the seat i at another place
 abbrev pub moved : World → ℕ → Place → World
@@ -68,10 +73,9 @@ pub data Step (m : Layout) (s : World) (i : ℕ) : World → Type 0 where
   choose : {place : Place} → Choice m.counters (s.seats i).place place → Step m s i (moved s i place)
 
 -- the worlds to which steps of the seats lead
-pub data IsReached (m : Layout) : World → Type 0 where
-  first : IsReached m (first_world m.starts)
-  next : {s t : World} (i : ℕ) → i < m.seats → IsReached m s → Step m s i t → IsReached m t
+abbrev pub IsReached : Layout → World → Type 0
+IsReached m = LeadsBy (Step m) m.seats (first_world m.starts)
 
 -- no seat can run a row
 abbrev pub IsEnd : Layout → World → Type 0
-IsEnd m s = (i : ℕ) → i < m.seats → IsTrue (can_turn m.root s i) → ⊥
+IsEnd m = IsEndOf (rules m.root) m.seats

@@ -3,15 +3,17 @@ use Rattle.std.specs.Prelude.{ℕ, List}
 use Rattle.waiters.specs.declared.wait.WaitId.{WaitId}
 use Rattle.step_table.specs.declared.place.Place.{Place}
 use Rattle.step_table.specs.declared.place.Place.TheVariants.{Rest, Acquiring, Releasing, ReleasingMany}
+use Rattle.step_table.specs.declared.word.Word.TheVariants.{Grant}
 use Rattle.step_table.specs.World.{Seat}
-use Rattle.step_table.specs.Event.{Event, stays}
+use Rattle.step_table.specs.EventOf.{stays}
+use Rattle.step_table.specs.Event.{Event, to}
 use Rattle.step_table.specs.Acquire.{acquire_event}
 use Rattle.step_table.specs.Release.{release_event}
 use Rattle.step_table.specs.ReleaseMany.{release_many_event}
 
 -- the event at this place, for the seat s
 abbrev pub event_at : ℕ → Seat → (ℕ → List WaitId) → Place → Event
-event_at s seat lists Rest = stays s
+event_at s seat lists Rest = stays (Grant s) (to Rest)
 event_at s seat lists (Acquiring a row) = acquire_event s seat.turn a row
 event_at s seat lists (Releasing r row) = release_event s seat.hand (lists r.counter) r row
 event_at s seat lists (ReleasingMany r row) = release_many_event s seat.hand (lists r.counter) r row
