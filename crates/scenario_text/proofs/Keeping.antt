@@ -11,8 +11,8 @@ use Rattle.step_table.specs.declared.parts.Parts.{Parts}
 use Rattle.scenario_text.specs.declared.reader.call.SpelledCall.{SpelledCall}
 use Rattle.scenario_text.specs.declared.request.Property.{Property}
 use Rattle.scenario_text.specs.declared.request.Property.TheVariants as property
-use Rattle.scenario_text.specs.declared.reader.kind.Kind.{Kind}
-use Rattle.scenario_text.specs.declared.reader.kind.Kind.TheVariants.{Counter as CounterKind, NotifyList as ListKind, Group as GroupKind, Seat as SeatKind, Property as PropertyKind}
+use Rattle.scenario_text.specs.declared.reader.kind.LineKind.{LineKind}
+use Rattle.scenario_text.specs.declared.reader.kind.LineKind.TheVariants.{Counter as CounterKind, NotifyList as ListKind, Group as GroupKind, Seat as SeatKind, Property as PropertyKind}
 use Rattle.scenario_text.specs.Request.{IsAbout}
 use Rattle.scenario_text.specs.Line.{Line, Roots, Counter, NotifyList, Group, Seat, Settled, Value, NoMisuse}
 use Rattle.scenario_text.specs.Pieces.{Piece, pieces}
@@ -213,7 +213,7 @@ next lines Settled k h = stays lines (Some property.Settled) k (behind_seat line
 next lines (Value c n) k h = stays lines (Some (property.Value c n)) k (behind_seat lines (Value c n) h.place) (omega (arith, k.declares, there c (count_of CounterKind lines) h.declared))
 next lines NoMisuse k h = stays lines (Some property.NoMisuse) k (behind_seat lines NoMisuse h.place) tt
 
-counted : (kinds : Kind) (lines : List Line) (l : Line) → count_of kinds (lines ++ (l ∷ [])) ≡ count_of kinds lines + cond (rank (kind l) == rank kinds) 1 0
+counted : (kinds : LineKind) (lines : List Line) (l : Line) → count_of kinds (lines ++ (l ∷ [])) ≡ count_of kinds lines + cond (rank (kind l) == rank kinds) 1 0
 counted kinds lines l = fold_push (λ (n : ℕ) (x : Line). n + cond (rank (kind x) == rank kinds) 1 0) 0 lines l
 
 pub kept_more : (lines : List Line) (l : Line) → Kept lines → Passes lines l → Kept (lines ++ (l ∷ []))

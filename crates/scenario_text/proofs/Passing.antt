@@ -12,7 +12,7 @@ use Rattle.scenario_text.specs.declared.reader.call.Change.{Change}
 use Rattle.scenario_text.specs.declared.reader.call.Change.TheVariants.{Up, Down}
 use Rattle.scenario_text.specs.declared.reader.call.SpelledCall.{SpelledCall}
 use Rattle.scenario_text.specs.declared.reader.call.SpelledCall.TheVariants.{Acquire, AcquireLifo, Release, ReleaseHandoff, ReleaseMany, Add, Wait, One, All as NotifyAll, GroupAdd, GroupWait}
-use Rattle.scenario_text.specs.declared.reader.kind.Kind.TheVariants.{Counter as CounterKind, NotifyList as ListKind, Group as GroupKind}
+use Rattle.scenario_text.specs.declared.reader.kind.LineKind.TheVariants.{Counter as CounterKind, NotifyList as ListKind, Group as GroupKind}
 use Rattle.scenario_text.specs.Line.{Line, HasForm}
 use Rattle.scenario_text.specs.Pieces.{Piece}
 use Rattle.scenario_text.specs.Causes.{count_of, is_misplaced, is_out_of_range, is_too_many, is_undeclared, has_wrong_ticket, is_wide, names_missing, held_after, has_ticket, is_wrong_after, misuses_ticket, IsRight}

@@ -6,8 +6,8 @@ use Rattle.scenario_text.specs.declared.reader.call.SpelledCall.{SpelledCall}
 use Rattle.scenario_text.specs.declared.reader.call.SpelledCall.TheVariants.{Acquire, AcquireLifo, Release, ReleaseHandoff, ReleaseMany, Add, Wait, One, All, GroupAdd, GroupWait}
 use Rattle.scenario_text.specs.declared.read_fault.Cause.{Cause}
 use Rattle.scenario_text.specs.declared.read_fault.Cause.TheVariants.{Cut, Byte, Form, Place, Range, TooMany, Undeclared, Ticket, End, NoMemory}
-use Rattle.scenario_text.specs.declared.reader.kind.Kind.{Kind}
-use Rattle.scenario_text.specs.declared.reader.kind.Kind.TheVariants.{Roots as RootsKind, Counter as CounterKind, NotifyList as ListKind, Group as GroupKind, Seat as SeatKind, Property as PropertyKind}
+use Rattle.scenario_text.specs.declared.reader.kind.LineKind.{LineKind}
+use Rattle.scenario_text.specs.declared.reader.kind.LineKind.TheVariants.{Roots as RootsKind, Counter as CounterKind, NotifyList as ListKind, Group as GroupKind, Seat as SeatKind, Property as PropertyKind}
 use Rattle.scenario_text.specs.Line.{Line, Roots, Counter, NotifyList, Group, Seat, Settled, Value, NoMisuse, Spells}
 use Rattle.scenario_text.specs.Pieces.{Piece}
 
@@ -18,7 +18,7 @@ is_printable byte = not (nat_lt byte 32) && not (nat_lt 126 byte)
 
 -- ---- 4: where a line may stand
 
-abbrev pub kind : Line → Kind
+abbrev pub kind : Line → LineKind
 kind (Roots n) = RootsKind
 kind (Counter start) = CounterKind
 kind (NotifyList first) = ListKind
@@ -29,7 +29,7 @@ kind (Value c n) = PropertyKind
 kind NoMisuse = PropertyKind
 
 -- the order in which the kinds come
-abbrev pub rank : Kind → ℕ
+abbrev pub rank : LineKind → ℕ
 rank RootsKind = 0
 rank CounterKind = 1
 rank ListKind = 2
@@ -38,10 +38,10 @@ rank SeatKind = 4
 rank PropertyKind = 5
 
 -- how many of the lines are of this kind, and of later ones
-abbrev pub count_of : Kind → List Line → ℕ
+abbrev pub count_of : LineKind → List Line → ℕ
 count_of k lines = count_by (λ line. rank (kind line) == rank k) lines
 
-abbrev pub count_later : Kind → List Line → ℕ
+abbrev pub count_later : LineKind → List Line → ℕ
 count_later k lines = count_by (λ line. nat_lt (rank k) (rank (kind line))) lines
 
 -- a property before any seat, or after a property
@@ -89,7 +89,7 @@ is_too_many lines line = false
 
 -- ---- 7: the number of a counter, list or group that isn't declared
 
-abbrev pub is_missing : List Line → Kind → ℕ → Bool
+abbrev pub is_missing : List Line → LineKind → ℕ → Bool
 is_missing lines k n = not (nat_lt n (count_of k lines))
 
 abbrev pub names_missing : List Line → SpelledCall → Bool

@@ -12,7 +12,7 @@ use Rattle.sema_root.specs.declared.branches.Link.TheVariants.{Left, Right}
 use Rattle.sema_root.specs.Tree.{Sprig, Tree, leaf, fork, entries, size, sought, top_value, IsAtMost}
 use Rattle.sema_root.specs.Reshaping.{split, grafted}
 use Rattle.sema_root.specs.Linked.{sprig, tree_at, Stands, Holds, Lacks, Keeps, Splits}
-use Rattle.sema_root.specs.Hanging.{toward, HangsNew, Regrows, ComesTo, Enters, IsFound, EndsAt, SeeksTo}
+use Rattle.sema_root.specs.Hanging.{toward, HangsNew, Regrows, ComesTo, Enters, IsFoundInBranches, EndsAt, SeeksTo}
 use Rattle.sema_root.specs.Planted.{Opens as Opened}
 use Rattle.sema_root.proofs.Rising.{All-append}
 use Rattle.sema_root.proofs.Seeking.{entry, sought-here}
@@ -134,7 +134,7 @@ module _ (old : Branches) (counter ticket : ℕ) (link : Link) (at : Option ℕ)
       → Splits old.nodes mid.nodes (tree_at old.nodes at) counter below above → mid.top ≡ old.top → slab_len mid.nodes ≡ slab_len old.nodes
       → answer.is_new ≡ true → HangsNew mid new link below above (sprout counter ticket answer) → Opened old_lists new_lists answer.list
       → MatchOption (top_value (sought counter (tree_at old.nodes old.top)))
-      (Enters old new (tree_at old.nodes old.top) counter ticket old_lists new_lists answer) (IsFound old new old_lists new_lists answer)
+      (Enters old new (tree_at old.nodes old.top) counter ticket old_lists new_lists answer) (IsFoundInBranches old new old_lists new_lists answer)
   Enters-there mid new below above fits missing splits top len is_new hangs opened =
       let tree = tree_at old.nodes at in
       let new_node = sprout counter ticket answer in
@@ -154,7 +154,7 @@ module _ (old : Branches) (counter ticket : ℕ) (link : Link) (at : Option ℕ)
   pub Enters-end : (new : Branches) → at ≡ None → size (tree_at old.nodes old.top) < old.nodes.capacity
       → answer.is_new ≡ true → HangsNew old new link None None (sprout counter ticket answer) → Opened old_lists new_lists answer.list
       → MatchOption (top_value (sought counter (tree_at old.nodes old.top)))
-      (Enters old new (tree_at old.nodes old.top) counter ticket old_lists new_lists answer) (IsFound old new old_lists new_lists answer)
+      (Enters old new (tree_at old.nodes old.top) counter ticket old_lists new_lists answer) (IsFoundInBranches old new old_lists new_lists answer)
   Enters-end new none fits =
       let holds = walked.seeks.comes.searchable.holds in
       let is : tree_at old.nodes at ≡ leaf = Holds-nothing old.nodes at (tree_at old.nodes at) none holds in

@@ -12,7 +12,7 @@ use Rattle.sema_root.specs.Tree.{Tree, leaf, entries, size, sought, top_value}
 use Rattle.sema_root.specs.Reshaping.{grafted, pruned}
 use Rattle.sema_root.specs.Planted as treap
 use Rattle.sema_root.specs.Linked.{tree_at}
-use Rattle.sema_root.specs.Hanging.{Enters, IsFound, Prunes, Leaves, IsPlanted}
+use Rattle.sema_root.specs.Hanging.{Enters, IsFoundInBranches, Prunes, Leaves, IsPlanted}
 use Rattle.sema_root.proofs.Seeking.{sought-value}
 use Rattle.sema_root.proofs.Grafting.{grafted-size, grafted-treap}
 use Rattle.sema_root.proofs.Pruning.{pruned-size, pruned-treap}
@@ -69,7 +69,7 @@ module _ (old : Branches) (reserved : ℕ) (planted : IsPlanted old reserved) (c
     -- it is a treap still after a counter's list was asked for
     pub Listed-top : (ticket : ℕ) (answer : Listed) → 0 < reserved - slab_len old.nodes
         → MatchOption (top_value (sought counter (tree_at old.nodes old.top)))
-        (Enters old new (tree_at old.nodes old.top) counter ticket old_lists new_lists answer) (IsFound old new old_lists new_lists answer)
+        (Enters old new (tree_at old.nodes old.top) counter ticket old_lists new_lists answer) (IsFoundInBranches old new old_lists new_lists answer)
         → IsReplanted new reserved (MatchOption (top_value (sought counter (tree_at old.nodes old.top)))
         (treap.Enters (seen old reserved) (seen new reserved) counter ticket old_lists new_lists answer)
         (treap.IsFound (seen old reserved) (seen new reserved) old_lists new_lists answer))
@@ -77,7 +77,7 @@ module _ (old : Branches) (reserved : ℕ) (planted : IsPlanted old reserved) (c
     Listed-top ticket answer room settled = by (top_value (sought counter tree)) refl settled
       where
         by : (o : Option ℕ) → top_value (sought counter tree) ≡ o
-            → MatchOption o (Enters old new tree counter ticket old_lists new_lists answer) (IsFound old new old_lists new_lists answer)
+            → MatchOption o (Enters old new tree counter ticket old_lists new_lists answer) (IsFoundInBranches old new old_lists new_lists answer)
             → IsReplanted new reserved (MatchOption o (treap.Enters (seen old reserved) (seen new reserved) counter ticket old_lists new_lists answer)
             (treap.IsFound (seen old reserved) (seen new reserved) old_lists new_lists answer))
         by None none enters =

@@ -7,20 +7,20 @@ use Rattle.std.specs.Ordering.{nat_cmp, ordering_index}
 use Rattle.std.proofs.lemmas.Bool.Decides.{nat_tests}
 use Rattle.std.proofs.lemmas.Cmp.{ranked}
 use Rattle.std.proofs.lemmas.List.{get_or-take, get_or-drop, length-take-le, map-append, take-append-drop}
-use Rattle.sema_root.specs.declared.sorted_root.Entry.{Entry}
+use Rattle.sema_root.specs.declared.sorted_root.CounterQueue.{CounterQueue}
 use Rattle.sema_root.specs.Entries.{entry_of, AllBelow, AllAbove, AreRising, Adds, Removes}
 use Rattle.sema_root.specs.Search.{pairs, IsAt, IsGapFor}
 use Rattle.sema_root.proofs.Entering.{Adds-was, Removes-was}
 
 -- a counter below all is below each
-above_at : (c : ℕ) (entries : List Entry) → AllAbove c (pairs entries) → (i : ℕ) (d : Entry) → i < length entries
+above_at : (c : ℕ) (entries : List CounterQueue) → AllAbove c (pairs entries) → (i : ℕ) (d : CounterQueue) → i < length entries
     → c < (get_or entries i d).counter
 above_at c [] above i d in_range = absurd (omega arith)
 above_at c (x ∷ xs) above zero d in_range = above.0
 above_at c (x ∷ xs) above (suc i) d in_range = above_at c xs above.1 i d (omega arith)
 
 -- the counters rise from place to place
-rising_at : (entries : List Entry) → AreRising (pairs entries) → (i j : ℕ) (d : Entry) → i < j → j < length entries
+rising_at : (entries : List CounterQueue) → AreRising (pairs entries) → (i j : ℕ) (d : CounterQueue) → i < j → j < length entries
     → (get_or entries i d).counter < (get_or entries j d).counter
 rising_at [] rising i j d less in_range = absurd (omega arith)
 rising_at (x ∷ xs) rising i zero d less in_range = absurd (omega arith)
@@ -28,17 +28,17 @@ rising_at (x ∷ xs) rising zero (suc j) d less in_range = above_at x.counter xs
 rising_at (x ∷ xs) rising (suc i) (suc j) d less in_range = rising_at xs rising.1 i j d (omega arith) (omega arith)
 
 -- the other way round
-below_from : (c : ℕ) (entries : List Entry) → ((i : ℕ) (d : Entry) → i < length entries → (get_or entries i d).counter < c)
+below_from : (c : ℕ) (entries : List CounterQueue) → ((i : ℕ) (d : CounterQueue) → i < length entries → (get_or entries i d).counter < c)
     → AllBelow c (pairs entries)
 below_from c [] each = tt
 below_from c (x ∷ xs) each = (each 0 x (omega arith), below_from c xs (λ i d in_range. each (suc i) d (omega arith)))
 
-above_from : (c : ℕ) (entries : List Entry) → ((i : ℕ) (d : Entry) → i < length entries → c < (get_or entries i d).counter)
+above_from : (c : ℕ) (entries : List CounterQueue) → ((i : ℕ) (d : CounterQueue) → i < length entries → c < (get_or entries i d).counter)
     → AllAbove c (pairs entries)
 above_from c [] each = tt
 above_from c (x ∷ xs) each = (each 0 x (omega arith), above_from c xs (λ i d in_range. each (suc i) d (omega arith)))
 
-module _ (entries : List Entry) (rising : AreRising (pairs entries)) (c : ℕ) where
+module _ (entries : List CounterQueue) (rising : AreRising (pairs entries)) (c : ℕ) where
   -- the comparisons with c rise along the vector, as a binary search asks
   comparisons_rise : IsNonDecreasingBy (λ entry. ordering_index (nat_cmp entry.counter c)) entries
   comparisons_rise i j d le in_range =
@@ -69,7 +69,7 @@ module _ (entries : List Entry) (rising : AreRising (pairs entries)) (c : ℕ) w
   }
 
 -- taking the counter's entry out of the vector removes it
-pub removes_at : (entries : List Entry) (c at : ℕ) → IsAt entries c at → (entry : Entry) → entry ≡ get_or entries at entry
+pub removes_at : (entries : List CounterQueue) (c at : ℕ) → IsAt entries c at → (entry : CounterQueue) → entry ≡ get_or entries at entry
     → Removes (pairs entries) (pairs (remove entries at)) c
 removes_at entries c at is_at entry is = record {
   before = pairs (take at entries);
@@ -84,13 +84,13 @@ removes_at entries c at is_at entry is = record {
 }
 
 -- so the pairs have its list for the counter
-pub found_list : (entries : List Entry) (c at : ℕ) → AreRising (pairs entries) → IsAt entries c at → (entry : Entry) → entry ≡ get_or entries at entry
+pub found_list : (entries : List CounterQueue) (c at : ℕ) → AreRising (pairs entries) → IsAt entries c at → (entry : CounterQueue) → entry ≡ get_or entries at entry
     → entry_of c (pairs entries) ≡ Some entry.list
 unfolding removes_at
 found_list entries c at rising is_at entry is = Removes-was (removes_at entries c at is_at entry is) rising
 
 -- an entry that is put into the gap for its counter is added
-pub adds_at : (entries : List Entry) (at : ℕ) (entry : Entry) → IsGapFor entries entry.counter at
+pub adds_at : (entries : List CounterQueue) (at : ℕ) (entry : CounterQueue) → IsGapFor entries entry.counter at
     → Adds (pairs entries) (pairs (insert entries at entry)) entry.counter entry.list
 adds_at entries at entry gap = record {
   before = pairs (take at entries);
@@ -102,5 +102,5 @@ adds_at entries at entry gap = record {
 }
 
 -- the pairs have nothing for a counter that has a gap
-pub absent_entry : (entries : List Entry) (c at : ℕ) → IsGapFor entries c at → entry_of c (pairs entries) ≡ None
+pub absent_entry : (entries : List CounterQueue) (c at : ℕ) → IsGapFor entries c at → entry_of c (pairs entries) ≡ None
 absent_entry entries c at gap = Adds-was (adds_at entries at (record { counter = c; list = 0 }) gap)

@@ -105,7 +105,7 @@ pub record Enters
   pub opens : Opens old_lists new_lists listed.list
 
 -- the list was found, and nothing changed
-pub record IsFound (old new : Branches) (old_lists new_lists : Lists) (listed : Listed) (key : ℕ) : Type 0 where
+pub record IsFoundInBranches (old new : Branches) (old_lists new_lists : Lists) (listed : Listed) (key : ℕ) : Type 0 where
   pub is_old : listed.is_new ≡ false
   pub list : listed.list ≡ key
   pub same : new ≡ old

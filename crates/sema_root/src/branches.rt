@@ -5,7 +5,7 @@ ghost use Rattle.std.specs.Prelude.{◌≡◌, ◌≢◌, ◌<◌, ◌≤◌, Ma
 ghost use Rattle.slab.specs.Slab.{HasRoomFor};
 ghost use Rattle.sema_root.specs.Tree.{size, sought, top_value};
 ghost use Rattle.sema_root.specs.Linked.{sprig, tree_at};
-ghost use Rattle.sema_root.specs.Hanging.{ComesTo, Enters, Hangs, HangsNew, IsEnd, IsFound, IsListed, IsThere, Leaves, SeeksTo, toward};
+ghost use Rattle.sema_root.specs.Hanging.{ComesTo, Enters, Hangs, HangsNew, IsEnd, IsFoundInBranches, IsListed, IsThere, Leaves, SeeksTo, toward};
 ghost use Rattle.sema_root.specs.Planted.{Opens};
 
 use crate::listed::Listed;
@@ -128,7 +128,7 @@ pub(crate) fn list_for(
     ensures { let tree = tree_at branches.old.nodes branches.old.top in
         MatchOption (top_value (sought counter tree))
         (Enters branches.old branches.new tree counter ticket lists.old lists.new result)
-        (IsFound branches.old branches.new lists.old lists.new result) }
+        (IsFoundInBranches branches.old branches.new lists.old lists.new result) }
 {
     let (link, at) = seek(branches, counter, ticket);
     let Some(_) = at else {

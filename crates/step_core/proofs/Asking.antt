@@ -1,4 +1,4 @@
--- What is asked for of a seat whose run is orderly, by the table or by a change of it, and what the machine answers for it.
+-- What is asked for of a seat whose run is well formed, by the table or by a change of it, and what the machine answers for it.
 use Rattle.std.proofs.Common.{◌≡◌, ℕ, ◌+◌, ◌^◌, ◌<◌, [], Option, Some, None, Result, Ok, Err, IfOk, IfErr, OnOk, cond, length, refl, ap, sym, ◌∙◌, subst, arith}
 use Rattle.std.proofs.Common.{IsTrue, ◌↔◌, Bool, true, false}
 use Rattle.std.proofs.lemmas.Bool.{lt-ltb}
@@ -12,11 +12,11 @@ use Rattle.step_table.specs.declared.standing.Standing.{Standing}
 use Rattle.step_table.specs.declared.standing.Standing.TheVariants.{Rest, AtCounter, AtList, AtGroup, Failed}
 use Rattle.step_core.specs.declared.turn.Turn.{Turn}
 use Rattle.step_rows.specs.Stored.{each}
-use Rattle.step_table.specs.CoreLaw.{IsCallBefore, IsStanding}
+use Rattle.core_law.specs.CoreLaw.{IsCallBefore, IsStanding}
 use Rattle.step_table.specs.Core.{CoreLayout, Core}
 use Rattle.step_table.specs.CoreSteps.{can_run}
 use Rattle.step_table.specs.Run.{layout, unless, refusal_of, refusal}
-use Rattle.step_table.specs.declared.variant.Variant.{Variant}
+use Rattle.alike_law.specs.declared.variant.Variant.{Variant}
 use Rattle.step_core.specs.BentStored.{HasBentPast}
 use Rattle.step_core.specs.State.{Moment, State, HasSeat, HasSeatOn, HasSeatAt, HasGroup, MayGoOn, MayGo, AsksFor, IsMachineFor, IsRefusal, core_of, run_of, run_at, telling}
 use Rattle.step_core.proofs.Ranges.{asks_for, begun_small}

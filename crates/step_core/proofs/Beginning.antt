@@ -8,7 +8,7 @@ use Rattle.std.proofs.lemmas.List.FromFn.{length-map-range_with_len}
 use Rattle.waiters.specs.declared.wait.WaitId.{WaitId}
 use Rattle.step_table.specs.declared.parts.Parts.{Parts}
 use Rattle.step_table.specs.declared.standing.Standing.TheVariants.{Rest}
-use Rattle.step_table.specs.World.{World, first_world}
+use Rattle.step_table.specs.World.{SemaWorld, first_world}
 use Rattle.step_rows.specs.Stored.{Semaphores, Stored, IsStoredFor, each, idle, first_stored, seat_of}
 use Rattle.step_rows.specs.Stored as sema
 use Rattle.step_table.specs.ListWorld.{first_list}

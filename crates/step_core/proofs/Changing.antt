@@ -19,9 +19,9 @@ use Rattle.step_table.specs.declared.standing.After.TheVariants.{LooksAgain, Rel
 use Rattle.step_table.specs.declared.standing.GroupNext.TheVariants.{Acquires}
 use Rattle.step_table.specs.declared.standing.Standing.{Standing}
 use Rattle.step_table.specs.declared.standing.Standing.TheVariants.{Rest}
-use Rattle.step_table.specs.World.{World, put, journal_after}
+use Rattle.step_table.specs.World.{SemaWorld, put, journal_after}
 use Rattle.step_table.specs.Steps.{event_of, finds, turned, moved}
-use Rattle.step_rows.specs.Stored.{Semaphores, HasTurned, HasMoved, IsAlike, each, idle, root_of}
+use Rattle.step_rows.specs.Stored.{Semaphores, HasTurned, HasMoved, IsSameSize, each, idle, root_of}
 use Rattle.step_rows.specs.Stored as sema
 use Rattle.step_table.specs.ListWorld.{ListEntry, ListWorld}
 use Rattle.step_table.specs.ListSteps as list
@@ -30,13 +30,13 @@ use Rattle.step_rows.specs.ListStored as stored_list
 use Rattle.step_table.specs.Group.{empty_word}
 use Rattle.step_table.specs.Core.{CoreLayout, semaphore, Core, journal_after_list, sema_entries, list_entries}
 use Rattle.step_table.specs.CoreSteps.{stands, at_counter, releases, goes_on, after_counter, after_list, after_group, counter_row, list_row}
-use Rattle.step_core.specs.State.{Machine, core_of, list_of, no_list, IsMachineFor, AreAlike, Becomes, HasSeat}
+use Rattle.step_core.specs.State.{Machine, core_of, list_of, no_list, IsMachineFor, AreSameSize, Becomes, HasSeat}
 use Rattle.step_table.proofs.Sums.{put_here, put_else}
 use Rattle.step_rows.proofs.Storing.{each_set}
-use Rattle.step_table.proofs.CoreJournals.{sema_after, list_unchanged, sema_unchanged, list_after, other_unchanged}
-use Rattle.step_table.proofs.CoreRows.{leads_on}
+use Rattle.core_law.proofs.CoreJournals.{sema_after, list_unchanged, sema_unchanged, list_after, other_unchanged}
+use Rattle.core_law.proofs.CoreRows.{leads_on}
 
-no_change : (m : Semaphores) → IsAlike m m
+no_change : (m : Semaphores) → IsSameSize m m
 no_change m = record {
   own = refl;
   roots = refl;
@@ -49,7 +49,7 @@ no_change m = record {
   callers = refl;
 }
 
-then_alike : (h k l : Semaphores) → IsAlike h k → IsAlike k l → IsAlike h l
+then_alike : (h k l : Semaphores) → IsSameSize h k → IsSameSize k l → IsSameSize h l
 then_alike h k l a b = record {
   own = b.own ∙ a.own;
   roots = b.roots ∙ a.roots;
@@ -63,7 +63,7 @@ then_alike h k l a b = record {
 }
 
 -- a machine that has changed has the same layout
-pub same_layout : (m : CoreLayout) (h k : Machine) → AreAlike h k → IsMachineFor m h → IsMachineFor m k
+pub same_layout : (m : CoreLayout) (h k : Machine) → AreSameSize h k → IsMachineFor m h → IsMachineFor m k
 same_layout m h k alike is = record {
   root = (λ j. Rattle.step_table.specs.World.root_number (alike.semaphores.own j) (alike.semaphores.roots j)) ∙ is.root;
   counters = alike.semaphores.own ∙ is.counters;
@@ -75,7 +75,7 @@ same_layout m h k alike is = record {
 }
 
 -- as many of everything after two changes
-pub then_all : (h k l : Machine) → AreAlike h k → AreAlike k l → AreAlike h l
+pub then_all : (h k l : Machine) → AreSameSize h k → AreSameSize k l → AreSameSize h l
 then_all h k l one two = record {
   semaphores = then_alike h.semaphores k.semaphores l.semaphores one.semaphores two.semaphores;
   lists = two.lists ∙ one.lists;
@@ -152,7 +152,7 @@ counters_turned h i effect n is = record {
     by : (m : CoreLayout) → IsMachineFor m h → (journal : List Entry)
         → core_of (record h { semaphores = n }) (counter_row m (core_of h journal) i).journal ≡ counter_row m (core_of h journal) i
     by m at journal =
-        let w : World = sema.world_of h.semaphores (sema_entries journal) in
+        let w : SemaWorld = sema.world_of h.semaphores (sema_entries journal) in
         let e = event_of w i in
         let told : Effect = (e.leads (finds m.root w i)).1 in
         let of_counters = (leads_on i (w.seats i) w.words.lists (finds m.root w i) (w.seats i).place).1 in
@@ -185,7 +185,7 @@ module _ (h : Machine) (l : ℕ) (here : l < length h.lists) (x : StoredList) wh
           ∙ (λ j. stored_list.world_of (put_else (each no_list h.lists) l x k ne j) (else k (λ e. ne (sym e)) j))
           ∙ sym (put_else (list_of h.lists journal) l w k ne)
 
-  lists_alike : length x.seats ≡ length (each no_list h.lists l).seats → AreAlike h (record h { lists = set h.lists l x })
+  lists_alike : length x.seats ≡ length (each no_list h.lists l).seats → AreSameSize h (record h { lists = set h.lists l x })
   lists_alike same = record {
     semaphores = no_change h.semaphores;
     lists = length-set h.lists l x;
@@ -317,7 +317,7 @@ module _ (h k : Machine) (i g : ℕ) where
       ap (λ d. at_counter (core_of h journal) i (Acquiring (record { counter = d; lifo = false }) A1) (LooksAgain g)) (at m shape)) is
 
 -- nothing changes
-pub no_change_of : (h : Machine) → AreAlike h h
+pub no_change_of : (h : Machine) → AreSameSize h h
 no_change_of h = record {
   semaphores = no_change h.semaphores;
   lists = refl;

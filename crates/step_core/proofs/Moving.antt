@@ -3,11 +3,11 @@ use Rattle.std.proofs.Common.{◌≡◌, ◌≢◌, ℕ, zero, suc, ◌+◌, ◌
 use Rattle.std.proofs.lemmas.Bool.{le-ltb}
 use Rattle.step_table.specs.declared.entry.Entry.{Entry}
 use Rattle.step_table.specs.declared.list_place.ListEffect.{ListEffect}
-use Rattle.step_table.specs.declared.list_place.ListEffect.TheVariants.{HandsOut, Grants as GrantsUpTo}
+use Rattle.step_table.specs.declared.list_place.ListEffect.TheVariants.{HandsOut, Wakes as GrantsUpTo}
 use Rattle.step_table.specs.declared.list_place.ListPlace.{ListPlace}
 use Rattle.step_table.specs.declared.list_place.ListPlace.TheVariants as on_list
 use Rattle.step_table.specs.declared.effect.Effect.{Effect}
-use Rattle.step_table.specs.declared.effect.Effect.TheVariants.{Nothing, Tells, Grants}
+use Rattle.step_table.specs.declared.effect.Effect.TheVariants.{Nothing, Tells, Wakes}
 use Rattle.step_table.specs.declared.place.Place.{Place}
 use Rattle.step_table.specs.declared.place.Place.TheVariants.{Releasing}
 use Rattle.step_table.specs.declared.place.Place.TheVariants as on_counter
@@ -22,22 +22,22 @@ use Rattle.step_table.specs.declared.standing.Standing.{Standing}
 use Rattle.step_table.specs.declared.standing.Standing.TheVariants.{Rest, AtCounter, AtList, AtGroup, Failed}
 use Rattle.step_core.specs.declared.turn.Turn.{Turn}
 use Rattle.step_core.specs.declared.turn.Turn.TheVariants.{OnCounter, OnList, OnGroup}
-use Rattle.step_table.specs.World.{Seat, journal_after}
+use Rattle.step_table.specs.World.{SeatState, journal_after}
 use Rattle.step_table.specs.Steps.{event_of, finds}
 use Rattle.step_rows.specs.Stored.{each, idle, seat_of, IsStoredFor}
 use Rattle.step_rows.specs.Stored as sema
 use Rattle.step_table.specs.Core.{CoreLayout, Core, journal_after_list}
 use Rattle.step_table.specs.CoreSteps.{can_run, releases, goes_on, after_counter, after_list, after_group, row_of_standing, core_turned}
 use Rattle.step_table.specs.Run.{Run, layout, continued, refusal_of, refusal}
-use Rattle.step_table.specs.RunInvariant.{IsSoundRun}
-use Rattle.step_table.specs.declared.variant.Variant.TheVariants.{PlainLess}
+use Rattle.core_law.specs.RunInvariant.{IsSoundRun}
+use Rattle.alike_law.specs.declared.variant.Variant.TheVariants.{PlainLess}
 use Rattle.step_core.specs.BentStored.{HasBentPast}
-use Rattle.step_core.specs.State.{Machine, AreAlike, HasStepped, Moment, IsMachineFor, HasRunRow, HasBegun, GoesOn, HasSeat, HasSeatAt, MayGo, AsksFor, IsRefusal, IsReady, IsReadyAt, IsSound, Steps, HasPast, core_of, run_with, run_of, run_at, telling, entry_of, list_entry, and_then}
+use Rattle.step_core.specs.State.{Machine, AreSameSize, HasStepped, Moment, IsMachineFor, HasRunRow, HasBegun, GoesOn, HasSeat, HasSeatAt, MayGo, AsksFor, IsRefusal, IsReady, IsReadyAt, IsSound, Steps, HasPast, core_of, run_with, run_of, run_at, telling, entry_of, list_entry, and_then}
 use Rattle.step_rows.proofs.Storing.{get_here}
 use Rattle.step_core.proofs.Changing.{same_layout, then_all}
-use Rattle.step_core.proofs.Ranges.{orderly_state}
+use Rattle.step_core.proofs.Ranges.{well_formed_state}
 use Rattle.step_core.proofs.Asking as asking
-use Rattle.step_table.proofs.RunSound.{is_stepped}
+use Rattle.core_law.proofs.RunSound.{is_stepped}
 use Rattle.step_core.proofs.NextCalls.{still_stored}
 
 -- no row reads the journal, and so it refuses no step
@@ -70,7 +70,7 @@ no_such_seat parts run i past =
 -- a seat of a moment
 module _ (m : Moment) (past : HasPast m) (i : ℕ) (there : i < length m.parts.calls) where
   bent_past : HasBentPast PlainLess m
-  bent_past = (past.0, orderly_state (telling m past.0) past.1)
+  bent_past = (past.0, well_formed_state (telling m past.0) past.1)
 
   pub has_seat : HasSeat m.machine i
   has_seat = asking.has_seat PlainLess m bent_past i there
@@ -133,7 +133,7 @@ group_journal m s i g (group.Releases n) = released_journal m s i g n
 effect_entry : (effect : Effect) (journal : List Entry) → journal_after effect journal ≡ and_then journal (sema.entry_of effect)
 effect_entry Nothing journal = refl
 effect_entry (Tells e) journal = refl
-effect_entry Grants journal = refl
+effect_entry Wakes journal = refl
 
 list_effect_entry : (l i : ℕ) (effect : ListEffect) (journal : List Entry)
     → journal_after_list l i effect journal ≡ and_then journal (list_entry l i effect)
@@ -147,7 +147,7 @@ row_tells : (m : CoreLayout) (h : Machine) (i : ℕ) → IsMachineFor m h → (d
 row_tells m h i is (AtCounter after) (OnCounter next ready) can journal =
     let s : Core = core_of h journal in
     let found = get_here idle h.semaphores.callers i ready.caller can.1.there in
-    let effect_at : Seat → (ℕ → ℕ) → Effect
+    let effect_at : SeatState → (ℕ → ℕ) → Effect
     = λ z root.
     let e = Rattle.step_table.specs.Table.event_at i z (sema.words_of h.semaphores.stored).lists z.place in
     (e.leads (Rattle.step_table.specs.World.found root (sema.words_of h.semaphores.stored) e.word)).1 in
@@ -223,7 +223,7 @@ module _ (parts : Parts) (h : Machine) (counts : List ℕ) (i : ℕ) (is : IsMac
   pub has_stepped : (n : Machine) (now : List ℕ) → GoesOn parts i k counts n now (each Rest k.standing i)
       → HasStepped parts i h counts n now entry
   has_stepped n now goes = record {
-    alike = keeps parts i k counts n now (AreAlike h) (each Rest k.standing i) goes (λ is before. then_all h k n before is.alike) ran.turned.alike;
+    alike = keeps parts i k counts n now (AreSameSize h) (each Rest k.standing i) goes (λ is before. then_all h k n before is.alike) ran.turned.alike;
     count = count_kept parts i k counts n now (each Rest k.standing i) goes;
     run = λ journal.
         shown parts i k counts n now (each Rest k.standing i) goes (after journal)

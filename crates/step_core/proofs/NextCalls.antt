@@ -4,17 +4,17 @@ use Rattle.std.proofs.lemmas.List.{length-replicate}
 use Rattle.step_table.specs.declared.call.Call.{Call}
 use Rattle.step_table.specs.declared.call.Call.TheVariants.{Acquire, Release, ReleaseMany, Add, Wait, One, All as NotifyAll, GroupAdd, GroupWait}
 use Rattle.step_table.specs.declared.parts.Parts.{Parts}
-use Rattle.step_rows.specs.Stored.{IsStoredFor, IsAlike, each}
+use Rattle.step_rows.specs.Stored.{IsStoredFor, IsSameSize, each}
 use Rattle.step_table.specs.Core.{Core, first_core}
 use Rattle.step_table.specs.CoreSteps.{calls}
 use Rattle.step_table.specs.Scenario.{IsCallOn}
 use Rattle.step_table.specs.Run.{Run, layout, call_of, begun, all_begun}
-use Rattle.step_table.specs.RunInvariant.{IsSoundRun, IsScenario, calls_of}
+use Rattle.core_law.specs.RunInvariant.{IsSoundRun, IsScenario, calls_of}
 use Rattle.step_core.specs.State.{Machine, State, IsMachineFor, Becomes, HasBegun, MayBegin, IsSound, IsStarted, core_of, run_with, telling}
 use Rattle.step_table.proofs.Sums.{put_else}
 use Rattle.step_rows.proofs.Storing.{each_set, get_here, copies}
 use Rattle.step_core.proofs.Changing.{same_layout}
-use Rattle.step_table.proofs.RunSound.{is_started}
+use Rattle.core_law.proofs.RunSound.{is_started}
 
 -- to begin a call tells nothing
 call_journal : (s : Core) (i : ℕ) (call : Call) → (calls s i call).journal ≡ s.journal
@@ -89,7 +89,7 @@ module _ (parts : Parts) (i : ℕ) (h : Machine) (counts : List ℕ) (is : IsMac
       may_begin call there (subst (IsCallOn parts) found.1 (scenario.declared i [] there (each 0 counts i) call found.0))
 
 -- words are stored for a scenario, and still are in a machine that is alike
-pub still_stored : (own groups roots seats : ℕ) (h k : Machine) → IsAlike h.semaphores k.semaphores
+pub still_stored : (own groups roots seats : ℕ) (h k : Machine) → IsSameSize h.semaphores k.semaphores
     → IsStoredFor own groups roots seats h.semaphores.stored → IsStoredFor own groups roots seats k.semaphores.stored
 still_stored own groups roots seats h k alike is = record {
   own_is = alike.own ∙ is.own_is;

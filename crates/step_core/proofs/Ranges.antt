@@ -15,32 +15,34 @@ use Rattle.step_table.specs.declared.standing.Standing.{Standing}
 use Rattle.step_table.specs.declared.standing.Standing.TheVariants.{Rest, AtCounter, AtList, AtGroup}
 use Rattle.step_table.specs.declared.word.Word.{Word}
 use Rattle.step_table.specs.declared.word.Word.TheVariants.{Counter, Lock, Waiters, Grant}
-use Rattle.step_table.specs.World.{Layout, World, found, root_number}
-use Rattle.step_table.specs.Lawful.{total, times, added, IsGrantOf, AllBounded}
-use Rattle.step_table.specs.Invariant.{IsWithin, Finds, asleep}
+use Rattle.step_table.specs.World.{Layout, SemaWorld, found, root_number}
+use Rattle.sema_law.specs.Lawful.{added, IsGrantOf, AllBounded}
+use Rattle.step_table.specs.Counting.{total, times, IsWithin}
+use Rattle.sema_law.specs.Invariant.{Finds, asleep}
 use Rattle.step_rows.specs.Stored.{Stored, HasRow, HasRowsOf, HasHand, MayMove, each, idle, words_of, root_of, row_finds, row_event}
 use Rattle.step_table.specs.ListWorld.{ListWorld}
-use Rattle.step_table.specs.ListLawful.{told}
+use Rattle.list_law.specs.ListLawful.{told}
 use Rattle.step_rows.specs.ListStored.{HasListRow, CanStep}
 use Rattle.step_rows.specs.Roots.{queued}
 use Rattle.step_table.specs.Core.{counters_of}
-use Rattle.step_table.specs.CoreLaw.{IsStanding}
+use Rattle.core_law.specs.CoreLaw.{IsStanding}
 use Rattle.step_table.specs.Scenario.{IsScript}
 use Rattle.step_table.specs.Run.{layout}
-use Rattle.step_table.specs.RunInvariant.{calls_of}
-use Rattle.step_table.specs.declared.variant.Variant.{Variant}
-use Rattle.step_table.specs.declared.variant.Variant.TheVariants.{PlainLess}
-use Rattle.step_table.specs.BentInvariant.{IsOrderlyWorld}
-use Rattle.step_core.specs.BentStored.{IsOrderly}
+use Rattle.core_law.specs.RunInvariant.{calls_of}
+use Rattle.alike_law.specs.declared.variant.Variant.{Variant}
+use Rattle.alike_law.specs.declared.variant.Variant.TheVariants.{PlainLess}
+use Rattle.sema_law.specs.WellFormed.{IsWellFormedWorld}
+use Rattle.step_core.specs.BentStored.{IsWellFormed}
 use Rattle.step_core.specs.State.{State, IsSound, AsksFor, no_list, run_of}
 use Rattle.step_table.proofs.Sums.{total_zero, total_suc, total_rest, total_has}
-use Rattle.step_table.proofs.Placing.{same_here}
+use Rattle.sema_law.proofs.Placing.{same_here}
 use Rattle.step_rows.proofs.Rooting.{root_within}
-use Rattle.step_table.proofs.Bounding.{orderly_bounded, orderly}
-use Rattle.step_table.proofs.Parking.{in_a_hand}
-use Rattle.step_core.proofs.BentLists.{orderly_list}
-use Rattle.step_table.proofs.ListKeeping.{list_reached}
-use Rattle.step_table.proofs.ListLawfulness as lists
+use Rattle.sema_law.proofs.Bounding.{well_formed}
+use Rattle.alike_law.proofs.BentBounding.{bent_bounded}
+use Rattle.sema_law.proofs.Parking.{in_a_hand}
+use Rattle.alike_law.proofs.BentLists.{well_formed_list}
+use Rattle.list_law.proofs.ListKeeping.{list_reached}
+use Rattle.list_law.proofs.ListLawfulness as lists
 use Rattle.step_rows.proofs.ListRanges.{has_list_row}
 
 -- a sum of n terms, each at most b
@@ -68,7 +70,7 @@ first_in_hand : (hand : List WaitId) (seats : ℕ) → ((w : WaitId) → 0 < tim
 first_in_hand [] seats all = tt
 first_in_hand (w ∷ hand) seats all = all w (let here = same_here w in omega arith)
 
-module _ (v : Variant) (m : State) (sound : IsOrderly v m) where
+module _ (v : Variant) (m : State) (sound : IsWellFormed v m) where
   abbrev seats : ℕ
   seats = length m.parts.calls
 
@@ -81,14 +83,14 @@ module _ (v : Variant) (m : State) (sound : IsOrderly v m) where
   abbrev rows_of : Layout
   rows_of = counters_of (layout m.parts)
 
-  abbrev world : World
+  abbrev world : SemaWorld
   world = (run_of m).core.semaphores
 
-  law : IsOrderlyWorld rows_of world
+  law : IsWellFormedWorld rows_of world
   law = sound.run.core.semaphores
 
   few_words : AllBounded rows_of world
-  few_words = orderly_bounded v rows_of world law sound.waiters
+  few_words = bent_bounded v rows_of world law sound.waiters
 
   script_short : (s : ℕ) → length (calls_of m.parts s) ≤ 32
   script_short s = by (ℕ_discrete (length m.parts.calls - s) 0)
@@ -227,13 +229,13 @@ module _ (v : Variant) (m : State) (sound : IsOrderly v m) where
     asks_at _ is = tt
 
 -- all that a seat's row asks for
-pub asks_for : (v : Variant) (m : State) → IsOrderly v m → (i : ℕ) → i < length m.parts.calls
+pub asks_for : (v : Variant) (m : State) → IsWellFormed v m → (i : ℕ) → i < length m.parts.calls
     → AsksFor m.machine i (each Rest m.machine.standing i)
 asks_for v m sound i here = asks_at v m sound i here (each Rest m.machine.standing i) refl
 
--- what is true of the table's runs is orderly
-pub orderly_state : (m : State) → IsSound m → IsOrderly PlainLess m
-orderly_state m sound = record {
+-- what is true of the table's runs is well formed
+pub well_formed_state : (m : State) → IsSound m → IsWellFormed PlainLess m
+well_formed_state m sound = record {
   scenario = sound.scenario;
   starts = sound.starts;
   stored = sound.stored;
@@ -241,8 +243,8 @@ orderly_state m sound = record {
   begun = sound.begun;
   run = record {
     core = record {
-      semaphores = orderly (counters_of (layout m.parts)) (run_of m).core.semaphores sound.run.core.semaphores;
-      lists = λ l. orderly_list ((layout m.parts).firsts l) (length m.parts.calls) ((run_of m).core.lists l) (sound.run.core.lists l);
+      semaphores = well_formed (counters_of (layout m.parts)) (run_of m).core.semaphores sound.run.core.semaphores;
+      lists = λ l. well_formed_list ((layout m.parts).firsts l) (length m.parts.calls) ((run_of m).core.lists l) (sound.run.core.lists l);
       journals = sound.run.core.journals;
       standing = sound.run.core.standing;
     };
@@ -264,4 +266,4 @@ handed_told m sound l =
     let list : ListWorld = (run_of m).core.lists l in
     let few_seats : length m.parts.calls ≤ 9223372036854775808 = (let few = sound.scenario.limits.seats in omega arith) in
     let is = lists.handed_told first (length m.parts.calls) list (list_reached first (length m.parts.calls) list few_seats (sound.run.core.lists l)) in
-    let few = few_handed PlainLess m (orderly_state m sound) l in omega arith
+    let few = few_handed PlainLess m (well_formed_state m sound) l in omega arith

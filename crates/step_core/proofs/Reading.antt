@@ -7,8 +7,8 @@ use Rattle.step_table.specs.Core.{sema_entries}
 use Rattle.step_table.specs.Run.{layout}
 use Rattle.step_core.specs.State.{State, IsSound, ShowsLawful, RestsAtEnd, run_of, told}
 use Rattle.step_core.proofs.Ranges.{handed_told}
-use Rattle.step_table.proofs.CoreEnding.{list_at_rest, core_lawful, core_ends}
-use Rattle.step_table.proofs.ListPromises.{the_list_law}
+use Rattle.core_law.proofs.CoreEnding.{list_at_rest, core_lawful, core_ends}
+use Rattle.list_law.proofs.ListPromises.{the_list_law}
 
 -- entries of lists change no counter
 replays_all : (x : Plain) (journal : List Entry) → replay x (sema_entries journal) ≡ replay x journal

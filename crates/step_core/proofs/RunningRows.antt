@@ -19,7 +19,7 @@ use Rattle.step_table.specs.declared.standing.Standing.TheVariants.{Rest, AtCoun
 use Rattle.step_core.specs.declared.turn.Turn.TheVariants.{OnCounter, OnList, OnGroup}
 use Rattle.step_table.specs.World.{put, journal_after}
 use Rattle.step_table.specs.Steps.{finds}
-use Rattle.step_rows.specs.Stored.{Semaphores, CanRun, HasTurned, each, world_of, finds_in, event_in}
+use Rattle.step_rows.specs.Stored.{Semaphores, IsReadyFor, HasTurned, each, world_of, finds_in, event_in}
 use Rattle.step_rows.specs.Stored as sema
 use Rattle.step_rows.specs.ListStored.{IsListReady}
 use Rattle.step_table.specs.Group.{empty_word, group_row}
@@ -62,7 +62,7 @@ group_word h shows same g n number there x at =
 -- the standing of a seat whose row is this, and that it can run
 module _ (h : Machine) (i : ℕ) where
   pub on_counter_is : (x : Standing) (after : After) (ready : Ready) → IsReadyAt h i x (OnCounter after ready)
-      → (x ≡ AtCounter after) × CanRun h.semaphores i ready
+      → (x ≡ AtCounter after) × IsReadyFor h.semaphores i ready
   on_counter_is (AtCounter now) after ready is = ((λ j. AtCounter (sym is.0 j)), is.1)
   on_counter_is Rest after ready is = absurd is
   on_counter_is (AtList l) after ready is = absurd is

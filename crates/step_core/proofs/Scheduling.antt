@@ -3,10 +3,10 @@ use Rattle.std.proofs.Common.{◌≡◌, ℕ, zero, suc, ◌≤◌, List, [], �
 use Rattle.step_table.specs.declared.parts.Parts.{Parts}
 use Rattle.step_table.specs.Run.{Run, start, stepped, refusal, after_all, reached, AllRunFrom, AllRun}
 use Rattle.step_core.specs.State.{State, run_of, IsStepped}
-use Rattle.step_table.specs.RunInvariant.{IsScenario}
-use Rattle.step_table.specs.Misused.{AllFairFrom, IsUnmisused}
-use Rattle.step_table.proofs.RunSound.{is_started, is_stepped}
-use Rattle.step_table.proofs.GroupRuns as groups
+use Rattle.core_law.specs.RunInvariant.{IsScenario}
+use Rattle.core_law.specs.Misused.{AllFairFrom, IsUnmisused}
+use Rattle.core_law.proofs.RunSound.{is_started, is_stepped}
+use Rattle.core_law.proofs.GroupRuns as groups
 
 after_one_more : (parts : Parts) (run : Run) (schedule : List ℕ) (i : ℕ)
     → after_all parts run (schedule ++ i ∷ []) ≡ stepped parts (after_all parts run schedule) i

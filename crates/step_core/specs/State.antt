@@ -16,8 +16,8 @@ use Rattle.step_table.specs.declared.standing.After.TheVariants.{Releases}
 use Rattle.step_table.specs.declared.standing.Standing.{Standing}
 use Rattle.step_table.specs.declared.standing.Standing.TheVariants.{Rest, AtCounter, AtList, AtGroup}
 use Rattle.step_table.specs.Journal.{Plain, plain_start, replay}
-use Rattle.step_table.specs.Commuting.{ArePlacesApart, IsOnCounter}
-use Rattle.step_rows.specs.Stored.{Semaphores, IsStoredFor, IsAlike, HasRow, CanRun, each, idle, root_of, event_in, finds_in}
+use Rattle.alike_law.specs.Commuting.{ArePlacesApart, IsOnCounter}
+use Rattle.step_rows.specs.Stored.{Semaphores, IsStoredFor, IsSameSize, HasRow, IsReadyFor, each, idle, root_of, event_in, finds_in}
 use Rattle.step_rows.specs.Stored as sema
 use Rattle.step_table.specs.ListWorld.{ListWorld}
 use Rattle.step_rows.specs.ListStored.{StoredList, CanStep, IsListReady}
@@ -25,9 +25,9 @@ use Rattle.step_rows.specs.ListStored as list
 use Rattle.step_table.specs.Group.{empty_word}
 use Rattle.step_table.specs.Core.{CoreLayout, Core, sema_entries, list_entries}
 use Rattle.step_table.specs.CoreSteps.{IsCoreEnd, core_turned}
-use Rattle.step_table.specs.CoreLaw.{IsLawfulCore, IsCoreAtRest}
+use Rattle.core_law.specs.CoreLaw.{IsLawfulCore, IsCoreAtRest}
 use Rattle.step_table.specs.Run.{Run, layout, call_of, begun, start, stepped, refusal_of}
-use Rattle.step_table.specs.RunInvariant.{IsSoundRun, IsScenario}
+use Rattle.core_law.specs.RunInvariant.{IsSoundRun, IsScenario}
 
 -- the semaphores, the lists, the words of the groups, and what each seat is doing
 pub record Machine : Type 0 where
@@ -72,8 +72,8 @@ pub record IsMachineFor (m : CoreLayout) (h : Machine) : Type 0 where
   pub standing : length h.standing ≡ m.seats
 
 -- as many of everything
-pub record AreAlike (h k : Machine) : Type 0 where
-  pub semaphores : IsAlike h.semaphores k.semaphores
+pub record AreSameSize (h k : Machine) : Type 0 where
+  pub semaphores : IsSameSize h.semaphores k.semaphores
   pub lists : length k.lists ≡ length h.lists
   pub seats : (l : ℕ) → length (each no_list k.lists l).seats ≡ length (each no_list h.lists l).seats
   pub groups : length k.groups ≡ length h.groups
@@ -81,7 +81,7 @@ pub record AreAlike (h k : Machine) : Type 0 where
 
 -- the machine has changed to what `f` makes of it, with each journal
 pub record Becomes (f : CoreLayout → Core → Core) (h k : Machine) : Type 0 where
-  pub alike : AreAlike h k
+  pub alike : AreSameSize h k
   pub core : (m : CoreLayout) → IsMachineFor m h → (journal : List Entry)
       → core_of k (f m (core_of h journal)).journal ≡ f m (core_of h journal)
 
@@ -145,7 +145,7 @@ pub record AreRowsApart (h : Machine) (a b : ℕ) : Type 0 where
 -- this is the row of a seat that does this, and it can run
 abbrev pub IsReadyAt : Machine → ℕ → Standing → Turn → Type 0
 IsReadyAt h i (AtCounter after) (turn.OnCounter next ready) =
-    (next ≡ after) × CanRun h.semaphores i ready × IsTrue ((event_in h.semaphores i).can (finds_in h.semaphores i))
+    (next ≡ after) × IsReadyFor h.semaphores i ready × IsTrue ((event_in h.semaphores i).can (finds_in h.semaphores i))
 IsReadyAt h i (AtList l) (turn.OnList k ready) = (k ≡ l) × (l < length h.lists) × IsListReady (each no_list h.lists l) i ready
 IsReadyAt h i (AtGroup g row) (turn.OnGroup k now) = (k ≡ g) × (now ≡ row) × (g < length h.groups)
 IsReadyAt h i _ _ = ⊥
@@ -176,7 +176,7 @@ run_with h counts journal = record { core = core_of h journal; begun = each 0 co
 
 -- the seat has begun its next call, if it has one: with each journal, its run is the one in which it has
 pub record HasBegun (parts : Parts) (i : ℕ) (h : Machine) (counts : List ℕ) (k : Machine) (now : List ℕ) : Type 0 where
-  pub alike : AreAlike h k
+  pub alike : AreSameSize h k
   pub count : length now ≡ length counts
   pub run : (journal : List Entry)
       → run_with k now journal ≡ begun (run_with h counts journal) i (call_of parts i (each 0 counts i))
@@ -190,7 +190,7 @@ GoesOn parts i h counts k now _ = (k ≡ h) × (now ≡ counts)
 -- the one after a step of the seat
 pub record HasStepped (parts : Parts) (i : ℕ) (h : Machine) (counts : List ℕ) (k : Machine) (now : List ℕ)
     (entry : Option Entry) : Type 0 where
-  pub alike : AreAlike h k
+  pub alike : AreSameSize h k
   pub count : length now ≡ length counts
   pub run : (journal : List Entry)
       → run_with k now (and_then journal entry) ≡ stepped parts (run_with h counts journal) i

@@ -18,19 +18,22 @@ mod starting;
 mod turn;
 mod world;
 
+pub use alike_law::{Variant, law_of_the_alike, law_of_the_bent, law_of_the_commuting};
 pub use bent_world::BentWorld;
-pub use laws::{law_of_the_bent, law_of_the_keys};
+pub use core_law::law_of_the_core;
+pub use laws::law_of_the_keys;
+pub use list_law::law_of_the_lists;
 pub use moment::Moment;
 pub use scenario::Scenario;
 pub use schedule::run;
+pub use sema_law::law_of_the_rows;
 pub use step_rows::{Caller, Outcome};
 pub use step_table::{
     Acquire, AcquireRow, After, AllRow, Call, Effect, Entry, GroupId, GroupNext, GroupRow,
     GroupWord, Items, ListEffect, ListId, ListPlace, ListWord, MAX_CALLS, MAX_COUNTERS, MAX_GROUPS,
     MAX_LISTS, MAX_ROOTS, MAX_SEATS, MAX_UNITS, MIN_UNITS, ManyRow, Misuse, OneRow, Parts, Phase,
     Place, Reach, Release, ReleaseMany, ReleaseRow, Row, RunRefused, ScenarioRefused, Standing,
-    StepRefused, Ticket, Variant, WaitRow, Word, law_of_the_alike, law_of_the_commuting,
-    law_of_the_core, law_of_the_lists, law_of_the_rows, less,
+    StepRefused, Ticket, WaitRow, Word, less,
 };
 pub use waiters::{CounterId, NoMemory, SeatId, WaitId};
 pub use world::World;

@@ -15,10 +15,10 @@ ghost use Rattle.step_table.specs.Core.{CoreLayout, semaphore};
 ghost use Rattle.step_table.specs.CoreSteps.{stands, at_counter, at_list, waits_on_list, releases, counter_row, list_row};
 ghost use Rattle.step_table.specs.Scenario.{IsWithinLimits};
 ghost use Rattle.step_core.specs.State.{Becomes, IsMachineFor, HasSeat, HasListSeat, no_list, core_of};
-ghost use Rattle.step_rows.specs.Stored.{each, CanRun};
+ghost use Rattle.step_rows.specs.Stored.{each, IsReadyFor};
 
 use std::marker::Model;
-use step_rows::{ListReady, NotifyList, Ready, Semaphores, write_group, write_standing};
+use step_rows::{ListReady, ListMachine, Ready, Semaphores, write_group, write_standing};
 use step_table::{
     After, GroupId, GroupWord, ListId, ListPlace, Parts, Place, Release, ReleaseRow, Standing,
 };
@@ -28,7 +28,7 @@ use waiters::{CounterId, NoMemory, SeatId};
 #[derive(Drop)]
 pub(crate) struct Machine {
     pub semaphores: Semaphores,
-    pub lists: Vec<NotifyList>,
+    pub lists: Vec<ListMachine>,
     pub groups: Vec<GroupWord>,
     pub standing: Vec<Standing>,
 }
@@ -98,7 +98,7 @@ impl Machine {
 
     /// A row on the semaphores, which can run.
     pub fn run_on_counter(&mut self, seat: SeatId, ready: &Ready)
-        requires { CanRun self.old.semaphores seat ready.now }
+        requires { IsReadyFor self.old.semaphores seat ready.now }
         ensures { Becomes (λ m s. counter_row m s seat) self.old self.new }
     {
         self.semaphores.run(seat, ready);

@@ -3,7 +3,7 @@
 ghost use Rattle.std.specs.Prelude.{◌≡◌, ◌<◌, ◌≤◌, ◌↔◌, ◌+◌, ◌^◌, ℕ, IsTrue, All, IfOk, ◌∷◌, [], Some, List, length, slice_index};
 ghost use Rattle.step_table.specs.Run.{call_of};
 ghost use Rattle.step_table.specs.Scenario.{IsWithinLimits, IsDeclared, KeepsTickets, AreTicketsKept, IsTicketCall, IsScript, IsOfFewUnits, IsCallOn, holds_ticket, holding_after};
-ghost use Rattle.step_table.specs.RunInvariant.{IsScenario};
+ghost use Rattle.core_law.specs.RunInvariant.{IsScenario};
 
 use std::marker::Model;
 use step_table::{
@@ -20,7 +20,7 @@ pub struct Scenario {
 impl Model for Scenario {
     ghost use Rattle.step_table.specs.declared.parts.Parts.{Parts};
     ghost use Rattle.step_table.specs.Run.{call_of};
-    ghost use Rattle.step_table.specs.RunInvariant.{IsScenario};
+    ghost use Rattle.core_law.specs.RunInvariant.{IsScenario};
 
     ghost Value = { Parts };
 

@@ -2,7 +2,7 @@
 
 ghost use Rattle.std.specs.Prelude.{◌≡◌, IfOk, IfErr, OnOk};
 ghost use Rattle.step_table.specs.Run.{AllRun, start, reached, IsRefusedAt};
-ghost use Rattle.step_table.specs.Misused.{AllFairFrom, IsUnmisused};
+ghost use Rattle.core_law.specs.Misused.{AllFairFrom, IsUnmisused};
 ghost use Rattle.step_core.specs.State.{run_of, ShowsLawful, RestsAtEnd};
 
 use crate::scenario::Scenario;

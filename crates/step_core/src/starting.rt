@@ -14,17 +14,17 @@ use crate::group::EMPTY;
 use crate::machine::Machine;
 use crate::scenario::Scenario;
 use std::alloc::{AllocError, Global};
-use step_rows::{NotifyList, Semaphores, copy_items};
+use step_rows::{ListMachine, Semaphores, copy_items};
 use step_table::{GroupWord, Standing};
 use waiters::NoMemory;
 
 /// The lists at their first tickets.
-fn first_lists(alloc: Global, firsts: &[u64], seats: u16) -> Result<Vec<NotifyList>, NoMemory>
+fn first_lists(alloc: Global, firsts: &[u64], seats: u16) -> Result<Vec<ListMachine>, NoMemory>
     ensures { IfOk result (λ lists. AreFirst firsts.now (length firsts.now) seats lists.items) }
 {
     let mut lists = Vec::with_capacity(alloc, firsts.len())?;
     for first in firsts {
-        lists.push_reserved(NotifyList::new(alloc, *first, seats)?);
+        lists.push_reserved(ListMachine::new(alloc, *first, seats)?);
     }
     Ok(lists)
 }
@@ -44,7 +44,7 @@ fn all_at_rest(alloc: Global, seats: usize) -> Result<Vec<Standing>, AllocError>
 }
 
 /// The same lists, with memory of their own.
-fn copied(alloc: Global, lists: &[NotifyList]) -> Result<Vec<NotifyList>, NoMemory>
+fn copied(alloc: Global, lists: &[ListMachine]) -> Result<Vec<ListMachine>, NoMemory>
     ensures { IfOk result (λ copy. copy.items ≡ lists.now) }
 {
     let mut copy = Vec::with_capacity(alloc, lists.len())?;
@@ -55,7 +55,7 @@ fn copied(alloc: Global, lists: &[NotifyList]) -> Result<Vec<NotifyList>, NoMemo
 }
 
 /// The lists become as the others are, of which there are as many.
-fn copy_lists(lists: &mut [NotifyList], others: &[NotifyList]) -> Result<(), NoMemory>
+fn copy_lists(lists: &mut [ListMachine], others: &[ListMachine]) -> Result<(), NoMemory>
     requires { length lists.old ≡ length others.now }
     ensures { OnOk result (lists.new ≡ others.now) }
 {

@@ -7,7 +7,7 @@ use Rattle.std.specs.Option.{option_map}
 use Rattle.std.specs.Prelude.{unwrap_or, IsSome}
 use Rattle.waiters.specs.declared.wait.Wait.{Wait}
 use Rattle.waiters.specs.Lists.{Lists, IsOpen, waits_at, Changes}
-use Rattle.step_rows.specs.declared.notify_list.SeatRecord.{SeatRecord}
+use Rattle.step_rows.specs.declared.list_machine.SeatRecord.{SeatRecord}
 use Rattle.step_table.specs.World.{put}
 use Rattle.step_rows.specs.ListStored.{seat_of, grant_of, stored_seat, seats_in, held, AreLists}
 use Rattle.step_table.proofs.Sums.{put_here, put_else, total_same, total_change}

@@ -13,9 +13,9 @@ use Rattle.step_table.specs.declared.list_place.ListPlace.TheVariants.{Waiting}
 use Rattle.step_table.specs.declared.list_place.ListWord.TheVariants.{Grant}
 use Rattle.step_table.specs.declared.list_place.Ticket.{Ticket}
 use Rattle.step_table.specs.declared.list_place.WaitRow.TheVariants.{W1}
-use Rattle.step_rows.specs.declared.notify_list.NotifyList.TheInside.{Inside}
-use Rattle.step_rows.specs.declared.notify_list.SeatRecord.{SeatRecord}
-use Rattle.step_rows.specs.contracts.notify_list.NotifyList.{the_view}
+use Rattle.step_rows.specs.declared.list_machine.ListMachine.TheInside.{Inside}
+use Rattle.step_rows.specs.declared.list_machine.SeatRecord.{SeatRecord}
+use Rattle.step_rows.specs.contracts.list_machine.ListMachine.{the_view}
 use Rattle.step_table.specs.World.{put}
 use Rattle.step_table.specs.ListWorld.{ListEntry, written, one_or_none}
 use Rattle.step_table.specs.ListSteps.{with_ticket, waiting}

@@ -8,9 +8,9 @@ use Rattle.std.proofs.lemmas.List.{length_push}
 use Rattle.waiters.specs.declared.wait.Wait.{Wait}
 use Rattle.waiters.specs.Lists.{Lists, list_at, IsOpen, Changes}
 use Rattle.step_table.specs.declared.list_place.ListPlace.TheVariants.{Rest}
-use Rattle.step_rows.specs.declared.notify_list.NotifyList.TheInside.{Inside}
-use Rattle.step_rows.specs.declared.notify_list.SeatRecord.{SeatRecord}
-use Rattle.step_rows.specs.contracts.notify_list.NotifyList.{the_view}
+use Rattle.step_rows.specs.declared.list_machine.ListMachine.TheInside.{Inside}
+use Rattle.step_rows.specs.declared.list_machine.SeatRecord.{SeatRecord}
+use Rattle.step_rows.specs.contracts.list_machine.ListMachine.{the_view}
 use Rattle.step_table.specs.Wrapping.{word_of}
 use Rattle.step_rows.specs.ListStored.{moment_of, first_moment, seat_of, stored_seat, seats_in, AreLists, AreFresh}
 use Rattle.step_table.proofs.Sums.{nothing}

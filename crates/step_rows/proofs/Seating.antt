@@ -7,7 +7,7 @@ use Rattle.step_table.specs.declared.place.ReleaseRow.TheVariants.{R5, R8}
 use Rattle.step_table.specs.declared.place.ManyRow.TheVariants.{M5}
 use Rattle.step_table.specs.declared.place.Place.{Place}
 use Rattle.step_table.specs.declared.place.Place.TheVariants.{Rest, Acquiring, Releasing, ReleasingMany}
-use Rattle.step_table.specs.World.{Seat}
+use Rattle.step_table.specs.World.{SeatState}
 use Rattle.step_table.specs.Event.{Next, by_first}
 use Rattle.step_table.specs.Table.{event_at}
 use Rattle.step_rows.specs.Stored.{Stored, Does, HasSeat, MayMove}
@@ -22,7 +22,7 @@ module _ (h : Stored) where
   by_wait [] none some first second = first
   by_wait (w ∷ l) none some first second = second w
 
-  moves : (s : ℕ) (seat : Seat) (lists : ℕ → List WaitId) (p : Place) (n : ℕ) → MayMove h p → HasSeat h ((event_at s seat lists p).leads n).1
+  moves : (s : ℕ) (seat : SeatState) (lists : ℕ → List WaitId) (p : Place) (n : ℕ) → MayMove h p → HasSeat h ((event_at s seat lists p).leads n).1
   moves s seat lists Rest n may = tt
   moves s seat lists (Acquiring a (A2 left)) n may = either (n == left + 1) _ _ tt tt
   moves s seat lists (Acquiring a (A6 left)) n may = either (n == left + 1) _ _ tt tt
@@ -35,7 +35,7 @@ module _ (h : Stored) where
   moves s seat lists (ReleasingMany r M5) n may = by_wait (lists r.counter) _ _ tt (λ w. may)
   moves s seat lists (ReleasingMany r row) n may = tt
 
-  pub seat_fits : (s : ℕ) (seat : Seat) (lists : ℕ → List WaitId) (p : Place) (n : ℕ) (outcome : Option Outcome) → MayMove h p
+  pub seat_fits : (s : ℕ) (seat : SeatState) (lists : ℕ → List WaitId) (p : Place) (n : ℕ) (outcome : Option Outcome) → MayMove h p
       → Does (event_at s seat lists p) n outcome → IfSome outcome (λ o. HasSeat h o.effect)
   seat_fits s seat lists p n None may does = tt
   seat_fits s seat lists p n (Some o) may does = subst (HasSeat h) (sym does.effect) (moves s seat lists p n may)

@@ -11,8 +11,7 @@ use Rattle.step_table.specs.declared.word.Word.{Word}
 use Rattle.step_table.specs.declared.word.Word.TheVariants.{Counter, Lock, Waiters, Grant}
 use Rattle.step_table.specs.World.{Words, put, written}
 use Rattle.step_rows.specs.Stored.{Stored, Becomes, WordsBecome, ListsBecome, HandBecomes, Makes, each, words_of, hands_of, root_of}
-use Rattle.step_table.proofs.Sums.{put_here, put_else}
-use Rattle.step_table.proofs.Lines.{put_same}
+use Rattle.step_table.proofs.Sums.{put_here, put_else, put_same}
 
 -- a list of copies
 pub copies : {A : Type 0} (x : A) (n k : ℕ) → get_or (replicate n x) k x ≡ x

@@ -17,10 +17,10 @@ use Rattle.step_table.specs.declared.list_place.WaitRow.TheVariants.{W2, W4}
 use Rattle.step_rows.specs.declared.list_outcome.ListOutcome.{ListOutcome}
 use Rattle.step_rows.specs.declared.list_outcome.ListReady.{ListReady}
 use Rattle.step_rows.specs.declared.list_outcome.ListSight.{ListSight}
-use Rattle.step_rows.specs.declared.notify_list.SeatRecord.{SeatRecord}
+use Rattle.step_rows.specs.declared.list_machine.SeatRecord.{SeatRecord}
 use Rattle.step_table.specs.declared.refusal.StepRefused.{StepRefused}
 use Rattle.step_table.specs.declared.refusal.StepRefused.TheVariants.{LockHeld, Asleep}
-use Rattle.step_table.specs.Lawful.{total}
+use Rattle.step_table.specs.Counting.{total}
 use Rattle.step_table.specs.World.{put}
 use Rattle.step_table.specs.ListWorld.{ListWords, ListSeat, ListEntry, ListWorld, numbers_after}
 use Rattle.step_table.specs.ListWorld.{queue_after, hand_after, ticket_after, journal_after, first_list}

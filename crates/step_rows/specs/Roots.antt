@@ -6,7 +6,7 @@ use Rattle.sema_root.specs.Queues.{waits_on}
 use Rattle.sema_root.specs.Queues as held
 use Rattle.sema_root.specs.Tree.{leaf}
 use Rattle.sema_root.specs.Treap.{Treap, queues_of}
-use Rattle.step_table.specs.Lawful.{total}
+use Rattle.step_table.specs.Counting.{total}
 
 -- the list of each counter, and how many waits fit into each root
 pub record Queues : Type 0 where

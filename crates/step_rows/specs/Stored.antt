@@ -3,8 +3,8 @@ use Rattle.std.specs.Prelude.{◌≡◌, ℕ, ◌+◌, ◌^◌, ◌<◌, List, [
 use Rattle.std.specs.Prelude.{Bool, true, false, cond, ◌==◌, nat_lt}
 use Rattle.waiters.specs.declared.wait.WaitId.{WaitId}
 use Rattle.step_rows.specs.declared.caller.Caller.{Caller}
-use Rattle.step_rows.specs.declared.caller.Gate.{Gate}
-use Rattle.step_rows.specs.declared.caller.Gate.TheVariants.{Shut, Open, Unlocked, Granted}
+use Rattle.step_rows.specs.declared.caller.Guard.{Guard}
+use Rattle.step_rows.specs.declared.caller.Guard.TheVariants.{Shut, Open, Unlocked, Granted}
 use Rattle.step_table.specs.declared.entry.Entry.{Entry}
 use Rattle.step_table.specs.declared.entry.Entry.TheVariants.{Queue, Leave}
 use Rattle.step_table.specs.declared.effect.Effect.{Effect}
@@ -20,11 +20,11 @@ use Rattle.step_table.specs.declared.place.Place.TheVariants.{Rest, Acquiring, R
 use Rattle.step_rows.specs.declared.ready.Ready.{Ready}
 use Rattle.step_table.specs.declared.word.Word.{Word}
 use Rattle.step_table.specs.declared.word.Word.TheVariants.{Counter, Lock, Waiters, Grant}
-use Rattle.step_table.specs.World.{Words, Seat, World, root_number, put, found, lists_after, journal_after, turn_after, hand_after}
+use Rattle.step_table.specs.World.{Words, SeatState, SemaWorld, root_number, put, found, lists_after, journal_after, turn_after, hand_after}
 use Rattle.step_table.specs.Event.{Event}
 use Rattle.step_table.specs.Table.{event_at}
 use Rattle.step_table.specs.Steps.{words_after, event_of, finds, turned, moved}
-use Rattle.step_table.specs.Invariant.{IsWithin}
+use Rattle.step_table.specs.Counting.{IsWithin}
 use Rattle.step_rows.specs.Roots.{queued}
 
 -- the elements of a list by their places, and d past its end
@@ -108,10 +108,10 @@ abbrev pub idle : Caller
 idle = record { place = Rest; turn = 0 }
 
 -- the seat of the step table
-abbrev pub seat_of : Caller → List WaitId → Seat
+abbrev pub seat_of : Caller → List WaitId → SeatState
 seat_of caller hand = record { place = caller.place; turn = caller.turn; hand = hand }
 
-abbrev pub seats_of : List Caller → List (List WaitId) → ℕ → Seat
+abbrev pub seats_of : List Caller → List (List WaitId) → ℕ → SeatState
 seats_of callers hands s = seat_of (slice_index_or callers s idle) (each [] hands s)
 
 -- the words, lists and hands, and where each seat stands
@@ -120,7 +120,7 @@ pub record Semaphores : Type 0 where
   pub callers : List Caller
 
 -- their world, with this journal
-abbrev pub world_of : Semaphores → List Entry → World
+abbrev pub world_of : Semaphores → List Entry → SemaWorld
 world_of m journal = record { words = words_of m.stored; seats = seats_of m.callers m.stored.hands; journal = journal }
 
 -- the words are those of so many counters, with one for each group, roots, with one for each group, and seats
@@ -225,17 +225,17 @@ row_event s caller h hand = event_at s (seat_of caller hand) (words_of h).lists 
 abbrev pub row_finds : ℕ → Caller → Stored → List WaitId → ℕ
 row_finds s caller h hand = found (root_of h) (words_of h) (row_event s caller h hand).word
 
--- a seat s behind this gate can run its row
-abbrev pub lets_through : Stored → ℕ → Gate → Bool
+-- a seat s behind this guard can run its row
+abbrev pub lets_through : Stored → ℕ → Guard → Bool
 lets_through h s Shut = false
 lets_through h s Open = true
 lets_through h s (Unlocked c) = (words_of h).locks (root_of h c) == 0
 lets_through h s Granted = nat_lt 0 ((words_of h).grants s)
 
 -- its counter is one of so many
-abbrev pub HasGate : ℕ → Gate → Type 0
-HasGate counters (Unlocked c) = c < counters
-HasGate counters _ = Unit {0}
+abbrev pub HasGuard : ℕ → Guard → Type 0
+HasGuard counters (Unlocked c) = c < counters
+HasGuard counters _ = Unit {0}
 
 -- so many words and lists are stored that a row of this seat finds its own
 pub record HasRowsOf (h : Stored) (s : ℕ) (place : Place) (in_hand : Option WaitId) : Type 0 where
@@ -282,13 +282,13 @@ pub record HasRow (m : Semaphores) (s : ℕ) : Type 0 where
   pub turn : (slice_index_or m.callers s idle).turn + 1 < 2 ^ 64
 
 -- the row of the seat can run
-pub record CanRun (m : Semaphores) (s : ℕ) (ready : Ready) : Type 0 where
+pub record IsReadyFor (m : Semaphores) (s : ℕ) (ready : Ready) : Type 0 where
   pub there : slice_get m.callers s ≡ Some ready.caller
   pub turn : ready.caller.turn + 1 < 2 ^ 64
   pub row : IsReady m.stored s ready
 
 -- as many of everything, and the same roots
-pub record IsAlike (m n : Semaphores) : Type 0 where
+pub record IsSameSize (m n : Semaphores) : Type 0 where
   pub own : n.stored.own ≡ m.stored.own
   pub roots : n.stored.roots ≡ m.stored.roots
   pub numbers : length n.stored.numbers ≡ length m.stored.numbers
@@ -310,12 +310,12 @@ finds_in m s = finds (root_of m.stored) (world_of m []) s
 pub record HasTurned (m : Semaphores) (s : ℕ) (effect : Effect) (n : Semaphores) : Type 0 where
   pub effect_is : effect ≡ ((event_in m s).leads (finds_in m s)).1
   pub world : (journal : List Entry) → world_of n (journal_after effect journal) ≡ turned (root_of m.stored) (world_of m journal) s
-  pub alike : IsAlike m n
+  pub alike : IsSameSize m n
 
 -- seat s stands at another place
 pub record HasMoved (m : Semaphores) (s : ℕ) (place : Place) (n : Semaphores) : Type 0 where
   pub world : (journal : List Entry) → world_of n journal ≡ moved (world_of m journal) s place
-  pub alike : IsAlike m n
+  pub alike : IsSameSize m n
 
 -- the entry of an effect, if it has one
 abbrev pub entry_of : Effect → Option Entry

@@ -6,11 +6,11 @@ ghost use Rattle.waiters.specs.declared.wait.WaitId.{WaitId};
 ghost use Rattle.step_table.specs.World.{turn_after};
 ghost use Rattle.step_table.specs.Table.{event_at};
 ghost use Rattle.step_rows.specs.Stored.{Stored, HasRowsOf, HasWord, HasRoom, Does, IsListed, IsQueue, seat_of, words_of, idle};
-ghost use Rattle.step_rows.specs.Stored.{row_event, row_finds, lets_through, hands_of, hand_seen, lists_seen, HasGate};
-ghost use Rattle.step_table.specs.Invariant.{IsWithin};
+ghost use Rattle.step_rows.specs.Stored.{row_event, row_finds, lets_through, hands_of, hand_seen, lists_seen, HasGuard};
+ghost use Rattle.step_table.specs.Counting.{IsWithin};
 
 use crate::outcome::Outcome;
-use crate::shared::Shared;
+use crate::sema_store::SemaStore;
 use crate::sight::Sight;
 use crate::{acquire, release, release_many};
 use std::alloc::{AllocError, Global};
@@ -26,7 +26,7 @@ pub struct Caller {
 
 /// What a row has to find before it can run.
 #[derive(Clone, Copy, Debug, PartialEq, Eq, Drop)]
-pub enum Gate {
+pub enum Guard {
     /// No row is there.
     Shut,
     /// Whatever it finds, it runs.
@@ -39,25 +39,25 @@ pub enum Gate {
 
 impl Caller {
     /// What the row at which the seat stands has to find. It is told by the place alone.
-    pub fn gate(&self) -> Gate
-        ensures within { (counters : ℕ) → IsWithin counters self.now.place → HasGate counters result }
-        ensures gate { (seat : ℕ) (h : Stored) (hand : List WaitId)
+    pub fn guard(&self) -> Guard
+        ensures within { (counters : ℕ) → IsWithin counters self.now.place → HasGuard counters result }
+        ensures guard { (seat : ℕ) (h : Stored) (hand : List WaitId)
             → (row_event seat self.now h hand).can (row_finds seat self.now h hand) ≡ lets_through h seat result }
     {
         match self.place {
-            Place::Rest => Gate::Shut,
+            Place::Rest => Guard::Shut,
             Place::Acquiring(acquire, row) => match row {
-                AcquireRow::A3 => Gate::Unlocked(acquire.counter),
-                AcquireRow::P(_) => Gate::Granted,
-                _ => Gate::Open,
+                AcquireRow::A3 => Guard::Unlocked(acquire.counter),
+                AcquireRow::P(_) => Guard::Granted,
+                _ => Guard::Open,
             },
             Place::Releasing(release, row) => match row {
-                ReleaseRow::R3 => Gate::Unlocked(release.counter),
-                _ => Gate::Open,
+                ReleaseRow::R3 => Guard::Unlocked(release.counter),
+                _ => Guard::Open,
             },
             Place::ReleasingMany(release, row) => match row {
-                ManyRow::M3 => Gate::Unlocked(release.counter),
-                _ => Gate::Open,
+                ManyRow::M3 => Guard::Unlocked(release.counter),
+                _ => Guard::Open,
             },
         }
     }
@@ -80,7 +80,7 @@ impl Caller {
 
     /// What the row at which the seat stands sees. The list and the hand are looked up where that row looks at them
     /// alone, and are empty to it elsewhere.
-    pub fn sight(&self, seat: SeatId, shared: &Shared) -> Sight
+    pub fn sight(&self, seat: SeatId, shared: &SemaStore) -> Sight
         requires within { IsWithin (length shared.now.lists) self.now.place }
         requires hand { seat < length shared.now.hands }
         ensures listed { IsListed (lists_seen self.now.place (words_of shared.now).lists) self.now.place result.listed }

@@ -1,7 +1,7 @@
 //! The semaphores and the notify lists as words that rows read and write: the rows of the step table, as they run.
 //!
 //! [`Semaphores`] has the counters, their roots and the seats on them, and runs the rows of Go's `semacquire1` and
-//! `semrelease1`, and those of a release of many units; a [`NotifyList`] is Go's `notifyList`. Each row is one event of one
+//! `semrelease1`, and those of a release of many units; a [`ListMachine`] is Go's `notifyList`. Each row is one event of one
 //! word, and takes no memory. [`Semaphores::step`] runs a row where it can run; who has to know of it before it runs
 //! asks first (`ready`), and then runs it, which can't fail.
 #![tactic(auto)]
@@ -13,7 +13,7 @@ mod copying;
 mod key;
 mod list_outcome;
 mod list_rows;
-mod notify_list;
+mod list_machine;
 mod outcome;
 mod queues;
 mod ready;
@@ -21,7 +21,7 @@ mod release;
 mod release_many;
 mod seats;
 mod semaphores;
-mod shared;
+mod sema_store;
 mod sight;
 mod step;
 
@@ -29,7 +29,7 @@ pub use caller::Caller;
 pub use copying::copy_items;
 pub use key::{write_begun, write_group, write_standing};
 pub use list_outcome::ListReady;
-pub use notify_list::NotifyList;
+pub use list_machine::ListMachine;
 pub use outcome::{Outcome, entry_of};
 pub use ready::Ready;
 pub use semaphores::Semaphores;

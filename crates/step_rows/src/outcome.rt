@@ -57,11 +57,11 @@ pub fn exchange(found: u64, left: u64, won: (Place, Entry), lost: Place) -> Opti
 
 /// The waiter's grant word becomes this, its wait leaves the hand, and the seat goes there.
 pub fn grants(becomes: u64, place: Place) -> Option<Outcome>
-    ensures { result ≡ Some (record { becomes = becomes; place = place; effect = Effect.Grants }) }
+    ensures { result ≡ Some (record { becomes = becomes; place = place; effect = Effect.Wakes }) }
 {
     Some(Outcome {
         becomes,
         place,
-        effect: Effect::Grants,
+        effect: Effect::Wakes,
     })
 }

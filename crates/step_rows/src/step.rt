@@ -4,10 +4,10 @@ ghost use Rattle.std.specs.Prelude.{◌≡◌, ◌<◌, ◌+◌, ◌^◌, ◌↔
 ghost use Rattle.step_rows.specs.Stored.{hands_of, HasWord, HasRoom, HasSeat, Makes, Does};
 ghost use Rattle.step_rows.specs.Stored.{HasRowsOf, row_event, row_finds, IsReady, HasRun, IsRowRefusedBy, refused_by};
 
-use crate::caller::{Caller, Gate};
+use crate::caller::{Caller, Guard};
 use crate::outcome::Outcome;
 use crate::ready::Ready;
-use crate::shared::Shared;
+use crate::sema_store::SemaStore;
 use step_table::{Effect, Entry, StepRefused, Word};
 use waiters::SeatId;
 
@@ -22,7 +22,7 @@ pub fn refused_by(word: &Word) -> StepRefused
 }
 
 /// Makes an entry's change of the lists and of the seat's hand.
-fn change(shared: &mut Shared, seat: SeatId, entry: &Entry)
+fn apply_entry(shared: &mut SemaStore, seat: SeatId, entry: &Entry)
     requires there { seat < length shared.old.hands }
     requires room { HasRoom (length shared.old.lists) (Effect.Tells entry.now) }
     requires fits { HasSeat shared.old (Effect.Tells entry.now) }
@@ -40,7 +40,7 @@ fn change(shared: &mut Shared, seat: SeatId, entry: &Entry)
 
 /// Makes an effect's change of the lists and of the seat's hand.
 #[inline(always)]
-fn make(shared: &mut Shared, seat: SeatId, effect: &Effect)
+fn apply_effect(shared: &mut SemaStore, seat: SeatId, effect: &Effect)
     requires there { seat < length shared.old.hands }
     requires room { HasRoom (length shared.old.lists) effect.now }
     requires fits { HasSeat shared.old effect.now }
@@ -48,15 +48,15 @@ fn make(shared: &mut Shared, seat: SeatId, effect: &Effect)
 {
     match effect {
         Effect::Nothing => {}
-        Effect::Grants => shared.let_go(seat),
-        Effect::Tells(entry) => change(shared, seat, entry),
+        Effect::Wakes => shared.let_go(seat),
+        Effect::Tells(entry) => apply_entry(shared, seat, entry),
     }
 }
 
 /// The word of the row at which the seat stands, and what the row does; `None` where its condition doesn't hold.
 // A body of its own: within its callers, what it answers would be moved once more.
 #[inline(never)]
-pub fn look(shared: &Shared, seat: SeatId, caller: &Caller) -> (Word, Option<Outcome>)
+pub fn look(shared: &SemaStore, seat: SeatId, caller: &Caller) -> (Word, Option<Outcome>)
     requires rows { HasRowsOf shared.now seat caller.now.place (slice_get (hands_of shared.now seat) 0) }
     requires fits { row_finds seat caller.now shared.now (hands_of shared.now seat) + 2 ^ 32 < 2 ^ 64 }
     ensures word { result.0 ≡ (row_event seat caller.now shared.now (hands_of shared.now seat)).word }
@@ -73,7 +73,7 @@ pub fn look(shared: &Shared, seat: SeatId, caller: &Caller) -> (Word, Option<Out
 }
 
 /// The row at which the seat stands, if it can run, or why it can't.
-pub fn ready(shared: &Shared, seat: SeatId, caller: &Caller) -> Result<Ready, StepRefused>
+pub fn ready(shared: &SemaStore, seat: SeatId, caller: &Caller) -> Result<Ready, StepRefused>
     requires rows { HasRowsOf shared.now seat caller.now.place (slice_get (hands_of shared.now seat) 0) }
     requires fits { row_finds seat caller.now shared.now (hands_of shared.now seat) + 2 ^ 32 < 2 ^ 64 }
     ensures ok { IfOk result (λ ready. IsReady shared.now seat ready) }
@@ -93,23 +93,23 @@ pub fn ready(shared: &Shared, seat: SeatId, caller: &Caller) -> Result<Ready, St
 }
 
 /// Whether the row can run at which the seat stands. No more is read than the one word that tells.
-pub fn can_run(shared: &Shared, seat: SeatId, caller: &Caller) -> bool
+pub fn can_run(shared: &SemaStore, seat: SeatId, caller: &Caller) -> bool
     requires { HasRowsOf shared.now seat caller.now.place (slice_get (hands_of shared.now seat) 0) }
     ensures { IsTrue result ↔ IsTrue ((row_event seat caller.now shared.now (hands_of shared.now seat)).can
         (row_finds seat caller.now shared.now (hands_of shared.now seat))) }
 {
-    match caller.gate() {
-        Gate::Shut => false,
-        Gate::Open => true,
-        Gate::Unlocked(counter) => shared.read(&Word::Lock(counter)) == 0,
-        Gate::Granted => shared.grant(seat) != 0,
+    match caller.guard() {
+        Guard::Shut => false,
+        Guard::Open => true,
+        Guard::Unlocked(counter) => shared.read(&Word::Lock(counter)) == 0,
+        Guard::Granted => shared.grant(seat) != 0,
     }
 }
 
 /// Runs a row that can run, and says where its seat stands then.
 #[inline(always)]
 pub fn run_row(
-    shared: &mut Shared,
+    shared: &mut SemaStore,
     seat: SeatId,
     caller: &Caller,
     word: &Word,
@@ -119,7 +119,7 @@ pub fn run_row(
     requires turn { caller.now.turn + 1 < 2 ^ 64 }
     ensures { HasRun seat caller.now shared.old (hands_of shared.old seat) outcome.now.effect shared.new result }
 {
-    make(shared, seat, &outcome.effect);
+    apply_effect(shared, seat, &outcome.effect);
     shared.write(*word, outcome.becomes);
     caller.after(outcome)
 }

@@ -1,10 +1,12 @@
 -- Sums over seats and counters, and functions with one value changed.
 use Rattle.std.proofs.Common.{◌≡◌, ℕ, zero, suc, ◌+◌, ◌<◌, ◌≤◌, ◌≢◌, ◌⊎◌, Bool, true, false, cond, List, [], ◌∷◌, ◌++◌, length, refl, sym, ap, ◌∙◌, inl, inr, eq-eqb, ne_eqb, arith}
+use mathlib.Core.Path.{fun_ext}
 use native.Mathlib.Decide.{ℕ_discrete}
 use Rattle.waiters.specs.declared.wait.WaitId.{WaitId}
-use Rattle.step_table.specs.World.{put, insert_wait}
-use Rattle.step_table.specs.Journal.{on, same}
-use Rattle.step_table.specs.Lawful.{total, times}
+use Rattle.step_table.specs.declared.word.Word.{Word}
+use Rattle.step_table.specs.declared.word.Word.TheVariants.{Counter, Lock, Waiters, Grant}
+use Rattle.step_table.specs.World.{Words, put, insert_wait, found, written}
+use Rattle.step_table.specs.Counting.{on, same, total, times}
 
 pub put_here : {A : Type 0} (f : ℕ → A) (i : ℕ) (x : A) → put f i x i ≡ x
 unfolding put
@@ -237,3 +239,25 @@ lists_change f counters c lists l h =
     let a : total counters (λ d. f (put lists c l d)) + f (lists c) ≡ total counters (λ d. f (lists d)) + f (put lists c l c)
     = total_change counters (λ d. f (lists d)) (λ d. f (put lists c l d)) c h (λ k ne. ap f (put_else lists c l k ne)) in
     let b = ap f (put_here lists c l) in omega arith
+
+pub put_same : {A : Type 0} (f : ℕ → A) (i : ℕ) → put f i (f i) ≡ f
+put_same f i = fun_ext (λ k. by k (ℕ_discrete k i))
+  where
+    by : (k : ℕ) → Dec (k ≡ i) → put f i (f i) k ≡ f k
+    by k (yes e) = rw e (put_here f i (f i))
+    by k (no ne) = put_else f i (f i) k ne
+
+-- a load writes back what it found
+pub unwritten : (root : ℕ → ℕ) (g : Words) (w : Word) → written root g w (found root g w) ≡ g
+unwritten root g (Counter c) = λ k. record g { numbers = put_same g.numbers c k }
+unwritten root g (Lock c) = λ k. record g { locks = put_same g.locks (root c) k }
+unwritten root g (Waiters c) = λ k. record g { waiters = put_same g.waiters (root c) k }
+unwritten root g (Grant s) = λ k. record g { grants = put_same g.grants s k }
+
+-- two numbers at which something counts are one
+pub on_some : (a b n : ℕ) → 0 < on a b n → (a ≡ b) × (0 < n)
+on_some a b n h = by (ℕ_discrete a b)
+  where
+    by : Dec (a ≡ b) → (a ≡ b) × (0 < n)
+    by (yes q) = (q, (let e = on_here b n in let f = ap (λ z. on z b n) q in omega arith))
+    by (no ne) = let e = on_else a b n ne in absurd (omega arith)

@@ -8,7 +8,7 @@ use Rattle.step_table.specs.declared.standing.GroupNext.{GroupNext}
 use Rattle.step_table.specs.declared.standing.GroupRow.{GroupRow}
 use Rattle.step_table.specs.declared.standing.GroupRow.TheVariants.{G1, G2, G3, V1, V2, V3}
 use Rattle.step_table.specs.declared.standing.Standing.TheVariants.{AtGroup}
-use Rattle.step_table.specs.World.{World}
+use Rattle.step_table.specs.World.{SemaWorld}
 use Rattle.step_table.specs.declared.word.Word.TheVariants as on_counters
 use Rattle.step_table.specs.declared.list_place.ListWord.TheVariants as on_lists
 use Rattle.step_table.proofs.Sums.{put_here}
@@ -22,18 +22,18 @@ use Rattle.step_table.specs.CoreSteps.{group_event_of, group_rules, row_of_stand
 use Rattle.step_table.specs.Turn.{Rules, turned, TurnOf, LeadsBy, none, more}
 
 -- a rule that each step keeps holds wherever steps lead
-pub steps_keep : {World : Type 0} (Step : World → ℕ → World → Type 0) (seats : ℕ) (Rule : World → Type 0)
-    → ((s t : World) (i : ℕ) → i < seats → Rule s → Step s i t → Rule t) → (s t : World) → LeadsBy Step seats s t → Rule s → Rule t
+pub steps_keep : {SemaWorld : Type 0} (Step : SemaWorld → ℕ → SemaWorld → Type 0) (seats : ℕ) (Rule : SemaWorld → Type 0)
+    → ((s t : SemaWorld) (i : ℕ) → i < seats → Rule s → Step s i t → Rule t) → (s t : SemaWorld) → LeadsBy Step seats s t → Rule s → Rule t
 steps_keep Step seats Rule kept s t none rule = rule
 steps_keep Step seats Rule kept s t (more {t = r} i in_range before step) rule =
     kept r t i in_range (steps_keep Step seats Rule kept s r before rule) step
 
-module _ {World Word Value Next : Type 0} (r : Rules World Word Value Next) where
-  pub sole : (s t u : World) (i : ℕ) → TurnOf r s i t → TurnOf r s i u → t ≡ u
+module _ {SemaWorld Word Value Next : Type 0} (r : Rules SemaWorld Word Value Next) where
+  pub sole : (s t u : SemaWorld) (i : ℕ) → TurnOf r s i t → TurnOf r s i u → t ≡ u
   sole s t u i a b = a.is ∙ sym b.is
 
   -- an atomic step that equals the event of the seat's row: this was found in this word, and left there
-  pub record IsAtomicRow (s : World) (i : ℕ) (w : Word) (v x : Value) (next : Next) : Type 0 where
+  pub record IsAtomicRow (s : SemaWorld) (i : ℕ) (w : Word) (v x : Value) (next : Next) : Type 0 where
     pub word : (r.event_of s i).word ≡ w
     pub found : v ≡ r.found s w
     pub can : IsTrue ((r.event_of s i).can v)
@@ -41,7 +41,7 @@ module _ {World Word Value Next : Type 0} (r : Rules World Word Value Next) wher
     pub leads : next ≡ (r.event_of s i).leads v
 
   -- it is the row's turn
-  pub atomic_turn : (s : World) (i : ℕ) (w : Word) (v x : Value) (next : Next) → IsAtomicRow s i w v x next
+  pub atomic_turn : (s : SemaWorld) (i : ℕ) (w : Word) (v x : Value) (next : Next) → IsAtomicRow s i w v x next
       → TurnOf r s i (r.after s i w x next)
   atomic_turn s i w v x next a = record {
     can = subst (λ y. IsTrue ((r.event_of s i).can y)) is_found a.can;
@@ -52,16 +52,16 @@ module _ {World Word Value Next : Type 0} (r : Rules World Word Value Next) wher
       is_found = a.found ∙ ap (r.found s) (sym a.word)
 
   -- and so it keeps each rule that turns keep
-  pub atomic_keeps : (Rule : World → Type 0) → ((s t : World) (i : ℕ) → Rule s → TurnOf r s i t → Rule t)
-      → (s : World) (i : ℕ) (w : Word) (v x : Value) (next : Next) → IsAtomicRow s i w v x next → Rule s → Rule (r.after s i w x next)
+  pub atomic_keeps : (Rule : SemaWorld → Type 0) → ((s t : SemaWorld) (i : ℕ) → Rule s → TurnOf r s i t → Rule t)
+      → (s : SemaWorld) (i : ℕ) (w : Word) (v x : Value) (next : Next) → IsAtomicRow s i w v x next → Rule s → Rule (r.after s i w x next)
   atomic_keeps Rule kept s i w v x next a rule = kept s (r.after s i w x next) i rule (atomic_turn s i w v x next a)
 
 -- of semaphores, lists and groups
-abbrev IsSemaphoreRow : (ℕ → ℕ) → World → ℕ → Word → ℕ → ℕ → Next → Type 0
+abbrev IsSemaphoreRow : (ℕ → ℕ) → SemaWorld → ℕ → Word → ℕ → ℕ → Next → Type 0
 IsSemaphoreRow root = IsAtomicRow (rules root)
 
-semaphores_keep : (root : ℕ → ℕ) (Rule : World → Type 0) → ((s t : World) (i : ℕ) → Rule s → TurnOf (rules root) s i t → Rule t)
-    → (s : World) (i : ℕ) (w : Word) (v x : ℕ) (next : Next) → IsSemaphoreRow root s i w v x next → Rule s → Rule ((rules root).after s i w x next)
+semaphores_keep : (root : ℕ → ℕ) (Rule : SemaWorld → Type 0) → ((s t : SemaWorld) (i : ℕ) → Rule s → TurnOf (rules root) s i t → Rule t)
+    → (s : SemaWorld) (i : ℕ) (w : Word) (v x : ℕ) (next : Next) → IsSemaphoreRow root s i w v x next → Rule s → Rule ((rules root).after s i w x next)
 semaphores_keep root = atomic_keeps (rules root)
 
 lists_keep : (Rule : ListWorld → Type 0) → ((s t : ListWorld) (i : ℕ) → Rule s → TurnOf list_rules s i t → Rule t)
@@ -91,7 +91,7 @@ group_turn m s i g row is = rw is (by row)
     by V3 = refl
 
 -- what is written in a word is found there
-ReadsBack : {World Word Value Next : Type 0} → Rules World Word Value Next → Type 0
+ReadsBack : {SemaWorld Word Value Next : Type 0} → Rules SemaWorld Word Value Next → Type 0
 ReadsBack r = (s : _) (i : ℕ) (w : _) (x : _) (next : _) → r.found (r.after s i w x next) w ≡ x
 
 semaphores_read_back : (root : ℕ → ℕ) → ReadsBack (rules root)

@@ -8,7 +8,7 @@ use Rattle.step_table.specs.declared.list_place.ListEffect.{ListEffect}
 use Rattle.step_table.specs.declared.list_place.ListEffect.TheVariants.{HandsOut, Grants}
 use Rattle.step_table.specs.declared.standing.Standing.{Standing}
 use Rattle.step_table.specs.declared.standing.Standing.TheVariants as doing
-use Rattle.step_table.specs.World.{Layout, World, first_world}
+use Rattle.step_table.specs.World.{Layout, SemaWorld, first_world}
 use Rattle.step_table.specs.ListWorld.{ListEntry, Took, Granted, ListWorld, first_list}
 use Rattle.step_table.specs.Group.{empty_word}
 
@@ -33,7 +33,7 @@ counters_of m = record { counters = m.counters + m.groups; seats = m.seats; root
 
 -- each part has its own journal, which is the part of the whole one that tells of it
 pub record Core : Type 0 where
-  pub semaphores : World
+  pub semaphores : SemaWorld
   pub lists : ℕ → ListWorld
   pub groups : ℕ → GroupWord
   pub standing : ℕ → Standing

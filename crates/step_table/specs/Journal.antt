@@ -4,6 +4,7 @@ use Rattle.waiters.specs.declared.wait.WaitId.{WaitId}
 use Rattle.step_table.specs.declared.entry.Entry.{Entry}
 use Rattle.step_table.specs.declared.entry.Entry.TheVariants.{Add, AddMany, Take, Queue, Leave}
 use Rattle.step_table.specs.World.{Words, put, listed}
+use Rattle.step_table.specs.Counting.{on, same}
 
 -- each counter has a number and a list of waits
 pub record Plain : Type 0 where
@@ -37,10 +38,6 @@ IsDefined (Take c s) x = 0 < x.numbers c
 IsDefined (Leave c w s) x = (l : List WaitId) × (x.lists c ≡ w ∷ l)
 IsDefined _ x = Unit {0}
 
--- n where the two numbers are one, and else 0
-unfoldable pub on : ℕ → ℕ → ℕ → ℕ
-on a b n = cond (eqb a b) n 0
-
 -- what a seat may still take out: the counter of its last release, and that release's units less the waits taken out since
 pub record Budget : Type 0 where
   pub counter : ℕ
@@ -68,10 +65,6 @@ Owes s c m journal = ((budget s journal).counter ≡ c) × (m ≤ (budget s jour
 abbrev pub IsOwned : Entry → List Entry → Type 0
 IsOwned (Leave c w s) before = Owes s c 1 before
 IsOwned _ before = Unit {0}
-
--- 1 where the two are one wait
-abbrev pub same : WaitId → WaitId → ℕ
-same w x = on w.seat x.seat (on w.turn x.turn 1)
 
 -- how often a wait was queued, and how often it has left
 abbrev pub queued : WaitId → List Entry → ℕ

@@ -2,7 +2,7 @@
 use Rattle.std.specs.Prelude.{ℕ, if◌then◌else◌, List}
 use Rattle.waiters.specs.declared.wait.WaitId.{WaitId}
 use Rattle.step_table.specs.declared.entry.Entry.TheVariants.{Add, Take, Leave}
-use Rattle.step_table.specs.declared.effect.Effect.TheVariants.{Tells, Grants}
+use Rattle.step_table.specs.declared.effect.Effect.TheVariants.{Tells, Wakes}
 use Rattle.step_table.specs.declared.place.Release.{Release}
 use Rattle.step_table.specs.declared.place.ReleaseRow.{ReleaseRow}
 use Rattle.step_table.specs.declared.place.ReleaseRow.TheVariants.{R1, R2, R3, R4, R5, R6, R7, R8, R9, R10}
@@ -27,5 +27,5 @@ release_event s hand list r R6 =
 release_event s hand list r R7 = load (Counter r.counter) (λ v. to (zero_or (Releasing r R10) (λ left. Releasing r (R8 left)) v))
 release_event s hand list r (R8 left) =
     exchange (Counter r.counter) left (Releasing r R9, Tells (Take r.counter (waiter s hand))) (to (Releasing r R7))
-release_event s hand list r R9 = store (Grant (waiter s hand)) 2 (Rest, Grants)
-release_event s hand list r R10 = store (Grant (waiter s hand)) 1 (Rest, Grants)
+release_event s hand list r R9 = store (Grant (waiter s hand)) 2 (Rest, Wakes)
+release_event s hand list r R10 = store (Grant (waiter s hand)) 1 (Rest, Wakes)

@@ -2,7 +2,7 @@
 use Rattle.std.specs.Prelude.{ℕ, ◌+◌, nat_lt, ◌&&◌, if◌then◌else◌, List, length}
 use Rattle.waiters.specs.declared.wait.WaitId.{WaitId}
 use Rattle.step_table.specs.declared.entry.Entry.TheVariants.{AddMany, Leave}
-use Rattle.step_table.specs.declared.effect.Effect.TheVariants.{Tells, Grants}
+use Rattle.step_table.specs.declared.effect.Effect.TheVariants.{Tells, Wakes}
 use Rattle.step_table.specs.declared.place.ReleaseMany.{ReleaseMany}
 use Rattle.step_table.specs.declared.place.ManyRow.{ManyRow}
 use Rattle.step_table.specs.declared.place.ManyRow.TheVariants.{M1, M2, M3, M4, M5, M6, M7}
@@ -30,4 +30,4 @@ release_many_event s hand list r M5 =
     (by_first list (to (ReleasingMany r M6)) (λ w. (after_leave r (length hand) (length list), Tells (Leave r.counter w s))))
 release_many_event s hand list r M6 = give_lock (Lock r.counter) (to (by_first hand Rest (λ w. ReleasingMany r M7)))
 release_many_event s hand list r M7 =
-    store (Grant (waiter s hand)) 1 (if nat_lt 1 (length hand) then ReleasingMany r M7 else Rest, Grants)
+    store (Grant (waiter s hand)) 1 (if nat_lt 1 (length hand) then ReleasingMany r M7 else Rest, Wakes)

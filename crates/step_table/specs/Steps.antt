@@ -9,7 +9,7 @@ use Rattle.step_table.specs.declared.place.ManyRow.TheVariants.{M1}
 use Rattle.step_table.specs.declared.place.Place.{Place}
 use Rattle.step_table.specs.declared.place.Place.TheVariants.{Rest, Acquiring, Releasing, ReleasingMany}
 use Rattle.step_table.specs.declared.word.Word.{Word}
-use Rattle.step_table.specs.World.{Layout, Words, World, put, found, written, lists_after, journal_after, seat_after, first_world}
+use Rattle.step_table.specs.World.{Layout, Words, SemaWorld, put, found, written, lists_after, journal_after, seat_after, first_world}
 use Rattle.step_table.specs.Event.{Event, Next}
 use Rattle.step_table.specs.Turn.{Rules, TurnOf, LeadsBy, IsEndOf}
 use Rattle.step_table.specs.Turn as turns
@@ -24,11 +24,11 @@ abbrev pub words_after : (ℕ → ℕ) → Words → Event → ℕ → Words
 words_after root g e v = words_with root g e.word (e.becomes v) (e.leads v)
 
 -- the event of seat i
-abbrev pub event_of : World → ℕ → Event
+abbrev pub event_of : SemaWorld → ℕ → Event
 event_of s i = table i (s.seats i) s.words.lists
 
 -- the world after seat i wrote x in this word
-abbrev pub after : (ℕ → ℕ) → World → ℕ → Word → ℕ → Next → World
+abbrev pub after : (ℕ → ℕ) → SemaWorld → ℕ → Word → ℕ → Next → SemaWorld
 after root s i w x next =
     record {
       words = words_with root s.words w x next;
@@ -36,23 +36,23 @@ after root s i w x next =
       journal = journal_after next.1 s.journal;
     }
 
-abbrev pub rules : (ℕ → ℕ) → Rules World Word ℕ Next
+abbrev pub rules : (ℕ → ℕ) → Rules SemaWorld Word ℕ Next
 rules root = record { event_of = event_of; found = λ s. found root s.words; after = after root }
 
-abbrev pub finds : (ℕ → ℕ) → World → ℕ → ℕ
+abbrev pub finds : (ℕ → ℕ) → SemaWorld → ℕ → ℕ
 finds root = turns.finds (rules root)
 
-abbrev pub can_turn : (ℕ → ℕ) → World → ℕ → Bool
+abbrev pub can_turn : (ℕ → ℕ) → SemaWorld → ℕ → Bool
 can_turn root = turns.can_turn (rules root)
 
-abbrev pub turned : (ℕ → ℕ) → World → ℕ → World
+abbrev pub turned : (ℕ → ℕ) → SemaWorld → ℕ → SemaWorld
 turned root = turns.turned (rules root)
 
-abbrev pub Turn : (ℕ → ℕ) → World → ℕ → World → Type 0
+abbrev pub Turn : (ℕ → ℕ) → SemaWorld → ℕ → SemaWorld → Type 0
 Turn root = TurnOf (rules root)
 
 -- the seat i at another place
-abbrev pub moved : World → ℕ → Place → World
+abbrev pub moved : SemaWorld → ℕ → Place → SemaWorld
 moved s i place = record s { seats = put s.seats i (record (s.seats i) { place = place }) }
 
 -- what a caller may choose: to begin an acquire, at its first row or at the lock, a release, or a release of 1 to 256 units;
@@ -68,14 +68,14 @@ pub data Choice (counters : ℕ) : Place → Place → Type 0 where
   decide : (r : Release) (handoff : Bool) → Choice counters (Releasing r R3) (Releasing (record r { handoff = handoff }) R3)
 
 -- one step of seat i: a row, or a choice of its caller
-pub data Step (m : Layout) (s : World) (i : ℕ) : World → Type 0 where
-  turn : {t : World} → Turn m.root s i t → Step m s i t
+pub data Step (m : Layout) (s : SemaWorld) (i : ℕ) : SemaWorld → Type 0 where
+  turn : {t : SemaWorld} → Turn m.root s i t → Step m s i t
   choose : {place : Place} → Choice m.counters (s.seats i).place place → Step m s i (moved s i place)
 
 -- the worlds to which steps of the seats lead
-abbrev pub IsReached : Layout → World → Type 0
+abbrev pub IsReached : Layout → SemaWorld → Type 0
 IsReached m = LeadsBy (Step m) m.seats (first_world m.starts)
 
 -- no seat can run a row
-abbrev pub IsEnd : Layout → World → Type 0
+abbrev pub IsEnd : Layout → SemaWorld → Type 0
 IsEnd m = IsEndOf (rules m.root) m.seats

@@ -4,7 +4,7 @@ use Rattle.waiters.specs.declared.wait.WaitId.{WaitId}
 use Rattle.step_table.specs.declared.entry.Entry.{Entry}
 use Rattle.step_table.specs.declared.entry.Entry.TheVariants.{Queue, Leave}
 use Rattle.step_table.specs.declared.effect.Effect.{Effect}
-use Rattle.step_table.specs.declared.effect.Effect.TheVariants.{Tells, Grants}
+use Rattle.step_table.specs.declared.effect.Effect.TheVariants.{Tells, Wakes}
 use Rattle.step_table.specs.declared.place.Place.{Place}
 use Rattle.step_table.specs.declared.place.Place.TheVariants.{Rest}
 use Rattle.step_table.specs.declared.word.Word.{Word}
@@ -31,14 +31,14 @@ pub record Words : Type 0 where
   pub lists : ℕ → List WaitId
 
 -- where a seat stands, how many waits it has queued, and the waits that it has taken out and not granted
-pub record Seat : Type 0 where
+pub record SeatState : Type 0 where
   pub place : Place
   pub turn : ℕ
   pub hand : List WaitId
 
-pub record World : Type 0 where
+pub record SemaWorld : Type 0 where
   pub words : Words
-  pub seats : ℕ → Seat
+  pub seats : ℕ → SeatState
   pub journal : List Entry
 
 -- f with x at i
@@ -87,14 +87,14 @@ turn_after _ turn = turn
 -- what it has in hand
 abbrev pub hand_after : Effect → List WaitId → List WaitId
 hand_after (Tells (Leave c w s)) hand = hand ++ w ∷ []
-hand_after Grants hand = drop 1 hand
+hand_after Wakes hand = drop 1 hand
 hand_after _ hand = hand
 
-abbrev pub seat_after : Effect → Place → Seat → Seat
+abbrev pub seat_after : Effect → Place → SeatState → SeatState
 seat_after effect place seat = record { place = place; turn = turn_after effect seat.turn; hand = hand_after effect seat.hand }
 
 -- the world in which all seats are at rest and nothing has happened
-abbrev pub first_world : (ℕ → ℕ) → World
+abbrev pub first_world : (ℕ → ℕ) → SemaWorld
 first_world starts =
     record {
       words = record { numbers = starts; locks = λ r. 0; waiters = λ r. 0; grants = λ s. 0; lists = λ c. [] };

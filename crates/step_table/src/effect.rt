@@ -8,5 +8,5 @@ pub enum Effect {
     /// The journal tells it, and the lists and the seat's hand change as it says.
     Tells(Entry),
     /// The first wait in the seat's hand was granted, and leaves the hand.
-    Grants,
+    Wakes,
 }

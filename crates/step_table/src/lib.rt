@@ -1,8 +1,8 @@
-//! The step table of the sleeping layer, as definitions and types, and its laws.
+//! The step table of the sleeping layer, as definitions and types.
 //!
 //! A row is one event of one word. The rows are those of Go's `semacquire1`, `semrelease1`, `notifyList` and `WaitGroup`,
 //! and those of a release of many units at once. What is promised of them holds for every interleaving, and is carried by
-//! the laws: nothing here runs.
+//! the laws, which have crates of their own. Nothing here runs.
 #![tactic(auto)]
 
 mod call;
@@ -11,7 +11,6 @@ mod entry;
 mod group_id;
 mod group_word;
 mod items;
-mod laws;
 mod limits;
 mod list_id;
 mod list_place;
@@ -23,7 +22,6 @@ mod refusal;
 mod row;
 mod standing;
 mod ticket_word;
-mod variant;
 mod word;
 
 pub use call::Call;
@@ -32,9 +30,6 @@ pub use entry::Entry;
 pub use group_id::GroupId;
 pub use group_word::GroupWord;
 pub use items::Items;
-pub use laws::{
-    law_of_the_alike, law_of_the_commuting, law_of_the_core, law_of_the_lists, law_of_the_rows,
-};
 pub use limits::{
     MAX_CALLS, MAX_COUNTERS, MAX_GROUPS, MAX_LISTS, MAX_ROOTS, MAX_SEATS, MAX_UNITS, MIN_UNITS,
 };
@@ -48,5 +43,4 @@ pub use refusal::{RunRefused, ScenarioRefused, StepRefused};
 pub use row::Row;
 pub use standing::{After, GroupNext, GroupRow, Standing};
 pub use ticket_word::{less, minus, next_word};
-pub use variant::Variant;
 pub use word::Word;

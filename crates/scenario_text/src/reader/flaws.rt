@@ -8,7 +8,7 @@ ghost use Rattle.scenario_text.specs.Reader.{flaw_of};
 
 use crate::read_fault::Cause;
 use crate::reader::call::{Change, SpelledCall};
-use crate::reader::kind::{Kind, count, count_later};
+use crate::reader::kind::{LineKind, count, count_later};
 use crate::reader::line::Line;
 use crate::reader::tickets::misuses_ticket;
 use step_table::{
@@ -40,15 +40,15 @@ pub(crate) fn flaw(before: &[Line], line: &Line) -> Option<Cause>
 fn is_early_property(before: &[Line]) -> bool
     ensures { result ≡ causes.is_early_property (map line_of before.now) }
 {
-    count(before, Kind::Seat) == 0 || count(before, Kind::Property) > 0
+    count(before, LineKind::Seat) == 0 || count(before, LineKind::Property) > 0
 }
 
 fn is_out_of_turn(before: &[Line], line: &Line) -> bool
     ensures { result ≡ causes.is_out_of_turn (map line_of before.now) (line_of line.now) }
 {
     match line {
-        Line::Roots(_) => count(before, Kind::Roots) > 0,
-        Line::Seat(number, _) => *number != count(before, Kind::Seat) as u128,
+        Line::Roots(_) => count(before, LineKind::Roots) > 0,
+        Line::Seat(number, _) => *number != count(before, LineKind::Seat) as u128,
         Line::Settled | Line::Value(_, _) | Line::NoMisuse => is_early_property(before),
         _ => false,
     }
@@ -57,7 +57,7 @@ fn is_out_of_turn(before: &[Line], line: &Line) -> bool
 fn is_misplaced(before: &[Line], line: &Line) -> bool
     ensures { result ≡ causes.is_misplaced (map line_of before.now) (line_of line.now) }
 {
-    count_later(before, Kind::of(line)) > 0 || is_out_of_turn(before, line)
+    count_later(before, LineKind::of(line)) > 0 || is_out_of_turn(before, line)
 }
 
 fn is_wide(call: &SpelledCall) -> bool
@@ -95,15 +95,15 @@ fn is_too_many(before: &[Line], line: &Line) -> bool
     ensures { result ≡ causes.is_too_many (map line_of before.now) (line_of line.now) }
 {
     match line {
-        Line::Counter(_) => count(before, Kind::Counter) >= MAX_COUNTERS,
-        Line::NotifyList(_) => count(before, Kind::NotifyList) >= MAX_LISTS,
-        Line::Group => count(before, Kind::Group) >= MAX_GROUPS as usize,
-        Line::Seat(_, calls) => count(before, Kind::Seat) >= MAX_SEATS || calls.len() > MAX_CALLS,
+        Line::Counter(_) => count(before, LineKind::Counter) >= MAX_COUNTERS,
+        Line::NotifyList(_) => count(before, LineKind::NotifyList) >= MAX_LISTS,
+        Line::Group => count(before, LineKind::Group) >= MAX_GROUPS as usize,
+        Line::Seat(_, calls) => count(before, LineKind::Seat) >= MAX_SEATS || calls.len() > MAX_CALLS,
         _ => false,
     }
 }
 
-fn is_missing(before: &[Line], kind: Kind, number: u128) -> bool
+fn is_missing(before: &[Line], kind: LineKind, number: u128) -> bool
     ensures { result ≡ causes.is_missing (map line_of before.now) kind number }
 {
     number >= count(before, kind) as u128
@@ -117,13 +117,13 @@ fn names_missing(before: &[Line], call: &SpelledCall) -> bool
         | SpelledCall::AcquireLifo(counter)
         | SpelledCall::Release(counter)
         | SpelledCall::ReleaseHandoff(counter)
-        | SpelledCall::ReleaseMany(counter, _) => is_missing(before, Kind::Counter, *counter),
+        | SpelledCall::ReleaseMany(counter, _) => is_missing(before, LineKind::Counter, *counter),
         SpelledCall::Add(list)
         | SpelledCall::Wait(list)
         | SpelledCall::One(list)
-        | SpelledCall::All(list) => is_missing(before, Kind::NotifyList, *list),
+        | SpelledCall::All(list) => is_missing(before, LineKind::NotifyList, *list),
         SpelledCall::GroupAdd(group, _) | SpelledCall::GroupWait(group) => {
-            is_missing(before, Kind::Group, *group)
+            is_missing(before, LineKind::Group, *group)
         }
     }
 }
@@ -139,7 +139,7 @@ fn is_undeclared(before: &[Line], line: &Line) -> bool
 {
     match line {
         Line::Seat(_, calls) => is_any_missing(before, calls),
-        Line::Value(counter, _) => is_missing(before, Kind::Counter, *counter),
+        Line::Value(counter, _) => is_missing(before, LineKind::Counter, *counter),
         _ => false,
     }
 }

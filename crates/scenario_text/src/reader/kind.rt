@@ -8,7 +8,7 @@ use crate::reader::line::Line;
 
 /// The kinds of lines, in the order in which they come.
 #[derive(Clone, Copy)]
-pub(crate) enum Kind {
+pub(crate) enum LineKind {
     Roots,
     Counter,
     NotifyList,
@@ -17,18 +17,18 @@ pub(crate) enum Kind {
     Property,
 }
 
-impl Kind {
+impl LineKind {
     /// The kind of the line.
     pub(crate) fn of(line: &Line) -> Self
         ensures { result ≡ causes.kind (line_of line.now) }
     {
         match line {
-            Line::Roots(_) => Kind::Roots,
-            Line::Counter(_) => Kind::Counter,
-            Line::NotifyList(_) => Kind::NotifyList,
-            Line::Group => Kind::Group,
-            Line::Seat(_, _) => Kind::Seat,
-            Line::Settled | Line::Value(_, _) | Line::NoMisuse => Kind::Property,
+            Line::Roots(_) => LineKind::Roots,
+            Line::Counter(_) => LineKind::Counter,
+            Line::NotifyList(_) => LineKind::NotifyList,
+            Line::Group => LineKind::Group,
+            Line::Seat(_, _) => LineKind::Seat,
+            Line::Settled | Line::Value(_, _) | Line::NoMisuse => LineKind::Property,
         }
     }
 
@@ -37,32 +37,32 @@ impl Kind {
         ensures { result ≡ causes.rank self }
     {
         match self {
-            Kind::Roots => 0,
-            Kind::Counter => 1,
-            Kind::NotifyList => 2,
-            Kind::Group => 3,
-            Kind::Seat => 4,
-            Kind::Property => 5,
+            LineKind::Roots => 0,
+            LineKind::Counter => 1,
+            LineKind::NotifyList => 2,
+            LineKind::Group => 3,
+            LineKind::Seat => 4,
+            LineKind::Property => 5,
         }
     }
 }
 
 /// How many of the lines are of this kind.
-pub(crate) fn count(lines: &[Line], kind: Kind) -> usize
+pub(crate) fn count(lines: &[Line], kind: LineKind) -> usize
     ensures { result ≡ causes.count_of kind (map line_of lines.now) }
 {
     lines
         .iter()
-        .filter(|line| Kind::of(line).rank() == kind.rank())
+        .filter(|line| LineKind::of(line).rank() == kind.rank())
         .count()
 }
 
 /// How many of the lines are of later kinds.
-pub(crate) fn count_later(lines: &[Line], kind: Kind) -> usize
+pub(crate) fn count_later(lines: &[Line], kind: LineKind) -> usize
     ensures { result ≡ causes.count_later kind (map line_of lines.now) }
 {
     lines
         .iter()
-        .filter(|line| kind.rank() < Kind::of(line).rank())
+        .filter(|line| kind.rank() < LineKind::of(line).rank())
         .count()
 }

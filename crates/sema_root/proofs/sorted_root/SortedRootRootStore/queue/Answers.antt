@@ -1,6 +1,6 @@
 use Rattle.std.proofs.Common.{◌≡◌, ◌<◌, subst, sym, arith}
 use Rattle.std.specs.List.{insert}
-use Rattle.sema_root.specs.declared.sorted_root.Entry.{Entry}
+use Rattle.sema_root.specs.declared.sorted_root.CounterQueue.{CounterQueue}
 use Rattle.sema_root.specs.Queues.{total}
 use Rattle.sema_root.specs.Search.{pairs, IsAt, IsGapFor}
 use Rattle.sema_root.proofs.Joining.{joined-queues, joined-open, joined-list_room}
@@ -35,7 +35,7 @@ open-list-requires c = joined-list_room c.self.invariant.joined (subst (λ root.
 -- the counter comes in with a list of its own
 comes : (c : After-unwrap) → Queued c.self.inside.lists c.push-in-Err.new.lists (pairs c.self.inside.entries.items) (pairs c.insert.new.self.items) c.self.inside.seats c.args.counter c.args.lifo c.args.wait
 comes c =
-    let entry : Entry = record { counter = c.args.counter; list = c.open-list.result } in
+    let entry : CounterQueue = record { counter = c.args.counter; list = c.open-list.result } in
     let items : c.insert.new.self.items ≡ insert c.self.inside.entries.items c.in-Err.at entry = rw c.unwrap.ensures at c.insert.ensures.items in
     let gap = subst (λ entries. IsGapFor entries c.args.counter c.in-Err.at) c.deref.ensures.value c.in-Err.ensures.absent in
     rw items (queued_first c.self.invariant.joined c.args.lifo c.args.wait (adds_at c.self.inside.entries.items c.in-Err.at entry gap)

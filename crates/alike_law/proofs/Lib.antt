@@ -1,0 +1,14 @@
+pub mod AlikeRows
+pub mod AlikeCore
+pub mod AlikeRuns
+pub mod CommutingWords
+pub mod CommutingOwn
+pub mod Commuting
+pub mod BentPlaces
+pub mod BentBounding
+pub mod BentCounters
+pub mod BentLists
+pub mod BentWaiters
+pub mod BentCore
+pub mod BentRuns
+pub mod BentAlike

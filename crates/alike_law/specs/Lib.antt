@@ -1,0 +1,4 @@
+pub mod Alike
+pub mod Commuting
+pub mod Bent
+pub mod BentInvariant

@@ -1,0 +1,4 @@
+pub mod CoreLaw
+pub mod TheCore
+pub mod RunInvariant
+pub mod Misused

@@ -1,0 +1,32 @@
+-- The law of one notify list, of its parts.
+use Rattle.list_law.specs.ListLaw.{TheListLaw}
+use Rattle.step_table.specs.ListSteps.{list_rules}
+use Rattle.step_table.proofs.Turns.{sole}
+use Rattle.list_law.proofs.Wrapping.{less_means, bounds_are_tight}
+use Rattle.list_law.proofs.ListKeeping.{list_starts, list_kept, list_reached}
+use Rattle.list_law.proofs.ListLawfulness.{list_lawful}
+use Rattle.list_law.proofs.ListCalling.{list_calls, list_least, list_own, list_closed}
+use Rattle.list_law.proofs.ListTelling.{list_tells}
+use Rattle.list_law.proofs.ListEarly.{list_early}
+use Rattle.list_law.proofs.ListEnding.{list_ends}
+use Rattle.list_law.proofs.ListBlindness.{rows_are_blind}
+
+pub the_list_law : TheListLaw
+the_list_law =
+    record {
+      starts = list_starts;
+      kept = list_kept;
+      lawful = list_lawful;
+      reached = λ first seats s small reached. list_lawful first seats s (list_reached first seats s small reached);
+      least = list_least;
+      calls = list_calls;
+      tells = list_tells;
+      own = list_own;
+      early = list_early;
+      ends = list_ends;
+      closed = list_closed;
+      sole = sole list_rules;
+      less_means = less_means;
+      tight = bounds_are_tight;
+      blind = rows_are_blind;
+    }

@@ -1,0 +1,9 @@
+//! The law of one notify list, as a function.
+
+ghost use Rattle.list_law.specs.ListLaw.{TheListLaw};
+
+/// The rows of one notify list, for up to 2^63 seats, with tickets that wrap at 64 bits: one invariant holds at every start,
+/// every step keeps it, and it gives the whole lawful list; and what the list's calls may conclude.
+pub fn law_of_the_lists()
+    ensures { TheListLaw }
+{}

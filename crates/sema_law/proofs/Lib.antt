@@ -1,0 +1,13 @@
+pub mod Lines
+pub mod Locks
+pub mod Raising
+pub mod Placing
+pub mod Parking
+pub mod Flying
+pub mod Finding
+pub mod Telling
+pub mod Stories
+pub mod Counting
+pub mod Bounding
+pub mod Ending
+pub mod Promises

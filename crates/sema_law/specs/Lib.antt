@@ -1,0 +1,4 @@
+pub mod Lawful
+pub mod Invariant
+pub mod Law
+pub mod WellFormed
