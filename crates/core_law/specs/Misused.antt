@@ -1,5 +1,5 @@
 -- When no wait group is misused, and what its counter is then.
-use Rattle.std.specs.Prelude.{◌≡◌, ℕ, ◌<◌, eqb, cond, ℤ, pos, ◌+ℤ◌, ◌≤ℤ◌, List, [], ◌∷◌, length}
+use Rattle.std.specs.Prelude.{◌≡◌, ℕ, ◌<◌, eqb, cond, ℤ, pos, ◌+ℤ◌, ◌≤ℤ◌, List, [], ◌∷◌, length, ◌^◌, ◌-◌}
 use Rattle.step_table.specs.declared.misuse.Misuse.{Misuse}
 use Rattle.step_table.specs.declared.parts.Parts.{Parts}
 use Rattle.step_table.specs.declared.standing.After.TheVariants.{LooksAgain}
@@ -18,7 +18,7 @@ IsCounted g _ = ⊥
 -- an add of d, which finds this counter, leaves it from 0 to 2^31 - 1; and where it finds 0, no wait of the group is counted
 pub record IsFairAdd (s : Core) (seats g : ℕ) (d : ℤ) : Type 0 where
   pub above : pos 0 ≤ℤ ((s.groups g).counter +ℤ d)
-  pub below : ((s.groups g).counter +ℤ d) ≤ℤ pos 2147483647
+  pub below : ((s.groups g).counter +ℤ d) ≤ℤ pos (2 ^ 31 - 1)
   pub alone : (s.groups g).counter ≡ pos 0 → (k : ℕ) → k < seats → IsCounted g (s.standing k) → ⊥
 
 -- the step of a seat that does this is no unfair add

@@ -1,5 +1,5 @@
 -- What each run of a scenario keeps beside the invariant of its machine.
-use Rattle.std.specs.Prelude.{◌≡◌, ℕ, ◌+◌, ◌*◌, ◌<◌, ◌≤◌, Bool, true, false, List, [], Option, Some, None, length, slice_index_or, take}
+use Rattle.std.specs.Prelude.{◌≡◌, ℕ, ◌+◌, ◌*◌, ◌<◌, ◌≤◌, Bool, true, false, List, [], Option, Some, None, length, slice_index_or, take, ◌^◌}
 use Rattle.step_table.specs.declared.call.Call.{Call}
 use Rattle.step_table.specs.declared.list_place.ListPlace.{ListPlace}
 use Rattle.step_table.specs.declared.list_place.ListPlace.TheVariants.{Adding}
@@ -40,9 +40,9 @@ more_to_add _ = 0
 
 -- an add to a group releases at most as many waits as its word can count
 abbrev pub may_add_at : GroupRow → ℕ
-may_add_at (G1 d) = 4294967296
-may_add_at (G2 w) = 4294967296
-may_add_at (G3 w) = 4294967296
+may_add_at (G1 d) = 2 ^ 32
+may_add_at (G2 w) = 2 ^ 32
+may_add_at (G3 w) = 2 ^ 32
 may_add_at _ = 0
 
 -- how many units the seat's call may still add
@@ -67,9 +67,9 @@ holds seat = has_ticket seat.place seat.ticket
 
 -- the word that the seat carries has a low half of 32 bits
 abbrev pub CarriesWord : Standing → Type 0
-CarriesWord (AtGroup g (G2 w)) = w.waits < 4294967296
-CarriesWord (AtGroup g (G3 w)) = w.waits < 4294967296
-CarriesWord (AtGroup g (V2 w)) = w.waits < 4294967296
+CarriesWord (AtGroup g (G2 w)) = w.waits < 2 ^ 32
+CarriesWord (AtGroup g (G3 w)) = w.waits < 2 ^ 32
+CarriesWord (AtGroup g (V2 w)) = w.waits < 2 ^ 32
 CarriesWord _ = Unit {0}
 
 -- a sound run, whose machine is kept so
@@ -80,13 +80,13 @@ pub record IsSoundRunOf (IsKeptSo : Core → Type 0) (parts : Parts) (run : Run)
   pub ended : (k : ℕ) → run.core.standing k ≡ Rest → run.begun k ≡ length (calls_of parts k)
   -- it holds the tickets that its calls have left it
   pub tickets : (k l : ℕ) → holds ((run.core.lists l).seats k) ≡ holds_ticket l (take (run.begun k) (calls_of parts k))
-  pub words : (g : ℕ) → (run.core.groups g).waits < 4294967296
+  pub words : (g : ℕ) → (run.core.groups g).waits < 2 ^ 32
   pub carried : (k : ℕ) → CarriesWord (run.core.standing k)
   -- each call adds at most 2^32 units, and takes at most one ticket
   pub units :
       added run.core.semaphores.journal
       + total (length parts.calls) (λ k. may_add (run.core.semaphores.seats k).place (run.core.standing k))
-      ≤ 4294967296 * total (length parts.calls) run.begun
+      ≤ 2 ^ 32 * total (length parts.calls) run.begun
   pub handed : (l : ℕ) →
       (run.core.lists l).words.numbers.handed
       + total (length parts.calls) (λ k. to_take ((run.core.lists l).seats k).place)

@@ -1,5 +1,5 @@
 -- The law of the whole machine.
-use Rattle.std.specs.Prelude.{◌≡◌, ℕ, ◌<◌, ◌≤◌, IsTrue, Some, None, List}
+use Rattle.std.specs.Prelude.{◌≡◌, ℕ, ◌<◌, ◌≤◌, IsTrue, Some, None, List, ◌^◌}
 use Rattle.step_table.specs.declared.call.Call.{Call}
 use Rattle.step_table.specs.declared.call.Call.TheVariants.{Acquire, Release, ReleaseMany, Add, Wait, One, All, GroupAdd, GroupWait}
 use Rattle.step_table.specs.declared.list_place.Ticket.{Ticket}
@@ -29,13 +29,13 @@ MayCall m s i (GroupWait g) = g < m.groups
 -- failed, or sleeps. Each run of a scenario is sound; and where no add is unfair, no seat fails
 pub record TheCoreLaw : Type 0 where
   pub starts : (m : CoreLayout) → IsCoreInvariant m (first_core m)
-  pub called : (m : CoreLayout) (s : Core) (i : ℕ) (call : Call) → i < m.seats → m.seats ≤ 9223372036854775808
+  pub called : (m : CoreLayout) (s : Core) (i : ℕ) (call : Call) → i < m.seats → m.seats ≤ 2 ^ 63
       → IsCoreInvariant m s → s.standing i ≡ Rest → MayCall m s i call → IsCoreInvariant m (calls s i call)
-  pub kept : (m : CoreLayout) (s : Core) (i : ℕ) → i < m.seats → m.seats ≤ 9223372036854775808
+  pub kept : (m : CoreLayout) (s : Core) (i : ℕ) → i < m.seats → m.seats ≤ 2 ^ 63
       → IsCoreInvariant m s → IsTrue (can_run m s i (s.standing i)) → IsCoreInvariant m (core_turned m s i)
-  pub lawful : (m : CoreLayout) (s : Core) → m.seats ≤ 9223372036854775808 → IsCoreInvariant m s → IsLawfulCore m s
-  pub ends : (m : CoreLayout) (s : Core) → m.seats ≤ 9223372036854775808 → IsCoreInvariant m s
-      → ((l : ℕ) → (list.told (s.lists l).journal).handed ≤ 9223372036854775808) → IsCoreEnd m s → IsCoreAtRest m s
+  pub lawful : (m : CoreLayout) (s : Core) → m.seats ≤ 2 ^ 63 → IsCoreInvariant m s → IsLawfulCore m s
+  pub ends : (m : CoreLayout) (s : Core) → m.seats ≤ 2 ^ 63 → IsCoreInvariant m s
+      → ((l : ℕ) → (list.told (s.lists l).journal).handed ≤ 2 ^ 63) → IsCoreEnd m s → IsCoreAtRest m s
   pub started : (parts : Parts) → IsScenario parts → IsSoundRun parts (start parts)
   pub stepped : (parts : Parts) (run : Run) (i : ℕ) → IsScenario parts → IsSoundRun parts run → refusal parts run i ≡ None
       → IsSoundRun parts (stepped parts run i)

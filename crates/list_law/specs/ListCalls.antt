@@ -1,5 +1,5 @@
 -- What calls on a notify list may conclude, late tickets or not.
-use Rattle.std.specs.Prelude.{◌≡◌, ℕ, ◌+◌, ◌<◌, ◌≤◌, ◌≢◌, ◌⊎◌, List, ◌++◌, Some, None}
+use Rattle.std.specs.Prelude.{◌≡◌, ℕ, ◌+◌, ◌<◌, ◌≤◌, ◌≢◌, ◌⊎◌, List, ◌++◌, Some, None, ◌^◌}
 use Rattle.waiters.specs.declared.wait.Wait.{Wait}
 use Rattle.waiters.specs.Lists.{first_with}
 use Rattle.step_table.specs.declared.list_place.AllRow.TheVariants.{L2, L6, L7, L8}
@@ -63,7 +63,7 @@ GrantsLeast first s i =
 -- a notification that a seat has begun since s, and that ends now, has all tickets granted that were handed out at s
 abbrev pub TellsSince : Type 0
 TellsSince =
-    (first seats k h : ℕ) (s t : ListWorld) → seats ≤ 9223372036854775808 → k < seats → IsListReached first seats s
+    (first seats k h : ℕ) (s t : ListWorld) → seats ≤ 2 ^ 63 → k < seats → IsListReached first seats s
     → (s.seats k).place ≡ Rest → Leads seats s t → Concludes t (t.seats k).place h
     → (told s.journal).handed ≤ (told t.journal).granted
 
@@ -78,5 +78,5 @@ TakesOwn seats s =
 -- no seat has looked at a late ticket before more than 2^63 tickets were handed out
 abbrev pub EarlyNoneLate : Type 0
 EarlyNoneLate =
-    (first seats : ℕ) (s : ListWorld) → seats ≤ 9223372036854775808 → IsListReached first seats s
-    → (told s.journal).handed ≤ 9223372036854775808 → NoneLate seats s
+    (first seats : ℕ) (s : ListWorld) → seats ≤ 2 ^ 63 → IsListReached first seats s
+    → (told s.journal).handed ≤ 2 ^ 63 → NoneLate seats s

@@ -1,5 +1,5 @@
 -- The law of one notify list.
-use Rattle.std.specs.Prelude.{◌≡◌, ℕ, ◌+◌, ◌%◌, ◌<◌, ◌≤◌, ◌⊎◌, IsTrue, None}
+use Rattle.std.specs.Prelude.{◌≡◌, ℕ, ◌+◌, ◌%◌, ◌<◌, ◌≤◌, ◌⊎◌, IsTrue, None, ◌^◌}
 use Rattle.waiters.specs.declared.wait.Wait.{Wait}
 use Rattle.step_table.specs.declared.list_place.ListPlace.TheVariants.{Rest, Waiting}
 use Rattle.step_table.specs.declared.list_place.Ticket.{Ticket}
@@ -32,33 +32,33 @@ IsClosed seats s =
 -- a word comes before another where this is 1 to 2^63 ahead: a - b, modulo 2^64 and taken from -2^63 to 2^63 - 1, is below 0
 abbrev pub LessMeans : Type 0
 LessMeans =
-    ((a b : ℕ) → a < 18446744073709551616 → b < 18446744073709551616 → IsTrue (less a b)
-    → (d : ℕ) × (0 < d) × (d ≤ 9223372036854775808) × ((a + d) % 18446744073709551616 ≡ b))
-    × ((a b d : ℕ) → a < 18446744073709551616 → 0 < d → d ≤ 9223372036854775808 → (a + d) % 18446744073709551616 ≡ b
+    ((a b : ℕ) → a < 2 ^ 64 → b < 2 ^ 64 → IsTrue (less a b)
+    → (d : ℕ) × (0 < d) × (d ≤ 2 ^ 63) × ((a + d) % 2 ^ 64 ≡ b))
+    × ((a b d : ℕ) → a < 2 ^ 64 → 0 < d → d ≤ 2 ^ 63 → (a + d) % 2 ^ 64 ≡ b
     → IsTrue (less a b))
 
 -- the bounds can't be wider: an ungranted ticket seems granted once 2^63 tickets are outstanding before it, and a granted one
 -- seems ungranted once 2^63 + 1 tickets were granted since
 abbrev pub BoundsAreTight : Type 0
 BoundsAreTight =
-    ((first granted : ℕ) → IsTrue (less (word_of first (granted + 9223372036854775808)) (word_of first granted)))
-    × ((first n : ℕ) → IsTrue (less (word_of first n) (word_of first (n + 9223372036854775809))) → ⊥)
+    ((first granted : ℕ) → IsTrue (less (word_of first (granted + 2 ^ 63)) (word_of first granted)))
+    × ((first n : ℕ) → IsTrue (less (word_of first n) (word_of first (n + (2 ^ 63 + 1)))) → ⊥)
 
 -- for up to 2^63 seats: the invariant holds at every start, every step keeps it, and it gives the whole lawful world, what a
 -- row grants, what calls may conclude, and what holds in an end world and where every seat is at rest. Rows are
 -- deterministic, and look at no number
 pub record TheListLaw : Type 0 where
   pub starts : (first seats : ℕ) → IsListInvariant first seats (first_list first)
-  pub kept : (first seats i : ℕ) (s t : ListWorld) → seats ≤ 9223372036854775808 → i < seats → IsListInvariant first seats s
+  pub kept : (first seats i : ℕ) (s t : ListWorld) → seats ≤ 2 ^ 63 → i < seats → IsListInvariant first seats s
       → ListStep s i t → IsListInvariant first seats t
   pub lawful : (first seats : ℕ) (s : ListWorld) → IsListInvariant first seats s → IsLawfulList first seats s
-  pub reached : (first seats : ℕ) (s : ListWorld) → seats ≤ 9223372036854775808 → IsListReached first seats s
+  pub reached : (first seats : ℕ) (s : ListWorld) → seats ≤ 2 ^ 63 → IsListReached first seats s
       → IsLawfulList first seats s
   pub least : (first seats i : ℕ) (s : ListWorld) → i < seats → IsListInvariant first seats s → GrantsLeast first s i
-  pub calls : (first seats : ℕ) (s : ListWorld) → seats ≤ 9223372036854775808 → IsListInvariant first seats s
+  pub calls : (first seats : ℕ) (s : ListWorld) → seats ≤ 2 ^ 63 → IsListInvariant first seats s
       → CallsConclude first seats s
   pub tells : TellsSince
-  pub own : (first seats : ℕ) (s : ListWorld) → seats ≤ 9223372036854775808 → IsListInvariant first seats s → TakesOwn seats s
+  pub own : (first seats : ℕ) (s : ListWorld) → seats ≤ 2 ^ 63 → IsListInvariant first seats s → TakesOwn seats s
   pub early : EarlyNoneLate
   pub ends : (first seats : ℕ) (s : ListWorld) → IsListInvariant first seats s → IsListEnd seats s → IsListAtRest seats s
   pub closed : (first seats : ℕ) (s : ListWorld) → IsListInvariant first seats s → IsClosed seats s

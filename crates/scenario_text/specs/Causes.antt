@@ -1,5 +1,5 @@
 -- What may be wrong with a line, as facts of the whole line and of the lines before it.
-use Rattle.std.specs.Prelude.{⊤, ◌≡◌, ℕ, ◌==◌, Bool, true, false, nat_lt, not, ◌||◌, ◌&&◌, List, [], ◌∷◌, ◌++◌, length, count_by, fold, ◌⊎◌}
+use Rattle.std.specs.Prelude.{⊤, ◌≡◌, ℕ, ◌==◌, Bool, true, false, nat_lt, not, ◌||◌, ◌&&◌, List, [], ◌∷◌, ◌++◌, length, count_by, fold, ◌⊎◌, ◌^◌, ◌-◌}
 use Rattle.std.specs.List.{list_any, list_all}
 use Rattle.scenario_text.specs.declared.reader.call.Change.TheVariants.{Up, Down}
 use Rattle.scenario_text.specs.declared.reader.call.SpelledCall.{SpelledCall}
@@ -65,17 +65,17 @@ is_misplaced lines line = nat_lt 0 (count_later (kind line) lines) || is_out_of_
 -- units from 1 to 256, changes from -2 ^ 31 to 2 ^ 31 - 1
 abbrev pub is_wide : SpelledCall → Bool
 is_wide (ReleaseMany c n) = n == 0 || nat_lt 256 n
-is_wide (GroupAdd g (Up n)) = nat_lt 2147483647 n
-is_wide (GroupAdd g (Down n)) = nat_lt 2147483648 n
+is_wide (GroupAdd g (Up n)) = nat_lt (2 ^ 31 - 1) n
+is_wide (GroupAdd g (Down n)) = nat_lt (2 ^ 31) n
 is_wide call = false
 
 -- 1 to 251 roots, tickets below 2 ^ 64, other numbers below 2 ^ 32
 abbrev pub is_out_of_range : Line → Bool
 is_out_of_range (Roots n) = n == 0 || nat_lt 251 n
-is_out_of_range (Counter start) = nat_lt 4294967295 start
-is_out_of_range (NotifyList first) = nat_lt 18446744073709551615 first
+is_out_of_range (Counter start) = nat_lt (2 ^ 32 - 1) start
+is_out_of_range (NotifyList first) = nat_lt (2 ^ 64 - 1) first
 is_out_of_range (Seat k calls) = list_any is_wide calls
-is_out_of_range (Value c n) = nat_lt 4294967295 n
+is_out_of_range (Value c n) = nat_lt (2 ^ 32 - 1) n
 is_out_of_range line = false
 
 -- ---- 6: a counter, list, group or seat more than 16, or more than 32 calls

@@ -1,5 +1,5 @@
 -- The rows of a wait group.
-use Rattle.std.specs.Prelude.{◌+◌, ◌==◌, ◌&&◌, ◌||◌, not, if◌then◌else◌, Bool, ℤ, pos, int_lt}
+use Rattle.std.specs.Prelude.{◌+◌, ◌==◌, ◌&&◌, ◌||◌, not, if◌then◌else◌, Bool, ℤ, pos, int_lt, ◌^◌, ◌-◌}
 use Rattle.std.specs.Int.{int_wrapping_add, w32}
 use Rattle.std.specs.Ordering.{int_eq}
 use Rattle.step_table.specs.declared.group_word.GroupWord.{GroupWord}
@@ -24,7 +24,7 @@ plus w d = record w { counter = int_wrapping_add w32 w.counter d }
 -- the word plus 1: one more wait
 abbrev pub one_more : GroupWord → GroupWord
 one_more w =
-    if w.waits == 4294967295
+    if w.waits == (2 ^ 32 - 1)
     then record { counter = int_wrapping_add w32 w.counter (pos 1); waits = 0 }
     else record w { waits = w.waits + 1 }
 
@@ -39,9 +39,14 @@ after_add d w =
 -- what a row does to the word of its group
 abbrev pub group_event : {Word : Type 0} → Word → GroupRow → EventOf Word GroupWord GroupNext
 group_event g (G1 d) = change g (λ w. plus w d) (after_add d)
+-- looked at again: an add that came since G1 has begun a round beside waits that haven't returned, and the store of G3 would
+-- wipe it out unseen
 group_event g (G2 seen) = load g (λ w. if same_word seen w then Goes (G3 seen) else Fails AddWithWait)
+-- emptied before the first release: a woken wait would find the old word at V3, and take it for a new round
 group_event g (G3 seen) = store g empty_word (Releases seen.waits)
 group_event g V1 = load g (λ w. if int_eq w.counter (pos 0) then Ends else Goes (V2 w))
+-- counted before it sleeps, and only in the word that V1 read: an add that leads to 0 releases the waits that are counted. One
+-- that isn't, or that counts itself after that add, would sleep for good
 group_event g (V2 seen) = exchange_if g (same_word seen) one_more Acquires (Goes V1)
 group_event g V3 = load g (λ w. if same_word w empty_word then Ends else Fails Reused)
 

@@ -25,6 +25,8 @@ wait_for s t = record { id = record { seat = s; turn = t.number }; ticket = t.wo
 -- what a row of a wait for the ticket t does for the seat s
 abbrev pub wait_event : ℕ → Ticket → WaitRow → ListEvent
 wait_event s t W1 = take_lock Lock (to (Waiting t W2))
+-- looked at under the lock: a grant is stored only there, so none falls between this look and W4. Without the look, a ticket
+-- that was granted before would sleep for good
 wait_event s t W2 = load Notify (λ v. to (if less t.word v then Waiting t W3 else Waiting t W4))
 wait_event s t W3 = give_lock Lock (to Rest)
 wait_event s t W4 = give_lock Lock (Waiting t P, Queues (wait_for s t))
@@ -36,9 +38,12 @@ abbrev pub one_event : ℕ → List Wait → ListWords → ℕ → OneRow → Li
 one_event s hand g h O1 = load WaitWord (λ v. to (NotifyingOne g.numbers.handed (O2 v)))
 one_event s hand g h (O2 a) = load Notify (λ v. to (if a == v then Rest else NotifyingOne h O3))
 one_event s hand g h O3 = take_lock Lock (to (NotifyingOne h O4))
+-- read again under the lock: since O2 another notification may have granted that ticket, and this one would grant it twice
+-- and leave the next one out
 one_event s hand g h O4 = load Notify (λ v. to (NotifyingOne h (O5 v)))
 one_event s hand g h (O5 t) = load WaitWord (λ v. to (if v == t then NotifyingOne h O6 else NotifyingOne h (O7 t)))
 one_event s hand g h O6 = give_lock Lock (to Rest)
+-- granted before the wait is looked for: its seat may not have come to W2 yet, and would find no grant there and sleep
 one_event s hand g h (O7 t) = store Notify (next_word t) (NotifyingOne h (O8 t), Grants (g.numbers.granted + 1))
 one_event s hand g h (O8 t) = give_lock Lock (by_found (first_with t g.queue) (to Rest) (λ w. (NotifyingOne h O9, TakesOut t)))
 one_event s hand g h O9 = store (Grant (waiter s hand)) 1 (Rest, Gives)
@@ -48,6 +53,8 @@ abbrev pub all_event : ℕ → List Wait → ListWords → ℕ → AllRow → Li
 all_event s hand g h L1 = load WaitWord (λ v. to (NotifyingAll g.numbers.handed (L2 v)))
 all_event s hand g h (L2 a) = load Notify (λ v. to (if a == v then Rest else NotifyingAll h L3))
 all_event s hand g h L3 = take_lock Lock (to (NotifyingAll h L4))
+-- read for the answer: what L5 reads less this is how many tickets the call grants. What L2 read may be behind, and would
+-- count tickets that another notification has granted since
 all_event s hand g h L4 = load Notify (λ v. to (NotifyingAll h (L5 v)))
 all_event s hand g h (L5 t) =
     load WaitWord (λ v. to (NotifyingAll h (L6 (record { notified = t; waited = v; handed = g.numbers.handed }))))

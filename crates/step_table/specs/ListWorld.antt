@@ -1,5 +1,5 @@
 -- The world of one notify list: its words, the numbers of its tickets, its waits, seats and journal.
-use Rattle.std.specs.Prelude.{ℕ, ◌+◌, List, [], ◌∷◌, ◌++◌, drop, nat_lt, if◌then◌else◌, Option, Some, None}
+use Rattle.std.specs.Prelude.{ℕ, ◌+◌, List, [], ◌∷◌, ◌++◌, drop, nat_lt, if◌then◌else◌, Option, Some, None, ◌^◌}
 use Rattle.waiters.specs.declared.wait.Wait.{Wait}
 use Rattle.waiters.specs.Lists.{first_with, without_first}
 use Rattle.step_table.specs.declared.list_place.ListEffect.{ListEffect}
@@ -94,7 +94,7 @@ journal_after i _ journal = journal
 
 -- a ticket is late where more than 2^63 tickets were granted since
 abbrev pub late_after : ListPlace → ℕ → ℕ → ℕ
-late_after (Waiting t W2) granted late = if nat_lt (t.number + 9223372036854775808) granted then 1 else late
+late_after (Waiting t W2) granted late = if nat_lt (t.number + 2 ^ 63) granted then 1 else late
 late_after _ granted late = late
 
 -- the world of a list whose first ticket has this word: all seats are at rest, and nothing has happened

@@ -25,6 +25,8 @@ release_many_event s hand list r M3 = take_lock (Lock r.counter) (to (ReleasingM
 release_many_event s hand list r M4 =
     load (Waiters r.counter)
     (λ v. to (zero_or (ReleasingMany r M6) (λ left. by_first list (ReleasingMany r M6) (λ w. ReleasingMany r M5)) v))
+-- once more while units and waits are left: stopping after one would leave a sleeper beside a unit, and going on past the
+-- units would wake seats for which there is none
 release_many_event s hand list r M5 =
     lower (Waiters r.counter) 1
     (by_first list (to (ReleasingMany r M6)) (λ w. (after_leave r (length hand) (length list), Tells (Leave r.counter w s))))
