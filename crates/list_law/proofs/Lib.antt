@@ -1,7 +1,6 @@
 pub mod Wrapping
 pub mod ListRows
 pub mod ListCases
-pub mod ListSums
 pub mod ListLocks
 pub mod ListPlacing
 pub mod ListHanding

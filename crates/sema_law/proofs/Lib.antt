@@ -11,3 +11,13 @@ pub mod Counting
 pub mod Bounding
 pub mod Ending
 pub mod Promises
+pub mod Reaching
+pub mod Owning
+pub mod Balancing
+pub mod Holding
+pub mod Leaving
+pub mod Serving
+pub mod Queueing
+pub mod Resting
+pub mod Changing
+pub mod Accounts

@@ -79,7 +79,7 @@ kept_by m s t i in_range inv step = record {
 pub kept : (m : Layout) (s t : SemaWorld) (i : ℕ) → i < m.seats → IsInvariant m s → steps.Step m s i t → IsInvariant m t
 kept m s t i in_range inv step = kept_by m s t i in_range inv (step_of m s t i (inv.seats i) (inv.finds i in_range) step)
 
-raises_held : (root : ℕ → ℕ) (r : ℕ) (p : Place) → raises root r p ≤ holds root r p
+pub raises_held : (root : ℕ → ℕ) (r : ℕ) (p : Place) → raises root r p ≤ holds root r p
 raises_held root r (Acquiring a A5) = omega arith
 raises_held root r (Acquiring a (A6 left)) = omega arith
 raises_held root r (Acquiring a A7) = omega arith

@@ -79,7 +79,7 @@ spends_own {i = i} (m5_more _ _ _) k b ne = chosen_else k i (record { counter = 
 spends_own {i = i} (m5_last _ _) k b ne = chosen_else k i (record { counter = b.counter; units = b.units - 1 }) b ne
 spends_own _ k b ne = refl
 
-takes_counts : (s : ℕ) → Counts (takes s)
+pub takes_counts : (s : ℕ) → Counts (takes s)
 takes_counts s = (refl, by)
   where
     by : (e : Entry) (es : List Entry) → takes s (e ∷ es) ≡ takes s (e ∷ []) + takes s es

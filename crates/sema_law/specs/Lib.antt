@@ -1,4 +1,10 @@
 pub mod Lawful
 pub mod Invariant
-pub mod Law
 pub mod WellFormed
+pub mod Law
+pub mod Entries
+pub mod Balances
+pub mod Holders
+pub mod Served
+pub mod Bounds
+pub mod Accounts

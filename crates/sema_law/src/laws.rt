@@ -1,9 +1,16 @@
-//! The law of the semaphores, as a function.
+//! The laws of the semaphores, as functions.
 
+ghost use Rattle.sema_law.specs.Accounts.{TheAccounts};
 ghost use Rattle.sema_law.specs.Law.{TheLaw};
 
 /// The rows of semaphores, for any number of seats, counters and roots: one invariant holds at every start, every step
 /// keeps it, and it gives the whole lawful world.
 pub fn law_of_the_rows()
     ensures { TheLaw }
+{}
+
+/// The accounts: whose each entry of the journal is, what was added and taken, who may change which word, for whom units were
+/// taken, and that nothing is left where all seats rest.
+pub fn law_of_the_accounts()
+    ensures { TheAccounts }
 {}

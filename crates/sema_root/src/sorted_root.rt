@@ -13,14 +13,14 @@ use waiters::{CounterId, ListKey, Lists, NoMemory, Wait, WaitId};
 /// A root as a vector of counters in rising order, each with its queue.
 #[derive(Drop)]
 pub struct SortedRoot {
-    entries: Vec<Entry>,
+    entries: Vec<CounterQueue>,
     lists: Lists,
     seats: u16,
 }
 
 /// A counter that has waits, and their list.
 #[derive(Clone, Copy, Drop)]
-struct Entry {
+struct CounterQueue {
     counter: CounterId,
     list: ListKey,
 }
@@ -66,7 +66,7 @@ impl RootStore for SortedRoot {
             Err(at) => {
                 let list = self.lists.open();
                 push(&mut self.lists, list, wait, lifo);
-                self.entries.insert(at, Entry { counter, list }).unwrap();
+                self.entries.insert(at, CounterQueue { counter, list }).unwrap();
             }
         }
     }
@@ -115,7 +115,7 @@ impl RootStore for SortedRoot {
 }
 
 // Where the counter is, or where it would go.
-fn search(entries: &[Entry], counter: CounterId) -> Result<usize, usize>
+fn search(entries: &[CounterQueue], counter: CounterId) -> Result<usize, usize>
     requires { AreRising (pairs entries.now) }
     ensures found { IfOk result (IsAt entries.now counter) }
     ensures absent { IfErr result (IsGapFor entries.now counter) }

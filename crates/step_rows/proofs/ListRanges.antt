@@ -14,7 +14,7 @@ use Rattle.list_law.specs.ListInvariant.{HandFits}
 use Rattle.list_law.specs.ListWellFormed.{asleep_on_list, IsWellFormedList}
 use Rattle.step_rows.specs.ListStored.{AsksAt, HasListRow}
 use Rattle.step_table.proofs.Sums.{total_has, total_rest}
-use Rattle.list_law.proofs.ListSums.{at_most_ones}
+use Rattle.step_table.proofs.SumsOfSums.{at_most_ones}
 use Rattle.list_law.proofs.ListPlacing.{one_here, waiter_of}
 use Rattle.list_law.proofs.ListSleeping.{asleep_most}
 
