@@ -14,14 +14,13 @@ use Rattle.step_table.specs.ListWorld.{ListWords, ListSeat, ListWorld, first_lis
 use Rattle.step_table.specs.ListSteps.{ListStep, Leads, none, more, IsListReached, moved}
 use Rattle.list_law.specs.ListLawful.{times, holds, IsGrantOf}
 use Rattle.list_law.specs.ListInvariant.{WordsTell, HandFits, TicketFits, awaits}
-use Rattle.list_law.specs.ListWellFormed.{asleep_on_list, StillReads, IsWellFormedListSeat, IsWellFormedList}
+use Rattle.list_law.specs.ListWellFormed.{StillReads, IsWellFormedListSeat, IsWellFormedList}
 use Rattle.step_table.proofs.Sums.{put_at, total_same, nothing}
 use Rattle.list_law.proofs.Wrapping.{word_next}
 use Rattle.list_law.proofs.ListRows.{Row, begin_add, begin_wait, n1, w3, woken, o4, o5_else, o7, o8_some, l4, l5, l6_same, l6_else, l7_some, Post, o9, l8_last, l8_more, Step, own, post}
 use Rattle.list_law.proofs.ListCases.{step_of}
 use Rattle.list_law.proofs.ListLocks.{lock_kept, sole_holder}
 use Rattle.list_law.proofs.ListPlacing.{placed_kept, grants_kept}
-use Rattle.list_law.proofs.ListSleeping.{counted_kept}
 use Rattle.alike_law.proofs.BentPlaces.{IsAsGoodOnList}
 
 -- two words that differ are those of two numbers
@@ -106,7 +105,6 @@ kept_by first seats i s t in_range inv step = record {
   lock = lock_kept seats i s t in_range inv.lock step;
   words = words step;
   placed = placed_kept seats i s t in_range inv.grants inv.placed step;
-  sleepers = counted_kept seats i s t in_range inv.grants inv.placed inv.sleepers step;
   grants = grants_kept seats i s t in_range inv.placed inv.grants step;
   seats_known = known step;
 }
@@ -143,7 +141,6 @@ well_formed_list_first first seats =
       lock = (sym zeros, omega arith);
       words = (refl, refl, omega arith);
       placed = λ w. omega arith;
-      sleepers = omega arith;
       grants = λ k. refl;
       seats_known = λ k there. record { fits = refl; only = tt; reads = tt };
     }
@@ -178,10 +175,6 @@ module _ (first seats i : ℕ) (s : ListWorld) (in_range : i < seats) (place : L
         (let held = sum_same (λ k z. times w z.hand) refl in
         let awaited = sum_same (λ k z. awaits w k z.place (s.words.grants k)) (good.awaits w i (s.words.grants i)) in
         let before = inv.placed w in omega arith);
-    sleepers =
-        let held = sum_same (λ k z. length z.hand) refl in
-        let sleeping = sum_same (λ k z. asleep_on_list z.place (s.words.grants k)) (good.asleep (s.words.grants i)) in
-        let before = inv.sleepers in omega arith;
     grants = λ k. put_at (λ k z. IsGrantOf z.place (s.words.grants k)) s.seats i seat k
         (good.granted (s.words.grants i) (inv.grants i)) (λ ne. inv.grants k);
     seats_known = λ k there. put_at (λ k z. IsWellFormedListSeat first s.words z) s.seats i seat k

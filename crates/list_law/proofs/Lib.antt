@@ -10,7 +10,6 @@ pub mod ListLeaving
 pub mod ListKnowing
 pub mod ListFreshness
 pub mod ListKeeping
-pub mod ListSleeping
 pub mod ListLawfulness
 pub mod ListEnding
 pub mod ListEarly
@@ -19,3 +18,8 @@ pub mod ListTelling
 pub mod ListErasing
 pub mod ListBlindness
 pub mod ListPromises
+pub mod ListOwning
+pub mod ListHolding
+pub mod ListSleeping
+pub mod ListResting
+pub mod ListAccounts

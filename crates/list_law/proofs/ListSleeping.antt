@@ -1,76 +1,151 @@
--- Lists and hands hold as many waits as there are sleepers.
-use Rattle.std.proofs.Common.{◌≡◌, ℕ, zero, suc, ◌+◌, ◌<◌, ◌≤◌, ◌≢◌, ◌⊎◌, ◌==◌, if◌then◌else◌, true, false, eqb}
-use Rattle.std.proofs.Common.{List, [], ◌∷◌, length, Some, refl, ap, ap₂, inl, inr, length-append, arith}
-use Rattle.std.proofs.lemmas.Bool.Decides.{eqb_tells}
+-- The waits in the list and in hands are as many as the seats that are parked without a grant: each is that of such a seat, and
+-- each such seat has one.
+use Rattle.std.proofs.Common.{◌≡◌, ◌⊎◌, ℕ, zero, suc, ◌+◌, ◌<◌, ◌≤◌, List, [], ◌∷◌, length, sym, refl, ap, ap₂, ◌∙◌, inl, inr, arith}
+use native.Mathlib.Decide.{ℕ_discrete}
 use Rattle.waiters.specs.declared.wait.Wait.{Wait}
-use Rattle.waiters.specs.Lists.{first_with, without_first}
-use Rattle.step_table.specs.declared.list_place.ListEffect.{ListEffect}
 use Rattle.step_table.specs.declared.list_place.ListPlace.{ListPlace}
 use Rattle.step_table.specs.declared.list_place.ListPlace.TheVariants.{Waiting}
 use Rattle.step_table.specs.declared.list_place.Ticket.{Ticket}
 use Rattle.step_table.specs.declared.list_place.WaitRow.TheVariants.{P}
-use Rattle.step_table.specs.ListWorld.{ListWords, ListSeat, ListWorld}
+use Rattle.step_table.specs.Counting.{on, total}
+use Rattle.step_table.specs.ListWorld.{ListWorld}
 use Rattle.step_table.specs.ListTable.{wait_for}
-use Rattle.list_law.specs.ListLawful.{IsGrantOf, GrantsHeld}
-use Rattle.list_law.specs.ListInvariant.{WaitsPlaced}
+use Rattle.list_law.specs.ListLawful.{times, standing}
+use Rattle.list_law.specs.ListInvariant.{awaits, WaitsPlaced}
 use Rattle.list_law.specs.ListWellFormed.{asleep_on_list, ListSleepersCounted}
-use Rattle.step_table.proofs.Sums.{owned, posted}
-use Rattle.list_law.proofs.ListRows.{Row, n1, w4, woken, o8_some, l7_none, l7_some, Post, o9, l8_last, l8_more, Step, own, post}
-use Rattle.list_law.proofs.ListPlacing.{grants_else, waiter_of_post, other_seat}
+use Rattle.step_table.proofs.Sums.{on_here, on_else, total_has, total_rest, total_same, nothing, single}
+use Rattle.step_table.proofs.SumsOfSums.{at_most_ones, swapped, total_add}
+use Rattle.list_law.proofs.ListPlacing.{one, one_here, one_some, waiter_of, awaits_else}
+use Rattle.list_law.specs.ListPlaces.{HasRoom}
 
-pub asleep_most : (place : ListPlace) (grant : ℕ) → asleep_on_list place grant ≤ 1
+-- how many waits of the seat k are in a list
+abbrev of_seat : ℕ → List Wait → ℕ
+of_seat k [] = 0
+of_seat k (x ∷ l) = on k x.id.seat 1 + of_seat k l
+
+-- a list is as long as it has waits of each seat
+by_seats : (n : ℕ) (l : List Wait) → ((w : Wait) → 0 < times w l → w.id.seat < n) → length l ≡ total n (λ k. of_seat k l)
+by_seats n [] within = sym (nothing n (λ k. 0) (λ k. refl))
+by_seats n (x ∷ l) within =
+    let rest : length l ≡ total n (λ k. of_seat k l) = by_seats n l (λ w some. within w (omega arith)) in
+    let here = within x (let is = one_here x in omega arith) in
+    let first = single n (λ k. on k x.id.seat 1) x.id.seat here (λ k ne. on_else k x.id.seat 1 ne) in
+    let is = on_here x.id.seat 1 in
+    let sum = total_add n (λ k. on k x.id.seat 1) (λ k. of_seat k l) in omega arith
+
+-- where all waits of a seat are this one, it has as many as this stands there
+all_this : (w : Wait) (l : List Wait) → ((x : Wait) → 0 < times x l → x.id.seat ≡ w.id.seat → w ≡ x) → of_seat w.id.seat l ≡ times w l
+all_this w [] same = refl
+all_this w (x ∷ l) same = by (ℕ_discrete w.id.seat x.id.seat) (all_this w l (λ y some at. same y (omega arith) at))
+  where
+    by : Dec (w.id.seat ≡ x.id.seat) → of_seat w.id.seat l ≡ times w l → of_seat w.id.seat (x ∷ l) ≡ times w (x ∷ l)
+    by (yes at) rest =
+        let here = one_here x in
+        let is : one w x ≡ 1 = ap (λ y. one y x) (same x (omega arith) (sym at)) ∙ here in
+        let on_it : on w.id.seat x.id.seat 1 ≡ 1 = ap (λ k. on k x.id.seat 1) at ∙ on_here x.id.seat 1 in omega arith
+    by (no apart) rest = differ (ℕ_discrete (one w x) 0)
+      where
+        differ : Dec (one w x ≡ 0) → of_seat w.id.seat (x ∷ l) ≡ times w (x ∷ l)
+        differ (yes none) = let off = on_else w.id.seat x.id.seat 1 apart in omega arith
+        differ (no some) = absurd (apart (ap (λ y. y.id.seat) (one_some w x (omega arith))))
+
+-- a seat has no wait in a list, or has this one there
+has_one : (k : ℕ) (l : List Wait) → (of_seat k l ≡ 0) ⊎ ((w : Wait) × (0 < times w l) × (w.id.seat ≡ k))
+has_one k [] = inl refl
+has_one k (x ∷ l) = by (ℕ_discrete k x.id.seat) (has_one k l)
+  where
+    by : Dec (k ≡ x.id.seat) → (of_seat k l ≡ 0) ⊎ ((w : Wait) × (0 < times w l) × (w.id.seat ≡ k))
+        → (of_seat k (x ∷ l) ≡ 0) ⊎ ((w : Wait) × (0 < times w (x ∷ l)) × (w.id.seat ≡ k))
+    by (yes at) _ = inr (x, (let here = one_here x in omega arith), sym at)
+    by (no apart) (inl none) = inl (let off = on_else k x.id.seat 1 apart in omega arith)
+    by (no apart) (inr some) = inr (some.0, (let more = some.1 in omega arith), some.2)
+
+parked_once : (t u : Ticket) → Waiting t P ≡ Waiting u P → t ≡ u
+parked_once t u e = cc
+
+asleep_most : (place : ListPlace) (grant : ℕ) → asleep_on_list place grant ≤ 1
 asleep_most (Waiting t P) zero = omega arith
 asleep_most (Waiting t P) (suc grant) = omega arith
 asleep_most _ grant = omega arith
 
-asleep_granted : (t : Ticket) (grant : ℕ) → 0 < grant → asleep_on_list (Waiting t P) grant ≡ 0
-asleep_granted t zero some = absurd (omega arith)
-asleep_granted t (suc grant) some = refl
+module _ (seats : ℕ) (s : ListWorld) (placed : WaitsPlaced seats s) where
+  -- a list whose waits stand in the list of waits or in hands
+  abbrev Stand : List Wait → Type 0
+  Stand l = (w : Wait) → 0 < times w l → 0 < standing seats s w
 
--- where a wait has the ticket, the list without the first that has it is shorter by one
-pub one_fewer : (t : ℕ) (l : List Wait) (w : Wait) → first_with t l ≡ Some w → length l ≡ length (without_first t l) + 1
-one_fewer t [] w e = absurd cc
-one_fewer t (y ∷ l) w e = by (one_fewer t l w) (eqb_tells y.ticket t) e
-  where
-    by : (first_with t l ≡ Some w → length l ≡ length (without_first t l) + 1)
-        → ((eqb y.ticket t ≡ true) × (y.ticket ≡ t)) ⊎ ((eqb y.ticket t ≡ false) × (y.ticket ≢ t))
-        → (if y.ticket == t then Some y else first_with t l) ≡ Some w
-        → length (y ∷ l) ≡ length (if y.ticket == t then l else y ∷ without_first t l) + 1
-    by rest (inl here) = rw here.0 (λ e. omega arith)
-    by rest (inr there) = rw there.0 (λ e. let r = rest e in omega arith)
+  in_list : Stand s.words.queue
+  in_list w some = omega arith
 
--- a row moves waits from the list to its seat's hand, or adds one when its seat parks
-counted_row : {i : ℕ} {g h : ListWords} {p q : ListSeat} {e : ListEffect} → Row i g p q h e → IsGrantOf p.place (g.grants i)
-    → length h.queue + length q.hand + asleep_on_list p.place (g.grants i) ≡ length g.queue + length p.hand + asleep_on_list q.place (h.grants i)
-counted_row n1 grant = refl
-counted_row {i = i} {g = g} (w4 {t = t}) grant =
-    let longer = length-append g.queue (wait_for i t ∷ []) in
-    let parks : asleep_on_list (Waiting t P) (g.grants i) ≡ 1 = ap (asleep_on_list (Waiting t P)) grant in omega arith
-counted_row {i = i} {g = g} (woken {t = t} some) grant = let woke = asleep_granted t (g.grants i) some in omega arith
-counted_row {g = g} (o8_some {t = t} {w = w} first) grant = let fewer = one_fewer t g.queue w first in omega arith
-counted_row (l7_none e) grant = let nobody = ap length e in omega arith
-counted_row (l7_some e) grant = let all = ap length e in omega arith
-counted_row _ grant = refl
+  in_hand : (i : ℕ) → i < seats → Stand (s.seats i).hand
+  in_hand i there w some = let held = total_has seats (λ k. times w (s.seats k).hand) i there in omega arith
 
--- a seat that grants the first wait in its hand drops it, and isn't parked
-dropped : {p q : ListSeat} {w : Wait} → Post p q w → (grant : ℕ)
-    → (length p.hand ≡ length q.hand + 1) × (asleep_on_list p.place grant ≡ 0) × (asleep_on_list q.place grant ≡ 0)
-dropped o9 grant = (omega arith, refl, refl)
-dropped l8_last grant = (omega arith, refl, refl)
-dropped l8_more grant = (omega arith, refl, refl)
+  of_there : (l : List Wait) → Stand l → length l ≡ total seats (λ k. of_seat k l)
+  of_there l stand = by_seats seats l (λ w some. (waiter_of seats s w placed (stand w some)).2)
 
-pub counted_kept : (seats i : ℕ) (s t : ListWorld) → i < seats → GrantsHeld s → WaitsPlaced seats s → ListSleepersCounted seats s → Step s i t
-    → ListSleepersCounted seats t
-counted_kept seats i s t in_range grants placed before (own {q = q} {h = h} row) =
-    let moves = counted_row row (grants i) in
-    let hands = owned (λ k z grant. length z.hand) seats s.seats s.words.grants h.grants i q in_range (grants_else row) in
-    let sleepers = owned (λ k z grant. asleep_on_list z.place grant) seats s.seats s.words.grants h.grants i q in_range (grants_else row) in
-    omega arith
-counted_kept seats i s t in_range grants placed before (post {q = q} {w = w} row) =
-    let v = waiter_of_post seats s i in_range placed row in
-    let ne = other_seat seats s i v row in
-    let hands = owned (λ k z grant. length z.hand) seats s.seats s.words.grants s.words.grants i q in_range (λ k h. refl) in
-    let sleepers = posted (λ k z grant. asleep_on_list z.place grant) seats s.seats s.words.grants i w.id.seat 1 q in_range v.2 ne in
-    let gone = dropped row (s.words.grants i) in
-    let was : asleep_on_list (s.seats w.id.seat).place (s.words.grants w.id.seat) ≡ 1 = ap₂ asleep_on_list v.0 v.1 in
-    let after = ap (λ place. asleep_on_list place 1) v.0 in omega arith
+  -- how many waits the seat k has in all
+  abbrev waits_of : ℕ → ℕ
+  waits_of k = of_seat k s.words.queue + total seats (λ i. of_seat k (s.seats i).hand)
+
+  -- they are as many as f counts in the list and in hands, where f counts the seat's waits
+  waits_like : (k : ℕ) (f : List Wait → ℕ) → ((l : List Wait) → Stand l → of_seat k l ≡ f l)
+      → waits_of k ≡ f s.words.queue + total seats (λ i. f (s.seats i).hand)
+  waits_like k f same =
+      let listed = same s.words.queue in_list in
+      let held = total_same seats (λ i. of_seat k (s.seats i).hand) (λ i. f (s.seats i).hand) (λ i there. same (s.seats i).hand (in_hand i there)) in
+      omega arith
+
+  -- a seat that isn't parked without a grant has none, and one that is has one
+  awake_none : (k : ℕ) → asleep_on_list (s.seats k).place (s.words.grants k) ≡ 0 → waits_of k ≡ 0
+  awake_none k awake =
+      let zeros = nothing seats (λ i. 0) (λ i. refl) in let is = waits_like k (λ l. 0) (λ l stand. by l stand (has_one k l)) in omega arith
+    where
+      by : (l : List Wait) → Stand l → (of_seat k l ≡ 0) ⊎ ((w : Wait) × (0 < times w l) × (w.id.seat ≡ k)) → of_seat k l ≡ 0
+      by l stand (inl none) = none
+      by l stand (inr some) =
+          let v = waiter_of seats s some.0 placed (stand some.0 some.1) in
+          let asleep = ap₂ asleep_on_list v.0 v.1 in
+          let here = ap (λ k. asleep_on_list (s.seats k).place (s.words.grants k)) some.2 in absurd (omega arith)
+
+  asleep_one : (k : ℕ) (t : Ticket) → k < seats → (s.seats k).place ≡ Waiting t P → s.words.grants k ≡ 0 → waits_of k ≡ 1
+  asleep_one k t there parked unset =
+      let w = wait_for k t in
+      let is = waits_like k (times w) (λ l stand. all_this w l (same l stand)) in
+      let sum = single seats (λ j. awaits w j (s.seats j).place (s.words.grants j)) k there
+      (λ j ne. awaits_else w j (s.seats j).place (s.words.grants j) ne) in
+      let here = ap₂ (awaits w k) parked unset in
+      let one = one_here w in
+      let all = placed w in omega arith
+    where
+      same : (l : List Wait) → Stand l → (x : Wait) → 0 < times x l → x.id.seat ≡ k → wait_for k t ≡ x
+      same l stand x some at =
+          let v = waiter_of seats s x placed (stand x some) in
+          let e = parked_once _ _ (sym parked ∙ ap (λ j. (s.seats j).place) (sym at) ∙ v.0) in
+          λ j. record { id = record { seat = sym at j; turn = (e j).number }; ticket = (e j).word }
+
+  one_each : (k : ℕ) → k < seats → waits_of k ≡ asleep_on_list (s.seats k).place (s.words.grants k)
+  one_each k there = by (s.seats k).place (s.words.grants k) refl refl
+    where
+      none : (place : ListPlace) (grant : ℕ) → (s.seats k).place ≡ place → s.words.grants k ≡ grant → asleep_on_list place grant ≡ 0
+          → waits_of k ≡ 0
+      none place grant at is awake = awake_none k (ap₂ asleep_on_list at is ∙ awake)
+
+      by : (place : ListPlace) (grant : ℕ) → (s.seats k).place ≡ place → s.words.grants k ≡ grant → waits_of k ≡ asleep_on_list place grant
+      by (Waiting t P) zero at is = asleep_one k t there at is
+      by (Waiting t P) (suc grant) at is = none (Waiting t P) (suc grant) at is refl
+      by place grant at is = none place grant at is refl
+
+  pub counted : ListSleepersCounted seats s
+  counted =
+      let listed = of_there s.words.queue in_list in
+      let held = total_same seats (λ i. length (s.seats i).hand) (λ i. total seats (λ k. of_seat k (s.seats i).hand))
+      (λ i there. of_there (s.seats i).hand (in_hand i there)) in
+      let turned = swapped seats seats (λ i k. of_seat k (s.seats i).hand) in
+      let sum = total_add seats (λ k. of_seat k s.words.queue) (λ k. total seats (λ i. of_seat k (s.seats i).hand)) in
+      let each = total_same seats waits_of (λ k. asleep_on_list (s.seats k).place (s.words.grants k)) one_each in omega arith
+
+  pub room : HasRoom seats s
+  room k there awake =
+      let rest = total_rest seats (λ j. asleep_on_list (s.seats j).place (s.words.grants j)) (λ j. 1) k there
+      (λ j. asleep_most (s.seats j).place (s.words.grants j)) in
+      let most = at_most_ones seats (λ j. 1) (λ j h. omega arith) in
+      let sleepers = counted in omega arith

@@ -4,3 +4,7 @@ pub mod ListCalls
 pub mod ListBlind
 pub mod ListLaw
 pub mod ListWellFormed
+pub mod ListEntries
+pub mod ListHolders
+pub mod ListPlaces
+pub mod ListAccounts

@@ -43,6 +43,5 @@ pub record IsWellFormedList (first seats : ℕ) (s : ListWorld) : Type 0 where
   pub lock : LockHeld seats s
   pub words : WordsTell first s.words
   pub placed : list.WaitsPlaced seats s
-  pub sleepers : ListSleepersCounted seats s
   pub grants : GrantsHeld s
   pub seats_known : (k : ℕ) → k < seats → IsWellFormedListSeat first s.words (s.seats k)

@@ -1,9 +1,16 @@
-//! The law of one notify list, as a function.
+//! The laws of one notify list, as functions.
 
+ghost use Rattle.list_law.specs.ListAccounts.{TheListAccounts};
 ghost use Rattle.list_law.specs.ListLaw.{TheListLaw};
 
 /// The rows of one notify list, for up to 2^63 seats, with tickets that wrap at 64 bits: one invariant holds at every start,
 /// every step keeps it, and it gives the whole lawful list; and what the list's calls may conclude.
 pub fn law_of_the_lists()
     ensures { TheListLaw }
+{}
+
+/// The accounts of one notify list: whose each entry is, who may change which word, how many waits there are, whom a grant
+/// reaches, and that nothing is left where all seats rest.
+pub fn law_of_the_list_accounts()
+    ensures { TheListAccounts }
 {}

@@ -1,27 +1,20 @@
 -- What the rows of a notify list ask for holds in each world that steps reach: no number is too great for its word, and each
 -- wait has room.
-use Rattle.std.proofs.Common.{◌≡◌, ℕ, ◌+◌, ◌<◌, ◌≤◌}
+use Rattle.std.proofs.Common.{◌≡◌, ℕ, ◌<◌, ◌≤◌}
 use Rattle.std.proofs.Common.{List, [], ◌∷◌, length, slice_get, IfSome, refl, ap, subst, arith}
 use Rattle.waiters.specs.declared.wait.Wait.{Wait}
 use Rattle.step_table.specs.declared.list_place.AllRow.TheVariants.{L7}
 use Rattle.step_table.specs.declared.list_place.ListPlace.{ListPlace}
 use Rattle.step_table.specs.declared.list_place.ListPlace.TheVariants.{Waiting, NotifyingAll}
 use Rattle.step_table.specs.declared.list_place.WaitRow.TheVariants.{W2, W4}
-use Rattle.step_table.specs.Counting.{total}
 use Rattle.step_table.specs.ListWorld.{ListWorld}
 use Rattle.list_law.specs.ListLawful.{times}
 use Rattle.list_law.specs.ListInvariant.{HandFits}
 use Rattle.list_law.specs.ListWellFormed.{asleep_on_list, IsWellFormedList}
 use Rattle.step_rows.specs.ListStored.{AsksAt, HasListRow}
-use Rattle.step_table.proofs.Sums.{total_has, total_rest}
-use Rattle.step_table.proofs.SumsOfSums.{at_most_ones}
+use Rattle.step_table.proofs.Sums.{total_has}
 use Rattle.list_law.proofs.ListPlacing.{one_here, waiter_of}
-use Rattle.list_law.proofs.ListSleeping.{asleep_most}
-
--- where each term is at most 1 and one is 0, the sum is less than their number
-fewer : (n : ℕ) (f : ℕ → ℕ) (i : ℕ) → i < n → ((k : ℕ) → f k ≤ 1) → f i ≡ 0 → total n f < n
-fewer n f i h most zero_here =
-    let rest = total_rest n f (λ k. 1) i h most in let all = at_most_ones n (λ k. 1) (λ k h. omega arith) in omega arith
+use Rattle.list_law.proofs.ListSleeping.{room}
 
 nothing_held : (l : List Wait) → length l ≡ 0 → l ≡ []
 nothing_held [] empty = refl
@@ -43,14 +36,6 @@ module _ (first seats i : ℕ) (s : ListWorld) (in_range : i < seats) (inv : IsW
       first_held seats (s.seats i).hand
       (λ w some. let held = total_has seats (λ k. times w (s.seats k).hand) i in_range in (waiter_of seats s w inv.placed (omega arith)).2)
 
-  -- while a seat is awake, fewer waits are in the list and in hands than there are seats
-  pub room_for_one : asleep_on_list (s.seats i).place (s.words.grants i) ≡ 0
-      → length s.words.queue + total seats (λ k. length (s.seats k).hand) < seats
-  room_for_one awake =
-      let counted = inv.sleepers in
-      let sleepers = fewer seats (λ k. asleep_on_list (s.seats k).place (s.words.grants k)) i in_range
-      (λ k. asleep_most (s.seats k).place (s.words.grants k)) awake in omega arith
-
   -- a notification of all has nothing in hand before it takes out the waits
   pub hand_empty : (h n : ℕ) → (s.seats i).place ≡ NotifyingAll h (L7 n) → (s.seats i).hand ≡ []
   hand_empty h n is =
@@ -59,7 +44,7 @@ module _ (first seats i : ℕ) (s : ListWorld) (in_range : i < seats) (inv : IsW
   module _ (few : s.words.numbers.handed < 9223372036854775808) where
     asks_at : (place : ListPlace) → (s.seats i).place ≡ place → AsksAt seats s.words s.seats (s.seats i) place
     asks_at (Waiting t W2) is = let le = no_more_granted in omega arith
-    asks_at (Waiting t W4) is = room_for_one (ap (λ p. asleep_on_list p (s.words.grants i)) is)
+    asks_at (Waiting t W4) is = room seats s inv.placed i in_range (ap (λ p. asleep_on_list p (s.words.grants i)) is)
     asks_at (NotifyingAll h (L7 n)) is = hand_empty h n is
     asks_at _ is = tt
 

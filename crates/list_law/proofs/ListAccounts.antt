@@ -1,0 +1,35 @@
+-- The accounts of one notify list, of their parts.
+use Rattle.list_law.proofs.ListKeeping.{list_reached}
+use Rattle.list_law.proofs.ListLawfulness.{list_lawful}
+use Rattle.list_law.proofs.ListCalling.{list_calls, list_least}
+use Rattle.list_law.specs.ListAccounts.{TheListAccounts}
+use Rattle.list_law.proofs.ListOwning.{tells_own, named, never_back, grows}
+use Rattle.list_law.proofs.ListHolding.{only_holders, alone, changes}
+use Rattle.list_law.proofs.ListSleeping.{counted, room}
+use Rattle.list_law.proofs.ListResting.{grants_parked, idle, closed}
+
+pub the_list_accounts : TheListAccounts
+the_list_accounts =
+    record {
+      tells = tells_own;
+      left = only_holders;
+      named = named;
+      reached = λ first seats s small reached.
+          (let inv = list_reached first seats s small reached in
+          record {
+            invariant = inv;
+            lawful = list_lawful first seats s inv;
+            calls = list_calls first seats s small inv;
+            least = λ i there. list_least first seats i s there inv;
+          });
+      numbers = λ first seats s inv. inv.numbers;
+      stays = λ first seats s inv. never_back s inv.follows;
+      alone = alone;
+      counted = λ first seats s inv. counted seats s inv.placed;
+      room = λ first seats s inv. room seats s inv.placed;
+      granted = λ first seats i k x s there inv. grants_parked first seats s inv i k x there;
+      idle = idle;
+      cleared = closed;
+      grown = grows;
+      changed = changes;
+    }

@@ -1,0 +1,36 @@
+-- The accounts of one notify list.
+use Rattle.std.specs.Prelude.{◌≡◌, ℕ, ◌^◌, ◌<◌, ◌≤◌}
+use Rattle.step_table.specs.ListWorld.{ListWorld}
+use Rattle.step_table.specs.ListSteps.{event_of, ListStep, IsListReached}
+use Rattle.list_law.specs.ListLawful.{told}
+use Rattle.list_law.specs.ListInvariant.{IsListInvariant}
+use Rattle.list_law.specs.ListWellFormed.{ListSleepersCounted}
+use Rattle.list_law.specs.ListEntries.{EntriesNamed, TellsOwn, NumbersTold, NoneTakenBack, NeverTakenBack}
+use Rattle.list_law.specs.ListHolders.{StoresGrant, HolderAlone, OnlyHolders, ChangesWords}
+use Rattle.list_law.specs.ListPlaces.{HasRoom, GrantsParked, RestsIdle, AllRest, NothingLeft, ReachedList}
+
+-- what a row or a choice of a caller does from any world; what is known of reached worlds; what holds of each world with the
+-- invariant; and what one step does from such a world
+pub record TheListAccounts : Type 0 where
+  -- of every step
+  pub tells : (s t : ListWorld) (i : ℕ) → ListStep s i t → TellsOwn i s t
+  pub left : (s t : ListWorld) (i : ℕ) → ListStep s i t → OnlyHolders i s t
+  -- of reached worlds
+  pub named : (first seats : ℕ) (s : ListWorld) → IsListReached first seats s → EntriesNamed seats s
+  pub reached : (first seats : ℕ) (s : ListWorld) → seats ≤ 2 ^ 63 → IsListReached first seats s
+      → ReachedList first seats s
+  -- of worlds with the invariant
+  pub numbers : (first seats : ℕ) (s : ListWorld) → IsListInvariant first seats s → NumbersTold s
+  pub stays : (first seats : ℕ) (s : ListWorld) → IsListInvariant first seats s → NeverTakenBack s
+  pub alone : (first seats : ℕ) (s : ListWorld) → IsListInvariant first seats s → HolderAlone seats s
+  pub counted : (first seats : ℕ) (s : ListWorld) → IsListInvariant first seats s → ListSleepersCounted seats s
+  pub room : (first seats : ℕ) (s : ListWorld) → IsListInvariant first seats s → HasRoom seats s
+  pub granted : (first seats i k x : ℕ) (s : ListWorld) → i < seats → IsListInvariant first seats s
+      → StoresGrant (event_of s i) k x → (x ≡ 1) × GrantsParked seats i k s
+  pub idle : (first seats : ℕ) (s : ListWorld) → IsListInvariant first seats s → RestsIdle seats s
+  pub cleared : (first seats : ℕ) (s : ListWorld) → IsListInvariant first seats s → AllRest seats s → NothingLeft seats s
+  -- of a step from such a world
+  pub grown : (first seats i : ℕ) (s t : ListWorld) → i < seats → IsListInvariant first seats s → ListStep s i t
+      → NoneTakenBack (told s.journal) (told t.journal)
+  pub changed : (first seats i : ℕ) (s t : ListWorld) → i < seats → IsListInvariant first seats s → ListStep s i t
+      → ChangesWords i s t

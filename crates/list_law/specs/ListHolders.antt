@@ -1,0 +1,58 @@
+-- Who may change which word of a notify list: only the holder of the lock changes what it guards, and a grant word is raised
+-- by another seat and lowered by its own.
+use Rattle.std.specs.Prelude.{◌≡◌, ◌≢◌, ◌⊎◌, ℕ, ◌<◌, [], ◌∷◌, ◌++◌}
+use Rattle.step_table.specs.declared.list_place.ListWord.TheVariants.{Lock, Grant}
+use Rattle.step_table.specs.Wrapping.{next_word}
+use Rattle.step_table.specs.EventOf.{store, give_lock}
+use Rattle.step_table.specs.ListWorld.{ListWords, Took, ListWorld}
+use Rattle.step_table.specs.ListEvent.{ListNext, ListEvent}
+use Rattle.step_table.specs.ListSteps.{event_of}
+use Rattle.list_law.specs.ListLawful.{holds}
+
+-- the event gives the lock back
+abbrev pub GivesLock : ListEvent → Type 0
+GivesLock event = (next : ListNext) × (event ≡ give_lock Lock next)
+
+-- the event stores x in the grant word of the seat k
+abbrev pub StoresGrant : ListEvent → ℕ → ℕ → Type 0
+StoresGrant event k x = (next : ListNext) × (event ≡ store (Grant k) x next)
+
+-- the lock word is 1, and no other seat holds the lock
+pub record HoldsAlone (seats i : ℕ) (s : ListWorld) : Type 0 where
+  pub lock : s.words.lock ≡ 1
+  pub alone : (k : ℕ) → k < seats → k ≢ i → holds (s.seats k).place ≡ 0
+
+-- a seat that holds the lock is alone, and a seat that is about to give it back holds it
+abbrev pub HolderAlone : ℕ → ListWorld → Type 0
+HolderAlone seats s =
+    (i : ℕ) → i < seats
+    → (holds (s.seats i).place ≡ 1 → HoldsAlone seats i s) × (GivesLock (event_of s i) → holds (s.seats i).place ≡ 1)
+
+-- from g to h the list, the notify word and the number granted stay, and the lock stays or, where it was free, is taken
+pub record LeavesGuarded (g h : ListWords) : Type 0 where
+  pub queue : h.queue ≡ g.queue
+  pub notify : h.notify ≡ g.notify
+  pub granted : h.numbers.granted ≡ g.numbers.granted
+  pub lock : (h.lock ≡ g.lock) ⊎ ((g.lock ≡ 0) × (h.lock ≡ 1))
+
+-- only the holder of the lock changes what it guards
+abbrev pub OnlyHolders : ℕ → ListWorld → ListWorld → Type 0
+OnlyHolders i s t = holds (s.seats i).place ≡ 0 → LeavesGuarded s.words t.words
+
+-- a lock word stays, or goes from 0 to 1, or back to 0 by giving the lock
+abbrev pub LockChanges : ListEvent → ℕ → ℕ → Type 0
+LockChanges event before after =
+    (after ≡ before) ⊎ (((before ≡ 0) × (after ≡ 1)) ⊎ (GivesLock event × (before ≡ 1) × (after ≡ 0)))
+
+-- the grant word of the seat k stays, or goes from 0 to 1 by a store of another seat, or back to 0 where it is that of seat i
+abbrev pub GrantChanges : ℕ → ListEvent → ℕ → ℕ → ℕ → Type 0
+GrantChanges i event k before after =
+    (after ≡ before)
+    ⊎ (((k ≡ i) × (0 < before) × (after ≡ 0)) ⊎ ((k ≢ i) × StoresGrant event k 1 × (before ≡ 0) × (after ≡ 1)))
+
+-- how a step of seat i may change the words: the wait word by a ticket that it tells, and the lock and grants by its event
+pub record ChangesWords (i : ℕ) (s t : ListWorld) : Type 0 where
+  pub wait : (t.words.wait ≡ s.words.wait)
+      ⊎ ((t.words.wait ≡ next_word s.words.wait) × (t.journal ≡ s.journal ++ Took i ∷ []))
+  pub lock : LockChanges (event_of s i) s.words.lock t.words.lock
+  pub grants : (k : ℕ) → GrantChanges i (event_of s i) k (s.words.grants k) (t.words.grants k)
