@@ -29,7 +29,7 @@ use Rattle.step_table.specs.Core.{CoreLayout}
 use Rattle.core_law.specs.CoreLaw.{IsCallBefore}
 use Rattle.core_law.specs.RunInvariant.{to_add, to_take, has_ticket}
 use Rattle.alike_law.specs.Bent.{bent_row, bent_place, bent_wait_row, bent_list_place}
-use Rattle.list_law.specs.ListWellFormed.{asleep_on_list, StillReads}
+use Rattle.list_law.specs.ListWellFormed.{StillReads}
 
 -- two places between which a change of the table leads
 pub data Bends : Place → Place → Type 0 where
@@ -170,7 +170,6 @@ list_bends v notify from next = same_place
 pub record IsAsGoodOnList (p q : ListPlace) : Type 0 where
   pub holds : lists.holds q ≡ lists.holds p
   pub awaits : (w : Wait) (k grant : ℕ) → list.awaits w k q grant ≡ list.awaits w k p grant
-  pub asleep : (grant : ℕ) → asleep_on_list q grant ≡ asleep_on_list p grant
   pub to_take : to_take q ≡ to_take p
   pub has : (ticket : Option Ticket) → has_ticket q ticket ≡ has_ticket p ticket
   pub fits : (n : ℕ) → list.HandFits p n → list.HandFits q n
@@ -188,7 +187,6 @@ pub as_good_on_list : {p q : ListPlace} → ListBends p q → IsAsGoodOnList p q
 as_good_on_list same_place = record {
   holds = refl;
   awaits = λ w k grant. refl;
-  asleep = λ grant. refl;
   to_take = refl;
   has = λ ticket. refl;
   fits = λ n is. is;
@@ -201,7 +199,6 @@ as_good_on_list same_place = record {
 as_good_on_list (parks {t = t}) = record {
   holds = refl;
   awaits = λ w k grant. refl;
-  asleep = λ grant. refl;
   to_take = refl;
   has = λ ticket. has_none t W4 W3 ticket;
   fits = λ n is. is;
@@ -214,7 +211,6 @@ as_good_on_list (parks {t = t}) = record {
 as_good_on_list (returns {t = t}) = record {
   holds = refl;
   awaits = λ w k grant. refl;
-  asleep = λ grant. refl;
   to_take = refl;
   has = λ ticket. has_none t W3 W4 ticket;
   fits = λ n is. is;

@@ -3,7 +3,7 @@ use Rattle.std.proofs.Common.{◌≡◌, ◌≢◌, ℕ, zero, suc, ◌+◌, ◌
 use Rattle.std.proofs.lemmas.Bool.{le-ltb}
 use Rattle.step_table.specs.declared.entry.Entry.{Entry}
 use Rattle.step_table.specs.declared.list_place.ListEffect.{ListEffect}
-use Rattle.step_table.specs.declared.list_place.ListEffect.TheVariants.{HandsOut, Wakes as GrantsUpTo}
+use Rattle.step_table.specs.declared.list_place.ListEffect.TheVariants.{HandsOut, Grants as GrantsUpTo}
 use Rattle.step_table.specs.declared.list_place.ListPlace.{ListPlace}
 use Rattle.step_table.specs.declared.list_place.ListPlace.TheVariants as on_list
 use Rattle.step_table.specs.declared.effect.Effect.{Effect}
