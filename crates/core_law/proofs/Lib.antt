@@ -25,3 +25,7 @@ pub mod GroupTurns
 pub mod GroupSteps
 pub mod GroupStarts
 pub mod GroupRuns
+pub mod Naming
+pub mod RunEarly
+pub mod RunGranting
+pub mod RunReading

@@ -15,8 +15,8 @@ core_keeps parts = record {
   starts = calling.core_at_first (layout parts);
   stand = λ s inv. inv.standing;
   known = λ s i there inv. record { seat = inv.semaphores.seats i; finds = inv.semaphores.finds i there };
-  called = calling.called (layout parts) (calling.all_keep (layout parts));
-  kept = keeping.kept (layout parts) (calling.all_keep (layout parts));
+  called = calling.calls_keep (layout parts);
+  kept = keeping.rows_keep (layout parts);
 }
 
 pub is_started : (parts : Parts) → IsScenario parts → IsSoundRun parts (start parts)

@@ -21,6 +21,7 @@ use Rattle.step_table.specs.ListSteps.{IsListReached}
 use Rattle.list_law.specs.ListLawful.{IsLawfulList}
 use Rattle.list_law.specs.ListLawful as list
 use Rattle.step_table.specs.Core.{CoreLayout, semaphore, counters_of, Core, OneJournalOfAll}
+use Rattle.core_law.specs.Naming.{EntriesNamed}
 
 -- the place is that of a call after which this comes: a call of the seat's own on a counter of no group, or one that a call
 -- on a group makes on its semaphore, without lifo or handoff
@@ -57,15 +58,20 @@ pub record IsKept (OnCounters : SemaWorld → Type 0) (OnList : ℕ → ListWorl
   pub standing : AllStand m s
 
 -- what each step keeps
-abbrev pub IsCoreInvariant : CoreLayout → Core → Type 0
-IsCoreInvariant m s = IsKept (IsInvariant (counters_of m)) (λ l w. IsListReached (m.firsts l) m.seats w) m s
+pub record IsCoreInvariant (m : CoreLayout) (s : Core) : Type 0 where
+  pub semaphores : IsInvariant (counters_of m) s.semaphores
+  pub lists : (l : ℕ) → IsListReached (m.firsts l) m.seats (s.lists l)
+  pub journals : OneJournalOfAll s
+  pub standing : AllStand m s
+  pub named : EntriesNamed m s
 
--- each part is lawful
+-- each part is lawful, and the entries of the journal name what is there
 pub record IsLawfulCore (m : CoreLayout) (s : Core) : Type 0 where
   pub semaphores : IsLawfulWorld (counters_of m) s.semaphores
   pub lists : (l : ℕ) → IsLawfulList (m.firsts l) m.seats (s.lists l)
   pub journals : OneJournalOfAll s
   pub standing : AllStand m s
+  pub named : EntriesNamed m s
 
 -- the seat is parked on a counter whose number is 0, its wait in that counter's list
 abbrev pub SleepsOnCounter : Core → ℕ → Type 0

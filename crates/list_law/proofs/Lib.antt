@@ -23,3 +23,4 @@ pub mod ListHolding
 pub mod ListSleeping
 pub mod ListResting
 pub mod ListAccounts
+pub mod ListGranting

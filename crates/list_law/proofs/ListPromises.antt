@@ -8,6 +8,7 @@ use Rattle.list_law.proofs.ListLawfulness.{list_lawful}
 use Rattle.list_law.proofs.ListCalling.{list_calls, list_least, list_own, list_closed}
 use Rattle.list_law.proofs.ListTelling.{list_tells}
 use Rattle.list_law.proofs.ListEarly.{list_early}
+use Rattle.list_law.proofs.ListGranting.{each_grants, rows_grant}
 use Rattle.list_law.proofs.ListEnding.{list_ends}
 use Rattle.list_law.proofs.ListBlindness.{rows_are_blind}
 
@@ -19,6 +20,7 @@ the_list_law =
       lawful = list_lawful;
       reached = λ first seats s small reached. list_lawful first seats s (list_reached first seats s small reached);
       least = list_least;
+      granted = λ first seats s small reached. (each_grants first seats small reached, rows_grant first seats small s reached);
       calls = list_calls;
       tells = list_tells;
       own = list_own;

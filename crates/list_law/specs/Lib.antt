@@ -8,3 +8,4 @@ pub mod ListEntries
 pub mod ListHolders
 pub mod ListPlaces
 pub mod ListAccounts
+pub mod ListGrants

@@ -67,13 +67,17 @@ TellsSince =
     → (s.seats k).place ≡ Rest → Leads seats s t → Concludes t (t.seats k).place h
     → (told s.journal).handed ≤ (told t.journal).granted
 
--- where no seat has looked at a late ticket, a notification of one takes out the wait of the very ticket that it granted, and
--- finds none only where that wait isn't in the list
-abbrev pub TakesOwn : ℕ → ListWorld → Type 0
-TakesOwn seats s =
-    NoneLate seats s → (k h t : ℕ) → k < seats → (s.seats k).place ≡ NotifyingOne h (O8 t)
+-- a notification of one takes out the wait of the very ticket that it granted, and finds none only where that wait isn't in
+-- the list
+abbrev pub OwnTaken : ℕ → ListWorld → Type 0
+OwnTaken seats s =
+    (k h t : ℕ) → k < seats → (s.seats k).place ≡ NotifyingOne h (O8 t)
     → ((w : Wait) → first_with t s.words.queue ≡ Some w → w.id.turn + 1 ≡ (told s.journal).granted)
     × (first_with t s.words.queue ≡ None → (w : Wait) → 0 < times w s.words.queue → w.id.turn + 1 ≢ (told s.journal).granted)
+
+-- and that where no seat has looked at a late ticket
+abbrev pub TakesOwn : ℕ → ListWorld → Type 0
+TakesOwn seats s = NoneLate seats s → OwnTaken seats s
 
 -- no seat has looked at a late ticket before more than 2^63 tickets were handed out
 abbrev pub EarlyNoneLate : Type 0

@@ -11,6 +11,7 @@ use Rattle.step_table.specs.ListSteps.{ListTurn, ListStep, IsListReached, IsList
 use Rattle.list_law.specs.ListLawful.{told, times, NoneLate, IsLawfulList}
 use Rattle.list_law.specs.ListInvariant.{IsListInvariant}
 use Rattle.list_law.specs.ListCalls.{CallsConclude, GrantsLeast, TellsSince, TakesOwn, EarlyNoneLate}
+use Rattle.list_law.specs.ListGrants.{EachGrantsLeast, RowsGrantLeast}
 use Rattle.list_law.specs.ListBlind.{RowsAreBlind}
 
 -- the lock is free, and each seat is at rest or parked with its wait in the list and no grant, the ticket ungranted where no
@@ -55,6 +56,8 @@ pub record TheListLaw : Type 0 where
   pub reached : (first seats : ℕ) (s : ListWorld) → seats ≤ 2 ^ 63 → IsListReached first seats s
       → IsLawfulList first seats s
   pub least : (first seats i : ℕ) (s : ListWorld) → i < seats → IsListInvariant first seats s → GrantsLeast first s i
+  pub granted : (first seats : ℕ) (s : ListWorld) → seats ≤ 2 ^ 63 → IsListReached first seats s
+      → EachGrantsLeast first seats s.journal × RowsGrantLeast first seats s
   pub calls : (first seats : ℕ) (s : ListWorld) → seats ≤ 2 ^ 63 → IsListInvariant first seats s
       → CallsConclude first seats s
   pub tells : TellsSince

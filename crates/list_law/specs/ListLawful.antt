@@ -125,10 +125,13 @@ GrantsHeld s = (k : ℕ) → IsGrantOf (s.seats k).place (s.words.grants k)
 abbrev pub NoneLate : ℕ → ListWorld → Type 0
 NoneLate seats s = (k : ℕ) → k < seats → (s.seats k).late ≡ 0
 
--- while the lock is free no ticket in the list is granted, where no seat has looked at a late one
+-- while the lock is free no ticket in the list is granted
+abbrev pub NoneGranted : ListWorld → Type 0
+NoneGranted s = s.words.lock ≡ 0 → (w : Wait) → 0 < times w s.words.queue → (told s.journal).granted ≤ w.id.turn
+
+-- and that where no seat has looked at a late one
 abbrev pub QueuedUngranted : ℕ → ListWorld → Type 0
-QueuedUngranted seats s =
-    NoneLate seats s → s.words.lock ≡ 0 → (w : Wait) → 0 < times w s.words.queue → (told s.journal).granted ≤ w.id.turn
+QueuedUngranted seats s = NoneLate seats s → NoneGranted s
 
 -- the ticket of a wait in a hand, or of a seat with a grant, is granted
 abbrev pub TakenGranted : ℕ → ListWorld → Type 0

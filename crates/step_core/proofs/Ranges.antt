@@ -1,9 +1,6 @@
 -- What the rows of the whole machine ask for holds in each sound state: no sum wraps, each word and list is stored, and what
 -- a seat's call is on is there.
-use Rattle.std.proofs.Common.{◌≡◌, ℕ, zero, suc, ◌+◌, ◌-◌, ◌*◌, ◌^◌, ◌<◌, ◌≤◌, List, [], ◌∷◌, IfSome, length, get_or, slice_get, refl, sym, ap, ◌∙◌, subst, arith}
-use Rattle.std.proofs.lemmas.List.Elements.{All-get_or}
-use Rattle.std.proofs.Math.ListN.{get_or-eq_default}
-use native.Mathlib.Decide.{ℕ_discrete}
+use Rattle.std.proofs.Common.{◌≡◌, ℕ, zero, ◌+◌, ◌^◌, ◌<◌, ◌≤◌, List, [], ◌∷◌, IfSome, length, slice_get, refl, sym, ap, ◌∙◌, subst, arith}
 use Rattle.waiters.specs.declared.wait.WaitId.{WaitId}
 use Rattle.step_rows.specs.declared.caller.Caller.{Caller}
 use Rattle.step_table.specs.declared.place.AcquireRow.TheVariants.{A7, P}
@@ -21,37 +18,25 @@ use Rattle.step_table.specs.Counting.{total, times, IsWithin}
 use Rattle.sema_law.specs.Invariant.{Finds, asleep}
 use Rattle.step_rows.specs.Stored.{Stored, HasRow, HasRowsOf, HasHand, MayMove, each, idle, words_of, root_of, row_finds, row_event}
 use Rattle.step_table.specs.ListWorld.{ListWorld}
-use Rattle.list_law.specs.ListLawful.{told}
 use Rattle.step_rows.specs.ListStored.{HasListRow, CanStep}
 use Rattle.step_rows.specs.Roots.{queued}
 use Rattle.step_table.specs.Core.{counters_of}
 use Rattle.core_law.specs.CoreLaw.{IsStanding}
-use Rattle.step_table.specs.Scenario.{IsScript}
 use Rattle.step_table.specs.Run.{layout}
-use Rattle.core_law.specs.RunInvariant.{calls_of}
 use Rattle.alike_law.specs.declared.variant.Variant.{Variant}
 use Rattle.alike_law.specs.declared.variant.Variant.TheVariants.{PlainLess}
 use Rattle.sema_law.specs.WellFormed.{IsWellFormedWorld}
 use Rattle.step_core.specs.BentStored.{IsWellFormed}
 use Rattle.step_core.specs.State.{State, IsSound, AsksFor, no_list, run_of}
-use Rattle.step_table.proofs.Sums.{total_zero, total_suc, total_rest, total_has}
+use Rattle.step_table.proofs.Sums.{total_rest, total_has}
+use Rattle.core_law.proofs.RunEarly.{total_most, begun_few, all_begun_few, handed_few}
 use Rattle.sema_law.proofs.Placing.{same_here}
 use Rattle.step_rows.proofs.Rooting.{root_within}
 use Rattle.sema_law.proofs.Bounding.{well_formed}
 use Rattle.alike_law.proofs.BentBounding.{bent_bounded}
 use Rattle.sema_law.proofs.Parking.{in_a_hand}
 use Rattle.alike_law.proofs.BentLists.{well_formed_list}
-use Rattle.list_law.proofs.ListKeeping.{list_reached}
-use Rattle.list_law.proofs.ListLawfulness as lists
 use Rattle.step_rows.proofs.ListRanges.{has_list_row}
-
--- a sum of n terms, each at most b
-total_most : (n b : ℕ) (f : ℕ → ℕ) → ((k : ℕ) → k < n → f k ≤ b) → total n f ≤ b * n
-total_most zero b f most = let none = total_zero f in omega arith
-total_most (suc n) b f most =
-    let last = most n (omega arith) in
-    let others : total n f ≤ b * n = total_most n b f (λ k h. most k (omega arith)) in
-    let sum = total_suc n f in omega arith
 
 grant_most : (p : Place) (g : ℕ) → IsGrantOf p g → g ≤ 2
 grant_most (Acquiring a (P turn)) g h = h
@@ -92,30 +77,12 @@ module _ (v : Variant) (m : State) (sound : IsWellFormed v m) where
   few_words : AllBounded rows_of world
   few_words = bent_bounded v rows_of world law sound.waiters
 
-  script_short : (s : ℕ) → length (calls_of m.parts s) ≤ 32
-  script_short s = by (ℕ_discrete (length m.parts.calls - s) 0)
-    where
-      by : Dec (length m.parts.calls - s ≡ 0) → length (get_or m.parts.calls s []) ≤ 32
-      by (yes past) = let none = ap length (get_or-eq_default m.parts.calls [] {n = s} (omega arith)) in omega arith
-      by (no here) = (All-get_or IsScript m.parts.calls s [] (omega arith) sound.scenario.limits.scripts).1
-
-  pub begun_few : (s : ℕ) → each 0 m.begun s ≤ 32
-  begun_few s = let most = script_short s in let begun = sound.run.begun s in omega arith
-
   pub begun_small : (k : ℕ) → each 0 m.begun k + 1 < 2 ^ 64
-  begun_small k = let few = begun_few k in omega arith
+  begun_small k = let few = begun_few m.parts sound.scenario (run_of m) sound.run k in omega arith
 
-  -- all seats together have begun few calls, and so units and tickets are few
-  few_begun : total seats (each 0 m.begun) ≤ 512
-  few_begun =
-      let calls = total_most seats 32 (each 0 m.begun) (λ s h. begun_few s) in
-      let few = sound.scenario.limits.seats in omega arith
-
+  -- all seats together have begun few calls, and so units are few
   pub few_units : added world.journal ≤ 2199023255552
-  few_units = let begun = few_begun in let units = sound.run.units in omega arith
-
-  pub few_handed : (l : ℕ) → ((run_of m).core.lists l).words.numbers.handed ≤ 512
-  few_handed l = let begun = few_begun in let handed = sound.run.handed l in omega arith
+  few_units = let begun = all_begun_few m.parts sound.scenario (run_of m) sound.run in let units = sound.run.units in omega arith
 
   -- no number in a word is near the end of its 64 bits
   word_small : (w : Word) → found (root_of h) (words_of h) w + 2 ^ 32 < 2 ^ 64
@@ -215,7 +182,7 @@ module _ (v : Variant) (m : State) (sound : IsWellFormed v m) where
         let list : ListWorld = (run_of m).core.lists l in
         subst (λ n. HasListRow n list.words list.seats i) (sym (sound.machine.seats l there))
         (has_list_row ((layout m.parts).firsts l) seats i list here (sound.run.core.lists l)
-        (let few = few_handed l in omega arith))
+        (let few = handed_few m.parts sound.scenario (run_of m) sound.run l in omega arith))
 
     stands : (doing : Standing) → each Rest m.machine.standing i ≡ doing → IsStanding (layout m.parts) (run_of m).core i doing
     stands doing is = subst (IsStanding (layout m.parts) (run_of m).core i) is (sound.run.core.standing i)
@@ -258,12 +225,3 @@ well_formed_state m sound = record {
   };
   waiters = sound.run.core.semaphores.waiters;
 }
-
--- so few tickets are handed out that none is late
-pub handed_told : (m : State) → IsSound m → (l : ℕ) → (told ((run_of m).core.lists l).journal).handed ≤ 9223372036854775808
-handed_told m sound l =
-    let first : ℕ = (layout m.parts).firsts l in
-    let list : ListWorld = (run_of m).core.lists l in
-    let few_seats : length m.parts.calls ≤ 9223372036854775808 = (let few = sound.scenario.limits.seats in omega arith) in
-    let is = lists.handed_told first (length m.parts.calls) list (list_reached first (length m.parts.calls) list few_seats (sound.run.core.lists l)) in
-    let few = few_handed PlainLess m (well_formed_state m sound) l in omega arith

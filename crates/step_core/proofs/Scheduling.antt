@@ -5,13 +5,10 @@ use Rattle.step_table.specs.Run.{Run, start, stepped, refusal, after_all, reache
 use Rattle.step_core.specs.State.{State, run_of, IsStepped}
 use Rattle.core_law.specs.RunInvariant.{IsScenario}
 use Rattle.core_law.specs.Misused.{AllFairFrom, IsUnmisused}
+use Rattle.core_law.specs.RunGrants.{EachStepGrantsLeast}
 use Rattle.core_law.proofs.RunSound.{is_started, is_stepped}
+use Rattle.core_law.proofs.RunReading.{after_one_more, each_step_grants}
 use Rattle.core_law.proofs.GroupRuns as groups
-
-after_one_more : (parts : Parts) (run : Run) (schedule : List ℕ) (i : ℕ)
-    → after_all parts run (schedule ++ i ∷ []) ≡ stepped parts (after_all parts run schedule) i
-after_one_more parts run [] i = λ j. stepped parts run i
-after_one_more parts run (k ∷ schedule) i = after_one_more parts (stepped parts run k) schedule i
 
 all_run_with : (parts : Parts) (run : Run) (schedule : List ℕ) (i : ℕ)
     → AllRunFrom parts run schedule → refusal parts (after_all parts run schedule) i ≡ None → AllRunFrom parts run (schedule ++ i ∷ [])
@@ -52,3 +49,8 @@ whole_unmisused parts schedule n scenario all runs fair =
     (λ parts scenario. is_started parts scenario)
     (λ parts run i scenario sound free. is_stepped parts run i scenario sound free)
     parts schedule scenario (subst (AllRun parts) (taken_all n schedule all) runs) fair
+
+pub whole_least : (parts : Parts) (schedule : List ℕ) (n : ℕ) → IsScenario parts → length schedule ≤ n → AllRun parts (take n schedule)
+    → EachStepGrantsLeast parts schedule
+whole_least parts schedule n scenario all runs =
+    each_step_grants parts scenario schedule (subst (AllRun parts) (taken_all n schedule all) runs)

@@ -20,12 +20,14 @@ use Rattle.alike_law.specs.Commuting.{ArePlacesApart, IsOnCounter}
 use Rattle.step_rows.specs.Stored.{Semaphores, IsStoredFor, IsSameSize, HasRow, IsReadyFor, each, idle, root_of, event_in, finds_in}
 use Rattle.step_rows.specs.Stored as sema
 use Rattle.step_table.specs.ListWorld.{ListWorld}
+use Rattle.list_law.specs.ListGrants.{EachGrantsLeast}
 use Rattle.step_rows.specs.ListStored.{StoredList, CanStep, IsListReady}
 use Rattle.step_rows.specs.ListStored as list
 use Rattle.step_table.specs.Group.{empty_word}
 use Rattle.step_table.specs.Core.{CoreLayout, Core, sema_entries, list_entries}
 use Rattle.step_table.specs.CoreSteps.{IsCoreEnd, core_turned}
-use Rattle.core_law.specs.CoreLaw.{IsLawfulCore, IsCoreAtRest}
+use Rattle.core_law.specs.CoreLaw.{IsCoreAtRest}
+use Rattle.core_law.specs.RunPromises.{IsLawfulRun}
 use Rattle.step_table.specs.Run.{Run, layout, call_of, begun, start, stepped, refusal_of}
 use Rattle.core_law.specs.RunInvariant.{IsSoundRun, IsScenario}
 
@@ -225,10 +227,15 @@ told m = replay (plain_start (layout m.parts).starts) m.journal
 
 -- each part of what is shown is lawful, and where no seat can run, it is at rest
 abbrev pub ShowsLawful : State → Type 0
-ShowsLawful m = IsLawfulCore (layout m.parts) (run_of m).core
+ShowsLawful m = IsLawfulRun (layout m.parts) (run_of m).core
 
 abbrev pub RestsAtEnd : State → Type 0
 RestsAtEnd m = IsCoreEnd (layout m.parts) (run_of m).core → IsCoreAtRest (layout m.parts) (run_of m).core
+
+-- each grant of the journal is of the least ungranted ticket alone, or of all that were handed out when L5 read the wait word
+abbrev pub TellsLeast : State → Type 0
+TellsLeast m =
+    (l : ℕ) → EachGrantsLeast ((layout m.parts).firsts l) (length m.parts.calls) (list_entries l m.journal)
 
 -- what is true of every run that is stored
 pub record IsSound (m : State) : Type 0 where

@@ -20,13 +20,13 @@ mod world;
 
 pub use alike_law::{Variant, law_of_the_alike, law_of_the_bent, law_of_the_commuting};
 pub use bent_world::BentWorld;
-pub use core_law::law_of_the_core;
+pub use core_law::{law_of_the_core, law_of_the_runs};
 pub use laws::law_of_the_keys;
-pub use list_law::law_of_the_lists;
+pub use list_law::{law_of_the_list_accounts, law_of_the_lists};
 pub use moment::Moment;
 pub use scenario::Scenario;
 pub use schedule::run;
-pub use sema_law::law_of_the_rows;
+pub use sema_law::{law_of_the_accounts, law_of_the_rows};
 pub use step_rows::{Caller, Outcome};
 pub use step_table::{
     Acquire, AcquireRow, After, AllRow, Call, Effect, Entry, GroupId, GroupNext, GroupRow,

@@ -3,6 +3,7 @@
 ghost use Rattle.std.specs.Prelude.{◌≡◌, IfOk, IfErr, OnOk};
 ghost use Rattle.step_table.specs.Run.{AllRun, start, reached, IsRefusedAt};
 ghost use Rattle.core_law.specs.Misused.{AllFairFrom, IsUnmisused};
+ghost use Rattle.core_law.specs.RunGrants.{EachStepGrantsLeast};
 ghost use Rattle.step_core.specs.State.{run_of, ShowsLawful, RestsAtEnd};
 
 use crate::scenario::Scenario;
@@ -13,7 +14,8 @@ use waiters::SeatId;
 
 /// Runs the seats in the order of the schedule, from the start of the scenario. The world is that of the schedule, it
 /// is lawful, and where no seat can run it is at rest. Where each add to a wait group is fair, no seat has failed, and
-/// each group's counter is the sum of its adds. A schedule is refused at its first step that can't be run, or at
+/// each group's counter is the sum of its adds. Each step that grants tickets grants the least ungranted one alone, or
+/// all that were handed out when its L5 read the wait word. A schedule is refused at its first step that can't be run, or at
 /// step 0 where there is no memory for the start.
 pub fn run<'s>(
     alloc: Global,
@@ -26,6 +28,7 @@ pub fn run<'s>(
     ensures ends { IfOk result RestsAtEnd }
     ensures unmisused { OnOk result (AllFairFrom scenario.now (start scenario.now) schedule.now
         → IsUnmisused scenario.now schedule.now) }
+    ensures least { OnOk result (EachStepGrantsLeast scenario.now schedule.now) }
     ensures refused { IfErr result (λ refused. IsRefusedAt scenario.now schedule.now refused.at refused.cause) }
 {
     let Ok(mut world) = World::new(alloc, scenario) else {
