@@ -24,3 +24,4 @@ pub mod ListSleeping
 pub mod ListResting
 pub mod ListAccounts
 pub mod ListGranting
+pub mod ListPaths

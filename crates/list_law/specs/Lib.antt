@@ -9,3 +9,4 @@ pub mod ListHolders
 pub mod ListPlaces
 pub mod ListAccounts
 pub mod ListGrants
+pub mod ListPath

@@ -2,6 +2,7 @@
 
 ghost use Rattle.list_law.specs.ListAccounts.{TheListAccounts};
 ghost use Rattle.list_law.specs.ListLaw.{TheListLaw};
+ghost use Rattle.list_law.specs.ListPath.{TheListPaths};
 
 /// The rows of one notify list, for up to 2^63 seats, with tickets that wrap at 64 bits: one invariant holds at every start,
 /// every step keeps it, and it gives the whole lawful list; and what the list's calls may conclude.
@@ -13,4 +14,10 @@ pub fn law_of_the_lists()
 /// reaches, and that nothing is left where all seats rest.
 pub fn law_of_the_list_accounts()
     ensures { TheListAccounts }
+{}
+
+/// The path of one seat on a notify list, between whose rows others do anything: rows and looks that follow each other make a
+/// path, what is seen only grows, and each read of the wait and notify words and each lead follows from what was seen alone.
+pub fn law_of_the_list_paths()
+    ensures { TheListPaths }
 {}

@@ -21,3 +21,4 @@ pub mod Queueing
 pub mod Resting
 pub mod Changing
 pub mod Accounts
+pub mod SemaPaths

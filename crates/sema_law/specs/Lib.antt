@@ -8,3 +8,4 @@ pub mod Holders
 pub mod Served
 pub mod Bounds
 pub mod Accounts
+pub mod SemaPath

@@ -2,6 +2,7 @@
 
 ghost use Rattle.sema_law.specs.Accounts.{TheAccounts};
 ghost use Rattle.sema_law.specs.Law.{TheLaw};
+ghost use Rattle.sema_law.specs.SemaPath.{TheSemaPaths};
 
 /// The rows of semaphores, for any number of seats, counters and roots: one invariant holds at every start, every step
 /// keeps it, and it gives the whole lawful world.
@@ -13,4 +14,10 @@ pub fn law_of_the_rows()
 /// taken, and that nothing is left where all seats rest.
 pub fn law_of_the_accounts()
     ensures { TheAccounts }
+{}
+
+/// The path of one seat, between whose rows others do anything: rows and looks that follow each other make a path, what is
+/// seen only grows, and each read of a counter and each lead follows from what was seen alone.
+pub fn law_of_the_paths()
+    ensures { TheSemaPaths }
 {}

@@ -1,6 +1,7 @@
 pub mod World
 pub mod EventOf
 pub mod Turn
+pub mod Path
 pub mod Event
 pub mod Acquire
 pub mod Release
@@ -15,6 +16,8 @@ pub mod ListEvent
 pub mod ListTable
 pub mod ListSteps
 pub mod Group
+pub mod GroupBits
+pub mod GroupPath
 pub mod Core
 pub mod CoreSteps
 pub mod Row
