@@ -1,5 +1,5 @@
 -- A run of a scenario hands out few tickets, so that none is late, and each of its worlds is lawful.
-use Rattle.std.proofs.Common.{◌≡◌, ℕ, zero, suc, ◌-◌, ◌*◌, ◌<◌, ◌≤◌, ◌⊎◌, [], length, get_or, ap, inl, inr, arith}
+use Rattle.std.proofs.Common.{◌≡◌, ℕ, ◌-◌, ◌<◌, ◌≤◌, ◌⊎◌, [], length, get_or, ap, inl, inr, arith}
 use Rattle.std.proofs.lemmas.List.Elements.{All-get_or}
 use Rattle.std.proofs.Math.ListN.{get_or-eq_default}
 use native.Mathlib.Decide.{ℕ_discrete}
@@ -20,7 +20,6 @@ use Rattle.step_table.specs.Scenario.{IsScript}
 use Rattle.step_table.specs.Run.{Run, layout}
 use Rattle.core_law.specs.RunInvariant.{calls_of, IsSoundRunOf, IsSoundRun, IsScenario}
 use Rattle.core_law.specs.RunPromises.{IsListQuiet, IsListOfRun, IsLawfulRun}
-use Rattle.step_table.proofs.Sums.{total_zero, total_suc}
 use Rattle.list_law.proofs.ListKeeping.{list_reached}
 use Rattle.list_law.proofs.ListLawfulness.{list_lawful, handed_told}
 use Rattle.list_law.proofs.ListEarly.{list_early}
@@ -29,14 +28,7 @@ use Rattle.list_law.proofs.ListCalling.{list_calls, list_own, list_closed}
 use Rattle.list_law.proofs.ListGranting.{each_grants, rows_grant}
 use Rattle.list_law.proofs.ListPromises.{the_list_law}
 use Rattle.core_law.proofs.CoreEnding.{list_at_rest, core_lawful, core_ends}
-
--- a sum of n terms, each at most b
-pub total_most : (n b : ℕ) (f : ℕ → ℕ) → ((k : ℕ) → k < n → f k ≤ b) → total n f ≤ b * n
-total_most zero b f most = let none = total_zero f in omega arith
-total_most (suc n) b f most =
-    let last = most n (omega arith) in
-    let others : total n f ≤ b * n = total_most n b f (λ k h. most k (omega arith)) in
-    let sum = total_suc n f in omega arith
+use Rattle.step_table.proofs.SumsOfSums.{total_most}
 
 script_short : (parts : Parts) → IsScenario parts → (k : ℕ) → length (calls_of parts k) ≤ 32
 script_short parts scenario k = by (ℕ_discrete (length parts.calls - k) 0)

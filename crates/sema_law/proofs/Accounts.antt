@@ -7,7 +7,7 @@ use Rattle.sema_law.proofs.Leaving.{left}
 use Rattle.sema_law.proofs.Changing.{changed}
 use Rattle.sema_law.proofs.Serving.{counted, served_once}
 use Rattle.sema_law.proofs.Queueing.{turns, since}
-use Rattle.sema_law.proofs.Resting.{cleared, placed, unwrapped}
+use Rattle.sema_law.proofs.Resting.{cleared, unwrapped}
 
 pub the_accounts : TheAccounts
 the_accounts = record {
@@ -29,6 +29,5 @@ the_accounts = record {
   turns = turns;
   since = since;
   cleared = cleared;
-  placed = placed;
   unwrapped = unwrapped;
 }

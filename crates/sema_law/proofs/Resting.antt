@@ -1,23 +1,23 @@
 -- Where all rest nothing is left; each call is on a counter that is there; and what is added by few seats wraps no word.
-use Rattle.std.proofs.Common.{◌≡◌, ◌⊎◌, ℕ, zero, suc, ◌+◌, ◌*◌, ◌^◌, ◌<◌, ◌≤◌, List, [], ◌∷◌, length}
-use Rattle.std.proofs.Common.{refl, sym, ap, ◌∙◌, subst, inl, inr, arith, suc-mul}
+use Rattle.std.proofs.Common.{◌≡◌, ℕ, zero, suc, ◌*◌, ◌^◌, ◌≤◌, List, [], ◌∷◌, length}
+use Rattle.std.proofs.Common.{refl, sym, ap, ◌∙◌, subst, arith}
 use Rattle.waiters.specs.declared.wait.WaitId.{WaitId}
 use Rattle.step_table.specs.declared.place.AcquireRow.TheVariants.{P}
 use Rattle.step_table.specs.declared.place.Place.{Place}
-use Rattle.step_table.specs.declared.place.Place.TheVariants.{Rest, Acquiring, Releasing, ReleasingMany}
+use Rattle.step_table.specs.declared.place.Place.TheVariants.{Rest, Acquiring}
 use Rattle.step_table.specs.World.{Layout, SemaWorld}
 use Rattle.step_table.specs.Steps.{IsReached}
-use Rattle.step_table.specs.Counting.{on, total, counter_at, times, IsWithin}
+use Rattle.step_table.specs.Counting.{on, total, times}
 use Rattle.sema_law.specs.Lawful.{holds, raises, IsGrantOf, added}
 use Rattle.sema_law.specs.Invariant.{asleep, HandFits, IsInvariant}
 use Rattle.step_table.proofs.Sums.{on_zero, total_same, nothing}
 use Rattle.sema_law.proofs.Placing.{same_here}
 use Rattle.sema_law.proofs.Parking.{in_a_list}
 use Rattle.sema_law.proofs.Bounding.{bounded}
-use Rattle.step_table.proofs.SumsOfSums.{at_most_ones}
+use Rattle.step_table.proofs.SumsOfSums.{at_most_ones, total_most}
 use Rattle.sema_law.proofs.Promises as law
 use Rattle.sema_law.specs.Balances.{added_by}
-use Rattle.sema_law.specs.Bounds.{IsCleared, AllRest, CallsPlaced, IsSmall, IsUnwrapped}
+use Rattle.sema_law.specs.Bounds.{IsCleared, AllRest, IsSmall, IsUnwrapped}
 use Rattle.sema_law.proofs.Balancing as balances
 
 no_hand : (l : List WaitId) → length l ≡ 0 → l ≡ []
@@ -55,24 +55,7 @@ cleared m s inv rest = record {
         (λ c. ap (λ l. on (m.root c) r (length l)) (listed c (s.words.lists c) refl) ∙ on_zero (m.root c) r) in
         let word = inv.waiters r in omega arith
 
-place : (n : ℕ) (p : Place) → IsWithin n p → (p ≡ Rest) ⊎ (counter_at p < n)
-place n Rest within = inl refl
-place n (Acquiring a row) within = inr within
-place n (Releasing r row) within = inr within
-place n (ReleasingMany r row) within = inr within.0
-
-pub placed : (m : Layout) (s : SemaWorld) → IsInvariant m s → CallsPlaced m s
-placed m s inv k = place m.counters (s.seats k).place (inv.seats k).within
-
-total_most : (n b : ℕ) (f : ℕ → ℕ) → ((k : ℕ) → k < n → f k ≤ b) → total n f ≤ n * b
-unfolding total
-total_most zero b f h = omega arith
-total_most (suc n) b f h =
-    let rest : total n f ≤ n * b = total_most n b f (λ k less. h k (omega arith)) in
-    let one = h n (omega arith) in
-    let c : suc n * b ≡ n * b + b = suc-mul n b in omega arith
-
-asleep_most : (p : Place) (g : ℕ) → asleep p g ≤ 1
+pub asleep_most : (p : Place) (g : ℕ) → asleep p g ≤ 1
 asleep_most (Acquiring a (P t)) zero = omega arith
 asleep_most (Acquiring a (P t)) (suc g) = omega arith
 asleep_most _ g = omega arith

@@ -9,7 +9,7 @@ use Rattle.sema_law.specs.Balances.{AddedBySeats, TakenForSeats, Balanced, Balan
 use Rattle.sema_law.specs.Holders.{LowersSome, GivesHeld, HolderAlone, LeavesOthers, AllGrantParked}
 use Rattle.sema_law.specs.Holders.{WaitersNear, ChangesWords}
 use Rattle.sema_law.specs.Served.{TakesCounted, ServedOnce, TurnsQueued, TakesServed}
-use Rattle.sema_law.specs.Bounds.{AllRest, IsCleared, CallsPlaced, IsSmall, IsUnwrapped}
+use Rattle.sema_law.specs.Bounds.{AllRest, IsCleared, IsSmall, IsUnwrapped}
 
 -- what holds of each reached world, of each world with the invariant, and of each step from such a world
 pub record TheAccounts : Type 0 where
@@ -31,5 +31,4 @@ pub record TheAccounts : Type 0 where
   pub turns : (m : Layout) (s : SemaWorld) → IsReached m s → TurnsQueued s
   pub since : (m : Layout) (s : SemaWorld) → IsReached m s → TakesServed m s
   pub cleared : (m : Layout) (s : SemaWorld) → IsInvariant m s → AllRest m s → IsCleared m s
-  pub placed : (m : Layout) (s : SemaWorld) → IsInvariant m s → CallsPlaced m s
   pub unwrapped : (m : Layout) (s : SemaWorld) → IsReached m s → IsSmall m s → IsUnwrapped m s

@@ -1,8 +1,8 @@
--- Where all seats rest nothing is left of any call; each call is on a counter that is there; and words don't wrap.
-use Rattle.std.specs.Prelude.{◌≡◌, ◌⊎◌, ℕ, ◌+◌, ◌^◌, ◌<◌, ◌≤◌, []}
+-- Where all seats rest nothing is left of any call; and words don't wrap.
+use Rattle.std.specs.Prelude.{◌≡◌, ℕ, ◌+◌, ◌^◌, ◌<◌, ◌≤◌, []}
 use Rattle.step_table.specs.declared.place.Place.TheVariants.{Rest}
 use Rattle.step_table.specs.World.{Layout, SemaWorld}
-use Rattle.step_table.specs.Counting.{total, counter_at}
+use Rattle.step_table.specs.Counting.{total}
 use Rattle.sema_law.specs.Balances.{added_by}
 
 -- each seat is at rest
@@ -16,10 +16,6 @@ pub record IsCleared (m : Layout) (s : SemaWorld) : Type 0 where
   pub waiters : (r : ℕ) → s.words.waiters r ≡ 0
   pub grants : (k : ℕ) → k < m.seats → s.words.grants k ≡ 0
   pub hands : (k : ℕ) → k < m.seats → (s.seats k).hand ≡ []
-
--- a seat is at rest, or its call is on a counter that is there
-abbrev pub CallsPlaced : Layout → SemaWorld → Type 0
-CallsPlaced m s = (k : ℕ) → ((s.seats k).place ≡ Rest) ⊎ (counter_at (s.seats k).place < m.counters)
 
 -- there are at most 256 seats, starts are below 2^32, and each seat has added at most 2^40 units
 pub record IsSmall (m : Layout) (s : SemaWorld) : Type 0 where

@@ -1,6 +1,6 @@
 -- What the rows of the whole machine ask for holds in each sound state: no sum wraps, each word and list is stored, and what
 -- a seat's call is on is there.
-use Rattle.std.proofs.Common.{◌≡◌, ℕ, zero, ◌+◌, ◌^◌, ◌<◌, ◌≤◌, List, [], ◌∷◌, IfSome, length, slice_get, refl, sym, ap, ◌∙◌, subst, arith}
+use Rattle.std.proofs.Common.{◌≡◌, ℕ, ◌+◌, ◌^◌, ◌<◌, ◌≤◌, List, [], ◌∷◌, IfSome, length, slice_get, refl, sym, ap, ◌∙◌, subst, arith}
 use Rattle.waiters.specs.declared.wait.WaitId.{WaitId}
 use Rattle.step_rows.specs.declared.caller.Caller.{Caller}
 use Rattle.step_table.specs.declared.place.AcquireRow.TheVariants.{A7, P}
@@ -29,7 +29,7 @@ use Rattle.sema_law.specs.WellFormed.{IsWellFormedWorld}
 use Rattle.step_core.specs.BentStored.{IsWellFormed}
 use Rattle.step_core.specs.State.{State, IsSound, AsksFor, no_list, run_of}
 use Rattle.step_table.proofs.Sums.{total_rest, total_has}
-use Rattle.core_law.proofs.RunEarly.{total_most, begun_few, all_begun_few, handed_few}
+use Rattle.core_law.proofs.RunEarly.{begun_few, all_begun_few, handed_few}
 use Rattle.sema_law.proofs.Placing.{same_here}
 use Rattle.step_rows.proofs.Rooting.{root_within}
 use Rattle.sema_law.proofs.Bounding.{well_formed}
@@ -37,6 +37,8 @@ use Rattle.alike_law.proofs.BentBounding.{bent_bounded}
 use Rattle.sema_law.proofs.Parking.{in_a_hand}
 use Rattle.alike_law.proofs.BentLists.{well_formed_list}
 use Rattle.step_rows.proofs.ListRanges.{has_list_row}
+use Rattle.step_table.proofs.SumsOfSums.{total_most}
+use Rattle.sema_law.proofs.Resting.{asleep_most}
 
 grant_most : (p : Place) (g : ℕ) → IsGrantOf p g → g ≤ 2
 grant_most (Acquiring a (P turn)) g h = h
@@ -46,10 +48,6 @@ grant_most _ g h = omega arith
 total_fewer : (n : ℕ) (f : ℕ → ℕ) (i : ℕ) → i < n → ((k : ℕ) → f k ≤ 1) → f i ≡ 0 → total n f < n
 total_fewer n f i h most none =
     let rest = total_rest n f (λ k. 1) i h most in let all = total_most n 1 (λ k. 1) (λ k h. omega arith) in omega arith
-
-asleep_most : (p : Place) (g : ℕ) → asleep p g ≤ 1
-asleep_most (Acquiring a (P turn)) zero = omega arith
-asleep_most _ g = omega arith
 
 first_in_hand : (hand : List WaitId) (seats : ℕ) → ((w : WaitId) → 0 < times w hand → w.seat < seats) → IfSome (slice_get hand 0) (λ w. w.seat < seats)
 first_in_hand [] seats all = tt
