@@ -66,7 +66,9 @@ impl RootStore for SortedRoot {
             Err(at) => {
                 let list = self.lists.open();
                 push(&mut self.lists, list, wait, lifo);
-                self.entries.insert(at, CounterQueue { counter, list }).unwrap();
+                self.entries
+                    .insert(at, CounterQueue { counter, list })
+                    .unwrap();
             }
         }
     }

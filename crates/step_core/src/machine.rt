@@ -18,7 +18,7 @@ ghost use Rattle.step_core.specs.State.{Becomes, IsMachineFor, HasSeat, HasListS
 ghost use Rattle.step_rows.specs.Stored.{each, IsReadyFor};
 
 use std::marker::Model;
-use step_rows::{ListReady, ListMachine, Ready, Semaphores, write_group, write_standing};
+use step_rows::{ListMachine, ListReady, Ready, Semaphores, write_group, write_standing};
 use step_table::{
     After, GroupId, GroupWord, ListId, ListPlace, Parts, Place, Release, ReleaseRow, Standing,
 };

@@ -98,7 +98,8 @@ fn is_too_many(before: &[Line], line: &Line) -> bool
         Line::Counter(_) => count(before, LineKind::Counter) >= MAX_COUNTERS,
         Line::NotifyList(_) => count(before, LineKind::NotifyList) >= MAX_LISTS,
         Line::Group => count(before, LineKind::Group) >= MAX_GROUPS as usize,
-        Line::Seat(_, calls) => count(before, LineKind::Seat) >= MAX_SEATS || calls.len() > MAX_CALLS,
+        Line::Seat(_, calls) => count(before, LineKind::Seat) >= MAX_SEATS
+            || calls.len() > MAX_CALLS,
         _ => false,
     }
 }
