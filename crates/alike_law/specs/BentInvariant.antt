@@ -8,7 +8,6 @@ use Rattle.alike_law.specs.declared.variant.Variant.TheVariants.{LateCount}
 use Rattle.step_table.specs.World.{Layout, SemaWorld}
 use Rattle.step_table.specs.Counting.{on, total}
 use Rattle.sema_law.specs.Lawful.{raises, waits_of}
-use Rattle.list_law.specs.ListInvariant as list
 use Rattle.step_table.specs.Core.{CoreLayout, Core, counters_of}
 use Rattle.core_law.specs.CoreLaw.{IsKept}
 use Rattle.sema_law.specs.WellFormed.{IsWellFormedWorld}

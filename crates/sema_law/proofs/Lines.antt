@@ -1,8 +1,7 @@
 -- The table's outcomes one by one: each has a constructor, with what the seat found. The laws go by these cases.
 use Rattle.std.proofs.Common.{◌≡◌, ℕ, zero, suc, ◌+◌, ◌-◌, ◌<◌, ◌≢◌, ◌⊎◌, ◌==◌, if◌then◌else◌, Bool, true, false, IsTrue, eqb, cond}
 use Rattle.std.proofs.Common.{◌≤◌, ◌&&◌, nat_lt, List, [], ◌∷◌, ◌++◌, length, drop, refl, sym, ap, subst, inl, inr, eqb-true, ltb-true, arith}
-use mathlib.Core.Path.{fun_ext}
-use native.Mathlib.Decide.{ℕ_discrete, dec_lt}
+use native.Mathlib.Decide.{dec_lt}
 use Rattle.std.proofs.lemmas.Bool.{lt-ltb, le-ltb}
 use Rattle.std.proofs.lemmas.Bool.Decides.{eqb_tells}
 use Rattle.waiters.specs.declared.wait.WaitId.{WaitId}
