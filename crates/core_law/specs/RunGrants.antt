@@ -32,7 +32,8 @@ pub record StepGrants (m : CoreLayout) (s t : Core) (i : ℕ) : Type 0 where
   -- by L6 it grants all that were handed out when its L5 read, where these weren't all granted
   pub all : (l h : ℕ) (r : Reach) → IsOnList s i l (NotifyingAll h (L6 r))
       → ((r.notified ≡ r.waited) × (r.handed ≡ (told_of l s.journal).granted) × (t.journal ≡ s.journal))
-      ⊎ ((r.notified ≢ r.waited) × ((told_of l s.journal).granted < r.handed) × (t.journal ≡ s.journal ++ Grant l r.handed i ∷ []))
+      ⊎ ((r.notified ≢ r.waited) × ((told_of l s.journal).granted < r.handed)
+      × (t.journal ≡ s.journal ++ Grant l r.handed i ∷ []))
   -- and by no other row does it grant
   pub only : (l upto k : ℕ) → t.journal ≡ s.journal ++ Grant l upto k ∷ []
       → (k ≡ i)

@@ -22,6 +22,7 @@ pub mod ListOwning
 pub mod ListHolding
 pub mod ListSleeping
 pub mod ListResting
+pub mod ListReturning
 pub mod ListAccounts
 pub mod ListGranting
 pub mod ListPaths

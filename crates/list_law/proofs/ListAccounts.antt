@@ -7,12 +7,14 @@ use Rattle.list_law.proofs.ListOwning.{tells_own, named, never_back, grows}
 use Rattle.list_law.proofs.ListHolding.{only_holders, alone, changes}
 use Rattle.list_law.proofs.ListSleeping.{counted, room}
 use Rattle.list_law.proofs.ListResting.{grants_parked, idle, closed}
+use Rattle.list_law.proofs.ListReturning.{ends_done}
 
 pub the_list_accounts : TheListAccounts
 the_list_accounts =
     record {
       tells = tells_own;
       left = only_holders;
+      ended = ends_done;
       named = named;
       reached = λ first seats s small reached.
           (let inv = list_reached first seats s small reached in

@@ -7,6 +7,7 @@ pub mod ListWellFormed
 pub mod ListEntries
 pub mod ListHolders
 pub mod ListPlaces
+pub mod ListReturns
 pub mod ListAccounts
 pub mod ListGrants
 pub mod ListPath

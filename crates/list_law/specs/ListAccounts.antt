@@ -1,12 +1,13 @@
 -- The accounts of one notify list.
 use Rattle.std.specs.Prelude.{◌≡◌, ℕ, ◌^◌, ◌<◌, ◌≤◌}
 use Rattle.step_table.specs.ListWorld.{ListWorld}
-use Rattle.step_table.specs.ListSteps.{event_of, ListStep, IsListReached}
+use Rattle.step_table.specs.ListSteps.{event_of, ListTurn, ListStep, IsListReached}
 use Rattle.list_law.specs.ListLawful.{told}
 use Rattle.list_law.specs.ListInvariant.{IsListInvariant}
 use Rattle.list_law.specs.ListWellFormed.{ListSleepersCounted}
 use Rattle.list_law.specs.ListEntries.{EntriesNamed, TellsOwn, NumbersTold, NoneTakenBack, NeverTakenBack}
 use Rattle.list_law.specs.ListHolders.{StoresGrant, HolderAlone, OnlyHolders, ChangesWords}
+use Rattle.list_law.specs.ListReturns.{EndsDone}
 use Rattle.list_law.specs.ListPlaces.{HasRoom, GrantsParked, RestsIdle, AllRest, NothingLeft, ReachedList}
 
 -- what a row or a choice of a caller does from any world; what is known of reached worlds; what holds of each world with the
@@ -15,6 +16,7 @@ pub record TheListAccounts : Type 0 where
   -- of every step
   pub tells : (s t : ListWorld) (i : ℕ) → ListStep s i t → TellsOwn i s t
   pub left : (s t : ListWorld) (i : ℕ) → ListStep s i t → OnlyHolders i s t
+  pub ended : (s t : ListWorld) (i : ℕ) → ListTurn s i t → EndsDone i s t
   -- of reached worlds
   pub named : (first seats : ℕ) (s : ListWorld) → IsListReached first seats s → EntriesNamed seats s
   pub reached : (first seats : ℕ) (s : ListWorld) → seats ≤ 2 ^ 63 → IsListReached first seats s

@@ -36,7 +36,13 @@ erased_list_place (NotifyingAll h row) = NotifyingAll 0 (erased_all_row row)
 erased_list_place place = place
 
 abbrev pub erased_list_seat : ListSeat → ListSeat
-erased_list_seat seat = record { place = erased_list_place seat.place; ticket = erased_held seat.ticket; hand = erased_waits seat.hand; late = 0 }
+erased_list_seat seat =
+    record {
+      place = erased_list_place seat.place;
+      ticket = erased_held seat.ticket;
+      hand = erased_waits seat.hand;
+      late = 0;
+    }
 
 abbrev pub erased_list_words : ListWords → ListWords
 erased_list_words g = record g { numbers = record { handed = 0; granted = 0 }; queue = erased_waits g.queue }
@@ -48,4 +54,5 @@ erased_list s = record { words = erased_list_words s.words; seats = λ k. erased
 -- where two worlds differ in those alone, the same rows can be run, and they lead to two such worlds
 abbrev pub RowsAreBlind : Type 0
 RowsAreBlind =
-    (s t : ListWorld) (i : ℕ) → erased_list s ≡ erased_list t → (can_turn s i ≡ can_turn t i) × (erased_list (turned s i) ≡ erased_list (turned t i))
+    (s t : ListWorld) (i : ℕ) → erased_list s ≡ erased_list t
+    → (can_turn s i ≡ can_turn t i) × (erased_list (turned s i) ≡ erased_list (turned t i))

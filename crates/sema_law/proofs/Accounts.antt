@@ -8,6 +8,7 @@ use Rattle.sema_law.proofs.Changing.{changed}
 use Rattle.sema_law.proofs.Serving.{counted, served_once}
 use Rattle.sema_law.proofs.Queueing.{turns, since}
 use Rattle.sema_law.proofs.Resting.{cleared, unwrapped}
+use Rattle.sema_law.proofs.Earning.{ended}
 
 pub the_accounts : TheAccounts
 the_accounts = record {
@@ -26,6 +27,7 @@ the_accounts = record {
   changed = changed;
   counted = counted;
   served = served_once;
+  ended = ended;
   turns = turns;
   since = since;
   cleared = cleared;

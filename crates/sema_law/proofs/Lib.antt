@@ -17,6 +17,7 @@ pub mod Balancing
 pub mod Holding
 pub mod Leaving
 pub mod Serving
+pub mod Earning
 pub mod Queueing
 pub mod Resting
 pub mod Changing

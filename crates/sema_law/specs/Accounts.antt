@@ -2,13 +2,13 @@
 use Rattle.std.specs.Prelude.{ℕ, ◌<◌}
 use Rattle.std.specs.List.{All}
 use Rattle.step_table.specs.World.{Layout, SemaWorld}
-use Rattle.step_table.specs.Steps.{Step, IsReached}
+use Rattle.step_table.specs.Steps.{Turn, Step, IsReached}
 use Rattle.sema_law.specs.Invariant.{IsInvariant}
 use Rattle.sema_law.specs.Entries.{IsNamed, TellsOwn}
 use Rattle.sema_law.specs.Balances.{AddedBySeats, TakenForSeats, Balanced, BalancedInAll}
 use Rattle.sema_law.specs.Holders.{LowersSome, GivesHeld, HolderAlone, LeavesOthers, AllGrantParked}
 use Rattle.sema_law.specs.Holders.{WaitersNear, ChangesWords}
-use Rattle.sema_law.specs.Served.{TakesCounted, ServedOnce, TurnsQueued, TakesServed}
+use Rattle.sema_law.specs.Served.{TakesCounted, ServedOnce, EndsWithUnit, TurnsQueued, TakesServed}
 use Rattle.sema_law.specs.Bounds.{AllRest, IsCleared, IsSmall, IsUnwrapped}
 
 -- what holds of each reached world, of each world with the invariant, and of each step from such a world
@@ -28,6 +28,7 @@ pub record TheAccounts : Type 0 where
   pub changed : (m : Layout) (s t : SemaWorld) (i : ℕ) → i < m.seats → IsInvariant m s → Step m s i t → ChangesWords m i s t
   pub counted : (m : Layout) (s t : SemaWorld) (i : ℕ) → i < m.seats → IsInvariant m s → Step m s i t → TakesCounted m i s t
   pub served : (m : Layout) (s : SemaWorld) → IsInvariant m s → ServedOnce m s
+  pub ended : (m : Layout) (s t : SemaWorld) (i : ℕ) → Turn m.root s i t → EndsWithUnit i s t
   pub turns : (m : Layout) (s : SemaWorld) → IsReached m s → TurnsQueued s
   pub since : (m : Layout) (s : SemaWorld) → IsReached m s → TakesServed m s
   pub cleared : (m : Layout) (s : SemaWorld) → IsInvariant m s → AllRest m s → IsCleared m s

@@ -3,7 +3,9 @@ use Rattle.std.specs.Prelude.{◌≡◌, ℕ, ◌+◌, ◌<◌, ◌≤◌, Bool,
 use Rattle.waiters.specs.declared.wait.WaitId.{WaitId}
 use Rattle.step_table.specs.declared.entry.Entry.{Entry}
 use Rattle.step_table.specs.declared.entry.Entry.TheVariants.{Queue}
-use Rattle.step_table.specs.declared.place.AcquireRow.TheVariants.{A2, A6, A8, P, A11}
+use Rattle.step_table.specs.declared.place.Acquire.{Acquire}
+use Rattle.step_table.specs.declared.place.AcquireRow.{AcquireRow}
+use Rattle.step_table.specs.declared.place.AcquireRow.TheVariants.{A2, A6, A8, A9, P, A11}
 use Rattle.step_table.specs.declared.place.ReleaseRow.TheVariants.{R9}
 use Rattle.step_table.specs.declared.place.Place.{Place}
 use Rattle.step_table.specs.declared.place.Place.TheVariants.{Rest, Acquiring, Releasing}
@@ -44,6 +46,24 @@ TakesCounted m i s t =
 -- at most one unit is served to a seat, and only while it is parked
 abbrev pub ServedOnce : Layout → SemaWorld → Type 0
 ServedOnce m s = (k : ℕ) → k < m.seats → (served m s k ≤ 1) × (0 < served m s k → (c turn : ℕ) × IsParked s k c turn)
+
+-- 1 where a seat has its unit, and only gives back what it took for its look under the lock
+abbrev pub keeps : Place → ℕ
+keeps (Acquiring a A8) = 1
+keeps (Acquiring a A9) = 1
+keeps _ = 0
+
+-- 1 where a seat rests
+abbrev pub rests : Place → ℕ
+rests Rest = 1
+rests _ = 0
+
+-- a row of an acquire leads to rest exactly where the seat comes by a unit, or has kept one: no acquire ends without
+abbrev pub EndsWithUnit : ℕ → SemaWorld → SemaWorld → Type 0
+EndsWithUnit i s t =
+    (a : Acquire) (row : AcquireRow) → (s.seats i).place ≡ Acquiring a row
+    → gains (s.seats i).place (t.seats i).place + keeps (s.seats i).place
+    ≡ keeps (t.seats i).place + rests (t.seats i).place
 
 -- how many waits of the seat k were queued
 abbrev pub queues : ℕ → List Entry → ℕ

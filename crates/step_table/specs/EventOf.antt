@@ -19,7 +19,8 @@ abbrev pub change : {Word Value Next : Type 0} → Word → (Value → Value) �
 change w to next = record { word = w; can = λ v. true; becomes = to; leads = λ v. next (to v) }
 
 -- the word changes so where what is found is wanted
-abbrev pub exchange_if : {Word Value Next : Type 0} → Word → (Value → Bool) → (Value → Value) → Next → Next → EventOf Word Value Next
+abbrev pub exchange_if : {Word Value Next : Type 0} → Word → (Value → Bool) → (Value → Value) → Next → Next
+    → EventOf Word Value Next
 exchange_if w wanted to won lost =
     record {
       word = w;
