@@ -1,18 +1,15 @@
 -- What the entries of the one journal name is there.
-use Rattle.std.specs.Prelude.{◌+◌, ◌<◌, All}
+use Rattle.std.specs.Prelude.{◌<◌, All}
 use Rattle.step_table.specs.declared.entry.Entry.{Entry}
-use Rattle.step_table.specs.declared.entry.Entry.TheVariants.{Add, AddMany, Take, Queue, Leave, Ticket, Grant}
-use Rattle.step_table.specs.Core.{CoreLayout, Core}
+use Rattle.step_table.specs.declared.entry.Entry.TheVariants.{Ticket, Grant}
+use Rattle.step_table.specs.Core.{CoreLayout, counters_of, Core}
+use Rattle.sema_law.specs.Entries.{IsNamed}
 
--- the counter or the list, and the seats, that the entry names are there. Semaphores of groups are counters too
+-- the list and the seat of an entry of lists are there; and the counter, which may be a group's semaphore, and the seats of another
 abbrev pub NamesParts : CoreLayout → Entry → Type 0
-NamesParts m (Add c s) = (c < m.counters + m.groups) × (s < m.seats)
-NamesParts m (AddMany c n s) = (c < m.counters + m.groups) × (s < m.seats)
-NamesParts m (Take c s) = (c < m.counters + m.groups) × (s < m.seats)
-NamesParts m (Queue c w lifo) = (c < m.counters + m.groups) × (w.seat < m.seats)
-NamesParts m (Leave c w s) = (c < m.counters + m.groups) × (w.seat < m.seats) × (s < m.seats)
 NamesParts m (Ticket l s) = (l < m.lists) × (s < m.seats)
 NamesParts m (Grant l upto s) = (l < m.lists) × (s < m.seats)
+NamesParts m e = IsNamed (counters_of m) e
 
 abbrev pub EntriesNamed : CoreLayout → Core → Type 0
 EntriesNamed m s = All (NamesParts m) s.journal

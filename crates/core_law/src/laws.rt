@@ -9,7 +9,7 @@ pub fn law_of_the_core()
     ensures { TheCoreLaw }
 {}
 
-/// Each run of a scenario, in which no ticket is ever late: what is promised of it names no late ticket. And each of its steps
+/// Each run of a scenario, in which no ticket is ever late: what is promised of it has no premise on late tickets. And each of its steps
 /// that grants tickets grants the least ungranted one alone, or all that were handed out when its L5 read the wait word.
 pub fn law_of_the_runs()
     ensures { TheRunLaw }

@@ -1,5 +1,5 @@
 -- Who may change which word of a notify list.
-use Rattle.std.proofs.Common.{◌≡◌, ◌⊎◌, ℕ, ◌<◌, ◌≤◌, IsTrue, List, [], ◌∷◌, ◌++◌, refl, sym, ap, subst, inl, inr, eqb-true, arith}
+use Rattle.std.proofs.Common.{◌≡◌, ◌⊎◌, ℕ, ◌+◌, ◌<◌, ◌≤◌, IsTrue, List, [], ◌∷◌, ◌++◌, refl, sym, ap, ◌∙◌, subst, inl, inr, eqb-true, arith}
 use native.Mathlib.Decide.{ℕ_discrete}
 use Rattle.waiters.specs.declared.wait.Wait.{Wait}
 use Rattle.step_table.specs.declared.list_place.AllRow.TheVariants.{L1, L2, L3, L7, L8}
@@ -9,18 +9,19 @@ use Rattle.step_table.specs.declared.list_place.ListPlace.TheVariants.{Rest, Add
 use Rattle.step_table.specs.declared.list_place.OneRow.TheVariants.{O1, O2, O3, O6, O8, O9}
 use Rattle.step_table.specs.declared.list_place.WaitRow.TheVariants.{W1, W3, W4, P}
 use Rattle.step_table.specs.World.{put}
-use Rattle.step_table.specs.Wrapping.{next_word}
-use Rattle.step_table.specs.ListWorld.{ListWords, ListSeat, ListEntry, Took, ListWorld, found, journal_after}
+use Rattle.step_table.specs.Wrapping.{word_of, next_word}
+use Rattle.step_table.specs.ListWorld.{ListWords, ListSeat, ListEntry, Took, Granted, ListWorld, found, journal_after}
 use Rattle.step_table.specs.ListEvent.{ListEvent, waiter}
 use Rattle.step_table.specs.ListTable.{list_event_at, list_table}
 use Rattle.step_table.specs.ListSteps.{event_of, words_after, ListStep, turn}
 use Rattle.list_law.specs.ListLawful.{holds}
-use Rattle.list_law.specs.ListInvariant.{IsListInvariant}
+use Rattle.list_law.specs.ListInvariant.{WordsTell, IsListInvariant}
 use Rattle.step_table.proofs.Sums.{put_here, put_else, total_has, pair}
-use Rattle.list_law.proofs.ListRows.{Row, n1, w1, w3, w4, woken, o3, o6, o8_none, o8_some, l3, l7_none, l7_some, Post, o9, l8_last, l8_more, Step, own, post}
+use Rattle.list_law.proofs.ListRows.{Row, n1, w1, w3, w4, woken, o3, o6, o7, o8_none, o8_some, l3, l6_same, l6_else, l7_none, l7_some, Post, o9, l8_last, l8_more, Step, own, post}
 use Rattle.list_law.proofs.ListCases.{step_of}
+use Rattle.list_law.proofs.ListWriting.{words_kept}
 use Rattle.list_law.proofs.ListPlacing.{waiter_of_post, other_seat}
-use Rattle.list_law.specs.ListHolders.{GivesLock, StoresGrant, HoldsAlone, HolderAlone, LeavesGuarded, OnlyHolders, LockChanges, GrantChanges, ChangesWords}
+use Rattle.list_law.specs.ListHolders.{TakesLock, GivesLock, TakesGrant, StoresGrant, HoldsAlone, HolderAlone, LeavesGuarded, OnlyHolders, LockChanges, GrantChanges, ChangesWords}
 
 takes_free : {g : ListWords} → g.lock ≡ 0 → LeavesGuarded g (record g { lock = 1 })
 takes_free free = record { queue = refl; notify = refl; granted = refl; lock = inr (free, refl) }
@@ -95,24 +96,26 @@ given : {i : ℕ} {g : ListWords} {event : ListEvent} {j l : List ListEntry} {q 
     → Changes i event j l g (record g { lock = 0; queue = q })
 given gives some one = record { wait = inl refl; lock = inr (inr (gives, omega arith, refl)); grants = λ k. inl refl }
 
-taken : {i : ℕ} {g : ListWords} {event : ListEvent} {j l : List ListEntry} → g.lock ≡ 0 → Changes i event j l g (record g { lock = 1 })
-taken free = record { wait = inl refl; lock = inr (inl (free, refl)); grants = λ k. inl refl }
+taken : {i : ℕ} {g : ListWords} {event : ListEvent} {j l : List ListEntry} → TakesLock event → g.lock ≡ 0
+    → Changes i event j l g (record g { lock = 1 })
+taken takes free = record { wait = inl refl; lock = inr (inl (takes, free, refl)); grants = λ k. inl refl }
 
 -- by reading its own grant
-reads_grant : (i : ℕ) (grants : ℕ → ℕ) (event : ListEvent) → 0 < grants i → (k : ℕ) → GrantChanges i event k (grants k) (put grants i 0 k)
-reads_grant i grants event some k = by (ℕ_discrete k i)
+reads_grant : (i : ℕ) (grants : ℕ → ℕ) (event : ListEvent) → TakesGrant event i → 0 < grants i → (k : ℕ)
+    → GrantChanges i event k (grants k) (put grants i 0 k)
+reads_grant i grants event takes some k = by (ℕ_discrete k i)
   where
     by : Dec (k ≡ i) → GrantChanges i event k (grants k) (put grants i 0 k)
-    by (yes e) = inr (inl (e, rw e some, rw e (put_here grants i 0)))
+    by (yes e) = inr (inl (rw e takes, e, rw e some, rw e (put_here grants i 0)))
     by (no ne) = inl (put_else grants i 0 k ne)
 
 -- which word a row changes, where a seat that holds the lock finds 1 there
 changed : {i : ℕ} {g h : ListWords} {p q : ListSeat} {e : ListEffect} → Row i g p q h e → (j : List ListEntry) → holds p.place ≤ g.lock → g.lock ≤ 1
     → Changes i (list_table i p g) j (journal_after i e j) g h
 changed n1 j held one = record { wait = inr (refl, refl); lock = inl refl; grants = λ k. inl refl }
-changed (w1 free) j held one = taken free
-changed (o3 free) j held one = taken free
-changed (l3 free) j held one = taken free
+changed (w1 free) j held one = taken (_, refl) free
+changed (o3 free) j held one = taken (_, refl) free
+changed (l3 free) j held one = taken (_, refl) free
 changed w3 j held one = given (_, refl) held one
 changed w4 j held one = given (_, refl) held one
 changed o6 j held one = given (_, refl) held one
@@ -121,8 +124,18 @@ changed (o8_some _) j held one = given (_, refl) held one
 changed (l7_none _) j held one = given (_, refl) held one
 changed (l7_some _) j held one = given (_, refl) held one
 changed {i = i} {g = g} (woken some) j held one =
-    record { wait = inl refl; lock = inl refl; grants = reads_grant i g.grants _ some }
+    record { wait = inl refl; lock = inl refl; grants = reads_grant i g.grants _ (_, refl) some }
 changed _ j held one = record { wait = inl refl; lock = inl refl; grants = λ k. inl refl }
+
+-- the notify word stays, or becomes that of the number that the row tells is granted
+tells_notify : (first : ℕ) {i : ℕ} {g h : ListWords} {p q : ListSeat} {e : ListEffect} → Row i g p q h e → (j : List ListEntry)
+    → WordsTell first g → WordsTell first h
+    → (h.notify ≡ g.notify)
+    ⊎ ((upto : ℕ) × (h.notify ≡ word_of first upto) × (journal_after i e j ≡ j ++ Granted upto i ∷ []))
+tells_notify first {g = g} o7 j before after = inr (g.numbers.granted + 1, after.1, refl)
+tells_notify first (l6_same _) j before after = inl (after.1 ∙ sym before.1)
+tells_notify first (l6_else {r = r} _) j before after = inr (r.handed, after.1, refl)
+tells_notify first _ j before after = inl refl
 
 -- a row that grants does it by storing 1
 posts : (i : ℕ) (g : ListWords) {p q : ListSeat} {w : Wait} → Post p q w → StoresGrant (list_table i p g) w.id.seat 1
@@ -130,20 +143,21 @@ posts i g o9 = (_, refl)
 posts i g l8_last = (_, refl)
 posts i g l8_more = (_, refl)
 
-pub changes : (first seats i : ℕ) (s t : ListWorld) → i < seats → IsListInvariant first seats s → ListStep s i t → ChangesWords i s t
+pub changes : (first seats i : ℕ) (s t : ListWorld) → i < seats → IsListInvariant first seats s → ListStep s i t → ChangesWords first i s t
 changes first seats i s t there inv listed =
     let mine = inv.seats_known i there in by (step_of s t i mine.fits mine.only listed)
   where
-    by : {u : ListWorld} → Step s i u → ChangesWords i s u
+    by : {u : ListWorld} → Step s i u → ChangesWords first i s u
     by (own row) =
         let held = total_has seats (λ k. holds (s.seats k).place) i there in
         let lock = inv.lock.0 in
         let c = changed row s.journal (omega arith) inv.lock.1 in
-        record { wait = c.wait; lock = c.lock; grants = c.grants }
-    by (post {w = w} row) = record { wait = inl refl; lock = inl refl; grants = λ k. at k (ℕ_discrete k w.id.seat) }
+        let after = words_kept first i s _ (inv.seats_known i there).knows inv.words (own row) in
+        record { wait = c.wait; notify = tells_notify first row s.journal inv.words after; lock = c.lock; grants = c.grants }
+    by (post {w = w} row) = record { wait = inl refl; notify = inl refl; lock = inl refl; grants = λ k. at k (ℕ_discrete k w.id.seat) }
       where
         at : (k : ℕ) → Dec (k ≡ w.id.seat) → GrantChanges i (event_of s i) k (s.words.grants k) (put s.words.grants w.id.seat 1 k)
         at k (yes e) =
             let v = waiter_of_post seats s i there inv.placed row in
-            inr (inr (rw e (other_seat seats s i v row), rw e (posts i s.words row), rw e v.1, rw e (put_here s.words.grants w.id.seat 1)))
+            inr (inr (rw e (posts i s.words row), rw e (other_seat seats s i v row), rw e v.1, rw e (put_here s.words.grants w.id.seat 1)))
         at k (no ne) = inl (put_else s.words.grants w.id.seat 1 k ne)

@@ -35,4 +35,4 @@ pub record TheListAccounts : Type 0 where
   pub grown : (first seats i : ℕ) (s t : ListWorld) → i < seats → IsListInvariant first seats s → ListStep s i t
       → NoneTakenBack (told s.journal) (told t.journal)
   pub changed : (first seats i : ℕ) (s t : ListWorld) → i < seats → IsListInvariant first seats s → ListStep s i t
-      → ChangesWords i s t
+      → ChangesWords first i s t

@@ -2,9 +2,9 @@
 -- by another seat and lowered by its own.
 use Rattle.std.specs.Prelude.{◌≡◌, ◌≢◌, ◌⊎◌, ℕ, ◌<◌, [], ◌∷◌, ◌++◌}
 use Rattle.step_table.specs.declared.list_place.ListWord.TheVariants.{Lock, Grant}
-use Rattle.step_table.specs.Wrapping.{next_word}
-use Rattle.step_table.specs.EventOf.{store, give_lock}
-use Rattle.step_table.specs.ListWorld.{ListWords, Took, ListWorld}
+use Rattle.step_table.specs.Wrapping.{word_of, next_word}
+use Rattle.step_table.specs.EventOf.{store, take_lock, give_lock, take_grant}
+use Rattle.step_table.specs.ListWorld.{ListWords, Took, Granted, ListWorld}
 use Rattle.step_table.specs.ListEvent.{ListNext, ListEvent}
 use Rattle.step_table.specs.ListSteps.{event_of}
 use Rattle.list_law.specs.ListLawful.{holds}
@@ -12,6 +12,14 @@ use Rattle.list_law.specs.ListLawful.{holds}
 -- the event gives the lock back
 abbrev pub GivesLock : ListEvent → Type 0
 GivesLock event = (next : ListNext) × (event ≡ give_lock Lock next)
+
+-- the event takes the lock
+abbrev pub TakesLock : ListEvent → Type 0
+TakesLock event = (next : ListNext) × (event ≡ take_lock Lock next)
+
+-- the event takes the grant of the seat k
+abbrev pub TakesGrant : ListEvent → ℕ → Type 0
+TakesGrant event k = (leads : ℕ → ListNext) × (event ≡ take_grant (Grant k) leads)
 
 -- the event stores x in the grant word of the seat k
 abbrev pub StoresGrant : ListEvent → ℕ → ℕ → Type 0
@@ -39,20 +47,25 @@ pub record LeavesGuarded (g h : ListWords) : Type 0 where
 abbrev pub OnlyHolders : ℕ → ListWorld → ListWorld → Type 0
 OnlyHolders i s t = holds (s.seats i).place ≡ 0 → LeavesGuarded s.words t.words
 
--- a lock word stays, or goes from 0 to 1, or back to 0 by giving the lock
+-- a lock word stays, or goes from 0 to 1 by taking the lock, or back to 0 by giving it
 abbrev pub LockChanges : ListEvent → ℕ → ℕ → Type 0
 LockChanges event before after =
-    (after ≡ before) ⊎ (((before ≡ 0) × (after ≡ 1)) ⊎ (GivesLock event × (before ≡ 1) × (after ≡ 0)))
+    (after ≡ before)
+    ⊎ ((TakesLock event × (before ≡ 0) × (after ≡ 1)) ⊎ (GivesLock event × (before ≡ 1) × (after ≡ 0)))
 
--- the grant word of the seat k stays, or goes from 0 to 1 by a store of another seat, or back to 0 where it is that of seat i
+-- the grant word of the seat k stays, or goes from 0 to 1 by a store of another seat, or back to 0 where seat i takes its own
 abbrev pub GrantChanges : ℕ → ListEvent → ℕ → ℕ → ℕ → Type 0
 GrantChanges i event k before after =
     (after ≡ before)
-    ⊎ (((k ≡ i) × (0 < before) × (after ≡ 0)) ⊎ ((k ≢ i) × StoresGrant event k 1 × (before ≡ 0) × (after ≡ 1)))
+    ⊎ ((TakesGrant event k × (k ≡ i) × (0 < before) × (after ≡ 0))
+    ⊎ (StoresGrant event k 1 × (k ≢ i) × (before ≡ 0) × (after ≡ 1)))
 
--- how a step of seat i may change the words: the wait word by a ticket that it tells, and the lock and grants by its event
-pub record ChangesWords (i : ℕ) (s t : ListWorld) : Type 0 where
+-- how a step of seat i may change the words: the wait word by a ticket that it tells, the notify word to that of the number which
+-- it tells is granted, and the lock and grants by its event
+pub record ChangesWords (first i : ℕ) (s t : ListWorld) : Type 0 where
   pub wait : (t.words.wait ≡ s.words.wait)
       ⊎ ((t.words.wait ≡ next_word s.words.wait) × (t.journal ≡ s.journal ++ Took i ∷ []))
+  pub notify : (t.words.notify ≡ s.words.notify)
+      ⊎ ((upto : ℕ) × (t.words.notify ≡ word_of first upto) × (t.journal ≡ s.journal ++ Granted upto i ∷ []))
   pub lock : LockChanges (event_of s i) s.words.lock t.words.lock
   pub grants : (k : ℕ) → GrantChanges i (event_of s i) k (s.words.grants k) (t.words.grants k)

@@ -1,4 +1,4 @@
--- Paths of a seat of a notify list, and what their strides tell by what was seen alone.
+-- Paths of a seat of a notify list, and what their strides tell by what was read and seen.
 use Rattle.std.specs.Prelude.{◌≡◌, ◌≢◌, ℕ, ◌<◌, ◌≤◌, Bool, eqb, IsTrue, List, [], ◌∷◌, Some, None, ◌^◌}
 use Rattle.step_table.specs.declared.list_place.ListEffect.{ListEffect}
 use Rattle.step_table.specs.declared.list_place.ListEffect.TheVariants.{HandsOut, Grants}

@@ -37,7 +37,7 @@ RestsIdle seats s = (k : ℕ) → k < seats → (s.seats k).place ≡ Rest → (
 abbrev pub AllRest : ℕ → ListWorld → Type 0
 AllRest seats s = (k : ℕ) → k < seats → (s.seats k).place ≡ Rest
 
--- nothing is left of any call
+-- the lock is free, and nothing is left in list, grants and hands; a seat may still hold a ticket
 pub record NothingLeft (seats : ℕ) (s : ListWorld) : Type 0 where
   pub lock : s.words.lock ≡ 0
   pub queue : s.words.queue ≡ []

@@ -6,7 +6,8 @@ use Rattle.step_table.specs.declared.list_place.OneRow.TheVariants.{O8, O9}
 use Rattle.step_table.specs.ListWorld.{ListWorld}
 use Rattle.list_law.specs.ListCalls.{Returns, Concludes}
 
--- a wait returns, found granted or woken; and a notification concludes, or has granted one ticket
+-- a ticket was taken; a wait returns, found granted or woken; or a notification concludes, or stands where it has granted one
+-- ticket
 abbrev pub HasDone : ListWorld → ℕ → ListPlace → Type 0
 HasDone s i Rest = ⊥
 HasDone s i Adding = Unit {0}

@@ -17,7 +17,8 @@ pub fn law_of_the_list_accounts()
 {}
 
 /// The path of one seat on a notify list, between whose rows others do anything: rows and looks that follow each other make a
-/// path, what is seen only grows, and each read of the wait and notify words and each lead follows from what was seen alone.
+/// path, and what is seen only grows; each read of the wait and notify words follows from what was seen alone, and each lead
+/// from what was read and seen, and for O8 and L7 from some list of waits, which no journal tells.
 pub fn law_of_the_list_paths()
     ensures { TheListPaths }
 {}

@@ -6,17 +6,15 @@ use Rattle.step_table.specs.declared.entry.Entry.{Entry}
 use Rattle.step_table.specs.declared.place.Acquire.{Acquire}
 use Rattle.step_table.specs.declared.place.AcquireRow.TheVariants.{A5, A6, A7, A8, P}
 use Rattle.step_table.specs.declared.place.ReleaseRow.TheVariants.{R6}
-use Rattle.step_table.specs.declared.place.ReleaseMany.{ReleaseMany}
-use Rattle.step_table.specs.declared.place.ManyRow.{ManyRow}
 use Rattle.step_table.specs.declared.place.ManyRow.TheVariants.{M6}
 use Rattle.step_table.specs.declared.place.Place.{Place}
-use Rattle.step_table.specs.declared.place.Place.TheVariants.{Rest, Acquiring, Releasing, ReleasingMany}
+use Rattle.step_table.specs.declared.place.Place.TheVariants.{Acquiring, Releasing, ReleasingMany}
 use Rattle.step_table.specs.World.{Layout, SemaWorld, first_world}
-use Rattle.step_table.specs.Steps.{Turn, IsReached}
+use Rattle.step_table.specs.Steps.{IsReached}
 use Rattle.step_table.proofs.Turns.{steps_keep, sole}
 use Rattle.step_table.specs.Steps as steps
 use Rattle.step_table.specs.Journal.{HasItsUnit}
-use Rattle.step_table.specs.Counting.{on, same, total, wait, times, granted, counter_at, IsWithin}
+use Rattle.step_table.specs.Counting.{on, same, total, wait, times, granted, counter_at}
 use Rattle.sema_law.specs.Lawful.{holds, raises, flies, IsParked, IsCommitted}
 use Rattle.sema_law.specs.Lawful.{WaitersCounted, NoLostWakeUp, ParkedOnce, EachIsParked, IsReleasing, CallsWithin, IsLawfulWorld}
 use Rattle.sema_law.specs.Invariant.{hands, awaits, helps_at, helps, commits, HandFits, IsInvariant}
@@ -172,16 +170,7 @@ module _ (m : Layout) (s : SemaWorld) (inv : IsInvariant m s) where
       let story = inv.stories k h in subst (λ c. HasItsUnit c (wait k turn) s.journal) parked.1 (rw (parked.2, two) at story)
 
   calls_within : CallsWithin m s
-  calls_within k = (there (s.seats k).place (inv.seats k).within, (λ r row is. few r row (subst (IsWithin m.counters) is (inv.seats k).within)))
-    where
-      there : (p : Place) → IsWithin m.counters p → (p ≡ Rest) ⊎ (counter_at p < m.counters)
-      there Rest within = inl refl
-      there (Acquiring a row) within = inr within
-      there (Releasing r row) within = inr within
-      there (ReleasingMany r row) within = inr within.0
-
-      few : (r : ReleaseMany) (row : ManyRow) → IsWithin m.counters (ReleasingMany r row) → (1 ≤ r.units) × (r.units ≤ 256)
-      few r row within = (within.1, within.2)
+  calls_within k = (inv.seats k).within
 
   pub promised : IsLawfulWorld m s
   promised = record {

@@ -7,8 +7,9 @@ use Rattle.step_table.specs.declared.effect.Effect.{Effect}
 use Rattle.step_table.specs.declared.effect.Effect.TheVariants.{Nothing, Tells, Wakes}
 use Rattle.waiters.specs.declared.wait.WaitId.{WaitId}
 use Rattle.step_table.specs.declared.entry.Entry.{Entry}
-use Rattle.step_table.specs.declared.entry.Entry.TheVariants.{Add, AddMany, Queue, Leave}
+use Rattle.step_table.specs.declared.entry.Entry.TheVariants.{Add, AddMany, Take, Queue, Leave, Ticket, Grant}
 use Rattle.step_table.specs.declared.place.Place.{Place}
+use Rattle.step_table.specs.declared.place.Place.TheVariants.{Acquiring, Releasing, ReleasingMany}
 use Rattle.step_table.specs.declared.word.Word.{Word}
 use Rattle.step_table.specs.declared.word.Word.TheVariants.{Counter}
 use Rattle.step_table.specs.World.{Layout, SemaWorld, SeatState, found, journal_after, seat_after}
@@ -21,7 +22,7 @@ use Rattle.sema_law.specs.Lawful.{IsLawfulWorld}
 use Rattle.step_table.specs.Path.{Deed, runs, looks, sight, Meets, Did}
 use Rattle.sema_law.specs.SemaPath.{SemaSight, SemaStride, semaphores, SemaRan, plain_before, row_event, row_next, word_of_deed, word_of_stride, entries_of, is_own, row_stride, placed, SemaDid, TheSemaPaths}
 use Rattle.step_table.proofs.Sums.{put_here, put_else}
-use Rattle.sema_law.specs.Entries.{IsOwn, TellsOwn}
+use Rattle.sema_law.specs.Entries.{IsOwnAt, TellsOwn}
 use Rattle.sema_law.proofs.Promises.{the_law, reached}
 use Rattle.sema_law.proofs.Owning.{told}
 use Rattle.step_table.proofs.Paths.{goes_on_more, goes_on_by, row_ran, are_paths}
@@ -51,18 +52,22 @@ sema_begins m s i v place in_range meets choice = record {
 }
 
 -- what is one seat's own, no other seat alone can tell
-not_its : (i j : ℕ) (p : SeatState) (e : Entry) → j ≢ i → IsOwn i p e → is_own j e ≡ false
-not_its i j p (Add c s) ne own = ne_eqb s j (λ q. ne (sym q ∙ own.1))
-not_its i j p (AddMany c n s) ne own = ne_eqb s j (λ q. ne (sym q ∙ own.1))
-not_its i j p (Queue c w lifo) ne own = ne_eqb w.seat j (λ q. ne (sym q ∙ ap (λ (x : WaitId). x.seat) own.1))
-not_its i j p (Leave c w s) ne own = ne_eqb s j (λ q. ne (sym q ∙ own.1))
-not_its i j p _ ne own = refl
+not_its : (i j n : ℕ) (hand : List WaitId) (p : Place) (e : Entry) → j ≢ i → IsOwnAt i n hand p e → is_own j e ≡ false
+not_its i j n hand p (Take c s) ne own = refl
+not_its i j n hand p (Ticket l s) ne own = refl
+not_its i j n hand p (Grant l upto s) ne own = refl
+not_its i j n hand (Acquiring a row) (Queue c w lifo) ne own = ne_eqb w.seat j (λ q. ne (sym q ∙ ap (λ (x : WaitId). x.seat) own.1))
+not_its i j n hand (Releasing r row) (Add c s) ne own = ne_eqb s j (λ q. ne (sym q ∙ own.1))
+not_its i j n hand (Releasing r row) (Leave c w s) ne own = ne_eqb s j (λ q. ne (sym q ∙ own.1))
+not_its i j n hand (ReleasingMany r row) (AddMany c u s) ne own = ne_eqb s j (λ q. ne (sym q ∙ own.2))
+not_its i j n hand (ReleasingMany r row) (Leave c w s) ne own = ne_eqb s j (λ q. ne (sym q ∙ own.1))
+not_its i j n hand p e ne own = absurd own
 
 silent : (i j : ℕ) (s t : SemaWorld) → j ≢ i → TellsOwn i s t → filter (is_own j) t.journal ≡ filter (is_own j) s.journal
 silent i j s t ne (inl same) = ap (filter (is_own j)) same
 silent i j s t ne (inr (e, is, own)) =
     ap (filter (is_own j)) is ∙ filter-append (is_own j) s.journal (e ∷ [])
-    ∙ ap (λ b. filter (is_own j) s.journal ++ cond b (e ∷ []) []) (not_its i j (s.seats i) e ne own)
+    ∙ ap (λ b. filter (is_own j) s.journal ++ cond b (e ∷ []) []) (not_its i j (s.seats i).turn (s.seats i).hand (s.seats i).place e ne own)
     ∙ append-nil (filter (is_own j) s.journal)
 
 pub sema_others : (m : Layout) (s t : SemaWorld) (i j : ℕ) (v : SemaSight) → i < m.seats → j ≢ i → Step m s i t

@@ -11,7 +11,8 @@ use Rattle.sema_law.specs.Holders.{WaitersNear, ChangesWords}
 use Rattle.sema_law.specs.Served.{TakesCounted, ServedOnce, EndsWithUnit, TurnsQueued, TakesServed}
 use Rattle.sema_law.specs.Bounds.{AllRest, IsCleared, IsSmall, IsUnwrapped}
 
--- what holds of each reached world, of each world with the invariant, and of each step from such a world
+-- what holds of each reached world, of each world with the invariant, of each step from such a world and, for `ended`, of each
+-- row from any world
 pub record TheAccounts : Type 0 where
   pub named : (m : Layout) (s : SemaWorld) → IsReached m s → All (IsNamed m) s.journal
   pub told : (m : Layout) (s t : SemaWorld) (i : ℕ) → i < m.seats → IsInvariant m s → Step m s i t → TellsOwn i s t

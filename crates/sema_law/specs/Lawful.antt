@@ -6,14 +6,12 @@ use Rattle.step_table.specs.declared.entry.Entry.TheVariants.{Add, AddMany}
 use Rattle.step_table.specs.declared.place.Acquire.{Acquire}
 use Rattle.step_table.specs.declared.place.AcquireRow.TheVariants.{A4, A5, A6, A7, A8, A9, P, A10, A11}
 use Rattle.step_table.specs.declared.place.ReleaseRow.TheVariants.{R1, R4, R5, R6, R9}
-use Rattle.step_table.specs.declared.place.ReleaseMany.{ReleaseMany}
-use Rattle.step_table.specs.declared.place.ManyRow.{ManyRow}
 use Rattle.step_table.specs.declared.place.ManyRow.TheVariants.{M1, M4, M5, M6, M7}
 use Rattle.step_table.specs.declared.place.Place.{Place}
-use Rattle.step_table.specs.declared.place.Place.TheVariants.{Rest, Acquiring, Releasing, ReleasingMany}
+use Rattle.step_table.specs.declared.place.Place.TheVariants.{Acquiring, Releasing, ReleasingMany}
 use Rattle.step_table.specs.World.{Layout, Words, SemaWorld}
 use Rattle.step_table.specs.Journal.{plain, plain_start, replay, IsLawful, HasItsUnit}
-use Rattle.step_table.specs.Counting.{on, total, wait, times, granted, counter_at}
+use Rattle.step_table.specs.Counting.{on, total, wait, times, granted, IsWithin}
 
 -- 1 where the seat holds the lock of the root r
 abbrev pub holds : (ℕ → ℕ) → ℕ → Place → ℕ
@@ -143,10 +141,7 @@ AllBounded m s =
 
 -- each seat is at rest, or its call is on a counter that is there; and a release of many is of 1 to 256 units
 abbrev pub CallsWithin : Layout → SemaWorld → Type 0
-CallsWithin m s =
-    (k : ℕ)
-    → (((s.seats k).place ≡ Rest) ⊎ (counter_at (s.seats k).place < m.counters))
-    × ((r : ReleaseMany) (row : ManyRow) → (s.seats k).place ≡ ReleasingMany r row → (1 ≤ r.units) × (r.units ≤ 256))
+CallsWithin m s = (k : ℕ) → IsWithin m.counters (s.seats k).place
 
 -- a lawful world
 pub record IsLawfulWorld (m : Layout) (s : SemaWorld) : Type 0 where

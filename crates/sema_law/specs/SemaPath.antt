@@ -1,4 +1,4 @@
--- Paths of a seat of semaphores, and what their strides tell by what was seen alone.
+-- Paths of a seat of semaphores, and what their strides tell by what was read and seen.
 use Rattle.std.specs.Prelude.{◌≡◌, ◌≢◌, ℕ, ◌<◌, Bool, false, eqb, IsTrue, List, [], ◌∷◌}
 use Rattle.step_table.specs.declared.effect.Effect.{Effect}
 use Rattle.step_table.specs.declared.effect.Effect.TheVariants.{Tells}

@@ -17,7 +17,7 @@ pub fn law_of_the_accounts()
 {}
 
 /// The path of one seat, between whose rows others do anything: rows and looks that follow each other make a path, what is
-/// seen only grows, and each read of a counter and each lead follows from what was seen alone.
+/// seen only grows; each read of a counter follows from what was seen alone, and each lead from what was read and seen.
 pub fn law_of_the_paths()
     ensures { TheSemaPaths }
 {}
