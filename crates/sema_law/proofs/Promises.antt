@@ -193,6 +193,7 @@ the_law = record {
   starts = at_first;
   kept = kept;
   lawful = promised;
+  invariant = reached;
   reached = λ m s r. promised m s (reached m s r);
   ends = at_rest;
   sole = λ m. sole (steps.rules m.root);
