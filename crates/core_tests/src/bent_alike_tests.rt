@@ -3,10 +3,14 @@
 use crate::again::{bent_again, copied_bent, moment_again};
 use crate::bent_shown::{is_at, is_enabled, refuses};
 use crate::bent_tests::{LAST_TICKET, VARIANTS, lone_waiter};
-use crate::given::{HANDOFF, acquire, handoff_scenario, release, scenario};
+use crate::given::{
+    HANDOFF, Start, acquire, handoff, handoff_scenario, on_counter, release, scenario,
+    scenario_from,
+};
 use crate::keys::{
     key_after, key_of_bent, key_of_bent_after, key_of_moment, walk_bent, write_bent_key,
 };
+use crate::list_tests::on_list;
 use std::alloc::Global;
 use std::process::Abort;
 use std::test::Fail;
@@ -15,11 +19,11 @@ use step_core::{BentWorld, Phase, Row, Scenario, StepRefused, Variant};
 /// The world has this key.
 fn has_key(rt: &impl Abort, alloc: Global, world: &BentWorld<'_>, key: &[u64]) -> Result<(), Fail> {
     let told = key_of_bent(alloc, world)?;
-    assert_eq!(rt; told.as_slice(), key);
+    assert!(rt; told.as_slice() == key);
     // what the words were before is no part of the key
     let mut words = told;
     write_bent_key(world, &mut words)?;
-    assert_eq!(rt; words.as_slice(), key);
+    assert!(rt; words.as_slice() == key);
     Ok(())
 }
 
@@ -42,8 +46,8 @@ fn is_start(
     variant: Variant,
     key: &[u64],
 ) -> Result<(), Fail> {
-    assert_eq!(rt; world.variant(), variant);
-    assert_eq!(rt; world.scenario().seats(), 3);
+    assert!(rt; world.variant() == variant);
+    assert!(rt; world.scenario().seats() == 3);
     has_key(rt, alloc, world, key)?;
     is_enabled(rt, world, 2, true);
     is_enabled(rt, world, 3, false);
@@ -65,6 +69,17 @@ fn each_changed_table_starts_as_the_table(rt: HostRuntime) -> Result<(), Fail> {
 fn lead_alike(
     rt: &impl Abort,
     alloc: Global,
+    start: Start<'_>,
+    schedule: &[u16],
+    variants: &[Variant],
+) -> Result<(), Fail> {
+    let scenario = scenario_from(alloc, start)?;
+    lead_alike_from(rt, alloc, &scenario, schedule, variants)
+}
+
+fn lead_alike_from(
+    rt: &impl Abort,
+    alloc: Global,
     scenario: &Scenario,
     schedule: &[u16],
     variants: &[Variant],
@@ -72,29 +87,40 @@ fn lead_alike(
     let key = key_after(rt, alloc, scenario, schedule)?;
     for variant in variants {
         let bent = key_of_bent_after(rt, alloc, scenario, *variant, schedule)?;
-        assert_eq!(rt; bent.as_slice(), key.as_slice());
+        assert!(rt; bent.as_slice() == key.as_slice());
     }
     Ok(())
 }
 
 #[test]
 fn tickets_leave_counters_alone(rt: HostRuntime) -> Result<(), Fail> {
-    let scenario = handoff_scenario(rt.alloc())?;
-    lead_alike(&rt, rt.alloc(), &scenario, &HANDOFF, &[Variant::PlainLess])
+    let calls = [&[acquire()][..], &[acquire()], &[handoff()]];
+    let start = on_counter(&calls);
+    lead_alike(&rt, rt.alloc(), start, &HANDOFF, &[Variant::PlainLess])
 }
 
 #[test]
 fn acquires_leave_lists_alone(rt: HostRuntime) -> Result<(), Fail> {
-    let scenario = lone_waiter(rt.alloc(), LAST_TICKET)?;
     let acquires = [Variant::NoLook, Variant::LateCount];
-    lead_alike(&rt, rt.alloc(), &scenario, &[0; 11], &acquires)
+    lead_alike(
+        &rt,
+        rt.alloc(),
+        on_list(&[LAST_TICKET], &[&lone_waiter()]),
+        &[0; 11],
+        &acquires,
+    )
 }
 
 /// Words that don't wrap are ordered by their difference as they are plainly.
 #[test]
 fn words_that_do_not_wrap_go_as_by_the_table(rt: HostRuntime) -> Result<(), Fail> {
-    let scenario = lone_waiter(rt.alloc(), 0)?;
-    lead_alike(&rt, rt.alloc(), &scenario, &[0; 11], &VARIANTS)
+    lead_alike(
+        &rt,
+        rt.alloc(),
+        on_list(&[0], &[&lone_waiter()]),
+        &[0; 11],
+        &VARIANTS,
+    )
 }
 
 /// The copy steps on, and the original stays until it takes the same steps.
@@ -106,7 +132,7 @@ fn both_go_on(
 ) -> Result<(), Fail> {
     let key = key_of_bent(alloc, world)?;
     has_key(rt, alloc, copy, &key)?;
-    assert_eq!(rt; copy.variant(), world.variant());
+    assert!(rt; copy.variant() == world.variant());
     walk_bent(rt, copy, &[1, 1, 0]);
     has_key(rt, alloc, world, &key)?;
     walk_bent(rt, world, &[1, 1, 0]);

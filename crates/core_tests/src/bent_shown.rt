@@ -19,15 +19,15 @@ fn number_of(rt: &impl Abort, world: &BentWorld<'_>, counter: u32) -> u64 {
 }
 
 pub(crate) fn is_at(rt: &impl Abort, world: &BentWorld<'_>, number: u16, far: Phase) {
-    assert_eq!(rt; phase_of(rt, world, number), far);
+    assert!(rt; phase_of(rt, world, number) == far);
 }
 
 pub(crate) fn is_enabled(rt: &impl Abort, world: &BentWorld<'_>, number: u16, can: bool) {
-    assert_eq!(rt; world.enabled(seat(number)), can);
+    assert!(rt; world.enabled(seat(number)) == can);
 }
 
 pub(crate) fn has_number(rt: &impl Abort, world: &BentWorld<'_>, counter: u32, number: u64) {
-    assert_eq!(rt; number_of(rt, world, counter), number);
+    assert!(rt; number_of(rt, world, counter) == number);
 }
 
 /// The seat runs these rows, and can step before each.
@@ -35,7 +35,7 @@ pub(crate) fn runs(rt: &impl Abort, world: &mut BentWorld<'_>, number: u16, rows
     for row in rows {
         is_at(rt, world, number, Phase::At(*row));
         is_enabled(rt, world, number, true);
-        assert_eq!(rt; world.step(seat(number)), Ok(()));
+        assert!(rt; world.step(seat(number)) == Ok(()));
     }
 }
 
@@ -48,8 +48,8 @@ pub(crate) fn refuses(
     cause: StepRefused,
 ) -> Result<(), Fail> {
     let before = key_of_bent(alloc, world)?;
-    assert_eq!(rt; world.step(seat(number)), Err(cause));
+    assert!(rt; world.step(seat(number)) == Err(cause));
     let after = key_of_bent(alloc, world)?;
-    assert_eq!(rt; after.as_slice(), before.as_slice());
+    assert!(rt; after.as_slice() == before.as_slice());
     Ok(())
 }

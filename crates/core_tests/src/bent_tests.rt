@@ -2,7 +2,7 @@
 
 use crate::again::bent_again;
 use crate::bent_shown::{has_number, is_at, is_enabled, refuses, runs};
-use crate::given::{COUNTER, acquire, release, scenario, scenario_of_parts, seat};
+use crate::given::{COUNTER, Start, acquire, on_counter, release, scenario_from, seat};
 use crate::list_tests::{add, on_list, one, wait_for_it};
 use crate::story::{Line, TO_GRANT, follow_after};
 use std::alloc::Global;
@@ -56,8 +56,7 @@ fn goes(
     Ok(())
 }
 
-/// From the start of the scenario the changed table goes as the tale says.
-fn follow_bent(
+fn follow_from(
     rt: &impl Abort,
     alloc: Global,
     scenario: &Scenario,
@@ -66,6 +65,18 @@ fn follow_bent(
 ) -> Result<(), Fail> {
     let mut world = bent_again(alloc, scenario, variant)?;
     goes(rt, alloc, &mut world, tale)
+}
+
+/// From the start of the scenario the changed table goes as the tale says.
+fn follow_bent(
+    rt: &impl Abort,
+    alloc: Global,
+    start: Start<'_>,
+    variant: Variant,
+    tale: &Tale<'_>,
+) -> Result<(), Fail> {
+    let scenario = scenario_from(alloc, start)?;
+    follow_from(rt, alloc, &scenario, variant, tale)
 }
 
 /// Seat 0 sleeps, and seat 1, which has brought a unit, has ended.
@@ -87,8 +98,13 @@ const UNSEEN: Tale<'static> = Tale {
 /// The release comes between the two looks, and finds nobody.
 #[test]
 fn without_the_second_look_a_wake_up_is_lost(rt: HostRuntime) -> Result<(), Fail> {
-    let scenario = scenario(rt.alloc(), &[acquire(), release()])?;
-    follow_bent(&rt, rt.alloc(), &scenario, Variant::NoLook, &UNSEEN)
+    follow_bent(
+        &rt,
+        rt.alloc(),
+        on_counter(&[&[acquire()], &[release()]]),
+        Variant::NoLook,
+        &UNSEEN,
+    )
 }
 
 const SEEN: [Line; 9] = [
@@ -106,11 +122,17 @@ const SEEN: [Line; 9] = [
 /// By the table seat 0 has seen the unit at its second look.
 #[test]
 fn with_the_second_look_it_is_not(rt: HostRuntime) -> Result<(), Fail> {
-    let scenario = scenario(rt.alloc(), &[acquire(), release()])?;
     let counter = CounterId::new(COUNTER);
     let told = [Entry::Add(counter, seat(1)), Entry::Take(counter, seat(0))];
     let lost = [0, 0, 1, 1, 0, 0];
-    follow_after(&rt, rt.alloc(), &scenario, &lost, &SEEN, &told)
+    follow_after(
+        &rt,
+        rt.alloc(),
+        on_counter(&[&[acquire()], &[release()]]),
+        &lost,
+        &SEEN,
+        &told,
+    )
 }
 
 const UNCOUNTED: Tale<'static> = Tale {
@@ -126,8 +148,13 @@ const UNCOUNTED: Tale<'static> = Tale {
 /// The release comes between the second look and the count, and finds nobody.
 #[test]
 fn with_a_late_count_a_wake_up_is_lost(rt: HostRuntime) -> Result<(), Fail> {
-    let scenario = scenario(rt.alloc(), &[acquire(), release()])?;
-    follow_bent(&rt, rt.alloc(), &scenario, Variant::LateCount, &UNCOUNTED)
+    follow_bent(
+        &rt,
+        rt.alloc(),
+        on_counter(&[&[acquire()], &[release()]]),
+        Variant::LateCount,
+        &UNCOUNTED,
+    )
 }
 
 const COUNTED: [Line; 12] = [
@@ -148,11 +175,17 @@ const COUNTED: [Line; 12] = [
 /// By the table seat 1 has seen the raised word, and seat 0 has taken the unit.
 #[test]
 fn with_the_count_in_time_it_is_not(rt: HostRuntime) -> Result<(), Fail> {
-    let scenario = scenario(rt.alloc(), &[acquire(), release()])?;
     let counter = CounterId::new(COUNTER);
     let told = [Entry::Add(counter, seat(1)), Entry::Take(counter, seat(0))];
     let lost = [0, 0, 0, 1, 1, 0, 0];
-    follow_after(&rt, rt.alloc(), &scenario, &lost, &COUNTED, &told)
+    follow_after(
+        &rt,
+        rt.alloc(),
+        on_counter(&[&[acquire()], &[release()]]),
+        &lost,
+        &COUNTED,
+        &told,
+    )
 }
 
 const TAKEN_UNCOUNTED: Tale<'static> = Tale {
@@ -172,11 +205,10 @@ const TAKEN_UNCOUNTED: Tale<'static> = Tale {
 /// Who finds a unit at the second look has raised no word, and lowers none.
 #[test]
 fn with_a_late_count_a_unit_is_taken_uncounted(rt: HostRuntime) -> Result<(), Fail> {
-    let scenario = scenario(rt.alloc(), &[acquire(), release()])?;
     follow_bent(
         &rt,
         rt.alloc(),
-        &scenario,
+        on_counter(&[&[acquire()], &[release()]]),
         Variant::LateCount,
         &TAKEN_UNCOUNTED,
     )
@@ -184,9 +216,9 @@ fn with_a_late_count_a_unit_is_taken_uncounted(rt: HostRuntime) -> Result<(), Fa
 
 pub(crate) const LAST_TICKET: u64 = 18_446_744_073_709_551_615;
 
-/// One seat that takes a ticket, grants it, and waits with it.
-pub(crate) fn lone_waiter(alloc: Global, first: u64) -> Result<Scenario, Fail> {
-    on_list(alloc, first, &[&[add(), one(), wait_for_it()]])
+/// A seat that takes a ticket, grants it, and waits with it.
+pub(crate) fn lone_waiter() -> [Call; 3] {
+    [add(), one(), wait_for_it()]
 }
 
 const TICKET: [Row; 1] = [Row::N1];
@@ -204,18 +236,29 @@ const WRAPPED: Tale<'static> = Tale {
 /// The granted ticket is the last word, and the notify word has wrapped: its wait parks.
 #[test]
 fn by_the_plain_comparison_a_granted_ticket_sleeps(rt: HostRuntime) -> Result<(), Fail> {
-    let scenario = lone_waiter(rt.alloc(), LAST_TICKET)?;
-    follow_bent(&rt, rt.alloc(), &scenario, Variant::PlainLess, &WRAPPED)
+    follow_bent(
+        &rt,
+        rt.alloc(),
+        on_list(&[LAST_TICKET], &[&lone_waiter()]),
+        Variant::PlainLess,
+        &WRAPPED,
+    )
 }
 
 /// By the table the same eleven steps end its calls.
 #[test]
 fn by_the_difference_it_does_not(rt: HostRuntime) -> Result<(), Fail> {
-    let scenario = lone_waiter(rt.alloc(), LAST_TICKET)?;
     let lines = [Line::Stands(0, Phase::Ended)];
     let list = ListId::new(0);
     let told = [Entry::Ticket(list, seat(0)), Entry::Grant(list, 1, seat(0))];
-    follow_after(&rt, rt.alloc(), &scenario, &[0; 11], &lines, &told)
+    follow_after(
+        &rt,
+        rt.alloc(),
+        on_list(&[LAST_TICKET], &[&lone_waiter()]),
+        &[0; 11],
+        &lines,
+        &told,
+    )
 }
 
 const PASSED: Tale<'static> = Tale {
@@ -232,14 +275,18 @@ const PASSED: Tale<'static> = Tale {
 #[test]
 fn by_the_plain_comparison_an_ungranted_ticket_passes(rt: HostRuntime) -> Result<(), Fail> {
     let calls = [&[add()][..], &[add(), wait_for_it()]];
-    let scenario = on_list(rt.alloc(), LAST_TICKET, &calls)?;
-    follow_bent(&rt, rt.alloc(), &scenario, Variant::PlainLess, &PASSED)
+    follow_bent(
+        &rt,
+        rt.alloc(),
+        on_list(&[LAST_TICKET], &calls),
+        Variant::PlainLess,
+        &PASSED,
+    )
 }
 
 /// Seat 1 wants the lock that seat 0 holds.
 #[test]
 fn a_held_lock_refuses_by_each_table(rt: HostRuntime) -> Result<(), Fail> {
-    let scenario = scenario(rt.alloc(), &[acquire(), acquire()])?;
     for (variant, next) in [
         (Variant::NoLook, Row::A4),
         (Variant::LateCount, Row::A5),
@@ -253,7 +300,13 @@ fn a_held_lock_refuses_by_each_table(rt: HostRuntime) -> Result<(), Fail> {
             ],
             numbers: &[(COUNTER, 0)],
         };
-        follow_bent(&rt, rt.alloc(), &scenario, variant, &tale)?;
+        follow_bent(
+            &rt,
+            rt.alloc(),
+            on_counter(&[&[acquire()], &[acquire()]]),
+            variant,
+            &tale,
+        )?;
     }
     Ok(())
 }
@@ -271,10 +324,14 @@ const MISUSED: Tale<'static> = Tale {
 /// One add to a group, which leads below 0.
 #[test]
 fn a_misuse_fails_by_each_table(rt: HostRuntime) -> Result<(), Fail> {
-    let below = [Call::GroupAdd(GroupId::new(0), -1)];
-    let scenario = scenario_of_parts(rt.alloc(), &[], &[], 1, &[&below])?;
+    let start = Start {
+        starts: &[],
+        firsts: &[],
+        groups: 1,
+        calls: &[&[Call::GroupAdd(GroupId::new(0), -1)]],
+    };
     for variant in VARIANTS {
-        follow_bent(&rt, rt.alloc(), &scenario, variant, &MISUSED)?;
+        follow_bent(&rt, rt.alloc(), start, variant, &MISUSED)?;
     }
     Ok(())
 }

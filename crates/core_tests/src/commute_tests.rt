@@ -25,8 +25,8 @@ fn scenario(alloc: Global, roots: u32) -> Result<Scenario, Fail> {
 /// The moment answers so of these pairs of seats, in both orders.
 fn answers(rt: &impl Abort, moment: &Moment<'_>, all: &[(u16, u16, bool)]) {
     for (first, second, commute) in all {
-        assert_eq!(rt; moment.commute(seat(*first), seat(*second)), *commute);
-        assert_eq!(rt; moment.commute(seat(*second), seat(*first)), *commute);
+        assert!(rt; moment.commute(seat(*first), seat(*second)) == *commute);
+        assert!(rt; moment.commute(seat(*second), seat(*first)) == *commute);
     }
 }
 

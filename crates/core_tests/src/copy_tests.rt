@@ -51,8 +51,8 @@ const ADDED: [Line; 4] = [
 ];
 
 fn ends_with(rt: &impl Abort, world: &World<'_>, entries: usize, last: Entry) {
-    assert_eq!(rt; world.journal().len(), entries);
-    assert_eq!(rt; world.journal().last().copied(), Some(last));
+    assert!(rt; world.journal().len() == entries);
+    assert!(rt; world.journal().last().copied() == Some(last));
 }
 
 fn first_waits(number: u16) -> [Line; 1] {

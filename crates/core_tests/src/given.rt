@@ -114,6 +114,29 @@ pub(crate) fn scenario_of_parts(
     scenario_on_roots(alloc, 1, starts, firsts, groups, calls)
 }
 
+/// What a scenario of one root is made of. A test that owns a scenario is slow to prove, and one that has its parts isn't.
+#[derive(Clone, Copy, Drop)]
+pub(crate) struct Start<'t> {
+    pub(crate) starts: &'t [u32],
+    pub(crate) firsts: &'t [u64],
+    pub(crate) groups: u32,
+    pub(crate) calls: &'t [&'t [Call]],
+}
+
+/// One counter at 0, and the calls of each seat.
+pub(crate) fn on_counter<'t>(calls: &'t [&'t [Call]]) -> Start<'t> {
+    Start {
+        starts: &[0],
+        firsts: &[],
+        groups: 0,
+        calls,
+    }
+}
+
+pub(crate) fn scenario_from(alloc: Global, start: Start<'_>) -> Result<Scenario, Fail> {
+    scenario_of_parts(alloc, start.starts, start.firsts, start.groups, start.calls)
+}
+
 fn seats(alloc: Global, schedule: &[u16]) -> Result<Vec<SeatId>, AllocError> {
     schedule.iter().map(|number| seat(*number)).collect(alloc)
 }
@@ -128,7 +151,10 @@ pub(crate) fn seats_again(alloc: Global, schedule: &[u16]) -> Result<Vec<SeatId>
 /// Seats 0 and 1 sleep, seat 2 hands its unit to the first of them.
 pub(crate) const HANDOFF: [u16; 20] = [0, 0, 0, 0, 0, 1, 1, 1, 1, 1, 2, 2, 2, 2, 2, 2, 2, 2, 2, 0];
 
+pub(crate) fn handoff() -> Call {
+    Call::Release(CounterId::new(COUNTER), true)
+}
+
 pub(crate) fn handoff_scenario(alloc: Global) -> Result<Scenario, Fail> {
-    let release = Call::Release(CounterId::new(COUNTER), true);
-    scenario(alloc, &[acquire(), acquire(), release])
+    scenario(alloc, &[acquire(), acquire(), handoff()])
 }

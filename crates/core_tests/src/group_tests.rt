@@ -1,10 +1,9 @@
 //! Wait groups: who waits, who is released, and what is a misuse.
 
-use crate::given::{scenario_of_parts, seat, wait};
+use crate::given::{Start, acquire, seat, wait};
 use crate::story::{Line, Way, follow};
-use std::alloc::Global;
 use std::test::Fail;
-use step_core::{Call, Entry, GroupId, Misuse, Phase, Row, Scenario, StepRefused};
+use step_core::{Call, Entry, GroupId, Misuse, Phase, Row, StepRefused};
 use waiters::CounterId;
 
 const GROUP: u32 = 0;
@@ -19,14 +18,18 @@ fn wait_for_it() -> Call {
     Call::GroupWait(GroupId::new(GROUP))
 }
 
-fn in_group(alloc: Global, calls: &[&[Call]]) -> Result<Scenario, Fail> {
-    scenario_of_parts(alloc, &[], &[], 1, calls)
+fn in_group<'t>(calls: &'t [&'t [Call]]) -> Start<'t> {
+    Start {
+        starts: &[],
+        firsts: &[],
+        groups: 1,
+        calls,
+    }
 }
 
 #[test]
 fn the_last_add_releases_the_wait(rt: HostRuntime) -> Result<(), Fail> {
     let calls = [add(2), add(-1), add(-1)];
-    let scenario = in_group(rt.alloc(), &[&calls, &[wait_for_it()]])?;
     let lines = [
         Line::Run(0, Row::G1),
         Line::Go(1, Way::ToSleepOnGroup),
@@ -44,14 +47,19 @@ fn the_last_add_releases_the_wait(rt: HostRuntime) -> Result<(), Fail> {
         Entry::Leave(semaphore, wait(1, 0), seat(0)),
         Entry::Take(semaphore, seat(1)),
     ];
-    follow(&rt, rt.alloc(), &scenario, &lines, &told)
+    follow(
+        &rt,
+        rt.alloc(),
+        in_group(&[&calls, &[wait_for_it()]]),
+        &lines,
+        &told,
+    )
 }
 
 /// Two waits are released one after the other, by one add.
 #[test]
 fn each_wait_is_released(rt: HostRuntime) -> Result<(), Fail> {
     let waits = [wait_for_it()];
-    let scenario = in_group(rt.alloc(), &[&[add(1), add(-1)], &waits, &waits])?;
     let lines = [
         Line::Run(0, Row::G1),
         Line::Go(1, Way::ToSleepOnGroup),
@@ -77,14 +85,19 @@ fn each_wait_is_released(rt: HostRuntime) -> Result<(), Fail> {
         Entry::Take(semaphore, seat(2)),
         Entry::Take(semaphore, seat(1)),
     ];
-    follow(&rt, rt.alloc(), &scenario, &lines, &told)
+    follow(
+        &rt,
+        rt.alloc(),
+        in_group(&[&[add(1), add(-1)], &waits, &waits]),
+        &lines,
+        &told,
+    )
 }
 
 /// A wait on a counter at 0 takes no unit, and one whose word has changed looks again.
 #[test]
 fn a_wait_that_need_not_sleep(rt: HostRuntime) -> Result<(), Fail> {
     let waits = [wait_for_it()];
-    let scenario = in_group(rt.alloc(), &[&[add(1), add(1), add(-2)], &waits, &waits])?;
     let lines = [
         Line::Run(1, Row::V1),
         Line::Stands(1, Phase::Ended),
@@ -98,26 +111,30 @@ fn a_wait_that_need_not_sleep(rt: HostRuntime) -> Result<(), Fail> {
         Line::Run(2, Row::V1),
         Line::Stands(2, Phase::Ended),
     ];
-    follow(&rt, rt.alloc(), &scenario, &lines, &[])
+    follow(
+        &rt,
+        rt.alloc(),
+        in_group(&[&[add(1), add(1), add(-2)], &waits, &waits]),
+        &lines,
+        &[],
+    )
 }
 
 #[test]
 fn a_counter_below_zero_is_a_misuse(rt: HostRuntime) -> Result<(), Fail> {
-    let scenario = in_group(rt.alloc(), &[&[add(-1)]])?;
     let lines = [
         Line::Run(0, Row::G1),
         Line::Stands(0, Phase::Failed(Misuse::Negative)),
         Line::Enabled(0, false),
         Line::Refused(0, StepRefused::SeatFailed),
     ];
-    follow(&rt, rt.alloc(), &scenario, &lines, &[])
+    follow(&rt, rt.alloc(), in_group(&[&[add(-1)]]), &lines, &[])
 }
 
 /// Seat 0 counts down to 0 while seat 1 is counted; before it has stored the empty word, seat 2 counts up again.
 #[test]
 fn an_add_beside_a_wait_is_a_misuse(rt: HostRuntime) -> Result<(), Fail> {
     let calls = [add(1), add(-1)];
-    let scenario = in_group(rt.alloc(), &[&calls, &[wait_for_it()], &[add(1)]])?;
     let lines = [
         Line::Run(0, Row::G1),
         Line::Run(1, Row::V1),
@@ -129,13 +146,18 @@ fn an_add_beside_a_wait_is_a_misuse(rt: HostRuntime) -> Result<(), Fail> {
         Line::Run(0, Row::G2),
         Line::Stands(0, Phase::Failed(Misuse::AddWithWait)),
     ];
-    follow(&rt, rt.alloc(), &scenario, &lines, &[])
+    follow(
+        &rt,
+        rt.alloc(),
+        in_group(&[&calls, &[wait_for_it()], &[add(1)]]),
+        &lines,
+        &[],
+    )
 }
 
 #[test]
 fn a_group_that_is_used_again_too_early_is_a_misuse(rt: HostRuntime) -> Result<(), Fail> {
     let calls = [add(1), add(-1), add(1)];
-    let scenario = in_group(rt.alloc(), &[&calls, &[wait_for_it()]])?;
     let lines = [
         Line::Run(0, Row::G1),
         Line::Go(1, Way::ToSleepOnGroup),
@@ -151,20 +173,24 @@ fn a_group_that_is_used_again_too_early_is_a_misuse(rt: HostRuntime) -> Result<(
         Entry::Leave(semaphore, wait(1, 0), seat(0)),
         Entry::Take(semaphore, seat(1)),
     ];
-    follow(&rt, rt.alloc(), &scenario, &lines, &told)
+    follow(
+        &rt,
+        rt.alloc(),
+        in_group(&[&calls, &[wait_for_it()]]),
+        &lines,
+        &told,
+    )
 }
 
-/// One counter, of which a seat takes a unit, and one group, whose semaphore is then counter 1.
-fn beside_a_counter(alloc: Global) -> Result<Scenario, Fail> {
-    let acquires = [Call::Acquire(CounterId::new(0), false)];
-    let adds = [add(1), add(-1)];
-    scenario_of_parts(alloc, &[0], &[], 1, &[&acquires, &adds, &[wait_for_it()]])
-}
-
-/// The semaphore of a group comes after the counters, and doesn't share a root with them.
+/// One counter, of which a seat takes a unit, and one group, whose semaphore is then counter 1: the semaphore of a group comes
+/// after the counters, and doesn't share a root with them.
 #[test]
 fn a_semaphore_comes_after_the_counters(rt: HostRuntime) -> Result<(), Fail> {
-    let scenario = beside_a_counter(rt.alloc())?;
+    let calls = [&[acquire()][..], &[add(1), add(-1)], &[wait_for_it()]];
+    let start = Start {
+        starts: &[0],
+        ..in_group(&calls)
+    };
     let lines = [
         // seat 0 holds the lock of the counter's root
         Line::Run(0, Row::A1),
@@ -185,5 +211,5 @@ fn a_semaphore_comes_after_the_counters(rt: HostRuntime) -> Result<(), Fail> {
         Entry::Leave(semaphore, wait(2, 0), seat(1)),
         Entry::Take(semaphore, seat(2)),
     ];
-    follow(&rt, rt.alloc(), &scenario, &lines, &told)
+    follow(&rt, rt.alloc(), start, &lines, &told)
 }

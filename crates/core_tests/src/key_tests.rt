@@ -4,10 +4,11 @@ ghost use Rattle.std.specs.Prelude.{◌≤◌};
 
 use crate::again::{moment_again, new_again, step_again};
 use crate::given::{
-    COUNTER, acquire, release, release_many, scenario, scenario_of_parts, seat, wait,
+    COUNTER, Start, acquire, on_counter, release, release_many, scenario, scenario_from,
+    scenario_of_parts, seat, wait,
 };
-use crate::keys::{key_after, key_of, key_of_moment, walk, write_key};
-use crate::list_tests::two_and_one;
+use crate::keys::{has_words, key_after, key_of, key_of_moment, walk, write_key};
+use crate::list_tests::{on_list, one, waits};
 use crate::moment_tests::of_all_kinds;
 use crate::story::follow_after;
 use std::alloc::Global;
@@ -28,11 +29,11 @@ fn compare(
     let (one, other, are_one) = compared;
     let key = key_after(rt, alloc, scenario, one)?;
     let other = key_after(rt, alloc, scenario, other)?;
-    assert_eq!(rt; key.as_slice() == other.as_slice(), *are_one);
+    assert!(rt; (key.as_slice() == other.as_slice()) == *are_one);
     Ok(())
 }
 
-fn compare_all(
+fn compare_each(
     rt: &impl Abort,
     alloc: Global,
     scenario: &Scenario,
@@ -44,10 +45,14 @@ fn compare_all(
     Ok(())
 }
 
-/// Two seats that release units, each on a counter of its own.
-fn two_releases(alloc: Global) -> Result<Scenario, Fail> {
-    let other = Call::Release(CounterId::new(1), false);
-    scenario_of_parts(alloc, &[0, 0], &[], 0, &[&[release()], &[other]])
+fn compare_all(
+    rt: &impl Abort,
+    alloc: Global,
+    start: Start<'_>,
+    rows: &[Compared<'_>],
+) -> Result<(), Fail> {
+    let scenario = scenario_from(alloc, start)?;
+    compare_each(rt, alloc, &scenario, rows)
 }
 
 /// The order of two seats' releases is told by the journal alone.
@@ -60,16 +65,26 @@ const RELEASES: [Compared<'static>; 6] = [
     (&[0, 0], &[0], false),
 ];
 
+/// Two seats that release units, each on a counter of its own.
 #[test]
 fn releases_of_two_counters_have_one_key(rt: HostRuntime) -> Result<(), Fail> {
-    let scenario = two_releases(rt.alloc())?;
-    compare_all(&rt, rt.alloc(), &scenario, &RELEASES)
+    let other = Call::Release(CounterId::new(1), false);
+    let calls = [&[release()][..], &[other]];
+    let start = Start {
+        starts: &[0, 0],
+        ..on_counter(&calls)
+    };
+    compare_all(&rt, rt.alloc(), start, &RELEASES)
 }
 
 #[test]
 fn releases_of_one_counter_have_one_key(rt: HostRuntime) -> Result<(), Fail> {
-    let scenario = scenario(rt.alloc(), &[release(), release()])?;
-    compare_all(&rt, rt.alloc(), &scenario, &RELEASES)
+    compare_all(
+        &rt,
+        rt.alloc(),
+        on_counter(&[&[release()], &[release()]]),
+        &RELEASES,
+    )
 }
 
 /// Seat 0 takes the unit that seat 1 has brought.
@@ -92,14 +107,17 @@ const SLEEPS: [Compared<'static>; 4] = [
 
 #[test]
 fn a_sleep_that_is_over_is_not_told(rt: HostRuntime) -> Result<(), Fail> {
-    let scenario = scenario(rt.alloc(), &[acquire(), release()])?;
-    compare_all(&rt, rt.alloc(), &scenario, &SLEEPS)
+    compare_all(
+        &rt,
+        rt.alloc(),
+        on_counter(&[&[acquire()], &[release()]]),
+        &SLEEPS,
+    )
 }
 
 /// Its two runs have journals of two entries and of four.
 #[test]
 fn a_sleep_that_is_over_stays_in_the_journal(rt: HostRuntime) -> Result<(), Fail> {
-    let scenario = scenario(rt.alloc(), &[acquire(), release()])?;
     let counter = CounterId::new(COUNTER);
     let told = [
         Entry::Queue(counter, wait(0, 0), false),
@@ -108,8 +126,22 @@ fn a_sleep_that_is_over_stays_in_the_journal(rt: HostRuntime) -> Result<(), Fail
         Entry::Take(counter, seat(0)),
     ];
     let at_once = [told[1], told[3]];
-    follow_after(&rt, rt.alloc(), &scenario, &AT_ONCE, &[], &at_once)?;
-    follow_after(&rt, rt.alloc(), &scenario, &SLEPT, &[], &told)
+    follow_after(
+        &rt,
+        rt.alloc(),
+        on_counter(&[&[acquire()], &[release()]]),
+        &AT_ONCE,
+        &[],
+        &at_once,
+    )?;
+    follow_after(
+        &rt,
+        rt.alloc(),
+        on_counter(&[&[acquire()], &[release()]]),
+        &SLEPT,
+        &[],
+        &told,
+    )
 }
 
 /// Seats 0 and 1 sleep, in either order, and seat 2 wakes both.
@@ -157,16 +189,12 @@ const TICKETS: [Compared<'static>; 4] = [
 
 #[test]
 fn who_has_which_ticket_is_told(rt: HostRuntime) -> Result<(), Fail> {
-    let scenario = two_and_one(rt.alloc())?;
-    compare_all(&rt, rt.alloc(), &scenario, &TICKETS)
-}
-
-/// One group, at 1, and two seats that sleep on its semaphore.
-fn two_group_waits(alloc: Global) -> Result<Scenario, Fail> {
-    let group = GroupId::new(0);
-    let wait = [Call::GroupWait(group)];
-    let adds = [Call::GroupAdd(group, 1)];
-    scenario_of_parts(alloc, &[0], &[], 1, &[&adds, &wait, &wait])
+    compare_all(
+        &rt,
+        rt.alloc(),
+        on_list(&[0], &[&waits(), &waits(), &[one()]]),
+        &TICKETS,
+    )
 }
 
 /// Two waits of a group go to sleep, in either order: from when both are counted only its semaphore tells them apart.
@@ -179,22 +207,27 @@ const GROUP_WAITS: [Compared<'static>; 2] = [
     ),
 ];
 
+/// One group, at 1, and two seats that sleep on its semaphore.
 #[test]
 fn the_semaphore_of_a_group_is_told(rt: HostRuntime) -> Result<(), Fail> {
-    let scenario = two_group_waits(rt.alloc())?;
-    compare_all(&rt, rt.alloc(), &scenario, &GROUP_WAITS)
+    let group = GroupId::new(0);
+    let wait = [Call::GroupWait(group)];
+    let calls = [&[Call::GroupAdd(group, 1)][..], &wait, &wait];
+    let start = Start {
+        groups: 1,
+        ..on_counter(&calls)
+    };
+    compare_all(&rt, rt.alloc(), start, &GROUP_WAITS)
 }
 
 /// The words of a key, by hand: the counter's number and its empty list; the words of its root; the seat before its row of
 /// a release, and one word for no grant and nothing in hand; that it is on a counter; how many calls it has begun.
 #[test]
 fn a_key_has_its_words(rt: HostRuntime) -> Result<(), Fail> {
-    let scenario = scenario(rt.alloc(), &[release()])?;
-    let before = key_after(&rt, rt.alloc(), &scenario, &[])?;
-    assert_eq!(rt; before.as_slice(), [0, 0, 0, 0, 26, 0, 0, 1, 1].as_slice());
-    let after = key_after(&rt, rt.alloc(), &scenario, &[0])?;
-    assert_eq!(rt; after.as_slice(), [1, 0, 0, 0, 28, 0, 0, 1, 1].as_slice());
-    Ok(())
+    let calls = [&[release()][..]];
+    let start = on_counter(&calls);
+    has_words(&rt, rt.alloc(), start, &[], &[0, 0, 0, 0, 26, 0, 0, 1, 1])?;
+    has_words(&rt, rt.alloc(), start, &[0], &[1, 0, 0, 0, 28, 0, 0, 1, 1])
 }
 
 /// The world, its moment and a moment beside it have one key, and so do these words once it is written into them.
@@ -207,11 +240,11 @@ fn is_one_key(
 ) -> Result<(), Fail> {
     let key = key_of(alloc, world)?;
     let inner = key_of_moment(alloc, world.moment())?;
-    assert_eq!(rt; inner.as_slice(), key.as_slice());
+    assert!(rt; inner.as_slice() == key.as_slice());
     let beside = key_of_moment(alloc, moment)?;
-    assert_eq!(rt; beside.as_slice(), key.as_slice());
+    assert!(rt; beside.as_slice() == key.as_slice());
     write_key(moment, words)?;
-    assert_eq!(rt; words.as_slice(), key.as_slice());
+    assert!(rt; words.as_slice() == key.as_slice());
     Ok(())
 }
 
@@ -225,7 +258,7 @@ fn keep_one_key(
     let mut words = Vec::new(alloc);
     for number in schedule {
         is_one_key(rt, alloc, world, moment, &mut words)?;
-        assert_eq!(rt; step_again(world, *number), Ok(()));
+        assert!(rt; step_again(world, *number) == Ok(()));
         walk(rt, moment, &[*number]);
     }
     is_one_key(rt, alloc, world, moment, &mut words)
@@ -271,7 +304,7 @@ fn reach(
 {
     let key = key_after(rt, alloc, scenario, &BORDERS[4 - zeros..4 + ones])?;
     let other = key_after(rt, alloc, scenario, &BORDERS[8 - ones..8 + zeros])?;
-    assert_eq!(rt; other.as_slice(), key.as_slice());
+    assert!(rt; other.as_slice() == key.as_slice());
     keys.push(key)?;
     Ok(())
 }
@@ -299,7 +332,7 @@ fn reach_all(rt: &impl Abort, alloc: Global, scenario: &Scenario) -> Result<(), 
             reach(rt, alloc, scenario, &mut keys, zeros, ones)?;
         }
     }
-    assert_eq!(rt; keys.len(), 25);
+    assert!(rt; keys.len() == 25);
     differ(rt, &keys);
     Ok(())
 }
@@ -331,7 +364,7 @@ fn reach_each(rt: &impl Abort, alloc: Global, scenario: &Scenario) -> Result<(),
     for number in 0..625 {
         reach_one(rt, alloc, scenario, &mut keys, number)?;
     }
-    assert_eq!(rt; keys.len(), 625);
+    assert!(rt; keys.len() == 625);
     differ(rt, &keys);
     Ok(())
 }

@@ -1,7 +1,7 @@
 //! Keys of worlds, asked for once more where memory was refused.
 
 use crate::again::{bent_again, moment_again};
-use crate::given::seat;
+use crate::given::{Start, scenario_from, seat};
 use std::alloc::Global;
 use std::process::Abort;
 use std::test::Fail;
@@ -48,6 +48,30 @@ pub(crate) fn key_after(
     Ok(key_of_moment(alloc, &moment)?)
 }
 
+fn has_words_after(
+    rt: &impl Abort,
+    alloc: Global,
+    scenario: &Scenario,
+    schedule: &[u16],
+    words: &[u64],
+) -> Result<(), Fail> {
+    let key = key_after(rt, alloc, scenario, schedule)?;
+    assert!(rt; key.as_slice() == words);
+    Ok(())
+}
+
+/// After the schedule the run has these words.
+pub(crate) fn has_words(
+    rt: &impl Abort,
+    alloc: Global,
+    start: Start<'_>,
+    schedule: &[u16],
+    words: &[u64],
+) -> Result<(), Fail> {
+    let scenario = scenario_from(alloc, start)?;
+    has_words_after(rt, alloc, &scenario, schedule, words)
+}
+
 /// Writes the key of the moment in place of these words.
 pub(crate) fn write_key(moment: &Moment<'_>, words: &mut Vec<u64>) -> Result<(), NoMemory> {
     match moment.key_into(words) {
@@ -67,7 +91,7 @@ pub(crate) fn write_bent_key(world: &BentWorld<'_>, words: &mut Vec<u64>) -> Res
 /// The world of the changed table takes the steps of the schedule.
 pub(crate) fn walk_bent(rt: &impl Abort, world: &mut BentWorld<'_>, schedule: &[u16]) {
     for number in schedule {
-        assert_eq!(rt; world.step(seat(*number)), Ok(()));
+        assert!(rt; world.step(seat(*number)) == Ok(()));
     }
 }
 

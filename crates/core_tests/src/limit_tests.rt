@@ -67,7 +67,7 @@ fn are_judged(rt: &impl Abort, alloc: Global, rows: &[Judged]) -> Result<(), Fai
             Ok(parts) => parts,
             Err(_) => sized(alloc, sizes)?,
         };
-        assert_eq!(rt; Scenario::of(parts).err(), *refusal);
+        assert!(rt; Scenario::of(parts).err() == *refusal);
     }
     Ok(())
 }
@@ -144,6 +144,6 @@ fn refusals_of_parts_have_their_numbers(rt: HostRuntime) {
         (ScenarioRefused::Ticket, 3),
     ];
     for (refused, number) in rows {
-        assert_eq!(rt; refused as u8, number);
+        assert!(rt; (refused as u8) == number);
     }
 }

@@ -1,10 +1,9 @@
 //! Notify lists: tickets, who is notified, and what a notification finds.
 
-use crate::given::{scenario_of_parts, seat};
+use crate::given::{Start, seat};
 use crate::story::{Line, Way, follow};
-use std::alloc::Global;
 use std::test::Fail;
-use step_core::{Call, Entry, ListId, Phase, Row, Scenario, StepRefused};
+use step_core::{Call, Entry, ListId, Phase, Row, StepRefused};
 
 pub(crate) const LIST: u32 = 0;
 
@@ -24,21 +23,24 @@ fn all() -> Call {
     Call::All(ListId::new(LIST))
 }
 
-/// One list with this first ticket, and these calls.
-pub(crate) fn on_list(alloc: Global, first: u64, calls: &[&[Call]]) -> Result<Scenario, Fail> {
-    scenario_of_parts(alloc, &[], &[first], 0, calls)
+/// A seat that takes a ticket and waits.
+pub(crate) fn waits() -> [Call; 2] {
+    [add(), wait_for_it()]
 }
 
-/// Two seats that take a ticket and wait, and one that notifies once.
-pub(crate) fn two_and_one(alloc: Global) -> Result<Scenario, Fail> {
-    let waits = [add(), wait_for_it()];
-    on_list(alloc, 0, &[&waits, &waits, &[one()]])
+/// Lists with these first tickets, and the calls of each seat.
+pub(crate) fn on_list<'t>(firsts: &'t [u64], calls: &'t [&'t [Call]]) -> Start<'t> {
+    Start {
+        starts: &[],
+        firsts,
+        groups: 0,
+        calls,
+    }
 }
 
 /// Seat 1 sleeps with ticket 1. Seat 2 grants ticket 0, finds nobody, and seat 0 need not sleep.
 #[test]
 fn the_least_ticket_is_notified(rt: HostRuntime) -> Result<(), Fail> {
-    let scenario = two_and_one(rt.alloc())?;
     let lines = [
         Line::Run(0, Row::N1),
         Line::Go(1, Way::ToSleepOnList),
@@ -55,19 +57,18 @@ fn the_least_ticket_is_notified(rt: HostRuntime) -> Result<(), Fail> {
         Entry::Ticket(list, seat(1)),
         Entry::Grant(list, 1, seat(2)),
     ];
-    follow(&rt, rt.alloc(), &scenario, &lines, &told)
-}
-
-/// Three seats that take a ticket and wait, and one that notifies all.
-fn three_and_all(alloc: Global) -> Result<Scenario, Fail> {
-    let waits = [add(), wait_for_it()];
-    on_list(alloc, 0, &[&waits, &waits, &waits, &[all()]])
+    follow(
+        &rt,
+        rt.alloc(),
+        on_list(&[0], &[&waits(), &waits(), &[one()]]),
+        &lines,
+        &told,
+    )
 }
 
 /// Seats 0 to 2 take tickets, 0 and 1 sleep, and seat 3 notifies all; seat 2 need not sleep.
 #[test]
 fn all_are_notified(rt: HostRuntime) -> Result<(), Fail> {
-    let scenario = three_and_all(rt.alloc())?;
     let lines = [
         Line::Go(0, Way::ToSleepOnList),
         Line::Go(1, Way::ToSleepOnList),
@@ -96,13 +97,18 @@ fn all_are_notified(rt: HostRuntime) -> Result<(), Fail> {
         Entry::Ticket(list, seat(2)),
         Entry::Grant(list, 3, seat(3)),
     ];
-    follow(&rt, rt.alloc(), &scenario, &lines, &told)
+    follow(
+        &rt,
+        rt.alloc(),
+        on_list(&[0], &[&waits(), &waits(), &waits(), &[all()]]),
+        &lines,
+        &told,
+    )
 }
 
 /// A sleeper is taken out by its ticket, past another that sleeps before it in the list.
 #[test]
 fn a_sleeper_is_found_by_its_ticket(rt: HostRuntime) -> Result<(), Fail> {
-    let scenario = two_and_one(rt.alloc())?;
     let lines = [
         Line::Run(0, Row::N1),
         Line::Go(1, Way::ToSleepOnList),
@@ -122,13 +128,18 @@ fn a_sleeper_is_found_by_its_ticket(rt: HostRuntime) -> Result<(), Fail> {
         Entry::Ticket(list, seat(1)),
         Entry::Grant(list, 1, seat(2)),
     ];
-    follow(&rt, rt.alloc(), &scenario, &lines, &told)
+    follow(
+        &rt,
+        rt.alloc(),
+        on_list(&[0], &[&waits(), &waits(), &[one()]]),
+        &lines,
+        &told,
+    )
 }
 
 /// A seat that holds a ticket notifies on the same list before it waits.
 #[test]
 fn a_holder_notifies_itself(rt: HostRuntime) -> Result<(), Fail> {
-    let scenario = on_list(rt.alloc(), u64::MAX, &[&[add(), one(), wait_for_it()]])?;
     let lines = [
         Line::Run(0, Row::N1),
         Line::Go(0, Way::ToGrant),
@@ -137,13 +148,18 @@ fn a_holder_notifies_itself(rt: HostRuntime) -> Result<(), Fail> {
     ];
     let list = ListId::new(LIST);
     let told = [Entry::Ticket(list, seat(0)), Entry::Grant(list, 1, seat(0))];
-    follow(&rt, rt.alloc(), &scenario, &lines, &told)
+    follow(
+        &rt,
+        rt.alloc(),
+        on_list(&[u64::MAX], &[&[add(), one(), wait_for_it()]]),
+        &lines,
+        &told,
+    )
 }
 
 /// Two looks under the lock: a ticket that is granted in between stops the second notification.
 #[test]
 fn a_notification_looks_again_under_the_lock(rt: HostRuntime) -> Result<(), Fail> {
-    let scenario = on_list(rt.alloc(), 0, &[&[add()], &[one()], &[one()]])?;
     let lines = [
         Line::Run(0, Row::N1),
         Line::Run(1, Row::O1),
@@ -164,27 +180,21 @@ fn a_notification_looks_again_under_the_lock(rt: HostRuntime) -> Result<(), Fail
     ];
     let list = ListId::new(LIST);
     let told = [Entry::Ticket(list, seat(0)), Entry::Grant(list, 1, seat(2))];
-    follow(&rt, rt.alloc(), &scenario, &lines, &told)
-}
-
-/// Two lists, whose first tickets are 7 and 0.
-fn on_two_lists(alloc: Global, other: ListId) -> Result<Scenario, Fail> {
-    let waits = [add(), Call::Add(other), wait_for_it(), Call::Wait(other)];
-    scenario_of_parts(
-        alloc,
-        &[],
-        &[7, 0],
-        0,
-        &[&waits, &[Call::All(other)], &[one()]],
+    follow(
+        &rt,
+        rt.alloc(),
+        on_list(&[0], &[&[add()], &[one()], &[one()]]),
+        &lines,
+        &told,
     )
 }
 
-/// Two lists are apart: a ticket of one isn't granted on the other.
+/// Two lists, whose first tickets are 7 and 0, are apart: a ticket of one isn't granted on the other.
 #[test]
 fn lists_are_apart(rt: HostRuntime) -> Result<(), Fail> {
     let list = ListId::new(LIST);
     let other = ListId::new(1);
-    let scenario = on_two_lists(rt.alloc(), other)?;
+    let both = [add(), Call::Add(other), wait_for_it(), Call::Wait(other)];
     let lines = [
         Line::Run(0, Row::N1),
         Line::Go(0, Way::ToSleepOnList),
@@ -209,5 +219,11 @@ fn lists_are_apart(rt: HostRuntime) -> Result<(), Fail> {
         Entry::Grant(other, 1, seat(1)),
         Entry::Grant(list, 1, seat(2)),
     ];
-    follow(&rt, rt.alloc(), &scenario, &lines, &told)
+    follow(
+        &rt,
+        rt.alloc(),
+        on_list(&[7, 0], &[&both, &[Call::All(other)], &[one()]]),
+        &lines,
+        &told,
+    )
 }

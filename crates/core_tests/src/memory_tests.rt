@@ -1,7 +1,7 @@
 //! Where there is memory no call answers want of it.
 
 use crate::again::{copied_moment, copy_again, moment_again, new_again};
-use crate::given::{COUNTER, HANDOFF, handoff_scenario, wait};
+use crate::given::{COUNTER, HANDOFF, acquire, handoff, handoff_scenario, on_counter, wait};
 use crate::moment_shown::is_enabled;
 use crate::story::{Line, Way, follow_after, obeys, tells};
 use std::alloc::{AllocError, Global};
@@ -20,14 +20,14 @@ fn put_again(items: &mut Items<u32>, item: u32) -> Result<(), AllocError> {
 #[test]
 fn items_grow(rt: HostRuntime) -> Result<(), Fail> {
     let mut items = Items::empty(rt.alloc());
-    assert_eq!(rt; items.len(), 0);
+    assert!(rt; items.len() == 0);
     for item in [3, 1, 2] {
         put_again(&mut items, item)?;
     }
-    assert_eq!(rt; items.len(), 3);
-    assert_eq!(rt; items.as_slice(), [3, 1, 2].as_slice());
+    assert!(rt; items.len() == 3);
+    assert!(rt; items.as_slice() == [3, 1, 2].as_slice());
     let items = items.into_vec();
-    assert_eq!(rt; items.as_slice(), [3, 1, 2].as_slice());
+    assert!(rt; items.as_slice() == [3, 1, 2].as_slice());
     Ok(())
 }
 
@@ -76,8 +76,9 @@ fn a_world_has_its_memory(rt: HostRuntime) -> Result<(), Fail> {
 
 #[test]
 fn a_run_has_its_memory(rt: HostRuntime) -> Result<(), Fail> {
-    let scenario = handoff_scenario(rt.alloc())?;
-    follow_after(&rt, rt.alloc(), &scenario, &HANDOFF[..5], &[], &told())
+    let calls = [&[acquire()][..], &[acquire()], &[handoff()]];
+    let start = on_counter(&calls);
+    follow_after(&rt, rt.alloc(), start, &HANDOFF[..5], &[], &told())
 }
 
 #[test]

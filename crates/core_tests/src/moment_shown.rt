@@ -31,15 +31,15 @@ fn queued_on(
 }
 
 pub(crate) fn is_at(rt: &impl Abort, moment: &Moment<'_>, number: u16, far: Phase) {
-    assert_eq!(rt; phase_of(rt, moment, number), far);
+    assert!(rt; phase_of(rt, moment, number) == far);
 }
 
 pub(crate) fn is_enabled(rt: &impl Abort, moment: &Moment<'_>, number: u16, can: bool) {
-    assert_eq!(rt; moment.enabled(seat(number)), can);
+    assert!(rt; moment.enabled(seat(number)) == can);
 }
 
 pub(crate) fn has_number(rt: &impl Abort, moment: &Moment<'_>, counter: u32, number: u64) {
-    assert_eq!(rt; number_of(rt, moment, counter), number);
+    assert!(rt; number_of(rt, moment, counter) == number);
 }
 
 pub(crate) fn has_waits(
@@ -50,6 +50,6 @@ pub(crate) fn has_waits(
     expected: &[WaitId],
 ) -> Result<(), Fail> {
     let waits = queued_on(rt, alloc, moment, counter)?;
-    assert_eq!(rt; waits.as_slice(), expected);
+    assert!(rt; waits.as_slice() == expected);
     Ok(())
 }

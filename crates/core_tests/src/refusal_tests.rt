@@ -16,7 +16,7 @@ fn is_refused(
     refused: RunRefused,
 ) -> Result<(), Fail> {
     let schedule = seats_again(alloc, schedule)?;
-    assert_eq!(rt; run_again(alloc, scenario, &schedule).err(), Some(refused));
+    assert!(rt; run_again(alloc, scenario, &schedule).err() == Some(refused));
     Ok(())
 }
 
@@ -63,7 +63,7 @@ fn refusals_have_their_numbers(rt: HostRuntime) {
         (StepRefused::NoMemory, 6),
     ];
     for (refused, number) in rows {
-        assert_eq!(rt; refused as u8, number);
+        assert!(rt; (refused as u8) == number);
     }
 }
 
@@ -75,6 +75,6 @@ fn misuses_have_their_numbers(rt: HostRuntime) {
         (Misuse::Reused, 3),
     ];
     for (misuse, number) in rows {
-        assert_eq!(rt; misuse as u8, number);
+        assert!(rt; (misuse as u8) == number);
     }
 }

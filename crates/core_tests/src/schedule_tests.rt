@@ -1,7 +1,7 @@
 //! Schedules that are known by hand, with their worlds and journals.
 
 use crate::given::{
-    COUNTER, HANDOFF, acquire, handoff_scenario, release, release_many, scenario, seat, wait,
+    COUNTER, HANDOFF, acquire, handoff, on_counter, release, release_many, seat, wait,
 };
 use crate::story::{Line, follow, follow_after};
 use std::test::Fail;
@@ -10,7 +10,6 @@ use waiters::CounterId;
 
 #[test]
 fn a_release_reaches_the_second_look(rt: HostRuntime) -> Result<(), Fail> {
-    let scenario = scenario(rt.alloc(), &[acquire(), release()])?;
     let lines = [
         Line::Number(COUNTER, 0),
         Line::Run(0, Row::A1),
@@ -28,12 +27,17 @@ fn a_release_reaches_the_second_look(rt: HostRuntime) -> Result<(), Fail> {
     ];
     let counter = CounterId::new(COUNTER);
     let told = [Entry::Add(counter, seat(1)), Entry::Take(counter, seat(0))];
-    follow(&rt, rt.alloc(), &scenario, &lines, &told)
+    follow(
+        &rt,
+        rt.alloc(),
+        on_counter(&[&[acquire()], &[release()]]),
+        &lines,
+        &told,
+    )
 }
 
 #[test]
 fn a_unit_is_handed_over(rt: HostRuntime) -> Result<(), Fail> {
-    let scenario = handoff_scenario(rt.alloc())?;
     let lines = [
         Line::Number(COUNTER, 0),
         Line::Waits(COUNTER, 1),
@@ -49,7 +53,14 @@ fn a_unit_is_handed_over(rt: HostRuntime) -> Result<(), Fail> {
         Entry::Leave(counter, wait(0, 0), seat(2)),
         Entry::Take(counter, seat(0)),
     ];
-    follow_after(&rt, rt.alloc(), &scenario, &HANDOFF, &lines, &told)
+    follow_after(
+        &rt,
+        rt.alloc(),
+        on_counter(&[&[acquire()], &[acquire()], &[handoff()]]),
+        &HANDOFF,
+        &lines,
+        &told,
+    )
 }
 
 /// Seats 0 to 2 sleep, and seat 3 releases two units: it wakes the first two of them.
@@ -59,8 +70,12 @@ const TWO_UNITS: [u16; 24] = [
 
 #[test]
 fn two_units_wake_the_first_two(rt: HostRuntime) -> Result<(), Fail> {
-    let calls = [acquire(), acquire(), acquire(), release_many(COUNTER, 2)];
-    let scenario = scenario(rt.alloc(), &calls)?;
+    let calls = [
+        &[acquire()][..],
+        &[acquire()],
+        &[acquire()],
+        &[release_many(COUNTER, 2)],
+    ];
     let lines = [
         Line::Number(COUNTER, 2),
         Line::Waits(COUNTER, 1),
@@ -77,13 +92,19 @@ fn two_units_wake_the_first_two(rt: HostRuntime) -> Result<(), Fail> {
         Entry::Leave(counter, wait(0, 0), seat(3)),
         Entry::Leave(counter, wait(1, 0), seat(3)),
     ];
-    follow_after(&rt, rt.alloc(), &scenario, &TWO_UNITS, &lines, &told)
+    follow_after(
+        &rt,
+        rt.alloc(),
+        on_counter(&calls),
+        &TWO_UNITS,
+        &lines,
+        &told,
+    )
 }
 
 #[test]
 fn three_units_wake_the_two_that_wait(rt: HostRuntime) -> Result<(), Fail> {
-    let calls = [acquire(), acquire(), release_many(COUNTER, 3)];
-    let scenario = scenario(rt.alloc(), &calls)?;
+    let calls = [&[acquire()][..], &[acquire()], &[release_many(COUNTER, 3)]];
     let asleep = [0, 0, 0, 0, 0, 1, 1, 1, 1, 1];
     let lines = [
         Line::Run(2, Row::M1),
@@ -111,5 +132,5 @@ fn three_units_wake_the_two_that_wait(rt: HostRuntime) -> Result<(), Fail> {
         Entry::Leave(counter, wait(0, 0), seat(2)),
         Entry::Leave(counter, wait(1, 0), seat(2)),
     ];
-    follow_after(&rt, rt.alloc(), &scenario, &asleep, &lines, &told)
+    follow_after(&rt, rt.alloc(), on_counter(&calls), &asleep, &lines, &told)
 }

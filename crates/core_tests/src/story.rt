@@ -3,7 +3,7 @@
 //! A test is a table and one call, since a body with many assertions is slow to prove.
 
 use crate::again::{new_again, run_again, step_again};
-use crate::given::{seat, seats_again};
+use crate::given::{Start, scenario_from, seat, seats_again};
 use crate::shown::{phase, runs, value_of, waiting_on};
 use std::alloc::Global;
 use std::process::Abort;
@@ -113,15 +113,15 @@ fn goes(rt: &impl Abort, world: &mut World<'_>, number: u16, way: Way) {
 }
 
 fn refuses(rt: &impl Abort, world: &mut World<'_>, number: u16, cause: StepRefused) {
-    assert_eq!(rt; step_again(world, number), Err(cause));
+    assert!(rt; step_again(world, number) == Err(cause));
 }
 
 fn stands(rt: &impl Abort, world: &World<'_>, number: u16, far: Phase) {
-    assert_eq!(rt; phase(rt, world, number), far);
+    assert!(rt; phase(rt, world, number) == far);
 }
 
 fn has_number(rt: &impl Abort, world: &World<'_>, counter: u32, number: u64) {
-    assert_eq!(rt; value_of(rt, world, counter), number);
+    assert!(rt; value_of(rt, world, counter) == number);
 }
 
 fn has_waits(
@@ -132,7 +132,7 @@ fn has_waits(
     count: usize,
 ) -> Result<(), Fail> {
     let waits = waiting_on(rt, alloc, world, counter)?;
-    assert_eq!(rt; waits.len(), count);
+    assert!(rt; waits.len() == count);
     Ok(())
 }
 
@@ -145,7 +145,7 @@ fn has_wait(
     wait: WaitId,
 ) -> Result<(), Fail> {
     let waits = waiting_on(rt, alloc, world, counter)?;
-    assert_eq!(rt; waits.get(place).copied(), Some(wait));
+    assert!(rt; waits.get(place).copied() == Some(wait));
     Ok(())
 }
 
@@ -155,7 +155,7 @@ fn obey(rt: &impl Abort, alloc: Global, world: &mut World<'_>, line: Line) -> Re
         Line::Go(number, way) => goes(rt, world, number, way),
         Line::Refused(number, cause) => refuses(rt, world, number, cause),
         Line::Stands(number, far) => stands(rt, world, number, far),
-        Line::Enabled(number, can) => assert_eq!(rt; world.enabled(seat(number)), can),
+        Line::Enabled(number, can) => assert!(rt; world.enabled(seat(number)) == can),
         Line::Number(counter, number) => has_number(rt, world, counter, number),
         Line::Waits(counter, count) => return has_waits(rt, alloc, world, counter, count),
         Line::Wait(counter, place, wait) => {
@@ -180,7 +180,7 @@ pub(crate) fn obeys(
 
 /// The journal has these entries.
 pub(crate) fn tells(rt: &impl Abort, world: &World<'_>, told: &[Entry]) {
-    assert_eq!(rt; world.journal(), told);
+    assert!(rt; world.journal() == told);
 }
 
 /// The world does and shows what these lines say, and then its journal has these entries.
@@ -198,8 +198,7 @@ fn obeys_and_tells(
 
 // a function that owns a world lets it go at one place only: each such place is slow to prove
 
-/// Runs the table from the start of the scenario. At the end the journal has these entries.
-pub(crate) fn follow(
+fn follow_from(
     rt: &impl Abort,
     alloc: Global,
     scenario: &Scenario,
@@ -210,8 +209,19 @@ pub(crate) fn follow(
     obeys_and_tells(rt, alloc, &mut world, lines, told)
 }
 
-/// Runs the whole schedule at once, and then the table. At the end the journal has these entries.
-pub(crate) fn follow_after(
+/// Runs the table from the start of the scenario. At the end the journal has these entries.
+pub(crate) fn follow(
+    rt: &impl Abort,
+    alloc: Global,
+    start: Start<'_>,
+    lines: &[Line],
+    told: &[Entry],
+) -> Result<(), Fail> {
+    let scenario = scenario_from(alloc, start)?;
+    follow_from(rt, alloc, &scenario, lines, told)
+}
+
+fn follow_run(
     rt: &impl Abort,
     alloc: Global,
     scenario: &Scenario,
@@ -222,4 +232,17 @@ pub(crate) fn follow_after(
     let schedule = seats_again(alloc, schedule)?;
     let mut world = run_again(alloc, scenario, &schedule)?;
     obeys_and_tells(rt, alloc, &mut world, lines, told)
+}
+
+/// Runs the whole schedule at once, and then the table. At the end the journal has these entries.
+pub(crate) fn follow_after(
+    rt: &impl Abort,
+    alloc: Global,
+    start: Start<'_>,
+    schedule: &[u16],
+    lines: &[Line],
+    told: &[Entry],
+) -> Result<(), Fail> {
+    let scenario = scenario_from(alloc, start)?;
+    follow_run(rt, alloc, &scenario, schedule, lines, told)
 }

@@ -1,18 +1,17 @@
 //! Tickets whose words wrap.
 
 use crate::given::seat;
-use crate::keys::key_after;
-use crate::list_tests::{LIST, add, on_list, one, wait_for_it};
+use crate::keys::has_words;
+use crate::list_tests::{LIST, on_list, one, waits};
 use crate::story::{Line, Way, follow};
 use std::alloc::Global;
 use std::process::Abort;
 use std::test::Fail;
-use step_core::{Entry, ListId, Phase, Row, Scenario, less};
+use step_core::{Call, Entry, ListId, Phase, Row, less};
 
-/// Two seats that take a ticket and wait, and one that notifies three times.
-fn two_and_three(alloc: Global, first: u64) -> Result<Scenario, Fail> {
-    let waits = [add(), wait_for_it()];
-    on_list(alloc, first, &[&waits, &waits, &[one(), one(), one()]])
+/// A seat that notifies three times.
+fn three() -> [Call; 3] {
+    [one(), one(), one()]
 }
 
 /// A list whose first ticket is the last word: the next ticket wraps, and both are granted in their order.
@@ -41,8 +40,9 @@ fn tickets_wrap(rt: HostRuntime) -> Result<(), Fail> {
         Entry::Grant(list, 2, seat(2)),
     ];
     for first in [18_446_744_073_709_551_615, 4_294_967_295, 0] {
-        let scenario = two_and_three(rt.alloc(), first)?;
-        follow(&rt, rt.alloc(), &scenario, &lines, &told)?;
+        let firsts = [first];
+        let calls = [&waits()[..], &waits(), &three()];
+        follow(&rt, rt.alloc(), on_list(&firsts, &calls), &lines, &told)?;
     }
     Ok(())
 }
@@ -73,22 +73,11 @@ fn granted_tickets_are_waited_for_at_once(rt: HostRuntime) -> Result<(), Fail> {
         Entry::Grant(list, 2, seat(2)),
     ];
     for first in [18_446_744_073_709_551_615, 4_294_967_295] {
-        let scenario = two_and_three(rt.alloc(), first)?;
-        follow(&rt, rt.alloc(), &scenario, &GRANTED_FIRST, &told)?;
+        let firsts = [first];
+        let calls = [&waits()[..], &waits(), &three()];
+        let start = on_list(&firsts, &calls);
+        follow(&rt, rt.alloc(), start, &GRANTED_FIRST, &told)?;
     }
-    Ok(())
-}
-
-/// After the schedule the run has these words.
-fn has_words(
-    rt: &impl Abort,
-    alloc: Global,
-    scenario: &Scenario,
-    schedule: &[u16],
-    words: &[u64],
-) -> Result<(), Fail> {
-    let key = key_after(rt, alloc, scenario, schedule)?;
-    assert_eq!(rt; key.as_slice(), words);
     Ok(())
 }
 
@@ -101,11 +90,13 @@ const ALL_STEPS: [u16; 24] = [
 /// The words of the list, its first ticket, the second and the one after them, along the way.
 fn tickets_have(rt: &impl Abort, alloc: Global, words: [u64; 3]) -> Result<(), Fail> {
     let [first, second, next] = words;
-    let scenario = two_and_three(alloc, first)?;
+    let firsts = [first];
+    let calls = [&waits()[..], &waits(), &three()];
+    let start = on_list(&firsts, &calls);
     has_words(
         rt,
         alloc,
-        &scenario,
+        start,
         &ALL_STEPS[..2],
         &[
             0, 0, 0, next, first, 0, 0, 3, first, 0, 0, 0, 3, second, 0, 0, 0, 8, 0, 0, 0, 4, 0, 4,
@@ -115,7 +106,7 @@ fn tickets_have(rt: &impl Abort, alloc: Global, words: [u64; 3]) -> Result<(), F
     has_words(
         rt,
         alloc,
-        &scenario,
+        start,
         &ALL_STEPS[..8],
         &[
             0, 0, 0, next, second, 1, 0, 3, first, 0, 0, 0, 3, second, 0, 0, 0, 15, first, 0, 0, 0,
@@ -125,7 +116,7 @@ fn tickets_have(rt: &impl Abort, alloc: Global, words: [u64; 3]) -> Result<(), F
     has_words(
         rt,
         alloc,
-        &scenario,
+        start,
         &ALL_STEPS[..15],
         &[
             0, 0, 0, next, next, 1, 0, 3, first, 0, 0, 0, 3, second, 0, 0, 0, 15, second, 0, 0, 0,
@@ -135,7 +126,7 @@ fn tickets_have(rt: &impl Abort, alloc: Global, words: [u64; 3]) -> Result<(), F
     has_words(
         rt,
         alloc,
-        &scenario,
+        start,
         &ALL_STEPS,
         &[0, 0, 0, next, next, 0, 0, 0, 0, 0, 0, 0, 0, 2, 2, 3],
     )

@@ -1,31 +1,17 @@
 //! Who waits where, who is woken first, and who can step.
 
-use crate::given::{
-    COUNTER, acquire, handoff_scenario, release, scenario, scenario_of_parts, seat, wait,
-};
+use crate::given::{COUNTER, Start, acquire, handoff, on_counter, release, seat, wait};
 use crate::story::{Line, Way, follow};
-use std::alloc::Global;
 use std::test::Fail;
-use step_core::{Call, Entry, Phase, Row, Scenario, StepRefused};
+use step_core::{Call, Entry, Phase, Row, StepRefused};
 use waiters::CounterId;
 
 /// Two acquires, two lifo acquires, and a seat that releases four times.
-fn four_and_four(alloc: Global) -> Result<Scenario, Fail> {
+#[test]
+fn waits_leave_from_the_front(rt: HostRuntime) -> Result<(), Fail> {
     let first = [Call::Acquire(CounterId::new(COUNTER), true)];
     let last = [acquire()];
     let releases = [release(), release(), release(), release()];
-    scenario_of_parts(
-        alloc,
-        &[0],
-        &[],
-        0,
-        &[&last, &last, &first, &first, &releases],
-    )
-}
-
-#[test]
-fn waits_leave_from_the_front(rt: HostRuntime) -> Result<(), Fail> {
-    let scenario = four_and_four(rt.alloc())?;
     let lines = [
         Line::Go(0, Way::ToSleep),
         Line::Go(1, Way::ToSleep),
@@ -63,13 +49,18 @@ fn waits_leave_from_the_front(rt: HostRuntime) -> Result<(), Fail> {
         Entry::Add(counter, seat(4)),
         Entry::Leave(counter, wait(1, 0), seat(4)),
     ];
-    follow(&rt, rt.alloc(), &scenario, &lines, &told)
+    follow(
+        &rt,
+        rt.alloc(),
+        on_counter(&[&last, &last, &first, &first, &releases]),
+        &lines,
+        &told,
+    )
 }
 
 /// Seat 0 sleeps, seat 1 adds a unit for it, seat 2 takes that unit before, and seat 0 sleeps again.
 #[test]
 fn a_woken_seat_finds_its_unit_stolen(rt: HostRuntime) -> Result<(), Fail> {
-    let scenario = scenario(rt.alloc(), &[acquire(), release(), acquire()])?;
     let lines = [
         Line::Go(0, Way::ToSleep),
         Line::Run(1, Row::R1),
@@ -98,20 +89,24 @@ fn a_woken_seat_finds_its_unit_stolen(rt: HostRuntime) -> Result<(), Fail> {
         Entry::Leave(counter, wait(0, 0), seat(1)),
         Entry::Queue(counter, wait(0, 1), false),
     ];
-    follow(&rt, rt.alloc(), &scenario, &lines, &told)
-}
-
-/// Two counters of one root: an acquire of the first, and a release of the other.
-fn on_two_counters(alloc: Global, other: CounterId) -> Result<Scenario, Fail> {
-    let releases = [Call::Release(other, false)];
-    scenario_of_parts(alloc, &[0, 0], &[], 0, &[&[acquire()], &releases])
+    follow(
+        &rt,
+        rt.alloc(),
+        on_counter(&[&[acquire()], &[release()], &[acquire()]]),
+        &lines,
+        &told,
+    )
 }
 
 /// A release of one counter looks at its own list, and not at that of another counter of its root.
 #[test]
 fn counters_of_a_root_are_apart(rt: HostRuntime) -> Result<(), Fail> {
     let other = CounterId::new(1);
-    let scenario = on_two_counters(rt.alloc(), other)?;
+    let calls = [&[acquire()][..], &[Call::Release(other, false)]];
+    let start = Start {
+        starts: &[0, 0],
+        ..on_counter(&calls)
+    };
     let lines = [
         Line::Go(0, Way::ToSleep),
         Line::Run(1, Row::R1),
@@ -130,12 +125,11 @@ fn counters_of_a_root_are_apart(rt: HostRuntime) -> Result<(), Fail> {
         Entry::Queue(CounterId::new(COUNTER), wait(0, 0), false),
         Entry::Add(other, seat(1)),
     ];
-    follow(&rt, rt.alloc(), &scenario, &lines, &told)
+    follow(&rt, rt.alloc(), start, &lines, &told)
 }
 
 #[test]
 fn a_held_lock_stops_the_other_seat(rt: HostRuntime) -> Result<(), Fail> {
-    let scenario = scenario(rt.alloc(), &[acquire(), release()])?;
     let lines = [
         Line::Run(0, Row::A1),
         Line::Run(0, Row::A3),
@@ -156,12 +150,17 @@ fn a_held_lock_stops_the_other_seat(rt: HostRuntime) -> Result<(), Fail> {
     ];
     let counter = CounterId::new(COUNTER);
     let told = [Entry::Add(counter, seat(1)), Entry::Take(counter, seat(0))];
-    follow(&rt, rt.alloc(), &scenario, &lines, &told)
+    follow(
+        &rt,
+        rt.alloc(),
+        on_counter(&[&[acquire()], &[release()]]),
+        &lines,
+        &told,
+    )
 }
 
 #[test]
 fn a_sleeper_can_step_once_it_has_its_grant(rt: HostRuntime) -> Result<(), Fail> {
-    let scenario = handoff_scenario(rt.alloc())?;
     let lines = [
         Line::Go(0, Way::ToSleep),
         Line::Go(1, Way::ToSleep),
@@ -191,17 +190,22 @@ fn a_sleeper_can_step_once_it_has_its_grant(rt: HostRuntime) -> Result<(), Fail>
         Entry::Leave(counter, wait(0, 0), seat(2)),
         Entry::Take(counter, seat(0)),
     ];
-    follow(&rt, rt.alloc(), &scenario, &lines, &told)
+    follow(
+        &rt,
+        rt.alloc(),
+        on_counter(&[&[acquire()], &[acquire()], &[handoff()]]),
+        &lines,
+        &told,
+    )
 }
 
 #[test]
 fn many_units_are_added_at_once(rt: HostRuntime) -> Result<(), Fail> {
     let counter = CounterId::new(COUNTER);
     let calls = [
-        Call::ReleaseMany(counter, 256),
-        Call::ReleaseMany(counter, 1),
+        &[Call::ReleaseMany(counter, 256)][..],
+        &[Call::ReleaseMany(counter, 1)],
     ];
-    let scenario = scenario(rt.alloc(), &calls)?;
     let lines = [
         Line::Run(0, Row::M1),
         Line::Run(0, Row::M2),
@@ -216,5 +220,5 @@ fn many_units_are_added_at_once(rt: HostRuntime) -> Result<(), Fail> {
         Entry::AddMany(counter, 256, seat(0)),
         Entry::AddMany(counter, 1, seat(1)),
     ];
-    follow(&rt, rt.alloc(), &scenario, &lines, &told)
+    follow(&rt, rt.alloc(), on_counter(&calls), &lines, &told)
 }

@@ -99,8 +99,8 @@ fn ends_io(
     }
     assert!(rt; is_short(&taken, told_of(found).1));
     let (taken, found) = answer_io(alloc, asked, input, out);
-    assert_eq!(rt; taken.as_slice(), told);
-    assert_eq!(rt; found, ended);
+    assert!(rt; taken.as_slice() == told);
+    assert!(rt; found == ended);
 }
 
 /// Over these devices the command and the program write this, and end so.
@@ -268,7 +268,7 @@ fn is_told_as(rt: &impl Abort, alloc: Global, fault: IoFault, text: &str) {
         assert!(rt; told.is_ok_and(|told| told.as_str() == text));
         return;
     };
-    assert_eq!(rt; told.as_str(), text);
+    assert!(rt; told.as_str() == text);
 }
 
 #[test]
@@ -278,7 +278,7 @@ fn faults_have_their_numbers_and_texts(rt: HostRuntime) {
         (IoFault::Write, 2, "write failed"),
     ];
     for (fault, number, text) in rows {
-        assert_eq!(rt; fault as u8, number);
+        assert!(rt; (fault as u8) == number);
         is_told_as(&rt, rt.alloc(), fault, text);
     }
 }

@@ -1,7 +1,7 @@
 //! Texts whose first faulty line and least cause are known by hand.
 
-use crate::reading::{ONE_ACQUIRE, fault_of, read};
-use explorer::{Cause, ReadFault};
+use crate::reading::{ONE_ACQUIRE, is_faulty, read};
+use explorer::Cause;
 
 /// Where each proper beginning of that text is faulty: its lengths, the line and the cause.
 const BEGINNINGS: [(usize, usize, usize, Cause); 6] = [
@@ -95,8 +95,7 @@ const LEAST: [(&[u8], usize, Cause); 13] = [
 fn each_beginning_is_refused(rt: HostRuntime) {
     for (from, to, line, cause) in BEGINNINGS {
         for length in from..to + 1 {
-            let fault = fault_of(rt.alloc(), &ONE_ACQUIRE[..length]);
-            assert_eq!(rt; fault, Some(ReadFault { line, cause }));
+            is_faulty(&rt, rt.alloc(), &ONE_ACQUIRE[..length], line, cause);
         }
     }
     assert!(rt; read(rt.alloc(), ONE_ACQUIRE).is_ok());
@@ -104,21 +103,21 @@ fn each_beginning_is_refused(rt: HostRuntime) {
 
 #[test]
 fn broken_texts_are_refused(rt: HostRuntime) {
-    for (text, line, cause) in BROKEN {
-        assert_eq!(rt; fault_of(rt.alloc(), text), Some(ReadFault { line, cause }));
+    for (text, line, cause) in &BROKEN {
+        is_faulty(&rt, rt.alloc(), text, *line, *cause);
     }
 }
 
 #[test]
 fn numbers_past_their_ends_are_refused(rt: HostRuntime) {
-    for (text, line, cause) in NUMBERS {
-        assert_eq!(rt; fault_of(rt.alloc(), text), Some(ReadFault { line, cause }));
+    for (text, line, cause) in &NUMBERS {
+        is_faulty(&rt, rt.alloc(), text, *line, *cause);
     }
 }
 
 #[test]
 fn the_least_cause_is_told(rt: HostRuntime) {
-    for (text, line, cause) in LEAST {
-        assert_eq!(rt; fault_of(rt.alloc(), text), Some(ReadFault { line, cause }));
+    for (text, line, cause) in &LEAST {
+        is_faulty(&rt, rt.alloc(), text, *line, *cause);
     }
 }

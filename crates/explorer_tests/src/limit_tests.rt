@@ -1,10 +1,9 @@
 //! Texts with one line or one call too many.
 
-use crate::reading::fault_of;
+use crate::reading::is_faulty;
 use crate::repeated::{Repeated, bytes_again};
-use explorer::{Cause, ReadFault};
+use explorer::Cause;
 use std::alloc::{AllocError, Global};
-use std::process::Abort;
 use std::test::Fail;
 
 const fn only(again: &[u8], times: usize) -> Repeated<'_> {
@@ -24,10 +23,6 @@ const fn and_calls(times: usize) -> Repeated<'static> {
         times,
         behind: b"\n",
     }
-}
-
-fn is_faulty(rt: &impl Abort, alloc: Global, text: &[u8], line: usize, cause: Cause) {
-    assert_eq!(rt; fault_of(alloc, text), Some(ReadFault { line, cause }));
 }
 
 #[test]

@@ -157,7 +157,7 @@ verdict: not bad
 
 #[test]
 fn replays_of_lists_are_told_word_for_word(rt: HostRuntime) {
-    for (input, spelled, told, status) in REPLAYS {
-        replays(&rt, rt.alloc(), input, spelled, told, status);
+    for (input, spelled, told, status) in &REPLAYS {
+        replays(&rt, rt.alloc(), input, spelled, told, *status);
     }
 }

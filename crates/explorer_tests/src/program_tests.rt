@@ -73,7 +73,7 @@ const HELPS: [(&[&str], &str); 3] = [
 
 #[test]
 fn help_goes_to_the_output(rt: HostRuntime) {
-    for (words, text) in HELPS {
+    for (words, text) in &HELPS {
         answers(&rt, rt.alloc(), words, text);
     }
 }
@@ -138,7 +138,7 @@ const MISTAKES: [(&[&str], &str); 15] = [
 
 #[test]
 fn other_words_are_mistakes(rt: HostRuntime) {
-    for (words, text) in MISTAKES {
+    for (words, text) in &MISTAKES {
         is_a_mistake(&rt, rt.alloc(), words, text);
     }
 }
@@ -148,12 +148,9 @@ fn without_words(rt: &impl Abort, alloc: Global, kind: ErrorKind, told: &str, to
     let mut out = Flagged::new(Taking::new(alloc, SOUND));
     let mut err = Flagged::new(Taking::new(alloc, SOUND));
     let status = no_words_io(&io::Error::from(kind), &mut out, &mut err);
-    assert_eq!(rt; status, 2);
-    assert_eq!(rt; out.into_inner().into_taken().as_slice(), told.as_bytes());
-    assert_eq!(rt;
-        err.into_inner().into_taken().as_slice(),
-        told_beside.as_bytes()
-    );
+    assert!(rt; status == 2);
+    assert!(rt; out.into_inner().into_taken().as_slice() == told.as_bytes());
+    assert!(rt; err.into_inner().into_taken().as_slice() == told_beside.as_bytes());
 }
 
 #[test]

@@ -5,6 +5,7 @@ ghost use Rattle.scenario_text.specs.Request.{IsAbout};
 
 use explorer::{Cause, ReadFault, Request, read_scenario};
 use std::alloc::Global;
+use std::process::Abort;
 
 /// One counter, one acquire, and the property.
 pub(crate) const ONE_ACQUIRE: &[u8] = b"counter 0\nseat 0: acquire 0\nsettled\n";
@@ -25,4 +26,9 @@ pub(crate) fn read(alloc: Global, text: &[u8]) -> Result<Request, ReadFault>
 
 pub(crate) fn fault_of(alloc: Global, text: &[u8]) -> Option<ReadFault> {
     read(alloc, text).err()
+}
+
+/// The text is faulty first at this line, for this cause.
+pub(crate) fn is_faulty(rt: &impl Abort, alloc: Global, text: &[u8], line: usize, cause: Cause) {
+    assert_eq!(rt; fault_of(alloc, text), Some(ReadFault { line, cause }));
 }

@@ -249,7 +249,7 @@ verdict: not bad
 
 #[test]
 fn replays_are_told_word_for_word(rt: HostRuntime) {
-    for (input, spelled, told, status) in REPLAYS {
-        replays(&rt, rt.alloc(), input, spelled, told, status);
+    for (input, spelled, told, status) in &REPLAYS {
+        replays(&rt, rt.alloc(), input, spelled, told, *status);
     }
 }

@@ -1,6 +1,6 @@
 //! How the schedule of `replay` is spelled, and how it isn't.
 
-use crate::asked::tells;
+use crate::asked::{replays, tells};
 use crate::reading::ONE_ACQUIRE;
 
 /// Words that are no schedule.
@@ -43,26 +43,27 @@ const TAKEN: [(&str, &str, u8); 4] = [
 ];
 
 #[test]
-fn a_schedule_is_taken_as_it_stands(rt: HostRuntime) {
-    let alloc = rt.alloc();
-    for spelled in REFUSED {
-        let words = ["replay", "--schedule", spelled];
-        tells(&rt, alloc, &words, ONE_ACQUIRE, "refused: schedule\n", 2);
-    }
-    for (spelled, told, status) in TAKEN {
-        tells(
+fn other_words_are_no_schedule(rt: HostRuntime) {
+    for spelled in &REFUSED {
+        replays(
             &rt,
-            alloc,
-            &["replay", "--schedule", spelled],
+            rt.alloc(),
             ONE_ACQUIRE,
-            told,
-            status,
+            spelled,
+            "refused: schedule\n",
+            2,
         );
+    }
+    // the text's fault comes first
+    replays(&rt, rt.alloc(), b"", "00", "refused: line 1: end\n", 2);
+}
+
+#[test]
+fn a_schedule_is_taken_as_it_stands(rt: HostRuntime) {
+    for (spelled, told, status) in &TAKEN {
+        replays(&rt, rt.alloc(), ONE_ACQUIRE, spelled, told, *status);
     }
     let words = ["replay", "--schedule=0 16"];
     let told = "0: seat 0 A1\n1: refused 1 NoSuchSeat\n";
-    tells(&rt, alloc, &words, ONE_ACQUIRE, told, 2);
-    // the text's fault comes first
-    let words = ["replay", "--schedule", "00"];
-    tells(&rt, alloc, &words, b"", "refused: line 1: end\n", 2);
+    tells(&rt, rt.alloc(), &words, ONE_ACQUIRE, told, 2);
 }

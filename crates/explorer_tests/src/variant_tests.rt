@@ -57,9 +57,9 @@ const VARIANTS: [Row; 13] = [
 
 #[test]
 fn what_is_found_in_a_changed_table_is_told(rt: HostRuntime) {
-    for (input, variant, depth, told, status) in VARIANTS {
+    for (input, variant, depth, told, status) in &VARIANTS {
         let words = ["explore", "--depth", depth, "--variant", variant];
-        tells(&rt, rt.alloc(), &words, input, told, status);
+        tells(&rt, rt.alloc(), &words, input, told, *status);
     }
 }
 

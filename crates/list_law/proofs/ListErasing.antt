@@ -7,7 +7,8 @@ use Rattle.step_table.specs.declared.list_place.ListPlace.{ListPlace}
 use Rattle.step_table.specs.declared.list_place.ListPlace.TheVariants.{NotifyingAll}
 use Rattle.step_table.specs.declared.list_place.Ticket.{Ticket}
 use Rattle.step_table.specs.ListWorld.{ListSeat}
-use Rattle.list_law.specs.ListBlind.{erased_wait, erased_waits, erased_held, erased_list_place, erased_list_seat}
+use Rattle.step_table.specs.ListErased.{erased_wait, erased_waits, erased_held, erased_list_place}
+use Rattle.list_law.specs.ListBlind.{erased_list_seat}
 
 pub erased_append : (a b : List Wait) → erased_waits (a ++ b) ≡ erased_waits a ++ erased_waits b
 erased_append [] b = refl

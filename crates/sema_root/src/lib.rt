@@ -17,8 +17,6 @@ mod place;
 mod push;
 mod sorted_root;
 mod store;
-#[cfg(test)]
-mod tests;
 mod tickets;
 mod treap;
 mod treap_root;

@@ -1,4 +1,5 @@
 pub mod Changing
+mod ListRanges
 pub mod Ranges
 mod Asking
 pub mod NextCalls

@@ -36,7 +36,7 @@ use Rattle.sema_law.proofs.Bounding.{well_formed}
 use Rattle.alike_law.proofs.BentBounding.{bent_bounded}
 use Rattle.sema_law.proofs.Parking.{in_a_hand}
 use Rattle.alike_law.proofs.BentLists.{well_formed_list}
-use Rattle.step_rows.proofs.ListRanges.{has_list_row}
+use Rattle.step_core.proofs.ListRanges.{has_list_row}
 use Rattle.step_table.proofs.SumsOfSums.{total_most}
 use Rattle.sema_law.proofs.Resting.{asleep_most}
 

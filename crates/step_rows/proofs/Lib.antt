@@ -10,7 +10,6 @@ pub mod Stepping
 pub mod Handing
 pub mod Noting
 pub mod Opening
-pub mod ListRanges
 pub mod Turning
 pub mod KeyReading
 pub mod KeyPieces

@@ -24,4 +24,7 @@ pub mod Row
 pub mod RowTexts
 pub mod Scenario
 pub mod Run
+pub mod Apart
+pub mod Erased
+pub mod ListErased
 pub mod Texts

@@ -19,6 +19,3 @@ pub use lists::Lists;
 pub use no_memory::NoMemory;
 pub use seat_id::SeatId;
 pub use wait::{Wait, WaitId};
-
-#[cfg(test)]
-mod tests;

@@ -1,0 +1,2 @@
+pub mod Lights
+pub mod Relay

@@ -1,0 +1,27 @@
+-- How many units a seat can come by.
+use Rattle.std.proofs.Common.{◌≡◌, ℕ, ◌*◌, ◌^◌, ◌<◌, ◌≤◌, length, arith, mul-le-mul_right}
+use Rattle.step_table.specs.World.{SemaWorld}
+use Rattle.step_table.specs.Steps.{IsReached}
+use Rattle.step_table.specs.Journal.{takes}
+use Rattle.step_table.specs.Counting.{total}
+use Rattle.step_table.proofs.Sums.{total_has}
+use Rattle.step_table.proofs.SumsOfSums.{total_most}
+use Rattle.sema_law.specs.Lawful.{added}
+use Rattle.sema_law.specs.Balances.{added_by, taken}
+use Rattle.sema_law.specs.Bounds.{IsSmall}
+use Rattle.sema_law.proofs.Accounts.{the_accounts}
+use Rattle.sema_table.specs.declared.view.Setting.{Setting}
+use Rattle.sema_table.specs.Setting.{layout}
+
+-- what is taken was there at the start or was added
+pub taken_most : (z : Setting) (k : ℕ) (s : SemaWorld) → IsReached (layout z) s → IsSmall (layout z) s → length z.starts ≤ 65536 → k < z.seats → takes k s.journal ≤ 2 ^ 49
+taken_most z k s reached small counted there =
+    let all : taken s.journal ≡ total z.seats (λ i. takes i s.journal) = the_accounts.taken (layout z) s reached in
+    let one = total_has z.seats (λ i. takes i s.journal) k there in
+    let sum = the_accounts.balanced_in_all (layout z) s reached in
+    let units : added s.journal ≡ total z.seats (λ i. added_by i s.journal) = the_accounts.added (layout z) s reached in
+    let few : total z.seats (λ i. added_by i s.journal) ≤ z.seats * (2 ^ 40) = total_most z.seats (2 ^ 40) (λ i. added_by i s.journal) small.few in
+    let seats : z.seats * (2 ^ 40) ≤ 256 * (2 ^ 40) = mul-le-mul_right (2 ^ 40) small.seats in
+    let starts : total (length z.starts) (layout z).starts ≤ length z.starts * (2 ^ 32) = total_most (length z.starts) (2 ^ 32) (layout z).starts (λ c h. let q = small.starts c in omega arith) in
+    let counters : length z.starts * (2 ^ 32) ≤ 65536 * (2 ^ 32) = mul-le-mul_right (2 ^ 32) counted in
+    omega arith

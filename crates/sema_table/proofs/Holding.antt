@@ -1,0 +1,108 @@
+-- The record of a root while a seat holds the root's lock.
+use Rattle.std.proofs.Common.{◌≡◌, ℕ, ◌+◌, ◌<◌, Bool, true, false, List, [], ◌∷◌, length, map, drop, slice_get, Some, sym, refl, ap, ◌∙◌, subst, arith}
+use Rattle.std.proofs.lemmas.List.{map-append}
+use native.Mathlib.Decide.{ℕ_discrete}
+use Rattle.waiters.specs.declared.wait.Wait.{Wait}
+use Rattle.waiters.specs.declared.wait.WaitId.{WaitId}
+use Rattle.step_table.specs.declared.place.Acquire.{Acquire}
+use Rattle.step_table.specs.declared.place.AcquireRow.TheVariants.{A7}
+use Rattle.step_table.specs.declared.place.Place.{Place}
+use Rattle.step_table.specs.declared.place.Place.TheVariants.{Acquiring}
+use Rattle.step_table.specs.World.{SemaWorld, put, insert_wait, lists_after}
+use Rattle.step_table.specs.Event.{Next}
+use Rattle.step_table.specs.Counting.{total, on}
+use Rattle.step_table.proofs.Sums.{put_here, put_else, on_here, total_same, total_change, length_insert}
+use Rattle.sema_law.specs.Lawful.{holds, raises}
+use Rattle.sema_law.specs.SemaPath.{SemaSight}
+use Rattle.sema_law.proofs.Promises.{the_law}
+use Rattle.sema_law.proofs.SemaPaths.{the_sema_paths}
+use Rattle.sema_law.proofs.Raising.{waits_up}
+use Rattle.sema_root.specs.Queues.{waits_on, joined_by, Changes}
+use Rattle.sema_root.specs.Queues as queues
+use Rattle.sema_root.specs.Treap.{Treap, queues_of}
+use Rattle.sema_table.specs.declared.view.Setting.{Setting}
+use Rattle.sema_table.specs.declared.view.Record.TheVariants.{Root}
+use Rattle.sema_table.specs.Setting.{root, layout}
+use Rattle.sema_table.specs.Rule.{sight_by, lists_by, IsRecord}
+use Rattle.sema_table.specs.Plays.{Ran, begin}
+use Rattle.sema_table.specs.Seats.{Token, TableModel, table_of}
+use Rattle.sema_table.specs.Walks.{HasRecord, HasRoom}
+use Rattle.sema_table.proofs.Words.{same_record}
+use Rattle.sema_table.proofs.Leading.{Goes}
+
+-- a row that leaves the lists leaves the record of a lock that the seat holds
+pub record_on : (s t : Token) (from : Place) (n c : ℕ) (next : Next) (r : Ran (begin from s.me.0) n t.me.0) → Goes (begin from s.me.0) r.stride next t.me.0 → table_of t ≡ table_of s
+    → holds (root s.me.0.setting) (root s.me.0.setting c) from ≡ 1 → ((l : ℕ → List WaitId) (q : ℕ) → lists_after next.1 l q ≡ l q) → t.me.1 ≡ s.me.1 → HasRecord s c → HasRecord t c
+record_on s t from n c next r g same held still slots h = (
+  h.0,
+  slots ∙ h.1 ∙ (λ i. (root (sym same i).setting c, Root h.0) ∷ []),
+  subst (λ (y : TableModel). IsRecord y.setting (root y.setting c) h.0 (lists_by y.setting t.me.0.seen)) (sym same)
+      (same_record s.me.0.setting (root s.me.0.setting c) h.0 (lists_by s.me.0.setting s.me.0.seen) (lists_by s.me.0.setting t.me.0.seen)
+      (λ q e. g.lists q ∙ still _ q ∙ r.held q (ap (λ k. holds (root s.me.0.setting) k from) e ∙ held)) h.2),
+)
+
+-- a committed seat has room
+pub has_room : (s t : Token) (from : Place) (n : ℕ) (a : Acquire) → Ran (begin from s.me.0) n t.me.0 → table_of t ≡ table_of s → t.me.0.place ≡ Acquiring a A7 → HasRoom t a.counter
+has_room s t from n a r same at =
+    let z = s.me.0.setting in let i : ℕ = s.me.0.number in let m = layout z in
+    let end = the_sema_paths.ends m i (sight_by (begin from s.me.0)) (sight_by t.me.0) r.stride r.there r.ran in
+    let w : SemaWorld = end.0 in
+    let good = the_law.reached m w end.1 in
+    let x : ℕ = root z a.counter in
+    let stands : (w.seats i).place ≡ Acquiring a A7 = ap (λ (y : SemaSight). y.stands.place) (sym end.2) ∙ at in
+    let holding : holds (root z) x (w.seats i).place ≡ 1 = ap (holds (root z) x) stands ∙ on_here x 1 in
+    let raising : raises (root z) x (w.seats i).place ≡ 1 = ap (raises (root z) x) stands ∙ on_here x 1 in
+    let counted = (good.waiters x).1 i r.there holding in
+    let few = (good.bounded.1 x).1 in
+    let lists : (d : ℕ) → lists_by z t.me.0.seen d ≡ w.words.lists d = λ d. ap (λ (y : SemaSight). lists_by z y.seen d) end.2 ∙ ap (λ k. k.lists d) (sym good.journal.0) in
+    let sum = total_same (length z.starts) (λ d. on (root z d) x (length (lists_by z t.me.0.seen d))) (λ d. on (root z d) x (length (w.words.lists d))) (λ d h. ap (λ (k : List WaitId). on (root z d) x (length k)) (lists d)) in
+    subst (λ (y : TableModel). total (length y.setting.starts) (λ d. on (root y.setting d) (root y.setting a.counter) (length (lists_by y.setting t.me.0.seen d))) < y.setting.seats) (sym same) (omega arith)
+
+-- the record after a wait was put in
+module _ (z : Setting) (r c : ℕ) (y t : Treap) (l : ℕ → List WaitId) where
+  map_joined : (lifo : Bool) (w : Wait) (ws : List Wait) → map (λ (x : Wait). x.id) (joined_by lifo w ws) ≡ insert_wait lifo w.id (map (λ (x : Wait). x.id) ws)
+  unfolding insert_wait
+  map_joined true w ws = refl
+  map_joined false w ws = map-append (λ (x : Wait). x.id) ws (w ∷ [])
+
+  pub queued_record : (lifo : Bool) (w : Wait) → IsRecord z r y l → root z c ≡ r → c < length z.starts → Changes (queues_of y.tree) (queues_of t.tree) c (joined_by lifo w (waits_on (queues_of y.tree) c))
+      → queues.total (queues_of t.tree) ≡ queues.total (queues_of y.tree) + 1 → t.seats ≡ y.seats → IsRecord z r t (put l c (insert_wait lifo w.id (l c)))
+  queued_record lifo w is at inside change count seats = record {
+    waits = λ q e. by q e (ℕ_discrete q c);
+    count = let up = waits_up (layout z) r c l (insert_wait lifo w.id (l c)) inside (length_insert lifo w.id (l c)) in let one = on_here (root z c) 1 in let same = ap (λ x. on (root z c) x 1) at in let was = is.count in omega arith;
+    seats = seats ∙ is.seats;
+  }
+    where
+      by : (q : ℕ) → root z q ≡ r → Dec (q ≡ c) → map (λ (x : Wait). x.id) (waits_on (queues_of t.tree) q) ≡ put l c (insert_wait lifo w.id (l c)) q
+      by q e (yes here) = ap (λ k. map (λ (x : Wait). x.id) (waits_on (queues_of t.tree) k)) here ∙ ap (map (λ (x : Wait). x.id)) change.there ∙ map_joined lifo w (waits_on (queues_of y.tree) c)
+          ∙ ap (insert_wait lifo w.id) (is.waits c at) ∙ sym (put_here l c (insert_wait lifo w.id (l c))) ∙ ap (put l c (insert_wait lifo w.id (l c))) (sym here)
+      by q e (no ne) = ap (map (λ (x : Wait). x.id)) (change.elsewhere q ne) ∙ is.waits q e ∙ sym (put_else l c (insert_wait lifo w.id (l c)) q ne)
+
+-- the record after its first wait was taken out
+module _ (z : Setting) (r c : ℕ) (y t : Treap) (l : ℕ → List WaitId) where
+  map_rest : (ws : List Wait) → map (λ (x : Wait). x.id) (drop 1 ws) ≡ drop 1 (map (λ (x : Wait). x.id) ws)
+  map_rest [] = refl
+  map_rest (w ∷ ws) = refl
+
+  pub dequeued_record : (w : WaitId) (ws : List WaitId) → l c ≡ w ∷ ws → IsRecord z r y l → root z c ≡ r → c < length z.starts → Changes (queues_of y.tree) (queues_of t.tree) c (drop 1 (waits_on (queues_of y.tree) c))
+      → queues.total (queues_of t.tree) + 1 ≡ queues.total (queues_of y.tree) → t.seats ≡ y.seats → IsRecord z r t (put l c (drop 1 (l c)))
+  dequeued_record w ws first is at inside change count seats = record {
+    waits = λ q e. by q e (ℕ_discrete q c);
+    count = let x : List WaitId = drop 1 (l c) in let shorter : length x + 1 ≡ length (l c) = ap (λ (k : List WaitId). length (drop 1 k) + 1) first ∙ (omega arith) ∙ ap length (sym first) in
+        let changed = total_change (length z.starts) (λ d. on (root z d) r (length (l d))) (λ d. on (root z d) r (length (put l c x d))) c inside
+        (λ k ne. ap (λ (y : List WaitId). on (root z k) r (length y)) (put_else l c x k ne)) in
+        let here = ap (λ (y : List WaitId). on (root z c) r (length y)) (put_here l c x) in
+        let one : on (root z c) r (length x) ≡ length x = ap (λ k. on (root z c) k (length x)) (sym at) ∙ on_here (root z c) (length x) in
+        let two : on (root z c) r (length (l c)) ≡ length (l c) = ap (λ k. on (root z c) k (length (l c))) (sym at) ∙ on_here (root z c) (length (l c)) in
+        let was = is.count in omega arith;
+    seats = seats ∙ is.seats;
+  }
+    where
+      by : (q : ℕ) → root z q ≡ r → Dec (q ≡ c) → map (λ (x : Wait). x.id) (waits_on (queues_of t.tree) q) ≡ put l c (drop 1 (l c)) q
+      by q e (yes here) = ap (λ k. map (λ (x : Wait). x.id) (waits_on (queues_of t.tree) k)) here ∙ ap (map (λ (x : Wait). x.id)) change.there ∙ map_rest (waits_on (queues_of y.tree) c)
+          ∙ ap (drop 1) (is.waits c at) ∙ sym (put_here l c (drop 1 (l c))) ∙ ap (put l c (drop 1 (l c))) (sym here)
+      by q e (no ne) = ap (map (λ (x : Wait). x.id)) (change.elsewhere q ne) ∙ is.waits q e ∙ sym (put_else l c (drop 1 (l c)) q ne)
+
+pub first_is : (ws : List Wait) (w : Wait) → slice_get ws 0 ≡ Some w → ws ≡ w ∷ drop 1 ws
+first_is [] w e = absurd (cc)
+first_is (x ∷ ws) w e = cc

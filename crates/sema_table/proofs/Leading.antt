@@ -1,0 +1,79 @@
+-- Where a row that ran leads its seat, by what the table says of it.
+use prog.Atomic.{either}
+use Rattle.std.proofs.Common.{◌≡◌, ◌≢◌, ℕ, zero, suc, ◌-◌, ◌+◌, ◌<◌, ◌==◌, cond, Bool, true, false, List, [], ◌∷◌, ◌++◌, refl, ap, ◌∙◌, subst, arith, eq-eqb, ne_eqb}
+use Rattle.step_table.specs.declared.effect.Effect.{Effect}
+use Rattle.step_table.specs.declared.effect.Effect.TheVariants.{Nothing, Tells, Wakes}
+use Rattle.step_table.specs.declared.entry.Entry.{Entry}
+use Rattle.step_table.specs.declared.place.Place.{Place}
+use Rattle.step_table.specs.Event.{Next, zero_or}
+use Rattle.step_table.specs.Table.{table}
+use Rattle.step_table.specs.World.{seat_after, lists_after}
+use Rattle.step_table.specs.Journal.{Plain, replay, plain_start, effect_of}
+use Rattle.step_table.proofs.Paths.{stride_told}
+use Rattle.sema_law.specs.SemaPath.{SemaStride, RanSemaRow, SemaDid, plain_before, row_next, entries_of, semaphores}
+use Rattle.sema_law.proofs.SemaPaths.{the_sema_paths}
+use Rattle.sema_table.specs.declared.view.View.{View}
+use Rattle.sema_table.specs.Setting.{layout}
+use Rattle.sema_table.specs.Rule.{stands_by, sight_by, lists_by}
+use Rattle.sema_table.specs.Plays.{Ran, begin}
+
+-- the stride led from v to w, and went on so
+pub record Goes (v : View) (p : SemaStride) (next : Next) (w : View) : Type 0 where
+  pub stands : stands_by w ≡ seat_after next.1 next.0 (stands_by v)
+  pub told : p.told ≡ entries_of next.1
+  pub lists : (c : ℕ) → lists_by v.setting w.seen c ≡ lists_after next.1 (plain_before (layout v.setting) p).lists c
+
+replay_append : (x : Plain) (a b : List Entry) → replay x (a ++ b) ≡ replay (replay x a) b
+replay_append x [] b = refl
+replay_append x (e ∷ a) b = replay_append (effect_of e x) a b
+
+lists_told : (x : Plain) (effect : Effect) → (replay x (entries_of effect)).lists ≡ lists_after effect x.lists
+lists_told x (Tells e) = refl
+lists_told x Nothing = refl
+lists_told x Wakes = refl
+
+-- what follows the row at this place, for the seat that knows v
+abbrev pub next_by : View → Place → SemaStride → ℕ → Next
+next_by v place p n = (table v.number (stands_by (begin place v)) (plain_before (layout v.setting) p).lists).leads n
+
+pub led : (v w : View) (place : Place) (n : ℕ) (r : Ran v n w) → v.place ≡ place → Goes v r.stride (next_by v place r.stride n) w
+led v w place n r at =
+    let m = layout v.setting in let p : SemaStride = r.stride in
+    let row : RanSemaRow m v.number p (sight_by w) = subst (SemaDid m v.number p (sight_by w)) r.did (the_sema_paths.does m v.number (sight_by v) (sight_by w) p r.ran) in
+    let same : row_next m v.number p ≡ next_by v place p n = λ i. (table v.number (stood_by i) (plain_before m p).lists).leads (r.read i) in
+    let told : p.told ≡ entries_of (next_by v place p n).1 = row.told ∙ ap (λ (x : Next). entries_of x.1) same in record {
+      stands = row.leads ∙ (λ i. seat_after (same i).1 (same i).0 (r.ran.stood i));
+      told = told;
+      lists = λ c. ap (λ j. lists_by v.setting j c) (stride_told (semaphores m) v.number (sight_by v) (sight_by w) p r.ran)
+          ∙ ap (λ (x : Plain). x.lists c) (replay_append (plain_start m.starts) p.seen p.told)
+          ∙ ap (λ j. (replay (plain_before m p) j).lists c) told
+          ∙ ap (λ l. l c) (lists_told (plain_before m p) (next_by v place p n).1);
+    }
+  where
+    stood_by : r.stride.stood ≡ stands_by (begin place v)
+    stood_by = r.ran.stood ∙ (λ i. record (stands_by v) { place = at i })
+
+at_some : (n : ℕ) (a : Place) (b : ℕ → Place) → 0 < n → zero_or a b n ≡ b (n - 1)
+at_some zero a b h = absurd (omega arith)
+at_some (suc n) a b h = ap b (omega arith)
+
+module _ {v w : View} {p : SemaStride} where
+  pub load_zero : (n : ℕ) (a : Place) (b : ℕ → Place) → Goes v p (zero_or a b n, Nothing) w → n ≡ 0 → Goes v p (a, Nothing) w
+  load_zero n a b g e = subst (λ (k : ℕ). Goes v p (zero_or a b k, Nothing) w) e g
+
+  pub load_some : (n : ℕ) (a : Place) (b : ℕ → Place) → Goes v p (zero_or a b n, Nothing) w → 0 < n → Goes v p (b (n - 1), Nothing) w
+  load_some n a b g h = subst (λ (k : Place). Goes v p (k, Nothing) w) (at_some n a b h) g
+
+  pub won : (k x : ℕ) (a b : Next) → Goes v p (cond (k == x) a b) w → k ≡ x → Goes v p a w
+  won k x a b g e = subst (λ (y : Bool). Goes v p (cond y a b) w) (eq-eqb k x e) g
+
+  pub lost : (k x : ℕ) (a b : Next) → Goes v p (cond (k == x) a b) w → k ≢ x → Goes v p b w
+  lost k x a b g ne = subst (λ (y : Bool). Goes v p (cond y a b) w) (ne_eqb k x ne) g
+
+either_is : (b : Bool) (x y : ℕ) → either b x y ≡ cond b x y
+either_is true x y = refl
+either_is false x y = refl
+
+-- an exchange of what was found
+pub exchanged : (n m : ℕ) → 0 < n → either (m == n) (n - 1) m ≡ cond (m == (n - 1 + 1)) (n - 1) m
+exchanged n m h = either_is (m == n) (n - 1) m ∙ ap (λ (k : ℕ). cond (m == k) (n - 1) m) (omega arith)

@@ -1,0 +1,159 @@
+-- The rule holds of a table as it is made, and is kept where its first seat makes another.
+use Rattle.std.proofs.Common.{◌≡◌, ◌≢◌, ℕ, zero, suc, ◌+◌, ◌%◌, ◌^◌, ◌<◌, ◌≤◌, List, [], ◌∷◌, ◌++◌, length, replicate, map, get_or, set, slice_index, slice_index_or, All, sym, refl, ap, ◌∙◌, subst, ⊎_elim, inl, inr, ◌⊎◌, arith, length-append, length-set, lt_of_not-le}
+use Rattle.std.proofs.lemmas.List.{get_or_append_left, get_or-append-add, get_or_past, length-map, length-replicate}
+use Rattle.std.proofs.lemmas.List.FromFn.{length-map-range_with_len, map-range_with_len_more}
+use Rattle.std.specs.List.{range_with_len}
+use mathlib.Core.Logic.{dite}
+use mathlib.Core.Option.{some, some-injective, some-ne-none}
+use native.Mathlib.Decide.{dec_le}
+use lib.ListN.{get_elem?}
+use Rattle.atomic_table.specs.Table.{opening, Splits}
+use Rattle.atomic_table.proofs.Lists.{at_set}
+use Rattle.step_table.specs.declared.word.Word.{Word}
+use Rattle.step_table.specs.declared.word.Word.TheVariants.{Counter, Lock, Waiters, Grant}
+use Rattle.step_table.specs.World.{SemaWorld, first_world, found}
+use Rattle.step_table.specs.Turn.{none}
+use Rattle.step_table.specs.Counting.{on}
+use Rattle.step_table.proofs.Sums.{nothing, on_else, on_zero}
+use Rattle.step_table.proofs.Paths.{goes_on_here}
+use Rattle.sema_law.specs.Served.{served}
+use Rattle.sema_table.specs.declared.view.View.{View}
+use Rattle.sema_table.specs.declared.view.Setting.{Setting}
+use Rattle.sema_table.specs.Setting.{root, layout, address, words_in, IsThere}
+use Rattle.sema_table.specs.Rule.{Knows, IsViewOf, IsKept, fresh, first_view, making, made_by}
+use Rattle.std.proofs.lemmas.List.Elements.{All-map}
+use Rattle.sema_table.specs.declared.settings.Settings.{Settings}
+use Rattle.sema_table.specs.Making.{IsMade, new_root, new_roots, new_seat, new_seats}
+use Rattle.sema_table.specs.Seats.{TableModel, SeatModel}
+
+zeros : (n k : ℕ) → ◌≡◌ {A = ℕ} (get_or (replicate n 0) k 0) 0
+zeros zero k = refl
+zeros (suc n) zero = refl
+zeros (suc n) (suc k) = zeros n k
+
+behind : (xs : List ℕ) (n k i : ℕ) → i ≡ length xs + k → slice_index (xs ++ replicate n 0) i ≡ 0
+behind xs n k i e = ap (λ (j : ℕ). get_or (xs ++ replicate n 0) j 0) e ∙ get_or-append-add xs (replicate n 0) k 0 ∙ zeros n k
+
+-- the counters' starts with a 0 for each other word are the words of the first world
+first_words : (z : Setting) (n : ℕ) (w : Word) → IsThere z w → slice_index (z.starts ++ replicate n 0) (address z w) ≡ found (root z) (first_world (layout z).starts).words w
+first_words z n (Counter c) h = get_or_append_left z.starts (replicate n 0) 0 c h
+first_words z n (Lock c) h = behind z.starts n (root z c) (address z (Lock c)) refl
+first_words z n (Waiters c) h = behind z.starts n (z.roots + root z c) (address z (Waiters c)) (omega arith)
+first_words z n (Grant s) h = behind z.starts n (z.roots + z.roots + s) (address z (Grant s)) (omega arith)
+
+pub words_long : (z : Setting) → length (z.starts ++ replicate (z.roots + z.roots + z.seats) 0) ≡ words_in z
+words_long z = length-append z.starts (replicate (z.roots + z.roots + z.seats) 0) ∙ ap (λ k. length z.starts + k) (length-replicate (z.roots + z.roots + z.seats) 0) ∙ omega arith
+
+small_starts : (xs : List ℕ) → All (λ n. n < 2 ^ 32) xs → (c : ℕ) → slice_index_or xs c 0 < 2 ^ 32
+small_starts xs all c = dite (dec_le (length xs) c) (λ l. let e = get_or_past xs c 0 l in omega (arith, e)) (λ n. all c 0 (lt_of_not-le n))
+
+-- what stands at a place of a list that a function tells
+listed : {A : Type 0} (f : ℕ → A) (a n k : ℕ) → k < n → get_elem? (map some (map f (range_with_len a n))) k ≡ some (some (f (a + k)))
+listed f a zero k h = absurd (omega arith)
+listed f a (suc n) zero h = ap (λ j. some (some (f j))) (omega arith)
+listed f a (suc n) (suc k) h = listed f (a + 1) n k (omega arith) ∙ ap (λ j. some (some (f j))) (omega arith)
+
+-- one more of them
+pub one_more : {A : Type 0} (f : ℕ → A) (a n j : ℕ) (xs : List A) (x : A) → a + n ≡ j → xs ≡ map f (range_with_len a n) → x ≡ f j → xs ++ x ∷ [] ≡ map f (range_with_len a (n + 1))
+one_more f a n j xs x at before is = (λ i. before i ++ is i ∷ []) ∙ sym (map-range_with_len_more f a n j at)
+
+-- the seat 0 goes to the front of the others
+pub in_front : (t u : TableModel) (n seats : ℕ) (xs : List SeatModel) (x : SeatModel) → t ≡ u → n + 1 ≡ seats → xs ≡ new_seats t 1 n → x ≡ new_seat t 0 → ◌≡◌ {A = List SeatModel} (x ∷ xs) (new_seats u 0 seats)
+in_front t u n seats xs x same all before is = let e : suc n ≡ seats = omega (arith, all) in (λ i. is i ∷ before i) ∙ ap (new_seats t 0) e ∙ ap (λ (y : TableModel). new_seats y 0 seats) same
+
+module _ (z : Setting) where
+  abbrev first : SemaWorld
+  first = first_world (layout z).starts
+
+  unserved : (k : ℕ) → served (layout z) first k ≡ 0
+  unserved k = let a = nothing z.seats (λ i. 0) (λ i. refl) in let o = on_else 0 2 1 (λ e. absurd (omega arith)) in omega (arith, a, o)
+
+  -- a seat that was just made may meet the first world
+  meets_first : (k made : ℕ) → Knows z k (fresh z k made) first
+  meets_first k made = record {
+    meets = record { met = none; stands = refl; later = goes_on_here []; quiet = refl };
+    held = λ c h. refl;
+    takes = let n = unserved k in omega arith;
+  }
+
+  -- the rule holds of a table with one seat, whose words are those of the first world and whose roots are empty
+  pub opens : (seed : ℕ) → 0 < z.roots → 0 < z.seats → z.seats ≤ 256 → length z.starts ≤ 65536 → All (λ n. n < 2 ^ 32) z.starts
+      → IsKept z (opening (z.starts ++ replicate (z.roots + z.roots + z.seats) 0) (new_roots z.seats seed z.roots) (first_view z))
+  opens seed rooted seated most counted starts = record {
+    world = first;
+    reached = none;
+    small = record { seats = most; starts = small_starts z.starts starts; few = λ k h. omega arith };
+    words = first_words z (z.roots + z.roots + z.seats);
+    homes = λ r h free. (
+      _,
+      listed (λ q. new_root z.seats ((seed + q) % 2 ^ 64)) 0 z.roots r h,
+      record {
+        waits = λ c e. refl;
+        count = sym (nothing (length z.starts) (λ c. on (root z c) r 0) (λ c. on_zero (root z c) r));
+        seats = refl;
+      },
+    );
+    views = one;
+    unmade = λ k h low. meets_first k 0;
+    maker = alone;
+    wide = words_long z;
+    deep = length-map (new_roots z.seats seed z.roots) some ∙ length-map-range_with_len _ 0 z.roots;
+    fits = omega arith;
+    rooted = rooted;
+    counted = counted;
+  }
+    where
+      alone : (j : ℕ) (v : View) → get_elem? (first_view z ∷ []) j ≡ some v → 0 < v.made → (j ≡ 0) × (v.made ≡ 1)
+      alone zero v e h = (refl, ap (λ (u : View). u.made) (sym (some-injective (first_view z) v e)))
+      alone (suc j) v e h = absurd (some-ne-none v (sym e))
+
+      one : (j : ℕ) (v : View) → get_elem? (first_view z ∷ []) j ≡ some v → IsViewOf z first j v
+      one zero v e = subst (IsViewOf z first 0) (some-injective (first_view z) v e) (refl, refl, meets_first 0 1)
+      one (suc j) v e = absurd (some-ne-none v (sym e))
+
+at_end : {A : Type 0} (l : List A) (a b : A) (j : ℕ) → get_elem? (l ++ a ∷ []) j ≡ some b → (get_elem? l j ≡ some b) ⊎ ((j ≡ length l) × (a ≡ b))
+at_end [] a b zero e = inr (refl, some-injective a b e)
+at_end [] a b (suc j) e = absurd (some-ne-none b (sym e))
+at_end (x ∷ xs) a b zero e = inl e
+at_end (x ∷ xs) a b (suc j) e = ⊎_elim (λ t. inl t) (λ t. inr (ap suc t.0, t.1)) (at_end xs a b j e)
+
+-- the seat 0 makes the next one
+pub splits : (z : Setting) (id : ℕ) (v : View) → 0 < v.made → v.made < v.setting.seats → Splits (IsKept z) id v (making v) (made_by v)
+splits z id v some_made room s r at =
+    let y = r.views id v at in let o = r.maker id v at some_made in
+    let full : length (set s.views id (making v)) ≡ v.made = length-set s.views id (making v) ∙ sym o.1 in
+    let longer : length (set s.views id (making v) ++ made_by v ∷ []) ≡ v.made + 1 = length-append (set s.views id (making v)) (made_by v ∷ []) ∙ ap (λ (n : ℕ). n + 1) full in
+    let low : v.setting.seats ≡ z.seats = ap (λ (k : Setting). k.seats) y.1 in
+    let idle : Knows z v.made (fresh z v.made 0) r.world = r.unmade v.made (omega (arith, o.1)) (omega (arith, low)) in record {
+      world = r.world;
+      reached = r.reached;
+      small = r.small;
+      words = r.words;
+      homes = r.homes;
+      views = λ j u e. ⊎_elim
+          (λ (was : get_elem? (set s.views id (making v)) j ≡ some u). ⊎_elim
+          (λ (t : (j ≡ id) × (making v ≡ u)). subst (λ (k : ℕ × View). IsViewOf z r.world k.0 k.1) (λ k. (sym t.0 k, t.1 k))
+          (y.0, y.1, record { meets = y.2.meets; held = y.2.held; takes = y.2.takes }))
+          (λ (t : (j ≢ id) × (get_elem? s.views j ≡ some u)). r.views j u t.1)
+          (at_set s.views id j (making v) u was))
+          (λ (t : (j ≡ length (set s.views id (making v))) × (made_by v ≡ u)). subst (λ (k : ℕ × View). IsViewOf z r.world k.0 k.1) (λ k. ((sym full ∙ sym t.0) k, t.1 k))
+          (refl, y.1, subst (λ (k : Setting). Knows z v.made (fresh k v.made 0) r.world) (sym y.1) idle))
+          (at_end (set s.views id (making v)) (made_by v) u j e);
+      unmade = λ k h there. r.unmade k (omega (arith, o.1, longer)) there;
+      maker = λ j u e h. ⊎_elim
+          (λ (was : get_elem? (set s.views id (making v)) j ≡ some u). ⊎_elim
+          (λ (t : (j ≡ id) × (making v ≡ u)). (t.0 ∙ o.0, ap (λ (k : View). k.made) (sym t.1) ∙ sym longer))
+          (λ (t : (j ≢ id) × (get_elem? s.views j ≡ some u)). absurd (t.0 ((r.maker j u t.1 h).0 ∙ sym o.0)))
+          (at_set s.views id j (making v) u was))
+          (λ (t : (j ≡ length (set s.views id (making v))) × (made_by v ≡ u)). let none_made : 0 ≡ u.made = ap (λ (k : View). k.made) t.1 in absurd (omega arith))
+          (at_end (set s.views id (making v)) (made_by v) u j e);
+      wide = r.wide;
+      deep = r.deep;
+      fits = omega (arith, longer, low);
+      rooted = r.rooted;
+      counted = r.counted;
+    }
+
+-- the seats of a table are of this table
+pub seats_own : (k : Settings) (t : TableModel) (seats : List SeatModel) → IsMade k t seats → All (λ s. s.table ≡ t) seats
+seats_own k t seats made = subst (All (λ s. s.table ≡ t)) (sym made.seats_are) (All-map (λ s. s.table ≡ t) (new_seat t) (range_with_len 0 k.seats) (λ i n low. refl))

@@ -1,0 +1,140 @@
+-- Rows one after the other, and what they leave of a token.
+use Rattle.std.proofs.Common.{◌≡◌, ℕ, ◌+◌, ◌^◌, ◌≤◌, List, [], ◌∷◌, ◌++◌, sym, refl, ap, ◌∙◌, subst, arith, append-nil, append_assoc}
+use Rattle.step_table.specs.declared.entry.Entry.{Entry}
+use Rattle.step_table.specs.declared.place.Place.{Place}
+use Rattle.step_table.specs.declared.word.Word.{Word}
+use Rattle.step_table.specs.Event.{Next}
+use Rattle.step_table.specs.World.{SeatState, seat_after}
+use Rattle.step_table.specs.Counting.{counter_at}
+use Rattle.step_table.specs.Path.{Deed, runs, all_told, own_entries}
+use Rattle.sema_law.specs.Balances.{added_by}
+use Rattle.sema_law.specs.Served.{gains}
+use Rattle.sema_law.specs.SemaPath.{SemaSight, SemaStride, SemaPath, placed, semaphores, entries_of}
+use Rattle.sema_law.proofs.SemaPaths.{the_sema_paths}
+use Rattle.sema_table.specs.declared.view.View.{View}
+use Rattle.sema_table.specs.declared.view.Setting.{Setting}
+use Rattle.sema_table.specs.Setting.{layout}
+use Rattle.sema_table.specs.Rule.{stands_by, sight_by}
+use Rattle.sema_table.specs.Plays.{Strode, Ran, begin, gains_by}
+use Rattle.sema_table.specs.declared.seat.Numbers.{Numbers}
+use Rattle.sema_table.specs.Seats.{TableModel, Token, IsToken}
+use Rattle.sema_table.specs.Walks.{Stands, Walked, moved_to}
+use Rattle.sema_table.proofs.Leading.{Goes}
+use Rattle.sema_table.proofs.Adding.{added_append, own_only}
+
+pub told_append : (a b : List SemaStride) → all_told (a ++ b) ≡ all_told a ++ all_told b
+told_append [] b = refl
+told_append (p ∷ a) b = ap (λ l. p.told ++ l) (told_append a b) ∙ sym (append_assoc p.told (all_told a) (all_told b))
+
+-- one stride, from this place
+abbrev pub walked_by : (s t : Token) (from : Place) (deed : Deed Word) (n : ℕ) (stands : SeatState) (told : List Entry) (gained : ℕ) → (r : Strode (begin from s.me.0) deed n t.me.0)
+    → gains_by deed from stands.place ≡ gained → t.table_id ≡ s.table_id → stands_by t.me.0 ≡ stands → r.stride.told ≡ told → Walked s from t stands told gained
+walked_by s t from deed n stands told gained r come same at entries = record {
+  table_is = λ i. record { id = same i; setting = (r.same i).setting };
+  number_is = ap (λ (v : View). v.number) r.same;
+  stands_is = at;
+  few = r.few;
+  came = r.came ∙ (λ i. s.me.0.taken + gains_by deed from (at i).place) ∙ ap (λ k. s.me.0.taken + k) come;
+  most = r.most;
+  strides = r.stride ∷ [];
+  path = ((the_sema_paths.paths (layout s.me.0.setting)).single s.me.0.number (placed from (sight_by s.me.0)) (sight_by t.me.0) r.stride).0 r.ran;
+  told_is = append-nil r.stride.told ∙ entries;
+}
+
+-- one row that went on so
+abbrev pub walked_row : (s t : Token) (from : Place) (n : ℕ) (next : Next) (r : Ran (begin from s.me.0) n t.me.0) → Goes (begin from s.me.0) r.stride next t.me.0
+    → t.table_id ≡ s.table_id → Walked s from t (seat_after next.1 next.0 (stands_by s.me.0)) (entries_of next.1) (gains from next.0)
+walked_row s t from n next r g same = walked_by s t from runs n (seat_after next.1 next.0 (stands_by s.me.0)) (entries_of next.1) (gains from next.0) r refl same g.stands g.told
+
+-- no row
+abbrev pub walked_none : (s : Token) (from : Place) → s.me.0.place ≡ from → s.me.0.turn ≤ 2 ^ 48 + 256 → s.me.0.taken ≤ 2 ^ 49 → Walked s from s (stands_by s.me.0) [] 0
+walked_none s from at few most = record {
+  table_is = refl;
+  number_is = refl;
+  stands_is = refl;
+  few = few;
+  came = omega arith;
+  most = most;
+  strides = [];
+  path = λ i. record { stands = record (stands_by s.me.0) { place = at i }; seen = s.me.0.seen };
+  told_is = refl;
+}
+
+-- rows after rows
+abbrev pub walked_on : (s t u : Token) (from : Place) (a b : SeatState) (told more : List Entry) (j k : ℕ) → Walked s from t a told j → Walked t a.place u b more k → Walked s from u b (told ++ more) (j + k)
+walked_on s t u from a b told more j k x y = record {
+  table_is = y.table_is ∙ x.table_is;
+  number_is = y.number_is ∙ x.number_is;
+  stands_is = y.stands_is;
+  few = y.few;
+  came = let c = x.came in let d = y.came in omega arith;
+  most = y.most;
+  strides = x.strides ++ y.strides;
+  path = (the_sema_paths.paths (layout s.me.0.setting)).joined s.me.0.number (placed from (sight_by s.me.0)) (sight_by t.me.0) (sight_by u.me.0) x.strides y.strides x.path
+      (subst (λ (q : Setting × (ℕ × SemaSight)). SemaPath (layout q.0) q.1.0 q.1.1 y.strides (sight_by u.me.0))
+      (λ i. ((x.table_is i).setting, (x.number_is i, record { stands = stays i; seen = t.me.0.seen })))
+      y.path);
+  told_is = told_append x.strides y.strides ∙ (λ i. x.told_is i ++ y.told_is i);
+}
+  where
+    stays : record (stands_by t.me.0) { place = a.place } ≡ stands_by t.me.0
+    stays = λ i. record (stands_by t.me.0) { place = (sym x.stands_is i).place }
+
+-- what was added is what the rows told
+pub walked_adds : (s t : Token) (from : Place) (a : SeatState) (told : List Entry) (j : ℕ) → Walked s from t a told j
+    → added_by t.me.0.number t.me.0.seen ≡ added_by s.me.0.number s.me.0.seen + added_by s.me.0.number told
+walked_adds s t from a told j x =
+    let k : ℕ = s.me.0.number in let m = layout s.me.0.setting in
+    let own = (the_sema_paths.paths m).own k (placed from (sight_by s.me.0)) (sight_by t.me.0) x.strides x.path in
+    ap (λ i. added_by i t.me.0.seen) x.number_is ∙ sym (own_only k t.me.0.seen) ∙ ap (added_by k) own
+    ∙ added_append k (own_entries (semaphores m) k s.me.0.seen) (own_entries (semaphores m) k (all_told x.strides))
+    ∙ (λ i. own_only k s.me.0.seen i + own_only k (x.told_is i) i)
+
+pub stands_on : (z : TableModel) (s t : Token) (from : Place) (a : SeatState) (told : List Entry) (j : ℕ) → Stands z s from → Walked s from t a told j → added_by s.me.0.number told ≡ 0
+    → counter_at a.place ≡ counter_at from → Stands z t a.place
+stands_on z s t from a told j x y none same = record {
+  table_is = y.table_is ∙ x.table_is;
+  inside = let i = x.inside in omega arith;
+  place_is = ap (λ (q : SeatState). q.place) y.stands_is;
+  limited = let a = walked_adds s t from a told j y in let b = x.limited in omega arith;
+  few = y.few;
+  most = y.most;
+}
+
+-- a token after rows that added so much
+pub token_after : (s t : Token) (from : Place) (a : SeatState) (told : List Entry) (j : ℕ) (n k : Numbers) → IsToken s n → Walked s from t a told j
+    → t.me.1 ≡ [] → a.hand ≡ [] → a.turn ≡ k.turns → k.left + added_by s.me.0.number told ≡ n.left → k.seat ≡ n.seat → k.taken ≡ n.taken + j → IsToken t k
+token_after s t from a told j n k is x bare empty turned less same more = record {
+  bare = bare;
+  number_is = x.number_is ∙ is.number_is ∙ sym same;
+  there = let q = ap (λ (y : TableModel). y.setting.seats) x.table_is in let h = is.there in omega arith;
+  left_is = let b = walked_adds s t from a told j x in let l = is.left_is in let q = ap (λ (y : TableModel). y.setting.limit) x.table_is in omega arith;
+  limited = let l = is.limited in let q = ap (λ (y : TableModel). y.setting.limit) x.table_is in omega arith;
+  turns_are = ap (λ (q : SeatState). q.turn) x.stands_is ∙ turned;
+  few = let f = x.few in let q = ap (λ (y : SeatState). y.turn) x.stands_is in omega arith;
+  taken_is = let c = x.came in let b = is.taken_is in omega arith;
+  most = let c = x.came in let b = is.taken_is in let d = x.most in omega arith;
+  empty = ap (λ (q : SeatState). q.hand) x.stands_is ∙ empty;
+}
+
+-- a seat that may add so many units more has added few
+pub added_few : (s : Token) (n : Numbers) (k : ℕ) → IsToken s n → k ≤ n.left → added_by s.me.0.number s.me.0.seen + k ≤ 2 ^ 40
+added_few s n k is h = let l = is.left_is in let m = is.limited in omega arith
+
+-- the row at which the seat stands
+abbrev pub ran_from : (s t : Token) (from : Place) (n : ℕ) → s.me.0.place ≡ from → Ran s.me.0 n t.me.0 → Ran (begin from s.me.0) n t.me.0
+ran_from s t from n at = subst (λ v. Ran v n t.me.0) (λ i. record s.me.0 { place = at i })
+
+-- rows after rows, by what they make of how the seat stands
+abbrev pub walked_via : (s t u : Token) (from : Place) (a : SeatState) (to : SeatState → SeatState) (told more : List Entry) (j k : ℕ) → Walked s from t a told j → Walked t a.place u (to (stands_by t.me.0)) more k
+    → Walked s from u (to a) (told ++ more) (j + k)
+walked_via s t u from a to told more j k x y = subst (λ (w : SeatState). Walked s from u (to w) (told ++ more) (j + k)) x.stands_is (walked_on s t u from a (to (stands_by t.me.0)) told more j k x y)
+
+-- rows after rows that left all but the place
+abbrev pub walked_then : (s t u : Token) (from p q : Place) (told more : List Entry) (j k : ℕ) → Walked s from t (moved_to s p) told j → Walked t p u (moved_to t q) more k
+    → Walked s from u (moved_to s q) (told ++ more) (j + k)
+walked_then s t u from p q told more j k x y = subst (λ (w : SeatState). Walked s from u (record w { place = q }) (told ++ more) (j + k)) x.stands_is (walked_on s t u from (moved_to s p) (moved_to t q) told more j k x y)
+
+-- no row yet
+pub walked_yet : (z : TableModel) (s : Token) (p : Place) → Stands z s p → Walked s p s (moved_to s p) [] 0
+walked_yet z s p x = subst (λ (q : Place). Walked s p s (moved_to s q) [] 0) x.place_is (walked_none s p x.place_is x.few x.most)

@@ -1,0 +1,92 @@
+-- Where words lie, and what a write changes.
+use Rattle.std.proofs.Common.{◌≡◌, ◌≢◌, ℕ, ◌<◌, false, Bool, true, List, length, drop, sym, refl, ap, ◌∙◌, arith}
+use native.Mathlib.Decide.{ℕ_discrete}
+use Rattle.std.proofs.Math.Nat.{mod-lt}
+use Rattle.waiters.specs.declared.wait.WaitId.{WaitId}
+use Rattle.step_table.specs.declared.effect.Effect.{Effect}
+use Rattle.step_table.specs.declared.effect.Effect.TheVariants.{Tells}
+use Rattle.step_table.specs.declared.entry.Entry.TheVariants.{Queue, Leave}
+use Rattle.step_table.specs.declared.word.Word.{Word}
+use Rattle.step_table.specs.declared.word.Word.TheVariants.{Counter, Lock, Waiters, Grant}
+use Rattle.step_table.specs.World.{Words, put, insert_wait, found, written, lists_after}
+use Rattle.step_table.specs.Counting.{on}
+use Rattle.step_table.proofs.Sums.{put_here, put_else, on_else, total_same}
+use Rattle.sema_root.specs.Treap.{Treap}
+use Rattle.sema_table.specs.declared.view.Setting.{Setting}
+use Rattle.sema_table.specs.Setting.{root, address, words_in, IsThere}
+use Rattle.sema_table.specs.Rule.{IsRecord}
+
+pub low_root : (z : Setting) (c : ℕ) → 0 < z.roots → root z c < z.roots
+low_root z c some = mod-lt c some
+
+abbrev pub is_lock : Word → Bool
+is_lock (Lock c) = true
+is_lock _ = false
+
+pub lists_unwritten : (at : ℕ → ℕ) (g : Words) (w : Word) (x : ℕ) → (written at g w x).lists ≡ g.lists
+lists_unwritten at g (Counter c) x = refl
+lists_unwritten at g (Lock c) x = refl
+lists_unwritten at g (Waiters c) x = refl
+lists_unwritten at g (Grant s) x = refl
+
+pub locks_unwritten : (at : ℕ → ℕ) (g : Words) (w : Word) (x r : ℕ) → is_lock w ≡ false → (written at g w x).locks r ≡ g.locks r
+locks_unwritten at g (Counter c) x r e = refl
+locks_unwritten at g (Waiters c) x r e = refl
+locks_unwritten at g (Grant s) x r e = refl
+locks_unwritten at g (Lock c) x r e = absurd (cc)
+
+-- lists that agree at c do so after an effect
+pub listed_agree : (e : Effect) (l k : ℕ → List WaitId) (c : ℕ) → l c ≡ k c → lists_after e l c ≡ lists_after e k c
+listed_agree (Tells (Queue d w lifo)) l k c same = by (ℕ_discrete c d)
+  where
+    by : Dec (c ≡ d) → put l d (insert_wait lifo w (l d)) c ≡ put k d (insert_wait lifo w (k d)) c
+    by (yes e) = ap (put l d (insert_wait lifo w (l d))) e ∙ put_here l d (insert_wait lifo w (l d)) ∙ ap (insert_wait lifo w) (ap l (sym e) ∙ same ∙ ap k e)
+        ∙ sym (put_here k d (insert_wait lifo w (k d))) ∙ ap (put k d (insert_wait lifo w (k d))) (sym e)
+    by (no ne) = put_else l d (insert_wait lifo w (l d)) c ne ∙ same ∙ sym (put_else k d (insert_wait lifo w (k d)) c ne)
+listed_agree (Tells (Leave d w s)) l k c same = by (ℕ_discrete c d)
+  where
+    by : Dec (c ≡ d) → put l d (drop 1 (l d)) c ≡ put k d (drop 1 (k d)) c
+    by (yes e) = ap (put l d (drop 1 (l d))) e ∙ put_here l d (drop 1 (l d)) ∙ ap (drop 1) (ap l (sym e) ∙ same ∙ ap k e)
+        ∙ sym (put_here k d (drop 1 (k d))) ∙ ap (put k d (drop 1 (k d))) (sym e)
+    by (no ne) = put_else l d (drop 1 (l d)) c ne ∙ same ∙ sym (put_else k d (drop 1 (k d)) c ne)
+listed_agree _ l k c same = same
+
+-- a record depends on its root's lists alone
+pub same_record : (z : Setting) (r : ℕ) (treap : Treap) (l k : ℕ → List WaitId) → ((c : ℕ) → root z c ≡ r → k c ≡ l c) → IsRecord z r treap l → IsRecord z r treap k
+same_record z r treap l k same is = record {
+  waits = λ c e. is.waits c e ∙ sym (same c e);
+  count = is.count ∙ total_same (length z.starts) (λ c. on (root z c) r (length (l c))) (λ c. on (root z c) r (length (k c))) (λ c h. by c (ℕ_discrete (root z c) r));
+  seats = is.seats;
+}
+  where
+    by : (c : ℕ) → Dec (root z c ≡ r) → on (root z c) r (length (l c)) ≡ on (root z c) r (length (k c))
+    by c (yes e) = ap (λ (x : List WaitId). on (root z c) r (length x)) (sym (same c e))
+    by c (no ne) = on_else (root z c) r (length (l c)) ne ∙ sym (on_else (root z c) r (length (k c)) ne)
+
+module _ (z : Setting) (some : 0 < z.roots) where
+  -- a word after a write: the new number, or what it was
+  pub written_word : (g : Words) (w u : Word) (x : ℕ) (l : ℕ → List WaitId) → IsThere z w → IsThere z u
+      → (address z u ≡ address z w → found (root z) (record (written (root z) g w x) { lists = l }) u ≡ x)
+      × (address z u ≢ address z w → found (root z) (record (written (root z) g w x) { lists = l }) u ≡ found (root z) g u)
+  written_word g (Counter c) (Counter d) x l a b = ((λ e. ap (put g.numbers c x) e ∙ put_here g.numbers c x), (λ ne. put_else g.numbers c x d ne))
+  written_word g (Lock c) (Lock d) x l a b = ((λ e. ap (put g.locks (root z c) x) (omega arith) ∙ put_here g.locks (root z c) x), (λ ne. put_else g.locks (root z c) x (root z d) (λ q. ne (omega arith))))
+  written_word g (Waiters c) (Waiters d) x l a b = ((λ e. ap (put g.waiters (root z c) x) (omega arith) ∙ put_here g.waiters (root z c) x), (λ ne. put_else g.waiters (root z c) x (root z d) (λ q. ne (omega arith))))
+  written_word g (Grant c) (Grant d) x l a b = ((λ e. ap (put g.grants c x) (omega arith) ∙ put_here g.grants c x), (λ ne. put_else g.grants c x d (λ q. ne (omega arith))))
+  written_word g (Counter c) (Lock d) x l a b = ((λ e. absurd (omega arith)), (λ ne. refl))
+  written_word g (Counter c) (Waiters d) x l a b = ((λ e. absurd (omega arith)), (λ ne. refl))
+  written_word g (Counter c) (Grant d) x l a b = ((λ e. absurd (omega arith)), (λ ne. refl))
+  written_word g (Lock c) (Counter d) x l a b = ((λ e. absurd (omega arith)), (λ ne. refl))
+  written_word g (Lock c) (Waiters d) x l a b = ((λ e. let q = low_root z c some in absurd (omega arith)), (λ ne. refl))
+  written_word g (Lock c) (Grant d) x l a b = ((λ e. let q = low_root z c some in absurd (omega arith)), (λ ne. refl))
+  written_word g (Waiters c) (Counter d) x l a b = ((λ e. absurd (omega arith)), (λ ne. refl))
+  written_word g (Waiters c) (Lock d) x l a b = ((λ e. let q = low_root z d some in absurd (omega arith)), (λ ne. refl))
+  written_word g (Waiters c) (Grant d) x l a b = ((λ e. let q = low_root z c some in absurd (omega arith)), (λ ne. refl))
+  written_word g (Grant c) (Counter d) x l a b = ((λ e. absurd (omega arith)), (λ ne. refl))
+  written_word g (Grant c) (Lock d) x l a b = ((λ e. let q = low_root z d some in absurd (omega arith)), (λ ne. refl))
+  written_word g (Grant c) (Waiters d) x l a b = ((λ e. let q = low_root z d some in absurd (omega arith)), (λ ne. refl))
+
+  pub inside : (w : Word) → IsThere z w → address z w < words_in z
+  inside (Counter c) h = omega arith
+  inside (Lock c) h = let q = low_root z c some in omega arith
+  inside (Waiters c) h = let q = low_root z c some in omega arith
+  inside (Grant s) h = omega arith

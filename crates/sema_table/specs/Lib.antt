@@ -1,0 +1,13 @@
+pub mod Setting
+pub mod Places
+pub mod Rule
+pub mod Plays
+pub mod Seats
+pub mod Shared
+pub mod Walks
+pub mod Calls
+pub mod Tries
+pub mod Waking
+pub mod Texts
+pub mod Making
+pub mod Table

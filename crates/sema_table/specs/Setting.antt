@@ -1,0 +1,30 @@
+-- How a table is laid out: which root a counter has, and where each word lies.
+use Rattle.std.specs.Prelude.{ℕ, ◌+◌, ◌%◌, ◌<◌, length, slice_index_or}
+use Rattle.step_table.specs.declared.word.Word.{Word}
+use Rattle.step_table.specs.declared.word.Word.TheVariants.{Counter, Lock, Waiters, Grant}
+use Rattle.step_table.specs.World.{Layout}
+use Rattle.sema_table.specs.declared.view.Setting.{Setting}
+
+abbrev pub root : Setting → ℕ → ℕ
+root z c = c % z.roots
+
+-- the layout of the worlds of such a table
+abbrev pub layout : Setting → Layout
+layout z = record { counters = length z.starts; seats = z.seats; root = root z; starts = λ c. slice_index_or z.starts c 0 }
+
+-- where a word lies: first the counters, then the lock of each root, then the waiter word of each, then the grants
+abbrev pub address : Setting → Word → ℕ
+address z (Counter c) = c
+address z (Lock c) = length z.starts + root z c
+address z (Waiters c) = length z.starts + z.roots + root z c
+address z (Grant s) = length z.starts + z.roots + z.roots + s
+
+-- how many words there are
+abbrev pub words_in : Setting → ℕ
+words_in z = length z.starts + z.roots + z.roots + z.seats
+
+-- the word is there
+abbrev pub IsThere : Setting → Word → Type 0
+IsThere z (Counter c) = c < length z.starts
+IsThere z (Grant s) = s < z.seats
+IsThere z _ = Unit {0}

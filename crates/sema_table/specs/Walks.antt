@@ -1,0 +1,125 @@
+-- What rows of one seat do to its token.
+use Rattle.std.specs.Prelude.{◌≡◌, ℕ, Bool, true, false, drop, if◌then◌else◌, ◌+◌, ◌^◌, ◌<◌, ◌≤◌, List, [], ◌∷◌, ◌++◌, length}
+use Rattle.waiters.specs.declared.wait.WaitId.{WaitId}
+use Rattle.step_table.specs.declared.entry.Entry.{Entry}
+use Rattle.step_table.specs.declared.entry.Entry.TheVariants.{Take}
+use Rattle.step_table.specs.declared.place.Acquire.{Acquire}
+use Rattle.step_table.specs.declared.place.AcquireRow.TheVariants.{P}
+use Rattle.step_table.specs.declared.place.Release.{Release}
+use Rattle.step_table.specs.declared.place.ReleaseRow.TheVariants.{R5, R6, R7, R9, R10}
+use Rattle.step_table.specs.declared.place.Place.{Place}
+use Rattle.step_table.specs.declared.place.Place.TheVariants.{Rest, Acquiring, Releasing}
+use Rattle.step_table.specs.Event.{by_first}
+use Rattle.step_table.specs.World.{SeatState}
+use Rattle.step_table.specs.Counting.{total, on, counter_at}
+use Rattle.step_table.specs.Path.{all_told}
+use Rattle.sema_law.specs.Balances.{added_by}
+use Rattle.sema_law.specs.SemaPath.{SemaStride, SemaPath, placed}
+use Rattle.sema_root.specs.Treap.{Treap}
+use Rattle.sema_table.specs.declared.view.Record.TheVariants.{Root}
+use Rattle.sema_table.specs.Setting.{root, layout}
+use Rattle.sema_table.specs.Places.{Begins, takes_lock, locked}
+use Rattle.sema_table.specs.Rule.{stands_by, sight_by, lists_by, IsRecord}
+use Rattle.sema_table.specs.Seats.{TableModel, Token, table_of}
+
+-- a seat of this table stands at this place, on a counter of the table
+pub record Stands (t : TableModel) (s : Token) (place : Place) : Type 0 where
+  pub table_is : table_of s ≡ t
+  pub inside : counter_at place < length t.setting.starts
+  pub place_is : s.me.0.place ≡ place
+  pub limited : added_by s.me.0.number s.me.0.seen ≤ 2 ^ 40
+  pub few : s.me.0.turn ≤ 2 ^ 48 + 256
+  pub most : s.me.0.taken ≤ 2 ^ 49
+
+-- nothing has come of it
+abbrev pub IsSame : Token → Token → Type 0
+IsSame s t = (t.table_id ≡ s.table_id) × (t.me ≡ s.me)
+
+-- a seat of this table may run a row at this place that takes a lock, and holds no slot
+pub record Starts (t : TableModel) (s : Token) (place : Place) : Type 0 where
+  pub table_is : table_of s ≡ t
+  pub inside : counter_at place < length t.setting.starts
+  pub begins : Begins (length t.setting.starts) s.me.0.place place
+  pub limited : added_by s.me.0.number s.me.0.seen ≤ 2 ^ 40
+  pub bare : s.me.1 ≡ []
+  pub takes : takes_lock place ≡ true
+
+-- rows ran from this place on, which told these entries, and by which the seat came by so many units; it stands so
+pub record Walked (s : Token) (from : Place) (t : Token) (stands : SeatState) (told : List Entry) (gained : ℕ) : Type 0 where
+  pub table_is : table_of t ≡ table_of s
+  pub number_is : t.me.0.number ≡ s.me.0.number
+  pub stands_is : stands_by t.me.0 ≡ stands
+  pub few : t.me.0.turn ≤ 2 ^ 48 + 256
+  pub came : t.me.0.taken ≡ s.me.0.taken + gained
+  pub most : t.me.0.taken ≤ 2 ^ 49
+  pub strides : List SemaStride
+  pub path : SemaPath (layout s.me.0.setting) s.me.0.number (placed from (sight_by s.me.0)) strides (sight_by t.me.0)
+  pub told_is : all_told strides ≡ told
+
+-- the seat as it stood, at another place
+abbrev pub moved_to : Token → Place → SeatState
+moved_to s place = record (stands_by s.me.0) { place = place }
+
+-- the same where nothing was told, nothing was come by, and all but the place is as it was
+abbrev pub Moves : Token → Place → Token → Place → Type 0
+Moves s from t place = Walked s from t (moved_to s place) [] 0
+
+-- the seat holds no slot but the record of the root of c, which has the lists that it has seen
+abbrev pub HasRecord : Token → ℕ → Type 0
+HasRecord s c =
+    let z = s.me.0.setting in
+    (treap : Treap) × (s.me.1 ≡ (root z c, Root treap) ∷ []) × IsRecord z (root z c) treap (lists_by z s.me.0.seen)
+
+-- the row ran that takes the lock, and the record came with it
+abbrev pub Locked : Token → Place → Token → Type 0
+Locked s place t = Walked s place t (moved_to s (locked place)) [] 0 × HasRecord t (counter_at place)
+
+-- it stands here, and holds the record of the root of its call's counter
+abbrev pub Holds : TableModel → Token → Place → Type 0
+Holds t s place = Stands t s place × HasRecord s (counter_at place)
+
+-- fewer wait at the root of c than there are seats
+abbrev pub HasRoom : Token → ℕ → Type 0
+HasRoom s c =
+    let z = s.me.0.setting in total (length z.starts) (λ d. on (root z d) (root z c) (length (lists_by z s.me.0.seen d))) < z.seats
+
+-- what the table says follows R4, where somebody waits at the root
+abbrev pub sought : Token → Release → Place
+sought s r = by_first (lists_by s.me.0.setting s.me.0.seen r.counter) (Releasing r R6) (λ w. Releasing r R5)
+
+-- where a release goes with a wait in hand
+abbrev pub trying : Release → Place
+trying r = if r.handoff then Releasing r R7 else Releasing r R10
+
+-- where a release goes that has given its lock back
+abbrev pub unlocked : Token → Release → Place
+unlocked s r = by_first s.me.0.hand Rest (λ w. trying r)
+
+-- how a seat stands whose wait was queued
+abbrev pub parked : Token → Acquire → SeatState
+parked s a = record { place = Acquiring a (P s.me.0.turn); turn = s.me.0.turn + 1; hand = s.me.0.hand }
+
+-- the entry is the last that the seat has seen
+abbrev pub IsLast : Token → Entry → Type 0
+IsLast s e = (before : List Entry) × (s.me.0.seen ≡ before ++ e ∷ [])
+
+-- how a seat stands that has taken a wait out
+abbrev pub taken_out : Token → Release → WaitId → SeatState
+taken_out s r w = record { place = Releasing r R6; turn = s.me.0.turn; hand = s.me.0.hand ++ w ∷ [] }
+
+-- the row that grants the wait in hand, with a unit or without
+abbrev pub granting : Release → Bool → Place
+granting r true = Releasing r R9
+granting r false = Releasing r R10
+
+-- what was told before it: the unit that was taken for the wait's seat
+abbrev pub taken_for : Release → WaitId → Bool → List Entry
+taken_for r w true = Take r.counter w.seat ∷ []
+taken_for r w false = []
+
+-- that row ran, and the seat is at rest without the wait
+pub record Granted (s : Token) (from : Place) (t : Token) : Type 0 where
+  pub walked : Walked s from t (record { place = Rest; turn = s.me.0.turn; hand = drop 1 s.me.0.hand }) [] 0
+  pub stride : SemaStride
+  pub strides_are : walked.strides ≡ stride ∷ []
+  pub stood : stride.stood ≡ moved_to s from

@@ -1,0 +1,59 @@
+//! What calls answer.
+
+use crate::seat::{Owing, Seat, Sleeping, Woken};
+use waiters::WaitId;
+
+/// What a try came to.
+#[derive(Clone, Copy, Debug, PartialEq, Eq, Drop)]
+pub enum Tried {
+    /// A unit was taken.
+    Taken,
+    /// There was none.
+    Zero,
+    /// Another took or added one between the two steps.
+    Lost,
+}
+
+/// What adding a unit came to.
+pub enum Posted {
+    /// Nobody waits at the counter's root.
+    Done(Seat),
+    /// Somebody may wait: the seat has to look.
+    Owes(Owing),
+}
+
+/// Why a unit wasn't added, by number.
+#[derive(Clone, Copy, Debug, PartialEq, Eq, Drop)]
+pub enum PostRefused {
+    /// The seat may add no more: `left` is 0.
+    LimitReached = 1,
+}
+
+/// What an acquire came to that went to the lock.
+pub enum Entered {
+    /// A unit was taken under the lock.
+    Taken(Seat),
+    /// There was none, and the seat's wait is queued.
+    Asleep(Sleeping),
+}
+
+/// What a look at a grant came to.
+pub enum Polled {
+    /// Nothing was granted.
+    Still(Sleeping),
+    /// The wait was woken, and the seat has to try for a unit.
+    Woken(Woken),
+    /// The wait was woken with a unit.
+    Handed(Seat),
+}
+
+/// Whom a release woke.
+#[derive(Clone, Copy, Debug, PartialEq, Eq, Drop)]
+pub enum Wake {
+    /// Nobody waits on the counter.
+    Nobody,
+    /// The first wait, which has to try for a unit.
+    One(WaitId),
+    /// The first wait, with a unit.
+    Handed(WaitId),
+}

@@ -1,0 +1,38 @@
+//! The running semaphore table: counters on which the callers' own threads sleep and wake each other, over shared words, after
+//! `semacquire1` and `semrelease1` of Go's `runtime/sema.go`.
+//!
+//! A counter holds units. [`SemaTable::try_acquire`] takes one where there is one; [`SemaTable::enter`] goes to the lock of the
+//! counter's root and queues the seat's wait there, [`SemaTable::poll`] looks whether the wait was granted, and
+//! [`SemaTable::retry`] tries once it was. [`SemaTable::post`] adds a unit, and [`SemaTable::wake`] takes the first wait out and
+//! grants it. Each atomic step is one row of the step table, in every schedule, and the contract of a call is the rows that it ran
+//! and the entries of the journal that they told; [`law_of_the_table`] says that the table is lawful between any two of them.
+//!
+//! A table has 1 to 65,536 counters, 1 to 256 seats and 1 to 251 roots; a counter starts below 2^32, and a seat adds at most
+//! 2^40 units. [`SemaTable::new`] names the first of these limits that isn't kept, or want of memory, and takes all memory that the
+//! table ever takes. After it the one refusal is [`PostRefused::LimitReached`]. A seat is used by one thread at a time, since
+//! it is moved or lent. `enter`, `retry` and `wake` may wait for a root's lock; all other calls end.
+#![tactic(auto)]
+
+mod answers;
+mod laws;
+mod locks;
+mod make;
+mod plays;
+mod polls;
+mod posts;
+mod queueing;
+mod records;
+mod seat;
+mod sema_table;
+mod settings;
+mod setup_error;
+mod tries;
+mod view;
+mod waking;
+
+pub use answers::{Entered, Polled, PostRefused, Posted, Tried, Wake};
+pub use laws::law_of_the_table;
+pub use seat::{Owing, Seat, Sleeping, Woken};
+pub use sema_table::SemaTable;
+pub use settings::Settings;
+pub use setup_error::SetupError;

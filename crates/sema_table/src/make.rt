@@ -1,0 +1,150 @@
+//! How a table is made.
+ghost use Rattle.std.specs.Prelude.{◌≡◌, ℕ, ◌+◌, ◌^◌, ◌<◌, ◌≤◌, ◌++◌, [], replicate, All, IfOk, OnOk, IfErr};
+ghost use Rattle.sema_table.specs.declared.view.Setting.{Setting};
+ghost use Rattle.sema_table.specs.Rule.{fresh};
+ghost use Rattle.sema_table.specs.Seats.{table_of};
+ghost use Rattle.sema_table.specs.Making.{AreAllowed, IsRefused, IsMade, new_root, new_roots};
+ghost use Rattle.sema_table.specs.Making as making;
+
+use crate::plays::{Make, OneWorld, Token};
+use crate::seat::{Numbers, Seat};
+use crate::sema_table::SemaTable;
+use crate::settings::Settings;
+use crate::setup_error::SetupError;
+use crate::view::{Record, View};
+use atomic_table::Table;
+use sema_root::TreapRoot;
+use std::alloc::{AllocError, Global};
+use waiters::NoMemory;
+
+/// The most counters of a table.
+const MAX_COUNTERS: usize = 65_536;
+/// The most seats.
+const MAX_SEATS: u32 = 256;
+/// The most roots.
+const MAX_ROOTS: u32 = 251;
+/// The most units that each seat may add.
+const MAX_RELEASE_LIMIT: u64 = 1 << 40;
+
+/// Whether the settings are within all limits, or else the first that isn't kept.
+fn check(settings: &Settings) -> Result<(), SetupError>
+    ensures ok { OnOk result (AreAllowed settings.now) }
+    ensures err { IfErr result (λ refused. IsRefused settings.now refused) }
+{
+    let counters = settings.starts.len();
+    if counters == 0 || counters > MAX_COUNTERS {
+        return Err(SetupError::Counters);
+    }
+    if settings.seats == 0 || settings.seats > MAX_SEATS {
+        return Err(SetupError::Seats);
+    }
+    if settings.roots == 0 || settings.roots > MAX_ROOTS {
+        return Err(SetupError::Roots);
+    }
+    if settings.release_limit == 0 || settings.release_limit > MAX_RELEASE_LIMIT {
+        return Err(SetupError::ReleaseLimit);
+    }
+    Ok(())
+}
+
+/// A seat that has run nothing.
+fn new_seat(token: Token, number: u16, limit: u64) -> Seat
+    requires fresh { (z : Setting) × (made : ℕ) × (token.me ≡ (fresh z number made, [])) × (z.limit ≡ limit)
+        × (number < z.seats) }
+    requires limit { limit ≤ 2 ^ 40 }
+    ensures { result ≡ making.new_seat (table_of token) number }
+{
+    Seat {
+        token,
+        numbers: Numbers {
+            seat: number,
+            left: limit,
+            turns: 0,
+            taken: 0,
+        },
+    }
+}
+
+/// The number at which each counter starts, and a 0 for each other word.
+fn first_words(alloc: Global, settings: &Settings) -> Result<Vec<u64>, AllocError>
+    requires { AreAllowed settings.now }
+    ensures words { IfOk result (λ words. words.items
+        ≡ settings.now.starts.items ++ replicate (settings.now.roots + settings.now.roots + settings.now.seats) 0) }
+    ensures starts { OnOk result (All (λ start. start < 2 ^ 32) settings.now.starts.items) }
+{
+    let roots = settings.roots as usize;
+    let all = settings.starts.len() + roots + roots + settings.seats as usize;
+    let mut words = Vec::with_capacity(alloc, all)?;
+    for start in &settings.starts {
+        words.push_reserved(u64::from(*start));
+    }
+    words.resize(all, 0)?;
+    Ok(words)
+}
+
+/// A root where nobody waits.
+fn empty_root(alloc: Global, seats: u16, seed: u64) -> Result<Record, NoMemory>
+    ensures { IfOk result (λ root. root ≡ new_root seats seed) }
+{
+    Ok(Record::Root(TreapRoot::with_room(alloc, seats, seed)?))
+}
+
+/// The roots in the order of their numbers. Each draws its tickets from the seed plus its number.
+fn empty_roots(alloc: Global, seats: u16, roots: u32, seed: u64) -> Result<Vec<Record>, NoMemory>
+    ensures { IfOk result (λ made. made.items ≡ new_roots seats seed roots) }
+{
+    let mut made = Vec::with_capacity(alloc, roots as usize)?;
+    for root in 0..roots {
+        made.push_reserved(empty_root(alloc, seats, seed.wrapping_add(u64::from(root)))?);
+    }
+    Ok(made)
+}
+
+/// A table and its seats, in the order of their numbers.
+fn make(alloc: Global, settings: Settings) -> Result<(SemaTable, Vec<Seat>), NoMemory>
+    requires { AreAllowed settings }
+    ensures { IfOk result (λ t. IsMade settings t.0 t.1.items) }
+{
+    let seats = settings.seats as u16;
+    let limit = settings.release_limit;
+    let words = first_words(alloc, &settings)?;
+    let slots = empty_roots(alloc, seats, settings.roots, settings.seed)?;
+    let mut made = Vec::with_capacity(alloc, usize::from(seats))?;
+    let Ok((table, mut first)) = Table::<Record, View, Settings, OneWorld, Global>::new(
+        alloc,
+        words.as_slice(),
+        slots,
+        &settings,
+    ) else {
+        return Err(NoMemory);
+    };
+    for number in 1..seats {
+        let token = table.shared.split_seat::<Make>(&mut first);
+        made.push_reserved(new_seat(token, number, limit));
+    }
+    let Ok(()) = made.insert(0, new_seat(first, 0, limit)) else {
+        return Err(NoMemory);
+    };
+    let table = SemaTable {
+        table,
+        counters: settings.starts.len() as u32,
+        roots: settings.roots,
+    };
+    Ok((table, made))
+}
+
+impl SemaTable {
+    /// A table with these settings, and its seats in the order of their numbers. An error has made nothing: settings out of
+    /// their limits, or no memory for what they ask.
+    pub fn new(alloc: Global, settings: Settings) -> Result<(SemaTable, Vec<Seat>), SetupError>
+        ensures ok { IfOk result (λ t. IsMade settings t.0 t.1.items) }
+        ensures own { IfOk result (λ t. All (λ s. s.table ≡ t.0) t.1.items) }
+        ensures err { IfErr result (λ refused. IsRefused settings refused) }
+    {
+        check(&settings)?;
+        match make(alloc, settings) {
+            Ok(made) => Ok(made),
+            Err(NoMemory) => Err(SetupError::NoMemory),
+        }
+    }
+}

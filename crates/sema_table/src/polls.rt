@@ -1,0 +1,97 @@
+//! A seat whose wait is queued looks whether it was granted.
+ghost use Rattle.std.specs.Prelude.{◌≡◌, [], ◌∷◌, MatchBool};
+ghost use Rattle.step_table.specs.declared.entry.Entry.TheVariants.{Take};
+ghost use Rattle.step_table.specs.declared.place.Place.TheVariants.{Rest, Acquiring};
+ghost use Rattle.step_table.specs.declared.place.AcquireRow.TheVariants.{A3, A10};
+ghost use Rattle.sema_table.specs.Walks.{Stands, Walked, Moves, moved_to};
+ghost use Rattle.sema_table.specs.Waking.{IsPolled, IsRetried};
+
+use crate::answers::{Entered, Polled};
+use crate::plays::{Goes, Receives, Token};
+use crate::seat::{Numbers, Seat, Sleeping, Woken};
+use crate::sema_table::SemaTable;
+use std::sync::Wait;
+use step_table::Acquire;
+
+impl SemaTable {
+    /// Looks at the seat's grant word once, and takes what is granted.
+    pub fn poll(&self, sleeping: Sleeping) -> Polled
+        requires { sleeping.table ≡ self.now }
+        ensures { IsPolled sleeping result }
+    {
+        let Sleeping {
+            mut token,
+            numbers,
+            call,
+            turn,
+        } = sleeping;
+        let word = self.grant_word(numbers.seat);
+        // Taken in the same step: a grant that stayed would wake the seat's next wait too.
+        let found = self.table.shared.swap::<Receives>(&mut token, word, 0);
+        if found == 0 {
+            return Polled::Still(Sleeping {
+                token,
+                numbers,
+                call,
+                turn,
+            });
+        }
+        if found == 1 {
+            return Polled::Woken(Woken {
+                token,
+                numbers,
+                call,
+            });
+        }
+        let numbers = Numbers {
+            taken: numbers.taken + 1,
+            ..numbers
+        };
+        Polled::Handed(Seat { token, numbers })
+    }
+
+    /// The try of a seat that was woken without a unit, and where it finds none, the way to the lock again, with the same
+    /// counter and lifo (Go's `semacquire1` after `goparkunlock`).
+    pub fn retry<R: Wait>(&self, rt: &R, woken: Woken) -> Entered
+        requires { woken.table ≡ self.now }
+        ensures { IsRetried woken result }
+    {
+        let Woken {
+            mut token,
+            numbers,
+            call,
+        } = woken;
+        if self.try_again(rt, &mut token, &call) {
+            let numbers = Numbers {
+                taken: numbers.taken + 1,
+                ..numbers
+            };
+            return Entered::Taken(Seat { token, numbers });
+        }
+        self.enter_at_lock(rt, token, numbers, call)
+    }
+
+    /// A10, and A11 where A10 read more than 0, until one of them settles it: whether a unit was taken.
+    fn try_again<R: Wait>(&self, rt: &R, token: &mut Token, call: &Acquire) -> bool
+        requires { Stands self.now token.old (Acquiring call.now A10) }
+        ensures slots { token.new.me.1 ≡ token.old.me.1 }
+        ensures settled { MatchBool result
+            (Walked token.old (Acquiring call.now A10) token.new (moved_to token.old Rest)
+            (Take call.now.counter token.old.me.0.number ∷ []) 1)
+            (Moves token.old (Acquiring call.now A10) token.new (Acquiring call.now A3)) }
+    {
+        let word = call.counter.number() as usize;
+        let shared = &self.table.shared;
+        for _ in rt.forever() {
+            let found = shared.load::<Goes>(token, word);
+            // On 0 the seat goes to the lock, and does not look again: it would miss what is told to those who wait.
+            if found == 0 {
+                return false;
+            }
+            if shared.compare_exchange::<Goes>(token, word, found, found - 1) == found {
+                return true;
+            }
+        }
+        unreachable!()
+    }
+}

@@ -1,0 +1,43 @@
+//! A release up to its look for a wait.
+ghost use Rattle.std.specs.Prelude.{◌≡◌, ◌<◌, length, MatchResult, IfErr};
+ghost use Rattle.sema_table.specs.Tries.{IsPosted};
+
+use crate::answers::{PostRefused, Posted};
+use crate::plays::{Adds, Goes};
+use crate::seat::{Numbers, Owing, Seat};
+use crate::sema_table::SemaTable;
+use waiters::CounterId;
+
+impl SemaTable {
+    /// Adds a unit, and looks whether somebody waits at the counter's root (Go's `semrelease1` up to its `nwait`). The seat
+    /// comes back with nothing changed exactly where it may add no more.
+    #[inline]
+    pub fn post(&self, seat: Seat, counter: CounterId) -> Result<Posted, (Seat, PostRefused)>
+        requires { (seat.table ≡ self.now) × (counter < length self.now.setting.starts) }
+        ensures answer { MatchResult result
+            (λ posted. (0 < seat.left) × IsPosted seat counter posted)
+            (λ refused. (seat.left ≡ 0) × (refused.0 ≡ seat)) }
+    {
+        if seat.numbers.left == 0 {
+            return Err((seat, PostRefused::LimitReached));
+        }
+        let Seat { mut token, numbers } = seat;
+        let counter = counter.number();
+        let shared = &self.table.shared;
+        // Added before the look: a look that came first could read 0 while an acquire is about to read 0 and sleep.
+        shared.fetch_add::<Adds>(&mut token, counter as usize, 1);
+        let numbers = Numbers {
+            left: numbers.left - 1,
+            ..numbers
+        };
+        let word = self.waiter_word(CounterId::new(counter));
+        if shared.load::<Goes>(&mut token, word) == 0 {
+            return Ok(Posted::Done(Seat { token, numbers }));
+        }
+        Ok(Posted::Owes(Owing {
+            token,
+            numbers,
+            counter,
+        }))
+    }
+}

@@ -1,0 +1,146 @@
+//! An acquire from its root's lock on.
+ghost use Rattle.std.specs.Prelude.{◌≡◌, ◌+◌, ◌<◌, [], ◌∷◌, length, MatchBool};
+ghost use Rattle.step_table.specs.declared.entry.Entry.TheVariants.{Take, Queue};
+ghost use Rattle.step_table.specs.declared.place.Place.TheVariants.{Rest, Acquiring};
+ghost use Rattle.step_table.specs.declared.place.AcquireRow.TheVariants.{A3, A4, A5, A7, A8, A9, P};
+ghost use Rattle.sema_table.specs.Places.{Begins};
+ghost use Rattle.sema_table.specs.Seats.{IsToken, table_of, seat_of};
+ghost use Rattle.sema_table.specs.Waking.{acquire_of, IsEntered};
+ghost use Rattle.sema_table.specs.Walks.{Stands, Holds, Walked, Moves, HasRecord, HasRoom, IsLast, moved_to, parked};
+
+use crate::answers::Entered;
+use crate::plays::{Gives, Goes, Token};
+use crate::seat::{Numbers, Seat, Sleeping};
+use crate::sema_table::SemaTable;
+use sema_root::RootStore;
+use std::sync::Wait;
+use step_table::{Acquire, AcquireRow, Place};
+use waiters::{CounterId, SeatId, WaitId};
+
+impl SemaTable {
+    /// Goes to the lock of the counter's root, takes a unit that is there when the lock is held, or queues a wait (Go's
+    /// `semacquire1` from `lockWithRank` to `goparkunlock`).
+    pub fn enter<R: Wait>(&self, rt: &R, seat: Seat, counter: CounterId, lifo: bool) -> Entered
+        requires { (seat.table ≡ self.now) × (counter < length self.now.setting.starts) }
+        ensures { IsEntered seat (acquire_of counter lifo) (Acquiring (acquire_of counter lifo) A3) result }
+    {
+        let Seat { token, numbers } = seat;
+        self.enter_at_lock(rt, token, numbers, Acquire { counter, lifo })
+    }
+
+    /// The rows from A3 on.
+    #[inline(never)]
+    pub(crate) fn enter_at_lock<R: Wait>(
+        &self,
+        rt: &R,
+        token: Token,
+        numbers: Numbers,
+        call: Acquire,
+    ) -> Entered
+        requires seat { IsToken token numbers × (table_of token ≡ self.now) }
+        requires call { (call.counter < length self.now.setting.starts)
+            × Begins (length self.now.setting.starts) token.me.0.place (Acquiring call A3) }
+        ensures { IsEntered (seat_of token numbers) call (Acquiring call A3) result }
+    {
+        let mut token = token;
+        let place = Place::Acquiring(call, AcquireRow::A3);
+        self.lock(rt, &mut token, call.counter, &place);
+        self.raise(&mut token, &call);
+        if self.look_again(rt, &mut token, &call) {
+            self.lower(&mut token, &call);
+            self.unlock_taken(&mut token, &call);
+            let numbers = Numbers {
+                taken: numbers.taken + 1,
+                ..numbers
+            };
+            return Entered::Taken(Seat { token, numbers });
+        }
+        let turn = numbers.turns;
+        let id = WaitId {
+            seat: SeatId::new(numbers.seat),
+            turn,
+        };
+        self.queue(&mut token, &call, waiters::Wait { id, ticket: 0 });
+        let numbers = Numbers {
+            turns: turn + 1,
+            ..numbers
+        };
+        Entered::Asleep(Sleeping {
+            token,
+            numbers,
+            call,
+            turn,
+        })
+    }
+
+    /// A4. Raised before the second look: a release that adds its unit after that look finds the word above 0. Raised later,
+    /// the release could come in between and find nobody, and this seat would sleep beside a unit.
+    fn raise(&self, token: &mut Token, call: &Acquire)
+        requires { Holds self.now token.old (Acquiring call.now A4) }
+        ensures { Moves token.old (Acquiring call.now A4) token.new (Acquiring call.now A5) × HasRecord token.new call.now.counter }
+    {
+        let word = self.waiter_word(call.counter);
+        self.table.shared.fetch_add::<Goes>(token, word, 1);
+    }
+
+    /// A5, and A6 where A5 read more than 0, until one of them settles it: whether a unit was taken. The second look: a release
+    /// that came since the first may have found the waiter word at 0 and gone.
+    fn look_again<R: Wait>(&self, rt: &R, token: &mut Token, call: &Acquire) -> bool
+        requires { Holds self.now token.old (Acquiring call.now A5) }
+        ensures record { HasRecord token.new call.now.counter }
+        ensures settled { MatchBool result
+            (Walked token.old (Acquiring call.now A5) token.new (moved_to token.old (Acquiring call.now A8))
+            (Take call.now.counter token.old.me.0.number ∷ []) 1)
+            (Moves token.old (Acquiring call.now A5) token.new (Acquiring call.now A7) × HasRoom token.new call.now.counter) }
+    {
+        let word = call.counter.number() as usize;
+        let shared = &self.table.shared;
+        for _ in rt.forever() {
+            let found = shared.load::<Goes>(token, word);
+            if found == 0 {
+                return false;
+            }
+            // Lost only to a try or a release, which take no lock: then the counter is looked at anew.
+            if shared.compare_exchange::<Goes>(token, word, found, found - 1) == found {
+                return true;
+            }
+        }
+        unreachable!()
+    }
+
+    /// A8. The seat queues no wait: a word left raised would send every release of the root to the lock.
+    fn lower(&self, token: &mut Token, call: &Acquire)
+        requires { Holds self.now token.old (Acquiring call.now A8) }
+        ensures { Moves token.old (Acquiring call.now A8) token.new (Acquiring call.now A9) × HasRecord token.new call.now.counter }
+    {
+        let word = self.waiter_word(call.counter);
+        self.table.shared.fetch_sub::<Goes>(token, word, 1);
+    }
+
+    /// A9.
+    fn unlock_taken(&self, token: &mut Token, call: &Acquire)
+        requires { Holds self.now token.old (Acquiring call.now A9) }
+        ensures { Moves token.old (Acquiring call.now A9) token.new Rest × (token.new.me.1 ≡ []) }
+    {
+        let word = self.lock_word(call.counter);
+        self.table.shared.store::<Gives>(token, word, 0);
+    }
+
+    /// A7. Queued in the hold of the lock in which 0 was read: a release that saw the waiter word waits for this lock, and finds
+    /// the wait.
+    fn queue(&self, token: &mut Token, call: &Acquire, wait: waiters::Wait)
+        requires seat { Stands self.now token.old (Acquiring call.now A7) × HasRecord token.old call.now.counter
+            × HasRoom token.old call.now.counter }
+        requires wait { wait.id ≡ record { seat = token.old.me.0.number; turn = token.old.me.0.turn } }
+        ensures walked { Walked token.old (Acquiring call.now A7) token.new (parked token.old call.now)
+            (Queue call.now.counter wait.id call.now.lifo ∷ []) 0 }
+        ensures bare { token.new.me.1 ≡ [] }
+        ensures last { IsLast token.new (Queue call.now.counter wait.id call.now.lifo) }
+    {
+        let mut root = self.take_root(token, call.counter);
+        root.queue(call.counter, wait, call.lifo);
+        self.put_root(token, call.counter, root);
+        let word = self.lock_word(call.counter);
+        self.table.shared.store::<Gives>(token, word, 0);
+    }
+}

@@ -1,0 +1,125 @@
+//! A seat between two calls, and what it is in the middle of one.
+ghost use Rattle.std.specs.Prelude.{◌≡◌};
+ghost use Rattle.sema_table.specs.Seats.{IsWaitOf};
+
+use crate::plays::Token;
+use std::marker::Model;
+use step_table::Acquire;
+use waiters::{SeatId, WaitId};
+
+/// A seat between two calls.
+#[derive(Drop)]
+pub struct Seat {
+    pub(crate) token: Token,
+    pub(crate) numbers: Numbers,
+}
+
+/// What a seat counts.
+#[derive(Clone, Copy, Drop)]
+pub(crate) struct Numbers {
+    /// Its own number.
+    pub(crate) seat: u16,
+    /// How many units more it may add.
+    pub(crate) left: u64,
+    /// How many waits it has queued.
+    pub(crate) turns: u64,
+    /// How many units it was given.
+    pub(crate) taken: u64,
+}
+
+/// A seat that has added a unit, and has yet to look for a wait. It must be spent, by `wake`.
+pub struct Owing {
+    pub(crate) token: Token,
+    pub(crate) numbers: Numbers,
+    pub(crate) counter: u32,
+}
+
+/// A seat whose wait is queued. It must be spent, by `poll`.
+pub struct Sleeping {
+    pub(crate) token: Token,
+    pub(crate) numbers: Numbers,
+    pub(crate) call: Acquire,
+    pub(crate) turn: u64,
+}
+
+/// A seat that was woken without a unit. It must be spent, by `retry`.
+pub struct Woken {
+    pub(crate) token: Token,
+    pub(crate) numbers: Numbers,
+    pub(crate) call: Acquire,
+}
+
+impl Model for Seat {
+    ghost use Rattle.sema_table.specs.Seats.{SeatModel, seat_of, IsSeat};
+
+    ghost Value = { SeatModel };
+
+    ghost view = { λ s. seat_of s.token s.numbers };
+
+    ghost invariant = { λ s. IsSeat s.token s.numbers };
+}
+
+impl Model for Owing {
+    ghost use Rattle.sema_table.specs.Seats.{SeatModel, seat_of, IsOwing};
+
+    ghost Value = { SeatModel };
+
+    ghost view = { λ s. seat_of s.token s.numbers };
+
+    ghost invariant = { λ s. IsOwing s.token s.numbers s.counter };
+}
+
+impl Model for Sleeping {
+    ghost use Rattle.sema_table.specs.Seats.{SeatModel, seat_of, IsSleeping};
+
+    ghost Value = { SeatModel };
+
+    ghost view = { λ s. seat_of s.token s.numbers };
+
+    ghost invariant = { λ s. IsSleeping s.token s.numbers s.call s.turn };
+}
+
+impl Model for Woken {
+    ghost use Rattle.sema_table.specs.Seats.{SeatModel, seat_of, IsWoken};
+
+    ghost Value = { SeatModel };
+
+    ghost view = { λ s. seat_of s.token s.numbers };
+
+    ghost invariant = { λ s. IsWoken s.token s.numbers s.call };
+}
+
+impl Seat {
+    /// Which seat it is.
+    pub fn id(&self) -> SeatId
+        ensures { result ≡ self.now.number }
+    {
+        SeatId::new(self.numbers.seat)
+    }
+
+    /// How many units more the seat may add: its release limit less what it has added.
+    pub fn left(&self) -> u64
+        ensures { result ≡ self.now.left }
+    {
+        self.numbers.left
+    }
+
+    /// How many units the seat was given.
+    pub fn taken(&self) -> u64
+        ensures { result ≡ self.now.taken }
+    {
+        self.numbers.taken
+    }
+}
+
+impl Sleeping {
+    /// The wait that is queued.
+    pub fn id(&self) -> WaitId
+        ensures { IsWaitOf self.now result }
+    {
+        WaitId {
+            seat: SeatId::new(self.numbers.seat),
+            turn: self.turn,
+        }
+    }
+}

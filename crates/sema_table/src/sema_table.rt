@@ -1,0 +1,79 @@
+//! The table that the threads of a caller share.
+ghost use Rattle.std.specs.Prelude.{◌≡◌, ◌<◌, length};
+ghost use Rattle.step_table.specs.declared.word.Word.TheVariants.{Lock, Waiters, Grant};
+ghost use Rattle.sema_table.specs.Setting.{root, address};
+
+use crate::plays::OneWorld;
+use crate::settings::Settings;
+use crate::view::{Record, View};
+use atomic_table::Table;
+use std::alloc::Global;
+use std::marker::Model;
+use waiters::CounterId;
+
+/// Counters, on which seats sleep and wake each other. Its calls take `&self` and a seat, so threads share it in an `Arc`.
+#[derive(Drop)]
+pub struct SemaTable {
+    pub(crate) table: Table<Record, View, Settings, OneWorld, Global>,
+    pub(crate) counters: u32,
+    pub(crate) roots: u32,
+}
+
+impl Model for SemaTable {
+    ghost use Rattle.sema_table.specs.Seats.{TableModel};
+    ghost use Rattle.sema_table.specs.Rule.{setting_of};
+    ghost use Rattle.sema_table.specs.Shared.{IsTable};
+
+    ghost Value = { TableModel };
+
+    ghost view = { λ t. record { id = t.table.shared.table_id; setting = setting_of t.table.shared.key } };
+
+    ghost invariant = { λ t. IsTable t.table.shared.table_id (setting_of t.table.shared.key) t.counters t.roots };
+}
+
+impl SemaTable {
+    /// How many counters there are.
+    pub fn counters(&self) -> u32
+        ensures { result ≡ length self.now.setting.starts }
+    {
+        self.counters
+    }
+
+    /// The root of a counter. A number below that of the roots is its own, and isn't divided: that takes as long as a step.
+    #[inline]
+    pub(crate) fn root_of(&self, counter: CounterId) -> usize
+        ensures { result ≡ root self.now.setting counter }
+    {
+        let number = counter.number();
+        if number < self.roots {
+            return number as usize;
+        }
+        (number % self.roots) as usize
+    }
+
+    /// Where the lock of a counter's root lies.
+    pub(crate) fn lock_word(&self, counter: CounterId) -> usize
+        ensures at { result ≡ address self.now.setting (Lock counter) }
+        ensures low { result < self.now.id.words }
+    {
+        self.counters as usize + self.root_of(counter)
+    }
+
+    /// Where the waiter word of a counter's root lies.
+    pub(crate) fn waiter_word(&self, counter: CounterId) -> usize
+        ensures at { result ≡ address self.now.setting (Waiters counter) }
+        ensures low { result < self.now.id.words }
+    {
+        self.counters as usize + self.roots as usize + self.root_of(counter)
+    }
+
+    /// Where the grant word of a seat lies.
+    pub(crate) fn grant_word(&self, seat: u16) -> usize
+        requires { seat < self.now.setting.seats }
+        ensures at { result ≡ address self.now.setting (Grant seat) }
+        ensures low { result < self.now.id.words }
+    {
+        let roots = self.roots as usize;
+        self.counters as usize + roots + roots + seat as usize
+    }
+}

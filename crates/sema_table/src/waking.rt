@@ -1,0 +1,183 @@
+//! A release from its root's lock on.
+ghost use Rattle.std.specs.Prelude.{◌≡◌, ◌<◌, true, false, [], ◌∷◌, length, MatchBool, IfSome, IfNone};
+ghost use Rattle.step_table.specs.declared.entry.Entry.TheVariants.{Leave, Take};
+ghost use Rattle.step_table.specs.declared.place.Place.TheVariants.{Rest, Releasing};
+ghost use Rattle.step_table.specs.declared.place.ReleaseRow.TheVariants.{R3, R4, R5, R6, R7, R9, R10};
+ghost use Rattle.sema_table.specs.Seats.{IsToken, table_of, seat_of};
+ghost use Rattle.sema_table.specs.Calls.{IsAt};
+ghost use Rattle.sema_table.specs.Waking.{Wakes, IsWakened};
+ghost use Rattle.sema_table.specs.Walks.{Stands, Holds, Walked, Moves, HasRecord, Granted, moved_to, taken_out, sought, trying, unlocked, granting, taken_for};
+
+use crate::answers::Wake;
+use crate::plays::{Gives, Goes, Stores, Token};
+use crate::seat::{Numbers, Owing, Seat};
+use crate::sema_table::SemaTable;
+use sema_root::RootStore;
+use std::sync::Wait;
+use step_table::{Place, Release, ReleaseRow};
+use waiters::{CounterId, WaitId};
+
+impl SemaTable {
+    /// The rest of a release: takes the counter's first wait out and grants it; with handoff, together with a unit if there is
+    /// one (Go's `semrelease1` from `lockWithRank` on).
+    pub fn wake<R: Wait>(&self, rt: &R, owing: Owing, handoff: bool) -> (Seat, Wake)
+        requires { owing.table ≡ self.now }
+        ensures { IsWakened owing handoff result.0 result.1 }
+    {
+        let Owing {
+            token,
+            numbers,
+            counter,
+        } = owing;
+        self.wake_at_lock(rt, token, numbers, CounterId::new(counter), handoff)
+    }
+
+    /// The rows from R3 on.
+    #[inline(never)]
+    pub(crate) fn wake_at_lock<R: Wait>(
+        &self,
+        rt: &R,
+        token: Token,
+        numbers: Numbers,
+        counter: CounterId,
+        handoff: bool,
+    ) -> (Seat, Wake)
+        requires seat { IsToken token numbers × (table_of token ≡ self.now) }
+        requires call { (counter < length self.now.setting.starts)
+            × (token.me.0.place ≡ Releasing (record { counter = counter; handoff = false }) R3) }
+        ensures { (result.0 ≡ record (seat_of token numbers) { sight = result.0.sight }) × IsAt result.0 Rest
+            × Wakes (seat_of token numbers) (record { counter = counter; handoff = handoff }) result.0 result.1 }
+    {
+        let mut token = token;
+        let place = Place::Releasing(Release { counter, handoff }, ReleaseRow::R3);
+        self.lock(rt, &mut token, counter, &place);
+        let call = Release { counter, handoff };
+        let first = self.take_first(&mut token, &call);
+        self.unlock_released(&mut token, &call);
+        let Some(id) = first else {
+            return (Seat { token, numbers }, Wake::Nobody);
+        };
+        let handed = self.take_for(rt, &mut token, &call, &id);
+        self.grant(&mut token, &call, &id, handed);
+        if handed {
+            return (Seat { token, numbers }, Wake::Handed(id));
+        }
+        (Seat { token, numbers }, Wake::One(id))
+    }
+
+    /// R4, and R5 where the counter has a wait.
+    fn take_first(&self, token: &mut Token, call: &Release) -> Option<WaitId>
+        requires seat { Stands self.now token.old (Releasing call.now R4) × HasRecord token.old call.now.counter
+            × (token.old.me.0.hand ≡ []) }
+        ensures record { HasRecord token.new call.now.counter }
+        ensures some { IfSome result (λ w.
+            Walked token.old (Releasing call.now R4) token.new (taken_out token.old call.now w)
+            (Leave call.now.counter w token.old.me.0.number ∷ []) 0
+            × (w.seat < self.now.setting.seats)) }
+        ensures none { IfNone result (Moves token.old (Releasing call.now R4) token.new (Releasing call.now R6)) }
+        ensures stands { Stands self.now token.new (Releasing call.now R6) }
+    {
+        if !self.look_for_waits(token, call) {
+            return None;
+        }
+        self.take_out(token, call)
+    }
+
+    /// R4: whether somebody waits at the root. Looked at again under the lock: since R2 the waiter may have taken the unit itself,
+    /// or another release may have taken it out.
+    fn look_for_waits(&self, token: &mut Token, call: &Release) -> bool
+        requires { Holds self.now token.old (Releasing call.now R4) }
+        ensures record { HasRecord token.new call.now.counter }
+        ensures found { MatchBool result
+            (Moves token.old (Releasing call.now R4) token.new (sought token.new call.now))
+            (Moves token.old (Releasing call.now R4) token.new (Releasing call.now R6)) }
+    {
+        let word = self.waiter_word(call.counter);
+        self.table.shared.load::<Goes>(token, word) != 0
+    }
+
+    /// R5 where the counter has a wait, and else nothing. Under the lock and with the word lowered: after the lock two releases
+    /// could take one wait, and a word left behind would send every later release to the lock.
+    fn take_out(&self, token: &mut Token, call: &Release) -> Option<WaitId>
+        requires seat { Stands self.now token.old (sought token.old call.now) × HasRecord token.old call.now.counter
+            × (token.old.me.0.hand ≡ []) }
+        ensures record { HasRecord token.new call.now.counter }
+        ensures some { IfSome result (λ w.
+            Walked token.old (Releasing call.now R5) token.new (taken_out token.old call.now w)
+            (Leave call.now.counter w token.old.me.0.number ∷ []) 0
+            × (token.old.me.0.place ≡ Releasing call.now R5) × (w.seat < self.now.setting.seats)) }
+        ensures none { IfNone result ((token.old.me.0.place ≡ Releasing call.now R6)
+            × (token.new.table_id ≡ token.old.table_id) × (token.new.me.0 ≡ token.old.me.0)) }
+    {
+        let mut root = self.take_root(token, call.counter);
+        let first = root.dequeue(call.counter);
+        self.put_root(token, call.counter, root);
+        let wait = first?;
+        let word = self.waiter_word(call.counter);
+        self.table.shared.fetch_sub::<Goes>(token, word, 1);
+        Some(wait.id)
+    }
+
+    /// R6. Given back before the waiter is told: told earlier, it would run into the lock that is still held.
+    fn unlock_released(&self, token: &mut Token, call: &Release)
+        requires { Holds self.now token.old (Releasing call.now R6) }
+        ensures { Moves token.old (Releasing call.now R6) token.new (unlocked token.old call.now) × (token.new.me.1 ≡ []) }
+    {
+        let word = self.lock_word(call.counter);
+        self.table.shared.store::<Gives>(token, word, 0);
+    }
+
+    /// R7 and R8 of a release with handoff, and else nothing: whether a unit was taken for the wait in hand.
+    fn take_for<R: Wait>(&self, rt: &R, token: &mut Token, call: &Release, id: &WaitId) -> bool
+        requires { Stands self.now token.old (trying call.now) × (token.old.me.0.hand ≡ id.now ∷ []) }
+        ensures slots { token.new.me.1 ≡ token.old.me.1 }
+        ensures walked { Walked token.old (trying call.now) token.new (moved_to token.old (granting call.now result))
+            (taken_for call.now id.now result) 0 }
+        ensures asked { result ≡ true → call.now.handoff ≡ true }
+    {
+        if !call.handoff {
+            return false;
+        }
+        self.take_unit(rt, token, call, id)
+    }
+
+    /// R7, and R8 where R7 read more than 0, until one of them settles it: whether a unit was taken for the wait in hand. A unit
+    /// is looked for, not assumed: a seat that never slept may have taken the one that was added.
+    fn take_unit<R: Wait>(&self, rt: &R, token: &mut Token, call: &Release, id: &WaitId) -> bool
+        requires { Stands self.now token.old (Releasing call.now R7) × (token.old.me.0.hand ≡ id.now ∷ []) }
+        ensures slots { token.new.me.1 ≡ token.old.me.1 }
+        ensures settled { MatchBool result
+            (Walked token.old (Releasing call.now R7) token.new (moved_to token.old (Releasing call.now R9))
+            (Take call.now.counter id.now.seat ∷ []) 0)
+            (Moves token.old (Releasing call.now R7) token.new (Releasing call.now R10)) }
+    {
+        let word = call.counter.number() as usize;
+        let shared = &self.table.shared;
+        for _ in rt.forever() {
+            let found = shared.load::<Goes>(token, word);
+            if found == 0 {
+                return false;
+            }
+            if shared.compare_exchange::<Goes>(token, word, found, found - 1) == found {
+                return true;
+            }
+        }
+        unreachable!()
+    }
+
+    /// R9 where a unit was taken for the wait in hand, and else R10: its seat is granted.
+    fn grant(&self, token: &mut Token, call: &Release, id: &WaitId, handed: bool)
+        requires seat { Stands self.now token.old (granting call.now handed) × (token.old.me.0.hand ≡ id.now ∷ []) }
+        requires there { id.now.seat < self.now.setting.seats }
+        ensures granted { Granted token.old (granting call.now handed) token.new }
+        ensures slots { token.new.me.1 ≡ token.old.me.1 }
+    {
+        let word = self.grant_word(id.seat.number());
+        let shared = &self.table.shared;
+        if handed {
+            shared.store::<Stores>(token, word, 2);
+            return;
+        }
+        shared.store::<Stores>(token, word, 1);
+    }
+}

@@ -1,0 +1,110 @@
+//! What the running table costs beside the machine's own words, in nanoseconds an operation: `table_bench TURNS` prints a line for
+//! each case.
+//!
+//! `pair` adds a unit and takes it again, by one seat, with nobody waiting; `cycle` lets one seat queue its wait, another release
+//! and wake it, and the first take the unit, all in one thread. `pair words` and `cycle words` touch plain atomic words in the
+//! same way and the same order: the least that such a table can cost.
+#![tactic(auto)]
+
+ghost use Rattle.std.specs.Prelude.{◌≡◌, ◌<◌, length};
+
+mod cases;
+mod words;
+
+use crate::words::Words;
+use anyhow::{Result, bail};
+use sema_table::{Seat, SemaTable, Settings};
+use std::alloc::Global;
+use std::env;
+use std::num::NonZeroU32;
+use std::sync::Wait;
+use std::time::{Clock, Instant};
+
+/// Tells what a turn of so many cost since the start.
+fn tell(rt: &(impl Clock + Print), case: &str, start: &Instant, turns: u32) -> Result<()>
+    requires { 0 < turns }
+{
+    let tenths = start.elapsed(rt)?.as_nanos() / u128::from(turns / 10 + 1);
+    println!(rt; "{case} ns/op={}.{}", tenths / 10, tenths % 10)?;
+    Ok(())
+}
+
+/// The least that a pair and a cycle cost.
+fn time_words(rt: &(impl Clock + Print), turns: u32) -> Result<()>
+    requires { 0 < turns }
+{
+    let words = Words::new();
+    let mut seen: u64 = 0;
+    let start = Instant::now(rt)?;
+    for _ in 0..turns {
+        seen = seen.wrapping_add(words.pair());
+    }
+    tell(rt, "pair words", &start, turns)?;
+    let start = Instant::now(rt)?;
+    for _ in 0..turns {
+        seen = seen.wrapping_add(words.cycle());
+    }
+    tell(rt, "cycle words", &start, turns)?;
+    println!(rt; "seen {seen}")?;
+    Ok(())
+}
+
+/// What a pair and a cycle cost.
+fn time_table(
+    rt: &(impl Clock + Print + Wait),
+    table: &SemaTable,
+    first: Seat,
+    second: Seat,
+    turns: u32,
+) -> Result<()>
+    requires turns { 0 < turns }
+    requires seats { (first.table ≡ table.now) × (second.table ≡ table.now) × (0 < length table.now.setting.starts) }
+{
+    let mut first = first;
+    let mut second = second;
+    let start = Instant::now(rt)?;
+    for _ in 0..turns {
+        first = cases::pair(rt, table, first);
+    }
+    tell(rt, "pair", &start, turns)?;
+    let start = Instant::now(rt)?;
+    for _ in 0..turns {
+        (first, second) = cases::cycle(rt, table, first, second);
+    }
+    tell(rt, "cycle", &start, turns)?;
+    Ok(())
+}
+
+/// A table with one counter at 0, at one root, and two seats.
+fn settings(alloc: Global) -> Result<Settings> {
+    Ok(Settings {
+        starts: vec![in alloc; 0]?,
+        seats: 2,
+        roots: 1,
+        seed: 1,
+        release_limit: 1 << 40,
+    })
+}
+
+/// Makes the table, and times it.
+fn time(rt: &(impl Clock + Print + Wait), alloc: Global, turns: u32) -> Result<()>
+    requires { 0 < turns }
+{
+    time_words(rt, turns)?;
+    let Ok((table, mut seats)) = SemaTable::new(alloc, settings(alloc)?) else {
+        bail!("no table")
+    };
+    let (Some(second), Some(first)) = (seats.pop(), seats.pop()) else {
+        bail!("no seats")
+    };
+    time_table(rt, &table, first, second, turns)
+}
+
+fn main(rt: HostRuntime) -> Result<()> {
+    let Some(word) = env::args(&rt)?.nth(1) else {
+        println!(rt; "usage: table_bench TURNS")?;
+        return Ok(());
+    };
+    let turns = word.parse::<NonZeroU32>()?.get();
+    time(&rt, rt.alloc(), turns)
+}
