@@ -1,7 +1,9 @@
 -- The record of a root while a seat holds the root's lock.
-use Rattle.std.proofs.Common.{◌≡◌, ℕ, ◌+◌, ◌<◌, Bool, true, false, List, [], ◌∷◌, length, map, drop, slice_get, Some, sym, refl, ap, ◌∙◌, subst, arith}
+use Rattle.std.proofs.Common.{◌≡◌, ℕ, ◌+◌, ◌<◌, Bool, true, false, List, [], ◌∷◌, length, get_or, map, drop, slice_get, Some, sym, refl, ap, ◌∙◌, subst, arith}
 use Rattle.std.proofs.lemmas.List.{map-append}
 use native.Mathlib.Decide.{ℕ_discrete}
+use Rattle.atomic_table.specs.Table.{rest}
+use Rattle.atomic_table.specs.Lent.{seat_with}
 use Rattle.waiters.specs.declared.wait.Wait.{Wait}
 use Rattle.waiters.specs.declared.wait.WaitId.{WaitId}
 use Rattle.step_table.specs.declared.place.Acquire.{Acquire}
@@ -21,12 +23,13 @@ use Rattle.sema_root.specs.Queues.{waits_on, joined_by, Changes}
 use Rattle.sema_root.specs.Queues as queues
 use Rattle.sema_root.specs.Treap.{Treap, queues_of}
 use Rattle.sema_table.specs.declared.view.Setting.{Setting}
-use Rattle.sema_table.specs.declared.view.Record.TheVariants.{Root}
+use Rattle.sema_table.specs.declared.view.Record.{Record}
+use Rattle.sema_table.specs.declared.view.Record.TheVariants.{Root, Out}
 use Rattle.sema_table.specs.Setting.{root, layout}
 use Rattle.sema_table.specs.Rule.{sight_by, lists_by, IsRecord}
 use Rattle.sema_table.specs.Plays.{Ran, begin}
 use Rattle.sema_table.specs.Seats.{Token, TableModel, table_of}
-use Rattle.sema_table.specs.Walks.{HasRecord, HasRoom}
+use Rattle.sema_table.specs.Walks.{HasRecord, HasRoom, Edited, lists_of}
 use Rattle.sema_table.proofs.Words.{same_record}
 use Rattle.sema_table.proofs.Leading.{Goes}
 
@@ -106,3 +109,24 @@ module _ (z : Setting) (r c : ℕ) (y t : Treap) (l : ℕ → List WaitId) where
 pub first_is : (ws : List Wait) (w : Wait) → slice_get ws 0 ≡ Some w → ws ≡ w ∷ drop 1 ws
 first_is [] w e = absurd (cc)
 first_is (x ∷ ws) w e = cc
+
+-- the seat's one slot, by the number that the table has for it
+pub in_slot : (s : Token) (t : TableModel) (c slot : ℕ) → table_of s ≡ t → slot ≡ root t.setting c → HasRecord s c → (old : Record) × (s.me.1 ≡ (slot, old) ∷ rest s.me.1)
+in_slot s t c slot same is h =
+    let at : root s.me.0.setting c ≡ slot = ap (λ (y : TableModel). root y.setting c) same ∙ sym is in
+    (Root h.0, h.1 ∙ (λ i. (at i, Root h.0) ∷ rest (sym h.1 i)))
+
+-- what is lent is the record
+pub lent_record : (s : Token) (c slot : ℕ) (lent : Record) (treap : Treap) → HasRecord s c → s.me.1 ≡ (slot, lent) ∷ rest s.me.1 → lent ≡ Root treap
+    → IsRecord s.me.0.setting (root s.me.0.setting c) treap (lists_of s)
+lent_record s c slot lent treap h value is = subst (λ (y : Treap). IsRecord s.me.0.setting (root s.me.0.setting c) y (lists_of s)) (by (ap (λ (l : List (ℕ × Record)). (get_or l 0 (0, Out)).1) (sym h.1 ∙ value) ∙ is)) h.2
+  where
+    by : Root h.0 ≡ Root treap → h.0 ≡ treap
+    by e = cc
+
+-- the record is written back to its slot
+pub edited : (s : Token) (t : TableModel) (c slot : ℕ) (treap : Treap) (lists : ℕ → List WaitId) → table_of s ≡ t → slot ≡ root t.setting c → HasRecord s c
+    → IsRecord s.me.0.setting (root s.me.0.setting c) treap lists → Edited s c lists (seat_with s slot (Root treap))
+edited s t c slot treap lists same is h made =
+    let at : slot ≡ root s.me.0.setting c = is ∙ ap (λ (y : TableModel). root y.setting c) (sym same) in
+    (refl, (treap, (λ i. (s.me.0, (at i, Root treap) ∷ rest (h.1 i))), made))

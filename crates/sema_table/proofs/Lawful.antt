@@ -1,17 +1,8 @@
 -- The rule gives the lawful table.
-use Rattle.std.proofs.Common.{◌≡◌, ℕ, refl, subst}
-use Rattle.atomic_table.specs.Table.{State}
-use Rattle.step_table.specs.World.{SemaWorld}
-use Rattle.step_table.specs.Path.{Meets}
-use Rattle.sema_law.specs.SemaPath.{semaphores}
 use Rattle.sema_law.proofs.Promises.{the_law}
 use Rattle.sema_law.proofs.Accounts.{the_accounts}
-use Rattle.sema_table.specs.declared.view.View.{View}
-use Rattle.sema_table.specs.declared.view.Record.{Record}
-use Rattle.sema_table.specs.declared.view.Setting.{Setting}
 use Rattle.sema_table.specs.Setting.{layout}
-use Rattle.sema_table.specs.Rule.{IsKept}
-use Rattle.sema_table.specs.Table.{IsLawfulTable, TheTable}
+use Rattle.sema_table.specs.Table.{TheTable}
 
 pub the_table : TheTable
 the_table z s kept = record {

@@ -70,6 +70,17 @@ HasRecord s c =
     let z = s.me.0.setting in
     (treap : Treap) × (s.me.1 ≡ (root z c, Root treap) ∷ []) × IsRecord z (root z c) treap (lists_by z s.me.0.seen)
 
+-- the lists that the seat has seen
+abbrev pub lists_of : Token → ℕ → List WaitId
+lists_of s = lists_by s.me.0.setting s.me.0.seen
+
+-- the record that the seat holds, of the root of c, has these lists now; nothing else has changed
+abbrev pub Edited : Token → ℕ → (ℕ → List WaitId) → Token → Type 0
+Edited s c lists t =
+    let z = s.me.0.setting in
+    (t.table_id ≡ s.table_id)
+    × ((treap : Treap) × (t.me ≡ (s.me.0, (root z c, Root treap) ∷ [])) × IsRecord z (root z c) treap lists)
+
 -- the row ran that takes the lock, and the record came with it
 abbrev pub Locked : Token → Place → Token → Type 0
 Locked s place t = Walked s place t (moved_to s (locked place)) [] 0 × HasRecord t (counter_at place)

@@ -12,7 +12,6 @@ use crate::answers::Entered;
 use crate::plays::{Gives, Goes, Token};
 use crate::seat::{Numbers, Seat, Sleeping};
 use crate::sema_table::SemaTable;
-use sema_root::RootStore;
 use std::sync::Wait;
 use step_table::{Acquire, AcquireRow, Place};
 use waiters::{CounterId, SeatId, WaitId};
@@ -137,9 +136,7 @@ impl SemaTable {
         ensures bare { token.new.me.1 ≡ [] }
         ensures last { IsLast token.new (Queue call.now.counter wait.id call.now.lifo) }
     {
-        let mut root = self.take_root(token, call.counter);
-        root.queue(call.counter, wait, call.lifo);
-        self.put_root(token, call.counter, root);
+        self.insert(token, call, wait);
         let word = self.lock_word(call.counter);
         self.table.shared.store::<Gives>(token, word, 0);
     }

@@ -1,39 +1,43 @@
-//! The record of a root, whose lock the seat holds.
-ghost use Rattle.std.specs.Prelude.{◌≡◌, ◌<◌, [], ◌∷◌};
-ghost use Rattle.sema_table.specs.Setting.{root};
-ghost use Rattle.sema_table.specs.Rule.{lists_by, IsRecord};
+//! The record of a root, edited in its slot by the seat that holds the root's lock.
+ghost use Rattle.std.specs.Prelude.{◌≡◌, ◌<◌, drop, length, [], ◌∷◌, IfSome, IfNone};
+ghost use Rattle.step_table.specs.World.{put, insert_wait};
 ghost use Rattle.sema_table.specs.Seats.{table_of};
-ghost use Rattle.sema_table.specs.Walks.{HasRecord};
-ghost use Rattle.sema_table.specs.declared.view.Record.TheVariants.{Root, Out};
+ghost use Rattle.sema_table.specs.Walks.{HasRecord, HasRoom, Edited, lists_of};
 
 use crate::plays::Token;
 use crate::sema_table::SemaTable;
 use crate::view::Record;
-use sema_root::TreapRoot;
-use waiters::CounterId;
+use sema_root::RootStore;
+use step_table::Acquire;
+use waiters::{CounterId, Wait, WaitId};
 
 impl SemaTable {
-    /// Takes the root of a counter out of its slot.
-    pub(crate) fn take_root(&self, token: &mut Token, counter: CounterId) -> TreapRoot
-        requires { (table_of token.old ≡ self.now) × HasRecord token.old counter }
-        ensures table { token.new.table_id ≡ token.old.table_id }
-        ensures slot { token.new.me ≡ (token.old.me.0, (root token.old.me.0.setting counter, Out) ∷ []) }
-        ensures record { let z = token.old.me.0.setting in IsRecord z (root z counter) result (lists_by z token.old.me.0.seen) }
+    /// Puts a wait into the list of the call's counter, at the end that the call asks for.
+    pub(crate) fn insert(&self, token: &mut Token, call: &Acquire, wait: Wait)
+        requires seat { (table_of token.old ≡ self.now) × HasRecord token.old call.now.counter × HasRoom token.old call.now.counter }
+        requires call { call.now.counter < length self.now.setting.starts }
+        ensures { let c = call.now.counter in let lists = lists_of token.old in
+            Edited token.old c (put lists c (insert_wait call.now.lifo wait.id (lists c))) token.new }
     {
-        let slot = self.root_of(counter);
-        let Record::Root(root) = self.table.shared.exchange(token, slot, Record::Out) else {
+        let slot = self.root_of(call.counter);
+        let Record::Root(root) = token.slot_mut(&self.table.shared, slot) else {
             unreachable!()
         };
-        root
+        root.queue(call.counter, wait, call.lifo);
     }
 
-    /// Puts the root back.
-    pub(crate) fn put_root(&self, token: &mut Token, counter: CounterId, made: TreapRoot)
-        requires { (table_of token.old ≡ self.now) × (token.old.me.1 ≡ (root token.old.me.0.setting counter, Out) ∷ []) }
-        ensures table { token.new.table_id ≡ token.old.table_id }
-        ensures slot { token.new.me ≡ (token.old.me.0, (root token.old.me.0.setting counter, Root made) ∷ []) }
+    /// Takes the first wait out of the list of a counter.
+    pub(crate) fn remove_first(&self, token: &mut Token, counter: CounterId) -> Option<WaitId>
+        requires { (table_of token.old ≡ self.now) × HasRecord token.old counter × (counter < length self.now.setting.starts) }
+        ensures some { let lists = lists_of token.old in IfSome result (λ w.
+            (lists counter ≡ w ∷ drop 1 (lists counter)) × Edited token.old counter (put lists counter (drop 1 (lists counter))) token.new) }
+        ensures none { IfNone result ((lists_of token.old counter ≡ []) × Edited token.old counter (lists_of token.old) token.new) }
     {
         let slot = self.root_of(counter);
-        self.table.shared.exchange(token, slot, Record::Root(made));
+        let Record::Root(root) = token.slot_mut(&self.table.shared, slot) else {
+            unreachable!()
+        };
+        let first = root.dequeue(counter)?;
+        Some(first.id)
     }
 }

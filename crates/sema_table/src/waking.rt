@@ -12,7 +12,6 @@ use crate::answers::Wake;
 use crate::plays::{Gives, Goes, Stores, Token};
 use crate::seat::{Numbers, Owing, Seat};
 use crate::sema_table::SemaTable;
-use sema_root::RootStore;
 use std::sync::Wait;
 use step_table::{Place, Release, ReleaseRow};
 use waiters::{CounterId, WaitId};
@@ -109,13 +108,10 @@ impl SemaTable {
         ensures none { IfNone result ((token.old.me.0.place ≡ Releasing call.now R6)
             × (token.new.table_id ≡ token.old.table_id) × (token.new.me.0 ≡ token.old.me.0)) }
     {
-        let mut root = self.take_root(token, call.counter);
-        let first = root.dequeue(call.counter);
-        self.put_root(token, call.counter, root);
-        let wait = first?;
+        let id = self.remove_first(token, call.counter)?;
         let word = self.waiter_word(call.counter);
         self.table.shared.fetch_sub::<Goes>(token, word, 1);
-        Some(wait.id)
+        Some(id)
     }
 
     /// R6. Given back before the waiter is told: told earlier, it would run into the lock that is still held.

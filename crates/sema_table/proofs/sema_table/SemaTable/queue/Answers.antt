@@ -1,4 +1,4 @@
-use Rattle.std.proofs.Common.{◌≡◌, ◌<◌, ℕ, [], ◌∷◌, ◌++◌, length, sym, ap, refl, ◌∙◌, subst, arith}
+use Rattle.std.proofs.Common.{◌≡◌, ℕ, [], ◌∷◌, ◌++◌, sym, ap, refl, ◌∙◌, subst, arith}
 use Rattle.step_table.specs.declared.effect.Effect.TheVariants.{Tells}
 use Rattle.step_table.specs.declared.entry.Entry.TheVariants.{Queue}
 use Rattle.step_table.specs.declared.place.AcquireRow.TheVariants.{A7, P}
@@ -16,7 +16,6 @@ use Rattle.sema_table.proofs.Owned.{word_in}
 use Rattle.sema_table.proofs.Allowing.{gives_at}
 use Rattle.sema_table.proofs.Leading.{led}
 use Rattle.sema_table.proofs.Walking.{walked_row, ran_from}
-use Rattle.sema_table.proofs.Holding.{queued_record}
 use Rattle.atomic_table.specs.Table.{Allows, rest}
 use Rattle.waiters.specs.declared.wait.WaitId.{WaitId}
 use Rattle.step_table.specs.World.{put, insert_wait}
@@ -30,37 +29,33 @@ use Rattle.sema_table.specs.Rule.{sight_by}
 use Rattle.sema_table.specs.Walks.{IsLast}
 use Rattle.sema_table.proofs.sema_table.SemaTable.queue.Goals as goal
 
-pub queue-requires : goal.queue-requires
-queue-requires c = let R = c.take_root-root.ensures.record in let room = c.requires.seat.2 in record { fits = (let a = R.count in let b = R.seats in omega arith) }
+pub insert-requires : goal.insert-requires
+insert-requires c = let r = c.requires.seat.0 in record { seat = (r.table_is, c.requires.seat.1, c.requires.seat.2); call = r.inside }
 
 pub store-requires : goal.store-requires
 store-requires c =
-    let s = c.args.token.now in let v : View = s.me.0 in let a = c.args.call.now in let r = c.requires.seat.0 in let q : Treap = c.queue.new.self in let z : Setting = v.setting in
+    let s = c.args.token.now in let v : View = s.me.0 in let a = c.args.call.now in let r = c.requires.seat.0 in let z : Setting = v.setting in
+    let E = c.insert.ensures in let q : Treap = E.1.0 in
     let m : Me = (v, (root z a.counter, Root q) ∷ []) in let at = r.table_is ∙ sym c.self.view_is in
-    let T = c.take_root-root.ensures in let back = c.put_root.ensures in let Q = c.queue.ensures in
-    let is : c.put_root.new.token.me ≡ m = back.slot ∙ (λ i. ((T.slot i).0, (root (T.slot i).0.setting a.counter, Root q) ∷ [])) in
     let word : address z (Lock a.counter) ≡ c.lock_word-word.result = ap (λ (y : TableModel). address y.setting (Lock a.counter)) r.table_is ∙ sym c.lock_word-word.ensures.at in
     let low = word_in c.self.inside s c.self.invariant at (Lock a.counter) tt in
-    let inside : a.counter < length z.starts = subst (λ (y : TableModel). a.counter < length y.setting.starts) (sym r.table_is) r.inside in
-    let made = queued_record z (root z a.counter) a.counter c.take_root-root.result q (lists_by z v.seen) a.lifo c.args.wait T.record refl inside Q.queued Q.count Q.seats in
-    let told = subst (λ (w : WaitId). IsRecord z (root z a.counter) q (put (lists_by z v.seen) a.counter (insert_wait a.lifo w (lists_by z v.seen a.counter)))) c.requires.wait made in
+    let told = subst (λ (w : WaitId). IsRecord z (root z a.counter) q (put (lists_by z v.seen) a.counter (insert_wait a.lifo w (lists_by z v.seen a.counter)))) c.requires.wait E.1.2 in
     let key : Setting = setting_of c.self.inside.table.shared.key in (
-      back.table ∙ T.table ∙ ap (λ (t : TableModel). t.id) at,
+      E.0 ∙ ap (λ (t : TableModel). t.id) at,
       (omega arith),
-      subst (λ (x : Me). Allows (IsKept key) c.self.inside.table.shared.table_id.slots c.put_root.new.token.id x c.lock_word-word.result (λ _. 0) (λ _ u. (n : ℕ) × Ran x.0 n u.0 × (u.1 ≡ rest x.1))) (sym is)
+      subst (λ (x : Me). Allows (IsKept key) c.self.inside.table.shared.table_id.slots c.insert.new.token.id x c.lock_word-word.result (λ _. 0) (λ _ u. (n : ℕ) × Ran x.0 n u.0 × (u.1 ≡ rest x.1))) (sym E.1.1)
           (gives_at key _ _ _ m (Acquiring a A7) r.place_is (let b = r.limited in omega arith) q 0 refl
           (λ b n known. record { fits = record { word = word; there = tt; can = refl; becomes = refl }; word_is = refl; holds_it = on_here (root z a.counter) 1; is_record = told })),
     )
 
 pub returns : goal.returns
 returns c =
-    let s = c.args.token.now in let v : View = s.me.0 in let u = c.store.new.seat in let a = c.args.call.now in let r = c.requires.seat.0 in let q : Treap = c.queue.new.self in let z : Setting = v.setting in
-    let m : Me = (v, (root z a.counter, Root q) ∷ []) in let T = c.take_root-root.ensures in let back = c.put_root.ensures in
-    let is : c.put_root.new.token.me ≡ m = back.slot ∙ (λ i. ((T.slot i).0, (root (T.slot i).0.setting a.counter, Root q) ∷ [])) in
+    let s = c.args.token.now in let v : View = s.me.0 in let u = c.store.new.seat in let a = c.args.call.now in let r = c.requires.seat.0 in let z : Setting = v.setting in
+    let E = c.insert.ensures in let is = E.1.1 in
     let X = c.store.ensures.2 in let n : ℕ = X.0 in
     let row = ran_from s u (Acquiring a A7) n r.place_is (subst (λ (x : Me). Ran x.0 n u.me.0) is X.1) in
     let g = led (begin (Acquiring a A7) v) u.me.0 (Acquiring a A7) n row refl in
-    let x = walked_row s u (Acquiring a A7) n (Acquiring a (P v.turn), Tells (Queue a.counter (record { seat = v.number; turn = v.turn }) a.lifo)) row g (c.store.ensures.0 ∙ back.table ∙ T.table) in
+    let x = walked_row s u (Acquiring a A7) n (Acquiring a (P v.turn), Tells (Queue a.counter (record { seat = v.number; turn = v.turn }) a.lifo)) row g (c.store.ensures.0 ∙ E.0) in
     record {
       walked = subst (λ w. Walked s (Acquiring a A7) u (parked s a) (Queue a.counter w a.lifo ∷ []) 0) (sym c.requires.wait) x;
       bare = X.2 ∙ ap (λ (x : Me). rest x.1) is;

@@ -12,26 +12,18 @@ use Rattle.sema_table.specs.Walks.{Stands, sought}
 use Rattle.sema_table.proofs.Owned.{word_in}
 use Rattle.sema_table.proofs.Allowing.{allowed_at}
 use Rattle.sema_table.proofs.Stepping.{waiters_down}
-use Rattle.sema_table.proofs.Holding.{dequeued_record, first_is}
-use Rattle.std.proofs.Common.{List, map, drop}
+use Rattle.std.proofs.Common.{List, drop}
 use Rattle.atomic_table.specs.Table.{Allows}
-use Rattle.waiters.specs.declared.wait.Wait.{Wait}
 use Rattle.waiters.specs.declared.wait.WaitId.{WaitId}
 use Rattle.step_table.specs.Event.{by_first}
 use Rattle.step_table.specs.Counting.{counter_at}
 use Rattle.step_table.specs.declared.place.Release.{Release}
-use Rattle.sema_root.specs.Queues.{waits_on}
-use Rattle.sema_root.specs.Treap.{Treap, queues_of}
-use Rattle.sema_table.specs.Rule.{lists_by, IsRecord, IsKept, setting_of}
+use Rattle.sema_root.specs.Treap.{Treap}
+use Rattle.sema_table.specs.Rule.{lists_by, IsKept, setting_of}
 use Rattle.sema_table.specs.Plays.{Me, stepped}
 use Rattle.sema_table.proofs.Stepping.{lowered_some}
 use Rattle.sema_table.proofs.Granting.{out_walk, out_there, out_record}
 use Rattle.sema_table.proofs.sema_table.SemaTable.take_out.Goals as goal
-
--- the treap's waits and the list that is seen
-first_wait : (s : Token) (k : ℕ) (treap : Treap) (w : Wait) → IsRecord s.me.0.setting (root s.me.0.setting k) treap (lists_by s.me.0.setting s.me.0.seen) → waits_on (queues_of treap.tree) k ≡ w ∷ drop 1 (waits_on (queues_of treap.tree) k)
-    → lists_by s.me.0.setting s.me.0.seen k ≡ w.id ∷ map (λ (x : Wait). x.id) (drop 1 (waits_on (queues_of treap.tree) k))
-first_wait s k treap w is first = sym (is.waits k refl) ∙ ap (map (λ (x : Wait). x.id)) first
 
 -- the call's counter is one of the table
 inside_of : (s : Token) (a : Release) (t : TableModel) → Stands t s (sought s a) → a.counter < length t.setting.starts
@@ -41,52 +33,44 @@ inside_of s a t r = by (lists_by s.me.0.setting s.me.0.seen a.counter) r.inside
     by [] h = h
     by (w ∷ l) h = h
 
+pub remove_first-requires : goal.remove_first-requires
+remove_first-requires c = let s = c.args.token.now in let r = c.requires.seat.0 in (r.table_is, c.requires.seat.1, inside_of s c.args.call.now c.args.self.now r)
+
 pub fetch_sub-requires : goal.fetch_sub-requires
 fetch_sub-requires c =
-    let s = c.args.token.now in let v : View = s.me.0 in let a = c.args.call.now in let k : ℕ = a.counter in let r = c.requires.seat.0 in let q : Treap = c.dequeue-first.new.self in let z : Setting = v.setting in
-    let m : Me = (v, (root z k, Root q) ∷ []) in let T = c.take_root-root.ensures in let back = c.put_root.ensures in let D = c.dequeue-first.ensures in
+    let s = c.args.token.now in let v : View = s.me.0 in let a = c.args.call.now in let k : ℕ = a.counter in let r = c.requires.seat.0 in let z : Setting = v.setting in
+    let R = c.in_ok-id.ensures.some in let first = R.0 in let E = R.1 in let q : Treap = E.1.0 in
+    let m : Me = (v, (root z k, Root q) ∷ []) in
     let at = r.table_is ∙ sym c.self.view_is in
-    let is : c.put_root.new.token.me ≡ m = back.slot ∙ (λ i. ((T.slot i).0, (root (T.slot i).0.setting k, Root q) ∷ [])) in
-    let ws : List Wait = waits_on (queues_of c.take_root-root.result.tree) k in
-    let first = first_wait s k c.take_root-root.result c.in_ok-wait.wait T.record (first_is ws c.in_ok-wait.wait (sym D.first ∙ c.in_ok-wait.was)) in
     let place : v.place ≡ Releasing a R5 = r.place_is ∙ ap (λ (y : List WaitId). by_first y (Releasing a R6) (λ x. Releasing a R5)) first in
     let word : address z (Waiters k) ≡ c.waiter_word-word.result = ap (λ (y : TableModel). address y.setting (Waiters k)) r.table_is ∙ sym c.waiter_word-word.ensures.at in
     let low = word_in c.self.inside s c.self.invariant at (Waiters k) tt in
     let key : Setting = setting_of c.self.inside.table.shared.key in (
-      back.table ∙ T.table ∙ ap (λ (t : TableModel). t.id) at,
+      E.0 ∙ ap (λ (t : TableModel). t.id) at,
       (omega arith),
-      subst (λ (x : Me). Allows (IsKept key) c.self.inside.table.shared.table_id.slots c.put_root.new.token.id x c.waiter_word-word.result (λ n. (n + 18446744073709551615) % 2 ^ 64) (λ n u. stepped x.0 n x u)) (sym is)
+      subst (λ (x : Me). Allows (IsKept key) c.self.inside.table.shared.table_id.slots c.remove_first.new.token.id x c.waiter_word-word.result (λ n. (n + 18446744073709551615) % 2 ^ 64) (λ n u. stepped x.0 n x u)) (sym E.1.1)
           (allowed_at key _ _ c.waiter_word-word.result m (Releasing a R5) place (let b = r.limited in omega arith) (λ n. (n + 18446744073709551615) % 2 ^ 64)
           (λ b n known. record { fits = record { word = word; there = tt; can = refl; becomes = waiters_down (begin (Releasing a R5) v) b c.waiter_word-word.result n known k word (lowered_some (begin (Releasing a R5) v) b c.waiter_word-word.result n known a refl) }; apart = refl })),
     )
 
 pub returns-clause-record : goal.returns-clause-record
 returns-clause-record c =
-    let s = c.args.token.now in let v : View = s.me.0 in let a = c.args.call.now in let k : ℕ = a.counter in let r = c.requires.seat.0 in let q : Treap = c.dequeue-first.new.self in let z : Setting = v.setting in
-    let m : Me = (v, (root z k, Root q) ∷ []) in let T = c.take_root-root.ensures in let back = c.put_root.ensures in let D = c.dequeue-first.ensures in
-    let is : c.put_root.new.token.me ≡ m = back.slot ∙ (λ i. ((T.slot i).0, (root (T.slot i).0.setting k, Root q) ∷ [])) in
-    let ws : List Wait = waits_on (queues_of c.take_root-root.result.tree) k in
-    let first = first_wait s k c.take_root-root.result c.in_ok-wait.wait T.record (first_is ws c.in_ok-wait.wait (sym D.first ∙ c.in_ok-wait.was)) in
+    let s = c.args.token.now in let v : View = s.me.0 in let a = c.args.call.now in let k : ℕ = a.counter in let r = c.requires.seat.0 in let z : Setting = v.setting in
+    let R = c.in_ok-id.ensures.some in let first = R.0 in let E = R.1 in
     let place : v.place ≡ Releasing a R5 = r.place_is ∙ ap (λ (y : List WaitId). by_first y (Releasing a R6) (λ x. Releasing a R5)) first in
     let u = c.fetch_sub.new.seat in let n : ℕ = c.fetch_sub.result in
-    let row : Ran v n u.me.0 = subst (λ (x : Me). Ran x.0 n u.me.0) is c.fetch_sub.ensures.2.0 in
-    let inside : k < length z.starts = subst (λ (y : TableModel). k < length y.setting.starts) (sym r.table_is) (inside_of s a c.args.self.now r) in
-    let tail : List WaitId = map (λ (x : Wait). x.id) (drop 1 ws) in
-    out_record s u a n c.in_ok-wait.wait.id tail place row (c.fetch_sub.ensures.0 ∙ back.table ∙ T.table) first q (c.fetch_sub.ensures.2.1 ∙ ap (λ (x : Me). x.1) is)
-    (dequeued_record z (root z k) k c.take_root-root.result q (lists_by z v.seen) c.in_ok-wait.wait.id tail first T.record refl inside D.rest c.in_ok-wait.ensures.count D.seats)
+    let row : Ran v n u.me.0 = subst (λ (x : Me). Ran x.0 n u.me.0) E.1.1 c.fetch_sub.ensures.2.0 in
+    out_record s u a n c.in_ok-id.id (drop 1 (lists_by z v.seen k)) place row (c.fetch_sub.ensures.0 ∙ E.0) first E.1.0 (c.fetch_sub.ensures.2.1 ∙ ap (λ (x : Me). x.1) E.1.1) E.1.2
 
 pub returns-clause-some : goal.returns-clause-some
 returns-clause-some c =
-    let s = c.args.token.now in let v : View = s.me.0 in let a = c.args.call.now in let k : ℕ = a.counter in let r = c.requires.seat.0 in let q : Treap = c.dequeue-first.new.self in let z : Setting = v.setting in
-    let m : Me = (v, (root z k, Root q) ∷ []) in let T = c.take_root-root.ensures in let back = c.put_root.ensures in let D = c.dequeue-first.ensures in
-    let is : c.put_root.new.token.me ≡ m = back.slot ∙ (λ i. ((T.slot i).0, (root (T.slot i).0.setting k, Root q) ∷ [])) in
-    let ws : List Wait = waits_on (queues_of c.take_root-root.result.tree) k in
-    let first = first_wait s k c.take_root-root.result c.in_ok-wait.wait T.record (first_is ws c.in_ok-wait.wait (sym D.first ∙ c.in_ok-wait.was)) in
+    let s = c.args.token.now in let v : View = s.me.0 in let a = c.args.call.now in let k : ℕ = a.counter in let r = c.requires.seat.0 in let z : Setting = v.setting in
+    let R = c.in_ok-id.ensures.some in let first = R.0 in let E = R.1 in
     let place : v.place ≡ Releasing a R5 = r.place_is ∙ ap (λ (y : List WaitId). by_first y (Releasing a R6) (λ x. Releasing a R5)) first in
     let u = c.fetch_sub.new.seat in let n : ℕ = c.fetch_sub.result in
-    let row : Ran v n u.me.0 = subst (λ (x : Me). Ran x.0 n u.me.0) is c.fetch_sub.ensures.2.0 in
-    let tail : List WaitId = map (λ (x : Wait). x.id) (drop 1 ws) in
-    let same = c.fetch_sub.ensures.0 ∙ back.table ∙ T.table in
+    let row : Ran v n u.me.0 = subst (λ (x : Me). Ran x.0 n u.me.0) E.1.1 c.fetch_sub.ensures.2.0 in
+    let tail : List WaitId = drop 1 (lists_by z v.seen k) in
+    let same = c.fetch_sub.ensures.0 ∙ E.0 in
     let seats = ap (λ (y : TableModel). y.setting.seats) r.table_is in
-    let there = out_there s u a n c.in_ok-wait.wait.id tail place row same first c.requires.seat.2 in
-    (out_walk s u a n c.in_ok-wait.wait.id tail place row same first, place, (omega arith))
+    let there = out_there s u a n c.in_ok-id.id tail place row same first c.requires.seat.2 in
+    (out_walk s u a n c.in_ok-id.id tail place row same first, place, (omega arith))
