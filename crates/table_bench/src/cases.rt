@@ -18,14 +18,17 @@ fn release<R: Wait>(rt: &R, table: &SemaTable, seat: Seat) -> Seat
     }
 }
 
-/// Adds a unit and takes it again.
-#[inline]
-pub fn pair<R: Wait>(rt: &R, table: &SemaTable, seat: Seat) -> Seat
+/// Adds a unit and takes it again, so many times.
+#[inline(never)]
+pub fn pairs<R: Wait>(rt: &R, table: &SemaTable, seat: Seat, turns: u32) -> Seat
     requires { (seat.table ≡ table.now) × (0 < length table.now.setting.starts) }
     ensures { result.table ≡ table.now }
 {
-    let mut seat = release(rt, table, seat);
-    table.try_acquire(&mut seat, CounterId::new(0));
+    let mut seat = seat;
+    for _ in 0..turns {
+        seat = release(rt, table, seat);
+        table.try_acquire(&mut seat, CounterId::new(0));
+    }
     seat
 }
 
@@ -49,7 +52,8 @@ fn rouse<R: Wait>(rt: &R, table: &SemaTable, sleeping: Sleeping) -> Seat
 }
 
 /// The first seat queues its wait, the second wakes it, and the first takes the unit.
-pub fn cycle<R: Wait>(rt: &R, table: &SemaTable, first: Seat, second: Seat) -> (Seat, Seat)
+#[inline]
+fn cycle<R: Wait>(rt: &R, table: &SemaTable, first: Seat, second: Seat) -> (Seat, Seat)
     requires { (first.table ≡ table.now) × (second.table ≡ table.now) × (0 < length table.now.setting.starts) }
     ensures { (result.0.table ≡ table.now) × (result.1.table ≡ table.now) }
 {
@@ -60,4 +64,24 @@ pub fn cycle<R: Wait>(rt: &R, table: &SemaTable, first: Seat, second: Seat) -> (
             (rouse(rt, table, sleeping), second)
         }
     }
+}
+
+/// So many cycles.
+#[inline(never)]
+pub fn cycles<R: Wait>(
+    rt: &R,
+    table: &SemaTable,
+    first: Seat,
+    second: Seat,
+    turns: u32,
+) -> (Seat, Seat)
+    requires { (first.table ≡ table.now) × (second.table ≡ table.now) × (0 < length table.now.setting.starts) }
+    ensures { (result.0.table ≡ table.now) × (result.1.table ≡ table.now) }
+{
+    let mut first = first;
+    let mut second = second;
+    for _ in 0..turns {
+        (first, second) = cycle(rt, table, first, second);
+    }
+    (first, second)
 }

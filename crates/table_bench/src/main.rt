@@ -3,7 +3,7 @@
 //!
 //! `pair` adds a unit and takes it again, by one seat, with nobody waiting; `cycle` lets one seat queue its wait, another release
 //! and wake it, and the first take the unit, all in one thread. `pair words` and `cycle words` touch plain atomic words in the
-//! same way and the same order: the least that such a table can cost.
+//! same way and the same order: the least that such a table can cost. In `cycle words and root` the wait goes into a root and out again.
 #![tactic(auto)]
 
 ghost use Rattle.std.specs.Prelude.{◌≡◌, ◌<◌, length};
@@ -13,6 +13,7 @@ mod words;
 
 use crate::words::Words;
 use anyhow::{Result, bail};
+use sema_root::SortedRoot;
 use sema_table::{Seat, SemaTable, Settings};
 use std::alloc::Global;
 use std::env;
@@ -30,22 +31,21 @@ fn tell(rt: &(impl Clock + Print), case: &str, start: &Instant, turns: u32) -> R
 }
 
 /// The least that a pair and a cycle cost.
-fn time_words(rt: &(impl Clock + Print), turns: u32) -> Result<()>
-    requires { 0 < turns }
+fn time_words(rt: &(impl Clock + Print), root: &mut SortedRoot, turns: u32) -> Result<()>
+    requires turns { 0 < turns }
+    requires root { 0 < root.old.seats }
 {
     let words = Words::new();
-    let mut seen: u64 = 0;
     let start = Instant::now(rt)?;
-    for _ in 0..turns {
-        seen = seen.wrapping_add(words.pair());
-    }
+    let pairs = words.pairs(turns);
     tell(rt, "pair words", &start, turns)?;
     let start = Instant::now(rt)?;
-    for _ in 0..turns {
-        seen = seen.wrapping_add(words.cycle());
-    }
+    let cycles = words.cycles(turns);
     tell(rt, "cycle words", &start, turns)?;
-    println!(rt; "seen {seen}")?;
+    let start = Instant::now(rt)?;
+    let cycles_at = words.cycles_at(root, turns);
+    tell(rt, "cycle words and root", &start, turns)?;
+    println!(rt; "seen {pairs} {cycles} {cycles_at}")?;
     Ok(())
 }
 
@@ -60,17 +60,11 @@ fn time_table(
     requires turns { 0 < turns }
     requires seats { (first.table ≡ table.now) × (second.table ≡ table.now) × (0 < length table.now.setting.starts) }
 {
-    let mut first = first;
-    let mut second = second;
     let start = Instant::now(rt)?;
-    for _ in 0..turns {
-        first = cases::pair(rt, table, first);
-    }
+    let first = cases::pairs(rt, table, first, turns);
     tell(rt, "pair", &start, turns)?;
     let start = Instant::now(rt)?;
-    for _ in 0..turns {
-        (first, second) = cases::cycle(rt, table, first, second);
-    }
+    let _ = cases::cycles(rt, table, first, second, turns);
     tell(rt, "cycle", &start, turns)?;
     Ok(())
 }
@@ -90,7 +84,7 @@ fn settings(alloc: Global) -> Result<Settings> {
 fn time(rt: &(impl Clock + Print + Wait), alloc: Global, turns: u32) -> Result<()>
     requires { 0 < turns }
 {
-    time_words(rt, turns)?;
+    time_words(rt, &mut SortedRoot::with_room(alloc, 2)?, turns)?;
     let Ok((table, mut seats)) = SemaTable::new(alloc, settings(alloc)?) else {
         bail!("no table")
     };
