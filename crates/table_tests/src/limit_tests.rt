@@ -1,28 +1,23 @@
 //! Settings at the limits of a table, and past them.
 
-use crate::given::{Sizes, new_again, one_counter};
+use crate::given::{Sizes, new_again};
 use sema_table::{Seat, SetupError};
 use std::alloc::Global;
 use std::process::Abort;
 use std::test::Fail;
 
-/// The least of each.
-const LEAST: Sizes = Sizes {
-    counters: 1,
-    start: 0,
-    seats: 1,
-    roots: 1,
-    release_limit: 1,
-};
+const MOST_RELEASES: u64 = 1 << 40;
 
-/// The most of each.
-const MOST: Sizes = Sizes {
-    counters: 65_536,
-    start: 0,
-    seats: 256,
-    roots: 251,
-    release_limit: 1 << 40,
-};
+/// So many counters, seats and roots, and a release limit.
+fn sized(counters: usize, seats: u32, roots: u32, release_limit: u64) -> Sizes {
+    Sizes {
+        counters,
+        start: 0,
+        seats,
+        roots,
+        release_limit,
+    }
+}
 
 fn is_refused(rt: &impl Abort, alloc: Global, sizes: &Sizes, number: u8) {
     match new_again(alloc, sizes) {
@@ -31,122 +26,53 @@ fn is_refused(rt: &impl Abort, alloc: Global, sizes: &Sizes, number: u8) {
     }
 }
 
-fn past_one_limit() -> [(Sizes, u8); 8] {
-    let sizes = one_counter(0, 1);
+/// Settings, and the number of their refusal.
+type Judged = (Sizes, u8);
+
+fn past_one_limit() -> [Judged; 8] {
     [
-        (
-            Sizes {
-                counters: 0,
-                ..sizes
-            },
-            1,
-        ),
-        (
-            Sizes {
-                counters: 65_537,
-                ..sizes
-            },
-            1,
-        ),
-        (Sizes { seats: 0, ..sizes }, 2),
-        (
-            Sizes {
-                seats: 257,
-                ..sizes
-            },
-            2,
-        ),
-        (Sizes { roots: 0, ..sizes }, 3),
-        (
-            Sizes {
-                roots: 252,
-                ..sizes
-            },
-            3,
-        ),
-        (
-            Sizes {
-                release_limit: 0,
-                ..sizes
-            },
-            4,
-        ),
-        (
-            Sizes {
-                release_limit: (1 << 40) + 1,
-                ..sizes
-            },
-            4,
-        ),
+        (sized(0, 2, 251, 10), 1),
+        (sized(65_537, 2, 251, 10), 1),
+        (sized(1, 0, 251, 10), 2),
+        (sized(1, 257, 251, 10), 2),
+        (sized(1, 2, 0, 10), 3),
+        (sized(1, 2, 252, 10), 3),
+        (sized(1, 2, 251, 0), 4),
+        (sized(1, 2, 251, MOST_RELEASES + 1), 4),
     ]
 }
 
-fn past_two_limits() -> [(Sizes, u8); 6] {
-    let sizes = one_counter(0, 1);
+fn past_two_limits() -> [Judged; 12] {
     [
-        (
-            Sizes {
-                counters: 0,
-                seats: 0,
-                ..sizes
-            },
-            1,
-        ),
-        (
-            Sizes {
-                counters: 65_537,
-                roots: 252,
-                ..sizes
-            },
-            1,
-        ),
-        (
-            Sizes {
-                counters: 0,
-                release_limit: 0,
-                ..sizes
-            },
-            1,
-        ),
-        (
-            Sizes {
-                seats: 257,
-                roots: 252,
-                ..sizes
-            },
-            2,
-        ),
-        (
-            Sizes {
-                seats: 0,
-                release_limit: 0,
-                ..sizes
-            },
-            2,
-        ),
-        (
-            Sizes {
-                roots: 252,
-                release_limit: 0,
-                ..sizes
-            },
-            3,
-        ),
+        (sized(0, 0, 251, 10), 1),
+        (sized(65_537, 257, 251, 10), 1),
+        (sized(0, 2, 0, 10), 1),
+        (sized(65_537, 2, 252, 10), 1),
+        (sized(0, 2, 251, 0), 1),
+        (sized(65_537, 2, 251, MOST_RELEASES + 1), 1),
+        (sized(1, 0, 0, 10), 2),
+        (sized(1, 257, 252, 10), 2),
+        (sized(1, 0, 251, 0), 2),
+        (sized(1, 257, 251, MOST_RELEASES + 1), 2),
+        (sized(1, 2, 0, 0), 3),
+        (sized(1, 2, 252, MOST_RELEASES + 1), 3),
     ]
+}
+
+fn are_judged(rt: &impl Abort, alloc: Global, rows: &[Judged]) {
+    for (sizes, number) in rows {
+        is_refused(rt, alloc, sizes, *number);
+    }
 }
 
 #[test]
 fn settings_past_a_limit_are_refused(rt: HostRuntime) {
-    for (sizes, number) in &past_one_limit() {
-        is_refused(&rt, rt.alloc(), sizes, *number);
-    }
+    are_judged(&rt, rt.alloc(), &past_one_limit());
 }
 
 #[test]
 fn the_lower_number_is_told(rt: HostRuntime) {
-    for (sizes, number) in &past_two_limits() {
-        is_refused(&rt, rt.alloc(), sizes, *number);
-    }
+    are_judged(&rt, rt.alloc(), &past_two_limits());
 }
 
 /// A seat that has run nothing.
@@ -168,8 +94,8 @@ fn is_made(rt: &impl Abort, alloc: Global, sizes: &Sizes) -> Result<(), Fail> {
 
 #[test]
 fn the_least_and_the_most_are_made(rt: HostRuntime) -> Result<(), Fail> {
-    is_made(&rt, rt.alloc(), &LEAST)?;
-    is_made(&rt, rt.alloc(), &MOST)
+    is_made(&rt, rt.alloc(), &sized(1, 1, 1, 1))?;
+    is_made(&rt, rt.alloc(), &sized(65_536, 256, 251, MOST_RELEASES))
 }
 
 #[test]
