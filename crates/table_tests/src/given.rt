@@ -68,6 +68,17 @@ pub(crate) fn last_seat(rt: &impl Abort, table: &SemaTable, seats: &mut Vec<Seat
     seats.pop().expect(rt, "a seat")
 }
 
+/// The first two of two seats.
+pub(crate) fn two_seats(rt: &impl Abort, table: &SemaTable, seats: Vec<Seat>) -> (Seat, Seat)
+    requires { All (λ s. s.table ≡ table.now) seats.items }
+    ensures first { result.0.table ≡ table.now }
+    ensures second { result.1.table ≡ table.now }
+{
+    let mut seats = seats;
+    let second = last_seat(rt, table, &mut seats);
+    (last_seat(rt, table, &mut seats), second)
+}
+
 /// The counter of this number, which the table has.
 pub(crate) fn counter(rt: &impl Abort, table: &SemaTable, number: u32) -> CounterId
     ensures { result < length table.now.setting.starts }

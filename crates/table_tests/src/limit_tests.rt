@@ -1,7 +1,8 @@
 //! Settings at the limits of a table, and past them.
 
 use crate::given::{Sizes, new_again};
-use sema_table::{Seat, SetupError};
+use crate::seats::counts;
+use sema_table::{Seat, SemaTable, SetupError};
 use std::alloc::Global;
 use std::process::Abort;
 use std::test::Fail;
@@ -75,20 +76,23 @@ fn the_lower_number_is_told(rt: HostRuntime) {
     are_judged(&rt, rt.alloc(), &past_two_limits());
 }
 
-/// A seat that has run nothing.
-fn is_new(rt: &impl Abort, seat: &Seat, number: u16, limit: u64) {
-    assert!(rt; seat.id().number() == number);
-    assert!(rt; seat.left() == limit);
-    assert!(rt; seat.taken() == 0);
+/// Seats that have run nothing, in the order of their numbers.
+fn are_new(rt: &impl Abort, seats: &[Seat], limit: u64) {
+    for (number, seat) in (0..).zip(seats.iter()) {
+        assert!(rt; seat.id().number() == number);
+        counts(rt, seat, limit, 0);
+    }
+}
+
+fn has_sizes(rt: &impl Abort, table: &SemaTable, seats: &[Seat], sizes: &Sizes) {
+    assert!(rt; table.counters() as usize == sizes.counters);
+    assert!(rt; seats.len() == sizes.seats as usize);
+    are_new(rt, seats, sizes.release_limit);
 }
 
 fn is_made(rt: &impl Abort, alloc: Global, sizes: &Sizes) -> Result<(), Fail> {
     let (table, seats) = new_again(alloc, sizes)?;
-    assert!(rt; table.counters() as usize == sizes.counters);
-    assert!(rt; seats.len() == sizes.seats as usize);
-    for (number, seat) in (0..).zip(seats.iter()) {
-        is_new(rt, seat, number, sizes.release_limit);
-    }
+    has_sizes(rt, &table, seats.as_slice(), sizes);
     Ok(())
 }
 

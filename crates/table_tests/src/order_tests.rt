@@ -1,8 +1,8 @@
 //! Four waits on one counter, and in which order they are woken.
 
-ghost use Rattle.std.specs.Prelude.{◌≡◌};
+ghost use Rattle.std.specs.Prelude.{◌≡◌, All};
 
-use crate::given::{last_seat, new_again, one_counter, wait};
+use crate::given::{last_seat, new_again, one_counter, two_seats, wait};
 use crate::seats::{FIFO, LIFO, PLAIN, has_value, releases, sleeps, wakes_up};
 use sema_table::{Seat, SemaTable, Sleeping, Wake};
 use std::process::Abort;
@@ -48,7 +48,7 @@ fn two_wake_up<R: Abort + Wait>(rt: &R, table: &SemaTable, sleeping: (Sleeping, 
 }
 
 /// Two seats sleep at the end of the queue, two at its front, and the last seat wakes them.
-fn sleep_in_turn<R: Abort + Wait>(
+fn sleep_and_wake<R: Abort + Wait>(
     rt: &R,
     table: &SemaTable,
     ends: (Seat, Seat),
@@ -66,14 +66,20 @@ fn sleep_in_turn<R: Abort + Wait>(
     two_wake_up(rt, table, fronts);
 }
 
+fn five_seats<R: Abort + Wait>(rt: &R, table: &SemaTable, seats: Vec<Seat>)
+    requires { All (λ s. s.table ≡ table.now) seats.items }
+{
+    let mut seats = seats;
+    let last = last_seat(rt, table, &mut seats);
+    let fourth = last_seat(rt, table, &mut seats);
+    let third = last_seat(rt, table, &mut seats);
+    let ends = two_seats(rt, table, seats);
+    sleep_and_wake(rt, table, ends, (third, fourth), last);
+}
+
 #[test]
 fn the_first_of_the_queue_is_woken(rt: HostRuntime) -> Result<(), Fail> {
-    let (table, mut seats) = new_again(rt.alloc(), &one_counter(0, 5))?;
-    let last = last_seat(&rt, &table, &mut seats);
-    let fourth = last_seat(&rt, &table, &mut seats);
-    let third = last_seat(&rt, &table, &mut seats);
-    let second = last_seat(&rt, &table, &mut seats);
-    let first = last_seat(&rt, &table, &mut seats);
-    sleep_in_turn(&rt, &table, (first, second), (third, fourth), last);
+    let (table, seats) = new_again(rt.alloc(), &one_counter(0, 5))?;
+    five_seats(&rt, &table, seats);
     Ok(())
 }

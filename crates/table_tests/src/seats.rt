@@ -50,6 +50,12 @@ pub(crate) fn has_waiters(
     assert!(rt; table.waiters_of_root(seat, at) == expected);
 }
 
+/// How many units the seat may add, and how many it was given.
+pub(crate) fn counts(rt: &impl Abort, seat: &Seat, left: u64, taken: u64) {
+    assert!(rt; seat.left() == left);
+    assert!(rt; seat.taken() == taken);
+}
+
 pub(crate) fn tries(
     rt: &impl Abort,
     table: &SemaTable,
@@ -72,8 +78,7 @@ pub(crate) fn posts(rt: &impl Abort, table: &SemaTable, seat: Seat, number: u32)
     let at = counter(rt, table, number);
     match table.post(seat, at) {
         Ok(Posted::Done(seat)) => seat,
-        Ok(Posted::Owes(_owing)) => panic!(rt; "somebody waits"),
-        Err(_) => panic!(rt; "the limit is reached"),
+        _other => panic!(rt; "somebody waits, or no unit was added"),
     }
 }
 
@@ -85,27 +90,19 @@ pub(crate) fn owes(rt: &impl Abort, table: &SemaTable, seat: Seat, number: u32) 
     let at = counter(rt, table, number);
     match table.post(seat, at) {
         Ok(Posted::Owes(owing)) => owing,
-        Ok(Posted::Done(_)) => panic!(rt; "nobody waits"),
-        Err(_) => panic!(rt; "the limit is reached"),
+        _other => panic!(rt; "nobody waits, or no unit was added"),
     }
 }
 
-/// The seat may add no more, and is as it was.
+/// The seat may add no more, and comes back.
 pub(crate) fn is_at_its_limit(rt: &impl Abort, table: &SemaTable, seat: Seat, number: u32) -> Seat
     requires { seat.table ≡ table.now }
     ensures { result.table ≡ table.now }
 {
     let at = counter(rt, table, number);
-    let taken = seat.taken();
     match table.post(seat, at) {
-        Err((seat, refused)) => {
-            assert!(rt; refused == PostRefused::LimitReached);
-            assert!(rt; seat.left() == 0);
-            assert!(rt; seat.taken() == taken);
-            seat
-        }
-        Ok(Posted::Done(_)) => panic!(rt; "a unit was added"),
-        Ok(Posted::Owes(_owing)) => panic!(rt; "a unit was added, and somebody waits"),
+        Err((seat, PostRefused::LimitReached)) => seat,
+        Ok(_posted) => panic!(rt; "a unit was added"),
     }
 }
 
@@ -182,8 +179,7 @@ pub(crate) fn is_still_asleep(rt: &impl Abort, table: &SemaTable, sleeping: Slee
 {
     match table.poll(sleeping) {
         Polled::Still(sleeping) => sleeping,
-        Polled::Woken(_woken) => panic!(rt; "woken"),
-        Polled::Handed(_) => panic!(rt; "handed a unit"),
+        _other => panic!(rt; "no longer asleep"),
     }
 }
 
@@ -194,8 +190,7 @@ pub(crate) fn is_woken(rt: &impl Abort, table: &SemaTable, sleeping: Sleeping) -
 {
     match table.poll(sleeping) {
         Polled::Woken(woken) => woken,
-        Polled::Still(_sleeping) => panic!(rt; "still asleep"),
-        Polled::Handed(_) => panic!(rt; "handed a unit"),
+        _other => panic!(rt; "still asleep, or handed a unit"),
     }
 }
 
@@ -206,8 +201,7 @@ pub(crate) fn is_handed(rt: &impl Abort, table: &SemaTable, sleeping: Sleeping) 
 {
     match table.poll(sleeping) {
         Polled::Handed(seat) => seat,
-        Polled::Still(_sleeping) => panic!(rt; "still asleep"),
-        Polled::Woken(_woken) => panic!(rt; "woken"),
+        _other => panic!(rt; "handed no unit"),
     }
 }
 

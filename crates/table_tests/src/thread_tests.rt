@@ -1,10 +1,10 @@
 //! Threads that share a table.
 
-ghost use Rattle.std.specs.Prelude.{◌≡◌, IfOk};
+ghost use Rattle.std.specs.Prelude.{◌≡◌, All, IfOk};
 ghost use Rattle.std.specs.Arc.{arc_value};
 
-use crate::given::{Sizes, last_seat, new_again, one_counter};
-use crate::seats::{has_value, posts};
+use crate::given::{Sizes, new_again, one_counter, two_seats};
+use crate::seats::{counts, has_value, posts};
 use sema_table::{Seat, SemaTable};
 use std::alloc::{AllocError, Global};
 use std::process::Abort;
@@ -69,7 +69,7 @@ fn end(rt: &impl Threads, posting: Posting) -> Poster {
 fn shows(rt: &impl Abort, poster: Poster, value: u64, left: u64) {
     let Poster { table, mut seat } = poster;
     has_value(rt, &*table, &mut seat, 0, value);
-    assert!(rt; seat.left() == left);
+    counts(rt, &seat, left, 0);
 }
 
 fn post_at_once<R: Abort + Threads + Copy + Send + 'static>(rt: R, first: Poster, second: Poster) {
@@ -91,16 +91,27 @@ fn shared(alloc: Global, table: SemaTable) -> Result<Arc<SemaTable, Global>, All
     }
 }
 
+fn two_posters(
+    rt: &impl Abort,
+    alloc: Global,
+    table: SemaTable,
+    seats: Vec<Seat>,
+) -> Result<(Poster, Poster), AllocError>
+    requires { All (λ s. s.table ≡ table) seats.items }
+{
+    let (first, second) = two_seats(rt, &table, seats);
+    let table = shared(alloc, table)?;
+    Ok((new_poster(&table, first)?, new_poster(&table, second)?))
+}
+
 #[test]
 fn no_unit_of_two_threads_is_lost(rt: HostRuntime) -> Result<(), Fail> {
     let sizes = Sizes {
         release_limit: 1_000,
         ..one_counter(0, 2)
     };
-    let (table, mut seats) = new_again(rt.alloc(), &sizes)?;
-    let second = last_seat(&rt, &table, &mut seats);
-    let first = last_seat(&rt, &table, &mut seats);
-    let table = shared(rt.alloc(), table)?;
-    post_at_once(rt, new_poster(&table, first)?, new_poster(&table, second)?);
+    let (table, seats) = new_again(rt.alloc(), &sizes)?;
+    let (first, second) = two_posters(&rt, rt.alloc(), table, seats)?;
+    post_at_once(rt, first, second);
     Ok(())
 }
