@@ -68,7 +68,7 @@ pub(crate) fn last_seat(rt: &impl Abort, table: &SemaTable, seats: &mut Vec<Seat
     seats.pop().expect(rt, "a seat")
 }
 
-/// The first two of two seats.
+/// The seats where there are two, in their order.
 pub(crate) fn two_seats(rt: &impl Abort, table: &SemaTable, seats: Vec<Seat>) -> (Seat, Seat)
     requires { All (λ s. s.table ≡ table.now) seats.items }
     ensures first { result.0.table ≡ table.now }

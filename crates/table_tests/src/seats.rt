@@ -12,14 +12,16 @@ use std::process::Abort;
 use std::sync::Wait;
 use waiters::WaitId;
 
-/// At which end of the queue.
+/// A wait comes in as the last.
 pub(crate) const FIFO: bool = false;
 
+/// A wait comes in as the first.
 pub(crate) const LIFO: bool = true;
 
-/// How a release wakes.
+/// A release wakes without a unit.
 pub(crate) const PLAIN: bool = false;
 
+/// A release wakes with a unit, where there is one.
 pub(crate) const HANDOFF: bool = true;
 
 pub(crate) fn has_value(
