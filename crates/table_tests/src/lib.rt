@@ -1,0 +1,20 @@
+//! The tests of `sema_table`, which use it from outside, as a crate above it does.
+//!
+//! A crate with tests is proved with them and without: so they stand here. What answers want of memory is asked for once more. So
+//! each test passes whichever single allocation is refused (`rt try --test --fail-alloc N`, for each N).
+#![tactic(auto)]
+
+#[cfg(test)]
+mod counter_tests;
+#[cfg(test)]
+mod given;
+#[cfg(test)]
+mod limit_tests;
+#[cfg(test)]
+mod order_tests;
+#[cfg(test)]
+mod seats;
+#[cfg(test)]
+mod thread_tests;
+#[cfg(test)]
+mod wait_tests;
