@@ -14,7 +14,8 @@ use std::sync::Wait;
 use step_table::Acquire;
 
 impl SemaTable {
-    /// Looks at the seat's grant word once, and takes what is granted.
+    /// Looks at the seat's grant word once, and takes what is granted. Each look writes the word: a caller that waits lets other
+    /// threads run between two of them.
     pub fn poll(&self, sleeping: Sleeping) -> Polled
         requires { sleeping.table ≡ self.now }
         ensures { IsPolled sleeping result }
