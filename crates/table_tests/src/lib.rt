@@ -9,6 +9,8 @@ mod counter_tests;
 #[cfg(test)]
 mod given;
 #[cfg(test)]
+mod handing_tests;
+#[cfg(test)]
 mod limit_tests;
 #[cfg(test)]
 mod order_tests;

@@ -1,9 +1,9 @@
 //! Threads that share a table.
 
-ghost use Rattle.std.specs.Prelude.{◌≡◌, All, IfOk};
+ghost use Rattle.std.specs.Prelude.{◌≡◌, All};
 ghost use Rattle.std.specs.Arc.{arc_value};
 
-use crate::given::{Sizes, new_again, one_counter, two_seats};
+use crate::given::{Sizes, new_again, one_counter, shared, two_seats};
 use crate::seats::{counts, has_value, posts};
 use sema_table::{Seat, SemaTable};
 use std::alloc::{AllocError, Global};
@@ -79,16 +79,6 @@ fn post_at_once<R: Abort + Threads + Copy + Send + 'static>(rt: R, first: Poster
     let second = end(&rt, second);
     shows(&rt, first, 2_000, 0);
     shows(&rt, second, 2_000, 0);
-}
-
-/// The table to be shared, asked for once more where memory was refused.
-fn shared(alloc: Global, table: SemaTable) -> Result<Arc<SemaTable, Global>, AllocError>
-    ensures { IfOk result (λ shared. arc_value shared ≡ table) }
-{
-    match Arc::new(alloc, table) {
-        Ok(shared) => Ok(shared),
-        Err(refused) => Ok(Arc::new(alloc, refused.value)?),
-    }
 }
 
 fn two_posters(
