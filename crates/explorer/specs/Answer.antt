@@ -1,7 +1,6 @@
 -- What the answers of `parklot once` print.
-use Rattle.std.specs.Prelude.{ℕ, List, [], ◌∷◌, ◌++◌, codes}
-use Rattle.std.specs.Fmt.{decimal}
-use Rattle.waiters.specs.declared.wait.WaitId.{WaitId}
+use Rattle.std.specs.Prelude.{ℕ, List, ◌++◌, codes}
+use Rattle.scenario_search.specs.Line.{line, wait_text}
 use Rattle.explorer.specs.declared.answer.Tried.{Tried}
 use Rattle.explorer.specs.declared.answer.Entered.{Entered}
 use Rattle.explorer.specs.declared.answer.Posted.{Posted}
@@ -29,10 +28,6 @@ posted_text Owes = codes "Owes"
 posted_text Done = codes "Done"
 posted_text Posting = codes "Posting"
 
--- a wait's seat, a dot and its turn
-abbrev pub wait_text : WaitId → List ℕ
-wait_text wait = decimal wait.seat ++ 46 ∷ decimal wait.turn
-
 abbrev pub woken_text : Woken → List ℕ
 woken_text (One wait) = codes "One " ++ wait_text wait
 woken_text Nobody = codes "Nobody"
@@ -42,10 +37,6 @@ abbrev pub retried_text : Retried → List ℕ
 retried_text RetriedTaken = codes "Taken"
 retried_text RetriedAsleep = codes "Asleep"
 retried_text Retrying = codes "Retrying"
-
--- a text and the end of its line
-abbrev pub line : List ℕ → List ℕ
-line text = text ++ 10 ∷ []
 
 -- the five lines
 abbrev pub once_lines : OnceAnswers → List ℕ

@@ -2,14 +2,11 @@
 
 ghost use Rattle.std.specs.Prelude.{◌≡◌, length, ◌↔◌, false, IsTrue, IfOk, IfErr, OnOk, OnErr, IsErr, string_bytes};
 ghost use Rattle.explorer.specs.Once.{once_parts_of};
-ghost use Rattle.explorer.specs.Output.{IsOnceText, OnceWrites};
+ghost use Rattle.explorer.specs.OnceText.{IsOnceText, OnceWrites};
 
 use crate::answer::OnceAnswers;
-use crate::exit::Exit;
-use crate::fault::IoFault;
-use crate::program::refuse_io;
 use crate::seen::Seen;
-use crate::sink::{Sink, write_all};
+use scenario_search::{Exit, IoFault, Sink, refuse_io, write_all};
 use std::alloc::{AllocError, Global};
 use step_core::{Call, CounterId, Items, NoMemory, Parts, Scenario, SeatId, StepRefused, World};
 

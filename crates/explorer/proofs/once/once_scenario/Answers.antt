@@ -4,7 +4,7 @@ use Rattle.step_table.specs.declared.call.Call.{Call}
 use Rattle.step_table.specs.declared.call.Call.TheVariants.{Acquire, Release}
 use Rattle.step_table.specs.Scenario.{IsWithinLimits, IsDeclared, KeepsTickets, AreTicketsKept, IsTicketCall, IsScript, IsOfFewUnits, IsCallOn}
 use Rattle.explorer.specs.Once.{once_parts_of}
-use Rattle.explorer.proofs.Scenarios.{taken}
+use Rattle.scenario_search.proofs.Scenarios.{taken}
 use Rattle.explorer.proofs.once.once_scenario.Goals as goal
 
 all_one : {X : Type 0} (P : X → Type 0) (x : X) → P x → All P (x ∷ [])
