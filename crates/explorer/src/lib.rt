@@ -2,15 +2,14 @@
 //!
 //! A command's text is whole before the first byte of it goes out, so that want of memory leaves nothing half
 //! told. It goes out through a [`Sink`], which knows whether a write failed, and the command answers with an
-//! [`Exit`].
+//! [`Exit`]. `once` makes the calls of the running table, some of which may wait: so the program asks for a runtime.
 #![tactic(auto)]
 
 mod answer;
 mod once;
 mod program;
-mod seen;
 
-pub use answer::{Entered, OnceAnswers, Posted, Retried, Tried, Woken};
+pub use answer::{OnceAnswers, Released, Retried};
 pub use once::{once_io, once_text};
 pub use program::{no_words_io, parklot_io};
 pub use scenario_search::{
