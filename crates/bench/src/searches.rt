@@ -1,7 +1,7 @@
 //! Searches of all schedules: what a world costs.
 
 use anyhow::{Result, bail};
-use explorer::{Found, explore, read_scenario};
+use scenario_search::{Found, explore, read_scenario};
 use std::alloc::Global;
 use std::time::{Clock, Instant};
 use step_core::Scenario;

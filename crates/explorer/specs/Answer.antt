@@ -1,57 +1,31 @@
--- What the answers of `parklot once` print.
-use Rattle.std.specs.Prelude.{ℕ, List, [], ◌∷◌, ◌++◌, codes}
-use Rattle.std.specs.Fmt.{decimal}
-use Rattle.waiters.specs.declared.wait.WaitId.{WaitId}
-use Rattle.explorer.specs.declared.answer.Tried.{Tried}
-use Rattle.explorer.specs.declared.answer.Entered.{Entered}
-use Rattle.explorer.specs.declared.answer.Posted.{Posted}
-use Rattle.explorer.specs.declared.answer.Woken.{Woken}
+-- The lines of `parklot once`.
+use Rattle.std.specs.Prelude.{ℕ, List, [], ◌++◌, Option, Some, None, codes}
+use Rattle.sema_table.specs.Texts.{tried_text, wake_text}
+use Rattle.scenario_search.specs.Line.{line}
+use Rattle.explorer.specs.declared.answer.Released.{Released}
+use Rattle.explorer.specs.declared.answer.Released.TheVariants.{Done, Owed}
 use Rattle.explorer.specs.declared.answer.Retried.{Retried}
+use Rattle.explorer.specs.declared.answer.Retried.TheVariants.{Taken, Asleep}
 use Rattle.explorer.specs.declared.answer.OnceAnswers.{OnceAnswers}
-use Rattle.explorer.specs.declared.answer.Tried.TheVariants.{Zero, Taken, Trying}
-use Rattle.explorer.specs.declared.answer.Entered.TheVariants.{Asleep as EnteredAsleep, Taken as EnteredTaken, Awake}
-use Rattle.explorer.specs.declared.answer.Posted.TheVariants.{Owes, Done, Posting}
-use Rattle.explorer.specs.declared.answer.Woken.TheVariants.{One, Nobody, Waking}
-use Rattle.explorer.specs.declared.answer.Retried.TheVariants.{Taken as RetriedTaken, Asleep as RetriedAsleep, Retrying}
+use Rattle.explorer.specs.declared.answer.OnceAnswers.TheVariants.{Tried, Entered, Slept}
 
-abbrev pub tried_text : Tried → List ℕ
-tried_text Zero = codes "Zero"
-tried_text Taken = codes "Taken"
-tried_text Trying = codes "Trying"
-
-abbrev pub entered_text : Entered → List ℕ
-entered_text EnteredAsleep = codes "Asleep"
-entered_text EnteredTaken = codes "Taken"
-entered_text Awake = codes "Awake"
-
-abbrev pub posted_text : Posted → List ℕ
-posted_text Owes = codes "Owes"
-posted_text Done = codes "Done"
-posted_text Posting = codes "Posting"
-
--- a wait's seat, a dot and its turn
-abbrev pub wait_text : WaitId → List ℕ
-wait_text wait = decimal wait.seat ++ 46 ∷ decimal wait.turn
-
-abbrev pub woken_text : Woken → List ℕ
-woken_text (One wait) = codes "One " ++ wait_text wait
-woken_text Nobody = codes "Nobody"
-woken_text Waking = codes "Waking"
+-- the post, and where that owed a look for a wait, the wake
+abbrev pub released_lines : Released → List ℕ
+released_lines Done = line (codes "seat 1 post: Done")
+released_lines (Owed wake) = line (codes "seat 1 post: Owes") ++ line (codes "seat 1 wake: " ++ wake_text wake)
 
 abbrev pub retried_text : Retried → List ℕ
-retried_text RetriedTaken = codes "Taken"
-retried_text RetriedAsleep = codes "Asleep"
-retried_text Retrying = codes "Retrying"
+retried_text Taken = codes "Taken"
+retried_text Asleep = codes "Asleep"
 
--- a text and the end of its line
-abbrev pub line : List ℕ → List ℕ
-line text = text ++ 10 ∷ []
+-- the retry, if it was made
+abbrev pub retried_lines : Option Retried → List ℕ
+retried_lines None = []
+retried_lines (Some retried) = line (codes "seat 0 retry: " ++ retried_text retried)
 
--- the five lines
+-- a line for each call that was made
 abbrev pub once_lines : OnceAnswers → List ℕ
-once_lines answers =
-    line (codes "seat 0 try: " ++ tried_text answers.tried)
-    ++ line (codes "seat 0 enter: " ++ entered_text answers.entered)
-    ++ line (codes "seat 1 post: " ++ posted_text answers.posted)
-    ++ line (codes "seat 1 wake: " ++ woken_text answers.woken)
-    ++ line (codes "seat 0 retry: " ++ retried_text answers.retried)
+once_lines (Tried tried) = line (codes "seat 0 try: " ++ tried_text tried)
+once_lines Entered = line (codes "seat 0 try: Zero") ++ line (codes "seat 0 enter: Taken")
+once_lines (Slept released retried) =
+    line (codes "seat 0 try: Zero") ++ line (codes "seat 0 enter: Asleep") ++ released_lines released ++ retried_lines retried

@@ -1,15 +1,3 @@
 pub mod Answer
-pub mod Exit
 pub mod Once
-pub mod Output
-pub mod ReplayText
-pub mod Seen
-pub mod Bad
-pub mod Tables
-pub mod Found
-pub mod KeysTell
-pub mod Explored
-pub mod ExploreText
-pub mod InputText
-pub mod Refusal
-pub mod Told
+pub mod OnceText

@@ -1,41 +1,19 @@
-//! Scenarios as text, the search for their first bad schedule, and the commands of `parklot`.
+//! The program's commands, over readers and writers: `once`, and those that search a scenario.
 //!
 //! A command's text is whole before the first byte of it goes out, so that want of memory leaves nothing half
 //! told. It goes out through a [`Sink`], which knows whether a write failed, and the command answers with an
-//! [`Exit`].
+//! [`Exit`]. `once` makes the calls of the running table, some of which may wait: so the program asks for a runtime.
 #![tactic(auto)]
 
 mod answer;
-mod answering;
-mod bad;
-mod exit;
-mod explorable;
-mod exploring;
-mod fault;
-mod flagged;
-mod found_text;
-mod input;
-mod kind;
 mod once;
 mod program;
-mod refusal;
-mod replay;
-mod seen;
-mod sink;
-mod source;
 
-pub use answer::{Entered, OnceAnswers, Posted, Retried, Tried, Woken};
-pub use answering::{explore_io, explore_variant_io, replay_io};
-pub use bad::verdict;
-pub use exit::Exit;
-pub use exploring::{MAX_DEPTH, explore, explore_variant};
-pub use fault::IoFault;
-pub use flagged::Flagged;
-pub use input::MAX_TEXT;
-pub use kind::Kind;
+pub use answer::{OnceAnswers, Released, Retried};
 pub use once::{once_io, once_text};
-pub use program::{NO_MEMORY, no_words_io, parklot_io};
-pub use scenario_text::{Cause, Property, ReadFault, Request, read_scenario};
-pub use search::Found;
-pub use sink::Sink;
-pub use source::Source;
+pub use program::{no_words_io, parklot_io};
+pub use scenario_search::{
+    Cause, Exit, Flagged, Found, IoFault, Kind, MAX_DEPTH, MAX_TEXT, NO_MEMORY, Property,
+    ReadFault, Request, Sink, Source, explore, explore_io, explore_variant, explore_variant_io,
+    read_scenario, replay_io, verdict,
+};

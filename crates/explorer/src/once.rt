@@ -1,112 +1,152 @@
-//! One acquire that sleeps and one release that wakes it, step by step.
+//! One acquire that sleeps and one release that wakes it, by the calls of the running table.
 
-ghost use Rattle.std.specs.Prelude.{◌≡◌, length, ◌↔◌, false, IsTrue, IfOk, IfErr, OnOk, OnErr, IsErr, string_bytes};
-ghost use Rattle.explorer.specs.Once.{once_parts_of};
-ghost use Rattle.explorer.specs.Output.{IsOnceText, OnceWrites};
+ghost use Rattle.std.specs.Prelude.{◌≡◌, ◌<◌, length, ◌↔◌, false, IsTrue, IfOk, IfErr, IfSome, IsErr, string_bytes};
+ghost use Rattle.explorer.specs.Once.{AreOnceSettings, IsOnceTable, IsOnceRun, IsReleased, IsGranted, IsAwakened};
+ghost use Rattle.explorer.specs.OnceText.{IsOnceText, OnceWrites};
 
-use crate::answer::OnceAnswers;
-use crate::exit::Exit;
-use crate::fault::IoFault;
-use crate::program::refuse_io;
-use crate::seen::Seen;
-use crate::sink::{Sink, write_all};
+use crate::answer::{OnceAnswers, Released, Retried};
+use scenario_search::{Exit, IoFault, Sink, refuse_io, write_all};
+use sema_table::{
+    Entered, Polled, Posted, Seat, SemaTable, Settings, SetupError, Sleeping, Tried, Woken,
+};
 use std::alloc::{AllocError, Global};
-use step_core::{Call, CounterId, Items, NoMemory, Parts, Scenario, SeatId, StepRefused, World};
+use std::sync::Wait;
+use waiters::{CounterId, NoMemory};
 
-/// One counter at 0, alone at its root: seat 0 acquires a unit, and seat 1 releases one.
+/// One counter at 0, alone at its root, and two seats, each of which may release once.
 ///
 /// It is an `Err` where memory is short.
-fn once_parts(alloc: Global) -> Result<Parts, AllocError>
-    ensures { IfOk result (λ parts. parts ≡ once_parts_of) }
+fn once_settings(alloc: Global) -> Result<Settings, AllocError>
+    ensures { IfOk result AreOnceSettings }
 {
-    let counter = CounterId::new(0);
-    let acquires = Items::new(vec![in alloc; Call::Acquire(counter, false)]?);
-    let releases = Items::new(vec![in alloc; Call::Release(counter, false)]?);
-    Ok(Parts {
+    Ok(Settings {
+        starts: vec![in alloc; 0]?,
+        seats: 2,
         roots: 1,
-        starts: Items::new(vec![in alloc; 0]?),
-        firsts: Items::new(Vec::new(alloc)),
-        groups: 0,
-        calls: Items::new(vec![in alloc; acquires, releases]?),
+        seed: 1,
+        release_limit: 1,
     })
 }
 
-/// The scenario of these parts, which none of its tests refuses.
+/// A table with these settings, which refuses them for want of memory alone, and its two seats.
 ///
 /// It is an `Err` where memory is short.
-fn once_scenario(alloc: Global) -> Result<Scenario, NoMemory>
-    ensures { IfOk result (λ scenario. length scenario.calls ≡ 2) }
+fn once_table(alloc: Global) -> Result<(SemaTable, Seat, Seat), NoMemory>
+    ensures { IfOk result (λ made. IsOnceTable made.0 made.1 made.2) }
 {
-    Ok(Scenario::of(once_parts(alloc)?).unwrap())
+    let (table, mut seats) = match SemaTable::new(alloc, once_settings(alloc)?) {
+        Ok(made) => made,
+        Err(SetupError::NoMemory) => return Err(NoMemory),
+        Err(_) => unreachable!(),
+    };
+    let second = seats.pop().unwrap();
+    let first = seats.pop().unwrap();
+    Ok((table, first, second))
 }
 
-/// Steps the seat so many times, or until it can't go on.
-///
-/// It is an `Err` where a step wants memory.
-fn step_times(world: &mut World<'_>, seat: SeatId, times: u8) -> Result<(), NoMemory>
-    ensures { world.new.parts ≡ world.old.parts }
+/// The release of seat 1.
+fn release<R: Wait>(rt: &R, table: &SemaTable, seat: Seat) -> Released
+    requires table { (seat.table ≡ table.now) × (0 < length table.now.setting.starts) }
+    requires left { 0 < seat.left }
+    ensures { IsReleased seat result }
 {
-    for _ in 0..times {
-        match world.step(seat) {
-            Ok(()) => {}
-            Err(StepRefused::NoMemory) => return Err(NoMemory),
-            Err(_) => break,
+    match table.post(seat, CounterId::new(0)) {
+        Ok(Posted::Done(_)) => Released::Done,
+        Ok(Posted::Owes(owing)) => Released::Owed(table.wake(rt, owing, false).1),
+        Err(_) => unreachable!(),
+    }
+}
+
+/// Polls until something is granted: whether the seat was woken, or else handed a unit.
+fn poll_on<R: Wait>(rt: &R, table: &SemaTable, sleeping: Sleeping) -> Option<Woken>
+    requires { sleeping.table ≡ table.now }
+    ensures table { IfSome result (λ woken. woken.table ≡ table.now) }
+    ensures granted { IsGranted sleeping result }
+{
+    let mut sleeping = sleeping;
+    for _ in rt.forever() {
+        sleeping = match table.poll(sleeping) {
+            Polled::Still(sleeping) => sleeping,
+            Polled::Woken(woken) => return Some(woken),
+            Polled::Handed(_) => return None,
+        };
+    }
+    unreachable!()
+}
+
+/// Lets a seat sleep until it has its unit: none can be let go before.
+fn sleep_on<R: Wait>(rt: &R, table: &SemaTable, sleeping: Sleeping)
+    requires { sleeping.table ≡ table.now }
+{
+    let mut sleeping = sleeping;
+    for _ in rt.forever() {
+        let Some(woken) = poll_on(rt, table, sleeping) else {
+            return;
+        };
+        sleeping = match table.retry(rt, woken) {
+            Entered::Taken(_) => return,
+            Entered::Asleep(sleeping) => sleeping,
+        };
+    }
+    unreachable!()
+}
+
+/// The retry of seat 0, once it was woken. There is none where it was handed a unit.
+fn retry<R: Wait>(rt: &R, table: &SemaTable, sleeping: Sleeping) -> Option<Retried>
+    requires { sleeping.table ≡ table.now }
+    ensures { IsAwakened sleeping result }
+{
+    let woken = poll_on(rt, table, sleeping)?;
+    match table.retry(rt, woken) {
+        Entered::Taken(_) => Some(Retried::Taken),
+        Entered::Asleep(sleeping) => {
+            sleep_on(rt, table, sleeping);
+            Some(Retried::Asleep)
         }
     }
-    Ok(())
 }
 
-/// The five lines of a run in this world, which has two seats.
+/// The acquire of seat 0, and while that sleeps the release of seat 1.
+fn run_once<R: Wait>(rt: &R, table: &SemaTable, first: Seat, second: Seat) -> OnceAnswers
+    requires first { (first.table ≡ table.now) × (0 < length table.now.setting.starts) }
+    requires second { (second.table ≡ table.now) × (0 < second.left) }
+    ensures { IsOnceRun first second result }
+{
+    let mut first = first;
+    match table.try_acquire(&mut first, CounterId::new(0)) {
+        Tried::Zero => {}
+        tried => return OnceAnswers::Tried(tried),
+    }
+    match table.enter(rt, first, CounterId::new(0), false) {
+        Entered::Taken(_) => OnceAnswers::Entered,
+        Entered::Asleep(sleeping) => {
+            let released = release(rt, table, second);
+            OnceAnswers::Slept(released, retry(rt, table, sleeping))
+        }
+    }
+}
+
+/// The lines of `parklot once`, whole: each tells what a call of the running table answered.
 ///
 /// It is an `Err` where memory is short.
-fn run_once(alloc: Global, world: &mut World<'_>) -> Result<String, NoMemory>
-    requires { length world.old.parts.calls ≡ 2 }
+pub fn once_text<R: Wait>(rt: &R, alloc: Global) -> Result<String, NoMemory>
     ensures { IfOk result (λ text. IsOnceText (string_bytes text)) }
 {
-    let counter = CounterId::new(0);
-    let acquirer = SeatId::new(0);
-    let releaser = SeatId::new(1);
-    step_times(world, acquirer, 1)?;
-    let tried = Seen::of(world, acquirer).tried(counter);
-    step_times(world, acquirer, 4)?;
-    let entered = Seen::of(world, acquirer).entered(counter);
-    step_times(world, releaser, 2)?;
-    let posted = Seen::of(world, releaser).posted();
-    step_times(world, releaser, 5)?;
-    let woken = Seen::of(world, releaser).woken(counter);
-    step_times(world, acquirer, 3)?;
-    let retried = Seen::of(world, acquirer).retried(counter);
-    let answers = OnceAnswers {
-        tried,
-        entered,
-        posted,
-        woken,
-        retried,
-    };
+    let (table, first, second) = once_table(alloc)?;
+    let answers = run_once(rt, &table, first, second);
     Ok(format!(in alloc; "{answers}")?)
 }
 
-/// The five lines of `parklot once`, whole: each tells where the machine stands after a part of the run.
-///
-/// It is an `Err` where memory is short.
-pub fn once_text(alloc: Global) -> Result<String, NoMemory>
-    ensures { IfOk result (λ text. IsOnceText (string_bytes text)) }
-{
-    let scenario = once_scenario(alloc)?;
-    let mut world = World::new(alloc, &scenario)?;
-    run_once(alloc, &mut world)
-}
-
-/// Runs `parklot once`: writes its five lines, or the refusal alone where memory is short.
+/// Runs `parklot once`: writes its lines, or the refusal alone where memory is short.
 ///
 /// It is an `Err` where a write fails. The text is whole before the first write.
-pub fn once_io<S: Sink>(alloc: Global, out: &mut S) -> Result<Exit, IoFault>
+pub fn once_io<R: Wait, S: Sink>(rt: &R, alloc: Global, out: &mut S) -> Result<Exit, IoFault>
     requires { S.has_failed out.old ≡ false }
     ensures whole { IfOk result (OnceWrites (S.contents out.old) (S.contents out.new)) }
     ensures failed { IsErr result ↔ IsTrue (S.has_failed out.new) }
     ensures fault { IfErr result (λ e. e ≡ IoFault.Write) }
 {
-    match once_text(alloc) {
+    match once_text(rt, alloc) {
         Ok(text) => {
             write_all(out, text.as_bytes())?;
             Ok(Exit::NothingBad)

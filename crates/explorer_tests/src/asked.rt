@@ -4,6 +4,7 @@ use crate::devices::{Calls, Giving, SOUND, Taking};
 use explorer::{Flagged, NO_MEMORY, parklot_io};
 use std::alloc::Global;
 use std::process::Abort;
+use std::sync::Wait;
 
 /// How the program's input and its two streams behave.
 #[derive(Clone, Copy, Debug, Drop)]
@@ -22,6 +23,7 @@ pub(crate) const ALL_SOUND: Devices = Devices {
 
 /// What goes to the two streams of the program for these words and this input, and its status.
 pub(crate) fn ask(
+    rt: &impl Wait,
     alloc: Global,
     words: &[&str],
     input: &[u8],
@@ -30,7 +32,7 @@ pub(crate) fn ask(
     let mut reader = Flagged::new(Giving::new(input, devices.input));
     let mut out = Flagged::new(Taking::new(alloc, devices.out));
     let mut err = Flagged::new(Taking::new(alloc, devices.err));
-    let status = parklot_io(alloc, words, &mut reader, &mut out, &mut err);
+    let status = parklot_io(rt, alloc, words, &mut reader, &mut out, &mut err);
     (
         out.into_inner().into_taken(),
         err.into_inner().into_taken(),
@@ -65,25 +67,25 @@ impl Told<'_> {
 
 /// This is what the program tells over these devices, and it ends so.
 pub(crate) fn tells_over(
-    rt: &impl Abort,
+    rt: &(impl Abort + Wait),
     alloc: Global,
     words: &[&str],
     input: &[u8],
     devices: Devices,
     told: Told<'_>,
 ) {
-    let (out, err, status) = ask(alloc, words, input, devices);
+    let (out, err, status) = ask(rt, alloc, words, input, devices);
     if told.fits(&out, &err, status) {
         return;
     }
     assert!(rt; is_short(&out, status), "{words:?}");
-    let (out, err, status) = ask(alloc, words, input, devices);
+    let (out, err, status) = ask(rt, alloc, words, input, devices);
     assert!(rt; told.fits(&out, &err, status), "{words:?}");
 }
 
 /// This is all that the program tells, on its output, and it ends so.
 pub(crate) fn tells(
-    rt: &impl Abort,
+    rt: &(impl Abort + Wait),
     alloc: Global,
     words: &[&str],
     input: &[u8],
@@ -101,7 +103,7 @@ pub(crate) fn tells(
 
 /// A replay of this schedule tells this of the input, and no more, and ends so.
 pub(crate) fn replays(
-    rt: &impl Abort,
+    rt: &(impl Abort + Wait),
     alloc: Global,
     input: &[u8],
     spelled: &str,
@@ -113,7 +115,7 @@ pub(crate) fn replays(
 }
 
 /// The program ends well. Its output begins with this text, and it tells nothing else.
-pub(crate) fn answers(rt: &impl Abort, alloc: Global, words: &[&str], text: &str) {
+pub(crate) fn answers(rt: &(impl Abort + Wait), alloc: Global, words: &[&str], text: &str) {
     let told = Told {
         out: text.as_bytes(),
         err: b"",
@@ -124,7 +126,7 @@ pub(crate) fn answers(rt: &impl Abort, alloc: Global, words: &[&str], text: &str
 }
 
 /// These words are a mistake: what is told begins with this text, and nothing goes to the output.
-pub(crate) fn is_a_mistake(rt: &impl Abort, alloc: Global, words: &[&str], text: &str) {
+pub(crate) fn is_a_mistake(rt: &(impl Abort + Wait), alloc: Global, words: &[&str], text: &str) {
     let told = Told {
         out: b"",
         err: text.as_bytes(),

@@ -7,6 +7,7 @@ use crate::reading::ONE_ACQUIRE;
 use explorer::{Exit, Flagged, IoFault, explore_io, explore_variant_io, once_io, replay_io};
 use std::alloc::Global;
 use std::process::Abort;
+use std::sync::Wait;
 use step_core::Variant;
 
 /// The commands. Their input has one acquire.
@@ -56,6 +57,7 @@ const REPLAY: Command = Command {
 };
 
 fn answer_io(
+    rt: &impl Wait,
     alloc: Global,
     asked: Asked,
     input: Calls,
@@ -64,7 +66,7 @@ fn answer_io(
     let mut reader = Flagged::new(Giving::new(ONE_ACQUIRE, input));
     let mut out = Flagged::new(Taking::new(alloc, out));
     let ended = match asked {
-        Asked::Once => once_io(alloc, &mut out),
+        Asked::Once => once_io(rt, alloc, &mut out),
         Asked::Explore => explore_io(alloc, &mut reader, &mut out, 32),
         Asked::ExploreVariant => {
             explore_variant_io(alloc, &mut reader, &mut out, 32, Variant::NoLook)
@@ -85,7 +87,7 @@ fn told_of(ended: Result<Exit, IoFault>) -> (&'static [u8], u8) {
 
 /// Over these devices the command writes this, and ends so.
 fn ends_io(
-    rt: &impl Abort,
+    rt: &(impl Abort + Wait),
     alloc: Global,
     asked: Asked,
     input: Calls,
@@ -93,19 +95,19 @@ fn ends_io(
     told: &[u8],
     ended: Result<Exit, IoFault>,
 ) {
-    let (taken, found) = answer_io(alloc, asked, input, out);
+    let (taken, found) = answer_io(rt, alloc, asked, input, out);
     if taken.as_slice() == told && found == ended {
         return;
     }
     assert!(rt; is_short(&taken, told_of(found).1));
-    let (taken, found) = answer_io(alloc, asked, input, out);
+    let (taken, found) = answer_io(rt, alloc, asked, input, out);
     assert!(rt; taken.as_slice() == told);
     assert!(rt; found == ended);
 }
 
 /// Over these devices the command and the program write this, and end so.
 fn ends(
-    rt: &impl Abort,
+    rt: &(impl Abort + Wait),
     alloc: Global,
     command: Command,
     input: Calls,
@@ -132,7 +134,7 @@ fn ends(
 /// How many bytes a read gives at most, and how many reads the whole input takes, its end included.
 const READS: [(usize, u32); 4] = [(1, 37), (3, 13), (35, 3), (usize::MAX, 2)];
 
-fn a_read_fails_of(rt: &impl Abort, alloc: Global, command: Command) {
+fn a_read_fails_of(rt: &(impl Abort + Wait), alloc: Global, command: Command) {
     let told = command.told.as_bytes();
     for (at_once, reads) in READS {
         for left in 0..reads {
@@ -158,7 +160,7 @@ fn once_reads_nothing(rt: HostRuntime) {
     ends(&rt, rt.alloc(), ONCE, BROKEN, SOUND, told, Ok(ONCE.exit));
 }
 
-fn a_write_fails_of(rt: &impl Abort, alloc: Global, command: Command, at_once: usize) {
+fn a_write_fails_of(rt: &(impl Abort + Wait), alloc: Global, command: Command, at_once: usize) {
     let told = command.told.as_bytes();
     for left in 0..u32::MAX {
         let sent = at_once.saturating_mul(left as usize).min(told.len());

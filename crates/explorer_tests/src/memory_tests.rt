@@ -6,19 +6,20 @@ use crate::reading::{ONE_ACQUIRE, read};
 use explorer::{Cause, Found, Kind, NO_MEMORY, ReadFault, Request, explore, read_scenario};
 use std::alloc::Global;
 use std::process::Abort;
+use std::sync::Wait;
 use std::test::Fail;
 use step_core::{Scenario, SeatId};
 
 /// The answer is this one, or memory was short: nothing went out, or that alone was told.
 fn told_or_short(
-    rt: &impl Abort,
+    rt: &(impl Abort + Wait),
     alloc: Global,
     words: &[&str],
     input: &[u8],
     told: &str,
     status: u8,
 ) {
-    let (out, err, ended) = ask(alloc, words, input, ALL_SOUND);
+    let (out, err, ended) = ask(rt, alloc, words, input, ALL_SOUND);
     let is_told = ended == status && out.as_slice() == told.as_bytes() && err.is_empty();
     let is_short = ended == 2 && (out.is_empty() || out.as_slice() == NO_MEMORY.as_bytes());
     assert!(rt; is_told || is_short);

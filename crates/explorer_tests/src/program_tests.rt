@@ -6,6 +6,7 @@ use explorer::{Flagged, NO_MEMORY, no_words_io, once_text};
 use std::alloc::Global;
 use std::io::{self, ErrorKind};
 use std::process::Abort;
+use std::sync::Wait;
 use std::test::Fail;
 use step_core::NoMemory;
 
@@ -27,16 +28,16 @@ Usage: parklot once
 For more information, try '--help'.
 ";
 
-fn once_again(alloc: Global) -> Result<String, NoMemory> {
-    match once_text(alloc) {
+fn once_again(rt: &impl Wait, alloc: Global) -> Result<String, NoMemory> {
+    match once_text(rt, alloc) {
         Ok(text) => Ok(text),
-        Err(_) => once_text(alloc),
+        Err(_) => once_text(rt, alloc),
     }
 }
 
 #[test]
 fn once_tells_five_lines(rt: HostRuntime) -> Result<(), Fail> {
-    let text = once_again(rt.alloc())?;
+    let text = once_again(&rt, rt.alloc())?;
     assert_eq!(rt; text.as_str(), FIVE_LINES);
     Ok(())
 }

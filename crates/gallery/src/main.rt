@@ -9,6 +9,7 @@ use anyhow::Result;
 use explorer::{Flagged, parklot_io};
 use std::alloc::{AllocError, Global};
 use std::fs;
+use std::sync::Wait;
 
 /// How a line with the words of a command begins.
 const PROMPT: &str = "$ parklot ";
@@ -48,22 +49,22 @@ fn words_of(alloc: Global, command: &str) -> Result<Vec<String>, AllocError> {
 }
 
 /// What the program writes for this command, and how it ends.
-fn answer(alloc: Global, scenario: &str, command: &str) -> Result<String> {
+fn answer<R: Wait>(rt: &R, alloc: Global, scenario: &str, command: &str) -> Result<String> {
     let words = words_of(alloc, command)?;
     let mut input = Flagged::new(scenario.as_bytes());
     let mut out = Flagged::new(Vec::new(alloc));
     let mut err = Flagged::new(Vec::new(alloc));
-    let status = parklot_io(alloc, words.as_slice(), &mut input, &mut out, &mut err);
+    let status = parklot_io(rt, alloc, words.as_slice(), &mut input, &mut out, &mut err);
     let text = String::from_utf8(out.into_inner())?;
     Ok(format!(in alloc; "{PROMPT}{command}\n{text}exit {status}\n")?)
 }
 
 /// The commands that are told, each with what the program answers.
-fn answers(alloc: Global, scenario: &str, told: &str) -> Result<String> {
+fn answers<R: Wait>(rt: &R, alloc: Global, scenario: &str, told: &str) -> Result<String> {
     let mut answers = String::new(alloc);
     for line in told.lines() {
         if let Some(command) = line.strip_prefix(PROMPT) {
-            let text = answer(alloc, scenario, command)?;
+            let text = answer(rt, alloc, scenario, command)?;
             answers.push_str(&text)?;
         }
     }
@@ -75,7 +76,7 @@ fn main(rt: HostRuntime) -> Result<()> {
     for name in NAMES {
         let scenario = fs::read_to_string(&rt, format!(in alloc; "{name}.txt")?)?;
         let told = fs::read_to_string(&rt, format!(in alloc; "{name}.answers")?)?;
-        let answers = answers(alloc, &scenario, &told)?;
+        let answers = answers(&rt, alloc, &scenario, &told)?;
         if answers == told {
             println!(rt; "{name}: as told")?;
         } else {

@@ -15,7 +15,7 @@ fn main(rt: HostRuntime) -> ExitCode {
         .collect(alloc)
         .map_err(io::Error::from));
     ExitCode::from(match words {
-        Ok(words) => parklot_io(alloc, words.as_slice(), &mut input, &mut out, &mut err),
+        Ok(words) => parklot_io(&rt, alloc, words.as_slice(), &mut input, &mut out, &mut err),
         Err(error) => no_words_io(&error, &mut out, &mut err),
     })
 }

@@ -1,6 +1,9 @@
 //! What calls answer.
+ghost use Rattle.std.specs.Prelude.{Some};
+ghost use Rattle.sema_table.specs.Texts.{tried_text, wake_text};
 
 use crate::seat::{Owing, Seat, Sleeping, Woken};
+use std::fmt;
 use waiters::WaitId;
 
 /// What a try came to.
@@ -56,4 +59,28 @@ pub enum Wake {
     One(WaitId),
     /// The first wait, with a unit.
     Handed(WaitId),
+}
+
+impl fmt::Display for Tried {
+    ghost output = { λ tried. Some (tried_text tried) };
+
+    fn fmt<W: fmt::Write>(&self, f: &mut fmt::Formatter<W>) -> fmt::Result {
+        f.write_str(match self {
+            Tried::Taken => "Taken",
+            Tried::Zero => "Zero",
+            Tried::Lost => "Lost",
+        })
+    }
+}
+
+impl fmt::Display for Wake {
+    ghost output = { λ wake. Some (wake_text wake) };
+
+    fn fmt<W: fmt::Write>(&self, f: &mut fmt::Formatter<W>) -> fmt::Result {
+        match self {
+            Wake::Nobody => f.write_str("Nobody"),
+            Wake::One(wait) => write!(f, "One {wait}"),
+            Wake::Handed(wait) => write!(f, "Handed {wait}"),
+        }
+    }
 }
