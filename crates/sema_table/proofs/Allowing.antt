@@ -38,6 +38,7 @@ use Rattle.sema_table.specs.Plays as plays
 use Rattle.sema_table.proofs.Words.{low_root, is_lock, locks_unwritten, listed_agree, same_record}
 use Rattle.sema_table.specs.Places.{Begins}
 use Rattle.sema_table.proofs.Bounding.{taken_most}
+use Rattle.sema_table.proofs.Resting.{free_counted}
 use Rattle.sema_table.proofs.Adding.{adding}
 use Rattle.sema_table.proofs.Keeping.{Kept_state, inside_list, Fits, Known, known, b, t, after, rule_kept, ran, home_stays, lists_are, lists_told, read_is}
 
@@ -309,6 +310,7 @@ module _ (i : ℕ) (m : Me) (s : Kept_state) (r : IsKept m.0.setting s) (at : ge
     same = refl;
     came = omega arith;
     most = let a = taken_most m.0.setting m.0.number r.world r.reached r.small r.counted there in omega (arith, viewed.2.takes);
+    counted = free_counted m.0.setting m.0.number seen_now r.world r.reached there refl refl viewed.2.takes;
     held = λ c h. told c ∙ sym (viewed.2.held c h);
     few = (the_accounts.unwrapped lay r.world r.reached r.small).turns m.0.number there;
     there = there;

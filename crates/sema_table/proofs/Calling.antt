@@ -1,11 +1,13 @@
 -- What a caller reads of the rows that a call ran.
-use Rattle.std.proofs.Common.{◌≡◌, ℕ, List, [], ◌∷◌, ◌++◌, sym, ap, ◌∙◌, subst, append-nil, append_assoc}
+use Rattle.std.proofs.Common.{◌≡◌, ℕ, Bool, true, false, List, [], ◌∷◌, ◌++◌, sym, ap, ◌∙◌, subst, append-nil, append_assoc}
 use Rattle.step_table.specs.declared.entry.Entry.{Entry}
 use Rattle.step_table.specs.declared.place.Place.{Place}
+use Rattle.step_table.specs.declared.place.Release.{Release}
+use Rattle.step_table.specs.declared.word.Word.TheVariants.{Grant}
 use Rattle.step_table.specs.World.{Layout, SeatState}
-use Rattle.step_table.specs.Path.{GoesOn, all_told}
+use Rattle.step_table.specs.Path.{GoesOn, runs, all_told}
 use Rattle.step_table.proofs.Paths.{goes_on_more, goes_on_here, stride_told, stride_later}
-use Rattle.sema_law.specs.SemaPath.{SemaSight, SemaStride, SemaPath, semaphores, placed}
+use Rattle.sema_law.specs.SemaPath.{SemaSight, SemaStride, SemaPath, semaphores, placed, row_event, word_of_deed, word_of_stride}
 use Rattle.sema_table.specs.declared.view.View.{View}
 use Rattle.sema_table.specs.declared.seat.Numbers.{Numbers}
 use Rattle.sema_table.specs.Plays as plays
@@ -14,10 +16,10 @@ use Rattle.sema_law.proofs.SemaPaths.{the_sema_paths}
 use Rattle.sema_table.specs.Setting.{layout}
 use Rattle.sema_table.specs.Rule.{stands_by, sight_by}
 use Rattle.sema_table.proofs.Walking.{told_append}
-use Rattle.sema_table.specs.Walks.{Walked, moved_to}
+use Rattle.sema_table.specs.Walks.{Walked, moved_to, granting, grant_of}
 use Rattle.waiters.specs.declared.wait.WaitId.{WaitId}
-use Rattle.sema_table.specs.Waking.{CallsLast}
-use Rattle.sema_table.specs.Calls.{TellsIn, Calls, CallsRows, rows_of, IsAt}
+use Rattle.sema_table.specs.Waking.{CallsGrant}
+use Rattle.sema_table.specs.Calls.{TellsIn, Calls, CallsRows, rows_of}
 
 tells_later : (a b told now : List Entry) → GoesOn b a → TellsIn b told now → TellsIn a told now
 tells_later a b [] now later tells = goes_on_more a b now later tells
@@ -66,10 +68,6 @@ row_is v w from n r = λ i. ((r.ran.stood i).place, r.read i)
 pub same_table : (s t : Token) (from : Place) (a : SeatState) (told : List Entry) (j : ℕ) → Walked s from t a told j → table_of t ≡ table_of s
 same_table s t from a told j x = x.table_is
 
--- the seat stands where its rows led
-pub is_at : (s t : Token) (k : Numbers) (from : Place) (a : SeatState) (told : List Entry) (j : ℕ) → Walked s from t a told j → IsAt (seat_of t k) a.place
-is_at s t k from a told j x = ap (λ (q : SeatState). q.place) x.stands_is
-
 -- a call that went on after rows that told nothing
 pub calls_after : (s t : Token) (n : Numbers) (u : SeatModel) (from p : Place) (told : List Entry) (j : ℕ) → IsToken s n → Walked s from t (moved_to s p) [] j → Calls (seat_of t n) p u told → Calls (seat_of s n) from u told
 calls_after s t n u from p told j is x c = record {
@@ -84,9 +82,20 @@ calls_after s t n u from p told j is x c = record {
     stays : record (stands_by t.me.0) { place = p } ≡ stands_by t.me.0
     stays = λ i. record (stands_by t.me.0) { place = (sym x.stands_is i).place }
 
-pub calls_last : (s t : Token) (n k : Numbers) (from : Place) (a : SeatState) (told : List Entry) (j : ℕ) (before : List SemaStride) (last : SemaStride) (place : Place) (hand : List WaitId) → IsToken s n → (x : Walked s from t a told j)
-    → x.strides ≡ before ++ last ∷ [] → last.stood.place ≡ place → last.stood.hand ≡ hand → CallsLast (seat_of s n) from (seat_of t k) told place hand
-calls_last s t n k from a told j before last place hand is x ends row in_hand = subst (λ i. CallsLast (record (seat_of s n) { number = i }) from (seat_of t k) told place hand) is.number_is (record {
+-- the row that grants stores in the grant word of the wait's seat
+module _ (m : Layout) (i : ℕ) (a : Release) (turn : ℕ) (w : WaitId) (last : SemaStride) where
+  granted_word : (handed : Bool) → last.deed ≡ runs → last.stood ≡ record { place = granting a handed; turn = turn; hand = w ∷ [] } → word_of_stride m i last ≡ Grant w.seat
+  granted_word true did stood = λ j. word_of_deed m i (record last { stood = stood j }) (did j)
+  granted_word false did stood = λ j. word_of_deed m i (record last { stood = stood j }) (did j)
+
+  granted_number : (handed : Bool) → last.stood ≡ record { place = granting a handed; turn = turn; hand = w ∷ [] } → (row_event m i last).becomes last.read ≡ grant_of handed
+  granted_number true stood = λ j. (row_event m i (record last { stood = stood j })).becomes last.read
+  granted_number false stood = λ j. (row_event m i (record last { stood = stood j })).becomes last.read
+
+pub calls_grant : (s t : Token) (n k : Numbers) (from : Place) (b : SeatState) (told : List Entry) (j : ℕ) (before : List SemaStride) (last : SemaStride) (a : Release) (handed : Bool) (turn : ℕ) (w : WaitId) → IsToken s n
+    → (x : Walked s from t b told j) → x.strides ≡ before ++ last ∷ [] → last.deed ≡ runs → last.stood ≡ record { place = granting a handed; turn = turn; hand = w ∷ [] }
+    → CallsGrant (seat_of s n) from (seat_of t k) told (granting a handed) w (grant_of handed)
+calls_grant s t n k from b told j before last a handed turn w is x ends did stood = subst (λ i. CallsGrant (record (seat_of s n) { number = i }) from (seat_of t k) told (granting a handed) w (grant_of handed)) is.number_is (record {
   call = record {
     strides = x.strides;
     path = x.path;
@@ -96,6 +105,9 @@ calls_last s t n k from a told j before last place hand is x ends row in_hand = 
   before = before;
   last = last;
   strides_are = ends;
-  row = row;
-  hand_is = in_hand;
+  did = did;
+  row = ap (λ (q : SeatState). q.place) stood;
+  hand_is = ap (λ (q : SeatState). q.hand) stood;
+  word = granted_word (layout s.me.0.setting) s.me.0.number a turn w last handed did stood;
+  stored = granted_number (layout s.me.0.setting) s.me.0.number a turn w last handed stood;
 })

@@ -19,7 +19,7 @@ use Rattle.sema_table.specs.Walks.{Stands, Walked, IsLast, moved_to, parked}
 use Rattle.sema_table.specs.Calls.{Calls}
 use Rattle.sema_table.specs.Waking.{IsEntered}
 use Rattle.sema_table.proofs.Walking.{walked_on, walked_then, walked_adds, token_after, added_few}
-use Rattle.sema_table.proofs.Calling.{calls, is_at}
+use Rattle.sema_table.proofs.Calling.{calls}
 
 -- a seat after rows that added nothing stands where they led
 pub stands_at : (z : TableModel) (s t : Token) (n : Numbers) (from : Place) (a : SeatState) (told : List Entry) (j : ℕ) → IsToken s n → table_of s ≡ z → counter_at a.place < length z.setting.starts → Walked s from t a told j
@@ -73,12 +73,13 @@ module _ (s t2 t3 t4 t5 : Token) (n : Numbers) (a : Acquire) (is : IsToken s n) 
     entered_seat = record {
       token_is = token_after s t5 (Acquiring a A3) (moved_to s Rest) took 1 n counted is ended bare is.empty is.turns_are (omega arith) refl refl;
       free = ap (λ (q : SeatState). is_free q.place) ended.stands_is;
+      counted = ended.counted refl;
     }
 
     pub entered_taken : IsEntered (seat_of s n) a (Acquiring a A3) (Taken (seat_of t5 counted))
     entered_taken = (
       (λ i. record { table = ended.table_is i; number = n.seat; left = n.left; taken = n.taken + 1; sight = sight_by t5.me.0 }),
-      is_at s t5 counted (Acquiring a A3) (moved_to s Rest) took 1 ended,
+      ended.stands_is,
       subst (λ k. Calls (seat_of s n) (Acquiring a A3) (seat_of t5 counted) (Take a.counter k ∷ [])) (looked.number_is ∙ is.number_is)
           (calls s t5 n counted (Acquiring a A3) (moved_to s Rest) took 1 is ended),
     )
@@ -109,7 +110,7 @@ module _ (s t3 t4 : Token) (n : Numbers) (a : Acquire) (w : WaitId) (is : IsToke
   pub entered_asleep : IsLast t4 (Queue a.counter w a.lifo) → IsEntered (seat_of s n) a (Acquiring a A3) (Asleep (seat_of t4 later))
   entered_asleep last = (
     (λ i. record { table = slept.table_is i; number = n.seat; left = n.left; taken = n.taken; sight = sight_by t4.me.0 }),
-    ap (λ (q : SeatState). q.place) slept.stands_is,
+    slept.stands_is,
     subst (λ x. Calls (seat_of s n) (Acquiring a A3) (seat_of t4 later) (Queue a.counter x a.lifo ∷ [])) wait_is (calls s t4 n later (Acquiring a A3) (parked s a) queues 0 is slept),
     subst (λ x. IsLast t4 (Queue a.counter x a.lifo)) wait_is last,
   )

@@ -30,7 +30,7 @@ use Rattle.sema_table.specs.Plays.{Me, Ran, begin, stepped}
 use Rattle.sema_table.proofs.Keeping.{Kept_state}
 use Rattle.sema_table.proofs.Allowing.{allowed_at}
 use Rattle.sema_table.specs.Seats.{Token, TableModel}
-use Rattle.sema_table.specs.Walks.{Walked, HasRecord, Granted, moved_to, taken_out, sought, granting}
+use Rattle.sema_table.specs.Walks.{Walked, HasRecord, Granted, moved_to, taken_out, sought, granting, grant_of}
 use Rattle.sema_table.proofs.Words.{listed_agree, same_record}
 use Rattle.sema_table.proofs.Leading.{Goes, next_by, led, load_zero, load_some, won, lost}
 use Rattle.sema_table.proofs.Walking.{walked_row, walked_then, ran_from}
@@ -124,12 +124,14 @@ module _ (s u : Token) (a : Release) (id : WaitId) (n : ℕ) (r : Ran s.me.0 n u
     walked = walked_row s u (Releasing a R9) n (Rest, Wakes) row (led (begin (Releasing a R9) s.me.0) u.me.0 (Releasing a R9) n row refl) same;
     stride = row.stride;
     strides_are = refl;
+    did = row.did;
     stood = row.ran.stood;
   }
   granted false at = let row = ran_from s u (Releasing a R10) n at r in record {
     walked = walked_row s u (Releasing a R10) n (Rest, Wakes) row (led (begin (Releasing a R10) s.me.0) u.me.0 (Releasing a R10) n row refl) same;
     stride = row.stride;
     strides_are = refl;
+    did = row.did;
     stood = row.ran.stood;
   }
 
@@ -182,11 +184,6 @@ module _ (s0 s u : Token) (a : Release) (id : WaitId) (n : ℕ) (before : Walked
 -- what a step tells may be less
 told_less : (holds : Kept_state → Type 0) (slots id i : ℕ) (m : Me) (f : ℕ → ℕ) (A B : ℕ → Me → Type 0) → ((n : ℕ) (t : Me) → A n t → B n t) → Allows holds slots id m i f A → Allows holds slots id m i f B
 told_less holds slots id i m f A B less step s r sized at below = let o = step s r sized at below in (o.0, o.1, o.2, o.3, less (slice_index s.words i) (o.0, carried_after m.1 o.1) o.4)
-
--- how much a grant is
-abbrev pub grant_of : Bool → ℕ
-grant_of true = 2
-grant_of false = 1
 
 -- the store of a grant keeps the rule
 pub grants_at : (z : Setting) (slots id i : ℕ) (m : Me) (a : Release) (handed : Bool) → m.0.place ≡ granting a handed → added_by m.0.number m.0.seen ≤ 2 ^ 40 → address m.0.setting (Grant (waiter m.0.number m.0.hand)) ≡ i

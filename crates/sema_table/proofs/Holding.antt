@@ -1,5 +1,5 @@
 -- The record of a root while a seat holds the root's lock.
-use Rattle.std.proofs.Common.{◌≡◌, ℕ, ◌+◌, ◌<◌, Bool, true, false, List, [], ◌∷◌, length, get_or, map, drop, slice_get, Some, sym, refl, ap, ◌∙◌, subst, arith}
+use Rattle.std.proofs.Common.{◌≡◌, ℕ, ◌+◌, ◌<◌, Bool, true, false, List, [], ◌∷◌, length, get_or, map, drop, slice_get, Option, Some, None, IsSome, suc, sym, refl, ap, ◌∙◌, subst, arith}
 use Rattle.std.proofs.lemmas.List.{map-append}
 use native.Mathlib.Decide.{ℕ_discrete}
 use Rattle.atomic_table.specs.Table.{rest}
@@ -21,12 +21,12 @@ use Rattle.sema_law.proofs.SemaPaths.{the_sema_paths}
 use Rattle.sema_law.proofs.Raising.{waits_up}
 use Rattle.sema_root.specs.Queues.{waits_on, joined_by, Changes}
 use Rattle.sema_root.specs.Queues as queues
-use Rattle.sema_root.specs.Treap.{Treap, queues_of}
+use Rattle.sema_root.specs.Treap.{Treap, Tickets, Draws, queues_of, ticket_of, drawn_from}
 use Rattle.sema_table.specs.declared.view.Setting.{Setting}
 use Rattle.sema_table.specs.declared.view.Record.{Record}
 use Rattle.sema_table.specs.declared.view.Record.TheVariants.{Root, Out}
 use Rattle.sema_table.specs.Setting.{root, layout}
-use Rattle.sema_table.specs.Rule.{sight_by, lists_by, IsRecord}
+use Rattle.sema_table.specs.Rule.{sight_by, lists_by, drawn_after, IsRecord}
 use Rattle.sema_table.specs.Plays.{Ran, begin}
 use Rattle.sema_table.specs.Seats.{Token, TableModel, table_of}
 use Rattle.sema_table.specs.Walks.{HasRecord, HasRoom, Edited, lists_of}
@@ -61,6 +61,14 @@ has_room s t from n a r same at =
     let sum = total_same (length z.starts) (λ d. on (root z d) x (length (lists_by z t.me.0.seen d))) (λ d. on (root z d) x (length (w.words.lists d))) (λ d h. ap (λ (k : List WaitId). on (root z d) x (length k)) (lists d)) in
     subst (λ (y : TableModel). total (length y.setting.starts) (λ d. on (root y.setting d) (root y.setting a.counter) (length (lists_by y.setting t.me.0.seen d))) < y.setting.seats) (sym same) (omega arith)
 
+-- a counter that comes in draws one ticket more
+draws_on : (y t : Treap) (c : ℕ) {first : Tickets} → (n : ℕ) × (y.tickets ≡ drawn_after n first) → Draws y t c → (n : ℕ) × (t.tickets ≡ drawn_after n first)
+draws_on y t c {first = first} was draws = by (ticket_of y.tree c) refl
+  where
+    by : (found : Option ℕ) → ticket_of y.tree c ≡ found → (n : ℕ) × (t.tickets ≡ drawn_after n first)
+    by (Some k) e = (was.0, draws.waited (subst IsSome (sym e) refl) ∙ was.1)
+    by None e = (suc was.0, (draws.came e).1 ∙ ap (λ (x : Tickets). drawn_from x.generator) was.1)
+
 -- the record after a wait was put in
 module _ (z : Setting) (r c : ℕ) (y t : Treap) (l : ℕ → List WaitId) where
   map_joined : (lifo : Bool) (w : Wait) (ws : List Wait) → map (λ (x : Wait). x.id) (joined_by lifo w ws) ≡ insert_wait lifo w.id (map (λ (x : Wait). x.id) ws)
@@ -69,11 +77,12 @@ module _ (z : Setting) (r c : ℕ) (y t : Treap) (l : ℕ → List WaitId) where
   map_joined false w ws = map-append (λ (x : Wait). x.id) ws (w ∷ [])
 
   pub queued_record : (lifo : Bool) (w : Wait) → IsRecord z r y l → root z c ≡ r → c < length z.starts → Changes (queues_of y.tree) (queues_of t.tree) c (joined_by lifo w (waits_on (queues_of y.tree) c))
-      → queues.total (queues_of t.tree) ≡ queues.total (queues_of y.tree) + 1 → t.seats ≡ y.seats → IsRecord z r t (put l c (insert_wait lifo w.id (l c)))
-  queued_record lifo w is at inside change count seats = record {
+      → queues.total (queues_of t.tree) ≡ queues.total (queues_of y.tree) + 1 → t.seats ≡ y.seats → Draws y t c → IsRecord z r t (put l c (insert_wait lifo w.id (l c)))
+  queued_record lifo w is at inside change count seats draws = record {
     waits = λ q e. by q e (ℕ_discrete q c);
     count = let up = waits_up (layout z) r c l (insert_wait lifo w.id (l c)) inside (length_insert lifo w.id (l c)) in let one = on_here (root z c) 1 in let same = ap (λ x. on (root z c) x 1) at in let was = is.count in omega arith;
     seats = seats ∙ is.seats;
+    drawn = draws_on y t c is.drawn draws;
   }
     where
       by : (q : ℕ) → root z q ≡ r → Dec (q ≡ c) → map (λ (x : Wait). x.id) (waits_on (queues_of t.tree) q) ≡ put l c (insert_wait lifo w.id (l c)) q
@@ -88,8 +97,8 @@ module _ (z : Setting) (r c : ℕ) (y t : Treap) (l : ℕ → List WaitId) where
   map_rest (w ∷ ws) = refl
 
   pub dequeued_record : (w : WaitId) (ws : List WaitId) → l c ≡ w ∷ ws → IsRecord z r y l → root z c ≡ r → c < length z.starts → Changes (queues_of y.tree) (queues_of t.tree) c (drop 1 (waits_on (queues_of y.tree) c))
-      → queues.total (queues_of t.tree) + 1 ≡ queues.total (queues_of y.tree) → t.seats ≡ y.seats → IsRecord z r t (put l c (drop 1 (l c)))
-  dequeued_record w ws first is at inside change count seats = record {
+      → queues.total (queues_of t.tree) + 1 ≡ queues.total (queues_of y.tree) → t.seats ≡ y.seats → t.tickets ≡ y.tickets → IsRecord z r t (put l c (drop 1 (l c)))
+  dequeued_record w ws first is at inside change count seats undrawn = record {
     waits = λ q e. by q e (ℕ_discrete q c);
     count = let x : List WaitId = drop 1 (l c) in let shorter : length x + 1 ≡ length (l c) = ap (λ (k : List WaitId). length (drop 1 k) + 1) first ∙ (omega arith) ∙ ap length (sym first) in
         let changed = total_change (length z.starts) (λ d. on (root z d) r (length (l d))) (λ d. on (root z d) r (length (put l c x d))) c inside
@@ -99,6 +108,7 @@ module _ (z : Setting) (r c : ℕ) (y t : Treap) (l : ℕ → List WaitId) where
         let two : on (root z c) r (length (l c)) ≡ length (l c) = ap (λ k. on (root z c) k (length (l c))) (sym at) ∙ on_here (root z c) (length (l c)) in
         let was = is.count in omega arith;
     seats = seats ∙ is.seats;
+    drawn = (is.drawn.0, undrawn ∙ is.drawn.1);
   }
     where
       by : (q : ℕ) → root z q ≡ r → Dec (q ≡ c) → map (λ (x : Wait). x.id) (waits_on (queues_of t.tree) q) ≡ put l c (drop 1 (l c)) q

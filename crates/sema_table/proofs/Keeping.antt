@@ -38,6 +38,7 @@ use Rattle.sema_table.specs.Places.{Begins}
 use Rattle.sema_table.proofs.Beginning.{begun, begins_holds, begins_carries}
 use Rattle.sema_table.proofs.Adding.{adding, step_adds, own_adds}
 use Rattle.sema_table.proofs.Bounding.{taken_most}
+use Rattle.sema_table.proofs.Resting.{free_counted}
 
 abbrev pub Kept_state : Type 0
 Kept_state = State Record View
@@ -249,6 +250,7 @@ module _ (s : Kept_state) (v : View) (r : IsKept v.setting s) (at : get_elem? s.
       same = refl;
       came = ap (λ (q : Place). v.taken + gains q (t.seats id).place) here;
       most = came_most;
+      counted = free_counted z id after t reached_after there refl refl came;
       held = λ c h. ap (λ y. y.lists c) (sym lawful.journal.0) ∙ sym (knows.held c h);
       few = (the_accounts.unwrapped m t reached_after small_after).turns id there;
       there = there;

@@ -8,12 +8,15 @@ pub the_table : TheTable
 the_table z s kept = record {
   world = kept.world;
   reached = kept.reached;
+  small = kept.small;
   lawful = the_law.reached (layout z) kept.world kept.reached;
   named = the_accounts.named (layout z) kept.world kept.reached;
   shows = record {
     words = kept.words;
     homes = kept.homes;
-    stands = λ k v at. (kept.views k v at).2.meets.stands;
-    seen = λ k v at. (kept.views k v at).2.meets.later;
+    views = kept.views;
+    unmade = kept.unmade;
+    wide = kept.wide;
+    deep = kept.deep;
   };
 }

@@ -3,6 +3,7 @@ pub mod Owned
 pub mod Beginning
 pub mod Adding
 pub mod Bounding
+pub mod Resting
 pub mod Keeping
 pub mod Allowing
 pub mod Stepping

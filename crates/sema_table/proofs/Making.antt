@@ -19,6 +19,7 @@ use Rattle.step_table.proofs.Paths.{goes_on_here}
 use Rattle.sema_law.specs.Served.{served}
 use Rattle.sema_table.specs.declared.view.View.{View}
 use Rattle.sema_table.specs.declared.view.Setting.{Setting}
+use Rattle.sema_root.specs.Treap.{tickets_from}
 use Rattle.sema_table.specs.Setting.{root, layout, address, words_in, IsThere}
 use Rattle.sema_table.specs.Rule.{Knows, IsViewOf, IsKept, fresh, first_view, making, made_by}
 use Rattle.std.proofs.lemmas.List.Elements.{All-map}
@@ -77,27 +78,28 @@ module _ (z : Setting) where
   }
 
   -- the rule holds of a table with one seat, whose words are those of the first world and whose roots are empty
-  pub opens : (seed : ℕ) → 0 < z.roots → 0 < z.seats → z.seats ≤ 256 → length z.starts ≤ 65536 → All (λ n. n < 2 ^ 32) z.starts
-      → IsKept z (opening (z.starts ++ replicate (z.roots + z.roots + z.seats) 0) (new_roots z.seats seed z.roots) (first_view z))
-  opens seed rooted seated most counted starts = record {
+  pub opens : 0 < z.roots → 0 < z.seats → z.seats ≤ 256 → length z.starts ≤ 65536 → All (λ n. n < 2 ^ 32) z.starts
+      → IsKept z (opening (z.starts ++ replicate (z.roots + z.roots + z.seats) 0) (new_roots z.seats z.seed z.roots) (first_view z))
+  opens rooted seated most counted starts = record {
     world = first;
     reached = none;
     small = record { seats = most; starts = small_starts z.starts starts; few = λ k h. omega arith };
     words = first_words z (z.roots + z.roots + z.seats);
     homes = λ r h free. (
       _,
-      listed (λ q. new_root z.seats ((seed + q) % 2 ^ 64)) 0 z.roots r h,
+      listed (λ q. new_root z.seats ((z.seed + q) % 2 ^ 64)) 0 z.roots r h,
       record {
         waits = λ c e. refl;
         count = sym (nothing (length z.starts) (λ c. on (root z c) r 0) (λ c. on_zero (root z c) r));
         seats = refl;
+        drawn = (0, ap (λ k. tickets_from ((z.seed + k) % 2 ^ 64)) (omega arith));
       },
     );
     views = one;
     unmade = λ k h low. meets_first k 0;
     maker = alone;
     wide = words_long z;
-    deep = length-map (new_roots z.seats seed z.roots) some ∙ length-map-range_with_len _ 0 z.roots;
+    deep = length-map (new_roots z.seats z.seed z.roots) some ∙ length-map-range_with_len _ 0 z.roots;
     fits = omega arith;
     rooted = rooted;
     counted = counted;

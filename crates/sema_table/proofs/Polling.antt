@@ -29,7 +29,7 @@ use Rattle.sema_table.specs.Tries.{LooksAt}
 use Rattle.sema_table.specs.Waking.{IsPolled}
 use Rattle.sema_table.proofs.Leading.{Goes, led}
 use Rattle.sema_table.proofs.Walking.{walked_row, token_after}
-use Rattle.sema_table.proofs.Calling.{calls_rows, row_is, is_at}
+use Rattle.sema_table.proofs.Calling.{calls_rows, row_is}
 use Rattle.sema_table.proofs.Trying.{looked_token, looked_stays, looked_table, looks_at}
 
 module _ (s t : Token) (n : Numbers) (a : Acquire) (turn k : ℕ) (seat : IsSleeping s n a turn) (same : t.table_id ≡ s.table_id) (bare : t.me.1 ≡ s.me.1) where
@@ -89,7 +89,7 @@ module _ (s t : Token) (n : Numbers) (a : Acquire) (turn k : ℕ) (seat : IsSlee
         a,
         turn,
         seat.at,
-        is_at s t n parked (moved_to s (Acquiring a A10)) [] 0 x,
+        x.stands_is,
         calls_rows s t n n parked (moved_to s (Acquiring a A10)) [] 0 ((parked, 1) ∷ []) seat.token_is x
             (subst (λ j. rows_of (row.stride ∷ []) ≡ (parked, j) ∷ []) e (ap (λ y. y ∷ []) (row_is s.me.0 t.me.0 parked k row))),
       ),
@@ -102,6 +102,7 @@ module _ (s t : Token) (n : Numbers) (a : Acquire) (turn k : ℕ) (seat : IsSlee
     handed_seat ne = let x = handed_walk ne in record {
       token_is = token_after s t parked (moved_to s Rest) [] 1 n counted seat.token_is x (bare ∙ seat.token_is.bare) seat.token_is.empty seat.token_is.turns_are (omega arith) refl refl;
       free = ap (λ (q : SeatState). is_free q.place) x.stands_is;
+      counted = x.counted refl;
     }
 
     pub polled_handed : k ≢ 1 → 0 < k → IsPolled (seat_of s n) (Handed (seat_of t counted))
@@ -113,7 +114,7 @@ module _ (s t : Token) (n : Numbers) (a : Acquire) (turn k : ℕ) (seat : IsSlee
         let unit : HasItsUnit a.counter (wait s.me.0.number turn) world.journal
         = (the_law.reached (layout s.me.0.setting) world row.ran.meets.met).grants.1 s.me.0.number a.counter turn row.there (a, refl, ap (λ (y : SeatState). y.place) stood) (sym granted ∙ two) in (
           (λ i. record { table = x.table_is i; number = n.seat; left = n.left; taken = n.taken + 1; sight = sight_by t.me.0 }),
-          is_at s t counted parked (moved_to s Rest) [] 1 x,
+          x.stands_is,
           (
             a,
             turn,

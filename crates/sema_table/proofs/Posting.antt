@@ -17,7 +17,7 @@ use Rattle.sema_table.specs.Calls.{CallsRows, rows_of}
 use Rattle.sema_table.specs.Tries.{releasing, IsPosted}
 use Rattle.sema_table.proofs.Leading.{Goes, next_by, led, load_zero, load_some}
 use Rattle.sema_table.proofs.Walking.{walked_row, walked_on, token_after}
-use Rattle.sema_table.proofs.Calling.{calls_rows, row_is, is_at}
+use Rattle.sema_table.proofs.Calling.{calls_rows, row_is}
 
 -- the row that adds the unit
 module _ (s t : Token) (n : Numbers) (c k : ℕ) (r : Ran (begin (releasing c R1) s.me.0) k t.me.0) (same : t.table_id ≡ s.table_id) where
@@ -66,6 +66,7 @@ module _ (s t u : Token) (n : Numbers) (c k found : ℕ) (seat : IsSeat s n) (so
   done_seat e = let x = done_walk e in let o = on_here s.me.0.number 1 in record {
     token_is = token_after s u (releasing c R1) (moved_to t Rest) (Add c s.me.0.number ∷ []) 0 n fewer seat.token_is x bare_after hand_is turns_stay (omega arith) refl (omega arith);
     free = ap (λ (q : SeatState). is_free q.place) x.stands_is;
+    counted = x.counted refl;
   }
 
   pub owing_seat : 0 < found → c < length s.me.0.setting.starts → IsOwing u fewer c
@@ -78,7 +79,7 @@ module _ (s t u : Token) (n : Numbers) (c k found : ℕ) (seat : IsSeat s n) (so
   pub posted_done : found ≡ 0 → IsPosted (seat_of s n) c (Done (seat_of u fewer))
   posted_done e = let x = done_walk e in (
     (λ i. record { table = x.table_is i; number = n.seat; left = n.left - 1; taken = n.taken; sight = sight_by u.me.0 }),
-    is_at s u fewer (releasing c R1) (moved_to t Rest) (Add c s.me.0.number ∷ []) 0 x,
+    x.stands_is ∙ ap (λ (q : SeatState). record q { place = Rest }) one.stands_is,
     (
       k,
       subst (λ i. CallsRows (seat_of s n) (releasing c R1) (seat_of u fewer) (Add c i ∷ []) ((releasing c R1, k) ∷ (releasing c R2, 0) ∷ [])) seat.token_is.number_is
@@ -90,7 +91,7 @@ module _ (s t u : Token) (n : Numbers) (c k found : ℕ) (seat : IsSeat s n) (so
   pub posted_owes : 0 < found → IsPosted (seat_of s n) c (Owes (seat_of u fewer))
   posted_owes h = let x = owes_walk h in let is : found ≡ found - 1 + 1 = omega arith in (
     (λ i. record { table = x.table_is i; number = n.seat; left = n.left - 1; taken = n.taken; sight = sight_by u.me.0 }),
-    is_at s u fewer (releasing c R1) (moved_to t (releasing c R3)) (Add c s.me.0.number ∷ []) 0 x,
+    x.stands_is ∙ ap (λ (q : SeatState). record q { place = releasing c R3 }) one.stands_is,
     (
       k,
       found - 1,

@@ -22,7 +22,7 @@ use Rattle.sema_table.specs.Calls.{Calls}
 use Rattle.sema_table.specs.Waking.{IsEntered, IsRetried}
 use Rattle.sema_table.proofs.Leading.{Goes, next_by, led, load_zero, load_some, won, lost}
 use Rattle.sema_table.proofs.Walking.{walked_row, walked_then, ran_from, token_after}
-use Rattle.sema_table.proofs.Calling.{calls, calls_after, is_at}
+use Rattle.sema_table.proofs.Calling.{calls, calls_after}
 
 -- A10, after rows that led there
 module _ (s0 s u : Token) (a : Acquire) (n : ℕ) (before : Walked s0 (Acquiring a A10) s (moved_to s0 (Acquiring a A10)) [] 0) (r : Ran s.me.0 n u.me.0) (same : u.table_id ≡ s.table_id) where
@@ -77,6 +77,7 @@ module _ (s t : Token) (n : Numbers) (a : Acquire) (seat : IsWoken s n a) (x : W
   retried_seat = record {
     token_is = token_after s t (Acquiring a A10) (moved_to s Rest) took 1 n counted seat.token_is x (bare ∙ seat.token_is.bare) seat.token_is.empty seat.token_is.turns_are (omega arith) refl refl;
     free = ap (λ (q : SeatState). is_free q.place) x.stands_is;
+    counted = x.counted refl;
   }
 
   pub retried_taken : IsRetried (seat_of s n) (Taken (seat_of t counted))
@@ -85,7 +86,7 @@ module _ (s t : Token) (n : Numbers) (a : Acquire) (seat : IsWoken s n a) (x : W
     seat.at,
     (
       (λ i. record { table = x.table_is i; number = n.seat; left = n.left; taken = n.taken + 1; sight = sight_by t.me.0 }),
-      is_at s t counted (Acquiring a A10) (moved_to s Rest) took 1 x,
+      x.stands_is,
       subst (λ k. Calls (seat_of s n) (Acquiring a A10) (seat_of t counted) (Take a.counter k ∷ [])) seat.token_is.number_is (calls s t n counted (Acquiring a A10) (moved_to s Rest) took 1 seat.token_is x),
     ),
   )
@@ -104,7 +105,7 @@ module _ (s t : Token) (n : Numbers) (a : Acquire) (seat : IsWoken s n a) (x : W
     seat.at,
     (
       e.0 ∙ (λ i. record { table = x.table_is i; number = n.seat; left = n.left; taken = n.taken + 1; sight = u.sight }),
-      e.1,
+      e.1 ∙ ap (λ (q : SeatState). record q { place = Rest }) x.stands_is,
       calls_after s t n u (Acquiring a A10) (Acquiring a A3) (Take a.counter n.seat ∷ []) 0 seat.token_is x e.2,
     ),
   )
@@ -113,7 +114,7 @@ module _ (s t : Token) (n : Numbers) (a : Acquire) (seat : IsWoken s n a) (x : W
     seat.at,
     (
       e.0 ∙ (λ i. record { table = x.table_is i; number = n.seat; left = n.left; taken = n.taken; sight = u.sight }),
-      e.1 ∙ ap (λ k. Acquiring a (P k)) same_turn,
+      e.1 ∙ ap (λ (q : SeatState). record { place = Acquiring a (P q.turn); turn = q.turn + 1; hand = q.hand }) x.stands_is,
       calls_after s t n u (Acquiring a A10) (Acquiring a A3) (Queue a.counter (wait n.seat s.me.0.turn) a.lifo ∷ []) 0 seat.token_is x
           (subst (λ k. Calls (seat_of t n) (Acquiring a A3) u (Queue a.counter (wait n.seat k) a.lifo ∷ [])) same_turn e.2),
       subst (λ k. (before : List Entry) × (u.sight.seen ≡ before ++ Queue a.counter (wait n.seat k) a.lifo ∷ [])) same_turn e.3,

@@ -15,7 +15,7 @@ use Rattle.step_table.specs.Counting.{total, on}
 use Rattle.step_table.specs.Path.{Deed, looks, OnlyLooked, Did}
 use Rattle.step_table.proofs.Paths.{stride_told}
 use Rattle.step_table.proofs.Sums.{total_same}
-use Rattle.sema_law.specs.SemaPath.{SemaDid, semaphores, word_of_deed}
+use Rattle.sema_law.specs.SemaPath.{SemaDid, semaphores, placed, word_of_deed}
 use Rattle.sema_law.proofs.Promises.{the_law}
 use Rattle.sema_law.proofs.Accounts.{the_accounts}
 use Rattle.sema_law.proofs.SemaPaths.{the_sema_paths}
@@ -31,7 +31,7 @@ use Rattle.sema_table.specs.Calls.{CallsRows, rows_of, plain_seen}
 use Rattle.sema_table.specs.Tries.{acquiring, LooksAt, IsValue, IsWaiters, waits_seen, IsTried}
 use Rattle.sema_table.proofs.Leading.{Goes, next_by, led, load_zero, load_some, won, lost}
 use Rattle.sema_table.proofs.Walking.{walked_by, walked_row, walked_on, token_after}
-use Rattle.sema_table.proofs.Calling.{calls_rows, row_is, is_at}
+use Rattle.sema_table.proofs.Calling.{calls_rows, row_is}
 
 -- a look
 module _ (s t : Token) (n : Numbers) (w : Word) (k : ℕ) (token : IsToken s n) (r : Strode s.me.0 (looks w) k t.me.0) (same : t.table_id ≡ s.table_id) (bare : t.me.1 ≡ s.me.1) where
@@ -64,12 +64,14 @@ module _ (s t : Token) (n : Numbers) (w : Word) (k : ℕ) (token : IsToken s n) 
     did = r.did;
     read = r.read;
     stays = stays;
+    later = (the_sema_paths.paths (layout s.me.0.setting)).grows s.me.0.number (placed s.me.0.place (sight_by s.me.0)) (sight_by t.me.0) walked.strides walked.path;
   })
 
 pub looked_seat : (s t : Token) (n : Numbers) (w : Word) (k : ℕ) → IsSeat s n → Strode s.me.0 (looks w) k t.me.0 → t.table_id ≡ s.table_id → t.me.1 ≡ s.me.1 → IsSeat t n
 looked_seat s t n w k seat r same bare = record {
   token_is = looked_token s t n w k seat.token_is r same bare;
   free = ap (λ (q : SeatState). is_free q.place) (looked_stays s t n w k seat.token_is r same bare) ∙ seat.free;
+  counted = (walked s t n w k seat.token_is r same bare).counted seat.free;
 }
 
 pub is_value : (s t : Token) (n : Numbers) (c k : ℕ) → IsSeat s n → Strode s.me.0 (looks (Counter c)) k t.me.0 → t.table_id ≡ s.table_id → t.me.1 ≡ s.me.1
@@ -120,6 +122,7 @@ module _ (s t : Token) (n : Numbers) (c k : ℕ) (seat : IsSeat s n) (r : Ran (b
   zero_seat e = let x = walked_zero e in record {
     token_is = token_after s t (acquiring c A1) (moved_to s (acquiring c A3)) [] 0 n n seat.token_is x (bare ∙ seat.token_is.bare) seat.token_is.empty seat.token_is.turns_are (omega arith) refl (omega arith);
     free = ap (λ (q : SeatState). is_free q.place) x.stands_is;
+    counted = x.counted refl;
   }
 
   -- what A1 read is the number after all that is seen
@@ -137,7 +140,7 @@ module _ (s t : Token) (n : Numbers) (c k : ℕ) (seat : IsSeat s n) (r : Ran (b
   pub tried_zero : k ≡ 0 → IsTried (seat_of s n) c Zero (seat_of t n)
   tried_zero e = let x = walked_zero e in (
     (λ i. record { table = x.table_is i; number = n.seat; left = n.left; taken = n.taken; sight = sight_by t.me.0 }),
-    is_at s t n (acquiring c A1) (moved_to s (acquiring c A3)) [] 0 x,
+    x.stands_is,
     calls_rows s t n n (acquiring c A1) (moved_to s (acquiring c A3)) [] 0 ((acquiring c A1, 0) ∷ []) seat.token_is x
         (subst (λ j. rows_of (r.stride ∷ []) ≡ (acquiring c A1, j) ∷ []) e (ap (λ y. y ∷ []) (row_is s.me.0 t.me.0 (acquiring c A1) k r))),
     number_zero e,
@@ -194,12 +197,13 @@ module _ (s t u : Token) (n : Numbers) (c k found : ℕ) (seat : IsSeat s n) (r 
   lost_seat ne = let x = lost_walk ne in record {
     token_is = token_after s u (acquiring c A1) (moved_to t (acquiring c A1)) [] 0 n n seat.token_is x bare_after hand_is turns_stay (omega arith) refl (omega arith);
     free = ap (λ (q : SeatState). is_free q.place) x.stands_is;
+    counted = x.counted refl;
   }
 
   pub tried_lost : found ≢ k → IsTried (seat_of s n) c Lost (seat_of u n)
   tried_lost ne = let x = lost_walk ne in let k_is : k ≡ k - 1 + 1 = omega arith in (
     (λ i. record { table = x.table_is i; number = n.seat; left = n.left; taken = n.taken; sight = sight_by u.me.0 }),
-    is_at s u n (acquiring c A1) (moved_to t (acquiring c A1)) [] 0 x,
+    x.stands_is ∙ ap (λ (q : SeatState). record q { place = acquiring c A1 }) one.stands_is,
     (
       k - 1,
       found,
@@ -216,12 +220,13 @@ module _ (s t u : Token) (n : Numbers) (c k found : ℕ) (seat : IsSeat s n) (r 
   taken_seat e = let x = taken_walk e in record {
     token_is = token_after s u (acquiring c A1) (moved_to t Rest) (Take c t.me.0.number ∷ []) 1 n counted seat.token_is x bare_after hand_is turns_stay (omega arith) refl refl;
     free = ap (λ (q : SeatState). is_free q.place) x.stands_is;
+    counted = x.counted refl;
   }
 
   pub tried_taken : found ≡ k → IsTried (seat_of s n) c Taken (seat_of u counted)
   tried_taken e = let x = taken_walk e in let k_is : k ≡ k - 1 + 1 = omega arith in (
     (λ i. record { table = x.table_is i; number = n.seat; left = n.left; taken = n.taken + 1; sight = sight_by u.me.0 }),
-    is_at s u counted (acquiring c A1) (moved_to t Rest) (Take c t.me.0.number ∷ []) 1 x,
+    x.stands_is ∙ ap (λ (q : SeatState). record q { place = Rest }) one.stands_is,
     (
       k - 1,
       subst (λ i. CallsRows (seat_of s n) (acquiring c A1) (seat_of u counted) (Take c i ∷ []) ((acquiring c A1, k - 1 + 1) ∷ (before, k - 1 + 1) ∷ [])) (one.number_is ∙ seat.token_is.number_is)

@@ -19,11 +19,12 @@ use Rattle.sema_table.specs.declared.answers.Wake.TheVariants.{Nobody, One, Hand
 use Rattle.sema_table.specs.Places.{is_free}
 use Rattle.sema_table.specs.Rule.{stands_by, sight_by, lists_by}
 use Rattle.sema_table.specs.Seats.{Token, TableModel, seat_of, IsToken, IsSeat}
-use Rattle.sema_table.specs.Walks.{Stands, Walked, Granted, moved_to, taken_out, sought, trying, unlocked, granting, taken_for}
-use Rattle.sema_table.specs.Calls.{IsAt}
-use Rattle.sema_table.specs.Waking.{CallsLast, Wakes}
+use Rattle.sema_table.specs.Walks.{Stands, Walked, Granted, moved_to, taken_out, sought, trying, unlocked, granting, grant_of, taken_for}
+use Rattle.sema_table.specs.Calls.{ComesTo}
+use Rattle.sema_table.specs.Waking.{CallsGrant, Wakes}
 use Rattle.sema_table.proofs.Walking.{walked_on, walked_via, walked_then, walked_yet, stands_on, token_after}
-use Rattle.sema_table.proofs.Calling.{calls, calls_last, is_at}
+use Rattle.sema_table.proofs.Resting.{not_both}
+use Rattle.sema_table.proofs.Calling.{calls, calls_grant}
 
 pub not_trying : (r : Release) → r.handoff ≡ false → trying r ≡ Releasing r R10
 not_trying r e = ap (λ b. if b then Releasing r R7 else Releasing r R10) e
@@ -31,9 +32,16 @@ not_trying r e = ap (λ b. if b then Releasing r R7 else Releasing r R10) e
 pub is_trying : (r : Release) → r.handoff ≡ true → trying r ≡ Releasing r R7
 is_trying r e = ap (λ b. if b then Releasing r R7 else Releasing r R10) e
 
+trying_busy : (r : Release) → is_free (trying r) ≡ false
+trying_busy r = by r.handoff
+  where
+    by : (b : Bool) → is_free (if b then Releasing r R7 else Releasing r R10) ≡ false
+    by true = refl
+    by false = refl
+
 -- without handoff no row runs
 pub no_unit : (z : TableModel) (s : Token) (r : Release) (w : WaitId) → Stands z s (trying r) → r.handoff ≡ false → Walked s (trying r) s (moved_to s (granting r false)) (taken_for r w false) 0
-no_unit z s r w stands e = subst (λ q. Walked s (trying r) s (moved_to s q) [] 0) (not_trying r e) (walked_yet z s (trying r) stands)
+no_unit z s r w stands e = subst (λ q. Walked s (trying r) s (moved_to s q) [] 0) (not_trying r e) (walked_yet z s (trying r) (trying_busy r) stands)
 
 pub tried_unit : (s t : Token) (r : Release) (w : WaitId) (b : Bool) → r.handoff ≡ true
     → MatchBool b (Walked s (Releasing r R7) t (moved_to s (Releasing r R9)) (Take r.counter w.seat ∷ []) 0) (Walked s (Releasing r R7) t (moved_to s (Releasing r R10)) [] 0)
@@ -56,12 +64,13 @@ module _ (s t1 t2 t3 : Token) (n : Numbers) (a : Release) (is : IsToken s n) (x1
   nobody_seat = record {
     token_is = token_after s t3 (Releasing a R3) (moved_to s Rest) [] 0 n n is ended bare is.empty is.turns_are (omega arith) refl (omega arith);
     free = ap (λ (q : SeatState). is_free q.place) ended.stands_is;
+    counted = ended.counted refl;
   }
 
-  pub wakes_nobody : (seat_of t3 n ≡ record (seat_of s n) { sight = sight_by t3.me.0 }) × IsAt (seat_of t3 n) Rest × Wakes (seat_of s n) a (seat_of t3 n) Nobody
+  pub wakes_nobody : (seat_of t3 n ≡ record (seat_of s n) { sight = sight_by t3.me.0 }) × ComesTo (seat_of s n) Rest (seat_of t3 n) × Wakes (seat_of s n) a (seat_of t3 n) Nobody
   wakes_nobody = (
     (λ i. record { table = ended.table_is i; number = n.seat; left = n.left; taken = n.taken; sight = sight_by t3.me.0 }),
-    is_at s t3 n (Releasing a R3) (moved_to s Rest) [] 0 ended,
+    ended.stands_is,
     calls s t3 n n (Releasing a R3) (moved_to s Rest) [] 0 is ended,
   )
 
@@ -110,27 +119,28 @@ module _ (s t1 t3 t4 t5 : Token) (n : Numbers) (a : Release) (w : WaitId) (hande
       token_is = token_after s t5 (Releasing a R3) (record { place = Rest; turn = t4.me.0.turn; hand = drop 1 t4.me.0.hand }) (told ++ []) 0 n n is all_ended bare (ap (drop 1) hand_is)
           (ap (λ (y : SeatState). y.turn) settled.stands_is ∙ is.turns_are) (let q = nothing_added in omega arith) refl (omega arith);
       free = ap (λ (q : SeatState). is_free q.place) all_ended.stands_is;
+      counted = all_ended.counted refl;
     }
 
     pub same_seat : seat_of t5 n ≡ record (seat_of s n) { sight = sight_by t5.me.0 }
     same_seat = λ i. record { table = all_ended.table_is i; number = n.seat; left = n.left; taken = n.taken; sight = sight_by t5.me.0 }
 
-    pub at_rest : IsAt (seat_of t5 n) Rest
-    at_rest = is_at s t5 n (Releasing a R3) (record { place = Rest; turn = t4.me.0.turn; hand = drop 1 t4.me.0.hand }) (told ++ []) 0 all_ended
+    pub at_rest : ComesTo (seat_of s n) Rest (seat_of t5 n)
+    at_rest = all_ended.stands_is ∙ (λ i. record { place = Rest; turn = (settled.stands_is i).turn; hand = (ap (drop 1) hand_is ∙ sym is.empty) i })
 
-    pub last_granted : CallsLast (seat_of s n) (Releasing a R3) (seat_of t5 n) (Leave a.counter w n.seat ∷ taken_for a w handed) (granting a handed) (w ∷ [])
-    last_granted = subst (λ i. CallsLast (seat_of s n) (Releasing a R3) (seat_of t5 n) (Leave a.counter w i ∷ taken_for a w handed) (granting a handed) (w ∷ [])) (own ∙ is.number_is)
-        (subst (λ l. CallsLast (seat_of s n) (Releasing a R3) (seat_of t5 n) l (granting a handed) (w ∷ [])) (append-nil told)
-        (calls_last s t5 n n (Releasing a R3) (record { place = Rest; turn = t4.me.0.turn; hand = drop 1 t4.me.0.hand }) (told ++ []) 0 settled.strides x5.stride (granting a handed) (w ∷ []) is all_ended
-        (ap (λ l. settled.strides ++ l) x5.strides_are) (ap (λ (y : SeatState). y.place) x5.stood) (ap (λ (y : SeatState). y.hand) x5.stood ∙ hand_is)))
+    pub last_granted : CallsGrant (seat_of s n) (Releasing a R3) (seat_of t5 n) (Leave a.counter w n.seat ∷ taken_for a w handed) (granting a handed) w (grant_of handed)
+    last_granted = subst (λ i. CallsGrant (seat_of s n) (Releasing a R3) (seat_of t5 n) (Leave a.counter w i ∷ taken_for a w handed) (granting a handed) w (grant_of handed)) (own ∙ is.number_is)
+        (subst (λ l. CallsGrant (seat_of s n) (Releasing a R3) (seat_of t5 n) l (granting a handed) w (grant_of handed)) (append-nil told)
+        (calls_grant s t5 n n (Releasing a R3) (record { place = Rest; turn = t4.me.0.turn; hand = drop 1 t4.me.0.hand }) (told ++ []) 0 settled.strides x5.stride a handed t4.me.0.turn w is all_ended
+        (ap (λ l. settled.strides ++ l) x5.strides_are) x5.did (x5.stood ∙ (λ i. record { place = granting a handed; turn = t4.me.0.turn; hand = hand_is i }))))
 
 -- what a caller is told of it
-module _ (s t : Token) (n : Numbers) (a : Release) (w : WaitId) (handed : Bool) (last : CallsLast (seat_of s n) (Releasing a R3) (seat_of t n) (Leave a.counter w n.seat ∷ taken_for a w handed) (granting a handed) (w ∷ [])) where
+module _ (s t : Token) (n : Numbers) (a : Release) (w : WaitId) (handed : Bool) (last : CallsGrant (seat_of s n) (Releasing a R3) (seat_of t n) (Leave a.counter w n.seat ∷ taken_for a w handed) (granting a handed) w (grant_of handed)) where
   pub wakes_one : handed ≡ false → Wakes (seat_of s n) a (seat_of t n) (One w)
-  wakes_one e = subst (λ b. CallsLast (seat_of s n) (Releasing a R3) (seat_of t n) (Leave a.counter w n.seat ∷ taken_for a w b) (granting a b) (w ∷ [])) e last
+  wakes_one e = subst (λ b. CallsGrant (seat_of s n) (Releasing a R3) (seat_of t n) (Leave a.counter w n.seat ∷ taken_for a w b) (granting a b) w (grant_of b)) e last
 
   pub wakes_handed : handed ≡ true → a.handoff ≡ true → Wakes (seat_of s n) a (seat_of t n) (Handed w)
-  wakes_handed e asked = (asked, subst (λ b. CallsLast (seat_of s n) (Releasing a R3) (seat_of t n) (Leave a.counter w n.seat ∷ taken_for a w b) (granting a b) (w ∷ [])) e last)
+  wakes_handed e asked = (asked, subst (λ b. CallsGrant (seat_of s n) (Releasing a R3) (seat_of t n) (Leave a.counter w n.seat ∷ taken_for a w b) (granting a b) w (grant_of b)) e last)
 
 -- R4, and R5 where the counter has a wait
 module _ (z : TableModel) (s t : Token) (a : Release) (before : Stands z s (Releasing a R4)) where
@@ -166,6 +176,7 @@ module _ (z : TableModel) (s t : Token) (a : Release) (before : Stands z s (Rele
         few = subst (λ (v : View). v.turn ≤ 2 ^ 48 + 256) (sym view) x.few;
         came = ap (λ (v : View). v.taken) view ∙ x.came;
         most = subst (λ (v : View). v.taken ≤ 2 ^ 49) (sym view) x.most;
+        counted = λ free. not_both false refl free;
         strides = x.strides;
         path = subst (λ (v : View). SemaPath (layout s.me.0.setting) s.me.0.number (placed (Releasing a R4) (sight_by s.me.0)) x.strides (sight_by v)) (sym view) x.path;
         told_is = x.told_is;

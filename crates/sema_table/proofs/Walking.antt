@@ -1,11 +1,12 @@
 -- Rows one after the other, and what they leave of a token.
-use Rattle.std.proofs.Common.{◌≡◌, ℕ, ◌+◌, ◌^◌, ◌≤◌, List, [], ◌∷◌, ◌++◌, sym, refl, ap, ◌∙◌, subst, arith, append-nil, append_assoc}
+use Rattle.std.proofs.Common.{◌≡◌, ℕ, ◌+◌, ◌^◌, ◌≤◌, true, false, List, [], ◌∷◌, ◌++◌, sym, refl, ap, ◌∙◌, subst, arith, append-nil, append_assoc}
 use Rattle.step_table.specs.declared.entry.Entry.{Entry}
 use Rattle.step_table.specs.declared.place.Place.{Place}
 use Rattle.step_table.specs.declared.word.Word.{Word}
 use Rattle.step_table.specs.Event.{Next}
 use Rattle.step_table.specs.World.{SeatState, seat_after}
 use Rattle.step_table.specs.Counting.{counter_at}
+use Rattle.step_table.specs.Journal.{takes}
 use Rattle.step_table.specs.Path.{Deed, runs, all_told, own_entries}
 use Rattle.sema_law.specs.Balances.{added_by}
 use Rattle.sema_law.specs.Served.{gains}
@@ -14,12 +15,14 @@ use Rattle.sema_law.proofs.SemaPaths.{the_sema_paths}
 use Rattle.sema_table.specs.declared.view.View.{View}
 use Rattle.sema_table.specs.declared.view.Setting.{Setting}
 use Rattle.sema_table.specs.Setting.{layout}
+use Rattle.sema_table.specs.Places.{is_free}
 use Rattle.sema_table.specs.Rule.{stands_by, sight_by}
 use Rattle.sema_table.specs.Plays.{Strode, Ran, begin, gains_by}
 use Rattle.sema_table.specs.declared.seat.Numbers.{Numbers}
 use Rattle.sema_table.specs.Seats.{TableModel, Token, IsToken}
 use Rattle.sema_table.specs.Walks.{Stands, Walked, moved_to}
 use Rattle.sema_table.proofs.Leading.{Goes}
+use Rattle.sema_table.proofs.Resting.{not_both}
 use Rattle.sema_table.proofs.Adding.{added_append, own_only}
 
 pub told_append : (a b : List SemaStride) → all_told (a ++ b) ≡ all_told a ++ all_told b
@@ -36,6 +39,7 @@ walked_by s t from deed n stands told gained r come same at entries = record {
   few = r.few;
   came = r.came ∙ (λ i. s.me.0.taken + gains_by deed from (at i).place) ∙ ap (λ k. s.me.0.taken + k) come;
   most = r.most;
+  counted = λ free. ap (λ (v : View). takes v.number t.me.0.seen) r.same ∙ r.counted (ap (λ (q : SeatState). is_free q.place) at ∙ free);
   strides = r.stride ∷ [];
   path = ((the_sema_paths.paths (layout s.me.0.setting)).single s.me.0.number (placed from (sight_by s.me.0)) (sight_by t.me.0) r.stride).0 r.ran;
   told_is = append-nil r.stride.told ∙ entries;
@@ -47,14 +51,15 @@ abbrev pub walked_row : (s t : Token) (from : Place) (n : ℕ) (next : Next) (r 
 walked_row s t from n next r g same = walked_by s t from runs n (seat_after next.1 next.0 (stands_by s.me.0)) (entries_of next.1) (gains from next.0) r refl same g.stands g.told
 
 -- no row
-abbrev pub walked_none : (s : Token) (from : Place) → s.me.0.place ≡ from → s.me.0.turn ≤ 2 ^ 48 + 256 → s.me.0.taken ≤ 2 ^ 49 → Walked s from s (stands_by s.me.0) [] 0
-walked_none s from at few most = record {
+abbrev pub walked_none : (s : Token) (from : Place) → s.me.0.place ≡ from → s.me.0.turn ≤ 2 ^ 48 + 256 → s.me.0.taken ≤ 2 ^ 49 → (is_free s.me.0.place ≡ true → takes s.me.0.number s.me.0.seen ≡ s.me.0.taken) → Walked s from s (stands_by s.me.0) [] 0
+walked_none s from at few most counted = record {
   table_is = refl;
   number_is = refl;
   stands_is = refl;
   few = few;
   came = omega arith;
   most = most;
+  counted = counted;
   strides = [];
   path = λ i. record { stands = record (stands_by s.me.0) { place = at i }; seen = s.me.0.seen };
   told_is = refl;
@@ -69,6 +74,7 @@ walked_on s t u from a b told more j k x y = record {
   few = y.few;
   came = let c = x.came in let d = y.came in omega arith;
   most = y.most;
+  counted = y.counted;
   strides = x.strides ++ y.strides;
   path = (the_sema_paths.paths (layout s.me.0.setting)).joined s.me.0.number (placed from (sight_by s.me.0)) (sight_by t.me.0) (sight_by u.me.0) x.strides y.strides x.path
       (subst (λ (q : Setting × (ℕ × SemaSight)). SemaPath (layout q.0) q.1.0 q.1.1 y.strides (sight_by u.me.0))
@@ -135,6 +141,7 @@ abbrev pub walked_then : (s t u : Token) (from p q : Place) (told more : List En
     → Walked s from u (moved_to s q) (told ++ more) (j + k)
 walked_then s t u from p q told more j k x y = subst (λ (w : SeatState). Walked s from u (record w { place = q }) (told ++ more) (j + k)) x.stands_is (walked_on s t u from (moved_to s p) (moved_to t q) told more j k x y)
 
--- no row yet
-pub walked_yet : (z : TableModel) (s : Token) (p : Place) → Stands z s p → Walked s p s (moved_to s p) [] 0
-walked_yet z s p x = subst (λ (q : Place). Walked s p s (moved_to s q) [] 0) x.place_is (walked_none s p x.place_is x.few x.most)
+-- no row yet, in the middle of a call
+pub walked_yet : (z : TableModel) (s : Token) (p : Place) → is_free p ≡ false → Stands z s p → Walked s p s (moved_to s p) [] 0
+walked_yet z s p busy x = subst (λ (q : Place). Walked s p s (moved_to s q) [] 0) x.place_is
+    (walked_none s p x.place_is x.few x.most (λ free. not_both (is_free p) busy (ap is_free (sym x.place_is) ∙ free)))

@@ -57,6 +57,7 @@ same_record z r treap l k same is = record {
   waits = λ c e. is.waits c e ∙ sym (same c e);
   count = is.count ∙ total_same (length z.starts) (λ c. on (root z c) r (length (l c))) (λ c. on (root z c) r (length (k c))) (λ c h. by c (ℕ_discrete (root z c) r));
   seats = is.seats;
+  drawn = is.drawn;
 }
   where
     by : (c : ℕ) → Dec (root z c ≡ r) → on (root z c) r (length (l c)) ≡ on (root z c) r (length (k c))

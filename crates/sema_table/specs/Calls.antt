@@ -41,3 +41,7 @@ plain_seen s = replay (plain_start (layout s.table.setting).starts) s.sight.seen
 -- the seat stands here
 abbrev pub IsAt : SeatModel → Place → Type 0
 IsAt s place = s.sight.stands.place ≡ place
+
+-- it stands as it stood, but here
+abbrev pub ComesTo : SeatModel → Place → SeatModel → Type 0
+ComesTo s place t = t.sight.stands ≡ record s.sight.stands { place = place }

@@ -1,5 +1,5 @@
 -- What each kind of step tells its seat.
-use Rattle.std.specs.Prelude.{◌≡◌, ◌≢◌, ℕ, ◌+◌, ◌^◌, ◌<◌, ◌≤◌, false, ◌∷◌}
+use Rattle.std.specs.Prelude.{◌≡◌, ◌≢◌, ℕ, ◌+◌, ◌^◌, ◌<◌, ◌≤◌, true, false, ◌∷◌}
 use mathlib.Core.Option.{Option, some}
 use Rattle.atomic_table.specs.Table as atomic
 use Rattle.step_table.specs.declared.place.AcquireRow.TheVariants.{A1}
@@ -9,6 +9,7 @@ use Rattle.step_table.specs.declared.place.Place.TheVariants.{Rest, Acquiring, R
 use Rattle.step_table.specs.declared.word.Word.{Word}
 use Rattle.step_table.specs.declared.word.Word.TheVariants.{Grant}
 use Rattle.step_table.specs.Counting.{counter_at}
+use Rattle.step_table.specs.Journal.{takes}
 use Rattle.step_table.specs.Path.{Deed, runs, looks}
 use Rattle.sema_law.specs.Lawful.{holds}
 use Rattle.sema_law.specs.Served.{gains}
@@ -18,6 +19,7 @@ use Rattle.sema_table.specs.declared.view.View.{View}
 use Rattle.sema_table.specs.declared.view.Record.{Record}
 use Rattle.sema_table.specs.declared.view.Record.TheVariants.{Root, Begins}
 use Rattle.sema_table.specs.Setting.{root, layout, address, IsThere}
+use Rattle.sema_table.specs.Places.{is_free}
 use Rattle.sema_table.specs.Rule.{sight_by, seeing, lists_by, IsRecord}
 
 abbrev pub Me : Type 0
@@ -28,7 +30,8 @@ abbrev pub gains_by : Deed Word → Place → Place → ℕ
 gains_by runs from to = gains from to
 gains_by (looks w) from to = 0
 
--- one stride led the seat from v to w, by this deed, and found n. What it had seen of a root whose lock it holds was so still
+-- one stride led the seat from v to w, by this deed, and found n. What it had seen of a root whose lock it holds was so still. Where
+-- the seat may begin a call, it has come by all units that it has seen taken for it
 pub record Strode (v : View) (deed : Deed Word) (n : ℕ) (w : View) : Type 0 where
   pub stride : SemaStride
   pub ran : SemaRan (layout v.setting) v.number (sight_by v) stride (sight_by w)
@@ -37,6 +40,7 @@ pub record Strode (v : View) (deed : Deed Word) (n : ℕ) (w : View) : Type 0 wh
   pub same : w ≡ record (seeing (sight_by w) v) { taken = w.taken }
   pub came : w.taken ≡ v.taken + gains_by deed v.place w.place
   pub most : w.taken ≤ 2 ^ 49
+  pub counted : is_free w.place ≡ true → takes v.number w.seen ≡ w.taken
   pub held : (c : ℕ) → holds (root v.setting) (root v.setting c) v.place ≡ 1
       → (plain_before (layout v.setting) stride).lists c ≡ lists_by v.setting v.seen c
   pub few : w.turn ≤ 2 ^ 48 + 256

@@ -1,5 +1,5 @@
 -- The rule of the running table: there is a reached world of the step table, which words, records at home and views show.
-use Rattle.std.specs.Prelude.{◌≡◌, ℕ, ◌+◌, ◌<◌, ◌≤◌, List, [], length, map, slice_index}
+use Rattle.std.specs.Prelude.{◌≡◌, ℕ, zero, suc, ◌+◌, ◌%◌, ◌^◌, ◌<◌, ◌≤◌, List, [], length, map, slice_index}
 use mathlib.Core.Option.{Option, some}
 use lib.ListN.{get_elem?}
 use Rattle.atomic_table.specs.Table.{State}
@@ -18,7 +18,7 @@ use Rattle.sema_law.specs.Served.{served}
 use Rattle.sema_law.specs.SemaPath.{SemaSight, semaphores}
 use Rattle.sema_root.specs.Queues.{waits_on}
 use Rattle.sema_root.specs.Queues as queues
-use Rattle.sema_root.specs.Treap.{Treap, queues_of}
+use Rattle.sema_root.specs.Treap.{Treap, Tickets, queues_of, drawn_from, tickets_from}
 use Rattle.sema_table.specs.declared.settings.Settings.{Settings}
 use Rattle.sema_table.specs.declared.view.View.{View}
 use Rattle.sema_table.specs.declared.view.Setting.{Setting}
@@ -27,7 +27,7 @@ use Rattle.sema_table.specs.declared.view.Record.TheVariants.{Root}
 use Rattle.sema_table.specs.Setting.{root, layout, address, words_in, IsThere}
 
 abbrev pub setting_of : Settings → Setting
-setting_of k = record { starts = k.starts.items; roots = k.roots; seats = k.seats; limit = k.release_limit }
+setting_of k = record { starts = k.starts.items; roots = k.roots; seats = k.seats; limit = k.release_limit; seed = k.seed }
 
 -- how a seat stands, by its view, and what it has seen
 abbrev pub stands_by : View → SeatState
@@ -51,11 +51,21 @@ pub record Knows (z : Setting) (k : ℕ) (v : View) (s : SemaWorld) : Type 0 whe
   pub held : (c : ℕ) → holds (root z) (root z c) v.place ≡ 1 → lists_by z v.seen c ≡ s.words.lists c
   pub takes : takes k s.journal ≡ v.taken + served (layout z) s k
 
--- the record of the root r has these lists, and room for a wait of each seat
+-- these tickets, after so many were drawn
+abbrev pub drawn_after : ℕ → Tickets → Tickets
+drawn_after zero tickets = tickets
+drawn_after (suc n) tickets = drawn_from (drawn_after n tickets).generator
+
+-- from what the root r draws: the seed plus its number
+abbrev pub root_seed : Setting → ℕ → ℕ
+root_seed z r = (z.seed + r) % 2 ^ 64
+
+-- the record of the root r has these lists, room for a wait of each seat, and its tickets from its own seed
 pub record IsRecord (z : Setting) (r : ℕ) (treap : Treap) (lists : ℕ → List WaitId) : Type 0 where
   pub waits : (c : ℕ) → root z c ≡ r → map (λ wait. wait.id) (waits_on (queues_of treap.tree) c) ≡ lists c
   pub count : queues.total (queues_of treap.tree) ≡ total (length z.starts) (λ c. on (root z c) r (length (lists c)))
   pub seats : treap.seats ≡ z.seats
+  pub drawn : (n : ℕ) × (treap.tickets ≡ drawn_after n (tickets_from (root_seed z r)))
 
 abbrev pub Homes : Type 0
 Homes = List (Option Record)

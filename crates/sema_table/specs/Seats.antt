@@ -8,6 +8,7 @@ use Rattle.step_table.specs.declared.place.AcquireRow.TheVariants.{P, A10}
 use Rattle.step_table.specs.declared.place.ReleaseRow.TheVariants.{R3}
 use Rattle.step_table.specs.declared.place.Place.{Place}
 use Rattle.step_table.specs.declared.place.Place.TheVariants.{Acquiring, Releasing}
+use Rattle.step_table.specs.Journal.{takes}
 use Rattle.sema_law.specs.Balances.{added_by}
 use Rattle.sema_law.specs.SemaPath.{SemaSight}
 use Rattle.sema_table.specs.declared.view.View.{View}
@@ -53,10 +54,11 @@ pub record IsToken (t : Token) (n : Numbers) : Type 0 where
   pub most : n.taken ≤ 2 ^ 49
   pub empty : t.me.0.hand ≡ []
 
--- a seat that may begin a call
+-- a seat that may begin a call. All units that it has seen taken for it are those that it has come by
 pub record IsSeat (t : Token) (n : Numbers) : Type 0 where
   pub token_is : IsToken t n
   pub free : is_free t.me.0.place ≡ true
+  pub counted : takes t.me.0.number t.me.0.seen ≡ t.me.0.taken
 
 -- a seat whose call is on a counter of its table, and stands here
 pub record IsMidway (t : Token) (n : Numbers) (c : ℕ) (place : Place) : Type 0 where

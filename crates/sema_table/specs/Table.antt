@@ -1,5 +1,5 @@
 -- What the rule says of a table between any two steps of its threads.
-use Rattle.std.specs.Prelude.{◌≡◌, ℕ, ◌<◌, slice_index}
+use Rattle.std.specs.Prelude.{◌≡◌, ℕ, ◌<◌, ◌≤◌, length, slice_index}
 use Rattle.std.specs.List.{All}
 use mathlib.Core.Option.{some}
 use lib.ListN.{get_elem?}
@@ -7,27 +7,32 @@ use Rattle.atomic_table.specs.Table.{State}
 use Rattle.step_table.specs.declared.word.Word.{Word}
 use Rattle.step_table.specs.World.{SemaWorld, found}
 use Rattle.step_table.specs.Steps.{IsReached}
-use Rattle.step_table.specs.Path.{GoesOn}
 use Rattle.sema_law.specs.Lawful.{IsLawfulWorld}
+use Rattle.sema_law.specs.Bounds.{IsSmall}
 use Rattle.sema_law.specs.Entries.{IsNamed}
 use Rattle.sema_table.specs.declared.view.View.{View}
 use Rattle.sema_table.specs.declared.view.Record.{Record}
 use Rattle.sema_table.specs.declared.view.Setting.{Setting}
-use Rattle.sema_table.specs.Setting.{root, layout, address, IsThere}
-use Rattle.sema_table.specs.Rule.{stands_by, AtHome, IsKept}
+use Rattle.sema_table.specs.Setting.{root, layout, address, words_in, IsThere}
+use Rattle.sema_table.specs.Rule.{Knows, AtHome, IsViewOf, fresh, IsKept}
 
--- the words and the records at home are those of this world, and each seat stands so in it and has seen a beginning of its journal
+-- the words and the records at home are those of this world, and each view is that of its seat there: it stands so, has seen a
+-- beginning of the journal with all entries of its own, knows the lists of a root whose lock it holds, and has come by the units
+-- that were taken for it, but for those served to it since. Seats that aren't made yet have seen nothing and run nothing
 pub record Shows (z : Setting) (s : State Record View) (world : SemaWorld) : Type 0 where
   pub words : (w : Word) → IsThere z w → slice_index s.words (address z w) ≡ found (root z) world.words w
   pub homes : (r : ℕ) → r < z.roots → world.words.locks r ≡ 0 → AtHome z world.words s.homes r
-  pub stands : (k : ℕ) (v : View) → get_elem? s.views k ≡ some v → world.seats k ≡ stands_by v
-  pub seen : (k : ℕ) (v : View) → get_elem? s.views k ≡ some v → GoesOn world.journal v.seen
+  pub views : (k : ℕ) (v : View) → get_elem? s.views k ≡ some v → IsViewOf z world k v
+  pub unmade : (k : ℕ) → length s.views ≤ k → k < z.seats → Knows z k (fresh z k 0) world
+  pub wide : length s.words ≡ words_in z
+  pub deep : length s.homes ≡ z.roots
 
 -- a world that the steps of the table's seats lead to is lawful, and the table shows it. Its journal names seats and counters that
--- are there
+-- are there, and no seat has added more than 2^40 units
 pub record IsLawfulTable (z : Setting) (s : State Record View) : Type 0 where
   pub world : SemaWorld
   pub reached : IsReached (layout z) world
+  pub small : IsSmall (layout z) world
   pub lawful : IsLawfulWorld (layout z) world
   pub named : All (IsNamed (layout z)) world.journal
   pub shows : Shows z s world

@@ -9,7 +9,7 @@ use Rattle.step_table.specs.declared.place.Place.{Place}
 use Rattle.step_table.specs.declared.place.Place.TheVariants.{Rest, Acquiring, Releasing}
 use Rattle.step_table.specs.declared.word.Word.{Word}
 use Rattle.step_table.specs.declared.word.Word.TheVariants.{Counter, Waiters}
-use Rattle.step_table.specs.Path.{looks}
+use Rattle.step_table.specs.Path.{GoesOn, looks}
 use Rattle.step_table.specs.Counting.{total, on}
 use Rattle.sema_law.specs.SemaPath.{SemaStride, SemaRan}
 use Rattle.sema_table.specs.declared.answers.Tried.{Tried}
@@ -18,7 +18,7 @@ use Rattle.sema_table.specs.declared.answers.Posted.{Posted}
 use Rattle.sema_table.specs.declared.answers.Posted.TheVariants.{Done, Owes}
 use Rattle.sema_table.specs.Setting.{root, layout}
 use Rattle.sema_table.specs.Seats.{SeatModel}
-use Rattle.sema_table.specs.Calls.{CallsRows, plain_seen, IsAt}
+use Rattle.sema_table.specs.Calls.{CallsRows, plain_seen, ComesTo}
 
 -- an acquire of c without lifo, and a release of c without handoff, before this row
 abbrev pub acquiring : ℕ → AcquireRow → Place
@@ -35,6 +35,7 @@ pub record LooksAt (s : SeatModel) (w : Word) (n : ℕ) (t : SeatModel) : Type 0
   pub did : stride.deed ≡ looks w
   pub read : stride.read ≡ n
   pub stays : t.sight.stands ≡ s.sight.stands
+  pub later : GoesOn t.sight.seen s.sight.seen
 
 -- n is the number of the counter after all that is seen now
 pub record IsValue (s : SeatModel) (c n : ℕ) (t : SeatModel) : Type 0 where
@@ -53,23 +54,23 @@ pub record IsWaiters (s : SeatModel) (c n : ℕ) (t : SeatModel) : Type 0 where
 -- the rows of one try: A1, and A2 where A1 read more than 0. A unit is taken exactly where A2 found what A1 read
 abbrev pub IsTried : SeatModel → ℕ → Tried → SeatModel → Type 0
 IsTried s c Zero t =
-    (t ≡ record s { sight = t.sight }) × IsAt t (acquiring c A3) × CallsRows s (acquiring c A1) t [] ((acquiring c A1, 0) ∷ [])
+    (t ≡ record s { sight = t.sight }) × ComesTo s (acquiring c A3) t × CallsRows s (acquiring c A1) t [] ((acquiring c A1, 0) ∷ [])
     × ((plain_seen t).numbers c ≡ 0)
 IsTried s c Lost t =
-    (t ≡ record s { sight = t.sight }) × IsAt t (acquiring c A1)
+    (t ≡ record s { sight = t.sight }) × ComesTo s (acquiring c A1) t
     × ((left n : ℕ) × (n ≢ left + 1)
     × CallsRows s (acquiring c A1) t [] ((acquiring c A1, left + 1) ∷ (acquiring c (A2 left), n) ∷ []))
 IsTried s c Taken t =
-    (t ≡ record s { taken = s.taken + 1; sight = t.sight }) × IsAt t Rest
+    (t ≡ record s { taken = s.taken + 1; sight = t.sight }) × ComesTo s Rest t
     × ((left : ℕ)
     × CallsRows s (acquiring c A1) t (Take c s.number ∷ []) ((acquiring c A1, left + 1) ∷ (acquiring c (A2 left), left + 1) ∷ []))
 
 -- a unit was added. Then the waiter word read 0, and the release has ended, or it read more, and the release goes to the lock
 abbrev pub IsPosted : SeatModel → ℕ → Posted → Type 0
 IsPosted s c (Done t) =
-    (t ≡ record s { left = s.left - 1; sight = t.sight }) × IsAt t Rest
+    (t ≡ record s { left = s.left - 1; sight = t.sight }) × ComesTo s Rest t
     × ((n : ℕ) × CallsRows s (releasing c R1) t (Add c s.number ∷ []) ((releasing c R1, n) ∷ (releasing c R2, 0) ∷ []))
 IsPosted s c (Owes t) =
-    (t ≡ record s { left = s.left - 1; sight = t.sight }) × IsAt t (releasing c R3)
+    (t ≡ record s { left = s.left - 1; sight = t.sight }) × ComesTo s (releasing c R3) t
     × ((n waits : ℕ)
     × CallsRows s (releasing c R1) t (Add c s.number ∷ []) ((releasing c R1, n) ∷ (releasing c R2, waits + 1) ∷ []))

@@ -12,7 +12,9 @@ use Rattle.step_table.specs.declared.place.Place.TheVariants.{Rest, Acquiring, R
 use Rattle.step_table.specs.declared.word.Word.TheVariants.{Grant}
 use Rattle.step_table.specs.Journal.{HasItsUnit}
 use Rattle.step_table.specs.Counting.{wait}
-use Rattle.sema_law.specs.SemaPath.{SemaStride}
+use Rattle.step_table.specs.Path.{runs}
+use Rattle.sema_law.specs.SemaPath.{SemaStride, row_event, word_of_stride}
+use Rattle.sema_table.specs.Setting.{layout}
 use Rattle.sema_table.specs.declared.answers.Entered.{Entered}
 use Rattle.sema_table.specs.declared.answers.Entered.TheVariants.{Taken, Asleep}
 use Rattle.sema_table.specs.declared.answers.Wake.{Wake}
@@ -20,19 +22,24 @@ use Rattle.sema_table.specs.declared.answers.Wake.TheVariants as woken
 use Rattle.sema_table.specs.declared.answers.Polled.{Polled}
 use Rattle.sema_table.specs.declared.answers.Polled.TheVariants.{Still, Woken, Handed}
 use Rattle.sema_table.specs.Seats.{SeatModel}
-use Rattle.sema_table.specs.Calls.{Calls, CallsRows, IsAt}
+use Rattle.sema_table.specs.Calls.{Calls, CallsRows, IsAt, ComesTo}
 use Rattle.sema_table.specs.Tries.{LooksAt}
 
 abbrev pub acquire_of : ℕ → Bool → Acquire
 acquire_of c lifo = record { counter = c; lifo = lifo }
 
+-- the seat is parked, and its wait has the turn that was its next
+abbrev pub Parks : SeatModel → Acquire → SeatModel → Type 0
+Parks s a t =
+    let was = s.sight.stands in t.sight.stands ≡ record { place = Acquiring a (P was.turn); turn = was.turn + 1; hand = was.hand }
+
 -- rows ran from this place on. A unit was taken, by the seat for itself; or the seat is parked, and its wait is queued, at the
 -- end that it asked for: the last thing that it has seen
 abbrev pub IsEntered : SeatModel → Acquire → Place → Entered → Type 0
 IsEntered s a from (Taken t) =
-    (t ≡ record s { taken = s.taken + 1; sight = t.sight }) × IsAt t Rest × Calls s from t (Take a.counter s.number ∷ [])
+    (t ≡ record s { taken = s.taken + 1; sight = t.sight }) × ComesTo s Rest t × Calls s from t (Take a.counter s.number ∷ [])
 IsEntered s a from (Asleep t) =
-    (t ≡ record s { sight = t.sight }) × IsAt t (Acquiring a (P s.sight.stands.turn))
+    (t ≡ record s { sight = t.sight }) × Parks s a t
     × Calls s from t (Queue a.counter (wait s.number s.sight.stands.turn) a.lifo ∷ [])
     × ((before : List Entry) × (t.sight.seen ≡ before ++ Queue a.counter (wait s.number s.sight.stands.turn) a.lifo ∷ []))
 
@@ -42,10 +49,10 @@ abbrev pub IsPolled : SeatModel → Polled → Type 0
 IsPolled s (Still t) = LooksAt s (Grant s.number) 0 t
 IsPolled s (Woken t) =
     (t ≡ record s { sight = t.sight })
-    × ((a : Acquire) × (turn : ℕ) × IsAt s (Acquiring a (P turn)) × IsAt t (Acquiring a A10)
+    × ((a : Acquire) × (turn : ℕ) × IsAt s (Acquiring a (P turn)) × ComesTo s (Acquiring a A10) t
     × CallsRows s (Acquiring a (P turn)) t [] ((Acquiring a (P turn), 1) ∷ []))
 IsPolled s (Handed t) =
-    (t ≡ record s { taken = s.taken + 1; sight = t.sight }) × IsAt t Rest
+    (t ≡ record s { taken = s.taken + 1; sight = t.sight }) × ComesTo s Rest t
     × ((a : Acquire) × (turn : ℕ) × IsAt s (Acquiring a (P turn))
     × CallsRows s (Acquiring a (P turn)) t [] ((Acquiring a (P turn), 2) ∷ [])
     × HasItsUnit a.counter (wait s.number turn) t.sight.seen)
@@ -54,26 +61,29 @@ IsPolled s (Handed t) =
 abbrev pub IsRetried : SeatModel → Entered → Type 0
 IsRetried s entered = (a : Acquire) × IsAt s (Acquiring a A10) × IsEntered s a (Acquiring a A10) entered
 
--- a call whose last row stood here, with these waits in hand
-pub record CallsLast (s : SeatModel) (from : Place) (t : SeatModel) (told : List Entry) (place : Place) (hand : List WaitId) : Type 0 where
+-- a call whose last row stood here, with this wait in hand, and stored n in the grant word of the wait's seat
+pub record CallsGrant (s : SeatModel) (from : Place) (t : SeatModel) (told : List Entry) (place : Place) (w : WaitId) (n : ℕ) : Type 0 where
   pub call : Calls s from t told
   pub before : List SemaStride
   pub last : SemaStride
   pub strides_are : call.strides ≡ before ++ last ∷ []
+  pub did : last.deed ≡ runs
   pub row : last.stood.place ≡ place
-  pub hand_is : last.stood.hand ≡ hand
+  pub hand_is : last.stood.hand ≡ w ∷ []
+  pub word : word_of_stride (layout s.table.setting) s.number last ≡ Grant w.seat
+  pub stored : (row_event (layout s.table.setting) s.number last).becomes last.read ≡ n
 
 -- nobody was taken out; or one wait, by the seat, which granted it 1 at its last row, or 2, for the unit that it took for the
 -- wait's seat
 abbrev pub Wakes : SeatModel → Release → SeatModel → Wake → Type 0
 Wakes s r t woken.Nobody = Calls s (Releasing r R3) t []
-Wakes s r t (woken.One w) = CallsLast s (Releasing r R3) t (Leave r.counter w s.number ∷ []) (Releasing r R10) (w ∷ [])
+Wakes s r t (woken.One w) = CallsGrant s (Releasing r R3) t (Leave r.counter w s.number ∷ []) (Releasing r R10) w 1
 Wakes s r t (woken.Handed w) =
     (r.handoff ≡ true)
-    × CallsLast s (Releasing r R3) t (Leave r.counter w s.number ∷ Take r.counter w.seat ∷ []) (Releasing r R9) (w ∷ [])
+    × CallsGrant s (Releasing r R3) t (Leave r.counter w s.number ∷ Take r.counter w.seat ∷ []) (Releasing r R9) w 2
 
 -- the rows of a release from the lock on, by which the seat has come to rest
 abbrev pub IsWakened : SeatModel → Bool → SeatModel → Wake → Type 0
 IsWakened s handoff t wake =
-    (c : ℕ) × IsAt s (Releasing (record { counter = c; handoff = false }) R3) × (t ≡ record s { sight = t.sight }) × IsAt t Rest
+    (c : ℕ) × IsAt s (Releasing (record { counter = c; handoff = false }) R3) × (t ≡ record s { sight = t.sight }) × ComesTo s Rest t
     × Wakes s (record { counter = c; handoff = handoff }) t wake

@@ -12,13 +12,14 @@ use Rattle.step_table.specs.declared.place.Place.TheVariants.{Rest, Acquiring, R
 use Rattle.step_table.specs.Event.{by_first}
 use Rattle.step_table.specs.World.{SeatState}
 use Rattle.step_table.specs.Counting.{total, on, counter_at}
-use Rattle.step_table.specs.Path.{all_told}
+use Rattle.step_table.specs.Journal.{takes}
+use Rattle.step_table.specs.Path.{runs, all_told}
 use Rattle.sema_law.specs.Balances.{added_by}
 use Rattle.sema_law.specs.SemaPath.{SemaStride, SemaPath, placed}
 use Rattle.sema_root.specs.Treap.{Treap}
 use Rattle.sema_table.specs.declared.view.Record.TheVariants.{Root}
 use Rattle.sema_table.specs.Setting.{root, layout}
-use Rattle.sema_table.specs.Places.{Begins, takes_lock, locked}
+use Rattle.sema_table.specs.Places.{Begins, is_free, takes_lock, locked}
 use Rattle.sema_table.specs.Rule.{stands_by, sight_by, lists_by, IsRecord}
 use Rattle.sema_table.specs.Seats.{TableModel, Token, table_of}
 
@@ -52,6 +53,7 @@ pub record Walked (s : Token) (from : Place) (t : Token) (stands : SeatState) (t
   pub few : t.me.0.turn ≤ 2 ^ 48 + 256
   pub came : t.me.0.taken ≡ s.me.0.taken + gained
   pub most : t.me.0.taken ≤ 2 ^ 49
+  pub counted : is_free stands.place ≡ true → takes t.me.0.number t.me.0.seen ≡ t.me.0.taken
   pub strides : List SemaStride
   pub path : SemaPath (layout s.me.0.setting) s.me.0.number (placed from (sight_by s.me.0)) strides (sight_by t.me.0)
   pub told_is : all_told strides ≡ told
@@ -123,6 +125,11 @@ abbrev pub granting : Release → Bool → Place
 granting r true = Releasing r R9
 granting r false = Releasing r R10
 
+-- how much it grants
+abbrev pub grant_of : Bool → ℕ
+grant_of true = 2
+grant_of false = 1
+
 -- what was told before it: the unit that was taken for the wait's seat
 abbrev pub taken_for : Release → WaitId → Bool → List Entry
 taken_for r w true = Take r.counter w.seat ∷ []
@@ -133,4 +140,5 @@ pub record Granted (s : Token) (from : Place) (t : Token) : Type 0 where
   pub walked : Walked s from t (record { place = Rest; turn = s.me.0.turn; hand = drop 1 s.me.0.hand }) [] 0
   pub stride : SemaStride
   pub strides_are : walked.strides ≡ stride ∷ []
+  pub did : stride.deed ≡ runs
   pub stood : stride.stood ≡ moved_to s from

@@ -1,5 +1,7 @@
 //! A seat between two calls, and what it is in the middle of one.
-ghost use Rattle.std.specs.Prelude.{◌≡◌};
+ghost use Rattle.std.specs.Prelude.{◌≡◌, ◌+◌};
+ghost use Rattle.step_table.specs.Journal.{takes};
+ghost use Rattle.sema_law.specs.Balances.{added_by};
 ghost use Rattle.sema_table.specs.Seats.{IsWaitOf};
 
 use crate::plays::Token;
@@ -97,16 +99,18 @@ impl Seat {
         SeatId::new(self.numbers.seat)
     }
 
-    /// How many units more the seat may add: its release limit less what it has added.
+    /// How many units more the seat may add: its release limit less what the journal tells that it has added.
     pub fn left(&self) -> u64
-        ensures { result ≡ self.now.left }
+        ensures left { result ≡ self.now.left }
+        ensures added { result + added_by self.now.number self.now.sight.seen ≡ self.now.table.setting.limit }
     {
         self.numbers.left
     }
 
-    /// How many units the seat was given.
+    /// How many units the seat was given: those that the journal tells were taken for it.
     pub fn taken(&self) -> u64
-        ensures { result ≡ self.now.taken }
+        ensures taken { result ≡ self.now.taken }
+        ensures counted { result ≡ takes self.now.number self.now.sight.seen }
     {
         self.numbers.taken
     }

@@ -9,6 +9,7 @@ pub struct Setting {
     pub roots: u64,
     pub seats: u64,
     pub limit: u64,
+    pub seed: u64,
 }
 
 /// The view of a seat. No value of it is made.

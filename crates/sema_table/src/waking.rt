@@ -4,7 +4,7 @@ ghost use Rattle.step_table.specs.declared.entry.Entry.TheVariants.{Leave, Take}
 ghost use Rattle.step_table.specs.declared.place.Place.TheVariants.{Rest, Releasing};
 ghost use Rattle.step_table.specs.declared.place.ReleaseRow.TheVariants.{R3, R4, R5, R6, R7, R9, R10};
 ghost use Rattle.sema_table.specs.Seats.{IsToken, table_of, seat_of};
-ghost use Rattle.sema_table.specs.Calls.{IsAt};
+ghost use Rattle.sema_table.specs.Calls.{ComesTo};
 ghost use Rattle.sema_table.specs.Waking.{Wakes, IsWakened};
 ghost use Rattle.sema_table.specs.Walks.{Stands, Holds, Walked, Moves, HasRecord, Granted, moved_to, taken_out, sought, trying, unlocked, granting, taken_for};
 
@@ -44,7 +44,7 @@ impl SemaTable {
         requires seat { IsToken token numbers × (table_of token ≡ self.now) }
         requires call { (counter < length self.now.setting.starts)
             × (token.me.0.place ≡ Releasing (record { counter = counter; handoff = false }) R3) }
-        ensures { (result.0 ≡ record (seat_of token numbers) { sight = result.0.sight }) × IsAt result.0 Rest
+        ensures { (result.0 ≡ record (seat_of token numbers) { sight = result.0.sight }) × ComesTo (seat_of token numbers) Rest result.0
             × Wakes (seat_of token numbers) (record { counter = counter; handoff = handoff }) result.0 result.1 }
     {
         let mut token = token;

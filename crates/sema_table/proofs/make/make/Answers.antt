@@ -15,7 +15,7 @@ pub new-requires : goal.new-requires
 new-requires c = let a = c.requires in let z : Setting = setting_of c.args.settings in
     let words = c.as_slice.ensures.value ∙ c.in_ok-words.ensures.words in
     subst (λ (p : List ℕ × List Record). IsKept z (opening p.0 p.1 (first_view z))) (λ i. (sym words i, sym c.in_ok-slots.ensures i))
-    (opens z c.args.settings.seed (let h = a.roots in omega arith) (let h = a.seats in omega arith) a.seats.1 a.counters.1 c.in_ok-words.ensures.starts)
+    (opens z (let h = a.roots in omega arith) (let h = a.seats in omega arith) a.seats.1 a.counters.1 c.in_ok-words.ensures.starts)
 
 pub split_seat-token-requires : goal.split_seat-token-requires
 split_seat-token-requires c = let inv = c.loop-number.invariant in let E = c.in-Ok.ensures.ok in let z : Setting = setting_of c.args.settings in

@@ -23,4 +23,4 @@ returns c =
     let R = lent_record s k c.root_of-slot.result c.slot_mut.result.now c.in-Root.root h.1 c.slot_mut.ensures.value c.in-Root.is in
     let inside : k < length z.starts = subst (λ (y : TableModel). k < length y.setting.starts) (sym h.0) c.requires.call in
     edited s c.args.self.now k c.root_of-slot.result q (put (lists_of s) k (insert_wait a.lifo c.args.wait.id (lists_of s k))) h.0 c.root_of-slot.ensures h.1
-    (queued_record z (root z k) k c.in-Root.root q (lists_of s) a.lifo c.args.wait R refl inside Q.queued Q.count Q.seats)
+    (queued_record z (root z k) k c.in-Root.root q (lists_of s) a.lifo c.args.wait R refl inside Q.queued Q.count Q.seats Q.drawn)

@@ -15,7 +15,7 @@ use Rattle.sema_table.proofs.Looking.{zero_walked, zero_record, zero_room, some_
 use Rattle.sema_table.proofs.sema_table.SemaTable.look_again.Goals as goal
 
 pub loop-init : goal.loop-init
-loop-init g c = record { walked = walked_yet c.args.self.now c.args.token.now (Acquiring c.args.call.now A5) c.requires.0; kept = c.requires.1 }
+loop-init g c = record { walked = walked_yet c.args.self.now c.args.token.now (Acquiring c.args.call.now A5) refl c.requires.0; kept = c.requires.1 }
 
 pub load-found-requires : goal.load-found-requires
 load-found-requires g c =

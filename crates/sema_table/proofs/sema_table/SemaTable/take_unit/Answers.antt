@@ -15,7 +15,7 @@ use Rattle.sema_table.proofs.Granting.{zero_for, some_for, won_for, lost_for}
 use Rattle.sema_table.proofs.sema_table.SemaTable.take_unit.Goals as goal
 
 pub loop-init : goal.loop-init
-loop-init g c = record { walked = walked_yet c.args.self.now c.args.token.now (Releasing c.args.call.now R7) c.requires.0; slots = refl }
+loop-init g c = record { walked = walked_yet c.args.self.now c.args.token.now (Releasing c.args.call.now R7) refl c.requires.0; slots = refl }
 
 pub load-found-requires : goal.load-found-requires
 load-found-requires g c =

@@ -15,7 +15,7 @@ use Rattle.sema_table.proofs.Retrying.{zero_again, some_again, won_again, lost_a
 use Rattle.sema_table.proofs.sema_table.SemaTable.try_again.Goals as goal
 
 pub loop-init : goal.loop-init
-loop-init g c = record { walked = walked_yet c.args.self.now c.args.token.now (Acquiring c.args.call.now A10) c.requires; slots = refl }
+loop-init g c = record { walked = walked_yet c.args.self.now c.args.token.now (Acquiring c.args.call.now A10) refl c.requires; slots = refl }
 
 pub load-found-requires : goal.load-found-requires
 load-found-requires g c =
