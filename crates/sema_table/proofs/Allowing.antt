@@ -272,7 +272,7 @@ module _ (i : ℕ) (m : Me) (s : Kept_state) (r : IsKept m.0.setting s) (at : ge
   there = let a = inside_list s.views m.0.number m.0 at in let b = r.fits in omega arith
 
   abbrev seen_now : View
-  seen_now = seeing (sight (semaphores lay) r.world m.0.number) m.0
+  seen_now = record (seeing (sight (semaphores lay) r.world m.0.number) m.0) { strides = m.0.strides + 1 }
 
   told : (c : ℕ) → lists_by m.0.setting r.world.journal c ≡ r.world.words.lists c
   told c = ap (λ y. y.lists c) (sym (the_law.reached lay r.world r.reached).journal.0)
@@ -308,6 +308,7 @@ module _ (i : ℕ) (m : Me) (s : Kept_state) (r : IsKept m.0.setting s) (at : ge
     did = refl;
     read = sym (r.words x h) ∙ ap (slice_index s.words) e;
     same = refl;
+    one = refl;
     came = omega arith;
     most = let a = taken_most m.0.setting m.0.number r.world r.reached r.small r.counted there in omega (arith, viewed.2.takes);
     counted = free_counted m.0.setting m.0.number seen_now r.world r.reached there refl refl viewed.2.takes;

@@ -1,5 +1,5 @@
 -- What a caller reads of the rows that a call ran.
-use Rattle.std.proofs.Common.{◌≡◌, ℕ, Bool, true, false, List, [], ◌∷◌, ◌++◌, sym, ap, ◌∙◌, subst, append-nil, append_assoc}
+use Rattle.std.proofs.Common.{◌≡◌, ℕ, Bool, true, false, List, [], ◌∷◌, ◌++◌, sym, ap, ◌∙◌, subst, arith, length-append, append-nil, append_assoc}
 use Rattle.step_table.specs.declared.entry.Entry.{Entry}
 use Rattle.step_table.specs.declared.place.Place.{Place}
 use Rattle.step_table.specs.declared.place.Release.{Release}
@@ -45,6 +45,7 @@ pub calls : (s t : Token) (n k : Numbers) (from : Place) (a : SeatState) (told :
 calls s t n k from a told j is x = subst (λ i. Calls (record (seat_of s n) { number = i }) from (seat_of t k) told) is.number_is (record {
   strides = x.strides;
   path = x.path;
+  all = x.all;
   told_is = x.told_is;
   seen = subst (λ l. TellsIn s.me.0.seen l t.me.0.seen) x.told_is (path_tells _ _ _ _ x.strides x.path);
 })
@@ -55,6 +56,7 @@ calls_rows s t n k from a told j rows is x at = subst (λ i. CallsRows (record (
   call = record {
     strides = x.strides;
     path = x.path;
+    all = x.all;
     told_is = x.told_is;
     seen = subst (λ l. TellsIn s.me.0.seen l t.me.0.seen) x.told_is (path_tells _ _ _ _ x.strides x.path);
   };
@@ -75,6 +77,7 @@ calls_after s t n u from p told j is x c = record {
   path = (the_sema_paths.paths (layout s.me.0.setting)).joined n.seat (placed from (sight_by s.me.0)) (sight_by t.me.0) u.sight x.strides c.strides
       (subst (λ i. SemaPath (layout s.me.0.setting) i (placed from (sight_by s.me.0)) x.strides (sight_by t.me.0)) is.number_is x.path)
       (subst (λ (q : TableModel × SemaSight). SemaPath (layout q.0.setting) n.seat q.1 c.strides u.sight) (λ i. (x.table_is i, record { stands = stays i; seen = t.me.0.seen })) c.path);
+  all = let d = x.all in let e = c.all in let l = length-append x.strides c.strides in omega arith;
   told_is = told_append x.strides c.strides ∙ (λ i. x.told_is i ++ c.told_is i);
   seen = tells_later s.me.0.seen t.me.0.seen told u.sight.seen ((the_sema_paths.paths (layout s.me.0.setting)).grows s.me.0.number (placed from (sight_by s.me.0)) (sight_by t.me.0) x.strides x.path) c.seen;
 }
@@ -99,6 +102,7 @@ calls_grant s t n k from b told j before last a handed turn w is x ends did stoo
   call = record {
     strides = x.strides;
     path = x.path;
+    all = x.all;
     told_is = x.told_is;
     seen = subst (λ l. TellsIn s.me.0.seen l t.me.0.seen) x.told_is (path_tells _ _ _ _ x.strides x.path);
   };

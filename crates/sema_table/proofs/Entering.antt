@@ -78,7 +78,7 @@ module _ (s t2 t3 t4 t5 : Token) (n : Numbers) (a : Acquire) (is : IsToken s n) 
 
     pub entered_taken : IsEntered (seat_of s n) a (Acquiring a A3) (Taken (seat_of t5 counted))
     entered_taken = (
-      (λ i. record { table = ended.table_is i; number = n.seat; left = n.left; taken = n.taken + 1; sight = sight_by t5.me.0 }),
+      (λ i. record { table = ended.table_is i; number = n.seat; left = n.left; taken = n.taken + 1; sight = sight_by t5.me.0; strides = t5.me.0.strides }),
       ended.stands_is,
       subst (λ k. Calls (seat_of s n) (Acquiring a A3) (seat_of t5 counted) (Take a.counter k ∷ [])) (looked.number_is ∙ is.number_is)
           (calls s t5 n counted (Acquiring a A3) (moved_to s Rest) took 1 is ended),
@@ -109,7 +109,7 @@ module _ (s t3 t4 : Token) (n : Numbers) (a : Acquire) (w : WaitId) (is : IsToke
 
   pub entered_asleep : IsLast t4 (Queue a.counter w a.lifo) → IsEntered (seat_of s n) a (Acquiring a A3) (Asleep (seat_of t4 later))
   entered_asleep last = (
-    (λ i. record { table = slept.table_is i; number = n.seat; left = n.left; taken = n.taken; sight = sight_by t4.me.0 }),
+    (λ i. record { table = slept.table_is i; number = n.seat; left = n.left; taken = n.taken; sight = sight_by t4.me.0; strides = t4.me.0.strides }),
     slept.stands_is,
     subst (λ x. Calls (seat_of s n) (Acquiring a A3) (seat_of t4 later) (Queue a.counter x a.lifo ∷ [])) wait_is (calls s t4 n later (Acquiring a A3) (parked s a) queues 0 is slept),
     subst (λ x. IsLast t4 (Queue a.counter x a.lifo)) wait_is last,

@@ -201,7 +201,7 @@ module _ (s : Kept_state) (v : View) (r : IsKept v.setting s) (at : get_elem? s.
     sees = sight (semaphores m) t id
 
     abbrev pub after : View
-    after = record (seeing (sight (semaphores (layout v.setting)) t v.number) (begin p v)) { taken = v.taken + gains (b.seats v.number).place (t.seats v.number).place }
+    after = record (seeing (sight (semaphores (layout v.setting)) t v.number) (begin p v)) { taken = v.taken + gains (b.seats v.number).place (t.seats v.number).place; strides = v.strides + 1 }
 
     came : takes id t.journal ≡ after.taken + served m t id
     came = let a = the_accounts.counted m b t id there invariant step id in let o = on_here id (gains (b.seats id).place (t.seats id).place) in let k = knows.takes in omega arith
@@ -248,6 +248,7 @@ module _ (s : Kept_state) (v : View) (r : IsKept v.setting s) (at : get_elem? s.
       did = refl;
       read = sym is;
       same = refl;
+      one = refl;
       came = ap (λ (q : Place). v.taken + gains q (t.seats id).place) here;
       most = came_most;
       counted = free_counted z id after t reached_after there refl refl came;

@@ -84,7 +84,7 @@ module _ (s t : Token) (n : Numbers) (a : Acquire) (turn k : ℕ) (seat : IsSlee
 
     pub polled_woken : k ≡ 1 → IsPolled (seat_of s n) (Woken (seat_of t n))
     polled_woken e = let x = woken_walk e in (
-      (λ i. record { table = x.table_is i; number = n.seat; left = n.left; taken = n.taken; sight = sight_by t.me.0 }),
+      (λ i. record { table = x.table_is i; number = n.seat; left = n.left; taken = n.taken; sight = sight_by t.me.0; strides = t.me.0.strides }),
       (
         a,
         turn,
@@ -113,7 +113,7 @@ module _ (s t : Token) (n : Numbers) (a : Acquire) (turn k : ℕ) (seat : IsSlee
         ∙ ap (λ l. row.stride.seen ++ l) told ∙ append-nil row.stride.seen ∙ row.ran.seen in
         let unit : HasItsUnit a.counter (wait s.me.0.number turn) world.journal
         = (the_law.reached (layout s.me.0.setting) world row.ran.meets.met).grants.1 s.me.0.number a.counter turn row.there (a, refl, ap (λ (y : SeatState). y.place) stood) (sym granted ∙ two) in (
-          (λ i. record { table = x.table_is i; number = n.seat; left = n.left; taken = n.taken + 1; sight = sight_by t.me.0 }),
+          (λ i. record { table = x.table_is i; number = n.seat; left = n.left; taken = n.taken + 1; sight = sight_by t.me.0; strides = t.me.0.strides }),
           x.stands_is,
           (
             a,

@@ -78,7 +78,7 @@ module _ (s t u : Token) (n : Numbers) (c k found : ℕ) (seat : IsSeat s n) (so
 
   pub posted_done : found ≡ 0 → IsPosted (seat_of s n) c (Done (seat_of u fewer))
   posted_done e = let x = done_walk e in (
-    (λ i. record { table = x.table_is i; number = n.seat; left = n.left - 1; taken = n.taken; sight = sight_by u.me.0 }),
+    (λ i. record { table = x.table_is i; number = n.seat; left = n.left - 1; taken = n.taken; sight = sight_by u.me.0; strides = u.me.0.strides }),
     x.stands_is ∙ ap (λ (q : SeatState). record q { place = Rest }) one.stands_is,
     (
       k,
@@ -90,7 +90,7 @@ module _ (s t u : Token) (n : Numbers) (c k found : ℕ) (seat : IsSeat s n) (so
 
   pub posted_owes : 0 < found → IsPosted (seat_of s n) c (Owes (seat_of u fewer))
   posted_owes h = let x = owes_walk h in let is : found ≡ found - 1 + 1 = omega arith in (
-    (λ i. record { table = x.table_is i; number = n.seat; left = n.left - 1; taken = n.taken; sight = sight_by u.me.0 }),
+    (λ i. record { table = x.table_is i; number = n.seat; left = n.left - 1; taken = n.taken; sight = sight_by u.me.0; strides = u.me.0.strides }),
     x.stands_is ∙ ap (λ (q : SeatState). record q { place = releasing c R3 }) one.stands_is,
     (
       k,

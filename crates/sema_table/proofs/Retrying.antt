@@ -85,7 +85,7 @@ module _ (s t : Token) (n : Numbers) (a : Acquire) (seat : IsWoken s n a) (x : W
     a,
     seat.at,
     (
-      (λ i. record { table = x.table_is i; number = n.seat; left = n.left; taken = n.taken + 1; sight = sight_by t.me.0 }),
+      (λ i. record { table = x.table_is i; number = n.seat; left = n.left; taken = n.taken + 1; sight = sight_by t.me.0; strides = t.me.0.strides }),
       x.stands_is,
       subst (λ k. Calls (seat_of s n) (Acquiring a A10) (seat_of t counted) (Take a.counter k ∷ [])) seat.token_is.number_is (calls s t n counted (Acquiring a A10) (moved_to s Rest) took 1 seat.token_is x),
     ),
@@ -104,7 +104,7 @@ module _ (s t : Token) (n : Numbers) (a : Acquire) (seat : IsWoken s n a) (x : W
     a,
     seat.at,
     (
-      e.0 ∙ (λ i. record { table = x.table_is i; number = n.seat; left = n.left; taken = n.taken + 1; sight = u.sight }),
+      e.0 ∙ (λ i. record { table = x.table_is i; number = n.seat; left = n.left; taken = n.taken + 1; sight = u.sight; strides = u.strides }),
       e.1 ∙ ap (λ (q : SeatState). record q { place = Rest }) x.stands_is,
       calls_after s t n u (Acquiring a A10) (Acquiring a A3) (Take a.counter n.seat ∷ []) 0 seat.token_is x e.2,
     ),
@@ -113,7 +113,7 @@ module _ (s t : Token) (n : Numbers) (a : Acquire) (seat : IsWoken s n a) (x : W
     a,
     seat.at,
     (
-      e.0 ∙ (λ i. record { table = x.table_is i; number = n.seat; left = n.left; taken = n.taken; sight = u.sight }),
+      e.0 ∙ (λ i. record { table = x.table_is i; number = n.seat; left = n.left; taken = n.taken; sight = u.sight; strides = u.strides }),
       e.1 ∙ ap (λ (q : SeatState). record { place = Acquiring a (P q.turn); turn = q.turn + 1; hand = q.hand }) x.stands_is,
       calls_after s t n u (Acquiring a A10) (Acquiring a A3) (Queue a.counter (wait n.seat s.me.0.turn) a.lifo ∷ []) 0 seat.token_is x
           (subst (λ k. Calls (seat_of t n) (Acquiring a A3) u (Queue a.counter (wait n.seat k) a.lifo ∷ [])) same_turn e.2),

@@ -44,7 +44,7 @@ module _ (s t : Token) (n : Numbers) (w : Word) (k : ℕ) (token : IsToken s n) 
   seen : t.me.0.seen ≡ r.stride.seen
   seen = stride_told (semaphores (layout s.me.0.setting)) s.me.0.number (sight_by s.me.0) (sight_by t.me.0) r.stride r.ran ∙ ap (λ l. r.stride.seen ++ l) only.told ∙ append-nil r.stride.seen
 
-  walked : Walked s s.me.0.place t (stands_by s.me.0) [] 0
+  abbrev walked : Walked s s.me.0.place t (stands_by s.me.0) [] 0
   walked = walked_by s t s.me.0.place (looks w) k (stands_by s.me.0) [] 0 r refl same stays only.told
 
   pub looked_stays : stands_by t.me.0 ≡ stands_by s.me.0
@@ -58,11 +58,12 @@ module _ (s t : Token) (n : Numbers) (w : Word) (k : ℕ) (token : IsToken s n) 
 
   pub looks_at : LooksAt (seat_of s n) w k (seat_of t n)
   looks_at = subst (λ i. LooksAt (record (seat_of s n) { number = i }) w k (record (seat_of t n) { number = i })) token.number_is (record {
-    same = λ i. record { table = walked.table_is i; number = s.me.0.number; left = n.left; taken = n.taken; sight = sight_by t.me.0 };
+    same = λ i. record { table = walked.table_is i; number = s.me.0.number; left = n.left; taken = n.taken; sight = sight_by t.me.0; strides = t.me.0.strides };
     stride = r.stride;
     ran = r.ran;
     did = r.did;
     read = r.read;
+    one = walked.all;
     stays = stays;
     later = (the_sema_paths.paths (layout s.me.0.setting)).grows s.me.0.number (placed s.me.0.place (sight_by s.me.0)) (sight_by t.me.0) walked.strides walked.path;
   })
@@ -139,7 +140,7 @@ module _ (s t : Token) (n : Numbers) (c k : ℕ) (seat : IsSeat s n) (r : Ran (b
 
   pub tried_zero : k ≡ 0 → IsTried (seat_of s n) c Zero (seat_of t n)
   tried_zero e = let x = walked_zero e in (
-    (λ i. record { table = x.table_is i; number = n.seat; left = n.left; taken = n.taken; sight = sight_by t.me.0 }),
+    (λ i. record { table = x.table_is i; number = n.seat; left = n.left; taken = n.taken; sight = sight_by t.me.0; strides = t.me.0.strides }),
     x.stands_is,
     calls_rows s t n n (acquiring c A1) (moved_to s (acquiring c A3)) [] 0 ((acquiring c A1, 0) ∷ []) seat.token_is x
         (subst (λ j. rows_of (r.stride ∷ []) ≡ (acquiring c A1, j) ∷ []) e (ap (λ y. y ∷ []) (row_is s.me.0 t.me.0 (acquiring c A1) k r))),
@@ -202,7 +203,7 @@ module _ (s t u : Token) (n : Numbers) (c k found : ℕ) (seat : IsSeat s n) (r 
 
   pub tried_lost : found ≢ k → IsTried (seat_of s n) c Lost (seat_of u n)
   tried_lost ne = let x = lost_walk ne in let k_is : k ≡ k - 1 + 1 = omega arith in (
-    (λ i. record { table = x.table_is i; number = n.seat; left = n.left; taken = n.taken; sight = sight_by u.me.0 }),
+    (λ i. record { table = x.table_is i; number = n.seat; left = n.left; taken = n.taken; sight = sight_by u.me.0; strides = u.me.0.strides }),
     x.stands_is ∙ ap (λ (q : SeatState). record q { place = acquiring c A1 }) one.stands_is,
     (
       k - 1,
@@ -225,7 +226,7 @@ module _ (s t u : Token) (n : Numbers) (c k found : ℕ) (seat : IsSeat s n) (r 
 
   pub tried_taken : found ≡ k → IsTried (seat_of s n) c Taken (seat_of u counted)
   tried_taken e = let x = taken_walk e in let k_is : k ≡ k - 1 + 1 = omega arith in (
-    (λ i. record { table = x.table_is i; number = n.seat; left = n.left; taken = n.taken + 1; sight = sight_by u.me.0 }),
+    (λ i. record { table = x.table_is i; number = n.seat; left = n.left; taken = n.taken + 1; sight = sight_by u.me.0; strides = u.me.0.strides }),
     x.stands_is ∙ ap (λ (q : SeatState). record q { place = Rest }) one.stands_is,
     (
       k - 1,

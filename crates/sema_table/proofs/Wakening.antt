@@ -67,9 +67,9 @@ module _ (s t1 t2 t3 : Token) (n : Numbers) (a : Release) (is : IsToken s n) (x1
     counted = ended.counted refl;
   }
 
-  pub wakes_nobody : (seat_of t3 n ≡ record (seat_of s n) { sight = sight_by t3.me.0 }) × ComesTo (seat_of s n) Rest (seat_of t3 n) × Wakes (seat_of s n) a (seat_of t3 n) Nobody
+  pub wakes_nobody : (seat_of t3 n ≡ record (seat_of s n) { sight = sight_by t3.me.0; strides = t3.me.0.strides }) × ComesTo (seat_of s n) Rest (seat_of t3 n) × Wakes (seat_of s n) a (seat_of t3 n) Nobody
   wakes_nobody = (
-    (λ i. record { table = ended.table_is i; number = n.seat; left = n.left; taken = n.taken; sight = sight_by t3.me.0 }),
+    (λ i. record { table = ended.table_is i; number = n.seat; left = n.left; taken = n.taken; sight = sight_by t3.me.0; strides = t3.me.0.strides }),
     ended.stands_is,
     calls s t3 n n (Releasing a R3) (moved_to s Rest) [] 0 is ended,
   )
@@ -122,8 +122,8 @@ module _ (s t1 t3 t4 t5 : Token) (n : Numbers) (a : Release) (w : WaitId) (hande
       counted = all_ended.counted refl;
     }
 
-    pub same_seat : seat_of t5 n ≡ record (seat_of s n) { sight = sight_by t5.me.0 }
-    same_seat = λ i. record { table = all_ended.table_is i; number = n.seat; left = n.left; taken = n.taken; sight = sight_by t5.me.0 }
+    pub same_seat : seat_of t5 n ≡ record (seat_of s n) { sight = sight_by t5.me.0; strides = t5.me.0.strides }
+    same_seat = λ i. record { table = all_ended.table_is i; number = n.seat; left = n.left; taken = n.taken; sight = sight_by t5.me.0; strides = t5.me.0.strides }
 
     pub at_rest : ComesTo (seat_of s n) Rest (seat_of t5 n)
     at_rest = all_ended.stands_is ∙ (λ i. record { place = Rest; turn = (settled.stands_is i).turn; hand = (ap (drop 1) hand_is ∙ sym is.empty) i })
@@ -179,6 +179,7 @@ module _ (z : TableModel) (s t : Token) (a : Release) (before : Stands z s (Rele
         counted = λ free. not_both false refl free;
         strides = x.strides;
         path = subst (λ (v : View). SemaPath (layout s.me.0.setting) s.me.0.number (placed (Releasing a R4) (sight_by s.me.0)) x.strides (sight_by v)) (sym view) x.path;
+        all = ap (λ (v : View). v.strides) view ∙ x.all;
         told_is = x.told_is;
       }
 

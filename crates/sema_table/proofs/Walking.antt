@@ -1,5 +1,5 @@
 -- Rows one after the other, and what they leave of a token.
-use Rattle.std.proofs.Common.{◌≡◌, ℕ, ◌+◌, ◌^◌, ◌≤◌, true, false, List, [], ◌∷◌, ◌++◌, sym, refl, ap, ◌∙◌, subst, arith, append-nil, append_assoc}
+use Rattle.std.proofs.Common.{◌≡◌, ℕ, ◌+◌, ◌^◌, ◌≤◌, true, false, List, [], ◌∷◌, ◌++◌, sym, refl, ap, ◌∙◌, subst, arith, length-append, append-nil, append_assoc}
 use Rattle.step_table.specs.declared.entry.Entry.{Entry}
 use Rattle.step_table.specs.declared.place.Place.{Place}
 use Rattle.step_table.specs.declared.word.Word.{Word}
@@ -42,6 +42,7 @@ walked_by s t from deed n stands told gained r come same at entries = record {
   counted = λ free. ap (λ (v : View). takes v.number t.me.0.seen) r.same ∙ r.counted (ap (λ (q : SeatState). is_free q.place) at ∙ free);
   strides = r.stride ∷ [];
   path = ((the_sema_paths.paths (layout s.me.0.setting)).single s.me.0.number (placed from (sight_by s.me.0)) (sight_by t.me.0) r.stride).0 r.ran;
+  all = r.one;
   told_is = append-nil r.stride.told ∙ entries;
 }
 
@@ -61,6 +62,7 @@ walked_none s from at few most counted = record {
   most = most;
   counted = counted;
   strides = [];
+  all = omega arith;
   path = λ i. record { stands = record (stands_by s.me.0) { place = at i }; seen = s.me.0.seen };
   told_is = refl;
 }
@@ -80,6 +82,7 @@ walked_on s t u from a b told more j k x y = record {
       (subst (λ (q : Setting × (ℕ × SemaSight)). SemaPath (layout q.0) q.1.0 q.1.1 y.strides (sight_by u.me.0))
       (λ i. ((x.table_is i).setting, (x.number_is i, record { stands = stays i; seen = t.me.0.seen })))
       y.path);
+  all = let c = x.all in let d = y.all in let l = length-append x.strides y.strides in omega arith;
   told_is = told_append x.strides y.strides ∙ (λ i. x.told_is i ++ y.told_is i);
 }
   where

@@ -1,11 +1,10 @@
 -- What a call of one seat is to its caller: the rows that it ran, the entries that it told, and what it has seen then.
-use Rattle.std.specs.Prelude.{◌≡◌, ℕ, List, [], ◌∷◌, ◌++◌, map}
+use Rattle.std.specs.Prelude.{◌≡◌, ℕ, ◌+◌, List, [], ◌∷◌, ◌++◌, length, map}
 use Rattle.step_table.specs.declared.entry.Entry.{Entry}
 use Rattle.step_table.specs.declared.place.Place.{Place}
-use Rattle.step_table.specs.World.{Layout}
 use Rattle.step_table.specs.Journal.{Plain, plain_start, replay}
 use Rattle.step_table.specs.Path.{GoesOn, all_told}
-use Rattle.sema_law.specs.SemaPath.{SemaSight, SemaStride, SemaPath, placed}
+use Rattle.sema_law.specs.SemaPath.{SemaStride, SemaPath, placed}
 use Rattle.sema_table.specs.Setting.{layout}
 use Rattle.sema_table.specs.Seats.{SeatModel}
 
@@ -14,16 +13,14 @@ abbrev pub TellsIn : List Entry → List Entry → List Entry → Type 0
 TellsIn seen [] now = GoesOn now seen
 TellsIn seen (e ∷ told) now = (others : List Entry) × TellsIn ((seen ++ others) ++ e ∷ []) told now
 
--- seat i ran rows of the step table, one path from the one sight to the other, which told these entries and no others
-pub record Ran (m : Layout) (i : ℕ) (from to : SemaSight) (told : List Entry) : Type 0 where
+-- the seat ran rows of the step table from this place on, one path from the one sight to the other, which told these entries and
+-- no others. It did nothing else meanwhile
+pub record Calls (s : SeatModel) (from : Place) (t : SeatModel) (told : List Entry) : Type 0 where
   pub strides : List SemaStride
-  pub path : SemaPath m i from strides to
+  pub path : SemaPath (layout s.table.setting) s.number (placed from s.sight) strides t.sight
+  pub all : t.strides ≡ s.strides + length strides
   pub told_is : all_told strides ≡ told
-  pub seen : TellsIn from.seen told to.seen
-
--- a call of the seat, from this place on
-abbrev pub Calls : SeatModel → Place → SeatModel → List Entry → Type 0
-Calls s from t told = Ran (layout s.table.setting) s.number (placed from s.sight) t.sight told
+  pub seen : TellsIn s.sight.seen told t.sight.seen
 
 -- each row with what it read
 abbrev pub rows_of : List SemaStride → List (Place × ℕ)

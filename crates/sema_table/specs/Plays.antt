@@ -37,7 +37,8 @@ pub record Strode (v : View) (deed : Deed Word) (n : ℕ) (w : View) : Type 0 wh
   pub ran : SemaRan (layout v.setting) v.number (sight_by v) stride (sight_by w)
   pub did : stride.deed ≡ deed
   pub read : stride.read ≡ n
-  pub same : w ≡ record (seeing (sight_by w) v) { taken = w.taken }
+  pub same : w ≡ record (seeing (sight_by w) v) { taken = w.taken; strides = w.strides }
+  pub one : w.strides ≡ v.strides + 1
   pub came : w.taken ≡ v.taken + gains_by deed v.place w.place
   pub most : w.taken ≤ 2 ^ 49
   pub counted : is_free w.place ≡ true → takes v.number w.seen ≡ w.taken

@@ -76,7 +76,7 @@ AtHome z g homes r = (treap : Treap) × (get_elem? homes r ≡ some (some (Root 
 
 -- a seat that has run nothing; the seat 0 makes the others, in order
 abbrev pub fresh : Setting → ℕ → ℕ → View
-fresh z number made = record { number = number; setting = z; place = Rest; turn = 0; hand = []; seen = []; taken = 0; made = made }
+fresh z number made = record { number = number; setting = z; place = Rest; turn = 0; hand = []; seen = []; taken = 0; strides = 0; made = made }
 
 -- the view of the seat j, of a table made so
 abbrev pub IsViewOf : Setting → SemaWorld → ℕ → View → Type 0

@@ -23,13 +23,15 @@ pub record TableModel : Type 0 where
   pub id : TableId
   pub setting : Setting
 
--- a seat: its table, its number, how many units more it may add, how many it was given, how it stands and what it has seen
+-- a seat: its table, its number, how many units more it may add, how many it was given, how it stands, what it has seen, and how
+-- many strides it has gone
 pub record SeatModel : Type 0 where
   pub table : TableModel
   pub number : ℕ
   pub left : ℕ
   pub taken : ℕ
   pub sight : SemaSight
+  pub strides : ℕ
 
 abbrev pub Token : Type 0
 Token = atomic.Seat Record View
@@ -38,7 +40,7 @@ abbrev pub table_of : Token → TableModel
 table_of t = record { id = t.table_id; setting = t.me.0.setting }
 
 abbrev pub seat_of : Token → Numbers → SeatModel
-seat_of t n = record { table = table_of t; number = n.seat; left = n.left; taken = n.taken; sight = sight_by t.me.0 }
+seat_of t n = record { table = table_of t; number = n.seat; left = n.left; taken = n.taken; sight = sight_by t.me.0; strides = t.me.0.strides }
 
 -- what a seat's numbers say of its token: it holds no slot and has no wait in hand, has queued so many waits, may add so
 -- many units more, and has come by so many

@@ -29,11 +29,12 @@ releasing c row = Releasing (record { counter = c; handoff = false }) row
 
 -- nothing but a look: the seat stands as it stood, and has seen all that was told up to the look, which read n
 pub record LooksAt (s : SeatModel) (w : Word) (n : ℕ) (t : SeatModel) : Type 0 where
-  pub same : t ≡ record s { sight = t.sight }
+  pub same : t ≡ record s { sight = t.sight; strides = t.strides }
   pub stride : SemaStride
   pub ran : SemaRan (layout s.table.setting) s.number s.sight stride t.sight
   pub did : stride.deed ≡ looks w
   pub read : stride.read ≡ n
+  pub one : t.strides ≡ s.strides + 1
   pub stays : t.sight.stands ≡ s.sight.stands
   pub later : GoesOn t.sight.seen s.sight.seen
 
@@ -54,23 +55,23 @@ pub record IsWaiters (s : SeatModel) (c n : ℕ) (t : SeatModel) : Type 0 where
 -- the rows of one try: A1, and A2 where A1 read more than 0. A unit is taken exactly where A2 found what A1 read
 abbrev pub IsTried : SeatModel → ℕ → Tried → SeatModel → Type 0
 IsTried s c Zero t =
-    (t ≡ record s { sight = t.sight }) × ComesTo s (acquiring c A3) t × CallsRows s (acquiring c A1) t [] ((acquiring c A1, 0) ∷ [])
+    (t ≡ record s { sight = t.sight; strides = t.strides }) × ComesTo s (acquiring c A3) t × CallsRows s (acquiring c A1) t [] ((acquiring c A1, 0) ∷ [])
     × ((plain_seen t).numbers c ≡ 0)
 IsTried s c Lost t =
-    (t ≡ record s { sight = t.sight }) × ComesTo s (acquiring c A1) t
+    (t ≡ record s { sight = t.sight; strides = t.strides }) × ComesTo s (acquiring c A1) t
     × ((left n : ℕ) × (n ≢ left + 1)
     × CallsRows s (acquiring c A1) t [] ((acquiring c A1, left + 1) ∷ (acquiring c (A2 left), n) ∷ []))
 IsTried s c Taken t =
-    (t ≡ record s { taken = s.taken + 1; sight = t.sight }) × ComesTo s Rest t
+    (t ≡ record s { taken = s.taken + 1; sight = t.sight; strides = t.strides }) × ComesTo s Rest t
     × ((left : ℕ)
     × CallsRows s (acquiring c A1) t (Take c s.number ∷ []) ((acquiring c A1, left + 1) ∷ (acquiring c (A2 left), left + 1) ∷ []))
 
 -- a unit was added. Then the waiter word read 0, and the release has ended, or it read more, and the release goes to the lock
 abbrev pub IsPosted : SeatModel → ℕ → Posted → Type 0
 IsPosted s c (Done t) =
-    (t ≡ record s { left = s.left - 1; sight = t.sight }) × ComesTo s Rest t
+    (t ≡ record s { left = s.left - 1; sight = t.sight; strides = t.strides }) × ComesTo s Rest t
     × ((n : ℕ) × CallsRows s (releasing c R1) t (Add c s.number ∷ []) ((releasing c R1, n) ∷ (releasing c R2, 0) ∷ []))
 IsPosted s c (Owes t) =
-    (t ≡ record s { left = s.left - 1; sight = t.sight }) × ComesTo s (releasing c R3) t
+    (t ≡ record s { left = s.left - 1; sight = t.sight; strides = t.strides }) × ComesTo s (releasing c R3) t
     × ((n waits : ℕ)
     × CallsRows s (releasing c R1) t (Add c s.number ∷ []) ((releasing c R1, n) ∷ (releasing c R2, waits + 1) ∷ []))

@@ -37,9 +37,9 @@ Parks s a t =
 -- end that it asked for: the last thing that it has seen
 abbrev pub IsEntered : SeatModel → Acquire → Place → Entered → Type 0
 IsEntered s a from (Taken t) =
-    (t ≡ record s { taken = s.taken + 1; sight = t.sight }) × ComesTo s Rest t × Calls s from t (Take a.counter s.number ∷ [])
+    (t ≡ record s { taken = s.taken + 1; sight = t.sight; strides = t.strides }) × ComesTo s Rest t × Calls s from t (Take a.counter s.number ∷ [])
 IsEntered s a from (Asleep t) =
-    (t ≡ record s { sight = t.sight }) × Parks s a t
+    (t ≡ record s { sight = t.sight; strides = t.strides }) × Parks s a t
     × Calls s from t (Queue a.counter (wait s.number s.sight.stands.turn) a.lifo ∷ [])
     × ((before : List Entry) × (t.sight.seen ≡ before ++ Queue a.counter (wait s.number s.sight.stands.turn) a.lifo ∷ []))
 
@@ -48,11 +48,11 @@ IsEntered s a from (Asleep t) =
 abbrev pub IsPolled : SeatModel → Polled → Type 0
 IsPolled s (Still t) = LooksAt s (Grant s.number) 0 t
 IsPolled s (Woken t) =
-    (t ≡ record s { sight = t.sight })
+    (t ≡ record s { sight = t.sight; strides = t.strides })
     × ((a : Acquire) × (turn : ℕ) × IsAt s (Acquiring a (P turn)) × ComesTo s (Acquiring a A10) t
     × CallsRows s (Acquiring a (P turn)) t [] ((Acquiring a (P turn), 1) ∷ []))
 IsPolled s (Handed t) =
-    (t ≡ record s { taken = s.taken + 1; sight = t.sight }) × ComesTo s Rest t
+    (t ≡ record s { taken = s.taken + 1; sight = t.sight; strides = t.strides }) × ComesTo s Rest t
     × ((a : Acquire) × (turn : ℕ) × IsAt s (Acquiring a (P turn))
     × CallsRows s (Acquiring a (P turn)) t [] ((Acquiring a (P turn), 2) ∷ [])
     × HasItsUnit a.counter (wait s.number turn) t.sight.seen)
@@ -85,5 +85,5 @@ Wakes s r t (woken.Handed w) =
 -- the rows of a release from the lock on, by which the seat has come to rest
 abbrev pub IsWakened : SeatModel → Bool → SeatModel → Wake → Type 0
 IsWakened s handoff t wake =
-    (c : ℕ) × IsAt s (Releasing (record { counter = c; handoff = false }) R3) × (t ≡ record s { sight = t.sight }) × ComesTo s Rest t
+    (c : ℕ) × IsAt s (Releasing (record { counter = c; handoff = false }) R3) × (t ≡ record s { sight = t.sight; strides = t.strides }) × ComesTo s Rest t
     × Wakes s (record { counter = c; handoff = handoff }) t wake

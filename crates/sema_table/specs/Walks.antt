@@ -56,6 +56,7 @@ pub record Walked (s : Token) (from : Place) (t : Token) (stands : SeatState) (t
   pub counted : is_free stands.place ≡ true → takes t.me.0.number t.me.0.seen ≡ t.me.0.taken
   pub strides : List SemaStride
   pub path : SemaPath (layout s.me.0.setting) s.me.0.number (placed from (sight_by s.me.0)) strides (sight_by t.me.0)
+  pub all : t.me.0.strides ≡ s.me.0.strides + length strides
   pub told_is : all_told strides ≡ told
 
 -- the seat as it stood, at another place

@@ -22,6 +22,8 @@ pub struct View {
     pub seen: [Entry; 0],
     /// How many units the seat has come by.
     pub taken: u64,
+    /// How many strides the seat has gone: rows that it ran, and looks.
+    pub strides: u64,
     /// Of the seat that makes the others, how many were made; of another 0.
     pub made: u64,
 }
