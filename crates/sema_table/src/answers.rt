@@ -19,7 +19,7 @@ pub enum Tried {
 
 /// What adding a unit came to.
 pub enum Posted {
-    /// Nobody waits at the counter's root.
+    /// The waiter word of the counter's root read 0: there is nobody to wake.
     Done(Seat),
     /// Somebody may wait: the seat has to look.
     Owes(Owing),

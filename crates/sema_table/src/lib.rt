@@ -10,7 +10,8 @@
 //! A table has 1 to 65,536 counters, 1 to 256 seats and 1 to 251 roots; a counter starts below 2^32, and a seat adds at most
 //! 2^40 units. [`SemaTable::new`] names the first of these limits that isn't kept, or want of memory, and takes all memory that the
 //! table ever takes. After it the one refusal is [`PostRefused::LimitReached`]. A seat is used by one thread at a time, since
-//! it is moved or lent. `enter`, `retry` and `wake` may wait for a root's lock; all other calls end.
+//! it is moved or lent. `enter`, `retry` and `wake` may wait for a root's lock, or for a counter that others keep changing; all other
+//! calls end.
 #![tactic(auto)]
 
 mod answers;

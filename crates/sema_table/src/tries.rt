@@ -19,7 +19,7 @@ impl SemaTable {
         self.table.shared.load::<Looks>(&mut seat.token, word)
     }
 
-    /// How many waits are queued at the counter's root, or one more while a seat is about to queue its own.
+    /// How many waits are queued at the counter's root, or one more while a seat under the root's lock may yet queue its own.
     pub fn waiters_of_root(&self, seat: &mut Seat, counter: CounterId) -> u64
         requires { (seat.old.table ≡ self.now) × (counter < length self.now.setting.starts) }
         ensures { IsWaiters seat.old counter result seat.new }
