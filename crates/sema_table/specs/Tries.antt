@@ -55,7 +55,8 @@ pub record IsWaiters (s : SeatModel) (c n : ℕ) (t : SeatModel) : Type 0 where
 -- the rows of one try: A1, and A2 where A1 read more than 0. A unit is taken exactly where A2 found what A1 read
 abbrev pub IsTried : SeatModel → ℕ → Tried → SeatModel → Type 0
 IsTried s c Zero t =
-    (t ≡ record s { sight = t.sight; strides = t.strides }) × ComesTo s (acquiring c A3) t × CallsRows s (acquiring c A1) t [] ((acquiring c A1, 0) ∷ [])
+    (t ≡ record s { sight = t.sight; strides = t.strides }) × ComesTo s (acquiring c A3) t
+    × CallsRows s (acquiring c A1) t [] ((acquiring c A1, 0) ∷ [])
     × ((plain_seen t).numbers c ≡ 0)
 IsTried s c Lost t =
     (t ≡ record s { sight = t.sight; strides = t.strides }) × ComesTo s (acquiring c A1) t

@@ -37,7 +37,8 @@ Parks s a t =
 -- end that it asked for: the last thing that it has seen
 abbrev pub IsEntered : SeatModel → Acquire → Place → Entered → Type 0
 IsEntered s a from (Taken t) =
-    (t ≡ record s { taken = s.taken + 1; sight = t.sight; strides = t.strides }) × ComesTo s Rest t × Calls s from t (Take a.counter s.number ∷ [])
+    (t ≡ record s { taken = s.taken + 1; sight = t.sight; strides = t.strides }) × ComesTo s Rest t
+    × Calls s from t (Take a.counter s.number ∷ [])
 IsEntered s a from (Asleep t) =
     (t ≡ record s { sight = t.sight; strides = t.strides }) × Parks s a t
     × Calls s from t (Queue a.counter (wait s.number s.sight.stands.turn) a.lifo ∷ [])
@@ -85,5 +86,6 @@ Wakes s r t (woken.Handed w) =
 -- the rows of a release from the lock on, by which the seat has come to rest
 abbrev pub IsWakened : SeatModel → Bool → SeatModel → Wake → Type 0
 IsWakened s handoff t wake =
-    (c : ℕ) × IsAt s (Releasing (record { counter = c; handoff = false }) R3) × (t ≡ record s { sight = t.sight; strides = t.strides }) × ComesTo s Rest t
+    (c : ℕ) × IsAt s (Releasing (record { counter = c; handoff = false }) R3)
+    × (t ≡ record s { sight = t.sight; strides = t.strides }) × ComesTo s Rest t
     × Wakes s (record { counter = c; handoff = handoff }) t wake

@@ -44,7 +44,8 @@ impl SemaTable {
         requires seat { IsToken token numbers × (table_of token ≡ self.now) }
         requires call { (counter < length self.now.setting.starts)
             × (token.me.0.place ≡ Releasing (record { counter = counter; handoff = false }) R3) }
-        ensures { (result.0 ≡ record (seat_of token numbers) { sight = result.0.sight; strides = result.0.strides }) × ComesTo (seat_of token numbers) Rest result.0
+        ensures { (result.0 ≡ record (seat_of token numbers) { sight = result.0.sight; strides = result.0.strides })
+            × ComesTo (seat_of token numbers) Rest result.0
             × Wakes (seat_of token numbers) (record { counter = counter; handoff = handoff }) result.0 result.1 }
     {
         let mut token = token;
