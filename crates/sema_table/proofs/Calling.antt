@@ -1,5 +1,6 @@
 -- What a caller reads of the rows that a call ran.
-use Rattle.std.proofs.Common.{◌≡◌, ℕ, Bool, true, false, List, [], ◌∷◌, ◌++◌, sym, ap, ◌∙◌, subst, arith, length-append, append-nil, append_assoc}
+use Rattle.std.proofs.Common.{◌≡◌, ℕ, ◌+◌, Bool, true, false, List, [], ◌∷◌, ◌++◌, length, sym, ap, ◌∙◌, subst, arith, length-append, append-nil, append_assoc}
+use Rattle.std.proofs.lemmas.List.Elements.{All-nil}
 use Rattle.step_table.specs.declared.entry.Entry.{Entry}
 use Rattle.step_table.specs.declared.place.Place.{Place}
 use Rattle.step_table.specs.declared.place.Release.{Release}
@@ -18,7 +19,7 @@ use Rattle.sema_table.specs.Rule.{stands_by, sight_by}
 use Rattle.sema_table.proofs.Walking.{told_append}
 use Rattle.sema_table.specs.Walks.{Walked, moved_to, granting, grant_of}
 use Rattle.waiters.specs.declared.wait.WaitId.{WaitId}
-use Rattle.sema_table.specs.Waking.{CallsGrant}
+use Rattle.sema_table.specs.Waking.{FindsNoGrant, CallsGranted, CallsGrant}
 use Rattle.sema_table.specs.Calls.{TellsIn, Calls, CallsRows, rows_of}
 
 tells_later : (a b told now : List Entry) → GoesOn b a → TellsIn b told now → TellsIn a told now
@@ -34,7 +35,7 @@ tells_first seen (e ∷ told) rest now tells = (
       (subst (λ l. TellsIn l rest now) (sym (append_assoc seen (e ∷ []) told) ∙ ap (λ l. (l ++ e ∷ []) ++ told) (sym (append-nil seen))) tells),
 )
 
-path_tells : (m : Layout) (i : ℕ) (v w : SemaSight) (strides : List SemaStride) → SemaPath m i v strides w → TellsIn v.seen (all_told strides) w.seen
+pub path_tells : (m : Layout) (i : ℕ) (v w : SemaSight) (strides : List SemaStride) → SemaPath m i v strides w → TellsIn v.seen (all_told strides) w.seen
 path_tells m i v w [] path = subst (λ (x : SemaSight). GoesOn x.seen v.seen) (sym path) (goes_on_here v.seen)
 path_tells m i v w (p ∷ strides) path =
     tells_later v.seen p.seen (p.told ++ all_told strides) w.seen (stride_later (semaphores m) i v path.0 p path.1)
@@ -85,6 +86,25 @@ calls_after s t n u from p told j is x c = record {
     stays : record (stands_by t.me.0) { place = p } ≡ stands_by t.me.0
     stays = λ i. record (stands_by t.me.0) { place = (sym x.stands_is i).place }
 
+-- the row that takes a grant
+pub calls_granted : (s t : Token) (n k : Numbers) (from : Place) (a : SeatState) (j : ℕ) (last : SemaStride) (found : ℕ) → IsToken s n → (x : Walked s from t a [] j) → x.strides ≡ last ∷ []
+    → last.deed ≡ runs → last.stood.place ≡ from → last.read ≡ found → CallsGranted (seat_of s n) from (seat_of t k) [] found
+calls_granted s t n k from a j last found is x one did row read = subst (λ i. CallsGranted (record (seat_of s n) { number = i }) from (seat_of t k) [] found) is.number_is (record {
+  call = record {
+    strides = x.strides;
+    path = x.path;
+    all = x.all;
+    told_is = x.told_is;
+    seen = subst (λ l. TellsIn s.me.0.seen l t.me.0.seen) x.told_is (path_tells _ _ _ _ x.strides x.path);
+  };
+  last = last;
+  strides_are = one;
+  looked = All-nil (FindsNoGrant s.me.0.number);
+  did = did;
+  row = row;
+  found = read;
+})
+
 -- the row that grants stores in the grant word of the wait's seat
 module _ (m : Layout) (i : ℕ) (a : Release) (turn : ℕ) (w : WaitId) (last : SemaStride) where
   granted_word : (handed : Bool) → last.deed ≡ runs → last.stood ≡ record { place = granting a handed; turn = turn; hand = w ∷ [] } → word_of_stride m i last ≡ Grant w.seat
@@ -115,3 +135,27 @@ calls_grant s t n k from b told j before last a handed turn w is x ends did stoo
   word = granted_word (layout s.me.0.setting) s.me.0.number a turn w last handed did stood;
   stored = granted_number (layout s.me.0.setting) s.me.0.number a turn w last handed stood;
 })
+
+-- a seat that stands at a place is there by no choice
+pub placed_at : (place : Place) (v : SemaSight) → v.stands.place ≡ place → placed place v ≡ v
+placed_at place v at = λ i. record v { stands = record v.stands { place = sym at i } }
+
+-- a call by its path
+abbrev pub call_of : (s t : SeatModel) (from : Place) (told : List Entry) (strides : List SemaStride) → SemaPath (layout s.table.setting) s.number (placed from s.sight) strides t.sight → t.strides ≡ s.strides + length strides
+    → all_told strides ≡ told → Calls s from t told
+call_of s t from told strides path all told_is = record {
+  strides = strides;
+  path = path;
+  all = all;
+  told_is = told_is;
+  seen = subst (λ l. TellsIn s.sight.seen l t.sight.seen) told_is (path_tells (layout s.table.setting) s.number (placed from s.sight) t.sight strides path);
+}
+
+-- a call after a call
+pub calls_then : (s u t : SeatModel) (from place : Place) (told more : List Entry) → u.table ≡ s.table → u.number ≡ s.number → u.sight.stands.place ≡ place → Calls s from u told → Calls u place t more
+    → Calls s from t (told ++ more)
+calls_then s u t from place told more tables numbers at x y = call_of s t from (told ++ more) (x.strides ++ y.strides)
+    ((the_sema_paths.paths (layout s.table.setting)).joined s.number (placed from s.sight) u.sight t.sight x.strides y.strides x.path
+    (subst (λ (q : SemaSight × (TableModel × ℕ)). SemaPath (layout q.1.0.setting) q.1.1 q.0 y.strides t.sight) (λ i. (placed_at place u.sight at i, (tables i, numbers i))) y.path))
+    (let d = x.all in let e = y.all in let l = length-append x.strides y.strides in omega arith)
+    (told_append x.strides y.strides ∙ (λ i. x.told_is i ++ y.told_is i))

@@ -6,6 +6,7 @@ pub mod Bounding
 pub mod Resting
 pub mod Keeping
 pub mod Allowing
+pub mod Aside
 pub mod Stepping
 pub mod Leading
 pub mod Walking
@@ -14,6 +15,8 @@ pub mod Trying
 pub mod Posting
 pub mod Locking
 pub mod Polling
+pub mod Rousing
+pub mod Acquiring
 pub mod Holding
 pub mod Looking
 pub mod Entering

@@ -42,8 +42,8 @@ first_words z n (Lock c) h = behind z.starts n (root z c) (address z (Lock c)) r
 first_words z n (Waiters c) h = behind z.starts n (z.roots + root z c) (address z (Waiters c)) (omega arith)
 first_words z n (Grant s) h = behind z.starts n (z.roots + z.roots + s) (address z (Grant s)) (omega arith)
 
-pub words_long : (z : Setting) → length (z.starts ++ replicate (z.roots + z.roots + z.seats) 0) ≡ words_in z
-words_long z = length-append z.starts (replicate (z.roots + z.roots + z.seats) 0) ∙ ap (λ k. length z.starts + k) (length-replicate (z.roots + z.roots + z.seats) 0) ∙ omega arith
+pub words_long : (z : Setting) → length (z.starts ++ replicate (z.roots + z.roots + z.seats + z.seats) 0) ≡ words_in z
+words_long z = length-append z.starts (replicate (z.roots + z.roots + z.seats + z.seats) 0) ∙ ap (λ k. length z.starts + k) (length-replicate (z.roots + z.roots + z.seats + z.seats) 0) ∙ omega arith
 
 small_starts : (xs : List ℕ) → All (λ n. n < 2 ^ 32) xs → (c : ℕ) → slice_index_or xs c 0 < 2 ^ 32
 small_starts xs all c = dite (dec_le (length xs) c) (λ l. let e = get_or_past xs c 0 l in omega (arith, e)) (λ n. all c 0 (lt_of_not-le n))
@@ -79,12 +79,12 @@ module _ (z : Setting) where
 
   -- the rule holds of a table with one seat, whose words are those of the first world and whose roots are empty
   pub opens : 0 < z.roots → 0 < z.seats → z.seats ≤ 256 → length z.starts ≤ 65536 → All (λ n. n < 2 ^ 32) z.starts
-      → IsKept z (opening (z.starts ++ replicate (z.roots + z.roots + z.seats) 0) (new_roots z.seats z.seed z.roots) (first_view z))
+      → IsKept z (opening (z.starts ++ replicate (z.roots + z.roots + z.seats + z.seats) 0) (new_roots z.seats z.seed z.roots) (first_view z))
   opens rooted seated most counted starts = record {
     world = first;
     reached = none;
     small = record { seats = most; starts = small_starts z.starts starts; few = λ k h. omega arith };
-    words = first_words z (z.roots + z.roots + z.seats);
+    words = first_words z (z.roots + z.roots + z.seats + z.seats);
     homes = λ r h free. (
       _,
       listed (λ q. new_root z.seats ((z.seed + q) % 2 ^ 64)) 0 z.roots r h,

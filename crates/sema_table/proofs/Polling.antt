@@ -24,12 +24,11 @@ use Rattle.sema_table.specs.Rule.{stands_by, sight_by}
 use Rattle.sema_table.specs.Plays.{Strode, Ran, begin}
 use Rattle.sema_table.specs.Seats.{Token, TableModel, seat_of, IsSeat, IsSleeping, IsWoken}
 use Rattle.sema_table.specs.Walks.{Walked, moved_to}
-use Rattle.sema_table.specs.Calls.{rows_of}
 use Rattle.sema_table.specs.Tries.{LooksAt}
-use Rattle.sema_table.specs.Waking.{IsPolled}
+use Rattle.sema_table.specs.Waking.{CallsGranted, IsPolled}
 use Rattle.sema_table.proofs.Leading.{Goes, led}
 use Rattle.sema_table.proofs.Walking.{walked_row, token_after}
-use Rattle.sema_table.proofs.Calling.{calls_rows, row_is}
+use Rattle.sema_table.proofs.Calling.{calls_granted}
 use Rattle.sema_table.proofs.Trying.{looked_token, looked_stays, looked_table, looks_at}
 
 module _ (s t : Token) (n : Numbers) (a : Acquire) (turn k : ℕ) (seat : IsSleeping s n a turn) (same : t.table_id ≡ s.table_id) (bare : t.me.1 ≡ s.me.1) where
@@ -59,6 +58,9 @@ module _ (s t : Token) (n : Numbers) (a : Acquire) (turn k : ℕ) (seat : IsSlee
 
     abbrev handed_walk : k ≢ 1 → Walked s parked t (moved_to s Rest) [] 1
     handed_walk ne = walked_row s t parked k (to Rest) row (subst (λ (b : Bool). Goes (begin parked s.me.0) row.stride (to (cond b (Acquiring a A10) Rest)) t.me.0) (ne_eqb k 1 ne) next) same
+
+    took_grant : (later : Numbers) (stands : SeatState) (gained j : ℕ) → (x : Walked s parked t stands [] gained) → x.strides ≡ row.stride ∷ [] → k ≡ j → CallsGranted (seat_of s n) parked (seat_of t later) [] j
+    took_grant later stands gained j x ran is = calls_granted s t n later parked stands gained row.stride j seat.token_is x ran row.did (ap (λ (q : SeatState). q.place) row.ran.stood) (row.read ∙ is)
 
     abbrev world : SemaWorld
     world = row.ran.world
@@ -90,8 +92,7 @@ module _ (s t : Token) (n : Numbers) (a : Acquire) (turn k : ℕ) (seat : IsSlee
         turn,
         seat.at,
         x.stands_is,
-        calls_rows s t n n parked (moved_to s (Acquiring a A10)) [] 0 ((parked, 1) ∷ []) seat.token_is x
-            (subst (λ j. rows_of (row.stride ∷ []) ≡ (parked, j) ∷ []) e (ap (λ y. y ∷ []) (row_is s.me.0 t.me.0 parked k row))),
+        took_grant n (moved_to s (Acquiring a A10)) 0 1 x refl e,
       ),
     )
 
@@ -119,8 +120,7 @@ module _ (s t : Token) (n : Numbers) (a : Acquire) (turn k : ℕ) (seat : IsSlee
             a,
             turn,
             seat.at,
-            calls_rows s t n counted parked (moved_to s Rest) [] 1 ((parked, 2) ∷ []) seat.token_is x
-                (subst (λ j. rows_of (row.stride ∷ []) ≡ (parked, j) ∷ []) two (ap (λ y. y ∷ []) (row_is s.me.0 t.me.0 parked k row))),
+            took_grant counted (moved_to s Rest) 1 2 x refl two,
             subst (λ i. HasItsUnit a.counter (wait i turn) t.me.0.seen) seat.token_is.number_is (subst (HasItsUnit a.counter (wait s.me.0.number turn)) (sym seen) unit),
           ),
         )

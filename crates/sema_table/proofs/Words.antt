@@ -13,7 +13,7 @@ use Rattle.step_table.specs.Counting.{on}
 use Rattle.step_table.proofs.Sums.{put_here, put_else, on_else, total_same}
 use Rattle.sema_root.specs.Treap.{Treap}
 use Rattle.sema_table.specs.declared.view.Setting.{Setting}
-use Rattle.sema_table.specs.Setting.{root, address, words_in, IsThere}
+use Rattle.sema_table.specs.Setting.{root, address, words_shown, words_in, IsThere}
 use Rattle.sema_table.specs.Rule.{IsRecord}
 
 pub low_root : (z : Setting) (c : ℕ) → 0 < z.roots → root z c < z.roots
@@ -86,8 +86,11 @@ module _ (z : Setting) (some : 0 < z.roots) where
   written_word g (Grant c) (Lock d) x l a b = ((λ e. let q = low_root z d some in absurd (omega arith)), (λ ne. refl))
   written_word g (Grant c) (Waiters d) x l a b = ((λ e. let q = low_root z d some in absurd (omega arith)), (λ ne. refl))
 
+  pub shown : (w : Word) → IsThere z w → address z w < words_shown z
+  shown (Counter c) h = omega arith
+  shown (Lock c) h = let q = low_root z c some in omega arith
+  shown (Waiters c) h = let q = low_root z c some in omega arith
+  shown (Grant s) h = omega arith
+
   pub inside : (w : Word) → IsThere z w → address z w < words_in z
-  inside (Counter c) h = omega arith
-  inside (Lock c) h = let q = low_root z c some in omega arith
-  inside (Waiters c) h = let q = low_root z c some in omega arith
-  inside (Grant s) h = omega arith
+  inside w h = let low = shown w h in omega arith

@@ -8,6 +8,7 @@ pub mod Walks
 pub mod Calls
 pub mod Tries
 pub mod Waking
+pub mod Whole
 pub mod Texts
 pub mod Making
 pub mod Table

@@ -103,6 +103,10 @@ received m n t = ((n ≡ 0 → Strode m.0 (looks (Grant m.0.number)) 0 t.0) × (
 abbrev pub receives : atomic.Step Record → Me → ℕ → Me → Type 0
 receives st m n t = received m n t
 
+-- a word was written of which the world knows nothing, and nothing changed
+abbrev pub sets_aside : atomic.Step Record → Me → ℕ → Me → Type 0
+sets_aside st m x t = t ≡ m
+
 -- a store tells nothing of what it found
 abbrev pub stores : atomic.Step Record → Me → ℕ → Me → Type 0
 stores st m x t = (n : ℕ) × Ran m.0 n t.0 × (t.1 ≡ m.1)

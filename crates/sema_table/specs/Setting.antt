@@ -19,9 +19,17 @@ address z (Lock c) = length z.starts + root z c
 address z (Waiters c) = length z.starts + z.roots + root z c
 address z (Grant s) = length z.starts + z.roots + z.roots + s
 
+-- where the words end that the world has
+abbrev pub words_shown : Setting → ℕ
+words_shown z = length z.starts + z.roots + z.roots + z.seats
+
+-- behind them lies a word of each seat of which the world knows nothing: above 0 while the seat's thread sleeps
+abbrev pub asleep_address : Setting → ℕ → ℕ
+asleep_address z s = words_shown z + s
+
 -- how many words there are
 abbrev pub words_in : Setting → ℕ
-words_in z = length z.starts + z.roots + z.roots + z.seats
+words_in z = words_shown z + z.seats
 
 -- the word is there
 abbrev pub IsThere : Setting → Word → Type 0

@@ -7,9 +7,10 @@ use Rattle.sema_table.specs.Setting.{words_in}
 use Rattle.sema_table.specs.Rule.{setting_of}
 use Rattle.sema_table.specs.Seats.{TableModel}
 
-pub record IsTable (id : TableId) (z : Setting) (counters roots : ℕ) : Type 0 where
+pub record IsTable (id : TableId) (z : Setting) (counters roots seats : ℕ) : Type 0 where
   pub counted : counters ≡ length z.starts
   pub rooted : roots ≡ z.roots
+  pub seated : seats ≡ z.seats
   pub some : 0 < roots
   pub words : id.words ≡ words_in z
   pub slots : id.slots ≡ z.roots

@@ -1,5 +1,6 @@
 -- What the calls that sleep and wake promise.
 use Rattle.std.specs.Prelude.{◌≡◌, Bool, true, false, ℕ, ◌+◌, List, [], ◌∷◌, ◌++◌}
+use Rattle.std.specs.List.{All}
 use Rattle.waiters.specs.declared.wait.WaitId.{WaitId}
 use Rattle.step_table.specs.declared.entry.Entry.{Entry}
 use Rattle.step_table.specs.declared.entry.Entry.TheVariants.{Take, Queue, Leave}
@@ -12,7 +13,7 @@ use Rattle.step_table.specs.declared.place.Place.TheVariants.{Rest, Acquiring, R
 use Rattle.step_table.specs.declared.word.Word.TheVariants.{Grant}
 use Rattle.step_table.specs.Journal.{HasItsUnit}
 use Rattle.step_table.specs.Counting.{wait}
-use Rattle.step_table.specs.Path.{runs}
+use Rattle.step_table.specs.Path.{runs, looks}
 use Rattle.sema_law.specs.SemaPath.{SemaStride, row_event, word_of_stride}
 use Rattle.sema_table.specs.Setting.{layout}
 use Rattle.sema_table.specs.declared.answers.Entered.{Entered}
@@ -22,7 +23,7 @@ use Rattle.sema_table.specs.declared.answers.Wake.TheVariants as woken
 use Rattle.sema_table.specs.declared.answers.Polled.{Polled}
 use Rattle.sema_table.specs.declared.answers.Polled.TheVariants.{Still, Woken, Handed}
 use Rattle.sema_table.specs.Seats.{SeatModel}
-use Rattle.sema_table.specs.Calls.{Calls, CallsRows, IsAt, ComesTo}
+use Rattle.sema_table.specs.Calls.{Calls, IsAt, ComesTo}
 use Rattle.sema_table.specs.Tries.{LooksAt}
 
 abbrev pub acquire_of : ℕ → Bool → Acquire
@@ -44,6 +45,20 @@ IsEntered s a from (Asleep t) =
     × Calls s from t (Queue a.counter (wait s.number s.sight.stands.turn) a.lifo ∷ [])
     × ((before : List Entry) × (t.sight.seen ≡ before ++ Queue a.counter (wait s.number s.sight.stands.turn) a.lifo ∷ []))
 
+-- the seat looked at its own grant word, and found nothing
+abbrev pub FindsNoGrant : ℕ → SemaStride → Type 0
+FindsNoGrant i p = (p.deed ≡ looks (Grant i)) × (p.read ≡ 0)
+
+-- the row that takes the grant ran last, and found n; before it were these looks, which found nothing
+pub record CallsGranted (s : SeatModel) (from : Place) (t : SeatModel) (before : List SemaStride) (n : ℕ) : Type 0 where
+  pub call : Calls s from t []
+  pub last : SemaStride
+  pub strides_are : call.strides ≡ before ++ last ∷ []
+  pub looked : All (FindsNoGrant s.number) before
+  pub did : last.deed ≡ runs
+  pub row : last.stood.place ≡ from
+  pub found : last.read ≡ n
+
 -- nothing was granted at the look; or the seat was woken by a grant of 1, and has yet to try; or it was handed a unit by a grant
 -- of 2, which was taken for it after its wait had left
 abbrev pub IsPolled : SeatModel → Polled → Type 0
@@ -51,11 +66,11 @@ IsPolled s (Still t) = LooksAt s (Grant s.number) 0 t
 IsPolled s (Woken t) =
     (t ≡ record s { sight = t.sight; strides = t.strides })
     × ((a : Acquire) × (turn : ℕ) × IsAt s (Acquiring a (P turn)) × ComesTo s (Acquiring a A10) t
-    × CallsRows s (Acquiring a (P turn)) t [] ((Acquiring a (P turn), 1) ∷ []))
+    × CallsGranted s (Acquiring a (P turn)) t [] 1)
 IsPolled s (Handed t) =
     (t ≡ record s { taken = s.taken + 1; sight = t.sight; strides = t.strides }) × ComesTo s Rest t
     × ((a : Acquire) × (turn : ℕ) × IsAt s (Acquiring a (P turn))
-    × CallsRows s (Acquiring a (P turn)) t [] ((Acquiring a (P turn), 2) ∷ [])
+    × CallsGranted s (Acquiring a (P turn)) t [] 2
     × HasItsUnit a.counter (wait s.number turn) t.sight.seen)
 
 -- the seat tried first, as one that was woken

@@ -50,6 +50,14 @@ pub enum Polled {
     Handed(Seat),
 }
 
+/// How a seat was woken that slept.
+pub enum Roused {
+    /// Without a unit: the seat has to try for one.
+    Woken(Woken),
+    /// With a unit.
+    Handed(Seat),
+}
+
 /// Whom a release woke.
 #[derive(Clone, Copy, Debug, PartialEq, Eq, Drop)]
 pub enum Wake {

@@ -14,6 +14,7 @@
 //! calls end.
 #![tactic(auto)]
 
+mod acquires;
 mod answers;
 mod laws;
 mod locks;
@@ -23,15 +24,17 @@ mod polls;
 mod posts;
 mod queueing;
 mod records;
+mod releases;
 mod seat;
 mod sema_table;
 mod settings;
 mod setup_error;
+mod sleeps;
 mod tries;
 mod view;
 mod waking;
 
-pub use answers::{Entered, Polled, PostRefused, Posted, Tried, Wake};
+pub use answers::{Entered, Polled, PostRefused, Posted, Roused, Tried, Wake};
 pub use laws::law_of_the_table;
 pub use seat::{Owing, Seat, Sleeping, Woken};
 pub use sema_table::SemaTable;

@@ -69,11 +69,12 @@ fn new_seat(token: Token, number: u16, limit: u64) -> Seat
 fn first_words(alloc: Global, settings: &Settings) -> Result<Vec<u64>, AllocError>
     requires { AreAllowed settings.now }
     ensures words { IfOk result (λ words. words.items
-        ≡ settings.now.starts.items ++ replicate (settings.now.roots + settings.now.roots + settings.now.seats) 0) }
+        ≡ settings.now.starts.items ++ replicate (settings.now.roots + settings.now.roots + settings.now.seats + settings.now.seats) 0) }
     ensures starts { OnOk result (All (λ start. start < 2 ^ 32) settings.now.starts.items) }
 {
     let roots = settings.roots as usize;
-    let all = settings.starts.len() + roots + roots + settings.seats as usize;
+    let seats = settings.seats as usize;
+    let all = settings.starts.len() + roots + roots + seats + seats;
     let mut words = Vec::with_capacity(alloc, all)?;
     for start in &settings.starts {
         words.push_reserved(u64::from(*start));
@@ -129,6 +130,7 @@ fn make(alloc: Global, settings: Settings) -> Result<(SemaTable, Vec<Seat>), NoM
         table,
         counters: settings.starts.len() as u32,
         roots: settings.roots,
+        seats: settings.seats,
     };
     Ok((table, made))
 }

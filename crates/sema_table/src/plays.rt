@@ -1,6 +1,6 @@
 //! The rule, and what each kind of step tells.
 ghost use Rattle.sema_table.specs.Rule.{IsKept, setting_of, first_view, making, made_by};
-ghost use Rattle.sema_table.specs.Plays.{looks_at, tries, adds, goes, locks, gives, receives, stores};
+ghost use Rattle.sema_table.specs.Plays.{looks_at, tries, adds, goes, locks, gives, receives, sets_aside, stores};
 
 use crate::settings::Settings;
 use crate::view::{Record, View};
@@ -64,6 +64,13 @@ pub struct Receives;
 
 impl Play<Record, View> for Receives {
     ghost then = { receives };
+}
+
+/// A store that is no row.
+pub struct SetsAside;
+
+impl Play<Record, View> for SetsAside {
+    ghost then = { sets_aside };
 }
 
 /// A store at the row at which the seat stands.

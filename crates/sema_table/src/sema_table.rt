@@ -1,7 +1,7 @@
 //! The table that the threads of a caller share.
 ghost use Rattle.std.specs.Prelude.{◌≡◌, ◌<◌, length};
 ghost use Rattle.step_table.specs.declared.word.Word.TheVariants.{Lock, Waiters, Grant};
-ghost use Rattle.sema_table.specs.Setting.{root, address};
+ghost use Rattle.sema_table.specs.Setting.{root, address, asleep_address};
 
 use crate::plays::OneWorld;
 use crate::settings::Settings;
@@ -17,6 +17,7 @@ pub struct SemaTable {
     pub(crate) table: Table<Record, View, Settings, OneWorld, Global>,
     pub(crate) counters: u32,
     pub(crate) roots: u32,
+    pub(crate) seats: u32,
 }
 
 impl Model for SemaTable {
@@ -28,7 +29,7 @@ impl Model for SemaTable {
 
     ghost view = { λ t. record { id = t.table.shared.table_id; setting = setting_of t.table.shared.key } };
 
-    ghost invariant = { λ t. IsTable t.table.shared.table_id (setting_of t.table.shared.key) t.counters t.roots };
+    ghost invariant = { λ t. IsTable t.table.shared.table_id (setting_of t.table.shared.key) t.counters t.roots t.seats };
 }
 
 impl SemaTable {
@@ -75,5 +76,15 @@ impl SemaTable {
     {
         let roots = self.roots as usize;
         self.counters as usize + roots + roots + seat as usize
+    }
+
+    /// Where the word lies that tells whether a seat's thread sleeps.
+    pub(crate) fn asleep_word(&self, seat: u16) -> usize
+        requires { seat < self.now.setting.seats }
+        ensures at { result ≡ asleep_address self.now.setting seat }
+        ensures low { result < self.now.id.words }
+    {
+        let roots = self.roots as usize;
+        self.counters as usize + roots + roots + self.seats as usize + seat as usize
     }
 }

@@ -59,6 +59,7 @@ impl SemaTable {
         };
         let handed = self.take_for(rt, &mut token, &call, &id);
         self.grant(&mut token, &call, &id, handed);
+        self.rouse(id.seat.number());
         if handed {
             return (Seat { token, numbers }, Wake::Handed(id));
         }

@@ -58,6 +58,7 @@ pub invariant_of-table : goal.invariant_of-table
 invariant_of-table c = let E = c.in-Ok.ensures.ok in let z : Setting = setting_of c.args.settings in let key = ap setting_of E.5 in record {
   counted = search rules;
   rooted = ap (λ (y : Setting). y.roots) (sym key);
+  seated = ap (λ (y : Setting). y.seats) (sym key);
   some = search rules;
   words = E.0 ∙ ap length (c.as_slice.ensures.value ∙ c.in_ok-words.ensures.words) ∙ words_long z ∙ ap words_in (sym key);
   slots = E.1 ∙ ap length c.in_ok-slots.ensures ∙ length-map-range_with_len _ 0 z.roots ∙ ap (λ (y : Setting). y.roots) (sym key);

@@ -1,0 +1,247 @@
+-- A whole acquire.
+use Rattle.std.proofs.Common.{◌≡◌, ◌⊎◌, ℕ, zero, suc, ◌+◌, List, [], ◌∷◌, ◌++◌, sym, refl, ap, ◌∙◌, subst, inl, inr, ⊎_elim, arith, append-nil}
+use Rattle.step_table.specs.declared.entry.Entry.{Entry}
+use Rattle.step_table.specs.declared.entry.Entry.TheVariants.{Take, Queue}
+use Rattle.step_table.specs.declared.place.Acquire.{Acquire}
+use Rattle.step_table.specs.declared.place.AcquireRow.TheVariants.{A1, A3, A10, P}
+use Rattle.step_table.specs.declared.place.Place.{Place}
+use Rattle.step_table.specs.declared.place.Place.TheVariants.{Rest, Acquiring}
+use Rattle.step_table.specs.World.{SeatState}
+use Rattle.step_table.specs.Journal.{HasItsUnit}
+use Rattle.step_table.specs.Counting.{wait}
+use Rattle.sema_law.specs.SemaPath.{SemaStride}
+use Rattle.sema_table.specs.declared.answers.Tried.TheVariants as tried
+use Rattle.sema_table.specs.declared.answers.Entered.TheVariants.{Taken, Asleep}
+use Rattle.sema_table.specs.declared.answers.Roused.TheVariants.{Woken, Handed}
+use Rattle.sema_table.specs.Seats.{SeatModel}
+use Rattle.sema_table.specs.Calls.{Calls, ComesTo}
+use Rattle.sema_table.specs.Tries.{acquiring, IsTried}
+use Rattle.sema_table.specs.Waking.{CallsGranted, IsEntered, IsRetried}
+use Rattle.sema_table.specs.Whole.{IsRoused, queued, TakesFrom, ParksLast, TakesAfter, TakesAtOnce, FindsNone}
+use Rattle.sema_table.proofs.Calling.{placed_at, call_of, calls_then}
+
+-- tries that were lost, or none yet
+abbrev pub TriesOn : SeatModel → ℕ → SeatModel → Type 0
+TriesOn s c t = (t ≡ s) ⊎ ((t ≡ record s { sight = t.sight; strides = t.strides }) × ComesTo s (acquiring c A1) t × Calls s (acquiring c A1) t [])
+
+module _ (s t u : SeatModel) (c : ℕ) where
+  same_on : TriesOn s c t → t ≡ record s { sight = t.sight; strides = t.strides }
+  same_on (inl e) = e ∙ (λ i. record s { sight = (sym e i).sight; strides = (sym e i).strides })
+  same_on (inr x) = x.0
+
+  stood_on : (p : Place) → TriesOn s c t → record t.sight.stands { place = p } ≡ record s.sight.stands { place = p }
+  stood_on p (inl e) = ap (λ (q : SeatModel). record q.sight.stands { place = p }) e
+  stood_on p (inr x) = ap (λ (q : SeatState). record q { place = p }) x.1
+
+  calls_on : (told : List Entry) → TriesOn s c t → Calls t (acquiring c A1) u told → Calls s (acquiring c A1) u told
+  calls_on told (inl e) y = subst (λ (q : SeatModel). Calls q (acquiring c A1) u told) e y
+  calls_on told (inr x) y = calls_then s t u (acquiring c A1) (acquiring c A1) [] told (ap (λ (q : SeatModel). q.table) x.0) (ap (λ (q : SeatModel). q.number) x.0) (ap (λ (q : SeatState). q.place) x.1) x.2 y
+
+  number_on : TriesOn s c t → t.number ≡ s.number
+  number_on x = ap (λ (q : SeatModel). q.number) (same_on x)
+
+  pub tries_lost : TriesOn s c t → IsTried t c tried.Lost u → TriesOn s c u
+  tries_lost x e = inr (
+    e.0 ∙ ap (λ (q : SeatModel). record q { sight = u.sight; strides = u.strides }) (same_on x),
+    e.1 ∙ stood_on (acquiring c A1) x,
+    calls_on [] x e.2.3.call,
+  )
+
+  pub tries_taken : TriesOn s c t → IsTried t c tried.Taken u → TakesAtOnce s c u
+  tries_taken x e = (
+    e.0 ∙ ap (λ (q : SeatModel). record q { taken = q.taken + 1; sight = u.sight; strides = u.strides }) (same_on x),
+    e.1 ∙ stood_on Rest x,
+    subst (λ i. Calls s (acquiring c A1) u (Take c i ∷ [])) (number_on x) (calls_on (Take c t.number ∷ []) x e.2.1.call),
+  )
+
+  pub tries_none : TriesOn s c t → IsTried t c tried.Zero u → FindsNone s c u
+  tries_none x e = (
+    e.0 ∙ ap (λ (q : SeatModel). record q { sight = u.sight; strides = u.strides }) (same_on x),
+    e.1 ∙ stood_on (acquiring c A3) x,
+    calls_on [] x e.2.call,
+    e.3,
+  )
+
+-- one more wait at the end
+queued_more : (i : ℕ) (a : Acquire) (turn n : ℕ) → queued i a turn n ++ Queue a.counter (wait i (turn + n)) a.lifo ∷ [] ≡ queued i a turn (suc n)
+queued_more i a turn zero = ap (λ k. Queue a.counter (wait i k) a.lifo ∷ []) (omega arith)
+queued_more i a turn (suc n) = ap (λ l. Queue a.counter (wait i turn) a.lifo ∷ l) (ap (λ k. queued i a (turn + 1) n ++ Queue a.counter (wait i k) a.lifo ∷ []) (omega arith) ∙ queued_more i a (turn + 1) n)
+
+-- of which call a seat is parked, and which turn its wait has
+abbrev acquire_in : Acquire → Place → Acquire
+acquire_in d (Acquiring a row) = a
+acquire_in d _ = d
+
+abbrev turn_in : Place → ℕ
+turn_in (Acquiring a (P turn)) = turn
+turn_in _ = 0
+
+-- a seat that is parked stands at no other place
+module _ (t : SeatModel) (a : Acquire) (turn : ℕ) (at : t.sight.stands.place ≡ Acquiring a (P turn)) where
+  same_wait : (b : Acquire) (k : ℕ) → t.sight.stands.place ≡ Acquiring b (P k) → ◌≡◌ {A = Acquire × ℕ} (b, k) (a, turn)
+  same_wait b k e = λ i. (acquire_in b ((sym e ∙ at) i), turn_in ((sym e ∙ at) i))
+
+  woken_by : (w : SeatModel) → IsRoused t (Woken w) → ComesTo t (Acquiring a A10) w × ((looked : List SemaStride) × CallsGranted t (Acquiring a (P turn)) w looked 1)
+  woken_by w e = subst (λ (q : Acquire × ℕ). ComesTo t (Acquiring q.0 A10) w × ((looked : List SemaStride) × CallsGranted t (Acquiring q.0 (P q.1)) w looked 1)) (same_wait e.1.0 e.1.1 e.1.2) (e.1.3, e.1.4)
+
+  handed_by : (v : SeatModel) → IsRoused t (Handed v) → ((looked : List SemaStride) × CallsGranted t (Acquiring a (P turn)) v looked 2) × HasItsUnit a.counter (wait t.number turn) v.sight.seen
+  handed_by v e = subst (λ (q : Acquire × ℕ). ((looked : List SemaStride) × CallsGranted t (Acquiring q.0 (P q.1)) v looked 2) × HasItsUnit q.0.counter (wait t.number q.1) v.sight.seen) (same_wait e.2.0 e.2.1 e.2.2) (e.2.3, e.2.4)
+
+woken_acquire : (w : SeatModel) (a b : Acquire) → w.sight.stands.place ≡ Acquiring a A10 → w.sight.stands.place ≡ Acquiring b A10 → b ≡ a
+woken_acquire w a b at e = λ i. acquire_in b ((sym e ∙ at) i)
+
+-- the parked seat was woken so many times, and each time queued again
+pub record SleptOn (s : SeatModel) (a : Acquire) (turn : ℕ) (t : SeatModel) : Type 0 where
+  pub same : t ≡ record s { sight = t.sight; strides = t.strides }
+  pub times : ℕ
+  pub stands : t.sight.stands ≡ record s.sight.stands { place = Acquiring a (P (turn + times)); turn = s.sight.stands.turn + times }
+  pub call : Calls s (Acquiring a (P turn)) t (queued s.number a s.sight.stands.turn times)
+
+abbrev pub SleepsOn : SeatModel → SeatModel → Type 0
+SleepsOn s t = (a : Acquire) (turn : ℕ) → ParksLast s a turn → SleptOn s a turn t
+
+pub sleeps_first : (s : SeatModel) → SleepsOn s s
+sleeps_first s a turn parks = record {
+  same = refl;
+  times = 0;
+  stands = (λ i. record s.sight.stands { place = (parks i).place }) ∙ (λ i. record s.sight.stands { place = Acquiring a (P (none_more turn i)); turn = none_more s.sight.stands.turn i });
+  call = call_of s s (Acquiring a (P turn)) [] [] (sym (placed_at (Acquiring a (P turn)) s.sight (ap (λ (q : SeatState). q.place) parks))) (omega arith) refl;
+}
+  where
+    none_more : (k : ℕ) → k ≡ k + 0
+    none_more k = omega arith
+
+-- from a moment at which it is parked
+module _ (s t : SeatModel) (a : Acquire) (turn : ℕ) (parks : ParksLast s a turn) (x : SleptOn s a turn t) where
+  abbrev from : Place
+  from = Acquiring a (P turn)
+
+  abbrev T : ℕ
+  T = s.sight.stands.turn
+
+  next_turn : T ≡ turn + 1
+  next_turn = ap (λ (q : SeatState). q.turn) parks
+
+  tables : t.table ≡ s.table
+  tables = ap (λ (q : SeatModel). q.table) x.same
+
+  numbers : t.number ≡ s.number
+  numbers = ap (λ (q : SeatModel). q.number) x.same
+
+  at : t.sight.stands.place ≡ Acquiring a (P (turn + x.times))
+  at = ap (λ (q : SeatState). q.place) x.stands
+
+  -- rows that follow
+  then_calls : (u : SeatModel) (more : List Entry) → Calls t (Acquiring a (P (turn + x.times))) u more → Calls s (Acquiring a (P turn)) u (queued s.number a s.sight.stands.turn x.times ++ more)
+  then_calls u more y = calls_then s t u (Acquiring a (P turn)) (Acquiring a (P (turn + x.times))) (queued s.number a s.sight.stands.turn x.times) more tables numbers at x.call y
+
+  pub handed_on : (v : SeatModel) → IsRoused t (Handed v) → TakesFrom s (Acquiring a (P turn)) a v
+  handed_on v e = let h = handed_by t a (turn + x.times) at v e in (
+    e.0 ∙ ap (λ (q : SeatModel). record q { taken = q.taken + 1; sight = v.sight; strides = v.strides }) x.same,
+    (
+      x.times,
+      e.1 ∙ ap (λ (q : SeatState). record q { place = Rest }) x.stands,
+      inr (
+        subst (λ l. Calls s (Acquiring a (P turn)) v l) (append-nil (queued s.number a s.sight.stands.turn x.times)) (then_calls v [] h.0.1.call),
+        (turn + x.times, (let k = next_turn in omega arith), subst (λ i. HasItsUnit a.counter (wait i (turn + x.times)) v.sight.seen) numbers h.1),
+      ),
+    ),
+  )
+
+  module _ (w : SeatModel) (e : IsRoused t (Woken w)) where
+    woke : ComesTo t (Acquiring a A10) w × ((looked : List SemaStride) × CallsGranted t (Acquiring a (P (turn + x.times))) w looked 1)
+    woke = woken_by t a (turn + x.times) at w e
+
+    same_woken : w ≡ record s { sight = w.sight; strides = w.strides }
+    same_woken = e.0 ∙ ap (λ (q : SeatModel). record q { sight = w.sight; strides = w.strides }) x.same
+
+    at_woken : w.sight.stands.place ≡ Acquiring a A10
+    at_woken = ap (λ (q : SeatState). q.place) woke.0
+
+    -- the rows of a retry
+    retry_calls : (u : SeatModel) (more : List Entry) → Calls w (Acquiring a A10) u more → Calls s (Acquiring a (P turn)) u (queued s.number a s.sight.stands.turn x.times ++ more)
+    retry_calls u more y = then_calls u more
+        (calls_then t w u (Acquiring a (P (turn + x.times))) (Acquiring a A10) [] more (ap (λ (q : SeatModel). q.table) e.0) (ap (λ (q : SeatModel). q.number) e.0) at_woken woke.1.1.call y)
+
+    stands_woken : (place : Place) (k : ℕ) → record w.sight.stands { place = place; turn = w.sight.stands.turn + k } ≡ record s.sight.stands { place = place; turn = s.sight.stands.turn + x.times + k }
+    stands_woken place k = ap (λ (q : SeatState). record q { place = place; turn = q.turn + k }) (woke.0 ∙ ap (λ (q : SeatState). record q { place = Acquiring a A10 }) x.stands)
+
+    turn_woken : w.sight.stands.turn ≡ s.sight.stands.turn + x.times
+    turn_woken = ap (λ (q : SeatState). q.turn) (woke.0 ∙ ap (λ (q : SeatState). record q { place = Acquiring a A10 }) x.stands)
+
+    number_woken : w.number ≡ s.number
+    number_woken = ap (λ (q : SeatModel). q.number) same_woken
+
+    -- what the retry came to, of this call
+    retried : {R : Acquire → Type 0} → ((b : Acquire) × (w.sight.stands.place ≡ Acquiring b A10) × R b) → R a
+    retried {R} r = subst R (woken_acquire w a r.0 at_woken r.1) r.2
+
+    pub taken_on : (u : SeatModel) → IsRetried w (Taken u) → TakesFrom s (Acquiring a (P turn)) a u
+    taken_on u r = let y : IsEntered w a (Acquiring a A10) (Taken u) = retried {R = λ b. IsEntered w b (Acquiring b A10) (Taken u)} r in (
+      y.0 ∙ ap (λ (q : SeatModel). record q { taken = q.taken + 1; sight = u.sight; strides = u.strides }) same_woken,
+      (
+        x.times,
+        y.1 ∙ ap (λ (q : SeatState). record q { place = Rest }) (woke.0 ∙ ap (λ (q : SeatState). record q { place = Acquiring a A10 }) x.stands),
+        inl (subst (λ i. Calls s (Acquiring a (P turn)) u (queued s.number a s.sight.stands.turn x.times ++ Take a.counter i ∷ [])) number_woken (retry_calls u (Take a.counter w.number ∷ []) y.2)),
+      ),
+    )
+
+    pub asleep_on : (u : SeatModel) → IsRetried w (Asleep u) → SleptOn s a turn u
+    asleep_on u r = let y : IsEntered w a (Acquiring a A10) (Asleep u) = retried {R = λ b. IsEntered w b (Acquiring b A10) (Asleep u)} r in record {
+      same = y.0 ∙ ap (λ (q : SeatModel). record q { sight = u.sight; strides = u.strides }) same_woken;
+      times = suc x.times;
+      stands = y.1 ∙ ap (λ (q : SeatState). record { place = Acquiring a (P q.turn); turn = q.turn + 1; hand = q.hand }) (woke.0 ∙ ap (λ (q : SeatState). record q { place = Acquiring a A10 }) x.stands)
+          ∙ (λ i. record s.sight.stands { place = Acquiring a (P (later i)); turn = one_more i });
+      call = subst (λ l. Calls s (Acquiring a (P turn)) u l) (queued_more s.number a s.sight.stands.turn x.times)
+          (subst (λ (q : ℕ × ℕ). Calls s (Acquiring a (P turn)) u (queued s.number a s.sight.stands.turn x.times ++ Queue a.counter (wait q.0 q.1) a.lifo ∷ [])) (λ i. (number_woken i, turn_woken i))
+          (retry_calls u (Queue a.counter (wait w.number w.sight.stands.turn) a.lifo ∷ []) y.2));
+    }
+      where
+        later : s.sight.stands.turn + x.times ≡ turn + suc x.times
+        later = let k = next_turn in omega arith
+
+        one_more : s.sight.stands.turn + x.times + 1 ≡ s.sight.stands.turn + suc x.times
+        one_more = omega arith
+
+-- from the lock on, after tries that found none
+pub entered_at_once : (u t : SeatModel) (a : Acquire) → IsEntered u a (Acquiring a A3) (Taken t) → TakesFrom u (Acquiring a A3) a t
+entered_at_once u t a e = (e.0, (0, e.1 ∙ (λ i. record u.sight.stands { place = Rest; turn = none_more i }), inl e.2))
+  where
+    none_more : u.sight.stands.turn ≡ u.sight.stands.turn + 0
+    none_more = omega arith
+
+module _ (u w : SeatModel) (a : Acquire) (e : IsEntered u a (Acquiring a A3) (Asleep w)) where
+  pub parks_last : ParksLast w a u.sight.stands.turn
+  parks_last = λ i. record { place = (e.1 i).place; turn = (e.1 i).turn; hand = w.sight.stands.hand }
+
+  pub entered_then : (t : SeatModel) → TakesAfter w t → TakesFrom u (Acquiring a A3) a t
+  entered_then t after = let x = after a u.sight.stands.turn parks_last in (
+    x.0 ∙ ap (λ (q : SeatModel). record q { taken = q.taken + 1; sight = t.sight; strides = t.strides }) e.0,
+    (
+      suc x.1.0,
+      x.1.1 ∙ (λ i. record { place = Rest; turn = (turns x.1.0) i; hand = (e.1 i).hand }),
+      ⊎_elim (λ own. inl (first_then x.1.0 (Take a.counter u.number ∷ []) (subst (λ i. Calls w (Acquiring a (P u.sight.stands.turn)) t (queued w.number a w.sight.stands.turn x.1.0 ++ Take a.counter i ∷ [])) numbers own)))
+          (λ handed. inr (
+            subst (λ l. Calls u (Acquiring a A3) t l) (append-nil (queued u.number a u.sight.stands.turn (suc x.1.0)))
+                (first_then x.1.0 [] (subst (λ l. Calls w (Acquiring a (P u.sight.stands.turn)) t l) (sym (append-nil (queued w.number a w.sight.stands.turn x.1.0))) handed.0)),
+            (
+              handed.1.0,
+              handed.1.1 ∙ turns x.1.0,
+              subst (λ i. HasItsUnit a.counter (wait i handed.1.0) t.sight.seen) numbers handed.1.2,
+            ),
+          ))
+          x.1.2,
+    ),
+  )
+    where
+      numbers : w.number ≡ u.number
+      numbers = ap (λ (q : SeatModel). q.number) e.0
+
+      turns : (n : ℕ) → w.sight.stands.turn + n ≡ u.sight.stands.turn + suc n
+      turns n = let k = ap (λ (q : SeatState). q.turn) e.1 in omega arith
+
+      -- the first wait, and what followed
+      first_then : (n : ℕ) (more : List Entry) → Calls w (Acquiring a (P u.sight.stands.turn)) t (queued w.number a w.sight.stands.turn n ++ more) → Calls u (Acquiring a A3) t (queued u.number a u.sight.stands.turn (suc n) ++ more)
+      first_then n more y = calls_then u w t (Acquiring a A3) (Acquiring a (P u.sight.stands.turn)) (Queue a.counter (wait u.number u.sight.stands.turn) a.lifo ∷ []) (queued u.number a (u.sight.stands.turn + 1) n ++ more)
+          (ap (λ (q : SeatModel). q.table) e.0) numbers (ap (λ (q : SeatState). q.place) e.1) e.2
+          (subst (λ (q : ℕ × ℕ). Calls w (Acquiring a (P u.sight.stands.turn)) t (queued q.0 a q.1 n ++ more)) (λ i. (numbers i, (e.1 i).turn)) y)

@@ -1,0 +1,5 @@
+use Rattle.sema_table.proofs.Rousing.{OnlyLooks}
+use Rattle.sema_table.proofs.sema_table.SemaTable.sleep.Given as goal
+
+abbrev pub invariant-loop : goal.invariant-loop
+invariant-loop g l = OnlyLooks l.initial.sleeping l.sleeping

@@ -1,0 +1,61 @@
+//! A whole acquire.
+ghost use Rattle.std.specs.Prelude.{◌≡◌, ◌<◌, length, MatchBool};
+ghost use Rattle.sema_table.specs.Whole.{TakesAtOnce, FindsNone, HasParked, TakesAfter, IsAcquired};
+
+use crate::answers::{Entered, Roused, Tried};
+use crate::seat::{Seat, Sleeping};
+use crate::sema_table::SemaTable;
+use std::sync::Wait;
+use waiters::CounterId;
+
+impl SemaTable {
+    /// Takes a unit, and sleeps while there is none (Go's `semacquire1`). With lifo its wait goes to the front of the list.
+    pub fn acquire<R: Wait>(&self, rt: &R, seat: Seat, counter: CounterId, lifo: bool) -> Seat
+        requires { (seat.table ≡ self.now) × (counter < length self.now.setting.starts) }
+        ensures { IsAcquired seat counter lifo result }
+    {
+        let mut seat = seat;
+        if self.take_at_once(rt, &mut seat, counter) {
+            return seat;
+        }
+        match self.enter(rt, seat, counter, lifo) {
+            Entered::Taken(seat) => seat,
+            Entered::Asleep(sleeping) => self.sleep_until_taken(rt, sleeping),
+        }
+    }
+
+    /// Tries until a unit is taken or none is found: whether one was taken.
+    #[inline]
+    fn take_at_once<R: Wait>(&self, rt: &R, seat: &mut Seat, counter: CounterId) -> bool
+        requires { (seat.old.table ≡ self.now) × (counter < length self.now.setting.starts) }
+        ensures { MatchBool result (TakesAtOnce seat.old counter seat.new) (FindsNone seat.old counter seat.new) }
+    {
+        for _ in rt.forever() {
+            match self.try_acquire(seat, counter) {
+                Tried::Taken => return true,
+                Tried::Zero => return false,
+                Tried::Lost => {}
+            }
+        }
+        unreachable!()
+    }
+
+    /// Sleeps, and tries once woken, until a unit is taken or handed over.
+    #[inline(never)]
+    fn sleep_until_taken<R: Wait>(&self, rt: &R, sleeping: Sleeping) -> Seat
+        requires { (sleeping.table ≡ self.now) × HasParked sleeping }
+        ensures { TakesAfter sleeping result }
+    {
+        let mut sleeping = sleeping;
+        for _ in rt.forever() {
+            match self.sleep(rt, sleeping) {
+                Roused::Handed(seat) => return seat,
+                Roused::Woken(woken) => match self.retry(rt, woken) {
+                    Entered::Taken(seat) => return seat,
+                    Entered::Asleep(again) => sleeping = again,
+                },
+            }
+        }
+        unreachable!()
+    }
+}
