@@ -4,8 +4,8 @@ ghost use Rattle.std.specs.Prelude.{◌≡◌, All};
 ghost use Rattle.std.specs.Arc.{arc_value};
 
 use crate::given::{Sizes, counter, new_again, shared, two_seats};
-use crate::seats::{counts, has_value, has_waiters, posts};
-use sema_table::{Entered, Polled, Posted, Seat, SemaTable, Sleeping, Tried};
+use crate::seats::{FIFO, HANDOFF, LIFO, PLAIN, acquires, counts, has_value, has_waiters, posts};
+use sema_table::{Seat, SemaTable};
 use std::alloc::{AllocError, Global};
 use std::process::Abort;
 use std::sync::{Arc, Wait};
@@ -13,95 +13,65 @@ use std::test::Fail;
 use std::thread;
 use std::thread::Threads;
 
-const ROUNDS: u32 = 2_000;
+const ROUNDS: u32 = 10_000;
 
-/// A seat, with its table. It takes units of one counter, and gives them to the other.
+/// The counter from which a player takes its units, and that to which it gives them.
+#[derive(Clone, Copy, Drop)]
+struct Hands {
+    takes: u32,
+    gives: u32,
+}
+
+/// How a player acquires and releases.
+#[derive(Clone, Copy, Drop)]
+struct Way {
+    lifo: bool,
+    handoff: bool,
+}
+
+/// A seat, with its table.
 #[derive(Drop)]
 struct Player {
     table: Arc<SemaTable, Global>,
     seat: Seat,
-    takes: u32,
-    gives: u32,
+    hands: Hands,
+    way: Way,
     ghost own: { seat.table ≡ arc_value table },
 }
 
-/// Waits for a unit, letting the other thread run.
-fn rests<R: Wait>(rt: &R, table: &SemaTable, sleeping: Sleeping) -> Seat
-    requires { sleeping.table ≡ table.now }
-    ensures { result.table ≡ table.now }
-{
-    let mut sleeping = sleeping;
-    for _ in rt.forever() {
-        sleeping = match table.poll(sleeping) {
-            Polled::Still(sleeping) => sleeping,
-            Polled::Handed(seat) => return seat,
-            Polled::Woken(woken) => match table.retry(rt, woken) {
-                Entered::Taken(seat) => return seat,
-                Entered::Asleep(sleeping) => sleeping,
-            },
-        };
-        thread::yield_now();
-    }
-    unreachable!()
-}
-
-/// A whole acquire.
-fn acquires<R: Abort + Wait>(rt: &R, table: &SemaTable, seat: Seat, number: u32, lifo: bool) -> Seat
-    requires { seat.table ≡ table.now }
-    ensures { result.table ≡ table.now }
-{
-    let mut seat = seat;
-    let at = counter(rt, table, number);
-    if table.try_acquire(&mut seat, at) == Tried::Taken {
-        return seat;
-    }
-    match table.enter(rt, seat, at, lifo) {
-        Entered::Taken(seat) => seat,
-        Entered::Asleep(sleeping) => rests(rt, table, sleeping),
-    }
-}
-
-/// A whole release.
-fn releases<R: Abort + Wait>(
-    rt: &R,
-    table: &SemaTable,
-    seat: Seat,
-    number: u32,
-    handoff: bool,
-) -> Seat
+/// A whole release, whomever it wakes.
+fn gives<R: Abort + Wait>(rt: &R, table: &SemaTable, seat: Seat, number: u32, handoff: bool) -> Seat
     requires { seat.table ≡ table.now }
     ensures { result.table ≡ table.now }
 {
     let at = counter(rt, table, number);
-    match table.post(seat, at) {
-        Ok(Posted::Done(seat)) => seat,
-        Ok(Posted::Owes(owing)) => table.wake(rt, owing, handoff).0,
+    match table.release(rt, seat, at, handoff) {
+        Ok((seat, _wake)) => seat,
         Err(_refused) => panic!(rt; "no unit was added"),
     }
 }
 
-/// A round, in each of the four ways in turn.
-fn plays_once<R: Abort + Wait>(rt: &R, player: Player, round: u32) -> Player {
+fn plays_once<R: Abort + Wait>(rt: &R, player: Player) -> Player {
     let Player {
         table,
         seat,
-        takes,
-        gives,
+        hands,
+        way,
     } = player;
-    let seat = acquires(rt, &*table, seat, takes, round % 4 >= 2);
-    let seat = releases(rt, &*table, seat, gives, round % 2 == 1);
+    let seat = acquires(rt, &*table, seat, hands.takes, way.lifo);
+    let seat = gives(rt, &*table, seat, hands.gives, way.handoff);
     Player {
         table,
         seat,
-        takes,
-        gives,
+        hands,
+        way,
     }
 }
 
 fn plays_all<R: Abort + Wait + Copy>(rt: R, player: Player) -> Player {
     let mut player = player;
-    for round in 0..ROUNDS {
-        player = plays_once(&rt, player, round);
+    for _ in 0..ROUNDS {
+        player = plays_once(&rt, player);
     }
     player
 }
@@ -113,7 +83,7 @@ fn has_played(rt: &impl Abort, player: Player, left: u64) {
         mut seat,
         ..
     } = player;
-    counts(rt, &seat, left, 2_000);
+    counts(rt, &seat, left, u64::from(ROUNDS));
     has_value(rt, &*table, &mut seat, 0, 1);
     has_value(rt, &*table, &mut seat, 1, 0);
     has_waiters(rt, &*table, &mut seat, 0, 0);
@@ -133,6 +103,7 @@ fn two_players(
     alloc: Global,
     table: SemaTable,
     seats: Vec<Seat>,
+    way: Way,
 ) -> Result<(Player, Player), AllocError>
     requires { All (λ s. s.table ≡ table) seats.items }
 {
@@ -144,29 +115,59 @@ fn two_players(
         Player {
             table,
             seat: first,
-            takes: 0,
-            gives: 1,
+            hands: Hands { takes: 0, gives: 1 },
+            way,
         },
         Player {
             table: other,
             seat: second,
-            takes: 1,
-            gives: 0,
+            hands: Hands { takes: 1, gives: 0 },
+            way,
         },
     ))
 }
 
-#[test]
-fn a_unit_goes_back_and_forth(rt: HostRuntime) -> Result<(), Fail> {
+fn a_unit_goes_back_and_forth<R: Abort + Threads + Wait + Copy + Send + 'static>(
+    rt: R,
+    alloc: Global,
+    way: Way,
+) -> Result<(), Fail> {
     let sizes = Sizes {
         counters: 2,
         start: 0,
         seats: 2,
         roots: 1,
-        release_limit: 2_001,
+        release_limit: 10_001,
     };
-    let (table, seats) = new_again(rt.alloc(), &sizes)?;
-    let (first, second) = two_players(&rt, rt.alloc(), table, seats)?;
+    let (table, seats) = new_again(alloc, &sizes)?;
+    let (first, second) = two_players(&rt, alloc, table, seats, way)?;
     play(rt, first, second);
     Ok(())
+}
+
+#[test]
+fn a_unit_goes_back_and_forth_in_order(rt: HostRuntime) -> Result<(), Fail> {
+    let way = Way {
+        lifo: FIFO,
+        handoff: PLAIN,
+    };
+    a_unit_goes_back_and_forth(rt, rt.alloc(), way)
+}
+
+#[test]
+fn a_unit_goes_back_and_forth_with_lifo(rt: HostRuntime) -> Result<(), Fail> {
+    let way = Way {
+        lifo: LIFO,
+        handoff: PLAIN,
+    };
+    a_unit_goes_back_and_forth(rt, rt.alloc(), way)
+}
+
+#[test]
+fn a_unit_goes_back_and_forth_with_handoff(rt: HostRuntime) -> Result<(), Fail> {
+    let way = Way {
+        lifo: FIFO,
+        handoff: HANDOFF,
+    };
+    a_unit_goes_back_and_forth(rt, rt.alloc(), way)
 }

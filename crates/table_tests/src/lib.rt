@@ -13,6 +13,8 @@ mod handing_tests;
 #[cfg(test)]
 mod limit_tests;
 #[cfg(test)]
+mod lock_tests;
+#[cfg(test)]
 mod order_tests;
 #[cfg(test)]
 mod seats;
@@ -20,3 +22,5 @@ mod seats;
 mod thread_tests;
 #[cfg(test)]
 mod wait_tests;
+#[cfg(test)]
+mod whole_tests;

@@ -6,7 +6,8 @@ ghost use Rattle.std.specs.Prelude.{◌≡◌};
 
 use crate::given::counter;
 use sema_table::{
-    Entered, Owing, Polled, PostRefused, Posted, Seat, SemaTable, Sleeping, Tried, Wake, Woken,
+    Entered, Owing, Polled, PostRefused, Posted, Roused, Seat, SemaTable, Sleeping, Tried, Wake,
+    Woken,
 };
 use std::process::Abort;
 use std::sync::Wait;
@@ -124,7 +125,7 @@ pub(crate) fn wakes<R: Abort + Wait>(
     seat
 }
 
-/// A whole release where somebody waits at the root, and whom it wakes.
+/// A whole release, and whom it wakes.
 pub(crate) fn releases<R: Abort + Wait>(
     rt: &R,
     table: &SemaTable,
@@ -136,8 +137,14 @@ pub(crate) fn releases<R: Abort + Wait>(
     requires { seat.table ≡ table.now }
     ensures { result.table ≡ table.now }
 {
-    let owing = owes(rt, table, seat, number);
-    wakes(rt, table, owing, handoff, expected)
+    let at = counter(rt, table, number);
+    match table.release(rt, seat, at, handoff) {
+        Ok((seat, wake)) => {
+            assert!(rt; wake == expected);
+            seat
+        }
+        Err(_refused) => panic!(rt; "no unit was added"),
+    }
 }
 
 /// The seat enters, and its wait is queued.
@@ -234,6 +241,47 @@ pub(crate) fn sleeps_again<R: Abort + Wait>(
             sleeping
         }
         Entered::Taken(_) => panic!(rt; "a unit was there"),
+    }
+}
+
+/// A whole acquire where a unit is there.
+pub(crate) fn acquires<R: Abort + Wait>(
+    rt: &R,
+    table: &SemaTable,
+    seat: Seat,
+    number: u32,
+    lifo: bool,
+) -> Seat
+    requires { seat.table ≡ table.now }
+    ensures { result.table ≡ table.now }
+{
+    let at = counter(rt, table, number);
+    table.acquire(rt, seat, at, lifo)
+}
+
+/// The seat sleeps, and is handed the unit that was granted already.
+pub(crate) fn is_roused_with_a_unit<R: Abort + Wait>(
+    rt: &R,
+    table: &SemaTable,
+    sleeping: Sleeping,
+) -> Seat
+    requires { sleeping.table ≡ table.now }
+    ensures { result.table ≡ table.now }
+{
+    match table.sleep(rt, sleeping) {
+        Roused::Handed(seat) => seat,
+        Roused::Woken(_woken) => panic!(rt; "woken without a unit"),
+    }
+}
+
+/// The seat sleeps, and was woken already, without a unit.
+pub(crate) fn is_roused<R: Abort + Wait>(rt: &R, table: &SemaTable, sleeping: Sleeping) -> Woken
+    requires { sleeping.table ≡ table.now }
+    ensures { result.table ≡ table.now }
+{
+    match table.sleep(rt, sleeping) {
+        Roused::Woken(woken) => woken,
+        Roused::Handed(_seat) => panic!(rt; "handed a unit"),
     }
 }
 
