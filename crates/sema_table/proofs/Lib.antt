@@ -12,6 +12,7 @@ pub mod Walking
 pub mod Calling
 pub mod Trying
 pub mod Posting
+pub mod PostingMany
 pub mod Locking
 pub mod Polling
 pub mod Holding

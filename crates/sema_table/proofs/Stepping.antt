@@ -1,5 +1,5 @@
 -- What the numbers of words are where a row runs, so that no addition and no subtraction wraps.
-use Rattle.std.proofs.Common.{◌≡◌, ℕ, refl, List, ◌+◌, ◌-◌, ◌%◌, ◌^◌, ◌<◌, length, ap, ◌∙◌, arith}
+use Rattle.std.proofs.Common.{◌≡◌, ℕ, refl, List, ◌+◌, ◌-◌, ◌%◌, ◌^◌, ◌<◌, ◌≤◌, length, ap, ◌∙◌, arith}
 use Rattle.step_table.specs.declared.word.Word.TheVariants.{Counter, Waiters}
 use Rattle.step_table.specs.World.{SemaWorld, SeatState}
 use Rattle.waiters.specs.declared.wait.WaitId.{WaitId}
@@ -26,6 +26,12 @@ module _ (v : View) (b : SemaWorld) (i n : ℕ) (known : Known v b i n) where
   -- one more in a counter
   pub counter_up : (c : ℕ) → c < length v.setting.starts → address v.setting (Counter c) ≡ i → (n + 1) % 2 ^ 64 ≡ n + 1
   counter_up c inside at =
+      let few = (the_accounts.unwrapped (layout v.setting) b known.reached known.small).numbers c in
+      let is = known.word (Counter c) inside at in omega arith
+
+  -- a few more in a counter
+  pub counter_up_by : (c k : ℕ) → c < length v.setting.starts → address v.setting (Counter c) ≡ i → k ≤ 256 → (n + k) % 2 ^ 64 ≡ n + k
+  counter_up_by c k inside at fewer =
       let few = (the_accounts.unwrapped (layout v.setting) b known.reached known.small).numbers c in
       let is = known.word (Counter c) inside at in omega arith
 

@@ -8,6 +8,8 @@ pub mod Walks
 pub mod Calls
 pub mod Tries
 pub mod Waking
+pub mod ManySeats
+pub mod Many
 pub mod Texts
 pub mod Making
 pub mod Table
