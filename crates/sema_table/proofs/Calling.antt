@@ -34,7 +34,7 @@ tells_first seen (e ∷ told) rest now tells = (
       (subst (λ l. TellsIn l rest now) (sym (append_assoc seen (e ∷ []) told) ∙ ap (λ l. (l ++ e ∷ []) ++ told) (sym (append-nil seen))) tells),
 )
 
-path_tells : (m : Layout) (i : ℕ) (v w : SemaSight) (strides : List SemaStride) → SemaPath m i v strides w → TellsIn v.seen (all_told strides) w.seen
+pub path_tells : (m : Layout) (i : ℕ) (v w : SemaSight) (strides : List SemaStride) → SemaPath m i v strides w → TellsIn v.seen (all_told strides) w.seen
 path_tells m i v w [] path = subst (λ (x : SemaSight). GoesOn x.seen v.seen) (sym path) (goes_on_here v.seen)
 path_tells m i v w (p ∷ strides) path =
     tells_later v.seen p.seen (p.told ++ all_told strides) w.seen (stride_later (semaphores m) i v path.0 p path.1)

@@ -21,5 +21,7 @@ pub mod Entering
 pub mod Retrying
 pub mod Granting
 pub mod Wakening
+pub mod GrantingMany
+pub mod WakeningMany
 pub mod Making
 pub mod Lawful

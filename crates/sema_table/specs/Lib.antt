@@ -10,6 +10,7 @@ pub mod Tries
 pub mod Waking
 pub mod ManySeats
 pub mod Many
+pub mod ManyWalks
 pub mod Texts
 pub mod Making
 pub mod Table

@@ -32,6 +32,7 @@ mod setup_error;
 mod tries;
 mod view;
 mod waking;
+mod waking_many;
 
 pub use answers::{Entered, Polled, PostRefused, Posted, Tried, Wake};
 pub use laws::law_of_the_table;
