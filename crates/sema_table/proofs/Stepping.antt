@@ -75,10 +75,9 @@ module _ (v : View) (b : SemaWorld) (i n : ℕ) (known : Known v b i n) where
       stands = ap (λ (y : SeatState). table v.number y b.words.lists) known.knows.meets.stands ∙ ap (λ q. event_at v.number (stands_by v) b.words.lists q) at
 
       by : (l : List WaitId) → b.words.lists a.counter ≡ l → 0 < b.words.waiters (root v.setting a.counter)
-      by l e = the_accounts.lowered (layout v.setting) b (the_law.invariant (layout v.setting) b known.reached) v.number (root v.setting a.counter) known.there
-          (
-            a.counter,
-            by_first (b.words.lists a.counter) (to (ReleasingMany a M6)) (λ w. (after_leave a (length v.hand) (length (b.words.lists a.counter)), Tells (Leave a.counter w v.number))),
-            refl,
-            stands,
-          )
+      by l e = the_accounts.lowered (layout v.setting) b (the_law.invariant (layout v.setting) b known.reached) v.number (root v.setting a.counter) known.there (
+        a.counter,
+        by_first (b.words.lists a.counter) (to (ReleasingMany a M6)) (λ w. (after_leave a (length v.hand) (length (b.words.lists a.counter)), Tells (Leave a.counter w v.number))),
+        refl,
+        stands,
+      )

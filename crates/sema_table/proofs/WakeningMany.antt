@@ -1,5 +1,5 @@
 -- A release of many units from its root's lock on, to its end.
-use Rattle.std.proofs.Common.{◌≡◌, ℕ, ◌+◌, ◌^◌, ◌<◌, ◌≤◌, suc, nat_lt, ◌&&◌, if◌then◌else◌, Bool, true, false, List, [], ◌∷◌, ◌++◌, length, get_or, map, take, drop, sym, refl, ap, ◌∙◌, subst, arith, append-nil}
+use Rattle.std.proofs.Common.{◌≡◌, ℕ, ◌+◌, ◌^◌, ◌<◌, ◌≤◌, zero, suc, nat_lt, ◌&&◌, if◌then◌else◌, Bool, true, false, List, [], ◌∷◌, ◌++◌, length, get_or, map, take, drop, sym, refl, ap, ◌∙◌, subst, arith, append-nil}
 use Rattle.std.proofs.lemmas.Bool.{lt-ltb, le-ltb}
 use Rattle.std.proofs.lemmas.List.{map-append, drop_more, take_more, take_all, drop_all}
 use Rattle.waiters.specs.declared.wait.WaitId.{WaitId}
@@ -209,6 +209,12 @@ granted_none z s a may = subst (λ (p : Place). GrantedSome s (to_grant a s.me.0
   granted = tt;
   slots = refl;
 }
+
+-- the seat of the wait at this index
+pub seat_at : (waits : List WaitId) (n : ℕ) → get_or (map (λ (w : WaitId). w.seat) waits) n 0 ≡ (get_or waits n (wait 0 0)).seat
+seat_at [] n = refl
+seat_at (w ∷ waits) zero = refl
+seat_at (w ∷ waits) (suc n) = seat_at waits n
 
 -- the wait that is granted next
 abbrev pub nth : List WaitId → ℕ → WaitId

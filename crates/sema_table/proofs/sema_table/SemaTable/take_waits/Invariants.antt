@@ -10,4 +10,5 @@ invariant-loop l = record {
       (leaves l.initial.token.me.0.number l.fn.call l.token.me.0.hand) 0;
   kept : HasRecord l.token l.fn.call.counter;
   items : l.hand.items ≡ map (λ w. w.seat) l.token.me.0.hand;
+  count : length l.token.me.0.hand ≡ l.counter;
 }
