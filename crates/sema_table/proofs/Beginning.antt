@@ -4,10 +4,11 @@ use mathlib.Core.Path.{fun_ext}
 use native.Mathlib.Decide.{ℕ_discrete}
 use Rattle.step_table.specs.declared.place.AcquireRow.TheVariants.{A1, A3}
 use Rattle.step_table.specs.declared.place.ReleaseRow.TheVariants.{R1, R3}
+use Rattle.step_table.specs.declared.place.ManyRow.TheVariants.{M1}
 use Rattle.step_table.specs.declared.place.Place.{Place}
-use Rattle.step_table.specs.declared.place.Place.TheVariants.{Rest, Acquiring, Releasing}
+use Rattle.step_table.specs.declared.place.Place.TheVariants.{Rest, Acquiring, Releasing, ReleasingMany}
 use Rattle.step_table.specs.World.{Layout, SemaWorld, SeatState, put}
-use Rattle.step_table.specs.Steps.{moved, Choice, acquire, enter, release, give_up, give_up_lock, decide, Step, choose}
+use Rattle.step_table.specs.Steps.{moved, Choice, acquire, enter, release, release_many, give_up, give_up_lock, decide, Step, choose}
 use Rattle.step_table.proofs.Sums.{put_here, put_else, put_same}
 use Rattle.sema_law.specs.Lawful.{holds}
 use Rattle.sema_law.specs.Served.{carries}
@@ -18,12 +19,14 @@ first_choice : (n : ℕ) (p : Place) → IsFirst n p → Choice n Rest p
 first_choice n (Acquiring a A1) f = acquire a f
 first_choice n (Acquiring a A3) f = enter a f
 first_choice n (Releasing r R1) f = release r f
+first_choice n (ReleasingMany r M1) f = release_many r f.0 f.1 f.2
 first_choice n _ f = absurd f
 
 first_holds : (n : ℕ) (root : ℕ → ℕ) (r : ℕ) (p : Place) → IsFirst n p → holds root r p ≡ 0
 first_holds n root r (Acquiring a A1) f = refl
 first_holds n root r (Acquiring a A3) f = refl
 first_holds n root r (Releasing q R1) f = refl
+first_holds n root r (ReleasingMany q M1) f = refl
 first_holds n root r _ f = absurd f
 
 decided : (n : ℕ) (from to : Place) → Decides from to → Choice n from to
@@ -51,6 +54,7 @@ first_carries : (n k : ℕ) (hand : List WaitId) (p : Place) → IsFirst n p →
 first_carries n k hand (Acquiring a A1) f = refl
 first_carries n k hand (Acquiring a A3) f = refl
 first_carries n k hand (Releasing q R1) f = refl
+first_carries n k hand (ReleasingMany q M1) f = refl
 first_carries n k hand _ f = absurd f
 
 free_carries : (k : ℕ) (hand : List WaitId) (p : Place) → is_free p ≡ true → carries k p hand ≡ 0

@@ -182,7 +182,7 @@ module _ (s0 s u : Token) (a : Release) (id : WaitId) (n : ℕ) (before : Walked
         (walked_row u w before_it y loses swap (lost y (n - 1 + 1) wins loses swapped (λ e. ne (omega arith))) again)
 
 -- what a step tells may be less
-told_less : (holds : Kept_state → Type 0) (slots id i : ℕ) (m : Me) (f : ℕ → ℕ) (A B : ℕ → Me → Type 0) → ((n : ℕ) (t : Me) → A n t → B n t) → Allows holds slots id m i f A → Allows holds slots id m i f B
+pub told_less : (holds : Kept_state → Type 0) (slots id i : ℕ) (m : Me) (f : ℕ → ℕ) (A B : ℕ → Me → Type 0) → ((n : ℕ) (t : Me) → A n t → B n t) → Allows holds slots id m i f A → Allows holds slots id m i f B
 told_less holds slots id i m f A B less step s r sized at below = let o = step s r sized at below in (o.0, o.1, o.2, o.3, less (slice_index s.words i) (o.0, carried_after m.1 o.1) o.4)
 
 -- the store of a grant keeps the rule

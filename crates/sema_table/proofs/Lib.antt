@@ -13,6 +13,7 @@ pub mod Walking
 pub mod Calling
 pub mod Trying
 pub mod Posting
+pub mod PostingMany
 pub mod Locking
 pub mod Polling
 pub mod Rousing
@@ -23,5 +24,7 @@ pub mod Entering
 pub mod Retrying
 pub mod Granting
 pub mod Wakening
+pub mod GrantingMany
+pub mod WakeningMany
 pub mod Making
 pub mod Lawful

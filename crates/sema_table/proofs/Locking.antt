@@ -3,8 +3,9 @@ use Rattle.std.proofs.Common.{◌≡◌, ℕ, true, List, [], ◌∷◌, sym, re
 use Rattle.waiters.specs.declared.wait.WaitId.{WaitId}
 use Rattle.step_table.specs.declared.place.AcquireRow.TheVariants.{A3}
 use Rattle.step_table.specs.declared.place.ReleaseRow.TheVariants.{R3}
+use Rattle.step_table.specs.declared.place.ManyRow.TheVariants.{M3}
 use Rattle.step_table.specs.declared.place.Place.{Place}
-use Rattle.step_table.specs.declared.place.Place.TheVariants.{Acquiring, Releasing}
+use Rattle.step_table.specs.declared.place.Place.TheVariants.{Acquiring, Releasing, ReleasingMany}
 use Rattle.step_table.specs.declared.word.Word.TheVariants.{Lock}
 use Rattle.step_table.specs.Table.{event_at}
 use Rattle.step_table.specs.World.{SeatState}
@@ -28,6 +29,7 @@ use Rattle.sema_table.proofs.Walking.{walked_row}
 pub locking_adds : (p : Place) → takes_lock p ≡ true → adding p ≡ 0
 locking_adds (Acquiring a A3) e = refl
 locking_adds (Releasing r R3) e = refl
+locking_adds (ReleasingMany r M3) e = refl
 locking_adds _ e = absurd (cc)
 
 -- its event takes the lock of its call's counter
@@ -35,21 +37,25 @@ pub locking_event : (z : Setting) (s : ℕ) (seat : SeatState) (lists : ℕ → 
     → Takes z (counter_at p) (event_at s seat lists p) i n
 locking_event z s seat lists (Acquiring a A3) i n e word none = record { fits = record { word = word; there = tt; can = eq-eqb n 0 none; becomes = refl }; word_is = refl; silent = refl }
 locking_event z s seat lists (Releasing r R3) i n e word none = record { fits = record { word = word; there = tt; can = eq-eqb n 0 none; becomes = refl }; word_is = refl; silent = refl }
+locking_event z s seat lists (ReleasingMany r M3) i n e word none = record { fits = record { word = word; there = tt; can = eq-eqb n 0 none; becomes = refl }; word_is = refl; silent = refl }
 locking_event z s seat lists _ i n e word none = absurd (cc)
 
 locking_leads : (s : ℕ) (seat : SeatState) (lists : ℕ → List WaitId) (p : Place) → takes_lock p ≡ true → (event_at s seat lists p).leads 0 ≡ to (locked p)
 locking_leads s seat lists (Acquiring a A3) e = refl
 locking_leads s seat lists (Releasing r R3) e = refl
+locking_leads s seat lists (ReleasingMany r M3) e = refl
 locking_leads s seat lists _ e = absurd (cc)
 
 locking_gains : (p : Place) → takes_lock p ≡ true → gains p (locked p) ≡ 0
 locking_gains (Acquiring a A3) e = refl
 locking_gains (Releasing r R3) e = refl
+locking_gains (ReleasingMany r M3) e = refl
 locking_gains _ e = absurd (cc)
 
 locked_counter : (p : Place) → takes_lock p ≡ true → counter_at (locked p) ≡ counter_at p
 locked_counter (Acquiring a A3) e = refl
 locked_counter (Releasing r R3) e = refl
+locked_counter (ReleasingMany r M3) e = refl
 locked_counter _ e = absurd (cc)
 
 pub has_locked : (t : TableModel) (s u : Token) (p : Place) → Starts t s p → took (begin p s.me.0) s.me u.me → u.table_id ≡ s.table_id → Locked s p u

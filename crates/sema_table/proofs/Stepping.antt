@@ -1,5 +1,5 @@
 -- What the numbers of words are where a row runs, so that no addition and no subtraction wraps.
-use Rattle.std.proofs.Common.{◌≡◌, ℕ, refl, List, ◌+◌, ◌-◌, ◌%◌, ◌^◌, ◌<◌, length, ap, ◌∙◌, arith}
+use Rattle.std.proofs.Common.{◌≡◌, ℕ, refl, List, ◌+◌, ◌-◌, ◌%◌, ◌^◌, ◌<◌, ◌≤◌, length, ap, ◌∙◌, arith}
 use Rattle.step_table.specs.declared.word.Word.TheVariants.{Counter, Waiters}
 use Rattle.step_table.specs.World.{SemaWorld, SeatState}
 use Rattle.waiters.specs.declared.wait.WaitId.{WaitId}
@@ -7,8 +7,11 @@ use Rattle.step_table.specs.declared.effect.Effect.TheVariants.{Tells}
 use Rattle.step_table.specs.declared.entry.Entry.TheVariants.{Leave}
 use Rattle.step_table.specs.declared.place.Release.{Release}
 use Rattle.step_table.specs.declared.place.ReleaseRow.TheVariants.{R5, R6}
-use Rattle.step_table.specs.declared.place.Place.TheVariants.{Releasing}
+use Rattle.step_table.specs.declared.place.ReleaseMany.{ReleaseMany}
+use Rattle.step_table.specs.declared.place.ManyRow.TheVariants.{M5, M6}
+use Rattle.step_table.specs.declared.place.Place.TheVariants.{Releasing, ReleasingMany}
 use Rattle.step_table.specs.Event.{by_first, to}
+use Rattle.step_table.specs.ReleaseMany.{after_leave}
 use Rattle.step_table.specs.Table.{table, event_at}
 use Rattle.step_table.specs.Steps.{event_of}
 use Rattle.sema_table.specs.Rule.{stands_by}
@@ -26,6 +29,12 @@ module _ (v : View) (b : SemaWorld) (i n : ℕ) (known : Known v b i n) where
   -- one more in a counter
   pub counter_up : (c : ℕ) → c < length v.setting.starts → address v.setting (Counter c) ≡ i → (n + 1) % 2 ^ 64 ≡ n + 1
   counter_up c inside at =
+      let few = (the_accounts.unwrapped (layout v.setting) b known.reached known.small).numbers c in
+      let is = known.word (Counter c) inside at in omega arith
+
+  -- a few more in a counter
+  pub counter_up_by : (c k : ℕ) → c < length v.setting.starts → address v.setting (Counter c) ≡ i → k ≤ 256 → (n + k) % 2 ^ 64 ≡ n + k
+  counter_up_by c k inside at fewer =
       let few = (the_accounts.unwrapped (layout v.setting) b known.reached known.small).numbers c in
       let is = known.word (Counter c) inside at in omega arith
 
@@ -57,3 +66,18 @@ module _ (v : View) (b : SemaWorld) (i n : ℕ) (known : Known v b i n) where
       by : (l : List WaitId) → b.words.lists a.counter ≡ l → 0 < b.words.waiters (root v.setting a.counter)
       by l e = the_accounts.lowered (layout v.setting) b (the_law.invariant (layout v.setting) b known.reached) v.number (root v.setting a.counter) known.there
           (a.counter, by_first (b.words.lists a.counter) (to (Releasing a R6)) (λ w. (Releasing a R6, Tells (Leave a.counter w v.number))), refl, stands)
+
+  -- and so is that which a seat at M5 lowers
+  pub lowered_some_many : (a : ReleaseMany) → v.place ≡ ReleasingMany a M5 → 0 < b.words.waiters (root v.setting a.counter)
+  lowered_some_many a at = by (b.words.lists a.counter) refl
+    where
+      stands : event_of b v.number ≡ event_at v.number (stands_by v) b.words.lists (ReleasingMany a M5)
+      stands = ap (λ (y : SeatState). table v.number y b.words.lists) known.knows.meets.stands ∙ ap (λ q. event_at v.number (stands_by v) b.words.lists q) at
+
+      by : (l : List WaitId) → b.words.lists a.counter ≡ l → 0 < b.words.waiters (root v.setting a.counter)
+      by l e = the_accounts.lowered (layout v.setting) b (the_law.invariant (layout v.setting) b known.reached) v.number (root v.setting a.counter) known.there (
+        a.counter,
+        by_first (b.words.lists a.counter) (to (ReleasingMany a M6)) (λ w. (after_leave a (length v.hand) (length (b.words.lists a.counter)), Tells (Leave a.counter w v.number))),
+        refl,
+        stands,
+      )

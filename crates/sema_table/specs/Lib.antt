@@ -9,6 +9,9 @@ pub mod Calls
 pub mod Tries
 pub mod Waking
 pub mod Whole
+pub mod ManySeats
+pub mod Many
+pub mod ManyWalks
 pub mod Texts
 pub mod Making
 pub mod Table

@@ -4,8 +4,9 @@ use mathlib.Core.Option.{Option, some}
 use Rattle.atomic_table.specs.Table as atomic
 use Rattle.step_table.specs.declared.place.AcquireRow.TheVariants.{A1}
 use Rattle.step_table.specs.declared.place.ReleaseRow.TheVariants.{R1}
+use Rattle.step_table.specs.declared.place.ManyRow.TheVariants.{M1}
 use Rattle.step_table.specs.declared.place.Place.{Place}
-use Rattle.step_table.specs.declared.place.Place.TheVariants.{Rest, Acquiring, Releasing}
+use Rattle.step_table.specs.declared.place.Place.TheVariants.{Rest, Acquiring, Releasing, ReleasingMany}
 use Rattle.step_table.specs.declared.word.Word.{Word}
 use Rattle.step_table.specs.declared.word.Word.TheVariants.{Grant}
 use Rattle.step_table.specs.Counting.{counter_at}
@@ -72,6 +73,9 @@ tries st m n t = stepped (begin (Acquiring (record { counter = st.word; lifo = f
 
 abbrev pub adds : atomic.Step Record → Me → ℕ → Me → Type 0
 adds st m n t = stepped (begin (Releasing (record { counter = st.word; handoff = false }) R1) m.0) n m t
+
+abbrev pub adds_many : atomic.Step Record → Me → ℕ → Me → Type 0
+adds_many st m n t = stepped (begin (ReleasingMany (record { counter = st.word; units = st.first }) M1) m.0) n m t
 
 abbrev pub goes : atomic.Step Record → Me → ℕ → Me → Type 0
 goes st m n t = stepped m.0 n m t

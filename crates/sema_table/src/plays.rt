@@ -1,6 +1,6 @@
 //! The rule, and what each kind of step tells.
 ghost use Rattle.sema_table.specs.Rule.{IsKept, setting_of, first_view, making, made_by};
-ghost use Rattle.sema_table.specs.Plays.{looks_at, tries, adds, goes, locks, gives, receives, sets_aside, stores};
+ghost use Rattle.sema_table.specs.Plays.{looks_at, tries, adds, adds_many, goes, locks, gives, receives, sets_aside, stores};
 
 use crate::settings::Settings;
 use crate::view::{Record, View};
@@ -36,6 +36,13 @@ pub struct Adds;
 
 impl Play<Record, View> for Adds {
     ghost then = { adds };
+}
+
+/// The first row of a release of many units.
+pub struct AddsMany;
+
+impl Play<Record, View> for AddsMany {
+    ghost then = { adds_many };
 }
 
 /// The row at which the seat stands.

@@ -1,0 +1,53 @@
+//! A release of many units up to its look for waits.
+ghost use Rattle.std.specs.Prelude.{◌≡◌, ◌<◌, ◌≤◌, length, MatchResult};
+ghost use Rattle.sema_table.specs.Many.{release_of, IsPostedMany};
+
+use crate::answers::PostRefused;
+use crate::many_seat::{OwingMany, PostedMany};
+use crate::plays::{AddsMany, Goes};
+use crate::seat::{Numbers, Seat};
+use crate::sema_table::SemaTable;
+use step_table::ReleaseMany;
+use waiters::CounterId;
+
+impl SemaTable {
+    /// Adds many units by one step, and looks whether somebody waits at the counter's root. The seat comes back with nothing
+    /// changed exactly where it may not add so many.
+    pub fn post_many(
+        &self,
+        seat: Seat,
+        counter: CounterId,
+        units: u32,
+    ) -> Result<PostedMany, (Seat, PostRefused)>
+        requires seat { (seat.table ≡ self.now) × (counter < length self.now.setting.starts) }
+        requires units { (1 ≤ units) × (units ≤ 256) }
+        ensures answer { MatchResult result
+            (λ posted. (units ≤ seat.left) × IsPostedMany seat (release_of counter units) posted)
+            (λ refused. (seat.left < units) × (refused.0 ≡ seat)) }
+    {
+        let added = u64::from(units);
+        if seat.numbers.left < added {
+            return Err((seat, PostRefused::LimitReached));
+        }
+        let Seat { mut token, numbers } = seat;
+        let counter = counter.number();
+        let shared = &self.table.shared;
+        // By one add: by many, others would see only some of the units in between.
+        shared.fetch_add::<AddsMany>(&mut token, counter as usize, added);
+        let numbers = Numbers {
+            left: numbers.left - added,
+            ..numbers
+        };
+        let counter = CounterId::new(counter);
+        let word = self.waiter_word(counter);
+        if shared.load::<Goes>(&mut token, word) == 0 {
+            return Ok(PostedMany::Done(Seat { token, numbers }));
+        }
+        let call = ReleaseMany { counter, units };
+        Ok(PostedMany::Owes(OwingMany {
+            token,
+            numbers,
+            call,
+        }))
+    }
+}
