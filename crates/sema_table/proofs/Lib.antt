@@ -21,4 +21,6 @@ pub mod Retrying
 pub mod Granting
 pub mod Wakening
 pub mod Making
+pub mod Sitting
+pub mod Looked_together
 pub mod Lawful

@@ -9,5 +9,6 @@ pub mod Calls
 pub mod Tries
 pub mod Waking
 pub mod Texts
+pub mod Meeting
 pub mod Making
 pub mod Table

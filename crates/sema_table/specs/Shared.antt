@@ -11,6 +11,7 @@ pub record IsTable (id : TableId) (z : Setting) (counters roots : ℕ) : Type 0 
   pub counted : counters ≡ length z.starts
   pub rooted : roots ≡ z.roots
   pub some : 0 < roots
+  pub any : 0 < counters
   pub words : id.words ≡ words_in z
   pub slots : id.slots ≡ z.roots
 

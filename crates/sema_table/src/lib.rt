@@ -15,9 +15,11 @@
 #![tactic(auto)]
 
 mod answers;
+mod joins;
 mod laws;
 mod locks;
 mod make;
+mod meeting;
 mod plays;
 mod polls;
 mod posts;
