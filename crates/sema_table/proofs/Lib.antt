@@ -22,5 +22,6 @@ pub mod Granting
 pub mod Wakening
 pub mod Making
 pub mod Sitting
+pub mod Reckoning
 pub mod Looked_together
 pub mod Lawful

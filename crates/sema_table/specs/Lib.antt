@@ -10,5 +10,6 @@ pub mod Tries
 pub mod Waking
 pub mod Texts
 pub mod Meeting
+pub mod Closing
 pub mod Making
 pub mod Table
