@@ -20,6 +20,8 @@ allowed_aside z slots id i x m far s r sized at below = (
     small = r.small;
     words = λ w h. get_or-set_other s.words i (address z w) x 0 (λ e. let low = shown z r.rooted w h in absurd (omega arith)) ∙ r.words w h;
     homes = r.homes;
+    spot = r.spot;
+    made = r.made;
     views = r.views;
     unmade = r.unmade;
     maker = r.maker;

@@ -21,7 +21,7 @@ use Rattle.sema_law.proofs.Placing.{same_here}
 use Rattle.sema_root.specs.Treap.{Treap}
 use Rattle.sema_table.specs.declared.view.Record.TheVariants.{Root}
 use Rattle.sema_table.specs.Setting.{root, layout, address}
-use Rattle.sema_table.specs.Rule.{sight_by, lists_by, IsRecord, IsKept}
+use Rattle.sema_table.specs.Rule.{sight_by, lists_by, IsRecord, IsSomeones, IsKept}
 use Rattle.sema_law.specs.Balances.{added_by}
 use Rattle.atomic_table.specs.Table.{Allows, carried_after}
 use Rattle.step_table.specs.declared.word.Word.TheVariants.{Grant}
@@ -186,9 +186,9 @@ pub told_less : (holds : Kept_state → Type 0) (slots id i : ℕ) (m : Me) (f :
 told_less holds slots id i m f A B less step s r sized at below = let o = step s r sized at below in (o.0, o.1, o.2, o.3, less (slice_index s.words i) (o.0, carried_after m.1 o.1) o.4)
 
 -- the store of a grant keeps the rule
-pub grants_at : (z : Setting) (slots id i : ℕ) (m : Me) (a : Release) (handed : Bool) → m.0.place ≡ granting a handed → added_by m.0.number m.0.seen ≤ 2 ^ 40 → address m.0.setting (Grant (waiter m.0.number m.0.hand)) ≡ i
+pub grants_at : (z : Setting) (slots id i : ℕ) (m : Me) (someones : IsSomeones m.0) (a : Release) (handed : Bool) → m.0.place ≡ granting a handed → added_by m.0.number m.0.seen ≤ 2 ^ 40 → address m.0.setting (Grant (waiter m.0.number m.0.hand)) ≡ i
     → waiter m.0.number m.0.hand < m.0.setting.seats → Allows (IsKept z) slots id m i (λ _. grant_of handed) (λ _ t. (n : ℕ) × Ran m.0 n t.0 × (t.1 ≡ m.1))
-grants_at z slots id i m a true at few word there = told_less (IsKept z) slots id i m (λ _. 2) (λ n t. stepped m.0 n m t) (λ _ t. (n : ℕ) × Ran m.0 n t.0 × (t.1 ≡ m.1)) (λ n t y. (n, y.0, y.1))
-    (allowed_at z slots id i m (Releasing a R9) at (omega arith) (λ _. 2) (λ w n known. record { fits = record { word = word; there = there; can = refl; becomes = refl }; apart = refl }))
-grants_at z slots id i m a false at few word there = told_less (IsKept z) slots id i m (λ _. 1) (λ n t. stepped m.0 n m t) (λ _ t. (n : ℕ) × Ran m.0 n t.0 × (t.1 ≡ m.1)) (λ n t y. (n, y.0, y.1))
-    (allowed_at z slots id i m (Releasing a R10) at (omega arith) (λ _. 1) (λ w n known. record { fits = record { word = word; there = there; can = refl; becomes = refl }; apart = refl }))
+grants_at z slots id i m someones a true at few word there = told_less (IsKept z) slots id i m (λ _. 2) (λ n t. stepped m.0 n m t) (λ _ t. (n : ℕ) × Ran m.0 n t.0 × (t.1 ≡ m.1)) (λ n t y. (n, y.0, y.1))
+    (allowed_at z slots id i m someones (Releasing a R9) at (omega arith) (λ _. 2) (λ w n known. record { fits = record { word = word; there = there; can = refl; becomes = refl }; apart = refl }))
+grants_at z slots id i m someones a false at few word there = told_less (IsKept z) slots id i m (λ _. 1) (λ n t. stepped m.0 n m t) (λ _ t. (n : ℕ) × Ran m.0 n t.0 × (t.1 ≡ m.1)) (λ n t y. (n, y.0, y.1))
+    (allowed_at z slots id i m someones (Releasing a R10) at (omega arith) (λ _. 1) (λ w n known. record { fits = record { word = word; there = there; can = refl; becomes = refl }; apart = refl }))

@@ -28,7 +28,7 @@ use Rattle.atomic_table.specs.Table.{Allows}
 use Rattle.sema_table.specs.declared.view.Setting.{Setting}
 use Rattle.sema_table.specs.declared.view.Record.TheVariants.{Root}
 use Rattle.sema_table.specs.Setting.{root, layout, address}
-use Rattle.sema_table.specs.Rule.{sight_by, lists_by, IsRecord, IsKept}
+use Rattle.sema_table.specs.Rule.{IsSomeones, sight_by, lists_by, IsRecord, IsKept}
 use Rattle.sema_table.specs.Plays.{Me, Ran, begin, stepped}
 use Rattle.sema_table.specs.Seats.{Token, TableModel}
 use Rattle.sema_table.specs.Walks.{Walked, HasRecord, moved_to, lists_of}
@@ -177,7 +177,7 @@ granted_first s u a n at r same slots = let row = ran_from s u (ReleasingMany a 
 }
 
 -- the store of 1 keeps the rule
-pub grants_first : (z : Setting) (slots id i : ℕ) (m : Me) (a : ReleaseMany) → m.0.place ≡ ReleasingMany a M7 → added_by m.0.number m.0.seen ≤ 2 ^ 40 → address m.0.setting (Grant (waiter m.0.number m.0.hand)) ≡ i
+pub grants_first : (z : Setting) (slots id i : ℕ) (m : Me) (someones : IsSomeones m.0) (a : ReleaseMany) → m.0.place ≡ ReleasingMany a M7 → added_by m.0.number m.0.seen ≤ 2 ^ 40 → address m.0.setting (Grant (waiter m.0.number m.0.hand)) ≡ i
     → waiter m.0.number m.0.hand < m.0.setting.seats → Allows (IsKept z) slots id m i (λ _. 1) (λ _ t. (n : ℕ) × Ran m.0 n t.0 × (t.1 ≡ m.1))
-grants_first z slots id i m a at few word there = told_less (IsKept z) slots id i m (λ _. 1) (λ n t. stepped m.0 n m t) (λ _ t. (n : ℕ) × Ran m.0 n t.0 × (t.1 ≡ m.1)) (λ n t y. (n, y.0, y.1))
-    (allowed_at z slots id i m (ReleasingMany a M7) at (omega arith) (λ _. 1) (λ w n known. record { fits = record { word = word; there = there; can = refl; becomes = refl }; apart = refl }))
+grants_first z slots id i m someones a at few word there = told_less (IsKept z) slots id i m (λ _. 1) (λ n t. stepped m.0 n m t) (λ _ t. (n : ℕ) × Ran m.0 n t.0 × (t.1 ≡ m.1)) (λ n t y. (n, y.0, y.1))
+    (allowed_at z slots id i m someones (ReleasingMany a M7) at (omega arith) (λ _. 1) (λ w n known. record { fits = record { word = word; there = there; can = refl; becomes = refl }; apart = refl }))

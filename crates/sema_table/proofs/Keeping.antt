@@ -28,10 +28,11 @@ use Rattle.sema_law.proofs.Promises.{the_law}
 use Rattle.sema_law.proofs.Accounts.{the_accounts}
 use Rattle.sema_law.proofs.SemaPaths.{the_sema_paths}
 use Rattle.sema_table.specs.declared.view.View.{View}
+use Rattle.sema_table.specs.declared.view.Guest.{Guest}
 use Rattle.sema_table.specs.declared.view.Setting.{Setting}
 use Rattle.sema_table.specs.declared.view.Record.{Record}
 use Rattle.sema_table.specs.Setting.{root, layout, address, IsThere}
-use Rattle.sema_table.specs.Rule.{sight_by, seeing, lists_by, Knows, Homes, AtHome, fresh, IsViewOf, IsKept}
+use Rattle.sema_table.specs.Rule.{sight_by, seeing, lists_by, Knows, Homes, AtHome, fresh, view_of, IsSomeones, Sits, HasSeats, IsKept}
 use Rattle.sema_table.specs.Plays.{Ran, begin}
 use Rattle.sema_table.proofs.Words.{written_word, inside, lists_unwritten, same_record}
 use Rattle.sema_table.specs.Places.{Begins}
@@ -42,11 +43,6 @@ use Rattle.sema_table.proofs.Resting.{free_counted}
 
 abbrev pub Kept_state : Type 0
 Kept_state = State Record View
-
-pub inside_list : (views : List View) (i : ℕ) (u : View) → get_elem? views i ≡ some u → i < length views
-inside_list [] i u g = absurd (some-ne-none u (sym g))
-inside_list (y ∷ ys) zero u g = omega arith
-inside_list (y ∷ ys) (suc i) u g = let h = inside_list ys i u g in omega arith
 
 -- what the code's atomic step has to be: the event of the table
 pub record Fits (z : Setting) (e : Event) (i n x : ℕ) : Type 0 where
@@ -65,7 +61,7 @@ pub record Known (v : View) (b : SemaWorld) (i n : ℕ) : Type 0 where
   pub below : n < 2 ^ 64
   pub rooted : 0 < v.setting.roots
 
-module _ (s : Kept_state) (v : View) (r : IsKept v.setting s) (at : get_elem? s.views v.number ≡ some v) (p : Place) (ok : Begins (length v.setting.starts) v.place p) (bound : added_by v.number v.seen + adding p ≤ 2 ^ 40) where
+module _ (s : Kept_state) (v : View) (r : IsKept v.setting s) (tok : ℕ) (at : get_elem? s.views tok ≡ some v) (someones : IsSomeones v) (p : Place) (ok : Begins (length v.setting.starts) v.place p) (bound : added_by v.number v.seen + adding p ≤ 2 ^ 40) where
   abbrev z : Setting
   z = v.setting
 
@@ -75,14 +71,17 @@ module _ (s : Kept_state) (v : View) (r : IsKept v.setting s) (at : get_elem? s.
   abbrev id : ℕ
   id = v.number
 
-  viewed : IsViewOf v.setting r.world v.number v
-  viewed = r.views id v at
+  seated : HasSeats v.setting r.world r.spot r.made tok v
+  seated = r.views tok v at someones
+
+  viewed : Knows v.setting v.number v r.world
+  viewed = seated.own.knows
 
   there : id < z.seats
-  there = let a = inside_list s.views id v at in let b = r.fits in omega arith
+  there = let a = seated.own.is_made in let b = r.fits in omega arith
 
   stands : (r.world.seats id).place ≡ v.place
-  stands = ap (λ (y : SeatState). y.place) viewed.2.meets.stands
+  stands = ap (λ (y : SeatState). y.place) viewed.meets.stands
 
   abbrev pub b : SemaWorld
   b = moved r.world v.number p
@@ -103,13 +102,13 @@ module _ (s : Kept_state) (v : View) (r : IsKept v.setting s) (at : get_elem? s.
   meets : Meets (semaphores m) b id (sight_by (begin p v))
   meets = record {
     met = reached;
-    stands = put_here r.world.seats id (record (r.world.seats id) { place = p }) ∙ ap (λ (y : SeatState). record y { place = p }) viewed.2.meets.stands;
-    later = viewed.2.meets.later;
-    quiet = viewed.2.meets.quiet;
+    stands = put_here r.world.seats id (record (r.world.seats id) { place = p }) ∙ ap (λ (y : SeatState). record y { place = p }) viewed.meets.stands;
+    later = viewed.meets.later;
+    quiet = viewed.meets.quiet;
   }
 
   knows : Knows z id (begin p v) b
-  knows = record { meets = meets; takes = let a = viewed.2.takes in let k = begun_served id in omega arith; held = λ c h. viewed.2.held c (begins_holds (length z.starts) (root z) (root z c) v.place p ok h) }
+  knows = record { meets = meets; takes = let a = viewed.takes in let k = begun_served id in omega arith; held = λ c h. viewed.held c (begins_holds (length z.starts) (root z) (root z c) v.place p ok h) }
 
   invariant : IsInvariant m b
   invariant = the_law.invariant m b reached
@@ -165,7 +164,7 @@ module _ (s : Kept_state) (v : View) (r : IsKept v.setting s) (at : get_elem? s.
       seats = r.small.seats;
       starts = r.small.starts;
       few = λ k h. dite (ℕ_discrete k id)
-          (λ q. subst (λ y. added_by y t.journal ≤ 2 ^ 40) (sym q) (let a = adds.0 in let c = ap adding here in let o = own_adds m r.world id (sight_by v) viewed.2.meets in omega arith))
+          (λ q. subst (λ y. added_by y t.journal ≤ 2 ^ 40) (sym q) (let a = adds.0 in let c = ap adding here in let o = own_adds m r.world id (sight_by v) viewed.meets in omega arith))
           (λ ne. let a = adds.1 k ne in let c = r.small.few k h in omega arith);
     }
 
@@ -178,23 +177,40 @@ module _ (s : Kept_state) (v : View) (r : IsKept v.setting s) (at : get_elem? s.
         (let l = lawful.locks (root z c) in let one = total_has z.seats (λ j. holds (root z) (root z c) (b.seats j).place) id there in omega arith)
 
     -- what another seat knows
-    knows_else : (j : ℕ) (u : View) → j ≢ id → IsViewOf z r.world j u → j < z.seats → IsViewOf z t j u
-    knows_else j u ne o h = (
-      o.0,
-      o.1,
-      record {
-        meets = met_after;
-        takes = let a = the_accounts.counted m b t id there invariant step j in let n = on_else j id (gains (b.seats id).place (t.seats id).place) ne in let k = begun_served j in let was = o.2.takes in omega arith;
-        held = λ c one. o.2.held c one
-            ∙ sym (leaves c ((the_accounts.alone m b invariant j (root z c) h (ap (λ (y : SeatState). holds (root z) (root z c) y.place) met_before.stands ∙ one)).1 id there (λ q. ne (sym q))));
-      },
-    )
+    knows_else : (j : ℕ) (u : View) → j ≢ id → Knows z j u r.world → j < z.seats → Knows z j u t
+    knows_else j u ne o h = record {
+      meets = met_after;
+      takes = let a = the_accounts.counted m b t id there invariant step j in let n = on_else j id (gains (b.seats id).place (t.seats id).place) ne in let k = begun_served j in let was = o.takes in omega arith;
+      held = λ c one. o.held c one
+          ∙ sym (leaves c ((the_accounts.alone m b invariant j (root z c) h (ap (λ (y : SeatState). holds (root z) (root z c) y.place) met_before.stands ∙ one)).1 id there (λ q. ne (sym q))));
+    }
       where
         met_before : Meets (semaphores m) b j (sight_by u)
-        met_before = met_else j (sight_by u) ne o.2.meets
+        met_before = met_else j (sight_by u) ne o.meets
 
         met_after : Meets (semaphores m) t j (sight_by u)
         met_after = the_sema_paths.others m b t id j (sight_by u) there ne step met_before
+
+    -- another seat sits where it sat
+    sits_else : (j : ℕ) (u : View) → u.number ≢ id → Sits z r.world r.spot r.made j u → Sits z t r.spot r.made j u
+    sits_else j u ne o = record {
+      place_is = o.place_is;
+      is_made = o.is_made;
+      setting_is = o.setting_is;
+      knows = knows_else u.number u ne o.knows (let a = o.is_made in let c = r.fits in omega arith);
+    }
+
+    -- at another place sits none but other seats
+    apart : (j : ℕ) (u : View) → j ≢ tok → Sits z r.world r.spot r.made j u → u.number ≢ id
+    apart j u ne o q = ne (sym o.place_is ∙ ap r.spot q ∙ seated.own.place_is)
+
+    seats_else : (j : ℕ) (u : View) → j ≢ tok → HasSeats z r.world r.spot r.made j u → HasSeats z t r.spot r.made j u
+    seats_else j u ne o = record {
+      own = sits_else j u (apart j u ne o.own) o.own;
+      guests = λ g h. sits_else j (view_of z g) (apart j (view_of z g) ne (o.guests g h)) (o.guests g h);
+      others = o.others;
+      apart = o.apart;
+    }
 
     -- what this seat sees after the row
     sees : SemaSight
@@ -212,8 +228,16 @@ module _ (s : Kept_state) (v : View) (r : IsKept v.setting s) (at : get_elem? s.
     knows_here : Knows z id after t
     knows_here = record { meets = meets_sight (semaphores m) t id reached_after; takes = came; held = λ c h. ap (λ y. y.lists c) (sym lawful_after.journal.0) }
 
+    seats_here : HasSeats z t r.spot r.made tok after
+    seats_here = record {
+      own = record { place_is = seated.own.place_is; is_made = seated.own.is_made; setting_is = refl; knows = knows_here };
+      guests = λ g h. sits_else tok (view_of z g) (seated.others g h) (seated.guests g h);
+      others = seated.others;
+      apart = seated.apart;
+    }
+
     pub rule_kept : (homes : Homes) → length homes ≡ z.roots → ((q : ℕ) → q < z.roots → t.words.locks q ≡ 0 → AtHome z t.words homes q)
-        → IsKept z (record { words = set s.words i x; homes = homes; views = set s.views id after })
+        → IsKept z (record { words = set s.words i x; homes = homes; views = set s.views tok after })
     rule_kept homes deep home = record {
       world = t;
       reached = reached_after;
@@ -223,20 +247,20 @@ module _ (s : Kept_state) (v : View) (r : IsKept v.setting s) (at : get_elem? s.
           (λ q. ap (λ y. get_or (set s.words i x) y 0) q ∙ get_or-set_same s.words i x 0 (let y = r.wide in let w = fits.word in omega arith) ∙ fits.becomes ∙ ap e.becomes is ∙ sym (a.0 (q ∙ sym fits.word)))
           (λ ne. get_or-set_other s.words i (address z u) x 0 ne ∙ r.words u h ∙ sym (a.1 (λ q. ne (q ∙ fits.word))));
       homes = home;
-      views = λ j u g. ⊎_elim
-          (λ (q : (j ≡ id) × (after ≡ u)). subst (λ (y : ℕ × View). IsViewOf z t y.0 y.1) (λ k. (sym q.0 k, q.1 k)) (refl, refl, knows_here))
-          (λ (q : (j ≢ id) × (get_elem? s.views j ≡ some u)). knows_else j u q.0 (r.views j u q.1) (let a = inside_list s.views j u q.1 in let c = r.fits in omega arith))
-          (at_set s.views id j after u g);
-      unmade = λ k h low. let l = length-set s.views id after in let a = inside_list s.views id v at in
-          let ne : k ≢ id = (λ q. absurd (omega arith)) in
-          (knows_else k (fresh z k 0) ne (refl, refl, r.unmade k (omega arith) low) low).2;
-      maker = λ j u g h. let l = length-set s.views id after in ⊎_elim
-          (λ (q : (j ≡ id) × (after ≡ u)). let same : v.made ≡ u.made = ap (λ (y : View). y.made) q.1 in let o = r.maker id v at (omega arith) in (q.0 ∙ o.0, sym same ∙ o.1 ∙ sym l))
-          (λ (q : (j ≢ id) × (get_elem? s.views j ≡ some u)). let o = r.maker j u q.1 h in (o.0, o.1 ∙ sym l))
-          (at_set s.views id j after u g);
+      spot = r.spot;
+      made = r.made;
+      views = λ j u g h. ⊎_elim
+          (λ (q : (j ≡ tok) × (after ≡ u)). subst (λ (y : ℕ × View). HasSeats z t r.spot r.made y.0 y.1) (λ k. (sym q.0 k, q.1 k)) seats_here)
+          (λ (q : (j ≢ tok) × (get_elem? s.views j ≡ some u)). seats_else j u q.0 (r.views j u q.1 h))
+          (at_set s.views tok j after u g);
+      unmade = λ k h low. knows_else k (fresh z k 0) (λ q. let a = seated.own.is_made in absurd (omega arith)) (r.unmade k h low) low;
+      maker = λ j u g h some_made. ⊎_elim
+          (λ (q : (j ≡ tok) × (after ≡ u)). subst (λ (y : View). 0 < y.made → (y.number ≡ 0) × (y.made ≡ r.made)) q.1 (r.maker tok v at someones) some_made)
+          (λ (q : (j ≢ tok) × (get_elem? s.views j ≡ some u)). r.maker j u q.1 h some_made)
+          (at_set s.views tok j after u g);
       wide = length-set s.words i x ∙ r.wide;
       deep = deep;
-      fits = let l = length-set s.views id after in let a = r.fits in omega arith;
+      fits = r.fits;
       rooted = r.rooted;
       counted = r.counted;
     }

@@ -27,4 +27,7 @@ pub mod Wakening
 pub mod GrantingMany
 pub mod WakeningMany
 pub mod Making
+pub mod Sitting
+pub mod Reckoning
+pub mod Looked_together
 pub mod Lawful

@@ -13,5 +13,7 @@ pub mod ManySeats
 pub mod Many
 pub mod ManyWalks
 pub mod Texts
+pub mod Meeting
+pub mod Closing
 pub mod Making
 pub mod Table

@@ -1,5 +1,5 @@
 -- The rule of the running table: there is a reached world of the step table, which words, records at home and views show.
-use Rattle.std.specs.Prelude.{◌≡◌, ℕ, zero, suc, ◌+◌, ◌%◌, ◌^◌, ◌<◌, ◌≤◌, List, [], length, map, slice_index}
+use Rattle.std.specs.Prelude.{◌≡◌, ◌≢◌, ◌⊎◌, ℕ, zero, suc, ◌+◌, ◌%◌, ◌^◌, ◌<◌, ◌≤◌, List, [], ◌∷◌, length, map, slice_index}
 use mathlib.Core.Option.{Option, some}
 use lib.ListN.{get_elem?}
 use Rattle.atomic_table.specs.Table.{State}
@@ -21,6 +21,7 @@ use Rattle.sema_root.specs.Queues as queues
 use Rattle.sema_root.specs.Treap.{Treap, Tickets, queues_of, drawn_from, tickets_from}
 use Rattle.sema_table.specs.declared.settings.Settings.{Settings}
 use Rattle.sema_table.specs.declared.view.View.{View}
+use Rattle.sema_table.specs.declared.view.Guest.{Guest}
 use Rattle.sema_table.specs.declared.view.Setting.{Setting}
 use Rattle.sema_table.specs.declared.view.Record.{Record}
 use Rattle.sema_table.specs.declared.view.Record.TheVariants.{Root}
@@ -76,26 +77,73 @@ AtHome z g homes r = (treap : Treap) × (get_elem? homes r ≡ some (some (Root 
 
 -- a seat that has run nothing; the seat 0 makes the others, in order
 abbrev pub fresh : Setting → ℕ → ℕ → View
-fresh z number made = record { number = number; setting = z; place = Rest; turn = 0; hand = []; seen = []; taken = 0; strides = 0; made = made }
+fresh z number made =
+    record { number = number; setting = z; place = Rest; turn = 0; hand = []; seen = []; taken = 0; strides = 0; made = made; guests = [] }
 
--- the view of the seat j, of a table made so
-abbrev pub IsViewOf : Setting → SemaWorld → ℕ → View → Type 0
-IsViewOf z s j v = (v.number ≡ j) × (v.setting ≡ z) × Knows z j v s
+-- the view that is left of a token whose seats have gone to another: of no seat, and of no table
+abbrev pub nobody : View
+nobody = fresh (record { starts = []; roots = 0; seats = 0; limit = 0; seed = 0 }) 0 0
+
+-- the view of a seat: its table has counters
+abbrev pub IsSomeones : View → Type 0
+IsSomeones v = 0 < length v.setting.starts
+
+-- what a guest would have for a view
+abbrev pub view_of : Setting → Guest → View
+view_of z g =
+    record {
+      number = g.number;
+      setting = z;
+      place = g.place;
+      turn = g.turn;
+      hand = g.hand;
+      seen = g.seen;
+      taken = g.taken;
+      strides = g.strides;
+      made = 0;
+      guests = [];
+    }
+
+-- what is in a list
+abbrev pub In : {A : Type 0} → A → List A → Type 0
+In x [] = ⊥
+In x (y ∷ ys) = (y ≡ x) ⊎ In x ys
+
+-- no two guests are one seat
+abbrev pub AreApart : List Guest → Type 0
+AreApart [] = Unit {0}
+AreApart (g ∷ gs) = ((h : Guest) → In h gs → h.number ≢ g.number) × AreApart gs
+
+-- this is the view of a seat that was made, of a table made so, which sits at the place j
+pub record Sits (z : Setting) (s : SemaWorld) (spot : ℕ → ℕ) (made j : ℕ) (v : View) : Type 0 where
+  pub place_is : spot v.number ≡ j
+  pub is_made : v.number < made
+  pub setting_is : v.setting ≡ z
+  pub knows : Knows z v.number v s
+
+-- so it is, and each guest sits there too; all are different seats
+pub record HasSeats (z : Setting) (s : SemaWorld) (spot : ℕ → ℕ) (made j : ℕ) (v : View) : Type 0 where
+  pub own : Sits z s spot made j v
+  pub guests : (g : Guest) → In g v.guests → Sits z s spot made j (view_of z g)
+  pub others : (g : Guest) → In g v.guests → g.number ≢ v.number
+  pub apart : AreApart v.guests
 
 -- the rule. Each word is what the world has there, the record of each root whose lock is free is at home, and each view is that of
--- its seat. Seats are made one after the other: those that aren't yet have seen nothing and run nothing
+-- its seats, no two of one seat. Seats are made one after the other: those that aren't yet have seen nothing and run nothing
 pub record IsKept (z : Setting) (s : State Record View) : Type 0 where
   pub world : SemaWorld
   pub reached : IsReached (layout z) world
   pub small : IsSmall (layout z) world
   pub words : (w : Word) → IsThere z w → slice_index s.words (address z w) ≡ found (root z) world.words w
   pub homes : (r : ℕ) → r < z.roots → world.words.locks r ≡ 0 → AtHome z world.words s.homes r
-  pub views : (j : ℕ) (v : View) → get_elem? s.views j ≡ some v → IsViewOf z world j v
-  pub unmade : (k : ℕ) → length s.views ≤ k → k < z.seats → Knows z k (fresh z k 0) world
-  pub maker : (j : ℕ) (v : View) → get_elem? s.views j ≡ some v → 0 < v.made → (j ≡ 0) × (v.made ≡ length s.views)
+  pub spot : ℕ → ℕ
+  pub made : ℕ
+  pub views : (j : ℕ) (v : View) → get_elem? s.views j ≡ some v → IsSomeones v → HasSeats z world spot made j v
+  pub unmade : (k : ℕ) → made ≤ k → k < z.seats → Knows z k (fresh z k 0) world
+  pub maker : (j : ℕ) (v : View) → get_elem? s.views j ≡ some v → IsSomeones v → 0 < v.made → (v.number ≡ 0) × (v.made ≡ made)
   pub wide : length s.words ≡ words_in z
   pub deep : length s.homes ≡ z.roots
-  pub fits : length s.views ≤ z.seats
+  pub fits : made ≤ z.seats
   pub rooted : 0 < z.roots
   pub counted : length z.starts ≤ 65536
 

@@ -12,6 +12,7 @@ pub record IsTable (id : TableId) (z : Setting) (counters roots seats : ℕ) : T
   pub rooted : roots ≡ z.roots
   pub seated : seats ≡ z.seats
   pub some : 0 < roots
+  pub any : 0 < counters
   pub words : id.words ≡ words_in z
   pub slots : id.slots ≡ z.roots
 

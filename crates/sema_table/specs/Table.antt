@@ -14,16 +14,19 @@ use Rattle.sema_table.specs.declared.view.View.{View}
 use Rattle.sema_table.specs.declared.view.Record.{Record}
 use Rattle.sema_table.specs.declared.view.Setting.{Setting}
 use Rattle.sema_table.specs.Setting.{root, layout, address, words_in, IsThere}
-use Rattle.sema_table.specs.Rule.{Knows, AtHome, IsViewOf, fresh, IsKept}
+use Rattle.sema_table.specs.Rule.{Knows, AtHome, IsSomeones, HasSeats, fresh, IsKept}
 
--- the words and the records at home are those of this world, and each view is that of its seat there: it stands so, has seen a
--- beginning of the journal with all entries of its own, knows the lists of a root whose lock it holds, and has come by the units
--- that were taken for it, but for those served to it since. Seats that aren't made yet have seen nothing and run nothing
+-- the words and the records at home are those of this world, and each view that isn't spent is that of a seat there, and of the
+-- seats that sit with it, each seat in one view: it stands so, has seen a beginning of the journal with all entries of its own,
+-- knows the lists of a root whose lock it holds, and has come by the units that were taken for it, but for those served to it
+-- since. Seats that aren't made yet have seen nothing and run nothing
 pub record Shows (z : Setting) (s : State Record View) (world : SemaWorld) : Type 0 where
   pub words : (w : Word) → IsThere z w → slice_index s.words (address z w) ≡ found (root z) world.words w
   pub homes : (r : ℕ) → r < z.roots → world.words.locks r ≡ 0 → AtHome z world.words s.homes r
-  pub views : (k : ℕ) (v : View) → get_elem? s.views k ≡ some v → IsViewOf z world k v
-  pub unmade : (k : ℕ) → length s.views ≤ k → k < z.seats → Knows z k (fresh z k 0) world
+  pub spot : ℕ → ℕ
+  pub made : ℕ
+  pub views : (j : ℕ) (v : View) → get_elem? s.views j ≡ some v → IsSomeones v → HasSeats z world spot made j v
+  pub unmade : (k : ℕ) → made ≤ k → k < z.seats → Knows z k (fresh z k 0) world
   pub wide : length s.words ≡ words_in z
   pub deep : length s.homes ≡ z.roots
 

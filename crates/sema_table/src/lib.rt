@@ -16,10 +16,12 @@
 
 mod acquires;
 mod answers;
+mod joins;
 mod laws;
 mod locks;
 mod make;
 mod many_seat;
+mod meeting;
 mod plays;
 mod polls;
 mod posts;

@@ -23,7 +23,7 @@ split_seat-token-requires c = let inv = c.loop-number.invariant in let E = c.in-
     let long = ap length (c.as_slice.ensures.value ∙ c.in_ok-words.ensures.words) ∙ words_long z in let some = c.requires.seats in (
       inv.same,
       omega (arith, E.0, long, some),
-      splits _ _ _ (let q = inv.count in omega (arith, made)) (let q = c.loop-number-test.true in omega (arith, made, seats)),
+      splits _ _ _ (let e = ap (λ (m : Me). length m.0.setting.starts) inv.first in let k = c.requires.counters in omega arith) (let q = inv.count in omega (arith, made)) (let q = c.loop-number-test.true in omega (arith, made, seats)),
     )
 
 pub new_seat-requires-clause-fresh : goal.new_seat-requires-clause-fresh
@@ -60,6 +60,7 @@ invariant_of-table c = let E = c.in-Ok.ensures.ok in let z : Setting = setting_o
   rooted = ap (λ (y : Setting). y.roots) (sym key);
   seated = ap (λ (y : Setting). y.seats) (sym key);
   some = search rules;
+  any = (let k = c.requires.counters in omega arith);
   words = E.0 ∙ ap length (c.as_slice.ensures.value ∙ c.in_ok-words.ensures.words) ∙ words_long z ∙ ap words_in (sym key);
   slots = E.1 ∙ ap length c.in_ok-slots.ensures ∙ length-map-range_with_len _ 0 z.roots ∙ ap (λ (y : Setting). y.roots) (sym key);
 }

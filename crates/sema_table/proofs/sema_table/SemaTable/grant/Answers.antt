@@ -5,6 +5,7 @@ use Rattle.sema_table.specs.Walks.{granting}
 use Rattle.std.proofs.Common.{true, false}
 use Rattle.step_table.specs.declared.word.Word.TheVariants.{Grant}
 use Rattle.step_table.specs.Event.{waiter}
+use Rattle.sema_table.proofs.Owned.{stood}
 use Rattle.sema_table.proofs.Granting.{granted, grants_at}
 use Rattle.sema_table.proofs.sema_table.SemaTable.grant.Goals as goal
 
@@ -17,7 +18,7 @@ store-requires c =
     = (λ i. address (r.table_is i).setting (Grant ((first ∙ sym c.number.ensures) i))) ∙ sym c.grant_word-word.ensures.at in (
       ap (λ (t : TableModel). t.id) at,
       (let low = c.grant_word-word.ensures.low in let e = ap (λ (t : TableModel). t.id.words) c.self.view_is in omega arith),
-      grants_at _ _ _ c.grant_word-word.result s.me a true (r.place_is ∙ ap (granting a) c.if-handed.true) r.limited word there,
+      grants_at _ _ _ c.grant_word-word.result s.me (stood r) a true (r.place_is ∙ ap (granting a) c.if-handed.true) r.limited word there,
     )
 
 pub store-requires-2 : goal.store-requires-2
@@ -29,7 +30,7 @@ store-requires-2 c =
     = (λ i. address (r.table_is i).setting (Grant ((first ∙ sym c.number.ensures) i))) ∙ sym c.grant_word-word.ensures.at in (
       ap (λ (t : TableModel). t.id) at,
       (let low = c.grant_word-word.ensures.low in let e = ap (λ (t : TableModel). t.id.words) c.self.view_is in omega arith),
-      grants_at _ _ _ c.grant_word-word.result s.me a false (r.place_is ∙ ap (granting a) c.if-handed.false) r.limited word there,
+      grants_at _ _ _ c.grant_word-word.result s.me (stood r) a false (r.place_is ∙ ap (granting a) c.if-handed.false) r.limited word there,
     )
 
 pub returns-then-handed-clause-granted : goal.returns-then-handed-clause-granted

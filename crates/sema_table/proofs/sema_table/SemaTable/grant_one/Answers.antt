@@ -3,6 +3,7 @@ use Rattle.step_table.specs.declared.word.Word.TheVariants.{Grant}
 use Rattle.step_table.specs.Event.{waiter}
 use Rattle.sema_table.specs.Setting.{address}
 use Rattle.sema_table.specs.Seats.{TableModel}
+use Rattle.sema_table.proofs.Owned.{stood}
 use Rattle.sema_table.proofs.GrantingMany.{granted_first, grants_first}
 use Rattle.sema_table.proofs.sema_table.SemaTable.grant_one.Goals as goal
 
@@ -15,7 +16,7 @@ store-requires c =
     = (λ i. address (r.table_is i).setting (Grant (first i))) ∙ sym c.grant_word-word.ensures.at in (
       ap (λ (t : TableModel). t.id) at,
       (let low = c.grant_word-word.ensures.low in let e = ap (λ (t : TableModel). t.id.words) c.self.view_is in omega arith),
-      grants_first _ _ _ c.grant_word-word.result s.me a r.place_is r.limited word there,
+      grants_first _ _ _ c.grant_word-word.result s.me (stood r) a r.place_is r.limited word there,
     )
 
 pub returns : goal.returns

@@ -5,7 +5,7 @@ use Rattle.step_table.specs.declared.word.Word.TheVariants.{Counter}
 use Rattle.step_table.specs.World.{SeatState}
 use Rattle.sema_table.specs.Seats.{TableModel}
 use Rattle.sema_table.specs.Walks.{moved_to}
-use Rattle.sema_table.proofs.Owned.{word_in}
+use Rattle.sema_table.proofs.Owned.{word_in, has_counter}
 use Rattle.sema_table.proofs.Allowing.{allowed_at}
 use Rattle.sema_table.proofs.Leading.{exchanged}
 use Rattle.sema_table.proofs.Walking.{walked_adds}
@@ -24,7 +24,7 @@ load-found-requires g c =
     let inside : N < length s.me.0.setting.starts = subst (λ (y : TableModel). N < length y.setting.starts) (sym t) (let e = c.number-word.ensures in let h = r.inside in omega arith) in (
       ap (λ (y : TableModel). y.id) (t ∙ sym c.self.view_is),
       word_in c.self.inside s c.self.invariant (t ∙ sym c.self.view_is) (Counter N) inside,
-      allowed_at _ _ _ N s.me (Acquiring a A5) (ap (λ (y : SeatState). y.place) i.walked.stands_is)
+      allowed_at _ _ _ N s.me (has_counter s inside) (Acquiring a A5) (ap (λ (y : SeatState). y.place) i.walked.stands_is)
           (let b = r.limited in let d = walked_adds c.args.token.now s (Acquiring a A5) (moved_to c.args.token.now (Acquiring a A5)) [] 0 i.walked in omega arith) (λ n. n)
           (λ b n known. record { fits = record { word = sym c.number-word.ensures; there = subst (λ k. k < length s.me.0.setting.starts) c.number-word.ensures inside; can = refl; becomes = refl }; apart = refl }),
     )
@@ -48,7 +48,7 @@ compare_exchange-requires g c =
     let inside : N < length u.me.0.setting.starts = subst (λ (y : TableModel). N < length y.setting.starts) (sym t) (let e = c.number-word.ensures in let h = r.inside in omega arith) in (
       ap (λ (y : TableModel). y.id) (t ∙ sym c.self.view_is),
       word_in c.self.inside u c.self.invariant (t ∙ sym c.self.view_is) (Counter N) inside,
-      allowed_at _ _ _ N u.me (Acquiring a (A6 (n - 1))) (ap (λ (y : SeatState). y.place) x.stands_is)
+      allowed_at _ _ _ N u.me (has_counter u inside) (Acquiring a (A6 (n - 1))) (ap (λ (y : SeatState). y.place) x.stands_is)
           (let b = r.limited in let d = walked_adds s u (Acquiring a A5) (moved_to s (Acquiring a (A6 (n - 1)))) [] 0 x in omega arith) (λ y. either (y == n) (n - 1) y)
           (λ b y known. record { fits = record { word = sym c.number-word.ensures; there = subst (λ k. k < length u.me.0.setting.starts) c.number-word.ensures inside; can = refl; becomes = exchanged n y some }; apart = refl }),
     )

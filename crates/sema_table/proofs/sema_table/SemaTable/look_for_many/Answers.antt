@@ -4,7 +4,7 @@ use Rattle.step_table.specs.declared.place.Place.TheVariants.{ReleasingMany}
 use Rattle.step_table.specs.declared.word.Word.TheVariants.{Waiters}
 use Rattle.sema_table.specs.Setting.{address}
 use Rattle.sema_table.specs.Seats.{TableModel}
-use Rattle.sema_table.proofs.Owned.{word_in}
+use Rattle.sema_table.proofs.Owned.{word_in, stood}
 use Rattle.sema_table.proofs.Allowing.{allowed_at}
 use Rattle.sema_table.proofs.GrantingMany.{looked_walk, looked_record}
 use Rattle.sema_table.proofs.sema_table.SemaTable.look_for_many.Goals as goal
@@ -16,7 +16,7 @@ load-requires c =
     let low = word_in c.self.inside s c.self.invariant at (Waiters a.counter) tt in (
       ap (λ (t : TableModel). t.id) at,
       (omega arith),
-      allowed_at _ _ _ c.waiter_word-word.result s.me (ReleasingMany a M4) r.place_is (let b = r.limited in omega arith) (λ n. n)
+      allowed_at _ _ _ c.waiter_word-word.result s.me (stood r) (ReleasingMany a M4) r.place_is (let b = r.limited in omega arith) (λ n. n)
           (λ b n known. record { fits = record { word = word; there = tt; can = refl; becomes = refl }; apart = refl }),
     )
 

@@ -7,7 +7,7 @@ use Rattle.step_table.proofs.Sums.{on_here}
 use Rattle.sema_table.specs.Setting.{root, address}
 use Rattle.sema_table.specs.Plays.{begin}
 use Rattle.sema_table.specs.Seats.{TableModel}
-use Rattle.sema_table.proofs.Owned.{word_in}
+use Rattle.sema_table.proofs.Owned.{word_in, stood}
 use Rattle.sema_table.proofs.Allowing.{allowed_at}
 use Rattle.sema_table.proofs.Stepping.{waiters_down}
 use Rattle.sema_table.proofs.Leading.{led}
@@ -23,7 +23,7 @@ fetch_sub-requires c =
     let low = word_in c.self.inside s c.self.invariant at (Waiters a.counter) tt in (
       ap (λ (t : TableModel). t.id) at,
       (omega arith),
-      allowed_at _ _ _ c.waiter_word-word.result s.me (Acquiring a A8) r.place_is (let b = r.limited in omega arith) (λ n. (n + 18446744073709551615) % 2 ^ 64)
+      allowed_at _ _ _ c.waiter_word-word.result s.me (stood r) (Acquiring a A8) r.place_is (let b = r.limited in omega arith) (λ n. (n + 18446744073709551615) % 2 ^ 64)
           (λ b n known. record {
             fits = record {
               word = word;

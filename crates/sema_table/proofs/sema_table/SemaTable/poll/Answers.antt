@@ -7,7 +7,7 @@ use Rattle.sema_table.specs.declared.answers.Polled.TheVariants.{Still, Woken, H
 use Rattle.sema_table.specs.Setting.{address}
 use Rattle.sema_table.specs.Seats.{TableModel, SeatModel, seat_of}
 use Rattle.sema_table.specs.Waking.{IsPolled}
-use Rattle.sema_table.proofs.Owned.{own}
+use Rattle.sema_table.proofs.Owned.{own, has_counter}
 use Rattle.sema_table.proofs.Allowing.{receives_at}
 use Rattle.sema_table.proofs.Walking.{added_few}
 use Rattle.sema_table.proofs.Polling.{still_seat, polled_still, woken_seat, polled_woken, handed_seat, polled_handed}
@@ -21,7 +21,7 @@ swap-found-requires c =
     = (λ i. address ((at ∙ c.self.view_is) i).setting (Grant (seat.token_is.number_is i))) ∙ sym c.grant_word-word.ensures.at in (
       ap (λ (t : TableModel). t.id) at,
       (let low = c.grant_word-word.ensures.low in let e = ap (λ (t : TableModel). t.id.words) c.self.view_is in omega arith),
-      receives_at _ _ _ c.grant_word-word.result s.me (Acquiring c.sleeping.inside.call (P c.sleeping.inside.turn)) seat.at (added_few s n 0 seat.token_is (omega arith)) word
+      receives_at _ _ _ c.grant_word-word.result s.me (has_counter s seat.inside) (Acquiring c.sleeping.inside.call (P c.sleeping.inside.turn)) seat.at (added_few s n 0 seat.token_is (omega arith)) word
           (λ b k known some. record { fits = record { word = word; there = known.there; can = lt-ltb 0 k some; becomes = refl }; apart = refl }),
     )
 

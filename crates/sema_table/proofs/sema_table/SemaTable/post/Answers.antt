@@ -11,7 +11,7 @@ use Rattle.sema_table.specs.Plays.{begin}
 use Rattle.sema_table.specs.Seats.{TableModel, SeatModel, seat_of}
 use Rattle.sema_table.specs.Walks.{moved_to}
 use Rattle.sema_table.specs.Tries.{releasing, IsPosted}
-use Rattle.sema_table.proofs.Owned.{own, counter_in, word_in}
+use Rattle.sema_table.proofs.Owned.{own, counter_in, word_in, has_counter}
 use Rattle.sema_table.proofs.Allowing.{allowed, allowed_at}
 use Rattle.sema_table.proofs.Stepping.{counter_up}
 use Rattle.sema_table.proofs.Walking.{added_few, walked_adds}
@@ -25,7 +25,7 @@ fetch_add-requires c =
     let inside : N < length s.me.0.setting.starts = subst (λ k. k < length s.me.0.setting.starts) (sym c.number-counter.ensures) (counter_in c.self.inside s n c.self.view_is c.seat.view_is c.requires.0 c.requires.1) in (
       ap (λ (t : TableModel). t.id) at,
       word_in c.self.inside s c.self.invariant at (Counter N) inside,
-      allowed _ _ _ N s.me (releasing N R1) (inr (inl (c.seat.invariant.free, inside))) (added_few s n 1 c.seat.invariant.token_is (let z = c.if-seat-eq0.false in omega (arith, z))) (λ n. (n + 1) % 2 ^ 64)
+      allowed _ _ _ N s.me (has_counter s inside) (releasing N R1) (inr (inl (c.seat.invariant.free, inside))) (added_few s n 1 c.seat.invariant.token_is (let z = c.if-seat-eq0.false in omega (arith, z))) (λ n. (n + 1) % 2 ^ 64)
           (λ b y known. record { fits = record { word = refl; there = inside; can = refl; becomes = counter_up (begin (releasing N R1) s.me.0) b N y known N inside refl }; apart = refl }),
     )
 
@@ -39,7 +39,7 @@ load-requires c =
     let low = word_in c.self.inside t c.self.invariant (walk.table_is ∙ at) (Waiters N) tt in (
       c.fetch_add.ensures.0 ∙ ap (λ (t : TableModel). t.id) at,
       (omega arith),
-      allowed_at _ _ _ c.waiter_word-word.result t.me (releasing N R2) (ap (λ (q : SeatState). q.place) walk.stands_is)
+      allowed_at _ _ _ c.waiter_word-word.result t.me (has_counter t {c = N} (subst (λ (y : TableModel). N < length y.setting.starts) (sym walk.table_is) (subst (λ k. k < length s.me.0.setting.starts) (sym c.number-counter.ensures) (counter_in c.self.inside s n c.self.view_is c.seat.view_is c.requires.0 c.requires.1)))) (releasing N R2) (ap (λ (q : SeatState). q.place) walk.stands_is)
           (let a = walked_adds s t (releasing N R1) (moved_to s (releasing N R2)) (Add N s.me.0.number ∷ []) 0 walk in let o = on_here s.me.0.number 1 in let b = added_few s n 1 c.seat.invariant.token_is (let z = c.if-seat-eq0.false in omega (arith, z)) in omega arith) (λ n. n)
           (λ b y known. record { fits = record { word = word; there = tt; can = refl; becomes = refl }; apart = refl }),
     )

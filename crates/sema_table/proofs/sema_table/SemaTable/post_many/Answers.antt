@@ -14,7 +14,7 @@ use Rattle.sema_table.specs.Seats.{TableModel, SeatModel, seat_of}
 use Rattle.sema_table.specs.ManySeats.{IsOwingMany}
 use Rattle.sema_table.specs.Walks.{moved_to}
 use Rattle.sema_table.specs.Many.{IsPostedMany}
-use Rattle.sema_table.proofs.Owned.{own, counter_in, word_in}
+use Rattle.sema_table.proofs.Owned.{own, counter_in, word_in, has_counter}
 use Rattle.sema_table.proofs.Allowing.{allowed, allowed_at}
 use Rattle.sema_table.proofs.Stepping.{counter_up_by}
 use Rattle.sema_table.proofs.Walking.{added_few, walked_adds}
@@ -30,7 +30,7 @@ fetch_add-requires c =
     let inside : N < length s.me.0.setting.starts = subst (λ k. k < length s.me.0.setting.starts) (sym c.number-counter.ensures) (counter_in c.self.inside s n c.self.view_is c.seat.view_is c.requires.seat.0 c.requires.seat.1) in (
       ap (λ (t : TableModel). t.id) at,
       word_in c.self.inside s c.self.invariant at (Counter N) inside,
-      allowed _ _ _ N s.me (ReleasingMany a M1) (inr (inl (c.seat.invariant.free, (inside, one, many)))) (added_few s n A c.seat.invariant.token_is c.if-seat-added.false) (λ n. (n + A) % 2 ^ 64)
+      allowed _ _ _ N s.me (has_counter s inside) (ReleasingMany a M1) (inr (inl (c.seat.invariant.free, (inside, one, many)))) (added_few s n A c.seat.invariant.token_is c.if-seat-added.false) (λ n. (n + A) % 2 ^ 64)
           (λ b y known. record { fits = record { word = refl; there = inside; can = refl; becomes = counter_up_by (begin (ReleasingMany a M1) s.me.0) b N y known N A inside refl many }; apart = refl }),
     )
 
@@ -45,7 +45,8 @@ load-requires c =
     let low = word_in c.self.inside t c.self.invariant (walk.table_is ∙ at) (Waiters N) tt in (
       c.fetch_add.ensures.0 ∙ ap (λ (t : TableModel). t.id) at,
       (omega arith),
-      allowed_at _ _ _ c.waiter_word-word.result t.me (ReleasingMany a M2) (ap (λ (q : SeatState). q.place) walk.stands_is)
+      allowed_at _ _ _ c.waiter_word-word.result t.me
+          (has_counter t {c = N} (subst (λ (y : TableModel). N < length y.setting.starts) (sym walk.table_is) (subst (λ k. k < length s.me.0.setting.starts) (sym c.number-counter.ensures) (counter_in c.self.inside s n c.self.view_is c.seat.view_is c.requires.seat.0 c.requires.seat.1)))) (ReleasingMany a M2) (ap (λ (q : SeatState). q.place) walk.stands_is)
           (let x = walked_adds s t (ReleasingMany a M1) (moved_to s (ReleasingMany a M2)) (AddMany N A s.me.0.number ∷ []) 0 walk in let o = on_here s.me.0.number A in let b = added_few s n A c.seat.invariant.token_is c.if-seat-added.false in omega arith) (λ n. n)
           (λ b y known. record { fits = record { word = word; there = tt; can = refl; becomes = refl }; apart = refl }),
     )

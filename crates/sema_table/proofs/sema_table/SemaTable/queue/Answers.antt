@@ -12,7 +12,7 @@ use Rattle.sema_table.specs.Setting.{root, address}
 use Rattle.sema_table.specs.Plays.{Ran, begin}
 use Rattle.sema_table.specs.Seats.{TableModel}
 use Rattle.sema_table.specs.Walks.{Walked, parked}
-use Rattle.sema_table.proofs.Owned.{word_in}
+use Rattle.sema_table.proofs.Owned.{word_in, stood}
 use Rattle.sema_table.proofs.Allowing.{gives_at}
 use Rattle.sema_table.proofs.Leading.{led}
 use Rattle.sema_table.proofs.Walking.{walked_row, ran_from}
@@ -44,7 +44,7 @@ store-requires c =
       E.0 ∙ ap (λ (t : TableModel). t.id) at,
       (omega arith),
       subst (λ (x : Me). Allows (IsKept key) c.self.inside.table.shared.table_id.slots c.insert.new.token.id x c.lock_word-word.result (λ _. 0) (λ _ u. (n : ℕ) × Ran x.0 n u.0 × (u.1 ≡ rest x.1))) (sym E.1.1)
-          (gives_at key _ _ _ m (Acquiring a A7) r.place_is (let b = r.limited in omega arith) q 0 refl
+          (gives_at key _ _ _ m (stood r) (Acquiring a A7) r.place_is (let b = r.limited in omega arith) q 0 refl
           (λ b n known. record { fits = record { word = word; there = tt; can = refl; becomes = refl }; word_is = refl; holds_it = on_here (root z a.counter) 1; is_record = told })),
     )
 

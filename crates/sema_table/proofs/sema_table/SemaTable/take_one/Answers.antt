@@ -9,7 +9,7 @@ use Rattle.sema_table.specs.Setting.{root, address}
 use Rattle.sema_table.specs.Plays.{Ran, begin}
 use Rattle.sema_table.specs.Seats.{TableModel, Token}
 use Rattle.sema_table.specs.Walks.{Stands, sought}
-use Rattle.sema_table.proofs.Owned.{word_in}
+use Rattle.sema_table.proofs.Owned.{word_in, stood}
 use Rattle.sema_table.proofs.Allowing.{allowed_at}
 use Rattle.sema_table.proofs.Stepping.{waiters_down}
 use Rattle.std.proofs.Common.{List, drop}
@@ -43,7 +43,7 @@ fetch_sub-requires c =
       E.0 ∙ ap (λ (t : TableModel). t.id) at,
       (omega arith),
       subst (λ (x : Me). Allows (IsKept key) c.self.inside.table.shared.table_id.slots c.remove_first.new.token.id x c.waiter_word-word.result (λ n. (n + 18446744073709551615) % 2 ^ 64) (λ n u. stepped x.0 n x u)) (sym E.1.1)
-          (allowed_at key _ _ c.waiter_word-word.result m (ReleasingMany a M5) place (let b = r.limited in omega arith) (λ n. (n + 18446744073709551615) % 2 ^ 64)
+          (allowed_at key _ _ c.waiter_word-word.result m (stood r) (ReleasingMany a M5) place (let b = r.limited in omega arith) (λ n. (n + 18446744073709551615) % 2 ^ 64)
           (λ b n known. record { fits = record { word = word; there = tt; can = refl; becomes = waiters_down (begin (ReleasingMany a M5) v) b c.waiter_word-word.result n known k word (lowered_some_many (begin (ReleasingMany a M5) v) b c.waiter_word-word.result n known a refl) }; apart = refl })),
     )
 

@@ -5,7 +5,7 @@ use Rattle.step_table.specs.declared.word.Word.TheVariants.{Counter}
 use Rattle.sema_table.specs.declared.answers.Tried.TheVariants.{Taken, Zero, Lost}
 use Rattle.sema_table.specs.Seats.{TableModel, SeatModel, seat_of}
 use Rattle.sema_table.specs.Tries.{acquiring, IsTried}
-use Rattle.sema_table.proofs.Owned.{own, counter_in, word_in}
+use Rattle.sema_table.proofs.Owned.{own, counter_in, word_in, has_counter}
 use Rattle.sema_table.proofs.Allowing.{allowed, allowed_at}
 use Rattle.sema_table.proofs.Leading.{exchanged}
 use Rattle.step_table.specs.World.{SeatState}
@@ -21,7 +21,7 @@ load-found-requires c =
     let inside : N < length c.seat.inside.token.me.0.setting.starts = subst (λ k. k < length c.seat.inside.token.me.0.setting.starts) (sym c.number-word.ensures) (counter_in c.self.inside c.seat.inside.token c.seat.inside.numbers c.self.view_is c.seat.view_is c.requires.0 c.requires.1) in (
       ap (λ (t : TableModel). t.id) at,
       word_in c.self.inside c.seat.inside.token c.self.invariant at (Counter N) inside,
-      allowed _ _ _ N c.seat.inside.token.me (acquiring N A1) (inr (inl (c.seat.invariant.free, inside))) (added_few c.seat.inside.token c.seat.inside.numbers 0 c.seat.invariant.token_is (omega arith)) (λ n. n)
+      allowed _ _ _ N c.seat.inside.token.me (has_counter c.seat.inside.token inside) (acquiring N A1) (inr (inl (c.seat.invariant.free, inside))) (added_few c.seat.inside.token c.seat.inside.numbers 0 c.seat.invariant.token_is (omega arith)) (λ n. n)
           (λ b n known. record { fits = record { word = refl; there = inside; can = refl; becomes = refl }; apart = refl }),
     )
 
@@ -45,7 +45,7 @@ compare_exchange-requires c =
     let inside : N < length t.me.0.setting.starts = subst (λ (y : TableModel). N < length y.setting.starts) (sym walk.table_is) (subst (λ j. j < length s.me.0.setting.starts) (sym c.number-word.ensures) (counter_in c.self.inside s n c.self.view_is c.seat.view_is c.requires.0 c.requires.1)) in (
       same ∙ ap (λ (t : TableModel). t.id) at,
       word_in c.self.inside t c.self.invariant (walk.table_is ∙ at) (Counter N) inside,
-      allowed_at _ _ _ N t.me (acquiring N (A2 (k - 1))) (ap (λ (q : SeatState). q.place) walk.stands_is)
+      allowed_at _ _ _ N t.me (has_counter t inside) (acquiring N (A2 (k - 1))) (ap (λ (q : SeatState). q.place) walk.stands_is)
           (let a = walked_adds s t (acquiring N A1) (moved_to s (acquiring N (A2 (k - 1)))) [] 0 walk in let b = added_few s n 0 c.seat.invariant.token_is (omega arith) in omega arith)
           (λ y. either (y == k) (k - 1) y) (λ b y known. record { fits = record { word = refl; there = inside; can = refl; becomes = exchanged k y some }; apart = refl }),
     )

@@ -9,7 +9,7 @@ use Rattle.sema_table.specs.Walks.{IsSame, Locked}
 use Rattle.sema_table.specs.Places.{Begins}
 use Rattle.sema_table.specs.Rule.{stands_by}
 use Rattle.sema_table.specs.Plays.{begin}
-use Rattle.sema_table.proofs.Owned.{word_in}
+use Rattle.sema_table.proofs.Owned.{word_in, starting}
 use Rattle.sema_table.proofs.Allowing.{allowed_takes}
 use Rattle.sema_table.proofs.Locking.{locking_adds, locking_event, has_locked}
 use Rattle.sema_table.proofs.sema_table.SemaTable.try_lock.Goals as goal
@@ -23,7 +23,7 @@ compare_exchange_with-requires c =
     let low = word_in c.self.inside s c.self.invariant at (Lock (counter_at p)) tt in (
       ap (λ (t : TableModel). t.id) at,
       (omega arith),
-      allowed_takes _ _ _ c.lock_word-word.result s.me p (subst (λ (y : TableModel). Begins (length y.setting.starts) s.me.0.place p) (sym r.table_is) r.begins)
+      allowed_takes _ _ _ c.lock_word-word.result s.me (starting r) p (subst (λ (y : TableModel). Begins (length y.setting.starts) s.me.0.place p) (sym r.table_is) r.begins)
           (let b = r.limited in let a = locking_adds p r.takes in omega arith)
           (λ b n known free. locking_event s.me.0.setting s.me.0.number (stands_by (begin p s.me.0)) b.words.lists p c.lock_word-word.result n r.takes word free),
     )

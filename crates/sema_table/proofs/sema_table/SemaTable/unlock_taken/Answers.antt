@@ -7,7 +7,7 @@ use Rattle.step_table.proofs.Sums.{on_here}
 use Rattle.sema_table.specs.Setting.{root, address}
 use Rattle.sema_table.specs.Plays.{begin}
 use Rattle.sema_table.specs.Seats.{TableModel}
-use Rattle.sema_table.proofs.Owned.{word_in}
+use Rattle.sema_table.proofs.Owned.{word_in, stood}
 use Rattle.sema_table.proofs.Allowing.{gives_at}
 use Rattle.sema_table.proofs.Leading.{led}
 use Rattle.sema_table.proofs.Walking.{walked_row, ran_from}
@@ -21,7 +21,7 @@ store-requires c =
     let low = word_in c.self.inside s c.self.invariant at (Lock a.counter) tt in (
       ap (λ (t : TableModel). t.id) at,
       (omega arith),
-      gives_at _ _ _ c.lock_word-word.result s.me (Acquiring a A9) r.place_is (let b = r.limited in omega arith) h.0 0 h.1
+      gives_at _ _ _ c.lock_word-word.result s.me (stood r) (Acquiring a A9) r.place_is (let b = r.limited in omega arith) h.0 0 h.1
           (λ b n known. record { fits = record { word = word; there = tt; can = refl; becomes = refl }; word_is = refl; holds_it = on_here (root s.me.0.setting a.counter) 1; is_record = h.2 }),
     )
 

@@ -2,7 +2,7 @@ use Rattle.std.proofs.Common.{◌≡◌, ℕ, sym, ap, subst, arith}
 use Rattle.step_table.specs.declared.word.Word.TheVariants.{Counter}
 use Rattle.sema_table.specs.Seats.{TableModel, SeatModel, seat_of}
 use Rattle.sema_table.specs.Tries.{IsValue}
-use Rattle.sema_table.proofs.Owned.{own, counter_in, word_in}
+use Rattle.sema_table.proofs.Owned.{own, counter_in, word_in, has_counter}
 use Rattle.sema_table.proofs.Allowing.{allowed_looks}
 use Rattle.sema_table.proofs.Trying.{looked_seat, is_value}
 use Rattle.sema_table.proofs.sema_table.SemaTable.value.Goals as goal
@@ -11,7 +11,7 @@ pub load-requires : goal.load-requires
 load-requires c =
     let at = own c.self.inside c.seat.inside.token c.seat.inside.numbers c.self.view_is c.seat.view_is c.requires.0 in let k : ℕ = c.args.counter in let is : c.number-word.result ≡ k = c.number-word.ensures in
     let low = word_in c.self.inside c.seat.inside.token c.self.invariant at (Counter k) (counter_in c.self.inside c.seat.inside.token c.seat.inside.numbers c.self.view_is c.seat.view_is c.requires.0 c.requires.1) in
-    (ap (λ (t : TableModel). t.id) at, (omega arith), allowed_looks _ _ _ _ c.seat.inside.token.me)
+    (ap (λ (t : TableModel). t.id) at, (omega arith), allowed_looks _ _ _ _ c.seat.inside.token.me (has_counter c.seat.inside.token (counter_in c.self.inside c.seat.inside.token c.seat.inside.numbers c.self.view_is c.seat.view_is c.requires.0 c.requires.1)))
 
 pub invariant_of-seat : goal.invariant_of-seat
 invariant_of-seat c =
