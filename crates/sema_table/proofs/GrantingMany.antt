@@ -1,5 +1,5 @@
 -- A release of many units from its root's lock on, row by row.
-use Rattle.std.proofs.Common.{◌≡◌, ◌≢◌, ℕ, ◌+◌, ◌-◌, ◌^◌, ◌<◌, ◌≤◌, zero, suc, nat_eq, nat_lt, ◌&&◌, if◌then◌else◌, not, MatchBool, Bool, true, false, List, [], ◌∷◌, ◌++◌, length, get_or, drop, sym, refl, ap, ◌∙◌, subst, arith, eq-eqb, ne_eqb, length-append}
+use Rattle.std.proofs.Common.{◌≡◌, ℕ, ◌+◌, ◌-◌, ◌^◌, ◌<◌, ◌≤◌, zero, suc, nat_eq, nat_lt, ◌&&◌, if◌then◌else◌, not, MatchBool, Bool, true, false, List, [], ◌∷◌, ◌++◌, length, get_or, drop, sym, refl, ap, ◌∙◌, subst, arith, eq-eqb, ne_eqb, length-append}
 use Rattle.std.specs.List.{All}
 use Rattle.std.proofs.lemmas.Bool.{lt-ltb}
 use mathlib.Core.Logic.{dite}
@@ -35,7 +35,7 @@ use Rattle.sema_table.specs.Walks.{Walked, HasRecord, moved_to, lists_of}
 use Rattle.sema_table.specs.ManyWalks.{sought_many, picking, with_hand, GrantedFirst}
 use Rattle.sema_table.proofs.Words.{listed_agree, same_record}
 use Rattle.sema_table.proofs.Allowing.{allowed_at}
-use Rattle.sema_table.proofs.Leading.{Goes, next_by, led, load_zero, load_some}
+use Rattle.sema_table.proofs.Leading.{Goes, led, load_zero, load_some}
 use Rattle.sema_table.proofs.Walking.{walked_row, ran_from}
 use Rattle.sema_table.proofs.Holding.{record_on}
 use Rattle.sema_table.proofs.Granting.{told_less}

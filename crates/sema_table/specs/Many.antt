@@ -26,11 +26,13 @@ abbrev pub IsPostedMany : SeatModel → ReleaseMany → PostedMany → Type 0
 IsPostedMany s r (Done t) =
     (t ≡ record s { left = s.left - r.units; sight = t.sight; strides = t.strides }) × ComesTo s Rest t
     × ((n : ℕ)
-    × CallsRows s (ReleasingMany r M1) t (AddMany r.counter r.units s.number ∷ []) ((ReleasingMany r M1, n) ∷ (ReleasingMany r M2, 0) ∷ []))
+    × CallsRows s (ReleasingMany r M1) t (AddMany r.counter r.units s.number ∷ [])
+    ((ReleasingMany r M1, n) ∷ (ReleasingMany r M2, 0) ∷ []))
 IsPostedMany s r (Owes t) =
     (t ≡ record s { left = s.left - r.units; sight = t.sight; strides = t.strides }) × ComesTo s (ReleasingMany r M3) t
     × ((n waits : ℕ)
-    × CallsRows s (ReleasingMany r M1) t (AddMany r.counter r.units s.number ∷ []) ((ReleasingMany r M1, n) ∷ (ReleasingMany r M2, waits + 1) ∷ []))
+    × CallsRows s (ReleasingMany r M1) t (AddMany r.counter r.units s.number ∷ [])
+    ((ReleasingMany r M1, n) ∷ (ReleasingMany r M2, waits + 1) ∷ []))
 
 -- what is told as the seat i takes these waits out, one after the other
 abbrev pub leaves : ℕ → ReleaseMany → List WaitId → List Entry

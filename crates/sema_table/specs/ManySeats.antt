@@ -1,5 +1,5 @@
 -- What a seat keeps of its token in the middle of a release of many units.
-use Rattle.std.specs.Prelude.{ℕ, ◌≤◌}
+use Rattle.std.specs.Prelude.{◌≤◌}
 use Rattle.step_table.specs.declared.place.ReleaseMany.{ReleaseMany}
 use Rattle.step_table.specs.declared.place.ManyRow.TheVariants.{M3}
 use Rattle.step_table.specs.declared.place.Place.TheVariants.{ReleasingMany}

@@ -1,5 +1,5 @@
 -- What the rows of a release of many units do to a token.
-use Rattle.std.specs.Prelude.{◌≡◌, ℕ, nat_lt, ◌&&◌, drop, if◌then◌else◌, ◌+◌, ◌^◌, ◌<◌, ◌≤◌, true, List, [], ◌∷◌, length}
+use Rattle.std.specs.Prelude.{◌≡◌, nat_lt, ◌&&◌, drop, if◌then◌else◌, ◌+◌, ◌^◌, ◌<◌, ◌≤◌, true, List, [], ◌∷◌, length}
 use Rattle.waiters.specs.declared.wait.WaitId.{WaitId}
 use Rattle.step_table.specs.declared.place.ReleaseMany.{ReleaseMany}
 use Rattle.step_table.specs.declared.place.ManyRow.TheVariants.{M5, M6, M7}

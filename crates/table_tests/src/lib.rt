@@ -15,6 +15,8 @@ mod limit_tests;
 #[cfg(test)]
 mod lock_tests;
 #[cfg(test)]
+mod many_tests;
+#[cfg(test)]
 mod order_tests;
 #[cfg(test)]
 mod seats;

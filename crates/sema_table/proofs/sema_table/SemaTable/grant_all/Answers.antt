@@ -1,9 +1,9 @@
-use Rattle.std.proofs.Common.{◌≡◌, ℕ, ◌<◌, ◌≤◌, length, get_or, map, sym, ap, ◌∙◌, subst, arith}
+use Rattle.std.proofs.Common.{◌≡◌, ℕ, ◌<◌, ◌≤◌, length, get_or, sym, ap, ◌∙◌, subst, arith}
 use Rattle.std.proofs.lemmas.List.{length-map}
 use Rattle.waiters.specs.declared.wait.WaitId.{WaitId}
 use Rattle.step_table.specs.Event.{waiter}
 use Rattle.step_table.specs.Counting.{wait}
-use Rattle.sema_table.proofs.WakeningMany.{seat_at, nth, left_is, stands_granting, granted_none, granted_more, granted_all}
+use Rattle.sema_table.proofs.WakeningMany.{seat_at, left_is, stands_granting, granted_none, granted_more, granted_all}
 use Rattle.sema_table.proofs.sema_table.SemaTable.grant_all.Goals as goal
 
 pub loop-seat-init : goal.loop-seat-init

@@ -7,17 +7,13 @@ use Rattle.sema_table.specs.declared.view.Setting.{Setting}
 use Rattle.sema_table.specs.declared.view.Record.TheVariants.{Root}
 use Rattle.sema_table.specs.Setting.{root, address}
 use Rattle.sema_table.specs.Plays.{Ran, begin}
-use Rattle.sema_table.specs.Seats.{TableModel, Token}
-use Rattle.sema_table.specs.Walks.{Stands, sought}
+use Rattle.sema_table.specs.Seats.{TableModel}
 use Rattle.sema_table.proofs.Owned.{word_in, stood}
 use Rattle.sema_table.proofs.Allowing.{allowed_at}
 use Rattle.sema_table.proofs.Stepping.{waiters_down}
 use Rattle.std.proofs.Common.{List, drop}
 use Rattle.atomic_table.specs.Table.{Allows}
 use Rattle.waiters.specs.declared.wait.WaitId.{WaitId}
-use Rattle.step_table.specs.Event.{by_first}
-use Rattle.step_table.specs.Counting.{counter_at}
-use Rattle.step_table.specs.declared.place.Release.{Release}
 use Rattle.sema_root.specs.Treap.{Treap}
 use Rattle.sema_table.specs.Rule.{lists_by, IsKept, setting_of}
 use Rattle.sema_table.specs.Plays.{Me, stepped}
