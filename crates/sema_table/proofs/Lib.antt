@@ -29,5 +29,5 @@ pub mod WakeningMany
 pub mod Making
 pub mod Sitting
 pub mod Reckoning
-pub mod Looked_together
+pub mod LookingTogether
 pub mod Lawful

@@ -17,6 +17,8 @@ mod lock_tests;
 #[cfg(test)]
 mod many_tests;
 #[cfg(test)]
+mod meet_tests;
+#[cfg(test)]
 mod order_tests;
 #[cfg(test)]
 mod seats;

@@ -5,7 +5,7 @@ use Rattle.sema_table.specs.Seats.{TableModel, SeatModel, Token, seat_of}
 use Rattle.sema_table.specs.Meeting.{sitting, HasMet}
 use Rattle.sema_table.proofs.Owned.{own}
 use Rattle.sema_table.proofs.Sitting.{spares_kept, sits_kept}
-use Rattle.sema_table.proofs.Looked_together.{has_word, someones, may_meet, may_part, one_seat, other_seat, have_met}
+use Rattle.sema_table.proofs.LookingTogether.{has_word, someones, may_meet, may_part, one_seat, other_seat, have_met}
 use Rattle.sema_table.proofs.sema_table.SemaTable.meet.Goals as goal
 
 pub split_seat-spare-requires : goal.split_seat-spare-requires
