@@ -32,7 +32,7 @@ use Rattle.sema_table.specs.declared.view.Setting.{Setting}
 use Rattle.sema_table.specs.declared.view.Record.{Record}
 use Rattle.sema_table.specs.declared.view.Record.TheVariants.{Root}
 use Rattle.sema_table.specs.Setting.{root, layout, address, IsThere}
-use Rattle.sema_table.specs.Rule.{stands_by, sight_by, seeing, lists_by, IsRecord, Homes, AtHome, Knows, view_of, IsSomeones, Sits, HasSeats, IsKept}
+use Rattle.sema_table.specs.Rule.{stands_by, sight_by, seeing, lists_by, IsRecord, Homes, AtHome, IsSomeones, Sits, HasSeats, IsKept}
 use Rattle.sema_table.specs.Plays.{Me, Strode, Ran, begin, took}
 use Rattle.sema_table.specs.Plays as plays
 use Rattle.sema_table.proofs.Words.{low_root, is_lock, locks_unwritten, listed_agree, same_record}

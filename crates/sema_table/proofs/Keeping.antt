@@ -1,7 +1,7 @@
 -- A row of the step table keeps the rule, whichever row it is.
-use Rattle.std.proofs.Common.{◌≡◌, ◌≢◌, ℕ, zero, suc, ◌+◌, ◌^◌, ◌<◌, ◌≤◌, IsTrue, List, [], ◌∷◌, length, get_or, set, slice_index, sym, refl, ap, ◌∙◌, subst, ⊎_elim, arith, length-set, get_or-set_other, get_or-set_same}
+use Rattle.std.proofs.Common.{◌≡◌, ◌≢◌, ℕ, ◌+◌, ◌^◌, ◌<◌, ◌≤◌, IsTrue, List, length, get_or, set, slice_index, sym, refl, ap, ◌∙◌, subst, ⊎_elim, arith, length-set, get_or-set_other, get_or-set_same}
 use mathlib.Core.Logic.{dite}
-use mathlib.Core.Option.{some, some-ne-none}
+use mathlib.Core.Option.{some}
 use native.Mathlib.Decide.{ℕ_discrete}
 use lib.ListN.{get_elem?}
 use Rattle.atomic_table.specs.Table.{State}
@@ -28,7 +28,6 @@ use Rattle.sema_law.proofs.Promises.{the_law}
 use Rattle.sema_law.proofs.Accounts.{the_accounts}
 use Rattle.sema_law.proofs.SemaPaths.{the_sema_paths}
 use Rattle.sema_table.specs.declared.view.View.{View}
-use Rattle.sema_table.specs.declared.view.Guest.{Guest}
 use Rattle.sema_table.specs.declared.view.Setting.{Setting}
 use Rattle.sema_table.specs.declared.view.Record.{Record}
 use Rattle.sema_table.specs.Setting.{root, layout, address, IsThere}

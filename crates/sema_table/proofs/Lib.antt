@@ -29,5 +29,6 @@ pub mod WakeningMany
 pub mod Making
 pub mod Sitting
 pub mod Reckoning
+pub mod Gathering
 pub mod LookingTogether
 pub mod Lawful

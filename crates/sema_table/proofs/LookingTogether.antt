@@ -1,21 +1,19 @@
 -- What two seats have that met.
-use Rattle.std.proofs.Common.{◌≡◌, ◌≢◌, ℕ, ◌<◌, List, [], ◌∷◌, length, sym, refl, ap, ◌∙◌, subst, arith}
-use Rattle.atomic_table.specs.Table.{Allows, Splits, Joins}
+use Rattle.std.proofs.Common.{◌≡◌, ◌≢◌, ℕ, ◌<◌, [], ◌∷◌, length, sym, ap, ◌∙◌, subst, arith}
+use Rattle.atomic_table.specs.Table.{Allows, Splits}
 use Rattle.step_table.specs.declared.word.Word.TheVariants.{Counter}
 use Rattle.step_table.specs.Path.{looks}
 use Rattle.sema_table.specs.declared.view.View.{View}
-use Rattle.sema_table.specs.declared.view.Guest.{Guest}
 use Rattle.sema_table.specs.declared.view.Setting.{Setting}
 use Rattle.sema_table.specs.declared.seat.Numbers.{Numbers}
 use Rattle.sema_table.specs.declared.sema_table.SemaTable.TheInside.{Inside}
-use Rattle.sema_table.specs.Setting.{words_in}
-use Rattle.sema_table.specs.Rule.{IsSomeones, view_of, nobody, IsKept}
+use Rattle.sema_table.specs.Rule.{IsSomeones, view_of, IsKept}
 use Rattle.sema_table.specs.Plays.{Me, Strode}
 use Rattle.sema_table.specs.Shared.{table_by}
-use Rattle.sema_table.specs.Seats.{TableModel, SeatModel, Token, table_of, seat_of, IsSeat}
+use Rattle.sema_table.specs.Seats.{TableModel, Token, table_of, seat_of, IsSeat}
 use Rattle.sema_table.specs.Meeting.{guest_of, sitting, parting, parted, met_at, HasMet}
 use Rattle.sema_table.proofs.Owned.{IsMade}
-use Rattle.sema_table.proofs.Sitting.{sits_kept, meets_kept, parts_kept, met_looks, met_seat}
+use Rattle.sema_table.proofs.Sitting.{meets_kept, parts_kept, met_looks, met_seat}
 
 -- a table has a word, and its seats are somebody's
 pub has_word : (x : Inside) → IsMade x → 0 < x.table.shared.table_id.words

@@ -12,7 +12,7 @@ use Rattle.sema_table.specs.Walks.{Stands, Starts}
 use Rattle.sema_table.proofs.Words.{inside}
 
 abbrev pub IsMade : Inside → Type 0
-IsMade x = IsTable (table_by x).id (table_by x).setting x.counters x.roots x.seats
+IsMade x = IsTable (table_by x).id (table_by x).setting x.counters x.roots x.seats x.limit
 
 module _ (x : Inside) (s : Token) (n : Numbers) {t : TableModel} {seat : SeatModel} (is : table_by x ≡ t) (seen : seat_of s n ≡ seat) (of : seat.table ≡ t) where
   -- the seat's table is this one

@@ -18,7 +18,6 @@ use Rattle.step_table.specs.Counting.{total}
 use Rattle.step_table.proofs.Sums.{put_here, put_else, total_zero, total_suc, total_same, total_change, total_has}
 use Rattle.sema_law.specs.Lawful.{IsParked, IsLawfulWorld, added}
 use Rattle.sema_law.specs.Balances.{added_by, taken}
-use Rattle.sema_law.specs.Bounds.{AllRest}
 use Rattle.sema_law.specs.Served.{served}
 use Rattle.sema_law.proofs.Promises.{the_law}
 use Rattle.sema_law.proofs.Accounts.{the_accounts}
@@ -27,12 +26,12 @@ use Rattle.sema_table.specs.declared.view.Guest.{Guest}
 use Rattle.sema_table.specs.declared.view.Setting.{Setting}
 use Rattle.sema_table.specs.declared.view.Record.{Record}
 use Rattle.sema_table.specs.declared.seat.Numbers.{Numbers}
-use Rattle.sema_table.specs.Setting.{root, layout}
+use Rattle.sema_table.specs.Setting.{layout}
 use Rattle.sema_table.specs.Places.{is_free}
-use Rattle.sema_table.specs.Rule.{sight_by, IsSomeones, In, AreApart, view_of, Knows, Sits, HasSeats, IsKept}
+use Rattle.sema_table.specs.Rule.{sight_by, IsSomeones, In, AreApart, view_of, Sits, HasSeats, IsKept}
 use Rattle.sema_table.specs.Seats.{Token, SeatModel, seat_of, IsSeat}
 use Rattle.sema_table.specs.Meeting.{guest_of}
-use Rattle.sema_table.specs.Closing.{sum_by, has_added, was_given, ClosedModel, IsClosed}
+use Rattle.sema_table.specs.Closing.{sum_by, has_added, was_given, IsGuestOf, AreGuestsOf, IsClosed}
 use Rattle.sema_table.proofs.Adding.{own_adds}
 use Rattle.sema_table.proofs.Beginning.{begun}
 
@@ -90,18 +89,6 @@ module _ (n : ℕ) (gs : List Guest) (apart : AreApart gs) (low : (g : Guest) �
       all_zeros : (n : ℕ) → total n (λ k. 0) ≡ 0
       all_zeros zero = total_zero (λ k. 0)
       all_zeros (suc n) = let a = all_zeros n in let b = total_suc n (λ k. 0) in omega arith
-
--- the guest is that of this seat, which may begin a call
-pub record IsGuestOf (z : Setting) (g : Guest) (s : SeatModel) : Type 0 where
-  pub free : is_free g.place ≡ true
-  pub given : g.taken ≡ s.taken
-  pub left : s.left + added_by g.number g.seen ≡ z.limit
-  pub seen : g.seen ≡ s.sight.seen
-
-abbrev pub AreGuestsOf : Setting → List Guest → List SeatModel → Type 0
-AreGuestsOf z [] [] = Unit {0}
-AreGuestsOf z (g ∷ gs) (s ∷ ss) = IsGuestOf z g s × AreGuestsOf z gs ss
-AreGuestsOf z _ _ = ⊥
 
 pub guest_is : (t : Token) (n : Numbers) → IsSeat t n → IsGuestOf t.me.0.setting (guest_of t.me.0) (seat_of t n)
 guest_is t n is = record { free = is.free; given = is.token_is.taken_is; left = is.token_is.left_is; seen = refl }
@@ -230,9 +217,10 @@ module _ (z : Setting) (s : State Record View) (r : IsKept z s) (id : ℕ) (v : 
   balance : total (length z.starts) (slice_index s.words) + sum_by was_given seats ≡ total (length z.starts) (layout z).starts + sum_by (has_added z.limit) seats
   balance = let a = the_accounts.balanced_in_all m r.world r.reached in let b = total_same (length z.starts) (slice_index s.words) r.world.words.numbers value_is in let c = given_all in let d = added_all in omega arith
 
-  pub is_closed : (values : List ℕ) → ((k : ℕ) → k < length z.starts → slice_index values k ≡ slice_index s.words k)
+  pub is_closed : (values : List ℕ) → length values ≡ length z.starts → ((k : ℕ) → k < length z.starts → slice_index values k ≡ slice_index s.words k)
       → IsClosed z seats (record { values = values; releases = sum_by (has_added z.limit) seats; acquires = sum_by was_given seats })
-  is_closed values same = record {
+  is_closed values each same = record {
+    each = each;
     world = rested.world;
     reached = rested.reached;
     lawful = the_law.reached m rested.world rested.reached;

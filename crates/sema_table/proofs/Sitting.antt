@@ -1,29 +1,26 @@
 -- The rule is kept where seats come to sit in one view, look together, and part.
-use Rattle.std.proofs.Common.{◌≡◌, ◌≢◌, ℕ, ◌+◌, ◌^◌, ◌<◌, ◌≤◌, List, [], ◌∷◌, ◌++◌, length, set, slice_index, sym, refl, ap, ◌∙◌, subst, ⊎_elim, inl, inr, arith}
-use mathlib.Core.Logic.{dite}
+use Rattle.std.proofs.Common.{◌≡◌, ◌≢◌, ℕ, ◌<◌, List, [], ◌∷◌, ◌++◌, length, set, slice_index, sym, refl, ap, ◌∙◌, subst, ⊎_elim, inl, inr, arith}
 use mathlib.Core.Option.{some}
-use native.Mathlib.Decide.{ℕ_discrete}
 use lib.ListN.{get_elem?}
 use Rattle.atomic_table.specs.Table.{State, Allows, Splits, Joins, keeps, carried_after}
 use Rattle.atomic_table.proofs.Lists.{at_set, set_again, set_else}
-use Rattle.step_table.specs.declared.word.Word.{Word}
 use Rattle.step_table.specs.declared.word.Word.TheVariants.{Counter}
 use Rattle.step_table.specs.World.{put}
-use Rattle.step_table.specs.Path.{Deed, looks}
+use Rattle.step_table.specs.Path.{looks}
 use Rattle.step_table.proofs.Sums.{put_here, put_else}
 use Rattle.sema_table.specs.declared.view.View.{View}
 use Rattle.sema_table.specs.declared.view.Guest.{Guest}
 use Rattle.sema_table.specs.declared.view.Setting.{Setting}
 use Rattle.sema_table.specs.declared.view.Record.{Record}
 use Rattle.sema_table.specs.declared.seat.Numbers.{Numbers}
-use Rattle.sema_table.specs.Rule.{IsSomeones, In, AreApart, view_of, nobody, Knows, Sits, HasSeats, IsKept}
+use Rattle.sema_table.specs.Rule.{IsSomeones, In, AreApart, view_of, nobody, Sits, HasSeats, IsKept}
 use Rattle.sema_table.specs.Plays.{Me, Strode}
-use Rattle.sema_table.specs.Seats.{Token, SeatModel, seat_of, IsToken, IsSeat}
-use Rattle.sema_table.specs.Meeting.{guest_of, staying, vacant, sitting, parting, parted, met_at}
+use Rattle.sema_table.specs.Seats.{Token, SeatModel, seat_of, IsSeat}
+use Rattle.sema_table.specs.Meeting.{guest_of, alone, staying, vacant, sitting, parting, parted, met_at}
 use Rattle.sema_table.specs.Tries.{LooksAt}
 use Rattle.sema_table.proofs.Making.{at_end}
 use Rattle.sema_table.proofs.Allowing.{Owed, own_name, seen_in, sits_now, looked_at, views_kept}
-use Rattle.sema_table.proofs.Trying.{looks_at, looked_token, looked_seat}
+use Rattle.sema_table.proofs.Trying.{looks_at, looked_seat}
 
 abbrev pub Kept : Type 0
 Kept = State Record View
@@ -59,6 +56,29 @@ spares_kept z id v s r at = respotted z s r r.spot (set s.views id v ++ nobody �
     (λ (was : get_elem? (set s.views id v) j ≡ some u). let old : get_elem? s.views j ≡ some u = ap (λ (l : List View). get_elem? l j) (sym (set_again s.views id v at)) ∙ was in (r.views j u old h, r.maker j u old h))
     (λ (t : (j ≡ length (set s.views id v)) × (nobody ≡ u)). absurd (vacant_not u t.1 h))
     (at_end (set s.views id v) nobody u j e))
+
+-- guests may be forgotten
+pub forgets_kept : (z : Setting) (id : ℕ) (v : View) → IsSomeones v → Splits (IsKept z) id v (alone v) (vacant v)
+forgets_kept z id v some_v s r at = let o = r.views id v at some_v in respotted z s r r.spot (set s.views id (alone v) ++ nobody ∷ []) (λ j u e h. ⊎_elim
+    (λ (was : get_elem? (set s.views id (alone v)) j ≡ some u). ⊎_elim
+    (λ (q : (j ≡ id) × (alone v ≡ u)). subst (λ (y : ℕ × View). HasSeats z r.world r.spot r.made y.0 y.1 × (0 < y.1.made → (y.1.number ≡ 0) × (y.1.made ≡ r.made))) (λ k. (sym q.0 k, q.1 k)) (
+      record {
+        own = record {
+          place_is = o.own.place_is;
+          is_made = o.own.is_made;
+          setting_is = o.own.setting_is;
+          knows = record { meets = o.own.knows.meets; held = o.own.knows.held; takes = o.own.knows.takes };
+        };
+        guests = λ g i. absurd i;
+        others = λ g i. absurd i;
+        apart = tt;
+      },
+      r.maker id v at some_v,
+    ))
+    (λ (q : (j ≢ id) × (get_elem? s.views j ≡ some u)). (r.views j u q.1 h, r.maker j u q.1 h))
+    (at_set s.views id j (alone v) u was))
+    (λ (t : (j ≡ length (set s.views id (alone v))) × (nobody ≡ u)). absurd (vacant_not u t.1 h))
+    (at_end (set s.views id (alone v)) nobody u j e))
 
 -- the seats of a view sit at another place
 sits_at : (z : Setting) (s : Kept) (r : IsKept z s) (spot : ℕ → ℕ) (j k : ℕ) (v : View) → Sits z r.world r.spot r.made j v → spot v.number ≡ k → Sits z r.world spot r.made k v

@@ -1,17 +1,21 @@
 -- What a closed table tells.
-use Rattle.std.specs.Prelude.{◌≡◌, ℕ, ◌+◌, ◌-◌, ◌<◌, List, [], ◌∷◌, length, slice_index}
+use Rattle.std.specs.Prelude.{◌≡◌, ℕ, true, ◌+◌, ◌-◌, ◌<◌, List, [], ◌∷◌, length, slice_index}
+use Rattle.std.specs.List.{All}
 use Rattle.step_table.specs.World.{SemaWorld}
 use Rattle.step_table.specs.Steps.{IsReached}
 use Rattle.step_table.specs.Path.{GoesOn}
 use Rattle.step_table.specs.Counting.{total}
 use Rattle.step_table.specs.Journal.{plain_start, replay}
 use Rattle.sema_law.specs.Lawful.{IsLawfulWorld, added}
-use Rattle.sema_law.specs.Balances.{taken}
+use Rattle.sema_law.specs.Balances.{taken, added_by}
 use Rattle.sema_law.specs.Bounds.{AllRest, IsCleared}
 use Rattle.sema_table.specs.declared.view.Setting.{Setting}
+use Rattle.sema_table.specs.declared.view.Guest.{Guest}
+use Rattle.sema_table.specs.Places.{is_free}
 use Rattle.sema_table.specs.Setting.{layout}
 use Rattle.sema_table.specs.Rule.{In}
-use Rattle.sema_table.specs.Seats.{SeatModel}
+use Rattle.sema_table.specs.Seats.{TableModel, SeatModel, Token, table_of}
+use Rattle.sema_table.specs.Meeting.{guest_of}
 
 -- how many units were added by these seats, and how many were given to them
 abbrev pub sum_by : (SeatModel → ℕ) → List SeatModel → ℕ
@@ -24,11 +28,36 @@ has_added limit s = limit - s.left
 abbrev pub was_given : SeatModel → ℕ
 was_given s = s.taken
 
+-- the guest is that of this seat, which may begin a call
+pub record IsGuestOf (z : Setting) (g : Guest) (s : SeatModel) : Type 0 where
+  pub free : is_free g.place ≡ true
+  pub given : g.taken ≡ s.taken
+  pub left : s.left + added_by g.number g.seen ≡ z.limit
+  pub seen : g.seen ≡ s.sight.seen
+
+-- the guests are those of these seats, in their order
+abbrev pub AreGuestsOf : Setting → List Guest → List SeatModel → Type 0
+AreGuestsOf z [] [] = Unit {0}
+AreGuestsOf z (g ∷ gs) (s ∷ ss) = IsGuestOf z g s × AreGuestsOf z gs ss
+AreGuestsOf z _ _ = ⊥
+
+-- a token of this table has these seats in its view, which have added so many units and were given so many
+pub record IsGathered (t : TableModel) (seats : List SeatModel) (token : Token) (releases acquires : ℕ) : Type 0 where
+  pub own : table_of token ≡ t
+  pub all : AreGuestsOf t.setting (guest_of token.me.0 ∷ token.me.0.guests) seats
+  pub releases_are : releases ≡ sum_by (has_added t.setting.limit) seats
+  pub acquires_are : acquires ≡ sum_by was_given seats
+
 -- the counters' numbers, in their order, and how many units were added and taken
 pub record ClosedModel : Type 0 where
   pub values : List ℕ
   pub releases : ℕ
   pub acquires : ℕ
+
+-- these are all seats of the table: each is one of its seats, and they are as many. None can come twice, since none can be copied
+pub record AreAll (t : TableModel) (seats : List SeatModel) : Type 0 where
+  pub own : All (λ s. s.table ≡ t) seats
+  pub count : length seats ≡ t.setting.seats
 
 -- there is one journal, of which each of these seats has seen a beginning, in a lawful world in which all rest. The values are those
 -- that it tells, and no wait is queued any more. The units that the seats added are those that it tells, and so are those that they
@@ -40,6 +69,7 @@ pub record IsClosed (z : Setting) (seats : List SeatModel) (c : ClosedModel) : T
   pub rest : AllRest (layout z) world
   pub cleared : IsCleared (layout z) world
   pub begins : (s : SeatModel) → In s seats → GoesOn world.journal s.sight.seen
+  pub each : length c.values ≡ length z.starts
   pub values : (k : ℕ) → k < length z.starts → slice_index c.values k ≡ (replay (plain_start (layout z).starts) world.journal).numbers k
   pub released : c.releases ≡ sum_by (has_added z.limit) seats
   pub added_all : c.releases ≡ added world.journal

@@ -6,7 +6,7 @@ use Rattle.step_table.specs.Path.{looks}
 use Rattle.sema_table.specs.declared.view.View.{View}
 use Rattle.sema_table.specs.declared.view.Guest.{Guest}
 use Rattle.sema_table.specs.declared.view.Record.{Record}
-use Rattle.sema_table.specs.Rule.{fresh, nobody, view_of}
+use Rattle.sema_table.specs.Rule.{nobody, view_of}
 use Rattle.sema_table.specs.Plays.{Me, Strode}
 use Rattle.sema_table.specs.Seats.{SeatModel}
 use Rattle.sema_table.specs.Tries.{LooksAt}
@@ -19,6 +19,10 @@ guest_of v =
 -- the view stays, and a token of no seat is made
 abbrev pub staying : View → View
 staying v = v
+
+-- the view without guests
+abbrev pub alone : View → View
+alone v = record v { guests = [] }
 
 abbrev pub vacant : View → View
 vacant v = nobody

@@ -1,5 +1,5 @@
 -- What a table's numbers say of what it was made with.
-use Rattle.std.specs.Prelude.{◌≡◌, ℕ, ◌<◌, length}
+use Rattle.std.specs.Prelude.{◌≡◌, ℕ, ◌^◌, ◌<◌, ◌≤◌, length}
 use Rattle.atomic_table.specs.Seated.{TableId}
 use Rattle.sema_table.specs.declared.view.Setting.{Setting}
 use Rattle.sema_table.specs.declared.sema_table.SemaTable.TheInside.{Inside}
@@ -7,12 +7,15 @@ use Rattle.sema_table.specs.Setting.{words_in}
 use Rattle.sema_table.specs.Rule.{setting_of}
 use Rattle.sema_table.specs.Seats.{TableModel}
 
-pub record IsTable (id : TableId) (z : Setting) (counters roots seats : ℕ) : Type 0 where
+pub record IsTable (id : TableId) (z : Setting) (counters roots seats limit : ℕ) : Type 0 where
   pub counted : counters ≡ length z.starts
   pub rooted : roots ≡ z.roots
   pub seated : seats ≡ z.seats
   pub some : 0 < roots
   pub any : 0 < counters
+  pub few : (0 < seats) × (seats ≤ 256)
+  pub limited : limit ≡ z.limit
+  pub low : limit ≤ 2 ^ 40
   pub words : id.words ≡ words_in z
   pub slots : id.slots ≡ z.roots
 

@@ -1,6 +1,6 @@
 //! How seats come to sit in one view, and leave it again.
 ghost use Rattle.sema_table.specs.Rule.{nobody};
-ghost use Rattle.sema_table.specs.Meeting.{staying, vacant, sitting, parting, parted, meets};
+ghost use Rattle.sema_table.specs.Meeting.{alone, staying, vacant, sitting, parting, parted, meets};
 
 use crate::view::{Record, View};
 use atomic_table::{Join, Play, Split};
@@ -10,6 +10,15 @@ pub struct Spares;
 
 impl Split<View> for Spares {
     ghost left = { staying };
+
+    ghost right = { vacant };
+}
+
+/// No guest is known of any more, and a token of no seat is made.
+pub struct Forgets;
+
+impl Split<View> for Forgets {
+    ghost left = { alone };
 
     ghost right = { vacant };
 }

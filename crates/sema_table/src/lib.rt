@@ -19,6 +19,8 @@
 
 mod acquires;
 mod answers;
+mod closed;
+mod closing;
 mod joins;
 mod laws;
 mod locks;
@@ -43,6 +45,7 @@ mod waking;
 mod waking_many;
 
 pub use answers::{Entered, Polled, PostRefused, Posted, Roused, Tried, Wake};
+pub use closed::Closed;
 pub use laws::law_of_the_table;
 pub use many_seat::{OwingMany, PostedMany};
 pub use seat::{Owing, Seat, Sleeping, Woken};

@@ -131,6 +131,7 @@ fn make(alloc: Global, settings: Settings) -> Result<(SemaTable, Vec<Seat>), NoM
         counters: settings.starts.len() as u32,
         roots: settings.roots,
         seats: settings.seats,
+        limit,
     };
     Ok((table, made))
 }

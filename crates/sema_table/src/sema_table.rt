@@ -18,6 +18,8 @@ pub struct SemaTable {
     pub(crate) counters: u32,
     pub(crate) roots: u32,
     pub(crate) seats: u32,
+    /// How many units each seat may add.
+    pub(crate) limit: u64,
 }
 
 impl Model for SemaTable {
@@ -29,7 +31,7 @@ impl Model for SemaTable {
 
     ghost view = { λ t. record { id = t.table.shared.table_id; setting = setting_of t.table.shared.key } };
 
-    ghost invariant = { λ t. IsTable t.table.shared.table_id (setting_of t.table.shared.key) t.counters t.roots t.seats };
+    ghost invariant = { λ t. IsTable t.table.shared.table_id (setting_of t.table.shared.key) t.counters t.roots t.seats t.limit };
 }
 
 impl SemaTable {
@@ -38,6 +40,13 @@ impl SemaTable {
         ensures { result ≡ length self.now.setting.starts }
     {
         self.counters
+    }
+
+    /// How many seats there are.
+    pub fn seats(&self) -> u32
+        ensures { result ≡ self.now.setting.seats }
+    {
+        self.seats
     }
 
     /// The root of a counter. A number below that of the roots is its own, and isn't divided: that takes as long as a step.

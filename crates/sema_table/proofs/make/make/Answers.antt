@@ -61,6 +61,9 @@ invariant_of-table c = let E = c.in-Ok.ensures.ok in let z : Setting = setting_o
   seated = ap (λ (y : Setting). y.seats) (sym key);
   some = search rules;
   any = (let k = c.requires.counters in omega arith);
+  few = ((let k = c.requires.seats.0 in omega arith), c.requires.seats.1);
+  limited = ap (λ (y : Setting). y.limit) (sym key);
+  low = c.requires.release_limit.1;
   words = E.0 ∙ ap length (c.as_slice.ensures.value ∙ c.in_ok-words.ensures.words) ∙ words_long z ∙ ap words_in (sym key);
   slots = E.1 ∙ ap length c.in_ok-slots.ensures ∙ length-map-range_with_len _ 0 z.roots ∙ ap (λ (y : Setting). y.roots) (sym key);
 }

@@ -1,4 +1,4 @@
-use Rattle.std.proofs.Common.{◌≡◌, ℕ, [], sym, refl, ap, ◌∙◌, subst}
+use Rattle.std.proofs.Common.{◌≡◌, sym, ap, ◌∙◌, subst}
 use Rattle.sema_table.specs.Rule.{IsSomeones}
 use Rattle.sema_table.specs.Plays.{Me}
 use Rattle.sema_table.specs.Seats.{TableModel, SeatModel, Token, seat_of}

@@ -1,0 +1,28 @@
+use Rattle.std.proofs.Common.{◌≡◌, ℕ, List, ◌∷◌, length, take, slice_index, sym, ap, ◌∙◌, subst, arith}
+use Rattle.std.proofs.lemmas.List.{length-take-le, get_or-take}
+use Rattle.std.specs.Mem.Slots.{slots_items, slots_counts}
+use Rattle.sema_table.specs.Rule.{IsKept}
+use Rattle.sema_table.specs.Seats.{TableModel, SeatModel}
+use Rattle.sema_table.specs.Meeting.{guest_of}
+use Rattle.sema_table.specs.Closing.{sum_by, has_added, was_given, AreGuestsOf, IsClosed}
+use Rattle.sema_table.proofs.LookingTogether.{someones}
+use Rattle.sema_table.proofs.Reckoning.{is_closed}
+use Rattle.sema_table.proofs.Gathering.{first_and_rest}
+use Rattle.sema_table.proofs.sema_table.SemaTable.close.Goals as goal
+
+pub returns : goal.returns
+returns c =
+    let t = c.args.self in let made = c.self.invariant in let view = c.self.view_is in let G = c.gather-token.ensures in let token = c.gather-token.result.0 in let F = c.close_with-words.ensures.values.2 in let s = F.0 in
+    let items = c.args.seats.items in let seated = made.seated in let few = made.few.0 in let seats = ap (λ (y : TableModel). y.setting.seats) view in let count = c.requires.count in
+    let rows = first_and_rest items c.remove-first.new.self.items c.remove-first.result (omega arith) c.remove-first.ensures.value c.remove-first.ensures.items in
+    let kept = subst (λ (y : TableModel). IsKept y.setting s) view F.1.0 in
+    let l = slots_items c.empty.new.closed.words in let k = c.self.inside.counters in
+    let counts = c.close_with-words.ensures.counts.0 in let wide = made.words in let counted = made.counted in
+    let long : length l ≡ c.self.inside.table.shared.table_id.words = ap (λ w. length (slots_items w)) c.empty.ensures.words ∙ sym (slots_counts c.close_with-words.result.words).0 ∙ counts in
+    let starts = ap (λ (y : TableModel). length y.setting.starts) view in
+    let each : length (take k l) ≡ length t.setting.starts = length-take-le k l (omega arith) ∙ counted ∙ starts in
+    subst (λ (q : ℕ × ℕ). IsClosed t.setting items (record { values = take k l; releases = q.0; acquires = q.1 }))
+    (λ i. ((ap (sum_by (has_added t.setting.limit)) rows ∙ sym G.releases_are) i, (ap (sum_by was_given) rows ∙ sym G.acquires_are) i))
+    (is_closed t.setting s kept token.id token.me.0 (someones c.self.inside made token (G.own ∙ sym view)) F.1.1 items
+    (subst (λ (r : List SeatModel). AreGuestsOf t.setting (guest_of token.me.0 ∷ token.me.0.guests) r) (sym rows) G.all) count (take k l) each
+    (λ j h. get_or-take k l j 0 (omega arith) ∙ ap (λ w. slice_index (slots_items w) j) c.empty.ensures.words ∙ ap (λ (ws : List ℕ). slice_index ws j) (sym F.2)))
