@@ -29,6 +29,13 @@ impl Model for Closed {
 }
 
 impl Closed {
+    /// How many counters there were.
+    pub fn counters(&self) -> u32
+        ensures { result ≡ length self.now.values }
+    {
+        self.counters
+    }
+
     /// The number of a counter.
     pub fn value(&self, counter: CounterId) -> u64
         requires { counter < length self.now.values }

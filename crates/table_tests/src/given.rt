@@ -5,7 +5,7 @@
 ghost use Rattle.std.specs.Prelude.{◌≡◌, ◌<◌, length, All, IfOk};
 ghost use Rattle.std.specs.Arc.{arc_value};
 
-use sema_table::{Seat, SemaTable, Settings, SetupError};
+use sema_table::{Closed, Seat, SemaTable, Settings, SetupError};
 use std::alloc::{AllocError, Global};
 use std::process::Abort;
 use std::sync::Arc;
@@ -89,6 +89,14 @@ pub(crate) fn two_seats(rt: &impl Abort, table: &SemaTable, seats: Vec<Seat>) ->
     let mut seats = seats;
     let second = last_seat(rt, table, &mut seats);
     (last_seat(rt, table, &mut seats), second)
+}
+
+/// Ends the table, with all its seats.
+pub(crate) fn closes(rt: &impl Abort, table: SemaTable, seats: Vec<Seat>) -> Closed
+    requires { All (λ s. s.table ≡ table) seats.items }
+{
+    assert!(rt; seats.len() == table.seats() as usize);
+    table.close(seats)
 }
 
 /// The counter of this number, which the table has.

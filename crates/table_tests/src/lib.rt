@@ -5,6 +5,8 @@
 #![tactic(auto)]
 
 #[cfg(test)]
+mod close_tests;
+#[cfg(test)]
 mod counter_tests;
 #[cfg(test)]
 mod given;
