@@ -1,20 +1,22 @@
-//! What the running table costs beside the machine's own words, in nanoseconds an operation: `table_bench TURNS` prints a line for
-//! each case.
+//! What the running table costs, in nanoseconds an operation: `table_bench CASE WORKERS TURNS` prints a line.
 //!
 //! `pair` adds a unit and takes it again, by one seat, with nobody waiting; `cycle` lets one seat queue its wait, another release
-//! and wake it, and the first take the unit, all in one thread. `pair words` and `cycle words` touch plain atomic words in the
-//! same way and the same order: the least that such a table can cost. In `cycle words and root` the wait goes into a root and out again.
-//! In the cases of `hands` two threads hand a unit back and forth over two counters, each waiting for the other: an operation is
-//! the way there and back.
+//! and wake it, and the first take the unit, all in one thread. `pair-words` and `cycle-words` touch plain atomic words in the
+//! same way and the same order: the least that such a table can cost. In `cycle-root` the wait goes into a root and out again.
+//!
+//! The other cases have a thread for each worker, and close the table at the end: whether nobody was lost, and no unit. In
+//! `threads` each releases one counter and acquires it, in odd turns with handoff and lifo; in `spread` one of 1,000 counters over
+//! 251 roots, another in each turn. In `hands`, `lifo` and `handoff` two hand a unit back and forth over two counters, each waiting
+//! for the other, in order, with lifo and with handoff, and in `two` two units by one add: an operation is the way there and back.
 #![tactic(auto)]
 
 ghost use Rattle.std.specs.Prelude.{◌≡◌, ◌<◌, length};
 
 mod cases;
-mod hands;
+mod threads;
 mod words;
 
-use crate::hands::{Way, new_player, play};
+use crate::threads::Plan;
 use crate::words::Words;
 use anyhow::{Result, bail};
 use sema_root::SortedRoot;
@@ -22,63 +24,62 @@ use sema_table::{Seat, SemaTable, Settings};
 use std::alloc::Global;
 use std::env;
 use std::num::NonZeroU32;
-use std::sync::{Arc, Wait};
-use std::thread::Threads;
+use std::sync::Wait;
 use std::time::{Clock, Instant};
-use waiters::CounterId;
 
-/// Tells what a turn of so many cost since the start.
-fn tell(rt: &(impl Clock + Print), case: &str, start: &Instant, turns: u32) -> Result<()>
-    requires { 0 < turns }
-{
-    let tenths = start.elapsed(rt)?.as_nanos() / u128::from(turns / 10 + 1);
+/// Tells what each of so many operations cost since the start.
+fn tell(rt: &(impl Clock + Print), case: &str, start: &Instant, operations: u64) -> Result<()> {
+    let tenths = start.elapsed(rt)?.as_nanos() / u128::from(operations / 10 + 1);
     println!(rt; "{case} ns/op={}.{}", tenths / 10, tenths % 10)?;
     Ok(())
 }
 
-/// The least that a pair and a cycle cost.
-fn time_words(rt: &(impl Clock + Print), root: &mut SortedRoot, turns: u32) -> Result<()>
+/// The least that a pair or a cycle costs.
+fn time_words(
+    rt: &(impl Clock + Print),
+    root: &mut SortedRoot,
+    case: &str,
+    turns: u32,
+) -> Result<()>
     requires turns { 0 < turns }
     requires root { 0 < root.old.seats }
 {
     let words = Words::new();
     let start = Instant::now(rt)?;
-    let pairs = words.pairs(turns);
-    tell(rt, "pair words", &start, turns)?;
-    let start = Instant::now(rt)?;
-    let cycles = words.cycles(turns);
-    tell(rt, "cycle words", &start, turns)?;
-    let start = Instant::now(rt)?;
-    let cycles_at = words.cycles_at(root, turns);
-    tell(rt, "cycle words and root", &start, turns)?;
-    println!(rt; "seen {pairs} {cycles} {cycles_at}")?;
+    let seen = match case {
+        "pair-words" => words.pairs(turns),
+        "cycle-words" => words.cycles(turns),
+        _ => words.cycles_at(root, turns),
+    };
+    tell(rt, case, &start, u64::from(turns))?;
+    println!(rt; "seen {seen}")?;
     Ok(())
 }
 
-/// What a pair and a cycle cost.
+/// What a pair or a cycle costs.
 fn time_table(
     rt: &(impl Clock + Print + Wait),
     table: &SemaTable,
     first: Seat,
     second: Seat,
+    case: &str,
     turns: u32,
 ) -> Result<()>
-    requires turns { 0 < turns }
-    requires seats { (first.table ≡ table.now) × (second.table ≡ table.now) × (0 < length table.now.setting.starts) }
+    requires { (first.table ≡ table.now) × (second.table ≡ table.now) × (0 < length table.now.setting.starts) }
 {
     let start = Instant::now(rt)?;
-    let first = cases::pairs(rt, table, first, turns);
-    tell(rt, "pair", &start, turns)?;
-    let start = Instant::now(rt)?;
-    let _ = cases::cycles(rt, table, first, second, turns);
-    tell(rt, "cycle", &start, turns)?;
-    Ok(())
+    if case == "pair" {
+        let _ = cases::pairs(rt, table, first, turns);
+    } else {
+        let _ = cases::cycles(rt, table, first, second, turns);
+    }
+    tell(rt, case, &start, u64::from(turns))
 }
 
-/// A table with so many counters at 0, at one root, and two seats.
-fn settings(alloc: Global, counters: usize) -> Result<Settings> {
+/// A table with one counter at 0 and two seats.
+fn settings(alloc: Global) -> Result<Settings> {
     Ok(Settings {
-        starts: vec![in alloc; 0; counters]?,
+        starts: vec![in alloc; 0; 1]?,
         seats: 2,
         roots: 1,
         seed: 1,
@@ -86,84 +87,39 @@ fn settings(alloc: Global, counters: usize) -> Result<Settings> {
     })
 }
 
-/// Makes the table, and times it.
-fn time(rt: &(impl Clock + Print + Wait), alloc: Global, turns: u32) -> Result<()>
-    requires { 0 < turns }
-{
-    time_words(rt, &mut SortedRoot::with_room(alloc, 2)?, turns)?;
-    let Ok((table, mut seats)) = SemaTable::new(alloc, settings(alloc, 1)?) else {
-        bail!("no table")
-    };
-    let (Some(second), Some(first)) = (seats.pop(), seats.pop()) else {
-        bail!("no seats")
-    };
-    time_table(rt, &table, first, second, turns)
-}
-
-/// What it costs two threads to hand a unit back and forth in this way.
-fn time_hands<R: Clock + Print + Threads + Wait + Copy + Send + 'static>(
-    rt: R,
+/// Makes the table, and times what one thread does with it.
+fn time_alone(
+    rt: &(impl Clock + Print + Wait),
     alloc: Global,
     case: &str,
-    way: Way,
     turns: u32,
-) -> Result<()>
-    requires { 0 < turns }
-{
-    let Ok((table, mut seats)) = SemaTable::new(alloc, settings(alloc, 2)?) else {
+) -> Result<()> {
+    let Ok((table, mut seats)) = SemaTable::new(alloc, settings(alloc)?) else {
         bail!("no table")
     };
     let (Some(second), Some(first)) = (seats.pop(), seats.pop()) else {
         bail!("no seats")
     };
-    if table.counters() < 2 {
-        bail!("no counters")
-    }
-    let Ok((first, _)) = table.release(&rt, first, CounterId::new(0), false) else {
-        bail!("no unit")
-    };
-    let (one, other) = (CounterId::new(0), CounterId::new(1));
-    let table = Arc::new(alloc, table)?;
-    let second = new_player(Arc::try_clone(&table)?, second, other, one);
-    let first = new_player(table, first, one, other);
-    let start = Instant::now(&rt)?;
-    if !play(rt, first, second, way, turns) {
-        bail!("no thread")
-    }
-    tell(&rt, case, &start, turns)
-}
-
-/// The three ways of handing over.
-fn time_all_hands<R: Clock + Print + Threads + Wait + Copy + Send + 'static>(
-    rt: R,
-    alloc: Global,
-    turns: u32,
-) -> Result<()>
-    requires { 0 < turns }
-{
-    let plain = Way {
-        lifo: false,
-        handoff: false,
-    };
-    time_hands(rt, alloc, "hands in order", plain, turns)?;
-    let lifo = Way {
-        lifo: true,
-        ..plain
-    };
-    time_hands(rt, alloc, "hands with lifo", lifo, turns)?;
-    let handoff = Way {
-        handoff: true,
-        ..plain
-    };
-    time_hands(rt, alloc, "hands with handoff", handoff, turns)
+    time_table(rt, &table, first, second, case, turns)
 }
 
 fn main(rt: HostRuntime) -> Result<()> {
-    let Some(word) = env::args(&rt)?.nth(1) else {
-        println!(rt; "usage: table_bench TURNS")?;
+    let mut words = env::args(&rt)?.skip(1);
+    let (Some(case), Some(workers), Some(turns)) = (words.next(), words.next(), words.next()) else {
+        println!(rt; "usage: table_bench CASE WORKERS TURNS")?;
         return Ok(());
     };
-    let turns = word.parse::<NonZeroU32>()?.get();
-    time(&rt, rt.alloc(), turns)?;
-    time_all_hands(rt, rt.alloc(), turns)
+    let case = case.as_str();
+    let workers = workers.parse::<NonZeroU32>()?.get();
+    let turns = turns.parse::<NonZeroU32>()?.get();
+    if let Some(plan) = Plan::of(case, workers, turns) {
+        return threads::time(&rt, rt.alloc(), case, &plan);
+    }
+    match case {
+        "pair" | "cycle" => time_alone(&rt, rt.alloc(), case, turns),
+        "pair-words" | "cycle-words" | "cycle-root" => {
+            time_words(&rt, &mut SortedRoot::with_room(rt.alloc(), 2)?, case, turns)
+        }
+        _ => bail!("no such case"),
+    }
 }

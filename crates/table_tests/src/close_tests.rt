@@ -12,13 +12,13 @@ use std::test::Fail;
 use waiters::CounterId;
 
 /// What was added in all, and what was given.
-fn adds_up(rt: &impl Abort, closed: &Closed, releases: u64, acquires: u64) {
+pub(crate) fn adds_up(rt: &impl Abort, closed: &Closed, releases: u64, acquires: u64) {
     assert!(rt; closed.releases() == releases);
     assert!(rt; closed.acquires() == acquires);
 }
 
 /// The last number of a counter.
-fn ends_at(rt: &impl Abort, closed: &Closed, number: u32, value: u64) {
+pub(crate) fn ends_at(rt: &impl Abort, closed: &Closed, number: u32, value: u64) {
     assert!(rt; number < closed.counters());
     assert!(rt; closed.value(CounterId::new(number)) == value);
 }

@@ -3,12 +3,10 @@
 //! What answers want of memory is made once more.
 
 ghost use Rattle.std.specs.Prelude.{◌≡◌, ◌<◌, length, All, IfOk};
-ghost use Rattle.std.specs.Arc.{arc_value};
 
 use sema_table::{Closed, Seat, SemaTable, Settings, SetupError};
 use std::alloc::{AllocError, Global};
 use std::process::Abort;
-use std::sync::Arc;
 use waiters::{CounterId, SeatId, WaitId};
 
 /// The settings of a table whose counters start at one number.
@@ -58,16 +56,6 @@ pub(crate) fn new_again(alloc: Global, sizes: &Sizes) -> Result<(SemaTable, Vec<
     match new_table(alloc, sizes) {
         Err(SetupError::NoMemory) => new_table(alloc, sizes),
         answer => answer,
-    }
-}
-
-/// The table to be shared, asked for once more where memory was refused.
-pub(crate) fn shared(alloc: Global, table: SemaTable) -> Result<Arc<SemaTable, Global>, AllocError>
-    ensures { IfOk result (λ shared. arc_value shared ≡ table) }
-{
-    match Arc::new(alloc, table) {
-        Ok(shared) => Ok(shared),
-        Err(refused) => Ok(Arc::new(alloc, refused.value)?),
     }
 }
 

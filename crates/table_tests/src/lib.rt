@@ -9,13 +9,11 @@ mod close_tests;
 #[cfg(test)]
 mod counter_tests;
 #[cfg(test)]
+mod crew_tests;
+#[cfg(test)]
 mod given;
 #[cfg(test)]
-mod handing_tests;
-#[cfg(test)]
 mod limit_tests;
-#[cfg(test)]
-mod lock_tests;
 #[cfg(test)]
 mod many_tests;
 #[cfg(test)]
@@ -24,8 +22,6 @@ mod meet_tests;
 mod order_tests;
 #[cfg(test)]
 mod seats;
-#[cfg(test)]
-mod thread_tests;
 #[cfg(test)]
 mod wait_tests;
 #[cfg(test)]

@@ -1,0 +1,167 @@
+//! Threads that share a table, one for each seat. The table is closed with them: nobody is lost, and no unit is.
+
+ghost use Rattle.std.specs.Prelude.{◌≡◌, All};
+
+use crate::close_tests::{adds_up, ends_at};
+use crate::given::{Sizes, last_seat, new_again, one_counter};
+use crate::seats::posts;
+use sema_table::{Closed, Seat, SemaTable};
+use std::alloc::Global;
+use std::process::Abort;
+use std::sync::Wait;
+use std::test::Fail;
+use std::thread::Threads;
+use table_crew::{Way, Work, run};
+use waiters::NoMemory;
+
+/// What seats do, each in a thread of its own, after so many units were added to counter 0.
+#[derive(Clone, Copy, Drop)]
+struct Plan {
+    sizes: Sizes,
+    units: u32,
+    work: Work,
+    turns: u32,
+}
+
+/// The last seat adds units to counter 0.
+fn begins(rt: &impl Abort, table: &SemaTable, seats: &mut Vec<Seat>, units: u32)
+    requires { All (λ s. s.table ≡ table.now) seats.old.items }
+    ensures { All (λ s. s.table ≡ table.now) seats.new.items }
+{
+    let mut seat = last_seat(rt, table, seats);
+    for _ in 0..units {
+        seat = posts(rt, table, seat, 0);
+    }
+    seats
+        .push(seat)
+        .expect(rt, "the room of a seat that was there");
+}
+
+/// All seats work, and the table is closed with them.
+fn works<R: Abort + Threads + Wait + Sync>(
+    rt: &R,
+    alloc: Global,
+    plan: &Plan,
+) -> Result<Closed, NoMemory> {
+    let Ok((table, mut seats)) = new_again(alloc, &plan.sizes) else {
+        return Err(NoMemory);
+    };
+    begins(rt, &table, &mut seats, plan.units);
+    assert!(rt; 0 < table.counters());
+    run(rt, alloc, table, seats, plan.work, plan.turns)
+}
+
+/// The same, once more where memory was refused.
+fn works_again<R: Abort + Threads + Wait + Sync>(
+    rt: &R,
+    alloc: Global,
+    plan: &Plan,
+) -> Result<Closed, NoMemory> {
+    match works(rt, alloc, plan) {
+        Err(NoMemory) => works(rt, alloc, plan),
+        answer => answer,
+    }
+}
+
+#[test]
+fn no_unit_of_two_threads_is_lost(rt: HostRuntime) -> Result<(), Fail> {
+    let plan = Plan {
+        sizes: Sizes {
+            release_limit: 1_000,
+            ..one_counter(0, 2)
+        },
+        units: 0,
+        work: Work::Adds,
+        turns: 1_000,
+    };
+    let closed = works_again(&rt, rt.alloc(), &plan)?;
+    adds_up(&rt, &closed, 2_000, 0);
+    ends_at(&rt, &closed, 0, 2_000);
+    Ok(())
+}
+
+/// Two threads hand these units back and forth over two counters of one root, 10,000 times.
+fn goes_back_and_forth<R: Abort + Threads + Wait + Sync>(
+    rt: &R,
+    alloc: Global,
+    work: Work,
+    units: u32,
+) -> Result<(), Fail> {
+    let plan = Plan {
+        sizes: Sizes {
+            counters: 2,
+            start: 0,
+            seats: 2,
+            roots: 1,
+            release_limit: 20_002,
+        },
+        units,
+        work,
+        turns: 10_000,
+    };
+    let closed = works_again(rt, alloc, &plan)?;
+    let units = u64::from(units);
+    adds_up(
+        rt,
+        &closed,
+        units.wrapping_mul(20_001),
+        units.wrapping_mul(20_000),
+    );
+    ends_at(rt, &closed, 0, units);
+    ends_at(rt, &closed, 1, 0);
+    Ok(())
+}
+
+#[test]
+fn a_unit_goes_back_and_forth_in_order(rt: HostRuntime) -> Result<(), Fail> {
+    let way = Way {
+        lifo: false,
+        handoff: false,
+    };
+    goes_back_and_forth(&rt, rt.alloc(), Work::Hands(way), 1)
+}
+
+#[test]
+fn a_unit_goes_back_and_forth_with_lifo(rt: HostRuntime) -> Result<(), Fail> {
+    let way = Way {
+        lifo: true,
+        handoff: false,
+    };
+    goes_back_and_forth(&rt, rt.alloc(), Work::Hands(way), 1)
+}
+
+#[test]
+fn a_unit_goes_back_and_forth_with_handoff(rt: HostRuntime) -> Result<(), Fail> {
+    let way = Way {
+        lifo: false,
+        handoff: true,
+    };
+    goes_back_and_forth(&rt, rt.alloc(), Work::Hands(way), 1)
+}
+
+#[test]
+fn two_units_go_back_and_forth_by_one_add(rt: HostRuntime) -> Result<(), Fail> {
+    goes_back_and_forth(&rt, rt.alloc(), Work::HandsTwo, 2)
+}
+
+#[test]
+fn four_threads_lose_nobody(rt: HostRuntime) -> Result<(), Fail> {
+    let plan = Plan {
+        sizes: Sizes {
+            counters: 3,
+            start: 1,
+            seats: 4,
+            roots: 1,
+            release_limit: 5_000,
+        },
+        units: 0,
+        work: Work::Locks,
+        turns: 5_000,
+    };
+    let closed = works_again(&rt, rt.alloc(), &plan)?;
+    adds_up(&rt, &closed, 20_000, 20_000);
+    ends_at(&rt, &closed, 0, 1);
+    ends_at(&rt, &closed, 1, 1);
+    ends_at(&rt, &closed, 2, 1);
+    Ok(())
+}
