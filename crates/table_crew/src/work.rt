@@ -1,4 +1,5 @@
-//! What a seat does, turn after turn.
+//! What a seat does, turn after turn. Each work is a loop of its own: what stands in it besides the calls of the table would be
+//! measured with them.
 
 ghost use Rattle.std.specs.Prelude.{◌≡◌, ◌<◌, length};
 
@@ -24,7 +25,7 @@ pub enum Work {
     HandsTwo,
     /// Releases counter 0, and then acquires it; in odd turns with handoff and with lifo.
     Rounds,
-    /// The same of a counter that changes with each turn and seat, without handoff and lifo.
+    /// Releases and acquires a counter that changes with each turn and seat, without handoff and lifo.
     Spread,
     /// Acquires a counter and releases it again, as a lock: in each turn the next, the first being that of its own number.
     Locks,
@@ -38,42 +39,131 @@ fn counter(table: &SemaTable, number: u32) -> CounterId
     CounterId::new(number % table.counters())
 }
 
-/// A number that looks as if it was drawn.
-fn scattered(seat: u32, turn: u32) -> u32 {
-    seat.wrapping_mul(40_503)
-        .wrapping_add(turn)
-        .wrapping_mul(2_654_435_769)
-        >> 8
-}
-
 /// A whole release, whomever it wakes.
-fn release<R: Wait>(rt: &R, table: &SemaTable, seat: Seat, number: u32, handoff: bool) -> Seat
-    requires { (seat.table ≡ table.now) × (0 < length table.now.setting.starts) }
+#[inline]
+fn release<R: Wait>(
+    rt: &R,
+    table: &SemaTable,
+    seat: Seat,
+    counter: CounterId,
+    handoff: bool,
+) -> Seat
+    requires { (seat.table ≡ table.now) × (counter < length table.now.setting.starts) }
     ensures { result.table ≡ table.now }
 {
-    match table.release(rt, seat, counter(table, number), handoff) {
+    match table.release(rt, seat, counter, handoff) {
         Ok((seat, _)) => seat,
         Err((seat, _)) => seat,
     }
 }
 
 /// A release of two units, whomever it wakes.
-fn release_two<R: Wait>(rt: &R, table: &SemaTable, seat: Seat, number: u32) -> Seat
-    requires { (seat.table ≡ table.now) × (0 < length table.now.setting.starts) }
+#[inline]
+fn release_two<R: Wait>(rt: &R, table: &SemaTable, seat: Seat, counter: CounterId) -> Seat
+    requires { (seat.table ≡ table.now) × (counter < length table.now.setting.starts) }
     ensures { result.table ≡ table.now }
 {
-    match table.post_many(seat, counter(table, number), 2) {
+    match table.post_many(seat, counter, 2) {
         Ok(PostedMany::Done(seat)) => seat,
         Ok(PostedMany::Owes(owing)) => table.wake_some(rt, owing).0,
         Err((seat, _)) => seat,
     }
 }
 
-fn acquire<R: Wait>(rt: &R, table: &SemaTable, seat: Seat, number: u32, lifo: bool) -> Seat
+fn adds<R: Wait>(rt: &R, table: &SemaTable, seat: Seat, turns: u32) -> Seat
     requires { (seat.table ≡ table.now) × (0 < length table.now.setting.starts) }
     ensures { result.table ≡ table.now }
 {
-    table.acquire(rt, seat, counter(table, number), lifo)
+    let mut seat = seat;
+    for _ in 0..turns {
+        seat = release(rt, table, seat, CounterId::new(0), false);
+    }
+    seat
+}
+
+fn hands<R: Wait>(rt: &R, table: &SemaTable, seat: Seat, way: Way, turns: u32) -> Seat
+    requires { (seat.table ≡ table.now) × (0 < length table.now.setting.starts) }
+    ensures { result.table ≡ table.now }
+{
+    let own = u32::from(seat.id().number());
+    let takes = counter(table, own);
+    let gives = counter(table, own + 1);
+    let mut seat = seat;
+    for _ in 0..turns {
+        seat = table.acquire(rt, seat, takes, way.lifo);
+        seat = release(rt, table, seat, gives, way.handoff);
+    }
+    seat
+}
+
+fn hands_two<R: Wait>(rt: &R, table: &SemaTable, seat: Seat, turns: u32) -> Seat
+    requires { (seat.table ≡ table.now) × (0 < length table.now.setting.starts) }
+    ensures { result.table ≡ table.now }
+{
+    let own = u32::from(seat.id().number());
+    let takes = counter(table, own);
+    let gives = counter(table, own + 1);
+    let mut seat = seat;
+    for _ in 0..turns {
+        seat = table.acquire(rt, seat, takes, false);
+        seat = table.acquire(rt, seat, takes, false);
+        seat = release_two(rt, table, seat, gives);
+    }
+    seat
+}
+
+fn rounds<R: Wait>(rt: &R, table: &SemaTable, seat: Seat, turns: u32) -> Seat
+    requires { (seat.table ≡ table.now) × (0 < length table.now.setting.starts) }
+    ensures { result.table ≡ table.now }
+{
+    let mut seat = seat;
+    for turn in 0..turns {
+        let is_odd = turn % 2 == 1;
+        seat = release(rt, table, seat, CounterId::new(0), is_odd);
+        seat = table.acquire(rt, seat, CounterId::new(0), is_odd);
+    }
+    seat
+}
+
+/// One of so many, which looks as if it was drawn. There is no division in it, which takes as long as a step.
+fn scattered(seat: u32, turn: u32, many: u32) -> u32
+    requires { 0 < many }
+    ensures { result < many }
+{
+    let drawn = seat
+        .wrapping_mul(40_503)
+        .wrapping_add(turn)
+        .wrapping_mul(2_654_435_769);
+    ((u64::from(drawn) * u64::from(many)) >> 32) as u32
+}
+
+fn spread<R: Wait>(rt: &R, table: &SemaTable, seat: Seat, turns: u32) -> Seat
+    requires { (seat.table ≡ table.now) × (0 < length table.now.setting.starts) }
+    ensures { result.table ≡ table.now }
+{
+    let own = u32::from(seat.id().number());
+    let many = table.counters();
+    let mut seat = seat;
+    for turn in 0..turns {
+        let counter = CounterId::new(scattered(own, turn, many));
+        seat = release(rt, table, seat, counter, false);
+        seat = table.acquire(rt, seat, counter, false);
+    }
+    seat
+}
+
+fn locks<R: Wait>(rt: &R, table: &SemaTable, seat: Seat, turns: u32) -> Seat
+    requires { (seat.table ≡ table.now) × (0 < length table.now.setting.starts) }
+    ensures { result.table ≡ table.now }
+{
+    let own = u32::from(seat.id().number());
+    let mut seat = seat;
+    for turn in 0..turns {
+        let counter = counter(table, own.wrapping_add(turn));
+        seat = table.acquire(rt, seat, counter, false);
+        seat = release(rt, table, seat, counter, false);
+    }
+    seat
 }
 
 impl Work {
@@ -93,50 +183,18 @@ impl Work {
         }
     }
 
-    /// One turn of a seat.
-    fn turn<R: Wait>(self, rt: &R, table: &SemaTable, seat: Seat, turn: u32) -> Seat
-        requires { (seat.table ≡ table.now) × (0 < length table.now.setting.starts) }
-        ensures { result.table ≡ table.now }
-    {
-        let own = u32::from(seat.id().number());
-        match self {
-            Work::Adds => release(rt, table, seat, 0, false),
-            Work::Hands(way) => {
-                let seat = acquire(rt, table, seat, own, way.lifo);
-                release(rt, table, seat, own + 1, way.handoff)
-            }
-            Work::HandsTwo => {
-                let seat = acquire(rt, table, seat, own, false);
-                let seat = acquire(rt, table, seat, own, false);
-                release_two(rt, table, seat, own + 1)
-            }
-            Work::Rounds => {
-                let is_odd = turn % 2 == 1;
-                let seat = release(rt, table, seat, 0, is_odd);
-                acquire(rt, table, seat, 0, is_odd)
-            }
-            Work::Spread => {
-                let number = scattered(own, turn);
-                let seat = release(rt, table, seat, number, false);
-                acquire(rt, table, seat, number, false)
-            }
-            Work::Locks => {
-                let number = own.wrapping_add(turn);
-                let seat = acquire(rt, table, seat, number, false);
-                release(rt, table, seat, number, false)
-            }
-        }
-    }
-
     /// So many turns of a seat.
     pub(crate) fn turns<R: Wait>(self, rt: &R, table: &SemaTable, seat: Seat, turns: u32) -> Seat
         requires { (seat.table ≡ table.now) × (0 < length table.now.setting.starts) }
         ensures { result.table ≡ table.now }
     {
-        let mut seat = seat;
-        for turn in 0..turns {
-            seat = self.turn(rt, table, seat, turn);
+        match self {
+            Work::Adds => adds(rt, table, seat, turns),
+            Work::Hands(way) => hands(rt, table, seat, way, turns),
+            Work::HandsTwo => hands_two(rt, table, seat, turns),
+            Work::Rounds => rounds(rt, table, seat, turns),
+            Work::Spread => spread(rt, table, seat, turns),
+            Work::Locks => locks(rt, table, seat, turns),
         }
-        seat
     }
 }

@@ -1,5 +1,5 @@
 use Rattle.std.proofs.Common.{◌≡◌}
-use Rattle.table_crew.proofs.work.Work.turns.Given as goal
+use Rattle.table_crew.proofs.work.locks.Given as goal
 
 abbrev pub invariant-loop-turn : goal.invariant-loop-turn
 invariant-loop-turn g l = l.seat.table ≡ l.fn.table
