@@ -1,15 +1,18 @@
 //! A whole acquire.
 ghost use Rattle.std.specs.Prelude.{◌≡◌, ◌<◌, length, MatchBool};
-ghost use Rattle.sema_table.specs.Whole.{TakesAtOnce, FindsNone, HasParked, TakesAfter, IsAcquired};
+ghost use Rattle.sema_table.specs.Waking.{acquire_of};
+ghost use Rattle.sema_table.specs.Whole.{TakesAtOnce, FindsNone, HasParked, TakesAfter, TakesFrom, IsAcquired};
 
 use crate::answers::{Entered, Roused, Tried};
 use crate::seat::{Seat, Sleeping};
 use crate::sema_table::SemaTable;
 use std::sync::Wait;
+use step_table::{AcquireRow, Place};
 use waiters::CounterId;
 
 impl SemaTable {
     /// Takes a unit, and sleeps while there is none (Go's `semacquire1`). With lifo its wait goes to the front of the list.
+    #[inline]
     pub fn acquire<R: Wait>(&self, rt: &R, seat: Seat, counter: CounterId, lifo: bool) -> Seat
         requires { (seat.table ≡ self.now) × (counter < length self.now.setting.starts) }
         ensures { IsAcquired seat counter lifo result }
@@ -18,6 +21,15 @@ impl SemaTable {
         if self.take_at_once(rt, &mut seat, counter) {
             return seat;
         }
+        self.acquire_at_lock(rt, seat, counter, lifo)
+    }
+
+    /// An acquire from the lock on. It stands apart, so that a caller's own code has the tries alone.
+    #[inline(never)]
+    fn acquire_at_lock<R: Wait>(&self, rt: &R, seat: Seat, counter: CounterId, lifo: bool) -> Seat
+        requires { (seat.table ≡ self.now) × (counter < length self.now.setting.starts) }
+        ensures { let a = acquire_of counter lifo in TakesFrom seat (Place.Acquiring a AcquireRow.A3) a result }
+    {
         match self.enter(rt, seat, counter, lifo) {
             Entered::Taken(seat) => seat,
             Entered::Asleep(sleeping) => self.sleep_until_taken(rt, sleeping),
@@ -41,7 +53,6 @@ impl SemaTable {
     }
 
     /// Sleeps, and tries once woken, until a unit is taken or handed over.
-    #[inline(never)]
     fn sleep_until_taken<R: Wait>(&self, rt: &R, sleeping: Sleeping) -> Seat
         requires { (sleeping.table ≡ self.now) × HasParked sleeping }
         ensures { TakesAfter sleeping result }
