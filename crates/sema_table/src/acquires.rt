@@ -21,10 +21,19 @@ impl SemaTable {
         if self.take_at_once(rt, &mut seat, counter) {
             return seat;
         }
+        self.acquire_slowly(rt, seat, counter, lifo)
+    }
+
+    /// An acquire from the lock on. What it keeps of a seat in memory is cleared in here, and not before each try.
+    #[inline]
+    fn acquire_slowly<R: Wait>(&self, rt: &R, seat: Seat, counter: CounterId, lifo: bool) -> Seat
+        requires { (seat.table ≡ self.now) × (counter < length self.now.setting.starts) }
+        ensures { let a = acquire_of counter lifo in TakesFrom seat (Place.Acquiring a AcquireRow.A3) a result }
+    {
         self.acquire_at_lock(rt, seat, counter, lifo)
     }
 
-    /// An acquire from the lock on. It stands apart, so that a caller's own code has the tries alone.
+    /// The same, apart: so a caller's own code has the tries alone.
     #[inline(never)]
     fn acquire_at_lock<R: Wait>(&self, rt: &R, seat: Seat, counter: CounterId, lifo: bool) -> Seat
         requires { (seat.table ≡ self.now) × (counter < length self.now.setting.starts) }
