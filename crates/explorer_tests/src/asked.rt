@@ -116,7 +116,12 @@ pub(crate) fn replays(
 }
 
 /// The program ends well. Its output begins with this text, and it tells nothing else.
-pub(crate) fn answers(rt: &(impl Abort + Threads + Wait + Sync), alloc: Global, words: &[&str], text: &str) {
+pub(crate) fn answers(
+    rt: &(impl Abort + Threads + Wait + Sync),
+    alloc: Global,
+    words: &[&str],
+    text: &str,
+) {
     let told = Told {
         out: text.as_bytes(),
         err: b"",
@@ -127,7 +132,12 @@ pub(crate) fn answers(rt: &(impl Abort + Threads + Wait + Sync), alloc: Global, 
 }
 
 /// These words are a mistake: what is told begins with this text, and nothing goes to the output.
-pub(crate) fn is_a_mistake(rt: &(impl Abort + Threads + Wait + Sync), alloc: Global, words: &[&str], text: &str) {
+pub(crate) fn is_a_mistake(
+    rt: &(impl Abort + Threads + Wait + Sync),
+    alloc: Global,
+    words: &[&str],
+    text: &str,
+) {
     let told = Told {
         out: b"",
         err: text.as_bytes(),

@@ -173,7 +173,12 @@ fn once_reads_nothing(rt: HostRuntime) {
     ends(&rt, rt.alloc(), ONCE, BROKEN, SOUND, told, Ok(ONCE.exit));
 }
 
-fn a_write_fails_of(rt: &(impl Abort + Threads + Wait + Sync), alloc: Global, command: Command, at_once: usize) {
+fn a_write_fails_of(
+    rt: &(impl Abort + Threads + Wait + Sync),
+    alloc: Global,
+    command: Command,
+    at_once: usize,
+) {
     let told = command.told.as_bytes();
     for left in 0..u32::MAX {
         let sent = at_once.saturating_mul(left as usize).min(told.len());

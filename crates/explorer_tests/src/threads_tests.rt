@@ -162,6 +162,11 @@ fn is_written(
 fn refusals_have_their_numbers_and_texts(rt: HostRuntime) -> Result<(), Fail> {
     assert_eq!(rt; ThreadsRefused::OutOfLimits as u8, 1);
     assert_eq!(rt; ThreadsRefused::NoMemory as u8, 2);
-    is_written(&rt, rt.alloc(), ThreadsRefused::OutOfLimits, "out of limits")?;
+    is_written(
+        &rt,
+        rt.alloc(),
+        ThreadsRefused::OutOfLimits,
+        "out of limits",
+    )?;
     is_written(&rt, rt.alloc(), ThreadsRefused::NoMemory, "no memory")
 }

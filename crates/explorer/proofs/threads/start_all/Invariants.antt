@@ -7,7 +7,8 @@ use Rattle.explorer.proofs.threads.start_all.Given as goal
 -- the seats that are left are the last ones, and those before them have their workers
 abbrev pub invariant-loop-seat : goal.invariant-loop-seat
 invariant-loop-seat g l =
-    let done = vec_len l.started in let rest = l.seat-iterator in let first = l.initial.seat-iterator in let seats = into_iter_items first in
+    let done = vec_len l.started in let rest = l.seat-iterator in
+    let first = l.initial.seat-iterator in let seats = into_iter_items first in
     (done + into_iter_len rest ≡ into_iter_len first)
     × ((k : ℕ) (d : SeatModel) → k < into_iter_len rest → get_or (into_iter_items rest) k d ≡ get_or seats (done + k) d)
     × ((k : ℕ) (d : Worker) → k < done → IsWorker l.fn.table k l.fn.rounds (get_or (vec_items l.started) k d))

@@ -22,4 +22,5 @@ returns g c =
     let t = c.args.table.now in let n = c.loop-round.round in let s = c.loop-round.seat in let inv = c.loop-round.invariant in
     let end : n ≡ c.args.rounds = omega (arith, inv.0, c.loop-round-test.false) in
     let ran = subst (λ (x : SeatModel). HasRun x n s) c.requires.seat inv.1 in
-    has_worked t c.args.seat.number c.args.rounds s (subst (λ (k : ℕ). HasRun (new_seat t c.args.seat.number) k s) end ran) c.requires.table.1
+    has_worked t c.args.seat.number c.args.rounds s
+        (subst (λ (k : ℕ). HasRun (new_seat t c.args.seat.number) k s) end ran) c.requires.table.1
