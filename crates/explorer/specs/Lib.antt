@@ -1,3 +1,5 @@
 pub mod Answer
 pub mod Once
 pub mod OnceText
+pub mod Threads
+pub mod ThreadsText

@@ -5,6 +5,7 @@ use explorer::{Flagged, NO_MEMORY, parklot_io};
 use std::alloc::Global;
 use std::process::Abort;
 use std::sync::Wait;
+use std::thread::Threads;
 
 /// How the program's input and its two streams behave.
 #[derive(Clone, Copy, Debug, Drop)]
@@ -23,7 +24,7 @@ pub(crate) const ALL_SOUND: Devices = Devices {
 
 /// What goes to the two streams of the program for these words and this input, and its status.
 pub(crate) fn ask(
-    rt: &impl Wait,
+    rt: &(impl Threads + Wait + Sync),
     alloc: Global,
     words: &[&str],
     input: &[u8],
@@ -67,7 +68,7 @@ impl Told<'_> {
 
 /// This is what the program tells over these devices, and it ends so.
 pub(crate) fn tells_over(
-    rt: &(impl Abort + Wait),
+    rt: &(impl Abort + Threads + Wait + Sync),
     alloc: Global,
     words: &[&str],
     input: &[u8],
@@ -85,7 +86,7 @@ pub(crate) fn tells_over(
 
 /// This is all that the program tells, on its output, and it ends so.
 pub(crate) fn tells(
-    rt: &(impl Abort + Wait),
+    rt: &(impl Abort + Threads + Wait + Sync),
     alloc: Global,
     words: &[&str],
     input: &[u8],
@@ -103,7 +104,7 @@ pub(crate) fn tells(
 
 /// A replay of this schedule tells this of the input, and no more, and ends so.
 pub(crate) fn replays(
-    rt: &(impl Abort + Wait),
+    rt: &(impl Abort + Threads + Wait + Sync),
     alloc: Global,
     input: &[u8],
     spelled: &str,
@@ -115,7 +116,12 @@ pub(crate) fn replays(
 }
 
 /// The program ends well. Its output begins with this text, and it tells nothing else.
-pub(crate) fn answers(rt: &(impl Abort + Wait), alloc: Global, words: &[&str], text: &str) {
+pub(crate) fn answers(
+    rt: &(impl Abort + Threads + Wait + Sync),
+    alloc: Global,
+    words: &[&str],
+    text: &str,
+) {
     let told = Told {
         out: text.as_bytes(),
         err: b"",
@@ -126,7 +132,12 @@ pub(crate) fn answers(rt: &(impl Abort + Wait), alloc: Global, words: &[&str], t
 }
 
 /// These words are a mistake: what is told begins with this text, and nothing goes to the output.
-pub(crate) fn is_a_mistake(rt: &(impl Abort + Wait), alloc: Global, words: &[&str], text: &str) {
+pub(crate) fn is_a_mistake(
+    rt: &(impl Abort + Threads + Wait + Sync),
+    alloc: Global,
+    words: &[&str],
+    text: &str,
+) {
     let told = Told {
         out: b"",
         err: text.as_bytes(),

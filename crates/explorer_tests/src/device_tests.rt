@@ -4,10 +4,14 @@ use crate::asked::{ALL_SOUND, Devices, Told, is_short, tells_over};
 use crate::devices::{BROKEN, Calls, Giving, SOUND, Taking};
 use crate::program_tests::FIVE_LINES;
 use crate::reading::ONE_ACQUIRE;
-use explorer::{Exit, Flagged, IoFault, explore_io, explore_variant_io, once_io, replay_io};
+use crate::threads_tests::{THREE_LINES, TWO_BY_THREE};
+use explorer::{
+    Exit, Flagged, IoFault, explore_io, explore_variant_io, once_io, replay_io, threads_io,
+};
 use std::alloc::Global;
 use std::process::Abort;
 use std::sync::Wait;
+use std::thread::Threads;
 use step_core::Variant;
 
 /// The commands. Their input has one acquire.
@@ -17,6 +21,7 @@ enum Asked {
     Explore,
     ExploreVariant,
     Replay,
+    Threads,
 }
 
 /// What to ask, the words for it, and what is told of it.
@@ -56,8 +61,15 @@ const REPLAY: Command = Command {
     exit: Exit::NothingBad,
 };
 
+const THREADS: Command = Command {
+    asked: Asked::Threads,
+    words: &TWO_BY_THREE,
+    told: THREE_LINES,
+    exit: Exit::NothingBad,
+};
+
 fn answer_io(
-    rt: &impl Wait,
+    rt: &(impl Threads + Wait + Sync),
     alloc: Global,
     asked: Asked,
     input: Calls,
@@ -72,6 +84,7 @@ fn answer_io(
             explore_variant_io(alloc, &mut reader, &mut out, 32, Variant::NoLook)
         }
         Asked::Replay => replay_io(alloc, &mut reader, &mut out, "0 0"),
+        Asked::Threads => threads_io(rt, alloc, 2, 3, &mut out),
     };
     (out.into_inner().into_taken(), ended)
 }
@@ -87,7 +100,7 @@ fn told_of(ended: Result<Exit, IoFault>) -> (&'static [u8], u8) {
 
 /// Over these devices the command writes this, and ends so.
 fn ends_io(
-    rt: &(impl Abort + Wait),
+    rt: &(impl Abort + Threads + Wait + Sync),
     alloc: Global,
     asked: Asked,
     input: Calls,
@@ -107,7 +120,7 @@ fn ends_io(
 
 /// Over these devices the command and the program write this, and end so.
 fn ends(
-    rt: &(impl Abort + Wait),
+    rt: &(impl Abort + Threads + Wait + Sync),
     alloc: Global,
     command: Command,
     input: Calls,
@@ -134,7 +147,7 @@ fn ends(
 /// How many bytes a read gives at most, and how many reads the whole input takes, its end included.
 const READS: [(usize, u32); 4] = [(1, 37), (3, 13), (35, 3), (usize::MAX, 2)];
 
-fn a_read_fails_of(rt: &(impl Abort + Wait), alloc: Global, command: Command) {
+fn a_read_fails_of(rt: &(impl Abort + Threads + Wait + Sync), alloc: Global, command: Command) {
     let told = command.told.as_bytes();
     for (at_once, reads) in READS {
         for left in 0..reads {
@@ -160,7 +173,12 @@ fn once_reads_nothing(rt: HostRuntime) {
     ends(&rt, rt.alloc(), ONCE, BROKEN, SOUND, told, Ok(ONCE.exit));
 }
 
-fn a_write_fails_of(rt: &(impl Abort + Wait), alloc: Global, command: Command, at_once: usize) {
+fn a_write_fails_of(
+    rt: &(impl Abort + Threads + Wait + Sync),
+    alloc: Global,
+    command: Command,
+    at_once: usize,
+) {
     let told = command.told.as_bytes();
     for left in 0..u32::MAX {
         let sent = at_once.saturating_mul(left as usize).min(told.len());
@@ -182,7 +200,7 @@ fn a_write_fails_of(rt: &(impl Abort + Wait), alloc: Global, command: Command, a
 
 #[test]
 fn each_write_can_fail(rt: HostRuntime) {
-    for command in [ONCE, EXPLORE, EXPLORE_VARIANT, REPLAY] {
+    for command in [ONCE, EXPLORE, EXPLORE_VARIANT, REPLAY, THREADS] {
         for at_once in [1, 4, usize::MAX] {
             a_write_fails_of(&rt, rt.alloc(), command, at_once);
         }

@@ -37,4 +37,6 @@ mod schedule_tests;
 #[cfg(test)]
 mod size_tests;
 #[cfg(test)]
+mod threads_tests;
+#[cfg(test)]
 mod variant_tests;

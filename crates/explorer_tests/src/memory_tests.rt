@@ -3,16 +3,18 @@
 use crate::asked::{ALL_SOUND, ask};
 use crate::program_tests::FIVE_LINES;
 use crate::reading::{ONE_ACQUIRE, read};
+use crate::threads_tests::{THREE_LINES, TWO_BY_THREE};
 use explorer::{Cause, Found, Kind, NO_MEMORY, ReadFault, Request, explore, read_scenario};
 use std::alloc::Global;
 use std::process::Abort;
 use std::sync::Wait;
 use std::test::Fail;
+use std::thread::Threads;
 use step_core::{Scenario, SeatId};
 
 /// The answer is this one, or memory was short: nothing went out, or that alone was told.
 fn told_or_short(
-    rt: &(impl Abort + Wait),
+    rt: &(impl Abort + Threads + Wait + Sync),
     alloc: Global,
     words: &[&str],
     input: &[u8],
@@ -43,6 +45,7 @@ fn a_replay_is_told_or_short(rt: HostRuntime) {
 fn other_words_are_told_or_short(rt: HostRuntime) {
     let alloc = rt.alloc();
     told_or_short(&rt, alloc, &["once"], b"", FIVE_LINES, 0);
+    told_or_short(&rt, alloc, &TWO_BY_THREE, b"", THREE_LINES, 0);
     told_or_short(&rt, alloc, &["--version"], b"", "parklot 0.1.0\n", 0);
     let words = ["explore", "--depth", "1"];
     told_or_short(&rt, alloc, &words, b"\n", "refused: line 1: form\n", 2);

@@ -57,7 +57,7 @@ fn some_words_are_answered_whole(rt: HostRuntime) {
 }
 
 /// Words that ask for help, and how it begins.
-const HELPS: [(&[&str], &str); 3] = [
+const HELPS: [(&[&str], &str); 4] = [
     (
         &["--help"],
         "Explore the interleavings of semaphores, notify lists and wait groups\n\nUsage: parklot <COMMAND>\n",
@@ -70,6 +70,10 @@ const HELPS: [(&[&str], &str); 3] = [
         &["replay", "--help"],
         "Tell what a schedule does in the scenario on standard input\n\nUsage: parklot replay ",
     ),
+    (
+        &["threads", "--help"],
+        "Let threads release and acquire one counter, and tell what was counted\n\nUsage: parklot threads ",
+    ),
 ];
 
 #[test]
@@ -80,7 +84,7 @@ fn help_goes_to_the_output(rt: HostRuntime) {
 }
 
 /// Words that ask for no command, and how what is told of them begins.
-const MISTAKES: [(&[&str], &str); 15] = [
+const MISTAKES: [(&[&str], &str); 21] = [
     (
         &[],
         "error: 'parklot' requires a subcommand but one was not provided\n",
@@ -134,6 +138,30 @@ const MISTAKES: [(&[&str], &str); 15] = [
     (
         &["replay", "--schedule", "0", "0"],
         "error: unexpected argument '0' found\n",
+    ),
+    (
+        &["threads"],
+        "error: the following required arguments were not provided:\n  --workers <K>\n  --rounds <M>\n",
+    ),
+    (
+        &["threads", "--workers", "2"],
+        "error: the following required arguments were not provided:\n  --rounds <M>\n",
+    ),
+    (
+        &["threads", "--workers", "0", "--rounds", "1"],
+        "error: invalid value '0' for '--workers <K>': 0 is not in 1..=64\n",
+    ),
+    (
+        &["threads", "--workers", "65", "--rounds", "1"],
+        "error: invalid value '65' for '--workers <K>': 65 is not in 1..=64\n",
+    ),
+    (
+        &["threads", "--workers", "1", "--rounds", "0"],
+        "error: invalid value '0' for '--rounds <M>': 0 is not in 1..=1000000\n",
+    ),
+    (
+        &["threads", "--workers", "1", "--rounds", "1000001"],
+        "error: invalid value '1000001' for '--rounds <M>': 1000001 is not in 1..=1000000\n",
     ),
 ];
 

@@ -10,6 +10,7 @@ use explorer::{Flagged, parklot_io};
 use std::alloc::{AllocError, Global};
 use std::fs;
 use std::sync::Wait;
+use std::thread::Threads;
 
 /// How a line with the words of a command begins.
 const PROMPT: &str = "$ parklot ";
@@ -49,7 +50,12 @@ fn words_of(alloc: Global, command: &str) -> Result<Vec<String>, AllocError> {
 }
 
 /// What the program writes for this command, and how it ends.
-fn answer<R: Wait>(rt: &R, alloc: Global, scenario: &str, command: &str) -> Result<String> {
+fn answer<R: Threads + Wait + Sync>(
+    rt: &R,
+    alloc: Global,
+    scenario: &str,
+    command: &str,
+) -> Result<String> {
     let words = words_of(alloc, command)?;
     let mut input = Flagged::new(scenario.as_bytes());
     let mut out = Flagged::new(Vec::new(alloc));
@@ -60,7 +66,12 @@ fn answer<R: Wait>(rt: &R, alloc: Global, scenario: &str, command: &str) -> Resu
 }
 
 /// The commands that are told, each with what the program answers.
-fn answers<R: Wait>(rt: &R, alloc: Global, scenario: &str, told: &str) -> Result<String> {
+fn answers<R: Threads + Wait + Sync>(
+    rt: &R,
+    alloc: Global,
+    scenario: &str,
+    told: &str,
+) -> Result<String> {
     let mut answers = String::new(alloc);
     for line in told.lines() {
         if let Some(command) = line.strip_prefix(PROMPT) {

@@ -1,0 +1,172 @@
+//! Threads that share a table, and the command `threads`.
+
+ghost use Rattle.std.specs.Prelude.{◌≡◌, ◌<◌, ◌∷◌, [], length, IfOk};
+
+use crate::asked::tells;
+use explorer::{Closed, Gate, Open, ThreadsRefused, run_threads};
+use std::alloc::Global;
+use std::process::Abort;
+use std::sync::Wait;
+use std::sync::atomic::AtomicBool;
+use std::sync::atomic::Ordering::SeqCst;
+use std::test::Fail;
+use std::thread;
+use std::thread::Threads;
+use step_core::{CounterId, SeatId};
+
+/// Words for two workers of three rounds each.
+pub(crate) const TWO_BY_THREE: [&str; 5] = ["threads", "--workers", "2", "--rounds", "3"];
+
+/// What is told of them: two times three, and nothing is left.
+pub(crate) const THREE_LINES: &str = "releases 6\nacquires 6\nvalue 0\n";
+
+#[test]
+fn two_workers_of_three_rounds_are_told(rt: HostRuntime) {
+    tells(&rt, rt.alloc(), &TWO_BY_THREE, b"", THREE_LINES, 0);
+}
+
+/// How often one looks for the other's flag.
+const TURNS: u32 = 10_000_000;
+
+/// In round 0 seats 0 and 1 each set a flag, and pass once they see the other's: so workers that run one after the other don't.
+#[derive(Drop)]
+struct TwoFlags {
+    first: AtomicBool,
+    second: AtomicBool,
+    has_failed: AtomicBool,
+}
+
+impl TwoFlags {
+    fn new() -> TwoFlags {
+        TwoFlags {
+            first: AtomicBool::new(false),
+            second: AtomicBool::new(false),
+            has_failed: AtomicBool::new(false),
+        }
+    }
+}
+
+impl Gate for TwoFlags {
+    fn pass(&self, seat: SeatId, round: u32) {
+        let (mine, other) = match (seat.number(), round) {
+            (0, 0) => (&self.first, &self.second),
+            (1, 0) => (&self.second, &self.first),
+            _ => return,
+        };
+        mine.store(true, SeqCst);
+        for _ in 0..TURNS {
+            if other.load(SeqCst) {
+                return;
+            }
+            thread::yield_now();
+        }
+        self.has_failed.store(true, SeqCst);
+    }
+}
+
+/// What is left of the table once it is closed. It is asked for once more where memory was refused.
+fn run_again<R: Threads + Wait + Sync>(
+    rt: &R,
+    alloc: Global,
+    workers: u32,
+    rounds: u32,
+) -> Result<Closed, ThreadsRefused>
+    ensures { IfOk result (λ closed. closed.values ≡ 0 ∷ []) }
+{
+    match run_threads(rt, alloc, workers, rounds, &Open) {
+        Err(ThreadsRefused::NoMemory) => run_threads(rt, alloc, workers, rounds, &Open),
+        outcome => outcome,
+    }
+}
+
+/// So many units were added and were given, and none is left.
+fn counts(rt: &impl Abort, closed: &Closed, units: u64)
+    requires { 0 < length closed.now.values }
+{
+    assert!(rt; closed.releases() == units);
+    assert!(rt; closed.acquires() == units);
+    assert!(rt; closed.value(CounterId::new(0)) == 0);
+}
+
+#[test]
+fn workers_run_at_once(rt: HostRuntime) -> Result<(), Fail> {
+    let gate = TwoFlags::new();
+    if let Ok(closed) = run_threads(&rt, rt.alloc(), 2, 1, &gate) {
+        counts(&rt, &closed, 2);
+        assert!(rt; !gate.has_failed.load(SeqCst));
+        return Ok(());
+    }
+    let gate = TwoFlags::new();
+    let closed = run_threads(&rt, rt.alloc(), 2, 1, &gate)?;
+    counts(&rt, &closed, 2);
+    assert!(rt; !gate.has_failed.load(SeqCst));
+    Ok(())
+}
+
+#[test]
+fn one_worker_runs_alone(rt: HostRuntime) -> Result<(), Fail> {
+    let closed = run_again(&rt, rt.alloc(), 1, 1)?;
+    counts(&rt, &closed, 1);
+    Ok(())
+}
+
+#[test]
+fn four_workers_lose_no_unit(rt: HostRuntime) -> Result<(), Fail> {
+    let closed = run_again(&rt, rt.alloc(), 4, 1_000)?;
+    counts(&rt, &closed, 4_000);
+    Ok(())
+}
+
+#[test]
+fn as_many_workers_as_there_may_be(rt: HostRuntime) -> Result<(), Fail> {
+    let closed = run_again(&rt, rt.alloc(), 64, 2)?;
+    counts(&rt, &closed, 128);
+    Ok(())
+}
+
+fn is_out_of_limits<R: Abort + Threads + Wait + Sync>(
+    rt: &R,
+    alloc: Global,
+    workers: u32,
+    rounds: u32,
+) {
+    let outcome = run_threads(rt, alloc, workers, rounds, &Open);
+    assert!(rt; matches!(outcome, Err(ThreadsRefused::OutOfLimits)));
+}
+
+#[test]
+fn limits_are_kept(rt: HostRuntime) {
+    let alloc = rt.alloc();
+    is_out_of_limits(&rt, alloc, 0, 1);
+    is_out_of_limits(&rt, alloc, 65, 1);
+    is_out_of_limits(&rt, alloc, 1, 0);
+    is_out_of_limits(&rt, alloc, 1, 1_000_001);
+    is_out_of_limits(&rt, alloc, u32::MAX, u32::MAX);
+}
+
+fn is_written(
+    rt: &impl Abort,
+    alloc: Global,
+    refused: ThreadsRefused,
+    text: &str,
+) -> Result<(), Fail> {
+    let written = match format!(in alloc; "{refused}") {
+        Ok(written) => written,
+        Err(_) => format!(in alloc; "{refused}")?,
+    };
+    assert_eq!(rt; written.as_str(), text);
+    Ok(())
+}
+
+#[test]
+fn refusals_have_their_numbers_and_texts(rt: HostRuntime) -> Result<(), Fail> {
+    assert_eq!(rt; ThreadsRefused::OutOfLimits as u8, 1);
+    assert_eq!(rt; ThreadsRefused::NoMemory as u8, 2);
+    is_written(
+        &rt,
+        rt.alloc(),
+        ThreadsRefused::OutOfLimits,
+        "out of limits",
+    )?;
+    is_written(&rt, rt.alloc(), ThreadsRefused::NoMemory, "no memory")
+}
