@@ -15,7 +15,7 @@ pub struct SemaLock<'t> {
     table: &'t SemaTable,
     /// Always there between two calls: the table's calls take a seat by value.
     seat: Option<Seat>,
-    counter: u32,
+    counter: CounterId,
     held: bool,
 }
 
@@ -40,7 +40,7 @@ impl<'t> SemaLock<'t> {
         SemaLock {
             table,
             seat: Some(seat),
-            counter: counter.number(),
+            counter,
             held: false,
         }
     }
@@ -68,11 +68,10 @@ impl<'t> SemaLock<'t> {
         requires { self.old.held ≡ false }
         ensures { HasLocked self.old self.new }
     {
-        let counter = CounterId::new(self.counter);
         let Some(seat) = self.seat.take() else {
             unreachable!()
         };
-        let seat = self.table.acquire(rt, seat, counter, false);
+        let seat = self.table.acquire(rt, seat, self.counter, false);
         let _ = seat.taken();
         self.seat = Some(seat);
         self.held = true;
@@ -84,11 +83,10 @@ impl<'t> SemaLock<'t> {
         requires left { 0 < self.old.seat.left }
         ensures { HasUnlocked self.old self.new }
     {
-        let counter = CounterId::new(self.counter);
         let Some(seat) = self.seat.take() else {
             unreachable!()
         };
-        let Ok((seat, _)) = self.table.release(rt, seat, counter, false) else {
+        let Ok((seat, _)) = self.table.release(rt, seat, self.counter, false) else {
             unreachable!()
         };
         let _ = seat.taken();
