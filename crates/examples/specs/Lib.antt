@@ -1,0 +1,4 @@
+pub mod Mutex
+pub mod Moves
+pub mod Parts
+pub mod Queue

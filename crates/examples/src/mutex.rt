@@ -1,0 +1,54 @@
+//! A number that threads share under a lock.
+ghost use Rattle.std.specs.Prelude.{◌≡◌, ◌<◌, true, false, length};
+ghost use Rattle.sync_parts.specs.Exclusion.{OnlyLocks, HaveMet};
+ghost use Rattle.examples.specs.Mutex.{HasHeld};
+
+use sema_table::{Seat, SemaTable};
+use std::sync::Wait;
+use std::sync::atomic::AtomicU64;
+use std::sync::atomic::Ordering::SeqCst;
+use sync_parts::SemaLock;
+use waiters::CounterId;
+
+/// Adds one to the number, by a load and a store: nobody else who locks comes between the two.
+pub fn add_one<R: Wait>(rt: &R, lock: &mut SemaLock<'_>, number: &AtomicU64)
+    requires free { lock.old.held ≡ false }
+    requires left { 0 < lock.old.seat.left }
+    ensures { HasHeld lock.old lock.new }
+{
+    lock.acquire(rt);
+    let seen = number.load(SeqCst);
+    number.store(seen.wrapping_add(1), SeqCst);
+    lock.release(rt);
+}
+
+/// Adds one so many times, or as often as the seat may release.
+pub fn add_many<R: Wait>(
+    rt: &R,
+    table: &SemaTable,
+    seat: Seat,
+    number: &AtomicU64,
+    times: u32,
+) -> Seat
+    requires { (seat.table ≡ table.now) × (0 < length table.now.setting.starts) }
+    ensures { (result.table ≡ table.now) × (result.number ≡ seat.number) }
+{
+    let mut lock = SemaLock::over(table, seat, CounterId::new(0));
+    for _ in 0..times {
+        if lock.left() == 0 {
+            break;
+        }
+        add_one(rt, &mut lock, number);
+    }
+    lock.into_seat()
+}
+
+/// Two that lock one counter meet, and see whether both hold it: never, if only such locks have used it.
+pub fn are_both_held(one: &mut SemaLock<'_>, other: &mut SemaLock<'_>) -> bool
+    requires { (other.old.seat.table ≡ one.old.seat.table) × (other.old.counter ≡ one.old.counter) }
+    ensures met { HaveMet one.old other.old one.new other.new }
+    ensures never { OnlyLocks one.old.seat.table one.old.counter one.new.seat.sight.seen → result ≡ false }
+{
+    one.meet(other);
+    one.held() && other.held()
+}

@@ -1,0 +1,36 @@
+-- What the calls of a lock promise.
+use Rattle.std.specs.Prelude.{◌≡◌, ℕ, ◌+◌, true, false, [], ◌∷◌, ◌++◌}
+use Rattle.step_table.specs.declared.entry.Entry.{Entry}
+use Rattle.step_table.specs.declared.entry.Entry.TheVariants.{Add, Take}
+use Rattle.step_table.specs.Path.{GoesOn}
+use Rattle.sema_table.specs.declared.answers.Wake.{Wake}
+use Rattle.sema_table.specs.Seats.{SeatModel}
+use Rattle.sema_table.specs.Whole.{IsAcquired, IsReleased}
+use Rattle.sync_parts.specs.Lock.{LockModel, lock_calls}
+
+-- a lock over this counter that isn't held
+abbrev pub new_lock : SeatModel → ℕ → LockModel
+new_lock s c = record { seat = s; counter = c; held = false }
+
+-- it is the same lock, which has seen more. Its calls are those that it had made, and this one
+pub record HasCalled (l : LockModel) (call : Entry) (m : LockModel) : Type 0 where
+  pub table : m.seat.table ≡ l.seat.table
+  pub number : m.seat.number ≡ l.seat.number
+  pub counter : m.counter ≡ l.counter
+  pub later : GoesOn m.seat.sight.seen l.seat.sight.seen
+  pub calls : lock_calls m ≡ lock_calls l ++ call ∷ []
+
+-- the seat has acquired the counter without lifo: one unit was taken for it, and the lock is held
+pub record HasLocked (l m : LockModel) : Type 0 where
+  pub acquired : IsAcquired l.seat l.counter false m.seat
+  pub called : HasCalled l (Take l.counter l.seat.number) m
+  pub left : m.seat.left ≡ l.seat.left
+  pub held : m.held ≡ true
+
+-- the seat has released the counter without handoff: it added one unit, and the lock isn't held
+pub record HasUnlocked (l m : LockModel) : Type 0 where
+  pub wake : Wake
+  pub released : IsReleased l.seat l.counter false m.seat wake
+  pub called : HasCalled l (Add l.counter l.seat.number) m
+  pub left : m.seat.left + 1 ≡ l.seat.left
+  pub held : m.held ≡ false

@@ -1,0 +1,122 @@
+//! A lock over a counter of a table.
+ghost use Rattle.std.specs.Prelude.{◌≡◌, ◌<◌, true, false, length};
+ghost use Rattle.sync_parts.specs.Lock.{TookLast};
+ghost use Rattle.sync_parts.specs.Locking.{new_lock, HasLocked, HasUnlocked};
+ghost use Rattle.sync_parts.specs.Exclusion.{HaveMet};
+
+use sema_table::{Seat, SemaTable};
+use std::marker::Model;
+use std::sync::Wait;
+use waiters::CounterId;
+
+/// A lock over a counter, held while its seat has the counter's unit.
+#[derive(Drop)]
+pub struct SemaLock<'t> {
+    table: &'t SemaTable,
+    /// Always there between two calls: the table's calls take a seat by value.
+    seat: Option<Seat>,
+    counter: CounterId,
+    held: bool,
+}
+
+impl<'t> Model for SemaLock<'t> {
+    ghost use Rattle.sync_parts.specs.Lock.{LockModel, lock_of, IsLock};
+
+    ghost Value = { LockModel };
+
+    ghost view = { λ l. lock_of l.table.now l.seat l.counter l.held };
+
+    ghost invariant = { λ l. IsLock l.table.now l.seat l.counter l.held };
+}
+
+impl<'t> SemaLock<'t> {
+    /// A lock over this counter, by this seat. It isn't held.
+    pub fn over(table: &'t SemaTable, seat: Seat, counter: CounterId) -> SemaLock<'t>
+        requires { (seat.table ≡ table.now) × (counter < length table.now.setting.starts) }
+        ensures { result ≡ new_lock seat counter }
+    {
+        // The count is that of the journal: whoever asks for it learns so, and the lock has to know.
+        let _ = seat.taken();
+        SemaLock {
+            table,
+            seat: Some(seat),
+            counter,
+            held: false,
+        }
+    }
+
+    /// Whether the lock is held: then the last that it did on its counter was to take a unit.
+    pub fn held(&self) -> bool
+        ensures held { result ≡ self.now.held }
+        ensures took { result ≡ true → TookLast self.now }
+    {
+        self.held
+    }
+
+    /// How often the lock may be released yet.
+    pub fn left(&self) -> u64
+        ensures { result ≡ self.now.seat.left }
+    {
+        match &self.seat {
+            Some(seat) => seat.left(),
+            None => unreachable!(),
+        }
+    }
+
+    /// Locks: takes the counter's unit, and sleeps while another has it (an acquire without lifo).
+    pub fn acquire<R: Wait>(&mut self, rt: &R)
+        requires { self.old.held ≡ false }
+        ensures { HasLocked self.old self.new }
+    {
+        let Some(seat) = self.seat.take() else {
+            unreachable!()
+        };
+        let seat = self.table.acquire(rt, seat, self.counter, false);
+        let _ = seat.taken();
+        self.seat = Some(seat);
+        self.held = true;
+    }
+
+    /// Unlocks: gives the unit back, and wakes the first that waits for it (a release without handoff).
+    pub fn release<R: Wait>(&mut self, rt: &R)
+        requires held { self.old.held ≡ true }
+        requires left { 0 < self.old.seat.left }
+        ensures { HasUnlocked self.old self.new }
+    {
+        let Some(seat) = self.seat.take() else {
+            unreachable!()
+        };
+        let Ok((seat, _)) = self.table.release(rt, seat, self.counter, false) else {
+            unreachable!()
+        };
+        let _ = seat.taken();
+        self.seat = Some(seat);
+        self.held = false;
+    }
+
+    /// The seats of two locks of one counter meet. Afterwards at most one of the two is held, if only such locks used the counter.
+    pub fn meet(&mut self, other: &mut SemaLock<'_>)
+        requires { (other.old.seat.table ≡ self.old.seat.table) × (other.old.counter ≡ self.old.counter) }
+        ensures { HaveMet self.old other.old self.new other.new }
+    {
+        let (Some(mut mine), Some(mut theirs)) = (self.seat.take(), other.seat.take()) else {
+            unreachable!()
+        };
+        self.table.meet(&mut mine, &mut theirs);
+        let _ = (mine.taken(), theirs.taken());
+        self.seat = Some(mine);
+        other.seat = Some(theirs);
+    }
+
+    /// Ends the lock, and gives its seat back.
+    pub fn into_seat(self) -> Seat
+        requires { self.held ≡ false }
+        ensures { result ≡ self.entry.seat }
+    {
+        let SemaLock { seat, .. } = self;
+        match seat {
+            Some(seat) => seat,
+            None => unreachable!(),
+        }
+    }
+}
