@@ -1,0 +1,2 @@
+pub mod GroupKeeping
+pub mod GroupStepping

@@ -1,0 +1,2 @@
+pub mod GroupRule
+pub mod GroupPlays
