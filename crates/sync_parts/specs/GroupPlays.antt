@@ -1,5 +1,5 @@
 -- What each kind of step on the state word tells its seat.
-use Rattle.std.specs.Prelude.{◌≡◌, ℕ, List, [], ◌∷◌, ◌++◌, ℤ, FitsSigned}
+use Rattle.std.specs.Prelude.{◌≡◌, ℕ, [], ◌∷◌, ◌++◌, ℤ, FitsSigned}
 use Rattle.std.specs.Int.{w32}
 use Rattle.atomic_table.specs.Table as atomic
 use Rattle.atomic_table.specs.declared.shared.Seat as tokens

@@ -16,9 +16,13 @@
 #![tactic(auto)]
 
 mod group;
+mod group_adds;
+mod group_make;
 mod group_plays;
 mod group_view;
+mod group_waits;
 mod state_word;
 
+pub use group::{GroupSeat, WaitGroup};
 pub use sema_table::SetupError;
 pub use step_table::Misuse;

@@ -1,4 +1,4 @@
-use Rattle.std.proofs.Common.{sym, ap, ◌∙◌, arith, ◌≡◌, ℕ, ◌<◌}
+use Rattle.std.proofs.Common.{sym, ◌∙◌}
 use Rattle.sync_parts.proofs.GroupStepping.{store_allowed}
 use Rattle.sync_parts.proofs.state_word.StateWord.empty.Goals as goal
 
