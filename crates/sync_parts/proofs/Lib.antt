@@ -3,3 +3,8 @@ pub mod Calling
 pub mod Locks
 pub mod Turns
 pub mod Meeting
+pub mod GroupKeeping
+pub mod GroupStepping
+pub mod GroupStarting
+pub mod GroupWaiting
+pub mod GroupAdding

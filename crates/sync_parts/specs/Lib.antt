@@ -1,3 +1,9 @@
 pub mod Lock
 pub mod Locking
 pub mod Exclusion
+pub mod GroupRule
+pub mod GroupPlays
+pub mod GroupSeats
+pub mod GroupMaking
+pub mod GroupCalls
+pub mod GroupWalks

@@ -1,0 +1,84 @@
+-- What the calls of a wait group promise: the rows that they ran on the state word, the semaphore's left out, and what they did on
+-- the semaphore.
+use Rattle.std.specs.Prelude.{◌≡◌, ◌≢◌, ◌⊎◌, ℕ, zero, suc, ◌+◌, if◌then◌else◌, false, List, [], ◌∷◌, ◌++◌, map, ℤ, pos, MatchResult, Result, Ok, Err, IfOk}
+use Rattle.std.specs.Ordering.{int_eq}
+use Rattle.step_table.specs.declared.group_word.GroupWord.{GroupWord}
+use Rattle.step_table.specs.declared.misuse.Misuse.{Misuse}
+use Rattle.step_table.specs.declared.misuse.Misuse.TheVariants.{Reused}
+use Rattle.step_table.specs.declared.standing.GroupRow.{GroupRow}
+use Rattle.step_table.specs.declared.standing.GroupRow.TheVariants.{G1, V1, V3}
+use Rattle.step_table.specs.declared.standing.GroupNext.{GroupNext}
+use Rattle.step_table.specs.declared.standing.GroupNext.TheVariants.{Ends, Goes, Fails, Acquires, Releases}
+use Rattle.step_table.specs.Group.{empty_word, plus}
+use Rattle.step_table.specs.GroupPath.{GroupPath, GroupStride, going, ran_row}
+use Rattle.sema_table.specs.declared.answers.Wake.{Wake}
+use Rattle.sema_table.specs.Seats.{SeatModel}
+use Rattle.sema_table.specs.Whole.{IsAcquired, IsReleased}
+use Rattle.sync_parts.specs.declared.group_view.GroupStep.{GroupStep}
+use Rattle.sync_parts.specs.GroupPlays.{step}
+use Rattle.sync_parts.specs.GroupSeats.{GroupSeatModel}
+
+-- a row that ran, as a stride of the step table
+abbrev pub stride_of : GroupStep → GroupStride
+stride_of p = ran_row p.row p.found
+
+-- these rows are one path of the step table from this row on, and led here
+abbrev pub Walks : ℕ → GroupRow → List GroupStep → GroupNext → Type 0
+Walks number row steps next = GroupPath number (going (Goes row)) (map stride_of steps) (going next)
+
+-- the seat ran just these rows on the state word
+pub record RanSteps (s : GroupSeatModel) (steps : List GroupStep) (t : GroupSeatModel) : Type 0 where
+  pub group : t.group ≡ s.group
+  pub steps_are : t.steps ≡ s.steps ++ steps
+
+-- V1 found counter 0, at the first look or after lost exchanges. The semaphore was left alone
+pub record IsUncounted (s t : GroupSeatModel) : Type 0 where
+  pub before : List GroupStep
+  pub word : GroupWord
+  pub zero : word.counter ≡ pos 0
+  pub ran : RanSteps s (before ++ step V1 word ∷ []) t
+  pub path : Walks s.sema.number V1 (before ++ step V1 word ∷ []) Ends
+  pub alone : t.sema ≡ s.sema
+
+-- V2 was won, and one whole acquire took a unit of the semaphore. Then V3 found this word
+pub record IsCounted (s : GroupSeatModel) (word : GroupWord) (next : GroupNext) (t : GroupSeatModel) : Type 0 where
+  pub before : List GroupStep
+  pub ran : RanSteps s (before ++ step V3 word ∷ []) t
+  pub path : Walks s.sema.number V1 before Acquires
+  pub acquired : IsAcquired s.sema 0 false t.sema
+  pub looked : Walks s.sema.number V3 (step V3 word ∷ []) next
+
+-- a wait comes back where it found counter 0, uncounted, or counted and then with nobody counted or waiting; or else the group was
+-- used again
+abbrev pub IsWaited : GroupSeatModel → GroupSeatModel → Result (Unit {0}) Misuse → Type 0
+IsWaited s t answer =
+    MatchResult answer
+    (λ done. IsUncounted s t ⊎ IsCounted s empty_word Ends t)
+    (λ misuse. (misuse ≡ Reused) × ((word : GroupWord) × (word ≢ empty_word) × IsCounted s word (Fails Reused) t))
+
+-- so many releases of a unit of the semaphore, without handoff, one after the other
+abbrev pub HasReleased : ℕ → SeatModel → SeatModel → Type 0
+HasReleased zero s t = t ≡ s
+HasReleased (suc n) s t = (u : SeatModel) × HasReleased n s u × ((wake : Wake) × IsReleased u 0 false t wake)
+
+-- what an add answers whose rows led here, and what it did on the semaphore
+abbrev pub Answers : GroupNext → SeatModel → SeatModel → Result ℕ Misuse → Type 0
+Answers Ends s t answer = (answer ≡ Ok 0) × (t ≡ s)
+Answers (Releases n) s t answer = (answer ≡ Ok n) × HasReleased n s t
+Answers (Fails misuse) s t answer = (answer ≡ Err misuse) × (t ≡ s)
+Answers _ s t answer = ⊥
+
+-- how many wait in a word whose counter is 0
+abbrev pub waits_at_zero : GroupWord → ℕ
+waits_at_zero w = if int_eq w.counter (pos 0) then w.waits else 0
+
+-- G1 found this word, and what followed led here, and to this answer. It is a number of releases exactly where that is what is left
+-- to wake in the word that G1 left
+pub record IsAdded (s : GroupSeatModel) (d : ℤ) (t : GroupSeatModel) (answer : Result ℕ Misuse) : Type 0 where
+  pub found : GroupWord
+  pub after : List GroupStep
+  pub next : GroupNext
+  pub ran : RanSteps s (step (G1 d) found ∷ after) t
+  pub path : Walks s.sema.number (G1 d) (step (G1 d) found ∷ after) next
+  pub answers : Answers next s.sema t.sema answer
+  pub made : IfOk answer (λ n. (n ≡ waits_at_zero (plus found d)) × (t.sema.left + n ≡ s.sema.left))

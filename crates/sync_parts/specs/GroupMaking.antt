@@ -1,0 +1,24 @@
+-- What a wait group is as it is made.
+use Rattle.std.specs.Prelude.{◌≡◌, ℕ, List, [], map}
+use Rattle.sema_table.specs.declared.setup_error.SetupError.{SetupError}
+use Rattle.sema_table.specs.declared.setup_error.SetupError.TheVariants.{Seats, NoMemory}
+use Rattle.sema_table.specs.Seats.{SeatModel}
+use Rattle.sema_table.specs.Making.{IsFromOne, IsOutside, most_seats, new_seats}
+use Rattle.atomic_table.specs.Seated.{TableId}
+use Rattle.sync_parts.specs.GroupSeats.{GroupModel, GroupSeatModel, group_setting}
+
+-- a seat of this state word that has run nothing on it
+abbrev pub seat_on : TableId → SeatModel → GroupSeatModel
+seat_on word s = record { group = record { word = word; sema = s.table }; sema = s; steps = [] }
+
+-- a group with so many seats, in the order of their numbers, which have run nothing
+pub record IsGroupMade (seats : ℕ) (g : GroupModel) (made : List GroupSeatModel) : Type 0 where
+  pub allowed : IsFromOne most_seats seats
+  pub setting : g.sema.setting ≡ group_setting seats
+  pub seats_are : made ≡ map (seat_on g.word) (new_seats g.sema 0 seats)
+
+-- there are not 1 to 256 seats, or there are, and memory was refused
+abbrev pub IsGroupRefused : ℕ → SetupError → Type 0
+IsGroupRefused seats Seats = IsOutside most_seats seats
+IsGroupRefused seats NoMemory = IsFromOne most_seats seats
+IsGroupRefused seats _ = ⊥

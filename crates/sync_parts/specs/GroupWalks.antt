@@ -1,0 +1,27 @@
+-- What rows of one call do to the token of a seat.
+use Rattle.std.specs.Prelude.{◌≡◌, ℕ, List, [], ◌∷◌, ◌++◌, pos}
+use Rattle.step_table.specs.declared.group_word.GroupWord.{GroupWord}
+use Rattle.step_table.specs.declared.standing.GroupRow.{GroupRow}
+use Rattle.step_table.specs.declared.standing.GroupRow.TheVariants.{V1}
+use Rattle.step_table.specs.declared.standing.GroupNext.{GroupNext}
+use Rattle.step_table.specs.declared.standing.GroupNext.TheVariants.{Ends, Acquires}
+use Rattle.sync_parts.specs.declared.group_view.GroupStep.{GroupStep}
+use Rattle.sync_parts.specs.GroupPlays.{Token, step}
+use Rattle.sync_parts.specs.GroupCalls.{Walks}
+
+-- these rows ran, one path from this row on, whichever number the seat has, and led here
+pub record Walked (s : Token) (row : GroupRow) (steps : List GroupStep) (next : GroupNext) (t : Token) : Type 0 where
+  pub table_is : t.table_id ≡ s.table_id
+  pub steps_are : t.me.0.steps ≡ s.me.0.steps ++ steps
+  pub next_is : t.me.0.next ≡ next
+  pub path : (number : ℕ) → Walks number row steps next
+
+-- a wait was counted
+abbrev pub GetsCounted : Token → Token → Type 0
+GetsCounted s t = (steps : List GroupStep) × Walked s V1 steps Acquires t
+
+-- a wait found counter 0
+abbrev pub FindsZero : Token → Token → Type 0
+FindsZero s t =
+    (before : List GroupStep) × (word : GroupWord) × (word.counter ≡ pos 0)
+    × Walked s V1 (before ++ step V1 word ∷ []) Ends t

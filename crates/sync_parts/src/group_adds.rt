@@ -1,0 +1,94 @@
+//! What adds to a group, and takes off it.
+ghost use Rattle.std.specs.Prelude.{◌≡◌, ◌<◌, ◌≤◌, ◌-◌, ◌^◌, negsuc, if◌then◌else◌, false, MatchResult};
+ghost use Rattle.step_table.specs.declared.standing.GroupNext.TheVariants.{Ends, Fails, Goes, Releases};
+ghost use Rattle.step_table.specs.declared.standing.GroupRow.TheVariants.{G2};
+ghost use Rattle.step_table.specs.Group.{after_add};
+ghost use Rattle.sema_table.specs.declared.answers.Wake.{Wake};
+ghost use Rattle.sema_table.specs.Whole.{IsReleased};
+ghost use Rattle.sync_parts.specs.GroupCalls.{HasReleased, IsAdded};
+
+use crate::group::{GroupSeat, WaitGroup};
+use crate::group_plays::StateToken;
+use sema_table::Seat;
+use std::sync::Wait;
+use step_table::{GroupWord, Misuse};
+use waiters::CounterId;
+
+/// What an add of `d` came to that left this word: a misuse, or whether there are waits to release.
+fn after_add(d: i32, left: GroupWord) -> Result<bool, Misuse>
+    ensures { MatchResult result
+        (λ wakes. after_add d left ≡ (if wakes then Goes (G2 left) else Ends))
+        (λ misuse. after_add d left ≡ Fails misuse) }
+{
+    if left.counter < 0 {
+        return Err(Misuse::Negative);
+    }
+    if left.waits != 0 && 0 < d && left.counter == d {
+        return Err(Misuse::AddWithWait);
+    }
+    if 0 < left.counter || left.waits == 0 {
+        return Ok(false);
+    }
+    Ok(true)
+}
+
+impl WaitGroup {
+    /// Adds `d`, which may be below 0, and where that leads to 0 releases each wait: how many (Go's `WaitGroup.Add`). `Negative`
+    /// says that it led below 0, `AddWithWait` that it ran beside a wait. The seat comes back in either case.
+    pub fn add<R: Wait>(&self, rt: &R, seat: GroupSeat, d: i32) -> (GroupSeat, Result<u32, Misuse>)
+        requires own { seat.group ≡ self.now }
+        requires left { 2 ^ 32 - 1 ≤ seat.sema.left }
+        ensures { IsAdded seat d result.0 result.1 }
+    {
+        let GroupSeat { mut token, sema } = seat;
+        let word = self.word.add(&mut token, d);
+        match after_add(d, word) {
+            Err(misuse) => return (GroupSeat { token, sema }, Err(misuse)),
+            Ok(false) => return (GroupSeat { token, sema }, Ok(0)),
+            Ok(true) => {}
+        }
+        // Looked at again: an add or a wait that came since has begun a round beside waits that haven't come back.
+        if self.word.load(&mut token) != word {
+            return (GroupSeat { token, sema }, Err(Misuse::AddWithWait));
+        }
+        self.word.empty(&mut token, word);
+        let sema = self.release_waits(rt, &token, sema, word.waits);
+        (GroupSeat { token, sema }, Ok(word.waits))
+    }
+
+    /// Takes 1 off, and where that leads to 0 releases each wait (Go's `WaitGroup.Done`).
+    pub fn done<R: Wait>(&self, rt: &R, seat: GroupSeat) -> (GroupSeat, Result<u32, Misuse>)
+        requires own { seat.group ≡ self.now }
+        requires left { 2 ^ 32 - 1 ≤ seat.sema.left }
+        ensures { IsAdded seat (negsuc 0) result.0 result.1 }
+    {
+        self.add(rt, seat, -1)
+    }
+
+    /// Releases so many waits. The word was emptied before: a wait that was released earlier would find the old word, and take it
+    /// for that of a new round.
+    fn release_waits<R: Wait>(&self, rt: &R, _emptied: &StateToken, sema: Seat, waits: u32) -> Seat
+        requires emptied { _emptied.now.me.0.next ≡ Releases waits }
+        requires own { sema.table ≡ self.now.sema }
+        requires left { waits ≤ sema.left }
+        ensures { HasReleased waits sema result }
+    {
+        let mut sema = sema;
+        for _wait in 0..waits {
+            sema = self.release_one(rt, sema);
+        }
+        sema
+    }
+
+    /// Releases one wait.
+    fn release_one<R: Wait>(&self, rt: &R, sema: Seat) -> Seat
+        requires own { sema.table ≡ self.now.sema }
+        requires left { 0 < sema.left }
+        ensures { (wake : Wake) × IsReleased sema 0 false result wake }
+    {
+        match self.sema.release(rt, sema, CounterId::new(0), false) {
+            Ok((sema, _)) => sema,
+            Err(_) => unreachable!(),
+        }
+    }
+}

@@ -1,0 +1,88 @@
+//! The word that all seats of a wait group share.
+ghost use Rattle.std.specs.Prelude.{◌≡◌, ◌<◌, []};
+ghost use Rattle.step_table.specs.declared.standing.GroupNext.TheVariants.{Goes};
+ghost use Rattle.step_table.specs.declared.standing.GroupRow.TheVariants.{G1, G3, V2};
+ghost use Rattle.step_table.specs.declared.group_word.GroupWord.{GroupWord};
+ghost use Rattle.step_table.specs.Group.{plus, same_word};
+ghost use Rattle.step_table.specs.GroupBits.{bits_of, word_in, IsGroupWord};
+ghost use Rattle.sync_parts.specs.GroupRule.{Follows};
+ghost use Rattle.sync_parts.specs.GroupPlays.{load_row, Steps};
+
+use crate::group_plays::{Adds, Exchanges, Loads, OneHistory, StateToken, Stores};
+use crate::group_view::GroupView;
+use atomic_table::Table;
+use std::alloc::Global;
+use std::marker::Model;
+use step_table::GroupWord;
+
+/// The state word of a wait group. Each call of it is one atomic step.
+#[derive(Drop)]
+pub struct StateWord {
+    pub(crate) table: Table<u64, GroupView, (), OneHistory, Global>,
+}
+
+impl Model for StateWord {
+    ghost use Rattle.std.specs.Prelude.{◌<◌};
+    ghost use Rattle.atomic_table.specs.Seated.{TableId};
+
+    ghost Value = { TableId };
+
+    ghost view = { λ w. w.table.shared.table_id };
+
+    ghost invariant = { λ w. 0 < w.table.shared.table_id.words };
+}
+
+/// The counter and the waits that the bits of a state word show.
+fn word_of(bits: u64) -> GroupWord
+    ensures { result ≡ word_in bits }
+{
+    GroupWord {
+        counter: ((bits >> 32) as u32).cast_signed(),
+        waits: (bits & 0xffff_ffff) as u32,
+    }
+}
+
+/// The bits of a state word.
+fn bits_of(word: GroupWord) -> u64
+    ensures { result ≡ bits_of word }
+{
+    (u64::from(word.counter.cast_unsigned()) << 32) + u64::from(word.waits)
+}
+
+impl StateWord {
+    /// G1: adds to the counter. The word that this left comes back.
+    pub(crate) fn add(&self, token: &mut StateToken, d: i32) -> GroupWord
+        requires { (token.old.table_id ≡ self.now) × Follows token.old.me.0.next (G1 d) }
+        ensures { (found : GroupWord) × (result ≡ plus found d) × Steps token.old (G1 d) found token.new }
+    {
+        let more = u64::from(d.cast_unsigned()) << 32;
+        let found = self.table.shared.fetch_add::<Adds>(token, 0, more);
+        word_of(found.wrapping_add(more))
+    }
+
+    /// G2, V1 or V3: the word.
+    pub(crate) fn load(&self, token: &mut StateToken) -> GroupWord
+        requires { (token.old.table_id ≡ self.now) × Follows token.old.me.0.next (load_row token.old.me.0.next) }
+        ensures { Steps token.old (load_row token.old.me.0.next) result token.new }
+    {
+        word_of(self.table.shared.load::<Loads>(token, 0))
+    }
+
+    /// V2: counts one more wait if the word is still that which was seen.
+    pub(crate) fn count_wait(&self, token: &mut StateToken, seen: GroupWord) -> bool
+        requires { (token.old.table_id ≡ self.now) × (token.old.me.0.next ≡ Goes (V2 seen)) × IsGroupWord seen }
+        ensures { (found : GroupWord) × (result ≡ same_word seen found) × Steps token.old (V2 seen) found token.new }
+    {
+        let bits = bits_of(seen);
+        let word = &self.table.shared;
+        word.compare_exchange::<Exchanges>(token, 0, bits, bits.wrapping_add(1)) == bits
+    }
+
+    /// G3: stores 0. The seat has seen this word twice.
+    pub(crate) fn empty(&self, token: &mut StateToken, seen: GroupWord)
+        requires { (token.old.table_id ≡ self.now) × (token.old.me.0.next ≡ Goes (G3 seen)) }
+        ensures { (found : GroupWord) × Steps token.old (G3 seen) found token.new }
+    {
+        self.table.shared.store::<Stores>(token, 0, 0);
+    }
+}
