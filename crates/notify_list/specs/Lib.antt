@@ -1,0 +1,9 @@
+pub mod Sights
+pub mod Setting
+pub mod Places
+pub mod Rule
+pub mod Plays
+pub mod Seats
+pub mod Shared
+pub mod Texts
+pub mod Making
