@@ -224,6 +224,22 @@ allowed_receives z slots id i m someones ticket parked word s r sized at below =
         let o = stays id i m someones m.0.sight.stands stands s q at 0 fits (λ e. absurd (omega arith)) in
         (o.0, o.1, o.2, o.3, ((λ e. absurd (ne e)), (λ _. subst (λ n. plays.stepped m.0 n m (o.0, carried_after m.1 o.1)) (one _ (slice_index s.words i) ne k) o.4))))
 
+-- the same of the row at which the seat stands
+module _ (z : Setting) (slots id i : ℕ) (m : Me) (someones : IsSomeones m.0) (a : ListSeat) (is : m.0.sight.stands ≡ a) (ne : i ≢ 2) where
+  pub goes_at : (g : ℕ → ℕ) → ((w : ListWorld) (n : ℕ) → Known m.0 w i n → Fits m.0.setting (list_table m.0.number a w.words) i n (g n)) → Allows (IsKept z) slots id m i g (λ n t. plays.stepped m.0 n m t)
+  goes_at g ready = allowed id i m someones m.0.sight.stands stands z slots g ne
+      (λ w n k. subst (λ (y : ListSeat). Fits m.0.setting (list_table m.0.number y w.words) i n (g n)) (sym is) (ready w n k))
+
+  pub stores_at : (x : ℕ) → ((w : ListWorld) (n : ℕ) → Known m.0 w i n → Fits m.0.setting (list_table m.0.number a w.words) i n x)
+      → Allows (IsKept z) slots id m i (λ _. x) (λ _ t. (n : ℕ) × plays.stepped m.0 n m t)
+  stores_at x ready = allowed_stores id i m someones m.0.sight.stands stands z slots x ne
+      (λ w n k. subst (λ (y : ListSeat). Fits m.0.setting (list_table m.0.number y w.words) i n x) (sym is) (ready w n k))
+
+pub gives_at : (z : Setting) (slots id : ℕ) (m : Me) (someones : IsSomeones m.0) (a : ListSeat) → m.0.sight.stands ≡ a → (y : Record) → m.1 ≡ (0, y) ∷ [] → holds a.place ≡ 1
+    → ((w : ListWorld) → m.0.queue ≡ w.words.queue → Gives m.0.setting y (list_table m.0.number a w.words) m.0) → Allows (IsKept z) slots id m 2 (λ _. 0) (λ _ t. Ran m.0 1 t.0 × (t.1 ≡ rest m.1))
+gives_at z slots id m someones a is y carried holding ready = allowed_gives z slots id m someones y carried (ap (λ (q : ListSeat). holds q.place) is ∙ holding)
+    (λ w e. subst (λ (q : ListSeat). Gives m.0.setting y (list_table m.0.number q w.words) m.0) (sym is) (ready w e))
+
 -- one token has another view, and nothing else has changed
 pub views_kept : (z : Setting) (s : Kept) (r : IsKept z s) (id i : ℕ) (v w : View) → get_elem? s.views id ≡ some v → HasSeats z r.world r.spot r.made id w
     → (0 < w.made → (w.number ≡ 0) × (w.made ≡ r.made)) → IsKept z (record { words = set s.words i (slice_index s.words i); homes = s.homes; views = set s.views id w })

@@ -57,7 +57,7 @@ pub record Known (v : View) (b : ListWorld) (i n : ℕ) : Type 0 where
 pub laws_of : (z : Setting) (s : ListWorld) → z.seats ≤ 256 → IsMet z s → ReachedList z.first z.seats s
 laws_of z s few met = the_list_accounts.reached z.first z.seats s (omega arith) met
 
-journal_told : (i : ℕ) (effect : ListEffect) (journal : List ListEntry) → journal_after i effect journal ≡ journal ++ entries_of i effect
+pub journal_told : (i : ℕ) (effect : ListEffect) (journal : List ListEntry) → journal_after i effect journal ≡ journal ++ entries_of i effect
 journal_told i (HandsOut t) journal = refl
 journal_told i (Grants upto) journal = refl
 journal_told i _ journal = sym (append-nil journal)

@@ -1,6 +1,15 @@
 pub mod Words
+pub mod Owned
 pub mod Beginning
 pub mod Keeping
 pub mod Allowing
 pub mod Aside
+pub mod Leading
+pub mod Walking
 pub mod Making
+pub mod Taking
+pub mod Looking
+pub mod Locking
+pub mod Recording
+pub mod Resting
+pub mod Queueing

@@ -5,5 +5,11 @@ pub mod Rule
 pub mod Plays
 pub mod Seats
 pub mod Shared
+pub mod Walks
+pub mod Records
+pub mod Calls
+pub mod Tickets
+pub mod Waiting
+pub mod Notifying
 pub mod Texts
 pub mod Making

@@ -1,0 +1,36 @@
+//! The record, edited in its slot by the seat that holds the lock.
+ghost use Rattle.std.specs.Prelude.{◌≡◌, ◌<◌, ◌++◌, [], ◌∷◌, length, IfSome, IfNone};
+ghost use Rattle.waiters.specs.declared.wait.Wait.{Wait as Queued};
+ghost use Rattle.waiters.specs.Lists.{first_with, without_first};
+ghost use Rattle.step_table.specs.ListErased.{erased_wait};
+ghost use Rattle.notify_list.specs.Seats.{list_of};
+ghost use Rattle.notify_list.specs.Walks.{HasRecord, Edited};
+ghost use Rattle.notify_list.specs.Records.{IsOut};
+
+use crate::notify_list::{NotifyList, RECORD};
+use crate::plays::Token;
+use waiters::Wait;
+
+impl NotifyList {
+    /// Puts a wait at the end of the list.
+    pub(crate) fn insert(&self, token: &mut Token, wait: Wait)
+        requires seat { (list_of token.old ≡ self.now) × HasRecord token.old }
+        requires room { length token.old.me.0.queue < token.old.me.0.setting.seats }
+        ensures { (w : Queued) → erased_wait w ≡ wait → Edited token.old (token.old.me.0.queue ++ w ∷ []) token.new }
+    {
+        let record = token.slot_mut(&self.table.shared, RECORD);
+        record.lists.push_back(record.key, wait);
+    }
+
+    /// Takes the first wait with this ticket out of the list, if there is one: its seat's number.
+    pub(crate) fn remove(&self, token: &mut Token, ticket: u64) -> Option<u16>
+        requires { (list_of token.old ≡ self.now) × HasRecord token.old }
+        ensures { IsOut token.old ticket result token.new }
+    {
+        let record = token.slot_mut(&self.table.shared, RECORD);
+        let Some(wait) = record.lists.take_ticket(record.key, ticket) else {
+            return None;
+        };
+        Some(wait.id.seat.number())
+    }
+}
