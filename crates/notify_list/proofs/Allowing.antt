@@ -131,7 +131,7 @@ module _ (id i : ℕ) (m : Me) (someones : IsSomeones m.0) (a : ListSeat) (ok : 
   pub allowed_stores : (z : Setting) (slots x : ℕ) → i ≢ 2 → ((w : ListWorld) (n : ℕ) → Known v w i n → Fits M (event_by v w) i n x)
       → Allows (IsKept z) slots id m i (λ _. x) (λ _ t. (n : ℕ) × plays.stepped v n m t)
   allowed_stores z slots x ne ready s r sized at below =
-      let o = allowed z slots (λ _. x) ne ready s r sized at below in (o.0, o.1, o.2, o.3, (slice_index s.words i, o.4)) 
+      let o = allowed z slots (λ _. x) ne ready s r sized at below in (o.0, o.1, o.2, o.3, (slice_index s.words i, o.4))
 
 -- an exchange of 0 for 1 on the lock word: the row ran, or the lock was held and nothing changed
 module _ (z : Setting) (slots id : ℕ) (m : Me) (someones : IsSomeones m.0) (a : ListSeat) (ok : Begins m.0.sight.stands a)

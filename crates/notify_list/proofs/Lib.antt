@@ -13,3 +13,6 @@ pub mod Locking
 pub mod Recording
 pub mod Resting
 pub mod Queueing
+pub mod Granting
+pub mod Notifying
+pub mod Signalling

@@ -61,6 +61,13 @@ module _ (s t u : Token) (n waited notified : ℕ) (seat : IsSeat s n) (r : Ran 
       (walked_row s t (at_place (NotifyingOne 0 O1) a) waited (at_place place a) [] r same one.stands one.told)
       (walked_row t u (at_place place a) notified (at_place (after_looks h (waited == notified)) a) [] look again second.stands second.told)
 
+  -- all that the seat had seen handed out was so at the first look
+  pub handed_first : (told s.me.0.sight.seen).handed ≤ h
+  handed_first =
+      let laws = laws_of s.me.0.setting one.world seat.token_is.few one.met in
+      let since = handed_since s.me.0.setting.first s.me.0.setting.seats one.world s.me.0.sight.seen laws (subst (λ l. GoesOn l s.me.0.sight.seen) one.seen_is one.later) in
+      let e = ap (λ (x : Numbers). x.handed) laws.invariant.numbers in omega arith
+
   pub looked : HasLooked (seat_of s n) (waited == notified) (seat_of u n)
   looked = record {
     h = h;
@@ -69,6 +76,7 @@ module _ (s t u : Token) (n waited notified : ℕ) (seat : IsSeat s n) (r : Ran 
     answer = refl;
     comes = comes_to s u n (at_place (NotifyingOne 0 O1) a) (at_place (after_looks h (waited == notified)) a) [] (looks h waited notified) walked;
     call = calls s u n (at_place (NotifyingOne 0 O1) a) (at_place (after_looks h (waited == notified)) a) [] (looks h waited notified) seat.token_is walked;
+    since = handed_first;
   }
 
   free_after : (b : Bool) → is_free (after_looks h b) ≡ true
@@ -84,13 +92,6 @@ module _ (s t u : Token) (n waited notified : ℕ) (seat : IsSeat s n) (r : Ran 
 
   few : t.me.0.setting.seats ≤ 256
   few = let e = ap (λ (v : View). v.setting.seats) r.same in let f = seat.token_is.few in omega arith
-
-  -- all that the seat had seen handed out was so at the first look
-  pub handed_first : (told s.me.0.sight.seen).handed ≤ h
-  handed_first =
-      let laws = laws_of s.me.0.setting one.world seat.token_is.few one.met in
-      let since = handed_since s.me.0.setting.first s.me.0.setting.seats one.world s.me.0.sight.seen laws (subst (λ l. GoesOn l s.me.0.sight.seen) one.seen_is one.later) in
-      let e = ap (λ (x : Numbers). x.handed) laws.invariant.numbers in omega arith
 
   pub all_granted : waited ≡ notified → AllGranted (seat_of s n) (seat_of u n)
   all_granted e =

@@ -3,15 +3,20 @@ use Rattle.std.proofs.Common.{◌≡◌, ℕ, ◌+◌, ◌<◌, ◌≤◌, true,
 use Rattle.step_table.specs.declared.list_place.ListPlace.{ListPlace}
 use Rattle.step_table.specs.declared.list_place.ListPlace.TheVariants.{Rest, NotifyingOne}
 use Rattle.step_table.specs.declared.list_place.OneRow.TheVariants.{O3}
-use Rattle.step_table.specs.ListWorld.{ListSeat, ListWorld}
+use Rattle.step_table.specs.declared.list_place.ListWord.TheVariants.{Grant}
+use Rattle.step_table.specs.EventOf.{store}
+use Rattle.step_table.specs.ListEvent.{ListNext}
+use Rattle.step_table.specs.ListTable.{list_table}
+use Rattle.step_table.specs.ListWorld.{ListWords, ListSeat, ListWorld}
 use Rattle.list_law.specs.ListInvariant.{HandFits}
 use Rattle.list_law.specs.ListPath.{ListSight}
 use Rattle.list_law.specs.ListWellFormed.{asleep_on_list}
-use Rattle.list_law.specs.ListPlaces.{ReachedList}
+use Rattle.list_law.specs.ListPlaces.{ReachedList, GrantsParked}
 use Rattle.list_law.proofs.ListAccounts.{the_list_accounts}
 use Rattle.notify_list.specs.declared.view.View.{View}
 use Rattle.notify_list.specs.Places.{is_free}
-use Rattle.notify_list.specs.Rule.{Lands}
+use Rattle.notify_list.specs.declared.view.Setting.{Setting}
+use Rattle.notify_list.specs.Rule.{IsMet, Lands}
 use Rattle.notify_list.specs.Seats.{Token, IsToken, IsSeat}
 use Rattle.notify_list.proofs.Keeping.{laws_of}
 
@@ -47,3 +52,9 @@ module _ (v : View) (L : Lands v) (there : v.number < v.setting.seats) (few : v.
 
 pub there_of : (t : Token) (n : ℕ) → IsToken t n → t.me.0.number < t.me.0.setting.seats
 there_of t n is = let a = is.number_is in let b = is.there in omega arith
+
+-- a seat that is about to grant grants another, which is there and wasn't granted
+pub grants_in : (z : Setting) (s : ListWorld) (i : ℕ) (a : ListSeat) (k : ℕ) (next : ListNext) → z.seats ≤ 256 → IsMet z s → i < z.seats → s.seats i ≡ a
+    → ((g : ListWords) → list_table i a g ≡ store (Grant k) 1 next) → GrantsParked z.seats i k s
+grants_in z s i a k next few met there is e =
+    (the_list_accounts.granted z.first z.seats i k 1 s there (laws_of z s few met).invariant (next, ap (λ (y : ListSeat). list_table i y s.words) is ∙ e s.words)).1

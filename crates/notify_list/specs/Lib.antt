@@ -11,5 +11,6 @@ pub mod Calls
 pub mod Tickets
 pub mod Waiting
 pub mod Notifying
+pub mod Granting
 pub mod Texts
 pub mod Making

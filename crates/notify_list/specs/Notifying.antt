@@ -1,5 +1,5 @@
 -- What a notification of one promises.
-use Rattle.std.specs.Prelude.{◌≡◌, ◌≢◌, ◌⊎◌, ℕ, ◌+◌, ◌<◌, List, [], ◌∷◌, ◌++◌, Option, Some, None}
+use Rattle.std.specs.Prelude.{◌≡◌, ◌≢◌, ◌⊎◌, ℕ, ◌+◌, ◌<◌, ◌≤◌, List, [], ◌∷◌, ◌++◌, Option, Some, None}
 use Rattle.step_table.specs.declared.list_place.ListPlace.{ListPlace}
 use Rattle.step_table.specs.declared.list_place.ListPlace.TheVariants.{Rest, NotifyingOne}
 use Rattle.step_table.specs.declared.list_place.OneRow.TheVariants.{O1, O3, O4, O5, O6, O7, O8, O9}
@@ -54,3 +54,10 @@ pub record GrantsLeast (s : SeatModel) (word : ℕ) (t : SeatModel) : Type 0 whe
   pub seen : GoesOn t.sight.seen (before ++ Granted ((told before).granted + 1) s.number ∷ [])
   pub handed : (told before).granted < (told before).handed
   pub word_is : word ≡ word_of s.list.setting.first (told before).granted
+
+-- the rows of a notification from O3 on, whose first look found h tickets handed out. Where it answers none, these are granted
+abbrev pub EndsOne : SeatModel → ℕ → Option ℕ → SeatModel → Type 0
+EndsOne s h None t =
+    ComesTo s (at_place Rest s.sight.stands) t × OneFromLock s s.sight.stands h [] None t × (h ≤ (told t.sight.seen).granted)
+EndsOne s h (Some word) t =
+    ComesTo s (at_place Rest s.sight.stands) t × OneFromLock s s.sight.stands h [] (Some word) t × GrantsLeast s word t

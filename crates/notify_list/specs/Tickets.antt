@@ -1,5 +1,5 @@
 -- What taking a ticket promises, and looking whether all are granted.
-use Rattle.std.specs.Prelude.{◌≡◌, ℕ, ◌<◌, ◌==◌, if◌then◌else◌, Bool, true, List, [], ◌∷◌, ◌++◌, Some}
+use Rattle.std.specs.Prelude.{◌≡◌, ℕ, ◌<◌, ◌≤◌, ◌==◌, if◌then◌else◌, Bool, true, List, [], ◌∷◌, ◌++◌, Some}
 use Rattle.step_table.specs.declared.list_place.ListPlace.{ListPlace}
 use Rattle.step_table.specs.declared.list_place.ListPlace.TheVariants.{Rest, Adding, NotifyingOne}
 use Rattle.step_table.specs.declared.list_place.OneRow.TheVariants.{O1, O2, O3}
@@ -54,3 +54,4 @@ pub record HasLooked (s : SeatModel) (equal : Bool) (t : SeatModel) : Type 0 whe
   pub answer : equal ≡ (waited == notified)
   pub comes : ComesTo s (at_place (after_looks h equal) s.sight.stands) t
   pub call : Calls s (at_place (NotifyingOne 0 O1) s.sight.stands) t [] (looks h waited notified)
+  pub since : (numbers_seen s).handed ≤ h

@@ -4,6 +4,7 @@
 mod locks;
 mod make;
 mod notify_list;
+mod notify_one;
 mod plays;
 mod records;
 mod seat;

@@ -61,9 +61,12 @@ fn make(alloc: Global, setting: Setting) -> Result<(NotifyList, Vec<ListSeat>), 
     let words = first_words(alloc, setting)?;
     let slots = first_slots(alloc, setting.seats)?;
     let mut made = Vec::with_capacity(alloc, usize::from(seats))?;
-    let Ok((table, mut first)) =
-        Table::<Record, View, Setting, OneWorld, Global>::new(alloc, words.as_slice(), slots, &setting)
-    else {
+    let Ok((table, mut first)) = Table::<Record, View, Setting, OneWorld, Global>::new(
+        alloc,
+        words.as_slice(),
+        slots,
+        &setting,
+    ) else {
         return Err(NoMemory);
     };
     for number in 1..seats {

@@ -1,9 +1,9 @@
 //! A seat between two calls, without a ticket and with one.
+ghost use Rattle.std.specs.Prelude.{◌≡◌};
+
 use crate::plays::Token;
 use std::marker::Model;
 use waiters::SeatId;
-
-ghost use Rattle.std.specs.Prelude.{◌≡◌};
 
 /// A seat between two calls, which holds no ticket.
 #[derive(Drop)]
