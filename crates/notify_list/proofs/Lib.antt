@@ -16,3 +16,9 @@ pub mod Queueing
 pub mod Granting
 pub mod Notifying
 pub mod Signalling
+pub mod Lawful
+pub mod LookingAll
+pub mod Reaching
+pub mod Emptying
+pub mod Wakening
+pub mod Broadcasting

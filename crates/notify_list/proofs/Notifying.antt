@@ -170,10 +170,18 @@ module _ (s : Token) (n h : ℕ) (seat : IsSeat s n) (at : s.me.0.sight.stands.p
 
             ends : ending
             ends = ⊎_elim
-                (λ y. (token_after s z n (stands_of s) (a Rest) told9 (finds_one h ticket waited) seat.token_is y G.bare, y.stands_is, comes_to s z n (stands_of s) (a Rest) told9 (finds_one h ticket waited) y,
-                inl (calls s z n (stands_of s) (a Rest) told9 (finds_one h ticket waited) seat.token_is y)))
-                (λ y. (token_after s z n (stands_of s) (a Rest) told9 (finds_one h ticket waited ++ grants_it h) seat.token_is y G.bare, y.stands_is, comes_to s z n (stands_of s) (a Rest) told9 (finds_one h ticket waited ++ grants_it h) y,
-                inr (calls s z n (stands_of s) (a Rest) told9 (finds_one h ticket waited ++ grants_it h) seat.token_is y)))
+                (λ y. (
+                  token_after s z n (stands_of s) (a Rest) told9 (finds_one h ticket waited) seat.token_is y G.bare,
+                  y.stands_is,
+                  comes_to s z n (stands_of s) (a Rest) told9 (finds_one h ticket waited) y,
+                  inl (calls s z n (stands_of s) (a Rest) told9 (finds_one h ticket waited) seat.token_is y),
+                ))
+                (λ y. (
+                  token_after s z n (stands_of s) (a Rest) told9 (finds_one h ticket waited ++ grants_it h) seat.token_is y G.bare,
+                  y.stands_is,
+                  comes_to s z n (stands_of s) (a Rest) told9 (finds_one h ticket waited ++ grants_it h) y,
+                  inr (calls s z n (stands_of s) (a Rest) told9 (finds_one h ticket waited ++ grants_it h) seat.token_is y),
+                ))
                 either
 
             pub seat_some : IsSeat z n
@@ -186,9 +194,13 @@ module _ (s : Token) (n h : ℕ) (seat : IsSeat s n) (at : s.me.0.sight.stands.p
             pub ends_some : EndsOne (seat_of s n) h (Some ticket) (seat_of z n)
             ends_some = (
               ends.2,
-              (waited, (told G.before).granted + 1, unequal,
-              subst (λ i. Calls (seat_of s n) (stands_of s) (seat_of z n) (Granted ((told G.before).granted + 1) i ∷ []) (finds_one h ticket waited) ⊎ Calls (seat_of s n) (stands_of s) (seat_of z n) (Granted ((told G.before).granted + 1) i ∷ []) (finds_one h ticket waited ++ grants_it h))
-                  seat.token_is.number_is ends.3),
+              (
+                waited,
+                (told G.before).granted + 1,
+                unequal,
+                subst (λ i. Calls (seat_of s n) (stands_of s) (seat_of z n) (Granted ((told G.before).granted + 1) i ∷ []) (finds_one h ticket waited) ⊎ Calls (seat_of s n) (stands_of s) (seat_of z n) (Granted ((told G.before).granted + 1) i ∷ []) (finds_one h ticket waited ++ grants_it h))
+                    seat.token_is.number_is ends.3,
+              ),
               record {
                 before = G.before;
                 later = goes_on_more s.me.0.sight.seen x.me.0.sight.seen G.before (walked_later s x (a (NotifyingOne h O3)) (a (NotifyingOne h (O7 ticket))) [] rows5 w7) G.later;

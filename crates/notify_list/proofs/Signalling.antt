@@ -54,11 +54,16 @@ module _ (s u : SeatModel) where
 
     from_lock : (answer : Option ℕ) → OneFromLock u u.sight.stands x.h [] answer t → OneFromLock s a x.h (looks x.h x.waited x.notified) answer t
     from_lock None y = (y.0, whole [] (finds_none x.h y.0) y.1)
-    from_lock (Some ticket) y = (y.0, y.1, y.2, ⊎_elim
-        (λ c. inl (subst (λ i. Calls s a t (Granted y.1 i ∷ []) (looks x.h x.waited x.notified ++ finds_one x.h ticket y.0)) number_is (whole (Granted y.1 u.number ∷ []) (finds_one x.h ticket y.0) c)))
-        (λ c. inr (subst (λ i. Calls s a t (Granted y.1 i ∷ []) (looks x.h x.waited x.notified ++ (finds_one x.h ticket y.0 ++ grants_it x.h))) number_is
-        (whole (Granted y.1 u.number ∷ []) (finds_one x.h ticket y.0 ++ grants_it x.h) c)))
-        y.3)
+    from_lock (Some ticket) y = (
+      y.0,
+      y.1,
+      y.2,
+      ⊎_elim
+          (λ c. inl (subst (λ i. Calls s a t (Granted y.1 i ∷ []) (looks x.h x.waited x.notified ++ finds_one x.h ticket y.0)) number_is (whole (Granted y.1 u.number ∷ []) (finds_one x.h ticket y.0) c)))
+          (λ c. inr (subst (λ i. Calls s a t (Granted y.1 i ∷ []) (looks x.h x.waited x.notified ++ (finds_one x.h ticket y.0 ++ grants_it x.h))) number_is
+          (whole (Granted y.1 u.number ∷ []) (finds_one x.h ticket y.0 ++ grants_it x.h) c)))
+          y.3,
+    )
 
     parts : (answer : Option ℕ) → EndsOne u x.h answer t → ComesTo u (at_place Rest u.sight.stands) t × OneFromLock u u.sight.stands x.h [] answer t
     parts None y = (y.0, y.1)

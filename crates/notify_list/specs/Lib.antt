@@ -12,5 +12,8 @@ pub mod Tickets
 pub mod Waiting
 pub mod Notifying
 pub mod Granting
+pub mod NotifyingAll
+pub mod GrantingAll
 pub mod Texts
 pub mod Making
+pub mod List

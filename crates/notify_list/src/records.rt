@@ -1,12 +1,12 @@
 //! The record, edited in its slot by the seat that holds the lock.
-ghost use Rattle.std.specs.Prelude.{◌≡◌, ◌<◌, ◌++◌, [], ◌∷◌, length, IfSome, IfNone};
+ghost use Rattle.std.specs.Prelude.{◌≡◌, ◌<◌, ◌≤◌, ◌++◌, List, [], ◌∷◌, length, map};
 ghost use Rattle.waiters.specs.declared.wait.Wait.{Wait as Queued};
-ghost use Rattle.waiters.specs.Lists.{first_with, without_first};
 ghost use Rattle.step_table.specs.ListErased.{erased_wait};
 ghost use Rattle.notify_list.specs.Seats.{list_of};
 ghost use Rattle.notify_list.specs.Walks.{HasRecord, Edited};
-ghost use Rattle.notify_list.specs.Records.{IsOut};
+ghost use Rattle.notify_list.specs.Records.{IsOut, HasWaits, FirstOut};
 
+use crate::notify_all::Hand;
 use crate::notify_list::{NotifyList, RECORD};
 use crate::plays::Token;
 use waiters::Wait;
@@ -32,5 +32,29 @@ impl NotifyList {
             return None;
         };
         Some(wait.id.seat.number())
+    }
+
+    /// Takes the first wait out of the list, if there is one: its seat's number.
+    fn remove_first(&self, token: &mut Token) -> Option<u16>
+        requires { (list_of token.old ≡ self.now) × ((queue : List Queued) × HasWaits token.old queue) }
+        ensures { (queue : List Queued) → HasWaits token.old queue → FirstOut token.old queue result token.new }
+    {
+        let record = token.slot_mut(&self.table.shared, RECORD);
+        let Some(wait) = record.lists.pop_front(record.key) else {
+            return None;
+        };
+        Some(wait.id.seat.number())
+    }
+
+    /// Takes all waits out of the list: their seats' numbers, in order.
+    pub(crate) fn remove_all(&self, token: &mut Token, hand: &mut Hand)
+        requires seat { (list_of token.old ≡ self.now) × HasRecord token.old × (token.old.me.0.setting.seats ≤ 256) }
+        requires hand { hand.old.items ≡ [] }
+        ensures edited { Edited token.old [] token.new }
+        ensures hand { hand.new.items ≡ map (λ w. w.id.seat) token.old.me.0.queue }
+    {
+        while let Some(seat) = self.remove_first(token) {
+            hand.push(seat);
+        }
     }
 }
