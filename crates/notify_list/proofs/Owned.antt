@@ -1,0 +1,23 @@
+-- A seat of a list, and where the list's words lie for it.
+use Rattle.std.proofs.Common.{◌≡◌, ℕ, ◌+◌, ◌<◌, sym, ap, ◌∙◌, subst, arith}
+use Rattle.notify_list.specs.declared.notify_list.NotifyList.TheInside.{Inside}
+use Rattle.notify_list.specs.Seats.{ListModel, SeatModel, Token, list_of, seat_of}
+use Rattle.notify_list.specs.Shared.{IsList, list_by}
+use Rattle.notify_list.specs.Rule.{IsSomeones}
+
+abbrev pub Made : Inside → Type 0
+Made x = IsList (list_by x).id (list_by x).setting x.seats
+
+-- the seat's list is this one
+pub own : (x : Inside) (s : Token) (n : ℕ) {l : ListModel} {seat : SeatModel} → list_by x ≡ l → seat_of s n ≡ seat → seat.list ≡ l → list_of s ≡ list_by x
+own x s n is seen of = ap (λ (y : SeatModel). y.list) seen ∙ of ∙ sym is
+
+-- a word before the first word of the sleepers lies in the list
+pub low_word : (x : Inside) → Made x → (i : ℕ) → i < 3 → i < x.table.shared.table_id.words
+low_word x made i low = let w = made.words in omega arith
+
+pub grant_low : (x : Inside) → Made x → (i : ℕ) → i < x.table.shared.key.seats → 3 + i < x.table.shared.table_id.words
+grant_low x made i low = let w = made.words in omega arith
+
+pub someones : (x : Inside) → Made x → (s : Token) → list_of s ≡ list_by x → IsSomeones s.me.0
+someones x made s own = subst (λ (y : ListModel). 0 < y.setting.seats) (sym own) (let a = made.some in let c = made.seated in omega arith)

@@ -1,0 +1,60 @@
+-- What is known of a seat by the world in which it has seen all.
+use Rattle.std.proofs.Common.{◌≡◌, ℕ, ◌+◌, ◌<◌, ◌≤◌, true, List, [], ◌∷◌, length, sym, refl, ap, ◌∙◌, subst, arith}
+use Rattle.step_table.specs.declared.list_place.ListPlace.{ListPlace}
+use Rattle.step_table.specs.declared.list_place.ListPlace.TheVariants.{Rest, NotifyingOne}
+use Rattle.step_table.specs.declared.list_place.OneRow.TheVariants.{O3}
+use Rattle.step_table.specs.declared.list_place.ListWord.TheVariants.{Grant}
+use Rattle.step_table.specs.EventOf.{store}
+use Rattle.step_table.specs.ListEvent.{ListNext}
+use Rattle.step_table.specs.ListTable.{list_table}
+use Rattle.step_table.specs.ListWorld.{ListWords, ListSeat, ListWorld}
+use Rattle.list_law.specs.ListInvariant.{HandFits}
+use Rattle.list_law.specs.ListPath.{ListSight}
+use Rattle.list_law.specs.ListWellFormed.{asleep_on_list}
+use Rattle.list_law.specs.ListPlaces.{ReachedList, GrantsParked}
+use Rattle.list_law.proofs.ListAccounts.{the_list_accounts}
+use Rattle.notify_list.specs.declared.view.View.{View}
+use Rattle.notify_list.specs.Places.{is_free}
+use Rattle.notify_list.specs.declared.view.Setting.{Setting}
+use Rattle.notify_list.specs.Rule.{IsMet, Lands}
+use Rattle.notify_list.specs.Seats.{Token, IsToken, IsSeat}
+use Rattle.notify_list.proofs.Keeping.{laws_of}
+
+module _ (v : View) (L : Lands v) (there : v.number < v.setting.seats) (few : v.setting.seats ≤ 256) where
+  pub laws_there : ReachedList v.setting.first v.setting.seats L.world
+  laws_there = laws_of v.setting L.world few L.met
+
+  pub stands_there : L.world.seats v.number ≡ v.sight.stands
+  stands_there = ap (λ (y : ListSight). y.stands) (sym L.sees)
+
+  -- a seat that isn't parked has room for its wait
+  pub room_there : ((n : ℕ) → asleep_on_list v.sight.stands.place n ≡ 0) → length v.queue < v.setting.seats
+  room_there awake =
+      let r = the_list_accounts.room v.setting.first v.setting.seats L.world laws_there.invariant v.number there
+      (ap (λ (y : ListSeat). asleep_on_list y.place (L.world.words.grants v.number)) stands_there ∙ awake (L.world.words.grants v.number)) in
+      let q = ap length L.queue in omega arith
+
+  fits_there : HandFits v.sight.stands.place (length v.sight.stands.hand)
+  fits_there = subst (λ (y : ListSeat). HandFits y.place (length y.hand)) stands_there (laws_there.invariant.seats_known v.number there).fits
+
+  -- a seat that may begin a call has nothing in hand
+  pub empty_there : is_free v.sight.stands.place ≡ true → v.sight.stands.hand ≡ []
+  empty_there free = none v.sight.stands.hand (by v.sight.stands.place free fits_there)
+    where
+      by : (p : ListPlace) → is_free p ≡ true → HandFits p (length v.sight.stands.hand) → length v.sight.stands.hand ≡ 0
+      by Rest e f = f
+      by (NotifyingOne h O3) e f = f
+      by _ e f = absurd (cc)
+
+      none : {A : Type 0} (l : List A) → length l ≡ 0 → l ≡ []
+      none [] e = refl
+      none (x ∷ l) e = absurd (omega arith)
+
+pub there_of : (t : Token) (n : ℕ) → IsToken t n → t.me.0.number < t.me.0.setting.seats
+there_of t n is = let a = is.number_is in let b = is.there in omega arith
+
+-- a seat that is about to grant grants another, which is there and wasn't granted
+pub grants_in : (z : Setting) (s : ListWorld) (i : ℕ) (a : ListSeat) (k : ℕ) (next : ListNext) → z.seats ≤ 256 → IsMet z s → i < z.seats → s.seats i ≡ a
+    → ((g : ListWords) → list_table i a g ≡ store (Grant k) 1 next) → GrantsParked z.seats i k s
+grants_in z s i a k next few met there is e =
+    (the_list_accounts.granted z.first z.seats i k 1 s there (laws_of z s few met).invariant (next, ap (λ (y : ListSeat). list_table i y s.words) is ∙ e s.words)).1

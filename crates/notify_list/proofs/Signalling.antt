@@ -1,0 +1,93 @@
+-- A notification of one as a whole: its two looks, and what comes of them.
+use Rattle.std.proofs.Common.{◌≡◌, ◌≢◌, ◌⊎◌, ℕ, ◌+◌, ◌<◌, ◌≤◌, ◌==◌, Bool, true, false, List, [], ◌∷◌, ◌++◌, Option, Some, None, IfSome, IfNone, inl, inr, ⊎_elim, sym, refl, ap, ◌∙◌, subst, arith}
+use Rattle.step_table.specs.declared.list_place.ListPlace.{ListPlace}
+use Rattle.step_table.specs.declared.list_place.ListPlace.TheVariants.{Rest, NotifyingOne}
+use Rattle.step_table.specs.declared.list_place.OneRow.TheVariants.{O1, O3}
+use Rattle.step_table.specs.ListWorld.{ListSeat, ListEntry, Granted}
+use Rattle.step_table.specs.Path.{GoesOn}
+use Rattle.step_table.proofs.Paths.{goes_on_more}
+use Rattle.list_law.specs.ListLawful.{told}
+use Rattle.list_law.specs.ListPath.{ListSight}
+use Rattle.list_law.proofs.ListPaths.{the_list_paths}
+use Rattle.notify_list.specs.Places.{at_place}
+use Rattle.notify_list.specs.Seats.{ListModel, SeatModel}
+use Rattle.notify_list.specs.Calls.{Calls, ComesTo, AllGranted}
+use Rattle.notify_list.specs.Tickets.{HasLooked, looks, after_looks}
+use Rattle.notify_list.specs.Notifying.{finds_none, finds_one, grants_it, OneFromLock, NotifiesOne, GrantsLeast, EndsOne}
+use Rattle.notify_list.proofs.Leading.{equal_is, unequal_is}
+use Rattle.notify_list.proofs.Walking.{calls_then}
+
+-- what was seen at a call's start is seen still
+pub call_later : (s t : SeatModel) (begun : ListSeat) (entries : List ListEntry) (rows : List (ListPlace × ℕ)) → Calls s begun t entries rows → GoesOn t.sight.seen s.sight.seen
+call_later s t begun entries rows x = (the_list_paths.paths s.list.setting.first s.list.setting.seats).grows s.number (record { stands = begun; seen = s.sight.seen }) t.sight x.strides x.path
+
+module _ (s u : SeatModel) where
+  -- it was quiet
+  pub quiet_one : HasLooked s true u → NotifiesOne s None u
+  quiet_one x = record {
+    comes = x.comes;
+    h = x.h;
+    waited = x.waited;
+    notified = x.notified;
+    rows = inl (refl, equal_is x.waited x.notified (sym x.answer), x.call);
+  }
+
+  module _ (t : SeatModel) (x : HasLooked s false u) where
+    abbrev a : ListSeat
+    a = at_place (NotifyingOne 0 O1) s.sight.stands
+
+    pub place_then : u.sight.stands.place ≡ NotifyingOne x.h O3
+    place_then = ap (λ (y : ListSeat). y.place) x.comes.stands_is
+
+    -- the call's rows after the looks'
+    whole : (entries : List ListEntry) (rows : List (ListPlace × ℕ)) → Calls u u.sight.stands t entries rows → Calls s a t entries (looks x.h x.waited x.notified ++ rows)
+    whole entries rows y = calls_then s u t a [] entries (looks x.h x.waited x.notified) rows x.comes.same x.call y
+
+    number_is : u.number ≡ s.number
+    number_is = ap (λ (y : SeatModel). y.number) x.comes.same
+
+    comes_whole : ComesTo u (at_place Rest u.sight.stands) t → ComesTo s (at_place Rest s.sight.stands) t
+    comes_whole y = record {
+      same = y.same ∙ (λ i. record (x.comes.same i) { sight = t.sight; strides = t.strides });
+      stands_is = y.stands_is ∙ ap (λ (q : ListSeat). at_place Rest q) x.comes.stands_is;
+    }
+
+    from_lock : (answer : Option ℕ) → OneFromLock u u.sight.stands x.h [] answer t → OneFromLock s a x.h (looks x.h x.waited x.notified) answer t
+    from_lock None y = (y.0, whole [] (finds_none x.h y.0) y.1)
+    from_lock (Some ticket) y = (
+      y.0,
+      y.1,
+      y.2,
+      ⊎_elim
+          (λ c. inl (subst (λ i. Calls s a t (Granted y.1 i ∷ []) (looks x.h x.waited x.notified ++ finds_one x.h ticket y.0)) number_is (whole (Granted y.1 u.number ∷ []) (finds_one x.h ticket y.0) c)))
+          (λ c. inr (subst (λ i. Calls s a t (Granted y.1 i ∷ []) (looks x.h x.waited x.notified ++ (finds_one x.h ticket y.0 ++ grants_it x.h))) number_is
+          (whole (Granted y.1 u.number ∷ []) (finds_one x.h ticket y.0 ++ grants_it x.h) c)))
+          y.3,
+    )
+
+    parts : (answer : Option ℕ) → EndsOne u x.h answer t → ComesTo u (at_place Rest u.sight.stands) t × OneFromLock u u.sight.stands x.h [] answer t
+    parts None y = (y.0, y.1)
+    parts (Some word) y = (y.0, y.1)
+
+    pub locked_one : (answer : Option ℕ) → EndsOne u x.h answer t → NotifiesOne s answer t
+    locked_one answer y = let p = parts answer y in record {
+      comes = comes_whole p.0;
+      h = x.h;
+      waited = x.waited;
+      notified = x.notified;
+      rows = inr (unequal_is x.waited x.notified (sym x.answer), from_lock answer p.1);
+    }
+
+    pub least_one : (answer : Option ℕ) → EndsOne u x.h answer t → IfSome answer (λ word. GrantsLeast s word t)
+    least_one None y = tt
+    least_one (Some word) y = let g = y.2 in record {
+      before = g.before;
+      later = goes_on_more s.sight.seen u.sight.seen g.before (call_later s u a [] (looks x.h x.waited x.notified) x.call) g.later;
+      seen = subst (λ i. GoesOn t.sight.seen (g.before ++ Granted ((told g.before).granted + 1) i ∷ [])) number_is g.seen;
+      handed = g.handed;
+      word_is = g.word_is ∙ ap (λ (q : SeatModel). Rattle.step_table.specs.Wrapping.word_of q.list.setting.first (told g.before).granted) x.comes.same;
+    }
+
+    pub none_one : (answer : Option ℕ) → EndsOne u x.h answer t → IfNone answer (AllGranted s t)
+    none_one None y = let a = y.2 in let b = x.since in omega arith
+    none_one (Some word) y = tt

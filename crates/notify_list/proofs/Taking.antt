@@ -1,0 +1,79 @@
+-- What a seat has that took a ticket.
+use Rattle.std.proofs.Common.{◌≡◌, ℕ, ◌+◌, ◌<◌, ◌%◌, ◌^◌, List, [], ◌∷◌, ◌++◌, Option, Some, None, sym, refl, ap, ◌∙◌, subst, arith}
+use Rattle.step_table.specs.declared.list_place.ListPlace.TheVariants.{Adding}
+use Rattle.step_table.specs.declared.list_place.Ticket.{Ticket}
+use Rattle.step_table.specs.Wrapping.{word_of, next_word}
+use Rattle.step_table.specs.ListWorld.{Numbers, ListSeat, ListEntry, ListWorld, Took}
+use Rattle.list_law.specs.ListLawful.{told}
+use Rattle.list_law.specs.ListPath.{ListSight}
+use Rattle.list_law.specs.ListPlaces.{ReachedList}
+use Rattle.notify_list.specs.Places.{at_place}
+use Rattle.notify_list.specs.Plays.{Ran, standing}
+use Rattle.notify_list.specs.Seats.{Token, seat_of, list_of, ListModel, SeatModel, IsToken, IsSeat, IsHolding}
+use Rattle.notify_list.specs.Walks.{Walked, stands_of}
+use Rattle.notify_list.specs.Calls.{numbers_seen}
+use Rattle.notify_list.specs.Tickets.{with_held, IsNextTicket, IsAdded, HasTicket}
+use Rattle.notify_list.proofs.Keeping.{laws_of}
+use Rattle.notify_list.proofs.Leading.{Led, led}
+use Rattle.notify_list.proofs.Walking.{walked_row, token_after, calls, comes_to}
+
+pub next_is : (n : ℕ) → (n + 1) % 2 ^ 64 ≡ next_word n
+unfolding next_word
+next_is n = refl
+
+-- N1
+module _ (s t : Token) (n word : ℕ) (seat : IsSeat s n) (r : Ran (standing (at_place Adding s.me.0.sight.stands) s.me.0) word t.me.0) (same : t.table_id ≡ s.table_id) (slots : t.me.1 ≡ s.me.1) where
+  d : Led (standing (at_place Adding s.me.0.sight.stands) s.me.0) word t.me.0 r.stride
+  d = led (standing (at_place Adding s.me.0.sight.stands) s.me.0) t.me.0 word r
+
+  abbrev ticket : Ticket
+  ticket = record { word = word; number = d.world.words.numbers.handed }
+
+  abbrev walked : Walked s (at_place Adding s.me.0.sight.stands) t (with_held ticket s.me.0.sight.stands) (Took s.me.0.number ∷ []) ((Adding, word) ∷ [])
+  walked = walked_row s t (at_place Adding s.me.0.sight.stands) word (with_held ticket s.me.0.sight.stands) (Took s.me.0.number ∷ []) r same d.stands d.told
+
+  laws : ReachedList s.me.0.setting.first s.me.0.setting.seats d.world
+  laws = laws_of s.me.0.setting d.world (seat.token_is.few) d.met
+
+  pub added : IsAdded (seat_of s n) (seat_of t n)
+  added = subst (λ k. IsAdded (record (seat_of s n) { number = k }) (record (seat_of t n) { number = k })) seat.token_is.number_is (record {
+    ticket = ticket;
+    comes = let c = comes_to s t s.me.0.number (at_place Adding s.me.0.sight.stands) (with_held ticket s.me.0.sight.stands) (Took s.me.0.number ∷ []) ((Adding, word) ∷ []) walked in c;
+    call = calls s t s.me.0.number (at_place Adding s.me.0.sight.stands) (with_held ticket s.me.0.sight.stands) (Took s.me.0.number ∷ []) ((Adding, word) ∷ []) own_token walked;
+    next = record {
+      before = r.stride.seen;
+      seen_is = d.seen ∙ ap (λ l. r.stride.seen ++ l) d.told;
+      number_is = ap (λ (x : Numbers). x.handed) (numbers_are ∙ ap told (sym d.seen_is));
+      word_is = d.read ∙ laws.lawful.journal.1 ∙ ap (λ (x : Numbers). word_of s.me.0.setting.first x.handed) (sym numbers_are);
+    };
+  })
+    where
+      own_token : IsToken s s.me.0.number
+      own_token = subst (IsToken s) (sym seat.token_is.number_is) seat.token_is
+
+      numbers_are : d.world.words.numbers ≡ told d.world.journal
+      numbers_are = laws.invariant.numbers
+
+  pub holding : IsHolding t n word
+  holding = record {
+    token_is = token_after s t n (at_place Adding s.me.0.sight.stands) (with_held ticket s.me.0.sight.stands) (Took s.me.0.number ∷ []) ((Adding, word) ∷ []) seat.token_is walked (slots ∙ seat.token_is.bare);
+    rests = ap (λ (a : ListSeat). a.place) walked.stands_is;
+    ticket = ticket;
+    held = ap (λ (a : ListSeat). a.ticket) walked.stands_is;
+    word_is = refl;
+  }
+
+-- the ticket that a seat holds
+pub has_ticket : (t : Token) (n word : ℕ) → IsHolding t n word → HasTicket (seat_of t n) word
+has_ticket t n word x =
+    let L = x.token_is.lands in
+    let laws = laws_of t.me.0.setting L.world x.token_is.few L.met in
+    let there : t.me.0.number < t.me.0.setting.seats = (let a = x.token_is.number_is in let b = x.token_is.there in omega arith) in
+    let held : (L.world.seats t.me.0.number).ticket ≡ Some x.ticket = ap (λ (v : ListSight). v.stands.ticket) (sym L.sees) ∙ x.held in
+    let H = laws.lawful.held t.me.0.number x.ticket there held in record {
+      ticket = x.ticket;
+      held = x.held;
+      word_is = sym x.word_is;
+      shown = sym x.word_is ∙ H.0;
+      handed = subst (λ (v : ListSight). x.ticket.number < (told v.seen).handed) (sym L.sees) H.1;
+    }

@@ -1,0 +1,41 @@
+-- Where words lie, and what a write changes.
+use Rattle.std.proofs.Common.{◌≡◌, ◌≢◌, ℕ, ◌<◌, List, sym, refl, ap, ◌∙◌, arith}
+use Rattle.waiters.specs.declared.wait.Wait as waiters
+use Rattle.step_table.specs.declared.list_place.ListWord.{ListWord}
+use Rattle.step_table.specs.declared.list_place.ListWord.TheVariants.{Wait, Notify, Lock, Grant}
+use Rattle.step_table.specs.ListWorld.{Numbers, ListWords, found, written}
+use Rattle.step_table.specs.World.{put}
+use Rattle.step_table.proofs.Sums.{put_here, put_else}
+use Rattle.notify_list.specs.declared.view.Setting.{Setting}
+use Rattle.notify_list.specs.Setting.{address, words_shown, words_in, IsThere}
+
+-- a word after a write: the new number, or what it was
+pub written_word : (g : ListWords) (numbers : Numbers) (queue : List waiters.Wait) (w u : ListWord) (x : ℕ)
+    → (address u ≡ address w → found (record (written g w x) { numbers = numbers; queue = queue }) u ≡ x)
+    × (address u ≢ address w → found (record (written g w x) { numbers = numbers; queue = queue }) u ≡ found g u)
+written_word g m q Wait Wait x = ((λ e. refl), (λ ne. absurd (ne refl)))
+written_word g m q Wait Notify x = ((λ e. absurd (omega arith)), (λ ne. refl))
+written_word g m q Wait Lock x = ((λ e. absurd (omega arith)), (λ ne. refl))
+written_word g m q Wait (Grant d) x = ((λ e. absurd (omega arith)), (λ ne. refl))
+written_word g m q Notify Wait x = ((λ e. absurd (omega arith)), (λ ne. refl))
+written_word g m q Notify Notify x = ((λ e. refl), (λ ne. absurd (ne refl)))
+written_word g m q Notify Lock x = ((λ e. absurd (omega arith)), (λ ne. refl))
+written_word g m q Notify (Grant d) x = ((λ e. absurd (omega arith)), (λ ne. refl))
+written_word g m q Lock Wait x = ((λ e. absurd (omega arith)), (λ ne. refl))
+written_word g m q Lock Notify x = ((λ e. absurd (omega arith)), (λ ne. refl))
+written_word g m q Lock Lock x = ((λ e. refl), (λ ne. absurd (ne refl)))
+written_word g m q Lock (Grant d) x = ((λ e. absurd (omega arith)), (λ ne. refl))
+written_word g m q (Grant c) Wait x = ((λ e. absurd (omega arith)), (λ ne. refl))
+written_word g m q (Grant c) Notify x = ((λ e. absurd (omega arith)), (λ ne. refl))
+written_word g m q (Grant c) Lock x = ((λ e. absurd (omega arith)), (λ ne. refl))
+written_word g m q (Grant c) (Grant d) x =
+    ((λ e. ap (put g.grants c x) (omega arith) ∙ put_here g.grants c x), (λ ne. put_else g.grants c x d (λ q. ne (omega arith))))
+
+pub shown : (z : Setting) (w : ListWord) → IsThere z w → address w < words_shown z
+shown z Wait h = omega arith
+shown z Notify h = omega arith
+shown z Lock h = omega arith
+shown z (Grant s) h = omega arith
+
+pub inside : (z : Setting) (w : ListWord) → IsThere z w → address w < words_in z
+inside z w h = let low = shown z w h in omega arith

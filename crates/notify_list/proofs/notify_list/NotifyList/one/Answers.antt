@@ -1,0 +1,21 @@
+use Rattle.std.proofs.Common.{◌≡◌, ℕ, true, false, Some, None, sym, ap, ◌∙◌, subst}
+use Rattle.notify_list.specs.Seats.{SeatModel}
+use Rattle.notify_list.specs.Calls.{AllGranted}
+use Rattle.notify_list.specs.Tickets.{HasLooked}
+use Rattle.notify_list.proofs.Signalling.{quiet_one, place_then, locked_one, least_one, none_one}
+use Rattle.notify_list.proofs.notify_list.NotifyList.one.Goals as goal
+
+pub returns-then-quiet-clause-rows : goal.returns-then-quiet-clause-rows
+returns-then-quiet-clause-rows g c = quiet_one c.args.seat.now c.quiet.new.seat c.if-quiet.ensures.looked
+
+pub returns-clause-rows : goal.returns-clause-rows
+returns-clause-rows g c = let x = c.if-quiet.ensures.looked in
+    locked_one c.args.seat.now c.quiet.new.seat c.one_at_lock.new.seat x c.one_at_lock.result (c.one_at_lock.ensures x.h (place_then c.args.seat.now c.quiet.new.seat c.one_at_lock.new.seat x))
+
+pub returns-clause-some : goal.returns-clause-some
+returns-clause-some g c = let x = c.if-quiet.ensures.looked in
+    least_one c.args.seat.now c.quiet.new.seat c.one_at_lock.new.seat x c.one_at_lock.result (c.one_at_lock.ensures x.h (place_then c.args.seat.now c.quiet.new.seat c.one_at_lock.new.seat x))
+
+pub returns-clause-none : goal.returns-clause-none
+returns-clause-none g c = let x = c.if-quiet.ensures.looked in
+    none_one c.args.seat.now c.quiet.new.seat c.one_at_lock.new.seat x c.one_at_lock.result (c.one_at_lock.ensures x.h (place_then c.args.seat.now c.quiet.new.seat c.one_at_lock.new.seat x))

@@ -1,0 +1,5 @@
+use Rattle.notify_list.proofs.Making.{seats_own}
+use Rattle.notify_list.proofs.notify_list.NotifyList.starting_at.Goals as goal
+
+pub returns-in-Ok-clause-own : goal.returns-in-Ok-clause-own
+returns-in-Ok-clause-own c = seats_own _ _ _ _ c.in-Ok.ensures

@@ -1,0 +1,29 @@
+-- Where the words of a list lie.
+use Rattle.std.specs.Prelude.{ℕ, ◌+◌, ◌<◌}
+use Rattle.step_table.specs.declared.list_place.ListWord.{ListWord}
+use Rattle.step_table.specs.declared.list_place.ListWord.TheVariants.{Wait, Notify, Lock, Grant}
+use Rattle.notify_list.specs.declared.view.Setting.{Setting}
+
+-- first the wait word, the notify word and the lock word, then the grant word of each seat
+abbrev pub address : ListWord → ℕ
+address Wait = 0
+address Notify = 1
+address Lock = 2
+address (Grant s) = 3 + s
+
+-- where the words end that the world has
+abbrev pub words_shown : Setting → ℕ
+words_shown z = 3 + z.seats
+
+-- behind them lies a word of each seat of which the world knows nothing: above 0 while the seat's thread sleeps
+abbrev pub asleep_address : Setting → ℕ → ℕ
+asleep_address z s = words_shown z + s
+
+-- how many words there are
+abbrev pub words_in : Setting → ℕ
+words_in z = words_shown z + z.seats
+
+-- the word is there
+abbrev pub IsThere : Setting → ListWord → Type 0
+IsThere z (Grant s) = s < z.seats
+IsThere z _ = Unit {0}

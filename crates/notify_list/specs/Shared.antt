@@ -1,0 +1,18 @@
+-- What a list's numbers say of what it was made with.
+use Rattle.std.specs.Prelude.{◌≡◌, ℕ, ◌<◌, ◌≤◌}
+use Rattle.atomic_table.specs.Seated.{TableId}
+use Rattle.notify_list.specs.declared.view.Setting.{Setting}
+use Rattle.notify_list.specs.declared.notify_list.NotifyList.TheInside.{Inside}
+use Rattle.notify_list.specs.Setting.{words_in}
+use Rattle.notify_list.specs.Seats.{ListModel}
+
+pub record IsList (id : TableId) (z : Setting) (seats : ℕ) : Type 0 where
+  pub seated : seats ≡ z.seats
+  pub some : 0 < seats
+  pub few : seats ≤ 256
+  pub words : id.words ≡ words_in z
+  pub slots : id.slots ≡ 1
+
+-- the list by what is in it
+abbrev pub list_by : Inside → ListModel
+list_by t = record { id = t.table.shared.table_id; setting = t.table.shared.key }

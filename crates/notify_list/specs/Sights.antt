@@ -1,0 +1,16 @@
+-- What a view has of a seat: an entry of the journal, and a sight, by their parts.
+use Rattle.std.specs.Prelude.{ℕ, List, Option, Some, None}
+use Rattle.waiters.specs.declared.wait.Wait.{Wait}
+use Rattle.step_table.specs.declared.list_place.ListPlace.{ListPlace}
+use Rattle.step_table.specs.declared.list_place.Ticket.{Ticket}
+use Rattle.step_table.specs.ListWorld.{ListEntry, Took, Granted}
+use Rattle.list_law.specs.ListPath.{ListSight}
+
+-- a ticket was taken by the seat, or it granted tickets, so that so many are
+abbrev pub entry_of : Option ℕ → ℕ → ListEntry
+entry_of None seat = Took seat
+entry_of (Some upto) seat = Granted upto seat
+
+abbrev pub sight_of : ListPlace → Option Ticket → List Wait → ℕ → List ListEntry → ListSight
+sight_of place ticket hand late seen =
+    record { stands = record { place = place; ticket = ticket; hand = hand; late = late }; seen = seen }

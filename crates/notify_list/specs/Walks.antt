@@ -1,0 +1,55 @@
+-- What rows of one seat do to its token.
+use Rattle.std.specs.Prelude.{◌≡◌, ℕ, ◌+◌, true, List, [], ◌∷◌, length}
+use Rattle.waiters.specs.declared.wait.Wait.{Wait}
+use Rattle.step_table.specs.declared.list_place.ListPlace.{ListPlace}
+use Rattle.step_table.specs.ListWorld.{ListSeat, ListEntry}
+use Rattle.step_table.specs.Path.{all_told}
+use Rattle.list_law.specs.ListPath.{ListStride, ListPath}
+use Rattle.notify_list.specs.declared.view.Record.{Record}
+use Rattle.notify_list.specs.Places.{Begins, at_place, waiting, takes_lock, locked}
+use Rattle.notify_list.specs.Rule.{Lands, IsRecord}
+use Rattle.notify_list.specs.Seats.{ListModel, Token, list_of}
+use Rattle.notify_list.specs.Calls.{rows_of}
+
+-- how the token's seat stands
+abbrev pub stands_of : Token → ListSeat
+stands_of s = s.me.0.sight.stands
+
+-- nothing has come of it
+abbrev pub IsSame : Token → Token → Type 0
+IsSame s t = (t.table_id ≡ s.table_id) × (t.me ≡ s.me)
+
+-- the seat, standing so at first, ran these rows, which told these entries, and stands so now
+pub record Walked (s : Token) (from : ListSeat) (t : Token) (stands : ListSeat) (entries : List ListEntry) (rows : List (ListPlace × ℕ)) : Type 0 where
+  pub list_is : list_of t ≡ list_of s
+  pub number_is : t.me.0.number ≡ s.me.0.number
+  pub stands_is : stands_of t ≡ stands
+  pub lands : Lands t.me.0
+  pub strides : List ListStride
+  pub path : ListPath s.me.0.setting.first s.me.0.setting.seats s.me.0.number (record { stands = from; seen = s.me.0.sight.seen }) strides t.me.0.sight
+  pub rows_are : rows_of strides ≡ rows
+  pub told_is : all_told strides ≡ entries
+  pub all : t.me.0.strides ≡ s.me.0.strides + length strides
+
+-- the seat holds the slot, whose record has the waits that it knows
+abbrev pub HasRecord : Token → Type 0
+HasRecord s = (y : Record) × (s.me.1 ≡ (0, y) ∷ []) × IsRecord s.me.0.setting.seats y s.me.0.queue
+
+-- a seat of this list may run a row that takes the lock: that at which it stands, or the first row of a wait
+pub record MayLock (l : ListModel) (s : Token) : Type 0 where
+  pub list_is : list_of s ≡ l
+  pub begins : Begins (stands_of s) (waiting (stands_of s))
+  pub takes : takes_lock (waiting (stands_of s)).place ≡ true
+  pub bare : s.me.1 ≡ []
+
+-- the row ran, and the record came with the lock
+pub record Locked (s t : Token) : Type 0 where
+  pub walked : Walked s (waiting (stands_of s)) t (at_place (locked (waiting (stands_of s)).place) (waiting (stands_of s))) []
+      (((waiting (stands_of s)).place, 0) ∷ [])
+  pub record_is : HasRecord t
+
+-- the record that the seat holds has these waits now; nothing else has changed
+abbrev pub Edited : Token → List Wait → Token → Type 0
+Edited s queue t =
+    (t.table_id ≡ s.table_id)
+    × ((y : Record) × (t.me ≡ (s.me.0, (0, y) ∷ [])) × IsRecord s.me.0.setting.seats y queue)

@@ -1,0 +1,106 @@
+//! How a list is made.
+ghost use Rattle.std.specs.Prelude.{◌≡◌, ℕ, ◌+◌, ◌^◌, ◌<◌, [], ◌∷◌, replicate, All, IfOk, IfErr};
+ghost use Rattle.notify_list.specs.declared.view.Setting.{Setting as Made};
+ghost use Rattle.notify_list.specs.declared.view.Record.{Record as Emptied};
+ghost use Rattle.notify_list.specs.Rule.{fresh, IsRecord};
+ghost use Rattle.notify_list.specs.Seats.{list_of};
+ghost use Rattle.notify_list.specs.Making.{AreAllowed, IsRefused, IsMade};
+ghost use Rattle.notify_list.specs.Making as making;
+
+use crate::notify_list::NotifyList;
+use crate::plays::{Make, OneWorld, Token};
+use crate::seat::ListSeat;
+use crate::setup_error::SetupError;
+use crate::view::{Record, Setting, View};
+use atomic_table::Table;
+use std::alloc::{AllocError, Global};
+use waiters::{Lists, NoMemory};
+
+/// The most seats of a list.
+const MAX_SEATS: u32 = 256;
+
+/// A seat that has run nothing.
+fn new_seat(token: Token, number: u16) -> ListSeat
+    requires { (z : Made) × (made : ℕ) × (token.me ≡ (fresh z number made, [])) × (number < z.seats) × AreAllowed z.seats }
+    ensures { result ≡ making.new_seat (list_of token) number }
+{
+    ListSeat { token, number }
+}
+
+/// The first ticket in the wait word and in the notify word, and a 0 for each other word.
+fn first_words(alloc: Global, setting: Setting) -> Result<Vec<u64>, AllocError>
+    requires { AreAllowed setting.seats }
+    ensures { IfOk result (λ words. words.items
+        ≡ setting.first ∷ setting.first ∷ replicate (1 + setting.seats + setting.seats) 0) }
+{
+    let all = 3 + setting.seats as usize + setting.seats as usize;
+    let mut words = Vec::with_capacity(alloc, all)?;
+    words.push_reserved(setting.first);
+    words.push_reserved(setting.first);
+    words.resize(all, 0)?;
+    Ok(words)
+}
+
+/// The one slot: a record in which nobody waits, with room for a wait of each seat.
+fn first_slots(alloc: Global, seats: u32) -> Result<Vec<Record>, NoMemory>
+    ensures { IfOk result (λ slots. (y : Emptied) × (slots.items ≡ y ∷ []) × IsRecord seats y []) }
+{
+    let mut slots = Vec::with_capacity(alloc, 1)?;
+    let mut lists = Lists::with_room(alloc, seats as usize, 1)?;
+    let key = lists.open();
+    slots.push_reserved(Record { lists, key });
+    Ok(slots)
+}
+
+/// A list and its seats, in the order of their numbers.
+fn make(alloc: Global, setting: Setting) -> Result<(NotifyList, Vec<ListSeat>), NoMemory>
+    requires { AreAllowed setting.seats × (setting.first < 2 ^ 64) }
+    ensures { IfOk result (λ t. IsMade setting.first setting.seats t.0 t.1.items) }
+{
+    let seats = setting.seats as u16;
+    let words = first_words(alloc, setting)?;
+    let slots = first_slots(alloc, setting.seats)?;
+    let mut made = Vec::with_capacity(alloc, usize::from(seats))?;
+    let Ok((table, mut first)) = Table::<Record, View, Setting, OneWorld, Global>::new(
+        alloc,
+        words.as_slice(),
+        slots,
+        &setting,
+    ) else {
+        return Err(NoMemory);
+    };
+    for number in 1..seats {
+        let token = table.shared.split_seat::<Make>(&mut first);
+        made.push_reserved(new_seat(token, number));
+    }
+    let Ok(()) = made.insert(0, new_seat(first, 0)) else {
+        return Err(NoMemory);
+    };
+    let list = NotifyList {
+        table,
+        seats: setting.seats,
+    };
+    Ok((list, made))
+}
+
+impl NotifyList {
+    /// A list whose first ticket is this one, and its seats in the order of their numbers. An error has made nothing: there
+    /// are not 1 to 256 seats, or no memory for them.
+    pub fn starting_at(
+        alloc: Global,
+        first: u64,
+        seats: u32,
+    ) -> Result<(NotifyList, Vec<ListSeat>), SetupError>
+        ensures ok { IfOk result (λ t. IsMade first seats t.0 t.1.items) }
+        ensures own { IfOk result (λ t. All (λ s. s.list ≡ t.0) t.1.items) }
+        ensures err { IfErr result (λ refused. IsRefused seats refused) }
+    {
+        if seats == 0 || seats > MAX_SEATS {
+            return Err(SetupError::Seats);
+        }
+        match make(alloc, Setting { first, seats }) {
+            Ok(made) => Ok(made),
+            Err(NoMemory) => Err(SetupError::NoMemory),
+        }
+    }
+}

@@ -1,0 +1,58 @@
+//! The list that the threads of a caller share.
+ghost use Rattle.std.specs.Prelude.{◌≡◌, ◌<◌};
+ghost use Rattle.step_table.specs.declared.list_place.ListWord.TheVariants.{Grant};
+ghost use Rattle.notify_list.specs.Setting.{address, asleep_address};
+
+use crate::plays::OneWorld;
+use crate::view::{Record, Setting, View};
+use atomic_table::Table;
+use std::alloc::Global;
+use std::marker::Model;
+
+/// Where the wait word lies: the next ticket.
+pub(crate) const WAIT: usize = 0;
+/// Where the notify word lies: the first ticket that isn't granted.
+pub(crate) const NOTIFY: usize = 1;
+/// Where the lock word lies.
+pub(crate) const LOCK: usize = 2;
+/// Where the grant word of the first seat lies. Those of the others follow.
+const GRANTS: usize = 3;
+/// In which slot the list of waits lies.
+pub(crate) const RECORD: usize = 0;
+
+/// A list on which seats wait for their tickets and grant them. Its calls take `&self` and a seat, so threads share it in an
+/// `Arc`.
+#[derive(Drop)]
+pub struct NotifyList {
+    pub(crate) table: Table<Record, View, Setting, OneWorld, Global>,
+    pub(crate) seats: u32,
+}
+
+impl Model for NotifyList {
+    ghost use Rattle.notify_list.specs.Seats.{ListModel};
+    ghost use Rattle.notify_list.specs.Shared.{IsList};
+
+    ghost Value = { ListModel };
+
+    ghost view = { λ t. record { id = t.table.shared.table_id; setting = t.table.shared.key } };
+
+    ghost invariant = { λ t. IsList t.table.shared.table_id t.table.shared.key t.seats };
+}
+
+/// Where the grant word of a seat lies.
+pub(crate) fn grant_word(seat: u16) -> usize
+    ensures { result ≡ address (Grant seat) }
+{
+    GRANTS + seat as usize
+}
+
+impl NotifyList {
+    /// Where the word lies that tells whether a seat's thread sleeps.
+    pub(crate) fn asleep_word(&self, seat: u16) -> usize
+        requires { seat < self.now.setting.seats }
+        ensures at { result ≡ asleep_address self.now.setting seat }
+        ensures low { result < self.now.id.words }
+    {
+        GRANTS + self.seats as usize + seat as usize
+    }
+}

@@ -1,0 +1,49 @@
+//! A seat between two calls, without a ticket and with one.
+ghost use Rattle.std.specs.Prelude.{◌≡◌};
+
+use crate::plays::Token;
+use std::marker::Model;
+use waiters::SeatId;
+
+/// A seat between two calls, which holds no ticket.
+#[derive(Drop)]
+pub struct ListSeat {
+    pub(crate) token: Token,
+    pub(crate) number: u16,
+}
+
+/// A seat that holds a ticket. It must be spent, by `wait`.
+pub struct Holding {
+    pub(crate) token: Token,
+    pub(crate) number: u16,
+    pub(crate) ticket: u64,
+}
+
+impl Model for ListSeat {
+    ghost use Rattle.notify_list.specs.Seats.{SeatModel, seat_of, IsSeat};
+
+    ghost Value = { SeatModel };
+
+    ghost view = { λ s. seat_of s.token s.number };
+
+    ghost invariant = { λ s. IsSeat s.token s.number };
+}
+
+impl Model for Holding {
+    ghost use Rattle.notify_list.specs.Seats.{SeatModel, seat_of, IsHolding};
+
+    ghost Value = { SeatModel };
+
+    ghost view = { λ s. seat_of s.token s.number };
+
+    ghost invariant = { λ s. IsHolding s.token s.number s.ticket };
+}
+
+impl ListSeat {
+    /// Which seat it is.
+    pub fn id(&self) -> SeatId
+        ensures { result ≡ self.now.number }
+    {
+        SeatId::new(self.number)
+    }
+}

@@ -1,0 +1,74 @@
+//! What a seat knows, and what lies in the slot. A clause reads an array as a list, of any length.
+use std::marker::Model;
+use step_table::{ListPlace, Ticket};
+use waiters::{ListKey, Lists, Wait};
+
+/// What a list was made with: the word of its first ticket, and how many seats there are.
+#[derive(Clone, Copy, Drop)]
+pub struct Setting {
+    pub first: u64,
+    pub seats: u32,
+}
+
+/// An entry of the list's journal: the seat took a ticket, or it granted tickets, so that this many are. No value of it is made.
+pub struct Told {
+    upto: Option<u64>,
+    seat: u64,
+}
+
+/// How a seat stands, and what it has seen. No value of it is made.
+pub struct Sight {
+    place: ListPlace,
+    ticket: Option<Ticket>,
+    hand: [Wait; 0],
+    late: u64,
+    seen: [Told; 0],
+}
+
+/// The view of a seat. No value of it is made.
+pub struct View {
+    pub number: u64,
+    pub setting: Setting,
+    pub sight: Sight,
+    /// The list of waits after the seat's last stride.
+    pub queue: [Wait; 0],
+    /// How many strides the seat has gone: rows that it ran, and looks.
+    pub strides: u64,
+    /// Of the seat that makes the others, how many were made; of another 0.
+    pub made: u64,
+    /// The seats that sit with it: mostly none.
+    pub guests: [Guest; 0],
+}
+
+/// What another seat's view has of a seat that sits with it. No value of it is made.
+pub struct Guest {
+    pub number: u64,
+    pub sight: Sight,
+    pub queue: [Wait; 0],
+    pub strides: u64,
+}
+
+/// The record under the lock: the list of waits.
+#[derive(Drop)]
+pub struct Record {
+    pub lists: Lists,
+    pub key: ListKey,
+}
+
+impl Model for Told {
+    ghost use Rattle.step_table.specs.ListWorld.{ListEntry};
+    ghost use Rattle.notify_list.specs.Sights.{entry_of};
+
+    ghost Value = { ListEntry };
+
+    ghost view = { λ told. entry_of told.upto told.seat };
+}
+
+impl Model for Sight {
+    ghost use Rattle.list_law.specs.ListPath.{ListSight};
+    ghost use Rattle.notify_list.specs.Sights.{sight_of};
+
+    ghost Value = { ListSight };
+
+    ghost view = { λ sight. sight_of sight.place sight.ticket sight.hand sight.late sight.seen };
+}
