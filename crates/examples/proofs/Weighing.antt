@@ -18,7 +18,8 @@ weigh_append h [] b = omega arith
 weigh_append h (x ∷ a) b = let rest = weigh_append h a b in omega arith
 
 -- the sum after a change of one pass, and with a pass more
-sum_set : (f : Moves → ℕ) (views : List Moves) (k : ℕ) (v w : Moves) → get_elem? views k ≡ some v → sum_of f (set views k w) + f v ≡ sum_of f views + f w
+sum_set : (f : Moves → ℕ) (views : List Moves) (k : ℕ) (v w : Moves) → get_elem? views k ≡ some v
+    → sum_of f (set views k w) + f v ≡ sum_of f views + f w
 sum_set f [] k v w at = absurd (some-ne-none v (sym at))
 sum_set f (u ∷ views) zero v w at = let same : f u ≡ f v = ap f (some-injective u v at) in omega arith
 sum_set f (u ∷ views) (suc k) v w at = let rest = sum_set f views k v w at in omega arith
@@ -30,7 +31,8 @@ sum_snoc f (u ∷ views) w = let rest = sum_snoc f views w in omega arith
 sum_at : (f : Moves → ℕ) (views : List Moves) (k : ℕ) (v : Moves) → get_elem? views k ≡ some v → sum_of f (set views k v) ≡ sum_of f views
 sum_at f views k v at = let change = sum_set f views k v v at in omega arith
 
-idle_set : (views : List Moves) (k : ℕ) (w : Moves) → (w.parts ≡ 0 → (w.put ≡ []) × (w.taken ≡ [])) → IdleIsEmpty views → IdleIsEmpty (set views k w)
+idle_set : (views : List Moves) (k : ℕ) (w : Moves) → (w.parts ≡ 0 → (w.put ≡ []) × (w.taken ≡ [])) → IdleIsEmpty views
+    → IdleIsEmpty (set views k w)
 idle_set views k w mine others j u at none =
     ⊎_elim (λ (x : (j ≡ k) × (w ≡ u)). subst (λ (y : Moves). y.parts ≡ 0 → (y.put ≡ []) × (y.taken ≡ [])) x.1 mine none)
     (λ (x : (j ≢ k) × (get_elem? views j ≡ some u)). others j u x.1 none) (at_set views k j w u at)
@@ -45,7 +47,8 @@ pub begins : Balanced [] (moves all_parts [] [] ∷ [])
 begins = (refl, λ h. refl, alone)
   where
     alone : IdleIsEmpty (moves all_parts [] [] ∷ [])
-    alone zero v at none = let parts : all_parts ≡ v.parts = ap (λ (y : Moves). y.parts) (some-injective (moves all_parts [] []) v at) in absurd (omega arith)
+    alone zero v at none = let parts : all_parts ≡ v.parts = ap (λ (y : Moves). y.parts) (some-injective
+        (moves all_parts [] []) v at) in absurd (omega arith)
     alone (suc k) v at none = absurd (some-ne-none v (sym at))
 
 pub puts : (n k : ℕ) (v : Moves) (x : ℕ) → 0 < v.parts → Pushes Balanced n k v x (λ w. w ≡ with_put v x)
@@ -94,16 +97,20 @@ forks k v some_parts items views b at =
 pub merges : (k : ℕ) (v : Moves) (o : ℕ) (u : Moves) → 0 < v.parts → Merges Balanced k v o u (together v u) (moves 0 [] [])
 merges k v o u some_part items views b at two at_other =
     let both : Moves = together v u in let gone : Moves = moves 0 [] [] in (
-      (let s = sum_set (λ x. x.parts) views k v both at in let m = sum_set (λ x. x.parts) (set views k both) o u gone at_other in let p = b.0 in omega arith),
+      (let s = sum_set (λ x. x.parts) views k v both at in
+          let m = sum_set (λ x. x.parts) (set views k both) o u gone at_other in let p = b.0 in omega arith),
       (λ h.
-          let s = sum_set (λ x. weigh h x.put) views k v both at in let m = sum_set (λ x. weigh h x.put) (set views k both) o u gone at_other in
-          let t = sum_set (λ x. weigh h x.taken) views k v both at in let n = sum_set (λ x. weigh h x.taken) (set views k both) o u gone at_other in
+          let s = sum_set (λ x. weigh h x.put) views k v both at in
+          let m = sum_set (λ x. weigh h x.put) (set views k both) o u gone at_other in
+          let t = sum_set (λ x. weigh h x.taken) views k v both at in
+          let n = sum_set (λ x. weigh h x.taken) (set views k both) o u gone at_other in
           let p = b.1 h in omega (arith, weigh_append h v.put u.put, weigh_append h v.taken u.taken)),
       idle_set (set views k both) o gone (λ none. (refl, refl)) (idle_set views k both (λ none. absurd (omega arith)) b.2),
     )
 
 -- where one pass has all parts, a sum to which a pass without a part adds nothing is its alone
-none_of : (f : Moves → ℕ) (views : List Moves) → ((j : ℕ) (u : Moves) → get_elem? views j ≡ some u → u.parts ≡ 0 → f u ≡ 0) → sum_of (λ u. u.parts) views ≡ 0 → sum_of f views ≡ 0
+none_of : (f : Moves → ℕ) (views : List Moves) → ((j : ℕ) (u : Moves) → get_elem? views j ≡ some u → u.parts ≡ 0 → f u ≡ 0)
+    → sum_of (λ u. u.parts) views ≡ 0 → sum_of f views ≡ 0
 none_of f [] idle none = refl
 none_of f (u ∷ views) idle none =
     let first = idle 0 u refl (omega arith) in
@@ -114,7 +121,8 @@ part_of [] k v at = absurd (some-ne-none v (sym at))
 part_of (u ∷ views) zero v at = let parts : u.parts ≡ v.parts = ap (λ (y : Moves). y.parts) (some-injective u v at) in omega arith
 part_of (u ∷ views) (suc k) v at = let rest = part_of views k v at in omega arith
 
-its_alone : (f : Moves → ℕ) (views : List Moves) (k : ℕ) (v : Moves) → get_elem? views k ≡ some v → ((j : ℕ) (u : Moves) → get_elem? views j ≡ some u → u.parts ≡ 0 → f u ≡ 0)
+its_alone : (f : Moves → ℕ) (views : List Moves) (k : ℕ) (v : Moves) → get_elem? views k ≡ some v → ((j : ℕ) (u : Moves)
+    → get_elem? views j ≡ some u → u.parts ≡ 0 → f u ≡ 0)
     → sum_of (λ u. u.parts) views ≡ v.parts → sum_of f views ≡ f v
 its_alone f [] k v at idle all = absurd (some-ne-none v (sym at))
 its_alone f (u ∷ views) zero v at idle all =
@@ -144,7 +152,8 @@ left_of q t n few held = record {
   count = held.1;
   few = few;
   each = λ x. held.2 (λ y. on x y 1);
-  sum = let all = held.2 (λ y. 1) in let count = held.1 in omega (arith, weigh_one t.moves.put, weigh_one t.moves.taken, weigh_one held.0);
+  sum = let all = held.2 (λ y. 1) in
+      let count = held.1 in omega (arith, weigh_one t.moves.put, weigh_one t.moves.taken, weigh_one held.0);
 }
 
 pub many_seats : (t : TableModel) (n : ℕ) → length (new_seats t 0 n) ≡ n

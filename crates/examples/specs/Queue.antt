@@ -1,5 +1,5 @@
 -- What the calls of a bounded queue promise.
-use Rattle.std.specs.Prelude.{◌≡◌, ℕ, ◌+◌, ◌≤◌, false, List, [], ◌∷◌, length}
+use Rattle.std.specs.Prelude.{◌≡◌, ℕ, ◌+◌, ◌-◌, ◌≤◌, false, List, [], ◌∷◌, length}
 use Rattle.std.specs.List.{All}
 use Rattle.atomic_table.specs.Seated.{TableId}
 use Rattle.step_table.specs.declared.entry.Entry.{Entry}
@@ -7,7 +7,7 @@ use Rattle.sema_law.specs.Balances.{added_on, taken_on}
 use Rattle.sema_table.specs.declared.answers.Wake.{Wake}
 use Rattle.sema_table.specs.Seats.{SeatModel}
 use Rattle.sema_table.specs.Whole.{IsAcquired, IsReleased}
-use Rattle.examples.specs.Moves.{moves, all_parts, times, with_put, with_taken}
+use Rattle.examples.specs.Moves.{moves, all_parts, times, with_put, with_taken, together}
 use Rattle.examples.specs.Parts.{QueueModel, WorkerModel, TallyModel}
 
 -- the counter of the free places, which started at their number, and that of the items, which started at 0
@@ -27,6 +27,13 @@ pub record IsNew (places workers : ℕ) (q : QueueModel) (seats : List SeatModel
 
 abbrev pub new_worker : SeatModel → TableId → WorkerModel
 new_worker s ring = record { seat = s; ring = ring; moves = moves 1 [] [] }
+
+-- the tally after a worker has come, who has one of its parts, and after one has gone, with all that it has put and taken
+abbrev pub after_entry : TallyModel → TallyModel
+after_entry t = record t { moves = record t.moves { parts = t.moves.parts - 1 } }
+
+abbrev pub after_leave : TallyModel → WorkerModel → TallyModel
+after_leave t w = record t { moves = together t.moves w.moves }
 
 -- it is a worker of this queue
 abbrev pub IsOf : QueueModel → WorkerModel → Type 0

@@ -1,8 +1,8 @@
 //! A queue of at most so many items, which waits where there is no place and where there is no item.
 ghost use Rattle.std.specs.Prelude.{◌≡◌, ◌+◌, ◌-◌, ◌<◌, ◌∷◌, [], IfOk};
 ghost use Rattle.crossbeam_queue.specs.Passes.{view, IsSamePass};
-ghost use Rattle.examples.specs.Moves.{all_parts, with_put, with_taken, together};
-ghost use Rattle.examples.specs.Queue.{IsNew, IsOf, new_worker, HasPut, HasTaken, AreLeftOf};
+ghost use Rattle.examples.specs.Moves.{all_parts, with_put, with_taken};
+ghost use Rattle.examples.specs.Queue.{IsNew, IsOf, new_worker, after_entry, after_leave, HasPut, HasTaken, AreLeftOf};
 
 use crate::moves::{Moves, OnePart, Puts, Ring, Takes, Total};
 use crossbeam_queue::Pass;
@@ -18,7 +18,8 @@ const FREE: u32 = 0;
 /// The counter of the items.
 const FULL: u32 = 1;
 
-/// A ring of items, whose free places and items are two counters. Threads share it in an `Arc`, each with a worker of its own.
+/// A ring of items, whose free places and items are two counters. Threads share it by reference, or in an `Arc`,
+/// each with a worker of its own.
 #[derive(Drop)]
 pub struct BoundedQueue {
     table: SemaTable,
@@ -120,7 +121,7 @@ impl BoundedQueue {
         requires own { (tally.old.ring ≡ self.now.ring) × (seat.table ≡ self.now.table) }
         requires parts { 1 < tally.old.moves.parts }
         ensures worker { result ≡ new_worker seat self.now.ring }
-        ensures tally { tally.new ≡ record tally.old { moves = record tally.old.moves { parts = tally.old.moves.parts - 1 } } }
+        ensures tally { tally.new ≡ after_entry tally.old }
     {
         let pass = self.ring.another::<OnePart>(&mut tally.pass);
         Worker { seat, pass }
@@ -191,14 +192,14 @@ impl BoundedQueue {
     pub fn leave(&self, tally: &mut Tally, worker: Worker) -> Seat
         requires { (tally.old.ring ≡ self.now.ring) × IsOf self.now worker }
         ensures seat { result ≡ worker.seat }
-        ensures tally { tally.new ≡ record tally.old { moves = together tally.old.moves worker.moves } }
+        ensures tally { tally.new ≡ after_leave tally.old worker }
     {
         let Worker { seat, pass } = worker;
         self.ring.absorb::<OnePart>(&mut tally.pass, pass);
         seat
     }
 
-    /// How many items are left when all workers have left: what was put was taken or is left, as often as it was put.
+    /// How many items are left once all workers have left: each was taken or is left, as often as it was put.
     pub fn audit<R: Wait>(&self, rt: &R, tally: &mut Tally) -> usize
         requires own { tally.old.ring ≡ self.now.ring }
         requires all { tally.old.moves.parts ≡ all_parts }

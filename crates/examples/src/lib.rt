@@ -1,14 +1,20 @@
-//! Two uses of the table, short enough to be copied: a number that threads share under a lock, and a queue of at most so many
-//! items, whose free places and items are two counters.
+//! Two uses of the table, short enough to be copied: a number that threads share under a lock, and a queue of at
+//! most so many items, whose free places and items are two counters.
 //!
-//! Each is proved in what it promises: of those who share the number, no two hold the lock at once; of the items that were put
-//! into the queue, each was taken or is left, as often as it was put, and never more are in it than it has places. That a call
-//! returns is not promised.
+//! Of those who share the number, no two that meet hold the lock, and only its holder releases it. Of the items
+//! that were put into the queue, each was taken or is left, as often as it was put; no more places are claimed than
+//! there are, and no more items are in it.
+//!
+//! No clause says that a call returns or that one who waits is woken, what the shared number is, or that the item
+//! goes into the ring after its place was claimed and before it is told of: the ring and the counters have a rule
+//! each, and nothing orders their steps.
 #![tactic(auto)]
 
 mod bounded_queue;
 mod moves;
 mod mutex;
+#[cfg(test)]
+mod tests;
 
 pub use bounded_queue::{BoundedQueue, Tally, Worker};
 pub use moves::{Balances, Moves, OnePart, Puts, Ring, Takes, Total};

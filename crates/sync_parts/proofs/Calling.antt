@@ -64,7 +64,8 @@ record Takes (c : ℕ) (s t : SeatModel) : Type 0 where
   pub none : gifts c s.number told ≡ []
   pub last : TakenLast c s.number t.sight.seen
 
-takes_unit : (s t : SeatModel) (from : Place) (a : Acquire) (n : ℕ) → takes s.number t.sight.seen ≤ takes s.number s.sight.seen + 1 → TakesUnit s from a n t → Takes a.counter s t
+takes_unit : (s t : SeatModel) (from : Place) (a : Acquire) (n : ℕ)
+    → takes s.number t.sight.seen ≤ takes s.number s.sight.seen + 1 → TakesUnit s from a n t → Takes a.counter s t
 takes_unit s t from a n few (inl call) =
     let told = queued s.number a s.sight.stands.turn n in
     record {
@@ -79,14 +80,23 @@ takes_unit s t from a n few (inr (call, unit)) =
       told = told;
       sees = sees_call s t from told call;
       none = ap (gifts a.counter s.number) (sym (append-nil told)) ∙ gifts_queued a.counter s.number a s.sight.stands.turn n [] refl;
-      last = let u = unit.2 in record { before = u.1 ++ Leave a.counter (wait s.number unit.0) u.0 ∷ u.2; after = u.3; is = u.4 ∙ sym (append_assoc u.1 (Leave a.counter (wait s.number unit.0) u.0 ∷ u.2) (Take a.counter s.number ∷ u.3)); last = u.6 };
+      last = record {
+        before = unit.2.1 ++ Leave a.counter (wait s.number unit.0) unit.2.0 ∷ unit.2.2;
+        after = unit.2.3;
+        is =
+            unit.2.4
+            ∙ sym (append_assoc unit.2.1 (Leave a.counter (wait s.number unit.0) unit.2.0 ∷ unit.2.2) (Take a.counter s.number ∷ unit.2.3));
+        last = unit.2.6;
+      };
     }
 
 seen_taken : (i : ℕ) (seen now : List Entry) → GoesOn now seen → takes i seen ≤ takes i now
 seen_taken i seen now later =
-    let sum : takes i now ≡ takes i seen + takes i later.more = ap (takes i) later.is ∙ count_append (takes i) (takes_counts i) seen later.more in omega arith
+    let sum : takes i now ≡ takes i seen + takes i later.more = ap (takes i) later.is
+    ∙ count_append (takes i) (takes_counts i) seen later.more in omega arith
 
-acquired_takes : (s t : SeatModel) (c : ℕ) → takes s.number t.sight.seen ≡ takes s.number s.sight.seen + 1 → IsAcquired s c false t → Takes c s t
+acquired_takes : (s t : SeatModel) (c : ℕ) → takes s.number t.sight.seen ≡ takes s.number s.sight.seen + 1
+    → IsAcquired s c false t → Takes c s t
 acquired_takes s t c one (inl (_, _, call)) = record {
   told = Take c s.number ∷ [];
   sees = sees_call s t _ (Take c s.number ∷ []) call;
@@ -114,7 +124,8 @@ uses_acquired s t c one is =
     let took = acquired_takes s t c one is in
     uses_taken c s.number s.sight.seen t.sight.seen took.told took.sees.later took.sees.owns one took.none took.last
 
-pub later_acquired : (s t : SeatModel) (c : ℕ) → takes s.number t.sight.seen ≡ takes s.number s.sight.seen + 1 → IsAcquired s c false t → GoesOn t.sight.seen s.sight.seen
+pub later_acquired : (s t : SeatModel) (c : ℕ) → takes s.number t.sight.seen ≡ takes s.number s.sight.seen + 1
+    → IsAcquired s c false t → GoesOn t.sight.seen s.sight.seen
 later_acquired s t c one is = (acquired_takes s t c one is).sees.later
 
 -- what stays by an acquire, and what it counts
@@ -124,15 +135,27 @@ pub record Stays (s t : SeatModel) (left taken : ℕ) : Type 0 where
   pub left_is : t.left ≡ left
   pub taken_is : t.taken ≡ taken
 
-stays_by : (s t : SeatModel) (left taken : ℕ) → t ≡ record s { left = left; taken = taken; sight = t.sight; strides = t.strides } → Stays s t left taken
-stays_by s t left taken e = record { table = ap (λ (x : SeatModel). x.table) e; number = ap (λ (x : SeatModel). x.number) e; left_is = ap (λ (x : SeatModel). x.left) e; taken_is = ap (λ (x : SeatModel). x.taken) e }
+stays_by : (s t : SeatModel) (left taken : ℕ) → t ≡ record s { left = left; taken = taken; sight = t.sight; strides = t.strides }
+    → Stays s t left taken
+stays_by s t left taken e = record {
+  table = ap (λ (x : SeatModel). x.table) e;
+  number = ap (λ (x : SeatModel). x.number) e;
+  left_is = ap (λ (x : SeatModel). x.left) e;
+  taken_is = ap (λ (x : SeatModel). x.taken) e;
+}
 
 pub stays_acquired : (s t : SeatModel) (c : ℕ) → IsAcquired s c false t → Stays s t s.left (s.taken + 1)
 stays_acquired s t c (inl (is, _, _)) = stays_by s t s.left (s.taken + 1) is
 stays_acquired s t c (inr (u, none, from)) =
     let first = stays_by s u s.left s.taken none.0 in
     let rest = stays_by u t u.left (u.taken + 1) from.0 in
-    record { table = rest.table ∙ first.table; number = rest.number ∙ first.number; left_is = rest.left_is ∙ first.left_is; taken_is = rest.taken_is ∙ ap (λ n. n + 1) first.taken_is }
+    record {
+      table = rest.table ∙ first.table;
+      number = rest.number ∙ first.number;
+      left_is = rest.left_is
+          ∙ first.left_is;
+      taken_is = rest.taken_is ∙ ap (λ n. n + 1) first.taken_is;
+    }
 
 -- what a release gave: a unit was added to c
 record Gives (c : ℕ) (s t : SeatModel) : Type 0 where
@@ -144,17 +167,20 @@ the_gift : (c i : ℕ) → cond (eqb c c && eqb i i) (Add c i ∷ []) [] ≡ Add
 the_gift c i = λ j. cond (eq-eqb c c refl j && eq-eqb i i refl j) (Add c i ∷ []) []
 
 -- the rest of a release adds nothing
-wakes_sees : (s u t : SeatModel) (c : ℕ) (r : Release) (wake : Wake) → r.handoff ≡ false → Sees s.number s.sight.seen u.sight.seen (Add c s.number ∷ []) → u.number ≡ s.number → Wakes u r t wake → Gives c s t
+wakes_sees : (s u t : SeatModel) (c : ℕ) (r : Release) (wake : Wake) → r.handoff ≡ false
+    → Sees s.number s.sight.seen u.sight.seen (Add c s.number ∷ []) → u.number ≡ s.number → Wakes u r t wake → Gives c s t
 wakes_sees s u t c r Nobody plain first number call = record {
   told = Add c s.number ∷ [];
-  sees = sees_then s.number s.sight.seen u.sight.seen t.sight.seen (Add c s.number ∷ []) [] first (subst (λ i. Sees i u.sight.seen t.sight.seen []) number (sees_call u t _ [] call));
+  sees = sees_then s.number s.sight.seen u.sight.seen t.sight.seen (Add c s.number ∷ []) [] first (subst
+      (λ i. Sees i u.sight.seen t.sight.seen []) number (sees_call u t _ [] call));
   gift = the_gift c s.number;
 }
 wakes_sees s u t c r (One w) plain first number grant =
     let left = Leave r.counter w u.number ∷ [] in
     record {
       told = Add c s.number ∷ left;
-      sees = sees_then s.number s.sight.seen u.sight.seen t.sight.seen (Add c s.number ∷ []) left first (subst (λ i. Sees i u.sight.seen t.sight.seen left) number (sees_call u t _ left grant.call));
+      sees = sees_then s.number s.sight.seen u.sight.seen t.sight.seen (Add c s.number ∷ []) left first (subst
+          (λ i. Sees i u.sight.seen t.sight.seen left) number (sees_call u t _ left grant.call));
       gift = the_gift c s.number;
     }
 wakes_sees s u t c r (Handed w) plain first number wakes = let handed : r.handoff ≡ true = wakes.0 in absurd (cc)
@@ -166,14 +192,17 @@ released_gives s t c wake (inl (posted, _)) = record {
   gift = the_gift c s.number;
 }
 released_gives s t c wake (inr (u, posted, woken)) =
-    wakes_sees s u t c _ wake refl (sees_call s u _ (Add c s.number ∷ []) posted.2.2.call) (ap (λ (x : SeatModel). x.number) posted.0) woken.4
+    wakes_sees s u t c _ wake refl (sees_call s u _ (Add c s.number ∷ []) posted.2.2.call) (ap (λ
+    (x : SeatModel). x.number) posted.0) woken.4
 
 -- the uses of the counter after a release
-pub uses_released : (s t : SeatModel) (c : ℕ) (wake : Wake) → takes s.number t.sight.seen ≡ takes s.number s.sight.seen → IsReleased s c false t wake
+pub uses_released : (s t : SeatModel) (c : ℕ) (wake : Wake) → takes s.number t.sight.seen ≡ takes s.number s.sight.seen
+    → IsReleased s c false t wake
     → uses c s.number t.sight.seen ≡ uses c s.number s.sight.seen ++ Add c s.number ∷ []
 uses_released s t c wake same is =
     let gave = released_gives s t c wake is in
-    uses_told c s.number s.sight.seen t.sight.seen gave.told gave.sees.later gave.sees.owns same ∙ ap (λ l. uses c s.number s.sight.seen ++ l) gave.gift
+    uses_told c s.number s.sight.seen t.sight.seen gave.told gave.sees.later gave.sees.owns same
+    ∙ ap (λ l. uses c s.number s.sight.seen ++ l) gave.gift
 
 pub later_released : (s t : SeatModel) (c : ℕ) (wake : Wake) → IsReleased s c false t wake → GoesOn t.sight.seen s.sight.seen
 later_released s t c wake is = (released_gives s t c wake is).sees.later
@@ -183,7 +212,13 @@ stays_released s t c wake (inl (posted, _)) = stays_by s t (s.left - 1) s.taken 
 stays_released s t c wake (inr (u, posted, woken)) =
     let first = stays_by s u (s.left - 1) s.taken posted.0 in
     let rest = stays_by u t u.left u.taken woken.2 in
-    record { table = rest.table ∙ first.table; number = rest.number ∙ first.number; left_is = rest.left_is ∙ first.left_is; taken_is = rest.taken_is ∙ first.taken_is }
+    record {
+      table = rest.table ∙ first.table;
+      number = rest.number ∙ first.number;
+      left_is = rest.left_is
+          ∙ first.left_is;
+      taken_is = rest.taken_is ∙ first.taken_is;
+    }
 
 only_looked : (s t : SeatModel) (w : Word) (n : ℕ) → (look : LooksAt s w n t) → OnlyLooked look.stride t.sight
 only_looked s t w n look =
@@ -204,16 +239,19 @@ sees_look s t w n look =
     }
 
 -- the uses of a counter after a look
-pub uses_looked : (s t : SeatModel) (w : Word) (n c : ℕ) → takes s.number t.sight.seen ≡ takes s.number s.sight.seen → LooksAt s w n t → uses c s.number t.sight.seen ≡ uses c s.number s.sight.seen
+pub uses_looked : (s t : SeatModel) (w : Word) (n c : ℕ) → takes s.number t.sight.seen ≡ takes s.number s.sight.seen
+    → LooksAt s w n t → uses c s.number t.sight.seen ≡ uses c s.number s.sight.seen
 uses_looked s t w n c same look =
     let sees = sees_look s t w n look in
     uses_told c s.number s.sight.seen t.sight.seen [] sees.later sees.owns same ∙ append-nil (uses c s.number s.sight.seen)
 
 -- what was seen by a look is a lawful journal
-pub lawful_look : (s t : SeatModel) (w : Word) (n : ℕ) → LooksAt s w n t → IsLawful (plain_start (layout s.table.setting).starts) t.sight.seen
+pub lawful_look : (s t : SeatModel) (w : Word) (n : ℕ) → LooksAt s w n t
+    → IsLawful (plain_start (layout s.table.setting).starts) t.sight.seen
 lawful_look s t w n look =
     let m = layout s.table.setting in
     let all : t.sight.seen ≡ look.stride.seen =
-    (the_sema_paths.paths m).ends s.number s.sight t.sight [] look.stride (((the_sema_paths.paths m).single s.number s.sight t.sight look.stride).0 look.ran)
+    (the_sema_paths.paths m).ends s.number s.sight t.sight [] look.stride
+    (((the_sema_paths.paths m).single s.number s.sight t.sight look.stride).0 look.ran)
     ∙ ap (λ l. look.stride.seen ++ l) (only_looked s t w n look).told ∙ append-nil look.stride.seen in
     subst (IsLawful (plain_start m.starts)) (sym all) (the_sema_paths.lawful m s.number s.sight t.sight look.stride look.ran)

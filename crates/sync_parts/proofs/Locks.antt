@@ -16,7 +16,8 @@ kept z s c held is = let same : is.mine ≡ s = cc in subst (λ (x : SeatModel).
 pub own_table : (z : TableModel) (s : SeatModel) (c : ℕ) (held : Bool) → IsLock z (Some s) c held → s.table ≡ z
 own_table z s c held is = let same : is.mine ≡ s = cc in ap (λ (x : SeatModel). x.table) (sym same) ∙ is.own
 
-module _ (z : TableModel) (s t : SeatModel) (c : ℕ) (held : Bool) (is : IsLock z (Some s) c held) (counted : takes t.number t.sight.seen ≡ t.taken) where
+module _ (z : TableModel) (s t : SeatModel) (c : ℕ) (held : Bool) (is : IsLock z (Some s) c held)
+    (counted : takes t.number t.sight.seen ≡ t.taken) where
   module _ (acquired : IsAcquired s c false t) where
     one_more : takes s.number t.sight.seen ≡ takes s.number s.sight.seen + 1
     one_more =
@@ -45,7 +46,13 @@ module _ (z : TableModel) (s t : SeatModel) (c : ℕ) (held : Bool) (is : IsLock
         let stays = stays_acquired s t c acquired in
         record {
           acquired = acquired;
-          called = record { table = stays.table; number = stays.number; counter = refl; later = later_acquired s t c one_more acquired; calls = calls };
+          called = record {
+            table = stays.table;
+            number = stays.number;
+            counter = refl;
+            later = later_acquired s t c one_more acquired;
+            calls = calls;
+          };
           left = stays.left_is;
           held = refl;
         }

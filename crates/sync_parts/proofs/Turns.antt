@@ -33,7 +33,8 @@ fits_first true (Add c s) es turn = (tt, turn)
 fits_first b e es turn = absurd turn
 
 -- the use, if it is one, is in turn, and so are the rest
-fits_use : (u b : Bool) (e : Entry) (es : List Entry) → InTurn b (cond u (e ∷ es) es) → (u ≡ true → Fits b e) × InTurn (cond u (is_take e) b) es
+fits_use : (u b : Bool) (e : Entry) (es : List Entry) → InTurn b (cond u (e ∷ es) es) → (u ≡ true
+    → Fits b e) × InTurn (cond u (is_take e) b) es
 fits_use true b e es turn = let both = fits_first b e es turn in (λ _. both.0, both.1)
 fits_use false b e es turn = (λ no. absurd (cc no), turn)
 
@@ -68,11 +69,20 @@ other_use d c s i b holds ne = ap (λ t. cond (t && eqb s i) b (holds i)) (ne_eq
 is_its : (c s : ℕ) → (eqb c c && eqb s s) ≡ true
 is_its c s = λ j. eq-eqb c c refl j && eq-eqb s s refl j
 
-took : (c s : ℕ) (x : Plain) (holds : ℕ → Bool) → 0 < x.numbers c → One (x.numbers c) holds → One (x.numbers c - 1) (holds_then c (Take c s) holds)
-took c s x holds some (inl (is, none)) = inr (omega arith, (s, its_use c s true holds, λ i ne. no_use c c s i true holds (λ q. ne (sym q)) ∙ none i))
+took : (c s : ℕ) (x : Plain) (holds : ℕ → Bool) → 0 < x.numbers c → One (x.numbers c) holds
+    → One (x.numbers c - 1) (holds_then c (Take c s) holds)
+took c s x holds some (inl (is, none)) = inr (
+  omega arith,
+  (
+    s,
+    its_use c s true holds,
+    λ i ne. no_use c c s i true holds (λ q. ne (sym q)) ∙ none i,
+  ),
+)
 took c s x holds some (inr (is, _)) = absurd (omega arith)
 
-gave : (c s : ℕ) (x : Plain) (holds : ℕ → Bool) → holds s ≡ true → One (x.numbers c) holds → One (x.numbers c + 1) (holds_then c (Add c s) holds)
+gave : (c s : ℕ) (x : Plain) (holds : ℕ → Bool) → holds s ≡ true → One (x.numbers c) holds
+    → One (x.numbers c + 1) (holds_then c (Add c s) holds)
 gave c s x holds has (inl (is, none)) = let no = none s in absurd (cc)
 gave c s x holds has (inr (is, who)) = inl (omega arith, by)
   where
@@ -100,28 +110,47 @@ Goes c e x holds =
     IsDefined e x → ((i : ℕ) → is_use c i e ≡ true → Fits (holds i) e) → One (x.numbers c) holds
     → One ((effect_of e x).numbers c) (holds_then c e holds)
 
+-- the number of c after a change of it, and after a change of another counter
+here : (c n : ℕ) (x : Plain) (holds : ℕ → Bool) → One n holds → One (put x.numbers c n c) holds
+here c n x holds one = subst (λ m. One m holds) (sym (put_here x.numbers c n)) one
+
+elsewhere : (c d n s : ℕ) (b : Bool) (x : Plain) (holds : ℕ → Bool) → d ≢ c → One (x.numbers c) holds
+    → One (put x.numbers d n c) (λ i. cond (eqb d c && eqb s i) b (holds i))
+elsewhere c d n s b x holds ne one =
+    one_along (x.numbers c) (put x.numbers d n c) holds (λ i. cond (eqb d c && eqb s i) b (holds i))
+    (sym (put_else x.numbers d n c (λ q. ne (sym q)))) (λ i. sym (other_use d c s i b holds ne)) one
+
 one_then : (c : ℕ) (e : Entry) (x : Plain) (holds : ℕ → Bool) → Goes c e x holds
 one_then c (Take d s) x holds = by (ℕ_discrete d c)
   where
     by : Dec (d ≡ c) → Goes c (Take d s) x holds
-    by (yes q) = subst (λ d. Goes c (Take d s) x holds) (sym q) (λ some fits one. one_along (x.numbers c - 1) (put x.numbers c (x.numbers c - 1) c) (holds_then c (Take c s) holds) (holds_then c (Take c s) holds) (sym (put_here x.numbers c (x.numbers c - 1))) (λ i. refl) (took c s x holds some one))
-    by (no ne) = λ some fits one. one_along (x.numbers c) (put x.numbers d (x.numbers d - 1) c) holds (holds_then c (Take d s) holds) (sym (put_else x.numbers d (x.numbers d - 1) c (λ q. ne (sym q)))) (λ i. sym (other_use d c s i true holds ne)) one
+    by (yes q) =
+        subst (λ d. Goes c (Take d s) x holds) (sym q)
+        (λ some fits one. here c (x.numbers c - 1) x (holds_then c (Take c s) holds) (took c s x holds some one))
+    by (no ne) = λ some fits one. elsewhere c d (x.numbers d - 1) s true x holds ne one
 one_then c (Add d s) x holds = by (ℕ_discrete d c)
   where
     by : Dec (d ≡ c) → Goes c (Add d s) x holds
-    by (yes q) = subst (λ d. Goes c (Add d s) x holds) (sym q) (λ some fits one. one_along (x.numbers c + 1) (put x.numbers c (x.numbers c + 1) c) (holds_then c (Add c s) holds) (holds_then c (Add c s) holds) (sym (put_here x.numbers c (x.numbers c + 1))) (λ i. refl) (gave c s x holds (fits_add (holds s) c s (fits s (is_its c s))) one))
-    by (no ne) = λ some fits one. one_along (x.numbers c) (put x.numbers d (x.numbers d + 1) c) holds (holds_then c (Add d s) holds) (sym (put_else x.numbers d (x.numbers d + 1) c (λ q. ne (sym q)))) (λ i. sym (other_use d c s i false holds ne)) one
+    by (yes q) =
+        subst (λ d. Goes c (Add d s) x holds) (sym q)
+        (λ some fits one.
+        here c (x.numbers c + 1) x (holds_then c (Add c s) holds)
+        (gave c s x holds (fits_add (holds s) c s (fits s (is_its c s))) one))
+    by (no ne) = λ some fits one. elsewhere c d (x.numbers d + 1) s false x holds ne one
 one_then c (AddMany d n s) x holds = by (ℕ_discrete d c)
   where
     by : Dec (d ≡ c) → Goes c (AddMany d n s) x holds
-    by (yes q) = subst (λ d. Goes c (AddMany d n s) x holds) (sym q) (λ some fits one. absurd (fits_many (holds s) c n s (fits s (is_its c s))))
-    by (no ne) = λ some fits one. one_along (x.numbers c) (put x.numbers d (x.numbers d + n) c) holds (holds_then c (AddMany d n s) holds) (sym (put_else x.numbers d (x.numbers d + n) c (λ q. ne (sym q)))) (λ i. sym (other_use d c s i false holds ne)) one
+    by (yes q) =
+        subst (λ d. Goes c (AddMany d n s) x holds) (sym q)
+        (λ some fits one. absurd (fits_many (holds s) c n s (fits s (is_its c s))))
+    by (no ne) = λ some fits one. elsewhere c d (x.numbers d + n) s false x holds ne one
 one_then c _ x holds = λ some fits one. one
 
 abbrev AllDefined : Plain → List Entry → Type 0
 AllDefined x es = (before rest : List Entry) (e : Entry) → es ≡ before ++ e ∷ rest → IsDefined e (replay x before)
 
-one_along_all : (c : ℕ) (es : List Entry) (x : Plain) (holds : ℕ → Bool) → AllDefined x es → ((i : ℕ) → InTurn (holds i) (uses c i es)) → One (x.numbers c) holds
+one_along_all : (c : ℕ) (es : List Entry) (x : Plain) (holds : ℕ → Bool) → AllDefined x es → ((i : ℕ)
+    → InTurn (holds i) (uses c i es)) → One (x.numbers c) holds
     → One ((replay x es).numbers c) (λ i. after (holds i) (uses c i es))
 one_along_all c [] x holds defined turns one = one
 one_along_all c (e ∷ es) x holds defined turns one =
@@ -153,5 +182,8 @@ pub the_locks : TheLocks
 the_locks t c journal lawful only i k his its =
     let x = plain_start (layout t.setting).starts in
     one_alone ((replay x journal).numbers c) (λ j. after false (uses c j journal))
-    (one_along_all c journal x (λ j. false) (λ before rest e is. (lawful.0 before rest e is).0) only.in_turn (inl (only.started, λ j. refl)))
+    (one_along_all c journal x (λ j. false) (λ before rest e is. (lawful.0 before rest e is).0) only.in_turn (inl (
+      only.started,
+      λ j. refl,
+    )))
     i k (ap (after false) his.1 ∙ after_last false his.0 c i) (ap (after false) its.1 ∙ after_last false its.0 c k)

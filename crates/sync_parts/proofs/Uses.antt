@@ -37,10 +37,12 @@ filter_within : (p q : Entry → Bool) → ((e : Entry) → p e ≡ true → q e
 filter_within p q le [] = refl
 filter_within p q le (e ∷ es) = by (filter_within p q le es) (q e) refl (p e) refl
   where
-    by : filter p (filter q es) ≡ filter p es → (b : Bool) → q e ≡ b → (a : Bool) → p e ≡ a → filter p (cond (q e) (e ∷ filter q es) (filter q es)) ≡ cond (p e) (e ∷ filter p es) (filter p es)
+    by : filter p (filter q es) ≡ filter p es → (b : Bool) → q e ≡ b → (a : Bool) → p e ≡ a
+        → filter p (cond (q e) (e ∷ filter q es) (filter q es)) ≡ cond (p e) (e ∷ filter p es) (filter p es)
     by rest true passes a _ = ap (λ t. filter p (cond t (e ∷ filter q es) (filter q es))) passes ∙ ap (λ l. cond (p e) (e ∷ l) l) rest
     by rest false fails false none =
-        ap (λ t. filter p (cond t (e ∷ filter q es) (filter q es))) fails ∙ rest ∙ sym (ap (λ t. cond t (e ∷ filter p es) (filter p es)) none)
+        ap (λ t. filter p (cond t (e ∷ filter q es) (filter q es))) fails ∙ rest
+        ∙ sym (ap (λ t. cond t (e ∷ filter p es) (filter p es)) none)
     by rest false fails true some = let yes : q e ≡ true = le e some in cc
 
 gift_own : (c i : ℕ) (e : Entry) → is_gift c i e ≡ true → is_own i e ≡ true
@@ -87,7 +89,8 @@ pub record TakenLast (c i : ℕ) (now : List Entry) : Type 0 where
   pub last : takes i after ≡ 0
 
 -- it lies in what is new, where one unit was taken
-taken_new : (c i : ℕ) (seen more before after : List Entry) → seen ++ more ≡ before ++ Take c i ∷ after → takes i after ≡ 0 → takes i more ≡ 1
+taken_new : (c i : ℕ) (seen more before after : List Entry) → seen ++ more ≡ before ++ Take c i ∷ after → takes i after ≡ 0
+    → takes i more ≡ 1
     → (first : List Entry) × (more ≡ first ++ Take c i ∷ after)
 taken_new c i [] more before after e last one = (before, e)
 taken_new c i (x ∷ seen) more [] after e last one =
@@ -121,26 +124,32 @@ module _ (c i : ℕ) (seen now told : List Entry) (later : GoesOn now seen) (own
       uses_now ∙ ap (λ l. uses c i seen ++ l) (uses_gifts c i more (omega arith) ∙ gifts_more)
 
   -- one unit was taken for it, of c, and it added nothing
-  pub uses_taken : takes i now ≡ takes i seen + 1 → gifts c i told ≡ [] → TakenLast c i now → uses c i now ≡ uses c i seen ++ Take c i ∷ []
+  pub uses_taken : takes i now ≡ takes i seen + 1 → gifts c i told ≡ [] → TakenLast c i now
+      → uses c i now ≡ uses c i seen ++ Take c i ∷ []
   uses_taken one none t =
       let sum = takes_more in
       let new = taken_new c i seen more t.before t.after (sym later.is ∙ t.is) t.last (omega arith) in
-      let count : takes i more ≡ takes i new.0 + takes i (Take c i ∷ t.after) = ap (takes i) new.1 ∙ takes_append i new.0 (Take c i ∷ t.after) in
+      let count : takes i more ≡ takes i new.0 + takes i (Take c i ∷ t.after) = ap (takes i) new.1
+      ∙ takes_append i new.0 (Take c i ∷ t.after) in
       let last = taken_one i t.after c in
       let few : takes i new.0 ≡ 0 = omega (arith, t.last) in
-      let nothing = both_none (gifts c i new.0) (gifts c i t.after) (sym (filter-append (is_gift c i) new.0 (Take c i ∷ t.after)) ∙ ap (gifts c i) (sym new.1) ∙ gifts_more ∙ none) in
+      let nothing = both_none (gifts c i new.0) (gifts c i t.after) (sym (filter-append (is_gift c i) new.0 (Take c i ∷ t.after))
+      ∙ ap (gifts c i) (sym new.1) ∙ gifts_more ∙ none) in
       uses_now
       ∙ ap (λ l. uses c i seen ++ l) (ap (uses c i) new.1 ∙ filter-append (is_use c i) new.0 (Take c i ∷ t.after))
-      ∙ ap (λ l. uses c i seen ++ (l ++ cond (eqb c c && eqb i i) (Take c i ∷ uses c i t.after) (uses c i t.after))) (uses_gifts c i new.0 few ∙ nothing.0)
+      ∙ ap (λ l. uses c i seen ++ (l ++ cond (eqb c c && eqb i i) (Take c i ∷ uses c i t.after) (uses c i t.after)))
+      (uses_gifts c i new.0 few ∙ nothing.0)
       ∙ (λ j. uses c i seen ++ cond (eq-eqb c c refl j && eq-eqb i i refl j) (Take c i ∷ uses c i t.after) (uses c i t.after))
       ∙ ap (λ l. uses c i seen ++ Take c i ∷ l) (uses_gifts c i t.after t.last ∙ nothing.1)
 
 -- a seat that told of a unit that it took itself, and for which no more than one was taken
-pub told_last : (c i : ℕ) (seen told now : List Entry) → TellsIn seen (told ++ Take c i ∷ []) now → takes i now ≤ takes i seen + 1 → TakenLast c i now
+pub told_last : (c i : ℕ) (seen told now : List Entry) → TellsIn seen (told ++ Take c i ∷ []) now
+    → takes i now ≤ takes i seen + 1 → TakenLast c i now
 told_last c i seen [] now tells few =
     let goes = tells.1 in
     let is : now ≡ (seen ++ tells.0) ++ Take c i ∷ goes.more = goes.is ∙ append_assoc (seen ++ tells.0) (Take c i ∷ []) goes.more in
-    let all : takes i now ≡ takes i (seen ++ tells.0) + takes i (Take c i ∷ goes.more) = ap (takes i) is ∙ takes_append i (seen ++ tells.0) (Take c i ∷ goes.more) in
+    let all : takes i now ≡ takes i (seen ++ tells.0) + takes i (Take c i ∷ goes.more) = ap (takes i) is
+    ∙ takes_append i (seen ++ tells.0) (Take c i ∷ goes.more) in
     let some = takes_append i seen tells.0 in
     let one = taken_one i goes.more c in
     record { before = seen ++ tells.0; after = goes.more; is = is; last = omega arith }

@@ -1,12 +1,19 @@
-//! What a Go programmer knows by name, over the running semaphore table: a lock over one of its counters, and a wait group.
+//! What a Go programmer knows by name, over the running semaphore table and the running notify list: a lock over a counter, a
+//! condition variable, and a wait group.
 //!
-//! A [`SemaLock`] locks by an acquire of one unit and unlocks by a release of one, after Go's use of `runtime_SemacquireMutex`
-//! and `runtime_Semrelease`. Its counter is to start at 1 and to be used by such locks alone: then of two locks that meet at
-//! most one is held, and of several that meet no more.
+//! A [`SemaLock`] locks by an acquire of one unit and unlocks by a release of one (`semacquire1` and `semrelease1`
+//! of Go's `runtime/sema.go`). Its counter is to start at 1 and to be used by such locks alone: then of two locks
+//! that meet at most one is held.
 //!
-//! A lock keeps a seat of the table, so there are as many locks as seats, 256 at most, and each unlocks as often as its seat may
-//! release, 2^40 times at most: [`SemaLock::left`] tells how often yet. No call takes memory, and none answers an error.
-//! `acquire` may wait for another lock's release, and `release` for a root's lock; all other calls end.
+//! A lock keeps a seat of the table, so there are as many locks as seats, 256 at most, and each unlocks as often as
+//! its seat may release, 2^40 times at most: [`SemaLock::left`] tells how often yet. One that is dropped while it is
+//! held stays locked. No call takes memory, and none answers an error. `acquire` may wait for another lock's
+//! release, and `release` for a root's lock; all other calls end.
+//!
+//! A [`Cond`] is a notify list, after Go's `sync.Cond`. [`Cond::wait`] takes a ticket, unlocks a [`Locker`], waits with the ticket,
+//! and locks it again; [`Cond::signal`] grants the least ticket that isn't granted, and [`Cond::broadcast`] all. A `Cond` has 1 to
+//! 256 seats, and [`Cond::with_seats`] takes all memory that it ever takes. All its other calls may wait for its list's lock, and
+//! `wait` for a grant and for the locker too.
 //!
 //! A [`WaitGroup`] counts what is still to be done, after Go's `sync.WaitGroup`. [`WaitGroup::add`] adds to the counter, below 0
 //! too, [`WaitGroup::done`] takes 1 off, and [`WaitGroup::wait`] comes back where the counter is 0, and sleeps until then. One word
@@ -23,6 +30,7 @@
 //! for the lock of the semaphore's root, and `wait` for a grant too, and for a word that others keep changing.
 #![tactic(auto)]
 
+mod cond;
 mod group;
 mod group_adds;
 mod group_make;
@@ -30,11 +38,17 @@ mod group_plays;
 mod group_view;
 mod group_waits;
 mod laws;
+mod locker;
+mod locker_call;
 mod sema_lock;
 mod state_word;
 
+pub use cond::Cond;
 pub use group::{GroupSeat, WaitGroup};
 pub use laws::law_of_the_locks;
+pub use locker::Locker;
+pub use locker_call::LockerCall;
+pub use notify_list::{Holding, ListSeat, Waited};
 pub use sema_lock::SemaLock;
 pub use sema_table::SetupError;
 pub use step_table::Misuse;

@@ -94,7 +94,8 @@ impl<'t> SemaLock<'t> {
         self.held = false;
     }
 
-    /// The seats of two locks of one counter meet. Afterwards at most one of the two is held, if only such locks used the counter.
+    /// The seats of two locks of one counter meet. Afterwards at most one of the two is held, if only such locks
+    /// used the counter.
     pub fn meet(&mut self, other: &mut SemaLock<'_>)
         requires { (other.old.seat.table ≡ self.old.seat.table) × (other.old.counter ≡ self.old.counter) }
         ensures { HaveMet self.old other.old self.new other.new }

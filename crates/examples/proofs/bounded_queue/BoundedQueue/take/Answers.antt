@@ -10,9 +10,19 @@ pub returns : goal.returns
 returns g c =
     let q = c.args.self.now in let s = c.worker.inside.seat in let u = c.acquire-seat.result in let t = c.in-Ok.seat in
     let old = c.worker.inside.pass in let new = c.pop-item.new.pass in
-    let starts : q.table.setting.starts ≡ q.places ∷ 0 ∷ [] = subst (λ (x : QueueModel). x.table.setting.starts ≡ x.places ∷ 0 ∷ []) c.self.view_is c.self.invariant in
-    let mine : IsOf q (record { seat = s; ring = old.table_id; moves = view old }) = subst (λ (w : WorkerModel). IsOf q w) (sym c.worker.view_is) c.requires.0 in
+    let starts : q.table.setting.starts ≡ q.places ∷ 0 ∷ [] = subst (λ
+    (x : QueueModel). x.table.setting.starts ≡ x.places ∷ 0 ∷ []) c.self.view_is c.self.invariant in
+    let mine : IsOf q (record {
+      seat = s;
+      ring = old.table_id;
+      moves = view old;
+    }) = subst (λ (w : WorkerModel). IsOf q w) (sym c.worker.view_is) c.requires.0 in
     let acquired : IsAcquired s full false u = rw c.new.ensures at c.acquire-seat.ensures in
     let released : IsReleased u free false t c.in-Ok.field-0-1 = rw c.new-2.ensures at c.in-Ok.ensures.answer.1 in
-    subst (λ (w : WorkerModel). HasTaken q w c.pop-item.result (record { seat = t; ring = new.table_id; moves = view new })) c.worker.view_is
-    (has_taken q starts s u t old.table_id new.table_id (view old) (view new) c.pop-item.result c.in-Ok.field-0-1 mine c.pop-item.ensures.same.0 acquired released c.pop-item.ensures.taken)
+    subst (λ (w : WorkerModel). HasTaken q w c.pop-item.result (record {
+      seat = t;
+      ring = new.table_id;
+      moves = view new;
+    })) c.worker.view_is
+    (has_taken q starts s u t old.table_id new.table_id (view old)
+    (view new) c.pop-item.result c.in-Ok.field-0-1 mine c.pop-item.ensures.same.0 acquired released c.pop-item.ensures.taken)

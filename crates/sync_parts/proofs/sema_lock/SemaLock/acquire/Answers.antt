@@ -19,6 +19,7 @@ returns g c =
     let seat_is : i.seat ≡ Some s = cc in
     let is : IsLock i.table.now (Some s) i.counter i.held = rw (← seat_is) c.self.invariant in
     let acquired : IsAcquired s i.counter false t = c.acquire-seat.ensures in
-    let was : lock_of i.table.now (Some s) i.counter i.held ≡ c.args.self.now = ap (λ x. lock_of i.table.now x i.counter i.held) (sym seat_is) ∙ c.self.view_is in
+    let was : lock_of i.table.now (Some s) i.counter i.held ≡ c.args.self.now = ap (λ x. lock_of i.table.now x i.counter i.held)
+    (sym seat_is) ∙ c.self.view_is in
     subst (λ (l : LockModel). HasLocked l (lock_of i.table.now (Some t) i.counter true)) was
     (locked i.table.now s t i.counter i.held is (sym c.taken.ensures.counted ∙ c.taken.ensures.taken) acquired)

@@ -1,0 +1,5 @@
+//! The two examples under threads.
+
+mod lock_tests;
+mod mutex_tests;
+mod queue_tests;

@@ -1,0 +1,168 @@
+//! Two threads put items into a queue of two places and two take them out: each item arrives, and once.
+
+ghost use Rattle.std.specs.Prelude.{◌≡◌, ◌+◌, ◌<◌, All};
+ghost use Rattle.examples.specs.Moves.{all_parts};
+ghost use Rattle.examples.specs.Queue.{IsOf};
+
+use crate::{BoundedQueue, Tally, Worker};
+use sema_table::Seat;
+use std::alloc::{AllocError, Global};
+use std::process::Abort;
+use std::sync::Wait;
+use std::test::Fail;
+use std::thread::{Threads, join};
+
+const ITEMS: u32 = 500;
+
+/// A worker puts so many items, from this one on.
+fn put_all<R: Wait>(rt: &R, queue: &BoundedQueue, worker: Worker, first: u32)
+    requires { IsOf queue.now worker }
+{
+    let mut worker = worker;
+    for count in 0..ITEMS {
+        if worker.left() == 0 {
+            break;
+        }
+        worker = queue.put(rt, worker, first.wrapping_add(count));
+    }
+}
+
+/// A worker takes so many.
+fn take_all<R: Wait>(rt: &R, queue: &BoundedQueue, worker: Worker, into: Vec<u32>) -> Vec<u32>
+    requires { IsOf queue.now worker }
+{
+    let mut worker = worker;
+    let mut into = into;
+    for _ in 0..ITEMS {
+        if worker.left() == 0 {
+            break;
+        }
+        let (after, item) = queue.take(rt, worker);
+        worker = after;
+        let _ = into.push(item);
+    }
+    into
+}
+
+fn two_put<R: Threads + Wait + Sync>(rt: &R, queue: &BoundedQueue, first: Worker, second: Worker)
+    requires { IsOf queue.now first × IsOf queue.now second }
+{
+    join(
+        rt,
+        move ||
+            requires { IsOf queue.now first }
+        { put_all(rt, queue, first, 0) },
+        move ||
+            requires { IsOf queue.now second }
+        { put_all(rt, queue, second, ITEMS) },
+    );
+}
+
+fn two_take<R: Threads + Wait + Sync>(
+    rt: &R,
+    queue: &BoundedQueue,
+    first: Worker,
+    second: Worker,
+    into: (Vec<u32>, Vec<u32>),
+) -> (Vec<u32>, Vec<u32>)
+    requires { IsOf queue.now first × IsOf queue.now second }
+{
+    let (one, other) = into;
+    join(
+        rt,
+        move ||
+            requires { IsOf queue.now first }
+        { take_all(rt, queue, first, one) },
+        move ||
+            requires { IsOf queue.now second }
+        { take_all(rt, queue, second, other) },
+    )
+}
+
+/// A worker at the last seat.
+fn enters(rt: &impl Abort, queue: &BoundedQueue, tally: &mut Tally, seats: &mut Vec<Seat>) -> Worker
+    requires own { All (λ s. s.table ≡ queue.now.table) seats.old.items }
+    requires tally { (tally.old.ring ≡ queue.now.ring) × (1 < tally.old.moves.parts) }
+    ensures worker { IsOf queue.now result × (result.moves.parts ≡ 1) }
+    ensures rest { All (λ s. s.table ≡ queue.now.table) seats.new.items }
+    ensures tally { (tally.new.ring ≡ queue.now.ring) × (tally.new.moves.parts + 1 ≡ tally.old.moves.parts) }
+{
+    let seat = seats.pop().expect(rt, "a seat");
+    queue.enter(tally, seat)
+}
+
+fn move_all<R: Abort + Threads + Wait + Sync>(
+    rt: &R,
+    queue: &BoundedQueue,
+    tally: &mut Tally,
+    seats: Vec<Seat>,
+    into: (Vec<u32>, Vec<u32>),
+) -> (Vec<u32>, Vec<u32>)
+    requires own { All (λ s. s.table ≡ queue.now.table) seats.items }
+    requires tally { (tally.old.ring ≡ queue.now.ring) × (tally.old.moves.parts ≡ all_parts) }
+{
+    let mut seats = seats;
+    let first = enters(rt, queue, tally, &mut seats);
+    let second = enters(rt, queue, tally, &mut seats);
+    let third = enters(rt, queue, tally, &mut seats);
+    let fourth = enters(rt, queue, tally, &mut seats);
+    join(
+        rt,
+        move ||
+            requires { IsOf queue.now first × IsOf queue.now second }
+        { two_put(rt, queue, first, second) },
+        move ||
+            requires { IsOf queue.now third × IsOf queue.now fourth }
+        { two_take(rt, queue, third, fourth, into) },
+    )
+    .1
+}
+
+/// Each item was seen for the first time.
+fn marks(rt: &impl Abort, seen: &mut [bool], items: &[u32]) {
+    for item in items {
+        let at = *item as usize;
+        assert!(rt; at < seen.len() && !seen[at]);
+        seen[at] = true;
+    }
+}
+
+#[test]
+fn each_item_arrives_once(rt: HostRuntime) -> Result<(), Fail> {
+    let (queue, seats, mut tally) = BoundedQueue::new(rt.alloc(), 2, 4)?;
+    let into = (
+        Vec::with_capacity(rt.alloc(), ITEMS as usize)?,
+        Vec::with_capacity(rt.alloc(), ITEMS as usize)?,
+    );
+    let (one, other) = move_all(&rt, &queue, &mut tally, seats, into);
+    let mut seen = [false; 1_000];
+    marks(&rt, &mut seen, one.as_slice());
+    marks(&rt, &mut seen, other.as_slice());
+    assert!(rt; one.len() + other.len() == 1_000);
+    Ok(())
+}
+
+/// One worker puts two items and takes one, and leaves: one is left.
+fn leaves_one<R: Abort + Wait>(rt: &R, queue: &BoundedQueue, tally: &mut Tally, seats: Vec<Seat>)
+    requires own { All (λ s. s.table ≡ queue.now.table) seats.items }
+    requires tally { (tally.old.ring ≡ queue.now.ring) × (tally.old.moves.parts ≡ all_parts) }
+{
+    let mut seats = seats;
+    let worker = enters(rt, queue, tally, &mut seats);
+    assert!(rt; worker.left() > 2);
+    let worker = queue.put(rt, worker, 7);
+    assert!(rt; worker.left() > 1);
+    let worker = queue.put(rt, worker, 8);
+    assert!(rt; worker.left() > 0);
+    let (worker, item) = queue.take(rt, worker);
+    assert!(rt; item == 7);
+    let _ = queue.leave(tally, worker);
+    assert!(rt; queue.audit(rt, tally) == 1);
+}
+
+#[test]
+fn what_is_put_is_taken_or_left(rt: HostRuntime) -> Result<(), Fail> {
+    let (queue, seats, mut tally) = BoundedQueue::new(rt.alloc(), 2, 1)?;
+    leaves_one(&rt, &queue, &mut tally, seats);
+    Ok(())
+}
