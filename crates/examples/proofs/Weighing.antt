@@ -1,13 +1,10 @@
 -- Each move keeps the rule of the ring.
 use Rattle.std.proofs.Common.{◌≡◌, ◌≢◌, ℕ, zero, suc, ◌+◌, ◌-◌, ◌<◌, ◌≤◌, List, [], ◌∷◌, ◌++◌, length, set, refl, sym, ap, ◌∙◌, subst, ⊎_elim, arith}
-use Rattle.std.proofs.lemmas.List.FromFn.{length-map-range_with_len}
 use mathlib.Core.Option.{some, some-injective, some-ne-none}
 use lib.ListN.{get_elem?}
 use Rattle.crossbeam_queue.specs.Fifo.{Pushes, Pops, Forks, Merges, Learns, Held}
 use Rattle.crossbeam_queue.proofs.Lists.{at_set, at_snoc}
 use Rattle.step_table.specs.Counting.{on}
-use Rattle.sema_table.specs.Seats.{TableModel}
-use Rattle.sema_table.specs.Making.{new_seat, new_seats}
 use Rattle.examples.specs.Parts.{QueueModel, TallyModel}
 use Rattle.examples.specs.Queue.{AreLeftOf}
 use Rattle.examples.specs.declared.moves.Moves.{Moves}
@@ -155,6 +152,3 @@ left_of q t n few held = record {
   sum = let all = held.2 (λ y. 1) in
       let count = held.1 in omega (arith, weigh_one t.moves.put, weigh_one t.moves.taken, weigh_one held.0);
 }
-
-pub many_seats : (t : TableModel) (n : ℕ) → length (new_seats t 0 n) ≡ n
-many_seats t n = length-map-range_with_len (new_seat t) 0 n

@@ -1,5 +1,5 @@
 //! A queue of at most so many items, which waits where there is no place and where there is no item.
-ghost use Rattle.std.specs.Prelude.{◌≡◌, ◌+◌, ◌-◌, ◌<◌, ◌∷◌, [], IfOk};
+ghost use Rattle.std.specs.Prelude.{◌≡◌, ◌^◌, ◌<◌, ◌∷◌, [], IfOk};
 ghost use Rattle.crossbeam_queue.specs.Passes.{view, IsSamePass};
 ghost use Rattle.examples.specs.Moves.{all_parts, with_put, with_taken};
 ghost use Rattle.examples.specs.Queue.{IsNew, IsOf, new_worker, after_entry, after_leave, HasPut, HasTaken, AreLeftOf};
@@ -74,7 +74,8 @@ impl Model for Tally {
 
 /// Two counters: one of the free places, at so many, and one of the items, at 0.
 fn settings(alloc: Global, places: u32, workers: u32) -> Result<Settings, SetupError>
-    ensures { IfOk result (λ s. (s.starts.items ≡ places ∷ 0 ∷ []) × (s.seats ≡ workers)) }
+    ensures starts { IfOk result (λ s. s.starts.items ≡ places ∷ 0 ∷ []) }
+    ensures others { IfOk result (λ s. (s.seats ≡ workers) × (s.release_limit ≡ 2 ^ 40)) }
 {
     let Ok(mut starts) = Vec::with_capacity(alloc, 2) else {
         return Err(SetupError::NoMemory);
