@@ -15,6 +15,7 @@ use step_table::{GroupWord, Misuse};
 use waiters::CounterId;
 
 /// What an add of `d` came to that left this word: a misuse, or whether there are waits to release.
+#[inline]
 fn after_add(d: i32, left: GroupWord) -> Result<bool, Misuse>
     ensures { MatchResult result
         (λ wakes. after_add d left ≡ (if wakes then Goes (G2 left) else Ends))
@@ -35,6 +36,7 @@ fn after_add(d: i32, left: GroupWord) -> Result<bool, Misuse>
 impl WaitGroup {
     /// Adds `d`, which may be below 0, and where that leads to 0 releases each wait: how many (Go's `WaitGroup.Add`). `Negative`
     /// says that it led below 0, `AddWithWait` that it ran beside a wait. The seat comes back in either case.
+    #[inline]
     pub fn add<R: Wait>(&self, rt: &R, seat: GroupSeat, d: i32) -> (GroupSeat, Result<u32, Misuse>)
         requires own { seat.group ≡ self.now }
         requires left { 2 ^ 32 - 1 ≤ seat.sema.left }
@@ -57,6 +59,7 @@ impl WaitGroup {
     }
 
     /// Takes 1 off, and where that leads to 0 releases each wait (Go's `WaitGroup.Done`).
+    #[inline]
     pub fn done<R: Wait>(&self, rt: &R, seat: GroupSeat) -> (GroupSeat, Result<u32, Misuse>)
         requires own { seat.group ≡ self.now }
         requires left { 2 ^ 32 - 1 ≤ seat.sema.left }
@@ -67,6 +70,7 @@ impl WaitGroup {
 
     /// Releases so many waits. The word was emptied before: a wait that was released earlier would find the old word, and take it
     /// for that of a new round.
+    #[inline(never)]
     fn release_waits<R: Wait>(&self, rt: &R, _emptied: &StateToken, sema: Seat, waits: u32) -> Seat
         requires emptied { _emptied.now.me.0.next ≡ Releases waits }
         requires own { sema.table ≡ self.now.sema }

@@ -20,6 +20,7 @@ const EMPTY: GroupWord = GroupWord {
 
 impl StateWord {
     /// V1, and V2 where V1 found another counter than 0, until one of them settles it: whether the wait is counted.
+    #[inline]
     fn count_unless_zero<R: Wait>(&self, rt: &R, token: &mut StateToken) -> bool
         requires { (token.old.table_id ≡ self.now) × (is_free token.old.me.0.next ≡ true) }
         ensures { MatchBool result (GetsCounted token.old token.new) (FindsZero token.old token.new) }
@@ -42,6 +43,7 @@ impl StateWord {
 impl WaitGroup {
     /// Comes back where the counter is 0, and sleeps until then (Go's `WaitGroup.Wait`). `Reused` says that the group was used
     /// again before this wait had come back. The seat comes back in either case.
+    #[inline]
     pub fn wait<R: Wait>(&self, rt: &R, seat: GroupSeat) -> (GroupSeat, Result<(), Misuse>)
         requires { seat.group ≡ self.now }
         ensures { IsWaited seat result.0 result.1 }
