@@ -173,8 +173,16 @@ module _ (l : ListModel) (s t : Token) (n : ℕ) (seat : IsSeat s n) (own : list
             h = x.h;
             waited = x.waited;
             notified = x.notified;
-            rows = inr (unequal_is x.waited x.notified (sym x.answer), (R.notified, R.waited, R.handed, hand,
-            subst (λ i. Calls (seat_of s n) (a (NotifyingAll 0 L1)) (seat_of z n) (all_entries i R.handed k) rows) seat.token_is.number_is (calls s z n (a (NotifyingAll 0 L1)) (a Rest) entries rows seat.token_is w15)));
+            rows = inr (
+              unequal_is x.waited x.notified (sym x.answer),
+              (
+                R.notified,
+                R.waited,
+                R.handed,
+                hand,
+                subst (λ i. Calls (seat_of s n) (a (NotifyingAll 0 L1)) (seat_of z n) (all_entries i R.handed k) rows) seat.token_is.number_is (calls s z n (a (NotifyingAll 0 L1)) (a Rest) entries rows seat.token_is w15),
+              ),
+            );
           }
 
           seen_on : GoesOn z.me.0.sight.seen v.me.0.sight.seen

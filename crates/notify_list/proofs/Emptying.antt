@@ -52,9 +52,13 @@ first_some s y lists queue wait seat h is first change room same = by queue is h
     by [] r k e = absurd cc
     by (w ∷ q) r k e =
         let is_it : wait ≡ erased_wait w = cc in
-        let c = changed_open y.lists lists y.key (drop 1 (waits_at y.lists y.key)) change in
-        (w, q, refl, ap (λ (x : Wait). x.id.seat) (sym is_it) ∙ sym same,
-        written_back s (record y { lists = lists }) (w ∷ q) q k (record { opened = c.0; waits = c.1 ∙ ap (drop 1) r.waits; room = let a = r.room in omega (arith, room) }))
+        let c = changed_open y.lists lists y.key (drop 1 (waits_at y.lists y.key)) change in (
+          w,
+          q,
+          refl,
+          ap (λ (x : Wait). x.id.seat) (sym is_it) ∙ sym same,
+          written_back s (record y { lists = lists }) (w ∷ q) q k (record { opened = c.0; waits = c.1 ∙ ap (drop 1) r.waits; room = let a = r.room in omega (arith, room) }),
+        )
 
 -- of the waits of the list so many were taken out, and their seats are in the hand
 pub record Emptied (s : Token) (t : Token) (seats : List ℕ) : Type 0 where

@@ -22,3 +22,5 @@ pub mod Reaching
 pub mod Emptying
 pub mod Wakening
 pub mod Broadcasting
+pub mod Sitting
+pub mod LookingTogether

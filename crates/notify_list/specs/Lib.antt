@@ -17,3 +17,4 @@ pub mod GrantingAll
 pub mod Texts
 pub mod Making
 pub mod List
+pub mod Meeting

@@ -12,9 +12,11 @@
 //! it is moved or lent. `one` may wait for the list's lock, and `wait` for its grant too; all other calls end.
 #![tactic(auto)]
 
+mod joins;
 mod laws;
 mod locks;
 mod make;
+mod meeting;
 mod notify_all;
 mod notify_list;
 mod notify_one;
