@@ -23,6 +23,7 @@
 //! for the lock of the semaphore's root, and `wait` for a grant too, and for a word that others keep changing.
 #![tactic(auto)]
 
+mod cond;
 mod group;
 mod group_adds;
 mod group_make;
@@ -30,11 +31,17 @@ mod group_plays;
 mod group_view;
 mod group_waits;
 mod laws;
+mod locker;
+mod locker_call;
 mod sema_lock;
 mod state_word;
 
+pub use cond::Cond;
 pub use group::{GroupSeat, WaitGroup};
 pub use laws::law_of_the_locks;
+pub use locker::Locker;
+pub use locker_call::LockerCall;
+pub use notify_list::{Holding, ListSeat, Waited};
 pub use sema_lock::SemaLock;
 pub use sema_table::SetupError;
 pub use step_table::Misuse;
