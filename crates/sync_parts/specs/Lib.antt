@@ -7,3 +7,4 @@ pub mod GroupSeats
 pub mod GroupMaking
 pub mod GroupCalls
 pub mod GroupWalks
+pub mod Cond

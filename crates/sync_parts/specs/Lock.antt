@@ -1,11 +1,13 @@
 -- A lock over a counter: what a caller sees of it, and its calls as a list.
-use Rattle.std.specs.Prelude.{◌≡◌, ℕ, ◌<◌, Bool, true, false, ◌&&◌, eqb, List, [], ◌∷◌, ◌++◌, length, Option, Some, None}
+use Rattle.std.specs.Prelude.{◌≡◌, ℕ, ◌<◌, Bool, true, false, ◌&&◌, eqb, List, [], ◌∷◌, ◌++◌, length, map, Option, Some, None}
 use Rattle.std.specs.List.{filter}
 use Rattle.step_table.specs.declared.entry.Entry.{Entry}
 use Rattle.step_table.specs.declared.entry.Entry.TheVariants.{Add, AddMany, Take}
 use Rattle.step_table.specs.Journal.{takes}
 use Rattle.sema_table.specs.Seats.{TableModel, SeatModel}
 use Rattle.sema_table.specs.Making.{new_seat}
+use Rattle.sync_parts.specs.declared.locker_call.LockerCall.{LockerCall}
+use Rattle.sync_parts.specs.declared.locker_call.LockerCall.TheVariants.{Locked, Unlocked}
 
 -- a lock: its seat, its counter, and whether it is held
 pub record LockModel : Type 0 where
@@ -27,6 +29,15 @@ uses c i journal = filter (is_use c i) journal
 -- the calls of a lock, told from what its seat has seen: a Take for each time that it was locked, an Add for each release
 abbrev pub lock_calls : LockModel → List Entry
 lock_calls l = uses l.counter l.seat.number l.seat.sight.seen
+
+-- a call of a locker by its entry: a Take locks, and an Add unlocks
+abbrev pub call_of : Entry → LockerCall
+call_of (Take c s) = Locked
+call_of _ = Unlocked
+
+-- the calls of a lock as those of a locker
+abbrev pub locker_calls : LockModel → List LockerCall
+locker_calls l = map call_of (lock_calls l)
 
 -- the last of its calls took a unit
 abbrev pub TookLast : LockModel → Type 0

@@ -4,6 +4,8 @@ ghost use Rattle.sync_parts.specs.Lock.{TookLast};
 ghost use Rattle.sync_parts.specs.Locking.{new_lock, HasLocked, HasUnlocked};
 ghost use Rattle.sync_parts.specs.Exclusion.{HaveMet};
 
+use crate::locker::Locker;
+use notify_list::{Holding, ListSeat};
 use sema_table::{Seat, SemaTable};
 use std::marker::Model;
 use std::sync::Wait;
@@ -119,5 +121,31 @@ impl<'t> SemaLock<'t> {
             Some(seat) => seat,
             None => unreachable!(),
         }
+    }
+}
+
+impl<'t> Locker for SemaLock<'t> {
+    ghost use Rattle.sync_parts.specs.Lock.{locker_calls};
+
+    ghost calls = { λ l. locker_calls l };
+
+    ghost is_held = { λ l. l.held };
+
+    ghost may_unlock = { λ l. l.seat.left };
+
+    fn held(&self) -> bool {
+        SemaLock::held(self)
+    }
+
+    fn left(&self) -> u64 {
+        SemaLock::left(self)
+    }
+
+    fn unlock<R: Wait>(&mut self, rt: &R, _holding: &Holding) {
+        self.release(rt);
+    }
+
+    fn lock<R: Wait>(&mut self, rt: &R, _seat: &ListSeat) {
+        self.acquire(rt);
     }
 }

@@ -1,0 +1,40 @@
+//! What a condition variable unlocks while a caller waits, and locks again.
+ghost use Rattle.std.specs.Prelude.{◌≡◌, ℕ, ◌<◌, ◌++◌, ◌∷◌, [], Bool, true, false, List};
+ghost use Rattle.sync_parts.specs.declared.locker_call.LockerCall.{LockerCall as Call};
+
+use crate::locker_call::LockerCall;
+use notify_list::{Holding, ListSeat};
+use std::sync::Wait;
+
+/// A lock that a [`Cond`](crate::Cond) gives up while a caller waits. Its meaning is the list of its calls.
+pub trait Locker {
+    /// The calls that were made of it, from the first on.
+    ghost calls: { Self → List Call };
+
+    /// Whether it is held.
+    ghost is_held: { Self → Bool };
+
+    /// How often it may be unlocked yet.
+    ghost may_unlock: { Self → ℕ };
+
+    /// Whether it is held.
+    fn held(&self) -> bool
+        ensures { result ≡ is_held self.now };
+
+    /// How often it may be unlocked yet.
+    fn left(&self) -> u64
+        ensures { result ≡ may_unlock self.now };
+
+    /// Unlocks it, for a caller who holds a ticket.
+    fn unlock<R: Wait>(&mut self, rt: &R, holding: &Holding)
+        requires held { is_held self.old ≡ true }
+        requires left { 0 < may_unlock self.old }
+        ensures held { is_held self.new ≡ false }
+        ensures calls { calls self.new ≡ calls self.old ++ LockerCall.Unlocked ∷ [] };
+
+    /// Locks it, for a caller who has waited.
+    fn lock<R: Wait>(&mut self, rt: &R, seat: &ListSeat)
+        requires { is_held self.old ≡ false }
+        ensures held { is_held self.new ≡ true }
+        ensures calls { calls self.new ≡ calls self.old ++ LockerCall.Locked ∷ [] };
+}

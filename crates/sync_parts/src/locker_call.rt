@@ -1,0 +1,10 @@
+//! The calls of a locker.
+
+/// A call that was made of a [`Locker`](crate::Locker).
+#[derive(Clone, Copy, Debug, PartialEq, Eq, Drop)]
+pub enum LockerCall {
+    /// It was locked.
+    Locked,
+    /// It was unlocked.
+    Unlocked,
+}
