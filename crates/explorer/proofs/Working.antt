@@ -1,5 +1,5 @@
 -- What rounds come to: each takes a unit off what the seat may still add, and gives it one.
-use Rattle.std.proofs.Common.{◌≡◌, ℕ, zero, suc, ◌+◌, ◌-◌, ◌*◌, ◌<◌, Bool, List, [], ◌∷◌, ◌++◌, length, get_or, slice_index, refl, sym, ap, ◌∙◌, subst, inl, inr, arith, below_more}
+use Rattle.std.proofs.Common.{◌≡◌, ℕ, zero, suc, ◌+◌, ◌-◌, ◌*◌, ◌<◌, Bool, List, [], ◌∷◌, ◌++◌, length, get_or, slice_index, sym, ap, ◌∙◌, subst, inl, inr, arith, below_more}
 use Rattle.std.proofs.Math.Nat.{suc-mul}
 use Rattle.std.specs.List.{All}
 use Rattle.std.proofs.lemmas.List.{get_or_append_left, get_or-append-add}
@@ -12,7 +12,7 @@ use Rattle.sema_table.specs.Setting.{layout}
 use Rattle.sema_table.specs.Seats.{TableModel, SeatModel}
 use Rattle.sema_table.specs.Making.{new_seat, new_seats}
 use Rattle.sema_table.specs.Whole.{IsReleased, IsAcquired}
-use Rattle.sema_table.specs.Closing.{ClosedModel, AreAll, IsClosed, sum_by, has_added, was_given}
+use Rattle.sema_table.specs.Closing.{ClosedModel, AreAll, sum_by, has_added, was_given}
 use Rattle.explorer.specs.Threads.{HasRun, HasWorked, Worker, IsWorker, HaveWorked, IsThreadsRun}
 
 -- the same seat of the same table, with these two counts

@@ -1,5 +1,5 @@
 -- The calls of `parklot once` on counter 0 of a table: seat 0 acquires, and seat 1 releases while it sleeps.
-use Rattle.std.specs.Prelude.{◌≡◌, ◌≢◌, ℕ, [], ◌∷◌, Option, Some, None, false}
+use Rattle.std.specs.Prelude.{◌≡◌, ◌≢◌, [], ◌∷◌, Option, Some, None, false}
 use Rattle.step_table.specs.declared.place.AcquireRow.TheVariants.{A3}
 use Rattle.sema_table.specs.declared.answers.Tried.TheVariants.{Zero}
 use Rattle.sema_table.specs.declared.answers.Entered.TheVariants as entered
