@@ -44,7 +44,8 @@ abbrev leads_by : GroupWord → Bool → Bool → Bool → Bool → GroupNext
 leads_by w neg beside positive nobody =
     if neg then Fails Negative else if beside then Fails AddWithWait else if positive || nobody then Ends else Goes (G2 w)
 
-ends_by : (w : GroupWord) (neg beside positive nobody at_0 : Bool) (waits : ℕ) → (nobody ≡ true → waits ≡ 0) → (positive ≡ true → at_0 ≡ false)
+ends_by : (w : GroupWord) (neg beside positive nobody at_0 : Bool) (waits : ℕ) → (nobody ≡ true → waits ≡ 0)
+    → (positive ≡ true → at_0 ≡ false)
     → leads_by w neg beside positive nobody ≡ Ends → ◌≡◌ {A = ℕ} (if at_0 then waits else 0) 0
 ends_by w true beside positive nobody at_0 waits none_is not_zero e = absurd (cc)
 ends_by w false true positive nobody at_0 waits none_is not_zero e = absurd (cc)
@@ -53,7 +54,8 @@ ends_by w false false false true true waits none_is not_zero e = none_is refl
 ends_by w false false false true false waits none_is not_zero e = refl
 ends_by w false false false false at_0 waits none_is not_zero e = absurd (cc)
 
-goes_by : (w : GroupWord) (neg beside positive nobody : Bool) → leads_by w neg beside positive nobody ≡ Goes (G2 w) → (neg ≡ false) × (positive ≡ false)
+goes_by : (w : GroupWord) (neg beside positive nobody : Bool) → leads_by w neg beside positive nobody ≡ Goes (G2 w)
+    → (neg ≡ false) × (positive ≡ false)
 goes_by w true beside positive nobody e = absurd (cc)
 goes_by w false true positive nobody e = absurd (cc)
 goes_by w false false true nobody e = absurd (cc)
@@ -169,7 +171,8 @@ module _ (s t : Token) (a : SeatModel) (d : ℤ) (found left : GroupWord) (left_
         all_wait = let n = goes_by left (int_lt left.counter (pos 0)) (not (left.waits == 0) && int_lt (pos 0) d && int_eq left.counter d) (int_lt (pos 0) left.counter) (left.waits == 0) leads in
             ap (λ (b : Bool). if b then left.waits else 0) (sym (at_zero left.counter n.0 n.1))
 
-        pub added_all : (b : SeatModel) → left.waits ≤ a.left → HasReleased left.waits a b → IsAdded (group_seat_of s a) d (group_seat_of v b) (Ok left.waits)
+        pub added_all : (b : SeatModel) → left.waits ≤ a.left → HasReleased left.waits a b
+            → IsAdded (group_seat_of s a) d (group_seat_of v b) (Ok left.waits)
         added_all b few released = record {
           found = found;
           after = step (G2 left) seen ∷ step (G3 left) was ∷ [];

@@ -64,7 +64,8 @@ module _ (s : State ℕ GroupView) (r : IsKept s) (id : ℕ) (v : GroupView) (at
     calls = calls_more _ v.next v.steps (step row found) h.calls follows;
   }
 
-  kept_after : (x : ℕ) → word_in x ≡ (group_row row found).0 → IsKept (record { words = set s.words 0 x; homes = s.homes; views = set s.views id (stepped row found v) })
+  kept_after : (x : ℕ) → word_in x ≡ (group_row row found).0
+      → IsKept (record { words = set s.words 0 x; homes = s.homes; views = set s.views id (stepped row found v) })
   kept_after x becomes = record {
     history = r.history ++ here ∷ [];
     leads = subst (λ (w : GroupWord). Leads empty_word (r.history ++ here ∷ []) w)

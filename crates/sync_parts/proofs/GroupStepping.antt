@@ -97,18 +97,21 @@ more_is d a b fits e h = ap (λ (k : ℕ). (k * 4294967296) % 184467440737095516
     ∙ shifted (cast_unsigned w32 d) (omega (arith, ints))
 
 -- the word after an add is the word found, with d added
-pub added_is : (d : ℤ) (n more : ℕ) → n < 18446744073709551616 → more ≡ high d → word_in ((n + more) % 18446744073709551616) ≡ plus (word_in n) d
+pub added_is : (d : ℤ) (n more : ℕ) → n < 18446744073709551616 → more ≡ high d
+    → word_in ((n + more) % 18446744073709551616) ≡ plus (word_in n) d
 added_is d n more below is = ap (λ (k : ℕ). word_in ((n + k) % 18446744073709551616)) is ∙ the_group_words.shown n (G1 d) below tt
 
 swapped : (a b : ℕ) → (a == b) ≡ (b == a)
 swapped a b = same_from_decides (a == b) (b == a) (Decides-eqb a b) ((λ e. sym (eqb-true b a e)), (λ e. eq-eqb b a (sym e)))
 
 -- an exchange is won where the word was the one seen
-pub won_is : (seen : GroupWord) (n bits : ℕ) → IsGroupWord seen → n < 18446744073709551616 → bits ≡ bits_of seen → (n == bits) ≡ same_word seen (word_in n)
+pub won_is : (seen : GroupWord) (n bits : ℕ) → IsGroupWord seen → n < 18446744073709551616 → bits ≡ bits_of seen
+    → (n == bits) ≡ same_word seen (word_in n)
 won_is seen n bits is below e =
     swapped n bits ∙ (λ i. e i == (sym (the_group_words.forth n below)) i) ∙ sym (the_group_words.same seen (word_in n) is (the_group_words.words n below))
 
-pub counted : (s t : Token) (seen : GroupWord) (n bits : ℕ) → IsGroupWord seen → s.me.0.next ≡ Goes (V2 seen) → bits ≡ bits_of seen → n < 18446744073709551616
+pub counted : (s t : Token) (seen : GroupWord) (n bits : ℕ) → IsGroupWord seen → s.me.0.next ≡ Goes (V2 seen)
+    → bits ≡ bits_of seen → n < 18446744073709551616
     → t.table_id ≡ s.table_id → exchanges (atomic.step 0 0 bits ((bits + 1) % 18446744073709551616) none) s.me n t.me → Steps s (V2 seen) (word_in n) t
 counted s t seen n bits is at e below table told = record {
   word = the_group_words.words n below;

@@ -35,7 +35,8 @@ walks_more number first steps row word is path =
     path (the_group_paths.rows number row word is))
 
 -- a first row
-pub walks_first : (number : ℕ) (row : GroupRow) (word : GroupWord) → IsGroupWord word → Walks number row (step row word ∷ []) (group_row row word).1
+pub walks_first : (number : ℕ) (row : GroupRow) (word : GroupWord) → IsGroupWord word
+    → Walks number row (step row word ∷ []) (group_row row word).1
 walks_first number row word is = walks_more number row [] row word is refl
 
 -- no call is under way: a wait begins by its first look
@@ -114,7 +115,8 @@ module _ (s t u : Token) (x : LooksOn s t) (word : GroupWord) (y : Steps t (load
       tried_steps = ap (λ (m : Me). m.0.steps) z.me_is ∙ ap (λ (l : List GroupStep). l ++ step (V2 word) found ∷ []) looked_steps
           ∙ append_assoc s.me.0.steps (x.before ++ step V1 word ∷ []) (step (V2 word) found ∷ [])
 
-      tried_path : (next : GroupNext) → (group_row (V2 word) found).1 ≡ next → (number : ℕ) → Walks number V1 ((x.before ++ step V1 word ∷ []) ++ step (V2 word) found ∷ []) next
+      tried_path : (next : GroupNext) → (group_row (V2 word) found).1 ≡ next → (number : ℕ)
+          → Walks number V1 ((x.before ++ step V1 word ∷ []) ++ step (V2 word) found ∷ []) next
       tried_path next leads number = subst (λ (k : GroupNext). Walks number V1 ((x.before ++ step V1 word ∷ []) ++ step (V2 word) found ∷ []) k) leads
           (walks_more number V1 (x.before ++ step V1 word ∷ []) (V2 word) found z.word (looked_path (Goes (V2 word)) leads_on number))
 
@@ -169,5 +171,6 @@ module _ (s u v : Token) (a b : SeatModel) (counted : GetsCounted s u) (acquired
   waited e = subst (λ (w : GroupWord). IsCounted (group_seat_of s a) w Ends (group_seat_of v b)) (same_is word empty_word e)
       (is_counted Ends (ap (λ (c : Bool). if c then Ends else Fails Reused) e))
 
-  pub reused : same_word word empty_word ≡ false → (word ≢ empty_word) × IsCounted (group_seat_of s a) word (Fails Reused) (group_seat_of v b)
+  pub reused : same_word word empty_word ≡ false
+      → (word ≢ empty_word) × IsCounted (group_seat_of s a) word (Fails Reused) (group_seat_of v b)
   reused e = ((λ q. let yes = same_itself word empty_word q in absurd (cc)), is_counted (Fails Reused) (ap (λ (c : Bool). if c then Ends else Fails Reused) e))
