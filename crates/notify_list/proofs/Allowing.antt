@@ -1,5 +1,5 @@
 -- What an atomic step of the code owes, by the kind of its row.
-use Rattle.std.proofs.Common.{◌≡◌, ◌≢◌, ℕ, ◌+◌, ◌^◌, ◌<◌, ◌≤◌, ◌==◌, List, [], ◌∷◌, length, set, slice_index, sym, refl, ap, ◌∙◌, subst, ⊎_elim, arith, lt-ltb, length-set, get_or-set_other, get_or-set_same}
+use Rattle.std.proofs.Common.{◌≡◌, ◌≢◌, ℕ, ◌+◌, ◌<◌, ◌==◌, List, [], ◌∷◌, set, slice_index, sym, refl, ap, ◌∙◌, subst, ⊎_elim, arith, lt-ltb, length-set, get_or-set_other, get_or-set_same}
 use mathlib.Core.Option.{none, some}
 use native.Mathlib.Decide.{ℕ_discrete}
 use lib.ListN.{get_elem?}
@@ -14,22 +14,20 @@ use Rattle.step_table.specs.declared.list_place.Ticket.{Ticket}
 use Rattle.step_table.specs.declared.list_place.WaitRow.TheVariants.{P}
 use Rattle.step_table.specs.declared.list_place.ListWord.{ListWord}
 use Rattle.step_table.specs.declared.list_place.ListWord.TheVariants.{Lock, Grant}
-use Rattle.step_table.specs.ListWorld.{ListSeat, ListWorld, found, queue_after}
+use Rattle.step_table.specs.ListWorld.{ListSeat, ListWorld, queue_after}
 use Rattle.step_table.specs.ListEvent.{ListEvent}
 use Rattle.step_table.specs.ListTable.{list_table, list_event_at}
 use Rattle.step_table.specs.ListSteps.{event_of, finds}
 use Rattle.step_table.specs.Path.{sight, looks, look_in}
 use Rattle.step_table.proofs.Paths.{meets_sight}
-use Rattle.step_table.proofs.Sums.{total_has}
 use Rattle.list_law.specs.ListLawful.{holds, IsGrantOf}
 use Rattle.list_law.proofs.ListAccounts.{the_list_accounts}
-use Rattle.list_law.proofs.ListPaths.{the_list_paths}
 use Rattle.notify_list.specs.declared.view.View.{View}
 use Rattle.notify_list.specs.declared.view.Setting.{Setting}
 use Rattle.notify_list.specs.declared.view.Record.{Record}
 use Rattle.notify_list.specs.Setting.{address, IsThere}
 use Rattle.notify_list.specs.Places.{Begins, stands}
-use Rattle.notify_list.specs.Rule.{watched, IsRecord, Homes, AtHome, Knows, view_of, IsSomeones, Sits, HasSeats, IsKept}
+use Rattle.notify_list.specs.Rule.{watched, IsRecord, Homes, AtHome, IsSomeones, Sits, HasSeats, IsKept}
 use Rattle.notify_list.specs.Plays.{Me, Strode, Ran, standing, took}
 use Rattle.notify_list.specs.Plays as plays
 use Rattle.notify_list.proofs.Keeping.{Kept, Fits, Known, known, b, t, after, rule_kept, ran, home_stays, word_after, read_is, queue_stays}

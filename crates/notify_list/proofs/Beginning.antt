@@ -1,13 +1,12 @@
 -- Where a seat may begin a row: what its steps keep holds there.
-use Rattle.std.proofs.Common.{◌≡◌, ℕ, true, Option, Some, None, sym, refl, ap, ◌∙◌, subst, arith}
+use Rattle.std.proofs.Common.{◌≡◌, ℕ, true, Option, Some, sym, refl, ap, ◌∙◌, subst, arith}
 use mathlib.Core.Path.{fun_ext}
 use native.Mathlib.Decide.{ℕ_discrete}
 use Rattle.step_table.specs.declared.list_place.AllRow.TheVariants.{L1}
 use Rattle.step_table.specs.declared.list_place.ListPlace.{ListPlace}
-use Rattle.step_table.specs.declared.list_place.ListPlace.TheVariants.{Rest, Adding, Waiting, NotifyingOne, NotifyingAll}
+use Rattle.step_table.specs.declared.list_place.ListPlace.TheVariants.{Rest, Adding, NotifyingOne, NotifyingAll}
 use Rattle.step_table.specs.declared.list_place.OneRow.TheVariants.{O1, O3}
 use Rattle.step_table.specs.declared.list_place.Ticket.{Ticket}
-use Rattle.step_table.specs.declared.list_place.WaitRow.TheVariants.{W1}
 use Rattle.step_table.specs.World.{put}
 use Rattle.step_table.specs.ListWorld.{ListSeat, ListWorld}
 use Rattle.step_table.specs.ListSteps.{ListStep, ListChoice, notify_one, notify_all, end_second, choose, add, wait, with_ticket}

@@ -1,5 +1,5 @@
 -- A notification of all as a whole.
-use Rattle.std.proofs.Common.{◌≡◌, ◌≢◌, ℕ, zero, suc, ◌+◌, ◌<◌, ◌≤◌, ◌==◌, Bool, true, false, List, [], ◌∷◌, ◌++◌, Option, None, inl, inr, sym, refl, ap, ◌∙◌, subst, arith, append-nil}
+use Rattle.std.proofs.Common.{◌≡◌, ℕ, zero, suc, ◌+◌, true, false, List, [], ◌∷◌, ◌++◌, Option, inl, inr, sym, refl, ap, ◌∙◌, subst, arith, append-nil}
 use Rattle.waiters.specs.declared.wait.Wait.{Wait}
 use Rattle.step_table.specs.declared.list_place.AllRow.TheVariants.{L1, L3, L4, L7, L8}
 use Rattle.step_table.specs.declared.list_place.ListPlace.{ListPlace}
@@ -14,13 +14,12 @@ use Rattle.list_law.specs.ListLawful.{told, replay, counted}
 use Rattle.list_law.specs.ListPath.{ListSight}
 use Rattle.list_law.proofs.ListAccounts.{the_list_accounts}
 use Rattle.list_law.proofs.ListPaths.{the_list_paths}
-use Rattle.notify_list.specs.declared.view.Setting.{Setting}
 use Rattle.notify_list.specs.Places.{at_place, is_free, waiting, locked, takes_lock, Begins, stands}
 use Rattle.notify_list.specs.Rule.{watched}
-use Rattle.notify_list.specs.Seats.{ListModel, SeatModel, Token, list_of, seat_of, IsToken, IsSeat}
+use Rattle.notify_list.specs.Seats.{ListModel, Token, list_of, seat_of, IsSeat}
 use Rattle.notify_list.specs.Walks.{Walked, MayLock, Locked, stands_of}
 use Rattle.notify_list.specs.Calls.{Calls, AllGranted}
-use Rattle.notify_list.specs.NotifyingAll.{looks_all, reach_rows, wake_rows, all_rows, all_entries, NotifiesAll, GrantsUpTo, GrantsSome}
+use Rattle.notify_list.specs.NotifyingAll.{looks_all, reach_rows, wake_rows, all_rows, all_entries, NotifiesAll, GrantsSome}
 use Rattle.notify_list.specs.GrantingAll.{LookedForAll, IsAt, MayReach, ReachedAll, MayTake, TakenAll, MayWake, with_waits, WokenSome}
 use Rattle.notify_list.proofs.Leading.{equal_is, unequal_is}
 use Rattle.notify_list.proofs.Walking.{walked_on, walked_so, walked_later, token_after, calls, comes_to}

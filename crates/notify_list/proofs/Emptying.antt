@@ -16,10 +16,10 @@ use Rattle.notify_list.specs.declared.view.Record.{Record}
 use Rattle.notify_list.specs.Places.{at_place}
 use Rattle.notify_list.specs.Rule.{IsRecord, IsKept, IsSomeones}
 use Rattle.notify_list.specs.Plays.{Me, Ran, standing}
-use Rattle.notify_list.specs.Seats.{ListModel, Token, list_of}
+use Rattle.notify_list.specs.Seats.{ListModel, Token}
 use Rattle.notify_list.specs.Walks.{Walked, HasRecord, Edited, stands_of}
 use Rattle.notify_list.specs.Records.{HasWaits, FirstOut}
-use Rattle.notify_list.specs.GrantingAll.{IsAt, MayTake, TakenAll, with_waits}
+use Rattle.notify_list.specs.GrantingAll.{MayTake, TakenAll, with_waits}
 use Rattle.notify_list.proofs.Leading.{Led, led}
 use Rattle.notify_list.proofs.Walking.{ran_from, walked_row}
 use Rattle.notify_list.proofs.Recording.{changed_open, gives_edited}

@@ -1,38 +1,33 @@
 -- The rows that grant one ticket.
-use Rattle.std.proofs.Common.{◌≡◌, ◌⊎◌, ℕ, ◌+◌, ◌<◌, ◌≤◌, List, [], ◌∷◌, ◌++◌, length, Option, Some, None, inl, inr, sym, refl, ap, ◌∙◌, subst, arith, append-nil}
+use Rattle.std.proofs.Common.{◌≡◌, ◌⊎◌, ℕ, ◌+◌, ◌<◌, ◌≤◌, List, [], ◌∷◌, ◌++◌, Option, Some, None, inl, inr, sym, refl, ap, ◌∙◌, subst, arith}
 use Rattle.atomic_table.specs.Table.{Allows, rest}
 use Rattle.waiters.specs.declared.wait.Wait.{Wait}
 use Rattle.waiters.specs.Lists.{first_with, without_first}
 use Rattle.step_table.specs.declared.list_place.ListEffect.TheVariants.{Nothing, TakesOut, Gives}
-use Rattle.step_table.specs.declared.list_place.ListPlace.{ListPlace}
 use Rattle.step_table.specs.declared.list_place.ListPlace.TheVariants.{Rest, NotifyingOne}
 use Rattle.step_table.specs.declared.list_place.OneRow.TheVariants.{O7, O8, O9}
 use Rattle.step_table.specs.Wrapping.{word_of}
-use Rattle.step_table.specs.ListWorld.{Numbers, ListSeat, ListEntry, Granted, ListWorld, found, queue_after, hand_after, ticket_after, one_or_none}
-use Rattle.step_table.specs.ListEvent.{ListNext, by_found, waiter}
-use Rattle.step_table.specs.ListTable.{list_table}
-use Rattle.step_table.specs.ListSteps.{event_of, seat_after}
+use Rattle.step_table.specs.ListWorld.{Numbers, ListSeat, ListEntry, Granted, queue_after, hand_after, ticket_after, one_or_none}
+use Rattle.step_table.specs.ListEvent.{ListNext, by_found}
 use Rattle.step_table.specs.Path.{GoesOn}
-use Rattle.step_table.proofs.Paths.{goes_on_here, goes_on_more}
+use Rattle.step_table.proofs.Paths.{goes_on_more}
 use Rattle.list_law.specs.ListLawful.{told}
 use Rattle.list_law.specs.ListInvariant.{Knows}
 use Rattle.list_law.specs.ListPlaces.{ReachedList}
 use Rattle.list_law.specs.ListPath.{entries_of}
 use Rattle.notify_list.specs.declared.view.View.{View}
 use Rattle.notify_list.specs.declared.view.Setting.{Setting}
-use Rattle.notify_list.specs.declared.view.Record.{Record}
 use Rattle.notify_list.specs.Places.{at_place}
-use Rattle.notify_list.specs.Rule.{IsKept, IsSomeones, IsRecord, Lands}
+use Rattle.notify_list.specs.Rule.{IsKept, IsSomeones}
 use Rattle.notify_list.specs.Plays.{Me, Ran, standing}
-use Rattle.notify_list.specs.Seats.{ListModel, Token, list_of}
-use Rattle.notify_list.specs.Walks.{Walked, HasRecord, Edited, stands_of}
+use Rattle.notify_list.specs.Seats.{ListModel, Token}
+use Rattle.notify_list.specs.Walks.{Walked, HasRecord, stands_of}
 use Rattle.notify_list.specs.Records.{IsOut}
 use Rattle.notify_list.specs.Notifying.{grants_it}
 use Rattle.notify_list.specs.Granting.{MayGrant, GrantedOne, grant_rows}
-use Rattle.notify_list.proofs.Keeping.{Fits, laws_of}
+use Rattle.notify_list.proofs.Keeping.{laws_of}
 use Rattle.notify_list.proofs.Leading.{Led, led}
-use Rattle.notify_list.proofs.Walking.{ran_from, walked_row, walked_on, walked_so, walked_later}
-use Rattle.notify_list.proofs.Looking.{seen_all}
+use Rattle.notify_list.proofs.Walking.{ran_from, walked_row, walked_on, walked_later}
 use Rattle.notify_list.proofs.Recording.{gives_edited, record_kept}
 use Rattle.notify_list.proofs.Resting.{stands_there, grants_in}
 

@@ -1,30 +1,26 @@
 -- A row of the step table keeps the rule, whichever row it is.
-use Rattle.std.proofs.Common.{◌≡◌, ◌≢◌, ℕ, ◌+◌, ◌^◌, ◌<◌, ◌≤◌, IsTrue, List, [], ◌∷◌, ◌++◌, length, get_or, set, slice_index, sym, refl, ap, ◌∙◌, subst, ⊎_elim, arith, append-nil, length-set, get_or-set_other, get_or-set_same}
+use Rattle.std.proofs.Common.{◌≡◌, ◌≢◌, ℕ, ◌+◌, ◌<◌, ◌≤◌, IsTrue, List, ◌++◌, length, get_or, set, slice_index, sym, refl, ap, ◌∙◌, subst, ⊎_elim, arith, append-nil, length-set, get_or-set_other, get_or-set_same}
 use mathlib.Core.Logic.{dite}
 use mathlib.Core.Option.{some}
 use native.Mathlib.Decide.{ℕ_discrete}
 use lib.ListN.{get_elem?}
 use Rattle.atomic_table.specs.Table.{State}
 use Rattle.atomic_table.proofs.Lists.{at_set}
-use Rattle.waiters.specs.declared.wait.Wait.{Wait}
 use Rattle.step_table.specs.declared.list_place.ListEffect.{ListEffect}
 use Rattle.step_table.specs.declared.list_place.ListEffect.TheVariants.{HandsOut, Grants}
-use Rattle.step_table.specs.declared.list_place.ListPlace.{ListPlace}
 use Rattle.step_table.specs.declared.list_place.ListWord.{ListWord}
-use Rattle.step_table.specs.ListWorld.{ListSeat, ListEntry, Took, Granted, ListWorld, found, journal_after, queue_after}
+use Rattle.step_table.specs.ListWorld.{ListSeat, ListEntry, ListWorld, found, journal_after, queue_after}
 use Rattle.step_table.specs.ListEvent.{ListEvent}
 use Rattle.step_table.specs.ListSteps.{event_of, effect_of, finds, turned, ListTurn, ListStep, turn, more}
-use Rattle.step_table.specs.Path.{Meets, sight, runs}
+use Rattle.step_table.specs.Path.{Meets, sight}
 use Rattle.step_table.proofs.Paths.{meets_sight}
-use Rattle.step_table.proofs.Sums.{put_here, put_else, total_has}
+use Rattle.step_table.proofs.Sums.{put_here, total_has}
 use Rattle.list_law.specs.ListLawful.{holds}
-use Rattle.list_law.specs.ListInvariant.{IsListInvariant}
-use Rattle.list_law.specs.ListPath.{ListSight, ListRan, entries_of, row_stride}
+use Rattle.list_law.specs.ListPath.{ListSight, entries_of, row_stride}
 use Rattle.list_law.specs.ListPlaces.{ReachedList}
 use Rattle.list_law.proofs.ListAccounts.{the_list_accounts}
 use Rattle.list_law.proofs.ListPaths.{the_list_paths}
 use Rattle.notify_list.specs.declared.view.View.{View}
-use Rattle.notify_list.specs.declared.view.Guest.{Guest}
 use Rattle.notify_list.specs.declared.view.Setting.{Setting}
 use Rattle.notify_list.specs.declared.view.Record.{Record}
 use Rattle.notify_list.specs.Setting.{address, IsThere}

@@ -1,8 +1,7 @@
 -- Where a row that ran leads its seat, by what the table says of it.
-use Rattle.std.proofs.Common.{◌≡◌, ◌≢◌, ℕ, ◌==◌, cond, Bool, true, false, List, ◌++◌, refl, sym, ap, ◌∙◌, subst, eq-eqb, ne_eqb}
+use Rattle.std.proofs.Common.{◌≡◌, ◌≢◌, ℕ, ◌==◌, cond, Bool, true, false, ◌++◌, sym, ap, ◌∙◌, subst, eq-eqb, ne_eqb}
 use Rattle.std.proofs.lemmas.List.{append_cancel_left}
 use native.Mathlib.Decide.{ℕ_discrete}
-use Rattle.step_table.specs.declared.list_place.ListPlace.{ListPlace}
 use Rattle.step_table.specs.ListWorld.{ListSeat, ListWorld, found, queue_after}
 use Rattle.step_table.specs.ListEvent.{ListEvent, ListNext}
 use Rattle.step_table.specs.ListTable.{list_table}
@@ -12,7 +11,6 @@ use Rattle.step_table.proofs.Paths.{stride_told, stride_later}
 use Rattle.step_table.proofs.Sums.{put_here}
 use Rattle.list_law.specs.ListLawful.{holds}
 use Rattle.list_law.specs.ListPath.{ListSight, ListStride, entries_of}
-use Rattle.list_law.specs.ListPlaces.{ReachedList}
 use Rattle.notify_list.specs.declared.view.View.{View}
 use Rattle.notify_list.specs.Rule.{watched, IsMet}
 use Rattle.notify_list.specs.Plays.{Ran}

@@ -1,5 +1,5 @@
 -- The row that takes the lock, and what comes of it.
-use Rattle.std.proofs.Common.{◌≡◌, ℕ, true, List, [], ◌∷◌, sym, refl, ap, ◌∙◌, subst}
+use Rattle.std.proofs.Common.{◌≡◌, ℕ, true, [], ◌∷◌, sym, refl, ap, ◌∙◌, subst}
 use Rattle.step_table.specs.declared.list_place.AllRow.TheVariants.{L3}
 use Rattle.step_table.specs.declared.list_place.ListPlace.{ListPlace}
 use Rattle.step_table.specs.declared.list_place.ListPlace.TheVariants.{Waiting, NotifyingOne, NotifyingAll}

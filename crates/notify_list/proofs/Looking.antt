@@ -1,8 +1,8 @@
 -- The first two looks of a notification.
-use Rattle.std.proofs.Common.{◌≡◌, ◌≢◌, ℕ, ◌+◌, ◌<◌, ◌≤◌, ◌==◌, Bool, true, false, List, [], ◌∷◌, ◌++◌, Option, Some, None, sym, refl, ap, ◌∙◌, subst, arith, append-nil}
+use Rattle.std.proofs.Common.{◌≡◌, ℕ, ◌≤◌, ◌==◌, Bool, true, false, List, [], ◌∷◌, ◌++◌, sym, refl, ap, ◌∙◌, subst, arith, append-nil}
 use Rattle.step_table.specs.declared.list_place.ListPlace.{ListPlace}
-use Rattle.step_table.specs.declared.list_place.ListPlace.TheVariants.{Rest, NotifyingOne}
-use Rattle.step_table.specs.declared.list_place.OneRow.TheVariants.{O1, O2, O3}
+use Rattle.step_table.specs.declared.list_place.ListPlace.TheVariants.{NotifyingOne}
+use Rattle.step_table.specs.declared.list_place.OneRow.TheVariants.{O1, O2}
 use Rattle.step_table.specs.ListWorld.{Numbers, ListSeat, ListEntry, ListWorld}
 use Rattle.step_table.specs.Path.{GoesOn}
 use Rattle.list_law.specs.ListLawful.{told}
@@ -11,9 +11,9 @@ use Rattle.list_law.specs.ListPlaces.{ReachedList}
 use Rattle.notify_list.specs.declared.view.View.{View}
 use Rattle.notify_list.specs.Places.{at_place, is_free}
 use Rattle.notify_list.specs.Plays.{Ran, standing}
-use Rattle.notify_list.specs.Seats.{Token, seat_of, IsToken, IsSeat}
+use Rattle.notify_list.specs.Seats.{Token, seat_of, IsSeat}
 use Rattle.notify_list.specs.Walks.{Walked, stands_of}
-use Rattle.notify_list.specs.Calls.{numbers_seen, AllGranted}
+use Rattle.notify_list.specs.Calls.{AllGranted}
 use Rattle.notify_list.specs.Tickets.{looks, after_looks, HasLooked}
 use Rattle.notify_list.proofs.Keeping.{laws_of}
 use Rattle.notify_list.proofs.Leading.{Led, led}

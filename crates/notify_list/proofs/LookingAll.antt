@@ -1,9 +1,9 @@
 -- The first two looks of a notification of all.
-use Rattle.std.proofs.Common.{◌≡◌, ◌≢◌, ℕ, ◌+◌, ◌<◌, ◌≤◌, ◌==◌, if◌then◌else◌, Bool, true, false, List, [], ◌∷◌, ◌++◌, sym, refl, ap, ◌∙◌, subst, arith}
+use Rattle.std.proofs.Common.{◌≡◌, ℕ, ◌≤◌, ◌==◌, if◌then◌else◌, List, [], ◌∷◌, sym, refl, ap, ◌∙◌, subst, arith}
 use Rattle.step_table.specs.declared.list_place.AllRow.TheVariants.{L1, L2, L3}
 use Rattle.step_table.specs.declared.list_place.ListPlace.{ListPlace}
 use Rattle.step_table.specs.declared.list_place.ListPlace.TheVariants.{Rest, NotifyingAll}
-use Rattle.step_table.specs.ListWorld.{Numbers, ListSeat, ListEntry, ListWorld}
+use Rattle.step_table.specs.ListWorld.{Numbers, ListSeat, ListEntry}
 use Rattle.step_table.specs.Path.{GoesOn}
 use Rattle.list_law.specs.ListLawful.{told}
 use Rattle.list_law.specs.ListCalls.{Concludes, all_equal}

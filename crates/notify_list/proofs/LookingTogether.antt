@@ -1,19 +1,18 @@
 -- What two seats have that met.
-use Rattle.std.proofs.Common.{◌≡◌, ◌≢◌, ℕ, ◌<◌, List, [], ◌∷◌, length, sym, refl, ap, ◌∙◌, subst, arith}
-use Rattle.atomic_table.specs.Table.{Allows, Splits, Joins}
+use Rattle.std.proofs.Common.{◌≡◌, ◌≢◌, ℕ, ◌<◌, [], ◌∷◌, sym, ap, ◌∙◌, subst, arith}
+use Rattle.atomic_table.specs.Table.{Allows, Splits}
 use Rattle.step_table.specs.declared.list_place.ListWord.TheVariants.{Wait}
 use Rattle.step_table.specs.Path.{looks}
 use Rattle.notify_list.specs.declared.view.View.{View}
-use Rattle.notify_list.specs.declared.view.Guest.{Guest}
 use Rattle.notify_list.specs.declared.view.Setting.{Setting}
 use Rattle.notify_list.specs.declared.notify_list.NotifyList.TheInside.{Inside}
-use Rattle.notify_list.specs.Rule.{IsSomeones, view_of, nobody, IsKept}
+use Rattle.notify_list.specs.Rule.{IsSomeones, view_of, IsKept}
 use Rattle.notify_list.specs.Plays.{Me, Strode}
 use Rattle.notify_list.specs.Shared.{list_by}
-use Rattle.notify_list.specs.Seats.{ListModel, SeatModel, Token, list_of, seat_of, IsSeat}
+use Rattle.notify_list.specs.Seats.{ListModel, Token, list_of, seat_of, IsSeat}
 use Rattle.notify_list.specs.Meeting.{guest_of, sitting, parting, parted, met_at, HasMet}
 use Rattle.notify_list.proofs.Owned.{Made, someones}
-use Rattle.notify_list.proofs.Sitting.{sits_kept, meets_kept, parts_kept, met_looks, met_seat}
+use Rattle.notify_list.proofs.Sitting.{meets_kept, parts_kept, met_looks, met_seat}
 
 -- a list has a word
 pub has_word : (x : Inside) → Made x → 0 < x.table.shared.table_id.words

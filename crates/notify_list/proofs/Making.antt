@@ -1,5 +1,5 @@
 -- The rule holds of a list as it is made, and is kept where its first seat makes another.
-use Rattle.std.proofs.Common.{◌≡◌, ◌≢◌, ℕ, zero, suc, ◌+◌, ◌%◌, ◌^◌, ◌<◌, ◌≤◌, List, [], ◌∷◌, ◌++◌, length, replicate, map, get_or, set, slice_index, All, sym, refl, ap, ◌∙◌, subst, ⊎_elim, inl, inr, ◌⊎◌, arith, length-append, length-set}
+use Rattle.std.proofs.Common.{◌≡◌, ◌≢◌, ℕ, zero, suc, ◌+◌, ◌%◌, ◌^◌, ◌<◌, List, [], ◌∷◌, ◌++◌, length, replicate, map, get_or, set, slice_index, All, sym, refl, ap, ◌∙◌, subst, ⊎_elim, inl, inr, ◌⊎◌, arith}
 use Rattle.std.proofs.lemmas.List.{length-replicate}
 use Rattle.std.proofs.lemmas.List.FromFn.{map-range_with_len_more}
 use Rattle.std.proofs.lemmas.List.Elements.{All-map}
@@ -13,7 +13,7 @@ use Rattle.step_table.specs.declared.list_place.ListWord.{ListWord}
 use Rattle.step_table.specs.declared.list_place.ListWord.TheVariants.{Wait, Notify, Lock, Grant}
 use Rattle.step_table.specs.Wrapping.{word_of}
 use Rattle.step_table.specs.World.{put}
-use Rattle.step_table.specs.ListWorld.{ListWorld, found, first_list}
+use Rattle.step_table.specs.ListWorld.{found, first_list}
 use Rattle.step_table.specs.ListSteps.{none}
 use Rattle.step_table.proofs.Sums.{put_here, put_else}
 use Rattle.step_table.proofs.Paths.{goes_on_here}

@@ -1,9 +1,9 @@
 -- A notification of one, from its lock on and as a whole.
-use Rattle.std.proofs.Common.{◌≡◌, ◌≢◌, ◌⊎◌, ℕ, ◌+◌, ◌<◌, ◌≤◌, ◌==◌, if◌then◌else◌, Bool, true, false, List, [], ◌∷◌, ◌++◌, length, Option, Some, None, inl, inr, ⊎_elim, sym, refl, ap, ◌∙◌, subst, arith, append-nil}
+use Rattle.std.proofs.Common.{◌≡◌, ◌≢◌, ◌⊎◌, ℕ, ◌+◌, ◌≤◌, ◌==◌, if◌then◌else◌, List, [], ◌∷◌, ◌++◌, Option, Some, None, inl, inr, ⊎_elim, sym, refl, ap, ◌∙◌, subst, arith}
 use Rattle.atomic_table.specs.Table.{rest}
 use Rattle.step_table.specs.declared.list_place.ListPlace.{ListPlace}
 use Rattle.step_table.specs.declared.list_place.ListPlace.TheVariants.{Rest, NotifyingOne}
-use Rattle.step_table.specs.declared.list_place.OneRow.TheVariants.{O1, O3, O4, O5, O6, O7, O8, O9}
+use Rattle.step_table.specs.declared.list_place.OneRow.TheVariants.{O3, O4, O5, O6, O7}
 use Rattle.step_table.specs.declared.list_place.Ticket.{Ticket}
 use Rattle.step_table.specs.ListWorld.{ListSeat, ListEntry, Granted}
 use Rattle.step_table.specs.ListSteps.{with_ticket}
@@ -15,15 +15,14 @@ use Rattle.notify_list.specs.declared.view.View.{View}
 use Rattle.notify_list.specs.declared.view.Setting.{Setting}
 use Rattle.notify_list.specs.Places.{at_place, is_free, waiting, locked, takes_lock, Begins, stands}
 use Rattle.notify_list.specs.Plays.{Ran, standing}
-use Rattle.notify_list.specs.Seats.{ListModel, SeatModel, Token, list_of, seat_of, IsToken, IsSeat}
+use Rattle.notify_list.specs.Seats.{ListModel, Token, list_of, seat_of, IsToken, IsSeat}
 use Rattle.notify_list.specs.Walks.{Walked, MayLock, Locked, HasRecord, stands_of}
 use Rattle.notify_list.specs.Calls.{Calls, ComesTo}
-use Rattle.notify_list.specs.Tickets.{HasLooked, looks}
-use Rattle.notify_list.specs.Notifying.{finds_none, finds_one, grants_it, OneFromLock, NotifiesOne, GrantsLeast, EndsOne}
+use Rattle.notify_list.specs.Notifying.{finds_none, finds_one, grants_it, EndsOne}
 use Rattle.notify_list.specs.Granting.{MayGrant, GrantedOne, grant_rows}
 use Rattle.notify_list.proofs.Keeping.{laws_of}
 use Rattle.notify_list.proofs.Leading.{Led, led, if_equal, if_unequal}
-use Rattle.notify_list.proofs.Walking.{ran_from, walked_row, walked_on, walked_so, walked_later, token_after, calls, comes_to, calls_then}
+use Rattle.notify_list.proofs.Walking.{ran_from, walked_row, walked_on, walked_later, token_after, calls, comes_to}
 use Rattle.notify_list.proofs.Looking.{seen_all}
 use Rattle.notify_list.proofs.Recording.{record_kept}
 use Rattle.notify_list.proofs.Resting.{empty_there, there_of}

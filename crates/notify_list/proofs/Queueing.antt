@@ -1,13 +1,11 @@
 -- A wait from the lock to its end.
-use Rattle.std.proofs.Common.{◌≡◌, ℕ, ◌+◌, ◌<◌, ◌≤◌, if◌then◌else◌, Bool, true, false, List, [], ◌∷◌, ◌++◌, length, Option, Some, None, inl, inr, sym, refl, ap, ◌∙◌, subst, arith}
-use Rattle.atomic_table.specs.Table.{Allows, rest}
-use Rattle.waiters.specs.declared.wait.Wait.{Wait}
-use Rattle.step_table.specs.declared.list_place.ListPlace.{ListPlace}
+use Rattle.std.proofs.Common.{◌≡◌, ℕ, ◌<◌, if◌then◌else◌, Bool, true, false, List, [], ◌∷◌, ◌++◌, length, Option, Some, None, inl, inr, sym, refl, ap, ◌∙◌, subst, arith}
+use Rattle.atomic_table.specs.Table.{rest}
 use Rattle.step_table.specs.declared.list_place.ListPlace.TheVariants.{Rest, Waiting}
 use Rattle.step_table.specs.declared.list_place.Ticket.{Ticket}
 use Rattle.step_table.specs.declared.list_place.WaitRow.TheVariants.{W1, W2, W3, W4, P}
 use Rattle.step_table.specs.Wrapping.{less}
-use Rattle.step_table.specs.ListWorld.{ListSeat, ListEntry, ListWorld, found, late_after}
+use Rattle.step_table.specs.ListWorld.{ListSeat, ListEntry, late_after}
 use Rattle.step_table.specs.ListTable.{wait_for}
 use Rattle.step_table.specs.ListSteps.{with_ticket}
 use Rattle.list_law.specs.ListLawful.{told}
@@ -15,21 +13,17 @@ use Rattle.list_law.specs.ListCalls.{Returns}
 use Rattle.list_law.specs.ListWellFormed.{asleep_on_list}
 use Rattle.notify_list.specs.declared.view.View.{View}
 use Rattle.notify_list.specs.declared.view.Setting.{Setting}
-use Rattle.notify_list.specs.declared.view.Record.{Record}
 use Rattle.notify_list.specs.declared.waited.Waited.TheVariants.{AtOnce, Parked}
 use Rattle.notify_list.specs.Places.{at_place, is_free, waiting, locked, Begins, waits}
-use Rattle.notify_list.specs.Rule.{IsKept, IsSomeones, IsRecord}
 use Rattle.notify_list.specs.Plays.{Me, Ran, standing}
-use Rattle.notify_list.specs.Seats.{ListModel, SeatModel, Token, list_of, seat_of, IsToken, IsSeat, IsHolding}
+use Rattle.notify_list.specs.Seats.{ListModel, Token, list_of, seat_of, IsSeat, IsHolding}
 use Rattle.notify_list.specs.Walks.{Walked, MayLock, Locked, HasRecord, Edited, stands_of}
-use Rattle.notify_list.specs.Calls.{numbers_seen}
 use Rattle.notify_list.specs.Waiting.{IsWaited, IsGranted}
-use Rattle.notify_list.proofs.Keeping.{Fits, laws_of}
-use Rattle.notify_list.proofs.Allowing.{Gives, gives_at}
+use Rattle.notify_list.proofs.Keeping.{laws_of}
 use Rattle.notify_list.proofs.Leading.{Led, led}
 use Rattle.notify_list.proofs.Walking.{ran_from, walked_row, walked_on, walked_so, token_after, calls, comes_to}
 use Rattle.notify_list.proofs.Looking.{seen_all}
-use Rattle.notify_list.proofs.Resting.{room_there, there_of}
+use Rattle.notify_list.proofs.Resting.{room_there}
 use Rattle.notify_list.proofs.Recording.{record_kept}
 
 module _ (s : Token) (n word : ℕ) (H : IsHolding s n word) where

@@ -1,5 +1,5 @@
 -- The rows by which a notification of all grants.
-use Rattle.std.proofs.Common.{◌≡◌, ◌≢◌, ℕ, zero, suc, ◌+◌, ◌%◌, ◌^◌, ◌<◌, ◌≤◌, ◌==◌, if◌then◌else◌, Bool, true, false, List, [], ◌∷◌, ◌++◌, sym, refl, ap, ◌∙◌, subst, arith, append-nil}
+use Rattle.std.proofs.Common.{◌≡◌, ◌≢◌, ℕ, zero, suc, ◌+◌, ◌≤◌, ◌==◌, if◌then◌else◌, Bool, true, false, List, [], ◌∷◌, ◌++◌, sym, refl, ap, ◌∙◌, subst, arith, append-nil}
 use native.Mathlib.Decide.{ℕ_discrete}
 use Rattle.waiters.specs.declared.wait.Wait.{Wait}
 use Rattle.step_table.specs.declared.list_place.AllRow.TheVariants.{L4, L5, L6, L7}
@@ -10,7 +10,7 @@ use Rattle.step_table.specs.declared.list_place.ListPlace.TheVariants.{Notifying
 use Rattle.step_table.specs.declared.list_place.Reach.{Reach}
 use Rattle.step_table.specs.Wrapping.{word_of, minus}
 use Rattle.step_table.specs.ListSteps.{seat_after}
-use Rattle.step_table.specs.ListWorld.{Numbers, ListWords, ListSeat, ListEntry, Granted, ListWorld, queue_after}
+use Rattle.step_table.specs.ListWorld.{Numbers, ListWords, ListSeat, Granted, queue_after}
 use Rattle.step_table.specs.Path.{GoesOn}
 use Rattle.step_table.proofs.Paths.{goes_on_more}
 use Rattle.list_law.specs.ListLawful.{told}
@@ -24,7 +24,7 @@ use Rattle.notify_list.specs.Plays.{Ran, standing}
 use Rattle.notify_list.specs.Seats.{ListModel, Token}
 use Rattle.notify_list.specs.Walks.{Walked, HasRecord, stands_of}
 use Rattle.notify_list.specs.NotifyingAll.{reach_rows, all_entries}
-use Rattle.notify_list.specs.GrantingAll.{IsAt, MayReach, ReachedAll}
+use Rattle.notify_list.specs.GrantingAll.{MayReach, ReachedAll}
 use Rattle.notify_list.proofs.Keeping.{laws_of}
 use Rattle.notify_list.proofs.Leading.{Led, led, if_equal, if_unequal}
 use Rattle.notify_list.proofs.Walking.{ran_from, walked_row, walked_on, walked_later}

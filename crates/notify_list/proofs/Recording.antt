@@ -1,11 +1,11 @@
 -- The record while a seat holds the lock.
-use Rattle.std.proofs.Common.{◌≡◌, ℕ, ◌+◌, ◌<◌, ◌==◌, if◌then◌else◌, Bool, true, false, List, [], ◌∷◌, ◌++◌, length, Option, Some, None, IsSome, unwrap_or, suc, sym, refl, ap, ◌∙◌, subst, arith, length-append}
+use Rattle.std.proofs.Common.{◌≡◌, ℕ, ◌+◌, ◌==◌, if◌then◌else◌, Bool, true, false, List, [], ◌∷◌, length, Option, Some, None, IsSome, unwrap_or, sym, refl, ap, ◌∙◌, subst, arith}
 use Rattle.atomic_table.specs.Table.{Allows, rest}
 use Rattle.atomic_table.specs.Lent.{seat_with}
 use Rattle.waiters.specs.declared.wait.Wait.{Wait}
-use Rattle.waiters.specs.Lists.{Lists, list_at, IsOpen, waits_at, Changes, first_with, without_first}
-use Rattle.step_table.specs.ListErased.{erased_wait, erased_waits}
-use Rattle.list_law.proofs.ListErasing.{erased_append, erased_found, first_erased, without_erased}
+use Rattle.waiters.specs.Lists.{Lists, IsOpen, waits_at, Changes, first_with, without_first}
+use Rattle.step_table.specs.ListErased.{erased_wait}
+use Rattle.list_law.proofs.ListErasing.{erased_found, first_erased, without_erased}
 use Rattle.notify_list.specs.declared.view.Record.{Record}
 use Rattle.step_table.specs.ListWorld.{ListSeat, ListWorld, queue_after}
 use Rattle.step_table.specs.ListTable.{list_table}

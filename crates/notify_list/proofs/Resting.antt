@@ -1,5 +1,5 @@
 -- What is known of a seat by the world in which it has seen all.
-use Rattle.std.proofs.Common.{◌≡◌, ℕ, ◌+◌, ◌<◌, ◌≤◌, true, List, [], ◌∷◌, length, sym, refl, ap, ◌∙◌, subst, arith}
+use Rattle.std.proofs.Common.{◌≡◌, ℕ, ◌<◌, ◌≤◌, true, List, [], ◌∷◌, length, sym, refl, ap, ◌∙◌, subst, arith}
 use Rattle.step_table.specs.declared.list_place.ListPlace.{ListPlace}
 use Rattle.step_table.specs.declared.list_place.ListPlace.TheVariants.{Rest, NotifyingOne}
 use Rattle.step_table.specs.declared.list_place.OneRow.TheVariants.{O3}
@@ -17,7 +17,7 @@ use Rattle.notify_list.specs.declared.view.View.{View}
 use Rattle.notify_list.specs.Places.{is_free}
 use Rattle.notify_list.specs.declared.view.Setting.{Setting}
 use Rattle.notify_list.specs.Rule.{IsMet, Lands}
-use Rattle.notify_list.specs.Seats.{Token, IsToken, IsSeat}
+use Rattle.notify_list.specs.Seats.{Token, IsToken}
 use Rattle.notify_list.proofs.Keeping.{laws_of}
 
 module _ (v : View) (L : Lands v) (there : v.number < v.setting.seats) (few : v.setting.seats ≤ 256) where

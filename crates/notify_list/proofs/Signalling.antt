@@ -1,5 +1,5 @@
 -- A notification of one as a whole: its two looks, and what comes of them.
-use Rattle.std.proofs.Common.{◌≡◌, ◌≢◌, ◌⊎◌, ℕ, ◌+◌, ◌<◌, ◌≤◌, ◌==◌, Bool, true, false, List, [], ◌∷◌, ◌++◌, Option, Some, None, IfSome, IfNone, inl, inr, ⊎_elim, sym, refl, ap, ◌∙◌, subst, arith}
+use Rattle.std.proofs.Common.{◌≡◌, ℕ, ◌+◌, true, false, List, [], ◌∷◌, ◌++◌, Option, Some, None, IfSome, IfNone, inl, inr, ⊎_elim, sym, refl, ap, ◌∙◌, subst, arith}
 use Rattle.step_table.specs.declared.list_place.ListPlace.{ListPlace}
 use Rattle.step_table.specs.declared.list_place.ListPlace.TheVariants.{Rest, NotifyingOne}
 use Rattle.step_table.specs.declared.list_place.OneRow.TheVariants.{O1, O3}
@@ -7,12 +7,11 @@ use Rattle.step_table.specs.ListWorld.{ListSeat, ListEntry, Granted}
 use Rattle.step_table.specs.Path.{GoesOn}
 use Rattle.step_table.proofs.Paths.{goes_on_more}
 use Rattle.list_law.specs.ListLawful.{told}
-use Rattle.list_law.specs.ListPath.{ListSight}
 use Rattle.list_law.proofs.ListPaths.{the_list_paths}
 use Rattle.notify_list.specs.Places.{at_place}
-use Rattle.notify_list.specs.Seats.{ListModel, SeatModel}
+use Rattle.notify_list.specs.Seats.{SeatModel}
 use Rattle.notify_list.specs.Calls.{Calls, ComesTo, AllGranted}
-use Rattle.notify_list.specs.Tickets.{HasLooked, looks, after_looks}
+use Rattle.notify_list.specs.Tickets.{HasLooked, looks}
 use Rattle.notify_list.specs.Notifying.{finds_none, finds_one, grants_it, OneFromLock, NotifiesOne, GrantsLeast, EndsOne}
 use Rattle.notify_list.proofs.Leading.{equal_is, unequal_is}
 use Rattle.notify_list.proofs.Walking.{calls_then}

@@ -1,15 +1,13 @@
 -- The rule is kept where seats come to sit in one view, look together, and part.
-use Rattle.std.proofs.Common.{◌≡◌, ◌≢◌, ℕ, ◌+◌, ◌<◌, ◌≤◌, List, [], ◌∷◌, ◌++◌, length, set, slice_index, sym, refl, ap, ◌∙◌, subst, ⊎_elim, inl, inr, arith}
-use mathlib.Core.Logic.{dite}
+use Rattle.std.proofs.Common.{◌≡◌, ◌≢◌, ℕ, ◌<◌, List, [], ◌∷◌, ◌++◌, length, set, slice_index, sym, refl, ap, ◌∙◌, subst, ⊎_elim, inl, inr, arith}
 use mathlib.Core.Option.{some}
-use native.Mathlib.Decide.{ℕ_discrete}
 use lib.ListN.{get_elem?}
-use Rattle.atomic_table.specs.Table.{State, Allows, Splits, Joins, keeps, carried_after}
+use Rattle.atomic_table.specs.Table.{Allows, Splits, Joins, keeps, carried_after}
 use Rattle.atomic_table.proofs.Lists.{at_set, set_again, set_else}
 use Rattle.step_table.specs.declared.list_place.ListWord.{ListWord}
 use Rattle.step_table.specs.declared.list_place.ListWord.TheVariants.{Wait}
 use Rattle.step_table.specs.World.{put}
-use Rattle.step_table.specs.Path.{Deed, looks, Looked, Did}
+use Rattle.step_table.specs.Path.{looks, Looked, Did}
 use Rattle.step_table.specs.ListWorld.{ListSeat}
 use Rattle.step_table.proofs.Paths.{stride_grows}
 use Rattle.step_table.proofs.Sums.{put_here, put_else}
@@ -17,11 +15,10 @@ use Rattle.list_law.specs.ListPath.{ListSight}
 use Rattle.notify_list.specs.declared.view.View.{View}
 use Rattle.notify_list.specs.declared.view.Guest.{Guest}
 use Rattle.notify_list.specs.declared.view.Setting.{Setting}
-use Rattle.notify_list.specs.declared.view.Record.{Record}
 use Rattle.notify_list.specs.Places.{is_free}
-use Rattle.notify_list.specs.Rule.{watched, IsSomeones, In, AreApart, view_of, nobody, Knows, Sits, HasSeats, IsKept, Lands}
+use Rattle.notify_list.specs.Rule.{watched, IsSomeones, In, AreApart, view_of, nobody, Sits, HasSeats, IsKept}
 use Rattle.notify_list.specs.Plays.{Me, Strode}
-use Rattle.notify_list.specs.Seats.{Token, SeatModel, ListModel, seat_of, IsToken, IsSeat}
+use Rattle.notify_list.specs.Seats.{Token, SeatModel, seat_of, IsToken, IsSeat}
 use Rattle.notify_list.specs.Meeting.{guest_of, alone, staying, vacant, sitting, parting, parted, met_at, LooksAt}
 use Rattle.notify_list.proofs.Keeping.{Kept}
 use Rattle.notify_list.proofs.Making.{at_end}

@@ -1,18 +1,17 @@
 -- What a seat has that took a ticket.
-use Rattle.std.proofs.Common.{◌≡◌, ℕ, ◌+◌, ◌<◌, ◌%◌, ◌^◌, List, [], ◌∷◌, ◌++◌, Option, Some, None, sym, refl, ap, ◌∙◌, subst, arith}
+use Rattle.std.proofs.Common.{◌≡◌, ℕ, ◌+◌, ◌<◌, ◌%◌, ◌^◌, [], ◌∷◌, ◌++◌, Some, sym, refl, ap, ◌∙◌, subst, arith}
 use Rattle.step_table.specs.declared.list_place.ListPlace.TheVariants.{Adding}
 use Rattle.step_table.specs.declared.list_place.Ticket.{Ticket}
 use Rattle.step_table.specs.Wrapping.{word_of, next_word}
-use Rattle.step_table.specs.ListWorld.{Numbers, ListSeat, ListEntry, ListWorld, Took}
+use Rattle.step_table.specs.ListWorld.{Numbers, ListSeat, Took}
 use Rattle.list_law.specs.ListLawful.{told}
 use Rattle.list_law.specs.ListPath.{ListSight}
 use Rattle.list_law.specs.ListPlaces.{ReachedList}
 use Rattle.notify_list.specs.Places.{at_place}
 use Rattle.notify_list.specs.Plays.{Ran, standing}
-use Rattle.notify_list.specs.Seats.{Token, seat_of, list_of, ListModel, SeatModel, IsToken, IsSeat, IsHolding}
-use Rattle.notify_list.specs.Walks.{Walked, stands_of}
-use Rattle.notify_list.specs.Calls.{numbers_seen}
-use Rattle.notify_list.specs.Tickets.{with_held, IsNextTicket, IsAdded, HasTicket}
+use Rattle.notify_list.specs.Seats.{Token, seat_of, IsToken, IsSeat, IsHolding}
+use Rattle.notify_list.specs.Walks.{Walked}
+use Rattle.notify_list.specs.Tickets.{with_held, IsAdded, HasTicket}
 use Rattle.notify_list.proofs.Keeping.{laws_of}
 use Rattle.notify_list.proofs.Leading.{Led, led}
 use Rattle.notify_list.proofs.Walking.{walked_row, token_after, calls, comes_to}

@@ -1,22 +1,19 @@
 -- The rows by which a notification of all grants the waits that it took out.
-use Rattle.std.proofs.Common.{◌≡◌, ℕ, ◌+◌, ◌<◌, ◌≤◌, nat_lt, if◌then◌else◌, Bool, List, [], ◌∷◌, ◌++◌, length, map, take, drop, get_or, zero, suc, sym, refl, ap, ◌∙◌, subst, arith, lt-ltb}
+use Rattle.std.proofs.Common.{◌≡◌, ℕ, ◌+◌, ◌<◌, ◌≤◌, nat_lt, if◌then◌else◌, Bool, List, [], ◌∷◌, length, map, take, drop, get_or, zero, suc, sym, refl, ap, ◌∙◌, subst, arith, lt-ltb}
 use Rattle.std.proofs.lemmas.List.{map-append, drop_more, take_more, take_all, drop_all}
 use Rattle.waiters.specs.declared.wait.Wait.{Wait}
 use Rattle.step_table.specs.declared.list_place.AllRow.TheVariants.{L8}
 use Rattle.step_table.specs.declared.list_place.ListEffect.TheVariants.{Gives}
-use Rattle.step_table.specs.declared.list_place.ListPlace.{ListPlace}
 use Rattle.step_table.specs.declared.list_place.ListPlace.TheVariants.{Rest, NotifyingAll}
 use Rattle.step_table.specs.ListEvent.{if_any}
 use Rattle.step_table.specs.ListWorld.{ListSeat}
-use Rattle.notify_list.specs.declared.view.View.{View}
-use Rattle.notify_list.specs.declared.view.Setting.{Setting}
 use Rattle.notify_list.specs.Plays.{Ran, standing}
-use Rattle.notify_list.specs.Seats.{ListModel, Token, list_of}
+use Rattle.notify_list.specs.Seats.{ListModel, Token}
 use Rattle.notify_list.specs.Walks.{Walked, stands_of}
 use Rattle.notify_list.specs.NotifyingAll.{wake_rows}
-use Rattle.notify_list.specs.GrantingAll.{IsAt, MayWake, with_waits, WokenFirst, WokenSome}
+use Rattle.notify_list.specs.GrantingAll.{MayWake, with_waits, WokenFirst, WokenSome}
 use Rattle.notify_list.proofs.Leading.{Led, led}
-use Rattle.notify_list.proofs.Walking.{ran_from, walked_row, walked_on, walked_so}
+use Rattle.notify_list.proofs.Walking.{ran_from, walked_row, walked_on}
 use Rattle.notify_list.proofs.Resting.{grants_in, stands_there}
 
 one_less : (h : ℕ) (w : Wait) (rest : List Wait) → (if nat_lt 1 (length (w ∷ rest)) then NotifyingAll h L8 else Rest) ≡ if_any rest (NotifyingAll h L8) Rest

@@ -1,5 +1,5 @@
 -- Rows one after the other, and what they leave of a token.
-use Rattle.std.proofs.Common.{◌≡◌, ℕ, ◌+◌, ◌<◌, List, [], ◌∷◌, ◌++◌, length, map, sym, refl, ap, ◌∙◌, subst, arith, length-append, append-nil, append_assoc}
+use Rattle.std.proofs.Common.{◌≡◌, ℕ, List, [], ◌∷◌, ◌++◌, sym, refl, ap, ◌∙◌, subst, arith, length-append, append-nil, append_assoc}
 use Rattle.std.proofs.lemmas.List.{map-append}
 use Rattle.step_table.specs.declared.list_place.ListPlace.{ListPlace}
 use Rattle.step_table.specs.ListWorld.{ListSeat, ListEntry}
@@ -10,7 +10,7 @@ use Rattle.list_law.proofs.ListPaths.{the_list_paths}
 use Rattle.notify_list.specs.declared.view.View.{View}
 use Rattle.notify_list.specs.declared.view.Setting.{Setting}
 use Rattle.notify_list.specs.Plays.{Ran, standing}
-use Rattle.notify_list.specs.Seats.{ListModel, SeatModel, Token, list_of, seat_of, IsToken}
+use Rattle.notify_list.specs.Seats.{ListModel, SeatModel, Token, seat_of, IsToken}
 use Rattle.notify_list.specs.Walks.{Walked, stands_of}
 use Rattle.notify_list.specs.Calls.{TellsIn, Calls, ComesTo, rows_of}
 

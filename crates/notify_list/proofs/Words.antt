@@ -1,5 +1,5 @@
 -- Where words lie, and what a write changes.
-use Rattle.std.proofs.Common.{◌≡◌, ◌≢◌, ℕ, ◌<◌, List, sym, refl, ap, ◌∙◌, arith}
+use Rattle.std.proofs.Common.{◌≡◌, ◌≢◌, ℕ, ◌<◌, List, refl, ap, ◌∙◌, arith}
 use Rattle.waiters.specs.declared.wait.Wait as waiters
 use Rattle.step_table.specs.declared.list_place.ListWord.{ListWord}
 use Rattle.step_table.specs.declared.list_place.ListWord.TheVariants.{Wait, Notify, Lock, Grant}

@@ -2,7 +2,7 @@
 use Rattle.std.specs.Prelude.{◌≡◌, ◌⊎◌, ℕ, ◌+◌, ◌<◌, ◌≤◌, List, [], ◌∷◌, ◌++◌}
 use Rattle.step_table.specs.declared.list_place.ListPlace.{ListPlace}
 use Rattle.step_table.specs.declared.list_place.ListPlace.TheVariants.{Rest, NotifyingOne}
-use Rattle.step_table.specs.declared.list_place.OneRow.TheVariants.{O7, O8, O9}
+use Rattle.step_table.specs.declared.list_place.OneRow.TheVariants.{O7, O8}
 use Rattle.step_table.specs.Wrapping.{word_of}
 use Rattle.step_table.specs.ListWorld.{ListEntry, Granted}
 use Rattle.step_table.specs.Path.{GoesOn}

@@ -1,7 +1,7 @@
 -- What the rows of a notification of all do to a token.
-use Rattle.std.specs.Prelude.{◌≡◌, ◌≢◌, ℕ, ◌+◌, ◌<◌, ◌≤◌, ◌==◌, if◌then◌else◌, Bool, true, Option, Some, None, List, [], ◌∷◌, ◌++◌}
+use Rattle.std.specs.Prelude.{◌≡◌, ℕ, ◌+◌, ◌<◌, ◌≤◌, ◌==◌, if◌then◌else◌, Bool, true, List, [], ◌∷◌, ◌++◌}
 use Rattle.waiters.specs.declared.wait.Wait.{Wait}
-use Rattle.step_table.specs.declared.list_place.AllRow.TheVariants.{L1, L2, L3, L4, L7, L8}
+use Rattle.step_table.specs.declared.list_place.AllRow.TheVariants.{L1, L3, L4, L7, L8}
 use Rattle.step_table.specs.declared.list_place.ListPlace.{ListPlace}
 use Rattle.step_table.specs.declared.list_place.ListPlace.TheVariants.{Rest, NotifyingAll}
 use Rattle.step_table.specs.ListEvent.{if_any}

@@ -10,7 +10,7 @@ use Rattle.step_table.specs.ListWorld.{ListSeat, ListWorld}
 use Rattle.step_table.specs.ListSteps.{turned}
 use Rattle.step_table.specs.Path.{Deed, runs, looks}
 use Rattle.list_law.specs.ListLawful.{holds}
-use Rattle.list_law.specs.ListPath.{ListSight, ListStride, ListRan}
+use Rattle.list_law.specs.ListPath.{ListStride, ListRan}
 use Rattle.notify_list.specs.declared.view.View.{View}
 use Rattle.notify_list.specs.declared.view.Record.{Record}
 use Rattle.notify_list.specs.Setting.{address, IsThere}

@@ -1,5 +1,5 @@
 -- What taking a ticket promises, and looking whether all are granted.
-use Rattle.std.specs.Prelude.{◌≡◌, ℕ, ◌<◌, ◌≤◌, ◌==◌, if◌then◌else◌, Bool, true, List, [], ◌∷◌, ◌++◌, Some}
+use Rattle.std.specs.Prelude.{◌≡◌, ℕ, ◌<◌, ◌≤◌, ◌==◌, if◌then◌else◌, Bool, List, [], ◌∷◌, ◌++◌, Some}
 use Rattle.step_table.specs.declared.list_place.ListPlace.{ListPlace}
 use Rattle.step_table.specs.declared.list_place.ListPlace.TheVariants.{Rest, Adding, NotifyingOne}
 use Rattle.step_table.specs.declared.list_place.OneRow.TheVariants.{O1, O2, O3}
@@ -9,7 +9,7 @@ use Rattle.step_table.specs.ListWorld.{ListSeat, ListEntry, Took}
 use Rattle.list_law.specs.ListLawful.{told}
 use Rattle.notify_list.specs.Places.{at_place}
 use Rattle.notify_list.specs.Seats.{SeatModel}
-use Rattle.notify_list.specs.Calls.{Calls, ComesTo, AllGranted, numbers_seen}
+use Rattle.notify_list.specs.Calls.{Calls, ComesTo, numbers_seen}
 
 -- the seat at rest, with this ticket
 abbrev pub with_held : Ticket → ListSeat → ListSeat

@@ -1,9 +1,9 @@
-use Rattle.std.proofs.Common.{rules, arith, ◌≡◌, ◌-◌, ℕ, List, [], ◌∷◌, length, refl, sym, ap, ◌∙◌, subst}
+use Rattle.std.proofs.Common.{rules, arith, ◌≡◌, ◌-◌, ℕ, List, [], length, sym, ap, ◌∙◌, subst}
 use Rattle.atomic_table.specs.Table.{opening}
 use Rattle.notify_list.specs.declared.view.Record.{Record}
 use Rattle.notify_list.specs.declared.view.Setting.{Setting}
 use Rattle.notify_list.specs.Setting.{words_in}
-use Rattle.notify_list.specs.Rule.{IsKept, IsRecord, first_view, making, made_by}
+use Rattle.notify_list.specs.Rule.{IsKept, first_view, making, made_by}
 use Rattle.notify_list.specs.Plays.{Me}
 use Rattle.notify_list.specs.Seats.{ListModel, list_of}
 use Rattle.notify_list.specs.Making.{new_seat, new_seats}

@@ -1,8 +1,7 @@
-use Rattle.std.proofs.Common.{◌≡◌, ℕ, true, false, sym, ap, ◌∙◌, subst}
-use Rattle.notify_list.specs.Seats.{ListModel, SeatModel, list_of, seat_of}
+use Rattle.std.proofs.Common.{ℕ, ap, ◌∙◌, subst}
+use Rattle.notify_list.specs.Seats.{SeatModel, seat_of}
 use Rattle.notify_list.specs.Calls.{AllGranted}
 use Rattle.notify_list.specs.NotifyingAll.{NotifiesAll, GrantsSome}
-use Rattle.notify_list.specs.GrantingAll.{LookedForAll, ReachedAll, TakenAll, WokenSome}
 use Rattle.notify_list.proofs.Broadcasting.{quiet_seat, quiet_all, quiet_none, quiet_granted, may_lock, may_reach, may_take, may_wake, locked_seat, locked_all, locked_some, locked_granted}
 use Rattle.notify_list.proofs.notify_list.NotifyList.all.Goals as goal
 

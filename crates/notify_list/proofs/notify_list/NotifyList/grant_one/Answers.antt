@@ -1,4 +1,4 @@
-use Rattle.std.proofs.Common.{◌≡◌, ℕ, ◌+◌, Option, Some, None, refl, sym, ap, ◌∙◌, subst, arith}
+use Rattle.std.proofs.Common.{◌≡◌, ℕ, Some, None, refl, sym, ap, ◌∙◌, arith}
 use Rattle.step_table.specs.declared.list_place.ListPlace.TheVariants.{NotifyingOne}
 use Rattle.step_table.specs.declared.list_place.OneRow.TheVariants.{O7}
 use Rattle.notify_list.specs.Places.{at_place}
@@ -7,7 +7,7 @@ use Rattle.notify_list.specs.Seats.{ListModel, list_of}
 use Rattle.notify_list.specs.Shared.{list_by}
 use Rattle.notify_list.proofs.Owned.{low_word, grant_low, someones}
 use Rattle.notify_list.proofs.Allowing.{stores_at}
-use Rattle.notify_list.proofs.Granting.{gives_out, edited_by, stands7, stands8, record7, ended_none, to9, seat_there, ended_some}
+use Rattle.notify_list.proofs.Granting.{gives_out, edited_by, stands7, stands8, ended_none, to9, seat_there, ended_some}
 use Rattle.notify_list.proofs.notify_list.NotifyList.grant_one.Goals as goal
 
 pub store-requires : goal.store-requires

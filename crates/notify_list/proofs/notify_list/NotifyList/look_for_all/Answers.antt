@@ -1,4 +1,4 @@
-use Rattle.std.proofs.Common.{◌==◌, ℕ, refl, sym, ap, ◌∙◌, subst, arith}
+use Rattle.std.proofs.Common.{refl, sym, ap, ◌∙◌, arith}
 use Rattle.step_table.specs.declared.list_place.AllRow.TheVariants.{L1}
 use Rattle.step_table.specs.declared.list_place.ListPlace.TheVariants.{NotifyingAll}
 use Rattle.notify_list.specs.Places.{at_place, alls}

@@ -1,7 +1,3 @@
-use Rattle.std.proofs.Common.{◌≡◌, ℕ, true, false, Some, None, sym, ap, ◌∙◌, subst}
-use Rattle.notify_list.specs.Seats.{SeatModel}
-use Rattle.notify_list.specs.Calls.{AllGranted}
-use Rattle.notify_list.specs.Tickets.{HasLooked}
 use Rattle.notify_list.proofs.Signalling.{quiet_one, place_then, locked_one, least_one, none_one}
 use Rattle.notify_list.proofs.notify_list.NotifyList.one.Goals as goal
 

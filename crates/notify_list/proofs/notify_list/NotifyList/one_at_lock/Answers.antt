@@ -1,4 +1,4 @@
-use Rattle.std.proofs.Common.{◌≡◌, ℕ, Option, Some, None, refl, sym, ap, ◌∙◌, subst, arith}
+use Rattle.std.proofs.Common.{◌≡◌, ℕ, Some, None, refl, ap, ◌∙◌, subst, arith}
 use Rattle.notify_list.specs.Seats.{ListModel, SeatModel, list_of, seat_of}
 use Rattle.notify_list.specs.Shared.{list_by}
 use Rattle.notify_list.specs.Notifying.{EndsOne}

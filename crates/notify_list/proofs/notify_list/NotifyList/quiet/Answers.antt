@@ -1,4 +1,4 @@
-use Rattle.std.proofs.Common.{◌==◌, true, ℕ, sym, ◌∙◌, refl, ap, subst, arith}
+use Rattle.std.proofs.Common.{◌==◌, ℕ, sym, ◌∙◌, refl, ap, subst, arith}
 use Rattle.step_table.specs.declared.list_place.ListPlace.TheVariants.{NotifyingOne}
 use Rattle.step_table.specs.declared.list_place.OneRow.TheVariants.{O1}
 use Rattle.step_table.specs.ListWorld.{ListSeat}

@@ -1,5 +1,4 @@
-use Rattle.std.proofs.Common.{ℕ, refl, sym, ap, ◌∙◌, subst, arith}
-use Rattle.step_table.specs.Wrapping.{minus}
+use Rattle.std.proofs.Common.{refl, sym, ap, ◌∙◌, subst, arith}
 use Rattle.notify_list.specs.Seats.{ListModel}
 use Rattle.notify_list.specs.GrantingAll.{ReachedAll}
 use Rattle.notify_list.proofs.Owned.{low_word, someones}

@@ -1,5 +1,3 @@
-use Rattle.std.proofs.Common.{◌≡◌, Option, Some, None, sym, ap, ◌∙◌}
-use Rattle.waiters.specs.declared.wait.Wait.{Wait}
 use Rattle.notify_list.proofs.Recording.{lent_record, out_none, out_some}
 use Rattle.notify_list.proofs.notify_list.NotifyList.remove.Goals as goal
 

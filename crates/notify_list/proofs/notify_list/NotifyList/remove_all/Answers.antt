@@ -1,5 +1,4 @@
-use Rattle.std.proofs.Common.{◌≡◌, ◌+◌, ◌-◌, [], ◌∷◌, length, sym, ap, ◌∙◌, arith, length-append}
-use Rattle.notify_list.specs.Seats.{ListModel, list_of}
+use Rattle.std.proofs.Common.{[], ◌∷◌, length, ap, ◌∙◌, arith, length-append}
 use Rattle.notify_list.proofs.Emptying.{none_emptied, emptied_few, one_emptied, all_emptied, all_seats}
 use Rattle.notify_list.proofs.notify_list.NotifyList.remove_all.Goals as goal
 

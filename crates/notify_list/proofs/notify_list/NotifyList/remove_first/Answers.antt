@@ -1,5 +1,3 @@
-use Rattle.std.proofs.Common.{sym, ap, ◌∙◌}
-use Rattle.notify_list.specs.Seats.{ListModel}
 use Rattle.notify_list.proofs.Emptying.{lent_waits, first_none, first_some}
 use Rattle.notify_list.proofs.notify_list.NotifyList.remove_first.Goals as goal
 

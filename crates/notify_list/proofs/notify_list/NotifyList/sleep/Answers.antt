@@ -1,8 +1,6 @@
-use Rattle.std.proofs.Common.{◌≡◌, ℕ, ◌+◌, sym, ap, ◌∙◌, subst, arith}
-use Rattle.step_table.specs.declared.list_place.ListWord.TheVariants.{Grant}
-use Rattle.notify_list.specs.Setting.{address}
+use Rattle.std.proofs.Common.{◌≡◌, ◌+◌, sym, ap, ◌∙◌, arith}
 use Rattle.notify_list.specs.Plays.{Me}
-use Rattle.notify_list.specs.Seats.{ListModel, Token, list_of}
+use Rattle.notify_list.specs.Seats.{ListModel, list_of}
 use Rattle.notify_list.proofs.Owned.{grant_low, someones}
 use Rattle.notify_list.proofs.Allowing.{allowed_receives}
 use Rattle.notify_list.proofs.notify_list.NotifyList.sleep.Goals as goal

@@ -1,7 +1,5 @@
-use Rattle.std.proofs.Common.{◌≡◌, ℕ, ◌++◌, [], ◌∷◌, true, false, refl, sym, ap, ◌∙◌, subst, arith}
-use Rattle.step_table.specs.declared.list_place.ListPlace.TheVariants.{Waiting}
-use Rattle.step_table.specs.declared.list_place.WaitRow.TheVariants.{W2, W3, W4, P}
-use Rattle.step_table.specs.ListTable.{list_table, wait_for}
+use Rattle.std.proofs.Common.{ℕ, ◌++◌, [], ◌∷◌, true, false, refl, sym, ap, ◌∙◌, subst, arith}
+use Rattle.step_table.specs.ListTable.{wait_for}
 use Rattle.step_table.specs.ListWorld.{ListSeat}
 use Rattle.notify_list.specs.declared.waited.Waited.TheVariants.{AtOnce, Parked}
 use Rattle.notify_list.specs.Walks.{Edited}
@@ -10,7 +8,6 @@ use Rattle.notify_list.specs.Seats.{ListModel, SeatModel, seat_of}
 use Rattle.notify_list.proofs.Owned.{own, low_word, someones}
 use Rattle.notify_list.proofs.Allowing.{goes_at}
 use Rattle.notify_list.proofs.Recording.{gives_plain, gives_edited}
-use Rattle.notify_list.proofs.Resting.{room_there, there_of}
 use Rattle.notify_list.proofs.Queueing.{may_wait, stands_locked, stands_looked, number_looked, record_looked, has_room, w4, seat_at_once, waited_at_once, granted_at_once, seat_parked, waited_parked, granted_parked}
 use Rattle.notify_list.proofs.notify_list.NotifyList.wait.Goals as goal
 

@@ -1,4 +1,4 @@
-use Rattle.std.proofs.Common.{ℕ, ◌+◌, refl, sym, ap, ◌∙◌, arith}
+use Rattle.std.proofs.Common.{refl, sym, ap, ◌∙◌, arith}
 use Rattle.waiters.specs.declared.wait.Wait.{Wait}
 use Rattle.notify_list.specs.Seats.{ListModel}
 use Rattle.notify_list.proofs.Owned.{grant_low, someones}
