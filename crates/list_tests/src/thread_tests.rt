@@ -70,9 +70,9 @@ struct Notifier {
 }
 
 /// Grants all tickets: how many.
-fn notifies<R: Wait>(rt: &R, notifier: Notifier) -> u32 {
+fn notifies<R: Wait + Copy>(rt: R, notifier: Notifier) -> u32 {
     let Notifier { list, mut seat } = notifier;
-    list.all(rt, &mut seat)
+    list.all(&rt, &mut seat)
 }
 
 /// One waits with a ticket that was taken before both began, and the other grants all: one ticket.
@@ -93,7 +93,7 @@ fn one_wakes<R: Abort + Threads + Wait + Copy + Send + 'static>(
         seat: second,
     };
     let holding = adds(&rt, &*list, first, 0);
-    let granted = match thread::spawn(&rt, move || notifies(&rt, notifier)) {
+    let granted = match thread::spawn(&rt, move || notifies(rt, notifier)) {
         Ok(handle) => {
             let _ = list.wait(&rt, holding);
             handle.join(&rt)

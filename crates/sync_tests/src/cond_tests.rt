@@ -71,6 +71,24 @@ fn signals<R: Abort + Wait>(
     let _ = cond.signal(rt, &mut own);
 }
 
+/// Takes the last seat of the table.
+fn last_seat(rt: &impl Abort, table: &SemaTable, seats: &mut Vec<Seat>) -> Seat
+    requires { All (λ s. s.table ≡ table.now) seats.old.items }
+    ensures own { result.table ≡ table.now }
+    ensures rest { All (λ s. s.table ≡ table.now) seats.new.items }
+{
+    seats.pop().expect(rt, "a seat")
+}
+
+/// Takes the last seat of the condition variable.
+fn last_own(rt: &impl Abort, cond: &Cond, owns: &mut Vec<ListSeat>) -> ListSeat
+    requires { All (λ s. s.list ≡ cond.now) owns.old.items }
+    ensures own { result.list ≡ cond.now }
+    ensures rest { All (λ s. s.list ≡ cond.now) owns.new.items }
+{
+    owns.pop().expect(rt, "a seat of the list")
+}
+
 /// Both at once, by the seats of the table and of the condition variable.
 fn both<R: Abort + Threads + Wait + Sync>(
     rt: &R,
@@ -84,10 +102,10 @@ fn both<R: Abort + Threads + Wait + Sync>(
 {
     let (mut seats, mut owns) = (seats, owns);
     let flag = AtomicU64::new(0);
-    let first = seats.pop().expect(rt, "a seat");
-    let second = seats.pop().expect(rt, "a second seat");
-    let one = owns.pop().expect(rt, "a seat of the list");
-    let other = owns.pop().expect(rt, "a second seat of the list");
+    let first = last_seat(rt, table, &mut seats);
+    let second = last_seat(rt, table, &mut seats);
+    let one = last_own(rt, cond, &mut owns);
+    let other = last_own(rt, cond, &mut owns);
     let shared = &flag;
     join(
         rt,
