@@ -5,6 +5,8 @@
 #![tactic(auto)]
 
 #[cfg(test)]
+mod cond_tests;
+#[cfg(test)]
 mod group_barrier_tests;
 #[cfg(test)]
 mod group_given;

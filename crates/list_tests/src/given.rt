@@ -1,0 +1,70 @@
+//! What the tests start from: a list, and its seats.
+
+ghost use Rattle.std.specs.Prelude.{◌≡◌, All, IfOk};
+
+use notify_list::{Holding, ListSeat, NotifyList, SetupError, Waited};
+use std::alloc::Global;
+use std::process::Abort;
+use std::sync::Wait;
+
+/// The list and its seats, asked for once more where memory was refused.
+pub(crate) fn new_again(
+    alloc: Global,
+    first: u64,
+    seats: u32,
+) -> Result<(NotifyList, Vec<ListSeat>), SetupError>
+    ensures { IfOk result (λ t. All (λ s. s.list ≡ t.0) t.1.items) }
+{
+    match NotifyList::starting_at(alloc, first, seats) {
+        Err(SetupError::NoMemory) => NotifyList::starting_at(alloc, first, seats),
+        answer => answer,
+    }
+}
+
+/// Takes the last seat. A new list's seats are in the order of their numbers.
+pub(crate) fn last_seat(rt: &impl Abort, list: &NotifyList, seats: &mut Vec<ListSeat>) -> ListSeat
+    requires { All (λ s. s.list ≡ list.now) seats.old.items }
+    ensures own { result.list ≡ list.now }
+    ensures rest { All (λ s. s.list ≡ list.now) seats.new.items }
+{
+    seats.pop().expect(rt, "a seat")
+}
+
+/// Takes the next ticket, which is this one.
+pub(crate) fn adds(rt: &impl Abort, list: &NotifyList, seat: ListSeat, expected: u64) -> Holding
+    requires { seat.list ≡ list.now }
+    ensures { result.list ≡ list.now }
+{
+    let holding = list.add(seat);
+    if holding.ticket() != expected {
+        panic!(rt; "another ticket")
+    }
+    holding
+}
+
+/// Waits with a ticket that is granted already.
+pub(crate) fn waits_at_once<R: Abort + Wait>(
+    rt: &R,
+    list: &NotifyList,
+    holding: Holding,
+) -> ListSeat
+    requires { holding.list ≡ list.now }
+    ensures { result.list ≡ list.now }
+{
+    let (seat, waited) = list.wait(rt, holding);
+    assert!(rt; waited == Waited::AtOnce);
+    seat
+}
+
+/// Grants one ticket, or finds none.
+pub(crate) fn grants<R: Abort + Wait>(
+    rt: &R,
+    list: &NotifyList,
+    seat: &mut ListSeat,
+    expected: Option<u64>,
+)
+    requires { seat.old.list ≡ list.now }
+    ensures { seat.new.list ≡ list.now }
+{
+    assert!(rt; list.one(rt, seat) == expected);
+}

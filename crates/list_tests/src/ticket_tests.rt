@@ -1,0 +1,86 @@
+//! Tickets that are taken and granted in one thread.
+
+ghost use Rattle.std.specs.Prelude.{◌≡◌, All};
+
+use crate::given::{adds, grants, last_seat, new_again, waits_at_once};
+use notify_list::{ListSeat, NotifyList, SetupError};
+use std::alloc::Global;
+use std::process::Abort;
+use std::sync::Wait;
+use std::test::Fail;
+
+/// Two tickets are taken, and granted one by one.
+fn two_tickets<R: Abort + Wait>(
+    rt: &R,
+    list: &NotifyList,
+    seats: &mut Vec<ListSeat>,
+    first: u64,
+    second: u64,
+)
+    requires { All (λ s. s.list ≡ list.now) seats.old.items }
+{
+    let mut third = last_seat(rt, list, seats);
+    let holding = last_seat(rt, list, seats);
+    let other = last_seat(rt, list, seats);
+    let holding = adds(rt, list, holding, first);
+    let other = adds(rt, list, other, second);
+    grants(rt, list, &mut third, Some(first));
+    grants(rt, list, &mut third, Some(second));
+    grants(rt, list, &mut third, None);
+    let _ = waits_at_once(rt, list, holding);
+    let _ = waits_at_once(rt, list, other);
+}
+
+#[test]
+fn a_ticket_wraps(rt: HostRuntime) -> Result<(), Fail> {
+    let (list, mut seats) = new_again(rt.alloc(), 18_446_744_073_709_551_615, 3)?;
+    two_tickets(&rt, &list, &mut seats, 18_446_744_073_709_551_615, 0);
+    Ok(())
+}
+
+#[test]
+fn a_ticket_goes_past_32_bits(rt: HostRuntime) -> Result<(), Fail> {
+    let (list, mut seats) = new_again(rt.alloc(), 4_294_967_295, 3)?;
+    two_tickets(&rt, &list, &mut seats, 4_294_967_295, 4_294_967_296);
+    Ok(())
+}
+
+/// A list is quiet until a ticket is taken, and again once it is granted.
+fn grants_all<R: Abort + Wait>(rt: &R, list: &NotifyList, seats: &mut Vec<ListSeat>)
+    requires { All (λ s. s.list ≡ list.now) seats.old.items }
+{
+    let mut other = last_seat(rt, list, seats);
+    let seat = last_seat(rt, list, seats);
+    assert!(rt; list.quiet(&mut other));
+    assert!(rt; list.all(rt, &mut other) == 0);
+    let holding = adds(rt, list, seat, 0);
+    if list.quiet(&mut other) || list.all(rt, &mut other) != 1 || !list.quiet(&mut other) {
+        panic!(rt; "one ticket was to be granted")
+    }
+    let mut seat = waits_at_once(rt, list, holding);
+    list.meet(&mut seat, &mut other);
+    assert!(rt; list.quiet(&mut seat));
+}
+
+#[test]
+fn all_tickets_are_granted(rt: HostRuntime) -> Result<(), Fail> {
+    let (list, mut seats) = new_again(rt.alloc(), 0, 2)?;
+    grants_all(&rt, &list, &mut seats);
+    Ok(())
+}
+
+/// So many seats make no list.
+fn is_refused(rt: &impl Abort, alloc: Global, seats: u32) {
+    match NotifyList::starting_at(alloc, 0, seats) {
+        Err(refused) => assert!(rt; refused == SetupError::Seats),
+        Ok(_made) => panic!(rt; "a list was made"),
+    }
+}
+
+#[test]
+fn numbers_of_seats_past_their_limits_are_refused(rt: HostRuntime) {
+    is_refused(&rt, rt.alloc(), 0);
+    is_refused(&rt, rt.alloc(), 257);
+    assert!(rt; SetupError::Seats as u8 == 2);
+    assert!(rt; SetupError::NoMemory as u8 == 5);
+}
