@@ -4,7 +4,7 @@ use Rattle.std.proofs.Common.{◌≡◌, ℕ, zero, suc, List, [], Option, refl,
 use Rattle.std.proofs.lemmas.List.{get_or_default}
 use Rattle.step_table.specs.declared.entry.Entry.{Entry}
 use Rattle.step_table.specs.declared.group_word.GroupWord.{GroupWord}
-use Rattle.step_rows.specs.declared.list_outcome.ListReady.{ListReady}
+use Rattle.step_rows.specs.declared.ready.ListReady.{ListReady}
 use Rattle.step_table.specs.declared.effect.Effect.{Effect}
 use Rattle.step_table.specs.declared.effect.Effect.TheVariants.{Tells}
 use Rattle.step_table.specs.declared.place.Place.{Place}

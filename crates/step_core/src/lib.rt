@@ -27,7 +27,8 @@ pub use moment::Moment;
 pub use scenario::Scenario;
 pub use schedule::run;
 pub use sema_law::{law_of_the_accounts, law_of_the_rows};
-pub use step_rows::{Caller, Outcome};
+pub use row_outcomes::Outcome;
+pub use step_rows::Caller;
 pub use step_table::{
     Acquire, AcquireRow, After, AllRow, Call, Effect, Entry, GroupId, GroupNext, GroupRow,
     GroupWord, Items, ListEffect, ListId, ListPlace, ListWord, MAX_CALLS, MAX_COUNTERS, MAX_GROUPS,

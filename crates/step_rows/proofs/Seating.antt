@@ -1,7 +1,7 @@
--- A row puts a wait into a list only at A7, and into a hand only at R5 and M5, where one fits.
-use Rattle.std.proofs.Common.{ℕ, ◌+◌, ◌==◌, Bool, true, false, if◌then◌else◌, List, [], ◌∷◌, Option, Some, None, IfSome, subst, sym}
+-- A row puts a wait into a list only at A7, and into a hand only at R5 and M5, where one fits; and its word is stored.
+use Rattle.std.proofs.Common.{ℕ, ◌+◌, ◌==◌, length, Bool, true, false, if◌then◌else◌, List, [], ◌∷◌, Option, Some, None, IfSome, subst, sym}
 use Rattle.waiters.specs.declared.wait.WaitId.{WaitId}
-use Rattle.step_rows.specs.declared.outcome.Outcome.{Outcome}
+use Rattle.row_outcomes.specs.declared.outcome.Outcome.{Outcome}
 use Rattle.step_table.specs.declared.place.AcquireRow.TheVariants.{A2, A6, A7, A11}
 use Rattle.step_table.specs.declared.place.ReleaseRow.TheVariants.{R5, R8}
 use Rattle.step_table.specs.declared.place.ManyRow.TheVariants.{M5}
@@ -10,7 +10,10 @@ use Rattle.step_table.specs.declared.place.Place.TheVariants.{Rest, Acquiring, R
 use Rattle.step_table.specs.World.{SeatState}
 use Rattle.step_table.specs.Event.{Next, by_first}
 use Rattle.step_table.specs.Table.{event_at}
-use Rattle.step_rows.specs.Stored.{Stored, Does, HasSeat, MayMove}
+use Rattle.row_outcomes.specs.Outcomes.{Does, IsWordWithin}
+use Rattle.step_table.specs.declared.word.Word.{Word}
+use Rattle.step_table.specs.declared.word.Word.TheVariants.{Counter, Lock, Waiters, Grant}
+use Rattle.step_rows.specs.Stored.{Stored, HasSeat, MayMove, HasRowsOf, HasWord}
 
 module _ (h : Stored) where
   either : (b : Bool) (won lost : Next) → HasSeat h won.1 → HasSeat h lost.1 → HasSeat h (if b then won else lost).1
@@ -39,3 +42,10 @@ module _ (h : Stored) where
       → Does (event_at s seat lists p) n outcome → IfSome outcome (λ o. HasSeat h o.effect)
   seat_fits s seat lists p n None may does = tt
   seat_fits s seat lists p n (Some o) may does = subst (HasSeat h) (sym does.effect) (moves s seat lists p n may)
+
+  pub word_stored : (s : ℕ) (p : Place) (in_hand : Option WaitId) (word : Word) → HasRowsOf h s p in_hand
+      → IsWordWithin (length h.numbers) (length h.grants) word → HasWord h word
+  word_stored s p in_hand (Counter c) rows within = within
+  word_stored s p in_hand (Lock c) rows within = rows.locks c within
+  word_stored s p in_hand (Waiters c) rows within = rows.waiters c within
+  word_stored s p in_hand (Grant i) rows within = within

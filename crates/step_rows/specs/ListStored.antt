@@ -1,22 +1,19 @@
 -- A notify list as it is stored, what its rows see, and what they ask for.
 use Rattle.std.specs.Prelude.{◌≡◌, ◌≢◌, ℕ, ◌+◌, ◌<◌, ◌≤◌, ◌^◌, IsTrue, List}
-use Rattle.std.specs.Prelude.{[], Option, Some, None, MatchOption, IfSome, length, slice_get}
+use Rattle.std.specs.Prelude.{[], Option, Some, None, IfSome, length, slice_get}
 use Rattle.std.specs.Option.{option_map}
 use Rattle.waiters.specs.declared.wait.Wait.{Wait}
-use Rattle.waiters.specs.Lists.{Lists, list_at, IsOpen, waits_at, first_with}
+use Rattle.waiters.specs.Lists.{Lists, list_at, IsOpen, waits_at}
 use Rattle.step_table.specs.declared.list_place.AllRow.TheVariants.{L7}
 use Rattle.step_table.specs.declared.list_place.ListEffect.{ListEffect}
 use Rattle.step_table.specs.declared.list_place.ListEffect.TheVariants.{HandsOut, Queues, TakesAll}
 use Rattle.step_table.specs.declared.list_place.ListPlace.{ListPlace}
-use Rattle.step_table.specs.declared.list_place.ListPlace.TheVariants.{Rest, Waiting, NotifyingOne, NotifyingAll}
+use Rattle.step_table.specs.declared.list_place.ListPlace.TheVariants.{Rest, Waiting, NotifyingAll}
 use Rattle.step_table.specs.declared.list_place.ListWord.{ListWord}
-use Rattle.step_table.specs.declared.list_place.ListWord.TheVariants.{Lock, Grant}
-use Rattle.step_table.specs.declared.list_place.OneRow.TheVariants.{O8}
+use Rattle.step_table.specs.declared.list_place.ListWord.TheVariants.{Lock}
 use Rattle.step_table.specs.declared.list_place.Ticket.{Ticket}
 use Rattle.step_table.specs.declared.list_place.WaitRow.TheVariants.{W2, W4}
-use Rattle.step_rows.specs.declared.list_outcome.ListOutcome.{ListOutcome}
-use Rattle.step_rows.specs.declared.list_outcome.ListReady.{ListReady}
-use Rattle.step_rows.specs.declared.list_outcome.ListSight.{ListSight}
+use Rattle.step_rows.specs.declared.ready.ListReady.{ListReady}
 use Rattle.step_rows.specs.declared.list_machine.SeatRecord.{SeatRecord}
 use Rattle.step_table.specs.declared.refusal.StepRefused.{StepRefused}
 use Rattle.step_table.specs.declared.refusal.StepRefused.TheVariants.{LockHeld, Asleep}
@@ -24,8 +21,8 @@ use Rattle.step_table.specs.Counting.{total}
 use Rattle.step_table.specs.World.{put}
 use Rattle.step_table.specs.ListWorld.{ListWords, ListSeat, ListEntry, ListWorld, numbers_after}
 use Rattle.step_table.specs.ListWorld.{queue_after, hand_after, ticket_after, journal_after, first_list}
-use Rattle.step_table.specs.ListEvent.{ListEvent}
 use Rattle.step_table.specs.ListSteps.{event_of, finds, effect_of, can_turn, ListTurn}
+use Rattle.row_outcomes.specs.ListOutcomes.{IsListOutcome, HasListWord}
 
 -- a list as it is stored, with a record for each seat
 pub record StoredSeat : Type 0 where
@@ -127,35 +124,6 @@ pub record HasListRow (seats : ℕ) (g : ListWords) (stand : ℕ → ListSeat) (
 
 abbrev pub CanStep : StoredList → ℕ → Type 0
 CanStep l = HasListRow (moment_of l).count (moment_of l).words (moment_of l).seats
-
--- the wait that a notification of one looks for under the lock
-abbrev pub IsAsked : List Wait → ListPlace → Option Wait → Type 0
-IsAsked queue (NotifyingOne h (O8 t)) asked = first_with t queue ≡ asked
-IsAsked queue _ asked = Unit {0}
-
--- a seat with these waits in hand sees this beside the word of its row
-pub record IsSeen (g : ListWords) (hand : List Wait) (place : ListPlace) (sight : ListSight) : Type 0 where
-  pub handed : g.numbers.handed ≡ sight.handed
-  pub granted : g.numbers.granted ≡ sight.granted
-  pub queued : slice_get g.queue 0 ≡ sight.queued
-  pub asked : IsAsked g.queue place sight.asked
-  pub in_hand : slice_get hand 0 ≡ sight.in_hand
-  pub held : length hand ≡ sight.held
-
--- the outcome is what the event says of the number that was found
-pub record IsListOutcome (e : ListEvent) (n : ℕ) (o : ListOutcome) : Type 0 where
-  pub can : IsTrue (e.can n)
-  pub becomes : o.becomes ≡ e.becomes n
-  pub place : o.place ≡ (e.leads n).0
-  pub effect : o.effect ≡ (e.leads n).1
-
-abbrev pub ListDoes : ListEvent → ℕ → Option ListOutcome → Type 0
-ListDoes e n r = MatchOption r (IsTrue (e.can n) → ⊥) (IsListOutcome e n)
-
--- the word is one of a list with so many seats
-abbrev pub HasListWord : ℕ → ListWord → Type 0
-HasListWord seats (Grant s) = s < seats
-HasListWord seats _ = Unit {0}
 
 -- a row whose condition doesn't hold: its word tells why
 abbrev pub list_refused_by : ListWord → StepRefused

@@ -1,5 +1,5 @@
 -- The semaphores as they are stored, and their world.
-use Rattle.std.specs.Prelude.{◌≡◌, ℕ, ◌+◌, ◌^◌, ◌<◌, List, [], ◌++◌, Option, Some, None, length, slice_get, slice_index_or, MatchOption, IfSome, IsTrue, replicate}
+use Rattle.std.specs.Prelude.{◌≡◌, ℕ, ◌+◌, ◌^◌, ◌<◌, List, [], ◌++◌, Option, Some, None, length, slice_get, slice_index_or, IfSome, IsTrue, replicate}
 use Rattle.std.specs.Prelude.{Bool, true, false, cond, ◌==◌, nat_lt}
 use Rattle.waiters.specs.declared.wait.WaitId.{WaitId}
 use Rattle.step_rows.specs.declared.caller.Caller.{Caller}
@@ -9,7 +9,6 @@ use Rattle.step_table.specs.declared.entry.Entry.{Entry}
 use Rattle.step_table.specs.declared.entry.Entry.TheVariants.{Queue, Leave}
 use Rattle.step_table.specs.declared.effect.Effect.{Effect}
 use Rattle.step_table.specs.declared.effect.Effect.TheVariants.{Tells}
-use Rattle.step_rows.specs.declared.outcome.Outcome.{Outcome}
 use Rattle.step_table.specs.declared.refusal.StepRefused.{StepRefused}
 use Rattle.step_table.specs.declared.refusal.StepRefused.TheVariants.{LockHeld, Asleep}
 use Rattle.step_table.specs.declared.place.AcquireRow.TheVariants.{A7}
@@ -26,6 +25,7 @@ use Rattle.step_table.specs.Table.{event_at}
 use Rattle.step_table.specs.Steps.{words_after, event_of, finds, turned, moved}
 use Rattle.step_table.specs.Counting.{IsWithin}
 use Rattle.step_rows.specs.Roots.{queued}
+use Rattle.row_outcomes.specs.Outcomes.{IsOutcome, HasRoom}
 
 -- the elements of a list by their places, and d past its end
 abbrev pub each : {A : Type 0} → A → List A → ℕ → A
@@ -148,16 +148,6 @@ first_stored starts groups roots seats =
       hands = replicate seats [];
     }
 
--- the outcome is what the event says of the number that was found
-pub record IsOutcome (e : Event) (n : ℕ) (o : Outcome) : Type 0 where
-  pub can : IsTrue (e.can n)
-  pub becomes : o.becomes ≡ e.becomes n
-  pub place : o.place ≡ (e.leads n).0
-  pub effect : o.effect ≡ (e.leads n).1
-
-abbrev pub Does : Event → ℕ → Option Outcome → Type 0
-Does e n r = MatchOption r (IsTrue (e.can n) → ⊥) (IsOutcome e n)
-
 -- the row of this place looks at its counter's list
 abbrev pub looks_at_list : Place → Bool
 looks_at_list (Releasing r R4) = true
@@ -193,12 +183,6 @@ IsListed lists _ first = Unit {0}
 abbrev pub IsQueue : (ℕ → List WaitId) → Place → ℕ → Type 0
 IsQueue lists (ReleasingMany r row) n = length (lists r.counter) ≡ n
 IsQueue lists _ n = Unit {0}
-
--- the counter of a place, and the list that an effect changes, are among so many
-abbrev pub HasRoom : ℕ → Effect → Type 0
-HasRoom counters (Tells (Queue c w lifo)) = c < counters
-HasRoom counters (Tells (Leave c w s)) = c < counters
-HasRoom counters _ = Unit {0}
 
 -- the wait that an effect puts into a list or a hand fits
 abbrev pub HasSeat : Stored → Effect → Type 0

@@ -5,14 +5,13 @@ ghost use Rattle.std.specs.List.{range_with_len};
 ghost use Rattle.waiters.specs.declared.wait.WaitId.{WaitId};
 ghost use Rattle.step_table.specs.World.{turn_after};
 ghost use Rattle.step_table.specs.Table.{event_at};
-ghost use Rattle.step_rows.specs.Stored.{Stored, HasRowsOf, HasWord, HasRoom, Does, IsListed, IsQueue, seat_of, words_of, idle};
+ghost use Rattle.row_outcomes.specs.Outcomes.{HasRoom, Does};
+ghost use Rattle.step_rows.specs.Stored.{Stored, HasRowsOf, HasWord, IsListed, IsQueue, seat_of, words_of, idle};
 ghost use Rattle.step_rows.specs.Stored.{row_event, row_finds, lets_through, hands_of, hand_seen, lists_seen, HasGuard};
 ghost use Rattle.step_table.specs.Counting.{IsWithin};
 
-use crate::outcome::Outcome;
 use crate::sema_store::SemaStore;
-use crate::sight::Sight;
-use crate::{acquire, release, release_many};
+use row_outcomes::{Outcome, Sight, acquire, release, release_many};
 use std::alloc::{AllocError, Global};
 use step_table::{AcquireRow, Effect, Entry, ManyRow, Place, ReleaseRow, Word};
 use waiters::{CounterId, SeatId, WaitId};

@@ -1,35 +1,26 @@
 //! The semaphores and the notify lists as words that rows read and write: the rows of the step table, as they run.
 //!
 //! [`Semaphores`] has the counters, their roots and the seats on them, and runs the rows of Go's `semacquire1` and
-//! `semrelease1`, and those of a release of many units; a [`ListMachine`] is Go's `notifyList`. Each row is one event of one
-//! word, and takes no memory. [`Semaphores::step`] runs a row where it can run; who has to know of it before it runs
+//! `semrelease1`, and those of a release of many units; a [`ListMachine`] is Go's `notifyList`. What a row does is told by
+//! `row_outcomes`, and made here. It takes no memory. [`Semaphores::step`] runs a row where it can run; who has to know of it before it runs
 //! asks first (`ready`), and then runs it, which can't fail.
 #![tactic(auto)]
 
-mod acquire;
 mod apart;
 mod caller;
 mod copying;
 mod key;
 mod list_machine;
-mod list_outcome;
-mod list_rows;
-mod outcome;
 mod queues;
 mod ready;
-mod release;
-mod release_many;
 mod seats;
 mod sema_store;
 mod semaphores;
-mod sight;
 mod step;
 
 pub use caller::Caller;
 pub use copying::copy_items;
 pub use key::{write_begun, write_group, write_standing};
 pub use list_machine::ListMachine;
-pub use list_outcome::ListReady;
-pub use outcome::{Outcome, entry_of};
-pub use ready::Ready;
+pub use ready::{ListReady, Ready, entry_of};
 pub use semaphores::Semaphores;

@@ -1,6 +1,11 @@
+//! Rows that can run.
+
+ghost use Rattle.std.specs.Prelude.{◌≡◌};
+ghost use Rattle.step_rows.specs.Stored.{entry_of};
+
 use crate::caller::Caller;
-use crate::outcome::Outcome;
-use step_table::Word;
+use row_outcomes::{ListOutcome, Outcome};
+use step_table::{Effect, Entry, ListWord, Word};
 
 /// A row that can run: how its seat stands, the word of its event, and what it does.
 #[derive(Clone, Copy, Drop)]
@@ -8,4 +13,21 @@ pub struct Ready {
     pub caller: Caller,
     pub word: Word,
     pub outcome: Outcome,
+}
+
+/// A row of a notify list that can run: the word of its event, and what it does.
+#[derive(Clone, Copy, Debug, Drop)]
+pub struct ListReady {
+    pub word: ListWord,
+    pub outcome: ListOutcome,
+}
+
+/// The entry that the journal gets of an effect, if it gets one.
+pub fn entry_of(effect: &Effect) -> Option<Entry>
+    ensures { result ≡ entry_of effect.now }
+{
+    match *effect {
+        Effect::Tells(entry) => Some(entry),
+        _ => None,
+    }
 }

@@ -1,13 +1,14 @@
 //! One row of the step table, run over the words, the lists and the hands.
 
 ghost use Rattle.std.specs.Prelude.{◌≡◌, ◌<◌, ◌+◌, ◌^◌, ◌↔◌, ℕ, IsTrue, List, length, slice_get, IfOk, IfErr, IfSome};
-ghost use Rattle.step_rows.specs.Stored.{hands_of, HasWord, HasRoom, HasSeat, Makes, Does};
+ghost use Rattle.row_outcomes.specs.Outcomes.{HasRoom, Does};
+ghost use Rattle.step_rows.specs.Stored.{hands_of, HasWord, HasSeat, Makes};
 ghost use Rattle.step_rows.specs.Stored.{HasRowsOf, row_event, row_finds, IsReady, HasRun, IsRowRefusedBy, refused_by};
 
 use crate::caller::{Caller, Guard};
-use crate::outcome::Outcome;
 use crate::ready::Ready;
 use crate::sema_store::SemaStore;
+use row_outcomes::Outcome;
 use step_table::{Effect, Entry, StepRefused, Word};
 use waiters::SeatId;
 

@@ -4,7 +4,7 @@ ghost use Rattle.std.specs.Prelude.{◌≡◌, ◌<◌, ℕ, List, Some, slice_g
 ghost use Rattle.waiters.specs.declared.wait.Wait.{Wait};
 ghost use Rattle.step_table.specs.ListEvent.{waiter};
 
-use step_table::{ListEffect, ListPlace, ListWord};
+use step_table::{ListEffect, ListPlace};
 use waiters::{SeatId, Wait};
 
 /// How many tickets were handed out and granted; the first wait of the list; at `O8` that which it takes out; the first
@@ -36,13 +36,6 @@ pub struct ListOutcome {
     pub becomes: u64,
     pub place: ListPlace,
     pub effect: ListEffect,
-}
-
-/// A row that can run: the word of its event, and what it does.
-#[derive(Clone, Copy, Debug, Drop)]
-pub struct ListReady {
-    pub word: ListWord,
-    pub outcome: ListOutcome,
 }
 
 /// The word becomes this, and the seat goes there.

@@ -9,12 +9,11 @@ ghost use Rattle.waiters.specs.declared.wait.Wait.{Wait};
 ghost use Rattle.step_table.specs.ListWorld.{ListWords, ListSeat};
 ghost use Rattle.step_table.specs.ListEvent.{take_ticket};
 ghost use Rattle.step_table.specs.ListTable.{wait_event, one_event, all_event, list_event_at};
-ghost use Rattle.step_rows.specs.ListStored.{IsSeen, ListDoes, HasListWord, list_refused_by};
+ghost use Rattle.row_outcomes.specs.ListOutcomes.{IsSeen, ListDoes, HasListWord};
 
 use crate::list_outcome::{ListOutcome, ListSight, does, goes};
 use step_table::{
-    AllRow, ListEffect, ListPlace, ListWord, OneRow, Reach, StepRefused, Ticket, WaitRow, less,
-    minus, next_word,
+    AllRow, ListEffect, ListPlace, ListWord, OneRow, Reach, Ticket, WaitRow, less, minus, next_word,
 };
 use waiters::{SeatId, Wait, WaitId};
 
@@ -45,16 +44,6 @@ pub fn word_of(seat: SeatId, place: ListPlace, sight: &ListSight) -> ListWord
             AllRow::L3 | AllRow::L7(_) => ListWord::Lock,
             AllRow::L8 => ListWord::Grant(sight.waiter(seat)),
         },
-    }
-}
-
-/// Why a row can't run whose event is of this word.
-pub fn refused_by(word: ListWord) -> StepRefused
-    ensures { result ≡ list_refused_by word }
-{
-    match word {
-        ListWord::Lock => StepRefused::LockHeld,
-        _ => StepRefused::Asleep,
     }
 }
 

@@ -7,7 +7,7 @@
 ghost use Rattle.std.specs.Prelude.{◌≡◌, ◌<◌, ◌+◌, ◌^◌, ℕ, IfSome, Option};
 ghost use Rattle.waiters.specs.declared.wait.WaitId.{WaitId};
 ghost use Rattle.step_table.specs.Acquire.{acquire_event};
-ghost use Rattle.step_rows.specs.Stored.{Stored, HasRowsOf, HasWord, HasRoom, Does};
+ghost use Rattle.row_outcomes.specs.Outcomes.{IsWordWithin, HasRoom, Does};
 
 use crate::outcome::{Outcome, exchange, goes, tells};
 use step_table::{Acquire, AcquireRow, Entry, Place, Word};
@@ -16,8 +16,7 @@ use waiters::{SeatId, WaitId};
 /// The word of the row's event.
 pub fn word_of(seat: SeatId, acquire: Acquire, row: AcquireRow) -> Word
     ensures word { (turn : ℕ) → result ≡ (acquire_event seat turn acquire row).word }
-    ensures stored { (h : Stored) (in_hand : Option WaitId)
-        → HasRowsOf h seat (Place.Acquiring acquire row) in_hand → HasWord h result }
+    ensures within { (counters seats : ℕ) → acquire.counter < counters → seat < seats → IsWordWithin counters seats result }
 {
     let counter = acquire.counter;
     match row {

@@ -1,17 +1,8 @@
+//! What a row does, as a number was found.
+
 ghost use Rattle.std.specs.Prelude.{◌≡◌, ◌≢◌, ◌+◌, Some};
-ghost use Rattle.step_rows.specs.Stored.{entry_of};
 
 use step_table::{Effect, Entry, Place};
-
-/// The entry that the journal gets of an effect, if it gets one.
-pub fn entry_of(effect: &Effect) -> Option<Entry>
-    ensures { result ≡ entry_of effect.now }
-{
-    match *effect {
-        Effect::Tells(entry) => Some(entry),
-        _ => None,
-    }
-}
 
 /// What a row does where it found a number: what the word becomes, where the seat goes, and the effect.
 #[derive(Clone, Copy, Debug, PartialEq, Eq, Drop)]

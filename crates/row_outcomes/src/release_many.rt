@@ -7,7 +7,7 @@
 ghost use Rattle.std.specs.Prelude.{◌≡◌, ◌<◌, ◌+◌, ◌^◌, ℕ, List, length, slice_get, IfSome};
 ghost use Rattle.waiters.specs.declared.wait.WaitId.{WaitId};
 ghost use Rattle.step_table.specs.ReleaseMany.{release_many_event, after_leave};
-ghost use Rattle.step_rows.specs.Stored.{Stored, HasRowsOf, HasWord, HasRoom, Does};
+ghost use Rattle.row_outcomes.specs.Outcomes.{IsWordWithin, HasRoom, Does};
 
 use crate::outcome::{Outcome, goes, grants, tells};
 use crate::sight::{Sight, waiter};
@@ -18,7 +18,8 @@ use waiters::SeatId;
 pub fn word_of(seat: SeatId, sight: &Sight, release: ReleaseMany, row: ManyRow) -> Word
     ensures word { (hand list : List WaitId) → slice_get hand 0 ≡ sight.now.in_hand
         → result ≡ (release_many_event seat hand list release row).word }
-    ensures stored { (h : Stored) → HasRowsOf h seat (Place.ReleasingMany release row) sight.now.in_hand → HasWord h result }
+    ensures within { (counters seats : ℕ) → release.counter < counters → seat < seats
+        → IfSome sight.now.in_hand (λ wait. wait.seat < seats) → IsWordWithin counters seats result }
 {
     let counter = release.counter;
     match row {
