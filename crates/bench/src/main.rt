@@ -2,14 +2,11 @@
 //!
 //! `treap` and `sorted` take a wait out of a root at a counter drawn at random, and queue it there again; the size
 //! is how many counters have a wait, from 1 to 65535.
-//! `steps` runs four seats of 32 calls, which acquire and release so many counters in turn, from 1 to 16. `clones` copies
-//! a moment in the middle of such a run, and `copies` copies it and the start, in turn, over another moment.
 //! `explore NAME..` searches scenarios of the folder `data`, and tells what a world costs.
 #![tactic(auto)]
 
 ghost use Rattle.std.specs.Prelude.{◌<◌};
 
-mod moments;
 mod roots;
 mod searches;
 
@@ -33,9 +30,6 @@ fn cost(clock: &impl Clock, alloc: Global, case: &str, size: u16) -> Result<u128
             let mut root = SortedRoot::with_room(alloc, size)?;
             Ok(roots::turn(clock, &mut root, size)?)
         }
-        "steps" => moments::step(clock, alloc, size),
-        "clones" => moments::clone(clock, alloc, size),
-        "copies" => moments::copy(clock, alloc, size),
         _ => bail!("no case {case}"),
     }
 }
@@ -59,7 +53,7 @@ fn main(rt: HostRuntime) -> Result<()> {
     let mut words = env::args(&rt)?.skip(1);
     let Some(case) = words.next() else {
         println!(rt;
-            "usage: bench treap|sorted|steps|clones|copies COUNTERS.. or bench explore NAMES.."
+            "usage: bench treap|sorted COUNTERS.. or bench explore NAMES.."
         )?;
         return Ok(());
     };
