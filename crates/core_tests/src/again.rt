@@ -79,14 +79,3 @@ pub(crate) fn bent_again<'s>(
         answer => answer,
     }
 }
-
-/// A copy of the world of a changed table, asked for once more where memory was refused.
-pub(crate) fn copied_bent<'s>(
-    alloc: Global,
-    world: &BentWorld<'s>,
-) -> Result<BentWorld<'s>, NoMemory> {
-    match world.try_clone(alloc) {
-        Err(NoMemory) => world.try_clone(alloc),
-        answer => answer,
-    }
-}

@@ -1,20 +1,17 @@
 //! Keys: they are equal where runs differ only in what no row looks at, and different where a row looks.
 
-ghost use Rattle.std.specs.Prelude.{◌≤◌};
-
-use crate::again::{moment_again, new_again, step_again};
+use crate::again::moment_again;
 use crate::given::{
     COUNTER, Start, acquire, on_counter, release, release_many, scenario, scenario_from,
     scenario_of_parts, seat, wait,
 };
-use crate::keys::{has_words, key_after, key_of, key_of_moment, walk, write_key};
+use crate::keys::{has_words, key_after, key_of_moment, walk};
 use crate::list_tests::{on_list, one, waits};
-use crate::moment_tests::of_all_kinds;
 use crate::story::follow_after;
 use std::alloc::Global;
 use std::process::Abort;
 use std::test::Fail;
-use step_core::{Call, Entry, GroupId, Moment, Scenario, World};
+use step_core::{Call, Entry, GroupId, Scenario};
 use waiters::CounterId;
 
 /// Two schedules, and whether they lead to one key.
@@ -230,84 +227,8 @@ fn a_key_has_its_words(rt: HostRuntime) -> Result<(), Fail> {
     has_words(&rt, rt.alloc(), start, &[0], &[1, 0, 0, 0, 28, 0, 0, 1, 1])
 }
 
-/// The world, its moment and a moment beside it have one key, and so do these words once it is written into them.
-fn is_one_key(
-    rt: &impl Abort,
-    alloc: Global,
-    world: &World<'_>,
-    moment: &Moment<'_>,
-    words: &mut Vec<u64>,
-) -> Result<(), Fail> {
-    let key = key_of(alloc, world)?;
-    let inner = key_of_moment(alloc, world.moment())?;
-    assert!(rt; inner.as_slice() == key.as_slice());
-    let beside = key_of_moment(alloc, moment)?;
-    assert!(rt; beside.as_slice() == key.as_slice());
-    write_key(moment, words)?;
-    assert!(rt; words.as_slice() == key.as_slice());
-    Ok(())
-}
-
-fn keep_one_key(
-    rt: &impl Abort,
-    alloc: Global,
-    world: &mut World<'_>,
-    moment: &mut Moment<'_>,
-    schedule: &[u16],
-) -> Result<(), Fail> {
-    let mut words = Vec::new(alloc);
-    for number in schedule {
-        is_one_key(rt, alloc, world, moment, &mut words)?;
-        assert!(rt; step_again(world, *number) == Ok(()));
-        walk(rt, moment, &[*number]);
-    }
-    is_one_key(rt, alloc, world, moment, &mut words)
-}
-
-fn keep_one_key_beside(
-    rt: &impl Abort,
-    alloc: Global,
-    scenario: &Scenario,
-    world: &mut World<'_>,
-) -> Result<(), Fail> {
-    let mut moment = moment_again(alloc, scenario)?;
-    keep_one_key(rt, alloc, world, &mut moment, &ALL_KINDS)
-}
-
-/// A ticket is granted to its sleeper, a wait on a group is released, and three units are added at once.
-const ALL_KINDS: [u16; 37] = [
-    0, 0, 0, 0, 1, 1, 1, 1, 1, 1, 1, 1, 0, 2, 3, 3, 3, 3, 3, 3, 3, 2, 2, 2, 2, 2, 2, 2, 2, 2, 2, 3,
-    3, 3, 3, 4, 4,
-];
-
-#[test]
-fn a_moment_has_the_key_of_its_world(rt: HostRuntime) -> Result<(), Fail> {
-    let scenario = of_all_kinds(rt.alloc())?;
-    let mut world = new_again(rt.alloc(), &scenario)?;
-    keep_one_key_beside(&rt, rt.alloc(), &scenario, &mut world)
-}
-
 /// Steps of seats 0 and 1: a part around the first border has those of seat 0 first, one around the second last.
 const BORDERS: [u16; 12] = [0, 0, 0, 0, 1, 1, 1, 1, 0, 0, 0, 0];
-
-/// So many steps of seat 0 and so many of seat 1 lead to one key in either order. It is put to the others.
-fn reach(
-    rt: &impl Abort,
-    alloc: Global,
-    scenario: &Scenario,
-    keys: &mut Vec<Vec<u64>>,
-    zeros: usize,
-    ones: usize,
-) -> Result<(), Fail>
-    requires zeros { zeros ≤ 4 }
-    requires ones { ones ≤ 4 }
-{
-    let key = key_after(rt, alloc, scenario, &BORDERS[4 - zeros..4 + ones])?;
-    let other = key_after(rt, alloc, scenario, &BORDERS[8 - ones..8 + zeros])?;
-    assert!(rt; other.as_slice() == key.as_slice());
-    keys.push(key)?;
-    Ok(())
-}
 
 /// No two keys are equal.
 fn differ(rt: &impl Abort, keys: &[Vec<u64>]) {
@@ -323,18 +244,6 @@ fn room_again(alloc: Global, count: usize) -> Result<Vec<Vec<u64>>, Fail> {
         Ok(keys) => Ok(keys),
         Err(_) => Ok(Vec::with_capacity(alloc, count)?),
     }
-}
-
-fn reach_all(rt: &impl Abort, alloc: Global, scenario: &Scenario) -> Result<(), Fail> {
-    let mut keys = room_again(alloc, 25)?;
-    for zeros in 0..5 {
-        for ones in 0..5 {
-            reach(rt, alloc, scenario, &mut keys, zeros, ones)?;
-        }
-    }
-    assert!(rt; keys.len() == 25);
-    differ(rt, &keys);
-    Ok(())
 }
 
 /// A part around the border has steps of seat 2 first, and then of seat 3.
@@ -376,13 +285,4 @@ fn two_releases_of_four_seats_have_625_keys(rt: HostRuntime) -> Result<(), Fail>
     let calls = [&twice[..]; 4];
     let scenario = scenario_of_parts(rt.alloc(), &[0], &[], 0, &calls)?;
     reach_each(&rt, rt.alloc(), &scenario)
-}
-
-/// Two of four seats make up to four steps each, in either order: that is one key for each pair of numbers.
-#[test]
-fn steps_of_two_seats_have_a_key_for_each_pair(rt: HostRuntime) -> Result<(), Fail> {
-    let twice = [release(), release()];
-    let calls = [&twice[..]; 4];
-    let scenario = scenario_of_parts(rt.alloc(), &[0], &[], 0, &calls)?;
-    reach_all(&rt, rt.alloc(), &scenario)
 }

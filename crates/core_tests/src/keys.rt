@@ -1,11 +1,11 @@
 //! Keys of worlds, asked for once more where memory was refused.
 
-use crate::again::{bent_again, moment_again};
+use crate::again::moment_again;
 use crate::given::{Start, scenario_from, seat};
 use std::alloc::Global;
 use std::process::Abort;
 use std::test::Fail;
-use step_core::{BentWorld, Moment, Scenario, Variant, World};
+use step_core::{BentWorld, Moment, Scenario, World};
 use waiters::NoMemory;
 
 pub(crate) fn key_of(alloc: Global, world: &World<'_>) -> Result<Vec<u64>, NoMemory> {
@@ -70,40 +70,4 @@ pub(crate) fn has_words(
 ) -> Result<(), Fail> {
     let scenario = scenario_from(alloc, start)?;
     has_words_after(rt, alloc, &scenario, schedule, words)
-}
-
-/// Writes the key of the moment in place of these words.
-pub(crate) fn write_key(moment: &Moment<'_>, words: &mut Vec<u64>) -> Result<(), NoMemory> {
-    match moment.key_into(words) {
-        Err(NoMemory) => moment.key_into(words),
-        answer => answer,
-    }
-}
-
-/// Writes the key of the world in place of these words.
-pub(crate) fn write_bent_key(world: &BentWorld<'_>, words: &mut Vec<u64>) -> Result<(), NoMemory> {
-    match world.key_into(words) {
-        Err(NoMemory) => world.key_into(words),
-        answer => answer,
-    }
-}
-
-/// The world of the changed table takes the steps of the schedule.
-pub(crate) fn walk_bent(rt: &impl Abort, world: &mut BentWorld<'_>, schedule: &[u16]) {
-    for number in schedule {
-        assert!(rt; world.step(seat(*number)) == Ok(()));
-    }
-}
-
-/// The key of the run after the schedule by the changed table.
-pub(crate) fn key_of_bent_after(
-    rt: &impl Abort,
-    alloc: Global,
-    scenario: &Scenario,
-    variant: Variant,
-    schedule: &[u16],
-) -> Result<Vec<u64>, Fail> {
-    let mut world = bent_again(alloc, scenario, variant)?;
-    walk_bent(rt, &mut world, schedule);
-    Ok(key_of_bent(alloc, &world)?)
 }

@@ -9,8 +9,6 @@
 #[cfg(test)]
 mod again;
 #[cfg(test)]
-mod bent_alike_tests;
-#[cfg(test)]
 mod bent_shown;
 #[cfg(test)]
 mod bent_tests;
@@ -32,12 +30,6 @@ mod limit_tests;
 mod list_tests;
 #[cfg(test)]
 mod memory_tests;
-#[cfg(test)]
-mod moment_copy_tests;
-#[cfg(test)]
-mod moment_shown;
-#[cfg(test)]
-mod moment_tests;
 #[cfg(test)]
 mod refusal_tests;
 #[cfg(test)]

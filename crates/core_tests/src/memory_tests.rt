@@ -1,13 +1,13 @@
 //! Where there is memory no call answers want of it.
 
 use crate::again::{copied_moment, copy_again, moment_again, new_again};
-use crate::given::{COUNTER, HANDOFF, acquire, handoff, handoff_scenario, on_counter, wait};
-use crate::moment_shown::is_enabled;
+use crate::given::{COUNTER, HANDOFF, acquire, handoff, handoff_scenario, on_counter, seat, wait};
+use crate::keys::{key_of, key_of_moment};
 use crate::story::{Line, Way, follow_after, obeys, tells};
 use std::alloc::{AllocError, Global};
 use std::process::Abort;
 use std::test::Fail;
-use step_core::{Entry, Items, World};
+use step_core::{Entry, Items, Moment, World};
 use waiters::CounterId;
 
 fn put_again(items: &mut Items<u32>, item: u32) -> Result<(), AllocError> {
@@ -53,10 +53,16 @@ fn copy_tells(rt: &impl Abort, alloc: Global, world: &World<'_>) -> Result<(), F
     Ok(())
 }
 
+fn is_enabled(rt: &impl Abort, moment: &Moment<'_>, number: u16, can: bool) {
+    assert!(rt; moment.enabled(seat(number)) == can);
+}
+
 fn copied_moment_shows(rt: &impl Abort, alloc: Global, world: &World<'_>) -> Result<(), Fail> {
     let moment = copied_moment(alloc, world.moment())?;
     is_enabled(rt, &moment, 1, true);
     is_enabled(rt, &moment, 0, false);
+    let key = key_of(alloc, world)?;
+    assert!(rt; key.as_slice() == key_of_moment(alloc, &moment)?.as_slice());
     Ok(())
 }
 
