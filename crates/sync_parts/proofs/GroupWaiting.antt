@@ -139,13 +139,13 @@ module _ (s t u : Token) (x : LooksOn s t) (word : GroupWord) (y : Steps t (load
       pub looks_again : same_word word found ≡ false → LooksOn s w
       looks_again lost = let leads = ap (λ (b : Bool). if b then Acquires else Goes V1) lost in
           let at = ap (λ (m : Me). m.0.next) z.me_is ∙ leads in record {
-        before = (x.before ++ step V1 word ∷ []) ++ step (V2 word) found ∷ [];
-        table_is = z.table_is ∙ looked.table_is ∙ x.table_is;
-        steps_are = tried_steps;
-        path = tried_path (Goes V1) leads;
-        look = ap load_row at;
-        follows = subst (λ (k : GroupNext). Follows k (load_row k)) (sym at) refl;
-      }
+            before = (x.before ++ step V1 word ∷ []) ++ step (V2 word) found ∷ [];
+            table_is = z.table_is ∙ looked.table_is ∙ x.table_is;
+            steps_are = tried_steps;
+            path = tried_path (Goes V1) leads;
+            look = ap load_row at;
+            follows = subst (λ (k : GroupNext). Follows k (load_row k)) (sym at) refl;
+          }
 
 -- a counter whose bits are 0 is 0
 pub zero_is : (z : ℤ) → FitsSigned w32 z → cast_unsigned w32 z ≡ 0 → z ≡ pos 0
@@ -181,5 +181,8 @@ module _ (s u v : Token) (a b : SeatModel) (counted : GetsCounted s u) (acquired
 
   pub reused : same_word word empty_word ≡ false
       → (word ≢ empty_word) × IsCounted (group_seat_of s a) word (Fails Reused) (group_seat_of v b)
-  reused e = ((λ q. let yes = same_itself word empty_word q in absurd (cc)), is_counted (Fails Reused)
-      (ap (λ (c : Bool). if c then Ends else Fails Reused) e))
+  reused e = (
+    (λ q. let yes = same_itself word empty_word q in absurd (cc)),
+    is_counted (Fails Reused)
+        (ap (λ (c : Bool). if c then Ends else Fails Reused) e),
+  )
