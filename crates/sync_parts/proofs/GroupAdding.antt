@@ -78,7 +78,8 @@ at_zero c e h = (Decides-int_eq c (pos 0)).1 (neither c (pos 0) e h)
 
 -- whichever of two words comes first
 flipped : (a b : GroupWord) → same_word a b ≡ same_word b a
-flipped a b = same_from_decides (same_word a b) (same_word b a) ((same_is a b), (same_itself a b)) ((λ e. sym (same_is b a e)), (λ e. same_itself b a (sym e)))
+flipped a b = same_from_decides (same_word a b) (same_word b a) ((same_is a b), (same_itself a b))
+    ((λ e. sym (same_is b a e)), (λ e. same_itself b a (sym e)))
 
 not_true : (b : Bool) → not b ≡ true → b ≡ false
 not_true true e = absurd (cc)
@@ -100,7 +101,8 @@ module _ (s t : Token) (a : SeatModel) (d : ℤ) (found left : GroupWord) (left_
   first = step (G1 d) found ∷ []
 
   first_path : (next : GroupNext) → after_add d left ≡ next → Walks a.number (G1 d) first next
-  first_path next leads = subst (λ (k : GroupNext). Walks a.number (G1 d) first k) (ap (after_add d) (sym left_is) ∙ leads) (walks_first a.number (G1 d) found y.word)
+  first_path next leads = subst (λ (k : GroupNext). Walks a.number (G1 d) first k) (ap (after_add d) (sym left_is) ∙ leads)
+      (walks_first a.number (G1 d) found y.word)
 
   pub next_first : (next : GroupNext) → after_add d left ≡ next → t.me.0.next ≡ next
   next_first next leads = ap (λ (m : Me). m.0.next) y.me_is ∙ ap (after_add d) (sym left_is) ∙ leads
@@ -119,7 +121,8 @@ module _ (s t : Token) (a : SeatModel) (d : ℤ) (found left : GroupWord) (left_
   -- where the counter isn't 0, or nobody waits, there is nobody to wake
   none_wait : after_add d left ≡ Ends → waits_at_zero left ≡ 0
   none_wait leads =
-      ends_by left (int_lt left.counter (pos 0)) (not (left.waits == 0) && int_lt (pos 0) d && int_eq left.counter d) (int_lt (pos 0) left.counter) (left.waits == 0)
+      ends_by left (int_lt left.counter (pos 0)) (not (left.waits == 0) && int_lt (pos 0) d && int_eq left.counter d)
+      (int_lt (pos 0) left.counter) (left.waits == 0)
       (int_eq left.counter (pos 0)) left.waits (eqb-true left.waits 0) (above_zero left.counter) leads
 
   pub added_ends : after_add d left ≡ Ends → IsAdded (group_seat_of s a) d (group_seat_of t a) (Ok 0)
@@ -143,7 +146,8 @@ module _ (s t : Token) (a : SeatModel) (d : ℤ) (found left : GroupWord) (left_
         (walks_more a.number (G1 d) first (G2 left) seen again.word (first_path (Goes (G2 left)) leads))
 
     both_steps : u.me.0.steps ≡ s.me.0.steps ++ (first ++ step (G2 left) seen ∷ [])
-    both_steps = ap (λ (m : Me). m.0.steps) again.me_is ∙ ap (λ (m : Me). m.0.steps ++ step (G2 left) seen ∷ []) y.me_is ∙ append_assoc s.me.0.steps first (step (G2 left) seen ∷ [])
+    both_steps = ap (λ (m : Me). m.0.steps) again.me_is ∙ ap (λ (m : Me). m.0.steps ++ step (G2 left) seen ∷ []) y.me_is
+        ∙ append_assoc s.me.0.steps first (step (G2 left) seen ∷ [])
 
     pub added_beside : same_word left seen ≡ false → IsAdded (group_seat_of s a) d (group_seat_of u a) (Err AddWithWait)
     added_beside other = let on = ap (λ (c : Bool). if c then Goes (G3 left) else Fails AddWithWait) other in record {
@@ -168,7 +172,8 @@ module _ (s t : Token) (a : SeatModel) (d : ℤ) (found left : GroupWord) (left_
         emptied = ap (λ (m : Me). m.0.next) e.me_is
 
         all_wait : left.waits ≡ waits_at_zero left
-        all_wait = let n = goes_by left (int_lt left.counter (pos 0)) (not (left.waits == 0) && int_lt (pos 0) d && int_eq left.counter d) (int_lt (pos 0) left.counter) (left.waits == 0) leads in
+        all_wait = let n = goes_by left (int_lt left.counter (pos 0))
+            (not (left.waits == 0) && int_lt (pos 0) d && int_eq left.counter d) (int_lt (pos 0) left.counter) (left.waits == 0) leads in
             ap (λ (b : Bool). if b then left.waits else 0) (sym (at_zero left.counter n.0 n.1))
 
         pub added_all : (b : SeatModel) → left.waits ≤ a.left → HasReleased left.waits a b

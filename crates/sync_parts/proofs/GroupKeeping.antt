@@ -51,7 +51,8 @@ at_low (x ∷ xs) zero a e = omega arith
 at_low (x ∷ xs) (suc i) a e = let h = at_low xs i a e in omega arith
 
 -- the row ran, and the word became x
-module _ (s : State ℕ GroupView) (r : IsKept s) (id : ℕ) (v : GroupView) (at : get_elem? s.views id ≡ some v) (row : GroupRow) (follows : Follows v.next row) where
+module _ (s : State ℕ GroupView) (r : IsKept s) (id : ℕ) (v : GroupView) (at : get_elem? s.views id ≡ some v) (row : GroupRow)
+    (follows : Follows v.next row) where
   abbrev found : GroupWord
   found = word_in (slice_index s.words 0)
 
@@ -72,8 +73,10 @@ module _ (s : State ℕ GroupView) (r : IsKept s) (id : ℕ) (v : GroupView) (at
         (sym becomes ∙ ap word_in (sym (get_or-set_same s.words 0 x 0 r.wide)))
         (leads_more empty_word found r.history here r.leads refl);
     views = λ j u e. ⊎_elim
-        (λ (t : (j ≡ id) × (stepped row found v ≡ u)). subst (λ (k : ℕ × GroupView). HasRun (r.history ++ here ∷ []) k.0 k.1) (λ i. (sym t.0 i, t.1 i)) mine)
-        (λ (t : (j ≢ id) × (get_elem? s.views j ≡ some u)). let h = r.views j u t.1 in record { own = steps_else j r.history here (λ q. t.0 (sym q)) ∙ h.own; calls = h.calls })
+        (λ (t : (j ≡ id) × (stepped row found v ≡ u)). subst (λ (k : ℕ × GroupView). HasRun (r.history ++ here ∷ []) k.0 k.1)
+        (λ i. (sym t.0 i, t.1 i)) mine)
+        (λ (t : (j ≢ id) × (get_elem? s.views j ≡ some u)). let h = r.views j u t.1 in
+        record { own = steps_else j r.history here (λ q. t.0 (sym q)) ∙ h.own; calls = h.calls })
         (at_set s.views id j (stepped row found v) u e);
     others = λ j far. let l = length-set s.views id (stepped row found v) in let low = at_low s.views id v at in
         steps_else j r.history here (λ q. absurd (omega arith)) ∙ r.others j (omega arith);

@@ -27,16 +27,19 @@ opens = record {
     one (suc j) v e = absurd (some-ne-none v (sym e))
 
 pub splits : (id : ℕ) (v : GroupView) → Splits IsKept id v v new_view
-splits id v s r at = subst (λ (views : List GroupView). IsKept (record { words = s.words; homes = s.homes; views = views ++ new_view ∷ [] })) (sym (set_again s.views id v at)) (record {
-  history = r.history;
-  leads = r.leads;
-  views = λ j u e. ⊎_elim
-      (λ was. r.views j u was)
-      (λ t. subst (λ (k : ℕ × GroupView). HasRun r.history k.0 k.1) (λ i. (sym t.0 i, t.1 i)) (record { own = r.others (length s.views) (omega arith); calls = refl }))
-      (at_end s.views new_view u j e);
-  others = λ j far. let l = length-append s.views (new_view ∷ []) in r.others j (omega (arith, l, far));
-  wide = r.wide;
-})
+splits id v s r at = subst
+    (λ (views : List GroupView). IsKept (record { words = s.words; homes = s.homes; views = views ++ new_view ∷ [] }))
+    (sym (set_again s.views id v at)) (record {
+      history = r.history;
+      leads = r.leads;
+      views = λ j u e. ⊎_elim
+          (λ was. r.views j u was)
+          (λ t. subst (λ (k : ℕ × GroupView). HasRun r.history k.0 k.1) (λ i. (sym t.0 i, t.1 i))
+          (record { own = r.others (length s.views) (omega arith); calls = refl }))
+          (at_end s.views new_view u j e);
+      others = λ j far. let l = length-append s.views (new_view ∷ []) in r.others j (omega (arith, l, far));
+      wide = r.wide;
+    })
 
 -- the seats of a group are of this group
 pub seats_own : (seats : ℕ) (g : GroupModel) (made : List GroupSeatModel) → IsGroupMade seats g made → All (λ s. s.group ≡ g) made

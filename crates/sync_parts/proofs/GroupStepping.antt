@@ -21,7 +21,8 @@ use Rattle.sync_parts.proofs.GroupKeeping.{allowed}
 
 -- what is added to the word tells what is added to the counter
 same_added : (d e : ℤ) → FitsSigned w32 d → FitsSigned w32 e → high d ≡ high e → d ≡ e
-same_added d e d_fits e_fits same = sym (to_z-of_z w32 d d_fits) ∙ ap (cast_signed w32) (halves (cast_unsigned w32 d) (cast_unsigned w32 e) same) ∙ to_z-of_z w32 e e_fits
+same_added d e d_fits e_fits same = sym (to_z-of_z w32 d d_fits)
+    ∙ ap (cast_signed w32) (halves (cast_unsigned w32 d) (cast_unsigned w32 e) same) ∙ to_z-of_z w32 e e_fits
   where
     halves : (a b : ℕ) → a * 4294967296 ≡ b * 4294967296 → a ≡ b
     halves a b e = omega arith
@@ -58,7 +59,8 @@ pub exchange_allowed : (slots id : ℕ) (m : Me) (seen : GroupWord) (old new : �
 exchange_allowed slots id m seen old new is at old_is new_is =
     allowed slots id m (V2 carried) (λ n. either (n == old) new n) (exchanges (atomic.step slots 0 old new none) m)
     (subst (λ (k : GroupNext). Follows k (V2 (word_carried k))) (sym at) refl)
-    (λ n below. ap word_in (exchanged n old new (λ y. y ≡ bits_after (V2 carried) n) (won n) (lost n)) ∙ the_group_words.shown n (V2 carried) below is_carried)
+    (λ n below. ap word_in (exchanged n old new (λ y. y ≡ bits_after (V2 carried) n) (won n) (lost n))
+    ∙ the_group_words.shown n (V2 carried) below is_carried)
     (λ n below first second. refl)
   where
     carried : GroupWord
@@ -74,10 +76,12 @@ exchange_allowed slots id m seen old new is at old_is new_is =
     bits_are = old_is ∙ ap bits_of (sym carried_is)
 
     won : (n : ℕ) → n ≡ old → new ≡ bits_after (V2 carried) n
-    won n e = new_is ∙ ap (λ (k : ℕ). (k + 1) % 18446744073709551616) (sym e) ∙ ap (λ (b : Bool). if b then (n + 1) % 18446744073709551616 else n) (sym (eq-eqb n (bits_of carried) (e ∙ bits_are)))
+    won n e = new_is ∙ ap (λ (k : ℕ). (k + 1) % 18446744073709551616) (sym e)
+        ∙ ap (λ (b : Bool). if b then (n + 1) % 18446744073709551616 else n) (sym (eq-eqb n (bits_of carried) (e ∙ bits_are)))
 
     lost : (n : ℕ) → n ≢ old → n ≡ bits_after (V2 carried) n
-    lost n ne = ap (λ (b : Bool). if b then (n + 1) % 18446744073709551616 else n) (sym (ne_eqb n (bits_of carried) (λ e. ne (e ∙ sym bits_are))))
+    lost n ne = ap (λ (b : Bool). if b then (n + 1) % 18446744073709551616 else n)
+        (sym (ne_eqb n (bits_of carried) (λ e. ne (e ∙ sym bits_are))))
 
 pub store_allowed : (slots id : ℕ) (m : Me) (seen : GroupWord) → m.0.next ≡ Goes (G3 seen)
     → atomic.Allows IsKept slots id m 0 (λ _. 0) (λ _. stores (atomic.step slots 0 0 0 none) m 0)
@@ -108,14 +112,17 @@ swapped a b = same_from_decides (a == b) (b == a) (Decides-eqb a b) ((λ e. sym 
 pub won_is : (seen : GroupWord) (n bits : ℕ) → IsGroupWord seen → n < 18446744073709551616 → bits ≡ bits_of seen
     → (n == bits) ≡ same_word seen (word_in n)
 won_is seen n bits is below e =
-    swapped n bits ∙ (λ i. e i == (sym (the_group_words.forth n below)) i) ∙ sym (the_group_words.same seen (word_in n) is (the_group_words.words n below))
+    swapped n bits ∙ (λ i. e i == (sym (the_group_words.forth n below)) i)
+    ∙ sym (the_group_words.same seen (word_in n) is (the_group_words.words n below))
 
 pub counted : (s t : Token) (seen : GroupWord) (n bits : ℕ) → IsGroupWord seen → s.me.0.next ≡ Goes (V2 seen)
     → bits ≡ bits_of seen → n < 18446744073709551616
-    → t.table_id ≡ s.table_id → exchanges (atomic.step 0 0 bits ((bits + 1) % 18446744073709551616) none) s.me n t.me → Steps s (V2 seen) (word_in n) t
+    → t.table_id ≡ s.table_id → exchanges (atomic.step 0 0 bits ((bits + 1) % 18446744073709551616) none) s.me n t.me
+    → Steps s (V2 seen) (word_in n) t
 counted s t seen n bits is at e below table told = record {
   word = the_group_words.words n below;
   table_is = table;
-  me_is = subst (λ (w : GroupWord). bits ≡ bits_of w → (bits + 1) % 18446744073709551616 ≡ bits_of (one_more w) → t.me ≡ (stepped (V2 w) (word_in n) s.me.0, s.me.1))
+  me_is = subst (λ (w : GroupWord). bits ≡ bits_of w → (bits + 1) % 18446744073709551616 ≡ bits_of (one_more w)
+      → t.me ≡ (stepped (V2 w) (word_in n) s.me.0, s.me.1))
       (ap word_carried at) told e (ap (λ (k : ℕ). (k + 1) % 18446744073709551616) e ∙ sym (the_group_words.waits seen is));
 }

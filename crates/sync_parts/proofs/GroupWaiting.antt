@@ -30,8 +30,10 @@ use Rattle.sync_parts.specs.GroupWalks.{GetsCounted, FindsZero}
 pub walks_more : (number : ℕ) (first : GroupRow) (steps : List GroupStep) (row : GroupRow) (word : GroupWord) → IsGroupWord word
     → Walks number first steps (Goes row) → Walks number first (steps ++ step row word ∷ []) (group_row row word).1
 walks_more number first steps row word is path =
-    subst (λ (l : List GroupStride). GroupPath number (going (Goes first)) l (going (group_row row word).1)) (sym (map-append stride_of steps (step row word ∷ [])))
-    (the_group_paths.paths.more number (going (Goes first)) (going (Goes row)) (going (group_row row word).1) (map stride_of steps) (ran_row row word)
+    subst (λ (l : List GroupStride). GroupPath number (going (Goes first)) l (going (group_row row word).1))
+    (sym (map-append stride_of steps (step row word ∷ [])))
+    (the_group_paths.paths.more number (going (Goes first)) (going (Goes row)) (going (group_row row word).1) (map stride_of steps)
+    (ran_row row word)
     path (the_group_paths.rows number row word is))
 
 -- a first row
@@ -78,10 +80,12 @@ module _ (s t u : Token) (x : LooksOn s t) (word : GroupWord) (y : Steps t (load
   looked = subst (λ (row : GroupRow). Steps t row word u) x.look y
 
   looked_steps : u.me.0.steps ≡ s.me.0.steps ++ (x.before ++ step V1 word ∷ [])
-  looked_steps = ap (λ (m : Me). m.0.steps) looked.me_is ∙ ap (λ (l : List GroupStep). l ++ step V1 word ∷ []) x.steps_are ∙ append_assoc s.me.0.steps x.before (step V1 word ∷ [])
+  looked_steps = ap (λ (m : Me). m.0.steps) looked.me_is ∙ ap (λ (l : List GroupStep). l ++ step V1 word ∷ []) x.steps_are
+      ∙ append_assoc s.me.0.steps x.before (step V1 word ∷ [])
 
   looked_path : (next : GroupNext) → (group_row V1 word).1 ≡ next → (number : ℕ) → Walks number V1 (x.before ++ step V1 word ∷ []) next
-  looked_path next leads number = subst (λ (k : GroupNext). Walks number V1 (x.before ++ step V1 word ∷ []) k) leads (walks_more number V1 x.before V1 word looked.word (x.path number))
+  looked_path next leads number = subst (λ (k : GroupNext). Walks number V1 (x.before ++ step V1 word ∷ []) k) leads
+      (walks_more number V1 x.before V1 word looked.word (x.path number))
 
   pub finds_zero : word.counter ≡ pos 0 → FindsZero s u
   finds_zero zero = (
@@ -117,7 +121,8 @@ module _ (s t u : Token) (x : LooksOn s t) (word : GroupWord) (y : Steps t (load
 
       tried_path : (next : GroupNext) → (group_row (V2 word) found).1 ≡ next → (number : ℕ)
           → Walks number V1 ((x.before ++ step V1 word ∷ []) ++ step (V2 word) found ∷ []) next
-      tried_path next leads number = subst (λ (k : GroupNext). Walks number V1 ((x.before ++ step V1 word ∷ []) ++ step (V2 word) found ∷ []) k) leads
+      tried_path next leads number = subst
+          (λ (k : GroupNext). Walks number V1 ((x.before ++ step V1 word ∷ []) ++ step (V2 word) found ∷ []) k) leads
           (walks_more number V1 (x.before ++ step V1 word ∷ []) (V2 word) found z.word (looked_path (Goes (V2 word)) leads_on number))
 
       pub gets_counted : same_word word found ≡ true → GetsCounted s w
@@ -132,14 +137,15 @@ module _ (s t u : Token) (x : LooksOn s t) (word : GroupWord) (y : Steps t (load
       )
 
       pub looks_again : same_word word found ≡ false → LooksOn s w
-      looks_again lost = let leads = ap (λ (b : Bool). if b then Acquires else Goes V1) lost in let at = ap (λ (m : Me). m.0.next) z.me_is ∙ leads in record {
-        before = (x.before ++ step V1 word ∷ []) ++ step (V2 word) found ∷ [];
-        table_is = z.table_is ∙ looked.table_is ∙ x.table_is;
-        steps_are = tried_steps;
-        path = tried_path (Goes V1) leads;
-        look = ap load_row at;
-        follows = subst (λ (k : GroupNext). Follows k (load_row k)) (sym at) refl;
-      }
+      looks_again lost = let leads = ap (λ (b : Bool). if b then Acquires else Goes V1) lost in
+          let at = ap (λ (m : Me). m.0.next) z.me_is ∙ leads in record {
+            before = (x.before ++ step V1 word ∷ []) ++ step (V2 word) found ∷ [];
+            table_is = z.table_is ∙ looked.table_is ∙ x.table_is;
+            steps_are = tried_steps;
+            path = tried_path (Goes V1) leads;
+            look = ap load_row at;
+            follows = subst (λ (k : GroupNext). Follows k (load_row k)) (sym at) refl;
+          }
 
 -- a counter whose bits are 0 is 0
 pub zero_is : (z : ℤ) → FitsSigned w32 z → cast_unsigned w32 z ≡ 0 → z ≡ pos 0
@@ -151,7 +157,8 @@ same_table a b (inl x) = ap (λ (q : SeatModel). q.table) x.0
 same_table a b (inr x) = ap (λ (q : SeatModel). q.table) x.2.0 ∙ ap (λ (q : SeatModel). q.table) x.1.0
 
 -- a wait that was counted, acquired, and looked again
-module _ (s u v : Token) (a b : SeatModel) (counted : GetsCounted s u) (acquired : IsAcquired a 0 false b) (word : GroupWord) (y : Steps u (load_row u.me.0.next) word v) where
+module _ (s u v : Token) (a b : SeatModel) (counted : GetsCounted s u) (acquired : IsAcquired a 0 false b) (word : GroupWord)
+    (y : Steps u (load_row u.me.0.next) word v) where
   again : Steps u V3 word v
   again = subst (λ (row : GroupRow). Steps u row word v) (ap load_row counted.1.next_is) y
 
@@ -160,7 +167,8 @@ module _ (s u v : Token) (a b : SeatModel) (counted : GetsCounted s u) (acquired
     before = counted.0;
     ran = record {
       group = λ i. record { word = (again.table_is ∙ w.table_is) i; sema = same_table a b acquired i };
-      steps_are = ap (λ (m : Me). m.0.steps) again.me_is ∙ ap (λ (l : List GroupStep). l ++ step V3 word ∷ []) w.steps_are ∙ append_assoc s.me.0.steps counted.0 (step V3 word ∷ []);
+      steps_are = ap (λ (m : Me). m.0.steps) again.me_is ∙ ap (λ (l : List GroupStep). l ++ step V3 word ∷ []) w.steps_are
+          ∙ append_assoc s.me.0.steps counted.0 (step V3 word ∷ []);
     };
     path = w.path a.number;
     acquired = acquired;
@@ -173,4 +181,8 @@ module _ (s u v : Token) (a b : SeatModel) (counted : GetsCounted s u) (acquired
 
   pub reused : same_word word empty_word ≡ false
       → (word ≢ empty_word) × IsCounted (group_seat_of s a) word (Fails Reused) (group_seat_of v b)
-  reused e = ((λ q. let yes = same_itself word empty_word q in absurd (cc)), is_counted (Fails Reused) (ap (λ (c : Bool). if c then Ends else Fails Reused) e))
+  reused e = (
+    (λ q. let yes = same_itself word empty_word q in absurd (cc)),
+    is_counted (Fails Reused)
+        (ap (λ (c : Bool). if c then Ends else Fails Reused) e),
+  )

@@ -1,13 +1,17 @@
--- What a wait on a condition variable promises of its list.
+-- What a wait on a condition variable promises of its list and of its locker.
 use Rattle.notify_list.specs.declared.waited.Waited.{Waited}
 use Rattle.notify_list.specs.Seats.{SeatModel}
 use Rattle.notify_list.specs.Tickets.{IsAdded}
 use Rattle.notify_list.specs.Waiting.{IsWaited, IsGranted}
 
--- the seat took a ticket, and waited with it until it was granted. Its rows on the list are those of the two, and no others: so it
--- grants nothing
-pub record HasWaited (s : SeatModel) (waited : Waited) (t : SeatModel) : Type 0 where
+-- the seat took a ticket, unlocked the locker showing the holding that has it, waited with the ticket until it was granted, and
+-- locked the locker. Its rows on the list are those of the two, and no others: so it grants nothing
+pub record HasWaited {L : Type 0} (unlocks : L → SeatModel → L → Type 0) (locks : L → L → Type 0)
+    (s : SeatModel) (l : L) (waited : Waited) (t : SeatModel) (m : L) : Type 0 where
   pub holding : SeatModel
+  pub between : L
   pub added : IsAdded s holding
+  pub unlocked : unlocks l holding between
   pub waits : IsWaited holding waited t
   pub granted : IsGranted holding t
+  pub locked : locks between m

@@ -48,7 +48,7 @@ impl Cond {
         requires own { seat.list ≡ self.now }
         requires held { L.is_held locker.old ≡ true }
         requires left { 0 < L.may_unlock locker.old }
-        ensures waited { HasWaited seat result.1 result.0 }
+        ensures waited { HasWaited L.unlocks L.locks seat locker.old result.1 result.0 locker.new }
         ensures held { L.is_held locker.new ≡ true }
         ensures calls { L.calls locker.new ≡ L.calls locker.old ++ call.Unlocked ∷ call.Locked ∷ [] }
     {

@@ -1,5 +1,6 @@
 //! What a condition variable unlocks while a caller waits, and locks again.
 ghost use Rattle.std.specs.Prelude.{◌≡◌, ℕ, ◌<◌, ◌++◌, ◌∷◌, [], Bool, true, false, List};
+ghost use Rattle.notify_list.specs.Seats.{SeatModel};
 ghost use Rattle.sync_parts.specs.declared.locker_call.LockerCall.{LockerCall as Call};
 
 use crate::locker_call::LockerCall;
@@ -17,6 +18,12 @@ pub trait Locker {
     /// How often it may be unlocked yet.
     ghost may_unlock: { Self → ℕ };
 
+    /// What it is after an unlock by a caller who showed this holding.
+    ghost unlocks: { Self → SeatModel → Self → Type 0 };
+
+    /// What it is after a lock.
+    ghost locks: { Self → Self → Type 0 };
+
     /// Whether it is held.
     fn held(&self) -> bool
         ensures { result ≡ is_held self.now };
@@ -30,11 +37,13 @@ pub trait Locker {
         requires held { is_held self.old ≡ true }
         requires left { 0 < may_unlock self.old }
         ensures held { is_held self.new ≡ false }
-        ensures calls { calls self.new ≡ calls self.old ++ LockerCall.Unlocked ∷ [] };
+        ensures calls { calls self.new ≡ calls self.old ++ LockerCall.Unlocked ∷ [] }
+        ensures unlocked { unlocks self.old holding.now self.new };
 
     /// Locks it, for a caller who has waited.
     fn lock<R: Wait>(&mut self, rt: &R, seat: &ListSeat)
         requires { is_held self.old ≡ false }
         ensures held { is_held self.new ≡ true }
-        ensures calls { calls self.new ≡ calls self.old ++ LockerCall.Locked ∷ [] };
+        ensures calls { calls self.new ≡ calls self.old ++ LockerCall.Locked ∷ [] }
+        ensures locked { locks self.old self.new };
 }

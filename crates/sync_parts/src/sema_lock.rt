@@ -133,6 +133,10 @@ impl<'t> Locker for SemaLock<'t> {
 
     ghost may_unlock = { λ l. l.seat.left };
 
+    ghost unlocks = { λ l holding m. HasUnlocked l m };
+
+    ghost locks = { λ l m. HasLocked l m };
+
     fn held(&self) -> bool {
         SemaLock::held(self)
     }

@@ -1,4 +1,5 @@
-//! An add that may run beside a wait: a misuse, which each call that meets it answers.
+//! An add that may run beside a wait, or begin a new round before a wait has come back: misuses, which each call that meets one
+//! answers.
 
 use crate::group_members::{Member, a_member, new_members};
 use std::alloc::Global;
@@ -24,9 +25,16 @@ fn adds_beside<R: Abort + Wait + Copy>(rt: R, member: Member) -> Answers {
     Answers { added, done }
 }
 
-fn waits<R: Wait + Copy>(rt: R, member: Member) -> Result<(), Misuse> {
-    let (_member, answer) = member.wait(&rt);
-    answer
+/// A member that has waited, and what it was answered.
+#[derive(Drop)]
+struct Waited {
+    member: Member,
+    answer: Result<(), Misuse>,
+}
+
+fn waits<R: Wait + Copy>(rt: R, member: Member) -> Waited {
+    let (member, answer) = member.wait(&rt);
+    Waited { member, answer }
 }
 
 /// Starts a thread, asked for once more where none was made.
@@ -46,7 +54,7 @@ fn begin_adds<R: Abort + Threads + Wait + Copy + Send + 'static>(
 fn begin_wait<R: Abort + Threads + Wait + Copy + Send + 'static>(
     rt: R,
     member: Member,
-) -> JoinHandle<Result<(), Misuse>> {
+) -> JoinHandle<Waited> {
     match thread::spawn(&rt, move || waits(rt, member)) {
         Ok(handle) => handle,
         Err(refused) => match thread::spawn(&rt, refused.value) {
@@ -89,15 +97,62 @@ fn race<R: Abort + Threads + Wait + Copy + Send + 'static>(
     let adder = begin_adds(rt, a_member(&rt, &mut members));
     let (_first, last) = first.done(&rt);
     agree(&rt, adder.join(&rt), last);
-    let waited = waiter.join(&rt);
-    assert!(rt; waited == Ok(()) || waited == Err(Misuse::Reused));
+    let _waiter = may_be_reused(&rt, waiter.join(&rt));
     Ok(())
+}
+
+/// The member, which came back in time or was told that it didn't.
+fn may_be_reused(rt: &impl Abort, waited: Waited) -> Member {
+    let Waited { member, answer } = waited;
+    assert!(rt; answer == Ok(()) || answer == Err(Misuse::Reused));
+    member
 }
 
 #[test]
 fn an_add_beside_a_wait_is_answered(rt: HostRuntime) -> Result<(), Fail> {
     for _ in 0..ROUNDS {
         race(rt, rt.alloc())?;
+    }
+    Ok(())
+}
+
+/// The member, which came back in time.
+fn is_in_time(rt: &impl Abort, waited: Waited) -> Member {
+    let Waited { member, answer } = waited;
+    assert!(rt; answer == Ok(()));
+    member
+}
+
+/// A member ends a round for which another waits, and begins one more at once. The wait that it released may find that one; it
+/// changes nothing, so the new round ends without it.
+fn begins_anew<R: Abort + Threads + Wait + Copy + Send + 'static>(
+    rt: R,
+    alloc: Global,
+) -> Result<(), Fail> {
+    let mut members = new_members(&rt, alloc, 2)?;
+    let first = a_member(&rt, &mut members);
+    let first = first.adds(&rt, 1, 0);
+    let waiter = begin_wait(rt, a_member(&rt, &mut members));
+    let (first, released) = first.finishes(&rt);
+    let first = first.adds(&rt, 1, 0);
+    let (first, second) = if released == 0 {
+        let (first, _released) = first.finishes(&rt);
+        (first, is_in_time(&rt, waiter.join(&rt)))
+    } else {
+        let second = may_be_reused(&rt, waiter.join(&rt));
+        let (first, released) = first.finishes(&rt);
+        assert!(rt; released == 0);
+        (first, second)
+    };
+    let _first = first.waits(&rt);
+    let _second = second.waits(&rt);
+    Ok(())
+}
+
+#[test]
+fn a_round_begun_before_a_wait_is_back_is_answered(rt: HostRuntime) -> Result<(), Fail> {
+    for _ in 0..ROUNDS {
+        begins_anew(rt, rt.alloc())?;
     }
     Ok(())
 }

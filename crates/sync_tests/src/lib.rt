@@ -20,3 +20,5 @@ mod group_race_tests;
 mod group_tests;
 #[cfg(test)]
 mod group_thread_tests;
+#[cfg(test)]
+mod locker_tests;

@@ -13,14 +13,16 @@ use Rattle.sync_parts.proofs.group.WaitGroup.add.Goals as goal
 
 pub returns-in-Err : goal.returns-in-Err
 returns-in-Err g c =
-    let w = c.add-word.ensures in let a = c.seat.inside.sema in let t = c.add-word.new.token in let m = c.in-Err.misuse in let d = cast_signed w32 (cast_unsigned w32 c.args.d) in
+    let w = c.add-word.ensures in let a = c.seat.inside.sema in let t = c.add-word.new.token in let m = c.in-Err.misuse in
+    let d = cast_signed w32 (cast_unsigned w32 c.args.d) in
     subst (λ (k : ℤ). IsAdded c.args.seat k (group_seat_of t a) (Err m)) (to_z-of_z w32 c.args.d c.ranges.d)
     (subst (λ (q : GroupSeatModel). IsAdded q d (group_seat_of t a) (Err m)) c.seat.view_is
     (added_fails c.seat.inside.token t a d w.0 c.add-word.result w.1 w.2 m c.in-Err.ensures))
 
 pub returns-in-Ok-false : goal.returns-in-Ok-false
 returns-in-Ok-false g c =
-    let w = c.add-word.ensures in let a = c.seat.inside.sema in let t = c.add-word.new.token in let d = cast_signed w32 (cast_unsigned w32 c.args.d) in
+    let w = c.add-word.ensures in let a = c.seat.inside.sema in let t = c.add-word.new.token in
+    let d = cast_signed w32 (cast_unsigned w32 c.args.d) in
     subst (λ (k : ℤ). IsAdded c.args.seat k (group_seat_of t a) (Ok 0)) (to_z-of_z w32 c.args.d c.ranges.d)
     (subst (λ (q : GroupSeatModel). IsAdded q d (group_seat_of t a) (Ok 0)) c.seat.view_is
     (added_ends c.seat.inside.token t a d w.0 c.add-word.result w.1 w.2
@@ -28,7 +30,8 @@ returns-in-Ok-false g c =
 
 pub returns-then-ne : goal.returns-then-ne
 returns-then-ne g c =
-    let w = c.add-word.ensures in let a = c.seat.inside.sema in let u = c.load.new.token in let d = cast_signed w32 (cast_unsigned w32 c.args.d) in
+    let w = c.add-word.ensures in let a = c.seat.inside.sema in let u = c.load.new.token in
+    let d = cast_signed w32 (cast_unsigned w32 c.args.d) in
     subst (λ (k : ℤ). IsAdded c.args.seat k (group_seat_of u a) (Err AddWithWait)) (to_z-of_z w32 c.args.d c.ranges.d)
     (subst (λ (q : GroupSeatModel). IsAdded q d (group_seat_of u a) (Err AddWithWait)) c.seat.view_is
     (added_beside c.seat.inside.token c.add-word.new.token a d w.0 c.add-word.result w.1 w.2
@@ -37,9 +40,11 @@ returns-then-ne g c =
 
 pub returns : goal.returns
 returns g c =
-    let w = c.add-word.ensures in let a = c.seat.inside.sema in let v = c.empty.new.token in let b = c.release_waits-sema.result in let d = cast_signed w32 (cast_unsigned w32 c.args.d) in
+    let w = c.add-word.ensures in let a = c.seat.inside.sema in let v = c.empty.new.token in let b = c.release_waits-sema.result in
+    let d = cast_signed w32 (cast_unsigned w32 c.args.d) in
     let word : GroupWord = c.add-word.result in
-    let few : word.waits ≤ a.left = (let k = c.requires.left in let l = ap (λ (q : GroupSeatModel). q.sema.left) c.seat.view_is in let low = w.2.word.1 in let same = ap (λ (q : GroupWord). q.waits) w.1 in omega arith) in
+    let few : word.waits ≤ a.left = (let k = c.requires.left in let l = ap (λ (q : GroupSeatModel). q.sema.left) c.seat.view_is in
+    let low = w.2.word.1 in let same = ap (λ (q : GroupWord). q.waits) w.1 in omega arith) in
     subst (λ (k : ℤ). IsAdded c.args.seat k (group_seat_of v b) (Ok word.waits)) (to_z-of_z w32 c.args.d c.ranges.d)
     (subst (λ (q : GroupSeatModel). IsAdded q d (group_seat_of v b) (Ok word.waits)) c.seat.view_is
     (added_all c.seat.inside.token c.add-word.new.token a d w.0 word w.1 w.2

@@ -8,7 +8,8 @@ pub fetch_add-found-requires : goal.fetch_add-found-requires
 fetch_add-found-requires c = (
   c.requires.0 ∙ sym c.self.view_is,
   c.self.invariant,
-  add_allowed _ _ c.args.token.now.me c.args.d _ c.ranges.d (more_is c.args.d _ _ c.ranges.d c.cast_unsigned.ensures c.from-more.ensures) c.requires.1,
+  add_allowed _ _ c.args.token.now.me c.args.d _ c.ranges.d
+      (more_is c.args.d _ _ c.ranges.d c.cast_unsigned.ensures c.from-more.ensures) c.requires.1,
 )
 
 pub returns : goal.returns

@@ -11,9 +11,11 @@ returns-then-word-eq0 g c =
 pub returns-then-count_wait : goal.returns-then-count_wait
 returns-then-count_wait g c = let counted = c.count_wait.ensures in
     gets_counted c.args.token.now c.loop.token c.load-word.new.token c.loop.invariant c.load-word.result c.load-word.ensures
-    (λ zero. c.if-word-eq0.false (ap (cast_unsigned w32) zero)) c.count_wait.new.token counted.0 counted.2 (sym counted.1 ∙ c.if-count_wait.true)
+    (λ zero. c.if-word-eq0.false (ap (cast_unsigned w32) zero)) c.count_wait.new.token counted.0 counted.2
+    (sym counted.1 ∙ c.if-count_wait.true)
 
 pub loop-preserved : goal.loop-preserved
 loop-preserved g c = let counted = c.count_wait.ensures in
     looks_again c.args.token.now c.loop.token c.load-word.new.token c.loop.invariant c.load-word.result c.load-word.ensures
-    (λ zero. c.if-word-eq0.false (ap (cast_unsigned w32) zero)) c.count_wait.new.token counted.0 counted.2 (sym counted.1 ∙ c.if-count_wait.false)
+    (λ zero. c.if-word-eq0.false (ap (cast_unsigned w32) zero)) c.count_wait.new.token counted.0 counted.2
+    (sym counted.1 ∙ c.if-count_wait.false)
