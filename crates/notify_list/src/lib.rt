@@ -14,6 +14,8 @@
 //! it is moved or lent. `one` and `all` may wait for the list's lock, and `wait` for its grant too; all other calls end.
 #![tactic(auto)]
 
+mod closed;
+mod closing;
 mod joins;
 mod laws;
 mod locks;
@@ -32,6 +34,7 @@ mod view;
 mod waited;
 mod waits;
 
+pub use closed::ListClosed;
 pub use laws::law_of_the_list;
 pub use notify_list::NotifyList;
 pub use seat::{Holding, ListSeat};
