@@ -10,10 +10,16 @@ use std::sync::atomic::AtomicU64;
 use std::sync::atomic::Ordering::SeqCst;
 use std::test::Fail;
 use std::thread;
-use std::thread::{Threads, join};
+use std::thread::Threads;
+use waiters::NoMemory;
 
 /// How often a thread lets the others run once its turn has come, so that who came before it is queued by then.
 const YIELDS: u32 = 1_000;
+
+/// Not all threads are made yet.
+const NOT_YET: u64 = 4;
+/// A thread couldn't be made, so none begins.
+const GIVE_UP: u64 = 5;
 
 /// How many have taken a ticket, how many have gone to wait, and how many have come back.
 #[derive(Drop)]
@@ -23,10 +29,14 @@ struct Turns {
     back: AtomicU64,
 }
 
-/// Returns once the number is this, and a while after it.
-fn awaits<R: Wait>(rt: &R, number: &AtomicU64, wanted: u64) {
+/// Returns once the number is this, and a while after it: whether the threads don't give up.
+fn awaits<R: Wait>(rt: &R, number: &AtomicU64, wanted: u64) -> bool {
     for _ in rt.forever() {
-        if number.load(SeqCst) == wanted {
+        let found = number.load(SeqCst);
+        if found == GIVE_UP {
+            return false;
+        }
+        if found == wanted {
             break;
         }
         thread::yield_now();
@@ -34,6 +44,7 @@ fn awaits<R: Wait>(rt: &R, number: &AtomicU64, wanted: u64) {
     for _ in 0..YIELDS {
         thread::yield_now();
     }
+    true
 }
 
 /// Takes this ticket, of three, after those before it, goes to wait with it after those behind it, and comes back after those before
@@ -47,10 +58,12 @@ fn waits_in_turn<R: Abort + Wait>(
 )
     requires { seat.list ≡ list.now }
 {
-    awaits(rt, &turns.taken, ticket);
+    if !awaits(rt, &turns.taken, ticket) {
+        return;
+    }
     let holding = adds(rt, list, seat, ticket);
     turns.taken.store(ticket.wrapping_add(1), SeqCst);
-    awaits(rt, &turns.gone, 2_u64.wrapping_sub(ticket));
+    let _ = awaits(rt, &turns.gone, 2_u64.wrapping_sub(ticket));
     turns.gone.store(3_u64.wrapping_sub(ticket), SeqCst);
     let _ = list.wait(rt, holding);
     assert!(rt; turns.back.swap(ticket.wrapping_add(1), SeqCst) == ticket);
@@ -61,13 +74,13 @@ fn notifies_in_turn<R: Abort + Wait>(rt: &R, list: &NotifyList, seat: ListSeat, 
     requires { seat.list ≡ list.now }
 {
     let mut seat = seat;
-    awaits(rt, &turns.gone, 3);
+    let _ = awaits(rt, &turns.gone, 3);
     grants(rt, list, &mut seat, Some(0));
-    awaits(rt, &turns.back, 1);
+    let _ = awaits(rt, &turns.back, 1);
     grants(rt, list, &mut seat, Some(1));
-    awaits(rt, &turns.back, 2);
+    let _ = awaits(rt, &turns.back, 2);
     grants(rt, list, &mut seat, Some(2));
-    awaits(rt, &turns.back, 3);
+    let _ = awaits(rt, &turns.back, 3);
     grants(rt, list, &mut seat, None);
 }
 
@@ -76,11 +89,12 @@ fn three_tickets<R: Abort + Threads + Wait + Sync>(
     rt: &R,
     list: &NotifyList,
     seats: &mut Vec<ListSeat>,
-)
+) -> Result<(), NoMemory>
     requires { All (λ s. s.list ≡ list.now) seats.old.items }
+    ensures { All (λ s. s.list ≡ list.now) seats.new.items }
 {
     let turns = Turns {
-        taken: AtomicU64::new(0),
+        taken: AtomicU64::new(NOT_YET),
         gone: AtomicU64::new(0),
         back: AtomicU64::new(0),
     };
@@ -89,40 +103,38 @@ fn three_tickets<R: Abort + Threads + Wait + Sync>(
     let second = last_seat(rt, list, seats);
     let third = last_seat(rt, list, seats);
     let fourth = last_seat(rt, list, seats);
-    join(
+    thread::scope(
+        thread::scope_env(),
         rt,
-        move ||
-            requires { (first.list ≡ list.now) × (second.list ≡ list.now) }
+        move |scope| -> Result<(), NoMemory>
+            requires one { (first.list ≡ list.now) × (second.list ≡ list.now) }
+            requires other { (third.list ≡ list.now) × (fourth.list ≡ list.now) }
         {
-            join(
-                rt,
-                move ||
-                    requires { first.list ≡ list.now }
-                { waits_in_turn(rt, list, first, turns, 0) },
-                move ||
-                    requires { second.list ≡ list.now }
-                { waits_in_turn(rt, list, second, turns, 1) },
-            );
+            let made = scope
+                .spawn(move || waits_in_turn(rt, list, first, turns, 0))
+                .is_ok()
+                && scope
+                    .spawn(move || waits_in_turn(rt, list, second, turns, 1))
+                    .is_ok()
+                && scope
+                    .spawn(move || waits_in_turn(rt, list, third, turns, 2))
+                    .is_ok();
+            if !made {
+                turns.taken.store(GIVE_UP, SeqCst);
+                return Err(NoMemory);
+            }
+            turns.taken.store(0, SeqCst);
+            notifies_in_turn(rt, list, fourth, turns);
+            Ok(())
         },
-        move ||
-            requires { (third.list ≡ list.now) × (fourth.list ≡ list.now) }
-        {
-            join(
-                rt,
-                move ||
-                    requires { third.list ≡ list.now }
-                { waits_in_turn(rt, list, third, turns, 2) },
-                move ||
-                    requires { fourth.list ≡ list.now }
-                { notifies_in_turn(rt, list, fourth, turns) },
-            );
-        },
-    );
+    )
 }
 
 #[test]
 fn tickets_are_granted_in_the_order_in_which_they_were_taken(rt: HostRuntime) -> Result<(), Fail> {
-    let (list, mut seats) = new_again(rt.alloc(), 0, 4)?;
-    three_tickets(&rt, &list, &mut seats);
+    let (list, mut seats) = new_again(rt.alloc(), 0, 8)?;
+    if three_tickets(&rt, &list, &mut seats).is_err() {
+        three_tickets(&rt, &list, &mut seats)?;
+    }
     Ok(())
 }
