@@ -31,7 +31,8 @@ none_gathered l items token own alone = record {
 guest_is : (s : Token) (n : ℕ) → IsSeat s n → IsGuestOf (guest_of s.me.0) (seat_of s n)
 guest_is s n is = record { number_is = is.token_is.number_is; free = is.free; holds_none = is.holds_none; seen = refl }
 
-guest_of_seat : (s : Token) (n : ℕ) (seat : SeatModel) (g : Guest) → seat_of s n ≡ seat → IsSeat s n → guest_of s.me.0 ≡ g → IsGuestOf g seat
+guest_of_seat : (s : Token) (n : ℕ) (seat : SeatModel) (g : Guest) → seat_of s n ≡ seat → IsSeat s n → guest_of s.me.0 ≡ g
+    → IsGuestOf g seat
 guest_of_seat s n seat g seen is at = subst (λ (q : Guest × SeatModel). IsGuestOf q.0 q.1) (λ i. (at i, seen i)) (guest_is s n is)
 
 pub one_gathered : (l : ListModel) (items : List SeatModel) (own_guest : Guest) (now rest : List SeatModel) (token after : Token) (seat : SeatModel) (s : Token) (n : ℕ)
@@ -54,15 +55,18 @@ all_gathered l items token seat s n seen is x = record {
 }
 
 -- the first of a row, and the rest
-pub first_and_rest : (items rest : List SeatModel) (first : SeatModel) → 0 < length items → first ≡ slice_index_or items 0 first → rest ≡ remove items 0 → items ≡ first ∷ rest
+pub first_and_rest : (items rest : List SeatModel) (first : SeatModel) → 0 < length items → first ≡ slice_index_or items 0 first
+    → rest ≡ remove items 0 → items ≡ first ∷ rest
 first_and_rest [] rest first any is left = absurd (omega arith)
 first_and_rest (x ∷ items) rest first any is left = λ i. sym is i ∷ sym left i
 
 -- the seat at the end of a row is of the list that all are of
-pub popped_own : (l : ListModel) (items now gone rest : List SeatModel) (seat : SeatModel) → All (λ s. s.list ≡ l) items → items ≡ now ++ gone → now ≡ rest ++ seat ∷ [] → seat.list ≡ l
+pub popped_own : (l : ListModel) (items now gone rest : List SeatModel) (seat : SeatModel) → All (λ s. s.list ≡ l) items
+    → items ≡ now ++ gone → now ≡ rest ++ seat ∷ [] → seat.list ≡ l
 popped_own l items now gone rest seat all parts last =
     subst (λ (s : SeatModel). s.list ≡ l) (get_or-append-add rest (seat ∷ gone) 0 seat)
-    ((subst (All (λ s. s.list ≡ l)) (parts ∙ ap (λ k. k ++ gone) last ∙ append_assoc rest (seat ∷ []) gone) all) (length rest + 0) seat (let n = length-append rest (seat ∷ gone) in omega arith))
+    ((subst (All (λ s. s.list ≡ l)) (parts ∙ ap (λ k. k ++ gone) last
+    ∙ append_assoc rest (seat ∷ []) gone) all) (length rest + 0) seat (let n = length-append rest (seat ∷ gone) in omega arith))
 
 -- what stands at a place of a list
 pub read_at : (l : List ℕ) (i a : ℕ) → get_elem? l i ≡ some a → a ≡ slice_index l i

@@ -64,7 +64,8 @@ absent_from [] k e = tt
 absent_from (g ∷ gs) k e = by (eqb k g.number) refl e (absent_from gs k)
   where
     by : (b : Bool) → eqb k g.number ≡ b → (b || list_any (eqb k) (numbers gs)) ≡ false
-        → (list_any (eqb k) (numbers gs) ≡ false → AllByRecursion (λ y. eqb k y ≡ false) (numbers gs)) → AllByRecursion (λ y. eqb k y ≡ false) (numbers (g ∷ gs))
+        → (list_any (eqb k) (numbers gs) ≡ false → AllByRecursion (λ y. eqb k y ≡ false) (numbers gs))
+        → AllByRecursion (λ y. eqb k y ≡ false) (numbers (g ∷ gs))
     by true is e rest = absurd (cc)
     by false is e rest = (is, rest e)
 
@@ -73,7 +74,8 @@ unfolding IsDistinct
 one_more_distinct gs k apart e = (absent_from gs k e, distinct gs apart)
 
 -- so many seats, all different, are all seats
-each_is_in : (n : ℕ) (gs : List Guest) → AreApart gs → ((g : Guest) → In g gs → g.number < n) → length gs ≡ n → (k : ℕ) → k < n → (g : Guest) × In g gs × (g.number ≡ k)
+each_is_in : (n : ℕ) (gs : List Guest) → AreApart gs → ((g : Guest) → In g gs → g.number < n) → length gs ≡ n → (k : ℕ) → k < n
+    → (g : Guest) × In g gs × (g.number ≡ k)
 each_is_in n gs apart low full k there = by (cases_Bool (list_any (eqb k) (numbers gs)))
   where
     below : (q : ℕ) → list_any (eqb q) (k ∷ numbers gs) ≡ true → q < n
@@ -85,7 +87,8 @@ each_is_in n gs apart low full k there = by (cases_Bool (list_any (eqb k) (numbe
 
     by : (list_any (eqb k) (numbers gs) ≡ true) ⊎ (list_any (eqb k) (numbers gs) ≡ false) → (g : Guest) × In g gs × (g.number ≡ k)
     by (inl e) = found_in gs k e
-    by (inr e) = let most = length-le_from_distinct_below (k ∷ numbers gs) n (one_more_distinct gs k apart e) below in let l = long_numbers gs in absurd (omega arith)
+    by (inr e) = let most = length-le_from_distinct_below (k ∷ numbers gs) n (one_more_distinct gs k apart e) below in
+        let l = long_numbers gs in absurd (omega arith)
 
 long : (gs : List Guest) (ss : List SeatModel) → AreGuestsOf gs ss → length gs ≡ length ss
 long [] [] are = refl
@@ -117,7 +120,8 @@ record Rested (z : Setting) (was : ListWorld) (n : ℕ) : Type 0 where
   pub tickets : (k : ℕ) → (world.seats k).ticket ≡ (was.seats k).ticket
   pub others : (k : ℕ) → n ≤ k → world.seats k ≡ was.seats k
 
-all_rest : (z : Setting) (was : ListWorld) → IsMet z was → ((k : ℕ) → k < z.seats → is_free (was.seats k).place ≡ true) → (n : ℕ) → n ≤ z.seats → Rested z was n
+all_rest : (z : Setting) (was : ListWorld) → IsMet z was → ((k : ℕ) → k < z.seats → is_free (was.seats k).place ≡ true) → (n : ℕ)
+    → n ≤ z.seats → Rested z was n
 all_rest z was met free zero low = record { world = was; met = met; words = refl; journal = refl; rest = λ k h. absurd (omega arith); tickets = λ k. refl; others = λ k h. refl }
 all_rest z was met free (suc n) low =
     let o = all_rest z was met free n (omega arith) in let at = ap (λ (y : ListSeat). is_free y.place) (o.others n (omega arith)) in
@@ -171,7 +175,8 @@ module _ (z : Setting) (s : Kept) (r : IsKept z s) (id : ℕ) (v : View) (someon
   holds_none : (k : ℕ) → k < z.seats → (rested.world.seats k).ticket ≡ None
   holds_none k h = rested.tickets k ∙ (stands k h).1
 
-  has_seen : (t : SeatModel) → In t seats → GoesOn r.world.journal t.sight.seen × (own_entries (watched z) t.number r.world.journal ≡ own_entries (watched z) t.number t.sight.seen)
+  has_seen : (t : SeatModel) → In t seats
+      → GoesOn r.world.journal t.sight.seen × (own_entries (watched z) t.number r.world.journal ≡ own_entries (watched z) t.number t.sight.seen)
   has_seen t e =
       let o = guest_for all seats are t e in let m = (sits o.0 o.1).knows.meets in (
         subst (GoesOn r.world.journal) o.2.seen m.later,

@@ -11,8 +11,10 @@ use Rattle.notify_list.proofs.notify_list.NotifyList.close.Goals as goal
 
 pub returns : goal.returns
 returns c =
-    let l = c.args.self in let made = c.self.invariant in let view = c.self.view_is in let G = c.gather-token.ensures in let token = c.gather-token.result in let F = c.close_with-ended.ensures.values.2 in let s = F.0 in
-    let items = c.args.seats.items in let some = made.some in let seated = made.seated in let seats = ap (λ (y : ListModel). y.setting.seats) view in let count = c.requires.count in
+    let l = c.args.self in let made = c.self.invariant in let view = c.self.view_is in let G = c.gather-token.ensures in
+    let token = c.gather-token.result in let F = c.close_with-ended.ensures.values.2 in let s = F.0 in
+    let items = c.args.seats.items in let some = made.some in let seated = made.seated in
+    let seats = ap (λ (y : ListModel). y.setting.seats) view in let count = c.requires.count in
     let rows = first_and_rest items c.remove-first.new.self.items c.remove-first.result (omega arith) c.remove-first.ensures.value c.remove-first.ensures.items in
     let kept = subst (λ (y : ListModel). IsKept y.setting s) view F.1.0 in
     let words = slots_items c.close_with-ended.result.words in
