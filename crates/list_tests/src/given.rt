@@ -2,7 +2,7 @@
 
 ghost use Rattle.std.specs.Prelude.{◌≡◌, All, IfOk};
 
-use notify_list::{Holding, ListSeat, NotifyList, SetupError, Waited};
+use notify_list::{Holding, ListClosed, ListSeat, NotifyList, SetupError, Waited};
 use std::alloc::Global;
 use std::process::Abort;
 use std::sync::Wait;
@@ -28,6 +28,21 @@ pub(crate) fn last_seat(rt: &impl Abort, list: &NotifyList, seats: &mut Vec<List
     ensures rest { All (λ s. s.list ≡ list.now) seats.new.items }
 {
     seats.pop().expect(rt, "a seat")
+}
+
+/// Gives a seat back to those that it was taken from.
+pub(crate) fn gives_back(
+    rt: &impl Abort,
+    list: &NotifyList,
+    seats: &mut Vec<ListSeat>,
+    seat: ListSeat,
+)
+    requires { (seat.list ≡ list.now) × All (λ s. s.list ≡ list.now) seats.old.items }
+    ensures { All (λ s. s.list ≡ list.now) seats.new.items }
+{
+    seats
+        .push(seat)
+        .expect(rt, "the room of a seat that was there");
 }
 
 /// Takes the next ticket, which is this one.
@@ -67,4 +82,13 @@ pub(crate) fn grants<R: Abort + Wait>(
     ensures { seat.new.list ≡ list.now }
 {
     assert!(rt; list.one(rt, seat) == expected);
+}
+
+/// Ends the list with all its seats, whose two words are this.
+pub(crate) fn ends_at(rt: &impl Abort, list: NotifyList, seats: Vec<ListSeat>, next: u64)
+    requires { All (λ s. s.list ≡ list) seats.items }
+{
+    assert!(rt; seats.len() == list.seats() as usize);
+    let notified = next;
+    assert!(rt; list.close(seats) == ListClosed { next, notified });
 }

@@ -5,7 +5,11 @@
 #![tactic(auto)]
 
 #[cfg(test)]
+mod crew;
+#[cfg(test)]
 mod given;
+#[cfg(test)]
+mod order_tests;
 #[cfg(test)]
 mod thread_tests;
 #[cfg(test)]

@@ -2,7 +2,7 @@
 
 ghost use Rattle.std.specs.Prelude.{◌≡◌, All};
 
-use crate::given::{adds, grants, last_seat, new_again, waits_at_once};
+use crate::given::{adds, ends_at, gives_back, grants, last_seat, new_again, waits_at_once};
 use notify_list::{ListSeat, NotifyList, SetupError};
 use std::alloc::Global;
 use std::process::Abort;
@@ -18,6 +18,7 @@ fn two_tickets<R: Abort + Wait>(
     second: u64,
 )
     requires { All (λ s. s.list ≡ list.now) seats.old.items }
+    ensures { All (λ s. s.list ≡ list.now) seats.new.items }
 {
     let mut third = last_seat(rt, list, seats);
     let holding = last_seat(rt, list, seats);
@@ -27,14 +28,18 @@ fn two_tickets<R: Abort + Wait>(
     grants(rt, list, &mut third, Some(first));
     grants(rt, list, &mut third, Some(second));
     grants(rt, list, &mut third, None);
-    let _ = waits_at_once(rt, list, holding);
-    let _ = waits_at_once(rt, list, other);
+    let holding = waits_at_once(rt, list, holding);
+    let other = waits_at_once(rt, list, other);
+    gives_back(rt, list, seats, holding);
+    gives_back(rt, list, seats, other);
+    gives_back(rt, list, seats, third);
 }
 
 #[test]
 fn a_ticket_wraps(rt: HostRuntime) -> Result<(), Fail> {
     let (list, mut seats) = new_again(rt.alloc(), 18_446_744_073_709_551_615, 3)?;
     two_tickets(&rt, &list, &mut seats, 18_446_744_073_709_551_615, 0);
+    ends_at(&rt, list, seats, 1);
     Ok(())
 }
 
@@ -42,6 +47,14 @@ fn a_ticket_wraps(rt: HostRuntime) -> Result<(), Fail> {
 fn a_ticket_goes_past_32_bits(rt: HostRuntime) -> Result<(), Fail> {
     let (list, mut seats) = new_again(rt.alloc(), 4_294_967_295, 3)?;
     two_tickets(&rt, &list, &mut seats, 4_294_967_295, 4_294_967_296);
+    ends_at(&rt, list, seats, 4_294_967_297);
+    Ok(())
+}
+
+#[test]
+fn an_unused_list_ends_as_it_began(rt: HostRuntime) -> Result<(), Fail> {
+    let (list, seats) = new_again(rt.alloc(), 7, 256)?;
+    ends_at(&rt, list, seats, 7);
     Ok(())
 }
 

@@ -24,3 +24,5 @@ pub mod Wakening
 pub mod Broadcasting
 pub mod Sitting
 pub mod LookingTogether
+pub mod Reckoning
+pub mod Gathering

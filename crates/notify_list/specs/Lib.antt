@@ -18,3 +18,4 @@ pub mod Texts
 pub mod Making
 pub mod List
 pub mod Meeting
+pub mod Closing

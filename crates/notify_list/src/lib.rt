@@ -4,9 +4,9 @@
 //! [`NotifyList::add`] takes the next ticket. [`NotifyList::wait`] waits with it, and comes back once it is granted: at once, where
 //! it was granted before, or after its seat has slept. [`NotifyList::one`] grants the least ticket that isn't granted,
 //! [`NotifyList::all`] grants all that aren't, and [`NotifyList::quiet`] looks whether all are. By [`NotifyList::meet`] two seats come
-//! to have seen one journal. Each atomic step is one row of the step table, in every schedule, and the contract of a call is the rows
-//! that it ran and the entries of the journal that they told; beside it stands what it says of tickets. [`law_of_the_list`] says that
-//! the list is lawful between any two of them.
+//! to have seen one journal, and [`NotifyList::close`] ends the list with all its seats. Each atomic step is one row of the step table,
+//! in every schedule, and the contract of a call is the rows that it ran and the entries of the journal that they told; beside it stands
+//! what it says of tickets. [`law_of_the_list`] says that the list is lawful between any two of them.
 //!
 //! A list has 1 to 256 seats. Its tickets are words of 64 bits that wrap: the first is what the list starts at, and a ticket comes
 //! before another where it is up to 2^63 behind. [`NotifyList::starting_at`] refuses any other number of seats, or answers want of
@@ -14,6 +14,8 @@
 //! it is moved or lent. `one` and `all` may wait for the list's lock, and `wait` for its grant too; all other calls end.
 #![tactic(auto)]
 
+mod closed;
+mod closing;
 mod joins;
 mod laws;
 mod locks;
@@ -32,6 +34,7 @@ mod view;
 mod waited;
 mod waits;
 
+pub use closed::ListClosed;
 pub use laws::law_of_the_list;
 pub use notify_list::NotifyList;
 pub use seat::{Holding, ListSeat};

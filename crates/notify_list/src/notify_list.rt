@@ -47,6 +47,13 @@ pub(crate) fn grant_word(seat: u16) -> usize
 }
 
 impl NotifyList {
+    /// How many seats there are.
+    pub fn seats(&self) -> u32
+        ensures { result ≡ self.now.setting.seats }
+    {
+        self.seats
+    }
+
     /// Where the word lies that tells whether a seat's thread sleeps.
     pub(crate) fn asleep_word(&self, seat: u16) -> usize
         requires { seat < self.now.setting.seats }

@@ -1,0 +1,140 @@
+//! Tickets that are taken in one order and queued in another: they are granted in the order in which they were taken.
+
+ghost use Rattle.std.specs.Prelude.{◌≡◌, All};
+
+use crate::given::{adds, grants, last_seat, new_again};
+use notify_list::{ListSeat, NotifyList};
+use std::process::Abort;
+use std::sync::Wait;
+use std::sync::atomic::AtomicU64;
+use std::sync::atomic::Ordering::SeqCst;
+use std::test::Fail;
+use std::thread;
+use std::thread::Threads;
+use waiters::NoMemory;
+
+/// How often a thread lets the others run once its turn has come, so that who came before it is queued by then.
+const YIELDS: u32 = 1_000;
+
+/// Not all threads are made yet.
+const NOT_YET: u64 = 4;
+/// A thread couldn't be made, so none begins.
+const GIVE_UP: u64 = 5;
+
+/// How many have taken a ticket, how many have gone to wait, and how many have come back.
+#[derive(Drop)]
+struct Turns {
+    taken: AtomicU64,
+    gone: AtomicU64,
+    back: AtomicU64,
+}
+
+/// Returns once the number is this, and a while after it: whether the threads don't give up.
+fn awaits<R: Wait>(rt: &R, number: &AtomicU64, wanted: u64) -> bool {
+    for _ in rt.forever() {
+        let found = number.load(SeqCst);
+        if found == GIVE_UP {
+            return false;
+        }
+        if found == wanted {
+            break;
+        }
+        thread::yield_now();
+    }
+    for _ in 0..YIELDS {
+        thread::yield_now();
+    }
+    true
+}
+
+/// Takes this ticket, of three, after those before it, goes to wait with it after those behind it, and comes back after those before
+/// it.
+fn waits_in_turn<R: Abort + Wait>(
+    rt: &R,
+    list: &NotifyList,
+    seat: ListSeat,
+    turns: &Turns,
+    ticket: u64,
+)
+    requires { seat.list ≡ list.now }
+{
+    if !awaits(rt, &turns.taken, ticket) {
+        return;
+    }
+    let holding = adds(rt, list, seat, ticket);
+    turns.taken.store(ticket.wrapping_add(1), SeqCst);
+    let _ = awaits(rt, &turns.gone, 2_u64.wrapping_sub(ticket));
+    turns.gone.store(3_u64.wrapping_sub(ticket), SeqCst);
+    let _ = list.wait(rt, holding);
+    assert!(rt; turns.back.swap(ticket.wrapping_add(1), SeqCst) == ticket);
+}
+
+/// Grants the three tickets one by one, each once the one before has come back.
+fn notifies_in_turn<R: Abort + Wait>(rt: &R, list: &NotifyList, seat: ListSeat, turns: &Turns)
+    requires { seat.list ≡ list.now }
+{
+    let mut seat = seat;
+    let _ = awaits(rt, &turns.gone, 3);
+    grants(rt, list, &mut seat, Some(0));
+    let _ = awaits(rt, &turns.back, 1);
+    grants(rt, list, &mut seat, Some(1));
+    let _ = awaits(rt, &turns.back, 2);
+    grants(rt, list, &mut seat, Some(2));
+    let _ = awaits(rt, &turns.back, 3);
+    grants(rt, list, &mut seat, None);
+}
+
+/// The tickets 0, 1 and 2 are taken in this order, and queued the other way round.
+fn three_tickets<R: Abort + Threads + Wait + Sync>(
+    rt: &R,
+    list: &NotifyList,
+    seats: &mut Vec<ListSeat>,
+) -> Result<(), NoMemory>
+    requires { All (λ s. s.list ≡ list.now) seats.old.items }
+    ensures { All (λ s. s.list ≡ list.now) seats.new.items }
+{
+    let turns = Turns {
+        taken: AtomicU64::new(NOT_YET),
+        gone: AtomicU64::new(0),
+        back: AtomicU64::new(0),
+    };
+    let turns = &turns;
+    let first = last_seat(rt, list, seats);
+    let second = last_seat(rt, list, seats);
+    let third = last_seat(rt, list, seats);
+    let fourth = last_seat(rt, list, seats);
+    thread::scope(
+        thread::scope_env(),
+        rt,
+        move |scope| -> Result<(), NoMemory>
+            requires one { (first.list ≡ list.now) × (second.list ≡ list.now) }
+            requires other { (third.list ≡ list.now) × (fourth.list ≡ list.now) }
+        {
+            let made = scope
+                .spawn(move || waits_in_turn(rt, list, first, turns, 0))
+                .is_ok()
+                && scope
+                    .spawn(move || waits_in_turn(rt, list, second, turns, 1))
+                    .is_ok()
+                && scope
+                    .spawn(move || waits_in_turn(rt, list, third, turns, 2))
+                    .is_ok();
+            if !made {
+                turns.taken.store(GIVE_UP, SeqCst);
+                return Err(NoMemory);
+            }
+            turns.taken.store(0, SeqCst);
+            notifies_in_turn(rt, list, fourth, turns);
+            Ok(())
+        },
+    )
+}
+
+#[test]
+fn tickets_are_granted_in_the_order_in_which_they_were_taken(rt: HostRuntime) -> Result<(), Fail> {
+    let (list, mut seats) = new_again(rt.alloc(), 0, 8)?;
+    if three_tickets(&rt, &list, &mut seats).is_err() {
+        three_tickets(&rt, &list, &mut seats)?;
+    }
+    Ok(())
+}

@@ -1,0 +1,75 @@
+-- Seats that are gathered into one view, one after the other from the end of a row.
+use Rattle.std.proofs.Common.{◌≡◌, ℕ, ◌+◌, ◌<◌, List, [], ◌∷◌, ◌++◌, length, slice_index, slice_index_or, length-append, zero, suc, sym, refl, ap, ◌∙◌, subst, arith, append-nil, append_assoc}
+use Rattle.std.proofs.lemmas.List.{get_or-append-add}
+use Rattle.std.specs.List.{All, remove}
+use mathlib.Core.Option.{some, some-injective, some-ne-none}
+use lib.ListN.{get_elem?}
+use Rattle.notify_list.specs.declared.view.Guest.{Guest}
+use Rattle.notify_list.specs.Plays.{Me}
+use Rattle.notify_list.specs.Seats.{ListModel, SeatModel, Token, list_of, seat_of, IsSeat}
+use Rattle.notify_list.specs.Meeting.{guest_of, sitting}
+use Rattle.notify_list.specs.Closing.{IsGuestOf, AreGuestsOf, IsGathered}
+
+-- of these seats those behind `now` sit with the token's own seat
+pub record Gathered (l : ListModel) (items : List SeatModel) (own_guest : Guest) (now : List SeatModel) (token : Token) : Type 0 where
+  pub own : list_of token ≡ l
+  pub view : guest_of token.me.0 ≡ own_guest
+  pub gone : List SeatModel
+  pub parts : items ≡ now ++ gone
+  pub are : AreGuestsOf token.me.0.guests gone
+
+pub none_gathered : (l : ListModel) (items : List SeatModel) (token : Token) → list_of token ≡ l → token.me.0.guests ≡ []
+    → Gathered l items (guest_of token.me.0) items token
+none_gathered l items token own alone = record {
+  own = own;
+  view = refl;
+  gone = [];
+  parts = sym (append-nil items);
+  are = subst (λ (gs : List Guest). AreGuestsOf gs []) (sym alone) tt;
+}
+
+guest_is : (s : Token) (n : ℕ) → IsSeat s n → IsGuestOf (guest_of s.me.0) (seat_of s n)
+guest_is s n is = record { number_is = is.token_is.number_is; free = is.free; holds_none = is.holds_none; seen = refl }
+
+guest_of_seat : (s : Token) (n : ℕ) (seat : SeatModel) (g : Guest) → seat_of s n ≡ seat → IsSeat s n → guest_of s.me.0 ≡ g
+    → IsGuestOf g seat
+guest_of_seat s n seat g seen is at = subst (λ (q : Guest × SeatModel). IsGuestOf q.0 q.1) (λ i. (at i, seen i)) (guest_is s n is)
+
+pub one_gathered : (l : ListModel) (items : List SeatModel) (own_guest : Guest) (now rest : List SeatModel) (token after : Token) (seat : SeatModel) (s : Token) (n : ℕ)
+    → Gathered l items own_guest now token → now ≡ rest ++ seat ∷ [] → seat_of s n ≡ seat → IsSeat s n
+    → after.table_id ≡ token.table_id → after.me ≡ (sitting token.me.0 s.me.0, token.me.1)
+    → Gathered l items own_guest rest after
+one_gathered l items own_guest now rest token after seat s n x last seen is same joined = record {
+  own = (λ i. record { id = same i; setting = (joined i).0.setting }) ∙ x.own;
+  view = ap (λ (m : Me). guest_of m.0) joined ∙ x.view;
+  gone = seat ∷ x.gone;
+  parts = x.parts ∙ ap (λ k. k ++ x.gone) last ∙ append_assoc rest (seat ∷ []) x.gone;
+  are = subst (λ (gs : List Guest). AreGuestsOf gs (seat ∷ x.gone)) (sym (ap (λ (m : Me). m.0.guests) joined)) (guest_of_seat s n seat (guest_of s.me.0) seen is refl, x.are);
+}
+
+pub all_gathered : (l : ListModel) (items : List SeatModel) (token : Token) (seat : SeatModel) (s : Token) (n : ℕ)
+    → seat_of s n ≡ seat → IsSeat s n → Gathered l items (guest_of s.me.0) [] token → IsGathered l (seat ∷ items) token
+all_gathered l items token seat s n seen is x = record {
+  own = x.own;
+  all = (guest_of_seat s n seat (guest_of token.me.0) seen is (sym x.view), subst (λ (k : List SeatModel). AreGuestsOf token.me.0.guests k) (sym x.parts) x.are);
+}
+
+-- the first of a row, and the rest
+pub first_and_rest : (items rest : List SeatModel) (first : SeatModel) → 0 < length items → first ≡ slice_index_or items 0 first
+    → rest ≡ remove items 0 → items ≡ first ∷ rest
+first_and_rest [] rest first any is left = absurd (omega arith)
+first_and_rest (x ∷ items) rest first any is left = λ i. sym is i ∷ sym left i
+
+-- the seat at the end of a row is of the list that all are of
+pub popped_own : (l : ListModel) (items now gone rest : List SeatModel) (seat : SeatModel) → All (λ s. s.list ≡ l) items
+    → items ≡ now ++ gone → now ≡ rest ++ seat ∷ [] → seat.list ≡ l
+popped_own l items now gone rest seat all parts last =
+    subst (λ (s : SeatModel). s.list ≡ l) (get_or-append-add rest (seat ∷ gone) 0 seat)
+    ((subst (All (λ s. s.list ≡ l)) (parts ∙ ap (λ k. k ++ gone) last
+    ∙ append_assoc rest (seat ∷ []) gone) all) (length rest + 0) seat (let n = length-append rest (seat ∷ gone) in omega arith))
+
+-- what stands at a place of a list
+pub read_at : (l : List ℕ) (i a : ℕ) → get_elem? l i ≡ some a → a ≡ slice_index l i
+read_at [] i a e = absurd (some-ne-none a (sym e))
+read_at (x ∷ l) zero a e = sym (some-injective x a e)
+read_at (x ∷ l) (suc i) a e = read_at l i a e

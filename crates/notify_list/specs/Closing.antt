@@ -1,0 +1,58 @@
+-- What the end of a list tells.
+use Rattle.std.specs.Prelude.{◌≡◌, ℕ, true, ◌<◌, List, [], ◌∷◌, length, None}
+use Rattle.std.specs.List.{All}
+use Rattle.step_table.specs.Path.{GoesOn, own_entries}
+use Rattle.step_table.specs.Wrapping.{word_of}
+use Rattle.step_table.specs.ListWorld.{ListWorld}
+use Rattle.list_law.specs.ListEntries.{EntriesNamed}
+use Rattle.list_law.specs.ListLawful.{told, IsLawfulList}
+use Rattle.list_law.specs.ListPlaces.{AllRest, NothingLeft}
+use Rattle.notify_list.specs.declared.closed.ListClosed.{ListClosed}
+use Rattle.notify_list.specs.declared.view.Setting.{Setting}
+use Rattle.notify_list.specs.declared.view.Guest.{Guest}
+use Rattle.notify_list.specs.Places.{is_free}
+use Rattle.notify_list.specs.Rule.{In, IsMet, watched}
+use Rattle.notify_list.specs.Seats.{ListModel, SeatModel, Token, list_of}
+use Rattle.notify_list.specs.Meeting.{guest_of}
+
+-- the guest is that of this seat, which may begin a call and holds no ticket
+pub record IsGuestOf (g : Guest) (s : SeatModel) : Type 0 where
+  pub number_is : g.number ≡ s.number
+  pub free : is_free g.sight.stands.place ≡ true
+  pub holds_none : g.sight.stands.ticket ≡ None
+  pub seen : g.sight.seen ≡ s.sight.seen
+
+-- the guests are those of these seats, in their order
+abbrev pub AreGuestsOf : List Guest → List SeatModel → Type 0
+AreGuestsOf [] [] = Unit {0}
+AreGuestsOf (g ∷ gs) (s ∷ ss) = IsGuestOf g s × AreGuestsOf gs ss
+AreGuestsOf _ _ = ⊥
+
+-- a token of this list has these seats in its view
+pub record IsGathered (l : ListModel) (seats : List SeatModel) (token : Token) : Type 0 where
+  pub own : list_of token ≡ l
+  pub all : AreGuestsOf (guest_of token.me.0 ∷ token.me.0.guests) seats
+
+-- these are all seats of the list: each is one of its seats, and they are as many. None can come twice, since none can be copied
+pub record AreAll (l : ListModel) (seats : List SeatModel) : Type 0 where
+  pub own : All (λ s. s.list ≡ l) seats
+  pub count : length seats ≡ l.setting.seats
+
+-- there is one journal, in a lawful world in which all rest and nobody holds a ticket or waits. Each seat of the list is one of
+-- these, and has seen a beginning of the journal with all entries of its own: so the journal has no entry but theirs. Every ticket
+-- that it tells was handed out was granted, and the two words are those of how many these are
+pub record IsClosed (z : Setting) (seats : List SeatModel) (c : ListClosed) : Type 0 where
+  pub world : ListWorld
+  pub met : IsMet z world
+  pub lawful : IsLawfulList z.first z.seats world
+  pub rest : AllRest z.seats world
+  pub holds_none : (k : ℕ) → k < z.seats → (world.seats k).ticket ≡ None
+  pub cleared : NothingLeft z.seats world
+  pub named : EntriesNamed z.seats world
+  pub each : (k : ℕ) → k < z.seats → (s : SeatModel) × In s seats × (s.number ≡ k)
+  pub begins : (s : SeatModel) → In s seats → GoesOn world.journal s.sight.seen
+  pub own : (s : SeatModel) → In s seats
+      → own_entries (watched z) s.number world.journal ≡ own_entries (watched z) s.number s.sight.seen
+  pub granted : (told world.journal).granted ≡ (told world.journal).handed
+  pub next : c.next ≡ word_of z.first (told world.journal).handed
+  pub notified : c.notified ≡ word_of z.first (told world.journal).granted

@@ -1,0 +1,50 @@
+//! A list is closed with all its seats.
+ghost use Rattle.std.specs.Prelude.{◌≡◌, ◌∷◌, All};
+ghost use Rattle.notify_list.specs.Closing.{AreAll, IsClosed, IsGathered};
+
+use crate::closed::ListClosed;
+use crate::joins::{Forgets, Sits};
+use crate::notify_list::{NOTIFY, NotifyList, RECORD, WAIT};
+use crate::plays::Token;
+use crate::seat::ListSeat;
+
+impl NotifyList {
+    /// One view of all these seats.
+    fn gather(&self, first: ListSeat, seats: &mut Vec<ListSeat>) -> Token
+        requires { (first.list ≡ self.now) × All (λ s. s.list ≡ self.now) seats.old.items }
+        ensures { IsGathered self.now (first ∷ seats.old.items) result }
+    {
+        let ListSeat {
+            mut token,
+            number: _,
+        } = first;
+        self.table.shared.split_seat::<Forgets>(&mut token);
+        while let Some(seat) = seats.pop() {
+            let ListSeat {
+                token: theirs,
+                number: _,
+            } = seat;
+            self.table.shared.join_seat::<Sits>(&mut token, theirs);
+        }
+        token
+    }
+
+    /// Ends the list, for which it asks for all seats: every ticket that was handed out is granted, and nobody waits.
+    pub fn close(self, seats: Vec<ListSeat>) -> ListClosed
+        requires { AreAll self seats.items }
+        ensures { IsClosed self.setting seats.items result }
+    {
+        let mut seats = seats;
+        let first = seats.remove(0);
+        let token = self.gather(first, &mut seats);
+        let NotifyList { table, .. } = self;
+        let mut ended = table.close_with(token);
+        let closed = ListClosed {
+            next: ended.word(WAIT),
+            notified: ended.word(NOTIFY),
+        };
+        drop(ended.take(RECORD));
+        ended.free();
+        closed
+    }
+}
