@@ -22,7 +22,7 @@ const MAX_COUNTERS: usize = 65_536;
 /// The most seats.
 const MAX_SEATS: u32 = 256;
 /// The most roots.
-const MAX_ROOTS: u32 = 251;
+pub(crate) const MAX_ROOTS: u32 = 251;
 /// The most units that each seat may add.
 const MAX_RELEASE_LIMIT: u64 = 1 << 40;
 

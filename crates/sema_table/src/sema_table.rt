@@ -3,6 +3,7 @@ ghost use Rattle.std.specs.Prelude.{◌≡◌, ◌<◌, length};
 ghost use Rattle.step_table.specs.declared.word.Word.TheVariants.{Lock, Waiters, Grant};
 ghost use Rattle.sema_table.specs.Setting.{root, address, asleep_address};
 
+use crate::make::MAX_ROOTS;
 use crate::plays::OneWorld;
 use crate::settings::Settings;
 use crate::view::{Record, View};
@@ -49,7 +50,8 @@ impl SemaTable {
         self.seats
     }
 
-    /// The root of a counter. A number below that of the roots is its own, and isn't divided: that takes as long as a step.
+    /// The root of a counter. A number below that of the roots is its own, and isn't divided: that takes as long as a step. By the
+    /// most roots, which are as many as Go has, the compiler divides with a product and a shift.
     #[inline]
     pub(crate) fn root_of(&self, counter: CounterId) -> usize
         ensures { result ≡ root self.now.setting counter }
@@ -57,6 +59,9 @@ impl SemaTable {
         let number = counter.number();
         if number < self.roots {
             return number as usize;
+        }
+        if self.roots == MAX_ROOTS {
+            return (number % MAX_ROOTS) as usize;
         }
         (number % self.roots) as usize
     }

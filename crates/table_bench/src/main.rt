@@ -26,13 +26,7 @@ use std::env;
 use std::num::NonZeroU32;
 use std::sync::Wait;
 use std::time::{Clock, Instant};
-
-/// Tells what each of so many operations cost since the start.
-fn tell(rt: &(impl Clock + Print), case: &str, start: &Instant, operations: u64) -> Result<()> {
-    let tenths = start.elapsed(rt)?.as_nanos() / u128::from(operations / 10 + 1);
-    println!(rt; "{case} ns/op={}.{}", tenths / 10, tenths % 10)?;
-    Ok(())
-}
+use table_crew::tell;
 
 /// The least that a pair or a cycle costs.
 fn time_words(

@@ -1,12 +1,11 @@
 //! Threads at work, one for each seat of a table.
-use crate::tell;
 use anyhow::{Result, bail};
 use sema_table::{Closed, SemaTable, Settings};
 use std::alloc::Global;
 use std::sync::Wait;
 use std::thread::Threads;
 use std::time::{Clock, Instant};
-use table_crew::{Way, Work, run};
+use table_crew::{Way, Work, run, tell};
 
 /// What is timed: so many seats, each of which does so many turns of a work.
 #[derive(Clone, Copy, Drop)]

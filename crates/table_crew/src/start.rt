@@ -13,25 +13,26 @@ const GIVE_UP: u64 = 2;
 
 /// Threads begin together, once all are made: one that waits for another that isn't there would wait for good.
 #[derive(Drop)]
-pub(crate) struct Start {
+pub struct Start {
     told: AtomicU64,
 }
 
 impl Start {
-    pub(crate) fn new() -> Start {
+    /// Nobody begins yet.
+    pub fn new() -> Start {
         Start {
             told: AtomicU64::new(NOT_YET),
         }
     }
 
     /// Lets the threads begin, or go home.
-    pub(crate) fn tell(&self, begin: bool) {
+    pub fn tell(&self, begin: bool) {
         let told = if begin { BEGIN } else { GIVE_UP };
         self.told.store(told, Ordering::SeqCst);
     }
 
     /// Whether to begin.
-    pub(crate) fn wait<R: Wait>(&self, rt: &R) -> bool {
+    pub fn wait<R: Wait>(&self, rt: &R) -> bool {
         for _ in rt.forever() {
             match self.told.load(Ordering::SeqCst) {
                 NOT_YET => thread::yield_now(),
