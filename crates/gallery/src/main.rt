@@ -1,4 +1,4 @@
-//! The gallery: each scenario of `docs/scenarios` goes through the program, with the words that stand beside it, and what
+//! The gallery: each scenario of `crates/gallery/data` goes through the program, with the words that stand beside it, and what
 //! the program answers is compared with what stands there.
 //!
 //! `NAME.txt` is a scenario. In `NAME.answers` a line that begins with `$ parklot ` has the words, and the lines after it
