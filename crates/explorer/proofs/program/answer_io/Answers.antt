@@ -16,3 +16,6 @@ returns-in-Replay-clause-begun g c = λ e. rw c.in-Replay.is (c.replay_io.ensure
 pub returns-in-NoMemory-clause-begun : goal.returns-in-NoMemory-clause-begun
 returns-in-NoMemory-clause-begun g c = λ e.
     rw c.in-NoMemory.is (no_memory, Refused, (refl, refl), on_err _ _ _ e c.refuse_io.ensures.begun)
+
+pub returns-in-Explore-clause-whole : goal.returns-in-Explore-clause-whole
+returns-in-Explore-clause-whole g c = rw c.in-Explore.is c.explore_by_io.ensures.whole
