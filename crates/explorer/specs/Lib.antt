@@ -1,4 +1,5 @@
 pub mod Answer
+pub mod Asked
 pub mod Once
 pub mod OnceText
 pub mod Threads

@@ -1,11 +1,10 @@
--- What the refusals of `run_threads` print, and what `threads` writes before it answers with its exit.
-use Rattle.std.specs.Prelude.{ℕ, List, Option, ◌*◌, ◌++◌, codes}
+-- What the refusals of `run_threads` print, and what `threads` answers.
+use Rattle.std.specs.Prelude.{◌≡◌, ◌⊎◌, ℕ, List, ◌*◌, ◌++◌, codes}
 use Rattle.std.specs.Fmt.{decimal}
-use Rattle.std.specs.Io.KnownBytes.{Appends}
 use Rattle.scenario_search.specs.declared.exit.Exit.{Exit}
-use Rattle.scenario_search.specs.declared.exit.Exit.TheVariants.{NothingBad, Refused}
+use Rattle.scenario_search.specs.declared.exit.Exit.TheVariants.{NothingBad}
 use Rattle.scenario_search.specs.Line.{line}
-use Rattle.scenario_search.specs.Output.{no_memory}
+use Rattle.scenario_search.specs.Told.{WantsMemory}
 use Rattle.explorer.specs.declared.threads.ThreadsRefused.{ThreadsRefused}
 use Rattle.explorer.specs.declared.threads.ThreadsRefused.TheVariants.{OutOfLimits, NoMemory}
 
@@ -19,10 +18,8 @@ threads_lines releases acquires value =
     line (codes "releases " ++ decimal releases) ++ line (codes "acquires " ++ decimal acquires)
     ++ line (codes "value " ++ decimal value)
 
--- `threads` wrote the lines of a run in which each worker released and acquired once a round, and found nothing bad; or it
--- wrote the refusal alone, and refused
-abbrev pub ThreadsWrites : ℕ → ℕ → Option (List ℕ) → Option (List ℕ) → Exit → Type 0
-ThreadsWrites workers rounds old new NothingBad =
-    Appends old new (threads_lines (workers * rounds) (workers * rounds) 0)
-ThreadsWrites workers rounds old new Refused = Appends old new no_memory
-ThreadsWrites workers rounds old new _ = ⊥
+-- the text and the exit are an answer of `threads`: the lines of a run in which each worker released and acquired once a round,
+-- and nothing bad, or that memory was short
+abbrev pub IsThreadsAnswer : ℕ → ℕ → List ℕ → Exit → Type 0
+IsThreadsAnswer workers rounds text exit =
+    ((text ≡ threads_lines (workers * rounds) (workers * rounds) 0) × (exit ≡ NothingBad)) ⊎ WantsMemory text exit

@@ -1,18 +1,19 @@
 //! The command `threads`: what was counted.
 
-ghost use Rattle.std.specs.Prelude.{◌≡◌, ◌↔◌, ◌<◌, false, length, slice_index, IsTrue, IfOk, IfErr, IsErr, Some};
+ghost use Rattle.std.specs.Prelude.{◌≡◌, ◌↔◌, ◌<◌, false, length, slice_index, IsTrue, IfOk, IfErr, OnErr, IsErr, Some, string_bytes};
+ghost use Rattle.scenario_search.specs.Told.{TellsAll, TellsBeginning};
 ghost use Rattle.explorer.specs.Threads.{AreWithin};
-ghost use Rattle.explorer.specs.ThreadsText.{threads_lines, ThreadsWrites};
+ghost use Rattle.explorer.specs.ThreadsText.{threads_lines, IsThreadsAnswer};
 
 use crate::gate::Open;
 use crate::threads::run_threads;
-use scenario_search::{Exit, IoFault, Sink, refuse_io, write_all};
+use scenario_search::{Answer, Exit, IoFault, Sink, tell};
 use sema_table::Closed;
 use std::alloc::Global;
 use std::fmt;
 use std::sync::Wait;
 use std::thread::Threads;
-use waiters::CounterId;
+use waiters::{CounterId, NoMemory};
 
 /// What a table has counted that was closed.
 #[derive(Clone, Copy, Debug, Drop)]
@@ -54,6 +55,28 @@ fn count(closed: &Closed) -> Counted
     }
 }
 
+/// What `threads` answers: the lines of what was closed, and that nothing bad was found.
+///
+/// It is an `Err` where memory is short or a thread can't be made.
+fn threads_answer<R: Threads + Wait + Sync>(
+    rt: &R,
+    alloc: Global,
+    workers: u32,
+    rounds: u32,
+) -> Result<Answer, NoMemory>
+    requires { AreWithin workers rounds }
+    ensures { IfOk result (λ answer. IsThreadsAnswer workers rounds (string_bytes answer.text) answer.exit) }
+{
+    let Ok(closed) = run_threads(rt, alloc, workers, rounds, &Open) else {
+        return Err(NoMemory);
+    };
+    let counted = count(&closed);
+    Ok(Answer {
+        text: format!(in alloc; "{counted}")?,
+        exit: Exit::NothingBad,
+    })
+}
+
 /// Runs `parklot threads`: writes the lines of what was closed, or the refusal alone where memory was short or a thread couldn't
 /// be made.
 ///
@@ -67,17 +90,10 @@ pub fn threads_io<R: Threads + Wait + Sync, S: Sink>(
 ) -> Result<Exit, IoFault>
     requires limits { AreWithin workers rounds }
     requires writable { S.has_failed out.old ≡ false }
-    ensures whole { IfOk result (ThreadsWrites workers rounds (S.contents out.old) (S.contents out.new)) }
+    ensures whole { IfOk result (TellsAll (IsThreadsAnswer workers rounds) (S.contents out.old) (S.contents out.new)) }
+    ensures begun { OnErr result (TellsBeginning (IsThreadsAnswer workers rounds) (S.contents out.old) (S.contents out.new)) }
     ensures failed { IsErr result ↔ IsTrue (S.has_failed out.new) }
     ensures fault { IfErr result (λ e. e ≡ IoFault.Write) }
 {
-    let Ok(closed) = run_threads(rt, alloc, workers, rounds, &Open) else {
-        return refuse_io(out);
-    };
-    let counted = count(&closed);
-    let Ok(text) = format!(in alloc; "{counted}") else {
-        return refuse_io(out);
-    };
-    write_all(out, text.as_bytes())?;
-    Ok(Exit::NothingBad)
+    tell(threads_answer(rt, alloc, workers, rounds), out)
 }

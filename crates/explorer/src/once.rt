@@ -1,11 +1,12 @@
 //! One acquire that sleeps and one release that wakes it, by the calls of the running table.
 
-ghost use Rattle.std.specs.Prelude.{◌≡◌, ◌<◌, length, ◌↔◌, false, IsTrue, IfOk, IfErr, IfSome, IsErr, string_bytes};
+ghost use Rattle.std.specs.Prelude.{◌≡◌, ◌<◌, length, ◌↔◌, false, IsTrue, IfOk, IfErr, OnErr, IfSome, IsErr, string_bytes};
+ghost use Rattle.scenario_search.specs.Told.{TellsAll, TellsBeginning};
 ghost use Rattle.explorer.specs.Once.{AreOnceSettings, IsOnceTable, IsOnceRun, IsReleased, IsGranted, IsAwakened};
-ghost use Rattle.explorer.specs.OnceText.{IsOnceText, OnceWrites};
+ghost use Rattle.explorer.specs.OnceText.{IsOnceText, IsOnceAnswer};
 
 use crate::answer::{OnceAnswers, Released, Retried};
-use scenario_search::{Exit, IoFault, Sink, refuse_io, write_all};
+use scenario_search::{Answer, Exit, IoFault, Sink, tell};
 use sema_table::{
     Entered, Polled, Posted, Seat, SemaTable, Settings, SetupError, Sleeping, Tried, Woken,
 };
@@ -137,20 +138,27 @@ pub fn once_text<R: Wait>(rt: &R, alloc: Global) -> Result<String, NoMemory>
     Ok(format!(in alloc; "{answers}")?)
 }
 
+/// What `once` answers: its lines, and that nothing bad was found.
+///
+/// It is an `Err` where memory is short.
+fn once_answer<R: Wait>(rt: &R, alloc: Global) -> Result<Answer, NoMemory>
+    ensures { IfOk result (λ answer. IsOnceAnswer (string_bytes answer.text) answer.exit) }
+{
+    Ok(Answer {
+        text: once_text(rt, alloc)?,
+        exit: Exit::NothingBad,
+    })
+}
+
 /// Runs `parklot once`: writes its lines, or the refusal alone where memory is short.
 ///
 /// It is an `Err` where a write fails. The text is whole before the first write.
 pub fn once_io<R: Wait, S: Sink>(rt: &R, alloc: Global, out: &mut S) -> Result<Exit, IoFault>
     requires { S.has_failed out.old ≡ false }
-    ensures whole { IfOk result (OnceWrites (S.contents out.old) (S.contents out.new)) }
+    ensures whole { IfOk result (TellsAll IsOnceAnswer (S.contents out.old) (S.contents out.new)) }
+    ensures begun { OnErr result (TellsBeginning IsOnceAnswer (S.contents out.old) (S.contents out.new)) }
     ensures failed { IsErr result ↔ IsTrue (S.has_failed out.new) }
     ensures fault { IfErr result (λ e. e ≡ IoFault.Write) }
 {
-    match once_text(rt, alloc) {
-        Ok(text) => {
-            write_all(out, text.as_bytes())?;
-            Ok(Exit::NothingBad)
-        }
-        Err(NoMemory) => refuse_io(out),
-    }
+    tell(once_answer(rt, alloc), out)
 }

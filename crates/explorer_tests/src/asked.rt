@@ -1,7 +1,7 @@
 //! The program over memory. It is asked once more where memory was refused.
 
 use crate::devices::{Calls, Giving, SOUND, Taking};
-use explorer::{Flagged, NO_MEMORY, parklot_io};
+use explorer::{Flagged, NO_MEMORY, parklot_io, read_words};
 use std::alloc::Global;
 use std::process::Abort;
 use std::sync::Wait;
@@ -33,7 +33,8 @@ pub(crate) fn ask(
     let mut reader = Flagged::new(Giving::new(input, devices.input));
     let mut out = Flagged::new(Taking::new(alloc, devices.out));
     let mut err = Flagged::new(Taking::new(alloc, devices.err));
-    let status = parklot_io(rt, alloc, words, &mut reader, &mut out, &mut err);
+    let asked = read_words(alloc, words);
+    let status = parklot_io(rt, alloc, &asked, &mut reader, &mut out, &mut err);
     (
         out.into_inner().into_taken(),
         err.into_inner().into_taken(),

@@ -1,13 +1,14 @@
 //! The program over its words, and the command `once`.
 
 use crate::asked::{ALL_SOUND, Told, answers, is_a_mistake, tells, tells_over};
-use crate::devices::{SOUND, Taking};
-use explorer::{Flagged, NO_MEMORY, no_words_io, once_text};
+use crate::devices::{Giving, SOUND, Taking};
+use explorer::{Flagged, NO_MEMORY, no_words, once_text, parklot_io};
 use std::alloc::Global;
 use std::io::{self, ErrorKind};
 use std::process::Abort;
 use std::sync::Wait;
 use std::test::Fail;
+use std::thread::Threads;
 use step_core::NoMemory;
 
 /// The five lines, as they were worked out by hand from the rows of the table.
@@ -173,10 +174,18 @@ fn other_words_are_mistakes(rt: HostRuntime) {
 }
 
 /// What goes to the two streams where the words couldn't be read for this reason.
-fn without_words(rt: &impl Abort, alloc: Global, kind: ErrorKind, told: &str, told_beside: &str) {
+fn without_words(
+    rt: &(impl Abort + Threads + Wait + Sync),
+    alloc: Global,
+    kind: ErrorKind,
+    told: &str,
+    told_beside: &str,
+) {
+    let mut reader = Flagged::new(Giving::new(b"", SOUND));
     let mut out = Flagged::new(Taking::new(alloc, SOUND));
     let mut err = Flagged::new(Taking::new(alloc, SOUND));
-    let status = no_words_io(&io::Error::from(kind), &mut out, &mut err);
+    let asked = no_words(&io::Error::from(kind));
+    let status = parklot_io(rt, alloc, &asked, &mut reader, &mut out, &mut err);
     assert!(rt; status == 2);
     assert!(rt; out.into_inner().into_taken().as_slice() == told.as_bytes());
     assert!(rt; err.into_inner().into_taken().as_slice() == told_beside.as_bytes());

@@ -6,7 +6,7 @@
 #![tactic(auto)]
 
 use anyhow::Result;
-use explorer::{Flagged, parklot_io};
+use explorer::{Flagged, parklot_io, read_words};
 use std::alloc::{AllocError, Global};
 use std::fs;
 use std::sync::Wait;
@@ -60,7 +60,8 @@ fn answer<R: Threads + Wait + Sync>(
     let mut input = Flagged::new(scenario.as_bytes());
     let mut out = Flagged::new(Vec::new(alloc));
     let mut err = Flagged::new(Vec::new(alloc));
-    let status = parklot_io(rt, alloc, words.as_slice(), &mut input, &mut out, &mut err);
+    let asked = read_words(alloc, words.as_slice());
+    let status = parklot_io(rt, alloc, &asked, &mut input, &mut out, &mut err);
     let text = String::from_utf8(out.into_inner())?;
     Ok(format!(in alloc; "{PROMPT}{command}\n{text}exit {status}\n")?)
 }

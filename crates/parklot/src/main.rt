@@ -1,7 +1,7 @@
 //! The program: its words and streams, over the commands of `explorer`.
 #![tactic(auto)]
 
-use explorer::{Flagged, no_words_io, parklot_io};
+use explorer::{Flagged, no_words, parklot_io, read_words};
 use std::process::ExitCode;
 use std::{env, io};
 
@@ -15,7 +15,13 @@ fn main(rt: HostRuntime) -> ExitCode {
         .collect(alloc)
         .map_err(io::Error::from));
     ExitCode::from(match words {
-        Ok(words) => parklot_io(&rt, alloc, words.as_slice(), &mut input, &mut out, &mut err),
-        Err(error) => no_words_io(&error, &mut out, &mut err),
+        Ok(words) => {
+            let asked = read_words(alloc, words.as_slice());
+            parklot_io(&rt, alloc, &asked, &mut input, &mut out, &mut err)
+        }
+        Err(error) => {
+            let asked = no_words(&error);
+            parklot_io(&rt, alloc, &asked, &mut input, &mut out, &mut err)
+        }
     })
 }
