@@ -52,9 +52,7 @@ fn tell_search(rt: &(impl Clock + Print), alloc: Global, name: &str, text: &str)
 fn main(rt: HostRuntime) -> Result<()> {
     let mut words = env::args(&rt)?.skip(1);
     let Some(case) = words.next() else {
-        println!(rt;
-            "usage: bench treap|sorted COUNTERS.. or bench explore NAMES.."
-        )?;
+        println!(rt; "usage: bench treap|sorted COUNTERS.. or bench explore NAMES..")?;
         return Ok(());
     };
     for word in words {

@@ -24,10 +24,10 @@ pub use core_law::{law_of_the_core, law_of_the_runs};
 pub use laws::law_of_the_keys;
 pub use list_law::{law_of_the_list_accounts, law_of_the_lists};
 pub use moment::Moment;
+pub use row_outcomes::Outcome;
 pub use scenario::Scenario;
 pub use schedule::run;
 pub use sema_law::{law_of_the_accounts, law_of_the_rows};
-pub use row_outcomes::Outcome;
 pub use step_rows::Caller;
 pub use step_table::{
     Acquire, AcquireRow, After, AllRow, Call, Effect, Entry, GroupId, GroupNext, GroupRow,
