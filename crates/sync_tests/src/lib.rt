@@ -5,6 +5,10 @@
 #![tactic(auto)]
 
 #[cfg(test)]
+mod actor;
+#[cfg(test)]
+mod cast;
+#[cfg(test)]
 mod cond_tests;
 #[cfg(test)]
 mod group_barrier_tests;
@@ -22,3 +26,9 @@ mod group_tests;
 mod group_thread_tests;
 #[cfg(test)]
 mod locker_tests;
+#[cfg(test)]
+mod play;
+#[cfg(test)]
+mod sleepers;
+#[cfg(test)]
+mod wakers;

@@ -165,3 +165,20 @@ fn four_threads_lose_nobody(rt: HostRuntime) -> Result<(), Fail> {
     ends_at(&rt, &closed, 2, 1);
     Ok(())
 }
+
+#[test]
+fn ten_threads_lock_one_counter(rt: HostRuntime) -> Result<(), Fail> {
+    let plan = Plan {
+        sizes: Sizes {
+            release_limit: 1_000,
+            ..one_counter(1, 10)
+        },
+        units: 0,
+        work: Work::Locks,
+        turns: 1_000,
+    };
+    let closed = works_again(&rt, rt.alloc(), &plan)?;
+    adds_up(&rt, &closed, 10_000, 10_000);
+    ends_at(&rt, &closed, 0, 1);
+    Ok(())
+}

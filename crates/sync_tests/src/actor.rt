@@ -1,0 +1,151 @@
+//! One who waits on a condition variable, or wakes those who wait.
+
+ghost use Rattle.std.specs.Prelude.{◌≡◌, ◌<◌, length};
+
+use sema_table::{Seat, SemaTable};
+use std::process::Abort;
+use std::sync::Wait;
+use std::sync::atomic::AtomicU64;
+use std::sync::atomic::Ordering::SeqCst;
+use std::thread;
+use sync_parts::{Cond, ListSeat, SemaLock};
+use waiters::CounterId;
+
+/// How often each may unlock.
+pub(crate) const RELEASE_LIMIT: u64 = 1_000;
+
+/// How far all have come.
+#[derive(Drop)]
+pub(crate) struct Marks {
+    /// How often somebody has begun to wait.
+    pub(crate) came: AtomicU64,
+    /// How often somebody has come back.
+    pub(crate) woke: AtomicU64,
+    /// Whether the one has come back who is to be woken in any case.
+    pub(crate) first: AtomicU64,
+    /// What the one who wakes has told the others.
+    pub(crate) told: AtomicU64,
+    /// How often those who have left had locked.
+    pub(crate) locked: AtomicU64,
+    /// How often they had unlocked.
+    pub(crate) unlocked: AtomicU64,
+}
+
+impl Marks {
+    pub(crate) fn new() -> Marks {
+        Marks {
+            came: AtomicU64::new(0),
+            woke: AtomicU64::new(0),
+            first: AtomicU64::new(0),
+            told: AtomicU64::new(0),
+            locked: AtomicU64::new(0),
+            unlocked: AtomicU64::new(0),
+        }
+    }
+}
+
+/// A lock, and a seat of the condition variable.
+#[derive(Drop)]
+pub(crate) struct Actor<'t> {
+    table: &'t SemaTable,
+    cond: &'t Cond,
+    pub(crate) marks: &'t Marks,
+    lock: SemaLock<'t>,
+    own: ListSeat,
+    ghost ties: { (lock.seat.table ≡ table.now) × (own.list ≡ cond.now) },
+}
+
+/// Until the mark is at least this.
+pub(crate) fn reaches<R: Wait>(rt: &R, mark: &AtomicU64, least: u64) {
+    for _ in rt.forever() {
+        if mark.load(SeqCst) >= least {
+            return;
+        }
+        thread::yield_now();
+    }
+    unreachable!()
+}
+
+impl<'t> Actor<'t> {
+    /// One who hasn't locked.
+    pub(crate) fn new(
+        table: &'t SemaTable,
+        cond: &'t Cond,
+        marks: &'t Marks,
+        seat: Seat,
+        own: ListSeat,
+    ) -> Actor<'t>
+        requires table { (seat.table ≡ table.now) × (0 < length table.now.setting.starts) }
+        requires cond { own.list ≡ cond.now }
+    {
+        let lock = SemaLock::over(table, seat, CounterId::new(0));
+        Actor {
+            table,
+            cond,
+            marks,
+            lock,
+            own,
+        }
+    }
+
+    pub(crate) fn locks<R: Abort + Wait>(self, rt: &R) -> Actor<'t> {
+        let mut actor = self;
+        assert!(rt; !actor.lock.held());
+        actor.lock.acquire(rt);
+        actor
+    }
+
+    pub(crate) fn unlocks<R: Abort + Wait>(self, rt: &R) -> Actor<'t> {
+        let mut actor = self;
+        assert!(rt; actor.lock.held() && actor.lock.left() > 0);
+        actor.lock.release(rt);
+        actor
+    }
+
+    /// Waits once under the lock, and counts itself before and after it.
+    pub(crate) fn waits<R: Abort + Wait>(self, rt: &R) -> Actor<'t> {
+        let Actor {
+            table,
+            cond,
+            marks,
+            mut lock,
+            own,
+        } = self;
+        assert!(rt; lock.held() && lock.left() > 0);
+        marks.came.fetch_add(1, SeqCst);
+        let (own, _) = cond.wait(rt, own, &mut lock);
+        marks.woke.fetch_add(1, SeqCst);
+        Actor {
+            table,
+            cond,
+            marks,
+            lock,
+            own,
+        }
+    }
+
+    /// Signals: this ticket is granted.
+    pub(crate) fn signals<R: Abort + Wait>(self, rt: &R, expected: Option<u64>) -> Actor<'t> {
+        let mut actor = self;
+        assert!(rt; actor.cond.signal(rt, &mut actor.own) == expected);
+        actor
+    }
+
+    /// Broadcasts: how many tickets were granted.
+    pub(crate) fn broadcasts<R: Wait>(self, rt: &R) -> (Actor<'t>, u32) {
+        let mut actor = self;
+        let granted = actor.cond.broadcast(rt, &mut actor.own);
+        (actor, granted)
+    }
+
+    /// Adds up how often it has locked and unlocked, and isn't there any more.
+    pub(crate) fn leaves(self, rt: &impl Abort) {
+        let Actor { marks, lock, .. } = self;
+        assert!(rt; !lock.held());
+        let seat = lock.into_seat();
+        marks.locked.fetch_add(seat.taken(), SeqCst);
+        marks
+            .unlocked
+            .fetch_add(RELEASE_LIMIT.wrapping_sub(seat.left()), SeqCst);
+    }
+}
