@@ -9,14 +9,14 @@ use Rattle.step_table.specs.declared.list_place.ListPlace.TheVariants.{Notifying
 use Rattle.step_table.specs.declared.list_place.OneRow.TheVariants.{O5, O7}
 use Rattle.step_table.specs.World.{put}
 use Rattle.step_table.specs.Counting.{total}
-use Rattle.step_table.specs.Wrapping.{word_of, next_word}
+use Rattle.ticket_words.specs.Wrapping.{word_of, next_word}
 use Rattle.step_table.specs.ListWorld.{ListWords, ListSeat, ListWorld, first_list}
 use Rattle.step_table.specs.ListSteps.{ListStep, Leads, none, more, IsListReached, moved}
 use Rattle.list_law.specs.ListLawful.{times, holds, IsGrantOf}
 use Rattle.list_law.specs.ListInvariant.{WordsTell, HandFits, TicketFits, awaits}
 use Rattle.list_law.specs.ListWellFormed.{StillReads, IsWellFormedListSeat, IsWellFormedList}
 use Rattle.step_table.proofs.Sums.{put_at, total_same, nothing}
-use Rattle.list_law.proofs.Wrapping.{word_next}
+use Rattle.ticket_words.proofs.Wrapping.{word_next}
 use Rattle.list_law.proofs.ListRows.{Row, begin_add, begin_wait, n1, w3, woken, o4, o5_else, o7, o8_some, l4, l5, l6_same, l6_else, l7_some, Post, o9, l8_last, l8_more, Step, own, post}
 use Rattle.list_law.proofs.ListCases.{step_of}
 use Rattle.list_law.proofs.ListLocks.{lock_kept, sole_holder}

@@ -21,7 +21,7 @@ use Rattle.step_table.specs.declared.standing.Standing.TheVariants.{Rest, AtCoun
 use Rattle.step_table.specs.World.{journal_after}
 use Rattle.step_table.specs.Steps.{event_of, finds}
 use Rattle.step_table.specs.Event.{Next}
-use Rattle.step_table.specs.Wrapping.{word_of}
+use Rattle.ticket_words.specs.Wrapping.{word_of}
 use Rattle.step_table.specs.ListWorld.{ListWorld, found}
 use Rattle.step_table.specs.ListEvent.{ListEvent}
 use Rattle.step_table.specs.ListTable.{list_event_at}

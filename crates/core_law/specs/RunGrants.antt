@@ -9,7 +9,7 @@ use Rattle.step_table.specs.declared.list_place.OneRow.TheVariants.{O7}
 use Rattle.step_table.specs.declared.list_place.Reach.{Reach}
 use Rattle.step_table.specs.declared.parts.Parts.{Parts}
 use Rattle.step_table.specs.declared.standing.Standing.TheVariants.{AtList}
-use Rattle.step_table.specs.Wrapping.{word_of}
+use Rattle.ticket_words.specs.Wrapping.{word_of}
 use Rattle.step_table.specs.ListWorld.{Numbers}
 use Rattle.list_law.specs.ListLawful.{told}
 use Rattle.step_table.specs.Core.{CoreLayout, Core, list_entries}

@@ -1,4 +1,3 @@
-pub mod Wrapping
 pub mod ListRows
 pub mod ListCases
 pub mod ListLocks

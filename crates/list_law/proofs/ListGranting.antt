@@ -9,7 +9,7 @@ use Rattle.step_table.specs.declared.list_place.ListEffect.TheVariants.{HandsOut
 use Rattle.step_table.specs.declared.list_place.ListPlace.TheVariants.{NotifyingOne, NotifyingAll}
 use Rattle.step_table.specs.declared.list_place.OneRow.TheVariants.{O7}
 use Rattle.step_table.specs.declared.list_place.Reach.{Reach}
-use Rattle.step_table.specs.Wrapping.{word_of}
+use Rattle.ticket_words.specs.Wrapping.{word_of}
 use Rattle.step_table.specs.ListWorld.{ListWords, ListSeat, ListEntry, Took, Granted, ListWorld, first_list, journal_after}
 use Rattle.step_table.specs.World.{put}
 use Rattle.step_table.specs.ListSteps.{Leads, ListStep, none, more}

@@ -9,7 +9,7 @@ use Rattle.step_table.specs.declared.list_place.ListPlace.TheVariants.{Rest, Add
 use Rattle.step_table.specs.declared.list_place.OneRow.TheVariants.{O1, O2, O3, O6, O8, O9}
 use Rattle.step_table.specs.declared.list_place.WaitRow.TheVariants.{W1, W3, W4, P}
 use Rattle.step_table.specs.World.{put}
-use Rattle.step_table.specs.Wrapping.{word_of, next_word}
+use Rattle.ticket_words.specs.Wrapping.{word_of, next_word}
 use Rattle.step_table.specs.ListWorld.{ListWords, ListSeat, ListEntry, Took, Granted, ListWorld, found, journal_after}
 use Rattle.step_table.specs.ListEvent.{ListEvent, waiter}
 use Rattle.step_table.specs.ListTable.{list_event_at, list_table}

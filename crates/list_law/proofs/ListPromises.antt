@@ -2,7 +2,7 @@
 use Rattle.list_law.specs.ListLaw.{TheListLaw}
 use Rattle.step_table.specs.ListSteps.{list_rules}
 use Rattle.step_table.proofs.Turns.{sole}
-use Rattle.list_law.proofs.Wrapping.{less_means, bounds_are_tight}
+use Rattle.ticket_words.proofs.Wrapping.{less_means, bounds_are_tight}
 use Rattle.list_law.proofs.ListKeeping.{list_starts, list_kept, list_reached}
 use Rattle.list_law.proofs.ListLawfulness.{list_lawful}
 use Rattle.list_law.proofs.ListCalling.{list_calls, list_least, list_own, list_closed}

@@ -5,7 +5,7 @@ use Rattle.step_table.specs.declared.list_place.ListPlace.{ListPlace}
 use Rattle.step_table.specs.declared.list_place.ListPlace.TheVariants.{Rest, Adding, Waiting, NotifyingOne, NotifyingAll}
 use Rattle.step_table.specs.declared.list_place.OneRow.TheVariants.{O1, O2, O3, O4, O5, O6, O7, O8, O9}
 use Rattle.step_table.specs.declared.list_place.WaitRow.TheVariants.{W1, W2, W3, W4, P}
-use Rattle.step_table.specs.Wrapping.{less}
+use Rattle.ticket_words.specs.Wrapping.{less}
 use Rattle.step_table.specs.ListWorld.{ListSeat, ListWorld, found}
 use Rattle.step_table.specs.ListEvent.{ListNext, ListEvent}
 use Rattle.step_table.specs.ListTable.{list_event_at}

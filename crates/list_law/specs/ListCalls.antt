@@ -10,7 +10,7 @@ use Rattle.step_table.specs.declared.list_place.OneRow.TheVariants.{O2, O6, O7, 
 use Rattle.step_table.specs.declared.list_place.Reach.{Reach}
 use Rattle.step_table.specs.declared.list_place.Ticket.{Ticket}
 use Rattle.step_table.specs.declared.list_place.WaitRow.TheVariants.{W3, P}
-use Rattle.step_table.specs.Wrapping.{word_of, minus}
+use Rattle.ticket_words.specs.Wrapping.{word_of, minus}
 use Rattle.step_table.specs.ListWorld.{ListEntry, ListWorld}
 use Rattle.step_table.specs.ListSteps.{Leads, IsListReached, effect_of}
 use Rattle.list_law.specs.ListLawful.{told, times, NoneLate}

@@ -6,7 +6,7 @@ use Rattle.step_table.specs.declared.list_place.ListEffect.TheVariants.{Grants}
 use Rattle.step_table.specs.declared.list_place.ListPlace.TheVariants.{NotifyingOne, NotifyingAll}
 use Rattle.step_table.specs.declared.list_place.OneRow.TheVariants.{O7}
 use Rattle.step_table.specs.declared.list_place.Reach.{Reach}
-use Rattle.step_table.specs.Wrapping.{word_of}
+use Rattle.ticket_words.specs.Wrapping.{word_of}
 use Rattle.step_table.specs.ListWorld.{ListEntry, Granted, ListWorld}
 use Rattle.step_table.specs.ListSteps.{Leads, IsListReached, effect_of}
 use Rattle.list_law.specs.ListLawful.{told}

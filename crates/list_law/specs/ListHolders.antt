@@ -2,7 +2,7 @@
 -- by another seat and lowered by its own.
 use Rattle.std.specs.Prelude.{◌≡◌, ◌≢◌, ◌⊎◌, ℕ, ◌<◌, [], ◌∷◌, ◌++◌}
 use Rattle.step_table.specs.declared.list_place.ListWord.TheVariants.{Lock, Grant}
-use Rattle.step_table.specs.Wrapping.{word_of, next_word}
+use Rattle.ticket_words.specs.Wrapping.{word_of, next_word}
 use Rattle.step_table.specs.EventOf.{store, take_lock, give_lock, take_grant}
 use Rattle.step_table.specs.ListWorld.{ListWords, Took, Granted, ListWorld}
 use Rattle.step_table.specs.ListEvent.{ListNext, ListEvent}

@@ -8,7 +8,7 @@ use Rattle.step_table.specs.declared.list_place.OneRow.TheVariants.{O2, O3, O4, 
 use Rattle.step_table.specs.declared.list_place.Ticket.{Ticket}
 use Rattle.step_table.specs.declared.list_place.WaitRow.TheVariants.{W1, W2, W3, W4, P}
 use Rattle.step_table.specs.Counting.{on, same, total}
-use Rattle.step_table.specs.Wrapping.{word_of}
+use Rattle.ticket_words.specs.Wrapping.{word_of}
 use Rattle.step_table.specs.ListWorld.{ListWords, ListSeat, ListWorld}
 use Rattle.step_table.specs.ListTable.{wait_for}
 use Rattle.list_law.specs.ListLawful.{told, Follows, LockHeld, TicketsHeld, times, standing, GrantsHeld, NoneLate}

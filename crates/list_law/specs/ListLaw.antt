@@ -4,7 +4,7 @@ use Rattle.waiters.specs.declared.wait.Wait.{Wait}
 use Rattle.step_table.specs.declared.list_place.ListPlace.TheVariants.{Rest, Waiting}
 use Rattle.step_table.specs.declared.list_place.Ticket.{Ticket}
 use Rattle.step_table.specs.declared.list_place.WaitRow.TheVariants.{P}
-use Rattle.step_table.specs.Wrapping.{word_of, less}
+use Rattle.ticket_words.specs.Wrapping.{LessMeans, BoundsAreTight}
 use Rattle.step_table.specs.ListWorld.{ListWorld, first_list}
 use Rattle.step_table.specs.ListTable.{wait_for}
 use Rattle.step_table.specs.ListSteps.{ListTurn, ListStep, IsListReached, IsListEnd}
@@ -29,21 +29,6 @@ IsClosed seats s =
     ((k : ℕ) → k < seats → ((s.seats k).place ≡ Rest) × ((s.seats k).ticket ≡ None))
     → ((told s.journal).handed ≡ (told s.journal).granted) × (s.words.wait ≡ s.words.notify) × (s.words.lock ≡ 0)
     × ((w : Wait) → times w s.words.queue ≡ 0)
-
--- a word comes before another where this is 1 to 2^63 ahead: a - b, modulo 2^64 and taken from -2^63 to 2^63 - 1, is below 0
-abbrev pub LessMeans : Type 0
-LessMeans =
-    ((a b : ℕ) → a < 2 ^ 64 → b < 2 ^ 64 → IsTrue (less a b)
-    → (d : ℕ) × (0 < d) × (d ≤ 2 ^ 63) × ((a + d) % 2 ^ 64 ≡ b))
-    × ((a b d : ℕ) → a < 2 ^ 64 → 0 < d → d ≤ 2 ^ 63 → (a + d) % 2 ^ 64 ≡ b
-    → IsTrue (less a b))
-
--- the bounds can't be wider: an ungranted ticket seems granted once 2^63 tickets are outstanding before it, and a granted one
--- seems ungranted once 2^63 + 1 tickets were granted since
-abbrev pub BoundsAreTight : Type 0
-BoundsAreTight =
-    ((first granted : ℕ) → IsTrue (less (word_of first (granted + 2 ^ 63)) (word_of first granted)))
-    × ((first n : ℕ) → IsTrue (less (word_of first n) (word_of first (n + (2 ^ 63 + 1)))) → ⊥)
 
 -- for up to 2^63 seats: the invariant holds at every start, every step keeps it, and it gives the whole lawful world, what a
 -- row grants, what calls may conclude, and what holds in an end world and where every seat is at rest. Rows are

@@ -9,7 +9,7 @@ use Rattle.step_table.specs.declared.list_place.Ticket.{Ticket}
 use Rattle.step_table.specs.declared.list_place.WaitRow.{WaitRow}
 use Rattle.step_table.specs.declared.list_place.WaitRow.TheVariants.{W2, W3, W4, P}
 use Rattle.step_table.specs.Counting.{on, same, total, granted}
-use Rattle.step_table.specs.Wrapping.{word_of}
+use Rattle.ticket_words.specs.Wrapping.{word_of}
 use Rattle.step_table.specs.ListWorld.{Numbers, ListSeat, ListEntry, Took, Granted, ListWorld}
 use Rattle.step_table.specs.ListTable.{wait_for}
 

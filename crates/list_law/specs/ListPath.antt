@@ -7,7 +7,7 @@ use Rattle.step_table.specs.declared.list_place.ListPlace.TheVariants.{Rest, Add
 use Rattle.step_table.specs.declared.list_place.ListWord.{ListWord}
 use Rattle.step_table.specs.declared.list_place.ListWord.TheVariants.{Wait, Notify}
 use Rattle.step_table.specs.declared.list_place.Ticket.{Ticket}
-use Rattle.step_table.specs.Wrapping.{word_of}
+use Rattle.ticket_words.specs.Wrapping.{word_of}
 use Rattle.step_table.specs.ListWorld.{Numbers, ListWords, ListSeat, ListEntry, Took, Granted, ListWorld, found, first_list}
 use Rattle.step_table.specs.ListEvent.{ListNext}
 use Rattle.step_table.specs.ListTable.{list_table}

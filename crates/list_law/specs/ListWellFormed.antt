@@ -6,7 +6,7 @@ use Rattle.step_table.specs.declared.list_place.ListPlace.TheVariants.{Waiting, 
 use Rattle.step_table.specs.declared.list_place.OneRow.TheVariants.{O5, O7}
 use Rattle.step_table.specs.declared.list_place.WaitRow.TheVariants.{P}
 use Rattle.step_table.specs.Counting.{total}
-use Rattle.step_table.specs.Wrapping.{word_of}
+use Rattle.ticket_words.specs.Wrapping.{word_of}
 use Rattle.step_table.specs.ListWorld.{ListWords, ListSeat, ListWorld}
 use Rattle.list_law.specs.ListLawful.{LockHeld, GrantsHeld}
 use Rattle.list_law.specs.ListInvariant.{WordsTell, HandFits, TicketFits}

@@ -6,7 +6,7 @@ use Rattle.waiters.specs.Lists.{first_with, without_first}
 use Rattle.step_table.specs.declared.list_place.ListEffect.TheVariants.{Nothing, TakesOut, Gives}
 use Rattle.step_table.specs.declared.list_place.ListPlace.TheVariants.{Rest, NotifyingOne}
 use Rattle.step_table.specs.declared.list_place.OneRow.TheVariants.{O7, O8, O9}
-use Rattle.step_table.specs.Wrapping.{word_of}
+use Rattle.ticket_words.specs.Wrapping.{word_of}
 use Rattle.step_table.specs.ListWorld.{Numbers, ListSeat, ListEntry, Granted, queue_after, hand_after, ticket_after, one_or_none}
 use Rattle.step_table.specs.ListEvent.{ListNext, by_found}
 use Rattle.step_table.specs.Path.{GoesOn}

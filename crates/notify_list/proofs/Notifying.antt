@@ -205,6 +205,6 @@ module _ (s : Token) (n h : ℕ) (seat : IsSeat s n) (at : s.me.0.sight.stands.p
                 later = goes_on_more s.me.0.sight.seen x.me.0.sight.seen G.before (walked_later s x (a (NotifyingOne h O3)) (a (NotifyingOne h (O7 ticket))) [] rows5 w7) G.later;
                 seen = subst (λ i. GoesOn z.me.0.sight.seen (G.before ++ Granted ((told G.before).granted + 1) i ∷ [])) (number5 ∙ seat.token_is.number_is) G.seen;
                 handed = G.handed;
-                word_is = G.word_is ∙ ap (λ (z : Setting). Rattle.step_table.specs.Wrapping.word_of z.first (told G.before).granted) setting5;
+                word_is = G.word_is ∙ ap (λ (z : Setting). Rattle.ticket_words.specs.Wrapping.word_of z.first (told G.before).granted) setting5;
               },
             )

@@ -4,7 +4,7 @@ use Rattle.atomic_table.specs.Table.{rest}
 use Rattle.step_table.specs.declared.list_place.ListPlace.TheVariants.{Rest, Waiting}
 use Rattle.step_table.specs.declared.list_place.Ticket.{Ticket}
 use Rattle.step_table.specs.declared.list_place.WaitRow.TheVariants.{W1, W2, W3, W4, P}
-use Rattle.step_table.specs.Wrapping.{less}
+use Rattle.ticket_words.specs.Wrapping.{less}
 use Rattle.step_table.specs.ListWorld.{ListSeat, ListEntry, late_after}
 use Rattle.step_table.specs.ListTable.{wait_for}
 use Rattle.step_table.specs.ListSteps.{with_ticket}

@@ -8,7 +8,7 @@ use Rattle.step_table.specs.declared.list_place.ListEffect.TheVariants.{Nothing,
 use Rattle.step_table.specs.declared.list_place.ListPlace.{ListPlace}
 use Rattle.step_table.specs.declared.list_place.ListPlace.TheVariants.{NotifyingAll}
 use Rattle.step_table.specs.declared.list_place.Reach.{Reach}
-use Rattle.step_table.specs.Wrapping.{word_of, minus}
+use Rattle.ticket_words.specs.Wrapping.{word_of, minus}
 use Rattle.step_table.specs.ListSteps.{seat_after}
 use Rattle.step_table.specs.ListWorld.{Numbers, ListWords, ListSeat, Granted, queue_after}
 use Rattle.step_table.specs.Path.{GoesOn}

@@ -2,7 +2,7 @@
 use Rattle.std.proofs.Common.{◌≡◌, ℕ, ◌+◌, ◌<◌, ◌%◌, ◌^◌, [], ◌∷◌, ◌++◌, Some, sym, refl, ap, ◌∙◌, subst, arith}
 use Rattle.step_table.specs.declared.list_place.ListPlace.TheVariants.{Adding}
 use Rattle.step_table.specs.declared.list_place.Ticket.{Ticket}
-use Rattle.step_table.specs.Wrapping.{word_of, next_word}
+use Rattle.ticket_words.specs.Wrapping.{word_of, next_word}
 use Rattle.step_table.specs.ListWorld.{Numbers, ListSeat, Took}
 use Rattle.list_law.specs.ListLawful.{told}
 use Rattle.list_law.specs.ListPath.{ListSight}

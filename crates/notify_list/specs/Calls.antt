@@ -18,7 +18,8 @@ rows_of strides = map (λ p. (p.stood.place, p.read)) strides
 
 -- the seat, standing so at first, ran just these rows of the step table, each of which read this: one path from the one sight to
 -- the other, which told these entries and no others. It did nothing else meanwhile
-pub record Calls (s : SeatModel) (begun : ListSeat) (t : SeatModel) (entries : List ListEntry) (rows : List (ListPlace × ℕ)) : Type 0 where
+pub record Calls (s : SeatModel) (begun : ListSeat) (t : SeatModel) (entries : List ListEntry) (rows : List (ListPlace × ℕ))
+    : Type 0 where
   pub strides : List ListStride
   pub path : ListPath s.list.setting.first s.list.setting.seats s.number (record { stands = begun; seen = s.sight.seen }) strides t.sight
   pub rows_are : rows_of strides ≡ rows

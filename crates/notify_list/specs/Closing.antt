@@ -2,7 +2,7 @@
 use Rattle.std.specs.Prelude.{◌≡◌, ℕ, true, ◌<◌, List, [], ◌∷◌, length, None}
 use Rattle.std.specs.List.{All}
 use Rattle.step_table.specs.Path.{GoesOn, own_entries}
-use Rattle.step_table.specs.Wrapping.{word_of}
+use Rattle.ticket_words.specs.Wrapping.{word_of}
 use Rattle.step_table.specs.ListWorld.{ListWorld}
 use Rattle.list_law.specs.ListEntries.{EntriesNamed}
 use Rattle.list_law.specs.ListLawful.{told, IsLawfulList}

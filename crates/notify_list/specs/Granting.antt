@@ -3,7 +3,7 @@ use Rattle.std.specs.Prelude.{◌≡◌, ◌⊎◌, ℕ, ◌+◌, ◌<◌, ◌�
 use Rattle.step_table.specs.declared.list_place.ListPlace.{ListPlace}
 use Rattle.step_table.specs.declared.list_place.ListPlace.TheVariants.{Rest, NotifyingOne}
 use Rattle.step_table.specs.declared.list_place.OneRow.TheVariants.{O7, O8}
-use Rattle.step_table.specs.Wrapping.{word_of}
+use Rattle.ticket_words.specs.Wrapping.{word_of}
 use Rattle.step_table.specs.ListWorld.{ListEntry, Granted}
 use Rattle.step_table.specs.Path.{GoesOn}
 use Rattle.list_law.specs.ListLawful.{told}
@@ -33,6 +33,7 @@ pub record GrantedOne (s : Token) (h ticket : ℕ) (t : Token) : Type 0 where
   pub word_is : ticket ≡ word_of s.me.0.setting.first (told before).granted
   pub bare : t.me.1 ≡ []
   pub walked :
-      Walked s (stands_of s) t (at_place Rest (stands_of s)) (Granted ((told before).granted + 1) s.me.0.number ∷ []) (grant_rows h ticket)
+      Walked s (stands_of s) t (at_place Rest (stands_of s)) (Granted ((told before).granted + 1) s.me.0.number ∷ [])
+      (grant_rows h ticket)
       ⊎ Walked s (stands_of s) t (at_place Rest (stands_of s)) (Granted ((told before).granted + 1) s.me.0.number ∷ [])
       (grant_rows h ticket ++ grants_it h)

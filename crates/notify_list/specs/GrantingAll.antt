@@ -24,8 +24,8 @@ pub record LookedForAll (s : Token) (equal : Bool) (t : Token) : Type 0 where
   pub waited : ℕ
   pub notified : ℕ
   pub answer : equal ≡ (waited == notified)
-  pub walked : Walked s (at_place (NotifyingAll 0 L1) (stands_of s)) t (at_place (if equal then Rest else NotifyingAll h L3) (stands_of s)) []
-      (looks_all h waited notified)
+  pub walked : Walked s (at_place (NotifyingAll 0 L1) (stands_of s)) t
+      (at_place (if equal then Rest else NotifyingAll h L3) (stands_of s)) [] (looks_all h waited notified)
   pub slots : t.me.1 ≡ s.me.1
   pub since : (told s.me.0.sight.seen).handed ≤ h
   pub quiet : equal ≡ true → h ≤ (told t.me.0.sight.seen).granted

@@ -3,7 +3,7 @@ use Rattle.std.specs.Prelude.{◌≡◌, ◌≢◌, ◌⊎◌, ℕ, ◌+◌, ◌
 use Rattle.step_table.specs.declared.list_place.ListPlace.{ListPlace}
 use Rattle.step_table.specs.declared.list_place.ListPlace.TheVariants.{Rest, NotifyingOne}
 use Rattle.step_table.specs.declared.list_place.OneRow.TheVariants.{O1, O3, O4, O5, O6, O7, O8, O9}
-use Rattle.step_table.specs.Wrapping.{word_of}
+use Rattle.ticket_words.specs.Wrapping.{word_of}
 use Rattle.step_table.specs.ListWorld.{ListSeat, ListEntry, Granted}
 use Rattle.step_table.specs.Path.{GoesOn}
 use Rattle.list_law.specs.ListLawful.{told}

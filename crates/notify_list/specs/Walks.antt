@@ -20,13 +20,15 @@ abbrev pub IsSame : Token → Token → Type 0
 IsSame s t = (t.table_id ≡ s.table_id) × (t.me ≡ s.me)
 
 -- the seat, standing so at first, ran these rows, which told these entries, and stands so now
-pub record Walked (s : Token) (from : ListSeat) (t : Token) (stands : ListSeat) (entries : List ListEntry) (rows : List (ListPlace × ℕ)) : Type 0 where
+pub record Walked (s : Token) (from : ListSeat) (t : Token) (stands : ListSeat) (entries : List ListEntry)
+    (rows : List (ListPlace × ℕ)) : Type 0 where
   pub list_is : list_of t ≡ list_of s
   pub number_is : t.me.0.number ≡ s.me.0.number
   pub stands_is : stands_of t ≡ stands
   pub lands : Lands t.me.0
   pub strides : List ListStride
-  pub path : ListPath s.me.0.setting.first s.me.0.setting.seats s.me.0.number (record { stands = from; seen = s.me.0.sight.seen }) strides t.me.0.sight
+  pub path : ListPath s.me.0.setting.first s.me.0.setting.seats s.me.0.number
+      (record { stands = from; seen = s.me.0.sight.seen }) strides t.me.0.sight
   pub rows_are : rows_of strides ≡ rows
   pub told_is : all_told strides ≡ entries
   pub all : t.me.0.strides ≡ s.me.0.strides + length strides

@@ -10,7 +10,7 @@ use crate::plays::{BeginsAll, Gives, Goes, Stores, Token};
 use crate::seat::ListSeat;
 use arrayvec::ArrayVec;
 use std::sync::Wait;
-use step_table::minus;
+use ticket_words::minus;
 
 /// The seats of the waits that a notification of all has taken out. On the stack: after the list is made no memory is taken.
 pub(crate) type Hand = ArrayVec<u16, 256>;

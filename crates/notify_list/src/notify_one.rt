@@ -10,7 +10,7 @@ use crate::notify_list::{LOCK, NOTIFY, NotifyList, WAIT, grant_word};
 use crate::plays::{Gives, Goes, Stores, Token};
 use crate::seat::ListSeat;
 use std::sync::Wait;
-use step_table::next_word;
+use ticket_words::next_word;
 
 impl NotifyList {
     /// Grants the least ticket that isn't granted, if there is one, and wakes its wait (Go's `notifyListNotifyOne`). It answers

@@ -7,7 +7,7 @@ use crate::plays::{Gives, Goes};
 use crate::seat::{Holding, ListSeat};
 use crate::waited::Waited;
 use std::sync::Wait;
-use step_table::less;
+use ticket_words::less;
 use waiters::{SeatId, WaitId};
 
 impl NotifyList {

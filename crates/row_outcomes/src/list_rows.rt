@@ -12,9 +12,8 @@ ghost use Rattle.step_table.specs.ListTable.{wait_event, one_event, all_event, l
 ghost use Rattle.row_outcomes.specs.ListOutcomes.{IsSeen, ListDoes, HasListWord};
 
 use crate::list_outcome::{ListOutcome, ListSight, does, goes};
-use step_table::{
-    AllRow, ListEffect, ListPlace, ListWord, OneRow, Reach, Ticket, WaitRow, less, minus, next_word,
-};
+use step_table::{AllRow, ListEffect, ListPlace, ListWord, OneRow, Reach, Ticket, WaitRow};
+use ticket_words::{less, minus, next_word};
 use waiters::{SeatId, Wait, WaitId};
 
 /// The word of the event of the row at this place.

@@ -34,7 +34,8 @@ pub use step_table::{
     GroupWord, Items, ListEffect, ListId, ListPlace, ListWord, MAX_CALLS, MAX_COUNTERS, MAX_GROUPS,
     MAX_LISTS, MAX_ROOTS, MAX_SEATS, MAX_UNITS, MIN_UNITS, ManyRow, Misuse, OneRow, Parts, Phase,
     Place, Reach, Release, ReleaseMany, ReleaseRow, Row, RunRefused, ScenarioRefused, Standing,
-    StepRefused, Ticket, WaitRow, Word, less,
+    StepRefused, Ticket, WaitRow, Word,
 };
+pub use ticket_words::less;
 pub use waiters::{CounterId, NoMemory, SeatId, WaitId};
 pub use world::World;

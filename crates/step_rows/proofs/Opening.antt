@@ -11,7 +11,7 @@ use Rattle.step_table.specs.declared.list_place.ListPlace.TheVariants.{Rest}
 use Rattle.step_rows.specs.declared.list_machine.ListMachine.TheInside.{Inside}
 use Rattle.step_rows.specs.declared.list_machine.SeatRecord.{SeatRecord}
 use Rattle.step_rows.specs.contracts.list_machine.ListMachine.{the_view}
-use Rattle.step_table.specs.Wrapping.{word_of}
+use Rattle.ticket_words.specs.Wrapping.{word_of}
 use Rattle.step_rows.specs.ListStored.{moment_of, first_moment, seat_of, stored_seat, seats_in, AreLists, AreFresh}
 use Rattle.step_table.proofs.Sums.{nothing}
 use Rattle.step_rows.proofs.Handing.{grant_in}

@@ -2,10 +2,11 @@
 
 ghost use Rattle.std.specs.Prelude.{◌≡◌};
 ghost use Rattle.step_rows.specs.Stored.{entry_of};
+ghost use Rattle.step_rows.specs.ListStored.{list_refused_by};
 
 use crate::caller::Caller;
 use row_outcomes::{ListOutcome, Outcome};
-use step_table::{Effect, Entry, ListWord, Word};
+use step_table::{Effect, Entry, ListWord, StepRefused, Word};
 
 /// A row that can run: how its seat stands, the word of its event, and what it does.
 #[derive(Clone, Copy, Drop)]
@@ -29,5 +30,15 @@ pub fn entry_of(effect: &Effect) -> Option<Entry>
     match *effect {
         Effect::Tells(entry) => Some(entry),
         _ => None,
+    }
+}
+
+/// Why a row of a list can't run whose event is of this word.
+pub fn list_refused_by(word: ListWord) -> StepRefused
+    ensures { result ≡ list_refused_by word }
+{
+    match word {
+        ListWord::Lock => StepRefused::LockHeld,
+        _ => StepRefused::Asleep,
     }
 }

@@ -10,7 +10,6 @@ pub mod Table
 pub mod Counting
 pub mod Journal
 pub mod Steps
-pub mod Wrapping
 pub mod ListWorld
 pub mod ListEvent
 pub mod ListTable

@@ -13,7 +13,7 @@ use Rattle.step_table.specs.declared.list_place.OneRow.TheVariants.{O1, O2, O3, 
 use Rattle.step_table.specs.declared.list_place.Ticket.{Ticket}
 use Rattle.step_table.specs.declared.list_place.WaitRow.{WaitRow}
 use Rattle.step_table.specs.declared.list_place.WaitRow.TheVariants.{W1, W2, W3, W4, P}
-use Rattle.step_table.specs.Wrapping.{next_word, minus, less}
+use Rattle.ticket_words.specs.Wrapping.{next_word, minus, less}
 use Rattle.step_table.specs.ListWorld.{ListWords, ListSeat}
 use Rattle.step_table.specs.EventOf.{load, store, take_lock, give_lock, take_grant, stays}
 use Rattle.step_table.specs.ListEvent.{ListEvent, to, take_ticket, by_found, if_any, waiter}

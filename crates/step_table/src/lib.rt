@@ -23,7 +23,6 @@ mod place;
 mod refusal;
 mod row;
 mod standing;
-mod ticket_word;
 mod word;
 
 pub use call::Call;
@@ -45,5 +44,4 @@ pub use place::{Acquire, AcquireRow, ManyRow, Place, Release, ReleaseMany, Relea
 pub use refusal::{RunRefused, ScenarioRefused, StepRefused};
 pub use row::Row;
 pub use standing::{After, GroupNext, GroupRow, Standing};
-pub use ticket_word::{less, minus, next_word};
 pub use word::Word;

@@ -2,8 +2,8 @@ use Rattle.std.proofs.Common.{rules, refl, ℕ, ◌+◌, ◌-◌, ◌%◌, ◌<�
 use Rattle.std.specs.Prelude.{pos, negsuc}
 use Rattle.std.proofs.lemmas.Bool.{cases_lt}
 use Rattle.std.proofs.lemmas.Int.{ints}
-use Rattle.step_table.specs.Wrapping.{IsBefore, less, minus}
-use Rattle.step_table.proofs.ticket_word.less.Goals as goal
+use Rattle.ticket_words.specs.Wrapping.{IsBefore, less, minus}
+use Rattle.ticket_words.proofs.order.less.Goals as goal
 
 module _ (a b : ℕ) (ha : a < 2 ^ 64) (hb : b < 2 ^ 64) where
   before : 9223372036854775808 ≤ (a + (18446744073709551616 - b)) % 18446744073709551616 → (a < b) ⊎ (b ≤ a) → IsBefore a b

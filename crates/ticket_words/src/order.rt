@@ -1,7 +1,7 @@
 //! Words of tickets. They wrap, as do the 32-bit numbers of Go's `notifyList`.
 
 ghost use Rattle.std.specs.Prelude.{◌≡◌, ◌↔◌, IsTrue};
-ghost use Rattle.step_table.specs.Wrapping.{next_word, minus, IsBefore, less};
+ghost use Rattle.ticket_words.specs.Wrapping.{next_word, minus, IsBefore, less};
 
 /// The least word that is below 0 as a signed number.
 const HALF: u64 = 1 << 63;

@@ -1,7 +1,0 @@
-use Rattle.std.proofs.Common.{refl}
-use Rattle.step_table.specs.Wrapping.{minus}
-use Rattle.step_table.proofs.ticket_word.minus.Goals as goal
-
-pub returns : goal.returns
-unfolding minus
-returns c = refl

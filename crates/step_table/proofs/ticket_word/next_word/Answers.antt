@@ -1,7 +1,0 @@
-use Rattle.std.proofs.Common.{refl}
-use Rattle.step_table.specs.Wrapping.{next_word}
-use Rattle.step_table.proofs.ticket_word.next_word.Goals as goal
-
-pub returns : goal.returns
-unfolding next_word
-returns c = refl
