@@ -1,4 +1,4 @@
-//! Each root by one table of calls, whose answers are known by hand, and both beside each other.
+//! Each root by one table of calls, whose answers are known by hand, and the copies of a treap.
 //!
 //! A refused call is made once more. So each test passes whichever single allocation is refused
 //! (`rt try --test --fail-alloc N`, for each N), and shows that after a refusal the memory can still be had.
@@ -7,8 +7,6 @@ ghost use Rattle.std.specs.Prelude.{◌≡◌, ◌+◌, ◌≤◌, [], IfOk};
 ghost use Rattle.sema_root.specs.Queues.{total};
 ghost use Rattle.sema_root.specs.Treap.{queues_of};
 
-use rand_core::{Rng, SeedableRng};
-use rand_xoshiro::Xoshiro256PlusPlus;
 use sema_root::{RootStore, SortedRoot, TreapRoot};
 use std::alloc::{AllocError, Global};
 use std::process::Abort;
@@ -20,16 +18,6 @@ fn wait(seat: u16) -> Wait {
         id: WaitId {
             seat: SeatId::new(seat),
             turn: 0,
-        },
-        ticket: 0,
-    }
-}
-
-fn wait_at(turn: u64) -> Wait {
-    Wait {
-        id: WaitId {
-            seat: SeatId::new(0),
-            turn,
         },
         ticket: 0,
     }
@@ -335,56 +323,5 @@ fn copy_over_smaller(rt: &impl Abort, alloc: Global, root: &mut TreapRoot) -> Re
 fn a_copy_over_a_smaller_root_takes_memory(rt: HostRuntime) -> Result<(), Fail> {
     let mut root = treap_again(rt.alloc(), 4, 1)?;
     copy_over_smaller(&rt, rt.alloc(), &mut root)?;
-    Ok(())
-}
-
-/// A wait comes in at both roots, where there is room and the word says so; else one comes out. Says how many wait there
-/// then.
-fn both_turn(
-    rt: &impl Abort,
-    sorted: &mut SortedRoot,
-    treap: &mut TreapRoot,
-    word: u64,
-    turn: u64,
-    waiting: usize,
-) -> usize {
-    let number = (word % 8) as u32;
-    if word & 8 == 0 && !sorted.is_full() && !treap.is_full() {
-        sorted.queue(counter(number), wait_at(turn), word & 16 == 0);
-        treap.queue(counter(number), wait_at(turn), word & 16 == 0);
-        waiting.saturating_add(1)
-    } else {
-        comes_out(rt, sorted, number, treap.dequeue(counter(number)));
-        waiting.saturating_sub(1)
-    }
-}
-
-fn both_have(rt: &impl Abort, sorted: &SortedRoot, treap: &TreapRoot, number: u32, waiting: usize) {
-    assert!(rt; sorted.waiting(counter(number)) == waiting);
-    assert!(rt; treap.waiting(counter(number)) == waiting);
-    assert!(rt; sorted.count() == treap.count());
-}
-
-fn both_answer(rt: &impl Abort, sorted: &mut SortedRoot, treap: &mut TreapRoot) {
-    let mut lengths = [0usize; 8];
-    let mut draws = Xoshiro256PlusPlus::seed_from_u64(7);
-    for turn in 0..10_000u64 {
-        let word = draws.next_u64();
-        let at = (word % 8) as usize;
-        lengths[at] = both_turn(rt, sorted, treap, word, turn, lengths[at]);
-        both_have(rt, sorted, treap, (word % 8) as u32, lengths[at]);
-    }
-}
-
-fn both_from(rt: &impl Abort, alloc: Global, sorted: &mut SortedRoot) -> Result<(), NoMemory> {
-    let mut treap = treap_again(alloc, 16, 1)?;
-    both_answer(rt, sorted, &mut treap);
-    Ok(())
-}
-
-#[test]
-fn both_roots_answer_as_each_other(rt: HostRuntime) -> Result<(), Fail> {
-    let mut sorted = sorted_again(rt.alloc(), 16)?;
-    both_from(&rt, rt.alloc(), &mut sorted)?;
     Ok(())
 }
