@@ -1,6 +1,6 @@
 -- When no wait group is misused, and what its counter is then.
 use Rattle.std.specs.Prelude.{◌≡◌, ℕ, ◌<◌, eqb, cond, ℤ, pos, ◌+ℤ◌, ◌≤ℤ◌, List, [], ◌∷◌, length, ◌^◌, ◌-◌}
-use Rattle.step_table.specs.declared.misuse.Misuse.{Misuse}
+use Rattle.table_names.specs.declared.misuse.Misuse.{Misuse}
 use Rattle.step_table.specs.declared.parts.Parts.{Parts}
 use Rattle.step_table.specs.declared.standing.After.TheVariants.{LooksAgain}
 use Rattle.step_table.specs.declared.standing.GroupRow.TheVariants.{G1, V3}

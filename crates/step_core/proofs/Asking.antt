@@ -4,8 +4,8 @@ use Rattle.std.proofs.Common.{IsTrue, ◌↔◌, Bool, true, false}
 use Rattle.std.proofs.lemmas.Bool.{lt-ltb}
 use Rattle.step_table.specs.declared.place.Place.{Place}
 use Rattle.step_table.specs.declared.place.Place.TheVariants.{Releasing}
-use Rattle.step_table.specs.declared.refusal.StepRefused.{StepRefused}
-use Rattle.step_table.specs.declared.refusal.StepRefused.TheVariants.{NoSuchSeat}
+use Rattle.table_names.specs.declared.refusal.StepRefused.{StepRefused}
+use Rattle.table_names.specs.declared.refusal.StepRefused.TheVariants.{NoSuchSeat}
 use Rattle.step_table.specs.declared.standing.After.{After}
 use Rattle.step_table.specs.declared.standing.After.TheVariants.{NextCall, LooksAgain, Releases}
 use Rattle.step_table.specs.declared.standing.Standing.{Standing}

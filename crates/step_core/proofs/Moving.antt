@@ -11,8 +11,8 @@ use Rattle.step_table.specs.declared.effect.Effect.TheVariants.{Nothing, Tells, 
 use Rattle.step_table.specs.declared.place.Place.{Place}
 use Rattle.step_table.specs.declared.place.Place.TheVariants.{Releasing}
 use Rattle.step_table.specs.declared.place.Place.TheVariants as on_counter
-use Rattle.step_table.specs.declared.refusal.StepRefused.{StepRefused}
-use Rattle.step_table.specs.declared.refusal.StepRefused.TheVariants.{NoSuchSeat}
+use Rattle.table_names.specs.declared.refusal.StepRefused.{StepRefused}
+use Rattle.table_names.specs.declared.refusal.StepRefused.TheVariants.{NoSuchSeat}
 use Rattle.step_table.specs.declared.parts.Parts.{Parts}
 use Rattle.step_table.specs.declared.standing.After.{After}
 use Rattle.step_table.specs.declared.standing.After.TheVariants.{NextCall, LooksAgain, Releases}

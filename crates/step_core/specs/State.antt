@@ -9,7 +9,7 @@ use Rattle.step_table.specs.declared.list_place.ListEffect.{ListEffect}
 use Rattle.step_table.specs.declared.list_place.ListEffect.TheVariants.{HandsOut, Grants}
 use Rattle.step_core.specs.declared.turn.Turn.{Turn}
 use Rattle.step_core.specs.declared.turn.Turn.TheVariants as turn
-use Rattle.step_table.specs.declared.refusal.StepRefused.{StepRefused}
+use Rattle.table_names.specs.declared.refusal.StepRefused.{StepRefused}
 use Rattle.step_table.specs.declared.parts.Parts.{Parts}
 use Rattle.step_table.specs.declared.standing.After.{After}
 use Rattle.step_table.specs.declared.standing.After.TheVariants.{Releases}

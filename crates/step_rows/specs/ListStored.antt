@@ -15,8 +15,8 @@ use Rattle.step_table.specs.declared.list_place.Ticket.{Ticket}
 use Rattle.step_table.specs.declared.list_place.WaitRow.TheVariants.{W2, W4}
 use Rattle.step_rows.specs.declared.ready.ListReady.{ListReady}
 use Rattle.step_rows.specs.declared.list_machine.SeatRecord.{SeatRecord}
-use Rattle.step_table.specs.declared.refusal.StepRefused.{StepRefused}
-use Rattle.step_table.specs.declared.refusal.StepRefused.TheVariants.{LockHeld, Asleep}
+use Rattle.table_names.specs.declared.refusal.StepRefused.{StepRefused}
+use Rattle.table_names.specs.declared.refusal.StepRefused.TheVariants.{LockHeld, Asleep}
 use Rattle.step_table.specs.Counting.{total}
 use Rattle.step_table.specs.World.{put}
 use Rattle.step_table.specs.ListWorld.{ListWords, ListSeat, ListEntry, ListWorld, numbers_after}

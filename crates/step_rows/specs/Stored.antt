@@ -9,8 +9,8 @@ use Rattle.step_table.specs.declared.entry.Entry.{Entry}
 use Rattle.step_table.specs.declared.entry.Entry.TheVariants.{Queue, Leave}
 use Rattle.step_table.specs.declared.effect.Effect.{Effect}
 use Rattle.step_table.specs.declared.effect.Effect.TheVariants.{Tells}
-use Rattle.step_table.specs.declared.refusal.StepRefused.{StepRefused}
-use Rattle.step_table.specs.declared.refusal.StepRefused.TheVariants.{LockHeld, Asleep}
+use Rattle.table_names.specs.declared.refusal.StepRefused.{StepRefused}
+use Rattle.table_names.specs.declared.refusal.StepRefused.TheVariants.{LockHeld, Asleep}
 use Rattle.step_table.specs.declared.place.AcquireRow.TheVariants.{A7}
 use Rattle.step_table.specs.declared.place.ReleaseRow.TheVariants.{R4, R5, R6, R8, R9, R10}
 use Rattle.step_table.specs.declared.place.ManyRow.TheVariants.{M4, M5, M6, M7}

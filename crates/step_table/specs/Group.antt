@@ -3,7 +3,7 @@ use Rattle.std.specs.Prelude.{◌+◌, ◌==◌, ◌&&◌, ◌||◌, not, if◌t
 use Rattle.std.specs.Int.{int_wrapping_add, w32}
 use Rattle.std.specs.Ordering.{int_eq}
 use Rattle.step_table.specs.declared.group_word.GroupWord.{GroupWord}
-use Rattle.step_table.specs.declared.misuse.Misuse.TheVariants.{Negative, AddWithWait, Reused}
+use Rattle.table_names.specs.declared.misuse.Misuse.TheVariants.{Negative, AddWithWait, Reused}
 use Rattle.step_table.specs.declared.standing.GroupRow.{GroupRow}
 use Rattle.step_table.specs.declared.standing.GroupRow.TheVariants.{G1, G2, G3, V1, V2, V3}
 use Rattle.step_table.specs.declared.standing.GroupNext.{GroupNext}

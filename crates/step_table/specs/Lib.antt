@@ -20,10 +20,8 @@ pub mod GroupPath
 pub mod Core
 pub mod CoreSteps
 pub mod Row
-pub mod RowTexts
 pub mod Scenario
 pub mod Run
 pub mod Apart
 pub mod Erased
 pub mod ListErased
-pub mod Texts

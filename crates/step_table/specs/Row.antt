@@ -21,10 +21,10 @@ use Rattle.step_table.specs.declared.place.ManyRow.{ManyRow}
 use Rattle.step_table.specs.declared.place.ManyRow.TheVariants.{M1, M2, M3, M4, M5, M6, M7}
 use Rattle.step_table.specs.declared.place.Place.{Place}
 use Rattle.step_table.specs.declared.place.Place.TheVariants.{Rest, Acquiring, Releasing, ReleasingMany}
-use Rattle.step_table.specs.declared.phase.Phase.{Phase}
-use Rattle.step_table.specs.declared.phase.Phase.TheVariants.{At, Ended, Failed}
-use Rattle.step_table.specs.declared.row.Row.{Row}
-use Rattle.step_table.specs.declared.row.Row.TheVariants as name
+use Rattle.table_names.specs.declared.phase.Phase.{Phase}
+use Rattle.table_names.specs.declared.phase.Phase.TheVariants.{At, Ended, Failed}
+use Rattle.table_names.specs.declared.row.Row.{Row}
+use Rattle.table_names.specs.declared.row.Row.TheVariants as name
 
 abbrev pub acquire_row_name : AcquireRow → Row
 acquire_row_name A1 = name.A1

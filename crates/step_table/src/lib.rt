@@ -16,12 +16,8 @@ mod laws;
 mod limits;
 mod list_id;
 mod list_place;
-mod misuse;
 mod parts;
-mod phase;
 mod place;
-mod refusal;
-mod row;
 mod standing;
 mod word;
 
@@ -37,11 +33,8 @@ pub use limits::{
 };
 pub use list_id::ListId;
 pub use list_place::{AllRow, ListEffect, ListPlace, ListWord, OneRow, Reach, Ticket, WaitRow};
-pub use misuse::Misuse;
 pub use parts::Parts;
-pub use phase::Phase;
 pub use place::{Acquire, AcquireRow, ManyRow, Place, Release, ReleaseMany, ReleaseRow};
-pub use refusal::{RunRefused, ScenarioRefused, StepRefused};
-pub use row::Row;
 pub use standing::{After, GroupNext, GroupRow, Standing};
+pub use table_names::{Misuse, Phase, Row, RunRefused, ScenarioRefused, StepRefused};
 pub use word::Word;

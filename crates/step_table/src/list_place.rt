@@ -1,7 +1,7 @@
 ghost use Rattle.std.specs.Prelude.{◌≡◌};
 ghost use Rattle.step_table.specs.Row.{list_row_of, wait_row_name, one_row_name, all_row_name};
 
-use crate::row::Row;
+use table_names::Row;
 use waiters::{SeatId, Wait};
 
 /// A ticket of a notify list.

@@ -1,7 +1,7 @@
 ghost use Rattle.std.specs.Prelude.{◌≡◌};
 ghost use Rattle.step_table.specs.Row.{row_of, acquire_row_name, release_row_name, many_row_name};
 
-use crate::row::Row;
+use table_names::Row;
 use waiters::CounterId;
 
 /// What an acquire was called with.

@@ -4,8 +4,7 @@ ghost use Rattle.step_table.specs.Row.{group_row_name};
 use crate::group_id::GroupId;
 use crate::group_word::GroupWord;
 use crate::list_id::ListId;
-use crate::misuse::Misuse;
-use crate::row::Row;
+use table_names::{Misuse, Row};
 
 /// A row of a wait group, with what the seat carries to it: an add what it adds, and each row after a first look the word
 /// that was read.

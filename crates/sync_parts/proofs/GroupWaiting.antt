@@ -12,7 +12,7 @@ use Rattle.step_table.specs.declared.standing.GroupRow.TheVariants.{G1, V1, V2, 
 use Rattle.step_table.specs.declared.standing.GroupNext.{GroupNext}
 use Rattle.step_table.specs.declared.standing.GroupNext.TheVariants.{Ends, Goes, Fails, Acquires, Releases}
 use Rattle.step_table.specs.Group.{empty_word, group_row, same_word}
-use Rattle.step_table.specs.declared.misuse.Misuse.TheVariants.{Reused}
+use Rattle.table_names.specs.declared.misuse.Misuse.TheVariants.{Reused}
 use Rattle.step_table.proofs.GroupBits.{same_is, same_itself}
 use Rattle.sema_table.specs.Seats.{SeatModel}
 use Rattle.sema_table.specs.Whole.{IsAcquired}

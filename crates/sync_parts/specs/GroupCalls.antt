@@ -3,8 +3,8 @@
 use Rattle.std.specs.Prelude.{◌≡◌, ◌≢◌, ◌⊎◌, ℕ, zero, suc, ◌+◌, if◌then◌else◌, false, List, [], ◌∷◌, ◌++◌, map, ℤ, pos, MatchResult, Result, Ok, Err, IfOk}
 use Rattle.std.specs.Ordering.{int_eq}
 use Rattle.step_table.specs.declared.group_word.GroupWord.{GroupWord}
-use Rattle.step_table.specs.declared.misuse.Misuse.{Misuse}
-use Rattle.step_table.specs.declared.misuse.Misuse.TheVariants.{Reused}
+use Rattle.table_names.specs.declared.misuse.Misuse.{Misuse}
+use Rattle.table_names.specs.declared.misuse.Misuse.TheVariants.{Reused}
 use Rattle.step_table.specs.declared.standing.GroupRow.{GroupRow}
 use Rattle.step_table.specs.declared.standing.GroupRow.TheVariants.{G1, V1, V3}
 use Rattle.step_table.specs.declared.standing.GroupNext.{GroupNext}

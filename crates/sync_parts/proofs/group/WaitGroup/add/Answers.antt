@@ -3,7 +3,7 @@ use Rattle.std.specs.Prelude.{Ok, Err}
 use Rattle.std.specs.Int.{w32, cast_signed, cast_unsigned}
 use Rattle.std.proofs.lemmas.Int.{to_z-of_z}
 use Rattle.step_table.specs.declared.group_word.GroupWord.{GroupWord}
-use Rattle.step_table.specs.declared.misuse.Misuse.TheVariants.{AddWithWait}
+use Rattle.table_names.specs.declared.misuse.Misuse.TheVariants.{AddWithWait}
 use Rattle.step_table.specs.declared.standing.GroupNext.TheVariants.{Ends, Goes}
 use Rattle.step_table.specs.declared.standing.GroupRow.TheVariants.{G2}
 use Rattle.sync_parts.specs.GroupSeats.{GroupSeatModel, group_seat_of}

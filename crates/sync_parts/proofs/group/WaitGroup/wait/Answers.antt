@@ -1,5 +1,5 @@
 use Rattle.std.proofs.Common.{◌≢◌, refl, sym, subst, ◌∙◌, ℕ, false, inr}
-use Rattle.step_table.specs.declared.misuse.Misuse.TheVariants.{Reused}
+use Rattle.table_names.specs.declared.misuse.Misuse.TheVariants.{Reused}
 use Rattle.step_table.specs.declared.standing.GroupNext.TheVariants.{Ends, Fails}
 use Rattle.step_table.specs.Group.{empty_word}
 use Rattle.sema_table.specs.Whole.{IsAcquired}

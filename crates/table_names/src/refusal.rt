@@ -1,5 +1,5 @@
 ghost use Rattle.std.specs.Prelude.{Some};
-ghost use Rattle.step_table.specs.Texts.{scenario_refused_text, step_refused_text, run_refused_text};
+ghost use Rattle.table_names.specs.Texts.{scenario_refused_text, step_refused_text, run_refused_text};
 
 use std::error::Error;
 use std::fmt;

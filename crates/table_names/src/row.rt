@@ -1,5 +1,5 @@
 ghost use Rattle.std.specs.Prelude.{◌≡◌, Some};
-ghost use Rattle.step_table.specs.RowTexts.{row_text};
+ghost use Rattle.table_names.specs.RowTexts.{row_text};
 
 use std::fmt;
 

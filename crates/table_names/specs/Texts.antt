@@ -1,11 +1,11 @@
 -- What the refusals print.
 use Rattle.std.specs.Prelude.{ℕ, List, ◌++◌, codes}
 use Rattle.std.specs.Fmt.{decimal}
-use Rattle.step_table.specs.declared.refusal.StepRefused.{StepRefused}
-use Rattle.step_table.specs.declared.refusal.StepRefused.TheVariants.{NoSuchSeat, SeatEnded, LockHeld, Asleep, SeatFailed, NoMemory}
-use Rattle.step_table.specs.declared.refusal.RunRefused.{RunRefused}
-use Rattle.step_table.specs.declared.refusal.ScenarioRefused.{ScenarioRefused}
-use Rattle.step_table.specs.declared.refusal.ScenarioRefused.TheVariants.{OutOfLimits, Undeclared, Ticket}
+use Rattle.table_names.specs.declared.refusal.StepRefused.{StepRefused}
+use Rattle.table_names.specs.declared.refusal.StepRefused.TheVariants.{NoSuchSeat, SeatEnded, LockHeld, Asleep, SeatFailed, NoMemory}
+use Rattle.table_names.specs.declared.refusal.RunRefused.{RunRefused}
+use Rattle.table_names.specs.declared.refusal.ScenarioRefused.{ScenarioRefused}
+use Rattle.table_names.specs.declared.refusal.ScenarioRefused.TheVariants.{OutOfLimits, Undeclared, Ticket}
 
 abbrev pub scenario_refused_text : ScenarioRefused → List ℕ
 scenario_refused_text OutOfLimits = codes "out of limits"

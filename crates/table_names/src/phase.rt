@@ -1,5 +1,5 @@
 ghost use Rattle.std.specs.Prelude.{Some};
-ghost use Rattle.step_table.specs.RowTexts.{phase_text};
+ghost use Rattle.table_names.specs.RowTexts.{phase_text};
 
 use crate::misuse::Misuse;
 use crate::row::Row;
