@@ -6,7 +6,7 @@ use Rattle.waiters.specs.declared.no_memory.NoMemory.{NoMemory}
 use Rattle.scenario_search.specs.declared.exit.Exit.{Exit}
 use Rattle.scenario_search.specs.declared.fault.IoFault.{IoFault}
 use Rattle.scenario_search.specs.declared.fault.IoFault.TheVariants.{Read, Write}
-use Rattle.scenario_search.specs.declared.replay.Answer.{Answer}
+use Rattle.scenario_search.specs.declared.answer.Answer.{Answer}
 use Rattle.scenario_search.specs.Exit.{status_of}
 use Rattle.scenario_search.specs.Told.{IsTextOf, WantsMemory, TellsAll, TellsBeginning}
 use Rattle.explorer.specs.Asked.{status_after}

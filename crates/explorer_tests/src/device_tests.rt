@@ -1,304 +1,211 @@
 //! Devices that fail at each of their calls.
 
-use crate::asked::{ALL_SOUND, Devices, Told, is_short, tells_over};
-use crate::devices::{BROKEN, Calls, Giving, SOUND, Taking};
+use crate::asked::{ALL_SOUND, Devices, Told, tells_over};
+use crate::devices::{BROKEN, Calls};
 use crate::program_tests::FIVE_LINES;
 use crate::reading::ONE_ACQUIRE;
 use crate::threads_tests::{THREE_LINES, TWO_BY_THREE};
-use explorer::{
-    Exit, Flagged, IoFault, explore_io, explore_variant_io, once_io, replay_io, threads_io,
-};
 use std::alloc::Global;
 use std::process::Abort;
 use std::sync::Wait;
 use std::thread::Threads;
-use step_core::Variant;
 
-/// The commands. Their input has one acquire.
-#[derive(Clone, Copy, Drop)]
-enum Asked {
-    Once,
-    Explore,
-    ExploreVariant,
-    Replay,
-    Threads,
-}
+/// Words, all that is told of them where the input has one acquire, and the status.
+type Command = (&'static [&'static str], &'static str, u8);
 
-/// What to ask, the words for it, and what is told of it.
-#[derive(Clone, Copy, Drop)]
-struct Command {
-    asked: Asked,
-    words: &'static [&'static str],
-    told: &'static str,
-    exit: Exit,
-}
+/// They read the input.
+const READING: [Command; 3] = [
+    (
+        &["explore", "--depth", "32"],
+        "bad: stuck\nschedule: 0 0 0 0 0\n",
+        1,
+    ),
+    (
+        &["explore", "--depth", "32", "--variant", "no-look"],
+        "bad: stuck\nschedule: 0 0 0 0\n",
+        1,
+    ),
+    (
+        &["replay", "--schedule", "0 0"],
+        "0: seat 0 A1\n1: seat 0 A3\ncounter 0: value 0, waiting -\nverdict: not bad\n",
+        0,
+    ),
+];
 
-const ONCE: Command = Command {
-    asked: Asked::Once,
-    words: &["once"],
-    told: FIVE_LINES,
-    exit: Exit::NothingBad,
-};
+/// They read nothing.
+const TELLING: [Command; 2] = [(&["once"], FIVE_LINES, 0), (&TWO_BY_THREE, THREE_LINES, 0)];
 
-const EXPLORE: Command = Command {
-    asked: Asked::Explore,
-    words: &["explore", "--depth", "32"],
-    told: "bad: stuck\nschedule: 0 0 0 0 0\n",
-    exit: Exit::BadFound,
-};
+const READ_FAILED: &str = "parklot: read failed\n";
 
-const EXPLORE_VARIANT: Command = Command {
-    asked: Asked::ExploreVariant,
-    words: &["explore", "--depth", "32", "--variant", "no-look"],
-    told: "bad: stuck\nschedule: 0 0 0 0\n",
-    exit: Exit::BadFound,
-};
+const WRITE_FAILED: &str = "parklot: write failed\n";
 
-const REPLAY: Command = Command {
-    asked: Asked::Replay,
-    words: &["replay", "--schedule", "0 0"],
-    told: "0: seat 0 A1\n1: seat 0 A3\ncounter 0: value 0, waiting -\nverdict: not bad\n",
-    exit: Exit::NothingBad,
-};
-
-const THREADS: Command = Command {
-    asked: Asked::Threads,
-    words: &TWO_BY_THREE,
-    told: THREE_LINES,
-    exit: Exit::NothingBad,
-};
-
-fn answer_io(
-    rt: &(impl Threads + Wait + Sync),
-    alloc: Global,
-    asked: Asked,
-    input: Calls,
-    out: Calls,
-) -> (Vec<u8>, Result<Exit, IoFault>) {
-    let mut reader = Flagged::new(Giving::new(ONE_ACQUIRE, input));
-    let mut out = Flagged::new(Taking::new(alloc, out));
-    let ended = match asked {
-        Asked::Once => once_io(rt, alloc, &mut out),
-        Asked::Explore => explore_io(alloc, &mut reader, &mut out, 32),
-        Asked::ExploreVariant => {
-            explore_variant_io(alloc, &mut reader, &mut out, 32, Variant::NoLook)
-        }
-        Asked::Replay => replay_io(alloc, &mut reader, &mut out, "0 0"),
-        Asked::Threads => threads_io(rt, alloc, 2, 3, &mut out),
-    };
-    (out.into_inner().into_taken(), ended)
-}
-
-/// What is told of the end, beside the output, and the status.
-fn told_of(ended: Result<Exit, IoFault>) -> (&'static [u8], u8) {
-    match ended {
-        Ok(exit) => (b"", exit.status()),
-        Err(IoFault::Read) => (b"parklot: read failed\n", 2),
-        Err(IoFault::Write) => (b"parklot: write failed\n", 2),
-    }
-}
-
-/// Over these devices the command writes this, and ends so.
-fn ends_io(
-    rt: &(impl Abort + Threads + Wait + Sync),
-    alloc: Global,
-    asked: Asked,
-    input: Calls,
-    out: Calls,
-    told: &[u8],
-    ended: Result<Exit, IoFault>,
-) {
-    let (taken, found) = answer_io(rt, alloc, asked, input, out);
-    if taken.as_slice() == told && found == ended {
-        return;
-    }
-    assert!(rt; is_short(&taken, told_of(found).1));
-    let (taken, found) = answer_io(rt, alloc, asked, input, out);
-    assert!(rt; taken.as_slice() == told);
-    assert!(rt; found == ended);
-}
-
-/// Over these devices the command and the program write this, and end so.
+/// Over these devices this goes to the two streams, and the program ends so.
 fn ends(
     rt: &(impl Abort + Threads + Wait + Sync),
     alloc: Global,
-    command: Command,
-    input: Calls,
-    out: Calls,
-    told: &[u8],
-    ended: Result<Exit, IoFault>,
+    words: &[&str],
+    devices: Devices,
+    told: (&[u8], &str, u8),
 ) {
-    ends_io(rt, alloc, command.asked, input, out, told, ended);
-    let devices = Devices {
-        input,
-        out,
-        err: SOUND,
-    };
-    let (err, status) = told_of(ended);
+    let (out, err, status) = told;
     let told = Told {
-        out: told,
-        err,
+        out,
+        err: err.as_bytes(),
         status,
         whole: true,
     };
-    tells_over(rt, alloc, command.words, ONE_ACQUIRE, devices, told);
+    tells_over(rt, alloc, words, ONE_ACQUIRE, devices, told);
 }
 
 /// How many bytes a read gives at most, and how many reads the whole input takes, its end included.
 const READS: [(usize, u32); 4] = [(1, 37), (3, 13), (35, 3), (usize::MAX, 2)];
 
-fn a_read_fails_of(rt: &(impl Abort + Threads + Wait + Sync), alloc: Global, command: Command) {
-    let told = command.told.as_bytes();
+fn a_read_fails_of(rt: &(impl Abort + Threads + Wait + Sync), alloc: Global, command: &Command) {
+    let (words, told, status) = *command;
     for (at_once, reads) in READS {
-        for left in 0..reads {
-            let input = Calls { at_once, left };
-            ends(rt, alloc, command, input, SOUND, b"", Err(IoFault::Read));
+        for left in 0..reads + 1 {
+            let devices = Devices {
+                input: Calls { at_once, left },
+                ..ALL_SOUND
+            };
+            let told = if left < reads {
+                (b"".as_slice(), READ_FAILED, 2)
+            } else {
+                (told.as_bytes(), "", status)
+            };
+            ends(rt, alloc, words, devices, told);
         }
-        let left = reads;
-        let input = Calls { at_once, left };
-        ends(rt, alloc, command, input, SOUND, told, Ok(command.exit));
     }
 }
 
 #[test]
 fn each_read_can_fail(rt: HostRuntime) {
-    a_read_fails_of(&rt, rt.alloc(), EXPLORE);
-    a_read_fails_of(&rt, rt.alloc(), EXPLORE_VARIANT);
-    a_read_fails_of(&rt, rt.alloc(), REPLAY);
-}
-
-#[test]
-fn once_reads_nothing(rt: HostRuntime) {
-    let told = ONCE.told.as_bytes();
-    ends(&rt, rt.alloc(), ONCE, BROKEN, SOUND, told, Ok(ONCE.exit));
+    for command in &READING {
+        a_read_fails_of(&rt, rt.alloc(), command);
+    }
 }
 
 fn a_write_fails_of(
     rt: &(impl Abort + Threads + Wait + Sync),
     alloc: Global,
-    command: Command,
+    command: &Command,
     at_once: usize,
 ) {
-    let told = command.told.as_bytes();
+    let (words, told, status) = *command;
+    let told = told.as_bytes();
     for left in 0..u32::MAX {
+        let devices = Devices {
+            out: Calls { at_once, left },
+            ..ALL_SOUND
+        };
         let sent = at_once.saturating_mul(left as usize).min(told.len());
-        let out = Calls { at_once, left };
         if sent == told.len() {
-            return ends(rt, alloc, command, SOUND, out, told, Ok(command.exit));
+            return ends(rt, alloc, words, devices, (told, "", status));
         }
-        ends(
-            rt,
-            alloc,
-            command,
-            SOUND,
-            out,
-            &told[..sent],
-            Err(IoFault::Write),
-        );
+        ends(rt, alloc, words, devices, (&told[..sent], WRITE_FAILED, 2));
     }
 }
 
 #[test]
 fn each_write_can_fail(rt: HostRuntime) {
-    for command in [ONCE, EXPLORE, EXPLORE_VARIANT, REPLAY, THREADS] {
-        for at_once in [1, 4, usize::MAX] {
-            a_write_fails_of(&rt, rt.alloc(), command, at_once);
+    for commands in [READING.as_slice(), TELLING.as_slice()] {
+        for command in commands {
+            for at_once in [1, 4, usize::MAX] {
+                a_write_fails_of(&rt, rt.alloc(), command, at_once);
+            }
         }
     }
 }
 
-#[test]
-fn four_bytes_go_out(rt: HostRuntime) {
-    let out = Calls {
-        at_once: 4,
-        left: 1,
-    };
-    ends(
-        &rt,
-        rt.alloc(),
-        EXPLORE,
-        SOUND,
-        out,
-        b"bad:",
-        Err(IoFault::Write),
-    );
-}
+/// A sink that takes nothing.
+const FULL: Calls = Calls {
+    at_once: 0,
+    left: u32::MAX,
+};
+
+/// Words, the devices, what goes to the two streams, and the status.
+const BESIDES: [(&[&str], Devices, &str, &str, u8); 7] = [
+    // what reads nothing doesn't fail by its input
+    (
+        &["once"],
+        Devices {
+            input: BROKEN,
+            ..ALL_SOUND
+        },
+        FIVE_LINES,
+        "",
+        0,
+    ),
+    // a write that takes nothing is a fault
+    (
+        &["once"],
+        Devices {
+            out: FULL,
+            ..ALL_SOUND
+        },
+        "",
+        WRITE_FAILED,
+        2,
+    ),
+    (
+        &["explore", "--depth", "32"],
+        Devices {
+            out: FULL,
+            ..ALL_SOUND
+        },
+        "",
+        WRITE_FAILED,
+        2,
+    ),
+    // what can't be told beside changes nothing
+    (
+        &["explore", "--depth", "4"],
+        Devices {
+            err: BROKEN,
+            ..ALL_SOUND
+        },
+        "none up to depth 4\n",
+        "",
+        0,
+    ),
+    (
+        &["explore"],
+        Devices {
+            err: BROKEN,
+            ..ALL_SOUND
+        },
+        "",
+        "",
+        2,
+    ),
+    (
+        &["explore", "--depth", "4"],
+        Devices {
+            input: BROKEN,
+            err: BROKEN,
+            ..ALL_SOUND
+        },
+        "",
+        "",
+        2,
+    ),
+    (
+        &["explore", "--depth", "4"],
+        Devices {
+            out: BROKEN,
+            err: BROKEN,
+            ..ALL_SOUND
+        },
+        "",
+        "",
+        2,
+    ),
+];
 
 #[test]
-fn a_write_that_takes_nothing_is_a_fault(rt: HostRuntime) {
-    let out = Calls {
-        at_once: 0,
-        left: u32::MAX,
-    };
-    for command in [ONCE, EXPLORE, REPLAY] {
-        ends(
-            &rt,
-            rt.alloc(),
-            command,
-            SOUND,
-            out,
-            b"",
-            Err(IoFault::Write),
-        );
-    }
-}
-
-#[test]
-fn what_cannot_be_told_beside_changes_nothing(rt: HostRuntime) {
-    let devices = Devices {
-        err: BROKEN,
-        ..ALL_SOUND
-    };
-    let rows = [
-        (devices, EXPLORE.words, EXPLORE.told, 1),
-        (devices, &["explore"], "", 2),
-        (
-            Devices {
-                input: BROKEN,
-                ..devices
-            },
-            EXPLORE.words,
-            "",
-            2,
-        ),
-        (
-            Devices {
-                out: BROKEN,
-                ..devices
-            },
-            EXPLORE.words,
-            "",
-            2,
-        ),
-    ];
-    for (devices, words, told, status) in rows {
-        let told = Told {
-            out: told.as_bytes(),
-            err: b"",
-            status,
-            whole: true,
-        };
-        tells_over(&rt, rt.alloc(), words, ONE_ACQUIRE, devices, told);
-    }
-}
-
-fn is_told_as(rt: &impl Abort, alloc: Global, fault: IoFault, text: &str) {
-    let Ok(told) = format!(in alloc; "{fault}") else {
-        let told = format!(in alloc; "{fault}");
-        assert!(rt; told.is_ok_and(|told| told.as_str() == text));
-        return;
-    };
-    assert!(rt; told.as_str() == text);
-}
-
-#[test]
-fn faults_have_their_numbers_and_texts(rt: HostRuntime) {
-    let rows = [
-        (IoFault::Read, 1, "read failed"),
-        (IoFault::Write, 2, "write failed"),
-    ];
-    for (fault, number, text) in rows {
-        assert!(rt; (fault as u8) == number);
-        is_told_as(&rt, rt.alloc(), fault, text);
+fn other_devices_fail(rt: HostRuntime) {
+    for (words, devices, out, err, status) in &BESIDES {
+        let told = (out.as_bytes(), *err, *status);
+        ends(&rt, rt.alloc(), words, *devices, told);
     }
 }

@@ -131,30 +131,6 @@ const FOUR: [Row; 4] = [
     (TWO_EACH_FOR_EIGHT, "32", "none up to depth 32\n", 0),
 ];
 
-/// Texts that aren't read, and what is told of them.
-const REFUSED: [Row; 5] = [
-    (b"", "32", "refused: line 1: end\n", 2),
-    (
-        b"counter 0\nseat 0: acquire 0\nsettled",
-        "32",
-        "refused: line 3: cut\n",
-        2,
-    ),
-    (b"counter 0\nfoo\n", "32", "refused: line 2: form\n", 2),
-    (
-        b"counter 0\nseat 0: acquire 1\nsettled\n",
-        "32",
-        "refused: line 2: undeclared\n",
-        2,
-    ),
-    (
-        b"counter 0\nseat 0: acquire 1\nsettled\n",
-        "0",
-        "refused: line 2: undeclared\n",
-        2,
-    ),
-];
-
 #[test]
 fn what_is_found_is_told(rt: HostRuntime) {
     for rows in [
@@ -162,7 +138,6 @@ fn what_is_found_is_told(rt: HostRuntime) {
         MANY.as_slice(),
         WRAPPED.as_slice(),
         FOUR.as_slice(),
-        REFUSED.as_slice(),
     ] {
         for (input, depth, told, status) in rows {
             tells(

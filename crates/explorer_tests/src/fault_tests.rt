@@ -1,123 +1,247 @@
-//! Texts whose first faulty line and least cause are known by hand.
+//! Texts whose first faulty line and least cause are known by hand, and what is told of them.
 
-use crate::reading::{ONE_ACQUIRE, is_faulty, read};
-use explorer::Cause;
+use crate::asked::tells;
+use crate::reading::ONE_ACQUIRE;
+use crate::repeated::{Repeated, bytes_again};
+use std::alloc::Global;
+use std::process::Abort;
+use std::sync::Wait;
+use std::test::Fail;
+use std::thread::Threads;
 
-/// Where each proper beginning of that text is faulty: its lengths, the line and the cause.
-const BEGINNINGS: [(usize, usize, usize, Cause); 6] = [
-    (0, 0, 1, Cause::End),
-    (1, 9, 1, Cause::Cut),
-    (10, 10, 2, Cause::End),
-    (11, 27, 2, Cause::Cut),
-    (28, 28, 3, Cause::End),
-    (29, 35, 3, Cause::Cut),
+/// A text, and all that is told of it.
+type Row = (&'static [u8], &'static str);
+
+/// What is told of each proper beginning of that text: from which length to which.
+const BEGINNINGS: [(usize, usize, &str); 6] = [
+    (0, 0, "refused: line 1: end\n"),
+    (1, 9, "refused: line 1: cut\n"),
+    (10, 10, "refused: line 2: end\n"),
+    (11, 27, "refused: line 2: cut\n"),
+    (28, 28, "refused: line 3: end\n"),
+    (29, 35, "refused: line 3: cut\n"),
 ];
 
-/// Broken texts, the faulty line and the cause.
-const BROKEN: [(&[u8], usize, Cause); 14] = [
-    (b"counter 00\n", 1, Cause::Form),
-    (b"counter 4294967296\n", 1, Cause::Range),
-    (b"counter 0\nseat 0: acquire 0  lifo\n", 2, Cause::Form),
-    (b"counter\t0\n", 1, Cause::Byte),
-    (b"counter 0\nsettled\t\n", 2, Cause::Byte),
-    (b"roots 252\n", 1, Cause::Range),
-    (b"roots 1\nroots 1\n", 2, Cause::Place),
-    (b"list 0\ncounter 0\n", 2, Cause::Place),
-    (b"seat 1: acquire 0\n", 1, Cause::Place),
-    (b"settled\n", 1, Cause::Place),
-    (b"group\nseat 0: gadd 0 -0\n", 2, Cause::Form),
-    (b"group\nseat 0: gadd 0 2147483648\n", 2, Cause::Range),
-    (b"list 0\nseat 0: wait 0\n", 2, Cause::Ticket),
-    (b"counter 0\nfoo\n", 2, Cause::Form),
+/// Broken texts, and what is told of them.
+const BROKEN: [Row; 16] = [
+    (b"counter 00\n", "refused: line 1: form\n"),
+    (b"counter 4294967296\n", "refused: line 1: range\n"),
+    (
+        b"counter 0\nseat 0: acquire 0  lifo\n",
+        "refused: line 2: form\n",
+    ),
+    (b"counter\t0\n", "refused: line 1: byte\n"),
+    (b"counter 0\nsettled\t\n", "refused: line 2: byte\n"),
+    (b"roots 252\n", "refused: line 1: range\n"),
+    (b"roots 1\nroots 1\n", "refused: line 2: place\n"),
+    (b"list 0\ncounter 0\n", "refused: line 2: place\n"),
+    (b"seat 1: acquire 0\n", "refused: line 1: place\n"),
+    (b"settled\n", "refused: line 1: place\n"),
+    (b"group\nseat 0: gadd 0 -0\n", "refused: line 2: form\n"),
+    (
+        b"group\nseat 0: gadd 0 2147483648\n",
+        "refused: line 2: range\n",
+    ),
+    (b"list 0\nseat 0: wait 0\n", "refused: line 2: ticket\n"),
+    (b"counter 0\nfoo\n", "refused: line 2: form\n"),
+    (
+        b"counter 0\nseat 0: acquire 1\nsettled\n",
+        "refused: line 2: undeclared\n",
+    ),
+    (b"\x7f\n", "refused: line 1: byte\n"),
 ];
 
 /// Numbers past their ends, and past those of any machine type.
-const NUMBERS: [(&[u8], usize, Cause); 19] = [
-    (b"roots 0\n", 1, Cause::Range),
-    (b"roots 9999999999\n", 1, Cause::Range),
-    (b"roots 10000000000\n", 1, Cause::Form),
-    (b"counter 01\n", 1, Cause::Form),
-    (b"counter +1\n", 1, Cause::Form),
-    (b"counter -1\n", 1, Cause::Form),
-    (b"counter \n", 1, Cause::Form),
-    (b"list 18446744073709551616\n", 1, Cause::Range),
-    (b"list 99999999999999999999\n", 1, Cause::Range),
-    (b"list 111111111111111111111\n", 1, Cause::Form),
-    (b"seat 9999999999: acquire 0\n", 1, Cause::Place),
+const NUMBERS: [Row; 19] = [
+    (b"roots 0\n", "refused: line 1: range\n"),
+    (b"roots 9999999999\n", "refused: line 1: range\n"),
+    (b"roots 10000000000\n", "refused: line 1: form\n"),
+    (b"counter 01\n", "refused: line 1: form\n"),
+    (b"counter +1\n", "refused: line 1: form\n"),
+    (b"counter -1\n", "refused: line 1: form\n"),
+    (b"counter \n", "refused: line 1: form\n"),
+    (b"list 18446744073709551616\n", "refused: line 1: range\n"),
+    (b"list 99999999999999999999\n", "refused: line 1: range\n"),
+    (b"list 111111111111111111111\n", "refused: line 1: form\n"),
+    (b"seat 9999999999: acquire 0\n", "refused: line 1: place\n"),
     (
         b"counter 0\nseat 0: acquire 9999999999\n",
-        2,
-        Cause::Undeclared,
+        "refused: line 2: undeclared\n",
     ),
-    (b"counter 0\nseat 0: acquire 10000000000\n", 2, Cause::Form),
-    (b"counter 0\nseat 0: release 0 many 0\n", 2, Cause::Range),
-    (b"counter 0\nseat 0: release 0 many 257\n", 2, Cause::Range),
-    (b"group\nseat 0: gadd 0 -2147483649\n", 2, Cause::Range),
-    (b"group\nseat 0: gadd 0 -9999999999\n", 2, Cause::Range),
+    (
+        b"counter 0\nseat 0: acquire 10000000000\n",
+        "refused: line 2: form\n",
+    ),
+    (
+        b"counter 0\nseat 0: release 0 many 0\n",
+        "refused: line 2: range\n",
+    ),
+    (
+        b"counter 0\nseat 0: release 0 many 257\n",
+        "refused: line 2: range\n",
+    ),
+    (
+        b"group\nseat 0: gadd 0 -2147483649\n",
+        "refused: line 2: range\n",
+    ),
+    (
+        b"group\nseat 0: gadd 0 -9999999999\n",
+        "refused: line 2: range\n",
+    ),
     (
         b"counter 0\nseat 0: acquire 0\nvalue 0 4294967296\n",
-        3,
-        Cause::Range,
+        "refused: line 3: range\n",
     ),
     (
         b"counter 0\nseat 0: acquire 0\nvalue 1 0\n",
-        3,
-        Cause::Undeclared,
+        "refused: line 3: undeclared\n",
     ),
 ];
 
 /// Lines with several faults, of which the least is told, and lines after the property.
-const LEAST: [(&[u8], usize, Cause); 13] = [
-    (b"counter \t0", 1, Cause::Cut),
-    (b"foo\t\n", 1, Cause::Byte),
-    (b"seat 1: release 9 many 0; wait 7; bar\n", 1, Cause::Form),
-    (b"seat 1: release 9 many 0; wait 7\n", 1, Cause::Place),
-    (b"seat 0: wait 7; release 9 many 0\n", 1, Cause::Range),
-    (b"seat 0: wait 7; release 9 many 1\n", 1, Cause::Undeclared),
-    (b"list 0\nseat 0: add 0; one 0; add 0\n", 2, Cause::Ticket),
-    (b"list 0\nlist 0\nseat 0: add 0; wait 1\n", 3, Cause::Ticket),
-    (b"list 0\nseat 0: add 0; wait 0; wait 0\n", 2, Cause::Ticket),
-    (b"counter 0\nseat 0: acquire 0\nsettled\n\n", 4, Cause::Form),
+const LEAST: [Row; 13] = [
+    (b"counter \t0", "refused: line 1: cut\n"),
+    (b"foo\t\n", "refused: line 1: byte\n"),
+    (
+        b"seat 1: release 9 many 0; wait 7; bar\n",
+        "refused: line 1: form\n",
+    ),
+    (
+        b"seat 1: release 9 many 0; wait 7\n",
+        "refused: line 1: place\n",
+    ),
+    (
+        b"seat 0: wait 7; release 9 many 0\n",
+        "refused: line 1: range\n",
+    ),
+    (
+        b"seat 0: wait 7; release 9 many 1\n",
+        "refused: line 1: undeclared\n",
+    ),
+    (
+        b"list 0\nseat 0: add 0; one 0; add 0\n",
+        "refused: line 2: ticket\n",
+    ),
+    (
+        b"list 0\nlist 0\nseat 0: add 0; wait 1\n",
+        "refused: line 3: ticket\n",
+    ),
+    (
+        b"list 0\nseat 0: add 0; wait 0; wait 0\n",
+        "refused: line 2: ticket\n",
+    ),
+    (
+        b"counter 0\nseat 0: acquire 0\nsettled\n\n",
+        "refused: line 4: form\n",
+    ),
     (
         b"counter 0\nseat 0: acquire 0\nsettled\nsettled\n",
-        4,
-        Cause::Place,
+        "refused: line 4: place\n",
     ),
     (
         b"counter 0\nseat 0: acquire 0\nsettled\ncounter 0\n",
-        4,
-        Cause::Place,
+        "refused: line 4: place\n",
     ),
-    (b"counter 0\nseat 0: acquire 0\nsettled\nx", 4, Cause::Cut),
+    (
+        b"counter 0\nseat 0: acquire 0\nsettled\nx",
+        "refused: line 4: cut\n",
+    ),
 ];
+
+/// The text is refused, and this is all that is told.
+fn is_refused(rt: &(impl Abort + Threads + Wait + Sync), alloc: Global, text: &[u8], told: &str) {
+    tells(rt, alloc, &["explore", "--depth", "0"], text, told, 2);
+}
 
 #[test]
 fn each_beginning_is_refused(rt: HostRuntime) {
-    for (from, to, line, cause) in BEGINNINGS {
+    for (from, to, told) in BEGINNINGS {
         for length in from..to + 1 {
-            is_faulty(&rt, rt.alloc(), &ONE_ACQUIRE[..length], line, cause);
+            is_refused(&rt, rt.alloc(), &ONE_ACQUIRE[..length], told);
         }
     }
-    assert!(rt; read(rt.alloc(), ONE_ACQUIRE).is_ok());
 }
 
 #[test]
 fn broken_texts_are_refused(rt: HostRuntime) {
-    for (text, line, cause) in &BROKEN {
-        is_faulty(&rt, rt.alloc(), text, *line, *cause);
+    for rows in [BROKEN.as_slice(), NUMBERS.as_slice(), LEAST.as_slice()] {
+        for (text, told) in rows {
+            is_refused(&rt, rt.alloc(), text, told);
+        }
+    }
+}
+
+/// So many times the same, and nothing else.
+const fn only(again: &[u8], times: usize) -> Repeated<'_> {
+    Repeated {
+        before: b"",
+        again,
+        times,
+        behind: b"",
+    }
+}
+
+/// One call, and so many more of the same seat.
+const fn and_calls(times: usize) -> Repeated<'static> {
+    Repeated {
+        before: b"group\nseat 0: gadd 0 1",
+        again: b"; gadd 0 1",
+        times,
+        behind: b"\n",
+    }
+}
+
+/// Sixteen seats, and one more line.
+const fn and_seats(behind: &[u8]) -> Repeated<'_> {
+    Repeated {
+        before: b"\
+counter 0
+seat 0: acquire 0
+seat 1: acquire 0
+seat 2: acquire 0
+seat 3: acquire 0
+seat 4: acquire 0
+seat 5: acquire 0
+seat 6: acquire 0
+seat 7: acquire 0
+seat 8: acquire 0
+seat 9: acquire 0
+seat 10: acquire 0
+seat 11: acquire 0
+seat 12: acquire 0
+seat 13: acquire 0
+seat 14: acquire 0
+seat 15: acquire 0
+",
+        again: b"",
+        times: 0,
+        behind,
     }
 }
 
 #[test]
-fn numbers_past_their_ends_are_refused(rt: HostRuntime) {
-    for (text, line, cause) in &NUMBERS {
-        is_faulty(&rt, rt.alloc(), text, *line, *cause);
+fn one_too_many_is_refused(rt: HostRuntime) -> Result<(), Fail> {
+    let rows = [
+        (only(b"counter 0\n", 17), "refused: line 17: too many\n"),
+        (only(b"counter 0\n", 16), "refused: line 17: end\n"),
+        (only(b"list 0\n", 17), "refused: line 17: too many\n"),
+        (only(b"list 0\n", 16), "refused: line 17: end\n"),
+        (only(b"group\n", 17), "refused: line 17: too many\n"),
+        (only(b"group\n", 16), "refused: line 17: end\n"),
+        (and_calls(32), "refused: line 2: too many\n"),
+        (and_calls(31), "refused: line 3: end\n"),
+        (
+            and_seats(b"seat 16: acquire 0\n"),
+            "refused: line 18: too many\n",
+        ),
+        (
+            and_seats(b"seat 17: acquire 0\n"),
+            "refused: line 18: place\n",
+        ),
+    ];
+    for (text, told) in rows {
+        let bytes = bytes_again(rt.alloc(), &text)?;
+        is_refused(&rt, rt.alloc(), &bytes, told);
     }
-}
-
-#[test]
-fn the_least_cause_is_told(rt: HostRuntime) {
-    for (text, line, cause) in &LEAST {
-        is_faulty(&rt, rt.alloc(), text, *line, *cause);
-    }
+    Ok(())
 }

@@ -17,8 +17,6 @@ mod explore_tests;
 #[cfg(test)]
 mod fault_tests;
 #[cfg(test)]
-mod limit_tests;
-#[cfg(test)]
 mod list_replay_tests;
 #[cfg(test)]
 mod memory_tests;

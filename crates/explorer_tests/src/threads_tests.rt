@@ -3,8 +3,9 @@
 ghost use Rattle.std.specs.Prelude.{◌≡◌, ◌<◌, ◌∷◌, [], length, IfOk};
 
 use crate::asked::tells;
-use explorer::{Closed, Gate, Open, ThreadsRefused, run_threads};
+use explorer::{Closed, Gate, IoFault, Open, ThreadsRefused, run_threads};
 use std::alloc::Global;
+use std::fmt::Display;
 use std::process::Abort;
 use std::sync::Wait;
 use std::sync::atomic::AtomicBool;
@@ -103,70 +104,59 @@ fn workers_run_at_once(rt: HostRuntime) -> Result<(), Fail> {
     Ok(())
 }
 
+/// How many workers run how many rounds.
+const RUNS: [(u32, u32); 3] = [(1, 1), (4, 1_000), (64, 2)];
+
 #[test]
-fn one_worker_runs_alone(rt: HostRuntime) -> Result<(), Fail> {
-    let closed = run_again(&rt, rt.alloc(), 1, 1)?;
-    counts(&rt, &closed, 1);
+fn workers_lose_no_unit(rt: HostRuntime) -> Result<(), Fail> {
+    for (workers, rounds) in RUNS {
+        let closed = run_again(&rt, rt.alloc(), workers, rounds)?;
+        counts(&rt, &closed, u64::from(workers) * u64::from(rounds));
+    }
     Ok(())
 }
 
-#[test]
-fn four_workers_lose_no_unit(rt: HostRuntime) -> Result<(), Fail> {
-    let closed = run_again(&rt, rt.alloc(), 4, 1_000)?;
-    counts(&rt, &closed, 4_000);
-    Ok(())
-}
-
-#[test]
-fn as_many_workers_as_there_may_be(rt: HostRuntime) -> Result<(), Fail> {
-    let closed = run_again(&rt, rt.alloc(), 64, 2)?;
-    counts(&rt, &closed, 128);
-    Ok(())
-}
-
-fn is_out_of_limits<R: Abort + Threads + Wait + Sync>(
-    rt: &R,
-    alloc: Global,
-    workers: u32,
-    rounds: u32,
-) {
-    let outcome = run_threads(rt, alloc, workers, rounds, &Open);
-    assert!(rt; matches!(outcome, Err(ThreadsRefused::OutOfLimits)));
-}
+/// Numbers of workers and rounds that are outside their limits.
+const OUTSIDE: [(u32, u32); 5] = [
+    (0, 1),
+    (65, 1),
+    (1, 0),
+    (1, 1_000_001),
+    (u32::MAX, u32::MAX),
+];
 
 #[test]
 fn limits_are_kept(rt: HostRuntime) {
-    let alloc = rt.alloc();
-    is_out_of_limits(&rt, alloc, 0, 1);
-    is_out_of_limits(&rt, alloc, 65, 1);
-    is_out_of_limits(&rt, alloc, 1, 0);
-    is_out_of_limits(&rt, alloc, 1, 1_000_001);
-    is_out_of_limits(&rt, alloc, u32::MAX, u32::MAX);
+    for (workers, rounds) in OUTSIDE {
+        let outcome = run_threads(&rt, rt.alloc(), workers, rounds, &Open);
+        assert!(rt; matches!(outcome, Err(ThreadsRefused::OutOfLimits)));
+    }
 }
 
-fn is_written(
+/// It is told so. The text is written once more where memory was refused.
+fn is_told_as(
     rt: &impl Abort,
     alloc: Global,
-    refused: ThreadsRefused,
+    told: &(impl Display + Drop),
     text: &str,
 ) -> Result<(), Fail> {
-    let written = match format!(in alloc; "{refused}") {
+    let written = match format!(in alloc; "{told}") {
         Ok(written) => written,
-        Err(_) => format!(in alloc; "{refused}")?,
+        Err(_) => format!(in alloc; "{told}")?,
     };
-    assert_eq!(rt; written.as_str(), text);
+    assert!(rt; written.as_str() == text);
     Ok(())
 }
 
 #[test]
 fn refusals_have_their_numbers_and_texts(rt: HostRuntime) -> Result<(), Fail> {
-    assert_eq!(rt; ThreadsRefused::OutOfLimits as u8, 1);
-    assert_eq!(rt; ThreadsRefused::NoMemory as u8, 2);
-    is_written(
-        &rt,
-        rt.alloc(),
-        ThreadsRefused::OutOfLimits,
-        "out of limits",
-    )?;
-    is_written(&rt, rt.alloc(), ThreadsRefused::NoMemory, "no memory")
+    let alloc = rt.alloc();
+    assert!(rt; ThreadsRefused::OutOfLimits as u8 == 1);
+    assert!(rt; ThreadsRefused::NoMemory as u8 == 2);
+    assert!(rt; IoFault::Read as u8 == 1);
+    assert!(rt; IoFault::Write as u8 == 2);
+    is_told_as(&rt, alloc, &ThreadsRefused::OutOfLimits, "out of limits")?;
+    is_told_as(&rt, alloc, &ThreadsRefused::NoMemory, "no memory")?;
+    is_told_as(&rt, alloc, &IoFault::Read, "read failed")?;
+    is_told_as(&rt, alloc, &IoFault::Write, "write failed")
 }

@@ -2,7 +2,8 @@
 //! none.
 //!
 //! [`read_scenario`] answers the request, or the first faulty line with the least cause that holds of it; [`read_schedule`]
-//! reads the numbers of a schedule. What a text says is a definition on whole lines, which the reader doesn't share.
+//! reads the numbers of a schedule. What lines a text spells is a definition by how lines are printed, of which the
+//! reader has nothing but the types. What is wrong with a well spelled line is told by the same tests in both.
 #![tactic(auto)]
 
 mod read_fault;
