@@ -36,7 +36,7 @@ fn a_step_too_many_is_refused(rt: HostRuntime) -> Result<(), Fail> {
         (3, StepRefused::NoSuchSeat),
     ];
     for (number, cause) in refusals {
-        let refused = RunRefused { at: 20, cause };
+        let refused = RunRefused::AtStep(20, cause);
         is_refused(&rt, rt.alloc(), &scenario, &one_more(number), refused)?;
     }
     Ok(())
@@ -45,10 +45,7 @@ fn a_step_too_many_is_refused(rt: HostRuntime) -> Result<(), Fail> {
 #[test]
 fn a_held_lock_refuses(rt: HostRuntime) -> Result<(), Fail> {
     let scenario = scenario(rt.alloc(), &[acquire(), release()])?;
-    let refused = RunRefused {
-        at: 5,
-        cause: StepRefused::LockHeld,
-    };
+    let refused = RunRefused::AtStep(5, StepRefused::LockHeld);
     is_refused(&rt, rt.alloc(), &scenario, &[0, 0, 0, 1, 1, 1], refused)
 }
 

@@ -19,9 +19,7 @@ fn scenario_text(alloc: Global, refused: ScenarioRefused) -> Result<String, Fail
     }
 }
 
-fn run_text(alloc: Global, at: usize) -> Result<String, Fail> {
-    let cause = StepRefused::Asleep;
-    let refused = RunRefused { at, cause };
+fn run_text(alloc: Global, refused: RunRefused) -> Result<String, Fail> {
     match format!(in alloc; "{refused}") {
         Ok(text) => Ok(text),
         Err(_) => Ok(format!(in alloc; "{refused}")?),
@@ -65,11 +63,21 @@ fn other_refusals_are_written(rt: HostRuntime) -> Result<(), Fail> {
     for (refused, text) in texts {
         is(&rt, &scenario_text(rt.alloc(), refused)?, text);
     }
-    is(
-        &rt,
-        &run_text(rt.alloc(), 15)?,
-        "step 15: the seat is asleep",
-    );
+    Ok(())
+}
+
+#[test]
+fn refusals_of_runs_are_written(rt: HostRuntime) -> Result<(), Fail> {
+    let texts = [
+        (RunRefused::NoStart, "start: no memory"),
+        (
+            RunRefused::AtStep(15, StepRefused::Asleep),
+            "step 15: the seat is asleep",
+        ),
+    ];
+    for (refused, text) in texts {
+        is(&rt, &run_text(rt.alloc(), refused)?, text);
+    }
     Ok(())
 }
 

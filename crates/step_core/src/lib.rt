@@ -12,7 +12,6 @@ mod laws;
 mod machine;
 mod moment;
 mod running;
-mod scenario;
 mod schedule;
 mod starting;
 mod turn;

@@ -12,7 +12,7 @@ ghost use Rattle.step_table.specs.declared.standing.Standing.TheVariants.{Rest};
 
 use crate::group::EMPTY;
 use crate::machine::Machine;
-use crate::scenario::Scenario;
+use scenario::Scenario;
 use std::alloc::{AllocError, Global};
 use step_rows::{ListMachine, Semaphores, copy_items};
 use step_table::{GroupWord, Standing};

@@ -63,20 +63,23 @@ impl fmt::Display for StepRefused {
 
 impl Error for StepRefused {}
 
-/// The first step of a schedule that can't be run, counted from 0, and why.
+/// Why a schedule wasn't run.
 #[derive(Clone, Copy, Debug, PartialEq, Eq, Drop)]
-pub struct RunRefused {
-    pub at: usize,
-    pub cause: StepRefused,
+pub enum RunRefused {
+    /// There was no memory for the start.
+    NoStart,
+    /// The first step that can't be run, counted from 0, and why.
+    AtStep(usize, StepRefused),
 }
 
 impl fmt::Display for RunRefused {
     ghost output = { λ refused. Some (run_refused_text refused) };
 
     fn fmt<W: fmt::Write>(&self, f: &mut fmt::Formatter<W>) -> fmt::Result {
-        let at = self.at;
-        let cause = self.cause;
-        write!(f, "step {at}: {cause}")
+        match *self {
+            RunRefused::NoStart => f.write_str("start: no memory"),
+            RunRefused::AtStep(at, cause) => write!(f, "step {at}: {cause}"),
+        }
     }
 }
 

@@ -1,6 +1,6 @@
 use Rattle.std.proofs.Common.{◌≡◌, ℕ, ◌<◌, ◌^◌, List, ap, ◌∙◌, slice_index, subst, rules}
 use Rattle.step_table.specs.declared.parts.Parts.{Parts}
-use Rattle.step_core.proofs.scenario.Scenario.starts.Goals as goal
+use Rattle.scenario.proofs.scenario.Scenario.starts.Goals as goal
 
 pub returns-clause-fits : goal.returns-clause-fits
 returns-clause-fits c =

@@ -204,7 +204,7 @@ impl Scenario {
     }
 
     /// The call of this number of the seat, if it has so many.
-    pub(crate) fn call(&self, seat: usize, number: usize) -> Option<Call>
+    pub fn call(&self, seat: usize, number: usize) -> Option<Call>
         requires { seat < length self.now.calls }
         ensures { result ≡ call_of self.now seat number }
     {
