@@ -40,12 +40,20 @@ fn sleeps(rt: &impl Abort, alloc: Global, world: &World<'_>) -> Result<(), Fail>
     shows(rt, alloc, world, &seen)
 }
 
+fn is_enabled(rt: &impl Abort, world: &World<'_>, can: bool) {
+    assert!(rt; world.enabled(seat(0)) == can);
+}
+
+fn steps(rt: &impl Abort, world: &mut World<'_>) {
+    is_enabled(rt, world, true);
+    assert!(rt; step_again(world, 0).is_ok());
+}
+
 fn fall_asleep(rt: &impl Abort, world: &mut World<'_>) {
     for _ in 0..5 {
-        assert!(rt; world.enabled(seat(0)));
-        assert!(rt; step_again(world, 0).is_ok());
+        steps(rt, world);
     }
-    assert!(rt; !world.enabled(seat(0)));
+    is_enabled(rt, world, false);
 }
 
 fn copy_sleeps(rt: &impl Abort, alloc: Global, world: &World<'_>) -> Result<(), Fail> {

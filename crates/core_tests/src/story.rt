@@ -22,9 +22,13 @@ pub(crate) struct Seen<'t> {
     pub(crate) told: &'t [Entry],
 }
 
-fn stands(rt: &impl Abort, world: &World<'_>, number: u16, far: Phase) {
+fn phase_of(rt: &impl Abort, world: &World<'_>, number: u16) -> Phase {
     assert!(rt; (number as usize) < world.scenario().seats());
-    assert!(rt; world.phase(seat(number)) == far);
+    world.phase(seat(number))
+}
+
+fn stands(rt: &impl Abort, world: &World<'_>, number: u16, far: Phase) {
+    assert!(rt; phase_of(rt, world, number) == far);
 }
 
 fn has_number(rt: &impl Abort, world: &World<'_>, counter: u32, number: u64) {
