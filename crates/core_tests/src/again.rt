@@ -2,8 +2,9 @@
 
 use crate::given::seat;
 use std::alloc::Global;
+use std::process::Abort;
 use step_core::{BentWorld, Moment, RunRefused, Scenario, StepRefused, Variant, World, run};
-use waiters::{NoMemory, SeatId};
+use waiters::{CounterId, NoMemory, SeatId, WaitId};
 
 /// Runs the schedule, once more where memory was refused.
 pub(crate) fn run_again<'s>(
@@ -61,6 +62,36 @@ pub(crate) fn copied_moment<'s>(
 ) -> Result<Moment<'s>, NoMemory> {
     match moment.try_clone(alloc) {
         Err(NoMemory) => moment.try_clone(alloc),
+        answer => answer,
+    }
+}
+
+/// The waits of the counter's list, asked for once more where memory was refused.
+pub(crate) fn waiting_again(
+    rt: &impl Abort,
+    alloc: Global,
+    world: &World<'_>,
+    counter: u32,
+) -> Result<Vec<WaitId>, NoMemory> {
+    assert!(rt; (counter as usize) < world.scenario().semaphores());
+    match world.waiting(alloc, CounterId::new(counter)) {
+        Err(NoMemory) => world.waiting(alloc, CounterId::new(counter)),
+        answer => answer,
+    }
+}
+
+/// The key of the world, asked for once more where memory was refused.
+pub(crate) fn key_again(alloc: Global, world: &World<'_>) -> Result<Vec<u64>, NoMemory> {
+    match world.key(alloc) {
+        Err(NoMemory) => world.key(alloc),
+        answer => answer,
+    }
+}
+
+/// The key of the moment, asked for once more where memory was refused.
+pub(crate) fn moments_key(alloc: Global, moment: &Moment<'_>) -> Result<Vec<u64>, NoMemory> {
+    match moment.key(alloc) {
+        Err(NoMemory) => moment.key(alloc),
         answer => answer,
     }
 }

@@ -44,79 +44,10 @@ pub(crate) fn script(alloc: Global, call: &Call, times: usize) -> Result<Items<C
     Ok(Items::new(calls))
 }
 
-/// One root, one counter at 0, and seats of one call each.
-fn parts(alloc: Global, calls: &[Call]) -> Result<Parts, AllocError> {
-    let mut scripts = Vec::new(alloc);
-    for call in calls {
-        scripts.push(script(alloc, call, 1)?)?;
-    }
-    Ok(Parts {
-        roots: 1,
-        starts: Items::new(vec![in alloc; 0]?),
-        firsts: Items::new(Vec::new(alloc)),
-        groups: 0,
-        calls: Items::new(scripts),
-    })
-}
-
-pub(crate) fn scenario(alloc: Global, calls: &[Call]) -> Result<Scenario, Fail> {
-    let made = match parts(alloc, calls) {
-        Ok(made) => made,
-        Err(_) => parts(alloc, calls)?,
-    };
-    Ok(Scenario::of(made).ok().ok_or("the parts were refused")?)
-}
-
-/// So many roots, counters at these numbers, lists at these first tickets, so many groups, and the calls of each seat.
-fn parts_of(
-    alloc: Global,
-    roots: u32,
-    starts: &[u32],
-    firsts: &[u64],
-    groups: u32,
-    calls: &[&[Call]],
-) -> Result<Parts, AllocError> {
-    let mut scripts = Vec::new(alloc);
-    for script in calls {
-        scripts.push(Items::new(script.to_vec(alloc)?))?;
-    }
-    Ok(Parts {
-        roots,
-        starts: Items::new(starts.to_vec(alloc)?),
-        firsts: Items::new(firsts.to_vec(alloc)?),
-        groups,
-        calls: Items::new(scripts),
-    })
-}
-
-pub(crate) fn scenario_on_roots(
-    alloc: Global,
-    roots: u32,
-    starts: &[u32],
-    firsts: &[u64],
-    groups: u32,
-    calls: &[&[Call]],
-) -> Result<Scenario, Fail> {
-    let made = match parts_of(alloc, roots, starts, firsts, groups, calls) {
-        Ok(made) => made,
-        Err(_) => parts_of(alloc, roots, starts, firsts, groups, calls)?,
-    };
-    Ok(Scenario::of(made).ok().ok_or("the parts were refused")?)
-}
-
-pub(crate) fn scenario_of_parts(
-    alloc: Global,
-    starts: &[u32],
-    firsts: &[u64],
-    groups: u32,
-    calls: &[&[Call]],
-) -> Result<Scenario, Fail> {
-    scenario_on_roots(alloc, 1, starts, firsts, groups, calls)
-}
-
-/// What a scenario of one root is made of. A test that owns a scenario is slow to prove, and one that has its parts isn't.
+/// What a scenario is made of. A test that owns a scenario is slow to prove, and one that has its parts isn't.
 #[derive(Clone, Copy, Drop)]
 pub(crate) struct Start<'t> {
+    pub(crate) roots: u32,
     pub(crate) starts: &'t [u32],
     pub(crate) firsts: &'t [u64],
     pub(crate) groups: u32,
@@ -126,6 +57,7 @@ pub(crate) struct Start<'t> {
 /// One counter at 0, and the calls of each seat.
 pub(crate) fn on_counter<'t>(calls: &'t [&'t [Call]]) -> Start<'t> {
     Start {
+        roots: 1,
         starts: &[0],
         firsts: &[],
         groups: 0,
@@ -133,8 +65,29 @@ pub(crate) fn on_counter<'t>(calls: &'t [&'t [Call]]) -> Start<'t> {
     }
 }
 
-pub(crate) fn scenario_from(alloc: Global, start: Start<'_>) -> Result<Scenario, Fail> {
-    scenario_of_parts(alloc, start.starts, start.firsts, start.groups, start.calls)
+fn parts(alloc: Global, start: &Start<'_>) -> Result<Parts, AllocError> {
+    let mut scripts = Vec::new(alloc);
+    for script in start.calls {
+        scripts.push(Items::new(script.to_vec(alloc)?))?;
+    }
+    Ok(Parts {
+        roots: start.roots,
+        starts: Items::new(start.starts.to_vec(alloc)?),
+        firsts: Items::new(start.firsts.to_vec(alloc)?),
+        groups: start.groups,
+        calls: Items::new(scripts),
+    })
+}
+
+fn parts_again(alloc: Global, start: &Start<'_>) -> Result<Parts, AllocError> {
+    match parts(alloc, start) {
+        Err(_) => parts(alloc, start),
+        made => made,
+    }
+}
+
+pub(crate) fn scenario(alloc: Global, start: &Start<'_>) -> Result<Scenario, Fail> {
+    Ok(Scenario::of(parts_again(alloc, start)?)?)
 }
 
 fn seats(alloc: Global, schedule: &[u16]) -> Result<Vec<SeatId>, AllocError> {
@@ -153,8 +106,4 @@ pub(crate) const HANDOFF: [u16; 20] = [0, 0, 0, 0, 0, 1, 1, 1, 1, 1, 2, 2, 2, 2,
 
 pub(crate) fn handoff() -> Call {
     Call::Release(CounterId::new(COUNTER), true)
-}
-
-pub(crate) fn handoff_scenario(alloc: Global) -> Result<Scenario, Fail> {
-    scenario(alloc, &[acquire(), acquire(), handoff()])
 }

@@ -9,21 +9,13 @@
 #[cfg(test)]
 mod again;
 #[cfg(test)]
-mod bent_shown;
-#[cfg(test)]
 mod bent_tests;
 #[cfg(test)]
 mod commute_tests;
 #[cfg(test)]
-mod copy_tests;
-#[cfg(test)]
 mod given;
 #[cfg(test)]
 mod group_tests;
-#[cfg(test)]
-mod key_tests;
-#[cfg(test)]
-mod keys;
 #[cfg(test)]
 mod limit_tests;
 #[cfg(test)]
@@ -37,12 +29,6 @@ mod scenario_tests;
 #[cfg(test)]
 mod schedule_tests;
 #[cfg(test)]
-mod shown;
-#[cfg(test)]
 mod story;
 #[cfg(test)]
 mod text_tests;
-#[cfg(test)]
-mod ticket_tests;
-#[cfg(test)]
-mod turn_tests;

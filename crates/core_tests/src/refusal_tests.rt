@@ -1,22 +1,38 @@
-//! Steps that are refused, and the numbers of the refusals.
+//! Schedules that are refused, and the numbers of the refusals.
 
 use crate::again::run_again;
-use crate::given::{acquire, handoff_scenario, release, scenario, seats_again};
+use crate::given::{Start, acquire, handoff, on_counter, release, scenario, seats_again};
+use crate::group_tests::{add, in_group};
 use std::alloc::Global;
 use std::process::Abort;
 use std::test::Fail;
 use step_core::{Misuse, RunRefused, Scenario, StepRefused};
 
-/// The schedule is refused at this step.
+/// A schedule, at which step it is refused, and why.
+type Refused<'t> = (&'t [u16], usize, StepRefused);
+
 fn is_refused(
     rt: &impl Abort,
     alloc: Global,
     scenario: &Scenario,
-    schedule: &[u16],
-    refused: RunRefused,
+    row: &Refused<'_>,
 ) -> Result<(), Fail> {
-    let schedule = seats_again(alloc, schedule)?;
+    let schedule = seats_again(alloc, row.0)?;
+    let refused = RunRefused::AtStep(row.1, row.2);
     assert!(rt; run_again(alloc, scenario, &schedule).err() == Some(refused));
+    Ok(())
+}
+
+fn are_refused(
+    rt: &impl Abort,
+    alloc: Global,
+    start: &Start<'_>,
+    rows: &[Refused<'_>],
+) -> Result<(), Fail> {
+    let scenario = scenario(alloc, start)?;
+    for row in rows {
+        is_refused(rt, alloc, &scenario, row)?;
+    }
     Ok(())
 }
 
@@ -29,24 +45,27 @@ const fn one_more(number: u16) -> [u16; 21] {
 
 #[test]
 fn a_step_too_many_is_refused(rt: HostRuntime) -> Result<(), Fail> {
-    let scenario = handoff_scenario(rt.alloc())?;
-    let refusals = [
-        (1, StepRefused::Asleep),
-        (2, StepRefused::SeatEnded),
-        (3, StepRefused::NoSuchSeat),
+    let calls = [&[acquire()][..], &[acquire()], &[handoff()]];
+    let rows = [
+        (&one_more(1)[..], 20, StepRefused::Asleep),
+        (&one_more(2), 20, StepRefused::SeatEnded),
+        (&one_more(3), 20, StepRefused::NoSuchSeat),
     ];
-    for (number, cause) in refusals {
-        let refused = RunRefused::AtStep(20, cause);
-        is_refused(&rt, rt.alloc(), &scenario, &one_more(number), refused)?;
-    }
-    Ok(())
+    are_refused(&rt, rt.alloc(), &on_counter(&calls), &rows)
 }
 
 #[test]
 fn a_held_lock_refuses(rt: HostRuntime) -> Result<(), Fail> {
-    let scenario = scenario(rt.alloc(), &[acquire(), release()])?;
-    let refused = RunRefused::AtStep(5, StepRefused::LockHeld);
-    is_refused(&rt, rt.alloc(), &scenario, &[0, 0, 0, 1, 1, 1], refused)
+    let calls = [&[acquire()][..], &[release()]];
+    let rows = [(&[0, 0, 0, 1, 1, 1][..], 5, StepRefused::LockHeld)];
+    are_refused(&rt, rt.alloc(), &on_counter(&calls), &rows)
+}
+
+#[test]
+fn a_failed_seat_is_refused(rt: HostRuntime) -> Result<(), Fail> {
+    let calls = [&[add(-1)][..]];
+    let rows = [(&[0, 0][..], 1, StepRefused::SeatFailed)];
+    are_refused(&rt, rt.alloc(), &in_group(&calls), &rows)
 }
 
 #[test]

@@ -1,127 +1,39 @@
-//! A run as a table: what seats do, and what is seen in between.
+//! A schedule, and what is seen at its end.
 //!
-//! A test is a table and one call, since a body with many assertions is slow to prove.
+//! A test is a table and one call, since a body with many assertions is slow to prove. Which row each step runs is told by
+//! replays, and tested with them.
 
-use crate::again::{new_again, run_again, step_again};
-use crate::given::{Start, scenario_from, seat, seats_again};
-use crate::shown::{phase, runs, value_of, waiting_on};
+use crate::again::{run_again, waiting_again};
+use crate::given::{Start, scenario, seat, seats_again};
 use std::alloc::Global;
 use std::process::Abort;
 use std::test::Fail;
-use step_core::{Entry, Phase, Row, Scenario, StepRefused, World};
-use waiters::WaitId;
+use step_core::{Entry, Phase, Scenario, World};
+use waiters::{CounterId, WaitId};
 
-/// Rows that a seat runs one after the other.
+/// What is seen at the end.
 #[derive(Clone, Copy, Drop)]
-pub(crate) enum Way {
-    /// An acquire that goes to sleep.
-    ToSleep,
-    /// The rest of a release that wakes somebody, after its unit is added.
-    ToWake,
-    /// A ticket is taken, and its seat goes to sleep.
-    ToSleepOnList,
-    /// A ticket is looked at, and it is granted.
-    PastList,
-    /// One ticket is granted.
-    ToGrant,
-    /// A wait on a group that goes to sleep.
-    ToSleepOnGroup,
-    /// The add that brings a group to 0, and the release of its first wait.
-    LastAdd,
-    /// The release of another of its waits.
-    NextWait,
-    /// A woken wait on a group, to its end.
-    Awake,
+pub(crate) struct Seen<'t> {
+    /// How far a seat has come.
+    pub(crate) seats: &'t [(u16, Phase)],
+    /// The number of a counter, and the waits of its list.
+    pub(crate) counters: &'t [(u32, u64, &'t [WaitId])],
+    /// The whole journal.
+    pub(crate) told: &'t [Entry],
 }
 
-/// What a seat does, or what is seen.
-#[derive(Clone, Copy, Drop)]
-pub(crate) enum Line {
-    /// The seat stands at this row, can step, and runs it.
-    Run(u16, Row),
-    /// It runs these rows in the same way.
-    Go(u16, Way),
-    /// Its step is refused.
-    Refused(u16, StepRefused),
-    /// It has come so far.
-    Stands(u16, Phase),
-    /// Whether it can step.
-    Enabled(u16, bool),
-    /// The number of the counter.
-    Number(u32, u64),
-    /// How many waits the counter's list has.
-    Waits(u32, usize),
-    /// The wait at this place of the counter's list.
-    Wait(u32, usize, WaitId),
-}
-
-const TO_SLEEP: [Row; 5] = [Row::A1, Row::A3, Row::A4, Row::A5, Row::A7];
-
-const TO_WAKE: [Row; 6] = [Row::R2, Row::R3, Row::R4, Row::R5, Row::R6, Row::R10];
-
-const TO_SLEEP_ON_LIST: [Row; 4] = [Row::N1, Row::W1, Row::W2, Row::W4];
-
-const PAST_LIST: [Row; 3] = [Row::W1, Row::W2, Row::W3];
-
-pub(crate) const TO_GRANT: [Row; 7] = [
-    Row::O1,
-    Row::O2,
-    Row::O3,
-    Row::O4,
-    Row::O5,
-    Row::O7,
-    Row::O8,
-];
-
-const TO_SLEEP_ON_GROUP: [Row; 7] = [
-    Row::V1,
-    Row::V2,
-    Row::A1,
-    Row::A3,
-    Row::A4,
-    Row::A5,
-    Row::A7,
-];
-
-const LAST_ADD: [Row; 10] = [
-    Row::G1,
-    Row::G2,
-    Row::G3,
-    Row::R1,
-    Row::R2,
-    Row::R3,
-    Row::R4,
-    Row::R5,
-    Row::R6,
-    Row::R10,
-];
-
-const AWAKE: [Row; 4] = [Row::P, Row::A10, Row::A11, Row::V3];
-
-fn goes(rt: &impl Abort, world: &mut World<'_>, number: u16, way: Way) {
-    match way {
-        Way::ToSleep => runs(rt, world, number, &TO_SLEEP),
-        Way::ToWake => runs(rt, world, number, &TO_WAKE),
-        Way::ToSleepOnList => runs(rt, world, number, &TO_SLEEP_ON_LIST),
-        Way::PastList => runs(rt, world, number, &PAST_LIST),
-        Way::ToGrant => runs(rt, world, number, &TO_GRANT),
-        Way::ToSleepOnGroup => runs(rt, world, number, &TO_SLEEP_ON_GROUP),
-        Way::LastAdd => runs(rt, world, number, &LAST_ADD),
-        Way::NextWait => runs(rt, world, number, &LAST_ADD[3..]),
-        Way::Awake => runs(rt, world, number, &AWAKE),
-    }
-}
-
-fn refuses(rt: &impl Abort, world: &mut World<'_>, number: u16, cause: StepRefused) {
-    assert!(rt; step_again(world, number) == Err(cause));
+fn phase_of(rt: &impl Abort, world: &World<'_>, number: u16) -> Phase {
+    assert!(rt; (number as usize) < world.scenario().seats());
+    world.phase(seat(number))
 }
 
 fn stands(rt: &impl Abort, world: &World<'_>, number: u16, far: Phase) {
-    assert!(rt; phase(rt, world, number) == far);
+    assert!(rt; phase_of(rt, world, number) == far);
 }
 
 fn has_number(rt: &impl Abort, world: &World<'_>, counter: u32, number: u64) {
-    assert!(rt; value_of(rt, world, counter) == number);
+    assert!(rt; (counter as usize) < world.scenario().semaphores());
+    assert!(rt; world.value(CounterId::new(counter)) == number);
 }
 
 fn has_waits(
@@ -129,120 +41,53 @@ fn has_waits(
     alloc: Global,
     world: &World<'_>,
     counter: u32,
-    count: usize,
+    expected: &[WaitId],
 ) -> Result<(), Fail> {
-    let waits = waiting_on(rt, alloc, world, counter)?;
-    assert!(rt; waits.len() == count);
+    let waits = waiting_again(rt, alloc, world, counter)?;
+    assert!(rt; waits.as_slice() == expected);
     Ok(())
 }
 
-fn has_wait(
+/// The world shows this.
+pub(crate) fn shows(
     rt: &impl Abort,
     alloc: Global,
     world: &World<'_>,
-    counter: u32,
-    place: usize,
-    wait: WaitId,
+    seen: &Seen<'_>,
 ) -> Result<(), Fail> {
-    let waits = waiting_on(rt, alloc, world, counter)?;
-    assert!(rt; waits.get(place).copied() == Some(wait));
-    Ok(())
-}
-
-fn obey(rt: &impl Abort, alloc: Global, world: &mut World<'_>, line: Line) -> Result<(), Fail> {
-    match line {
-        Line::Run(number, row) => runs(rt, world, number, &[row]),
-        Line::Go(number, way) => goes(rt, world, number, way),
-        Line::Refused(number, cause) => refuses(rt, world, number, cause),
-        Line::Stands(number, far) => stands(rt, world, number, far),
-        Line::Enabled(number, can) => assert!(rt; world.enabled(seat(number)) == can),
-        Line::Number(counter, number) => has_number(rt, world, counter, number),
-        Line::Waits(counter, count) => return has_waits(rt, alloc, world, counter, count),
-        Line::Wait(counter, place, wait) => {
-            return has_wait(rt, alloc, world, counter, place, wait);
-        }
+    for row in seen.seats {
+        stands(rt, world, row.0, row.1);
     }
-    Ok(())
-}
-
-/// The world does and shows what these lines say.
-pub(crate) fn obeys(
-    rt: &impl Abort,
-    alloc: Global,
-    world: &mut World<'_>,
-    lines: &[Line],
-) -> Result<(), Fail> {
-    for line in lines {
-        obey(rt, alloc, world, *line)?;
+    for row in seen.counters {
+        has_number(rt, world, row.0, row.1);
+        has_waits(rt, alloc, world, row.0, row.2)?;
     }
-    Ok(())
-}
-
-/// The journal has these entries.
-pub(crate) fn tells(rt: &impl Abort, world: &World<'_>, told: &[Entry]) {
-    assert!(rt; world.journal() == told);
-}
-
-/// The world does and shows what these lines say, and then its journal has these entries.
-fn obeys_and_tells(
-    rt: &impl Abort,
-    alloc: Global,
-    world: &mut World<'_>,
-    lines: &[Line],
-    told: &[Entry],
-) -> Result<(), Fail> {
-    obeys(rt, alloc, world, lines)?;
-    tells(rt, world, told);
+    assert!(rt; world.journal() == seen.told);
     Ok(())
 }
 
 // a function that owns a world lets it go at one place only: each such place is slow to prove
 
-fn follow_from(
-    rt: &impl Abort,
-    alloc: Global,
-    scenario: &Scenario,
-    lines: &[Line],
-    told: &[Entry],
-) -> Result<(), Fail> {
-    let mut world = new_again(alloc, scenario)?;
-    obeys_and_tells(rt, alloc, &mut world, lines, told)
-}
-
-/// Runs the table from the start of the scenario. At the end the journal has these entries.
-pub(crate) fn follow(
-    rt: &impl Abort,
-    alloc: Global,
-    start: Start<'_>,
-    lines: &[Line],
-    told: &[Entry],
-) -> Result<(), Fail> {
-    let scenario = scenario_from(alloc, start)?;
-    follow_from(rt, alloc, &scenario, lines, told)
-}
-
-fn follow_run(
+fn plays_in(
     rt: &impl Abort,
     alloc: Global,
     scenario: &Scenario,
     schedule: &[u16],
-    lines: &[Line],
-    told: &[Entry],
+    seen: &Seen<'_>,
 ) -> Result<(), Fail> {
     let schedule = seats_again(alloc, schedule)?;
-    let mut world = run_again(alloc, scenario, &schedule)?;
-    obeys_and_tells(rt, alloc, &mut world, lines, told)
+    let world = run_again(alloc, scenario, &schedule)?;
+    shows(rt, alloc, &world, seen)
 }
 
-/// Runs the whole schedule at once, and then the table. At the end the journal has these entries.
-pub(crate) fn follow_after(
+/// The schedule runs from this start, and this is seen at its end.
+pub(crate) fn plays(
     rt: &impl Abort,
     alloc: Global,
-    start: Start<'_>,
+    start: &Start<'_>,
     schedule: &[u16],
-    lines: &[Line],
-    told: &[Entry],
+    seen: &Seen<'_>,
 ) -> Result<(), Fail> {
-    let scenario = scenario_from(alloc, start)?;
-    follow_run(rt, alloc, &scenario, schedule, lines, told)
+    let scenario = scenario(alloc, start)?;
+    plays_in(rt, alloc, &scenario, schedule, seen)
 }

@@ -5,13 +5,6 @@ use std::process::Abort;
 use std::test::Fail;
 use step_core::{GroupId, ListId, RunRefused, ScenarioRefused, StepRefused};
 
-fn step_text(alloc: Global, refused: StepRefused) -> Result<String, Fail> {
-    match format!(in alloc; "{refused}") {
-        Ok(text) => Ok(text),
-        Err(_) => Ok(format!(in alloc; "{refused}")?),
-    }
-}
-
 fn scenario_text(alloc: Global, refused: ScenarioRefused) -> Result<String, Fail> {
     match format!(in alloc; "{refused}") {
         Ok(text) => Ok(text),
@@ -38,23 +31,7 @@ fn is(rt: &impl Abort, text: &str, expected: &str) {
 }
 
 #[test]
-fn refusals_of_steps_are_written(rt: HostRuntime) -> Result<(), Fail> {
-    let texts = [
-        (StepRefused::NoSuchSeat, "no such seat"),
-        (StepRefused::SeatEnded, "the seat has ended"),
-        (StepRefused::LockHeld, "the lock is held"),
-        (StepRefused::Asleep, "the seat is asleep"),
-        (StepRefused::SeatFailed, "the seat has failed"),
-        (StepRefused::NoMemory, "no memory"),
-    ];
-    for (refused, text) in texts {
-        is(&rt, &step_text(rt.alloc(), refused)?, text);
-    }
-    Ok(())
-}
-
-#[test]
-fn other_refusals_are_written(rt: HostRuntime) -> Result<(), Fail> {
+fn refusals_of_parts_are_written(rt: HostRuntime) -> Result<(), Fail> {
     let texts = [
         (ScenarioRefused::OutOfLimits, "out of limits"),
         (ScenarioRefused::Undeclared, "undeclared"),
@@ -71,8 +48,28 @@ fn refusals_of_runs_are_written(rt: HostRuntime) -> Result<(), Fail> {
     let texts = [
         (RunRefused::NoStart, "start: no memory"),
         (
+            RunRefused::AtStep(0, StepRefused::NoSuchSeat),
+            "step 0: no such seat",
+        ),
+        (
+            RunRefused::AtStep(1, StepRefused::SeatEnded),
+            "step 1: the seat has ended",
+        ),
+        (
+            RunRefused::AtStep(2, StepRefused::LockHeld),
+            "step 2: the lock is held",
+        ),
+        (
             RunRefused::AtStep(15, StepRefused::Asleep),
             "step 15: the seat is asleep",
+        ),
+        (
+            RunRefused::AtStep(4, StepRefused::SeatFailed),
+            "step 4: the seat has failed",
+        ),
+        (
+            RunRefused::AtStep(5, StepRefused::NoMemory),
+            "step 5: no memory",
         ),
     ];
     for (refused, text) in texts {
