@@ -1,13 +1,17 @@
 -- What rows of one call do to the token of a seat.
-use Rattle.std.specs.Prelude.{◌≡◌, ℕ, List, [], ◌∷◌, ◌++◌, pos}
+use Rattle.std.specs.Prelude.{◌≡◌, ℕ, List, [], ◌∷◌, ◌++◌, ℤ, pos, Result}
 use Rattle.step_table.specs.declared.group_word.GroupWord.{GroupWord}
+use Rattle.table_names.specs.declared.misuse.Misuse.{Misuse}
 use Rattle.step_table.specs.declared.standing.GroupRow.{GroupRow}
-use Rattle.step_table.specs.declared.standing.GroupRow.TheVariants.{V1}
+use Rattle.step_table.specs.declared.standing.GroupRow.TheVariants.{G1, V1}
 use Rattle.step_table.specs.declared.standing.GroupNext.{GroupNext}
 use Rattle.step_table.specs.declared.standing.GroupNext.TheVariants.{Ends, Acquires}
+use Rattle.step_table.specs.Group.{plus}
+use Rattle.sema_table.specs.Seats.{SeatModel}
 use Rattle.sync_parts.specs.declared.group_view.GroupStep.{GroupStep}
-use Rattle.sync_parts.specs.GroupPlays.{Token, step}
-use Rattle.sync_parts.specs.GroupCalls.{Walks}
+use Rattle.sync_parts.specs.GroupPlays.{Token, Steps, step}
+use Rattle.sync_parts.specs.GroupSeats.{GroupSeatModel, group_seat_of}
+use Rattle.sync_parts.specs.GroupCalls.{Walks, IsAdded}
 
 -- these rows ran, one path from this row on, whichever number the seat has, and led here
 pub record Walked (s : Token) (row : GroupRow) (steps : List GroupStep) (next : GroupNext) (t : Token) : Type 0 where
@@ -25,3 +29,8 @@ abbrev pub FindsZero : Token → Token → Type 0
 FindsZero s t =
     (before : List GroupStep) × (word : GroupWord) × (word.counter ≡ pos 0)
     × Walked s V1 (before ++ step V1 word ∷ []) Ends t
+
+-- the whole add, whichever word its first row found that left this one
+abbrev pub Settles : Token → SeatModel → ℤ → GroupWord → GroupSeatModel → Result ℕ Misuse → Type 0
+Settles t sema d left u answer =
+    (s : Token) → (found : GroupWord) → left ≡ plus found d → Steps s (G1 d) found t → IsAdded (group_seat_of s sema) d u answer

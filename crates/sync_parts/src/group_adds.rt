@@ -1,11 +1,12 @@
 //! What adds to a group, and takes off it.
-ghost use Rattle.std.specs.Prelude.{◌≡◌, ◌<◌, ◌≤◌, ◌-◌, ◌^◌, negsuc, if◌then◌else◌, false, MatchResult};
+ghost use Rattle.std.specs.Prelude.{◌≡◌, ◌<◌, ◌≤◌, ◌-◌, ◌^◌, negsuc, true, if◌then◌else◌, false, MatchResult};
 ghost use Rattle.step_table.specs.declared.standing.GroupNext.TheVariants.{Ends, Fails, Goes, Releases};
 ghost use Rattle.step_table.specs.declared.standing.GroupRow.TheVariants.{G2};
 ghost use Rattle.step_table.specs.Group.{after_add};
 ghost use Rattle.sema_table.specs.declared.answers.Wake.{Wake};
 ghost use Rattle.sema_table.specs.Whole.{IsReleased};
 ghost use Rattle.sync_parts.specs.GroupCalls.{HasReleased, IsAdded};
+ghost use Rattle.sync_parts.specs.GroupWalks.{Settles};
 
 use crate::group::{GroupSeat, WaitGroup};
 use crate::group_plays::StateToken;
@@ -33,6 +34,14 @@ fn after_add(d: i32, left: GroupWord) -> Result<bool, Misuse>
     Ok(true)
 }
 
+/// Whether nobody waits and the counter isn't below 0, so that there is nothing more to do.
+#[inline]
+fn is_quiet(left: GroupWord) -> bool
+    ensures { result ≡ true → (d : _) → after_add d left ≡ Ends }
+{
+    left.waits == 0 && 0 <= left.counter
+}
+
 impl WaitGroup {
     /// Adds `d`, which may be below 0, and where that leads to 0 releases each wait: how many (Go's `WaitGroup.Add`). `Negative`
     /// says that it led below 0, `AddWithWait` that it ran beside a wait. The seat comes back in either case.
@@ -44,6 +53,28 @@ impl WaitGroup {
     {
         let GroupSeat { mut token, sema } = seat;
         let word = self.word.add(&mut token, d);
+        if is_quiet(word) {
+            return (GroupSeat { token, sema }, Ok(0));
+        }
+        self.settle(rt, token, sema, d, word)
+    }
+
+    /// What an add does that has left this word. It isn't in the caller's own code, from which it would take registers.
+    #[inline(never)]
+    fn settle<R: Wait>(
+        &self,
+        rt: &R,
+        token: StateToken,
+        sema: Seat,
+        d: i32,
+        word: GroupWord,
+    ) -> (GroupSeat, Result<u32, Misuse>)
+        requires own { (token.table_id ≡ self.now.word) × (sema.table ≡ self.now.sema) }
+        requires leads { token.me.0.next ≡ after_add d word }
+        requires left { word.waits ≤ sema.left }
+        ensures { Settles token sema d word result.0 result.1 }
+    {
+        let mut token = token;
         match after_add(d, word) {
             Err(misuse) => return (GroupSeat { token, sema }, Err(misuse)),
             Ok(false) => return (GroupSeat { token, sema }, Ok(0)),
