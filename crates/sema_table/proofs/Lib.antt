@@ -6,6 +6,7 @@ pub mod Bounding
 pub mod Resting
 pub mod Keeping
 pub mod Allowing
+pub mod Apart
 pub mod Aside
 pub mod Stepping
 pub mod Leading

@@ -1,6 +1,6 @@
 -- The rule holds of a table as it is made, and is kept where its first seat makes another.
-use Rattle.std.proofs.Common.{◌≡◌, ◌≢◌, ℕ, zero, suc, ◌+◌, ◌%◌, ◌^◌, ◌<◌, ◌≤◌, List, [], ◌∷◌, ◌++◌, length, replicate, map, get_or, set, slice_index, slice_index_or, All, sym, refl, ap, ◌∙◌, subst, ⊎_elim, inl, inr, ◌⊎◌, arith, length-append, lt_of_not-le}
-use Rattle.std.proofs.lemmas.List.{get_or_append_left, get_or-append-add, get_or_past, length-map, length-replicate}
+use Rattle.std.proofs.Common.{◌≡◌, ◌≢◌, ℕ, zero, suc, ◌+◌, ◌*◌, ◌%◌, ◌^◌, ◌<◌, ◌≤◌, List, [], ◌∷◌, ◌++◌, length, replicate, map, get_or, set, slice_index, slice_index_or, All, sym, refl, ap, ◌∙◌, subst, ⊎_elim, inl, inr, ◌⊎◌, arith, length-append, lt_of_not-le}
+use Rattle.std.proofs.lemmas.List.{get_or-append-add, get_or_past, length-map, length-replicate}
 use Rattle.std.proofs.lemmas.List.FromFn.{length-map-range_with_len, map-range_with_len_more}
 use Rattle.std.specs.List.{range_with_len}
 use mathlib.Core.Logic.{dite}
@@ -21,30 +21,31 @@ use Rattle.sema_table.specs.declared.view.View.{View}
 use Rattle.sema_table.specs.declared.view.Record.{Record}
 use Rattle.sema_table.specs.declared.view.Setting.{Setting}
 use Rattle.sema_root.specs.Treap.{tickets_from}
-use Rattle.sema_table.specs.Setting.{root, layout, address, words_in, IsThere}
+use Rattle.sema_table.specs.Setting.{root, layout, address, apart, words_in, IsThere}
 use Rattle.sema_table.specs.Rule.{Knows, IsSomeones, Sits, HasSeats, IsKept, fresh, view_of, first_view, making, made_by}
 use Rattle.std.proofs.lemmas.List.Elements.{All-map}
 use Rattle.sema_table.specs.declared.settings.Settings.{Settings}
 use Rattle.sema_table.specs.Making.{IsMade, new_root, new_roots, new_seat, new_seats}
 use Rattle.sema_table.specs.Seats.{TableModel, SeatModel}
+use Rattle.sema_table.proofs.Apart.{at_apart, length_apart}
 
 zeros : (n k : ℕ) → ◌≡◌ {A = ℕ} (get_or (replicate n 0) k 0) 0
 zeros zero k = refl
 zeros (suc n) zero = refl
 zeros (suc n) (suc k) = zeros n k
 
-behind : (xs : List ℕ) (n k i : ℕ) → i ≡ length xs + k → slice_index (xs ++ replicate n 0) i ≡ 0
-behind xs n k i e = ap (λ (j : ℕ). get_or (xs ++ replicate n 0) j 0) e ∙ get_or-append-add xs (replicate n 0) k 0 ∙ zeros n k
+behind : (xs : List ℕ) (n k i : ℕ) → i ≡ 8 * length xs + k → slice_index (apart xs ++ replicate n 0) i ≡ 0
+behind xs n k i e = let long = length_apart xs in ap (λ (j : ℕ). get_or (apart xs ++ replicate n 0) j 0) (let same : i ≡ length (apart xs) + k = omega (arith, e, long) in same) ∙ get_or-append-add (apart xs) (replicate n 0) k 0 ∙ zeros n k
 
 -- the counters' starts with a 0 for each other word are the words of the first world
-first_words : (z : Setting) (n : ℕ) (w : Word) → IsThere z w → slice_index (z.starts ++ replicate n 0) (address z w) ≡ found (root z) (first_world (layout z).starts).words w
-first_words z n (Counter c) h = get_or_append_left z.starts (replicate n 0) 0 c h
+first_words : (z : Setting) (n : ℕ) (w : Word) → IsThere z w → slice_index (apart z.starts ++ replicate n 0) (address z w) ≡ found (root z) (first_world (layout z).starts).words w
+first_words z n (Counter c) h = at_apart z.starts (replicate n 0) c h
 first_words z n (Lock c) h = behind z.starts n (root z c) (address z (Lock c)) refl
 first_words z n (Waiters c) h = behind z.starts n (z.roots + root z c) (address z (Waiters c)) (omega arith)
 first_words z n (Grant s) h = behind z.starts n (z.roots + z.roots + s) (address z (Grant s)) (omega arith)
 
-pub words_long : (z : Setting) → length (z.starts ++ replicate (z.roots + z.roots + z.seats + z.seats) 0) ≡ words_in z
-words_long z = length-append z.starts (replicate (z.roots + z.roots + z.seats + z.seats) 0) ∙ ap (λ k. length z.starts + k) (length-replicate (z.roots + z.roots + z.seats + z.seats) 0) ∙ omega arith
+pub words_long : (z : Setting) → length (apart z.starts ++ replicate (z.roots + z.roots + z.seats + z.seats) 0) ≡ words_in z
+words_long z = length-append (apart z.starts) (replicate (z.roots + z.roots + z.seats + z.seats) 0) ∙ (λ i. length_apart z.starts i + length-replicate {A = ℕ} (z.roots + z.roots + z.seats + z.seats) 0 i) ∙ omega arith
 
 small_starts : (xs : List ℕ) → All (λ n. n < 2 ^ 32) xs → (c : ℕ) → slice_index_or xs c 0 < 2 ^ 32
 small_starts xs all c = dite (dec_le (length xs) c) (λ l. let e = get_or_past xs c 0 l in omega (arith, e)) (λ n. all c 0 (lt_of_not-le n))
@@ -80,7 +81,7 @@ module _ (z : Setting) where
 
   -- the rule holds of a table with one seat, whose words are those of the first world and whose roots are empty
   pub opens : 0 < z.roots → 0 < z.seats → z.seats ≤ 256 → length z.starts ≤ 65536 → All (λ n. n < 2 ^ 32) z.starts
-      → IsKept z (opening (z.starts ++ replicate (z.roots + z.roots + z.seats + z.seats) 0) (new_roots z.seats z.seed z.roots) (first_view z))
+      → IsKept z (opening (apart z.starts ++ replicate (z.roots + z.roots + z.seats + z.seats) 0) (new_roots z.seats z.seed z.roots) (first_view z))
   opens rooted seated most counted starts = record {
     world = first;
     reached = none;

@@ -1,5 +1,5 @@
 -- Where one view has every seat of the table, and all may begin a call, the counts add up and nothing is left.
-use Rattle.std.proofs.Common.{◌≡◌, ◌≢◌, ◌⊎◌, ℕ, zero, suc, true, ◌+◌, ◌-◌, ◌<◌, ◌≤◌, List, [], ◌∷◌, length, slice_index, sym, refl, ap, ◌∙◌, subst, inl, inr, arith}
+use Rattle.std.proofs.Common.{◌≡◌, ◌≢◌, ◌⊎◌, ℕ, zero, suc, true, ◌+◌, ◌*◌, ◌-◌, ◌<◌, ◌≤◌, List, [], ◌∷◌, length, slice_index, sym, refl, ap, ◌∙◌, subst, inl, inr, arith}
 use mathlib.Core.Logic.{dite}
 use mathlib.Core.Option.{some}
 use native.Mathlib.Decide.{ℕ_discrete}
@@ -211,13 +211,13 @@ module _ (z : Setting) (s : State Record View) (r : IsKept z s) (id : ℕ) (v : 
   lawful : IsLawfulWorld m r.world
   lawful = the_law.reached m r.world r.reached
 
-  value_is : (k : ℕ) → k < length z.starts → slice_index s.words k ≡ r.world.words.numbers k
+  value_is : (k : ℕ) → k < length z.starts → slice_index s.words (8 * k) ≡ r.world.words.numbers k
   value_is k h = r.words (Counter k) h
 
-  balance : total (length z.starts) (slice_index s.words) + sum_by was_given seats ≡ total (length z.starts) (layout z).starts + sum_by (has_added z.limit) seats
-  balance = let a = the_accounts.balanced_in_all m r.world r.reached in let b = total_same (length z.starts) (slice_index s.words) r.world.words.numbers value_is in let c = given_all in let d = added_all in omega arith
+  balance : total (length z.starts) (λ k. slice_index s.words (8 * k)) + sum_by was_given seats ≡ total (length z.starts) (layout z).starts + sum_by (has_added z.limit) seats
+  balance = let a = the_accounts.balanced_in_all m r.world r.reached in let b = total_same (length z.starts) (λ k. slice_index s.words (8 * k)) r.world.words.numbers value_is in let c = given_all in let d = added_all in omega arith
 
-  pub is_closed : (values : List ℕ) → length values ≡ length z.starts → ((k : ℕ) → k < length z.starts → slice_index values k ≡ slice_index s.words k)
+  pub is_closed : (values : List ℕ) → length values ≡ length z.starts → ((k : ℕ) → k < length z.starts → slice_index values k ≡ slice_index s.words (8 * k))
       → IsClosed z seats (record { values = values; releases = sum_by (has_added z.limit) seats; acquires = sum_by was_given seats })
   is_closed values each same = record {
     each = each;
@@ -232,5 +232,5 @@ module _ (z : Setting) (s : State Record View) (r : IsKept z s) (id : ℕ) (v : 
     added_all = added_all ∙ ap added (sym rested.journal);
     acquired = refl;
     taken_all = given_all ∙ ap taken (sym rested.journal);
-    balanced = (let a = total_same (length z.starts) (slice_index values) (slice_index s.words) same in let b = balance in omega arith);
+    balanced = (let a = total_same (length z.starts) (slice_index values) (λ k. slice_index s.words (8 * k)) same in let b = balance in omega arith);
   }

@@ -1,5 +1,5 @@
 -- The rule is kept where seats come to sit in one view, look together, and part.
-use Rattle.std.proofs.Common.{◌≡◌, ◌≢◌, ℕ, ◌<◌, List, [], ◌∷◌, ◌++◌, length, set, slice_index, sym, refl, ap, ◌∙◌, subst, ⊎_elim, inl, inr, arith}
+use Rattle.std.proofs.Common.{◌≡◌, ◌≢◌, ℕ, ◌*◌, ◌<◌, List, [], ◌∷◌, ◌++◌, length, set, slice_index, sym, refl, ap, ◌∙◌, subst, ⊎_elim, inl, inr, arith}
 use mathlib.Core.Option.{some}
 use lib.ListN.{get_elem?}
 use Rattle.atomic_table.specs.Table.{State, Allows, Splits, Joins, keeps, carried_after}
@@ -239,7 +239,7 @@ module _ (i : ℕ) (m : Me) (g : Guest) (gs : List Guest) (with_it : m.0.guests 
   now = record w { guests = guest_of u ∷ gs }
 
   guest_now : Sits z r.world r.spot r.made id (view_of z (guest_of u))
-  guest_now = let o = sits_now i s (view_of z g) r id guest in record {
+  guest_now = let o = sits_now (8 * i) s (view_of z g) r id guest in record {
     place_is = o.place_is;
     is_made = o.is_made;
     setting_is = refl;
@@ -255,21 +255,21 @@ module _ (i : ℕ) (m : Me) (g : Guest) (gs : List Guest) (with_it : m.0.guests 
   others_now h (inr e) = both.others h (in_both h (inr e))
 
   seats_now : HasSeats z r.world r.spot r.made id now
-  seats_now = let o = sits_now i s m.0 r id both.own in record {
+  seats_now = let o = sits_now (8 * i) s m.0 r id both.own in record {
     own = record { place_is = o.place_is; is_made = o.is_made; setting_is = o.setting_is; knows = record { meets = o.knows.meets; held = o.knows.held; takes = o.knows.takes } };
     guests = guests_now;
     others = others_now;
     apart = ((λ h e. both_apart.0 h e), both_apart.1);
   }
 
-  meet_on : Owed z s id i (slice_index s.words i) m (λ t. (i < length z.starts → (w u : View) × Strode m.0 (looks (Counter i)) (slice_index s.words i) w × Strode (view_of z g) (looks (Counter i)) (slice_index s.words i) u × (w.seen ≡ u.seen)
+  meet_on : Owed z s id (8 * i) (slice_index s.words (8 * i)) m (λ t. (i < length z.starts → (w u : View) × Strode m.0 (looks (Counter i)) (slice_index s.words (8 * i)) w × Strode (view_of z g) (looks (Counter i)) (slice_index s.words (8 * i)) u × (w.seen ≡ u.seen)
       × (g.number ≢ m.0.number) × (t ≡ (record w { guests = guest_of u ∷ gs }, m.1))))
   meet_on = (
     now,
     keeps,
     tt,
-    views_kept z s r id i m.0 now at seats_now (r.maker id m.0 at some_v),
-    (λ there. (w, u, looked_at i s m.0 r id both.own (Counter i) there refl, looked_at i s (view_of z g) r id guest (Counter i) there refl, refl, both.others g (in_both g (inl refl)), refl)),
+    views_kept z s r id (8 * i) m.0 now at seats_now (r.maker id m.0 at some_v),
+    (λ there. (w, u, looked_at (8 * i) s m.0 r id both.own (Counter i) there refl, looked_at (8 * i) s (view_of z g) r id guest (Counter i) there refl, refl, both.others g (in_both g (inl refl)), refl)),
   )
 
 first_is : (g h : Guest) (gs hs : List Guest) → g ∷ gs ≡ h ∷ hs → (g ≡ h) × (gs ≡ hs)
@@ -279,15 +279,15 @@ first_is g h gs hs e = (ap (λ (l : List Guest). head l) e, ap (λ (l : List Gue
     head [] = g
     head (x ∷ xs) = x
 
-pub meets_kept : (z : Setting) (slots id i : ℕ) (m : Me) (g : Guest) (gs : List Guest) → m.0.guests ≡ g ∷ gs → IsSomeones m.0 → Allows (IsKept z) slots id m i (λ n. n) (λ n t. met_at i n m t)
-meets_kept z slots id i m g gs with_it some_v s r sized at below = own_name z id i (slice_index s.words i) m s (λ t. met_at i (slice_index s.words i) m t) some_v r at
+pub meets_kept : (z : Setting) (slots id i : ℕ) (m : Me) (g : Guest) (gs : List Guest) → m.0.guests ≡ g ∷ gs → IsSomeones m.0 → Allows (IsKept z) slots id m (8 * i) (λ n. n) (λ n t. met_at i n m t)
+meets_kept z slots id i m g gs with_it some_v s r sized at below = own_name z id (8 * i) (slice_index s.words (8 * i)) m s (λ t. met_at i (slice_index s.words (8 * i)) m t) some_v r at
     (λ q. let o = meet_on i m g gs with_it some_v s q id at in (
       o.0,
       o.1,
       o.2,
       o.3,
       (λ h hs is there.
-          subst (λ (x : Guest × List Guest). (w u : View) × Strode m.0 (looks (Counter i)) (slice_index s.words i) w × Strode (view_of m.0.setting x.0) (looks (Counter i)) (slice_index s.words i) u × (w.seen ≡ u.seen)
+          subst (λ (x : Guest × List Guest). (w u : View) × Strode m.0 (looks (Counter i)) (slice_index s.words (8 * i)) w × Strode (view_of m.0.setting x.0) (looks (Counter i)) (slice_index s.words (8 * i)) u × (w.seen ≡ u.seen)
           × (x.0.number ≢ m.0.number) × ◌≡◌ {A = Me} (o.0, carried_after m.1 o.1) (record w { guests = guest_of u ∷ x.1 }, m.1)) (λ k. let e = first_is g h gs hs (sym with_it ∙ is) in (e.0 k, e.1 k)) (o.4 there)),
     ))
 

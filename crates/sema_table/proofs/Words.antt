@@ -69,7 +69,7 @@ module _ (z : Setting) (some : 0 < z.roots) where
   pub written_word : (g : Words) (w u : Word) (x : ℕ) (l : ℕ → List WaitId) → IsThere z w → IsThere z u
       → (address z u ≡ address z w → found (root z) (record (written (root z) g w x) { lists = l }) u ≡ x)
       × (address z u ≢ address z w → found (root z) (record (written (root z) g w x) { lists = l }) u ≡ found (root z) g u)
-  written_word g (Counter c) (Counter d) x l a b = ((λ e. ap (put g.numbers c x) e ∙ put_here g.numbers c x), (λ ne. put_else g.numbers c x d ne))
+  written_word g (Counter c) (Counter d) x l a b = ((λ e. ap (put g.numbers c x) (omega arith) ∙ put_here g.numbers c x), (λ ne. put_else g.numbers c x d (λ q. ne (omega arith))))
   written_word g (Lock c) (Lock d) x l a b = ((λ e. ap (put g.locks (root z c) x) (omega arith) ∙ put_here g.locks (root z c) x), (λ ne. put_else g.locks (root z c) x (root z d) (λ q. ne (omega arith))))
   written_word g (Waiters c) (Waiters d) x l a b = ((λ e. ap (put g.waiters (root z c) x) (omega arith) ∙ put_here g.waiters (root z c) x), (λ ne. put_else g.waiters (root z c) x (root z d) (λ q. ne (omega arith))))
   written_word g (Grant c) (Grant d) x l a b = ((λ e. ap (put g.grants c x) (omega arith) ∙ put_here g.grants c x), (λ ne. put_else g.grants c x d (λ q. ne (omega arith))))

@@ -1,5 +1,5 @@
 -- How two seats meet: they sit in one view, which looks for both, and part again.
-use Rattle.std.specs.Prelude.{◌≡◌, ◌≢◌, ℕ, ◌<◌, List, [], ◌∷◌, length}
+use Rattle.std.specs.Prelude.{◌≡◌, ◌≢◌, ℕ, ◌/◌, ◌<◌, List, [], ◌∷◌, length}
 use Rattle.atomic_table.specs.Table as atomic
 use Rattle.step_table.specs.declared.word.Word.TheVariants.{Counter}
 use Rattle.step_table.specs.Path.{looks}
@@ -55,7 +55,7 @@ met_at i n m t =
     × (g.number ≢ m.0.number) × (t ≡ (record w { guests = guest_of u ∷ gs }, m.1))
 
 abbrev pub meets : atomic.Step Record → Me → ℕ → Me → Type 0
-meets st m n t = met_at st.word n m t
+meets st m n t = met_at (st.word / 8) n m t
 
 -- both seats looked at the counter 0, at one moment, and have seen one journal then. They are two seats
 pub record HasMet (one other one_now other_now : SeatModel) : Type 0 where

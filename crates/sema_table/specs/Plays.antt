@@ -1,5 +1,5 @@
 -- What each kind of step tells its seat.
-use Rattle.std.specs.Prelude.{◌≡◌, ◌≢◌, ℕ, ◌+◌, ◌^◌, ◌<◌, ◌≤◌, true, false, ◌∷◌}
+use Rattle.std.specs.Prelude.{◌≡◌, ◌≢◌, ℕ, ◌+◌, ◌/◌, ◌^◌, ◌<◌, ◌≤◌, true, false, ◌∷◌}
 use mathlib.Core.Option.{Option, some}
 use Rattle.atomic_table.specs.Table as atomic
 use Rattle.step_table.specs.declared.place.AcquireRow.TheVariants.{A1}
@@ -68,14 +68,15 @@ looks_at_word i n m t =
 abbrev pub looks_at : atomic.Step Record → Me → ℕ → Me → Type 0
 looks_at st m n t = looks_at_word st.word n m t
 
+-- the counter of a word: counters lie eight words apart
 abbrev pub tries : atomic.Step Record → Me → ℕ → Me → Type 0
-tries st m n t = stepped (begin (Acquiring (record { counter = st.word; lifo = false }) A1) m.0) n m t
+tries st m n t = stepped (begin (Acquiring (record { counter = st.word / 8; lifo = false }) A1) m.0) n m t
 
 abbrev pub adds : atomic.Step Record → Me → ℕ → Me → Type 0
-adds st m n t = stepped (begin (Releasing (record { counter = st.word; handoff = false }) R1) m.0) n m t
+adds st m n t = stepped (begin (Releasing (record { counter = st.word / 8; handoff = false }) R1) m.0) n m t
 
 abbrev pub adds_many : atomic.Step Record → Me → ℕ → Me → Type 0
-adds_many st m n t = stepped (begin (ReleasingMany (record { counter = st.word; units = st.first }) M1) m.0) n m t
+adds_many st m n t = stepped (begin (ReleasingMany (record { counter = st.word / 8; units = st.first }) M1) m.0) n m t
 
 abbrev pub goes : atomic.Step Record → Me → ℕ → Me → Type 0
 goes st m n t = stepped m.0 n m t

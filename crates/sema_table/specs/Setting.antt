@@ -1,5 +1,5 @@
 -- How a table is laid out: which root a counter has, and where each word lies.
-use Rattle.std.specs.Prelude.{ℕ, ◌+◌, ◌%◌, ◌<◌, length, slice_index_or}
+use Rattle.std.specs.Prelude.{ℕ, ◌+◌, ◌*◌, ◌%◌, ◌<◌, List, [], ◌∷◌, length, slice_index_or}
 use Rattle.step_table.specs.declared.word.Word.{Word}
 use Rattle.step_table.specs.declared.word.Word.TheVariants.{Counter, Lock, Waiters, Grant}
 use Rattle.step_table.specs.World.{Layout}
@@ -12,16 +12,17 @@ root z c = c % z.roots
 abbrev pub layout : Setting → Layout
 layout z = record { counters = length z.starts; seats = z.seats; root = root z; starts = λ c. slice_index_or z.starts c 0 }
 
--- where a word lies: first the counters, then the lock of each root, then the waiter word of each, then the grants
+-- where a word lies: first the counters, each in a cache line of its own, which is eight words long, then the lock of each root, then
+-- the waiter word of each, then the grants
 abbrev pub address : Setting → Word → ℕ
-address z (Counter c) = c
-address z (Lock c) = length z.starts + root z c
-address z (Waiters c) = length z.starts + z.roots + root z c
-address z (Grant s) = length z.starts + z.roots + z.roots + s
+address z (Counter c) = 8 * c
+address z (Lock c) = 8 * length z.starts + root z c
+address z (Waiters c) = 8 * length z.starts + z.roots + root z c
+address z (Grant s) = 8 * length z.starts + z.roots + z.roots + s
 
 -- where the words end that the world has
 abbrev pub words_shown : Setting → ℕ
-words_shown z = length z.starts + z.roots + z.roots + z.seats
+words_shown z = 8 * length z.starts + z.roots + z.roots + z.seats
 
 -- behind them lies a word of each seat of which the world knows nothing: above 0 while the seat's thread sleeps
 abbrev pub asleep_address : Setting → ℕ → ℕ
@@ -30,6 +31,11 @@ asleep_address z s = words_shown z + s
 -- how many words there are
 abbrev pub words_in : Setting → ℕ
 words_in z = words_shown z + z.seats
+
+-- numbers that lie a cache line apart
+abbrev pub apart : List ℕ → List ℕ
+apart [] = []
+apart (n ∷ ns) = n ∷ 0 ∷ 0 ∷ 0 ∷ 0 ∷ 0 ∷ 0 ∷ 0 ∷ apart ns
 
 -- the word is there
 abbrev pub IsThere : Setting → Word → Type 0

@@ -1,6 +1,7 @@
 //! What is left of a table that was closed.
 ghost use Rattle.std.specs.Prelude.{◌≡◌, ◌<◌, length, slice_index};
 
+use crate::sema_table::counter_word;
 use crate::view::Record;
 use std::alloc::Global;
 use std::marker::Model;
@@ -16,15 +17,16 @@ pub struct Closed {
 }
 
 impl Model for Closed {
-    ghost use Rattle.std.specs.Prelude.{◌≡◌, ℕ, ◌<◌, ◌≤◌, false, take, slice_index_or};
+    ghost use Rattle.std.specs.Prelude.{◌≡◌, ℕ, ◌*◌, ◌<◌, ◌≤◌, false, map, slice_index, slice_index_or};
+    ghost use Rattle.std.specs.List.{range_with_len};
     ghost use Rattle.std.specs.Mem.Slots.{slots_items, slots_len, slots_filled, IsFull};
     ghost use Rattle.sema_table.specs.Closing.{ClosedModel};
 
     ghost Value = { ClosedModel };
 
-    ghost view = { λ c. record { values = take c.counters (slots_items c.words.words); releases = c.releases; acquires = c.acquires } };
+    ghost view = { λ c. record { values = map (λ k. slice_index (slots_items c.words.words) (8 * k)) (range_with_len 0 c.counters); releases = c.releases; acquires = c.acquires } };
 
-    ghost invariant = { λ c. IsFull c.words.words × (c.counters ≤ slots_len c.words.words)
+    ghost invariant = { λ c. IsFull c.words.words × (8 * c.counters ≤ slots_len c.words.words)
         × ((k : ℕ) → k < slots_len c.words.slots → slice_index_or (slots_filled c.words.slots) k false ≡ false) };
 }
 
@@ -41,7 +43,7 @@ impl Closed {
         requires { counter < length self.now.values }
         ensures { result ≡ slice_index self.now.values counter }
     {
-        self.words.word(counter.number() as usize)
+        self.words.word(counter_word(counter.number()))
     }
 
     /// How many units the seats have added.

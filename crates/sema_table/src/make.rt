@@ -1,6 +1,7 @@
 //! How a table is made.
 ghost use Rattle.std.specs.Prelude.{◌≡◌, ℕ, ◌+◌, ◌^◌, ◌<◌, ◌≤◌, ◌++◌, [], replicate, All, IfOk, OnOk, IfErr};
 ghost use Rattle.sema_table.specs.declared.view.Setting.{Setting};
+ghost use Rattle.sema_table.specs.Setting.{apart};
 ghost use Rattle.sema_table.specs.Rule.{fresh};
 ghost use Rattle.sema_table.specs.Seats.{table_of};
 ghost use Rattle.sema_table.specs.Making.{AreAllowed, IsRefused, IsMade, new_root, new_roots};
@@ -65,19 +66,20 @@ fn new_seat(token: Token, number: u16, limit: u64) -> Seat
     }
 }
 
-/// The number at which each counter starts, and a 0 for each other word.
+/// The number at which each counter starts, a cache line apart, and a 0 for each other word.
 fn first_words(alloc: Global, settings: &Settings) -> Result<Vec<u64>, AllocError>
     requires { AreAllowed settings.now }
     ensures words { IfOk result (λ words. words.items
-        ≡ settings.now.starts.items ++ replicate (settings.now.roots + settings.now.roots + settings.now.seats + settings.now.seats) 0) }
+        ≡ apart settings.now.starts.items ++ replicate (settings.now.roots + settings.now.roots + settings.now.seats + settings.now.seats) 0) }
     ensures starts { OnOk result (All (λ start. start < 2 ^ 32) settings.now.starts.items) }
 {
     let roots = settings.roots as usize;
     let seats = settings.seats as usize;
-    let all = settings.starts.len() + roots + roots + seats + seats;
+    let others = roots + roots + seats + seats;
+    let all = 8 * settings.starts.len() + others;
     let mut words = Vec::with_capacity(alloc, all)?;
     for start in &settings.starts {
-        words.push_reserved(u64::from(*start));
+        words.extend_from_slice(&[u64::from(*start), 0, 0, 0, 0, 0, 0, 0])?;
     }
     words.resize(all, 0)?;
     Ok(words)

@@ -9,7 +9,7 @@ ghost use Rattle.sema_table.specs.Waking.{IsPolled, IsRetried};
 use crate::answers::{Entered, Polled};
 use crate::plays::{Goes, Receives, Token};
 use crate::seat::{Numbers, Seat, Sleeping, Woken};
-use crate::sema_table::SemaTable;
+use crate::sema_table::{SemaTable, counter_word};
 use std::sync::Wait;
 use step_table::Acquire;
 
@@ -81,7 +81,7 @@ impl SemaTable {
             (Take call.now.counter token.old.me.0.number ∷ []) 1)
             (Moves token.old (Acquiring call.now A10) token.new (Acquiring call.now A3)) }
     {
-        let word = call.counter.number() as usize;
+        let word = counter_word(call.counter.number());
         let shared = &self.table.shared;
         for _ in rt.forever() {
             let found = shared.load::<Goes>(token, word);

@@ -5,7 +5,7 @@ ghost use Rattle.sema_table.specs.Tries.{IsPosted};
 use crate::answers::{PostRefused, Posted};
 use crate::plays::{Adds, Goes};
 use crate::seat::{Numbers, Owing, Seat};
-use crate::sema_table::SemaTable;
+use crate::sema_table::{SemaTable, counter_word};
 use waiters::CounterId;
 
 impl SemaTable {
@@ -25,7 +25,7 @@ impl SemaTable {
         let counter = counter.number();
         let shared = &self.table.shared;
         // Added before the look: a look that came first could read 0 while an acquire is about to read 0 and sleep.
-        shared.fetch_add::<Adds>(&mut token, counter as usize, 1);
+        shared.fetch_add::<Adds>(&mut token, counter_word(counter), 1);
         let numbers = Numbers {
             left: numbers.left - 1,
             ..numbers

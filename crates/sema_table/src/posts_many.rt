@@ -6,7 +6,7 @@ use crate::answers::PostRefused;
 use crate::many_seat::{OwingMany, PostedMany};
 use crate::plays::{AddsMany, Goes};
 use crate::seat::{Numbers, Seat};
-use crate::sema_table::SemaTable;
+use crate::sema_table::{SemaTable, counter_word};
 use step_table::ReleaseMany;
 use waiters::CounterId;
 
@@ -33,7 +33,7 @@ impl SemaTable {
         let counter = counter.number();
         let shared = &self.table.shared;
         // By one add: by many, others would see only some of the units in between.
-        shared.fetch_add::<AddsMany>(&mut token, counter as usize, added);
+        shared.fetch_add::<AddsMany>(&mut token, counter_word(counter), added);
         let numbers = Numbers {
             left: numbers.left - added,
             ..numbers

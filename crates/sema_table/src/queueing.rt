@@ -11,7 +11,7 @@ ghost use Rattle.sema_table.specs.Walks.{Stands, Holds, Walked, Moves, HasRecord
 use crate::answers::Entered;
 use crate::plays::{Gives, Goes, Token};
 use crate::seat::{Numbers, Seat, Sleeping};
-use crate::sema_table::SemaTable;
+use crate::sema_table::{SemaTable, counter_word};
 use std::sync::Wait;
 use step_table::{Acquire, AcquireRow, Place};
 use waiters::{CounterId, SeatId, WaitId};
@@ -92,7 +92,7 @@ impl SemaTable {
             (Take call.now.counter token.old.me.0.number ∷ []) 1)
             (Moves token.old (Acquiring call.now A5) token.new (Acquiring call.now A7) × HasRoom token.new call.now.counter) }
     {
-        let word = call.counter.number() as usize;
+        let word = counter_word(call.counter.number());
         let shared = &self.table.shared;
         for _ in rt.forever() {
             let found = shared.load::<Goes>(token, word);

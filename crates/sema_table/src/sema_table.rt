@@ -1,5 +1,5 @@
 //! The table that the threads of a caller share.
-ghost use Rattle.std.specs.Prelude.{◌≡◌, ◌<◌, length};
+ghost use Rattle.std.specs.Prelude.{◌≡◌, ◌*◌, ◌^◌, ◌<◌, length};
 ghost use Rattle.step_table.specs.declared.word.Word.TheVariants.{Lock, Waiters, Grant};
 ghost use Rattle.sema_table.specs.Setting.{root, address, asleep_address};
 
@@ -33,6 +33,15 @@ impl Model for SemaTable {
     ghost view = { λ t. record { id = t.table.shared.table_id; setting = setting_of t.table.shared.key } };
 
     ghost invariant = { λ t. IsTable t.table.shared.table_id (setting_of t.table.shared.key) t.counters t.roots t.seats t.limit };
+}
+
+/// Where the counter of a number lies. Each has a cache line of its own: two in one line would be fetched together.
+#[inline]
+pub(crate) fn counter_word(counter: u32) -> usize
+    ensures at { result ≡ 8 * counter }
+    ensures low { result < 2 ^ 35 }
+{
+    8 * counter as usize
 }
 
 impl SemaTable {
@@ -71,7 +80,7 @@ impl SemaTable {
         ensures at { result ≡ address self.now.setting (Lock counter) }
         ensures low { result < self.now.id.words }
     {
-        self.counters as usize + self.root_of(counter)
+        counter_word(self.counters) + self.root_of(counter)
     }
 
     /// Where the waiter word of a counter's root lies.
@@ -79,7 +88,7 @@ impl SemaTable {
         ensures at { result ≡ address self.now.setting (Waiters counter) }
         ensures low { result < self.now.id.words }
     {
-        self.counters as usize + self.roots as usize + self.root_of(counter)
+        counter_word(self.counters) + self.roots as usize + self.root_of(counter)
     }
 
     /// Where the grant word of a seat lies.
@@ -89,7 +98,7 @@ impl SemaTable {
         ensures low { result < self.now.id.words }
     {
         let roots = self.roots as usize;
-        self.counters as usize + roots + roots + seat as usize
+        counter_word(self.counters) + roots + roots + seat as usize
     }
 
     /// Where the word lies that tells whether a seat's thread sleeps.
@@ -99,6 +108,6 @@ impl SemaTable {
         ensures low { result < self.now.id.words }
     {
         let roots = self.roots as usize;
-        self.counters as usize + roots + roots + self.seats as usize + seat as usize
+        counter_word(self.counters) + roots + roots + self.seats as usize + seat as usize
     }
 }

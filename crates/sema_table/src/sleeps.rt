@@ -12,7 +12,7 @@ use std::hint;
 use std::sync::Wait;
 
 /// How often a seat looks for its grant before its thread sleeps: a grant that comes meanwhile costs no call of the kernel.
-const LOOKS: u32 = 1_000;
+const LOOKS: u32 = 4_000;
 
 impl SemaTable {
     /// Waits until the seat's wait is granted: looks for a while, and then sleeps (Go's `goparkunlock` and what follows it).

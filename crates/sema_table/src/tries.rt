@@ -5,7 +5,7 @@ ghost use Rattle.sema_table.specs.Tries.{IsValue, IsWaiters, IsTried};
 use crate::answers::Tried;
 use crate::plays::{Goes, Looks, Tries};
 use crate::seat::Seat;
-use crate::sema_table::SemaTable;
+use crate::sema_table::{SemaTable, counter_word};
 use waiters::CounterId;
 
 impl SemaTable {
@@ -15,7 +15,7 @@ impl SemaTable {
         requires { (seat.old.table ≡ self.now) × (counter < length self.now.setting.starts) }
         ensures { IsValue seat.old counter result seat.new }
     {
-        let word = counter.number() as usize;
+        let word = counter_word(counter.number());
         self.table.shared.load::<Looks>(&mut seat.token, word)
     }
 
@@ -35,7 +35,7 @@ impl SemaTable {
         requires { (seat.old.table ≡ self.now) × (counter < length self.now.setting.starts) }
         ensures { IsTried seat.old counter result seat.new }
     {
-        let word = counter.number() as usize;
+        let word = counter_word(counter.number());
         let shared = &self.table.shared;
         let found = shared.load::<Tries>(&mut seat.token, word);
         if found == 0 {

@@ -11,7 +11,7 @@ ghost use Rattle.sema_table.specs.Walks.{Stands, Holds, Walked, Moves, HasRecord
 use crate::answers::Wake;
 use crate::plays::{Gives, Goes, Stores, Token};
 use crate::seat::{Numbers, Owing, Seat};
-use crate::sema_table::SemaTable;
+use crate::sema_table::{SemaTable, counter_word};
 use std::sync::Wait;
 use step_table::{Place, Release, ReleaseRow};
 use waiters::{CounterId, WaitId};
@@ -149,7 +149,7 @@ impl SemaTable {
             (Take call.now.counter id.now.seat ∷ []) 0)
             (Moves token.old (Releasing call.now R7) token.new (Releasing call.now R10)) }
     {
-        let word = call.counter.number() as usize;
+        let word = counter_word(call.counter.number());
         let shared = &self.table.shared;
         for _ in rt.forever() {
             let found = shared.load::<Goes>(token, word);

@@ -1,5 +1,6 @@
-use Rattle.std.proofs.Common.{◌≡◌, ℕ, List, ◌∷◌, length, take, slice_index, sym, ap, ◌∙◌, subst, arith}
-use Rattle.std.proofs.lemmas.List.{length-take-le, get_or-take}
+use Rattle.std.proofs.Common.{◌≡◌, ℕ, List, ◌∷◌, ◌*◌, length, map, slice_index, sym, ap, ◌∙◌, subst, arith}
+use Rattle.std.specs.List.{range_with_len}
+use Rattle.std.proofs.lemmas.List.FromFn.{get_or-map-range_with_len, length-map-range_with_len}
 use Rattle.std.specs.Mem.Slots.{slots_items, slots_counts}
 use Rattle.sema_table.specs.Rule.{IsKept}
 use Rattle.sema_table.specs.Seats.{TableModel, SeatModel}
@@ -20,9 +21,10 @@ returns c =
     let counts = c.close_with-words.ensures.counts.0 in let wide = made.words in let counted = made.counted in
     let long : length l ≡ c.self.inside.table.shared.table_id.words = ap (λ w. length (slots_items w)) c.empty.ensures.words ∙ sym (slots_counts c.close_with-words.result.words).0 ∙ counts in
     let starts = ap (λ (y : TableModel). length y.setting.starts) view in
-    let each : length (take k l) ≡ length t.setting.starts = length-take-le k l (omega arith) ∙ counted ∙ starts in
-    subst (λ (q : ℕ × ℕ). IsClosed t.setting items (record { values = take k l; releases = q.0; acquires = q.1 }))
+    let at = λ (j : ℕ). slice_index l (8 * j) in let values = map at (range_with_len 0 k) in
+    let each : length values ≡ length t.setting.starts = length-map-range_with_len at 0 k ∙ counted ∙ starts in
+    subst (λ (q : ℕ × ℕ). IsClosed t.setting items (record { values = values; releases = q.0; acquires = q.1 }))
     (λ i. ((ap (sum_by (has_added t.setting.limit)) rows ∙ sym G.releases_are) i, (ap (sum_by was_given) rows ∙ sym G.acquires_are) i))
     (is_closed t.setting s kept token.id token.me.0 (someones c.self.inside made token (G.own ∙ sym view)) F.1.1 items
-    (subst (λ (r : List SeatModel). AreGuestsOf t.setting (guest_of token.me.0 ∷ token.me.0.guests) r) (sym rows) G.all) count (take k l) each
-    (λ j h. get_or-take k l j 0 (omega arith) ∙ ap (λ w. slice_index (slots_items w) j) c.empty.ensures.words ∙ ap (λ (ws : List ℕ). slice_index ws j) (sym F.2)))
+    (subst (λ (r : List SeatModel). AreGuestsOf t.setting (guest_of token.me.0 ∷ token.me.0.guests) r) (sym rows) G.all) count values each
+    (λ j h. get_or-map-range_with_len at 0 k j j 0 (omega (arith, h, counted, starts)) (omega arith) ∙ ap (λ w. slice_index (slots_items w) (8 * j)) c.empty.ensures.words ∙ ap (λ (ws : List ℕ). slice_index ws (8 * j)) (sym F.2)))

@@ -16,6 +16,7 @@ use Rattle.sema_table.specs.Walks.{moved_to}
 use Rattle.sema_table.specs.Many.{IsPostedMany}
 use Rattle.sema_table.proofs.Owned.{own, counter_in, word_in, has_counter}
 use Rattle.sema_table.proofs.Allowing.{allowed, allowed_at}
+use Rattle.sema_table.proofs.Apart.{run_of, allowed_of}
 use Rattle.sema_table.proofs.Stepping.{counter_up_by}
 use Rattle.sema_table.proofs.Walking.{added_few, walked_adds}
 use Rattle.sema_table.proofs.PostingMany.{walked_add, done_seat, owing_seat, posted_done, posted_owes}
@@ -29,9 +30,9 @@ fetch_add-requires c =
     let one : 1 ≤ A = omega arith in let many : A ≤ 256 = omega arith in
     let inside : N < length s.me.0.setting.starts = subst (λ k. k < length s.me.0.setting.starts) (sym c.number-counter.ensures) (counter_in c.self.inside s n c.self.view_is c.seat.view_is c.requires.seat.0 c.requires.seat.1) in (
       ap (λ (t : TableModel). t.id) at,
-      word_in c.self.inside s c.self.invariant at (Counter N) inside,
-      allowed _ _ _ N s.me (has_counter s inside) (ReleasingMany a M1) (inr (inl (c.seat.invariant.free, (inside, one, many)))) (added_few s n A c.seat.invariant.token_is c.if-seat-added.false) (λ n. (n + A) % 2 ^ 64)
-          (λ b y known. record { fits = record { word = refl; there = inside; can = refl; becomes = counter_up_by (begin (ReleasingMany a M1) s.me.0) b N y known N A inside refl many }; apart = refl }),
+      (let w = c.counter_word.ensures.at in let low = word_in c.self.inside s c.self.invariant at (Counter N) inside in omega (arith, w, low)),
+      allowed_of (λ k. ReleasingMany (record { counter = k; units = c.from-added.result }) M1) c.counter_word.result N c.counter_word.ensures.at _ _ _ _ (λ n. (n + A) % 2 ^ 64) (allowed _ _ _ c.counter_word.result s.me (has_counter s inside) (ReleasingMany a M1) (inr (inl (c.seat.invariant.free, (inside, one, many)))) (added_few s n A c.seat.invariant.token_is c.if-seat-added.false) (λ n. (n + A) % 2 ^ 64)
+          (λ b y known. record { fits = record { word = sym c.counter_word.ensures.at; there = inside; can = refl; becomes = counter_up_by (begin (ReleasingMany a M1) s.me.0) b c.counter_word.result y known N A inside (sym c.counter_word.ensures.at) many }; apart = refl })),
     )
 
 pub load-requires : goal.load-requires
@@ -39,7 +40,7 @@ load-requires c =
     let s = c.seat.inside.token in let n = c.seat.inside.numbers in let N : ℕ = c.number-counter.result in let A : ℕ = c.from-added.result in let a : ReleaseMany = record { counter = N; units = A } in
     let t = c.fetch_add.new.seat in
     let at = own c.self.inside s n c.self.view_is c.seat.view_is c.requires.seat.0 in
-    let walk = walked_add s t n a c.fetch_add.result c.fetch_add.ensures.2.0 c.fetch_add.ensures.0 in
+    let walk = walked_add s t n a c.fetch_add.result (run_of (λ k. ReleasingMany (record { counter = k; units = c.from-added.result }) M1) c.counter_word.result c.number-counter.result (c.counter_word.ensures.at) c.seat.inside.token.me.0 c.fetch_add.result c.fetch_add.new.seat.me.0 c.fetch_add.ensures.2.0) c.fetch_add.ensures.0 in
     let word : address t.me.0.setting (Waiters N) ≡ c.waiter_word-word.result
     = ap (λ (y : TableModel). address y.setting (Waiters N)) (walk.table_is ∙ at ∙ c.self.view_is) ∙ sym (c.waiter_word-word.ensures.at ∙ ap (λ k. address c.args.self.now.setting (Waiters k)) c.new-counter.ensures) in
     let low = word_in c.self.inside t c.self.invariant (walk.table_is ∙ at) (Waiters N) tt in (
@@ -54,7 +55,7 @@ load-requires c =
 pub invariant_of-result : goal.invariant_of-result
 invariant_of-result c = let a : ReleaseMany = record { counter = c.number-counter.result; units = c.from-added.result } in
     done_seat c.seat.inside.token c.fetch_add.new.seat c.load.new.seat c.seat.inside.numbers a c.fetch_add.result c.load.result c.seat.invariant c.if-seat-added.false
-    c.fetch_add.ensures.2.0 c.load.ensures.2.0 c.fetch_add.ensures.0 c.load.ensures.0 c.fetch_add.ensures.2.1 c.load.ensures.2.1 c.if-load-eq0.true
+    (run_of (λ k. ReleasingMany (record { counter = k; units = c.from-added.result }) M1) c.counter_word.result c.number-counter.result (c.counter_word.ensures.at) c.seat.inside.token.me.0 c.fetch_add.result c.fetch_add.new.seat.me.0 c.fetch_add.ensures.2.0) c.load.ensures.2.0 c.fetch_add.ensures.0 c.load.ensures.0 c.fetch_add.ensures.2.1 c.load.ensures.2.1 c.if-load-eq0.true
 
 pub returns-then-load-eq0 : goal.returns-then-load-eq0
 returns-then-load-eq0 c =
@@ -64,7 +65,7 @@ returns-then-load-eq0 c =
         (omega arith),
         subst (λ (r : ReleaseMany). IsPostedMany (seat_of c.seat.inside.token n) r (Done (seat_of c.load.new.seat fewer))) (λ i. record { counter = c.number-counter.ensures i; units = c.from-added.ensures i })
             (posted_done c.seat.inside.token c.fetch_add.new.seat c.load.new.seat n a c.fetch_add.result c.load.result c.seat.invariant some
-            c.fetch_add.ensures.2.0 c.load.ensures.2.0 c.fetch_add.ensures.0 c.load.ensures.0 c.fetch_add.ensures.2.1 c.load.ensures.2.1 c.if-load-eq0.true),
+            (run_of (λ k. ReleasingMany (record { counter = k; units = c.from-added.result }) M1) c.counter_word.result c.number-counter.result (c.counter_word.ensures.at) c.seat.inside.token.me.0 c.fetch_add.result c.fetch_add.new.seat.me.0 c.fetch_add.ensures.2.0) c.load.ensures.2.0 c.fetch_add.ensures.0 c.load.ensures.0 c.fetch_add.ensures.2.1 c.load.ensures.2.1 c.if-load-eq0.true),
       );
     }
 
@@ -75,7 +76,7 @@ invariant_of-result-2 c =
     let one : 1 ≤ A = omega arith in let many : A ≤ 256 = omega arith in
     subst (λ (r : ReleaseMany). IsOwingMany c.load.new.seat fewer r) (λ i. record { counter = (sym c.new-counter.ensures) i; units = c.from-added.ensures i })
     (owing_seat s c.fetch_add.new.seat c.load.new.seat n a c.fetch_add.result c.load.result c.seat.invariant c.if-seat-added.false
-    c.fetch_add.ensures.2.0 c.load.ensures.2.0 c.fetch_add.ensures.0 c.load.ensures.0 c.fetch_add.ensures.2.1 c.load.ensures.2.1 (let z = c.if-load-eq0.false in omega (arith, z))
+    (run_of (λ k. ReleasingMany (record { counter = k; units = c.from-added.result }) M1) c.counter_word.result c.number-counter.result (c.counter_word.ensures.at) c.seat.inside.token.me.0 c.fetch_add.result c.fetch_add.new.seat.me.0 c.fetch_add.ensures.2.0) c.load.ensures.2.0 c.fetch_add.ensures.0 c.load.ensures.0 c.fetch_add.ensures.2.1 c.load.ensures.2.1 (let z = c.if-load-eq0.false in omega (arith, z))
     (subst (λ k. k < length s.me.0.setting.starts) (sym c.number-counter.ensures) (counter_in c.self.inside s n c.self.view_is c.seat.view_is c.requires.seat.0 c.requires.seat.1))
     (one, many))
 
@@ -87,6 +88,6 @@ returns c =
         (omega arith),
         subst (λ (r : ReleaseMany). IsPostedMany (seat_of c.seat.inside.token n) r (Owes (seat_of c.load.new.seat fewer))) (λ i. record { counter = c.number-counter.ensures i; units = c.from-added.ensures i })
             (posted_owes c.seat.inside.token c.fetch_add.new.seat c.load.new.seat n a c.fetch_add.result c.load.result c.seat.invariant some
-            c.fetch_add.ensures.2.0 c.load.ensures.2.0 c.fetch_add.ensures.0 c.load.ensures.0 c.fetch_add.ensures.2.1 c.load.ensures.2.1 (let z = c.if-load-eq0.false in omega (arith, z))),
+            (run_of (λ k. ReleasingMany (record { counter = k; units = c.from-added.result }) M1) c.counter_word.result c.number-counter.result (c.counter_word.ensures.at) c.seat.inside.token.me.0 c.fetch_add.result c.fetch_add.new.seat.me.0 c.fetch_add.ensures.2.0) c.load.ensures.2.0 c.fetch_add.ensures.0 c.load.ensures.0 c.fetch_add.ensures.2.1 c.load.ensures.2.1 (let z = c.if-load-eq0.false in omega (arith, z))),
       );
     }

@@ -19,14 +19,14 @@ loop-init g c = record { walked = walked_yet c.args.self.now c.args.token.now (R
 
 pub load-found-requires : goal.load-found-requires
 load-found-requires g c =
-    let s = c.loop.token in let a = c.args.call.now in let r = c.requires.0 in let i = c.loop.invariant in let N : ℕ = c.number-word.result in
+    let s = c.loop.token in let a = c.args.call.now in let r = c.requires.0 in let i = c.loop.invariant in let N : ℕ = c.number.result in
     let t = i.walked.table_is ∙ r.table_is in
-    let inside : N < length s.me.0.setting.starts = subst (λ (y : TableModel). N < length y.setting.starts) (sym t) (let e = c.number-word.ensures in let h = r.inside in omega arith) in (
+    let inside : N < length s.me.0.setting.starts = subst (λ (y : TableModel). N < length y.setting.starts) (sym t) (let e = c.number.ensures in let h = r.inside in omega arith) in (
       ap (λ (y : TableModel). y.id) (t ∙ sym c.self.view_is),
-      word_in c.self.inside s c.self.invariant (t ∙ sym c.self.view_is) (Counter N) inside,
-      allowed_at _ _ _ N s.me (has_counter s inside) (Releasing a R7) (ap (λ (y : SeatState). y.place) i.walked.stands_is)
+      (let w = c.counter_word-word.ensures.at in let low = word_in c.self.inside s c.self.invariant (t ∙ sym c.self.view_is) (Counter N) inside in omega (arith, w, low)),
+      allowed_at _ _ _ c.counter_word-word.result s.me (has_counter s inside) (Releasing a R7) (ap (λ (y : SeatState). y.place) i.walked.stands_is)
           (let b = r.limited in let d = walked_adds c.args.token.now s (Releasing a R7) (moved_to c.args.token.now (Releasing a R7)) [] 0 i.walked in omega arith) (λ n. n)
-          (λ b n known. record { fits = record { word = sym c.number-word.ensures; there = subst (λ k. k < length s.me.0.setting.starts) c.number-word.ensures inside; can = refl; becomes = refl }; apart = refl }),
+          (λ b n known. record { fits = record { word = (let e = c.number.ensures in let w = c.counter_word-word.ensures.at in omega (arith, e, w)); there = subst (λ k. k < length s.me.0.setting.starts) c.number.ensures inside; can = refl; becomes = refl }; apart = refl }),
     )
 
 pub returns-then-found-eq0-clause-slots : goal.returns-then-found-eq0-clause-slots
@@ -37,16 +37,16 @@ returns-then-found-eq0-clause-settled g c = let i = c.loop.invariant in zero_for
 
 pub compare_exchange-requires : goal.compare_exchange-requires
 compare_exchange-requires g c =
-    let s = c.args.token.now in let u = c.load-found.new.seat in let a = c.args.call.now in let r = c.requires.0 in let i = c.loop.invariant in let N : ℕ = c.number-word.result in let n : ℕ = c.load-found.result in
+    let s = c.args.token.now in let u = c.load-found.new.seat in let a = c.args.call.now in let r = c.requires.0 in let i = c.loop.invariant in let N : ℕ = c.number.result in let n : ℕ = c.load-found.result in
     let some : 0 < n = (let z = c.if-found-eq0.false in omega (arith, z)) in
     let x = some_for s c.loop.token u a c.args.id.now n i.walked c.requires.1 c.load-found.ensures.2.0 c.load-found.ensures.0 some in
     let t = x.table_is ∙ r.table_is in
-    let inside : N < length u.me.0.setting.starts = subst (λ (y : TableModel). N < length y.setting.starts) (sym t) (let e = c.number-word.ensures in let h = r.inside in omega arith) in (
+    let inside : N < length u.me.0.setting.starts = subst (λ (y : TableModel). N < length y.setting.starts) (sym t) (let e = c.number.ensures in let h = r.inside in omega arith) in (
       ap (λ (y : TableModel). y.id) (t ∙ sym c.self.view_is),
-      word_in c.self.inside u c.self.invariant (t ∙ sym c.self.view_is) (Counter N) inside,
-      allowed_at _ _ _ N u.me (has_counter u inside) (Releasing a (R8 (n - 1))) (ap (λ (y : SeatState). y.place) x.stands_is)
+      (let w = c.counter_word-word.ensures.at in let low = word_in c.self.inside u c.self.invariant (t ∙ sym c.self.view_is) (Counter N) inside in omega (arith, w, low)),
+      allowed_at _ _ _ c.counter_word-word.result u.me (has_counter u inside) (Releasing a (R8 (n - 1))) (ap (λ (y : SeatState). y.place) x.stands_is)
           (let b = r.limited in let d = walked_adds s u (Releasing a R7) (moved_to s (Releasing a (R8 (n - 1)))) [] 0 x in omega arith) (λ y. either (y == n) (n - 1) y)
-          (λ b y known. record { fits = record { word = sym c.number-word.ensures; there = subst (λ k. k < length u.me.0.setting.starts) c.number-word.ensures inside; can = refl; becomes = exchanged n y some }; apart = refl }),
+          (λ b y known. record { fits = record { word = (let e = c.number.ensures in let w = c.counter_word-word.ensures.at in omega (arith, e, w)); there = subst (λ k. k < length u.me.0.setting.starts) c.number.ensures inside; can = refl; becomes = exchanged n y some }; apart = refl }),
     )
 
 pub returns-then-compare_exchange-found-clause-slots : goal.returns-then-compare_exchange-found-clause-slots
