@@ -1,5 +1,5 @@
 -- A whole acquire.
-use Rattle.std.proofs.Common.{◌≡◌, ◌⊎◌, ℕ, zero, suc, ◌+◌, List, [], ◌∷◌, ◌++◌, sym, refl, ap, ◌∙◌, subst, inl, inr, ⊎_elim, arith, append-nil}
+use Rattle.std.proofs.Common.{◌≡◌, ◌⊎◌, Bool, ℕ, zero, suc, ◌+◌, List, [], ◌∷◌, ◌++◌, sym, refl, ap, ◌∙◌, subst, inl, inr, ⊎_elim, arith, append-nil}
 use Rattle.step_table.specs.declared.entry.Entry.{Entry}
 use Rattle.step_table.specs.declared.entry.Entry.TheVariants.{Take, Queue}
 use Rattle.step_table.specs.declared.place.Acquire.{Acquire}
@@ -17,7 +17,7 @@ use Rattle.sema_table.specs.Seats.{SeatModel}
 use Rattle.sema_table.specs.Calls.{Calls, ComesTo}
 use Rattle.sema_table.specs.Tries.{acquiring, IsTried}
 use Rattle.sema_table.specs.Waking.{CallsGranted, IsEntered, IsRetried}
-use Rattle.sema_table.specs.Whole.{IsRoused, queued, TakesFrom, ParksLast, TakesAfter, TakesAtOnce, FindsNone}
+use Rattle.sema_table.specs.Whole.{IsRoused, queued, TakesFrom, ParksLast, TakesAfter, TakesAtOnce, FindsNone, IsAcquired}
 use Rattle.sema_table.proofs.Calling.{placed_at, call_of, calls_then}
 
 -- tries that were lost, or none yet
@@ -61,6 +61,27 @@ module _ (s t u : SeatModel) (c : ℕ) where
     calls_on [] x e.2.call,
     e.3,
   )
+
+-- an acquire after tries that were lost
+module _ (s t u : SeatModel) (c : ℕ) (lifo : Bool) (x : TriesOn s c t) where
+  taken_after : TakesAtOnce t c u → TakesAtOnce s c u
+  taken_after e = (
+    e.0 ∙ ap (λ (q : SeatModel). record q { taken = q.taken + 1; sight = u.sight; strides = u.strides }) (same_on s t u c x),
+    e.1 ∙ stood_on s t u c Rest x,
+    subst (λ i. Calls s (acquiring c A1) u (Take c i ∷ [])) (number_on s t u c x) (calls_on s t u c (Take c t.number ∷ []) x e.2),
+  )
+
+  none_after : (v : SeatModel) → FindsNone t c v → FindsNone s c v
+  none_after v e = (
+    e.0 ∙ ap (λ (q : SeatModel). record q { sight = v.sight; strides = v.strides }) (same_on s t v c x),
+    e.1 ∙ stood_on s t v c (acquiring c A3) x,
+    calls_on s t v c [] x e.2,
+    e.3,
+  )
+
+  pub acquired_after : IsAcquired t c lifo u → IsAcquired s c lifo u
+  acquired_after (inl e) = inl (taken_after e)
+  acquired_after (inr e) = inr (e.0, none_after e.0 e.1, e.2)
 
 -- one more wait at the end
 queued_more : (i : ℕ) (a : Acquire) (turn n : ℕ) → queued i a turn n ++ Queue a.counter (wait i (turn + n)) a.lifo ∷ [] ≡ queued i a turn (suc n)

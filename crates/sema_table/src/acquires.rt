@@ -18,13 +18,36 @@ impl SemaTable {
         ensures { IsAcquired seat counter lifo result }
     {
         let mut seat = seat;
+        match self.try_acquire(&mut seat, counter) {
+            Tried::Taken => seat,
+            Tried::Zero => self.acquire_slowly(rt, seat, counter, lifo),
+            Tried::Lost => self.acquire_lost(rt, seat, counter, lifo),
+        }
+    }
+
+    /// An acquire after a try that was lost. What it keeps of a seat in memory is cleared in here, and not before each try.
+    #[inline]
+    fn acquire_lost<R: Wait>(&self, rt: &R, seat: Seat, counter: CounterId, lifo: bool) -> Seat
+        requires { (seat.table ≡ self.now) × (counter < length self.now.setting.starts) }
+        ensures { IsAcquired seat counter lifo result }
+    {
+        self.acquire_again(rt, seat, counter, lifo)
+    }
+
+    /// The same, apart: so a caller's own code has one try, and no loop that may wait.
+    #[inline(never)]
+    fn acquire_again<R: Wait>(&self, rt: &R, seat: Seat, counter: CounterId, lifo: bool) -> Seat
+        requires { (seat.table ≡ self.now) × (counter < length self.now.setting.starts) }
+        ensures { IsAcquired seat counter lifo result }
+    {
+        let mut seat = seat;
         if self.take_at_once(rt, &mut seat, counter) {
             return seat;
         }
-        self.acquire_slowly(rt, seat, counter, lifo)
+        self.acquire_at_lock(rt, seat, counter, lifo)
     }
 
-    /// An acquire from the lock on. What it keeps of a seat in memory is cleared in here, and not before each try.
+    /// An acquire from the lock on.
     #[inline]
     fn acquire_slowly<R: Wait>(&self, rt: &R, seat: Seat, counter: CounterId, lifo: bool) -> Seat
         requires { (seat.table ≡ self.now) × (counter < length self.now.setting.starts) }
