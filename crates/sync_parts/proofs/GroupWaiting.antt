@@ -17,14 +17,14 @@ use Rattle.step_table.proofs.GroupBits.{same_is, same_itself}
 use Rattle.sema_table.specs.Seats.{SeatModel}
 use Rattle.sema_table.specs.Whole.{IsAcquired}
 use Rattle.step_table.specs.GroupBits.{IsGroupWord}
-use Rattle.step_table.specs.GroupPath.{GroupPath, GroupStride, going, ran_row}
+use Rattle.step_table.specs.GroupPath.{GroupPath, GroupRan, GroupStride, going, ran_row}
 use Rattle.step_table.proofs.GroupPaths.{the_group_paths}
 use Rattle.sync_parts.specs.declared.group_view.GroupStep.{GroupStep}
 use Rattle.sync_parts.specs.GroupRule.{Follows}
 use Rattle.sync_parts.specs.GroupPlays.{Me, Token, Steps, step, load_row}
 use Rattle.sync_parts.specs.GroupSeats.{is_free, group_seat_of}
-use Rattle.sync_parts.specs.GroupCalls.{stride_of, Walks, IsCounted}
-use Rattle.sync_parts.specs.GroupWalks.{GetsCounted, FindsZero}
+use Rattle.sync_parts.specs.GroupCalls.{stride_of, Walks, IsUncounted, IsCounted}
+use Rattle.sync_parts.specs.GroupWalks.{Walked, GetsCounted, FindsZero}
 
 -- one row more
 pub walks_more : (number : ℕ) (first : GroupRow) (steps : List GroupStep) (row : GroupRow) (word : GroupWord) → IsGroupWord word
@@ -42,7 +42,7 @@ pub walks_first : (number : ℕ) (row : GroupRow) (word : GroupWord) → IsGroup
 walks_first number row word is = walks_more number row [] row word is refl
 
 -- no call is under way: a wait begins by its first look
-free_look : (next : GroupNext) → is_free next ≡ true → (load_row next ≡ V1) × Follows next (load_row next)
+pub free_look : (next : GroupNext) → is_free next ≡ true → (load_row next ≡ V1) × Follows next (load_row next)
 free_look Ends e = (refl, tt)
 free_look (Goes row) e = absurd (cc)
 free_look (Fails misuse) e = (refl, tt)
@@ -56,96 +56,133 @@ free_adds (Fails misuse) d e = tt
 free_adds Acquires d e = absurd (cc)
 free_adds (Releases n) d e = tt
 
--- exchanges that were lost, or none yet: the wait is to look
-pub record LooksOn (s t : Token) : Type 0 where
+-- a wait is to look, after exchanges that were lost
+pub record LooksOn (s : Token) (first : GroupRow) (t : Token) : Type 0 where
   pub before : List GroupStep
   pub table_is : t.table_id ≡ s.table_id
   pub steps_are : t.me.0.steps ≡ s.me.0.steps ++ before
-  pub path : (number : ℕ) → Walks number V1 before (Goes V1)
+  pub path : (number : ℕ) → Walks number first before (Goes V1)
   pub look : load_row t.me.0.next ≡ V1
-  pub follows : Follows t.me.0.next (load_row t.me.0.next)
 
-pub looks_first : (s : Token) → is_free s.me.0.next ≡ true → LooksOn s s
-looks_first s free = let l = free_look s.me.0.next free in record {
-  before = [];
-  table_is = refl;
-  steps_are = sym (append-nil s.me.0.steps);
-  path = λ number. refl;
-  look = l.0;
-  follows = l.1;
-}
+-- a wait has found this word, and is to be counted in it
+abbrev pub IsToCount : Token → GroupRow → GroupWord → Token → Type 0
+IsToCount s first word t = (steps : List GroupStep) × Walked s first steps (Goes (V2 word)) t
 
-module _ (s t u : Token) (x : LooksOn s t) (word : GroupWord) (y : Steps t (load_row t.me.0.next) word u) where
+-- what the first look leads to, and what lost exchanges do
+leads_zero : (word : GroupWord) → word.counter ≡ pos 0 → (group_row V1 word).1 ≡ Ends
+leads_zero word zero = ap (λ (b : Bool). if b then Ends else Goes (V2 word)) ((Decides-int_eq word.counter (pos 0)).1 zero)
+
+leads_on : (word : GroupWord) → word.counter ≢ pos 0 → (group_row V1 word).1 ≡ Goes (V2 word)
+leads_on word some = by (int_eq word.counter (pos 0)) refl
+  where
+    by : (b : Bool) → int_eq word.counter (pos 0) ≡ b → (if b then Ends else Goes (V2 word)) ≡ Goes (V2 word)
+    by true e = absurd (some ((Decides-int_eq word.counter (pos 0)).0 e))
+    by false e = refl
+
+pub lost_follows : (next : GroupNext) → next ≡ Goes V1 → Follows next (load_row next)
+lost_follows next at = subst (λ (k : GroupNext). Follows k (load_row k)) (sym at) refl
+
+-- a further look
+module _ (s : Token) (first : GroupRow) (t u : Token) (x : LooksOn s first t) (word : GroupWord) (y : Steps t (load_row t.me.0.next) word u) where
   looked : Steps t V1 word u
   looked = subst (λ (row : GroupRow). Steps t row word u) x.look y
 
-  looked_steps : u.me.0.steps ≡ s.me.0.steps ++ (x.before ++ step V1 word ∷ [])
-  looked_steps = ap (λ (m : Me). m.0.steps) looked.me_is ∙ ap (λ (l : List GroupStep). l ++ step V1 word ∷ []) x.steps_are
-      ∙ append_assoc s.me.0.steps x.before (step V1 word ∷ [])
+  looks : (next : GroupNext) → (group_row V1 word).1 ≡ next → Walked s first (x.before ++ step V1 word ∷ []) next u
+  looks next leads = record {
+    table_is = looked.table_is ∙ x.table_is;
+    steps_are = ap (λ (m : Me). m.0.steps) looked.me_is ∙ ap (λ (l : List GroupStep). l ++ step V1 word ∷ []) x.steps_are
+        ∙ append_assoc s.me.0.steps x.before (step V1 word ∷ []);
+    next_is = ap (λ (m : Me). m.0.next) looked.me_is ∙ leads;
+    path = λ number. subst (λ (k : GroupNext). Walks number first (x.before ++ step V1 word ∷ []) k) leads
+        (walks_more number first x.before V1 word looked.word (x.path number));
+  }
 
-  looked_path : (next : GroupNext) → (group_row V1 word).1 ≡ next → (number : ℕ) → Walks number V1 (x.before ++ step V1 word ∷ []) next
-  looked_path next leads number = subst (λ (k : GroupNext). Walks number V1 (x.before ++ step V1 word ∷ []) k) leads
-      (walks_more number V1 x.before V1 word looked.word (x.path number))
+  pub finds_zero : word.counter ≡ pos 0 → FindsZero s first u
+  finds_zero zero = (x.before, word, zero, looks Ends (leads_zero word zero))
 
-  pub finds_zero : word.counter ≡ pos 0 → FindsZero s u
-  finds_zero zero = (
-    x.before,
-    word,
-    zero,
+  pub counts : word.counter ≢ pos 0 → IsToCount s first word u
+  counts some = (x.before ++ step V1 word ∷ [], looks (Goes (V2 word)) (leads_on word some))
+
+-- an exchange
+module _ (s : Token) (first : GroupRow) (word : GroupWord) (t u : Token) (x : IsToCount s first word t) (found : GroupWord)
+    (y : Steps t (V2 word) found u) where
+  tried : (next : GroupNext) → (group_row (V2 word) found).1 ≡ next → Walked s first (x.0 ++ step (V2 word) found ∷ []) next u
+  tried next leads = record {
+    table_is = y.table_is ∙ x.1.table_is;
+    steps_are = ap (λ (m : Me). m.0.steps) y.me_is ∙ ap (λ (l : List GroupStep). l ++ step (V2 word) found ∷ []) x.1.steps_are
+        ∙ append_assoc s.me.0.steps x.0 (step (V2 word) found ∷ []);
+    next_is = ap (λ (m : Me). m.0.next) y.me_is ∙ leads;
+    path = λ number. subst (λ (k : GroupNext). Walks number first (x.0 ++ step (V2 word) found ∷ []) k) leads
+        (walks_more number first x.0 (V2 word) found y.word (x.1.path number));
+  }
+
+  pub gets_counted : same_word word found ≡ true → GetsCounted s first u
+  gets_counted won = (x.0 ++ step (V2 word) found ∷ [], tried Acquires (ap (λ (b : Bool). if b then Acquires else Goes V1) won))
+
+  pub lost : same_word word found ≡ false → Walked s first (x.0 ++ step (V2 word) found ∷ []) (Goes V1) u
+  lost e = tried (Goes V1) (ap (λ (b : Bool). if b then Acquires else Goes V1) e)
+
+  pub looks_again : same_word word found ≡ false → LooksOn s first u
+  looks_again e = record {
+    before = x.0 ++ step (V2 word) found ∷ [];
+    table_is = (lost e).table_is;
+    steps_are = (lost e).steps_are;
+    path = (lost e).path;
+    look = ap load_row (lost e).next_is;
+  }
+
+-- the first look, by which a wait is to be counted, and what followed
+module _ (s t : Token) (word : GroupWord) (some : word.counter ≢ pos 0) (y : Steps s V1 word t) where
+  begun : (steps : List GroupStep) (next : GroupNext) (u : Token) → Walked t (V2 word) steps next u
+      → Walked s V1 (step V1 word ∷ steps) next u
+  begun steps next u x = record {
+    table_is = x.table_is ∙ y.table_is;
+    steps_are = x.steps_are ∙ ap (λ (m : Me). m.0.steps ++ steps) y.me_is ∙ append_assoc s.me.0.steps (step V1 word ∷ []) steps;
+    next_is = x.next_is;
+    path = λ number. (
+      going (Goes (V2 word)),
+      subst (λ (k : GroupNext). GroupRan number (going (Goes V1)) (ran_row V1 word) (going k)) (leads_on word some)
+          (the_group_paths.rows number V1 word y.word),
+      x.path number,
+    );
+  }
+
+  pub then_counted : (u : Token) → GetsCounted t (V2 word) u → GetsCounted s V1 u
+  then_counted u x = (step V1 word ∷ x.0, begun x.0 Acquires u x.1)
+
+  pub then_zero : (u : Token) → FindsZero t (V2 word) u → FindsZero s V1 u
+  then_zero u x = (step V1 word ∷ x.0, x.1, x.2, begun (x.0 ++ step V1 x.1 ∷ []) Ends u x.3)
+
+-- a wait that found 0 at once
+pub zero_at_once : (s : Token) → is_free s.me.0.next ≡ true → (word : GroupWord) → word.counter ≡ pos 0 → (t : Token)
+    → Steps s (load_row s.me.0.next) word t → FindsZero s V1 t
+zero_at_once s free word zero t y = finds_zero s V1 s t
     record {
-      table_is = looked.table_is ∙ x.table_is;
-      steps_are = looked_steps;
-      next_is = ap (λ (m : Me). m.0.next) looked.me_is ∙ leads;
-      path = looked_path Ends leads;
-    },
-  )
-    where
-      leads : (group_row V1 word).1 ≡ Ends
-      leads = ap (λ (b : Bool). if b then Ends else Goes (V2 word)) ((Decides-int_eq word.counter (pos 0)).1 zero)
+      before = [];
+      table_is = refl;
+      steps_are = sym (append-nil s.me.0.steps);
+      path = λ number. refl;
+      look = (free_look s.me.0.next free).0;
+    } word y zero
 
-  module _ (some : word.counter ≢ pos 0) where
-    leads_on : (group_row V1 word).1 ≡ Goes (V2 word)
-    leads_on = by (int_eq word.counter (pos 0)) refl
-      where
-        by : (b : Bool) → int_eq word.counter (pos 0) ≡ b → (if b then Ends else Goes (V2 word)) ≡ Goes (V2 word)
-        by true e = absurd (some ((Decides-int_eq word.counter (pos 0)).0 e))
-        by false e = refl
+pub first_look : (s : Token) → is_free s.me.0.next ≡ true → (word : GroupWord) → (t : Token)
+    → Steps s (load_row s.me.0.next) word t → Steps s V1 word t
+first_look s free word t y = subst (λ (row : GroupRow). Steps s row word t) (free_look s.me.0.next free).0 y
 
-    pub goes_to_count : u.me.0.next ≡ Goes (V2 word)
-    goes_to_count = ap (λ (m : Me). m.0.next) looked.me_is ∙ leads_on
+pub goes_to_count : (s : Token) (word : GroupWord) (t : Token) → word.counter ≢ pos 0 → Steps s V1 word t
+    → t.me.0.next ≡ Goes (V2 word)
+goes_to_count s word t some y = ap (λ (m : Me). m.0.next) y.me_is ∙ leads_on word some
 
-    module _ (w : Token) (found : GroupWord) (z : Steps u (V2 word) found w) where
-      tried_steps : w.me.0.steps ≡ s.me.0.steps ++ ((x.before ++ step V1 word ∷ []) ++ step (V2 word) found ∷ [])
-      tried_steps = ap (λ (m : Me). m.0.steps) z.me_is ∙ ap (λ (l : List GroupStep). l ++ step (V2 word) found ∷ []) looked_steps
-          ∙ append_assoc s.me.0.steps (x.before ++ step V1 word ∷ []) (step (V2 word) found ∷ [])
-
-      tried_path : (next : GroupNext) → (group_row (V2 word) found).1 ≡ next → (number : ℕ)
-          → Walks number V1 ((x.before ++ step V1 word ∷ []) ++ step (V2 word) found ∷ []) next
-      tried_path next leads number = subst
-          (λ (k : GroupNext). Walks number V1 ((x.before ++ step V1 word ∷ []) ++ step (V2 word) found ∷ []) k) leads
-          (walks_more number V1 (x.before ++ step V1 word ∷ []) (V2 word) found z.word (looked_path (Goes (V2 word)) leads_on number))
-
-      pub gets_counted : same_word word found ≡ true → GetsCounted s w
-      gets_counted won = let leads = ap (λ (b : Bool). if b then Acquires else Goes V1) won in (
-        (x.before ++ step V1 word ∷ []) ++ step (V2 word) found ∷ [],
-        record {
-          table_is = z.table_is ∙ looked.table_is ∙ x.table_is;
-          steps_are = tried_steps;
-          next_is = ap (λ (m : Me). m.0.next) z.me_is ∙ leads;
-          path = tried_path Acquires leads;
-        },
-      )
-
-      pub looks_again : same_word word found ≡ false → LooksOn s w
-      looks_again lost = let leads = ap (λ (b : Bool). if b then Acquires else Goes V1) lost in
-          let at = ap (λ (m : Me). m.0.next) z.me_is ∙ leads in record {
-            before = (x.before ++ step V1 word ∷ []) ++ step (V2 word) found ∷ [];
-            table_is = z.table_is ∙ looked.table_is ∙ x.table_is;
-            steps_are = tried_steps;
-            path = tried_path (Goes V1) leads;
-            look = ap load_row at;
-            follows = subst (λ (k : GroupNext). Follows k (load_row k)) (sym at) refl;
-          }
+-- a wait that found 0 was never counted
+pub uncounted : (s t : Token) (a : SeatModel) → FindsZero s V1 t → IsUncounted (group_seat_of s a) (group_seat_of t a)
+uncounted s t a x = record {
+  before = x.0;
+  word = x.1;
+  zero = x.2;
+  ran = record { group = λ i. record { word = x.3.table_is i; sema = a.table }; steps_are = x.3.steps_are };
+  path = x.3.path a.number;
+  alone = refl;
+}
 
 -- a counter whose bits are 0 is 0
 pub zero_is : (z : ℤ) → FitsSigned w32 z → cast_unsigned w32 z ≡ 0 → z ≡ pos 0
@@ -157,7 +194,7 @@ same_table a b (inl x) = ap (λ (q : SeatModel). q.table) x.0
 same_table a b (inr x) = ap (λ (q : SeatModel). q.table) x.2.0 ∙ ap (λ (q : SeatModel). q.table) x.1.0
 
 -- a wait that was counted, acquired, and looked again
-module _ (s u v : Token) (a b : SeatModel) (counted : GetsCounted s u) (acquired : IsAcquired a 0 false b) (word : GroupWord)
+module _ (s u v : Token) (a b : SeatModel) (counted : GetsCounted s V1 u) (acquired : IsAcquired a 0 false b) (word : GroupWord)
     (y : Steps u (load_row u.me.0.next) word v) where
   again : Steps u V3 word v
   again = subst (λ (row : GroupRow). Steps u row word v) (ap load_row counted.1.next_is) y

@@ -1,13 +1,15 @@
 //! A wait for a group.
 ghost use Rattle.std.specs.Prelude.{◌≡◌, ◌<◌, true, MatchBool, false, length};
-ghost use Rattle.step_table.specs.declared.standing.GroupNext.TheVariants.{Acquires};
-ghost use Rattle.sync_parts.specs.GroupSeats.{is_free};
+ghost use Rattle.step_table.specs.declared.standing.GroupNext.TheVariants.{Acquires, Goes};
+ghost use Rattle.step_table.specs.declared.standing.GroupRow.TheVariants.{V2};
+ghost use Rattle.step_table.specs.GroupBits.{IsGroupWord};
 ghost use Rattle.sync_parts.specs.GroupCalls.{IsWaited};
-ghost use Rattle.sync_parts.specs.GroupWalks.{FindsZero, GetsCounted};
+ghost use Rattle.sync_parts.specs.GroupWalks.{FindsZero, GetsCounted, Waits};
 
 use crate::group::{GroupSeat, WaitGroup};
 use crate::group_plays::StateToken;
 use crate::state_word::StateWord;
+use sema_table::Seat;
 use std::sync::Wait;
 use step_table::{GroupWord, Misuse};
 use waiters::CounterId;
@@ -19,21 +21,24 @@ const EMPTY: GroupWord = GroupWord {
 };
 
 impl StateWord {
-    /// V1, and V2 where V1 found another counter than 0, until one of them settles it: whether the wait is counted.
-    #[inline]
-    fn count_unless_zero<R: Wait>(&self, rt: &R, token: &mut StateToken) -> bool
-        requires { (token.old.table_id ≡ self.now) × (is_free token.old.me.0.next ≡ true) }
-        ensures { MatchBool result (GetsCounted token.old token.new) (FindsZero token.old token.new) }
+    /// V2 for the word that V1 found, and V1 again where V2 is lost, until one of them settles it: whether the wait is counted.
+    fn count_unless_zero<R: Wait>(&self, rt: &R, token: &mut StateToken, word: GroupWord) -> bool
+        requires own { token.old.table_id ≡ self.now }
+        requires looked { (token.old.me.0.next ≡ Goes (V2 word)) × IsGroupWord word }
+        ensures { MatchBool result
+            (GetsCounted token.old (V2 word) token.new)
+            (FindsZero token.old (V2 word) token.new) }
     {
+        let mut word = word;
         for _ in rt.forever() {
-            let word = self.load(token);
-            if word.counter == 0 {
-                return false;
-            }
             // Counted by an exchange for the word that was looked at: the add that leads to 0 may have come since, and would not
             // release a wait that is counted after it.
             if self.count_wait(token, word) {
                 return true;
+            }
+            word = self.load(token);
+            if word.counter == 0 {
+                return false;
             }
         }
         unreachable!()
@@ -49,7 +54,28 @@ impl WaitGroup {
         ensures { IsWaited seat result.0 result.1 }
     {
         let GroupSeat { mut token, sema } = seat;
-        if !self.word.count_unless_zero(rt, &mut token) {
+        let word = self.word.load(&mut token);
+        if word.counter == 0 {
+            return (GroupSeat { token, sema }, Ok(()));
+        }
+        self.wait_until_zero(rt, token, sema, word)
+    }
+
+    /// What a wait does that has found this word. It isn't in the caller's own code, from which it would take registers.
+    #[inline(never)]
+    fn wait_until_zero<R: Wait>(
+        &self,
+        rt: &R,
+        token: StateToken,
+        sema: Seat,
+        word: GroupWord,
+    ) -> (GroupSeat, Result<(), Misuse>)
+        requires own { (token.table_id ≡ self.now.word) × (sema.table ≡ self.now.sema) }
+        requires looked { (token.me.0.next ≡ Goes (V2 word)) × IsGroupWord word }
+        ensures { Waits token sema word result.0 result.1 }
+    {
+        let mut token = token;
+        if !self.word.count_unless_zero(rt, &mut token, word) {
             return (GroupSeat { token, sema }, Ok(()));
         }
         let sema = self.sema.acquire(rt, sema, CounterId::new(0), false);

@@ -1,26 +1,20 @@
-use Rattle.std.proofs.Common.{◌≢◌, refl, sym, subst, ◌∙◌, ℕ, false, inr}
-use Rattle.table_names.specs.declared.misuse.Misuse.TheVariants.{Reused}
-use Rattle.step_table.specs.declared.standing.GroupNext.TheVariants.{Ends, Fails}
-use Rattle.step_table.specs.Group.{empty_word}
-use Rattle.sema_table.specs.Whole.{IsAcquired}
+use Rattle.std.proofs.Common.{ap, subst, inl}
+use Rattle.std.specs.Int.{w32, cast_unsigned}
 use Rattle.sync_parts.specs.GroupSeats.{GroupSeatModel, group_seat_of}
-use Rattle.sync_parts.specs.GroupCalls.{IsCounted}
-use Rattle.sync_parts.proofs.GroupWaiting.{waited, reused}
+use Rattle.sync_parts.specs.GroupCalls.{IsWaited, IsUncounted}
+use Rattle.sync_parts.proofs.GroupWaiting.{zero_at_once, first_look, uncounted, zero_is}
 use Rattle.sync_parts.proofs.group.WaitGroup.wait.Goals as goal
 
-pub returns-then-eq : goal.returns-then-eq
-returns-then-eq g c =
-    let v = c.load.new.token in let b = c.acquire-sema.result in
-    let acquired = subst (λ (k : ℕ). IsAcquired c.seat.inside.sema k false b) c.new.ensures c.acquire-sema.ensures in
-    inr (subst (λ (q : GroupSeatModel). IsCounted q empty_word Ends (group_seat_of v b)) c.seat.view_is
-    (waited c.seat.inside.token c.count_unless_zero.new.token v c.seat.inside.sema b c.if-not-count_unless_zero.ensures acquired
-    c.load.result c.load.ensures (sym c.eq.ensures ∙ c.if-eq.true)))
+pub returns-then-word-eq0 : goal.returns-then-word-eq0
+returns-then-word-eq0 g c =
+    let s = c.seat.inside.token in let a = c.seat.inside.sema in let t = c.load-word.new.token in
+    inl (subst (λ (q : GroupSeatModel). IsUncounted q (group_seat_of t a)) c.seat.view_is
+    (uncounted s t a (zero_at_once s c.seat.invariant c.load-word.result
+    (zero_is c.load-word.result.counter c.load-word.ensures.word.0 c.if-word-eq0.true) t c.load-word.ensures)))
 
 pub returns : goal.returns
 returns g c =
-    let v = c.load.new.token in let b = c.acquire-sema.result in
-    let acquired = subst (λ (k : ℕ). IsAcquired c.seat.inside.sema k false b) c.new.ensures c.acquire-sema.ensures in
-    let told = subst (λ (q : GroupSeatModel). (c.load.result ≢ empty_word)
-    × IsCounted q c.load.result (Fails Reused) (group_seat_of v b)) c.seat.view_is
-    (reused c.seat.inside.token c.count_unless_zero.new.token v c.seat.inside.sema b c.if-not-count_unless_zero.ensures acquired
-    c.load.result c.load.ensures (sym c.eq.ensures ∙ c.if-eq.false)) in (refl, (c.load.result, told.0, told.1))
+    let s = c.seat.inside.token in let t = c.load-word.new.token in
+    subst (λ (q : GroupSeatModel). IsWaited q c.wait_until_zero.result.0 c.wait_until_zero.result.1) c.seat.view_is
+    (c.wait_until_zero.ensures s (λ zero. c.if-word-eq0.false (ap (cast_unsigned w32) zero))
+    (first_look s c.seat.invariant c.load-word.result t c.load-word.ensures))
