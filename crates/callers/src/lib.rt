@@ -14,7 +14,12 @@ use sync_parts::{Cond, GroupSeat, Misuse, SemaLock, WaitGroup};
 use waiters::CounterId;
 
 /// Tries to take a unit of each table, with a seat of each.
-pub fn tries_both(one: &SemaTable, other: &SemaTable, mine: &mut Seat, theirs: &mut Seat) -> (Tried, Tried)
+pub fn tries_both(
+    one: &SemaTable,
+    other: &SemaTable,
+    mine: &mut Seat,
+    theirs: &mut Seat,
+) -> (Tried, Tried)
     requires seats { (mine.old.table ≡ one.now) × (theirs.old.table ≡ other.now) }
     requires counters { (0 < length one.now.setting.starts) × (0 < length other.now.setting.starts) }
 {
@@ -31,7 +36,12 @@ pub fn adds_most(table: &SemaTable, seat: Seat) -> Result<PostedMany, (Seat, Pos
 }
 
 /// Takes a ticket of a list, and waits there.
-pub fn waits<R: Wait>(rt: &R, list: &NotifyList, other: &NotifyList, seat: ListSeat) -> (ListSeat, Waited)
+pub fn waits<R: Wait>(
+    rt: &R,
+    list: &NotifyList,
+    other: &NotifyList,
+    seat: ListSeat,
+) -> (ListSeat, Waited)
     requires { seat.list ≡ list.now }
 {
     let _ = other;
@@ -40,7 +50,12 @@ pub fn waits<R: Wait>(rt: &R, list: &NotifyList, other: &NotifyList, seat: ListS
 }
 
 /// Locks, and waits for a signal.
-pub fn locks_and_waits<R: Wait>(rt: &R, cond: &Cond, seat: ListSeat, lock: &mut SemaLock<'_>) -> (ListSeat, Waited)
+pub fn locks_and_waits<R: Wait>(
+    rt: &R,
+    cond: &Cond,
+    seat: ListSeat,
+    lock: &mut SemaLock<'_>,
+) -> (ListSeat, Waited)
     requires seat { seat.list ≡ cond.now }
     requires lock { (lock.old.held ≡ false) × (0 < lock.old.seat.left) }
 {
@@ -57,7 +72,11 @@ pub fn seat_of(lock: SemaLock<'_>) -> Option<Seat> {
 }
 
 /// Adds one to a group, if the seat may yet release as many as could wait.
-pub fn adds_one<R: Wait>(rt: &R, group: &WaitGroup, seat: GroupSeat) -> (GroupSeat, Option<Result<u32, Misuse>>)
+pub fn adds_one<R: Wait>(
+    rt: &R,
+    group: &WaitGroup,
+    seat: GroupSeat,
+) -> (GroupSeat, Option<Result<u32, Misuse>>)
     requires { seat.group ≡ group.now }
 {
     if seat.left() < u64::from(u32::MAX) {
