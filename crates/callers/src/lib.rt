@@ -5,7 +5,7 @@
 //! `must-fail` each is broken once, and refused.
 #![tactic(auto)]
 
-ghost use Rattle.std.specs.Prelude.{◌≡◌, ◌<◌, ◌×◌, true, false, length};
+ghost use Rattle.std.specs.Prelude.{◌≡◌, ◌<◌, false, length};
 
 use notify_list::{ListSeat, NotifyList, Waited};
 use sema_table::{PostRefused, PostedMany, Seat, SemaTable, Tried};
