@@ -90,9 +90,11 @@ impl TreapRoot {
         Ok(())
     }
 
-    /// Writes the seat of each wait of a counter's queue behind these words, in order.
+    /// Writes the seat of each wait of a counter's queue behind these words, in order. On `Err` nothing is written.
     pub fn write_seats(&self, counter: CounterId, words: &mut Vec<u64>) -> Result<(), NoMemory>
-        ensures { OnOk result (words.new.items ≡ words.old.items ++ seats_of (waits_on (queues_of self.now.tree) counter)) }
+        ensures ok { OnOk result (words.new.items
+            ≡ words.old.items ++ seats_of (waits_on (queues_of self.now.tree) counter)) }
+        ensures err { OnErr result (words.new.items ≡ words.old.items) }
     {
         match self.treap.find(counter) {
             Some(list) => self.lists.write_seats(list, words),

@@ -70,7 +70,8 @@ pub record IsClosed (z : Setting) (seats : List SeatModel) (c : ClosedModel) : T
   pub cleared : IsCleared (layout z) world
   pub begins : (s : SeatModel) → In s seats → GoesOn world.journal s.sight.seen
   pub each : length c.values ≡ length z.starts
-  pub values : (k : ℕ) → k < length z.starts → slice_index c.values k ≡ (replay (plain_start (layout z).starts) world.journal).numbers k
+  pub values : (k : ℕ) → k < length z.starts
+      → slice_index c.values k ≡ (replay (plain_start (layout z).starts) world.journal).numbers k
   pub released : c.releases ≡ sum_by (has_added z.limit) seats
   pub added_all : c.releases ≡ added world.journal
   pub acquired : c.acquires ≡ sum_by was_given seats

@@ -140,7 +140,8 @@ pub record IsKept (z : Setting) (s : State Record View) : Type 0 where
   pub made : ℕ
   pub views : (j : ℕ) (v : View) → get_elem? s.views j ≡ some v → IsSomeones v → HasSeats z world spot made j v
   pub unmade : (k : ℕ) → made ≤ k → k < z.seats → Knows z k (fresh z k 0) world
-  pub maker : (j : ℕ) (v : View) → get_elem? s.views j ≡ some v → IsSomeones v → 0 < v.made → (v.number ≡ 0) × (v.made ≡ made)
+  pub maker : (j : ℕ) (v : View) → get_elem? s.views j ≡ some v → IsSomeones v → 0 < v.made
+      → (v.number ≡ 0) × (v.made ≡ made)
   pub wide : length s.words ≡ words_in z
   pub deep : length s.homes ≡ z.roots
   pub fits : made ≤ z.seats

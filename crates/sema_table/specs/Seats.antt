@@ -40,7 +40,14 @@ abbrev pub table_of : Token → TableModel
 table_of t = record { id = t.table_id; setting = t.me.0.setting }
 
 abbrev pub seat_of : Token → Numbers → SeatModel
-seat_of t n = record { table = table_of t; number = n.seat; left = n.left; taken = n.taken; sight = sight_by t.me.0; strides = t.me.0.strides }
+seat_of t n = record {
+  table = table_of t;
+  number = n.seat;
+  left = n.left;
+  taken = n.taken;
+  sight = sight_by t.me.0;
+  strides = t.me.0.strides;
+}
 
 -- what a seat's numbers say of its token: it holds no slot and has no wait in hand, has queued so many waits, may add so
 -- many units more, and has come by so many

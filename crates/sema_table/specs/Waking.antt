@@ -78,7 +78,8 @@ abbrev pub IsRetried : SeatModel → Entered → Type 0
 IsRetried s entered = (a : Acquire) × IsAt s (Acquiring a A10) × IsEntered s a (Acquiring a A10) entered
 
 -- a call whose last row stood here, with this wait in hand, and stored n in the grant word of the wait's seat
-pub record CallsGrant (s : SeatModel) (from : Place) (t : SeatModel) (told : List Entry) (place : Place) (w : WaitId) (n : ℕ) : Type 0 where
+pub record CallsGrant (s : SeatModel) (from : Place) (t : SeatModel) (told : List Entry) (place : Place) (w : WaitId) (n : ℕ)
+    : Type 0 where
   pub call : Calls s from t told
   pub before : List SemaStride
   pub last : SemaStride

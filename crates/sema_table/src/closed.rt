@@ -24,7 +24,11 @@ impl Model for Closed {
 
     ghost Value = { ClosedModel };
 
-    ghost view = { λ c. record { values = map (λ k. slice_index (slots_items c.words.words) (8 * k)) (range_with_len 0 c.counters); releases = c.releases; acquires = c.acquires } };
+    ghost view = { λ c. record {
+      values = map (λ k. slice_index (slots_items c.words.words) (8 * k)) (range_with_len 0 c.counters);
+      releases = c.releases;
+      acquires = c.acquires;
+    } };
 
     ghost invariant = { λ c. IsFull c.words.words × (8 * c.counters ≤ slots_len c.words.words)
         × ((k : ℕ) → k < slots_len c.words.slots → slice_index_or (slots_filled c.words.slots) k false ≡ false) };

@@ -70,7 +70,8 @@ fn new_seat(token: Token, number: u16, limit: u64) -> Seat
 fn first_words(alloc: Global, settings: &Settings) -> Result<Vec<u64>, AllocError>
     requires { AreAllowed settings.now }
     ensures words { IfOk result (λ words. words.items
-        ≡ apart settings.now.starts.items ++ replicate (settings.now.roots + settings.now.roots + settings.now.seats + settings.now.seats) 0) }
+        ≡ apart settings.now.starts.items
+        ++ replicate (settings.now.roots + settings.now.roots + settings.now.seats + settings.now.seats) 0) }
     ensures starts { OnOk result (All (λ start. start < 2 ^ 32) settings.now.starts.items) }
 {
     let roots = settings.roots as usize;

@@ -30,7 +30,8 @@ impl SemaTable {
     pub(crate) fn remove_first(&self, token: &mut Token, counter: CounterId) -> Option<WaitId>
         requires { (table_of token.old ≡ self.now) × HasRecord token.old counter × (counter < length self.now.setting.starts) }
         ensures some { let lists = lists_of token.old in IfSome result (λ w.
-            (lists counter ≡ w ∷ drop 1 (lists counter)) × Edited token.old counter (put lists counter (drop 1 (lists counter))) token.new) }
+            (lists counter ≡ w ∷ drop 1 (lists counter))
+            × Edited token.old counter (put lists counter (drop 1 (lists counter))) token.new) }
         ensures none { IfNone result ((lists_of token.old counter ≡ []) × Edited token.old counter (lists_of token.old) token.new) }
     {
         let slot = self.root_of(counter);

@@ -1,5 +1,5 @@
 -- Waits and places of semaphores without what no row looks at.
-use Rattle.std.specs.Prelude.{ℕ, List, map}
+use Rattle.std.specs.Prelude.{List, map}
 use Rattle.waiters.specs.declared.wait.WaitId.{WaitId}
 use Rattle.step_table.specs.declared.place.AcquireRow.{AcquireRow}
 use Rattle.step_table.specs.declared.place.AcquireRow.TheVariants.{P}

@@ -1,5 +1,5 @@
 -- Waits, tickets and places of a notify list without what no row looks at.
-use Rattle.std.specs.Prelude.{ℕ, List, map, Option, Some, None}
+use Rattle.std.specs.Prelude.{List, map, Option, Some, None}
 use Rattle.waiters.specs.declared.wait.Wait.{Wait}
 use Rattle.step_table.specs.declared.list_place.AllRow.{AllRow}
 use Rattle.step_table.specs.declared.list_place.AllRow.TheVariants.{L6, L7}

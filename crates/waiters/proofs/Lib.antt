@@ -2,7 +2,6 @@ pub mod ChainLemmas
 pub mod CloneLemmas
 pub mod CopyLemmas
 pub mod LeftLemmas
-pub mod NameLemmas
 pub mod SlotLemmas
 pub mod StepLemmas
 pub mod WalkLemmas

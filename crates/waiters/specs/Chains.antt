@@ -5,7 +5,6 @@ use Rattle.std.specs.Option.{option_or}
 use Rattle.slab.specs.Slab.{Slab, get, ContainsKey, slab_len, HasRoomFor, Updates, with_value}
 use Rattle.waiters.specs.Lists.{seats_of, first_with, without_first}
 use Rattle.waiters.specs.declared.wait.Wait.{Wait}
-use Rattle.waiters.specs.declared.wait.WaitId.{WaitId}
 use Rattle.waiters.specs.declared.lists.Record.{Record}
 use Rattle.waiters.specs.declared.lists.Chain.{Chain}
 use Rattle.waiters.specs.declared.lists.Place.{Place}
@@ -173,10 +172,3 @@ pub record CopiedTo (records : Slab Record) (waits : List Wait) (old items : Lis
   pub counted : length passed ≡ copied
   pub fits : copied ≤ length old
   pub written : items ≡ seats_of (waits_of passed) ++ drop copied old
-
--- so many names are in, those of the rest come after them, and memory is there for all
-pub record NamedTo (records : Slab Record) (waits : List Wait) (here : Option ℕ) (ids : List WaitId) (count capacity : ℕ) : Type 0 where
-  pub rest : List (ℕ × Wait)
-  pub left : Linked records here rest None
-  pub all : map (λ wait. wait.id) waits ≡ ids ++ map (λ wait. wait.id) (waits_of rest)
-  pub fits : count + length rest ≤ capacity
