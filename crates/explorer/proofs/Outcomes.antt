@@ -1,14 +1,14 @@
 -- What goes out of a kind of text, and how the program ends with it.
-use Rattle.std.proofs.Common.{◌≡◌, ℕ, List, [], Option, Some, None, Result, Ok, Err, IfOk, OnErr}
+use Rattle.std.proofs.Common.{◌≡◌, ℕ, List, Option, Result, Ok, Err, IfOk, OnErr}
 use Rattle.std.proofs.Common.{Bool, false, true, refl, sym, ◌∙◌, subst}
 use Rattle.std.specs.Prelude.{string_bytes, IsTrue, ◌↔◌}
 use Rattle.waiters.specs.declared.no_memory.NoMemory.{NoMemory}
 use Rattle.scenario_search.specs.declared.exit.Exit.{Exit}
-use Rattle.scenario_search.specs.declared.fault.IoFault.{IoFault}
-use Rattle.scenario_search.specs.declared.fault.IoFault.TheVariants.{Read, Write}
+use Rattle.streams.specs.declared.fault.IoFault.{IoFault}
+use Rattle.streams.specs.declared.fault.IoFault.TheVariants.{Read, Write}
 use Rattle.scenario_search.specs.declared.answer.Answer.{Answer}
 use Rattle.scenario_search.specs.Exit.{status_of}
-use Rattle.scenario_search.specs.Told.{IsTextOf, WantsMemory, TellsAll, TellsBeginning}
+use Rattle.scenario_search.specs.Told.{IsTextOf, WantsMemory, TellsBeginning}
 use Rattle.explorer.specs.Asked.{status_after}
 
 -- the text of an answer, or want of memory, is of each kind that has both

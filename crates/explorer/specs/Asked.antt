@@ -7,12 +7,12 @@ use Rattle.std.specs.declared.io.Error.{Error}
 use Rattle.std.specs.declared.io.ErrorKind.TheVariants.{OutOfMemory}
 use Rattle.scenario_search.specs.declared.exit.Exit.{Exit}
 use Rattle.scenario_search.specs.declared.exit.Exit.TheVariants.{NothingBad, Refused}
-use Rattle.scenario_search.specs.declared.fault.IoFault.{IoFault}
+use Rattle.streams.specs.declared.fault.IoFault.{IoFault}
 use Rattle.scenario_search.specs.Exit.{status_of}
 use Rattle.scenario_search.specs.ExploreText.{IsExploreAnswer}
 use Rattle.scenario_search.specs.InputText.{AnswersInput}
 use Rattle.scenario_search.specs.Line.{line}
-use Rattle.scenario_search.specs.Output.{WritesBeginning}
+use Rattle.streams.specs.Writing.{WritesBeginning}
 use Rattle.scenario_search.specs.ReplayText.{IsReplayAnswer}
 use Rattle.scenario_search.specs.Told.{IsToldOf, WantsMemory}
 use Rattle.explorer.specs.declared.asked.Asked.{Asked}
