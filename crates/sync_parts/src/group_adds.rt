@@ -56,12 +56,12 @@ impl WaitGroup {
         if is_quiet(word) {
             return (GroupSeat { token, sema }, Ok(0));
         }
-        self.settle(rt, token, sema, d, word)
+        self.finish_add(rt, token, sema, d, word)
     }
 
-    /// What an add does that has left this word. It isn't in the caller's own code, from which it would take registers.
-    #[inline(never)]
-    fn settle<R: Wait>(
+    /// The rest of an add that has left this word. What it keeps of a seat in memory is cleared in here, and not before each add.
+    #[inline]
+    fn finish_add<R: Wait>(
         &self,
         rt: &R,
         token: StateToken,
@@ -74,7 +74,24 @@ impl WaitGroup {
         requires left { word.waits ≤ sema.left }
         ensures { Settles token sema d word result.0 result.1 }
     {
-        let mut token = token;
+        self.settle(rt, (token, sema), d, word)
+    }
+
+    /// The same, apart: in the caller's own code it would take registers.
+    #[inline(never)]
+    fn settle<R: Wait>(
+        &self,
+        rt: &R,
+        seat: (StateToken, Seat),
+        d: i32,
+        word: GroupWord,
+    ) -> (GroupSeat, Result<u32, Misuse>)
+        requires own { (seat.0.table_id ≡ self.now.word) × (seat.1.table ≡ self.now.sema) }
+        requires leads { seat.0.me.0.next ≡ after_add d word }
+        requires left { word.waits ≤ seat.1.left }
+        ensures { Settles seat.0 seat.1 d word result.0 result.1 }
+    {
+        let (mut token, sema) = seat;
         match after_add(d, word) {
             Err(misuse) => return (GroupSeat { token, sema }, Err(misuse)),
             Ok(false) => return (GroupSeat { token, sema }, Ok(0)),

@@ -58,12 +58,12 @@ impl WaitGroup {
         if word.counter == 0 {
             return (GroupSeat { token, sema }, Ok(()));
         }
-        self.wait_until_zero(rt, token, sema, word)
+        self.finish_wait(rt, token, sema, word)
     }
 
-    /// What a wait does that has found this word. It isn't in the caller's own code, from which it would take registers.
-    #[inline(never)]
-    fn wait_until_zero<R: Wait>(
+    /// The rest of a wait that has found this word. What it keeps of a seat in memory is cleared in here, and not before each wait.
+    #[inline]
+    fn finish_wait<R: Wait>(
         &self,
         rt: &R,
         token: StateToken,
@@ -74,7 +74,22 @@ impl WaitGroup {
         requires looked { (token.me.0.next ≡ Goes (V2 word)) × IsGroupWord word }
         ensures { Waits token sema word result.0 result.1 }
     {
-        let mut token = token;
+        self.wait_until_zero(rt, (token, sema), word)
+    }
+
+    /// The same, apart: in the caller's own code it would take registers.
+    #[inline(never)]
+    fn wait_until_zero<R: Wait>(
+        &self,
+        rt: &R,
+        seat: (StateToken, Seat),
+        word: GroupWord,
+    ) -> (GroupSeat, Result<(), Misuse>)
+        requires own { (seat.0.table_id ≡ self.now.word) × (seat.1.table ≡ self.now.sema) }
+        requires looked { (seat.0.me.0.next ≡ Goes (V2 word)) × IsGroupWord word }
+        ensures { Waits seat.0 seat.1 word result.0 result.1 }
+    {
+        let (mut token, sema) = seat;
         if !self.word.count_unless_zero(rt, &mut token, word) {
             return (GroupSeat { token, sema }, Ok(()));
         }

@@ -15,6 +15,6 @@ returns-then-word-eq0 g c =
 pub returns : goal.returns
 returns g c =
     let s = c.seat.inside.token in let t = c.load-word.new.token in
-    subst (λ (q : GroupSeatModel). IsWaited q c.wait_until_zero.result.0 c.wait_until_zero.result.1) c.seat.view_is
-    (c.wait_until_zero.ensures s (λ zero. c.if-word-eq0.false (ap (cast_unsigned w32) zero))
+    subst (λ (q : GroupSeatModel). IsWaited q c.finish_wait.result.0 c.finish_wait.result.1) c.seat.view_is
+    (c.finish_wait.ensures s (λ zero. c.if-word-eq0.false (ap (cast_unsigned w32) zero))
     (first_look s c.seat.invariant c.load-word.result t c.load-word.ensures))
