@@ -102,20 +102,20 @@ fn sorted_again(alloc: Global, seats: u16) -> Result<SortedRoot, NoMemory>
     ensures empty { IfOk result (λ made. made.queues ≡ []) }
     ensures seats { IfOk result (λ made. made.seats ≡ seats) }
 {
-    match SortedRoot::with_room(alloc, seats) {
-        Err(NoMemory) => SortedRoot::with_room(alloc, seats),
-        answer => answer,
+    if let Ok(made) = SortedRoot::with_room(alloc, seats) {
+        return Ok(made);
     }
+    SortedRoot::with_room(alloc, seats)
 }
 
 fn treap_again(alloc: Global, seats: u16, seed: u64) -> Result<TreapRoot, NoMemory>
     ensures empty { IfOk result (λ made. queues_of made.tree ≡ []) }
     ensures seats { IfOk result (λ made. made.seats ≡ seats) }
 {
-    match TreapRoot::with_room(alloc, seats, seed) {
-        Err(NoMemory) => TreapRoot::with_room(alloc, seats, seed),
-        answer => answer,
+    if let Ok(made) = TreapRoot::with_room(alloc, seats, seed) {
+        return Ok(made);
     }
+    TreapRoot::with_room(alloc, seats, seed)
 }
 
 fn copy_again(root: &TreapRoot) -> Result<TreapRoot, NoMemory> {
@@ -271,9 +271,9 @@ fn a_copy_draws_the_same_tickets(rt: HostRuntime) -> Result<(), Fail> {
 
 /// Another root, with other counters and tickets.
 fn elsewhere(root: &mut TreapRoot) {
-    for number in [2u32, 8, 5] {
-        queue(root, number, wait(3), false);
-    }
+    queue(root, 2, wait(3), false);
+    queue(root, 8, wait(3), false);
+    queue(root, 5, wait(3), false);
     root.dequeue(counter(2));
 }
 

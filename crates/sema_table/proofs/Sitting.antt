@@ -332,6 +332,7 @@ module _ (s t : Token) (n : Numbers) (c k made : ℕ) (guests : List Guest) (w :
           bare = o.token_is.bare;
           number_is = o.token_is.number_is;
           there = o.token_is.there;
+          narrow = o.token_is.narrow;
           left_is = o.token_is.left_is;
           limited = o.token_is.limited;
           turns_are = o.token_is.turns_are;

@@ -117,6 +117,7 @@ token_after s t from a told j n k is x bare empty turned less same more = record
   bare = bare;
   number_is = x.number_is ∙ is.number_is ∙ sym same;
   there = let q = ap (λ (y : TableModel). y.setting.seats) x.table_is in let h = is.there in omega arith;
+  narrow = let h = is.narrow in omega arith;
   left_is = let b = walked_adds s t from a told j x in let l = is.left_is in let q = ap (λ (y : TableModel). y.setting.limit) x.table_is in omega arith;
   limited = let l = is.limited in let q = ap (λ (y : TableModel). y.setting.limit) x.table_is in omega arith;
   turns_are = ap (λ (q : SeatState). q.turn) x.stands_is ∙ turned;

@@ -55,6 +55,7 @@ pub record IsToken (t : Token) (n : Numbers) : Type 0 where
   pub bare : t.me.1 ≡ []
   pub number_is : t.me.0.number ≡ n.seat
   pub there : n.seat < t.me.0.setting.seats
+  pub narrow : n.seat < 2 ^ 16
   pub left_is : n.left + added_by t.me.0.number t.me.0.seen ≡ t.me.0.setting.limit
   pub limited : t.me.0.setting.limit ≤ 2 ^ 40
   pub turns_are : t.me.0.turn ≡ n.turns

@@ -58,7 +58,7 @@ fn new_seat(token: Token, number: u16, limit: u64) -> Seat
     Seat {
         token,
         numbers: Numbers {
-            seat: number,
+            seat: u64::from(number),
             left: limit,
             turns: 0,
             taken: 0,

@@ -26,7 +26,7 @@ impl SemaTable {
             call,
             turn,
         } = sleeping;
-        let word = self.grant_word(numbers.seat);
+        let word = self.grant_word(numbers.id().number());
         // Taken in the same step: a grant that stayed would wake the seat's next wait too.
         let found = self.table.shared.swap::<Receives>(&mut token, word, 0);
         if found == 0 {

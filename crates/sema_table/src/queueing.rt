@@ -14,7 +14,7 @@ use crate::seat::{Numbers, Seat, Sleeping};
 use crate::sema_table::{SemaTable, counter_word};
 use std::sync::Wait;
 use step_table::{Acquire, AcquireRow, Place};
-use waiters::{CounterId, SeatId, WaitId};
+use waiters::{CounterId, WaitId};
 
 impl SemaTable {
     /// Goes to the lock of the counter's root, takes a unit that is there when the lock is held, or queues a wait (Go's
@@ -56,7 +56,7 @@ impl SemaTable {
         }
         let turn = numbers.turns;
         let id = WaitId {
-            seat: SeatId::new(numbers.seat),
+            seat: numbers.id(),
             turn,
         };
         self.queue(&mut token, &call, waiters::Wait { id, ticket: 0 });

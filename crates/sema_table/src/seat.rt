@@ -1,5 +1,5 @@
 //! A seat between two calls, and what it is in the middle of one.
-ghost use Rattle.std.specs.Prelude.{◌≡◌, ◌+◌};
+ghost use Rattle.std.specs.Prelude.{◌≡◌, ◌+◌, ◌^◌, ◌<◌};
 ghost use Rattle.step_table.specs.Journal.{takes};
 ghost use Rattle.sema_law.specs.Balances.{added_by};
 ghost use Rattle.sema_table.specs.Seats.{IsWaitOf};
@@ -19,14 +19,25 @@ pub struct Seat {
 /// What a seat counts.
 #[derive(Clone, Copy, Drop)]
 pub(crate) struct Numbers {
-    /// Its own number.
-    pub(crate) seat: u16,
+    /// Its own number, as wide as the others: bytes between them that no field has would be copied through memory.
+    pub(crate) seat: u64,
     /// How many units more it may add.
     pub(crate) left: u64,
     /// How many waits it has queued.
     pub(crate) turns: u64,
     /// How many units it was given.
     pub(crate) taken: u64,
+}
+
+impl Numbers {
+    /// The seat that these are of.
+    #[inline]
+    pub(crate) fn id(&self) -> SeatId
+        requires { self.now.seat < 2 ^ 16 }
+        ensures { result ≡ self.now.seat }
+    {
+        SeatId::new(self.seat as u16)
+    }
 }
 
 /// A seat that has added a unit, and has yet to look for a wait. It must be spent, by `wake`.
@@ -96,7 +107,7 @@ impl Seat {
     pub fn id(&self) -> SeatId
         ensures { result ≡ self.now.number }
     {
-        SeatId::new(self.numbers.seat)
+        self.numbers.id()
     }
 
     /// How many units more the seat may add: its release limit less what the journal tells that it has added.
@@ -114,6 +125,30 @@ impl Seat {
     {
         self.numbers.taken
     }
+
+    /// The same seat, put together anew. A caller whose rare half is a function that isn't inlined hands the seat over so: where
+    /// the rare half isn't called, the seat then stays in registers.
+    #[inline]
+    pub fn rebuilt(self) -> Seat
+        ensures { result ≡ self }
+    {
+        let Seat { token, numbers } = self;
+        let Numbers {
+            seat,
+            left,
+            turns,
+            taken,
+        } = numbers;
+        Seat {
+            token,
+            numbers: Numbers {
+                seat,
+                left,
+                turns,
+                taken,
+            },
+        }
+    }
 }
 
 impl Sleeping {
@@ -122,7 +157,7 @@ impl Sleeping {
         ensures { IsWaitOf self.now result }
     {
         WaitId {
-            seat: SeatId::new(self.numbers.seat),
+            seat: self.numbers.id(),
             turn: self.turn,
         }
     }

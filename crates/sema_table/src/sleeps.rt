@@ -28,7 +28,7 @@ impl SemaTable {
                 call,
                 turn,
             } = sleeping;
-            self.await_grant(rt, &mut token, numbers.seat);
+            self.await_grant(rt, &mut token, numbers.id().number());
             let awake = Sleeping {
                 token,
                 numbers,

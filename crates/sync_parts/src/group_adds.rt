@@ -51,15 +51,17 @@ impl WaitGroup {
         requires left { 2 ^ 32 - 1 ≤ seat.sema.left }
         ensures { IsAdded seat d result.0 result.1 }
     {
-        let GroupSeat { mut token, sema } = seat;
-        let word = self.word.add(&mut token, d);
+        let mut seat = seat;
+        let word = self.word.add(&mut seat.token, d);
         if is_quiet(word) {
-            return (GroupSeat { token, sema }, Ok(0));
+            return (seat, Ok(0));
         }
+        let GroupSeat { token, sema } = seat;
         self.finish_add(rt, token, sema, d, word)
     }
 
-    /// The rest of an add that has left this word. What it keeps of a seat in memory is cleared in here, and not before each add.
+    /// The rest of an add that has left this word. What it keeps of a seat in memory is cleared and written in here, and not
+    /// before each add.
     #[inline]
     fn finish_add<R: Wait>(
         &self,
@@ -74,7 +76,7 @@ impl WaitGroup {
         requires left { word.waits ≤ sema.left }
         ensures { Settles token sema d word result.0 result.1 }
     {
-        self.settle(rt, (token, sema), d, word)
+        self.settle(rt, token, sema.rebuilt(), d, word)
     }
 
     /// The same, apart: in the caller's own code it would take registers.
@@ -82,16 +84,17 @@ impl WaitGroup {
     fn settle<R: Wait>(
         &self,
         rt: &R,
-        seat: (StateToken, Seat),
+        token: StateToken,
+        sema: Seat,
         d: i32,
         word: GroupWord,
     ) -> (GroupSeat, Result<u32, Misuse>)
-        requires own { (seat.0.table_id ≡ self.now.word) × (seat.1.table ≡ self.now.sema) }
-        requires leads { seat.0.me.0.next ≡ after_add d word }
-        requires left { word.waits ≤ seat.1.left }
-        ensures { Settles seat.0 seat.1 d word result.0 result.1 }
+        requires own { (token.table_id ≡ self.now.word) × (sema.table ≡ self.now.sema) }
+        requires leads { token.me.0.next ≡ after_add d word }
+        requires left { word.waits ≤ sema.left }
+        ensures { Settles token sema d word result.0 result.1 }
     {
-        let (mut token, sema) = seat;
+        let mut token = token;
         match after_add(d, word) {
             Err(misuse) => return (GroupSeat { token, sema }, Err(misuse)),
             Ok(false) => return (GroupSeat { token, sema }, Ok(0)),

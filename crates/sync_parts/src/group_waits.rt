@@ -53,15 +53,17 @@ impl WaitGroup {
         requires { seat.group ≡ self.now }
         ensures { IsWaited seat result.0 result.1 }
     {
-        let GroupSeat { mut token, sema } = seat;
-        let word = self.word.load(&mut token);
+        let mut seat = seat;
+        let word = self.word.load(&mut seat.token);
         if word.counter == 0 {
-            return (GroupSeat { token, sema }, Ok(()));
+            return (seat, Ok(()));
         }
+        let GroupSeat { token, sema } = seat;
         self.finish_wait(rt, token, sema, word)
     }
 
-    /// The rest of a wait that has found this word. What it keeps of a seat in memory is cleared in here, and not before each wait.
+    /// The rest of a wait that has found this word. What it keeps of a seat in memory is cleared and written in here, and not
+    /// before each wait.
     #[inline]
     fn finish_wait<R: Wait>(
         &self,
@@ -74,7 +76,7 @@ impl WaitGroup {
         requires looked { (token.me.0.next ≡ Goes (V2 word)) × IsGroupWord word }
         ensures { Waits token sema word result.0 result.1 }
     {
-        self.wait_until_zero(rt, (token, sema), word)
+        self.wait_until_zero(rt, token, sema.rebuilt(), word)
     }
 
     /// The same, apart: in the caller's own code it would take registers.
@@ -82,14 +84,15 @@ impl WaitGroup {
     fn wait_until_zero<R: Wait>(
         &self,
         rt: &R,
-        seat: (StateToken, Seat),
+        token: StateToken,
+        sema: Seat,
         word: GroupWord,
     ) -> (GroupSeat, Result<(), Misuse>)
-        requires own { (seat.0.table_id ≡ self.now.word) × (seat.1.table ≡ self.now.sema) }
-        requires looked { (seat.0.me.0.next ≡ Goes (V2 word)) × IsGroupWord word }
-        ensures { Waits seat.0 seat.1 word result.0 result.1 }
+        requires own { (token.table_id ≡ self.now.word) × (sema.table ≡ self.now.sema) }
+        requires looked { (token.me.0.next ≡ Goes (V2 word)) × IsGroupWord word }
+        ensures { Waits token sema word result.0 result.1 }
     {
-        let (mut token, sema) = seat;
+        let mut token = token;
         if !self.word.count_unless_zero(rt, &mut token, word) {
             return (GroupSeat { token, sema }, Ok(()));
         }

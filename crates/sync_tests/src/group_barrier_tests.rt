@@ -1,5 +1,6 @@
 //! Sixteen workers that end a first wait group, and then wait for a second one.
 
+use crate::group_given::shared;
 use crate::group_members::{Member, a_member, new_members};
 use std::alloc::{AllocError, Global};
 use std::process::Abort;
@@ -82,6 +83,13 @@ fn begin_all<R: Abort + Threads + Wait + Copy + Send + 'static>(
     Ok(handles)
 }
 
+fn take_back(crew: &mut Crew, members: Members) -> Result<(), AllocError> {
+    let Members { work, barrier } = members;
+    crew.work.push(work)?;
+    crew.barrier.push(barrier)?;
+    Ok(())
+}
+
 /// Every member goes back to the crew.
 fn end_all(
     rt: &(impl Abort + Threads),
@@ -91,9 +99,7 @@ fn end_all(
     let mut handles = handles;
     for _ in 0..WORKERS {
         let handle = handles.pop().expect(rt, "a thread");
-        let Members { work, barrier } = handle.join(rt);
-        crew.work.push(work)?;
-        crew.barrier.push(barrier)?;
+        take_back(crew, handle.join(rt))?;
     }
     Ok(())
 }
@@ -112,13 +118,6 @@ fn opens<R: Abort + Wait>(rt: &R, barrier: Member, through: &AtomicU64) -> Membe
     barrier
 }
 
-fn new_count(alloc: Global) -> Result<Arc<AtomicU64, Global>, AllocError> {
-    match Arc::new(alloc, AtomicU64::new(0)) {
-        Ok(count) => Ok(count),
-        Err(refused) => Ok(Arc::new(alloc, refused.value)?),
-    }
-}
-
 /// One round with both groups, which have ended before.
 fn round<R: Abort + Threads + Wait + Copy + Send + 'static>(
     rt: R,
@@ -129,7 +128,7 @@ fn round<R: Abort + Threads + Wait + Copy + Send + 'static>(
     let Members { work, barrier } = own;
     let work = work.adds(&rt, 16, 0);
     let barrier = barrier.adds(&rt, 16, 0);
-    let through = new_count(alloc)?;
+    let through = shared(alloc, AtomicU64::new(0))?;
     let handles = begin_all(rt, alloc, crew, &through)?;
     let work = work.waits(&rt);
     let barrier = opens(&rt, barrier, &*through);

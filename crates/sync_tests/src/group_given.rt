@@ -21,16 +21,17 @@ pub(crate) fn new_again(
     ensures { IfOk result (λ t. All (λ s. s.group ≡ t.0) t.1.items) }
 {
     match WaitGroup::with_seats(alloc, seats) {
+        Ok(made) => Ok(made),
         Err(SetupError::NoMemory) => WaitGroup::with_seats(alloc, seats),
-        answer => answer,
+        Err(refused) => Err(refused),
     }
 }
 
-/// The group to be shared, asked for once more where memory was refused.
-pub(crate) fn shared(alloc: Global, group: WaitGroup) -> Result<Arc<WaitGroup, Global>, AllocError>
-    ensures { IfOk result (λ shared. arc_value shared ≡ group) }
+/// What threads are to share, asked for once more where memory was refused.
+pub(crate) fn shared<T: Drop>(alloc: Global, value: T) -> Result<Arc<T, Global>, AllocError>
+    ensures { IfOk result (λ shared. arc_value shared ≡ value) }
 {
-    match Arc::new(alloc, group) {
+    match Arc::new(alloc, value) {
         Ok(shared) => Ok(shared),
         Err(refused) => Ok(Arc::new(alloc, refused.value)?),
     }

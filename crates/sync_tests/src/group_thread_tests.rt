@@ -1,5 +1,6 @@
 //! Threads that share a wait group.
 
+use crate::group_given::shared;
 use crate::group_members::{Member, a_member, new_members};
 use std::alloc::{AllocError, Global};
 use std::process::Abort;
@@ -12,14 +13,6 @@ use std::thread::{JoinHandle, Threads};
 const TURNS: u32 = 10_000_000;
 
 const ROUNDS: u64 = 200;
-
-/// A number that threads share, asked for once more where memory was refused.
-fn new_number(alloc: Global) -> Result<Arc<AtomicU64, Global>, AllocError> {
-    match Arc::new(alloc, AtomicU64::new(0)) {
-        Ok(number) => Ok(number),
-        Err(refused) => Ok(Arc::new(alloc, refused.value)?),
-    }
-}
 
 /// A member that adds its share to a sum.
 #[derive(Drop)]
@@ -60,7 +53,7 @@ fn forks_and_joins<R: Abort + Threads + Wait + Copy + Send + 'static>(
     alloc: Global,
 ) -> Result<(), Fail> {
     let mut members = new_members(&rt, alloc, 4)?;
-    let sum = new_number(alloc)?;
+    let sum = shared(alloc, AtomicU64::new(0))?;
     let first = a_member(&rt, &mut members);
     let first = first.adds(&rt, 3, 0);
     let one = new_worker(&rt, &mut members, 1, &sum)?;
@@ -104,6 +97,22 @@ struct Signaller {
     other: Arc<AtomicU64, Global>,
 }
 
+fn new_signaller(
+    rt: &impl Abort,
+    members: &mut Vec<Member>,
+    mine: &Arc<AtomicU64, Global>,
+    other: &Arc<AtomicU64, Global>,
+) -> Result<Signaller, AllocError> {
+    let member = a_member(rt, members);
+    let mine = Arc::try_clone(mine)?;
+    let other = Arc::try_clone(other)?;
+    Ok(Signaller {
+        member,
+        mine,
+        other,
+    })
+}
+
 /// Whether the flag is seen within the turns.
 fn sees(flag: &AtomicU64) -> bool {
     for _ in 0..TURNS {
@@ -143,20 +152,12 @@ fn begin_signal<R: Abort + Threads + Wait + Copy + Send + 'static>(
 #[test]
 fn two_flags_are_seen(rt: HostRuntime) -> Result<(), Fail> {
     let mut members = new_members(&rt, rt.alloc(), 3)?;
-    let left = new_number(rt.alloc())?;
-    let right = new_number(rt.alloc())?;
+    let left = shared(rt.alloc(), AtomicU64::new(0))?;
+    let right = shared(rt.alloc(), AtomicU64::new(0))?;
     let first = a_member(&rt, &mut members);
     let first = first.adds(&rt, 2, 0);
-    let one = Signaller {
-        member: a_member(&rt, &mut members),
-        mine: Arc::try_clone(&left)?,
-        other: Arc::try_clone(&right)?,
-    };
-    let two = Signaller {
-        member: a_member(&rt, &mut members),
-        mine: right,
-        other: left,
-    };
+    let one = new_signaller(&rt, &mut members, &left, &right)?;
+    let two = new_signaller(&rt, &mut members, &right, &left)?;
     let one = begin_signal(rt, one);
     let two = begin_signal(rt, two);
     let _first = first.waits(&rt);

@@ -2,10 +2,9 @@
 
 ghost use Rattle.std.specs.Prelude.{◌≡◌, All};
 
-use crate::given::{Sizes, closes, last_seat, new_again, one_counter, wait};
+use crate::given::{Sizes, closes, gives_back, last_seat, new_again, one_counter, wait};
 use crate::seats::{FIFO, PLAIN, acquires, is_woken, posts, releases, retries, sleeps, tries};
 use sema_table::{Closed, Seat, SemaTable, Tried, Wake};
-use std::alloc::AllocError;
 use std::process::Abort;
 use std::sync::Wait;
 use std::test::Fail;
@@ -40,11 +39,7 @@ fn an_unused_table_has_its_starts(rt: HostRuntime) -> Result<(), Fail> {
 }
 
 /// A unit is taken from counter 0, and two are added to counter 1.
-fn takes_one_and_adds_two<R: Abort + Wait>(
-    rt: &R,
-    table: &SemaTable,
-    seats: &mut Vec<Seat>,
-) -> Result<(), AllocError>
+fn takes_one_and_adds_two<R: Abort + Wait>(rt: &R, table: &SemaTable, seats: &mut Vec<Seat>)
     requires { All (λ s. s.table ≡ table.now) seats.old.items }
     ensures { All (λ s. s.table ≡ table.now) seats.new.items }
 {
@@ -53,9 +48,8 @@ fn takes_one_and_adds_two<R: Abort + Wait>(
     let first = last_seat(rt, table, seats);
     let first = posts(rt, table, first, 1);
     let first = posts(rt, table, first, 1);
-    seats.push(second)?;
-    seats.push(first)?;
-    Ok(())
+    gives_back(rt, table, seats, second);
+    gives_back(rt, table, seats, first);
 }
 
 #[test]
@@ -65,7 +59,7 @@ fn two_counters_add_up(rt: HostRuntime) -> Result<(), Fail> {
         ..one_counter(3, 2)
     };
     let (table, mut seats) = new_again(rt.alloc(), &sizes)?;
-    takes_one_and_adds_two(&rt, &table, &mut seats)?;
+    takes_one_and_adds_two(&rt, &table, &mut seats);
     let closed = closes(&rt, table, seats);
     adds_up(&rt, &closed, 2, 1);
     ends_at(&rt, &closed, 0, 2);
@@ -74,11 +68,7 @@ fn two_counters_add_up(rt: HostRuntime) -> Result<(), Fail> {
 }
 
 /// A seat sleeps, is woken by a release, and takes the unit.
-fn sleeps_and_takes<R: Abort + Wait>(
-    rt: &R,
-    table: &SemaTable,
-    seats: &mut Vec<Seat>,
-) -> Result<(), AllocError>
+fn sleeps_and_takes<R: Abort + Wait>(rt: &R, table: &SemaTable, seats: &mut Vec<Seat>)
     requires { All (λ s. s.table ≡ table.now) seats.old.items }
     ensures { All (λ s. s.table ≡ table.now) seats.new.items }
 {
@@ -90,15 +80,14 @@ fn sleeps_and_takes<R: Abort + Wait>(
     let first = retries(rt, table, woken);
     let second = releases(rt, table, second, 0, PLAIN, Wake::Nobody);
     let second = acquires(rt, table, second, 0, FIFO);
-    seats.push(first)?;
-    seats.push(second)?;
-    Ok(())
+    gives_back(rt, table, seats, first);
+    gives_back(rt, table, seats, second);
 }
 
 #[test]
 fn nobody_waits_in_a_closed_table(rt: HostRuntime) -> Result<(), Fail> {
     let (table, mut seats) = new_again(rt.alloc(), &one_counter(0, 2))?;
-    sleeps_and_takes(&rt, &table, &mut seats)?;
+    sleeps_and_takes(&rt, &table, &mut seats);
     let closed = closes(&rt, table, seats);
     adds_up(&rt, &closed, 2, 2);
     ends_at(&rt, &closed, 0, 0);

@@ -3,7 +3,7 @@
 ghost use Rattle.std.specs.Prelude.{◌≡◌, All};
 
 use crate::close_tests::{adds_up, ends_at};
-use crate::given::{Sizes, last_seat, new_again, one_counter};
+use crate::given::{Sizes, gives_back, last_seat, new_again, one_counter};
 use crate::seats::posts;
 use sema_table::{Closed, Seat, SemaTable};
 use std::alloc::Global;
@@ -15,7 +15,7 @@ use table_crew::{Way, Work, run};
 use waiters::NoMemory;
 
 /// What seats do, each in a thread of its own, after so many units were added to counter 0.
-#[derive(Clone, Copy, Drop)]
+#[derive(Drop)]
 struct Plan {
     sizes: Sizes,
     units: u32,
@@ -23,18 +23,26 @@ struct Plan {
     turns: u32,
 }
 
+/// The seat adds so many units to counter 0, one by one.
+fn posts_one_by_one(rt: &impl Abort, table: &SemaTable, seat: Seat, units: u32) -> Seat
+    requires { seat.table ≡ table.now }
+    ensures { result.table ≡ table.now }
+{
+    let mut seat = seat;
+    for _ in 0..units {
+        seat = posts(rt, table, seat, 0);
+    }
+    seat
+}
+
 /// The last seat adds units to counter 0.
 fn begins(rt: &impl Abort, table: &SemaTable, seats: &mut Vec<Seat>, units: u32)
     requires { All (λ s. s.table ≡ table.now) seats.old.items }
     ensures { All (λ s. s.table ≡ table.now) seats.new.items }
 {
-    let mut seat = last_seat(rt, table, seats);
-    for _ in 0..units {
-        seat = posts(rt, table, seat, 0);
-    }
-    seats
-        .push(seat)
-        .expect(rt, "the room of a seat that was there");
+    let seat = last_seat(rt, table, seats);
+    let seat = posts_one_by_one(rt, table, seat, units);
+    gives_back(rt, table, seats, seat);
 }
 
 /// All seats work, and the table is closed with them.

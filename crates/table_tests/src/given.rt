@@ -10,7 +10,7 @@ use std::process::Abort;
 use waiters::{CounterId, SeatId, WaitId};
 
 /// The settings of a table whose counters start at one number.
-#[derive(Clone, Copy, Drop)]
+#[derive(Drop)]
 pub(crate) struct Sizes {
     pub(crate) counters: usize,
     pub(crate) start: u32,
@@ -66,6 +66,16 @@ pub(crate) fn last_seat(rt: &impl Abort, table: &SemaTable, seats: &mut Vec<Seat
     ensures rest { All (λ s. s.table ≡ table.now) seats.new.items }
 {
     seats.pop().expect(rt, "a seat")
+}
+
+/// Gives a seat back to those that it was taken from.
+pub(crate) fn gives_back(rt: &impl Abort, table: &SemaTable, seats: &mut Vec<Seat>, seat: Seat)
+    requires { (seat.table ≡ table.now) × All (λ s. s.table ≡ table.now) seats.old.items }
+    ensures { All (λ s. s.table ≡ table.now) seats.new.items }
+{
+    seats
+        .push(seat)
+        .expect(rt, "the room of a seat that was there");
 }
 
 /// The seats where there are two, in their order.

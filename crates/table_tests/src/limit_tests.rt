@@ -78,8 +78,8 @@ fn the_lower_number_is_told(rt: HostRuntime) {
 
 /// Seats that have run nothing, in the order of their numbers.
 fn are_new(rt: &impl Abort, seats: &[Seat], limit: u64) {
-    for (number, seat) in (0..).zip(seats.iter()) {
-        assert!(rt; seat.id().number() == number);
+    for (number, seat) in seats.iter().enumerate() {
+        assert!(rt; usize::from(seat.id().number()) == number);
         counts(rt, seat, limit, 0);
     }
 }

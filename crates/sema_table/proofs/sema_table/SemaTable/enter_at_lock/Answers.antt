@@ -69,7 +69,7 @@ invariant_of-result-2 g c =
     let s = c.args.token in let t2 = c.raise.new.token in let t3 = c.look_again.new.token in let t4 = c.queue.new.token in let a = c.args.call in
     let looked = to_look s c.lock.new.token t2 t3 a c.lock.ensures.0 c.raise.ensures.0 in
     let committed = to_committed s c.lock.new.token t2 t3 a looked c.if-look_again.ensures.settled.0 in
-    asleep_seat s t3 t4 c.args.numbers a _ c.requires.seat.0 committed c.queue.ensures.walked (λ i. record { seat = c.new.ensures i; turn = c.args.numbers.turns }) c.queue.ensures.bare
+    asleep_seat s t3 t4 c.args.numbers a _ c.requires.seat.0 committed c.queue.ensures.walked (λ i. record { seat = c.id.ensures i; turn = c.args.numbers.turns }) c.queue.ensures.bare
     (subst (λ (y : TableModel). a.counter < length y.setting.starts) (sym c.requires.seat.1) c.requires.call.0)
 
 pub returns : goal.returns
@@ -77,4 +77,4 @@ returns g c =
     let s = c.args.token in let t2 = c.raise.new.token in let t3 = c.look_again.new.token in let t4 = c.queue.new.token in let a = c.args.call in
     let looked = to_look s c.lock.new.token t2 t3 a c.lock.ensures.0 c.raise.ensures.0 in
     let committed = to_committed s c.lock.new.token t2 t3 a looked c.if-look_again.ensures.settled.0 in
-    entered_asleep s t3 t4 c.args.numbers a _ c.requires.seat.0 committed c.queue.ensures.walked (λ i. record { seat = c.new.ensures i; turn = c.args.numbers.turns }) c.queue.ensures.bare c.queue.ensures.last
+    entered_asleep s t3 t4 c.args.numbers a _ c.requires.seat.0 committed c.queue.ensures.walked (λ i. record { seat = c.id.ensures i; turn = c.args.numbers.turns }) c.queue.ensures.bare c.queue.ensures.last

@@ -18,7 +18,7 @@ swap-found-requires c =
     let s = c.sleeping.inside.token in let n = c.sleeping.inside.numbers in let seat = c.sleeping.invariant in
     let at = own c.self.inside s n c.self.view_is c.sleeping.view_is c.requires in
     let word : address s.me.0.setting (Grant s.me.0.number) ≡ c.grant_word-word.result
-    = (λ i. address ((at ∙ c.self.view_is) i).setting (Grant (seat.token_is.number_is i))) ∙ sym c.grant_word-word.ensures.at in (
+    = (λ i. address ((at ∙ c.self.view_is) i).setting (Grant ((seat.token_is.number_is ∙ sym (c.number.ensures ∙ c.id.ensures)) i))) ∙ sym c.grant_word-word.ensures.at in (
       ap (λ (t : TableModel). t.id) at,
       (let low = c.grant_word-word.ensures.low in let e = ap (λ (t : TableModel). t.id.words) c.self.view_is in omega arith),
       receives_at _ _ _ c.grant_word-word.result s.me (has_counter s seat.inside) (Acquiring c.sleeping.inside.call (P c.sleeping.inside.turn)) seat.at (added_few s n 0 seat.token_is (omega arith)) word

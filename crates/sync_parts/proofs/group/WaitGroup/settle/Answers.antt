@@ -10,25 +10,25 @@ use Rattle.sync_parts.proofs.group.WaitGroup.settle.Goals as goal
 pub returns-in-Err : goal.returns-in-Err
 returns-in-Err g c = λ s found left y.
     let same = sym (ap (λ (k : ℤ). after_add k c.args.word) (to_z-of_z w32 c.args.d c.ranges.d)) in
-    added_fails s c.args.seat.0 c.args.seat.1 c.args.d found c.args.word left y c.in-Err.misuse (same ∙ c.in-Err.ensures)
+    added_fails s c.args.token c.args.sema c.args.d found c.args.word left y c.in-Err.misuse (same ∙ c.in-Err.ensures)
 
 pub returns-in-Ok-false : goal.returns-in-Ok-false
 returns-in-Ok-false g c = λ s found left y.
     let same = sym (ap (λ (k : ℤ). after_add k c.args.word) (to_z-of_z w32 c.args.d c.ranges.d)) in
-    added_ends s c.args.seat.0 c.args.seat.1 c.args.d found c.args.word left y
+    added_ends s c.args.token c.args.sema c.args.d found c.args.word left y
     (same ∙ c.in-Ok-false.ensures ∙ ap (λ (b : Bool). if b then Goes (G2 c.args.word) else Ends) c.in-Ok-false.field-0-test)
 
 pub returns-then-ne : goal.returns-then-ne
 returns-then-ne g c = λ s found left y.
     let same = sym (ap (λ (k : ℤ). after_add k c.args.word) (to_z-of_z w32 c.args.d c.ranges.d)) in
-    added_beside s c.args.seat.0 c.args.seat.1 c.args.d found c.args.word left y
+    added_beside s c.args.token c.args.sema c.args.d found c.args.word left y
     (same ∙ c.in-Ok-true.ensures ∙ ap (λ (b : Bool). if b then Goes (G2 c.args.word) else Ends) c.in-Ok-true.field-0-test)
     c.load.new.token c.load.result c.load.ensures (is_other c.args.word c.load.result (sym c.ne.ensures ∙ c.if-ne.true))
 
 pub returns : goal.returns
 returns g c = λ s found left y.
     let same = sym (ap (λ (k : ℤ). after_add k c.args.word) (to_z-of_z w32 c.args.d c.ranges.d)) in
-    added_all s c.args.seat.0 c.args.seat.1 c.args.d found c.args.word left y
+    added_all s c.args.token c.args.sema c.args.d found c.args.word left y
     (same ∙ c.in-Ok-true.ensures ∙ ap (λ (b : Bool). if b then Goes (G2 c.args.word) else Ends) c.in-Ok-true.field-0-test)
     c.load.new.token c.load.result c.load.ensures (is_same c.args.word c.load.result (sym c.ne.ensures ∙ c.if-ne.false))
     c.empty.new.token c.empty.ensures.0 c.empty.ensures.1 c.release_waits-sema.result c.requires.left c.release_waits-sema.ensures
