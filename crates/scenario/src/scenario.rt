@@ -165,6 +165,14 @@ impl Scenario {
         Ok(Scenario { parts })
     }
 
+    /// The scenario of parts that are known to keep the limits, as those of a text that was read. They aren't tested again.
+    pub fn from_checked(parts: Parts) -> Self
+        requires { IsScenario parts }
+        ensures { result ≡ parts }
+    {
+        Scenario { parts }
+    }
+
     /// The parts that it was made of.
     pub fn parts(&self) -> &Parts
         ensures value { result.now ≡ self.now }
