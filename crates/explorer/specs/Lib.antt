@@ -1,5 +1,6 @@
 pub mod Answer
 pub mod Asked
+pub mod JudgeText
 pub mod Once
 pub mod OnceText
 pub mod Threads

@@ -4,25 +4,14 @@ use Rattle.std.specs.declared.thread.PromisedHandle.{PromisedHandle}
 use Rattle.sema_table.specs.declared.answers.Wake.{Wake}
 use Rattle.sema_table.specs.declared.settings.Settings.{Settings}
 use Rattle.sema_table.specs.Seats.{TableModel, SeatModel}
-use Rattle.sema_table.specs.Making.{new_seat, IsFromOne, IsOutside}
+use Rattle.sema_table.specs.Making.{new_seat, IsOutside}
 use Rattle.sema_table.specs.Whole.{IsReleased, IsAcquired}
 use Rattle.sema_table.specs.Closing.{ClosedModel, IsClosed}
 use Rattle.explorer.specs.declared.threads.Worked.{Worked}
 
-abbrev pub most_workers : ℕ
-most_workers = 64
-
-abbrev pub most_rounds : ℕ
-most_rounds = 1000000
-
--- 1 to 64 workers, and 1 to 1,000,000 rounds
-pub record AreWithin (workers rounds : ℕ) : Type 0 where
-  pub workers_are : IsFromOne most_workers workers
-  pub rounds_are : IsFromOne most_rounds rounds
-
--- not so
+-- not 1 to 64 workers, or not 1 to 1,000,000 rounds
 abbrev pub AreOutside : ℕ → ℕ → Type 0
-AreOutside workers rounds = IsOutside most_workers workers ⊎ IsOutside most_rounds rounds
+AreOutside workers rounds = IsOutside 64 workers ⊎ IsOutside 1000000 rounds
 
 -- one counter at 0, one root, a seat for each worker, and each may add a unit a round
 pub record AreThreadsSettings (workers rounds : ℕ) (settings : Settings) : Type 0 where

@@ -2,7 +2,7 @@
 
 ghost use Rattle.std.specs.Prelude.{◌≡◌, ◌↔◌, ◌<◌, false, length, slice_index, IsTrue, IfOk, IfErr, OnErr, IsErr, Some, string_bytes};
 ghost use Rattle.scenario_search.specs.Told.{TellsAll, TellsBeginning};
-ghost use Rattle.explorer.specs.Threads.{AreWithin};
+ghost use Rattle.program_words.specs.Asked.{AreWithin};
 ghost use Rattle.explorer.specs.ThreadsText.{threads_lines, IsThreadsAnswer};
 
 use crate::gate::Open;

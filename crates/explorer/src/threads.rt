@@ -2,10 +2,13 @@
 
 ghost use Rattle.std.specs.Prelude.{◌≡◌, ◌*◌, ◌<◌, ◌∷◌, [], ◌↔◌, length, Err, Some, IfOk};
 ghost use Rattle.sema_table.specs.Making.{new_seat, new_seats};
-ghost use Rattle.explorer.specs.Threads.{AreWithin, AreOutside, AreThreadsSettings, IsThreadsTable, IsRound, HasWorked, IsWorker, HaveStarted, HaveWorked, IsThreadsRun};
+ghost use Rattle.program_words.specs.Asked.{AreWithin};
+ghost use Rattle.explorer.specs.Threads.{AreOutside, AreThreadsSettings, IsThreadsTable, IsRound, HasWorked, IsWorker, HaveStarted, HaveWorked, IsThreadsRun};
+ghost use Rattle.program_words.specs.Asked.{AreWithin};
 ghost use Rattle.explorer.specs.ThreadsText.{threads_refused_text};
 
 use crate::gate::Gate;
+use program_words::{MAX_ROUNDS, MAX_WORKERS};
 use sema_table::{Closed, Seat, SemaTable, Settings, SetupError};
 use std::alloc::{AllocError, Global};
 use std::error::Error;
@@ -13,11 +16,6 @@ use std::sync::Wait;
 use std::thread::{Promise, PromisedHandle, Scope, Threads};
 use std::{fmt, thread};
 use waiters::{CounterId, NoMemory};
-
-/// The most workers of `run_threads`.
-pub const MAX_WORKERS: u32 = 64;
-/// The most rounds of each.
-pub const MAX_ROUNDS: u32 = 1_000_000;
 
 /// Why `run_threads` has closed no table, by number.
 #[derive(Clone, Copy, Debug, PartialEq, Eq, Drop)]

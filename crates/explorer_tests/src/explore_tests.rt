@@ -89,7 +89,7 @@ const WRAPPED: [Row; 2] = [
 ];
 
 /// Four seats with two releases each: 625 worlds, and more than 63,000,000 schedules.
-const TWO_EACH: &[u8] = b"\
+pub(crate) const TWO_EACH: &[u8] = b"\
 counter 0
 seat 0: release 0; release 0
 seat 1: release 0; release 0
@@ -109,7 +109,7 @@ value 0 8
 ";
 
 /// The same, of which seven are asked.
-const TWO_EACH_FOR_SEVEN: &[u8] = b"\
+pub(crate) const TWO_EACH_FOR_SEVEN: &[u8] = b"\
 counter 0
 seat 0: release 0; release 0
 seat 1: release 0; release 0

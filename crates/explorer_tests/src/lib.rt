@@ -9,6 +9,8 @@
 #[cfg(test)]
 mod asked;
 #[cfg(test)]
+mod check_tests;
+#[cfg(test)]
 mod device_tests;
 #[cfg(test)]
 mod devices;
@@ -16,6 +18,8 @@ mod devices;
 mod explore_tests;
 #[cfg(test)]
 mod fault_tests;
+#[cfg(test)]
+mod judge_tests;
 #[cfg(test)]
 mod list_replay_tests;
 #[cfg(test)]

@@ -58,18 +58,30 @@ fn some_words_are_answered_whole(rt: HostRuntime) {
 }
 
 /// Words that ask for help, and how it begins.
-const HELPS: [(&[&str], &str); 4] = [
+const HELPS: [(&[&str], &str); 7] = [
     (
         &["--help"],
         "Explore the interleavings of semaphores, notify lists and wait groups\n\nUsage: parklot <COMMAND>\n",
     ),
     (
         &["explore", "--help"],
-        "Search the schedules of the scenario on standard input for a bad world\n\nUsage: parklot explore ",
+        "Search the schedules of the scenario, up to a depth, for a bad world\n\nUsage: parklot explore ",
     ),
     (
         &["replay", "--help"],
-        "Tell what a schedule does in the scenario on standard input\n\nUsage: parklot replay ",
+        "Tell what a schedule does in the scenario\n\nUsage: parklot replay ",
+    ),
+    (
+        &["check", "--help"],
+        "Search all schedules of the scenario, of whatever length, for a bad world\n\nUsage: parklot check ",
+    ),
+    (
+        &["judge", "--help"],
+        "Tell whether a journal of semaphores and notify lists is lawful\n\nUsage: parklot judge ",
+    ),
+    (
+        &["format"],
+        "A scenario is lines, each ended by a line feed, with one space between words, in this order:\n",
     ),
     (
         &["threads", "--help"],
@@ -85,7 +97,7 @@ fn help_goes_to_the_output(rt: HostRuntime) {
 }
 
 /// Words that ask for no command, and how what is told of them begins.
-const MISTAKES: [(&[&str], &str); 21] = [
+const MISTAKES: [(&[&str], &str); 22] = [
     (
         &[],
         "error: 'parklot' requires a subcommand but one was not provided\n",
@@ -137,8 +149,12 @@ const MISTAKES: [(&[&str], &str); 21] = [
         "error: a value is required for '--schedule <S>' but none was supplied\n",
     ),
     (
-        &["replay", "--schedule", "0", "0"],
-        "error: unexpected argument '0' found\n",
+        &["replay", "--schedule", "0", "file", "more"],
+        "error: unexpected argument 'more' found\n",
+    ),
+    (
+        &["check", "--worlds", "0"],
+        "error: invalid value '0' for '--worlds <N>': 0 is not in 1..=1000000000\n",
     ),
     (
         &["threads"],

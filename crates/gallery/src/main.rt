@@ -16,7 +16,7 @@ use std::thread::Threads;
 const PROMPT: &str = "$ parklot ";
 
 /// The scenarios, from the simple to the odd.
-const NAMES: [&str; 15] = [
+const NAMES: [&str; 24] = [
     "lonely_sleeper",
     "lost_wake_up",
     "newest_first",
@@ -27,7 +27,16 @@ const NAMES: [&str; 15] = [
     "last_value",
     "three_for_three",
     "lock",
+    "five_seats_and_a_mutex",
+    "exclusion_asserted",
+    "exclusion_broken",
+    "nested_reader",
+    "slot_freed_in_time",
+    "slot_freed_too_early",
     "notify_one_before_the_wait",
+    "notified_without_the_lock",
+    "notified_under_the_lock",
+    "cond_wait_in_full",
     "broadcast",
     "wrapped_ticket",
     "group",

@@ -1,9 +1,23 @@
-//! The program: its words and streams, over the commands of `explorer`.
+//! The program: its words, the file that they name, and its streams, over the commands of `explorer`.
 #![tactic(auto)]
 
-use explorer::{Flagged, no_words, parklot_io, read_words};
+ghost use Rattle.program_words.specs.Asked.{IsWithinLimits};
+
+use explorer::{Asked, Flagged, no_file, no_words, parklot_io, read_words};
+use std::alloc::Global;
+use std::fs::File;
 use std::process::ExitCode;
 use std::{env, io};
+
+/// What the words ask for.
+fn asked_by(alloc: Global, words: &io::Result<Vec<String>>) -> Asked<'_>
+    ensures { IsWithinLimits result }
+{
+    match words {
+        Ok(words) => read_words(alloc, words.as_slice()),
+        Err(error) => no_words(error),
+    }
+}
 
 fn main(rt: HostRuntime) -> ExitCode {
     let alloc = rt.alloc();
@@ -14,13 +28,17 @@ fn main(rt: HostRuntime) -> ExitCode {
         .skip(1)
         .collect(alloc)
         .map_err(io::Error::from));
-    ExitCode::from(match words {
-        Ok(words) => {
-            let asked = read_words(alloc, words.as_slice());
-            parklot_io(&rt, alloc, &asked, &mut input, &mut out, &mut err)
+    let asked = asked_by(alloc, &words);
+    let Some(name) = asked.file() else {
+        return ExitCode::from(parklot_io(&rt, alloc, &asked, &mut input, &mut out, &mut err));
+    };
+    ExitCode::from(match File::open(&rt, name) {
+        Ok(file) => {
+            let mut file = Flagged::new(file);
+            parklot_io(&rt, alloc, &asked, &mut file, &mut out, &mut err)
         }
-        Err(error) => {
-            let asked = no_words(&error);
+        Err(_) => {
+            let asked = no_file(alloc, name);
             parklot_io(&rt, alloc, &asked, &mut input, &mut out, &mut err)
         }
     })

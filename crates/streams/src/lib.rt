@@ -13,6 +13,6 @@ mod source;
 
 pub use fault::IoFault;
 pub use flagged::Flagged;
-pub use reading::read_at_most;
+pub use reading::{read_all, read_at_most};
 pub use sink::{Sink, write_all};
 pub use source::Source;

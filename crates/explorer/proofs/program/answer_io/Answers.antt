@@ -19,3 +19,12 @@ returns-in-NoMemory-clause-begun g c = λ e.
 
 pub returns-in-Explore-clause-whole : goal.returns-in-Explore-clause-whole
 returns-in-Explore-clause-whole g c = rw c.in-Explore.is c.explore_by_io.ensures.whole
+
+pub returns-in-Check-clause-whole : goal.returns-in-Check-clause-whole
+returns-in-Check-clause-whole g c = rw c.in-Check.is c.check_io.ensures.whole
+
+pub returns-in-Replay-clause-whole : goal.returns-in-Replay-clause-whole
+returns-in-Replay-clause-whole g c = rw c.in-Replay.is c.replay_io.ensures.whole
+
+pub returns-in-Judge-clause-whole : goal.returns-in-Judge-clause-whole
+returns-in-Judge-clause-whole g c = rw c.in-Judge.is c.judge_io.ensures.whole

@@ -1,0 +1,65 @@
+//! What `check` answers, word for word. How many worlds there are was found by hand or by another search.
+
+use crate::asked::tells;
+use crate::explore_tests::{MET, TWO_EACH, TWO_EACH_FOR_SEVEN};
+use crate::reading::ONE_ACQUIRE;
+
+/// A scenario, words, all that is told, and the status.
+type Row = (&'static [u8], &'static [&'static str], &'static str, u8);
+
+/// What is found in all schedules, or among so many worlds.
+const FOUND: [Row; 8] = [
+    (
+        ONE_ACQUIRE,
+        &["check"],
+        "bad: stuck\nschedule: 0 0 0 0 0\n",
+        1,
+    ),
+    (MET, &["check"], "none\nworlds 42, deepest 14\n", 0),
+    // five places for each of four seats, each of which makes four steps
+    (TWO_EACH, &["check"], "none\nworlds 625, deepest 16\n", 0),
+    (
+        TWO_EACH,
+        &["check", "--worlds", "625"],
+        "none\nworlds 625, deepest 16\n",
+        0,
+    ),
+    // all but the last, in which each seat has ended
+    (
+        TWO_EACH,
+        &["check", "--worlds", "624"],
+        "gave up\nworlds 624, complete up to depth 15\n",
+        3,
+    ),
+    (
+        TWO_EACH_FOR_SEVEN,
+        &["check"],
+        "bad: value\nschedule: 0 0 0 0 1 1 1 1 2 2 2 2 3 3 3 3\n",
+        1,
+    ),
+    (
+        TWO_EACH,
+        &["explore", "--depth", "32", "--worlds", "624"],
+        "gave up\n",
+        3,
+    ),
+    (
+        TWO_EACH,
+        &["explore", "--depth", "15", "--worlds", "624"],
+        "none up to depth 15\n",
+        0,
+    ),
+];
+
+#[test]
+fn what_is_found_in_all_is_told(rt: HostRuntime) {
+    for (input, words, told, status) in &FOUND {
+        tells(&rt, rt.alloc(), words, input, told, *status);
+    }
+}
+
+#[test]
+fn a_text_that_is_no_scenario_is_refused(rt: HostRuntime) {
+    let told = "refused: line 2: form\n";
+    tells(&rt, rt.alloc(), &["check"], b"counter 0\nfoo\n", told, 2);
+}

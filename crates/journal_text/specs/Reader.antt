@@ -1,0 +1,11 @@
+-- What the reader of a journal's text answers where it has no journal.
+use Rattle.std.specs.Prelude.{⊤, ℕ, List}
+use Rattle.journal_text.specs.declared.journal_fault.JournalFault.{JournalFault}
+use Rattle.journal_text.specs.declared.journal_fault.JournalFault.TheVariants.{Form, NoMemory}
+use Rattle.journal_text.specs.JournalText.{IsJournalOf, IsFaultOf}
+use Rattle.journal_text.specs.Reading.{IsOnly, IsNone}
+
+-- the number is that of the text's first faulty line, and the text has no journal
+abbrev pub IsFault : List ℕ → JournalFault → Type 0
+IsFault text (Form line) = IsOnly (IsFaultOf text) line × IsNone (IsJournalOf text)
+IsFault text NoMemory = ⊤

@@ -1,0 +1,42 @@
+-- What the program's words may ask for.
+use Rattle.std.specs.Prelude.{◌≡◌, ◌≢◌, ℕ, ◌≤◌, List, [], ◌∷◌, ◌++◌, Option, None, option_map, string_bytes, codes}
+use Rattle.std.specs.IoError.{error_kind}
+use Rattle.std.specs.declared.io.Error.{Error}
+use Rattle.std.specs.declared.io.ErrorKind.TheVariants.{OutOfMemory}
+use Rattle.program_words.specs.declared.asked.Asked.{Asked}
+use Rattle.program_words.specs.declared.asked.Asked.TheVariants.{Explore, Check, Replay, Judge, Threads, Mistake, NoText, NoMemory}
+
+-- 1 to so many
+abbrev pub IsFromOne : ℕ → ℕ → Type 0
+IsFromOne most n = (1 ≤ n) × (n ≤ most)
+
+-- 1 to 64 workers, and 1 to 1,000,000 rounds
+pub record AreWithin (workers rounds : ℕ) : Type 0 where
+  pub workers_are : IsFromOne 64 workers
+  pub rounds_are : IsFromOne 1000000 rounds
+
+-- the numbers are within the limits of their command
+abbrev pub IsWithinLimits : Asked → Type 0
+IsWithinLimits (Explore bounds table file) = bounds.depth ≤ 64
+IsWithinLimits (Threads workers rounds) = AreWithin workers rounds
+IsWithinLimits _ = Unit {0}
+
+-- words that couldn't be read for this reason: memory was short, or one is no text
+abbrev pub IsWithoutWords : Error → Asked → Type 0
+IsWithoutWords error NoMemory = error_kind error ≡ OutOfMemory
+IsWithoutWords error NoText = error_kind error ≢ OutOfMemory
+IsWithoutWords error _ = ⊥
+
+-- of a file that can't be read this alone is told; or memory was short
+abbrev pub IsWithoutFile : List ℕ → Asked → Type 0
+IsWithoutFile name (Mistake told) = string_bytes told ≡ codes "parklot: cannot read " ++ name ++ 10 ∷ []
+IsWithoutFile name NoMemory = Unit {0}
+IsWithoutFile name _ = ⊥
+
+-- the name of the file that is read in place of standard input
+abbrev pub file_of : Asked → Option (List ℕ)
+file_of (Explore bounds table file) = option_map (λ name. name.now) file
+file_of (Check worlds file) = option_map (λ name. name.now) file
+file_of (Replay spelled file) = option_map (λ name. name.now) file
+file_of (Judge file) = option_map (λ name. name.now) file
+file_of _ = None
