@@ -8,7 +8,7 @@ use crate::reading::ONE_ACQUIRE;
 type Row = (&'static [u8], &'static [&'static str], &'static str, u8);
 
 /// What is found in all schedules, or among so many worlds.
-const FOUND: [Row; 8] = [
+const FOUND: [Row; 9] = [
     (
         ONE_ACQUIRE,
         &["check"],
@@ -34,6 +34,13 @@ const FOUND: [Row; 8] = [
     (
         TWO_EACH_FOR_SEVEN,
         &["check"],
+        "bad: value\nschedule: 0 0 0 0 1 1 1 1 2 2 2 2 3 3 3 3\n",
+        1,
+    ),
+    // the last world is bad: it is told, though there is no room for it
+    (
+        TWO_EACH_FOR_SEVEN,
+        &["check", "--worlds", "624"],
         "bad: value\nschedule: 0 0 0 0 1 1 1 1 2 2 2 2 3 3 3 3\n",
         1,
     ),

@@ -1,8 +1,10 @@
 //! The program over its words, and the command `once`.
 
+ghost use Rattle.program_words.specs.Asked.{IsWithinLimits};
+
 use crate::asked::{ALL_SOUND, Told, answers, is_a_mistake, tells, tells_over};
 use crate::devices::{Giving, SOUND, Taking};
-use explorer::{Flagged, NO_MEMORY, no_words, once_text, parklot_io};
+use explorer::{Asked, Flagged, NO_MEMORY, no_file, no_words, once_text, parklot_io};
 use std::alloc::Global;
 use std::io::{self, ErrorKind};
 use std::process::Abort;
@@ -189,19 +191,20 @@ fn other_words_are_mistakes(rt: HostRuntime) {
     }
 }
 
-/// What goes to the two streams where the words couldn't be read for this reason.
-fn without_words(
+/// What goes to the two streams where no command could be read from the words, or no file opened.
+fn without_a_command(
     rt: &(impl Abort + Threads + Wait + Sync),
     alloc: Global,
-    kind: ErrorKind,
+    asked: &Asked<'_>,
     told: &str,
     told_beside: &str,
-) {
+)
+    requires { IsWithinLimits asked.now }
+{
     let mut reader = Flagged::new(Giving::new(b"", SOUND));
     let mut out = Flagged::new(Taking::new(alloc, SOUND));
     let mut err = Flagged::new(Taking::new(alloc, SOUND));
-    let asked = no_words(&io::Error::from(kind));
-    let status = parklot_io(rt, alloc, &asked, &mut reader, &mut out, &mut err);
+    let status = parklot_io(rt, alloc, asked, &mut reader, &mut out, &mut err);
     assert!(rt; status == 2);
     assert!(rt; out.into_inner().into_taken().as_slice() == told.as_bytes());
     assert!(rt; err.into_inner().into_taken().as_slice() == told_beside.as_bytes());
@@ -211,6 +214,25 @@ fn without_words(
 fn words_that_are_no_text_are_a_mistake(rt: HostRuntime) {
     let alloc = rt.alloc();
     let no_text = "error: invalid UTF-8 was detected in one or more arguments\n";
-    without_words(&rt, alloc, ErrorKind::InvalidData, "", no_text);
-    without_words(&rt, alloc, ErrorKind::OutOfMemory, NO_MEMORY, "");
+    let asked = no_words(&io::Error::from(ErrorKind::InvalidData));
+    without_a_command(&rt, alloc, &asked, "", no_text);
+    let asked = no_words(&io::Error::from(ErrorKind::OutOfMemory));
+    without_a_command(&rt, alloc, &asked, NO_MEMORY, "");
+}
+
+/// What is asked where this file can't be opened. Where memory is wanting it is asked once more.
+fn asked_without<'w>(alloc: Global, file: &str) -> Asked<'w>
+    ensures { IsWithinLimits result }
+{
+    match no_file(alloc, file) {
+        Asked::NoMemory => no_file(alloc, file),
+        asked => asked,
+    }
+}
+
+#[test]
+fn a_file_that_cannot_be_opened_is_told(rt: HostRuntime) {
+    let alloc = rt.alloc();
+    let asked = asked_without(alloc, "lost.txt");
+    without_a_command(&rt, alloc, &asked, "", "parklot: cannot read lost.txt\n");
 }

@@ -1,8 +1,8 @@
-//! The gallery: each scenario of `crates/gallery/data` goes through the program, with the words that stand beside it, and what
+//! The gallery: each text of `crates/gallery/data` goes through the program, with the words that stand beside it, and what
 //! the program answers is compared with what stands there.
 //!
-//! `NAME.txt` is a scenario. In `NAME.answers` a line that begins with `$ parklot ` has the words, and the lines after it
-//! are what is written, and `exit` with the status.
+//! `NAME.txt` is a scenario, or a journal. In `NAME.answers` a line that begins with `$ parklot ` has the words, and the
+//! lines after it are what is written, and `exit` with the status.
 #![tactic(auto)]
 
 use anyhow::Result;
@@ -15,8 +15,8 @@ use std::thread::Threads;
 /// How a line with the words of a command begins.
 const PROMPT: &str = "$ parklot ";
 
-/// The scenarios, from the simple to the odd.
-const NAMES: [&str; 24] = [
+/// The scenarios, from the simple to the odd, and the journals.
+const NAMES: [&str; 27] = [
     "lonely_sleeper",
     "lost_wake_up",
     "newest_first",
@@ -41,6 +41,9 @@ const NAMES: [&str; 24] = [
     "wrapped_ticket",
     "group",
     "group_misused",
+    "go_mutex",
+    "go_mutex_out_of_turn",
+    "go_wait_group",
 ];
 
 /// The words of a command. What stands in quotes is one word.

@@ -4,6 +4,8 @@ ghost use Rattle.program_words.specs.Asked.{file_of};
 use scenario_search::Bounds;
 use step_core::Variant;
 
+/// The most worlds that a search may be asked to keep.
+pub const MAX_WORLDS: u32 = 1_000_000_000;
 /// The most workers of the command `threads`.
 pub const MAX_WORKERS: u32 = 64;
 /// The most rounds of each.
@@ -14,8 +16,8 @@ pub const MAX_ROUNDS: u32 = 1_000_000;
 pub enum Asked<'w> {
     /// The command `once`.
     Once,
-    /// The command `explore` within these bounds, by the step table or with a change of it, of the scenario in this file or
-    /// on standard input.
+    /// The command `explore` within these bounds, by the step table or with a change of it, of the scenario in this
+    /// file or on standard input.
     Explore {
         bounds: Bounds,
         table: Option<Variant>,
