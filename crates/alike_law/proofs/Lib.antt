@@ -2,7 +2,9 @@ pub mod AlikeRows
 pub mod AlikeCore
 pub mod AlikeRuns
 pub mod CommutingWords
+pub mod CommutingLists
 pub mod CommutingOwn
+pub mod CommutingRows
 pub mod Commuting
 pub mod BentPlaces
 pub mod BentBounding

@@ -1,4 +1,5 @@
 pub mod Alike
+pub mod PartsApart
 pub mod Commuting
 pub mod Bent
 pub mod BentInvariant

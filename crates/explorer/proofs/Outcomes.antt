@@ -7,9 +7,8 @@ use Rattle.scenario_search.specs.declared.exit.Exit.{Exit}
 use Rattle.streams.specs.declared.fault.IoFault.{IoFault}
 use Rattle.streams.specs.declared.fault.IoFault.TheVariants.{Read, Write}
 use Rattle.scenario_search.specs.declared.answer.Answer.{Answer}
-use Rattle.scenario_search.specs.Exit.{status_of}
+use Rattle.scenario_search.specs.declared.command.Told.{Told}
 use Rattle.scenario_search.specs.Told.{IsTextOf, WantsMemory, TellsBeginning}
-use Rattle.explorer.specs.Asked.{status_after}
 
 -- the text of an answer, or want of memory, is of each kind that has both
 pub answers : (P : List ℕ → Exit → Type 0) (r : Result Answer NoMemory) → IfOk r (λ a. P (string_bytes a.text) a.exit)
@@ -34,11 +33,10 @@ on_err P (Err x) fault e p = p
 false_true : false ≡ true → ⊥
 false_true e = absurd cc
 
--- where neither failed there is an exit
-pub exits : (P : Exit → Type 0) (outcome : Result Exit IoFault) (read_failed write_failed : Bool)
+-- where neither failed the command has ended
+pub ended : (P : Told → Type 0) (outcome : Result Told IoFault) (read_failed write_failed : Bool)
     → ((outcome ≡ Err Read) ↔ IsTrue read_failed) → ((outcome ≡ Err Write) ↔ IsTrue write_failed)
-    → read_failed ≡ false → write_failed ≡ false → IfOk outcome P
-    → (exit : Exit) × (status_after outcome ≡ status_of exit) × P exit
-exits P (Ok exit) r w reads writes e f p = (exit, refl, p)
-exits P (Err Read) r w reads writes e f p = let t = reads.0 refl in absurd (false_true (sym e ∙ t))
-exits P (Err Write) r w reads writes e f p = let t = writes.0 refl in absurd (false_true (sym f ∙ t))
+    → read_failed ≡ false → write_failed ≡ false → IfOk outcome P → (told : Told) × (outcome ≡ Ok told) × P told
+ended P (Ok told) r w reads writes e f p = (told, refl, p)
+ended P (Err Read) r w reads writes e f p = let t = reads.0 refl in absurd (false_true (sym e ∙ t))
+ended P (Err Write) r w reads writes e f p = let t = writes.0 refl in absurd (false_true (sym f ∙ t))

@@ -1,44 +1,43 @@
--- What the program answers to what its words ask for.
+-- What the program answers to what its words ask for, and what it tells beside.
 use Rattle.std.specs.Prelude.{◌≡◌, ℕ, ◌⊎◌, Bool, true, false, IsTrue, List, [], string_bytes, codes}
-use Rattle.std.specs.Prelude.{Option, Some, None, Result, Ok, Err}
+use Rattle.std.specs.Prelude.{Option, Some, None, Result, Ok, Err, option_map}
 use Rattle.std.specs.Io.KnownBytes.{Appends}
 use Rattle.scenario_search.specs.declared.exit.Exit.{Exit}
 use Rattle.scenario_search.specs.declared.exit.Exit.TheVariants.{NothingBad, Refused}
 use Rattle.streams.specs.declared.fault.IoFault.{IoFault}
+use Rattle.streams.specs.declared.fault.IoFault.TheVariants.{Read, Write}
+use Rattle.scenario_search.specs.declared.command.Told.{Told}
 use Rattle.scenario_search.specs.Exit.{status_of}
-use Rattle.scenario_search.specs.CheckText.{IsCheckAnswer}
-use Rattle.scenario_search.specs.ExploreText.{IsExploreAnswer}
-use Rattle.scenario_search.specs.InputText.{AnswersInput}
+use Rattle.scenario_search.specs.Commands.{IsAnswerOf, IsReplyOf}
 use Rattle.scenario_search.specs.Line.{line}
 use Rattle.streams.specs.Writing.{WritesBeginning}
-use Rattle.scenario_search.specs.ReplayText.{IsReplayAnswer}
 use Rattle.scenario_search.specs.Told.{IsToldOf, WantsMemory}
 use Rattle.program_words.specs.declared.asked.Asked.{Asked}
-use Rattle.program_words.specs.declared.asked.Asked.TheVariants.{Once, Explore, Check, Replay, Judge, Threads, Help, Mistake, NoText, NoMemory}
+use Rattle.program_words.specs.declared.asked.Asked.TheVariants.{Once, OfScenario, Judge, Threads, Help, Mistake, NoText, NoMemory}
 use Rattle.explorer.specs.JudgeText.{IsJudgeToldOf}
 use Rattle.explorer.specs.OnceText.{IsOnceAnswer}
 use Rattle.explorer.specs.ThreadsText.{IsThreadsAnswer}
 
--- the text and the exit answer what is asked, of a source with these bytes before and after
-abbrev pub IsAnswerTo : Asked → Option (List ℕ) → Option (List ℕ) → List ℕ → Exit → Type 0
-IsAnswerTo Once old new text exit = IsOnceAnswer text exit
-IsAnswerTo (Explore bounds table file) old new text exit =
-    IsToldOf (λ input. IsExploreAnswer table input bounds.depth bounds.worlds) old new text exit
-IsAnswerTo (Check worlds file) old new text exit = IsToldOf (λ input. IsCheckAnswer input worlds) old new text exit
-IsAnswerTo (Replay spelled file) old new text exit =
-    IsToldOf (AnswersInput (λ input. IsReplayAnswer input spelled.now)) old new text exit
-IsAnswerTo (Judge file) old new text exit = IsJudgeToldOf old new text exit
-IsAnswerTo (Threads workers rounds) old new text exit = IsThreadsAnswer workers rounds text exit
-IsAnswerTo (Help told) old new text exit = (text ≡ string_bytes told) × (exit ≡ NothingBad)
-IsAnswerTo (Mistake told) old new text exit = (text ≡ []) × (exit ≡ Refused)
-IsAnswerTo NoText old new text exit = (text ≡ []) × (exit ≡ Refused)
-IsAnswerTo NoMemory old new text exit = WantsMemory text exit
+-- the text and the exit answer what is asked, of a source with these bytes before and after. A mistake in the words has no
+-- answer
+abbrev pub IsTextFor : Asked → Option (List ℕ) → Option (List ℕ) → List ℕ → Exit → Type 0
+IsTextFor Once old new text exit = IsOnceAnswer text exit
+IsTextFor (OfScenario command file) old new text exit = IsToldOf (IsAnswerOf command) old new text exit
+IsTextFor (Judge file) old new text exit = IsJudgeToldOf old new text exit
+IsTextFor (Threads workers rounds) old new text exit = IsThreadsAnswer workers rounds text exit
+IsTextFor (Help told) old new text exit = (text ≡ string_bytes told) × (exit ≡ NothingBad)
+IsTextFor (Mistake told) old new text exit = (text ≡ []) × (exit ≡ Refused)
+IsTextFor NoText old new text exit = (text ≡ []) × (exit ≡ Refused)
+IsTextFor NoMemory old new text exit = WantsMemory text exit
+
+-- and this is told beside: only a command that reads a scenario tells anything there
+abbrev pub IsAnswerTo : Asked → Option (List ℕ) → Option (List ℕ) → Option (List ℕ) → List ℕ → Exit → Type 0
+IsAnswerTo (OfScenario command file) old new aside text exit = IsReplyOf command old new aside text exit
+IsAnswerTo asked old new aside text exit = IsTextFor asked old new text exit × (aside ≡ None)
 
 -- the command reads an input
 abbrev pub reads_input : Asked → Bool
-reads_input (Explore bounds table file) = true
-reads_input (Check worlds file) = true
-reads_input (Replay spelled file) = true
+reads_input (OfScenario command file) = true
 reads_input (Judge file) = true
 reads_input _ = false
 
@@ -48,15 +47,23 @@ mistake_text (Mistake told) = Some (string_bytes told)
 mistake_text NoText = Some (line (codes "error: invalid UTF-8 was detected in one or more arguments"))
 mistake_text _ = None
 
--- what is told beside the answer: that a read or a write has failed, or else what is wrong with the words
-abbrev pub beside : Asked → Bool → Bool → Option (List ℕ)
-beside asked true _ = Some (line (codes "parklot: read failed"))
-beside asked false true = Some (line (codes "parklot: write failed"))
-beside asked false false = mistake_text asked
+-- what goes to standard error beside an answer: what the command tells beside, or else what is wrong with the words
+abbrev pub or_mistake : Option (List ℕ) → Asked → Option (List ℕ)
+or_mistake (Some told) asked = Some told
+or_mistake None asked = mistake_text asked
+
+-- where a stream has failed, that alone
+abbrev pub fault_text : IoFault → List ℕ
+fault_text Read = line (codes "parklot: read failed")
+fault_text Write = line (codes "parklot: write failed")
+
+abbrev pub beside : Asked → Result Told IoFault → Option (List ℕ)
+beside asked (Ok told) = or_mistake (option_map string_bytes told.aside) asked
+beside asked (Err fault) = Some (fault_text fault)
 
 -- the status after a command that ended so, or in which a read or a write failed
-abbrev pub status_after : Result Exit IoFault → ℕ
-status_after (Ok exit) = status_of exit
+abbrev pub status_after : Result Told IoFault → ℕ
+status_after (Ok told) = status_of told.exit
 status_after (Err fault) = 2
 
 -- the text went out, or where the sink has failed a beginning of it

@@ -10,6 +10,7 @@
 #![tactic(auto)]
 
 mod answer;
+mod answered;
 mod counted;
 mod gate;
 mod judged;
@@ -18,6 +19,7 @@ mod program;
 mod threads;
 
 pub use answer::{OnceAnswers, Released, Retried};
+pub use answered::scheduled;
 pub use counted::threads_io;
 pub use gate::{Gate, Open};
 pub use judged::judge_io;
@@ -25,9 +27,9 @@ pub use once::{once_io, once_text};
 pub use program::parklot_io;
 pub use program_words::{Asked, MAX_ROUNDS, MAX_WORKERS, no_file, no_words, read_words};
 pub use scenario_search::{
-    Bounds, Cause, Exit, Flagged, Found, FoundInAll, IoFault, Kind, MAX_DEPTH, MAX_TEXT, NO_MEMORY,
-    Property, ReadFault, Request, Sink, Source, check, check_io, explore, explore_io,
-    explore_variant, explore_variant_io, read_scenario, replay_io, verdict,
+    Bounds, Cause, Command, Exit, Flagged, Found, FoundInAll, IoFault, Kind, MAX_DEPTH, MAX_TEXT,
+    NO_MEMORY, Property, ReadFault, Request, Sink, Source, Told, check, command_io, explore,
+    explore_io, explore_variant, explore_variant_io, read_scenario, replay_io, verdict,
 };
 pub use sema_table::Closed;
 pub use threads::{ThreadsRefused, run_threads};

@@ -54,6 +54,8 @@ pub(crate) struct Told<'t> {
     pub(crate) err: &'t [u8],
     pub(crate) status: u8,
     pub(crate) whole: bool,
+    /// Of what is told beside only the beginning is given.
+    pub(crate) helped: bool,
 }
 
 /// Whether the stream has this text, or where it isn't whole, one that begins so. No text stands for nothing else.
@@ -63,7 +65,9 @@ fn has(stream: &[u8], text: &[u8], whole: bool) -> bool {
 
 impl Told<'_> {
     fn fits(&self, out: &[u8], err: &[u8], status: u8) -> bool {
-        status == self.status && has(out, self.out, self.whole) && has(err, self.err, self.whole)
+        status == self.status
+            && has(out, self.out, self.whole)
+            && has(err, self.err, self.whole && !self.helped)
     }
 }
 
@@ -85,7 +89,20 @@ pub(crate) fn tells_over(
     assert!(rt; told.fits(&out, &err, status), "{words:?}");
 }
 
-/// This is all that the program tells, on its output, and it ends so.
+/// How the help begins that stands beside a refusal.
+fn help_beside(words: &[&str], told: &str) -> &'static [u8] {
+    if words.first() == Some(&"judge") {
+        return b"";
+    }
+    match told {
+        "refused: too long\n" => b"the text has more than 65536 bytes\n",
+        "refused: schedule\n" => b"a schedule is 0 to 256 numbers of seats",
+        _ if told.starts_with("refused: line ") => b"line ",
+        _ => b"",
+    }
+}
+
+/// This is all that the program tells, on its output, and it ends so. Beside a refusal there is help.
 pub(crate) fn tells(
     rt: &(impl Abort + Threads + Wait + Sync),
     alloc: Global,
@@ -94,11 +111,13 @@ pub(crate) fn tells(
     told: &str,
     status: u8,
 ) {
+    let err = help_beside(words, told);
     let told = Told {
         out: told.as_bytes(),
-        err: b"",
+        err,
         status,
         whole: true,
+        helped: !err.is_empty(),
     };
     tells_over(rt, alloc, words, input, ALL_SOUND, told);
 }
@@ -128,6 +147,7 @@ pub(crate) fn answers(
         err: b"",
         status: 0,
         whole: false,
+        helped: false,
     };
     tells_over(rt, alloc, words, b"", ALL_SOUND, told);
 }
@@ -144,6 +164,7 @@ pub(crate) fn is_a_mistake(
         err: text.as_bytes(),
         status: 2,
         whole: false,
+        helped: false,
     };
     tells_over(rt, alloc, words, b"", ALL_SOUND, told);
 }

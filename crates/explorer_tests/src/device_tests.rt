@@ -53,6 +53,7 @@ fn ends(
         err: err.as_bytes(),
         status,
         whole: true,
+        helped: false,
     };
     tells_over(rt, alloc, words, ONE_ACQUIRE, devices, told);
 }

@@ -37,6 +37,8 @@ mod request_tests;
 #[cfg(test)]
 mod schedule_tests;
 #[cfg(test)]
+mod scheduled_tests;
+#[cfg(test)]
 mod size_tests;
 #[cfg(test)]
 mod threads_tests;

@@ -36,7 +36,9 @@ const ANSWERS: [(&[&str], &[u8], &str, u8); 6] = [
 fn each_answer_is_told_or_short(rt: HostRuntime) {
     for (words, input, told, status) in &ANSWERS {
         let (out, err, ended) = ask(&rt, rt.alloc(), words, input, ALL_SOUND);
-        let is_told = ended == *status && out.as_slice() == told.as_bytes() && err.is_empty();
+        let is_told = ended == *status
+            && out.as_slice() == told.as_bytes()
+            && err.is_empty() != told.starts_with("refused: line ");
         let is_short = ended == 2 && (out.is_empty() || out.as_slice() == NO_MEMORY.as_bytes());
         assert!(rt; is_told || is_short);
     }

@@ -55,6 +55,7 @@ fn some_words_are_answered_whole(rt: HostRuntime) {
         err: EXTRA_WORD.as_bytes(),
         status: 2,
         whole: true,
+        helped: false,
     };
     tells_over(&rt, alloc, &["once", "more"], b"", ALL_SOUND, told);
 }

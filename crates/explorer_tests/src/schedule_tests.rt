@@ -4,7 +4,7 @@ use crate::asked::{replays, tells};
 use crate::reading::ONE_ACQUIRE;
 
 /// Words that are no schedule.
-const REFUSED: [&str; 23] = [
+const REFUSED: [&str; 22] = [
     "00",
     "01",
     "0 00",
@@ -13,7 +13,6 @@ const REFUSED: [&str; 23] = [
     "0 ",
     " ",
     "  ",
-    "-",
     "-1",
     "0 -1",
     "--",

@@ -52,9 +52,10 @@ const ONE_READ: Devices = Devices {
 
 const TOO_LONG: Told<'static> = Told {
     out: b"refused: too long\n",
-    err: b"",
+    err: b"the text has more than 65536 bytes\n",
     status: 2,
     whole: true,
+    helped: false,
 };
 
 const UNREAD: Told<'static> = Told {
@@ -62,6 +63,7 @@ const UNREAD: Told<'static> = Told {
     err: b"parklot: read failed\n",
     status: 2,
     whole: true,
+    helped: false,
 };
 
 #[test]

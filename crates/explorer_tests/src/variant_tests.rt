@@ -73,3 +73,49 @@ fn another_variant_is_a_mistake(rt: HostRuntime) {
         is_a_mistake(&rt, rt.alloc(), &words, text);
     }
 }
+
+/// The lost wake-up, step by step.
+const LOST: &str = "\
+0: seat 0 A1
+1: seat 0 A3
+2: seat 1 R1
+3: seat 1 R2
+4: seat 0 A4
+5: seat 0 A7
+counter 0: value 1, waiting 0.0
+verdict: stuck
+";
+
+/// The same, drawn as a table.
+const LOST_TABLE: &str = "\
+step  seat 0                 seat 1                 counter 0  lock 0  waiters 0  waits 0
+0     acquire 0: A1 found 0                         0          0       0          -
+1     A3 found 0                                    0          1       0          -
+2                            release 0: R1 found 0  1          1       0          -
+3                            R2 found 0             1          1       0          -
+4     A4 found 0                                    1          1       1          -
+5     A7 found 1                                    1          0       1          0.0
+counter 0: value 1, waiting 0.0
+verdict: stuck
+";
+
+#[test]
+fn a_schedule_of_a_changed_table_is_replayed(rt: HostRuntime) {
+    let words = [
+        "replay",
+        "--variant",
+        "no-look",
+        "--schedule",
+        "0 0 1 1 0 0",
+    ];
+    tells(&rt, rt.alloc(), &words, MET, LOST, 1);
+    let words = [
+        "replay",
+        "--table",
+        "--variant",
+        "no-look",
+        "--schedule",
+        "0 0 1 1 0 0",
+    ];
+    tells(&rt, rt.alloc(), &words, MET, LOST_TABLE, 1);
+}

@@ -3,7 +3,7 @@
 
 ghost use Rattle.program_words.specs.Asked.{IsWithinLimits};
 
-use explorer::{Asked, Flagged, no_file, no_words, parklot_io, read_words};
+use explorer::{Asked, Flagged, no_file, no_words, parklot_io, read_words, scheduled};
 use std::alloc::Global;
 use std::fs::File;
 use std::process::ExitCode;
@@ -28,7 +28,9 @@ fn main(rt: HostRuntime) -> ExitCode {
         .skip(1)
         .collect(alloc)
         .map_err(io::Error::from));
-    let asked = asked_by(alloc, &words);
+    let mut room = Vec::new(alloc);
+    let mut answer = Flagged::new(rt.stdin());
+    let asked = scheduled(alloc, asked_by(alloc, &words), &mut answer, &mut room);
     let Some(name) = asked.file() else {
         return ExitCode::from(parklot_io(&rt, alloc, &asked, &mut input, &mut out, &mut err));
     };

@@ -1,10 +1,12 @@
 -- What the program's words may ask for.
 use Rattle.std.specs.Prelude.{◌≡◌, ◌≢◌, ℕ, ◌≤◌, List, [], ◌∷◌, ◌++◌, Option, None, option_map, string_bytes, codes}
+use Rattle.std.specs.Borrow.{Bor}
 use Rattle.std.specs.IoError.{error_kind}
 use Rattle.std.specs.declared.io.Error.{Error}
 use Rattle.std.specs.declared.io.ErrorKind.TheVariants.{OutOfMemory}
+use Rattle.scenario_search.specs.declared.command.Command.TheVariants.{Explore, Check, Replay}
 use Rattle.program_words.specs.declared.asked.Asked.{Asked}
-use Rattle.program_words.specs.declared.asked.Asked.TheVariants.{Explore, Check, Replay, Judge, Threads, Mistake, NoText, NoMemory}
+use Rattle.program_words.specs.declared.asked.Asked.TheVariants.{OfScenario, Judge, Threads, Mistake, NoText, NoMemory}
 
 -- 1 to so many
 abbrev pub IsFromOne : ℕ → ℕ → Type 0
@@ -17,8 +19,8 @@ pub record AreWithin (workers rounds : ℕ) : Type 0 where
 
 -- the numbers are within the limits of their command
 abbrev pub IsWithinLimits : Asked → Type 0
-IsWithinLimits (Explore bounds table file) = (bounds.depth ≤ 64) × IsFromOne 1000000000 bounds.worlds
-IsWithinLimits (Check worlds file) = IsFromOne 1000000000 worlds
+IsWithinLimits (OfScenario (Explore bounds table) file) = (bounds.depth ≤ 64) × IsFromOne 1000000000 bounds.worlds
+IsWithinLimits (OfScenario (Check worlds) file) = IsFromOne 1000000000 worlds
 IsWithinLimits (Threads workers rounds) = AreWithin workers rounds
 IsWithinLimits _ = Unit {0}
 
@@ -36,8 +38,16 @@ IsWithoutFile name _ = ⊥
 
 -- the name of the file that is read in place of standard input
 abbrev pub file_of : Asked → Option (List ℕ)
-file_of (Explore bounds table file) = option_map (λ name. name.now) file
-file_of (Check worlds file) = option_map (λ name. name.now) file
-file_of (Replay spelled file) = option_map (λ name. name.now) file
+file_of (OfScenario command file) = option_map (λ name. name.now) file
 file_of (Judge file) = option_map (λ name. name.now) file
 file_of _ = None
+
+-- the schedule is the word `-`: it stands in an answer on standard input
+abbrev pub AwaitsSchedule : Asked → Type 0
+AwaitsSchedule (OfScenario (Replay spelled table drawn) file) = spelled.now ≡ codes "-"
+AwaitsSchedule _ = ⊥
+
+-- the same with another schedule, where one is asked for
+abbrev pub with_schedule : Asked → Bor (List ℕ) → Asked
+with_schedule (OfScenario (Replay spelled table drawn) file) schedule = OfScenario (Replay schedule table drawn) file
+with_schedule asked schedule = asked

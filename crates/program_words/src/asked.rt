@@ -1,8 +1,7 @@
-ghost use Rattle.std.specs.Prelude.{◌≡◌, option_map};
-ghost use Rattle.program_words.specs.Asked.{file_of};
+ghost use Rattle.std.specs.Prelude.{◌≡◌, IsTrue, false, option_map};
+ghost use Rattle.program_words.specs.Asked.{file_of, AwaitsSchedule, with_schedule};
 
-use scenario_search::Bounds;
-use step_core::Variant;
+use scenario_search::Command;
 
 /// The most worlds that a search may be asked to keep.
 pub const MAX_WORLDS: u32 = 1_000_000_000;
@@ -16,21 +15,9 @@ pub const MAX_ROUNDS: u32 = 1_000_000;
 pub enum Asked<'w> {
     /// The command `once`.
     Once,
-    /// The command `explore` within these bounds, by the step table or with a change of it, of the scenario in this
-    /// file or on standard input.
-    Explore {
-        bounds: Bounds,
-        table: Option<Variant>,
-        file: Option<&'w str>,
-    },
-    /// The command `check`, among so many worlds at most.
-    Check {
-        worlds: u32,
-        file: Option<&'w str>,
-    },
-    /// The command `replay` of the schedule with this text.
-    Replay {
-        schedule: &'w str,
+    /// A command that reads the text of a scenario, in this file or on standard input.
+    OfScenario {
+        command: Command<'w>,
         file: Option<&'w str>,
     },
     /// The command `judge` of the journal in this file or on standard input.
@@ -58,11 +45,42 @@ impl<'w> Asked<'w> {
         ensures { option_map (λ file. file.now) result ≡ file_of self.now }
     {
         match self {
-            Asked::Explore { file, .. }
-            | Asked::Check { file, .. }
-            | Asked::Replay { file, .. }
-            | Asked::Judge { file } => *file,
+            Asked::OfScenario { file, .. } | Asked::Judge { file } => *file,
             _ => None,
+        }
+    }
+
+    /// Whether the schedule that is asked for stands in an answer on standard input.
+    pub fn awaits_schedule(&self) -> bool
+        ensures yes { IsTrue result → AwaitsSchedule self.now }
+        ensures no { result ≡ false → AwaitsSchedule self.now → ⊥ }
+    {
+        match self {
+            Asked::OfScenario {
+                command: Command::Replay { schedule, .. },
+                ..
+            } => *schedule == "-",
+            _ => false,
+        }
+    }
+
+    /// The same with this schedule, where one is asked for.
+    pub fn with_schedule(self, schedule: &'w str) -> Asked<'w>
+        ensures { result ≡ with_schedule self.entry schedule.entry }
+    {
+        match self {
+            Asked::OfScenario {
+                command: Command::Replay { table, drawn, .. },
+                file,
+            } => Asked::OfScenario {
+                command: Command::Replay {
+                    schedule,
+                    table,
+                    drawn,
+                },
+                file,
+            },
+            _ => self,
         }
     }
 }

@@ -6,6 +6,7 @@ pub mod Schedules
 pub mod Forms
 pub mod Judging
 pub mod Cutting
+pub mod Behind
 pub mod Texts
 pub mod Passing
 pub mod Keeping

@@ -40,6 +40,10 @@ pub record IsCall (text : List ℕ) (call : SpelledCall) : Type 0 where
   pub short : IsShort call
   pub spelled : text ≡ call_text call
 
+-- some call is spelled so
+abbrev pub IsSomeCall : List ℕ → Type 0
+IsSomeCall text = (call : SpelledCall) × IsCall text call
+
 -- one call or more
 pub record AreCalls (text : List ℕ) (calls : List SpelledCall) : Type 0 where
   pub some : 0 < length calls

@@ -16,3 +16,4 @@ pub mod KeyWhole
 mod BentMoving
 pub mod BentKeys
 mod Independent
+mod Finding

@@ -16,8 +16,6 @@ use Rattle.step_table.specs.declared.standing.After.TheVariants.{Releases}
 use Rattle.step_table.specs.declared.standing.Standing.{Standing}
 use Rattle.step_table.specs.declared.standing.Standing.TheVariants.{Rest, AtCounter, AtList, AtGroup}
 use Rattle.step_table.specs.Journal.{Plain, plain_start, replay}
-use Rattle.step_table.specs.Apart.{ArePlacesApart}
-use Rattle.alike_law.specs.Commuting.{IsOnCounter}
 use Rattle.step_rows.specs.Stored.{Semaphores, IsStoredFor, IsSameSize, HasRow, IsReadyFor, each, idle, root_of, event_in, finds_in}
 use Rattle.step_rows.specs.Stored as sema
 use Rattle.step_table.specs.ListWorld.{ListWorld}
@@ -136,14 +134,6 @@ AsksFor h i (AtCounter after) = HasRow h.semaphores i
 AsksFor h i (AtList l) = (l < length h.lists) × CanStep (each no_list h.lists l) i
 AsksFor h i (AtGroup g row) = g < length h.groups
 AsksFor h i _ = Unit {0}
-
--- both seats have calls on counters, and stand at rows that are apart
-pub record AreRowsApart (h : Machine) (a b : ℕ) : Type 0 where
-  pub first : IsOnCounter (each Rest h.standing a)
-  pub second : IsOnCounter (each Rest h.standing b)
-  pub apart :
-      ArePlacesApart (root_of h.semaphores.stored) (slice_index_or h.semaphores.callers a idle).place
-      (slice_index_or h.semaphores.callers b idle).place
 
 -- this is the row of a seat that does this, and it can run
 abbrev pub IsReadyAt : Machine → ℕ → Standing → Turn → Type 0

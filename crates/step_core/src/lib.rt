@@ -5,24 +5,30 @@
 //! units at once.
 #![tactic(auto)]
 
+mod apart;
 mod bent_world;
 mod calling;
+mod found;
 mod group;
 mod laws;
 mod machine;
 mod moment;
+mod picture;
 mod running;
 mod schedule;
 mod starting;
 mod turn;
+mod words;
 mod world;
 
 pub use alike_law::{Variant, law_of_the_alike, law_of_the_bent, law_of_the_commuting};
 pub use bent_world::BentWorld;
 pub use core_law::{law_of_the_core, law_of_the_runs};
+pub use found::Found;
 pub use laws::law_of_the_keys;
 pub use list_law::{law_of_the_list_accounts, law_of_the_lists};
 pub use moment::Moment;
+pub use picture::Picture;
 pub use row_outcomes::Outcome;
 pub use scenario::Scenario;
 pub use schedule::run;

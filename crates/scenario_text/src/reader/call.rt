@@ -1,8 +1,8 @@
 //! The calls of a seat's line.
 
-ghost use Rattle.std.specs.Prelude.{IfOk};
+ghost use Rattle.std.specs.Prelude.{◌≡◌, IsTrue, IfOk, false};
 ghost use Rattle.std.specs.Option.{option_map};
-ghost use Rattle.scenario_text.specs.Phrases.{ReadsAs, IsChange, IsGroupAdd, IsCall, AreCalls};
+ghost use Rattle.scenario_text.specs.Phrases.{ReadsAs, IsChange, IsGroupAdd, IsCall, IsSomeCall, AreCalls};
 
 use crate::reader::number::{DIGITS, flagged, keyed, pair, short_number};
 use std::alloc::{AllocError, Global};
@@ -91,6 +91,17 @@ fn read_call(text: &str) -> Option<SpelledCall>
         return Some(SpelledCall::GroupWait(group));
     }
     None
+}
+
+/// Whether the text spells a call.
+pub fn is_call(text: &str) -> bool
+    ensures yes { IsTrue result → IsSomeCall text.now }
+    ensures no { result ≡ false → IsSomeCall text.now → ⊥ }
+{
+    match read_call(text) {
+        Some(_) => true,
+        None => false,
+    }
 }
 
 /// The calls that the text spells, in order.

@@ -19,7 +19,7 @@ fn are_printable(bytes: &[u8]) -> bool
 }
 
 /// The bytes as a text, where each can be printed.
-fn printable(bytes: &[u8]) -> Option<&str>
+pub fn printable(bytes: &[u8]) -> Option<&str>
     ensures { MatchOption result (list_all is_printable bytes.now ≡ false)
         (λ text. (text.now ≡ bytes.now) × (list_all is_printable bytes.now ≡ true)) }
 {

@@ -1,0 +1,77 @@
+-- What is said of a faulty line: what is wrong with it, the line as far as it can be printed, and what was expected.
+use Rattle.std.specs.Prelude.{◌≡◌, ℕ, ◌-◌, ◌∷◌, [], ◌++◌, List, take, drop, not, min, codes}
+use Rattle.std.specs.List.{position_or_len}
+use Rattle.std.specs.Fmt.{decimal}
+use Rattle.scenario_text.specs.declared.read_fault.Cause.{Cause}
+use Rattle.scenario_text.specs.declared.read_fault.Cause.TheVariants as cause
+use Rattle.scenario_text.specs.declared.read_fault.ReadFault.{ReadFault}
+use Rattle.scenario_text.specs.Causes.{is_printable}
+use Rattle.scenario_text.specs.Phrases.{IsSomeCall}
+use Rattle.scenario_text.specs.Pieces.{pieces, text_at}
+use Rattle.fault_help.specs.declared.problem.Problem.{Problem}
+use Rattle.fault_help.specs.declared.problem.Problem.TheVariants.{NoLineFeed, Unprintable, NoLine, NoCall, Misplaced, OutOfRange, TooMany, Undeclared, Ticket, NoProperty}
+
+-- the bytes at the beginning of a line that can be printed, 80 at most
+abbrev pub shown : List ℕ → List ℕ
+shown line = take (min (position_or_len (λ byte. not (is_printable byte)) line) 80) line
+
+-- the rest of the line from some place on
+abbrev pub IsEndOf : List ℕ → List ℕ → Type 0
+IsEndOf line rest = (from : ℕ) × (rest ≡ drop from line)
+
+-- the part stands in the line, and spells no call
+pub record IsUnspelledIn (line part : List ℕ) : Type 0 where
+  pub from : ℕ
+  pub bytes : ℕ
+  pub stands : part ≡ take bytes (drop from line)
+  pub no_call : IsSomeCall part → ⊥
+
+-- what is wrong with the line for this cause, and what is shown of it
+abbrev pub IsProblem : Cause → List ℕ → Problem → Type 0
+IsProblem cause.Cut line (NoLineFeed told) = told.now ≡ shown line
+IsProblem cause.Byte line (Unprintable told) = told.now ≡ shown line
+IsProblem cause.Form line (NoLine told) = told.now ≡ shown line
+IsProblem cause.Form line (NoCall told) = (part : List ℕ) × IsUnspelledIn line part × (told.now ≡ shown part)
+IsProblem cause.Place line (Misplaced told) = told.now ≡ shown line
+IsProblem cause.Range line (OutOfRange told) = told.now ≡ shown line
+IsProblem cause.TooMany line (TooMany told) = told.now ≡ shown line
+IsProblem cause.Undeclared line (Undeclared told) = told.now ≡ shown line
+IsProblem cause.Ticket line (Ticket told) = told.now ≡ shown line
+IsProblem cause.End line NoProperty = Unit {0}
+IsProblem cause line problem = ⊥
+
+abbrev pub problem_text : Problem → List ℕ
+problem_text (NoLineFeed line) = codes "no line feed ends \"" ++ line.now ++ codes "\": each line is ended by one"
+problem_text (Unprintable line) =
+    codes "a byte behind \"" ++ line.now ++ codes "\" can't be printed: lines are of printed ASCII"
+problem_text (NoLine line) =
+    codes "no line is spelled \"" ++ line.now
+    ++ codes "\": roots N, counter S, list F, group, seat K: CALLS, settled, value C N, no-misuse"
+problem_text (NoCall call) =
+    codes "no call is spelled \"" ++ call.now
+    ++ codes "\": acquire C, acquire C lifo, release C, release C handoff, release C many N, add L, wait L, one L, all L, gadd G D, gwait G"
+problem_text (Misplaced line) =
+    codes "\"" ++ line.now
+    ++ codes "\" can't stand here: roots, counters, lists, groups, seats from 0 on and one property come in this order"
+problem_text (OutOfRange line) =
+    codes "a number is out of range in \"" ++ line.now
+    ++ codes "\": roots 1 to 251, units 1 to 256, tickets below 2^64, a group's change -2^31 to 2^31 - 1, others below 2^32"
+problem_text (TooMany line) =
+    codes "\"" ++ line.now ++ codes "\" is too many: at most 16 counters, lists, groups and seats, and 32 calls of a seat"
+problem_text (Undeclared line) =
+    codes "\"" ++ line.now
+    ++ codes "\" names what isn't declared: counters, lists and groups count from 0, each kind for itself"
+problem_text (Ticket line) =
+    codes "\"" ++ line.now
+    ++ codes "\" misuses a ticket: add L takes one where the seat holds none of L, and wait L spends it"
+problem_text NoProperty = codes "the text ends: settled, value C N or no-misuse was expected"
+
+-- the line's number, and what is wrong with it
+abbrev pub explained : ℕ → Problem → List ℕ
+explained number problem = codes "line " ++ decimal number ++ codes ": " ++ problem_text problem ++ 10 ∷ []
+
+-- this is said of the fault of a text
+abbrev pub Explains : List ℕ → ReadFault → List ℕ → Type 0
+Explains text fault told =
+    (problem : Problem) × IsProblem fault.cause (text_at (fault.line - 1) (pieces text)) problem
+    × (told ≡ explained fault.line problem)

@@ -1,0 +1,3 @@
+pub mod Running
+pub mod Lines
+pub mod Columns
