@@ -3,7 +3,7 @@
 use crate::given::seat;
 use std::alloc::Global;
 use std::process::Abort;
-use step_core::{BentWorld, Moment, RunRefused, Scenario, StepRefused, Variant, World, run};
+use step_core::{Moment, RunRefused, Scenario, StepRefused, Variant, World, run};
 use waiters::{CounterId, NoMemory, SeatId, WaitId};
 
 /// Runs the schedule, once more where memory was refused.
@@ -101,9 +101,9 @@ pub(crate) fn bent_again<'s>(
     alloc: Global,
     scenario: &'s Scenario,
     variant: Variant,
-) -> Result<BentWorld<'s>, NoMemory> {
-    match BentWorld::new(alloc, scenario, variant) {
-        Err(NoMemory) => BentWorld::new(alloc, scenario, variant),
+) -> Result<Moment<'s>, NoMemory> {
+    match Moment::new_by(alloc, scenario, Some(variant)) {
+        Err(NoMemory) => Moment::new_by(alloc, scenario, Some(variant)),
         answer => answer,
     }
 }

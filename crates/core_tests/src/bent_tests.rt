@@ -6,24 +6,24 @@ use crate::list_tests::{lone_waiter, on_list};
 use std::alloc::Global;
 use std::process::Abort;
 use std::test::Fail;
-use step_core::{BentWorld, Phase, Row, Scenario, StepRefused, Variant};
+use step_core::{Moment, Phase, Row, Scenario, StepRefused, Variant};
 use waiters::CounterId;
 
 /// Seat 0 sleeps, and can't step.
-fn sleeps(rt: &impl Abort, world: &mut BentWorld<'_>) {
+fn sleeps(rt: &impl Abort, world: &mut Moment<'_>) {
     assert!(rt; 0 < world.scenario().seats());
     assert!(rt; world.phase(seat(0)) == Phase::At(Row::P));
     assert!(rt; !world.enabled(seat(0)));
     assert!(rt; world.step(seat(0)) == Err(StepRefused::Asleep));
 }
 
-fn has_number(rt: &impl Abort, world: &BentWorld<'_>, number: u64) {
+fn has_number(rt: &impl Abort, world: &Moment<'_>, number: u64) {
     assert!(rt; (COUNTER as usize) < world.scenario().semaphores());
     assert!(rt; world.value(CounterId::new(COUNTER)) == number);
 }
 
 /// The counter has this number once the schedule has run, and seat 0 sleeps.
-fn is_lost(rt: &impl Abort, world: &mut BentWorld<'_>, schedule: &[u16], number: u64) {
+fn is_lost(rt: &impl Abort, world: &mut Moment<'_>, schedule: &[u16], number: u64) {
     for number in schedule {
         assert!(rt; world.step(seat(*number)).is_ok());
     }
@@ -40,6 +40,7 @@ fn is_lost_in(
     number: u64,
 ) -> Result<(), Fail> {
     let mut world = bent_again(alloc, scenario, variant)?;
+    assert!(rt; world.table() == Some(variant));
     is_lost(rt, &mut world, schedule, number);
     Ok(())
 }

@@ -1,6 +1,7 @@
 -- What the program answers to what its words ask for, and what it tells beside.
 use Rattle.std.specs.Prelude.{◌≡◌, ℕ, ◌⊎◌, Bool, true, false, IsTrue, List, [], string_bytes, codes}
 use Rattle.std.specs.Prelude.{Option, Some, None, Result, Ok, Err, option_map}
+use Rattle.std.specs.Borrow.{Bor}
 use Rattle.std.specs.Io.KnownBytes.{Appends}
 use Rattle.scenario_search.specs.declared.exit.Exit.{Exit}
 use Rattle.scenario_search.specs.declared.exit.Exit.TheVariants.{NothingBad, Refused}
@@ -14,7 +15,8 @@ use Rattle.streams.specs.Writing.{WritesBeginning}
 use Rattle.scenario_search.specs.Told.{IsToldOf, WantsMemory}
 use Rattle.program_words.specs.declared.asked.Asked.{Asked}
 use Rattle.program_words.specs.declared.asked.Asked.TheVariants.{Once, OfScenario, Judge, Threads, Help, Mistake, NoText, NoMemory}
-use Rattle.explorer.specs.JudgeText.{IsJudgeToldOf}
+use Rattle.program_words.specs.Asked.{with_schedule}
+use Rattle.explorer.specs.JudgeText.{IsJudgeReplyOf, IsJudgeToldOf}
 use Rattle.explorer.specs.OnceText.{IsOnceAnswer}
 use Rattle.explorer.specs.ThreadsText.{IsThreadsAnswer}
 
@@ -30,9 +32,10 @@ IsTextFor (Mistake told) old new text exit = (text ≡ []) × (exit ≡ Refused)
 IsTextFor NoText old new text exit = (text ≡ []) × (exit ≡ Refused)
 IsTextFor NoMemory old new text exit = WantsMemory text exit
 
--- and this is told beside: only a command that reads a scenario tells anything there
+-- and this is told beside: only a command that reads a text tells anything there
 abbrev pub IsAnswerTo : Asked → Option (List ℕ) → Option (List ℕ) → Option (List ℕ) → List ℕ → Exit → Type 0
 IsAnswerTo (OfScenario command file) old new aside text exit = IsReplyOf command old new aside text exit
+IsAnswerTo (Judge file) old new aside text exit = IsJudgeReplyOf old new aside text exit
 IsAnswerTo asked old new aside text exit = IsTextFor asked old new text exit × (aside ≡ None)
 
 -- the command reads an input
@@ -65,6 +68,17 @@ beside asked (Err fault) = Some (fault_text fault)
 abbrev pub status_after : Result Told IoFault → ℕ
 status_after (Ok told) = status_of told.exit
 status_after (Err fault) = 2
+
+-- nothing is asked but to tell that a stream couldn't be read, or that memory was short
+abbrev pub IsUnread : Asked → Type 0
+IsUnread (Mistake told) = string_bytes told ≡ fault_text Read
+IsUnread NoMemory = Unit {0}
+IsUnread _ = ⊥
+
+-- where a schedule is awaited: the same with some schedule, or the same, or that no schedule could be read
+abbrev pub IsScheduled : Asked → Asked → Type 0
+IsScheduled asked scheduled =
+    ((schedule : Bor (List ℕ)) × (scheduled ≡ with_schedule asked schedule)) ⊎ (scheduled ≡ asked) ⊎ IsUnread scheduled
 
 -- the text went out, or where the sink has failed a beginning of it
 abbrev pub WritesAsFar : Option (List ℕ) → Option (List ℕ) → Bool → List ℕ → Type 0

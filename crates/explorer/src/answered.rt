@@ -2,6 +2,7 @@
 
 ghost use Rattle.std.specs.Prelude.{◌≡◌, false};
 ghost use Rattle.program_words.specs.Asked.{IsWithinLimits, AwaitsSchedule};
+ghost use Rattle.explorer.specs.Asked.{IsUnread, IsScheduled};
 
 use program_words::Asked;
 use scenario_search::{MAX_TEXT, Source};
@@ -16,7 +17,8 @@ fn told_schedule(answer: &str) -> Option<&str> {
 
 /// That the answer on standard input couldn't be read.
 fn unread<'w>(alloc: Global) -> Asked<'w>
-    ensures { IsWithinLimits result }
+    ensures limits { IsWithinLimits result }
+    ensures why { IsUnread result }
 {
     match String::from_str(alloc, "parklot: read failed\n") {
         Ok(text) => Asked::Mistake(text),
@@ -35,6 +37,7 @@ pub fn scheduled<'w, R: Source>(
     requires limits { IsWithinLimits asked }
     requires readable { R.has_failed reader.old ≡ false }
     ensures limits { IsWithinLimits result }
+    ensures awaited { AwaitsSchedule asked.entry → IsScheduled asked.entry result }
     ensures other { (AwaitsSchedule asked.entry → ⊥) → result ≡ asked.entry }
     ensures unread { (AwaitsSchedule asked.entry → ⊥) → reader.new ≡ reader.old }
 {

@@ -17,6 +17,7 @@ mod judged;
 mod once;
 mod program;
 mod threads;
+mod ticker;
 
 pub use answer::{OnceAnswers, Released, Retried};
 pub use answered::scheduled;
@@ -27,9 +28,11 @@ pub use once::{once_io, once_text};
 pub use program::parklot_io;
 pub use program_words::{Asked, MAX_ROUNDS, MAX_WORKERS, no_file, no_words, read_words};
 pub use scenario_search::{
-    Bounds, Cause, Command, Exit, Flagged, Found, FoundInAll, IoFault, Kind, MAX_DEPTH, MAX_TEXT,
-    NO_MEMORY, Property, ReadFault, Request, Sink, Source, Told, check, command_io, explore,
-    explore_io, explore_variant, explore_variant_io, read_scenario, replay_io, verdict,
+    Bounds, Cause, Command, Exit, Extent, Extras, Flagged, Found, FoundInAll, IoFault, Kind,
+    MAX_DEPTH, MAX_TEXT, NO_MEMORY, Property, ReadFault, Request, Searched, Sink, Source,
+    StopWatch, Told, Watch, check, command_io, explore, explore_by, explore_variant, read_scenario,
+    verdict,
 };
 pub use sema_table::Closed;
 pub use threads::{ThreadsRefused, run_threads};
+pub use ticker::Ticker;

@@ -34,7 +34,7 @@ pub(crate) fn ask(
     let mut out = Flagged::new(Taking::new(alloc, devices.out));
     let mut err = Flagged::new(Taking::new(alloc, devices.err));
     let asked = read_words(alloc, words);
-    let status = parklot_io(rt, alloc, &asked, &mut reader, &mut out, &mut err);
+    let status = parklot_io(rt, alloc, &asked, &mut reader, &mut out, &mut err, &mut ());
     (
         out.into_inner().into_taken(),
         err.into_inner().into_taken(),
@@ -90,10 +90,7 @@ pub(crate) fn tells_over(
 }
 
 /// How the help begins that stands beside a refusal.
-fn help_beside(words: &[&str], told: &str) -> &'static [u8] {
-    if words.first() == Some(&"judge") {
-        return b"";
-    }
+fn help_beside(told: &str) -> &'static [u8] {
     match told {
         "refused: too long\n" => b"the text has more than 65536 bytes\n",
         "refused: schedule\n" => b"a schedule is 0 to 256 numbers of seats",
@@ -111,7 +108,7 @@ pub(crate) fn tells(
     told: &str,
     status: u8,
 ) {
-    let err = help_beside(words, told);
+    let err = help_beside(told);
     let told = Told {
         out: told.as_bytes(),
         err,

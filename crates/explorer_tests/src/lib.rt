@@ -17,6 +17,8 @@ mod devices;
 #[cfg(test)]
 mod explore_tests;
 #[cfg(test)]
+mod extras_tests;
+#[cfg(test)]
 mod fault_tests;
 #[cfg(test)]
 mod judge_tests;

@@ -205,7 +205,7 @@ fn without_a_command(
     let mut reader = Flagged::new(Giving::new(b"", SOUND));
     let mut out = Flagged::new(Taking::new(alloc, SOUND));
     let mut err = Flagged::new(Taking::new(alloc, SOUND));
-    let status = parklot_io(rt, alloc, asked, &mut reader, &mut out, &mut err);
+    let status = parklot_io(rt, alloc, asked, &mut reader, &mut out, &mut err, &mut ());
     assert!(rt; status == 2);
     assert!(rt; out.into_inner().into_taken().as_slice() == told.as_bytes());
     assert!(rt; err.into_inner().into_taken().as_slice() == told_beside.as_bytes());

@@ -37,7 +37,7 @@ fn replay_of(rt: &(impl Threads + Wait + Sync), alloc: Global, answer: &[u8]) ->
     let mut reader = Flagged::new(Giving::new(ONE_ACQUIRE, SOUND));
     let mut out = Flagged::new(Taking::new(alloc, SOUND));
     let mut err = Flagged::new(Taking::new(alloc, SOUND));
-    let status = parklot_io(rt, alloc, &asked, &mut reader, &mut out, &mut err);
+    let status = parklot_io(rt, alloc, &asked, &mut reader, &mut out, &mut err, &mut ());
     (out.into_inner().into_taken(), status)
 }
 

@@ -1,4 +1,4 @@
-//! What is said to a person whose scenario's text is refused: which line is at fault, what stands there, and what was
+//! What is said to a person whose text is refused, a scenario or a journal: which line is at fault, what stands there, and what was
 //! expected.
 //!
 //! [`explain`] makes the one line that goes to standard error beside the refusal: the line of the text as far as it can be
@@ -7,6 +7,8 @@
 #![tactic(auto)]
 
 mod beginning;
+mod journal;
 mod problem;
 
+pub use journal::explain_journal;
 pub use problem::explain;

@@ -73,7 +73,7 @@ fn answer<R: Threads + Wait + Sync>(
     let mut out = Flagged::new(Vec::new(alloc));
     let mut err = Flagged::new(Vec::new(alloc));
     let asked = read_words(alloc, words.as_slice());
-    let status = parklot_io(rt, alloc, &asked, &mut input, &mut out, &mut err);
+    let status = parklot_io(rt, alloc, &asked, &mut input, &mut out, &mut err, &mut ());
     let text = String::from_utf8(out.into_inner())?;
     Ok(format!(in alloc; "{PROMPT}{command}\n{text}exit {status}\n")?)
 }

@@ -3,7 +3,7 @@
 
 ghost use Rattle.program_words.specs.Asked.{IsWithinLimits};
 
-use explorer::{Asked, Flagged, no_file, no_words, parklot_io, read_words, scheduled};
+use explorer::{Asked, Flagged, Ticker, no_file, no_words, parklot_io, read_words, scheduled};
 use std::alloc::Global;
 use std::fs::File;
 use std::process::ExitCode;
@@ -31,17 +31,24 @@ fn main(rt: HostRuntime) -> ExitCode {
     let mut room = Vec::new(alloc);
     let mut answer = Flagged::new(rt.stdin());
     let asked = scheduled(alloc, asked_by(alloc, &words), &mut answer, &mut room);
+    let mut watch = Ticker::new(&rt, alloc, Flagged::new(rt.stderr()), asked.is_watched());
     let Some(name) = asked.file() else {
-        return ExitCode::from(parklot_io(&rt, alloc, &asked, &mut input, &mut out, &mut err));
+        return ExitCode::from(parklot_io(
+            &rt, alloc, &asked, &mut input, &mut out, &mut err, &mut watch,
+        ));
     };
     ExitCode::from(match File::open(&rt, name) {
         Ok(file) => {
             let mut file = Flagged::new(file);
-            parklot_io(&rt, alloc, &asked, &mut file, &mut out, &mut err)
+            parklot_io(
+                &rt, alloc, &asked, &mut file, &mut out, &mut err, &mut watch,
+            )
         }
         Err(_) => {
             let asked = no_file(alloc, name);
-            parklot_io(&rt, alloc, &asked, &mut input, &mut out, &mut err)
+            parklot_io(
+                &rt, alloc, &asked, &mut input, &mut out, &mut err, &mut watch,
+            )
         }
     })
 }

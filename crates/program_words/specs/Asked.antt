@@ -19,8 +19,8 @@ pub record AreWithin (workers rounds : ℕ) : Type 0 where
 
 -- the numbers are within the limits of their command
 abbrev pub IsWithinLimits : Asked → Type 0
-IsWithinLimits (OfScenario (Explore bounds table) file) = (bounds.depth ≤ 64) × IsFromOne 1000000000 bounds.worlds
-IsWithinLimits (OfScenario (Check worlds) file) = IsFromOne 1000000000 worlds
+IsWithinLimits (OfScenario (Explore bounds table extras) file) = (bounds.depth ≤ 64) × IsFromOne 1000000000 bounds.worlds
+IsWithinLimits (OfScenario (Check worlds extras) file) = IsFromOne 1000000000 worlds
 IsWithinLimits (Threads workers rounds) = AreWithin workers rounds
 IsWithinLimits _ = Unit {0}
 

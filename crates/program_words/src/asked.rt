@@ -64,6 +64,17 @@ impl<'w> Asked<'w> {
         }
     }
 
+    /// Whether it is to be told how far a search has come, while it runs.
+    pub fn is_watched(&self) -> bool {
+        match self {
+            Asked::OfScenario {
+                command: Command::Explore { extras, .. } | Command::Check { extras, .. },
+                ..
+            } => extras.live,
+            _ => false,
+        }
+    }
+
     /// The same with this schedule, where one is asked for.
     pub fn with_schedule(self, schedule: &'w str) -> Asked<'w>
         ensures { result ≡ with_schedule self.entry schedule.entry }

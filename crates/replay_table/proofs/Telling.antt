@@ -1,5 +1,5 @@
 -- One line more, and the whole table.
-use Rattle.std.proofs.Common.{◌≡◌, ℕ, zero, suc, ◌+◌, ◌<◌, List, [], ◌∷◌, ◌++◌, Option, Some, None, Result, Ok, Err, OnOk, IfSome, length, replicate, set, slice_get, get_or, length-set, take, refl, sym, ap, ◌∙◌, subst, arith}
+use Rattle.std.proofs.Common.{◌≡◌, ℕ, zero, suc, ◌+◌, ◌<◌, List, [], ◌∷◌, ◌++◌, Option, Some, None, IfSome, length, replicate, set, slice_get, get_or, length-set, take, refl, sym, ap, ◌∙◌, subst, arith}
 use mathlib.Core.Path.{fun_ext}
 use Rattle.std.proofs.lemmas.List.{get_or_default, length-replicate}
 use Rattle.std.proofs.lemmas.Option.{slice_get-get_or}
@@ -18,14 +18,11 @@ use Rattle.step_table.specs.Row.{phase_doing, phase_in}
 use Rattle.step_table.specs.Run.{Run, layout, start, refusal}
 use Rattle.step_rows.specs.Stored.{each}
 use Rattle.step_core.specs.Finding.{found_doing, found_by}
-use Rattle.step_core.specs.BentStored.{BentMoment, IsBentStepped}
-use Rattle.step_core.specs.State.{Machine, Moment, IsStepped, and_then, core_of, run_of, run_at, telling}
+use Rattle.step_core.specs.Stepping.{Steps, stepped_by}
+use Rattle.step_core.specs.State.{Machine, Moment, IsStarted, and_then, core_of, run_of, run_at, telling}
 use Rattle.step_core.proofs.Moving.{same_refusal, seat_free}
 use Rattle.step_rows.proofs.Storing.{each_set}
 use Rattle.replay_table.specs.declared.line.Line.{Line}
-use Rattle.replay_table.specs.declared.running.Running.{Running}
-use Rattle.replay_table.specs.declared.running.Running.TheVariants.{ByTable, ByChange}
-use Rattle.replay_table.specs.Running.{moment_of, change_of, stepped_by, Begins, HasSteppedBy}
 use Rattle.replay_table.specs.Lines.{Past, past_with, past_from, past_of, call_begun, Shows, TellsStepOf, IsLine, EndsBy, HasTold}
 
 -- neither how far a seat has come nor what its row finds hangs on the journal
@@ -50,10 +47,10 @@ past_more change parts from [] i = refl
 past_more change parts from (k ∷ past) i = past_more change parts (past_with change parts from k) past i
 
 -- how a run stands to which these steps led, and how many calls each seat had begun before its last one
-pub record SoFar (change : Option Variant) (parts : Parts) (past : List ℕ) (r : Running) (told : List ℕ) : Type 0 where
-  pub parts_are : (moment_of r).parts ≡ parts
-  pub change_is : change_of r ≡ change
-  pub run : (journal : List Entry) × (run_of (telling (moment_of r) journal) ≡ (past_of change parts past).run)
+pub record SoFar (change : Option Variant) (parts : Parts) (past : List ℕ) (r : Moment) (told : List ℕ) : Type 0 where
+  pub parts_are : r.parts ≡ parts
+  pub table_is : r.table ≡ change
+  pub run : (journal : List Entry) × (run_of (telling r journal) ≡ (past_of change parts past).run)
   pub count : length told ≡ length parts.calls
   pub told_is : each 0 told ≡ (past_of change parts past).told
 
@@ -62,19 +59,19 @@ none_told zero k = refl
 none_told (suc n) zero = refl
 none_told (suc n) (suc k) = none_told n k
 
-pub at_start : (change : Option Variant) (parts : Parts) (r : Running) (told : List ℕ) → Begins parts change r
+pub at_start : (change : Option Variant) (parts : Parts) (r : Moment) (told : List ℕ) → IsStarted parts (telling r []) → r.table ≡ change
     → told ≡ replicate (length parts.calls) 0 → SoFar change parts [] r told
-at_start change parts r told begins none = record {
-  parts_are = begins.parts;
-  change_is = begins.change_is;
-  run = ([], begins.run);
+at_start change parts r told started table none = record {
+  parts_are = started.parts;
+  table_is = table;
+  run = ([], started.run);
   count = ap (λ (l : List ℕ). length l) none ∙ length-replicate (length parts.calls) 0;
   told_is = ap (each 0) none ∙ fun_ext (λ k. none_told (length parts.calls) k);
 }
 
-module _ (change : Option Variant) (parts : Parts) (past : List ℕ) (r : Running) (told : List ℕ) (before : SoFar change parts past r told) where
+module _ (change : Option Variant) (parts : Parts) (past : List ℕ) (r : Moment) (told : List ℕ) (before : SoFar change parts past r told) where
   abbrev was : Moment
-  was = moment_of r
+  was = r
 
   abbrev run : Run
   run = (past_of change parts past).run
@@ -84,11 +81,14 @@ module _ (change : Option Variant) (parts : Parts) (past : List ℕ) (r : Runnin
   refused_here i cause is =
       (λ j. refusal (sym before.parts_are j) (sym before.run.1 j) i) ∙ same_refusal was before.run.0 i ∙ is
 
-  module _ (i : ℕ) (s : Running) (now : List ℕ) (line : Line) (is : HasTold r told i s now line) where
-    stepped_so : (told_then : List Entry) × (run_of (telling (moment_of s) told_then) ≡ stepped_by change parts run i)
+  module _ (i : ℕ) (s : Moment) (now : List ℕ) (line : Line) (is : HasTold r told i s now line) where
+    stays : s.parts ≡ r.parts
+    stays = (is.steps.1.steps []).parts
+
+    stepped_so : (told_then : List Entry) × (run_of (telling s told_then) ≡ stepped_by change parts run i)
     stepped_so = (
-      (is.steps.run before.run.0).0,
-      (is.steps.run before.run.0).1 ∙ (λ j. stepped_by (before.change_is j) (before.parts_are j) (before.run.1 j) i),
+      and_then before.run.0 is.steps.0,
+      (is.steps.1.steps before.run.0).run ∙ (λ j. stepped_by (before.table_is j) (before.parts_are j) (before.run.1 j) i),
     )
 
     more : past_of change parts (past ++ i ∷ []) ≡ past_with change parts (past_of change parts past) i
@@ -96,8 +96,8 @@ module _ (change : Option Variant) (parts : Parts) (past : List ℕ) (r : Runnin
 
     pub one_more : SoFar change parts (past ++ i ∷ []) s now
     one_more = record {
-      parts_are = is.steps.parts ∙ before.parts_are;
-      change_is = is.steps.change_is ∙ before.change_is;
+      parts_are = stays ∙ before.parts_are;
+      table_is = is.steps.1.table ∙ before.table_is;
       run = (stepped_so.0, stepped_so.1 ∙ sym (ap (λ (p : Past). p.run) more));
       count = is.count ∙ before.count;
       told_is =
@@ -116,7 +116,7 @@ module _ (change : Option Variant) (parts : Parts) (past : List ℕ) (r : Runnin
           ∙ found_of (layout was.parts) was.machine before.run.0 i (each Rest was.machine.standing i) ∙ is.found;
       call = is.call ∙ (λ j. call_begun (before.parts_are j) i (before.told_is j i) ((before.run.1 j).begun i));
       after = record {
-        parts_are = ap (λ (m : Moment). m.parts) is.after ∙ is.steps.parts ∙ before.parts_are;
+        parts_are = ap (λ (m : Moment). m.parts) is.after ∙ stays ∙ before.parts_are;
         run_is = (stepped_so.0, ap (λ (m : Moment). run_of (telling m stepped_so.0)) is.after ∙ stepped_so.1);
       };
     }
@@ -131,32 +131,32 @@ lines_more P (y ∷ l) x all here zero = all zero
 lines_more P (y ∷ l) x all here (suc k) = lines_more (λ n. P (suc n)) l x (λ n. all (suc n)) here k
 
 -- the table of the first so many steps of a schedule, and how the run stands then
-pub record TableSoFar (change : Option Variant) (parts : Parts) (schedule : List ℕ) (first : Moment) (at : ℕ) (r : Running)
+pub record TableSoFar (change : Option Variant) (parts : Parts) (schedule : List ℕ) (first : Moment) (at : ℕ) (r : Moment)
     (told : List ℕ) (lines : List Line) : Type 0 where
   pub begins : Shows first parts (start parts)
   pub so_far : SoFar change parts (take at schedule) r told
   pub count : length lines ≡ at
   pub each_line : (k : ℕ) → IfSome (slice_get lines k) (IsLine change parts schedule k)
 
-pub no_line : (change : Option Variant) (parts : Parts) (schedule : List ℕ) (first : Moment) (r : Running) (told : List ℕ)
-    → Begins parts change r → first ≡ moment_of r → told ≡ replicate (length parts.calls) 0
+pub no_line : (change : Option Variant) (parts : Parts) (schedule : List ℕ) (first : Moment) (r : Moment) (told : List ℕ)
+    → IsStarted parts (telling r []) → r.table ≡ change → first ≡ r → told ≡ replicate (length parts.calls) 0
     → TableSoFar change parts schedule first 0 r told []
-no_line change parts schedule first r told begins shows none = record {
+no_line change parts schedule first r told started table shows none = record {
   begins = record {
-    parts_are = ap (λ (m : Moment). m.parts) shows ∙ begins.parts;
-    run_is = ([], ap run_at shows ∙ begins.run);
+    parts_are = ap (λ (m : Moment). m.parts) shows ∙ started.parts;
+    run_is = ([], ap run_at shows ∙ started.run);
   };
-  so_far = at_start change parts r told begins none;
+  so_far = at_start change parts r told started table none;
   count = refl;
   each_line = λ k. tt;
 }
 
-module _ (change : Option Variant) (parts : Parts) (schedule : List ℕ) (first : Moment) (at i : ℕ) (r : Running) (told : List ℕ)
+module _ (change : Option Variant) (parts : Parts) (schedule : List ℕ) (first : Moment) (at i : ℕ) (r : Moment) (told : List ℕ)
     (lines : List Line) (before : TableSoFar change parts schedule first at r told lines) (there : at < length schedule) (is_seat : i ≡ get_or schedule at i) where
   step_is : slice_get schedule at ≡ Some i
   step_is = slice_get-get_or schedule at i there ∙ ap Some (sym is_seat)
 
-  pub line_more : take (at + 1) schedule ≡ take at schedule ++ i ∷ [] → (s : Running) (now : List ℕ) (line : Line) → HasTold r told i s now line
+  pub line_more : take (at + 1) schedule ≡ take at schedule ++ i ∷ [] → (s : Moment) (now : List ℕ) (line : Line) → HasTold r told i s now line
       → TableSoFar change parts schedule first (at + 1) s now (lines ++ line ∷ [])
   line_more taken s now line is = record {
     begins = before.begins;
@@ -174,16 +174,16 @@ module _ (change : Option Variant) (parts : Parts) (schedule : List ℕ) (first 
       longer [] = refl
       longer (x ∷ l) = omega (arith, longer l)
 
-  pub ends_here : (cause : StepRefused) → refusal (moment_of r).parts (run_at (moment_of r)) i ≡ Some cause
+  pub ends_here : (cause : StepRefused) → refusal r.parts (run_at r) i ≡ Some cause
       → EndsBy change parts schedule (length lines) (Some (record { at = at; cause = cause }))
   ends_here cause is =
       subst (λ n. EndsBy change parts schedule n (Some (record { at = at; cause = cause }))) (sym before.count)
       (refl, i, step_is, refused_here change parts (take at schedule) r told before.so_far i (Some cause) is)
 
 -- the run so far stands where its lines lead
-pub stands_at : (change : Option Variant) (parts : Parts) (schedule : List ℕ) (first : Moment) (at : ℕ) (r : Running) (told : List ℕ)
+pub stands_at : (change : Option Variant) (parts : Parts) (schedule : List ℕ) (first : Moment) (at : ℕ) (r : Moment) (told : List ℕ)
     (lines : List Line) → TableSoFar change parts schedule first at r told lines
-    → Shows (moment_of r) parts (past_of change parts (take (length lines) schedule)).run
+    → Shows r parts (past_of change parts (take (length lines) schedule)).run
 stands_at change parts schedule first at r told lines before = record {
   parts_are = before.so_far.parts_are;
   run_is =
@@ -192,46 +192,26 @@ stands_at change parts schedule first at r told lines before = record {
 
 -- ---- one step
 
-pub stepped_by_table : (m n : Moment) (i : ℕ) (entry : Option Entry)
-    → ((journal : List Entry) → IsStepped (telling m journal) i (telling n (and_then journal entry)))
-    → (r : Running) → r ≡ ByTable m → HasSteppedBy r i (ByTable n)
-stepped_by_table m n i entry steps r same =
-    subst (λ (r : Running). HasSteppedBy r i (ByTable n)) (sym same) (record {
-      parts = (steps []).parts;
-      change_is = refl;
-      run = λ journal. (and_then journal entry, (steps journal).run);
-    })
-
-pub stepped_by_change : {E : Type 0} (w n : BentMoment) (i : ℕ) (r : Running) → r ≡ ByChange w → (answer : Result (Unit {0}) E)
-    → OnOk answer (IsBentStepped w i n) → OnOk answer (HasSteppedBy r i (ByChange n))
-stepped_by_change w n i r same (Ok done) step =
-    subst (λ (r : Running). HasSteppedBy r i (ByChange n)) (sym same) (record {
-      parts = step.parts;
-      change_is = ap Some step.variant;
-      run = step.run;
-    })
-stepped_by_change w n i r same (Err cause) step = tt
-
 -- the line of a step, as the code has read it
-module _ (r s : Running) (told : List ℕ) (i n was begun : ℕ) (before after : Moment) (scenario : Parts) (row : Phase) (found : Found)
-    (call : Option Call) (at : before ≡ moment_of r) (number : n ≡ i) (counted : length told ≡ length (moment_of r).parts.calls)
+module _ (r s : Moment) (told : List ℕ) (i n was begun : ℕ) (before after : Moment) (scenario : Parts) (row : Phase) (found : Found)
+    (call : Option Call) (at : before ≡ r) (number : n ≡ i) (counted : length told ≡ length r.parts.calls)
     (free : refusal before.parts (run_at before) i ≡ None) where
   seat_there : n < length told
   seat_there =
       let here : i < length before.parts.calls = seat_free before.parts (run_at before) i free in
-      let calls : length before.parts.calls ≡ length (moment_of r).parts.calls = ap (λ (m : Moment). length m.parts.calls) at in
+      let calls : length before.parts.calls ≡ length r.parts.calls = ap (λ (m : Moment). length m.parts.calls) at in
       omega arith
 
   pub has_told : found_by before.parts (run_at before) i ≡ Some found → row ≡ phase_in (run_at before).core i
       → begun ≡ (run_at before).begun i → scenario ≡ before.parts → was ≡ get_or told n was → call ≡ call_begun scenario i was begun
-      → HasSteppedBy r i s → after ≡ moment_of s
+      → (entry : Option Entry) → Steps r i s entry → after ≡ s
       → HasTold r told i s (set told n begun) (record { seat = i; row = row; found = found; call = call; after = after })
-  has_told finds stands has of_it reads begins steps shows =
-      let begun_is : begun ≡ (run_at (moment_of r)).begun i = has ∙ ap (λ (m : Moment). (run_at m).begun i) at in
+  has_told finds stands has of_it reads begins entry steps shows =
+      let begun_is : begun ≡ (run_at r).begun i = has ∙ ap (λ (m : Moment). (run_at m).begun i) at in
       let was_is : was ≡ each 0 told i
       = reads ∙ sym (get_or_default told n 0 was seat_there) ∙ ap (λ k. get_or told k 0) number in
       record {
-        steps = steps;
+        steps = (entry, steps);
         count = length-set told n begun;
         told_now = each_set 0 told n begun seat_there ∙ (λ j. put (each 0 told) (number j) (begun_is j));
         seat = refl;

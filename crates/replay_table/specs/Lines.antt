@@ -10,12 +10,11 @@ use Rattle.step_table.specs.Row.{phase_in}
 use Rattle.step_table.specs.Run.{Run, call_of, start, refusal}
 use Rattle.step_core.specs.Finding.{found_by}
 use Rattle.step_core.specs.State.{Moment, run_of, run_at, telling}
+use Rattle.step_core.specs.Stepping.{Steps, stepped_by}
 use Rattle.step_rows.specs.Stored.{each}
 use Rattle.replay_table.specs.declared.line.Line.{Line}
-use Rattle.replay_table.specs.declared.running.Running.{Running}
 use Rattle.replay_table.specs.declared.table.Refused.{Refused}
 use Rattle.replay_table.specs.declared.table.ReplayTable.{ReplayTable}
-use Rattle.replay_table.specs.Running.{moment_of, stepped_by, HasSteppedBy}
 
 -- a schedule so far: the run, and how many calls each seat had begun before its last step, 0 where it has made none
 pub record Past : Type 0 where
@@ -74,21 +73,21 @@ pub record IsTableOf (change : Option Variant) (parts : Parts) (schedule : List 
   pub begins : Shows table.start parts (start parts)
   pub lines : (at : ℕ) → IfSome (slice_get table.lines.items at) (IsLine change parts schedule at)
   pub ends : EndsBy change parts schedule (length table.lines.items) table.refused
-  pub ends_at : Shows (moment_of table.end) parts (past_of change parts (take (length table.lines.items) schedule)).run
+  pub ends_at : Shows table.end parts (past_of change parts (take (length table.lines.items) schedule)).run
 
 -- the step was run, and this is its line
-pub record HasTold (r : Running) (told : List ℕ) (i : ℕ) (s : Running) (now : List ℕ) (line : Line) : Type 0 where
-  pub steps : HasSteppedBy r i s
+pub record HasTold (r : Moment) (told : List ℕ) (i : ℕ) (s : Moment) (now : List ℕ) (line : Line) : Type 0 where
+  pub steps : (entry : Option Entry) × Steps r i s entry
   pub count : length now ≡ length told
-  pub told_now : each 0 now ≡ put (each 0 told) i ((run_at (moment_of r)).begun i)
+  pub told_now : each 0 now ≡ put (each 0 told) i ((run_at r).begun i)
   pub seat : line.seat ≡ i
-  pub enabled : refusal (moment_of r).parts (run_at (moment_of r)) i ≡ None
-  pub row : line.row ≡ phase_in (run_at (moment_of r)).core i
-  pub found : found_by (moment_of r).parts (run_at (moment_of r)) i ≡ Some line.found
-  pub call : line.call ≡ call_begun (moment_of r).parts i (each 0 told i) ((run_at (moment_of r)).begun i)
-  pub after : line.after ≡ moment_of s
+  pub enabled : refusal r.parts (run_at r) i ≡ None
+  pub row : line.row ≡ phase_in (run_at r).core i
+  pub found : found_by r.parts (run_at r) i ≡ Some line.found
+  pub call : line.call ≡ call_begun r.parts i (each 0 told i) ((run_at r).begun i)
+  pub after : line.after ≡ s
 
 -- what one step gives of a run that stands so: its line; or why it can't be run, and then nothing has changed
-abbrev pub TellsStep : Running → List ℕ → ℕ → Running → List ℕ → Result Line StepRefused → Type 0
-TellsStep r told i s now (Err cause) = (s ≡ r) × (refusal (moment_of r).parts (run_at (moment_of r)) i ≡ Some cause)
+abbrev pub TellsStep : Moment → List ℕ → ℕ → Moment → List ℕ → Result Line StepRefused → Type 0
+TellsStep r told i s now (Err cause) = (s ≡ r) × (refusal r.parts (run_at r) i ≡ Some cause)
 TellsStep r told i s now (Ok line) = HasTold r told i s now line

@@ -6,11 +6,9 @@
 mod columns;
 mod layout;
 mod line;
-mod running;
 mod seat_cell;
 mod spelling;
 mod table;
 
 pub use line::Line;
-pub use running::Running;
 pub use table::{Refused, ReplayTable, table_of};

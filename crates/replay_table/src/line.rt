@@ -1,12 +1,10 @@
 //! A line of the table: one step, and what it finds and leaves.
 
 ghost use Rattle.std.specs.Prelude.{◌≡◌, ◌<◌, length, IfOk};
-ghost use Rattle.replay_table.specs.Running.{moment_of};
 ghost use Rattle.replay_table.specs.Lines.{call_begun, TellsStep};
 
-use crate::running::Running;
 use std::alloc::Global;
-use step_core::{Call, Found, NoMemory, Phase, Picture, Scenario, SeatId, StepRefused};
+use step_core::{Call, Found, Moment, NoMemory, Phase, Picture, Scenario, SeatId, StepRefused};
 
 /// One step of a schedule.
 #[derive(Drop)]
@@ -38,11 +36,11 @@ fn call_begun(scenario: &Scenario, seat: SeatId, told: usize, begun: usize) -> O
 /// begun before its last step.
 pub(crate) fn step_line<'s>(
     alloc: Global,
-    running: &mut Running<'s>,
+    running: &mut Moment<'s>,
     told: &mut Vec<usize>,
     seat: SeatId,
 ) -> Result<Result<Line<'s>, StepRefused>, NoMemory>
-    requires { length told.old.items ≡ length (moment_of running.old).parts.calls }
+    requires { length told.old.items ≡ length running.old.parts.calls }
     ensures { IfOk result (TellsStep running.old told.old.items seat running.new told.new.items) }
 {
     let before = running.picture(alloc)?;

@@ -4,9 +4,8 @@ ghost use Rattle.std.specs.Prelude.{◌≡◌, IfOk, replicate};
 ghost use Rattle.replay_table.specs.Lines.{IsTableOf};
 
 use crate::line::{Line, step_line};
-use crate::running::Running;
 use std::alloc::{AllocError, Global};
-use step_core::{NoMemory, Picture, Scenario, SeatId, StepRefused, Variant};
+use step_core::{Moment, NoMemory, Picture, Scenario, SeatId, StepRefused, Variant};
 
 /// A step that can't be run.
 #[derive(Clone, Copy, Debug, PartialEq, Eq, Drop)]
@@ -27,7 +26,7 @@ pub struct ReplayTable<'s> {
     /// The step before which the table ends, where one is refused.
     pub refused: Option<Refused>,
     /// The run where the table ends.
-    pub end: Running<'s>,
+    pub end: Moment<'s>,
 }
 
 /// No seat has made a step.
@@ -48,7 +47,7 @@ pub fn table_of<'s>(
 ) -> Result<ReplayTable<'s>, NoMemory>
     ensures { IfOk result (IsTableOf change scenario.now schedule.now) }
 {
-    let mut running = Running::new(alloc, scenario, change)?;
+    let mut running = Moment::new_by(alloc, scenario, change)?;
     let mut told = none_told(alloc, scenario.seats())?;
     let start = running.picture(alloc)?;
     let mut lines = Vec::new(alloc);

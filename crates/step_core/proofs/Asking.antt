@@ -1,4 +1,4 @@
--- What is asked for of a seat whose run is well formed, by the table or by a change of it, and what the machine answers for it.
+-- What is asked for of a seat of a moment, whichever table it steps by, and what the machine answers for it.
 use Rattle.std.proofs.Common.{◌≡◌, ℕ, ◌+◌, ◌^◌, ◌<◌, [], Option, Some, None, Result, Ok, Err, IfOk, IfErr, OnOk, cond, length, refl, ap, sym, ◌∙◌, subst, arith}
 use Rattle.std.proofs.Common.{IsTrue, ◌↔◌, Bool, true, false}
 use Rattle.std.proofs.lemmas.Bool.{lt-ltb}
@@ -16,10 +16,9 @@ use Rattle.core_law.specs.CoreLaw.{IsCallBefore, IsStanding}
 use Rattle.step_table.specs.Core.{CoreLayout, Core}
 use Rattle.step_table.specs.CoreSteps.{can_run}
 use Rattle.step_table.specs.Run.{layout, unless, refusal_of, refusal}
-use Rattle.alike_law.specs.declared.variant.Variant.{Variant}
-use Rattle.step_core.specs.BentStored.{HasBentPast}
+use Rattle.step_core.specs.WellFormed.{IsWellFormed, HasPast}
 use Rattle.step_core.specs.State.{Moment, State, HasSeat, HasSeatOn, HasSeatAt, HasGroup, MayGoOn, MayGo, AsksFor, IsMachineFor, IsRefusal, core_of, run_of, run_at, telling}
-use Rattle.step_core.proofs.Ranges.{asks_for, begun_small}
+use Rattle.step_core.proofs.Ranges.{asks_for, begun_small, change_in, well_formed_by}
 
 -- a cause is told exactly where the row can't run
 unless_none : (b : Bool) (cause : StepRefused) → IsTrue b ↔ (unless b cause ≡ None)
@@ -34,31 +33,34 @@ refused_none m s i (AtGroup g row) = ((λ t. refl), (λ e. refl))
 refused_none m s i (Failed misuse) = ((λ f. absurd cc), (λ e. absurd cc))
 
 -- a seat of a moment
-module _ (v : Variant) (m : Moment) (past : HasBentPast v m) (i : ℕ) (there : i < length m.parts.calls) where
+module _ (m : Moment) (past : HasPast m) (i : ℕ) (there : i < length m.parts.calls) where
   abbrev behind : State
   behind = telling m past.0
 
+  law : IsWellFormed (change_in m.table) behind
+  law = well_formed_by m.table behind past.1
+
   pub has_seat : HasSeat m.machine i
-  has_seat = (let h = there in let a = past.1.machine.callers in omega arith, let h = there in let a = past.1.machine.standing in omega arith)
+  has_seat = (let h = there in let a = law.machine.callers in omega arith, let h = there in let a = law.machine.standing in omega arith)
 
   pub asks : AsksFor m.machine i (each Rest m.machine.standing i)
-  asks = asks_for v behind past.1 i there
+  asks = asks_for (change_in m.table) behind law i there
 
   seat_on : (doing : Standing) → IsStanding (layout m.parts) (run_of behind).core i doing → HasSeatOn m.machine i doing
   seat_on (AtList l) is = (
-    let a = past.1.machine.lists in let h = is.2 in omega arith,
-    let h = there in let a = past.1.machine.seats l is.2 in omega arith,
+    let a = law.machine.lists in let h = is.2 in omega arith,
+    let h = there in let a = law.machine.seats l is.2 in omega arith,
   )
   seat_on _ is = tt
 
   pub has_seat_at : HasSeatAt m.machine i
-  has_seat_at = (has_seat, seat_on (each Rest m.machine.standing i) (past.1.run.core.standing i))
+  has_seat_at = (has_seat, seat_on (each Rest m.machine.standing i) (law.run.core.standing i))
 
   has_group : (g : ℕ) → g < m.parts.groups → HasGroup m.machine g
   has_group g within =
-      let own = past.1.stored.own_is in
-      let counters = past.1.scenario.limits.counters in
-      let groups = past.1.scenario.limits.groups in omega arith
+      let own = law.stored.own_is in
+      let counters = law.scenario.limits.counters in
+      let groups = law.scenario.limits.groups in omega arith
 
   may_go_on : (after : After) (place : Place) → IsCallBefore (layout m.parts) after place → MayGoOn m.machine after
   may_go_on NextCall place is = tt
@@ -72,10 +74,10 @@ module _ (v : Variant) (m : Moment) (past : HasBentPast v m) (i : ℕ) (there : 
   may_go_at _ is = tt
 
   pub may_go : MayGo m.machine (each Rest m.machine.standing i)
-  may_go = may_go_at (each Rest m.machine.standing i) (past.1.run.core.standing i)
+  may_go = may_go_at (each Rest m.machine.standing i) (law.run.core.standing i)
 
   pub room_next : each 0 m.begun i + 1 < 2 ^ 64
-  room_next = begun_small v behind past.1 i
+  room_next = begun_small (change_in m.table) behind law i
 
   here : refusal m.parts (run_at m) i ≡ refusal_of (layout m.parts) (run_at m).core i ((run_at m).core.standing i)
   here =
@@ -84,7 +86,7 @@ module _ (v : Variant) (m : Moment) (past : HasBentPast v m) (i : ℕ) (there : 
 
   -- what the machine answers is what the run says
   says : (cause : Option StepRefused) → IsRefusal m.machine i cause → refusal m.parts (run_at m) i ≡ cause
-  says cause is = here ∙ is (layout m.parts) past.1.machine []
+  says cause is = here ∙ is (layout m.parts) law.machine []
 
   module _ (shows : Moment) (same : m ≡ shows) where
     pub said : (cause : Option StepRefused) → IsRefusal m.machine i cause → refusal shows.parts (run_at shows) i ≡ cause
@@ -105,7 +107,7 @@ module _ (v : Variant) (m : Moment) (past : HasBentPast v m) (i : ℕ) (there : 
         → IsTrue answer ↔ IsTrue (can_run l (core_of m.machine []) i (each Rest m.machine.standing i)))
         → IsTrue answer ↔ (refusal shows.parts (run_at shows) i ≡ None)
     whether_enabled answer is =
-        let can = is (layout m.parts) past.1.machine in
+        let can = is (layout m.parts) law.machine in
         let none = refused_none (layout m.parts) (run_at m).core i ((run_at m).core.standing i) in
         subst (λ (n : Moment). IsTrue answer ↔ (refusal n.parts (run_at n) i ≡ None)) same
         (subst (λ r. IsTrue answer ↔ (r ≡ None)) (sym here) ((λ t. none.0 (can.0 t)), (λ e. can.1 (none.1 e))))

@@ -14,6 +14,5 @@ pub mod KeyExact
 pub mod KeySpares
 pub mod KeyWhole
 mod BentMoving
-pub mod BentKeys
 mod Independent
 mod Finding

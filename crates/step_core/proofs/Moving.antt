@@ -1,5 +1,5 @@
 -- A step of a moment is a step of the run that it shows, with each journal behind it.
-use Rattle.std.proofs.Common.{◌≡◌, ◌≢◌, ℕ, zero, suc, ◌+◌, ◌^◌, ◌<◌, ◌≤◌, Bool, true, false, List, [], Some, None, Option, Result, IfOk, IfErr, OnOk, IsTrue, ◌↔◌, nat_lt, cond, length, refl, sym, ap, ◌∙◌, subst, ltb-true}
+use Rattle.std.proofs.Common.{◌≡◌, ◌≢◌, ℕ, zero, suc, ◌<◌, ◌≤◌, Bool, true, false, List, [], Some, None, Option, nat_lt, cond, length, refl, sym, ap, ◌∙◌, subst, ltb-true}
 use Rattle.std.proofs.lemmas.Bool.{le-ltb}
 use Rattle.step_table.specs.declared.entry.Entry.{Entry}
 use Rattle.step_table.specs.declared.list_place.ListEffect.{ListEffect}
@@ -11,7 +11,6 @@ use Rattle.step_table.specs.declared.effect.Effect.TheVariants.{Nothing, Tells, 
 use Rattle.step_table.specs.declared.place.Place.{Place}
 use Rattle.step_table.specs.declared.place.Place.TheVariants.{Releasing}
 use Rattle.step_table.specs.declared.place.Place.TheVariants as on_counter
-use Rattle.table_names.specs.declared.refusal.StepRefused.{StepRefused}
 use Rattle.table_names.specs.declared.refusal.StepRefused.TheVariants.{NoSuchSeat}
 use Rattle.step_table.specs.declared.parts.Parts.{Parts}
 use Rattle.step_table.specs.declared.standing.After.{After}
@@ -29,14 +28,19 @@ use Rattle.step_rows.specs.Stored as sema
 use Rattle.step_table.specs.Core.{CoreLayout, Core, journal_after_list}
 use Rattle.step_table.specs.CoreSteps.{can_run, releases, goes_on, after_counter, after_list, after_group, row_of_standing, core_turned}
 use Rattle.step_table.specs.Run.{Run, layout, continued, refusal_of, refusal}
-use Rattle.core_law.specs.RunInvariant.{IsSoundRun}
-use Rattle.alike_law.specs.declared.variant.Variant.TheVariants.{PlainLess}
-use Rattle.step_core.specs.BentStored.{HasBentPast}
-use Rattle.step_core.specs.State.{Machine, AreSameSize, HasStepped, Moment, IsMachineFor, HasRunRow, HasBegun, GoesOn, HasSeat, HasSeatAt, MayGo, AsksFor, IsRefusal, IsReady, IsReadyAt, IsSound, Steps, HasPast, core_of, run_with, run_of, run_at, telling, entry_of, list_entry, and_then}
+use Rattle.step_table.specs.Core.{counters_of}
+use Rattle.core_law.specs.RunInvariant.{IsSoundRun, IsSoundRunOf}
+use Rattle.alike_law.specs.declared.variant.Variant.{Variant}
+use Rattle.alike_law.specs.BentInvariant.{IsWellFormedCore, WaitersRaisedIn}
+use Rattle.alike_law.specs.Bent.{bent_stepped}
+use Rattle.alike_law.proofs.BentRuns.{bent_kept}
+use Rattle.step_core.specs.Stepping.{HasStepped, Steps}
+use Rattle.step_core.specs.WellFormed.{HasPast, IsSoundBy}
+use Rattle.step_core.specs.State.{Machine, AreSameSize, Moment, IsMachineFor, HasRunRow, HasBegun, GoesOn, IsRefusal, IsReady, IsReadyAt, core_of, run_with, run_of, run_at, telling, entry_of, list_entry, and_then}
 use Rattle.step_rows.proofs.Storing.{get_here}
 use Rattle.step_core.proofs.Changing.{same_layout, then_all}
-use Rattle.step_core.proofs.Ranges.{well_formed_state}
-use Rattle.step_core.proofs.Asking as asking
+use Rattle.step_core.proofs.Ranges.{well_formed_by}
+use Rattle.step_core.proofs.Asking.{said}
 use Rattle.core_law.proofs.RunSound.{is_stepped}
 use Rattle.step_core.proofs.NextCalls.{still_stored}
 
@@ -66,44 +70,6 @@ seat_free parts run i free = by (nat_lt i (length parts.calls)) refl free
 pub no_such_seat : (parts : Parts) (run : Run) (i : ℕ) → length parts.calls ≤ i → refusal parts run i ≡ Some NoSuchSeat
 no_such_seat parts run i past =
     ap (λ b. cond b (refusal_of (layout parts) run.core i (run.core.standing i)) (Some NoSuchSeat)) (le-ltb i (length parts.calls) past)
-
--- a seat of a moment
-module _ (m : Moment) (past : HasPast m) (i : ℕ) (there : i < length m.parts.calls) where
-  bent_past : HasBentPast PlainLess m
-  bent_past = (past.0, well_formed_state (telling m past.0) past.1)
-
-  pub has_seat : HasSeat m.machine i
-  has_seat = asking.has_seat PlainLess m bent_past i there
-
-  pub asks : AsksFor m.machine i (each Rest m.machine.standing i)
-  asks = asking.asks PlainLess m bent_past i there
-
-  pub has_seat_at : HasSeatAt m.machine i
-  has_seat_at = asking.has_seat_at PlainLess m bent_past i there
-
-  pub may_go : MayGo m.machine (each Rest m.machine.standing i)
-  may_go = asking.may_go PlainLess m bent_past i there
-
-  pub room_next : each 0 m.begun i + 1 < 2 ^ 64
-  room_next = asking.room_next PlainLess m bent_past i there
-
-  module _ (shows : Moment) (same : m ≡ shows) where
-    pub said : (cause : Option StepRefused) → IsRefusal m.machine i cause → refusal shows.parts (run_at shows) i ≡ cause
-    said = asking.said PlainLess m bent_past i there shows same
-
-    pub enabled_answer : (answer : Result Turn StepRefused) → IfOk answer (λ turn. IsRefusal m.machine i None)
-        → OnOk answer (refusal shows.parts (run_at shows) i ≡ None)
-    enabled_answer = asking.enabled_answer PlainLess m bent_past i there shows same
-
-    pub refused_answer : (answer : Result Turn StepRefused) → IfErr answer (λ cause. IsRefusal m.machine i (Some cause))
-        → IfErr answer (λ cause. refusal shows.parts (run_at shows) i ≡ Some cause)
-    refused_answer = asking.refused_answer PlainLess m bent_past i there shows same
-
-    pub whether_enabled : (answer : Bool)
-        → ((l : CoreLayout) → IsMachineFor l m.machine
-        → IsTrue answer ↔ IsTrue (can_run l (core_of m.machine []) i (each Rest m.machine.standing i)))
-        → IsTrue answer ↔ (refusal shows.parts (run_at shows) i ≡ None)
-    whether_enabled = asking.whether_enabled PlainLess m bent_past i there shows same
 
 -- what comes after a row tells nothing
 released_journal : (m : CoreLayout) (s : Core) (i g n : ℕ) → (releases m s i g n).journal ≡ s.journal
@@ -221,7 +187,7 @@ module _ (parts : Parts) (h : Machine) (counts : List ℕ) (i : ℕ) (is : IsMac
 
   -- and the next call has begun, where it ended one
   pub has_stepped : (n : Machine) (now : List ℕ) → GoesOn parts i k counts n now (each Rest k.standing i)
-      → HasStepped parts i h counts n now entry
+      → HasStepped None parts i h counts n now entry
   has_stepped n now goes = record {
     alike = keeps parts i k counts n now (AreSameSize h) (each Rest k.standing i) goes (λ is before. then_all h k n before is.alike) ran.turned.alike;
     count = count_kept parts i k counts n now (each Rest k.standing i) goes;
@@ -230,14 +196,14 @@ module _ (parts : Parts) (h : Machine) (counts : List ℕ) (i : ℕ) (is : IsMac
         ∙ (λ j. let s : Core = between journal j in continued parts (record { core = s; begun = each 0 counts }) i (s.standing i));
   }
 
--- the moment has stepped
-module _ (m : Moment) (past : HasPast m) (i : ℕ) (entry : Option Entry) (free : refusal m.parts (run_at m) i ≡ None) (n : Machine) (now : List ℕ)
-    (is : HasStepped m.parts i m.machine m.begun n now entry) where
-  abbrev new : Moment
-  new = record { parts = m.parts; machine = n; begun = now }
+-- a step keeps what is true of the run, by each table
+module _ (m : Moment) (i : ℕ) (entry : Option Entry) (free : refusal m.parts (run_at m) i ≡ None) (n : Machine) (now : List ℕ) where
+  abbrev after_it : Moment
+  after_it = record { parts = m.parts; machine = n; begun = now; table = m.table }
 
-  sound_ran : (journal : List Entry) → IsSound (telling m journal) → IsSound (telling new (and_then journal entry))
-  sound_ran journal sound = record {
+  sound_ran : (table : Option Variant) → HasStepped table m.parts i m.machine m.begun n now entry
+      → (journal : List Entry) → IsSoundBy table (telling m journal) → IsSoundBy table (telling after_it (and_then journal entry))
+  sound_ran None is journal sound = record {
     scenario = sound.scenario;
     starts = sound.starts;
     stored =
@@ -247,30 +213,55 @@ module _ (m : Moment) (past : HasPast m) (i : ℕ) (entry : Option Entry) (free 
     run = subst (IsSoundRun m.parts) (sym (is.run journal))
         (is_stepped m.parts (run_of (telling m journal)) i sound.scenario sound.run (same_refusal m journal i ∙ free));
   }
+  sound_ran (Some v) is journal before = record {
+    scenario = before.scenario;
+    starts = before.starts;
+    stored =
+        still_stored (length m.parts.starts) m.parts.groups m.parts.roots (length m.parts.calls) m.machine n is.alike.semaphores before.stored;
+    machine = same_layout (layout m.parts) m.machine n is.alike before.machine;
+    begun = is.count ∙ before.begun;
+    run = subst (IsSoundRunOf (IsWellFormedCore (layout m.parts)) m.parts) (sym (is.run journal)) kept.0;
+    waiters = subst (λ (r : Run). WaitersRaisedIn v (counters_of (layout m.parts)) r.core.semaphores) (sym (is.run journal)) kept.1;
+  }
+    where
+      kept : IsSoundRunOf (IsWellFormedCore (layout m.parts)) m.parts (bent_stepped v m.parts (run_of (telling m journal)) i)
+          × WaitersRaisedIn v (counters_of (layout m.parts)) (bent_stepped v m.parts (run_of (telling m journal)) i).core.semaphores
+      kept =
+          bent_kept v m.parts (run_of (telling m journal)) i before.scenario before.run before.waiters (same_refusal m journal i ∙ free)
 
-  pub past_ran : HasPast new
-  past_ran = (and_then past.0 entry, sound_ran past.0 past.1)
+-- the moment has stepped
+module _ (m : Moment) (past : HasPast m) (i : ℕ) (entry : Option Entry) (free : refusal m.parts (run_at m) i ≡ None) (n : Machine) (now : List ℕ)
+    (is : HasStepped m.table m.parts i m.machine m.begun n now entry) where
+  pub past_ran : HasPast (after_it m i entry free n now)
+  past_ran = (and_then past.0 entry, sound_ran m i entry free n now m.table is past.0 past.1)
 
-  pub steps_ran : (shows : Moment) → m ≡ shows → Steps shows i new entry
+  pub steps_ran : (shows : Moment) → m ≡ shows → Steps shows i (after_it m i entry free n now) entry
   steps_ran shows same =
-      subst (λ (z : Moment). Steps z i new entry) same
-      (record { steps = λ journal. record { parts = refl; run = is.run journal }; sound = sound_ran })
+      subst (λ (z : Moment). Steps z i (after_it m i entry free n now) entry) same
+      (record {
+        table = refl;
+        steps = λ journal. record { parts = refl; run = is.run journal };
+        sound = sound_ran m i entry free n now m.table is;
+      })
 
--- the machine has run the row of a seat that can, and gone on: so the moment has stepped
-module _ (m : Moment) (past : HasPast m) (i : ℕ) (there : i < length m.parts.calls) (was : Machine) (at : was ≡ m.machine)
-    (can : IsRefusal was i None) (k : Machine) (entry : Option Entry) (ran : HasRunRow i was k entry)
+-- the machine has run the row of a seat that can, and gone on: so the moment has stepped by the step table
+module _ (m : Moment) (past : HasPast m) (table : m.table ≡ None) (i : ℕ) (there : i < length m.parts.calls) (was : Machine)
+    (at : was ≡ m.machine) (can : IsRefusal was i None) (k : Machine) (entry : Option Entry) (ran : HasRunRow i was k entry)
     (between : Machine) (same : between ≡ k) (n : Machine) (now : List ℕ)
     (goes : GoesOn m.parts i between m.begun n now (each Rest between.standing i)) where
   free_at_once : refusal m.parts (run_at m) i ≡ None
   free_at_once = said m past i there m refl None (subst (λ (z : Machine). IsRefusal z i None) at can)
 
-  stepped_at_once : HasStepped m.parts i m.machine m.begun n now entry
+  stepped_at_once : HasStepped m.table m.parts i m.machine m.begun n now entry
   stepped_at_once =
-      has_stepped m.parts m.machine m.begun i past.1.machine k entry (subst (λ (z : Machine). HasRunRow i z k entry) at ran) n now
-      (subst (λ (z : Machine). GoesOn m.parts i z m.begun n now (each Rest z.standing i)) same goes)
+      subst (λ t. HasStepped t m.parts i m.machine m.begun n now entry) (sym table)
+      (has_stepped m.parts m.machine m.begun i (well_formed_by m.table (telling m past.0) past.1).machine k entry
+      (subst (λ (z : Machine). HasRunRow i z k entry) at ran) n now
+      (subst (λ (z : Machine). GoesOn m.parts i z m.begun n now (each Rest z.standing i)) same goes))
 
-  pub past_at_once : HasPast (record { parts = m.parts; machine = n; begun = now })
+  pub past_at_once : HasPast (record { parts = m.parts; machine = n; begun = now; table = m.table })
   past_at_once = past_ran m past i entry free_at_once n now stepped_at_once
 
-  pub steps_at_once : (shows : Moment) → m ≡ shows → Steps shows i (record { parts = m.parts; machine = n; begun = now }) entry
+  pub steps_at_once : (shows : Moment) → m ≡ shows
+      → Steps shows i (record { parts = m.parts; machine = n; begun = now; table = m.table }) entry
   steps_at_once = steps_ran m past i entry free_at_once n now stepped_at_once

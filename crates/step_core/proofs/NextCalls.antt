@@ -5,15 +5,20 @@ use Rattle.step_table.specs.declared.call.Call.{Call}
 use Rattle.step_table.specs.declared.call.Call.TheVariants.{Acquire, Release, ReleaseMany, Add, Wait, One, All as NotifyAll, GroupAdd, GroupWait}
 use Rattle.step_table.specs.declared.parts.Parts.{Parts}
 use Rattle.step_rows.specs.Stored.{IsStoredFor, IsSameSize, each}
-use Rattle.step_table.specs.Core.{Core, first_core}
+use Rattle.step_table.specs.Core.{Core, first_core, counters_of}
 use Rattle.step_table.specs.CoreSteps.{calls}
 use Rattle.step_table.specs.Scenario.{IsCallOn}
 use Rattle.step_table.specs.Run.{Run, layout, call_of, begun, all_begun}
 use Rattle.core_law.specs.RunInvariant.{IsSoundRun, IsScenario, calls_of}
-use Rattle.step_core.specs.State.{Machine, State, IsMachineFor, Becomes, HasBegun, MayBegin, IsSound, IsStarted, core_of, run_with, telling}
+use Rattle.alike_law.specs.declared.variant.Variant.{Variant}
+use Rattle.alike_law.specs.BentInvariant.{WaitersRaisedIn}
+use Rattle.alike_law.proofs.BentWaiters.{raised_first}
+use Rattle.step_core.specs.State.{Machine, State, IsMachineFor, Becomes, HasBegun, MayBegin, IsSound, IsStarted, core_of, run_with}
+use Rattle.step_core.specs.WellFormed.{IsSoundBy}
 use Rattle.step_table.proofs.Sums.{put_else}
 use Rattle.step_rows.proofs.Storing.{each_set, get_here, copies}
 use Rattle.step_core.proofs.Changing.{same_layout}
+use Rattle.step_core.proofs.Ranges.{well_formed_state}
 use Rattle.core_law.proofs.RunSound.{is_started}
 
 -- to begin a call tells nothing
@@ -155,7 +160,7 @@ module _ (parts : Parts) where
   -- the start is sound
   module _ (h : Machine) (counts : List ℕ) (all : HaveBegun parts (length parts.calls) h counts) where
     abbrev first : State
-    first = telling (record { parts = parts; machine = h; begun = counts }) []
+    first = record { parts = parts; machine = h; begun = counts; journal = [] }
 
     pub is_start : IsStarted parts first
     is_start = record { parts = refl; run = all.run }
@@ -168,4 +173,18 @@ module _ (parts : Parts) where
       machine = all.machine;
       begun = all.count;
       run = subst (IsSoundRun parts) (sym all.run) (is_started parts scenario);
+    }
+
+    -- and it is what each table starts from
+    pub start_by : (table : Option Variant) → IsScenario parts → ((c : ℕ) → each 0 parts.starts c < 2 ^ 32) → IsSoundBy table first
+    start_by None scenario starts = start_sound scenario starts
+    start_by (Some v) scenario starts = record {
+      scenario = scenario;
+      starts = starts;
+      stored = all.stored;
+      machine = all.machine;
+      begun = all.count;
+      run = (well_formed_state first (start_sound scenario starts)).run;
+      waiters =
+          subst (λ (r : Run). WaitersRaisedIn v (counters_of (layout parts)) r.core.semaphores) (sym all.run) (raised_first v parts);
     }

@@ -1,6 +1,6 @@
 -- What the rows of the whole machine ask for holds in each sound state: no sum wraps, each word and list is stored, and what
 -- a seat's call is on is there.
-use Rattle.std.proofs.Common.{◌≡◌, ℕ, ◌+◌, ◌^◌, ◌<◌, ◌≤◌, List, [], ◌∷◌, IfSome, length, slice_get, refl, sym, ap, ◌∙◌, subst, arith}
+use Rattle.std.proofs.Common.{◌≡◌, ℕ, ◌+◌, ◌^◌, ◌<◌, ◌≤◌, List, [], ◌∷◌, IfSome, Option, Some, None, length, slice_get, refl, sym, ap, ◌∙◌, subst, arith}
 use Rattle.waiters.specs.declared.wait.WaitId.{WaitId}
 use Rattle.step_rows.specs.declared.caller.Caller.{Caller}
 use Rattle.step_table.specs.declared.place.AcquireRow.TheVariants.{A7, P}
@@ -26,7 +26,7 @@ use Rattle.step_table.specs.Run.{layout}
 use Rattle.alike_law.specs.declared.variant.Variant.{Variant}
 use Rattle.alike_law.specs.declared.variant.Variant.TheVariants.{PlainLess}
 use Rattle.sema_law.specs.WellFormed.{IsWellFormedWorld}
-use Rattle.step_core.specs.BentStored.{IsWellFormed}
+use Rattle.step_core.specs.WellFormed.{IsWellFormed, IsSoundBy}
 use Rattle.step_core.specs.State.{State, IsSound, AsksFor, no_list, run_of}
 use Rattle.step_table.proofs.Sums.{total_rest, total_has}
 use Rattle.core_law.proofs.RunEarly.{begun_few, all_begun_few, handed_few}
@@ -223,3 +223,12 @@ well_formed_state m sound = record {
   };
   waiters = sound.run.core.semaphores.waiters;
 }
+
+-- a change of the table for which each run by this table is well formed: the plain comparison changes no count of waits
+abbrev pub change_in : Option Variant → Variant
+change_in None = PlainLess
+change_in (Some v) = v
+
+pub well_formed_by : (table : Option Variant) (m : State) → IsSoundBy table m → IsWellFormed (change_in table) m
+well_formed_by None m sound = well_formed_state m sound
+well_formed_by (Some v) m well_formed = well_formed

@@ -2,7 +2,8 @@
 use Rattle.std.proofs.Common.{◌≡◌, ℕ, zero, suc, ◌≤◌, List, [], ◌∷◌, ◌++◌, None, length, take, refl, sym, ap, ◌∙◌, subst, arith}
 use Rattle.step_table.specs.declared.parts.Parts.{Parts}
 use Rattle.step_table.specs.Run.{Run, start, stepped, refusal, after_all, reached, AllRunFrom, AllRun}
-use Rattle.step_core.specs.State.{State, run_of, IsStepped}
+use Rattle.step_core.specs.State.{State, run_of}
+use Rattle.step_core.specs.Stepping.{IsStepped}
 use Rattle.core_law.specs.RunInvariant.{IsScenario}
 use Rattle.core_law.specs.Misused.{AllFairFrom, IsUnmisused}
 use Rattle.core_law.specs.RunGrants.{EachStepGrantsLeast}

@@ -1,6 +1,7 @@
 pub mod State
+pub mod WellFormed
+pub mod Stepping
 pub mod Key
-pub mod BentStored
 pub mod KeyLaw
 pub mod ListKind
 pub mod Finding

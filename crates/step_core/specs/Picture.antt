@@ -9,9 +9,6 @@ use Rattle.step_table.specs.declared.parts.Parts.{Parts}
 use Rattle.step_table.specs.declared.word.Word.{Word}
 use Rattle.step_table.specs.declared.word.Word.TheVariants.{Counter, Lock, Waiters, Grant}
 use Rattle.step_table.specs.ListWorld.{ListSeat}
-use Rattle.alike_law.specs.declared.variant.Variant.{Variant}
-use Rattle.step_core.specs.BentStored.{HasBentPast}
-use Rattle.step_core.specs.State.{Moment}
 
 -- the counter is there: those of groups come after the others
 abbrev pub HasCounter : Parts → ℕ → Type 0
@@ -35,7 +32,3 @@ ticket_at place held = held
 
 abbrev pub ticket_of : ListSeat → Option Ticket
 ticket_of seat = ticket_at seat.place seat.ticket
-
--- by some table, the step table or a change of it, the run came to be
-abbrev pub HasSomePast : Moment → Type 0
-HasSomePast m = (v : Variant) × HasBentPast v m

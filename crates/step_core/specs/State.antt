@@ -27,7 +27,8 @@ use Rattle.step_table.specs.Core.{CoreLayout, Core, sema_entries, list_entries}
 use Rattle.step_table.specs.CoreSteps.{IsCoreEnd, core_turned}
 use Rattle.core_law.specs.CoreLaw.{IsCoreAtRest}
 use Rattle.core_law.specs.RunPromises.{IsLawfulRun}
-use Rattle.step_table.specs.Run.{Run, layout, call_of, begun, start, stepped, refusal_of}
+use Rattle.step_table.specs.Run.{Run, layout, call_of, begun, start, refusal_of}
+use Rattle.alike_law.specs.declared.variant.Variant.{Variant}
 use Rattle.core_law.specs.RunInvariant.{IsSoundRun, IsScenario}
 
 -- the semaphores, the lists, the words of the groups, and what each seat is doing
@@ -179,22 +180,14 @@ abbrev pub GoesOn : Parts → ℕ → Machine → List ℕ → Machine → List 
 GoesOn parts i h counts k now Rest = HasBegun parts i h counts k now
 GoesOn parts i h counts k now _ = (k ≡ h) × (now ≡ counts)
 
--- the seat has run its row, which told this, and has begun its next call where that ended one: with each journal, its run is
--- the one after a step of the seat
-pub record HasStepped (parts : Parts) (i : ℕ) (h : Machine) (counts : List ℕ) (k : Machine) (now : List ℕ)
-    (entry : Option Entry) : Type 0 where
-  pub alike : AreSameSize h k
-  pub count : length now ≡ length counts
-  pub run : (journal : List Entry)
-      → run_with k now (and_then journal entry) ≡ stepped parts (run_with h counts journal) i
-
--- all that a run has at one moment but its journal
+-- all that a run has at one moment but its journal, and the change of the step table by which it steps, if there is one
 pub record Moment : Type 0 where
   pub parts : Parts
   pub machine : Machine
   pub begun : List ℕ
+  pub table : Option Variant
 
--- the same with its journal
+-- how a run stands, with its journal
 pub record State : Type 0 where
   pub parts : Parts
   pub machine : Machine
@@ -228,7 +221,7 @@ abbrev pub TellsLeast : State → Type 0
 TellsLeast m =
     (l : ℕ) → EachGrantsLeast ((layout m.parts).firsts l) (length m.parts.calls) (list_entries l m.journal)
 
--- what is true of every run that is stored
+-- what is true of every run by the step table that is stored
 pub record IsSound (m : State) : Type 0 where
   pub scenario : IsScenario m.parts
   pub starts : (c : ℕ) → (layout m.parts).starts c < 2 ^ 32
@@ -237,27 +230,13 @@ pub record IsSound (m : State) : Type 0 where
   pub begun : length m.begun ≡ length m.parts.calls
   pub run : IsSoundRun m.parts (run_of m)
 
--- some journal tells how the moment came to be
-abbrev pub HasPast : Moment → Type 0
-HasPast m = (journal : List Entry) × IsSound (telling m journal)
-
 -- the run starts: these parts, and the run at its start
 pub record IsStarted (scenario : Parts) (m : State) : Type 0 where
   pub parts : m.parts ≡ scenario
   pub run : run_of m ≡ start scenario
-
--- the run steps: the same scenario, and the run after a step of the seat
-pub record IsStepped (m : State) (s : ℕ) (n : State) : Type 0 where
-  pub parts : n.parts ≡ m.parts
-  pub run : run_of n ≡ stepped m.parts (run_of m) s
 
 -- what the journal tells of a row of seat s
 abbrev pub entry_of : ℕ → Turn → Option Entry
 entry_of s (turn.OnCounter next ready) = sema.entry_of ready.outcome.effect
 entry_of s (turn.OnList l ready) = list_entry l s ready.outcome.effect
 entry_of s (turn.OnGroup g row) = None
-
--- the moment steps: with each journal behind it, it is that of the run after a step of the seat
-pub record Steps (m : Moment) (s : ℕ) (n : Moment) (entry : Option Entry) : Type 0 where
-  pub steps : (journal : List Entry) → IsStepped (telling m journal) s (telling n (and_then journal entry))
-  pub sound : (journal : List Entry) → IsSound (telling m journal) → IsSound (telling n (and_then journal entry))

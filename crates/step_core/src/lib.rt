@@ -6,8 +6,8 @@
 #![tactic(auto)]
 
 mod apart;
-mod bent_world;
 mod calling;
+mod following;
 mod found;
 mod group;
 mod laws;
@@ -22,7 +22,6 @@ mod words;
 mod world;
 
 pub use alike_law::{Variant, law_of_the_alike, law_of_the_bent, law_of_the_commuting};
-pub use bent_world::BentWorld;
 pub use core_law::{law_of_the_core, law_of_the_runs};
 pub use found::Found;
 pub use laws::law_of_the_keys;

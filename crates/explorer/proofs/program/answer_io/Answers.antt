@@ -17,7 +17,8 @@ returns-in-OfScenario-clause-whole g c = rw c.in-OfScenario.is c.command_io.ensu
 pub returns-in-OfScenario-clause-begun : goal.returns-in-OfScenario-clause-begun
 returns-in-OfScenario-clause-begun g c = λ e. rw c.in-OfScenario.is (c.command_io.ensures.begun e)
 
-pub returns-in_ok-judge_io-in-Judge-clause-whole : goal.returns-in_ok-judge_io-in-Judge-clause-whole
-returns-in_ok-judge_io-in-Judge-clause-whole g c =
-    let told = c.in_ok-judge_io-in-Judge.ensures.whole in
-    rw (c.in-Judge.is, c.alone-in-Judge.ensures.exit) (told.0, (told.1, c.alone-in-Judge.ensures.aside), told.2)
+pub returns-in-Judge-clause-whole : goal.returns-in-Judge-clause-whole
+returns-in-Judge-clause-whole g c = rw c.in-Judge.is c.judge_io.ensures.whole
+
+pub returns-in-Judge-clause-begun : goal.returns-in-Judge-clause-begun
+returns-in-Judge-clause-begun g c = λ e. rw c.in-Judge.is (c.judge_io.ensures.begun e)

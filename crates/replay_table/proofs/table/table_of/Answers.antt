@@ -2,8 +2,7 @@ use Rattle.std.proofs.Common.{◌≡◌, ℕ, ◌+◌, List, [], ◌∷◌, ◌+
 use Rattle.std.proofs.lemmas.List.{take_more}
 use Rattle.table_names.specs.declared.refusal.StepRefused.{StepRefused}
 use Rattle.replay_table.specs.declared.line.Line.{Line}
-use Rattle.replay_table.specs.declared.running.Running.{Running}
-use Rattle.replay_table.specs.Running.{moment_of}
+use Rattle.step_core.specs.State.{Moment}
 use Rattle.replay_table.specs.Lines.{past_of, Shows, TellsStep}
 use Rattle.replay_table.proofs.Telling.{TableSoFar, no_line, line_more, ends_here, stands_at}
 use Rattle.replay_table.proofs.table.table_of.Goals as goal
@@ -12,7 +11,8 @@ pub loop-at-init : goal.loop-at-init
 loop-at-init c =
     subst (λ (lines : List Line). TableSoFar c.args.change c.args.scenario.now c.args.schedule.now c.in_ok-start.start 0 c.in_ok-running.running
     c.in_ok-told.told.items lines) (sym c.new-lines.ensures.items)
-    (no_line c.args.change c.args.scenario.now c.args.schedule.now _ _ _ c.in_ok-running.ensures c.in_ok-start.ensures
+    (no_line c.args.change c.args.scenario.now c.args.schedule.now _ _ _ c.in_ok-running.ensures.start c.in_ok-running.ensures.table
+    c.in_ok-start.ensures
     (c.in_ok-told.ensures ∙ ap (λ (n : ℕ). replicate {A = ℕ} n 0) c.seats.ensures))
 
 pub returns-in-Err : goal.returns-in-Err
@@ -24,7 +24,7 @@ returns-in-Err c =
       lines = c.loop-at.invariant.each_line;
       ends = ends_here c.args.change c.args.scenario.now c.args.schedule.now _ _ _ _ _ _ c.loop-at.invariant c.loop-at-test.true
           c.index-schedule-at.is c.in-Err.cause told.1;
-      ends_at = subst (λ (r : Running). Shows (moment_of r) c.args.scenario.now
+      ends_at = subst (λ (r : Moment). Shows r c.args.scenario.now
           (past_of c.args.change c.args.scenario.now (take (length c.loop-at.lines.items) c.args.schedule.now)).run) (sym told.0)
           (stands_at c.args.change c.args.scenario.now c.args.schedule.now _ _ _ _ _ c.loop-at.invariant);
     }

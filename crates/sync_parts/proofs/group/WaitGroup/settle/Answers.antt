@@ -1,4 +1,4 @@
-use Rattle.std.proofs.Common.{ℤ, Bool, sym, ap, ◌∙◌, if◌then◌else◌}
+use Rattle.std.proofs.Common.{ℤ, Bool, sym, ap, ◌∙◌, if◌then◌else◌, rules}
 use Rattle.std.specs.Int.{w32}
 use Rattle.std.proofs.lemmas.Int.{to_z-of_z}
 use Rattle.step_table.specs.Group.{after_add}
@@ -24,6 +24,9 @@ returns-then-ne g c = λ s found left y.
     added_beside s c.args.token c.args.sema c.args.d found c.args.word left y
     (same ∙ c.in-Ok-true.ensures ∙ ap (λ (b : Bool). if b then Goes (G2 c.args.word) else Ends) c.in-Ok-true.field-0-test)
     c.load.new.token c.load.result c.load.ensures (is_other c.args.word c.load.result (sym c.ne.ensures ∙ c.if-ne.true))
+
+pub release_waits-sema-requires-clause-emptied : goal.release_waits-sema-requires-clause-emptied
+release_waits-sema-requires-clause-emptied g c = search rules
 
 pub returns : goal.returns
 returns g c = λ s found left y.

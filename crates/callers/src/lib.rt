@@ -1,0 +1,100 @@
+//! Calls of the running parts, made as they have to be.
+//!
+//! What a caller could do wrong and no type can refuse, a call asks in a `requires`: a seat of this very table, list or
+//! group, a counter that is there, 1 to 256 units, a lock that is held or isn't, releases enough. Here each of these is
+//! kept, and in `must-fail` each is broken once, and refused. That all seats come back to `close` is kept and broken in
+//! `table_crew`.
+//!
+//! The answers in `proofs` name the fact that carries each `requires`. The prover would find it, but where a call is
+//! broken it would search for long before it gave up.
+#![tactic(auto)]
+
+ghost use Rattle.std.specs.Prelude.{◌≡◌, ◌<◌, true, false, length};
+
+use notify_list::{Holding, ListSeat, NotifyList, Waited};
+use sema_table::{PostRefused, PostedMany, Seat, SemaTable, Tried};
+use std::sync::Wait;
+use sync_parts::{Cond, GroupSeat, Misuse, SemaLock, WaitGroup};
+use waiters::CounterId;
+
+/// Tries to take a unit of each table, with a seat of each.
+pub fn tries_both(
+    one: &SemaTable,
+    other: &SemaTable,
+    mine: &mut Seat,
+    theirs: &mut Seat,
+) -> (Tried, Tried)
+    requires seats { (mine.old.table ≡ one.now) × (theirs.old.table ≡ other.now) }
+    requires counters { (0 < length one.now.setting.starts) × (0 < length other.now.setting.starts) }
+{
+    let first = one.try_acquire(mine, CounterId::new(0));
+    let second = other.try_acquire(theirs, CounterId::new(0));
+    (first, second)
+}
+
+/// Adds as many units at once as may be added.
+pub fn adds_most(table: &SemaTable, seat: Seat) -> Result<PostedMany, (Seat, PostRefused)>
+    requires { (seat.table ≡ table.now) × (0 < length table.now.setting.starts) }
+{
+    table.post_many(seat, CounterId::new(0), 256)
+}
+
+/// Waits with a ticket of one list, and then notifies one who waits on the next.
+pub fn passes_on<R: Wait>(
+    rt: &R,
+    list: &NotifyList,
+    next: &NotifyList,
+    holding: Holding,
+    notifier: &mut ListSeat,
+) -> (ListSeat, Waited)
+    requires { (holding.list ≡ list.now) × (notifier.old.list ≡ next.now) }
+{
+    let waited = list.wait(rt, holding);
+    let _ = next.one(rt, notifier);
+    waited
+}
+
+/// Waits for a signal under the lock that is held, and then takes the other, too.
+pub fn waits_and_locks<R: Wait>(
+    rt: &R,
+    cond: &Cond,
+    seat: ListSeat,
+    held: &mut SemaLock<'_>,
+    free: &mut SemaLock<'_>,
+) -> (ListSeat, Waited)
+    requires seat { seat.list ≡ cond.now }
+    requires held { (held.old.held ≡ true) × (0 < held.old.seat.left) }
+    requires free { (free.old.held ≡ false) × (0 < free.old.seat.left) }
+{
+    let waited = cond.wait(rt, seat, held);
+    free.acquire(rt);
+    waited
+}
+
+/// The first lock meets another of its counter.
+pub fn meets_one(
+    first: &mut SemaLock<'_>,
+    second: &mut SemaLock<'_>,
+    third: &mut SemaLock<'_>,
+) -> bool
+    requires table { (second.old.seat.table ≡ first.old.seat.table) × (third.old.seat.table ≡ first.old.seat.table) }
+    requires counter { second.old.counter ≡ first.old.counter }
+{
+    first.meet(second);
+    first.held() && second.held() && third.held()
+}
+
+/// Adds one to a group, if the seat may yet release as many as could wait.
+pub fn adds_one<R: Wait>(
+    rt: &R,
+    group: &WaitGroup,
+    seat: GroupSeat,
+) -> (GroupSeat, Option<Result<u32, Misuse>>)
+    requires { seat.group ≡ group.now }
+{
+    if seat.left() < u64::from(u32::MAX) {
+        return (seat, None);
+    }
+    let (seat, woken) = group.add(rt, seat, 1);
+    (seat, Some(woken))
+}

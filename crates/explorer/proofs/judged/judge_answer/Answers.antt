@@ -1,7 +1,0 @@
-use Rattle.explorer.proofs.Judging.{refuses_well}
-use Rattle.explorer.proofs.judged.judge_answer.Goals as goal
-
-pub returns-in-Err : goal.returns-in-Err
-returns-in-Err c =
-    refuses_well c.args.input.now c.in-Err.fault c.refused.result c.in-Err.ensures.fault c.refused.ensures.memory
-    c.refused.ensures.text c.refused.ensures.exit

@@ -1,0 +1,81 @@
+//! The line that tells, while a search runs, how far it has come.
+
+use scenario_search::{Extent, Sink, StopWatch, Watch, write_all};
+use std::alloc::Global;
+use std::time::{Clock, Instant};
+
+/// How many milliseconds a search runs before anything is told of it.
+const FIRST: u64 = 1000;
+/// How many milliseconds a line stands at least.
+const BETWEEN: u64 = 100;
+
+/// Takes the time of a search, and tells how far it has come where that is asked for: on one line, which it keeps up to date
+/// and takes away at the end. What can't be told is left out.
+#[derive(Drop)]
+pub struct Ticker<'r, T, E> {
+    clock: &'r T,
+    alloc: Global,
+    err: E,
+    told: bool,
+    began: Option<Instant>,
+    /// From when on a line may be told.
+    next: u64,
+    /// A line stands there.
+    stands: bool,
+}
+
+impl<'r, T: Clock, E: Sink> Ticker<'r, T, E> {
+    /// The time begins with the search. Where `told` is false the line is left out.
+    pub fn new(clock: &'r T, alloc: Global, err: E, told: bool) -> Ticker<'r, T, E> {
+        Ticker {
+            clock,
+            alloc,
+            err,
+            told,
+            began: None,
+            next: FIRST,
+            stands: false,
+        }
+    }
+
+    /// How many milliseconds it is since the search began: now, where it hadn't.
+    fn elapsed(&mut self) -> u64 {
+        let Ok(now) = Instant::now(self.clock) else {
+            return 0;
+        };
+        let Some(began) = self.began else {
+            self.began = Some(now);
+            return 0;
+        };
+        let millis = now.duration_since(began).as_millis();
+        millis.min(u64::MAX as u128) as u64
+    }
+
+    /// Puts this in place of the line.
+    fn tell(&mut self, extent: Extent) {
+        let Extent { worlds, depth, .. } = extent;
+        if let Ok(line) = format!(in self.alloc; "\r\x1b[Kworlds {worlds}, depth {depth}") {
+            self.stands = write_all(&mut self.err, line.as_bytes()).is_ok();
+        }
+    }
+}
+
+impl<T: Clock, E: Sink> Watch for Ticker<'_, T, E> {
+    fn pass(&mut self, extent: Extent) {
+        let elapsed = self.elapsed();
+        if self.told && elapsed >= self.next {
+            self.next = elapsed.saturating_add(BETWEEN);
+            self.tell(extent);
+        }
+    }
+}
+
+impl<T: Clock, E: Sink> StopWatch for Ticker<'_, T, E> {
+    fn stop(&mut self) -> u64 {
+        if self.stands {
+            self.stands = false;
+            let _ = write_all(&mut self.err, b"\r\x1b[K");
+        }
+        self.elapsed()
+    }
+}

@@ -1,0 +1,144 @@
+//! What a search tells beyond what it found: its statistics and the table of the schedule that it found.
+
+use crate::asked::{ALL_SOUND, Told, ask, is_short, tells_over};
+use crate::explore_tests::TWO_EACH;
+use crate::reading::ONE_ACQUIRE;
+use std::alloc::Global;
+use std::process::Abort;
+use std::sync::Wait;
+use std::test::Fail;
+use std::thread::Threads;
+
+/// A scenario, words, what is told, what is told beside, and the status.
+type Row = (
+    &'static [u8],
+    &'static [&'static str],
+    &'static str,
+    &'static str,
+    u8,
+);
+
+/// Searches whose worlds were counted by hand: 625 within 16 steps, all but one of them within 15. Nobody takes the time.
+const COUNTED: [Row; 5] = [
+    (
+        TWO_EACH,
+        &["check", "--stats"],
+        "none\nworlds 625, deepest 16\n",
+        "worlds 625, depth 16, complete\nseconds 0.000, worlds a second 625000\n",
+        0,
+    ),
+    (
+        TWO_EACH,
+        &["check", "--stats", "--worlds", "624"],
+        "gave up\nworlds 624, complete up to depth 15\n",
+        "worlds 624, depth 15, cut at worlds\nseconds 0.000, worlds a second 624000\n",
+        3,
+    ),
+    (
+        TWO_EACH,
+        &["explore", "--depth", "15", "--stats"],
+        "none up to depth 15\n",
+        "worlds 624, depth 15, cut at depth\nseconds 0.000, worlds a second 624000\n",
+        0,
+    ),
+    (
+        TWO_EACH,
+        &["explore", "--stats", "--depth", "64"],
+        "none up to depth 64\n",
+        "worlds 625, depth 16, complete\nseconds 0.000, worlds a second 625000\n",
+        0,
+    ),
+    // one seat: a world for each of its steps but the last
+    (
+        ONE_ACQUIRE,
+        &["check", "--stats"],
+        "bad: stuck\nschedule: 0 0 0 0 0\n",
+        "worlds 5, depth 4, ended at a bad world\nseconds 0.000, worlds a second 5000\n",
+        1,
+    ),
+];
+
+#[test]
+fn statistics_are_told_beside(rt: HostRuntime) -> Result<(), Fail> {
+    for (input, words, out, err, status) in COUNTED {
+        let told = Told {
+            out: out.as_bytes(),
+            err: err.as_bytes(),
+            status,
+            whole: true,
+            helped: false,
+        };
+        tells_over(&rt, rt.alloc(), words, input, ALL_SOUND, told);
+    }
+    Ok(())
+}
+
+/// What goes to the output for these words, asked once more where memory was short.
+fn output(
+    rt: &(impl Abort + Threads + Wait + Sync),
+    alloc: Global,
+    words: &[&str],
+) -> (Vec<u8>, u8) {
+    let (out, _, status) = ask(rt, alloc, words, ONE_ACQUIRE, ALL_SOUND);
+    if !is_short(&out, status) {
+        return (out, status);
+    }
+    let (out, _, status) = ask(rt, alloc, words, ONE_ACQUIRE, ALL_SOUND);
+    (out, status)
+}
+
+/// Behind the answer to these words stands the table of the schedule that is found.
+fn draws(rt: &(impl Abort + Threads + Wait + Sync), alloc: Global, words: &[&str]) {
+    let (drawn, status) = output(rt, alloc, words);
+    let (table, _) = output(rt, alloc, &["replay", "--table", "--schedule", "0 0 0 0 0"]);
+    let answer = b"bad: stuck\nschedule: 0 0 0 0 0\n";
+    assert!(rt; status == 1 && drawn.strip_prefix(answer.as_slice()) == Some(table.as_slice()));
+}
+
+#[test]
+fn what_is_found_is_drawn(rt: HostRuntime) -> Result<(), Fail> {
+    draws(&rt, rt.alloc(), &["check", "--table"]);
+    draws(&rt, rt.alloc(), &["explore", "--table", "--depth", "9"]);
+    Ok(())
+}
+
+// a search that finds nothing has no table
+#[test]
+fn nothing_is_drawn_of_nothing(rt: HostRuntime) -> Result<(), Fail> {
+    let told = Told {
+        out: b"none\nworlds 625, deepest 16\n",
+        err: b"",
+        status: 0,
+        whole: true,
+        helped: false,
+    };
+    tells_over(
+        &rt,
+        rt.alloc(),
+        &["check", "--table"],
+        TWO_EACH,
+        ALL_SOUND,
+        told,
+    );
+    Ok(())
+}
+
+#[test]
+fn a_faulty_journal_is_shown(rt: HostRuntime) -> Result<(), Fail> {
+    let told = Told {
+        out: b"refused: line 2: form\n",
+        err: b"line 2: no line is spelled \"takee 0 1\" here: counter N and list F come first",
+        status: 2,
+        whole: true,
+        helped: true,
+    };
+    tells_over(
+        &rt,
+        rt.alloc(),
+        &["judge"],
+        b"counter 1\ntakee 0 1\n",
+        ALL_SOUND,
+        told,
+    );
+    Ok(())
+}

@@ -1,0 +1,18 @@
+-- What is said of a faulty line of a journal.
+use Rattle.std.specs.Prelude.{ℕ, ◌-◌, ◌∷◌, [], ◌++◌, List, codes}
+use Rattle.std.specs.Fmt.{decimal}
+use Rattle.scenario_text.specs.Pieces.{pieces, text_at}
+use Rattle.fault_help.specs.Explained.{shown}
+
+-- what is wrong with a line of which this is shown, and what was expected
+unfoldable pub form_text : List ℕ → List ℕ
+form_text line =
+    codes "no line is spelled \"" ++ line
+    ++ codes "\" here: counter N and list F come first, and then add C S, add C S many N, take C S, queue C S.T, queue C S.T lifo, leave C S.T S, ticket L S, grant L UPTO S, each of a counter or list that is declared; a line feed ends each line"
+
+abbrev pub help_about : ℕ → List ℕ → List ℕ
+help_about number line = codes "line " ++ (decimal number ++ (codes ": " ++ (form_text line ++ 10 ∷ [])))
+
+-- the line's number, the line as far as it can be printed, and what was expected there
+abbrev pub journal_help : List ℕ → ℕ → List ℕ
+journal_help text number = help_about number (shown (text_at (number - 1) (pieces text)))

@@ -1,0 +1,8 @@
+use Rattle.std.proofs.Common.{rules}
+use Rattle.sync_parts.proofs.cond.Cond.wait.Goals as goal
+
+pub returns-clause-waited : goal.returns-clause-waited
+returns-clause-waited g c = search rules
+
+pub lock-requires : goal.lock-requires
+lock-requires g c = search rules
