@@ -1,4 +1,6 @@
 //! Two threads put items into a queue of two places and two take them out: each item arrives, and once.
+//!
+//! The threads begin once all of them are made: a queue that nobody empties would keep those that put for ever.
 
 ghost use Rattle.std.specs.Prelude.{◌≡◌, ◌+◌, ◌<◌, All};
 ghost use Rattle.examples.specs.Moves.{all_parts};
@@ -9,15 +11,40 @@ use sema_table::Seat;
 use std::alloc::{AllocError, Global};
 use std::process::Abort;
 use std::sync::Wait;
+use std::sync::atomic::AtomicU64;
+use std::sync::atomic::Ordering::SeqCst;
 use std::test::Fail;
-use std::thread::{Threads, join};
+use std::thread;
+use std::thread::Threads;
+use waiters::NoMemory;
 
 const ITEMS: u32 = 500;
 
+/// Not all threads are made yet.
+const NOT_YET: u64 = 0;
+/// All threads are made.
+const BEGIN: u64 = 1;
+/// A thread couldn't be made, so none begins.
+const GIVE_UP: u64 = 2;
+
+/// Waits until it is told whether the threads begin.
+fn begins<R: Wait>(rt: &R, told: &AtomicU64) -> bool {
+    for _ in rt.forever() {
+        match told.load(SeqCst) {
+            NOT_YET => thread::yield_now(),
+            now => return now == BEGIN,
+        }
+    }
+    false
+}
+
 /// A worker puts so many items, from this one on.
-fn put_all<R: Wait>(rt: &R, queue: &BoundedQueue, worker: Worker, first: u32)
+fn put_all<R: Wait>(rt: &R, queue: &BoundedQueue, told: &AtomicU64, worker: Worker, first: u32)
     requires { IsOf queue.now worker }
 {
+    if !begins(rt, told) {
+        return;
+    }
     let mut worker = worker;
     for count in 0..ITEMS {
         if worker.left() == 0 {
@@ -28,11 +55,20 @@ fn put_all<R: Wait>(rt: &R, queue: &BoundedQueue, worker: Worker, first: u32)
 }
 
 /// A worker takes so many.
-fn take_all<R: Wait>(rt: &R, queue: &BoundedQueue, worker: Worker, into: Vec<u32>) -> Vec<u32>
+fn take_all<R: Wait>(
+    rt: &R,
+    queue: &BoundedQueue,
+    told: &AtomicU64,
+    worker: Worker,
+    into: Vec<u32>,
+) -> Vec<u32>
     requires { IsOf queue.now worker }
 {
-    let mut worker = worker;
     let mut into = into;
+    if !begins(rt, told) {
+        return into;
+    }
+    let mut worker = worker;
     for _ in 0..ITEMS {
         if worker.left() == 0 {
             break;
@@ -42,41 +78,6 @@ fn take_all<R: Wait>(rt: &R, queue: &BoundedQueue, worker: Worker, into: Vec<u32
         let _ = into.push(item);
     }
     into
-}
-
-fn two_put<R: Threads + Wait + Sync>(rt: &R, queue: &BoundedQueue, first: Worker, second: Worker)
-    requires { IsOf queue.now first × IsOf queue.now second }
-{
-    join(
-        rt,
-        move ||
-            requires { IsOf queue.now first }
-        { put_all(rt, queue, first, 0) },
-        move ||
-            requires { IsOf queue.now second }
-        { put_all(rt, queue, second, ITEMS) },
-    );
-}
-
-fn two_take<R: Threads + Wait + Sync>(
-    rt: &R,
-    queue: &BoundedQueue,
-    first: Worker,
-    second: Worker,
-    into: (Vec<u32>, Vec<u32>),
-) -> (Vec<u32>, Vec<u32>)
-    requires { IsOf queue.now first × IsOf queue.now second }
-{
-    let (one, other) = into;
-    join(
-        rt,
-        move ||
-            requires { IsOf queue.now first }
-        { take_all(rt, queue, first, one) },
-        move ||
-            requires { IsOf queue.now second }
-        { take_all(rt, queue, second, other) },
-    )
 }
 
 /// A worker at the last seat.
@@ -91,13 +92,14 @@ fn enters(rt: &impl Abort, queue: &BoundedQueue, tally: &mut Tally, seats: &mut 
     queue.enter(tally, seat)
 }
 
+/// Two workers put all items, and what two others took comes back.
 fn move_all<R: Abort + Threads + Wait + Sync>(
     rt: &R,
     queue: &BoundedQueue,
     tally: &mut Tally,
     seats: Vec<Seat>,
     into: (Vec<u32>, Vec<u32>),
-) -> (Vec<u32>, Vec<u32>)
+) -> Result<(Vec<u32>, Vec<u32>), NoMemory>
     requires own { All (λ s. s.table ≡ queue.now.table) seats.items }
     requires tally { (tally.old.ring ≡ queue.now.ring) × (tally.old.moves.parts ≡ all_parts) }
 {
@@ -106,16 +108,37 @@ fn move_all<R: Abort + Threads + Wait + Sync>(
     let second = enters(rt, queue, tally, &mut seats);
     let third = enters(rt, queue, tally, &mut seats);
     let fourth = enters(rt, queue, tally, &mut seats);
-    join(
+    let told = AtomicU64::new(NOT_YET);
+    let told = &told;
+    let (one, other) = into;
+    thread::scope(
+        thread::scope_env(),
         rt,
-        move ||
-            requires { IsOf queue.now first × IsOf queue.now second }
-        { two_put(rt, queue, first, second) },
-        move ||
-            requires { IsOf queue.now third × IsOf queue.now fourth }
-        { two_take(rt, queue, third, fourth, into) },
+        move |scope| -> Result<(Vec<u32>, Vec<u32>), NoMemory>
+            requires puts { IsOf queue.now first × IsOf queue.now second }
+            requires takes { IsOf queue.now third × IsOf queue.now fourth }
+        {
+            let putting = scope
+                .spawn(move || put_all(rt, queue, told, first, 0))
+                .is_ok()
+                && scope
+                    .spawn(move || put_all(rt, queue, told, second, ITEMS))
+                    .is_ok();
+            let taking = scope.spawn(move || take_all(rt, queue, told, third, one));
+            let Ok(taking) = taking else {
+                told.store(GIVE_UP, SeqCst);
+                return Err(NoMemory);
+            };
+            told.store(if putting { BEGIN } else { GIVE_UP }, SeqCst);
+            let other = take_all(rt, queue, told, fourth, other);
+            let one = taking.join(rt);
+            if putting {
+                Ok((one, other))
+            } else {
+                Err(NoMemory)
+            }
+        },
     )
-    .1
 }
 
 /// Each item was seen for the first time.
@@ -134,7 +157,7 @@ fn each_item_arrives_once(rt: HostRuntime) -> Result<(), Fail> {
         Vec::with_capacity(rt.alloc(), ITEMS as usize)?,
         Vec::with_capacity(rt.alloc(), ITEMS as usize)?,
     );
-    let (one, other) = move_all(&rt, &queue, &mut tally, seats, into);
+    let (one, other) = move_all(&rt, &queue, &mut tally, seats, into)?;
     let mut seen = [false; 1_000];
     marks(&rt, &mut seen, one.as_slice());
     marks(&rt, &mut seen, other.as_slice());
