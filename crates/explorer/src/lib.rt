@@ -30,8 +30,8 @@ pub use program_words::{Asked, MAX_ROUNDS, MAX_WORKERS, no_file, no_words, read_
 pub use scenario_search::{
     Bounds, Cause, Command, Exit, Extent, Extras, Flagged, Found, FoundInAll, IoFault, Kind,
     MAX_DEPTH, MAX_TEXT, NO_MEMORY, Property, ReadFault, Request, Searched, Sink, Source,
-    StopWatch, Told, Watch, check, command_io, explore, explore_by, explore_variant, read_scenario,
-    verdict,
+    StopWatch, Team, Told, Watch, check, command_io, explore, explore_by, explore_variant,
+    read_scenario, verdict,
 };
 pub use sema_table::Closed;
 pub use threads::{ThreadsRefused, run_threads};

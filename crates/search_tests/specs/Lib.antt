@@ -1,3 +1,4 @@
+pub mod Dials
 pub mod Lights
 pub mod Relay
 pub mod Stairs

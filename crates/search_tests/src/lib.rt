@@ -11,3 +11,5 @@ mod light_tests;
 mod relay_tests;
 #[cfg(test)]
 mod stair_tests;
+#[cfg(test)]
+mod team_tests;
