@@ -8,7 +8,7 @@ use crate::reading::ONE_ACQUIRE;
 type Row = (&'static [u8], &'static [&'static str], &'static str, u8);
 
 /// What is found in all schedules, or among so many worlds.
-const FOUND: [Row; 9] = [
+const FOUND: [Row; 10] = [
     (
         ONE_ACQUIRE,
         &["check"],
@@ -18,6 +18,12 @@ const FOUND: [Row; 9] = [
     (MET, &["check"], "none\nworlds 42, deepest 14\n", 0),
     // five places for each of four seats, each of which makes four steps
     (TWO_EACH, &["check"], "none\nworlds 625, deepest 16\n", 0),
+    (
+        TWO_EACH,
+        &["check", "--threads", "3"],
+        "none\nworlds 625, deepest 16\n",
+        0,
+    ),
     (
         TWO_EACH,
         &["check", "--worlds", "625"],

@@ -100,7 +100,7 @@ fn help_goes_to_the_output(rt: HostRuntime) {
 }
 
 /// Words that ask for no command, and how what is told of them begins.
-const MISTAKES: [(&[&str], &str); 22] = [
+const MISTAKES: [(&[&str], &str); 24] = [
     (
         &[],
         "error: 'parklot' requires a subcommand but one was not provided\n",
@@ -158,6 +158,14 @@ const MISTAKES: [(&[&str], &str); 22] = [
     (
         &["check", "--worlds", "0"],
         "error: invalid value '0' for '--worlds <N>': 0 is not in 1..=1000000000\n",
+    ),
+    (
+        &["check", "--threads", "0"],
+        "error: invalid value '0' for '--threads <K>': 0 is not in 1..=64\n",
+    ),
+    (
+        &["explore", "--depth", "4", "--threads", "65"],
+        "error: invalid value '65' for '--threads <K>': 65 is not in 1..=64\n",
     ),
     (
         &["threads"],

@@ -19,8 +19,8 @@ pub record AreWithin (workers rounds : ℕ) : Type 0 where
 
 -- the numbers are within the limits of their command
 abbrev pub IsWithinLimits : Asked → Type 0
-IsWithinLimits (OfScenario (Explore bounds table extras) file) = (bounds.depth ≤ 64) × IsFromOne 1000000000 bounds.worlds
-IsWithinLimits (OfScenario (Check worlds extras) file) = IsFromOne 1000000000 worlds
+IsWithinLimits (OfScenario (Explore bounds table extras) file threads) = (bounds.depth ≤ 64) × IsFromOne 1000000000 bounds.worlds
+IsWithinLimits (OfScenario (Check worlds extras) file threads) = IsFromOne 1000000000 worlds
 IsWithinLimits (Threads workers rounds) = AreWithin workers rounds
 IsWithinLimits _ = Unit {0}
 
@@ -38,16 +38,17 @@ IsWithoutFile name _ = ⊥
 
 -- the name of the file that is read in place of standard input
 abbrev pub file_of : Asked → Option (List ℕ)
-file_of (OfScenario command file) = option_map (λ name. name.now) file
+file_of (OfScenario command file threads) = option_map (λ name. name.now) file
 file_of (Judge file) = option_map (λ name. name.now) file
 file_of _ = None
 
 -- the schedule is the word `-`: it stands in an answer on standard input
 abbrev pub AwaitsSchedule : Asked → Type 0
-AwaitsSchedule (OfScenario (Replay spelled table drawn) file) = spelled.now ≡ codes "-"
+AwaitsSchedule (OfScenario (Replay spelled table drawn) file threads) = spelled.now ≡ codes "-"
 AwaitsSchedule _ = ⊥
 
 -- the same with another schedule, where one is asked for
 abbrev pub with_schedule : Asked → Bor (List ℕ) → Asked
-with_schedule (OfScenario (Replay spelled table drawn) file) schedule = OfScenario (Replay schedule table drawn) file
+with_schedule (OfScenario (Replay spelled table drawn) file threads) schedule =
+    OfScenario (Replay schedule table drawn) file threads
 with_schedule asked schedule = asked

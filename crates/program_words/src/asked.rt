@@ -9,16 +9,19 @@ pub const MAX_WORLDS: u32 = 1_000_000_000;
 pub const MAX_WORKERS: u32 = 64;
 /// The most rounds of each.
 pub const MAX_ROUNDS: u32 = 1_000_000;
+/// The most threads that share a search.
+pub const MAX_THREADS: u16 = 64;
 
 /// What the program's words ask for.
 #[derive(Debug, Drop)]
 pub enum Asked<'w> {
     /// The command `once`.
     Once,
-    /// A command that reads the text of a scenario, in this file or on standard input.
+    /// A command that reads the text of a scenario, in this file or on standard input. So many threads share its search.
     OfScenario {
         command: Command<'w>,
         file: Option<&'w str>,
+        threads: u16,
     },
     /// The command `judge` of the journal in this file or on standard input.
     Judge {
@@ -83,6 +86,7 @@ impl<'w> Asked<'w> {
             Asked::OfScenario {
                 command: Command::Replay { table, drawn, .. },
                 file,
+                threads,
             } => Asked::OfScenario {
                 command: Command::Replay {
                     schedule,
@@ -90,6 +94,7 @@ impl<'w> Asked<'w> {
                     drawn,
                 },
                 file,
+                threads,
             },
             _ => self,
         }

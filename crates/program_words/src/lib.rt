@@ -8,5 +8,5 @@ mod asked;
 mod format;
 mod words;
 
-pub use asked::{Asked, MAX_ROUNDS, MAX_WORKERS, MAX_WORLDS};
+pub use asked::{Asked, MAX_ROUNDS, MAX_THREADS, MAX_WORKERS, MAX_WORLDS};
 pub use words::{no_file, no_words, read_words};
