@@ -22,7 +22,7 @@ use Rattle.sync_parts.specs.GroupSeats.{group_seat_of}
 use Rattle.sync_parts.specs.GroupCalls.{Walks, HasReleased, waits_at_zero, IsAdded}
 use Rattle.sync_parts.proofs.GroupWaiting.{walks_more, walks_first}
 
--- a release keeps the seat's table, and takes one off what is left
+-- a release keeps the seat's table and number, and takes one off what is left
 released_table : (s t : SeatModel) (wake : Wake) → IsReleased s 0 false t wake → t.table ≡ s.table
 released_table s t wake (inl x) = ap (λ (q : SeatModel). q.table) x.0.0
 released_table s t wake (inr x) = ap (λ (q : SeatModel). q.table) x.2.2 ∙ ap (λ (q : SeatModel). q.table) x.1.0
@@ -30,6 +30,14 @@ released_table s t wake (inr x) = ap (λ (q : SeatModel). q.table) x.2.2 ∙ ap 
 released_left : (s t : SeatModel) (wake : Wake) → IsReleased s 0 false t wake → t.left ≡ s.left - 1
 released_left s t wake (inl x) = ap (λ (q : SeatModel). q.left) x.0.0
 released_left s t wake (inr x) = ap (λ (q : SeatModel). q.left) x.2.2 ∙ ap (λ (q : SeatModel). q.left) x.1.0
+
+released_number : (s t : SeatModel) (wake : Wake) → IsReleased s 0 false t wake → t.number ≡ s.number
+released_number s t wake (inl x) = ap (λ (q : SeatModel). q.number) x.0.0
+released_number s t wake (inr x) = ap (λ (q : SeatModel). q.number) x.2.2 ∙ ap (λ (q : SeatModel). q.number) x.1.0
+
+pub same_number : (n : ℕ) (s t : SeatModel) → HasReleased n s t → t.number ≡ s.number
+same_number zero s t x = ap (λ (q : SeatModel). q.number) x
+same_number (suc n) s t x = released_number x.0 t x.2.0 x.2.1 ∙ same_number n s x.0 x.1
 
 pub same_table : (n : ℕ) (s t : SeatModel) → HasReleased n s t → t.table ≡ s.table
 same_table zero s t x = ap (λ (q : SeatModel). q.table) x

@@ -51,7 +51,7 @@ at_low (x ∷ xs) zero a e = omega arith
 at_low (x ∷ xs) (suc i) a e = let h = at_low xs i a e in omega arith
 
 -- the row ran, and the word became x
-module _ (s : State ℕ GroupView) (r : IsKept s) (id : ℕ) (v : GroupView) (at : get_elem? s.views id ≡ some v) (row : GroupRow)
+module _ (seats : ℕ) (s : State ℕ GroupView) (r : IsKept seats s) (id : ℕ) (v : GroupView) (at : get_elem? s.views id ≡ some v) (row : GroupRow)
     (follows : Follows v.next row) where
   abbrev found : GroupWord
   found = word_in (slice_index s.words 0)
@@ -61,12 +61,17 @@ module _ (s : State ℕ GroupView) (r : IsKept s) (id : ℕ) (v : GroupView) (at
 
   mine : HasRun (r.history ++ here ∷ []) id (stepped row found v)
   mine = let h = r.views id v at in record {
+    number_is = h.number_is;
     own = steps_own id r.history here refl ∙ ap (λ (l : List GroupStep). l ++ step row found ∷ []) h.own;
     calls = calls_more _ v.next v.steps (step row found) h.calls follows;
   }
 
+  -- the row makes no seat
+  made_of : (u : GroupView) → stepped row found v ≡ u → ◌≡◌ {A = ℕ} v.made u.made
+  made_of u e = ap (λ (w : GroupView). w.made) e
+
   kept_after : (x : ℕ) → word_in x ≡ (group_row row found).0
-      → IsKept (record { words = set s.words 0 x; homes = s.homes; views = set s.views id (stepped row found v) })
+      → IsKept seats (record { words = set s.words 0 x; homes = s.homes; views = set s.views id (stepped row found v) })
   kept_after x becomes = record {
     history = r.history ++ here ∷ [];
     leads = subst (λ (w : GroupWord). Leads empty_word (r.history ++ here ∷ []) w)
@@ -76,21 +81,27 @@ module _ (s : State ℕ GroupView) (r : IsKept s) (id : ℕ) (v : GroupView) (at
         (λ (t : (j ≡ id) × (stepped row found v ≡ u)). subst (λ (k : ℕ × GroupView). HasRun (r.history ++ here ∷ []) k.0 k.1)
         (λ i. (sym t.0 i, t.1 i)) mine)
         (λ (t : (j ≢ id) × (get_elem? s.views j ≡ some u)). let h = r.views j u t.1 in
-        record { own = steps_else j r.history here (λ q. t.0 (sym q)) ∙ h.own; calls = h.calls })
+        record { number_is = h.number_is; own = steps_else j r.history here (λ q. t.0 (sym q)) ∙ h.own; calls = h.calls })
         (at_set s.views id j (stepped row found v) u e);
     others = λ j far. let l = length-set s.views id (stepped row found v) in let low = at_low s.views id v at in
         steps_else j r.history here (λ q. absurd (omega arith)) ∙ r.others j (omega arith);
+    maker = λ j u e some_made. let l = length-set s.views id (stepped row found v) in ⊎_elim
+        (λ (t : (j ≡ id) × (stepped row found v ≡ u)). let m = made_of u t.1 in let h = r.maker id v at (omega arith) in
+        (t.0 ∙ h.0, sym m ∙ h.1 ∙ sym l))
+        (λ (t : (j ≢ id) × (get_elem? s.views j ≡ some u)). let h = r.maker j u t.1 some_made in (h.0, h.1 ∙ sym l))
+        (at_set s.views id j (stepped row found v) u e);
+    fits = let l = length-set s.views id (stepped row found v) in let f = r.fits in omega arith;
     wide = let l = length-set s.words 0 x in let w = r.wide in omega arith;
   }
 
-pub allowed : (slots id : ℕ) (m : Me) (row : GroupRow) (f : ℕ → ℕ) (then_is : ℕ → Me → Type 0) → Follows m.0.next row
+pub allowed : (seats slots id : ℕ) (m : Me) (row : GroupRow) (f : ℕ → ℕ) (then_is : ℕ → Me → Type 0) → Follows m.0.next row
     → ((n : ℕ) → n < 18446744073709551616 → word_in (f n) ≡ (group_row row (word_in n)).0)
     → ((n : ℕ) → n < 18446744073709551616 → then_is n (stepped row (word_in n) m.0, m.1))
-    → Allows IsKept slots id m 0 f then_is
-allowed slots id m row f then_is follows becomes told s r sized at below = (
+    → Allows (IsKept seats) slots id m 0 f then_is
+allowed seats slots id m row f then_is follows becomes told s r sized at below = (
   stepped row (word_in (slice_index s.words 0)) m.0,
   keeps,
   tt,
-  kept_after s r id m.0 at row follows (f (slice_index s.words 0)) (becomes (slice_index s.words 0) below),
+  kept_after seats s r id m.0 at row follows (f (slice_index s.words 0)) (becomes (slice_index s.words 0) below),
   told (slice_index s.words 0) below,
 )

@@ -27,10 +27,10 @@ same_added d e d_fits e_fits same = sym (to_z-of_z w32 d d_fits)
     halves : (a b : ℕ) → a * 4294967296 ≡ b * 4294967296 → a ≡ b
     halves a b e = omega arith
 
-pub add_allowed : (slots id : ℕ) (m : Me) (d : ℤ) (more : ℕ) → FitsSigned w32 d → more ≡ high d → Follows m.0.next (G1 d)
-    → atomic.Allows IsKept slots id m 0 (λ n. (n + more) % 18446744073709551616) (adds (atomic.step slots 0 more 0 none) m)
-add_allowed slots id m d more fits is follows =
-    allowed slots id m (G1 d) (λ n. (n + more) % 18446744073709551616) (adds (atomic.step slots 0 more 0 none) m) follows
+pub add_allowed : (seats slots id : ℕ) (m : Me) (d : ℤ) (more : ℕ) → FitsSigned w32 d → more ≡ high d → Follows m.0.next (G1 d)
+    → atomic.Allows (IsKept seats) slots id m 0 (λ n. (n + more) % 18446744073709551616) (adds (atomic.step slots 0 more 0 none) m)
+add_allowed seats slots id m d more fits is follows =
+    allowed seats slots id m (G1 d) (λ n. (n + more) % 18446744073709551616) (adds (atomic.step slots 0 more 0 none) m) follows
     (λ n below. ap (λ (k : ℕ). word_in ((n + k) % 18446744073709551616)) is ∙ the_group_words.shown n (G1 d) below tt)
     (λ n below e e_fits same. ap (λ (x : ℤ). (stepped (G1 x) (word_in n) m.0, m.1)) (same_added d e fits e_fits (sym is ∙ same)))
 
@@ -47,17 +47,17 @@ load_keeps (Fails misuse) w = refl
 load_keeps Acquires w = refl
 load_keeps (Releases n) w = refl
 
-pub load_allowed : (slots id : ℕ) (m : Me) → Follows m.0.next (load_row m.0.next)
-    → atomic.Allows IsKept slots id m 0 (λ n. n) (loads (atomic.step slots 0 0 0 none) m)
-load_allowed slots id m follows =
-    allowed slots id m (load_row m.0.next) (λ n. n) (loads (atomic.step slots 0 0 0 none) m) follows
+pub load_allowed : (seats slots id : ℕ) (m : Me) → Follows m.0.next (load_row m.0.next)
+    → atomic.Allows (IsKept seats) slots id m 0 (λ n. n) (loads (atomic.step slots 0 0 0 none) m)
+load_allowed seats slots id m follows =
+    allowed seats slots id m (load_row m.0.next) (λ n. n) (loads (atomic.step slots 0 0 0 none) m) follows
     (λ n below. load_keeps m.0.next (word_in n)) (λ n below. refl)
 
-pub exchange_allowed : (slots id : ℕ) (m : Me) (seen : GroupWord) (old new : ℕ) → IsGroupWord seen → m.0.next ≡ Goes (V2 seen)
+pub exchange_allowed : (seats slots id : ℕ) (m : Me) (seen : GroupWord) (old new : ℕ) → IsGroupWord seen → m.0.next ≡ Goes (V2 seen)
     → old ≡ bits_of seen → new ≡ (old + 1) % 18446744073709551616
-    → atomic.Allows IsKept slots id m 0 (λ n. either (n == old) new n) (exchanges (atomic.step slots 0 old new none) m)
-exchange_allowed slots id m seen old new is at old_is new_is =
-    allowed slots id m (V2 carried) (λ n. either (n == old) new n) (exchanges (atomic.step slots 0 old new none) m)
+    → atomic.Allows (IsKept seats) slots id m 0 (λ n. either (n == old) new n) (exchanges (atomic.step slots 0 old new none) m)
+exchange_allowed seats slots id m seen old new is at old_is new_is =
+    allowed seats slots id m (V2 carried) (λ n. either (n == old) new n) (exchanges (atomic.step slots 0 old new none) m)
     (subst (λ (k : GroupNext). Follows k (V2 (word_carried k))) (sym at) refl)
     (λ n below. ap word_in (exchanged n old new (λ y. y ≡ bits_after (V2 carried) n) (won n) (lost n))
     ∙ the_group_words.shown n (V2 carried) below is_carried)
@@ -83,10 +83,10 @@ exchange_allowed slots id m seen old new is at old_is new_is =
     lost n ne = ap (λ (b : Bool). if b then (n + 1) % 18446744073709551616 else n)
         (sym (ne_eqb n (bits_of carried) (λ e. ne (e ∙ sym bits_are))))
 
-pub store_allowed : (slots id : ℕ) (m : Me) (seen : GroupWord) → m.0.next ≡ Goes (G3 seen)
-    → atomic.Allows IsKept slots id m 0 (λ _. 0) (λ _. stores (atomic.step slots 0 0 0 none) m 0)
-store_allowed slots id m seen at =
-    allowed slots id m (G3 (word_carried m.0.next)) (λ _. 0) (λ _. stores (atomic.step slots 0 0 0 none) m 0)
+pub store_allowed : (seats slots id : ℕ) (m : Me) (seen : GroupWord) → m.0.next ≡ Goes (G3 seen)
+    → atomic.Allows (IsKept seats) slots id m 0 (λ _. 0) (λ _. stores (atomic.step slots 0 0 0 none) m 0)
+store_allowed seats slots id m seen at =
+    allowed seats slots id m (G3 (word_carried m.0.next)) (λ _. 0) (λ _. stores (atomic.step slots 0 0 0 none) m 0)
     (subst (λ (k : GroupNext). Follows k (G3 (word_carried k))) (sym at) refl)
     (λ n below. refl)
     (λ n below zero. (word_in n, the_group_words.words n below, refl))

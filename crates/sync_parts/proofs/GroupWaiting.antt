@@ -60,6 +60,7 @@ free_adds (Releases n) d e = tt
 pub record LooksOn (s : Token) (first : GroupRow) (t : Token) : Type 0 where
   pub before : List GroupStep
   pub table_is : t.table_id ≡ s.table_id
+  pub number_is : t.me.0.number ≡ s.me.0.number
   pub steps_are : t.me.0.steps ≡ s.me.0.steps ++ before
   pub path : (number : ℕ) → Walks number first before (Goes V1)
   pub look : load_row t.me.0.next ≡ V1
@@ -90,6 +91,7 @@ module _ (s : Token) (first : GroupRow) (t u : Token) (x : LooksOn s first t) (w
   looks : (next : GroupNext) → (group_row V1 word).1 ≡ next → Walked s first (x.before ++ step V1 word ∷ []) next u
   looks next leads = record {
     table_is = looked.table_is ∙ x.table_is;
+    number_is = ap (λ (m : Me). m.0.number) looked.me_is ∙ x.number_is;
     steps_are = ap (λ (m : Me). m.0.steps) looked.me_is ∙ ap (λ (l : List GroupStep). l ++ step V1 word ∷ []) x.steps_are
         ∙ append_assoc s.me.0.steps x.before (step V1 word ∷ []);
     next_is = ap (λ (m : Me). m.0.next) looked.me_is ∙ leads;
@@ -109,6 +111,7 @@ module _ (s : Token) (first : GroupRow) (word : GroupWord) (t u : Token) (x : Is
   tried : (next : GroupNext) → (group_row (V2 word) found).1 ≡ next → Walked s first (x.0 ++ step (V2 word) found ∷ []) next u
   tried next leads = record {
     table_is = y.table_is ∙ x.1.table_is;
+    number_is = ap (λ (m : Me). m.0.number) y.me_is ∙ x.1.number_is;
     steps_are = ap (λ (m : Me). m.0.steps) y.me_is ∙ ap (λ (l : List GroupStep). l ++ step (V2 word) found ∷ []) x.1.steps_are
         ∙ append_assoc s.me.0.steps x.0 (step (V2 word) found ∷ []);
     next_is = ap (λ (m : Me). m.0.next) y.me_is ∙ leads;
@@ -126,6 +129,7 @@ module _ (s : Token) (first : GroupRow) (word : GroupWord) (t u : Token) (x : Is
   looks_again e = record {
     before = x.0 ++ step (V2 word) found ∷ [];
     table_is = (lost e).table_is;
+    number_is = (lost e).number_is;
     steps_are = (lost e).steps_are;
     path = (lost e).path;
     look = ap load_row (lost e).next_is;
@@ -137,6 +141,7 @@ module _ (s t : Token) (word : GroupWord) (some : word.counter ≢ pos 0) (y : S
       → Walked s V1 (step V1 word ∷ steps) next u
   begun steps next u x = record {
     table_is = x.table_is ∙ y.table_is;
+    number_is = x.number_is ∙ ap (λ (m : Me). m.0.number) y.me_is;
     steps_are = x.steps_are ∙ ap (λ (m : Me). m.0.steps ++ steps) y.me_is ∙ append_assoc s.me.0.steps (step V1 word ∷ []) steps;
     next_is = x.next_is;
     path = λ number. (
@@ -160,6 +165,7 @@ zero_at_once s free word zero t y = finds_zero s V1 s t
     record {
       before = [];
       table_is = refl;
+      number_is = refl;
       steps_are = sym (append-nil s.me.0.steps);
       path = λ number. refl;
       look = (free_look s.me.0.next free).0;
@@ -188,10 +194,14 @@ uncounted s t a x = record {
 pub zero_is : (z : ℤ) → FitsSigned w32 z → cast_unsigned w32 z ≡ 0 → z ≡ pos 0
 zero_is z fits e = sym (to_z-of_z w32 z fits) ∙ ap (cast_signed w32) e
 
--- an acquire keeps the seat's table
+-- an acquire keeps the seat's table and number
 same_table : (a b : SeatModel) → IsAcquired a 0 false b → b.table ≡ a.table
 same_table a b (inl x) = ap (λ (q : SeatModel). q.table) x.0
 same_table a b (inr x) = ap (λ (q : SeatModel). q.table) x.2.0 ∙ ap (λ (q : SeatModel). q.table) x.1.0
+
+pub acquired_number : (a b : SeatModel) → IsAcquired a 0 false b → b.number ≡ a.number
+acquired_number a b (inl x) = ap (λ (q : SeatModel). q.number) x.0
+acquired_number a b (inr x) = ap (λ (q : SeatModel). q.number) x.2.0 ∙ ap (λ (q : SeatModel). q.number) x.1.0
 
 -- a wait that was counted, acquired, and looked again
 module _ (s u v : Token) (a b : SeatModel) (counted : GetsCounted s V1 u) (acquired : IsAcquired a 0 false b) (word : GroupWord)

@@ -6,5 +6,6 @@ pub mod Meeting
 pub mod GroupKeeping
 pub mod GroupStepping
 pub mod GroupStarting
+pub mod GroupLaw
 pub mod GroupWaiting
 pub mod GroupAdding

@@ -24,7 +24,7 @@ step row found = record { row = row; found = found }
 
 -- the view after this row found this word
 abbrev pub stepped : GroupRow → GroupWord → GroupView → GroupView
-stepped row found v = record { next = (group_row row found).1; steps = v.steps ++ step row found ∷ [] }
+stepped row found v = record v { next = (group_row row found).1; steps = v.steps ++ step row found ∷ [] }
 
 -- the row that a load is, by what the last row led to
 abbrev pub load_row : GroupNext → GroupRow

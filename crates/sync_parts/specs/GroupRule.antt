@@ -1,6 +1,6 @@
 -- The rule of a state word: there is one history of rows, each of which found the word that those before it left, and each seat
--- has run its own of them, call after call.
-use Rattle.std.specs.Prelude.{◌≡◌, ℕ, ◌≤◌, ◌<◌, ◌==◌, if◌then◌else◌, List, [], ◌∷◌, length, slice_index}
+-- has run its own of them, call after call. Nobody but a seat runs any, and there are so many seats at most.
+use Rattle.std.specs.Prelude.{◌≡◌, ℕ, ◌+◌, ◌≤◌, ◌<◌, ◌==◌, if◌then◌else◌, List, [], ◌∷◌, length, slice_index}
 use mathlib.Core.Option.{some}
 use lib.ListN.{get_elem?}
 use Rattle.atomic_table.specs.Table.{State}
@@ -32,7 +32,7 @@ abbrev pub AreCalls : GroupNext → List GroupStep → GroupNext → Type 0
 AreCalls from [] to = to ≡ from
 AreCalls from (p ∷ steps) to = Follows from p.row × AreCalls (group_row p.row p.found).1 steps to
 
--- a row in the history, and its seat, by its place in the table
+-- a row in the history, and its seat, by its number
 pub record Moment : Type 0 where
   pub seat : ℕ
   pub step : GroupStep
@@ -47,26 +47,31 @@ abbrev pub steps_of : ℕ → List Moment → List GroupStep
 steps_of j [] = []
 steps_of j (m ∷ history) = if m.seat == j then m.step ∷ steps_of j history else steps_of j history
 
--- a seat that has run nothing
-abbrev pub new_view : GroupView
-new_view = record { next = Ends; steps = [] }
+-- a seat that has run nothing; the seat 0 makes the others, in order
+abbrev pub fresh : ℕ → ℕ → GroupView
+fresh number made = record { number = number; made = made; next = Ends; steps = [] }
 
--- the rows of the seat j are those of its view, which are of calls
+-- this is the view of the seat j. The seat's rows are those of the view, which are of calls
 pub record HasRun (history : List Moment) (j : ℕ) (v : GroupView) : Type 0 where
+  pub number_is : v.number ≡ j
   pub own : steps_of j history ≡ v.steps
   pub calls : AreCalls Ends v.steps v.next
 
--- the rule
-pub record IsKept (s : State ℕ GroupView) : Type 0 where
+-- the rule. Each token is a seat, whose number is its place in the table. Those that the seat 0 hasn't made yet have run nothing
+pub record IsKept (seats : ℕ) (s : State ℕ GroupView) : Type 0 where
   pub history : List Moment
   pub leads : Leads empty_word history (word_in (slice_index s.words 0))
   pub views : (j : ℕ) (v : GroupView) → get_elem? s.views j ≡ some v → HasRun history j v
   pub others : (j : ℕ) → length s.views ≤ j → steps_of j history ≡ []
+  pub maker : (j : ℕ) (v : GroupView) → get_elem? s.views j ≡ some v → 0 < v.made → (j ≡ 0) × (v.made ≡ length s.views)
+  pub fits : length s.views ≤ seats
   pub wide : 0 < length s.words
 
--- the seat stays as it is, and another has run nothing
-abbrev pub staying : GroupView → GroupView
-staying v = v
+abbrev pub first_view : GroupView
+first_view = fresh 0 1
 
-abbrev pub another : GroupView → GroupView
-another v = new_view
+abbrev pub making : GroupView → GroupView
+making v = record v { made = v.made + 1 }
+
+abbrev pub made_by : GroupView → GroupView
+made_by v = fresh v.made 0

@@ -8,6 +8,11 @@ use Rattle.sema_table.specs.Seats.{TableModel, SeatModel}
 use Rattle.sync_parts.specs.declared.group_view.GroupStep.{GroupStep}
 use Rattle.sync_parts.specs.GroupPlays.{Token}
 
+-- a state word: its table, and how many seats it has
+pub record WordModel : Type 0 where
+  pub id : TableId
+  pub seats : ℕ
+
 -- a wait group: the table of its state word, and that of its semaphore
 pub record GroupModel : Type 0 where
   pub word : TableId
@@ -32,6 +37,11 @@ abbrev pub is_free : GroupNext → Bool
 is_free (Goes row) = false
 is_free Acquires = false
 is_free _ = true
+
+-- what a seat keeps between two calls: none is under way, and it has one number on the state word and on the semaphore
+pub record IsGroupSeat (t : Token) (s : SeatModel) : Type 0 where
+  pub free : is_free t.me.0.next ≡ true
+  pub number : t.me.0.number ≡ s.number
 
 abbrev pub group_seat_of : Token → SeatModel → GroupSeatModel
 group_seat_of t s = record { group = record { word = t.table_id; sema = s.table }; sema = s; steps = t.me.0.steps }

@@ -2,6 +2,7 @@ pub mod Lock
 pub mod Locking
 pub mod Exclusion
 pub mod GroupRule
+pub mod GroupLaw
 pub mod GroupPlays
 pub mod GroupSeats
 pub mod GroupMaking

@@ -24,24 +24,24 @@ pub struct GroupSeat {
 }
 
 impl Model for WaitGroup {
+    ghost use Rattle.std.specs.Prelude.{◌≡◌};
     ghost use Rattle.sync_parts.specs.GroupSeats.{GroupModel, IsGroupSetting};
 
     ghost Value = { GroupModel };
 
-    ghost view = { λ g. record { word = g.word; sema = g.sema } };
+    ghost view = { λ g. record { word = g.word.id; sema = g.sema } };
 
-    ghost invariant = { λ g. IsGroupSetting g.sema.setting };
+    ghost invariant = { λ g. IsGroupSetting g.sema.setting × (g.word.seats ≡ g.sema.setting.seats) };
 }
 
 impl Model for GroupSeat {
-    ghost use Rattle.std.specs.Prelude.{◌≡◌, true};
-    ghost use Rattle.sync_parts.specs.GroupSeats.{GroupSeatModel, group_seat_of, is_free};
+    ghost use Rattle.sync_parts.specs.GroupSeats.{GroupSeatModel, group_seat_of, IsGroupSeat};
 
     ghost Value = { GroupSeatModel };
 
     ghost view = { λ s. group_seat_of s.token s.sema };
 
-    ghost invariant = { λ s. is_free s.token.me.0.next ≡ true };
+    ghost invariant = { λ s. IsGroupSeat s.token s.sema };
 }
 
 impl GroupSeat {

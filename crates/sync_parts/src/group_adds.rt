@@ -72,6 +72,7 @@ impl WaitGroup {
         word: GroupWord,
     ) -> (GroupSeat, Result<u32, Misuse>)
         requires own { (token.table_id ≡ self.now.word) × (sema.table ≡ self.now.sema) }
+        requires one { token.me.0.number ≡ sema.number }
         requires leads { token.me.0.next ≡ after_add d word }
         requires left { word.waits ≤ sema.left }
         ensures { Settles token sema d word result.0 result.1 }
@@ -90,6 +91,7 @@ impl WaitGroup {
         word: GroupWord,
     ) -> (GroupSeat, Result<u32, Misuse>)
         requires own { (token.table_id ≡ self.now.word) × (sema.table ≡ self.now.sema) }
+        requires one { token.me.0.number ≡ sema.number }
         requires leads { token.me.0.next ≡ after_add d word }
         requires left { word.waits ≤ sema.left }
         ensures { Settles token sema d word result.0 result.1 }

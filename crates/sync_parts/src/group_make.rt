@@ -1,6 +1,7 @@
 //! How a wait group is made.
-ghost use Rattle.std.specs.Prelude.{◌≡◌, [], All, IfOk, IfErr, map};
-ghost use Rattle.sync_parts.specs.GroupRule.{new_view};
+ghost use Rattle.std.specs.Prelude.{◌≡◌, ◌<◌, [], All, IfOk, IfErr, map};
+ghost use Rattle.std.specs.List.{range_with_len};
+ghost use Rattle.sync_parts.specs.GroupRule.{fresh, first_view, making};
 ghost use Rattle.sema_table.specs.Rule.{setting_of};
 ghost use Rattle.sema_table.specs.Making.{IsFromOne, most_seats};
 ghost use Rattle.sync_parts.specs.GroupSeats.{group_setting};
@@ -19,19 +20,22 @@ const MAX_SEATS: u32 = 256;
 const RELEASE_LIMIT: u64 = 1 << 40;
 
 impl StateWord {
-    /// A word that nobody is counted in, and its first seat.
-    fn new(alloc: Global) -> Result<(StateWord, StateToken), AllocError>
-        ensures { IfOk result (λ t. (t.1.table_id ≡ t.0) × (t.1.me ≡ (new_view, []))) }
+    /// A word that nobody is counted in, of so many seats, and its seat 0.
+    fn new(alloc: Global, seats: u32) -> Result<(StateWord, StateToken), AllocError>
+        requires { 0 < seats }
+        ensures word { IfOk result (λ t. (t.1.table_id ≡ t.0.id) × (t.0.seats ≡ seats)) }
+        ensures first { IfOk result (λ t. t.1.me ≡ (first_view, [])) }
     {
-        let (table, token) = Table::of_words(alloc, &[0], &())?;
+        let (table, token) = Table::of_words(alloc, &[0], &seats)?;
         Ok((StateWord { table }, token))
     }
 
-    /// One more seat of the word.
+    /// The next seat of the word, made by its seat 0 while not all are made.
     fn split(&self, first: &mut StateToken) -> StateToken
-        requires { first.old.table_id ≡ self.now }
-        ensures first { (first.new.table_id ≡ self.now) × (first.new.me ≡ first.old.me) }
-        ensures made { (result.table_id ≡ self.now) × (result.me ≡ (new_view, [])) }
+        requires own { first.old.table_id ≡ self.now.id }
+        requires makes { (0 < first.old.me.0.made) × (first.old.me.0.made < self.now.seats) }
+        ensures first { (first.new.table_id ≡ self.now.id) × (first.new.me ≡ (making first.old.me.0, first.old.me.1)) }
+        ensures made { (result.table_id ≡ self.now.id) × (result.me ≡ (fresh first.old.me.0.made 0, [])) }
     {
         self.table.shared.split_seat::<Makes>(first)
     }
@@ -52,25 +56,37 @@ fn settings(alloc: Global, seats: u32) -> Result<Settings, AllocError>
     })
 }
 
-/// Gives each seat of the semaphore one of the state word.
+/// Gives each seat of the semaphore that of the state word which has its number.
 fn seat_all(
     alloc: Global,
     word: &StateWord,
     first: StateToken,
     seats: Vec<Seat>,
 ) -> Result<Vec<GroupSeat>, AllocError>
-    requires { first.table_id ≡ word.now }
-    ensures { IfOk result (λ made. made.items ≡ map (seat_on word.now) seats.items) }
+    requires first { (first.table_id ≡ word.now.id) × (first.me ≡ (first_view, [])) }
+    requires numbers { map (λ s. s.number) seats.items ≡ range_with_len 0 word.now.seats }
+    ensures { IfOk result (λ made. made.items ≡ map (seat_on word.now.id) seats.items) }
 {
     let mut first = first;
     let mut rest = seats;
     // Taken off the end, so the first seat comes first.
     rest.reverse();
     let mut made = Vec::with_capacity(alloc, rest.len())?;
+    // The seat 0 makes the others, and goes before them in the end.
+    let Some(own) = rest.pop() else {
+        return Ok(made);
+    };
     while let Some(sema) = rest.pop() {
         let token = word.split(&mut first);
         made.push_reserved(GroupSeat { token, sema });
     }
+    let seat = GroupSeat {
+        token: first,
+        sema: own,
+    };
+    let Ok(()) = made.insert(0, seat) else {
+        return Err(AllocError);
+    };
     Ok(made)
 }
 
@@ -80,11 +96,11 @@ fn make(alloc: Global, seats: u32) -> Result<(WaitGroup, Vec<GroupSeat>), AllocE
     ensures { IfOk result (λ t. IsGroupMade seats t.0 t.1.items) }
 {
     let settings = settings(alloc, seats)?;
-    let Ok((sema, seats)) = SemaTable::new(alloc, settings) else {
+    let Ok((sema, sema_seats)) = SemaTable::new(alloc, settings) else {
         return Err(AllocError);
     };
-    let (word, first) = StateWord::new(alloc)?;
-    let made = seat_all(alloc, &word, first, seats)?;
+    let (word, first) = StateWord::new(alloc, seats)?;
+    let made = seat_all(alloc, &word, first, sema_seats)?;
     Ok((WaitGroup { word, sema }, made))
 }
 

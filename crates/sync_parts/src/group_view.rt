@@ -9,6 +9,9 @@ pub struct GroupStep {
 
 /// The view of a seat. No value of it is made.
 pub struct GroupView {
+    pub number: u64,
+    /// Of the seat that makes the others, how many were made; of another 0.
+    pub made: u64,
     /// What its last row led to.
     pub next: GroupNext,
     /// All rows that it ran.

@@ -23,7 +23,7 @@ const EMPTY: GroupWord = GroupWord {
 impl StateWord {
     /// V2 for the word that V1 found, and V1 again where V2 is lost, until one of them settles it: whether the wait is counted.
     fn count_unless_zero<R: Wait>(&self, rt: &R, token: &mut StateToken, word: GroupWord) -> bool
-        requires own { token.old.table_id ≡ self.now }
+        requires own { token.old.table_id ≡ self.now.id }
         requires looked { (token.old.me.0.next ≡ Goes (V2 word)) × IsGroupWord word }
         ensures { MatchBool result
             (GetsCounted token.old (V2 word) token.new)
@@ -73,6 +73,7 @@ impl WaitGroup {
         word: GroupWord,
     ) -> (GroupSeat, Result<(), Misuse>)
         requires own { (token.table_id ≡ self.now.word) × (sema.table ≡ self.now.sema) }
+        requires one { token.me.0.number ≡ sema.number }
         requires looked { (token.me.0.next ≡ Goes (V2 word)) × IsGroupWord word }
         ensures { Waits token sema word result.0 result.1 }
     {
@@ -89,6 +90,7 @@ impl WaitGroup {
         word: GroupWord,
     ) -> (GroupSeat, Result<(), Misuse>)
         requires own { (token.table_id ≡ self.now.word) × (sema.table ≡ self.now.sema) }
+        requires one { token.me.0.number ≡ sema.number }
         requires looked { (token.me.0.next ≡ Goes (V2 word)) × IsGroupWord word }
         ensures { Waits token sema word result.0 result.1 }
     {

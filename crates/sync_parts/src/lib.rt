@@ -21,7 +21,7 @@
 //! a semaphore of the group's own, and the add that leads to 0 releases each of them. Each atomic step on the word is one row of the
 //! step table, in every schedule, and the contract of a call is the rows that it ran, each with the word that it found, and what it
 //! did on the semaphore: a wait that was counted one acquire, an add that leads to 0 one release for each wait, and any other call
-//! nothing.
+//! nothing. Nobody but the seats that `with_seats` handed out runs a row on the word.
 //!
 //! A group has 1 to 256 seats, and a seat makes at most 2^40 releases. [`WaitGroup::with_seats`] takes all memory that the group
 //! ever takes. A misuse is answered where the step table says: [`Misuse::Negative`] where an add led below 0,
@@ -45,7 +45,7 @@ mod state_word;
 
 pub use cond::Cond;
 pub use group::{GroupSeat, WaitGroup};
-pub use laws::law_of_the_locks;
+pub use laws::{law_of_the_groups, law_of_the_locks};
 pub use locker::Locker;
 pub use locker_call::LockerCall;
 pub use notify_list::{Holding, ListSeat, Waited};

@@ -18,16 +18,16 @@ use step_table::GroupWord;
 /// The state word of a wait group. Each call of it is one atomic step.
 #[derive(Drop)]
 pub struct StateWord {
-    pub(crate) table: Table<u64, GroupView, (), OneHistory, Global>,
+    pub(crate) table: Table<u64, GroupView, u32, OneHistory, Global>,
 }
 
 impl Model for StateWord {
     ghost use Rattle.std.specs.Prelude.{◌<◌};
-    ghost use Rattle.atomic_table.specs.Seated.{TableId};
+    ghost use Rattle.sync_parts.specs.GroupSeats.{WordModel};
 
-    ghost Value = { TableId };
+    ghost Value = { WordModel };
 
-    ghost view = { λ w. w.table.shared.table_id };
+    ghost view = { λ w. record { id = w.table.shared.table_id; seats = w.table.shared.key } };
 
     ghost invariant = { λ w. 0 < w.table.shared.table_id.words };
 }
@@ -52,7 +52,7 @@ fn bits_of(word: GroupWord) -> u64
 impl StateWord {
     /// G1: adds to the counter. The word that this left comes back.
     pub(crate) fn add(&self, token: &mut StateToken, d: i32) -> GroupWord
-        requires { (token.old.table_id ≡ self.now) × Follows token.old.me.0.next (G1 d) }
+        requires { (token.old.table_id ≡ self.now.id) × Follows token.old.me.0.next (G1 d) }
         ensures { (found : GroupWord) × (result ≡ plus found d) × Steps token.old (G1 d) found token.new }
     {
         let more = u64::from(d.cast_unsigned()) << 32;
@@ -62,7 +62,7 @@ impl StateWord {
 
     /// G2, V1 or V3: the word.
     pub(crate) fn load(&self, token: &mut StateToken) -> GroupWord
-        requires { (token.old.table_id ≡ self.now) × Follows token.old.me.0.next (load_row token.old.me.0.next) }
+        requires { (token.old.table_id ≡ self.now.id) × Follows token.old.me.0.next (load_row token.old.me.0.next) }
         ensures { Steps token.old (load_row token.old.me.0.next) result token.new }
     {
         word_of(self.table.shared.load::<Loads>(token, 0))
@@ -70,7 +70,7 @@ impl StateWord {
 
     /// V2: counts one more wait if the word is still that which was seen.
     pub(crate) fn count_wait(&self, token: &mut StateToken, seen: GroupWord) -> bool
-        requires { (token.old.table_id ≡ self.now) × (token.old.me.0.next ≡ Goes (V2 seen)) × IsGroupWord seen }
+        requires { (token.old.table_id ≡ self.now.id) × (token.old.me.0.next ≡ Goes (V2 seen)) × IsGroupWord seen }
         ensures { (found : GroupWord) × (result ≡ same_word seen found) × Steps token.old (V2 seen) found token.new }
     {
         let bits = bits_of(seen);
@@ -80,7 +80,7 @@ impl StateWord {
 
     /// G3: stores 0. The seat has seen this word twice.
     pub(crate) fn empty(&self, token: &mut StateToken, seen: GroupWord)
-        requires { (token.old.table_id ≡ self.now) × (token.old.me.0.next ≡ Goes (G3 seen)) }
+        requires { (token.old.table_id ≡ self.now.id) × (token.old.me.0.next ≡ Goes (G3 seen)) }
         ensures { (found : GroupWord) × Steps token.old (G3 seen) found token.new }
     {
         self.table.shared.store::<Stores>(token, 0, 0);

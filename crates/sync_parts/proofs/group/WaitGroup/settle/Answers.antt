@@ -4,7 +4,9 @@ use Rattle.std.proofs.lemmas.Int.{to_z-of_z}
 use Rattle.step_table.specs.Group.{after_add}
 use Rattle.step_table.specs.declared.standing.GroupNext.TheVariants.{Ends, Goes}
 use Rattle.step_table.specs.declared.standing.GroupRow.TheVariants.{G2}
-use Rattle.sync_parts.proofs.GroupAdding.{added_fails, added_ends, added_beside, added_all, is_other, is_same}
+use Rattle.sync_parts.specs.GroupPlays.{Me}
+use Rattle.sync_parts.specs.GroupSeats.{is_free}
+use Rattle.sync_parts.proofs.GroupAdding.{same_number, added_fails, added_ends, added_beside, added_all, is_other, is_same}
 use Rattle.sync_parts.proofs.group.WaitGroup.settle.Goals as goal
 
 pub returns-in-Err : goal.returns-in-Err
@@ -35,3 +37,10 @@ returns g c = λ s found left y.
     (same ∙ c.in-Ok-true.ensures ∙ ap (λ (b : Bool). if b then Goes (G2 c.args.word) else Ends) c.in-Ok-true.field-0-test)
     c.load.new.token c.load.result c.load.ensures (is_same c.args.word c.load.result (sym c.ne.ensures ∙ c.if-ne.false))
     c.empty.new.token c.empty.ensures.0 c.empty.ensures.1 c.release_waits-sema.result c.requires.left c.release_waits-sema.ensures
+
+pub invariant_of-result-2 : goal.invariant_of-result-2
+invariant_of-result-2 g c = record {
+  free = ap (λ (m : Me). is_free m.0.next) c.empty.ensures.1.me_is;
+  number = ap (λ (m : Me). m.0.number) c.empty.ensures.1.me_is ∙ ap (λ (m : Me). m.0.number) c.load.ensures.me_is ∙ c.requires.one
+      ∙ sym (same_number c.args.word.waits c.args.sema c.release_waits-sema.result c.release_waits-sema.ensures);
+}

@@ -9,7 +9,7 @@ pub returns-then-word-eq0 : goal.returns-then-word-eq0
 returns-then-word-eq0 g c =
     let s = c.seat.inside.token in let a = c.seat.inside.sema in let t = c.load-word.new.token in
     inl (subst (λ (q : GroupSeatModel). IsUncounted q (group_seat_of t a)) c.seat.view_is
-    (uncounted s t a (zero_at_once s c.seat.invariant c.load-word.result
+    (uncounted s t a (zero_at_once s c.seat.invariant.free c.load-word.result
     (zero_is c.load-word.result.counter c.load-word.ensures.word.0 c.if-word-eq0.true) t c.load-word.ensures)))
 
 pub returns : goal.returns
@@ -17,4 +17,4 @@ returns g c =
     let s = c.seat.inside.token in let t = c.load-word.new.token in
     subst (λ (q : GroupSeatModel). IsWaited q c.finish_wait.result.0 c.finish_wait.result.1) c.seat.view_is
     (c.finish_wait.ensures s (λ zero. c.if-word-eq0.false (ap (cast_unsigned w32) zero))
-    (first_look s c.seat.invariant c.load-word.result t c.load-word.ensures))
+    (first_look s c.seat.invariant.free c.load-word.result t c.load-word.ensures))

@@ -1,14 +1,15 @@
-use Rattle.std.proofs.Common.{sym, ◌∙◌}
+use Rattle.std.proofs.Common.{sym, ap, ◌∙◌}
 use Rattle.step_table.specs.GroupBits.{word_in}
 use Rattle.step_table.proofs.GroupBits.{the_group_words}
 use Rattle.sync_parts.proofs.GroupStepping.{add_allowed, more_is, added_is}
+use Rattle.sync_parts.specs.GroupSeats.{WordModel}
 use Rattle.sync_parts.proofs.state_word.StateWord.add.Goals as goal
 
 pub fetch_add-found-requires : goal.fetch_add-found-requires
 fetch_add-found-requires c = (
-  c.requires.0 ∙ sym c.self.view_is,
+  c.requires.0 ∙ ap (λ (w : WordModel). w.id) (sym c.self.view_is),
   c.self.invariant,
-  add_allowed _ _ c.args.token.now.me c.args.d _ c.ranges.d
+  add_allowed _ _ _ c.args.token.now.me c.args.d _ c.ranges.d
       (more_is c.args.d _ _ c.ranges.d c.cast_unsigned.ensures c.from-more.ensures) c.requires.1,
 )
 

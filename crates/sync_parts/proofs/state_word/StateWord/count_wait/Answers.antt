@@ -1,13 +1,14 @@
-use Rattle.std.proofs.Common.{sym, refl, ◌∙◌}
+use Rattle.std.proofs.Common.{sym, refl, ap, ◌∙◌}
 use Rattle.step_table.specs.GroupBits.{word_in}
 use Rattle.sync_parts.proofs.GroupStepping.{exchange_allowed, won_is, counted}
+use Rattle.sync_parts.specs.GroupSeats.{WordModel}
 use Rattle.sync_parts.proofs.state_word.StateWord.count_wait.Goals as goal
 
 pub compare_exchange-requires : goal.compare_exchange-requires
 compare_exchange-requires c = (
-  c.requires.0 ∙ sym c.self.view_is,
+  c.requires.0 ∙ ap (λ (w : WordModel). w.id) (sym c.self.view_is),
   c.self.invariant,
-  exchange_allowed _ _ c.args.token.now.me c.args.seen _ _ c.requires.2 c.requires.1 c.bits_of-bits.ensures refl,
+  exchange_allowed _ _ _ c.args.token.now.me c.args.seen _ _ c.requires.2 c.requires.1 c.bits_of-bits.ensures refl,
 )
 
 pub returns : goal.returns
