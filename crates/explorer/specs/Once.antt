@@ -52,6 +52,8 @@ pub record AreOnceSettings (settings : Settings) : Type 0 where
 -- a table of these settings, and its two seats, which have run nothing
 pub record IsOnceTable (table : TableModel) (first second : SeatModel) : Type 0 where
   pub starts : table.setting.starts ≡ 0 ∷ []
+  pub seats : table.setting.seats ≡ 2
+  pub roots : table.setting.roots ≡ 1
   pub limit : table.setting.limit ≡ 1
   pub first_is : first ≡ new_seat table 0
   pub second_is : second ≡ new_seat table 1

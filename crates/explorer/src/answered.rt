@@ -1,6 +1,6 @@
 //! A schedule that stands in an answer on standard input, as `explore` and `check` tell it.
 
-ghost use Rattle.std.specs.Prelude.{◌≡◌, false};
+ghost use Rattle.std.specs.Prelude.{◌≡◌, false, IsTrue};
 ghost use Rattle.program_words.specs.Asked.{IsWithinLimits, AwaitsSchedule};
 ghost use Rattle.explorer.specs.Asked.{IsUnread, IsScheduled};
 
@@ -38,6 +38,7 @@ pub fn scheduled<'w, R: Source>(
     requires readable { R.has_failed reader.old ≡ false }
     ensures limits { IsWithinLimits result }
     ensures awaited { AwaitsSchedule asked.entry → IsScheduled asked.entry result }
+    ensures failed { AwaitsSchedule asked.entry → IsTrue (R.has_failed reader.new) → IsUnread result }
     ensures other { (AwaitsSchedule asked.entry → ⊥) → result ≡ asked.entry }
     ensures unread { (AwaitsSchedule asked.entry → ⊥) → reader.new ≡ reader.old }
 {

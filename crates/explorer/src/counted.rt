@@ -1,6 +1,7 @@
 //! The command `threads`: what was counted.
 
-ghost use Rattle.std.specs.Prelude.{◌≡◌, ◌↔◌, ◌<◌, false, length, slice_index, IsTrue, IfOk, IfErr, OnErr, IsErr, Some, string_bytes};
+ghost use Rattle.std.specs.Prelude.{◌≡◌, ◌↔◌, ◌<◌, false, length, slice_index, Some, string_bytes};
+ghost use Rattle.std.specs.Prelude.{IsTrue, IsErr, IfOk, IfErr, OnErr};
 ghost use Rattle.scenario_search.specs.Told.{TellsAll, TellsBeginning};
 ghost use Rattle.program_words.specs.Asked.{AreWithin};
 ghost use Rattle.explorer.specs.ThreadsText.{threads_lines, IsThreadsAnswer};

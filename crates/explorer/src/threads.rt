@@ -2,8 +2,8 @@
 
 ghost use Rattle.std.specs.Prelude.{◌≡◌, ◌*◌, ◌<◌, ◌∷◌, [], ◌↔◌, length, Err, Some, IfOk};
 ghost use Rattle.sema_table.specs.Making.{new_seat, new_seats};
-ghost use Rattle.program_words.specs.Asked.{AreWithin};
-ghost use Rattle.explorer.specs.Threads.{AreOutside, AreThreadsSettings, IsThreadsTable, IsRound, HasWorked, IsWorker, HaveStarted, HaveWorked, IsThreadsRun};
+ghost use Rattle.explorer.specs.Threads.{AreOutside, AreThreadsSettings, IsThreadsTable, IsThreadsRun};
+ghost use Rattle.explorer.specs.Threads.{IsRound, HasWorked, IsWorker, HaveStarted, HaveWorked};
 ghost use Rattle.program_words.specs.Asked.{AreWithin};
 ghost use Rattle.explorer.specs.ThreadsText.{threads_refused_text};
 

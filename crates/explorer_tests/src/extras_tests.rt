@@ -1,8 +1,10 @@
 //! What a search tells beyond what it found: its statistics and the table of the schedule that it found.
 
 use crate::asked::{ALL_SOUND, Told, ask, is_short, tells_over};
+use crate::devices::{Giving, SOUND, Taking};
 use crate::explore_tests::TWO_EACH;
 use crate::reading::ONE_ACQUIRE;
+use explorer::{Extent, Flagged, StopWatch, Watch, parklot_io, read_words};
 use std::alloc::Global;
 use std::process::Abort;
 use std::sync::Wait;
@@ -71,6 +73,52 @@ fn statistics_are_told_beside(rt: HostRuntime) -> Result<(), Fail> {
         tells_over(&rt, rt.alloc(), words, input, ALL_SOUND, told);
     }
     Ok(())
+}
+
+/// Counts how often it is told how far a search has come, and then shows that this took a second and a quarter.
+#[derive(Drop)]
+struct Listening {
+    told: u32,
+}
+
+impl Watch for Listening {
+    fn pass(&mut self, _extent: Extent) {
+        self.told = self.told.saturating_add(1);
+    }
+}
+
+impl StopWatch for Listening {
+    fn stop(&mut self) -> u64 {
+        1_250
+    }
+}
+
+/// Whether who watches a search of 625 worlds is told of it before each of its 17 lengths, and asked how long it took, where
+/// memory isn't short.
+fn is_listened_to(rt: &(impl Threads + Wait + Sync), alloc: Global) -> bool {
+    let mut reader = Flagged::new(Giving::new(TWO_EACH, SOUND));
+    let mut out = Flagged::new(Taking::new(alloc, SOUND));
+    let mut err = Flagged::new(Taking::new(alloc, SOUND));
+    let asked = read_words(alloc, &["check", "--stats"]);
+    let mut watch = Listening { told: 0 };
+    let _ = parklot_io(
+        rt,
+        alloc,
+        &asked,
+        &mut reader,
+        &mut out,
+        &mut err,
+        &mut watch,
+    );
+    let beside = err.into_inner().into_taken();
+    let stats = b"worlds 625, depth 16, complete\nseconds 1.250, worlds a second 500\n";
+    watch.told == 17 && beside.as_slice() == stats.as_slice()
+}
+
+#[test]
+fn who_watches_is_told(rt: HostRuntime) {
+    let alloc = rt.alloc();
+    assert!(rt; is_listened_to(&rt, alloc) || is_listened_to(&rt, alloc));
 }
 
 /// What goes to the output for these words, asked once more where memory was short.

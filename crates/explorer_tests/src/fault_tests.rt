@@ -247,11 +247,23 @@ fn one_too_many_is_refused(rt: HostRuntime) -> Result<(), Fail> {
 }
 
 /// Faulty texts, and what is told beside of each.
-const HELPED: [Row; 10] = [
+const HELPED: [Row; 12] = [
     (
         b"counter 0\nseat 0: aquire 0\nsettled\n",
         "line 2: no call is spelled \"aquire 0\": acquire C, acquire C lifo, release C, release C handoff, \
          release C many N, add L, wait L, one L, all L, gadd G D, gwait G\n",
+    ),
+    // the calls before it and behind it are good, and two calls are no call
+    (
+        b"counter 0\nseat 0: acquire 0; acquire  0; release 0\nsettled\n",
+        "line 2: no call is spelled \"acquire  0\": acquire C, acquire C lifo, release C, release C handoff, \
+         release C many N, add L, wait L, one L, all L, gadd G D, gwait G\n",
+    ),
+    // its calls are good, and its number isn't
+    (
+        b"counter 0\nseat 00: acquire 0; acquire 0\nsettled\n",
+        "line 2: no line is spelled \"seat 00: acquire 0; acquire 0\": roots N, counter S, list F, group, \
+         seat K: CALLS, settled, value C N, no-misuse\n",
     ),
     (
         b"countr 0\n",

@@ -46,3 +46,5 @@ mod size_tests;
 mod threads_tests;
 #[cfg(test)]
 mod variant_tests;
+#[cfg(test)]
+mod words_tests;

@@ -2,7 +2,7 @@
 
 ghost use Rattle.program_words.specs.Asked.{IsWithinLimits};
 
-use crate::asked::{ALL_SOUND, Told, answers, is_a_mistake, tells, tells_over};
+use crate::asked::{ALL_SOUND, Told, answers, ask, is_a_mistake, tells, tells_over};
 use crate::devices::{Giving, SOUND, Taking};
 use explorer::{Asked, Flagged, NO_MEMORY, no_file, no_words, once_text, parklot_io};
 use std::alloc::Global;
@@ -97,6 +97,21 @@ fn help_goes_to_the_output(rt: HostRuntime) {
     for (words, text) in &HELPS {
         answers(&rt, rt.alloc(), words, text);
     }
+}
+
+/// Whether the form of a text is told to its end, where memory isn't short.
+fn is_form_whole(rt: &(impl Threads + Wait + Sync), alloc: Global) -> bool {
+    let (out, _, _) = ask(rt, alloc, &["format"], b"", ALL_SOUND);
+    out.as_slice().ends_with(
+        b"gwait G               wait until the number of G is 0\n\nCounters, lists and groups are named by their numbers \
+          from 0, each kind for itself. A number has no leading zero.\n",
+    )
+}
+
+#[test]
+fn the_form_is_told_to_its_end(rt: HostRuntime) {
+    let alloc = rt.alloc();
+    assert!(rt; is_form_whole(&rt, alloc) || is_form_whole(&rt, alloc));
 }
 
 /// Words that ask for no command, and how what is told of them begins.

@@ -1,9 +1,9 @@
 //! Schedules that stand in an answer, which `--schedule -` asks for.
 
 use crate::asked::{is_a_mistake, is_short};
-use crate::devices::{Giving, SOUND, Taking};
+use crate::devices::{BROKEN, Giving, SOUND, Taking};
 use crate::reading::ONE_ACQUIRE;
-use explorer::{Flagged, parklot_io, read_words, scheduled};
+use explorer::{Asked, Flagged, parklot_io, read_words, scheduled};
 use std::alloc::Global;
 use std::process::Abort;
 use std::sync::Wait;
@@ -73,4 +73,21 @@ fn a_scenario_beside_an_answer_has_a_file(rt: HostRuntime) {
         &words,
         "error: with --schedule - standard input has",
     );
+}
+
+/// Whether it is told that the answer couldn't be read, where memory isn't short.
+fn is_told_unread(alloc: Global) -> bool {
+    let mut room = Vec::new(alloc);
+    let mut given = Flagged::new(Giving::new(b"bad: stuck\nschedule: 0 0\n", BROKEN));
+    let asked = scheduled(alloc, read_words(alloc, &OF_ANSWER), &mut given, &mut room);
+    match &asked {
+        Asked::Mistake(told) => told.as_str() == "parklot: read failed\n",
+        _ => false,
+    }
+}
+
+#[test]
+fn an_answer_that_cannot_be_read_is_told(rt: HostRuntime) {
+    let alloc = rt.alloc();
+    assert!(rt; is_told_unread(alloc) || is_told_unread(alloc));
 }

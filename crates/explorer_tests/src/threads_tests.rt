@@ -8,8 +8,8 @@ use std::alloc::Global;
 use std::fmt::Display;
 use std::process::Abort;
 use std::sync::Wait;
-use std::sync::atomic::AtomicBool;
 use std::sync::atomic::Ordering::SeqCst;
+use std::sync::atomic::{AtomicBool, AtomicU64};
 use std::test::Fail;
 use std::thread;
 use std::thread::Threads;
@@ -44,6 +44,12 @@ impl TwoFlags {
             second: AtomicBool::new(false),
             has_failed: AtomicBool::new(false),
         }
+    }
+
+    /// Both have set their flags, and each has seen the other's.
+    fn was_passed(&self, rt: &impl Abort) {
+        assert!(rt; self.first.load(SeqCst) && self.second.load(SeqCst));
+        assert!(rt; !self.has_failed.load(SeqCst));
     }
 }
 
@@ -94,13 +100,44 @@ fn workers_run_at_once(rt: HostRuntime) -> Result<(), Fail> {
     let gate = TwoFlags::new();
     if let Ok(closed) = run_threads(&rt, rt.alloc(), 2, 1, &gate) {
         counts(&rt, &closed, 2);
-        assert!(rt; !gate.has_failed.load(SeqCst));
+        gate.was_passed(&rt);
         return Ok(());
     }
     let gate = TwoFlags::new();
     let closed = run_threads(&rt, rt.alloc(), 2, 1, &gate)?;
     counts(&rt, &closed, 2);
-    assert!(rt; !gate.has_failed.load(SeqCst));
+    gate.was_passed(&rt);
+    Ok(())
+}
+
+/// Counts how often it is asked.
+#[derive(Drop)]
+struct Counting {
+    asked: AtomicU64,
+}
+
+impl Gate for Counting {
+    fn pass(&self, _seat: SeatId, _round: u32) {
+        self.asked.fetch_add(1, SeqCst);
+    }
+}
+
+/// How often three workers of five rounds each ask the gate, where memory isn't short.
+fn times_asked<R: Threads + Wait + Sync>(rt: &R, alloc: Global) -> Result<u64, ThreadsRefused> {
+    let gate = Counting {
+        asked: AtomicU64::new(0),
+    };
+    run_threads(rt, alloc, 3, 5, &gate)?;
+    Ok(gate.asked.load(SeqCst))
+}
+
+#[test]
+fn the_gate_is_asked_before_each_round(rt: HostRuntime) -> Result<(), Fail> {
+    let asked = match times_asked(&rt, rt.alloc()) {
+        Ok(asked) => asked,
+        Err(_) => times_asked(&rt, rt.alloc())?,
+    };
+    assert!(rt; asked == 15);
     Ok(())
 }
 

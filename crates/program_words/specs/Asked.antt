@@ -1,9 +1,10 @@
 -- What the program's words may ask for.
-use Rattle.std.specs.Prelude.{◌≡◌, ◌≢◌, ℕ, ◌≤◌, List, [], ◌∷◌, ◌++◌, Option, None, option_map, string_bytes, codes}
+use Rattle.std.specs.Prelude.{◌≡◌, ◌≢◌, ℕ, ◌≤◌, List, [], ◌∷◌, ◌++◌, Option, None, Bool, false, option_map, string_bytes, codes}
 use Rattle.std.specs.Borrow.{Bor}
 use Rattle.std.specs.IoError.{error_kind}
 use Rattle.std.specs.declared.io.Error.{Error}
 use Rattle.std.specs.declared.io.ErrorKind.TheVariants.{OutOfMemory}
+use Rattle.scenario_search.specs.declared.command.Command.{Command}
 use Rattle.scenario_search.specs.declared.command.Command.TheVariants.{Explore, Check, Replay}
 use Rattle.program_words.specs.declared.asked.Asked.{Asked}
 use Rattle.program_words.specs.declared.asked.Asked.TheVariants.{OfScenario, Judge, Threads, Mistake, NoText, NoMemory}
@@ -17,10 +18,15 @@ pub record AreWithin (workers rounds : ℕ) : Type 0 where
   pub workers_are : IsFromOne 64 workers
   pub rounds_are : IsFromOne 1000000 rounds
 
--- the numbers are within the limits of their command
+-- at most 64 steps, and 1 to 1,000,000,000 worlds
+abbrev pub IsWithin : Command → Type 0
+IsWithin (Explore bounds table extras) = (bounds.depth ≤ 64) × IsFromOne 1000000000 bounds.worlds
+IsWithin (Check worlds extras) = IsFromOne 1000000000 worlds
+IsWithin (Replay spelled table drawn) = Unit {0}
+
+-- the numbers are within the limits of their command: 1 to 64 threads share a search
 abbrev pub IsWithinLimits : Asked → Type 0
-IsWithinLimits (OfScenario (Explore bounds table extras) file threads) = (bounds.depth ≤ 64) × IsFromOne 1000000000 bounds.worlds
-IsWithinLimits (OfScenario (Check worlds extras) file threads) = IsFromOne 1000000000 worlds
+IsWithinLimits (OfScenario command file threads) = IsWithin command × IsFromOne 64 threads
 IsWithinLimits (Threads workers rounds) = AreWithin workers rounds
 IsWithinLimits _ = Unit {0}
 
@@ -52,3 +58,9 @@ abbrev pub with_schedule : Asked → Bor (List ℕ) → Asked
 with_schedule (OfScenario (Replay spelled table drawn) file threads) schedule =
     OfScenario (Replay schedule table drawn) file threads
 with_schedule asked schedule = asked
+
+-- it is to be told how far a search has come, while it runs
+abbrev pub is_watched : Asked → Bool
+is_watched (OfScenario (Explore bounds table extras) file threads) = extras.live
+is_watched (OfScenario (Check worlds extras) file threads) = extras.live
+is_watched _ = false

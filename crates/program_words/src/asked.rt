@@ -1,5 +1,5 @@
 ghost use Rattle.std.specs.Prelude.{◌≡◌, IsTrue, false, option_map};
-ghost use Rattle.program_words.specs.Asked.{file_of, AwaitsSchedule, with_schedule};
+ghost use Rattle.program_words.specs.Asked.{file_of, is_watched, AwaitsSchedule, with_schedule};
 
 use scenario_search::Command;
 
@@ -68,7 +68,9 @@ impl<'w> Asked<'w> {
     }
 
     /// Whether it is to be told how far a search has come, while it runs.
-    pub fn is_watched(&self) -> bool {
+    pub fn is_watched(&self) -> bool
+        ensures { result ≡ is_watched self.now }
+    {
         match self {
             Asked::OfScenario {
                 command: Command::Explore { extras, .. } | Command::Check { extras, .. },

@@ -5,6 +5,8 @@
 #![tactic(auto)]
 
 mod asked;
+mod asking;
+mod commands;
 mod format;
 mod words;
 

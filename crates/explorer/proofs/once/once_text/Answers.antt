@@ -1,16 +1,14 @@
-use Rattle.std.proofs.Common.{rules, subst}
-use Rattle.sema_table.specs.Seats.{SeatModel}
-use Rattle.sema_table.specs.Making.{new_seat}
-use Rattle.explorer.specs.Once.{IsOnceRun}
+use Rattle.std.proofs.Common.{rules}
 use Rattle.explorer.proofs.once.once_text.Goals as goal
 
--- the table is the one that was made, and its two seats are new
+-- the table is the one that was made
 pub returns : goal.returns
-returns g c =
-    let table = c.in_ok-table.table in let made = c.in_ok-table.ensures in let answers = c.run_once-answers.result in (
-      table,
-      answers,
-      subst (λ (s : SeatModel). IsOnceRun s (new_seat table 1) answers) made.first_is
-          (subst (λ (r : SeatModel). IsOnceRun c.in_ok-table.first r answers) made.second_is c.run_once-answers.ensures),
-      search rules,
-    )
+returns g c = record {
+  table = c.in_ok-table.table;
+  first = c.in_ok-table.first;
+  second = c.in_ok-table.second;
+  answers = c.run_once-answers.result;
+  made = c.in_ok-table.ensures;
+  ran = c.run_once-answers.ensures;
+  told = search rules;
+}

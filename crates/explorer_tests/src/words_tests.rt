@@ -1,0 +1,136 @@
+//! What words ask for, whole: by the `Debug` text of what they ask for, the file that it names, and whether it is watched.
+
+use explorer::read_words;
+use std::alloc::Global;
+use std::process::Abort;
+use std::test::Fail;
+
+/// Words, the text of what they ask for, the file that is read in place of standard input, and whether somebody is to be told
+/// how far a search has come.
+type Row = (
+    &'static [&'static str],
+    &'static str,
+    Option<&'static str>,
+    bool,
+);
+
+/// Searches. A search that isn't told keeps 2,000,000 worlds, or up to a depth 200,000, and is made by one thread.
+const SEARCHES: [Row; 5] = [
+    (
+        &["check"],
+        "OfScenario { command: Check { worlds: 2000000, extras: Extras { drawn: false, counted: false, live: false } }, \
+         file: None, threads: 1 }",
+        None,
+        false,
+    ),
+    (
+        &["check", "--worlds", "7", "--table", "--threads", "64", "a"],
+        "OfScenario { command: Check { worlds: 7, extras: Extras { drawn: true, counted: false, live: false } }, \
+         file: Some(\"a\"), threads: 64 }",
+        Some("a"),
+        false,
+    ),
+    (
+        &["check", "--progress", "b"],
+        "OfScenario { command: Check { worlds: 2000000, extras: Extras { drawn: false, counted: false, live: true } }, \
+         file: Some(\"b\"), threads: 1 }",
+        Some("b"),
+        true,
+    ),
+    (
+        &["explore", "--depth", "0", "--progress"],
+        "OfScenario { command: Explore { bounds: Bounds { depth: 0, worlds: 200000 }, table: None, \
+         extras: Extras { drawn: false, counted: false, live: true } }, file: None, threads: 1 }",
+        None,
+        true,
+    ),
+    (
+        &[
+            "explore",
+            "--depth",
+            "64",
+            "--variant",
+            "late-count",
+            "--worlds",
+            "1000000000",
+            "--stats",
+            "--threads",
+            "2",
+            "c",
+        ],
+        "OfScenario { command: Explore { bounds: Bounds { depth: 64, worlds: 1000000000 }, table: Some(LateCount), \
+         extras: Extras { drawn: false, counted: true, live: false } }, file: Some(\"c\"), threads: 2 }",
+        Some("c"),
+        false,
+    ),
+];
+
+/// Words that ask for no search.
+const OTHERS: [Row; 6] = [
+    (
+        &["replay", "--schedule", "0 1", "--variant", "no-look", "d"],
+        "OfScenario { command: Replay { schedule: \"0 1\", table: Some(NoLook), drawn: false }, file: Some(\"d\"), threads: 1 }",
+        Some("d"),
+        false,
+    ),
+    (
+        &[
+            "replay",
+            "--schedule",
+            "-",
+            "--scenario",
+            "e",
+            "--table",
+            "--variant",
+            "plain-less",
+        ],
+        "OfScenario { command: Replay { schedule: \"-\", table: Some(PlainLess), drawn: true }, file: Some(\"e\"), threads: 1 }",
+        Some("e"),
+        false,
+    ),
+    (&["judge"], "Judge { file: None }", None, false),
+    (
+        &["judge", "f"],
+        "Judge { file: Some(\"f\") }",
+        Some("f"),
+        false,
+    ),
+    (
+        &["threads", "--workers", "64", "--rounds", "1000000"],
+        "Threads { workers: 64, rounds: 1000000 }",
+        None,
+        false,
+    ),
+    (&["once"], "Once", None, false),
+];
+
+/// Whether the words ask for this, where memory isn't short.
+fn is_asked(alloc: Global, row: &Row) -> bool {
+    let (words, text, file, watched) = *row;
+    let asked = read_words(alloc, words);
+    match format!(in alloc; "{asked:?}") {
+        Ok(told) => told.as_str() == text && asked.file() == file && asked.is_watched() == watched,
+        Err(_) => false,
+    }
+}
+
+/// The words ask for this. They are read once more where memory was refused.
+fn asks(rt: &impl Abort, alloc: Global, row: &Row) {
+    assert!(rt; is_asked(alloc, row) || is_asked(alloc, row), "{:?}", row.0);
+}
+
+#[test]
+fn words_ask_for_searches(rt: HostRuntime) -> Result<(), Fail> {
+    for row in &SEARCHES {
+        asks(&rt, rt.alloc(), row);
+    }
+    Ok(())
+}
+
+#[test]
+fn words_ask_for_other_commands(rt: HostRuntime) -> Result<(), Fail> {
+    for row in &OTHERS {
+        asks(&rt, rt.alloc(), row);
+    }
+    Ok(())
+}

@@ -1,0 +1,141 @@
+//! What the arguments of each command ask for.
+
+ghost use Rattle.std.specs.Prelude.{IfOk};
+ghost use Rattle.program_words.specs.Asked.{IsFromOne, IsWithinLimits};
+
+use crate::asked::{Asked, MAX_ROUNDS, MAX_THREADS, MAX_WORKERS, MAX_WORLDS};
+use crate::format::FORMAT;
+use clap::ArgMatches;
+use scenario_search::{
+    Bounds, CHECKED_WORLDS, Command, EXPLORED_WORLDS, Extras, MAX_DEPTH, variant_named,
+};
+use std::alloc::{AllocError, Global};
+use step_core::Variant;
+
+/// What is wrong with a replay that reads both its texts from standard input.
+static NO_SCENARIO: &str = "\
+error: with --schedule - standard input has the schedule's answer: name the scenario by --scenario FILE
+";
+
+/// How many worlds a search may keep that keeps so many where it isn't told.
+fn worlds_of(given: &ArgMatches<'_>, untold: u32) -> u32
+    ensures { IsFromOne 1000000000 result }
+{
+    given
+        .get_one::<u32>("worlds")
+        .unwrap_or(untold)
+        .clamp(1, MAX_WORLDS)
+}
+
+/// The change of the step table that is asked for.
+fn variant_of(given: &ArgMatches<'_>) -> Option<Variant> {
+    variant_named(given.get_str("variant")?)
+}
+
+/// How many threads share the search.
+fn searchers_of(given: &ArgMatches<'_>) -> u16
+    ensures { IsFromOne 64 result }
+{
+    let told = given.get_one::<u32>("threads").unwrap_or(1);
+    told.clamp(1, u32::from(MAX_THREADS)) as u16
+}
+
+/// What a search is to tell beyond what it found.
+fn extras_of(given: &ArgMatches<'_>) -> Extras {
+    Extras {
+        drawn: given.get_flag("table"),
+        counted: given.get_flag("stats"),
+        live: given.get_flag("progress"),
+    }
+}
+
+/// What `explore` is asked for.
+fn explore_asked<'w>(given: &ArgMatches<'w>) -> Asked<'w>
+    ensures { IsWithinLimits result }
+{
+    let depth = given.get_one::<u32>("depth").unwrap_or(MAX_DEPTH);
+    let bounds = Bounds {
+        depth: depth.min(MAX_DEPTH),
+        worlds: worlds_of(given, EXPLORED_WORLDS),
+    };
+    Asked::OfScenario {
+        command: Command::Explore {
+            bounds,
+            table: variant_of(given),
+            extras: extras_of(given),
+        },
+        file: given.get_str("file"),
+        threads: searchers_of(given),
+    }
+}
+
+/// What `check` is asked for.
+fn check_asked<'w>(given: &ArgMatches<'w>) -> Asked<'w>
+    ensures { IsWithinLimits result }
+{
+    Asked::OfScenario {
+        command: Command::Check {
+            worlds: worlds_of(given, CHECKED_WORLDS),
+            extras: extras_of(given),
+        },
+        file: given.get_str("file"),
+        threads: searchers_of(given),
+    }
+}
+
+/// What `replay` is asked for. A schedule on standard input leaves no room there for the scenario.
+///
+/// It is an `Err` where memory is short.
+fn replay_asked<'w>(alloc: Global, given: &ArgMatches<'w>) -> Result<Asked<'w>, AllocError>
+    ensures { IfOk result IsWithinLimits }
+{
+    let schedule = given.get_str("schedule").unwrap_or("");
+    let file = given.get_str("scenario").or(given.get_str("file"));
+    if schedule == "-" && file.is_none() {
+        return Ok(Asked::Mistake(String::from_str(alloc, NO_SCENARIO)?));
+    }
+    Ok(Asked::OfScenario {
+        command: Command::Replay {
+            schedule,
+            table: variant_of(given),
+            drawn: given.get_flag("table"),
+        },
+        file,
+        threads: 1,
+    })
+}
+
+/// What `threads` is asked for.
+fn threads_asked<'w>(given: &ArgMatches<'w>) -> Asked<'w>
+    ensures { IsWithinLimits result }
+{
+    let workers = given.get_one::<u32>("workers").unwrap_or(1);
+    let rounds = given.get_one::<u32>("rounds").unwrap_or(1);
+    Asked::Threads {
+        workers: workers.clamp(1, MAX_WORKERS),
+        rounds: rounds.clamp(1, MAX_ROUNDS),
+    }
+}
+
+/// What the command of this name is asked for.
+///
+/// It is an `Err` where memory is short.
+pub(crate) fn asked_of<'w>(
+    alloc: Global,
+    name: &str,
+    given: &ArgMatches<'w>,
+) -> Result<Asked<'w>, AllocError>
+    ensures { IfOk result IsWithinLimits }
+{
+    match name {
+        "check" => Ok(check_asked(given)),
+        "explore" => Ok(explore_asked(given)),
+        "replay" => replay_asked(alloc, given),
+        "judge" => Ok(Asked::Judge {
+            file: given.get_str("file"),
+        }),
+        "threads" => Ok(threads_asked(given)),
+        "format" => Ok(Asked::Help(String::from_str(alloc, FORMAT)?)),
+        _ => Ok(Asked::Once),
+    }
+}
