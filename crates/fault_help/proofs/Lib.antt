@@ -1,2 +1,2 @@
 pub mod Beginnings
-pub mod Ends
+pub mod SeatCalls

@@ -1,6 +1,6 @@
 -- What is said of a faulty line: what is wrong with it, the line as far as it can be printed, and what was expected.
-use Rattle.std.specs.Prelude.{◌≡◌, ℕ, ◌-◌, ◌∷◌, [], ◌++◌, List, take, drop, not, min, codes}
-use Rattle.std.specs.List.{position_or_len}
+use Rattle.std.specs.Prelude.{◌≡◌, ◌≢◌, ◌⊎◌, ℕ, ◌-◌, ◌∷◌, [], ◌++◌, List, take, not, min, codes}
+use Rattle.std.specs.List.{position_or_len, AllByRecursion}
 use Rattle.std.specs.Fmt.{decimal}
 use Rattle.scenario_text.specs.declared.read_fault.Cause.{Cause}
 use Rattle.scenario_text.specs.declared.read_fault.Cause.TheVariants as cause
@@ -15,15 +15,33 @@ use Rattle.fault_help.specs.declared.problem.Problem.TheVariants.{NoLineFeed, Un
 abbrev pub shown : List ℕ → List ℕ
 shown line = take (min (position_or_len (λ byte. not (is_printable byte)) line) 80) line
 
--- the rest of the line from some place on
-abbrev pub IsEndOf : List ℕ → List ℕ → Type 0
-IsEndOf line rest = (from : ℕ) × (rest ≡ drop from line)
+-- this stands nowhere in the text
+abbrev pub Lacks : List ℕ → List ℕ → Type 0
+Lacks text this = (before behind : List ℕ) → text ≢ before ++ (this ++ behind)
 
--- the part stands in the line, and spells no call
+-- calls, each with what parts it from the next
+abbrev pub parted : List (List ℕ) → List ℕ
+parted [] = []
+parted (call ∷ calls) = call ++ (codes "; " ++ parted calls)
+
+-- the line is a seat's; of its calls those before the rest are spelled as calls
+pub record HasCalls (line rest : List ℕ) : Type 0 where
+  pub seat : List ℕ
+  pub before : List (List ℕ)
+  pub stands : line ≡ codes "seat " ++ (seat ++ (codes ": " ++ (parted before ++ rest)))
+  pub named : Lacks seat (codes ": ")
+  pub spelled : AllByRecursion IsSomeCall before
+
+-- a call ends here: the text does, or the next call comes
+abbrev pub EndsCall : List ℕ → Type 0
+EndsCall behind = (behind ≡ []) ⊎ ((calls : List ℕ) × (behind ≡ codes "; " ++ calls))
+
+-- the part is the first call of a seat's line that is spelled as none
 pub record IsUnspelledIn (line part : List ℕ) : Type 0 where
-  pub from : ℕ
-  pub bytes : ℕ
-  pub stands : part ≡ take bytes (drop from line)
+  pub behind : List ℕ
+  pub stands : HasCalls line (part ++ behind)
+  pub whole : EndsCall behind
+  pub one : Lacks part (codes "; ")
   pub no_call : IsSomeCall part → ⊥
 
 -- what is wrong with the line for this cause, and what is shown of it

@@ -1,7 +1,7 @@
 //! What is wrong with a line, and what was expected there.
 
 ghost use Rattle.std.specs.Prelude.{◌≡◌, IfOk, IfSome, Some, string_bytes};
-ghost use Rattle.fault_help.specs.Explained.{problem_text, IsProblem, IsEndOf, IsUnspelledIn, Explains};
+ghost use Rattle.fault_help.specs.Explained.{problem_text, IsProblem, HasCalls, IsUnspelledIn, Explains};
 
 use crate::beginning::shown;
 use scenario_text::{Cause, ReadFault, is_call, line_at, printable};
@@ -88,7 +88,7 @@ impl fmt::Display for Problem<'_> {
 
 /// The calls of a seat's line.
 fn calls_of(line: &str) -> Option<&str>
-    ensures { IfSome result (λ calls. IsEndOf line.now calls.now) }
+    ensures { IfSome result (λ calls. HasCalls line.now calls.now) }
 {
     let (_, calls) = line.strip_prefix("seat ")?.split_once(": ")?;
     Some(calls)

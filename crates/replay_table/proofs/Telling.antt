@@ -116,6 +116,7 @@ module _ (change : Option Variant) (parts : Parts) (past : List ℕ) (r : Moment
           ∙ found_of (layout was.parts) was.machine before.run.0 i (each Rest was.machine.standing i) ∙ is.found;
       call = is.call ∙ (λ j. call_begun (before.parts_are j) i (before.told_is j i) ((before.run.1 j).begun i));
       after = record {
+        table_is = ap (λ (m : Moment). m.table) is.after ∙ is.steps.1.table ∙ before.table_is;
         parts_are = ap (λ (m : Moment). m.parts) is.after ∙ stays ∙ before.parts_are;
         run_is = (stepped_so.0, ap (λ (m : Moment). run_of (telling m stepped_so.0)) is.after ∙ stepped_so.1);
       };
@@ -133,7 +134,7 @@ lines_more P (y ∷ l) x all here (suc k) = lines_more (λ n. P (suc n)) l x (λ
 -- the table of the first so many steps of a schedule, and how the run stands then
 pub record TableSoFar (change : Option Variant) (parts : Parts) (schedule : List ℕ) (first : Moment) (at : ℕ) (r : Moment)
     (told : List ℕ) (lines : List Line) : Type 0 where
-  pub begins : Shows first parts (start parts)
+  pub begins : Shows change first parts (start parts)
   pub so_far : SoFar change parts (take at schedule) r told
   pub count : length lines ≡ at
   pub each_line : (k : ℕ) → IfSome (slice_get lines k) (IsLine change parts schedule k)
@@ -143,6 +144,7 @@ pub no_line : (change : Option Variant) (parts : Parts) (schedule : List ℕ) (f
     → TableSoFar change parts schedule first 0 r told []
 no_line change parts schedule first r told started table shows none = record {
   begins = record {
+    table_is = ap (λ (m : Moment). m.table) shows ∙ table;
     parts_are = ap (λ (m : Moment). m.parts) shows ∙ started.parts;
     run_is = ([], ap run_at shows ∙ started.run);
   };
@@ -183,8 +185,9 @@ module _ (change : Option Variant) (parts : Parts) (schedule : List ℕ) (first 
 -- the run so far stands where its lines lead
 pub stands_at : (change : Option Variant) (parts : Parts) (schedule : List ℕ) (first : Moment) (at : ℕ) (r : Moment) (told : List ℕ)
     (lines : List Line) → TableSoFar change parts schedule first at r told lines
-    → Shows r parts (past_of change parts (take (length lines) schedule)).run
+    → Shows change r parts (past_of change parts (take (length lines) schedule)).run
 stands_at change parts schedule first at r told lines before = record {
+  table_is = before.so_far.table_is;
   parts_are = before.so_far.parts_are;
   run_is =
       (before.so_far.run.0, before.so_far.run.1 ∙ ap (λ n. (past_of change parts (take n schedule)).run) (sym before.count));

@@ -41,8 +41,9 @@ past_of change parts schedule = past_from change parts (first_past parts) schedu
 abbrev pub call_begun : Parts → ℕ → ℕ → ℕ → Option Call
 call_begun parts i told begun = if told == begun then None else call_of parts i (begun - 1)
 
--- the picture is of this run, with some journal
-pub record Shows (picture : Moment) (parts : Parts) (run : Run) : Type 0 where
+-- the picture is of this run, with some journal, by the step table or by this change of it
+pub record Shows (change : Option Variant) (picture : Moment) (parts : Parts) (run : Run) : Type 0 where
+  pub table_is : picture.table ≡ change
   pub parts_are : picture.parts ≡ parts
   pub run_is : (journal : List Entry) × (run_of (telling picture journal) ≡ run)
 
@@ -54,7 +55,7 @@ pub record TellsStepOf (change : Option Variant) (parts : Parts) (past : Past) (
   pub row : line.row ≡ phase_in past.run.core i
   pub found : found_by parts past.run i ≡ Some line.found
   pub call : line.call ≡ call_begun parts i (past.told i) (past.run.begun i)
-  pub after : Shows line.after parts (stepped_by change parts past.run i)
+  pub after : Shows change line.after parts (stepped_by change parts past.run i)
 
 -- the line of step `at`
 pub record IsLine (change : Option Variant) (parts : Parts) (schedule : List ℕ) (at : ℕ) (line : Line) : Type 0 where
@@ -70,10 +71,10 @@ EndsBy change parts schedule count (Some refused) =
 
 -- the table of a schedule, by the step table or by this change of it
 pub record IsTableOf (change : Option Variant) (parts : Parts) (schedule : List ℕ) (table : ReplayTable) : Type 0 where
-  pub begins : Shows table.start parts (start parts)
+  pub begins : Shows change table.start parts (start parts)
   pub lines : (at : ℕ) → IfSome (slice_get table.lines.items at) (IsLine change parts schedule at)
   pub ends : EndsBy change parts schedule (length table.lines.items) table.refused
-  pub ends_at : Shows table.end parts (past_of change parts (take (length table.lines.items) schedule)).run
+  pub ends_at : Shows change table.end parts (past_of change parts (take (length table.lines.items) schedule)).run
 
 -- the step was run, and this is its line
 pub record HasTold (r : Moment) (told : List ℕ) (i : ℕ) (s : Moment) (now : List ℕ) (line : Line) : Type 0 where

@@ -24,7 +24,7 @@ returns-in-Err c =
       lines = c.loop-at.invariant.each_line;
       ends = ends_here c.args.change c.args.scenario.now c.args.schedule.now _ _ _ _ _ _ c.loop-at.invariant c.loop-at-test.true
           c.index-schedule-at.is c.in-Err.cause told.1;
-      ends_at = subst (λ (r : Moment). Shows r c.args.scenario.now
+      ends_at = subst (λ (r : Moment). Shows c.args.change r c.args.scenario.now
           (past_of c.args.change c.args.scenario.now (take (length c.loop-at.lines.items) c.args.schedule.now)).run) (sym told.0)
           (stands_at c.args.change c.args.scenario.now c.args.schedule.now _ _ _ _ _ c.loop-at.invariant);
     }
