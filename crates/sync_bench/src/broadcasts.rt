@@ -1,7 +1,9 @@
 //! Broadcasts: many threads wait for one, which waits until all of them do.
-ghost use Rattle.std.specs.Prelude.{◌≡◌, false};
+ghost use Rattle.std.specs.Prelude.{◌≡◌, false, All, IfOk};
 
 use crate::hands::{await_word, unlock};
+use anyhow::Result;
+use std::alloc::Global;
 use std::sync::Wait;
 use std::sync::atomic::AtomicU64;
 use std::sync::atomic::Ordering::SeqCst;
@@ -20,6 +22,26 @@ pub struct Hall {
     pub calls: AtomicU64,
     /// How many the many are.
     pub many: u64,
+}
+
+impl Hall {
+    /// A hall for so many, with a seat for each of them and for the one: of the many's condition variable, and of the one's.
+    pub(crate) fn for_many(alloc: Global, many: u8) -> Result<(Hall, Vec<ListSeat>, Vec<ListSeat>)>
+        ensures called { IfOk result (λ t. All (λ s. s.list ≡ t.0.called) t.1.items) }
+        ensures full { IfOk result (λ t. All (λ s. s.list ≡ t.0.full) t.2.items) }
+    {
+        let all = u32::from(many) + 1;
+        let (called, called_seats) = Cond::with_seats(alloc, all)?;
+        let (full, full_seats) = Cond::with_seats(alloc, all)?;
+        let hall = Hall {
+            called,
+            full,
+            arrived: AtomicU64::new(0),
+            calls: AtomicU64::new(0),
+            many: u64::from(many),
+        };
+        Ok((hall, called_seats, full_seats))
+    }
 }
 
 /// One of the many.

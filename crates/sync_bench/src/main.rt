@@ -7,6 +7,8 @@
 //! and waits by a wait group until all are done.
 #![tactic(auto)]
 
+ghost use Rattle.std.specs.Prelude.{◌≡◌, ◌<◌, All, length};
+
 mod broadcasts;
 mod crew;
 mod forks;
@@ -18,8 +20,8 @@ mod signals;
 use crate::broadcasts::Hall;
 use crate::jobs::Job;
 use anyhow::{Result, bail};
-use notify_list::NotifyList;
-use sema_table::SemaTable;
+use notify_list::{ListSeat, NotifyList};
+use sema_table::{Seat, SemaTable};
 use std::alloc::Global;
 use std::env;
 use std::num::{NonZeroU8, NonZeroU32};
@@ -44,12 +46,24 @@ fn time<R: Clock + Print + Threads + Wait + Sync>(
     tell(rt, case, &start, u64::from(turns))
 }
 
-fn time_ticket(rt: &(impl Clock + Print + Wait), alloc: Global, turns: u32) -> Result<()> {
-    let (list, mut seats) = NotifyList::starting_at(alloc, 0, 2)?;
-    let (waits, tells) = make::two_seats(&list, &mut seats)?;
+/// Times tickets that are granted by the thread that took them.
+fn time_alone(
+    rt: &(impl Clock + Print + Wait),
+    list: &NotifyList,
+    seats: Vec<ListSeat>,
+    turns: u32,
+) -> Result<()>
+    requires { All (λ s. s.list ≡ list.now) seats.items }
+{
+    let (waits, tells) = make::both_seats(list, seats)?;
     let start = Instant::now(rt)?;
-    signals::rounds(rt, &list, waits, tells, turns);
+    signals::rounds(rt, list, waits, tells, turns);
     tell(rt, "ticket", &start, u64::from(turns))
+}
+
+fn time_ticket(rt: &(impl Clock + Print + Wait), alloc: Global, turns: u32) -> Result<()> {
+    let (list, seats) = NotifyList::starting_at(alloc, 0, 2)?;
+    time_alone(rt, &list, seats, turns)
 }
 
 fn time_signals<R: Clock + Print + Threads + Wait + Sync>(
@@ -57,10 +71,9 @@ fn time_signals<R: Clock + Print + Threads + Wait + Sync>(
     alloc: Global,
     turns: u32,
 ) -> Result<()> {
-    let (list, mut seats) = NotifyList::starting_at(alloc, 0, 4)?;
-    let first = make::signaller(&list, &mut seats, true)?;
-    let second = make::signaller(&list, &mut seats, false)?;
-    time(rt, "signals", vec![in alloc; first, second]?, turns)
+    let (list, seats) = NotifyList::starting_at(alloc, 0, 4)?;
+    let jobs = make::signallers(alloc, &list, seats)?;
+    time(rt, "signals", jobs, turns)
 }
 
 fn time_hands<R: Clock + Print + Threads + Wait + Sync>(
@@ -68,12 +81,27 @@ fn time_hands<R: Clock + Print + Threads + Wait + Sync>(
     alloc: Global,
     turns: u32,
 ) -> Result<()> {
-    let (table, mut locks) = SemaTable::new(alloc, make::settings(alloc, 1, 1, 2)?)?;
-    let (cond, mut seats) = Cond::with_seats(alloc, 2)?;
+    let (table, locks) = SemaTable::new(alloc, make::settings(alloc, 1, 1, 2)?)?;
+    let (cond, seats) = Cond::with_seats(alloc, 2)?;
     let turn = AtomicU64::new(0);
-    let first = make::hand(&table, &mut locks, &cond, &mut seats, &turn, 0)?;
-    let second = make::hand(&table, &mut locks, &cond, &mut seats, &turn, 1)?;
-    time(rt, "hands", vec![in alloc; first, second]?, turns)
+    let jobs = make::hands(alloc, &table, locks, &cond, seats, &turn)?;
+    time(rt, "hands", jobs, turns)
+}
+
+/// Times broadcasts under locks of this table.
+fn time_casts<R: Clock + Print + Threads + Wait + Sync>(
+    rt: &R,
+    alloc: Global,
+    table: &SemaTable,
+    locks: Vec<Seat>,
+    workers: u8,
+    turns: u32,
+) -> Result<()>
+    requires { All (λ s. s.table ≡ table.now) locks.items × (0 < length table.now.setting.starts) }
+{
+    let (hall, called, full) = Hall::for_many(alloc, workers)?;
+    let jobs = make::fill_hall(alloc, &hall, table, locks, called, full)?;
+    time(rt, "broadcast", jobs, turns)
 }
 
 fn time_broadcast<R: Clock + Print + Threads + Wait + Sync>(
@@ -82,19 +110,9 @@ fn time_broadcast<R: Clock + Print + Threads + Wait + Sync>(
     workers: u8,
     turns: u32,
 ) -> Result<()> {
-    let all = u32::from(workers) + 1;
-    let (table, locks) = SemaTable::new(alloc, make::settings(alloc, 1, 1, all)?)?;
-    let (called, called_seats) = Cond::with_seats(alloc, all)?;
-    let (full, full_seats) = Cond::with_seats(alloc, all)?;
-    let hall = Hall {
-        called,
-        full,
-        arrived: AtomicU64::new(0),
-        calls: AtomicU64::new(0),
-        many: u64::from(workers),
-    };
-    let jobs = make::fill_hall(alloc, &hall, &table, locks, called_seats, full_seats)?;
-    time(rt, "broadcast", jobs, turns)
+    let settings = make::settings(alloc, 1, 1, u32::from(workers) + 1)?;
+    let (table, locks) = SemaTable::new(alloc, settings)?;
+    time_casts(rt, alloc, &table, locks, workers, turns)
 }
 
 fn time_group(rt: &(impl Clock + Print + Wait), alloc: Global, turns: u32) -> Result<()> {

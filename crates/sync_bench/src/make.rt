@@ -26,10 +26,7 @@ pub(crate) fn settings(alloc: Global, counters: usize, start: u32, seats: u32) -
 }
 
 /// The last two seats of a list.
-pub(crate) fn two_seats(
-    list: &NotifyList,
-    seats: &mut Vec<ListSeat>,
-) -> Result<(ListSeat, ListSeat)>
+fn two_seats(list: &NotifyList, seats: &mut Vec<ListSeat>) -> Result<(ListSeat, ListSeat)>
     requires { All (λ s. s.list ≡ list.now) seats.old.items }
     ensures two { IfOk result (λ two. (two.0.list ≡ list.now) × (two.1.list ≡ list.now)) }
     ensures rest { All (λ s. s.list ≡ list.now) seats.new.items }
@@ -40,12 +37,17 @@ pub(crate) fn two_seats(
     Ok((one, other))
 }
 
+/// The two seats of a list that has no other.
+pub(crate) fn both_seats(list: &NotifyList, seats: Vec<ListSeat>) -> Result<(ListSeat, ListSeat)>
+    requires { All (λ s. s.list ≡ list.now) seats.items }
+    ensures { IfOk result (λ two. (two.0.list ≡ list.now) × (two.1.list ≡ list.now)) }
+{
+    let mut seats = seats;
+    two_seats(list, &mut seats)
+}
+
 /// One of two that signal each other.
-pub(crate) fn signaller<'b>(
-    list: &'b NotifyList,
-    seats: &mut Vec<ListSeat>,
-    begins: bool,
-) -> Result<Job<'b>>
+fn signaller<'b>(list: &'b NotifyList, seats: &mut Vec<ListSeat>, begins: bool) -> Result<Job<'b>>
     requires { All (λ s. s.list ≡ list.now) seats.old.items }
     ensures { All (λ s. s.list ≡ list.now) seats.new.items }
 {
@@ -56,6 +58,20 @@ pub(crate) fn signaller<'b>(
         tells,
         begins,
     }))
+}
+
+/// Two that signal each other, by the four seats of a list.
+pub(crate) fn signallers<'b>(
+    alloc: Global,
+    list: &'b NotifyList,
+    seats: Vec<ListSeat>,
+) -> Result<Vec<Job<'b>>>
+    requires { All (λ s. s.list ≡ list.now) seats.items }
+{
+    let mut seats = seats;
+    let first = signaller(list, &mut seats, true)?;
+    let second = signaller(list, &mut seats, false)?;
+    Ok(vec![in alloc; first, second]?)
 }
 
 /// A lock over counter 0, by the last seat.
@@ -83,7 +99,7 @@ fn own(cond: &Cond, seats: &mut Vec<ListSeat>) -> Result<ListSeat>
 }
 
 /// One of two that hand a turn back and forth.
-pub(crate) fn hand<'b>(
+fn hand<'b>(
     table: &'b SemaTable,
     locks: &mut Vec<Seat>,
     cond: &'b Cond,
@@ -105,6 +121,24 @@ pub(crate) fn hand<'b>(
         turn,
         own: number,
     }))
+}
+
+/// Two that hand a turn back and forth.
+pub(crate) fn hands<'b>(
+    alloc: Global,
+    table: &'b SemaTable,
+    locks: Vec<Seat>,
+    cond: &'b Cond,
+    seats: Vec<ListSeat>,
+    turn: &'b AtomicU64,
+) -> Result<Vec<Job<'b>>>
+    requires locks { All (λ s. s.table ≡ table.now) locks.items × (0 < length table.now.setting.starts) }
+    requires seats { All (λ s. s.list ≡ cond.now) seats.items }
+{
+    let (mut locks, mut seats) = (locks, seats);
+    let first = hand(table, &mut locks, cond, &mut seats, turn, 0)?;
+    let second = hand(table, &mut locks, cond, &mut seats, turn, 1)?;
+    Ok(vec![in alloc; first, second]?)
 }
 
 /// One of the many in a hall.
