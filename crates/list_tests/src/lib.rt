@@ -11,6 +11,8 @@ mod given;
 #[cfg(test)]
 mod order_tests;
 #[cfg(test)]
+mod text_tests;
+#[cfg(test)]
 mod thread_tests;
 #[cfg(test)]
 mod ticket_tests;

@@ -23,6 +23,10 @@ mod order_tests;
 #[cfg(test)]
 mod seats;
 #[cfg(test)]
+mod sleeper_tests;
+#[cfg(test)]
+mod text_tests;
+#[cfg(test)]
 mod wait_tests;
 #[cfg(test)]
 mod whole_tests;

@@ -25,7 +25,7 @@ fn posts_many(rt: &impl Abort, table: &SemaTable, seat: Seat, units: u32) -> Sea
 }
 
 /// The seat adds units, and has to look for waits.
-fn owes_many(rt: &impl Abort, table: &SemaTable, seat: Seat, units: u32) -> OwingMany
+pub(crate) fn owes_many(rt: &impl Abort, table: &SemaTable, seat: Seat, units: u32) -> OwingMany
     requires seat { seat.table ≡ table.now }
     requires units { (1 ≤ units) × (units ≤ 256) }
     ensures { result.table ≡ table.now }
