@@ -1,3 +1,4 @@
 pub mod Weighing
 pub mod Places
 pub mod Queueing
+pub mod Turns

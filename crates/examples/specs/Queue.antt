@@ -5,8 +5,10 @@ use Rattle.atomic_table.specs.Seated.{TableId}
 use Rattle.step_table.specs.declared.entry.Entry.{Entry}
 use Rattle.sema_law.specs.Balances.{added_on, taken_on}
 use Rattle.sema_table.specs.declared.answers.Wake.{Wake}
+use Rattle.sema_table.specs.declared.setup_error.SetupError.{SetupError}
+use Rattle.sema_table.specs.declared.setup_error.SetupError.TheVariants.{Seats, NoMemory}
 use Rattle.sema_table.specs.Seats.{SeatModel}
-use Rattle.sema_table.specs.Making.{new_seats}
+use Rattle.sema_table.specs.Making.{IsFromOne, IsOutside, most_seats, new_seats}
 use Rattle.sema_table.specs.Whole.{IsAcquired, IsReleased}
 use Rattle.examples.specs.Moves.{moves, all_parts, times, with_put, with_taken, together}
 use Rattle.examples.specs.Parts.{QueueModel, WorkerModel, TallyModel}
@@ -18,15 +20,23 @@ free = 0
 abbrev pub full : ℕ
 full = 1
 
--- an empty queue of so many places, with a new seat of its table for each worker, which may put and take 2^40 times. The tally
--- has all parts, and nobody has put or taken
+-- an empty queue of so many places, with a new seat for each worker, which may put and take 2^40 times, and no other seat. The
+-- tally has all parts, and nobody has put or taken
 pub record IsNew (places workers : ℕ) (q : QueueModel) (seats : List SeatModel) (t : TallyModel) : Type 0 where
   pub places_are : q.places ≡ places
   pub starts : q.table.setting.starts ≡ places ∷ 0 ∷ []
   pub own : All (λ s. s.table ≡ q.table) seats
+  pub allowed : IsFromOne most_seats workers
+  pub workers_are : q.table.setting.seats ≡ workers
   pub seats_are : seats ≡ new_seats q.table 0 workers
   pub limit : q.table.setting.limit ≡ 2 ^ 40
   pub tally : t ≡ record { ring = q.ring; moves = moves all_parts [] [] }
+
+-- there are not 1 to 256 workers; and there is no memory for a queue only where there are
+abbrev pub IsRefused : ℕ → SetupError → Type 0
+IsRefused workers Seats = IsOutside most_seats workers
+IsRefused workers NoMemory = IsFromOne most_seats workers
+IsRefused workers _ = ⊥
 
 abbrev pub new_worker : SeatModel → TableId → WorkerModel
 new_worker s ring = record { seat = s; ring = ring; moves = moves 1 [] [] }

@@ -1,8 +1,8 @@
 //! A queue of at most so many items, which waits where there is no place and where there is no item.
-ghost use Rattle.std.specs.Prelude.{◌≡◌, ◌^◌, ◌<◌, ◌∷◌, [], IfOk};
+ghost use Rattle.std.specs.Prelude.{◌≡◌, ◌^◌, ◌<◌, ◌∷◌, [], IfOk, IfErr};
 ghost use Rattle.crossbeam_queue.specs.Passes.{view, IsSamePass};
 ghost use Rattle.examples.specs.Moves.{all_parts, with_put, with_taken};
-ghost use Rattle.examples.specs.Queue.{IsNew, IsOf, new_worker, after_entry, after_leave, HasPut, HasTaken, AreLeftOf};
+ghost use Rattle.examples.specs.Queue.{IsNew, IsRefused, IsOf, new_worker, after_entry, after_leave, HasPut, HasTaken, AreLeftOf};
 
 use crate::moves::{Moves, OnePart, Puts, Ring, Takes, Total};
 use crossbeam_queue::Pass;
@@ -12,6 +12,9 @@ use std::marker::Model;
 use std::sync::Wait;
 use std::thread;
 use waiters::CounterId;
+
+/// The most workers: each has a seat of the table.
+const MAX_WORKERS: u32 = 256;
 
 /// The counter of the free places.
 const FREE: u32 = 0;
@@ -75,7 +78,8 @@ impl Model for Tally {
 /// Two counters: one of the free places, at so many, and one of the items, at 0.
 fn settings(alloc: Global, places: u32, workers: u32) -> Result<Settings, SetupError>
     ensures starts { IfOk result (λ s. s.starts.items ≡ places ∷ 0 ∷ []) }
-    ensures others { IfOk result (λ s. (s.seats ≡ workers) × (s.release_limit ≡ 2 ^ 40)) }
+    ensures others { IfOk result (λ s. (s.seats ≡ workers) × (s.roots ≡ 1) × (s.release_limit ≡ 2 ^ 40)) }
+    ensures err { IfErr result (λ refused. refused ≡ SetupError.NoMemory) }
 {
     let Ok(mut starts) = Vec::with_capacity(alloc, 2) else {
         return Err(SetupError::NoMemory);
@@ -101,15 +105,21 @@ impl Worker {
 }
 
 impl BoundedQueue {
-    /// An empty queue of so many places, a seat for each worker, and the tally. An error has made nothing.
+    /// An empty queue of so many places, a seat for each worker, and the tally. An error has made nothing: there are not 1 to
+    /// 256 workers, or no memory for what they ask.
     pub fn new(
         alloc: Global,
         places: u32,
         workers: u32,
     ) -> Result<(BoundedQueue, Vec<Seat>, Tally), SetupError>
         requires { 0 < places }
-        ensures { IfOk result (λ q. IsNew places workers q.0 q.1.items q.2) }
+        ensures ok { IfOk result (λ q. IsNew places workers q.0 q.1.items q.2) }
+        ensures err { IfErr result (λ refused. IsRefused workers refused) }
     {
+        // Looked at before memory is asked for, so that want of it isn't told in its place.
+        if workers == 0 || workers > MAX_WORKERS {
+            return Err(SetupError::Seats);
+        }
         let (table, seats) = SemaTable::new(alloc, settings(alloc, places, workers)?)?;
         let Ok((ring, pass)) = Ring::ruled(alloc, places as usize) else {
             return Err(SetupError::NoMemory);

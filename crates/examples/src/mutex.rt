@@ -1,7 +1,7 @@
 //! A number that threads share under a lock.
-ghost use Rattle.std.specs.Prelude.{◌≡◌, ◌<◌, true, false, length};
+ghost use Rattle.std.specs.Prelude.{◌≡◌, ◌<◌, ◌&&◌, true, false, length};
 ghost use Rattle.sync_parts.specs.Exclusion.{OnlyLocks, HaveMet};
-ghost use Rattle.examples.specs.Mutex.{HasHeld};
+ghost use Rattle.examples.specs.Mutex.{HasHeld, HasAdded};
 
 use sema_table::{Seat, SemaTable};
 use std::sync::Wait;
@@ -23,6 +23,7 @@ pub fn add_one<R: Wait>(rt: &R, lock: &mut SemaLock<'_>, number: &AtomicU64)
 }
 
 /// Adds one so many times, or as often as the seat may release.
+#[tactic(auto, using(crate::proofs::Turns::turn_taken, crate::proofs::Turns::turn_left))]
 pub fn add_many<R: Wait>(
     rt: &R,
     table: &SemaTable,
@@ -31,13 +32,12 @@ pub fn add_many<R: Wait>(
     times: u32,
 ) -> Seat
     requires { (seat.table ≡ table.now) × (0 < length table.now.setting.starts) }
-    ensures { (result.table ≡ table.now) × (result.number ≡ seat.number) }
+    ensures own { (result.table ≡ table.now) × (result.number ≡ seat.number) }
+    ensures added { HasAdded times seat result }
 {
     let mut lock = SemaLock::over(table, seat, CounterId::new(0));
-    for _ in 0..times {
-        if lock.left() == 0 {
-            break;
-        }
+    let turns = u64::from(times).min(lock.left());
+    for _turn in 0..turns {
         add_one(rt, &mut lock, number);
     }
     lock.into_seat()
@@ -47,6 +47,7 @@ pub fn add_many<R: Wait>(
 pub fn are_both_held(one: &mut SemaLock<'_>, other: &mut SemaLock<'_>) -> bool
     requires { (other.old.seat.table ≡ one.old.seat.table) × (other.old.counter ≡ one.old.counter) }
     ensures met { HaveMet one.old other.old one.new other.new }
+    ensures both { result ≡ (one.new.held && other.new.held) }
     ensures never { OnlyLocks one.old.seat.table one.old.counter one.new.seat.sight.seen → result ≡ false }
 {
     one.meet(other);

@@ -3,6 +3,7 @@
 ghost use Rattle.std.specs.Prelude.{◌≡◌, ◌<◌, length};
 
 use super::mutex_tests::last_seat;
+use crate::are_both_held;
 use sema_table::{Seat, SemaTable, Settings};
 use std::alloc::{AllocError, Global};
 use std::process::Abort;
@@ -11,9 +12,9 @@ use std::test::Fail;
 use sync_parts::SemaLock;
 use waiters::CounterId;
 
-fn settings(alloc: Global) -> Result<Settings, AllocError> {
+fn settings(alloc: Global, start: u32) -> Result<Settings, AllocError> {
     Ok(Settings {
-        starts: vec![in alloc; 1; 1]?,
+        starts: vec![in alloc; start; 1]?,
         seats: 2,
         roots: 1,
         seed: 0,
@@ -48,7 +49,7 @@ fn lock_in_turn<R: Abort + Wait>(
 
 #[test]
 fn of_two_locks_that_meet_one_is_held(rt: HostRuntime) -> Result<(), Fail> {
-    let (table, mut seats) = SemaTable::new(rt.alloc(), settings(rt.alloc())?)?;
+    let (table, mut seats) = SemaTable::new(rt.alloc(), settings(rt.alloc(), 1)?)?;
     assert!(rt; table.counters() == 1 && table.seats() == 2);
     let second = last_seat(&rt, &table, &mut seats);
     let first = last_seat(&rt, &table, &mut seats);
@@ -59,5 +60,30 @@ fn of_two_locks_that_meet_one_is_held(rt: HostRuntime) -> Result<(), Fail> {
     let closed = table.close(all);
     assert!(rt; closed.value(CounterId::new(0)) == 1);
     assert!(rt; closed.releases() == 2 && closed.acquires() == 2);
+    Ok(())
+}
+
+/// Both are locked, one after the other; they meet before, in between and after.
+fn lock_both<R: Abort + Wait>(rt: &R, table: &SemaTable, first: Seat, second: Seat)
+    requires own { (first.table ≡ table.now) × (second.table ≡ table.now) }
+    requires there { 0 < length table.now.setting.starts }
+{
+    let mut one = SemaLock::over(table, first, CounterId::new(0));
+    let mut other = SemaLock::over(table, second, CounterId::new(0));
+    assert!(rt; !are_both_held(&mut one, &mut other));
+    one.acquire(rt);
+    assert!(rt; !are_both_held(&mut one, &mut other));
+    assert!(rt; !other.held());
+    other.acquire(rt);
+    assert!(rt; are_both_held(&mut one, &mut other));
+}
+
+#[test]
+fn both_locks_are_held_where_their_counter_starts_at_two(rt: HostRuntime) -> Result<(), Fail> {
+    let (table, mut seats) = SemaTable::new(rt.alloc(), settings(rt.alloc(), 2)?)?;
+    assert!(rt; table.counters() == 1);
+    let second = last_seat(&rt, &table, &mut seats);
+    let first = last_seat(&rt, &table, &mut seats);
+    lock_both(&rt, &table, first, second);
     Ok(())
 }

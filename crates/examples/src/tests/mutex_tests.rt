@@ -68,22 +68,44 @@ fn four_add<R: Abort + Threads + Wait + Sync>(
     );
 }
 
-fn settings(alloc: Global) -> Result<Settings, AllocError> {
+fn settings(alloc: Global, seats: u32, release_limit: u64) -> Result<Settings, AllocError> {
     Ok(Settings {
         starts: vec![in alloc; 1; 1]?,
-        seats: 4,
+        seats,
         roots: 1,
         seed: 0,
-        release_limit: 1 << 40,
+        release_limit,
     })
 }
 
 #[test]
 fn no_increment_of_four_threads_is_lost(rt: HostRuntime) -> Result<(), Fail> {
-    let (table, seats) = SemaTable::new(rt.alloc(), settings(rt.alloc())?)?;
+    let (table, seats) = SemaTable::new(rt.alloc(), settings(rt.alloc(), 4, 1 << 40)?)?;
     assert!(rt; table.counters() == 1);
     let number = AtomicU64::new(0);
     four_add(&rt, &table, &number, seats);
     assert!(rt; number.load(SeqCst) == 40_000);
+    Ok(())
+}
+
+/// One adds three times, and then more often than it may.
+fn adds_up_to_the_limit<R: Abort + Wait>(rt: &R, table: &SemaTable, seat: Seat)
+    requires { (seat.table ≡ table.now) × (0 < length table.now.setting.starts) }
+{
+    let number = AtomicU64::new(0);
+    let seat = add_many(rt, table, seat, &number, 3);
+    assert!(rt; seat.left() == 7 && seat.taken() == 3);
+    assert!(rt; number.load(SeqCst) == 3);
+    let seat = add_many(rt, table, seat, &number, 20);
+    assert!(rt; seat.left() == 0 && seat.taken() == 10);
+    assert!(rt; number.load(SeqCst) == 10);
+}
+
+#[test]
+fn a_seat_adds_no_more_often_than_it_may(rt: HostRuntime) -> Result<(), Fail> {
+    let (table, mut seats) = SemaTable::new(rt.alloc(), settings(rt.alloc(), 1, 10)?)?;
+    assert!(rt; table.counters() == 1);
+    let seat = last_seat(&rt, &table, &mut seats);
+    adds_up_to_the_limit(&rt, &table, seat);
     Ok(())
 }

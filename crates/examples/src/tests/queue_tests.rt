@@ -7,7 +7,7 @@ ghost use Rattle.examples.specs.Moves.{all_parts};
 ghost use Rattle.examples.specs.Queue.{IsOf};
 
 use crate::{BoundedQueue, Tally, Worker};
-use sema_table::Seat;
+use sema_table::{Seat, SetupError};
 use std::alloc::{AllocError, Global};
 use std::process::Abort;
 use std::sync::Wait;
@@ -187,5 +187,18 @@ fn leaves_one<R: Abort + Wait>(rt: &R, queue: &BoundedQueue, tally: &mut Tally, 
 fn what_is_put_is_taken_or_left(rt: HostRuntime) -> Result<(), Fail> {
     let (queue, seats, mut tally) = BoundedQueue::new(rt.alloc(), 2, 1)?;
     leaves_one(&rt, &queue, &mut tally, seats);
+    Ok(())
+}
+
+#[test]
+fn no_workers_or_too_many_are_refused(rt: HostRuntime) -> Result<(), Fail> {
+    for workers in [0, 257] {
+        match BoundedQueue::new(rt.alloc(), 2, workers) {
+            Ok(_) => panic!(rt; "a queue was made"),
+            Err(refused) => assert!(rt; refused == SetupError::Seats),
+        }
+    }
+    let (_, seats, _) = BoundedQueue::new(rt.alloc(), 2, 256)?;
+    assert!(rt; seats.len() == 256);
     Ok(())
 }

@@ -1,5 +1,11 @@
-use Rattle.std.proofs.Common.{◌≡◌, false}
+use Rattle.std.proofs.Common.{◌≡◌, ◌+◌, ◌≤◌, false}
+use Rattle.sync_parts.specs.Locking.{new_lock}
+use Rattle.examples.specs.Mutex.{HasHeldOften}
 use Rattle.examples.proofs.mutex.add_many.Given as goal
 
-abbrev pub invariant-loop : goal.invariant-loop
-invariant-loop g l = (l.lock.held ≡ false) × (l.lock.seat.table ≡ l.table) × (l.lock.seat.number ≡ l.fn.seat.number)
+-- so many turns have run
+abbrev pub invariant-loop-turn : goal.invariant-loop-turn
+invariant-loop-turn g l =
+    (l.lock.held ≡ false) × (l.lock.seat.table ≡ l.table) × (l.lock.seat.number ≡ l.fn.seat.number)
+    × (l._turn ≤ l.turns) × HasHeldOften l._turn (new_lock l.fn.seat 0) l.lock
+    × (l.lock.seat.left + l._turn ≡ l.fn.seat.left) × (l.lock.seat.taken ≡ l.fn.seat.taken + l._turn)

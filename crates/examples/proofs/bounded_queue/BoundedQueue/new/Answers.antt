@@ -1,16 +1,18 @@
-use Rattle.std.proofs.Common.{ap, ◌∙◌}
+use Rattle.std.proofs.Common.{ap, ◌∙◌, subst}
 use Rattle.sema_table.specs.declared.view.Setting.{Setting}
-use Rattle.sema_table.specs.Making.{new_seats}
+use Rattle.sema_table.specs.Making.{IsFromOne, most_seats, new_seats}
 use Rattle.examples.proofs.bounded_queue.BoundedQueue.new.Goals as goal
 
-pub returns : goal.returns
-returns c =
+pub returns-clause-ok : goal.returns-clause-ok
+returns-clause-ok c =
     let made = c.in_ok-table.ensures.ok in let ring = c.in-Ok.ensures in let s = c.in_ok-settings.ensures in
     record {
       places_are = ring.0;
       starts = ap (λ (z : Setting). z.starts) made.setting ∙ s.starts;
       own = c.in_ok-table.ensures.own;
+      allowed = subst (IsFromOne most_seats) s.others.0 made.allowed.seats;
+      workers_are = ap (λ (z : Setting). z.seats) made.setting ∙ s.others.0;
       seats_are = made.seats_are ∙ ap (λ n. new_seats c.in_ok-table.table 0 n) s.others.0;
-      limit = ap (λ (z : Setting). z.limit) made.setting ∙ s.others.1;
+      limit = ap (λ (z : Setting). z.limit) made.setting ∙ s.others.2;
       tally = λ i. record { ring = ring.1.0 i; moves = ring.3 i };
     }
