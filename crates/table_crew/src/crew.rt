@@ -1,8 +1,8 @@
 //! One thread for each seat, and the end of the table.
 
-ghost use Rattle.std.specs.Prelude.{◌≡◌, ◌<◌, List, All, length, IfOk};
-ghost use Rattle.sema_table.specs.Seats.{SeatModel};
-ghost use Rattle.sema_table.specs.Closing.{AreAll, IsClosed};
+ghost use Rattle.std.specs.Prelude.{◌≡◌, ◌<◌, All, length, IfOk, IfSome};
+ghost use Rattle.table_crew.specs.Turns.{HasWorked, IsCrewRun};
+ghost use Rattle.table_crew.specs.Crew.{IsWorker};
 
 use crate::start::Start;
 use crate::work::Work;
@@ -13,19 +13,6 @@ use std::thread;
 use std::thread::{Promise, PromisedHandle, Scope, Threads};
 use waiters::NoMemory;
 
-/// What a thread hands back: a seat of this table.
-#[derive(Clone, Copy, Drop)]
-struct Back<'t> {
-    table: &'t SemaTable,
-}
-
-impl<'t> Promise<Seat> for Back<'t> {
-    ghost kept_by = { λ promise seat. seat.table ≡ promise.table.now };
-}
-
-/// A thread that works for a seat.
-type Worker<'t> = PromisedHandle<Seat, Back<'t>>;
-
 /// What each thread does.
 #[derive(Clone, Copy, Drop)]
 struct Plan {
@@ -33,15 +20,29 @@ struct Plan {
     turns: u32,
 }
 
+/// What a thread hands back: a seat of this table that has worked by the plan, or none where it didn't begin.
+#[derive(Clone, Copy, Drop)]
+struct Back<'t> {
+    table: &'t SemaTable,
+    plan: Plan,
+}
+
+impl<'t> Promise<Option<Seat>> for Back<'t> {
+    ghost kept_by = { λ promise back. IfSome back (HasWorked promise.table.now promise.plan.work promise.plan.turns) };
+}
+
+/// A thread that works for a seat.
+type Worker<'t> = PromisedHandle<Option<Seat>, Back<'t>>;
+
 /// A seat's part of the plan, from the start on.
-fn work<R: Wait>(rt: &R, table: &SemaTable, seat: Seat, plan: Plan, start: &Start) -> Seat
+fn work<R: Wait>(rt: &R, table: &SemaTable, seat: Seat, plan: Plan, start: &Start) -> Option<Seat>
     requires { (seat.table ≡ table.now) × (0 < length table.now.setting.starts) }
-    ensures { result.table ≡ table.now }
+    ensures { IfSome result (HasWorked table.now plan.work plan.turns) }
 {
     if start.wait(rt) {
-        plan.work.turns(rt, table, seat, plan.turns)
+        Some(plan.work.turns(rt, table, seat, plan.turns))
     } else {
-        seat
+        None
     }
 }
 
@@ -57,12 +58,12 @@ fn hire_all<'s, E, R: Threads + Wait + Sync>(
 ) -> (Vec<Worker<'s>>, bool)
     requires table { 0 < length table.now.setting.starts }
     requires seats { All (λ s. s.table ≡ table.now) seats.items }
-    ensures { All (λ w. w.promise.table.now ≡ table.now) result.0.items }
+    ensures { All (IsWorker table.now plan) result.0.items }
 {
     let mut seats = seats;
     let mut workers = Vec::new(alloc);
     while let Some(seat) = seats.pop() {
-        let promise = Back { table };
+        let promise = Back { table, plan };
         let made = scope.spawn_with(promise, move || work(rt, table, seat, plan, start));
         let Ok(worker) = made else {
             return (workers, false);
@@ -76,20 +77,24 @@ fn hire_all<'s, E, R: Threads + Wait + Sync>(
 
 /// The seats of all threads, once they have ended.
 ///
-/// It is an `Err` where memory is short.
+/// It is an `Err` where memory is short or a thread didn't begin.
 fn join_all<'s, R: Threads>(
     rt: &R,
     alloc: Global,
     table: &'s SemaTable,
+    plan: Plan,
     workers: Vec<Worker<'s>>,
 ) -> Result<Vec<Seat>, NoMemory>
-    requires { All (λ w. w.promise.table.now ≡ table.now) workers.items }
-    ensures { IfOk result (λ seats. All (λ s. s.table ≡ table.now) seats.items) }
+    requires { All (IsWorker table.now plan) workers.items }
+    ensures { IfOk result (λ seats. All (HasWorked table.now plan.work plan.turns) seats.items) }
 {
     let mut workers = workers;
     let mut seats = Vec::with_capacity(alloc, workers.len())?;
     while let Some(worker) = workers.pop() {
-        if seats.push(worker.join(rt)).is_err() {
+        let Some(seat) = worker.join(rt) else {
+            return Err(NoMemory);
+        };
+        if seats.push(seat).is_err() {
             return Err(NoMemory);
         }
     }
@@ -109,7 +114,7 @@ fn work_all<R: Threads + Wait + Sync>(
 ) -> Result<Vec<Seat>, NoMemory>
     requires table { 0 < length table.now.setting.starts }
     requires seats { All (λ s. s.table ≡ table.now) seats.items }
-    ensures { IfOk result (λ back. All (λ s. s.table ≡ table.now) back.items) }
+    ensures { IfOk result (λ back. All (HasWorked table.now plan.work plan.turns) back.items) }
 {
     thread::scope(
         thread::scope_env(),
@@ -117,11 +122,11 @@ fn work_all<R: Threads + Wait + Sync>(
         move |scope| -> Result<Vec<Seat>, NoMemory>
             requires table { 0 < length table.now.setting.starts }
             requires seats { All (λ s. s.table ≡ table.now) seats.items }
-            ensures { IfOk result (λ back. All (λ s. s.table ≡ table.entry.now) back.items) }
+            ensures { IfOk result (λ back. All (HasWorked table.entry.now plan.work plan.turns) back.items) }
         {
             let (workers, all) = hire_all(scope, rt, alloc, table, seats, plan, start);
             start.tell(all);
-            join_all(rt, alloc, table, workers)
+            join_all(rt, alloc, table, plan, workers)
         },
     )
 }
@@ -139,7 +144,7 @@ pub fn run<R: Threads + Wait + Sync>(
 ) -> Result<Closed, NoMemory>
     requires table { 0 < length table.setting.starts }
     requires seats { All (λ s. s.table ≡ table) seats.items }
-    ensures { IfOk result (λ closed. (ended : List SeatModel) × AreAll table ended × IsClosed table.setting ended closed) }
+    ensures { IfOk result (IsCrewRun table work turns) }
 {
     let plan = Plan { work, turns };
     let seats = work_all(rt, alloc, &table, seats, plan, &Start::new())?;

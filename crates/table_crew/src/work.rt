@@ -1,7 +1,8 @@
 //! What a seat does, turn after turn. Each work is a loop of its own: what stands in it besides the calls of the table would be
 //! measured with them.
 
-ghost use Rattle.std.specs.Prelude.{◌≡◌, ◌<◌, length};
+ghost use Rattle.std.specs.Prelude.{◌≡◌, ◌%◌, ◌<◌, length};
+ghost use Rattle.table_crew.specs.Turns.{Releases, ReleasesTwo, HasRun};
 
 use sema_table::{PostedMany, Seat, SemaTable};
 use std::sync::Wait;
@@ -34,7 +35,8 @@ pub enum Work {
 /// The counter of this number, modulo how many the table has.
 fn counter(table: &SemaTable, number: u32) -> CounterId
     requires { 0 < length table.now.setting.starts }
-    ensures { result < length table.now.setting.starts }
+    ensures inside { result < length table.now.setting.starts }
+    ensures is { result ≡ number % length table.now.setting.starts }
 {
     CounterId::new(number % table.counters())
 }
@@ -49,7 +51,8 @@ fn release<R: Wait>(
     handoff: bool,
 ) -> Seat
     requires { (seat.table ≡ table.now) × (counter < length table.now.setting.starts) }
-    ensures { result.table ≡ table.now }
+    ensures same { (result.table ≡ seat.table) × (result.number ≡ seat.number) }
+    ensures released { Releases seat counter handoff result }
 {
     match table.release(rt, seat, counter, handoff) {
         Ok((seat, _)) => seat,
@@ -61,7 +64,8 @@ fn release<R: Wait>(
 #[inline]
 fn release_two<R: Wait>(rt: &R, table: &SemaTable, seat: Seat, counter: CounterId) -> Seat
     requires { (seat.table ≡ table.now) × (counter < length table.now.setting.starts) }
-    ensures { result.table ≡ table.now }
+    ensures same { (result.table ≡ seat.table) × (result.number ≡ seat.number) }
+    ensures released { ReleasesTwo seat counter result }
 {
     match table.post_many(seat, counter, 2) {
         Ok(PostedMany::Done(seat)) => seat,
@@ -72,10 +76,11 @@ fn release_two<R: Wait>(rt: &R, table: &SemaTable, seat: Seat, counter: CounterI
 
 fn adds<R: Wait>(rt: &R, table: &SemaTable, seat: Seat, turns: u32) -> Seat
     requires { (seat.table ≡ table.now) × (0 < length table.now.setting.starts) }
-    ensures { result.table ≡ table.now }
+    ensures same { (result.table ≡ seat.table) × (result.number ≡ seat.number) }
+    ensures ran { HasRun Work.Adds seat turns result }
 {
     let mut seat = seat;
-    for _ in 0..turns {
+    for _turn in 0..turns {
         seat = release(rt, table, seat, CounterId::new(0), false);
     }
     seat
@@ -83,13 +88,14 @@ fn adds<R: Wait>(rt: &R, table: &SemaTable, seat: Seat, turns: u32) -> Seat
 
 fn hands<R: Wait>(rt: &R, table: &SemaTable, seat: Seat, way: Way, turns: u32) -> Seat
     requires { (seat.table ≡ table.now) × (0 < length table.now.setting.starts) }
-    ensures { result.table ≡ table.now }
+    ensures same { (result.table ≡ seat.table) × (result.number ≡ seat.number) }
+    ensures ran { HasRun (Work.Hands way) seat turns result }
 {
     let own = u32::from(seat.id().number());
     let takes = counter(table, own);
     let gives = counter(table, own + 1);
     let mut seat = seat;
-    for _ in 0..turns {
+    for _turn in 0..turns {
         seat = table.acquire(rt, seat, takes, way.lifo);
         seat = release(rt, table, seat, gives, way.handoff);
     }
@@ -98,13 +104,14 @@ fn hands<R: Wait>(rt: &R, table: &SemaTable, seat: Seat, way: Way, turns: u32) -
 
 fn hands_two<R: Wait>(rt: &R, table: &SemaTable, seat: Seat, turns: u32) -> Seat
     requires { (seat.table ≡ table.now) × (0 < length table.now.setting.starts) }
-    ensures { result.table ≡ table.now }
+    ensures same { (result.table ≡ seat.table) × (result.number ≡ seat.number) }
+    ensures ran { HasRun Work.HandsTwo seat turns result }
 {
     let own = u32::from(seat.id().number());
     let takes = counter(table, own);
     let gives = counter(table, own + 1);
     let mut seat = seat;
-    for _ in 0..turns {
+    for _turn in 0..turns {
         seat = table.acquire(rt, seat, takes, false);
         seat = table.acquire(rt, seat, takes, false);
         seat = release_two(rt, table, seat, gives);
@@ -114,7 +121,8 @@ fn hands_two<R: Wait>(rt: &R, table: &SemaTable, seat: Seat, turns: u32) -> Seat
 
 fn rounds<R: Wait>(rt: &R, table: &SemaTable, seat: Seat, turns: u32) -> Seat
     requires { (seat.table ≡ table.now) × (0 < length table.now.setting.starts) }
-    ensures { result.table ≡ table.now }
+    ensures same { (result.table ≡ seat.table) × (result.number ≡ seat.number) }
+    ensures ran { HasRun Work.Rounds seat turns result }
 {
     let mut seat = seat;
     for turn in 0..turns {
@@ -139,7 +147,8 @@ fn scattered(seat: u32, turn: u32, many: u32) -> u32
 
 fn spread<R: Wait>(rt: &R, table: &SemaTable, seat: Seat, turns: u32) -> Seat
     requires { (seat.table ≡ table.now) × (0 < length table.now.setting.starts) }
-    ensures { result.table ≡ table.now }
+    ensures same { (result.table ≡ seat.table) × (result.number ≡ seat.number) }
+    ensures ran { HasRun Work.Spread seat turns result }
 {
     let own = u32::from(seat.id().number());
     let many = table.counters();
@@ -154,7 +163,8 @@ fn spread<R: Wait>(rt: &R, table: &SemaTable, seat: Seat, turns: u32) -> Seat
 
 fn locks<R: Wait>(rt: &R, table: &SemaTable, seat: Seat, turns: u32) -> Seat
     requires { (seat.table ≡ table.now) × (0 < length table.now.setting.starts) }
-    ensures { result.table ≡ table.now }
+    ensures same { (result.table ≡ seat.table) × (result.number ≡ seat.number) }
+    ensures ran { HasRun Work.Locks seat turns result }
 {
     let own = u32::from(seat.id().number());
     let mut seat = seat;
@@ -186,7 +196,8 @@ impl Work {
     /// So many turns of a seat.
     pub(crate) fn turns<R: Wait>(self, rt: &R, table: &SemaTable, seat: Seat, turns: u32) -> Seat
         requires { (seat.table ≡ table.now) × (0 < length table.now.setting.starts) }
-        ensures { result.table ≡ table.now }
+        ensures same { (result.table ≡ seat.table) × (result.number ≡ seat.number) }
+        ensures ran { HasRun self seat turns result }
     {
         match self {
             Work::Adds => adds(rt, table, seat, turns),

@@ -1,0 +1,29 @@
+use Rattle.std.proofs.Common.{◌≡◌, ℕ, ◌+◌, ◌%◌, length, rules, sym, ap, ◌∙◌, subst}
+use Rattle.sema_table.specs.Seats.{TableModel}
+use Rattle.sema_table.specs.Whole.{IsAcquired}
+use Rattle.table_crew.specs.declared.work.Work.TheVariants.{Hands}
+use Rattle.table_crew.specs.Turns.{Releases}
+use Rattle.table_crew.proofs.Keeping.{one_more}
+use Rattle.table_crew.proofs.work.hands.Goals as goal
+
+pub loop-turn-preserved : goal.loop-turn-preserved
+loop-turn-preserved g c =
+    let s = c.loop-turn.seat in let u = c.acquire-seat.result in let t = c.release-seat.result in
+    let was = c.loop-turn.invariant in let own = c.args.seat.number in let way = c.args.way in
+    let takes : c.counter-takes.result ≡ own % length c.args.seat.table.setting.starts =
+    was.4 ∙ ap (λ (z : TableModel). own % length z.setting.starts) (sym c.requires.0) in
+    let gives : c.counter-gives.result ≡ (own + 1) % length c.args.seat.table.setting.starts =
+    was.6 ∙ ap (λ (z : TableModel). (own + 1) % length z.setting.starts) (sym c.requires.0) in (
+      search rules,
+      search rules,
+      search rules,
+      one_more (Hands way) c.args.seat c.loop-turn._turn s t was.3 (
+        u,
+        subst (λ (k : ℕ). IsAcquired s k way.lifo u) takes c.acquire-seat.ensures,
+        subst (λ (k : ℕ). Releases u k way.handoff t) gives c.release-seat.ensures.released,
+      ),
+      was.4,
+      was.5,
+      was.6,
+      was.7,
+    )

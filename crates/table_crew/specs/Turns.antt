@@ -1,0 +1,57 @@
+-- What the seats of a crew do, turn after turn, and the table that is closed with them.
+use Rattle.std.specs.Prelude.{◌≡◌, ◌⊎◌, ℕ, zero, suc, ◌+◌, ◌%◌, ◌^◌, ◌<◌, ◌==◌, Bool, false, List, length}
+use Rattle.std.specs.List.{All}
+use Rattle.sema_table.specs.declared.answers.Wake.{Wake}
+use Rattle.sema_table.specs.declared.many_seat.PostedMany.TheVariants.{Done, Owes}
+use Rattle.sema_table.specs.Seats.{TableModel, SeatModel}
+use Rattle.sema_table.specs.Many.{release_of, IsPostedMany, IsWokenMany}
+use Rattle.sema_table.specs.Whole.{IsReleased, IsAcquired}
+use Rattle.sema_table.specs.Closing.{ClosedModel, AreAll, IsClosed}
+use Rattle.table_crew.specs.declared.work.Work.{Work}
+use Rattle.table_crew.specs.declared.work.Work.TheVariants.{Adds, Hands, HandsTwo, Rounds, Spread, Locks}
+
+-- a whole release; or nothing, where the seat may add no more
+abbrev pub Releases : SeatModel → ℕ → Bool → SeatModel → Type 0
+Releases s c handoff t = ((wake : Wake) × IsReleased s c handoff t wake) ⊎ ((s.left ≡ 0) × (t ≡ s))
+
+-- a whole release of two units by one add; or nothing, where the seat may not add two
+abbrev pub ReleasesTwo : SeatModel → ℕ → SeatModel → Type 0
+ReleasesTwo s c t =
+    IsPostedMany s (release_of c 2) (Done t)
+    ⊎ (((u : SeatModel) × (woken : ℕ) × IsPostedMany s (release_of c 2) (Owes u) × IsWokenMany u t woken)
+    ⊎ ((s.left < 2) × (t ≡ s)))
+
+abbrev pub is_odd : ℕ → Bool
+is_odd turn = turn % 2 == 1
+
+-- the turn of this number, by a seat of this number, of so many counters: what `Work` says. Spread takes some counter
+abbrev pub IsTurn : Work → ℕ → ℕ → ℕ → SeatModel → SeatModel → Type 0
+IsTurn Adds many own turn s t = Releases s 0 false t
+IsTurn (Hands way) many own turn s t =
+    (u : SeatModel) × IsAcquired s (own % many) way.lifo u × Releases u ((own + 1) % many) way.handoff t
+IsTurn HandsTwo many own turn s t =
+    (u v : SeatModel) × IsAcquired s (own % many) false u × IsAcquired u (own % many) false v × ReleasesTwo v ((own + 1) % many) t
+IsTurn Rounds many own turn s t = (u : SeatModel) × Releases s 0 (is_odd turn) u × IsAcquired u 0 (is_odd turn) t
+IsTurn Spread many own turn s t = (c : ℕ) × (u : SeatModel) × Releases s c false u × IsAcquired u c false t
+IsTurn Locks many own turn s t =
+    let c = (own + turn) % 2 ^ 32 % many in (u : SeatModel) × IsAcquired s c false u × Releases u c false t
+
+-- so many turns, one after the other, from turn 0 on
+abbrev pub HasRun : Work → SeatModel → ℕ → SeatModel → Type 0
+HasRun work s zero t = t ≡ s
+HasRun work s (suc n) t = (u : SeatModel) × HasRun work s n u × IsTurn work (length s.table.setting.starts) s.number n u t
+
+-- the seat is one of this table, and has run so many turns, from how it was at first
+pub record HasWorked (t : TableModel) (work : Work) (turns : ℕ) (s : SeatModel) : Type 0 where
+  pub own : s.table ≡ t
+  pub first : SeatModel
+  pub same_table : first.table ≡ t
+  pub same_number : first.number ≡ s.number
+  pub ran : HasRun work first turns s
+
+-- the table was closed with all its seats, each of which had worked
+pub record IsCrewRun (t : TableModel) (work : Work) (turns : ℕ) (c : ClosedModel) : Type 0 where
+  pub seats : List SeatModel
+  pub all : AreAll t seats
+  pub worked : All (HasWorked t work turns) seats
+  pub closed : IsClosed t.setting seats c
