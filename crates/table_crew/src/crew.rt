@@ -133,7 +133,8 @@ fn work_all<R: Threads + Wait + Sync>(
 
 /// Each seat of the table does so many turns of this work, in a thread of its own; the table is closed with all of them.
 ///
-/// It is an `Err` where memory is short or a thread can't be made: then no seat has worked.
+/// It is an `Err` where memory is short or a thread can't be made, and then no seat has worked; and where these aren't all seats
+/// of the table.
 pub fn run<R: Threads + Wait + Sync>(
     rt: &R,
     alloc: Global,
