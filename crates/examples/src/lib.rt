@@ -13,8 +13,6 @@
 mod bounded_queue;
 mod moves;
 mod mutex;
-#[cfg(test)]
-mod tests;
 
 pub use bounded_queue::{BoundedQueue, Tally, Worker};
 pub use moves::{Balances, Moves, OnePart, Puts, Ring, Takes, Total};

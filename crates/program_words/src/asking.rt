@@ -139,3 +139,6 @@ pub(crate) fn asked_of<'w>(
         _ => Ok(Asked::Once),
     }
 }
+
+// What the help says of a search that isn't told how many worlds it may keep.
+const _: () = prove!(EXPLORED_WORLDS == 200_000 && CHECKED_WORLDS == 2_000_000);

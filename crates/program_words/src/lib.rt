@@ -6,7 +6,6 @@
 
 mod asked;
 mod asking;
-mod commands;
 mod format;
 mod words;
 

@@ -1,13 +1,9 @@
 //! A replay as a table: a line a step, with what the row found, and all words after the step.
 //!
-//! What a line says is that of the run; how a table is laid out as text is chosen here.
+//! How a table is laid out as text is chosen in the crate `replay_text`.
 #![tactic(auto)]
 
-mod columns;
-mod layout;
 mod line;
-mod seat_cell;
-mod spelling;
 mod table;
 
 pub use line::Line;

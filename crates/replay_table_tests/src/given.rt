@@ -3,6 +3,7 @@
 //! What answers want of memory is made once more.
 
 use replay_table::{Refused, table_of};
+use replay_text::table_text;
 use scenario_text::read_scenario;
 use std::alloc::{AllocError, Global};
 use std::process::Abort;
@@ -47,7 +48,7 @@ fn play(alloc: Global, played: &Played<'_>) -> Result<Told, NoMemory> {
     let seats = seats(alloc, played.schedule)?;
     let table = table_of(alloc, &scenario, played.change, &seats)?;
     Ok(Told {
-        text: table.to_text(alloc)?,
+        text: table_text(alloc, &table)?,
         refused: table.refused,
     })
 }

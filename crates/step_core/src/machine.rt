@@ -8,7 +8,7 @@ ghost use Rattle.step_table.specs.World.{put};
 ghost use Rattle.step_table.specs.Steps.{moved};
 ghost use Rattle.step_table.specs.ListSteps.{moved as moved_on_list, waiting};
 ghost use Rattle.step_table.specs.Group.{empty_word};
-ghost use Rattle.step_rows.specs.Key.{joined, list_words, group_words, standing_words};
+ghost use Rattle.key_words.specs.Key.{joined, list_words, group_words, standing_words};
 ghost use Rattle.step_core.specs.Key.{core_words, HasForm};
 ghost use Rattle.step_rows.specs.ListStored.{IsListReady, world_of};
 ghost use Rattle.step_table.specs.Core.{CoreLayout, semaphore};
@@ -17,8 +17,9 @@ ghost use Rattle.step_table.specs.Scenario.{IsWithinLimits};
 ghost use Rattle.step_core.specs.State.{Becomes, IsMachineFor, HasSeat, HasListSeat, no_list, core_of};
 ghost use Rattle.step_rows.specs.Stored.{each, IsReadyFor};
 
+use key_words::{write_group, write_standing};
 use std::marker::Model;
-use step_rows::{ListMachine, ListReady, Ready, Semaphores, write_group, write_standing};
+use step_rows::{ListMachine, ListReady, Ready, Semaphores};
 use step_table::{
     After, GroupId, GroupWord, ListId, ListPlace, Parts, Place, Release, ReleaseRow, Standing,
 };

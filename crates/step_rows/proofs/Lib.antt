@@ -11,8 +11,6 @@ pub mod Handing
 pub mod Noting
 pub mod Opening
 pub mod Turning
-pub mod KeyReading
-pub mod KeyPieces
 pub mod KeySeats
 pub mod KeyWriting
 pub mod KeyWhole

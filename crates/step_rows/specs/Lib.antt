@@ -2,6 +2,5 @@ pub mod Roots
 pub mod Seats
 pub mod Stored
 pub mod ListStored
-pub mod Key
 pub mod Apart
 pub mod RootWords

@@ -7,9 +7,9 @@
 #![tactic(auto)]
 
 mod apart;
+mod begun;
 mod caller;
 mod copying;
-mod key;
 mod list_machine;
 mod queues;
 mod ready;
@@ -18,9 +18,9 @@ mod sema_store;
 mod semaphores;
 mod step;
 
+pub use begun::write_begun;
 pub use caller::Caller;
 pub use copying::copy_items;
-pub use key::{write_begun, write_group, write_standing};
 pub use list_machine::ListMachine;
 pub use ready::{ListReady, Ready, entry_of};
 pub use semaphores::Semaphores;

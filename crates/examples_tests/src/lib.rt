@@ -1,0 +1,11 @@
+//! The tests of `examples`, which use it from outside, by threads: no increment is lost, and each item arrives once.
+//!
+//! They are short, to be copied: where memory is refused they end with that error.
+#![tactic(auto)]
+
+#[cfg(test)]
+mod lock_tests;
+#[cfg(test)]
+mod mutex_tests;
+#[cfg(test)]
+mod queue_tests;
