@@ -1,4 +1,4 @@
-use Rattle.std.proofs.Common.{sym, ap, ◌∙◌}
+use Rattle.std.proofs.Common.{sym, ap, ◌∙◌, rules}
 use Rattle.journal_text.specs.declared.entry.Entry.{Entry}
 use Rattle.journal_judge.specs.LawfulJournal.{entry_of, wait_of}
 use Rattle.journal_judge.specs.Account.{after}
@@ -24,3 +24,6 @@ returns-in-Ticket-clause-shown c = c.hand_out.ensures.shown c.in-Ticket.seat ∙
 
 pub returns-in-Grant-clause-shown : goal.returns-in-Grant-clause-shown
 returns-in-Grant-clause-shown c = c.grant.ensures.shown c.in-Grant.seat ∙ ap (λ (e : Entry). after (shown c.args.self.now) (entry_of e)) (sym c.in-Grant.is)
+
+pub returns-in-Queue-clause-shown : goal.returns-in-Queue-clause-shown
+returns-in-Queue-clause-shown c = search rules

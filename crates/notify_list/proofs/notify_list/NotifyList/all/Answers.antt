@@ -1,4 +1,4 @@
-use Rattle.std.proofs.Common.{ℕ, ap, ◌∙◌, subst}
+use Rattle.std.proofs.Common.{ℕ, ap, ◌∙◌, subst, rules}
 use Rattle.notify_list.specs.Seats.{SeatModel, seat_of}
 use Rattle.notify_list.specs.Calls.{AllGranted}
 use Rattle.notify_list.specs.NotifyingAll.{NotifiesAll, GrantsSome}
@@ -61,3 +61,6 @@ returns g c =
       count = subst (λ (q : SeatModel). GrantsSome q k (seat_of z n)) c.seat.view_is (locked_some l s t n c.seat.invariant own x u c.lock.ensures k v R y T z W);
       granted = subst (λ (q : SeatModel). AllGranted q (seat_of z n)) c.seat.view_is (locked_granted l s t n c.seat.invariant own x u c.lock.ensures k v R y T z W);
     }
+
+pub wake_all-requires-clause-seats : goal.wake_all-requires-clause-seats
+wake_all-requires-clause-seats g c = search rules

@@ -1,4 +1,4 @@
-use Rattle.std.proofs.Common.{◌≡◌, ◌+◌, sym, ap, ◌∙◌, arith}
+use Rattle.std.proofs.Common.{◌≡◌, ◌+◌, sym, ap, ◌∙◌, arith, rules}
 use Rattle.notify_list.specs.Plays.{Me}
 use Rattle.notify_list.specs.Seats.{ListModel, list_of}
 use Rattle.notify_list.proofs.Owned.{grant_low, someones}
@@ -19,3 +19,6 @@ swap-requires g c =
       allowed_receives _ _ _ c.grant_word-word.result t.me (someones x c.self.invariant t own) c.requires.parked.0 (ap (λ (m : Me). m.0.sight.stands.place) me ∙ c.requires.parked.1)
           (let n = ap (λ (m : Me). m.0.number) me in let k = r.1 in omega arith),
     )
+
+pub loop-preserved : goal.loop-preserved
+loop-preserved g c = search rules
