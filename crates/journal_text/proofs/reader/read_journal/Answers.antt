@@ -1,4 +1,4 @@
-use Rattle.std.proofs.Common.{arith}
+use Rattle.std.proofs.Common.{arith, rules}
 use Rattle.journal_text.specs.JournalText.{Spells}
 use Rattle.journal_text.proofs.Parts.{found}
 use Rattle.journal_text.proofs.Texts.{turn, kept_more, counted, longer}
@@ -17,3 +17,6 @@ loop-rest-preserved c =
           let few = c.loop-rest.invariant.few in
           omega arith;
     })
+
+pub returns-in_default-clause-fault : goal.returns-in_default-clause-fault
+returns-in_default-clause-fault c = search rules

@@ -1,4 +1,4 @@
-use Rattle.std.proofs.Common.{ap, ◌∙◌, subst}
+use Rattle.std.proofs.Common.{ap, ◌∙◌, subst, rules}
 use Rattle.sema_table.specs.declared.view.Setting.{Setting}
 use Rattle.sema_table.specs.Making.{IsFromOne, most_seats, new_seats}
 use Rattle.examples.proofs.bounded_queue.BoundedQueue.new.Goals as goal
@@ -16,3 +16,6 @@ returns-clause-ok c =
       limit = ap (λ (z : Setting). z.limit) made.setting ∙ s.others.2;
       tally = λ i. record { ring = ring.1.0 i; moves = ring.3 i };
     }
+
+pub returns-then-workers-eq0-clause-err : goal.returns-then-workers-eq0-clause-err
+returns-then-workers-eq0-clause-err c = search rules
