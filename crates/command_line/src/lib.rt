@@ -1,6 +1,6 @@
 //! The program's command line as clap takes it: the commands, the arguments of each with their limits, and the help.
 //!
-//! What the words that clap has read ask for is told by the crate `program_words`.
+//! The crate `program_words` reads words by these commands, and tells what they ask for.
 #![tactic(auto)]
 
 mod commands;

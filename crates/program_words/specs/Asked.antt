@@ -1,5 +1,5 @@
 -- What the program's words may ask for.
-use Rattle.std.specs.Prelude.{◌≡◌, ◌≢◌, ℕ, ◌≤◌, List, [], ◌∷◌, ◌++◌, Option, None, Bool, false, option_map, string_bytes, codes}
+use Rattle.std.specs.Prelude.{◌≡◌, ◌≢◌, ℕ, ◌≤◌, List, [], ◌∷◌, ◌++◌, Option, None, IsSome, Bool, false, option_map, string_bytes, codes}
 use Rattle.std.specs.Borrow.{Bor}
 use Rattle.std.specs.IoError.{error_kind}
 use Rattle.std.specs.declared.io.Error.{Error}
@@ -52,6 +52,11 @@ file_of _ = None
 abbrev pub AwaitsSchedule : Asked → Type 0
 AwaitsSchedule (OfScenario (Replay spelled table drawn) file threads) = spelled.now ≡ codes "-"
 AwaitsSchedule _ = ⊥
+
+-- standard input has one text at most: where it has the schedule's answer, the scenario stands in a file
+abbrev pub ReadsInputOnce : Asked → Type 0
+ReadsInputOnce (OfScenario (Replay spelled table drawn) file threads) = spelled.now ≡ codes "-" → IsSome file
+ReadsInputOnce _ = Unit {0}
 
 -- the same with another schedule, where one is asked for
 abbrev pub with_schedule : Asked → Bor (List ℕ) → Asked

@@ -1,7 +1,7 @@
 //! What the arguments of each command ask for.
 
 ghost use Rattle.std.specs.Prelude.{IfOk};
-ghost use Rattle.program_words.specs.Asked.{IsFromOne, IsWithinLimits};
+ghost use Rattle.program_words.specs.Asked.{IsFromOne, IsWithinLimits, ReadsInputOnce};
 
 use crate::asked::{Asked, MAX_ROUNDS, MAX_THREADS, MAX_WORKERS, MAX_WORLDS};
 use crate::format::FORMAT;
@@ -51,7 +51,8 @@ fn extras_of(given: &ArgMatches<'_>) -> Extras {
 
 /// What `explore` is asked for.
 fn explore_asked<'w>(given: &ArgMatches<'w>) -> Asked<'w>
-    ensures { IsWithinLimits result }
+    ensures limits { IsWithinLimits result }
+    ensures once { ReadsInputOnce result }
 {
     let depth = given.get_one::<u32>("depth").unwrap_or(MAX_DEPTH);
     let bounds = Bounds {
@@ -71,7 +72,8 @@ fn explore_asked<'w>(given: &ArgMatches<'w>) -> Asked<'w>
 
 /// What `check` is asked for.
 fn check_asked<'w>(given: &ArgMatches<'w>) -> Asked<'w>
-    ensures { IsWithinLimits result }
+    ensures limits { IsWithinLimits result }
+    ensures once { ReadsInputOnce result }
 {
     Asked::OfScenario {
         command: Command::Check {
@@ -87,7 +89,8 @@ fn check_asked<'w>(given: &ArgMatches<'w>) -> Asked<'w>
 ///
 /// It is an `Err` where memory is short.
 fn replay_asked<'w>(alloc: Global, given: &ArgMatches<'w>) -> Result<Asked<'w>, AllocError>
-    ensures { IfOk result IsWithinLimits }
+    ensures limits { IfOk result IsWithinLimits }
+    ensures once { IfOk result ReadsInputOnce }
 {
     let schedule = given.get_str("schedule").unwrap_or("");
     let file = given.get_str("scenario").or(given.get_str("file"));
@@ -107,7 +110,8 @@ fn replay_asked<'w>(alloc: Global, given: &ArgMatches<'w>) -> Result<Asked<'w>, 
 
 /// What `threads` is asked for.
 fn threads_asked<'w>(given: &ArgMatches<'w>) -> Asked<'w>
-    ensures { IsWithinLimits result }
+    ensures limits { IsWithinLimits result }
+    ensures once { ReadsInputOnce result }
 {
     let workers = given.get_one::<u32>("workers").unwrap_or(1);
     let rounds = given.get_one::<u32>("rounds").unwrap_or(1);
@@ -125,7 +129,8 @@ pub(crate) fn asked_of<'w>(
     name: &str,
     given: &ArgMatches<'w>,
 ) -> Result<Asked<'w>, AllocError>
-    ensures { IfOk result IsWithinLimits }
+    ensures limits { IfOk result IsWithinLimits }
+    ensures once { IfOk result ReadsInputOnce }
 {
     match name {
         "check" => Ok(check_asked(given)),
@@ -140,5 +145,5 @@ pub(crate) fn asked_of<'w>(
     }
 }
 
-// What the help says of a search that isn't told how many worlds it may keep.
+// The numbers that the help in `command_line` tells of a search that isn't told how many worlds it may keep.
 const _: () = prove!(EXPLORED_WORLDS == 200_000 && CHECKED_WORLDS == 2_000_000);
