@@ -114,6 +114,22 @@ counted j (Counter start) = omega arith
 counted j (NotifyList first) = omega arith
 counted j (Tells entry) = omega (arith, length-append j.entries (entry ∷ []))
 
+-- a faulty line stands behind all that were read
+behind : (j : Journal) (ps : List (List ℕ)) (n : ℕ) → IsFirstFault j ps n → j.heads + length j.entries + 1 ≤ n
+behind j [] n f = absurd f
+behind j (p ∷ ps) n (inl f) = let here = f.0 in omega arith
+behind j (p ∷ ps) n (inr (line, spelled, f)) =
+    let later = behind (with_line j line) ps n f in let one = counted j line in omega arith
+
+-- where any line was read, the first isn't faulty
+pub first_is_right : (text rest after p : List ℕ) (before : Journal) (line : Line) → SoFar text rest before → lines rest ≡ p ∷ lines after
+    → ReadsAs (Spells before p) (Some line) → IsFaultOf text 1 → ⊥
+first_is_right text rest after p before line so e h f =
+    let here : IsFirstFault before (p ∷ lines after) 1 = subst (λ (ps : List (List ℕ)). IsFirstFault before ps 1) e ((so.fault 1).1 f) in
+    let later = behind (with_line before line) (lines after) 1 ((fault_more before p (lines after) line h 1).1 here) in
+    let one = counted before line in
+    omega arith
+
 pub longer : (before : Journal) (p : List ℕ) (line : Line) → ReadsAs (Spells before p) (Some line) → 6 ≤ length p
 longer before p line h = let f = found (Spells before p) line h in omega (arith, long line, ap length f.spelled)
 

@@ -1,7 +1,7 @@
-use Rattle.std.proofs.Common.{arith, rules}
-use Rattle.journal_text.specs.JournalText.{Spells}
+use Rattle.std.proofs.Common.{◌<◌, length, arith, rules}
+use Rattle.journal_text.specs.JournalText.{Spells, IsFaultOf}
 use Rattle.journal_text.proofs.Parts.{found}
-use Rattle.journal_text.proofs.Texts.{turn, kept_more, counted, longer}
+use Rattle.journal_text.proofs.Texts.{turn, kept_more, counted, first_is_right, longer}
 use Rattle.journal_text.proofs.reader.read_journal.Goals as goal
 
 pub loop-rest-preserved : goal.loop-rest-preserved
@@ -20,3 +20,15 @@ loop-rest-preserved c =
 
 pub returns-in_default-clause-fault : goal.returns-in_default-clause-fault
 returns-in_default-clause-fault c = search rules
+
+pub returns-in_err-add-clause-fault : goal.returns-in_err-add-clause-fault
+returns-in_err-add-clause-fault c =
+    let six = longer c.loop-rest.journal c.first_line.result.0.now c.in-Some.line c.in-Some.ensures in
+    let whole = c.first_line.ensures.whole in
+    let few = c.loop-rest.invariant.few in
+    let some : 0 < length c.args.text.now = omega arith in
+    let right : IsFaultOf c.args.text.now 1 → ⊥ =
+    first_is_right c.args.text.now c.loop-rest.rest.now c.first_line.result.1.now c.first_line.result.0.now c.loop-rest.journal
+    c.in-Some.line c.loop-rest.invariant.so_far c.first_line.ensures.line c.in-Some.ensures in
+    let given = c.from_residual.ensures in
+    search rules
