@@ -5,11 +5,11 @@ use Rattle.std.specs.List.{list_all}
 use Rattle.std.specs.Str.{IsAscii, IsUtf8}
 use Rattle.std.proofs.lemmas.Str.{IsUtf8-from_ascii}
 use Rattle.scenario_text.specs.declared.read_fault.Cause.{Cause}
-use Rattle.scenario_text.specs.declared.read_fault.Cause.TheVariants.{Place, Range, TooMany, Undeclared, Ticket, NoMemory}
+use Rattle.scenario_text.specs.declared.read_fault.Cause.TheVariants.{Cut, Byte, Place, Range, TooMany, Undeclared, Ticket, NoMemory}
 use Rattle.scenario_text.specs.Line.{Line, Spells}
 use Rattle.scenario_text.specs.Phrases.{ReadsAs}
 use Rattle.scenario_text.specs.Pieces.{Piece}
-use Rattle.scenario_text.specs.Causes.{SpellsSome, IsFault, is_misplaced, is_out_of_range, is_too_many, is_undeclared, has_wrong_ticket, is_printable}
+use Rattle.scenario_text.specs.Causes.{SpellsSome, IsFault, IsReadable, is_misplaced, is_out_of_range, is_too_many, is_undeclared, has_wrong_ticket, is_printable}
 use Rattle.scenario_text.specs.Reader.{Judges, IsOnlyRight, flaw_of}
 use Rattle.scenario_text.proofs.Parts.{found, only}
 
@@ -25,8 +25,14 @@ past false d rest e = (refl, e)
 other : (text : List ℕ) (l : Line) (test : Line → Bool) → ReadsAs (Spells text) (Some l) → test l ≡ false → SpellsSome text test → ⊥
 other text l test h no_test s = let e : s.0 ≡ l = only (Spells text) l s.0 h s.1 in let t : test l ≡ true = ap test (sym e) ∙ s.2 in absurd cc
 
+-- want of memory is no cause of a line
+no_cause : (lines : List Line) (p : Piece) → IsFault lines p NoMemory → IsReadable lines p
+no_cause lines p (inl a) = let e : NoMemory ≡ Cut = a.1 in absurd cc
+no_cause lines p (inr (cut, inl a)) = let e : NoMemory ≡ Byte = a.1 in absurd cc
+no_cause lines p (inr (cut, inr more)) = (cut, more.0)
+
 judges : (lines : List Line) (p : Piece) (c : Cause) → IsFault lines p c → Judges lines p (Err c)
-judges lines p NoMemory f = tt
+judges lines p NoMemory f = no_cause lines p f
 judges lines p c f = f
 
 pub flawed : (lines : List Line) (p : Piece) (l : Line) (c : Cause) → (p.ended ≡ false → ⊥) → list_all is_printable p.text ≡ true → ReadsAs (Spells p.text) (Some l) → flaw_of lines l ≡ Some c → Judges lines p (Err c)

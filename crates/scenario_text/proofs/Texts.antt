@@ -7,7 +7,7 @@ use Rattle.scenario_text.specs.declared.read_fault.Cause.TheVariants.{NoMemory}
 use Rattle.scenario_text.specs.declared.read_fault.ReadFault.{ReadFault}
 use Rattle.scenario_text.specs.Line.{Line}
 use Rattle.scenario_text.specs.Pieces.{Piece, pieces}
-use Rattle.scenario_text.specs.Causes.{Holds, IsFirst, HoldsNone, IsFault, causes}
+use Rattle.scenario_text.specs.Causes.{Holds, IsFirst, HoldsNone, IsFault, IsReadable, causes}
 use Rattle.scenario_text.specs.ScenarioText.{AreRight, IsRequestOf, IsFirstFault, IsFaultOf, IsReached}
 use Rattle.scenario_text.specs.Reader.{IsOnly, IsNone, IsOnlyRight, Judges, AreLinesOf, IsReadFaultBy}
 
@@ -101,13 +101,13 @@ told text rest after before p c so e h =
     )
 
 -- the number of the line that is read
-pub reaches : (text rest after : List ℕ) (before : List Line) (p : Piece) (n : ℕ) → n ≡ length before + 1 → SoFar text rest before → pieces rest ≡ p ∷ pieces after
+pub reaches : (text rest after : List ℕ) (before : List Line) (p : Piece) (n : ℕ) → n ≡ length before + 1 → IsReadable before p → SoFar text rest before → pieces rest ≡ p ∷ pieces after
     → IsReached [] (pieces text) n
-reaches text rest after before p n k so e = so.reached n (subst (λ (ps : List Piece). IsReached before ps n) (sym e) (inl k))
+reaches text rest after before p n k readable so e = so.reached n (subst (λ (ps : List Piece). IsReached before ps n) (sym e) (inl (k, readable)))
 
 pub failed : (text rest after : List ℕ) (before : List Line) (p : Piece) (n : ℕ) (c : Cause) → n ≡ length before + 1 → SoFar text rest before → pieces rest ≡ p ∷ pieces after
     → Judges before p (Err c) → IsReadFaultBy text (record { line = n; cause = c }) c
-failed text rest after before p n NoMemory k so e h = reaches text rest after before p n k so e
+failed text rest after before p n NoMemory k so e h = reaches text rest after before p n k h so e
 failed text rest after before p n c k so e h =
     subst (λ (m : ℕ). IsOnly (IsFaultOf text) (record { line = m; cause = c }) × IsNone (IsRequestOf text)) (sym k) (told text rest after before p c so e h)
 

@@ -171,6 +171,10 @@ HoldsNone P (d ∷ ds) = (P d → ⊥) × HoldsNone P ds
 abbrev pub IsFault : List Line → Piece → Cause → Type 0
 IsFault before p cause = IsFirst (Holds before p) causes cause
 
+-- it has its end, and each of its bytes can be printed
+abbrev pub IsReadable : List Line → Piece → Type 0
+IsReadable before p = (Holds before p Cut → ⊥) × (Holds before p Byte → ⊥)
+
 -- nothing is wrong with it, and this is the line that it spells
 abbrev pub IsRight : List Line → Piece → Line → Type 0
 IsRight before p line = Spells p.text line × HoldsNone (Holds before p) causes

@@ -7,7 +7,7 @@ use Rattle.scenario_text.specs.declared.reader.line.Line as code
 use Rattle.scenario_text.specs.Line.{Line, Spells}
 use Rattle.scenario_text.specs.Phrases.{line_of}
 use Rattle.scenario_text.specs.Pieces.{Piece, pieces}
-use Rattle.scenario_text.specs.Causes.{IsFault, IsRight, is_misplaced, is_out_of_range, is_too_many, is_undeclared, has_wrong_ticket}
+use Rattle.scenario_text.specs.Causes.{IsFault, IsReadable, IsRight, is_misplaced, is_out_of_range, is_too_many, is_undeclared, has_wrong_ticket}
 use Rattle.scenario_text.specs.ScenarioText.{AreRight, IsRequestOf, IsFirstFault, IsFaultOf, IsReached}
 
 -- x is the one thing of which P holds
@@ -36,7 +36,7 @@ IsOnlyRight before p line = IsRight before p line × IsOnly (Spells p.text) line
 -- what the reader of one line answers
 abbrev pub Judges : List Line → Piece → Result code.Line Cause → Type 0
 Judges before p (Ok line) = IsOnlyRight before p (line_of line)
-Judges before p (Err NoMemory) = ⊤
+Judges before p (Err NoMemory) = IsReadable before p
 Judges before p (Err cause) = IsFault before p cause
 
 -- ---- the whole text
@@ -46,7 +46,8 @@ pub record AreLinesOf (text : List ℕ) (lines : List Line) : Type 0 where
   pub right : IsOnly (AreRight [] (pieces text)) lines
   pub fault : (f : ReadFault) → IsFirstFault lines [] f ↔ IsFaultOf text f
 
--- a fault is the text's one fault, and the text has no request; want of memory names a line that was reached
+-- a fault is the text's one fault, and the text has no request; want of memory names a line that was reached, and is neither cut nor
+-- unprintable
 abbrev pub IsReadFaultBy : List ℕ → ReadFault → Cause → Type 0
 IsReadFaultBy text fault NoMemory = IsReached [] (pieces text) fault.line
 IsReadFaultBy text fault cause = IsOnly (IsFaultOf text) fault × IsNone (IsRequestOf text)

@@ -14,7 +14,7 @@ use Rattle.scenario_text.specs.declared.request.Property.TheVariants as property
 use Rattle.scenario_text.specs.declared.request.Request.{Request}
 use Rattle.scenario_text.specs.Line.{Line, Roots, Counter, NotifyList, Group, Seat, Settled, Value, NoMisuse}
 use Rattle.scenario_text.specs.Pieces.{Piece, pieces}
-use Rattle.scenario_text.specs.Causes.{IsFault, IsRight}
+use Rattle.scenario_text.specs.Causes.{IsFault, IsReadable, IsRight}
 
 -- ---- what lines ask for
 
@@ -87,8 +87,8 @@ IsFirstFault before (p ∷ ps) fault =
 abbrev pub IsFaultOf : List ℕ → ReadFault → Type 0
 IsFaultOf text fault = IsFirstFault [] (pieces text) fault
 
--- the text has a line of this number, and the lines before it are right
+-- the text has a line of this number, which is neither cut nor unprintable, and the lines before it are right
 abbrev pub IsReached : List Line → List Piece → ℕ → Type 0
 IsReached before [] n = ⊥
 IsReached before (p ∷ ps) n =
-    (n ≡ length before + 1) ⊎ ((line : Line) × IsRight before p line × IsReached (before ++ (line ∷ [])) ps n)
+    ((n ≡ length before + 1) × IsReadable before p) ⊎ ((line : Line) × IsRight before p line × IsReached (before ++ (line ∷ [])) ps n)
