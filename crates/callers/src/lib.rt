@@ -2,17 +2,16 @@
 //!
 //! What a caller could do wrong and no type can refuse, a call asks in a `requires`: a seat of this very table, list or
 //! group, a counter that is there, 1 to 256 units, a lock that is held or isn't, releases enough. Here each of these is
-//! kept, and in `must-fail` each is broken once, and refused. That all seats come back to `close` is kept and broken in
-//! `table_crew`.
+//! kept, and in `must-fail` each is broken once, and refused.
 //!
 //! The answers in `proofs` name the fact that carries each `requires`. The prover would find it, but where a call is
 //! broken it would search for long before it gave up.
 #![tactic(auto)]
 
-ghost use Rattle.std.specs.Prelude.{◌≡◌, ◌<◌, true, false, length};
+ghost use Rattle.std.specs.Prelude.{◌≡◌, ◌<◌, true, false, length, All};
 
 use notify_list::{Holding, ListSeat, NotifyList, Waited};
-use sema_table::{PostRefused, PostedMany, Seat, SemaTable, Tried};
+use sema_table::{Closed, PostRefused, PostedMany, Seat, SemaTable, Tried};
 use std::sync::Wait;
 use sync_parts::{Cond, GroupSeat, Misuse, SemaLock, WaitGroup};
 use waiters::CounterId;
@@ -97,4 +96,14 @@ pub fn adds_one<R: Wait>(
     }
     let (seat, woken) = group.add(rt, seat, 1);
     (seat, Some(woken))
+}
+
+/// Closes a table, where these are all its seats.
+pub fn closes(table: SemaTable, seats: Vec<Seat>) -> Option<Closed>
+    requires { All (λ s. s.table ≡ table) seats.items }
+{
+    if seats.len() != table.seats() as usize {
+        return None;
+    }
+    Some(table.close(seats))
 }

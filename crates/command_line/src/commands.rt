@@ -7,6 +7,9 @@ use std::alloc::{AllocError, Global};
 /// The names of the changes of the step table.
 static VARIANT_NAMES: [&str; 3] = ["no-look", "late-count", "plain-less"];
 
+/// What a command says of the file of its scenario.
+static SCENARIO_FILE: &str = "The scenario's file; without it the text stands on standard input";
+
 /// What the exit statuses mean.
 static STATUSES: &str = "\
 Status: 0 nothing bad, 1 something bad was found, 3 gave up,
@@ -14,19 +17,37 @@ Status: 0 nothing bad, 1 something bad was found, 3 gave up,
 The form of a scenario's text: parklot format";
 
 /// The file that a command reads.
-fn file_argument<'a>(alloc: Global) -> Arg<'a> {
-    Arg::new(alloc, "file").value_name("FILE").help(
-        "The scenario's file; without it the text stands on standard input",
-    )
+fn file_argument<'a>(alloc: Global, help: &'a str) -> Arg<'a> {
+    Arg::new(alloc, "file").value_name("FILE").help(help)
+}
+
+/// A number from one to another.
+fn number_argument<'a>(
+    alloc: Global,
+    name: &'a str,
+    letter: &'a str,
+    least: i64,
+    most: i64,
+    help: &'a str,
+) -> Arg<'a> {
+    Arg::new(alloc, name)
+        .long(name)
+        .value_name(letter)
+        .value_parser(value_parser!(u32).range(least..=most))
+        .help(help)
+}
+
+/// Something that is asked for by its name alone.
+fn flag_argument<'a>(alloc: Global, name: &'a str, help: &'a str) -> Arg<'a> {
+    Arg::new(alloc, name)
+        .long(name)
+        .action(ArgAction::SetTrue)
+        .help(help)
 }
 
 /// How many worlds a search keeps.
 fn worlds_argument<'a>(alloc: Global, help: &'a str) -> Arg<'a> {
-    Arg::new(alloc, "worlds")
-        .long("worlds")
-        .value_name("N")
-        .value_parser(value_parser!(u32).range(1..=1_000_000_000))
-        .help(help)
+    number_argument(alloc, "worlds", "N", 1, 1_000_000_000, help)
 }
 
 /// Which change of the step table is made.
@@ -39,74 +60,35 @@ fn variant_argument<'a>(alloc: Global) -> Arg<'a> {
         .help("Change the step table: no-look, late-count or plain-less")
 }
 
-/// How many threads share a search.
-fn searchers_argument<'a>(alloc: Global) -> Arg<'a> {
-    Arg::new(alloc, "threads")
-        .long("threads")
-        .value_name("K")
-        .value_parser(value_parser!(u32).range(1..=64))
-        .help("How many threads share the search, 1 to 64; without it 1")
-}
-
-/// Whether the schedule that was found is drawn too.
-fn drawn_argument<'a>(alloc: Global, help: &'a str) -> Arg<'a> {
-    Arg::new(alloc, "table")
-        .long("table")
-        .action(ArgAction::SetTrue)
-        .help(help)
-}
-
-/// Whether a search tells how far it came.
-fn stats_argument<'a>(alloc: Global) -> Arg<'a> {
-    Arg::new(alloc, "stats")
-        .long("stats")
-        .action(ArgAction::SetTrue)
-        .help("Tell on standard error how far the search came, and how fast")
-}
-
-/// Whether a search tells how far it has come.
-fn progress_argument<'a>(alloc: Global) -> Arg<'a> {
-    Arg::new(alloc, "progress")
-        .long("progress")
-        .action(ArgAction::SetTrue)
-        .help("Tell on standard error, while it runs, how far it has come")
-}
-
 /// A search with what it may tell beyond what it found, who shares it, and its file.
 fn with_extras<'a>(alloc: Global, search: Draft<'a>) -> Draft<'a> {
     let drawn = "Behind the answer, draw the schedule that was found as a table";
+    let stats = "Tell on standard error how far the search came, and how fast";
+    let progress = "Tell on standard error, while it runs, how far it has come";
+    let threads = "How many threads share the search, 1 to 64; without it 1";
     search
-        .arg(drawn_argument(alloc, drawn))
-        .arg(stats_argument(alloc))
-        .arg(progress_argument(alloc))
-        .arg(searchers_argument(alloc))
-        .arg(file_argument(alloc))
+        .arg(flag_argument(alloc, "table", drawn))
+        .arg(flag_argument(alloc, "stats", stats))
+        .arg(flag_argument(alloc, "progress", progress))
+        .arg(number_argument(alloc, "threads", "K", 1, 64, threads))
+        .arg(file_argument(alloc, SCENARIO_FILE))
 }
 
 /// `check` and its help.
 fn check_command<'a>(alloc: Global) -> Draft<'a> {
     let about = "Search all schedules of the scenario, of whatever length, for a bad world";
     let worlds = "The most worlds, 1 to 1,000,000,000; without it 2,000,000";
-    let check = Draft::of(Command::new(alloc, "check").about(about));
+    let check = plain_command(alloc, "check", about);
     with_extras(alloc, check.arg(worlds_argument(alloc, worlds)))
-}
-
-/// How long a schedule is at most.
-fn depth_argument<'a>(alloc: Global) -> Arg<'a> {
-    Arg::new(alloc, "depth")
-        .long("depth")
-        .value_name("N")
-        .value_parser(value_parser!(u32).range(0..=64))
-        .required(true)
-        .help("The most steps of a schedule, 0 to 64")
 }
 
 /// `explore` and its help.
 fn explore_command<'a>(alloc: Global) -> Draft<'a> {
     let about = "Search the schedules of the scenario, up to a depth, for a bad world";
+    let depth = "The most steps of a schedule, 0 to 64";
     let worlds = "The most worlds, 1 to 1,000,000,000; without it 200,000";
-    let explore = Draft::of(Command::new(alloc, "explore").about(about))
-        .arg(depth_argument(alloc))
+    let explore = plain_command(alloc, "explore", about)
+        .arg(number_argument(alloc, "depth", "N", 0, 64, depth).required(true))
         .arg(variant_argument(alloc));
     with_extras(alloc, explore.arg(worlds_argument(alloc, worlds)))
 }
@@ -137,52 +119,32 @@ fn scenario_argument<'a>(alloc: Global) -> Result<Arg<'a>, AllocError> {
 fn replay_command<'a>(alloc: Global) -> Draft<'a> {
     let about = "Tell what a schedule does in the scenario";
     let drawn = "Draw the steps as a table: a column a seat, and one for each word";
-    Draft::of(Command::new(alloc, "replay").about(about))
+    plain_command(alloc, "replay", about)
         .arg(schedule_argument(alloc))
         .arg(variant_argument(alloc))
-        .arg(drawn_argument(alloc, drawn))
+        .arg(flag_argument(alloc, "table", drawn))
         .made_arg(scenario_argument(alloc))
-        .arg(file_argument(alloc))
+        .arg(file_argument(alloc, SCENARIO_FILE))
 }
 
 /// `judge` and its help.
 fn judge_command<'a>(alloc: Global) -> Draft<'a> {
     let about = "Tell whether a journal of semaphores and notify lists is lawful";
-    let file = Arg::new(alloc, "file").value_name("FILE").help(
-        "The journal's file; without it the journal stands on standard input",
-    );
-    Draft::of(Command::new(alloc, "judge").about(about)).arg(file)
-}
-
-/// How many threads there are.
-fn workers_argument<'a>(alloc: Global) -> Arg<'a> {
-    Arg::new(alloc, "workers")
-        .long("workers")
-        .value_name("K")
-        .value_parser(value_parser!(u32).range(1..=64))
-        .required(true)
-        .help("How many threads there are, 1 to 64")
-}
-
-/// How many rounds each thread runs.
-fn rounds_argument<'a>(alloc: Global) -> Arg<'a> {
-    Arg::new(alloc, "rounds")
-        .long("rounds")
-        .value_name("M")
-        .value_parser(value_parser!(u32).range(1..=1_000_000))
-        .required(true)
-        .help("How many rounds each runs, 1 to 1,000,000")
+    let file = "The journal's file; without it the journal stands on standard input";
+    plain_command(alloc, "judge", about).arg(file_argument(alloc, file))
 }
 
 /// `threads` and its help.
 fn threads_command<'a>(alloc: Global) -> Draft<'a> {
     let about = "Let threads release and acquire one counter, and tell what was counted";
-    Draft::of(Command::new(alloc, "threads").about(about))
-        .arg(workers_argument(alloc))
-        .arg(rounds_argument(alloc))
+    let workers = "How many threads there are, 1 to 64";
+    let rounds = "How many rounds each runs, 1 to 1,000,000";
+    plain_command(alloc, "threads", about)
+        .arg(number_argument(alloc, "workers", "K", 1, 64, workers).required(true))
+        .arg(number_argument(alloc, "rounds", "M", 1, 1_000_000, rounds).required(true))
 }
 
-/// A command that takes nothing.
+/// A command that takes nothing yet.
 fn plain_command<'a>(alloc: Global, name: &'a str, about: &'a str) -> Draft<'a> {
     Draft::of(Command::new(alloc, name).about(about))
 }

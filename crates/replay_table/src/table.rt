@@ -8,7 +8,7 @@ use std::alloc::{AllocError, Global};
 use step_core::{Moment, NoMemory, Picture, Scenario, SeatId, StepRefused, Variant};
 
 /// A step that can't be run.
-#[derive(Clone, Copy, Debug, PartialEq, Eq, Drop)]
+#[derive(Clone, Copy, Drop)]
 pub struct Refused {
     /// The number of the step, from 0.
     pub at: usize,

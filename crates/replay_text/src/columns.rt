@@ -9,7 +9,7 @@ use std::alloc::{AllocError, Global};
 use step_core::{CounterId, GroupId, ListId, ListWord, NoMemory, Picture, Scenario, SeatId, Word};
 
 /// What a column shows.
-#[derive(Clone, Copy, Debug, Drop)]
+#[derive(Clone, Copy, Drop)]
 pub(crate) enum Shown {
     /// The number in a word of the semaphores.
     Number(Word),

@@ -9,7 +9,7 @@ use waiters::{SeatId, Wait};
 
 /// How many tickets were handed out and granted; the first wait of the list; at `O8` that which it takes out; the first
 /// wait in the seat's hand, and how many it has there.
-#[derive(Clone, Copy, Debug, Drop)]
+#[derive(Clone, Copy, Drop)]
 pub struct ListSight {
     pub handed: u64,
     pub granted: u64,
@@ -31,7 +31,7 @@ impl ListSight {
 }
 
 /// What a row does where it found a number: what the word becomes, where the seat goes, and the effect.
-#[derive(Clone, Copy, Debug, Drop)]
+#[derive(Clone, Copy, Drop)]
 pub struct ListOutcome {
     pub becomes: u64,
     pub place: ListPlace,

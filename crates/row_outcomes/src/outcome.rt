@@ -5,7 +5,7 @@ ghost use Rattle.std.specs.Prelude.{◌≡◌, ◌≢◌, ◌+◌, Some};
 use step_table::{Effect, Entry, Place};
 
 /// What a row does where it found a number: what the word becomes, where the seat goes, and the effect.
-#[derive(Clone, Copy, Debug, PartialEq, Eq, Drop)]
+#[derive(Clone, Copy, Drop)]
 pub struct Outcome {
     pub becomes: u64,
     pub place: Place,

@@ -8,7 +8,7 @@ use waiters::{SeatId, WaitId};
 
 /// The first wait of its counter's list and of its hand, how many the hand has, and, for a release of many, how many
 /// the list has. To a row that doesn't look there they are empty.
-#[derive(Clone, Copy, Debug, Drop)]
+#[derive(Clone, Copy, Drop)]
 pub struct Sight {
     pub listed: Option<WaitId>,
     pub queued: usize,

@@ -12,7 +12,7 @@ use step_table::{
 };
 
 /// Parts that keep the limits, whose calls name what is declared, and whose seats take and spend tickets in turn.
-#[derive(Debug, Drop)]
+#[derive(Drop)]
 pub struct Scenario {
     parts: Parts,
 }

@@ -13,7 +13,7 @@ use step_table::{AcquireRow, GroupRow, GroupWord, Place, ReleaseRow, Standing};
 use waiters::SeatId;
 
 /// What a row finds in its word; of an exchange, whether it is won.
-#[derive(Clone, Copy, Debug, PartialEq, Eq, Drop)]
+#[derive(Clone, Copy, Drop)]
 pub enum Found {
     /// This number.
     Number(u64),

@@ -17,14 +17,14 @@ use step_table::{AcquireRow, Effect, Entry, ManyRow, Place, ReleaseRow, Word};
 use waiters::{CounterId, SeatId, WaitId};
 
 /// Where a seat stands on the semaphores, and how many waits it has queued there.
-#[derive(Clone, Copy, Debug, PartialEq, Eq, Drop)]
+#[derive(Clone, Copy, Drop)]
 pub struct Caller {
     pub place: Place,
     pub turn: u64,
 }
 
 /// What a row has to find before it can run.
-#[derive(Clone, Copy, Debug, PartialEq, Eq, Drop)]
+#[derive(Clone, Copy, Drop)]
 pub enum Guard {
     /// No row is there.
     Shut,

@@ -17,7 +17,7 @@ pub struct Ready {
 }
 
 /// A row of a notify list that can run: the word of its event, and what it does.
-#[derive(Clone, Copy, Debug, Drop)]
+#[derive(Clone, Copy, Drop)]
 pub struct ListReady {
     pub word: ListWord,
     pub outcome: ListOutcome,

@@ -1,7 +1,7 @@
 use crate::entry::Entry;
 
 /// What a row's event does beside its word.
-#[derive(Clone, Copy, Debug, PartialEq, Eq, Drop)]
+#[derive(Clone, Copy, Drop)]
 pub enum Effect {
     /// Nothing.
     Nothing,

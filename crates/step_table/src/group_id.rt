@@ -5,7 +5,7 @@ use std::fmt;
 use std::marker::Model;
 
 /// A wait group, by its number from 0.
-#[derive(Clone, Copy, Debug, PartialEq, Eq, PartialOrd, Ord, Hash, Drop)]
+#[derive(Clone, Copy, Debug, PartialEq, Eq, Drop)]
 pub struct GroupId(u32);
 
 impl Model for GroupId {

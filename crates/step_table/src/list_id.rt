@@ -5,7 +5,7 @@ use std::fmt;
 use std::marker::Model;
 
 /// A notify list, by its number from 0.
-#[derive(Clone, Copy, Debug, PartialEq, Eq, PartialOrd, Ord, Hash, Drop)]
+#[derive(Clone, Copy, Debug, PartialEq, Eq, Drop)]
 pub struct ListId(u32);
 
 impl Model for ListId {

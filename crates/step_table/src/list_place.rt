@@ -5,7 +5,7 @@ use table_names::Row;
 use waiters::{SeatId, Wait};
 
 /// A ticket of a notify list.
-#[derive(Clone, Copy, Debug, PartialEq, Eq, Drop)]
+#[derive(Clone, Copy, Drop)]
 pub struct Ticket {
     /// The wait word from which it was taken: the ticket as the rows know it. It wraps.
     pub word: u64,
@@ -14,7 +14,7 @@ pub struct Ticket {
 }
 
 /// A row of a wait. The seat's ticket stands beside it.
-#[derive(Clone, Copy, Debug, PartialEq, Eq, Drop)]
+#[derive(Clone, Copy, Drop)]
 pub enum WaitRow {
     W1,
     W2,
@@ -24,7 +24,7 @@ pub enum WaitRow {
 }
 
 /// A row of a notification of one wait. `O2` carries the wait word, `O5`, `O7` and `O8` the notify word that was read.
-#[derive(Clone, Copy, Debug, PartialEq, Eq, Drop)]
+#[derive(Clone, Copy, Drop)]
 pub enum OneRow {
     O1,
     O2(u64),
@@ -38,7 +38,7 @@ pub enum OneRow {
 }
 
 /// What a notification of all has read under the lock.
-#[derive(Clone, Copy, Debug, PartialEq, Eq, Drop)]
+#[derive(Clone, Copy, Drop)]
 pub struct Reach {
     /// The notify word.
     pub notified: u64,
@@ -50,7 +50,7 @@ pub struct Reach {
 
 /// A row of a notification of all waits. `L2` carries the wait word, `L5` the notify word that was read,
 /// `L7` how many tickets the call has granted. The waits that it took out are in the seat's hand.
-#[derive(Clone, Copy, Debug, PartialEq, Eq, Drop)]
+#[derive(Clone, Copy, Drop)]
 pub enum AllRow {
     L1,
     L2(u64),
@@ -64,7 +64,7 @@ pub enum AllRow {
 
 /// Where a seat stands on a notify list: at rest, or before a row of its call. A notification carries how many tickets
 /// were handed out at its first look, and 0 before that. No row looks at it: it tells what the call may conclude.
-#[derive(Clone, Copy, Debug, PartialEq, Eq, Drop)]
+#[derive(Clone, Copy, Drop)]
 pub enum ListPlace {
     Rest,
     /// Before N1, where it takes a ticket.
@@ -76,7 +76,7 @@ pub enum ListPlace {
 }
 
 /// A word of a notify list, or of a seat.
-#[derive(Clone, Copy, Debug, PartialEq, Eq, Drop)]
+#[derive(Clone, Copy, Drop)]
 pub enum ListWord {
     /// The next ticket.
     Wait,
@@ -89,7 +89,7 @@ pub enum ListWord {
 }
 
 /// What a row of a notify list does beside its word.
-#[derive(Clone, Copy, Debug, PartialEq, Eq, Drop)]
+#[derive(Clone, Copy, Drop)]
 pub enum ListEffect {
     /// Nothing.
     Nothing,

@@ -5,7 +5,7 @@ use table_names::Row;
 use waiters::CounterId;
 
 /// What an acquire was called with.
-#[derive(Clone, Copy, Debug, PartialEq, Eq, Drop)]
+#[derive(Clone, Copy, Drop)]
 pub struct Acquire {
     pub counter: CounterId,
     /// Whether its wait goes to the front of the list.
@@ -13,7 +13,7 @@ pub struct Acquire {
 }
 
 /// What a release was called with.
-#[derive(Clone, Copy, Debug, PartialEq, Eq, Drop)]
+#[derive(Clone, Copy, Drop)]
 pub struct Release {
     pub counter: CounterId,
     /// Whether it tries to take a unit for the wait that it wakes.
@@ -21,7 +21,7 @@ pub struct Release {
 }
 
 /// What a release of many units was called with.
-#[derive(Clone, Copy, Debug, PartialEq, Eq, Drop)]
+#[derive(Clone, Copy, Drop)]
 pub struct ReleaseMany {
     pub counter: CounterId,
     /// How many units it adds.
@@ -30,7 +30,7 @@ pub struct ReleaseMany {
 
 /// A row of an acquire, with what the seat carries to it.
 /// An exchange carries the number that it would leave: one less than was read. A parked seat carries its wait's turn.
-#[derive(Clone, Copy, Debug, PartialEq, Eq, Drop)]
+#[derive(Clone, Copy, Drop)]
 pub enum AcquireRow {
     A1,
     A2(u64),
@@ -47,7 +47,7 @@ pub enum AcquireRow {
 }
 
 /// A row of a release, with what the seat carries to it.
-#[derive(Clone, Copy, Debug, PartialEq, Eq, Drop)]
+#[derive(Clone, Copy, Drop)]
 pub enum ReleaseRow {
     R1,
     R2,
@@ -62,7 +62,7 @@ pub enum ReleaseRow {
 }
 
 /// A row of a release of many units. The waits that it took out are in the seat's hand.
-#[derive(Clone, Copy, Debug, PartialEq, Eq, Drop)]
+#[derive(Clone, Copy, Drop)]
 pub enum ManyRow {
     M1,
     M2,
@@ -74,7 +74,7 @@ pub enum ManyRow {
 }
 
 /// Where a seat stands: at rest, or before a row of its call.
-#[derive(Clone, Copy, Debug, PartialEq, Eq, Drop)]
+#[derive(Clone, Copy, Drop)]
 pub enum Place {
     Rest,
     Acquiring(Acquire, AcquireRow),

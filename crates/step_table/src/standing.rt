@@ -8,7 +8,7 @@ use table_names::{Misuse, Row};
 
 /// A row of a wait group, with what the seat carries to it: an add what it adds, and each row after a first look the word
 /// that was read.
-#[derive(Clone, Copy, Debug, PartialEq, Eq, Drop)]
+#[derive(Clone, Copy, Drop)]
 pub enum GroupRow {
     G1(i32),
     G2(GroupWord),
@@ -19,7 +19,7 @@ pub enum GroupRow {
 }
 
 /// What follows a row of a wait group.
-#[derive(Clone, Copy, Debug, PartialEq, Eq, Drop)]
+#[derive(Clone, Copy, Drop)]
 pub enum GroupNext {
     /// The call ends.
     Ends,
@@ -34,7 +34,7 @@ pub enum GroupNext {
 }
 
 /// What comes when a call on a counter ends.
-#[derive(Clone, Copy, Debug, PartialEq, Eq, Drop)]
+#[derive(Clone, Copy, Drop)]
 pub enum After {
     /// The seat's next call.
     NextCall,
@@ -45,7 +45,7 @@ pub enum After {
 }
 
 /// What a seat is doing.
-#[derive(Clone, Copy, Debug, PartialEq, Eq, Drop)]
+#[derive(Clone, Copy, Drop)]
 pub enum Standing {
     /// Nothing: it has ended its call, and has no other.
     Rest,

@@ -1,7 +1,7 @@
 use waiters::{CounterId, SeatId};
 
 /// A word that seats share, and change in single events.
-#[derive(Clone, Copy, Debug, PartialEq, Eq, Drop)]
+#[derive(Clone, Copy, Drop)]
 pub enum Word {
     /// The number of a counter.
     Counter(CounterId),

@@ -9,14 +9,14 @@ use std::sync::Wait;
 use waiters::CounterId;
 
 /// How a seat acquires and releases.
-#[derive(Clone, Copy, Debug, Drop)]
+#[derive(Clone, Copy, Drop)]
 pub struct Way {
     pub lifo: bool,
     pub handoff: bool,
 }
 
 /// What each seat of a table does in a turn. Counters are taken modulo how many there are.
-#[derive(Clone, Copy, Debug, Drop)]
+#[derive(Clone, Copy, Drop)]
 pub enum Work {
     /// Adds a unit to counter 0.
     Adds,

@@ -5,7 +5,7 @@ use crate::seat_id::SeatId;
 use std::fmt;
 
 /// One sleep of a seat: its turn counts the waits that the seat queued before.
-#[derive(Clone, Copy, Debug, PartialEq, Eq, Hash, Drop)]
+#[derive(Clone, Copy, Debug, PartialEq, Eq, Drop)]
 pub struct WaitId {
     pub seat: SeatId,
     pub turn: u64,
