@@ -43,7 +43,7 @@ struct Plan {
 }
 
 /// Times what each turn of these jobs costs.
-fn time<R: Clock + Print + Threads + Wait + Sync, J: Job + Send + Drop>(
+fn time_jobs<R: Clock + Print + Threads + Wait + Sync, J: Job + Send + Drop>(
     rt: &R,
     case: &str,
     jobs: Vec<J>,
@@ -54,6 +54,19 @@ fn time<R: Clock + Print + Threads + Wait + Sync, J: Job + Send + Drop>(
         bail!("no threads")
     }
     tell(rt, case, &start, u64::from(turns))
+}
+
+/// Times so many jobs of these seats.
+fn time<R: Clock + Print + Threads + Wait + Sync, J: Job + Send + Drop, S: Seats<J> + Drop>(
+    rt: &R,
+    plan: Plan,
+    case: &str,
+    seats: S,
+    count: u32,
+) -> Result<()> {
+    let mut seats = seats;
+    let jobs = jobs::make(plan.alloc, &mut seats, count)?;
+    time_jobs(rt, case, jobs, plan.turns)
 }
 
 /// A table of so many counters, each at this number, and its seats.
@@ -100,9 +113,7 @@ fn time_ticket(rt: &(impl Clock + Print + Wait), plan: Plan) -> Result<()> {
 
 fn time_signals<R: Clock + Print + Threads + Wait + Sync>(rt: &R, plan: Plan) -> Result<()> {
     let (list, seats) = NotifyList::starting_at(plan.alloc, 0, 4)?;
-    let mut seats = ListSeats { list: &list, seats };
-    let jobs = jobs::make(plan.alloc, &mut seats, 2)?;
-    time(rt, "signals", jobs, plan.turns)
+    time(rt, plan, "signals", ListSeats { list: &list, seats }, 2)
 }
 
 /// Times turns that are handed over under locks of this table.
@@ -116,15 +127,14 @@ fn time_turns<R: Clock + Print + Threads + Wait + Sync>(
 {
     let (cond, seats) = Cond::with_seats(plan.alloc, 2)?;
     let turn = AtomicU64::new(0);
-    let mut seats = HandSeats {
+    let seats = HandSeats {
         table,
         locks,
         cond: &cond,
         seats,
         turn: &turn,
     };
-    let jobs = jobs::make(plan.alloc, &mut seats, 2)?;
-    time(rt, "hands", jobs, plan.turns)
+    time(rt, plan, "hands", seats, 2)
 }
 
 fn time_hands<R: Clock + Print + Threads + Wait + Sync>(rt: &R, plan: Plan) -> Result<()> {
@@ -142,15 +152,14 @@ fn time_casts<R: Clock + Print + Threads + Wait + Sync>(
     requires { All (λ s. s.table ≡ table.now) locks.items × (0 < length table.now.setting.starts) }
 {
     let (hall, called, full) = Hall::for_many(plan.alloc, plan.workers)?;
-    let mut seats = HallSeats {
+    let seats = HallSeats {
         hall: &hall,
         table,
         locks,
         called,
         full,
     };
-    let jobs = jobs::make(plan.alloc, &mut seats, u32::from(plan.workers) + 1)?;
-    time(rt, "broadcast", jobs, plan.turns)
+    time(rt, plan, "broadcast", seats, u32::from(plan.workers) + 1)
 }
 
 fn time_broadcast<R: Clock + Print + Threads + Wait + Sync>(rt: &R, plan: Plan) -> Result<()> {
@@ -191,15 +200,14 @@ fn time_forks<R: Clock + Print + Threads + Wait + Sync>(
 {
     let all = u32::from(plan.workers) + 1;
     let (group, members) = WaitGroup::with_seats(plan.alloc, all)?;
-    let mut seats = ForkSeats {
+    let seats = ForkSeats {
         group: &group,
         members,
         table,
         seats,
         workers: plan.workers,
     };
-    let jobs = jobs::make(plan.alloc, &mut seats, all)?;
-    time(rt, "fork", jobs, plan.turns)
+    time(rt, plan, "fork", seats, all)
 }
 
 fn time_fork<R: Clock + Print + Threads + Wait + Sync>(rt: &R, plan: Plan) -> Result<()> {
