@@ -1,13 +1,16 @@
 //! Broadcasts: many threads wait for one, which waits until all of them do.
-ghost use Rattle.std.specs.Prelude.{◌≡◌, false, All, IfOk};
+ghost use Rattle.std.specs.Prelude.{◌≡◌, ◌<◌, false, All, IfOk, length};
 
 use crate::hands::{await_word, unlock};
+use crate::jobs::{Job, Seats};
 use anyhow::Result;
+use sema_table::{Seat, SemaTable};
 use std::alloc::Global;
 use std::sync::Wait;
 use std::sync::atomic::AtomicU64;
 use std::sync::atomic::Ordering::SeqCst;
 use sync_parts::{Cond, ListSeat, SemaLock};
+use waiters::CounterId;
 
 /// What the threads share.
 #[derive(Drop)]
@@ -44,25 +47,28 @@ impl Hall {
     }
 }
 
-/// One of the many.
+/// One in the hall.
 #[derive(Drop)]
-pub struct Waiter<'b> {
+pub struct Guest<'b> {
     pub hall: &'b Hall,
     pub lock: SemaLock<'b>,
-    pub waits: ListSeat,
-    pub tells: ListSeat,
+    pub called: ListSeat,
+    pub full: ListSeat,
+    /// Whether it is the one; else it is one of the many.
+    pub casts: bool,
     pub ghost free: { lock.held ≡ false },
-    pub ghost seated: { (waits.list ≡ hall.now.called) × (tells.list ≡ hall.now.full) },
+    pub ghost seated: { (called.list ≡ hall.now.called) × (full.list ≡ hall.now.full) },
 }
 
-impl<'b> Waiter<'b> {
+impl<'b> Guest<'b> {
     /// Waits for so many broadcasts.
-    pub(crate) fn turns<R: Wait>(self, rt: &R, turns: u32) {
-        let Waiter {
+    fn wait<R: Wait>(self, rt: &R, turns: u32) {
+        let Guest {
             hall,
             mut lock,
-            mut waits,
-            mut tells,
+            called: mut waits,
+            full: mut tells,
+            ..
         } = self;
         for turn in 0..turns {
             lock.acquire(rt);
@@ -72,31 +78,19 @@ impl<'b> Waiter<'b> {
             let wanted = u64::from(turn) + 1;
             waits = await_word(rt, &hall.called, waits, &mut lock, &hall.calls, wanted);
             if !unlock(rt, &mut lock) {
-                return;
+                break;
             }
         }
     }
-}
 
-/// The one.
-#[derive(Drop)]
-pub struct Caster<'b> {
-    pub hall: &'b Hall,
-    pub lock: SemaLock<'b>,
-    pub waits: ListSeat,
-    pub tells: ListSeat,
-    pub ghost free: { lock.held ≡ false },
-    pub ghost seated: { (waits.list ≡ hall.now.full) × (tells.list ≡ hall.now.called) },
-}
-
-impl<'b> Caster<'b> {
     /// So many broadcasts.
-    pub(crate) fn turns<R: Wait>(self, rt: &R, turns: u32) {
-        let Caster {
+    fn cast<R: Wait>(self, rt: &R, turns: u32) {
+        let Guest {
             hall,
             mut lock,
-            mut waits,
-            mut tells,
+            called: mut tells,
+            full: mut waits,
+            ..
         } = self;
         for turn in 0..turns {
             lock.acquire(rt);
@@ -105,8 +99,47 @@ impl<'b> Caster<'b> {
             hall.calls.store(u64::from(turn) + 1, SeqCst);
             hall.called.broadcast(rt, &mut tells);
             if !unlock(rt, &mut lock) {
-                return;
+                break;
             }
         }
+    }
+}
+
+impl<'b> Job for Guest<'b> {
+    fn turns<R: Wait>(self, rt: &R, turns: u32) {
+        if self.casts {
+            self.cast(rt, turns);
+        } else {
+            self.wait(rt, turns);
+        }
+    }
+}
+
+/// The seats of a hall, and of a lock over counter 0.
+#[derive(Drop)]
+pub struct HallSeats<'b> {
+    pub hall: &'b Hall,
+    pub table: &'b SemaTable,
+    pub locks: Vec<Seat>,
+    pub called: Vec<ListSeat>,
+    pub full: Vec<ListSeat>,
+    pub ghost locked: { All (λ s. s.table ≡ table.now) locks.items × (0 < length table.now.setting.starts) },
+    pub ghost call: { All (λ s. s.list ≡ hall.now.called) called.items },
+    pub ghost fill: { All (λ s. s.list ≡ hall.now.full) full.items },
+}
+
+impl<'b> Seats<Guest<'b>> for HallSeats<'b> {
+    /// The one, and then the many.
+    fn job(&mut self, number: u32) -> Option<Guest<'b>> {
+        let lock = self.locks.pop()?;
+        let called = self.called.pop()?;
+        let full = self.full.pop()?;
+        Some(Guest {
+            hall: self.hall,
+            lock: SemaLock::over(self.table, lock, CounterId::new(0)),
+            called,
+            full,
+            casts: number == 0,
+        })
     }
 }

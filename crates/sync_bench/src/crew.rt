@@ -7,17 +7,17 @@ use std::thread::{Scope, Threads};
 use table_crew::Start;
 
 /// A thread's job, from the start on.
-fn work<R: Wait>(rt: &R, job: Job<'_>, turns: u32, start: &Start) {
+fn work<R: Wait, J: Job + Drop>(rt: &R, job: J, turns: u32, start: &Start) {
     if start.wait(rt) {
         job.turns(rt, turns);
     }
 }
 
 /// Makes a thread for each job, as long as there can be one: whether all were made.
-fn hire_all<'s, E, R: Threads + Wait + Sync>(
+fn hire_all<'s, E, R: Threads + Wait + Sync, J: Job + Send + Drop + 's>(
     scope: &'s Scope<'s, E>,
     rt: &'s R,
-    jobs: Vec<Job<'s>>,
+    jobs: Vec<J>,
     turns: u32,
     start: &'s Start,
 ) -> bool {
@@ -31,7 +31,11 @@ fn hire_all<'s, E, R: Threads + Wait + Sync>(
 }
 
 /// Each job does so many turns, in a thread of its own. Where a thread can't be made, none begins, and the answer is false.
-pub fn run<'j, R: Threads + Wait + Sync>(rt: &'j R, jobs: Vec<Job<'j>>, turns: u32) -> bool {
+pub fn run<'j, R: Threads + Wait + Sync, J: Job + Send + Drop + 'j>(
+    rt: &'j R,
+    jobs: Vec<J>,
+    turns: u32,
+) -> bool {
     let start = Start::new();
     let begin = &start;
     thread::scope(thread::scope_env(), rt, move |scope| {

@@ -1,6 +1,7 @@
 //! A wait group: by one thread, and workers that are let begin and waited for.
-ghost use Rattle.std.specs.Prelude.{◌≡◌, ◌<◌, length};
+ghost use Rattle.std.specs.Prelude.{◌≡◌, ◌<◌, All, length};
 
+use crate::jobs::{Job, Seats};
 use sema_table::{Seat, SemaTable};
 use std::sync::Wait;
 use sync_parts::{GroupSeat, WaitGroup};
@@ -34,35 +35,6 @@ fn add<R: Wait>(rt: &R, group: &WaitGroup, seat: GroupSeat, d: i32) -> GroupSeat
     group.add(rt, seat, d).0
 }
 
-/// The thread that lets the others begin, each by a counter of its own.
-#[derive(Drop)]
-pub struct Forker<'b> {
-    pub group: &'b WaitGroup,
-    pub seat: GroupSeat,
-    pub table: &'b SemaTable,
-    pub starts: Seat,
-    pub workers: i32,
-    pub ghost own: { (seat.group ≡ group.now) × (starts.table ≡ table.now) },
-}
-
-impl<'b> Forker<'b> {
-    /// So many forks and joins.
-    pub(crate) fn turns<R: Wait>(self, rt: &R, turns: u32) {
-        let Forker {
-            group,
-            mut seat,
-            table,
-            mut starts,
-            workers,
-        } = self;
-        for _ in 0..turns {
-            seat = add(rt, group, seat, workers);
-            starts = release_all(rt, table, starts);
-            (seat, _) = group.wait(rt, seat);
-        }
-    }
-}
-
 /// A release of each counter.
 fn release_all<R: Wait>(rt: &R, table: &SemaTable, seat: Seat) -> Seat
     requires { seat.table ≡ table.now }
@@ -76,6 +48,26 @@ fn release_all<R: Wait>(rt: &R, table: &SemaTable, seat: Seat) -> Seat
         };
     }
     seat
+}
+
+/// Lets so many workers begin, each by a counter of its own, and waits until all are done, so many times.
+fn fork<R: Wait>(
+    rt: &R,
+    group: &WaitGroup,
+    seat: GroupSeat,
+    table: &SemaTable,
+    starts: Seat,
+    workers: i32,
+    turns: u32,
+)
+    requires { (seat.group ≡ group.now) × (starts.table ≡ table.now) }
+{
+    let (mut seat, mut starts) = (seat, starts);
+    for _ in 0..turns {
+        seat = add(rt, group, seat, workers);
+        starts = release_all(rt, table, starts);
+        (seat, _) = group.wait(rt, seat);
+    }
 }
 
 /// Begins whenever the counter is released, and is done each time.
@@ -97,27 +89,74 @@ fn work<R: Wait>(
     }
 }
 
-/// A thread that begins when its counter is released.
+/// What a thread does with its two seats.
+#[derive(Clone, Copy, Drop)]
+pub enum Part {
+    /// Lets so many others begin, and waits for them.
+    Forks(i32),
+    /// Begins when this counter is released, and is done.
+    Works(u32),
+}
+
+/// A thread with a seat of a group, and one of a table.
 #[derive(Drop)]
-pub struct Worker<'b> {
+pub struct Member<'b> {
     pub group: &'b WaitGroup,
     pub seat: GroupSeat,
     pub table: &'b SemaTable,
-    pub begins: Seat,
-    pub counter: CounterId,
-    pub ghost own: { (seat.group ≡ group.now) × (begins.table ≡ table.now) × (counter < length table.now.setting.starts) },
+    pub own: Seat,
+    pub part: Part,
+    pub ghost ties: { (seat.group ≡ group.now) × (own.table ≡ table.now) },
 }
 
-impl<'b> Worker<'b> {
-    /// Begins so many times, and is done each time.
-    pub(crate) fn turns<R: Wait>(self, rt: &R, turns: u32) {
-        let Worker {
+impl<'b> Job for Member<'b> {
+    /// So many forks and joins.
+    fn turns<R: Wait>(self, rt: &R, turns: u32) {
+        let Member {
             group,
             seat,
             table,
-            begins,
-            counter,
+            own,
+            part,
         } = self;
-        work(rt, group, seat, table, begins, counter, turns);
+        match part {
+            Part::Forks(workers) => fork(rt, group, seat, table, own, workers, turns),
+            Part::Works(counter) => {
+                if counter < table.counters() {
+                    work(rt, group, seat, table, own, CounterId::new(counter), turns);
+                }
+            }
+        }
+    }
+}
+
+/// The seats of a group, and of a table with a counter for each worker.
+#[derive(Drop)]
+pub struct ForkSeats<'b> {
+    pub group: &'b WaitGroup,
+    pub members: Vec<GroupSeat>,
+    pub table: &'b SemaTable,
+    pub seats: Vec<Seat>,
+    pub workers: u8,
+    pub ghost grouped: { All (λ s. s.group ≡ group.now) members.items },
+    pub ghost seated: { All (λ s. s.table ≡ table.now) seats.items },
+}
+
+impl<'b> Seats<Member<'b>> for ForkSeats<'b> {
+    /// The one that forks, and then the workers.
+    fn job(&mut self, number: u32) -> Option<Member<'b>> {
+        let seat = self.members.pop()?;
+        let own = self.seats.pop()?;
+        let part = match number.checked_sub(1) {
+            Some(counter) => Part::Works(counter),
+            None => Part::Forks(i32::from(self.workers)),
+        };
+        Some(Member {
+            group: self.group,
+            seat,
+            table: self.table,
+            own,
+            part,
+        })
     }
 }

@@ -1,10 +1,13 @@
 //! A turn that two threads hand back and forth, over a condition variable.
-ghost use Rattle.std.specs.Prelude.{◌≡◌, true, false};
+ghost use Rattle.std.specs.Prelude.{◌≡◌, ◌<◌, true, false, All, length};
 
+use crate::jobs::{Job, Seats};
+use sema_table::{Seat, SemaTable};
 use std::sync::Wait;
 use std::sync::atomic::AtomicU64;
 use std::sync::atomic::Ordering::SeqCst;
 use sync_parts::{Cond, ListSeat, SemaLock};
+use waiters::CounterId;
 
 /// Waits under the lock until the word is this one, or the lock may be released no more.
 pub(crate) fn await_word<R: Wait>(
@@ -56,9 +59,9 @@ pub struct Hand<'b> {
     pub ghost seated: { seat.list ≡ cond.now },
 }
 
-impl<'b> Hand<'b> {
+impl<'b> Job for Hand<'b> {
     /// So many times there and back.
-    pub(crate) fn turns<R: Wait>(self, rt: &R, turns: u32) {
+    fn turns<R: Wait>(self, rt: &R, turns: u32) {
         let Hand {
             mut lock,
             cond,
@@ -73,5 +76,32 @@ impl<'b> Hand<'b> {
             cond.signal(rt, &mut seat);
         }
         unlock(rt, &mut lock);
+    }
+}
+
+/// The seats of a lock over counter 0, and of a condition variable.
+#[derive(Drop)]
+pub struct HandSeats<'b> {
+    pub table: &'b SemaTable,
+    pub locks: Vec<Seat>,
+    pub cond: &'b Cond,
+    pub seats: Vec<ListSeat>,
+    pub turn: &'b AtomicU64,
+    pub ghost locked: { All (λ s. s.table ≡ table.now) locks.items × (0 < length table.now.setting.starts) },
+    pub ghost seated: { All (λ s. s.list ≡ cond.now) seats.items },
+}
+
+impl<'b> Seats<Hand<'b>> for HandSeats<'b> {
+    /// One of two that hand a turn back and forth.
+    fn job(&mut self, number: u32) -> Option<Hand<'b>> {
+        let lock = self.locks.pop()?;
+        let seat = self.seats.pop()?;
+        Some(Hand {
+            lock: SemaLock::over(self.table, lock, CounterId::new(0)),
+            cond: self.cond,
+            seat,
+            turn: self.turn,
+            own: u64::from(number),
+        })
     }
 }

@@ -1,38 +1,29 @@
-//! What threads do.
+//! What threads do, and who takes part.
 
-use crate::broadcasts::{Caster, Waiter};
-use crate::forks::{Forker, Worker};
-use crate::hands::Hand;
-use crate::signals::Signaller;
+use anyhow::{Result, bail};
+use std::alloc::Global;
 use std::sync::Wait;
 
-/// What a thread does in each of its turns.
-#[derive(Drop)]
-pub enum Job<'b> {
-    /// Waits on a notify list until another thread notifies, and notifies it.
-    Signals(Signaller<'b>),
-    /// Waits on a condition variable until it has the turn, and hands the turn to another thread.
-    Hands(Hand<'b>),
-    /// Waits on a condition variable for a broadcast.
-    Waits(Waiter<'b>),
-    /// Broadcasts once all wait.
-    Casts(Caster<'b>),
-    /// Lets the workers of a wait group begin, and waits until all are done.
-    Forks(Forker<'b>),
-    /// Begins when it is let, and is done.
-    Works(Worker<'b>),
+/// What a thread does.
+pub trait Job {
+    /// So many turns.
+    fn turns<R: Wait>(self, rt: &R, turns: u32);
 }
 
-impl<'b> Job<'b> {
-    /// So many turns.
-    pub fn turns<R: Wait>(self, rt: &R, turns: u32) {
-        match self {
-            Job::Signals(signaller) => signaller.turns(rt, turns),
-            Job::Hands(hand) => hand.turns(rt, turns),
-            Job::Waits(waiter) => waiter.turns(rt, turns),
-            Job::Casts(caster) => caster.turns(rt, turns),
-            Job::Forks(forker) => forker.turns(rt, turns),
-            Job::Works(worker) => worker.turns(rt, turns),
-        }
+/// Seats of which jobs are made.
+pub trait Seats<J> {
+    /// The job of this number, as long as there are seats.
+    fn job(&mut self, number: u32) -> Option<J>;
+}
+
+/// So many jobs of these seats.
+pub fn make<J: Drop, S: Seats<J>>(alloc: Global, seats: &mut S, count: u32) -> Result<Vec<J>> {
+    let mut jobs = Vec::new(alloc);
+    for number in 0..count {
+        let Some(job) = seats.job(number) else {
+            bail!("no seats")
+        };
+        jobs.push(job)?;
     }
+    Ok(jobs)
 }

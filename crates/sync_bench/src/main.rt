@@ -7,21 +7,23 @@
 //! and waits by a wait group until all are done.
 #![tactic(auto)]
 
-ghost use Rattle.std.specs.Prelude.{◌≡◌, ◌<◌, All, length};
+ghost use Rattle.std.specs.Prelude.{◌≡◌, ◌<◌, All, IfOk, length};
 
 mod broadcasts;
 mod crew;
 mod forks;
 mod hands;
 mod jobs;
-mod make;
 mod signals;
 
-use crate::broadcasts::Hall;
-use crate::jobs::Job;
+use crate::broadcasts::{Hall, HallSeats};
+use crate::forks::ForkSeats;
+use crate::hands::HandSeats;
+use crate::jobs::{Job, Seats};
+use crate::signals::{ListSeats, Signaller};
 use anyhow::{Result, bail};
-use notify_list::{ListSeat, NotifyList};
-use sema_table::{Seat, SemaTable};
+use notify_list::NotifyList;
+use sema_table::{Seat, SemaTable, Settings};
 use std::alloc::Global;
 use std::env;
 use std::num::{NonZeroU8, NonZeroU32};
@@ -29,14 +31,22 @@ use std::sync::Wait;
 use std::sync::atomic::AtomicU64;
 use std::thread::Threads;
 use std::time::{Clock, Instant};
-use sync_parts::{Cond, WaitGroup};
+use sync_parts::{Cond, GroupSeat, WaitGroup};
 use table_crew::tell;
 
-/// Times what each of so many turns of these jobs costs.
-fn time<R: Clock + Print + Threads + Wait + Sync>(
+/// What is asked for beside the case.
+#[derive(Clone, Copy, Drop)]
+struct Plan {
+    alloc: Global,
+    workers: u8,
+    turns: u32,
+}
+
+/// Times what each turn of these jobs costs.
+fn time_jobs<R: Clock + Print + Threads + Wait + Sync, J: Job + Send + Drop>(
     rt: &R,
     case: &str,
-    jobs: Vec<Job<'_>>,
+    jobs: Vec<J>,
     turns: u32,
 ) -> Result<()> {
     let start = Instant::now(rt)?;
@@ -46,115 +56,217 @@ fn time<R: Clock + Print + Threads + Wait + Sync>(
     tell(rt, case, &start, u64::from(turns))
 }
 
-/// Times tickets that are granted by the thread that took them.
-fn time_alone(
-    rt: &(impl Clock + Print + Wait),
-    list: &NotifyList,
-    seats: Vec<ListSeat>,
-    turns: u32,
-) -> Result<()>
-    requires { All (λ s. s.list ≡ list.now) seats.items }
+/// Times so many jobs of these seats.
+fn time<R: Clock + Print + Threads + Wait + Sync, J: Job + Send + Drop, S: Seats<J> + Drop>(
+    rt: &R,
+    plan: Plan,
+    case: &str,
+    seats: S,
+    count: u32,
+) -> Result<()> {
+    let mut seats = seats;
+    let jobs = jobs::make(plan.alloc, &mut seats, count)?;
+    time_jobs(rt, case, jobs, plan.turns)
+}
+
+/// A table of so many counters, each at this number, and its seats.
+fn new_table(
+    alloc: Global,
+    counters: usize,
+    start: u32,
+    seats: u32,
+) -> Result<(SemaTable, Vec<Seat>)>
+    ensures own { IfOk result (λ t. All (λ s. s.table ≡ t.0) t.1.items) }
+    ensures counters { IfOk result (λ t. 0 < length t.0.setting.starts) }
 {
-    let (waits, tells) = make::both_seats(list, seats)?;
+    let settings = Settings {
+        starts: vec![in alloc; start; counters]?,
+        seats,
+        roots: 251,
+        seed: 1,
+        release_limit: 1 << 40,
+    };
+    Ok(SemaTable::new(alloc, settings)?)
+}
+
+/// Times tickets that are granted by the thread that took them.
+fn time_alone(rt: &(impl Clock + Print + Wait), seats: Signaller<'_>, turns: u32) -> Result<()> {
+    let Signaller {
+        list,
+        waits,
+        tells,
+        ..
+    } = seats;
     let start = Instant::now(rt)?;
     signals::rounds(rt, list, waits, tells, turns);
     tell(rt, "ticket", &start, u64::from(turns))
 }
 
-fn time_ticket(rt: &(impl Clock + Print + Wait), alloc: Global, turns: u32) -> Result<()> {
-    let (list, seats) = NotifyList::starting_at(alloc, 0, 2)?;
-    time_alone(rt, &list, seats, turns)
+fn time_ticket(rt: &(impl Clock + Print + Wait), plan: Plan) -> Result<()> {
+    let (list, seats) = NotifyList::starting_at(plan.alloc, 0, 2)?;
+    let mut seats = ListSeats { list: &list, seats };
+    let Some(seats) = seats.job(0) else {
+        bail!("no seats")
+    };
+    time_alone(rt, seats, plan.turns)
 }
 
-fn time_signals<R: Clock + Print + Threads + Wait + Sync>(
-    rt: &R,
-    alloc: Global,
-    turns: u32,
-) -> Result<()> {
-    let (list, seats) = NotifyList::starting_at(alloc, 0, 4)?;
-    let jobs = make::signallers(alloc, &list, seats)?;
-    time(rt, "signals", jobs, turns)
+fn time_signals<R: Clock + Print + Threads + Wait + Sync>(rt: &R, plan: Plan) -> Result<()> {
+    let (list, seats) = NotifyList::starting_at(plan.alloc, 0, 4)?;
+    time(rt, plan, "signals", ListSeats { list: &list, seats }, 2)
 }
 
-fn time_hands<R: Clock + Print + Threads + Wait + Sync>(
+/// Times turns that are handed over under locks of this table.
+fn time_turns<R: Clock + Print + Threads + Wait + Sync>(
     rt: &R,
-    alloc: Global,
-    turns: u32,
-) -> Result<()> {
-    let (table, locks) = SemaTable::new(alloc, make::settings(alloc, 1, 1, 2)?)?;
-    let (cond, seats) = Cond::with_seats(alloc, 2)?;
+    plan: Plan,
+    table: &SemaTable,
+    locks: Vec<Seat>,
+) -> Result<()>
+    requires { All (λ s. s.table ≡ table.now) locks.items × (0 < length table.now.setting.starts) }
+{
+    let (cond, seats) = Cond::with_seats(plan.alloc, 2)?;
     let turn = AtomicU64::new(0);
-    let jobs = make::hands(alloc, &table, locks, &cond, seats, &turn)?;
-    time(rt, "hands", jobs, turns)
+    let seats = HandSeats {
+        table,
+        locks,
+        cond: &cond,
+        seats,
+        turn: &turn,
+    };
+    time(rt, plan, "hands", seats, 2)
+}
+
+fn time_hands<R: Clock + Print + Threads + Wait + Sync>(rt: &R, plan: Plan) -> Result<()> {
+    let (table, locks) = new_table(plan.alloc, 1, 1, 2)?;
+    time_turns(rt, plan, &table, locks)
 }
 
 /// Times broadcasts under locks of this table.
 fn time_casts<R: Clock + Print + Threads + Wait + Sync>(
     rt: &R,
-    alloc: Global,
+    plan: Plan,
     table: &SemaTable,
     locks: Vec<Seat>,
-    workers: u8,
-    turns: u32,
 ) -> Result<()>
     requires { All (λ s. s.table ≡ table.now) locks.items × (0 < length table.now.setting.starts) }
 {
-    let (hall, called, full) = Hall::for_many(alloc, workers)?;
-    let jobs = make::fill_hall(alloc, &hall, table, locks, called, full)?;
-    time(rt, "broadcast", jobs, turns)
-}
-
-fn time_broadcast<R: Clock + Print + Threads + Wait + Sync>(
-    rt: &R,
-    alloc: Global,
-    workers: u8,
-    turns: u32,
-) -> Result<()> {
-    let settings = make::settings(alloc, 1, 1, u32::from(workers) + 1)?;
-    let (table, locks) = SemaTable::new(alloc, settings)?;
-    time_casts(rt, alloc, &table, locks, workers, turns)
-}
-
-fn time_group(rt: &(impl Clock + Print + Wait), alloc: Global, turns: u32) -> Result<()> {
-    let (group, mut seats) = WaitGroup::with_seats(alloc, 1)?;
-    let Some(seat) = seats.pop() else {
-        bail!("no seat")
+    let (hall, called, full) = Hall::for_many(plan.alloc, plan.workers)?;
+    let seats = HallSeats {
+        hall: &hall,
+        table,
+        locks,
+        called,
+        full,
     };
+    time(rt, plan, "broadcast", seats, u32::from(plan.workers) + 1)
+}
+
+fn time_broadcast<R: Clock + Print + Threads + Wait + Sync>(rt: &R, plan: Plan) -> Result<()> {
+    let (table, locks) = new_table(plan.alloc, 1, 1, u32::from(plan.workers) + 1)?;
+    time_casts(rt, plan, &table, locks)
+}
+
+/// Times what a seat alone adds and takes off.
+fn time_rounds(
+    rt: &(impl Clock + Print + Wait),
+    group: &WaitGroup,
+    seat: GroupSeat,
+    turns: u32,
+) -> Result<()>
+    requires { seat.group ≡ group.now }
+{
     let start = Instant::now(rt)?;
-    forks::rounds(rt, &group, seat, turns);
+    forks::rounds(rt, group, seat, turns);
     tell(rt, "group", &start, u64::from(turns))
 }
 
-fn time_fork<R: Clock + Print + Threads + Wait + Sync>(
+fn time_group(rt: &(impl Clock + Print + Wait), plan: Plan) -> Result<()> {
+    let (group, mut seats) = WaitGroup::with_seats(plan.alloc, 1)?;
+    let Some(seat) = seats.pop() else {
+        bail!("no seat")
+    };
+    time_rounds(rt, &group, seat, plan.turns)
+}
+
+/// Times workers that are let begin by the counters of this table.
+fn time_forks<R: Clock + Print + Threads + Wait + Sync>(
+    rt: &R,
+    plan: Plan,
+    table: &SemaTable,
+    seats: Vec<Seat>,
+) -> Result<()>
+    requires { All (λ s. s.table ≡ table.now) seats.items }
+{
+    let all = u32::from(plan.workers) + 1;
+    let (group, members) = WaitGroup::with_seats(plan.alloc, all)?;
+    let seats = ForkSeats {
+        group: &group,
+        members,
+        table,
+        seats,
+        workers: plan.workers,
+    };
+    time(rt, plan, "fork", seats, all)
+}
+
+fn time_fork<R: Clock + Print + Threads + Wait + Sync>(rt: &R, plan: Plan) -> Result<()> {
+    let workers = plan.workers;
+    let (table, seats) = new_table(plan.alloc, usize::from(workers), 0, u32::from(workers) + 1)?;
+    time_forks(rt, plan, &table, seats)
+}
+
+/// Times the case.
+fn time_case<R: Clock + Print + Threads + Wait + Sync>(
+    rt: &R,
+    case: &str,
+    plan: Plan,
+) -> Result<()> {
+    match (case, plan.workers) {
+        ("ticket", 1) => time_ticket(rt, plan),
+        ("signals", 2) => time_signals(rt, plan),
+        ("hands", 2) => time_hands(rt, plan),
+        ("broadcast", _) => time_broadcast(rt, plan),
+        ("group", 1) => time_group(rt, plan),
+        ("fork", _) => time_fork(rt, plan),
+        _ => bail!("no such case of so many workers"),
+    }
+}
+
+/// Times what these words ask for.
+fn time_words<R: Clock + Print + Threads + Wait + Sync>(
     rt: &R,
     alloc: Global,
-    workers: u8,
-    turns: u32,
+    case: &str,
+    workers: &str,
+    turns: &str,
 ) -> Result<()> {
-    let all = u32::from(workers) + 1;
-    let settings = make::settings(alloc, usize::from(workers), 0, all)?;
-    let (table, seats) = SemaTable::new(alloc, settings)?;
-    let (group, members) = WaitGroup::with_seats(alloc, all)?;
-    let jobs = make::fork(alloc, &group, members, &table, seats, workers)?;
-    time(rt, "fork", jobs, turns)
+    let plan = Plan {
+        alloc,
+        workers: workers.parse::<NonZeroU8>()?.get(),
+        turns: turns.parse::<NonZeroU32>()?.get(),
+    };
+    time_case(rt, case, plan)
+}
+
+/// Times what the words ask for, or tells which words there are to be.
+fn answer<R: Clock + Print + Threads + Wait + Sync>(
+    rt: &R,
+    alloc: Global,
+    words: (Option<&str>, Option<&str>, Option<&str>),
+) -> Result<()> {
+    match words {
+        (Some(case), Some(workers), Some(turns)) => time_words(rt, alloc, case, workers, turns),
+        _ => {
+            println!(rt; "usage: sync_bench CASE WORKERS TURNS")?;
+            Ok(())
+        }
+    }
 }
 
 fn main(rt: HostRuntime) -> Result<()> {
     let mut words = env::args(&rt)?.skip(1);
-    let (Some(case), Some(workers), Some(turns)) = (words.next(), words.next(), words.next()) else {
-        println!(rt; "usage: sync_bench CASE WORKERS TURNS")?;
-        return Ok(());
-    };
-    let workers = workers.parse::<NonZeroU8>()?.get();
-    let turns = turns.parse::<NonZeroU32>()?.get();
-    let alloc = rt.alloc();
-    match (case.as_str(), workers) {
-        ("ticket", 1) => time_ticket(&rt, alloc, turns),
-        ("signals", 2) => time_signals(&rt, alloc, turns),
-        ("hands", 2) => time_hands(&rt, alloc, turns),
-        ("broadcast", _) => time_broadcast(&rt, alloc, workers, turns),
-        ("group", 1) => time_group(&rt, alloc, turns),
-        ("fork", _) => time_fork(&rt, alloc, workers, turns),
-        _ => bail!("no such case of so many workers"),
-    }
+    let (case, workers, turns) = (words.next(), words.next(), words.next());
+    let words = (case.as_deref(), workers.as_deref(), turns.as_deref());
+    answer(&rt, rt.alloc(), words)
 }

@@ -1,6 +1,7 @@
 //! Tickets of a notify list: found by one thread, and by two that signal each other.
-ghost use Rattle.std.specs.Prelude.{◌≡◌};
+ghost use Rattle.std.specs.Prelude.{◌≡◌, All};
 
+use crate::jobs::{Job, Seats};
 use notify_list::{ListSeat, NotifyList};
 use std::sync::Wait;
 use std::thread;
@@ -51,9 +52,9 @@ pub struct Signaller<'b> {
     pub ghost own: { (waits.list ≡ list.now) × (tells.list ≡ list.now) },
 }
 
-impl<'b> Signaller<'b> {
+impl<'b> Job for Signaller<'b> {
     /// So many times there and back.
-    pub(crate) fn turns<R: Wait>(self, rt: &R, turns: u32) {
+    fn turns<R: Wait>(self, rt: &R, turns: u32) {
         let Signaller {
             list,
             waits,
@@ -70,5 +71,27 @@ impl<'b> Signaller<'b> {
             let (waits, _) = list.wait(rt, holding);
             rounds(rt, list, waits, tells, turns);
         }
+    }
+}
+
+/// A list, and its seats.
+#[derive(Drop)]
+pub struct ListSeats<'b> {
+    pub list: &'b NotifyList,
+    pub seats: Vec<ListSeat>,
+    pub ghost own: { All (λ s. s.list ≡ list.now) seats.items },
+}
+
+impl<'b> Seats<Signaller<'b>> for ListSeats<'b> {
+    /// One of two that signal each other, with the last two seats.
+    fn job(&mut self, number: u32) -> Option<Signaller<'b>> {
+        let waits = self.seats.pop()?;
+        let tells = self.seats.pop()?;
+        Some(Signaller {
+            list: self.list,
+            waits,
+            tells,
+            begins: number == 0,
+        })
     }
 }
