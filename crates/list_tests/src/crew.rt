@@ -1,10 +1,10 @@
 //! Threads that wait on a list again and again, one for each seat but the last, which notifies.
 
-ghost use Rattle.std.specs.Prelude.{◌≡◌, All, IfOk};
+ghost use Rattle.std.specs.Prelude.{◌≡◌, All, IfSome};
 
 use crate::given::last_seat;
 use notify_list::{ListSeat, NotifyList};
-use std::alloc::{AllocError, Global};
+use std::alloc::Global;
 use std::process::Abort;
 use std::sync::Wait;
 use std::thread;
@@ -79,7 +79,24 @@ fn notifies_on<R: Wait>(
     seat
 }
 
-/// Makes a thread for each seat, as long as there can be one: the threads, and how many tickets they take.
+/// A thread for the seat, where there can be one.
+fn hire<'s, E, R: Threads + Wait + Sync>(
+    scope: &'s Scope<'s, E>,
+    rt: &'s R,
+    list: &'s NotifyList,
+    seat: ListSeat,
+) -> Option<Waiter<'s>>
+    requires { seat.list ≡ list.now }
+    ensures { IfSome result (λ w. w.promise.list.now ≡ list.now) }
+{
+    let promise = Back { list };
+    match scope.spawn_with(promise, move || waits_on(rt, list, seat)) {
+        Ok(waiter) => Some(waiter),
+        Err(_) => None,
+    }
+}
+
+/// A thread for each seat, where there can be one: the threads, and how many tickets they take.
 fn hire_all<'s, E, R: Threads + Wait + Sync>(
     scope: &'s Scope<'s, E>,
     rt: &'s R,
@@ -94,57 +111,53 @@ fn hire_all<'s, E, R: Threads + Wait + Sync>(
     let mut waiters = Vec::new(alloc);
     let mut tickets: u64 = 0;
     while let Some(seat) = seats.pop() {
-        let promise = Back { list };
-        let Ok(waiter) = scope.spawn_with(promise, move || waits_on(rt, list, seat)) else {
-            return (waiters, tickets);
-        };
-        tickets = tickets.saturating_add(ROUNDS);
-        if waiters.push(waiter).is_err() {
-            return (waiters, tickets);
+        if let Some(waiter) = hire(scope, rt, list, seat) {
+            tickets = tickets.saturating_add(ROUNDS);
+            let _ = waiters.push(waiter);
         }
     }
     (waiters, tickets)
 }
 
-/// This seat, and those of all threads once they have ended.
+/// This seat, and those of all threads once they have ended. Where memory is short there are fewer.
 fn join_all<'s, R: Threads>(
     rt: &R,
     alloc: Global,
     list: &'s NotifyList,
     waiters: Vec<Waiter<'s>>,
     seat: ListSeat,
-) -> Result<Vec<ListSeat>, AllocError>
+) -> Vec<ListSeat>
     requires { (seat.list ≡ list.now) × All (λ w. w.promise.list.now ≡ list.now) waiters.items }
-    ensures { IfOk result (λ seats. All (λ s. s.list ≡ list.now) seats.items) }
+    ensures { All (λ s. s.list ≡ list.now) result.items }
 {
     let mut waiters = waiters;
     let mut seats = Vec::new(alloc);
-    seats.push(seat)?;
+    let _ = seats.push(seat);
     while let Some(waiter) = waiters.pop() {
-        seats.push(waiter.join(rt))?;
+        let _ = seats.push(waiter.join(rt));
     }
-    Ok(seats)
+    seats
 }
 
-/// The seats that came back from their threads, all of which were notified.
+/// The seats that came back from their threads, all of which were notified: fewer where memory is short.
 pub(crate) fn wait_all<R: Abort + Threads + Wait + Sync>(
     rt: &R,
     alloc: Global,
     list: &NotifyList,
     seats: Vec<ListSeat>,
     way: Way,
-) -> Result<Vec<ListSeat>, AllocError>
+) -> Vec<ListSeat>
     requires { All (λ s. s.list ≡ list.now) seats.items }
-    ensures { IfOk result (λ back. All (λ s. s.list ≡ list.now) back.items) }
+    ensures { All (λ s. s.list ≡ list.now) result.items }
 {
     let mut seats = seats;
     let last = last_seat(rt, list, &mut seats);
     thread::scope(
         thread::scope_env(),
         rt,
-        move |scope| -> Result<Vec<ListSeat>, AllocError>
+        move |scope| -> Vec<ListSeat>
             requires { (last.list ≡ list.now) × All (λ s. s.list ≡ list.now) seats.items }
-            ensures { IfOk result (λ back. All (λ s. s.list ≡ list.entry.now) back.items) }
+            ensures { All (λ s. s.list ≡ list.entry.now) result.items }
         {
             let (waiters, tickets) = hire_all(scope, rt, alloc, list, seats);
             let last = notifies_on(rt, list, last, tickets, way);

@@ -7,6 +7,11 @@ use std::alloc::Global;
 use std::process::Abort;
 use std::sync::Wait;
 
+/// An assertion. One that stands in a function of its own is proved once: `assert!` makes each body larger.
+pub(crate) fn holds(rt: &impl Abort, told: bool) {
+    assert!(rt; told);
+}
+
 /// The list and its seats, asked for once more where memory was refused.
 pub(crate) fn new_again(
     alloc: Global,
@@ -19,6 +24,18 @@ pub(crate) fn new_again(
         Err(SetupError::NoMemory) => NotifyList::starting_at(alloc, first, seats),
         answer => answer,
     }
+}
+
+/// The same, of so many seats that there can be.
+pub(crate) fn made(
+    rt: &impl Abort,
+    alloc: Global,
+    first: u64,
+    seats: u32,
+) -> (NotifyList, Vec<ListSeat>)
+    ensures { All (λ s. s.list ≡ result.0) result.1.items }
+{
+    new_again(alloc, first, seats).expect(rt, "a list")
 }
 
 /// Takes the last seat. A new list's seats are in the order of their numbers.
@@ -51,9 +68,7 @@ pub(crate) fn adds(rt: &impl Abort, list: &NotifyList, seat: ListSeat, expected:
     ensures { result.list ≡ list.now }
 {
     let holding = list.add(seat);
-    if holding.ticket() != expected {
-        panic!(rt; "another ticket")
-    }
+    holds(rt, holding.ticket() == expected);
     holding
 }
 
@@ -67,7 +82,7 @@ pub(crate) fn waits_at_once<R: Abort + Wait>(
     ensures { result.list ≡ list.now }
 {
     let (seat, waited) = list.wait(rt, holding);
-    assert!(rt; waited == Waited::AtOnce);
+    holds(rt, waited == Waited::AtOnce);
     seat
 }
 
@@ -81,7 +96,7 @@ pub(crate) fn grants<R: Abort + Wait>(
     requires { seat.old.list ≡ list.now }
     ensures { seat.new.list ≡ list.now }
 {
-    assert!(rt; list.one(rt, seat) == expected);
+    holds(rt, list.one(rt, seat) == expected);
 }
 
 /// Ends the list with all its seats, whose two words are this.
@@ -90,5 +105,5 @@ pub(crate) fn ends_at(rt: &impl Abort, list: NotifyList, seats: Vec<ListSeat>, n
 {
     assert!(rt; seats.len() == list.seats() as usize);
     let notified = next;
-    assert!(rt; list.close(seats) == ListClosed { next, notified });
+    holds(rt, list.close(seats) == ListClosed { next, notified });
 }

@@ -2,12 +2,11 @@
 
 ghost use Rattle.std.specs.Prelude.{◌≡◌, All};
 
-use crate::given::{adds, ends_at, gives_back, grants, last_seat, new_again, waits_at_once};
+use crate::given::{adds, ends_at, gives_back, grants, holds, last_seat, made, waits_at_once};
 use notify_list::{ListSeat, NotifyList, SetupError};
 use std::alloc::Global;
 use std::process::Abort;
 use std::sync::Wait;
-use std::test::Fail;
 
 /// Two tickets are taken, and granted one by one.
 fn two_tickets<R: Abort + Wait>(
@@ -36,56 +35,59 @@ fn two_tickets<R: Abort + Wait>(
 }
 
 #[test]
-fn a_ticket_wraps(rt: HostRuntime) -> Result<(), Fail> {
-    let (list, mut seats) = new_again(rt.alloc(), 18_446_744_073_709_551_615, 3)?;
+fn a_ticket_wraps(rt: HostRuntime) {
+    let (list, mut seats) = made(&rt, rt.alloc(), 18_446_744_073_709_551_615, 3);
     two_tickets(&rt, &list, &mut seats, 18_446_744_073_709_551_615, 0);
     ends_at(&rt, list, seats, 1);
-    Ok(())
 }
 
 #[test]
-fn a_ticket_goes_past_32_bits(rt: HostRuntime) -> Result<(), Fail> {
-    let (list, mut seats) = new_again(rt.alloc(), 4_294_967_295, 3)?;
+fn a_ticket_goes_past_32_bits(rt: HostRuntime) {
+    let (list, mut seats) = made(&rt, rt.alloc(), 4_294_967_295, 3);
     two_tickets(&rt, &list, &mut seats, 4_294_967_295, 4_294_967_296);
     ends_at(&rt, list, seats, 4_294_967_297);
-    Ok(())
 }
 
 #[test]
-fn an_unused_list_ends_as_it_began(rt: HostRuntime) -> Result<(), Fail> {
-    let (list, seats) = new_again(rt.alloc(), 7, 256)?;
+fn an_unused_list_ends_as_it_began(rt: HostRuntime) {
+    let (list, seats) = made(&rt, rt.alloc(), 7, 256);
     ends_at(&rt, list, seats, 7);
-    Ok(())
+}
+
+/// Grants all tickets: so many, where there are some. Then there are no more.
+fn grants_all<R: Abort + Wait>(rt: &R, list: &NotifyList, seat: &mut ListSeat, tickets: u32)
+    requires { seat.old.list ≡ list.now }
+    ensures { seat.new.list ≡ list.now }
+{
+    holds(rt, list.quiet(seat) == (tickets == 0));
+    holds(rt, list.all(rt, seat) == tickets);
+    holds(rt, list.quiet(seat));
 }
 
 /// A list is quiet until a ticket is taken, and again once it is granted.
-fn grants_all<R: Abort + Wait>(rt: &R, list: &NotifyList, seats: &mut Vec<ListSeat>)
+fn grants_none_and_one<R: Abort + Wait>(rt: &R, list: &NotifyList, seats: &mut Vec<ListSeat>)
     requires { All (λ s. s.list ≡ list.now) seats.old.items }
 {
     let mut other = last_seat(rt, list, seats);
     let seat = last_seat(rt, list, seats);
-    assert!(rt; list.quiet(&mut other));
-    assert!(rt; list.all(rt, &mut other) == 0);
+    grants_all(rt, list, &mut other, 0);
     let holding = adds(rt, list, seat, 0);
-    if list.quiet(&mut other) || list.all(rt, &mut other) != 1 || !list.quiet(&mut other) {
-        panic!(rt; "one ticket was to be granted")
-    }
+    grants_all(rt, list, &mut other, 1);
     let mut seat = waits_at_once(rt, list, holding);
     list.meet(&mut seat, &mut other);
-    assert!(rt; list.quiet(&mut seat));
+    holds(rt, list.quiet(&mut seat));
 }
 
 #[test]
-fn all_tickets_are_granted(rt: HostRuntime) -> Result<(), Fail> {
-    let (list, mut seats) = new_again(rt.alloc(), 0, 2)?;
-    grants_all(&rt, &list, &mut seats);
-    Ok(())
+fn all_tickets_are_granted(rt: HostRuntime) {
+    let (list, mut seats) = made(&rt, rt.alloc(), 0, 2);
+    grants_none_and_one(&rt, &list, &mut seats);
 }
 
 /// So many seats make no list.
 fn is_refused(rt: &impl Abort, alloc: Global, seats: u32) {
     match NotifyList::starting_at(alloc, 0, seats) {
-        Err(refused) => assert!(rt; refused == SetupError::Seats),
+        Err(refused) => holds(rt, refused == SetupError::Seats),
         Ok(_made) => panic!(rt; "a list was made"),
     }
 }
@@ -94,6 +96,4 @@ fn is_refused(rt: &impl Abort, alloc: Global, seats: u32) {
 fn numbers_of_seats_past_their_limits_are_refused(rt: HostRuntime) {
     is_refused(&rt, rt.alloc(), 0);
     is_refused(&rt, rt.alloc(), 257);
-    assert!(rt; SetupError::Seats as u8 == 2);
-    assert!(rt; SetupError::NoMemory as u8 == 5);
 }

@@ -6,4 +6,6 @@
 #[cfg(test)]
 mod both_tests;
 #[cfg(test)]
+mod given;
+#[cfg(test)]
 mod list_tests;

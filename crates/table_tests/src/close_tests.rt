@@ -2,40 +2,38 @@
 
 ghost use Rattle.std.specs.Prelude.{◌≡◌, All};
 
-use crate::given::{Sizes, closes, gives_back, last_seat, new_again, one_counter, wait};
+use crate::given::{Sizes, closes, gives_back, holds, last_seat, made, one_counter, wait};
 use crate::seats::{FIFO, PLAIN, acquires, is_woken, posts, releases, retries, sleeps, tries};
 use sema_table::{Closed, Seat, SemaTable, Tried, Wake};
 use std::process::Abort;
 use std::sync::Wait;
-use std::test::Fail;
 use waiters::CounterId;
 
 /// What was added in all, and what was given.
 pub(crate) fn adds_up(rt: &impl Abort, closed: &Closed, releases: u64, acquires: u64) {
-    assert!(rt; closed.releases() == releases);
-    assert!(rt; closed.acquires() == acquires);
+    holds(rt, closed.releases() == releases);
+    holds(rt, closed.acquires() == acquires);
 }
 
 /// The last number of a counter.
 pub(crate) fn ends_at(rt: &impl Abort, closed: &Closed, number: u32, value: u64) {
     assert!(rt; number < closed.counters());
-    assert!(rt; closed.value(CounterId::new(number)) == value);
+    holds(rt, closed.value(CounterId::new(number)) == value);
 }
 
 #[test]
-fn an_unused_table_has_its_starts(rt: HostRuntime) -> Result<(), Fail> {
+fn an_unused_table_has_its_starts(rt: HostRuntime) {
     let sizes = Sizes {
         counters: 2,
         start: 7,
         ..one_counter(0, 3)
     };
-    let (table, seats) = new_again(rt.alloc(), &sizes)?;
+    let (table, seats) = made(&rt, rt.alloc(), &sizes);
     let closed = closes(&rt, table, seats);
     adds_up(&rt, &closed, 0, 0);
-    assert!(rt; closed.counters() == 2);
+    holds(&rt, closed.counters() == 2);
     ends_at(&rt, &closed, 0, 7);
     ends_at(&rt, &closed, 1, 7);
-    Ok(())
 }
 
 /// A unit is taken from counter 0, and two are added to counter 1.
@@ -53,18 +51,17 @@ fn takes_one_and_adds_two<R: Abort + Wait>(rt: &R, table: &SemaTable, seats: &mu
 }
 
 #[test]
-fn two_counters_add_up(rt: HostRuntime) -> Result<(), Fail> {
+fn two_counters_add_up(rt: HostRuntime) {
     let sizes = Sizes {
         counters: 2,
         ..one_counter(3, 2)
     };
-    let (table, mut seats) = new_again(rt.alloc(), &sizes)?;
+    let (table, mut seats) = made(&rt, rt.alloc(), &sizes);
     takes_one_and_adds_two(&rt, &table, &mut seats);
     let closed = closes(&rt, table, seats);
     adds_up(&rt, &closed, 2, 1);
     ends_at(&rt, &closed, 0, 2);
     ends_at(&rt, &closed, 1, 5);
-    Ok(())
 }
 
 /// A seat sleeps, is woken by a release, and takes the unit.
@@ -85,11 +82,10 @@ fn sleeps_and_takes<R: Abort + Wait>(rt: &R, table: &SemaTable, seats: &mut Vec<
 }
 
 #[test]
-fn nobody_waits_in_a_closed_table(rt: HostRuntime) -> Result<(), Fail> {
-    let (table, mut seats) = new_again(rt.alloc(), &one_counter(0, 2))?;
+fn nobody_waits_in_a_closed_table(rt: HostRuntime) {
+    let (table, mut seats) = made(&rt, rt.alloc(), &one_counter(0, 2));
     sleeps_and_takes(&rt, &table, &mut seats);
     let closed = closes(&rt, table, seats);
     adds_up(&rt, &closed, 2, 2);
     ends_at(&rt, &closed, 0, 0);
-    Ok(())
 }

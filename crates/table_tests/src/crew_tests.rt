@@ -3,13 +3,12 @@
 ghost use Rattle.std.specs.Prelude.{◌≡◌, All};
 
 use crate::close_tests::{adds_up, ends_at};
-use crate::given::{Sizes, gives_back, last_seat, new_again, one_counter};
+use crate::given::{Sizes, gives_back, last_seat, new_again};
 use crate::seats::posts;
 use sema_table::{Closed, Seat, SemaTable};
 use std::alloc::Global;
 use std::process::Abort;
 use std::sync::Wait;
-use std::test::Fail;
 use std::thread::Threads;
 use table_crew::{Way, Work, run};
 use waiters::NoMemory;
@@ -60,42 +59,49 @@ fn works<R: Abort + Threads + Wait + Sync>(
 }
 
 /// The same, once more where memory was refused.
-fn works_again<R: Abort + Threads + Wait + Sync>(
-    rt: &R,
-    alloc: Global,
-    plan: &Plan,
-) -> Result<Closed, NoMemory> {
+fn works_again<R: Abort + Threads + Wait + Sync>(rt: &R, alloc: Global, plan: &Plan) -> Closed {
     match works(rt, alloc, plan) {
-        Err(NoMemory) => works(rt, alloc, plan),
-        answer => answer,
+        Ok(closed) => closed,
+        Err(NoMemory) => works(rt, alloc, plan).expect(rt, "memory and threads"),
     }
 }
 
-#[test]
-fn no_unit_of_two_threads_is_lost(rt: HostRuntime) -> Result<(), Fail> {
-    let plan = Plan {
-        sizes: Sizes {
-            release_limit: 1_000,
-            ..one_counter(0, 2)
-        },
-        units: 0,
-        work: Work::Adds,
-        turns: 1_000,
-    };
-    let closed = works_again(&rt, rt.alloc(), &plan)?;
-    adds_up(&rt, &closed, 2_000, 0);
-    ends_at(&rt, &closed, 0, 2_000);
-    Ok(())
-}
-
-/// Two threads hand these units back and forth over two counters of one root, 10,000 times.
-fn goes_back_and_forth<R: Abort + Threads + Wait + Sync>(
+/// All seats work: how many units are added and how many given, and the last numbers of these counters.
+fn comes_to<R: Abort + Threads + Wait + Sync>(
     rt: &R,
     alloc: Global,
-    work: Work,
-    units: u32,
-) -> Result<(), Fail> {
-    let plan = Plan {
+    plan: &Plan,
+    counts: (u64, u64),
+    ends: &[(u32, u64)],
+) {
+    let closed = works_again(rt, alloc, plan);
+    adds_up(rt, &closed, counts.0, counts.1);
+    for end in ends {
+        ends_at(rt, &closed, end.0, end.1);
+    }
+}
+
+const TWO_ADD: Plan = Plan {
+    sizes: Sizes {
+        counters: 1,
+        start: 0,
+        seats: 2,
+        roots: 251,
+        release_limit: 1_000,
+    },
+    units: 0,
+    work: Work::Adds,
+    turns: 1_000,
+};
+
+#[test]
+fn no_unit_of_two_threads_is_lost(rt: HostRuntime) {
+    comes_to(&rt, rt.alloc(), &TWO_ADD, (2_000, 0), &[(0, 2_000)]);
+}
+
+/// Two threads hand so many units back and forth over two counters of one root, 10,000 times.
+fn back_and_forth(work: Work, units: u32) -> Plan {
+    Plan {
         sizes: Sizes {
             counters: 2,
             start: 0,
@@ -106,87 +112,86 @@ fn goes_back_and_forth<R: Abort + Threads + Wait + Sync>(
         units,
         work,
         turns: 10_000,
-    };
-    let closed = works_again(rt, alloc, &plan)?;
-    let units = u64::from(units);
-    adds_up(
-        rt,
-        &closed,
-        units.wrapping_mul(20_001),
-        units.wrapping_mul(20_000),
-    );
-    ends_at(rt, &closed, 0, units);
-    ends_at(rt, &closed, 1, 0);
-    Ok(())
+    }
+}
+
+fn goes_back_and_forth<R: Abort + Threads + Wait + Sync>(rt: &R, alloc: Global, way: Way) {
+    let plan = back_and_forth(Work::Hands(way), 1);
+    comes_to(rt, alloc, &plan, (20_001, 20_000), &[(0, 1), (1, 0)]);
 }
 
 #[test]
-fn a_unit_goes_back_and_forth_in_order(rt: HostRuntime) -> Result<(), Fail> {
+fn a_unit_goes_back_and_forth_in_order(rt: HostRuntime) {
     let way = Way {
         lifo: false,
         handoff: false,
     };
-    goes_back_and_forth(&rt, rt.alloc(), Work::Hands(way), 1)
+    goes_back_and_forth(&rt, rt.alloc(), way);
 }
 
 #[test]
-fn a_unit_goes_back_and_forth_with_lifo(rt: HostRuntime) -> Result<(), Fail> {
+fn a_unit_goes_back_and_forth_with_lifo(rt: HostRuntime) {
     let way = Way {
         lifo: true,
         handoff: false,
     };
-    goes_back_and_forth(&rt, rt.alloc(), Work::Hands(way), 1)
+    goes_back_and_forth(&rt, rt.alloc(), way);
 }
 
 #[test]
-fn a_unit_goes_back_and_forth_with_handoff(rt: HostRuntime) -> Result<(), Fail> {
+fn a_unit_goes_back_and_forth_with_handoff(rt: HostRuntime) {
     let way = Way {
         lifo: false,
         handoff: true,
     };
-    goes_back_and_forth(&rt, rt.alloc(), Work::Hands(way), 1)
+    goes_back_and_forth(&rt, rt.alloc(), way);
 }
 
 #[test]
-fn two_units_go_back_and_forth_by_one_add(rt: HostRuntime) -> Result<(), Fail> {
-    goes_back_and_forth(&rt, rt.alloc(), Work::HandsTwo, 2)
+fn two_units_go_back_and_forth_by_one_add(rt: HostRuntime) {
+    let plan = back_and_forth(Work::HandsTwo, 2);
+    comes_to(&rt, rt.alloc(), &plan, (40_002, 40_000), &[(0, 2), (1, 0)]);
 }
 
-#[test]
-fn four_threads_lose_nobody(rt: HostRuntime) -> Result<(), Fail> {
-    let plan = Plan {
-        sizes: Sizes {
-            counters: 3,
-            start: 1,
-            seats: 4,
-            roots: 1,
-            release_limit: 5_000,
-        },
-        units: 0,
-        work: Work::Locks,
-        turns: 5_000,
-    };
-    let closed = works_again(&rt, rt.alloc(), &plan)?;
-    adds_up(&rt, &closed, 20_000, 20_000);
-    ends_at(&rt, &closed, 0, 1);
-    ends_at(&rt, &closed, 1, 1);
-    ends_at(&rt, &closed, 2, 1);
-    Ok(())
-}
+const FOUR_LOCK: Plan = Plan {
+    sizes: Sizes {
+        counters: 3,
+        start: 1,
+        seats: 4,
+        roots: 1,
+        release_limit: 5_000,
+    },
+    units: 0,
+    work: Work::Locks,
+    turns: 5_000,
+};
 
 #[test]
-fn ten_threads_lock_one_counter(rt: HostRuntime) -> Result<(), Fail> {
-    let plan = Plan {
-        sizes: Sizes {
-            release_limit: 1_000,
-            ..one_counter(1, 10)
-        },
-        units: 0,
-        work: Work::Locks,
-        turns: 1_000,
-    };
-    let closed = works_again(&rt, rt.alloc(), &plan)?;
-    adds_up(&rt, &closed, 10_000, 10_000);
-    ends_at(&rt, &closed, 0, 1);
-    Ok(())
+fn four_threads_lose_nobody(rt: HostRuntime) {
+    let ends = [(0, 1), (1, 1), (2, 1)];
+    comes_to(
+        &rt,
+        rt.alloc(),
+        &FOUR_LOCK,
+        (20_000, 20_000),
+        ends.as_slice(),
+    );
+}
+
+const TEN_LOCK: Plan = Plan {
+    sizes: Sizes {
+        counters: 1,
+        start: 1,
+        seats: 10,
+        roots: 251,
+        release_limit: 1_000,
+    },
+    units: 0,
+    work: Work::Locks,
+    turns: 1_000,
+};
+
+#[test]
+fn ten_threads_lock_one_counter(rt: HostRuntime) {
+    comes_to(&rt, rt.alloc(), &TEN_LOCK, (10_000, 10_000), &[(0, 1)]);
 }

@@ -9,6 +9,11 @@ use std::alloc::{AllocError, Global};
 use std::process::Abort;
 use waiters::{CounterId, SeatId, WaitId};
 
+/// An assertion. One that stands in a function of its own is proved once: `assert!` makes each body larger.
+pub(crate) fn holds(rt: &impl Abort, told: bool) {
+    assert!(rt; told);
+}
+
 /// The settings of a table whose counters start at one number.
 #[derive(Drop)]
 pub(crate) struct Sizes {
@@ -57,6 +62,13 @@ pub(crate) fn new_again(alloc: Global, sizes: &Sizes) -> Result<(SemaTable, Vec<
         Err(SetupError::NoMemory) => new_table(alloc, sizes),
         answer => answer,
     }
+}
+
+/// The same, of settings that make a table.
+pub(crate) fn made(rt: &impl Abort, alloc: Global, sizes: &Sizes) -> (SemaTable, Vec<Seat>)
+    ensures { All (λ s. s.table ≡ result.0) result.1.items }
+{
+    new_again(alloc, sizes).expect(rt, "a table")
 }
 
 /// Takes the last seat. A new table's seats are in the order of their numbers.

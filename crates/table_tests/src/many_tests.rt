@@ -2,14 +2,13 @@
 
 ghost use Rattle.std.specs.Prelude.{◌≡◌, ◌≤◌, All};
 
-use crate::given::{counter, last_seat, new_again, one_counter, two_seats, wait};
+use crate::given::{counter, holds, last_seat, made, one_counter, two_seats, wait};
 use crate::seats::{
     FIFO, PLAIN, counts, has_value, has_waiters, is_still_asleep, releases, sleeps, wakes_up,
 };
 use sema_table::{OwingMany, PostRefused, PostedMany, Seat, SemaTable, Sleeping, Wake};
 use std::process::Abort;
 use std::sync::Wait;
-use std::test::Fail;
 
 /// The seat adds units, and nobody waits at the root.
 fn posts_many(rt: &impl Abort, table: &SemaTable, seat: Seat, units: u32) -> Seat
@@ -56,7 +55,7 @@ fn wakes_some<R: Abort + Wait>(rt: &R, table: &SemaTable, owing: OwingMany, expe
     ensures { result.table ≡ table.now }
 {
     let (seat, woken) = table.wake_some(rt, owing);
-    assert!(rt; woken == expected);
+    holds(rt, woken == expected);
     seat
 }
 
@@ -74,10 +73,9 @@ fn wakes_the_only_one<R: Abort + Wait>(rt: &R, table: &SemaTable, seats: Vec<Sea
 }
 
 #[test]
-fn more_units_than_waits_wake_each_wait(rt: HostRuntime) -> Result<(), Fail> {
-    let (table, seats) = new_again(rt.alloc(), &one_counter(0, 2))?;
+fn more_units_than_waits_wake_each_wait(rt: HostRuntime) {
+    let (table, seats) = made(&rt, rt.alloc(), &one_counter(0, 2));
     wakes_the_only_one(&rt, &table, seats);
-    Ok(())
 }
 
 fn posts_all_at_once(rt: &impl Abort, table: &SemaTable, seats: &mut Vec<Seat>)
@@ -93,10 +91,9 @@ fn posts_all_at_once(rt: &impl Abort, table: &SemaTable, seats: &mut Vec<Seat>)
 }
 
 #[test]
-fn a_seat_adds_at_once_no_more_than_its_limit(rt: HostRuntime) -> Result<(), Fail> {
-    let (table, mut seats) = new_again(rt.alloc(), &one_counter(0, 1))?;
+fn a_seat_adds_at_once_no_more_than_its_limit(rt: HostRuntime) {
+    let (table, mut seats) = made(&rt, rt.alloc(), &one_counter(0, 1));
     posts_all_at_once(&rt, &table, &mut seats);
-    Ok(())
 }
 
 /// The last seat adds two units where three seats wait, and then one more for the third.
@@ -136,8 +133,7 @@ fn three_sleep<R: Abort + Wait>(rt: &R, table: &SemaTable, seats: Vec<Seat>)
 }
 
 #[test]
-fn as_many_waits_are_woken_as_units_were_added(rt: HostRuntime) -> Result<(), Fail> {
-    let (table, seats) = new_again(rt.alloc(), &one_counter(0, 4))?;
+fn as_many_waits_are_woken_as_units_were_added(rt: HostRuntime) {
+    let (table, seats) = made(&rt, rt.alloc(), &one_counter(0, 4));
     three_sleep(&rt, &table, seats);
-    Ok(())
 }

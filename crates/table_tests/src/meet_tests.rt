@@ -4,11 +4,10 @@
 
 ghost use Rattle.std.specs.Prelude.{◌≡◌, All};
 
-use crate::given::{new_again, one_counter, two_seats};
+use crate::given::{made, one_counter, two_seats};
 use crate::seats::{counts, has_value, posts, tries};
 use sema_table::{Seat, SemaTable, Tried};
 use std::process::Abort;
-use std::test::Fail;
 
 fn meets(table: &SemaTable, one: &mut Seat, other: &mut Seat)
     requires { (one.old.table ≡ table.now) × (other.old.table ≡ table.now) }
@@ -32,8 +31,7 @@ fn meets_between_calls(rt: &impl Abort, table: &SemaTable, seats: Vec<Seat>)
 }
 
 #[test]
-fn seats_that_met_go_on(rt: HostRuntime) -> Result<(), Fail> {
-    let (table, seats) = new_again(rt.alloc(), &one_counter(0, 2))?;
+fn seats_that_met_go_on(rt: HostRuntime) {
+    let (table, seats) = made(&rt, rt.alloc(), &one_counter(0, 2));
     meets_between_calls(&rt, &table, seats);
-    Ok(())
 }

@@ -2,12 +2,11 @@
 
 ghost use Rattle.std.specs.Prelude.{◌≡◌, All};
 
-use crate::given::{last_seat, new_again, one_counter, two_seats, wait};
+use crate::given::{last_seat, made, one_counter, two_seats, wait};
 use crate::seats::{FIFO, LIFO, PLAIN, has_value, releases, sleeps, wakes_up};
 use sema_table::{Seat, SemaTable, Sleeping, Wake};
 use std::process::Abort;
 use std::sync::Wait;
-use std::test::Fail;
 use waiters::WaitId;
 
 /// Two seats sleep, one after the other.
@@ -78,8 +77,7 @@ fn five_seats<R: Abort + Wait>(rt: &R, table: &SemaTable, seats: Vec<Seat>)
 }
 
 #[test]
-fn the_first_of_the_queue_is_woken(rt: HostRuntime) -> Result<(), Fail> {
-    let (table, seats) = new_again(rt.alloc(), &one_counter(0, 5))?;
+fn the_first_of_the_queue_is_woken(rt: HostRuntime) {
+    let (table, seats) = made(&rt, rt.alloc(), &one_counter(0, 5));
     five_seats(&rt, &table, seats);
-    Ok(())
 }

@@ -4,7 +4,7 @@
 
 ghost use Rattle.std.specs.Prelude.{◌≡◌};
 
-use crate::given::counter;
+use crate::given::{counter, holds};
 use sema_table::{
     Entered, Owing, Polled, PostRefused, Posted, Roused, Seat, SemaTable, Sleeping, Tried, Wake,
     Woken,
@@ -36,7 +36,7 @@ pub(crate) fn has_value(
     ensures { seat.new.table ≡ table.now }
 {
     let at = counter(rt, table, number);
-    assert!(rt; table.value(seat, at) == expected);
+    holds(rt, table.value(seat, at) == expected);
 }
 
 pub(crate) fn has_waiters(
@@ -50,13 +50,13 @@ pub(crate) fn has_waiters(
     ensures { seat.new.table ≡ table.now }
 {
     let at = counter(rt, table, number);
-    assert!(rt; table.waiters_of_root(seat, at) == expected);
+    holds(rt, table.waiters_of_root(seat, at) == expected);
 }
 
 /// How many units the seat may add, and how many it was given.
 pub(crate) fn counts(rt: &impl Abort, seat: &Seat, left: u64, taken: u64) {
-    assert!(rt; seat.left() == left);
-    assert!(rt; seat.taken() == taken);
+    holds(rt, seat.left() == left);
+    holds(rt, seat.taken() == taken);
 }
 
 pub(crate) fn tries(
@@ -70,7 +70,7 @@ pub(crate) fn tries(
     ensures { seat.new.table ≡ table.now }
 {
     let at = counter(rt, table, number);
-    assert!(rt; table.try_acquire(seat, at) == expected);
+    holds(rt, table.try_acquire(seat, at) == expected);
 }
 
 /// The seat adds a unit, and nobody waits at the root.
@@ -121,7 +121,7 @@ pub(crate) fn wakes<R: Abort + Wait>(
     ensures { result.table ≡ table.now }
 {
     let (seat, wake) = table.wake(rt, owing, handoff);
-    assert!(rt; wake == expected);
+    holds(rt, wake == expected);
     seat
 }
 
@@ -140,7 +140,7 @@ pub(crate) fn releases<R: Abort + Wait>(
     let at = counter(rt, table, number);
     match table.release(rt, seat, at, handoff) {
         Ok((seat, wake)) => {
-            assert!(rt; wake == expected);
+            holds(rt, wake == expected);
             seat
         }
         Err(_refused) => panic!(rt; "no unit was added"),
@@ -162,7 +162,7 @@ pub(crate) fn sleeps<R: Abort + Wait>(
     let at = counter(rt, table, number);
     match table.enter(rt, seat, at, lifo) {
         Entered::Asleep(sleeping) => {
-            assert!(rt; sleeping.id() == expected);
+            holds(rt, sleeping.id() == expected);
             sleeping
         }
         Entered::Taken(_) => panic!(rt; "a unit was there"),
@@ -237,7 +237,7 @@ pub(crate) fn sleeps_again<R: Abort + Wait>(
 {
     match table.retry(rt, woken) {
         Entered::Asleep(sleeping) => {
-            assert!(rt; sleeping.id() == expected);
+            holds(rt, sleeping.id() == expected);
             sleeping
         }
         Entered::Taken(_) => panic!(rt; "a unit was there"),

@@ -1,27 +1,39 @@
-//! What the refusals print. A call that answers want of memory is made once more.
+//! What the refusals print, and their numbers. A call that answers want of memory is made once more.
 
-use sema_table::SetupError;
+use crate::given::holds;
+use sema_table::{PostRefused, SetupError};
 use std::alloc::Global;
-use std::test::Fail;
+use std::process::Abort;
 
-fn text_of(alloc: Global, refused: SetupError) -> Result<String, Fail> {
+/// Whether this is how it is written, where there is memory.
+fn is_written(alloc: Global, refused: SetupError, text: &str) -> Option<bool> {
     match format!(in alloc; "{refused}") {
-        Ok(text) => Ok(text),
-        Err(_) => Ok(format!(in alloc; "{refused}")?),
+        Ok(written) => Some(written.as_str() == text),
+        Err(_) => None,
     }
 }
 
+fn has_text(rt: &impl Abort, alloc: Global, refused: SetupError, text: &str) {
+    let told = match is_written(alloc, refused, text) {
+        Some(told) => told,
+        None => is_written(alloc, refused, text) == Some(true),
+    };
+    holds(rt, told);
+}
+
+const REFUSALS: [(SetupError, u8, &str); 5] = [
+    (SetupError::Counters, 1, "counters"),
+    (SetupError::Seats, 2, "seats"),
+    (SetupError::Roots, 3, "roots"),
+    (SetupError::ReleaseLimit, 4, "release limit"),
+    (SetupError::NoMemory, 5, "no memory"),
+];
+
 #[test]
-fn refusals_are_written(rt: HostRuntime) -> Result<(), Fail> {
-    let texts = [
-        (SetupError::Counters, "counters"),
-        (SetupError::Seats, "seats"),
-        (SetupError::Roots, "roots"),
-        (SetupError::ReleaseLimit, "release limit"),
-        (SetupError::NoMemory, "no memory"),
-    ];
-    for (refused, text) in texts {
-        assert!(rt; text_of(rt.alloc(), refused)?.as_str() == text);
+fn refusals_have_their_numbers_and_texts(rt: HostRuntime) {
+    for (refused, number, text) in REFUSALS {
+        holds(&rt, (refused as u8) == number);
+        has_text(&rt, rt.alloc(), refused, text);
     }
-    Ok(())
+    holds(&rt, (PostRefused::LimitReached as u8) == 1);
 }

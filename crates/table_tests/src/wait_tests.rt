@@ -4,7 +4,7 @@
 
 ghost use Rattle.std.specs.Prelude.{◌≡◌, All};
 
-use crate::given::{Sizes, last_seat, new_again, one_counter, two_seats, wait};
+use crate::given::{Sizes, last_seat, made, one_counter, two_seats, wait};
 use crate::seats::{
     FIFO, HANDOFF, PLAIN, counts, has_value, has_waiters, is_handed, is_still_asleep, is_woken,
     owes, releases, retries, sleeps, sleeps_again, tries, wakes, wakes_up,
@@ -12,7 +12,6 @@ use crate::seats::{
 use sema_table::{Seat, SemaTable, Sleeping, Tried, Wake};
 use std::process::Abort;
 use std::sync::Wait;
-use std::test::Fail;
 
 fn falls_asleep<R: Abort + Wait>(
     rt: &R,
@@ -52,10 +51,9 @@ fn sleeps_until_woken<R: Abort + Wait>(rt: &R, table: &SemaTable, seats: Vec<Sea
 }
 
 #[test]
-fn a_seat_sleeps_until_it_is_woken(rt: HostRuntime) -> Result<(), Fail> {
-    let (table, seats) = new_again(rt.alloc(), &one_counter(0, 2))?;
+fn a_seat_sleeps_until_it_is_woken(rt: HostRuntime) {
+    let (table, seats) = made(&rt, rt.alloc(), &one_counter(0, 2));
     sleeps_until_woken(&rt, &table, seats);
-    Ok(())
 }
 
 /// The third seat takes the unit of the second before the first is woken.
@@ -95,10 +93,9 @@ fn loses_its_unit<R: Abort + Wait>(rt: &R, table: &SemaTable, seats: Vec<Seat>)
 }
 
 #[test]
-fn a_unit_may_be_taken_before_the_woken_seat_tries(rt: HostRuntime) -> Result<(), Fail> {
-    let (table, seats) = new_again(rt.alloc(), &one_counter(0, 3))?;
+fn a_unit_may_be_taken_before_the_woken_seat_tries(rt: HostRuntime) {
+    let (table, seats) = made(&rt, rt.alloc(), &one_counter(0, 3));
     loses_its_unit(&rt, &table, seats);
-    Ok(())
 }
 
 /// The third seat hands its unit to the first, and then releases once more, to the second.
@@ -135,10 +132,9 @@ fn two_sleep_and_one_is_handed<R: Abort + Wait>(rt: &R, table: &SemaTable, seats
 }
 
 #[test]
-fn a_unit_is_handed_over(rt: HostRuntime) -> Result<(), Fail> {
-    let (table, seats) = new_again(rt.alloc(), &one_counter(0, 3))?;
+fn a_unit_is_handed_over(rt: HostRuntime) {
+    let (table, seats) = made(&rt, rt.alloc(), &one_counter(0, 3));
     two_sleep_and_one_is_handed(&rt, &table, seats);
-    Ok(())
 }
 
 /// The first seat sleeps on counter 0, whose root counter 251 has too.
@@ -156,12 +152,11 @@ fn wakes_nobody<R: Abort + Wait>(rt: &R, table: &SemaTable, seats: Vec<Seat>)
 }
 
 #[test]
-fn a_release_wakes_nobody_of_another_counter(rt: HostRuntime) -> Result<(), Fail> {
+fn a_release_wakes_nobody_of_another_counter(rt: HostRuntime) {
     let sizes = Sizes {
         counters: 252,
         ..one_counter(0, 2)
     };
-    let (table, seats) = new_again(rt.alloc(), &sizes)?;
+    let (table, seats) = made(&rt, rt.alloc(), &sizes);
     wakes_nobody(&rt, &table, seats);
-    Ok(())
 }

@@ -2,7 +2,7 @@
 
 ghost use Rattle.std.specs.Prelude.{◌≡◌, All};
 
-use crate::given::{new_again, one_counter, two_seats, wait};
+use crate::given::{made, one_counter, two_seats, wait};
 use crate::seats::{
     FIFO, HANDOFF, LIFO, PLAIN, acquires, counts, has_value, is_roused, is_roused_with_a_unit,
     posts, releases, retries, sleeps,
@@ -10,7 +10,6 @@ use crate::seats::{
 use sema_table::{Seat, SemaTable, Wake};
 use std::process::Abort;
 use std::sync::Wait;
-use std::test::Fail;
 
 /// The first seat takes two units, one with lifo: nobody waits for either.
 fn takes_what_is_there<R: Abort + Wait>(rt: &R, table: &SemaTable, seats: Vec<Seat>)
@@ -27,10 +26,9 @@ fn takes_what_is_there<R: Abort + Wait>(rt: &R, table: &SemaTable, seats: Vec<Se
 }
 
 #[test]
-fn an_acquire_takes_what_is_there(rt: HostRuntime) -> Result<(), Fail> {
-    let (table, seats) = new_again(rt.alloc(), &one_counter(0, 2))?;
+fn an_acquire_takes_what_is_there(rt: HostRuntime) {
+    let (table, seats) = made(&rt, rt.alloc(), &one_counter(0, 2));
     takes_what_is_there(&rt, &table, seats);
-    Ok(())
 }
 
 /// The first seat sleeps twice, and both times its grant is there before its thread sleeps: with a unit, and without.
@@ -52,8 +50,7 @@ fn finds_its_grant<R: Abort + Wait>(rt: &R, table: &SemaTable, seats: Vec<Seat>)
 }
 
 #[test]
-fn a_sleep_ends_at_once_where_its_grant_is_there(rt: HostRuntime) -> Result<(), Fail> {
-    let (table, seats) = new_again(rt.alloc(), &one_counter(0, 2))?;
+fn a_sleep_ends_at_once_where_its_grant_is_there(rt: HostRuntime) {
+    let (table, seats) = made(&rt, rt.alloc(), &one_counter(0, 2));
     finds_its_grant(&rt, &table, seats);
-    Ok(())
 }
