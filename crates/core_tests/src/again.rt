@@ -21,48 +21,59 @@ pub(crate) fn run_again<'s>(
 }
 
 /// The world at the start, asked for once more where memory was refused.
-pub(crate) fn new_again<'s>(alloc: Global, scenario: &'s Scenario) -> Result<World<'s>, NoMemory> {
+pub(crate) fn new_again<'s>(rt: &impl Abort, alloc: Global, scenario: &'s Scenario) -> World<'s> {
     match World::new(alloc, scenario) {
-        Err(NoMemory) => World::new(alloc, scenario),
-        answer => answer,
+        Ok(world) => world,
+        Err(NoMemory) => World::new(alloc, scenario).expect(rt, "a world"),
     }
 }
 
-/// Makes one step, once more where memory was refused.
-pub(crate) fn step_again(world: &mut World<'_>, number: u16) -> Result<(), StepRefused> {
+/// Whether the seat steps. It is asked once more where memory was refused.
+pub(crate) fn steps_again(world: &mut World<'_>, number: u16) -> bool {
     match world.step(seat(number)) {
-        Err(StepRefused::NoMemory) => world.step(seat(number)),
-        answer => answer,
+        Err(StepRefused::NoMemory) => world.step(seat(number)).is_ok(),
+        answer => answer.is_ok(),
     }
 }
 
 /// A copy of the world, asked for once more where memory was refused.
-pub(crate) fn copy_again<'s>(alloc: Global, world: &World<'s>) -> Result<World<'s>, NoMemory> {
+pub(crate) fn copy_again<'s>(rt: &impl Abort, alloc: Global, world: &World<'s>) -> World<'s> {
     match world.try_clone(alloc) {
-        Err(NoMemory) => world.try_clone(alloc),
-        answer => answer,
+        Ok(copy) => copy,
+        Err(NoMemory) => world.try_clone(alloc).expect(rt, "a copy"),
     }
 }
 
 /// The moment at the start, asked for once more where memory was refused.
 pub(crate) fn moment_again<'s>(
+    rt: &impl Abort,
     alloc: Global,
     scenario: &'s Scenario,
-) -> Result<Moment<'s>, NoMemory> {
+) -> Moment<'s> {
     match Moment::new(alloc, scenario) {
-        Err(NoMemory) => Moment::new(alloc, scenario),
-        answer => answer,
+        Ok(moment) => moment,
+        Err(NoMemory) => Moment::new(alloc, scenario).expect(rt, "a moment"),
+    }
+}
+
+/// The start of the scenario by the changed table, asked for once more where memory was refused.
+pub(crate) fn bent_again<'s>(
+    rt: &impl Abort,
+    alloc: Global,
+    scenario: &'s Scenario,
+    variant: Variant,
+) -> Moment<'s> {
+    match Moment::new_by(alloc, scenario, Some(variant)) {
+        Ok(moment) => moment,
+        Err(NoMemory) => Moment::new_by(alloc, scenario, Some(variant)).expect(rt, "a moment"),
     }
 }
 
 /// A copy of the moment, asked for once more where memory was refused.
-pub(crate) fn copied_moment<'s>(
-    alloc: Global,
-    moment: &Moment<'s>,
-) -> Result<Moment<'s>, NoMemory> {
+pub(crate) fn copied_moment<'s>(rt: &impl Abort, alloc: Global, moment: &Moment<'s>) -> Moment<'s> {
     match moment.try_clone(alloc) {
-        Err(NoMemory) => moment.try_clone(alloc),
-        answer => answer,
+        Ok(copy) => copy,
+        Err(NoMemory) => moment.try_clone(alloc).expect(rt, "a copy"),
     }
 }
 
@@ -72,38 +83,28 @@ pub(crate) fn waiting_again(
     alloc: Global,
     world: &World<'_>,
     counter: u32,
-) -> Result<Vec<WaitId>, NoMemory> {
+) -> Vec<WaitId> {
     assert!(rt; (counter as usize) < world.scenario().semaphores());
     match world.waiting(alloc, CounterId::new(counter)) {
-        Err(NoMemory) => world.waiting(alloc, CounterId::new(counter)),
-        answer => answer,
+        Ok(waits) => waits,
+        Err(NoMemory) => world
+            .waiting(alloc, CounterId::new(counter))
+            .expect(rt, "waits"),
     }
 }
 
 /// The key of the world, asked for once more where memory was refused.
-pub(crate) fn key_again(alloc: Global, world: &World<'_>) -> Result<Vec<u64>, NoMemory> {
+pub(crate) fn key_again(rt: &impl Abort, alloc: Global, world: &World<'_>) -> Vec<u64> {
     match world.key(alloc) {
-        Err(NoMemory) => world.key(alloc),
-        answer => answer,
+        Ok(key) => key,
+        Err(NoMemory) => world.key(alloc).expect(rt, "a key"),
     }
 }
 
 /// The key of the moment, asked for once more where memory was refused.
-pub(crate) fn moments_key(alloc: Global, moment: &Moment<'_>) -> Result<Vec<u64>, NoMemory> {
+pub(crate) fn moments_key(rt: &impl Abort, alloc: Global, moment: &Moment<'_>) -> Vec<u64> {
     match moment.key(alloc) {
-        Err(NoMemory) => moment.key(alloc),
-        answer => answer,
-    }
-}
-
-/// The start of the scenario by the changed table, asked for once more where memory was refused.
-pub(crate) fn bent_again<'s>(
-    alloc: Global,
-    scenario: &'s Scenario,
-    variant: Variant,
-) -> Result<Moment<'s>, NoMemory> {
-    match Moment::new_by(alloc, scenario, Some(variant)) {
-        Err(NoMemory) => Moment::new_by(alloc, scenario, Some(variant)),
-        answer => answer,
+        Ok(key) => key,
+        Err(NoMemory) => moment.key(alloc).expect(rt, "a key"),
     }
 }

@@ -1,96 +1,90 @@
 //! Schedules that are refused, and the numbers of the refusals.
 
 use crate::again::run_again;
-use crate::given::{Start, acquire, handoff, on_counter, release, scenario, seats_again};
-use crate::group_tests::{add, in_group};
+use crate::given::{scenario, seats_again};
 use std::alloc::Global;
 use std::process::Abort;
-use std::test::Fail;
-use step_core::{Misuse, RunRefused, Scenario, StepRefused};
+use step_core::{Misuse, RunRefused, ScenarioRefused, StepRefused};
 
-/// A schedule, at which step it is refused, and why.
-type Refused<'t> = (&'t [u16], usize, StepRefused);
+/// A scenario, a schedule, at which step it is refused, and why.
+type Row = (&'static str, &'static [u16], usize, StepRefused);
 
-fn is_refused(
-    rt: &impl Abort,
-    alloc: Global,
-    scenario: &Scenario,
-    row: &Refused<'_>,
-) -> Result<(), Fail> {
-    let schedule = seats_again(alloc, row.0)?;
-    let refused = RunRefused::AtStep(row.1, row.2);
-    assert!(rt; run_again(alloc, scenario, &schedule).err() == Some(refused));
-    Ok(())
-}
+const HANDED_OVER: &str =
+    "roots 1\ncounter 0\nseat 0: acquire 0\nseat 1: acquire 0\nseat 2: release 0 handoff\nsettled\n";
 
-fn are_refused(
-    rt: &impl Abort,
-    alloc: Global,
-    start: &Start<'_>,
-    rows: &[Refused<'_>],
-) -> Result<(), Fail> {
-    let scenario = scenario(alloc, start)?;
-    for row in rows {
-        is_refused(rt, alloc, &scenario, row)?;
-    }
-    Ok(())
-}
+static REFUSED: [Row; 5] = [
+    // a unit is handed over to seat 0, and then another seat steps too
+    (
+        HANDED_OVER,
+        &[
+            0, 0, 0, 0, 0, 1, 1, 1, 1, 1, 2, 2, 2, 2, 2, 2, 2, 2, 2, 0, 1,
+        ],
+        20,
+        StepRefused::Asleep,
+    ),
+    (
+        HANDED_OVER,
+        &[
+            0, 0, 0, 0, 0, 1, 1, 1, 1, 1, 2, 2, 2, 2, 2, 2, 2, 2, 2, 0, 2,
+        ],
+        20,
+        StepRefused::SeatEnded,
+    ),
+    (
+        HANDED_OVER,
+        &[
+            0, 0, 0, 0, 0, 1, 1, 1, 1, 1, 2, 2, 2, 2, 2, 2, 2, 2, 2, 0, 3,
+        ],
+        20,
+        StepRefused::NoSuchSeat,
+    ),
+    (
+        "roots 1\ncounter 0\nseat 0: acquire 0\nseat 1: release 0\nsettled\n",
+        &[0, 0, 0, 1, 1, 1],
+        5,
+        StepRefused::LockHeld,
+    ),
+    (
+        "roots 1\ngroup\nseat 0: gadd 0 -1\nsettled\n",
+        &[0, 0],
+        1,
+        StepRefused::SeatFailed,
+    ),
+];
 
-/// A unit is handed over to seat 0, and then this seat steps too.
-const fn one_more(number: u16) -> [u16; 21] {
-    [
-        0, 0, 0, 0, 0, 1, 1, 1, 1, 1, 2, 2, 2, 2, 2, 2, 2, 2, 2, 0, number,
-    ]
-}
-
-#[test]
-fn a_step_too_many_is_refused(rt: HostRuntime) -> Result<(), Fail> {
-    let calls = [&[acquire()][..], &[acquire()], &[handoff()]];
-    let rows = [
-        (&one_more(1)[..], 20, StepRefused::Asleep),
-        (&one_more(2), 20, StepRefused::SeatEnded),
-        (&one_more(3), 20, StepRefused::NoSuchSeat),
-    ];
-    are_refused(&rt, rt.alloc(), &on_counter(&calls), &rows)
-}
-
-#[test]
-fn a_held_lock_refuses(rt: HostRuntime) -> Result<(), Fail> {
-    let calls = [&[acquire()][..], &[release()]];
-    let rows = [(&[0, 0, 0, 1, 1, 1][..], 5, StepRefused::LockHeld)];
-    are_refused(&rt, rt.alloc(), &on_counter(&calls), &rows)
-}
-
-#[test]
-fn a_failed_seat_is_refused(rt: HostRuntime) -> Result<(), Fail> {
-    let calls = [&[add(-1)][..]];
-    let rows = [(&[0, 0][..], 1, StepRefused::SeatFailed)];
-    are_refused(&rt, rt.alloc(), &in_group(&calls), &rows)
+fn is_refused(rt: &impl Abort, alloc: Global, row: &Row) {
+    let scenario = scenario(rt, alloc, row.0);
+    let schedule = seats_again(rt, alloc, row.1);
+    let refused = RunRefused::AtStep(row.2, row.3);
+    assert!(rt; run_again(alloc, &scenario, &schedule).err() == Some(refused));
 }
 
 #[test]
-fn refusals_have_their_numbers(rt: HostRuntime) {
-    let rows = [
-        (StepRefused::NoSuchSeat, 1),
-        (StepRefused::SeatEnded, 2),
-        (StepRefused::LockHeld, 3),
-        (StepRefused::Asleep, 4),
-        (StepRefused::SeatFailed, 5),
-        (StepRefused::NoMemory, 6),
-    ];
-    for (refused, number) in rows {
-        assert!(rt; (refused as u8) == number);
+fn schedules_are_refused(rt: HostRuntime) {
+    for row in &REFUSED {
+        is_refused(&rt, rt.alloc(), row);
     }
 }
 
 #[test]
-fn misuses_have_their_numbers(rt: HostRuntime) {
-    let rows = [
-        (Misuse::Negative, 1),
-        (Misuse::AddWithWait, 2),
-        (Misuse::Reused, 3),
+fn refusals_and_misuses_have_their_numbers(rt: HostRuntime) {
+    let steps = [
+        StepRefused::NoSuchSeat as u8,
+        StepRefused::SeatEnded as u8,
+        StepRefused::LockHeld as u8,
+        StepRefused::Asleep as u8,
+        StepRefused::SeatFailed as u8,
+        StepRefused::NoMemory as u8,
     ];
-    for (misuse, number) in rows {
-        assert!(rt; (misuse as u8) == number);
-    }
+    let misuses = [
+        Misuse::Negative as u8,
+        Misuse::AddWithWait as u8,
+        Misuse::Reused as u8,
+    ];
+    let scenarios = [
+        ScenarioRefused::OutOfLimits as u8,
+        ScenarioRefused::Undeclared as u8,
+        ScenarioRefused::Ticket as u8,
+    ];
+    assert!(rt; steps == [1, 2, 3, 4, 5, 6] && misuses == [1, 2, 3] && scenarios == [1, 2, 3]);
 }

@@ -1,34 +1,32 @@
 //! What a scenario shows of its parts.
 
-use crate::given::{Start, acquire, release, scenario};
-use std::process::Abort;
-use std::test::Fail;
+use crate::given::scenario;
 use step_core::Scenario;
 
-fn shows_counts(rt: &impl Abort, scenario: &Scenario) {
-    assert!(rt; scenario.counters() == 2);
-    // two groups have a semaphore each
-    assert!(rt; scenario.semaphores() == 4);
-    assert!(rt; scenario.seats() == 3);
-}
+const TEXT: &str = "\
+roots 1
+counter 3
+counter 4294967295
+list 7
+group
+group
+seat 0: acquire 0; release 0
+seat 1: release 0
+seat 2: acquire 0; release 0
+settled
+";
 
-fn shows_parts(rt: &impl Abort, scenario: &Scenario) {
-    assert!(rt; scenario.starts() == [3, u32::MAX].as_slice());
-    assert!(rt; scenario.parts().firsts.as_slice() == [7].as_slice());
+fn shows_parts(scenario: &Scenario) -> bool {
+    // two groups have a semaphore each
+    scenario.counters() == 2
+        && scenario.semaphores() == 4
+        && scenario.seats() == 3
+        && scenario.starts() == [3, u32::MAX].as_slice()
+        && scenario.parts().firsts.as_slice() == [7].as_slice()
 }
 
 #[test]
-fn a_scenario_shows_its_parts(rt: HostRuntime) -> Result<(), Fail> {
-    let both = [acquire(), release()];
-    let start = Start {
-        roots: 1,
-        starts: &[3, u32::MAX],
-        firsts: &[7],
-        groups: 2,
-        calls: &[&both, &[release()], &both],
-    };
-    let scenario = scenario(rt.alloc(), &start)?;
-    shows_counts(&rt, &scenario);
-    shows_parts(&rt, &scenario);
-    Ok(())
+fn a_scenario_shows_its_parts(rt: HostRuntime) {
+    let scenario = scenario(&rt, rt.alloc(), TEXT);
+    assert!(rt; shows_parts(&scenario));
 }

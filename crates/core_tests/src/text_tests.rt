@@ -1,89 +1,69 @@
 //! What is printed. A call that answers want of memory is made once more.
 
 use std::alloc::Global;
+use std::fmt::Display;
 use std::process::Abort;
-use std::test::Fail;
 use step_core::{GroupId, ListId, RunRefused, ScenarioRefused, StepRefused};
 
-fn scenario_text(alloc: Global, refused: ScenarioRefused) -> Result<String, Fail> {
-    match format!(in alloc; "{refused}") {
-        Ok(text) => Ok(text),
-        Err(_) => Ok(format!(in alloc; "{refused}")?),
-    }
+fn text_of(alloc: Global, told: &impl Display) -> Option<String> {
+    format!(in alloc; "{told}").ok()
 }
 
-fn run_text(alloc: Global, refused: RunRefused) -> Result<String, Fail> {
-    match format!(in alloc; "{refused}") {
-        Ok(text) => Ok(text),
-        Err(_) => Ok(format!(in alloc; "{refused}")?),
-    }
+/// This is printed so.
+fn is_printed(rt: &impl Abort, alloc: Global, told: &impl Display, text: &str) {
+    let printed = match text_of(alloc, told) {
+        Some(printed) => printed,
+        None => text_of(alloc, told).expect(rt, "memory"),
+    };
+    assert!(rt; printed.as_str() == text);
 }
 
-fn names(alloc: Global, list: ListId, group: GroupId) -> Result<String, Fail> {
-    match format!(in alloc; "{list} {group}") {
-        Ok(text) => Ok(text),
-        Err(_) => Ok(format!(in alloc; "{list} {group}")?),
-    }
-}
+static OF_PARTS: [(ScenarioRefused, &str); 3] = [
+    (ScenarioRefused::OutOfLimits, "out of limits"),
+    (ScenarioRefused::Undeclared, "undeclared"),
+    (ScenarioRefused::Ticket, "ticket"),
+];
 
-fn is(rt: &impl Abort, text: &str, expected: &str) {
-    assert!(rt; text == expected);
+static OF_RUNS: [(RunRefused, &str); 7] = [
+    (RunRefused::NoStart, "start: no memory"),
+    (
+        RunRefused::AtStep(0, StepRefused::NoSuchSeat),
+        "step 0: no such seat",
+    ),
+    (
+        RunRefused::AtStep(1, StepRefused::SeatEnded),
+        "step 1: the seat has ended",
+    ),
+    (
+        RunRefused::AtStep(2, StepRefused::LockHeld),
+        "step 2: the lock is held",
+    ),
+    (
+        RunRefused::AtStep(15, StepRefused::Asleep),
+        "step 15: the seat is asleep",
+    ),
+    (
+        RunRefused::AtStep(4, StepRefused::SeatFailed),
+        "step 4: the seat has failed",
+    ),
+    (
+        RunRefused::AtStep(5, StepRefused::NoMemory),
+        "step 5: no memory",
+    ),
+];
+
+#[test]
+fn refusals_are_printed(rt: HostRuntime) {
+    for row in &OF_PARTS {
+        is_printed(&rt, rt.alloc(), &row.0, row.1);
+    }
+    for row in &OF_RUNS {
+        is_printed(&rt, rt.alloc(), &row.0, row.1);
+    }
 }
 
 #[test]
-fn refusals_of_parts_are_written(rt: HostRuntime) -> Result<(), Fail> {
-    let texts = [
-        (ScenarioRefused::OutOfLimits, "out of limits"),
-        (ScenarioRefused::Undeclared, "undeclared"),
-        (ScenarioRefused::Ticket, "ticket"),
-    ];
-    for (refused, text) in texts {
-        is(&rt, &scenario_text(rt.alloc(), refused)?, text);
-    }
-    Ok(())
-}
-
-#[test]
-fn refusals_of_runs_are_written(rt: HostRuntime) -> Result<(), Fail> {
-    let texts = [
-        (RunRefused::NoStart, "start: no memory"),
-        (
-            RunRefused::AtStep(0, StepRefused::NoSuchSeat),
-            "step 0: no such seat",
-        ),
-        (
-            RunRefused::AtStep(1, StepRefused::SeatEnded),
-            "step 1: the seat has ended",
-        ),
-        (
-            RunRefused::AtStep(2, StepRefused::LockHeld),
-            "step 2: the lock is held",
-        ),
-        (
-            RunRefused::AtStep(15, StepRefused::Asleep),
-            "step 15: the seat is asleep",
-        ),
-        (
-            RunRefused::AtStep(4, StepRefused::SeatFailed),
-            "step 4: the seat has failed",
-        ),
-        (
-            RunRefused::AtStep(5, StepRefused::NoMemory),
-            "step 5: no memory",
-        ),
-    ];
-    for (refused, text) in texts {
-        is(&rt, &run_text(rt.alloc(), refused)?, text);
-    }
-    Ok(())
-}
-
-#[test]
-fn names_are_written(rt: HostRuntime) -> Result<(), Fail> {
-    is(
-        &rt,
-        &names(rt.alloc(), ListId::new(4), GroupId::new(15))?,
-        "4 15",
-    );
-    Ok(())
+fn names_are_printed(rt: HostRuntime) {
+    is_printed(&rt, rt.alloc(), &ListId::new(4), "4");
+    is_printed(&rt, rt.alloc(), &GroupId::new(15), "15");
 }
