@@ -1,7 +1,9 @@
 //! One who waits on a condition variable, or wakes those who wait.
 
 ghost use Rattle.std.specs.Prelude.{◌≡◌, ◌<◌, length};
+ghost use Rattle.std.specs.Option.{ForSome};
 
+use crate::play::Play;
 use sema_table::{Seat, SemaTable};
 use std::process::Abort;
 use std::sync::Wait;
@@ -17,6 +19,8 @@ pub(crate) const RELEASE_LIMIT: u64 = 1_000;
 /// How far all have come.
 #[derive(Drop)]
 pub(crate) struct Marks {
+    /// Whether all threads are there, or one couldn't be made.
+    pub(crate) curtain: AtomicU64,
     /// How often somebody has begun to wait.
     pub(crate) came: AtomicU64,
     /// How often somebody has come back.
@@ -34,6 +38,7 @@ pub(crate) struct Marks {
 impl Marks {
     pub(crate) fn new() -> Marks {
         Marks {
+            curtain: AtomicU64::new(0),
             came: AtomicU64::new(0),
             woke: AtomicU64::new(0),
             first: AtomicU64::new(0),
@@ -44,15 +49,25 @@ impl Marks {
     }
 }
 
+/// What all parts share.
+#[derive(Drop)]
+pub(crate) struct Stage<'t> {
+    pub(crate) table: &'t SemaTable,
+    pub(crate) cond: &'t Cond,
+    pub(crate) marks: &'t Marks,
+    pub(crate) play: Play,
+    pub(crate) ghost locks: { 0 < length table.now.setting.starts },
+}
+
 /// A lock, and a seat of the condition variable.
 #[derive(Drop)]
 pub(crate) struct Actor<'t> {
-    table: &'t SemaTable,
     cond: &'t Cond,
     pub(crate) marks: &'t Marks,
     lock: SemaLock<'t>,
-    own: ListSeat,
-    ghost ties: { (lock.seat.table ≡ table.now) × (own.list ≡ cond.now) },
+    /// Always there between two calls: a wait takes a seat by value.
+    own: Option<ListSeat>,
+    ghost ties: { ForSome own (λ s. s.list ≡ cond.now) },
 }
 
 /// Until the mark is at least this.
@@ -68,74 +83,52 @@ pub(crate) fn reaches<R: Wait>(rt: &R, mark: &AtomicU64, least: u64) {
 
 impl<'t> Actor<'t> {
     /// One who hasn't locked.
-    pub(crate) fn new(
-        table: &'t SemaTable,
-        cond: &'t Cond,
-        marks: &'t Marks,
-        seat: Seat,
-        own: ListSeat,
-    ) -> Actor<'t>
-        requires table { (seat.table ≡ table.now) × (0 < length table.now.setting.starts) }
-        requires cond { own.list ≡ cond.now }
+    pub(crate) fn new(stage: &Stage<'t>, seat: Seat, own: ListSeat) -> Actor<'t>
+        requires table { seat.table ≡ stage.now.table.now }
+        requires cond { own.list ≡ stage.now.cond.now }
     {
-        let lock = SemaLock::over(table, seat, CounterId::new(0));
         Actor {
-            table,
-            cond,
-            marks,
-            lock,
-            own,
+            cond: stage.cond,
+            marks: stage.marks,
+            lock: SemaLock::over(stage.table, seat, CounterId::new(0)),
+            own: Some(own),
         }
     }
 
-    pub(crate) fn locks<R: Abort + Wait>(self, rt: &R) -> Actor<'t> {
-        let mut actor = self;
-        assert!(rt; !actor.lock.held());
-        actor.lock.acquire(rt);
-        actor
+    pub(crate) fn locks<R: Abort + Wait>(&mut self, rt: &R) {
+        assert!(rt; !self.lock.held());
+        self.lock.acquire(rt);
     }
 
-    pub(crate) fn unlocks<R: Abort + Wait>(self, rt: &R) -> Actor<'t> {
-        let mut actor = self;
-        assert!(rt; actor.lock.held() && actor.lock.left() > 0);
-        actor.lock.release(rt);
-        actor
+    pub(crate) fn unlocks<R: Abort + Wait>(&mut self, rt: &R) {
+        assert!(rt; self.lock.held() && self.lock.left() > 0);
+        self.lock.release(rt);
     }
 
     /// Waits once under the lock, and counts itself before and after it.
-    pub(crate) fn waits<R: Abort + Wait>(self, rt: &R) -> Actor<'t> {
-        let Actor {
-            table,
-            cond,
-            marks,
-            mut lock,
-            own,
-        } = self;
-        assert!(rt; lock.held() && lock.left() > 0);
-        marks.came.fetch_add(1, SeqCst);
-        let (own, _) = cond.wait(rt, own, &mut lock);
-        marks.woke.fetch_add(1, SeqCst);
-        Actor {
-            table,
-            cond,
-            marks,
-            lock,
-            own,
-        }
+    pub(crate) fn waits<R: Abort + Wait>(&mut self, rt: &R) {
+        assert!(rt; self.lock.held() && self.lock.left() > 0);
+        let own = self.own.take().expect(rt, "a seat");
+        self.marks.came.fetch_add(1, SeqCst);
+        let (own, _) = self.cond.wait(rt, own, &mut self.lock);
+        self.marks.woke.fetch_add(1, SeqCst);
+        self.own = Some(own);
     }
 
-    /// Signals: this ticket is granted.
-    pub(crate) fn signals<R: Abort + Wait>(self, rt: &R, expected: Option<u64>) -> Actor<'t> {
-        let mut actor = self;
-        assert!(rt; actor.cond.signal(rt, &mut actor.own) == expected);
-        actor
+    /// Signals: the ticket that was granted.
+    pub(crate) fn signals<R: Abort + Wait>(&mut self, rt: &R) -> Option<u64> {
+        let mut own = self.own.take().expect(rt, "a seat");
+        let granted = self.cond.signal(rt, &mut own);
+        self.own = Some(own);
+        granted
     }
 
     /// Broadcasts: how many tickets were granted.
-    pub(crate) fn broadcasts<R: Wait>(self, rt: &R) -> (Actor<'t>, u32) {
-        let mut actor = self;
-        let granted = actor.cond.broadcast(rt, &mut actor.own);
-        (actor, granted)
+    pub(crate) fn broadcasts<R: Abort + Wait>(&mut self, rt: &R) -> u32 {
+        let mut own = self.own.take().expect(rt, "a seat");
+        let granted = self.cond.broadcast(rt, &mut own);
+        self.own = Some(own);
+        granted
     }
 
     /// Adds up how often it has locked and unlocked, and isn't there any more.
@@ -144,8 +137,7 @@ impl<'t> Actor<'t> {
         assert!(rt; !lock.held());
         let seat = lock.into_seat();
         marks.locked.fetch_add(seat.taken(), SeqCst);
-        marks
-            .unlocked
-            .fetch_add(RELEASE_LIMIT.wrapping_sub(seat.left()), SeqCst);
+        let unlocked = RELEASE_LIMIT.wrapping_sub(seat.left());
+        marks.unlocked.fetch_add(unlocked, SeqCst);
     }
 }

@@ -1,14 +1,13 @@
 //! One thread for each part of a play.
 
-ghost use Rattle.std.specs.Prelude.{◌≡◌, ◌<◌, length, All};
+ghost use Rattle.std.specs.Prelude.{◌≡◌, All, IfOk};
 
-use crate::actor::{Actor, Marks, RELEASE_LIMIT, reaches};
+use crate::actor::{Actor, Marks, RELEASE_LIMIT, Stage, reaches};
 use crate::play::Play;
 use sema_table::{Seat, SemaTable, Settings};
 use std::alloc::{AllocError, Global};
 use std::process::Abort;
 use std::sync::Wait;
-use std::sync::atomic::AtomicU64;
 use std::sync::atomic::Ordering::SeqCst;
 use std::thread;
 use std::thread::{Scope, Threads};
@@ -20,60 +19,54 @@ const BEGIN: u64 = 1;
 /// One couldn't be made, so nobody plays: one who waits for another that isn't there would wait for good.
 const GIVE_UP: u64 = 2;
 
-/// What all parts share beside the lock's table.
-#[derive(Clone, Copy, Drop)]
-struct Stage<'t> {
-    cond: &'t Cond,
-    marks: &'t Marks,
-    curtain: &'t AtomicU64,
-    play: Play,
+/// How often all have locked, and how often unlocked.
+pub(crate) type Sums = (u64, u64);
+
+/// Those who have no thread yet.
+#[derive(Drop)]
+struct Cast<'t> {
+    stage: &'t Stage<'t>,
+    seats: Vec<Seat>,
+    owns: Vec<ListSeat>,
+    ghost table: { All (λ s. s.table ≡ stage.now.table.now) seats.items },
+    ghost cond: { All (λ s. s.list ≡ stage.now.cond.now) owns.items },
 }
 
-/// One counter at 1, for a lock.
-fn settings(alloc: Global, seats: u32) -> Result<Settings, AllocError> {
-    Ok(Settings {
-        starts: vec![in alloc; 1; 1]?,
-        seats,
-        roots: 1,
-        seed: 1,
-        release_limit: RELEASE_LIMIT,
-    })
-}
-
-/// The part of a seat, once all threads are there.
-fn acts<R: Abort + Wait>(rt: &R, table: &SemaTable, stage: Stage<'_>, seat: Seat, own: ListSeat)
-    requires table { (seat.table ≡ table.now) × (0 < length table.now.setting.starts) }
-    requires cond { own.list ≡ stage.cond.now }
-{
-    reaches(rt, stage.curtain, BEGIN);
-    if stage.curtain.load(SeqCst) == BEGIN {
+impl<'t> Cast<'t> {
+    /// The next one, and the number of its part.
+    fn next(&mut self, rt: &impl Abort) -> (Actor<'t>, u16) {
+        let seat = self.seats.pop().expect(rt, "a seat");
+        let own = self
+            .owns
+            .pop()
+            .expect(rt, "a seat of the condition variable");
         let part = seat.id().number();
-        let actor = Actor::new(table, stage.cond, stage.marks, seat, own);
-        stage.play.plays(rt, actor, part).leaves(rt);
+        (Actor::new(self.stage, seat, own), part)
+    }
+}
+
+/// A part of the play, once all threads are there.
+fn acts<R: Abort + Wait>(rt: &R, play: Play, actor: Actor<'_>, part: u16) {
+    let mut actor = actor;
+    let marks = actor.marks;
+    reaches(rt, &marks.curtain, BEGIN);
+    if marks.curtain.load(SeqCst) == BEGIN {
+        play.plays(rt, &mut actor, part);
+        actor.leaves(rt);
     }
 }
 
 /// Makes a thread for each part, as long as there can be one: whether all were made.
 fn hire_all<'s, E, R: Abort + Threads + Wait + Sync>(
-    scope: &'s Scope<'s, E>,
     rt: &'s R,
-    table: &'s SemaTable,
-    stage: Stage<'s>,
-    seats: Vec<Seat>,
-    owns: Vec<ListSeat>,
-) -> bool
-    requires table { All (λ s. s.table ≡ table.now) seats.items × (0 < length table.now.setting.starts) }
-    requires cond { All (λ s. s.list ≡ stage.cond.now) owns.items }
-{
-    let (mut seats, mut owns) = (seats, owns);
-    while let (Some(seat), Some(own)) = (seats.pop(), owns.pop()) {
-        let made = scope.spawn(
-            move ||
-                requires table { (seat.table ≡ table.now) × (0 < length table.now.setting.starts) }
-                requires cond { own.list ≡ stage.cond.now }
-            { acts(rt, table, stage, seat, own) },
-        );
-        if made.is_err() {
+    scope: &'s Scope<'s, E>,
+    play: Play,
+    cast: Cast<'s>,
+) -> bool {
+    let mut cast = cast;
+    for _ in 0..play.parts() {
+        let (actor, part) = cast.next(rt);
+        if scope.spawn(move || acts(rt, play, actor, part)).is_err() {
             return false;
         }
     }
@@ -81,30 +74,74 @@ fn hire_all<'s, E, R: Abort + Threads + Wait + Sync>(
 }
 
 /// All parts, each in a thread of its own: whether they were played.
-fn act_all<R: Abort + Threads + Wait + Sync>(
+fn act_all<R: Abort + Threads + Wait + Sync>(rt: &R, cast: Cast<'_>) -> bool {
+    let stage = cast.stage;
+    thread::scope(thread::scope_env(), rt, move |scope| {
+        let all = hire_all(rt, scope, stage.play, cast);
+        let told = if all { BEGIN } else { GIVE_UP };
+        stage.marks.curtain.store(told, SeqCst);
+        all
+    })
+}
+
+/// One counter at 1, for a lock, and so many seats.
+fn new_table(alloc: Global, seats: u32) -> Result<(SemaTable, Vec<Seat>), AllocError>
+    ensures { IfOk result (λ t. All (λ s. s.table ≡ t.0) t.1.items) }
+{
+    let settings = Settings {
+        starts: vec![in alloc; 1; 1]?,
+        seats,
+        roots: 1,
+        seed: 1,
+        release_limit: RELEASE_LIMIT,
+    };
+    match SemaTable::new(alloc, settings) {
+        Ok(made) => Ok(made),
+        Err(_refused) => Err(AllocError),
+    }
+}
+
+/// The play, over a table for its lock, and a condition variable.
+fn perform_on<R: Abort + Threads + Wait + Sync>(
     rt: &R,
+    play: Play,
     table: &SemaTable,
-    stage: Stage<'_>,
+    cond: &Cond,
     seats: Vec<Seat>,
     owns: Vec<ListSeat>,
-) -> bool
-    requires table { All (λ s. s.table ≡ table.now) seats.items × (0 < length table.now.setting.starts) }
-    requires cond { All (λ s. s.list ≡ stage.cond.now) owns.items }
+) -> Result<Sums, NoMemory>
+    requires table { All (λ s. s.table ≡ table.now) seats.items }
+    requires cond { All (λ s. s.list ≡ cond.now) owns.items }
 {
-    thread::scope(
-        thread::scope_env(),
-        rt,
-        move |scope| -> bool
-            requires table { All (λ s. s.table ≡ table.now) seats.items × (0 < length table.now.setting.starts) }
-            requires cond { All (λ s. s.list ≡ stage.cond.now) owns.items }
-        {
-            let all = hire_all(scope, rt, table, stage, seats, owns);
-            stage
-                .curtain
-                .store(if all { BEGIN } else { GIVE_UP }, SeqCst);
-            all
-        },
-    )
+    assert!(rt; 0 < table.counters());
+    let marks = &Marks::new();
+    let stage = &Stage {
+        table,
+        cond,
+        marks,
+        play,
+    };
+    if act_all(rt, Cast { stage, seats, owns }) {
+        Ok((marks.locked.load(SeqCst), marks.unlocked.load(SeqCst)))
+    } else {
+        Err(NoMemory)
+    }
+}
+
+/// The play, over a table for its lock.
+fn perform_over<R: Abort + Threads + Wait + Sync>(
+    rt: &R,
+    alloc: Global,
+    play: Play,
+    table: &SemaTable,
+    seats: Vec<Seat>,
+) -> Result<Sums, NoMemory>
+    requires { All (λ s. s.table ≡ table.now) seats.items }
+{
+    match Cond::with_seats(alloc, play.parts()) {
+        Ok((cond, owns)) => perform_on(rt, play, table, &cond, seats, owns),
+        Err(_refused) => Err(NoMemory),
+    }
 }
 
 /// The whole play: what all have come to. It is an `Err` where memory is short or a thread can't be made: then nobody has played.
@@ -112,27 +149,9 @@ fn perform<R: Abort + Threads + Wait + Sync>(
     rt: &R,
     alloc: Global,
     play: Play,
-) -> Result<Marks, NoMemory> {
-    let settings = settings(alloc, play.parts())?;
-    let Ok((table, seats)) = SemaTable::new(alloc, settings) else {
-        return Err(NoMemory);
-    };
-    let Ok((cond, owns)) = Cond::with_seats(alloc, play.parts()) else {
-        return Err(NoMemory);
-    };
-    assert!(rt; 0 < table.counters());
-    let marks = Marks::new();
-    let stage = Stage {
-        cond: &cond,
-        marks: &marks,
-        curtain: &AtomicU64::new(0),
-        play,
-    };
-    if act_all(rt, &table, stage, seats, owns) {
-        Ok(marks)
-    } else {
-        Err(NoMemory)
-    }
+) -> Result<Sums, NoMemory> {
+    let (table, seats) = new_table(alloc, play.parts())?;
+    perform_over(rt, alloc, play, &table, seats)
 }
 
 /// The same, once more where memory was refused.
@@ -140,9 +159,9 @@ pub(crate) fn perform_again<R: Abort + Threads + Wait + Sync>(
     rt: &R,
     alloc: Global,
     play: Play,
-) -> Result<Marks, NoMemory> {
+) -> Result<Sums, NoMemory> {
     match perform(rt, alloc, play) {
+        Ok(sums) => Ok(sums),
         Err(NoMemory) => perform(rt, alloc, play),
-        answer => answer,
     }
 }

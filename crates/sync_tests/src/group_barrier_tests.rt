@@ -1,154 +1,135 @@
 //! Sixteen workers that end a first wait group, and then wait for a second one.
 
-use crate::group_given::shared;
-use crate::group_members::{Member, a_member, new_members};
-use std::alloc::{AllocError, Global};
+use crate::actor::reaches;
+use crate::group_given::{Call, Member, Team, new_again};
+use std::alloc::Global;
 use std::process::Abort;
+use std::sync::Wait;
 use std::sync::atomic::{AtomicU64, Ordering};
-use std::sync::{Arc, Wait};
 use std::test::Fail;
 use std::thread;
-use std::thread::{JoinHandle, Threads};
+use std::thread::{Scope, Threads};
+use sync_parts::SetupError;
 
 const WORKERS: u32 = 16;
 
-const ROUNDS: u32 = 8;
+const ROUNDS: u64 = 8;
 
-/// Members of both groups, and how many workers have come through.
+/// How far all have come.
 #[derive(Drop)]
-struct Worker {
-    work: Member,
-    barrier: Member,
-    through: Arc<AtomicU64, Global>,
+struct Doors {
+    /// How many rounds have begun.
+    begun: AtomicU64,
+    /// How often a worker has come through.
+    through: AtomicU64,
 }
 
-/// The worker without its count.
-#[derive(Drop)]
-struct Members {
-    work: Member,
-    barrier: Member,
-}
-
-fn comes_through<R: Abort + Wait + Copy>(rt: R, worker: Worker) -> Members {
-    let Worker {
-        work,
-        barrier,
-        through,
-    } = worker;
-    let (work, _released) = work.finishes(&rt);
-    let barrier = barrier.waits(&rt);
-    through.fetch_add(1, Ordering::SeqCst);
-    Members { work, barrier }
-}
-
-/// Starts a thread, asked for once more where none was made.
-fn begin<R: Abort + Threads + Wait + Copy + Send + 'static>(
-    rt: R,
-    worker: Worker,
-) -> JoinHandle<Members> {
-    match thread::spawn(&rt, move || comes_through(rt, worker)) {
-        Ok(handle) => handle,
-        Err(refused) => match thread::spawn(&rt, refused.value) {
-            Ok(handle) => handle,
-            Err(_refused) => panic!(rt; "no thread was made"),
-        },
+/// A worker's part: in each round a member of the first group, and one of the second.
+fn comes_through<R: Abort + Wait>(rt: &R, work: Member<'_>, barrier: Member<'_>, doors: &Doors) {
+    let (mut work, mut barrier) = (work, barrier);
+    for before in 0..ROUNDS {
+        reaches(rt, &doors.begun, before + 1);
+        work.finishes(rt);
+        barrier.answers(rt, Call::Wait, Ok(0));
+        doors.through.fetch_add(1, Ordering::SeqCst);
     }
-}
-
-/// What a round goes on with: all members but those of the thread that tests.
-#[derive(Drop)]
-struct Crew {
-    work: Vec<Member>,
-    barrier: Vec<Member>,
-}
-
-fn begin_all<R: Abort + Threads + Wait + Copy + Send + 'static>(
-    rt: R,
-    alloc: Global,
-    crew: &mut Crew,
-    through: &Arc<AtomicU64, Global>,
-) -> Result<Vec<JoinHandle<Members>>, AllocError> {
-    let mut handles = match Vec::with_capacity(alloc, WORKERS as usize) {
-        Ok(handles) => handles,
-        Err(_refused) => Vec::with_capacity(alloc, WORKERS as usize)?,
-    };
-    for _ in 0..WORKERS {
-        let worker = Worker {
-            work: a_member(&rt, &mut crew.work),
-            barrier: a_member(&rt, &mut crew.barrier),
-            through: Arc::try_clone(through)?,
-        };
-        handles.push(begin(rt, worker))?;
-    }
-    Ok(handles)
-}
-
-fn take_back(crew: &mut Crew, members: Members) -> Result<(), AllocError> {
-    let Members { work, barrier } = members;
-    crew.work.push(work)?;
-    crew.barrier.push(barrier)?;
-    Ok(())
-}
-
-/// Every member goes back to the crew.
-fn end_all(
-    rt: &(impl Abort + Threads),
-    crew: &mut Crew,
-    handles: Vec<JoinHandle<Members>>,
-) -> Result<(), AllocError> {
-    let mut handles = handles;
-    for _ in 0..WORKERS {
-        let handle = handles.pop().expect(rt, "a thread");
-        take_back(crew, handle.join(rt))?;
-    }
-    Ok(())
 }
 
 /// Nobody comes through before the last `done` of the barrier.
-fn opens<R: Abort + Wait>(rt: &R, barrier: Member, through: &AtomicU64) -> Member {
-    let mut barrier = barrier;
+fn opens<R: Abort + Wait>(rt: &R, barrier: &mut Member<'_>, through: &AtomicU64, before: u64) {
     for _ in 1..WORKERS {
-        let (member, released) = barrier.finishes(rt);
-        barrier = member;
-        assert!(rt; released == 0);
-        assert!(rt; through.load(Ordering::SeqCst) == 0);
+        barrier.answers(rt, Call::Done, Ok(0));
+        assert!(rt; through.load(Ordering::SeqCst) == before);
     }
-    let (barrier, released) = barrier.finishes(rt);
-    assert!(rt; released <= WORKERS);
-    barrier
+    assert!(rt; barrier.finishes(rt) <= WORKERS);
 }
 
-/// One round with both groups, which have ended before.
-fn round<R: Abort + Threads + Wait + Copy + Send + 'static>(
-    rt: R,
+/// One round with both groups, after so many workers have come through. All of them are back before the next.
+fn round<R: Abort + Wait>(
+    rt: &R,
+    work: &mut Member<'_>,
+    barrier: &mut Member<'_>,
+    doors: &Doors,
+    before: u64,
+) {
+    work.answers(rt, Call::Add(16), Ok(0));
+    barrier.answers(rt, Call::Add(16), Ok(0));
+    doors.begun.fetch_add(1, Ordering::SeqCst);
+    work.answers(rt, Call::Wait, Ok(0));
+    opens(rt, barrier, &doors.through, before);
+    let after = before.wrapping_add(u64::from(WORKERS));
+    reaches(rt, &doors.through, after);
+    assert!(rt; doors.through.load(Ordering::SeqCst) == after);
+}
+
+/// Starts a worker, asked for once more where none was made.
+fn begin<'s, E, R: Abort + Wait + Sync>(
+    rt: &'s R,
+    scope: &'s Scope<'s, E>,
+    work: Member<'s>,
+    barrier: Member<'s>,
+    doors: &'s Doors,
+) {
+    if let Err(refused) = scope.spawn(move || comes_through(rt, work, barrier, doors)) {
+        assert!(rt; scope.spawn(refused.value).is_ok());
+    }
+}
+
+/// Goes the rounds.
+fn goes_rounds<R: Abort + Wait>(rt: &R, work: Member<'_>, barrier: Member<'_>, doors: &Doors) {
+    let (mut work, mut barrier) = (work, barrier);
+    for before in 0..ROUNDS {
+        round(
+            rt,
+            &mut work,
+            &mut barrier,
+            doors,
+            before * u64::from(WORKERS),
+        );
+    }
+}
+
+/// Makes the workers, and goes the rounds with them.
+fn all_come_through<'s, E, R: Abort + Threads + Wait + Sync>(
+    rt: &'s R,
+    scope: &'s Scope<'s, E>,
+    works: Team<'s>,
+    barriers: Team<'s>,
+    doors: &'s Doors,
+) {
+    let (mut works, mut barriers) = (works, barriers);
+    for _ in 0..WORKERS {
+        begin(rt, scope, works.member(rt), barriers.member(rt), doors);
+    }
+    goes_rounds(rt, works.member(rt), barriers.member(rt), doors);
+}
+
+fn come_through<R: Abort + Threads + Wait + Sync>(rt: &R, works: Team<'_>, barriers: Team<'_>) {
+    let doors = &Doors {
+        begun: AtomicU64::new(0),
+        through: AtomicU64::new(0),
+    };
+    thread::scope(thread::scope_env(), rt, move |scope| {
+        all_come_through(rt, scope, works, barriers, doors)
+    });
+}
+
+fn barriers<R: Abort + Threads + Wait + Sync>(
+    rt: &R,
     alloc: Global,
-    crew: &mut Crew,
-    own: Members,
-) -> Result<Members, AllocError> {
-    let Members { work, barrier } = own;
-    let work = work.adds(&rt, 16, 0);
-    let barrier = barrier.adds(&rt, 16, 0);
-    let through = shared(alloc, AtomicU64::new(0))?;
-    let handles = begin_all(rt, alloc, crew, &through)?;
-    let work = work.waits(&rt);
-    let barrier = opens(&rt, barrier, &*through);
-    end_all(&rt, crew, handles)?;
-    assert!(rt; through.load(Ordering::SeqCst) == u64::from(WORKERS));
-    Ok(Members { work, barrier })
+    works: Team<'_>,
+) -> Result<(), SetupError> {
+    let (barrier, seats) = new_again(alloc, WORKERS + 1)?;
+    come_through(rt, works, Team::new(&barrier, seats));
+    Ok(())
+}
+
+fn groups<R: Abort + Threads + Wait + Sync>(rt: &R, alloc: Global) -> Result<(), SetupError> {
+    let (work, seats) = new_again(alloc, WORKERS + 1)?;
+    barriers(rt, alloc, Team::new(&work, seats))
 }
 
 #[test]
 fn sixteen_wait_at_a_barrier(rt: HostRuntime) -> Result<(), Fail> {
-    let mut crew = Crew {
-        work: new_members(&rt, rt.alloc(), WORKERS + 1)?,
-        barrier: new_members(&rt, rt.alloc(), WORKERS + 1)?,
-    };
-    let mut own = Members {
-        work: a_member(&rt, &mut crew.work),
-        barrier: a_member(&rt, &mut crew.barrier),
-    };
-    for _ in 0..ROUNDS {
-        own = round(rt, rt.alloc(), &mut crew, own)?;
-    }
-    Ok(())
+    Ok(groups(&rt, rt.alloc())?)
 }

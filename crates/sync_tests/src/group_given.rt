@@ -1,17 +1,28 @@
-//! What the tests of wait groups start from: groups, and their seats, and one call each with what it has to answer.
+//! What the tests of wait groups start from: a group, and its seats with what each of their calls answers.
 //!
 //! What answers want of memory is made once more.
 
 ghost use Rattle.std.specs.Prelude.{◌≡◌, All, IfOk};
-ghost use Rattle.std.specs.Arc.{arc_value};
+ghost use Rattle.std.specs.Option.{ForSome};
 
-use std::alloc::{AllocError, Global};
+use std::alloc::Global;
 use std::process::Abort;
-use std::sync::{Arc, Wait};
+use std::sync::Wait;
 use sync_parts::{GroupSeat, Misuse, SetupError, WaitGroup};
 
 /// How many releases a seat may still have to make for one add: one for each wait that a word can count.
 const MOST_WAITS: u64 = 4_294_967_295;
+
+/// A call of a wait group.
+#[derive(Clone, Copy, Drop)]
+pub(crate) enum Call {
+    Add(i32),
+    Done,
+    Wait,
+}
+
+/// What a call answers: a wait that comes back, 0.
+pub(crate) type Answer = Result<u32, Misuse>;
 
 /// The group and its seats, asked for once more where memory was refused.
 pub(crate) fn new_again(
@@ -21,53 +32,12 @@ pub(crate) fn new_again(
     ensures { IfOk result (λ t. All (λ s. s.group ≡ t.0) t.1.items) }
 {
     match WaitGroup::with_seats(alloc, seats) {
-        Ok(made) => Ok(made),
         Err(SetupError::NoMemory) => WaitGroup::with_seats(alloc, seats),
-        Err(refused) => Err(refused),
+        answer => answer,
     }
 }
 
-/// What threads are to share, asked for once more where memory was refused.
-pub(crate) fn shared<T: Drop>(alloc: Global, value: T) -> Result<Arc<T, Global>, AllocError>
-    ensures { IfOk result (λ shared. arc_value shared ≡ value) }
-{
-    match Arc::new(alloc, value) {
-        Ok(shared) => Ok(shared),
-        Err(refused) => Ok(Arc::new(alloc, refused.value)?),
-    }
-}
-
-/// Takes the last seat. A new group's seats are in the order of their numbers.
-pub(crate) fn last_seat(rt: &impl Abort, group: &WaitGroup, seats: &mut Vec<GroupSeat>) -> GroupSeat
-    requires { All (λ s. s.group ≡ group.now) seats.old.items }
-    ensures own { result.group ≡ group.now }
-    ensures rest { All (λ s. s.group ≡ group.now) seats.new.items }
-{
-    seats.pop().expect(rt, "a seat")
-}
-
-/// The seats where there are two, in their order.
-pub(crate) fn two_seats(
-    rt: &impl Abort,
-    group: &WaitGroup,
-    seats: Vec<GroupSeat>,
-) -> (GroupSeat, GroupSeat)
-    requires { All (λ s. s.group ≡ group.now) seats.items }
-    ensures first { result.0.group ≡ group.now }
-    ensures second { result.1.group ≡ group.now }
-{
-    let mut seats = seats;
-    let second = last_seat(rt, group, &mut seats);
-    (last_seat(rt, group, &mut seats), second)
-}
-
-/// An add, and its answer.
-pub(crate) fn add<R: Abort + Wait>(
-    rt: &R,
-    group: &WaitGroup,
-    seat: GroupSeat,
-    d: i32,
-) -> (GroupSeat, Result<u32, Misuse>)
+fn add<R: Abort + Wait>(rt: &R, group: &WaitGroup, seat: GroupSeat, d: i32) -> (GroupSeat, Answer)
     requires { seat.group ≡ group.now }
     ensures { result.0.group ≡ group.now }
 {
@@ -75,12 +45,7 @@ pub(crate) fn add<R: Abort + Wait>(
     group.add(rt, seat, d)
 }
 
-/// A `done`, and its answer.
-pub(crate) fn done<R: Abort + Wait>(
-    rt: &R,
-    group: &WaitGroup,
-    seat: GroupSeat,
-) -> (GroupSeat, Result<u32, Misuse>)
+fn done<R: Abort + Wait>(rt: &R, group: &WaitGroup, seat: GroupSeat) -> (GroupSeat, Answer)
     requires { seat.group ≡ group.now }
     ensures { result.0.group ≡ group.now }
 {
@@ -88,48 +53,76 @@ pub(crate) fn done<R: Abort + Wait>(
     group.done(rt, seat)
 }
 
-/// An add that is answered so.
-pub(crate) fn adds<R: Abort + Wait>(
-    rt: &R,
-    group: &WaitGroup,
-    seat: GroupSeat,
-    d: i32,
-    expected: Result<u32, Misuse>,
-) -> GroupSeat
+fn wait<R: Wait>(rt: &R, group: &WaitGroup, seat: GroupSeat) -> (GroupSeat, Answer)
     requires { seat.group ≡ group.now }
-    ensures { result.group ≡ group.now }
-{
-    let (seat, answer) = add(rt, group, seat, d);
-    assert!(rt; answer == expected);
-    seat
-}
-
-/// A `done` that is answered so.
-pub(crate) fn finishes<R: Abort + Wait>(
-    rt: &R,
-    group: &WaitGroup,
-    seat: GroupSeat,
-    expected: Result<u32, Misuse>,
-) -> GroupSeat
-    requires { seat.group ≡ group.now }
-    ensures { result.group ≡ group.now }
-{
-    let (seat, answer) = done(rt, group, seat);
-    assert!(rt; answer == expected);
-    seat
-}
-
-/// A wait that is answered so.
-pub(crate) fn waits<R: Abort + Wait>(
-    rt: &R,
-    group: &WaitGroup,
-    seat: GroupSeat,
-    expected: Result<(), Misuse>,
-) -> GroupSeat
-    requires { seat.group ≡ group.now }
-    ensures { result.group ≡ group.now }
+    ensures { result.0.group ≡ group.now }
 {
     let (seat, answer) = group.wait(rt, seat);
-    assert!(rt; answer == expected);
-    seat
+    (seat, answer.and(Ok(0)))
+}
+
+/// A seat, with its group.
+#[derive(Drop)]
+pub(crate) struct Member<'g> {
+    group: &'g WaitGroup,
+    /// Always there between two calls: the group's calls take a seat by value.
+    seat: Option<GroupSeat>,
+    ghost own: { ForSome seat (λ s. s.group ≡ group.now) },
+}
+
+impl<'g> Member<'g> {
+    /// A call, and its answer.
+    pub(crate) fn calls<R: Abort + Wait>(&mut self, rt: &R, call: Call) -> Answer {
+        let seat = self.seat.take().expect(rt, "a seat");
+        let (seat, answer) = match call {
+            Call::Add(d) => add(rt, self.group, seat, d),
+            Call::Done => done(rt, self.group, seat),
+            Call::Wait => wait(rt, self.group, seat),
+        };
+        self.seat = Some(seat);
+        answer
+    }
+
+    /// A call that is answered so.
+    pub(crate) fn answers<R: Abort + Wait>(&mut self, rt: &R, call: Call, expected: Answer) {
+        assert!(rt; self.calls(rt, call) == expected);
+    }
+
+    /// A `done` that is no misuse: how many it released.
+    pub(crate) fn finishes<R: Abort + Wait>(&mut self, rt: &R) -> u32 {
+        self.calls(rt, Call::Done).expect(rt, "no misuse")
+    }
+
+    /// How many releases more it may make.
+    pub(crate) fn left(&self, rt: &impl Abort) -> u64 {
+        match &self.seat {
+            Some(seat) => seat.left(),
+            None => panic!(rt; "no seat"),
+        }
+    }
+}
+
+/// A group, and those of its seats that nobody has taken.
+#[derive(Drop)]
+pub(crate) struct Team<'g> {
+    group: &'g WaitGroup,
+    seats: Vec<GroupSeat>,
+    ghost own: { All (λ s. s.group ≡ group.now) seats.items },
+}
+
+impl<'g> Team<'g> {
+    pub(crate) fn new(group: &'g WaitGroup, seats: Vec<GroupSeat>) -> Team<'g>
+        requires { All (λ s. s.group ≡ group.now) seats.items }
+    {
+        Team { group, seats }
+    }
+
+    /// Takes the last seat. A new group's seats are in the order of their numbers.
+    pub(crate) fn member(&mut self, rt: &impl Abort) -> Member<'g> {
+        let seat = self.seats.pop().expect(rt, "a seat");
+        Member {
+            group: self.group,
+            seat: Some(seat),
+        }
+    }
 }

@@ -2,36 +2,40 @@
 
 use crate::group_given::new_again;
 use std::alloc::Global;
-use std::process::Abort;
 use std::test::Fail;
+use sync_parts::GroupSeat;
 
 const MOST_LEFT: u64 = 1 << 40;
 
-fn is_refused(rt: &impl Abort, alloc: Global, seats: u32) {
-    match new_again(alloc, seats) {
-        Ok(_) => panic!(rt; "a group was made"),
-        Err(refused) => assert!(rt; (refused as u8) == 2),
+/// How many seats there are, if each has all its releases to make.
+fn count(seats: &[GroupSeat]) -> usize {
+    for seat in seats {
+        if seat.left() != MOST_LEFT {
+            return 0;
+        }
     }
+    seats.len()
 }
 
-fn is_made(rt: &impl Abort, alloc: Global, seats: u32) {
+/// How many seats are made, and the refusal by its number.
+fn made(alloc: Global, seats: u32) -> Result<usize, u8> {
     match new_again(alloc, seats) {
-        Ok((_group, made)) => {
-            assert!(rt; made.len() == seats as usize);
-            for seat in &made {
-                assert!(rt; seat.left() == MOST_LEFT);
-            }
-        }
-        Err(_refused) => panic!(rt; "no group was made"),
+        Ok((_group, seats)) => Ok(count(&seats)),
+        Err(refused) => Err(refused as u8),
     }
 }
 
 #[test]
 fn a_group_has_1_to_256_seats(rt: HostRuntime) -> Result<(), Fail> {
-    is_refused(&rt, rt.alloc(), 0);
-    is_refused(&rt, rt.alloc(), 257);
-    is_refused(&rt, rt.alloc(), u32::MAX);
-    is_made(&rt, rt.alloc(), 1);
-    is_made(&rt, rt.alloc(), 256);
+    let rows = [
+        (0, Err(2)),
+        (257, Err(2)),
+        (u32::MAX, Err(2)),
+        (1, Ok(1)),
+        (256, Ok(256)),
+    ];
+    for (seats, expected) in rows {
+        assert!(rt; made(rt.alloc(), seats) == expected);
+    }
     Ok(())
 }

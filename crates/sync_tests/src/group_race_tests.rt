@@ -1,158 +1,93 @@
 //! An add that may run beside a wait, or begin a new round before a wait has come back: misuses, which each call that meets one
 //! answers.
 
-use crate::group_members::{Member, a_member, new_members};
-use std::alloc::Global;
+use crate::group_given::{Answer, Call, Member, Team};
+use crate::group_parts::{Back, Part, begin};
+use crate::group_scenes::{Scene, play_on};
 use std::process::Abort;
 use std::sync::Wait;
 use std::test::Fail;
-use std::thread;
-use std::thread::{JoinHandle, Threads};
+use std::thread::{JoinHandle, Scope, Threads};
 use sync_parts::Misuse;
 
 const ROUNDS: u32 = 500;
 
-/// What an add and the `done` after it were answered.
-#[derive(Drop)]
-struct Answers {
-    added: Result<u32, Misuse>,
-    done: Result<u32, Misuse>,
-}
-
-fn adds_beside<R: Abort + Wait + Copy>(rt: R, member: Member) -> Answers {
-    let (member, added) = member.add(&rt, 1);
-    let (_member, done) = member.done(&rt);
-    Answers { added, done }
-}
-
-/// A member that has waited, and what it was answered.
-#[derive(Drop)]
-struct Waited {
-    member: Member,
-    answer: Result<(), Misuse>,
-}
-
-fn waits<R: Wait + Copy>(rt: R, member: Member) -> Waited {
-    let (member, answer) = member.wait(&rt);
-    Waited { member, answer }
-}
-
-/// Starts a thread, asked for once more where none was made.
-fn begin_adds<R: Abort + Threads + Wait + Copy + Send + 'static>(
-    rt: R,
-    member: Member,
-) -> JoinHandle<Answers> {
-    match thread::spawn(&rt, move || adds_beside(rt, member)) {
-        Ok(handle) => handle,
-        Err(refused) => match thread::spawn(&rt, refused.value) {
-            Ok(handle) => handle,
-            Err(_refused) => panic!(rt; "no thread was made"),
-        },
-    }
-}
-
-fn begin_wait<R: Abort + Threads + Wait + Copy + Send + 'static>(
-    rt: R,
-    member: Member,
-) -> JoinHandle<Waited> {
-    match thread::spawn(&rt, move || waits(rt, member)) {
-        Ok(handle) => handle,
-        Err(refused) => match thread::spawn(&rt, refused.value) {
-            Ok(handle) => handle,
-            Err(_refused) => panic!(rt; "no thread was made"),
-        },
-    }
-}
-
 /// Whether an add that began at 0 or more may be answered so.
-fn is_beside(answer: Result<u32, Misuse>) -> bool {
-    match answer {
-        Ok(_released) => true,
-        Err(Misuse::AddWithWait) => true,
-        Err(_misuse) => false,
-    }
+fn is_beside(answer: Answer) -> bool {
+    answer.is_ok() || answer == Err(Misuse::AddWithWait)
 }
 
-/// An add that was no misuse spoils no other call.
-fn agree(rt: &impl Abort, answers: Answers, last: Result<u32, Misuse>) {
-    let Answers { added, done } = answers;
-    assert!(rt; is_beside(last));
-    assert!(rt; is_beside(added));
-    if added.is_ok() {
-        assert!(rt; added == Ok(0));
-        assert!(rt; done.is_ok());
-        assert!(rt; last.is_ok());
-    }
+/// Whether an add that was no misuse has spoiled no other call.
+fn agree(added: Answer, done: Answer, last: Answer) -> bool {
+    let none_spoiled = added == Ok(0) && done.is_ok() && last.is_ok();
+    is_beside(last) && (added == Err(Misuse::AddWithWait) || none_spoiled)
 }
 
-/// A member ends a round for which another waits, while a third may begin one more. Whatever comes first, all come back.
-fn race<R: Abort + Threads + Wait + Copy + Send + 'static>(
-    rt: R,
-    alloc: Global,
-) -> Result<(), Fail> {
-    let mut members = new_members(&rt, alloc, 3)?;
-    let first = a_member(&rt, &mut members);
-    let first = first.adds(&rt, 1, 0);
-    let waiter = begin_wait(rt, a_member(&rt, &mut members));
-    let adder = begin_adds(rt, a_member(&rt, &mut members));
-    let (_first, last) = first.done(&rt);
-    agree(&rt, adder.join(&rt), last);
-    let _waiter = may_be_reused(&rt, waiter.join(&rt));
-    Ok(())
+/// Whether the wait came back in time, or was told that it didn't.
+fn may_be_reused(answer: Answer) -> bool {
+    answer == Ok(0) || answer == Err(Misuse::Reused)
 }
 
-/// The member, which came back in time or was told that it didn't.
-fn may_be_reused(rt: &impl Abort, waited: Waited) -> Member {
-    let Waited { member, answer } = waited;
-    assert!(rt; answer == Ok(()) || answer == Err(Misuse::Reused));
-    member
+/// A member ends a round for which another waits, while a third may begin one more. Whatever comes first, all
+/// come back.
+pub(crate) fn races<'s, E, R: Abort + Threads + Wait + Sync>(
+    rt: &'s R,
+    scope: &'s Scope<'s, E>,
+    team: Team<'s>,
+) {
+    let mut team = team;
+    let mut first = team.member(rt);
+    first.answers(rt, Call::Add(1), Ok(0));
+    let waiter = begin(rt, scope, team.member(rt), Part::Waits);
+    let adder = begin(rt, scope, team.member(rt), Part::Adds);
+    let last = first.calls(rt, Call::Done);
+    let adder = adder.join(rt);
+    assert!(rt; agree(adder.first, adder.last, last));
+    assert!(rt; may_be_reused(waiter.join(rt).last));
 }
 
 #[test]
 fn an_add_beside_a_wait_is_answered(rt: HostRuntime) -> Result<(), Fail> {
-    for _ in 0..ROUNDS {
-        race(rt, rt.alloc())?;
-    }
-    Ok(())
+    Ok(play_on(&rt, rt.alloc(), Scene::Race, ROUNDS)?)
 }
 
-/// The member, which came back in time.
-fn is_in_time(rt: &impl Abort, waited: Waited) -> Member {
-    let Waited { member, answer } = waited;
-    assert!(rt; answer == Ok(()));
+/// Ends a round for which another waits, begins one more at once, and ends it. The wait that was released may
+/// find that one; it changes nothing, so the new round ends without it.
+fn goes_on<'g, R: Abort + Threads + Wait>(
+    rt: &R,
+    first: &mut Member<'g>,
+    waiter: JoinHandle<Back<'g>>,
+) -> Member<'g> {
+    let released = first.finishes(rt);
+    first.answers(rt, Call::Add(1), Ok(0));
+    if released == 0 {
+        first.finishes(rt);
+    }
+    let Back { member, last, .. } = waiter.join(rt);
+    if released == 0 {
+        assert!(rt; last == Ok(0));
+    } else {
+        assert!(rt; may_be_reused(last) && first.finishes(rt) == 0);
+    }
     member
 }
 
-/// A member ends a round for which another waits, and begins one more at once. The wait that it released may find that one; it
-/// changes nothing, so the new round ends without it.
-fn begins_anew<R: Abort + Threads + Wait + Copy + Send + 'static>(
-    rt: R,
-    alloc: Global,
-) -> Result<(), Fail> {
-    let mut members = new_members(&rt, alloc, 2)?;
-    let first = a_member(&rt, &mut members);
-    let first = first.adds(&rt, 1, 0);
-    let waiter = begin_wait(rt, a_member(&rt, &mut members));
-    let (first, released) = first.finishes(&rt);
-    let first = first.adds(&rt, 1, 0);
-    let (first, second) = if released == 0 {
-        let (first, _released) = first.finishes(&rt);
-        (first, is_in_time(&rt, waiter.join(&rt)))
-    } else {
-        let second = may_be_reused(&rt, waiter.join(&rt));
-        let (first, released) = first.finishes(&rt);
-        assert!(rt; released == 0);
-        (first, second)
-    };
-    let _first = first.waits(&rt);
-    let _second = second.waits(&rt);
-    Ok(())
+/// A round that is begun before a wait of the last one is back, and then nothing to wait for.
+pub(crate) fn begins_anew<'s, E, R: Abort + Threads + Wait + Sync>(
+    rt: &'s R,
+    scope: &'s Scope<'s, E>,
+    team: Team<'s>,
+) {
+    let mut team = team;
+    let mut first = team.member(rt);
+    first.answers(rt, Call::Add(1), Ok(0));
+    let waiter = begin(rt, scope, team.member(rt), Part::Waits);
+    let mut second = goes_on(rt, &mut first, waiter);
+    first.answers(rt, Call::Wait, Ok(0));
+    second.answers(rt, Call::Wait, Ok(0));
 }
 
 #[test]
 fn a_round_begun_before_a_wait_is_back_is_answered(rt: HostRuntime) -> Result<(), Fail> {
-    for _ in 0..ROUNDS {
-        begins_anew(rt, rt.alloc())?;
-    }
-    Ok(())
+    Ok(play_on(&rt, rt.alloc(), Scene::Anew, ROUNDS)?)
 }

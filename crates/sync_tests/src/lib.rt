@@ -17,9 +17,11 @@ mod group_given;
 #[cfg(test)]
 mod group_limit_tests;
 #[cfg(test)]
-mod group_members;
+mod group_parts;
 #[cfg(test)]
 mod group_race_tests;
+#[cfg(test)]
+mod group_scenes;
 #[cfg(test)]
 mod group_tests;
 #[cfg(test)]

@@ -33,12 +33,7 @@ impl Play {
     }
 
     /// The part of this number.
-    pub(crate) fn plays<'t, R: Abort + Wait>(
-        self,
-        rt: &R,
-        actor: Actor<'t>,
-        part: u16,
-    ) -> Actor<'t> {
+    pub(crate) fn plays<R: Abort + Wait>(self, rt: &R, actor: &mut Actor<'_>, part: u16) {
         match (self, part) {
             (Play::OneByOne, 0) => signals(rt, actor, 2),
             (Play::OneByOne, _) => sleeps(rt, actor, 1),
