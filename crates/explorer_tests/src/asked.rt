@@ -1,14 +1,16 @@
 //! The program over memory. It is asked once more where memory was refused.
 
+ghost use Rattle.program_words.specs.Asked.{IsWithinLimits};
+
 use crate::devices::{Calls, Giving, SOUND, Taking};
-use explorer::{Flagged, NO_MEMORY, parklot_io, read_words};
+use explorer::{Asked, Flagged, NO_MEMORY, StopWatch, parklot_io, read_words};
 use std::alloc::Global;
 use std::process::Abort;
 use std::sync::Wait;
 use std::thread::Threads;
 
 /// How the program's input and its two streams behave.
-#[derive(Clone, Copy, Debug, Drop)]
+#[derive(Clone, Copy, Drop)]
 pub(crate) struct Devices {
     pub(crate) input: Calls,
     pub(crate) out: Calls,
@@ -22,7 +24,29 @@ pub(crate) const ALL_SOUND: Devices = Devices {
     err: SOUND,
 };
 
-/// What goes to the two streams of the program for these words and this input, and its status.
+/// What goes to the two streams of the program for what is asked, with this input, and its status.
+pub(crate) fn run(
+    rt: &(impl Threads + Wait + Sync),
+    alloc: Global,
+    asked: &Asked<'_>,
+    input: &[u8],
+    devices: Devices,
+    watch: &mut impl StopWatch,
+) -> (Vec<u8>, Vec<u8>, u8)
+    requires { IsWithinLimits asked.now }
+{
+    let mut reader = Flagged::new(Giving::new(input, devices.input));
+    let mut out = Flagged::new(Taking::new(alloc, devices.out));
+    let mut err = Flagged::new(Taking::new(alloc, devices.err));
+    let status = parklot_io(rt, alloc, asked, &mut reader, &mut out, &mut err, watch);
+    (
+        out.into_inner().into_taken(),
+        err.into_inner().into_taken(),
+        status,
+    )
+}
+
+/// The same for these words.
 pub(crate) fn ask(
     rt: &(impl Threads + Wait + Sync),
     alloc: Global,
@@ -30,16 +54,8 @@ pub(crate) fn ask(
     input: &[u8],
     devices: Devices,
 ) -> (Vec<u8>, Vec<u8>, u8) {
-    let mut reader = Flagged::new(Giving::new(input, devices.input));
-    let mut out = Flagged::new(Taking::new(alloc, devices.out));
-    let mut err = Flagged::new(Taking::new(alloc, devices.err));
     let asked = read_words(alloc, words);
-    let status = parklot_io(rt, alloc, &asked, &mut reader, &mut out, &mut err, &mut ());
-    (
-        out.into_inner().into_taken(),
-        err.into_inner().into_taken(),
-        status,
-    )
+    run(rt, alloc, &asked, input, devices, &mut ())
 }
 
 /// Whether memory may have been short: at most that went out, or a beginning of it.

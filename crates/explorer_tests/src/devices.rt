@@ -4,7 +4,7 @@ use std::alloc::Global;
 use std::io::{self, ErrorKind, Read, Write};
 
 /// How many bytes a call moves at most, and how many calls don't fail.
-#[derive(Clone, Copy, Debug, Drop)]
+#[derive(Clone, Copy, Drop)]
 pub(crate) struct Calls {
     pub(crate) at_once: usize,
     pub(crate) left: u32,

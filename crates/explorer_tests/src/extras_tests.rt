@@ -1,14 +1,12 @@
 //! What a search tells beyond what it found: its statistics and the table of the schedule that it found.
 
-use crate::asked::{ALL_SOUND, Told, ask, is_short, tells_over};
-use crate::devices::{Giving, SOUND, Taking};
+use crate::asked::{ALL_SOUND, Told, ask, is_short, run, tells_over};
 use crate::explore_tests::TWO_EACH;
 use crate::reading::ONE_ACQUIRE;
-use explorer::{Extent, Flagged, StopWatch, Watch, parklot_io, read_words};
+use explorer::{Extent, StopWatch, Watch, read_words};
 use std::alloc::Global;
 use std::process::Abort;
 use std::sync::Wait;
-use std::test::Fail;
 use std::thread::Threads;
 
 /// A scenario, words, what is told, what is told beside, and the status.
@@ -61,7 +59,7 @@ const COUNTED: [Row; 5] = [
 ];
 
 #[test]
-fn statistics_are_told_beside(rt: HostRuntime) -> Result<(), Fail> {
+fn statistics_are_told_beside(rt: HostRuntime) {
     for (input, words, out, err, status) in COUNTED {
         let told = Told {
             out: out.as_bytes(),
@@ -72,7 +70,6 @@ fn statistics_are_told_beside(rt: HostRuntime) -> Result<(), Fail> {
         };
         tells_over(&rt, rt.alloc(), words, input, ALL_SOUND, told);
     }
-    Ok(())
 }
 
 /// Counts how often it is told how far a search has come, and then shows that this took a second and a quarter.
@@ -96,21 +93,9 @@ impl StopWatch for Listening {
 /// Whether who watches a search of 625 worlds is told of it before each of its 17 lengths, and asked how long it took, where
 /// memory isn't short.
 fn is_listened_to(rt: &(impl Threads + Wait + Sync), alloc: Global) -> bool {
-    let mut reader = Flagged::new(Giving::new(TWO_EACH, SOUND));
-    let mut out = Flagged::new(Taking::new(alloc, SOUND));
-    let mut err = Flagged::new(Taking::new(alloc, SOUND));
     let asked = read_words(alloc, &["check", "--stats"]);
     let mut watch = Listening { told: 0 };
-    let _ = parklot_io(
-        rt,
-        alloc,
-        &asked,
-        &mut reader,
-        &mut out,
-        &mut err,
-        &mut watch,
-    );
-    let beside = err.into_inner().into_taken();
+    let (_, beside, _) = run(rt, alloc, &asked, TWO_EACH, ALL_SOUND, &mut watch);
     let stats = b"worlds 625, depth 16, complete\nseconds 1.250, worlds a second 500\n";
     watch.told == 17 && beside.as_slice() == stats.as_slice()
 }
@@ -144,15 +129,14 @@ fn draws(rt: &(impl Abort + Threads + Wait + Sync), alloc: Global, words: &[&str
 }
 
 #[test]
-fn what_is_found_is_drawn(rt: HostRuntime) -> Result<(), Fail> {
+fn what_is_found_is_drawn(rt: HostRuntime) {
     draws(&rt, rt.alloc(), &["check", "--table"]);
     draws(&rt, rt.alloc(), &["explore", "--table", "--depth", "9"]);
-    Ok(())
 }
 
 // a search that finds nothing has no table
 #[test]
-fn nothing_is_drawn_of_nothing(rt: HostRuntime) -> Result<(), Fail> {
+fn nothing_is_drawn_of_nothing(rt: HostRuntime) {
     let told = Told {
         out: b"none\nworlds 625, deepest 16\n",
         err: b"",
@@ -168,11 +152,10 @@ fn nothing_is_drawn_of_nothing(rt: HostRuntime) -> Result<(), Fail> {
         ALL_SOUND,
         told,
     );
-    Ok(())
 }
 
 #[test]
-fn a_faulty_journal_is_shown(rt: HostRuntime) -> Result<(), Fail> {
+fn a_faulty_journal_is_shown(rt: HostRuntime) {
     let told = Told {
         out: b"refused: line 2: form\n",
         err: b"line 2: no line is spelled \"takee 0 1\" here: counter N and list F come first",
@@ -188,5 +171,4 @@ fn a_faulty_journal_is_shown(rt: HostRuntime) -> Result<(), Fail> {
         ALL_SOUND,
         told,
     );
-    Ok(())
 }

@@ -6,7 +6,6 @@ use crate::repeated::{Repeated, bytes_again};
 use std::alloc::Global;
 use std::process::Abort;
 use std::sync::Wait;
-use std::test::Fail;
 use std::thread::Threads;
 
 /// A text, and all that is told of it.
@@ -220,7 +219,7 @@ seat 15: acquire 0
 }
 
 #[test]
-fn one_too_many_is_refused(rt: HostRuntime) -> Result<(), Fail> {
+fn one_too_many_is_refused(rt: HostRuntime) {
     let rows = [
         (only(b"counter 0\n", 17), "refused: line 17: too many\n"),
         (only(b"counter 0\n", 16), "refused: line 17: end\n"),
@@ -240,10 +239,9 @@ fn one_too_many_is_refused(rt: HostRuntime) -> Result<(), Fail> {
         ),
     ];
     for (text, told) in rows {
-        let bytes = bytes_again(rt.alloc(), &text)?;
+        let bytes = bytes_again(&rt, rt.alloc(), &text);
         is_refused(&rt, rt.alloc(), &bytes, told);
     }
-    Ok(())
 }
 
 /// Faulty texts, and what is told beside of each.

@@ -2,14 +2,12 @@
 
 ghost use Rattle.program_words.specs.Asked.{IsWithinLimits};
 
-use crate::asked::{ALL_SOUND, Told, answers, ask, is_a_mistake, tells, tells_over};
-use crate::devices::{Giving, SOUND, Taking};
-use explorer::{Asked, Flagged, NO_MEMORY, no_file, no_words, once_text, parklot_io};
+use crate::asked::{ALL_SOUND, Told, answers, ask, is_a_mistake, run, tells, tells_over};
+use explorer::{Asked, NO_MEMORY, no_file, no_words, once_text};
 use std::alloc::Global;
 use std::io::{self, ErrorKind};
 use std::process::Abort;
 use std::sync::Wait;
-use std::test::Fail;
 use std::thread::Threads;
 use step_core::NoMemory;
 
@@ -31,18 +29,18 @@ Usage: parklot once
 For more information, try '--help'.
 ";
 
-fn once_again(rt: &impl Wait, alloc: Global) -> Result<String, NoMemory> {
+/// Whether the five lines are told, where memory isn't short.
+fn are_five_lines(rt: &impl Wait, alloc: Global) -> bool {
     match once_text(rt, alloc) {
-        Ok(text) => Ok(text),
-        Err(_) => once_text(rt, alloc),
+        Ok(text) => text.as_str() == FIVE_LINES,
+        Err(NoMemory) => false,
     }
 }
 
 #[test]
-fn once_tells_five_lines(rt: HostRuntime) -> Result<(), Fail> {
-    let text = once_again(&rt, rt.alloc())?;
-    assert_eq!(rt; text.as_str(), FIVE_LINES);
-    Ok(())
+fn once_tells_five_lines(rt: HostRuntime) {
+    let alloc = rt.alloc();
+    assert!(rt; are_five_lines(&rt, alloc) || are_five_lines(&rt, alloc));
 }
 
 #[test]
@@ -225,13 +223,9 @@ fn without_a_command(
 )
     requires { IsWithinLimits asked.now }
 {
-    let mut reader = Flagged::new(Giving::new(b"", SOUND));
-    let mut out = Flagged::new(Taking::new(alloc, SOUND));
-    let mut err = Flagged::new(Taking::new(alloc, SOUND));
-    let status = parklot_io(rt, alloc, asked, &mut reader, &mut out, &mut err, &mut ());
-    assert!(rt; status == 2);
-    assert!(rt; out.into_inner().into_taken().as_slice() == told.as_bytes());
-    assert!(rt; err.into_inner().into_taken().as_slice() == told_beside.as_bytes());
+    let (out, err, status) = run(rt, alloc, asked, b"", ALL_SOUND, &mut ());
+    let is_told = out.as_slice() == told.as_bytes() && err.as_slice() == told_beside.as_bytes();
+    assert!(rt; status == 2 && is_told);
 }
 
 #[test]

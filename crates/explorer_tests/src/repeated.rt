@@ -1,6 +1,7 @@
 //! Texts that say the same many times.
 
 use std::alloc::{AllocError, Global};
+use std::process::Abort;
 
 /// So many times the same, with a text before and one behind.
 #[derive(Clone, Copy, Drop)]
@@ -22,9 +23,9 @@ fn bytes_of(alloc: Global, text: &Repeated<'_>) -> Result<Vec<u8>, AllocError> {
 }
 
 /// The bytes of the text, made once more where memory was refused.
-pub(crate) fn bytes_again(alloc: Global, text: &Repeated<'_>) -> Result<Vec<u8>, AllocError> {
+pub(crate) fn bytes_again(rt: &impl Abort, alloc: Global, text: &Repeated<'_>) -> Vec<u8> {
     match bytes_of(alloc, text) {
-        Ok(bytes) => Ok(bytes),
-        Err(_) => bytes_of(alloc, text),
+        Ok(bytes) => bytes,
+        Err(_) => bytes_of(alloc, text).expect(rt, "memory"),
     }
 }

@@ -1,9 +1,9 @@
 //! Schedules that stand in an answer, which `--schedule -` asks for.
 
-use crate::asked::{is_a_mistake, is_short};
-use crate::devices::{BROKEN, Giving, SOUND, Taking};
+use crate::asked::{ALL_SOUND, is_a_mistake, is_short, run};
+use crate::devices::{BROKEN, Giving, SOUND};
 use crate::reading::ONE_ACQUIRE;
-use explorer::{Asked, Flagged, parklot_io, read_words, scheduled};
+use explorer::{Asked, Flagged, read_words, scheduled};
 use std::alloc::Global;
 use std::process::Abort;
 use std::sync::Wait;
@@ -34,11 +34,8 @@ fn replay_of(rt: &(impl Threads + Wait + Sync), alloc: Global, answer: &[u8]) ->
     let mut room = Vec::new(alloc);
     let mut given = Flagged::new(Giving::new(answer, SOUND));
     let asked = scheduled(alloc, read_words(alloc, &OF_ANSWER), &mut given, &mut room);
-    let mut reader = Flagged::new(Giving::new(ONE_ACQUIRE, SOUND));
-    let mut out = Flagged::new(Taking::new(alloc, SOUND));
-    let mut err = Flagged::new(Taking::new(alloc, SOUND));
-    let status = parklot_io(rt, alloc, &asked, &mut reader, &mut out, &mut err, &mut ());
-    (out.into_inner().into_taken(), status)
+    let (out, _, status) = run(rt, alloc, &asked, ONE_ACQUIRE, ALL_SOUND, &mut ());
+    (out, status)
 }
 
 fn replays_answer(

@@ -5,7 +5,6 @@ use crate::devices::Calls;
 use crate::reading::ONE_ACQUIRE;
 use crate::repeated::{Repeated, bytes_again};
 use std::alloc::Global;
-use std::test::Fail;
 use step_core::NoMemory;
 
 /// A right text of 36 bytes, and so many bytes that make it wrong.
@@ -19,7 +18,7 @@ const fn and_bytes(times: usize) -> Repeated<'static> {
 }
 
 #[test]
-fn a_text_has_its_greatest_length(rt: HostRuntime) -> Result<(), Fail> {
+fn a_text_has_its_greatest_length(rt: HostRuntime) {
     let alloc = rt.alloc();
     let rows = [
         (and_bytes(65_500), "0", "refused: line 4: cut\n"),
@@ -28,7 +27,7 @@ fn a_text_has_its_greatest_length(rt: HostRuntime) -> Result<(), Fail> {
         (and_bytes(65_501), "x", "refused: too long\n"),
     ];
     for (text, spelled, told) in rows {
-        let input = bytes_again(alloc, &text)?;
+        let input = bytes_again(&rt, alloc, &text);
         tells(
             &rt,
             alloc,
@@ -38,7 +37,6 @@ fn a_text_has_its_greatest_length(rt: HostRuntime) -> Result<(), Fail> {
             2,
         );
     }
-    Ok(())
 }
 
 /// Only the first read succeeds, and it gives all.
@@ -67,14 +65,13 @@ const UNREAD: Told<'static> = Told {
 };
 
 #[test]
-fn a_text_that_is_too_long_is_not_read_on(rt: HostRuntime) -> Result<(), Fail> {
+fn a_text_that_is_too_long_is_not_read_on(rt: HostRuntime) {
     let alloc = rt.alloc();
     let words = ["explore", "--depth", "32"];
     for (times, told) in [(65_500, UNREAD), (65_501, TOO_LONG), (70_000, TOO_LONG)] {
-        let input = bytes_again(alloc, &and_bytes(times))?;
+        let input = bytes_again(&rt, alloc, &and_bytes(times));
         tells_over(&rt, alloc, &words, &input, ONE_READ, told);
     }
-    Ok(())
 }
 
 /// A schedule of so many numbers and one.
@@ -97,7 +94,7 @@ const ASLEEP: &str = "\
 ";
 
 #[test]
-fn a_schedule_has_its_greatest_length(rt: HostRuntime) -> Result<(), Fail> {
+fn a_schedule_has_its_greatest_length(rt: HostRuntime) {
     let alloc = rt.alloc();
     let rows = [
         (and_zeros(255), ASLEEP),
@@ -105,8 +102,8 @@ fn a_schedule_has_its_greatest_length(rt: HostRuntime) -> Result<(), Fail> {
         (and_zeros(70_000), "refused: schedule\n"),
     ];
     for (schedule, told) in rows {
-        let schedule = bytes_again(alloc, &schedule)?;
-        let spelled = str::from_utf8(&schedule)?;
+        let schedule = bytes_again(&rt, alloc, &schedule);
+        let spelled = str::from_utf8(&schedule).expect(&rt, "a text");
         tells(
             &rt,
             alloc,
@@ -116,7 +113,6 @@ fn a_schedule_has_its_greatest_length(rt: HostRuntime) -> Result<(), Fail> {
             2,
         );
     }
-    Ok(())
 }
 
 /// Sixteen seats with sixteen steps each.
@@ -156,11 +152,11 @@ fn whole_run(alloc: Global) -> Result<(String, String), NoMemory> {
 }
 
 #[test]
-fn a_schedule_of_256_steps_runs(rt: HostRuntime) -> Result<(), Fail> {
+fn a_schedule_of_256_steps_runs(rt: HostRuntime) {
     let alloc = rt.alloc();
     let (spelled, told) = match whole_run(alloc) {
         Ok(texts) => texts,
-        Err(_) => whole_run(alloc)?,
+        Err(NoMemory) => whole_run(alloc).expect(&rt, "memory"),
     };
     tells(
         &rt,
@@ -170,5 +166,4 @@ fn a_schedule_of_256_steps_runs(rt: HostRuntime) -> Result<(), Fail> {
         &told,
         0,
     );
-    Ok(())
 }

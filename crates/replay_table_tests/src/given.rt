@@ -2,27 +2,22 @@
 //!
 //! What answers want of memory is made once more.
 
-use replay_table::{Refused, table_of};
+use replay_table::{Refused, ReplayTable, table_of};
 use replay_text::table_text;
 use scenario_text::read_scenario;
 use std::alloc::{AllocError, Global};
 use std::process::Abort;
-use std::test::Fail;
 use step_core::{NoMemory, Scenario, SeatId, StepRefused, Variant};
 
-/// A schedule of a scenario, by the step table or by a change of it.
-#[derive(Clone, Copy, Drop)]
-pub(crate) struct Played<'t> {
-    pub(crate) text: &'t str,
+/// A schedule of a scenario, by the step table or by a change of it, and what is told of it.
+pub(crate) struct Played {
+    pub(crate) text: &'static str,
     pub(crate) change: Option<Variant>,
-    pub(crate) schedule: &'t [u16],
-}
-
-/// The text of a table, and how it ends.
-#[derive(Drop)]
-struct Told {
-    text: String,
-    refused: Option<Refused>,
+    pub(crate) schedule: &'static [u16],
+    /// The text of its table.
+    pub(crate) table: &'static str,
+    /// Which step is refused, and why; none where the table goes to the end of the schedule.
+    pub(crate) refused: Option<(usize, StepRefused)>,
 }
 
 fn seats(alloc: Global, schedule: &[u16]) -> Result<Vec<SeatId>, AllocError> {
@@ -43,48 +38,28 @@ fn scenario(alloc: Global, text: &str) -> Result<Scenario, NoMemory> {
     }
 }
 
-fn play(alloc: Global, played: &Played<'_>) -> Result<Told, NoMemory> {
-    let scenario = scenario(alloc, played.text)?;
-    let seats = seats(alloc, played.schedule)?;
-    let table = table_of(alloc, &scenario, played.change, &seats)?;
-    Ok(Told {
-        text: table_text(alloc, &table)?,
-        refused: table.refused,
-    })
-}
-
-fn play_again(alloc: Global, played: &Played<'_>) -> Result<Told, NoMemory> {
-    match play(alloc, played) {
-        Err(NoMemory) => play(alloc, played),
-        answer => answer,
+/// How a table ends.
+fn end_of(table: &ReplayTable<'_>) -> Option<(usize, StepRefused)> {
+    match table.refused {
+        Some(Refused { at, cause }) => Some((at, cause)),
+        None => None,
     }
 }
 
-/// The table of what is played has this text, and ends so.
-pub(crate) fn tells(
-    rt: &impl Abort,
-    alloc: Global,
-    played: &Played<'_>,
-    text: &str,
-    refused: Option<Refused>,
-) -> Result<(), Fail> {
-    let told = play_again(alloc, played)?;
-    assert_eq!(rt; told.text.as_str(), text);
-    assert!(rt; told.refused == refused);
-    Ok(())
+/// Whether what is played has this table, and ends so.
+fn is_told(alloc: Global, played: &Played) -> Result<bool, NoMemory> {
+    let scenario = scenario(alloc, played.text)?;
+    let seats = seats(alloc, played.schedule)?;
+    let table = table_of(alloc, &scenario, played.change, &seats)?;
+    let text = table_text(alloc, &table)?;
+    Ok(text.as_str() == played.table && end_of(&table) == played.refused)
 }
 
-/// The table goes to the end of the schedule.
-pub(crate) fn tells_all(
-    rt: &impl Abort,
-    alloc: Global,
-    played: &Played<'_>,
-    text: &str,
-) -> Result<(), Fail> {
-    tells(rt, alloc, played, text, None)
-}
-
-/// Step `at` is refused.
-pub(crate) fn refused(at: usize, cause: StepRefused) -> Option<Refused> {
-    Some(Refused { at, cause })
+/// What is played has this table, and ends so.
+pub(crate) fn tells(rt: &impl Abort, alloc: Global, played: &Played) {
+    let told = match is_told(alloc, played) {
+        Ok(told) => told,
+        Err(NoMemory) => is_told(alloc, played).expect(rt, "memory"),
+    };
+    assert!(rt; told);
 }

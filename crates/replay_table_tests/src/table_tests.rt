@@ -1,7 +1,6 @@
 //! Tables that were worked out by hand, from the step table's page.
 
-use crate::given::{Played, refused, tells, tells_all};
-use std::test::Fail;
+use crate::given::{Played, tells};
 use step_core::{StepRefused, Variant};
 
 /// Seat 0 sleeps, and seat 1 brings its unit.
@@ -12,7 +11,11 @@ seat 1: release 0
 settled
 ";
 
-const SLEEP_AND_WAKE_UP: &str = "\
+static SLEEP_AND_WAKE_UP: Played = Played {
+    text: ONE_EACH,
+    change: None,
+    schedule: &[0, 0, 0, 0, 0, 1, 1, 1, 1, 1, 1, 1, 0, 0, 0],
+    table: "\
 step  seat 0                 seat 1                 counter 0  lock 0  waiters 0  waits 0  grant 0
 0     acquire 0: A1 found 0                         0          0       0          -        0
 1     A3 found 0                                    0          1       0          -        0
@@ -29,19 +32,20 @@ step  seat 0                 seat 1                 counter 0  lock 0  waiters 0
 12    P found 1                                     1          0       0          -        0
 13    A10 found 1                                   1          0       0          -        0
 14    A11 won                                       0          0       0          -        0
-";
+",
+    refused: None,
+};
 
 #[test]
-fn a_sleep_and_its_wake_up(rt: HostRuntime) -> Result<(), Fail> {
-    let played = Played {
-        text: ONE_EACH,
-        change: None,
-        schedule: &[0, 0, 0, 0, 0, 1, 1, 1, 1, 1, 1, 1, 0, 0, 0],
-    };
-    tells_all(&rt, rt.alloc(), &played, SLEEP_AND_WAKE_UP)
+fn a_sleep_and_its_wake_up(rt: HostRuntime) {
+    tells(&rt, rt.alloc(), &SLEEP_AND_WAKE_UP);
 }
 
-const LOST: &str = "\
+static LOST: Played = Played {
+    text: ONE_EACH,
+    change: Some(Variant::NoLook),
+    schedule: &[0, 0, 1, 1, 0, 0],
+    table: "\
 step  seat 0                 seat 1                 counter 0  lock 0  waiters 0  waits 0
 0     acquire 0: A1 found 0                         0          0       0          -
 1     A3 found 0                                    0          1       0          -
@@ -49,19 +53,20 @@ step  seat 0                 seat 1                 counter 0  lock 0  waiters 0
 3                            R2 found 0             1          1       0          -
 4     A4 found 0                                    1          1       1          -
 5     A7 found 1                                    1          0       1          0.0
-";
+",
+    refused: None,
+};
 
 #[test]
-fn a_wake_up_is_lost_without_the_second_look(rt: HostRuntime) -> Result<(), Fail> {
-    let played = Played {
-        text: ONE_EACH,
-        change: Some(Variant::NoLook),
-        schedule: &[0, 0, 1, 1, 0, 0],
-    };
-    tells_all(&rt, rt.alloc(), &played, LOST)
+fn a_wake_up_is_lost_without_the_second_look(rt: HostRuntime) {
+    tells(&rt, rt.alloc(), &LOST);
 }
 
-const HELD: &str = "\
+static HELD: Played = Played {
+    text: ONE_EACH,
+    change: None,
+    schedule: &[0, 0, 0, 0, 1, 1, 1, 0],
+    table: "\
 step  seat 0                 seat 1                 counter 0  lock 0  waiters 0
 0     acquire 0: A1 found 0                         0          0       0
 1     A3 found 0                                    0          1       0
@@ -69,52 +74,50 @@ step  seat 0                 seat 1                 counter 0  lock 0  waiters 0
 3     A5 found 0                                    0          1       1
 4                            release 0: R1 found 0  1          1       1
 5                            R2 found 1             1          1       1
-";
+",
+    refused: Some((6, StepRefused::LockHeld)),
+};
+
+static NOBODY: Played = Played {
+    text: ONE_EACH,
+    change: None,
+    schedule: &[7],
+    table: "step  seat 0  seat 1  counter 0\n",
+    refused: Some((0, StepRefused::NoSuchSeat)),
+};
 
 #[test]
-fn a_table_ends_before_a_refused_step(rt: HostRuntime) -> Result<(), Fail> {
-    let played = Played {
-        text: ONE_EACH,
-        change: None,
-        schedule: &[0, 0, 0, 0, 1, 1, 1, 0],
-    };
-    let held = refused(6, StepRefused::LockHeld);
-    tells(&rt, rt.alloc(), &played, HELD, held)?;
-    let nobody = Played {
-        schedule: &[7],
-        ..played
-    };
-    let no_seat = refused(0, StepRefused::NoSuchSeat);
-    tells(
-        &rt,
-        rt.alloc(),
-        &nobody,
-        "step  seat 0  seat 1  counter 0\n",
-        no_seat,
-    )
+fn a_table_ends_before_a_refused_step(rt: HostRuntime) {
+    tells(&rt, rt.alloc(), &HELD);
+    tells(&rt, rt.alloc(), &NOBODY);
 }
 
-const LOSER: &str = "\
+/// Both look at the one unit, and the slower one loses its exchange: the call doesn't begin anew.
+static LOSER: Played = Played {
+    text: "counter 1\nseat 0: acquire 0\nseat 1: acquire 0\nsettled\n",
+    change: None,
+    schedule: &[0, 1, 1, 0, 0],
+    table: "\
 step  seat 0                 seat 1                 counter 0
 0     acquire 0: A1 found 1                         1
 1                            acquire 0: A1 found 1  1
 2                            A2 won                 0
 3     A2 lost                                       0
 4     A1 found 0                                    0
-";
+",
+    refused: None,
+};
 
-/// Both look at the one unit, and the slower one loses its exchange: the call doesn't begin anew.
 #[test]
-fn an_exchange_is_lost(rt: HostRuntime) -> Result<(), Fail> {
-    let played = Played {
-        text: "counter 1\nseat 0: acquire 0\nseat 1: acquire 0\nsettled\n",
-        change: None,
-        schedule: &[0, 1, 1, 0, 0],
-    };
-    tells_all(&rt, rt.alloc(), &played, LOSER)
+fn an_exchange_is_lost(rt: HostRuntime) {
+    tells(&rt, rt.alloc(), &LOSER);
 }
 
-const MANY: &str = "\
+static MANY: Played = Played {
+    text: "counter 0\nseat 0: acquire 0\nseat 1: acquire 0 lifo\nseat 2: release 0 many 2\nsettled\n",
+    change: None,
+    schedule: &[0, 0, 0, 0, 0, 1, 1, 1, 1, 1, 2, 2, 2, 2, 2, 2, 2, 2, 2],
+    table: "\
 step  seat 0                 seat 1                      seat 2                        counter 0  lock \
 0  waiters 0  waits 0  grant 0  grant 1
 0     acquire 0: A1 found 0                                                            0          \
@@ -155,19 +158,20 @@ step  seat 0                 seat 1                      seat 2                 
 0       0          -        0        1
 18                                                       M7 found 0                    2          \
 0       0          -        1        1
-";
+",
+    refused: None,
+};
 
 #[test]
-fn one_release_wakes_two(rt: HostRuntime) -> Result<(), Fail> {
-    let played = Played {
-        text: "counter 0\nseat 0: acquire 0\nseat 1: acquire 0 lifo\nseat 2: release 0 many 2\nsettled\n",
-        change: None,
-        schedule: &[0, 0, 0, 0, 0, 1, 1, 1, 1, 1, 2, 2, 2, 2, 2, 2, 2, 2, 2],
-    };
-    tells_all(&rt, rt.alloc(), &played, MANY)
+fn one_release_wakes_two(rt: HostRuntime) {
+    tells(&rt, rt.alloc(), &MANY);
 }
 
-const ON_A_LIST: &str = "\
+static ON_A_LIST: Played = Played {
+    text: "list 7\nseat 0: add 0; wait 0\nseat 1: one 0\nsettled\n",
+    change: None,
+    schedule: &[0, 0, 0, 0, 1, 1, 1, 1, 1, 1, 1, 1, 0],
+    table: "\
 step  seat 0              seat 1             list 0 wait  list 0 notify  list 0 lock  list 0 queue  list \
 0 ticket of 0  list 0 grant of 0
 0     add 0: N1 found 7                      8            7              0            -             \
@@ -196,19 +200,20 @@ step  seat 0              seat 1             list 0 wait  list 0 notify  list 0 
 7                   1
 12    P found 1                              8            8              0            -             \
 -                   0
-";
+",
+    refused: None,
+};
 
 #[test]
-fn a_ticket_is_granted_to_a_sleeper(rt: HostRuntime) -> Result<(), Fail> {
-    let played = Played {
-        text: "list 7\nseat 0: add 0; wait 0\nseat 1: one 0\nsettled\n",
-        change: None,
-        schedule: &[0, 0, 0, 0, 1, 1, 1, 1, 1, 1, 1, 1, 0],
-    };
-    tells_all(&rt, rt.alloc(), &played, ON_A_LIST)
+fn a_ticket_is_granted_to_a_sleeper(rt: HostRuntime) {
+    tells(&rt, rt.alloc(), &ON_A_LIST);
 }
 
-const NOTIFIED_TOO_EARLY: &str = "\
+static NOTIFIED_TOO_EARLY: Played = Played {
+    text: "list 0\nseat 0: one 0\nseat 1: add 0; wait 0\nsettled\n",
+    change: None,
+    schedule: &[0, 0, 1, 1, 1, 1],
+    table: "\
 step  seat 0             seat 1              list 0 wait  list 0 lock  list 0 queue  list 0 ticket of 1
 0     one 0: O1 found 0                      0            0            -             -
 1     O2 found 0                             0            0            -             -
@@ -216,35 +221,40 @@ step  seat 0             seat 1              list 0 wait  list 0 lock  list 0 qu
 3                        wait 0: W1 found 0  1            1            -             0
 4                        W2 found 0          1            1            -             0
 5                        W4 found 1          1            0            1.0           0
-";
+",
+    refused: None,
+};
 
 #[test]
-fn a_notification_comes_before_the_ticket(rt: HostRuntime) -> Result<(), Fail> {
-    let played = Played {
-        text: "list 0\nseat 0: one 0\nseat 1: add 0; wait 0\nsettled\n",
-        change: None,
-        schedule: &[0, 0, 1, 1, 1, 1],
-    };
-    tells_all(&rt, rt.alloc(), &played, NOTIFIED_TOO_EARLY)
+fn a_notification_comes_before_the_ticket(rt: HostRuntime) {
+    tells(&rt, rt.alloc(), &NOTIFIED_TOO_EARLY);
 }
 
-const NEGATIVE: &str = "\
+static NEGATIVE: Played = Played {
+    text: "group\nseat 0: gadd 0 1; gadd 0 -2\nno-misuse\n",
+    change: None,
+    schedule: &[0, 0],
+    table: "\
 step  seat 0                                           group 0
 0     gadd 0 1: G1 found 0 0                           1 0
 1     gadd 0 -2: G1 found 1 0 fails: Negative at -1 0  -1 0
-";
+",
+    refused: None,
+};
 
 #[test]
-fn a_group_fails(rt: HostRuntime) -> Result<(), Fail> {
-    let played = Played {
-        text: "group\nseat 0: gadd 0 1; gadd 0 -2\nno-misuse\n",
-        change: None,
-        schedule: &[0, 0],
-    };
-    tells_all(&rt, rt.alloc(), &played, NEGATIVE)
+fn a_group_fails(rt: HostRuntime) {
+    tells(&rt, rt.alloc(), &NEGATIVE);
 }
 
-const GROUP: &str = "\
+/// Counter 0 is the semaphore of the group.
+static GROUP: Played = Played {
+    text: "group\nseat 0: gwait 0\nseat 1: gadd 0 1; gadd 0 -1\nno-misuse\n",
+    change: None,
+    schedule: &[
+        1, 0, 0, 0, 0, 0, 0, 0, 1, 1, 1, 1, 1, 1, 1, 1, 1, 1, 0, 0, 0, 0,
+    ],
+    table: "\
 step  seat 0                 seat 1                   counter 0  lock 0  waiters 0  waits 0  grant 0  group 0
 0                            gadd 0 1: G1 found 0 0   0          0       0          -        0        1 0
 1     gwait 0: V1 found 1 0                           0          0       0          -        0        1 0
@@ -268,17 +278,11 @@ step  seat 0                 seat 1                   counter 0  lock 0  waiters
 19    A10 found 1                                     1          0       0          -        0        0 0
 20    A11 won                                         0          0       0          -        0        0 0
 21    V3 found 0 0                                    0          0       0          -        0        0 0
-";
+",
+    refused: None,
+};
 
-/// Counter 0 is the semaphore of the group.
 #[test]
-fn a_group_releases_its_wait(rt: HostRuntime) -> Result<(), Fail> {
-    let played = Played {
-        text: "group\nseat 0: gwait 0\nseat 1: gadd 0 1; gadd 0 -1\nno-misuse\n",
-        change: None,
-        schedule: &[
-            1, 0, 0, 0, 0, 0, 0, 0, 1, 1, 1, 1, 1, 1, 1, 1, 1, 1, 0, 0, 0, 0,
-        ],
-    };
-    tells_all(&rt, rt.alloc(), &played, GROUP)
+fn a_group_releases_its_wait(rt: HostRuntime) {
+    tells(&rt, rt.alloc(), &GROUP);
 }
