@@ -3,7 +3,7 @@
 use crate::asked::replays;
 
 /// A text, a schedule, all that is told, and the status.
-const REPLAYS: [(&[u8], &str, &str, u8); 6] = [
+const REPLAYS: [(&[u8], &str, &str, u8); 7] = [
     // the ticket is handed out after the grant looked for one
     (
         b"list 0\nseat 0: one 0\nseat 1: add 0; wait 0\nsettled\n",
@@ -55,6 +55,30 @@ verdict: stuck
 8: seat 1 W1
 9: seat 1 W2
 10: seat 1 W3
+list 0: tickets 1, granted 1
+verdict: not bad
+",
+        0,
+    ),
+    // two notify one: the second finds under the lock that nothing is left
+    (
+        b"list 0\nseat 0: add 0\nseat 1: one 0\nseat 2: one 0\nno-misuse\n",
+        "0 1 1 2 2 1 1 1 1 1 2 2 2 2",
+        "\
+0: seat 0 N1
+1: seat 1 O1
+2: seat 1 O2
+3: seat 2 O1
+4: seat 2 O2
+5: seat 1 O3
+6: seat 1 O4
+7: seat 1 O5
+8: seat 1 O7
+9: seat 1 O8
+10: seat 2 O3
+11: seat 2 O4
+12: seat 2 O5
+13: seat 2 O6
 list 0: tickets 1, granted 1
 verdict: not bad
 ",

@@ -91,7 +91,8 @@ IsIndexedTwo count keyword first second end =
     IsSpelled (λ z. IsOneOf count z.0 × AreTwo z.1) (with_number keyword (two_text first second end))
 
 -- and then three
-abbrev pub IsIndexedThree : ℕ → List ℕ → List ℕ → List ℕ → List ℕ → List ℕ → List ℕ → ℕ × (ℕ × (ℕ × ℕ)) → Type 0
+abbrev pub IsIndexedThree : ℕ → List ℕ → List ℕ → List ℕ → List ℕ → List ℕ → List ℕ
+    → ℕ × (ℕ × (ℕ × ℕ)) → Type 0
 IsIndexedThree count keyword first second third end =
     IsSpelled (λ z. IsOneOf count z.0 × AreThree z.1) (with_number keyword (three_text first second third end))
 

@@ -91,4 +91,5 @@ IsFaultOf text fault = IsFirstFault [] (pieces text) fault
 abbrev pub IsReached : List Line → List Piece → ℕ → Type 0
 IsReached before [] n = ⊥
 IsReached before (p ∷ ps) n =
-    ((n ≡ length before + 1) × IsReadable before p) ⊎ ((line : Line) × IsRight before p line × IsReached (before ++ (line ∷ [])) ps n)
+    ((n ≡ length before + 1) × IsReadable before p)
+    ⊎ ((line : Line) × IsRight before p line × IsReached (before ++ (line ∷ [])) ps n)
