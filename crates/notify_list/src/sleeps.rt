@@ -7,13 +7,16 @@ ghost use Rattle.notify_list.specs.Plays.{stepped};
 ghost use Rattle.notify_list.specs.Seats.{list_of};
 ghost use Rattle.notify_list.specs.Walks.{IsSame};
 
-use crate::notify_list::{NotifyList, grant_word};
+use crate::notify_list::{NOTIFY, NotifyList, WAIT, grant_word};
 use crate::plays::{Receives, SetsAside, Token};
-use std::hint;
 use std::sync::Wait;
+use std::{hint, thread};
+use ticket_words::minus;
 
-/// How often a seat looks for its grant before its thread sleeps: a grant that comes meanwhile costs no call of the kernel.
-const LOOKS: u32 = 1_000;
+/// How many rounds a seat looks for its grant before its thread sleeps: a grant that comes meanwhile costs no call of the kernel.
+const ROUNDS: u32 = 10;
+/// How often it looks in a round.
+const LOOKS: u32 = 100;
 
 impl NotifyList {
     /// P: waits until the seat is granted, and takes the grant (Go's `goparkunlock`).
@@ -33,8 +36,24 @@ impl NotifyList {
         unreachable!()
     }
 
-    /// Looks at a grant word for a while: whether it is above 0.
+    /// Looks at a grant word for a while: whether it is above 0. Where many wait, it lets other threads run after each round:
+    /// many that look would keep those that they wait for off the processors.
     fn is_granted_soon(&self, word: usize) -> bool
+        requires { word < self.now.id.words }
+    {
+        for _ in 0..ROUNDS {
+            if self.is_granted_in_a_round(word) {
+                return true;
+            }
+            if self.is_crowded() {
+                thread::yield_now();
+            }
+        }
+        false
+    }
+
+    /// One round of looks.
+    fn is_granted_in_a_round(&self, word: usize) -> bool
         requires { word < self.now.id.words }
     {
         for _ in 0..LOOKS {
@@ -44,6 +63,13 @@ impl NotifyList {
             hint::spin_loop();
         }
         false
+    }
+
+    /// Whether more than one ticket isn't granted. A lone waiter gives its processor to nobody: on a busy machine it would get
+    /// it back only after the other thread's whole turn.
+    fn is_crowded(&self) -> bool {
+        let notified = self.table.shared.peek(NOTIFY);
+        minus(self.table.shared.peek(WAIT), notified) > 1
     }
 
     /// Returns once the seat's grant word is above 0, and perhaps before. Nobody but the seat takes what is granted, so it looks

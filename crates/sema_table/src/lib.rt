@@ -6,7 +6,8 @@
 //! [`SemaTable::enter`] goes to the lock of the counter's root and queues the seat's wait there, [`SemaTable::poll`] looks whether
 //! the wait was granted, [`SemaTable::sleep`] waits for that, and [`SemaTable::retry`] tries once it was. [`SemaTable::post`] adds a
 //! unit, and [`SemaTable::wake`] takes the first wait out and grants it; [`SemaTable::post_many`] and [`SemaTable::wake_some`] do
-//! the same for many units, and for as many waits. By [`SemaTable::meet`] two seats come to have seen one journal. Each atomic step
+//! the same for many units, and for as many waits. [`SemaTable::spin`] looks for a unit for a while, as a lock does before it acquires;
+//! it takes none, and nothing is promised of it. By [`SemaTable::meet`] two seats come to have seen one journal. Each atomic step
 //! is one row of the step table, in every schedule, and the contract of a call is the rows that it ran and the entries of the
 //! journal that they told; [`law_of_the_table`] says that the table is lawful between any two of them.
 //!
@@ -39,6 +40,7 @@ mod sema_table;
 mod settings;
 mod setup_error;
 mod sleeps;
+mod spins;
 mod tries;
 mod view;
 mod waking;

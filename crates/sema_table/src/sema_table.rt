@@ -59,18 +59,19 @@ impl SemaTable {
         self.seats
     }
 
-    /// The root of a counter. A number below that of the roots is its own, and isn't divided: that takes as long as a step. By the
-    /// most roots, which are as many as Go has, the compiler divides with a product and a shift.
+    /// The root of a counter. By the most roots, which are as many as Go has, the compiler divides with a product and a shift, which
+    /// costs nothing beside a step; a look whether the number is small would be guessed wrong too often. By fewer, a number below
+    /// that of the roots is its own, and isn't divided: that takes as long as a step.
     #[inline]
     pub(crate) fn root_of(&self, counter: CounterId) -> usize
         ensures { result ≡ root self.now.setting counter }
     {
         let number = counter.number();
-        if number < self.roots {
-            return number as usize;
-        }
         if self.roots == MAX_ROOTS {
             return (number % MAX_ROOTS) as usize;
+        }
+        if number < self.roots {
+            return number as usize;
         }
         (number % self.roots) as usize
     }

@@ -65,7 +65,7 @@ impl<'t> SemaLock<'t> {
         }
     }
 
-    /// Locks: takes the counter's unit, and sleeps while another has it (an acquire without lifo).
+    /// Locks: takes the counter's unit; while another has it, looks for a while, and then sleeps (an acquire without lifo).
     pub fn acquire<R: Wait>(&mut self, rt: &R)
         requires { self.old.held ≡ false }
         ensures { HasLocked self.old self.new }
@@ -73,6 +73,7 @@ impl<'t> SemaLock<'t> {
         let Some(seat) = self.seat.take() else {
             unreachable!()
         };
+        self.table.spin(self.counter);
         let seat = self.table.acquire(rt, seat, self.counter, false);
         let _ = seat.taken();
         self.seat = Some(seat);

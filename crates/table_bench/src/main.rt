@@ -5,8 +5,8 @@
 //! same way and the same order: the least that such a table can cost. In `cycle-root` the wait goes into a root and out again.
 //!
 //! The other cases have a thread for each worker, and close the table at the end: whether nobody was lost, and no unit. In
-//! `threads` each releases one counter and acquires it, in odd turns with handoff and lifo; in `spread` one of 1,000 counters over
-//! 251 roots, another in each turn. In `hands`, `lifo` and `handoff` two hand a unit back and forth over two counters, each waiting
+//! `threads` each releases one counter and takes its unit, in every other turn with handoff and lifo; in `spread` one of 1,000
+//! counters over 251 roots, drawn anew in each turn. Both try before they acquire, and end by their release limit. In `hands`, `lifo` and `handoff` two hand a unit back and forth over two counters, each waiting
 //! for the other, in order, with lifo and with handoff, and in `two` two units by one add: an operation is the way there and back.
 #![tactic(auto)]
 
@@ -90,6 +90,7 @@ const ALONE: Shape = Shape {
     units: 0,
     seats: 2,
     roots: 1,
+    release_limit: 1 << 40,
 };
 
 /// Times what one thread does with two seats of a table.

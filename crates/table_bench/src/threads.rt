@@ -17,6 +17,8 @@ pub struct Shape {
     pub units: u32,
     pub seats: u32,
     pub roots: u32,
+    /// How many units each seat may add.
+    pub release_limit: u64,
 }
 
 /// What is timed: seats, each of which does so many turns of a work.
@@ -54,6 +56,7 @@ impl Plan {
             units,
             seats,
             roots: 251,
+            release_limit: work.adds().wrapping_mul(u64::from(turns)),
         };
         Some(Plan { work, shape, turns })
     }
@@ -82,7 +85,7 @@ fn settings(alloc: Global, shape: &Shape) -> Result<Settings> {
         seats: shape.seats,
         roots: shape.roots,
         seed: 1,
-        release_limit: 1 << 40,
+        release_limit: shape.release_limit,
     })
 }
 

@@ -1,9 +1,13 @@
 -- What a thread of a crew has kept, of which its promise is known; and one turn more.
-use Rattle.std.proofs.Common.{ℕ, ◌+◌, length, add-one, sym, subst}
+use Rattle.std.proofs.Common.{◌≡◌, ◌⊎◌, inl, inr, Bool, ℕ, ◌+◌, length, add-one, sym, subst}
+use Rattle.sema_table.specs.declared.answers.Tried.{Tried}
+use Rattle.sema_table.specs.declared.answers.Tried.TheVariants.{Taken, Zero, Lost}
+use Rattle.sema_table.specs.Whole.{IsAcquired}
 use Rattle.sema_table.specs.Seats.{TableModel, SeatModel}
 use Rattle.table_crew.specs.declared.work.Work.{Work}
 use Rattle.table_crew.specs.declared.crew.Plan.{Plan}
-use Rattle.table_crew.specs.Turns.{IsTurn, HasRun, HasWorked}
+use Rattle.table_crew.specs.declared.work.Work.TheVariants.{Rounds}
+use Rattle.table_crew.specs.Turns.{Releases, Follows, Takes, is_odd, IsTurn, HasRun, HasWorked}
 use Rattle.table_crew.specs.Crew.{Worker, IsWorker}
 
 pub kept : (t : TableModel) (plan : Plan) (w : Worker) (s : SeatModel) → IsWorker t plan w
@@ -15,3 +19,20 @@ kept t plan w s is h =
 pub one_more : (work : Work) (first : SeatModel) (n : ℕ) (s t : SeatModel) → HasRun work first n s
     → IsTurn work (length first.table.setting.starts) first.number n s t → HasRun work first (n + 1) t
 one_more work first n s t ran turn = subst (λ (k : ℕ). HasRun work first k t) (sym (add-one n)) (s, ran, turn)
+
+module _ (tried : Tried) (s : SeatModel) (c : ℕ) (lifo : Bool) (t : SeatModel) where
+  pub has_taken : tried ≡ Taken → t ≡ s → Follows tried s c lifo t
+  has_taken is same = subst (λ (x : Tried). Follows x s c lifo t) (sym is) same
+
+  pub has_acquired : (tried ≡ Zero) ⊎ (tried ≡ Lost) → IsAcquired s c lifo t → Follows tried s c lifo t
+  has_acquired (inl zero) acquired = subst (λ (x : Tried). Follows x s c lifo t) (sym zero) acquired
+  has_acquired (inr lost) acquired = subst (λ (x : Tried). Follows x s c lifo t) (sym lost) acquired
+
+-- one round more, of a counter that is 0, with handoff and lifo as the number of the units says that were left
+pub one_round : (first : SeatModel) (m : ℕ) (s : SeatModel) (k left : ℕ) (u t : SeatModel) → HasRun Rounds first m s → k ≡ 0
+    → left ≡ s.left → Releases s k (is_odd left) u → Takes u k (is_odd left) t → HasRun Rounds first (m + 1) t
+one_round first m s k left u t ran zero is released takes = one_more Rounds first m s t ran (
+  u,
+  subst (λ (n : ℕ). Releases s 0 (is_odd n) u) is (subst (λ (n : ℕ). Releases s n (is_odd left) u) zero released),
+  subst (λ (n : ℕ). Takes u 0 (is_odd n) t) is (subst (λ (n : ℕ). Takes u n (is_odd left) t) zero takes),
+)

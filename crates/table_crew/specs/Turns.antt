@@ -1,9 +1,12 @@
 -- What the seats of a crew do, turn after turn, and the table that is closed with them.
 use Rattle.std.specs.Prelude.{◌≡◌, ◌⊎◌, ℕ, zero, suc, ◌+◌, ◌%◌, ◌^◌, ◌<◌, ◌==◌, Bool, false, List, length}
 use Rattle.std.specs.List.{All}
+use Rattle.sema_table.specs.declared.answers.Tried.{Tried}
+use Rattle.sema_table.specs.declared.answers.Tried.TheVariants.{Taken, Zero, Lost}
 use Rattle.sema_table.specs.declared.answers.Wake.{Wake}
 use Rattle.sema_table.specs.declared.many_seat.PostedMany.TheVariants.{Done, Owes}
 use Rattle.sema_table.specs.Seats.{TableModel, SeatModel}
+use Rattle.sema_table.specs.Tries.{IsTried}
 use Rattle.sema_table.specs.Many.{release_of, IsPostedMany, IsWokenMany}
 use Rattle.sema_table.specs.Whole.{IsReleased, IsAcquired}
 use Rattle.sema_table.specs.Closing.{ClosedModel, AreAll, IsClosed}
@@ -21,18 +24,28 @@ ReleasesTwo s c t =
     ⊎ (((u : SeatModel) × (woken : ℕ) × IsPostedMany s (release_of c 2) (Owes u) × IsWokenMany u t woken)
     ⊎ ((s.left < 2) × (t ≡ s)))
 
+-- what follows a try: nothing where it took a unit, and else an acquire
+abbrev pub Follows : Tried → SeatModel → ℕ → Bool → SeatModel → Type 0
+Follows Taken s c lifo t = t ≡ s
+Follows Zero s c lifo t = IsAcquired s c lifo t
+Follows Lost s c lifo t = IsAcquired s c lifo t
+
+-- a unit was taken, by a try or by the acquire that followed
+abbrev pub Takes : SeatModel → ℕ → Bool → SeatModel → Type 0
+Takes s c lifo t = (tried : Tried) × (u : SeatModel) × IsTried s c tried u × Follows tried u c lifo t
+
 abbrev pub is_odd : ℕ → Bool
 is_odd turn = turn % 2 == 1
 
--- the turn of this number, by a seat of this number, of so many counters: what `Work` says. Spread takes some counter
+-- the turn of this number, by a seat of this number, of so many counters: what `Work` says. A spread is of some counter
 abbrev pub IsTurn : Work → ℕ → ℕ → ℕ → SeatModel → SeatModel → Type 0
 IsTurn Adds many own turn s t = Releases s 0 false t
 IsTurn (Hands way) many own turn s t =
     (u : SeatModel) × IsAcquired s (own % many) way.lifo u × Releases u ((own + 1) % many) way.handoff t
 IsTurn HandsTwo many own turn s t =
     (u v : SeatModel) × IsAcquired s (own % many) false u × IsAcquired u (own % many) false v × ReleasesTwo v ((own + 1) % many) t
-IsTurn Rounds many own turn s t = (u : SeatModel) × Releases s 0 (is_odd turn) u × IsAcquired u 0 (is_odd turn) t
-IsTurn Spread many own turn s t = (c : ℕ) × (u : SeatModel) × Releases s c false u × IsAcquired u c false t
+IsTurn Rounds many own turn s t = (u : SeatModel) × Releases s 0 (is_odd s.left) u × Takes u 0 (is_odd s.left) t
+IsTurn Spread many own turn s t = (c : ℕ) × (u : SeatModel) × Releases s c false u × Takes u c false t
 IsTurn Locks many own turn s t =
     let c = (own + turn) % 2 ^ 32 % many in (u : SeatModel) × IsAcquired s c false u × Releases u c false t
 
@@ -41,13 +54,19 @@ abbrev pub HasRun : Work → SeatModel → ℕ → SeatModel → Type 0
 HasRun work s zero t = t ≡ s
 HasRun work s (suc n) t = (u : SeatModel) × HasRun work s n u × IsTurn work (length s.table.setting.starts) s.number n u t
 
--- the seat is one of this table, and has run so many turns, from how it was at first
+-- so many turns; but rounds and spreads go on until the seat may add no more
+abbrev pub HasDone : Work → SeatModel → ℕ → SeatModel → Type 0
+HasDone Rounds s n t = (m : ℕ) × HasRun Rounds s m t × (t.left ≡ 0)
+HasDone Spread s n t = (m : ℕ) × HasRun Spread s m t × (t.left ≡ 0)
+HasDone work s n t = HasRun work s n t
+
+-- the seat is one of this table, and has done so many turns, from how it was at first
 pub record HasWorked (t : TableModel) (work : Work) (turns : ℕ) (s : SeatModel) : Type 0 where
   pub own : s.table ≡ t
   pub first : SeatModel
   pub same_table : first.table ≡ t
   pub same_number : first.number ≡ s.number
-  pub ran : HasRun work first turns s
+  pub done : HasDone work first turns s
 
 -- the table was closed with all its seats, each of which had worked
 pub record IsCrewRun (t : TableModel) (work : Work) (turns : ℕ) (c : ClosedModel) : Type 0 where

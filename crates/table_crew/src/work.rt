@@ -2,11 +2,14 @@
 //! measured with them.
 
 ghost use Rattle.std.specs.Prelude.{◌≡◌, ◌%◌, ◌<◌, length};
-ghost use Rattle.table_crew.specs.Turns.{Releases, ReleasesTwo, HasRun};
+ghost use Rattle.table_crew.specs.Turns.{Releases, ReleasesTwo, HasRun, HasDone};
 
-use sema_table::{PostedMany, Seat, SemaTable};
+use sema_table::{PostedMany, Seat, SemaTable, Tried};
 use std::sync::Wait;
 use waiters::CounterId;
+
+/// By what the first seat's counters are drawn.
+const FIRST_DRAWN: u64 = 88_172_645_463_325_252;
 
 /// How a seat acquires and releases.
 #[derive(Clone, Copy, Drop)]
@@ -15,7 +18,9 @@ pub struct Way {
     pub handoff: bool,
 }
 
-/// What each seat of a table does in a turn. Counters are taken modulo how many there are.
+/// What each seat of a table does in a turn. Counters are taken modulo how many there are. `Rounds` and `Spread` are measured
+/// beside others: a unit that is there is taken by a try, and the release limit ends them, so that no look of a second loop
+/// counter, nor one whether a call that may wait came back, stands between an exchange and the next add.
 #[derive(Clone, Copy, Drop)]
 pub enum Work {
     /// Adds a unit to counter 0.
@@ -24,9 +29,11 @@ pub enum Work {
     Hands(Way),
     /// Takes two units from the counter of its own number, and gives two to the next by one add.
     HandsTwo,
-    /// Releases counter 0, and then acquires it; in odd turns with handoff and with lifo.
+    /// Releases counter 0, and then takes a unit of it, until it may release no more; with handoff and with lifo where it may do
+    /// so an odd number of times yet.
     Rounds,
-    /// Releases and acquires a counter that changes with each turn and seat, without handoff and lifo.
+    /// Releases a counter and takes a unit of it, which changes with each turn and seat, until it may release no more; without
+    /// handoff and lifo.
     Spread,
     /// Acquires a counter and releases it again, as a lock: in each turn the next, the first being that of its own number.
     Locks,
@@ -119,44 +126,56 @@ fn hands_two<R: Wait>(rt: &R, table: &SemaTable, seat: Seat, turns: u32) -> Seat
     seat
 }
 
-fn rounds<R: Wait>(rt: &R, table: &SemaTable, seat: Seat, turns: u32) -> Seat
+fn rounds<R: Wait>(rt: &R, table: &SemaTable, seat: Seat) -> Seat
     requires { (seat.table ≡ table.now) × (0 < length table.now.setting.starts) }
     ensures same { (result.table ≡ seat.table) × (result.number ≡ seat.number) }
-    ensures ran { HasRun Work.Rounds seat turns result }
+    ensures done { HasDone Work.Rounds seat 0 result }
 {
+    let first = CounterId::new(0);
     let mut seat = seat;
-    for turn in 0..turns {
-        let is_odd = turn % 2 == 1;
-        seat = release(rt, table, seat, CounterId::new(0), is_odd);
-        seat = table.acquire(rt, seat, CounterId::new(0), is_odd);
+    while seat.left() > 0 {
+        let is_odd = seat.left() % 2 == 1;
+        seat = release(rt, table, seat, first, is_odd);
+        match table.try_acquire(&mut seat, first) {
+            Tried::Taken => {}
+            Tried::Zero | Tried::Lost => seat = table.acquire(rt, seat, first, is_odd),
+        }
     }
     seat
 }
 
-/// One of so many, which looks as if it was drawn. There is no division in it, which takes as long as a step.
-fn scattered(seat: u32, turn: u32, many: u32) -> u32
+/// The number that is drawn after this one (Marsaglia's xorshift of 64 bits).
+fn draw(drawn: u64) -> u64 {
+    let drawn = drawn ^ (drawn << 13);
+    let drawn = drawn ^ (drawn >> 7);
+    drawn ^ (drawn << 17)
+}
+
+/// One of so many, by a number that was drawn. There is no division in it, which takes as long as a step.
+fn one_of(drawn: u64, many: u32) -> u32
     requires { 0 < many }
     ensures { result < many }
 {
-    let drawn = seat
-        .wrapping_mul(40_503)
-        .wrapping_add(turn)
-        .wrapping_mul(2_654_435_769);
-    ((u64::from(drawn) * u64::from(many)) >> 32) as u32
+    let high = (drawn >> 32) as u32;
+    ((u64::from(high) * u64::from(many)) >> 32) as u32
 }
 
-fn spread<R: Wait>(rt: &R, table: &SemaTable, seat: Seat, turns: u32) -> Seat
+fn spread<R: Wait>(rt: &R, table: &SemaTable, seat: Seat) -> Seat
     requires { (seat.table ≡ table.now) × (0 < length table.now.setting.starts) }
     ensures same { (result.table ≡ seat.table) × (result.number ≡ seat.number) }
-    ensures ran { HasRun Work.Spread seat turns result }
+    ensures done { HasDone Work.Spread seat 0 result }
 {
-    let own = u32::from(seat.id().number());
     let many = table.counters();
+    let mut drawn = FIRST_DRAWN.wrapping_add(u64::from(seat.id().number()));
     let mut seat = seat;
-    for turn in 0..turns {
-        let counter = CounterId::new(scattered(own, turn, many));
+    while seat.left() > 0 {
+        drawn = draw(drawn);
+        let counter = CounterId::new(one_of(drawn, many));
         seat = release(rt, table, seat, counter, false);
-        seat = table.acquire(rt, seat, counter, false);
+        match table.try_acquire(&mut seat, counter) {
+            Tried::Taken => {}
+            Tried::Zero | Tried::Lost => seat = table.acquire(rt, seat, counter, false),
+        }
     }
     seat
 }
@@ -193,18 +212,18 @@ impl Work {
         }
     }
 
-    /// So many turns of a seat.
+    /// So many turns of a seat, or those that its limit lets it do.
     pub(crate) fn turns<R: Wait>(self, rt: &R, table: &SemaTable, seat: Seat, turns: u32) -> Seat
         requires { (seat.table ≡ table.now) × (0 < length table.now.setting.starts) }
         ensures same { (result.table ≡ seat.table) × (result.number ≡ seat.number) }
-        ensures ran { HasRun self seat turns result }
+        ensures done { HasDone self seat turns result }
     {
         match self {
             Work::Adds => adds(rt, table, seat, turns),
             Work::Hands(way) => hands(rt, table, seat, way, turns),
             Work::HandsTwo => hands_two(rt, table, seat, turns),
-            Work::Rounds => rounds(rt, table, seat, turns),
-            Work::Spread => spread(rt, table, seat, turns),
+            Work::Rounds => rounds(rt, table, seat),
+            Work::Spread => spread(rt, table, seat),
             Work::Locks => locks(rt, table, seat, turns),
         }
     }

@@ -5,7 +5,7 @@
 ghost use Rattle.std.specs.Prelude.{◌≡◌, All};
 
 use crate::given::{Sizes, last_seat, made, one_counter, two_seats};
-use crate::seats::{counts, enters, has_value, has_waiters, is_at_its_limit, posts, tries};
+use crate::seats::{counts, enters, has_value, has_waiters, is_at_its_limit, posts, spins, tries};
 use sema_table::{Seat, SemaTable, Tried};
 use std::process::Abort;
 use std::sync::Wait;
@@ -24,6 +24,23 @@ fn tries_at_zero(rt: &impl Abort, table: &SemaTable, seats: Vec<Seat>)
 fn a_try_at_zero_takes_nothing(rt: HostRuntime) {
     let (table, seats) = made(&rt, rt.alloc(), &one_counter(0, 2));
     tries_at_zero(&rt, &table, seats);
+}
+
+fn spins_and_takes_nothing(rt: &impl Abort, table: &SemaTable, seats: &mut Vec<Seat>)
+    requires { All (λ s. s.table ≡ table.now) seats.old.items }
+{
+    let seat = last_seat(rt, table, seats);
+    spins(rt, table, 0);
+    let mut seat = posts(rt, table, seat, 0);
+    spins(rt, table, 0);
+    has_value(rt, table, &mut seat, 0, 1);
+    counts(rt, &seat, 9, 0);
+}
+
+#[test]
+fn a_spin_ends_and_takes_nothing(rt: HostRuntime) {
+    let (table, mut seats) = made(&rt, rt.alloc(), &one_counter(0, 1));
+    spins_and_takes_nothing(&rt, &table, &mut seats);
 }
 
 /// One unit is taken by a try, and one under the lock.

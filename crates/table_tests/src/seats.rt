@@ -73,6 +73,12 @@ pub(crate) fn tries(
     holds(rt, table.try_acquire(seat, at) == expected);
 }
 
+/// A spin comes back, whether there is a unit or none.
+pub(crate) fn spins(rt: &impl Abort, table: &SemaTable, number: u32) {
+    let at = counter(rt, table, number);
+    table.spin(at);
+}
+
 /// The seat adds a unit, and nobody waits at the root.
 pub(crate) fn posts(rt: &impl Abort, table: &SemaTable, seat: Seat, number: u32) -> Seat
     requires { seat.table ≡ table.now }

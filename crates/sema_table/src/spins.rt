@@ -1,0 +1,52 @@
+//! Looking for a unit before a call sleeps for one.
+ghost use Rattle.std.specs.Prelude.{◌<◌, length};
+
+use crate::sema_table::{SemaTable, counter_word};
+use std::{hint, thread};
+use waiters::CounterId;
+
+/// How many rounds a spin looks.
+const ROUNDS: u32 = 10;
+/// How often it looks in a round.
+const LOOKS: u32 = 50;
+
+impl SemaTable {
+    /// Looks for a while whether the counter has a unit, and lets other threads run after each round (the spinning of Go's
+    /// `sync.Mutex`). Who acquires a lock that is held for moments does this first: then it seldom sleeps, and has seldom to be
+    /// woken. It takes no unit, and says nothing of one: another may take it first.
+    #[inline]
+    pub fn spin(&self, counter: CounterId)
+        requires { counter < length self.now.setting.starts }
+    {
+        let word = counter_word(counter.number());
+        if self.table.shared.peek(word) == 0 {
+            self.spin_in_rounds(word);
+        }
+    }
+
+    /// The same, apart: so a caller's own code has one look.
+    #[inline(never)]
+    fn spin_in_rounds(&self, word: usize)
+        requires { word < self.now.id.words }
+    {
+        for _ in 0..ROUNDS {
+            if self.is_above_zero_soon(word) {
+                return;
+            }
+            thread::yield_now();
+        }
+    }
+
+    /// One round of looks at a word: whether it is above 0.
+    fn is_above_zero_soon(&self, word: usize) -> bool
+        requires { word < self.now.id.words }
+    {
+        for _ in 0..LOOKS {
+            if self.table.shared.peek(word) != 0 {
+                return true;
+            }
+            hint::spin_loop();
+        }
+        false
+    }
+}
