@@ -1,7 +1,7 @@
 //! The table at work.
 ghost use Rattle.std.specs.Prelude.{◌≡◌, ◌<◌, length};
 
-use sema_table::{Entered, Polled, Posted, Seat, SemaTable, Sleeping};
+use sema_table::{Entered, Polled, Posted, Seat, SemaTable, Sleeping, Tried};
 use std::sync::Wait;
 use waiters::CounterId;
 
@@ -9,7 +9,8 @@ use waiters::CounterId;
 #[inline]
 fn release<R: Wait>(rt: &R, table: &SemaTable, seat: Seat) -> Seat
     requires { (seat.table ≡ table.now) × (0 < length table.now.setting.starts) }
-    ensures { result.table ≡ table.now }
+    ensures own { result.table ≡ table.now }
+    ensures less { 0 < seat.left → result.left < seat.left }
 {
     match table.post(seat, CounterId::new(0)) {
         Ok(Posted::Done(seat)) => seat,
@@ -18,16 +19,19 @@ fn release<R: Wait>(rt: &R, table: &SemaTable, seat: Seat) -> Seat
     }
 }
 
-/// Adds a unit and takes it again, so many times.
+/// Adds a unit and takes it again, until the seat may add no more.
 #[inline(never)]
-pub fn pairs<R: Wait>(rt: &R, table: &SemaTable, seat: Seat, turns: u32) -> Seat
+pub fn pairs<R: Wait>(rt: &R, table: &SemaTable, seat: Seat) -> Seat
     requires { (seat.table ≡ table.now) × (0 < length table.now.setting.starts) }
     ensures { result.table ≡ table.now }
 {
     let mut seat = seat;
-    for _ in 0..turns {
+    while seat.left() > 0 {
         seat = release(rt, table, seat);
-        table.try_acquire(&mut seat, CounterId::new(0));
+        match table.try_acquire(&mut seat, CounterId::new(0)) {
+            Tried::Taken => {}
+            Tried::Zero | Tried::Lost => return seat,
+        }
     }
     seat
 }

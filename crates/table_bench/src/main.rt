@@ -73,12 +73,12 @@ fn time_table(
     tell(rt, case, &start, u64::from(turns))
 }
 
-/// So many pairs of the first seat, or cycles of both.
+/// Pairs of the first seat up to its limit, or so many cycles of both.
 fn work(rt: &impl Wait, table: &SemaTable, first: Seat, second: Seat, pairs: bool, turns: u32)
     requires { (first.table ≡ table.now) × (second.table ≡ table.now) × (0 < length table.now.setting.starts) }
 {
     if pairs {
-        let _ = cases::pairs(rt, table, first, turns);
+        let _ = cases::pairs(rt, table, first);
     } else {
         let _ = cases::cycles(rt, table, first, second, turns);
     }
@@ -90,7 +90,7 @@ const ALONE: Shape = Shape {
     units: 0,
     seats: 2,
     roots: 1,
-    release_limit: 1 << 40,
+    release_limit: 1,
 };
 
 /// Times what one thread does with two seats of a table.
@@ -117,7 +117,11 @@ fn time_alone(
     case: &str,
     turns: u32,
 ) -> Result<()> {
-    let (table, seats) = threads::new_table(alloc, &ALONE)?;
+    let shape = Shape {
+        release_limit: u64::from(turns),
+        ..ALONE
+    };
+    let (table, seats) = threads::new_table(alloc, &shape)?;
     time_seats(rt, &table, seats, case, turns)
 }
 
