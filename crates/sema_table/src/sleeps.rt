@@ -44,11 +44,11 @@ impl SemaTable {
         unreachable!()
     }
 
-    /// Looks at a grant word for a while: whether it is above 0.
-    fn is_granted_soon(&self, word: usize) -> bool
+    /// Looks at a word at most so often: whether it is above 0.
+    pub(crate) fn is_above_zero_soon(&self, word: usize, looks: u32) -> bool
         requires { word < self.now.id.words }
     {
-        for _ in 0..LOOKS {
+        for _ in 0..looks {
             if self.table.shared.peek(word) != 0 {
                 return true;
             }
@@ -64,7 +64,7 @@ impl SemaTable {
         ensures { IsSame token.old token.new }
     {
         let grant = self.grant_word(seat);
-        if self.is_granted_soon(grant) {
+        if self.is_above_zero_soon(grant, LOOKS) {
             return;
         }
         let shared = &self.table.shared;

@@ -2,7 +2,7 @@
 ghost use Rattle.std.specs.Prelude.{◌<◌, length};
 
 use crate::sema_table::{SemaTable, counter_word};
-use std::{hint, thread};
+use std::thread;
 use waiters::CounterId;
 
 /// How many rounds a spin looks.
@@ -30,23 +30,10 @@ impl SemaTable {
         requires { word < self.now.id.words }
     {
         for _ in 0..ROUNDS {
-            if self.is_above_zero_soon(word) {
+            if self.is_above_zero_soon(word, LOOKS) {
                 return;
             }
             thread::yield_now();
         }
-    }
-
-    /// One round of looks at a word: whether it is above 0.
-    fn is_above_zero_soon(&self, word: usize) -> bool
-        requires { word < self.now.id.words }
-    {
-        for _ in 0..LOOKS {
-            if self.table.shared.peek(word) != 0 {
-                return true;
-            }
-            hint::spin_loop();
-        }
-        false
     }
 }
