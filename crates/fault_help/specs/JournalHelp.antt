@@ -8,7 +8,9 @@ use Rattle.fault_help.specs.Explained.{shown}
 unfoldable pub form_text : List ℕ → List ℕ
 form_text line =
     codes "no line is spelled \"" ++ line
-    ++ codes "\" here: counter N and list F come first, and then add C S, add C S many N, take C S, queue C S.T, queue C S.T lifo, leave C S.T S, ticket L S, grant L UPTO S, each of a counter or list that is declared; a line feed ends each line"
+    ++ (codes "\" here: counter N and list F come first, and then add C S, add C S many N, take C S, queue C S.T, "
+    ++ (codes "queue C S.T lifo, leave C S.T S, ticket L S, grant L UPTO S, each of a counter or list that is declared; "
+    ++ codes "a line feed ends each line"))
 
 abbrev pub help_about : ℕ → List ℕ → List ℕ
 help_about number line = codes "line " ++ (decimal number ++ (codes ": " ++ (form_text line ++ 10 ∷ [])))

@@ -6,8 +6,9 @@
 //!
 //! The other cases have a thread for each worker, and close the table at the end: whether nobody was lost, and no unit. In
 //! `threads` each releases one counter and takes its unit, in every other turn with handoff and lifo; in `spread` one of 1,000
-//! counters over 251 roots, drawn anew in each turn. Both try before they acquire, and end by their release limit. In `hands`, `lifo` and `handoff` two hand a unit back and forth over two counters, each waiting
-//! for the other, in order, with lifo and with handoff, and in `two` two units by one add: an operation is the way there and back.
+//! counters over 251 roots, drawn anew in each turn. Both try before they acquire, and end by their release limit. In `hands`,
+//! `lifo` and `handoff` two hand a unit back and forth over two counters, each waiting for the other, in order, with lifo and with
+//! handoff, and in `two` two units by one add: an operation is the way there and back.
 #![tactic(auto)]
 
 ghost use Rattle.std.specs.Prelude.{◌≡◌, ◌<◌, All, length};

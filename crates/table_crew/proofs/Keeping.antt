@@ -1,7 +1,8 @@
 -- What a thread of a crew has kept, of which its promise is known; and one turn more.
-use Rattle.std.proofs.Common.{◌≡◌, ◌⊎◌, inl, inr, Bool, ℕ, ◌+◌, length, add-one, sym, subst}
+use Rattle.std.proofs.Common.{◌≡◌, ◌⊎◌, inl, inr, Bool, ℕ, ◌+◌, length, add-one, refl, sym, subst}
 use Rattle.sema_table.specs.declared.answers.Tried.{Tried}
 use Rattle.sema_table.specs.declared.answers.Tried.TheVariants.{Taken, Zero, Lost}
+use Rattle.sema_table.specs.Tries.{IsTried}
 use Rattle.sema_table.specs.Whole.{IsAcquired}
 use Rattle.sema_table.specs.Seats.{TableModel, SeatModel}
 use Rattle.table_crew.specs.declared.work.Work.{Work}
@@ -20,13 +21,14 @@ pub one_more : (work : Work) (first : SeatModel) (n : ℕ) (s t : SeatModel) →
     → IsTurn work (length first.table.setting.starts) first.number n s t → HasRun work first (n + 1) t
 one_more work first n s t ran turn = subst (λ (k : ℕ). HasRun work first k t) (sym (add-one n)) (s, ran, turn)
 
-module _ (tried : Tried) (s : SeatModel) (c : ℕ) (lifo : Bool) (t : SeatModel) where
-  pub has_taken : tried ≡ Taken → t ≡ s → Follows tried s c lifo t
-  has_taken is same = subst (λ (x : Tried). Follows x s c lifo t) (sym is) same
+-- a unit is taken by the try that took it, and by the acquire after one that took none
+module _ (s : SeatModel) (c : ℕ) (lifo : Bool) (tried : Tried) (u : SeatModel) (first : IsTried s c tried u) where
+  pub by_try : tried ≡ Taken → Takes s c lifo u
+  by_try is = (tried, u, first, subst (λ (x : Tried). Follows x u c lifo u) (sym is) refl)
 
-  pub has_acquired : (tried ≡ Zero) ⊎ (tried ≡ Lost) → IsAcquired s c lifo t → Follows tried s c lifo t
-  has_acquired (inl zero) acquired = subst (λ (x : Tried). Follows x s c lifo t) (sym zero) acquired
-  has_acquired (inr lost) acquired = subst (λ (x : Tried). Follows x s c lifo t) (sym lost) acquired
+  pub by_acquire : (t : SeatModel) → (tried ≡ Zero) ⊎ (tried ≡ Lost) → IsAcquired u c lifo t → Takes s c lifo t
+  by_acquire t (inl zero) acquired = (tried, u, first, subst (λ (x : Tried). Follows x u c lifo t) (sym zero) acquired)
+  by_acquire t (inr lost) acquired = (tried, u, first, subst (λ (x : Tried). Follows x u c lifo t) (sym lost) acquired)
 
 -- one round more, of a counter that is 0, with handoff and lifo as the number of the units says that were left
 pub one_round : (first : SeatModel) (m : ℕ) (s : SeatModel) (k left : ℕ) (u t : SeatModel) → HasRun Rounds first m s → k ≡ 0

@@ -54,10 +54,14 @@ abbrev pub HasRun : Work → SeatModel → ℕ → SeatModel → Type 0
 HasRun work s zero t = t ≡ s
 HasRun work s (suc n) t = (u : SeatModel) × HasRun work s n u × IsTurn work (length s.table.setting.starts) s.number n u t
 
--- so many turns; but rounds and spreads go on until the seat may add no more
+-- turns, one after the other, until the seat might add no more
+abbrev pub HasRunOut : Work → SeatModel → SeatModel → Type 0
+HasRunOut work s t = (m : ℕ) × HasRun work s m t × (t.left ≡ 0)
+
+-- so many turns; but rounds and spreads go on as long as the seat may add
 abbrev pub HasDone : Work → SeatModel → ℕ → SeatModel → Type 0
-HasDone Rounds s n t = (m : ℕ) × HasRun Rounds s m t × (t.left ≡ 0)
-HasDone Spread s n t = (m : ℕ) × HasRun Spread s m t × (t.left ≡ 0)
+HasDone Rounds s n t = HasRunOut Rounds s t
+HasDone Spread s n t = HasRunOut Spread s t
 HasDone work s n t = HasRun work s n t
 
 -- the seat is one of this table, and has done so many turns, from how it was at first

@@ -2,7 +2,7 @@
 //! measured with them.
 
 ghost use Rattle.std.specs.Prelude.{◌≡◌, ◌%◌, ◌<◌, length};
-ghost use Rattle.table_crew.specs.Turns.{Releases, ReleasesTwo, HasRun, HasDone};
+ghost use Rattle.table_crew.specs.Turns.{Releases, ReleasesTwo, HasRun, HasRunOut, HasDone};
 
 use sema_table::{PostedMany, Seat, SemaTable, Tried};
 use std::sync::Wait;
@@ -129,7 +129,7 @@ fn hands_two<R: Wait>(rt: &R, table: &SemaTable, seat: Seat, turns: u32) -> Seat
 fn rounds<R: Wait>(rt: &R, table: &SemaTable, seat: Seat) -> Seat
     requires { (seat.table ≡ table.now) × (0 < length table.now.setting.starts) }
     ensures same { (result.table ≡ seat.table) × (result.number ≡ seat.number) }
-    ensures done { HasDone Work.Rounds seat 0 result }
+    ensures out { HasRunOut Work.Rounds seat result }
 {
     let first = CounterId::new(0);
     let mut seat = seat;
@@ -163,7 +163,7 @@ fn one_of(drawn: u64, many: u32) -> u32
 fn spread<R: Wait>(rt: &R, table: &SemaTable, seat: Seat) -> Seat
     requires { (seat.table ≡ table.now) × (0 < length table.now.setting.starts) }
     ensures same { (result.table ≡ seat.table) × (result.number ≡ seat.number) }
-    ensures done { HasDone Work.Spread seat 0 result }
+    ensures out { HasRunOut Work.Spread seat result }
 {
     let many = table.counters();
     let mut drawn = FIRST_DRAWN.wrapping_add(u64::from(seat.id().number()));
@@ -212,7 +212,7 @@ impl Work {
         }
     }
 
-    /// So many turns of a seat, or those that its limit lets it do.
+    /// So many turns of a seat; of `Rounds` and `Spread` as many as its limit lets it do.
     pub(crate) fn turns<R: Wait>(self, rt: &R, table: &SemaTable, seat: Seat, turns: u32) -> Seat
         requires { (seat.table ≡ table.now) × (0 < length table.now.setting.starts) }
         ensures same { (result.table ≡ seat.table) × (result.number ≡ seat.number) }
