@@ -13,9 +13,10 @@ pub(crate) fn run_again<'s>(
     schedule: &[SeatId],
 ) -> Result<World<'s>, RunRefused> {
     match run(alloc, scenario, schedule) {
-        Err(RunRefused::NoStart | RunRefused::AtStep(_, StepRefused::NoMemory)) => run(
-            alloc, scenario, schedule,
-        ),
+        Err(RunRefused {
+            cause: StepRefused::NoMemory,
+            ..
+        }) => run(alloc, scenario, schedule),
         answer => answer,
     }
 }

@@ -55,7 +55,10 @@ static REFUSED: [Row; 5] = [
 fn is_refused(rt: &impl Abort, alloc: Global, row: &Row) {
     let scenario = scenario(rt, alloc, row.0);
     let schedule = seats_again(rt, alloc, row.1);
-    let refused = RunRefused::AtStep(row.2, row.3);
+    let refused = RunRefused {
+        at: row.2,
+        cause: row.3,
+    };
     assert!(rt; run_again(alloc, &scenario, &schedule).err() == Some(refused));
 }
 

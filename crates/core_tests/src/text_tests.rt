@@ -24,32 +24,13 @@ static OF_PARTS: [(ScenarioRefused, &str); 3] = [
     (ScenarioRefused::Ticket, "ticket"),
 ];
 
-static OF_RUNS: [(RunRefused, &str); 7] = [
-    (RunRefused::NoStart, "start: no memory"),
-    (
-        RunRefused::AtStep(0, StepRefused::NoSuchSeat),
-        "step 0: no such seat",
-    ),
-    (
-        RunRefused::AtStep(1, StepRefused::SeatEnded),
-        "step 1: the seat has ended",
-    ),
-    (
-        RunRefused::AtStep(2, StepRefused::LockHeld),
-        "step 2: the lock is held",
-    ),
-    (
-        RunRefused::AtStep(15, StepRefused::Asleep),
-        "step 15: the seat is asleep",
-    ),
-    (
-        RunRefused::AtStep(4, StepRefused::SeatFailed),
-        "step 4: the seat has failed",
-    ),
-    (
-        RunRefused::AtStep(5, StepRefused::NoMemory),
-        "step 5: no memory",
-    ),
+static OF_RUNS: [(usize, StepRefused, &str); 6] = [
+    (0, StepRefused::NoSuchSeat, "step 0: no such seat"),
+    (1, StepRefused::SeatEnded, "step 1: the seat has ended"),
+    (2, StepRefused::LockHeld, "step 2: the lock is held"),
+    (15, StepRefused::Asleep, "step 15: the seat is asleep"),
+    (4, StepRefused::SeatFailed, "step 4: the seat has failed"),
+    (5, StepRefused::NoMemory, "step 5: no memory"),
 ];
 
 #[test]
@@ -57,8 +38,12 @@ fn refusals_are_printed(rt: HostRuntime) {
     for row in &OF_PARTS {
         is_printed(&rt, rt.alloc(), &row.0, row.1);
     }
-    for row in &OF_RUNS {
-        is_printed(&rt, rt.alloc(), &row.0, row.1);
+    for (at, cause, text) in &OF_RUNS {
+        let refused = RunRefused {
+            at: *at,
+            cause: *cause,
+        };
+        is_printed(&rt, rt.alloc(), &refused, text);
     }
 }
 

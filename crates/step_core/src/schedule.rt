@@ -9,14 +9,14 @@ ghost use Rattle.step_core.specs.State.{run_of, ShowsLawful, RestsAtEnd};
 use crate::world::World;
 use scenario::Scenario;
 use std::alloc::Global;
-use step_table::RunRefused;
+use step_table::{RunRefused, StepRefused};
 use waiters::SeatId;
 
 /// Runs the seats in the order of the schedule, from the start of the scenario. The world is that of the schedule, it
 /// is lawful, and where no seat can run it is at rest. Where each add to a wait group is fair, no seat has failed, and
 /// each group's counter is the sum of its adds. Each step that grants tickets grants the least ungranted one alone, or
 /// all that were handed out when its L5 read the wait word. A schedule is refused at its first step that can't be run, want
-/// of memory for its entry among the causes, or before them all where there is no memory for the start.
+/// of memory for its entry among the causes; want of memory for the start is told of step 0.
 pub fn run<'s>(
     alloc: Global,
     scenario: &'s Scenario,
@@ -32,11 +32,14 @@ pub fn run<'s>(
     ensures refused { IfErr result (λ refused. IsRefusedRun refused scenario.now schedule.now) }
 {
     let Ok(mut world) = World::new(alloc, scenario) else {
-        return Err(RunRefused::NoStart);
+        return Err(RunRefused {
+            at: 0,
+            cause: StepRefused::NoMemory,
+        });
     };
     for (at, seat) in schedule.iter().enumerate() {
         if let Err(cause) = world.step(*seat) {
-            return Err(RunRefused::AtStep(at, cause));
+            return Err(RunRefused { at, cause });
         }
     }
     // what is ensured of the parts and of the journal says that they make a scenario, and that the world is lawful

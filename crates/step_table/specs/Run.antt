@@ -1,12 +1,11 @@
 -- A scenario's run: each seat makes its calls one after the other, and a schedule says whose row runs next.
-use Rattle.std.specs.Prelude.{◌≡◌, ℕ, zero, suc, ◌+◌, nat_lt, cond, Bool, true, false, List, [], ◌∷◌, ◌++◌, Option, Some, None, length, slice_get, slice_index_or, take}
+use Rattle.std.specs.Prelude.{◌≡◌, ◌⊎◌, ℕ, zero, suc, ◌+◌, nat_lt, cond, Bool, true, false, List, [], ◌∷◌, ◌++◌, Option, Some, None, length, slice_get, slice_index_or, take}
 use Rattle.step_table.specs.declared.call.Call.{Call}
 use Rattle.step_table.specs.declared.entry.Entry.{Entry}
 use Rattle.step_table.specs.declared.list_place.ListWord.{ListWord}
 use Rattle.step_table.specs.declared.list_place.ListWord.TheVariants as list_word
 use Rattle.step_table.specs.declared.parts.Parts.{Parts}
 use Rattle.table_names.specs.declared.refusal.RunRefused.{RunRefused}
-use Rattle.table_names.specs.declared.refusal.RunRefused.TheVariants.{NoStart, AtStep}
 use Rattle.table_names.specs.declared.refusal.StepRefused.{StepRefused}
 use Rattle.table_names.specs.declared.refusal.StepRefused.TheVariants.{NoSuchSeat, SeatEnded, LockHeld, Asleep, SeatFailed, NoMemory}
 use Rattle.step_table.specs.declared.standing.Standing.{Standing}
@@ -126,7 +125,7 @@ pub record IsRefusedAt (parts : Parts) (schedule : List ℕ) (at : ℕ) (cause :
   pub before : AllRun parts (take at schedule)
   pub here : (i : ℕ) × (slice_get schedule at ≡ Some i) × IsRefusedBy cause parts (reached parts (take at schedule)) i
 
--- a schedule is refused: there was no memory for the start, or this is its first step that can't be run
+-- a schedule is refused: there was no memory for the start, which is told of step 0, or this is its first step that can't be run
 abbrev pub IsRefusedRun : RunRefused → Parts → List ℕ → Type 0
-IsRefusedRun NoStart parts schedule = Unit {0}
-IsRefusedRun (AtStep at cause) parts schedule = IsRefusedAt parts schedule at cause
+IsRefusedRun refused parts schedule =
+    ((refused.at ≡ 0) × (refused.cause ≡ NoMemory)) ⊎ IsRefusedAt parts schedule refused.at refused.cause

@@ -6,7 +6,7 @@ use std::marker::Model;
 
 /// A wait group, by its number from 0.
 #[derive(Clone, Copy, Debug, PartialEq, Eq, Drop)]
-pub struct GroupId(u32);
+pub struct GroupId(pub u32);
 
 impl Model for GroupId {
     ghost Value = { ℕ };

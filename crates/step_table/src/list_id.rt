@@ -6,7 +6,7 @@ use std::marker::Model;
 
 /// A notify list, by its number from 0.
 #[derive(Clone, Copy, Debug, PartialEq, Eq, Drop)]
-pub struct ListId(u32);
+pub struct ListId(pub u32);
 
 impl Model for ListId {
     ghost Value = { ℕ };

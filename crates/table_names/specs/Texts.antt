@@ -4,7 +4,6 @@ use Rattle.std.specs.Fmt.{decimal}
 use Rattle.table_names.specs.declared.refusal.StepRefused.{StepRefused}
 use Rattle.table_names.specs.declared.refusal.StepRefused.TheVariants.{NoSuchSeat, SeatEnded, LockHeld, Asleep, SeatFailed, NoMemory}
 use Rattle.table_names.specs.declared.refusal.RunRefused.{RunRefused}
-use Rattle.table_names.specs.declared.refusal.RunRefused.TheVariants.{NoStart, AtStep}
 use Rattle.table_names.specs.declared.refusal.ScenarioRefused.{ScenarioRefused}
 use Rattle.table_names.specs.declared.refusal.ScenarioRefused.TheVariants.{OutOfLimits, Undeclared, Ticket}
 
@@ -21,7 +20,6 @@ step_refused_text Asleep = codes "the seat is asleep"
 step_refused_text SeatFailed = codes "the seat has failed"
 step_refused_text NoMemory = codes "no memory"
 
--- the start, or the step's number, and the cause
+-- the step's number, and the cause
 abbrev pub run_refused_text : RunRefused → List ℕ
-run_refused_text NoStart = codes "start: no memory"
-run_refused_text (AtStep at cause) = codes "step " ++ decimal at ++ codes ": " ++ step_refused_text cause
+run_refused_text refused = codes "step " ++ decimal refused.at ++ codes ": " ++ step_refused_text refused.cause

@@ -63,23 +63,21 @@ impl fmt::Display for StepRefused {
 
 impl Error for StepRefused {}
 
-/// Why a schedule wasn't run.
+/// Why a schedule wasn't run. Want of memory for the start is told of step 0.
 #[derive(Clone, Copy, Debug, PartialEq, Eq, Drop)]
-pub enum RunRefused {
-    /// There was no memory for the start.
-    NoStart,
-    /// The first step that can't be run, counted from 0, and why.
-    AtStep(usize, StepRefused),
+pub struct RunRefused {
+    /// The first step that can't be run, counted from 0.
+    pub at: usize,
+    /// Why it can't.
+    pub cause: StepRefused,
 }
 
 impl fmt::Display for RunRefused {
     ghost output = { λ refused. Some (run_refused_text refused) };
 
     fn fmt<W: fmt::Write>(&self, f: &mut fmt::Formatter<W>) -> fmt::Result {
-        match *self {
-            RunRefused::NoStart => f.write_str("start: no memory"),
-            RunRefused::AtStep(at, cause) => write!(f, "step {at}: {cause}"),
-        }
+        let RunRefused { at, cause } = *self;
+        write!(f, "step {at}: {cause}")
     }
 }
 

@@ -6,7 +6,7 @@ use std::marker::Model;
 
 /// A counter, by its number from 0.
 #[derive(Clone, Copy, Debug, PartialEq, Eq, PartialOrd, Ord, Hash, Drop)]
-pub struct CounterId(u32);
+pub struct CounterId(pub u32);
 
 impl Model for CounterId {
     ghost Value = { ℕ };

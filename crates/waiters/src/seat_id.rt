@@ -6,7 +6,7 @@ use std::marker::Model;
 
 /// A seat, by its number from 0.
 #[derive(Clone, Copy, Debug, PartialEq, Eq, PartialOrd, Ord, Hash, Drop)]
-pub struct SeatId(u16);
+pub struct SeatId(pub u16);
 
 impl Model for SeatId {
     ghost Value = { ℕ };
