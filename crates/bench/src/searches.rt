@@ -4,7 +4,6 @@ use anyhow::{Result, bail};
 use scenario_search::{Found, explore, read_scenario};
 use std::alloc::Global;
 use std::time::{Clock, Instant};
-use step_core::Scenario;
 
 /// How many steps a schedule has at most: enough for each of the scenarios here.
 const DEPTH: u32 = 64;
@@ -25,9 +24,8 @@ fn worlds(name: &str) -> Result<u128> {
 pub fn world(clock: &impl Clock, alloc: Global, name: &str, text: &str) -> Result<(u128, u128)> {
     let worlds = worlds(name)?;
     let request = read_scenario(alloc, text.as_bytes())?;
-    let scenario = Scenario::of(request.parts)?;
     let began = Instant::now(clock)?;
-    let found = explore(alloc, &scenario, request.property, DEPTH)?;
+    let found = explore(alloc, &request, DEPTH)?;
     let took = began.elapsed(clock)?.as_nanos();
     if let Found::Bad { .. } = found {
         bail!("{name} ends early");

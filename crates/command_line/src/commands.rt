@@ -94,19 +94,25 @@ fn explore_command<'a>(alloc: Global) -> Draft<'a> {
 }
 
 /// The schedule that is replayed.
-fn schedule_argument<'a>(alloc: Global) -> Arg<'a> {
-    Arg::new(alloc, "schedule")
+fn schedule_argument<'a>(alloc: Global) -> Result<Arg<'a>, AllocError> {
+    let schedule = Arg::new(alloc, "schedule")
         .long("schedule")
         .value_name("S")
         .allow_hyphen_values(true)
-        .required(true)
-        .help(
-            "The numbers of the seats that step, one space apart, at most 256; \
-               or -: the schedule of an answer on standard input",
-        )
+        .help("The numbers of the seats that step, one space apart, at most 256");
+    schedule.required_unless_present("schedule-of")
 }
 
-/// The scenario's file, where standard input has the schedule.
+/// The answer whose schedule is replayed.
+fn answer_argument<'a>(alloc: Global) -> Result<Arg<'a>, AllocError> {
+    let answer = Arg::new(alloc, "schedule-of")
+        .long("schedule-of")
+        .value_name("FILE")
+        .help("The answer of explore or check whose schedule is told; - for standard input");
+    answer.conflicts_with("schedule")
+}
+
+/// The scenario's file, where standard input has the answer.
 fn scenario_argument<'a>(alloc: Global) -> Result<Arg<'a>, AllocError> {
     let scenario = Arg::new(alloc, "scenario")
         .long("scenario")
@@ -120,7 +126,8 @@ fn replay_command<'a>(alloc: Global) -> Draft<'a> {
     let about = "Tell what a schedule does in the scenario";
     let drawn = "Draw the steps as a table: a column a seat, and one for each word";
     plain_command(alloc, "replay", about)
-        .arg(schedule_argument(alloc))
+        .made_arg(schedule_argument(alloc))
+        .made_arg(answer_argument(alloc))
         .arg(variant_argument(alloc))
         .arg(flag_argument(alloc, "table", drawn))
         .made_arg(scenario_argument(alloc))

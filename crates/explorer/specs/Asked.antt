@@ -12,10 +12,10 @@ use Rattle.scenario_search.specs.Exit.{status_of}
 use Rattle.scenario_search.specs.Commands.{IsAnswerOf, IsReplyOf}
 use Rattle.scenario_search.specs.Line.{line}
 use Rattle.streams.specs.Writing.{WritesBeginning}
-use Rattle.scenario_search.specs.Told.{IsToldOf, WantsMemory}
+use Rattle.scenario_search.specs.Told.{IsToldOf, WantsMemory, TellsAll, TellsBeginning}
 use Rattle.program_words.specs.declared.asked.Asked.{Asked}
 use Rattle.program_words.specs.declared.asked.Asked.TheVariants.{Once, OfScenario, Judge, Threads, Help, Mistake, NoText, NoMemory}
-use Rattle.program_words.specs.Asked.{with_schedule}
+use Rattle.program_words.specs.Asked.{IsWithinLimits, with_schedule}
 use Rattle.explorer.specs.JudgeText.{IsJudgeReplyOf, IsJudgeToldOf}
 use Rattle.explorer.specs.OnceText.{IsOnceAnswer}
 use Rattle.explorer.specs.ThreadsText.{IsThreadsAnswer}
@@ -24,7 +24,7 @@ use Rattle.explorer.specs.ThreadsText.{IsThreadsAnswer}
 -- answer
 abbrev pub IsTextFor : Asked → Option (List ℕ) → Option (List ℕ) → List ℕ → Exit → Type 0
 IsTextFor Once old new text exit = IsOnceAnswer text exit
-IsTextFor (OfScenario command file threads) old new text exit = IsToldOf (IsAnswerOf command) old new text exit
+IsTextFor (OfScenario command file answer threads) old new text exit = IsToldOf (IsAnswerOf command) old new text exit
 IsTextFor (Judge file) old new text exit = IsJudgeToldOf old new text exit
 IsTextFor (Threads workers rounds) old new text exit = IsThreadsAnswer workers rounds text exit
 IsTextFor (Help told) old new text exit = (text ≡ string_bytes told) × (exit ≡ NothingBad)
@@ -34,13 +34,13 @@ IsTextFor NoMemory old new text exit = WantsMemory text exit
 
 -- and this is told beside: only a command that reads a text tells anything there
 abbrev pub IsAnswerTo : Asked → Option (List ℕ) → Option (List ℕ) → Option (List ℕ) → List ℕ → Exit → Type 0
-IsAnswerTo (OfScenario command file threads) old new aside text exit = IsReplyOf command old new aside text exit
+IsAnswerTo (OfScenario command file answer threads) old new aside text exit = IsReplyOf command old new aside text exit
 IsAnswerTo (Judge file) old new aside text exit = IsJudgeReplyOf old new aside text exit
 IsAnswerTo asked old new aside text exit = IsTextFor asked old new text exit × (aside ≡ None)
 
 -- the command reads an input
 abbrev pub reads_input : Asked → Bool
-reads_input (OfScenario command file threads) = true
+reads_input (OfScenario command file answer threads) = true
 reads_input (Judge file) = true
 reads_input _ = false
 
@@ -69,17 +69,28 @@ abbrev pub status_after : Result Told IoFault → ℕ
 status_after (Ok told) = status_of told.exit
 status_after (Err fault) = 2
 
--- nothing is asked but to tell that a stream couldn't be read, or that memory was short
-abbrev pub IsUnread : Asked → Type 0
-IsUnread (Mistake told) = string_bytes told ≡ fault_text Read
-IsUnread NoMemory = Unit {0}
-IsUnread _ = ⊥
-
--- where a schedule is awaited: the same with some schedule, or the same, or that no schedule could be read
+-- what is asked once the answer is read whose schedule is replayed: the same with some schedule; or the same, where the answer
+-- tells none; or memory was short
 abbrev pub IsScheduled : Asked → Asked → Type 0
 IsScheduled asked scheduled =
-    ((schedule : Bor (List ℕ)) × (scheduled ≡ with_schedule asked schedule)) ⊎ (scheduled ≡ asked) ⊎ IsUnread scheduled
+    ((schedule : Bor (List ℕ)) × (scheduled ≡ with_schedule asked schedule)) ⊎ (scheduled ≡ asked) ⊎ (scheduled ≡ NoMemory)
 
 -- the text went out, or where the sink has failed a beginning of it
 abbrev pub WritesAsFar : Option (List ℕ) → Option (List ℕ) → Bool → List ℕ → Type 0
 WritesAsFar old new failed text = Appends old new text ⊎ (IsTrue failed × WritesBeginning old new text)
+
+-- the program did what is asked, on a source with these bytes before and after, which failed or not; and so with its output
+pub record HasDone (asked : Asked) (read unread : Option (List ℕ)) (broken : Bool) (old new : Option (List ℕ)) (cut : Bool)
+    (status : ℕ) : Type 0 where
+  pub whole : broken ≡ false → cut ≡ false → (exit : Exit) × (aside : Option (List ℕ)) × (status ≡ status_of exit)
+      × TellsAll (IsAnswerTo asked read unread aside) old new exit
+  pub begun : IsTrue cut → (status ≡ 2) × TellsBeginning (IsTextFor asked read unread) old new
+  pub unwritten : IsTrue broken → (status ≡ 2) × (new ≡ old)
+
+-- whatever its words, it did something that words may ask for, within its limits, on some source; or it ended with 2, and nothing
+-- went out
+abbrev pub HasDoneSome : Option (List ℕ) → Option (List ℕ) → Bool → ℕ → Type 0
+HasDoneSome old new cut status =
+    ((status ≡ 2) × (new ≡ old))
+    ⊎ ((asked : Asked) × IsWithinLimits asked × (read : Option (List ℕ)) × (unread : Option (List ℕ)) × (broken : Bool)
+    × HasDone asked read unread broken old new cut status)

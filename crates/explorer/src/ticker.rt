@@ -1,7 +1,11 @@
 //! The line that tells, while a search runs, how far it has come.
 
+ghost use Rattle.std.specs.Prelude.{Some};
+ghost use Rattle.explorer.specs.ProgressText.{progress_text};
+
 use scenario_search::{Extent, Sink, StopWatch, Watch, write_all};
 use std::alloc::Global;
+use std::fmt;
 use std::time::{Clock, Instant};
 
 /// How many milliseconds a search runs before anything is told of it.
@@ -9,13 +13,28 @@ const FIRST: u64 = 1000;
 /// How many milliseconds a line stands at least.
 const BETWEEN: u64 = 100;
 
+/// How far a search has come, as it is told while it runs.
+#[derive(Clone, Copy, Drop)]
+struct Progress {
+    extent: Extent,
+}
+
+impl fmt::Display for Progress {
+    ghost output = { λ progress. Some (progress_text progress.extent.worlds progress.extent.depth) };
+
+    fn fmt<W: fmt::Write>(&self, f: &mut fmt::Formatter<W>) -> fmt::Result {
+        let Extent { worlds, depth, .. } = self.extent;
+        write!(f, "worlds {worlds}, depth {depth}")
+    }
+}
+
 /// Takes the time of a search, and tells how far it has come where that is asked for: on one line, which it keeps up to date
 /// and takes away at the end. What can't be told is left out.
 #[derive(Drop)]
 pub struct Ticker<'r, T, E> {
     clock: &'r T,
     alloc: Global,
-    err: E,
+    err: &'r mut E,
     told: bool,
     began: Option<Instant>,
     /// From when on a line may be told.
@@ -26,7 +45,7 @@ pub struct Ticker<'r, T, E> {
 
 impl<'r, T: Clock, E: Sink> Ticker<'r, T, E> {
     /// The time begins with the search. Where `told` is false the line is left out.
-    pub fn new(clock: &'r T, alloc: Global, err: E, told: bool) -> Ticker<'r, T, E> {
+    pub fn new(clock: &'r T, alloc: Global, err: &'r mut E, told: bool) -> Ticker<'r, T, E> {
         Ticker {
             clock,
             alloc,
@@ -53,9 +72,9 @@ impl<'r, T: Clock, E: Sink> Ticker<'r, T, E> {
 
     /// Puts this in place of the line.
     fn tell(&mut self, extent: Extent) {
-        let Extent { worlds, depth, .. } = extent;
-        if let Ok(line) = format!(in self.alloc; "\r\x1b[Kworlds {worlds}, depth {depth}") {
-            self.stands = write_all(&mut self.err, line.as_bytes()).is_ok();
+        let progress = Progress { extent };
+        if let Ok(line) = format!(in self.alloc; "\r\x1b[K{progress}") {
+            self.stands = write_all(self.err, line.as_bytes()).is_ok();
         }
     }
 }
@@ -74,7 +93,7 @@ impl<T: Clock, E: Sink> StopWatch for Ticker<'_, T, E> {
     fn stop(&mut self) -> u64 {
         if self.stands {
             self.stands = false;
-            let _ = write_all(&mut self.err, b"\r\x1b[K");
+            let _ = write_all(self.err, b"\r\x1b[K");
         }
         self.elapsed()
     }

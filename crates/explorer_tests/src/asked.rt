@@ -3,11 +3,18 @@
 ghost use Rattle.program_words.specs.Asked.{IsWithinLimits};
 
 use crate::devices::{Calls, Giving, SOUND, Taking};
-use explorer::{Asked, Flagged, NO_MEMORY, StopWatch, parklot_io, read_words};
-use std::alloc::Global;
+use explorer::{Asked, Flagged, NO_MEMORY, StopWatch, asked_io, parklot_io};
+use std::alloc::{AllocError, Global};
 use std::process::Abort;
+use std::rt::Files;
 use std::sync::Wait;
 use std::thread::Threads;
+use std::time::Clock;
+
+/// What the program asks of its runtime, and a test beside.
+pub(crate) trait Host: Abort + Files + Threads + Wait + Clock + Sync {}
+
+impl<R: Abort + Files + Threads + Wait + Clock + Sync> Host for R {}
 
 /// How the program's input and its two streams behave.
 #[derive(Clone, Copy, Drop)]
@@ -38,7 +45,7 @@ pub(crate) fn run(
     let mut reader = Flagged::new(Giving::new(input, devices.input));
     let mut out = Flagged::new(Taking::new(alloc, devices.out));
     let mut err = Flagged::new(Taking::new(alloc, devices.err));
-    let status = parklot_io(rt, alloc, asked, &mut reader, &mut out, &mut err, watch);
+    let status = asked_io(rt, alloc, asked, &mut reader, &mut out, &mut err, watch);
     (
         out.into_inner().into_taken(),
         err.into_inner().into_taken(),
@@ -46,16 +53,36 @@ pub(crate) fn run(
     )
 }
 
-/// The same for these words.
+/// The words, to be handed over.
+fn owned(alloc: Global, words: &[&str]) -> Result<Vec<String>, AllocError> {
+    let mut owned = Vec::new(alloc);
+    for word in words {
+        owned.push(String::from_str(alloc, word)?)?;
+    }
+    Ok(owned)
+}
+
+/// What goes to the two streams of the program for these words, with this input, and its status.
 pub(crate) fn ask(
-    rt: &(impl Threads + Wait + Sync),
+    rt: &impl Host,
     alloc: Global,
     words: &[&str],
     input: &[u8],
     devices: Devices,
 ) -> (Vec<u8>, Vec<u8>, u8) {
-    let asked = read_words(alloc, words);
-    run(rt, alloc, &asked, input, devices, &mut ())
+    let mut reader = Flagged::new(Giving::new(input, devices.input));
+    let mut out = Flagged::new(Taking::new(alloc, devices.out));
+    let mut err = Flagged::new(Taking::new(alloc, devices.err));
+    let status = match owned(alloc, words) {
+        Ok(words) => parklot_io(rt, alloc, words, &mut reader, &mut out, &mut err),
+        // as the program does where it can't have its words
+        Err(_) => 2,
+    };
+    (
+        out.into_inner().into_taken(),
+        err.into_inner().into_taken(),
+        status,
+    )
 }
 
 /// Whether memory may have been short: at most that went out, or a beginning of it.
@@ -80,7 +107,7 @@ fn has(stream: &[u8], text: &[u8], whole: bool) -> bool {
 }
 
 impl Told<'_> {
-    fn fits(&self, out: &[u8], err: &[u8], status: u8) -> bool {
+    pub(crate) fn fits(&self, out: &[u8], err: &[u8], status: u8) -> bool {
         status == self.status
             && has(out, self.out, self.whole)
             && has(err, self.err, self.whole && !self.helped)
@@ -89,7 +116,7 @@ impl Told<'_> {
 
 /// This is what the program tells over these devices, and it ends so.
 pub(crate) fn tells_over(
-    rt: &(impl Abort + Threads + Wait + Sync),
+    rt: &impl Host,
     alloc: Global,
     words: &[&str],
     input: &[u8],
@@ -117,7 +144,7 @@ fn help_beside(told: &str) -> &'static [u8] {
 
 /// This is all that the program tells, on its output, and it ends so. Beside a refusal there is help.
 pub(crate) fn tells(
-    rt: &(impl Abort + Threads + Wait + Sync),
+    rt: &impl Host,
     alloc: Global,
     words: &[&str],
     input: &[u8],
@@ -137,7 +164,7 @@ pub(crate) fn tells(
 
 /// A replay of this schedule tells this of the input, and no more, and ends so.
 pub(crate) fn replays(
-    rt: &(impl Abort + Threads + Wait + Sync),
+    rt: &impl Host,
     alloc: Global,
     input: &[u8],
     spelled: &str,
@@ -149,12 +176,7 @@ pub(crate) fn replays(
 }
 
 /// The program ends well. Its output begins with this text, and it tells nothing else.
-pub(crate) fn answers(
-    rt: &(impl Abort + Threads + Wait + Sync),
-    alloc: Global,
-    words: &[&str],
-    text: &str,
-) {
+pub(crate) fn answers(rt: &impl Host, alloc: Global, words: &[&str], text: &str) {
     let told = Told {
         out: text.as_bytes(),
         err: b"",
@@ -166,12 +188,7 @@ pub(crate) fn answers(
 }
 
 /// These words are a mistake: what is told begins with this text, and nothing goes to the output.
-pub(crate) fn is_a_mistake(
-    rt: &(impl Abort + Threads + Wait + Sync),
-    alloc: Global,
-    words: &[&str],
-    text: &str,
-) {
+pub(crate) fn is_a_mistake(rt: &impl Host, alloc: Global, words: &[&str], text: &str) {
     let told = Told {
         out: b"",
         err: text.as_bytes(),

@@ -1,14 +1,11 @@
 //! Devices that fail at each of their calls.
 
-use crate::asked::{ALL_SOUND, Devices, Told, tells_over};
+use crate::asked::{ALL_SOUND, Devices, Host, Told, tells_over};
 use crate::devices::{BROKEN, Calls};
 use crate::program_tests::FIVE_LINES;
 use crate::reading::ONE_ACQUIRE;
 use crate::threads_tests::{THREE_LINES, TWO_BY_THREE};
 use std::alloc::Global;
-use std::process::Abort;
-use std::sync::Wait;
-use std::thread::Threads;
 
 /// Words, all that is told of them where the input has one acquire, and the status.
 type Command = (&'static [&'static str], &'static str, u8);
@@ -40,13 +37,7 @@ const READ_FAILED: &str = "parklot: read failed\n";
 const WRITE_FAILED: &str = "parklot: write failed\n";
 
 /// Over these devices this goes to the two streams, and the program ends so.
-fn ends(
-    rt: &(impl Abort + Threads + Wait + Sync),
-    alloc: Global,
-    words: &[&str],
-    devices: Devices,
-    told: (&[u8], &str, u8),
-) {
+fn ends(rt: &impl Host, alloc: Global, words: &[&str], devices: Devices, told: (&[u8], &str, u8)) {
     let (out, err, status) = told;
     let told = Told {
         out,
@@ -61,7 +52,7 @@ fn ends(
 /// How many bytes a read gives at most, and how many reads the whole input takes, its end included.
 const READS: [(usize, u32); 4] = [(1, 37), (3, 13), (35, 3), (usize::MAX, 2)];
 
-fn a_read_fails_of(rt: &(impl Abort + Threads + Wait + Sync), alloc: Global, command: &Command) {
+fn a_read_fails_of(rt: &impl Host, alloc: Global, command: &Command) {
     let (words, told, status) = *command;
     for (at_once, reads) in READS {
         for left in 0..reads + 1 {
@@ -86,12 +77,7 @@ fn each_read_can_fail(rt: HostRuntime) {
     }
 }
 
-fn a_write_fails_of(
-    rt: &(impl Abort + Threads + Wait + Sync),
-    alloc: Global,
-    command: &Command,
-    at_once: usize,
-) {
+fn a_write_fails_of(rt: &impl Host, alloc: Global, command: &Command, at_once: usize) {
     let (words, told, status) = *command;
     let told = told.as_bytes();
     for left in 0..u32::MAX {

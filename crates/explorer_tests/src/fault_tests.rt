@@ -1,12 +1,9 @@
 //! Texts whose first faulty line and least cause are known by hand, and what is told of them.
 
-use crate::asked::{ALL_SOUND, Told, tells, tells_over};
+use crate::asked::{ALL_SOUND, Host, Told, tells, tells_over};
 use crate::reading::ONE_ACQUIRE;
 use crate::repeated::{Repeated, bytes_again};
 use std::alloc::Global;
-use std::process::Abort;
-use std::sync::Wait;
-use std::thread::Threads;
 
 /// A text, and all that is told of it.
 type Row = (&'static [u8], &'static str);
@@ -148,7 +145,7 @@ const LEAST: [Row; 13] = [
 ];
 
 /// The text is refused, and this is all that is told.
-fn is_refused(rt: &(impl Abort + Threads + Wait + Sync), alloc: Global, text: &[u8], told: &str) {
+fn is_refused(rt: &impl Host, alloc: Global, text: &[u8], told: &str) {
     tells(rt, alloc, &["explore", "--depth", "0"], text, told, 2);
 }
 

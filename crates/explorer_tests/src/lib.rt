@@ -21,6 +21,8 @@ mod extras_tests;
 #[cfg(test)]
 mod fault_tests;
 #[cfg(test)]
+mod io_tests;
+#[cfg(test)]
 mod judge_tests;
 #[cfg(test)]
 mod list_replay_tests;

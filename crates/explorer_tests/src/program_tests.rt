@@ -2,13 +2,11 @@
 
 ghost use Rattle.program_words.specs.Asked.{IsWithinLimits};
 
-use crate::asked::{ALL_SOUND, Told, answers, ask, is_a_mistake, run, tells, tells_over};
+use crate::asked::{ALL_SOUND, Host, Told, answers, ask, is_a_mistake, run, tells, tells_over};
 use explorer::{Asked, NO_MEMORY, no_file, no_words, once_text};
 use std::alloc::Global;
 use std::io::{self, ErrorKind};
-use std::process::Abort;
 use std::sync::Wait;
-use std::thread::Threads;
 use step_core::NoMemory;
 
 /// The five lines, as they were worked out by hand from the rows of the table.
@@ -98,7 +96,7 @@ fn help_goes_to_the_output(rt: HostRuntime) {
 }
 
 /// Whether the form of a text is told to its end, where memory isn't short.
-fn is_form_whole(rt: &(impl Threads + Wait + Sync), alloc: Global) -> bool {
+fn is_form_whole(rt: &impl Host, alloc: Global) -> bool {
     let (out, _, _) = ask(rt, alloc, &["format"], b"", ALL_SOUND);
     out.as_slice().ends_with(
         b"gwait G               wait until the number of G is 0\n\nCounters, lists and groups are named by their numbers \
@@ -215,7 +213,7 @@ fn other_words_are_mistakes(rt: HostRuntime) {
 
 /// What goes to the two streams where no command could be read from the words, or no file opened.
 fn without_a_command(
-    rt: &(impl Abort + Threads + Wait + Sync),
+    rt: &impl Host,
     alloc: Global,
     asked: &Asked<'_>,
     told: &str,

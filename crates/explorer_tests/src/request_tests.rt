@@ -1,6 +1,6 @@
 //! Texts whose requests are known by hand.
 
-use explorer::read_scenario;
+use scenario_text::read_scenario;
 use std::alloc::Global;
 use std::process::Abort;
 

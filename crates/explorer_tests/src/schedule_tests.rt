@@ -4,7 +4,8 @@ use crate::asked::{replays, tells};
 use crate::reading::ONE_ACQUIRE;
 
 /// Words that are no schedule.
-const REFUSED: [&str; 22] = [
+const REFUSED: [&str; 23] = [
+    "-",
     "00",
     "01",
     "0 00",

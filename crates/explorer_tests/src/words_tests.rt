@@ -18,28 +18,28 @@ const SEARCHES: [Row; 5] = [
     (
         &["check"],
         "OfScenario { command: Check { worlds: 2000000, extras: Extras { drawn: false, counted: false, live: false } }, \
-         file: None, threads: 1 }",
+         file: None, answer: None, threads: 1 }",
         None,
         false,
     ),
     (
         &["check", "--worlds", "7", "--table", "--threads", "64", "a"],
         "OfScenario { command: Check { worlds: 7, extras: Extras { drawn: true, counted: false, live: false } }, \
-         file: Some(\"a\"), threads: 64 }",
+         file: Some(\"a\"), answer: None, threads: 64 }",
         Some("a"),
         false,
     ),
     (
         &["check", "--progress", "b"],
         "OfScenario { command: Check { worlds: 2000000, extras: Extras { drawn: false, counted: false, live: true } }, \
-         file: Some(\"b\"), threads: 1 }",
+         file: Some(\"b\"), answer: None, threads: 1 }",
         Some("b"),
         true,
     ),
     (
         &["explore", "--depth", "0", "--progress"],
         "OfScenario { command: Explore { bounds: Bounds { depth: 0, worlds: 200000 }, table: None, \
-         extras: Extras { drawn: false, counted: false, live: true } }, file: None, threads: 1 }",
+         extras: Extras { drawn: false, counted: false, live: true } }, file: None, answer: None, threads: 1 }",
         None,
         true,
     ),
@@ -58,24 +58,24 @@ const SEARCHES: [Row; 5] = [
             "c",
         ],
         "OfScenario { command: Explore { bounds: Bounds { depth: 64, worlds: 1000000000 }, table: Some(LateCount), \
-         extras: Extras { drawn: false, counted: true, live: false } }, file: Some(\"c\"), threads: 2 }",
+         extras: Extras { drawn: false, counted: true, live: false } }, file: Some(\"c\"), answer: None, threads: 2 }",
         Some("c"),
         false,
     ),
 ];
 
 /// Words that ask for no search.
-const OTHERS: [Row; 6] = [
+const OTHERS: [Row; 7] = [
     (
         &["replay", "--schedule", "0 1", "--variant", "no-look", "d"],
-        "OfScenario { command: Replay { schedule: \"0 1\", table: Some(NoLook), drawn: false }, file: Some(\"d\"), threads: 1 }",
+        "OfScenario { command: Replay { schedule: \"0 1\", table: Some(NoLook), drawn: false }, file: Some(\"d\"), answer: None, threads: 1 }",
         Some("d"),
         false,
     ),
     (
         &[
             "replay",
-            "--schedule",
+            "--schedule-of",
             "-",
             "--scenario",
             "e",
@@ -83,8 +83,14 @@ const OTHERS: [Row; 6] = [
             "--variant",
             "plain-less",
         ],
-        "OfScenario { command: Replay { schedule: \"-\", table: Some(PlainLess), drawn: true }, file: Some(\"e\"), threads: 1 }",
+        "OfScenario { command: Replay { schedule: \"-\", table: Some(PlainLess), drawn: true }, file: Some(\"e\"), answer: Some(\"-\"), threads: 1 }",
         Some("e"),
+        false,
+    ),
+    (
+        &["replay", "--schedule", "-"],
+        "OfScenario { command: Replay { schedule: \"-\", table: None, drawn: false }, file: None, answer: None, threads: 1 }",
+        None,
         false,
     ),
     (&["judge"], "Judge { file: None }", None, false),

@@ -1,22 +1,24 @@
 //! The gallery: each text of `crates/gallery/data` goes through the program, with the words that stand beside it, and what
 //! the program answers is compared with what stands there.
 //!
-//! `NAME.txt` is a scenario, or a journal. In `NAME.answers` a line that begins with `$ parklot ` has the words, and the
+//! `NAME.txt` is a scenario, a journal, or an answer whose schedule is replayed. In `NAME.answers` a line that begins with `$ parklot ` has the words, and the
 //! lines after it are what is written, and `exit` with the status.
 #![tactic(auto)]
 
 use anyhow::Result;
-use explorer::{Flagged, parklot_io, read_words};
+use explorer::{Flagged, parklot_io};
 use std::alloc::{AllocError, Global};
 use std::fs;
+use std::rt::Files;
 use std::sync::Wait;
 use std::thread::Threads;
+use std::time::Clock;
 
 /// How a line with the words of a command begins.
 const PROMPT: &str = "$ parklot ";
 
-/// The scenarios, from the simple to the odd, and the journals.
-const NAMES: [&str; 27] = [
+/// The scenarios, from the simple to the odd, the journals, and the answers.
+const NAMES: [&str; 29] = [
     "lonely_sleeper",
     "lost_wake_up",
     "newest_first",
@@ -44,6 +46,8 @@ const NAMES: [&str; 27] = [
     "go_mutex",
     "go_mutex_out_of_turn",
     "go_wait_group",
+    "answer_of_a_sleeper",
+    "answer_of_none",
 ];
 
 /// The words of a command. What stands in quotes is one word.
@@ -62,7 +66,7 @@ fn words_of(alloc: Global, command: &str) -> Result<Vec<String>, AllocError> {
 }
 
 /// What the program writes for this command, and how it ends.
-fn answer<R: Threads + Wait + Sync>(
+fn answer<R: Files + Threads + Wait + Clock + Sync>(
     rt: &R,
     alloc: Global,
     scenario: &str,
@@ -72,14 +76,13 @@ fn answer<R: Threads + Wait + Sync>(
     let mut input = Flagged::new(scenario.as_bytes());
     let mut out = Flagged::new(Vec::new(alloc));
     let mut err = Flagged::new(Vec::new(alloc));
-    let asked = read_words(alloc, words.as_slice());
-    let status = parklot_io(rt, alloc, &asked, &mut input, &mut out, &mut err, &mut ());
+    let status = parklot_io(rt, alloc, words, &mut input, &mut out, &mut err);
     let text = String::from_utf8(out.into_inner())?;
     Ok(format!(in alloc; "{PROMPT}{command}\n{text}exit {status}\n")?)
 }
 
 /// The commands that are told, each with what the program answers.
-fn answers<R: Threads + Wait + Sync>(
+fn answers<R: Files + Threads + Wait + Clock + Sync>(
     rt: &R,
     alloc: Global,
     scenario: &str,

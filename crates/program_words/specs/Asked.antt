@@ -1,5 +1,5 @@
 -- What the program's words may ask for.
-use Rattle.std.specs.Prelude.{◌≡◌, ◌≢◌, ℕ, ◌≤◌, List, [], ◌∷◌, ◌++◌, Option, None, IsSome, Bool, false, option_map, string_bytes, codes}
+use Rattle.std.specs.Prelude.{◌≡◌, ◌≢◌, ℕ, ◌≤◌, List, [], ◌∷◌, ◌++◌, Option, Some, None, IsSome, Bool, false, option_map, string_bytes, codes}
 use Rattle.std.specs.Borrow.{Bor}
 use Rattle.std.specs.IoError.{error_kind}
 use Rattle.std.specs.declared.io.Error.{Error}
@@ -26,7 +26,7 @@ IsWithin (Replay spelled table drawn) = Unit {0}
 
 -- the numbers are within the limits of their command: 1 to 64 threads share a search
 abbrev pub IsWithinLimits : Asked → Type 0
-IsWithinLimits (OfScenario command file threads) = IsWithin command × IsFromOne 64 threads
+IsWithinLimits (OfScenario command file answer threads) = IsWithin command × IsFromOne 64 threads
 IsWithinLimits (Threads workers rounds) = AreWithin workers rounds
 IsWithinLimits _ = Unit {0}
 
@@ -44,28 +44,27 @@ IsWithoutFile name _ = ⊥
 
 -- the name of the file that is read in place of standard input
 abbrev pub file_of : Asked → Option (List ℕ)
-file_of (OfScenario command file threads) = option_map (λ name. name.now) file
+file_of (OfScenario command file answer threads) = option_map (λ name. name.now) file
 file_of (Judge file) = option_map (λ name. name.now) file
 file_of _ = None
 
--- the schedule is the word `-`: it stands in an answer on standard input
-abbrev pub AwaitsSchedule : Asked → Type 0
-AwaitsSchedule (OfScenario (Replay spelled table drawn) file threads) = spelled.now ≡ codes "-"
-AwaitsSchedule _ = ⊥
+-- the name of the answer whose schedule is replayed
+abbrev pub answer_named : Asked → Option (List ℕ)
+answer_named (OfScenario command file answer threads) = option_map (λ name. name.now) answer
+answer_named _ = None
 
--- standard input has one text at most: where it has the schedule's answer, the scenario stands in a file
+-- standard input has one text at most: where it has the answer, the scenario stands in a file
 abbrev pub ReadsInputOnce : Asked → Type 0
-ReadsInputOnce (OfScenario (Replay spelled table drawn) file threads) = spelled.now ≡ codes "-" → IsSome file
-ReadsInputOnce _ = Unit {0}
+ReadsInputOnce asked = answer_named asked ≡ Some (codes "-") → IsSome (file_of asked)
 
--- the same with another schedule, where one is asked for
+-- the same with the schedule that its answer has told, where a replay is asked for
 abbrev pub with_schedule : Asked → Bor (List ℕ) → Asked
-with_schedule (OfScenario (Replay spelled table drawn) file threads) schedule =
-    OfScenario (Replay schedule table drawn) file threads
+with_schedule (OfScenario (Replay spelled table drawn) file answer threads) schedule =
+    OfScenario (Replay schedule table drawn) file None threads
 with_schedule asked schedule = asked
 
 -- it is to be told how far a search has come, while it runs
 abbrev pub is_watched : Asked → Bool
-is_watched (OfScenario (Explore bounds table extras) file threads) = extras.live
-is_watched (OfScenario (Check worlds extras) file threads) = extras.live
+is_watched (OfScenario (Explore bounds table extras) file answer threads) = extras.live
+is_watched (OfScenario (Check worlds extras) file answer threads) = extras.live
 is_watched _ = false

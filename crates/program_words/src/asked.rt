@@ -1,5 +1,5 @@
-ghost use Rattle.std.specs.Prelude.{◌≡◌, IsTrue, false, option_map};
-ghost use Rattle.program_words.specs.Asked.{file_of, is_watched, AwaitsSchedule, with_schedule};
+ghost use Rattle.std.specs.Prelude.{◌≡◌, option_map};
+ghost use Rattle.program_words.specs.Asked.{file_of, answer_named, is_watched, with_schedule};
 
 use scenario_search::Command;
 
@@ -18,9 +18,11 @@ pub enum Asked<'w> {
     /// The command `once`.
     Once,
     /// A command that reads the text of a scenario, in this file or on standard input. So many threads share its search.
+    /// Where an answer is named its schedule is replayed: it stands in this file or, where that is `-`, on standard input.
     OfScenario {
         command: Command<'w>,
         file: Option<&'w str>,
+        answer: Option<&'w str>,
         threads: u16,
     },
     /// The command `judge` of the journal in this file or on standard input.
@@ -53,17 +55,13 @@ impl<'w> Asked<'w> {
         }
     }
 
-    /// Whether the schedule that is asked for stands in an answer on standard input.
-    pub fn awaits_schedule(&self) -> bool
-        ensures yes { IsTrue result → AwaitsSchedule self.now }
-        ensures no { result ≡ false → AwaitsSchedule self.now → ⊥ }
+    /// The answer whose schedule is replayed, if one is named: its file, or `-` for standard input.
+    pub fn answer(&self) -> Option<&'w str>
+        ensures { option_map (λ answer. answer.now) result ≡ answer_named self.now }
     {
         match self {
-            Asked::OfScenario {
-                command: Command::Replay { schedule, .. },
-                ..
-            } => *schedule == "-",
-            _ => false,
+            Asked::OfScenario { answer, .. } => *answer,
+            _ => None,
         }
     }
 
@@ -80,7 +78,7 @@ impl<'w> Asked<'w> {
         }
     }
 
-    /// The same with this schedule, where one is asked for.
+    /// The same with this schedule, which its answer has told, where a replay is asked for.
     pub fn with_schedule(self, schedule: &'w str) -> Asked<'w>
         ensures { result ≡ with_schedule self.entry schedule.entry }
     {
@@ -89,6 +87,7 @@ impl<'w> Asked<'w> {
                 command: Command::Replay { table, drawn, .. },
                 file,
                 threads,
+                ..
             } => Asked::OfScenario {
                 command: Command::Replay {
                     schedule,
@@ -96,6 +95,7 @@ impl<'w> Asked<'w> {
                     drawn,
                 },
                 file,
+                answer: None,
                 threads,
             },
             _ => self,

@@ -1,6 +1,6 @@
 //! What the arguments of each command ask for.
 
-ghost use Rattle.std.specs.Prelude.{IfOk};
+ghost use Rattle.std.specs.Prelude.{◌≡◌, ◌↔◌, IfOk, IsTrue, Some, option_map, codes};
 ghost use Rattle.program_words.specs.Asked.{IsFromOne, IsWithinLimits, ReadsInputOnce};
 
 use crate::asked::{Asked, MAX_ROUNDS, MAX_THREADS, MAX_WORKERS, MAX_WORLDS};
@@ -14,8 +14,11 @@ use step_core::Variant;
 
 /// What is wrong with a replay that reads both its texts from standard input.
 static NO_SCENARIO: &str = "\
-error: with --schedule - standard input has the schedule's answer: name the scenario by --scenario FILE
+error: with --schedule-of - standard input has the answer: name the scenario by --scenario FILE
 ";
+
+/// It stands for the schedule of an answer until that is read, and is none.
+const UNREAD: &str = "-";
 
 /// How many worlds a search may keep that keeps so many where it isn't told.
 fn worlds_of(given: &ArgMatches<'_>, untold: u32) -> u32
@@ -66,6 +69,7 @@ fn explore_asked<'w>(given: &ArgMatches<'w>) -> Asked<'w>
             extras: extras_of(given),
         },
         file: given.get_str("file"),
+        answer: None,
         threads: searchers_of(given),
     }
 }
@@ -81,29 +85,41 @@ fn check_asked<'w>(given: &ArgMatches<'w>) -> Asked<'w>
             extras: extras_of(given),
         },
         file: given.get_str("file"),
+        answer: None,
         threads: searchers_of(given),
     }
 }
 
-/// What `replay` is asked for. A schedule on standard input leaves no room there for the scenario.
+/// Whether this names standard input.
+fn is_standard_input(name: Option<&str>) -> bool
+    ensures { IsTrue result ↔ (option_map (λ text. text.now) name.entry ≡ Some (codes "-")) }
+{
+    match name {
+        Some(name) => name == "-",
+        None => false,
+    }
+}
+
+/// What `replay` is asked for. An answer on standard input leaves no room there for the scenario.
 ///
 /// It is an `Err` where memory is short.
 fn replay_asked<'w>(alloc: Global, given: &ArgMatches<'w>) -> Result<Asked<'w>, AllocError>
     ensures limits { IfOk result IsWithinLimits }
     ensures once { IfOk result ReadsInputOnce }
 {
-    let schedule = given.get_str("schedule").unwrap_or("");
+    let answer = given.get_str("schedule-of");
     let file = given.get_str("scenario").or(given.get_str("file"));
-    if schedule == "-" && file.is_none() {
+    if is_standard_input(answer) && file.is_none() {
         return Ok(Asked::Mistake(String::from_str(alloc, NO_SCENARIO)?));
     }
     Ok(Asked::OfScenario {
         command: Command::Replay {
-            schedule,
+            schedule: given.get_str("schedule").unwrap_or(UNREAD),
             table: variant_of(given),
             drawn: given.get_flag("table"),
         },
         file,
+        answer,
         threads: 1,
     })
 }

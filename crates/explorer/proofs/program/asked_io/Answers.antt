@@ -2,7 +2,7 @@ use Rattle.std.proofs.Common.{◌≡◌, ℕ, List, Option, MatchOption, ◌∙�
 use Rattle.std.specs.Prelude.{string_bytes, option_map}
 use Rattle.explorer.specs.Asked.{status_after, beside, WritesAsFar}
 use Rattle.explorer.proofs.Outcomes.{ended}
-use Rattle.explorer.proofs.program.parklot_io.Goals as goal
+use Rattle.explorer.proofs.program.asked_io.Goals as goal
 
 pub returns-clause-whole : goal.returns-clause-whole
 returns-clause-whole g c = λ read write.

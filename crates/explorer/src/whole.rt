@@ -1,0 +1,117 @@
+//! The whole program, on its words. The files that they name are opened through the runtime.
+
+ghost use Rattle.std.specs.Prelude.{◌≡◌, IfOk, false};
+ghost use Rattle.program_words.specs.Asked.{IsWithinLimits};
+ghost use Rattle.explorer.specs.Asked.{HasDone, HasDoneSome};
+
+use crate::answered::scheduled_by;
+use crate::program::{answer_io, beside, fault_text, status_after, tell_beside};
+use crate::ticker::Ticker;
+use program_words::{Asked, no_file, read_words};
+use scenario_search::{Exit, Flagged, IoFault, Sink, Source};
+use std::alloc::Global;
+use std::fs;
+use std::rt::Files;
+use std::sync::Wait;
+use std::thread::Threads;
+use std::time::Clock;
+
+/// What is asked, with the schedule of the answer that it names, which is read into this room.
+///
+/// It is an `Err` where a read fails.
+fn scheduled<'w, T: Files, R: Source>(
+    rt: &T,
+    alloc: Global,
+    asked: Asked<'w>,
+    reader: &mut R,
+    room: &'w mut Vec<u8>,
+) -> Result<Asked<'w>, IoFault>
+    requires limits { IsWithinLimits asked }
+    requires readable { R.has_failed reader.old ≡ false }
+    ensures limits { IfOk result IsWithinLimits }
+    ensures readable { IfOk result (λ _. R.has_failed reader.new ≡ false) }
+{
+    match asked.answer() {
+        None => Ok(asked),
+        Some("-") => scheduled_by(alloc, asked, reader, room),
+        Some(name) => match fs::open(rt, name) {
+            Ok(file) => scheduled_by(alloc, asked, &mut Flagged::new(file), room),
+            Err(_) => Ok(no_file(alloc, name)),
+        },
+    }
+}
+
+/// Does what is asked, and tells on `err` how far a search has come, where that is asked for, and what is told beside.
+fn shown_io<T: Threads + Wait + Clock + Sync, R: Source, O: Sink, E: Sink>(
+    rt: &T,
+    alloc: Global,
+    asked: &Asked<'_>,
+    reader: &mut R,
+    out: &mut O,
+    err: &mut E,
+) -> u8
+    requires limits { IsWithinLimits asked.now }
+    requires readable { R.has_failed reader.old ≡ false }
+    requires writable { O.has_failed out.old ≡ false }
+    ensures { HasDone asked.now (R.contents reader.old) (R.contents reader.new) (R.has_failed reader.new)
+        (O.contents out.old) (O.contents out.new) (O.has_failed out.new) result }
+{
+    let outcome = {
+        let mut watch = Ticker::new(rt, alloc, err, asked.is_watched());
+        answer_io(rt, alloc, asked, reader, out, &mut watch)
+    };
+    tell_beside(beside(asked, &outcome), err);
+    status_after(&outcome)
+}
+
+/// Does what is asked, on the file that it names or on the reader.
+fn opened_io<T: Files + Threads + Wait + Clock + Sync, R: Source, O: Sink, E: Sink>(
+    rt: &T,
+    alloc: Global,
+    asked: &Asked<'_>,
+    reader: &mut R,
+    out: &mut O,
+    err: &mut E,
+) -> u8
+    requires limits { IsWithinLimits asked.now }
+    requires readable { R.has_failed reader.old ≡ false }
+    requires writable { O.has_failed out.old ≡ false }
+    ensures { HasDoneSome (O.contents out.old) (O.contents out.new) (O.has_failed out.new) result }
+{
+    let Some(name) = asked.file() else {
+        return shown_io(rt, alloc, asked, reader, out, err);
+    };
+    match fs::open(rt, name) {
+        Ok(file) => shown_io(rt, alloc, asked, &mut Flagged::new(file), out, err),
+        Err(_) => shown_io(rt, alloc, &no_file(alloc, name), reader, out, err),
+    }
+}
+
+/// Runs the program on its words, without its own name: reads what they ask for, opens the files that they name, writes the
+/// answer to `out`, and tells on `err`, as far as that takes it, what is told beside. The result is the status to end with.
+///
+/// It is 2 where the words ask for no command, where the input, the schedule or one of its steps is refused, where memory
+/// is short, where a file can't be opened, and where a read or a write to `out` fails; 1 where something bad was found, and
+/// 3 where a search gave up.
+pub fn parklot_io<T: Files + Threads + Wait + Clock + Sync, R: Source, O: Sink, E: Sink>(
+    rt: &T,
+    alloc: Global,
+    words: Vec<String>,
+    reader: &mut R,
+    out: &mut O,
+    err: &mut E,
+) -> u8
+    requires readable { R.has_failed reader.old ≡ false }
+    requires writable { O.has_failed out.old ≡ false }
+    ensures { HasDoneSome (O.contents out.old) (O.contents out.new) (O.has_failed out.new) result }
+{
+    let mut room = Vec::new(alloc);
+    let asked = read_words(alloc, words.as_slice());
+    match scheduled(rt, alloc, asked, reader, &mut room) {
+        Ok(asked) => opened_io(rt, alloc, &asked, reader, out, err),
+        Err(fault) => {
+            tell_beside(Some(fault_text(fault)), err);
+            Exit::Refused.status()
+        }
+    }
+}

@@ -1,0 +1,142 @@
+//! `explore` and `replay` as calls, over values and over readers and writers. A call that answers want of memory is made
+//! once more.
+
+use crate::devices::{Calls, Giving, SOUND, Taking};
+use crate::reading::ONE_ACQUIRE;
+use explorer::{
+    Exit, Flagged, Found, IoFault, Kind, NO_MEMORY, explore, explore_io, explore_variant,
+    explore_variant_io, read_scenario, replay_io,
+};
+use std::alloc::Global;
+use step_core::Variant;
+
+/// One of the calls.
+#[derive(Clone, Copy)]
+enum Asked {
+    Explore(u32),
+    ExploreVariant(u32, Variant),
+    Replay(&'static str),
+}
+
+/// A call, how the writer behaves, what went out, and how it ended.
+type Row = (Asked, Calls, &'static str, Result<Exit, IoFault>);
+
+/// A writer that takes four bytes, and then fails.
+const FOUR_BYTES: Calls = Calls {
+    at_once: 4,
+    left: 1,
+};
+
+static ENDED: [Row; 6] = [
+    (
+        Asked::Explore(32),
+        SOUND,
+        "bad: stuck\nschedule: 0 0 0 0 0\n",
+        Ok(Exit::BadFound),
+    ),
+    (
+        Asked::Explore(4),
+        SOUND,
+        "none up to depth 4\n",
+        Ok(Exit::NothingBad),
+    ),
+    (Asked::Explore(32), FOUR_BYTES, "bad:", Err(IoFault::Write)),
+    (
+        Asked::ExploreVariant(32, Variant::NoLook),
+        SOUND,
+        "bad: stuck\nschedule: 0 0 0 0\n",
+        Ok(Exit::BadFound),
+    ),
+    (
+        Asked::Replay("0 0"),
+        SOUND,
+        "0: seat 0 A1\n1: seat 0 A3\ncounter 0: value 0, waiting -\nverdict: not bad\n",
+        Ok(Exit::NothingBad),
+    ),
+    (
+        Asked::Replay("-"),
+        SOUND,
+        "refused: schedule\n",
+        Ok(Exit::Refused),
+    ),
+];
+
+/// What goes out, and how the call ends, of a counter with one acquire.
+fn ends(alloc: Global, asked: Asked, calls: Calls) -> (Vec<u8>, Result<Exit, IoFault>) {
+    let mut reader = Flagged::new(Giving::new(ONE_ACQUIRE, SOUND));
+    let mut out = Flagged::new(Taking::new(alloc, calls));
+    let ended = match asked {
+        Asked::Explore(depth) => explore_io(alloc, &mut reader, &mut out, depth.min(64)),
+        Asked::ExploreVariant(depth, variant) => {
+            explore_variant_io(alloc, &mut reader, &mut out, depth.min(64), variant)
+        }
+        Asked::Replay(schedule) => replay_io(alloc, &mut reader, &mut out, schedule),
+    };
+    (out.into_inner().into_taken(), ended)
+}
+
+/// Whether this goes out and the call ends so. There is none where memory was refused.
+fn ends_so(alloc: Global, row: &Row) -> Option<bool> {
+    let (asked, calls, told, wanted) = row;
+    let (out, ended) = ends(alloc, *asked, *calls);
+    if !out.is_empty() && NO_MEMORY.as_bytes().starts_with(&out) {
+        return None;
+    }
+    Some(out.as_slice() == told.as_bytes() && ended == *wanted)
+}
+
+#[test]
+fn calls_over_a_reader_and_a_writer_end_so(rt: HostRuntime) {
+    let alloc = rt.alloc();
+    for row in &ENDED {
+        assert!(rt; ends_so(alloc, row).or(ends_so(alloc, row)) == Some(true));
+    }
+}
+
+/// The length of the schedule that is found of the counter with one acquire, which leads to a sleeper: all its steps are of
+/// seat 0. There is none where memory was refused.
+fn steps_to_sleep(alloc: Global, variant: Option<Variant>) -> Option<usize> {
+    let request = read_scenario(alloc, ONE_ACQUIRE).ok()?;
+    let found = match variant {
+        None => explore(alloc, &request, 32),
+        Some(variant) => explore_variant(alloc, &request, 32, variant),
+    };
+    match found {
+        Ok(
+            Found::Bad {
+                schedule,
+                kind: Kind::Stuck,
+            },
+        ) => schedule
+            .iter()
+            .all(|seat| seat.0 == 0)
+            .then_some(schedule.len()),
+        _ => None,
+    }
+}
+
+#[test]
+fn a_sleeper_is_found(rt: HostRuntime) {
+    let alloc = rt.alloc();
+    for (variant, steps) in [(None, 5), (Some(Variant::NoLook), 4)] {
+        let found = steps_to_sleep(alloc, variant).or(steps_to_sleep(alloc, variant));
+        assert!(rt; found == Some(steps));
+    }
+}
+
+/// What is printed of the fault.
+fn text_of(alloc: Global, fault: IoFault) -> Option<String> {
+    format!(in alloc; "{fault}").ok()
+}
+
+#[test]
+fn faults_are_printed(rt: HostRuntime) {
+    let alloc = rt.alloc();
+    for (fault, text) in [
+        (IoFault::Read, "read failed"),
+        (IoFault::Write, "write failed"),
+    ] {
+        let printed = text_of(alloc, fault).or(text_of(alloc, fault));
+        assert!(rt; printed.is_some_and(|printed| printed.as_str() == text));
+    }
+}
