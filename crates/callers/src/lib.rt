@@ -8,6 +8,10 @@
 //! broken it would search for long before it gave up.
 #![tactic(auto)]
 
+mod spent;
+
+pub use spent::must_be_spent;
+
 ghost use Rattle.std.specs.Prelude.{◌≡◌, ◌<◌, true, false, length, All};
 
 use notify_list::{Holding, ListSeat, NotifyList, Waited};
