@@ -8,11 +8,9 @@
 //! broken it would search for long before it gave up.
 #![tactic(auto)]
 
-mod spent;
-
-pub use spent::must_be_spent;
-
 ghost use Rattle.std.specs.Prelude.{◌≡◌, ◌<◌, true, false, length, All};
+
+pub mod spent;
 
 use notify_list::{Holding, ListSeat, NotifyList, Waited};
 use sema_table::{Closed, PostRefused, PostedMany, Seat, SemaTable, Tried};

@@ -12,6 +12,7 @@ trait Ends<By> {
 }
 
 struct AnyWay;
+
 struct LetGo;
 
 impl<T> Ends<AnyWay> for T {}
