@@ -10,6 +10,8 @@
 
 ghost use Rattle.std.specs.Prelude.{◌≡◌, ◌<◌, true, false, length, All};
 
+pub mod spent;
+
 use notify_list::{Holding, ListSeat, NotifyList, Waited};
 use sema_table::{Closed, PostRefused, PostedMany, Seat, SemaTable, Tried};
 use std::sync::Wait;

@@ -68,7 +68,7 @@ pub record LooksAt (s : SeatModel) (w : ListWord) (n : ℕ) (t : SeatModel) : Ty
   pub stays : t.sight.stands ≡ s.sight.stands
   pub later : GoesOn t.sight.seen s.sight.seen
 
--- both seats looked at the wait word, at one moment, and have seen one journal then. They are two seats
+-- each of both seats looked at the wait word once, and found this number. They have seen one journal then, and are two seats
 pub record HasMet (one other one_now other_now : SeatModel) : Type 0 where
   pub number : ℕ
   pub one_looked : LooksAt one Wait number one_now

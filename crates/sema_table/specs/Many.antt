@@ -1,5 +1,5 @@
--- What the two calls of a release of many units promise.
-use Rattle.std.specs.Prelude.{◌≡◌, ℕ, ◌+◌, ◌-◌, List, [], ◌∷◌, ◌++◌, length, map}
+-- What a release of many units promises, in its two parts and whole.
+use Rattle.std.specs.Prelude.{◌≡◌, ◌⊎◌, ℕ, ◌+◌, ◌-◌, List, [], ◌∷◌, ◌++◌, length, map}
 use Rattle.waiters.specs.declared.wait.WaitId.{WaitId}
 use Rattle.step_table.specs.declared.entry.Entry.{Entry}
 use Rattle.step_table.specs.declared.entry.Entry.TheVariants.{AddMany, Leave}
@@ -70,3 +70,8 @@ IsWokenMany s t n =
     (r : ReleaseMany) × IsAt s (ReleasingMany r M3)
     × (t ≡ record s { sight = t.sight; strides = t.strides }) × ComesTo s Rest t
     × WakesMany s r t n
+
+-- all units were added, and nobody waited at the root; or somebody did, and the release went on to wake
+abbrev pub IsReleasedMany : SeatModel → ReleaseMany → SeatModel → ℕ → Type 0
+IsReleasedMany s r t n =
+    (IsPostedMany s r (Done t) × (n ≡ 0)) ⊎ ((u : SeatModel) × IsPostedMany s r (Owes u) × IsWokenMany u t n)

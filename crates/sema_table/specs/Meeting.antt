@@ -57,7 +57,7 @@ met_at i n m t =
 abbrev pub meets : atomic.Step Record → Me → ℕ → Me → Type 0
 meets st m n t = met_at (st.word / 8) n m t
 
--- both seats looked at the counter 0, at one moment, and have seen one journal then. They are two seats
+-- each of both seats looked at the counter 0 once, and found this number. They have seen one journal then, and are two seats
 pub record HasMet (one other one_now other_now : SeatModel) : Type 0 where
   pub number : ℕ
   pub one_looked : LooksAt one (Counter 0) number one_now

@@ -17,9 +17,9 @@ use Rattle.sema_table.specs.Setting.{root, layout, address, words_in, IsThere}
 use Rattle.sema_table.specs.Rule.{Knows, AtHome, IsSomeones, HasSeats, fresh, IsKept}
 
 -- the words and the records at home are those of this world, and each view that isn't spent is that of a seat there, and of the
--- seats that sit with it, each seat in one view: it stands so, has seen a beginning of the journal with all entries of its own,
--- knows the lists of a root whose lock it holds, and has come by the units that were taken for it, but for those served to it
--- since. Seats that aren't made yet have seen nothing and run nothing
+-- seats that sit with it, each seat in one view: it stands so, has seen a beginning of the journal with all entries that it alone
+-- can tell, knows the lists of a root whose lock it holds, and has come by the units that were taken for it, but for those served
+-- to it since. Seats that aren't made yet have seen nothing and run nothing
 pub record Shows (z : Setting) (s : State Record View) (world : SemaWorld) : Type 0 where
   pub words : (w : Word) → IsThere z w → slice_index s.words (address z w) ≡ found (root z) world.words w
   pub homes : (r : ℕ) → r < z.roots → world.words.locks r ≡ 0 → AtHome z world.words s.homes r

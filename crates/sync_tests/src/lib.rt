@@ -9,6 +9,8 @@ mod actor;
 #[cfg(test)]
 mod cast;
 #[cfg(test)]
+mod cond_limit_tests;
+#[cfg(test)]
 mod cond_tests;
 #[cfg(test)]
 mod group_barrier_tests;

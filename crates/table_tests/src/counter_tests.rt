@@ -7,6 +7,7 @@ ghost use Rattle.std.specs.Prelude.{◌≡◌, All};
 use crate::given::{Sizes, last_seat, made, one_counter, two_seats};
 use crate::seats::{counts, enters, has_value, has_waiters, is_at_its_limit, posts, spins, tries};
 use sema_table::{Seat, SemaTable, Tried};
+use std::alloc::Global;
 use std::process::Abort;
 use std::sync::Wait;
 
@@ -63,25 +64,41 @@ fn a_unit_is_taken_by_a_try_and_under_the_lock(rt: HostRuntime) {
     takes_two(&rt, &table, &mut seats);
 }
 
-/// The counter starts as high as it can, and the seat may add two units.
-fn posts_up_to_its_limit(rt: &impl Abort, table: &SemaTable, seats: &mut Vec<Seat>)
+/// The seat may add two units; what the counter's number is after the first, and after the second.
+fn posts_up_to_its_limit(
+    rt: &impl Abort,
+    table: &SemaTable,
+    seats: &mut Vec<Seat>,
+    numbers: (u64, u64),
+)
     requires { All (λ s. s.table ≡ table.now) seats.old.items }
 {
     let seat = last_seat(rt, table, seats);
     let mut seat = posts(rt, table, seat, 0);
-    has_value(rt, table, &mut seat, 0, 4_294_967_296);
+    has_value(rt, table, &mut seat, 0, numbers.0);
     let seat = posts(rt, table, seat, 0);
     let mut seat = is_at_its_limit(rt, table, seat, 0);
     counts(rt, &seat, 0, 0);
-    has_value(rt, table, &mut seat, 0, 4_294_967_297);
+    has_value(rt, table, &mut seat, 0, numbers.1);
+}
+
+/// The same, of a counter that starts at this number.
+fn ends_at_its_limit(rt: &impl Abort, alloc: Global, start: u32, numbers: (u64, u64)) {
+    let sizes = Sizes {
+        release_limit: 2,
+        ..one_counter(start, 1)
+    };
+    let (table, mut seats) = made(rt, alloc, &sizes);
+    posts_up_to_its_limit(rt, &table, &mut seats, numbers);
+}
+
+#[test]
+fn a_seat_adds_up_to_its_limit(rt: HostRuntime) {
+    ends_at_its_limit(&rt, rt.alloc(), 0, (1, 2));
 }
 
 #[test]
 fn a_seat_adds_past_the_highest_start_up_to_its_limit(rt: HostRuntime) {
-    let sizes = Sizes {
-        release_limit: 2,
-        ..one_counter(4_294_967_295, 1)
-    };
-    let (table, mut seats) = made(&rt, rt.alloc(), &sizes);
-    posts_up_to_its_limit(&rt, &table, &mut seats);
+    let numbers = (4_294_967_296, 4_294_967_297);
+    ends_at_its_limit(&rt, rt.alloc(), 4_294_967_295, numbers);
 }

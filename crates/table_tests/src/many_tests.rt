@@ -59,6 +59,41 @@ fn wakes_some<R: Abort + Wait>(rt: &R, table: &SemaTable, owing: OwingMany, expe
     seat
 }
 
+/// A whole release of many units, and how many waits it wakes.
+fn releases_many<R: Abort + Wait>(
+    rt: &R,
+    table: &SemaTable,
+    seat: Seat,
+    units: u32,
+    expected: u32,
+) -> Seat
+    requires seat { seat.table ≡ table.now }
+    requires units { (1 ≤ units) × (units ≤ 256) }
+    ensures { result.table ≡ table.now }
+{
+    let at = counter(rt, table, 0);
+    match table.release_many(rt, seat, at, units) {
+        Ok((seat, woken)) => {
+            holds(rt, woken == expected);
+            seat
+        }
+        Err(_refused) => panic!(rt; "no units were added"),
+    }
+}
+
+/// A whole release of more units than the seat may add: it comes back.
+fn releases_too_many<R: Abort + Wait>(rt: &R, table: &SemaTable, seat: Seat, units: u32) -> Seat
+    requires seat { seat.table ≡ table.now }
+    requires units { (1 ≤ units) × (units ≤ 256) }
+    ensures { result.table ≡ table.now }
+{
+    let at = counter(rt, table, 0);
+    match table.release_many(rt, seat, at, units) {
+        Err((seat, PostRefused::LimitReached)) => seat,
+        Ok(_released) => panic!(rt; "units were added"),
+    }
+}
+
 fn wakes_the_only_one<R: Abort + Wait>(rt: &R, table: &SemaTable, seats: Vec<Seat>)
     requires { All (λ s. s.table ≡ table.now) seats.items }
 {
@@ -78,6 +113,23 @@ fn more_units_than_waits_wake_each_wait(rt: HostRuntime) {
     wakes_the_only_one(&rt, &table, seats);
 }
 
+fn wakes_the_only_one_at_once<R: Abort + Wait>(rt: &R, table: &SemaTable, seats: Vec<Seat>)
+    requires { All (λ s. s.table ≡ table.now) seats.items }
+{
+    let (first, second) = two_seats(rt, table, seats);
+    let sleeping = sleeps(rt, table, first, 0, FIFO, wait(0, 0));
+    let mut second = releases_many(rt, table, second, 5, 1);
+    has_value(rt, table, &mut second, 0, 5);
+    has_waiters(rt, table, &mut second, 0, 0);
+    wakes_up(rt, table, sleeping);
+}
+
+#[test]
+fn a_whole_release_of_many_wakes_each_wait(rt: HostRuntime) {
+    let (table, seats) = made(&rt, rt.alloc(), &one_counter(0, 2));
+    wakes_the_only_one_at_once(&rt, &table, seats);
+}
+
 fn posts_all_at_once(rt: &impl Abort, table: &SemaTable, seats: &mut Vec<Seat>)
     requires { All (λ s. s.table ≡ table.now) seats.old.items }
 {
@@ -94,6 +146,23 @@ fn posts_all_at_once(rt: &impl Abort, table: &SemaTable, seats: &mut Vec<Seat>)
 fn a_seat_adds_at_once_no_more_than_its_limit(rt: HostRuntime) {
     let (table, mut seats) = made(&rt, rt.alloc(), &one_counter(0, 1));
     posts_all_at_once(&rt, &table, &mut seats);
+}
+
+fn releases_all_at_once<R: Abort + Wait>(rt: &R, table: &SemaTable, seats: &mut Vec<Seat>)
+    requires { All (λ s. s.table ≡ table.now) seats.old.items }
+{
+    let seat = last_seat(rt, table, seats);
+    let mut seat = releases_too_many(rt, table, seat, 11);
+    has_value(rt, table, &mut seat, 0, 0);
+    let mut seat = releases_many(rt, table, seat, 10, 0);
+    counts(rt, &seat, 0, 0);
+    has_value(rt, table, &mut seat, 0, 10);
+}
+
+#[test]
+fn a_whole_release_of_many_adds_no_more_than_its_limit(rt: HostRuntime) {
+    let (table, mut seats) = made(&rt, rt.alloc(), &one_counter(0, 1));
+    releases_all_at_once(&rt, &table, &mut seats);
 }
 
 /// The last seat adds two units where three seats wait, and then one more for the third.
