@@ -3,7 +3,7 @@
 use crate::given::seat;
 use std::alloc::Global;
 use std::process::Abort;
-use step_core::{Moment, RunRefused, Scenario, StepRefused, Variant, World, run};
+use step_core::{BentWorld, Moment, RunRefused, Scenario, StepRefused, Variant, World, run};
 use waiters::{CounterId, NoMemory, SeatId, WaitId};
 
 /// Runs the schedule, once more where memory was refused.
@@ -13,10 +13,12 @@ pub(crate) fn run_again<'s>(
     schedule: &[SeatId],
 ) -> Result<World<'s>, RunRefused> {
     match run(alloc, scenario, schedule) {
-        Err(RunRefused {
-            cause: StepRefused::NoMemory,
-            ..
-        }) => run(alloc, scenario, schedule),
+        Err(
+            RunRefused {
+                cause: StepRefused::NoMemory,
+                ..
+            },
+        ) => run(alloc, scenario, schedule),
         answer => answer,
     }
 }
@@ -70,6 +72,19 @@ pub(crate) fn bent_again<'s>(
     }
 }
 
+/// The world at that start, asked for once more where memory was refused.
+pub(crate) fn bent_world_again<'s>(
+    rt: &impl Abort,
+    alloc: Global,
+    scenario: &'s Scenario,
+    variant: Variant,
+) -> BentWorld<'s> {
+    match BentWorld::new(alloc, scenario, variant) {
+        Ok(world) => world,
+        Err(NoMemory) => BentWorld::new(alloc, scenario, variant).expect(rt, "a world"),
+    }
+}
+
 /// A copy of the moment, asked for once more where memory was refused.
 pub(crate) fn copied_moment<'s>(rt: &impl Abort, alloc: Global, moment: &Moment<'s>) -> Moment<'s> {
     match moment.try_clone(alloc) {
@@ -107,5 +122,13 @@ pub(crate) fn moments_key(rt: &impl Abort, alloc: Global, moment: &Moment<'_>) -
     match moment.key(alloc) {
         Ok(key) => key,
         Err(NoMemory) => moment.key(alloc).expect(rt, "a key"),
+    }
+}
+
+/// The key of the world of a changed table, asked for once more where memory was refused.
+pub(crate) fn bent_key(rt: &impl Abort, alloc: Global, world: &BentWorld<'_>) -> Vec<u64> {
+    match world.key(alloc) {
+        Ok(key) => key,
+        Err(NoMemory) => world.key(alloc).expect(rt, "a key"),
     }
 }

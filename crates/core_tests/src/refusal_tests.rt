@@ -12,7 +12,7 @@ type Row = (&'static str, &'static [u16], usize, StepRefused);
 const HANDED_OVER: &str =
     "roots 1\ncounter 0\nseat 0: acquire 0\nseat 1: acquire 0\nseat 2: release 0 handoff\nsettled\n";
 
-static REFUSED: [Row; 5] = [
+static REFUSED: [Row; 6] = [
     // a unit is handed over to seat 0, and then another seat steps too
     (
         HANDED_OVER,
@@ -49,6 +49,13 @@ static REFUSED: [Row; 5] = [
         &[0, 0],
         1,
         StepRefused::SeatFailed,
+    ),
+    // ticket 0 is granted, and the seat that sleeps with ticket 1 steps too
+    (
+        "roots 1\nlist 0\nseat 0: add 0; wait 0\nseat 1: add 0; wait 0\nseat 2: one 0\nsettled\n",
+        &[0, 1, 1, 1, 1, 2, 2, 2, 2, 2, 2, 2, 0, 0, 0, 1],
+        15,
+        StepRefused::Asleep,
     ),
 ];
 

@@ -3,7 +3,7 @@
 use crate::asked::replays;
 
 /// A text, a schedule, all that is told, and the status.
-const REPLAYS: [(&[u8], &str, &str, u8); 7] = [
+const REPLAYS: [(&[u8], &str, &str, u8); 8] = [
     // the ticket is handed out after the grant looked for one
     (
         b"list 0\nseat 0: one 0\nseat 1: add 0; wait 0\nsettled\n",
@@ -59,6 +59,31 @@ list 0: tickets 1, granted 1
 verdict: not bad
 ",
         0,
+    ),
+    // the ticket of the seat that parked first is not the least: the least is granted, and nobody is found to wake
+    (
+        b"list 0\nseat 0: add 0; wait 0\nseat 1: add 0; wait 0\nseat 2: one 0\nsettled\n",
+        "0 1 1 1 1 2 2 2 2 2 2 2 0 0 0",
+        "\
+0: seat 0 N1
+1: seat 1 N1
+2: seat 1 W1
+3: seat 1 W2
+4: seat 1 W4
+5: seat 2 O1
+6: seat 2 O2
+7: seat 2 O3
+8: seat 2 O4
+9: seat 2 O5
+10: seat 2 O7
+11: seat 2 O8
+12: seat 0 W1
+13: seat 0 W2
+14: seat 0 W3
+list 0: tickets 2, granted 1
+verdict: stuck
+",
+        1,
     ),
     // two notify one: the second finds under the lock that nothing is left
     (

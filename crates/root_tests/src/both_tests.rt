@@ -3,8 +3,8 @@
 //! A refused call is made once more. So each test passes whichever single allocation is refused
 //! (`rt try --test --fail-alloc N`, for each N), and shows that after a refusal the memory can still be had.
 
-use crate::given::holds;
-use sema_root::{RootStore, SortedRoot, TreapRoot};
+use crate::given::{holds, sorted, treap};
+use sema_root::{RootStore, TreapRoot};
 use std::alloc::Global;
 use std::process::Abort;
 use waiters::{CounterId, NoMemory, SeatId, Wait, WaitId};
@@ -80,21 +80,6 @@ fn exercise<R: RootStore>(rt: &impl Abort, alloc: Global, root: &mut R) {
     has(rt, root, 5, 1, Some(wait(0)));
     has(rt, root, 3, 0, None);
     holds(rt, has_ids_again(alloc, root, 3, &[]));
-}
-
-/// A root of so many seats, asked for once more where memory was refused.
-fn sorted(rt: &impl Abort, alloc: Global, seats: u16) -> SortedRoot {
-    match SortedRoot::with_room(alloc, seats) {
-        Ok(made) => made,
-        Err(NoMemory) => SortedRoot::with_room(alloc, seats).expect(rt, "memory"),
-    }
-}
-
-fn treap(rt: &impl Abort, alloc: Global, seats: u16, seed: u64) -> TreapRoot {
-    match TreapRoot::with_room(alloc, seats, seed) {
-        Ok(made) => made,
-        Err(NoMemory) => TreapRoot::with_room(alloc, seats, seed).expect(rt, "memory"),
-    }
 }
 
 fn copied(rt: &impl Abort, root: &TreapRoot) -> TreapRoot {

@@ -6,6 +6,8 @@
 #[cfg(test)]
 mod both_tests;
 #[cfg(test)]
+mod drawn_tests;
+#[cfg(test)]
 mod given;
 #[cfg(test)]
 mod list_tests;

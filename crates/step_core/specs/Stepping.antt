@@ -37,3 +37,11 @@ pub record Steps (m : Moment) (s : ℕ) (n : Moment) (entry : Option Entry) : Ty
   pub steps : (journal : List Entry) → IsSteppedBy m.table (telling m journal) s (telling n (and_then journal entry))
   pub sound : (journal : List Entry)
       → IsSoundBy m.table (telling m journal) → IsSoundBy m.table (telling n (and_then journal entry))
+
+-- the moment steps by its table, whatever that tells
+abbrev pub HasStep : Moment → ℕ → Moment → Type 0
+HasStep m s n = (entry : Option Entry) × Steps m s n entry
+
+-- the moment steps by a change of the table
+abbrev pub IsBent : Moment → Type 0
+IsBent m = (v : Variant) × (m.table ≡ Some v)

@@ -6,6 +6,7 @@
 #![tactic(auto)]
 
 mod apart;
+mod bent;
 mod calling;
 mod following;
 mod found;
@@ -22,6 +23,7 @@ mod words;
 mod world;
 
 pub use alike_law::{Variant, law_of_the_alike, law_of_the_bent, law_of_the_commuting};
+pub use bent::BentWorld;
 pub use core_law::{law_of_the_core, law_of_the_runs};
 pub use found::Found;
 pub use laws::law_of_the_keys;
