@@ -6,6 +6,8 @@
 #![tactic(auto)]
 
 #[cfg(test)]
+mod moment_tests;
+#[cfg(test)]
 mod part_tests;
 #[cfg(test)]
 mod root_tests;
@@ -13,5 +15,7 @@ mod root_tests;
 mod rounds;
 #[cfg(test)]
 mod scenario_tests;
+#[cfg(test)]
+mod text_tests;
 #[cfg(test)]
 mod world_tests;

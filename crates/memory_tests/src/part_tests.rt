@@ -2,7 +2,7 @@
 
 ghost use Rattle.std.specs.Prelude.{◌≡◌, All};
 
-use crate::rounds::{Attempt, Call, answered, is_refused_then_answers};
+use crate::rounds::{Attempt, Call, FINE, answered, is_refused_then_answers};
 use notify_list::{ListClosed, ListSeat, NotifyList};
 use sema_table::{Seat, SemaTable, Settings, SetupError};
 use std::alloc::Global;
@@ -49,7 +49,7 @@ impl Call for NewTable {
 
 #[test]
 fn a_table_is_refused_or_made(rt: HostRuntime) {
-    is_refused_then_answers(&rt, rt.alloc(), 400, &mut NewTable);
+    is_refused_then_answers(&rt, rt.alloc(), FINE, &mut NewTable);
 }
 
 /// The list's next ticket is this one, and so is the first that isn't granted.
@@ -75,7 +75,7 @@ impl Call for StartingAt {
 
 #[test]
 fn a_list_is_refused_or_made(rt: HostRuntime) {
-    is_refused_then_answers(&rt, rt.alloc(), 400, &mut StartingAt(4294967295));
+    is_refused_then_answers(&rt, rt.alloc(), FINE, &mut StartingAt(4294967295));
 }
 
 fn are_list_seats(seats: &[ListSeat]) -> bool {
@@ -97,7 +97,7 @@ impl Call for NewCond {
 
 #[test]
 fn a_condition_variable_is_refused_or_made(rt: HostRuntime) {
-    is_refused_then_answers(&rt, rt.alloc(), 400, &mut NewCond);
+    is_refused_then_answers(&rt, rt.alloc(), FINE, &mut NewCond);
 }
 
 fn are_group_seats(seats: &[GroupSeat]) -> bool {
@@ -120,5 +120,5 @@ impl Call for NewGroup {
 
 #[test]
 fn a_wait_group_is_refused_or_made(rt: HostRuntime) {
-    is_refused_then_answers(&rt, rt.alloc(), 400, &mut NewGroup);
+    is_refused_then_answers(&rt, rt.alloc(), FINE, &mut NewGroup);
 }

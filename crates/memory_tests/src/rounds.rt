@@ -47,13 +47,23 @@ enum Outcome {
     NotShort,
 }
 
-/// So much more is left in each round: no block takes less of the heap.
-const STEP: u16 = 32;
+/// How many rounds there are at most, and how many bytes more are left in each.
+#[derive(Clone, Copy, Drop)]
+pub(crate) struct Rounds {
+    pub(crate) most: u16,
+    pub(crate) step: u16,
+}
 
-fn goes_rounds(alloc: Global, rounds: u16, call: &mut impl Call) -> Result<Outcome, AllocError> {
-    let mut scarce = ScarceMemory::new(alloc, rounds, STEP)?;
+/// No block takes less of the heap than a step.
+pub(crate) const FINE: Rounds = Rounds {
+    most: 400,
+    step: 32,
+};
+
+fn go(alloc: Global, rounds: Rounds, call: &mut impl Call) -> Result<Outcome, AllocError> {
+    let mut scarce = ScarceMemory::new(alloc, rounds.most, rounds.step)?;
     let mut ended = Outcome::NeverRefused;
-    for _ in 0..rounds {
+    for _ in 0..rounds.most {
         if !scarce.leave() {
             return Ok(Outcome::NotShort);
         }
@@ -67,12 +77,12 @@ fn goes_rounds(alloc: Global, rounds: u16, call: &mut impl Call) -> Result<Outco
     Ok(Outcome::NeverAnswered)
 }
 
-/// The call is refused for want of memory in the first of so many rounds, and answers in one of them.
+/// In the first of these rounds the call is refused for want of memory, and in one of them it answers.
 pub(crate) fn is_refused_then_answers(
     rt: &impl Abort,
     alloc: Global,
-    rounds: u16,
+    rounds: Rounds,
     call: &mut impl Call,
 ) {
-    assert_eq!(rt; goes_rounds(alloc, rounds, call), Ok(Outcome::AsItShould));
+    assert_eq!(rt; go(alloc, rounds, call), Ok(Outcome::AsItShould));
 }

@@ -1,6 +1,6 @@
 //! Worlds of a scenario: how they are reached, and what they are asked.
 
-use crate::rounds::{Attempt, Call, answered, is_refused_then_answers};
+use crate::rounds::{Attempt, Call, FINE, answered, is_refused_then_answers};
 use scenario_text::read_scenario;
 use std::alloc::Global;
 use std::process::Abort;
@@ -9,24 +9,25 @@ use step_core::{
     World, run,
 };
 
-fn scenario(rt: &impl Abort, alloc: Global, text: &str) -> Scenario {
+pub(crate) fn scenario(rt: &impl Abort, alloc: Global, text: &str) -> Scenario {
     let request = read_scenario(alloc, text.as_bytes()).expect(rt, "a scenario's text");
     Scenario::of(request.parts).expect(rt, "a scenario")
 }
 
 /// Seat 0 sleeps.
-const SLEEPER: &str = "roots 1\ncounter 0\nseat 0: acquire 0\nseat 1: release 0\nsettled\n";
+pub(crate) const SLEEPER: &str =
+    "roots 1\ncounter 0\nseat 0: acquire 0\nseat 1: release 0\nsettled\n";
 
-const FIVE_STEPS: [SeatId; 5] = [SeatId(0); 5];
+pub(crate) const FIVE_STEPS: [SeatId; 5] = [SeatId(0); 5];
 
 /// Seat 0 sleeps as the first wait of counter 0.
-fn is_asleep(world: &World<'_>) -> bool {
+pub(crate) fn is_asleep(world: &World<'_>) -> bool {
     world.scenario().seats() == 2
         && world.phase(SeatId(0)) == Phase::At(Row::P)
         && world.journal() == [Entry::Queue(CounterId(0), WAIT, false)].as_slice()
 }
 
-const WAIT: WaitId = WaitId {
+pub(crate) const WAIT: WaitId = WaitId {
     seat: SeatId(0),
     turn: 0,
 };
@@ -52,7 +53,7 @@ impl Call for Running<'_> {
 #[test]
 fn a_schedule_is_refused_or_run(rt: HostRuntime) {
     let scenario = scenario(&rt, rt.alloc(), SLEEPER);
-    is_refused_then_answers(&rt, rt.alloc(), 400, &mut Running(&scenario));
+    is_refused_then_answers(&rt, rt.alloc(), FINE, &mut Running(&scenario));
 }
 
 /// A world that is asked for the waits of its counter.
@@ -74,7 +75,7 @@ impl Call for Waiting<'_, '_> {
 /// The words of its key, by hand: the counter's number, its list's length and the seat in it; the words of its root, whose
 /// waiter word is 1; the seat that is parked, and one word for no grant and nothing in hand; the one before its row of a
 /// release; that both are on a counter; how many calls each has begun.
-static KEY: [u64; 15] = [0, 1, 0, 0, 1, 20, 0, 0, 26, 0, 0, 1, 1, 1, 1];
+pub(crate) static KEY: [u64; 15] = [0, 1, 0, 0, 1, 20, 0, 0, 26, 0, 0, 1, 1, 1, 1];
 
 /// A world that is asked for its key.
 #[derive(Drop)]
@@ -93,8 +94,8 @@ impl Call for Keyed<'_, '_> {
 fn waits_and_a_key_are_refused_or_told(rt: HostRuntime) {
     let scenario = scenario(&rt, rt.alloc(), SLEEPER);
     let world = run(rt.alloc(), &scenario, FIVE_STEPS.as_slice()).expect(&rt, "a run");
-    is_refused_then_answers(&rt, rt.alloc(), 200, &mut Waiting(&world));
-    is_refused_then_answers(&rt, rt.alloc(), 200, &mut Keyed(&world));
+    is_refused_then_answers(&rt, rt.alloc(), FINE, &mut Waiting(&world));
+    is_refused_then_answers(&rt, rt.alloc(), FINE, &mut Keyed(&world));
 }
 
 /// Five releases, each told by an entry: of the second step of each nothing is told. The journal grows twice.
@@ -144,7 +145,7 @@ fn a_step_is_refused_or_made(rt: HostRuntime) {
     let scenario = scenario(&rt, rt.alloc(), RELEASES);
     let world = World::new(rt.alloc(), &scenario).expect(&rt, "a world");
     let mut stepping = Stepping { world, made: 0 };
-    is_refused_then_answers(&rt, rt.alloc(), 200, &mut stepping);
+    is_refused_then_answers(&rt, rt.alloc(), FINE, &mut stepping);
     let entry = Entry::Add(CounterId(0), SeatId(0));
     assert!(rt; stepping.world.journal() == [entry; 5].as_slice());
 }
