@@ -1,0 +1,16 @@
+//! Memory that is really short, for tests of what is answered then.
+//!
+//! The calls of this repository take the heap itself, and no allocator that could refuse a test something. So the test
+//! takes all memory that its process can have: [`ScarceMemory`] holds blocks until none of the least size is left, and
+//! then leaves a little, in each round a little more. The blocks are never written: they fill addresses, and little of
+//! what the machine has.
+//!
+//! `rt try` runs tests over a heap that keeps room of its own for small blocks, which can't be filled. There, and wherever
+//! else some memory is left, a round says so.
+#![tactic(auto)]
+
+mod blocks;
+mod scarce;
+mod stack;
+
+pub use scarce::ScarceMemory;
