@@ -1,0 +1,4 @@
+pub mod Courses
+pub mod SemaRows
+pub mod SemaWeights
+pub mod SemaEnding
