@@ -1,3 +1,5 @@
 pub mod Course
 pub mod SemaWeight
 pub mod SemaEnds
+pub mod ListWeight
+pub mod ListEnds
