@@ -3,6 +3,29 @@ use Rattle.std.proofs.Common.{◌≡◌, ℕ, zero, suc, ◌+◌, ◌<◌, ◌�
 use native.Mathlib.Decide.{ℕ_discrete}
 use Rattle.ends_law.specs.Course.{Course, none, row, choice}
 
+-- some of the first n seats can, or none of them
+abbrev pub SomeCan : (ℕ → Bool) → ℕ → Type 0
+SomeCan can n = (i : ℕ) × (i < n) × IsTrue (can i)
+
+abbrev pub NoneCan : (ℕ → Bool) → ℕ → Type 0
+NoneCan can n = (i : ℕ) → i < n → IsTrue (can i) → ⊥
+
+pub look : (can : ℕ → Bool) (n : ℕ) → SomeCan can n ⊎ NoneCan can n
+look can zero = inr (λ i less x. absurd (omega arith))
+look can (suc n) = by (can n) refl (look can n)
+  where
+    last : can n ≡ false → NoneCan can n → NoneCan can (suc n)
+    last not others i less x = at (ℕ_discrete i n)
+      where
+        at : Dec (i ≡ n) → ⊥
+        at (yes e) = let both : true ≡ false = sym x ∙ ap can e ∙ not in cc
+        at (no ne) = others i (omega arith) x
+
+    by : (b : Bool) → can n ≡ b → SomeCan can n ⊎ NoneCan can n → SomeCan can (suc n) ⊎ NoneCan can (suc n)
+    by b is (inl some) = inl (some.0, omega arith, some.2)
+    by true is (inr others) = inl (n, omega arith, is)
+    by false is (inr others) = inr (last is others)
+
 module _ {World : Type 0} (Row : World → ℕ → World → Type 0) (Chosen : World → ℕ → ℕ → World → Type 0) (seats : ℕ) where
   -- what each row and each choice keeps holds after a course
   pub course_keeps : (Rule : World → Type 0) → ((s t : World) (i : ℕ) → i < seats → Rule s → Row s i t → Rule t)
@@ -37,37 +60,16 @@ module _ {World : Type 0} (Row : World → ℕ → World → Type 0) (Chosen : W
     module _ (can : World → ℕ → Bool) (next : World → ℕ → World)
         (runs : (s : World) (i : ℕ) → i < seats → Rule s → IsTrue (can s i) → Row s i (next s i)) where
       abbrev pub IsEnd : World → Type 0
-      IsEnd s = (i : ℕ) → i < seats → IsTrue (can s i) → ⊥
-
-      -- some of the first n seats can run its row, or none of them
-      abbrev Some : World → ℕ → Type 0
-      Some s n = (i : ℕ) × (i < n) × IsTrue (can s i)
-
-      look : (s : World) (n : ℕ) → Some s n ⊎ ((i : ℕ) → i < n → IsTrue (can s i) → ⊥)
-      look s zero = inr (λ i less x. absurd (omega arith))
-      look s (suc n) = by (can s n) refl (look s n)
-        where
-          last : can s n ≡ false → ((i : ℕ) → i < n → IsTrue (can s i) → ⊥) → (i : ℕ) → i < suc n → IsTrue (can s i) → ⊥
-          last not others i less x = at (ℕ_discrete i n)
-            where
-              at : Dec (i ≡ n) → ⊥
-              at (yes e) = let both : true ≡ false = sym x ∙ ap (can s) e ∙ not in cc
-              at (no ne) = others i (omega arith) x
-
-          by : (b : Bool) → can s n ≡ b → Some s n ⊎ ((i : ℕ) → i < n → IsTrue (can s i) → ⊥)
-              → Some s (suc n) ⊎ ((i : ℕ) → i < suc n → IsTrue (can s i) → ⊥)
-          by b is (inl some) = inl (some.0, omega arith, some.2)
-          by true is (inr others) = inl (n, omega arith, is)
-          by false is (inr others) = inr (last is others)
+      IsEnd s = NoneCan (can s) seats
 
       abbrev pub Ends : World → Type 0
       Ends s = (t : World) × (rows : ℕ) × Course Row Chosen seats s rows 0 t × IsEnd t
 
       end_within : (bound : ℕ) (s : World) → Rule s → weight s < bound → Ends s
       end_within zero s rule few = absurd (omega arith)
-      end_within (suc bound) s rule few = by (λ t held less. end_within bound t held less) (look s seats)
+      end_within (suc bound) s rule few = by (λ t held less. end_within bound t held less) (look (can s) seats)
         where
-          by : ((t : World) → Rule t → weight t < bound → Ends t) → Some s seats ⊎ IsEnd s → Ends s
+          by : ((t : World) → Rule t → weight t < bound → Ends t) → SomeCan (can s) seats ⊎ IsEnd s → Ends s
           by goes (inl some) =
               let x = runs s some.0 some.1 rule some.2 in
               let less = lowered s (next s some.0) some.0 some.1 rule x in

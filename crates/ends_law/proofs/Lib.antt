@@ -4,3 +4,8 @@ pub mod SemaWeights
 pub mod SemaEnding
 pub mod ListWeights
 pub mod ListEnding
+pub mod CoreWeights
+pub mod CoreFalling
+pub mod WaitsCounting
+pub mod CoreEnding
+pub mod RunEnding

@@ -141,7 +141,7 @@ costs grant notify_all = omega arith
 costs grant (end_first h a) = omega arith
 costs grant (end_second h) = omega arith
 
-with_its : (seat : ListSeat) (o : Option Ticket) (grant : ℕ) → list_weighs (with_ticket seat o) grant ≤ list_weighs seat grant + 5
+pub with_its : (seat : ListSeat) (o : Option Ticket) (grant : ℕ) → list_weighs (with_ticket seat o) grant ≤ list_weighs seat grant + 5
 with_its seat None grant = omega arith
 with_its seat (Some t) grant = omega arith
 

@@ -77,7 +77,7 @@ lowered m s t i in_range inv turn =
     (falls m m.seats i s.words (s.seats i).place (s.seats i).turn (s.seats i).hand (inv.seats i).fits (inv.seats i).granted turn.can))
 
 -- a choice
-handing_cost : (n : ℕ) (b : Bool) → 2 * n + 13 + handing n b ≡ release_cost n b
+pub handing_cost : (n : ℕ) (b : Bool) → 2 * n + 13 + handing n b ≡ release_cost n b
 handing_cost n true = omega arith
 handing_cost n false = omega arith
 

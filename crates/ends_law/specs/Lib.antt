@@ -3,3 +3,7 @@ pub mod SemaWeight
 pub mod SemaEnds
 pub mod ListWeight
 pub mod ListEnds
+pub mod CoreWeight
+pub mod CoreEnds
+pub mod RunWeight
+pub mod RunEnds
