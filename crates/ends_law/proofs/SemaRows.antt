@@ -23,6 +23,11 @@ use Rattle.ends_law.specs.SemaWeight.{acquire_weight, place_weight, stale_by, st
 abbrev pub standing : Place → ℕ → List WaitId → SeatState
 standing place turn hand = record { place = place; turn = turn; hand = hand }
 
+-- a release that takes one more wait out has fewer in hand than there are seats
+abbrev pub HasRoom : ℕ → Place → ℕ → Type 0
+HasRoom n (ReleasingMany r M5) in_hand = in_hand < n
+HasRoom n _ in_hand = Unit {0}
+
 -- what a seat weighs where nothing is stale
 abbrev pub weighs : ℕ → SeatState → ℕ → ℕ
 weighs n seat grant = place_weight n seat.place (length seat.hand) grant
@@ -100,25 +105,26 @@ module _ (m : Layout) (n i : ℕ) (g : Words) where
       by (inr e) =
           subst (Exchanges z c left j won lost) (sym e.0) (alone (put_same g.numbers c) (λ k ne. refl) (less (ap (λ b. cond b 0 2) e.0)))
 
-  pub falls : (place : Place) (t : ℕ) (hand : List WaitId) → HandFits place (length hand) → IsGrantOf place (g.grants i) → Runs (standing place t hand)
-  falls Rest t hand fits granted can = cc
-  falls (Acquiring a A1) t hand fits granted can =
+  pub falls : (place : Place) (t : ℕ) (hand : List WaitId) → HandFits place (length hand) → HasRoom n place (length hand) → IsGrantOf place (g.grants i)
+      → Runs (standing place t hand)
+  falls Rest t hand fits room granted can = cc
+  falls (Acquiring a A1) t hand fits room granted can =
       looked (standing (Acquiring a A1) t hand) a.counter (Acquiring a A3) (λ left. Acquiring a (A2 left)) (omega arith)
       (λ left e. let now = fresh left (g.numbers a.counter) e in omega arith)
-  falls (Acquiring a (A2 left)) t hand fits granted can =
+  falls (Acquiring a (A2 left)) t hand fits room granted can =
       exchanged (standing (Acquiring a (A2 left)) t hand) a.counter left i Rest (Acquiring a A1) refl (omega arith) (omega arith)
-  falls (Acquiring a A3) t hand fits granted can = alone refl (λ k ne. refl) (omega arith)
-  falls (Acquiring a A4) t hand fits granted can = alone refl (λ k ne. refl) (omega arith)
-  falls (Acquiring a A5) t hand fits granted can =
+  falls (Acquiring a A3) t hand fits room granted can = alone refl (λ k ne. refl) (omega arith)
+  falls (Acquiring a A4) t hand fits room granted can = alone refl (λ k ne. refl) (omega arith)
+  falls (Acquiring a A5) t hand fits room granted can =
       looked (standing (Acquiring a A5) t hand) a.counter (Acquiring a A7) (λ left. Acquiring a (A6 left)) (omega arith)
       (λ left e. let now = fresh left (g.numbers a.counter) e in omega arith)
-  falls (Acquiring a (A6 left)) t hand fits granted can =
+  falls (Acquiring a (A6 left)) t hand fits room granted can =
       exchanged (standing (Acquiring a (A6 left)) t hand) a.counter left i (Acquiring a A8) (Acquiring a A5) refl (omega arith) (omega arith)
-  falls (Acquiring a A7) t hand fits granted can =
+  falls (Acquiring a A7) t hand fits room granted can =
       alone refl (λ k ne. refl) (let asleep = ap (acquire_weight n (P t)) granted in omega arith)
-  falls (Acquiring a A8) t hand fits granted can = alone refl (λ k ne. refl) (omega arith)
-  falls (Acquiring a A9) t hand fits granted can = alone refl (λ k ne. refl) (omega arith)
-  falls (Acquiring a (P u)) t hand fits granted can = by (eqb_tells (g.grants i) 1)
+  falls (Acquiring a A8) t hand fits room granted can = alone refl (λ k ne. refl) (omega arith)
+  falls (Acquiring a A9) t hand fits room granted can = alone refl (λ k ne. refl) (omega arith)
+  falls (Acquiring a (P u)) t hand fits room granted can = by (eqb_tells (g.grants i) 1)
     where
       Woken : Bool → Type 0
       Woken b =
@@ -133,23 +139,23 @@ module _ (m : Layout) (n i : ℕ) (g : Words) where
           subst Woken (sym e.0)
           (alone refl (λ k ne. put_else g.grants i 0 k ne)
           (let served = handed_one n u (g.grants i) (ltb-true 0 (g.grants i) can) e.1 in omega arith))
-  falls (Acquiring a A10) t hand fits granted can =
+  falls (Acquiring a A10) t hand fits room granted can =
       looked (standing (Acquiring a A10) t hand) a.counter (Acquiring a A3) (λ left. Acquiring a (A11 left)) (omega arith)
       (λ left e. let now = fresh left (g.numbers a.counter) e in omega arith)
-  falls (Acquiring a (A11 left)) t hand fits granted can =
+  falls (Acquiring a (A11 left)) t hand fits room granted can =
       exchanged (standing (Acquiring a (A11 left)) t hand) a.counter left i Rest (Acquiring a A10) refl (omega arith) (omega arith)
-  falls (Releasing r R1) t hand fits granted can = pays refl (omega arith)
-  falls (Releasing r R2) t hand fits granted can =
+  falls (Releasing r R1) t hand fits room granted can = pays refl (omega arith)
+  falls (Releasing r R2) t hand fits room granted can =
       counted (standing (Releasing r R2) t hand) (g.waiters (m.root r.counter)) _ Rest (Releasing r R3) refl refl (omega arith) (omega arith)
-  falls (Releasing r R3) t hand fits granted can = alone refl (λ k ne. refl) (omega arith)
-  falls (Releasing r R4) t hand fits granted can =
+  falls (Releasing r R3) t hand fits room granted can = alone refl (λ k ne. refl) (omega arith)
+  falls (Releasing r R4) t hand fits room granted can =
       counted (standing (Releasing r R4) t hand) (g.waiters (m.root r.counter)) _ (Releasing r R6)
       (by_first (g.lists r.counter) (Releasing r R6) (λ w. Releasing r R5)) refl refl (omega arith) (by (g.lists r.counter))
     where
       by : (l : List WaitId) → Less (standing (Releasing r R4) t hand) (by_first l (Releasing r R6) (λ w. Releasing r R5))
       by [] = omega arith
       by (w ∷ l) = omega arith
-  falls (Releasing r R5) t hand fits granted can = by (g.lists r.counter)
+  falls (Releasing r R5) t hand fits room granted can = by (g.lists r.counter)
     where
       Leads : Next → Type 0
       Leads next =
@@ -159,7 +165,7 @@ module _ (m : Layout) (n i : ℕ) (g : Words) where
       by : (l : List WaitId) → Leads (by_first l (Releasing r R6, Nothing) (λ w. (Releasing r R6, Tells (Leave r.counter w i))))
       by [] = alone refl (λ k ne. refl) (omega arith)
       by (w ∷ l) = alone refl (λ k ne. refl) (omega arith)
-  falls (Releasing r R6) t hand fits granted can = by hand r.handoff
+  falls (Releasing r R6) t hand fits room granted can = by hand r.handoff
     where
       by : (l : List WaitId) (b : Bool) → Falls n i g (standing (Releasing (record r { handoff = b }) R6) t l)
           (standing (by_first l Rest (λ w. if b then Releasing r R7 else Releasing r R10)) t l)
@@ -167,27 +173,27 @@ module _ (m : Layout) (n i : ℕ) (g : Words) where
       by [] b = alone refl (λ k ne. refl) (omega arith)
       by (w ∷ l) true = alone refl (λ k ne. refl) (omega arith)
       by (w ∷ l) false = alone refl (λ k ne. refl) (omega arith)
-  falls (Releasing r R7) t hand fits granted can =
+  falls (Releasing r R7) t hand fits room granted can =
       looked (standing (Releasing r R7) t hand) r.counter (Releasing r R10) (λ left. Releasing r (R8 left)) (omega arith)
       (λ left e. let now = fresh left (g.numbers r.counter) e in omega arith)
-  falls (Releasing r (R8 left)) t hand fits granted can =
+  falls (Releasing r (R8 left)) t hand fits room granted can =
       exchanged (standing (Releasing r (R8 left)) t hand) r.counter left (waiter i hand) (Releasing r R9) (Releasing r R7) refl (omega arith) (omega arith)
-  falls (Releasing r R9) t (w ∷ l) fits granted can = wakes w l 2 refl (λ a u e. cc) refl refl refl (omega arith)
-  falls (Releasing r R9) t [] fits granted can = absurd (omega arith)
-  falls (Releasing r R10) t (w ∷ l) fits granted can = wakes w l 1 refl (λ a u e. cc) refl refl refl (omega arith)
-  falls (Releasing r R10) t [] fits granted can = absurd (omega arith)
-  falls (ReleasingMany r M1) t hand fits granted can = pays refl (omega arith)
-  falls (ReleasingMany r M2) t hand fits granted can =
+  falls (Releasing r R9) t (w ∷ l) fits room granted can = wakes w l 2 refl (λ a u e. cc) refl refl refl (omega arith)
+  falls (Releasing r R9) t [] fits room granted can = absurd (omega arith)
+  falls (Releasing r R10) t (w ∷ l) fits room granted can = wakes w l 1 refl (λ a u e. cc) refl refl refl (omega arith)
+  falls (Releasing r R10) t [] fits room granted can = absurd (omega arith)
+  falls (ReleasingMany r M1) t hand fits room granted can = pays refl (omega arith)
+  falls (ReleasingMany r M2) t hand fits room granted can =
       counted (standing (ReleasingMany r M2) t hand) (g.waiters (m.root r.counter)) _ Rest (ReleasingMany r M3) refl refl (omega arith) (omega arith)
-  falls (ReleasingMany r M3) t hand fits granted can = alone refl (λ k ne. refl) (omega arith)
-  falls (ReleasingMany r M4) t hand fits granted can =
+  falls (ReleasingMany r M3) t hand fits room granted can = alone refl (λ k ne. refl) (omega arith)
+  falls (ReleasingMany r M4) t hand fits room granted can =
       counted (standing (ReleasingMany r M4) t hand) (g.waiters (m.root r.counter)) _ (ReleasingMany r M6)
       (by_first (g.lists r.counter) (ReleasingMany r M6) (λ w. ReleasingMany r M5)) refl refl (omega arith) (by (g.lists r.counter))
     where
       by : (l : List WaitId) → Less (standing (ReleasingMany r M4) t hand) (by_first l (ReleasingMany r M6) (λ w. ReleasingMany r M5))
       by [] = let none = fits in omega arith
       by (w ∷ l) = let none = fits in omega arith
-  falls (ReleasingMany r M5) t hand fits granted can = by (g.lists r.counter)
+  falls (ReleasingMany r M5) t hand fits room granted can = by (g.lists r.counter)
     where
       z : SeatState
       z = standing (ReleasingMany r M5) t hand
@@ -198,17 +204,17 @@ module _ (m : Layout) (n i : ℕ) (g : Words) where
           (record g { waiters = put g.waiters (m.root r.counter) (g.waiters (m.root r.counter) - 1); lists = lists_after next.1 g.lists })
 
       goes : (w : WaitId) (b : Bool) → Leads (if b then ReleasingMany r M5 else ReleasingMany r M6, Tells (Leave r.counter w i))
-      goes w true = alone refl (λ k ne. refl) (let fewer = fits in let longer = length_last w hand in omega arith)
-      goes w false = alone refl (λ k ne. refl) (let fewer = fits in let longer = length_last w hand in omega arith)
+      goes w true = alone refl (λ k ne. refl) (let fewer = fits in let some = room in let longer = length_last w hand in omega arith)
+      goes w false = alone refl (λ k ne. refl) (let fewer = fits in let some = room in let longer = length_last w hand in omega arith)
 
       by : (l : List WaitId)
           → Leads (by_first l (ReleasingMany r M6, Nothing) (λ w. (after_leave r (length hand) (length l), Tells (Leave r.counter w i))))
-      by [] = alone refl (λ k ne. refl) (let fewer = fits in omega arith)
+      by [] = alone refl (λ k ne. refl) (let fewer = fits in let some = room in omega arith)
       by (w ∷ l) = goes w (nat_lt (length hand + 1) r.units && nat_lt 1 (length (w ∷ l)))
-  falls (ReleasingMany r M6) t [] fits granted can = alone refl (λ k ne. refl) (omega arith)
-  falls (ReleasingMany r M6) t (w ∷ l) fits granted can = alone refl (λ k ne. refl) (omega arith)
-  falls (ReleasingMany r M7) t [] fits granted can = absurd (omega arith)
-  falls (ReleasingMany r M7) t (w ∷ l) fits granted can = by (nat_lt 1 (length (w ∷ l)))
+  falls (ReleasingMany r M6) t [] fits room granted can = alone refl (λ k ne. refl) (omega arith)
+  falls (ReleasingMany r M6) t (w ∷ l) fits room granted can = alone refl (λ k ne. refl) (omega arith)
+  falls (ReleasingMany r M7) t [] fits room granted can = absurd (omega arith)
+  falls (ReleasingMany r M7) t (w ∷ l) fits room granted can = by (nat_lt 1 (length (w ∷ l)))
     where
       by : (b : Bool)
           → Falls n i g (standing (ReleasingMany r M7) t (w ∷ l)) (standing (if b then ReleasingMany r M7 else Rest) t l)

@@ -1,19 +1,21 @@
 -- Each row of the semaphores lowers the weight, and a choice raises it by its cost at most.
-use Rattle.std.proofs.Common.{◌≡◌, ℕ, ◌+◌, ◌*◌, ◌<◌, ◌≤◌, ◌≢◌, Bool, true, false, length, refl, sym, ap, ap₂, ◌∙◌, subst, arith, ◌==◌, cond}
+use Rattle.std.proofs.Common.{◌≡◌, ℕ, zero, suc, ◌+◌, ◌*◌, ◌<◌, ◌≤◌, ◌≢◌, Bool, true, false, length, refl, sym, ap, ap₂, ◌∙◌, subst, arith, ◌==◌, cond}
 use Rattle.step_table.specs.declared.place.AcquireRow.TheVariants.{A2, A6, A11, P}
 use Rattle.step_table.specs.declared.place.ReleaseRow.TheVariants.{R8}
 use Rattle.step_table.specs.declared.place.Place.{Place}
-use Rattle.step_table.specs.declared.place.Place.TheVariants.{Acquiring, Releasing}
+use Rattle.step_table.specs.declared.place.Place.TheVariants.{Acquiring, Releasing, ReleasingMany}
+use Rattle.step_table.specs.declared.place.ManyRow.TheVariants.{M5}
 use Rattle.step_table.specs.World.{Layout, Words, SeatState, SemaWorld, put}
 use Rattle.step_table.specs.Counting.{total, times}
 use Rattle.step_table.specs.Steps.{Turn, Choice, acquire, enter, release, release_many, give_up, give_up_lock, decide}
-use Rattle.step_table.proofs.Sums.{owned, posted}
-use Rattle.step_table.proofs.SumsOfSums.{total_add, total_most}
-use Rattle.sema_law.specs.Invariant.{IsInvariant}
+use Rattle.step_table.proofs.Sums.{total_has, owned, posted}
+use Rattle.step_table.proofs.SumsOfSums.{total_add, total_most, at_most_ones}
+use Rattle.step_table.specs.Counting.{IsWithin}
+use Rattle.sema_law.specs.Invariant.{asleep, Finds, IsInvariant}
 use Rattle.sema_law.proofs.Placing.{Waiter, same_here}
 use Rattle.sema_law.proofs.Parking.{in_a_hand}
 use Rattle.ends_law.specs.SemaWeight.{acquire_weight, place_weight, release_cost, handing, stale, weight, cost, Chosen, chosen}
-use Rattle.ends_law.proofs.SemaRows.{weighs, Falls, pays, alone, wakes, falls}
+use Rattle.ends_law.proofs.SemaRows.{HasRoom, weighs, Falls, pays, alone, wakes, falls}
 
 -- the weight of a world is that of its places and grants, and that of its stale exchanges
 abbrev standing_weight : Layout → (ℕ → SeatState) → (ℕ → ℕ) → ℕ
@@ -70,11 +72,29 @@ module _ (m : Layout) (s : SemaWorld) (i : ℕ) (in_range : i < m.seats) (inv : 
       let stales = owned (λ k seat grant. stale s.words.numbers seat.place) m.seats s.seats s.words.grants s.words.grants i q in_range (λ k ne. refl) in
       let same = ap (stale_weight m (put s.seats i q)) numbers in omega arith
 
+asleep_one : (p : Place) (grant : ℕ) → asleep p grant ≤ 1
+asleep_one (Acquiring a (P turn)) zero = omega arith
+asleep_one (Acquiring a (P turn)) (suc grant) = omega arith
+asleep_one _ grant = omega arith
+
+-- while a release takes waits out, one more stands in the list
+has_room : (m : Layout) (s : SemaWorld) (i : ℕ) → i < m.seats → IsInvariant m s → HasRoom m.seats (s.seats i).place (length (s.seats i).hand)
+has_room m s i in_range inv = by (s.seats i).place (inv.seats i).within (inv.finds i in_range)
+  where
+    by : (p : Place) → IsWithin m.counters p → Finds s.words.lists p → HasRoom m.seats p (length (s.seats i).hand)
+    by (ReleasingMany r M5) within finds =
+        let one = total_has m.counters (λ c. length (s.words.lists c)) r.counter within.0 in
+        let hand = total_has m.seats (λ k. length (s.seats k).hand) i in_range in
+        let few = at_most_ones m.seats (λ k. asleep (s.seats k).place (s.words.grants k)) (λ k h. asleep_one (s.seats k).place (s.words.grants k)) in
+        let counted = inv.sleepers in omega arith
+    by _ within finds = tt
+
 pub lowered : (m : Layout) (s t : SemaWorld) (i : ℕ) → i < m.seats → IsInvariant m s → Turn m.root s i t → weight m t < weight m s
 lowered m s t i in_range inv turn =
     subst (λ t. weight m t < weight m s) (sym turn.is)
     (lower m s i in_range inv _ _
-    (falls m m.seats i s.words (s.seats i).place (s.seats i).turn (s.seats i).hand (inv.seats i).fits (inv.seats i).granted turn.can))
+    (falls m m.seats i s.words (s.seats i).place (s.seats i).turn (s.seats i).hand (inv.seats i).fits
+    (has_room m s i in_range inv) (inv.seats i).granted turn.can))
 
 -- a choice
 pub handing_cost : (n : ℕ) (b : Bool) → 2 * n + 13 + handing n b ≡ release_cost n b

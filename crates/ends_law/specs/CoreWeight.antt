@@ -1,5 +1,5 @@
 -- The weight of the whole machine: that of its semaphores and of its lists, and what each seat's call on a wait group has before it.
-use Rattle.std.specs.Prelude.{◌≡◌, ℕ, ◌+◌, ◌*◌, ◌≤◌, if◌then◌else◌}
+use Rattle.std.specs.Prelude.{◌≡◌, ℕ, ◌+◌, ◌*◌, ◌≤◌, min, if◌then◌else◌}
 use Rattle.step_table.specs.declared.call.Call.{Call}
 use Rattle.step_table.specs.declared.call.Call.TheVariants.{Acquire, Release, ReleaseMany, Add, Wait, One, All, GroupAdd, GroupWait}
 use Rattle.step_table.specs.declared.group_word.GroupWord.{GroupWord}
@@ -56,7 +56,7 @@ core_weight m s =
 abbrev pub call_cost : ℕ → Call → ℕ
 call_cost n (Acquire c lifo) = 2 * n + 7
 call_cost n (Release c handoff) = release_cost n handoff
-call_cost n (ReleaseMany c units) = 2 * n + 8 * units + 5
+call_cost n (ReleaseMany c units) = 2 * n + 8 * min units n + 5
 call_cost n (Add l) = 1
 call_cost n (Wait l) = 5
 call_cost n (One l) = 7

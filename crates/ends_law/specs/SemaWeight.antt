@@ -1,6 +1,6 @@
 -- The weight of a world of semaphores. Each row lowers it, whichever seat runs it; only a call that begins raises it, and by what
 -- the call costs. So it tells how many rows can still be run.
-use Rattle.std.specs.Prelude.{ℕ, zero, suc, ◌+◌, ◌-◌, ◌*◌, ◌==◌, if◌then◌else◌, Bool, true, false, length}
+use Rattle.std.specs.Prelude.{ℕ, zero, suc, ◌+◌, ◌-◌, ◌*◌, min, ◌==◌, if◌then◌else◌, Bool, true, false, length}
 use Rattle.step_table.specs.declared.place.AcquireRow.{AcquireRow}
 use Rattle.step_table.specs.declared.place.AcquireRow.TheVariants.{A1, A2, A3, A4, A5, A6, A7, A8, A9, P, A10, A11}
 use Rattle.step_table.specs.declared.place.ReleaseRow.{ReleaseRow}
@@ -48,13 +48,14 @@ release_weight n handoff (R8 left) = 2 * n + 7
 release_weight n handoff R9 = 1
 release_weight n handoff R10 = 7
 
--- the same of a release of so many units, with so many waits in hand
+-- the same of a release of so many units, with so many waits in hand. It wakes no more waits than it has units, or there are
+-- seats
 abbrev pub many_weight : ℕ → ℕ → ManyRow → ℕ → ℕ
-many_weight n units M1 in_hand = 2 * n + 8 * units + 5
-many_weight n units M2 in_hand = 8 * units + 4
-many_weight n units M3 in_hand = 8 * units + 3
-many_weight n units M4 in_hand = 8 * units + 2
-many_weight n units M5 in_hand = 8 * units + 1 - in_hand
+many_weight n units M1 in_hand = 2 * n + 8 * min units n + 5
+many_weight n units M2 in_hand = 8 * min units n + 4
+many_weight n units M3 in_hand = 8 * min units n + 3
+many_weight n units M4 in_hand = 8 * min units n + 2
+many_weight n units M5 in_hand = 8 * min units n + 1 - in_hand
 many_weight n units M6 in_hand = 7 * in_hand + 1
 many_weight n units M7 in_hand = 7 * in_hand
 
@@ -92,7 +93,7 @@ release_cost n false = 2 * n + 13
 abbrev pub cost : ℕ → Place → Place → ℕ
 cost n Rest (Acquiring a row) = 2 * n + 7
 cost n Rest (Releasing r row) = release_cost n r.handoff
-cost n Rest (ReleasingMany r row) = 2 * n + 8 * r.units + 5
+cost n Rest (ReleasingMany r row) = 2 * n + 8 * min r.units n + 5
 cost n (Releasing q row) (Releasing r other) = 2 * n + 1
 cost n _ _ = 0
 
