@@ -1,5 +1,5 @@
 -- Each row of the whole lowers its weight.
-use Rattle.std.proofs.Common.{◌≡◌, ℕ, ◌+◌, ◌*◌, ◌<◌, ◌≤◌, ◌==◌, ◌&&◌, ◌||◌, not, if◌then◌else◌, Bool, true, false, cond, IsTrue, ℤ, pos, int_lt, int_eq, refl, sym, ap, subst, arith}
+use Rattle.std.proofs.Common.{◌≡◌, ℕ, ◌+◌, ◌-◌, ◌*◌, ◌<◌, ◌≤◌, ◌==◌, ◌&&◌, ◌||◌, not, if◌then◌else◌, Bool, true, false, cond, IsTrue, ℤ, pos, int_lt, int_eq, refl, sym, ap, subst, arith}
 use Rattle.std.proofs.Math.Nat.{mul-le-mul_right}
 use Rattle.step_table.specs.declared.group_word.GroupWord.{GroupWord}
 use Rattle.step_table.specs.declared.list_place.ListPlace.{ListPlace}
@@ -24,12 +24,13 @@ use Rattle.step_table.specs.Group.{empty_word, same_word, plus, one_more, after_
 use Rattle.step_table.specs.Core.{CoreLayout, semaphore, counters_of, Core}
 use Rattle.step_table.specs.CoreSteps.{after_counter, after_list, after_group, counter_row, list_row, row_of_standing, core_turned, can_run}
 use Rattle.step_table.proofs.Sums.{put_same, on_most}
-use Rattle.step_table.proofs.SumsOfSums.{total_add, total_most, at_most_ones}
+use Rattle.step_table.proofs.SumsOfSums.{total_add}
 use Rattle.step_table.proofs.GroupBits.{same_itself}
 use Rattle.core_law.specs.CoreLaw.{IsStanding, IsCoreInvariant}
 use Rattle.list_law.proofs.ListKeeping.{list_reached}
 use Rattle.ends_law.specs.ListWeight.{list_weight}
 use Rattle.ends_law.specs.CoreWeight.{releases_weight, group_weight, standing_weight, stale_word, core_weight, counts_on, WaitsCounted}
+use Rattle.ends_law.proofs.SemaWeights.{all_but}
 use Rattle.ends_law.proofs.SemaWeights as semaphores
 use Rattle.ends_law.proofs.ListWeights as lists
 use Rattle.ends_law.proofs.CoreWeights.{put_change, stands_at, stands_weight, on_counters, at_counter_weight, releases_weigh, goes_on_weight}
@@ -39,7 +40,7 @@ abbrev lands : ℕ → ℕ → (ℕ → GroupWord) → GroupNext → ℕ
 lands n g groups group.Ends = 0
 lands n g groups (group.Goes row) = group_weight n row + stale_word groups (AtGroup g row)
 lands n g groups (group.Fails misuse) = 0
-lands n g groups group.Acquires = 2 * n + 8
+lands n g groups group.Acquires = 2 * n + 6
 lands n g groups (group.Releases count) = releases_weight n count
 
 stale_word_most : (groups : ℕ → GroupWord) (standing : Standing) → stale_word groups standing ≤ 2
@@ -56,16 +57,16 @@ counts_one g (AtGroup h V3) = on_most h g 1
 counts_one g (Failed misuse) = omega arith
 counts_one g _ = omega arith
 
--- the releases of as many waits as there are seats weigh no less than those of so many
-fewer : (n w : ℕ) → w ≤ n → releases_weight n w ≤ releases_weight n n
-fewer n w few = mul-le-mul_right (2 * n + 13) few
+-- the releases of as many waits as there are other seats weigh no less than those of so many
+fewer : (n w : ℕ) → w < n → releases_weight n w ≤ releases_weight n (n - 1)
+fewer n w few = let most : w ≤ n - 1 = omega arith in mul-le-mul_right (2 * n + 11) most
 
 -- a row of a group: it changes the word, and pays for all others; or it leaves the word
 data GroupFalls (n g : ℕ) (groups : ℕ → GroupWord) (row : GroupRow) (w : GroupWord) (next : GroupNext) : Type 0 where
-  pays : lands n g (put groups g w) next + 2 * n < group_weight n row → GroupFalls n g groups row w next
+  pays : lands n g (put groups g w) next + 2 * n < group_weight n row + 2 → GroupFalls n g groups row w next
   alone : w ≡ groups g → lands n g groups next < group_weight n row + stale_word groups (AtGroup g row) → GroupFalls n g groups row w next
 
-module _ (n g : ℕ) (groups : ℕ → GroupWord) (few : (groups g).waits ≤ n) where
+module _ (n g : ℕ) (groups : ℕ → GroupWord) (some : 0 < n) where
   abbrev Runs : GroupRow → GroupWord × GroupNext → Type 0
   Runs row to = GroupFalls n g groups row to.0 to.1
 
@@ -74,28 +75,29 @@ module _ (n g : ℕ) (groups : ℕ → GroupWord) (few : (groups g).waits ≤ n)
   either Has true x y p q = p
   either Has false x y p q = q
 
-  added : (d : ℤ) (w : GroupWord) → w.waits ≤ n → GroupFalls n g groups (G1 d) w (after_add d w)
+  added : (d : ℤ) (w : GroupWord) → w.waits < n → GroupFalls n g groups (G1 d) w (after_add d w)
   added d w most =
       either (GroupFalls n g groups (G1 d) w) (int_lt w.counter (pos 0)) _ _ (pays (omega arith))
       (either (GroupFalls n g groups (G1 d) w) (not (w.waits == 0) && int_lt (pos 0) d && int_eq w.counter d) _ _ (pays (omega arith))
       (either (GroupFalls n g groups (G1 d) w) (int_lt (pos 0) w.counter || (w.waits == 0)) _ _ (pays (omega arith))
       (pays (let releases = fewer n w.waits most in omega arith))))
 
-  group_falls : (row : GroupRow) → Runs row (group_row row (groups g))
-  group_falls (G1 d) = added d (plus (groups g) d) few
-  group_falls (G2 seen) =
+  -- the word counts no wait of this seat
+  group_falls : (row : GroupRow) → (groups g).waits + 1 ≤ n + counts_on g (AtGroup g row) → Runs row (group_row row (groups g))
+  group_falls (G1 d) few = added d (plus (groups g) d) (omega arith)
+  group_falls (G2 seen) few =
       either (GroupFalls n g groups (G2 seen) (groups g)) (same_word seen (groups g)) _ _ (alone refl (omega arith)) (alone refl (omega arith))
-  group_falls (G3 seen) = pays (omega arith)
-  group_falls V1 =
+  group_falls (G3 seen) few = pays (omega arith)
+  group_falls V1 few =
       either (GroupFalls n g groups V1 (groups g)) (int_eq (groups g).counter (pos 0)) _ _ (alone refl (omega arith))
       (alone refl (let fresh : stale_word groups (AtGroup g (V2 (groups g))) ≡ 0 = ap (λ b. cond {A = ℕ} b 0 2) (same_itself (groups g) (groups g) refl) in omega arith))
-  group_falls (V2 seen) = by (same_word seen (groups g)) refl
+  group_falls (V2 seen) few = by (same_word seen (groups g)) refl
     where
       by : (b : Bool) → same_word seen (groups g) ≡ b
           → GroupFalls n g groups (V2 seen) (if b then one_more (groups g) else groups g) (if b then group.Acquires else group.Goes V1)
       by true e = pays (omega arith)
       by false e = alone refl (let lost : stale_word groups (AtGroup g (V2 seen)) ≡ 2 = ap (λ b. cond {A = ℕ} b 0 2) e in omega arith)
-  group_falls V3 =
+  group_falls V3 few =
       either (GroupFalls n g groups V3 (groups g)) (same_word (groups g) empty_word) _ _ (alone refl (omega arith)) (alone refl (omega arith))
 
 module _ (m : CoreLayout) (i : ℕ) (in_range : i < m.seats) where
@@ -128,7 +130,9 @@ module _ (m : CoreLayout) (i : ℕ) (in_range : i < m.seats) where
         let here = ap (stands_at m i in_range (put s.groups g w)) at in
         let before = with_words s.groups in
         let after = with_words (put s.groups g w) in
-        let few = total_most m.seats 2 (λ k. stale_word (put s.groups g w) (s.standing k)) (λ k h. stale_word_most (put s.groups g w) (s.standing k)) in omega arith
+        let few = all_but m.seats 2 (λ k. stale_word (put s.groups g w) (s.standing k)) i in_range
+        (λ k h. stale_word_most (put s.groups g w) (s.standing k)) in
+        let own = ap (stale_word (put s.groups g w)) at in omega arith
     group_turned g row at rests w next (alone same less) = subst Less (ap (put s.groups g) (sym same)) (subst Less (sym (put_same s.groups g)) still)
       where
         Less : (ℕ → GroupWord) → Type 0
@@ -180,10 +184,11 @@ module _ (m : CoreLayout) (i : ℕ) (in_range : i < m.seats) where
     row_lowers (AtCounter after) at is can = counter_turned after at can
     row_lowers (AtList l) at is can = list_turned l at is.2 can
     row_lowers (AtGroup g row) at is can =
-        let all = at_most_ones m.seats (λ k. counts_on g (s.standing k)) (λ k h. counts_one g (s.standing k)) in
+        let all = all_but m.seats 1 (λ k. counts_on g (s.standing k)) i in_range (λ k h. counts_one g (s.standing k)) in
+        let own = ap (counts_on g) at in
         let count = counted g in
         group_turned g row at is.0 (group_row row (s.groups g)).0 (group_row row (s.groups g)).1
-        (group_falls m.seats g s.groups (omega arith) row)
+        (group_falls m.seats g s.groups (omega arith) row (omega arith))
     row_lowers _ at is can = absurd cc
 
 pub core_lowered : (m : CoreLayout) (s : Core) (i : ℕ) → i < m.seats → m.seats ≤ 9223372036854775808 → IsCoreInvariant m s → WaitsCounted m s

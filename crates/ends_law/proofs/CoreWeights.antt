@@ -77,7 +77,7 @@ module _ (m : CoreLayout) (i : ℕ) (in_range : i < m.seats) where
   releases_weigh s g (suc more) rests =
       let all = at_counter_weight s (Releasing (record { counter = semaphore m g; handoff = false }) R1) (Releases g more) in
       let none = ap (on_counters s.semaphores) rests in
-      let one_more : suc more * (2 * m.seats + 13) ≡ more * (2 * m.seats + 13) + (2 * m.seats + 13) = suc-mul more (2 * m.seats + 13) in omega arith
+      let one_more : suc more * (2 * m.seats + 11) ≡ more * (2 * m.seats + 11) + (2 * m.seats + 11) = suc-mul more (2 * m.seats + 11) in omega arith
 
   -- what comes after a call on a counter was weighed before
   pub goes_on_weight : (s : Core) (after : After) → s.standing i ≡ AtCounter after → (s.semaphores.seats i).place ≡ on_counter.Rest
@@ -107,7 +107,7 @@ module _ (m : CoreLayout) (i : ℕ) (in_range : i < m.seats) where
       let all = at_counter_weight s (Acquiring (record { counter = c; lifo = lifo }) A1) NextCall in omega arith
   calls_raise s (Release c handoff) =
       let all = at_counter_weight s (Releasing (record { counter = c; handoff = handoff }) R1) NextCall in
-      let same = handing_cost m.seats handoff in omega arith
+      let same = handing_cost m.seats handoff (omega arith) in omega arith
   calls_raise s (ReleaseMany c n) =
       let all = at_counter_weight s (ReleasingMany (record { counter = c; units = n }) M1) NextCall in omega arith
   calls_raise s (Add l) = on_list s l (record ((s.lists l).seats i) { place = Adding }) 1 (omega arith)

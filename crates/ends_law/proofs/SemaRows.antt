@@ -23,9 +23,9 @@ use Rattle.ends_law.specs.SemaWeight.{acquire_weight, place_weight, stale_by, st
 abbrev pub standing : Place → ℕ → List WaitId → SeatState
 standing place turn hand = record { place = place; turn = turn; hand = hand }
 
--- a release that takes one more wait out has fewer in hand than there are seats
+-- a release that takes one more wait out has fewer in hand than there are other seats
 abbrev pub HasRoom : ℕ → Place → ℕ → Type 0
-HasRoom n (ReleasingMany r M5) in_hand = in_hand < n
+HasRoom n (ReleasingMany r M5) in_hand = in_hand + 1 < n
 HasRoom n _ in_hand = Unit {0}
 
 -- what a seat weighs where nothing is stale
@@ -35,14 +35,15 @@ weighs n seat grant = place_weight n seat.place (length seat.hand) grant
 -- a row of seat i, of n seats, from the seat p and the words g to the seat q and the words h
 pub data Falls (n i : ℕ) (g : Words) (p q : SeatState) (h : Words) : Type 0 where
   -- it changes a number, and pays for all whose exchanges become stale
-  pays : h.grants ≡ g.grants → weighs n q (h.grants i) + 2 * n < weighs n p (g.grants i) → Falls n i g p q h
+  pays : h.grants ≡ g.grants → stale h.numbers q.place ≡ 0 → weighs n q (h.grants i) + 2 * n < weighs n p (g.grants i) + 2
+      → Falls n i g p q h
   -- it changes no number, and no other's grant
   alone : h.numbers ≡ g.numbers → ((k : ℕ) → k ≢ i → h.grants k ≡ g.grants k)
       → weighs n q (h.grants i) + stale g.numbers q.place < weighs n p (g.grants i) + stale g.numbers p.place → Falls n i g p q h
   -- it stores the grant x of the first wait in hand
   wakes : (w : WaitId) (l : List WaitId) (x : ℕ) → p.hand ≡ w ∷ l → ((a : Acquire) (t : ℕ) → p.place ≡ Acquiring a (P t) → ⊥)
       → h.numbers ≡ g.numbers → h.grants ≡ put g.grants w.seat x → stale g.numbers q.place ≡ 0
-      → weighs n q (g.grants i) + acquire_weight n (P w.turn) x < weighs n p (g.grants i) + 2 * n + 2 → Falls n i g p q h
+      → weighs n q (g.grants i) + acquire_weight n (P w.turn) x < weighs n p (g.grants i) + 2 * n → Falls n i g p q h
 
 -- what was read just now is fresh
 fresh : (left v : ℕ) → v ≡ suc left → stale_by left v ≡ 0
@@ -54,7 +55,7 @@ handed_one n t zero some ne = absurd (omega arith)
 handed_one n t (suc zero) some ne = absurd (ne refl)
 handed_one n t (suc (suc v)) some ne = refl
 
-module _ (m : Layout) (n i : ℕ) (g : Words) where
+module _ (m : Layout) (n i : ℕ) (some : 0 < n) (g : Words) where
   -- the event at this seat, where it can be, is one of the three
   abbrev Runs : SeatState → Type 0
   Runs z =
@@ -90,10 +91,10 @@ module _ (m : Layout) (n i : ℕ) (g : Words) where
 
   -- an exchange takes a unit, and its seat pays for all others; or it was stale, and its seat has 2 more for its way round
   exchanged : (z : SeatState) (c left j : ℕ) (won lost : Place) → stale g.numbers z.place ≡ stale_by left (g.numbers c)
-      → weighs n (record z { place = won }) (g.grants i) + 2 * n < weighs n z (g.grants i)
+      → ((numbers : ℕ → ℕ) → stale numbers won ≡ 0) → weighs n (record z { place = won }) (g.grants i) + 2 * n < weighs n z (g.grants i) + 2
       → weighs n (record z { place = lost }) (g.grants i) + stale g.numbers lost < weighs n z (g.grants i) + 2
       → Exchanges z c left j won lost (g.numbers c == left + 1)
-  exchanged z c left j won lost is wins loses = by (eqb_tells (g.numbers c) (left + 1))
+  exchanged z c left j won lost is lands wins loses = by (eqb_tells (g.numbers c) (left + 1))
     where
       less : stale_by left (g.numbers c) ≡ 2 → Less z lost
       less two = omega arith
@@ -101,7 +102,7 @@ module _ (m : Layout) (n i : ℕ) (g : Words) where
       by : ((eqb (g.numbers c) (left + 1) ≡ true) × (g.numbers c ≡ left + 1))
           ⊎ ((eqb (g.numbers c) (left + 1) ≡ false) × (g.numbers c ≢ left + 1))
           → Exchanges z c left j won lost (g.numbers c == left + 1)
-      by (inl e) = subst (Exchanges z c left j won lost) (sym e.0) (pays refl wins)
+      by (inl e) = subst (Exchanges z c left j won lost) (sym e.0) (pays refl (lands _) wins)
       by (inr e) =
           subst (Exchanges z c left j won lost) (sym e.0) (alone (put_same g.numbers c) (λ k ne. refl) (less (ap (λ b. cond b 0 2) e.0)))
 
@@ -112,14 +113,14 @@ module _ (m : Layout) (n i : ℕ) (g : Words) where
       looked (standing (Acquiring a A1) t hand) a.counter (Acquiring a A3) (λ left. Acquiring a (A2 left)) (omega arith)
       (λ left e. let now = fresh left (g.numbers a.counter) e in omega arith)
   falls (Acquiring a (A2 left)) t hand fits room granted can =
-      exchanged (standing (Acquiring a (A2 left)) t hand) a.counter left i Rest (Acquiring a A1) refl (omega arith) (omega arith)
+      exchanged (standing (Acquiring a (A2 left)) t hand) a.counter left i Rest (Acquiring a A1) refl (λ numbers. refl) (omega arith) (omega arith)
   falls (Acquiring a A3) t hand fits room granted can = alone refl (λ k ne. refl) (omega arith)
   falls (Acquiring a A4) t hand fits room granted can = alone refl (λ k ne. refl) (omega arith)
   falls (Acquiring a A5) t hand fits room granted can =
       looked (standing (Acquiring a A5) t hand) a.counter (Acquiring a A7) (λ left. Acquiring a (A6 left)) (omega arith)
       (λ left e. let now = fresh left (g.numbers a.counter) e in omega arith)
   falls (Acquiring a (A6 left)) t hand fits room granted can =
-      exchanged (standing (Acquiring a (A6 left)) t hand) a.counter left i (Acquiring a A8) (Acquiring a A5) refl (omega arith) (omega arith)
+      exchanged (standing (Acquiring a (A6 left)) t hand) a.counter left i (Acquiring a A8) (Acquiring a A5) refl (λ numbers. refl) (omega arith) (omega arith)
   falls (Acquiring a A7) t hand fits room granted can =
       alone refl (λ k ne. refl) (let asleep = ap (acquire_weight n (P t)) granted in omega arith)
   falls (Acquiring a A8) t hand fits room granted can = alone refl (λ k ne. refl) (omega arith)
@@ -143,8 +144,8 @@ module _ (m : Layout) (n i : ℕ) (g : Words) where
       looked (standing (Acquiring a A10) t hand) a.counter (Acquiring a A3) (λ left. Acquiring a (A11 left)) (omega arith)
       (λ left e. let now = fresh left (g.numbers a.counter) e in omega arith)
   falls (Acquiring a (A11 left)) t hand fits room granted can =
-      exchanged (standing (Acquiring a (A11 left)) t hand) a.counter left i Rest (Acquiring a A10) refl (omega arith) (omega arith)
-  falls (Releasing r R1) t hand fits room granted can = pays refl (omega arith)
+      exchanged (standing (Acquiring a (A11 left)) t hand) a.counter left i Rest (Acquiring a A10) refl (λ numbers. refl) (omega arith) (omega arith)
+  falls (Releasing r R1) t hand fits room granted can = pays refl refl (omega arith)
   falls (Releasing r R2) t hand fits room granted can =
       counted (standing (Releasing r R2) t hand) (g.waiters (m.root r.counter)) _ Rest (Releasing r R3) refl refl (omega arith) (omega arith)
   falls (Releasing r R3) t hand fits room granted can = alone refl (λ k ne. refl) (omega arith)
@@ -177,12 +178,12 @@ module _ (m : Layout) (n i : ℕ) (g : Words) where
       looked (standing (Releasing r R7) t hand) r.counter (Releasing r R10) (λ left. Releasing r (R8 left)) (omega arith)
       (λ left e. let now = fresh left (g.numbers r.counter) e in omega arith)
   falls (Releasing r (R8 left)) t hand fits room granted can =
-      exchanged (standing (Releasing r (R8 left)) t hand) r.counter left (waiter i hand) (Releasing r R9) (Releasing r R7) refl (omega arith) (omega arith)
+      exchanged (standing (Releasing r (R8 left)) t hand) r.counter left (waiter i hand) (Releasing r R9) (Releasing r R7) refl (λ numbers. refl) (omega arith) (omega arith)
   falls (Releasing r R9) t (w ∷ l) fits room granted can = wakes w l 2 refl (λ a u e. cc) refl refl refl (omega arith)
   falls (Releasing r R9) t [] fits room granted can = absurd (omega arith)
   falls (Releasing r R10) t (w ∷ l) fits room granted can = wakes w l 1 refl (λ a u e. cc) refl refl refl (omega arith)
   falls (Releasing r R10) t [] fits room granted can = absurd (omega arith)
-  falls (ReleasingMany r M1) t hand fits room granted can = pays refl (omega arith)
+  falls (ReleasingMany r M1) t hand fits room granted can = pays refl refl (omega arith)
   falls (ReleasingMany r M2) t hand fits room granted can =
       counted (standing (ReleasingMany r M2) t hand) (g.waiters (m.root r.counter)) _ Rest (ReleasingMany r M3) refl refl (omega arith) (omega arith)
   falls (ReleasingMany r M3) t hand fits room granted can = alone refl (λ k ne. refl) (omega arith)
@@ -204,12 +205,12 @@ module _ (m : Layout) (n i : ℕ) (g : Words) where
           (record g { waiters = put g.waiters (m.root r.counter) (g.waiters (m.root r.counter) - 1); lists = lists_after next.1 g.lists })
 
       goes : (w : WaitId) (b : Bool) → Leads (if b then ReleasingMany r M5 else ReleasingMany r M6, Tells (Leave r.counter w i))
-      goes w true = alone refl (λ k ne. refl) (let fewer = fits in let some = room in let longer = length_last w hand in omega arith)
-      goes w false = alone refl (λ k ne. refl) (let fewer = fits in let some = room in let longer = length_last w hand in omega arith)
+      goes w true = alone refl (λ k ne. refl) (let fewer = fits in let others = room in let longer = length_last w hand in omega arith)
+      goes w false = alone refl (λ k ne. refl) (let fewer = fits in let others = room in let longer = length_last w hand in omega arith)
 
       by : (l : List WaitId)
           → Leads (by_first l (ReleasingMany r M6, Nothing) (λ w. (after_leave r (length hand) (length l), Tells (Leave r.counter w i))))
-      by [] = alone refl (λ k ne. refl) (let fewer = fits in let some = room in omega arith)
+      by [] = alone refl (λ k ne. refl) (let fewer = fits in let others = room in omega arith)
       by (w ∷ l) = goes w (nat_lt (length hand + 1) r.units && nat_lt 1 (length (w ∷ l)))
   falls (ReleasingMany r M6) t [] fits room granted can = alone refl (λ k ne. refl) (omega arith)
   falls (ReleasingMany r M6) t (w ∷ l) fits room granted can = alone refl (λ k ne. refl) (omega arith)

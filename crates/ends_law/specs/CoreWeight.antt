@@ -1,5 +1,5 @@
 -- The weight of the whole machine: that of its semaphores and of its lists, and what each seat's call on a wait group has before it.
-use Rattle.std.specs.Prelude.{◌≡◌, ℕ, ◌+◌, ◌*◌, ◌≤◌, min, if◌then◌else◌}
+use Rattle.std.specs.Prelude.{◌≡◌, ℕ, ◌+◌, ◌-◌, ◌*◌, ◌≤◌, min, if◌then◌else◌}
 use Rattle.step_table.specs.declared.call.Call.{Call}
 use Rattle.step_table.specs.declared.call.Call.TheVariants.{Acquire, Release, ReleaseMany, Add, Wait, One, All, GroupAdd, GroupWait}
 use Rattle.step_table.specs.declared.group_word.GroupWord.{GroupWord}
@@ -19,15 +19,15 @@ use Rattle.ends_law.specs.ListWeight.{list_weight}
 
 -- of n seats: what so many releases on a group's semaphore weigh
 abbrev pub releases_weight : ℕ → ℕ → ℕ
-releases_weight n more = more * (2 * n + 13)
+releases_weight n more = more * (2 * n + 11)
 
--- what a seat weighs at a row of a wait group. An add pays for a release of each seat, as it doesn't know yet how many wait
+-- what a seat weighs at a row of a wait group. An add pays for a release of each other seat, as it doesn't know yet how many wait
 abbrev pub group_weight : ℕ → GroupRow → ℕ
-group_weight n (G1 d) = 4 * n + 3 + releases_weight n n
-group_weight n (G2 seen) = 2 * n + 2 + releases_weight n seen.waits
-group_weight n (G3 seen) = 2 * n + 1 + releases_weight n seen.waits
-group_weight n V1 = 4 * n + 10
-group_weight n (V2 seen) = 4 * n + 9
+group_weight n (G1 d) = 4 * n - 1 + releases_weight n (n - 1)
+group_weight n (G2 seen) = 2 * n + releases_weight n seen.waits
+group_weight n (G3 seen) = 2 * n - 1 + releases_weight n seen.waits
+group_weight n V1 = 4 * n + 6
+group_weight n (V2 seen) = 4 * n + 5
 group_weight n V3 = 1
 
 -- what comes after its call on a counter
@@ -54,15 +54,15 @@ core_weight m s =
 
 -- what a call costs
 abbrev pub call_cost : ℕ → Call → ℕ
-call_cost n (Acquire c lifo) = 2 * n + 7
+call_cost n (Acquire c lifo) = 2 * n + 5
 call_cost n (Release c handoff) = release_cost n handoff
-call_cost n (ReleaseMany c units) = 2 * n + 8 * min units n + 5
+call_cost n (ReleaseMany c units) = 2 * n + 8 * min units (n - 1) + 3
 call_cost n (Add l) = 1
 call_cost n (Wait l) = 5
 call_cost n (One l) = 7
 call_cost n (All l) = 7
-call_cost n (GroupAdd g d) = 4 * n + 3 + releases_weight n n
-call_cost n (GroupWait g) = 4 * n + 10
+call_cost n (GroupAdd g d) = 4 * n - 1 + releases_weight n (n - 1)
+call_cost n (GroupWait g) = 4 * n + 6
 
 -- seat i, at rest, begins a call, at this cost
 pub data Called (m : CoreLayout) (s : Core) (i : ℕ) : ℕ → Core → Type 0 where

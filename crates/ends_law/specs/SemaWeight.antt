@@ -16,46 +16,46 @@ use Rattle.step_table.specs.Counting.{total}
 -- of n seats: what a seat weighs at a row of an acquire, with this grant. A sleeper keeps what a failed round costs, so whoever
 -- wakes it in vain pays for six rows, and not for its exchanges
 abbrev pub acquire_weight : ℕ → AcquireRow → ℕ → ℕ
-acquire_weight n A1 grant = 2 * n + 7
-acquire_weight n (A2 left) grant = 2 * n + 6
-acquire_weight n A3 grant = 2 * n + 6
-acquire_weight n A4 grant = 2 * n + 5
-acquire_weight n A5 grant = 2 * n + 4
-acquire_weight n (A6 left) grant = 2 * n + 3
-acquire_weight n A7 grant = 2 * n + 3
+acquire_weight n A1 grant = 2 * n + 5
+acquire_weight n (A2 left) grant = 2 * n + 4
+acquire_weight n A3 grant = 2 * n + 4
+acquire_weight n A4 grant = 2 * n + 3
+acquire_weight n A5 grant = 2 * n + 2
+acquire_weight n (A6 left) grant = 2 * n + 1
+acquire_weight n A7 grant = 2 * n + 1
 acquire_weight n A8 grant = 2
 acquire_weight n A9 grant = 1
-acquire_weight n (P turn) zero = 2 * n + 2
-acquire_weight n (P turn) (suc zero) = 2 * n + 8
+acquire_weight n (P turn) zero = 2 * n
+acquire_weight n (P turn) (suc zero) = 2 * n + 6
 acquire_weight n (P turn) (suc (suc grant)) = 1
-acquire_weight n A10 grant = 2 * n + 7
-acquire_weight n (A11 left) grant = 2 * n + 6
+acquire_weight n A10 grant = 2 * n + 5
+acquire_weight n (A11 left) grant = 2 * n + 4
 
 -- what a release pays beside, while it may still take the unit for the waiter: that exchange may make all others stale
 abbrev pub handing : ℕ → Bool → ℕ
-handing n true = 2 * n + 1
+handing n true = 2 * n - 1
 handing n false = 0
 
 abbrev pub release_weight : ℕ → Bool → ReleaseRow → ℕ
-release_weight n handoff R1 = 2 * n + 13 + handing n handoff
+release_weight n handoff R1 = 2 * n + 11 + handing n handoff
 release_weight n handoff R2 = 12 + handing n handoff
 release_weight n handoff R3 = 11 + handing n handoff
 release_weight n handoff R4 = 10 + handing n handoff
 release_weight n handoff R5 = 9 + handing n handoff
 release_weight n handoff R6 = 8 + handing n handoff
-release_weight n handoff R7 = 2 * n + 8
-release_weight n handoff (R8 left) = 2 * n + 7
+release_weight n handoff R7 = 2 * n + 6
+release_weight n handoff (R8 left) = 2 * n + 5
 release_weight n handoff R9 = 1
 release_weight n handoff R10 = 7
 
 -- the same of a release of so many units, with so many waits in hand. It wakes no more waits than it has units, or there are
--- seats
+-- other seats
 abbrev pub many_weight : ℕ → ℕ → ManyRow → ℕ → ℕ
-many_weight n units M1 in_hand = 2 * n + 8 * min units n + 5
-many_weight n units M2 in_hand = 8 * min units n + 4
-many_weight n units M3 in_hand = 8 * min units n + 3
-many_weight n units M4 in_hand = 8 * min units n + 2
-many_weight n units M5 in_hand = 8 * min units n + 1 - in_hand
+many_weight n units M1 in_hand = 2 * n + 8 * min units (n - 1) + 3
+many_weight n units M2 in_hand = 8 * min units (n - 1) + 4
+many_weight n units M3 in_hand = 8 * min units (n - 1) + 3
+many_weight n units M4 in_hand = 8 * min units (n - 1) + 2
+many_weight n units M5 in_hand = 8 * min units (n - 1) + 1 - in_hand
 many_weight n units M6 in_hand = 7 * in_hand + 1
 many_weight n units M7 in_hand = 7 * in_hand
 
@@ -87,14 +87,14 @@ weight m s = total m.seats (seat_weight m.seats s)
 -- what a caller's choice between two places costs, of n seats: an acquire, also one that begins at the lock, a release, one that
 -- hands its unit over, and a release of many; and to decide for handing over. To give up costs nothing
 abbrev pub release_cost : ℕ → Bool → ℕ
-release_cost n true = 4 * n + 14
-release_cost n false = 2 * n + 13
+release_cost n true = 4 * n + 10
+release_cost n false = 2 * n + 11
 
 abbrev pub cost : ℕ → Place → Place → ℕ
-cost n Rest (Acquiring a row) = 2 * n + 7
+cost n Rest (Acquiring a row) = 2 * n + 5
 cost n Rest (Releasing r row) = release_cost n r.handoff
-cost n Rest (ReleasingMany r row) = 2 * n + 8 * min r.units n + 5
-cost n (Releasing q row) (Releasing r other) = 2 * n + 1
+cost n Rest (ReleasingMany r row) = 2 * n + 8 * min r.units (n - 1) + 3
+cost n (Releasing q row) (Releasing r other) = 2 * n - 1
 cost n _ _ = 0
 
 -- the caller of seat i chooses, at this cost
