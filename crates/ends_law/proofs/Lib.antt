@@ -9,3 +9,4 @@ pub mod CoreFalling
 pub mod WaitsCounting
 pub mod CoreEnding
 pub mod RunEnding
+pub mod Endless

@@ -7,3 +7,4 @@ pub mod CoreWeight
 pub mod CoreEnds
 pub mod RunWeight
 pub mod RunEnds
+pub mod Endless

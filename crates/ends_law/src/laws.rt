@@ -1,6 +1,7 @@
 //! The laws of ends, as functions.
 
 ghost use Rattle.ends_law.specs.CoreEnds.{TheCoreEnds};
+ghost use Rattle.ends_law.specs.Endless.{NoneHasWeight};
 ghost use Rattle.ends_law.specs.ListEnds.{TheListEnds};
 ghost use Rattle.ends_law.specs.RunEnds.{TheRunEnds};
 ghost use Rattle.ends_law.specs.SemaEnds.{TheSemaEnds};
@@ -26,4 +27,10 @@ pub fn law_of_the_core_ends()
 /// that bound, where each seat has ended, has failed, or sleeps for want of a unit or a grant.
 pub fn law_of_the_runs_ends()
     ensures { TheRunEnds }
+{}
+
+/// Three tables, each the step table but for one row, have no weight at all: a retry that reads 0 and looks again, a try that
+/// loses for no reason, and a release that finds nobody and looks again. By each a seat may go on for ever.
+pub fn law_of_the_endless_tables()
+    ensures { NoneHasWeight }
 {}
