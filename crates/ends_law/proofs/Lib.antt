@@ -1,0 +1,12 @@
+pub mod Courses
+pub mod SemaRows
+pub mod SemaWeights
+pub mod SemaEnding
+pub mod ListWeights
+pub mod ListEnding
+pub mod CoreWeights
+pub mod CoreFalling
+pub mod WaitsCounting
+pub mod CoreEnding
+pub mod RunEnding
+pub mod Endless

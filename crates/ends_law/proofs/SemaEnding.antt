@@ -1,0 +1,58 @@
+-- The law of the semaphores' ends.
+use Rattle.std.proofs.Common.{ℕ, ◌+◌, ◌<◌, ◌≤◌, refl, arith}
+use Rattle.step_table.specs.World.{Layout, SemaWorld}
+use Rattle.step_table.specs.Turn.{LeadsBy, none, more}
+use Rattle.step_table.specs.Steps.{Turn, turned, can_turn, Step, turn, choose, IsReached, IsEnd}
+use Rattle.sema_law.specs.Invariant.{IsInvariant}
+use Rattle.sema_law.specs.Law.{IsAtRest}
+use Rattle.sema_law.proofs.Ending.{at_rest}
+use Rattle.sema_law.proofs.Promises.{kept, reached}
+use Rattle.ends_law.specs.Course as course
+use Rattle.ends_law.specs.SemaWeight.{weight, cost, Chosen, chosen}
+use Rattle.ends_law.specs.SemaEnds.{SemaCourse, TheSemaEnds}
+use Rattle.ends_law.proofs.Courses.{course_keeps, few_rows, end_of}
+use Rattle.ends_law.proofs.SemaWeights.{lowered, raised}
+
+module _ (m : Layout) where
+  row_kept : (s t : SemaWorld) (i : ℕ) → i < m.seats → IsInvariant m s → Turn m.root s i t → IsInvariant m t
+  row_kept s t i in_range inv x = kept m s t i in_range inv (turn x)
+
+  choice_kept : (s t : SemaWorld) (i cost : ℕ) → i < m.seats → IsInvariant m s → Chosen m s i cost t → IsInvariant m t
+  choice_kept s t i cost in_range inv = by
+    where
+      by : {cost : ℕ} {t : SemaWorld} → Chosen m s i cost t → IsInvariant m t
+      by (chosen choice) = kept m s _ i in_range inv (choose choice)
+
+  -- steps are rows and choices
+  counted : (s t : SemaWorld) → LeadsBy (Step m) m.seats s t → (rows : ℕ) × (costs : ℕ) × SemaCourse m s rows costs t
+  counted s t none = (0, 0, course.none)
+  counted s t (more {t = u} i in_range before step) = by (counted s u before) step
+    where
+      by : {v : SemaWorld} → ((rows : ℕ) × (costs : ℕ) × SemaCourse m s rows costs u) → Step m u i v
+          → (rows : ℕ) × (costs : ℕ) × SemaCourse m s rows costs v
+      by so_far (turn x) = (_, _, course.row i in_range so_far.2 x)
+      by so_far (choose choice) = (_, _, course.choice i in_range so_far.2 (chosen choice))
+
+  few : (s t : SemaWorld) (rows costs : ℕ) → IsReached m s → SemaCourse m s rows costs t → rows + weight m t ≤ weight m s + costs
+  few s t rows costs led x =
+      few_rows (Turn m.root) (Chosen m) m.seats (IsInvariant m) (weight m) row_kept choice_kept (lowered m)
+      (λ s t i cost h rule. raised m s t i cost h) x (reached m s led)
+
+  ends : (s t : SemaWorld) (rows : ℕ) → IsReached m s → SemaCourse m s rows 0 t
+      → (u : SemaWorld) × (more : ℕ) × SemaCourse m t more 0 u × (rows + more ≤ weight m s) × IsEnd m u × IsAtRest m u
+  ends s t rows led x =
+      let then : IsInvariant m t = course_keeps (Turn m.root) (Chosen m) m.seats (IsInvariant m) row_kept choice_kept x (reached m s led) in
+      let ended = end_of (Turn m.root) (Chosen m) m.seats (IsInvariant m) (weight m) row_kept choice_kept (lowered m)
+      (λ s t i cost h rule. raised m s t i cost h) (can_turn m.root) (turned m.root) (λ s i h rule can. record { can = can; is = refl }) t then in
+      let at_end = course_keeps (Turn m.root) (Chosen m) m.seats (IsInvariant m) row_kept choice_kept ended.2 then in
+      let before = few s t rows 0 led x in
+      (ended.0, ended.1, ended.2, omega arith, ended.4, at_rest m ended.0 at_end ended.4)
+
+pub the_sema_ends : TheSemaEnds
+the_sema_ends = record {
+  lowered = lowered;
+  raised = raised;
+  counted = counted;
+  few = few;
+  ends = ends;
+}

@@ -1,0 +1,10 @@
+pub mod Course
+pub mod SemaWeight
+pub mod SemaEnds
+pub mod ListWeight
+pub mod ListEnds
+pub mod CoreWeight
+pub mod CoreEnds
+pub mod RunWeight
+pub mod RunEnds
+pub mod Endless
