@@ -1,7 +1,8 @@
 //! Replays of the schedule that stands in an answer, which `--schedule-of` asks for. The gallery has those that read files.
 
-use crate::asked::{ALL_SOUND, Devices, Told, is_a_mistake, tells_over};
+use crate::asked::{ALL_SOUND, Devices, Host, Told, is_a_mistake, tells_over};
 use crate::devices::BROKEN;
+use std::alloc::Global;
 
 #[test]
 fn a_scenario_beside_an_answer_has_a_file(rt: HostRuntime) {
@@ -26,7 +27,7 @@ fn a_schedule_is_given_once(rt: HostRuntime) {
 }
 
 /// What is told of an answer on standard input, beside a scenario that no file has.
-fn is_told_beside(rt: HostRuntime, devices: Devices, told: &str) {
+fn is_told_beside(rt: &impl Host, alloc: Global, devices: Devices, told: &str) {
     let words = ["replay", "--schedule-of", "-", "--scenario", "no_such.txt"];
     let told = Told {
         out: b"",
@@ -36,7 +37,7 @@ fn is_told_beside(rt: HostRuntime, devices: Devices, told: &str) {
         helped: false,
     };
     let answer = b"bad: stuck\nschedule: 0 0\n";
-    tells_over(&rt, rt.alloc(), &words, answer, devices, told);
+    tells_over(rt, alloc, &words, answer, devices, told);
 }
 
 #[test]
@@ -45,10 +46,15 @@ fn an_answer_that_cannot_be_read_is_told(rt: HostRuntime) {
         input: BROKEN,
         ..ALL_SOUND
     };
-    is_told_beside(rt, devices, "parklot: read failed\n");
+    is_told_beside(&rt, rt.alloc(), devices, "parklot: read failed\n");
 }
 
 #[test]
 fn a_scenario_that_cannot_be_opened_is_told(rt: HostRuntime) {
-    is_told_beside(rt, ALL_SOUND, "parklot: cannot read no_such.txt\n");
+    is_told_beside(
+        &rt,
+        rt.alloc(),
+        ALL_SOUND,
+        "parklot: cannot read no_such.txt\n",
+    );
 }

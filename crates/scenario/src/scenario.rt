@@ -1,9 +1,11 @@
 //! A scenario: how many roots, where the counters start, and the calls of each seat.
 
-ghost use Rattle.std.specs.Prelude.{◌≡◌, ◌<◌, ◌≤◌, ◌↔◌, ◌+◌, ◌^◌, ℕ, IsTrue, All, IfOk, ◌∷◌, [], Some, List, length, slice_index};
-ghost use Rattle.step_table.specs.Run.{call_of};
+ghost use Rattle.std.specs.Prelude.{◌≡◌, ◌<◌, ◌≤◌, ◌↔◌, ◌+◌, ◌-◌, ◌*◌, ◌^◌, ℕ, IsTrue, All, IfOk, ◌∷◌, [], Some, List, length, slice_index};
+ghost use Rattle.step_table.specs.Run.{AllRun, call_of};
 ghost use Rattle.step_table.specs.Scenario.{IsWithinLimits, IsDeclared, KeepsTickets, AreTicketsKept, IsTicketCall, IsScript, IsOfFewUnits, IsCallOn, holds_ticket, holding_after};
 ghost use Rattle.core_law.specs.RunInvariant.{IsScenario};
+ghost use Rattle.ends_law.specs.CoreWeight.{call_cost};
+ghost use Rattle.ends_law.specs.RunWeight.{calls_cost, most_steps};
 
 use std::marker::Model;
 use step_table::{
@@ -144,6 +146,48 @@ fn keep_tickets(parts: &Parts) -> bool
         .all(|calls| are_tickets_kept(calls))
 }
 
+/// What the releases cost that an add to a wait group may make: one for each other seat.
+fn releases_cost(seats: u64) -> u64
+    requires seats { (1 ≤ seats) × (seats ≤ 16) }
+    ensures cost { result ≡ (seats - 1) * (2 * seats + 11) }
+    ensures low { result ≤ 645 }
+{
+    (seats - 1) * (2 * seats + 11)
+}
+
+/// What a call of one of so many seats costs: how many steps it may make the seats take, its own among them.
+fn call_cost(call: &Call, seats: u64) -> u64
+    requires seats { (1 ≤ seats) × (seats ≤ 16) }
+    ensures cost { result ≡ call_cost seats call.now }
+    ensures low { result ≤ 708 }
+{
+    match *call {
+        Call::Acquire(..) => 2 * seats + 5,
+        Call::Release(_, false) => 2 * seats + 11,
+        Call::Release(_, true) => 4 * seats + 10,
+        Call::ReleaseMany(_, units) => 2 * seats + 8 * u64::from(units).min(seats - 1) + 3,
+        Call::Add(_) => 1,
+        Call::Wait(_) => 5,
+        Call::One(_) | Call::All(_) => 7,
+        Call::GroupAdd(..) => 4 * seats - 1 + releases_cost(seats),
+        Call::GroupWait(_) => 4 * seats + 6,
+    }
+}
+
+/// What all calls of a seat cost.
+fn calls_cost(calls: &Items<Call>, seats: u64) -> u64
+    requires seats { (1 ≤ seats) × (seats ≤ 16) }
+    requires few { length calls.now ≤ 32 }
+    ensures cost { result ≡ calls_cost seats calls.now }
+    ensures low { result ≤ 32 * 708 }
+{
+    let mut cost = 0;
+    for call in calls.as_slice() {
+        cost += call_cost(call, seats);
+    }
+    cost
+}
+
 impl Scenario {
     /// The scenario of these parts. It takes no memory.
     pub fn of(parts: Parts) -> Result<Self, ScenarioRefused>
@@ -218,5 +262,18 @@ impl Scenario {
     {
         let calls = &self.parts.calls.as_slice()[seat];
         calls.as_slice().get(number).copied()
+    }
+
+    /// No schedule of the scenario has more steps: what all calls of all seats cost.
+    pub fn most_steps(&self) -> u64
+        ensures cost { result ≡ most_steps self.now }
+        ensures steps { (schedule : List ℕ) → AllRun self.now schedule → length schedule ≤ result }
+    {
+        let seats = self.parts.calls.len() as u64;
+        let mut most = 0;
+        for calls in self.parts.calls.as_slice() {
+            most += calls_cost(calls, seats);
+        }
+        most
     }
 }

@@ -1,12 +1,13 @@
 -- What a moment and a world answer of a sound state: what the journal tells, that all is lawful, and at rest where no seat can run.
-use Rattle.std.proofs.Common.{◌≡◌, ℕ, List, [], ◌∷◌, Result, Ok, Err, IfOk, refl, ap, ◌∙◌}
+use Rattle.std.proofs.Common.{◌≡◌, ℕ, List, [], ◌∷◌, Result, Ok, Err, IfOk, refl, ap, ◌∙◌, arith}
 use Rattle.step_table.specs.declared.entry.Entry.{Entry}
 use Rattle.step_table.specs.declared.entry.Entry.TheVariants.{Add, AddMany, Take, Queue, Leave, Ticket, Grant}
 use Rattle.step_table.specs.Journal.{Plain, plain_start, effect_of, replay}
 use Rattle.step_table.specs.Core.{sema_entries}
 use Rattle.step_table.specs.Run.{layout}
-use Rattle.step_core.specs.State.{State, IsSound, ShowsLawful, RestsAtEnd, TellsLeast, run_of, told}
+use Rattle.step_core.specs.State.{State, IsSound, ShowsLawful, RestsAtEnd, TellsLeast, HasFewSteps, run_of, told}
 use Rattle.core_law.proofs.RunEarly.{lawful_run, run_ends}
+use Rattle.ends_law.proofs.RunEnding.{the_run_ends}
 
 -- entries of lists change no counter
 replays_all : (x : Plain) (journal : List Entry) → replay x (sema_entries journal) ≡ replay x journal
@@ -37,6 +38,9 @@ module _ (m : State) (sound : IsSound m) where
 
   pub tells_least : TellsLeast m
   tells_least l = (shows_lawful.lists l).granted
+
+  pub few_steps : HasFewSteps m
+  few_steps schedule all leads = let few = the_run_ends.few m.parts schedule sound.scenario all in omega arith
 
 -- what an answer says implies
 pub if_ok : {A E : Type 0} {P Q : A → Type 0} (answer : Result A E) → ((a : A) → P a → Q a) → IfOk answer P → IfOk answer Q

@@ -7,6 +7,8 @@ use Rattle.step_core.specs.Stepping.{IsStepped}
 use Rattle.core_law.specs.RunInvariant.{IsScenario}
 use Rattle.core_law.specs.Misused.{AllFairFrom, IsUnmisused}
 use Rattle.core_law.specs.RunGrants.{EachStepGrantsLeast}
+use Rattle.ends_law.specs.RunWeight.{most_steps}
+use Rattle.ends_law.proofs.RunEnding.{the_run_ends}
 use Rattle.core_law.proofs.RunSound.{is_started, is_stepped}
 use Rattle.core_law.proofs.RunReading.{after_one_more, each_step_grants}
 use Rattle.core_law.proofs.GroupRuns as groups
@@ -55,3 +57,8 @@ pub whole_least : (parts : Parts) (schedule : List ℕ) (n : ℕ) → IsScenario
     → EachStepGrantsLeast parts schedule
 whole_least parts schedule n scenario all runs =
     each_step_grants parts scenario schedule (subst (AllRun parts) (taken_all n schedule all) runs)
+
+pub whole_few : (parts : Parts) (schedule : List ℕ) (n : ℕ) → IsScenario parts → length schedule ≤ n → AllRun parts (take n schedule)
+    → length schedule ≤ most_steps parts
+whole_few parts schedule n scenario all runs =
+    let few = the_run_ends.few parts schedule scenario (subst (AllRun parts) (taken_all n schedule all) runs) in omega arith

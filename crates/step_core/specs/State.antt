@@ -1,5 +1,5 @@
 -- The machine as it is stored, and the run that it shows.
-use Rattle.std.specs.Prelude.{◌≡◌, ℕ, ◌+◌, ◌^◌, ◌<◌, List, [], ◌∷◌, ◌++◌, Option, Some, None, IsTrue, length, slice_index_or}
+use Rattle.std.specs.Prelude.{◌≡◌, ℕ, ◌+◌, ◌^◌, ◌<◌, ◌≤◌, List, [], ◌∷◌, ◌++◌, Option, Some, None, IsTrue, length, slice_index_or}
 use Rattle.step_table.specs.declared.call.Call.{Call}
 use Rattle.step_table.specs.declared.call.Call.TheVariants.{Add, Wait, One, All}
 use Rattle.step_table.specs.declared.entry.Entry.{Entry}
@@ -27,9 +27,10 @@ use Rattle.step_table.specs.Core.{CoreLayout, Core, sema_entries, list_entries}
 use Rattle.step_table.specs.CoreSteps.{IsCoreEnd, core_turned}
 use Rattle.core_law.specs.CoreLaw.{IsCoreAtRest}
 use Rattle.core_law.specs.RunPromises.{IsLawfulRun}
-use Rattle.step_table.specs.Run.{Run, layout, call_of, begun, start, refusal_of}
+use Rattle.step_table.specs.Run.{Run, layout, call_of, begun, start, refusal_of, reached, AllRun}
 use Rattle.alike_law.specs.declared.variant.Variant.{Variant}
 use Rattle.core_law.specs.RunInvariant.{IsSoundRun, IsScenario}
+use Rattle.ends_law.specs.RunWeight.{most_steps}
 
 -- the semaphores, the lists, the words of the groups, and what each seat is doing
 pub record Machine : Type 0 where
@@ -220,6 +221,11 @@ RestsAtEnd m = IsCoreEnd (layout m.parts) (run_of m).core → IsCoreAtRest (layo
 abbrev pub TellsLeast : State → Type 0
 TellsLeast m =
     (l : ℕ) → EachGrantsLeast ((layout m.parts).firsts l) (length m.parts.calls) (list_entries l m.journal)
+
+-- no schedule that leads here has more steps than all calls of the scenario cost
+abbrev pub HasFewSteps : State → Type 0
+HasFewSteps m = (schedule : List ℕ) → AllRun m.parts schedule → run_of m ≡ reached m.parts schedule
+    → length schedule ≤ most_steps m.parts
 
 -- what is true of every run by the step table that is stored
 pub record IsSound (m : State) : Type 0 where

@@ -25,6 +25,10 @@ mod world;
 pub use alike_law::{Variant, law_of_the_alike, law_of_the_bent, law_of_the_commuting};
 pub use bent::BentWorld;
 pub use core_law::{law_of_the_core, law_of_the_runs};
+pub use ends_law::{
+    law_of_the_core_ends, law_of_the_endless_tables, law_of_the_lists_ends, law_of_the_runs_ends,
+    law_of_the_semaphores_ends,
+};
 pub use found::Found;
 pub use laws::law_of_the_keys;
 pub use list_law::{law_of_the_list_accounts, law_of_the_lists};

@@ -1,9 +1,10 @@
 //! A whole schedule, step after step.
 
-ghost use Rattle.std.specs.Prelude.{◌≡◌, IfOk, IfErr, OnOk};
+ghost use Rattle.std.specs.Prelude.{◌≡◌, ◌≤◌, IfOk, IfErr, OnOk, length};
 ghost use Rattle.step_table.specs.Run.{AllRun, start, reached, IsRefusedRun};
 ghost use Rattle.core_law.specs.Misused.{AllFairFrom, IsUnmisused};
 ghost use Rattle.core_law.specs.RunGrants.{EachStepGrantsLeast};
+ghost use Rattle.ends_law.specs.RunWeight.{most_steps};
 ghost use Rattle.step_core.specs.State.{run_of, ShowsLawful, RestsAtEnd};
 
 use crate::world::World;
@@ -15,7 +16,7 @@ use waiters::SeatId;
 /// Runs the seats in the order of the schedule, from the start of the scenario. The world is that of the schedule, it
 /// is lawful, and where no seat can run it is at rest. Where each add to a wait group is fair, no seat has failed, and
 /// each group's counter is the sum of its adds. Each step that grants tickets grants the least ungranted one alone, or
-/// all that were handed out when its L5 read the wait word. A schedule is refused at its first step that can't be run, want
+/// all that were handed out when its L5 read the wait word. It has no more steps than `Scenario::most_steps` tells. A schedule is refused at its first step that can't be run, want
 /// of memory for its entry among the causes; want of memory for the start is told of step 0.
 pub fn run<'s>(
     alloc: Global,
@@ -29,6 +30,7 @@ pub fn run<'s>(
     ensures unmisused { OnOk result (AllFairFrom scenario.now (start scenario.now) schedule.now
         → IsUnmisused scenario.now schedule.now) }
     ensures least { OnOk result (EachStepGrantsLeast scenario.now schedule.now) }
+    ensures few { OnOk result (length schedule.now ≤ most_steps scenario.now) }
     ensures refused { IfErr result (λ refused. IsRefusedRun refused scenario.now schedule.now) }
 {
     let Ok(mut world) = World::new(alloc, scenario) else {

@@ -59,6 +59,7 @@ fn a_fault_has_its_names(rt: HostRuntime) {
 }
 
 /// The three calls over a reader and a writer.
+#[derive(Clone, Copy)]
 enum Call {
     Explore,
     ExploreVariant,
