@@ -8,5 +8,6 @@ pub mod CoreWeights
 pub mod CoreFalling
 pub mod WaitsCounting
 pub mod CoreEnding
+pub mod RunBounding
 pub mod RunEnding
 pub mod Endless
