@@ -1,4 +1,5 @@
 pub mod Courses
+pub mod SeatSums
 pub mod SemaRows
 pub mod SemaWeights
 pub mod SemaEnding
