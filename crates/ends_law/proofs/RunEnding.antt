@@ -22,6 +22,7 @@ use Rattle.core_law.proofs.RunEarly.{run_ends}
 use Rattle.ends_law.specs.CoreWeight.{call_cost}
 use Rattle.ends_law.specs.RunWeight.{calls_cost, most_steps, run_weight}
 use Rattle.ends_law.specs.RunEnds.{TheRunEnds}
+use Rattle.ends_law.proofs.SeatSums.{scripts_sum}
 use Rattle.ends_law.proofs.RunBounding.{bounded}
 use Rattle.ends_law.proofs.Courses.{SomeCan, NoneCan, look}
 use Rattle.ends_law.proofs.CoreWeights.{calls_raise}
@@ -80,7 +81,7 @@ module _ (parts : Parts) where
       (ap (slice_get (calls_of parts n)) (not_yet n n (omega arith))) in omega arith
 
   idle_weight : run_weight parts idle ≡ most_steps parts
-  idle_weight = let none = core_starts (layout parts) in omega arith
+  idle_weight = let none = core_starts (layout parts) in let sum = scripts_sum seats parts.calls in omega arith
 
   module _ (scenario : IsScenario parts) where
     abbrev Ending : Core → Type 0

@@ -1,9 +1,11 @@
 -- Sums over seats and lists, of which one has changed or is known.
-use Rattle.std.proofs.Common.{◌≡◌, ℕ, ◌+◌, ◌*◌, ◌<◌, ◌≤◌, ap, arith}
+use Rattle.std.proofs.Common.{◌≡◌, ℕ, zero, suc, List, [], ◌∷◌, length, slice_index_or, ◌+◌, ◌*◌, ◌<◌, ◌≤◌, ap, arith}
 use native.Mathlib.Decide.{ℕ_discrete, dec_lt}
+use Rattle.step_table.specs.declared.call.Call.{Call}
 use Rattle.step_table.specs.World.{put}
+use Rattle.ends_law.specs.RunWeight.{calls_cost, scripts_cost}
 use Rattle.step_table.specs.Counting.{total}
-use Rattle.step_table.proofs.Sums.{put_here, put_else, total_change, total_same}
+use Rattle.step_table.proofs.Sums.{total_zero, put_here, put_else, total_change, total_same}
 use Rattle.step_table.proofs.SumsOfSums.{total_most}
 
 -- a sum of a measure over seats or lists, after one of them has changed
@@ -34,3 +36,17 @@ all_but n b f i in_range most =
     by : (k : ℕ) → k < n → Dec (k ≡ i) → put f i b k ≤ b
     by k less (yes e) = rw e (let here = put_here f i b in omega arith)
     by k less (no ne) = let same = put_else f i b k ne in let few = most k less in omega arith
+
+-- a sum from its front on
+from_front : (n : ℕ) (f : ℕ → ℕ) → total (suc n) f ≡ f 0 + total n (λ k. f (suc k))
+unfolding total
+from_front zero f = omega arith
+from_front (suc n) f = let before : total (suc n) f ≡ f 0 + total n (λ k. f (suc k)) = from_front n f in omega arith
+
+-- what all scripts cost is the sum of what each costs
+pub scripts_sum : (n : ℕ) (scripts : List (List Call))
+    → total (length scripts) (λ k. calls_cost n (slice_index_or scripts k [])) ≡ scripts_cost n scripts
+scripts_sum n [] = total_zero (λ k. calls_cost n (slice_index_or [] k []))
+scripts_sum n (calls ∷ scripts) =
+    let front = from_front (length scripts) (λ k. calls_cost n (slice_index_or (calls ∷ scripts) k [])) in
+    let rest : total (length scripts) (λ k. calls_cost n (slice_index_or scripts k [])) ≡ scripts_cost n scripts = scripts_sum n scripts in omega arith
