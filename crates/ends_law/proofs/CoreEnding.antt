@@ -1,13 +1,16 @@
 -- The law of the ends of the whole machine.
-use Rattle.std.proofs.Common.{ℕ, ◌+◌, ◌<◌, ◌≤◌, IsTrue, refl, sym, subst, arith}
+use Rattle.std.proofs.Common.{◌≡◌, ℕ, ◌+◌, ◌<◌, ◌≤◌, IsTrue, refl, sym, subst, arith}
 use Rattle.list_law.specs.ListLawful.{told}
-use Rattle.step_table.specs.Core.{CoreLayout, Core}
+use Rattle.step_table.specs.Core.{CoreLayout, Core, first_core}
 use Rattle.step_table.specs.CoreSteps.{can_run, core_turned, IsCoreEnd}
 use Rattle.core_law.specs.CoreLaw.{IsCoreInvariant, IsCoreAtRest}
 use Rattle.core_law.proofs.CoreCalling.{core_at_first, calls_keep}
 use Rattle.core_law.proofs.CoreKeeping.{rows_keep}
 use Rattle.core_law.proofs.CoreEnding.{list_at_rest, core_ends}
 use Rattle.ends_law.specs.CoreWeight.{core_weight, Called, called, WaitsCounted}
+use Rattle.step_table.specs.Counting.{total}
+use Rattle.step_table.proofs.Sums.{nothing}
+use Rattle.ends_law.specs.Course.{Rows}
 use Rattle.ends_law.specs.CoreEnds.{CoreRow, CoreCourse, IsCoreReached, TheCoreEnds}
 use Rattle.ends_law.proofs.Courses.{course_keeps, few_rows, end_of}
 use Rattle.ends_law.proofs.CoreWeights.{calls_raise}
@@ -53,23 +56,30 @@ module _ (m : CoreLayout) where
         few_rows (CoreRow m) (Called m) m.seats (IsEnding m) (core_weight m) row_kept call_kept
         (λ s t i h ending row. lowered m s t i h small ending row) (λ s t i cost h ending. raised m s t i cost h) x (reached s led)
 
-    ends : (s t : Core) (rows : ℕ) → IsCoreReached m s → CoreCourse m s rows 0 t
-        → (u : Core) × (more : ℕ) × CoreCourse m t more 0 u × (rows + more ≤ core_weight m s) × IsCoreEnd m u
+    ends : (s t : Core) (rows costs : ℕ) → IsCoreReached m s → CoreCourse m s rows costs t
+        → (u : Core) × (more : ℕ) × Rows (CoreRow m) m.seats t more u × (rows + more ≤ core_weight m s + costs) × IsCoreEnd m u
         × (((l : ℕ) → (told (u.lists l).journal).handed ≤ 9223372036854775808) → IsCoreAtRest m u)
-    ends s t rows led x =
-        let between : IsEnding m t = course_ends x (reached s led) in
+    ends s t rows costs led x =
+        let now : IsEnding m t = course_ends x (reached s led) in
         let ended = end_of (CoreRow m) (Called m) m.seats (IsEnding m) (core_weight m) row_kept call_kept
         (λ s t i h ending row. lowered m s t i h small ending row) (λ s t i cost h ending. raised m s t i cost h)
-        (λ s i. can_run m s i (s.standing i)) (core_turned m) (λ s i h ending can. (can, refl)) t between in
-        let at_end : IsEnding m ended.0 = course_ends ended.2 between in
-        let before = few s t rows 0 led x in
-        (ended.0, ended.1, ended.2, omega arith, ended.4, (λ handed. core_ends list_at_rest m ended.0 small at_end.0 handed ended.4))
+        (λ s i. can_run m s i (s.standing i)) (core_turned m) (λ s i h ending can. (can, refl)) t now in
+        let before = few s t rows costs led x in
+        let more = ended.3 in
+        (ended.0, ended.1, ended.2, omega arith, ended.5, (λ handed. core_ends list_at_rest m ended.0 small ended.4.0 handed ended.5))
+
+-- nothing weighs at the start
+pub starts : (m : CoreLayout) → core_weight m (first_core m) ≡ 0
+starts m =
+    let none = nothing m.seats (λ k. 0) (λ k. refl) in
+    let lists = nothing m.lists (λ l. total m.seats (λ k. 0)) (λ l. none) in omega arith
 
 pub the_core_ends : TheCoreEnds
 the_core_ends = record {
+  starts = starts;
   lowered = λ m s t i in_range small inv counted row. lowered m s t i in_range small (inv, counted) row;
   raised = raised;
   counted = λ m s led. (reached m s led).1;
   few = λ m s t rows costs small led x. few m small s t rows costs led x;
-  ends = λ m s t rows small led x. ends m small s t rows led x;
+  ends = λ m s t rows costs small led x. ends m small s t rows costs led x;
 }

@@ -30,10 +30,10 @@ use Rattle.core_law.specs.CoreLaw.{IsStanding, IsCoreInvariant}
 use Rattle.list_law.proofs.ListKeeping.{list_reached}
 use Rattle.ends_law.specs.ListWeight.{list_weight}
 use Rattle.ends_law.specs.CoreWeight.{releases_weight, group_weight, standing_weight, stale_word, core_weight, counts_on, WaitsCounted}
-use Rattle.ends_law.proofs.SemaWeights.{all_but}
+use Rattle.ends_law.proofs.SeatSums.{all_but, put_change}
 use Rattle.ends_law.proofs.SemaWeights as semaphores
 use Rattle.ends_law.proofs.ListWeights as lists
-use Rattle.ends_law.proofs.CoreWeights.{put_change, stands_at, stands_weight, on_counters, at_counter_weight, releases_weigh, goes_on_weight}
+use Rattle.ends_law.proofs.CoreWeights.{stands_at, stands_weight, on_counters, at_counter_weight, releases_weigh, goes_on_weight}
 
 -- what a seat that a row of a group leads there weighs, while the groups' words are these
 abbrev lands : ℕ → ℕ → (ℕ → GroupWord) → GroupNext → ℕ

@@ -1,6 +1,5 @@
 -- The weight of the whole where one seat goes elsewhere, and where it begins a call.
 use Rattle.std.proofs.Common.{◌≡◌, ℕ, zero, suc, ◌+◌, ◌*◌, ◌<◌, ◌≤◌, false, length, refl, ap, suc-mul, arith}
-use native.Mathlib.Decide.{dec_lt}
 use Rattle.step_table.specs.declared.call.Call.{Call}
 use Rattle.step_table.specs.declared.call.Call.TheVariants.{Acquire, Release, ReleaseMany, Add, Wait, One, All, GroupAdd, GroupWait}
 use Rattle.step_table.specs.declared.group_word.GroupWord.{GroupWord}
@@ -19,35 +18,17 @@ use Rattle.step_table.specs.declared.standing.GroupRow.TheVariants.{G1, V1, V3}
 use Rattle.step_table.specs.declared.standing.Standing.{Standing}
 use Rattle.step_table.specs.declared.standing.Standing.TheVariants.{Rest, AtCounter, AtList, AtGroup}
 use Rattle.step_table.specs.World.{SemaWorld, put}
-use Rattle.step_table.specs.Counting.{total}
 use Rattle.step_table.specs.ListWorld.{ListSeat, ListWorld}
 use Rattle.step_table.specs.ListSteps.{with_ticket}
 use Rattle.step_table.specs.Core.{CoreLayout, semaphore, Core}
 use Rattle.step_table.specs.CoreSteps.{stands, at_counter, releases, goes_on, calls}
-use Rattle.step_table.proofs.Sums.{put_here, put_else, total_change, total_same, owned}
+use Rattle.step_table.proofs.Sums.{owned}
 use Rattle.ends_law.specs.SemaWeight.{place_weight, stale}
 use Rattle.ends_law.specs.ListWeight.{list_weight}
 use Rattle.ends_law.specs.CoreWeight.{releases_weight, after_weight, standing_weight, stale_word, core_weight, call_cost}
+use Rattle.ends_law.proofs.SeatSums.{put_change, put_most}
 use Rattle.ends_law.proofs.SemaWeights.{handing_cost}
 use Rattle.ends_law.proofs.ListWeights.{list_weighs, with_its}
-
--- a sum of a measure, after one of what is measured has changed
-pub put_change : {A : Type 0} (n : ℕ) (measure : A → ℕ) (f : ℕ → A) (i : ℕ) (x : A) → i < n
-    → total n (λ k. measure (put f i x k)) + measure (f i) ≡ total n (λ k. measure (f k)) + measure x
-put_change n measure f i x in_range =
-    let all : total n (λ k. measure (put f i x k)) + measure (f i) ≡ total n (λ k. measure (f k)) + measure (put f i x i)
-    = total_change n (λ k. measure (f k)) (λ k. measure (put f i x k)) i in_range (λ k ne. ap measure (put_else f i x k ne)) in
-    let here = ap measure (put_here f i x) in omega arith
-
--- wherever it is, the sum grows no more than the one
-pub put_most : {A : Type 0} (n : ℕ) (measure : A → ℕ) (f : ℕ → A) (i : ℕ) (x : A) (more : ℕ) → measure x ≤ measure (f i) + more
-    → total n (λ k. measure (put f i x k)) ≤ total n (λ k. measure (f k)) + more
-put_most n measure f i x more most = by (dec_lt i n)
-  where
-    by : Dec (i < n) → total n (λ k. measure (put f i x k)) ≤ total n (λ k. measure (f k)) + more
-    by (yes less) = let all = put_change n measure f i x less in omega arith
-    by (no past) =
-        let same = total_same n (λ k. measure (put f i x k)) (λ k. measure (f k)) (λ k h. ap measure (put_else f i x k (λ e. omega arith))) in omega arith
 
 module _ (m : CoreLayout) (i : ℕ) (in_range : i < m.seats) where
   -- what a seat that does this weighs while the groups' words are these

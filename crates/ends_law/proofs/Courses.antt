@@ -1,7 +1,7 @@
 -- What holds of courses of any world: no more rows than the weight at their start and the costs; and rows lead to an end.
 use Rattle.std.proofs.Common.{◌≡◌, ℕ, zero, suc, ◌+◌, ◌<◌, ◌≤◌, ◌⊎◌, Bool, true, false, IsTrue, inl, inr, refl, sym, ap, ◌∙◌, arith}
 use native.Mathlib.Decide.{ℕ_discrete}
-use Rattle.ends_law.specs.Course.{Course, none, row, choice}
+use Rattle.ends_law.specs.Course.{Course, none, row, choice, Rows}
 
 -- some of the first n seats can, or none of them
 abbrev pub SomeCan : (ℕ → Bool) → ℕ → Type 0
@@ -26,6 +26,13 @@ look can (suc n) = by (can n) refl (look can n)
     by true is (inr others) = inl (n, omega arith, is)
     by false is (inr others) = inr (last is others)
 
+-- a row, and then more
+pub first : {World : Type 0} {Row : World → ℕ → World → Type 0} {Chosen : World → ℕ → ℕ → World → Type 0} {seats : ℕ} {s t u : World} {rows costs : ℕ}
+    (i : ℕ) → i < seats → Row s i t → Course Row Chosen seats t rows costs u → Course Row Chosen seats s (suc rows) costs u
+first i in_range x none = row i in_range none x
+first i in_range x (row k there before y) = row k there (first i in_range x before) y
+first i in_range x (choice k there before y) = choice k there (first i in_range x before) y
+
 module _ {World : Type 0} (Row : World → ℕ → World → Type 0) (Chosen : World → ℕ → ℕ → World → Type 0) (seats : ℕ) where
   -- what each row and each choice keeps holds after a course
   pub course_keeps : (Rule : World → Type 0) → ((s t : World) (i : ℕ) → i < seats → Rule s → Row s i t → Rule t)
@@ -34,13 +41,6 @@ module _ {World : Type 0} (Row : World → ℕ → World → Type 0) (Chosen : W
   course_keeps Rule kept held none rule = rule
   course_keeps Rule kept held (row i in_range before x) rule = kept _ _ i in_range (course_keeps Rule kept held before rule) x
   course_keeps Rule kept held (choice i in_range before x) rule = held _ _ i _ in_range (course_keeps Rule kept held before rule) x
-
-  -- a row, and then a course
-  pub first : {s t u : World} {rows costs : ℕ} (i : ℕ) → i < seats → Row s i t → Course Row Chosen seats t rows costs u
-      → Course Row Chosen seats s (suc rows) costs u
-  first i in_range x none = row i in_range none x
-  first i in_range x (row k there before y) = row k there (first i in_range x before) y
-  first i in_range x (choice k there before y) = choice k there (first i in_range x before) y
 
   module _ (Rule : World → Type 0) (weight : World → ℕ)
       (kept : (s t : World) (i : ℕ) → i < seats → Rule s → Row s i t → Rule t)
@@ -62,8 +62,9 @@ module _ {World : Type 0} (Row : World → ℕ → World → Type 0) (Chosen : W
       abbrev pub IsEnd : World → Type 0
       IsEnd s = NoneCan (can s) seats
 
+      -- a world that rows lead to, and in which no seat can run one
       abbrev pub Ends : World → Type 0
-      Ends s = (t : World) × (rows : ℕ) × Course Row Chosen seats s rows 0 t × IsEnd t
+      Ends s = (t : World) × (rows : ℕ) × Rows Row seats s rows t × (rows ≤ weight s) × Rule t × IsEnd t
 
       end_within : (bound : ℕ) (s : World) → Rule s → weight s < bound → Ends s
       end_within zero s rule few = absurd (omega arith)
@@ -74,11 +75,8 @@ module _ {World : Type 0} (Row : World → ℕ → World → Type 0) (Chosen : W
               let x = runs s some.0 some.1 rule some.2 in
               let less = lowered s (next s some.0) some.0 some.1 rule x in
               let more = goes (next s some.0) (kept s (next s some.0) some.0 some.1 rule x) (omega arith) in
-              (more.0, suc more.1, first some.0 some.1 x more.2, more.3)
-          by goes (inr ended) = (s, 0, none, ended)
+              let few = more.3 in (more.0, suc more.1, first some.0 some.1 x more.2, omega arith, more.4, more.5)
+          by goes (inr ended) = (s, 0, none, omega arith, rule, ended)
 
-      pub end_of : (s : World) → Rule s
-          → (t : World) × (rows : ℕ) × Course Row Chosen seats s rows 0 t × (rows ≤ weight s) × IsEnd t
-      end_of s rule =
-          let ended = end_within (suc (weight s)) s rule (omega arith) in
-          let few = few_rows ended.2 rule in (ended.0, ended.1, ended.2, omega arith, ended.3)
+      pub end_of : (s : World) → Rule s → Ends s
+      end_of s rule = end_within (suc (weight s)) s rule (omega arith)

@@ -1,10 +1,10 @@
 -- The three tables that may go on for ever: each has rows that lead from a reached world back to it.
-use Rattle.std.proofs.Common.{◌≡◌, ◌≢◌, ℕ, zero, suc, ◌<◌, Bool, true, false, eqb, ◌&&◌, [], ◌∷◌, IsTrue, refl, sym, ap, ◌∙◌, subst, arith, ne_eqb}
+use Rattle.std.proofs.Common.{◌≡◌, ℕ, zero, suc, ◌<◌, Bool, true, false, eqb, ◌&&◌, [], ◌∷◌, IsTrue, refl, sym, ap, ◌∙◌, subst, arith, ne_eqb}
 use mathlib.Core.Path.{fun_ext}
 use native.Mathlib.Decide.{ℕ_discrete}
 use Rattle.step_table.specs.declared.place.Acquire.{Acquire}
 use Rattle.step_table.specs.declared.place.Release.{Release}
-use Rattle.step_table.specs.declared.place.AcquireRow.TheVariants.{A1, A2, P, A10}
+use Rattle.step_table.specs.declared.place.AcquireRow.TheVariants.{A1, P, A10}
 use Rattle.step_table.specs.declared.place.ReleaseRow.TheVariants.{R1, R4}
 use Rattle.step_table.specs.declared.place.Place.{Place}
 use Rattle.step_table.specs.declared.place.Place.TheVariants.{Rest, Acquiring, Releasing}
@@ -17,7 +17,7 @@ use Rattle.step_table.specs.Event.{to}
 use Rattle.step_table.specs.Turn.{TurnOf, none, more}
 use Rattle.step_table.specs.Turn as turns
 use Rattle.step_table.specs.Steps.{after, can_turn, turned, moved, Choice, acquire, release, turn, choose, IsReached}
-use Rattle.step_table.proofs.Sums.{put_same, put_here, put_else, unwritten}
+use Rattle.step_table.proofs.Sums.{put_same, unwritten}
 use Rattle.ends_law.specs.Endless.{Astray, retry_looks_again_for_ever, try_loses_for_no_reason, release_looks_again_for_ever, astray_rules, HasNoWeight, NoneHasWeight}
 
 -- one counter, which starts at this number, and two seats

@@ -1,4 +1,5 @@
 pub mod Courses
+pub mod SeatSums
 pub mod SemaRows
 pub mod SemaWeights
 pub mod SemaEnding
@@ -8,5 +9,6 @@ pub mod CoreWeights
 pub mod CoreFalling
 pub mod WaitsCounting
 pub mod CoreEnding
+pub mod RunBounding
 pub mod RunEnding
 pub mod Endless

@@ -7,6 +7,8 @@ use Rattle.list_law.specs.ListInvariant.{IsListInvariant}
 use Rattle.list_law.specs.ListLaw.{IsListAtRest}
 use Rattle.list_law.proofs.ListKeeping.{list_kept, list_reached}
 use Rattle.list_law.proofs.ListEnding.{list_ends}
+use Rattle.step_table.proofs.Sums.{nothing}
+use Rattle.ends_law.specs.Course.{Rows}
 use Rattle.ends_law.specs.Course as course
 use Rattle.ends_law.specs.ListWeight.{list_weight, ListChosen, chosen, adds, waits}
 use Rattle.ends_law.specs.ListEnds.{ListCourse, TheListEnds}
@@ -43,22 +45,24 @@ module _ (first seats : ℕ) (small : seats ≤ 2 ^ 63) where
       few_rows ListTurn ListChosen seats (IsListInvariant first seats) (list_weight seats) row_kept choice_kept (lowered first seats)
       (λ s t i cost h rule. raised seats s t i cost h) x (list_reached first seats s small led)
 
-  ends : (s t : ListWorld) (rows : ℕ) → IsListReached first seats s → ListCourse seats s rows 0 t
-      → (u : ListWorld) × (more : ℕ) × ListCourse seats t more 0 u × (rows + more ≤ list_weight seats s) × IsListEnd seats u × IsListAtRest seats u
-  ends s t rows led x =
-      let then : IsListInvariant first seats t
+  ends : (s t : ListWorld) (rows costs : ℕ) → IsListReached first seats s → ListCourse seats s rows costs t
+      → (u : ListWorld) × (more : ℕ) × Rows ListTurn seats t more u × (rows + more ≤ list_weight seats s + costs) × IsListEnd seats u
+      × IsListAtRest seats u
+  ends s t rows costs led x =
+      let now : IsListInvariant first seats t
       = course_keeps ListTurn ListChosen seats (IsListInvariant first seats) row_kept choice_kept x (list_reached first seats s small led) in
       let ended = end_of ListTurn ListChosen seats (IsListInvariant first seats) (list_weight seats) row_kept choice_kept (lowered first seats)
-      (λ s t i cost h rule. raised seats s t i cost h) can_turn turned (λ s i h rule can. record { can = can; is = refl }) t then in
-      let at_end = course_keeps ListTurn ListChosen seats (IsListInvariant first seats) row_kept choice_kept ended.2 then in
-      let before = few s t rows 0 led x in
-      (ended.0, ended.1, ended.2, omega arith, ended.4, list_ends first seats ended.0 at_end ended.4)
+      (λ s t i cost h rule. raised seats s t i cost h) can_turn turned (λ s i h rule can. record { can = can; is = refl }) t now in
+      let before = few s t rows costs led x in
+      let more = ended.3 in
+      (ended.0, ended.1, ended.2, omega arith, ended.5, list_ends first seats ended.0 ended.4 ended.5)
 
 pub the_list_ends : TheListEnds
 the_list_ends = record {
+  starts = λ first seats. nothing seats (λ k. 0) (λ k. refl);
   lowered = lowered;
   raised = raised;
   counted = counted;
   few = λ first seats s t rows costs small led x. few first seats small s t rows costs led x;
-  ends = λ first seats s t rows small led x. ends first seats small s t rows led x;
+  ends = λ first seats s t rows costs small led x. ends first seats small s t rows costs led x;
 }

@@ -11,7 +11,7 @@ use Rattle.step_table.specs.Counting.{total}
 use Rattle.step_table.specs.Core.{Core, first_core}
 use Rattle.step_table.specs.CoreSteps.{can_run, core_turned, IsCoreEnd}
 use Rattle.step_table.specs.Run.{Run, layout, call_of, begun, continued, all_begun, start, stepped, unless, refusal_of, refusal, after_all, reached, AllRunFrom, AllRun}
-use Rattle.step_table.proofs.Sums.{put_here, put_else, total_change, nothing}
+use Rattle.step_table.proofs.Sums.{put_here, put_else, total_change}
 use Rattle.core_law.specs.CoreLaw.{IsCoreAtRest}
 use Rattle.core_law.specs.RunInvariant.{calls_of, IsSoundRunOf, IsSoundRun, IsScenario}
 use Rattle.core_law.proofs.CoreCalling.{core_at_first, calls_keep}
@@ -22,11 +22,13 @@ use Rattle.core_law.proofs.RunEarly.{run_ends}
 use Rattle.ends_law.specs.CoreWeight.{call_cost}
 use Rattle.ends_law.specs.RunWeight.{calls_cost, most_steps, run_weight}
 use Rattle.ends_law.specs.RunEnds.{TheRunEnds}
+use Rattle.ends_law.proofs.SeatSums.{scripts_sum}
+use Rattle.ends_law.proofs.RunBounding.{bounded}
 use Rattle.ends_law.proofs.Courses.{SomeCan, NoneCan, look}
 use Rattle.ends_law.proofs.CoreWeights.{calls_raise}
 use Rattle.ends_law.proofs.CoreFalling.{core_lowered}
 use Rattle.ends_law.proofs.WaitsCounting.{calls_counted, first_counted}
-use Rattle.ends_law.proofs.CoreEnding.{IsEnding, row_ends}
+use Rattle.ends_law.proofs.CoreEnding.{IsEnding, row_ends, starts as core_starts}
 
 -- the calls from this one on
 next_cost : (n : ℕ) (script : List Call) (at : ℕ) (call : Call) → slice_get script at ≡ Some call
@@ -79,9 +81,7 @@ module _ (parts : Parts) where
       (ap (slice_get (calls_of parts n)) (not_yet n n (omega arith))) in omega arith
 
   idle_weight : run_weight parts idle ≡ most_steps parts
-  idle_weight =
-      let none = nothing seats (λ k. 0) (λ k. refl) in
-      let lists = nothing (length parts.firsts) (λ l. total seats (λ k. 0)) (λ l. none) in omega arith
+  idle_weight = let none = core_starts (layout parts) in let sum = scripts_sum seats parts.calls in omega arith
 
   module _ (scenario : IsScenario parts) where
     abbrev Ending : Core → Type 0
@@ -217,4 +217,5 @@ the_run_ends = record {
   few = λ parts schedule scenario runs. few parts scenario schedule runs;
   ends = λ parts schedule scenario runs. ends parts scenario schedule runs;
   rests = λ parts schedule scenario runs ended. rests parts scenario (reached parts schedule) (sound_at parts scenario schedule runs) ended;
+  bounded = bounded;
 }

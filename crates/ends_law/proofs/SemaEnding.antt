@@ -1,12 +1,14 @@
 -- The law of the semaphores' ends.
-use Rattle.std.proofs.Common.{ℕ, ◌+◌, ◌<◌, ◌≤◌, refl, arith}
-use Rattle.step_table.specs.World.{Layout, SemaWorld}
+use Rattle.std.proofs.Common.{◌≡◌, ℕ, ◌+◌, ◌<◌, ◌≤◌, refl, arith}
+use Rattle.step_table.specs.World.{Layout, SemaWorld, first_world}
 use Rattle.step_table.specs.Turn.{LeadsBy, none, more}
 use Rattle.step_table.specs.Steps.{Turn, turned, can_turn, Step, turn, choose, IsReached, IsEnd}
 use Rattle.sema_law.specs.Invariant.{IsInvariant}
 use Rattle.sema_law.specs.Law.{IsAtRest}
 use Rattle.sema_law.proofs.Ending.{at_rest}
 use Rattle.sema_law.proofs.Promises.{kept, reached}
+use Rattle.step_table.proofs.Sums.{nothing}
+use Rattle.ends_law.specs.Course.{Rows}
 use Rattle.ends_law.specs.Course as course
 use Rattle.ends_law.specs.SemaWeight.{weight, cost, Chosen, chosen}
 use Rattle.ends_law.specs.SemaEnds.{SemaCourse, TheSemaEnds}
@@ -38,18 +40,22 @@ module _ (m : Layout) where
       few_rows (Turn m.root) (Chosen m) m.seats (IsInvariant m) (weight m) row_kept choice_kept (lowered m)
       (λ s t i cost h rule. raised m s t i cost h) x (reached m s led)
 
-  ends : (s t : SemaWorld) (rows : ℕ) → IsReached m s → SemaCourse m s rows 0 t
-      → (u : SemaWorld) × (more : ℕ) × SemaCourse m t more 0 u × (rows + more ≤ weight m s) × IsEnd m u × IsAtRest m u
-  ends s t rows led x =
-      let then : IsInvariant m t = course_keeps (Turn m.root) (Chosen m) m.seats (IsInvariant m) row_kept choice_kept x (reached m s led) in
+  starts : weight m (first_world m.starts) ≡ 0
+  starts = nothing m.seats (λ k. 0) (λ k. refl)
+
+  ends : (s t : SemaWorld) (rows costs : ℕ) → IsReached m s → SemaCourse m s rows costs t
+      → (u : SemaWorld) × (more : ℕ) × Rows (Turn m.root) m.seats t more u × (rows + more ≤ weight m s + costs) × IsEnd m u × IsAtRest m u
+  ends s t rows costs led x =
+      let now : IsInvariant m t = course_keeps (Turn m.root) (Chosen m) m.seats (IsInvariant m) row_kept choice_kept x (reached m s led) in
       let ended = end_of (Turn m.root) (Chosen m) m.seats (IsInvariant m) (weight m) row_kept choice_kept (lowered m)
-      (λ s t i cost h rule. raised m s t i cost h) (can_turn m.root) (turned m.root) (λ s i h rule can. record { can = can; is = refl }) t then in
-      let at_end = course_keeps (Turn m.root) (Chosen m) m.seats (IsInvariant m) row_kept choice_kept ended.2 then in
-      let before = few s t rows 0 led x in
-      (ended.0, ended.1, ended.2, omega arith, ended.4, at_rest m ended.0 at_end ended.4)
+      (λ s t i cost h rule. raised m s t i cost h) (can_turn m.root) (turned m.root) (λ s i h rule can. record { can = can; is = refl }) t now in
+      let before = few s t rows costs led x in
+      let more = ended.3 in
+      (ended.0, ended.1, ended.2, omega arith, ended.5, at_rest m ended.0 ended.4 ended.5)
 
 pub the_sema_ends : TheSemaEnds
 the_sema_ends = record {
+  starts = starts;
   lowered = lowered;
   raised = raised;
   counted = counted;

@@ -1,6 +1,5 @@
 -- Each row of the semaphores lowers the weight, and a choice raises it by its cost at most.
 use Rattle.std.proofs.Common.{◌≡◌, ℕ, zero, suc, ◌+◌, ◌-◌, ◌*◌, ◌<◌, ◌≤◌, ◌≢◌, Bool, true, false, length, refl, sym, ap, ap₂, ◌∙◌, subst, arith, ◌==◌, cond}
-use native.Mathlib.Decide.{ℕ_discrete}
 use Rattle.step_table.specs.declared.place.AcquireRow.TheVariants.{A2, A6, A11, P}
 use Rattle.step_table.specs.declared.place.ReleaseRow.TheVariants.{R8}
 use Rattle.step_table.specs.declared.place.Place.{Place}
@@ -9,13 +8,14 @@ use Rattle.step_table.specs.declared.place.ManyRow.TheVariants.{M5}
 use Rattle.step_table.specs.World.{Layout, Words, SeatState, SemaWorld, put}
 use Rattle.step_table.specs.Counting.{total, times}
 use Rattle.step_table.specs.Steps.{Turn, Choice, acquire, enter, release, release_many, give_up, give_up_lock, decide}
-use Rattle.step_table.proofs.Sums.{put_here, put_else, total_has, total_change, owned, posted}
-use Rattle.step_table.proofs.SumsOfSums.{total_add, total_most}
+use Rattle.step_table.proofs.Sums.{put_here, total_has, owned, posted}
+use Rattle.step_table.proofs.SumsOfSums.{total_add}
 use Rattle.step_table.specs.Counting.{IsWithin}
 use Rattle.sema_law.specs.Invariant.{asleep, Finds, IsInvariant}
 use Rattle.sema_law.proofs.Placing.{Waiter, same_here}
 use Rattle.sema_law.proofs.Parking.{in_a_hand}
 use Rattle.ends_law.specs.SemaWeight.{acquire_weight, place_weight, release_cost, handing, stale, weight, cost, Chosen, chosen}
+use Rattle.ends_law.proofs.SeatSums.{all_but}
 use Rattle.ends_law.proofs.SemaRows.{HasRoom, weighs, Falls, pays, alone, wakes, falls}
 
 -- the weight of a world is that of its places and grants, and that of its stale exchanges
@@ -39,17 +39,6 @@ stale_most numbers (Acquiring a (A6 left)) = stale_by_most (numbers a.counter ==
 stale_most numbers (Acquiring a (A11 left)) = stale_by_most (numbers a.counter == left + 1)
 stale_most numbers (Releasing r (R8 left)) = stale_by_most (numbers r.counter == left + 1)
 stale_most numbers _ = omega arith
-
--- a sum whose terms are at most b, and of which one is so much
-pub all_but : (n b : ℕ) (f : ℕ → ℕ) (i : ℕ) → i < n → ((k : ℕ) → k < n → f k ≤ b) → total n f + b ≤ n * b + f i
-all_but n b f i in_range most =
-    let all : total n (put f i b) + f i ≡ total n f + put f i b i = total_change n f (put f i b) i in_range (λ k ne. put_else f i b k ne) in
-    let here = put_here f i b in
-    let few : total n (put f i b) ≤ n * b = total_most n b (put f i b) (λ k less. by k less (ℕ_discrete k i)) in omega arith
-  where
-    by : (k : ℕ) → k < n → Dec (k ≡ i) → put f i b k ≤ b
-    by k less (yes e) = rw e (let here = put_here f i b in omega arith)
-    by k less (no ne) = let same = put_else f i b k ne in let few = most k less in omega arith
 
 -- a row of seat i, from s to the words h and the seat q
 module _ (m : Layout) (s : SemaWorld) (i : ℕ) (in_range : i < m.seats) (inv : IsInvariant m s) (q : SeatState) (h : Words) where

@@ -26,7 +26,7 @@ use Rattle.step_table.specs.CoreSteps.{calls, goes_on, after_counter, after_list
 use Rattle.step_table.proofs.Sums.{put_here, put_else, on_here, on_else}
 use Rattle.step_table.proofs.GroupBits.{same_is}
 use Rattle.ends_law.specs.CoreWeight.{counts_on, WaitsCounted}
-use Rattle.ends_law.proofs.CoreWeights.{put_change}
+use Rattle.ends_law.proofs.SeatSums.{put_change}
 
 -- a seat goes from the one standing to the other, and a word of the group g that counted so many waits counts so many now: none,
 -- or one more only for that seat

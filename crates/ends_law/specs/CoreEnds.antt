@@ -4,7 +4,7 @@ use Rattle.list_law.specs.ListLawful.{told}
 use Rattle.step_table.specs.Core.{CoreLayout, Core, first_core}
 use Rattle.step_table.specs.CoreSteps.{can_run, core_turned, IsCoreEnd}
 use Rattle.core_law.specs.CoreLaw.{IsCoreInvariant, IsCoreAtRest}
-use Rattle.ends_law.specs.Course.{Course}
+use Rattle.ends_law.specs.Course.{Course, Rows}
 use Rattle.ends_law.specs.CoreWeight.{core_weight, Called, WaitsCounted}
 
 -- seat i runs its row
@@ -19,18 +19,21 @@ CoreCourse m = Course (CoreRow m) (Called m) m.seats
 abbrev pub IsCoreReached : CoreLayout → Core → Type 0
 IsCoreReached m s = (rows : ℕ) × (costs : ℕ) × CoreCourse m (first_core m) rows costs s
 
--- each row lowers the weight, and a call raises it by its cost at most. So between two worlds there are no more rows than the
--- weight of the first and the costs of the calls that began; and however rows go on with a reached world, further rows lead to an
--- end world, all within its weight. While at most 2^63 tickets of each list were handed out, in an end world no lock is held, and
--- each seat has ended, has failed, or sleeps on a counter at 0 or with a ticket that isn't granted
+-- each row lowers the weight, and a call raises it by its cost at most; at the start it is 0. So between two worlds there are
+-- no more rows than the weight of the first and the costs of the calls that began. And however a reached world has gone on,
+-- rows lead to an end world, within that bound. While at most 2^63 tickets of each list were handed out, no lock is held
+-- there, and each seat has ended, has failed, or sleeps on a counter at 0 or with a ticket that isn't granted
 pub record TheCoreEnds : Type 0 where
-  pub lowered : (m : CoreLayout) (s t : Core) (i : ℕ) → i < m.seats → m.seats ≤ 2 ^ 63 → IsCoreInvariant m s → WaitsCounted m s
-      → CoreRow m s i t → core_weight m t < core_weight m s
+  pub starts : (m : CoreLayout) → core_weight m (first_core m) ≡ 0
+  pub lowered : (m : CoreLayout) (s t : Core) (i : ℕ) → i < m.seats → m.seats ≤ 2 ^ 63 → IsCoreInvariant m s
+      → WaitsCounted m s → CoreRow m s i t → core_weight m t < core_weight m s
   pub raised : (m : CoreLayout) (s t : Core) (i cost : ℕ) → i < m.seats → Called m s i cost t
       → core_weight m t ≤ core_weight m s + cost
   pub counted : (m : CoreLayout) (s : Core) → IsCoreReached m s → WaitsCounted m s
-  pub few : (m : CoreLayout) (s t : Core) (rows costs : ℕ) → m.seats ≤ 2 ^ 63 → IsCoreReached m s → CoreCourse m s rows costs t
-      → rows + core_weight m t ≤ core_weight m s + costs
-  pub ends : (m : CoreLayout) (s t : Core) (rows : ℕ) → m.seats ≤ 2 ^ 63 → IsCoreReached m s → CoreCourse m s rows 0 t
-      → (u : Core) × (more : ℕ) × CoreCourse m t more 0 u × (rows + more ≤ core_weight m s) × IsCoreEnd m u
+  pub few : (m : CoreLayout) (s t : Core) (rows costs : ℕ) → m.seats ≤ 2 ^ 63 → IsCoreReached m s
+      → CoreCourse m s rows costs t → rows + core_weight m t ≤ core_weight m s + costs
+  pub ends : (m : CoreLayout) (s t : Core) (rows costs : ℕ) → m.seats ≤ 2 ^ 63 → IsCoreReached m s
+      → CoreCourse m s rows costs t
+      → (u : Core) × (more : ℕ) × Rows (CoreRow m) m.seats t more u
+      × (rows + more ≤ core_weight m s + costs) × IsCoreEnd m u
       × (((l : ℕ) → (told (u.lists l).journal).handed ≤ 2 ^ 63) → IsCoreAtRest m u)

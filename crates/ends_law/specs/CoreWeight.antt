@@ -1,7 +1,8 @@
--- The weight of the whole machine: that of its semaphores and of its lists, and what each seat's call on a wait group has before it.
+-- The weight of the whole machine: that of its semaphores and lists, and what calls on wait groups still have before them.
 use Rattle.std.specs.Prelude.{◌≡◌, ℕ, ◌+◌, ◌-◌, ◌*◌, ◌≤◌, min, if◌then◌else◌}
 use Rattle.step_table.specs.declared.call.Call.{Call}
-use Rattle.step_table.specs.declared.call.Call.TheVariants.{Acquire, Release, ReleaseMany, Add, Wait, One, All, GroupAdd, GroupWait}
+use Rattle.step_table.specs.declared.call.Call.TheVariants.{Acquire, Release, ReleaseMany, Add, Wait, One, All}
+use Rattle.step_table.specs.declared.call.Call.TheVariants.{GroupAdd, GroupWait}
 use Rattle.step_table.specs.declared.group_word.GroupWord.{GroupWord}
 use Rattle.step_table.specs.declared.standing.After.{After}
 use Rattle.step_table.specs.declared.standing.After.TheVariants.{NextCall, LooksAgain, Releases}
@@ -21,7 +22,7 @@ use Rattle.ends_law.specs.ListWeight.{list_weight}
 abbrev pub releases_weight : ℕ → ℕ → ℕ
 releases_weight n more = more * (2 * n + 11)
 
--- what a seat weighs at a row of a wait group. An add pays for a release of each other seat, as it doesn't know yet how many wait
+-- what a seat weighs at a row of a wait group. An add pays for a release of each other seat, before it knows how many wait
 abbrev pub group_weight : ℕ → GroupRow → ℕ
 group_weight n (G1 d) = 4 * n - 1 + releases_weight n (n - 1)
 group_weight n (G2 seen) = 2 * n + releases_weight n seen.waits

@@ -1,5 +1,5 @@
--- The weight of a world of one notify list. A sleeper pays for the row that grants it, so no row depends on how many seats there
--- are, or on how many waits a notification takes out.
+-- The weight of a world of one notify list. A sleeper pays for the row that grants it, so no weight depends on how many seats
+-- there are, or on how many waits a notification takes out.
 use Rattle.std.specs.Prelude.{◌≡◌, ℕ, zero, suc, Some, None}
 use Rattle.step_table.specs.declared.list_place.AllRow.{AllRow}
 use Rattle.step_table.specs.declared.list_place.AllRow.TheVariants.{L1, L2, L3, L4, L5, L6, L7, L8}
@@ -61,6 +61,7 @@ notify_cost _ = 0
 
 -- the caller of seat i chooses, at this cost: to notify, to take a ticket, or to wait with the one that it holds
 pub data ListChosen (s : ListWorld) (i : ℕ) : ℕ → ListWorld → Type 0 where
-  chosen : {place : ListPlace} → ListChoice (s.seats i).place place → ListChosen s i (notify_cost (s.seats i).place) (moved s i place)
+  chosen : {place : ListPlace} → ListChoice (s.seats i).place place
+      → ListChosen s i (notify_cost (s.seats i).place) (moved s i place)
   adds : (s.seats i).place ≡ Rest → (s.seats i).ticket ≡ None → ListChosen s i 1 (moved s i Adding)
   waits : {t : Ticket} → (s.seats i).place ≡ Rest → (s.seats i).ticket ≡ Some t → ListChosen s i 5 (waiting s i)

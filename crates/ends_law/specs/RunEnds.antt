@@ -8,8 +8,8 @@ use Rattle.core_law.specs.RunInvariant.{IsScenario}
 use Rattle.ends_law.specs.RunWeight.{most_steps, run_weight}
 
 -- each step lowers the weight, which is at most `most_steps` at the start. So no schedule that can be run has more steps; and
--- however a run is gone on with, an end world is met within that bound. There no lock is held, and each seat has ended, has
--- failed, or sleeps on a counter at 0 or with a ticket that isn't granted
+-- however a run has gone on, it can be gone on with to an end world, within that bound. There no lock is held, and each seat
+-- has ended, has failed, or sleeps on a counter at 0 or with a ticket that isn't granted
 pub record TheRunEnds : Type 0 where
   pub lowered : (parts : Parts) (schedule : List ℕ) (i : ℕ) → IsScenario parts → AllRun parts schedule
       → refusal parts (reached parts schedule) i ≡ None
@@ -23,3 +23,5 @@ pub record TheRunEnds : Type 0 where
       × IsCoreAtRest (layout parts) (after_all parts (reached parts schedule) more).core
   pub rests : (parts : Parts) (schedule : List ℕ) → IsScenario parts → AllRun parts schedule
       → IsCoreEnd (layout parts) (reached parts schedule).core → IsCoreAtRest (layout parts) (reached parts schedule).core
+  -- of 16 seats with 32 calls each at most, of which none costs more than 708
+  pub bounded : (parts : Parts) → IsScenario parts → most_steps parts ≤ 362496

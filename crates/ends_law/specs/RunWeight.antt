@@ -12,9 +12,13 @@ abbrev pub calls_cost : ℕ → List Call → ℕ
 calls_cost n [] = 0
 calls_cost n (call ∷ calls) = call_cost n call + calls_cost n calls
 
+abbrev pub scripts_cost : ℕ → List (List Call) → ℕ
+scripts_cost n [] = 0
+scripts_cost n (calls ∷ scripts) = calls_cost n calls + scripts_cost n scripts
+
 -- no schedule of the scenario has more steps: what all calls of all seats cost
 abbrev pub most_steps : Parts → ℕ
-most_steps parts = total (length parts.calls) (λ k. calls_cost (length parts.calls) (calls_of parts k))
+most_steps parts = scripts_cost (length parts.calls) parts.calls
 
 abbrev pub run_weight : Parts → Run → ℕ
 run_weight parts run =

@@ -1,5 +1,5 @@
--- The weight of a world of semaphores. Each row lowers it, whichever seat runs it; only a call that begins raises it, and by what
--- the call costs. So it tells how many rows can still be run.
+-- The weight of a world of semaphores: a number that each row lowers, whichever seat runs it, and that only a call which begins
+-- raises, by what the call costs. So it tells how many rows can still be run.
 use Rattle.std.specs.Prelude.{ℕ, zero, suc, ◌+◌, ◌-◌, ◌*◌, min, ◌==◌, if◌then◌else◌, Bool, true, false, length}
 use Rattle.step_table.specs.declared.place.AcquireRow.{AcquireRow}
 use Rattle.step_table.specs.declared.place.AcquireRow.TheVariants.{A1, A2, A3, A4, A5, A6, A7, A8, A9, P, A10, A11}
@@ -13,8 +13,8 @@ use Rattle.step_table.specs.World.{Layout, SemaWorld}
 use Rattle.step_table.specs.Steps.{Choice, moved}
 use Rattle.step_table.specs.Counting.{total}
 
--- of n seats: what a seat weighs at a row of an acquire, with this grant. A sleeper keeps what a failed round costs, so whoever
--- wakes it in vain pays for six rows, and not for its exchanges
+-- of n seats: what a seat weighs at a row of an acquire, with this grant. A sleeper keeps what its exchanges cost the others, so
+-- who wakes it pays for the six rows of a round in vain alone
 abbrev pub acquire_weight : ℕ → AcquireRow → ℕ → ℕ
 acquire_weight n A1 grant = 2 * n + 5
 acquire_weight n (A2 left) grant = 2 * n + 4
@@ -84,8 +84,8 @@ seat_weight n s k =
 abbrev pub weight : Layout → SemaWorld → ℕ
 weight m s = total m.seats (seat_weight m.seats s)
 
--- what a caller's choice between two places costs, of n seats: an acquire, also one that begins at the lock, a release, one that
--- hands its unit over, and a release of many; and to decide for handing over. To give up costs nothing
+-- of n seats: what a caller's choice between two places costs. To decide whether a unit is handed over costs what is paid beside
+-- for handing it over, and to give up costs nothing
 abbrev pub release_cost : ℕ → Bool → ℕ
 release_cost n true = 4 * n + 10
 release_cost n false = 2 * n + 11

@@ -13,7 +13,7 @@ pub fn law_of_the_semaphores_ends()
 {}
 
 /// The ends of one notify list, whose weight doesn't depend on how many seats there are. Rows end, for up to 2^63 seats, and
-/// where they end each sleeper is in the list, and its ticket isn't granted unless it is late.
+/// where they end each sleeper is in the list, its ticket ungranted, unless a seat has looked at a late one.
 pub fn law_of_the_lists_ends()
     ensures { TheListEnds }
 {}
@@ -23,14 +23,14 @@ pub fn law_of_the_core_ends()
     ensures { TheCoreEnds }
 {}
 
-/// The ends of a scenario's runs: no schedule has more steps than all calls cost, and each can be gone on with to an end, within
-/// that bound, where each seat has ended, has failed, or sleeps for want of a unit or a grant.
+/// The ends of a scenario's runs: no schedule has more steps than all calls cost, and each can be gone on with to an end,
+/// within that bound, where each seat has ended, has failed, or sleeps on a counter at 0 or with a ticket that isn't granted.
 pub fn law_of_the_runs_ends()
     ensures { TheRunEnds }
 {}
 
-/// Three tables, each the step table but for one row, have no weight at all: a retry that reads 0 and looks again, a try that
-/// loses for no reason, and a release that finds nobody and looks again. By each a seat may go on for ever.
+/// Three tables, each the step table but for one row, have no weight at all: a retry that reads 0 and looks again, a try
+/// that loses for no reason, and a release that finds nobody and looks again. By each a seat may go on for ever.
 pub fn law_of_the_endless_tables()
     ensures { NoneHasWeight }
 {}
