@@ -16,6 +16,8 @@ mod rounds;
 #[cfg(test)]
 mod scenario_tests;
 #[cfg(test)]
+mod search_tests;
+#[cfg(test)]
 mod text_tests;
 #[cfg(test)]
 mod world_tests;
