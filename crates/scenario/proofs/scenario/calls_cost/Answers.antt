@@ -17,6 +17,6 @@ loop-call-preserved c =
     let before = c.loop-call.invariant.1 in
     let low = c.call_cost-cost.ensures.low in (
       (λ j. c.loop-call.invariant.0 j + c.call_cost-cost.ensures.cost j)
-      ∙ sym (calls_cost-push n past call) ∙ ap (λ (calls : List Call). calls_cost n calls) (sym more),
+          ∙ sym (calls_cost-push n past call) ∙ ap (λ (calls : List Call). calls_cost n calls) (sym more),
       omega arith,
     )
