@@ -14,6 +14,8 @@ mod bent_tests;
 #[cfg(test)]
 mod commute_tests;
 #[cfg(test)]
+mod ends_tests;
+#[cfg(test)]
 mod given;
 #[cfg(test)]
 mod group_tests;
