@@ -43,6 +43,7 @@ lands n g groups (group.Fails misuse) = 0
 lands n g groups group.Acquires = 2 * n + 6
 lands n g groups (group.Releases count) = releases_weight n count
 
+-- a stale exchange weighs 2 more, and a seat counts once
 stale_word_most : (groups : ℕ → GroupWord) (standing : Standing) → stale_word groups standing ≤ 2
 stale_word_most groups (AtGroup g (V2 seen)) = by (same_word seen (groups g))
   where

@@ -68,13 +68,10 @@ stays_so s i w place at = ap (λ p. after (λ c. 0) s i w (found (λ c. 0) s.wor
     same : after (λ c. 0) s i w (found (λ c. 0) s.words w) (to (s.seats i).place) ≡ s
     same = λ k. record { words = unwritten (λ c. 0) s.words w k; seats = put_same s.seats i k; journal = s.journal }
 
-never_less : (n m : ℕ) → n < m → n ≡ m → ⊥
-never_less n m less same = absurd (omega arith)
-
 -- a row that leads back to its world can't lower its weight
 back_to_itself : (start : ℕ) (table : Astray) (s : SemaWorld) (i : ℕ) → i < 2 → IsReached (two_seats start) s
     → TurnOf (astray_rules table (λ c. 0)) s i s → HasNoWeight (two_seats start) table
-back_to_itself start table s i there led back weight lowered = never_less (weight s) (weight s) (lowered s s i there led back) refl
+back_to_itself start table s i there led back weight lowered = let less = lowered s s i there led back in absurd (omega arith)
 
 -- what holds of each value of a function that has changed at 0 alone
 at_each : {A : Type 0} (f g : ℕ → A) → f 0 ≡ g 0 → ((k : ℕ) → eqb k 0 ≡ false → f k ≡ g k) → f ≡ g

@@ -29,6 +29,7 @@ both : (m : Layout) (s : SemaWorld)
     → weight m s ≡ standing_weight m s.seats s.words.grants + stale_weight m s.seats s.words.numbers
 both m s = total_add m.seats (λ k. weighs m.seats (s.seats k) (s.words.grants k)) (λ k. stale s.words.numbers (s.seats k).place)
 
+-- a stale exchange weighs 2 more, and no more
 stale_by_most : (b : Bool) → cond b 0 2 ≤ 2
 stale_by_most true = omega arith
 stale_by_most false = omega arith
@@ -74,6 +75,7 @@ module _ (m : Layout) (s : SemaWorld) (i : ℕ) (in_range : i < m.seats) (inv : 
       let stales = owned (λ k seat grant. stale s.words.numbers seat.place) m.seats s.seats s.words.grants s.words.grants i q in_range (λ k ne. refl) in
       let same = ap (stale_weight m (put s.seats i q)) numbers in omega arith
 
+-- a sleeper counts once
 asleep_one : (p : Place) (grant : ℕ) → asleep p grant ≤ 1
 asleep_one (Acquiring a (P turn)) zero = omega arith
 asleep_one (Acquiring a (P turn)) (suc grant) = omega arith

@@ -53,7 +53,7 @@ core_weight m s =
     weight (counters_of m) s.semaphores + total m.lists (λ l. list_weight m.seats (s.lists l))
     + total m.seats (λ k. standing_weight m.seats (s.standing k) + stale_word s.groups (s.standing k))
 
--- what a call costs
+-- of n seats: what a call costs
 abbrev pub call_cost : ℕ → Call → ℕ
 call_cost n (Acquire c lifo) = 2 * n + 5
 call_cost n (Release c handoff) = release_cost n handoff
@@ -76,6 +76,6 @@ counts_on g (AtGroup h V3) = on h g 1
 counts_on g (Failed misuse) = 1
 counts_on g _ = 0
 
--- no word of a group counts more waits than there are such seats. So it is at most the number of seats
+-- no word of a group counts more waits than there are such seats. So the add of a seat that isn't one finds fewer than all
 abbrev pub WaitsCounted : CoreLayout → Core → Type 0
 WaitsCounted m s = (g : ℕ) → (s.groups g).waits ≤ total m.seats (λ k. counts_on g (s.standing k))

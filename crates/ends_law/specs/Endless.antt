@@ -36,7 +36,7 @@ abbrev pub astray_rules : Astray → (ℕ → ℕ) → Rules SemaWorld Word ℕ 
 astray_rules table root =
     record (rules root) { event_of = λ s i. astray_event table i (s.seats i) s.words.lists (s.seats i).place }
 
--- no number of a world is lowered by each row of this table, from all worlds that the step table reaches
+-- there is no number of a world that each row of this table lowers, from each world that the step table reaches
 abbrev pub HasNoWeight : Layout → Astray → Type 0
 HasNoWeight m table =
     (weight : SemaWorld → ℕ)
@@ -44,6 +44,6 @@ HasNoWeight m table =
     → weight t < weight s)
     → ⊥
 
--- not where the counters and seats are these
+-- each of them has none, in some layout
 abbrev pub NoneHasWeight : Type 0
 NoneHasWeight = (table : Astray) → (m : Layout) × HasNoWeight m table

@@ -7,7 +7,7 @@ use Rattle.step_table.specs.Run.{Run, layout}
 use Rattle.core_law.specs.RunInvariant.{calls_of}
 use Rattle.ends_law.specs.CoreWeight.{core_weight, call_cost}
 
--- what so many calls cost together, of n seats
+-- of n seats: what these calls cost together, and what those of all these seats do
 abbrev pub calls_cost : ℕ → List Call → ℕ
 calls_cost n [] = 0
 calls_cost n (call ∷ calls) = call_cost n call + calls_cost n calls
