@@ -1,8 +1,9 @@
 //! The calls that answer want of memory, where memory is really short.
 //!
 //! A test goes rounds, in each of which a little more memory is left (`scarce_memory`). So each allocation of its call is
-//! in some round the first that is refused. Then the call says so; in the last round it answers as it should, and in none
-//! anything else. What is compared is made before memory is short, or needs none.
+//! in some round the first that is refused, but for those that a block serves which the call gave back itself. Then the
+//! call says so; in the last round it answers as it should, and in none anything else. What is compared is made before
+//! memory is short, or needs none.
 #![tactic(auto)]
 
 #[cfg(test)]
