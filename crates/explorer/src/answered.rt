@@ -1,6 +1,6 @@
 //! The schedule that stands in an answer, as `explore` and `check` tell it.
 
-ghost use Rattle.std.specs.Prelude.{◌≡◌, ◌↔◌, Err, IfErr, IfOk, IsErr, IsTrue, false};
+ghost use Rattle.std.specs.Prelude.{◌≡◌, ◌↔◌, IfOk, IsErr, IsTrue, false};
 ghost use Rattle.program_words.specs.Asked.{IsWithinLimits};
 ghost use Rattle.explorer.specs.Asked.{IsScheduled};
 

@@ -1,6 +1,6 @@
 //! A scenario: how many roots, where the counters start, and the calls of each seat.
 
-ghost use Rattle.std.specs.Prelude.{◌≡◌, ◌<◌, ◌≤◌, ◌↔◌, ◌+◌, ◌-◌, ◌*◌, ◌^◌, ℕ, IsTrue, All, IfOk, ◌∷◌, [], Some, List, length, slice_index};
+ghost use Rattle.std.specs.Prelude.{◌≡◌, ◌<◌, ◌≤◌, ◌↔◌, ◌+◌, ◌-◌, ◌*◌, ◌^◌, ℕ, IsTrue, All, IfOk, ◌∷◌, [], List, length, slice_index};
 ghost use Rattle.step_table.specs.Run.{AllRun, call_of};
 ghost use Rattle.step_table.specs.Scenario.{IsWithinLimits, IsDeclared, KeepsTickets, AreTicketsKept, IsTicketCall, IsScript, IsOfFewUnits, IsCallOn, holds_ticket, holding_after};
 ghost use Rattle.core_law.specs.RunInvariant.{IsScenario};

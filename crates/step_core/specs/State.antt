@@ -16,7 +16,7 @@ use Rattle.step_table.specs.declared.standing.After.TheVariants.{Releases}
 use Rattle.step_table.specs.declared.standing.Standing.{Standing}
 use Rattle.step_table.specs.declared.standing.Standing.TheVariants.{Rest, AtCounter, AtList, AtGroup}
 use Rattle.step_table.specs.Journal.{Plain, plain_start, replay}
-use Rattle.step_rows.specs.Stored.{Semaphores, IsStoredFor, IsSameSize, HasRow, IsReadyFor, each, idle, root_of, event_in, finds_in}
+use Rattle.step_rows.specs.Stored.{Semaphores, IsStoredFor, IsSameSize, HasRow, IsReadyFor, each, root_of, event_in, finds_in}
 use Rattle.step_rows.specs.Stored as sema
 use Rattle.step_table.specs.ListWorld.{ListWorld}
 use Rattle.list_law.specs.ListGrants.{EachGrantsLeast}

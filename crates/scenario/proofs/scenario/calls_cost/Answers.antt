@@ -1,4 +1,4 @@
-use Rattle.std.proofs.Common.{◌≡◌, ℕ, ◌+◌, List, [], ◌∷◌, ◌++◌, ap, sym, ◌∙◌, take, arith}
+use Rattle.std.proofs.Common.{◌≡◌, ◌+◌, List, [], ◌∷◌, ◌++◌, ap, sym, ◌∙◌, take, arith}
 use Rattle.std.proofs.lemmas.List.{take_more}
 use Rattle.step_table.specs.declared.call.Call.{Call}
 use Rattle.ends_law.specs.RunWeight.{calls_cost}

@@ -1,4 +1,4 @@
-use Rattle.std.proofs.Common.{◌≡◌, ℕ, ◌+◌, List, [], ◌∷◌, ◌++◌, ap, sym, ◌∙◌, subst, take, arith}
+use Rattle.std.proofs.Common.{◌≡◌, ◌+◌, List, [], ◌∷◌, ◌++◌, ap, sym, ◌∙◌, subst, take, arith}
 use Rattle.std.proofs.lemmas.List.{take_all, take_more}
 use Rattle.step_table.specs.declared.call.Call.{Call}
 use Rattle.core_law.specs.RunInvariant.{IsScenario}
