@@ -1,7 +1,7 @@
 //! What has to be spent can't be let go: a seat in the middle of a call, and a ticket.
 //!
-//! The compiler refuses a caller who lets one go, before anything is proved: so no edit in `must-fail` shows it. In place of edits
-//! stands code that compiles only while it is so.
+//! The compiler refuses a caller who lets one go, before anything is proved: so no edit in `must-fail` shows it. In
+//! place of edits stands code that compiles only while it is so.
 
 use notify_list::Holding;
 use sema_table::{Owing, OwingMany, Sleeping, Woken};
@@ -19,7 +19,8 @@ impl<T> Ends<AnyWay> for T {}
 
 impl<T: Drop> Ends<LetGo> for T {}
 
-/// Compiles only while none of these can be let go: of a type that can, the compiler doesn't know which of its two ends is meant.
+/// Compiles only while none of these can be let go: of a type that can, the compiler doesn't know which of its two
+/// ends is meant.
 pub fn must_be_spent(
     owing: &Owing,
     owing_many: &OwingMany,

@@ -29,8 +29,9 @@ pub fn law_of_the_runs_ends()
     ensures { TheRunEnds }
 {}
 
-/// Three tables, each the step table but for one row, have no weight at all: a retry that reads 0 and looks again, a try
-/// that loses for no reason, and a release that finds nobody and looks again. By each a seat may go on for ever.
+/// Three tables, each the step table but for one row, have no weight at all: a retry that reads 0 and looks again, a
+/// try that loses for no reason, and a release that finds nobody and looks again. So no bound as those above is true
+/// of them.
 pub fn law_of_the_endless_tables()
     ensures { NoneHasWeight }
 {}

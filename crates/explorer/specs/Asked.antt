@@ -1,7 +1,6 @@
 -- What the program answers to what its words ask for, and what it tells beside.
 use Rattle.std.specs.Prelude.{◌≡◌, ℕ, ◌⊎◌, Bool, true, false, IsTrue, List, [], string_bytes, codes}
 use Rattle.std.specs.Prelude.{Option, Some, None, Result, Ok, Err, option_map}
-use Rattle.std.specs.Borrow.{Bor}
 use Rattle.std.specs.Io.KnownBytes.{Appends}
 use Rattle.scenario_search.specs.declared.exit.Exit.{Exit}
 use Rattle.scenario_search.specs.declared.exit.Exit.TheVariants.{NothingBad, Refused}
@@ -15,7 +14,7 @@ use Rattle.streams.specs.Writing.{WritesBeginning}
 use Rattle.scenario_search.specs.Told.{IsToldOf, WantsMemory, TellsAll, TellsBeginning}
 use Rattle.program_words.specs.declared.asked.Asked.{Asked}
 use Rattle.program_words.specs.declared.asked.Asked.TheVariants.{Once, OfScenario, Judge, Threads, Help, Mistake, NoText, NoMemory}
-use Rattle.program_words.specs.Asked.{IsWithinLimits, with_schedule}
+use Rattle.program_words.specs.Asked.{IsWithinLimits}
 use Rattle.explorer.specs.JudgeText.{IsJudgeReplyOf, IsJudgeToldOf}
 use Rattle.explorer.specs.OnceText.{IsOnceAnswer}
 use Rattle.explorer.specs.ThreadsText.{IsThreadsAnswer}
@@ -68,12 +67,6 @@ beside asked (Err fault) = Some (fault_text fault)
 abbrev pub status_after : Result Told IoFault → ℕ
 status_after (Ok told) = status_of told.exit
 status_after (Err fault) = 2
-
--- what is asked once the answer is read whose schedule is replayed: the same with some schedule; or the same, where the answer
--- tells none; or memory was short
-abbrev pub IsScheduled : Asked → Asked → Type 0
-IsScheduled asked scheduled =
-    ((schedule : Bor (List ℕ)) × (scheduled ≡ with_schedule asked schedule)) ⊎ (scheduled ≡ asked) ⊎ (scheduled ≡ NoMemory)
 
 -- the text went out, or where the sink has failed a beginning of it
 abbrev pub WritesAsFar : Option (List ℕ) → Option (List ℕ) → Bool → List ℕ → Type 0

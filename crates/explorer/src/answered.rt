@@ -2,21 +2,23 @@
 
 ghost use Rattle.std.specs.Prelude.{◌≡◌, ◌↔◌, IfOk, IsErr, IsTrue, false};
 ghost use Rattle.program_words.specs.Asked.{IsWithinLimits};
-ghost use Rattle.explorer.specs.Asked.{IsScheduled};
 
 use program_words::Asked;
 use scenario_search::{IoFault, MAX_TEXT, Source};
 use std::alloc::Global;
 use streams::read_at_most;
 
+/// An answer that tells no schedule is replayed as this, which is none.
+const NO_SCHEDULE: &str = "-";
+
 /// What stands behind `schedule: ` in the second line of an answer.
 fn told_schedule(answer: &str) -> Option<&str> {
-    let (_, line) = answer.split_once('\n')?;
-    line.strip_prefix("schedule: ")?.strip_suffix('\n')
+    let (_, behind) = answer.split_once('\n')?;
+    let (line, _) = behind.split_once('\n')?;
+    line.strip_prefix("schedule: ")
 }
 
-/// What is asked, with the schedule that the answer tells which is read to its end into this room. An answer that tells none
-/// leaves what stands for it, which is no schedule.
+/// What is asked, with the schedule that the answer tells which is read to its end into this room.
 ///
 /// It is an `Err` where a read fails.
 pub(crate) fn scheduled_by<'w, R: Source>(
@@ -28,15 +30,12 @@ pub(crate) fn scheduled_by<'w, R: Source>(
     requires limits { IsWithinLimits asked }
     requires readable { R.has_failed reader.old ≡ false }
     ensures limits { IfOk result IsWithinLimits }
-    ensures scheduled { IfOk result (IsScheduled asked.entry) }
     ensures failed { IsErr result ↔ IsTrue (R.has_failed reader.new) }
 {
     match read_at_most(alloc, reader, MAX_TEXT)? {
         Ok(answer) => *room = answer,
         Err(_) => return Ok(Asked::NoMemory),
     }
-    match str::from_utf8(room).ok().and_then(told_schedule) {
-        Some(schedule) => Ok(asked.with_schedule(schedule)),
-        None => Ok(asked),
-    }
+    let schedule = str::from_utf8(room).ok().and_then(told_schedule);
+    Ok(asked.with_schedule(schedule.unwrap_or(NO_SCHEDULE)))
 }

@@ -1,6 +1,6 @@
 //! The whole program, on its words. The files that they name are opened through the runtime.
 
-ghost use Rattle.std.specs.Prelude.{◌≡◌, IfOk, false};
+ghost use Rattle.std.specs.Prelude.{◌≡◌, IfOk, IsTrue, false};
 ghost use Rattle.program_words.specs.Asked.{IsWithinLimits};
 ghost use Rattle.explorer.specs.Asked.{HasDone, HasDoneSome};
 
@@ -76,7 +76,9 @@ fn opened_io<T: Files + Threads + Wait + Clock + Sync, R: Source, O: Sink, E: Si
     requires limits { IsWithinLimits asked.now }
     requires readable { R.has_failed reader.old ≡ false }
     requires writable { O.has_failed out.old ≡ false }
-    ensures { HasDoneSome (O.contents out.old) (O.contents out.new) (O.has_failed out.new) result }
+    ensures done { HasDoneSome (O.contents out.old) (O.contents out.new) (O.has_failed out.new) result }
+    ensures unread { IsTrue (R.has_failed reader.new) → (result ≡ 2) × (O.contents out.new ≡ O.contents out.old) }
+    ensures cut { IsTrue (O.has_failed out.new) → result ≡ 2 }
 {
     let Some(name) = asked.file() else {
         return shown_io(rt, alloc, asked, reader, out, err);
@@ -103,7 +105,9 @@ pub fn parklot_io<T: Files + Threads + Wait + Clock + Sync, R: Source, O: Sink, 
 ) -> u8
     requires readable { R.has_failed reader.old ≡ false }
     requires writable { O.has_failed out.old ≡ false }
-    ensures { HasDoneSome (O.contents out.old) (O.contents out.new) (O.has_failed out.new) result }
+    ensures done { HasDoneSome (O.contents out.old) (O.contents out.new) (O.has_failed out.new) result }
+    ensures unread { IsTrue (R.has_failed reader.new) → (result ≡ 2) × (O.contents out.new ≡ O.contents out.old) }
+    ensures cut { IsTrue (O.has_failed out.new) → result ≡ 2 }
 {
     let mut room = Vec::new(alloc);
     let asked = read_words(alloc, words.as_slice());

@@ -75,7 +75,7 @@ pub(crate) fn ask(
     let mut err = Flagged::new(Taking::new(alloc, devices.err));
     let status = match owned(alloc, words) {
         Ok(words) => parklot_io(rt, alloc, words, &mut reader, &mut out, &mut err),
-        // as the program does where it can't have its words
+        // where memory is short nothing is told
         Err(_) => 2,
     };
     (

@@ -83,7 +83,7 @@ const OTHERS: [Row; 7] = [
             "--variant",
             "plain-less",
         ],
-        "OfScenario { command: Replay { schedule: \"-\", table: Some(PlainLess), drawn: true }, file: Some(\"e\"), answer: Some(\"-\"), threads: 1 }",
+        "OfScenario { command: Replay { schedule: \"\", table: Some(PlainLess), drawn: true }, file: Some(\"e\"), answer: Some(\"-\"), threads: 1 }",
         Some("e"),
         false,
     ),

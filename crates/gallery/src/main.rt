@@ -1,8 +1,8 @@
 //! The gallery: each text of `crates/gallery/data` goes through the program, with the words that stand beside it, and what
 //! the program answers is compared with what stands there.
 //!
-//! `NAME.txt` is a scenario, a journal, or an answer whose schedule is replayed. In `NAME.answers` a line that begins with `$ parklot ` has the words, and the
-//! lines after it are what is written, and `exit` with the status.
+//! `NAME.txt` is a scenario, a journal, or an answer whose schedule is replayed. In `NAME.answers` a line that begins
+//! with `$ parklot ` has the words, and the lines after it are what is written, and `exit` with the status.
 #![tactic(auto)]
 
 use anyhow::Result;
@@ -18,7 +18,7 @@ use std::time::Clock;
 const PROMPT: &str = "$ parklot ";
 
 /// The scenarios, from the simple to the odd, the journals, and the answers.
-const NAMES: [&str; 29] = [
+const NAMES: [&str; 33] = [
     "lonely_sleeper",
     "lost_wake_up",
     "newest_first",
@@ -48,6 +48,10 @@ const NAMES: [&str; 29] = [
     "go_wait_group",
     "answer_of_a_sleeper",
     "answer_of_none",
+    "answer_of_check",
+    "answer_without_steps",
+    "answer_of_nothing",
+    "answer_with_a_table",
 ];
 
 /// The words of a command. What stands in quotes is one word.

@@ -17,9 +17,6 @@ static NO_SCENARIO: &str = "\
 error: with --schedule-of - standard input has the answer: name the scenario by --scenario FILE
 ";
 
-/// It stands for the schedule of an answer until that is read, and is none.
-const UNREAD: &str = "-";
-
 /// How many worlds a search may keep that keeps so many where it isn't told.
 fn worlds_of(given: &ArgMatches<'_>, untold: u32) -> u32
     ensures { IsFromOne 1000000000 result }
@@ -114,7 +111,8 @@ fn replay_asked<'w>(alloc: Global, given: &ArgMatches<'w>) -> Result<Asked<'w>, 
     }
     Ok(Asked::OfScenario {
         command: Command::Replay {
-            schedule: given.get_str("schedule").unwrap_or(UNREAD),
+            // that of an answer takes the place of none
+            schedule: given.get_str("schedule").unwrap_or(""),
             table: variant_of(given),
             drawn: given.get_flag("table"),
         },

@@ -14,10 +14,11 @@ use step_table::{RunRefused, StepRefused};
 use waiters::SeatId;
 
 /// Runs the seats in the order of the schedule, from the start of the scenario. The world is that of the schedule, it
-/// is lawful, and where no seat can run it is at rest. Where each add to a wait group is fair, no seat has failed, and
-/// each group's counter is the sum of its adds. Each step that grants tickets grants the least ungranted one alone, or
-/// all that were handed out when its L5 read the wait word. It has no more steps than `Scenario::most_steps` tells. A schedule is refused at its first step that can't be run, want
-/// of memory for its entry among the causes; want of memory for the start is told of step 0.
+/// is lawful, and where no seat can run it is at rest. Where each add to a wait group is fair, no seat has failed,
+/// and each group's counter is the sum of its adds. Each step that grants tickets grants the least ungranted one
+/// alone, or all that were handed out when its L5 read the wait word. The schedule has no more steps than
+/// `Scenario::most_steps` tells. It is refused at its first step that can't be run, want of memory for its entry
+/// among the causes; want of memory for the start is told of step 0.
 pub fn run<'s>(
     alloc: Global,
     scenario: &'s Scenario,

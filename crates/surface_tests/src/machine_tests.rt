@@ -4,8 +4,8 @@ use crate::given::holds;
 use std::alloc::{AllocError, Global};
 use std::process::Abort;
 use step_core::{
-    BentWorld, Call, CounterId, Entry, Items, NoMemory, Parts, Phase, Row, RunRefused, Scenario,
-    ScenarioRefused, SeatId, StepRefused, Variant, World, less, run,
+    BentWorld, Call, CounterId, Entry, GroupId, Items, ListId, NoMemory, Parts, Phase, Row,
+    RunRefused, Scenario, ScenarioRefused, SeatId, StepRefused, Variant, World, less, run,
 };
 
 /// A counter at 0, an acquire of seat 0, and where `both` is true a release of seat 1.
@@ -108,14 +108,19 @@ fn have_one_key(alloc: Global, one: &World<'_>, other: &World<'_>) -> Result<boo
     Ok(one.key(alloc)?.as_slice() == other.key(alloc)?.as_slice())
 }
 
+/// The world at the start, asked for once more where memory was refused.
+fn new_again<'s>(rt: &impl Abort, alloc: Global, scenario: &'s Scenario) -> World<'s> {
+    match World::new(alloc, scenario) {
+        Ok(world) => world,
+        Err(NoMemory) => World::new(alloc, scenario).expect(rt, "a world"),
+    }
+}
+
 #[test]
 fn a_step_has_its_names(rt: HostRuntime) {
     let alloc = rt.alloc();
     let scenario = scenario(&rt, alloc, true);
-    let mut world = match World::new(alloc, &scenario) {
-        Ok(world) => world,
-        Err(NoMemory) => World::new(alloc, &scenario).expect(&rt, "a world"),
-    };
+    let mut world = new_again(&rt, alloc, &scenario);
     holds(&rt, world.step(SeatId(2)) == Err(StepRefused::NoSuchSeat));
     let start = run_again(alloc, &scenario, &[]).expect(&rt, "a start");
     let same = have_one_key(alloc, &world, &start).or(have_one_key(alloc, &world, &start));
@@ -135,15 +140,29 @@ fn sleeps_beside_a_unit(rt: &impl Abort, alloc: Global, world: &mut BentWorld<'_
     holds(rt, world.key(alloc).or(world.key(alloc)).is_ok());
 }
 
+/// The start by this change of the table.
+fn bent<'s>(
+    rt: &impl Abort,
+    alloc: Global,
+    scenario: &'s Scenario,
+    variant: Variant,
+) -> BentWorld<'s> {
+    match BentWorld::new(alloc, scenario, variant) {
+        Ok(world) => world,
+        Err(NoMemory) => BentWorld::new(alloc, scenario, variant).expect(rt, "a world"),
+    }
+}
+
 #[test]
 fn a_changed_table_has_its_names(rt: HostRuntime) {
     let alloc = rt.alloc();
     let scenario = scenario(&rt, alloc, true);
-    let mut world = match BentWorld::new(alloc, &scenario, Variant::NoLook) {
-        Ok(world) => world,
-        Err(NoMemory) => BentWorld::new(alloc, &scenario, Variant::NoLook).expect(&rt, "a world"),
-    };
+    let mut world = bent(&rt, alloc, &scenario, Variant::NoLook);
     sleeps_beside_a_unit(&rt, alloc, &mut world);
+    for variant in [Variant::LateCount, Variant::PlainLess] {
+        let mut world = bent(&rt, alloc, &scenario, variant);
+        holds(&rt, world.step(SeatId(1)) == Ok(()));
+    }
 }
 
 /// Parts without a seat make no scenario.
@@ -151,6 +170,40 @@ fn is_out_of_limits(alloc: Global) -> Result<bool, AllocError> {
     let mut parts = parts(alloc, false)?;
     parts.calls = Items::new(Vec::new(alloc));
     Ok(Scenario::of(parts).err() == Some(ScenarioRefused::OutOfLimits))
+}
+
+/// Each kind of call, in a turn that keeps its tickets.
+fn every_call() -> [Call; 9] {
+    [
+        Call::Acquire(CounterId(0), true),
+        Call::Release(CounterId(0), false),
+        Call::ReleaseMany(CounterId(0), 256),
+        Call::Add(ListId(0)),
+        Call::One(ListId(0)),
+        Call::Wait(ListId(0)),
+        Call::All(ListId(0)),
+        Call::GroupAdd(GroupId(0), -1),
+        Call::GroupWait(GroupId(0)),
+    ]
+}
+
+/// Whether one seat may make them all.
+fn may_be_called(alloc: Global) -> Result<bool, AllocError> {
+    let mut parts = parts(alloc, false)?;
+    parts.firsts = Items::new(vec![in alloc; 7]?);
+    parts.groups = 1;
+    let script = Items::new(every_call().as_slice().to_vec(alloc)?);
+    parts.calls = Items::new(vec![in alloc; script]?);
+    Ok(Scenario::of(parts).is_ok())
+}
+
+#[test]
+fn calls_have_their_names(rt: HostRuntime) {
+    let alloc = rt.alloc();
+    holds(
+        &rt,
+        may_be_called(alloc).or(may_be_called(alloc)) == Ok(true),
+    );
 }
 
 #[test]

@@ -1,11 +1,9 @@
 //! The notify list, the condition variable, the lock over a counter and the wait group, in one thread.
 
-ghost use Rattle.std.specs.Prelude.{◌≡◌, All, IfOk};
+ghost use Rattle.std.specs.Prelude.{◌≡◌};
 
-use crate::given::holds;
+use crate::given::{holds, table_of_two};
 use notify_list::{ListClosed, NotifyList};
-use sema_table::{Seat, SemaTable, Settings};
-use std::alloc::{AllocError, Global};
 use std::process::Abort;
 use std::sync::Wait;
 use std::test::Fail;
@@ -56,40 +54,6 @@ fn a_list_has_its_names(rt: HostRuntime) -> Result<(), Fail> {
     Ok(())
 }
 
-/// One counter at 1, for locks of two seats.
-fn settings(alloc: Global) -> Result<Settings, AllocError> {
-    Ok(Settings {
-        starts: vec![in alloc; 1]?,
-        seats: 2,
-        roots: 1,
-        seed: 0,
-        release_limit: 10,
-    })
-}
-
-fn new_table(alloc: Global) -> Result<(SemaTable, Vec<Seat>), SetupError>
-    ensures { IfOk result (λ t. All (λ s. s.table ≡ t.0) t.1.items) }
-{
-    let Ok(settings) = settings(alloc) else {
-        return Err(SetupError::NoMemory);
-    };
-    SemaTable::new(alloc, settings)
-}
-
-/// The table and its two seats, in their order.
-fn table_of_two(rt: &impl Abort, alloc: Global) -> (SemaTable, Seat, Seat)
-    ensures { (result.1.table ≡ result.0) × (result.2.table ≡ result.0) }
-{
-    let made = match new_table(alloc) {
-        Err(SetupError::NoMemory) => new_table(alloc),
-        answer => answer,
-    };
-    let (table, mut seats) = made.expect(rt, "a table");
-    let second = seats.pop().expect(rt, "a seat");
-    let first = seats.pop().expect(rt, "a seat");
-    (table, first, second)
-}
-
 /// The lock is taken and given back, as it is and as a locker.
 fn locks_and_unlocks<R: Abort + Wait>(rt: &R, lock: &mut SemaLock<'_>, cond: &Cond, seat: ListSeat)
     requires { seat.list ≡ cond.now }
@@ -110,12 +74,12 @@ fn a_lock_has_its_names(rt: HostRuntime) -> Result<(), Fail> {
         Err(_refused) => Cond::with_seats(rt.alloc(), 1)?,
     };
     let seat = seats.pop().expect(&rt, "a seat");
-    let (table, first, second) = table_of_two(&rt, rt.alloc());
+    let (table, first, second) = table_of_two(&rt, rt.alloc(), 1);
     assert!(rt; 0 < table.counters());
     let mut one = SemaLock::over(&table, first, CounterId(0));
     let mut other = SemaLock::over(&table, second, CounterId(0));
-    locks_and_unlocks(&rt, &mut one, &cond, seat);
     one.meet(&mut other);
+    locks_and_unlocks(&rt, &mut one, &cond, seat);
     assert!(rt; !one.held());
     holds(&rt, one.into_seat().taken() == 2);
     Ok(())

@@ -1,5 +1,7 @@
 //! The program, and what stands in it.
 
+ghost use Rattle.std.specs.Prelude.{◌≡◌, false};
+
 use crate::given::holds;
 use explorer::{
     Cause, Exit, Flagged, Found, Gate, IoFault, Kind, Property, ReadFault, Sink, Source,
@@ -72,16 +74,15 @@ fn ended<R: Source, W: Sink>(
     reader: &mut R,
     writer: &mut W,
     call: &Call,
-) -> Option<Result<Exit, IoFault>> {
-    // no clause says that a stream which is new hasn't failed, so it is asked
-    if reader.failed() || writer.failed() {
-        return None;
-    }
-    Some(match call {
+) -> Result<Exit, IoFault>
+    requires readable { R.has_failed reader.old ≡ false }
+    requires writable { W.has_failed writer.old ≡ false }
+{
+    match call {
         Call::Explore => explore_io(alloc, reader, writer, 32),
         Call::ExploreVariant => explore_variant_io(alloc, reader, writer, 3, Variant::NoLook),
         Call::Replay => replay_io(alloc, reader, writer, "-"),
-    })
+    }
 }
 
 /// Whether the call ends so, where memory isn't short.
@@ -89,7 +90,7 @@ fn ends(alloc: Global, call: &Call, text: &[u8], exit: Exit) -> bool {
     let mut reader = Flagged::new(ONE_ACQUIRE);
     let mut out = Flagged::new(Vec::new(alloc));
     let ended = ended(alloc, &mut reader, &mut out, call);
-    ended == Some(Ok(exit)) && out.into_inner().as_slice() == text
+    ended == Ok(exit) && out.into_inner().as_slice() == text
 }
 
 #[test]

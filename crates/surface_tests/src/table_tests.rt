@@ -1,50 +1,16 @@
 //! The running table, in one thread.
 
-ghost use Rattle.std.specs.Prelude.{◌≡◌, ◌<◌, All, IfOk, length};
+ghost use Rattle.std.specs.Prelude.{◌≡◌, ◌<◌, length};
 
-use crate::given::holds;
+use crate::given::{holds, table_of_two};
 use sema_table::{
-    Closed, Entered, Owing, Polled, Posted, PostedMany, Roused, Seat, SemaTable, Settings,
-    SetupError, Sleeping, Tried, Wake, Woken,
+    Closed, Entered, Owing, OwingMany, Polled, PostRefused, Posted, PostedMany, Roused, Seat,
+    SemaTable, Sleeping, Tried, Wake, Woken,
 };
-use std::alloc::{AllocError, Global};
+use std::alloc::Global;
 use std::process::Abort;
 use std::sync::Wait;
 use waiters::{CounterId, SeatId, WaitId};
-
-/// One counter at 0, and two seats.
-fn settings(alloc: Global) -> Result<Settings, AllocError> {
-    Ok(Settings {
-        starts: vec![in alloc; 0]?,
-        seats: 2,
-        roots: 251,
-        seed: 1,
-        release_limit: 10,
-    })
-}
-
-fn new_table(alloc: Global) -> Result<(SemaTable, Vec<Seat>), SetupError>
-    ensures { IfOk result (λ t. All (λ s. s.table ≡ t.0) t.1.items) }
-{
-    let Ok(settings) = settings(alloc) else {
-        return Err(SetupError::NoMemory);
-    };
-    SemaTable::new(alloc, settings)
-}
-
-/// The table and its two seats, in their order.
-fn table_of_two(rt: &impl Abort, alloc: Global) -> (SemaTable, Seat, Seat)
-    ensures { (result.1.table ≡ result.0) × (result.2.table ≡ result.0) }
-{
-    let made = match new_table(alloc) {
-        Err(SetupError::NoMemory) => new_table(alloc),
-        answer => answer,
-    };
-    let (table, mut seats) = made.expect(rt, "a table");
-    let second = seats.pop().expect(rt, "a seat");
-    let first = seats.pop().expect(rt, "a seat");
-    (table, first, second)
-}
 
 /// The counter, which the table has.
 fn counter(rt: &impl Abort, table: &SemaTable) -> CounterId
@@ -125,6 +91,33 @@ fn posts_two(rt: &impl Abort, table: &SemaTable, seat: Seat) -> Seat
     }
 }
 
+/// Adds two units while one sleeps, and wakes that one.
+fn wakes_some<R: Abort + Wait>(rt: &R, table: &SemaTable, seat: Seat) -> Seat
+    requires { seat.table ≡ table.now }
+    ensures { result.table ≡ table.now }
+{
+    let at = counter(rt, table);
+    let owing: OwingMany = match table.post_many(seat, at, 2) {
+        Ok(PostedMany::Owes(owing)) => owing,
+        _other => panic!(rt; "nobody waits"),
+    };
+    let (seat, woken) = table.wake_some(rt, owing);
+    holds(rt, woken == 1);
+    seat
+}
+
+/// More units than the seat may add are refused, and it comes back.
+fn is_at_its_limit(rt: &impl Abort, table: &SemaTable, seat: Seat) -> Seat
+    requires { seat.table ≡ table.now }
+    ensures { result.table ≡ table.now }
+{
+    let at = counter(rt, table);
+    match table.post_many(seat, at, 11) {
+        Err((seat, PostRefused::LimitReached)) => seat,
+        _other => panic!(rt; "units were added"),
+    }
+}
+
 /// One sleeps, and is woken by a unit that it takes.
 fn sleeps_and_takes<R: Abort + Wait>(
     rt: &R,
@@ -192,7 +185,8 @@ fn closes(rt: &impl Abort, alloc: Global, table: SemaTable, first: Seat, second:
 #[test]
 fn a_table_has_its_names(rt: HostRuntime) {
     let alloc = rt.alloc();
-    let (table, first, second) = table_of_two(&rt, alloc);
+    let (table, first, second) = table_of_two(&rt, alloc, 0);
+    let second = is_at_its_limit(&rt, &table, second);
     let (first, second) = sleeps_and_takes(&rt, &table, first, second);
     let second = posts_two(&rt, &table, second);
     let (first, second) = goes_on(&rt, &table, first, second);
@@ -200,4 +194,16 @@ fn a_table_has_its_names(rt: HostRuntime) {
     assert!(rt; 0 < closed.counters());
     holds(&rt, closed.value(CounterId(0)) == 5);
     holds(&rt, closed.releases() == 7 && closed.acquires() == 2);
+}
+
+#[test]
+fn a_release_of_many_has_its_names(rt: HostRuntime) {
+    let alloc = rt.alloc();
+    let (table, first, second) = table_of_two(&rt, alloc, 0);
+    let sleeping = falls_asleep(&rt, &table, first);
+    let second = wakes_some(&rt, &table, second);
+    let woken = wakes_up(&rt, &table, sleeping);
+    let first = takes(&rt, &table, woken);
+    let closed = closes(&rt, alloc, table, first, second);
+    holds(&rt, closed.releases() == 2 && closed.acquires() == 1);
 }

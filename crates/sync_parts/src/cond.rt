@@ -52,7 +52,7 @@ impl Cond {
         ensures held { L.is_held locker.new ≡ true }
         ensures calls { L.calls locker.new ≡ L.calls locker.old ++ call.Unlocked ∷ call.Locked ∷ [] }
     {
-        // The ticket before the unlock: who signals once it is unlocked finds the ticket handed out.
+        // the ticket before the unlock: who signals behind it looks for this ticket too
         let holding = self.list.add(seat);
         locker.unlock(rt, &holding);
         let (seat, waited) = self.list.wait(rt, holding);
@@ -60,7 +60,8 @@ impl Cond {
         (seat, waited)
     }
 
-    /// Wakes the one that has waited longest, if one waits (Go's `Cond.Signal`). It answers the ticket that it granted.
+    /// Grants the least ticket that isn't granted, and wakes its wait where that is queued (Go's `Cond.Signal`). It answers the
+    /// ticket.
     pub fn signal<R: Wait>(&self, rt: &R, seat: &mut ListSeat) -> Option<u64>
         requires { seat.old.list ≡ self.now }
         ensures rows { NotifiesOne seat.old result seat.new }
