@@ -68,7 +68,8 @@ const SEARCHES: [Row; 5] = [
 const OTHERS: [Row; 7] = [
     (
         &["replay", "--schedule", "0 1", "--variant", "no-look", "d"],
-        "OfScenario { command: Replay { schedule: \"0 1\", table: Some(NoLook), drawn: false }, file: Some(\"d\"), answer: None, threads: 1 }",
+        "OfScenario { command: Replay { schedule: \"0 1\", table: Some(NoLook), drawn: false }, \
+         file: Some(\"d\"), answer: None, threads: 1 }",
         Some("d"),
         false,
     ),
@@ -83,13 +84,15 @@ const OTHERS: [Row; 7] = [
             "--variant",
             "plain-less",
         ],
-        "OfScenario { command: Replay { schedule: \"\", table: Some(PlainLess), drawn: true }, file: Some(\"e\"), answer: Some(\"-\"), threads: 1 }",
+        "OfScenario { command: Replay { schedule: \"\", table: Some(PlainLess), drawn: true }, \
+         file: Some(\"e\"), answer: Some(\"-\"), threads: 1 }",
         Some("e"),
         false,
     ),
     (
         &["replay", "--schedule", "-"],
-        "OfScenario { command: Replay { schedule: \"-\", table: None, drawn: false }, file: None, answer: None, threads: 1 }",
+        "OfScenario { command: Replay { schedule: \"-\", table: None, drawn: false }, \
+         file: None, answer: None, threads: 1 }",
         None,
         false,
     ),
