@@ -21,7 +21,7 @@ use Rattle.sema_table.specs.declared.answers.Wake.{Wake}
 use Rattle.sema_table.specs.declared.answers.Wake.TheVariants.{Nobody, One, Handed}
 use Rattle.sema_table.specs.Setting.{layout}
 use Rattle.sema_table.specs.Seats.{SeatModel}
-use Rattle.sema_table.specs.Calls.{TellsIn, Calls}
+use Rattle.sema_table.specs.Calls.{TellsIn, RunsRows}
 use Rattle.sema_table.specs.Waking.{Wakes, IsWakened}
 use Rattle.sema_table.specs.Whole.{queued, TakesUnit, IsAcquired, IsReleased}
 
@@ -98,7 +98,7 @@ acquired_take s t c (inr (u, none, from)) =
 
 -- a call that told of something, by a seat for which a unit was taken
 module _ (c : ℕ) (s t : SeatModel) (has : HasTake c s.number s.sight.seen) where
-  first_seen : (from : Place) (e : Entry) (told : List Entry) → Calls s from t (e ∷ told)
+  first_seen : (from : Place) (e : Entry) (told : List Entry) → RunsRows s from t (e ∷ told)
       → (s.number < s.table.setting.seats) × Seen (layout s.table.setting) t.sight.seen
   first_seen from e told call = by call.strides call.path call.told_is
     where
@@ -115,7 +115,7 @@ module _ (c : ℕ) (s t : SeatModel) (has : HasTake c s.number s.sight.seen) whe
           )
 
 next_seen : (s t : SeatModel) (from : Place) (told : List Entry) → s.number < s.table.setting.seats
-    → Seen (layout s.table.setting) s.sight.seen → Calls s from t told → Seen (layout s.table.setting) t.sight.seen
+    → Seen (layout s.table.setting) s.sight.seen → RunsRows s from t told → Seen (layout s.table.setting) t.sight.seen
 next_seen s t from told there seen call = path_seen (layout s.table.setting) s.number call.strides
     (placed from s.sight) t.sight there seen call.path
 

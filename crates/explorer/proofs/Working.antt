@@ -171,4 +171,4 @@ module _ (workers rounds : ℕ) (c : ClosedModel) (run : IsThreadsRun workers ro
       let before = one_counter (layout z).starts (length z.starts) one in
       let after = one_counter (slice_index c.values) (length z.starts) one in
       let balanced = run.closed.balanced in let added = releases_are in let taken = acquires_are in
-      only c.values (run.closed.each ∙ one) (omega (arith, start, before, after, balanced, added, taken))
+      only c.values (run.closed.long ∙ one) (omega (arith, start, before, after, balanced, added, taken))

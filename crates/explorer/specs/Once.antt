@@ -9,7 +9,7 @@ use Rattle.sema_table.specs.declared.settings.Settings.{Settings}
 use Rattle.sema_table.specs.Seats.{TableModel, SeatModel}
 use Rattle.sema_table.specs.Making.{new_seat}
 use Rattle.sema_table.specs.Tries.{acquiring, IsTried, IsPosted}
-use Rattle.sema_table.specs.Waking.{acquire_of, IsEntered, IsPolled, IsRetried, IsWakened}
+use Rattle.sema_table.specs.Waking.{acquire_of, IsEntered, OnlyLooks, IsPolled, IsRetried, IsWakened}
 use Rattle.explorer.specs.declared.answer.Released.{Released}
 use Rattle.explorer.specs.declared.answer.Released.TheVariants.{Done, Owed}
 use Rattle.explorer.specs.declared.answer.Retried.{Retried}
@@ -24,8 +24,8 @@ IsReleased s (Owed wake) = (t u : SeatModel) × IsPosted s 0 (posted.Owes t) × 
 
 -- after looks that found nothing, the seat was woken by this poll, or else handed a unit
 abbrev pub IsGranted : SeatModel → Option SeatModel → Type 0
-IsGranted s None = (t u : SeatModel) × (t ≡ record s { sight = t.sight; strides = t.strides }) × IsPolled t (polled.Handed u)
-IsGranted s (Some woken) = (t : SeatModel) × (t ≡ record s { sight = t.sight; strides = t.strides }) × IsPolled t (polled.Woken woken)
+IsGranted s None = (t u : SeatModel) × OnlyLooks s t × IsPolled t (polled.Handed u)
+IsGranted s (Some woken) = (t : SeatModel) × OnlyLooks s t × IsPolled t (polled.Woken woken)
 
 -- the seat was handed a unit; or it was woken, and its retry answered this
 abbrev pub IsAwakened : SeatModel → Option Retried → Type 0

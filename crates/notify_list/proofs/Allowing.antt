@@ -1,12 +1,10 @@
 -- What an atomic step of the code owes, by the kind of its row.
-use Rattle.std.proofs.Common.{◌≡◌, ◌≢◌, ℕ, ◌+◌, ◌<◌, ◌==◌, List, [], ◌∷◌, set, slice_index, sym, refl, ap, ◌∙◌, subst, ⊎_elim, arith, lt-ltb, length-set, get_or-set_other, get_or-set_same}
+use Rattle.std.proofs.Common.{◌≡◌, ◌≢◌, ℕ, ◌<◌, ◌==◌, List, [], ◌∷◌, slice_index, sym, refl, ap, ◌∙◌, subst, arith, lt-ltb, length-set, get_or-set_other, get_or-set_same}
 use mathlib.Core.Option.{none, some}
 use native.Mathlib.Decide.{ℕ_discrete}
-use lib.ListN.{get_elem?}
-use lib.Seq.{set-get_or}
 use prog.Atomic.{either}
-use Rattle.atomic_table.specs.Table.{Act, keeps, takes, gives, carried_after, Valid, Allows, rest, stepped}
-use Rattle.atomic_table.proofs.Lists.{at_set, set_here, set_again, exchanged}
+use Rattle.running_rows.specs.Table.{keeps, takes, gives, step}
+use Rattle.running_rows.proofs.Lists.{set_here, exchanged}
 use Rattle.waiters.specs.declared.wait.Wait.{Wait}
 use Rattle.step_table.specs.declared.list_place.ListPlace.{ListPlace}
 use Rattle.step_table.specs.declared.list_place.ListPlace.TheVariants.{Waiting}
@@ -14,23 +12,27 @@ use Rattle.step_table.specs.declared.list_place.Ticket.{Ticket}
 use Rattle.step_table.specs.declared.list_place.WaitRow.TheVariants.{P}
 use Rattle.step_table.specs.declared.list_place.ListWord.{ListWord}
 use Rattle.step_table.specs.declared.list_place.ListWord.TheVariants.{Lock, Grant}
-use Rattle.step_table.specs.ListWorld.{ListSeat, ListWorld, queue_after}
-use Rattle.step_table.specs.ListEvent.{ListEvent}
+use Rattle.step_table.specs.ListWorld.{ListSeat, ListWorld, ListWords, queue_after}
+use Rattle.step_table.specs.EventOf.{store}
+use Rattle.step_table.specs.ListEvent.{ListEvent, ListNext}
 use Rattle.step_table.specs.ListTable.{list_table, list_event_at}
 use Rattle.step_table.specs.ListSteps.{event_of, finds}
-use Rattle.step_table.specs.Path.{sight, looks, look_in}
-use Rattle.step_table.proofs.Paths.{meets_sight}
-use Rattle.list_law.specs.ListLawful.{holds, IsGrantOf}
+use Rattle.step_table.specs.Path.{runs}
+use Rattle.list_law.specs.ListLawful.{holds}
 use Rattle.list_law.proofs.ListAccounts.{the_list_accounts}
-use Rattle.notify_list.specs.declared.view.View.{View}
+use Rattle.running_rows.specs.Strides.{Went, RanRow, Took, Changed, here, grants, becomes}
+use Rattle.running_rows.specs.Strides as strides
+use Rattle.running_rows.specs.Owing.{Stands, Leads, Owes}
+use Rattle.running_rows.proofs.Telling.{went_from, owes_own, stays_so, tells_more}
+use Rattle.notify_list.specs.declared.view.Known.{Known}
 use Rattle.notify_list.specs.declared.view.Setting.{Setting}
 use Rattle.notify_list.specs.declared.view.Record.{Record}
 use Rattle.notify_list.specs.Setting.{address, IsThere}
 use Rattle.notify_list.specs.Places.{Begins, stands}
-use Rattle.notify_list.specs.Rule.{watched, IsRecord, Homes, AtHome, IsSomeones, Sits, HasSeats, IsKept}
-use Rattle.notify_list.specs.Plays.{Me, Strode, Ran, standing, took}
-use Rattle.notify_list.specs.Plays as plays
-use Rattle.notify_list.proofs.Keeping.{Kept, Fits, Known, known, b, t, after, rule_kept, ran, home_stays, word_after, read_is, queue_stays}
+use Rattle.notify_list.specs.Rule.{IsRecord, Homes}
+use Rattle.notify_list.specs.Rows.{list_rows}
+use Rattle.notify_list.specs.Plays.{Me, standing}
+use Rattle.notify_list.proofs.Keeping.{Fits, RunsIn, known, b, t, after, went, leads, read_is, lock_is, queue_stays, home_stays}
 
 -- a row that takes the lock
 pub record Takes (z : Setting) (e : ListEvent) (a : ListSeat) (n : ℕ) : Type 0 where
@@ -38,261 +40,164 @@ pub record Takes (z : Setting) (e : ListEvent) (a : ListSeat) (n : ℕ) : Type 0
   pub free : holds a.place ≡ 0
 
 -- a row that gives the lock back, with this record
-pub record Gives (z : Setting) (y : Record) (e : ListEvent) (v : View) : Type 0 where
+pub record Gives (z : Setting) (y : Record) (e : ListEvent) (queue : List Wait) : Type 0 where
   pub fits : Fits z e 2 1 0
-  pub is_record : IsRecord z.seats y (queue_after (e.leads 1).1 v.queue)
+  pub is_record : IsRecord z.seats y (queue_after (e.leads 1).1 queue)
 
--- what a step owes
-abbrev pub Owed : Setting → Kept → ℕ → ℕ → ℕ → Me → (Me → Type 0) → Type 0
-Owed z s id i x m then = (w : View) × (act : Act Record) × Valid s.homes m.1 act × IsKept z (stepped s i x id m.1 w act) × then (w, carried_after m.1 act)
+module _ (m : Me) (a : ListSeat) (ok : Begins m.0.own.knows.sight.stands a) where
+  -- the event of the row that begins so
+  abbrev pub event_by : ListWorld → ListEvent
+  event_by w = list_table m.0.own.number a w.words
 
--- the event of the row that begins where the view stands
-abbrev pub event_by : View → ListWorld → ListEvent
-event_by v w = list_table v.number v.sight.stands w.words
+  abbrev setting : Setting
+  setting = m.0.own.knows.setting
 
--- a step that changes nothing
-idle : (z : Setting) (s : Kept) (id i : ℕ) (m : Me) (then : Me → Type 0) → IsKept z s → get_elem? s.views id ≡ some m.0 → then m → Owed z s id i (slice_index s.words i) m then
-idle z s id i m then r at holds_it = (
-  m.0,
-  keeps,
-  tt,
-  subst (λ (x : List ℕ × List View). IsKept z (record { words = x.0; homes = s.homes; views = x.1 })) (λ k. (sym (set-get_or s.words i 0) k, sym (set_again s.views id m.0 at) k)) r,
-  holds_it,
-)
+  abbrev pub Ready : ℕ → (ℕ → ℕ) → Type 0
+  Ready i g = (w : ListWorld) (n : ℕ) → RunsIn m.0.own.number (standing a m.0.own.knows) w i n → Fits m.0.own.knows.setting (list_table m.0.own.number a w.words) i n (g n)
 
--- what is owed by what a view says of itself
-pub own_name : (z : Setting) (id i x : ℕ) (m : Me) (s : Kept) (then : Me → Type 0) (someones : IsSomeones m.0) → IsKept z s → get_elem? s.views id ≡ some m.0
-    → (IsKept m.0.setting s → Owed m.0.setting s id i x m then) → Owed z s id i x m then
-own_name z id i x m s then someones r at owed =
-    let is = (r.views id m.0 at someones).own.setting_is in
-    subst (λ (q : Setting). Owed q s id i x m then) is (owed (subst (λ q. IsKept q s) (sym is) r))
+  module _ (world : ListWorld) (words : List ℕ) (homes : Homes) (i : ℕ) (at : Stands list_rows m.0.own.knows.setting m.0.own world words homes i) where
+    abbrev w0 : ListWorld
+    w0 = b m world words homes i at a ok
 
-module _ (id i : ℕ) (m : Me) (someones : IsSomeones m.0) (a : ListSeat) (ok : Begins m.0.sight.stands a) where
-  abbrev v : View
-  v = standing a m.0
+    there_known : RunsIn m.0.own.number (standing a m.0.own.knows) w0 i (slice_index words i)
+    there_known = known m world words homes i at a ok
 
-  abbrev M : Setting
-  M = m.0.setting
+    -- what is said of the event by how the seat stands holds of the event in the world
+    in_world : (Q : ListEvent → Type 0) → Q (list_table m.0.own.number a w0.words) → Q (event_of w0 m.0.own.number)
+    in_world Q = subst (λ (q : ListSeat). Q (list_table m.0.own.number q w0.words)) (sym there_known.knows.meets.stands)
 
-  module _ (s : Kept) (r : IsKept m.0.setting s) (at : get_elem? s.views id ≡ some m.0) where
-    abbrev w : ListWorld
-    w = b s m.0 r id at someones a ok
+    -- a row on another word than the lock's
+    stays : (x : ℕ) (then : Me → Type 0) → i ≢ 2 → Fits setting (list_table m.0.own.number a w0.words) i (slice_index words i) x
+        → ((t : Me) → RanRow list_rows (standing a) m (slice_index words i) t → then t) → Leads list_rows setting m world words homes i x then
+    stays x then ne is tells =
+        let fits = in_world (λ e. Fits setting e i (slice_index words i) x) is in
+        let lock = lock_is m world words homes i at a ok x fits ∙ get_or-set_other words i 2 x 0 (λ q. ne (sym q)) ∙ at.shows.words Lock tt in
+        leads m world words homes i at a ok x fits keeps then tt at.shows.deep (λ free. home_stays m world words homes i at a ok x fits (sym lock ∙ free))
+        (tells _ (went m world words homes i at a ok x fits, refl))
 
-    abbrev n : ℕ
-    n = slice_index s.words i
+  -- it leads on, and tells that it ran
+  row_owes : (k : Setting) (i : ℕ) (g : ℕ → ℕ) (then : ℕ → Me → Type 0) → i ≢ 2 → Ready i g → ((n : ℕ) (t : Me) → RanRow list_rows (standing a) m n t → then n t)
+      → Owes list_rows k m i g then
+  row_owes k i g then ne ready tells = owes_own list_rows k m i g then (λ world words homes at.
+      stays world words homes i at (g (slice_index words i)) (then (slice_index words i)) ne
+      (ready (b m world words homes i at a ok) (slice_index words i) (known m world words homes i at a ok)) (tells (slice_index words i)))
 
-    abbrev ev : ListEvent
-    ev = event_of w m.0.number
+  module _ (begin : Known → Known) (begins : standing a m.0.own.knows ≡ begin m.0.own.knows) where
+    abbrev began : (n : ℕ) (t : Me) → RanRow list_rows (standing a) m n t → RanRow list_rows begin m n t
+    began n t r = (went_from list_rows (standing a) begin m.0.own t.0.own n begins r.0, r.1)
 
-    knows : Known v w i n
-    knows = known s m.0 r id at someones a ok i
+    pub row_goes : (k : Setting) (i : ℕ) (g : ℕ → ℕ) → i ≢ 2 → Ready i g → Owes list_rows k m i g (RanRow list_rows begin m)
+    row_goes k i g ne ready = row_owes k i g (RanRow list_rows begin m) ne ready began
 
-    -- what is said of the event by the view holds of the event in the world
-    in_world : (Q : ListEvent → Type 0) → Q (event_by v w) → Q ev
-    in_world Q = subst (λ (q : ListSeat). Q (list_table m.0.number q w.words)) (sym knows.knows.meets.stands)
+    -- an exchange of 0 for 1 on the lock word: the row ran, or the lock was held and nothing changed
+    module _ (ready : (w : ListWorld) → Takes m.0.own.knows.setting (list_table m.0.own.number a w.words) a 0) where
+      takes_it : (world : ListWorld) (words : List ℕ) (homes : Homes) (at : Stands list_rows m.0.own.knows.setting m.0.own world words homes 2) → slice_index words 2 ≡ 0
+          → Leads list_rows m.0.own.knows.setting m world words homes 2 1 (Took list_rows begin m)
+      takes_it world words homes at free_is =
+          let w : ListWorld = b m world words homes 2 at a ok in
+          let fits = subst (λ n. Fits setting (event_of w m.0.own.number) 2 n 1) (sym free_is)
+          (in_world world words homes 2 at (λ e. Fits setting e 2 0 1) (ready w).fits) in
+          let home = at.shows.home (sym (at.shows.words Lock tt) ∙ free_is) in
+          let held = lock_is m world words homes 2 at a ok 1 fits ∙ get_or-set_same words 2 1 0 (let y = at.shows.wide in omega arith) in
+          leads m world words homes 2 at a ok 1 fits (takes 0 home.0) (Took list_rows begin m) home.1 (length-set homes 0 none ∙ at.shows.deep) (λ gone. absurd (omega arith)) (
+            subst (λ n. Went list_rows begin runs m.0.own n (after m world words homes 2 at a ok 1 fits)) free_is
+                (went_from list_rows (standing a) begin m.0.own (after m world words homes 2 at a ok 1 fits) _ begins (went m world words homes 2 at a ok 1 fits)),
+            (0, home.0, refl, (refl, subst (IsRecord setting.seats home.0) (sym (queue_stays m world words homes 2 at a ok 1 fits (ready w).free)) home.2)),
+          )
 
-    module _ (x : ℕ) (fits : Fits M ev i n x) where
-      abbrev u : ListWorld
-      u = t s m.0 r id at someones a ok i x fits
+      pub row_takes : (k : Setting) → Owes list_rows k m 2 (λ n. either (n == 0) 1 n) (λ n t. (n ≢ 0 → t ≡ m) × (n ≡ 0 → Took list_rows begin m t))
+      row_takes k = owes_own list_rows k m 2 (λ n. either (n == 0) 1 n) (λ n t. (n ≢ 0 → t ≡ m) × (n ≡ 0 → Took list_rows begin m t)) (λ world words homes at.
+          let n : ℕ = slice_index words 2 in
+          exchanged n 0 1 (λ x. Leads list_rows setting m world words homes 2 x (λ t. (n ≢ 0 → t ≡ m) × (n ≡ 0 → Took list_rows begin m t)))
+          (λ free. tells_more list_rows setting m 2 world words homes 1 (Took list_rows begin m) (λ t. (n ≢ 0 → t ≡ m) × (n ≡ 0 → Took list_rows begin m t))
+          (λ t o. ((λ held. absurd (held free)), (λ e. o))) (takes_it world words homes at free))
+          (λ held. stays_so list_rows setting m 2 world words homes (λ t. (n ≢ 0 → t ≡ m) × (n ≡ 0 → Took list_rows begin m t)) at ((λ e. refl), (λ free. absurd (held free)))))
 
-      abbrev seen_after : View
-      seen_after = after s m.0 r id at someones a ok i x fits
+-- the row at which the seat stands
+module _ (k : Setting) (m : Me) (i : ℕ) (a : ListSeat) (is : m.0.own.knows.sight.stands ≡ a) where
+  pub ok : Begins m.0.own.knows.sight.stands a
+  ok = subst (Begins m.0.own.knows.sight.stands) is stands
 
-      row_ran : Ran v n seen_after
-      row_ran = ran s m.0 r id at someones a ok i x fits
+  begins : standing a m.0.own.knows ≡ m.0.own.knows
+  begins = λ j. standing (sym is j) m.0.own.knows
 
-      lock_is : u.words.lock ≡ slice_index (set s.words i x) 2
-      lock_is = sym (word_after s m.0 r id at someones a ok i x fits Lock tt)
+  pub goes_at : (g : ℕ → ℕ) → i ≢ 2 → Ready m a ok i g → Owes list_rows k m i g (RanRow list_rows here m)
+  goes_at g ne ready = row_goes m a ok here begins k i g ne ready
 
-      -- a row on another word than the lock's
-      lock_stays : i ≢ 2 → u.words.lock ≡ r.world.words.lock
-      lock_stays ne = lock_is ∙ get_or-set_other s.words i 2 x 0 (λ q. ne (sym q)) ∙ r.words Lock tt
+  pub stores_at : (x : ℕ) → i ≢ 2 → Ready m a ok i (λ n. x) → Owes list_rows k m i (λ n. x) (λ n t. (found : ℕ) × RanRow list_rows here m found t)
+  stores_at x ne ready = row_owes m a ok k i (λ n. x) (λ n t. (found : ℕ) × RanRow list_rows here m found t) ne ready
+      (λ n t r. (n, (went_from list_rows (standing a) here m.0.own t.0.own n begins r.0, r.1)))
 
-      pub stays : i ≢ 2 → Owed M s id i x m (λ t. plays.stepped v n m t)
-      stays ne = (
-        seen_after,
-        keeps,
-        tt,
-        rule_kept s m.0 r id at someones a ok i x fits s.homes r.deep
-            (λ free. home_stays s m.0 r id at someones a ok i x fits s.homes (sym (lock_stays ne) ∙ free) refl),
-        (row_ran, refl),
-      )
+  -- a store of a grant
+  pub grants_at : (word : ListWord) (x : ℕ) (next : ListNext) → ((g : ListWords) → list_table m.0.own.number a g ≡ store word x next) → address word ≡ i
+      → IsThere m.0.own.knows.setting word → i ≢ 2 → Owes list_rows k m i (λ n. x) (λ n t. grants list_rows (step 0 i x 0 none) m x t)
+  grants_at word x next row lies there ne = row_owes m a ok k i (λ n. x) (λ n t. grants list_rows (step 0 i x 0 none) m x t) ne
+      (λ w n known. subst (λ (e : ListEvent). Fits m.0.own.knows.setting e i n x) (sym (row w.words)) (record { word = lies; there = there; can = refl; becomes = refl }))
+      (λ n t r. let w : Went list_rows here runs m.0.own n t.0.own = went_from list_rows (standing a) here m.0.own t.0.own n begins r.0 in (
+        n,
+        w,
+        record {
+          ran = w.did;
+          seat = m.0.own.number;
+          words = w.ran.world.words;
+          word = word;
+          next = next;
+          row = ap (λ (q : ListSeat). list_table m.0.own.number q w.ran.world.words) (w.ran.stood ∙ is) ∙ row w.ran.world.words;
+          lies = lies;
+        },
+        r.1,
+      ))
 
-  -- an atomic step of the code that is the event of a row on another word than the lock's keeps the rule, and tells that the row ran
-  pub allowed : (z : Setting) (slots : ℕ) (g : ℕ → ℕ) → i ≢ 2 → ((w : ListWorld) (n : ℕ) → Known v w i n → Fits M (event_by v w) i n (g n))
-      → Allows (IsKept z) slots id m i g (λ n t. plays.stepped v n m t)
-  allowed z slots g ne ready s r0 sized at below =
-      own_name z id i (g (slice_index s.words i)) m s (λ t. plays.stepped v (slice_index s.words i) m t) someones r0 at
-      (λ r. stays s r at (g (n s r at)) (in_world s r at (λ e. Fits M e i (n s r at) (g (n s r at))) (ready (w s r at) (n s r at) (knows s r at))) ne)
+  -- a grant that is taken, or nothing where there is none
+  pub takes_at : (ticket : Ticket) → a.place ≡ Waiting ticket P → address (Grant m.0.own.number) ≡ i
+      → Owes list_rows k m i (λ n. 0) (λ n t. (n ≡ 0 → t ≡ m) × (0 < n → RanRow list_rows here m n t))
+  takes_at ticket parked word = owes_own list_rows k m i (λ n. 0) (λ n t. (n ≡ 0 → t ≡ m) × (0 < n → RanRow list_rows here m n t)) (λ world words homes at. by world words homes at (ℕ_discrete (slice_index words i) 0))
+    where
+      by : (world : ListWorld) (words : List ℕ) (homes : Homes) → Stands list_rows m.0.own.knows.setting m.0.own world words homes i → Dec (slice_index words i ≡ 0)
+          → Leads list_rows m.0.own.knows.setting m world words homes i 0 (λ t. (slice_index words i ≡ 0 → t ≡ m) × (0 < slice_index words i → RanRow list_rows here m (slice_index words i) t))
+      by world words homes at (yes e) =
+          subst (λ x. Leads list_rows m.0.own.knows.setting m world words homes i x (λ t. (slice_index words i ≡ 0 → t ≡ m) × (0 < slice_index words i → RanRow list_rows here m (slice_index words i) t))) e
+          (stays_so list_rows m.0.own.knows.setting m i world words homes (λ t. (slice_index words i ≡ 0 → t ≡ m) × (0 < slice_index words i → RanRow list_rows here m (slice_index words i) t)) at
+          ((λ none_found. refl), (λ some_found. absurd (omega arith))))
+      by world words homes at (no ne) = stays m a ok world words homes i at 0 (λ t. (slice_index words i ≡ 0 → t ≡ m) × (0 < slice_index words i → RanRow list_rows here m (slice_index words i) t))
+          (λ e. absurd (omega arith))
+          (subst (λ (p : ListPlace). Fits m.0.own.knows.setting (list_event_at m.0.own.number a (b m world words homes i at a ok).words p) i (slice_index words i) 0) (sym parked)
+          (record { word = word; there = at.there; can = lt-ltb 0 (slice_index words i) (omega arith); becomes = refl }))
+          (λ t r. ((λ e. absurd (ne e)), (λ some_found. (went_from list_rows (standing a) here m.0.own t.0.own (slice_index words i) begins r.0, r.1))))
 
-  -- the same of a store
-  pub allowed_stores : (z : Setting) (slots x : ℕ) → i ≢ 2 → ((w : ListWorld) (n : ℕ) → Known v w i n → Fits M (event_by v w) i n x)
-      → Allows (IsKept z) slots id m i (λ _. x) (λ _ t. (n : ℕ) × plays.stepped v n m t)
-  allowed_stores z slots x ne ready s r sized at below =
-      let o = allowed z slots (λ _. x) ne ready s r sized at below in (o.0, o.1, o.2, o.3, (slice_index s.words i, o.4))
-
--- an exchange of 0 for 1 on the lock word: the row ran, or the lock was held and nothing changed
-module _ (z : Setting) (slots id : ℕ) (m : Me) (someones : IsSomeones m.0) (a : ListSeat) (ok : Begins m.0.sight.stands a)
-    (ready : (w : ListWorld) → Takes m.0.setting (event_by (standing a m.0) w) a 0) where
-  abbrev v0 : View
-  v0 = standing a m.0
-
-  takes_it : (s : Kept) (r : IsKept m.0.setting s) (at : get_elem? s.views id ≡ some m.0) → slice_index s.words 2 ≡ 0 → Owed m.0.setting s id 2 1 m (λ t. took v0 m t)
-  takes_it s r at free_is =
-      let w0 : ListWorld = b s m.0 r id at someones a ok in
-      let k = known s m.0 r id at someones a ok 2 in
-      let T = subst (λ (q : ListSeat). Takes m.0.setting (list_table m.0.number q w0.words) q 0) (sym k.knows.meets.stands) (ready w0) in
-      let fits : Fits m.0.setting (event_of w0 m.0.number) 2 (slice_index s.words 2) 1 = subst (λ n. Fits m.0.setting (event_of w0 m.0.number) 2 n 1) (sym free_is) T.fits in
-      let free : r.world.words.lock ≡ 0 = sym (r.words Lock tt) ∙ free_is in
-      let home = r.home free in
-      let held = lock_is id 2 m someones a ok s r at 1 fits ∙ get_or-set_same s.words 2 1 0 (let y = r.wide in omega arith) in
-      let queue = queue_stays s m.0 r id at someones a ok 2 1 fits T.free in (
-        after s m.0 r id at someones a ok 2 1 fits,
-        takes 0 home.0,
-        home.1,
-        rule_kept s m.0 r id at someones a ok 2 1 fits (set s.homes 0 none) (length-set s.homes 0 none ∙ r.deep) (λ gone. absurd (omega arith)),
-        (
-          subst (λ k. Ran v0 k (after s m.0 r id at someones a ok 2 1 fits)) free_is (ran s m.0 r id at someones a ok 2 1 fits),
-          home.0,
-          refl,
-          subst (IsRecord m.0.setting.seats home.0) (sym queue) home.2,
-        ),
-      )
-
-  pub allowed_takes : Allows (IsKept z) slots id m 2 (λ n. either (n == 0) 1 n) (λ n t. (n ≢ 0 → t ≡ m) × (n ≡ 0 → took v0 m t))
-  allowed_takes s r sized at below =
-      let k : ℕ = slice_index s.words 2 in
-      exchanged k 0 1 (λ x. Owed z s id 2 x m (λ t. (k ≢ 0 → t ≡ m) × (k ≡ 0 → took v0 m t)))
-      (λ free. own_name z id 2 1 m s (λ t. (k ≢ 0 → t ≡ m) × (k ≡ 0 → took v0 m t)) someones r at
-      (λ q. let o = takes_it s q at free in (o.0, o.1, o.2, o.3, ((λ held. absurd (held free)), (λ _. o.4)))))
-      (λ held. idle z s id 2 m (λ t. (k ≢ 0 → t ≡ m) × (k ≡ 0 → took v0 m t)) r at ((λ _. refl), (λ free. absurd (held free))))
+-- what is owed for a store that gives the lock back
+abbrev pub GivesBack : Setting → Me → Type 0
+GivesBack k m = Owes list_rows k m 2 (λ n. 0) (λ n t. strides.gives list_rows (step 0 2 0 0 none) m 0 t)
 
 -- a store of 0 on the lock word, which the seat holds
-module _ (z : Setting) (slots id : ℕ) (m : Me) (someones : IsSomeones m.0) (y : Record) (carried : m.1 ≡ (0, y) ∷ []) (holding : holds m.0.sight.stands.place ≡ 1)
-    (ready : (w : ListWorld) → m.0.queue ≡ w.words.queue → Gives m.0.setting y (event_by m.0 w) m.0) where
-  gives_it : (s : Kept) (r : IsKept m.0.setting s) (at : get_elem? s.views id ≡ some m.0) → Owed m.0.setting s id 2 0 m (λ t. Ran m.0 1 t.0 × (t.1 ≡ rest m.1))
-  gives_it s r at =
-      let w0 : ListWorld = b s m.0 r id at someones m.0.sight.stands stands in
-      let k = known s m.0 r id at someones m.0.sight.stands stands 2 in
-      let G = subst (λ (q : ListSeat). Gives m.0.setting y (list_table m.0.number q w0.words) m.0) (sym k.knows.meets.stands)
-      (ready w0 (k.knows.held holding)) in
-      let lock = ((the_list_accounts.alone m.0.setting.first m.0.setting.seats w0 k.laws.invariant m.0.number k.there).0 (ap (λ (q : ListSeat). holds q.place) k.knows.meets.stands ∙ holding)).lock in
-      let one : slice_index s.words 2 ≡ 1 = r.words Lock tt ∙ lock in
-      let fits : Fits m.0.setting (event_of w0 m.0.number) 2 (slice_index s.words 2) 0 = subst (λ n. Fits m.0.setting (event_of w0 m.0.number) 2 n 0) (sym one) G.fits in
-      let homes : Homes = set s.homes 0 (some y) in
-      let is : finds w0 m.0.number ≡ 1 = sym (read_is s m.0 r id at someones m.0.sight.stands stands 2 0 fits) ∙ one in
-      let mine : AtHome m.0.setting (t s m.0 r id at someones m.0.sight.stands stands 2 0 fits).words homes = (
+module _ (k : Setting) (m : Me) (a : ListSeat) (is : m.0.own.knows.sight.stands ≡ a) (y : Record) (carried : m.1 ≡ (0, y) ∷ []) (holding : holds a.place ≡ 1)
+    (ready : (w : ListWorld) → m.0.own.knows.queue ≡ w.words.queue → Gives m.0.own.knows.setting y (list_table m.0.own.number a w.words) m.0.own.knows.queue) where
+  abbrev with_it : Me
+  with_it = (m.0, (0, y) ∷ [])
+
+  gives_it : (world : ListWorld) (words : List ℕ) (homes : Homes) → Stands list_rows m.0.own.knows.setting m.0.own world words homes 2
+      → Leads list_rows m.0.own.knows.setting with_it world words homes 2 0 (λ t. strides.gives list_rows (step 0 2 0 0 none) with_it 0 t)
+  gives_it world words homes at =
+      let ok : Begins m.0.own.knows.sight.stands a = subst (Begins m.0.own.knows.sight.stands) is stands in
+      let w : ListWorld = b with_it world words homes 2 at a ok in
+      let o = known with_it world words homes 2 at a ok in
+      let G = in_world with_it a ok world words homes 2 at (λ e. Gives m.0.own.knows.setting y e m.0.own.knows.queue) (ready w (o.knows.held holding)) in
+      let lock = ((the_list_accounts.alone m.0.own.knows.setting.first m.0.own.knows.setting.seats w o.laws.invariant m.0.own.number o.there).0
+      (ap (λ (q : ListSeat). holds q.place) o.knows.meets.stands ∙ holding)).lock in
+      let one : slice_index words 2 ≡ 1 = at.shows.words Lock tt ∙ lock in
+      let fits = subst (λ n. Fits m.0.own.knows.setting (event_of w m.0.own.number) 2 n 0) (sym one) G.fits in
+      let found_is : finds w m.0.own.number ≡ 1 = sym (read_is with_it world words homes 2 at a ok 0 fits) ∙ one in
+      leads with_it world words homes 2 at a ok 0 fits gives (λ t. strides.gives list_rows (step 0 2 0 0 none) with_it 0 t) tt (length-set homes 0 (some y) ∙ at.shows.deep)
+      (λ free. (
         y,
-        set_here s.homes 0 (some y) (let d = r.deep in omega arith),
-        subst (λ (q : ℕ × List Wait). IsRecord m.0.setting.seats y (queue_after ((event_of w0 m.0.number).leads q.0).1 q.1)) (λ j. (sym is j, k.knows.held holding j)) G.is_record,
-      ) in
-      subst (λ (me : List (ℕ × Record)). Owed m.0.setting s id 2 0 (m.0, me) (λ t. Ran m.0 1 t.0 × (t.1 ≡ rest me))) (sym carried) (
-        after s m.0 r id at someones m.0.sight.stands stands 2 0 fits,
-        gives,
-        tt,
-        rule_kept s m.0 r id at someones m.0.sight.stands stands 2 0 fits homes (length-set s.homes 0 (some y) ∙ r.deep) (λ free. mine),
-        (subst (λ n. Ran m.0 n (after s m.0 r id at someones m.0.sight.stands stands 2 0 fits)) one (ran s m.0 r id at someones m.0.sight.stands stands 2 0 fits), refl),
+        set_here homes 0 (some y) (let d = at.shows.deep in omega arith),
+        subst (λ (q : ℕ × List Wait). IsRecord m.0.own.knows.setting.seats y (queue_after ((event_of w m.0.own.number).leads q.0).1 q.1)) (λ j. (sym found_is j, o.knows.held holding j)) G.is_record,
+      )) (
+        slice_index words 2,
+        went_from list_rows (standing a) here m.0.own (after with_it world words homes 2 at a ok 0 fits) _ (λ j. standing (sym is j) m.0.own.knows) (went with_it world words homes 2 at a ok 0 fits),
+        refl,
       )
 
-  pub allowed_gives : Allows (IsKept z) slots id m 2 (λ _. 0) (λ _ t. Ran m.0 1 t.0 × (t.1 ≡ rest m.1))
-  allowed_gives s r sized at below = own_name z id 2 0 m s (λ t. Ran m.0 1 t.0 × (t.1 ≡ rest m.1)) someones r at (λ q. gives_it s q at)
-
--- a grant word that is taken: the row ran, or nothing was granted and nothing changed
-pub allowed_receives : (z : Setting) (slots id i : ℕ) (m : Me) (someones : IsSomeones m.0) (ticket : Ticket) → m.0.sight.stands.place ≡ Waiting ticket P → address (Grant m.0.number) ≡ i
-    → Allows (IsKept z) slots id m i (λ _. 0) (λ n t. (n ≡ 0 → t ≡ m) × (n ≢ 0 → plays.stepped m.0 1 m t))
-allowed_receives z slots id i m someones ticket parked word s r sized at below = by (ℕ_discrete (slice_index s.words i) 0)
-  where
-    ready : (w : ListWorld) (n : ℕ) → n ≢ 0 → Known m.0 w i n → Fits m.0.setting (event_by m.0 w) i n 0
-    ready w n ne known = subst (λ (p : ListPlace). Fits m.0.setting (list_event_at m.0.number m.0.sight.stands w.words p) i n 0) (sym parked)
-        (record { word = word; there = known.there; can = lt-ltb 0 n (omega arith); becomes = refl })
-
-    one : (w : ListWorld) (n : ℕ) → n ≢ 0 → Known m.0 w i n → n ≡ 1
-    one w n ne known =
-        let k : ℕ = m.0.number in
-        let most : IsGrantOf (Waiting ticket P) (w.words.grants k) = subst (λ (p : ListPlace). IsGrantOf p (w.words.grants k)) (ap (λ (q : ListSeat). q.place) known.knows.meets.stands ∙ parked) (known.laws.lawful.grants k) in
-        let is = known.word (Grant k) known.there word in omega arith
-
-    by : Dec (slice_index s.words i ≡ 0) → Owed z s id i 0 m (λ t. (slice_index s.words i ≡ 0 → t ≡ m) × (slice_index s.words i ≢ 0 → plays.stepped m.0 1 m t))
-    by (yes e) = subst (λ x. Owed z s id i x m (λ t. (slice_index s.words i ≡ 0 → t ≡ m) × (slice_index s.words i ≢ 0 → plays.stepped m.0 1 m t))) e
-        (idle z s id i m (λ t. (slice_index s.words i ≡ 0 → t ≡ m) × (slice_index s.words i ≢ 0 → plays.stepped m.0 1 m t)) r at ((λ _. refl), (λ ne. absurd (ne e))))
-    by (no ne) = own_name z id i 0 m s (λ t. (slice_index s.words i ≡ 0 → t ≡ m) × (slice_index s.words i ≢ 0 → plays.stepped m.0 1 m t)) someones r at
-        (λ q.
-        let k = knows id i m someones m.0.sight.stands stands s q at in
-        let fits = in_world id i m someones m.0.sight.stands stands s q at (λ e. Fits m.0.setting e i (slice_index s.words i) 0) (ready _ (slice_index s.words i) ne k) in
-        let o = stays id i m someones m.0.sight.stands stands s q at 0 fits (λ e. absurd (omega arith)) in
-        (o.0, o.1, o.2, o.3, ((λ e. absurd (ne e)), (λ _. subst (λ n. plays.stepped m.0 n m (o.0, carried_after m.1 o.1)) (one _ (slice_index s.words i) ne k) o.4))))
-
--- the same of the row at which the seat stands
-module _ (z : Setting) (slots id i : ℕ) (m : Me) (someones : IsSomeones m.0) (a : ListSeat) (is : m.0.sight.stands ≡ a) (ne : i ≢ 2) where
-  pub goes_at : (g : ℕ → ℕ) → ((w : ListWorld) (n : ℕ) → Known m.0 w i n → Fits m.0.setting (list_table m.0.number a w.words) i n (g n)) → Allows (IsKept z) slots id m i g (λ n t. plays.stepped m.0 n m t)
-  goes_at g ready = allowed id i m someones m.0.sight.stands stands z slots g ne
-      (λ w n k. subst (λ (y : ListSeat). Fits m.0.setting (list_table m.0.number y w.words) i n (g n)) (sym is) (ready w n k))
-
-  pub stores_at : (x : ℕ) → ((w : ListWorld) (n : ℕ) → Known m.0 w i n → Fits m.0.setting (list_table m.0.number a w.words) i n x)
-      → Allows (IsKept z) slots id m i (λ _. x) (λ _ t. (n : ℕ) × plays.stepped m.0 n m t)
-  stores_at x ready = allowed_stores id i m someones m.0.sight.stands stands z slots x ne
-      (λ w n k. subst (λ (y : ListSeat). Fits m.0.setting (list_table m.0.number y w.words) i n x) (sym is) (ready w n k))
-
-pub gives_at : (z : Setting) (slots id : ℕ) (m : Me) (someones : IsSomeones m.0) (a : ListSeat) → m.0.sight.stands ≡ a → (y : Record) → m.1 ≡ (0, y) ∷ [] → holds a.place ≡ 1
-    → ((w : ListWorld) → m.0.queue ≡ w.words.queue → Gives m.0.setting y (list_table m.0.number a w.words) m.0) → Allows (IsKept z) slots id m 2 (λ _. 0) (λ _ t. Ran m.0 1 t.0 × (t.1 ≡ rest m.1))
-gives_at z slots id m someones a is y carried holding ready = allowed_gives z slots id m someones y carried (ap (λ (q : ListSeat). holds q.place) is ∙ holding)
-    (λ w e. subst (λ (q : ListSeat). Gives m.0.setting y (list_table m.0.number q w.words) m.0) (sym is) (ready w e))
-
--- one token has another view, and nothing else has changed
-pub views_kept : (z : Setting) (s : Kept) (r : IsKept z s) (id i : ℕ) (v w : View) → get_elem? s.views id ≡ some v → HasSeats z r.world r.spot r.made id w
-    → (0 < w.made → (w.number ≡ 0) × (w.made ≡ r.made)) → IsKept z (record { words = set s.words i (slice_index s.words i); homes = s.homes; views = set s.views id w })
-views_kept z s r id i v w at seats makes = subst (λ (ws : List ℕ). IsKept z (record { words = ws; homes = s.homes; views = set s.views id w })) (sym (set-get_or s.words i 0)) record {
-  world = r.world;
-  met = r.met;
-  words = r.words;
-  home = r.home;
-  spot = r.spot;
-  made = r.made;
-  views = λ j u g h. ⊎_elim
-      (λ (q : (j ≡ id) × (w ≡ u)). subst (λ (y : ℕ × View). HasSeats z r.world r.spot r.made y.0 y.1) (λ k. (sym q.0 k, q.1 k)) seats)
-      (λ (q : (j ≢ id) × (get_elem? s.views j ≡ some u)). r.views j u q.1 h)
-      (at_set s.views id j w u g);
-  unmade = r.unmade;
-  maker = λ j u g h some_made. ⊎_elim
-      (λ (q : (j ≡ id) × (w ≡ u)). subst (λ (y : View). 0 < y.made → (y.number ≡ 0) × (y.made ≡ r.made)) q.1 makes some_made)
-      (λ (q : (j ≢ id) × (get_elem? s.views j ≡ some u)). r.maker j u q.1 h some_made)
-      (at_set s.views id j w u g);
-  wide = r.wide;
-  deep = r.deep;
-  fits = r.fits;
-  few = r.few;
-}
-
--- what a seat knows after a look: all that was told
-abbrev pub seen_in : ListWorld → View → View
-seen_in w v = record v { sight = sight (watched v.setting) w v.number; queue = w.words.queue; strides = v.strides + 1 }
-
--- a look at a word changes nothing, and the seat sees what was told so far
-module _ (i : ℕ) (s : Kept) (v : View) (r : IsKept v.setting s) (j : ℕ) (o : Sits v.setting r.world r.spot r.made j v) where
-  pub sits_now : Sits v.setting r.world r.spot r.made j (seen_in r.world v)
-  sits_now = record {
-    place_is = o.place_is;
-    is_made = o.is_made;
-    setting_is = refl;
-    knows = record { meets = meets_sight (watched v.setting) r.world v.number r.met; held = λ h. refl };
-  }
-
-  pub looked_at : (x : ListWord) → IsThere v.setting x → address x ≡ i → Strode v (looks x) (slice_index s.words i) (seen_in r.world v)
-  looked_at x h e = record {
-    stride = look_in (watched v.setting) r.world v.number x;
-    ran = record {
-      world = r.world;
-      meets = o.knows.meets;
-      stood = o.knows.meets.stands;
-      seen = refl;
-      did = record { read_is = refl; told_is = refl; leads = refl };
-    };
-    did = refl;
-    read = sym (r.words x h) ∙ ap (slice_index s.words) e;
-    same = refl;
-    one = refl;
-    held = o.knows.held;
-    left = refl;
-    lands = record { world = r.world; met = r.met; sees = refl; queue = refl };
-    there = let k = o.is_made in let f = r.fits in omega arith;
-  }
+  pub gives_at : GivesBack k m
+  gives_at = owes_own list_rows k m 2 (λ n. 0) (λ n t. strides.gives list_rows (step 0 2 0 0 none) m 0 t)
+      (subst (λ (c : List (ℕ × Record)). GivesBack m.0.own.knows.setting (m.0, c)) (sym carried) gives_it)

@@ -16,8 +16,8 @@ use Rattle.list_law.proofs.ListAccounts.{the_list_accounts}
 use Rattle.list_law.proofs.ListPaths.{the_list_paths}
 use Rattle.notify_list.specs.Places.{at_place, is_free, waiting, locked, takes_lock, Begins, stands}
 use Rattle.notify_list.specs.Rule.{watched}
-use Rattle.notify_list.specs.Seats.{ListModel, Token, list_of, seat_of, IsSeat}
-use Rattle.notify_list.specs.Walks.{Walked, MayLock, Locked, stands_of}
+use Rattle.notify_list.specs.Seats.{ListModel, Token, list_of, seat_of, IsSeat, seen_of, setting_of, stands_of}
+use Rattle.notify_list.specs.Walks.{Walked, MayLock, Locked}
 use Rattle.notify_list.specs.Calls.{Calls, AllGranted}
 use Rattle.notify_list.specs.NotifyingAll.{looks_all, reach_rows, wake_rows, all_rows, all_entries, NotifiesAll, GrantsSome}
 use Rattle.notify_list.specs.GrantingAll.{LookedForAll, IsAt, MayReach, ReachedAll, MayTake, TakenAll, MayWake, with_waits, WokenSome}
@@ -26,11 +26,11 @@ use Rattle.notify_list.proofs.Walking.{walked_on, walked_so, walked_later, token
 use Rattle.notify_list.proofs.Resting.{empty_there, there_of, laws_there}
 
 -- what a call told of its own where it told nothing
-own_none : (s t : Token) (n : ℕ) (from a : ListSeat) (entries : List ListEntry) (rows : List (ListPlace × ℕ)) → Walked s from t a entries rows → entries ≡ [] → s.me.0.number ≡ n
-    → own_entries (watched s.me.0.setting) n t.me.0.sight.seen ≡ own_entries (watched s.me.0.setting) n s.me.0.sight.seen
-own_none s t n from a entries rows x none is = subst (λ i. own_entries (watched s.me.0.setting) i t.me.0.sight.seen ≡ own_entries (watched s.me.0.setting) i s.me.0.sight.seen) is
-    ((the_list_paths.paths s.me.0.setting.first s.me.0.setting.seats).own s.me.0.number (record { stands = from; seen = s.me.0.sight.seen }) t.me.0.sight x.strides x.path
-    ∙ ap (λ l. own_entries (watched s.me.0.setting) s.me.0.number s.me.0.sight.seen ++ own_entries (watched s.me.0.setting) s.me.0.number l) (x.told_is ∙ none) ∙ append-nil _)
+own_none : (s t : Token) (n : ℕ) (from a : ListSeat) (entries : List ListEntry) (rows : List (ListPlace × ℕ)) → Walked s from t a entries rows → entries ≡ [] → s.me.0.own.number ≡ n
+    → own_entries (watched (setting_of s)) n (seen_of t) ≡ own_entries (watched (setting_of s)) n (seen_of s)
+own_none s t n from a entries rows x none is = subst (λ i. own_entries (watched (setting_of s)) i (seen_of t) ≡ own_entries (watched (setting_of s)) i (seen_of s)) is
+    ((the_list_paths.paths (setting_of s).first (setting_of s).seats).own s.me.0.own.number (record { stands = from; seen = seen_of s }) t.me.0.own.knows.sight x.strides x.path
+    ∙ ap (λ l. own_entries (watched (setting_of s)) s.me.0.own.number (seen_of s) ++ own_entries (watched (setting_of s)) s.me.0.own.number l) (x.told_is ∙ none) ∙ append-nil _)
 
 replay_last : (n : Numbers) (l : List ListEntry) (e : ListEntry) → replay n (l ++ e ∷ []) ≡ counted e (replay n l)
 replay_last n [] e = refl
@@ -67,7 +67,7 @@ module _ (s t : Token) (n : ℕ) (seat : IsSeat s n) (x : LookedForAll s true t)
 -- it went to the lock
 module _ (l : ListModel) (s t : Token) (n : ℕ) (seat : IsSeat s n) (own : list_of s ≡ l) (x : LookedForAll s false t) where
   abbrev a : ListPlace → ListSeat
-  a p = at_place p s.me.0.sight.stands
+  a p = at_place p (stands_of s)
 
   here : waiting (stands_of t) ≡ stands_of t
   here = ap (λ (k : Option Ticket). with_ticket (stands_of t) k) (ap (λ (y : ListSeat). y.ticket) x.walked.stands_is ∙ seat.holds_none)
@@ -104,7 +104,7 @@ module _ (l : ListModel) (s t : Token) (n : ℕ) (seat : IsSeat s n) (own : list
 
     module _ (k : ℕ) (v : Token) (R : ReachedAll u x.h k v) where
       abbrev entries : List ListEntry
-      entries = all_entries s.me.0.number R.handed k
+      entries = all_entries s.me.0.own.number R.handed k
 
       w3 : Walked u (a (NotifyingAll x.h L4)) v (a (NotifyingAll x.h (L7 k))) entries (reach_rows x.h R.notified R.waited R.handed)
       w3 = subst (λ (y : ListSeat × ℕ). Walked u y.0 v (at_place (NotifyingAll x.h (L7 k)) y.0) (all_entries y.1 R.handed k) (reach_rows x.h R.notified R.waited R.handed)) (λ i. (w12.stands_is i, w12.number_is i)) R.walked
@@ -115,8 +115,8 @@ module _ (l : ListModel) (s t : Token) (n : ℕ) (seat : IsSeat s n) (own : list
       w13 : Walked s (a (NotifyingAll 0 L1)) v (a (NotifyingAll x.h (L7 k))) entries (looks_all x.h x.waited x.notified ++ (NotifyingAll x.h L3, 0) ∷ reach_rows x.h R.notified R.waited R.handed)
       w13 = walked_on s u v (a (NotifyingAll 0 L1)) (a (NotifyingAll x.h L4)) (a (NotifyingAll x.h (L7 k))) [] entries (looks_all x.h x.waited x.notified ++ (NotifyingAll x.h L3, 0) ∷ []) (reach_rows x.h R.notified R.waited R.handed) w12 w3
 
-      empty : s.me.0.sight.stands.hand ≡ []
-      empty = empty_there s.me.0 seat.token_is.lands (there_of s n seat.token_is) seat.token_is.few seat.free
+      empty : (stands_of s).hand ≡ []
+      empty = empty_there s.me.0.own seat.token_is.lands (there_of s n seat.token_is) seat.token_is.few seat.free
 
       pub may_take : MayTake l v x.h k
       may_take = (
@@ -127,36 +127,36 @@ module _ (l : ListModel) (s t : Token) (n : ℕ) (seat : IsSeat s n) (own : list
 
       module _ (y : Token) (T : TakenAll v x.h k y) where
         abbrev hand : List Wait
-        hand = y.me.0.sight.stands.hand
+        hand = (stands_of y).hand
 
-        w4 : Walked v (a (NotifyingAll x.h (L7 k))) y (with_waits x.h hand s.me.0.sight.stands) [] ((NotifyingAll x.h (L7 k), 1) ∷ [])
+        w4 : Walked v (a (NotifyingAll x.h (L7 k))) y (with_waits x.h hand (stands_of s)) [] ((NotifyingAll x.h (L7 k), 1) ∷ [])
         w4 = subst (λ (q : ListSeat). Walked v q y (with_waits x.h hand q) [] ((NotifyingAll x.h (L7 k), 1) ∷ [])) w13.stands_is T.walked
 
-        w34 : Walked u (a (NotifyingAll x.h L4)) y (with_waits x.h hand s.me.0.sight.stands) (entries ++ []) (reach_rows x.h R.notified R.waited R.handed ++ (NotifyingAll x.h (L7 k), 1) ∷ [])
-        w34 = walked_on u v y (a (NotifyingAll x.h L4)) (a (NotifyingAll x.h (L7 k))) (with_waits x.h hand s.me.0.sight.stands) entries [] (reach_rows x.h R.notified R.waited R.handed) ((NotifyingAll x.h (L7 k), 1) ∷ []) w3 w4
+        w34 : Walked u (a (NotifyingAll x.h L4)) y (with_waits x.h hand (stands_of s)) (entries ++ []) (reach_rows x.h R.notified R.waited R.handed ++ (NotifyingAll x.h (L7 k), 1) ∷ [])
+        w34 = walked_on u v y (a (NotifyingAll x.h L4)) (a (NotifyingAll x.h (L7 k))) (with_waits x.h hand (stands_of s)) entries [] (reach_rows x.h R.notified R.waited R.handed) ((NotifyingAll x.h (L7 k), 1) ∷ []) w3 w4
 
-        w14 : Walked s (a (NotifyingAll 0 L1)) y (with_waits x.h hand s.me.0.sight.stands) (entries ++ []) (looks_all x.h x.waited x.notified ++ (NotifyingAll x.h L3, 0) ∷ (reach_rows x.h R.notified R.waited R.handed ++ (NotifyingAll x.h (L7 k), 1) ∷ []))
-        w14 = walked_on s u y (a (NotifyingAll 0 L1)) (a (NotifyingAll x.h L4)) (with_waits x.h hand s.me.0.sight.stands) [] (entries ++ []) (looks_all x.h x.waited x.notified ++ (NotifyingAll x.h L3, 0) ∷ [])
+        w14 : Walked s (a (NotifyingAll 0 L1)) y (with_waits x.h hand (stands_of s)) (entries ++ []) (looks_all x.h x.waited x.notified ++ (NotifyingAll x.h L3, 0) ∷ (reach_rows x.h R.notified R.waited R.handed ++ (NotifyingAll x.h (L7 k), 1) ∷ []))
+        w14 = walked_on s u y (a (NotifyingAll 0 L1)) (a (NotifyingAll x.h L4)) (with_waits x.h hand (stands_of s)) [] (entries ++ []) (looks_all x.h x.waited x.notified ++ (NotifyingAll x.h L3, 0) ∷ [])
             (reach_rows x.h R.notified R.waited R.handed ++ (NotifyingAll x.h (L7 k), 1) ∷ []) w12 w34
 
         pub may_wake : MayWake l y x.h
-        may_wake = is_at y (if_any hand (NotifyingAll x.h L8) Rest) (with_waits x.h hand s.me.0.sight.stands) (entries ++ [])
+        may_wake = is_at y (if_any hand (NotifyingAll x.h L8) Rest) (with_waits x.h hand (stands_of s)) (entries ++ [])
             (looks_all x.h x.waited x.notified ++ (NotifyingAll x.h L3, 0) ∷ (reach_rows x.h R.notified R.waited R.handed ++ (NotifyingAll x.h (L7 k), 1) ∷ [])) w14 refl
 
-        module _ (z : Token) (W : WokenSome y x.h y.me.0.sight.stands.hand [] z) where
-          w5 : Walked y (with_waits x.h hand s.me.0.sight.stands) z (with_waits x.h [] s.me.0.sight.stands) [] (wake_rows x.h hand)
+        module _ (z : Token) (W : WokenSome y x.h (stands_of y).hand [] z) where
+          w5 : Walked y (with_waits x.h hand (stands_of s)) z (with_waits x.h [] (stands_of s)) [] (wake_rows x.h hand)
           w5 = subst (λ (q : ListSeat). Walked y q z (with_waits x.h [] q) [] (wake_rows x.h hand)) w14.stands_is W.walked
 
-          rests : with_waits x.h [] s.me.0.sight.stands ≡ a Rest
-          rests = λ i. record { place = Rest; ticket = s.me.0.sight.stands.ticket; hand = sym empty i; late = s.me.0.sight.stands.late }
+          rests : with_waits x.h [] (stands_of s) ≡ a Rest
+          rests = λ i. record { place = Rest; ticket = (stands_of s).ticket; hand = sym empty i; late = (stands_of s).late }
 
           abbrev rows : List (ListPlace × ℕ)
           rows = looks_all x.h x.waited x.notified ++ all_rows x.h R.notified R.waited R.handed k hand
 
           w15 : Walked s (a (NotifyingAll 0 L1)) z (a Rest) entries rows
-          w15 = walked_so s z (a (NotifyingAll 0 L1)) (with_waits x.h [] s.me.0.sight.stands) (a Rest) entries rows
-              (subst (λ (es : List ListEntry). Walked s (a (NotifyingAll 0 L1)) z (with_waits x.h [] s.me.0.sight.stands) es rows) (append-nil (entries ++ []) ∙ append-nil entries)
-              (walked_on s y z (a (NotifyingAll 0 L1)) (with_waits x.h hand s.me.0.sight.stands) (with_waits x.h [] s.me.0.sight.stands) (entries ++ []) []
+          w15 = walked_so s z (a (NotifyingAll 0 L1)) (with_waits x.h [] (stands_of s)) (a Rest) entries rows
+              (subst (λ (es : List ListEntry). Walked s (a (NotifyingAll 0 L1)) z (with_waits x.h [] (stands_of s)) es rows) (append-nil (entries ++ []) ∙ append-nil entries)
+              (walked_on s y z (a (NotifyingAll 0 L1)) (with_waits x.h hand (stands_of s)) (with_waits x.h [] (stands_of s)) (entries ++ []) []
               (looks_all x.h x.waited x.notified ++ (NotifyingAll x.h L3, 0) ∷ (reach_rows x.h R.notified R.waited R.handed ++ (NotifyingAll x.h (L7 k), 1) ∷ [])) (wake_rows x.h hand) w14 w5)) rests
 
           pub locked_seat : IsSeat z n
@@ -184,32 +184,32 @@ module _ (l : ListModel) (s t : Token) (n : ℕ) (seat : IsSeat s n) (own : list
             );
           }
 
-          seen_on : GoesOn z.me.0.sight.seen v.me.0.sight.seen
-          seen_on = goes_on_more v.me.0.sight.seen y.me.0.sight.seen z.me.0.sight.seen
-              (walked_later v y (a (NotifyingAll x.h (L7 k))) (with_waits x.h hand s.me.0.sight.stands) [] ((NotifyingAll x.h (L7 k), 1) ∷ []) w4)
-              (walked_later y z (with_waits x.h hand s.me.0.sight.stands) (with_waits x.h [] s.me.0.sight.stands) [] (wake_rows x.h hand) w5)
+          seen_on : GoesOn (seen_of z) (seen_of v)
+          seen_on = goes_on_more (seen_of v) (seen_of y) (seen_of z)
+              (walked_later v y (a (NotifyingAll x.h (L7 k))) (with_waits x.h hand (stands_of s)) [] ((NotifyingAll x.h (L7 k), 1) ∷ []) w4)
+              (walked_later y z (with_waits x.h hand (stands_of s)) (with_waits x.h [] (stands_of s)) [] (wake_rows x.h hand) w5)
 
           pub locked_some : GrantsSome (seat_of s n) k (seat_of z n)
           locked_some = by k refl
             where
               by : (m : ℕ) → k ≡ m → GrantsSome (seat_of s n) m (seat_of z n)
-              by zero e = own_none s z n (a (NotifyingAll 0 L1)) (a Rest) entries rows w15 (ap (all_entries s.me.0.number R.handed) e) seat.token_is.number_is
+              by zero e = own_none s z n (a (NotifyingAll 0 L1)) (a Rest) entries rows w15 (ap (all_entries s.me.0.own.number R.handed) e) seat.token_is.number_is
               by (suc m) e = record {
                 before = R.before;
                 look = R.look;
-                first = goes_on_more s.me.0.sight.seen u.me.0.sight.seen R.look (walked_later s u (a (NotifyingAll 0 L1)) (a (NotifyingAll x.h L4)) [] (looks_all x.h x.waited x.notified ++ (NotifyingAll x.h L3, 0) ∷ []) w12) R.first;
+                first = goes_on_more (seen_of s) (seen_of u) R.look (walked_later s u (a (NotifyingAll 0 L1)) (a (NotifyingAll x.h L4)) [] (looks_all x.h x.waited x.notified ++ (NotifyingAll x.h L3, 0) ∷ []) w12) R.first;
                 later = R.later;
-                seen = subst (λ (q : List ListEntry). GoesOn z.me.0.sight.seen q) (R.seen ∙ ap (λ j. R.before ++ all_entries u.me.0.number R.handed j) e
+                seen = subst (λ (q : List ListEntry). GoesOn (seen_of z) q) (R.seen ∙ ap (λ j. R.before ++ all_entries u.me.0.own.number R.handed j) e
                     ∙ (λ i. R.before ++ Granted ((R.counted ∙ ap (λ j. (told R.before).granted + j) e) i) ((w12.number_is ∙ seat.token_is.number_is) i) ∷ [])) seen_on;
                 all = sym R.all ∙ R.counted ∙ ap (λ j. (told R.before).granted + j) e;
               }
 
           pub locked_granted : AllGranted (seat_of s n) (seat_of z n)
           locked_granted =
-              let at = ap (λ (q : List ListEntry). (told q).granted) R.seen ∙ granted_then R.before u.me.0.number R.handed k R.counted in
+              let at = ap (λ (q : List ListEntry). (told q).granted) R.seen ∙ granted_then R.before u.me.0.own.number R.handed k R.counted in
               let token = token_after s z n (a (NotifyingAll 0 L1)) (a Rest) entries rows seat.token_is w15 (W.slots ∙ T.bare) in
-              let laws = laws_there z.me.0 token.lands (there_of z n token) token.few in
+              let laws = laws_there z.me.0.own token.lands (there_of z n token) token.few in
               let journal = ap (λ (q : ListSight). q.seen) token.lands.sees in
-              let stays = (the_list_accounts.stays z.me.0.setting.first z.me.0.setting.seats token.lands.world laws.invariant v.me.0.sight.seen seen_on.more (sym journal ∙ seen_on.is)).granted in
+              let stays = (the_list_accounts.stays (setting_of z).first (setting_of z).seats token.lands.world laws.invariant (seen_of v) seen_on.more (sym journal ∙ seen_on.is)).granted in
               let j = ap (λ (q : List ListEntry). (told q).granted) journal in
               let c = x.since in let d = R.reaches in omega arith

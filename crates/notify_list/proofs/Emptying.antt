@@ -1,8 +1,8 @@
 -- Taking all waits out of the list.
 use Rattle.std.proofs.Common.{◌≡◌, ℕ, ◌+◌, ◌<◌, ◌≤◌, List, [], ◌∷◌, ◌++◌, length, map, drop, slice_get, Option, Some, None, sym, refl, ap, ◌∙◌, subst, arith, length-append, append-nil, append_assoc}
 use Rattle.std.proofs.lemmas.List.{map-append}
-use Rattle.atomic_table.specs.Table.{Allows, rest}
-use Rattle.atomic_table.specs.Lent.{seat_with}
+use Rattle.running_rows.specs.Table.{rest}
+use Rattle.running_rows.specs.Lent.{seat_with}
 use Rattle.waiters.specs.declared.wait.Wait.{Wait}
 use Rattle.waiters.specs.Lists.{Lists, waits_at, Changes}
 use Rattle.step_table.specs.declared.list_place.AllRow.TheVariants.{L7, L8}
@@ -10,45 +10,45 @@ use Rattle.step_table.specs.declared.list_place.ListPlace.TheVariants.{Rest, Not
 use Rattle.step_table.specs.ListErased.{erased_wait, erased_waits}
 use Rattle.step_table.specs.ListEvent.{if_any}
 use Rattle.step_table.specs.ListWorld.{ListSeat}
-use Rattle.notify_list.specs.declared.view.View.{View}
 use Rattle.notify_list.specs.declared.view.Setting.{Setting}
 use Rattle.notify_list.specs.declared.view.Record.{Record}
 use Rattle.notify_list.specs.Places.{at_place}
-use Rattle.notify_list.specs.Rule.{IsRecord, IsKept, IsSomeones}
-use Rattle.notify_list.specs.Plays.{Me, Ran, standing}
-use Rattle.notify_list.specs.Seats.{ListModel, Token}
-use Rattle.notify_list.specs.Walks.{Walked, HasRecord, Edited, stands_of}
+use Rattle.notify_list.specs.Rule.{IsRecord}
+use Rattle.notify_list.specs.Plays.{Me, ListView}
+use Rattle.notify_list.specs.Seats.{ListModel, Token, queue_of, setting_of, stands_of}
+use Rattle.notify_list.specs.Walks.{Walked, HasRecord, Edited}
 use Rattle.notify_list.specs.Records.{HasWaits, FirstOut}
 use Rattle.notify_list.specs.GrantingAll.{MayTake, TakenAll, with_waits}
-use Rattle.notify_list.proofs.Leading.{Led, led}
-use Rattle.notify_list.proofs.Walking.{ran_from, walked_row}
+use Rattle.notify_list.proofs.Allowing.{GivesBack}
+use Rattle.notify_list.proofs.Leading.{Ran, Led, led, Gave, gave_from}
+use Rattle.notify_list.proofs.Walking.{walked_row}
 use Rattle.notify_list.proofs.Recording.{changed_open, gives_edited}
 
 -- what is lent is the record
-pub lent_waits : (s : Token) (lent : Record) (queue : List Wait) → HasWaits s queue → s.me.1 ≡ (0, lent) ∷ rest s.me.1 → IsRecord s.me.0.setting.seats lent queue
-lent_waits s lent queue h value = subst (λ (y : Record). IsRecord s.me.0.setting.seats y queue) (ap (first_of h.0) (sym h.1 ∙ value)) h.2
+pub lent_waits : (s : Token) (lent : Record) (queue : List Wait) → HasWaits s queue → s.me.1 ≡ (0, lent) ∷ rest s.me.1 → IsRecord (setting_of s).seats lent queue
+lent_waits s lent queue h value = subst (λ (y : Record). IsRecord (setting_of s).seats y queue) (ap (first_of h.0) (sym h.1 ∙ value)) h.2
   where
     first_of : Record → List (ℕ × Record) → Record
     first_of y [] = y
     first_of y (x ∷ l) = x.1
 
-written_back : (s : Token) (y : Record) (queue left : List Wait) → HasWaits s queue → IsRecord s.me.0.setting.seats y left → Edited s left (seat_with s 0 y)
+written_back : (s : Token) (y : Record) (queue left : List Wait) → HasWaits s queue → IsRecord (setting_of s).seats y left → Edited s left (seat_with s 0 y)
 written_back s y queue left h made = (refl, (y, (λ i. (s.me.0, (0, y) ∷ rest (h.1 i))), made))
 
 -- no wait is left
-pub first_none : (s : Token) (y : Record) (lists : Lists) (queue : List Wait) → HasWaits s queue → IsRecord s.me.0.setting.seats y queue → None ≡ slice_get (waits_at y.lists y.key) 0 → lists ≡ y.lists
+pub first_none : (s : Token) (y : Record) (lists : Lists) (queue : List Wait) → HasWaits s queue → IsRecord (setting_of s).seats y queue → None ≡ slice_get (waits_at y.lists y.key) 0 → lists ≡ y.lists
     → FirstOut s queue None (seat_with s 0 (record y { lists = lists }))
 first_none s y lists queue h is first same = by queue is h (first ∙ ap (λ l. slice_get l 0) is.waits)
   where
-    by : (q : List Wait) → IsRecord s.me.0.setting.seats y q → HasWaits s q → None ≡ slice_get (erased_waits q) 0 → FirstOut s q None (seat_with s 0 (record y { lists = lists }))
-    by [] r k e = (refl, written_back s (record y { lists = lists }) [] [] k (subst (λ (l : Lists). IsRecord s.me.0.setting.seats (record y { lists = l }) []) (sym same) r))
+    by : (q : List Wait) → IsRecord (setting_of s).seats y q → HasWaits s q → None ≡ slice_get (erased_waits q) 0 → FirstOut s q None (seat_with s 0 (record y { lists = lists }))
+    by [] r k e = (refl, written_back s (record y { lists = lists }) [] [] k (subst (λ (l : Lists). IsRecord (setting_of s).seats (record y { lists = l }) []) (sym same) r))
     by (w ∷ q) r k e = absurd cc
 
-pub first_some : (s : Token) (y : Record) (lists : Lists) (queue : List Wait) (wait : Wait) (seat : ℕ) → HasWaits s queue → IsRecord s.me.0.setting.seats y queue → Some wait ≡ slice_get (waits_at y.lists y.key) 0
+pub first_some : (s : Token) (y : Record) (lists : Lists) (queue : List Wait) (wait : Wait) (seat : ℕ) → HasWaits s queue → IsRecord (setting_of s).seats y queue → Some wait ≡ slice_get (waits_at y.lists y.key) 0
     → Changes y.lists lists y.key (Some (drop 1 (waits_at y.lists y.key))) → lists.room ≡ y.lists.room + 1 → seat ≡ wait.id.seat → FirstOut s queue (Some seat) (seat_with s 0 (record y { lists = lists }))
 first_some s y lists queue wait seat h is first change room same = by queue is h (first ∙ ap (λ l. slice_get l 0) is.waits)
   where
-    by : (q : List Wait) → IsRecord s.me.0.setting.seats y q → HasWaits s q → Some wait ≡ slice_get (erased_waits q) 0 → FirstOut s q (Some seat) (seat_with s 0 (record y { lists = lists }))
+    by : (q : List Wait) → IsRecord (setting_of s).seats y q → HasWaits s q → Some wait ≡ slice_get (erased_waits q) 0 → FirstOut s q (Some seat) (seat_with s 0 (record y { lists = lists }))
     by [] r k e = absurd cc
     by (w ∷ q) r k e =
         let is_it : wait ≡ erased_wait w = cc in
@@ -64,17 +64,17 @@ first_some s y lists queue wait seat h is first change room same = by queue is h
 pub record Emptied (s : Token) (t : Token) (seats : List ℕ) : Type 0 where
   pub gone : List Wait
   pub left : List Wait
-  pub parts : s.me.0.queue ≡ gone ++ left
+  pub parts : queue_of s ≡ gone ++ left
   pub table : t.table_id ≡ s.table_id
   pub view : t.me.0 ≡ s.me.0
   pub has : HasWaits t left
   pub items : seats ≡ map (λ (w : Wait). w.id.seat) gone
-  pub few : length s.me.0.queue ≤ 256
+  pub few : length (queue_of s) ≤ 256
 
-pub none_emptied : (s : Token) (seats : List ℕ) → HasRecord s → s.me.0.setting.seats ≤ 256 → seats ≡ [] → Emptied s s seats
+pub none_emptied : (s : Token) (seats : List ℕ) → HasRecord s → (setting_of s).seats ≤ 256 → seats ≡ [] → Emptied s s seats
 none_emptied s seats h few none = record {
   gone = [];
-  left = s.me.0.queue;
+  left = queue_of s;
   parts = refl;
   table = refl;
   view = refl;
@@ -98,7 +98,7 @@ one_emptied s t seats more seat u x out added = record {
   parts = x.parts ∙ ap (λ l. x.gone ++ l) out.2 ∙ sym (append_assoc x.gone (out.0 ∷ []) out.1);
   table = out.4.0 ∙ x.table;
   view = ap (λ (m : Me). m.0) out.4.1.1 ∙ x.view;
-  has = (out.4.1.0, ap (λ (m : Me). m.1) out.4.1.1, subst (λ (v : View). IsRecord v.setting.seats out.4.1.0 out.1) (sym (ap (λ (m : Me). m.0) out.4.1.1)) out.4.1.2);
+  has = (out.4.1.0, ap (λ (m : Me). m.1) out.4.1.1, subst (λ (v : ListView). IsRecord v.own.knows.setting.seats out.4.1.0 out.1) (sym (ap (λ (m : Me). m.0) out.4.1.1)) out.4.1.2);
   items = added ∙ (λ i. x.items i ++ sym out.3 i ∷ []) ∙ sym (map-append (λ (w : Wait). w.id.seat) x.gone (out.0 ∷ []));
   few = x.few;
 }
@@ -109,45 +109,45 @@ all_emptied s t seats u x out = (
   (
     out.1.1.0,
     out.1.1.1 ∙ (λ i. (x.view i, (0, out.1.1.0) ∷ [])),
-    subst (λ (v : View). IsRecord v.setting.seats out.1.1.0 []) x.view out.1.1.2,
+    subst (λ (v : ListView). IsRecord v.own.knows.setting.seats out.1.1.0 []) x.view out.1.1.2,
   ),
 )
 
-pub all_seats : (s t : Token) (seats : List ℕ) (u : Token) (x : Emptied s t seats) → FirstOut t x.left None u → seats ≡ map (λ (w : Wait). w.id.seat) s.me.0.queue
+pub all_seats : (s t : Token) (seats : List ℕ) (u : Token) (x : Emptied s t seats) → FirstOut t x.left None u → seats ≡ map (λ (w : Wait). w.id.seat) (queue_of s)
 all_seats s t seats u x out = x.items ∙ ap (map (λ (w : Wait). w.id.seat)) (sym (append-nil x.gone) ∙ ap (λ l. x.gone ++ l) (sym out.0) ∙ sym x.parts)
 
 -- L7
 module _ (l : ListModel) (s : Token) (h n : ℕ) (may : MayTake l s h n) where
   abbrev at7 : ListSeat
-  at7 = at_place (NotifyingAll h (L7 n)) s.me.0.sight.stands
+  at7 = at_place (NotifyingAll h (L7 n)) (stands_of s)
 
   stands7 : stands_of s ≡ at7
-  stands7 = λ i. record s.me.0.sight.stands { place = may.0.at i }
+  stands7 = λ i. record (stands_of s) { place = may.0.at i }
 
-  pub gives_all : (z : Setting) (slots id : ℕ) (t : Token) (someones : IsSomeones s.me.0) → Edited s [] t → Allows (IsKept z) slots id t.me 2 (λ _. 0) (λ _ u. Ran t.me.0 1 u.0 × (u.1 ≡ rest t.me.1))
-  gives_all z slots id t someones E = gives_edited z slots id s t someones at7 stands7 [] E refl (λ w e. (record { word = refl; there = tt; can = refl; becomes = refl }, refl))
+  pub gives_all : (k : Setting) (t : Token) → Edited s [] t → GivesBack k t.me
+  gives_all k t E = gives_edited k s t at7 stands7 [] E refl (λ w e. (record { word = refl; there = tt; can = refl; becomes = refl }, refl))
 
-  module _ (t u : Token) (E : Edited s [] t) (r : Ran t.me.0 1 u.me.0) (same : u.table_id ≡ t.table_id) (given : u.me.1 ≡ rest t.me.1) where
-    row7 : Ran (standing at7 s.me.0) 1 u.me.0
-    row7 = ran_from s u at7 1 stands7 (subst (λ (m : Me). Ran m.0 1 u.me.0) E.1.1 r)
+  module _ (t u : Token) (E : Edited s [] t) (r : Gave t u) (same : u.table_id ≡ t.table_id) where
+    row7 : Ran at7 s.me.0.own 1 u.me.0.own
+    row7 = gave_from s t u at7 (ap (λ (m : Me). m.0.own) E.1.1) stands7 refl may.0.few (λ g. refl) r
 
-    d7 : Led (standing at7 s.me.0) 1 u.me.0 row7.stride
-    d7 = led (standing at7 s.me.0) u.me.0 1 row7
+    d7 : Led at7 s.me.0.own 1 u.me.0.own row7.stride
+    d7 = led at7 s.me.0.own u.me.0.own 1 row7
 
-    stands_after : stands_of u ≡ with_waits h s.me.0.queue s.me.0.sight.stands
+    stands_after : stands_of u ≡ with_waits h (queue_of s) (stands_of s)
     stands_after = d7.stands ∙ (λ i. record {
       place = if_any (sym (d7.held refl) i) (NotifyingAll h L8) Rest;
-      ticket = s.me.0.sight.stands.ticket;
+      ticket = (stands_of s).ticket;
       hand = may.2 i ++ sym (d7.held refl) i;
-      late = s.me.0.sight.stands.late;
+      late = (stands_of s).late;
     })
 
-    pub hand_after : u.me.0.sight.stands.hand ≡ s.me.0.queue
+    pub hand_after : (stands_of u).hand ≡ queue_of s
     hand_after = ap (λ (y : ListSeat). y.hand) stands_after
 
     pub taken_all : TakenAll s h n u
     taken_all = record {
-      walked = subst (λ (y : ListSeat × List Wait). Walked s y.0 u (with_waits h y.1 s.me.0.sight.stands) [] ((NotifyingAll h (L7 n), 1) ∷ [])) (λ i. (sym stands7 i, sym hand_after i))
-          (walked_row s u at7 1 (with_waits h s.me.0.queue s.me.0.sight.stands) [] row7 (same ∙ E.0) stands_after d7.told);
-      bare = given ∙ ap (λ (m : Me). rest m.1) E.1.1;
+      walked = subst (λ (y : ListSeat × List Wait). Walked s y.0 u (with_waits h y.1 (stands_of s)) [] ((NotifyingAll h (L7 n), 1) ∷ [])) (λ i. (sym stands7 i, sym hand_after i))
+          (walked_row s u at7 1 (with_waits h (queue_of s) (stands_of s)) [] row7 (same ∙ E.0) stands_after d7.told);
+      bare = ap (λ (m : Me). m.1) r.2 ∙ ap (λ (m : Me). rest m.1) E.1.1;
     }

@@ -4,54 +4,53 @@ use Rattle.std.proofs.lemmas.List.{get_or-append-add}
 use Rattle.std.specs.List.{All, remove}
 use mathlib.Core.Option.{some, some-injective, some-ne-none}
 use lib.ListN.{get_elem?}
-use Rattle.notify_list.specs.declared.view.Guest.{Guest}
-use Rattle.notify_list.specs.Plays.{Me}
+use Rattle.running_rows.specs.Sitting.{sitting}
+use Rattle.notify_list.specs.Plays.{Me, OneSeat}
 use Rattle.notify_list.specs.Seats.{ListModel, SeatModel, Token, list_of, seat_of, IsSeat}
-use Rattle.notify_list.specs.Meeting.{guest_of, sitting}
-use Rattle.notify_list.specs.Closing.{IsGuestOf, AreGuestsOf, IsGathered}
+use Rattle.notify_list.specs.Closing.{IsSeatOf, AreSeatsOf, IsGathered}
 
 -- of these seats those behind `now` sit with the token's own seat
-pub record Gathered (l : ListModel) (items : List SeatModel) (own_guest : Guest) (now : List SeatModel) (token : Token) : Type 0 where
+pub record Gathered (l : ListModel) (items : List SeatModel) (first : OneSeat) (now : List SeatModel) (token : Token) : Type 0 where
   pub own : list_of token ≡ l
-  pub view : guest_of token.me.0 ≡ own_guest
+  pub view : token.me.0.own ≡ first
   pub gone : List SeatModel
   pub parts : items ≡ now ++ gone
-  pub are : AreGuestsOf token.me.0.guests gone
+  pub are : AreSeatsOf token.me.0.guests gone
 
 pub none_gathered : (l : ListModel) (items : List SeatModel) (token : Token) → list_of token ≡ l → token.me.0.guests ≡ []
-    → Gathered l items (guest_of token.me.0) items token
+    → Gathered l items token.me.0.own items token
 none_gathered l items token own alone = record {
   own = own;
   view = refl;
   gone = [];
   parts = sym (append-nil items);
-  are = subst (λ (gs : List Guest). AreGuestsOf gs []) (sym alone) tt;
+  are = subst (λ (gs : List OneSeat). AreSeatsOf gs []) (sym alone) tt;
 }
 
-guest_is : (s : Token) (n : ℕ) → IsSeat s n → IsGuestOf (guest_of s.me.0) (seat_of s n)
-guest_is s n is = record { number_is = is.token_is.number_is; free = is.free; holds_none = is.holds_none; seen = refl }
+seat_is : (s : Token) (n : ℕ) → IsSeat s n → IsSeatOf s.me.0.own (seat_of s n)
+seat_is s n is = record { number_is = is.token_is.number_is; free = is.free; holds_none = is.holds_none; seen = refl }
 
-guest_of_seat : (s : Token) (n : ℕ) (seat : SeatModel) (g : Guest) → seat_of s n ≡ seat → IsSeat s n → guest_of s.me.0 ≡ g
-    → IsGuestOf g seat
-guest_of_seat s n seat g seen is at = subst (λ (q : Guest × SeatModel). IsGuestOf q.0 q.1) (λ i. (at i, seen i)) (guest_is s n is)
+seat_at : (s : Token) (n : ℕ) (seat : SeatModel) (g : OneSeat) → seat_of s n ≡ seat → IsSeat s n → s.me.0.own ≡ g
+    → IsSeatOf g seat
+seat_at s n seat g seen is at = subst (λ (q : OneSeat × SeatModel). IsSeatOf q.0 q.1) (λ i. (at i, seen i)) (seat_is s n is)
 
-pub one_gathered : (l : ListModel) (items : List SeatModel) (own_guest : Guest) (now rest : List SeatModel) (token after : Token) (seat : SeatModel) (s : Token) (n : ℕ)
-    → Gathered l items own_guest now token → now ≡ rest ++ seat ∷ [] → seat_of s n ≡ seat → IsSeat s n
-    → after.table_id ≡ token.table_id → after.me ≡ (sitting token.me.0 s.me.0, token.me.1)
-    → Gathered l items own_guest rest after
-one_gathered l items own_guest now rest token after seat s n x last seen is same joined = record {
-  own = (λ i. record { id = same i; setting = (joined i).0.setting }) ∙ x.own;
-  view = ap (λ (m : Me). guest_of m.0) joined ∙ x.view;
+pub one_gathered : (l : ListModel) (items : List SeatModel) (first : OneSeat) (now rest : List SeatModel) (token after : Token) (seat : SeatModel) (s o : Token) (n : ℕ)
+    → Gathered l items first now token → now ≡ rest ++ seat ∷ [] → seat_of s n ≡ seat → IsSeat s n → o.me.0.own ≡ s.me.0.own
+    → after.table_id ≡ token.table_id → after.me ≡ (sitting token.me.0 o.me.0, token.me.1)
+    → Gathered l items first rest after
+one_gathered l items first now rest token after seat s o n x last seen is alike same joined = record {
+  own = (λ i. record { id = same i; setting = (joined i).0.own.knows.setting }) ∙ x.own;
+  view = ap (λ (m : Me). m.0.own) joined ∙ x.view;
   gone = seat ∷ x.gone;
   parts = x.parts ∙ ap (λ k. k ++ x.gone) last ∙ append_assoc rest (seat ∷ []) x.gone;
-  are = subst (λ (gs : List Guest). AreGuestsOf gs (seat ∷ x.gone)) (sym (ap (λ (m : Me). m.0.guests) joined)) (guest_of_seat s n seat (guest_of s.me.0) seen is refl, x.are);
+  are = subst (λ (gs : List OneSeat). AreSeatsOf gs (seat ∷ x.gone)) (sym (ap (λ (m : Me). m.0.guests) joined)) (seat_at s n seat o.me.0.own seen is (sym alike), x.are);
 }
 
 pub all_gathered : (l : ListModel) (items : List SeatModel) (token : Token) (seat : SeatModel) (s : Token) (n : ℕ)
-    → seat_of s n ≡ seat → IsSeat s n → Gathered l items (guest_of s.me.0) [] token → IsGathered l (seat ∷ items) token
+    → seat_of s n ≡ seat → IsSeat s n → Gathered l items s.me.0.own [] token → IsGathered l (seat ∷ items) token
 all_gathered l items token seat s n seen is x = record {
   own = x.own;
-  all = (guest_of_seat s n seat (guest_of token.me.0) seen is (sym x.view), subst (λ (k : List SeatModel). AreGuestsOf token.me.0.guests k) (sym x.parts) x.are);
+  all = (seat_at s n seat token.me.0.own seen is (sym x.view), subst (λ (k : List SeatModel). AreSeatsOf token.me.0.guests k) (sym x.parts) x.are);
 }
 
 -- the first of a row, and the rest

@@ -3,7 +3,6 @@ pub mod Owned
 pub mod Beginning
 pub mod Keeping
 pub mod Allowing
-pub mod Aside
 pub mod Leading
 pub mod Walking
 pub mod Making
@@ -22,7 +21,6 @@ pub mod Reaching
 pub mod Emptying
 pub mod Wakening
 pub mod Broadcasting
-pub mod Sitting
 pub mod LookingTogether
 pub mod Reckoning
 pub mod Gathering

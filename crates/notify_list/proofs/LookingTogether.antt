@@ -1,92 +1,113 @@
--- What two seats have that met.
-use Rattle.std.proofs.Common.{◌≡◌, ◌≢◌, ℕ, ◌<◌, [], ◌∷◌, sym, ap, ◌∙◌, subst, arith}
-use Rattle.atomic_table.specs.Table.{Allows, Splits}
+-- Looks at a word, and what two seats have that looked together.
+use Rattle.std.proofs.Common.{◌≡◌, ℕ, zero, suc, List, [], ◌∷◌, ◌++◌, slice_index, sym, refl, ap, ◌∙◌, subst, arith}
 use Rattle.step_table.specs.declared.list_place.ListWord.TheVariants.{Wait}
-use Rattle.step_table.specs.Path.{looks}
-use Rattle.notify_list.specs.declared.view.View.{View}
+use Rattle.step_table.specs.ListWorld.{ListSeat, ListWorld}
+use Rattle.step_table.specs.Path.{looks, Looked, Did, look_in, sight}
+use Rattle.step_table.proofs.Paths.{meets_sight, stride_grows}
+use Rattle.list_law.specs.ListPath.{ListSight}
+use Rattle.running_rows.specs.Strides.{Went, here}
+use Rattle.running_rows.specs.Owing.{Stands, Sees, IsSeen}
+use Rattle.running_rows.specs.Sitting.{Met}
 use Rattle.notify_list.specs.declared.view.Setting.{Setting}
-use Rattle.notify_list.specs.declared.notify_list.NotifyList.TheInside.{Inside}
-use Rattle.notify_list.specs.Rule.{IsSomeones, view_of, IsKept}
-use Rattle.notify_list.specs.Plays.{Me, Strode}
-use Rattle.notify_list.specs.Shared.{list_by}
-use Rattle.notify_list.specs.Seats.{ListModel, Token, list_of, seat_of, IsSeat}
-use Rattle.notify_list.specs.Meeting.{guest_of, sitting, parting, parted, met_at, HasMet}
-use Rattle.notify_list.proofs.Owned.{Made, someones}
-use Rattle.notify_list.proofs.Sitting.{meets_kept, parts_kept, met_looks, met_seat}
+use Rattle.notify_list.specs.Setting.{address, IsThere}
+use Rattle.notify_list.specs.Places.{is_free}
+use Rattle.notify_list.specs.Rule.{watched, Lands, Homes}
+use Rattle.notify_list.specs.Rows.{list_rows, word_at}
+use Rattle.notify_list.specs.Plays.{OneSeat}
+use Rattle.notify_list.specs.Seats.{Token, seat_of, IsSeat, seen_of, setting_of, stands_of}
+use Rattle.notify_list.specs.Meeting.{LooksAt, HasMet}
 
--- a list has a word
-pub has_word : (x : Inside) → Made x → 0 < x.table.shared.table_id.words
-has_word x made = let w = made.words in omega arith
+lies_at : (i : ℕ) → address (word_at i) ≡ i
+lies_at zero = refl
+lies_at (suc zero) = refl
+lies_at (suc (suc zero)) = refl
+lies_at (suc (suc (suc s))) = omega arith
 
-module _ (x : Inside) (made : Made x) (s o t : Token) (own_s : list_of s ≡ list_by x) (own_o : list_of o ≡ list_by x) (joined : t.me ≡ (sitting s.me.0 o.me.0, s.me.1)) where
-  settings : o.me.0.setting ≡ s.me.0.setting
-  settings = ap (λ (y : ListModel). y.setting) (own_o ∙ sym own_s)
+sees_word : (i : ℕ) (u : OneSeat) (world : ListWorld) (words : List ℕ) (homes : Homes) → IsThere u.knows.setting (word_at i)
+    → Stands list_rows u.knows.setting u world words homes i → Sees list_rows u.knows.setting u world i (slice_index words i)
+sees_word i u world words homes there at = record {
+  now = record {
+    number = u.number;
+    knows = record u.knows { sight = sight (watched u.knows.setting) world u.number; queue = world.words.queue };
+    gone = u.gone ++ look_in (watched u.knows.setting) world u.number (word_at i) ∷ [];
+  };
+  went = record {
+    stride = look_in (watched u.knows.setting) world u.number (word_at i);
+    ran = record {
+      world = world;
+      meets = at.knows.meets;
+      stood = at.knows.meets.stands;
+      seen = refl;
+      did = record { read_is = refl; told_is = refl; leads = refl };
+    };
+    did = refl;
+    read = sym (at.shows.words (word_at i) there) ∙ ap (slice_index words) (lies_at i);
+    also = record {
+      held = at.knows.held;
+      left = refl;
+      lands = record { world = world; met = at.shows.met; sees = refl; queue = refl };
+      there = at.there;
+    };
+    one = refl;
+    same = (refl, refl);
+  };
+  world_is = refl;
+  knows = record { meets = meets_sight (watched u.knows.setting) world u.number at.shows.met; held = λ h. refl };
+}
 
-  some_t : IsSomeones t.me.0
-  some_t = subst (λ (m : Me). IsSomeones m.0) (sym joined) (someones x made s own_s)
+-- each seat may look at a word that is there
+pub word_seen : (k : Setting) (i : ℕ) → IsThere k (word_at i) → IsSeen list_rows k i
+word_seen k i there world words homes u at = subst (λ (q : Setting). Sees list_rows q u world i (slice_index words i)) at.of_is
+    (sees_word i u world words homes (subst (λ (q : Setting). IsThere q (word_at i)) (sym at.of_is) there)
+    (subst (λ (q : Setting). Stands list_rows q u world words homes i) (sym at.of_is) at))
 
-  guests_t : t.me.0.guests ≡ guest_of o.me.0 ∷ s.me.0.guests
-  guests_t = ap (λ (m : Me). m.0.guests) joined
+-- a look of a token
+module _ (s t : Token) (n q : ℕ) (seat : IsSeat s n) (r : Went list_rows here (looks Wait) s.me.0.own q t.me.0.own) (same : t.table_id ≡ s.table_id) (bare : t.me.1 ≡ []) where
+  only : Looked (watched (setting_of s)) r.ran.world s.me.0.own.number Wait r.stride.read r.stride.told t.me.0.own.knows.sight
+  only = subst (λ d. Did (watched (setting_of s)) r.ran.world s.me.0.own.number d r.stride.read r.stride.told t.me.0.own.knows.sight) r.did r.ran.did
 
-  pub may_meet : (slots id : ℕ) → Allows (IsKept (list_by x).setting) slots id t.me 0 (λ n. n) (λ n u. met_at n t.me u)
-  may_meet slots id = meets_kept (list_by x).setting slots id t.me (guest_of o.me.0) s.me.0.guests guests_t some_t
+  stays : stands_of t ≡ stands_of s
+  stays = ap (λ (y : ListSight). y.stands) only.leads ∙ r.ran.meets.stands
 
-  module _ (u : Token) (q : ℕ) (met : met_at q t.me u.me) where
-    told : (w v : View) × Strode t.me.0 (looks Wait) q w × Strode (view_of t.me.0.setting (guest_of o.me.0)) (looks Wait) q v × (w.sight.seen ≡ v.sight.seen)
-        × (o.me.0.number ≢ t.me.0.number) × (u.me ≡ (record w { guests = guest_of v ∷ s.me.0.guests }, t.me.1))
-    told = met (guest_of o.me.0) s.me.0.guests guests_t
+  pub journal_seen : seen_of t ≡ r.ran.world.journal
+  journal_seen = ap (λ (y : ListSight). y.seen) only.leads
 
-    abbrev w : View
-    w = told.0
+  pub looks_at : LooksAt (seat_of s n) Wait q (seat_of t n)
+  looks_at = subst (λ i. LooksAt (record (seat_of s n) { number = i }) Wait q (record (seat_of t n) { number = i })) seat.token_is.number_is (record {
+    same = λ i. record {
+      list = record { id = same i; setting = r.same.1 i };
+      number = s.me.0.own.number;
+      sight = t.me.0.own.knows.sight;
+      strides = t.me.0.own.gone;
+    };
+    stride = r.stride;
+    ran = r.ran;
+    did = r.did;
+    read = r.read;
+    one = r.one;
+    stays = stays;
+    later = stride_grows (watched (setting_of s)) s.me.0.own.number s.me.0.own.knows.sight t.me.0.own.knows.sight r.stride r.ran;
+  })
 
-    abbrev v : View
-    v = told.1
+  pub looked_seat : IsSeat t n
+  looked_seat = record {
+    token_is = record {
+      bare = bare;
+      number_is = r.same.0 ∙ seat.token_is.number_is;
+      there = let e = ap (λ (z : Setting). z.seats) r.same.1 in let h = seat.token_is.there in omega arith;
+      few = let e = ap (λ (z : Setting). z.seats) r.same.1 in let h = seat.token_is.few in omega arith;
+      lands = subst (λ i. Lands i t.me.0.own.knows) (sym r.same.0) r.also.lands;
+    };
+    free = ap (λ (y : ListSeat). is_free y.place) stays ∙ seat.free;
+    holds_none = ap (λ (y : ListSeat). y.ticket) stays ∙ seat.holds_none;
+  }
 
-    is : u.me ≡ (record w { guests = guest_of v ∷ s.me.0.guests }, t.me.1)
-    is = told.6
-
-    w_setting : w.setting ≡ t.me.0.setting
-    w_setting = ap (λ (y : View). y.setting) told.2.same
-
-    v_setting : v.setting ≡ t.me.0.setting
-    v_setting = ap (λ (y : View). y.setting) told.3.same
-
-    some_u : IsSomeones u.me.0
-    some_u = subst (λ (z : Setting). 0 < z.seats) (sym (ap (λ (m : Me). m.0.setting) is ∙ w_setting)) some_t
-
-    pub may_part : (id : ℕ) → Splits (IsKept (list_by x).setting) id u.me.0 (parting u.me.0) (parted u.me.0)
-    may_part id = parts_kept (list_by x).setting id u.me.0 (guest_of v) s.me.0.guests (ap (λ (m : Me). m.0.guests) is) some_u
-
-    module _ (a b : Token) (n k : ℕ) (seat_s : IsSeat s n) (seat_o : IsSeat o k) (left : a.me ≡ (parting u.me.0, u.me.1)) (right : b.me ≡ (parted u.me.0, [])) (same_a : a.table_id ≡ s.table_id) (same_b : b.table_id ≡ o.table_id) where
-      left_is : a.me.0 ≡ record w { made = w.made; guests = s.me.0.guests }
-      left_is = ap (λ (m : Me). m.0) left ∙ ap (λ (m : Me). parting m.0) is
-
-      right_is : b.me.0 ≡ record v { made = 0; guests = [] }
-      right_is = ap (λ (m : Me). m.0) right ∙ ap (λ (m : Me). parted m.0) is ∙ ap (λ (z : Setting). view_of z (guest_of v)) (w_setting ∙ sym v_setting)
-
-      left_bare : a.me.1 ≡ []
-      left_bare = ap (λ (m : Me). m.1) left ∙ ap (λ (m : Me). m.1) is ∙ ap (λ (m : Me). m.1) joined ∙ seat_s.token_is.bare
-
-      right_bare : b.me.1 ≡ []
-      right_bare = ap (λ (m : Me). m.1) right
-
-      strode_s : Strode (record s.me.0 { made = s.me.0.made; guests = guest_of o.me.0 ∷ s.me.0.guests }) (looks Wait) q w
-      strode_s = subst (λ (y : View). Strode y (looks Wait) q w) (ap (λ (m : Me). m.0) joined) told.2
-
-      strode_o : Strode (record o.me.0 { made = 0; guests = [] }) (looks Wait) q v
-      strode_o = subst (λ (z : Setting). Strode (view_of z (guest_of o.me.0)) (looks Wait) q v) (ap (λ (m : Me). m.0.setting) joined ∙ sym settings) told.3
-
-      pub one_seat : IsSeat a n
-      one_seat = met_seat s a n q s.me.0.made (guest_of o.me.0 ∷ s.me.0.guests) w seat_s strode_s same_a left_bare w.made s.me.0.guests left_is
-
-      pub other_seat : IsSeat b k
-      other_seat = met_seat o b k q 0 [] v seat_o strode_o same_b right_bare 0 [] right_is
-
-      pub have_met : HasMet (seat_of s n) (seat_of o k) (seat_of a n) (seat_of b k)
-      have_met = record {
-        number = q;
-        one_looked = met_looks s a n q s.me.0.made (guest_of o.me.0 ∷ s.me.0.guests) w seat_s strode_s same_a left_bare w.made s.me.0.guests left_is;
-        other_looked = met_looks o b k q 0 [] v seat_o strode_o same_b right_bare 0 [] right_is;
-        same = ap (λ (y : View). y.sight.seen) left_is ∙ told.4 ∙ sym (ap (λ (y : View). y.sight.seen) right_is);
-        two = λ e. told.5 (seat_o.token_is.number_is ∙ sym e ∙ sym seat_s.token_is.number_is ∙ sym (ap (λ (m : Me). m.0.number) joined));
-      }
+pub have_met : (s o a b : Token) (n k q : ℕ) (seat_s : IsSeat s n) (seat_o : IsSeat o k) (m : Met list_rows Wait s.me.0.own o.me.0.own q a.me.0.own b.me.0.own)
+    → a.table_id ≡ s.table_id → b.table_id ≡ o.table_id → a.me.1 ≡ [] → b.me.1 ≡ [] → HasMet (seat_of s n) (seat_of o k) (seat_of a n) (seat_of b k)
+have_met s o a b n k q seat_s seat_o m same_a same_b bare_a bare_b = record {
+  number = q;
+  one_looked = looks_at s a n q seat_s m.one same_a bare_a;
+  other_looked = looks_at o b k q seat_o m.other same_b bare_b;
+  same = journal_seen s a n q seat_s m.one same_a bare_a ∙ ap (λ (w : ListWorld). w.journal) m.together ∙ sym (journal_seen o b k q seat_o m.other same_b bare_b);
+  two = λ e. m.two (seat_s.token_is.number_is ∙ e ∙ sym seat_o.token_is.number_is);
+}

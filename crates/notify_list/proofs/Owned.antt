@@ -3,7 +3,8 @@ use Rattle.std.proofs.Common.{◌≡◌, ℕ, ◌+◌, ◌<◌, sym, ap, ◌∙�
 use Rattle.notify_list.specs.declared.notify_list.NotifyList.TheInside.{Inside}
 use Rattle.notify_list.specs.Seats.{ListModel, SeatModel, Token, list_of, seat_of}
 use Rattle.notify_list.specs.Shared.{IsList, list_by}
-use Rattle.notify_list.specs.Rule.{IsSomeones}
+use Rattle.running_rows.specs.Rule.{IsSomeones}
+use Rattle.notify_list.specs.Rows.{list_rows}
 
 abbrev pub Made : Inside → Type 0
 Made x = IsList (list_by x).id (list_by x).setting x.seats
@@ -13,11 +14,15 @@ pub own : (x : Inside) (s : Token) (n : ℕ) {l : ListModel} {seat : SeatModel} 
 own x s n is seen of = ap (λ (y : SeatModel). y.list) seen ∙ of ∙ sym is
 
 -- a word before the first word of the sleepers lies in the list
-pub low_word : (x : Inside) → Made x → (i : ℕ) → i < 3 → i < x.table.shared.table_id.words
+pub low_word : (x : Inside) → Made x → (i : ℕ) → i < 3 → i < x.words.table.shared.table_id.words
 low_word x made i low = let w = made.words in omega arith
 
-pub grant_low : (x : Inside) → Made x → (i : ℕ) → i < x.table.shared.key.seats → 3 + i < x.table.shared.table_id.words
+pub grant_low : (x : Inside) → Made x → (i : ℕ) → i < x.words.table.shared.key.seats → 3 + i < x.words.table.shared.table_id.words
 grant_low x made i low = let w = made.words in omega arith
 
-pub someones : (x : Inside) → Made x → (s : Token) → list_of s ≡ list_by x → IsSomeones s.me.0
-someones x made s own = subst (λ (y : ListModel). 0 < y.setting.seats) (sym own) (let a = made.some in let c = made.seated in omega arith)
+-- a seat of the list may step
+pub owned : (x : Inside) → Made x → (s : Token) → list_of s ≡ list_by x → (s.table_id ≡ x.words.table.shared.table_id) × IsSomeones list_rows s.me.0
+owned x made s own = (
+  ap (λ (y : ListModel). y.id) own,
+  subst (λ (y : ListModel). 0 < y.setting.seats) (sym own) (let a = made.some in let c = made.seated in omega arith),
+)

@@ -8,6 +8,7 @@ use mathlib.Core.Logic.{dite}
 use mathlib.Core.Option.{some}
 use native.Mathlib.Decide.{ℕ_discrete}
 use lib.ListN.{get_elem?}
+use Rattle.running_rows.specs.Table.{State}
 use Rattle.step_table.specs.declared.list_place.ListPlace.TheVariants.{Rest}
 use Rattle.step_table.specs.declared.list_place.ListWord.TheVariants.{Wait, Notify}
 use Rattle.step_table.specs.World.{put}
@@ -19,21 +20,22 @@ use Rattle.list_law.proofs.ListAccounts.{the_list_accounts}
 use Rattle.list_law.proofs.ListPromises.{the_list_law}
 use Rattle.list_law.specs.ListPlaces.{ReachedList}
 use Rattle.notify_list.specs.declared.closed.ListClosed.{ListClosed}
-use Rattle.notify_list.specs.declared.view.View.{View}
-use Rattle.notify_list.specs.declared.view.Guest.{Guest}
+use Rattle.notify_list.specs.declared.view.Record.{Record}
 use Rattle.notify_list.specs.declared.view.Setting.{Setting}
 use Rattle.notify_list.specs.Places.{is_free, at_place}
-use Rattle.notify_list.specs.Rule.{IsMet, IsSomeones, In, AreApart, view_of, watched, Sits, HasSeats, IsKept}
+use Rattle.running_rows.specs.Rule.{IsSomeones, In, AreApart, Sits, HasSeats, IsKept}
+use Rattle.notify_list.specs.Rule.{IsMet, watched}
+use Rattle.notify_list.specs.Rows.{list_rows}
+use Rattle.notify_list.specs.Plays.{OneSeat, ListView}
 use Rattle.notify_list.specs.Seats.{SeatModel}
-use Rattle.notify_list.specs.Meeting.{guest_of}
-use Rattle.notify_list.specs.Closing.{IsGuestOf, AreGuestsOf, IsClosed}
+use Rattle.notify_list.specs.Closing.{IsSeatOf, AreSeatsOf, IsClosed}
 use Rattle.notify_list.proofs.Beginning.{with_seat, comes_to_rest}
-use Rattle.notify_list.proofs.Keeping.{Kept, laws_of}
+use Rattle.notify_list.proofs.Keeping.{laws_of}
 
-abbrev numbers : List Guest → List ℕ
+abbrev numbers : List OneSeat → List ℕ
 numbers = map (λ g. g.number)
 
-differ : (gs : List Guest) (k : ℕ) → ((h : Guest) → In h gs → h.number ≢ k) → AllByRecursion (λ y. eqb k y ≡ false) (numbers gs)
+differ : (gs : List OneSeat) (k : ℕ) → ((h : OneSeat) → In h gs → h.number ≢ k) → AllByRecursion (λ y. eqb k y ≡ false) (numbers gs)
 differ [] k ne = tt
 differ (g ∷ gs) k ne = (unequal (cases_Bool (eqb k g.number)), differ gs k (λ h e. ne h (inr e)))
   where
@@ -41,25 +43,25 @@ differ (g ∷ gs) k ne = (unequal (cases_Bool (eqb k g.number)), differ gs k (λ
     unequal (inl e) = absurd (ne g (inl refl) (let q : g.number ≡ k = grind (arith, nat_tests) in q))
     unequal (inr e) = e
 
-distinct : (gs : List Guest) → AreApart gs → IsDistinct eqb (numbers gs)
+distinct : (gs : List OneSeat) → AreApart gs → IsDistinct eqb (numbers gs)
 unfolding IsDistinct
 distinct [] apart = tt
 distinct (g ∷ gs) apart = (differ gs g.number apart.0, distinct gs apart.1)
 
-found_in : (gs : List Guest) (k : ℕ) → list_any (eqb k) (numbers gs) ≡ true → (g : Guest) × In g gs × (g.number ≡ k)
+found_in : (gs : List OneSeat) (k : ℕ) → list_any (eqb k) (numbers gs) ≡ true → (g : OneSeat) × In g gs × (g.number ≡ k)
 found_in [] k e = absurd (cc)
 found_in (g ∷ gs) k e = by (eqb k g.number) refl e (found_in gs k)
   where
     by : (b : Bool) → eqb k g.number ≡ b → (b || list_any (eqb k) (numbers gs)) ≡ true
-        → (list_any (eqb k) (numbers gs) ≡ true → (h : Guest) × In h gs × (h.number ≡ k)) → (h : Guest) × In h (g ∷ gs) × (h.number ≡ k)
+        → (list_any (eqb k) (numbers gs) ≡ true → (h : OneSeat) × In h gs × (h.number ≡ k)) → (h : OneSeat) × In h (g ∷ gs) × (h.number ≡ k)
     by true is e rest = (g, inl refl, (let q : g.number ≡ k = grind (arith, nat_tests) in q))
     by false is e rest = let o = rest e in (o.0, inr o.1, o.2)
 
-long_numbers : (gs : List Guest) → length (numbers gs) ≡ length gs
+long_numbers : (gs : List OneSeat) → length (numbers gs) ≡ length gs
 long_numbers [] = refl
 long_numbers (g ∷ gs) = ap suc (long_numbers gs)
 
-absent_from : (gs : List Guest) (k : ℕ) → list_any (eqb k) (numbers gs) ≡ false → AllByRecursion (λ y. eqb k y ≡ false) (numbers gs)
+absent_from : (gs : List OneSeat) (k : ℕ) → list_any (eqb k) (numbers gs) ≡ false → AllByRecursion (λ y. eqb k y ≡ false) (numbers gs)
 absent_from [] k e = tt
 absent_from (g ∷ gs) k e = by (eqb k g.number) refl e (absent_from gs k)
   where
@@ -69,13 +71,13 @@ absent_from (g ∷ gs) k e = by (eqb k g.number) refl e (absent_from gs k)
     by true is e rest = absurd (cc)
     by false is e rest = (is, rest e)
 
-one_more_distinct : (gs : List Guest) (k : ℕ) → AreApart gs → list_any (eqb k) (numbers gs) ≡ false → IsDistinct eqb (k ∷ numbers gs)
+one_more_distinct : (gs : List OneSeat) (k : ℕ) → AreApart gs → list_any (eqb k) (numbers gs) ≡ false → IsDistinct eqb (k ∷ numbers gs)
 unfolding IsDistinct
 one_more_distinct gs k apart e = (absent_from gs k e, distinct gs apart)
 
 -- so many seats, all different, are all seats
-each_is_in : (n : ℕ) (gs : List Guest) → AreApart gs → ((g : Guest) → In g gs → g.number < n) → length gs ≡ n → (k : ℕ) → k < n
-    → (g : Guest) × In g gs × (g.number ≡ k)
+each_is_in : (n : ℕ) (gs : List OneSeat) → AreApart gs → ((g : OneSeat) → In g gs → g.number < n) → length gs ≡ n → (k : ℕ) → k < n
+    → (g : OneSeat) × In g gs × (g.number ≡ k)
 each_is_in n gs apart low full k there = by (cases_Bool (list_any (eqb k) (numbers gs)))
   where
     below : (q : ℕ) → list_any (eqb q) (k ∷ numbers gs) ≡ true → q < n
@@ -85,29 +87,29 @@ each_is_in n gs apart low full k there = by (cases_Bool (list_any (eqb k) (numbe
         at_head true is e = (let same : q ≡ k = grind (arith, nat_tests) in omega arith)
         at_head false is e = (let o = found_in gs q e in let l = low o.0 o.1 in let s = o.2 in omega arith)
 
-    by : (list_any (eqb k) (numbers gs) ≡ true) ⊎ (list_any (eqb k) (numbers gs) ≡ false) → (g : Guest) × In g gs × (g.number ≡ k)
+    by : (list_any (eqb k) (numbers gs) ≡ true) ⊎ (list_any (eqb k) (numbers gs) ≡ false) → (g : OneSeat) × In g gs × (g.number ≡ k)
     by (inl e) = found_in gs k e
     by (inr e) = let most = length-le_from_distinct_below (k ∷ numbers gs) n (one_more_distinct gs k apart e) below in
         let l = long_numbers gs in absurd (omega arith)
 
-long : (gs : List Guest) (ss : List SeatModel) → AreGuestsOf gs ss → length gs ≡ length ss
+long : (gs : List OneSeat) (ss : List SeatModel) → AreSeatsOf gs ss → length gs ≡ length ss
 long [] [] are = refl
 long (g ∷ gs) (s ∷ ss) are = ap suc (long gs ss are.1)
 long [] (s ∷ ss) are = absurd are
 long (g ∷ gs) [] are = absurd are
 
 -- the seat of a guest
-seat_for : (gs : List Guest) (ss : List SeatModel) → AreGuestsOf gs ss → (g : Guest) → In g gs → (s : SeatModel) × In s ss × IsGuestOf g s
+seat_for : (gs : List OneSeat) (ss : List SeatModel) → AreSeatsOf gs ss → (g : OneSeat) → In g gs → (s : SeatModel) × In s ss × IsSeatOf g s
 seat_for [] ss are g e = absurd e
 seat_for (h ∷ gs) [] are g e = absurd are
-seat_for (h ∷ gs) (s ∷ ss) are g (inl e) = (s, inl refl, subst (λ (x : Guest). IsGuestOf x s) e are.0)
+seat_for (h ∷ gs) (s ∷ ss) are g (inl e) = (s, inl refl, subst (λ (x : OneSeat). IsSeatOf x s) e are.0)
 seat_for (h ∷ gs) (s ∷ ss) are g (inr e) = let o = seat_for gs ss are.1 g e in (o.0, inr o.1, o.2)
 
 -- the guest of a seat
-guest_for : (gs : List Guest) (ss : List SeatModel) → AreGuestsOf gs ss → (s : SeatModel) → In s ss → (g : Guest) × In g gs × IsGuestOf g s
+guest_for : (gs : List OneSeat) (ss : List SeatModel) → AreSeatsOf gs ss → (s : SeatModel) → In s ss → (g : OneSeat) × In g gs × IsSeatOf g s
 guest_for gs [] are s e = absurd e
 guest_for [] (t ∷ ss) are s e = absurd are
-guest_for (g ∷ gs) (t ∷ ss) are s (inl e) = (g, inl refl, subst (λ (x : SeatModel). IsGuestOf g x) e are.0)
+guest_for (g ∷ gs) (t ∷ ss) are s (inl e) = (g, inl refl, subst (λ (x : SeatModel). IsSeatOf g x) e are.0)
 guest_for (g ∷ gs) (t ∷ ss) are s (inr e) = let o = guest_for gs ss are.1 s e in (o.0, inr o.1, o.2)
 
 -- the seats below n rest, and nothing else has changed
@@ -139,24 +141,19 @@ all_rest z was met free (suc n) low =
       others = λ k h. put_else o.world.seats n a k (λ q. absurd (omega arith)) ∙ o.others k (omega arith);
     }
 
-module _ (z : Setting) (s : Kept) (r : IsKept z s) (id : ℕ) (v : View) (someones : IsSomeones v) (at : get_elem? s.views id ≡ some v) (seats : List SeatModel) (are : AreGuestsOf (guest_of v ∷ v.guests) seats) (full : length seats ≡ z.seats) where
-  abbrev all : List Guest
-  all = guest_of v ∷ v.guests
+module _ (z : Setting) (s : State Record ListView) (r : IsKept list_rows z s) (id : ℕ) (v : ListView) (someones : IsSomeones list_rows v) (at : get_elem? s.views id ≡ some v) (seats : List SeatModel) (are : AreSeatsOf (v.own ∷ v.guests) seats) (full : length seats ≡ z.seats) where
+  abbrev all : List OneSeat
+  all = v.own ∷ v.guests
 
-  here : HasSeats z r.world r.spot r.made id v
+  here : HasSeats list_rows z r.world r.spot r.made id v
   here = r.views id v at someones
 
-  sits : (g : Guest) → In g all → Sits z r.world r.spot r.made id (view_of z g)
-  sits g (inl e) = subst (λ (x : Guest). Sits z r.world r.spot r.made id (view_of z x)) e (let o = here.own in record {
-    place_is = o.place_is;
-    is_made = o.is_made;
-    setting_is = refl;
-    knows = record { meets = o.knows.meets; held = o.knows.held };
-  })
+  sits : (g : OneSeat) → In g all → Sits list_rows z r.world r.spot r.made id g
+  sits g (inl e) = subst (λ (x : OneSeat). Sits list_rows z r.world r.spot r.made id x) e here.own
   sits g (inr e) = here.guests g e
 
   -- each seat of the list is a guest's
-  guest_there : (k : ℕ) → k < z.seats → (g : Guest) × In g all × (g.number ≡ k)
+  guest_there : (k : ℕ) → k < z.seats → (g : OneSeat) × In g all × (g.number ≡ k)
   guest_there = each_is_in z.seats all (here.others, here.apart)
       (λ g e. let o = sits g e in let a = o.is_made in let f = r.fits in omega arith) (long all seats are ∙ full)
 
@@ -167,10 +164,10 @@ module _ (z : Setting) (s : Kept) (r : IsKept z s) (id : ℕ) (v : View) (someon
       (ap (λ (y : ListSeat). is_free y.place) e ∙ q.2.free, ap (λ (y : ListSeat). y.ticket) e ∙ q.2.holds_none)
 
   rested : Rested z r.world z.seats
-  rested = all_rest z r.world r.met (λ k h. (stands k h).0) z.seats (omega arith)
+  rested = all_rest z r.world r.shows.met (λ k h. (stands k h).0) z.seats (omega arith)
 
   laws : ReachedList z.first z.seats rested.world
-  laws = laws_of z rested.world r.few rested.met
+  laws = laws_of z rested.world r.shows.few rested.met
 
   holds_none : (k : ℕ) → k < z.seats → (rested.world.seats k).ticket ≡ None
   holds_none k h = rested.tickets k ∙ (stands k h).1
@@ -197,6 +194,6 @@ module _ (z : Setting) (s : Kept) (r : IsKept z s) (id : ℕ) (v : View) (someon
         begins = λ t e. subst (λ j. GoesOn j t.sight.seen) (sym rested.journal) (has_seen t e).0;
         own = λ t e. subst (λ j. own_entries (watched z) t.number j ≡ own_entries (watched z) t.number t.sight.seen) (sym rested.journal) (has_seen t e).1;
         granted = sym told_all.0;
-        next = next ∙ r.words Wait tt ∙ ap (λ g. g.wait) (sym rested.words) ∙ laws.lawful.journal.1;
-        notified = notified ∙ r.words Notify tt ∙ ap (λ g. g.notify) (sym rested.words) ∙ laws.lawful.journal.2;
+        next = next ∙ r.shows.words Wait tt ∙ ap (λ g. g.wait) (sym rested.words) ∙ laws.lawful.journal.1;
+        notified = notified ∙ r.shows.words Notify tt ∙ ap (λ g. g.notify) (sym rested.words) ∙ laws.lawful.journal.2;
       }

@@ -1,7 +1,7 @@
 -- The record while a seat holds the lock.
 use Rattle.std.proofs.Common.{◌≡◌, ℕ, ◌+◌, ◌==◌, if◌then◌else◌, Bool, true, false, List, [], ◌∷◌, length, Option, Some, None, IsSome, unwrap_or, sym, refl, ap, ◌∙◌, subst, arith}
-use Rattle.atomic_table.specs.Table.{Allows, rest}
-use Rattle.atomic_table.specs.Lent.{seat_with}
+use Rattle.running_rows.specs.Table.{rest}
+use Rattle.running_rows.specs.Lent.{seat_with}
 use Rattle.waiters.specs.declared.wait.Wait.{Wait}
 use Rattle.waiters.specs.Lists.{Lists, IsOpen, waits_at, Changes, first_with, without_first}
 use Rattle.step_table.specs.ListErased.{erased_wait}
@@ -11,24 +11,23 @@ use Rattle.step_table.specs.ListWorld.{ListSeat, ListWorld, queue_after}
 use Rattle.step_table.specs.ListTable.{list_table}
 use Rattle.list_law.specs.ListLawful.{holds}
 use Rattle.notify_list.specs.declared.view.Setting.{Setting}
-use Rattle.notify_list.specs.Rule.{IsRecord, IsKept, IsSomeones}
-use Rattle.notify_list.specs.Plays.{Me, Ran}
-use Rattle.notify_list.specs.Seats.{Token}
-use Rattle.notify_list.specs.Walks.{HasRecord, Edited, stands_of}
+use Rattle.notify_list.specs.Rule.{IsRecord}
+use Rattle.notify_list.specs.Seats.{Token, list_of, queue_of, setting_of, stands_of}
+use Rattle.notify_list.specs.Walks.{HasRecord, Edited}
 use Rattle.notify_list.proofs.Keeping.{Fits}
-use Rattle.notify_list.proofs.Allowing.{gives_at}
+use Rattle.notify_list.proofs.Allowing.{GivesBack, gives_at}
 use Rattle.notify_list.specs.Records.{IsOut}
 
 -- what is lent is the record
-pub lent_record : (s : Token) (lent : Record) → HasRecord s → s.me.1 ≡ (0, lent) ∷ rest s.me.1 → IsRecord s.me.0.setting.seats lent s.me.0.queue
-lent_record s lent h value = subst (λ (y : Record). IsRecord s.me.0.setting.seats y s.me.0.queue) (ap (first_of h.0) (sym h.1 ∙ value)) h.2
+pub lent_record : (s : Token) (lent : Record) → HasRecord s → s.me.1 ≡ (0, lent) ∷ rest s.me.1 → IsRecord (setting_of s).seats lent (queue_of s)
+lent_record s lent h value = subst (λ (y : Record). IsRecord (setting_of s).seats y (queue_of s)) (ap (first_of h.0) (sym h.1 ∙ value)) h.2
   where
     first_of : Record → List (ℕ × Record) → Record
     first_of y [] = y
     first_of y (x ∷ l) = x.1
 
 -- the record is written back to its slot
-pub edited : (s : Token) (y : Record) (queue : List Wait) → HasRecord s → IsRecord s.me.0.setting.seats y queue → Edited s queue (seat_with s 0 y)
+pub edited : (s : Token) (y : Record) (queue : List Wait) → HasRecord s → IsRecord (setting_of s).seats y queue → Edited s queue (seat_with s 0 y)
 edited s y queue h made = (refl, (y, (λ i. (s.me.0, (0, y) ∷ rest (h.1 i))), made))
 
 length_without : (t : ℕ) (l : List Wait) (x : Wait) → first_with t l ≡ Some x → length (without_first t l) + 1 ≡ length l
@@ -45,11 +44,11 @@ pub changed_open : (y : Lists) (z : Lists) (key : ℕ) (l : List Wait) → Chang
 changed_open y z key l c = (subst IsSome (sym c.there) refl, ap (λ o. unwrap_or o []) c.there)
 
 -- no wait has the ticket
-pub out_none : (s : Token) (y : Record) (lists : Lists) (ticket : ℕ) → HasRecord s → IsRecord s.me.0.setting.seats y s.me.0.queue → None ≡ first_with ticket (waits_at y.lists y.key) → lists ≡ y.lists
+pub out_none : (s : Token) (y : Record) (lists : Lists) (ticket : ℕ) → HasRecord s → IsRecord (setting_of s).seats y (queue_of s) → None ≡ first_with ticket (waits_at y.lists y.key) → lists ≡ y.lists
     → IsOut s ticket None (seat_with s 0 (record y { lists = lists }))
 out_none s y lists ticket h is first same = (
-  by (first_with ticket s.me.0.queue) (first ∙ ap (first_with ticket) is.waits ∙ first_erased ticket s.me.0.queue),
-  edited s (record y { lists = lists }) s.me.0.queue h (subst (λ (l : Lists). IsRecord s.me.0.setting.seats (record y { lists = l }) s.me.0.queue) (sym same) is),
+  by (first_with ticket (queue_of s)) (first ∙ ap (first_with ticket) is.waits ∙ first_erased ticket (queue_of s)),
+  edited s (record y { lists = lists }) (queue_of s) h (subst (λ (l : Lists). IsRecord (setting_of s).seats (record y { lists = l }) (queue_of s)) (sym same) is),
 )
   where
     by : (f : Option Wait) → None ≡ erased_found f → f ≡ None
@@ -57,11 +56,11 @@ out_none s y lists ticket h is first same = (
     by (Some x) e = absurd cc
 
 -- the first with the ticket was taken out
-pub out_some : (s : Token) (y : Record) (lists : Lists) (ticket seat : ℕ) (wait : Wait) → HasRecord s → IsRecord s.me.0.setting.seats y s.me.0.queue → Some wait ≡ first_with ticket (waits_at y.lists y.key)
+pub out_some : (s : Token) (y : Record) (lists : Lists) (ticket seat : ℕ) (wait : Wait) → HasRecord s → IsRecord (setting_of s).seats y (queue_of s) → Some wait ≡ first_with ticket (waits_at y.lists y.key)
     → Changes y.lists lists y.key (Some (without_first ticket (waits_at y.lists y.key))) → lists.room ≡ y.lists.room + 1 → seat ≡ wait.id.seat → IsOut s ticket (Some seat) (seat_with s 0 (record y { lists = lists }))
-out_some s y lists ticket seat wait h is first change room same = by (first_with ticket s.me.0.queue) refl (first ∙ ap (first_with ticket) is.waits ∙ first_erased ticket s.me.0.queue)
+out_some s y lists ticket seat wait h is first change room same = by (first_with ticket (queue_of s)) refl (first ∙ ap (first_with ticket) is.waits ∙ first_erased ticket (queue_of s))
   where
-    by : (f : Option Wait) → first_with ticket s.me.0.queue ≡ f → Some wait ≡ erased_found f → IsOut s ticket (Some seat) (seat_with s 0 (record y { lists = lists }))
+    by : (f : Option Wait) → first_with ticket (queue_of s) ≡ f → Some wait ≡ erased_found f → IsOut s ticket (Some seat) (seat_with s 0 (record y { lists = lists }))
     by None e b = absurd cc
     by (Some x) e b =
         let is_it : wait ≡ erased_wait x = cc in
@@ -69,29 +68,33 @@ out_some s y lists ticket seat wait h is first change room same = by (first_with
           x,
           e,
           ap (λ (w : Wait). w.id.seat) (sym is_it) ∙ sym same,
-          edited s (record y { lists = lists }) (without_first ticket s.me.0.queue) h (record {
+          edited s (record y { lists = lists }) (without_first ticket (queue_of s)) h (record {
             opened = c.0;
-            waits = c.1 ∙ ap (without_first ticket) is.waits ∙ without_erased ticket s.me.0.queue;
-            room = let a = is.room in let l = length_without ticket s.me.0.queue x e in omega (arith, room);
+            waits = c.1 ∙ ap (without_first ticket) is.waits ∙ without_erased ticket (queue_of s);
+            room = let a = is.room in let l = length_without ticket (queue_of s) x e in omega (arith, room);
           }),
         )
 
 -- a row that leaves the list of waits leaves the record
-pub record_kept : (s t : Token) → HasRecord s → t.me.1 ≡ s.me.1 → t.me.0.setting.seats ≡ s.me.0.setting.seats → t.me.0.queue ≡ s.me.0.queue → HasRecord t
+pub record_kept : (s t : Token) → HasRecord s → t.me.1 ≡ s.me.1 → (setting_of t).seats ≡ (setting_of s).seats → (queue_of t) ≡ queue_of s → HasRecord t
 record_kept s t h slots seats queue = (h.0, slots ∙ h.1, subst (λ (q : ℕ × List Wait). IsRecord q.0 h.0 q.1) (λ i. (sym seats i, sym queue i)) h.2)
 
+-- it is of the list still
+pub list_edited : (s t : Token) (queue : List Wait) → Edited s queue t → list_of t ≡ list_of s
+list_edited s t queue E = λ i. record { id = E.0 i; setting = (E.1.1 i).0.own.knows.setting }
+
 -- the lock may be given back with what the row makes of the list
-pub gives_edited : (z : Setting) (slots id : ℕ) (s t : Token) (someones : IsSomeones s.me.0) (a : ListSeat) → stands_of s ≡ a → (queue : List Wait) → Edited s queue t → holds a.place ≡ 1
-    → ((w : ListWorld) → s.me.0.queue ≡ w.words.queue → Fits s.me.0.setting (list_table s.me.0.number a w.words) 2 1 0 × (queue_after ((list_table s.me.0.number a w.words).leads 1).1 s.me.0.queue ≡ queue))
-    → Allows (IsKept z) slots id t.me 2 (λ _. 0) (λ _ u. Ran t.me.0 1 u.0 × (u.1 ≡ rest t.me.1))
-gives_edited z slots id s t someones a is queue E holding ready =
-    subst (λ (m : Me). Allows (IsKept z) slots id m 2 (λ _. 0) (λ _ u. Ran m.0 1 u.0 × (u.1 ≡ rest m.1))) (sym E.1.1)
-    (gives_at z slots id (s.me.0, (0, E.1.0) ∷ []) someones a is E.1.0 refl holding
-    (λ w e. let r = ready w e in record { fits = r.0; is_record = subst (IsRecord s.me.0.setting.seats E.1.0) (sym r.1) E.1.2 }))
+pub gives_edited : (k : Setting) (s t : Token) (a : ListSeat) → stands_of s ≡ a → (queue : List Wait) → Edited s queue t → holds a.place ≡ 1
+    → ((w : ListWorld) → (queue_of s) ≡ w.words.queue → Fits (setting_of s) (list_table s.me.0.own.number a w.words) 2 1 0 × (queue_after ((list_table s.me.0.own.number a w.words).leads 1).1 (queue_of s) ≡ queue))
+    → GivesBack k t.me
+gives_edited k s t a is queue E holding ready =
+    subst (GivesBack k) (sym E.1.1)
+    (gives_at k (s.me.0, (0, E.1.0) ∷ []) a is E.1.0 refl holding
+    (λ w e. let r = ready w e in record { fits = r.0; is_record = subst (IsRecord (setting_of s).seats E.1.0) (sym r.1) E.1.2 }))
 
 -- and where the row leaves the list
-pub gives_plain : (z : Setting) (slots id : ℕ) (s : Token) (someones : IsSomeones s.me.0) (a : ListSeat) → stands_of s ≡ a → HasRecord s → holds a.place ≡ 1
-    → ((w : ListWorld) → Fits s.me.0.setting (list_table s.me.0.number a w.words) 2 1 0 × (queue_after ((list_table s.me.0.number a w.words).leads 1).1 s.me.0.queue ≡ s.me.0.queue))
-    → Allows (IsKept z) slots id s.me 2 (λ _. 0) (λ _ u. Ran s.me.0 1 u.0 × (u.1 ≡ rest s.me.1))
-gives_plain z slots id s someones a is h holding ready =
-    gives_at z slots id s.me someones a is h.0 h.1 holding (λ w e. let r = ready w in record { fits = r.0; is_record = subst (IsRecord s.me.0.setting.seats h.0) (sym r.1) h.2 })
+pub gives_plain : (k : Setting) (s : Token) (a : ListSeat) → stands_of s ≡ a → HasRecord s → holds a.place ≡ 1
+    → ((w : ListWorld) → Fits (setting_of s) (list_table s.me.0.own.number a w.words) 2 1 0 × (queue_after ((list_table s.me.0.own.number a w.words).leads 1).1 (queue_of s) ≡ queue_of s))
+    → GivesBack k s.me
+gives_plain k s a is h holding ready =
+    gives_at k s.me a is h.0 h.1 holding (λ w e. let r = ready w in record { fits = r.0; is_record = subst (IsRecord (setting_of s).seats h.0) (sym r.1) h.2 })

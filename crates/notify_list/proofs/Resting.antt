@@ -13,35 +13,35 @@ use Rattle.list_law.specs.ListPath.{ListSight}
 use Rattle.list_law.specs.ListWellFormed.{asleep_on_list}
 use Rattle.list_law.specs.ListPlaces.{ReachedList, GrantsParked}
 use Rattle.list_law.proofs.ListAccounts.{the_list_accounts}
-use Rattle.notify_list.specs.declared.view.View.{View}
 use Rattle.notify_list.specs.Places.{is_free}
 use Rattle.notify_list.specs.declared.view.Setting.{Setting}
 use Rattle.notify_list.specs.Rule.{IsMet, Lands}
-use Rattle.notify_list.specs.Seats.{Token, IsToken}
+use Rattle.notify_list.specs.Plays.{OneSeat}
+use Rattle.notify_list.specs.Seats.{Token, IsToken, setting_of}
 use Rattle.notify_list.proofs.Keeping.{laws_of}
 
-module _ (v : View) (L : Lands v) (there : v.number < v.setting.seats) (few : v.setting.seats ≤ 256) where
-  pub laws_there : ReachedList v.setting.first v.setting.seats L.world
-  laws_there = laws_of v.setting L.world few L.met
+module _ (u : OneSeat) (L : Lands u.number u.knows) (there : u.number < u.knows.setting.seats) (few : u.knows.setting.seats ≤ 256) where
+  pub laws_there : ReachedList u.knows.setting.first u.knows.setting.seats L.world
+  laws_there = laws_of u.knows.setting L.world few L.met
 
-  pub stands_there : L.world.seats v.number ≡ v.sight.stands
+  pub stands_there : L.world.seats u.number ≡ u.knows.sight.stands
   stands_there = ap (λ (y : ListSight). y.stands) (sym L.sees)
 
   -- a seat that isn't parked has room for its wait
-  pub room_there : ((n : ℕ) → asleep_on_list v.sight.stands.place n ≡ 0) → length v.queue < v.setting.seats
+  pub room_there : ((n : ℕ) → asleep_on_list u.knows.sight.stands.place n ≡ 0) → length u.knows.queue < u.knows.setting.seats
   room_there awake =
-      let r = the_list_accounts.room v.setting.first v.setting.seats L.world laws_there.invariant v.number there
-      (ap (λ (y : ListSeat). asleep_on_list y.place (L.world.words.grants v.number)) stands_there ∙ awake (L.world.words.grants v.number)) in
+      let r = the_list_accounts.room u.knows.setting.first u.knows.setting.seats L.world laws_there.invariant u.number there
+      (ap (λ (y : ListSeat). asleep_on_list y.place (L.world.words.grants u.number)) stands_there ∙ awake (L.world.words.grants u.number)) in
       let q = ap length L.queue in omega arith
 
-  fits_there : HandFits v.sight.stands.place (length v.sight.stands.hand)
-  fits_there = subst (λ (y : ListSeat). HandFits y.place (length y.hand)) stands_there (laws_there.invariant.seats_known v.number there).fits
+  fits_there : HandFits u.knows.sight.stands.place (length u.knows.sight.stands.hand)
+  fits_there = subst (λ (y : ListSeat). HandFits y.place (length y.hand)) stands_there (laws_there.invariant.seats_known u.number there).fits
 
   -- a seat that may begin a call has nothing in hand
-  pub empty_there : is_free v.sight.stands.place ≡ true → v.sight.stands.hand ≡ []
-  empty_there free = none v.sight.stands.hand (by v.sight.stands.place free fits_there)
+  pub empty_there : is_free u.knows.sight.stands.place ≡ true → u.knows.sight.stands.hand ≡ []
+  empty_there free = none u.knows.sight.stands.hand (by u.knows.sight.stands.place free fits_there)
     where
-      by : (p : ListPlace) → is_free p ≡ true → HandFits p (length v.sight.stands.hand) → length v.sight.stands.hand ≡ 0
+      by : (p : ListPlace) → is_free p ≡ true → HandFits p (length u.knows.sight.stands.hand) → length u.knows.sight.stands.hand ≡ 0
       by Rest e f = f
       by (NotifyingOne h O3) e f = f
       by _ e f = absurd (cc)
@@ -50,7 +50,7 @@ module _ (v : View) (L : Lands v) (there : v.number < v.setting.seats) (few : v.
       none [] e = refl
       none (x ∷ l) e = absurd (omega arith)
 
-pub there_of : (t : Token) (n : ℕ) → IsToken t n → t.me.0.number < t.me.0.setting.seats
+pub there_of : (t : Token) (n : ℕ) → IsToken t n → t.me.0.own.number < (setting_of t).seats
 there_of t n is = let a = is.number_is in let b = is.there in omega arith
 
 -- a seat that is about to grant grants another, which is there and wasn't granted

@@ -7,13 +7,16 @@ use Rattle.step_table.specs.ListWorld.{Numbers, ListSeat, Took}
 use Rattle.list_law.specs.ListLawful.{told}
 use Rattle.list_law.specs.ListPath.{ListSight}
 use Rattle.list_law.specs.ListPlaces.{ReachedList}
+use Rattle.running_rows.specs.Strides.{RanRow}
+use Rattle.running_rows.proofs.Telling.{went_from}
 use Rattle.notify_list.specs.Places.{at_place}
-use Rattle.notify_list.specs.Plays.{Ran, standing}
-use Rattle.notify_list.specs.Seats.{Token, seat_of, IsToken, IsSeat, IsHolding}
+use Rattle.notify_list.specs.Rows.{list_rows}
+use Rattle.notify_list.specs.Plays.{Me, standing, at_ticket}
+use Rattle.notify_list.specs.Seats.{Token, seat_of, IsToken, IsSeat, IsHolding, setting_of, stands_of}
 use Rattle.notify_list.specs.Walks.{Walked}
 use Rattle.notify_list.specs.Tickets.{with_held, IsAdded, HasTicket}
 use Rattle.notify_list.proofs.Keeping.{laws_of}
-use Rattle.notify_list.proofs.Leading.{Led, led}
+use Rattle.notify_list.proofs.Leading.{Ran, Led, led}
 use Rattle.notify_list.proofs.Walking.{walked_row, token_after, calls, comes_to}
 
 pub next_is : (n : ℕ) → (n + 1) % 2 ^ 64 ≡ next_word n
@@ -21,33 +24,36 @@ unfolding next_word
 next_is n = refl
 
 -- N1
-module _ (s t : Token) (n word : ℕ) (seat : IsSeat s n) (r : Ran (standing (at_place Adding s.me.0.sight.stands) s.me.0) word t.me.0) (same : t.table_id ≡ s.table_id) (slots : t.me.1 ≡ s.me.1) where
-  d : Led (standing (at_place Adding s.me.0.sight.stands) s.me.0) word t.me.0 r.stride
-  d = led (standing (at_place Adding s.me.0.sight.stands) s.me.0) t.me.0 word r
+module _ (s t : Token) (n word : ℕ) (seat : IsSeat s n) (x : RanRow list_rows at_ticket s.me word t.me) (same : t.table_id ≡ s.table_id) where
+  r : Ran (at_place Adding (stands_of s)) s.me.0.own word t.me.0.own
+  r = went_from list_rows at_ticket (standing (at_place Adding (stands_of s))) s.me.0.own t.me.0.own word refl x.0
+
+  d : Led (at_place Adding (stands_of s)) s.me.0.own word t.me.0.own r.stride
+  d = led (at_place Adding (stands_of s)) s.me.0.own t.me.0.own word r
 
   abbrev ticket : Ticket
   ticket = record { word = word; number = d.world.words.numbers.handed }
 
-  abbrev walked : Walked s (at_place Adding s.me.0.sight.stands) t (with_held ticket s.me.0.sight.stands) (Took s.me.0.number ∷ []) ((Adding, word) ∷ [])
-  walked = walked_row s t (at_place Adding s.me.0.sight.stands) word (with_held ticket s.me.0.sight.stands) (Took s.me.0.number ∷ []) r same d.stands d.told
+  abbrev walked : Walked s (at_place Adding (stands_of s)) t (with_held ticket (stands_of s)) (Took s.me.0.own.number ∷ []) ((Adding, word) ∷ [])
+  walked = walked_row s t (at_place Adding (stands_of s)) word (with_held ticket (stands_of s)) (Took s.me.0.own.number ∷ []) r same d.stands d.told
 
-  laws : ReachedList s.me.0.setting.first s.me.0.setting.seats d.world
-  laws = laws_of s.me.0.setting d.world (seat.token_is.few) d.met
+  laws : ReachedList (setting_of s).first (setting_of s).seats d.world
+  laws = laws_of (setting_of s) d.world (seat.token_is.few) d.met
 
   pub added : IsAdded (seat_of s n) (seat_of t n)
   added = subst (λ k. IsAdded (record (seat_of s n) { number = k }) (record (seat_of t n) { number = k })) seat.token_is.number_is (record {
     ticket = ticket;
-    comes = let c = comes_to s t s.me.0.number (at_place Adding s.me.0.sight.stands) (with_held ticket s.me.0.sight.stands) (Took s.me.0.number ∷ []) ((Adding, word) ∷ []) walked in c;
-    call = calls s t s.me.0.number (at_place Adding s.me.0.sight.stands) (with_held ticket s.me.0.sight.stands) (Took s.me.0.number ∷ []) ((Adding, word) ∷ []) own_token walked;
+    comes = let c = comes_to s t s.me.0.own.number (at_place Adding (stands_of s)) (with_held ticket (stands_of s)) (Took s.me.0.own.number ∷ []) ((Adding, word) ∷ []) walked in c;
+    call = calls s t s.me.0.own.number (at_place Adding (stands_of s)) (with_held ticket (stands_of s)) (Took s.me.0.own.number ∷ []) ((Adding, word) ∷ []) own_token walked;
     next = record {
       before = r.stride.seen;
       seen_is = d.seen ∙ ap (λ l. r.stride.seen ++ l) d.told;
       number_is = ap (λ (x : Numbers). x.handed) (numbers_are ∙ ap told (sym d.seen_is));
-      word_is = d.read ∙ laws.lawful.journal.1 ∙ ap (λ (x : Numbers). word_of s.me.0.setting.first x.handed) (sym numbers_are);
+      word_is = d.read ∙ laws.lawful.journal.1 ∙ ap (λ (x : Numbers). word_of (setting_of s).first x.handed) (sym numbers_are);
     };
   })
     where
-      own_token : IsToken s s.me.0.number
+      own_token : IsToken s s.me.0.own.number
       own_token = subst (IsToken s) (sym seat.token_is.number_is) seat.token_is
 
       numbers_are : d.world.words.numbers ≡ told d.world.journal
@@ -55,7 +61,7 @@ module _ (s t : Token) (n word : ℕ) (seat : IsSeat s n) (r : Ran (standing (at
 
   pub holding : IsHolding t n word
   holding = record {
-    token_is = token_after s t n (at_place Adding s.me.0.sight.stands) (with_held ticket s.me.0.sight.stands) (Took s.me.0.number ∷ []) ((Adding, word) ∷ []) seat.token_is walked (slots ∙ seat.token_is.bare);
+    token_is = token_after s t n (at_place Adding (stands_of s)) (with_held ticket (stands_of s)) (Took s.me.0.own.number ∷ []) ((Adding, word) ∷ []) seat.token_is walked (ap (λ (m : Me). m.1) x.1 ∙ seat.token_is.bare);
     rests = ap (λ (a : ListSeat). a.place) walked.stands_is;
     ticket = ticket;
     held = ap (λ (a : ListSeat). a.ticket) walked.stands_is;
@@ -66,10 +72,10 @@ module _ (s t : Token) (n word : ℕ) (seat : IsSeat s n) (r : Ran (standing (at
 pub has_ticket : (t : Token) (n word : ℕ) → IsHolding t n word → HasTicket (seat_of t n) word
 has_ticket t n word x =
     let L = x.token_is.lands in
-    let laws = laws_of t.me.0.setting L.world x.token_is.few L.met in
-    let there : t.me.0.number < t.me.0.setting.seats = (let a = x.token_is.number_is in let b = x.token_is.there in omega arith) in
-    let held : (L.world.seats t.me.0.number).ticket ≡ Some x.ticket = ap (λ (v : ListSight). v.stands.ticket) (sym L.sees) ∙ x.held in
-    let H = laws.lawful.held t.me.0.number x.ticket there held in record {
+    let laws = laws_of (setting_of t) L.world x.token_is.few L.met in
+    let there : t.me.0.own.number < (setting_of t).seats = (let a = x.token_is.number_is in let b = x.token_is.there in omega arith) in
+    let held : (L.world.seats t.me.0.own.number).ticket ≡ Some x.ticket = ap (λ (v : ListSight). v.stands.ticket) (sym L.sees) ∙ x.held in
+    let H = laws.lawful.held t.me.0.own.number x.ticket there held in record {
       ticket = x.ticket;
       held = x.held;
       word_is = sym x.word_is;

@@ -1,53 +1,58 @@
 -- The rows by which a notification of all grants the waits that it took out.
-use Rattle.std.proofs.Common.{◌≡◌, ℕ, ◌+◌, ◌<◌, ◌≤◌, nat_lt, if◌then◌else◌, Bool, List, [], ◌∷◌, length, map, take, drop, get_or, zero, suc, sym, refl, ap, ◌∙◌, subst, arith, lt-ltb}
+use Rattle.std.proofs.Common.{◌≡◌, ℕ, ◌+◌, ◌<◌, ◌≤◌, nat_lt, if◌then◌else◌, Bool, List, [], ◌∷◌, length, map, take, drop, get_or, zero, suc, sym, refl, ap, ◌∙◌, subst, arith, append-nil, lt-ltb}
 use Rattle.std.proofs.lemmas.List.{map-append, drop_more, take_more, take_all, drop_all}
+use Rattle.std.proofs.lemmas.List.Elements.{All-nil}
 use Rattle.waiters.specs.declared.wait.Wait.{Wait}
 use Rattle.step_table.specs.declared.list_place.AllRow.TheVariants.{L8}
 use Rattle.step_table.specs.declared.list_place.ListEffect.TheVariants.{Gives}
 use Rattle.step_table.specs.declared.list_place.ListPlace.TheVariants.{Rest, NotifyingAll}
 use Rattle.step_table.specs.ListEvent.{if_any}
 use Rattle.step_table.specs.ListWorld.{ListSeat}
-use Rattle.notify_list.specs.Plays.{Ran, standing}
-use Rattle.notify_list.specs.Seats.{ListModel, Token}
-use Rattle.notify_list.specs.Walks.{Walked, stands_of}
+use Rattle.step_table.specs.Path.{runs}
+use Rattle.list_law.specs.ListPath.{ListStride}
+use Rattle.running_rows.specs.Strides.{RanRow, here}
+use Rattle.notify_list.specs.Rows.{list_rows}
+use Rattle.notify_list.specs.Plays.{Me}
+use Rattle.notify_list.specs.Seats.{ListModel, Token, setting_of, stands_of}
+use Rattle.notify_list.specs.Walks.{Walked}
 use Rattle.notify_list.specs.NotifyingAll.{wake_rows}
 use Rattle.notify_list.specs.GrantingAll.{MayWake, with_waits, WokenFirst, WokenSome}
-use Rattle.notify_list.proofs.Leading.{Led, led}
-use Rattle.notify_list.proofs.Walking.{ran_from, walked_row, walked_on}
+use Rattle.notify_list.proofs.Leading.{Ran, Led, led, ran_from}
+use Rattle.notify_list.proofs.Walking.{walked_row, walked_on}
 use Rattle.notify_list.proofs.Resting.{grants_in, stands_there}
 
 one_less : (h : ℕ) (w : Wait) (rest : List Wait) → (if nat_lt 1 (length (w ∷ rest)) then NotifyingAll h L8 else Rest) ≡ if_any rest (NotifyingAll h L8) Rest
 one_less h w [] = refl
 one_less h w (x ∷ rest) = ap (λ (b : Bool). if b then NotifyingAll h L8 else Rest) (lt-ltb 1 (length (w ∷ x ∷ rest)) (omega arith))
 
-module _ (l : ListModel) (s : Token) (h : ℕ) (w : Wait) (rest : List Wait) (may : MayWake l s h) (hand : s.me.0.sight.stands.hand ≡ w ∷ rest) where
+module _ (l : ListModel) (s : Token) (h : ℕ) (w : Wait) (rest : List Wait) (may : MayWake l s h) (hand : (stands_of s).hand ≡ w ∷ rest) where
   abbrev at8 : ListSeat
-  at8 = record { place = NotifyingAll h L8; ticket = s.me.0.sight.stands.ticket; hand = w ∷ rest; late = s.me.0.sight.stands.late }
+  at8 = record { place = NotifyingAll h L8; ticket = (stands_of s).ticket; hand = w ∷ rest; late = (stands_of s).late }
 
-  pub stands8 : stands_of s ≡ record { place = NotifyingAll h L8; ticket = s.me.0.sight.stands.ticket; hand = w ∷ rest; late = s.me.0.sight.stands.late }
-  stands8 = λ i. record { place = (may.at ∙ ap (λ (q : List Wait). if_any q (NotifyingAll h L8) Rest) hand) i; ticket = s.me.0.sight.stands.ticket; hand = hand i; late = s.me.0.sight.stands.late }
+  pub stands8 : stands_of s ≡ record { place = NotifyingAll h L8; ticket = (stands_of s).ticket; hand = w ∷ rest; late = (stands_of s).late }
+  stands8 = λ i. record { place = (may.at ∙ ap (λ (q : List Wait). if_any q (NotifyingAll h L8) Rest) hand) i; ticket = (stands_of s).ticket; hand = hand i; late = (stands_of s).late }
 
-  pub waiter_there : w.id.seat < s.me.0.setting.seats
-  waiter_there = (grants_in s.me.0.setting may.lands.world s.me.0.number at8 w.id.seat ((if nat_lt 1 (length (w ∷ rest)) then NotifyingAll h L8 else Rest), Gives) may.few may.lands.met may.there
-      (stands_there s.me.0 may.lands may.there may.few ∙ stands8) (λ g. refl)).there
+  pub waiter_there : w.id.seat < (setting_of s).seats
+  waiter_there = (grants_in (setting_of s) may.lands.world s.me.0.own.number at8 w.id.seat ((if nat_lt 1 (length (w ∷ rest)) then NotifyingAll h L8 else Rest), Gives) may.few may.lands.met may.there
+      (stands_there s.me.0.own may.lands may.there may.few ∙ stands8) (λ g. refl)).there
 
-  module _ (t : Token) (n : ℕ) (r : Ran s.me.0 n t.me.0) (same : t.table_id ≡ s.table_id) (slots : t.me.1 ≡ s.me.1) where
-    row8 : Ran (standing at8 s.me.0) n t.me.0
+  module _ (t : Token) (n : ℕ) (r : RanRow list_rows here s.me n t.me) (same : t.table_id ≡ s.table_id) where
+    row8 : Ran at8 s.me.0.own n t.me.0.own
     row8 = ran_from s t at8 n stands8 r
 
-    d8 : Led (standing at8 s.me.0) n t.me.0 row8.stride
-    d8 = led (standing at8 s.me.0) t.me.0 n row8
+    d8 : Led at8 s.me.0.own n t.me.0.own row8.stride
+    d8 = led at8 s.me.0.own t.me.0.own n row8
 
     zero8 : n ≡ 0
-    zero8 = d8.read ∙ (grants_in s.me.0.setting d8.world s.me.0.number at8 w.id.seat ((if nat_lt 1 (length (w ∷ rest)) then NotifyingAll h L8 else Rest), Gives) may.few d8.met may.there d8.stood (λ g. refl)).unset
+    zero8 = d8.read ∙ (grants_in (setting_of s) d8.world s.me.0.own.number at8 w.id.seat ((if nat_lt 1 (length (w ∷ rest)) then NotifyingAll h L8 else Rest), Gives) may.few d8.met may.there d8.stood (λ g. refl)).unset
 
     pub woken_first : WokenFirst s h w rest t
     woken_first = record {
-      walked = subst (λ (y : ListSeat). Walked s y t (with_waits h rest s.me.0.sight.stands) [] ((NotifyingAll h L8, 0) ∷ [])) (sym stands8)
-          (subst (λ k. Walked s at8 t (with_waits h rest s.me.0.sight.stands) [] ((NotifyingAll h L8, k) ∷ [])) zero8
-          (walked_row s t at8 n (with_waits h rest s.me.0.sight.stands) [] row8 same
-          (d8.stands ∙ (λ i. record { place = one_less h w rest i; ticket = s.me.0.sight.stands.ticket; hand = rest; late = s.me.0.sight.stands.late })) d8.told));
-      slots = slots;
+      walked = subst (λ (y : ListSeat). Walked s y t (with_waits h rest (stands_of s)) [] ((NotifyingAll h L8, 0) ∷ [])) (sym stands8)
+          (subst (λ k. Walked s at8 t (with_waits h rest (stands_of s)) [] ((NotifyingAll h L8, k) ∷ [])) zero8
+          (walked_row s t at8 n (with_waits h rest (stands_of s)) [] row8 same
+          (d8.stands ∙ (λ i. record { place = one_less h w rest i; ticket = (stands_of s).ticket; hand = rest; late = (stands_of s).late })) d8.told));
+      slots = ap (λ (m : Me). m.1) r.1;
     }
 
 pub a_wait : Wait
@@ -60,20 +65,21 @@ seat_at (w ∷ waits) (suc n) low = seat_at waits n (omega arith)
 
 -- so many of the waits in hand were granted
 abbrev pub WokenUpTo : Token → ℕ → ℕ → Token → Type 0
-WokenUpTo s h n t = WokenSome s h (take n s.me.0.sight.stands.hand) (drop n s.me.0.sight.stands.hand) t
+WokenUpTo s h n t = WokenSome s h (take n (stands_of s).hand) (drop n (stands_of s).hand) t
 
 pub woken_none : (l : ListModel) (s : Token) (h : ℕ) → MayWake l s h → WokenUpTo s h 0 s
 woken_none l s h may = record {
   walked = record {
     list_is = refl;
     number_is = refl;
-    stands_is = λ i. record s.me.0.sight.stands { place = may.at i };
+    stands_is = λ i. record (stands_of s) { place = may.at i };
     lands = may.lands;
     strides = [];
     path = refl;
+    ran = All-nil (λ (p : ListStride). p.deed ≡ runs);
     rows_are = refl;
     told_is = refl;
-    all = omega arith;
+    all = sym (append-nil s.me.0.own.gone);
   };
   slots = refl;
 }
@@ -88,20 +94,20 @@ module _ (l : ListModel) (s t : Token) (h n : ℕ) (may : MayWake l s h) (x : Wo
     lands = x.walked.lands;
   }
 
-  pub hand_next : n < length s.me.0.sight.stands.hand → t.me.0.sight.stands.hand ≡ get_or s.me.0.sight.stands.hand n a_wait ∷ drop (n + 1) s.me.0.sight.stands.hand
-  hand_next low = ap (λ (y : ListSeat). y.hand) x.walked.stands_is ∙ drop_more s.me.0.sight.stands.hand n a_wait low
+  pub hand_next : n < length (stands_of s).hand → (stands_of t).hand ≡ get_or (stands_of s).hand n a_wait ∷ drop (n + 1) (stands_of s).hand
+  hand_next low = ap (λ (y : ListSeat). y.hand) x.walked.stands_is ∙ drop_more (stands_of s).hand n a_wait low
 
-  pub woken_more : (u : Token) → n < length s.me.0.sight.stands.hand → WokenFirst t h (get_or s.me.0.sight.stands.hand n a_wait) (drop (n + 1) s.me.0.sight.stands.hand) u → WokenUpTo s h (n + 1) u
+  pub woken_more : (u : Token) → n < length (stands_of s).hand → WokenFirst t h (get_or (stands_of s).hand n a_wait) (drop (n + 1) (stands_of s).hand) u → WokenUpTo s h (n + 1) u
   woken_more u low y =
-      let w : Wait = get_or s.me.0.sight.stands.hand n a_wait in
-      let hand : List Wait = s.me.0.sight.stands.hand in
-      let a : ListSeat = with_waits h (drop n hand) s.me.0.sight.stands in
-      let b : ListSeat = with_waits h (drop (n + 1) hand) s.me.0.sight.stands in record {
+      let w : Wait = get_or (stands_of s).hand n a_wait in
+      let hand : List Wait = (stands_of s).hand in
+      let a : ListSeat = with_waits h (drop n hand) (stands_of s) in
+      let b : ListSeat = with_waits h (drop (n + 1) hand) (stands_of s) in record {
         walked = subst (λ rows. Walked s (stands_of s) u b [] rows) (sym (ap (wake_rows h) (take_more hand n a_wait low) ∙ map-append (λ (v : Wait). (NotifyingAll h L8, 0)) (take n hand) (w ∷ [])))
             (walked_on s t u (stands_of s) a b [] [] (wake_rows h (take n hand)) ((NotifyingAll h L8, 0) ∷ []) x.walked
             (subst (λ (q : ListSeat). Walked t q u (with_waits h (drop (n + 1) hand) q) [] ((NotifyingAll h L8, 0) ∷ [])) x.walked.stands_is y.walked));
         slots = y.slots ∙ x.slots;
       }
 
-pub woken_all : (s t : Token) (h n : ℕ) → length s.me.0.sight.stands.hand ≤ n → WokenUpTo s h n t → WokenSome s h s.me.0.sight.stands.hand [] t
-woken_all s t h n all x = subst (λ (q : List Wait × List Wait). WokenSome s h q.0 q.1 t) (λ i. (take_all n s.me.0.sight.stands.hand all i, drop_all n s.me.0.sight.stands.hand all i)) x
+pub woken_all : (s t : Token) (h n : ℕ) → length (stands_of s).hand ≤ n → WokenUpTo s h n t → WokenSome s h (stands_of s).hand [] t
+woken_all s t h n all x = subst (λ (q : List Wait × List Wait). WokenSome s h q.0 q.1 t) (λ i. (take_all n (stands_of s).hand all i, drop_all n (stands_of s).hand all i)) x

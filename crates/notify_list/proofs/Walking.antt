@@ -1,18 +1,19 @@
 -- Rows one after the other, and what they leave of a token.
-use Rattle.std.proofs.Common.{◌≡◌, ℕ, List, [], ◌∷◌, ◌++◌, sym, refl, ap, ◌∙◌, subst, arith, length-append, append-nil, append_assoc}
+use Rattle.std.proofs.Common.{◌≡◌, ℕ, List, [], ◌∷◌, ◌++◌, sym, refl, ap, ◌∙◌, subst, arith, append-nil, append_assoc}
 use Rattle.std.proofs.lemmas.List.{map-append}
+use Rattle.std.proofs.lemmas.List.Elements.{All-nil, All-cons, All-append}
 use Rattle.step_table.specs.declared.list_place.ListPlace.{ListPlace}
 use Rattle.step_table.specs.ListWorld.{ListSeat, ListEntry}
-use Rattle.step_table.specs.Path.{GoesOn, all_told}
+use Rattle.step_table.specs.Path.{GoesOn, runs, all_told}
 use Rattle.step_table.proofs.Paths.{goes_on_more, goes_on_here, stride_told, stride_later}
 use Rattle.list_law.specs.ListPath.{ListSight, ListStride, ListPath, notify_list}
 use Rattle.list_law.proofs.ListPaths.{the_list_paths}
-use Rattle.notify_list.specs.declared.view.View.{View}
 use Rattle.notify_list.specs.declared.view.Setting.{Setting}
-use Rattle.notify_list.specs.Plays.{Ran, standing}
-use Rattle.notify_list.specs.Seats.{ListModel, SeatModel, Token, seat_of, IsToken}
-use Rattle.notify_list.specs.Walks.{Walked, stands_of}
-use Rattle.notify_list.specs.Calls.{TellsIn, Calls, ComesTo, rows_of}
+use Rattle.notify_list.specs.Rule.{Lands}
+use Rattle.notify_list.specs.Seats.{ListModel, SeatModel, Token, seat_of, IsToken, seen_of, setting_of, stands_of}
+use Rattle.notify_list.specs.Walks.{Walked}
+use Rattle.notify_list.specs.Calls.{TellsIn, Calls, ComesTo, AreRows, rows_of}
+use Rattle.notify_list.proofs.Leading.{Ran}
 
 told_append : (a b : List ListStride) → all_told (a ++ b) ≡ all_told a ++ all_told b
 told_append [] b = refl
@@ -21,16 +22,20 @@ told_append (p ∷ a) b = ap (λ l. p.told ++ l) (told_append a b) ∙ sym (appe
 rows_append : (a b : List ListStride) → rows_of (a ++ b) ≡ rows_of a ++ rows_of b
 rows_append a b = map-append (λ (p : ListStride). (p.stood.place, p.read)) a b
 
+ran_append : (a b : List ListStride) → AreRows a → AreRows b → AreRows (a ++ b)
+ran_append a b = All-append (λ (p : ListStride). p.deed ≡ runs) a b
+
 -- one row
-pub walked_row : (s t : Token) (from : ListSeat) (n : ℕ) (stands : ListSeat) (entries : List ListEntry) (r : Ran (standing from s.me.0) n t.me.0) → t.table_id ≡ s.table_id
+pub walked_row : (s t : Token) (from : ListSeat) (n : ℕ) (stands : ListSeat) (entries : List ListEntry) (r : Ran from s.me.0.own n t.me.0.own) → t.table_id ≡ s.table_id
     → stands_of t ≡ stands → r.stride.told ≡ entries → Walked s from t stands entries ((from.place, n) ∷ [])
 walked_row s t from n stands entries r same at told = record {
-  list_is = λ i. record { id = same i; setting = (r.same i).setting };
-  number_is = ap (λ (v : View). v.number) r.same;
+  list_is = λ i. record { id = same i; setting = r.same.1 i };
+  number_is = r.same.0;
   stands_is = at;
-  lands = r.lands;
+  lands = subst (λ k. Lands k t.me.0.own.knows) (sym r.same.0) r.also.lands;
   strides = r.stride ∷ [];
-  path = ((the_list_paths.paths s.me.0.setting.first s.me.0.setting.seats).single s.me.0.number (record { stands = from; seen = s.me.0.sight.seen }) t.me.0.sight r.stride).0 r.ran;
+  path = ((the_list_paths.paths (setting_of s).first (setting_of s).seats).single s.me.0.own.number (record { stands = from; seen = seen_of s }) t.me.0.own.knows.sight r.stride).0 r.ran;
+  ran = let row = λ (p : ListStride). p.deed ≡ runs in All-cons row r.stride [] r.did (All-nil row);
   rows_are = λ i. ((r.ran.stood i).place, r.read i) ∷ [];
   told_is = append-nil r.stride.told ∙ told;
   all = r.one;
@@ -45,17 +50,14 @@ walked_on s t u from a b told more rows others x y = record {
   stands_is = y.stands_is;
   lands = y.lands;
   strides = x.strides ++ y.strides;
-  path = (the_list_paths.paths s.me.0.setting.first s.me.0.setting.seats).joined s.me.0.number (record { stands = from; seen = s.me.0.sight.seen }) t.me.0.sight u.me.0.sight x.strides y.strides x.path
-      (subst (λ (q : Setting × (ℕ × ListSight)). ListPath q.0.first q.0.seats q.1.0 q.1.1 y.strides u.me.0.sight)
-      (λ i. ((x.list_is i).setting, (x.number_is i, record { stands = sym x.stands_is i; seen = t.me.0.sight.seen }))) y.path);
+  path = (the_list_paths.paths (setting_of s).first (setting_of s).seats).joined s.me.0.own.number (record { stands = from; seen = seen_of s }) t.me.0.own.knows.sight u.me.0.own.knows.sight x.strides y.strides x.path
+      (subst (λ (q : Setting × (ℕ × ListSight)). ListPath q.0.first q.0.seats q.1.0 q.1.1 y.strides u.me.0.own.knows.sight)
+      (λ i. ((x.list_is i).setting, (x.number_is i, record { stands = sym x.stands_is i; seen = seen_of t }))) y.path);
+  ran = ran_append x.strides y.strides x.ran y.ran;
   rows_are = rows_append x.strides y.strides ∙ (λ i. x.rows_are i ++ y.rows_are i);
   told_is = told_append x.strides y.strides ∙ (λ i. x.told_is i ++ y.told_is i);
-  all = let c = x.all in let d = y.all in let l = length-append x.strides y.strides in omega arith;
+  all = y.all ∙ ap (λ l. l ++ y.strides) x.all ∙ append_assoc s.me.0.own.gone x.strides y.strides;
 }
-
--- the row at which the seat stands
-pub ran_from : (s t : Token) (a : ListSeat) (n : ℕ) → stands_of s ≡ a → Ran s.me.0 n t.me.0 → Ran (standing a s.me.0) n t.me.0
-ran_from s t a n is = subst (λ (y : ListSeat). Ran (standing y s.me.0) n t.me.0) is
 
 -- the same rows, told of otherwise
 pub walked_so : (s t : Token) (from a b : ListSeat) (told : List ListEntry) (rows : List (ListPlace × ℕ)) → Walked s from t a told rows → a ≡ b → Walked s from t b told rows
@@ -97,22 +99,23 @@ pub calls : (s t : Token) (n : ℕ) (from a : ListSeat) (told : List ListEntry) 
 calls s t n from a told rows is x = subst (λ i. Calls (record (seat_of s n) { number = i }) from (seat_of t n) told rows) is.number_is (record {
   strides = x.strides;
   path = x.path;
+  ran = x.ran;
   rows_are = x.rows_are;
   told_is = x.told_is;
   all = x.all;
-  seen = subst (λ l. TellsIn s.me.0.sight.seen l t.me.0.sight.seen) x.told_is
-      (path_tells s.me.0.setting.first s.me.0.setting.seats s.me.0.number (record { stands = from; seen = s.me.0.sight.seen }) t.me.0.sight x.strides x.path);
+  seen = subst (λ l. TellsIn (seen_of s) l (seen_of t)) x.told_is
+      (path_tells (setting_of s).first (setting_of s).seats s.me.0.own.number (record { stands = from; seen = seen_of s }) t.me.0.own.knows.sight x.strides x.path);
 })
 
 pub comes_to : (s t : Token) (n : ℕ) (from a : ListSeat) (told : List ListEntry) (rows : List (ListPlace × ℕ)) → Walked s from t a told rows → ComesTo (seat_of s n) a (seat_of t n)
 comes_to s t n from a told rows x = record {
-  same = λ i. record { list = x.list_is i; number = n; sight = t.me.0.sight; strides = t.me.0.strides };
+  same = λ i. record { list = x.list_is i; number = n; sight = t.me.0.own.knows.sight; strides = t.me.0.own.gone };
   stands_is = x.stands_is;
 }
 
 -- what was seen at first is seen still
-pub walked_later : (s t : Token) (from a : ListSeat) (told : List ListEntry) (rows : List (ListPlace × ℕ)) → Walked s from t a told rows → GoesOn t.me.0.sight.seen s.me.0.sight.seen
-walked_later s t from a told rows x = (the_list_paths.paths s.me.0.setting.first s.me.0.setting.seats).grows s.me.0.number (record { stands = from; seen = s.me.0.sight.seen }) t.me.0.sight x.strides x.path
+pub walked_later : (s t : Token) (from a : ListSeat) (told : List ListEntry) (rows : List (ListPlace × ℕ)) → Walked s from t a told rows → GoesOn (seen_of t) (seen_of s)
+walked_later s t from a told rows x = (the_list_paths.paths (setting_of s).first (setting_of s).seats).grows s.me.0.own.number (record { stands = from; seen = seen_of s }) t.me.0.own.knows.sight x.strides x.path
 
 -- a call after a call
 pub calls_then : (s u t : SeatModel) (begun : ListSeat) (told more : List ListEntry) (rows others : List (ListPlace × ℕ)) → u ≡ record s { sight = u.sight; strides = u.strides }
@@ -125,9 +128,10 @@ calls_then s u t begun told more rows others same x y =
     record {
       strides = x.strides ++ y.strides;
       path = path;
+      ran = ran_append x.strides y.strides x.ran y.ran;
       rows_are = rows_append x.strides y.strides ∙ (λ i. x.rows_are i ++ y.rows_are i);
       told_is = told_append x.strides y.strides ∙ (λ i. x.told_is i ++ y.told_is i);
-      all = let c = x.all in let d = y.all in let l = length-append x.strides y.strides in omega arith;
+      all = y.all ∙ ap (λ l. l ++ y.strides) x.all ∙ append_assoc s.strides x.strides y.strides;
       seen = subst (λ l. TellsIn s.sight.seen l t.sight.seen) (told_append x.strides y.strides ∙ (λ i. x.told_is i ++ y.told_is i))
           (path_tells first seats s.number (record { stands = begun; seen = s.sight.seen }) t.sight (x.strides ++ y.strides) path);
     }

@@ -1,8 +1,9 @@
 -- What a call of one seat is to its caller: the rows that it ran, the entries that it told, and what it has seen then.
-use Rattle.std.specs.Prelude.{◌≡◌, ℕ, ◌+◌, ◌≤◌, List, [], ◌∷◌, ◌++◌, length, map}
+use Rattle.std.specs.Prelude.{◌≡◌, ℕ, ◌≤◌, List, [], ◌∷◌, ◌++◌, map}
+use Rattle.std.specs.List.{All}
 use Rattle.step_table.specs.declared.list_place.ListPlace.{ListPlace}
 use Rattle.step_table.specs.ListWorld.{Numbers, ListSeat, ListEntry}
-use Rattle.step_table.specs.Path.{GoesOn, all_told}
+use Rattle.step_table.specs.Path.{GoesOn, runs, all_told}
 use Rattle.list_law.specs.ListLawful.{told}
 use Rattle.list_law.specs.ListPath.{ListStride, ListPath}
 use Rattle.notify_list.specs.Seats.{SeatModel}
@@ -11,6 +12,10 @@ use Rattle.notify_list.specs.Seats.{SeatModel}
 abbrev pub TellsIn : List ListEntry → List ListEntry → List ListEntry → Type 0
 TellsIn seen [] now = GoesOn now seen
 TellsIn seen (e ∷ entries) now = (others : List ListEntry) × TellsIn ((seen ++ others) ++ e ∷ []) entries now
+
+-- each is a row that ran, and no look
+abbrev pub AreRows : List ListStride → Type 0
+AreRows strides = All (λ p. p.deed ≡ runs) strides
 
 -- each row with what it read
 abbrev pub rows_of : List ListStride → List (ListPlace × ℕ)
@@ -22,12 +27,13 @@ pub record Calls (s : SeatModel) (begun : ListSeat) (t : SeatModel) (entries : L
     : Type 0 where
   pub strides : List ListStride
   pub path : ListPath s.list.setting.first s.list.setting.seats s.number (record { stands = begun; seen = s.sight.seen }) strides t.sight
+  pub ran : AreRows strides
   pub rows_are : rows_of strides ≡ rows
   pub told_is : all_told strides ≡ entries
-  pub all : t.strides ≡ s.strides + length strides
+  pub all : t.strides ≡ s.strides ++ strides
   pub seen : TellsIn s.sight.seen entries t.sight.seen
 
--- the seat stands so after the call, and nothing else of it has changed but what it has seen
+-- the seat stands so after the call, and nothing else of it has changed but what it has seen and done
 pub record ComesTo (s : SeatModel) (stands : ListSeat) (t : SeatModel) : Type 0 where
   pub same : t ≡ record s { sight = t.sight; strides = t.strides }
   pub stands_is : t.sight.stands ≡ stands

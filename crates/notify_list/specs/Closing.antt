@@ -9,29 +9,29 @@ use Rattle.list_law.specs.ListLawful.{told, IsLawfulList}
 use Rattle.list_law.specs.ListPlaces.{AllRest, NothingLeft}
 use Rattle.notify_list.specs.declared.closed.ListClosed.{ListClosed}
 use Rattle.notify_list.specs.declared.view.Setting.{Setting}
-use Rattle.notify_list.specs.declared.view.Guest.{Guest}
 use Rattle.notify_list.specs.Places.{is_free}
-use Rattle.notify_list.specs.Rule.{In, IsMet, watched}
+use Rattle.running_rows.specs.Rule.{In}
+use Rattle.notify_list.specs.Rule.{IsMet, watched}
+use Rattle.notify_list.specs.Plays.{OneSeat}
 use Rattle.notify_list.specs.Seats.{ListModel, SeatModel, Token, list_of}
-use Rattle.notify_list.specs.Meeting.{guest_of}
 
--- the guest is that of this seat, which may begin a call and holds no ticket
-pub record IsGuestOf (g : Guest) (s : SeatModel) : Type 0 where
+-- a token's view has this seat, which may begin a call and holds no ticket
+pub record IsSeatOf (g : OneSeat) (s : SeatModel) : Type 0 where
   pub number_is : g.number ≡ s.number
-  pub free : is_free g.sight.stands.place ≡ true
-  pub holds_none : g.sight.stands.ticket ≡ None
-  pub seen : g.sight.seen ≡ s.sight.seen
+  pub free : is_free g.knows.sight.stands.place ≡ true
+  pub holds_none : g.knows.sight.stands.ticket ≡ None
+  pub seen : g.knows.sight.seen ≡ s.sight.seen
 
--- the guests are those of these seats, in their order
-abbrev pub AreGuestsOf : List Guest → List SeatModel → Type 0
-AreGuestsOf [] [] = Unit {0}
-AreGuestsOf (g ∷ gs) (s ∷ ss) = IsGuestOf g s × AreGuestsOf gs ss
-AreGuestsOf _ _ = ⊥
+-- it has these seats, in their order
+abbrev pub AreSeatsOf : List OneSeat → List SeatModel → Type 0
+AreSeatsOf [] [] = Unit {0}
+AreSeatsOf (g ∷ gs) (s ∷ ss) = IsSeatOf g s × AreSeatsOf gs ss
+AreSeatsOf _ _ = ⊥
 
 -- a token of this list has these seats in its view
 pub record IsGathered (l : ListModel) (seats : List SeatModel) (token : Token) : Type 0 where
   pub own : list_of token ≡ l
-  pub all : AreGuestsOf (guest_of token.me.0 ∷ token.me.0.guests) seats
+  pub all : AreSeatsOf (token.me.0.own ∷ token.me.0.guests) seats
 
 -- these are all seats of the list: each is one of its seats, and they are as many. None can come twice, since none can be copied
 pub record AreAll (l : ListModel) (seats : List SeatModel) : Type 0 where

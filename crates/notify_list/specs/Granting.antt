@@ -8,17 +8,17 @@ use Rattle.step_table.specs.ListWorld.{ListEntry, Granted}
 use Rattle.step_table.specs.Path.{GoesOn}
 use Rattle.list_law.specs.ListLawful.{told}
 use Rattle.notify_list.specs.Places.{at_place}
-use Rattle.notify_list.specs.Seats.{ListModel, Token, list_of}
-use Rattle.notify_list.specs.Walks.{Walked, HasRecord, stands_of}
+use Rattle.notify_list.specs.Seats.{ListModel, Token, list_of, seen_of, setting_of, stands_of}
+use Rattle.notify_list.specs.Walks.{Walked, HasRecord}
 use Rattle.notify_list.specs.Notifying.{grants_it}
 
 -- a seat of this list is about to grant this ticket, under the lock
 pub record MayGrant (l : ListModel) (s : Token) (h ticket : ℕ) : Type 0 where
   pub list_is : list_of s ≡ l
-  pub there : s.me.0.number < s.me.0.setting.seats
-  pub few : s.me.0.setting.seats ≤ 256
-  pub empty : s.me.0.sight.stands.hand ≡ []
-  pub at : s.me.0.sight.stands.place ≡ NotifyingOne h (O7 ticket)
+  pub there : s.me.0.own.number < (setting_of s).seats
+  pub few : (setting_of s).seats ≤ 256
+  pub empty : (stands_of s).hand ≡ []
+  pub at : (stands_of s).place ≡ NotifyingOne h (O7 ticket)
   pub record_is : HasRecord s
 
 abbrev pub grant_rows : ℕ → ℕ → List (ListPlace × ℕ)
@@ -27,13 +27,13 @@ grant_rows h ticket = (NotifyingOne h (O7 ticket), ticket) ∷ (NotifyingOne h (
 -- the ticket was granted, and its wait wasn't in the list or was granted. It was the least that wasn't granted
 pub record GrantedOne (s : Token) (h ticket : ℕ) (t : Token) : Type 0 where
   pub before : List ListEntry
-  pub later : GoesOn before s.me.0.sight.seen
-  pub seen : GoesOn t.me.0.sight.seen (before ++ Granted ((told before).granted + 1) s.me.0.number ∷ [])
+  pub later : GoesOn before (seen_of s)
+  pub seen : GoesOn (seen_of t) (before ++ Granted ((told before).granted + 1) s.me.0.own.number ∷ [])
   pub handed : (told before).granted < (told before).handed
-  pub word_is : ticket ≡ word_of s.me.0.setting.first (told before).granted
+  pub word_is : ticket ≡ word_of (setting_of s).first (told before).granted
   pub bare : t.me.1 ≡ []
   pub walked :
-      Walked s (stands_of s) t (at_place Rest (stands_of s)) (Granted ((told before).granted + 1) s.me.0.number ∷ [])
+      Walked s (stands_of s) t (at_place Rest (stands_of s)) (Granted ((told before).granted + 1) s.me.0.own.number ∷ [])
       (grant_rows h ticket)
-      ⊎ Walked s (stands_of s) t (at_place Rest (stands_of s)) (Granted ((told before).granted + 1) s.me.0.number ∷ [])
+      ⊎ Walked s (stands_of s) t (at_place Rest (stands_of s)) (Granted ((told before).granted + 1) s.me.0.own.number ∷ [])
       (grant_rows h ticket ++ grants_it h)

@@ -10,8 +10,8 @@ use Rattle.step_table.specs.Path.{GoesOn}
 use Rattle.list_law.specs.ListLawful.{told}
 use Rattle.notify_list.specs.Places.{at_place}
 use Rattle.notify_list.specs.Rule.{Lands}
-use Rattle.notify_list.specs.Seats.{ListModel, Token, list_of, IsSeat}
-use Rattle.notify_list.specs.Walks.{Walked, HasRecord, stands_of}
+use Rattle.notify_list.specs.Seats.{ListModel, Token, list_of, IsSeat, seen_of, setting_of, stands_of}
+use Rattle.notify_list.specs.Walks.{Walked, HasRecord}
 use Rattle.notify_list.specs.NotifyingAll.{looks_all, reach_rows, wake_rows, all_entries}
 
 -- the seat may begin a call
@@ -27,16 +27,16 @@ pub record LookedForAll (s : Token) (equal : Bool) (t : Token) : Type 0 where
   pub walked : Walked s (at_place (NotifyingAll 0 L1) (stands_of s)) t
       (at_place (if equal then Rest else NotifyingAll h L3) (stands_of s)) [] (looks_all h waited notified)
   pub slots : t.me.1 ≡ s.me.1
-  pub since : (told s.me.0.sight.seen).handed ≤ h
-  pub quiet : equal ≡ true → h ≤ (told t.me.0.sight.seen).granted
+  pub since : (told (seen_of s)).handed ≤ h
+  pub quiet : equal ≡ true → h ≤ (told (seen_of t)).granted
 
 -- a seat of this list stands here
 pub record IsAt (l : ListModel) (s : Token) (place : ListPlace) : Type 0 where
   pub list_is : list_of s ≡ l
-  pub there : s.me.0.number < s.me.0.setting.seats
-  pub few : s.me.0.setting.seats ≤ 256
-  pub at : s.me.0.sight.stands.place ≡ place
-  pub lands : Lands s.me.0
+  pub there : s.me.0.own.number < (setting_of s).seats
+  pub few : (setting_of s).seats ≤ 256
+  pub at : (stands_of s).place ≡ place
+  pub lands : Lands s.me.0.own.number s.me.0.own.knows
 
 abbrev pub MayReach : ListModel → Token → ℕ → Type 0
 MayReach l s h = IsAt l s (NotifyingAll h L4) × HasRecord s
@@ -46,20 +46,20 @@ pub record ReachedAll (s : Token) (h n : ℕ) (t : Token) : Type 0 where
   pub notified : ℕ
   pub waited : ℕ
   pub handed : ℕ
-  pub walked : Walked s (stands_of s) t (at_place (NotifyingAll h (L7 n)) (stands_of s)) (all_entries s.me.0.number handed n)
+  pub walked : Walked s (stands_of s) t (at_place (NotifyingAll h (L7 n)) (stands_of s)) (all_entries s.me.0.own.number handed n)
       (reach_rows h notified waited handed)
   pub record_is : HasRecord t
   pub look : List ListEntry
   pub before : List ListEntry
-  pub first : GoesOn look s.me.0.sight.seen
+  pub first : GoesOn look (seen_of s)
   pub later : GoesOn before look
-  pub seen : t.me.0.sight.seen ≡ before ++ all_entries s.me.0.number handed n
+  pub seen : seen_of t ≡ before ++ all_entries s.me.0.own.number handed n
   pub reaches : h ≤ handed
   pub counted : handed ≡ (told before).granted + n
   pub all : handed ≡ (told look).handed
 
 abbrev pub MayTake : ListModel → Token → ℕ → ℕ → Type 0
-MayTake l s h n = IsAt l s (NotifyingAll h (L7 n)) × HasRecord s × (s.me.0.sight.stands.hand ≡ [])
+MayTake l s h n = IsAt l s (NotifyingAll h (L7 n)) × HasRecord s × ((stands_of s).hand ≡ [])
 
 -- how the seat stands with these waits to grant
 abbrev pub with_waits : ℕ → List Wait → ListSeat → ListSeat
@@ -67,11 +67,11 @@ with_waits h hand a = record { place = if_any hand (NotifyingAll h L8) Rest; tic
 
 -- L7 ran
 pub record TakenAll (s : Token) (h n : ℕ) (t : Token) : Type 0 where
-  pub walked : Walked s (stands_of s) t (with_waits h t.me.0.sight.stands.hand (stands_of s)) [] ((NotifyingAll h (L7 n), 1) ∷ [])
+  pub walked : Walked s (stands_of s) t (with_waits h (stands_of t).hand (stands_of s)) [] ((NotifyingAll h (L7 n), 1) ∷ [])
   pub bare : t.me.1 ≡ []
 
 abbrev pub MayWake : ListModel → Token → ℕ → Type 0
-MayWake l s h = IsAt l s (if_any s.me.0.sight.stands.hand (NotifyingAll h L8) Rest)
+MayWake l s h = IsAt l s (if_any (stands_of s).hand (NotifyingAll h L8) Rest)
 
 -- L8 ran
 pub record WokenFirst (s : Token) (h : ℕ) (w : Wait) (rest : List Wait) (t : Token) : Type 0 where

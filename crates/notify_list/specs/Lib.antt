@@ -2,6 +2,7 @@ pub mod Sights
 pub mod Setting
 pub mod Places
 pub mod Rule
+pub mod Rows
 pub mod Plays
 pub mod Seats
 pub mod Shared

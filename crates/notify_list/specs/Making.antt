@@ -25,7 +25,7 @@ new_seat l number =
       list = l;
       number = number;
       sight = record { stands = record { place = Rest; ticket = None; hand = []; late = 0 }; seen = [] };
-      strides = 0;
+      strides = [];
     }
 
 -- so many of them in order, from this number on

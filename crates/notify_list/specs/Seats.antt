@@ -1,55 +1,70 @@
 -- What a caller sees of a list and of a seat, and what a seat keeps of its token.
-use Rattle.std.specs.Prelude.{◌≡◌, ℕ, ◌<◌, ◌≤◌, true, [], Some, None}
-use Rattle.atomic_table.specs.Seated.{TableId}
-use Rattle.atomic_table.specs.declared.shared.Seat as atomic
+use Rattle.std.specs.Prelude.{◌≡◌, ℕ, ◌<◌, ◌≤◌, true, List, [], Some, None}
+use Rattle.running_rows.specs.Seated.{TableId}
+use Rattle.running_rows.specs.Words as words
+use Rattle.waiters.specs.declared.wait.Wait.{Wait}
 use Rattle.step_table.specs.declared.list_place.ListPlace.TheVariants.{Rest}
 use Rattle.step_table.specs.declared.list_place.Ticket.{Ticket}
-use Rattle.list_law.specs.ListPath.{ListSight}
-use Rattle.notify_list.specs.declared.view.View.{View}
+use Rattle.step_table.specs.ListWorld.{ListSeat, ListEntry}
+use Rattle.list_law.specs.ListPath.{ListSight, ListStride}
 use Rattle.notify_list.specs.declared.view.Record.{Record}
 use Rattle.notify_list.specs.declared.view.Setting.{Setting}
 use Rattle.notify_list.specs.Places.{is_free}
 use Rattle.notify_list.specs.Rule.{Lands}
+use Rattle.notify_list.specs.declared.view.Known.{Known}
 
 -- a list: its name, and what it was made with
 pub record ListModel : Type 0 where
   pub id : TableId
   pub setting : Setting
 
--- a seat: its list, its number, how it stands and what it has seen, and how many strides it has gone
+-- a seat: its list, its number, how it stands and what it has seen, and the strides that it has gone
 pub record SeatModel : Type 0 where
   pub list : ListModel
   pub number : ℕ
   pub sight : ListSight
-  pub strides : ℕ
+  pub strides : List ListStride
 
 abbrev pub Token : Type 0
-Token = atomic.Seat Record View
+Token = words.Token Record Known ListStride
+
+-- what the token's seat knows of its list, how it stands, what it has seen, and the list of waits after its last stride
+abbrev pub setting_of : Token → Setting
+setting_of t = t.me.0.own.knows.setting
+
+abbrev pub stands_of : Token → ListSeat
+stands_of t = t.me.0.own.knows.sight.stands
+
+abbrev pub seen_of : Token → List ListEntry
+seen_of t = t.me.0.own.knows.sight.seen
+
+abbrev pub queue_of : Token → List Wait
+queue_of t = t.me.0.own.knows.queue
 
 abbrev pub list_of : Token → ListModel
-list_of t = record { id = t.table_id; setting = t.me.0.setting }
+list_of t = record { id = t.table_id; setting = setting_of t }
 
 abbrev pub seat_of : Token → ℕ → SeatModel
-seat_of t n = record { list = list_of t; number = n; sight = t.me.0.sight; strides = t.me.0.strides }
+seat_of t n = record { list = list_of t; number = n; sight = t.me.0.own.knows.sight; strides = t.me.0.own.gone }
 
 -- the token is that of the seat n: it holds no slot, and its sight is that of the seat in a world that was met
 pub record IsToken (t : Token) (n : ℕ) : Type 0 where
   pub bare : t.me.1 ≡ []
-  pub number_is : t.me.0.number ≡ n
-  pub there : n < t.me.0.setting.seats
-  pub few : t.me.0.setting.seats ≤ 256
-  pub lands : Lands t.me.0
+  pub number_is : t.me.0.own.number ≡ n
+  pub there : n < (setting_of t).seats
+  pub few : (setting_of t).seats ≤ 256
+  pub lands : Lands t.me.0.own.number t.me.0.own.knows
 
 -- a seat that may begin a call, and holds no ticket
 pub record IsSeat (t : Token) (n : ℕ) : Type 0 where
   pub token_is : IsToken t n
-  pub free : is_free t.me.0.sight.stands.place ≡ true
-  pub holds_none : t.me.0.sight.stands.ticket ≡ None
+  pub free : is_free (stands_of t).place ≡ true
+  pub holds_none : (stands_of t).ticket ≡ None
 
 -- a seat at rest that holds the ticket with this word
 pub record IsHolding (t : Token) (n word : ℕ) : Type 0 where
   pub token_is : IsToken t n
-  pub rests : t.me.0.sight.stands.place ≡ Rest
+  pub rests : (stands_of t).place ≡ Rest
   pub ticket : Ticket
-  pub held : t.me.0.sight.stands.ticket ≡ Some ticket
+  pub held : (stands_of t).ticket ≡ Some ticket
   pub word_is : ticket.word ≡ word

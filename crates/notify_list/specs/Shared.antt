@@ -1,6 +1,6 @@
 -- What a list's numbers say of what it was made with.
 use Rattle.std.specs.Prelude.{◌≡◌, ℕ, ◌<◌, ◌≤◌}
-use Rattle.atomic_table.specs.Seated.{TableId}
+use Rattle.running_rows.specs.Seated.{TableId}
 use Rattle.notify_list.specs.declared.view.Setting.{Setting}
 use Rattle.notify_list.specs.declared.notify_list.NotifyList.TheInside.{Inside}
 use Rattle.notify_list.specs.Setting.{words_in}
@@ -15,4 +15,4 @@ pub record IsList (id : TableId) (z : Setting) (seats : ℕ) : Type 0 where
 
 -- the list by what is in it
 abbrev pub list_by : Inside → ListModel
-list_by t = record { id = t.table.shared.table_id; setting = t.table.shared.key }
+list_by t = record { id = t.words.table.shared.table_id; setting = t.words.table.shared.key }

@@ -1,10 +1,12 @@
--- What a view has of a seat: an entry of the journal, and a sight, by their parts.
+-- What a view has of a seat: an entry of the journal, a sight, and a stride, by their parts.
 use Rattle.std.specs.Prelude.{ℕ, List, Option, Some, None}
 use Rattle.waiters.specs.declared.wait.Wait.{Wait}
 use Rattle.step_table.specs.declared.list_place.ListPlace.{ListPlace}
+use Rattle.step_table.specs.declared.list_place.ListWord.{ListWord}
 use Rattle.step_table.specs.declared.list_place.Ticket.{Ticket}
 use Rattle.step_table.specs.ListWorld.{ListEntry, Took, Granted}
-use Rattle.list_law.specs.ListPath.{ListSight}
+use Rattle.step_table.specs.Path.{Deed, runs, looks}
+use Rattle.list_law.specs.ListPath.{ListSight, ListStride}
 
 -- a ticket was taken by the seat, or it granted tickets, so that so many are
 abbrev pub entry_of : Option ℕ → ℕ → ListEntry
@@ -14,3 +16,12 @@ entry_of (Some upto) seat = Granted upto seat
 abbrev pub sight_of : ListPlace → Option Ticket → List Wait → ℕ → List ListEntry → ListSight
 sight_of place ticket hand late seen =
     record { stands = record { place = place; ticket = ticket; hand = hand; late = late }; seen = seen }
+
+-- the seat ran its row, or only looked at this word
+abbrev pub deed_of : Option ListWord → Deed ListWord
+deed_of None = runs
+deed_of (Some word) = looks word
+
+abbrev pub stride_of : ListSight → Option ListWord → ℕ → List ListEntry → ListStride
+stride_of before looked read told =
+    record { deed = deed_of looked; stood = before.stands; read = read; seen = before.seen; told = told }

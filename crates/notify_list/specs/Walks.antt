@@ -1,5 +1,5 @@
 -- What rows of one seat do to its token.
-use Rattle.std.specs.Prelude.{◌≡◌, ℕ, ◌+◌, true, List, [], ◌∷◌, length}
+use Rattle.std.specs.Prelude.{◌≡◌, ℕ, true, List, [], ◌∷◌, ◌++◌}
 use Rattle.waiters.specs.declared.wait.Wait.{Wait}
 use Rattle.step_table.specs.declared.list_place.ListPlace.{ListPlace}
 use Rattle.step_table.specs.ListWorld.{ListSeat, ListEntry}
@@ -8,34 +8,27 @@ use Rattle.list_law.specs.ListPath.{ListStride, ListPath}
 use Rattle.notify_list.specs.declared.view.Record.{Record}
 use Rattle.notify_list.specs.Places.{Begins, at_place, waiting, takes_lock, locked}
 use Rattle.notify_list.specs.Rule.{Lands, IsRecord}
-use Rattle.notify_list.specs.Seats.{ListModel, Token, list_of}
-use Rattle.notify_list.specs.Calls.{rows_of}
-
--- how the token's seat stands
-abbrev pub stands_of : Token → ListSeat
-stands_of s = s.me.0.sight.stands
-
--- nothing has come of it
-abbrev pub IsSame : Token → Token → Type 0
-IsSame s t = (t.table_id ≡ s.table_id) × (t.me ≡ s.me)
+use Rattle.notify_list.specs.Seats.{ListModel, Token, list_of, setting_of, stands_of, seen_of, queue_of}
+use Rattle.notify_list.specs.Calls.{AreRows, rows_of}
 
 -- the seat, standing so at first, ran these rows, which told these entries, and stands so now
 pub record Walked (s : Token) (from : ListSeat) (t : Token) (stands : ListSeat) (entries : List ListEntry)
     (rows : List (ListPlace × ℕ)) : Type 0 where
   pub list_is : list_of t ≡ list_of s
-  pub number_is : t.me.0.number ≡ s.me.0.number
+  pub number_is : t.me.0.own.number ≡ s.me.0.own.number
   pub stands_is : stands_of t ≡ stands
-  pub lands : Lands t.me.0
+  pub lands : Lands t.me.0.own.number t.me.0.own.knows
   pub strides : List ListStride
-  pub path : ListPath s.me.0.setting.first s.me.0.setting.seats s.me.0.number
-      (record { stands = from; seen = s.me.0.sight.seen }) strides t.me.0.sight
+  pub path : ListPath (setting_of s).first (setting_of s).seats s.me.0.own.number
+      (record { stands = from; seen = seen_of s }) strides t.me.0.own.knows.sight
+  pub ran : AreRows strides
   pub rows_are : rows_of strides ≡ rows
   pub told_is : all_told strides ≡ entries
-  pub all : t.me.0.strides ≡ s.me.0.strides + length strides
+  pub all : t.me.0.own.gone ≡ s.me.0.own.gone ++ strides
 
 -- the seat holds the slot, whose record has the waits that it knows
 abbrev pub HasRecord : Token → Type 0
-HasRecord s = (y : Record) × (s.me.1 ≡ (0, y) ∷ []) × IsRecord s.me.0.setting.seats y s.me.0.queue
+HasRecord s = (y : Record) × (s.me.1 ≡ (0, y) ∷ []) × IsRecord (setting_of s).seats y (queue_of s)
 
 -- a seat of this list may run a row that takes the lock: that at which it stands, or the first row of a wait
 pub record MayLock (l : ListModel) (s : Token) : Type 0 where
@@ -54,4 +47,4 @@ pub record Locked (s t : Token) : Type 0 where
 abbrev pub Edited : Token → List Wait → Token → Type 0
 Edited s queue t =
     (t.table_id ≡ s.table_id)
-    × ((y : Record) × (t.me ≡ (s.me.0, (0, y) ∷ [])) × IsRecord s.me.0.setting.seats y queue)
+    × ((y : Record) × (t.me ≡ (s.me.0, (0, y) ∷ [])) × IsRecord (setting_of s).seats y queue)

@@ -3,9 +3,8 @@ ghost use Rattle.std.specs.Prelude.{◌≡◌, ◌∷◌, All};
 ghost use Rattle.notify_list.specs.Closing.{AreAll, IsClosed, IsGathered};
 
 use crate::closed::ListClosed;
-use crate::joins::{Forgets, Sits};
 use crate::notify_list::{NOTIFY, NotifyList, RECORD, WAIT};
-use crate::plays::Token;
+use crate::rows::Token;
 use crate::seat::ListSeat;
 
 impl NotifyList {
@@ -18,13 +17,14 @@ impl NotifyList {
             mut token,
             number: _,
         } = first;
-        self.table.shared.split_seat::<Forgets>(&mut token);
+        self.words.seat_alone(&mut token);
         while let Some(seat) = seats.pop() {
             let ListSeat {
-                token: theirs,
+                token: mut theirs,
                 number: _,
             } = seat;
-            self.table.shared.join_seat::<Sits>(&mut token, theirs);
+            self.words.seat_alone(&mut theirs);
+            self.words.seat_with(&mut token, theirs);
         }
         token
     }
@@ -37,8 +37,8 @@ impl NotifyList {
         let mut seats = seats;
         let first = seats.remove(0);
         let token = self.gather(first, &mut seats);
-        let NotifyList { table, .. } = self;
-        let mut ended = table.close_with(token);
+        let NotifyList { words, .. } = self;
+        let mut ended = words.close_with(token);
         let closed = ListClosed {
             next: ended.word(WAIT),
             notified: ended.word(NOTIFY),

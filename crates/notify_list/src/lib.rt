@@ -16,7 +16,6 @@
 
 mod closed;
 mod closing;
-mod joins;
 mod laws;
 mod locks;
 mod make;
@@ -24,11 +23,11 @@ mod meeting;
 mod notify_all;
 mod notify_list;
 mod notify_one;
-mod plays;
 mod records;
+mod rows;
 mod seat;
 mod setup_error;
-mod sleeps;
+mod stride;
 mod tickets;
 mod view;
 mod waited;

@@ -2,17 +2,19 @@
 ghost use Rattle.std.specs.Prelude.{◌≡◌, ℕ, ◌+◌, ◌^◌, ◌<◌, [], ◌∷◌, replicate, All, IfOk, IfErr};
 ghost use Rattle.notify_list.specs.declared.view.Setting.{Setting as Made};
 ghost use Rattle.notify_list.specs.declared.view.Record.{Record as Emptied};
-ghost use Rattle.notify_list.specs.Rule.{fresh, IsRecord};
+ghost use Rattle.running_rows.specs.Rule.{fresh_seat};
+ghost use Rattle.notify_list.specs.Rule.{IsRecord};
+ghost use Rattle.notify_list.specs.Rows.{list_rows};
 ghost use Rattle.notify_list.specs.Seats.{list_of};
 ghost use Rattle.notify_list.specs.Making.{AreAllowed, IsRefused, IsMade};
 ghost use Rattle.notify_list.specs.Making as making;
 
 use crate::notify_list::NotifyList;
-use crate::plays::{Make, OneWorld, Token};
+use crate::rows::Token;
 use crate::seat::ListSeat;
 use crate::setup_error::SetupError;
-use crate::view::{Record, Setting, View};
-use atomic_table::Table;
+use crate::view::{Record, Setting};
+use running_rows::Running;
 use std::alloc::{AllocError, Global};
 use waiters::{Lists, NoMemory};
 
@@ -21,7 +23,8 @@ const MAX_SEATS: u32 = 256;
 
 /// A seat that has run nothing.
 fn new_seat(token: Token, number: u16) -> ListSeat
-    requires { (z : Made) × (made : ℕ) × (token.me ≡ (fresh z number made, [])) × (number < z.seats) × AreAllowed z.seats }
+    requires own { (z : Made) × (token.me.0.own ≡ fresh_seat list_rows z number) × (number < z.seats) × AreAllowed z.seats }
+    requires bare { token.me.1 ≡ [] }
     ensures { result ≡ making.new_seat (list_of token) number }
 {
     ListSeat { token, number }
@@ -58,26 +61,21 @@ fn make(alloc: Global, setting: Setting) -> Result<(NotifyList, Vec<ListSeat>), 
     ensures { IfOk result (λ t. IsMade setting.first setting.seats t.0 t.1.items) }
 {
     let seats = setting.seats as u16;
-    let words = first_words(alloc, setting)?;
+    let starts = first_words(alloc, setting)?;
     let slots = first_slots(alloc, setting.seats)?;
     let mut made = Vec::with_capacity(alloc, usize::from(seats))?;
-    let Ok((table, mut first)) = Table::<Record, View, Setting, OneWorld, Global>::new(
-        alloc,
-        words.as_slice(),
-        slots,
-        &setting,
-    ) else {
+    let Ok((words, mut first)) = Running::new(alloc, starts.as_slice(), slots, &setting) else {
         return Err(NoMemory);
     };
     for number in 1..seats {
-        let token = table.shared.split_seat::<Make>(&mut first);
+        let token = words.make_seat(&mut first);
         made.push_reserved(new_seat(token, number));
     }
     let Ok(()) = made.insert(0, new_seat(first, 0)) else {
         return Err(NoMemory);
     };
     let list = NotifyList {
-        table,
+        words,
         seats: setting.seats,
     };
     Ok((list, made))

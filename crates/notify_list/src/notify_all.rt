@@ -1,14 +1,16 @@
 //! Notifying all.
 ghost use Rattle.std.specs.Prelude.{◌≡◌, ℕ, ◌<◌, ◌≤◌, map, List, [], ◌∷◌};
 ghost use Rattle.waiters.specs.declared.wait.Wait.{Wait as Queued};
+ghost use Rattle.notify_list.specs.Seats.{stands_of};
 ghost use Rattle.notify_list.specs.Calls.{AllGranted};
 ghost use Rattle.notify_list.specs.NotifyingAll.{NotifiesAll, GrantsSome};
 ghost use Rattle.notify_list.specs.GrantingAll.{MayLook, LookedForAll, MayReach, ReachedAll, MayTake, TakenAll, MayWake, WokenFirst, WokenSome};
 
 use crate::notify_list::{LOCK, NOTIFY, NotifyList, WAIT, grant_word};
-use crate::plays::{BeginsAll, Gives, Goes, Stores, Token};
+use crate::rows::{AtAll, Token};
 use crate::seat::ListSeat;
 use arrayvec::ArrayVec;
+use running_rows::Here;
 use std::sync::Wait;
 use ticket_words::minus;
 
@@ -39,9 +41,8 @@ impl NotifyList {
         requires { MayLook self.now token.old }
         ensures { LookedForAll token.old result token.new }
     {
-        let shared = &self.table.shared;
-        let waited = shared.load::<BeginsAll>(token, WAIT);
-        waited == shared.load::<Goes>(token, NOTIFY)
+        let waited = self.words.load::<AtAll>(token, WAIT);
+        waited == self.words.load::<Here>(token, NOTIFY)
     }
 
     /// L4, L5 and L6: all tickets that are handed out at L5 are granted. It answers how many weren't before.
@@ -49,12 +50,11 @@ impl NotifyList {
         requires { (h : ℕ) × MayReach self.now token.old h }
         ensures { (h : ℕ) → MayReach self.now token.old h → ReachedAll token.old h result token.new }
     {
-        let shared = &self.table.shared;
         // Read under the lock for the answer: what was read before it may be behind, and would count what another has granted since.
-        let notified = shared.load::<Goes>(token, NOTIFY);
+        let notified = self.words.load::<Here>(token, NOTIFY);
         // Read again under the lock: the word of the first look may be behind what is granted by now.
-        let waited = shared.load::<Goes>(token, WAIT);
-        shared.store::<Stores>(token, NOTIFY, waited);
+        let waited = self.words.load::<Here>(token, WAIT);
+        self.words.store::<Here>(token, NOTIFY, waited);
         minus(waited, notified) as u32
     }
 
@@ -63,19 +63,19 @@ impl NotifyList {
         requires seat { (h : ℕ) × (n : ℕ) × MayTake self.now token.old h n }
         requires hand { hand.old.items ≡ [] }
         ensures taken { (h : ℕ) (n : ℕ) → MayTake self.now token.old h n → TakenAll token.old h n token.new }
-        ensures hand { hand.new.items ≡ map (λ w. w.id.seat) token.new.me.0.sight.stands.hand }
+        ensures hand { hand.new.items ≡ map (λ w. w.id.seat) (stands_of token.new).hand }
     {
         self.remove_all(token, hand);
         // Given back before the first waiter is told: told earlier, it would run into the lock that is still held.
-        self.table.shared.store::<Gives>(token, LOCK, 0);
+        self.words.give_lock(token, LOCK);
     }
 
     /// L8 for each wait in hand, of which these are the seats.
     fn wake_all(&self, token: &mut Token, seats: &[u16])
         requires seat { (h : ℕ) × MayWake self.now token.old h }
-        requires seats { seats.now ≡ map (λ w. w.id.seat) token.old.me.0.sight.stands.hand }
+        requires seats { seats.now ≡ map (λ w. w.id.seat) (stands_of token.old).hand }
         ensures { (h : ℕ) → MayWake self.now token.old h
-            → WokenSome token.old h token.old.me.0.sight.stands.hand [] token.new }
+            → WokenSome token.old h (stands_of token.old).hand [] token.new }
     {
         for seat in seats {
             self.wake_first(token, *seat);
@@ -85,13 +85,11 @@ impl NotifyList {
     /// L8: the seat of the first wait in hand is granted, and its thread woken where that sleeps.
     fn wake_first(&self, token: &mut Token, seat: u16)
         requires { (h : ℕ) × (w : Queued) × (rest : List Queued) × MayWake self.now token.old h
-            × (token.old.me.0.sight.stands.hand ≡ w ∷ rest) × (w.id.seat ≡ seat) }
+            × ((stands_of token.old).hand ≡ w ∷ rest) × (w.id.seat ≡ seat) }
         ensures { (h : ℕ) (w : Queued) (rest : List Queued) → MayWake self.now token.old h
-            → token.old.me.0.sight.stands.hand ≡ w ∷ rest → WokenFirst token.old h w rest token.new }
+            → (stands_of token.old).hand ≡ w ∷ rest → WokenFirst token.old h w rest token.new }
     {
-        self.table
-            .shared
-            .store::<Stores>(token, grant_word(seat), 1);
-        self.rouse(seat);
+        self.words
+            .grant(token, grant_word(seat), self.asleep_word(seat), 1);
     }
 }

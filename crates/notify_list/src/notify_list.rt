@@ -3,10 +3,10 @@ ghost use Rattle.std.specs.Prelude.{◌≡◌, ◌<◌};
 ghost use Rattle.step_table.specs.declared.list_place.ListWord.TheVariants.{Grant};
 ghost use Rattle.notify_list.specs.Setting.{address, asleep_address};
 
-use crate::plays::OneWorld;
-use crate::view::{Record, Setting, View};
-use atomic_table::Table;
-use std::alloc::Global;
+use crate::rows::ListRows;
+use crate::stride::Stride;
+use crate::view::{Known, Record, Setting};
+use running_rows::{OneWorld, Running, View};
 use std::marker::Model;
 
 /// Where the wait word lies: the next ticket.
@@ -24,7 +24,7 @@ pub(crate) const RECORD: usize = 0;
 /// `Arc`.
 #[derive(Drop)]
 pub struct NotifyList {
-    pub(crate) table: Table<Record, View, Setting, OneWorld, Global>,
+    pub(crate) words: Running<Record, View<Known, Stride>, Setting, OneWorld<ListRows>>,
     pub(crate) seats: u32,
 }
 
@@ -34,9 +34,9 @@ impl Model for NotifyList {
 
     ghost Value = { ListModel };
 
-    ghost view = { λ t. record { id = t.table.shared.table_id; setting = t.table.shared.key } };
+    ghost view = { λ t. record { id = t.words.table.shared.table_id; setting = t.words.table.shared.key } };
 
-    ghost invariant = { λ t. IsList t.table.shared.table_id t.table.shared.key t.seats };
+    ghost invariant = { λ t. IsList t.words.table.shared.table_id t.words.table.shared.key t.seats };
 }
 
 /// Where the grant word of a seat lies.

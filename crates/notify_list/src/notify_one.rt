@@ -7,8 +7,9 @@ ghost use Rattle.notify_list.specs.Notifying.{NotifiesOne, GrantsLeast, EndsOne}
 ghost use Rattle.notify_list.specs.Granting.{MayGrant, GrantedOne};
 
 use crate::notify_list::{LOCK, NOTIFY, NotifyList, WAIT, grant_word};
-use crate::plays::{Gives, Goes, Stores, Token};
+use crate::rows::Token;
 use crate::seat::ListSeat;
+use running_rows::Here;
 use std::sync::Wait;
 use ticket_words::next_word;
 
@@ -35,12 +36,11 @@ impl NotifyList {
         ensures { (h : ℕ) → seat.old.sight.stands.place ≡ NotifyingOne h O3 → EndsOne seat.old h result seat.new }
     {
         self.lock(rt, &mut seat.token);
-        let shared = &self.table.shared;
         // Read again under the lock: since the first look another may have granted that ticket, and this call would grant it
         // twice and leave the next one out.
-        let ticket = shared.load::<Goes>(&mut seat.token, NOTIFY);
-        if shared.load::<Goes>(&mut seat.token, WAIT) == ticket {
-            shared.store::<Gives>(&mut seat.token, LOCK, 0);
+        let ticket = self.words.load::<Here>(&mut seat.token, NOTIFY);
+        if self.words.load::<Here>(&mut seat.token, WAIT) == ticket {
+            self.words.give_lock(&mut seat.token, LOCK);
             return None;
         }
         self.grant_one(&mut seat.token, ticket);
@@ -52,15 +52,14 @@ impl NotifyList {
         requires { (h : ℕ) × MayGrant self.now token.old h ticket }
         ensures { (h : ℕ) → MayGrant self.now token.old h ticket → GrantedOne token.old h ticket token.new }
     {
-        let shared = &self.table.shared;
         // Granted before the wait is looked for: its seat may not have come to the lock yet, and will find the grant there.
-        shared.store::<Stores>(token, NOTIFY, next_word(ticket));
+        self.words.store::<Here>(token, NOTIFY, next_word(ticket));
         let waiter = self.remove(token, ticket);
         // Given back before the waiter is told: told earlier, it would run into the lock that is still held.
-        shared.store::<Gives>(token, LOCK, 0);
+        self.words.give_lock(token, LOCK);
         if let Some(seat) = waiter {
-            shared.store::<Stores>(token, grant_word(seat), 1);
-            self.rouse(seat);
+            self.words
+                .grant(token, grant_word(seat), self.asleep_word(seat), 1);
         }
     }
 }

@@ -2,23 +2,24 @@
 ghost use Rattle.std.specs.Prelude.{◌≡◌, ◌<◌, ◌≤◌, ◌++◌, List, [], ◌∷◌, length, map};
 ghost use Rattle.waiters.specs.declared.wait.Wait.{Wait as Queued};
 ghost use Rattle.step_table.specs.ListErased.{erased_wait};
-ghost use Rattle.notify_list.specs.Seats.{list_of};
+ghost use Rattle.notify_list.specs.Seats.{list_of, setting_of, queue_of};
 ghost use Rattle.notify_list.specs.Walks.{HasRecord, Edited};
 ghost use Rattle.notify_list.specs.Records.{IsOut, HasWaits, FirstOut};
 
 use crate::notify_all::Hand;
 use crate::notify_list::{NotifyList, RECORD};
-use crate::plays::Token;
+use crate::rows::Token;
+use running_rows::Running;
 use waiters::Wait;
 
 impl NotifyList {
     /// Puts a wait at the end of the list.
     pub(crate) fn insert(&self, token: &mut Token, wait: Wait)
         requires seat { (list_of token.old ≡ self.now) × HasRecord token.old }
-        requires room { length token.old.me.0.queue < token.old.me.0.setting.seats }
-        ensures { (w : Queued) → erased_wait w ≡ wait → Edited token.old (token.old.me.0.queue ++ w ∷ []) token.new }
+        requires room { length (queue_of token.old) < (setting_of token.old).seats }
+        ensures { (w : Queued) → erased_wait w ≡ wait → Edited token.old (queue_of token.old ++ w ∷ []) token.new }
     {
-        let record = token.slot_mut(&self.table.shared, RECORD);
+        let record = Running::record_mut(token, &self.words, RECORD);
         record.lists.push_back(record.key, wait);
     }
 
@@ -27,7 +28,7 @@ impl NotifyList {
         requires { (list_of token.old ≡ self.now) × HasRecord token.old }
         ensures { IsOut token.old ticket result token.new }
     {
-        let record = token.slot_mut(&self.table.shared, RECORD);
+        let record = Running::record_mut(token, &self.words, RECORD);
         let Some(wait) = record.lists.take_ticket(record.key, ticket) else {
             return None;
         };
@@ -39,7 +40,7 @@ impl NotifyList {
         requires { (list_of token.old ≡ self.now) × ((queue : List Queued) × HasWaits token.old queue) }
         ensures { (queue : List Queued) → HasWaits token.old queue → FirstOut token.old queue result token.new }
     {
-        let record = token.slot_mut(&self.table.shared, RECORD);
+        let record = Running::record_mut(token, &self.words, RECORD);
         let Some(wait) = record.lists.pop_front(record.key) else {
             return None;
         };
@@ -48,10 +49,10 @@ impl NotifyList {
 
     /// Takes all waits out of the list: their seats' numbers, in order.
     pub(crate) fn remove_all(&self, token: &mut Token, hand: &mut Hand)
-        requires seat { (list_of token.old ≡ self.now) × HasRecord token.old × (token.old.me.0.setting.seats ≤ 256) }
+        requires seat { (list_of token.old ≡ self.now) × HasRecord token.old × ((setting_of token.old).seats ≤ 256) }
         requires hand { hand.old.items ≡ [] }
         ensures edited { Edited token.old [] token.new }
-        ensures hand { hand.new.items ≡ map (λ w. w.id.seat) token.old.me.0.queue }
+        ensures hand { hand.new.items ≡ map (λ w. w.id.seat) (queue_of token.old) }
     {
         while let Some(seat) = self.remove_first(token) {
             hand.push(seat);

@@ -1,7 +1,7 @@
 //! A seat between two calls, without a ticket and with one.
 ghost use Rattle.std.specs.Prelude.{◌≡◌};
 
-use crate::plays::Token;
+use crate::rows::Token;
 use std::marker::Model;
 use waiters::SeatId;
 

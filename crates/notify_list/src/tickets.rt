@@ -4,8 +4,9 @@ ghost use Rattle.notify_list.specs.Calls.{AllGranted};
 ghost use Rattle.notify_list.specs.Tickets.{IsAdded, HasTicket, HasLooked};
 
 use crate::notify_list::{NOTIFY, NotifyList, WAIT};
-use crate::plays::{BeginsOne, Goes, TakesTicket};
+use crate::rows::{AtOne, AtTicket};
 use crate::seat::{Holding, ListSeat};
+use running_rows::Here;
 
 impl NotifyList {
     /// Takes the next ticket (Go's `notifyListAdd`). The seat waits with it before it does anything else.
@@ -16,10 +17,7 @@ impl NotifyList {
     {
         let ListSeat { mut token, number } = seat;
         // By one add: tickets that were read first and written then could be handed out twice.
-        let ticket = self
-            .table
-            .shared
-            .fetch_add::<TakesTicket>(&mut token, WAIT, 1);
+        let ticket = self.words.add::<AtTicket>(&mut token, WAIT, 1);
         Holding {
             token,
             number,
@@ -35,10 +33,9 @@ impl NotifyList {
         ensures looked { HasLooked seat.old result seat.new }
         ensures granted { result ≡ true → AllGranted seat.old seat.new }
     {
-        let shared = &self.table.shared;
         // The wait word first: a ticket that is handed out after it is none that the answer speaks of.
-        let waited = shared.load::<BeginsOne>(&mut seat.token, WAIT);
-        waited == shared.load::<Goes>(&mut seat.token, NOTIFY)
+        let waited = self.words.load::<AtOne>(&mut seat.token, WAIT);
+        waited == self.words.load::<Here>(&mut seat.token, NOTIFY)
     }
 }
 

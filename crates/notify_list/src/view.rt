@@ -25,27 +25,12 @@ pub struct Sight {
     seen: [Told; 0],
 }
 
-/// The view of a seat. No value of it is made.
-pub struct View {
-    pub number: u64,
+/// What a seat knows beside its number and its strides. No value of it is made.
+pub struct Known {
     pub setting: Setting,
     pub sight: Sight,
     /// The list of waits after the seat's last stride.
     pub queue: [Wait; 0],
-    /// How many strides the seat has gone: rows that it ran, and looks.
-    pub strides: u64,
-    /// Of the seat that makes the others, how many were made; of another 0.
-    pub made: u64,
-    /// The seats that sit with it: mostly none.
-    pub guests: [Guest; 0],
-}
-
-/// What another seat's view has of a seat that sits with it. No value of it is made.
-pub struct Guest {
-    pub number: u64,
-    pub sight: Sight,
-    pub queue: [Wait; 0],
-    pub strides: u64,
 }
 
 /// The record under the lock: the list of waits.

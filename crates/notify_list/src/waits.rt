@@ -2,13 +2,23 @@
 ghost use Rattle.std.specs.Prelude.{◌≡◌};
 ghost use Rattle.notify_list.specs.Waiting.{IsWaited, IsGranted};
 
-use crate::notify_list::{LOCK, NOTIFY, NotifyList};
-use crate::plays::{Gives, Goes};
+use crate::notify_list::{LOCK, NOTIFY, NotifyList, WAIT, grant_word};
 use crate::seat::{Holding, ListSeat};
 use crate::waited::Waited;
+use running_rows::{Here, Patience, Yields};
 use std::sync::Wait;
 use ticket_words::less;
 use waiters::{SeatId, WaitId};
+
+/// How long a seat looks for its grant. Where more than one ticket isn't granted it lets others run.
+const PATIENCE: Patience = Patience {
+    rounds: 10,
+    looks: 100,
+    yields: Yields::Crowded {
+        ahead: WAIT,
+        behind: NOTIFY,
+    },
+};
 
 impl NotifyList {
     /// Waits until the ticket is granted, and gives the seat back (Go's `notifyListWait`).
@@ -23,20 +33,21 @@ impl NotifyList {
             ticket,
         } = holding;
         self.lock(rt, &mut token);
-        let shared = &self.table.shared;
         // Looked at under the lock, where alone tickets are granted. Without the look, or with one before the lock, a ticket that
         // was granted in between would sleep for good.
-        let notified = shared.load::<Goes>(&mut token, NOTIFY);
+        let notified = self.words.load::<Here>(&mut token, NOTIFY);
         if less(ticket, notified) {
-            shared.store::<Gives>(&mut token, LOCK, 0);
+            self.words.give_lock(&mut token, LOCK);
             return (ListSeat { token, number }, Waited::AtOnce);
         }
         let seat = SeatId::new(number);
         let id = WaitId { seat, turn: 0 };
         // Queued in the hold of the lock in which the ticket was found ungranted: who grants it finds the wait.
         self.insert(&mut token, waiters::Wait { id, ticket });
-        shared.store::<Gives>(&mut token, LOCK, 0);
-        self.sleep(rt, &mut token, number);
+        self.words.give_lock(&mut token, LOCK);
+        let asleep = self.asleep_word(number);
+        self.words
+            .take_when_granted(rt, &mut token, grant_word(number), asleep, &PATIENCE);
         (ListSeat { token, number }, Waited::Parked)
     }
 }

@@ -1,5 +1,6 @@
 -- A whole acquire.
 use Rattle.std.proofs.Common.{◌≡◌, ◌⊎◌, Bool, ℕ, zero, suc, ◌+◌, List, [], ◌∷◌, ◌++◌, sym, refl, ap, ◌∙◌, subst, inl, inr, ⊎_elim, arith, append-nil}
+use Rattle.std.proofs.lemmas.List.Elements.{All-nil}
 use Rattle.step_table.specs.declared.entry.Entry.{Entry}
 use Rattle.step_table.specs.declared.entry.Entry.TheVariants.{Take, Queue}
 use Rattle.step_table.specs.declared.place.Acquire.{Acquire}
@@ -14,15 +15,15 @@ use Rattle.sema_table.specs.declared.answers.Tried.TheVariants as tried
 use Rattle.sema_table.specs.declared.answers.Entered.TheVariants.{Taken, Asleep}
 use Rattle.sema_table.specs.declared.answers.Roused.TheVariants.{Woken, Handed}
 use Rattle.sema_table.specs.Seats.{SeatModel}
-use Rattle.sema_table.specs.Calls.{Calls, ComesTo}
+use Rattle.sema_table.specs.Calls.{Calls, RunsRows, ComesTo}
 use Rattle.sema_table.specs.Tries.{acquiring, IsTried}
-use Rattle.sema_table.specs.Waking.{CallsGranted, IsEntered, IsRetried}
+use Rattle.sema_table.specs.Waking.{RunsOrWaits, RunsAndSleeps, CallsGranted, IsEntered, IsRetried}
 use Rattle.sema_table.specs.Whole.{IsRoused, queued, TakesFrom, ParksLast, TakesAfter, TakesAtOnce, FindsNone, IsAcquired}
-use Rattle.sema_table.proofs.Calling.{placed_at, call_of, calls_then}
+use Rattle.sema_table.proofs.Calling.{placed_at, call_of, sleepless, calls_then}
 
 -- tries that were lost, or none yet
 abbrev pub TriesOn : SeatModel → ℕ → SeatModel → Type 0
-TriesOn s c t = (t ≡ s) ⊎ ((t ≡ record s { sight = t.sight; strides = t.strides }) × ComesTo s (acquiring c A1) t × Calls s (acquiring c A1) t [])
+TriesOn s c t = (t ≡ s) ⊎ ((t ≡ record s { sight = t.sight; strides = t.strides }) × ComesTo s (acquiring c A1) t × RunsRows s (acquiring c A1) t [])
 
 module _ (s t u : SeatModel) (c : ℕ) where
   same_on : TriesOn s c t → t ≡ record s { sight = t.sight; strides = t.strides }
@@ -33,8 +34,8 @@ module _ (s t u : SeatModel) (c : ℕ) where
   stood_on p (inl e) = ap (λ (q : SeatModel). record q.sight.stands { place = p }) e
   stood_on p (inr x) = ap (λ (q : SeatState). record q { place = p }) x.1
 
-  calls_on : (told : List Entry) → TriesOn s c t → Calls t (acquiring c A1) u told → Calls s (acquiring c A1) u told
-  calls_on told (inl e) y = subst (λ (q : SeatModel). Calls q (acquiring c A1) u told) e y
+  calls_on : (told : List Entry) → TriesOn s c t → RunsRows t (acquiring c A1) u told → RunsRows s (acquiring c A1) u told
+  calls_on told (inl e) y = subst (λ (q : SeatModel). RunsRows q (acquiring c A1) u told) e y
   calls_on told (inr x) y = calls_then s t u (acquiring c A1) (acquiring c A1) [] told (ap (λ (q : SeatModel). q.table) x.0) (ap (λ (q : SeatModel). q.number) x.0) (ap (λ (q : SeatState). q.place) x.1) x.2 y
 
   number_on : TriesOn s c t → t.number ≡ s.number
@@ -51,7 +52,7 @@ module _ (s t u : SeatModel) (c : ℕ) where
   tries_taken x e = (
     e.0 ∙ ap (λ (q : SeatModel). record q { taken = q.taken + 1; sight = u.sight; strides = u.strides }) (same_on x),
     e.1 ∙ stood_on Rest x,
-    subst (λ i. Calls s (acquiring c A1) u (Take c i ∷ [])) (number_on x) (calls_on (Take c t.number ∷ []) x e.2.1.call),
+    subst (λ i. RunsRows s (acquiring c A1) u (Take c i ∷ [])) (number_on x) (calls_on (Take c t.number ∷ []) x e.2.1.call),
   )
 
   pub tries_none : TriesOn s c t → IsTried t c tried.Zero u → FindsNone s c u
@@ -68,7 +69,7 @@ module _ (s t u : SeatModel) (c : ℕ) (lifo : Bool) (x : TriesOn s c t) where
   taken_after e = (
     e.0 ∙ ap (λ (q : SeatModel). record q { taken = q.taken + 1; sight = u.sight; strides = u.strides }) (same_on s t u c x),
     e.1 ∙ stood_on s t u c Rest x,
-    subst (λ i. Calls s (acquiring c A1) u (Take c i ∷ [])) (number_on s t u c x) (calls_on s t u c (Take c t.number ∷ []) x e.2),
+    subst (λ i. RunsRows s (acquiring c A1) u (Take c i ∷ [])) (number_on s t u c x) (calls_on s t u c (Take c t.number ∷ []) x e.2),
   )
 
   none_after : (v : SeatModel) → FindsNone t c v → FindsNone s c v
@@ -116,7 +117,7 @@ pub record SleptOn (s : SeatModel) (a : Acquire) (turn : ℕ) (t : SeatModel) : 
   pub same : t ≡ record s { sight = t.sight; strides = t.strides }
   pub times : ℕ
   pub stands : t.sight.stands ≡ record s.sight.stands { place = Acquiring a (P (turn + times)); turn = s.sight.stands.turn + times }
-  pub call : Calls s (Acquiring a (P turn)) t (queued s.number a s.sight.stands.turn times)
+  pub call : RunsAndSleeps s (Acquiring a (P turn)) t (queued s.number a s.sight.stands.turn times)
 
 abbrev pub SleepsOn : SeatModel → SeatModel → Type 0
 SleepsOn s t = (a : Acquire) (turn : ℕ) → ParksLast s a turn → SleptOn s a turn t
@@ -126,7 +127,7 @@ sleeps_first s a turn parks = record {
   same = refl;
   times = 0;
   stands = (λ i. record s.sight.stands { place = (parks i).place }) ∙ (λ i. record s.sight.stands { place = Acquiring a (P (none_more turn i)); turn = none_more s.sight.stands.turn i });
-  call = call_of s s (Acquiring a (P turn)) [] [] (sym (placed_at (Acquiring a (P turn)) s.sight (ap (λ (q : SeatState). q.place) parks))) (omega arith) refl;
+  call = call_of s s (Acquiring a (P turn)) [] [] (All-nil (RunsOrWaits s.number)) (sym (placed_at (Acquiring a (P turn)) s.sight (ap (λ (q : SeatState). q.place) parks))) (sym (append-nil s.strides)) refl;
 }
   where
     none_more : (k : ℕ) → k ≡ k + 0
@@ -153,8 +154,9 @@ module _ (s t : SeatModel) (a : Acquire) (turn : ℕ) (parks : ParksLast s a tur
   at = ap (λ (q : SeatState). q.place) x.stands
 
   -- rows that follow
-  then_calls : (u : SeatModel) (more : List Entry) → Calls t (Acquiring a (P (turn + x.times))) u more → Calls s (Acquiring a (P turn)) u (queued s.number a s.sight.stands.turn x.times ++ more)
-  then_calls u more y = calls_then s t u (Acquiring a (P turn)) (Acquiring a (P (turn + x.times))) (queued s.number a s.sight.stands.turn x.times) more tables numbers at x.call y
+  then_calls : (u : SeatModel) (more : List Entry) → RunsAndSleeps t (Acquiring a (P (turn + x.times))) u more → RunsAndSleeps s (Acquiring a (P turn)) u (queued s.number a s.sight.stands.turn x.times ++ more)
+  then_calls u more y = calls_then s t u (Acquiring a (P turn)) (Acquiring a (P (turn + x.times))) (queued s.number a s.sight.stands.turn x.times) more tables numbers at x.call
+      (subst (λ i. Calls (RunsOrWaits i) t (Acquiring a (P (turn + x.times))) u more) numbers y)
 
   pub handed_on : (v : SeatModel) → IsRoused t (Handed v) → TakesFrom s (Acquiring a (P turn)) a v
   handed_on v e = let h = handed_by t a (turn + x.times) at v e in (
@@ -163,7 +165,7 @@ module _ (s t : SeatModel) (a : Acquire) (turn : ℕ) (parks : ParksLast s a tur
       x.times,
       e.1 ∙ ap (λ (q : SeatState). record q { place = Rest }) x.stands,
       inr (
-        subst (λ l. Calls s (Acquiring a (P turn)) v l) (append-nil (queued s.number a s.sight.stands.turn x.times)) (then_calls v [] h.0.1.call),
+        subst (λ l. RunsAndSleeps s (Acquiring a (P turn)) v l) (append-nil (queued s.number a s.sight.stands.turn x.times)) (then_calls v [] h.0.1.call),
         (turn + x.times, (let k = next_turn in omega arith), subst (λ i. HasItsUnit a.counter (wait i (turn + x.times)) v.sight.seen) numbers h.1),
       ),
     ),
@@ -180,9 +182,10 @@ module _ (s t : SeatModel) (a : Acquire) (turn : ℕ) (parks : ParksLast s a tur
     at_woken = ap (λ (q : SeatState). q.place) woke.0
 
     -- the rows of a retry
-    retry_calls : (u : SeatModel) (more : List Entry) → Calls w (Acquiring a A10) u more → Calls s (Acquiring a (P turn)) u (queued s.number a s.sight.stands.turn x.times ++ more)
+    retry_calls : (u : SeatModel) (more : List Entry) → RunsRows w (Acquiring a A10) u more → RunsAndSleeps s (Acquiring a (P turn)) u (queued s.number a s.sight.stands.turn x.times ++ more)
     retry_calls u more y = then_calls u more
-        (calls_then t w u (Acquiring a (P (turn + x.times))) (Acquiring a A10) [] more (ap (λ (q : SeatModel). q.table) e.0) (ap (λ (q : SeatModel). q.number) e.0) at_woken woke.1.1.call y)
+        (calls_then t w u (Acquiring a (P (turn + x.times))) (Acquiring a A10) [] more (ap (λ (q : SeatModel). q.table) e.0) (ap (λ (q : SeatModel). q.number) e.0) at_woken woke.1.1.call
+        (sleepless t.number w u (Acquiring a A10) more y))
 
     stands_woken : (place : Place) (k : ℕ) → record w.sight.stands { place = place; turn = w.sight.stands.turn + k } ≡ record s.sight.stands { place = place; turn = s.sight.stands.turn + x.times + k }
     stands_woken place k = ap (λ (q : SeatState). record q { place = place; turn = q.turn + k }) (woke.0 ∙ ap (λ (q : SeatState). record q { place = Acquiring a A10 }) x.stands)
@@ -203,7 +206,7 @@ module _ (s t : SeatModel) (a : Acquire) (turn : ℕ) (parks : ParksLast s a tur
       (
         x.times,
         y.1 ∙ ap (λ (q : SeatState). record q { place = Rest }) (woke.0 ∙ ap (λ (q : SeatState). record q { place = Acquiring a A10 }) x.stands),
-        inl (subst (λ i. Calls s (Acquiring a (P turn)) u (queued s.number a s.sight.stands.turn x.times ++ Take a.counter i ∷ [])) number_woken (retry_calls u (Take a.counter w.number ∷ []) y.2)),
+        inl (subst (λ i. RunsAndSleeps s (Acquiring a (P turn)) u (queued s.number a s.sight.stands.turn x.times ++ Take a.counter i ∷ [])) number_woken (retry_calls u (Take a.counter w.number ∷ []) y.2)),
       ),
     )
 
@@ -213,8 +216,8 @@ module _ (s t : SeatModel) (a : Acquire) (turn : ℕ) (parks : ParksLast s a tur
       times = suc x.times;
       stands = y.1 ∙ ap (λ (q : SeatState). record { place = Acquiring a (P q.turn); turn = q.turn + 1; hand = q.hand }) (woke.0 ∙ ap (λ (q : SeatState). record q { place = Acquiring a A10 }) x.stands)
           ∙ (λ i. record s.sight.stands { place = Acquiring a (P (later i)); turn = one_more i });
-      call = subst (λ l. Calls s (Acquiring a (P turn)) u l) (queued_more s.number a s.sight.stands.turn x.times)
-          (subst (λ (q : ℕ × ℕ). Calls s (Acquiring a (P turn)) u (queued s.number a s.sight.stands.turn x.times ++ Queue a.counter (wait q.0 q.1) a.lifo ∷ [])) (λ i. (number_woken i, turn_woken i))
+      call = subst (λ l. RunsAndSleeps s (Acquiring a (P turn)) u l) (queued_more s.number a s.sight.stands.turn x.times)
+          (subst (λ (q : ℕ × ℕ). RunsAndSleeps s (Acquiring a (P turn)) u (queued s.number a s.sight.stands.turn x.times ++ Queue a.counter (wait q.0 q.1) a.lifo ∷ [])) (λ i. (number_woken i, turn_woken i))
           (retry_calls u (Queue a.counter (wait w.number w.sight.stands.turn) a.lifo ∷ []) y.2));
     }
       where
@@ -226,7 +229,7 @@ module _ (s t : SeatModel) (a : Acquire) (turn : ℕ) (parks : ParksLast s a tur
 
 -- from the lock on, after tries that found none
 pub entered_at_once : (u t : SeatModel) (a : Acquire) → IsEntered u a (Acquiring a A3) (Taken t) → TakesFrom u (Acquiring a A3) a t
-entered_at_once u t a e = (e.0, (0, e.1 ∙ (λ i. record u.sight.stands { place = Rest; turn = none_more i }), inl e.2))
+entered_at_once u t a e = (e.0, (0, e.1 ∙ (λ i. record u.sight.stands { place = Rest; turn = none_more i }), inl (sleepless u.number u t (Acquiring a A3) (Take a.counter u.number ∷ []) e.2)))
   where
     none_more : u.sight.stands.turn ≡ u.sight.stands.turn + 0
     none_more = omega arith
@@ -241,10 +244,10 @@ module _ (u w : SeatModel) (a : Acquire) (e : IsEntered u a (Acquiring a A3) (As
     (
       suc x.1.0,
       x.1.1 ∙ (λ i. record { place = Rest; turn = (turns x.1.0) i; hand = (e.1 i).hand }),
-      ⊎_elim (λ own. inl (first_then x.1.0 (Take a.counter u.number ∷ []) (subst (λ i. Calls w (Acquiring a (P u.sight.stands.turn)) t (queued w.number a w.sight.stands.turn x.1.0 ++ Take a.counter i ∷ [])) numbers own)))
+      ⊎_elim (λ own. inl (first_then x.1.0 (Take a.counter u.number ∷ []) (subst (λ i. RunsAndSleeps w (Acquiring a (P u.sight.stands.turn)) t (queued w.number a w.sight.stands.turn x.1.0 ++ Take a.counter i ∷ [])) numbers own)))
           (λ handed. inr (
-            subst (λ l. Calls u (Acquiring a A3) t l) (append-nil (queued u.number a u.sight.stands.turn (suc x.1.0)))
-                (first_then x.1.0 [] (subst (λ l. Calls w (Acquiring a (P u.sight.stands.turn)) t l) (sym (append-nil (queued w.number a w.sight.stands.turn x.1.0))) handed.0)),
+            subst (λ l. RunsAndSleeps u (Acquiring a A3) t l) (append-nil (queued u.number a u.sight.stands.turn (suc x.1.0)))
+                (first_then x.1.0 [] (subst (λ l. RunsAndSleeps w (Acquiring a (P u.sight.stands.turn)) t l) (sym (append-nil (queued w.number a w.sight.stands.turn x.1.0))) handed.0)),
             (
               handed.1.0,
               handed.1.1 ∙ turns x.1.0,
@@ -262,7 +265,8 @@ module _ (u w : SeatModel) (a : Acquire) (e : IsEntered u a (Acquiring a A3) (As
       turns n = let k = ap (λ (q : SeatState). q.turn) e.1 in omega arith
 
       -- the first wait, and what followed
-      first_then : (n : ℕ) (more : List Entry) → Calls w (Acquiring a (P u.sight.stands.turn)) t (queued w.number a w.sight.stands.turn n ++ more) → Calls u (Acquiring a A3) t (queued u.number a u.sight.stands.turn (suc n) ++ more)
+      first_then : (n : ℕ) (more : List Entry) → RunsAndSleeps w (Acquiring a (P u.sight.stands.turn)) t (queued w.number a w.sight.stands.turn n ++ more) → RunsAndSleeps u (Acquiring a A3) t (queued u.number a u.sight.stands.turn (suc n) ++ more)
       first_then n more y = calls_then u w t (Acquiring a A3) (Acquiring a (P u.sight.stands.turn)) (Queue a.counter (wait u.number u.sight.stands.turn) a.lifo ∷ []) (queued u.number a (u.sight.stands.turn + 1) n ++ more)
-          (ap (λ (q : SeatModel). q.table) e.0) numbers (ap (λ (q : SeatState). q.place) e.1) e.2
-          (subst (λ (q : ℕ × ℕ). Calls w (Acquiring a (P u.sight.stands.turn)) t (queued q.0 a q.1 n ++ more)) (λ i. (numbers i, (e.1 i).turn)) y)
+          (ap (λ (q : SeatModel). q.table) e.0) numbers (ap (λ (q : SeatState). q.place) e.1)
+          (sleepless u.number u w (Acquiring a A3) (Queue a.counter (wait u.number u.sight.stands.turn) a.lifo ∷ []) e.2)
+          (subst (λ (q : ℕ × ℕ). Calls (RunsOrWaits q.0) w (Acquiring a (P u.sight.stands.turn)) t (queued q.0 a q.1 n ++ more)) (λ i. (numbers i, (e.1 i).turn)) y)

@@ -4,54 +4,54 @@ use Rattle.std.proofs.lemmas.List.{get_or-append-add}
 use Rattle.std.specs.List.{All, remove}
 use mathlib.Core.Option.{some, some-injective, some-ne-none}
 use lib.ListN.{get_elem?}
-use Rattle.sema_table.specs.declared.view.Guest.{Guest}
+use Rattle.running_rows.specs.Sitting.{sitting}
+use Rattle.sema_table.specs.Rows.{SemaSeat}
 use Rattle.sema_table.specs.declared.seat.Numbers.{Numbers}
-use Rattle.sema_table.specs.Plays.{Me}
+use Rattle.sema_table.specs.Rows.{Me}
 use Rattle.sema_table.specs.Seats.{TableModel, SeatModel, Token, table_of, seat_of, IsSeat}
-use Rattle.sema_table.specs.Meeting.{guest_of, sitting}
-use Rattle.sema_table.specs.Closing.{sum_by, has_added, was_given, IsGuestOf, AreGuestsOf, IsGathered}
-use Rattle.sema_table.proofs.Reckoning.{guest_is}
+use Rattle.sema_table.specs.Closing.{sum_by, has_added, was_given, IsOfSeat, AreOfSeats, IsGathered}
+use Rattle.sema_table.proofs.Reckoning.{seat_is}
 
 -- of these seats those behind `now` sit with the token's own seat: with its counts, they have added and were given so many units
-pub record Gathered (t : TableModel) (items : List SeatModel) (own_guest : Guest) (now : List SeatModel) (token : Token) (added_first given_first releases acquires : ℕ) : Type 0 where
+pub record Gathered (t : TableModel) (items : List SeatModel) (own_seat : SemaSeat) (now : List SeatModel) (token : Token) (added_first given_first releases acquires : ℕ) : Type 0 where
   pub own : table_of token ≡ t
-  pub view : guest_of token.me.0 ≡ own_guest
+  pub view : token.me.0.own ≡ own_seat
   pub gone : List SeatModel
   pub parts : items ≡ now ++ gone
-  pub are : AreGuestsOf t.setting token.me.0.guests gone
+  pub are : AreOfSeats t.setting token.me.0.guests gone
   pub added : releases ≡ added_first + sum_by (has_added t.setting.limit) gone
   pub given : acquires ≡ given_first + sum_by was_given gone
   pub few_added : releases ≤ (length gone + 1) * 1099511627776
   pub few_given : acquires ≤ (length gone + 1) * 562949953421312
 
 pub none_gathered : (t : TableModel) (items : List SeatModel) (token : Token) (added given : ℕ) → table_of token ≡ t → token.me.0.guests ≡ [] → added ≤ 1099511627776 → given ≤ 562949953421312
-    → Gathered t items (guest_of token.me.0) items token added given added given
+    → Gathered t items token.me.0.own items token added given added given
 none_gathered t items token added given own alone few most = record {
   own = own;
   view = refl;
   gone = [];
   parts = sym (append-nil items);
-  are = subst (λ (l : List Guest). AreGuestsOf t.setting l []) (sym alone) tt;
+  are = subst (λ (l : List SemaSeat). AreOfSeats t.setting l []) (sym alone) tt;
   added = omega arith;
   given = omega arith;
   few_added = omega arith;
   few_given = omega arith;
 }
 
--- the guest of a seat of this table
-of_table : (t : TableModel) (s : Token) (n : Numbers) (seat : SeatModel) (g : Guest) → seat_of s n ≡ seat → IsSeat s n → table_of s ≡ t → guest_of s.me.0 ≡ g → IsGuestOf t.setting g seat
-of_table t s n seat g seen is own at = subst (λ (q : TableModel × (Guest × SeatModel)). IsGuestOf q.0.setting q.1.0 q.1.1) (λ i. (own i, (at i, seen i))) (guest_is s n is)
+-- what a view has of a seat of this table
+of_table : (t : TableModel) (s : Token) (n : Numbers) (seat : SeatModel) (g : SemaSeat) → seat_of s n ≡ seat → IsSeat s n → table_of s ≡ t → s.me.0.own ≡ g → IsOfSeat t.setting g seat
+of_table t s n seat g seen is own at = subst (λ (q : TableModel × (SemaSeat × SeatModel)). IsOfSeat q.0.setting q.1.0 q.1.1) (λ i. (own i, (at i, seen i))) (seat_is s n is)
 
-pub one_gathered : (t : TableModel) (items : List SeatModel) (own_guest : Guest) (now rest : List SeatModel) (token after : Token) (added_first given_first releases acquires limit : ℕ) (seat : SeatModel) (s : Token) (n : Numbers)
-    → Gathered t items own_guest now token added_first given_first releases acquires → now ≡ rest ++ seat ∷ [] → seat_of s n ≡ seat → IsSeat s n → table_of s ≡ t → limit ≡ t.setting.limit → limit ≤ 1099511627776
+pub one_gathered : (t : TableModel) (items : List SeatModel) (own_seat : SemaSeat) (now rest : List SeatModel) (token after : Token) (added_first given_first releases acquires limit : ℕ) (seat : SeatModel) (s : Token) (n : Numbers)
+    → Gathered t items own_seat now token added_first given_first releases acquires → now ≡ rest ++ seat ∷ [] → seat_of s n ≡ seat → IsSeat s n → table_of s ≡ t → limit ≡ t.setting.limit → limit ≤ 1099511627776
     → after.table_id ≡ token.table_id → after.me ≡ (sitting token.me.0 s.me.0, token.me.1)
-    → Gathered t items own_guest rest after added_first given_first (releases + (limit - n.left)) (acquires + n.taken)
-one_gathered t items own_guest now rest token after added_first given_first releases acquires limit seat s n x last seen is own limited low same joined = record {
-  own = (λ i. record { id = same i; setting = (joined i).0.setting }) ∙ x.own;
-  view = ap (λ (m : Me). guest_of m.0) joined ∙ x.view;
+    → Gathered t items own_seat rest after added_first given_first (releases + (limit - n.left)) (acquires + n.taken)
+one_gathered t items own_seat now rest token after added_first given_first releases acquires limit seat s n x last seen is own limited low same joined = record {
+  own = (λ i. record { id = same i; setting = (joined i).0.own.knows.setting }) ∙ x.own;
+  view = ap (λ (m : Me). m.0.own) joined ∙ x.view;
   gone = seat ∷ x.gone;
   parts = x.parts ∙ ap (λ l. l ++ x.gone) last ∙ append_assoc rest (seat ∷ []) x.gone;
-  are = subst (λ (l : List Guest). AreGuestsOf t.setting l (seat ∷ x.gone)) (sym (ap (λ (m : Me). m.0.guests) joined)) (of_table t s n seat (guest_of s.me.0) seen is own refl, x.are);
+  are = subst (λ (l : List SemaSeat). AreOfSeats t.setting l (seat ∷ x.gone)) (sym (ap (λ (m : Me). m.0.guests) joined)) (of_table t s n seat s.me.0.own seen is own refl, x.are);
   added = let a = x.added in let l = ap (λ (y : SeatModel). y.left) seen in omega (arith, limited);
   given = let a = x.given in let l = ap (λ (y : SeatModel). y.taken) seen in omega arith;
   few_added = let a = x.few_added in omega arith;
@@ -59,10 +59,10 @@ one_gathered t items own_guest now rest token after added_first given_first rele
 }
 
 pub all_gathered : (t : TableModel) (items : List SeatModel) (token : Token) (releases acquires limit : ℕ) (seat : SeatModel) (s : Token) (n : Numbers)
-    → seat_of s n ≡ seat → IsSeat s n → table_of s ≡ t → limit ≡ t.setting.limit → Gathered t items (guest_of s.me.0) [] token (limit - n.left) n.taken releases acquires → IsGathered t (seat ∷ items) token releases acquires
+    → seat_of s n ≡ seat → IsSeat s n → table_of s ≡ t → limit ≡ t.setting.limit → Gathered t items s.me.0.own [] token (limit - n.left) n.taken releases acquires → IsGathered t (seat ∷ items) token releases acquires
 all_gathered t items token releases acquires limit seat s n seen is own limited x = record {
   own = x.own;
-  all = (of_table t s n seat (guest_of token.me.0) seen is own (sym x.view), subst (λ (l : List SeatModel). AreGuestsOf t.setting token.me.0.guests l) (sym x.parts) x.are);
+  all = (of_table t s n seat token.me.0.own seen is own (sym x.view), subst (λ (l : List SeatModel). AreOfSeats t.setting token.me.0.guests l) (sym x.parts) x.are);
   releases_are = let a = x.added in let l = ap (λ (y : SeatModel). y.left) seen in let p = ap (λ (l : List SeatModel). sum_by (has_added t.setting.limit) l) x.parts in omega (arith, limited);
   acquires_are = let a = x.given in let l = ap (λ (y : SeatModel). y.taken) seen in let p = ap (λ (l : List SeatModel). sum_by was_given l) x.parts in omega arith;
 }

@@ -1,5 +1,5 @@
 -- A release from its root's lock on, row by row.
-use Rattle.std.proofs.Common.{◌≡◌, ◌≢◌, ℕ, ◌+◌, ◌-◌, ◌^◌, ◌<◌, ◌≤◌, nat_eq, not, MatchBool, Bool, true, false, List, [], ◌∷◌, ◌++◌, drop, slice_index, sym, refl, ap, ◌∙◌, subst, arith, eq-eqb, ne_eqb}
+use Rattle.std.proofs.Common.{◌≡◌, ◌≢◌, ℕ, ◌+◌, ◌-◌, ◌^◌, ◌<◌, ◌≤◌, nat_eq, not, MatchBool, Bool, true, false, List, [], ◌∷◌, ◌++◌, drop, sym, refl, ap, ◌∙◌, subst, arith, eq-eqb, ne_eqb}
 use mathlib.Core.Logic.{dite}
 use native.Mathlib.Decide.{ℕ_discrete}
 use Rattle.waiters.specs.declared.wait.WaitId.{WaitId}
@@ -19,16 +19,20 @@ use Rattle.sema_law.proofs.Promises.{the_law}
 use Rattle.sema_law.proofs.SemaPaths.{the_sema_paths}
 use Rattle.sema_law.proofs.Placing.{same_here}
 use Rattle.sema_root.specs.Treap.{Treap}
+use mathlib.Core.Option.{none}
+use Rattle.running_rows.specs.Table.{step}
+use Rattle.running_rows.specs.Strides.{here, grants}
 use Rattle.sema_table.specs.declared.view.Record.TheVariants.{Root}
 use Rattle.sema_table.specs.Setting.{root, layout, address}
-use Rattle.sema_table.specs.Rule.{sight_by, lists_by, IsRecord, IsSomeones, IsKept}
+use Rattle.running_rows.specs.Owing.{Owes}
+use Rattle.sema_table.specs.Rule.{sight_by, lists_by, IsRecord}
 use Rattle.sema_law.specs.Balances.{added_by}
-use Rattle.atomic_table.specs.Table.{Allows, carried_after}
 use Rattle.step_table.specs.declared.word.Word.TheVariants.{Grant}
 use Rattle.sema_table.specs.declared.view.Setting.{Setting}
-use Rattle.sema_table.specs.Plays.{Me, Ran, begin, stepped}
-use Rattle.sema_table.proofs.Keeping.{Kept_state}
-use Rattle.sema_table.proofs.Allowing.{allowed_at}
+use Rattle.sema_table.specs.Rows.{Me, semaphore_rows}
+use Rattle.sema_table.specs.Starts.{begin}
+use Rattle.sema_table.proofs.Striding.{Ran}
+use Rattle.sema_table.proofs.Allowing.{owes_grant}
 use Rattle.sema_table.specs.Seats.{Token, TableModel}
 use Rattle.sema_table.specs.Walks.{Walked, HasRecord, Granted, moved_to, taken_out, sought, granting, grant_of}
 use Rattle.sema_table.proofs.Words.{listed_agree, same_record}
@@ -37,18 +41,18 @@ use Rattle.sema_table.proofs.Walking.{walked_row, walked_then, ran_from}
 use Rattle.sema_table.proofs.Holding.{record_on}
 
 -- R4
-module _ (s u : Token) (a : Release) (n : ℕ) (at : s.me.0.place ≡ Releasing a R4) (r : Ran s.me.0 n u.me.0) (same : u.table_id ≡ s.table_id) where
-  abbrev look : Ran (begin (Releasing a R4) s.me.0) n u.me.0
+module _ (s u : Token) (a : Release) (n : ℕ) (at : s.me.0.own.knows.place ≡ Releasing a R4) (r : Ran here s.me.0.own n u.me.0.own) (same : u.table_id ≡ s.table_id) where
+  abbrev look : Ran (begin (Releasing a R4)) s.me.0.own n u.me.0.own
   look = ran_from s u (Releasing a R4) n at r
 
   abbrev listed : List WaitId
-  listed = (plain_before (layout s.me.0.setting) look.stride).lists a.counter
+  listed = (plain_before (layout s.me.0.own.knows.setting) look.stride).lists a.counter
 
   abbrev above : ℕ → Place
   above left = by_first listed (Releasing a R6) (λ w. Releasing a R5)
 
-  found : Goes (begin (Releasing a R4) s.me.0) look.stride (zero_or (Releasing a R6) above n, Nothing) u.me.0
-  found = led (begin (Releasing a R4) s.me.0) u.me.0 (Releasing a R4) n look refl
+  found : Goes s.me.0.own look.stride (zero_or (Releasing a R6) above n, Nothing) u.me.0.own
+  found = led s.me.0.own u.me.0.own (Releasing a R4) n look
 
   zero_walk : n ≡ 0 → Walked s (Releasing a R4) u (moved_to s (Releasing a R6)) [] 0
   zero_walk e = walked_row s u (Releasing a R4) n (Releasing a R6, Nothing) look (load_zero n (Releasing a R6) above found e) same
@@ -59,7 +63,7 @@ module _ (s u : Token) (a : Release) (n : ℕ) (at : s.me.0.place ≡ Releasing 
   -- what is listed then is what the seat has seen
   listed_is : (h : 0 < n) → above (n - 1) ≡ sought u a
   listed_is h = ap (λ (l : List WaitId). by_first l (Releasing a R6) (λ w. Releasing a R5))
-      (sym (found.lists a.counter) ∙ ap (λ (y : TableModel). lists_by y.setting u.me.0.seen a.counter) (sym (some_walk h).table_is))
+      (sym (found.lists a.counter) ∙ ap (λ (y : TableModel). lists_by y.setting u.me.0.own.knows.seen a.counter) (sym (some_walk h).table_is))
 
   pub looked_walk : MatchBool (not (nat_eq n 0)) (Walked s (Releasing a R4) u (moved_to s (sought u a)) [] 0) (Walked s (Releasing a R4) u (moved_to s (Releasing a R6)) [] 0)
   looked_walk = dite (ℕ_discrete n 0)
@@ -68,67 +72,67 @@ module _ (s u : Token) (a : Release) (n : ℕ) (at : s.me.0.place ≡ Releasing 
       (subst (λ q. Walked s (Releasing a R4) u (moved_to s q) [] 0) (listed_is (omega (arith, ne))) (some_walk (omega (arith, ne)))))
 
   pub looked_record : u.me.1 ≡ s.me.1 → HasRecord s a.counter → HasRecord u a.counter
-  looked_record slots kept = record_on s u (Releasing a R4) n a.counter (zero_or (Releasing a R6) above n, Nothing) look found (λ i. record { id = same i; setting = (look.same i).setting }) (on_here (root s.me.0.setting a.counter) 1) (λ l q. refl) slots kept
+  looked_record slots kept = record_on s u (Releasing a R4) n a.counter (zero_or (Releasing a R6) above n, Nothing) look found (λ i. record { id = same i; setting = look.same.1 i }) (on_here (root s.me.0.own.knows.setting a.counter) 1) (λ l q. refl) slots kept
 
 -- a wait in hand is that of a seat of the table
-pub hand_there : (s u : Token) (from : Place) (n : ℕ) (x : WaitId) → Ran (begin from s.me.0) n u.me.0 → u.me.0.hand ≡ x ∷ [] → x.seat < s.me.0.setting.seats
+pub hand_there : (s u : Token) (from : Place) (n : ℕ) (x : WaitId) → Ran (begin from) s.me.0.own n u.me.0.own → u.me.0.own.knows.hand ≡ x ∷ [] → x.seat < s.me.0.own.knows.setting.seats
 hand_there s u from n x r at =
-    let m = layout s.me.0.setting in let i : ℕ = s.me.0.number in
-    let end = the_sema_paths.ends m i (sight_by (begin from s.me.0)) (sight_by u.me.0) r.stride r.there r.ran in
+    let m = layout s.me.0.own.knows.setting in let i : ℕ = s.me.0.own.number in
+    let end = the_sema_paths.ends m i (sight_by (begin from s.me.0.own.knows)) (sight_by u.me.0.own.knows) r.stride r.also.there r.ran in
     let w : SemaWorld = end.0 in
     let good = the_law.reached m w end.1 in
     let stands : (w.seats i).hand ≡ x ∷ [] = ap (λ (y : SemaSight). y.stands.hand) (sym end.2) ∙ at in
     let some : times x (w.seats i).hand ≡ 1 = ap (times x) stands ∙ (let a = same_here x in omega arith) in
-    (good.parked.1 i x r.there (omega arith)).0
+    (good.parked.1 i x r.also.there (omega arith)).0
 
 -- R5, where the record is already without the wait
-module _ (s u : Token) (a : Release) (n : ℕ) (w : WaitId) (tail : List WaitId) (at : s.me.0.place ≡ Releasing a R5) (r : Ran s.me.0 n u.me.0) (same : u.table_id ≡ s.table_id)
-    (first : lists_by s.me.0.setting s.me.0.seen a.counter ≡ w ∷ tail) where
-  abbrev lowers : Ran (begin (Releasing a R5) s.me.0) n u.me.0
+module _ (s u : Token) (a : Release) (n : ℕ) (w : WaitId) (tail : List WaitId) (at : s.me.0.own.knows.place ≡ Releasing a R5) (r : Ran here s.me.0.own n u.me.0.own) (same : u.table_id ≡ s.table_id)
+    (first : lists_by s.me.0.own.knows.setting s.me.0.own.knows.seen a.counter ≡ w ∷ tail) where
+  abbrev lowers : Ran (begin (Releasing a R5)) s.me.0.own n u.me.0.own
   lowers = ran_from s u (Releasing a R5) n at r
 
   abbrev leaves : Next
-  leaves = (Releasing a R6, Tells (Leave a.counter w s.me.0.number))
+  leaves = (Releasing a R6, Tells (Leave a.counter w s.me.0.own.number))
 
   -- the root's lists are those that the seat has seen
-  held_lists : (d : ℕ) → root s.me.0.setting d ≡ root s.me.0.setting a.counter → (plain_before (layout s.me.0.setting) lowers.stride).lists d ≡ lists_by s.me.0.setting s.me.0.seen d
-  held_lists d e = lowers.held d (ap (λ k. holds_at k) e ∙ on_here (root s.me.0.setting a.counter) 1)
+  held_lists : (d : ℕ) → root s.me.0.own.knows.setting d ≡ root s.me.0.own.knows.setting a.counter → (plain_before (layout s.me.0.own.knows.setting) lowers.stride).lists d ≡ lists_by s.me.0.own.knows.setting s.me.0.own.knows.seen d
+  held_lists d e = lowers.also.held d (ap (λ k. holds_at k) e ∙ on_here (root s.me.0.own.knows.setting a.counter) 1)
     where
       holds_at : ℕ → ℕ
-      holds_at k = holds (root s.me.0.setting) k (Releasing a R5)
+      holds_at k = holds (root s.me.0.own.knows.setting) k (Releasing a R5)
 
-  went : Goes (begin (Releasing a R5) s.me.0) lowers.stride leaves u.me.0
-  went = subst (λ (l : List WaitId). Goes (begin (Releasing a R5) s.me.0) lowers.stride (by_first l (to (Releasing a R6)) (λ x. (Releasing a R6, Tells (Leave a.counter x s.me.0.number)))) u.me.0)
-      (held_lists a.counter refl ∙ first) (led (begin (Releasing a R5) s.me.0) u.me.0 (Releasing a R5) n lowers refl)
+  went : Goes s.me.0.own lowers.stride leaves u.me.0.own
+  went = subst (λ (l : List WaitId). Goes s.me.0.own lowers.stride (by_first l (to (Releasing a R6)) (λ x. (Releasing a R6, Tells (Leave a.counter x s.me.0.own.number)))) u.me.0.own)
+      (held_lists a.counter refl ∙ first) (led s.me.0.own u.me.0.own (Releasing a R5) n lowers)
 
-  pub out_walk : Walked s (Releasing a R5) u (taken_out s a w) (Leave a.counter w s.me.0.number ∷ []) 0
+  pub out_walk : Walked s (Releasing a R5) u (taken_out s a w) (Leave a.counter w s.me.0.own.number ∷ []) 0
   out_walk = walked_row s u (Releasing a R5) n leaves lowers went same
 
-  pub out_there : s.me.0.hand ≡ [] → w.seat < s.me.0.setting.seats
+  pub out_there : s.me.0.own.knows.hand ≡ [] → w.seat < s.me.0.own.knows.setting.seats
   out_there empty = hand_there s u (Releasing a R5) n w lowers (ap (λ (y : SeatState). y.hand) went.stands ∙ ap (λ (l : List WaitId). l ++ w ∷ []) empty)
 
-  pub out_record : (treap : Treap) → u.me.1 ≡ (root s.me.0.setting a.counter, Root treap) ∷ []
-      → IsRecord s.me.0.setting (root s.me.0.setting a.counter) treap (put (lists_by s.me.0.setting s.me.0.seen) a.counter (drop 1 (lists_by s.me.0.setting s.me.0.seen a.counter))) → HasRecord u a.counter
+  pub out_record : (treap : Treap) → u.me.1 ≡ (root s.me.0.own.knows.setting a.counter, Root treap) ∷ []
+      → IsRecord s.me.0.own.knows.setting (root s.me.0.own.knows.setting a.counter) treap (put (lists_by s.me.0.own.knows.setting s.me.0.own.knows.seen) a.counter (drop 1 (lists_by s.me.0.own.knows.setting s.me.0.own.knows.seen a.counter))) → HasRecord u a.counter
   out_record treap slots is = (
     treap,
     slots ∙ (λ i. (root (sym out_walk.table_is i).setting a.counter, Root treap) ∷ []),
-    subst (λ (y : TableModel). IsRecord y.setting (root y.setting a.counter) treap (lists_by y.setting u.me.0.seen)) (sym out_walk.table_is)
-        (same_record s.me.0.setting (root s.me.0.setting a.counter) treap (put (lists_by s.me.0.setting s.me.0.seen) a.counter (drop 1 (lists_by s.me.0.setting s.me.0.seen a.counter))) (lists_by s.me.0.setting u.me.0.seen)
-        (λ d e. went.lists d ∙ listed_agree (Tells (Leave a.counter w s.me.0.number)) ((plain_before (layout s.me.0.setting) lowers.stride).lists) (lists_by s.me.0.setting s.me.0.seen) d (held_lists d e)) is),
+    subst (λ (y : TableModel). IsRecord y.setting (root y.setting a.counter) treap (lists_by y.setting u.me.0.own.knows.seen)) (sym out_walk.table_is)
+        (same_record s.me.0.own.knows.setting (root s.me.0.own.knows.setting a.counter) treap (put (lists_by s.me.0.own.knows.setting s.me.0.own.knows.seen) a.counter (drop 1 (lists_by s.me.0.own.knows.setting s.me.0.own.knows.seen a.counter))) (lists_by s.me.0.own.knows.setting u.me.0.own.knows.seen)
+        (λ d e. went.lists d ∙ listed_agree (Tells (Leave a.counter w s.me.0.own.number)) ((plain_before (layout s.me.0.own.knows.setting) lowers.stride).lists) (lists_by s.me.0.own.knows.setting s.me.0.own.knows.seen) d (held_lists d e)) is),
   )
 
 -- R9 or R10
-module _ (s u : Token) (a : Release) (id : WaitId) (n : ℕ) (r : Ran s.me.0 n u.me.0) (same : u.table_id ≡ s.table_id) where
-  pub granted : (handed : Bool) → s.me.0.place ≡ granting a handed → Granted s (granting a handed) u
+module _ (s u : Token) (a : Release) (id : WaitId) (n : ℕ) (r : Ran here s.me.0.own n u.me.0.own) (same : u.table_id ≡ s.table_id) where
+  pub granted : (handed : Bool) → s.me.0.own.knows.place ≡ granting a handed → Granted s (granting a handed) u
   granted true at = let row = ran_from s u (Releasing a R9) n at r in record {
-    walked = walked_row s u (Releasing a R9) n (Rest, Wakes) row (led (begin (Releasing a R9) s.me.0) u.me.0 (Releasing a R9) n row refl) same;
+    walked = walked_row s u (Releasing a R9) n (Rest, Wakes) row (led s.me.0.own u.me.0.own (Releasing a R9) n row) same;
     stride = row.stride;
     strides_are = refl;
     did = row.did;
     stood = row.ran.stood;
   }
   granted false at = let row = ran_from s u (Releasing a R10) n at r in record {
-    walked = walked_row s u (Releasing a R10) n (Rest, Wakes) row (led (begin (Releasing a R10) s.me.0) u.me.0 (Releasing a R10) n row refl) same;
+    walked = walked_row s u (Releasing a R10) n (Rest, Wakes) row (led s.me.0.own u.me.0.own (Releasing a R10) n row) same;
     stride = row.stride;
     strides_are = refl;
     did = row.did;
@@ -136,12 +140,12 @@ module _ (s u : Token) (a : Release) (id : WaitId) (n : ℕ) (r : Ran s.me.0 n u
   }
 
 -- R7, after rows that led there
-module _ (s0 s u : Token) (a : Release) (id : WaitId) (n : ℕ) (before : Walked s0 (Releasing a R7) s (moved_to s0 (Releasing a R7)) [] 0) (hand : s0.me.0.hand ≡ id ∷ []) (r : Ran s.me.0 n u.me.0) (same : u.table_id ≡ s.table_id) where
-  abbrev look_for : Ran (begin (Releasing a R7) s.me.0) n u.me.0
+module _ (s0 s u : Token) (a : Release) (id : WaitId) (n : ℕ) (before : Walked s0 (Releasing a R7) s (moved_to s0 (Releasing a R7)) [] 0) (hand : s0.me.0.own.knows.hand ≡ id ∷ []) (r : Ran here s.me.0.own n u.me.0.own) (same : u.table_id ≡ s.table_id) where
+  abbrev look_for : Ran (begin (Releasing a R7)) s.me.0.own n u.me.0.own
   look_for = ran_from s u (Releasing a R7) n (ap (λ (y : SeatState). y.place) before.stands_is) r
 
-  found_for : Goes (begin (Releasing a R7) s.me.0) look_for.stride (next_by (begin (Releasing a R7) s.me.0) (Releasing a R7) look_for.stride n) u.me.0
-  found_for = led (begin (Releasing a R7) s.me.0) u.me.0 (Releasing a R7) n look_for refl
+  found_for : Goes s.me.0.own look_for.stride (next_by s.me.0.own (Releasing a R7) look_for.stride n) u.me.0.own
+  found_for = led s.me.0.own u.me.0.own (Releasing a R7) n look_for
 
   pub zero_for : n ≡ 0 → Walked s0 (Releasing a R7) u (moved_to s0 (Releasing a R10)) [] 0
   zero_for e = walked_then s0 s u (Releasing a R7) (Releasing a R7) (Releasing a R10) [] [] 0 0 before
@@ -152,43 +156,37 @@ module _ (s0 s u : Token) (a : Release) (id : WaitId) (n : ℕ) (before : Walked
       (walked_row s u (Releasing a R7) n (Releasing a (R8 (n - 1)), Nothing) look_for (load_some n (Releasing a R10) (λ left. Releasing a (R8 left)) found_for h) same)
 
   -- and R8
-  module _ (w : Token) (y : ℕ) (some : 0 < n) (q : Ran u.me.0 y w.me.0) (again : w.table_id ≡ u.table_id) where
+  module _ (w : Token) (y : ℕ) (some : 0 < n) (q : Ran here u.me.0.own y w.me.0.own) (again : w.table_id ≡ u.table_id) where
     abbrev before_it : Place
     before_it = Releasing a (R8 (n - 1))
 
     abbrev wins : Next
-    wins = (Releasing a R9, Tells (Take a.counter (waiter u.me.0.number u.me.0.hand)))
+    wins = (Releasing a R9, Tells (Take a.counter (waiter u.me.0.own.number u.me.0.own.knows.hand)))
 
     abbrev loses : Next
     loses = (Releasing a R7, Nothing)
 
-    swap : Ran (begin before_it u.me.0) y w.me.0
+    swap : Ran (begin before_it) u.me.0.own y w.me.0.own
     swap = ran_from u w before_it y (ap (λ (x : SeatState). x.place) (some_for some).stands_is) q
 
-    swapped : Goes (begin before_it u.me.0) swap.stride (next_by (begin before_it u.me.0) before_it swap.stride y) w.me.0
-    swapped = led (begin before_it u.me.0) w.me.0 before_it y swap refl
+    swapped : Goes u.me.0.own swap.stride (next_by u.me.0.own before_it swap.stride y) w.me.0.own
+    swapped = led u.me.0.own w.me.0.own before_it y swap
 
     -- the unit is for the seat of the wait in hand
-    for_it : waiter u.me.0.number u.me.0.hand ≡ id.seat
-    for_it = ap (waiter u.me.0.number) (ap (λ (x : SeatState). x.hand) (some_for some).stands_is ∙ hand)
+    for_it : waiter u.me.0.own.number u.me.0.own.knows.hand ≡ id.seat
+    for_it = ap (waiter u.me.0.own.number) (ap (λ (x : SeatState). x.hand) (some_for some).stands_is ∙ hand)
 
     pub won_for : y ≡ n → Walked s0 (Releasing a R7) w (moved_to s0 (Releasing a R9)) (Take a.counter id.seat ∷ []) 0
     won_for e = subst (λ i. Walked s0 (Releasing a R7) w (moved_to s0 (Releasing a R9)) (Take a.counter i ∷ []) 0) for_it
-        (walked_then s0 u w (Releasing a R7) before_it (Releasing a R9) [] (Take a.counter (waiter u.me.0.number u.me.0.hand) ∷ []) 0 0 (some_for some)
+        (walked_then s0 u w (Releasing a R7) before_it (Releasing a R9) [] (Take a.counter (waiter u.me.0.own.number u.me.0.own.knows.hand) ∷ []) 0 0 (some_for some)
         (walked_row u w before_it y wins swap (won y (n - 1 + 1) wins loses swapped (omega arith)) again))
 
     pub lost_for : y ≢ n → Walked s0 (Releasing a R7) w (moved_to s0 (Releasing a R7)) [] 0
     lost_for ne = walked_then s0 u w (Releasing a R7) before_it (Releasing a R7) [] [] 0 0 (some_for some)
         (walked_row u w before_it y loses swap (lost y (n - 1 + 1) wins loses swapped (λ e. ne (omega arith))) again)
 
--- what a step tells may be less
-pub told_less : (holds : Kept_state → Type 0) (slots id i : ℕ) (m : Me) (f : ℕ → ℕ) (A B : ℕ → Me → Type 0) → ((n : ℕ) (t : Me) → A n t → B n t) → Allows holds slots id m i f A → Allows holds slots id m i f B
-told_less holds slots id i m f A B less step s r sized at below = let o = step s r sized at below in (o.0, o.1, o.2, o.3, less (slice_index s.words i) (o.0, carried_after m.1 o.1) o.4)
-
--- the store of a grant keeps the rule
-pub grants_at : (z : Setting) (slots id i : ℕ) (m : Me) (someones : IsSomeones m.0) (a : Release) (handed : Bool) → m.0.place ≡ granting a handed → added_by m.0.number m.0.seen ≤ 2 ^ 40 → address m.0.setting (Grant (waiter m.0.number m.0.hand)) ≡ i
-    → waiter m.0.number m.0.hand < m.0.setting.seats → Allows (IsKept z) slots id m i (λ _. grant_of handed) (λ _ t. (n : ℕ) × Ran m.0 n t.0 × (t.1 ≡ m.1))
-grants_at z slots id i m someones a true at few word there = told_less (IsKept z) slots id i m (λ _. 2) (λ n t. stepped m.0 n m t) (λ _ t. (n : ℕ) × Ran m.0 n t.0 × (t.1 ≡ m.1)) (λ n t y. (n, y.0, y.1))
-    (allowed_at z slots id i m someones (Releasing a R9) at (omega arith) (λ _. 2) (λ w n known. record { fits = record { word = word; there = there; can = refl; becomes = refl }; apart = refl }))
-grants_at z slots id i m someones a false at few word there = told_less (IsKept z) slots id i m (λ _. 1) (λ n t. stepped m.0 n m t) (λ _ t. (n : ℕ) × Ran m.0 n t.0 × (t.1 ≡ m.1)) (λ n t y. (n, y.0, y.1))
-    (allowed_at z slots id i m someones (Releasing a R10) at (omega arith) (λ _. 1) (λ w n known. record { fits = record { word = word; there = there; can = refl; becomes = refl }; apart = refl }))
+-- the store of a grant leads on
+pub grants_at : (z : Setting) (slots i : ℕ) (m : Me) (a : Release) (handed : Bool) → m.0.own.knows.place ≡ granting a handed → added_by m.0.own.number m.0.own.knows.seen ≤ 2 ^ 40 → address m.0.own.knows.setting (Grant (waiter m.0.own.number m.0.own.knows.hand)) ≡ i
+    → waiter m.0.own.number m.0.own.knows.hand < m.0.own.knows.setting.seats → Owes semaphore_rows z m i (λ _. grant_of handed) (λ _ t. grants semaphore_rows (step slots i (grant_of handed) 0 none) m (grant_of handed) t)
+grants_at z slots i m a true at few word there = owes_grant z i m (Releasing a R9) at (omega arith) slots 2 (λ w n known. record { fits = record { word = word; there = there; can = refl; becomes = refl }; apart = refl })
+grants_at z slots i m a false at few word there = owes_grant z i m (Releasing a R10) at (omega arith) slots 1 (λ w n known. record { fits = record { word = word; there = there; can = refl; becomes = refl }; apart = refl })

@@ -24,35 +24,40 @@ use Rattle.sema_law.proofs.Promises.{the_law}
 use Rattle.sema_law.proofs.SemaPaths.{the_sema_paths}
 use Rattle.sema_law.proofs.Placing.{same_here}
 use Rattle.sema_root.specs.Treap.{Treap}
-use Rattle.atomic_table.specs.Table.{Allows}
+use mathlib.Core.Option.{none}
+use Rattle.running_rows.specs.Table.{step}
+use Rattle.running_rows.specs.Strides.{here, grants}
 use Rattle.sema_table.specs.declared.view.Setting.{Setting}
 use Rattle.sema_table.specs.declared.view.Record.TheVariants.{Root}
 use Rattle.sema_table.specs.Setting.{root, layout, address}
-use Rattle.sema_table.specs.Rule.{IsSomeones, sight_by, lists_by, IsRecord, IsKept}
-use Rattle.sema_table.specs.Plays.{Me, Ran, begin, stepped}
+use Rattle.running_rows.specs.Owing.{Owes}
+use Rattle.sema_table.specs.Rule.{sight_by, lists_by, IsRecord}
+use Rattle.sema_table.specs.Rows.{Me, semaphore_rows}
+use Rattle.sema_table.specs.Starts.{begin}
+use Rattle.sema_table.proofs.Striding.{Ran}
 use Rattle.sema_table.specs.Seats.{Token, TableModel}
 use Rattle.sema_table.specs.Walks.{Walked, HasRecord, moved_to, lists_of}
 use Rattle.sema_table.specs.ManyWalks.{sought_many, picking, with_hand, GrantedFirst}
 use Rattle.sema_table.proofs.Words.{listed_agree, same_record}
-use Rattle.sema_table.proofs.Allowing.{allowed_at}
+use Rattle.sema_table.proofs.Allowing.{owes_grant}
 use Rattle.sema_table.proofs.Leading.{Goes, led, load_zero, load_some}
 use Rattle.sema_table.proofs.Walking.{walked_row, ran_from}
 use Rattle.sema_table.proofs.Holding.{record_on}
-use Rattle.sema_table.proofs.Granting.{told_less}
+use Rattle.sema_table.proofs.Granting.{}
 
 -- M4
-module _ (s u : Token) (a : ReleaseMany) (n : ℕ) (at : s.me.0.place ≡ ReleasingMany a M4) (r : Ran s.me.0 n u.me.0) (same : u.table_id ≡ s.table_id) where
-  abbrev look : Ran (begin (ReleasingMany a M4) s.me.0) n u.me.0
+module _ (s u : Token) (a : ReleaseMany) (n : ℕ) (at : s.me.0.own.knows.place ≡ ReleasingMany a M4) (r : Ran here s.me.0.own n u.me.0.own) (same : u.table_id ≡ s.table_id) where
+  abbrev look : Ran (begin (ReleasingMany a M4)) s.me.0.own n u.me.0.own
   look = ran_from s u (ReleasingMany a M4) n at r
 
   abbrev listed : List WaitId
-  listed = (plain_before (layout s.me.0.setting) look.stride).lists a.counter
+  listed = (plain_before (layout s.me.0.own.knows.setting) look.stride).lists a.counter
 
   abbrev above : ℕ → Place
   above left = by_first listed (ReleasingMany a M6) (λ w. ReleasingMany a M5)
 
-  found : Goes (begin (ReleasingMany a M4) s.me.0) look.stride (zero_or (ReleasingMany a M6) above n, Nothing) u.me.0
-  found = led (begin (ReleasingMany a M4) s.me.0) u.me.0 (ReleasingMany a M4) n look refl
+  found : Goes s.me.0.own look.stride (zero_or (ReleasingMany a M6) above n, Nothing) u.me.0.own
+  found = led s.me.0.own u.me.0.own (ReleasingMany a M4) n look
 
   zero_walk : n ≡ 0 → Walked s (ReleasingMany a M4) u (moved_to s (ReleasingMany a M6)) [] 0
   zero_walk e = walked_row s u (ReleasingMany a M4) n (ReleasingMany a M6, Nothing) look (load_zero n (ReleasingMany a M6) above found e) same
@@ -63,7 +68,7 @@ module _ (s u : Token) (a : ReleaseMany) (n : ℕ) (at : s.me.0.place ≡ Releas
   -- what is listed then is what the seat has seen
   listed_is : (h : 0 < n) → above (n - 1) ≡ sought_many u a
   listed_is h = ap (λ (l : List WaitId). by_first l (ReleasingMany a M6) (λ w. ReleasingMany a M5))
-      (sym (found.lists a.counter) ∙ ap (λ (y : TableModel). lists_by y.setting u.me.0.seen a.counter) (sym (some_walk h).table_is))
+      (sym (found.lists a.counter) ∙ ap (λ (y : TableModel). lists_by y.setting u.me.0.own.knows.seen a.counter) (sym (some_walk h).table_is))
 
   pub looked_walk : MatchBool (not (nat_eq n 0)) (Walked s (ReleasingMany a M4) u (moved_to s (sought_many u a)) [] 0) (Walked s (ReleasingMany a M4) u (moved_to s (ReleasingMany a M6)) [] 0)
   looked_walk = dite (ℕ_discrete n 0)
@@ -72,7 +77,7 @@ module _ (s u : Token) (a : ReleaseMany) (n : ℕ) (at : s.me.0.place ≡ Releas
       (subst (λ q. Walked s (ReleasingMany a M4) u (moved_to s q) [] 0) (listed_is (omega (arith, ne))) (some_walk (omega (arith, ne)))))
 
   pub looked_record : u.me.1 ≡ s.me.1 → HasRecord s a.counter → HasRecord u a.counter
-  looked_record slots kept = record_on s u (ReleasingMany a M4) n a.counter (zero_or (ReleasingMany a M6) above n, Nothing) look found (λ i. record { id = same i; setting = (look.same i).setting }) (on_here (root s.me.0.setting a.counter) 1) (λ l q. refl) slots kept
+  looked_record slots kept = record_on s u (ReleasingMany a M4) n a.counter (zero_or (ReleasingMany a M6) above n, Nothing) look found (λ i. record { id = same i; setting = look.same.1 i }) (on_here (root s.me.0.own.knows.setting a.counter) 1) (λ l q. refl) slots kept
 
 -- one listed wait more or less
 one_fewer : (n : ℕ) → nat_lt 1 (suc n) ≡ nat_lt 0 n
@@ -88,63 +93,63 @@ neither true a = refl
 neither false a = refl
 
 pub picking_none : (s : Token) (a : ReleaseMany) → lists_of s a.counter ≡ [] → picking s a ≡ ReleasingMany a M6
-picking_none s a e = ap (λ (l : List WaitId). picks a (length s.me.0.hand) (length l)) e ∙ neither (nat_lt (length s.me.0.hand) a.units) a
+picking_none s a e = ap (λ (l : List WaitId). picks a (length s.me.0.own.knows.hand) (length l)) e ∙ neither (nat_lt (length s.me.0.own.knows.hand) a.units) a
 
-pub picking_more : (s : Token) (a : ReleaseMany) (w : WaitId) (tail : List WaitId) → lists_of s a.counter ≡ w ∷ tail → length s.me.0.hand < a.units → picking s a ≡ ReleasingMany a M5
-picking_more s a w tail e few = ap (λ (l : List WaitId). picks a (length s.me.0.hand) (length l)) e
-    ∙ (λ i. if lt-ltb (length s.me.0.hand) a.units few i && lt-ltb 0 (suc (length tail)) (omega arith) i then ReleasingMany a M5 else ReleasingMany a M6)
+pub picking_more : (s : Token) (a : ReleaseMany) (w : WaitId) (tail : List WaitId) → lists_of s a.counter ≡ w ∷ tail → length s.me.0.own.knows.hand < a.units → picking s a ≡ ReleasingMany a M5
+picking_more s a w tail e few = ap (λ (l : List WaitId). picks a (length s.me.0.own.knows.hand) (length l)) e
+    ∙ (λ i. if lt-ltb (length s.me.0.own.knows.hand) a.units few i && lt-ltb 0 (suc (length tail)) (omega arith) i then ReleasingMany a M5 else ReleasingMany a M6)
 
 -- M5, where the record is already without the wait
-module _ (s u : Token) (a : ReleaseMany) (n : ℕ) (w : WaitId) (tail : List WaitId) (at : s.me.0.place ≡ ReleasingMany a M5) (r : Ran s.me.0 n u.me.0) (same : u.table_id ≡ s.table_id)
-    (first : lists_by s.me.0.setting s.me.0.seen a.counter ≡ w ∷ tail) where
-  abbrev lowers : Ran (begin (ReleasingMany a M5) s.me.0) n u.me.0
+module _ (s u : Token) (a : ReleaseMany) (n : ℕ) (w : WaitId) (tail : List WaitId) (at : s.me.0.own.knows.place ≡ ReleasingMany a M5) (r : Ran here s.me.0.own n u.me.0.own) (same : u.table_id ≡ s.table_id)
+    (first : lists_by s.me.0.own.knows.setting s.me.0.own.knows.seen a.counter ≡ w ∷ tail) where
+  abbrev lowers : Ran (begin (ReleasingMany a M5)) s.me.0.own n u.me.0.own
   lowers = ran_from s u (ReleasingMany a M5) n at r
 
   abbrev next_place : Place
-  next_place = after_leave a (length s.me.0.hand) (length (w ∷ tail))
+  next_place = after_leave a (length s.me.0.own.knows.hand) (length (w ∷ tail))
 
   abbrev leaves_it : Next
-  leaves_it = (after_leave a (length s.me.0.hand) (length (w ∷ tail)), Tells (Leave a.counter w s.me.0.number))
+  leaves_it = (after_leave a (length s.me.0.own.knows.hand) (length (w ∷ tail)), Tells (Leave a.counter w s.me.0.own.number))
 
   -- the root's lists are those that the seat has seen
-  held_lists : (d : ℕ) → root s.me.0.setting d ≡ root s.me.0.setting a.counter → (plain_before (layout s.me.0.setting) lowers.stride).lists d ≡ lists_by s.me.0.setting s.me.0.seen d
-  held_lists d e = lowers.held d (ap (λ k. holds_at k) e ∙ on_here (root s.me.0.setting a.counter) 1)
+  held_lists : (d : ℕ) → root s.me.0.own.knows.setting d ≡ root s.me.0.own.knows.setting a.counter → (plain_before (layout s.me.0.own.knows.setting) lowers.stride).lists d ≡ lists_by s.me.0.own.knows.setting s.me.0.own.knows.seen d
+  held_lists d e = lowers.also.held d (ap (λ k. holds_at k) e ∙ on_here (root s.me.0.own.knows.setting a.counter) 1)
     where
       holds_at : ℕ → ℕ
-      holds_at k = holds (root s.me.0.setting) k (ReleasingMany a M5)
+      holds_at k = holds (root s.me.0.own.knows.setting) k (ReleasingMany a M5)
 
-  went : Goes (begin (ReleasingMany a M5) s.me.0) lowers.stride leaves_it u.me.0
-  went = subst (λ (l : List WaitId). Goes (begin (ReleasingMany a M5) s.me.0) lowers.stride
-      (by_first l (to (ReleasingMany a M6)) (λ x. (after_leave a (length s.me.0.hand) (length l), Tells (Leave a.counter x s.me.0.number)))) u.me.0)
-      (held_lists a.counter refl ∙ first) (led (begin (ReleasingMany a M5) s.me.0) u.me.0 (ReleasingMany a M5) n lowers refl)
+  went : Goes s.me.0.own lowers.stride leaves_it u.me.0.own
+  went = subst (λ (l : List WaitId). Goes s.me.0.own lowers.stride
+      (by_first l (to (ReleasingMany a M6)) (λ x. (after_leave a (length s.me.0.own.knows.hand) (length l), Tells (Leave a.counter x s.me.0.own.number)))) u.me.0.own)
+      (held_lists a.counter refl ∙ first) (led s.me.0.own u.me.0.own (ReleasingMany a M5) n lowers)
 
-  row_walk : Walked s (ReleasingMany a M5) u (with_hand s (after_leave a (length s.me.0.hand) (length (w ∷ tail))) (s.me.0.hand ++ w ∷ [])) (Leave a.counter w s.me.0.number ∷ []) 0
+  row_walk : Walked s (ReleasingMany a M5) u (with_hand s (after_leave a (length s.me.0.own.knows.hand) (length (w ∷ tail))) (s.me.0.own.knows.hand ++ w ∷ [])) (Leave a.counter w s.me.0.own.number ∷ []) 0
   row_walk = walked_row s u (ReleasingMany a M5) n leaves_it lowers went same
 
   -- the list is without the wait
   listed_after : lists_of u a.counter ≡ tail
-  listed_after = ap (λ (y : TableModel). lists_by y.setting u.me.0.seen a.counter) row_walk.table_is ∙ went.lists a.counter
-      ∙ put_here ((plain_before (layout s.me.0.setting) lowers.stride).lists) a.counter (drop 1 ((plain_before (layout s.me.0.setting) lowers.stride).lists a.counter))
+  listed_after = ap (λ (y : TableModel). lists_by y.setting u.me.0.own.knows.seen a.counter) row_walk.table_is ∙ went.lists a.counter
+      ∙ put_here ((plain_before (layout s.me.0.own.knows.setting) lowers.stride).lists) a.counter (drop 1 ((plain_before (layout s.me.0.own.knows.setting) lowers.stride).lists a.counter))
       ∙ ap (drop 1) (held_lists a.counter refl ∙ first)
 
-  in_hand_after : length u.me.0.hand ≡ length s.me.0.hand + 1
-  in_hand_after = ap (λ (y : SeatState). length y.hand) row_walk.stands_is ∙ length-append s.me.0.hand (w ∷ [])
+  in_hand_after : length u.me.0.own.knows.hand ≡ length s.me.0.own.knows.hand + 1
+  in_hand_after = ap (λ (y : SeatState). length y.hand) row_walk.stands_is ∙ length-append s.me.0.own.knows.hand (w ∷ [])
 
-  goes_on : after_leave a (length s.me.0.hand) (length (w ∷ tail)) ≡ picking u a
+  goes_on : after_leave a (length s.me.0.own.knows.hand) (length (w ∷ tail)) ≡ picking u a
   goes_on = (λ i. if nat_lt (sym in_hand_after i) a.units && one_fewer (length tail) i then ReleasingMany a M5 else ReleasingMany a M6)
-      ∙ ap (λ (l : List WaitId). picks a (length u.me.0.hand) (length l)) (sym listed_after)
+      ∙ ap (λ (l : List WaitId). picks a (length u.me.0.own.knows.hand) (length l)) (sym listed_after)
 
-  pub out_walk : Walked s (ReleasingMany a M5) u (with_hand s (picking u a) (s.me.0.hand ++ w ∷ [])) (Leave a.counter w s.me.0.number ∷ []) 0
-  out_walk = subst (λ (q : Place). Walked s (ReleasingMany a M5) u (with_hand s q (s.me.0.hand ++ w ∷ [])) (Leave a.counter w s.me.0.number ∷ []) 0) goes_on row_walk
+  pub out_walk : Walked s (ReleasingMany a M5) u (with_hand s (picking u a) (s.me.0.own.knows.hand ++ w ∷ [])) (Leave a.counter w s.me.0.own.number ∷ []) 0
+  out_walk = subst (λ (q : Place). Walked s (ReleasingMany a M5) u (with_hand s q (s.me.0.own.knows.hand ++ w ∷ [])) (Leave a.counter w s.me.0.own.number ∷ []) 0) goes_on row_walk
 
-  pub out_record : (treap : Treap) → u.me.1 ≡ (root s.me.0.setting a.counter, Root treap) ∷ []
-      → IsRecord s.me.0.setting (root s.me.0.setting a.counter) treap (put (lists_by s.me.0.setting s.me.0.seen) a.counter (drop 1 (lists_by s.me.0.setting s.me.0.seen a.counter))) → HasRecord u a.counter
+  pub out_record : (treap : Treap) → u.me.1 ≡ (root s.me.0.own.knows.setting a.counter, Root treap) ∷ []
+      → IsRecord s.me.0.own.knows.setting (root s.me.0.own.knows.setting a.counter) treap (put (lists_by s.me.0.own.knows.setting s.me.0.own.knows.seen) a.counter (drop 1 (lists_by s.me.0.own.knows.setting s.me.0.own.knows.seen a.counter))) → HasRecord u a.counter
   out_record treap slots is = (
     treap,
     slots ∙ (λ i. (root (sym row_walk.table_is i).setting a.counter, Root treap) ∷ []),
-    subst (λ (y : TableModel). IsRecord y.setting (root y.setting a.counter) treap (lists_by y.setting u.me.0.seen)) (sym row_walk.table_is)
-        (same_record s.me.0.setting (root s.me.0.setting a.counter) treap (put (lists_by s.me.0.setting s.me.0.seen) a.counter (drop 1 (lists_by s.me.0.setting s.me.0.seen a.counter))) (lists_by s.me.0.setting u.me.0.seen)
-        (λ d e. went.lists d ∙ listed_agree (Tells (Leave a.counter w s.me.0.number)) ((plain_before (layout s.me.0.setting) lowers.stride).lists) (lists_by s.me.0.setting s.me.0.seen) d (held_lists d e)) is),
+    subst (λ (y : TableModel). IsRecord y.setting (root y.setting a.counter) treap (lists_by y.setting u.me.0.own.knows.seen)) (sym row_walk.table_is)
+        (same_record s.me.0.own.knows.setting (root s.me.0.own.knows.setting a.counter) treap (put (lists_by s.me.0.own.knows.setting s.me.0.own.knows.seen) a.counter (drop 1 (lists_by s.me.0.own.knows.setting s.me.0.own.knows.seen a.counter))) (lists_by s.me.0.own.knows.setting u.me.0.own.knows.seen)
+        (λ d e. went.lists d ∙ listed_agree (Tells (Leave a.counter w s.me.0.own.number)) ((plain_before (layout s.me.0.own.knows.setting) lowers.stride).lists) (lists_by s.me.0.own.knows.setting s.me.0.own.knows.seen) d (held_lists d e)) is),
   )
 
 -- an element of a list stands in it
@@ -154,21 +159,21 @@ times_at (w ∷ l) zero d h = let o = same_here w in omega arith
 times_at (w ∷ l) (suc k) d h = let o = times_at l k d (omega arith) in omega arith
 
 -- the waits in hand are those of seats of the table
-pub hands_there : (s u : Token) (from : Place) (n : ℕ) → Ran (begin from s.me.0) n u.me.0 → All (λ w. w.seat < s.me.0.setting.seats) u.me.0.hand
+pub hands_there : (s u : Token) (from : Place) (n : ℕ) → Ran (begin from) s.me.0.own n u.me.0.own → All (λ w. w.seat < s.me.0.own.knows.setting.seats) u.me.0.own.knows.hand
 hands_there s u from n r k d low =
-    let m = layout s.me.0.setting in let i : ℕ = s.me.0.number in
-    let end = the_sema_paths.ends m i (sight_by (begin from s.me.0)) (sight_by u.me.0) r.stride r.there r.ran in
+    let m = layout s.me.0.own.knows.setting in let i : ℕ = s.me.0.own.number in
+    let end = the_sema_paths.ends m i (sight_by (begin from s.me.0.own.knows)) (sight_by u.me.0.own.knows) r.stride r.also.there r.ran in
     let w : SemaWorld = end.0 in
     let good = the_law.reached m w end.1 in
-    let x : WaitId = get_or u.me.0.hand k d in
-    let stands : times x (w.seats i).hand ≡ times x u.me.0.hand = ap (λ (y : SemaSight). times x y.stands.hand) (sym end.2) in
-    let some : 0 < times x u.me.0.hand = times_at u.me.0.hand k d low in
-    (good.parked.1 i x r.there (omega arith)).0
+    let x : WaitId = get_or u.me.0.own.knows.hand k d in
+    let stands : times x (w.seats i).hand ≡ times x u.me.0.own.knows.hand = ap (λ (y : SemaSight). times x y.stands.hand) (sym end.2) in
+    let some : 0 < times x u.me.0.own.knows.hand = times_at u.me.0.own.knows.hand k d low in
+    (good.parked.1 i x r.also.there (omega arith)).0
 
 -- M7
-pub granted_first : (s u : Token) (a : ReleaseMany) (n : ℕ) → s.me.0.place ≡ ReleasingMany a M7 → Ran s.me.0 n u.me.0 → u.table_id ≡ s.table_id → u.me.1 ≡ s.me.1 → GrantedFirst s a u
+pub granted_first : (s u : Token) (a : ReleaseMany) (n : ℕ) → s.me.0.own.knows.place ≡ ReleasingMany a M7 → Ran here s.me.0.own n u.me.0.own → u.table_id ≡ s.table_id → u.me.1 ≡ s.me.1 → GrantedFirst s a u
 granted_first s u a n at r same slots = let row = ran_from s u (ReleasingMany a M7) n at r in record {
-  walked = walked_row s u (ReleasingMany a M7) n (if nat_lt 1 (length s.me.0.hand) then ReleasingMany a M7 else Rest, Wakes) row (led (begin (ReleasingMany a M7) s.me.0) u.me.0 (ReleasingMany a M7) n row refl) same;
+  walked = walked_row s u (ReleasingMany a M7) n (if nat_lt 1 (length s.me.0.own.knows.hand) then ReleasingMany a M7 else Rest, Wakes) row (led s.me.0.own u.me.0.own (ReleasingMany a M7) n row) same;
   stride = row.stride;
   strides_are = refl;
   did = row.did;
@@ -176,8 +181,7 @@ granted_first s u a n at r same slots = let row = ran_from s u (ReleasingMany a 
   slots = slots;
 }
 
--- the store of 1 keeps the rule
-pub grants_first : (z : Setting) (slots id i : ℕ) (m : Me) (someones : IsSomeones m.0) (a : ReleaseMany) → m.0.place ≡ ReleasingMany a M7 → added_by m.0.number m.0.seen ≤ 2 ^ 40 → address m.0.setting (Grant (waiter m.0.number m.0.hand)) ≡ i
-    → waiter m.0.number m.0.hand < m.0.setting.seats → Allows (IsKept z) slots id m i (λ _. 1) (λ _ t. (n : ℕ) × Ran m.0 n t.0 × (t.1 ≡ m.1))
-grants_first z slots id i m someones a at few word there = told_less (IsKept z) slots id i m (λ _. 1) (λ n t. stepped m.0 n m t) (λ _ t. (n : ℕ) × Ran m.0 n t.0 × (t.1 ≡ m.1)) (λ n t y. (n, y.0, y.1))
-    (allowed_at z slots id i m someones (ReleasingMany a M7) at (omega arith) (λ _. 1) (λ w n known. record { fits = record { word = word; there = there; can = refl; becomes = refl }; apart = refl }))
+-- the store of 1 leads on
+pub grants_first : (z : Setting) (slots i : ℕ) (m : Me) (a : ReleaseMany) → m.0.own.knows.place ≡ ReleasingMany a M7 → added_by m.0.own.number m.0.own.knows.seen ≤ 2 ^ 40 → address m.0.own.knows.setting (Grant (waiter m.0.own.number m.0.own.knows.hand)) ≡ i
+    → waiter m.0.own.number m.0.own.knows.hand < m.0.own.knows.setting.seats → Owes semaphore_rows z m i (λ _. 1) (λ _ t. grants semaphore_rows (step slots i 1 0 none) m 1 t)
+grants_first z slots i m a at few word there = owes_grant z i m (ReleasingMany a M7) at (omega arith) slots 1 (λ w n known. record { fits = record { word = word; there = there; can = refl; becomes = refl }; apart = refl })

@@ -2,8 +2,8 @@
 use Rattle.std.proofs.Common.{◌≡◌, ℕ, ◌+◌, ◌<◌, Bool, true, false, List, [], ◌∷◌, length, get_or, map, drop, slice_get, Option, Some, None, IsSome, suc, sym, refl, ap, ◌∙◌, subst, arith}
 use Rattle.std.proofs.lemmas.List.{map-append}
 use native.Mathlib.Decide.{ℕ_discrete}
-use Rattle.atomic_table.specs.Table.{rest}
-use Rattle.atomic_table.specs.Lent.{seat_with}
+use Rattle.running_rows.specs.Table.{rest}
+use Rattle.running_rows.specs.Lent.{seat_with}
 use Rattle.waiters.specs.declared.wait.Wait.{Wait}
 use Rattle.waiters.specs.declared.wait.WaitId.{WaitId}
 use Rattle.step_table.specs.declared.place.Acquire.{Acquire}
@@ -27,39 +27,40 @@ use Rattle.sema_table.specs.declared.view.Record.{Record}
 use Rattle.sema_table.specs.declared.view.Record.TheVariants.{Root, Out}
 use Rattle.sema_table.specs.Setting.{root, layout}
 use Rattle.sema_table.specs.Rule.{sight_by, lists_by, drawn_after, IsRecord}
-use Rattle.sema_table.specs.Plays.{Ran, begin}
+use Rattle.sema_table.specs.Starts.{begin}
+use Rattle.sema_table.proofs.Striding.{Ran}
 use Rattle.sema_table.specs.Seats.{Token, TableModel, table_of}
 use Rattle.sema_table.specs.Walks.{HasRecord, HasRoom, Edited, lists_of}
 use Rattle.sema_table.proofs.Words.{same_record}
 use Rattle.sema_table.proofs.Leading.{Goes}
 
 -- a row that leaves the lists leaves the record of a lock that the seat holds
-pub record_on : (s t : Token) (from : Place) (n c : ℕ) (next : Next) (r : Ran (begin from s.me.0) n t.me.0) → Goes (begin from s.me.0) r.stride next t.me.0 → table_of t ≡ table_of s
-    → holds (root s.me.0.setting) (root s.me.0.setting c) from ≡ 1 → ((l : ℕ → List WaitId) (q : ℕ) → lists_after next.1 l q ≡ l q) → t.me.1 ≡ s.me.1 → HasRecord s c → HasRecord t c
+pub record_on : (s t : Token) (from : Place) (n c : ℕ) (next : Next) (r : Ran (begin from) s.me.0.own n t.me.0.own) → Goes s.me.0.own r.stride next t.me.0.own → table_of t ≡ table_of s
+    → holds (root s.me.0.own.knows.setting) (root s.me.0.own.knows.setting c) from ≡ 1 → ((l : ℕ → List WaitId) (q : ℕ) → lists_after next.1 l q ≡ l q) → t.me.1 ≡ s.me.1 → HasRecord s c → HasRecord t c
 record_on s t from n c next r g same held still slots h = (
   h.0,
   slots ∙ h.1 ∙ (λ i. (root (sym same i).setting c, Root h.0) ∷ []),
-  subst (λ (y : TableModel). IsRecord y.setting (root y.setting c) h.0 (lists_by y.setting t.me.0.seen)) (sym same)
-      (same_record s.me.0.setting (root s.me.0.setting c) h.0 (lists_by s.me.0.setting s.me.0.seen) (lists_by s.me.0.setting t.me.0.seen)
-      (λ q e. g.lists q ∙ still _ q ∙ r.held q (ap (λ k. holds (root s.me.0.setting) k from) e ∙ held)) h.2),
+  subst (λ (y : TableModel). IsRecord y.setting (root y.setting c) h.0 (lists_by y.setting t.me.0.own.knows.seen)) (sym same)
+      (same_record s.me.0.own.knows.setting (root s.me.0.own.knows.setting c) h.0 (lists_by s.me.0.own.knows.setting s.me.0.own.knows.seen) (lists_by s.me.0.own.knows.setting t.me.0.own.knows.seen)
+      (λ q e. g.lists q ∙ still _ q ∙ r.also.held q (ap (λ k. holds (root s.me.0.own.knows.setting) k from) e ∙ held)) h.2),
 )
 
 -- a committed seat has room
-pub has_room : (s t : Token) (from : Place) (n : ℕ) (a : Acquire) → Ran (begin from s.me.0) n t.me.0 → table_of t ≡ table_of s → t.me.0.place ≡ Acquiring a A7 → HasRoom t a.counter
+pub has_room : (s t : Token) (from : Place) (n : ℕ) (a : Acquire) → Ran (begin from) s.me.0.own n t.me.0.own → table_of t ≡ table_of s → t.me.0.own.knows.place ≡ Acquiring a A7 → HasRoom t a.counter
 has_room s t from n a r same at =
-    let z = s.me.0.setting in let i : ℕ = s.me.0.number in let m = layout z in
-    let end = the_sema_paths.ends m i (sight_by (begin from s.me.0)) (sight_by t.me.0) r.stride r.there r.ran in
+    let z = s.me.0.own.knows.setting in let i : ℕ = s.me.0.own.number in let m = layout z in
+    let end = the_sema_paths.ends m i (sight_by (begin from s.me.0.own.knows)) (sight_by t.me.0.own.knows) r.stride r.also.there r.ran in
     let w : SemaWorld = end.0 in
     let good = the_law.reached m w end.1 in
     let x : ℕ = root z a.counter in
     let stands : (w.seats i).place ≡ Acquiring a A7 = ap (λ (y : SemaSight). y.stands.place) (sym end.2) ∙ at in
     let holding : holds (root z) x (w.seats i).place ≡ 1 = ap (holds (root z) x) stands ∙ on_here x 1 in
     let raising : raises (root z) x (w.seats i).place ≡ 1 = ap (raises (root z) x) stands ∙ on_here x 1 in
-    let counted = (good.waiters x).1 i r.there holding in
+    let counted = (good.waiters x).1 i r.also.there holding in
     let few = (good.bounded.1 x).1 in
-    let lists : (d : ℕ) → lists_by z t.me.0.seen d ≡ w.words.lists d = λ d. ap (λ (y : SemaSight). lists_by z y.seen d) end.2 ∙ ap (λ k. k.lists d) (sym good.journal.0) in
-    let sum = total_same (length z.starts) (λ d. on (root z d) x (length (lists_by z t.me.0.seen d))) (λ d. on (root z d) x (length (w.words.lists d))) (λ d h. ap (λ (k : List WaitId). on (root z d) x (length k)) (lists d)) in
-    subst (λ (y : TableModel). total (length y.setting.starts) (λ d. on (root y.setting d) (root y.setting a.counter) (length (lists_by y.setting t.me.0.seen d))) < y.setting.seats) (sym same) (omega arith)
+    let lists : (d : ℕ) → lists_by z t.me.0.own.knows.seen d ≡ w.words.lists d = λ d. ap (λ (y : SemaSight). lists_by z y.seen d) end.2 ∙ ap (λ k. k.lists d) (sym good.journal.0) in
+    let sum = total_same (length z.starts) (λ d. on (root z d) x (length (lists_by z t.me.0.own.knows.seen d))) (λ d. on (root z d) x (length (w.words.lists d))) (λ d h. ap (λ (k : List WaitId). on (root z d) x (length k)) (lists d)) in
+    subst (λ (y : TableModel). total (length y.setting.starts) (λ d. on (root y.setting d) (root y.setting a.counter) (length (lists_by y.setting t.me.0.own.knows.seen d))) < y.setting.seats) (sym same) (omega arith)
 
 -- a counter that comes in draws one ticket more
 draws_on : (y t : Treap) (c : ℕ) {first : Tickets} → (n : ℕ) × (y.tickets ≡ drawn_after n first) → Draws y t c → (n : ℕ) × (t.tickets ≡ drawn_after n first)
@@ -123,20 +124,20 @@ first_is (x ∷ ws) w e = cc
 -- the seat's one slot, by the number that the table has for it
 pub in_slot : (s : Token) (t : TableModel) (c slot : ℕ) → table_of s ≡ t → slot ≡ root t.setting c → HasRecord s c → (old : Record) × (s.me.1 ≡ (slot, old) ∷ rest s.me.1)
 in_slot s t c slot same is h =
-    let at : root s.me.0.setting c ≡ slot = ap (λ (y : TableModel). root y.setting c) same ∙ sym is in
+    let at : root s.me.0.own.knows.setting c ≡ slot = ap (λ (y : TableModel). root y.setting c) same ∙ sym is in
     (Root h.0, h.1 ∙ (λ i. (at i, Root h.0) ∷ rest (sym h.1 i)))
 
 -- what is lent is the record
 pub lent_record : (s : Token) (c slot : ℕ) (lent : Record) (treap : Treap) → HasRecord s c → s.me.1 ≡ (slot, lent) ∷ rest s.me.1 → lent ≡ Root treap
-    → IsRecord s.me.0.setting (root s.me.0.setting c) treap (lists_of s)
-lent_record s c slot lent treap h value is = subst (λ (y : Treap). IsRecord s.me.0.setting (root s.me.0.setting c) y (lists_of s)) (by (ap (λ (l : List (ℕ × Record)). (get_or l 0 (0, Out)).1) (sym h.1 ∙ value) ∙ is)) h.2
+    → IsRecord s.me.0.own.knows.setting (root s.me.0.own.knows.setting c) treap (lists_of s)
+lent_record s c slot lent treap h value is = subst (λ (y : Treap). IsRecord s.me.0.own.knows.setting (root s.me.0.own.knows.setting c) y (lists_of s)) (by (ap (λ (l : List (ℕ × Record)). (get_or l 0 (0, Out)).1) (sym h.1 ∙ value) ∙ is)) h.2
   where
     by : Root h.0 ≡ Root treap → h.0 ≡ treap
     by e = cc
 
 -- the record is written back to its slot
 pub edited : (s : Token) (t : TableModel) (c slot : ℕ) (treap : Treap) (lists : ℕ → List WaitId) → table_of s ≡ t → slot ≡ root t.setting c → HasRecord s c
-    → IsRecord s.me.0.setting (root s.me.0.setting c) treap lists → Edited s c lists (seat_with s slot (Root treap))
+    → IsRecord s.me.0.own.knows.setting (root s.me.0.own.knows.setting c) treap lists → Edited s c lists (seat_with s slot (Root treap))
 edited s t c slot treap lists same is h made =
-    let at : slot ≡ root s.me.0.setting c = is ∙ ap (λ (y : TableModel). root y.setting c) (sym same) in
+    let at : slot ≡ root s.me.0.own.knows.setting c = is ∙ ap (λ (y : TableModel). root y.setting c) (sym same) in
     (refl, (treap, (λ i. (s.me.0, (at i, Root treap) ∷ rest (h.1 i))), made))

@@ -1,24 +1,33 @@
 -- The rule gives the lawful table.
+use Rattle.running_rows.specs.Table.{State}
+use Rattle.step_table.specs.declared.word.Word.TheVariants.{Counter, Lock, Waiters, Grant}
 use Rattle.sema_law.proofs.Promises.{the_law}
 use Rattle.sema_law.proofs.Accounts.{the_accounts}
+use Rattle.running_rows.specs.Rule.{IsKept}
+use Rattle.sema_table.specs.Rows.{SemaView, semaphore_rows}
+use Rattle.sema_table.specs.declared.view.Record.{Record}
+use Rattle.sema_table.specs.declared.view.Setting.{Setting}
 use Rattle.sema_table.specs.Setting.{layout}
-use Rattle.sema_table.specs.Table.{TheTable}
+use Rattle.sema_table.specs.Table.{IsLawfulTable}
 
-pub the_table : TheTable
+pub the_table : (z : Setting) (s : State Record SemaView) → IsKept semaphore_rows z s → IsLawfulTable z s
 the_table z s kept = record {
   world = kept.world;
-  reached = kept.reached;
-  small = kept.small;
-  lawful = the_law.reached (layout z) kept.world kept.reached;
-  named = the_accounts.named (layout z) kept.world kept.reached;
+  reached = kept.shows.reached;
+  small = kept.shows.small;
+  lawful = the_law.reached (layout z) kept.world kept.shows.reached;
+  named = the_accounts.named (layout z) kept.world kept.shows.reached;
   shows = record {
-    words = kept.words;
-    homes = kept.homes;
+    numbers = λ c. kept.shows.words (Counter c);
+    locks = λ c. kept.shows.words (Lock c) tt;
+    waiters = λ c. kept.shows.words (Waiters c) tt;
+    grants = λ k. kept.shows.words (Grant k);
+    homes = kept.shows.homes;
     spot = kept.spot;
     made = kept.made;
     views = kept.views;
     unmade = kept.unmade;
-    wide = kept.wide;
-    deep = kept.deep;
+    wide = kept.shows.wide;
+    deep = kept.shows.deep;
   };
 }

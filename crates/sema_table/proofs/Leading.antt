@@ -10,18 +10,19 @@ use Rattle.step_table.specs.Table.{table}
 use Rattle.step_table.specs.World.{seat_after, lists_after}
 use Rattle.step_table.specs.Journal.{Plain, replay, plain_start, effect_of}
 use Rattle.step_table.proofs.Paths.{stride_told}
-use Rattle.sema_law.specs.SemaPath.{SemaStride, RanSemaRow, SemaDid, plain_before, row_next, entries_of, semaphores}
+use Rattle.sema_law.specs.SemaPath.{SemaSight, SemaStride, RanSemaRow, SemaDid, plain_before, row_next, entries_of, semaphores}
 use Rattle.sema_law.proofs.SemaPaths.{the_sema_paths}
-use Rattle.sema_table.specs.declared.view.View.{View}
 use Rattle.sema_table.specs.Setting.{layout}
 use Rattle.sema_table.specs.Rule.{stands_by, sight_by, lists_by}
-use Rattle.sema_table.specs.Plays.{Ran, begin}
+use Rattle.sema_table.specs.Rows.{SemaSeat}
+use Rattle.sema_table.specs.Starts.{begin}
+use Rattle.sema_table.proofs.Striding.{Ran}
 
--- the stride led from v to w, and went on so
-pub record Goes (v : View) (p : SemaStride) (next : Next) (w : View) : Type 0 where
-  pub stands : stands_by w ≡ seat_after next.1 next.0 (stands_by v)
+-- the stride led from u to w, and went on so
+pub record Goes (u : SemaSeat) (p : SemaStride) (next : Next) (w : SemaSeat) : Type 0 where
+  pub stands : stands_by w.knows ≡ seat_after next.1 next.0 (stands_by u.knows)
   pub told : p.told ≡ entries_of next.1
-  pub lists : (c : ℕ) → lists_by v.setting w.seen c ≡ lists_after next.1 (plain_before (layout v.setting) p).lists c
+  pub lists : (c : ℕ) → lists_by u.knows.setting w.knows.seen c ≡ lists_after next.1 (plain_before (layout u.knows.setting) p).lists c
 
 replay_append : (x : Plain) (a b : List Entry) → replay x (a ++ b) ≡ replay (replay x a) b
 replay_append x [] b = refl
@@ -32,32 +33,29 @@ lists_told x (Tells e) = refl
 lists_told x Nothing = refl
 lists_told x Wakes = refl
 
--- what follows the row at this place, for the seat that knows v
-abbrev pub next_by : View → Place → SemaStride → ℕ → Next
-next_by v place p n = (table v.number (stands_by (begin place v)) (plain_before (layout v.setting) p).lists).leads n
+-- what follows the row at this place
+abbrev pub next_by : SemaSeat → Place → SemaStride → ℕ → Next
+next_by u place p n = (table u.number (stands_by (begin place u.knows)) (plain_before (layout u.knows.setting) p).lists).leads n
 
-pub led : (v w : View) (place : Place) (n : ℕ) (r : Ran v n w) → v.place ≡ place → Goes v r.stride (next_by v place r.stride n) w
-led v w place n r at =
-    let m = layout v.setting in let p : SemaStride = r.stride in
-    let row : RanSemaRow m v.number p (sight_by w) = subst (SemaDid m v.number p (sight_by w)) r.did (the_sema_paths.does m v.number (sight_by v) (sight_by w) p r.ran) in
-    let same : row_next m v.number p ≡ next_by v place p n = λ i. (table v.number (stood_by i) (plain_before m p).lists).leads (r.read i) in
-    let told : p.told ≡ entries_of (next_by v place p n).1 = row.told ∙ ap (λ (x : Next). entries_of x.1) same in record {
+pub led : (u w : SemaSeat) (place : Place) (n : ℕ) (r : Ran (begin place) u n w) → Goes u r.stride (next_by u place r.stride n) w
+led u w place n r =
+    let m = layout u.knows.setting in let p : SemaStride = r.stride in let from : SemaSight = sight_by (begin place u.knows) in
+    let row : RanSemaRow m u.number p (sight_by w.knows) = subst (SemaDid m u.number p (sight_by w.knows)) r.did (the_sema_paths.does m u.number from (sight_by w.knows) p r.ran) in
+    let same : row_next m u.number p ≡ next_by u place p n = λ i. (table u.number (r.ran.stood i) (plain_before m p).lists).leads (r.read i) in
+    let told : p.told ≡ entries_of (next_by u place p n).1 = row.told ∙ ap (λ (x : Next). entries_of x.1) same in record {
       stands = row.leads ∙ (λ i. seat_after (same i).1 (same i).0 (r.ran.stood i));
       told = told;
-      lists = λ c. ap (λ j. lists_by v.setting j c) (stride_told (semaphores m) v.number (sight_by v) (sight_by w) p r.ran)
+      lists = λ c. ap (λ j. lists_by u.knows.setting j c) (stride_told (semaphores m) u.number from (sight_by w.knows) p r.ran)
           ∙ ap (λ (x : Plain). x.lists c) (replay_append (plain_start m.starts) p.seen p.told)
           ∙ ap (λ j. (replay (plain_before m p) j).lists c) told
-          ∙ ap (λ l. l c) (lists_told (plain_before m p) (next_by v place p n).1);
+          ∙ ap (λ l. l c) (lists_told (plain_before m p) (next_by u place p n).1);
     }
-  where
-    stood_by : r.stride.stood ≡ stands_by (begin place v)
-    stood_by = r.ran.stood ∙ (λ i. record (stands_by v) { place = at i })
 
 at_some : (n : ℕ) (a : Place) (b : ℕ → Place) → 0 < n → zero_or a b n ≡ b (n - 1)
 at_some zero a b h = absurd (omega arith)
 at_some (suc n) a b h = ap b (omega arith)
 
-module _ {v w : View} {p : SemaStride} where
+module _ {v w : SemaSeat} {p : SemaStride} where
   pub load_zero : (n : ℕ) (a : Place) (b : ℕ → Place) → Goes v p (zero_or a b n, Nothing) w → n ≡ 0 → Goes v p (a, Nothing) w
   load_zero n a b g e = subst (λ (k : ℕ). Goes v p (zero_or a b k, Nothing) w) e g
 

@@ -4,10 +4,11 @@ pub mod Beginning
 pub mod Adding
 pub mod Bounding
 pub mod Resting
+pub mod Striding
 pub mod Keeping
 pub mod Allowing
+pub mod Seeing
 pub mod Apart
-pub mod Aside
 pub mod Stepping
 pub mod Leading
 pub mod Walking
@@ -28,7 +29,6 @@ pub mod Wakening
 pub mod GrantingMany
 pub mod WakeningMany
 pub mod Making
-pub mod Sitting
 pub mod Reckoning
 pub mod Gathering
 pub mod LookingTogether

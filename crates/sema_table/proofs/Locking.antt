@@ -1,5 +1,6 @@
 -- The row that takes a lock, and what comes of it.
-use Rattle.std.proofs.Common.{◌≡◌, ℕ, true, List, [], ◌∷◌, sym, refl, ◌∙◌, subst, eq-eqb}
+use Rattle.std.proofs.Common.{◌≡◌, ◌≢◌, ℕ, ◌^◌, ◌≤◌, ◌==◌, true, List, [], ◌∷◌, length, slice_index, sym, refl, ap, ◌∙◌, subst, arith, eq-eqb}
+use prog.Atomic.{either}
 use Rattle.waiters.specs.declared.wait.WaitId.{WaitId}
 use Rattle.step_table.specs.declared.place.AcquireRow.TheVariants.{A3}
 use Rattle.step_table.specs.declared.place.ReleaseRow.TheVariants.{R3}
@@ -15,13 +16,19 @@ use Rattle.sema_law.specs.Served.{gains}
 use Rattle.sema_table.specs.declared.view.Setting.{Setting}
 use Rattle.sema_table.specs.declared.view.Record.TheVariants.{Root}
 use Rattle.sema_table.specs.Setting.{root, address}
-use Rattle.sema_table.specs.Places.{takes_lock, locked}
-use Rattle.sema_table.specs.Rule.{lists_by, IsRecord}
-use Rattle.sema_table.specs.Plays.{begin, took}
+use Rattle.sema_table.specs.Places.{Begins, takes_lock, locked}
+use Rattle.sema_table.specs.Rule.{stands_by, lists_by, IsRecord}
+use Rattle.running_rows.specs.Strides.{Took, Changed}
+use Rattle.running_rows.specs.Owing.{Owes}
+use Rattle.sema_law.specs.Balances.{added_by}
+use Rattle.sema_root.specs.Treap.{Treap}
+use Rattle.sema_table.specs.Rows.{Me, semaphore_rows}
+use Rattle.sema_table.specs.Starts.{begin}
+use Rattle.sema_table.proofs.Striding.{Ran}
 use Rattle.sema_table.specs.Seats.{Token, TableModel}
 use Rattle.sema_table.specs.Walks.{Starts, Walked, Locked, moved_to}
 use Rattle.sema_table.proofs.Adding.{adding}
-use Rattle.sema_table.proofs.Allowing.{Takes}
+use Rattle.sema_table.proofs.Allowing.{Takes, tells_so, owes_lock}
 use Rattle.sema_table.proofs.Leading.{Goes, led}
 use Rattle.sema_table.proofs.Walking.{walked_row}
 
@@ -58,15 +65,49 @@ locked_counter (Releasing r R3) e = refl
 locked_counter (ReleasingMany r M3) e = refl
 locked_counter _ e = absurd (cc)
 
-pub has_locked : (t : TableModel) (s u : Token) (p : Place) → Starts t s p → took (begin p s.me.0) s.me u.me → u.table_id ≡ s.table_id → Locked s p u
+pub has_locked : (t : TableModel) (s u : Token) (p : Place) → Starts t s p → Took semaphore_rows (begin p) s.me u.me → u.table_id ≡ s.table_id → Locked s p u
 has_locked t s u p starts T same =
-    let g : Goes (begin p s.me.0) T.0.stride (to (locked p)) u.me.0
-    = subst (λ (x : Next). Goes (begin p s.me.0) T.0.stride x u.me.0) (locking_leads s.me.0.number (record { place = p; turn = s.me.0.turn; hand = s.me.0.hand }) _ p starts.takes) (led (begin p s.me.0) u.me.0 p 0 T.0 refl) in
-    let x = subst (λ k. Walked s p u (moved_to s (locked p)) [] k) (locking_gains p starts.takes) (walked_row s u p 0 (to (locked p)) T.0 g same) in (
+    let g : Goes s.me.0.own T.0.stride (to (locked p)) u.me.0.own
+    = subst (λ (x : Next). Goes s.me.0.own T.0.stride x u.me.0.own) (locking_leads s.me.0.own.number (record { place = p; turn = s.me.0.own.knows.turn; hand = s.me.0.own.knows.hand }) _ p starts.takes) (led s.me.0.own u.me.0.own p 0 T.0) in
+    let x = subst (λ k. Walked s p u (moved_to s (locked p)) [] k) (locking_gains p starts.takes) (walked_row s u p 0 (to (locked p)) T.0 g same) in
+    let H = T.1.3 in
+    let place : counter_at u.me.0.own.knows.place ≡ counter_at p = ap (λ (q : SeatState). counter_at q.place) x.stands_is ∙ locked_counter p starts.takes in
+    let at : root u.me.0.own.knows.setting (counter_at u.me.0.own.knows.place) ≡ root u.me.0.own.knows.setting (counter_at p) = ap (root u.me.0.own.knows.setting) place in (
       x,
       (
-        T.1,
-        T.2 ∙ (λ i. (root (sym x.table_is i).setting (counter_at p), Root T.1) ∷ starts.bare i),
-        subst (λ z. IsRecord z (root z (counter_at p)) T.1 (lists_by z u.me.0.seen)) (λ i. (sym x.table_is i).setting) T.3,
+        H.0,
+        ap (λ (m : Me). m.1) T.1.2 ∙ (λ i. ((H.1 ∙ at) i, H.2 i) ∷ starts.bare i),
+        subst (λ r. IsRecord u.me.0.own.knows.setting r H.0 (lists_by u.me.0.own.knows.setting u.me.0.own.knows.seen)) at H.3,
       ),
     )
+
+-- what a lock owes by its row
+pub takes_lock_by : (z : Setting) (i : ℕ) (s : Token) (p : Place) → takes_lock p ≡ true → Begins (length s.me.0.own.knows.setting.starts) s.me.0.own.knows.place p → added_by s.me.0.own.number s.me.0.own.knows.seen ≤ 2 ^ 40
+    → address s.me.0.own.knows.setting (Lock (counter_at p)) ≡ i
+    → Owes semaphore_rows z s.me i (λ n. either (n == 0) 1 n) (λ n t. (n ≢ 0 → t ≡ s.me) × (n ≡ 0 → Took semaphore_rows (begin p) s.me t))
+takes_lock_by z i s p takes begins few word world words homes st = let k : ℕ = slice_index words i in
+    tells_so z s.me world words homes i (either (k == 0) 1 k) _ (λ t. (k ≢ 0 → t ≡ s.me) × (k ≡ 0 → Took semaphore_rows (begin p) s.me t))
+    (λ t told. (told.0, (λ free. got t (told.1 free))))
+    (owes_lock i s.me p begins (let a = locking_adds p takes in omega arith) z
+    (λ b n known free. locking_event s.me.0.own.knows.setting s.me.0.own.number (stands_by (begin p s.me.0.own.knows)) b.words.lists p i n takes word free) world words homes st)
+  where
+    got : (t : Me) → Ran (begin p) s.me.0.own 0 t.0.own × ((treap : Treap) × Changed semaphore_rows s.me ((root s.me.0.own.knows.setting (counter_at p), Root treap) ∷ s.me.1) t × IsRecord s.me.0.own.knows.setting (root s.me.0.own.knows.setting (counter_at p)) treap (lists_by s.me.0.own.knows.setting t.0.own.knows.seen))
+        → Took semaphore_rows (begin p) s.me t
+    got t g =
+        let lead : Goes s.me.0.own g.0.stride (to (locked p)) t.0.own
+        = subst (λ (x : Next). Goes s.me.0.own g.0.stride x t.0.own) (locking_leads s.me.0.own.number (record { place = p; turn = s.me.0.own.knows.turn; hand = s.me.0.own.knows.hand }) _ p takes) (led s.me.0.own t.0.own p 0 g.0) in
+        let place : counter_at p ≡ counter_at t.0.own.knows.place = sym (ap (λ (q : SeatState). counter_at q.place) lead.stands ∙ locked_counter p takes) in
+        let at : root s.me.0.own.knows.setting (counter_at p) ≡ root t.0.own.knows.setting (counter_at t.0.own.knows.place) = λ i. root (sym g.0.same.1 i) (place i) in (
+          g.0,
+          (
+            root s.me.0.own.knows.setting (counter_at p),
+            Root g.1.0,
+            g.1.1,
+            (
+              g.1.0,
+              at,
+              refl,
+              subst (λ (q : Setting × ℕ). IsRecord q.0 q.1 g.1.0 (lists_by q.0 t.0.own.knows.seen)) (λ i. (sym g.0.same.1 i, at i)) g.1.2,
+            ),
+          ),
+        )

@@ -16,12 +16,14 @@ use Rattle.step_table.proofs.Paths.{stride_told}
 use Rattle.sema_law.specs.Lawful.{IsGrantOf}
 use Rattle.sema_law.specs.SemaPath.{semaphores}
 use Rattle.sema_law.proofs.Promises.{the_law}
+use Rattle.running_rows.specs.Strides.{here}
 use Rattle.sema_table.specs.declared.seat.Numbers.{Numbers}
 use Rattle.sema_table.specs.declared.answers.Polled.TheVariants.{Still, Woken, Handed}
 use Rattle.sema_table.specs.Setting.{root, layout}
 use Rattle.sema_table.specs.Places.{is_free}
 use Rattle.sema_table.specs.Rule.{stands_by, sight_by}
-use Rattle.sema_table.specs.Plays.{Strode, Ran, begin}
+use Rattle.sema_table.specs.Starts.{begin}
+use Rattle.sema_table.proofs.Striding.{Strode, Ran, ran_at}
 use Rattle.sema_table.specs.Seats.{Token, TableModel, seat_of, IsSeat, IsSleeping, IsWoken}
 use Rattle.sema_table.specs.Walks.{Walked, moved_to}
 use Rattle.sema_table.specs.Tries.{LooksAt}
@@ -36,28 +38,28 @@ module _ (s t : Token) (n : Numbers) (a : Acquire) (turn k : ℕ) (seat : IsSlee
   parked = Acquiring a (P turn)
 
   -- nothing was granted
-  pub still_seat : Strode s.me.0 (looks (Grant s.me.0.number)) k t.me.0 → IsSleeping t n a turn
+  pub still_seat : Strode here (looks (Grant s.me.0.own.number)) s.me.0.own k t.me.0.own → IsSleeping t n a turn
   still_seat r = record {
-    token_is = looked_token s t n (Grant s.me.0.number) k seat.token_is r same bare;
-    inside = subst (λ (y : TableModel). a.counter < length y.setting.starts) (sym (looked_table s t n (Grant s.me.0.number) k seat.token_is r same bare)) seat.inside;
-    at = ap (λ (q : SeatState). q.place) (looked_stays s t n (Grant s.me.0.number) k seat.token_is r same bare) ∙ seat.at;
+    token_is = looked_token s t n (Grant s.me.0.own.number) k seat.token_is r same bare;
+    inside = subst (λ (y : TableModel). a.counter < length y.setting.starts) (sym (looked_table s t n (Grant s.me.0.own.number) k seat.token_is r same bare)) seat.inside;
+    at = ap (λ (q : SeatState). q.place) (looked_stays s t n (Grant s.me.0.own.number) k seat.token_is r same bare) ∙ seat.at;
   }
 
-  pub polled_still : Strode s.me.0 (looks (Grant s.me.0.number)) k t.me.0 → k ≡ 0 → IsPolled (seat_of s n) (Still (seat_of t n))
-  polled_still r e = subst (λ i. LooksAt (seat_of s n) (Grant i) 0 (seat_of t n)) seat.token_is.number_is (subst (λ j. LooksAt (seat_of s n) (Grant s.me.0.number) j (seat_of t n)) e (looks_at s t n (Grant s.me.0.number) k seat.token_is r same bare))
+  pub polled_still : Strode here (looks (Grant s.me.0.own.number)) s.me.0.own k t.me.0.own → k ≡ 0 → IsPolled (seat_of s n) (Still (seat_of t n))
+  polled_still r e = (a, turn, seat.at, subst (λ i. LooksAt (seat_of s n) (Grant i) 0 (seat_of t n)) seat.token_is.number_is (subst (λ j. LooksAt (seat_of s n) (Grant s.me.0.own.number) j (seat_of t n)) e (looks_at s t n (Grant s.me.0.own.number) k seat.token_is r same bare)))
 
-  module _ (q : Ran s.me.0 k t.me.0) where
-    abbrev row : Ran (begin parked s.me.0) k t.me.0
-    row = subst (λ v. Ran v k t.me.0) (λ i. record s.me.0 { place = seat.at i }) q
+  module _ (q : Ran here s.me.0.own k t.me.0.own) where
+    abbrev row : Ran (begin parked) s.me.0.own k t.me.0.own
+    row = ran_at s.me.0.own t.me.0.own parked k seat.at q
 
-    next : Goes (begin parked s.me.0) row.stride (to (cond (k == 1) (Acquiring a A10) Rest)) t.me.0
-    next = led (begin parked s.me.0) t.me.0 parked k row refl
+    next : Goes s.me.0.own row.stride (to (cond (k == 1) (Acquiring a A10) Rest)) t.me.0.own
+    next = led s.me.0.own t.me.0.own parked k row
 
     abbrev woken_walk : k ≡ 1 → Walked s parked t (moved_to s (Acquiring a A10)) [] 0
-    woken_walk e = walked_row s t parked k (to (Acquiring a A10)) row (subst (λ (b : Bool). Goes (begin parked s.me.0) row.stride (to (cond b (Acquiring a A10) Rest)) t.me.0) (eq-eqb k 1 e) next) same
+    woken_walk e = walked_row s t parked k (to (Acquiring a A10)) row (subst (λ (b : Bool). Goes s.me.0.own row.stride (to (cond b (Acquiring a A10) Rest)) t.me.0.own) (eq-eqb k 1 e) next) same
 
     abbrev handed_walk : k ≢ 1 → Walked s parked t (moved_to s Rest) [] 1
-    handed_walk ne = walked_row s t parked k (to Rest) row (subst (λ (b : Bool). Goes (begin parked s.me.0) row.stride (to (cond b (Acquiring a A10) Rest)) t.me.0) (ne_eqb k 1 ne) next) same
+    handed_walk ne = walked_row s t parked k (to Rest) row (subst (λ (b : Bool). Goes s.me.0.own row.stride (to (cond b (Acquiring a A10) Rest)) t.me.0.own) (ne_eqb k 1 ne) next) same
 
     took_grant : (later : Numbers) (stands : SeatState) (gained j : ℕ) → (x : Walked s parked t stands [] gained) → x.strides ≡ row.stride ∷ [] → k ≡ j → CallsGranted (seat_of s n) parked (seat_of t later) [] j
     took_grant later stands gained j x ran is = calls_granted s t n later parked stands gained row.stride j seat.token_is x ran row.did (ap (λ (q : SeatState). q.place) row.ran.stood) (row.read ∙ is)
@@ -66,16 +68,16 @@ module _ (s t : Token) (n : Numbers) (a : Acquire) (turn k : ℕ) (seat : IsSlee
     world = row.ran.world
 
     -- the world in which the grant was taken
-    stood : world.seats s.me.0.number ≡ record (stands_by s.me.0) { place = parked }
+    stood : world.seats s.me.0.own.number ≡ record (stands_by s.me.0.own.knows) { place = parked }
     stood = row.ran.meets.stands
 
-    granted : k ≡ world.words.grants s.me.0.number
+    granted : k ≡ world.words.grants s.me.0.own.number
     granted = sym row.read
-        ∙ (subst (λ (d : Deed Word). Did (semaphores (layout s.me.0.setting)) world s.me.0.number d row.stride.read row.stride.told (sight_by t.me.0)) row.did row.ran.did).read_is
-        ∙ ap (λ (x : SeatState). found (root s.me.0.setting) world.words (table s.me.0.number x world.words.lists).word) stood
+        ∙ (subst (λ (d : Deed Word). Did (semaphores (layout s.me.0.own.knows.setting)) world s.me.0.own.number d row.stride.read row.stride.told (sight_by t.me.0.own.knows)) row.did row.ran.did).read_is
+        ∙ ap (λ (x : SeatState). found (root s.me.0.own.knows.setting) world.words (table s.me.0.own.number x world.words.lists).word) stood
 
     most_two : k ≤ 2
-    most_two = subst (λ j. j ≤ 2) (sym granted) (subst (λ (x : SeatState). IsGrantOf x.place (world.words.grants s.me.0.number)) stood ((the_law.reached (layout s.me.0.setting) world row.ran.meets.met).grants.0 s.me.0.number))
+    most_two = subst (λ j. j ≤ 2) (sym granted) (subst (λ (x : SeatState). IsGrantOf x.place (world.words.grants s.me.0.own.number)) stood ((the_law.reached (layout s.me.0.own.knows.setting) world row.ran.meets.met).grants.0 s.me.0.own.number))
 
     pub woken_seat : k ≡ 1 → IsWoken t n a
     woken_seat e = let x = woken_walk e in record {
@@ -86,7 +88,7 @@ module _ (s t : Token) (n : Numbers) (a : Acquire) (turn k : ℕ) (seat : IsSlee
 
     pub polled_woken : k ≡ 1 → IsPolled (seat_of s n) (Woken (seat_of t n))
     polled_woken e = let x = woken_walk e in (
-      (λ i. record { table = x.table_is i; number = n.seat; left = n.left; taken = n.taken; sight = sight_by t.me.0; strides = t.me.0.strides }),
+      (λ i. record { table = x.table_is i; number = n.seat; left = n.left; taken = n.taken; sight = sight_by t.me.0.own.knows; strides = t.me.0.own.gone }),
       (
         a,
         turn,
@@ -110,17 +112,17 @@ module _ (s t : Token) (n : Numbers) (a : Acquire) (turn k : ℕ) (seat : IsSlee
     polled_handed ne some =
         let x = handed_walk ne in let two : k ≡ 2 = (let m = most_two in omega (arith, ne)) in
         let told : row.stride.told ≡ [] = sym (append-nil row.stride.told) ∙ x.told_is in
-        let seen : t.me.0.seen ≡ world.journal = stride_told (semaphores (layout s.me.0.setting)) s.me.0.number (sight_by (begin parked s.me.0)) (sight_by t.me.0) row.stride row.ran
+        let seen : t.me.0.own.knows.seen ≡ world.journal = stride_told (semaphores (layout s.me.0.own.knows.setting)) s.me.0.own.number (sight_by (begin parked s.me.0.own.knows)) (sight_by t.me.0.own.knows) row.stride row.ran
         ∙ ap (λ l. row.stride.seen ++ l) told ∙ append-nil row.stride.seen ∙ row.ran.seen in
-        let unit : HasItsUnit a.counter (wait s.me.0.number turn) world.journal
-        = (the_law.reached (layout s.me.0.setting) world row.ran.meets.met).grants.1 s.me.0.number a.counter turn row.there (a, refl, ap (λ (y : SeatState). y.place) stood) (sym granted ∙ two) in (
-          (λ i. record { table = x.table_is i; number = n.seat; left = n.left; taken = n.taken + 1; sight = sight_by t.me.0; strides = t.me.0.strides }),
+        let unit : HasItsUnit a.counter (wait s.me.0.own.number turn) world.journal
+        = (the_law.reached (layout s.me.0.own.knows.setting) world row.ran.meets.met).grants.1 s.me.0.own.number a.counter turn row.also.there (a, refl, ap (λ (y : SeatState). y.place) stood) (sym granted ∙ two) in (
+          (λ i. record { table = x.table_is i; number = n.seat; left = n.left; taken = n.taken + 1; sight = sight_by t.me.0.own.knows; strides = t.me.0.own.gone }),
           x.stands_is,
           (
             a,
             turn,
             seat.at,
             took_grant counted (moved_to s Rest) 1 2 x refl two,
-            subst (λ i. HasItsUnit a.counter (wait i turn) t.me.0.seen) seat.token_is.number_is (subst (HasItsUnit a.counter (wait s.me.0.number turn)) (sym seen) unit),
+            subst (λ i. HasItsUnit a.counter (wait i turn) t.me.0.own.knows.seen) seat.token_is.number_is (subst (HasItsUnit a.counter (wait s.me.0.own.number turn)) (sym seen) unit),
           ),
         )

@@ -4,7 +4,8 @@ use mathlib.Core.Logic.{dite}
 use mathlib.Core.Option.{some}
 use native.Mathlib.Decide.{ℕ_discrete}
 use lib.ListN.{get_elem?}
-use Rattle.atomic_table.specs.Table.{State}
+use Rattle.running_rows.specs.Table.{State}
+use Rattle.step_table.specs.declared.entry.Entry.{Entry}
 use Rattle.step_table.specs.declared.place.AcquireRow.TheVariants.{A1, A3}
 use Rattle.step_table.specs.declared.place.Place.{Place}
 use Rattle.step_table.specs.declared.place.Place.TheVariants.{Rest, Acquiring}
@@ -12,57 +13,57 @@ use Rattle.step_table.specs.declared.word.Word.TheVariants.{Counter}
 use Rattle.step_table.specs.World.{Layout, SemaWorld, SeatState, put}
 use Rattle.step_table.specs.Steps.{IsReached, moved, Choice, give_up, give_up_lock, choose}
 use Rattle.step_table.specs.Turn.{more}
-use Rattle.step_table.specs.Path.{GoesOn}
+use Rattle.step_table.specs.Path.{GoesOn, own_entries}
 use Rattle.step_table.specs.Journal.{plain_start, replay, takes}
 use Rattle.step_table.specs.Counting.{total}
 use Rattle.step_table.proofs.Sums.{put_here, put_else, total_zero, total_suc, total_same, total_change, total_has}
 use Rattle.sema_law.specs.Lawful.{IsParked, IsLawfulWorld, added}
 use Rattle.sema_law.specs.Balances.{added_by, taken}
 use Rattle.sema_law.specs.Served.{served}
+use Rattle.sema_law.specs.SemaPath.{semaphores}
 use Rattle.sema_law.proofs.Promises.{the_law}
 use Rattle.sema_law.proofs.Accounts.{the_accounts}
-use Rattle.sema_table.specs.declared.view.View.{View}
-use Rattle.sema_table.specs.declared.view.Guest.{Guest}
+use Rattle.running_rows.specs.Rule.{IsSomeones, In, AreApart, Sits, HasSeats, IsKept}
+use Rattle.sema_table.specs.Rows.{SemaSeat, SemaView, semaphore_rows}
 use Rattle.sema_table.specs.declared.view.Setting.{Setting}
 use Rattle.sema_table.specs.declared.view.Record.{Record}
 use Rattle.sema_table.specs.declared.seat.Numbers.{Numbers}
 use Rattle.sema_table.specs.Setting.{layout}
 use Rattle.sema_table.specs.Places.{is_free}
-use Rattle.sema_table.specs.Rule.{sight_by, IsSomeones, In, AreApart, view_of, Sits, HasSeats, IsKept}
+use Rattle.sema_table.specs.Rule.{sight_by}
 use Rattle.sema_table.specs.Seats.{Token, SeatModel, seat_of, IsSeat}
-use Rattle.sema_table.specs.Meeting.{guest_of}
-use Rattle.sema_table.specs.Closing.{sum_by, has_added, was_given, IsGuestOf, AreGuestsOf, IsClosed}
+use Rattle.sema_table.specs.Closing.{sum_by, has_added, was_given, IsOfSeat, AreOfSeats, IsClosed}
 use Rattle.sema_table.proofs.Adding.{own_adds}
 use Rattle.sema_table.proofs.Beginning.{begun}
 
-abbrev sum_over : (ℕ → ℕ) → List Guest → ℕ
+abbrev sum_over : (ℕ → ℕ) → List SemaSeat → ℕ
 sum_over f [] = 0
 sum_over f (g ∷ gs) = f g.number + sum_over f gs
 
 -- the numbers, but 0 for each of these seats
-abbrev zeroed : List Guest → (ℕ → ℕ) → ℕ → ℕ
+abbrev zeroed : List SemaSeat → (ℕ → ℕ) → ℕ → ℕ
 zeroed [] f = f
 zeroed (g ∷ gs) f = put (zeroed gs f) g.number 0
 
-zeroed_out : (gs : List Guest) (f : ℕ → ℕ) (k : ℕ) → ((h : Guest) → In h gs → h.number ≢ k) → zeroed gs f k ≡ f k
+zeroed_out : (gs : List SemaSeat) (f : ℕ → ℕ) (k : ℕ) → ((h : SemaSeat) → In h gs → h.number ≢ k) → zeroed gs f k ≡ f k
 zeroed_out [] f k ne = refl
 zeroed_out (g ∷ gs) f k ne = put_else (zeroed gs f) g.number 0 k (λ q. ne g (inl refl) (sym q)) ∙ zeroed_out gs f k (λ h e. ne h (inr e))
 
-zeroed_in : (gs : List Guest) (f : ℕ → ℕ) (g : Guest) → In g gs → zeroed gs f g.number ≡ 0
+zeroed_in : (gs : List SemaSeat) (f : ℕ → ℕ) (g : SemaSeat) → In g gs → zeroed gs f g.number ≡ 0
 zeroed_in [] f g e = absurd e
-zeroed_in (h ∷ gs) f g (inl e) = subst (λ (x : Guest). put (zeroed gs f) h.number 0 x.number ≡ 0) e (put_here (zeroed gs f) h.number 0)
+zeroed_in (h ∷ gs) f g (inl e) = subst (λ (x : SemaSeat). put (zeroed gs f) h.number 0 x.number ≡ 0) e (put_here (zeroed gs f) h.number 0)
 zeroed_in (h ∷ gs) f g (inr e) = dite (ℕ_discrete g.number h.number)
     (λ q. subst (λ (k : ℕ). put (zeroed gs f) h.number 0 k ≡ 0) (sym q) (put_here (zeroed gs f) h.number 0))
     (λ ne. put_else (zeroed gs f) h.number 0 g.number ne ∙ zeroed_in gs f g e)
 
-sums : (n : ℕ) (f : ℕ → ℕ) (gs : List Guest) → AreApart gs → ((g : Guest) → In g gs → g.number < n) → sum_over f gs + total n (zeroed gs f) ≡ total n f
+sums : (n : ℕ) (f : ℕ → ℕ) (gs : List SemaSeat) → AreApart gs → ((g : SemaSeat) → In g gs → g.number < n) → sum_over f gs + total n (zeroed gs f) ≡ total n f
 sums n f [] apart low = omega arith
 sums n f (g ∷ gs) apart low =
     let rest = sums n f gs apart.1 (λ h e. low h (inr e)) in
     let c = total_change n (zeroed gs f) (put (zeroed gs f) g.number 0) g.number (low g (inl refl)) (λ k ne. put_else (zeroed gs f) g.number 0 k ne) in
     let here = put_here (zeroed gs f) g.number 0 in let out = zeroed_out gs f g.number apart.0 in omega arith
 
-ones : (gs : List Guest) → sum_over (λ k. 1) gs ≡ length gs
+ones : (gs : List SemaSeat) → sum_over (λ k. 1) gs ≡ length gs
 ones [] = refl
 ones (g ∷ gs) = let r = ones gs in omega arith
 
@@ -70,14 +71,14 @@ all_ones : (n : ℕ) → total n (λ k. 1) ≡ n
 all_ones zero = total_zero (λ k. 1)
 all_ones (suc n) = let a = all_ones n in let b = total_suc n (λ k. 1) in omega arith
 
-found_in : (gs : List Guest) (k : ℕ) → zeroed gs (λ j. 1) k ≡ 0 → (g : Guest) × In g gs × (g.number ≡ k)
+found_in : (gs : List SemaSeat) (k : ℕ) → zeroed gs (λ j. 1) k ≡ 0 → (g : SemaSeat) × In g gs × (g.number ≡ k)
 found_in [] k e = absurd (omega arith)
 found_in (g ∷ gs) k e = dite (ℕ_discrete k g.number) (λ q. (g, inl refl, sym q))
     (λ ne. let o = found_in gs k (sym (put_else (zeroed gs (λ j. 1)) g.number 0 k ne) ∙ e) in (o.0, inr o.1, o.2))
 
-module _ (n : ℕ) (gs : List Guest) (apart : AreApart gs) (low : (g : Guest) → In g gs → g.number < n) (full : length gs ≡ n) where
+module _ (n : ℕ) (gs : List SemaSeat) (apart : AreApart gs) (low : (g : SemaSeat) → In g gs → g.number < n) (full : length gs ≡ n) where
   -- so many seats, all different, are all seats
-  each_is_in : (k : ℕ) → k < n → (g : Guest) × In g gs × (g.number ≡ k)
+  each_is_in : (k : ℕ) → k < n → (g : SemaSeat) × In g gs × (g.number ≡ k)
   each_is_in k h = let s = sums n (λ j. 1) gs apart low in let a = ones gs in let b = all_ones n in let c = total_has n (zeroed gs (λ j. 1)) k h in found_in gs k (omega arith)
 
   -- so a sum over them is the sum over all numbers
@@ -90,36 +91,33 @@ module _ (n : ℕ) (gs : List Guest) (apart : AreApart gs) (low : (g : Guest) �
       all_zeros zero = total_zero (λ k. 0)
       all_zeros (suc n) = let a = all_zeros n in let b = total_suc n (λ k. 0) in omega arith
 
-pub guest_is : (t : Token) (n : Numbers) → IsSeat t n → IsGuestOf t.me.0.setting (guest_of t.me.0) (seat_of t n)
-guest_is t n is = record { free = is.free; given = is.token_is.taken_is; left = is.token_is.left_is; seen = refl }
+pub seat_is : (t : Token) (n : Numbers) → IsSeat t n → IsOfSeat t.me.0.own.knows.setting t.me.0.own (seat_of t n)
+seat_is t n is = record { number_is = is.token_is.number_is; free = is.free; given = is.token_is.taken_is; left = is.token_is.left_is; seen = refl }
 
-long : (z : Setting) (gs : List Guest) (ss : List SeatModel) → AreGuestsOf z gs ss → length gs ≡ length ss
+long : (z : Setting) (gs : List SemaSeat) (ss : List SeatModel) → AreOfSeats z gs ss → length gs ≡ length ss
 long z [] [] are = refl
 long z (g ∷ gs) (s ∷ ss) are = ap suc (long z gs ss are.1)
 long z [] (s ∷ ss) are = absurd are
 long z (g ∷ gs) [] are = absurd are
 
-free_in : (z : Setting) (gs : List Guest) (ss : List SeatModel) → AreGuestsOf z gs ss → (g : Guest) → In g gs → is_free g.place ≡ true
-free_in z [] ss are g e = absurd e
-free_in z (h ∷ gs) [] are g e = absurd are
-free_in z (h ∷ gs) (s ∷ ss) are g (inl e) = ap (λ (x : Guest). is_free x.place) (sym e) ∙ are.0.free
-free_in z (h ∷ gs) (s ∷ ss) are g (inr e) = free_in z gs ss are.1 g e
-
-sum_is : (z : Setting) (f : ℕ → ℕ) (h : SeatModel → ℕ) (gs : List Guest) (ss : List SeatModel) → AreGuestsOf z gs ss → ((g : Guest) (s : SeatModel) → In g gs → IsGuestOf z g s → f g.number ≡ h s) → sum_over f gs ≡ sum_by h ss
+sum_is : (z : Setting) (f : ℕ → ℕ) (h : SeatModel → ℕ) (gs : List SemaSeat) (ss : List SeatModel) → AreOfSeats z gs ss → ((g : SemaSeat) (s : SeatModel) → In g gs → IsOfSeat z g s → f g.number ≡ h s) → sum_over f gs ≡ sum_by h ss
 sum_is z f h [] [] are each = refl
 sum_is z f h (g ∷ gs) (s ∷ ss) are each = let a = each g s (inl refl) are.0 in let r = sum_is z f h gs ss are.1 (λ k t e. each k t (inr e)) in omega arith
 sum_is z f h [] (s ∷ ss) are each = absurd are
 sum_is z f h (g ∷ gs) [] are each = absurd are
 
-seen_of : (z : Setting) (journal : List Rattle.step_table.specs.declared.entry.Entry.Entry) (gs : List Guest) (ss : List SeatModel) → AreGuestsOf z gs ss → ((g : Guest) → In g gs → GoesOn journal g.seen) → (s : SeatModel) → In s ss → GoesOn journal s.sight.seen
-seen_of z journal [] ss are each s e = absurd (none ss are e)
-  where
-    none : (ss : List SeatModel) → AreGuestsOf z [] ss → In s ss → ⊥
-    none [] are e = e
-    none (t ∷ ss) are e = are
-seen_of z journal (g ∷ gs) [] are each s e = absurd e
-seen_of z journal (g ∷ gs) (t ∷ ss) are each s (inl e) = subst (λ (x : SeatModel). GoesOn journal x.sight.seen) e (subst (GoesOn journal) are.0.seen (each g (inl refl)))
-seen_of z journal (g ∷ gs) (t ∷ ss) are each s (inr e) = seen_of z journal gs ss are.1 (λ h i. each h (inr i)) s e
+-- the seat of a guest, and the guest of a seat
+seat_for : (z : Setting) (gs : List SemaSeat) (ss : List SeatModel) → AreOfSeats z gs ss → (g : SemaSeat) → In g gs → (s : SeatModel) × In s ss × IsOfSeat z g s
+seat_for z [] ss are g e = absurd e
+seat_for z (h ∷ gs) [] are g e = absurd are
+seat_for z (h ∷ gs) (s ∷ ss) are g (inl e) = (s, inl refl, subst (λ (x : SemaSeat). IsOfSeat z x s) e are.0)
+seat_for z (h ∷ gs) (s ∷ ss) are g (inr e) = let o = seat_for z gs ss are.1 g e in (o.0, inr o.1, o.2)
+
+guest_for : (z : Setting) (gs : List SemaSeat) (ss : List SeatModel) → AreOfSeats z gs ss → (s : SeatModel) → In s ss → (g : SemaSeat) × In g gs × IsOfSeat z g s
+guest_for z gs [] are s e = absurd e
+guest_for z [] (t ∷ ss) are s e = absurd are
+guest_for z (g ∷ gs) (t ∷ ss) are s (inl e) = (g, inl refl, subst (λ (x : SeatModel). IsOfSeat z g x) e are.0)
+guest_for z (g ∷ gs) (t ∷ ss) are s (inr e) = let o = guest_for z gs ss are.1 s e in (o.0, inr o.1, o.2)
 
 -- a seat that may begin a call may come to rest
 module _ (m : Layout) (i : ℕ) (there : i < m.seats) (w : SemaWorld) where
@@ -161,72 +159,80 @@ free_unparked p k c turn w at free parked = not_free (sym parked.2 ∙ at) free
         clash : Rattle.std.proofs.Common.false ≡ true → ⊥
         clash e = cc
 
-module _ (z : Setting) (s : State Record View) (r : IsKept z s) (id : ℕ) (v : View) (someones : IsSomeones v) (at : get_elem? s.views id ≡ some v) (seats : List SeatModel) (are : AreGuestsOf z (guest_of v ∷ v.guests) seats) (full : length seats ≡ z.seats) where
-  abbrev all : List Guest
-  all = guest_of v ∷ v.guests
+module _ (z : Setting) (s : State Record SemaView) (r : IsKept semaphore_rows z s) (id : ℕ) (v : SemaView) (someones : IsSomeones semaphore_rows v) (at : get_elem? s.views id ≡ some v) (seats : List SeatModel) (are : AreOfSeats z (v.own ∷ v.guests) seats) (full : length seats ≡ z.seats) where
+  abbrev all : List SemaSeat
+  all = v.own ∷ v.guests
 
   abbrev m : Layout
   m = layout z
 
-  here : HasSeats z r.world r.spot r.made id v
+  here : HasSeats semaphore_rows z r.world r.spot r.made id v
   here = r.views id v at someones
 
-  sits : (g : Guest) → In g all → Sits z r.world r.spot r.made id (view_of z g)
-  sits g (inl e) = subst (λ (x : Guest). Sits z r.world r.spot r.made id (view_of z x)) e (let o = here.own in record {
-    place_is = o.place_is;
-    is_made = o.is_made;
-    setting_is = refl;
-    knows = record { meets = o.knows.meets; held = o.knows.held; takes = o.knows.takes };
-  })
+  sits : (g : SemaSeat) → In g all → Sits semaphore_rows z r.world r.spot r.made id g
+  sits g (inl e) = subst (λ (x : SemaSeat). Sits semaphore_rows z r.world r.spot r.made id x) e here.own
   sits g (inr e) = here.guests g e
 
   apart : AreApart all
   apart = (here.others, here.apart)
 
-  low : (g : Guest) → In g all → g.number < z.seats
+  low : (g : SemaSeat) → In g all → g.number < z.seats
   low g e = let o = sits g e in let a = o.is_made in let f = r.fits in omega arith
 
   count : length all ≡ z.seats
   count = long z all seats are ∙ full
 
+  -- each seat of the table is a guest's
+  there : (k : ℕ) → k < z.seats → (g : SemaSeat) × In g all × (g.number ≡ k)
+  there = each_is_in z.seats all apart low count
+
+  has_seen : (t : SeatModel) → In t seats → GoesOn r.world.journal t.sight.seen × (own_entries (semaphores m) t.number r.world.journal ≡ own_entries (semaphores m) t.number t.sight.seen)
+  has_seen t e = let o = guest_for z all seats are t e in let q = (sits o.0 o.1).knows.meets in (
+    subst (GoesOn r.world.journal) o.2.seen q.later,
+    subst (λ (y : ℕ × List Entry). own_entries (semaphores m) y.0 r.world.journal ≡ own_entries (semaphores m) y.0 y.1) (λ i. (o.2.number_is i, o.2.seen i)) q.quiet,
+  )
+
   free : (k : ℕ) → k < z.seats → is_free (r.world.seats k).place ≡ true
-  free k h = let o = each_is_in z.seats all apart low count k h in
-      subst (λ (j : ℕ). is_free (r.world.seats j).place ≡ true) o.2 (ap (λ (x : SeatState). is_free x.place) (sits o.0 o.1).knows.meets.stands ∙ free_in z all seats are o.0 o.1)
+  free k h = let o = there k h in
+      subst (λ (j : ℕ). is_free (r.world.seats j).place ≡ true) o.2 (ap (λ (x : SeatState). is_free x.place) (sits o.0 o.1).knows.meets.stands ∙ (seat_for z all seats are o.0 o.1).2.free)
 
   rested : Rested m r.world z.seats
-  rested = all_rest m r.world r.reached free z.seats (omega arith)
+  rested = all_rest m r.world r.shows.reached free z.seats (omega arith)
 
   unserved : (k : ℕ) → k < z.seats → served m r.world k ≡ 0
   unserved k h = dite (ℕ_discrete (served m r.world k) 0) (λ e. e)
-      (λ ne. let p = (the_accounts.served m r.world (the_law.invariant m r.world r.reached) k h).1 (omega (arith, ne)) in absurd (free_unparked (r.world.seats k).place k p.0 p.1 r.world refl (free k h) p.2))
+      (λ ne. let p = (the_accounts.served m r.world (the_law.invariant m r.world r.shows.reached) k h).1 (omega (arith, ne)) in absurd (free_unparked (r.world.seats k).place k p.0 p.1 r.world refl (free k h) p.2))
 
   given_all : sum_by was_given seats ≡ taken r.world.journal
   given_all = sym (sum_is z (λ k. takes k r.world.journal) was_given all seats are (λ g t e is. let o = sits g e in let a = o.knows.takes in let b = unserved g.number (low g e) in let c = is.given in omega arith))
-      ∙ sum_all z.seats all apart low count (λ k. takes k r.world.journal) ∙ sym (the_accounts.taken m r.world r.reached)
+      ∙ sum_all z.seats all apart low count (λ k. takes k r.world.journal) ∙ sym (the_accounts.taken m r.world r.shows.reached)
 
   added_all : sum_by (has_added z.limit) seats ≡ added r.world.journal
-  added_all = sym (sum_is z (λ k. added_by k r.world.journal) (has_added z.limit) all seats are (λ g t e is. let o = own_adds m r.world g.number (sight_by (view_of z g)) (sits g e).knows.meets in let l = is.left in omega arith))
-      ∙ sum_all z.seats all apart low count (λ k. added_by k r.world.journal) ∙ sym (the_accounts.added m r.world r.reached)
+  added_all = sym (sum_is z (λ k. added_by k r.world.journal) (has_added z.limit) all seats are (λ g t e is. let o = own_adds m r.world g.number (sight_by g.knows) (sits g e).knows.meets in let l = is.left in omega arith))
+      ∙ sum_all z.seats all apart low count (λ k. added_by k r.world.journal) ∙ sym (the_accounts.added m r.world r.shows.reached)
 
   lawful : IsLawfulWorld m r.world
-  lawful = the_law.reached m r.world r.reached
+  lawful = the_law.reached m r.world r.shows.reached
 
   value_is : (k : ℕ) → k < length z.starts → slice_index s.words (8 * k) ≡ r.world.words.numbers k
-  value_is k h = r.words (Counter k) h
+  value_is k h = r.shows.words (Counter k) h
 
   balance : total (length z.starts) (λ k. slice_index s.words (8 * k)) + sum_by was_given seats ≡ total (length z.starts) (layout z).starts + sum_by (has_added z.limit) seats
-  balance = let a = the_accounts.balanced_in_all m r.world r.reached in let b = total_same (length z.starts) (λ k. slice_index s.words (8 * k)) r.world.words.numbers value_is in let c = given_all in let d = added_all in omega arith
+  balance = let a = the_accounts.balanced_in_all m r.world r.shows.reached in let b = total_same (length z.starts) (λ k. slice_index s.words (8 * k)) r.world.words.numbers value_is in let c = given_all in let d = added_all in omega arith
 
   pub is_closed : (values : List ℕ) → length values ≡ length z.starts → ((k : ℕ) → k < length z.starts → slice_index values k ≡ slice_index s.words (8 * k))
       → IsClosed z seats (record { values = values; releases = sum_by (has_added z.limit) seats; acquires = sum_by was_given seats })
-  is_closed values each same = record {
-    each = each;
+  is_closed values long_values same = record {
+    long = long_values;
     world = rested.world;
     reached = rested.reached;
     lawful = the_law.reached m rested.world rested.reached;
     rest = rested.rest;
     cleared = the_accounts.cleared m rested.world (the_law.invariant m rested.world rested.reached) rested.rest;
-    begins = λ t e. subst (λ j. GoesOn j t.sight.seen) (sym rested.journal) (seen_of z r.world.journal all seats are (λ g i. (sits g i).knows.meets.later) t e);
+    named = the_accounts.named m rested.world rested.reached;
+    each = λ k h. (let o = there k h in let q = seat_for z all seats are o.0 o.1 in (q.0, q.1, sym q.2.number_is ∙ o.2));
+    begins = λ t e. subst (λ j. GoesOn j t.sight.seen) (sym rested.journal) (has_seen t e).0;
+    own = λ t e. subst (λ j. own_entries (semaphores m) t.number j ≡ own_entries (semaphores m) t.number t.sight.seen) (sym rested.journal) (has_seen t e).1;
     values = λ k h. same k h ∙ value_is k h ∙ ap (λ y. y.numbers k) lawful.journal.0 ∙ ap (λ j. (replay (plain_start (layout z).starts) j).numbers k) (sym rested.journal);
     released = refl;
     added_all = added_all ∙ ap added (sym rested.journal);

@@ -8,7 +8,7 @@ use Rattle.step_table.specs.Journal.{takes}
 use Rattle.sema_law.specs.Served.{served}
 use Rattle.sema_law.proofs.Promises.{the_law}
 use Rattle.sema_law.proofs.Accounts.{the_accounts}
-use Rattle.sema_table.specs.declared.view.View.{View}
+use Rattle.sema_table.specs.declared.view.Known.{Known}
 use Rattle.sema_table.specs.declared.view.Setting.{Setting}
 use Rattle.sema_table.specs.Setting.{layout}
 use Rattle.sema_table.specs.Places.{is_free}
@@ -17,7 +17,7 @@ pub not_both : {A : Type 0} (b : Bool) → b ≡ false → b ≡ true → A
 not_both b e f = absurd (cc)
 
 -- nothing is served to it, since it isn't parked
-pub free_counted : (z : Setting) (k : ℕ) (w : View) (t : SemaWorld) → IsReached (layout z) t → k < z.seats → (t.seats k).place ≡ w.place → t.journal ≡ w.seen
+pub free_counted : (z : Setting) (k : ℕ) (w : Known) (t : SemaWorld) → IsReached (layout z) t → k < z.seats → (t.seats k).place ≡ w.place → t.journal ≡ w.seen
     → takes k t.journal ≡ w.taken + served (layout z) t k → is_free w.place ≡ true → takes k w.seen ≡ w.taken
 free_counted z k w t reached there at seen all free = ap (takes k) (sym seen) ∙ all ∙ (let e = none_served in omega arith)
   where

@@ -10,27 +10,29 @@ use Rattle.step_table.specs.declared.place.Place.TheVariants.{Rest, Acquiring}
 use Rattle.step_table.specs.World.{SeatState}
 use Rattle.step_table.specs.Event.{Next}
 use Rattle.step_table.specs.Counting.{wait}
+use Rattle.running_rows.specs.Strides.{here}
 use Rattle.sema_table.specs.declared.seat.Numbers.{Numbers}
 use Rattle.sema_table.specs.declared.answers.Entered.{Entered}
 use Rattle.sema_table.specs.declared.answers.Entered.TheVariants.{Taken, Asleep}
 use Rattle.sema_table.specs.Places.{is_free}
 use Rattle.sema_table.specs.Rule.{sight_by}
-use Rattle.sema_table.specs.Plays.{Ran, begin}
+use Rattle.sema_table.specs.Starts.{begin}
+use Rattle.sema_table.proofs.Striding.{Ran}
 use Rattle.sema_table.specs.Seats.{Token, seat_of, IsToken, IsSeat, IsWoken}
 use Rattle.sema_table.specs.Walks.{Walked, moved_to}
-use Rattle.sema_table.specs.Calls.{Calls}
+use Rattle.sema_table.specs.Calls.{RunsRows}
 use Rattle.sema_table.specs.Waking.{IsEntered, IsRetried}
 use Rattle.sema_table.proofs.Leading.{Goes, next_by, led, load_zero, load_some, won, lost}
 use Rattle.sema_table.proofs.Walking.{walked_row, walked_then, ran_from, token_after}
 use Rattle.sema_table.proofs.Calling.{calls, calls_after}
 
 -- A10, after rows that led there
-module _ (s0 s u : Token) (a : Acquire) (n : ℕ) (before : Walked s0 (Acquiring a A10) s (moved_to s0 (Acquiring a A10)) [] 0) (r : Ran s.me.0 n u.me.0) (same : u.table_id ≡ s.table_id) where
-  abbrev look : Ran (begin (Acquiring a A10) s.me.0) n u.me.0
+module _ (s0 s u : Token) (a : Acquire) (n : ℕ) (before : Walked s0 (Acquiring a A10) s (moved_to s0 (Acquiring a A10)) [] 0) (r : Ran here s.me.0.own n u.me.0.own) (same : u.table_id ≡ s.table_id) where
+  abbrev look : Ran (begin (Acquiring a A10)) s.me.0.own n u.me.0.own
   look = ran_from s u (Acquiring a A10) n (ap (λ (y : SeatState). y.place) before.stands_is) r
 
-  found : Goes (begin (Acquiring a A10) s.me.0) look.stride (next_by (begin (Acquiring a A10) s.me.0) (Acquiring a A10) look.stride n) u.me.0
-  found = led (begin (Acquiring a A10) s.me.0) u.me.0 (Acquiring a A10) n look refl
+  found : Goes s.me.0.own look.stride (next_by s.me.0.own (Acquiring a A10) look.stride n) u.me.0.own
+  found = led s.me.0.own u.me.0.own (Acquiring a A10) n look
 
   pub zero_again : n ≡ 0 → Walked s0 (Acquiring a A10) u (moved_to s0 (Acquiring a A3)) [] 0
   zero_again e = walked_then s0 s u (Acquiring a A10) (Acquiring a A10) (Acquiring a A3) [] [] 0 0 before
@@ -41,37 +43,37 @@ module _ (s0 s u : Token) (a : Acquire) (n : ℕ) (before : Walked s0 (Acquiring
       (walked_row s u (Acquiring a A10) n (Acquiring a (A11 (n - 1)), Nothing) look (load_some n (Acquiring a A3) (λ left. Acquiring a (A11 left)) found h) same)
 
   -- and A11
-  module _ (w : Token) (y : ℕ) (some : 0 < n) (q : Ran u.me.0 y w.me.0) (again : w.table_id ≡ u.table_id) where
+  module _ (w : Token) (y : ℕ) (some : 0 < n) (q : Ran here u.me.0.own y w.me.0.own) (again : w.table_id ≡ u.table_id) where
     abbrev before_it : Place
     before_it = Acquiring a (A11 (n - 1))
 
     abbrev wins : Next
-    wins = (Rest, Tells (Take a.counter u.me.0.number))
+    wins = (Rest, Tells (Take a.counter u.me.0.own.number))
 
     abbrev loses : Next
     loses = (Acquiring a A10, Nothing)
 
-    swap : Ran (begin before_it u.me.0) y w.me.0
+    swap : Ran (begin before_it) u.me.0.own y w.me.0.own
     swap = ran_from u w before_it y (ap (λ (x : SeatState). x.place) (some_again some).stands_is) q
 
-    went : Goes (begin before_it u.me.0) swap.stride (next_by (begin before_it u.me.0) before_it swap.stride y) w.me.0
-    went = led (begin before_it u.me.0) w.me.0 before_it y swap refl
+    went : Goes u.me.0.own swap.stride (next_by u.me.0.own before_it swap.stride y) w.me.0.own
+    went = led u.me.0.own w.me.0.own before_it y swap
 
-    pub won_again : y ≡ n → Walked s0 (Acquiring a A10) w (moved_to s0 Rest) (Take a.counter s0.me.0.number ∷ []) 1
+    pub won_again : y ≡ n → Walked s0 (Acquiring a A10) w (moved_to s0 Rest) (Take a.counter s0.me.0.own.number ∷ []) 1
     won_again e = subst (λ i. Walked s0 (Acquiring a A10) w (moved_to s0 Rest) (Take a.counter i ∷ []) 1) (some_again some).number_is
-        (walked_then s0 u w (Acquiring a A10) before_it Rest [] (Take a.counter u.me.0.number ∷ []) 0 1 (some_again some) (walked_row u w before_it y wins swap (won y (n - 1 + 1) wins loses went (omega arith)) again))
+        (walked_then s0 u w (Acquiring a A10) before_it Rest [] (Take a.counter u.me.0.own.number ∷ []) 0 1 (some_again some) (walked_row u w before_it y wins swap (won y (n - 1 + 1) wins loses went (omega arith)) again))
 
     pub lost_again : y ≢ n → Walked s0 (Acquiring a A10) w (moved_to s0 (Acquiring a A10)) [] 0
     lost_again ne = walked_then s0 u w (Acquiring a A10) before_it (Acquiring a A10) [] [] 0 0 (some_again some)
         (walked_row u w before_it y loses swap (lost y (n - 1 + 1) wins loses went (λ e. ne (omega arith))) again)
 
 -- a unit was taken at once
-module _ (s t : Token) (n : Numbers) (a : Acquire) (seat : IsWoken s n a) (x : Walked s (Acquiring a A10) t (moved_to s Rest) (Take a.counter s.me.0.number ∷ []) 1) (bare : t.me.1 ≡ s.me.1) where
+module _ (s t : Token) (n : Numbers) (a : Acquire) (seat : IsWoken s n a) (x : Walked s (Acquiring a A10) t (moved_to s Rest) (Take a.counter s.me.0.own.number ∷ []) 1) (bare : t.me.1 ≡ s.me.1) where
   abbrev counted : Numbers
   counted = record n { taken = n.taken + 1 }
 
   abbrev took : List Entry
-  took = Take a.counter s.me.0.number ∷ []
+  took = Take a.counter s.me.0.own.number ∷ []
 
   pub retried_seat : IsSeat t counted
   retried_seat = record {
@@ -85,9 +87,9 @@ module _ (s t : Token) (n : Numbers) (a : Acquire) (seat : IsWoken s n a) (x : W
     a,
     seat.at,
     (
-      (λ i. record { table = x.table_is i; number = n.seat; left = n.left; taken = n.taken + 1; sight = sight_by t.me.0; strides = t.me.0.strides }),
+      (λ i. record { table = x.table_is i; number = n.seat; left = n.left; taken = n.taken + 1; sight = sight_by t.me.0.own.knows; strides = t.me.0.own.gone }),
       x.stands_is,
-      subst (λ k. Calls (seat_of s n) (Acquiring a A10) (seat_of t counted) (Take a.counter k ∷ [])) seat.token_is.number_is (calls s t n counted (Acquiring a A10) (moved_to s Rest) took 1 seat.token_is x),
+      subst (λ k. RunsRows (seat_of s n) (Acquiring a A10) (seat_of t counted) (Take a.counter k ∷ [])) seat.token_is.number_is (calls s t n counted (Acquiring a A10) (moved_to s Rest) took 1 seat.token_is x),
     ),
   )
 
@@ -96,7 +98,7 @@ module _ (s t : Token) (n : Numbers) (a : Acquire) (seat : IsWoken s n a) (x : W
   pub again_token : IsToken t n
   again_token = token_after s t (Acquiring a A10) (moved_to s (Acquiring a A3)) [] 0 n n seat.token_is x (bare ∙ seat.token_is.bare) seat.token_is.empty seat.token_is.turns_are (omega arith) refl (omega arith)
 
-  same_turn : t.me.0.turn ≡ s.me.0.turn
+  same_turn : t.me.0.own.knows.turn ≡ s.me.0.own.knows.turn
   same_turn = ap (λ (q : SeatState). q.turn) x.stands_is
 
   pub retried_on : (entered : Entered) → IsEntered (seat_of t n) a (Acquiring a A3) entered → IsRetried (seat_of s n) entered
@@ -115,8 +117,8 @@ module _ (s t : Token) (n : Numbers) (a : Acquire) (seat : IsWoken s n a) (x : W
     (
       e.0 ∙ (λ i. record { table = x.table_is i; number = n.seat; left = n.left; taken = n.taken; sight = u.sight; strides = u.strides }),
       e.1 ∙ ap (λ (q : SeatState). record { place = Acquiring a (P q.turn); turn = q.turn + 1; hand = q.hand }) x.stands_is,
-      calls_after s t n u (Acquiring a A10) (Acquiring a A3) (Queue a.counter (wait n.seat s.me.0.turn) a.lifo ∷ []) 0 seat.token_is x
-          (subst (λ k. Calls (seat_of t n) (Acquiring a A3) u (Queue a.counter (wait n.seat k) a.lifo ∷ [])) same_turn e.2),
+      calls_after s t n u (Acquiring a A10) (Acquiring a A3) (Queue a.counter (wait n.seat s.me.0.own.knows.turn) a.lifo ∷ []) 0 seat.token_is x
+          (subst (λ k. RunsRows (seat_of t n) (Acquiring a A3) u (Queue a.counter (wait n.seat k) a.lifo ∷ [])) same_turn e.2),
       subst (λ k. (before : List Entry) × (u.sight.seen ≡ before ++ Queue a.counter (wait n.seat k) a.lifo ∷ [])) same_turn e.3,
     ),
   )

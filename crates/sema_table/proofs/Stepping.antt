@@ -18,11 +18,11 @@ use Rattle.sema_table.specs.Rule.{stands_by}
 use Rattle.sema_law.specs.Lawful.{holds, raises, IsLawfulWorld}
 use Rattle.sema_law.proofs.Promises.{the_law}
 use Rattle.sema_law.proofs.Accounts.{the_accounts}
-use Rattle.sema_table.specs.declared.view.View.{View}
+use Rattle.sema_table.specs.declared.view.Known.{Known}
 use Rattle.sema_table.specs.Setting.{root, layout, address}
-use Rattle.sema_table.proofs.Keeping.{Known}
+use Rattle.sema_table.proofs.Keeping.{Ready}
 
-module _ (v : View) (b : SemaWorld) (i n : ℕ) (known : Known v b i n) where
+module _ {k : ℕ} {v : Known} {b : SemaWorld} {i n : ℕ} (known : Ready k v b i n) where
   lawful : IsLawfulWorld (layout v.setting) b
   lawful = the_law.reached (layout v.setting) b known.reached
 
@@ -33,8 +33,8 @@ module _ (v : View) (b : SemaWorld) (i n : ℕ) (known : Known v b i n) where
       let is = known.word (Counter c) inside at in omega arith
 
   -- a few more in a counter
-  pub counter_up_by : (c k : ℕ) → c < length v.setting.starts → address v.setting (Counter c) ≡ i → k ≤ 256 → (n + k) % 2 ^ 64 ≡ n + k
-  counter_up_by c k inside at fewer =
+  pub counter_up_by : (c j : ℕ) → c < length v.setting.starts → address v.setting (Counter c) ≡ i → j ≤ 256 → (n + j) % 2 ^ 64 ≡ n + j
+  counter_up_by c j inside at fewer =
       let few = (the_accounts.unwrapped (layout v.setting) b known.reached known.small).numbers c in
       let is = known.word (Counter c) inside at in omega arith
 
@@ -53,31 +53,31 @@ module _ (v : View) (b : SemaWorld) (i n : ℕ) (known : Known v b i n) where
   raised_some c held raised =
       let x : ℕ = root v.setting c in
       let stands = ap (λ (y : SeatState). y.place) known.knows.meets.stands in
-      let counted = (lawful.waiters x).1 v.number known.there (ap (holds (root v.setting) x) stands ∙ held) in
+      let counted = (lawful.waiters x).1 k known.there (ap (holds (root v.setting) x) stands ∙ held) in
       let one = ap (raises (root v.setting) x) stands ∙ raised in omega arith
 
   -- the waiter word that a seat at R5 lowers is above 0
   pub lowered_some : (a : Release) → v.place ≡ Releasing a R5 → 0 < b.words.waiters (root v.setting a.counter)
   lowered_some a at = by (b.words.lists a.counter) refl
     where
-      stands : event_of b v.number ≡ event_at v.number (stands_by v) b.words.lists (Releasing a R5)
-      stands = ap (λ (y : SeatState). table v.number y b.words.lists) known.knows.meets.stands ∙ ap (λ q. event_at v.number (stands_by v) b.words.lists q) at
+      stands : event_of b k ≡ event_at k (stands_by v) b.words.lists (Releasing a R5)
+      stands = ap (λ (y : SeatState). table k y b.words.lists) known.knows.meets.stands ∙ ap (λ q. event_at k (stands_by v) b.words.lists q) at
 
       by : (l : List WaitId) → b.words.lists a.counter ≡ l → 0 < b.words.waiters (root v.setting a.counter)
-      by l e = the_accounts.lowered (layout v.setting) b (the_law.invariant (layout v.setting) b known.reached) v.number (root v.setting a.counter) known.there
-          (a.counter, by_first (b.words.lists a.counter) (to (Releasing a R6)) (λ w. (Releasing a R6, Tells (Leave a.counter w v.number))), refl, stands)
+      by l e = the_accounts.lowered (layout v.setting) b (the_law.invariant (layout v.setting) b known.reached) k (root v.setting a.counter) known.there
+          (a.counter, by_first (b.words.lists a.counter) (to (Releasing a R6)) (λ w. (Releasing a R6, Tells (Leave a.counter w k))), refl, stands)
 
   -- and so is that which a seat at M5 lowers
   pub lowered_some_many : (a : ReleaseMany) → v.place ≡ ReleasingMany a M5 → 0 < b.words.waiters (root v.setting a.counter)
   lowered_some_many a at = by (b.words.lists a.counter) refl
     where
-      stands : event_of b v.number ≡ event_at v.number (stands_by v) b.words.lists (ReleasingMany a M5)
-      stands = ap (λ (y : SeatState). table v.number y b.words.lists) known.knows.meets.stands ∙ ap (λ q. event_at v.number (stands_by v) b.words.lists q) at
+      stands : event_of b k ≡ event_at k (stands_by v) b.words.lists (ReleasingMany a M5)
+      stands = ap (λ (y : SeatState). table k y b.words.lists) known.knows.meets.stands ∙ ap (λ q. event_at k (stands_by v) b.words.lists q) at
 
       by : (l : List WaitId) → b.words.lists a.counter ≡ l → 0 < b.words.waiters (root v.setting a.counter)
-      by l e = the_accounts.lowered (layout v.setting) b (the_law.invariant (layout v.setting) b known.reached) v.number (root v.setting a.counter) known.there (
+      by l e = the_accounts.lowered (layout v.setting) b (the_law.invariant (layout v.setting) b known.reached) k (root v.setting a.counter) known.there (
         a.counter,
-        by_first (b.words.lists a.counter) (to (ReleasingMany a M6)) (λ w. (after_leave a (length v.hand) (length (b.words.lists a.counter)), Tells (Leave a.counter w v.number))),
+        by_first (b.words.lists a.counter) (to (ReleasingMany a M6)) (λ w. (after_leave a (length v.hand) (length (b.words.lists a.counter)), Tells (Leave a.counter w k))),
         refl,
         stands,
       )

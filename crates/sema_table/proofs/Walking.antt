@@ -1,5 +1,6 @@
 -- Rows one after the other, and what they leave of a token.
-use Rattle.std.proofs.Common.{◌≡◌, ℕ, ◌+◌, ◌^◌, ◌≤◌, true, false, List, [], ◌∷◌, ◌++◌, sym, refl, ap, ◌∙◌, subst, arith, length-append, append-nil, append_assoc}
+use Rattle.std.proofs.Common.{◌≡◌, ℕ, ◌+◌, ◌^◌, ◌≤◌, true, false, List, [], ◌∷◌, ◌++◌, sym, refl, ap, ◌∙◌, subst, arith, append-nil, append_assoc}
+use Rattle.std.proofs.lemmas.List.Elements.{All-nil, All-cons, All-append}
 use Rattle.step_table.specs.declared.entry.Entry.{Entry}
 use Rattle.step_table.specs.declared.place.Place.{Place}
 use Rattle.step_table.specs.declared.word.Word.{Word}
@@ -12,15 +13,18 @@ use Rattle.sema_law.specs.Balances.{added_by}
 use Rattle.sema_law.specs.Served.{gains}
 use Rattle.sema_law.specs.SemaPath.{SemaSight, SemaStride, SemaPath, placed, semaphores, entries_of}
 use Rattle.sema_law.proofs.SemaPaths.{the_sema_paths}
-use Rattle.sema_table.specs.declared.view.View.{View}
 use Rattle.sema_table.specs.declared.view.Setting.{Setting}
 use Rattle.sema_table.specs.Setting.{layout}
 use Rattle.sema_table.specs.Places.{is_free}
 use Rattle.sema_table.specs.Rule.{stands_by, sight_by}
-use Rattle.sema_table.specs.Plays.{Strode, Ran, begin, gains_by}
+use Rattle.sema_table.specs.Rows.{gains_by}
+use Rattle.sema_table.specs.Starts.{begin}
+use Rattle.running_rows.specs.Strides.{here}
+use Rattle.sema_table.proofs.Striding.{Strode, Ran, ran_at}
 use Rattle.sema_table.specs.declared.seat.Numbers.{Numbers}
 use Rattle.sema_table.specs.Seats.{TableModel, Token, IsToken}
-use Rattle.sema_table.specs.Walks.{Stands, Walked, moved_to}
+use Rattle.sema_table.specs.Strides.{IsRow}
+use Rattle.sema_table.specs.Walks.{Stands, Went, Walked, moved_to}
 use Rattle.sema_table.proofs.Leading.{Goes}
 use Rattle.sema_table.proofs.Resting.{not_both}
 use Rattle.sema_table.proofs.Adding.{added_append, own_only}
@@ -30,29 +34,30 @@ told_append [] b = refl
 told_append (p ∷ a) b = ap (λ l. p.told ++ l) (told_append a b) ∙ sym (append_assoc p.told (all_told a) (all_told b))
 
 -- one stride, from this place
-abbrev pub walked_by : (s t : Token) (from : Place) (deed : Deed Word) (n : ℕ) (stands : SeatState) (told : List Entry) (gained : ℕ) → (r : Strode (begin from s.me.0) deed n t.me.0)
-    → gains_by deed from stands.place ≡ gained → t.table_id ≡ s.table_id → stands_by t.me.0 ≡ stands → r.stride.told ≡ told → Walked s from t stands told gained
+abbrev pub walked_by : (s t : Token) (from : Place) (deed : Deed Word) (n : ℕ) (stands : SeatState) (told : List Entry) (gained : ℕ) → (r : Strode (begin from) deed s.me.0.own n t.me.0.own)
+    → gains_by deed from stands.place ≡ gained → t.table_id ≡ s.table_id → stands_by t.me.0.own.knows ≡ stands → r.stride.told ≡ told → Went (λ p. p.deed ≡ deed) s from t stands told gained
 walked_by s t from deed n stands told gained r come same at entries = record {
-  table_is = λ i. record { id = same i; setting = (r.same i).setting };
-  number_is = ap (λ (v : View). v.number) r.same;
+  table_is = λ i. record { id = same i; setting = r.same.1 i };
+  number_is = r.same.0;
   stands_is = at;
-  few = r.few;
-  came = r.came ∙ (λ i. s.me.0.taken + gains_by deed from (at i).place) ∙ ap (λ k. s.me.0.taken + k) come;
-  most = r.most;
-  counted = λ free. ap (λ (v : View). takes v.number t.me.0.seen) r.same ∙ r.counted (ap (λ (q : SeatState). is_free q.place) at ∙ free);
+  few = r.also.few;
+  came = r.also.came ∙ (λ i. s.me.0.own.knows.taken + gains_by (r.did i) from (at i).place) ∙ ap (λ k. s.me.0.own.knows.taken + k) come;
+  most = r.also.most;
+  counted = λ free. ap (λ k. takes k t.me.0.own.knows.seen) r.same.0 ∙ r.also.counted (ap (λ (q : SeatState). is_free q.place) at ∙ free);
   strides = r.stride ∷ [];
-  path = ((the_sema_paths.paths (layout s.me.0.setting)).single s.me.0.number (placed from (sight_by s.me.0)) (sight_by t.me.0) r.stride).0 r.ran;
+  each = All-cons (λ (p : SemaStride). p.deed ≡ deed) r.stride [] r.did (All-nil (λ (p : SemaStride). p.deed ≡ deed));
+  path = ((the_sema_paths.paths (layout s.me.0.own.knows.setting)).single s.me.0.own.number (placed from (sight_by s.me.0.own.knows)) (sight_by t.me.0.own.knows) r.stride).0 r.ran;
   all = r.one;
   told_is = append-nil r.stride.told ∙ entries;
 }
 
 -- one row that went on so
-abbrev pub walked_row : (s t : Token) (from : Place) (n : ℕ) (next : Next) (r : Ran (begin from s.me.0) n t.me.0) → Goes (begin from s.me.0) r.stride next t.me.0
-    → t.table_id ≡ s.table_id → Walked s from t (seat_after next.1 next.0 (stands_by s.me.0)) (entries_of next.1) (gains from next.0)
-walked_row s t from n next r g same = walked_by s t from runs n (seat_after next.1 next.0 (stands_by s.me.0)) (entries_of next.1) (gains from next.0) r refl same g.stands g.told
+abbrev pub walked_row : (s t : Token) (from : Place) (n : ℕ) (next : Next) (r : Ran (begin from) s.me.0.own n t.me.0.own) → Goes s.me.0.own r.stride next t.me.0.own
+    → t.table_id ≡ s.table_id → Walked s from t (seat_after next.1 next.0 (stands_by s.me.0.own.knows)) (entries_of next.1) (gains from next.0)
+walked_row s t from n next r g same = walked_by s t from runs n (seat_after next.1 next.0 (stands_by s.me.0.own.knows)) (entries_of next.1) (gains from next.0) r refl same g.stands g.told
 
 -- no row
-abbrev pub walked_none : (s : Token) (from : Place) → s.me.0.place ≡ from → s.me.0.turn ≤ 2 ^ 48 + 256 → s.me.0.taken ≤ 2 ^ 49 → (is_free s.me.0.place ≡ true → takes s.me.0.number s.me.0.seen ≡ s.me.0.taken) → Walked s from s (stands_by s.me.0) [] 0
+abbrev pub walked_none : (s : Token) (from : Place) → s.me.0.own.knows.place ≡ from → s.me.0.own.knows.turn ≤ 2 ^ 48 + 256 → s.me.0.own.knows.taken ≤ 2 ^ 49 → (is_free s.me.0.own.knows.place ≡ true → takes s.me.0.own.number s.me.0.own.knows.seen ≡ s.me.0.own.knows.taken) → Walked s from s (stands_by s.me.0.own.knows) [] 0
 walked_none s from at few most counted = record {
   table_is = refl;
   number_is = refl;
@@ -62,8 +67,9 @@ walked_none s from at few most counted = record {
   most = most;
   counted = counted;
   strides = [];
-  all = omega arith;
-  path = λ i. record { stands = record (stands_by s.me.0) { place = at i }; seen = s.me.0.seen };
+  each = All-nil IsRow;
+  all = sym (append-nil s.me.0.own.gone);
+  path = λ i. record { stands = record (stands_by s.me.0.own.knows) { place = at i }; seen = s.me.0.own.knows.seen };
   told_is = refl;
 }
 
@@ -78,28 +84,29 @@ walked_on s t u from a b told more j k x y = record {
   most = y.most;
   counted = y.counted;
   strides = x.strides ++ y.strides;
-  path = (the_sema_paths.paths (layout s.me.0.setting)).joined s.me.0.number (placed from (sight_by s.me.0)) (sight_by t.me.0) (sight_by u.me.0) x.strides y.strides x.path
-      (subst (λ (q : Setting × (ℕ × SemaSight)). SemaPath (layout q.0) q.1.0 q.1.1 y.strides (sight_by u.me.0))
-      (λ i. ((x.table_is i).setting, (x.number_is i, record { stands = stays i; seen = t.me.0.seen })))
+  each = All-append IsRow x.strides y.strides x.each y.each;
+  path = (the_sema_paths.paths (layout s.me.0.own.knows.setting)).joined s.me.0.own.number (placed from (sight_by s.me.0.own.knows)) (sight_by t.me.0.own.knows) (sight_by u.me.0.own.knows) x.strides y.strides x.path
+      (subst (λ (q : Setting × (ℕ × SemaSight)). SemaPath (layout q.0) q.1.0 q.1.1 y.strides (sight_by u.me.0.own.knows))
+      (λ i. ((x.table_is i).setting, (x.number_is i, record { stands = stays i; seen = t.me.0.own.knows.seen })))
       y.path);
-  all = let c = x.all in let d = y.all in let l = length-append x.strides y.strides in omega arith;
+  all = y.all ∙ ap (λ l. l ++ y.strides) x.all ∙ append_assoc s.me.0.own.gone x.strides y.strides;
   told_is = told_append x.strides y.strides ∙ (λ i. x.told_is i ++ y.told_is i);
 }
   where
-    stays : record (stands_by t.me.0) { place = a.place } ≡ stands_by t.me.0
-    stays = λ i. record (stands_by t.me.0) { place = (sym x.stands_is i).place }
+    stays : record (stands_by t.me.0.own.knows) { place = a.place } ≡ stands_by t.me.0.own.knows
+    stays = λ i. record (stands_by t.me.0.own.knows) { place = (sym x.stands_is i).place }
 
 -- what was added is what the rows told
-pub walked_adds : (s t : Token) (from : Place) (a : SeatState) (told : List Entry) (j : ℕ) → Walked s from t a told j
-    → added_by t.me.0.number t.me.0.seen ≡ added_by s.me.0.number s.me.0.seen + added_by s.me.0.number told
+pub walked_adds : {IsOne : SemaStride → Type 0} (s t : Token) (from : Place) (a : SeatState) (told : List Entry) (j : ℕ) → Went IsOne s from t a told j
+    → added_by t.me.0.own.number t.me.0.own.knows.seen ≡ added_by s.me.0.own.number s.me.0.own.knows.seen + added_by s.me.0.own.number told
 walked_adds s t from a told j x =
-    let k : ℕ = s.me.0.number in let m = layout s.me.0.setting in
-    let own = (the_sema_paths.paths m).own k (placed from (sight_by s.me.0)) (sight_by t.me.0) x.strides x.path in
-    ap (λ i. added_by i t.me.0.seen) x.number_is ∙ sym (own_only k t.me.0.seen) ∙ ap (added_by k) own
-    ∙ added_append k (own_entries (semaphores m) k s.me.0.seen) (own_entries (semaphores m) k (all_told x.strides))
-    ∙ (λ i. own_only k s.me.0.seen i + own_only k (x.told_is i) i)
+    let k : ℕ = s.me.0.own.number in let m = layout s.me.0.own.knows.setting in
+    let own = (the_sema_paths.paths m).own k (placed from (sight_by s.me.0.own.knows)) (sight_by t.me.0.own.knows) x.strides x.path in
+    ap (λ i. added_by i t.me.0.own.knows.seen) x.number_is ∙ sym (own_only k t.me.0.own.knows.seen) ∙ ap (added_by k) own
+    ∙ added_append k (own_entries (semaphores m) k s.me.0.own.knows.seen) (own_entries (semaphores m) k (all_told x.strides))
+    ∙ (λ i. own_only k s.me.0.own.knows.seen i + own_only k (x.told_is i) i)
 
-pub stands_on : (z : TableModel) (s t : Token) (from : Place) (a : SeatState) (told : List Entry) (j : ℕ) → Stands z s from → Walked s from t a told j → added_by s.me.0.number told ≡ 0
+pub stands_on : (z : TableModel) (s t : Token) (from : Place) (a : SeatState) (told : List Entry) (j : ℕ) → Stands z s from → Walked s from t a told j → added_by s.me.0.own.number told ≡ 0
     → counter_at a.place ≡ counter_at from → Stands z t a.place
 stands_on z s t from a told j x y none same = record {
   table_is = y.table_is ∙ x.table_is;
@@ -111,8 +118,8 @@ stands_on z s t from a told j x y none same = record {
 }
 
 -- a token after rows that added so much
-pub token_after : (s t : Token) (from : Place) (a : SeatState) (told : List Entry) (j : ℕ) (n k : Numbers) → IsToken s n → Walked s from t a told j
-    → t.me.1 ≡ [] → a.hand ≡ [] → a.turn ≡ k.turns → k.left + added_by s.me.0.number told ≡ n.left → k.seat ≡ n.seat → k.taken ≡ n.taken + j → IsToken t k
+pub token_after : {IsOne : SemaStride → Type 0} (s t : Token) (from : Place) (a : SeatState) (told : List Entry) (j : ℕ) (n k : Numbers) → IsToken s n → Went IsOne s from t a told j
+    → t.me.1 ≡ [] → a.hand ≡ [] → a.turn ≡ k.turns → k.left + added_by s.me.0.own.number told ≡ n.left → k.seat ≡ n.seat → k.taken ≡ n.taken + j → IsToken t k
 token_after s t from a told j n k is x bare empty turned less same more = record {
   bare = bare;
   number_is = x.number_is ∙ is.number_is ∙ sym same;
@@ -128,17 +135,17 @@ token_after s t from a told j n k is x bare empty turned less same more = record
 }
 
 -- a seat that may add so many units more has added few
-pub added_few : (s : Token) (n : Numbers) (k : ℕ) → IsToken s n → k ≤ n.left → added_by s.me.0.number s.me.0.seen + k ≤ 2 ^ 40
+pub added_few : (s : Token) (n : Numbers) (k : ℕ) → IsToken s n → k ≤ n.left → added_by s.me.0.own.number s.me.0.own.knows.seen + k ≤ 2 ^ 40
 added_few s n k is h = let l = is.left_is in let m = is.limited in omega arith
 
 -- the row at which the seat stands
-abbrev pub ran_from : (s t : Token) (from : Place) (n : ℕ) → s.me.0.place ≡ from → Ran s.me.0 n t.me.0 → Ran (begin from s.me.0) n t.me.0
-ran_from s t from n at = subst (λ v. Ran v n t.me.0) (λ i. record s.me.0 { place = at i })
+abbrev pub ran_from : (s t : Token) (from : Place) (n : ℕ) → s.me.0.own.knows.place ≡ from → Ran here s.me.0.own n t.me.0.own → Ran (begin from) s.me.0.own n t.me.0.own
+ran_from s t from n at = ran_at s.me.0.own t.me.0.own from n at
 
 -- rows after rows, by what they make of how the seat stands
-abbrev pub walked_via : (s t u : Token) (from : Place) (a : SeatState) (to : SeatState → SeatState) (told more : List Entry) (j k : ℕ) → Walked s from t a told j → Walked t a.place u (to (stands_by t.me.0)) more k
+abbrev pub walked_via : (s t u : Token) (from : Place) (a : SeatState) (to : SeatState → SeatState) (told more : List Entry) (j k : ℕ) → Walked s from t a told j → Walked t a.place u (to (stands_by t.me.0.own.knows)) more k
     → Walked s from u (to a) (told ++ more) (j + k)
-walked_via s t u from a to told more j k x y = subst (λ (w : SeatState). Walked s from u (to w) (told ++ more) (j + k)) x.stands_is (walked_on s t u from a (to (stands_by t.me.0)) told more j k x y)
+walked_via s t u from a to told more j k x y = subst (λ (w : SeatState). Walked s from u (to w) (told ++ more) (j + k)) x.stands_is (walked_on s t u from a (to (stands_by t.me.0.own.knows)) told more j k x y)
 
 -- rows after rows that left all but the place
 abbrev pub walked_then : (s t u : Token) (from p q : Place) (told more : List Entry) (j k : ℕ) → Walked s from t (moved_to s p) told j → Walked t p u (moved_to t q) more k

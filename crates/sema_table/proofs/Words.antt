@@ -1,7 +1,7 @@
 -- Where words lie, and what a write changes.
-use Rattle.std.proofs.Common.{◌≡◌, ◌≢◌, ℕ, ◌<◌, false, Bool, true, List, length, drop, sym, refl, ap, ◌∙◌, arith}
+use Rattle.std.proofs.Common.{◌≡◌, ◌≢◌, ℕ, ◌+◌, ◌*◌, ◌<◌, false, Bool, true, List, length, drop, sym, refl, ap, ◌∙◌, arith, lt-ltb, le-ltb}
 use native.Mathlib.Decide.{ℕ_discrete}
-use Rattle.std.proofs.Math.Nat.{mod-lt}
+use Rattle.std.proofs.Math.Nat.{mod-lt, mod-mod}
 use Rattle.waiters.specs.declared.wait.WaitId.{WaitId}
 use Rattle.step_table.specs.declared.effect.Effect.{Effect}
 use Rattle.step_table.specs.declared.effect.Effect.TheVariants.{Tells}
@@ -13,11 +13,29 @@ use Rattle.step_table.specs.Counting.{on}
 use Rattle.step_table.proofs.Sums.{put_here, put_else, on_else, total_same}
 use Rattle.sema_root.specs.Treap.{Treap}
 use Rattle.sema_table.specs.declared.view.Setting.{Setting}
-use Rattle.sema_table.specs.Setting.{root, address, words_shown, words_in, IsThere}
+use Rattle.sema_table.specs.Setting.{root, address, word_at, words_shown, words_in, IsThere}
 use Rattle.sema_table.specs.Rule.{IsRecord}
 
 pub low_root : (z : Setting) (c : ℕ) → 0 < z.roots → root z c < z.roots
 low_root z c some = mod-lt c some
+
+-- a root is its own root
+pub root_root : (z : Setting) (c : ℕ) → root z (root z c) ≡ root z c
+root_root z c = mod-mod c z.roots
+
+-- the words that lie where a counter and a waiter word lie
+pub counter_lies : (z : Setting) (c i : ℕ) → c < length z.starts → address z (Counter c) ≡ i → word_at z i ≡ Counter c
+counter_lies z c i h e = rw (lt-ltb i (8 * length z.starts) (omega arith)) (ap Counter (omega arith))
+
+pub waiters_lie : (z : Setting) (c i : ℕ) → 0 < z.roots → address z (Waiters c) ≡ i → word_at z i ≡ Waiters (root z c)
+waiters_lie z c i some e =
+    let low = low_root z c some in let all : ℕ = 8 * length z.starts in
+    rw (le-ltb i all (omega arith), le-ltb i (all + z.roots) (omega arith), lt-ltb i (all + z.roots + z.roots) (omega arith)) (ap Waiters (omega arith))
+
+pub grant_lies : (z : Setting) (k i : ℕ) → address z (Grant k) ≡ i → word_at z i ≡ Grant k
+grant_lies z k i e =
+    let all : ℕ = 8 * length z.starts in
+    rw (le-ltb i all (omega arith), le-ltb i (all + z.roots) (omega arith), le-ltb i (all + z.roots + z.roots) (omega arith)) (ap Grant (omega arith))
 
 abbrev pub is_lock : Word → Bool
 is_lock (Lock c) = true

@@ -3,19 +3,20 @@ use Rattle.std.specs.Prelude.{◌≡◌, ℕ, true, ◌+◌, ◌-◌, ◌<◌, L
 use Rattle.std.specs.List.{All}
 use Rattle.step_table.specs.World.{SemaWorld}
 use Rattle.step_table.specs.Steps.{IsReached}
-use Rattle.step_table.specs.Path.{GoesOn}
+use Rattle.step_table.specs.Path.{GoesOn, own_entries}
 use Rattle.step_table.specs.Counting.{total}
 use Rattle.step_table.specs.Journal.{plain_start, replay}
 use Rattle.sema_law.specs.Lawful.{IsLawfulWorld, added}
 use Rattle.sema_law.specs.Balances.{taken, added_by}
 use Rattle.sema_law.specs.Bounds.{AllRest, IsCleared}
+use Rattle.sema_law.specs.Entries.{IsNamed}
+use Rattle.sema_law.specs.SemaPath.{semaphores}
 use Rattle.sema_table.specs.declared.view.Setting.{Setting}
-use Rattle.sema_table.specs.declared.view.Guest.{Guest}
+use Rattle.running_rows.specs.Rule.{In}
 use Rattle.sema_table.specs.Places.{is_free}
 use Rattle.sema_table.specs.Setting.{layout}
-use Rattle.sema_table.specs.Rule.{In}
+use Rattle.sema_table.specs.Rows.{SemaSeat}
 use Rattle.sema_table.specs.Seats.{TableModel, SeatModel, Token, table_of}
-use Rattle.sema_table.specs.Meeting.{guest_of}
 
 -- how many units were added by these seats, and how many were given to them
 abbrev pub sum_by : (SeatModel → ℕ) → List SeatModel → ℕ
@@ -28,23 +29,24 @@ has_added limit s = limit - s.left
 abbrev pub was_given : SeatModel → ℕ
 was_given s = s.taken
 
--- the guest is that of this seat, which may begin a call
-pub record IsGuestOf (z : Setting) (g : Guest) (s : SeatModel) : Type 0 where
-  pub free : is_free g.place ≡ true
-  pub given : g.taken ≡ s.taken
-  pub left : s.left + added_by g.number g.seen ≡ z.limit
-  pub seen : g.seen ≡ s.sight.seen
+-- what a view has of this seat, which may begin a call
+pub record IsOfSeat (z : Setting) (g : SemaSeat) (s : SeatModel) : Type 0 where
+  pub number_is : g.number ≡ s.number
+  pub free : is_free g.knows.place ≡ true
+  pub given : g.knows.taken ≡ s.taken
+  pub left : s.left + added_by g.number g.knows.seen ≡ z.limit
+  pub seen : g.knows.seen ≡ s.sight.seen
 
--- the guests are those of these seats, in their order
-abbrev pub AreGuestsOf : Setting → List Guest → List SeatModel → Type 0
-AreGuestsOf z [] [] = Unit {0}
-AreGuestsOf z (g ∷ gs) (s ∷ ss) = IsGuestOf z g s × AreGuestsOf z gs ss
-AreGuestsOf z _ _ = ⊥
+-- what a view has of these seats, in their order
+abbrev pub AreOfSeats : Setting → List SemaSeat → List SeatModel → Type 0
+AreOfSeats z [] [] = Unit {0}
+AreOfSeats z (g ∷ gs) (s ∷ ss) = IsOfSeat z g s × AreOfSeats z gs ss
+AreOfSeats z _ _ = ⊥
 
 -- a token of this table has these seats in its view, which have added so many units and were given so many
 pub record IsGathered (t : TableModel) (seats : List SeatModel) (token : Token) (releases acquires : ℕ) : Type 0 where
   pub own : table_of token ≡ t
-  pub all : AreGuestsOf t.setting (guest_of token.me.0 ∷ token.me.0.guests) seats
+  pub all : AreOfSeats t.setting (token.me.0.own ∷ token.me.0.guests) seats
   pub releases_are : releases ≡ sum_by (has_added t.setting.limit) seats
   pub acquires_are : acquires ≡ sum_by was_given seats
 
@@ -59,7 +61,8 @@ pub record AreAll (t : TableModel) (seats : List SeatModel) : Type 0 where
   pub own : All (λ s. s.table ≡ t) seats
   pub count : length seats ≡ t.setting.seats
 
--- there is one journal, of which each of these seats has seen a beginning, in a lawful world in which all rest. The values are those
+-- there is one journal, in a lawful world in which all rest. Each seat of the table is one of these, and has seen a beginning of
+-- the journal with all entries that it alone can tell; the journal names seats and counters that are there. The values are those
 -- that it tells, and no wait is queued any more. The units that the seats added are those that it tells, and so are those that they
 -- were given. What is there and what was given are what was there at the start and what was added
 pub record IsClosed (z : Setting) (seats : List SeatModel) (c : ClosedModel) : Type 0 where
@@ -68,8 +71,12 @@ pub record IsClosed (z : Setting) (seats : List SeatModel) (c : ClosedModel) : T
   pub lawful : IsLawfulWorld (layout z) world
   pub rest : AllRest (layout z) world
   pub cleared : IsCleared (layout z) world
+  pub named : All (IsNamed (layout z)) world.journal
+  pub each : (k : ℕ) → k < z.seats → (s : SeatModel) × In s seats × (s.number ≡ k)
   pub begins : (s : SeatModel) → In s seats → GoesOn world.journal s.sight.seen
-  pub each : length c.values ≡ length z.starts
+  pub own : (s : SeatModel) → In s seats
+      → own_entries (semaphores (layout z)) s.number world.journal ≡ own_entries (semaphores (layout z)) s.number s.sight.seen
+  pub long : length c.values ≡ length z.starts
   pub values : (k : ℕ) → k < length z.starts
       → slice_index c.values k ≡ (replay (plain_start (layout z).starts) world.journal).numbers k
   pub released : c.releases ≡ sum_by (has_added z.limit) seats

@@ -1,7 +1,9 @@
+pub mod Strides
 pub mod Setting
 pub mod Places
 pub mod Rule
-pub mod Plays
+pub mod Rows
+pub mod Starts
 pub mod Seats
 pub mod Shared
 pub mod Walks

@@ -57,7 +57,7 @@ new_seat t number =
       left = t.setting.limit;
       taken = 0;
       sight = record { stands = record { place = Rest; turn = 0; hand = [] }; seen = [] };
-      strides = 0;
+      strides = [];
     }
 
 -- so many of them in order, from this number on

@@ -14,7 +14,7 @@ use Rattle.sema_table.specs.declared.many_seat.PostedMany.{PostedMany}
 use Rattle.sema_table.specs.declared.many_seat.PostedMany.TheVariants.{Done, Owes}
 use Rattle.sema_table.specs.Setting.{layout}
 use Rattle.sema_table.specs.Seats.{SeatModel}
-use Rattle.sema_table.specs.Calls.{Calls, CallsRows, IsAt, ComesTo}
+use Rattle.sema_table.specs.Calls.{RunsRows, CallsRows, IsAt, ComesTo}
 
 -- a release of so many units to c
 abbrev pub release_of : ℕ → ℕ → ReleaseMany
@@ -57,7 +57,7 @@ GrantsEach m i r _ _ = ⊥
 pub record WakesMany (s : SeatModel) (r : ReleaseMany) (t : SeatModel) (n : ℕ) : Type 0 where
   pub waits : List WaitId
   pub count : length waits ≡ n
-  pub call : Calls s (ReleasingMany r M3) t (leaves s.number r waits)
+  pub call : RunsRows s (ReleasingMany r M3) t (leaves s.number r waits)
   pub before : List SemaStride
   pub grants : List SemaStride
   pub strides_are : call.strides ≡ before ++ grants

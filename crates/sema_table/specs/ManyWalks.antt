@@ -24,7 +24,7 @@ sought_many s r = by_first (lists_of s r.counter) (ReleasingMany r M6) (λ w. Re
 -- where a release goes under the lock: one wait more, while units and waits are left
 abbrev pub picking : Token → ReleaseMany → Place
 picking s r =
-    if nat_lt (length s.me.0.hand) r.units && nat_lt 0 (length (lists_of s r.counter)) then ReleasingMany r M5 else ReleasingMany r M6
+    if nat_lt (length s.me.0.own.knows.hand) r.units && nat_lt 0 (length (lists_of s r.counter)) then ReleasingMany r M5 else ReleasingMany r M6
 
 -- where a release goes with these waits in hand, that has given its lock back
 abbrev pub to_grant : ReleaseMany → List WaitId → Place
@@ -32,22 +32,22 @@ to_grant r hand = by_first hand Rest (λ w. ReleasingMany r M7)
 
 -- how the seat stands here, with these waits in hand
 abbrev pub with_hand : Token → Place → List WaitId → SeatState
-with_hand s place hand = record { place = place; turn = s.me.0.turn; hand = hand }
+with_hand s place hand = record { place = place; turn = s.me.0.own.knows.turn; hand = hand }
 
 -- a seat of this table has given the lock back, and has yet to grant the waits in hand
 pub record MayGrant (t : TableModel) (s : Token) (r : ReleaseMany) : Type 0 where
   pub table_is : table_of s ≡ t
   pub inside : r.counter < length t.setting.starts
-  pub place_is : s.me.0.place ≡ to_grant r s.me.0.hand
-  pub limited : added_by s.me.0.number s.me.0.seen ≤ 2 ^ 40
-  pub few : s.me.0.turn ≤ 2 ^ 48 + 256
-  pub most : s.me.0.taken ≤ 2 ^ 49
-  pub counted : is_free s.me.0.place ≡ true → takes s.me.0.number s.me.0.seen ≡ s.me.0.taken
+  pub place_is : s.me.0.own.knows.place ≡ to_grant r s.me.0.own.knows.hand
+  pub limited : added_by s.me.0.own.number s.me.0.own.knows.seen ≤ 2 ^ 40
+  pub few : s.me.0.own.knows.turn ≤ 2 ^ 48 + 256
+  pub most : s.me.0.own.knows.taken ≤ 2 ^ 49
+  pub counted : is_free s.me.0.own.knows.place ≡ true → takes s.me.0.own.number s.me.0.own.knows.seen ≡ s.me.0.own.knows.taken
 
 -- M7 ran, and the seat stands without the first wait in hand
 pub record GrantedFirst (s : Token) (r : ReleaseMany) (t : Token) : Type 0 where
   pub walked : Walked s (ReleasingMany r M7) t
-      (with_hand s (if nat_lt 1 (length s.me.0.hand) then ReleasingMany r M7 else Rest) (drop 1 s.me.0.hand)) [] 0
+      (with_hand s (if nat_lt 1 (length s.me.0.own.knows.hand) then ReleasingMany r M7 else Rest) (drop 1 s.me.0.own.knows.hand)) [] 0
   pub stride : SemaStride
   pub strides_are : walked.strides ≡ stride ∷ []
   pub did : stride.deed ≡ runs
@@ -57,5 +57,5 @@ pub record GrantedFirst (s : Token) (r : ReleaseMany) (t : Token) : Type 0 where
 -- rows ran from this place on that granted these waits, and it stands so
 pub record GrantedSome (s : Token) (from : Place) (r : ReleaseMany) (waits : List WaitId) (t : Token) (stands : SeatState) : Type 0 where
   pub walked : Walked s from t stands [] 0
-  pub granted : GrantsEach (layout s.me.0.setting) s.me.0.number r waits walked.strides
+  pub granted : GrantsEach (layout s.me.0.own.knows.setting) s.me.0.own.number r waits walked.strides
   pub slots : t.me.1 ≡ s.me.1

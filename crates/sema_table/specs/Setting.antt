@@ -1,5 +1,5 @@
 -- How a table is laid out: which root a counter has, and where each word lies.
-use Rattle.std.specs.Prelude.{ℕ, ◌+◌, ◌*◌, ◌%◌, ◌<◌, List, [], ◌∷◌, length, slice_index_or}
+use Rattle.std.specs.Prelude.{ℕ, ◌+◌, ◌-◌, ◌*◌, ◌/◌, ◌%◌, ◌<◌, nat_lt, if◌then◌else◌, List, [], ◌∷◌, length, slice_index_or}
 use Rattle.step_table.specs.declared.word.Word.{Word}
 use Rattle.step_table.specs.declared.word.Word.TheVariants.{Counter, Lock, Waiters, Grant}
 use Rattle.step_table.specs.World.{Layout}
@@ -19,6 +19,15 @@ address z (Counter c) = 8 * c
 address z (Lock c) = 8 * length z.starts + root z c
 address z (Waiters c) = 8 * length z.starts + z.roots + root z c
 address z (Grant s) = 8 * length z.starts + z.roots + z.roots + s
+
+-- the word that lies at an address: a lock and a waiter word by the root's own number, which is its own root
+abbrev pub word_at : Setting → ℕ → Word
+word_at z i =
+    let counters = 8 * length z.starts in
+    if nat_lt i counters then Counter (i / 8)
+    else if nat_lt i (counters + z.roots) then Lock (i - counters)
+    else if nat_lt i (counters + z.roots + z.roots) then Waiters (i - (counters + z.roots))
+    else Grant (i - (counters + z.roots + z.roots))
 
 -- where the words end that the world has
 abbrev pub words_shown : Setting → ℕ

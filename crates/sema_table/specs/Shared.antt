@@ -1,6 +1,6 @@
 -- What a table's numbers say of what it was made with.
 use Rattle.std.specs.Prelude.{◌≡◌, ℕ, ◌^◌, ◌<◌, ◌≤◌, length}
-use Rattle.atomic_table.specs.Seated.{TableId}
+use Rattle.running_rows.specs.Seated.{TableId}
 use Rattle.sema_table.specs.declared.view.Setting.{Setting}
 use Rattle.sema_table.specs.declared.sema_table.SemaTable.TheInside.{Inside}
 use Rattle.sema_table.specs.Setting.{words_in}
@@ -21,4 +21,4 @@ pub record IsTable (id : TableId) (z : Setting) (counters roots seats limit : �
 
 -- the table by what is in it
 abbrev pub table_by : Inside → TableModel
-table_by t = record { id = t.table.shared.table_id; setting = setting_of t.table.shared.key }
+table_by t = record { id = t.words.table.shared.table_id; setting = setting_of t.words.table.shared.key }

@@ -3,36 +3,41 @@ use Rattle.std.specs.Prelude.{◌≡◌, ℕ, ◌<◌, ◌≤◌, length, slice_
 use Rattle.std.specs.List.{All}
 use mathlib.Core.Option.{some}
 use lib.ListN.{get_elem?}
-use Rattle.atomic_table.specs.Table.{State}
-use Rattle.step_table.specs.declared.word.Word.{Word}
-use Rattle.step_table.specs.World.{SemaWorld, found}
+use Rattle.running_rows.specs.Table.{State}
+use Rattle.step_table.specs.declared.word.Word.TheVariants.{Counter, Lock, Waiters, Grant}
+use Rattle.step_table.specs.World.{SemaWorld}
 use Rattle.step_table.specs.Steps.{IsReached}
 use Rattle.sema_law.specs.Lawful.{IsLawfulWorld}
 use Rattle.sema_law.specs.Bounds.{IsSmall}
 use Rattle.sema_law.specs.Entries.{IsNamed}
-use Rattle.sema_table.specs.declared.view.View.{View}
+use Rattle.running_rows.specs.Rule.{IsSomeones, HasSeats}
 use Rattle.sema_table.specs.declared.view.Record.{Record}
 use Rattle.sema_table.specs.declared.view.Setting.{Setting}
-use Rattle.sema_table.specs.Setting.{root, layout, address, words_in, IsThere}
-use Rattle.sema_table.specs.Rule.{Knows, AtHome, IsSomeones, HasSeats, fresh, IsKept}
+use Rattle.sema_table.specs.declared.settings.Settings.{Settings}
+use Rattle.sema_table.specs.Setting.{root, layout, address, words_in}
+use Rattle.sema_table.specs.Rule.{setting_of, Knows, AtHome}
+use Rattle.sema_table.specs.Rows.{SemaView, semaphore_rows, fresh}
 
--- the words and the records at home are those of this world, and each view that isn't spent is that of a seat there, and of the
+-- each word and the records at home are those of this world, and each view that isn't spent is that of a seat there, and of the
 -- seats that sit with it, each seat in one view: it stands so, has seen a beginning of the journal with all entries that it alone
 -- can tell, knows the lists of a root whose lock it holds, and has come by the units that were taken for it, but for those served
 -- to it since. Seats that aren't made yet have seen nothing and run nothing
-pub record Shows (z : Setting) (s : State Record View) (world : SemaWorld) : Type 0 where
-  pub words : (w : Word) → IsThere z w → slice_index s.words (address z w) ≡ found (root z) world.words w
+pub record Shows (z : Setting) (s : State Record SemaView) (world : SemaWorld) : Type 0 where
+  pub numbers : (c : ℕ) → c < length z.starts → slice_index s.words (address z (Counter c)) ≡ world.words.numbers c
+  pub locks : (c : ℕ) → slice_index s.words (address z (Lock c)) ≡ world.words.locks (root z c)
+  pub waiters : (c : ℕ) → slice_index s.words (address z (Waiters c)) ≡ world.words.waiters (root z c)
+  pub grants : (k : ℕ) → k < z.seats → slice_index s.words (address z (Grant k)) ≡ world.words.grants k
   pub homes : (r : ℕ) → r < z.roots → world.words.locks r ≡ 0 → AtHome z world.words s.homes r
   pub spot : ℕ → ℕ
   pub made : ℕ
-  pub views : (j : ℕ) (v : View) → get_elem? s.views j ≡ some v → IsSomeones v → HasSeats z world spot made j v
-  pub unmade : (k : ℕ) → made ≤ k → k < z.seats → Knows z k (fresh z k 0) world
+  pub views : (j : ℕ) (v : SemaView) → get_elem? s.views j ≡ some v → IsSomeones semaphore_rows v → HasSeats semaphore_rows z world spot made j v
+  pub unmade : (k : ℕ) → made ≤ k → k < z.seats → Knows z k (fresh z) world
   pub wide : length s.words ≡ words_in z
   pub deep : length s.homes ≡ z.roots
 
 -- a world that the steps of the table's seats lead to is lawful, and the table shows it. Its journal names seats and counters that
 -- are there, and no seat has added more than 2^40 units
-pub record IsLawfulTable (z : Setting) (s : State Record View) : Type 0 where
+pub record IsLawfulTable (z : Setting) (s : State Record SemaView) : Type 0 where
   pub world : SemaWorld
   pub reached : IsReached (layout z) world
   pub small : IsSmall (layout z) world
@@ -40,6 +45,6 @@ pub record IsLawfulTable (z : Setting) (s : State Record View) : Type 0 where
   pub named : All (IsNamed (layout z)) world.journal
   pub shows : Shows z s world
 
--- whatever the rule holds of is lawful
-abbrev pub TheTable : Type 0
-TheTable = (z : Setting) (s : State Record View) → IsKept z s → IsLawfulTable z s
+-- a table of which such a rule holds is lawful
+abbrev pub MakesLawful : (Settings → State Record SemaView → Type 0) → Type 0
+MakesLawful holds = (key : Settings) (s : State Record SemaView) → holds key s → IsLawfulTable (setting_of key) s

@@ -1,5 +1,5 @@
 -- What the calls of one step each promise, and a try, which is of two.
-use Rattle.std.specs.Prelude.{◌≡◌, ◌≢◌, ℕ, ◌+◌, ◌-◌, ◌⊎◌, false, [], ◌∷◌, length}
+use Rattle.std.specs.Prelude.{◌≡◌, ◌≢◌, ℕ, ◌+◌, ◌-◌, ◌⊎◌, false, [], ◌∷◌, ◌++◌, length}
 use Rattle.step_table.specs.declared.entry.Entry.TheVariants.{Add, Take}
 use Rattle.step_table.specs.declared.place.AcquireRow.{AcquireRow}
 use Rattle.step_table.specs.declared.place.AcquireRow.TheVariants.{A1, A2, A3}
@@ -34,7 +34,7 @@ pub record LooksAt (s : SeatModel) (w : Word) (n : ℕ) (t : SeatModel) : Type 0
   pub ran : SemaRan (layout s.table.setting) s.number s.sight stride t.sight
   pub did : stride.deed ≡ looks w
   pub read : stride.read ≡ n
-  pub one : t.strides ≡ s.strides + 1
+  pub one : t.strides ≡ s.strides ++ stride ∷ []
   pub stays : t.sight.stands ≡ s.sight.stands
   pub later : GoesOn t.sight.seen s.sight.seen
 
@@ -49,7 +49,7 @@ waits_seen s r = let z = s.table.setting in total (length z.starts) (λ c. on (r
 
 -- n is the number of the waits at the counter's root after all that is seen now, or one more
 pub record IsWaiters (s : SeatModel) (c n : ℕ) (t : SeatModel) : Type 0 where
-  pub looked : LooksAt s (Waiters c) n t
+  pub looked : LooksAt s (Waiters (root s.table.setting c)) n t
   pub near : (n ≡ waits_seen t (root s.table.setting c)) ⊎ (n ≡ waits_seen t (root s.table.setting c) + 1)
 
 -- the rows of one try: A1, and A2 where A1 read more than 0. A unit is taken exactly where A2 found what A1 read

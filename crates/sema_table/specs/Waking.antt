@@ -1,5 +1,5 @@
 -- What the calls that sleep and wake promise.
-use Rattle.std.specs.Prelude.{◌≡◌, Bool, true, false, ℕ, ◌+◌, List, [], ◌∷◌, ◌++◌}
+use Rattle.std.specs.Prelude.{◌≡◌, ◌⊎◌, Bool, true, false, ℕ, ◌+◌, List, [], ◌∷◌, ◌++◌}
 use Rattle.std.specs.List.{All}
 use Rattle.waiters.specs.declared.wait.WaitId.{WaitId}
 use Rattle.step_table.specs.declared.entry.Entry.{Entry}
@@ -23,7 +23,8 @@ use Rattle.sema_table.specs.declared.answers.Wake.TheVariants as woken
 use Rattle.sema_table.specs.declared.answers.Polled.{Polled}
 use Rattle.sema_table.specs.declared.answers.Polled.TheVariants.{Still, Woken, Handed}
 use Rattle.sema_table.specs.Seats.{SeatModel}
-use Rattle.sema_table.specs.Calls.{Calls, IsAt, ComesTo}
+use Rattle.sema_table.specs.Strides.{IsRow}
+use Rattle.sema_table.specs.Calls.{Calls, RunsRows, IsAt, ComesTo}
 use Rattle.sema_table.specs.Tries.{LooksAt}
 
 abbrev pub acquire_of : ℕ → Bool → Acquire
@@ -39,19 +40,37 @@ Parks s a t =
 abbrev pub IsEntered : SeatModel → Acquire → Place → Entered → Type 0
 IsEntered s a from (Taken t) =
     (t ≡ record s { taken = s.taken + 1; sight = t.sight; strides = t.strides }) × ComesTo s Rest t
-    × Calls s from t (Take a.counter s.number ∷ [])
+    × RunsRows s from t (Take a.counter s.number ∷ [])
 IsEntered s a from (Asleep t) =
     (t ≡ record s { sight = t.sight; strides = t.strides }) × Parks s a t
-    × Calls s from t (Queue a.counter (wait s.number s.sight.stands.turn) a.lifo ∷ [])
+    × RunsRows s from t (Queue a.counter (wait s.number s.sight.stands.turn) a.lifo ∷ [])
     × ((before : List Entry) × (t.sight.seen ≡ before ++ Queue a.counter (wait s.number s.sight.stands.turn) a.lifo ∷ []))
 
--- the seat looked at its own grant word, and found nothing
-abbrev pub FindsNoGrant : ℕ → SemaStride → Type 0
-FindsNoGrant i p = (p.deed ≡ looks (Grant i)) × (p.read ≡ 0)
+-- the seat, which was parked, looked at its own grant word, and found nothing
+pub record FindsNoGrant (i : ℕ) (p : SemaStride) : Type 0 where
+  pub call : Acquire
+  pub turn : ℕ
+  pub parked : p.stood.place ≡ Acquiring call (P turn)
+  pub did : p.deed ≡ looks (Grant i)
+  pub read : p.read ≡ 0
+
+-- nothing but such looks: the seat stands as it stood
+pub record OnlyLooks (s t : SeatModel) : Type 0 where
+  pub same : t ≡ record s { sight = t.sight; strides = t.strides }
+  pub stays : t.sight.stands ≡ s.sight.stands
+  pub call : Calls (FindsNoGrant s.number) s s.sight.stands.place t []
+
+-- it ran a row, or looked so
+abbrev pub RunsOrWaits : ℕ → SemaStride → Type 0
+RunsOrWaits i p = IsRow p ⊎ FindsNoGrant i p
+
+-- it ran rows, and beside them there were only such looks
+abbrev pub RunsAndSleeps : SeatModel → Place → SeatModel → List Entry → Type 0
+RunsAndSleeps s = Calls (RunsOrWaits s.number) s
 
 -- the row that takes the grant ran last, and found n; before it were these looks, which found nothing
 pub record CallsGranted (s : SeatModel) (from : Place) (t : SeatModel) (before : List SemaStride) (n : ℕ) : Type 0 where
-  pub call : Calls s from t []
+  pub call : RunsAndSleeps s from t []
   pub last : SemaStride
   pub strides_are : call.strides ≡ before ++ last ∷ []
   pub looked : All (FindsNoGrant s.number) before
@@ -59,10 +78,10 @@ pub record CallsGranted (s : SeatModel) (from : Place) (t : SeatModel) (before :
   pub row : last.stood.place ≡ from
   pub found : last.read ≡ n
 
--- nothing was granted at the look; or the seat was woken by a grant of 1, and has yet to try; or it was handed a unit by a grant
--- of 2, which was taken for it after its wait had left
+-- the parked seat found nothing granted at its look; or it was woken by a grant of 1, and has yet to try; or it was handed a unit
+-- by a grant of 2, which was taken for it after its wait had left
 abbrev pub IsPolled : SeatModel → Polled → Type 0
-IsPolled s (Still t) = LooksAt s (Grant s.number) 0 t
+IsPolled s (Still t) = (a : Acquire) × (turn : ℕ) × IsAt s (Acquiring a (P turn)) × LooksAt s (Grant s.number) 0 t
 IsPolled s (Woken t) =
     (t ≡ record s { sight = t.sight; strides = t.strides })
     × ((a : Acquire) × (turn : ℕ) × IsAt s (Acquiring a (P turn)) × ComesTo s (Acquiring a A10) t
@@ -80,7 +99,7 @@ IsRetried s entered = (a : Acquire) × IsAt s (Acquiring a A10) × IsEntered s a
 -- a call whose last row stood here, with this wait in hand, and stored n in the grant word of the wait's seat
 pub record CallsGrant (s : SeatModel) (from : Place) (t : SeatModel) (told : List Entry) (place : Place) (w : WaitId) (n : ℕ)
     : Type 0 where
-  pub call : Calls s from t told
+  pub call : RunsRows s from t told
   pub before : List SemaStride
   pub last : SemaStride
   pub strides_are : call.strides ≡ before ++ last ∷ []
@@ -93,7 +112,7 @@ pub record CallsGrant (s : SeatModel) (from : Place) (t : SeatModel) (told : Lis
 -- nobody was taken out; or one wait, by the seat, which granted it 1 at its last row, or 2, for the unit that it took for the
 -- wait's seat
 abbrev pub Wakes : SeatModel → Release → SeatModel → Wake → Type 0
-Wakes s r t woken.Nobody = Calls s (Releasing r R3) t []
+Wakes s r t woken.Nobody = RunsRows s (Releasing r R3) t []
 Wakes s r t (woken.One w) = CallsGrant s (Releasing r R3) t (Leave r.counter w s.number ∷ []) (Releasing r R10) w 1
 Wakes s r t (woken.Handed w) =
     (r.handoff ≡ true)

@@ -1,5 +1,6 @@
 -- What rows of one seat do to its token.
 use Rattle.std.specs.Prelude.{◌≡◌, ℕ, Bool, true, false, drop, if◌then◌else◌, ◌+◌, ◌^◌, ◌<◌, ◌≤◌, List, [], ◌∷◌, ◌++◌, length}
+use Rattle.std.specs.List.{All}
 use Rattle.waiters.specs.declared.wait.WaitId.{WaitId}
 use Rattle.step_table.specs.declared.entry.Entry.{Entry}
 use Rattle.step_table.specs.declared.entry.Entry.TheVariants.{Take}
@@ -18,6 +19,7 @@ use Rattle.sema_law.specs.Balances.{added_by}
 use Rattle.sema_law.specs.SemaPath.{SemaStride, SemaPath, placed}
 use Rattle.sema_root.specs.Treap.{Treap}
 use Rattle.sema_table.specs.declared.view.Record.TheVariants.{Root}
+use Rattle.sema_table.specs.Strides.{IsRow}
 use Rattle.sema_table.specs.Setting.{root, layout}
 use Rattle.sema_table.specs.Places.{Begins, is_free, takes_lock, locked}
 use Rattle.sema_table.specs.Rule.{stands_by, sight_by, lists_by, IsRecord}
@@ -27,10 +29,10 @@ use Rattle.sema_table.specs.Seats.{TableModel, Token, table_of}
 pub record Stands (t : TableModel) (s : Token) (place : Place) : Type 0 where
   pub table_is : table_of s ≡ t
   pub inside : counter_at place < length t.setting.starts
-  pub place_is : s.me.0.place ≡ place
-  pub limited : added_by s.me.0.number s.me.0.seen ≤ 2 ^ 40
-  pub few : s.me.0.turn ≤ 2 ^ 48 + 256
-  pub most : s.me.0.taken ≤ 2 ^ 49
+  pub place_is : s.me.0.own.knows.place ≡ place
+  pub limited : added_by s.me.0.own.number s.me.0.own.knows.seen ≤ 2 ^ 40
+  pub few : s.me.0.own.knows.turn ≤ 2 ^ 48 + 256
+  pub most : s.me.0.own.knows.taken ≤ 2 ^ 49
 
 -- nothing has come of it
 abbrev pub IsSame : Token → Token → Type 0
@@ -40,28 +42,34 @@ IsSame s t = (t.table_id ≡ s.table_id) × (t.me ≡ s.me)
 pub record Starts (t : TableModel) (s : Token) (place : Place) : Type 0 where
   pub table_is : table_of s ≡ t
   pub inside : counter_at place < length t.setting.starts
-  pub begins : Begins (length t.setting.starts) s.me.0.place place
-  pub limited : added_by s.me.0.number s.me.0.seen ≤ 2 ^ 40
+  pub begins : Begins (length t.setting.starts) s.me.0.own.knows.place place
+  pub limited : added_by s.me.0.own.number s.me.0.own.knows.seen ≤ 2 ^ 40
   pub bare : s.me.1 ≡ []
   pub takes : takes_lock place ≡ true
 
--- rows ran from this place on, which told these entries, and by which the seat came by so many units; it stands so
-pub record Walked (s : Token) (from : Place) (t : Token) (stands : SeatState) (told : List Entry) (gained : ℕ) : Type 0 where
+-- such strides were gone from this place on, which told these entries, and by which the seat came by so many units; it stands so
+pub record Went (IsOne : SemaStride → Type 0) (s : Token) (from : Place) (t : Token) (stands : SeatState) (told : List Entry)
+    (gained : ℕ) : Type 0 where
   pub table_is : table_of t ≡ table_of s
-  pub number_is : t.me.0.number ≡ s.me.0.number
-  pub stands_is : stands_by t.me.0 ≡ stands
-  pub few : t.me.0.turn ≤ 2 ^ 48 + 256
-  pub came : t.me.0.taken ≡ s.me.0.taken + gained
-  pub most : t.me.0.taken ≤ 2 ^ 49
-  pub counted : is_free stands.place ≡ true → takes t.me.0.number t.me.0.seen ≡ t.me.0.taken
+  pub number_is : t.me.0.own.number ≡ s.me.0.own.number
+  pub stands_is : stands_by t.me.0.own.knows ≡ stands
+  pub few : t.me.0.own.knows.turn ≤ 2 ^ 48 + 256
+  pub came : t.me.0.own.knows.taken ≡ s.me.0.own.knows.taken + gained
+  pub most : t.me.0.own.knows.taken ≤ 2 ^ 49
+  pub counted : is_free stands.place ≡ true → takes t.me.0.own.number t.me.0.own.knows.seen ≡ t.me.0.own.knows.taken
   pub strides : List SemaStride
-  pub path : SemaPath (layout s.me.0.setting) s.me.0.number (placed from (sight_by s.me.0)) strides (sight_by t.me.0)
-  pub all : t.me.0.strides ≡ s.me.0.strides + length strides
+  pub each : All IsOne strides
+  pub path : SemaPath (layout s.me.0.own.knows.setting) s.me.0.own.number (placed from (sight_by s.me.0.own.knows)) strides (sight_by t.me.0.own.knows)
+  pub all : t.me.0.own.gone ≡ s.me.0.own.gone ++ strides
   pub told_is : all_told strides ≡ told
+
+-- rows ran
+abbrev pub Walked : Token → Place → Token → SeatState → List Entry → ℕ → Type 0
+Walked = Went IsRow
 
 -- the seat as it stood, at another place
 abbrev pub moved_to : Token → Place → SeatState
-moved_to s place = record (stands_by s.me.0) { place = place }
+moved_to s place = record (stands_by s.me.0.own.knows) { place = place }
 
 -- the same where nothing was told, nothing was come by, and all but the place is as it was
 abbrev pub Moves : Token → Place → Token → Place → Type 0
@@ -70,17 +78,17 @@ Moves s from t place = Walked s from t (moved_to s place) [] 0
 -- the seat holds no slot but the record of the root of c, which has the lists that it has seen
 abbrev pub HasRecord : Token → ℕ → Type 0
 HasRecord s c =
-    let z = s.me.0.setting in
-    (treap : Treap) × (s.me.1 ≡ (root z c, Root treap) ∷ []) × IsRecord z (root z c) treap (lists_by z s.me.0.seen)
+    let z = s.me.0.own.knows.setting in
+    (treap : Treap) × (s.me.1 ≡ (root z c, Root treap) ∷ []) × IsRecord z (root z c) treap (lists_by z s.me.0.own.knows.seen)
 
 -- the lists that the seat has seen
 abbrev pub lists_of : Token → ℕ → List WaitId
-lists_of s = lists_by s.me.0.setting s.me.0.seen
+lists_of s = lists_by s.me.0.own.knows.setting s.me.0.own.knows.seen
 
 -- the record that the seat holds, of the root of c, has these lists now; nothing else has changed
 abbrev pub Edited : Token → ℕ → (ℕ → List WaitId) → Token → Type 0
 Edited s c lists t =
-    let z = s.me.0.setting in
+    let z = s.me.0.own.knows.setting in
     (t.table_id ≡ s.table_id)
     × ((treap : Treap) × (t.me ≡ (s.me.0, (root z c, Root treap) ∷ [])) × IsRecord z (root z c) treap lists)
 
@@ -95,11 +103,11 @@ Holds t s place = Stands t s place × HasRecord s (counter_at place)
 -- fewer wait at the root of c than there are seats
 abbrev pub HasRoom : Token → ℕ → Type 0
 HasRoom s c =
-    let z = s.me.0.setting in total (length z.starts) (λ d. on (root z d) (root z c) (length (lists_by z s.me.0.seen d))) < z.seats
+    let z = s.me.0.own.knows.setting in total (length z.starts) (λ d. on (root z d) (root z c) (length (lists_by z s.me.0.own.knows.seen d))) < z.seats
 
 -- what the table says follows R4, where somebody waits at the root
 abbrev pub sought : Token → Release → Place
-sought s r = by_first (lists_by s.me.0.setting s.me.0.seen r.counter) (Releasing r R6) (λ w. Releasing r R5)
+sought s r = by_first (lists_by s.me.0.own.knows.setting s.me.0.own.knows.seen r.counter) (Releasing r R6) (λ w. Releasing r R5)
 
 -- where a release goes with a wait in hand
 abbrev pub trying : Release → Place
@@ -107,19 +115,19 @@ trying r = if r.handoff then Releasing r R7 else Releasing r R10
 
 -- where a release goes that has given its lock back
 abbrev pub unlocked : Token → Release → Place
-unlocked s r = by_first s.me.0.hand Rest (λ w. trying r)
+unlocked s r = by_first s.me.0.own.knows.hand Rest (λ w. trying r)
 
 -- how a seat stands whose wait was queued
 abbrev pub parked : Token → Acquire → SeatState
-parked s a = record { place = Acquiring a (P s.me.0.turn); turn = s.me.0.turn + 1; hand = s.me.0.hand }
+parked s a = record { place = Acquiring a (P s.me.0.own.knows.turn); turn = s.me.0.own.knows.turn + 1; hand = s.me.0.own.knows.hand }
 
 -- the entry is the last that the seat has seen
 abbrev pub IsLast : Token → Entry → Type 0
-IsLast s e = (before : List Entry) × (s.me.0.seen ≡ before ++ e ∷ [])
+IsLast s e = (before : List Entry) × (s.me.0.own.knows.seen ≡ before ++ e ∷ [])
 
 -- how a seat stands that has taken a wait out
 abbrev pub taken_out : Token → Release → WaitId → SeatState
-taken_out s r w = record { place = Releasing r R6; turn = s.me.0.turn; hand = s.me.0.hand ++ w ∷ [] }
+taken_out s r w = record { place = Releasing r R6; turn = s.me.0.own.knows.turn; hand = s.me.0.own.knows.hand ++ w ∷ [] }
 
 -- the row that grants the wait in hand, with a unit or without
 abbrev pub granting : Release → Bool → Place
@@ -138,7 +146,7 @@ taken_for r w false = []
 
 -- that row ran, and the seat is at rest without the wait
 pub record Granted (s : Token) (from : Place) (t : Token) : Type 0 where
-  pub walked : Walked s from t (record { place = Rest; turn = s.me.0.turn; hand = drop 1 s.me.0.hand }) [] 0
+  pub walked : Walked s from t (record { place = Rest; turn = s.me.0.own.knows.turn; hand = drop 1 s.me.0.own.knows.hand }) [] 0
   pub stride : SemaStride
   pub strides_are : walked.strides ≡ stride ∷ []
   pub did : stride.deed ≡ runs

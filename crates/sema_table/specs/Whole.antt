@@ -15,9 +15,9 @@ use Rattle.sema_table.specs.declared.answers.Roused.TheVariants.{Woken, Handed}
 use Rattle.sema_table.specs.declared.answers.Wake.{Wake}
 use Rattle.sema_table.specs.declared.answers.Wake.TheVariants.{Nobody}
 use Rattle.sema_table.specs.Seats.{SeatModel}
-use Rattle.sema_table.specs.Calls.{Calls, IsAt, ComesTo, plain_seen}
+use Rattle.sema_table.specs.Calls.{RunsRows, IsAt, ComesTo, plain_seen}
 use Rattle.sema_table.specs.Tries.{acquiring, IsPosted}
-use Rattle.sema_table.specs.Waking.{acquire_of, CallsGranted, IsWakened}
+use Rattle.sema_table.specs.Waking.{acquire_of, RunsAndSleeps, CallsGranted, IsWakened}
 
 -- the seat was woken by a grant of 1, and has yet to try; or it was handed a unit by a grant of 2, which was taken for it after
 -- its wait had left
@@ -47,8 +47,8 @@ queued i a turn (suc n) = Queue a.counter (wait i turn) a.lifo ∷ queued i a (t
 abbrev pub TakesUnit : SeatModel → Place → Acquire → ℕ → SeatModel → Type 0
 TakesUnit s from a n t =
     let turn = s.sight.stands.turn in
-    Calls s from t (queued s.number a turn n ++ Take a.counter s.number ∷ [])
-    ⊎ (Calls s from t (queued s.number a turn n)
+    RunsAndSleeps s from t (queued s.number a turn n ++ Take a.counter s.number ∷ [])
+    ⊎ (RunsAndSleeps s from t (queued s.number a turn n)
     × ((last : ℕ) × (last + 1 ≡ turn + n) × HasItsUnit a.counter (wait s.number last) t.sight.seen))
 
 -- rows ran from this place on, by which the seat came by one unit and to rest
@@ -73,13 +73,13 @@ TakesAfter s t = (a : Acquire) (turn : ℕ) → ParksLast s a turn → TakesFrom
 abbrev pub TakesAtOnce : SeatModel → ℕ → SeatModel → Type 0
 TakesAtOnce s c t =
     (t ≡ record s { taken = s.taken + 1; sight = t.sight; strides = t.strides }) × ComesTo s Rest t
-    × Calls s (acquiring c A1) t (Take c s.number ∷ [])
+    × RunsRows s (acquiring c A1) t (Take c s.number ∷ [])
 
 -- tries ran, and the last found 0
 abbrev pub FindsNone : SeatModel → ℕ → SeatModel → Type 0
 FindsNone s c t =
     (t ≡ record s { sight = t.sight; strides = t.strides }) × ComesTo s (acquiring c A3) t
-    × Calls s (acquiring c A1) t [] × ((plain_seen t).numbers c ≡ 0)
+    × RunsRows s (acquiring c A1) t [] × ((plain_seen t).numbers c ≡ 0)
 
 -- the seat has come by one unit of the counter: at once, or from the lock on, after its tries had found none
 abbrev pub IsAcquired : SeatModel → ℕ → Bool → SeatModel → Type 0

@@ -10,7 +10,7 @@ use waiters::CounterId;
 /// A table that was closed: its counters' numbers, and how many units its seats added and were given.
 pub struct Closed {
     /// The table's words, the first of which are the counters. Its slots are empty.
-    pub(crate) words: atomic_table::Closed<Record, Global>,
+    pub(crate) words: running_rows::Closed<Record, Global>,
     pub(crate) counters: u32,
     pub(crate) releases: u64,
     pub(crate) acquires: u64,

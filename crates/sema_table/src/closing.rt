@@ -4,15 +4,14 @@ ghost use Rattle.std.specs.Mem.Slots.{slots_len, slots_filled, IsFull};
 ghost use Rattle.sema_table.specs.Closing.{AreAll, IsClosed, IsGathered};
 
 use crate::closed::Closed;
-use crate::joins::{Forgets, Sits};
-use crate::plays::Token;
+use crate::rows::Token;
 use crate::seat::Seat;
 use crate::sema_table::SemaTable;
 use crate::view::Record;
 use std::alloc::Global;
 
 /// Takes what lies in the slots.
-fn empty(closed: &mut atomic_table::Closed<Record, Global>)
+fn empty(closed: &mut running_rows::Closed<Record, Global>)
     requires { IsFull closed.old.slots }
     ensures words { closed.new.words ≡ closed.old.words }
     ensures empty { (k : ℕ) → k < slots_len closed.new.slots → slice_index_or (slots_filled closed.new.slots) k false ≡ false }
@@ -34,15 +33,16 @@ impl SemaTable {
         let Seat { mut token, numbers } = first;
         let mut releases = self.limit - numbers.left;
         let mut acquires = numbers.taken;
-        self.table.shared.split_seat::<Forgets>(&mut token);
+        self.words.seat_alone(&mut token);
         while let Some(seat) = seats.pop() {
             let Seat {
-                token: theirs,
+                token: mut theirs,
                 numbers,
             } = seat;
             releases += self.limit - numbers.left;
             acquires += numbers.taken;
-            self.table.shared.join_seat::<Sits>(&mut token, theirs);
+            self.words.seat_alone(&mut theirs);
+            self.words.seat_with(&mut token, theirs);
         }
         (token, releases, acquires)
     }
@@ -56,11 +56,11 @@ impl SemaTable {
         let mut seats = seats;
         let first = seats.remove(0);
         let (token, releases, acquires) = self.gather(first, &mut seats);
-        let SemaTable { table, .. } = self;
-        let mut words = table.close_with(token);
-        empty(&mut words);
+        let SemaTable { words, .. } = self;
+        let mut closed = words.close_with(token);
+        empty(&mut closed);
         Closed {
-            words,
+            words: closed,
             counters,
             releases,
             acquires,

@@ -2,18 +2,19 @@
 ghost use Rattle.std.specs.Prelude.{◌≡◌, ℕ, ◌+◌, ◌^◌, ◌<◌, ◌≤◌, ◌++◌, [], replicate, All, IfOk, OnOk, IfErr};
 ghost use Rattle.sema_table.specs.declared.view.Setting.{Setting};
 ghost use Rattle.sema_table.specs.Setting.{apart};
-ghost use Rattle.sema_table.specs.Rule.{fresh};
+ghost use Rattle.running_rows.specs.Rule.{fresh_seat};
+ghost use Rattle.sema_table.specs.Rows.{semaphore_rows};
 ghost use Rattle.sema_table.specs.Seats.{table_of};
 ghost use Rattle.sema_table.specs.Making.{AreAllowed, IsRefused, IsMade, new_root, new_roots};
 ghost use Rattle.sema_table.specs.Making as making;
 
-use crate::plays::{Make, OneWorld, Token};
+use crate::rows::Token;
 use crate::seat::{Numbers, Seat};
 use crate::sema_table::SemaTable;
 use crate::settings::Settings;
 use crate::setup_error::SetupError;
-use crate::view::{Record, View};
-use atomic_table::Table;
+use crate::view::Record;
+use running_rows::Running;
 use sema_root::TreapRoot;
 use std::alloc::{AllocError, Global};
 use waiters::NoMemory;
@@ -50,7 +51,7 @@ fn check(settings: &Settings) -> Result<(), SetupError>
 
 /// A seat that has run nothing.
 fn new_seat(token: Token, number: u16, limit: u64) -> Seat
-    requires fresh { (z : Setting) × (made : ℕ) × (token.me ≡ (fresh z number made, [])) × (z.limit ≡ limit)
+    requires fresh { (z : Setting) × (token.me.0.own ≡ fresh_seat semaphore_rows z number) × (token.me.1 ≡ []) × (z.limit ≡ limit)
         × (number < z.seats) }
     requires limit { limit ≤ 2 ^ 40 }
     ensures { result ≡ making.new_seat (table_of token) number }
@@ -111,26 +112,21 @@ fn make(alloc: Global, settings: Settings) -> Result<(SemaTable, Vec<Seat>), NoM
 {
     let seats = settings.seats as u16;
     let limit = settings.release_limit;
-    let words = first_words(alloc, &settings)?;
+    let numbers = first_words(alloc, &settings)?;
     let slots = empty_roots(alloc, seats, settings.roots, settings.seed)?;
     let mut made = Vec::with_capacity(alloc, usize::from(seats))?;
-    let Ok((table, mut first)) = Table::<Record, View, Settings, OneWorld, Global>::new(
-        alloc,
-        words.as_slice(),
-        slots,
-        &settings,
-    ) else {
+    let Ok((words, mut first)) = Running::new(alloc, numbers.as_slice(), slots, &settings) else {
         return Err(NoMemory);
     };
     for number in 1..seats {
-        let token = table.shared.split_seat::<Make>(&mut first);
+        let token = words.make_seat(&mut first);
         made.push_reserved(new_seat(token, number, limit));
     }
     let Ok(()) = made.insert(0, new_seat(first, 0, limit)) else {
         return Err(NoMemory);
     };
     let table = SemaTable {
-        table,
+        words,
         counters: settings.starts.len() as u32,
         roots: settings.roots,
         seats: settings.seats,

@@ -1,5 +1,5 @@
 //! A seat in the middle of a release of many units, and what such a release came to so far.
-use crate::plays::Token;
+use crate::rows::Token;
 use crate::seat::{Numbers, Seat};
 use std::marker::Model;
 use step_table::ReleaseMany;

@@ -7,9 +7,10 @@ ghost use Rattle.sema_table.specs.Walks.{Stands, Walked, Moves, moved_to};
 ghost use Rattle.sema_table.specs.Waking.{IsPolled, IsRetried};
 
 use crate::answers::{Entered, Polled};
-use crate::plays::{Goes, Receives, Token};
+use crate::rows::Token;
 use crate::seat::{Numbers, Seat, Sleeping, Woken};
 use crate::sema_table::{SemaTable, counter_word};
+use running_rows::Here;
 use std::sync::Wait;
 use step_table::Acquire;
 
@@ -28,7 +29,7 @@ impl SemaTable {
         } = sleeping;
         let word = self.grant_word(numbers.id().number());
         // Taken in the same step: a grant that stayed would wake the seat's next wait too.
-        let found = self.table.shared.swap::<Receives>(&mut token, word, 0);
+        let found = self.words.take_grant(&mut token, word);
         if found == 0 {
             return Polled::Still(Sleeping {
                 token,
@@ -78,18 +79,17 @@ impl SemaTable {
         ensures slots { token.new.me.1 ≡ token.old.me.1 }
         ensures settled { MatchBool result
             (Walked token.old (Acquiring call.now A10) token.new (moved_to token.old Rest)
-            (Take call.now.counter token.old.me.0.number ∷ []) 1)
+            (Take call.now.counter token.old.me.0.own.number ∷ []) 1)
             (Moves token.old (Acquiring call.now A10) token.new (Acquiring call.now A3)) }
     {
         let word = counter_word(call.counter.number());
-        let shared = &self.table.shared;
         for _ in rt.forever() {
-            let found = shared.load::<Goes>(token, word);
+            let found = self.words.load::<Here>(token, word);
             // On 0 the seat goes to the lock, and does not look again: it would miss what is told to those who wait.
             if found == 0 {
                 return false;
             }
-            if shared.compare_exchange::<Goes>(token, word, found, found - 1) == found {
+            if self.words.exchange::<Here>(token, word, found, found - 1) == found {
                 return true;
             }
         }

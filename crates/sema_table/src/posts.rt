@@ -3,9 +3,10 @@ ghost use Rattle.std.specs.Prelude.{◌≡◌, ◌<◌, length, MatchResult, IfE
 ghost use Rattle.sema_table.specs.Tries.{IsPosted};
 
 use crate::answers::{PostRefused, Posted};
-use crate::plays::{Adds, Goes};
+use crate::rows::AtAdd;
 use crate::seat::{Numbers, Owing, Seat};
 use crate::sema_table::{SemaTable, counter_word};
+use running_rows::Here;
 use waiters::CounterId;
 
 impl SemaTable {
@@ -23,15 +24,15 @@ impl SemaTable {
         }
         let Seat { mut token, numbers } = seat;
         let counter = counter.number();
-        let shared = &self.table.shared;
         // Added before the look: a look that came first could read 0 while an acquire is about to read 0 and sleep.
-        shared.fetch_add::<Adds>(&mut token, counter_word(counter), 1);
+        self.words
+            .add::<AtAdd>(&mut token, counter_word(counter), 1);
         let numbers = Numbers {
             left: numbers.left - 1,
             ..numbers
         };
         let word = self.waiter_word(CounterId::new(counter));
-        if shared.load::<Goes>(&mut token, word) == 0 {
+        if self.words.load::<Here>(&mut token, word) == 0 {
             return Ok(Posted::Done(Seat { token, numbers }));
         }
         Ok(Posted::Owes(Owing {

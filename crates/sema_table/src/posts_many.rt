@@ -4,9 +4,10 @@ ghost use Rattle.sema_table.specs.Many.{release_of, IsPostedMany};
 
 use crate::answers::PostRefused;
 use crate::many_seat::{OwingMany, PostedMany};
-use crate::plays::{AddsMany, Goes};
+use crate::rows::AtAddMany;
 use crate::seat::{Numbers, Seat};
 use crate::sema_table::{SemaTable, counter_word};
+use running_rows::Here;
 use step_table::ReleaseMany;
 use waiters::CounterId;
 
@@ -32,16 +33,16 @@ impl SemaTable {
         }
         let Seat { mut token, numbers } = seat;
         let counter = counter.number();
-        let shared = &self.table.shared;
         // By one add: by many, others would see only some of the units in between.
-        shared.fetch_add::<AddsMany>(&mut token, counter_word(counter), added);
+        self.words
+            .add::<AtAddMany>(&mut token, counter_word(counter), added);
         let numbers = Numbers {
             left: numbers.left - added,
             ..numbers
         };
         let counter = CounterId::new(counter);
         let word = self.waiter_word(counter);
-        if shared.load::<Goes>(&mut token, word) == 0 {
+        if self.words.load::<Here>(&mut token, word) == 0 {
             return Ok(PostedMany::Done(Seat { token, numbers }));
         }
         let call = ReleaseMany { counter, units };

@@ -9,9 +9,10 @@ ghost use Rattle.sema_table.specs.Waking.{acquire_of, IsEntered};
 ghost use Rattle.sema_table.specs.Walks.{Stands, Holds, Walked, Moves, HasRecord, HasRoom, IsLast, moved_to, parked};
 
 use crate::answers::Entered;
-use crate::plays::{Gives, Goes, Token};
+use crate::rows::Token;
 use crate::seat::{Numbers, Seat, Sleeping};
 use crate::sema_table::{SemaTable, counter_word};
+use running_rows::Here;
 use std::sync::Wait;
 use step_table::{Acquire, AcquireRow, Place};
 use waiters::{CounterId, WaitId};
@@ -38,7 +39,7 @@ impl SemaTable {
     ) -> Entered
         requires seat { IsToken token numbers × (table_of token ≡ self.now) }
         requires call { (call.counter < length self.now.setting.starts)
-            × Begins (length self.now.setting.starts) token.me.0.place (Acquiring call A3) }
+            × Begins (length self.now.setting.starts) token.me.0.own.knows.place (Acquiring call A3) }
         ensures { IsEntered (seat_of token numbers) call (Acquiring call A3) result }
     {
         let mut token = token;
@@ -79,7 +80,7 @@ impl SemaTable {
         ensures { Moves token.old (Acquiring call.now A4) token.new (Acquiring call.now A5) × HasRecord token.new call.now.counter }
     {
         let word = self.waiter_word(call.counter);
-        self.table.shared.fetch_add::<Goes>(token, word, 1);
+        self.words.add::<Here>(token, word, 1);
     }
 
     /// A5, and A6 where A5 read more than 0, until one of them settles it: whether a unit was taken. The second look: a release
@@ -89,18 +90,17 @@ impl SemaTable {
         ensures record { HasRecord token.new call.now.counter }
         ensures settled { MatchBool result
             (Walked token.old (Acquiring call.now A5) token.new (moved_to token.old (Acquiring call.now A8))
-            (Take call.now.counter token.old.me.0.number ∷ []) 1)
+            (Take call.now.counter token.old.me.0.own.number ∷ []) 1)
             (Moves token.old (Acquiring call.now A5) token.new (Acquiring call.now A7) × HasRoom token.new call.now.counter) }
     {
         let word = counter_word(call.counter.number());
-        let shared = &self.table.shared;
         for _ in rt.forever() {
-            let found = shared.load::<Goes>(token, word);
+            let found = self.words.load::<Here>(token, word);
             if found == 0 {
                 return false;
             }
             // Lost only to a try or a release, which take no lock: then the counter is looked at anew.
-            if shared.compare_exchange::<Goes>(token, word, found, found - 1) == found {
+            if self.words.exchange::<Here>(token, word, found, found - 1) == found {
                 return true;
             }
         }
@@ -113,7 +113,7 @@ impl SemaTable {
         ensures { Moves token.old (Acquiring call.now A8) token.new (Acquiring call.now A9) × HasRecord token.new call.now.counter }
     {
         let word = self.waiter_word(call.counter);
-        self.table.shared.fetch_sub::<Goes>(token, word, 1);
+        self.words.subtract::<Here>(token, word, 1);
     }
 
     /// A9.
@@ -122,7 +122,7 @@ impl SemaTable {
         ensures { Moves token.old (Acquiring call.now A9) token.new Rest × (token.new.me.1 ≡ []) }
     {
         let word = self.lock_word(call.counter);
-        self.table.shared.store::<Gives>(token, word, 0);
+        self.words.give_lock(token, word);
     }
 
     /// A7. Queued in the hold of the lock in which 0 was read: a release that saw the waiter word waits for this lock, and finds
@@ -130,7 +130,7 @@ impl SemaTable {
     fn queue(&self, token: &mut Token, call: &Acquire, wait: waiters::Wait)
         requires seat { Stands self.now token.old (Acquiring call.now A7) × HasRecord token.old call.now.counter
             × HasRoom token.old call.now.counter }
-        requires wait { wait.id ≡ record { seat = token.old.me.0.number; turn = token.old.me.0.turn } }
+        requires wait { wait.id ≡ record { seat = token.old.me.0.own.number; turn = token.old.me.0.own.knows.turn } }
         ensures walked { Walked token.old (Acquiring call.now A7) token.new (parked token.old call.now)
             (Queue call.now.counter wait.id call.now.lifo ∷ []) 0 }
         ensures bare { token.new.me.1 ≡ [] }
@@ -138,6 +138,6 @@ impl SemaTable {
     {
         self.insert(token, call, wait);
         let word = self.lock_word(call.counter);
-        self.table.shared.store::<Gives>(token, word, 0);
+        self.words.give_lock(token, word);
     }
 }

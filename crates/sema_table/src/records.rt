@@ -4,9 +4,10 @@ ghost use Rattle.step_table.specs.World.{put, insert_wait};
 ghost use Rattle.sema_table.specs.Seats.{table_of};
 ghost use Rattle.sema_table.specs.Walks.{HasRecord, HasRoom, Edited, lists_of};
 
-use crate::plays::Token;
+use crate::rows::Token;
 use crate::sema_table::SemaTable;
 use crate::view::Record;
+use running_rows::Running;
 use sema_root::RootStore;
 use step_table::Acquire;
 use waiters::{CounterId, Wait, WaitId};
@@ -20,7 +21,7 @@ impl SemaTable {
             Edited token.old c (put lists c (insert_wait call.now.lifo wait.id (lists c))) token.new }
     {
         let slot = self.root_of(call.counter);
-        let Record::Root(root) = token.slot_mut(&self.table.shared, slot) else {
+        let Record::Root(root) = Running::record_mut(token, &self.words, slot) else {
             unreachable!()
         };
         root.queue(call.counter, wait, call.lifo);
@@ -35,7 +36,7 @@ impl SemaTable {
         ensures none { IfNone result ((lists_of token.old counter ≡ []) × Edited token.old counter (lists_of token.old) token.new) }
     {
         let slot = self.root_of(counter);
-        let Record::Root(root) = token.slot_mut(&self.table.shared, slot) else {
+        let Record::Root(root) = Running::record_mut(token, &self.words, slot) else {
             unreachable!()
         };
         let first = root.dequeue(counter)?;

@@ -4,7 +4,7 @@ ghost use Rattle.step_table.specs.Journal.{takes};
 ghost use Rattle.sema_law.specs.Balances.{added_by};
 ghost use Rattle.sema_table.specs.Seats.{IsWaitOf};
 
-use crate::plays::Token;
+use crate::rows::Token;
 use std::marker::Model;
 use step_table::Acquire;
 use waiters::{SeatId, WaitId};

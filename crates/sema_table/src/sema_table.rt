@@ -4,18 +4,18 @@ ghost use Rattle.step_table.specs.declared.word.Word.TheVariants.{Lock, Waiters,
 ghost use Rattle.sema_table.specs.Setting.{root, address, asleep_address};
 
 use crate::make::MAX_ROOTS;
-use crate::plays::OneWorld;
+use crate::rows::Semaphores;
 use crate::settings::Settings;
-use crate::view::{Record, View};
-use atomic_table::Table;
-use std::alloc::Global;
+use crate::stride::Stride;
+use crate::view::{Known, Record};
+use running_rows::{OneWorld, Running, View};
 use std::marker::Model;
 use waiters::CounterId;
 
 /// Counters, on which seats sleep and wake each other. Its calls take `&self` and a seat, so threads share it in an `Arc`.
 #[derive(Drop)]
 pub struct SemaTable {
-    pub(crate) table: Table<Record, View, Settings, OneWorld, Global>,
+    pub(crate) words: Running<Record, View<Known, Stride>, Settings, OneWorld<Semaphores>>,
     pub(crate) counters: u32,
     pub(crate) roots: u32,
     pub(crate) seats: u32,
@@ -30,9 +30,9 @@ impl Model for SemaTable {
 
     ghost Value = { TableModel };
 
-    ghost view = { λ t. record { id = t.table.shared.table_id; setting = setting_of t.table.shared.key } };
+    ghost view = { λ t. record { id = t.words.table.shared.table_id; setting = setting_of t.words.table.shared.key } };
 
-    ghost invariant = { λ t. IsTable t.table.shared.table_id (setting_of t.table.shared.key) t.counters t.roots t.seats t.limit };
+    ghost invariant = { λ t. IsTable t.words.table.shared.table_id (setting_of t.words.table.shared.key) t.counters t.roots t.seats t.limit };
 }
 
 /// Where the counter of a number lies. Each has a cache line of its own: two in one line would be fetched together.

@@ -2,6 +2,7 @@
 ghost use Rattle.std.specs.Prelude.{◌<◌, length};
 
 use crate::sema_table::{SemaTable, counter_word};
+use std::marker::PhantomData;
 use std::thread;
 use waiters::CounterId;
 
@@ -19,7 +20,7 @@ impl SemaTable {
         requires { counter < length self.now.setting.starts }
     {
         let word = counter_word(counter.number());
-        if self.table.shared.peek(word) == 0 {
+        if !self.words.is_above_zero_soon(PhantomData, word, 1) {
             self.spin_in_rounds(word);
         }
     }
@@ -30,7 +31,7 @@ impl SemaTable {
         requires { word < self.now.id.words }
     {
         for _ in 0..ROUNDS {
-            if self.is_above_zero_soon(word, LOOKS) {
+            if self.words.is_above_zero_soon(PhantomData, word, LOOKS) {
                 return;
             }
             thread::yield_now();

@@ -12,9 +12,8 @@ pub struct Setting {
     pub seed: u64,
 }
 
-/// The view of a seat. No value of it is made.
-pub struct View {
-    pub number: u64,
+/// What a seat knows. No value of it is made.
+pub struct Known {
     pub setting: Setting,
     pub place: Place,
     pub turn: u64,
@@ -22,23 +21,6 @@ pub struct View {
     pub seen: [Entry; 0],
     /// How many units the seat has come by.
     pub taken: u64,
-    /// How many strides the seat has gone: rows that it ran, and looks.
-    pub strides: u64,
-    /// Of the seat that makes the others, how many were made; of another 0.
-    pub made: u64,
-    /// The seats that sit with it: mostly none.
-    pub guests: [Guest; 0],
-}
-
-/// What another seat's view has of a seat that sits with it. No value of it is made.
-pub struct Guest {
-    pub number: u64,
-    pub place: Place,
-    pub turn: u64,
-    pub hand: [WaitId; 0],
-    pub seen: [Entry; 0],
-    pub taken: u64,
-    pub strides: u64,
 }
 
 /// What lies in a root's slot: the root, or nothing while a seat has it. A `Begins` lies in none: it tells a step at

@@ -9,9 +9,10 @@ ghost use Rattle.sema_table.specs.Waking.{Wakes, IsWakened};
 ghost use Rattle.sema_table.specs.Walks.{Stands, Holds, Walked, Moves, HasRecord, Granted, moved_to, taken_out, sought, trying, unlocked, granting, taken_for};
 
 use crate::answers::Wake;
-use crate::plays::{Gives, Goes, Stores, Token};
+use crate::rows::Token;
 use crate::seat::{Numbers, Owing, Seat};
 use crate::sema_table::{SemaTable, counter_word};
+use running_rows::Here;
 use std::sync::Wait;
 use step_table::{Place, Release, ReleaseRow};
 use waiters::{CounterId, WaitId};
@@ -43,7 +44,7 @@ impl SemaTable {
     ) -> (Seat, Wake)
         requires seat { IsToken token numbers × (table_of token ≡ self.now) }
         requires call { (counter < length self.now.setting.starts)
-            × (token.me.0.place ≡ Releasing (record { counter = counter; handoff = false }) R3) }
+            × (token.me.0.own.knows.place ≡ Releasing (record { counter = counter; handoff = false }) R3) }
         ensures { (result.0 ≡ record (seat_of token numbers) { sight = result.0.sight; strides = result.0.strides })
             × ComesTo (seat_of token numbers) Rest result.0
             × Wakes (seat_of token numbers) (record { counter = counter; handoff = handoff }) result.0 result.1 }
@@ -59,7 +60,6 @@ impl SemaTable {
         };
         let handed = self.take_for(rt, &mut token, &call, &id);
         self.grant(&mut token, &call, &id, handed);
-        self.rouse(id.seat.number());
         if handed {
             return (Seat { token, numbers }, Wake::Handed(id));
         }
@@ -69,11 +69,11 @@ impl SemaTable {
     /// R4, and R5 where the counter has a wait.
     fn take_first(&self, token: &mut Token, call: &Release) -> Option<WaitId>
         requires seat { Stands self.now token.old (Releasing call.now R4) × HasRecord token.old call.now.counter
-            × (token.old.me.0.hand ≡ []) }
+            × (token.old.me.0.own.knows.hand ≡ []) }
         ensures record { HasRecord token.new call.now.counter }
         ensures some { IfSome result (λ w.
             Walked token.old (Releasing call.now R4) token.new (taken_out token.old call.now w)
-            (Leave call.now.counter w token.old.me.0.number ∷ []) 0
+            (Leave call.now.counter w token.old.me.0.own.number ∷ []) 0
             × (w.seat < self.now.setting.seats)) }
         ensures none { IfNone result (Moves token.old (Releasing call.now R4) token.new (Releasing call.now R6)) }
         ensures stands { Stands self.now token.new (Releasing call.now R6) }
@@ -94,25 +94,25 @@ impl SemaTable {
             (Moves token.old (Releasing call.now R4) token.new (Releasing call.now R6)) }
     {
         let word = self.waiter_word(call.counter);
-        self.table.shared.load::<Goes>(token, word) != 0
+        self.words.load::<Here>(token, word) != 0
     }
 
     /// R5 where the counter has a wait, and else nothing. Under the lock and with the word lowered: after the lock two releases
     /// could take one wait, and a word left behind would send every later release to the lock.
     fn take_out(&self, token: &mut Token, call: &Release) -> Option<WaitId>
         requires seat { Stands self.now token.old (sought token.old call.now) × HasRecord token.old call.now.counter
-            × (token.old.me.0.hand ≡ []) }
+            × (token.old.me.0.own.knows.hand ≡ []) }
         ensures record { HasRecord token.new call.now.counter }
         ensures some { IfSome result (λ w.
             Walked token.old (Releasing call.now R5) token.new (taken_out token.old call.now w)
-            (Leave call.now.counter w token.old.me.0.number ∷ []) 0
-            × (token.old.me.0.place ≡ Releasing call.now R5) × (w.seat < self.now.setting.seats)) }
-        ensures none { IfNone result ((token.old.me.0.place ≡ Releasing call.now R6)
+            (Leave call.now.counter w token.old.me.0.own.number ∷ []) 0
+            × (token.old.me.0.own.knows.place ≡ Releasing call.now R5) × (w.seat < self.now.setting.seats)) }
+        ensures none { IfNone result ((token.old.me.0.own.knows.place ≡ Releasing call.now R6)
             × (token.new.table_id ≡ token.old.table_id) × (token.new.me.0 ≡ token.old.me.0)) }
     {
         let id = self.remove_first(token, call.counter)?;
         let word = self.waiter_word(call.counter);
-        self.table.shared.fetch_sub::<Goes>(token, word, 1);
+        self.words.subtract::<Here>(token, word, 1);
         Some(id)
     }
 
@@ -122,12 +122,12 @@ impl SemaTable {
         ensures { Moves token.old (Releasing call.now R6) token.new (unlocked token.old call.now) × (token.new.me.1 ≡ []) }
     {
         let word = self.lock_word(call.counter);
-        self.table.shared.store::<Gives>(token, word, 0);
+        self.words.give_lock(token, word);
     }
 
     /// R7 and R8 of a release with handoff, and else nothing: whether a unit was taken for the wait in hand.
     fn take_for<R: Wait>(&self, rt: &R, token: &mut Token, call: &Release, id: &WaitId) -> bool
-        requires { Stands self.now token.old (trying call.now) × (token.old.me.0.hand ≡ id.now ∷ []) }
+        requires { Stands self.now token.old (trying call.now) × (token.old.me.0.own.knows.hand ≡ id.now ∷ []) }
         ensures slots { token.new.me.1 ≡ token.old.me.1 }
         ensures walked { Walked token.old (trying call.now) token.new (moved_to token.old (granting call.now result))
             (taken_for call.now id.now result) 0 }
@@ -142,7 +142,7 @@ impl SemaTable {
     /// R7, and R8 where R7 read more than 0, until one of them settles it: whether a unit was taken for the wait in hand. A unit
     /// is looked for, not assumed: a seat that never slept may have taken the one that was added.
     fn take_unit<R: Wait>(&self, rt: &R, token: &mut Token, call: &Release, id: &WaitId) -> bool
-        requires { Stands self.now token.old (Releasing call.now R7) × (token.old.me.0.hand ≡ id.now ∷ []) }
+        requires { Stands self.now token.old (Releasing call.now R7) × (token.old.me.0.own.knows.hand ≡ id.now ∷ []) }
         ensures slots { token.new.me.1 ≡ token.old.me.1 }
         ensures settled { MatchBool result
             (Walked token.old (Releasing call.now R7) token.new (moved_to token.old (Releasing call.now R9))
@@ -150,13 +150,12 @@ impl SemaTable {
             (Moves token.old (Releasing call.now R7) token.new (Releasing call.now R10)) }
     {
         let word = counter_word(call.counter.number());
-        let shared = &self.table.shared;
         for _ in rt.forever() {
-            let found = shared.load::<Goes>(token, word);
+            let found = self.words.load::<Here>(token, word);
             if found == 0 {
                 return false;
             }
-            if shared.compare_exchange::<Goes>(token, word, found, found - 1) == found {
+            if self.words.exchange::<Here>(token, word, found, found - 1) == found {
                 return true;
             }
         }
@@ -165,17 +164,18 @@ impl SemaTable {
 
     /// R9 where a unit was taken for the wait in hand, and else R10: its seat is granted.
     fn grant(&self, token: &mut Token, call: &Release, id: &WaitId, handed: bool)
-        requires seat { Stands self.now token.old (granting call.now handed) × (token.old.me.0.hand ≡ id.now ∷ []) }
+        requires seat { Stands self.now token.old (granting call.now handed) × (token.old.me.0.own.knows.hand ≡ id.now ∷ []) }
         requires there { id.now.seat < self.now.setting.seats }
         ensures granted { Granted token.old (granting call.now handed) token.new }
         ensures slots { token.new.me.1 ≡ token.old.me.1 }
     {
-        let word = self.grant_word(id.seat.number());
-        let shared = &self.table.shared;
+        let seat = id.seat.number();
+        let word = self.grant_word(seat);
+        let asleep = self.asleep_word(seat);
         if handed {
-            shared.store::<Stores>(token, word, 2);
+            self.words.grant(token, word, asleep, 2);
             return;
         }
-        shared.store::<Stores>(token, word, 1);
+        self.words.grant(token, word, asleep, 1);
     }
 }

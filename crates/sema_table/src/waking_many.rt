@@ -12,10 +12,11 @@ ghost use Rattle.sema_table.specs.Walks.{Stands, Holds, Walked, Moves, HasRecord
 ghost use Rattle.sema_table.specs.ManyWalks.{sought_many, picking, to_grant, with_hand, MayGrant, GrantedFirst, GrantedSome};
 
 use crate::many_seat::OwingMany;
-use crate::plays::{Gives, Goes, Stores, Token};
+use crate::rows::Token;
 use crate::seat::{Numbers, Seat};
 use crate::sema_table::SemaTable;
 use arrayvec::ArrayVec;
+use running_rows::Here;
 use std::sync::Wait;
 use step_table::{ManyRow, Place, ReleaseMany};
 use waiters::WaitId;
@@ -48,7 +49,7 @@ impl SemaTable {
         call: &ReleaseMany,
     ) -> (Seat, u32)
         requires seat { IsToken token numbers × (table_of token ≡ self.now) }
-        requires call { (call.now.counter < length self.now.setting.starts) × (token.me.0.place ≡ ReleasingMany call.now M3) }
+        requires call { (call.now.counter < length self.now.setting.starts) × (token.me.0.own.knows.place ≡ ReleasingMany call.now M3) }
         requires units { HasUnits call.now }
         ensures { (result.0 ≡ record (seat_of token numbers) { sight = result.0.sight; strides = result.0.strides })
             × ComesTo (seat_of token numbers) Rest result.0
@@ -67,13 +68,13 @@ impl SemaTable {
 
     /// M4, and M5 while fewer waits than units are in hand and the counter has one more.
     fn take_waits(&self, token: &mut Token, call: &ReleaseMany, hand: &mut Hand)
-        requires seat { Holds self.now token.old (ReleasingMany call.now M4) × (token.old.me.0.hand ≡ []) }
+        requires seat { Holds self.now token.old (ReleasingMany call.now M4) × (token.old.me.0.own.knows.hand ≡ []) }
         requires hand { (hand.old.items ≡ []) × HasUnits call.now }
         ensures record { HasRecord token.new call.now.counter }
         ensures walked { Walked token.old (ReleasingMany call.now M4) token.new
-            (with_hand token.old (ReleasingMany call.now M6) token.new.me.0.hand)
-            (leaves token.old.me.0.number call.now token.new.me.0.hand) 0 }
-        ensures hand { hand.new.items ≡ map (λ w. w.seat) token.new.me.0.hand }
+            (with_hand token.old (ReleasingMany call.now M6) token.new.me.0.own.knows.hand)
+            (leaves token.old.me.0.own.number call.now token.new.me.0.own.knows.hand) 0 }
+        ensures hand { hand.new.items ≡ map (λ w. w.seat) token.new.me.0.own.knows.hand }
     {
         if !self.look_for_many(token, call) {
             return;
@@ -95,45 +96,45 @@ impl SemaTable {
             (Moves token.old (ReleasingMany call.now M4) token.new (ReleasingMany call.now M6)) }
     {
         let word = self.waiter_word(call.counter);
-        self.table.shared.load::<Goes>(token, word) != 0
+        self.words.load::<Here>(token, word) != 0
     }
 
     /// M5 where the counter has a wait, and else nothing. All under one hold of the lock, and with the word lowered for each.
     fn take_one(&self, token: &mut Token, call: &ReleaseMany) -> Option<WaitId>
         requires seat { Stands self.now token.old (picking token.old call.now) × HasRecord token.old call.now.counter }
-        requires few { length token.old.me.0.hand < call.now.units }
+        requires few { length token.old.me.0.own.knows.hand < call.now.units }
         ensures record { HasRecord token.new call.now.counter }
         ensures some { IfSome result (λ w.
             Walked token.old (ReleasingMany call.now M5) token.new
-            (with_hand token.old (picking token.new call.now) (token.old.me.0.hand ++ w ∷ []))
-            (Leave call.now.counter w token.old.me.0.number ∷ []) 0
-            × (token.old.me.0.place ≡ ReleasingMany call.now M5)) }
-        ensures none { IfNone result ((token.old.me.0.place ≡ ReleasingMany call.now M6)
+            (with_hand token.old (picking token.new call.now) (token.old.me.0.own.knows.hand ++ w ∷ []))
+            (Leave call.now.counter w token.old.me.0.own.number ∷ []) 0
+            × (token.old.me.0.own.knows.place ≡ ReleasingMany call.now M5)) }
+        ensures none { IfNone result ((token.old.me.0.own.knows.place ≡ ReleasingMany call.now M6)
             × (token.new.table_id ≡ token.old.table_id) × (token.new.me.0 ≡ token.old.me.0)) }
     {
         let id = self.remove_first(token, call.counter)?;
         let word = self.waiter_word(call.counter);
-        self.table.shared.fetch_sub::<Goes>(token, word, 1);
+        self.words.subtract::<Here>(token, word, 1);
         Some(id)
     }
 
     /// M6. Given back before the first waiter is told: told earlier, it would run into the lock that is still held.
     fn unlock_many(&self, token: &mut Token, call: &ReleaseMany)
         requires { Holds self.now token.old (ReleasingMany call.now M6) }
-        ensures walked { Moves token.old (ReleasingMany call.now M6) token.new (to_grant call.now token.old.me.0.hand) }
+        ensures walked { Moves token.old (ReleasingMany call.now M6) token.new (to_grant call.now token.old.me.0.own.knows.hand) }
         ensures bare { token.new.me.1 ≡ [] }
-        ensures there { All (λ w. w.seat < self.now.setting.seats) token.new.me.0.hand }
+        ensures there { All (λ w. w.seat < self.now.setting.seats) token.new.me.0.own.knows.hand }
     {
         let word = self.lock_word(call.counter);
-        self.table.shared.store::<Gives>(token, word, 0);
+        self.words.give_lock(token, word);
     }
 
     /// M7 for each wait in hand, of which these are the seats.
     fn grant_all(&self, token: &mut Token, call: &ReleaseMany, seats: &[u16])
         requires seat { MayGrant self.now token.old call.now }
-        requires seats { seats.now ≡ map (λ w. w.seat) token.old.me.0.hand }
-        requires there { All (λ w. w.seat < self.now.setting.seats) token.old.me.0.hand }
-        ensures { GrantedSome token.old (to_grant call.now token.old.me.0.hand) call.now token.old.me.0.hand token.new
+        requires seats { seats.now ≡ map (λ w. w.seat) token.old.me.0.own.knows.hand }
+        requires there { All (λ w. w.seat < self.now.setting.seats) token.old.me.0.own.knows.hand }
+        ensures { GrantedSome token.old (to_grant call.now token.old.me.0.own.knows.hand) call.now token.old.me.0.own.knows.hand token.new
             (with_hand token.old Rest []) }
     {
         for seat in seats {
@@ -144,12 +145,12 @@ impl SemaTable {
     /// M7: the seat of the first wait in hand is granted, and its thread woken where that sleeps.
     fn grant_one(&self, token: &mut Token, call: &ReleaseMany, seat: u16)
         requires seat { Stands self.now token.old (ReleasingMany call.now M7)
-            × (waiter token.old.me.0.number token.old.me.0.hand ≡ seat) }
+            × (waiter token.old.me.0.own.number token.old.me.0.own.knows.hand ≡ seat) }
         requires there { seat < self.now.setting.seats }
         ensures { GrantedFirst token.old call.now token.new }
     {
         let word = self.grant_word(seat);
-        self.table.shared.store::<Stores>(token, word, 1);
-        self.rouse(seat);
+        let asleep = self.asleep_word(seat);
+        self.words.grant(token, word, asleep, 1);
     }
 }

@@ -13,7 +13,7 @@ use Rattle.step_table.specs.declared.word.Word.{Word}
 use Rattle.step_table.specs.Journal.{plain_start, IsLawful, takes}
 use Rattle.step_table.specs.Path.{GoesOn, OnlyLooked}
 use Rattle.step_table.proofs.Paths.{goes_on_more}
-use Rattle.sema_law.specs.SemaPath.{is_own, placed, SemaDid}
+use Rattle.sema_law.specs.SemaPath.{SemaStride, is_own, placed, SemaDid}
 use Rattle.sema_law.proofs.SemaPaths.{the_sema_paths}
 use Rattle.sema_law.proofs.Telling.{count_append}
 use Rattle.sema_law.proofs.Stories.{takes_counts}
@@ -33,7 +33,7 @@ pub record Sees (i : ℕ) (seen now told : List Entry) : Type 0 where
   pub later : GoesOn now seen
   pub owns : own i now ≡ own i seen ++ own i told
 
-sees_call : (s t : SeatModel) (from : Place) (told : List Entry) → Calls s from t told → Sees s.number s.sight.seen t.sight.seen told
+sees_call : {IsOne : SemaStride → Type 0} (s t : SeatModel) (from : Place) (told : List Entry) → Calls IsOne s from t told → Sees s.number s.sight.seen t.sight.seen told
 sees_call s t from told call =
     let paths = the_sema_paths.paths (layout s.table.setting) in
     record {

@@ -112,15 +112,15 @@ module _ (s t : Token) (a : SeatModel) (d : ℤ) (found left : GroupWord) (left_
   first_path next leads = subst (λ (k : GroupNext). Walks a.number (G1 d) first k) (ap (after_add d) (sym left_is) ∙ leads)
       (walks_first a.number (G1 d) found y.word)
 
-  pub next_first : (next : GroupNext) → after_add d left ≡ next → t.me.0.next ≡ next
-  next_first next leads = ap (λ (m : Me). m.0.next) y.me_is ∙ ap (after_add d) (sym left_is) ∙ leads
+  pub next_first : (next : GroupNext) → after_add d left ≡ next → t.me.0.own.knows.next ≡ next
+  next_first next leads = ap (λ (m : Me). m.0.own.knows.next) y.me_is ∙ ap (after_add d) (sym left_is) ∙ leads
 
   pub added_fails : (misuse : Misuse) → after_add d left ≡ Fails misuse → IsAdded (group_seat_of s a) d (group_seat_of t a) (Err misuse)
   added_fails misuse leads = record {
     found = found;
     after = [];
     next = Fails misuse;
-    ran = record { group = λ i. record { word = y.table_is i; sema = a.table }; steps_are = ap (λ (m : Me). m.0.steps) y.me_is };
+    ran = record { group = λ i. record { word = y.table_is i; sema = a.table }; steps_are = ap (λ (m : Me). m.0.own.gone) y.me_is };
     path = first_path (Fails misuse) leads;
     answers = (refl, refl);
     made = tt;
@@ -138,14 +138,14 @@ module _ (s t : Token) (a : SeatModel) (d : ℤ) (found left : GroupWord) (left_
     found = found;
     after = [];
     next = Ends;
-    ran = record { group = λ i. record { word = y.table_is i; sema = a.table }; steps_are = ap (λ (m : Me). m.0.steps) y.me_is };
+    ran = record { group = λ i. record { word = y.table_is i; sema = a.table }; steps_are = ap (λ (m : Me). m.0.own.gone) y.me_is };
     path = first_path Ends leads;
     answers = (refl, refl);
     made = (sym (none_wait leads) ∙ ap waits_at_zero left_is, omega arith);
   }
 
   -- it looked again
-  module _ (leads : after_add d left ≡ Goes (G2 left)) (u : Token) (seen : GroupWord) (z : Steps t (load_row t.me.0.next) seen u) where
+  module _ (leads : after_add d left ≡ Goes (G2 left)) (u : Token) (seen : GroupWord) (z : Steps t (load_row t.me.0.own.knows.next) seen u) where
     again : Steps t (G2 left) seen u
     again = subst (λ (row : GroupRow). Steps t row seen u) (ap load_row (next_first (Goes (G2 left)) leads)) z
 
@@ -153,9 +153,9 @@ module _ (s t : Token) (a : SeatModel) (d : ℤ) (found left : GroupWord) (left_
     both_path next on = subst (λ (k : GroupNext). Walks a.number (G1 d) (first ++ step (G2 left) seen ∷ []) k) on
         (walks_more a.number (G1 d) first (G2 left) seen again.word (first_path (Goes (G2 left)) leads))
 
-    both_steps : u.me.0.steps ≡ s.me.0.steps ++ (first ++ step (G2 left) seen ∷ [])
-    both_steps = ap (λ (m : Me). m.0.steps) again.me_is ∙ ap (λ (m : Me). m.0.steps ++ step (G2 left) seen ∷ []) y.me_is
-        ∙ append_assoc s.me.0.steps first (step (G2 left) seen ∷ [])
+    both_steps : u.me.0.own.gone ≡ s.me.0.own.gone ++ (first ++ step (G2 left) seen ∷ [])
+    both_steps = ap (λ (m : Me). m.0.own.gone) again.me_is ∙ ap (λ (m : Me). m.0.own.gone ++ step (G2 left) seen ∷ []) y.me_is
+        ∙ append_assoc s.me.0.own.gone first (step (G2 left) seen ∷ [])
 
     pub added_beside : same_word left seen ≡ false → IsAdded (group_seat_of s a) d (group_seat_of u a) (Err AddWithWait)
     added_beside other = let on = ap (λ (c : Bool). if c then Goes (G3 left) else Fails AddWithWait) other in record {
@@ -172,12 +172,12 @@ module _ (s t : Token) (a : SeatModel) (d : ℤ) (found left : GroupWord) (left_
       on_same : (group_row (G2 left) seen).1 ≡ Goes (G3 left)
       on_same = ap (λ (c : Bool). if c then Goes (G3 left) else Fails AddWithWait) same
 
-      pub goes_to_empty : u.me.0.next ≡ Goes (G3 left)
-      goes_to_empty = ap (λ (m : Me). m.0.next) again.me_is ∙ on_same
+      pub goes_to_empty : u.me.0.own.knows.next ≡ Goes (G3 left)
+      goes_to_empty = ap (λ (m : Me). m.0.own.knows.next) again.me_is ∙ on_same
 
       module _ (v : Token) (was : GroupWord) (e : Steps u (G3 left) was v) where
-        pub emptied : v.me.0.next ≡ Releases left.waits
-        emptied = ap (λ (m : Me). m.0.next) e.me_is
+        pub emptied : v.me.0.own.knows.next ≡ Releases left.waits
+        emptied = ap (λ (m : Me). m.0.own.knows.next) e.me_is
 
         all_wait : left.waits ≡ waits_at_zero left
         all_wait = let n = goes_by left (int_lt left.counter (pos 0))
@@ -192,8 +192,8 @@ module _ (s t : Token) (a : SeatModel) (d : ℤ) (found left : GroupWord) (left_
           next = Releases left.waits;
           ran = record {
             group = λ i. record { word = (e.table_is ∙ again.table_is ∙ y.table_is) i; sema = same_table left.waits a b released i };
-            steps_are = ap (λ (m : Me). m.0.steps) e.me_is ∙ ap (λ (l : List GroupStep). l ++ step (G3 left) was ∷ []) both_steps
-                ∙ append_assoc s.me.0.steps (first ++ step (G2 left) seen ∷ []) (step (G3 left) was ∷ []);
+            steps_are = ap (λ (m : Me). m.0.own.gone) e.me_is ∙ ap (λ (l : List GroupStep). l ++ step (G3 left) was ∷ []) both_steps
+                ∙ append_assoc s.me.0.own.gone (first ++ step (G2 left) seen ∷ []) (step (G3 left) was ∷ []);
           };
           path = walks_more a.number (G1 d) (first ++ step (G2 left) seen ∷ []) (G3 left) was e.word (both_path (Goes (G3 left)) on_same);
           answers = (refl, released);

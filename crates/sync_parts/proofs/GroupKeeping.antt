@@ -1,18 +1,27 @@
--- A row on the state word keeps the rule: it goes to the end of the history.
-use Rattle.std.proofs.Common.{◌≡◌, ◌≢◌, ℕ, zero, suc, ◌<◌, ◌==◌, if◌then◌else◌, Bool, true, false, List, [], ◌∷◌, ◌++◌, length, set, slice_index, sym, refl, ap, ◌∙◌, subst, ⊎_elim, arith, eq-eqb, ne_eqb, length-set, get_or-set_same}
-use mathlib.Core.Option.{some, some-ne-none}
-use lib.ListN.{get_elem?}
-use Rattle.atomic_table.specs.Table.{State, keeps, Allows}
-use Rattle.atomic_table.proofs.Lists.{at_set}
+-- A row on the state word goes to the end of the history.
+use Rattle.std.proofs.Common.{◌≡◌, ◌≢◌, ◌⊎◌, ℕ, ◌<◌, ◌==◌, if◌then◌else◌, Bool, true, false, List, [], ◌∷◌, ◌++◌, slice_index, sym, refl, ap, ◌∙◌, subst, ⊎_elim, inl, inr, arith, eq-eqb, ne_eqb, length-set, get_or-set_same, IsTrue}
+use mathlib.Core.Option.{Option}
+use Rattle.running_rows.specs.Table.{keeps}
 use Rattle.step_table.specs.declared.group_word.GroupWord.{GroupWord}
 use Rattle.step_table.specs.declared.standing.GroupRow.{GroupRow}
+use Rattle.step_table.specs.declared.standing.GroupRow.TheVariants.{G1, G2, G3, V1, V2, V3}
 use Rattle.step_table.specs.declared.standing.GroupNext.{GroupNext}
-use Rattle.step_table.specs.Group.{empty_word, group_row}
-use Rattle.step_table.specs.GroupBits.{word_in}
-use Rattle.sync_parts.specs.declared.group_view.GroupView.{GroupView}
+use Rattle.step_table.specs.declared.standing.GroupNext.TheVariants.{Goes}
+use Rattle.step_table.specs.Path.{runs, Ran}
+use Rattle.step_table.specs.Group.{empty_word, group_event, group_row}
+use Rattle.step_table.specs.GroupBits.{word_in, IsGroupWord}
+use Rattle.step_table.specs.GroupPath.{going}
+use Rattle.step_table.proofs.GroupBits.{the_group_words}
+use Rattle.step_table.proofs.Paths.{goes_on_here}
+use Rattle.step_table.proofs.Sums.{put_here}
+use Rattle.running_rows.specs.declared.view.Seated.{Seated}
+use Rattle.running_rows.specs.Strides.{Went, RanRow}
+use Rattle.running_rows.specs.Rule.{In}
+use Rattle.running_rows.specs.Owing.{Stands, Leads as LeadsOn, Owes}
+use Rattle.sync_parts.specs.declared.group_view.GroupKnown.{GroupKnown}
 use Rattle.sync_parts.specs.declared.group_view.GroupStep.{GroupStep}
-use Rattle.sync_parts.specs.GroupRule.{Follows, AreCalls, Moment, Leads, steps_of, HasRun, IsKept}
-use Rattle.sync_parts.specs.GroupPlays.{Me, step, stepped}
+use Rattle.sync_parts.specs.GroupRule.{Follows, AreCalls, Moment, Leads, steps_of, GroupLife, ShowsLife, HasRun, living_group, stride_of, group_rows}
+use Rattle.sync_parts.specs.GroupPlays.{Me, step, at_row}
 
 leads_more : (word left : GroupWord) (history : List Moment) (m : Moment) → Leads word history left → m.step.found ≡ left
     → Leads word (history ++ m ∷ []) (group_row m.step.row m.step.found).0
@@ -44,64 +53,99 @@ steps_else j (n ∷ history) m ne = by (steps_else j history m ne) (n.seat == j)
     by rest true = ap (λ l. n.step ∷ l) rest
     by rest false = rest
 
--- where something stands in a list is below its length
-at_low : {A : Type 0} (l : List A) (i : ℕ) (a : A) → get_elem? l i ≡ some a → i < length l
-at_low [] i a e = absurd (some-ne-none a (sym e))
-at_low (x ∷ xs) zero a e = omega arith
-at_low (x ∷ xs) (suc i) a e = let h = at_low xs i a e in omega arith
+-- what is in a list with one more at its end
+in_more : (a b : Moment) (l : List Moment) → In a (l ++ b ∷ []) → In a l ⊎ (b ≡ a)
+in_more a b [] (inl e) = inr e
+in_more a b [] (inr h) = absurd h
+in_more a b (x ∷ xs) (inl e) = inl (inl e)
+in_more a b (x ∷ xs) (inr h) = ⊎_elim (λ q. inl (inr q)) (λ q. inr q) (in_more a b xs h)
 
--- the row ran, and the word became x
-module _ (seats : ℕ) (s : State ℕ GroupView) (r : IsKept seats s) (id : ℕ) (v : GroupView) (at : get_elem? s.views id ≡ some v) (row : GroupRow)
-    (follows : Follows v.next row) where
-  abbrev found : GroupWord
-  found = word_in (slice_index s.words 0)
+row_can : (row : GroupRow) (w : GroupWord) → IsTrue ((group_event (tt {0}) row).can w)
+row_can (G1 d) w = search
+row_can (G2 seen) w = search
+row_can (G3 seen) w = search
+row_can V1 w = search
+row_can (V2 seen) w = search
+row_can V3 w = search
 
-  abbrev here : Moment
-  here = record { seat = id; step = step row found }
+-- the row ran, and found this word
+module _ (u : Seated GroupKnown GroupStep) (row : GroupRow) (found : GroupWord) (is : IsGroupWord found) where
+  abbrev pub after : Seated GroupKnown GroupStep
+  after = record { number = u.number; knows = record u.knows { next = (group_row row found).1 }; gone = u.gone ++ step row found ∷ [] }
 
-  mine : HasRun (r.history ++ here ∷ []) id (stepped row found v)
-  mine = let h = r.views id v at in record {
-    number_is = h.number_is;
-    own = steps_own id r.history here refl ∙ ap (λ (l : List GroupStep). l ++ step row found ∷ []) h.own;
-    calls = calls_more _ v.next v.steps (step row found) h.calls follows;
+  ran : Ran living_group u.number (going (Goes row)) (stride_of (step row found)) (going (group_row row found).1)
+  ran = record {
+    world = record { word = found; nexts = λ k. Goes row; history = [] };
+    meets = record { met = is; stands = refl; later = goes_on_here []; quiet = refl };
+    stood = refl;
+    seen = refl;
+    did = record {
+      can = row_can row found;
+      read_is = refl;
+      told_is = refl;
+      leads = λ j. record { stands = sym (put_here (λ k. Goes row) u.number (group_row row found).1) j; seen = [] };
+    };
   }
 
-  -- the row makes no seat
-  made_of : (u : GroupView) → stepped row found v ≡ u → ◌≡◌ {A = ℕ} v.made u.made
-  made_of u e = ap (λ (w : GroupView). w.made) e
-
-  kept_after : (x : ℕ) → word_in x ≡ (group_row row found).0
-      → IsKept seats (record { words = set s.words 0 x; homes = s.homes; views = set s.views id (stepped row found v) })
-  kept_after x becomes = record {
-    history = r.history ++ here ∷ [];
-    leads = subst (λ (w : GroupWord). Leads empty_word (r.history ++ here ∷ []) w)
-        (sym becomes ∙ ap word_in (sym (get_or-set_same s.words 0 x 0 r.wide)))
-        (leads_more empty_word found r.history here r.leads refl);
-    views = λ j u e. ⊎_elim
-        (λ (t : (j ≡ id) × (stepped row found v ≡ u)). subst (λ (k : ℕ × GroupView). HasRun (r.history ++ here ∷ []) k.0 k.1)
-        (λ i. (sym t.0 i, t.1 i)) mine)
-        (λ (t : (j ≢ id) × (get_elem? s.views j ≡ some u)). let h = r.views j u t.1 in
-        record { number_is = h.number_is; own = steps_else j r.history here (λ q. t.0 (sym q)) ∙ h.own; calls = h.calls })
-        (at_set s.views id j (stepped row found v) u e);
-    others = λ j far. let l = length-set s.views id (stepped row found v) in let low = at_low s.views id v at in
-        steps_else j r.history here (λ q. absurd (omega arith)) ∙ r.others j (omega arith);
-    maker = λ j u e some_made. let l = length-set s.views id (stepped row found v) in ⊎_elim
-        (λ (t : (j ≡ id) × (stepped row found v ≡ u)). let m = made_of u t.1 in let h = r.maker id v at (omega arith) in
-        (t.0 ∙ h.0, sym m ∙ h.1 ∙ sym l))
-        (λ (t : (j ≢ id) × (get_elem? s.views j ≡ some u)). let h = r.maker j u t.1 some_made in (h.0, h.1 ∙ sym l))
-        (at_set s.views id j (stepped row found v) u e);
-    fits = let l = length-set s.views id (stepped row found v) in let f = r.fits in omega arith;
-    wide = let l = length-set s.words 0 x in let w = r.wide in omega arith;
+  -- from wherever it began
+  pub went : (at : GroupKnown → GroupKnown) (n : ℕ) → at u.knows ≡ at_row row u.knows → found ≡ word_in n → Went group_rows at runs u n after
+  went at n begins read = record {
+    stride = step row found;
+    ran = subst (λ (v : GroupKnown). Ran living_group u.number (going v.next) (stride_of (step row found)) (going (group_row row found).1)) (sym begins) ran;
+    did = refl;
+    read = read;
+    also = record { word = is; row = ap (λ (v : GroupKnown). v.next) begins; next = refl };
+    one = refl;
+    same = (refl, refl);
   }
 
-pub allowed : (seats slots id : ℕ) (m : Me) (row : GroupRow) (f : ℕ → ℕ) (then_is : ℕ → Me → Type 0) → Follows m.0.next row
-    → ((n : ℕ) → n < 18446744073709551616 → word_in (f n) ≡ (group_row row (word_in n)).0)
-    → ((n : ℕ) → n < 18446744073709551616 → then_is n (stepped row (word_in n) m.0, m.1))
-    → Allows (IsKept seats) slots id m 0 f then_is
-allowed seats slots id m row f then_is follows becomes told s r sized at below = (
-  stepped row (word_in (slice_index s.words 0)) m.0,
-  keeps,
-  tt,
-  kept_after seats s r id m.0 at row follows (f (slice_index s.words 0)) (becomes (slice_index s.words 0) below),
-  told (slice_index s.words 0) below,
-)
+-- a row of calls leads on
+module _ (seats : ℕ) (m : Me) (row : GroupRow) (follows : Follows m.0.own.knows.next row) (f : ℕ → ℕ)
+    (becomes : (n : ℕ) → n < 18446744073709551616 → word_in (f n) ≡ (group_row row (word_in n)).0) where
+  module _ (s : GroupLife) (words : List ℕ) (homes : List (Option (Unit {0}))) (at : Stands group_rows seats m.0.own s words homes 0) where
+    abbrev n : ℕ
+    n = slice_index words 0
+
+    abbrev moment : Moment
+    moment = record { seat = m.0.own.number; step = step row (word_in n) }
+
+    abbrev next : GroupLife
+    next = record { word = (group_row row (word_in n)).0; nexts = s.nexts; history = s.history ++ moment ∷ [] }
+
+    is_word : IsGroupWord (word_in n)
+    is_word = the_group_words.words n at.below
+
+    abbrev own : Seated GroupKnown GroupStep
+    own = after m.0.own row (word_in n) is_word
+
+    shows : ShowsLife seats next (Rattle.std.specs.Prelude.slice_set words 0 (f n))
+    shows = record {
+      word_is = ap word_in (get_or-set_same words 0 (f n) 0 at.shows.wide) ∙ becomes n at.below;
+      leads = leads_more empty_word s.word s.history moment at.shows.leads at.shows.word_is;
+      there = λ a h. ⊎_elim (λ q. at.shows.there a q) (λ q. subst (λ (b : Moment). b.seat < seats) q at.there) (in_more a moment s.history h);
+      wide = let l = length-set words 0 (f n) in let w = at.shows.wide in omega arith;
+    }
+
+    others : (u : Seated GroupKnown GroupStep) → u.number ≢ m.0.own.number → HasRun u s → HasRun u next
+    others u ne o = record { own = steps_else u.number s.history moment (λ q. ne (sym q)) ∙ o.own; calls = o.calls }
+
+    pub led : (begin : GroupKnown → GroupKnown) → begin m.0.own.knows ≡ at_row row m.0.own.knows
+        → LeadsOn group_rows seats m s words homes 0 (f n) (λ t. RanRow group_rows begin m n t)
+    led begin begins = record {
+      next = next;
+      own = own;
+      act = keeps;
+      valid = tt;
+      shows = shows;
+      same = refl;
+      of_is = at.of_is;
+      knows = record {
+        own = steps_own m.0.own.number s.history moment refl ∙ ap (λ l. l ++ step row (word_in n) ∷ []) at.knows.own;
+        calls = calls_more _ m.0.own.knows.next m.0.own.gone (step row (word_in n)) at.knows.calls follows;
+      };
+      others = λ u ne low. others u ne;
+      tells = (went m.0.own row (word_in n) is_word begin n begins refl, refl);
+    }
+
+  pub owes : (begin : GroupKnown → GroupKnown) → begin m.0.own.knows ≡ at_row row m.0.own.knows → Owes group_rows seats m 0 f (RanRow group_rows begin m)
+  owes begin begins s words homes at = led s words homes at begin begins

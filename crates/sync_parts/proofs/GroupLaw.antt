@@ -1,18 +1,16 @@
 -- Each row in the history of a state word is that of a seat.
-use Rattle.std.proofs.Common.{◌≡◌, ℕ, zero, suc, ◌<◌, ◌==◌, if◌then◌else◌, Bool, true, false, List, [], ◌∷◌, length, refl, ap, subst, inl, inr, arith, eq-eqb, lt_of_not-le}
+use Rattle.std.proofs.Common.{◌≡◌, ℕ, ◌<◌, ◌≤◌, ◌==◌, if◌then◌else◌, Bool, true, false, List, [], ◌∷◌, refl, sym, ap, subst, ⊎_elim, inl, inr, eq-eqb, lt_of_not-le}
 use mathlib.Core.Logic.{dite}
-use mathlib.Core.Option.{some}
 use native.Mathlib.Decide.{dec_le}
-use lib.ListN.{get_elem?}
-use Rattle.sema_table.specs.Rule.{In}
-use Rattle.sync_parts.specs.GroupRule.{Moment, steps_of}
+use Rattle.running_rows.specs.Table.{State}
+use Rattle.running_rows.specs.declared.view.Seated.{Seated}
+use Rattle.running_rows.specs.Rule.{In, IsSeated, Sits, IsKept}
+use Rattle.sync_parts.specs.declared.group_view.GroupKnown.{GroupKnown}
+use Rattle.sync_parts.specs.declared.group_view.GroupStep.{GroupStep}
+use Rattle.sync_parts.specs.GroupPlays.{GroupView}
+use Rattle.sync_parts.specs.GroupRule.{Moment, Leads, steps_of, group_rows}
+use Rattle.step_table.specs.Group.{empty_word}
 use Rattle.sync_parts.specs.GroupLaw.{IsOfASeat, TheGroup}
-
--- what stands below the length of a list
-stands : {A : Type 0} (l : List A) (i : ℕ) → i < length l → (a : A) × (get_elem? l i ≡ some a)
-stands [] i low = absurd (omega arith)
-stands (x ∷ xs) zero low = (x, refl)
-stands (x ∷ xs) (suc i) low = stands xs i (omega arith)
 
 -- a row in the history is one of those of its seat
 in_steps : (m : Moment) (history : List Moment) → In m history → In m.step (steps_of m.seat history)
@@ -26,15 +24,49 @@ in_steps m (n ∷ history) h = by (in_steps m history) (n.seat == m.seat) refl h
     by later false e (inl q) = let yes = eq-eqb n.seat m.seat (ap (λ (k : Moment). k.seat) q) in absurd (cc)
     by later false e (inr q) = later q
 
-pub the_group : TheGroup
-the_group seats s r m h = dite (dec_le (length s.views) m.seat)
-    (λ far. absurd (subst (In m.step) (r.others m.seat far) (in_steps m r.history h)))
-    (λ near. seated (lt_of_not-le near))
-  where
-    seated : m.seat < length s.views → IsOfASeat seats s m
-    seated low = let at = stands s.views m.seat low in record {
-      there = let f = r.fits in omega arith;
-      view = at.0;
-      at = at.1;
-      ran = subst (In m.step) (r.views m.seat at.0 at.1).own (in_steps m r.history h);
-    }
+module _ (seats : ℕ) (s : State (Unit {0}) GroupView) (r : IsKept group_rows seats s) (m : Moment) (h : In m r.world.history) where
+  ran_it : In m.step (steps_of m.seat r.world.history)
+  ran_it = in_steps m r.world.history h
+
+  -- it was made, since it has run a row
+  made : r.made ≤ m.seat → ⊥
+  made far = absurd (subst (In m.step) (r.unmade m.seat far (r.shows.there m h)).own ran_it)
+
+  -- a seat of this number has the row among its strides
+  has_it : (place : ℕ) (u : Seated GroupKnown GroupStep) → Sits group_rows seats r.world r.spot r.made place u → u.number ≡ m.seat → In m.step u.gone
+  has_it place u o e = subst (In m.step) o.knows.own (subst (λ n. In m.step (steps_of n r.world.history)) (λ i. sym e i) ran_it)
+
+  seated : m.seat < r.made → IsOfASeat seats s m
+  seated low = let o : IsSeated group_rows s.views (r.spot m.seat) m.seat = r.seated m.seat low in let all = r.views (r.spot m.seat) o.0 o.1 o.2 in ⊎_elim
+      (λ e. record {
+        there = r.shows.there m h;
+        place = r.spot m.seat;
+        view = o.0;
+        at = o.1;
+        seat = o.0.own;
+        sits = inl refl;
+        number = e;
+        ran = has_it (r.spot m.seat) o.0.own all.own e;
+      })
+      (λ g. record {
+        there = r.shows.there m h;
+        place = r.spot m.seat;
+        view = o.0;
+        at = o.1;
+        seat = g.0;
+        sits = inr g.1;
+        number = g.2;
+        ran = has_it (r.spot m.seat) g.0 (all.guests g.0 g.1) g.2;
+      })
+      o.3
+
+  pub of_a_seat : IsOfASeat seats s m
+  of_a_seat = dite (dec_le r.made m.seat) (λ far. absurd (made far)) (λ near. seated (lt_of_not-le near))
+
+pub the_group : TheGroup (IsKept group_rows)
+the_group seats s r = record {
+  history = r.world.history;
+  leads = subst (Leads empty_word r.world.history) (sym r.shows.word_is) r.shows.leads;
+  each = of_a_seat seats s r;
+  own = λ place view at someones. (r.views place view at someones).own.knows.own;
+}

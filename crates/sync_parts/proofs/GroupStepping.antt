@@ -1,38 +1,38 @@
--- The four kinds of step keep the rule, and tell which row ran.
-use Rattle.std.proofs.Common.{◌≡◌, ◌≢◌, ℕ, ◌+◌, ◌*◌, ◌%◌, ◌<◌, ◌==◌, if◌then◌else◌, Bool, ℤ, sym, refl, ap, ◌∙◌, subst, arith, eq-eqb, ne_eqb, eqb-true}
+-- The four kinds of step lead on, and tell which row ran.
+use Rattle.std.proofs.Common.{◌≡◌, ◌≢◌, ℕ, ◌+◌, ◌*◌, ◌/◌, ◌%◌, ◌<◌, ◌==◌, if◌then◌else◌, Bool, ℤ, [], ◌∷◌, ◌++◌, sym, refl, ap, ◌∙◌, subst, arith, eq-eqb, ne_eqb, eqb-true}
 use Rattle.std.specs.Prelude.{FitsSigned}
 use Rattle.std.specs.Int.{w32, cast_signed, cast_unsigned}
 use Rattle.std.proofs.lemmas.Int.{ints, to_z-of_z}
 use Rattle.std.proofs.lemmas.Bool.Decides.{Decides-eqb, same_from_decides}
 use mathlib.Core.Option.{none}
 use prog.Atomic.{either}
-use Rattle.atomic_table.specs.Table as atomic
-use Rattle.atomic_table.proofs.Lists.{exchanged}
+use Rattle.running_rows.specs.Table as atomic
+use Rattle.running_rows.proofs.Lists.{exchanged}
 use Rattle.step_table.specs.declared.group_word.GroupWord.{GroupWord}
+use Rattle.step_table.specs.declared.standing.GroupRow.{GroupRow}
 use Rattle.step_table.specs.declared.standing.GroupRow.TheVariants.{G1, G2, G3, V1, V2, V3}
 use Rattle.step_table.specs.declared.standing.GroupNext.{GroupNext}
 use Rattle.step_table.specs.declared.standing.GroupNext.TheVariants.{Ends, Goes, Fails, Acquires, Releases}
-use Rattle.step_table.specs.Group.{group_row, plus, one_more, same_word}
+use Rattle.step_table.specs.Group.{group_row, plus, same_word}
 use Rattle.step_table.specs.GroupBits.{bits_of, word_in, high, bits_after, IsGroupWord}
 use Rattle.step_table.proofs.GroupBits.{the_group_words}
-use Rattle.sync_parts.specs.GroupRule.{Follows, IsKept}
-use Rattle.sync_parts.specs.GroupPlays.{Me, Token, Steps, stepped, load_row, word_carried, adds, loads, exchanges, stores}
-use Rattle.sync_parts.proofs.GroupKeeping.{allowed}
+use Rattle.running_rows.specs.Strides.{RanRow, here, goes, stores}
+use Rattle.running_rows.specs.Owing.{Owes}
+use Rattle.sync_parts.specs.declared.group_view.GroupKnown.{GroupKnown}
+use Rattle.sync_parts.specs.GroupRule.{Follows, group_rows}
+use Rattle.sync_parts.specs.GroupPlays.{Me, Token, Steps, step, stepped, load_row, at_row, at_add, at_load}
+use Rattle.sync_parts.proofs.GroupKeeping.{owes, led}
 
--- what is added to the word tells what is added to the counter
-same_added : (d e : ℤ) → FitsSigned w32 d → FitsSigned w32 e → high d ≡ high e → d ≡ e
-same_added d e d_fits e_fits same = sym (to_z-of_z w32 d d_fits)
-    ∙ ap (cast_signed w32) (halves (cast_unsigned w32 d) (cast_unsigned w32 e) same) ∙ to_z-of_z w32 e e_fits
-  where
-    halves : (a b : ℕ) → a * 4294967296 ≡ b * 4294967296 → a ≡ b
-    halves a b e = omega arith
+-- what was added to the high half is d
+pub begins_add : (d : ℤ) (more : ℕ) → FitsSigned w32 d → more ≡ high d → cast_signed w32 (more / 4294967296) ≡ d
+begins_add d more fits is = ap (cast_signed w32) (omega (arith, is)) ∙ to_z-of_z w32 d fits
 
-pub add_allowed : (seats slots id : ℕ) (m : Me) (d : ℤ) (more : ℕ) → FitsSigned w32 d → more ≡ high d → Follows m.0.next (G1 d)
-    → atomic.Allows (IsKept seats) slots id m 0 (λ n. (n + more) % 18446744073709551616) (adds (atomic.step slots 0 more 0 none) m)
-add_allowed seats slots id m d more fits is follows =
-    allowed seats slots id m (G1 d) (λ n. (n + more) % 18446744073709551616) (adds (atomic.step slots 0 more 0 none) m) follows
+pub add_owes : (seats slots : ℕ) (m : Me) (d : ℤ) (more : ℕ) → FitsSigned w32 d → more ≡ high d → Follows m.0.own.knows.next (G1 d)
+    → Owes group_rows seats m 0 (λ n. (n + more) % 18446744073709551616) (goes group_rows at_add (atomic.step slots 0 more 0 none) m)
+add_owes seats slots m d more fits is follows =
+    owes seats m (G1 d) follows (λ n. (n + more) % 18446744073709551616)
     (λ n below. ap (λ (k : ℕ). word_in ((n + k) % 18446744073709551616)) is ∙ the_group_words.shown n (G1 d) below tt)
-    (λ n below e e_fits same. ap (λ (x : ℤ). (stepped (G1 x) (word_in n) m.0, m.1)) (same_added d e fits e_fits (sym is ∙ same)))
+    (at_add (atomic.step slots 0 more 0 none)) (ap (λ (x : ℤ). at_row (G1 x) m.0.own.knows) (begins_add d more fits is))
 
 -- a load leaves the word
 load_keeps : (next : GroupNext) (w : GroupWord) → w ≡ (group_row (load_row next) w).0
@@ -47,49 +47,80 @@ load_keeps (Fails misuse) w = refl
 load_keeps Acquires w = refl
 load_keeps (Releases n) w = refl
 
-pub load_allowed : (seats slots id : ℕ) (m : Me) → Follows m.0.next (load_row m.0.next)
-    → atomic.Allows (IsKept seats) slots id m 0 (λ n. n) (loads (atomic.step slots 0 0 0 none) m)
-load_allowed seats slots id m follows =
-    allowed seats slots id m (load_row m.0.next) (λ n. n) (loads (atomic.step slots 0 0 0 none) m) follows
-    (λ n below. load_keeps m.0.next (word_in n)) (λ n below. refl)
+pub load_owes : (seats slots : ℕ) (m : Me) → Follows m.0.own.knows.next (load_row m.0.own.knows.next)
+    → Owes group_rows seats m 0 (λ n. n) (goes group_rows at_load (atomic.step slots 0 0 0 none) m)
+load_owes seats slots m follows =
+    owes seats m (load_row m.0.own.knows.next) follows (λ n. n) (λ n below. load_keeps m.0.own.knows.next (word_in n)) (at_load (atomic.step slots 0 0 0 none)) refl
 
-pub exchange_allowed : (seats slots id : ℕ) (m : Me) (seen : GroupWord) (old new : ℕ) → IsGroupWord seen → m.0.next ≡ Goes (V2 seen)
+-- a seat that goes to a row is at it
+standing : (row : GroupRow) (v : GroupKnown) → v.next ≡ Goes row → v ≡ at_row row v
+standing row v e i = record v { next = e i }
+
+pub exchange_owes : (seats slots : ℕ) (m : Me) (seen : GroupWord) (old new : ℕ) → IsGroupWord seen → m.0.own.knows.next ≡ Goes (V2 seen)
     → old ≡ bits_of seen → new ≡ (old + 1) % 18446744073709551616
-    → atomic.Allows (IsKept seats) slots id m 0 (λ n. either (n == old) new n) (exchanges (atomic.step slots 0 old new none) m)
-exchange_allowed seats slots id m seen old new is at old_is new_is =
-    allowed seats slots id m (V2 carried) (λ n. either (n == old) new n) (exchanges (atomic.step slots 0 old new none) m)
-    (subst (λ (k : GroupNext). Follows k (V2 (word_carried k))) (sym at) refl)
-    (λ n below. ap word_in (exchanged n old new (λ y. y ≡ bits_after (V2 carried) n) (won n) (lost n))
-    ∙ the_group_words.shown n (V2 carried) below is_carried)
-    (λ n below first second. refl)
+    → Owes group_rows seats m 0 (λ n. either (n == old) new n) (goes group_rows (λ st. here) (atomic.step slots 0 old new none) m)
+exchange_owes seats slots m seen old new is at old_is new_is =
+    owes seats m (V2 seen) (subst (λ (k : GroupNext). Follows k (V2 seen)) (sym at) refl) (λ n. either (n == old) new n)
+    (λ n below. ap word_in (exchanged n old new (λ y. y ≡ bits_after (V2 seen) n) (won n) (lost n)) ∙ the_group_words.shown n (V2 seen) below is)
+    here (standing (V2 seen) m.0.own.knows at)
   where
-    carried : GroupWord
-    carried = word_carried m.0.next
-
-    carried_is : carried ≡ seen
-    carried_is = ap word_carried at
-
-    is_carried : IsGroupWord carried
-    is_carried = subst IsGroupWord (sym carried_is) is
-
-    bits_are : old ≡ bits_of carried
-    bits_are = old_is ∙ ap bits_of (sym carried_is)
-
-    won : (n : ℕ) → n ≡ old → new ≡ bits_after (V2 carried) n
+    won : (n : ℕ) → n ≡ old → new ≡ bits_after (V2 seen) n
     won n e = new_is ∙ ap (λ (k : ℕ). (k + 1) % 18446744073709551616) (sym e)
-        ∙ ap (λ (b : Bool). if b then (n + 1) % 18446744073709551616 else n) (sym (eq-eqb n (bits_of carried) (e ∙ bits_are)))
+        ∙ ap (λ (b : Bool). if b then (n + 1) % 18446744073709551616 else n) (sym (eq-eqb n (bits_of seen) (e ∙ old_is)))
 
-    lost : (n : ℕ) → n ≢ old → n ≡ bits_after (V2 carried) n
+    lost : (n : ℕ) → n ≢ old → n ≡ bits_after (V2 seen) n
     lost n ne = ap (λ (b : Bool). if b then (n + 1) % 18446744073709551616 else n)
-        (sym (ne_eqb n (bits_of carried) (λ e. ne (e ∙ sym bits_are))))
+        (sym (ne_eqb n (bits_of seen) (λ e. ne (e ∙ sym old_is))))
 
-pub store_allowed : (seats slots id : ℕ) (m : Me) (seen : GroupWord) → m.0.next ≡ Goes (G3 seen)
-    → atomic.Allows (IsKept seats) slots id m 0 (λ _. 0) (λ _. stores (atomic.step slots 0 0 0 none) m 0)
-store_allowed seats slots id m seen at =
-    allowed seats slots id m (G3 (word_carried m.0.next)) (λ _. 0) (λ _. stores (atomic.step slots 0 0 0 none) m 0)
-    (subst (λ (k : GroupNext). Follows k (G3 (word_carried k))) (sym at) refl)
-    (λ n below. refl)
-    (λ n below zero. (word_in n, the_group_words.words n below, refl))
+pub store_owes : (seats slots : ℕ) (m : Me) (seen : GroupWord) → m.0.own.knows.next ≡ Goes (G3 seen)
+    → Owes group_rows seats m 0 (λ _. 0) (λ _. stores group_rows (λ st. here) (atomic.step slots 0 0 0 none) m 0)
+store_owes seats slots m seen at s words homes stands =
+    let o = led seats m (G3 seen) (subst (λ (k : GroupNext). Follows k (G3 seen)) (sym at) refl) (λ _. 0) (λ n below. refl) s words homes stands
+    here (standing (G3 seen) m.0.own.knows at) in record {
+      next = o.next;
+      own = o.own;
+      act = o.act;
+      valid = o.valid;
+      shows = o.shows;
+      same = o.same;
+      of_is = o.of_is;
+      knows = o.knows;
+      others = o.others;
+      tells = (_, o.tells);
+    }
+
+-- what a step of this row told
+pub ran_steps : (s t : Token) (begin : GroupKnown → GroupKnown) (row : GroupRow) (n : ℕ) → (begin s.me.0.own.knows).next ≡ Goes row
+    → t.table_id ≡ s.table_id → RanRow group_rows begin s.me n t.me → Steps s row (word_in n) t
+ran_steps s t begin row n begins table told = record {
+  word = subst IsGroupWord told.0.read told.0.also.word;
+  table_is = table;
+  me_is = told.1 ∙ (λ i. (record s.me.0 { own = own_is i }, s.me.1));
+}
+  where
+    goes_to : GroupNext → GroupRow
+    goes_to (Goes r) = r
+    goes_to _ = row
+
+    row_is : told.0.stride.row ≡ row
+    row_is = ap goes_to (sym told.0.also.row ∙ begins)
+
+    stride_is : told.0.stride ≡ step row (word_in n)
+    stride_is i = record { row = row_is i; found = told.0.read i }
+
+    own_is : t.me.0.own ≡ (stepped row (word_in n) s.me.0).own
+    own_is i = record {
+      number = told.0.same.0 i;
+      knows = record {
+        seats = told.0.same.1 i;
+        next = (told.0.also.next ∙ (λ j. (group_row (row_is j) (told.0.read j)).1)) i;
+      };
+      gone = (told.0.one ∙ (λ j. s.me.0.own.gone ++ stride_is j ∷ [])) i;
+    }
+
+-- a token is somebody's whose words have as many seats as another's
+pub still_some : {a b : ℕ} → b ≡ a → 0 < a → 0 < b
+still_some e some = subst (λ n. 0 < n) (sym e) some
 
 -- the bits of d moved up by 32
 shifted : (k : ℕ) → k < 4294967296 → (k * 4294967296) % 18446744073709551616 ≡ k * 4294967296
@@ -114,15 +145,3 @@ pub won_is : (seen : GroupWord) (n bits : ℕ) → IsGroupWord seen → n < 1844
 won_is seen n bits is below e =
     swapped n bits ∙ (λ i. e i == (sym (the_group_words.forth n below)) i)
     ∙ sym (the_group_words.same seen (word_in n) is (the_group_words.words n below))
-
-pub counted : (s t : Token) (seen : GroupWord) (n bits : ℕ) → IsGroupWord seen → s.me.0.next ≡ Goes (V2 seen)
-    → bits ≡ bits_of seen → n < 18446744073709551616
-    → t.table_id ≡ s.table_id → exchanges (atomic.step 0 0 bits ((bits + 1) % 18446744073709551616) none) s.me n t.me
-    → Steps s (V2 seen) (word_in n) t
-counted s t seen n bits is at e below table told = record {
-  word = the_group_words.words n below;
-  table_is = table;
-  me_is = subst (λ (w : GroupWord). bits ≡ bits_of w → (bits + 1) % 18446744073709551616 ≡ bits_of (one_more w)
-      → t.me ≡ (stepped (V2 w) (word_in n) s.me.0, s.me.1))
-      (ap word_carried at) told e (ap (λ (k : ℕ). (k + 1) % 18446744073709551616) e ∙ sym (the_group_words.waits seen is));
-}

@@ -20,10 +20,10 @@ use Rattle.step_table.specs.GroupBits.{IsGroupWord}
 use Rattle.step_table.specs.GroupPath.{GroupPath, GroupRan, GroupStride, going, ran_row}
 use Rattle.step_table.proofs.GroupPaths.{the_group_paths}
 use Rattle.sync_parts.specs.declared.group_view.GroupStep.{GroupStep}
-use Rattle.sync_parts.specs.GroupRule.{Follows}
+use Rattle.sync_parts.specs.GroupRule.{Follows, stride_of}
 use Rattle.sync_parts.specs.GroupPlays.{Me, Token, Steps, step, load_row}
 use Rattle.sync_parts.specs.GroupSeats.{is_free, group_seat_of}
-use Rattle.sync_parts.specs.GroupCalls.{stride_of, Walks, IsUncounted, IsCounted}
+use Rattle.sync_parts.specs.GroupCalls.{Walks, IsUncounted, IsCounted}
 use Rattle.sync_parts.specs.GroupWalks.{Walked, GetsCounted, FindsZero}
 
 -- one row more
@@ -60,10 +60,11 @@ free_adds (Releases n) d e = tt
 pub record LooksOn (s : Token) (first : GroupRow) (t : Token) : Type 0 where
   pub before : List GroupStep
   pub table_is : t.table_id ≡ s.table_id
-  pub number_is : t.me.0.number ≡ s.me.0.number
-  pub steps_are : t.me.0.steps ≡ s.me.0.steps ++ before
+  pub number_is : t.me.0.own.number ≡ s.me.0.own.number
+  pub seats_is : t.me.0.own.knows.seats ≡ s.me.0.own.knows.seats
+  pub steps_are : t.me.0.own.gone ≡ s.me.0.own.gone ++ before
   pub path : (number : ℕ) → Walks number first before (Goes V1)
-  pub look : load_row t.me.0.next ≡ V1
+  pub look : load_row t.me.0.own.knows.next ≡ V1
 
 -- a wait has found this word, and is to be counted in it
 abbrev pub IsToCount : Token → GroupRow → GroupWord → Token → Type 0
@@ -84,17 +85,18 @@ pub lost_follows : (next : GroupNext) → next ≡ Goes V1 → Follows next (loa
 lost_follows next at = subst (λ (k : GroupNext). Follows k (load_row k)) (sym at) refl
 
 -- a further look
-module _ (s : Token) (first : GroupRow) (t u : Token) (x : LooksOn s first t) (word : GroupWord) (y : Steps t (load_row t.me.0.next) word u) where
+module _ (s : Token) (first : GroupRow) (t u : Token) (x : LooksOn s first t) (word : GroupWord) (y : Steps t (load_row t.me.0.own.knows.next) word u) where
   looked : Steps t V1 word u
   looked = subst (λ (row : GroupRow). Steps t row word u) x.look y
 
   looks : (next : GroupNext) → (group_row V1 word).1 ≡ next → Walked s first (x.before ++ step V1 word ∷ []) next u
   looks next leads = record {
     table_is = looked.table_is ∙ x.table_is;
-    number_is = ap (λ (m : Me). m.0.number) looked.me_is ∙ x.number_is;
-    steps_are = ap (λ (m : Me). m.0.steps) looked.me_is ∙ ap (λ (l : List GroupStep). l ++ step V1 word ∷ []) x.steps_are
-        ∙ append_assoc s.me.0.steps x.before (step V1 word ∷ []);
-    next_is = ap (λ (m : Me). m.0.next) looked.me_is ∙ leads;
+    number_is = ap (λ (m : Me). m.0.own.number) looked.me_is ∙ x.number_is;
+    seats_is = ap (λ (m : Me). m.0.own.knows.seats) looked.me_is ∙ x.seats_is;
+    steps_are = ap (λ (m : Me). m.0.own.gone) looked.me_is ∙ ap (λ (l : List GroupStep). l ++ step V1 word ∷ []) x.steps_are
+        ∙ append_assoc s.me.0.own.gone x.before (step V1 word ∷ []);
+    next_is = ap (λ (m : Me). m.0.own.knows.next) looked.me_is ∙ leads;
     path = λ number. subst (λ (k : GroupNext). Walks number first (x.before ++ step V1 word ∷ []) k) leads
         (walks_more number first x.before V1 word looked.word (x.path number));
   }
@@ -111,10 +113,11 @@ module _ (s : Token) (first : GroupRow) (word : GroupWord) (t u : Token) (x : Is
   tried : (next : GroupNext) → (group_row (V2 word) found).1 ≡ next → Walked s first (x.0 ++ step (V2 word) found ∷ []) next u
   tried next leads = record {
     table_is = y.table_is ∙ x.1.table_is;
-    number_is = ap (λ (m : Me). m.0.number) y.me_is ∙ x.1.number_is;
-    steps_are = ap (λ (m : Me). m.0.steps) y.me_is ∙ ap (λ (l : List GroupStep). l ++ step (V2 word) found ∷ []) x.1.steps_are
-        ∙ append_assoc s.me.0.steps x.0 (step (V2 word) found ∷ []);
-    next_is = ap (λ (m : Me). m.0.next) y.me_is ∙ leads;
+    number_is = ap (λ (m : Me). m.0.own.number) y.me_is ∙ x.1.number_is;
+    seats_is = ap (λ (m : Me). m.0.own.knows.seats) y.me_is ∙ x.1.seats_is;
+    steps_are = ap (λ (m : Me). m.0.own.gone) y.me_is ∙ ap (λ (l : List GroupStep). l ++ step (V2 word) found ∷ []) x.1.steps_are
+        ∙ append_assoc s.me.0.own.gone x.0 (step (V2 word) found ∷ []);
+    next_is = ap (λ (m : Me). m.0.own.knows.next) y.me_is ∙ leads;
     path = λ number. subst (λ (k : GroupNext). Walks number first (x.0 ++ step (V2 word) found ∷ []) k) leads
         (walks_more number first x.0 (V2 word) found y.word (x.1.path number));
   }
@@ -130,6 +133,7 @@ module _ (s : Token) (first : GroupRow) (word : GroupWord) (t u : Token) (x : Is
     before = x.0 ++ step (V2 word) found ∷ [];
     table_is = (lost e).table_is;
     number_is = (lost e).number_is;
+    seats_is = (lost e).seats_is;
     steps_are = (lost e).steps_are;
     path = (lost e).path;
     look = ap load_row (lost e).next_is;
@@ -141,8 +145,9 @@ module _ (s t : Token) (word : GroupWord) (some : word.counter ≢ pos 0) (y : S
       → Walked s V1 (step V1 word ∷ steps) next u
   begun steps next u x = record {
     table_is = x.table_is ∙ y.table_is;
-    number_is = x.number_is ∙ ap (λ (m : Me). m.0.number) y.me_is;
-    steps_are = x.steps_are ∙ ap (λ (m : Me). m.0.steps ++ steps) y.me_is ∙ append_assoc s.me.0.steps (step V1 word ∷ []) steps;
+    number_is = x.number_is ∙ ap (λ (m : Me). m.0.own.number) y.me_is;
+    seats_is = x.seats_is ∙ ap (λ (m : Me). m.0.own.knows.seats) y.me_is;
+    steps_are = x.steps_are ∙ ap (λ (m : Me). m.0.own.gone ++ steps) y.me_is ∙ append_assoc s.me.0.own.gone (step V1 word ∷ []) steps;
     next_is = x.next_is;
     path = λ number. (
       going (Goes (V2 word)),
@@ -159,25 +164,26 @@ module _ (s t : Token) (word : GroupWord) (some : word.counter ≢ pos 0) (y : S
   then_zero u x = (step V1 word ∷ x.0, x.1, x.2, begun (x.0 ++ step V1 x.1 ∷ []) Ends u x.3)
 
 -- a wait that found 0 at once
-pub zero_at_once : (s : Token) → is_free s.me.0.next ≡ true → (word : GroupWord) → word.counter ≡ pos 0 → (t : Token)
-    → Steps s (load_row s.me.0.next) word t → FindsZero s V1 t
+pub zero_at_once : (s : Token) → is_free s.me.0.own.knows.next ≡ true → (word : GroupWord) → word.counter ≡ pos 0 → (t : Token)
+    → Steps s (load_row s.me.0.own.knows.next) word t → FindsZero s V1 t
 zero_at_once s free word zero t y = finds_zero s V1 s t
     record {
       before = [];
       table_is = refl;
       number_is = refl;
-      steps_are = sym (append-nil s.me.0.steps);
+      seats_is = refl;
+      steps_are = sym (append-nil s.me.0.own.gone);
       path = λ number. refl;
-      look = (free_look s.me.0.next free).0;
+      look = (free_look s.me.0.own.knows.next free).0;
     } word y zero
 
-pub first_look : (s : Token) → is_free s.me.0.next ≡ true → (word : GroupWord) → (t : Token)
-    → Steps s (load_row s.me.0.next) word t → Steps s V1 word t
-first_look s free word t y = subst (λ (row : GroupRow). Steps s row word t) (free_look s.me.0.next free).0 y
+pub first_look : (s : Token) → is_free s.me.0.own.knows.next ≡ true → (word : GroupWord) → (t : Token)
+    → Steps s (load_row s.me.0.own.knows.next) word t → Steps s V1 word t
+first_look s free word t y = subst (λ (row : GroupRow). Steps s row word t) (free_look s.me.0.own.knows.next free).0 y
 
 pub goes_to_count : (s : Token) (word : GroupWord) (t : Token) → word.counter ≢ pos 0 → Steps s V1 word t
-    → t.me.0.next ≡ Goes (V2 word)
-goes_to_count s word t some y = ap (λ (m : Me). m.0.next) y.me_is ∙ leads_on word some
+    → t.me.0.own.knows.next ≡ Goes (V2 word)
+goes_to_count s word t some y = ap (λ (m : Me). m.0.own.knows.next) y.me_is ∙ leads_on word some
 
 -- a wait that found 0 was never counted
 pub uncounted : (s t : Token) (a : SeatModel) → FindsZero s V1 t → IsUncounted (group_seat_of s a) (group_seat_of t a)
@@ -205,7 +211,7 @@ acquired_number a b (inr x) = ap (λ (q : SeatModel). q.number) x.2.0 ∙ ap (λ
 
 -- a wait that was counted, acquired, and looked again
 module _ (s u v : Token) (a b : SeatModel) (counted : GetsCounted s V1 u) (acquired : IsAcquired a 0 false b) (word : GroupWord)
-    (y : Steps u (load_row u.me.0.next) word v) where
+    (y : Steps u (load_row u.me.0.own.knows.next) word v) where
   again : Steps u V3 word v
   again = subst (λ (row : GroupRow). Steps u row word v) (ap load_row counted.1.next_is) y
 
@@ -214,8 +220,8 @@ module _ (s u v : Token) (a b : SeatModel) (counted : GetsCounted s V1 u) (acqui
     before = counted.0;
     ran = record {
       group = λ i. record { word = (again.table_is ∙ w.table_is) i; sema = same_table a b acquired i };
-      steps_are = ap (λ (m : Me). m.0.steps) again.me_is ∙ ap (λ (l : List GroupStep). l ++ step V3 word ∷ []) w.steps_are
-          ∙ append_assoc s.me.0.steps counted.0 (step V3 word ∷ []);
+      steps_are = ap (λ (m : Me). m.0.own.gone) again.me_is ∙ ap (λ (l : List GroupStep). l ++ step V3 word ∷ []) w.steps_are
+          ∙ append_assoc s.me.0.own.gone counted.0 (step V3 word ∷ []);
     };
     path = w.path a.number;
     acquired = acquired;
@@ -233,3 +239,13 @@ module _ (s u v : Token) (a b : SeatModel) (counted : GetsCounted s V1 u) (acqui
     is_counted (Fails Reused)
         (ap (λ (c : Bool). if c then Ends else Fails Reused) e),
   )
+
+-- a wait that was counted is over after its last look
+pub free_after : (s : Token) (row : GroupRow) (u v : Token) (word : GroupWord) → GetsCounted s row u → Steps u (load_row u.me.0.own.knows.next) word v
+    → is_free v.me.0.own.knows.next ≡ true
+free_after s row u v word counted y = ap (λ (m : Me). is_free m.0.own.knows.next) y.me_is
+    ∙ ap (λ (next : GroupNext). is_free (group_row (load_row next) word).1) counted.1.next_is ∙ by (same_word word empty_word)
+  where
+    by : (b : Bool) → is_free (if b then Ends else Fails Reused) ≡ true
+    by true = refl
+    by false = refl

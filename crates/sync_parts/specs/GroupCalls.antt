@@ -10,17 +10,14 @@ use Rattle.step_table.specs.declared.standing.GroupRow.TheVariants.{G1, V1, V3}
 use Rattle.step_table.specs.declared.standing.GroupNext.{GroupNext}
 use Rattle.step_table.specs.declared.standing.GroupNext.TheVariants.{Ends, Goes, Fails, Acquires, Releases}
 use Rattle.step_table.specs.Group.{empty_word, plus}
-use Rattle.step_table.specs.GroupPath.{GroupPath, GroupStride, going, ran_row}
+use Rattle.step_table.specs.GroupPath.{GroupPath, going}
 use Rattle.sema_table.specs.declared.answers.Wake.{Wake}
 use Rattle.sema_table.specs.Seats.{SeatModel}
 use Rattle.sema_table.specs.Whole.{IsAcquired, IsReleased}
 use Rattle.sync_parts.specs.declared.group_view.GroupStep.{GroupStep}
+use Rattle.sync_parts.specs.GroupRule.{stride_of}
 use Rattle.sync_parts.specs.GroupPlays.{step}
 use Rattle.sync_parts.specs.GroupSeats.{GroupSeatModel}
-
--- a row that ran, as a stride of the step table
-abbrev pub stride_of : GroupStep → GroupStride
-stride_of p = ran_row p.row p.found
 
 -- these rows are one path of the step table from this row on, and led here
 abbrev pub Walks : ℕ → GroupRow → List GroupStep → GroupNext → Type 0

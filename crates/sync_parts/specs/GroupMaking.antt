@@ -4,8 +4,15 @@ use Rattle.sema_table.specs.declared.setup_error.SetupError.{SetupError}
 use Rattle.sema_table.specs.declared.setup_error.SetupError.TheVariants.{Seats, NoMemory}
 use Rattle.sema_table.specs.Seats.{SeatModel}
 use Rattle.sema_table.specs.Making.{IsFromOne, IsOutside, most_seats, new_seats}
-use Rattle.atomic_table.specs.Seated.{TableId}
+use Rattle.running_rows.specs.Seated.{TableId}
+use Rattle.running_rows.specs.Rule.{first_view}
+use Rattle.sync_parts.specs.GroupRule.{group_rows}
+use Rattle.sync_parts.specs.GroupPlays.{GroupView}
 use Rattle.sync_parts.specs.GroupSeats.{GroupModel, GroupSeatModel, group_setting}
+
+-- the view of the seat 0 as it has made so many of these seats, itself among them
+abbrev pub has_made : ℕ → ℕ → GroupView
+has_made seats made = record (first_view group_rows seats) { made = made }
 
 -- a seat of this state word that has run nothing on it
 abbrev pub seat_on : TableId → SeatModel → GroupSeatModel

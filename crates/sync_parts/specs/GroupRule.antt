@@ -1,17 +1,20 @@
--- The rule of a state word: there is one history of rows, each of which found the word that those before it left, and each seat
--- has run its own of them, call after call. Nobody but a seat runs any, and there are so many seats at most.
-use Rattle.std.specs.Prelude.{◌≡◌, ℕ, ◌+◌, ◌≤◌, ◌<◌, ◌==◌, if◌then◌else◌, List, [], ◌∷◌, length, slice_index}
-use mathlib.Core.Option.{some}
-use lib.ListN.{get_elem?}
-use Rattle.atomic_table.specs.Table.{State}
+-- The rows of a state word: there is one history of them, each of which found the word that those before it left, and each seat has
+-- run its own of them, call after call. Nobody but a seat runs any, and there are so many seats at most.
+use Rattle.std.specs.Prelude.{◌≡◌, ℕ, ◌<◌, ◌==◌, if◌then◌else◌, false, refl, List, [], ◌∷◌, length, slice_index}
 use Rattle.step_table.specs.declared.group_word.GroupWord.{GroupWord}
 use Rattle.step_table.specs.declared.standing.GroupRow.{GroupRow}
 use Rattle.step_table.specs.declared.standing.GroupRow.TheVariants.{G1, V1, V3}
 use Rattle.step_table.specs.declared.standing.GroupNext.{GroupNext}
 use Rattle.step_table.specs.declared.standing.GroupNext.TheVariants.{Ends, Goes, Acquires}
+use Rattle.step_table.specs.World.{put}
+use Rattle.step_table.specs.Path.{Watched}
 use Rattle.step_table.specs.Group.{empty_word, group_row}
-use Rattle.step_table.specs.GroupBits.{word_in}
-use Rattle.sync_parts.specs.declared.group_view.GroupView.{GroupView}
+use Rattle.step_table.specs.GroupBits.{word_in, IsGroupWord}
+use Rattle.step_table.specs.GroupPath.{GroupStride, next_event, going, ran_row}
+use Rattle.running_rows.specs.declared.view.Seated.{Seated}
+use Rattle.running_rows.specs.Family.{Family}
+use Rattle.running_rows.specs.Rule.{In}
+use Rattle.sync_parts.specs.declared.group_view.GroupKnown.{GroupKnown}
 use Rattle.sync_parts.specs.declared.group_view.GroupStep.{GroupStep}
 
 -- the first row of an add, and of a wait
@@ -47,31 +50,75 @@ abbrev pub steps_of : ℕ → List Moment → List GroupStep
 steps_of j [] = []
 steps_of j (m ∷ history) = if m.seat == j then m.step ∷ steps_of j history else steps_of j history
 
--- a seat that has run nothing; the seat 0 makes the others, in order
-abbrev pub fresh : ℕ → ℕ → GroupView
-fresh number made = record { number = number; made = made; next = Ends; steps = [] }
-
--- this is the view of the seat j. The seat's rows are those of the view, which are of calls
-pub record HasRun (history : List Moment) (j : ℕ) (v : GroupView) : Type 0 where
-  pub number_is : v.number ≡ j
-  pub own : steps_of j history ≡ v.steps
-  pub calls : AreCalls Ends v.steps v.next
-
--- the rule. Each token is a seat, whose number is its place in the table. Those that the seat 0 hasn't made yet have run nothing
-pub record IsKept (seats : ℕ) (s : State ℕ GroupView) : Type 0 where
+-- a state word, where each seat goes, and all rows that ran, of which the rows know nothing
+pub record GroupLife : Type 0 where
+  pub word : GroupWord
+  pub nexts : ℕ → GroupNext
   pub history : List Moment
-  pub leads : Leads empty_word history (word_in (slice_index s.words 0))
-  pub views : (j : ℕ) (v : GroupView) → get_elem? s.views j ≡ some v → HasRun history j v
-  pub others : (j : ℕ) → length s.views ≤ j → steps_of j history ≡ []
-  pub maker : (j : ℕ) (v : GroupView) → get_elem? s.views j ≡ some v → 0 < v.made → (j ≡ 0) × (v.made ≡ length s.views)
-  pub fits : length s.views ≤ seats
-  pub wide : 0 < length s.words
 
-abbrev pub first_view : GroupView
-first_view = fresh 0 1
+-- one group, whose word may be any of 64 bits
+abbrev pub living_group : Watched GroupLife (Unit {0}) GroupWord GroupNext GroupNext ⊥
+living_group = record {
+  rules = record {
+    event_of = λ s i. next_event (s.nexts i);
+    found = λ s g. s.word;
+    after = λ s i g w next. record s { word = w; nexts = put s.nexts i next };
+  };
+  seat = λ s. s.nexts;
+  journal = λ s. [];
+  met = λ s. IsGroupWord s.word;
+  own = λ i e. false;
+}
 
-abbrev pub making : GroupView → GroupView
-making v = record v { made = v.made + 1 }
+-- the word is what the history left, and all its rows are those of seats that are there
+pub record ShowsLife (seats : ℕ) (s : GroupLife) (words : List ℕ) : Type 0 where
+  pub word_is : word_in (slice_index words 0) ≡ s.word
+  pub leads : Leads empty_word s.history s.word
+  pub there : (m : Moment) → In m s.history → m.seat < seats
+  pub wide : 0 < length words
 
-abbrev pub made_by : GroupView → GroupView
-made_by v = fresh v.made 0
+-- the seat's rows are those that it has gone, which are of calls
+pub record HasRun (u : Seated GroupKnown GroupStep) (s : GroupLife) : Type 0 where
+  pub own : steps_of u.number s.history ≡ u.gone
+  pub calls : AreCalls Ends u.gone u.knows.next
+
+-- the row led on from where the seat stood
+pub record LedOn (v : GroupKnown) (p : GroupStep) (w : GroupKnown) : Type 0 where
+  pub word : IsGroupWord p.found
+  pub row : v.next ≡ Goes p.row
+  pub next : w.next ≡ (group_row p.row p.found).1
+
+abbrev pub idle : ℕ → GroupKnown
+idle seats = record { seats = seats; next = Ends }
+
+-- a row that ran, as a stride of the step table
+abbrev pub stride_of : GroupStep → GroupStride
+stride_of p = ran_row p.row p.found
+
+abbrev pub group_rows : Family (Unit {0}) GroupKnown GroupStep ℕ
+group_rows = record {
+  Key = ℕ;
+  World = GroupLife;
+  Word = Unit {0};
+  Value = GroupWord;
+  Next = GroupNext;
+  Stands = GroupNext;
+  Entry = ⊥;
+  key = λ seats. seats;
+  seats = λ seats. seats;
+  of = λ v. v.seats;
+  watched = λ seats. living_group;
+  sight = λ v. going v.next;
+  stride = stride_of;
+  value = word_in;
+  word_at = λ seats i. tt;
+  fresh = idle;
+  nobody = idle 0;
+  Shows = λ seats s words homes. ShowsLife seats s words;
+  Knows = λ seats. HasRun;
+  IsHeld = λ v slot y. ⊥;
+  Also = λ s i. LedOn;
+  HasStored = λ seats p i x. ⊥;
+  fresh_is = λ seats. refl;
+  nobody_is = refl;
+}

@@ -1,6 +1,6 @@
 -- What a caller sees of a wait group, and of its seats.
-use Rattle.std.specs.Prelude.{◌≡◌, ℕ, Bool, true, false, ◌^◌, List, [], ◌∷◌}
-use Rattle.atomic_table.specs.Seated.{TableId}
+use Rattle.std.specs.Prelude.{◌≡◌, ℕ, ◌<◌, Bool, true, false, ◌^◌, List, [], ◌∷◌}
+use Rattle.running_rows.specs.Seated.{TableId}
 use Rattle.step_table.specs.declared.standing.GroupNext.{GroupNext}
 use Rattle.step_table.specs.declared.standing.GroupNext.TheVariants.{Goes, Acquires}
 use Rattle.sema_table.specs.declared.view.Setting.{Setting}
@@ -40,8 +40,9 @@ is_free _ = true
 
 -- what a seat keeps between two calls: none is under way, and it has one number on the state word and on the semaphore
 pub record IsGroupSeat (t : Token) (s : SeatModel) : Type 0 where
-  pub free : is_free t.me.0.next ≡ true
-  pub number : t.me.0.number ≡ s.number
+  pub some : 0 < t.me.0.own.knows.seats
+  pub free : is_free t.me.0.own.knows.next ≡ true
+  pub number : t.me.0.own.number ≡ s.number
 
 abbrev pub group_seat_of : Token → SeatModel → GroupSeatModel
-group_seat_of t s = record { group = record { word = t.table_id; sema = s.table }; sema = s; steps = t.me.0.steps }
+group_seat_of t s = record { group = record { word = t.table_id; sema = s.table }; sema = s; steps = t.me.0.own.gone }

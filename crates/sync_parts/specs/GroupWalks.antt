@@ -16,9 +16,10 @@ use Rattle.sync_parts.specs.GroupCalls.{Walks, IsAdded, IsWaited}
 -- these rows ran, one path from this row on, whichever number the seat has, and led here
 pub record Walked (s : Token) (row : GroupRow) (steps : List GroupStep) (next : GroupNext) (t : Token) : Type 0 where
   pub table_is : t.table_id ≡ s.table_id
-  pub number_is : t.me.0.number ≡ s.me.0.number
-  pub steps_are : t.me.0.steps ≡ s.me.0.steps ++ steps
-  pub next_is : t.me.0.next ≡ next
+  pub number_is : t.me.0.own.number ≡ s.me.0.own.number
+  pub seats_is : t.me.0.own.knows.seats ≡ s.me.0.own.knows.seats
+  pub steps_are : t.me.0.own.gone ≡ s.me.0.own.gone ++ steps
+  pub next_is : t.me.0.own.knows.next ≡ next
   pub path : (number : ℕ) → Walks number row steps next
 
 -- a wait was counted, from this row on

@@ -2,7 +2,7 @@
 ghost use Rattle.std.specs.Prelude.{◌≡◌, ◌+◌};
 ghost use Rattle.sema_law.specs.Balances.{added_by};
 
-use crate::group_plays::StateToken;
+use crate::group_rows::StateToken;
 use crate::state_word::StateWord;
 use sema_table::{Seat, SemaTable};
 use std::marker::Model;

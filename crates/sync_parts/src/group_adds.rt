@@ -9,7 +9,7 @@ ghost use Rattle.sync_parts.specs.GroupCalls.{HasReleased, IsAdded};
 ghost use Rattle.sync_parts.specs.GroupWalks.{Settles};
 
 use crate::group::{GroupSeat, WaitGroup};
-use crate::group_plays::StateToken;
+use crate::group_rows::StateToken;
 use sema_table::Seat;
 use std::sync::Wait;
 use step_table::{GroupWord, Misuse};
@@ -72,8 +72,9 @@ impl WaitGroup {
         word: GroupWord,
     ) -> (GroupSeat, Result<u32, Misuse>)
         requires own { (token.table_id ≡ self.now.word) × (sema.table ≡ self.now.sema) }
-        requires one { token.me.0.number ≡ sema.number }
-        requires leads { token.me.0.next ≡ after_add d word }
+        requires some { 0 < token.me.0.own.knows.seats }
+        requires one { token.me.0.own.number ≡ sema.number }
+        requires leads { token.me.0.own.knows.next ≡ after_add d word }
         requires left { word.waits ≤ sema.left }
         ensures { Settles token sema d word result.0 result.1 }
     {
@@ -91,8 +92,9 @@ impl WaitGroup {
         word: GroupWord,
     ) -> (GroupSeat, Result<u32, Misuse>)
         requires own { (token.table_id ≡ self.now.word) × (sema.table ≡ self.now.sema) }
-        requires one { token.me.0.number ≡ sema.number }
-        requires leads { token.me.0.next ≡ after_add d word }
+        requires some { 0 < token.me.0.own.knows.seats }
+        requires one { token.me.0.own.number ≡ sema.number }
+        requires leads { token.me.0.own.knows.next ≡ after_add d word }
         requires left { word.waits ≤ sema.left }
         ensures { Settles token sema d word result.0 result.1 }
     {
@@ -125,7 +127,7 @@ impl WaitGroup {
     /// for that of a new round.
     #[inline(never)]
     fn release_waits<R: Wait>(&self, rt: &R, _emptied: &StateToken, sema: Seat, waits: u32) -> Seat
-        requires emptied { _emptied.now.me.0.next ≡ Releases waits }
+        requires emptied { _emptied.now.me.0.own.knows.next ≡ Releases waits }
         requires own { sema.table ≡ self.now.sema }
         requires left { waits ≤ sema.left }
         ensures { HasReleased waits sema result }

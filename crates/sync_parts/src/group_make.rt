@@ -1,16 +1,18 @@
 //! How a wait group is made.
 ghost use Rattle.std.specs.Prelude.{◌≡◌, ◌<◌, [], All, IfOk, IfErr, map};
 ghost use Rattle.std.specs.List.{range_with_len};
-ghost use Rattle.sync_parts.specs.GroupRule.{fresh, first_view, making};
+ghost use Rattle.sync_parts.specs.GroupRule.{group_rows};
+ghost use Rattle.running_rows.specs.Rule.{first_view, making, fresh_seat};
+ghost use Rattle.running_rows.specs.Sitting.{lone};
 ghost use Rattle.sema_table.specs.Rule.{setting_of};
 ghost use Rattle.sema_table.specs.Making.{IsFromOne, most_seats};
 ghost use Rattle.sync_parts.specs.GroupSeats.{group_setting};
 ghost use Rattle.sync_parts.specs.GroupMaking.{seat_on, IsGroupMade, IsGroupRefused};
 
 use crate::group::{GroupSeat, WaitGroup};
-use crate::group_plays::{Makes, StateToken};
+use crate::group_rows::StateToken;
 use crate::state_word::StateWord;
-use atomic_table::Table;
+use running_rows::Running;
 use sema_table::{Seat, SemaTable, Settings, SetupError};
 use std::alloc::{AllocError, Global};
 
@@ -24,20 +26,22 @@ impl StateWord {
     fn new(alloc: Global, seats: u32) -> Result<(StateWord, StateToken), AllocError>
         requires { 0 < seats }
         ensures word { IfOk result (λ t. (t.1.table_id ≡ t.0.id) × (t.0.seats ≡ seats)) }
-        ensures first { IfOk result (λ t. t.1.me ≡ (first_view, [])) }
+        ensures first { IfOk result (λ t. t.1.me ≡ (first_view group_rows seats, [])) }
     {
-        let (table, token) = Table::of_words(alloc, &[0], &seats)?;
-        Ok((StateWord { table }, token))
+        let Ok((words, token)) = Running::new(alloc, &[0], Vec::new(alloc), &seats) else {
+            return Err(AllocError);
+        };
+        Ok((StateWord { words }, token))
     }
 
     /// The next seat of the word, made by its seat 0 while not all are made.
     fn split(&self, first: &mut StateToken) -> StateToken
         requires own { first.old.table_id ≡ self.now.id }
-        requires makes { (0 < first.old.me.0.made) × (first.old.me.0.made < self.now.seats) }
+        requires makes { (0 < first.old.me.0.made) × (first.old.me.0.made < first.old.me.0.own.knows.seats) }
         ensures first { (first.new.table_id ≡ self.now.id) × (first.new.me ≡ (making first.old.me.0, first.old.me.1)) }
-        ensures made { (result.table_id ≡ self.now.id) × (result.me ≡ (fresh first.old.me.0.made 0, [])) }
+        ensures made { (result.table_id ≡ self.now.id) × (result.me ≡ (lone (fresh_seat group_rows first.old.me.0.own.knows.seats first.old.me.0.made), [])) }
     {
-        self.table.shared.split_seat::<Makes>(first)
+        self.words.make_seat(first)
     }
 }
 
@@ -63,7 +67,8 @@ fn seat_all(
     first: StateToken,
     seats: Vec<Seat>,
 ) -> Result<Vec<GroupSeat>, AllocError>
-    requires first { (first.table_id ≡ word.now.id) × (first.me ≡ (first_view, [])) }
+    requires first { (first.table_id ≡ word.now.id) × (first.me ≡ (first_view group_rows word.now.seats, [])) }
+    requires some { 0 < word.now.seats }
     requires numbers { map (λ s. s.number) seats.items ≡ range_with_len 0 word.now.seats }
     ensures { IfOk result (λ made. made.items ≡ map (seat_on word.now.id) seats.items) }
 {

@@ -1,4 +1,4 @@
-//! What a seat of a wait group knows of the state word. A clause reads an array as a list, of any length.
+//! What a seat of a wait group knows of the state word.
 use step_table::{GroupNext, GroupRow, GroupWord};
 
 /// A row that a seat ran on the state word, and the word that it found. No value of it is made.
@@ -7,13 +7,10 @@ pub struct GroupStep {
     pub found: GroupWord,
 }
 
-/// The view of a seat. No value of it is made.
-pub struct GroupView {
-    pub number: u64,
-    /// Of the seat that makes the others, how many were made; of another 0.
-    pub made: u64,
-    /// What its last row led to.
+/// What a seat knows beside the rows that it ran. No value of it is made.
+pub struct GroupKnown {
+    /// How many seats the group has.
+    pub seats: u64,
+    /// What the seat's last row led to.
     pub next: GroupNext,
-    /// All rows that it ran.
-    pub steps: [GroupStep; 0],
 }

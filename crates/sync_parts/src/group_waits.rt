@@ -7,7 +7,7 @@ ghost use Rattle.sync_parts.specs.GroupCalls.{IsWaited};
 ghost use Rattle.sync_parts.specs.GroupWalks.{FindsZero, GetsCounted, Waits};
 
 use crate::group::{GroupSeat, WaitGroup};
-use crate::group_plays::StateToken;
+use crate::group_rows::StateToken;
 use crate::state_word::StateWord;
 use sema_table::Seat;
 use std::sync::Wait;
@@ -24,7 +24,8 @@ impl StateWord {
     /// V2 for the word that V1 found, and V1 again where V2 is lost, until one of them settles it: whether the wait is counted.
     fn count_unless_zero<R: Wait>(&self, rt: &R, token: &mut StateToken, word: GroupWord) -> bool
         requires own { token.old.table_id ≡ self.now.id }
-        requires looked { (token.old.me.0.next ≡ Goes (V2 word)) × IsGroupWord word }
+        requires some { 0 < token.old.me.0.own.knows.seats }
+        requires looked { (token.old.me.0.own.knows.next ≡ Goes (V2 word)) × IsGroupWord word }
         ensures { MatchBool result
             (GetsCounted token.old (V2 word) token.new)
             (FindsZero token.old (V2 word) token.new) }
@@ -73,8 +74,9 @@ impl WaitGroup {
         word: GroupWord,
     ) -> (GroupSeat, Result<(), Misuse>)
         requires own { (token.table_id ≡ self.now.word) × (sema.table ≡ self.now.sema) }
-        requires one { token.me.0.number ≡ sema.number }
-        requires looked { (token.me.0.next ≡ Goes (V2 word)) × IsGroupWord word }
+        requires some { 0 < token.me.0.own.knows.seats }
+        requires one { token.me.0.own.number ≡ sema.number }
+        requires looked { (token.me.0.own.knows.next ≡ Goes (V2 word)) × IsGroupWord word }
         ensures { Waits token sema word result.0 result.1 }
     {
         self.wait_until_zero(rt, token, sema.rebuilt(), word)
@@ -90,8 +92,9 @@ impl WaitGroup {
         word: GroupWord,
     ) -> (GroupSeat, Result<(), Misuse>)
         requires own { (token.table_id ≡ self.now.word) × (sema.table ≡ self.now.sema) }
-        requires one { token.me.0.number ≡ sema.number }
-        requires looked { (token.me.0.next ≡ Goes (V2 word)) × IsGroupWord word }
+        requires some { 0 < token.me.0.own.knows.seats }
+        requires one { token.me.0.own.number ≡ sema.number }
+        requires looked { (token.me.0.own.knows.next ≡ Goes (V2 word)) × IsGroupWord word }
         ensures { Waits token sema word result.0 result.1 }
     {
         let mut token = token;

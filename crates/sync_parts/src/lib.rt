@@ -35,7 +35,7 @@ mod cond;
 mod group;
 mod group_adds;
 mod group_make;
-mod group_plays;
+mod group_rows;
 mod group_view;
 mod group_waits;
 mod laws;

@@ -8,17 +8,16 @@ ghost use Rattle.step_table.specs.GroupBits.{bits_of, word_in, IsGroupWord};
 ghost use Rattle.sync_parts.specs.GroupRule.{Follows};
 ghost use Rattle.sync_parts.specs.GroupPlays.{load_row, Steps};
 
-use crate::group_plays::{Adds, Exchanges, Loads, OneHistory, StateToken, Stores};
-use crate::group_view::GroupView;
-use atomic_table::Table;
-use std::alloc::Global;
+use crate::group_rows::{AtAdd, AtLoad, GroupRows, StateToken};
+use crate::group_view::{GroupKnown, GroupStep};
+use running_rows::{Here, OneWorld, Running, View};
 use std::marker::Model;
 use step_table::GroupWord;
 
 /// The state word of a wait group. Each call of it is one atomic step.
 #[derive(Drop)]
 pub struct StateWord {
-    pub(crate) table: Table<u64, GroupView, u32, OneHistory, Global>,
+    pub(crate) words: Running<(), View<GroupKnown, GroupStep>, u32, OneWorld<GroupRows>>,
 }
 
 impl Model for StateWord {
@@ -27,9 +26,9 @@ impl Model for StateWord {
 
     ghost Value = { WordModel };
 
-    ghost view = { λ w. record { id = w.table.shared.table_id; seats = w.table.shared.key } };
+    ghost view = { λ w. record { id = w.words.table.shared.table_id; seats = w.words.table.shared.key } };
 
-    ghost invariant = { λ w. 0 < w.table.shared.table_id.words };
+    ghost invariant = { λ w. (0 < w.words.table.shared.table_id.words) × (0 < w.words.table.shared.key) };
 }
 
 /// The counter and the waits that the bits of a state word show.
@@ -52,37 +51,42 @@ fn bits_of(word: GroupWord) -> u64
 impl StateWord {
     /// G1: adds to the counter. The word that this left comes back.
     pub(crate) fn add(&self, token: &mut StateToken, d: i32) -> GroupWord
-        requires { (token.old.table_id ≡ self.now.id) × Follows token.old.me.0.next (G1 d) }
+        requires own { (token.old.table_id ≡ self.now.id) × Follows token.old.me.0.own.knows.next (G1 d) }
+        requires some { 0 < token.old.me.0.own.knows.seats }
         ensures { (found : GroupWord) × (result ≡ plus found d) × Steps token.old (G1 d) found token.new }
     {
         let more = u64::from(d.cast_unsigned()) << 32;
-        let found = self.table.shared.fetch_add::<Adds>(token, 0, more);
+        let found = self.words.add::<AtAdd>(token, 0, more);
         word_of(found.wrapping_add(more))
     }
 
     /// G2, V1 or V3: the word.
     pub(crate) fn load(&self, token: &mut StateToken) -> GroupWord
-        requires { (token.old.table_id ≡ self.now.id) × Follows token.old.me.0.next (load_row token.old.me.0.next) }
-        ensures { Steps token.old (load_row token.old.me.0.next) result token.new }
+        requires own { (token.old.table_id ≡ self.now.id) × Follows token.old.me.0.own.knows.next (load_row token.old.me.0.own.knows.next) }
+        requires some { 0 < token.old.me.0.own.knows.seats }
+        ensures { Steps token.old (load_row token.old.me.0.own.knows.next) result token.new }
     {
-        word_of(self.table.shared.load::<Loads>(token, 0))
+        word_of(self.words.load::<AtLoad>(token, 0))
     }
 
     /// V2: counts one more wait if the word is still that which was seen.
     pub(crate) fn count_wait(&self, token: &mut StateToken, seen: GroupWord) -> bool
-        requires { (token.old.table_id ≡ self.now.id) × (token.old.me.0.next ≡ Goes (V2 seen)) × IsGroupWord seen }
+        requires own { (token.old.table_id ≡ self.now.id) × (token.old.me.0.own.knows.next ≡ Goes (V2 seen)) × IsGroupWord seen }
+        requires some { 0 < token.old.me.0.own.knows.seats }
         ensures { (found : GroupWord) × (result ≡ same_word seen found) × Steps token.old (V2 seen) found token.new }
     {
         let bits = bits_of(seen);
-        let word = &self.table.shared;
-        word.compare_exchange::<Exchanges>(token, 0, bits, bits.wrapping_add(1)) == bits
+        self.words
+            .exchange::<Here>(token, 0, bits, bits.wrapping_add(1))
+            == bits
     }
 
     /// G3: stores 0. The seat has seen this word twice.
     pub(crate) fn empty(&self, token: &mut StateToken, seen: GroupWord)
-        requires { (token.old.table_id ≡ self.now.id) × (token.old.me.0.next ≡ Goes (G3 seen)) }
+        requires own { (token.old.table_id ≡ self.now.id) × (token.old.me.0.own.knows.next ≡ Goes (G3 seen)) }
+        requires some { 0 < token.old.me.0.own.knows.seats }
         ensures { (found : GroupWord) × Steps token.old (G3 seen) found token.new }
     {
-        self.table.shared.store::<Stores>(token, 0, 0);
+        self.words.store::<Here>(token, 0, 0);
     }
 }

@@ -1,5 +1,6 @@
+use Rattle.sema_table.specs.Rule.{setting_of}
 use Rattle.sema_table.proofs.Lawful.{the_table}
 use Rattle.sema_table.proofs.laws.law_of_the_table.Goals as goal
 
 pub returns : goal.returns
-returns c = the_table
+returns c = λ key. the_table (setting_of key)

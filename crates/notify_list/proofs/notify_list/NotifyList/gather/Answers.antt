@@ -1,39 +1,48 @@
-use Rattle.std.proofs.Common.{sym, ap, ◌∙◌}
+use Rattle.std.proofs.Common.{sym, ap, ◌∙◌, subst, arith}
+use Rattle.running_rows.specs.Rule.{IsSomeones}
+use Rattle.notify_list.specs.Rows.{list_rows}
 use Rattle.notify_list.specs.Plays.{Me}
-use Rattle.notify_list.specs.Seats.{ListModel}
-use Rattle.notify_list.proofs.Owned.{own, someones}
-use Rattle.notify_list.proofs.LookingTogether.{has_word}
-use Rattle.notify_list.proofs.Sitting.{forgets_kept, sits_kept}
+use Rattle.notify_list.proofs.Owned.{own, low_word, owned}
 use Rattle.notify_list.proofs.Gathering.{none_gathered, one_gathered, popped_own}
 use Rattle.notify_list.proofs.notify_list.NotifyList.gather.Goals as goal
 
-pub split_seat-requires : goal.split_seat-requires
-split_seat-requires c =
-    let s = c.first.inside.token in let at = own c.self.inside s c.first.inside.number c.self.view_is c.first.view_is c.requires.0 in (
-      ap (λ (t : ListModel). t.id) at,
-      has_word c.self.inside c.self.invariant,
-      forgets_kept _ _ s.me.0 (someones c.self.inside c.self.invariant s at),
-    )
+pub seat_alone-requires : goal.seat_alone-requires
+seat_alone-requires c = let x = c.self.inside in let s = c.first.inside.token in (
+  omega arith,
+  (owned x c.self.invariant s (own x s c.first.inside.number c.self.view_is c.first.view_is c.requires.0), low_word x c.self.invariant 0 (omega arith)),
+)
 
 pub loop-seat-init : goal.loop-seat-init
 loop-seat-init c =
-    let s = c.first.inside.token in let E = c.split_seat.ensures in
+    let s = c.first.inside.token in let E = c.seat_alone.ensures in
     let at = own c.self.inside s c.first.inside.number c.self.view_is c.first.view_is c.requires.0 in
-    none_gathered c.args.self.now c.args.seats.now.items c.split_seat.new.seat
-    ((λ i. record { id = E.0 i; setting = (E.2 i).0.setting }) ∙ at ∙ c.self.view_is) (ap (λ (m : Me). m.0.guests) E.2)
+    none_gathered c.args.self.now c.args.seats.now.items c.seat_alone.new.token
+    ((λ i. record { id = E.own i; setting = (E.alone i).0.own.knows.setting }) ∙ at ∙ c.self.view_is) (ap (λ (m : Me). m.0.guests) E.alone)
 
-pub join_seat-requires : goal.join_seat-requires
-join_seat-requires c =
-    let o = c.seat.inside.token in let inv = c.loop-seat.invariant in let mine = inv.own ∙ sym c.self.view_is in
-    let at = own c.self.inside o c.seat.inside.number c.self.view_is c.seat.view_is (popped_own c.args.self.now c.args.seats.now.items c.loop-seat.seats.items inv.gone c.pop.new.self.items c.in-Some.seat c.requires.1 inv.parts c.in-Some.ensures.items) in (
-      ap (λ (t : ListModel). t.id) mine,
-      ap (λ (t : ListModel). t.id) at,
-      c.seat.invariant.token_is.bare,
-      has_word c.self.inside c.self.invariant,
-      sits_kept _ _ _ _ _ (someones c.self.inside c.self.invariant c.loop-seat.token mine) (someones c.self.inside c.self.invariant o at),
+pub seat_alone-requires-in-Some : goal.seat_alone-requires-in-Some
+seat_alone-requires-in-Some c =
+    let x = c.self.inside in let o = c.seat.inside.token in let inv = c.loop-seat.invariant in
+    let at = own x o c.seat.inside.number c.self.view_is c.seat.view_is (popped_own c.args.self.now c.args.seats.now.items c.loop-seat.seats.items inv.gone c.pop.new.self.items c.in-Some.seat c.requires.1 inv.parts c.in-Some.ensures.items) in (
+      omega arith,
+      (owned x c.self.invariant o at, low_word x c.self.invariant 0 (omega arith)),
+    )
+
+pub seat_with-requires : goal.seat_with-requires
+seat_with-requires c =
+    let x = c.self.inside in let o = c.seat.inside.token in let inv = c.loop-seat.invariant in let E = c.seat_alone-in-Some.ensures in
+    let at = own x o c.seat.inside.number c.self.view_is c.seat.view_is (popped_own c.args.self.now c.args.seats.now.items c.loop-seat.seats.items inv.gone c.pop.new.self.items c.in-Some.seat c.requires.1 inv.parts c.in-Some.ensures.items) in
+    let his = owned x c.self.invariant o at in (
+      omega arith,
+      (
+        owned x c.self.invariant c.loop-seat.token (inv.own ∙ sym c.self.view_is),
+        (
+          (E.own ∙ his.0, subst (λ (m : Me). IsSomeones list_rows m.0) (sym E.alone) his.1, ap (λ (m : Me). m.1) E.alone ∙ c.seat.invariant.token_is.bare),
+          (ap (λ (m : Me). m.0.guests) E.alone, low_word x c.self.invariant 0 (omega arith)),
+        ),
+      ),
     )
 
 pub loop-seat-preserved : goal.loop-seat-preserved
 loop-seat-preserved c =
-    one_gathered c.args.self.now c.args.seats.now.items _ c.loop-seat.seats.items c.pop.new.self.items c.loop-seat.token c.join_seat.new.seat c.in-Some.seat c.seat.inside.token c.seat.inside.number
-    c.loop-seat.invariant c.in-Some.ensures.items c.seat.view_is c.seat.invariant c.join_seat.ensures.0 c.join_seat.ensures.2
+    one_gathered c.args.self.now c.args.seats.now.items _ c.loop-seat.seats.items c.pop.new.self.items c.loop-seat.token c.seat_with.new.token c.in-Some.seat c.seat.inside.token c.seat_alone-in-Some.new.token c.seat.inside.number
+    c.loop-seat.invariant c.in-Some.ensures.items c.seat.view_is c.seat.invariant (ap (λ (m : Me). m.0.own) c.seat_alone-in-Some.ensures.alone) c.seat_with.ensures.own c.seat_with.ensures.both

@@ -1,9 +1,8 @@
-use Rattle.notify_list.specs.Meeting.{guest_of}
 use Rattle.notify_list.proofs.Gathering.{Gathered}
 use Rattle.notify_list.proofs.notify_list.NotifyList.gather.Given as goal
 
 abbrev pub invariant-loop-seat : goal.invariant-loop-seat
-invariant-loop-seat l = Gathered l.fn.self l.initial.seats.items (guest_of l.initial.token.me.0) l.seats.items l.token
+invariant-loop-seat l = Gathered l.fn.self l.initial.seats.items l.initial.token.me.0.own l.seats.items l.token
 
 abbrev pub decreases-loop-seat : goal.decreases-loop-seat
 decreases-loop-seat l = goal.left-loop-seat l

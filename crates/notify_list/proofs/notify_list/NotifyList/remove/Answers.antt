@@ -3,11 +3,11 @@ use Rattle.notify_list.proofs.notify_list.NotifyList.remove.Goals as goal
 
 pub returns-in_default : goal.returns-in_default
 returns-in_default c =
-    let s = c.args.token.now in let y = c.slot_mut-record.result.now in let E = c.in_default.ensures in
-    out_none s y c.take_ticket.new.self c.args.ticket c.requires.1 (lent_record s y c.requires.1 c.slot_mut-record.ensures.value) E.first E.none
+    let s = c.args.token.now in let y = c.record_mut-record.result.now in let E = c.in_default.ensures in
+    out_none s y c.take_ticket.new.self c.args.ticket c.requires.1 (lent_record s y c.requires.1 c.record_mut-record.ensures.value) E.first E.none
 
 pub returns : goal.returns
 returns c =
-    let s = c.args.token.now in let y = c.slot_mut-record.result.now in let E = c.in-Some.ensures in
-    out_some s y c.take_ticket.new.self c.args.ticket c.number.result c.in-Some.wait c.requires.1 (lent_record s y c.requires.1 c.slot_mut-record.ensures.value)
+    let s = c.args.token.now in let y = c.record_mut-record.result.now in let E = c.in-Some.ensures in
+    out_some s y c.take_ticket.new.self c.args.ticket c.number.result c.in-Some.wait c.requires.1 (lent_record s y c.requires.1 c.record_mut-record.ensures.value)
     E.first E.rest E.room c.number.ensures

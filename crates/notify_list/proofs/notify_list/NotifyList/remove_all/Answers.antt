@@ -7,7 +7,7 @@ loop-seat-init c = none_emptied c.args.token.now c.args.hand.now.items c.require
 
 pub remove_first-requires : goal.remove_first-requires
 remove_first-requires c = let x = c.loop-seat.invariant in
-    ((λ i. record { id = x.table i; setting = (x.view i).setting }) ∙ c.requires.seat.0, (x.left, x.has))
+    ((λ i. record { id = x.table i; setting = (x.view i).own.knows.setting }) ∙ c.requires.seat.0, (x.left, x.has))
 
 pub push-requires : goal.push-requires
 push-requires c = let x = c.loop-seat.invariant in

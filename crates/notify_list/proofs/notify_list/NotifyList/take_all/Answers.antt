@@ -1,25 +1,27 @@
 use Rattle.std.proofs.Common.{map, sym, ap, ◌∙◌, arith}
 use Rattle.waiters.specs.declared.wait.Wait.{Wait}
-use Rattle.notify_list.specs.Seats.{ListModel}
-use Rattle.notify_list.proofs.Owned.{low_word, someones}
+use Rattle.notify_list.proofs.Owned.{low_word, owned}
+use Rattle.notify_list.proofs.Recording.{list_edited}
 use Rattle.notify_list.proofs.Emptying.{gives_all, taken_all, hand_after}
 use Rattle.notify_list.proofs.notify_list.NotifyList.take_all.Goals as goal
 
 pub remove_all-requires : goal.remove_all-requires
 remove_all-requires c = let may = c.requires.seat.2 in record { seat = (may.0.list_is, may.1, may.0.few); hand = c.requires.hand }
 
-pub store-requires : goal.store-requires
-store-requires c =
+pub give_lock-requires : goal.give_lock-requires
+give_lock-requires c =
     let x = c.self.inside in let s = c.args.token.now in let may = c.requires.seat.2 in let E = c.remove_all.ensures.edited in let at = may.0.list_is ∙ sym c.self.view_is in (
-      E.0 ∙ ap (λ (l : ListModel). l.id) at,
-      low_word x c.self.invariant 2 (omega arith),
-      gives_all c.args.self.now s c.requires.seat.0 c.requires.seat.1 may _ _ _ c.remove_all.new.token (someones x c.self.invariant s at) E,
+      omega arith,
+      (
+        owned x c.self.invariant c.remove_all.new.token (list_edited s c.remove_all.new.token _ E ∙ at),
+        (low_word x c.self.invariant 2 (omega arith), gives_all c.args.self.now s c.requires.seat.0 c.requires.seat.1 may _ c.remove_all.new.token E),
+      ),
     )
 
 pub returns-clause-taken : goal.returns-clause-taken
-returns-clause-taken c h n may = let S = c.store.ensures in
-    taken_all c.args.self.now c.args.token.now h n may c.remove_all.new.token c.store.new.seat c.remove_all.ensures.edited S.2.0 S.0 S.2.1
+returns-clause-taken c h n may = let S = c.give_lock.ensures in
+    taken_all c.args.self.now c.args.token.now h n may c.remove_all.new.token c.give_lock.new.token c.remove_all.ensures.edited S.went S.own
 
 pub returns-clause-hand : goal.returns-clause-hand
-returns-clause-hand c = let S = c.store.ensures in let may = c.requires.seat.2 in
-    c.remove_all.ensures.hand ∙ ap (map (λ (w : Wait). w.id.seat)) (sym (hand_after c.args.self.now c.args.token.now c.requires.seat.0 c.requires.seat.1 may c.remove_all.new.token c.store.new.seat c.remove_all.ensures.edited S.2.0 S.0 S.2.1))
+returns-clause-hand c = let S = c.give_lock.ensures in let may = c.requires.seat.2 in
+    c.remove_all.ensures.hand ∙ ap (map (λ (w : Wait). w.id.seat)) (sym (hand_after c.args.self.now c.args.token.now c.requires.seat.0 c.requires.seat.1 may c.remove_all.new.token c.give_lock.new.token c.remove_all.ensures.edited S.went S.own))

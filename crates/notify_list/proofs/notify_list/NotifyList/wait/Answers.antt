@@ -1,13 +1,13 @@
 use Rattle.std.proofs.Common.{ℕ, ◌++◌, [], ◌∷◌, true, false, refl, sym, ap, ◌∙◌, subst, arith}
 use Rattle.step_table.specs.ListTable.{wait_for}
-use Rattle.step_table.specs.ListWorld.{ListSeat}
 use Rattle.notify_list.specs.declared.waited.Waited.TheVariants.{AtOnce, Parked}
 use Rattle.notify_list.specs.Walks.{Edited}
 use Rattle.notify_list.specs.Waiting.{IsWaited, IsGranted}
-use Rattle.notify_list.specs.Seats.{ListModel, SeatModel, seat_of}
-use Rattle.notify_list.proofs.Owned.{own, low_word, someones}
-use Rattle.notify_list.proofs.Allowing.{goes_at}
-use Rattle.notify_list.proofs.Recording.{gives_plain, gives_edited}
+use Rattle.notify_list.specs.Seats.{ListModel, SeatModel, seat_of, queue_of}
+use Rattle.notify_list.proofs.Owned.{own, low_word, grant_low, owned}
+use Rattle.notify_list.proofs.Words.{wakes_aside}
+use Rattle.notify_list.proofs.Allowing.{goes_at, takes_at}
+use Rattle.notify_list.proofs.Recording.{list_edited, gives_plain, gives_edited}
 use Rattle.notify_list.proofs.Queueing.{may_wait, stands_locked, stands_looked, number_looked, record_looked, has_room, w4, seat_at_once, waited_at_once, granted_at_once, seat_parked, waited_parked, granted_parked}
 use Rattle.notify_list.proofs.notify_list.NotifyList.wait.Goals as goal
 
@@ -19,106 +19,136 @@ pub load-notified-requires : goal.load-notified-requires
 load-notified-requires g c =
     let x = c.self.inside in let s = c.holding.inside.token in let n : ℕ = c.holding.inside.number in let t = c.lock.new.token in
     let at = c.lock.ensures.walked.list_is ∙ own x s n c.self.view_is c.holding.view_is c.requires in (
-      ap (λ (l : ListModel). l.id) at,
-      low_word x c.self.invariant 1 (omega arith),
-      goes_at _ _ _ 1 t.me (someones x c.self.invariant t at) _ (stands_locked s n c.holding.inside.ticket c.holding.invariant t c.lock.ensures) (λ e. absurd (omega arith)) (λ k. k)
-          (λ w k known. record { word = refl; there = tt; can = refl; becomes = refl }),
+      omega arith,
+      (
+        owned x c.self.invariant t at,
+        (
+          low_word x c.self.invariant 1 (omega arith),
+          goes_at _ t.me 1 _ (stands_locked s n c.holding.inside.ticket c.holding.invariant t c.lock.ensures) (λ k. k) (λ e. absurd (omega arith))
+              (λ w k known. record { word = refl; there = tt; can = refl; becomes = refl }),
+        ),
+      ),
     )
 
-pub store-requires : goal.store-requires
-store-requires g c =
+pub give_lock-requires : goal.give_lock-requires
+give_lock-requires g c =
     let x = c.self.inside in let s = c.holding.inside.token in let n : ℕ = c.holding.inside.number in let word : ℕ = c.holding.inside.ticket in let H = c.holding.invariant in
-    let t = c.lock.new.token in let L = c.lock.ensures in let u = c.load-notified.new.seat in let v : ℕ = c.load-notified.result in let E = c.load-notified.ensures in
-    let at = (λ i. record { id = E.0 i; setting = (E.2.0.same i).setting }) ∙ L.walked.list_is ∙ own x s n c.self.view_is c.holding.view_is c.requires in
+    let t = c.lock.new.token in let L = c.lock.ensures in let u = c.load-notified.new.token in let v : ℕ = c.load-notified.result in let E = c.load-notified.ensures in
+    let at = (λ i. record { id = E.own i; setting = E.went.0.same.1 i }) ∙ L.walked.list_is ∙ own x s n c.self.view_is c.holding.view_is c.requires in
     let yes_it = sym c.less.ensures.less ∙ c.if-less.true in (
-      ap (λ (l : ListModel). l.id) at,
-      low_word x c.self.invariant 2 (omega arith),
-      gives_plain _ _ _ u (someones x c.self.invariant u at) _ (stands_looked s n word H t L u v E.2.0 E.0 E.2.1 true yes_it) (record_looked s n word H t L u v E.2.0 E.0 E.2.1) refl
-          (λ w. (record { word = refl; there = tt; can = refl; becomes = refl }, refl)),
+      omega arith,
+      (
+        owned x c.self.invariant u at,
+        (
+          low_word x c.self.invariant 2 (omega arith),
+          gives_plain _ u _ (stands_looked s n word H t L u v E.went E.own true yes_it) (record_looked s n word H t L u v E.went E.own) refl
+              (λ w. (record { word = refl; there = tt; can = refl; becomes = refl }, refl)),
+        ),
+      ),
     )
 
 pub invariant_of-result : goal.invariant_of-result
 invariant_of-result g c =
-    let s = c.holding.inside.token in let E = c.load-notified.ensures in let F = c.store.ensures in
-    seat_at_once s c.holding.inside.number c.holding.inside.ticket c.holding.invariant c.lock.new.token c.lock.ensures c.load-notified.new.seat c.load-notified.result E.2.0 E.0 E.2.1 c.store.new.seat
-    (sym c.less.ensures.less ∙ c.if-less.true) F.2.0 F.0 F.2.1
+    let s = c.holding.inside.token in let E = c.load-notified.ensures in let F = c.give_lock.ensures in
+    seat_at_once s c.holding.inside.number c.holding.inside.ticket c.holding.invariant c.lock.new.token c.lock.ensures c.load-notified.new.token c.load-notified.result E.went E.own c.give_lock.new.token
+    (sym c.less.ensures.less ∙ c.if-less.true) F.went F.own
 
 pub returns-then-less-clause-waited : goal.returns-then-less-clause-waited
 returns-then-less-clause-waited g c =
-    let s = c.holding.inside.token in let E = c.load-notified.ensures in let F = c.store.ensures in
-    subst (λ (y : SeatModel). IsWaited y AtOnce (seat_of c.store.new.seat c.holding.inside.number)) c.holding.view_is
-    (waited_at_once s c.holding.inside.number c.holding.inside.ticket c.holding.invariant c.lock.new.token c.lock.ensures c.load-notified.new.seat c.load-notified.result E.2.0 E.0 E.2.1 c.store.new.seat
-    (sym c.less.ensures.less ∙ c.if-less.true) F.2.0 F.0 F.2.1)
+    let s = c.holding.inside.token in let E = c.load-notified.ensures in let F = c.give_lock.ensures in
+    subst (λ (y : SeatModel). IsWaited y AtOnce (seat_of c.give_lock.new.token c.holding.inside.number)) c.holding.view_is
+    (waited_at_once s c.holding.inside.number c.holding.inside.ticket c.holding.invariant c.lock.new.token c.lock.ensures c.load-notified.new.token c.load-notified.result E.went E.own c.give_lock.new.token
+    (sym c.less.ensures.less ∙ c.if-less.true) F.went F.own)
 
 pub returns-then-less-clause-granted : goal.returns-then-less-clause-granted
 returns-then-less-clause-granted g c =
-    let s = c.holding.inside.token in let E = c.load-notified.ensures in let F = c.store.ensures in
-    subst (λ (y : SeatModel). IsGranted y (seat_of c.store.new.seat c.holding.inside.number)) c.holding.view_is
-    (granted_at_once s c.holding.inside.number c.holding.inside.ticket c.holding.invariant c.lock.new.token c.lock.ensures c.load-notified.new.seat c.load-notified.result E.2.0 E.0 E.2.1 c.store.new.seat
-    (sym c.less.ensures.less ∙ c.if-less.true) F.2.0 F.0 F.2.1)
+    let s = c.holding.inside.token in let E = c.load-notified.ensures in let F = c.give_lock.ensures in
+    subst (λ (y : SeatModel). IsGranted y (seat_of c.give_lock.new.token c.holding.inside.number)) c.holding.view_is
+    (granted_at_once s c.holding.inside.number c.holding.inside.ticket c.holding.invariant c.lock.new.token c.lock.ensures c.load-notified.new.token c.load-notified.result E.went E.own c.give_lock.new.token
+    (sym c.less.ensures.less ∙ c.if-less.true) F.went F.own)
 
 pub insert-requires : goal.insert-requires
 insert-requires g c =
     let x = c.self.inside in let s = c.holding.inside.token in let n : ℕ = c.holding.inside.number in let word : ℕ = c.holding.inside.ticket in let H = c.holding.invariant in
-    let t = c.lock.new.token in let L = c.lock.ensures in let u = c.load-notified.new.seat in let v : ℕ = c.load-notified.result in let E = c.load-notified.ensures in
-    let at = (λ i. record { id = E.0 i; setting = (E.2.0.same i).setting }) ∙ L.walked.list_is ∙ own x s n c.self.view_is c.holding.view_is c.requires in
+    let t = c.lock.new.token in let L = c.lock.ensures in let u = c.load-notified.new.token in let v : ℕ = c.load-notified.result in let E = c.load-notified.ensures in
+    let at = (λ i. record { id = E.own i; setting = E.went.0.same.1 i }) ∙ L.walked.list_is ∙ own x s n c.self.view_is c.holding.view_is c.requires in
     let no_it = sym c.less.ensures.less ∙ c.if-less.false in record {
-      seat = (at ∙ c.self.view_is, record_looked s n word H t L u v E.2.0 E.0 E.2.1);
-      room = has_room s n word H t L u v E.2.0 E.0 E.2.1 no_it;
+      seat = (at ∙ c.self.view_is, record_looked s n word H t L u v E.went E.own);
+      room = has_room s n word H t L u v E.went E.own no_it;
     }
 
-pub store-requires-2 : goal.store-requires-2
-store-requires-2 g c =
+pub give_lock-requires-2 : goal.give_lock-requires-2
+give_lock-requires-2 g c =
     let x = c.self.inside in let s = c.holding.inside.token in let n : ℕ = c.holding.inside.number in let word : ℕ = c.holding.inside.ticket in let H = c.holding.invariant in
-    let t = c.lock.new.token in let L = c.lock.ensures in let u = c.load-notified.new.seat in let v : ℕ = c.load-notified.result in let E = c.load-notified.ensures in
-    let at = (λ i. record { id = E.0 i; setting = (E.2.0.same i).setting }) ∙ L.walked.list_is ∙ own x s n c.self.view_is c.holding.view_is c.requires in
+    let t = c.lock.new.token in let L = c.lock.ensures in let u = c.load-notified.new.token in let v : ℕ = c.load-notified.result in let E = c.load-notified.ensures in
+    let at = (λ i. record { id = E.own i; setting = E.went.0.same.1 i }) ∙ L.walked.list_is ∙ own x s n c.self.view_is c.holding.view_is c.requires in
     let no_it = sym c.less.ensures.less ∙ c.if-less.false in
-    let I : Edited u (u.me.0.queue ++ wait_for u.me.0.number H.ticket ∷ []) c.insert.new.token = c.insert.ensures (wait_for u.me.0.number H.ticket)
-    (λ i. record { id = record { seat = (number_looked s n word H t L u v E.2.0 E.0 E.2.1 ∙ sym c.new-seat.ensures) i; turn = 0 }; ticket = H.word_is i }) in (
-      I.0 ∙ ap (λ (l : ListModel). l.id) at,
-      low_word x c.self.invariant 2 (omega arith),
-      gives_edited _ _ _ u c.insert.new.token (someones x c.self.invariant u at) _ (stands_looked s n word H t L u v E.2.0 E.0 E.2.1 false no_it) (u.me.0.queue ++ wait_for u.me.0.number H.ticket ∷ []) I refl
-          (λ w same. (record { word = refl; there = tt; can = refl; becomes = refl }, refl)),
+    let I : Edited u ((queue_of u) ++ wait_for u.me.0.own.number H.ticket ∷ []) c.insert.new.token = c.insert.ensures (wait_for u.me.0.own.number H.ticket)
+    (λ i. record { id = record { seat = (number_looked s n word H t L u v E.went E.own ∙ sym c.new-seat.ensures) i; turn = 0 }; ticket = H.word_is i }) in (
+      omega arith,
+      (
+        owned x c.self.invariant c.insert.new.token (list_edited u c.insert.new.token _ I ∙ at),
+        (
+          low_word x c.self.invariant 2 (omega arith),
+          gives_edited _ u c.insert.new.token _ (stands_looked s n word H t L u v E.went E.own false no_it) ((queue_of u) ++ wait_for u.me.0.own.number H.ticket ∷ []) I refl
+              (λ w same. (record { word = refl; there = tt; can = refl; becomes = refl }, refl)),
+        ),
+      ),
     )
 
-pub sleep-requires : goal.sleep-requires
-sleep-requires g c =
+pub take_when_granted-requires : goal.take_when_granted-requires
+take_when_granted-requires g c =
     let x = c.self.inside in let s = c.holding.inside.token in let n : ℕ = c.holding.inside.number in let word : ℕ = c.holding.inside.ticket in let H = c.holding.invariant in
-    let t = c.lock.new.token in let L = c.lock.ensures in let u = c.load-notified.new.seat in let v : ℕ = c.load-notified.result in let E = c.load-notified.ensures in let F = c.store-2.ensures in
-    let at = own x s n c.self.view_is c.holding.view_is c.requires ∙ c.self.view_is in
+    let t = c.lock.new.token in let L = c.lock.ensures in let u = c.load-notified.new.token in let v : ℕ = c.load-notified.result in let E = c.load-notified.ensures in let F = c.give_lock-2.ensures in
+    let at = own x s n c.self.view_is c.holding.view_is c.requires in
     let no_it = sym c.less.ensures.less ∙ c.if-less.false in
-    let I : Edited u (u.me.0.queue ++ wait_for u.me.0.number H.ticket ∷ []) c.insert.new.token = c.insert.ensures (wait_for u.me.0.number H.ticket)
-    (λ i. record { id = record { seat = (number_looked s n word H t L u v E.2.0 E.0 E.2.1 ∙ sym c.new-seat.ensures) i; turn = 0 }; ticket = H.word_is i }) in
-    let w = w4 s n word H t L u v E.2.0 E.0 E.2.1 c.insert.new.token c.store-2.new.seat no_it I F.2.0 F.0 in record {
-      seat = (w.list_is ∙ at, w.number_is ∙ H.token_is.number_is, (let k = H.token_is.there in let e = ap (λ (l : ListModel). l.setting.seats) at in omega arith));
-      parked = (H.ticket, ap (λ (a : ListSeat). a.place) w.stands_is);
-    }
+    let I : Edited u ((queue_of u) ++ wait_for u.me.0.own.number H.ticket ∷ []) c.insert.new.token = c.insert.ensures (wait_for u.me.0.own.number H.ticket)
+    (λ i. record { id = record { seat = (number_looked s n word H t L u v E.went E.own ∙ sym c.new-seat.ensures) i; turn = 0 }; ticket = H.word_is i }) in
+    let w = w4 s n word H t L u v E.went E.own c.insert.new.token c.give_lock-2.new.token no_it I F.went F.own in let z = c.give_lock-2.new.token in
+    let grant = c.grant_word.ensures in let asleep = c.asleep_word-asleep.ensures.at in
+    let seats = ap (λ (l : ListModel). l.setting.seats) at in let shown = ap (λ (l : ListModel). l.setting.seats) c.self.view_is in let id = ap (λ (l : ListModel). l.id.words) c.self.view_is in
+    let low = grant_low x c.self.invariant n (let k = H.token_is.there in omega (arith, seats, k)) in (
+      omega arith,
+      (
+        owned x c.self.invariant z (w.list_is ∙ at),
+        (
+          (omega (arith, grant, low), (let k = c.asleep_word-asleep.ensures.low in omega (arith, id, k))),
+          (
+            (low_word x c.self.invariant 0 (omega arith), low_word x c.self.invariant 1 (omega arith)),
+            (
+              wakes_aside _ _ (omega (arith, asleep, shown)),
+              takes_at _ z.me _ _ w.stands_is H.ticket refl (let i = w.number_is in let j = H.token_is.number_is in omega (arith, grant, i, j)),
+            ),
+          ),
+        ),
+      ),
+    )
 
 pub invariant_of-result-2 : goal.invariant_of-result-2
 invariant_of-result-2 g c =
     let s = c.holding.inside.token in let n : ℕ = c.holding.inside.number in let word : ℕ = c.holding.inside.ticket in let H = c.holding.invariant in
-    let t = c.lock.new.token in let L = c.lock.ensures in let u = c.load-notified.new.seat in let v : ℕ = c.load-notified.result in let E = c.load-notified.ensures in let F = c.store-2.ensures in let S = c.sleep.ensures in
+    let t = c.lock.new.token in let L = c.lock.ensures in let u = c.load-notified.new.token in let v : ℕ = c.load-notified.result in let E = c.load-notified.ensures in let F = c.give_lock-2.ensures in let S = c.take_when_granted.ensures in
     let no_it = sym c.less.ensures.less ∙ c.if-less.false in
-    let I : Edited u (u.me.0.queue ++ wait_for u.me.0.number H.ticket ∷ []) c.insert.new.token = c.insert.ensures (wait_for u.me.0.number H.ticket)
-    (λ i. record { id = record { seat = (number_looked s n word H t L u v E.2.0 E.0 E.2.1 ∙ sym c.new-seat.ensures) i; turn = 0 }; ticket = H.word_is i }) in
-    seat_parked s n word H t L u v E.2.0 E.0 E.2.1 c.insert.new.token c.store-2.new.seat no_it I F.2.0 F.0 c.sleep.new.token F.2.1 S.1.0 S.0 S.1.1
+    let I : Edited u ((queue_of u) ++ wait_for u.me.0.own.number H.ticket ∷ []) c.insert.new.token = c.insert.ensures (wait_for u.me.0.own.number H.ticket)
+    (λ i. record { id = record { seat = (number_looked s n word H t L u v E.went E.own ∙ sym c.new-seat.ensures) i; turn = 0 }; ticket = H.word_is i }) in
+    seat_parked s n word H t L u v E.went E.own c.insert.new.token c.give_lock-2.new.token no_it I F.went F.own c.take_when_granted.new.token _ S.some S.went S.own
 
 pub returns-clause-waited : goal.returns-clause-waited
 returns-clause-waited g c =
     let s = c.holding.inside.token in let n : ℕ = c.holding.inside.number in let word : ℕ = c.holding.inside.ticket in let H = c.holding.invariant in
-    let t = c.lock.new.token in let L = c.lock.ensures in let u = c.load-notified.new.seat in let v : ℕ = c.load-notified.result in let E = c.load-notified.ensures in let F = c.store-2.ensures in let S = c.sleep.ensures in
+    let t = c.lock.new.token in let L = c.lock.ensures in let u = c.load-notified.new.token in let v : ℕ = c.load-notified.result in let E = c.load-notified.ensures in let F = c.give_lock-2.ensures in let S = c.take_when_granted.ensures in
     let no_it = sym c.less.ensures.less ∙ c.if-less.false in
-    let I : Edited u (u.me.0.queue ++ wait_for u.me.0.number H.ticket ∷ []) c.insert.new.token = c.insert.ensures (wait_for u.me.0.number H.ticket)
-    (λ i. record { id = record { seat = (number_looked s n word H t L u v E.2.0 E.0 E.2.1 ∙ sym c.new-seat.ensures) i; turn = 0 }; ticket = H.word_is i }) in
-    subst (λ (y : SeatModel). IsWaited y Parked (seat_of c.sleep.new.token n)) c.holding.view_is
-    (waited_parked s n word H t L u v E.2.0 E.0 E.2.1 c.insert.new.token c.store-2.new.seat no_it I F.2.0 F.0 c.sleep.new.token F.2.1 S.1.0 S.0 S.1.1)
+    let I : Edited u ((queue_of u) ++ wait_for u.me.0.own.number H.ticket ∷ []) c.insert.new.token = c.insert.ensures (wait_for u.me.0.own.number H.ticket)
+    (λ i. record { id = record { seat = (number_looked s n word H t L u v E.went E.own ∙ sym c.new-seat.ensures) i; turn = 0 }; ticket = H.word_is i }) in
+    subst (λ (y : SeatModel). IsWaited y Parked (seat_of c.take_when_granted.new.token n)) c.holding.view_is
+    (waited_parked s n word H t L u v E.went E.own c.insert.new.token c.give_lock-2.new.token no_it I F.went F.own c.take_when_granted.new.token _ S.some S.went S.own)
 
 pub returns-clause-granted : goal.returns-clause-granted
 returns-clause-granted g c =
     let s = c.holding.inside.token in let n : ℕ = c.holding.inside.number in let word : ℕ = c.holding.inside.ticket in let H = c.holding.invariant in
-    let t = c.lock.new.token in let L = c.lock.ensures in let u = c.load-notified.new.seat in let v : ℕ = c.load-notified.result in let E = c.load-notified.ensures in let F = c.store-2.ensures in let S = c.sleep.ensures in
+    let t = c.lock.new.token in let L = c.lock.ensures in let u = c.load-notified.new.token in let v : ℕ = c.load-notified.result in let E = c.load-notified.ensures in let F = c.give_lock-2.ensures in let S = c.take_when_granted.ensures in
     let no_it = sym c.less.ensures.less ∙ c.if-less.false in
-    let I : Edited u (u.me.0.queue ++ wait_for u.me.0.number H.ticket ∷ []) c.insert.new.token = c.insert.ensures (wait_for u.me.0.number H.ticket)
-    (λ i. record { id = record { seat = (number_looked s n word H t L u v E.2.0 E.0 E.2.1 ∙ sym c.new-seat.ensures) i; turn = 0 }; ticket = H.word_is i }) in
-    subst (λ (y : SeatModel). IsGranted y (seat_of c.sleep.new.token n)) c.holding.view_is
-    (granted_parked s n word H t L u v E.2.0 E.0 E.2.1 c.insert.new.token c.store-2.new.seat no_it I F.2.0 F.0 c.sleep.new.token F.2.1 S.1.0 S.0 S.1.1)
+    let I : Edited u ((queue_of u) ++ wait_for u.me.0.own.number H.ticket ∷ []) c.insert.new.token = c.insert.ensures (wait_for u.me.0.own.number H.ticket)
+    (λ i. record { id = record { seat = (number_looked s n word H t L u v E.went E.own ∙ sym c.new-seat.ensures) i; turn = 0 }; ticket = H.word_is i }) in
+    subst (λ (y : SeatModel). IsGranted y (seat_of c.take_when_granted.new.token n)) c.holding.view_is
+    (granted_parked s n word H t L u v E.went E.own c.insert.new.token c.give_lock-2.new.token no_it I F.went F.own c.take_when_granted.new.token _ S.some S.went S.own)

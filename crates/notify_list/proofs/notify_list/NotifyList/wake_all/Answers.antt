@@ -2,6 +2,7 @@ use Rattle.std.proofs.Common.{◌≡◌, ℕ, ◌+◌, ◌<◌, ◌≤◌, lengt
 use Rattle.std.proofs.lemmas.List.{length-map}
 use Rattle.waiters.specs.declared.wait.Wait.{Wait}
 use Rattle.notify_list.proofs.Wakening.{a_wait, seat_at, woken_none, may_next, hand_next, woken_more, woken_all}
+use Rattle.notify_list.specs.Seats.{stands_of}
 use Rattle.notify_list.proofs.notify_list.NotifyList.wake_all.Goals as goal
 
 pub loop-seat-init : goal.loop-seat-init
@@ -10,27 +11,27 @@ loop-seat-init c = λ h may. woken_none c.args.self.now c.args.token.now h may
 pub wake_first-requires : goal.wake_first-requires
 wake_first-requires c =
     let s = c.args.token.now in let t = c.loop-seat.token in let n : ℕ = c.loop-seat.seat-index in let h : ℕ = c.requires.seat.0 in let may = c.requires.seat.1 in let x = c.loop-seat.invariant h may in
-    let all : length c.args.seats.now ≡ length s.me.0.sight.stands.hand = ap length c.requires.seats ∙ length-map s.me.0.sight.stands.hand (λ (w : Wait). w.id.seat) in
-    let low : n < length s.me.0.sight.stands.hand = (let k = c.loop-seat-test.true in omega arith) in (
+    let all : length c.args.seats.now ≡ length (stands_of s).hand = ap length c.requires.seats ∙ length-map (stands_of s).hand (λ (w : Wait). w.id.seat) in
+    let low : n < length (stands_of s).hand = (let k = c.loop-seat-test.true in omega arith) in (
       h,
-      get_or s.me.0.sight.stands.hand n a_wait,
-      drop (n + 1) s.me.0.sight.stands.hand,
+      get_or (stands_of s).hand n a_wait,
+      drop (n + 1) (stands_of s).hand,
       may_next c.args.self.now s t h n may x,
       hand_next c.args.self.now s t h n may x low,
-      seat_at s.me.0.sight.stands.hand n low ∙ ap (λ l. get_or l n 0) (sym c.requires.seats),
+      seat_at (stands_of s).hand n low ∙ ap (λ l. get_or l n 0) (sym c.requires.seats),
     )
 
 pub loop-seat-preserved : goal.loop-seat-preserved
 loop-seat-preserved c = λ h may.
     let s = c.args.token.now in let t = c.loop-seat.token in let n : ℕ = c.loop-seat.seat-index in let x = c.loop-seat.invariant h may in
-    let all : length c.args.seats.now ≡ length s.me.0.sight.stands.hand = ap length c.requires.seats ∙ length-map s.me.0.sight.stands.hand (λ (w : Wait). w.id.seat) in
-    let low : n < length s.me.0.sight.stands.hand = (let k = c.loop-seat-test.true in omega arith) in
+    let all : length c.args.seats.now ≡ length (stands_of s).hand = ap length c.requires.seats ∙ length-map (stands_of s).hand (λ (w : Wait). w.id.seat) in
+    let low : n < length (stands_of s).hand = (let k = c.loop-seat-test.true in omega arith) in
     woken_more c.args.self.now s t h n may x c.wake_first.new.token low
-    (c.wake_first.ensures h (get_or s.me.0.sight.stands.hand n a_wait) (drop (n + 1) s.me.0.sight.stands.hand) (may_next c.args.self.now s t h n may x) (hand_next c.args.self.now s t h n may x low))
+    (c.wake_first.ensures h (get_or (stands_of s).hand n a_wait) (drop (n + 1) (stands_of s).hand) (may_next c.args.self.now s t h n may x) (hand_next c.args.self.now s t h n may x low))
 
 pub returns : goal.returns
 returns c h may =
     let s = c.args.token.now in let n : ℕ = c.loop-seat.seat-index in
-    let all : length c.args.seats.now ≡ length s.me.0.sight.stands.hand = ap length c.requires.seats ∙ length-map s.me.0.sight.stands.hand (λ (w : Wait). w.id.seat) in
-    let most : length s.me.0.sight.stands.hand ≤ n = (let k = c.loop-seat-test.false in omega arith) in
+    let all : length c.args.seats.now ≡ length (stands_of s).hand = ap length c.requires.seats ∙ length-map (stands_of s).hand (λ (w : Wait). w.id.seat) in
+    let most : length (stands_of s).hand ≤ n = (let k = c.loop-seat-test.false in omega arith) in
     woken_all s c.loop-seat.token h n most (c.loop-seat.invariant h may)

@@ -23,7 +23,7 @@ pub lower-requires : goal.lower-requires
 lower-requires g c =
     let s = c.args.token in let t2 = c.raise.new.token in let t3 = c.look_again.new.token in let a = c.args.call in
     let looked = to_look s c.lock.new.token t2 t3 a c.lock.ensures.0 c.raise.ensures.0 in (
-      stands_after c.args.self.now s t3 c.args.numbers (Acquiring a A3) (Acquiring a A8) (Take a.counter t2.me.0.number ∷ []) 1 c.requires.seat.0 c.requires.seat.1 c.requires.call.0
+      stands_after c.args.self.now s t3 c.args.numbers (Acquiring a A3) (Acquiring a A8) (Take a.counter t2.me.0.own.number ∷ []) 1 c.requires.seat.0 c.requires.seat.1 c.requires.call.0
           (to_taken s c.lock.new.token t2 t3 a looked c.if-look_again.ensures.settled) refl,
       c.look_again.ensures.record,
     )
@@ -33,7 +33,7 @@ unlock_taken-requires g c =
     let s = c.args.token in let t2 = c.raise.new.token in let t3 = c.look_again.new.token in let t4 = c.lower.new.token in let a = c.args.call in
     let looked = to_look s c.lock.new.token t2 t3 a c.lock.ensures.0 c.raise.ensures.0 in
     let taken = to_taken s c.lock.new.token t2 t3 a looked c.if-look_again.ensures.settled in (
-      stands_after c.args.self.now s t4 c.args.numbers (Acquiring a A3) (Acquiring a A9) (Take a.counter t2.me.0.number ∷ []) 1 c.requires.seat.0 c.requires.seat.1 c.requires.call.0
+      stands_after c.args.self.now s t4 c.args.numbers (Acquiring a A3) (Acquiring a A9) (Take a.counter t2.me.0.own.number ∷ []) 1 c.requires.seat.0 c.requires.seat.1 c.requires.call.0
           (to_lowered s t2 t3 t4 t4 c.args.numbers a c.requires.seat.0 looked taken c.lower.ensures.0) refl,
       c.lower.ensures.1,
     )

@@ -1,76 +1,54 @@
-use Rattle.std.proofs.Common.{◌≡◌, sym, ap, ◌∙◌, subst}
-use Rattle.sema_table.specs.Rule.{IsSomeones}
-use Rattle.sema_table.specs.Plays.{Me}
-use Rattle.sema_table.specs.Seats.{TableModel, SeatModel, Token, seat_of}
-use Rattle.sema_table.specs.Meeting.{sitting, HasMet}
-use Rattle.sema_table.proofs.Owned.{own}
-use Rattle.sema_table.proofs.Sitting.{spares_kept, sits_kept}
-use Rattle.sema_table.proofs.LookingTogether.{has_word, someones, may_meet, may_part, one_seat, other_seat, have_met}
+use Rattle.std.proofs.Common.{◌≡◌, ℕ, ◌<◌, length, sym, ap, subst, arith, refl}
+use Rattle.step_table.specs.declared.word.Word.{Word}
+use Rattle.step_table.specs.declared.word.Word.TheVariants.{Counter}
+use Rattle.running_rows.specs.Sitting.{Met}
+use Rattle.sema_table.specs.Setting.{word_at}
+use Rattle.sema_table.specs.Rows.{semaphore_rows}
+use Rattle.sema_table.specs.declared.sema_table.SemaTable.TheInside.{Inside}
+use Rattle.sema_table.specs.Shared.{table_by}
+use Rattle.sema_table.specs.Seats.{TableModel, SeatModel, Token, table_of, seat_of}
+use Rattle.sema_table.specs.Meeting.{HasMet}
+use Rattle.sema_table.proofs.Owned.{IsMade, own, has_word, someones}
+use Rattle.sema_table.proofs.Striding.{slots_are}
+use Rattle.sema_table.proofs.Words.{counter_lies}
+use Rattle.sema_table.proofs.Seeing.{counter_seen}
+use Rattle.sema_table.proofs.LookingTogether.{one_seat, other_seat, have_met}
 use Rattle.sema_table.proofs.sema_table.SemaTable.meet.Goals as goal
 
-pub split_seat-spare-requires : goal.split_seat-spare-requires
-split_seat-spare-requires c =
-    let s = c.one.inside.token in let at = own c.self.inside s c.one.inside.numbers c.self.view_is c.one.view_is c.requires.0 in (
-      ap (λ (t : TableModel). t.id) at,
-      has_word c.self.inside c.self.invariant,
-      spares_kept _ _ s.me.0,
+pub meet-requires : goal.meet-requires
+meet-requires c =
+    let at = own c.self.inside c.one.inside.token c.one.inside.numbers c.self.view_is c.one.view_is c.requires.0 in let at_o = own c.self.inside c.other.inside.token c.other.inside.numbers c.self.view_is c.other.view_is c.requires.1 in
+    let any = c.self.invariant.any in let counted = c.self.invariant.counted in (
+      omega arith,
+      (
+        (ap (λ (t : TableModel). t.id) at, someones c.self.inside c.self.invariant c.one.inside.token at),
+        (
+          (ap (λ (t : TableModel). t.id) at_o, someones c.self.inside c.self.invariant c.other.inside.token at_o),
+          (c.other.invariant.token_is.bare, (has_word c.self.inside c.self.invariant, counter_seen _ 0 0 (omega arith) refl)),
+        ),
+      ),
     )
 
-pub join_seat-requires : goal.join_seat-requires
-join_seat-requires c =
-    let s = c.one.inside.token in let o = c.other.inside.token in let is = c.replace-theirs.ensures.value in let E = c.split_seat-spare.ensures in
-    let at = own c.self.inside s c.one.inside.numbers c.self.view_is c.one.view_is c.requires.0 in let at_o = own c.self.inside o c.other.inside.numbers c.self.view_is c.other.view_is c.requires.1 in (
-      E.0 ∙ ap (λ (t : TableModel). t.id) at,
-      ap (λ (t : Token). t.table_id) is ∙ ap (λ (t : TableModel). t.id) at_o,
-      ap (λ (t : Token). t.me.1) is ∙ c.other.invariant.token_is.bare,
-      has_word c.self.inside c.self.invariant,
-      sits_kept _ _ _ _ _ (subst (λ (m : Me). IsSomeones m.0) (sym E.2) (someones c.self.inside c.self.invariant s at)) (subst (λ (t : Token). IsSomeones t.me.0) (sym is) (someones c.self.inside c.self.invariant o at_o)),
-    )
-
-pub load-requires : goal.load-requires
-load-requires c =
-    let s = c.one.inside.token in let o = c.other.inside.token in let is = c.replace-theirs.ensures.value in let E = c.split_seat-spare.ensures in let t = c.join_seat.new.seat in
-    let at = own c.self.inside s c.one.inside.numbers c.self.view_is c.one.view_is c.requires.0 in let at_o = own c.self.inside o c.other.inside.numbers c.self.view_is c.other.view_is c.requires.1 in
-    let joined : t.me ≡ (sitting s.me.0 o.me.0, s.me.1) = c.join_seat.ensures.2 ∙ (λ i. (sitting (E.2 i).0 (is i).me.0, (E.2 i).1)) in (
-      c.join_seat.ensures.0 ∙ E.0 ∙ ap (λ (t : TableModel). t.id) at,
-      has_word c.self.inside c.self.invariant,
-      may_meet c.self.inside c.self.invariant s o t at at_o joined _ _,
-    )
-
-pub split_seat-requires : goal.split_seat-requires
-split_seat-requires c =
-    let s = c.one.inside.token in let o = c.other.inside.token in let is = c.replace-theirs.ensures.value in let E = c.split_seat-spare.ensures in let t = c.join_seat.new.seat in
-    let at = own c.self.inside s c.one.inside.numbers c.self.view_is c.one.view_is c.requires.0 in let at_o = own c.self.inside o c.other.inside.numbers c.self.view_is c.other.view_is c.requires.1 in
-    let joined : t.me ≡ (sitting s.me.0 o.me.0, s.me.1) = c.join_seat.ensures.2 ∙ (λ i. (sitting (E.2 i).0 (is i).me.0, (E.2 i).1)) in (
-      c.load.ensures.0 ∙ c.join_seat.ensures.0 ∙ E.0 ∙ ap (λ (t : TableModel). t.id) at,
-      has_word c.self.inside c.self.invariant,
-      may_part c.self.inside c.self.invariant s o t at at_o joined c.load.new.seat c.load.result c.load.ensures.2 _,
-    )
+-- the word at the address 0 is the first counter
+met_there : (x : Inside) (made : IsMade x) (s o a b : Token) (q : ℕ) → table_of s ≡ table_by x → Met semaphore_rows (word_at s.me.0.own.knows.setting 0) s.me.0.own o.me.0.own q a.me.0.own b.me.0.own → Met semaphore_rows (Counter 0) s.me.0.own o.me.0.own q a.me.0.own b.me.0.own
+met_there x made s o a b q at = subst (λ (w : Word). Met semaphore_rows w s.me.0.own o.me.0.own q a.me.0.own b.me.0.own)
+    (counter_lies s.me.0.own.knows.setting 0 0 (subst (λ (y : TableModel). 0 < length y.setting.starts) (sym at) (let any = made.any in let counted = made.counted in omega arith)) refl)
 
 pub invariant_of-one : goal.invariant_of-one
 invariant_of-one c =
-    let s = c.one.inside.token in let o = c.other.inside.token in let is = c.replace-theirs.ensures.value in let E = c.split_seat-spare.ensures in let t = c.join_seat.new.seat in
-    let at = own c.self.inside s c.one.inside.numbers c.self.view_is c.one.view_is c.requires.0 in let at_o = own c.self.inside o c.other.inside.numbers c.self.view_is c.other.view_is c.requires.1 in
-    let joined : t.me ≡ (sitting s.me.0 o.me.0, s.me.1) = c.join_seat.ensures.2 ∙ (λ i. (sitting (E.2 i).0 (is i).me.0, (E.2 i).1)) in let P = c.split_seat.ensures in
-    let back = c.load.ensures.0 ∙ c.join_seat.ensures.0 ∙ E.0 in
-    one_seat c.self.inside c.self.invariant s o t at at_o joined c.load.new.seat c.load.result c.load.ensures.2 c.split_seat.new.seat c.split_seat.result c.one.inside.numbers c.other.inside.numbers
-    c.one.invariant c.other.invariant P.2 P.4 (P.0 ∙ back) (P.3 ∙ back ∙ ap (λ (t : TableModel). t.id) (at ∙ sym at_o))
+    let s = c.one.inside.token in let o = c.other.inside.token in let a = c.meet.new.one in let b = c.meet.new.other in let E = c.meet.ensures in
+    let at = own c.self.inside s c.one.inside.numbers c.self.view_is c.one.view_is c.requires.0 in
+    one_seat s o a b c.one.inside.numbers c.other.inside.numbers c.meet.result c.one.invariant c.other.invariant (met_there c.self.inside c.self.invariant s o a b c.meet.result at E.met) E.own.0 E.own.1 (slots_are E.one) (slots_are E.other)
 
 pub invariant_of-other : goal.invariant_of-other
 invariant_of-other c =
-    let s = c.one.inside.token in let o = c.other.inside.token in let is = c.replace-theirs.ensures.value in let E = c.split_seat-spare.ensures in let t = c.join_seat.new.seat in
-    let at = own c.self.inside s c.one.inside.numbers c.self.view_is c.one.view_is c.requires.0 in let at_o = own c.self.inside o c.other.inside.numbers c.self.view_is c.other.view_is c.requires.1 in
-    let joined : t.me ≡ (sitting s.me.0 o.me.0, s.me.1) = c.join_seat.ensures.2 ∙ (λ i. (sitting (E.2 i).0 (is i).me.0, (E.2 i).1)) in let P = c.split_seat.ensures in
-    let back = c.load.ensures.0 ∙ c.join_seat.ensures.0 ∙ E.0 in
-    other_seat c.self.inside c.self.invariant s o t at at_o joined c.load.new.seat c.load.result c.load.ensures.2 c.split_seat.new.seat c.split_seat.result c.one.inside.numbers c.other.inside.numbers
-    c.one.invariant c.other.invariant P.2 P.4 (P.0 ∙ back) (P.3 ∙ back ∙ ap (λ (t : TableModel). t.id) (at ∙ sym at_o))
+    let s = c.one.inside.token in let o = c.other.inside.token in let a = c.meet.new.one in let b = c.meet.new.other in let E = c.meet.ensures in
+    let at = own c.self.inside s c.one.inside.numbers c.self.view_is c.one.view_is c.requires.0 in
+    other_seat s o a b c.one.inside.numbers c.other.inside.numbers c.meet.result c.one.invariant c.other.invariant (met_there c.self.inside c.self.invariant s o a b c.meet.result at E.met) E.own.0 E.own.1 (slots_are E.one) (slots_are E.other)
 
 pub returns : goal.returns
 returns c =
-    let s = c.one.inside.token in let o = c.other.inside.token in let is = c.replace-theirs.ensures.value in let E = c.split_seat-spare.ensures in let t = c.join_seat.new.seat in
-    let at = own c.self.inside s c.one.inside.numbers c.self.view_is c.one.view_is c.requires.0 in let at_o = own c.self.inside o c.other.inside.numbers c.self.view_is c.other.view_is c.requires.1 in
-    let joined : t.me ≡ (sitting s.me.0 o.me.0, s.me.1) = c.join_seat.ensures.2 ∙ (λ i. (sitting (E.2 i).0 (is i).me.0, (E.2 i).1)) in let P = c.split_seat.ensures in
-    let back = c.load.ensures.0 ∙ c.join_seat.ensures.0 ∙ E.0 in
-    subst (λ (q : SeatModel × SeatModel). HasMet q.0 q.1 (seat_of c.split_seat.new.seat c.one.inside.numbers) (seat_of c.split_seat.result c.other.inside.numbers)) (λ i. (c.one.view_is i, c.other.view_is i))
-    (have_met c.self.inside c.self.invariant s o t at at_o joined c.load.new.seat c.load.result c.load.ensures.2 c.split_seat.new.seat c.split_seat.result c.one.inside.numbers c.other.inside.numbers
-    c.one.invariant c.other.invariant P.2 P.4 (P.0 ∙ back) (P.3 ∙ back ∙ ap (λ (t : TableModel). t.id) (at ∙ sym at_o)))
+    let s = c.one.inside.token in let o = c.other.inside.token in let a = c.meet.new.one in let b = c.meet.new.other in let E = c.meet.ensures in
+    let at = own c.self.inside s c.one.inside.numbers c.self.view_is c.one.view_is c.requires.0 in
+    subst (λ (q : SeatModel × SeatModel). HasMet q.0 q.1 (seat_of a c.one.inside.numbers) (seat_of b c.other.inside.numbers)) (λ i. (c.one.view_is i, c.other.view_is i))
+    (have_met s o a b c.one.inside.numbers c.other.inside.numbers c.meet.result c.one.invariant c.other.invariant (met_there c.self.inside c.self.invariant s o a b c.meet.result at E.met) E.own.0 E.own.1 (slots_are E.one) (slots_are E.other))

@@ -1,23 +1,32 @@
-use Rattle.std.proofs.Common.{◌∙◌, subst}
-use Rattle.step_table.specs.declared.word.Word.TheVariants.{Grant}
-use Rattle.sema_table.specs.declared.answers.Polled.TheVariants.{Woken, Handed}
-use Rattle.sema_table.specs.Seats.{SeatModel}
-use Rattle.sema_table.specs.Tries.{LooksAt}
+use Rattle.std.proofs.Common.{arith, ap, ◌∙◌, subst}
+use Rattle.sema_table.specs.declared.answers.Polled.TheVariants.{Still, Woken, Handed}
+use Rattle.sema_table.specs.Seats.{TableModel, SeatModel}
+use Rattle.sema_table.specs.Setting.{words_shown}
 use Rattle.sema_table.specs.Waking.{IsPolled}
+use Rattle.sema_table.proofs.Owned.{own}
+use Rattle.sema_table.proofs.Seeing.{is_aside}
 use Rattle.sema_table.proofs.Rousing.{look_more, roused_woken, roused_handed, same_seat}
 use Rattle.sema_table.proofs.sema_table.SemaTable.sleep.Goals as goal
 
+pub await_grant-requires : goal.await_grant-requires
+await_grant-requires g c =
+    let s = c.sleeping.inside.token in let n = c.sleeping.inside.numbers in let seat = c.sleeping.invariant in
+    let words = ap (λ (t : TableModel). t.id.words) c.self.view_is in let low = c.grant_word-word.ensures.low in let beside = c.asleep_word-asleep.ensures.low in let far = c.asleep_word-asleep.ensures.at in let z = ap (λ (t : TableModel). words_shown t.setting) c.self.view_is in (
+      omega arith,
+      (ap (λ (t : TableModel). t.id) (own c.self.inside s n c.self.view_is c.sleeping.view_is (ap (λ (q : SeatModel). q.table) c.loop.invariant.same ∙ c.requires)), ((omega arith, omega arith), (tt, is_aside _ c.asleep_word-asleep.result (omega (arith, far, z))))),
+    )
+
 pub loop-preserved : goal.loop-preserved
 loop-preserved g c =
-    let awake = same_seat c.sleeping.inside.token c.await_grant.new.token c.sleeping.inside.numbers c.await_grant.ensures ∙ c.sleeping.view_is in
-    look_more c.args.sleeping c.loop.sleeping c.in-Still.still c.loop.invariant (subst (λ (q : SeatModel). LooksAt q (Grant q.number) 0 c.in-Still.still) awake c.in-Still.ensures)
+    let awake = same_seat c.sleeping.inside.token c.await_grant.new.token c.sleeping.inside.numbers (c.await_grant.ensures.same.0, c.await_grant.ensures.same.1) ∙ c.sleeping.view_is in
+    look_more c.args.sleeping c.loop.sleeping c.in-Still.still c.loop.invariant (subst (λ (q : SeatModel). IsPolled q (Still c.in-Still.still)) awake c.in-Still.ensures)
 
 pub returns-in-Woken : goal.returns-in-Woken
 returns-in-Woken g c =
-    let awake = same_seat c.sleeping.inside.token c.await_grant.new.token c.sleeping.inside.numbers c.await_grant.ensures ∙ c.sleeping.view_is in
+    let awake = same_seat c.sleeping.inside.token c.await_grant.new.token c.sleeping.inside.numbers (c.await_grant.ensures.same.0, c.await_grant.ensures.same.1) ∙ c.sleeping.view_is in
     roused_woken c.args.sleeping c.loop.sleeping c.in-Woken.woken c.loop.invariant (subst (λ (q : SeatModel). IsPolled q (Woken c.in-Woken.woken)) awake c.in-Woken.ensures)
 
 pub returns-in-Handed : goal.returns-in-Handed
 returns-in-Handed g c =
-    let awake = same_seat c.sleeping.inside.token c.await_grant.new.token c.sleeping.inside.numbers c.await_grant.ensures ∙ c.sleeping.view_is in
+    let awake = same_seat c.sleeping.inside.token c.await_grant.new.token c.sleeping.inside.numbers (c.await_grant.ensures.same.0, c.await_grant.ensures.same.1) ∙ c.sleeping.view_is in
     roused_handed c.args.sleeping c.loop.sleeping c.in-Handed.seat c.loop.invariant (subst (λ (q : SeatModel). IsPolled q (Handed c.in-Handed.seat)) awake c.in-Handed.ensures)

@@ -1,4 +1,4 @@
-use Rattle.sema_table.proofs.Rousing.{OnlyLooks}
+use Rattle.sema_table.specs.Waking.{OnlyLooks}
 use Rattle.sema_table.proofs.sema_table.SemaTable.sleep.Given as goal
 
 abbrev pub invariant-loop : goal.invariant-loop

@@ -1,27 +1,34 @@
-use Rattle.std.proofs.Common.{◌≡◌, ℕ, ap, subst, arith}
+use Rattle.std.proofs.Common.{ℕ, ◌<◌, length, ap, subst, arith}
 use Rattle.step_table.specs.declared.word.Word.TheVariants.{Counter}
 use Rattle.sema_table.specs.Seats.{TableModel, SeatModel, seat_of}
 use Rattle.sema_table.specs.Tries.{IsValue}
-use Rattle.sema_table.proofs.Owned.{own, counter_in, word_in, has_counter}
-use Rattle.sema_table.proofs.Allowing.{allowed_looks}
-use Rattle.sema_table.proofs.Trying.{looked_seat, is_value}
+use Rattle.sema_table.proofs.Striding.{slots_are}
+use Rattle.sema_table.proofs.Owned.{own, counter_in, word_in, someones}
+use Rattle.sema_table.proofs.Seeing.{counter_seen}
+use Rattle.sema_table.proofs.Trying.{counter_look, looked_seat, is_value}
 use Rattle.sema_table.proofs.sema_table.SemaTable.value.Goals as goal
 
-pub load-requires : goal.load-requires
-load-requires c =
-    let at = own c.self.inside c.seat.inside.token c.seat.inside.numbers c.self.view_is c.seat.view_is c.requires.0 in let k : ℕ = c.args.counter in let is : c.number.result ≡ k = c.number.ensures in
-    let low = word_in c.self.inside c.seat.inside.token c.self.invariant at (Counter k) (counter_in c.self.inside c.seat.inside.token c.seat.inside.numbers c.self.view_is c.seat.view_is c.requires.0 c.requires.1) in
-    (ap (λ (t : TableModel). t.id) at, (let w = c.counter_word-word.ensures.at in omega (arith, w)), allowed_looks _ _ _ _ c.seat.inside.token.me (has_counter c.seat.inside.token (counter_in c.self.inside c.seat.inside.token c.seat.inside.numbers c.self.view_is c.seat.view_is c.requires.0 c.requires.1)))
+pub look-requires : goal.look-requires
+look-requires c =
+    let s = c.seat.inside.token in let n = c.seat.inside.numbers in let k : ℕ = c.args.counter in let e = c.number.ensures in let w = c.counter_word-word.ensures.at in
+    let at = own c.self.inside s n c.self.view_is c.seat.view_is c.requires.0 in
+    let there = counter_in c.self.inside s n c.self.view_is c.seat.view_is c.requires.0 c.requires.1 in
+    let low = word_in c.self.inside s c.self.invariant at (Counter k) there in (
+      omega arith,
+      ((ap (λ (t : TableModel). t.id) at, someones c.self.inside c.self.invariant s at), (omega (arith, e, w), counter_seen _ c.counter_word-word.result k (subst (λ (y : TableModel). k < length y.setting.starts) at there) (omega (arith, e, w)))),
+    )
 
 pub invariant_of-seat : goal.invariant_of-seat
 invariant_of-seat c =
-    let low = counter_in c.self.inside c.seat.inside.token c.seat.inside.numbers c.self.view_is c.seat.view_is c.requires.0 c.requires.1 in
-    looked_seat c.seat.inside.token c.load.new.seat c.seat.inside.numbers (Counter c.args.counter) c.load.result c.seat.invariant
-    (c.load.ensures.2.0 (Counter c.args.counter) low (let e = c.number.ensures in let w = c.counter_word-word.ensures.at in omega (arith, e, w))) c.load.ensures.0 c.load.ensures.2.1
+    let s = c.seat.inside.token in let n = c.seat.inside.numbers in let t = c.look.new.token in let k : ℕ = c.args.counter in let e = c.number.ensures in let w = c.counter_word-word.ensures.at in
+    looked_seat s t n (Counter k) c.look.result c.seat.invariant
+    (counter_look s.me.0.own t.me.0.own k c.counter_word-word.result c.look.result (counter_in c.self.inside s n c.self.view_is c.seat.view_is c.requires.0 c.requires.1) (omega (arith, e, w)) c.look.ensures.went.0)
+    c.look.ensures.own (slots_are c.look.ensures.went.1)
 
 pub returns : goal.returns
 returns c =
-    let low = counter_in c.self.inside c.seat.inside.token c.seat.inside.numbers c.self.view_is c.seat.view_is c.requires.0 c.requires.1 in
-    subst (λ (s : SeatModel). IsValue s c.args.counter c.load.result (seat_of c.load.new.seat c.seat.inside.numbers)) c.seat.view_is
-    (is_value c.seat.inside.token c.load.new.seat c.seat.inside.numbers c.args.counter c.load.result c.seat.invariant
-    (c.load.ensures.2.0 (Counter c.args.counter) low (let e = c.number.ensures in let w = c.counter_word-word.ensures.at in omega (arith, e, w))) c.load.ensures.0 c.load.ensures.2.1)
+    let s = c.seat.inside.token in let n = c.seat.inside.numbers in let t = c.look.new.token in let k : ℕ = c.args.counter in let e = c.number.ensures in let w = c.counter_word-word.ensures.at in
+    subst (λ (q : SeatModel). IsValue q k c.look.result (seat_of t n)) c.seat.view_is
+    (is_value s t n k c.look.result c.seat.invariant
+    (counter_look s.me.0.own t.me.0.own k c.counter_word-word.result c.look.result (counter_in c.self.inside s n c.self.view_is c.seat.view_is c.requires.0 c.requires.1) (omega (arith, e, w)) c.look.ensures.went.0)
+    c.look.ensures.own (slots_are c.look.ensures.went.1))

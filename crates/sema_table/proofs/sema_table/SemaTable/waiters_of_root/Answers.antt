@@ -1,31 +1,42 @@
-use Rattle.std.proofs.Common.{sym, ap, ◌∙◌, subst, arith}
+use Rattle.std.proofs.Common.{◌≡◌, ℕ, sym, ap, ◌∙◌, subst, arith}
 use Rattle.step_table.specs.declared.word.Word.TheVariants.{Waiters}
-use Rattle.sema_table.specs.Setting.{address}
+use Rattle.sema_table.specs.Setting.{root, address}
 use Rattle.sema_table.specs.Seats.{TableModel, SeatModel, seat_of}
 use Rattle.sema_table.specs.Tries.{IsWaiters}
-use Rattle.sema_table.proofs.Owned.{own, word_in, has_counter, counter_in}
-use Rattle.sema_table.proofs.Allowing.{allowed_looks}
-use Rattle.sema_table.proofs.Trying.{looked_seat, is_waiters}
+use Rattle.sema_table.proofs.Striding.{slots_are}
+use Rattle.sema_table.proofs.Owned.{own, word_in, some_root, someones}
+use Rattle.running_rows.specs.Owing.{IsSeen}
+use Rattle.sema_table.specs.Rows.{semaphore_rows}
+use Rattle.sema_table.proofs.Seeing.{waiters_seen}
+use Rattle.sema_table.proofs.Trying.{waiters_look, looked_seat, is_waiters}
 use Rattle.sema_table.proofs.sema_table.SemaTable.waiters_of_root.Goals as goal
 
-pub load-requires : goal.load-requires
-load-requires c =
-    let at = own c.self.inside c.seat.inside.token c.seat.inside.numbers c.self.view_is c.seat.view_is c.requires.0 in
-    let low = word_in c.self.inside c.seat.inside.token c.self.invariant at (Waiters c.args.counter) tt in
-    let word = c.waiter_word-word.ensures.at ∙ ap (λ (t : TableModel). address t.setting (Waiters c.args.counter)) (sym (at ∙ c.self.view_is)) in
-    (ap (λ (t : TableModel). t.id) at, (omega arith), allowed_looks _ _ _ _ c.seat.inside.token.me (has_counter c.seat.inside.token (counter_in c.self.inside c.seat.inside.token c.seat.inside.numbers c.self.view_is c.seat.view_is c.requires.0 c.requires.1)))
+pub look-requires : goal.look-requires
+look-requires c =
+    let s = c.seat.inside.token in let n = c.seat.inside.numbers in let z = s.me.0.own.knows.setting in let k : ℕ = c.args.counter in
+    let at = own c.self.inside s n c.self.view_is c.seat.view_is c.requires.0 in
+    let low = word_in c.self.inside s c.self.invariant at (Waiters k) tt in
+    let lies : address z (Waiters k) ≡ c.waiter_word-word.result = ap (λ (t : TableModel). address t.setting (Waiters k)) (at ∙ c.self.view_is) ∙ sym c.waiter_word-word.ensures.at in (
+      omega arith,
+      (
+        (ap (λ (t : TableModel). t.id) at, someones c.self.inside c.self.invariant s at),
+        (omega arith, subst (λ (y : TableModel). IsSeen semaphore_rows y.setting c.waiter_word-word.result) at (waiters_seen z c.waiter_word-word.result k (some_root c.self.inside s c.self.invariant at) lies)),
+      ),
+    )
 
 pub invariant_of-seat : goal.invariant_of-seat
 invariant_of-seat c =
-    let at = own c.self.inside c.seat.inside.token c.seat.inside.numbers c.self.view_is c.seat.view_is c.requires.0 in
-    let word = c.waiter_word-word.ensures.at ∙ ap (λ (t : TableModel). address t.setting (Waiters c.args.counter)) (sym (at ∙ c.self.view_is)) in
-    looked_seat c.seat.inside.token c.load.new.seat c.seat.inside.numbers (Waiters c.args.counter) c.load.result c.seat.invariant
-    (c.load.ensures.2.0 (Waiters c.args.counter) tt (sym word)) c.load.ensures.0 c.load.ensures.2.1
+    let s = c.seat.inside.token in let n = c.seat.inside.numbers in let t = c.look.new.token in let k : ℕ = c.args.counter in
+    let at = own c.self.inside s n c.self.view_is c.seat.view_is c.requires.0 in
+    let lies : address s.me.0.own.knows.setting (Waiters k) ≡ c.waiter_word-word.result = ap (λ (t : TableModel). address t.setting (Waiters k)) (at ∙ c.self.view_is) ∙ sym c.waiter_word-word.ensures.at in
+    looked_seat s t n (Waiters (root s.me.0.own.knows.setting k)) c.look.result c.seat.invariant
+    (waiters_look s.me.0.own t.me.0.own k c.waiter_word-word.result c.look.result (some_root c.self.inside s c.self.invariant at) lies c.look.ensures.went.0) c.look.ensures.own (slots_are c.look.ensures.went.1)
 
 pub returns : goal.returns
 returns c =
-    let at = own c.self.inside c.seat.inside.token c.seat.inside.numbers c.self.view_is c.seat.view_is c.requires.0 in
-    let word = c.waiter_word-word.ensures.at ∙ ap (λ (t : TableModel). address t.setting (Waiters c.args.counter)) (sym (at ∙ c.self.view_is)) in
-    subst (λ (s : SeatModel). IsWaiters s c.args.counter c.load.result (seat_of c.load.new.seat c.seat.inside.numbers)) c.seat.view_is
-    (is_waiters c.seat.inside.token c.load.new.seat c.seat.inside.numbers c.args.counter c.load.result c.seat.invariant
-    (c.load.ensures.2.0 (Waiters c.args.counter) tt (sym word)) c.load.ensures.0 c.load.ensures.2.1)
+    let s = c.seat.inside.token in let n = c.seat.inside.numbers in let t = c.look.new.token in let k : ℕ = c.args.counter in
+    let at = own c.self.inside s n c.self.view_is c.seat.view_is c.requires.0 in
+    let lies : address s.me.0.own.knows.setting (Waiters k) ≡ c.waiter_word-word.result = ap (λ (t : TableModel). address t.setting (Waiters k)) (at ∙ c.self.view_is) ∙ sym c.waiter_word-word.ensures.at in
+    subst (λ (q : SeatModel). IsWaiters q k c.look.result (seat_of t n)) c.seat.view_is
+    (is_waiters s t n k c.look.result c.seat.invariant
+    (waiters_look s.me.0.own t.me.0.own k c.waiter_word-word.result c.look.result (some_root c.self.inside s c.self.invariant at) lies c.look.ensures.went.0) c.look.ensures.own (slots_are c.look.ensures.went.1))

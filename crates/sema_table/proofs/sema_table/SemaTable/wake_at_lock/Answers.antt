@@ -34,7 +34,7 @@ pub take_for-handed-requires : goal.take_for-handed-requires
 take_for-handed-requires g c =
     let s = c.args.token in let t1 = c.lock.new.token in let t3 = c.unlock_released.new.token in let n = c.args.numbers in let w : WaitId = c.in-Some.id in let a : Release = record { counter = c.args.counter; handoff = c.args.handoff } in
     let x = carried s t1 c.take_first-first.new.token t3 n a w c.requires.seat.0 c.lock.ensures.0 c.in-Some.ensures.some.0 c.unlock_released.ensures.0 in (
-      stands_at c.args.self.now s t3 n (Releasing a R3) (carrying s (trying a) w) (Leave a.counter w t1.me.0.number ∷ []) 0 c.requires.seat.0 c.requires.seat.1
+      stands_at c.args.self.now s t3 n (Releasing a R3) (carrying s (trying a) w) (Leave a.counter w t1.me.0.own.number ∷ []) 0 c.requires.seat.0 c.requires.seat.1
           (subst (λ k. k < length c.args.self.now.setting.starts) (sym (trying_counter a)) c.requires.call.0) x refl,
       ap (λ (q : SeatState). q.hand) x.stands_is,
     )
@@ -46,7 +46,7 @@ grant-requires-clause-seat g c =
     let b : Bool = c.take_for-handed.result in let t4 = c.take_for-handed.new.token in
     let own = c.lock.ensures.0.number_is in
     let y = settled s t1 t3 t4 t4 n a w b c.requires.seat.0 own x c.take_for-handed.ensures.walked in (
-      stands_at c.args.self.now s t4 n (Releasing a R3) (carrying s (granting a b) w) (Leave a.counter w t1.me.0.number ∷ taken_for a w b) 0 c.requires.seat.0 c.requires.seat.1
+      stands_at c.args.self.now s t4 n (Releasing a R3) (carrying s (granting a b) w) (Leave a.counter w t1.me.0.own.number ∷ taken_for a w b) 0 c.requires.seat.0 c.requires.seat.1
           (subst (λ k. k < length c.args.self.now.setting.starts) (sym (granting_counter a b)) c.requires.call.0) y (none_added s t1 t3 t4 t4 n a w b c.requires.seat.0 own x c.take_for-handed.ensures.walked b),
       ap (λ (q : SeatState). q.hand) y.stands_is,
     )

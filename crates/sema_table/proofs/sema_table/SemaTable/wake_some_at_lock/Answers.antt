@@ -25,8 +25,8 @@ pub unlock_many-requires : goal.unlock_many-requires
 unlock_many-requires g c =
     let a : ReleaseMany = c.args.call.now in let t1 = c.lock.new.token in let t2 = c.take_waits.new.token in
     let locked = stands_after c.args.self.now c.args.token t1 c.args.numbers (ReleasingMany a M3) (ReleasingMany a M4) [] 0 c.requires.seat.0 c.requires.seat.1 c.requires.call.0 c.lock.ensures.0 refl in (
-      stands_on c.args.self.now t1 t2 (ReleasingMany a M4) (with_hand t1 (ReleasingMany a M6) t2.me.0.hand) (leaves t1.me.0.number a t2.me.0.hand) 0 locked c.take_waits.ensures.walked
-          (leaves_add t1.me.0.number t1.me.0.number a t2.me.0.hand) refl,
+      stands_on c.args.self.now t1 t2 (ReleasingMany a M4) (with_hand t1 (ReleasingMany a M6) t2.me.0.own.knows.hand) (leaves t1.me.0.own.number a t2.me.0.own.knows.hand) 0 locked c.take_waits.ensures.walked
+          (leaves_add t1.me.0.own.number t1.me.0.own.number a t2.me.0.own.knows.hand) refl,
       c.take_waits.ensures.«record»,
     )
 
@@ -34,8 +34,8 @@ pub grant_all-requires-clause-seat : goal.grant_all-requires-clause-seat
 grant_all-requires-clause-seat g c =
     let a : ReleaseMany = c.args.call.now in let t1 = c.lock.new.token in let t2 = c.take_waits.new.token in
     let locked = stands_after c.args.self.now c.args.token t1 c.args.numbers (ReleasingMany a M3) (ReleasingMany a M4) [] 0 c.requires.seat.0 c.requires.seat.1 c.requires.call.0 c.lock.ensures.0 refl in
-    let full = stands_on c.args.self.now t1 t2 (ReleasingMany a M4) (with_hand t1 (ReleasingMany a M6) t2.me.0.hand) (leaves t1.me.0.number a t2.me.0.hand) 0 locked c.take_waits.ensures.walked
-    (leaves_add t1.me.0.number t1.me.0.number a t2.me.0.hand) refl in
+    let full = stands_on c.args.self.now t1 t2 (ReleasingMany a M4) (with_hand t1 (ReleasingMany a M6) t2.me.0.own.knows.hand) (leaves t1.me.0.own.number a t2.me.0.own.knows.hand) 0 locked c.take_waits.ensures.walked
+    (leaves_add t1.me.0.own.number t1.me.0.own.number a t2.me.0.own.knows.hand) refl in
     may_grant c.args.self.now t2 c.unlock_many.new.token a full c.unlock_many.ensures.walked
 
 pub invariant_of-result : goal.invariant_of-result
@@ -50,7 +50,7 @@ returns g c =
     let is = c.requires.seat.0 in
     let x = unlocked_many s t1 t2 t3 n a is c.lock.ensures.0 c.take_waits.ensures.walked c.unlock_many.ensures.walked in
     let hand = hand_stays s t1 t2 t3 n a is c.lock.ensures.0 c.take_waits.ensures.walked c.unlock_many.ensures.walked in
-    let count : length t3.me.0.hand ≡ c.len-woken.result = ap length hand ∙ sym (length-map t2.me.0.hand (λ (w : WaitId). w.seat)) ∙ sym (ap length c.take_waits.ensures.hand) ∙ sym c.len-woken.ensures.value in (
+    let count : length t3.me.0.own.knows.hand ≡ c.len-woken.result = ap length hand ∙ sym (length-map t2.me.0.own.knows.hand (λ (w : WaitId). w.seat)) ∙ sym (ap length c.take_waits.ensures.hand) ∙ sym c.len-woken.ensures.value in (
       same_seat s t3 t4 n a is x c.grant_all.ensures,
       at_rest s t3 t4 n a is x c.grant_all.ensures,
       wakes_many s t3 t4 n a is x c.grant_all.ensures c.len-woken.result count,

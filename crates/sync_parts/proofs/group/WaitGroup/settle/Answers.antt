@@ -1,4 +1,4 @@
-use Rattle.std.proofs.Common.{ℤ, Bool, sym, ap, ◌∙◌, if◌then◌else◌, rules}
+use Rattle.std.proofs.Common.{ℤ, Bool, ◌<◌, subst, sym, ap, ◌∙◌, if◌then◌else◌, rules}
 use Rattle.std.specs.Int.{w32}
 use Rattle.std.proofs.lemmas.Int.{to_z-of_z}
 use Rattle.step_table.specs.Group.{after_add}
@@ -40,7 +40,8 @@ returns g c = λ s found left y.
 
 pub invariant_of-result-2 : goal.invariant_of-result-2
 invariant_of-result-2 g c = record {
-  free = ap (λ (m : Me). is_free m.0.next) c.empty.ensures.1.me_is;
-  number = ap (λ (m : Me). m.0.number) c.empty.ensures.1.me_is ∙ ap (λ (m : Me). m.0.number) c.load.ensures.me_is ∙ c.requires.one
+  some = subst (λ (m : Me). 0 < m.0.own.knows.seats) (sym c.empty.ensures.1.me_is) (subst (λ (m : Me). 0 < m.0.own.knows.seats) (sym c.load.ensures.me_is) c.requires.some);
+  free = ap (λ (m : Me). is_free m.0.own.knows.next) c.empty.ensures.1.me_is;
+  number = ap (λ (m : Me). m.0.own.number) c.empty.ensures.1.me_is ∙ ap (λ (m : Me). m.0.own.number) c.load.ensures.me_is ∙ c.requires.one
       ∙ sym (same_number c.args.word.waits c.args.sema c.release_waits-sema.result c.release_waits-sema.ensures);
 }

@@ -1,8 +1,17 @@
 use Rattle.std.proofs.Common.{sym, ap, ◌∙◌}
 use Rattle.std.specs.Int.{w32, cast_unsigned}
 use Rattle.step_table.specs.declared.standing.GroupRow.TheVariants.{V2}
+use Rattle.sync_parts.specs.GroupPlays.{Me}
+use Rattle.sync_parts.proofs.GroupStepping.{still_some}
 use Rattle.sync_parts.proofs.GroupWaiting.{finds_zero, counts, gets_counted, looks_again, zero_is}
 use Rattle.sync_parts.proofs.state_word.StateWord.count_unless_zero.Goals as goal
+
+pub count_wait-requires-clause-some : goal.count_wait-requires-clause-some
+count_wait-requires-clause-some g c = still_some c.loop.invariant.1.1.seats_is c.requires.some
+
+pub load-word-requires-clause-some : goal.load-word-requires-clause-some
+load-word-requires-clause-some g c =
+    still_some (ap (λ (m : Me). m.0.own.knows.seats) c.count_wait.ensures.2.me_is ∙ c.loop.invariant.1.1.seats_is) c.requires.some
 
 pub returns-then-count_wait : goal.returns-then-count_wait
 returns-then-count_wait g c = let e = c.count_wait.ensures in

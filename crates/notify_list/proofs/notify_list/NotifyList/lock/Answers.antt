@@ -1,0 +1,13 @@
+use Rattle.std.proofs.Common.{sym, ◌∙◌, arith}
+use Rattle.notify_list.proofs.Owned.{low_word, owned}
+use Rattle.notify_list.proofs.Locking.{lock_owes, has_locked}
+use Rattle.notify_list.proofs.notify_list.NotifyList.lock.Goals as goal
+
+pub take_lock-requires : goal.take_lock-requires
+take_lock-requires g c = let x = c.self.inside in let s = c.args.token.now in (
+  omega arith,
+  (owned x c.self.invariant s (c.requires.list_is ∙ sym c.self.view_is), (low_word x c.self.invariant 2 (omega arith), lock_owes _ c.args.self.now s c.requires)),
+)
+
+pub returns : goal.returns
+returns g c = has_locked c.args.self.now c.args.token.now c.take_lock.new.token c.requires c.take_lock.ensures.took c.take_lock.ensures.own

@@ -1,0 +1,80 @@
+-- The rows of a running notify list.
+use Rattle.std.specs.Prelude.{◌≡◌, ℕ, zero, suc, ◌<◌, List, refl}
+use Rattle.waiters.specs.declared.wait.Wait as waiters
+use Rattle.step_table.specs.declared.list_place.ListWord.{ListWord}
+use Rattle.step_table.specs.declared.list_place.ListWord.TheVariants.{Wait, Notify, Lock, Grant}
+use Rattle.step_table.specs.EventOf.{store}
+use Rattle.step_table.specs.ListEvent.{ListNext}
+use Rattle.step_table.specs.ListTable.{list_table}
+use Rattle.step_table.specs.ListWorld.{ListWords, ListSeat, ListEntry, ListWorld}
+use Rattle.step_table.specs.ListSteps.{turned}
+use Rattle.step_table.specs.Path.{Deed, runs, looks}
+use Rattle.list_law.specs.ListLawful.{holds}
+use Rattle.list_law.specs.ListPath.{ListStride}
+use Rattle.running_rows.specs.Family.{Family}
+use Rattle.notify_list.specs.declared.view.Known.{Known}
+use Rattle.notify_list.specs.declared.view.Setting.{Setting}
+use Rattle.notify_list.specs.declared.view.Record.{Record}
+use Rattle.notify_list.specs.Setting.{address}
+use Rattle.notify_list.specs.Rule.{watched, Knows, Lands, IsRecord, Shows, fresh}
+
+-- the word at this address
+abbrev pub word_at : ℕ → ListWord
+word_at zero = Wait
+word_at (suc zero) = Notify
+word_at (suc (suc zero)) = Lock
+word_at (suc (suc (suc s))) = Grant s
+
+-- the list of waits after the deed of the seat i in this world
+abbrev pub queue_left : ListWorld → ℕ → Deed ListWord → List waiters.Wait
+queue_left s i runs = (turned s i).words.queue
+queue_left s i (looks w) = s.words.queue
+
+-- what the seat i knew of the list of waits, whose lock it held, was so still in this world, and it knows what became of it
+pub record Beside (s : ListWorld) (i : ℕ) (v : Known) (p : ListStride) (w : Known) : Type 0 where
+  pub held : holds v.sight.stands.place ≡ 1 → v.queue ≡ s.words.queue
+  pub left : w.queue ≡ queue_left s i p.deed
+  pub lands : Lands i w
+  pub there : i < v.setting.seats
+
+-- the row ran of a seat that stood so, and it is a store of x in the word that lies there
+pub record HasStored (p : ListStride) (place x : ℕ) : Type 0 where
+  pub ran : p.deed ≡ runs
+  pub seat : ℕ
+  pub words : ListWords
+  pub word : ListWord
+  pub next : ListNext
+  pub row : list_table seat p.stood words ≡ store word x next
+  pub lies : address word ≡ place
+
+-- a list of no seats
+abbrev pub no_list : Setting
+no_list = record { first = 0; seats = 0 }
+
+abbrev pub list_rows : Family Record Known ListStride Setting
+list_rows = record {
+  Key = Setting;
+  World = ListWorld;
+  Word = ListWord;
+  Value = ℕ;
+  Next = ListNext;
+  Stands = ListSeat;
+  Entry = ListEntry;
+  key = λ z. z;
+  seats = λ z. z.seats;
+  of = λ v. v.setting;
+  watched = watched;
+  sight = λ v. v.sight;
+  stride = λ p. p;
+  value = λ n. n;
+  word_at = λ z i. word_at i;
+  fresh = fresh;
+  nobody = fresh no_list;
+  Shows = Shows;
+  Knows = λ z u. Knows z u.number u.knows;
+  IsHeld = λ v slot y. (slot ≡ 0) × IsRecord v.setting.seats y v.queue;
+  Also = Beside;
+  HasStored = λ z. HasStored;
+  fresh_is = λ z. refl;
+  nobody_is = refl;
+}

@@ -1,0 +1,7 @@
+pub mod Places
+pub mod Keeping
+pub mod Telling
+pub mod Opening
+pub mod Seating
+pub mod Together
+pub use Rattle.atomic_table.proofs.Lists

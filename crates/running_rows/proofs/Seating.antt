@@ -1,0 +1,415 @@
+-- The rule is kept where seats come to sit in one view, look together, and part.
+use Rattle.std.proofs.Common.{◌≡◌, ◌≢◌, ℕ, ◌<◌, ◌^◌, List, [], ◌∷◌, ◌++◌, length, set, slice_index, sym, refl, ap, ◌∙◌, subst, ⊎_elim, inl, inr, arith}
+use Rattle.std.proofs.lemmas.List.{set-get_or}
+use mathlib.Core.Option.{some}
+use lib.ListN.{get_elem?}
+use Rattle.atomic_table.specs.Table.{State, Me, Allows, Splits, Joins, keeps}
+use mathlib.Core.Logic.{dite}
+use native.Mathlib.Decide.{ℕ_discrete}
+use Rattle.atomic_table.proofs.Lists.{at_set, at_last, set_here, set_again, set_else}
+use Rattle.step_table.specs.World.{put}
+use Rattle.step_table.proofs.Sums.{put_here, put_else}
+use Rattle.running_rows.specs.declared.view.View.{View}
+use Rattle.running_rows.specs.declared.view.Seated.{Seated}
+use Rattle.running_rows.specs.Family.{Family}
+use Rattle.running_rows.specs.Rule.{IsSomeones, IsSeated, HasSeat, In, AreApart, nobody, Sits, HasSeats, IsKept}
+use Rattle.running_rows.specs.Owing.{Stands, Sees, IsSeen}
+use Rattle.running_rows.specs.Sitting.{alone, leaving, guests_apart, lone, staying, vacant, sitting, other_guests, first_guest, parting, parted, Met, MetAt}
+use Rattle.running_rows.proofs.Opening.{at_end}
+use Rattle.running_rows.proofs.Places.{at_low, same_at, replaced, longer, moved, moved_in, moved_else}
+
+module _ {S V T K : Type 0} (f : Family S V T K) (k : f.Key) where
+  -- what a view is under the rule
+  abbrev Is : f.World → (ℕ → ℕ) → ℕ → ℕ → View V T → Type 0
+  Is world spot made j v = HasSeats f k world spot made j v × (0 < v.made → (v.own.number ≡ 0) × (v.made ≡ made))
+
+  is_at : (world : f.World) (spot : ℕ → ℕ) (made i j : ℕ) (v w : View V T) → j ≡ i → v ≡ w → Is world spot made i v → Is world spot made j w
+  is_at world spot made i j v w there same = subst (λ (y : ℕ × View V T). Is world spot made y.0 y.1) (λ n. (sym there n, same n))
+
+  -- the tokens have changed, and nothing else
+  respotted : (s : State S (View V T)) (r : IsKept f k s) (spot : ℕ → ℕ) (views : List (View V T))
+      → ((j : ℕ) (v : View V T) → get_elem? views j ≡ some v → IsSomeones f v → Is r.world spot r.made j v)
+      → ((n : ℕ) → n < r.made → IsSeated f views (spot n) n) → IsKept f k (record { words = s.words; homes = s.homes; views = views })
+  respotted s r spot views ok seated = record {
+    world = r.world;
+    shows = r.shows;
+    spot = spot;
+    made = r.made;
+    views = λ j v e h. (ok j v e h).0;
+    seated = seated;
+    unmade = r.unmade;
+    maker = λ j v e h. (ok j v e h).1;
+    fits = r.fits;
+  }
+
+  nobody_not : (v : View V T) → nobody f ≡ v → IsSomeones f v → ⊥
+  nobody_not v e h = let l = ap (λ (u : View V T). f.seats (f.of u.own.knows)) e in let n = f.nobody_is in omega arith
+
+  was_so : (s : State S (View V T)) (r : IsKept f k s) (j : ℕ) (v : View V T) → get_elem? s.views j ≡ some v → IsSomeones f v → Is r.world r.spot r.made j v
+  was_so s r j v e h = (r.views j v e h, r.maker j v e h)
+
+  -- a token of no seat may be made
+  pub spares_kept : (id : ℕ) (v : View V T) → Splits (IsKept f k) id v (staying v) (vacant f v)
+  spares_kept id v s r at = respotted s r r.spot (set s.views id v ++ nobody f ∷ []) (λ j u e h. ⊎_elim
+      (λ (was : get_elem? (set s.views id v) j ≡ some u). was_so s r j u (ap (λ (l : List (View V T)). get_elem? l j) (sym (set_again s.views id v at)) ∙ was) h)
+      (λ (t : (j ≡ length (set s.views id v)) × (nobody f ≡ u)). absurd (nobody_not u t.1 h))
+      (at_end (set s.views id v) (nobody f) u j e))
+      (λ n low. longer f (set s.views id v) (nobody f) (r.spot n) n (subst (λ (l : List (View V T)). IsSeated f l (r.spot n) n) (sym (set_again s.views id v at)) (r.seated n low)))
+
+  -- the seats of a view sit at another place
+  sits_at : (world : f.World) (spot goes : ℕ → ℕ) (made j i : ℕ) (u : Seated V T) → Sits f k world spot made j u → goes u.number ≡ i → Sits f k world goes made i u
+  sits_at world spot goes made j i u o is = record { place_is = is; is_made = o.is_made; of_is = o.of_is; knows = o.knows }
+
+  -- all guests may leave together
+  module _ (id : ℕ) (v : View V T) (some_v : IsSomeones f v) (s : State S (View V T)) (r : IsKept f k s) (at : get_elem? s.views id ≡ some v) where
+    abbrev without : List (View V T)
+    without = set s.views id (alone v)
+
+    stay : HasSeats f k r.world r.spot r.made id v
+    stay = r.views id v at some_v
+
+    abbrev away : ℕ → ℕ
+    away = moved r.spot v.guests (length without)
+
+    -- a seat that is no guest sits where it sat
+    no_guest : (j : ℕ) (u : Seated V T) → ((g : Seated V T) → In g v.guests → g.number ≢ u.number) → Sits f k r.world r.spot r.made j u → Sits f k r.world away r.made j u
+    no_guest j u none o = sits_at r.world r.spot away r.made j j u o (moved_else r.spot v.guests (length without) u.number none ∙ o.place_is)
+
+    -- who sits at another place is none
+    not_there : (j : ℕ) (u : Seated V T) → j ≢ id → Sits f k r.world r.spot r.made j u → (g : Seated V T) → In g v.guests → g.number ≢ u.number
+    not_there j u ne o g h e = ne (sym o.place_is ∙ ap r.spot (sym e) ∙ (stay.guests g h).place_is)
+
+    left_alone : HasSeats f k r.world away r.made id (alone v)
+    left_alone = record { own = no_guest id v.own stay.others stay.own; guests = λ g h. absurd h; others = λ g h. absurd h; apart = tt }
+
+    gone_away : (u : View V T) → leaving f v ≡ u → IsSomeones f u → Is r.world away r.made (length without) u
+    gone_away u e h = by v.guests refl
+      where
+        by : (gs : List (Seated V T)) → v.guests ≡ gs → Is r.world away r.made (length without) u
+        by [] none = absurd (nobody_not u (sym (ap (guests_apart f) none) ∙ e) h)
+        by (x ∷ xs) is = is_at r.world away r.made (length without) (length without) (record { own = x; guests = xs; made = 0 }) u refl (sym (ap (guests_apart f) is) ∙ e) (
+          record {
+            own = leaves x (inl refl);
+            guests = λ g i. leaves g (inr i);
+            others = all.0;
+            apart = all.1;
+          },
+          (λ made. absurd (omega arith)),
+        )
+          where
+            all : AreApart (x ∷ xs)
+            all = subst AreApart is stay.apart
+
+            leaves : (g : Seated V T) → In g (x ∷ xs) → Sits f k r.world away r.made (length without) g
+            leaves g i = let here = subst (In g) (sym is) i in
+                sits_at r.world r.spot away r.made id (length without) g (stay.guests g here) (moved_in r.spot v.guests (length without) g here)
+
+    -- each seat sits somewhere
+    seated_apart : (n : ℕ) → n < r.made → IsSeated f (without ++ leaving f v ∷ []) (away n) n
+    seated_apart n low = dite (ℕ_discrete (r.spot n) id) here_it elsewhere_it
+      where
+        o : IsSeated f s.views (r.spot n) n
+        o = r.seated n low
+
+        elsewhere_it : r.spot n ≢ id → IsSeated f (without ++ leaving f v ∷ []) (away n) n
+        elsewhere_it ne = subst (λ j. IsSeated f (without ++ leaving f v ∷ []) j n)
+            (sym (moved_else r.spot v.guests (length without) n (λ g h e. ne (ap r.spot (sym e) ∙ (stay.guests g h).place_is))))
+            (longer f without (leaving f v) (r.spot n) n (replaced f s.views id v (alone v) at some_v (r.spot n) n (λ e. absurd (ne e)) o))
+
+        stays : v.own.number ≡ n → IsSeated f (without ++ leaving f v ∷ []) (away n) n
+        stays e = subst (λ j. IsSeated f (without ++ leaving f v ∷ []) j n)
+            (sym (moved_else r.spot v.guests (length without) n (λ g h q. stay.others g h (q ∙ sym e)) ∙ ap r.spot (sym e) ∙ stay.own.place_is))
+            (longer f without (leaving f v) id n (alone v, set_here s.views id (alone v) (at_low s.views id v at), some_v, inl e))
+
+        goes : ((g : Seated V T) × In g v.guests × (g.number ≡ n)) → IsSeated f (without ++ leaving f v ∷ []) (away n) n
+        goes g = subst (λ q. IsSeated f (without ++ leaving f v ∷ []) (away q) q) g.2
+            (subst (λ j. IsSeated f (without ++ leaving f v ∷ []) j g.0.number) (sym (moved_in r.spot v.guests (length without) g.0 g.1))
+            (leaving f v, at_last without (leaving f v) (length without) refl, some_leaving v.guests refl g.0 g.1, has_leaving v.guests g.0 g.1))
+          where
+            has_leaving : (gs : List (Seated V T)) (h : Seated V T) → In h gs → HasSeat h.number (guests_apart f gs)
+            has_leaving [] h i = absurd i
+            has_leaving (x ∷ xs) h (inl e) = inl (ap (λ (y : Seated V T). y.number) e)
+            has_leaving (x ∷ xs) h (inr i) = inr (h, i, refl)
+
+            some_leaving : (gs : List (Seated V T)) → v.guests ≡ gs → (h : Seated V T) → In h gs → IsSomeones f (guests_apart f gs)
+            some_leaving [] is h i = absurd i
+            some_leaving (x ∷ xs) is h i = let a = ap f.seats (stay.guests x (subst (In x) (sym is) (inl refl))).of_is in let b = ap f.seats stay.own.of_is in omega (arith, some_v)
+
+        here_it : r.spot n ≡ id → IsSeated f (without ++ leaving f v ∷ []) (away n) n
+        here_it e = ⊎_elim stays goes (subst (HasSeat n) (same_at s.views (r.spot n) id o.0 v e o.1 at) o.3)
+
+    apart_kept : IsKept f k (record { words = s.words; homes = s.homes; views = without ++ leaving f v ∷ [] })
+    apart_kept = respotted s r away (without ++ leaving f v ∷ []) (λ j u e h. ⊎_elim
+        (λ (was : get_elem? without j ≡ some u). ⊎_elim
+        (λ (q : (j ≡ id) × (alone v ≡ u)). is_at r.world away r.made id j (alone v) u q.0 q.1 (left_alone, r.maker id v at some_v))
+        (λ (q : (j ≢ id) × (get_elem? s.views j ≡ some u)). let o = r.views j u q.1 h in (
+          record { own = no_guest j u.own (not_there j u.own q.0 o.own) o.own; guests = λ g i. no_guest j g (not_there j g q.0 (o.guests g i)) (o.guests g i); others = o.others; apart = o.apart },
+          r.maker j u q.1 h,
+        ))
+        (at_set s.views id j (alone v) u was))
+        (λ (t : (j ≡ length without) × (leaving f v ≡ u)). subst (λ i. Is r.world away r.made i u) (sym t.0) (gone_away u t.1 h))
+        (at_end without (leaving f v) u j e))
+        seated_apart
+
+  pub forgets_kept : (id : ℕ) (v : View V T) → IsSomeones f v → Splits (IsKept f k) id v (alone v) (leaving f v)
+  forgets_kept id v some_v s r at = apart_kept id v some_v s r at
+
+  -- a seat comes to sit with another
+  module _ (id : ℕ) (v : View V T) (other : ℕ) (w : View V T) (some_v : IsSomeones f v) (some_w : IsSomeones f w) (s : State S (View V T)) (r : IsKept f k s) (at : get_elem? s.views id ≡ some v) (lone_w : w.guests ≡ []) (apart : ¬ (other ≡ id))
+      (theirs : get_elem? (set s.views id (sitting v w)) other ≡ some w) where
+    mine : HasSeats f k r.world r.spot r.made id v
+    mine = r.views id v at some_v
+
+    their : HasSeats f k r.world r.spot r.made other w
+    their = r.views other w (sym (set_else s.views id other (sitting v w) apart) ∙ theirs) some_w
+
+    abbrev spot : ℕ → ℕ
+    spot = put r.spot w.own.number id
+
+    -- who sits elsewhere isn't the seat that moves
+    stays_there : (j : ℕ) (u : Seated V T) → j ≢ other → Sits f k r.world r.spot r.made j u → Sits f k r.world spot r.made j u
+    stays_there j u ne o = sits_at r.world r.spot spot r.made j j u o (put_else r.spot w.own.number id u.number (λ q. ne (sym o.place_is ∙ ap r.spot q ∙ their.own.place_is)) ∙ o.place_is)
+
+    differs : (u : Seated V T) → Sits f k r.world r.spot r.made id u → u.number ≢ w.own.number
+    differs u o q = apart (sym their.own.place_is ∙ ap r.spot (sym q) ∙ o.place_is)
+
+    comes : Sits f k r.world spot r.made id w.own
+    comes = sits_at r.world r.spot spot r.made other id w.own their.own (put_here r.spot w.own.number id)
+
+    guests_are : (g : Seated V T) → In g (w.own ∷ v.guests) → Sits f k r.world spot r.made id g
+    guests_are g (inl e) = subst (Sits f k r.world spot r.made id) e comes
+    guests_are g (inr e) = stays_there id g (λ q. apart (sym q)) (mine.guests g e)
+
+    others_are : (g : Seated V T) → In g (w.own ∷ v.guests) → g.number ≢ v.own.number
+    others_are g (inl e) = λ q. differs v.own mine.own (sym q ∙ ap (λ (h : Seated V T). h.number) (sym e))
+    others_are g (inr e) = mine.others g e
+
+    seats_both : HasSeats f k r.world spot r.made id (sitting v w)
+    seats_both = record {
+      own = stays_there id v.own (λ q. apart (sym q)) mine.own;
+      guests = guests_are;
+      others = others_are;
+      apart = ((λ h e. differs h (mine.guests h e)), mine.apart);
+    }
+
+    seats_stay : (j : ℕ) (u : View V T) → j ≢ other → HasSeats f k r.world r.spot r.made j u → HasSeats f k r.world spot r.made j u
+    seats_stay j u ne o = record { own = stays_there j u.own ne o.own; guests = λ g h. stays_there j g ne (o.guests g h); others = o.others; apart = o.apart }
+
+    -- each seat sits somewhere
+    seated_both : (n : ℕ) → n < r.made → IsSeated f (set (set s.views id (sitting v w)) other (nobody f)) (spot n) n
+    seated_both n low = dite (ℕ_discrete n w.own.number) comes_it stays_it
+      where
+        comes_it : n ≡ w.own.number → IsSeated f (set (set s.views id (sitting v w)) other (nobody f)) (spot n) n
+        comes_it e = subst (λ q. IsSeated f (set (set s.views id (sitting v w)) other (nobody f)) (spot q) q) (sym e)
+            (subst (λ j. IsSeated f (set (set s.views id (sitting v w)) other (nobody f)) j w.own.number) (sym (put_here r.spot w.own.number id)) (
+              sitting v w,
+              set_else (set s.views id (sitting v w)) other id (nobody f) (λ q. apart (sym q)) ∙ set_here s.views id (sitting v w) (at_low s.views id v at),
+              some_v,
+              inr (w.own, inl refl, refl),
+            ))
+
+        more : (j : ℕ) → j ≡ id → HasSeat n v → HasSeat n (sitting v w)
+        more j e = ⊎_elim (λ q. inl q) (λ g. inr (g.0, inr g.1, g.2))
+
+        stays_it : n ≢ w.own.number → IsSeated f (set (set s.views id (sitting v w)) other (nobody f)) (spot n) n
+        stays_it ne = let o = r.seated n low in let moved_there = replaced f s.views id v (sitting v w) at some_v (r.spot n) n (more (r.spot n)) o in
+            subst (λ j. IsSeated f (set (set s.views id (sitting v w)) other (nobody f)) j n) (sym (put_else r.spot w.own.number id n ne))
+            (moved_there.0, set_else (set s.views id (sitting v w)) other (r.spot n) (nobody f) (not_other o) ∙ moved_there.1, moved_there.2, moved_there.3)
+          where
+            not_other : IsSeated f s.views (r.spot n) n → r.spot n ≢ other
+            not_other o e = ⊎_elim
+                (λ q. ne (sym q))
+                (λ g. absurd (subst (λ (l : List (Seated V T)). In g.0 l) lone_w g.1))
+                (subst (HasSeat n) (same_at s.views (r.spot n) other o.0 w e o.1 (sym (set_else s.views id other (sitting v w) apart) ∙ theirs)) o.3)
+
+    joined : IsKept f k (record { words = s.words; homes = s.homes; views = set (set s.views id (sitting v w)) other (nobody f) })
+    joined = respotted s r spot (set (set s.views id (sitting v w)) other (nobody f)) (λ j u e h. ⊎_elim
+        (λ (t : (j ≡ other) × (nobody f ≡ u)). absurd (nobody_not u t.1 h))
+        (λ (t : (j ≢ other) × (get_elem? (set s.views id (sitting v w)) j ≡ some u)). ⊎_elim
+        (λ (q : (j ≡ id) × (sitting v w ≡ u)). is_at r.world spot r.made id j (sitting v w) u q.0 q.1 (seats_both, r.maker id v at some_v))
+        (λ (q : (j ≢ id) × (get_elem? s.views j ≡ some u)). (seats_stay j u t.0 (r.views j u q.1 h), r.maker j u q.1 h))
+        (at_set s.views id j (sitting v w) u t.1))
+        (at_set (set s.views id (sitting v w)) other j (nobody f) u e))
+        seated_both
+
+  pub sits_kept : (id : ℕ) (v : View V T) (other : ℕ) (w : View V T) → IsSomeones f v → IsSomeones f w → w.guests ≡ [] → Joins (IsKept f k) id v other w (sitting v w) (nobody f)
+  sits_kept id v other w some_v some_w lone_w s r at apart theirs = joined id v other w some_v some_w s r at lone_w apart theirs
+
+  -- the first guest leaves
+  module _ (id : ℕ) (v : View V T) (g : Seated V T) (gs : List (Seated V T)) (with_it : v.guests ≡ g ∷ gs) (some_v : IsSomeones f v) (s : State S (View V T)) (r : IsKept f k s) (at : get_elem? s.views id ≡ some v) where
+    abbrev left : View V T
+    left = record v { guests = gs }
+
+    abbrev before : List (View V T)
+    before = set s.views id left
+
+    all : HasSeats f k r.world r.spot r.made id v
+    all = r.views id v at some_v
+
+    in_all : (h : Seated V T) → In h (g ∷ gs) → In h v.guests
+    in_all h = subst (In h) (sym with_it)
+
+    all_apart : AreApart (g ∷ gs)
+    all_apart = subst AreApart with_it all.apart
+
+    abbrev goes : ℕ → ℕ
+    goes = put r.spot g.number (length before)
+
+    remains : (j : ℕ) (u : Seated V T) → u.number ≢ g.number → Sits f k r.world r.spot r.made j u → Sits f k r.world goes r.made j u
+    remains j u ne o = sits_at r.world r.spot goes r.made j j u o (put_else r.spot g.number (length before) u.number ne ∙ o.place_is)
+
+    leaver : Sits f k r.world r.spot r.made id g
+    leaver = all.guests g (in_all g (inl refl))
+
+    elsewhere : (j : ℕ) (u : Seated V T) → j ≢ id → Sits f k r.world r.spot r.made j u → Sits f k r.world goes r.made j u
+    elsewhere j u ne o = remains j u (λ q. ne (sym o.place_is ∙ ap r.spot q ∙ leaver.place_is)) o
+
+    seats_left : HasSeats f k r.world goes r.made id left
+    seats_left = record {
+      own = remains id v.own (λ q. all.others g (in_all g (inl refl)) (sym q)) all.own;
+      guests = λ h e. remains id h (all_apart.0 h e) (all.guests h (in_all h (inr e)));
+      others = λ h e. all.others h (in_all h (inr e));
+      apart = all_apart.1;
+    }
+
+    seats_right : HasSeats f k r.world goes r.made (length before) (lone g)
+    seats_right = record {
+      own = sits_at r.world r.spot goes r.made id (length before) g leaver (put_here r.spot g.number (length before));
+      guests = λ h e. absurd e;
+      others = λ h e. absurd e;
+      apart = tt;
+    }
+
+    -- each seat sits somewhere
+    seated_parted : (n : ℕ) → n < r.made → IsSeated f (before ++ lone g ∷ []) (goes n) n
+    seated_parted n low = dite (ℕ_discrete n g.number)
+        (λ e. subst (λ q. IsSeated f (before ++ lone g ∷ []) (goes q) q) (sym e)
+        (subst (λ j. IsSeated f (before ++ lone g ∷ []) j g.number) (sym (put_here r.spot g.number (length before)))
+        (lone g, at_last before (lone g) (length before) refl, some_g, inl refl)))
+        (λ ne. subst (λ j. IsSeated f (before ++ lone g ∷ []) j n) (sym (put_else r.spot g.number (length before) n ne))
+        (longer f before (lone g) (r.spot n) n (replaced f s.views id v left at some_v (r.spot n) n (fewer n ne (r.spot n)) (r.seated n low))))
+      where
+        some_g : IsSomeones f (lone g)
+        some_g = let a = ap f.seats leaver.of_is in let b = ap f.seats all.own.of_is in omega (arith, some_v)
+
+        fewer : (n : ℕ) → n ≢ g.number → (j : ℕ) → j ≡ id → HasSeat n v → HasSeat n left
+        fewer n ne j e = ⊎_elim (λ q. inl q) (λ h. ⊎_elim
+            (λ q. absurd (ne (sym h.2 ∙ ap (λ (y : Seated V T). y.number) (sym q))))
+            (λ q. inr (h.0, q, h.2))
+            (subst (In h.0) with_it h.1))
+
+    parts : IsKept f k (record { words = s.words; homes = s.homes; views = set s.views id left ++ lone g ∷ [] })
+    parts = respotted s r goes (set s.views id left ++ lone g ∷ []) (λ j u e h. ⊎_elim
+        (λ (was : get_elem? before j ≡ some u). ⊎_elim
+        (λ (q : (j ≡ id) × (left ≡ u)). is_at r.world goes r.made id j left u q.0 q.1 (seats_left, r.maker id v at some_v))
+        (λ (q : (j ≢ id) × (get_elem? s.views j ≡ some u)). let o = r.views j u q.1 h in
+        (record { own = elsewhere j u.own q.0 o.own; guests = λ y e. elsewhere j y q.0 (o.guests y e); others = o.others; apart = o.apart }, r.maker j u q.1 h))
+        (at_set s.views id j left u was))
+        (λ (t : (j ≡ length before) × (lone g ≡ u)). is_at r.world goes r.made (length before) j (lone g) u t.0 t.1 (seats_right, (λ made. absurd (omega arith))))
+        (at_end before (lone g) u j e))
+        seated_parted
+
+  pub parts_kept : (id : ℕ) (v : View V T) (g : Seated V T) (gs : List (Seated V T)) → v.guests ≡ g ∷ gs → IsSomeones f v → Splits (IsKept f k) id v (parting v) (parted f v)
+  parts_kept id v g gs with_it some_v s r at =
+      subst (λ (l : List (Seated V T)). IsKept f k (record { words = s.words; homes = s.homes; views = set s.views id (record v { guests = other_guests l }) ++ first_guest f l ∷ [] })) (sym with_it)
+      (parts id v g gs with_it some_v s r at)
+
+  -- a seat and its first guest look at one moment
+  module _ (i : ℕ) (m : Me S (View V T)) (g : Seated V T) (gs : List (Seated V T)) (with_it : m.0.guests ≡ g ∷ gs) (some_v : IsSomeones f m.0) (seen : IsSeen f k i)
+      (s : State S (View V T)) (r : IsKept f k s) (id : ℕ) (at : get_elem? s.views id ≡ some m.0) (below : slice_index s.words i < 2 ^ 64) where
+    both : HasSeats f k r.world r.spot r.made id m.0
+    both = r.views id m.0 at some_v
+
+    in_both : (h : Seated V T) → In h (g ∷ gs) → In h m.0.guests
+    in_both h = subst (In h) (sym with_it)
+
+    both_apart : AreApart (g ∷ gs)
+    both_apart = subst AreApart with_it both.apart
+
+    guest : Sits f k r.world r.spot r.made id g
+    guest = both.guests g (in_both g (inl refl))
+
+    stands : (u : Seated V T) → Sits f k r.world r.spot r.made id u → Stands f k u r.world s.words s.homes i
+    stands u o = record { shows = r.shows; of_is = o.of_is; there = let a = o.is_made in let b = r.fits in omega arith; knows = o.knows; below = below }
+
+    one : Sees f k m.0.own r.world i (slice_index s.words i)
+    one = seen r.world s.words s.homes m.0.own (stands m.0.own both.own)
+
+    other : Sees f k g r.world i (slice_index s.words i)
+    other = seen r.world s.words s.homes g (stands g guest)
+
+    -- a seat that looked sits where it sat
+    sits_now : (u : Seated V T) (o : Sees f k u r.world i (slice_index s.words i)) → Sits f k r.world r.spot r.made id u → Sits f k r.world r.spot r.made id o.now
+    sits_now u o sat = record {
+      place_is = ap r.spot o.went.same.0 ∙ sat.place_is;
+      is_made = let a = sat.is_made in let b = o.went.same.0 in omega arith;
+      of_is = o.went.same.1 ∙ sat.of_is;
+      knows = o.knows;
+    }
+
+    abbrev now : View V T
+    now = record m.0 { own = one.now; guests = other.now ∷ gs }
+
+    guests_now : (h : Seated V T) → In h (other.now ∷ gs) → Sits f k r.world r.spot r.made id h
+    guests_now h (inl e) = subst (Sits f k r.world r.spot r.made id) e (sits_now g other guest)
+    guests_now h (inr e) = both.guests h (in_both h (inr e))
+
+    others_now : (h : Seated V T) → In h (other.now ∷ gs) → h.number ≢ one.now.number
+    others_now h (inl e) = λ q. both.others g (in_both g (inl refl)) (sym other.went.same.0 ∙ ap (λ (y : Seated V T). y.number) e ∙ q ∙ one.went.same.0)
+    others_now h (inr e) = λ q. both.others h (in_both h (inr e)) (q ∙ one.went.same.0)
+
+    seats_now : HasSeats f k r.world r.spot r.made id now
+    seats_now = record {
+      own = sits_now m.0.own one both.own;
+      guests = guests_now;
+      others = others_now;
+      apart = ((λ h e q. both_apart.0 h e (q ∙ other.went.same.0)), both_apart.1);
+    }
+
+    some_now : IsSomeones f now
+    some_now = let a = ap f.seats one.went.same.1 in omega (arith, some_v)
+
+    same_seats : (n j : ℕ) → j ≡ id → HasSeat n m.0 → HasSeat n now
+    same_seats n j e = ⊎_elim (λ q. inl (one.went.same.0 ∙ q)) (λ h. ⊎_elim
+        (λ q. inr (other.now, inl refl, other.went.same.0 ∙ ap (λ (y : Seated V T). y.number) q ∙ h.2))
+        (λ q. inr (h.0, inr q, h.2))
+        (subst (In h.0) with_it h.1))
+
+    kept : IsKept f k (record { words = set s.words i (slice_index s.words i); homes = s.homes; views = set s.views id now })
+    kept = subst (λ (ws : List ℕ). IsKept f k (record { words = ws; homes = s.homes; views = set s.views id now })) (sym (set-get_or s.words i 0))
+        (respotted s r r.spot (set s.views id now) (λ j u e h. ⊎_elim
+        (λ (q : (j ≡ id) × (now ≡ u)). is_at r.world r.spot r.made id j now u q.0 q.1
+        (seats_now, (λ made. let o = r.maker id m.0 at some_v made in (one.went.same.0 ∙ o.0, o.1))))
+        (λ (q : (j ≢ id) × (get_elem? s.views j ≡ some u)). was_so s r j u q.1 h)
+        (at_set s.views id j now u e))
+        (λ n low. replaced f s.views id m.0 now at some_now (r.spot n) n (same_seats n (r.spot n)) (r.seated n low)))
+
+    met : Met f (f.word_at (f.of m.0.own.knows) i) m.0.own g (slice_index s.words i) one.now other.now
+    met = subst (λ q. Met f (f.word_at q i) m.0.own g (slice_index s.words i) one.now other.now) (sym both.own.of_is) (record {
+      one = one.went;
+      other = other.went;
+      together = one.world_is ∙ sym other.world_is;
+      two = λ q. both.others g (in_both g (inl refl)) (sym q);
+    })
+
+  first_is : (g h : Seated V T) (gs hs : List (Seated V T)) → g ∷ gs ≡ h ∷ hs → (g ≡ h) × (gs ≡ hs)
+  first_is g h gs hs e = (ap head e, ap other_guests e)
+    where
+      head : List (Seated V T) → Seated V T
+      head [] = g
+      head (x ∷ xs) = x
+
+  pub meets_kept : (slots id i : ℕ) (m : Me S (View V T)) (g : Seated V T) (gs : List (Seated V T)) → m.0.guests ≡ g ∷ gs → IsSomeones f m.0 → IsSeen f k i
+      → Allows (IsKept f k) slots id m i (λ n. n) (λ n t. MetAt f i m n t)
+  meets_kept slots id i m g gs with_it some_v seen s r sized at below = (
+    now i m g gs with_it some_v seen s r id at below,
+    keeps,
+    tt,
+    kept i m g gs with_it some_v seen s r id at below,
+    (λ h hs is. let e = first_is g h gs hs (sym with_it ∙ is) in (
+      (other i m g gs with_it some_v seen s r id at below).now,
+      subst (λ (y : Seated V T). Met f (f.word_at (f.of m.0.own.knows) i) m.0.own y (slice_index s.words i) (one i m g gs with_it some_v seen s r id at below).now (other i m g gs with_it some_v seen s r id at below).now) e.0
+          (met i m g gs with_it some_v seen s r id at below),
+      (λ n. (record m.0 { own = (one i m g gs with_it some_v seen s r id at below).now; guests = (other i m g gs with_it some_v seen s r id at below).now ∷ e.1 n }, m.1)),
+    )),
+  )

@@ -1,0 +1,10 @@
+pub mod Family
+pub mod Strides
+pub mod Rule
+pub mod Owing
+pub mod Sitting
+pub mod Sleeping
+pub mod Words
+pub use Rattle.atomic_table.specs.Table
+pub use Rattle.atomic_table.specs.Seated
+pub use Rattle.atomic_table.specs.Lent
