@@ -9,7 +9,9 @@
 //! broken it would search for long before it gave up.
 #![tactic(auto)]
 
-ghost use Rattle.std.specs.Prelude.{◌≡◌, ◌<◌, true, false, length, All};
+ghost use Rattle.std.specs.Prelude.{◌≡◌, ◌<◌, true, false, [], length, All, IfSome, IfNone};
+ghost use Rattle.notify_list.specs.Calls.{AllGranted, numbers_seen};
+ghost use Rattle.notify_list.specs.Callers.{IsSeatAfter};
 
 pub mod spent;
 
@@ -41,19 +43,23 @@ pub fn adds_most(table: &SemaTable, seat: Seat) -> Result<PostedMany, (Seat, Pos
     table.post_many(seat, CounterId::new(0), 256)
 }
 
-/// Waits with a ticket of one list, and then notifies one who waits on the next.
+/// Waits with a ticket of one list, and then notifies one on the next. The ticket is granted then; and where none is to be granted
+/// on the next list, the notifier has told nothing, and all are granted of which it knew.
 pub fn passes_on<R: Wait>(
     rt: &R,
     list: &NotifyList,
     next: &NotifyList,
     holding: Holding,
     notifier: &mut ListSeat,
-) -> (ListSeat, Waited)
+) -> (ListSeat, Option<u64>)
     requires { (holding.list ≡ list.now) × (notifier.old.list ≡ next.now) }
+    ensures waited { IfSome holding.sight.stands.ticket (λ ticket. ticket.number < (numbers_seen result.0).granted) }
+    ensures told { IfNone result.1 (IsSeatAfter notifier.old [] notifier.new) }
+    ensures granted { IfNone result.1 (AllGranted notifier.old notifier.new) }
 {
-    let waited = list.wait(rt, holding);
-    let _ = next.one(rt, notifier);
-    waited
+    let (seat, _) = list.wait(rt, holding);
+    let granted = next.one(rt, notifier);
+    (seat, granted)
 }
 
 /// Waits for a signal under the lock that is held, and then takes the other, too.

@@ -15,7 +15,7 @@ use Rattle.step_table.specs.Counting.{total}
 use Rattle.step_table.specs.ListWorld.{ListWords, ListSeat, ListWorld, found, numbers_after, queue_after}
 use Rattle.step_table.specs.ListEvent.{ListNext, ListEvent, by_found, if_any, waiter}
 use Rattle.step_table.specs.ListTable.{list_event_at}
-use Rattle.step_table.specs.ListSteps.{ListTurn, words_after, seat_after, with_ticket, ListChoice, notify_one, notify_all, end_first, end_second}
+use Rattle.step_table.specs.ListSteps.{ListTurn, words_after, seat_after, with_ticket, ListChoice, notify_one, notify_all, end_looks}
 use Rattle.step_table.proofs.Sums.{put_else, owned, posted}
 use Rattle.list_law.specs.ListHolders.{StoresGrant}
 use Rattle.list_law.specs.ListPlaces.{GrantsParked}
@@ -138,8 +138,7 @@ lowered first seats s t i in_range inv turn =
 costs : (grant : ℕ) {p q : ListPlace} → ListChoice p q → list_place_weight q grant ≤ list_place_weight p grant + notify_cost p
 costs grant notify_one = omega arith
 costs grant notify_all = omega arith
-costs grant (end_first h a) = omega arith
-costs grant (end_second h) = omega arith
+costs grant (end_looks h) = omega arith
 
 pub with_its : (seat : ListSeat) (o : Option Ticket) (grant : ℕ) → list_weighs (with_ticket seat o) grant ≤ list_weighs seat grant + 5
 with_its seat None grant = omega arith

@@ -1,4 +1,3 @@
 pub mod Weighing
-pub mod Places
 pub mod Queueing
 pub mod Turns

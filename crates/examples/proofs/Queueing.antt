@@ -1,17 +1,35 @@
 -- What a worker has after a call.
-use Rattle.std.proofs.Common.{◌≡◌, ℕ, ◌+◌, ◌≤◌, false, List, [], ◌∷◌, slice_index_or, arith, ap, ◌∙◌, subst}
+use Rattle.std.proofs.Common.{◌≡◌, ℕ, ◌+◌, ◌≤◌, false, Ok, List, [], ◌∷◌, inl, inr, slice_index_or, arith, ap, ◌∙◌, subst}
 use Rattle.atomic_table.specs.Seated.{TableId}
+use Rattle.step_table.specs.declared.entry.Entry.{Entry}
+use Rattle.step_table.specs.World.{Layout}
+use Rattle.step_table.specs.Journal.{plain_start, IsLawful}
 use Rattle.sema_law.specs.Balances.{added_on, taken_on}
+use Rattle.sema_law.proofs.Balancing.{lawful_balanced}
 use Rattle.sema_table.specs.declared.answers.Wake.{Wake}
+use Rattle.sema_table.specs.declared.answers.Wake.TheVariants.{Nobody, One, Handed}
 use Rattle.sema_table.specs.Setting.{layout}
 use Rattle.sema_table.specs.Seats.{TableModel, SeatModel}
-use Rattle.sema_table.specs.Whole.{IsAcquired, IsReleased}
-use Rattle.sync_parts.proofs.Calling.{stays_acquired, stays_released}
+use Rattle.sema_table.specs.Callers.{IsSeatAfter, AcquiresUnit}
+use Rattle.sema_table.specs.CallersReleasing.{ReleasesUnit}
 use Rattle.examples.specs.declared.moves.Moves.{Moves}
 use Rattle.examples.specs.Moves.{with_put, with_taken}
 use Rattle.examples.specs.Parts.{QueueModel}
 use Rattle.examples.specs.Queue.{free, full, IsOf, InBounds, HasPut, HasTaken}
-use Rattle.examples.proofs.Places.{bounded, exchanged_seen}
+
+acquired_table : (s u : SeatModel) (c : ℕ) → AcquiresUnit s c false u → u.table ≡ s.table
+acquired_table s u c (inl x) = x.table
+acquired_table s u c (inr (v, none, (waits, all, inl own))) = own.table ∙ none.0.table
+acquired_table s u c (inr (v, none, (waits, all, inr served))) = served.0.table ∙ none.0.table
+
+released_after : (u t : SeatModel) (d : ℕ) (wake : Wake) → ReleasesUnit u d false (Ok (t, wake)) → (told : List Entry) × IsSeatAfter u 1 0 told t
+released_after u t d Nobody x = (_, x.1)
+released_after u t d (One w) x = (_, x.2)
+released_after u t d (Handed w) x = (_, x.2)
+
+-- in a lawful journal no more units of a counter are taken than were there and came
+bounded : (m : Layout) (journal : List Entry) (c : ℕ) → IsLawful (plain_start m.starts) journal → taken_on c journal ≤ m.starts c + added_on c journal
+bounded m journal c lawful = let all = lawful_balanced (plain_start m.starts) journal c lawful in omega arith
 
 module _ (q : QueueModel) (starts : q.table.setting.starts ≡ q.places ∷ 0 ∷ []) (s u t : SeatModel) (ring at : TableId)
     (m n : Moves) (c d : ℕ) (wake : Wake)
@@ -19,16 +37,16 @@ module _ (q : QueueModel) (starts : q.table.setting.starts ≡ q.places ∷ 0 �
       seat = s;
       ring = ring;
       moves = m;
-    })) (acquired : IsAcquired s c false u) (released : IsReleased u d false t wake) (same : at ≡ ring) where
+    })) (acquired : AcquiresUnit s c false u) (released : ReleasesUnit u d false (Ok (t, wake))) (same : at ≡ ring) where
   table_u : u.table ≡ q.table
-  table_u = (stays_acquired s u c acquired).table ∙ mine.0
+  table_u = acquired_table s u c acquired ∙ mine.0
 
   own : IsOf q (record { seat = t; ring = at; moves = n })
-  own = ((stays_released u t d wake released).table ∙ table_u, same ∙ mine.1)
+  own = ((released_after u t d wake released).1.table ∙ table_u, same ∙ mine.1)
 
   in_bounds : InBounds q t.sight.seen
   in_bounds =
-      let seen = exchanged_seen s u t c d wake acquired released in
+      let seen = (released_after u t d wake released).1.lawful in
       let is : u.table.setting.starts ≡ q.places ∷ 0 ∷ [] = ap (λ (x : TableModel). x.setting.starts) table_u ∙ starts in
       record {
         places = subst (λ (l : List ℕ). taken_on free t.sight.seen ≤ slice_index_or l free 0 + added_on free t.sight.seen) is
@@ -41,7 +59,7 @@ module _ (q : QueueModel) (starts : q.table.setting.starts ≡ q.places ∷ 0 �
 module _ (q : QueueModel) (starts : q.table.setting.starts ≡ q.places ∷ 0 ∷ []) (s u t : SeatModel) (ring at : TableId)
     (m n : Moves) (item : ℕ) (wake : Wake)
     (mine : IsOf q (record { seat = s; ring = ring; moves = m })) (same : at ≡ ring) where
-  pub has_put : IsAcquired s free false u → IsReleased u full false t wake → n ≡ with_put m item
+  pub has_put : AcquiresUnit s free false u → ReleasesUnit u full false (Ok (t, wake)) → n ≡ with_put m item
       → HasPut q (record { seat = s; ring = ring; moves = m }) item (record { seat = t; ring = at; moves = n })
   has_put acquired released put = record {
     own = own q starts s u t ring at m n free full wake mine acquired released same;
@@ -50,7 +68,7 @@ module _ (q : QueueModel) (starts : q.table.setting.starts ≡ q.places ∷ 0 �
     put = put;
   }
 
-  pub has_taken : IsAcquired s full false u → IsReleased u free false t wake → n ≡ with_taken m item
+  pub has_taken : AcquiresUnit s full false u → ReleasesUnit u free false (Ok (t, wake)) → n ≡ with_taken m item
       → HasTaken q (record { seat = s; ring = ring; moves = m }) item (record { seat = t; ring = at; moves = n })
   has_taken acquired released taken = record {
     own = own q starts s u t ring at m n full free wake mine acquired released same;

@@ -1,5 +1,5 @@
 -- What the calls of a bounded queue promise.
-use Rattle.std.specs.Prelude.{◌≡◌, ℕ, ◌+◌, ◌-◌, ◌^◌, ◌≤◌, false, List, [], ◌∷◌, length}
+use Rattle.std.specs.Prelude.{◌≡◌, ℕ, ◌+◌, ◌-◌, ◌^◌, ◌≤◌, false, Ok, List, [], ◌∷◌, length}
 use Rattle.std.specs.List.{All}
 use Rattle.atomic_table.specs.Seated.{TableId}
 use Rattle.step_table.specs.declared.entry.Entry.{Entry}
@@ -9,7 +9,8 @@ use Rattle.sema_table.specs.declared.setup_error.SetupError.{SetupError}
 use Rattle.sema_table.specs.declared.setup_error.SetupError.TheVariants.{Seats, NoMemory}
 use Rattle.sema_table.specs.Seats.{SeatModel}
 use Rattle.sema_table.specs.Making.{IsFromOne, IsOutside, most_seats, new_seats}
-use Rattle.sema_table.specs.Whole.{IsAcquired, IsReleased}
+use Rattle.sema_table.specs.Callers.{AcquiresUnit}
+use Rattle.sema_table.specs.CallersReleasing.{ReleasesUnit}
 use Rattle.examples.specs.Moves.{moves, all_parts, times, with_put, with_taken, together}
 use Rattle.examples.specs.Parts.{QueueModel, WorkerModel, TallyModel}
 
@@ -55,9 +56,9 @@ IsOf q w = (w.seat.table ≡ q.table) × (w.ring ≡ q.ring)
 -- the seat took a unit of the one counter, and added one to the other
 pub record Exchanges (s : SeatModel) (takes adds : ℕ) (t : SeatModel) : Type 0 where
   pub claimed : SeatModel
-  pub acquired : IsAcquired s takes false claimed
+  pub acquired : AcquiresUnit s takes false claimed
   pub wake : Wake
-  pub released : IsReleased claimed adds false t wake
+  pub released : ReleasesUnit claimed adds false (Ok (t, wake))
 
 -- what has come of both counters, in what was seen: no more places are claimed than there are, and no more items than came
 pub record InBounds (q : QueueModel) (seen : List Entry) : Type 0 where

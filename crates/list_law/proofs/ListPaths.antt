@@ -26,7 +26,7 @@ use Rattle.step_table.proofs.Sums.{put_here, put_else}
 use Rattle.list_law.proofs.ListKeeping.{list_reached}
 use Rattle.step_table.proofs.Paths.{goes_on_more, goes_on_by, row_ran, are_paths}
 
-journal_told : (i : ℕ) (effect : ListEffect) (journal : List ListEntry) → journal_after i effect journal ≡ journal ++ entries_of i effect
+pub journal_told : (i : ℕ) (effect : ListEffect) (journal : List ListEntry) → journal_after i effect journal ≡ journal ++ entries_of i effect
 journal_told i (HandsOut t) journal = refl
 journal_told i (Grants upto) journal = refl
 journal_told i _ journal = sym (append-nil journal)

@@ -9,7 +9,7 @@ use Rattle.ticket_words.specs.Wrapping.{less}
 use Rattle.step_table.specs.ListWorld.{ListSeat, ListWorld, found}
 use Rattle.step_table.specs.ListEvent.{ListNext, ListEvent}
 use Rattle.step_table.specs.ListTable.{list_event_at}
-use Rattle.step_table.specs.ListSteps.{event_of, finds, seat_after, ListTurn}
+use Rattle.step_table.specs.ListSteps.{seat_after, ListTurn}
 use Rattle.list_law.specs.ListCalls.{one_equal, one_locked, all_equal, all_stored, all_given}
 use Rattle.list_law.specs.ListReturns.{HasDone, EndsDone}
 use Rattle.step_table.proofs.Sums.{put_here}

@@ -9,7 +9,7 @@ use Rattle.step_table.specs.declared.list_place.OneRow.TheVariants.{O1, O3}
 use Rattle.step_table.specs.declared.list_place.Ticket.{Ticket}
 use Rattle.step_table.specs.World.{put}
 use Rattle.step_table.specs.ListWorld.{ListSeat, ListWorld}
-use Rattle.step_table.specs.ListSteps.{ListStep, ListChoice, notify_one, notify_all, end_second, choose, add, wait, with_ticket}
+use Rattle.step_table.specs.ListSteps.{ListStep, ListChoice, notify_one, notify_all, end_looks, choose, add, wait, with_ticket}
 use Rattle.step_table.proofs.Sums.{put_here, put_else, put_same}
 use Rattle.list_law.specs.ListLawful.{holds}
 use Rattle.notify_list.specs.Places.{is_free, at_place, waiting, Begins, stands, adds, ones, alls, waits}
@@ -40,7 +40,7 @@ module _ (i : ℕ) (Q : ListWorld → Type 0) (kept : (s t : ListWorld) → List
 
   rested : (a : ListSeat) (p : ListPlace) → a.place ≡ p → is_free p ≡ true → Sound a → Sound (at_place Rest a)
   rested a Rest at free q = subst Sound (λ k. record a { place = at k }) q
-  rested a (NotifyingOne h O3) at free q = chosen a Rest q (subst (λ p. ListChoice p Rest) (sym at) (end_second h))
+  rested a (NotifyingOne h O3) at free q = chosen a Rest q (subst (λ p. ListChoice p Rest) (sym at) (end_looks h))
   rested a _ at free q = absurd (cc)
 
   began : (a b : ListSeat) → Sound a → Begins a b → Sound b

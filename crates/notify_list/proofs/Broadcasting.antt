@@ -10,7 +10,7 @@ use Rattle.step_table.specs.ListWorld.{Numbers, ListSeat, ListEntry, Granted}
 use Rattle.step_table.specs.ListSteps.{with_ticket}
 use Rattle.step_table.specs.Path.{GoesOn, own_entries}
 use Rattle.step_table.proofs.Paths.{goes_on_more}
-use Rattle.list_law.specs.ListLawful.{told, replay, counted}
+use Rattle.list_law.specs.ListLawful.{told}
 use Rattle.list_law.specs.ListPath.{ListSight}
 use Rattle.list_law.proofs.ListAccounts.{the_list_accounts}
 use Rattle.list_law.proofs.ListPaths.{the_list_paths}
@@ -21,6 +21,7 @@ use Rattle.notify_list.specs.Walks.{Walked, MayLock, Locked}
 use Rattle.notify_list.specs.Calls.{Calls, AllGranted}
 use Rattle.notify_list.specs.NotifyingAll.{looks_all, reach_rows, wake_rows, all_rows, all_entries, NotifiesAll, GrantsSome}
 use Rattle.notify_list.specs.GrantingAll.{LookedForAll, IsAt, MayReach, ReachedAll, MayTake, TakenAll, MayWake, with_waits, WokenSome}
+use Rattle.notify_list.proofs.Parting.{told_last}
 use Rattle.notify_list.proofs.Leading.{equal_is, unequal_is}
 use Rattle.notify_list.proofs.Walking.{walked_on, walked_so, walked_later, token_after, calls, comes_to}
 use Rattle.notify_list.proofs.Resting.{empty_there, there_of, laws_there}
@@ -32,13 +33,9 @@ own_none s t n from a entries rows x none is = subst (λ i. own_entries (watched
     ((the_list_paths.paths (setting_of s).first (setting_of s).seats).own s.me.0.own.number (record { stands = from; seen = seen_of s }) t.me.0.own.knows.sight x.strides x.path
     ∙ ap (λ l. own_entries (watched (setting_of s)) s.me.0.own.number (seen_of s) ++ own_entries (watched (setting_of s)) s.me.0.own.number l) (x.told_is ∙ none) ∙ append-nil _)
 
-replay_last : (n : Numbers) (l : List ListEntry) (e : ListEntry) → replay n (l ++ e ∷ []) ≡ counted e (replay n l)
-replay_last n [] e = refl
-replay_last n (x ∷ l) e = replay_last (counted x n) l e
-
 granted_then : (before : List ListEntry) (i handed n : ℕ) → handed ≡ (told before).granted + n → (told (before ++ all_entries i handed n)).granted ≡ handed
 granted_then before i handed zero e = ap (λ l. (told l).granted) (append-nil before) ∙ omega arith
-granted_then before i handed (suc n) e = ap (λ (x : Numbers). x.granted) (replay_last (record { handed = 0; granted = 0 }) before (Granted handed i))
+granted_then before i handed (suc n) e = ap (λ (x : Numbers). x.granted) (told_last before (Granted handed i))
 
 -- it was quiet
 module _ (s t : Token) (n : ℕ) (seat : IsSeat s n) (x : LookedForAll s true t) where

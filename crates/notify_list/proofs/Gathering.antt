@@ -28,7 +28,7 @@ none_gathered l items token own alone = record {
 }
 
 seat_is : (s : Token) (n : ℕ) → IsSeat s n → IsSeatOf s.me.0.own (seat_of s n)
-seat_is s n is = record { number_is = is.token_is.number_is; free = is.free; holds_none = is.holds_none; seen = refl }
+seat_is s n is = record { number_is = is.token_is.number_is; free = is.free; holds_none = is.holds_none; seen = refl; went = refl }
 
 seat_at : (s : Token) (n : ℕ) (seat : SeatModel) (g : OneSeat) → seat_of s n ≡ seat → IsSeat s n → s.me.0.own ≡ g
     → IsSeatOf g seat

@@ -1,23 +1,21 @@
 -- A row of the step table leads on, whichever row it is.
-use Rattle.std.proofs.Common.{◌≡◌, ◌≢◌, ℕ, ◌<◌, ◌≤◌, IsTrue, List, [], ◌∷◌, ◌++◌, length, get_or, set, slice_index, sym, refl, ap, ◌∙◌, subst, arith, append-nil, length-set, get_or-set_other, get_or-set_same}
+use Rattle.std.proofs.Common.{◌≡◌, ◌≢◌, ℕ, ◌<◌, ◌≤◌, IsTrue, List, [], ◌∷◌, ◌++◌, length, get_or, set, slice_index, sym, refl, ap, ◌∙◌, subst, inr, arith, length-set, get_or-set_other, get_or-set_same}
 use mathlib.Core.Logic.{dite}
 use native.Mathlib.Decide.{ℕ_discrete}
 use Rattle.running_rows.specs.Table.{Act, Valid, homes_after, carried_after}
-use Rattle.step_table.specs.declared.list_place.ListEffect.{ListEffect}
-use Rattle.step_table.specs.declared.list_place.ListEffect.TheVariants.{HandsOut, Grants}
 use Rattle.step_table.specs.declared.list_place.ListWord.{ListWord}
 use Rattle.step_table.specs.declared.list_place.ListWord.TheVariants.{Lock}
-use Rattle.step_table.specs.ListWorld.{ListSeat, ListEntry, ListWorld, found, journal_after}
+use Rattle.step_table.specs.ListWorld.{ListSeat, ListWorld, found}
 use Rattle.step_table.specs.ListEvent.{ListEvent}
 use Rattle.step_table.specs.ListSteps.{event_of, effect_of, finds, turned, ListTurn, ListStep, turn, more}
 use Rattle.step_table.specs.Path.{Meets, sight, runs}
 use Rattle.step_table.proofs.Paths.{meets_sight}
 use Rattle.step_table.proofs.Sums.{put_here, total_has}
 use Rattle.list_law.specs.ListLawful.{holds}
-use Rattle.list_law.specs.ListPath.{ListSight, entries_of, row_stride}
+use Rattle.list_law.specs.ListPath.{ListSight, row_stride}
 use Rattle.list_law.specs.ListPlaces.{ReachedList}
 use Rattle.list_law.proofs.ListAccounts.{the_list_accounts}
-use Rattle.list_law.proofs.ListPaths.{the_list_paths}
+use Rattle.list_law.proofs.ListPaths.{the_list_paths, journal_told}
 use Rattle.running_rows.specs.Strides.{Went, becomes}
 use Rattle.running_rows.specs.Owing.{Stands, Leads}
 use Rattle.notify_list.specs.declared.view.Known.{Known}
@@ -50,11 +48,6 @@ pub record RunsIn (k : ℕ) (v : Known) (b : ListWorld) (i n : ℕ) : Type 0 whe
 -- all that is known of a world that is met
 pub laws_of : (z : Setting) (s : ListWorld) → z.seats ≤ 256 → IsMet z s → ReachedList z.first z.seats s
 laws_of z s few met = the_list_accounts.reached z.first z.seats s (omega arith) met
-
-pub journal_told : (i : ℕ) (effect : ListEffect) (journal : List ListEntry) → journal_after i effect journal ≡ journal ++ entries_of i effect
-journal_told i (HandsOut t) journal = refl
-journal_told i (Grants upto) journal = refl
-journal_told i _ journal = sym (append-nil journal)
 
 module _ (m : Me) (world : ListWorld) (words : List ℕ) (homes : Homes) (i : ℕ) (at : Stands list_rows m.0.own.knows.setting m.0.own world words homes i)
     (a : ListSeat) (ok : Begins m.0.own.knows.sight.stands a) where
@@ -199,6 +192,7 @@ module _ (m : Me) (world : ListWorld) (words : List ℕ) (homes : Homes) (i : �
       same = refl;
       of_is = refl;
       knows = record { meets = meets_sight (watched z) t id met_after; held = λ h. refl };
+      on = inr (row_stride z.first z.seats b id, refl, refl, journal_told id (effect_of b id) b.journal);
       others = knows_else;
       tells = tells;
     }

@@ -26,7 +26,8 @@ use Rattle.notify_list.specs.Rule.{watched, IsMet}
 use Rattle.notify_list.specs.Rows.{list_rows, queue_left}
 use Rattle.notify_list.specs.Plays.{OneSeat, standing}
 use Rattle.notify_list.specs.Seats.{Token, setting_of, stands_of}
-use Rattle.notify_list.proofs.Keeping.{journal_told, laws_of}
+use Rattle.list_law.proofs.ListPaths.{journal_told}
+use Rattle.notify_list.proofs.Keeping.{laws_of}
 
 -- the row ran of a seat that stood so
 abbrev pub Ran : ListSeat → OneSeat → ℕ → OneSeat → Type 0

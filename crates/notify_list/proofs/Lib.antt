@@ -16,6 +16,7 @@ pub mod Granting
 pub mod Notifying
 pub mod Signalling
 pub mod Lawful
+pub mod Parting
 pub mod LookingAll
 pub mod Reaching
 pub mod Emptying
@@ -24,3 +25,8 @@ pub mod Broadcasting
 pub mod LookingTogether
 pub mod Reckoning
 pub mod Gathering
+pub mod Answering
+pub mod Rereading
+pub mod Callers
+pub mod CallersNotifying
+pub mod CallersEnding

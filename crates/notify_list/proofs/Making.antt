@@ -69,6 +69,7 @@ opens z y fits seats empty = record {
     deep = refl;
     few = seats.1;
   };
+  unwritten = refl;
   unmade = λ n low. record {
     meets = record { met = none; stands = refl; later = goes_on_here []; quiet = refl };
     held = λ h. refl;

@@ -23,6 +23,7 @@ use Rattle.notify_list.specs.declared.closed.ListClosed.{ListClosed}
 use Rattle.notify_list.specs.declared.view.Record.{Record}
 use Rattle.notify_list.specs.declared.view.Setting.{Setting}
 use Rattle.notify_list.specs.Places.{is_free, at_place}
+use Rattle.running_rows.specs.History.{Writes, strides_of}
 use Rattle.running_rows.specs.Rule.{IsSomeones, In, AreApart, Sits, HasSeats, IsKept}
 use Rattle.notify_list.specs.Rule.{IsMet, watched}
 use Rattle.notify_list.specs.Rows.{list_rows}
@@ -145,11 +146,11 @@ module _ (z : Setting) (s : State Record ListView) (r : IsKept list_rows z s) (i
   abbrev all : List OneSeat
   all = v.own ∷ v.guests
 
-  here : HasSeats list_rows z r.world r.spot r.made id v
+  here : HasSeats list_rows z r.world r.history r.spot r.made id v
   here = r.views id v at someones
 
-  sits : (g : OneSeat) → In g all → Sits list_rows z r.world r.spot r.made id g
-  sits g (inl e) = subst (λ (x : OneSeat). Sits list_rows z r.world r.spot r.made id x) e here.own
+  sits : (g : OneSeat) → In g all → Sits list_rows z r.world r.history r.spot r.made id g
+  sits g (inl e) = subst (λ (x : OneSeat). Sits list_rows z r.world r.history r.spot r.made id x) e here.own
   sits g (inr e) = here.guests g e
 
   -- each seat of the list is a guest's
@@ -193,6 +194,10 @@ module _ (z : Setting) (s : State Record ListView) (r : IsKept list_rows z s) (i
         each = λ k h. (let o = guest_there k h in let q = seat_for all seats are o.0 o.1 in (q.0, q.1, sym q.2.number_is ∙ o.2));
         begins = λ t e. subst (λ j. GoesOn j t.sight.seen) (sym rested.journal) (has_seen t e).0;
         own = λ t e. subst (λ j. own_entries (watched z) t.number j ≡ own_entries (watched z) t.number t.sight.seen) (sym rested.journal) (has_seen t e).1;
+        history = r.history;
+        writes = subst (Writes list_rows [] r.history) (sym rested.journal) r.writes;
+        by_seats = λ h e. let a = r.by_seats h e in let f = r.fits in omega arith;
+        went = λ t e. let o = guest_for all seats are t e in ap (λ (n : ℕ). strides_of n r.history) (sym o.2.number_is) ∙ (sits o.0 o.1).went ∙ o.2.went;
         granted = sym told_all.0;
         next = next ∙ r.shows.words Wait tt ∙ ap (λ g. g.wait) (sym rested.words) ∙ laws.lawful.journal.1;
         notified = notified ∙ r.shows.words Notify tt ∙ ap (λ g. g.notify) (sym rested.words) ∙ laws.lawful.journal.2;

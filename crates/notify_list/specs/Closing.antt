@@ -6,13 +6,16 @@ use Rattle.ticket_words.specs.Wrapping.{word_of}
 use Rattle.step_table.specs.ListWorld.{ListWorld}
 use Rattle.list_law.specs.ListEntries.{EntriesNamed}
 use Rattle.list_law.specs.ListLawful.{told, IsLawfulList}
+use Rattle.list_law.specs.ListPath.{ListStride}
 use Rattle.list_law.specs.ListPlaces.{AllRest, NothingLeft}
 use Rattle.notify_list.specs.declared.closed.ListClosed.{ListClosed}
 use Rattle.notify_list.specs.declared.view.Setting.{Setting}
 use Rattle.notify_list.specs.Places.{is_free}
+use Rattle.running_rows.specs.History.{Moment, Writes, strides_of}
 use Rattle.running_rows.specs.Rule.{In}
 use Rattle.notify_list.specs.Rule.{IsMet, watched}
 use Rattle.notify_list.specs.Plays.{OneSeat}
+use Rattle.notify_list.specs.Rows.{list_rows}
 use Rattle.notify_list.specs.Seats.{ListModel, SeatModel, Token, list_of}
 
 -- a token's view has this seat, which may begin a call and holds no ticket
@@ -21,6 +24,7 @@ pub record IsSeatOf (g : OneSeat) (s : SeatModel) : Type 0 where
   pub free : is_free g.knows.sight.stands.place ≡ true
   pub holds_none : g.knows.sight.stands.ticket ≡ None
   pub seen : g.knows.sight.seen ≡ s.sight.seen
+  pub went : g.gone ≡ s.strides
 
 -- it has these seats, in their order
 abbrev pub AreSeatsOf : List OneSeat → List SeatModel → Type 0
@@ -39,8 +43,9 @@ pub record AreAll (l : ListModel) (seats : List SeatModel) : Type 0 where
   pub count : length seats ≡ l.setting.seats
 
 -- there is one journal, in a lawful world in which all rest and nobody holds a ticket or waits. Each seat of the list is one of
--- these, and has seen a beginning of the journal with all entries of its own: so the journal has no entry but theirs. Every ticket
--- that it tells was handed out was granted, and the two words are those of how many these are
+-- these, and has seen a beginning of the journal with all entries of its own: so the journal has no entry but theirs. The strides
+-- that the seats went told it, one after the other. Every ticket that it tells was handed out was granted, and the two words are
+-- those of how many these are
 pub record IsClosed (z : Setting) (seats : List SeatModel) (c : ListClosed) : Type 0 where
   pub world : ListWorld
   pub met : IsMet z world
@@ -53,6 +58,10 @@ pub record IsClosed (z : Setting) (seats : List SeatModel) (c : ListClosed) : Ty
   pub begins : (s : SeatModel) → In s seats → GoesOn world.journal s.sight.seen
   pub own : (s : SeatModel) → In s seats
       → own_entries (watched z) s.number world.journal ≡ own_entries (watched z) s.number s.sight.seen
+  pub history : List (Moment ListStride)
+  pub writes : Writes list_rows [] history world.journal
+  pub by_seats : (m : Moment ListStride) → In m history → m.seat < z.seats
+  pub went : (s : SeatModel) → In s seats → strides_of s.number history ≡ s.strides
   pub granted : (told world.journal).granted ≡ (told world.journal).handed
   pub next : c.next ≡ word_of z.first (told world.journal).handed
   pub notified : c.notified ≡ word_of z.first (told world.journal).granted

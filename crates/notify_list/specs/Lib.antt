@@ -20,3 +20,4 @@ pub mod Making
 pub mod List
 pub mod Meeting
 pub mod Closing
+pub mod Callers

@@ -1,6 +1,7 @@
 //! A list is closed with all its seats.
 ghost use Rattle.std.specs.Prelude.{◌≡◌, ◌∷◌, All};
 ghost use Rattle.notify_list.specs.Closing.{AreAll, IsClosed, IsGathered};
+ghost use Rattle.notify_list.specs.Callers.{EndsList};
 
 use crate::closed::ListClosed;
 use crate::notify_list::{NOTIFY, NotifyList, RECORD, WAIT};
@@ -32,7 +33,8 @@ impl NotifyList {
     /// Ends the list, for which it asks for all seats: every ticket that was handed out is granted, and nobody waits.
     pub fn close(self, seats: Vec<ListSeat>) -> ListClosed
         requires { AreAll self seats.items }
-        ensures { IsClosed self.setting seats.items result }
+        ensures rows { IsClosed self.setting seats.items result }
+        ensures caller { EndsList self.setting seats.items result }
     {
         let mut seats = seats;
         let first = seats.remove(0);

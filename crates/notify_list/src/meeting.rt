@@ -1,6 +1,7 @@
 //! Two seats compare what they have seen.
 ghost use Rattle.std.specs.Prelude.{◌≡◌};
 ghost use Rattle.notify_list.specs.Meeting.{HasMet};
+ghost use Rattle.notify_list.specs.Callers.{SeeTheSame};
 
 use crate::notify_list::{NotifyList, WAIT};
 use crate::seat::ListSeat;
@@ -10,7 +11,8 @@ impl NotifyList {
     /// the wait word once, and both found one number.
     pub fn meet(&self, one: &mut ListSeat, other: &mut ListSeat)
         requires { (one.old.list ≡ self.now) × (other.old.list ≡ self.now) }
-        ensures { HasMet one.old other.old one.new other.new }
+        ensures rows { HasMet one.old other.old one.new other.new }
+        ensures caller { SeeTheSame one.old other.old one.new other.new }
     {
         self.words.meet(&mut one.token, &mut other.token, WAIT);
     }

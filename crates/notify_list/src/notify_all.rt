@@ -4,6 +4,7 @@ ghost use Rattle.waiters.specs.declared.wait.Wait.{Wait as Queued};
 ghost use Rattle.notify_list.specs.Seats.{stands_of};
 ghost use Rattle.notify_list.specs.Calls.{AllGranted};
 ghost use Rattle.notify_list.specs.NotifyingAll.{NotifiesAll, GrantsSome};
+ghost use Rattle.notify_list.specs.Callers.{NotifiesAllTickets};
 ghost use Rattle.notify_list.specs.GrantingAll.{MayLook, LookedForAll, MayReach, ReachedAll, MayTake, TakenAll, MayWake, WokenFirst, WokenSome};
 
 use crate::notify_list::{LOCK, NOTIFY, NotifyList, WAIT, grant_word};
@@ -24,6 +25,7 @@ impl NotifyList {
         ensures rows { NotifiesAll seat.old result seat.new }
         ensures count { GrantsSome seat.old result seat.new }
         ensures granted { AllGranted seat.old seat.new }
+        ensures caller { NotifiesAllTickets seat.old result seat.new }
     {
         if self.look_for_all(&mut seat.token) {
             return 0;

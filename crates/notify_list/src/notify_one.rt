@@ -2,9 +2,11 @@
 ghost use Rattle.std.specs.Prelude.{◌≡◌, ℕ, IfSome, IfNone};
 ghost use Rattle.step_table.specs.declared.list_place.ListPlace.TheVariants.{NotifyingOne};
 ghost use Rattle.step_table.specs.declared.list_place.OneRow.TheVariants.{O3, O7};
+ghost use Rattle.list_law.specs.ListLawful.{Follows};
 ghost use Rattle.notify_list.specs.Calls.{AllGranted};
 ghost use Rattle.notify_list.specs.Notifying.{NotifiesOne, GrantsLeast, EndsOne};
 ghost use Rattle.notify_list.specs.Granting.{MayGrant, GrantedOne};
+ghost use Rattle.notify_list.specs.Callers.{NotifiesOneTicket};
 
 use crate::notify_list::{LOCK, NOTIFY, NotifyList, WAIT, grant_word};
 use crate::rows::Token;
@@ -21,6 +23,7 @@ impl NotifyList {
         ensures rows { NotifiesOne seat.old result seat.new }
         ensures some { IfSome result (λ word. GrantsLeast seat.old word seat.new) }
         ensures none { IfNone result (AllGranted seat.old seat.new) }
+        ensures caller { NotifiesOneTicket seat.old result seat.new }
     {
         if self.quiet(seat) {
             return None;
@@ -33,7 +36,8 @@ impl NotifyList {
     fn one_at_lock<R: Wait>(&self, rt: &R, seat: &mut ListSeat) -> Option<u64>
         requires seat { seat.old.list ≡ self.now }
         requires place { (h : ℕ) × (seat.old.sight.stands.place ≡ NotifyingOne h O3) }
-        ensures { (h : ℕ) → seat.old.sight.stands.place ≡ NotifyingOne h O3 → EndsOne seat.old h result seat.new }
+        ensures rows { (h : ℕ) → seat.old.sight.stands.place ≡ NotifyingOne h O3 → EndsOne seat.old h result seat.new }
+        ensures lawful { Follows seat.new.sight.seen }
     {
         self.lock(rt, &mut seat.token);
         // Read again under the lock: since the first look another may have granted that ticket, and this call would grant it

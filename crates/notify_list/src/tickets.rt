@@ -2,6 +2,7 @@
 ghost use Rattle.std.specs.Prelude.{◌≡◌, true};
 ghost use Rattle.notify_list.specs.Calls.{AllGranted};
 ghost use Rattle.notify_list.specs.Tickets.{IsAdded, HasTicket, HasLooked};
+ghost use Rattle.notify_list.specs.Callers.{GetsTicket, FindsAllGranted};
 
 use crate::notify_list::{NOTIFY, NotifyList, WAIT};
 use crate::rows::{AtOne, AtTicket};
@@ -13,7 +14,8 @@ impl NotifyList {
     #[inline]
     pub fn add(&self, seat: ListSeat) -> Holding
         requires { seat.list ≡ self.now }
-        ensures { IsAdded seat result }
+        ensures rows { IsAdded seat result }
+        ensures caller { GetsTicket seat result }
     {
         let ListSeat { mut token, number } = seat;
         // By one add: tickets that were read first and written then could be handed out twice.
@@ -32,6 +34,7 @@ impl NotifyList {
         requires { seat.old.list ≡ self.now }
         ensures looked { HasLooked seat.old result seat.new }
         ensures granted { result ≡ true → AllGranted seat.old seat.new }
+        ensures caller { FindsAllGranted seat.old result seat.new }
     {
         // The wait word first: a ticket that is handed out after it is none that the answer speaks of.
         let waited = self.words.load::<AtOne>(&mut seat.token, WAIT);

@@ -1,6 +1,7 @@
 //! Waiting with a ticket.
 ghost use Rattle.std.specs.Prelude.{◌≡◌};
 ghost use Rattle.notify_list.specs.Waiting.{IsWaited, IsGranted};
+ghost use Rattle.notify_list.specs.Callers.{WaitsForGrant};
 
 use crate::notify_list::{LOCK, NOTIFY, NotifyList, WAIT, grant_word};
 use crate::seat::{Holding, ListSeat};
@@ -26,6 +27,7 @@ impl NotifyList {
         requires { holding.list ≡ self.now }
         ensures waited { IsWaited holding result.1 result.0 }
         ensures granted { IsGranted holding result.0 }
+        ensures caller { WaitsForGrant holding result.1 result.0 }
     {
         let Holding {
             mut token,

@@ -1,4 +1,5 @@
 pub mod Places
+pub mod History
 pub mod Keeping
 pub mod Telling
 pub mod Opening

@@ -12,6 +12,7 @@ use Rattle.running_rows.specs.declared.view.View.{View}
 use Rattle.running_rows.specs.declared.view.Seated.{Seated}
 use Rattle.running_rows.specs.Family.{Family}
 use Rattle.running_rows.proofs.Places.{replaced, longer}
+use Rattle.running_rows.proofs.History.{strides_none}
 use Rattle.running_rows.specs.Rule.{IsSomeones, IsSeated, fresh_seat, first_view, making, made_by, Sits, HasSeats, IsKept, Opens}
 
 pub at_end : {A : Type 0} (l : List A) (a b : A) (j : ℕ) → get_elem? (l ++ a ∷ []) j ≡ some b → (get_elem? l j ≡ some b) ⊎ ((j ≡ length l) × (a ≡ b))
@@ -25,6 +26,9 @@ module _ {S V T K : Type 0} (f : Family S V T K) where
   opens k words slots o = record {
     world = o.world;
     shows = o.shows;
+    history = [];
+    writes = o.unwritten;
+    by_seats = λ m h. absurd h;
     spot = λ n. 0;
     made = 1;
     views = λ j v e h. one j v e;
@@ -41,9 +45,9 @@ module _ {S V T K : Type 0} (f : Family S V T K) where
       alone zero v e h some_made = let is = sym (some-injective (first_view f k) v e) in (ap (λ (u : View V T). u.own.number) is, ap (λ (u : View V T). u.made) is)
       alone (suc j) v e h some_made = absurd (some-ne-none v (sym e))
 
-      one : (j : ℕ) (v : View V T) → get_elem? (first_view f k ∷ []) j ≡ some v → HasSeats f k o.world (λ n. 0) 1 j v
-      one zero v e = subst (HasSeats f k o.world (λ n. 0) 1 0) (some-injective (first_view f k) v e) (record {
-        own = record { place_is = refl; is_made = omega arith; of_is = f.fresh_is k; knows = o.unmade 0 o.some_seats };
+      one : (j : ℕ) (v : View V T) → get_elem? (first_view f k ∷ []) j ≡ some v → HasSeats f k o.world [] (λ n. 0) 1 j v
+      one zero v e = subst (HasSeats f k o.world [] (λ n. 0) 1 0) (some-injective (first_view f k) v e) (record {
+        own = record { place_is = refl; is_made = omega arith; of_is = f.fresh_is k; knows = o.unmade 0 o.some_seats; went = refl };
         guests = λ g h. absurd h;
         others = λ g h. absurd h;
         apart = tt;
@@ -58,7 +62,7 @@ module _ {S V T K : Type 0} (f : Family S V T K) where
     someones : IsSomeones f v
     someones = omega arith
 
-    mine : HasSeats f k r.world r.spot r.made id v
+    mine : HasSeats f k r.world r.history r.spot r.made id v
     mine = r.views id v at someones
 
     maker : (v.own.number ≡ 0) × (v.made ≡ r.made)
@@ -67,31 +71,33 @@ module _ {S V T K : Type 0} (f : Family S V T K) where
     abbrev spots : ℕ → ℕ
     spots = put r.spot r.made (length before)
 
-    sits_yet : (j : ℕ) (u : Seated V T) → Sits f k r.world r.spot r.made j u → Sits f k r.world spots (r.made + 1) j u
+    sits_yet : (j : ℕ) (u : Seated V T) → Sits f k r.world r.history r.spot r.made j u → Sits f k r.world r.history spots (r.made + 1) j u
     sits_yet j u o = record {
       place_is = put_else r.spot r.made (length before) u.number (λ q. let a = o.is_made in absurd (omega arith)) ∙ o.place_is;
       is_made = let a = o.is_made in omega arith;
       of_is = o.of_is;
       knows = o.knows;
+      went = o.went;
     }
 
-    seats_yet : (j : ℕ) (u : View V T) → HasSeats f k r.world r.spot r.made j u → HasSeats f k r.world spots (r.made + 1) j u
+    seats_yet : (j : ℕ) (u : View V T) → HasSeats f k r.world r.history r.spot r.made j u → HasSeats f k r.world r.history spots (r.made + 1) j u
     seats_yet j u o = record { own = sits_yet j u.own o.own; guests = λ g h. sits_yet j g (o.guests g h); others = o.others; apart = o.apart }
 
-    seats_making : HasSeats f k r.world spots (r.made + 1) id (making v)
+    seats_making : HasSeats f k r.world r.history spots (r.made + 1) id (making v)
     seats_making = let o = seats_yet id v mine in record { own = o.own; guests = o.guests; others = o.others; apart = o.apart }
 
     idle : f.Knows k (fresh_seat f (f.of v.own.knows) v.made) r.world
     idle = subst (λ q. f.Knows k (fresh_seat f q v.made) r.world) (sym mine.own.of_is)
         (r.unmade v.made (let m = maker.1 in omega arith) (let l = ap f.seats mine.own.of_is in omega arith))
 
-    seats_made : HasSeats f k r.world spots (r.made + 1) (length before) (made_by f v)
+    seats_made : HasSeats f k r.world r.history spots (r.made + 1) (length before) (made_by f v)
     seats_made = record {
       own = record {
         place_is = ap spots maker.1 ∙ put_here r.spot r.made (length before);
         is_made = let m = maker.1 in omega arith;
         of_is = f.fresh_is (f.of v.own.knows) ∙ mine.own.of_is;
         knows = idle;
+        went = strides_none v.made r.history (λ m h. let a = r.by_seats m h in let b = maker.1 in λ q. absurd (omega arith));
       };
       guests = λ g h. absurd h;
       others = λ g h. absurd h;
@@ -105,14 +111,17 @@ module _ {S V T K : Type 0} (f : Family S V T K) where
     made_one = record {
       world = r.world;
       shows = r.shows;
+      history = r.history;
+      writes = r.writes;
+      by_seats = λ m h. let a = r.by_seats m h in omega arith;
       spot = spots;
       made = r.made + 1;
       views = λ j u e h. ⊎_elim
           (λ (was : get_elem? before j ≡ some u). ⊎_elim
-          (λ (t : (j ≡ id) × (making v ≡ u)). subst (λ (y : ℕ × View V T). HasSeats f k r.world spots (r.made + 1) y.0 y.1) (λ i. (sym t.0 i, t.1 i)) seats_making)
+          (λ (t : (j ≡ id) × (making v ≡ u)). subst (λ (y : ℕ × View V T). HasSeats f k r.world r.history spots (r.made + 1) y.0 y.1) (λ i. (sym t.0 i, t.1 i)) seats_making)
           (λ (t : (j ≢ id) × (get_elem? s.views j ≡ some u)). seats_yet j u (r.views j u t.1 h))
           (at_set s.views id j (making v) u was))
-          (λ (t : (j ≡ length before) × (made_by f v ≡ u)). subst (λ (y : ℕ × View V T). HasSeats f k r.world spots (r.made + 1) y.0 y.1) (λ i. (sym t.0 i, t.1 i)) seats_made)
+          (λ (t : (j ≡ length before) × (made_by f v ≡ u)). subst (λ (y : ℕ × View V T). HasSeats f k r.world r.history spots (r.made + 1) y.0 y.1) (λ i. (sym t.0 i, t.1 i)) seats_made)
           (at_end before (made_by f v) u j e);
       seated = λ n low. dite (ℕ_discrete n r.made)
           (λ e. subst (λ q. IsSeated f (before ++ made_by f v ∷ []) (spots q) q) (sym e)

@@ -15,24 +15,29 @@ use Rattle.running_rows.specs.Family.{Family}
 use Rattle.running_rows.specs.Rule.{IsSomeones, IsSeated, HasSeat, In, AreApart, nobody, Sits, HasSeats, IsKept}
 use Rattle.running_rows.specs.Owing.{Stands, Sees, IsSeen}
 use Rattle.running_rows.specs.Sitting.{alone, leaving, guests_apart, lone, staying, vacant, sitting, other_guests, first_guest, parting, parted, Met, MetAt}
+use Rattle.running_rows.specs.History.{Moment, strides_of}
+use Rattle.running_rows.proofs.History.{HasGoneOn, gone_on, looked_on}
 use Rattle.running_rows.proofs.Opening.{at_end}
 use Rattle.running_rows.proofs.Places.{at_low, same_at, replaced, longer, moved, moved_in, moved_else}
 
 module _ {S V T K : Type 0} (f : Family S V T K) (k : f.Key) where
   -- what a view is under the rule
-  abbrev Is : f.World → (ℕ → ℕ) → ℕ → ℕ → View V T → Type 0
-  Is world spot made j v = HasSeats f k world spot made j v × (0 < v.made → (v.own.number ≡ 0) × (v.made ≡ made))
+  abbrev Is : f.World → List (Moment T) → (ℕ → ℕ) → ℕ → ℕ → View V T → Type 0
+  Is world history spot made j v = HasSeats f k world history spot made j v × (0 < v.made → (v.own.number ≡ 0) × (v.made ≡ made))
 
-  is_at : (world : f.World) (spot : ℕ → ℕ) (made i j : ℕ) (v w : View V T) → j ≡ i → v ≡ w → Is world spot made i v → Is world spot made j w
-  is_at world spot made i j v w there same = subst (λ (y : ℕ × View V T). Is world spot made y.0 y.1) (λ n. (sym there n, same n))
+  is_at : (world : f.World) (history : List (Moment T)) (spot : ℕ → ℕ) (made i j : ℕ) (v w : View V T) → j ≡ i → v ≡ w → Is world history spot made i v → Is world history spot made j w
+  is_at world history spot made i j v w there same = subst (λ (y : ℕ × View V T). Is world history spot made y.0 y.1) (λ n. (sym there n, same n))
 
   -- the tokens have changed, and nothing else
   respotted : (s : State S (View V T)) (r : IsKept f k s) (spot : ℕ → ℕ) (views : List (View V T))
-      → ((j : ℕ) (v : View V T) → get_elem? views j ≡ some v → IsSomeones f v → Is r.world spot r.made j v)
+      → ((j : ℕ) (v : View V T) → get_elem? views j ≡ some v → IsSomeones f v → Is r.world r.history spot r.made j v)
       → ((n : ℕ) → n < r.made → IsSeated f views (spot n) n) → IsKept f k (record { words = s.words; homes = s.homes; views = views })
   respotted s r spot views ok seated = record {
     world = r.world;
     shows = r.shows;
+    history = r.history;
+    writes = r.writes;
+    by_seats = r.by_seats;
     spot = spot;
     made = r.made;
     views = λ j v e h. (ok j v e h).0;
@@ -45,7 +50,7 @@ module _ {S V T K : Type 0} (f : Family S V T K) (k : f.Key) where
   nobody_not : (v : View V T) → nobody f ≡ v → IsSomeones f v → ⊥
   nobody_not v e h = let l = ap (λ (u : View V T). f.seats (f.of u.own.knows)) e in let n = f.nobody_is in omega arith
 
-  was_so : (s : State S (View V T)) (r : IsKept f k s) (j : ℕ) (v : View V T) → get_elem? s.views j ≡ some v → IsSomeones f v → Is r.world r.spot r.made j v
+  was_so : (s : State S (View V T)) (r : IsKept f k s) (j : ℕ) (v : View V T) → get_elem? s.views j ≡ some v → IsSomeones f v → Is r.world r.history r.spot r.made j v
   was_so s r j v e h = (r.views j v e h, r.maker j v e h)
 
   -- a token of no seat may be made
@@ -57,37 +62,38 @@ module _ {S V T K : Type 0} (f : Family S V T K) (k : f.Key) where
       (λ n low. longer f (set s.views id v) (nobody f) (r.spot n) n (subst (λ (l : List (View V T)). IsSeated f l (r.spot n) n) (sym (set_again s.views id v at)) (r.seated n low)))
 
   -- the seats of a view sit at another place
-  sits_at : (world : f.World) (spot goes : ℕ → ℕ) (made j i : ℕ) (u : Seated V T) → Sits f k world spot made j u → goes u.number ≡ i → Sits f k world goes made i u
-  sits_at world spot goes made j i u o is = record { place_is = is; is_made = o.is_made; of_is = o.of_is; knows = o.knows }
+  sits_at : (world : f.World) (history : List (Moment T)) (spot goes : ℕ → ℕ) (made j i : ℕ) (u : Seated V T) → Sits f k world history spot made j u → goes u.number ≡ i
+      → Sits f k world history goes made i u
+  sits_at world history spot goes made j i u o is = record { place_is = is; is_made = o.is_made; of_is = o.of_is; knows = o.knows; went = o.went }
 
   -- all guests may leave together
   module _ (id : ℕ) (v : View V T) (some_v : IsSomeones f v) (s : State S (View V T)) (r : IsKept f k s) (at : get_elem? s.views id ≡ some v) where
     abbrev without : List (View V T)
     without = set s.views id (alone v)
 
-    stay : HasSeats f k r.world r.spot r.made id v
+    stay : HasSeats f k r.world r.history r.spot r.made id v
     stay = r.views id v at some_v
 
     abbrev away : ℕ → ℕ
     away = moved r.spot v.guests (length without)
 
     -- a seat that is no guest sits where it sat
-    no_guest : (j : ℕ) (u : Seated V T) → ((g : Seated V T) → In g v.guests → g.number ≢ u.number) → Sits f k r.world r.spot r.made j u → Sits f k r.world away r.made j u
-    no_guest j u none o = sits_at r.world r.spot away r.made j j u o (moved_else r.spot v.guests (length without) u.number none ∙ o.place_is)
+    no_guest : (j : ℕ) (u : Seated V T) → ((g : Seated V T) → In g v.guests → g.number ≢ u.number) → Sits f k r.world r.history r.spot r.made j u → Sits f k r.world r.history away r.made j u
+    no_guest j u none o = sits_at r.world r.history r.spot away r.made j j u o (moved_else r.spot v.guests (length without) u.number none ∙ o.place_is)
 
     -- who sits at another place is none
-    not_there : (j : ℕ) (u : Seated V T) → j ≢ id → Sits f k r.world r.spot r.made j u → (g : Seated V T) → In g v.guests → g.number ≢ u.number
+    not_there : (j : ℕ) (u : Seated V T) → j ≢ id → Sits f k r.world r.history r.spot r.made j u → (g : Seated V T) → In g v.guests → g.number ≢ u.number
     not_there j u ne o g h e = ne (sym o.place_is ∙ ap r.spot (sym e) ∙ (stay.guests g h).place_is)
 
-    left_alone : HasSeats f k r.world away r.made id (alone v)
+    left_alone : HasSeats f k r.world r.history away r.made id (alone v)
     left_alone = record { own = no_guest id v.own stay.others stay.own; guests = λ g h. absurd h; others = λ g h. absurd h; apart = tt }
 
-    gone_away : (u : View V T) → leaving f v ≡ u → IsSomeones f u → Is r.world away r.made (length without) u
+    gone_away : (u : View V T) → leaving f v ≡ u → IsSomeones f u → Is r.world r.history away r.made (length without) u
     gone_away u e h = by v.guests refl
       where
-        by : (gs : List (Seated V T)) → v.guests ≡ gs → Is r.world away r.made (length without) u
+        by : (gs : List (Seated V T)) → v.guests ≡ gs → Is r.world r.history away r.made (length without) u
         by [] none = absurd (nobody_not u (sym (ap (guests_apart f) none) ∙ e) h)
-        by (x ∷ xs) is = is_at r.world away r.made (length without) (length without) (record { own = x; guests = xs; made = 0 }) u refl (sym (ap (guests_apart f) is) ∙ e) (
+        by (x ∷ xs) is = is_at r.world r.history away r.made (length without) (length without) (record { own = x; guests = xs; made = 0 }) u refl (sym (ap (guests_apart f) is) ∙ e) (
           record {
             own = leaves x (inl refl);
             guests = λ g i. leaves g (inr i);
@@ -100,9 +106,9 @@ module _ {S V T K : Type 0} (f : Family S V T K) (k : f.Key) where
             all : AreApart (x ∷ xs)
             all = subst AreApart is stay.apart
 
-            leaves : (g : Seated V T) → In g (x ∷ xs) → Sits f k r.world away r.made (length without) g
+            leaves : (g : Seated V T) → In g (x ∷ xs) → Sits f k r.world r.history away r.made (length without) g
             leaves g i = let here = subst (In g) (sym is) i in
-                sits_at r.world r.spot away r.made id (length without) g (stay.guests g here) (moved_in r.spot v.guests (length without) g here)
+                sits_at r.world r.history r.spot away r.made id (length without) g (stay.guests g here) (moved_in r.spot v.guests (length without) g here)
 
     -- each seat sits somewhere
     seated_apart : (n : ℕ) → n < r.made → IsSeated f (without ++ leaving f v ∷ []) (away n) n
@@ -141,13 +147,13 @@ module _ {S V T K : Type 0} (f : Family S V T K) (k : f.Key) where
     apart_kept : IsKept f k (record { words = s.words; homes = s.homes; views = without ++ leaving f v ∷ [] })
     apart_kept = respotted s r away (without ++ leaving f v ∷ []) (λ j u e h. ⊎_elim
         (λ (was : get_elem? without j ≡ some u). ⊎_elim
-        (λ (q : (j ≡ id) × (alone v ≡ u)). is_at r.world away r.made id j (alone v) u q.0 q.1 (left_alone, r.maker id v at some_v))
+        (λ (q : (j ≡ id) × (alone v ≡ u)). is_at r.world r.history away r.made id j (alone v) u q.0 q.1 (left_alone, r.maker id v at some_v))
         (λ (q : (j ≢ id) × (get_elem? s.views j ≡ some u)). let o = r.views j u q.1 h in (
           record { own = no_guest j u.own (not_there j u.own q.0 o.own) o.own; guests = λ g i. no_guest j g (not_there j g q.0 (o.guests g i)) (o.guests g i); others = o.others; apart = o.apart },
           r.maker j u q.1 h,
         ))
         (at_set s.views id j (alone v) u was))
-        (λ (t : (j ≡ length without) × (leaving f v ≡ u)). subst (λ i. Is r.world away r.made i u) (sym t.0) (gone_away u t.1 h))
+        (λ (t : (j ≡ length without) × (leaving f v ≡ u)). subst (λ i. Is r.world r.history away r.made i u) (sym t.0) (gone_away u t.1 h))
         (at_end without (leaving f v) u j e))
         seated_apart
 
@@ -157,34 +163,34 @@ module _ {S V T K : Type 0} (f : Family S V T K) (k : f.Key) where
   -- a seat comes to sit with another
   module _ (id : ℕ) (v : View V T) (other : ℕ) (w : View V T) (some_v : IsSomeones f v) (some_w : IsSomeones f w) (s : State S (View V T)) (r : IsKept f k s) (at : get_elem? s.views id ≡ some v) (lone_w : w.guests ≡ []) (apart : ¬ (other ≡ id))
       (theirs : get_elem? (set s.views id (sitting v w)) other ≡ some w) where
-    mine : HasSeats f k r.world r.spot r.made id v
+    mine : HasSeats f k r.world r.history r.spot r.made id v
     mine = r.views id v at some_v
 
-    their : HasSeats f k r.world r.spot r.made other w
+    their : HasSeats f k r.world r.history r.spot r.made other w
     their = r.views other w (sym (set_else s.views id other (sitting v w) apart) ∙ theirs) some_w
 
     abbrev spot : ℕ → ℕ
     spot = put r.spot w.own.number id
 
     -- who sits elsewhere isn't the seat that moves
-    stays_there : (j : ℕ) (u : Seated V T) → j ≢ other → Sits f k r.world r.spot r.made j u → Sits f k r.world spot r.made j u
-    stays_there j u ne o = sits_at r.world r.spot spot r.made j j u o (put_else r.spot w.own.number id u.number (λ q. ne (sym o.place_is ∙ ap r.spot q ∙ their.own.place_is)) ∙ o.place_is)
+    stays_there : (j : ℕ) (u : Seated V T) → j ≢ other → Sits f k r.world r.history r.spot r.made j u → Sits f k r.world r.history spot r.made j u
+    stays_there j u ne o = sits_at r.world r.history r.spot spot r.made j j u o (put_else r.spot w.own.number id u.number (λ q. ne (sym o.place_is ∙ ap r.spot q ∙ their.own.place_is)) ∙ o.place_is)
 
-    differs : (u : Seated V T) → Sits f k r.world r.spot r.made id u → u.number ≢ w.own.number
+    differs : (u : Seated V T) → Sits f k r.world r.history r.spot r.made id u → u.number ≢ w.own.number
     differs u o q = apart (sym their.own.place_is ∙ ap r.spot (sym q) ∙ o.place_is)
 
-    comes : Sits f k r.world spot r.made id w.own
-    comes = sits_at r.world r.spot spot r.made other id w.own their.own (put_here r.spot w.own.number id)
+    comes : Sits f k r.world r.history spot r.made id w.own
+    comes = sits_at r.world r.history r.spot spot r.made other id w.own their.own (put_here r.spot w.own.number id)
 
-    guests_are : (g : Seated V T) → In g (w.own ∷ v.guests) → Sits f k r.world spot r.made id g
-    guests_are g (inl e) = subst (Sits f k r.world spot r.made id) e comes
+    guests_are : (g : Seated V T) → In g (w.own ∷ v.guests) → Sits f k r.world r.history spot r.made id g
+    guests_are g (inl e) = subst (Sits f k r.world r.history spot r.made id) e comes
     guests_are g (inr e) = stays_there id g (λ q. apart (sym q)) (mine.guests g e)
 
     others_are : (g : Seated V T) → In g (w.own ∷ v.guests) → g.number ≢ v.own.number
     others_are g (inl e) = λ q. differs v.own mine.own (sym q ∙ ap (λ (h : Seated V T). h.number) (sym e))
     others_are g (inr e) = mine.others g e
 
-    seats_both : HasSeats f k r.world spot r.made id (sitting v w)
+    seats_both : HasSeats f k r.world r.history spot r.made id (sitting v w)
     seats_both = record {
       own = stays_there id v.own (λ q. apart (sym q)) mine.own;
       guests = guests_are;
@@ -192,7 +198,7 @@ module _ {S V T K : Type 0} (f : Family S V T K) (k : f.Key) where
       apart = ((λ h e. differs h (mine.guests h e)), mine.apart);
     }
 
-    seats_stay : (j : ℕ) (u : View V T) → j ≢ other → HasSeats f k r.world r.spot r.made j u → HasSeats f k r.world spot r.made j u
+    seats_stay : (j : ℕ) (u : View V T) → j ≢ other → HasSeats f k r.world r.history r.spot r.made j u → HasSeats f k r.world r.history spot r.made j u
     seats_stay j u ne o = record { own = stays_there j u.own ne o.own; guests = λ g h. stays_there j g ne (o.guests g h); others = o.others; apart = o.apart }
 
     -- each seat sits somewhere
@@ -226,7 +232,7 @@ module _ {S V T K : Type 0} (f : Family S V T K) (k : f.Key) where
     joined = respotted s r spot (set (set s.views id (sitting v w)) other (nobody f)) (λ j u e h. ⊎_elim
         (λ (t : (j ≡ other) × (nobody f ≡ u)). absurd (nobody_not u t.1 h))
         (λ (t : (j ≢ other) × (get_elem? (set s.views id (sitting v w)) j ≡ some u)). ⊎_elim
-        (λ (q : (j ≡ id) × (sitting v w ≡ u)). is_at r.world spot r.made id j (sitting v w) u q.0 q.1 (seats_both, r.maker id v at some_v))
+        (λ (q : (j ≡ id) × (sitting v w ≡ u)). is_at r.world r.history spot r.made id j (sitting v w) u q.0 q.1 (seats_both, r.maker id v at some_v))
         (λ (q : (j ≢ id) × (get_elem? s.views j ≡ some u)). (seats_stay j u t.0 (r.views j u q.1 h), r.maker j u q.1 h))
         (at_set s.views id j (sitting v w) u t.1))
         (at_set (set s.views id (sitting v w)) other j (nobody f) u e))
@@ -243,7 +249,7 @@ module _ {S V T K : Type 0} (f : Family S V T K) (k : f.Key) where
     abbrev before : List (View V T)
     before = set s.views id left
 
-    all : HasSeats f k r.world r.spot r.made id v
+    all : HasSeats f k r.world r.history r.spot r.made id v
     all = r.views id v at some_v
 
     in_all : (h : Seated V T) → In h (g ∷ gs) → In h v.guests
@@ -255,16 +261,16 @@ module _ {S V T K : Type 0} (f : Family S V T K) (k : f.Key) where
     abbrev goes : ℕ → ℕ
     goes = put r.spot g.number (length before)
 
-    remains : (j : ℕ) (u : Seated V T) → u.number ≢ g.number → Sits f k r.world r.spot r.made j u → Sits f k r.world goes r.made j u
-    remains j u ne o = sits_at r.world r.spot goes r.made j j u o (put_else r.spot g.number (length before) u.number ne ∙ o.place_is)
+    remains : (j : ℕ) (u : Seated V T) → u.number ≢ g.number → Sits f k r.world r.history r.spot r.made j u → Sits f k r.world r.history goes r.made j u
+    remains j u ne o = sits_at r.world r.history r.spot goes r.made j j u o (put_else r.spot g.number (length before) u.number ne ∙ o.place_is)
 
-    leaver : Sits f k r.world r.spot r.made id g
+    leaver : Sits f k r.world r.history r.spot r.made id g
     leaver = all.guests g (in_all g (inl refl))
 
-    elsewhere : (j : ℕ) (u : Seated V T) → j ≢ id → Sits f k r.world r.spot r.made j u → Sits f k r.world goes r.made j u
+    elsewhere : (j : ℕ) (u : Seated V T) → j ≢ id → Sits f k r.world r.history r.spot r.made j u → Sits f k r.world r.history goes r.made j u
     elsewhere j u ne o = remains j u (λ q. ne (sym o.place_is ∙ ap r.spot q ∙ leaver.place_is)) o
 
-    seats_left : HasSeats f k r.world goes r.made id left
+    seats_left : HasSeats f k r.world r.history goes r.made id left
     seats_left = record {
       own = remains id v.own (λ q. all.others g (in_all g (inl refl)) (sym q)) all.own;
       guests = λ h e. remains id h (all_apart.0 h e) (all.guests h (in_all h (inr e)));
@@ -272,9 +278,9 @@ module _ {S V T K : Type 0} (f : Family S V T K) (k : f.Key) where
       apart = all_apart.1;
     }
 
-    seats_right : HasSeats f k r.world goes r.made (length before) (lone g)
+    seats_right : HasSeats f k r.world r.history goes r.made (length before) (lone g)
     seats_right = record {
-      own = sits_at r.world r.spot goes r.made id (length before) g leaver (put_here r.spot g.number (length before));
+      own = sits_at r.world r.history r.spot goes r.made id (length before) g leaver (put_here r.spot g.number (length before));
       guests = λ h e. absurd e;
       others = λ h e. absurd e;
       apart = tt;
@@ -301,11 +307,11 @@ module _ {S V T K : Type 0} (f : Family S V T K) (k : f.Key) where
     parts : IsKept f k (record { words = s.words; homes = s.homes; views = set s.views id left ++ lone g ∷ [] })
     parts = respotted s r goes (set s.views id left ++ lone g ∷ []) (λ j u e h. ⊎_elim
         (λ (was : get_elem? before j ≡ some u). ⊎_elim
-        (λ (q : (j ≡ id) × (left ≡ u)). is_at r.world goes r.made id j left u q.0 q.1 (seats_left, r.maker id v at some_v))
+        (λ (q : (j ≡ id) × (left ≡ u)). is_at r.world r.history goes r.made id j left u q.0 q.1 (seats_left, r.maker id v at some_v))
         (λ (q : (j ≢ id) × (get_elem? s.views j ≡ some u)). let o = r.views j u q.1 h in
         (record { own = elsewhere j u.own q.0 o.own; guests = λ y e. elsewhere j y q.0 (o.guests y e); others = o.others; apart = o.apart }, r.maker j u q.1 h))
         (at_set s.views id j left u was))
-        (λ (t : (j ≡ length before) × (lone g ≡ u)). is_at r.world goes r.made (length before) j (lone g) u t.0 t.1 (seats_right, (λ made. absurd (omega arith))))
+        (λ (t : (j ≡ length before) × (lone g ≡ u)). is_at r.world r.history goes r.made (length before) j (lone g) u t.0 t.1 (seats_right, (λ made. absurd (omega arith))))
         (at_end before (lone g) u j e))
         seated_parted
 
@@ -317,7 +323,7 @@ module _ {S V T K : Type 0} (f : Family S V T K) (k : f.Key) where
   -- a seat and its first guest look at one moment
   module _ (i : ℕ) (m : Me S (View V T)) (g : Seated V T) (gs : List (Seated V T)) (with_it : m.0.guests ≡ g ∷ gs) (some_v : IsSomeones f m.0) (seen : IsSeen f k i)
       (s : State S (View V T)) (r : IsKept f k s) (id : ℕ) (at : get_elem? s.views id ≡ some m.0) (below : slice_index s.words i < 2 ^ 64) where
-    both : HasSeats f k r.world r.spot r.made id m.0
+    both : HasSeats f k r.world r.history r.spot r.made id m.0
     both = r.views id m.0 at some_v
 
     in_both : (h : Seated V T) → In h (g ∷ gs) → In h m.0.guests
@@ -326,10 +332,10 @@ module _ {S V T K : Type 0} (f : Family S V T K) (k : f.Key) where
     both_apart : AreApart (g ∷ gs)
     both_apart = subst AreApart with_it both.apart
 
-    guest : Sits f k r.world r.spot r.made id g
+    guest : Sits f k r.world r.history r.spot r.made id g
     guest = both.guests g (in_both g (inl refl))
 
-    stands : (u : Seated V T) → Sits f k r.world r.spot r.made id u → Stands f k u r.world s.words s.homes i
+    stands : (u : Seated V T) → Sits f k r.world r.history r.spot r.made id u → Stands f k u r.world s.words s.homes i
     stands u o = record { shows = r.shows; of_is = o.of_is; there = let a = o.is_made in let b = r.fits in omega arith; knows = o.knows; below = below }
 
     one : Sees f k m.0.own r.world i (slice_index s.words i)
@@ -338,29 +344,57 @@ module _ {S V T K : Type 0} (f : Family S V T K) (k : f.Key) where
     other : Sees f k g r.world i (slice_index s.words i)
     other = seen r.world s.words s.homes g (stands g guest)
 
+    -- the history with both looks
+    first : HasGoneOn f k r.world r.history m.0.own one.now
+    first = gone_on f k r.world r.world r.history m.0.own one.now (looked_on f k r.world m.0.own i (slice_index s.words i) both.own.of_is one) r.writes
+
+    second : HasGoneOn f k r.world first.now g other.now
+    second = gone_on f k r.world r.world first.now g other.now (looked_on f k r.world g i (slice_index s.words i) guest.of_is other) first.writes
+
+    two : g.number ≢ m.0.own.number
+    two = both.others g (in_both g (inl refl))
+
     -- a seat that looked sits where it sat
-    sits_now : (u : Seated V T) (o : Sees f k u r.world i (slice_index s.words i)) → Sits f k r.world r.spot r.made id u → Sits f k r.world r.spot r.made id o.now
-    sits_now u o sat = record {
+    sits_now : (u : Seated V T) (o : Sees f k u r.world i (slice_index s.words i)) → Sits f k r.world r.history r.spot r.made id u
+        → strides_of u.number second.now ≡ o.now.gone → Sits f k r.world second.now r.spot r.made id o.now
+    sits_now u o sat went = record {
       place_is = ap r.spot o.went.same.0 ∙ sat.place_is;
       is_made = let a = sat.is_made in let b = o.went.same.0 in omega arith;
       of_is = o.went.same.1 ∙ sat.of_is;
       knows = o.knows;
+      went = ap (λ (n : ℕ). strides_of n second.now) o.went.same.0 ∙ went;
     }
+
+    -- and so does any other
+    still : (j : ℕ) (u : Seated V T) → u.number ≢ m.0.own.number → u.number ≢ g.number → Sits f k r.world r.history r.spot r.made j u → Sits f k r.world second.now r.spot r.made j u
+    still j u no_own no_guest o = record {
+      place_is = o.place_is;
+      is_made = o.is_made;
+      of_is = o.of_is;
+      knows = o.knows;
+      went = second.others u.number no_guest ∙ first.others u.number no_own ∙ o.went;
+    }
+
+    still_there : (j : ℕ) (u : Seated V T) → j ≢ id → Sits f k r.world r.history r.spot r.made j u → Sits f k r.world second.now r.spot r.made j u
+    still_there j u ne o = still j u
+        (λ q. ne (sym o.place_is ∙ ap r.spot q ∙ both.own.place_is))
+        (λ q. ne (sym o.place_is ∙ ap r.spot q ∙ guest.place_is)) o
 
     abbrev now : View V T
     now = record m.0 { own = one.now; guests = other.now ∷ gs }
 
-    guests_now : (h : Seated V T) → In h (other.now ∷ gs) → Sits f k r.world r.spot r.made id h
-    guests_now h (inl e) = subst (Sits f k r.world r.spot r.made id) e (sits_now g other guest)
-    guests_now h (inr e) = both.guests h (in_both h (inr e))
+    guests_now : (h : Seated V T) → In h (other.now ∷ gs) → Sits f k r.world second.now r.spot r.made id h
+    guests_now h (inl e) = subst (Sits f k r.world second.now r.spot r.made id) e
+        (sits_now g other guest (second.here (first.others g.number two ∙ guest.went)))
+    guests_now h (inr e) = still id h (both.others h (in_both h (inr e))) (both_apart.0 h e) (both.guests h (in_both h (inr e)))
 
     others_now : (h : Seated V T) → In h (other.now ∷ gs) → h.number ≢ one.now.number
-    others_now h (inl e) = λ q. both.others g (in_both g (inl refl)) (sym other.went.same.0 ∙ ap (λ (y : Seated V T). y.number) e ∙ q ∙ one.went.same.0)
+    others_now h (inl e) = λ q. two (sym other.went.same.0 ∙ ap (λ (y : Seated V T). y.number) e ∙ q ∙ one.went.same.0)
     others_now h (inr e) = λ q. both.others h (in_both h (inr e)) (q ∙ one.went.same.0)
 
-    seats_now : HasSeats f k r.world r.spot r.made id now
+    seats_now : HasSeats f k r.world second.now r.spot r.made id now
     seats_now = record {
-      own = sits_now m.0.own one both.own;
+      own = sits_now m.0.own one both.own (second.others m.0.own.number (λ q. two (sym q)) ∙ first.here both.own.went);
       guests = guests_now;
       others = others_now;
       apart = ((λ h e q. both_apart.0 h e (q ∙ other.went.same.0)), both_apart.1);
@@ -376,20 +410,37 @@ module _ {S V T K : Type 0} (f : Family S V T K) (k : f.Key) where
         (subst (In h.0) with_it h.1))
 
     kept : IsKept f k (record { words = set s.words i (slice_index s.words i); homes = s.homes; views = set s.views id now })
-    kept = subst (λ (ws : List ℕ). IsKept f k (record { words = ws; homes = s.homes; views = set s.views id now })) (sym (set-get_or s.words i 0))
-        (respotted s r r.spot (set s.views id now) (λ j u e h. ⊎_elim
-        (λ (q : (j ≡ id) × (now ≡ u)). is_at r.world r.spot r.made id j now u q.0 q.1
-        (seats_now, (λ made. let o = r.maker id m.0 at some_v made in (one.went.same.0 ∙ o.0, o.1))))
-        (λ (q : (j ≢ id) × (get_elem? s.views j ≡ some u)). was_so s r j u q.1 h)
-        (at_set s.views id j now u e))
-        (λ n low. replaced f s.views id m.0 now at some_now (r.spot n) n (same_seats n (r.spot n)) (r.seated n low)))
+    kept = subst (λ (ws : List ℕ). IsKept f k (record { words = ws; homes = s.homes; views = set s.views id now })) (sym (set-get_or s.words i 0)) record {
+      world = r.world;
+      shows = r.shows;
+      history = second.now;
+      writes = second.writes;
+      made = r.made;
+      by_seats = λ q h. ⊎_elim
+          (λ before. ⊎_elim (λ was. r.by_seats q was) (λ e. let a = both.own.is_made in omega (arith, e)) (first.seats q before))
+          (λ e. let a = guest.is_made in omega (arith, e)) (second.seats q h);
+      spot = r.spot;
+      views = λ j u e h. ⊎_elim
+          (λ (q : (j ≡ id) × (now ≡ u)). subst (λ (y : ℕ × View V T). HasSeats f k r.world second.now r.spot r.made y.0 y.1) (λ n. (sym q.0 n, q.1 n)) seats_now)
+          (λ (q : (j ≢ id) × (get_elem? s.views j ≡ some u)). let o = r.views j u q.1 h in
+          record { own = still_there j u.own q.0 o.own; guests = λ y at_it. still_there j y q.0 (o.guests y at_it); others = o.others; apart = o.apart })
+          (at_set s.views id j now u e);
+      seated = λ n low. replaced f s.views id m.0 now at some_now (r.spot n) n (same_seats n (r.spot n)) (r.seated n low);
+      unmade = r.unmade;
+      maker = λ j u e h some_made. ⊎_elim
+          (λ (q : (j ≡ id) × (now ≡ u)). subst (λ (y : View V T). 0 < y.made → (y.own.number ≡ 0) × (y.made ≡ r.made)) q.1
+          (λ made. let o = r.maker id m.0 at some_v made in (one.went.same.0 ∙ o.0, o.1)) some_made)
+          (λ (q : (j ≢ id) × (get_elem? s.views j ≡ some u)). r.maker j u q.1 h some_made)
+          (at_set s.views id j now u e);
+      fits = r.fits;
+    }
 
     met : Met f (f.word_at (f.of m.0.own.knows) i) m.0.own g (slice_index s.words i) one.now other.now
     met = subst (λ q. Met f (f.word_at q i) m.0.own g (slice_index s.words i) one.now other.now) (sym both.own.of_is) (record {
       one = one.went;
       other = other.went;
       together = one.world_is ∙ sym other.world_is;
-      two = λ q. both.others g (in_both g (inl refl)) (sym q);
+      two = λ q. two (sym q);
     })
 
   first_is : (g h : Seated V T) (gs hs : List (Seated V T)) → g ∷ gs ≡ h ∷ hs → (g ≡ h) × (gs ≡ hs)

@@ -1,5 +1,5 @@
 -- A step may be told otherwise.
-use Rattle.std.proofs.Common.{◌≡◌, ℕ, List, slice_index, sym, refl, ap, ◌∙◌, subst}
+use Rattle.std.proofs.Common.{◌≡◌, ℕ, List, slice_index, sym, refl, subst, inl}
 use Rattle.std.proofs.lemmas.List.{set-get_or}
 use mathlib.Core.Option.{Option}
 use Rattle.atomic_table.specs.Table.{Me, keeps}
@@ -12,7 +12,7 @@ use Rattle.running_rows.specs.Owing.{Stands, Leads, Owes}
 
 module _ {S V T K : Type 0} (f : Family S V T K) where
   -- a stride hangs alone on what the seat knew as it began
-  pub went_from : (from to : V → V) {deed : Deed f.Word} (u w : Seated V T) (n : ℕ) → from u.knows ≡ to u.knows → Went f from deed u n w → Went f to deed u n w
+  abbrev pub went_from : (from to : V → V) {deed : Deed f.Word} (u w : Seated V T) (n : ℕ) → from u.knows ≡ to u.knows → Went f from deed u n w → Went f to deed u n w
   went_from from to u w n e r =
       let o : (x : Ran (f.watched (f.of u.knows)) u.number (f.sight (to u.knows)) (f.stride r.stride) (f.sight w.knows)) × f.Also x.world u.number (to u.knows) r.stride w.knows
       = subst (λ (v : V). (x : Ran (f.watched (f.of u.knows)) u.number (f.sight v) (f.stride r.stride) (f.sight w.knows)) × f.Also x.world u.number v r.stride w.knows) e (r.ran, r.also) in
@@ -37,6 +37,7 @@ module _ {S V T K : Type 0} (f : Family S V T K) where
         same = refl;
         of_is = at.of_is;
         knows = at.knows;
+        on = inl (refl, refl);
         others = λ u ne low known. known;
         tells = tells;
       }
@@ -52,6 +53,7 @@ module _ {S V T K : Type 0} (f : Family S V T K) where
         same = l.same;
         of_is = l.of_is;
         knows = l.knows;
+        on = l.on;
         others = l.others;
         tells = more _ l.tells;
       }

@@ -1,5 +1,6 @@
 pub mod Family
 pub mod Strides
+pub mod History
 pub mod Rule
 pub mod Owing
 pub mod Sitting

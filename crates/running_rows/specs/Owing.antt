@@ -6,6 +6,7 @@ use Rattle.step_table.specs.Path.{looks}
 use Rattle.running_rows.specs.declared.view.View.{View}
 use Rattle.running_rows.specs.declared.view.Seated.{Seated}
 use Rattle.running_rows.specs.Family.{Family}
+use Rattle.running_rows.specs.History.{TellsOn}
 use Rattle.running_rows.specs.Strides.{Went, becomes, here}
 
 module _ {S V T K : Type 0} (f : Family S V T K) (k : f.Key) where
@@ -18,7 +19,7 @@ module _ {S V T K : Type 0} (f : Family S V T K) (k : f.Key) where
     pub below : slice_index words i < 2 ^ 64
 
   -- the step leads to a world that words and records show then, and that the seat may meet, as all others may that could meet the
-  -- one before. What it tells holds
+  -- one before. It is one stride at most, which tells how the journal goes on. What the step tells holds
   pub record Leads (m : Me S (View V T)) (world : f.World) (words : List ℕ) (homes : List (Option S)) (i x : ℕ) (then : Me S (View V T) → Type 0) : Type 0 where
     pub next : f.World
     pub own : Seated V T
@@ -28,6 +29,7 @@ module _ {S V T K : Type 0} (f : Family S V T K) (k : f.Key) where
     pub same : own.number ≡ m.0.own.number
     pub of_is : f.of own.knows ≡ k
     pub knows : f.Knows k own next
+    pub on : TellsOn f k world next m.0.own own
     pub others : (u : Seated V T) → u.number ≢ own.number → u.number < f.seats k → f.Knows k u world → f.Knows k u next
     pub tells : then (becomes f m own (carried_after m.1 act))
 

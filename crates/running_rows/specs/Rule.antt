@@ -6,6 +6,7 @@ use Rattle.atomic_table.specs.Table.{State}
 use Rattle.running_rows.specs.declared.view.View.{View}
 use Rattle.running_rows.specs.declared.view.Seated.{Seated}
 use Rattle.running_rows.specs.Family.{Family}
+use Rattle.running_rows.specs.History.{Moment, strides_of, Writes, journal_of}
 
 -- what is in a list
 abbrev pub In : {A : Type 0} → A → List A → Type 0
@@ -48,37 +49,43 @@ module _ {S V T K : Type 0} (f : Family S V T K) where
   abbrev pub IsSeated : List (View V T) → ℕ → ℕ → Type 0
   IsSeated views j n = (v : View V T) × (get_elem? views j ≡ some v) × IsSomeones v × HasSeat n v
 
-  -- this seat was made, of words made so, and sits at the place j
-  pub record Sits (k : f.Key) (s : f.World) (spot : ℕ → ℕ) (made j : ℕ) (u : Seated V T) : Type 0 where
+  -- this seat was made, of words made so, sits at the place j, and went its strides of the history
+  pub record Sits (k : f.Key) (s : f.World) (history : List (Moment T)) (spot : ℕ → ℕ) (made j : ℕ) (u : Seated V T) : Type 0 where
     pub place_is : spot u.number ≡ j
     pub is_made : u.number < made
     pub of_is : f.of u.knows ≡ k
     pub knows : f.Knows k u s
+    pub went : strides_of u.number history ≡ u.gone
 
   -- so it is, and each guest sits there too; all are different seats
-  pub record HasSeats (k : f.Key) (s : f.World) (spot : ℕ → ℕ) (made j : ℕ) (v : View V T) : Type 0 where
-    pub own : Sits k s spot made j v.own
-    pub guests : (g : Seated V T) → In g v.guests → Sits k s spot made j g
+  pub record HasSeats (k : f.Key) (s : f.World) (history : List (Moment T)) (spot : ℕ → ℕ) (made j : ℕ) (v : View V T) : Type 0 where
+    pub own : Sits k s history spot made j v.own
+    pub guests : (g : Seated V T) → In g v.guests → Sits k s history spot made j g
     pub others : (g : Seated V T) → In g v.guests → g.number ≢ v.own.number
     pub apart : AreApart v.guests
 
-  -- the rule. Words and records at home show a world, and each view is that of its seats, no two of one seat. Seats are made one
-  -- after the other: each of them sits somewhere, and those that aren't yet have run nothing
+  -- the rule. Words and records at home show a world, whose journal the strides of all seats told, one after the other. Each view
+  -- is that of its seats, no two of one seat. Seats are made one after the other: each of them sits somewhere, and those that
+  -- aren't yet have run nothing
   pub record IsKept (k : f.Key) (s : State S (View V T)) : Type 0 where
     pub world : f.World
     pub shows : f.Shows k world s.words s.homes
-    pub spot : ℕ → ℕ
+    pub history : List (Moment T)
+    pub writes : Writes f [] history (journal_of f k world)
     pub made : ℕ
-    pub views : (j : ℕ) (v : View V T) → get_elem? s.views j ≡ some v → IsSomeones v → HasSeats k world spot made j v
+    pub by_seats : (m : Moment T) → In m history → m.seat < made
+    pub spot : ℕ → ℕ
+    pub views : (j : ℕ) (v : View V T) → get_elem? s.views j ≡ some v → IsSomeones v → HasSeats k world history spot made j v
     pub seated : (n : ℕ) → n < made → IsSeated s.views (spot n) n
     pub unmade : (n : ℕ) → made ≤ n → n < f.seats k → f.Knows k (fresh_seat k n) world
     pub maker : (j : ℕ) (v : View V T) → get_elem? s.views j ≡ some v → IsSomeones v → 0 < v.made
         → (v.own.number ≡ 0) × (v.made ≡ made)
     pub fits : made ≤ f.seats k
 
-  -- words and records as they are made show a world that each seat may meet which has run nothing
+  -- words and records as they are made show a world of an empty journal, that each seat may meet which has run nothing
   pub record Opens (k : f.Key) (words : List ℕ) (homes : List (Option S)) : Type 0 where
     pub world : f.World
     pub shows : f.Shows k world words homes
+    pub unwritten : journal_of f k world ≡ []
     pub unmade : (n : ℕ) → n < f.seats k → f.Knows k (fresh_seat k n) world
     pub some_seats : 0 < f.seats k

@@ -6,7 +6,7 @@ use Rattle.step_table.specs.declared.entry.Entry.{Entry}
 use Rattle.step_table.specs.declared.entry.Entry.TheVariants.{Add, AddMany, Take}
 use Rattle.step_table.specs.World.{Layout, SemaWorld}
 use Rattle.step_table.specs.Steps.{IsReached}
-use Rattle.step_table.specs.Journal.{Plain, plain_start, effect_of, replay, IsDefined, takes}
+use Rattle.step_table.specs.Journal.{Plain, plain_start, effect_of, replay, IsDefined, takes, IsLawful}
 use Rattle.step_table.specs.Counting.{on, total}
 use Rattle.sema_law.specs.Lawful as lawful
 use Rattle.sema_law.specs.Invariant.{IsInvariant}
@@ -100,6 +100,10 @@ balance_all x (e ∷ j) c all =
     = balance_all (effect_of e x) j c (λ before after d is. all (e ∷ before) after d (ap (λ l. e ∷ l) is)) in
     let one = balance x e c (all [] j e refl) in
     let adds = added_first c e j in let takes_it = taken_first c e j in omega arith
+
+-- so it is in each lawful journal
+pub lawful_balanced : (start : Plain) (j : List Entry) (c : ℕ) → IsLawful start j → (replay start j).numbers c + taken_on c j ≡ start.numbers c + added_on c j
+lawful_balanced start j c lawful = balance_all start j c (λ before after e is. (lawful.0 before after e is).0)
 
 pub balanced : (m : Layout) (s : SemaWorld) → IsInvariant m s → Balanced m s
 balanced m s inv c =

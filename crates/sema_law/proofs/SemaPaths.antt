@@ -27,7 +27,7 @@ use Rattle.sema_law.proofs.Promises.{the_law, reached}
 use Rattle.sema_law.proofs.Owning.{told}
 use Rattle.step_table.proofs.Paths.{goes_on_more, goes_on_by, row_ran, are_paths}
 
-journal_told : (effect : Effect) (journal : List Entry) → journal_after effect journal ≡ journal ++ entries_of effect
+pub journal_told : (effect : Effect) (journal : List Entry) → journal_after effect journal ≡ journal ++ entries_of effect
 journal_told (Tells e) journal = refl
 journal_told Nothing journal = sym (append-nil journal)
 journal_told Wakes journal = sym (append-nil journal)

@@ -1,5 +1,5 @@
 -- What the journal says of each seat's call: what its release owes, and that each wait in a hand has left and got its unit or none.
-use Rattle.std.proofs.Common.{◌≡◌, ℕ, suc, ◌+◌, ◌-◌, ◌<◌, ◌≤◌, ◌≢◌, ◌⊎◌, cond, List, [], ◌∷◌, ◌++◌}
+use Rattle.std.proofs.Common.{◌≡◌, ℕ, zero, suc, ◌+◌, ◌-◌, ◌<◌, ◌≤◌, ◌≢◌, ◌⊎◌, cond, List, [], ◌∷◌, ◌++◌}
 use Rattle.std.proofs.Common.{length, eqb, refl, sym, ap, ◌∙◌, subst, subst₂, inl, inr, eq-eqb, ne_eqb, append_assoc, arith}
 use native.Mathlib.Decide.{ℕ_discrete}
 use Rattle.waiters.specs.declared.wait.WaitId.{WaitId}
@@ -156,6 +156,8 @@ story_more k (ReleasingMany r M5) hand g e j unspent spares granted story = (
 )
 story_more k (ReleasingMany r M6) hand g e j unspent spares granted story = all_left_more r.counter hand e j spares story
 story_more k (ReleasingMany r M7) hand g e j unspent spares granted story = all_left_more r.counter hand e j spares story
+story_more k (Acquiring a (P t)) hand (suc zero) e j unspent spares granted story =
+    left_more a.counter (wait k t) e j (granted (omega arith)) story
 story_more k (Acquiring a (P t)) hand (suc (suc g)) e j unspent spares granted story =
     unit_more a.counter (wait k t) e j (granted (omega arith)) story
 story_more k _ hand g e j unspent spares granted story = tt
@@ -269,9 +271,9 @@ spares_granted {m = m} {i = i} {e = e} s line placed in_range k ne some = by (ta
 post_story : {p q : SeatState} {c x : ℕ} {w : WaitId} → Post p q c w x → (i g : ℕ) (a : Acquire) (hand : List WaitId) (j : List Entry) → a.counter ≡ c
     → Story i p.place p.hand g j → Story w.seat (Acquiring a (P w.turn)) hand x j
 post_story {w = w} r9 i g a hand j here story = subst (λ c. HasItsUnit c w j) (sym here) story.0
-post_story r10 i g a hand j here story = tt
-post_story m7_last i g a hand j here story = tt
-post_story m7_more i g a hand j here story = tt
+post_story {w = w} r10 i g a hand j here story = subst (λ c. HasLeft c w j) (sym here) story.0
+post_story {w = w} m7_last i g a hand j here story = subst (λ c. HasLeft c w j) (sym here) story.0
+post_story {w = w} m7_more i g a hand j here story = subst (λ c. HasLeft c w j) (sym here) story.0
 
 -- and of the seat that stores it
 own_story : {p q : SeatState} {c x : ℕ} {w : WaitId} → Post p q c w x → (i g after : ℕ) (j : List Entry)

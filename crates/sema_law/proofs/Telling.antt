@@ -24,7 +24,7 @@ abbrev told : Effect → Plain → Plain
 told (Tells e) x = effect_of e x
 told _ x = x
 
-replay_last : (x : Plain) (e : Entry) (j : List Entry) → replay x (j ++ e ∷ []) ≡ effect_of e (replay x j)
+pub replay_last : (x : Plain) (e : Entry) (j : List Entry) → replay x (j ++ e ∷ []) ≡ effect_of e (replay x j)
 replay_last x e [] = refl
 replay_last x e (d ∷ j) = replay_last (effect_of d x) e j
 

@@ -159,6 +159,7 @@ Story k (ReleasingMany r M4) hand grant journal = Owes k r.counter r.units journ
 Story k (ReleasingMany r M5) hand grant journal = Owes k r.counter (r.units - length hand) journal × AllLeft r.counter hand journal
 Story k (ReleasingMany r M6) hand grant journal = AllLeft r.counter hand journal
 Story k (ReleasingMany r M7) hand grant journal = AllLeft r.counter hand journal
+Story k (Acquiring a (P turn)) hand (suc zero) journal = HasLeft a.counter (wait k turn) journal
 Story k (Acquiring a (P turn)) hand (suc (suc grant)) journal = HasItsUnit a.counter (wait k turn) journal
 Story k _ hand grant journal = Unit {0}
 

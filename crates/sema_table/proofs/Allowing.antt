@@ -3,7 +3,6 @@ use Rattle.std.proofs.Common.{◌≡◌, ◌≢◌, ℕ, ◌+◌, ◌^◌, ◌<�
 use mathlib.Core.Option.{none, some}
 use native.Mathlib.Decide.{ℕ_discrete}
 use lib.ListN.{get_elem?}
-use lib.Seq.{set-get_or}
 use prog.Atomic.{either}
 use Rattle.running_rows.specs.Table.{Act, step, keeps, takes, gives, homes_after, carried_after, Valid, rest}
 use Rattle.running_rows.proofs.Lists.{set_here, set_else, exchanged}
@@ -35,7 +34,8 @@ use Rattle.sema_table.specs.Starts.{begin}
 use Rattle.sema_table.proofs.Words.{low_root, is_lock, locks_unwritten, listed_agree, same_record}
 use Rattle.sema_table.proofs.Adding.{adding}
 use Rattle.sema_table.proofs.Striding.{Ran, ran_here}
-use Rattle.sema_table.proofs.Keeping.{Fits, Ready, ready, b, t, after, others, knows_after, shows_after, went, home_stays, lists_are, lists_told, read_is}
+use Rattle.running_rows.proofs.Telling.{owes_own, tells_more, stays_so}
+use Rattle.sema_table.proofs.Keeping.{Fits, Ready, ready, b, t, after, others, knows_after, shows_after, went, home_stays, lists_are, lists_told, read_is, tells_on}
 
 -- a row of no lock: the code's step is the event of the table
 pub record Stays (z : Setting) (e : Event) (i n x : ℕ) : Type 0 where
@@ -58,28 +58,6 @@ pub record Gives (z : Setting) (c : ℕ) (treap : Treap) (e : Event) (v : Known)
 -- the event of the row that begins at this place, for the seat k that knows v
 abbrev pub event_by : ℕ → Known → SemaWorld → Event
 event_by k v w = table k (stands_by v) w.words.lists
-
--- what is owed where the words are named as the seat names them
-pub own_name : (z : Setting) (i : ℕ) (m : Me) (g : ℕ → ℕ) (then : ℕ → Me → Type 0) → Owes semaphore_rows m.0.own.knows.setting m i g then → Owes semaphore_rows z m i g then
-own_name z i m g then owed world words homes st =
-    subst (λ (q : Setting). Stands semaphore_rows q m.0.own world words homes i → Leads semaphore_rows q m world words homes i (g (slice_index words i)) (then (slice_index words i)))
-    st.of_is (owed world words homes) st
-
--- the step tells something else
-pub tells_so : (z : Setting) (m : Me) (world : SemaWorld) (words : List ℕ) (homes : Homes) (i x : ℕ) (then more : Me → Type 0) → ((t : Me) → then t → more t)
-    → Leads semaphore_rows z m world words homes i x then → Leads semaphore_rows z m world words homes i x more
-tells_so z m world words homes i x then more so l = record {
-  next = l.next;
-  own = l.own;
-  act = l.act;
-  valid = l.valid;
-  shows = l.shows;
-  same = l.same;
-  of_is = l.of_is;
-  knows = l.knows;
-  others = l.others;
-  tells = so (becomes semaphore_rows m l.own (carried_after m.1 l.act)) l.tells;
-}
 
 -- what is told of a row that stored x at i
 abbrev pub Stored : (Known → Known) → Me → ℕ → ℕ → ℕ → Me → Type 0
@@ -144,6 +122,7 @@ module _ (i : ℕ) (m : Me) (p : Place) (ok : Begins (length m.0.own.knows.setti
         same = refl;
         of_is = refl;
         knows = knows_after m.0.own world words homes i st p ok bound x fits;
+        on = tells_on m.0.own world words homes i st p ok bound x fits;
         others = others m.0.own world words homes i st p ok bound x fits;
         tells = tells;
       }
@@ -193,21 +172,6 @@ module _ (i : ℕ) (m : Me) (p : Place) (ok : Begins (length m.0.own.knows.setti
         by y X locks one q gone (yes e) k = let x = put_here w.words.locks q0 X in let l = locks q in let j = ap (put w.words.locks q0 X) e in absurd (omega arith)
         by y X locks one q gone (no ne) k = k ne (sym (put_else w.words.locks q0 X q ne) ∙ sym (locks q) ∙ gone)
 
-    -- nothing has changed
-    idle : (then : Me → Type 0) → then m → Leads semaphore_rows M m world words homes i n then
-    idle then tells = record {
-      next = world;
-      own = m.0.own;
-      act = keeps;
-      valid = tt;
-      shows = subst (λ ws. ShowsWorld M world ws homes) (sym (set-get_or words i 0)) st.shows;
-      same = refl;
-      of_is = refl;
-      knows = st.knows;
-      others = λ o ne low known. known;
-      tells = tells;
-    }
-
     -- a lock that was given back
     abbrev Gone : ℕ → Me → Type 0
     Gone k s = Ran (begin p) m.0.own k s.0.own × Changed semaphore_rows m (rest m.1) s
@@ -237,14 +201,14 @@ module _ (i : ℕ) (m : Me) (p : Place) (ok : Begins (length m.0.own.knows.setti
   -- an atomic step of the code that is the event of a row of no lock leads on, and tells that the row ran, and what it stored
   pub owes_stored : (z : Setting) (g : ℕ → ℕ) → ((w : SemaWorld) (n : ℕ) → Ready m.0.own.number v w i n → Stays M (event_by m.0.own.number v w) i n (g n))
       → Owes semaphore_rows z m i g (λ n s. Stored (begin p) m i (g n) n s)
-  owes_stored z g ready = own_name z i m g (λ n s. Stored (begin p) m i (g n) n s) (λ world words homes st.
+  owes_stored z g ready = owes_own semaphore_rows z m i g (λ n s. Stored (begin p) m i (g n) n s) (λ world words homes st.
       let k : ℕ = n world words homes st in
       stays world words homes st (g k) (in_world world words homes st (λ e. Stays M e i k (g k)) (ready (w world words homes st) k (known world words homes st))))
 
   pub owes : (z : Setting) (g : ℕ → ℕ) → ((w : SemaWorld) (n : ℕ) → Ready m.0.own.number v w i n → Stays M (event_by m.0.own.number v w) i n (g n))
       → Owes semaphore_rows z m i g (λ n s. RanRow semaphore_rows (begin p) m n s)
   owes z g ready world words homes st = let k : ℕ = slice_index words i in
-      tells_so z m world words homes i (g k) (λ s. Stored (begin p) m i (g k) k s) (λ s. RanRow semaphore_rows (begin p) m k s) (λ s r. (r.0, r.2)) (owes_stored z g ready world words homes st)
+      tells_more semaphore_rows z m i world words homes (g k) (λ s. Stored (begin p) m i (g k) k s) (λ s. RanRow semaphore_rows (begin p) m k s) (λ s r. (r.0, r.2)) (owes_stored z g ready world words homes st)
 
   -- an exchange of 0 for 1 on a lock word: the row ran, and the record came with it, or the lock was held and nothing changed
   abbrev Either : ℕ → Me → Type 0
@@ -252,17 +216,17 @@ module _ (i : ℕ) (m : Me) (p : Place) (ok : Begins (length m.0.own.knows.setti
 
   pub owes_lock : (z : Setting) → ((w : SemaWorld) (n : ℕ) → Ready m.0.own.number v w i n → n ≡ 0 → Takes M c (event_by m.0.own.number v w) i n)
       → Owes semaphore_rows z m i (λ n. either (n == 0) 1 n) (λ n s. (n ≢ 0 → s ≡ m) × (n ≡ 0 → Ran (begin p) m.0.own 0 s.0.own × ((treap : Treap) × Changed semaphore_rows m ((q0, Root treap) ∷ m.1) s × IsRecord M q0 treap (lists_by M s.0.own.knows.seen))))
-  owes_lock z ready = own_name z i m (λ n. either (n == 0) 1 n) (λ n s. Either n s) (λ world words homes st.
+  owes_lock z ready = owes_own semaphore_rows z m i (λ n. either (n == 0) 1 n) (λ n s. Either n s) (λ world words homes st.
       let k : ℕ = n world words homes st in
       exchanged k 0 1 (λ x. Leads semaphore_rows M m world words homes i x (Either k))
-      (λ free. tells_so M m world words homes i 1 (Got world words homes st) (Either k) (λ s got. ((λ held. absurd (held free)), (λ _. got)))
+      (λ free. tells_more semaphore_rows M m i world words homes 1 (Got world words homes st) (Either k) (λ s got. ((λ held. absurd (held free)), (λ _. got)))
       (takes_it world words homes st (in_world world words homes st (λ e. Takes M c e i k) (ready (w world words homes st) k (known world words homes st) free)) free))
-      (λ held. idle world words homes st (Either k) ((λ _. refl), (λ free. absurd (held free)))))
+      (λ held. stays_so semaphore_rows M m i world words homes (Either k) st ((λ _. refl), (λ free. absurd (held free)))))
 
   -- a store on a lock word that the seat holds
   pub owes_unlock : (z : Setting) (treap : Treap) (x : ℕ) → m.1 ≡ (q0, Root treap) ∷ [] → ((w : SemaWorld) (n : ℕ) → Ready m.0.own.number v w i n → Gives M c treap (event_by m.0.own.number v w) v i n x)
       → Owes semaphore_rows z m i (λ _. x) (λ n s. Ran (begin p) m.0.own n s.0.own × Changed semaphore_rows m (rest m.1) s)
-  owes_unlock z treap x carried ready = own_name z i m (λ _. x) (λ n s. Ran (begin p) m.0.own n s.0.own × Changed semaphore_rows m (rest m.1) s) (λ world words homes st.
+  owes_unlock z treap x carried ready = owes_own semaphore_rows z m i (λ _. x) (λ n s. Ran (begin p) m.0.own n s.0.own × Changed semaphore_rows m (rest m.1) s) (λ world words homes st.
       let k : ℕ = n world words homes st in
       gives_it world words homes st x treap carried (in_world world words homes st (λ e. Gives M c treap e v i k x) (ready (w world words homes st) k (known world words homes st))))
 
@@ -271,7 +235,7 @@ module _ (i : ℕ) (m : Me) (p : Place) (ok : Begins (length m.0.own.knows.setti
       → (world : SemaWorld) (words : List ℕ) (homes : Homes) → Stands semaphore_rows M m.0.own world words homes i → 0 < slice_index words i
       → Leads semaphore_rows M m world words homes i x (λ s. RanRow semaphore_rows (begin p) m (slice_index words i) s)
   owed_some z x ready world words homes st some_is = let k : ℕ = n world words homes st in
-      tells_so M m world words homes i x (λ s. Stored (begin p) m i x k s) (λ s. RanRow semaphore_rows (begin p) m k s) (λ s r. (r.0, r.2))
+      tells_more semaphore_rows M m i world words homes x (λ s. Stored (begin p) m i x k s) (λ s. RanRow semaphore_rows (begin p) m k s) (λ s r. (r.0, r.2))
       (stays world words homes st x (in_world world words homes st (λ e. Stays M e i k x) (ready (w world words homes st) k (known world words homes st) some_is)))
 
 -- the same of the row at which the seat stands
@@ -279,19 +243,19 @@ module _ (z : Setting) (i : ℕ) (m : Me) (p : Place) (at : m.0.own.knows.place 
   pub owes_here : (g : ℕ → ℕ) → ((w : SemaWorld) (n : ℕ) → Ready m.0.own.number (begin p m.0.own.knows) w i n → Stays m.0.own.knows.setting (event_by m.0.own.number (begin p m.0.own.knows) w) i n (g n))
       → Owes semaphore_rows z m i g (λ n s. RanRow semaphore_rows here m n s)
   owes_here g ready world words homes st = let k : ℕ = slice_index words i in
-      tells_so z m world words homes i (g k) (λ s. RanRow semaphore_rows (begin p) m k s) (λ s. RanRow semaphore_rows here m k s)
+      tells_more semaphore_rows z m i world words homes (g k) (λ s. RanRow semaphore_rows (begin p) m k s) (λ s. RanRow semaphore_rows here m k s)
       (λ s r. (ran_here m.0.own s.0.own p k at r.0, r.1)) (owes i m p (inl at) bound z g ready world words homes st)
 
   -- a row that stores x, which is a grant
   pub owes_grant : (slots x : ℕ) → ((w : SemaWorld) (n : ℕ) → Ready m.0.own.number (begin p m.0.own.knows) w i n → Stays m.0.own.knows.setting (event_by m.0.own.number (begin p m.0.own.knows) w) i n x)
       → Owes semaphore_rows z m i (λ _. x) (λ _ s. grants semaphore_rows (step slots i x 0 none) m x s)
   owes_grant slots x ready world words homes st = let k : ℕ = slice_index words i in
-      tells_so z m world words homes i x (λ s. Stored (begin p) m i x k s) (λ s. grants semaphore_rows (step slots i x 0 none) m x s)
+      tells_more semaphore_rows z m i world words homes x (λ s. Stored (begin p) m i x k s) (λ s. grants semaphore_rows (step slots i x 0 none) m x s)
       (λ s r. (k, ran_here m.0.own s.0.own p k at r.0, r.1, r.2)) (owes_stored i m p (inl at) bound z (λ _. x) ready world words homes st)
 
   pub owes_give : (treap : Treap) (x : ℕ) → m.1 ≡ (root m.0.own.knows.setting (counter_at p), Root treap) ∷ []
       → ((w : SemaWorld) (n : ℕ) → Ready m.0.own.number (begin p m.0.own.knows) w i n → Gives m.0.own.knows.setting (counter_at p) treap (event_by m.0.own.number (begin p m.0.own.knows) w) (begin p m.0.own.knows) i n x)
       → Owes semaphore_rows z m i (λ _. x) (λ _ s. (n : ℕ) × Ran here m.0.own n s.0.own × Changed semaphore_rows m (rest m.1) s)
   owes_give treap x carried ready world words homes st = let k : ℕ = slice_index words i in
-      tells_so z m world words homes i x (λ s. Ran (begin p) m.0.own k s.0.own × Changed semaphore_rows m (rest m.1) s) (λ s. (n : ℕ) × Ran here m.0.own n s.0.own × Changed semaphore_rows m (rest m.1) s)
+      tells_more semaphore_rows z m i world words homes x (λ s. Ran (begin p) m.0.own k s.0.own × Changed semaphore_rows m (rest m.1) s) (λ s. (n : ℕ) × Ran here m.0.own n s.0.own × Changed semaphore_rows m (rest m.1) s)
       (λ s r. (k, ran_here m.0.own s.0.own p k at r.0, r.1)) (owes_unlock i m p (inl at) bound z treap x carried ready world words homes st)

@@ -25,7 +25,7 @@ use Rattle.sema_table.specs.Waking.{FindsNoGrant, RunsOrWaits, CallsGranted, Cal
 use Rattle.sema_table.specs.Strides.{IsRow}
 use Rattle.sema_table.specs.Calls.{TellsIn, Calls, RunsRows, CallsRows, rows_of}
 
-tells_later : (a b told now : List Entry) → GoesOn b a → TellsIn b told now → TellsIn a told now
+pub tells_later : (a b told now : List Entry) → GoesOn b a → TellsIn b told now → TellsIn a told now
 tells_later a b [] now later tells = goes_on_more a b now later tells
 tells_later a b (e ∷ told) now later tells =
     (later.more ++ tells.0, subst (λ l. TellsIn (l ++ e ∷ []) told now) (ap (λ l. l ++ tells.0) later.is ∙ append_assoc a later.more tells.0) tells.1)

@@ -1,5 +1,5 @@
 -- A row of the step table leads on to a world that may be met, whichever row it is.
-use Rattle.std.proofs.Common.{◌≡◌, ◌≢◌, ℕ, ◌+◌, ◌^◌, ◌<◌, ◌≤◌, IsTrue, List, [], ◌∷◌, ◌++◌, length, get_or, set, slice_index, slice_set, sym, refl, ap, ◌∙◌, subst, arith, length-set, get_or-set_other, get_or-set_same}
+use Rattle.std.proofs.Common.{◌≡◌, ◌≢◌, ℕ, ◌+◌, ◌^◌, ◌<◌, ◌≤◌, IsTrue, List, [], ◌∷◌, ◌++◌, length, get_or, set, slice_index, slice_set, sym, refl, ap, ◌∙◌, subst, inr, arith, length-set, get_or-set_other, get_or-set_same}
 use mathlib.Core.Logic.{dite}
 use native.Mathlib.Decide.{ℕ_discrete}
 use lib.ListN.{get_elem?}
@@ -24,7 +24,8 @@ use Rattle.sema_law.specs.Served.{carries, served, gains}
 use Rattle.sema_law.specs.SemaPath.{SemaSight, semaphores, row_stride, plain_before}
 use Rattle.sema_law.proofs.Promises.{the_law}
 use Rattle.sema_law.proofs.Accounts.{the_accounts}
-use Rattle.sema_law.proofs.SemaPaths.{the_sema_paths}
+use Rattle.sema_law.proofs.SemaPaths.{the_sema_paths, journal_told}
+use Rattle.running_rows.specs.History.{TellsOn}
 use Rattle.running_rows.specs.Owing.{Stands}
 use Rattle.sema_table.specs.declared.view.Known.{Known}
 use Rattle.sema_table.specs.declared.view.Setting.{Setting}
@@ -195,6 +196,10 @@ module _ (u : SemaSeat) (world : SemaWorld) (words : List ℕ) (homes : Homes) (
       knows = record (seeing (sight (semaphores (layout u.knows.setting)) t u.number) u.knows) { taken = u.knows.taken + gains (b.seats u.number).place (t.seats u.number).place };
       gone = u.gone ++ row_stride (layout u.knows.setting) b u.number ∷ [];
     }
+
+    -- the row tells how the journal goes on
+    pub tells_on : TellsOn semaphore_rows z world t u after
+    tells_on = inr (row_stride m b id, refl, refl, journal_told (e.leads (finds (root z) b id)).1 b.journal)
 
     came : takes id t.journal ≡ after.knows.taken + served m t id
     came = let a = the_accounts.counted m b t id st.there invariant step id in let o = on_here id (gains (b.seats id).place (t.seats id).place) in let k = knows.takes in omega arith

@@ -33,3 +33,15 @@ pub mod Reckoning
 pub mod Gathering
 pub mod LookingTogether
 pub mod Lawful
+mod After
+mod Tellers
+mod Finding
+mod Sighting
+mod CallerTries
+mod CallerPosts
+mod CallerWakes
+mod CallerPolls
+mod CallerEnters
+mod CallerAcquires
+mod CallerWakesMany
+mod CallerEnds

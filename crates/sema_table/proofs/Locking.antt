@@ -28,7 +28,8 @@ use Rattle.sema_table.proofs.Striding.{Ran}
 use Rattle.sema_table.specs.Seats.{Token, TableModel}
 use Rattle.sema_table.specs.Walks.{Starts, Walked, Locked, moved_to}
 use Rattle.sema_table.proofs.Adding.{adding}
-use Rattle.sema_table.proofs.Allowing.{Takes, tells_so, owes_lock}
+use Rattle.running_rows.proofs.Telling.{tells_more}
+use Rattle.sema_table.proofs.Allowing.{Takes, owes_lock}
 use Rattle.sema_table.proofs.Leading.{Goes, led}
 use Rattle.sema_table.proofs.Walking.{walked_row}
 
@@ -86,7 +87,7 @@ pub takes_lock_by : (z : Setting) (i : ℕ) (s : Token) (p : Place) → takes_lo
     → address s.me.0.own.knows.setting (Lock (counter_at p)) ≡ i
     → Owes semaphore_rows z s.me i (λ n. either (n == 0) 1 n) (λ n t. (n ≢ 0 → t ≡ s.me) × (n ≡ 0 → Took semaphore_rows (begin p) s.me t))
 takes_lock_by z i s p takes begins few word world words homes st = let k : ℕ = slice_index words i in
-    tells_so z s.me world words homes i (either (k == 0) 1 k) _ (λ t. (k ≢ 0 → t ≡ s.me) × (k ≡ 0 → Took semaphore_rows (begin p) s.me t))
+    tells_more semaphore_rows z s.me i world words homes (either (k == 0) 1 k) _ (λ t. (k ≢ 0 → t ≡ s.me) × (k ≡ 0 → Took semaphore_rows (begin p) s.me t))
     (λ t told. (told.0, (λ free. got t (told.1 free))))
     (owes_lock i s.me p begins (let a = locking_adds p takes in omega arith) z
     (λ b n known free. locking_event s.me.0.own.knows.setting s.me.0.own.number (stands_by (begin p s.me.0.own.knows)) b.words.lists p i n takes word free) world words homes st)

@@ -101,6 +101,7 @@ module _ (z : Setting) where
       rooted = rooted;
       counted = counted;
     };
+    unwritten = refl;
     unmade = λ k low. meets_first k;
     some_seats = seated;
   }

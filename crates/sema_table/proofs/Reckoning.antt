@@ -23,6 +23,7 @@ use Rattle.sema_law.specs.Served.{served}
 use Rattle.sema_law.specs.SemaPath.{semaphores}
 use Rattle.sema_law.proofs.Promises.{the_law}
 use Rattle.sema_law.proofs.Accounts.{the_accounts}
+use Rattle.running_rows.specs.History.{Writes, strides_of}
 use Rattle.running_rows.specs.Rule.{IsSomeones, In, AreApart, Sits, HasSeats, IsKept}
 use Rattle.sema_table.specs.Rows.{SemaSeat, SemaView, semaphore_rows}
 use Rattle.sema_table.specs.declared.view.Setting.{Setting}
@@ -92,7 +93,7 @@ module _ (n : ℕ) (gs : List SemaSeat) (apart : AreApart gs) (low : (g : SemaSe
       all_zeros (suc n) = let a = all_zeros n in let b = total_suc n (λ k. 0) in omega arith
 
 pub seat_is : (t : Token) (n : Numbers) → IsSeat t n → IsOfSeat t.me.0.own.knows.setting t.me.0.own (seat_of t n)
-seat_is t n is = record { number_is = is.token_is.number_is; free = is.free; given = is.token_is.taken_is; left = is.token_is.left_is; seen = refl }
+seat_is t n is = record { number_is = is.token_is.number_is; free = is.free; given = is.token_is.taken_is; left = is.token_is.left_is; seen = refl; went = refl }
 
 long : (z : Setting) (gs : List SemaSeat) (ss : List SeatModel) → AreOfSeats z gs ss → length gs ≡ length ss
 long z [] [] are = refl
@@ -166,11 +167,11 @@ module _ (z : Setting) (s : State Record SemaView) (r : IsKept semaphore_rows z 
   abbrev m : Layout
   m = layout z
 
-  here : HasSeats semaphore_rows z r.world r.spot r.made id v
+  here : HasSeats semaphore_rows z r.world r.history r.spot r.made id v
   here = r.views id v at someones
 
-  sits : (g : SemaSeat) → In g all → Sits semaphore_rows z r.world r.spot r.made id g
-  sits g (inl e) = subst (λ (x : SemaSeat). Sits semaphore_rows z r.world r.spot r.made id x) e here.own
+  sits : (g : SemaSeat) → In g all → Sits semaphore_rows z r.world r.history r.spot r.made id g
+  sits g (inl e) = subst (λ (x : SemaSeat). Sits semaphore_rows z r.world r.history r.spot r.made id x) e here.own
   sits g (inr e) = here.guests g e
 
   apart : AreApart all
@@ -233,6 +234,10 @@ module _ (z : Setting) (s : State Record SemaView) (r : IsKept semaphore_rows z 
     each = λ k h. (let o = there k h in let q = seat_for z all seats are o.0 o.1 in (q.0, q.1, sym q.2.number_is ∙ o.2));
     begins = λ t e. subst (λ j. GoesOn j t.sight.seen) (sym rested.journal) (has_seen t e).0;
     own = λ t e. subst (λ j. own_entries (semaphores m) t.number j ≡ own_entries (semaphores m) t.number t.sight.seen) (sym rested.journal) (has_seen t e).1;
+    history = r.history;
+    writes = subst (Writes semaphore_rows [] r.history) (sym rested.journal) r.writes;
+    by_seats = λ h e. let a = r.by_seats h e in let f = r.fits in omega arith;
+    went = λ t e. let o = guest_for z all seats are t e in ap (λ (n : ℕ). strides_of n r.history) (sym o.2.number_is) ∙ (sits o.0 o.1).went ∙ o.2.went;
     values = λ k h. same k h ∙ value_is k h ∙ ap (λ y. y.numbers k) lawful.journal.0 ∙ ap (λ j. (replay (plain_start (layout z).starts) j).numbers k) (sym rested.journal);
     released = refl;
     added_all = added_all ∙ ap added (sym rested.journal);

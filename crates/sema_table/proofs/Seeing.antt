@@ -25,8 +25,10 @@ use Rattle.sema_table.proofs.Adding.{adding}
 use Rattle.sema_table.proofs.Bounding.{taken_most}
 use Rattle.sema_table.proofs.Resting.{free_counted}
 use Rattle.sema_table.proofs.Striding.{Strode, ran_here}
+use Rattle.running_rows.proofs.Telling.{owes_own, tells_more}
+use Rattle.running_rows.proofs.History.{looked_on}
 use Rattle.sema_table.proofs.Keeping.{Ready}
-use Rattle.sema_table.proofs.Allowing.{Stays, event_by, own_name, tells_so, owed_some}
+use Rattle.sema_table.proofs.Allowing.{Stays, event_by, owed_some}
 
 module _ (u : SemaSeat) (world : SemaWorld) (words : List ℕ) (homes : Homes) (i : ℕ) (st : Stands semaphore_rows u.knows.setting u world words homes i) (x : Word) where
   abbrev m : Layout
@@ -113,7 +115,7 @@ module _ (z : Setting) (i : ℕ) (m : Me) (p : Place) (at : m.0.own.knows.place 
   Received n s = (n ≡ 0 → Looked semaphore_rows i m 0 s) × (0 < n → RanRow semaphore_rows here m n s)
 
   pub owes_received : Owes semaphore_rows z m i (λ _. 0) (λ n s. (n ≡ 0 → Looked semaphore_rows i m 0 s) × (0 < n → RanRow semaphore_rows here m n s))
-  owes_received = own_name z i m (λ _. 0) Received (λ world words homes st. by world words homes st (ℕ_discrete (slice_index words i) 0))
+  owes_received = owes_own semaphore_rows z m i (λ _. 0) Received (λ world words homes st. by world words homes st (ℕ_discrete (slice_index words i) 0))
     where
       by : (world : SemaWorld) (words : List ℕ) (homes : Homes) → (st : Stands semaphore_rows m.0.own.knows.setting m.0.own world words homes i) → Dec (slice_index words i ≡ 0)
           → Leads semaphore_rows m.0.own.knows.setting m world words homes i 0 (Received (slice_index words i))
@@ -128,10 +130,11 @@ module _ (z : Setting) (i : ℕ) (m : Me) (p : Place) (at : m.0.own.knows.place 
             same = o.went.same.0;
             of_is = o.went.same.1;
             knows = o.knows;
+            on = looked_on semaphore_rows m.0.own.knows.setting world m.0.own i (slice_index words i) refl o;
             others = λ u ne low known. known;
             tells = ((λ _. (subst (λ k. Strode here (looks (word_at m.0.own.knows.setting i)) m.0.own k o.now) e o.went, refl)), (λ some. absurd (omega arith)));
           })
       by world words homes st (no ne) =
-          tells_so m.0.own.knows.setting m world words homes i 0 (λ s. RanRow semaphore_rows (begin p) m (slice_index words i) s) (Received (slice_index words i))
+          tells_more semaphore_rows m.0.own.knows.setting m i world words homes 0 (λ s. RanRow semaphore_rows (begin p) m (slice_index words i) s) (Received (slice_index words i))
           (λ s r. ((λ e. absurd (ne e)), (λ _. (ran_here m.0.own s.0.own p (slice_index words i) at r.0, r.1))))
           (owed_some i m p (inl at) bound m.0.own.knows.setting 0 ready world words homes st (omega arith))

@@ -10,12 +10,13 @@ use Rattle.sema_law.specs.Lawful.{IsLawfulWorld, added}
 use Rattle.sema_law.specs.Balances.{taken, added_by}
 use Rattle.sema_law.specs.Bounds.{AllRest, IsCleared}
 use Rattle.sema_law.specs.Entries.{IsNamed}
-use Rattle.sema_law.specs.SemaPath.{semaphores}
+use Rattle.sema_law.specs.SemaPath.{SemaStride, semaphores}
 use Rattle.sema_table.specs.declared.view.Setting.{Setting}
+use Rattle.running_rows.specs.History.{Moment, Writes, strides_of}
 use Rattle.running_rows.specs.Rule.{In}
 use Rattle.sema_table.specs.Places.{is_free}
 use Rattle.sema_table.specs.Setting.{layout}
-use Rattle.sema_table.specs.Rows.{SemaSeat}
+use Rattle.sema_table.specs.Rows.{SemaSeat, semaphore_rows}
 use Rattle.sema_table.specs.Seats.{TableModel, SeatModel, Token, table_of}
 
 -- how many units were added by these seats, and how many were given to them
@@ -36,6 +37,7 @@ pub record IsOfSeat (z : Setting) (g : SemaSeat) (s : SeatModel) : Type 0 where
   pub given : g.knows.taken ≡ s.taken
   pub left : s.left + added_by g.number g.knows.seen ≡ z.limit
   pub seen : g.knows.seen ≡ s.sight.seen
+  pub went : g.gone ≡ s.strides
 
 -- what a view has of these seats, in their order
 abbrev pub AreOfSeats : Setting → List SemaSeat → List SeatModel → Type 0
@@ -62,9 +64,10 @@ pub record AreAll (t : TableModel) (seats : List SeatModel) : Type 0 where
   pub count : length seats ≡ t.setting.seats
 
 -- there is one journal, in a lawful world in which all rest. Each seat of the table is one of these, and has seen a beginning of
--- the journal with all entries that it alone can tell; the journal names seats and counters that are there. The values are those
--- that it tells, and no wait is queued any more. The units that the seats added are those that it tells, and so are those that they
--- were given. What is there and what was given are what was there at the start and what was added
+-- the journal with all entries that it alone can tell; the journal names seats and counters that are there. The strides that the
+-- seats went told it, one after the other: each entry was told by one stride of one of them. The values are those that it tells,
+-- and no wait is queued any more. The units that the seats added are those that it tells, and so are those that they were given.
+-- What is there and what was given are what was there at the start and what was added
 pub record IsClosed (z : Setting) (seats : List SeatModel) (c : ClosedModel) : Type 0 where
   pub world : SemaWorld
   pub reached : IsReached (layout z) world
@@ -76,6 +79,10 @@ pub record IsClosed (z : Setting) (seats : List SeatModel) (c : ClosedModel) : T
   pub begins : (s : SeatModel) → In s seats → GoesOn world.journal s.sight.seen
   pub own : (s : SeatModel) → In s seats
       → own_entries (semaphores (layout z)) s.number world.journal ≡ own_entries (semaphores (layout z)) s.number s.sight.seen
+  pub history : List (Moment SemaStride)
+  pub writes : Writes semaphore_rows [] history world.journal
+  pub by_seats : (m : Moment SemaStride) → In m history → m.seat < z.seats
+  pub went : (s : SeatModel) → In s seats → strides_of s.number history ≡ s.strides
   pub long : length c.values ≡ length z.starts
   pub values : (k : ℕ) → k < length z.starts
       → slice_index c.values k ≡ (replay (plain_start (layout z).starts) world.journal).numbers k

@@ -17,5 +17,8 @@ pub mod ManyWalks
 pub mod Texts
 pub mod Meeting
 pub mod Closing
+pub mod Callers
+pub mod CallersReleasing
+pub mod CallersEnding
 pub mod Making
 pub mod Table

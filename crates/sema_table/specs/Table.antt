@@ -1,5 +1,5 @@
 -- What the rule says of a table between any two steps of its threads.
-use Rattle.std.specs.Prelude.{◌≡◌, ℕ, ◌<◌, ◌≤◌, length, slice_index}
+use Rattle.std.specs.Prelude.{◌≡◌, ℕ, ◌<◌, ◌≤◌, List, [], length, slice_index}
 use Rattle.std.specs.List.{All}
 use mathlib.Core.Option.{some}
 use lib.ListN.{get_elem?}
@@ -10,7 +10,9 @@ use Rattle.step_table.specs.Steps.{IsReached}
 use Rattle.sema_law.specs.Lawful.{IsLawfulWorld}
 use Rattle.sema_law.specs.Bounds.{IsSmall}
 use Rattle.sema_law.specs.Entries.{IsNamed}
-use Rattle.running_rows.specs.Rule.{IsSomeones, HasSeats}
+use Rattle.sema_law.specs.SemaPath.{SemaStride}
+use Rattle.running_rows.specs.History.{Moment, Writes}
+use Rattle.running_rows.specs.Rule.{In, IsSomeones, IsSeated, HasSeats}
 use Rattle.sema_table.specs.declared.view.Record.{Record}
 use Rattle.sema_table.specs.declared.view.Setting.{Setting}
 use Rattle.sema_table.specs.declared.settings.Settings.{Settings}
@@ -18,19 +20,24 @@ use Rattle.sema_table.specs.Setting.{root, layout, address, words_in}
 use Rattle.sema_table.specs.Rule.{setting_of, Knows, AtHome}
 use Rattle.sema_table.specs.Rows.{SemaView, semaphore_rows, fresh}
 
--- each word and the records at home are those of this world, and each view that isn't spent is that of a seat there, and of the
--- seats that sit with it, each seat in one view: it stands so, has seen a beginning of the journal with all entries that it alone
--- can tell, knows the lists of a root whose lock it holds, and has come by the units that were taken for it, but for those served
--- to it since. Seats that aren't made yet have seen nothing and run nothing
+-- each word and the records at home are those of this world. The strides of all seats told its journal, one after the other, and
+-- each is of a seat that was made. Each view that isn't spent is that of a seat there, and of the seats that sit with it, each seat
+-- in one view: it went its strides, stands so, has seen a beginning of the journal with all entries that it alone can tell, knows
+-- the lists of a root whose lock it holds, and has come by the units that were taken for it, but for those served to it since. Each
+-- seat that was made sits somewhere; those that aren't yet have seen nothing and run nothing
 pub record Shows (z : Setting) (s : State Record SemaView) (world : SemaWorld) : Type 0 where
   pub numbers : (c : ℕ) → c < length z.starts → slice_index s.words (address z (Counter c)) ≡ world.words.numbers c
   pub locks : (c : ℕ) → slice_index s.words (address z (Lock c)) ≡ world.words.locks (root z c)
   pub waiters : (c : ℕ) → slice_index s.words (address z (Waiters c)) ≡ world.words.waiters (root z c)
   pub grants : (k : ℕ) → k < z.seats → slice_index s.words (address z (Grant k)) ≡ world.words.grants k
   pub homes : (r : ℕ) → r < z.roots → world.words.locks r ≡ 0 → AtHome z world.words s.homes r
-  pub spot : ℕ → ℕ
+  pub history : List (Moment SemaStride)
+  pub writes : Writes semaphore_rows [] history world.journal
   pub made : ℕ
-  pub views : (j : ℕ) (v : SemaView) → get_elem? s.views j ≡ some v → IsSomeones semaphore_rows v → HasSeats semaphore_rows z world spot made j v
+  pub by_seats : (m : Moment SemaStride) → In m history → m.seat < made
+  pub spot : ℕ → ℕ
+  pub views : (j : ℕ) (v : SemaView) → get_elem? s.views j ≡ some v → IsSomeones semaphore_rows v → HasSeats semaphore_rows z world history spot made j v
+  pub seated : (k : ℕ) → k < made → IsSeated semaphore_rows s.views (spot k) k
   pub unmade : (k : ℕ) → made ≤ k → k < z.seats → Knows z k (fresh z) world
   pub wide : length s.words ≡ words_in z
   pub deep : length s.homes ≡ z.roots

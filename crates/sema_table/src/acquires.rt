@@ -2,6 +2,7 @@
 ghost use Rattle.std.specs.Prelude.{◌≡◌, ◌<◌, length, MatchBool};
 ghost use Rattle.sema_table.specs.Waking.{acquire_of};
 ghost use Rattle.sema_table.specs.Whole.{TakesAtOnce, FindsNone, HasParked, TakesAfter, TakesFrom, IsAcquired};
+ghost use Rattle.sema_table.specs.Callers.{AcquiresUnit};
 
 use crate::answers::{Entered, Roused, Tried};
 use crate::seat::{Seat, Sleeping};
@@ -15,7 +16,8 @@ impl SemaTable {
     #[inline]
     pub fn acquire<R: Wait>(&self, rt: &R, seat: Seat, counter: CounterId, lifo: bool) -> Seat
         requires { (seat.table ≡ self.now) × (counter < length self.now.setting.starts) }
-        ensures { IsAcquired seat counter lifo result }
+        ensures rows { IsAcquired seat counter lifo result }
+        ensures caller { AcquiresUnit seat counter lifo result }
     {
         let mut seat = seat;
         match self.try_acquire(&mut seat, counter) {

@@ -2,6 +2,7 @@
 ghost use Rattle.std.specs.Prelude.{◌≡◌, ℕ, ◌<◌, ◌∷◌, false, All, length, slice_index_or};
 ghost use Rattle.std.specs.Mem.Slots.{slots_len, slots_filled, IsFull};
 ghost use Rattle.sema_table.specs.Closing.{AreAll, IsClosed, IsGathered};
+ghost use Rattle.sema_table.specs.CallersEnding.{EndsTable};
 
 use crate::closed::Closed;
 use crate::rows::Token;
@@ -50,7 +51,8 @@ impl SemaTable {
     /// Ends the table, for which it asks for all seats: what they have added and were given adds up with the counters' numbers.
     pub fn close(self, seats: Vec<Seat>) -> Closed
         requires { AreAll self seats.items }
-        ensures { IsClosed self.setting seats.items result }
+        ensures rows { IsClosed self.setting seats.items result }
+        ensures caller { EndsTable self.setting seats.items result }
     {
         let counters = self.counters;
         let mut seats = seats;

@@ -1,6 +1,7 @@
 //! Two seats compare what they have seen.
 ghost use Rattle.std.specs.Prelude.{◌≡◌};
 ghost use Rattle.sema_table.specs.Meeting.{HasMet};
+ghost use Rattle.sema_table.specs.CallersEnding.{SeeTheSame};
 
 use crate::seat::Seat;
 use crate::sema_table::SemaTable;
@@ -10,7 +11,8 @@ impl SemaTable {
     /// counter 0 once, and both found one number.
     pub fn meet(&self, one: &mut Seat, other: &mut Seat)
         requires { (one.old.table ≡ self.now) × (other.old.table ≡ self.now) }
-        ensures { HasMet one.old other.old one.new other.new }
+        ensures rows { HasMet one.old other.old one.new other.new }
+        ensures caller { SeeTheSame one.old other.old one.new other.new }
     {
         self.words.meet(&mut one.token, &mut other.token, 0);
     }

@@ -5,6 +5,7 @@ ghost use Rattle.step_table.specs.declared.place.Place.TheVariants.{Rest, Acquir
 ghost use Rattle.step_table.specs.declared.place.AcquireRow.TheVariants.{A3, A10};
 ghost use Rattle.sema_table.specs.Walks.{Stands, Walked, Moves, moved_to};
 ghost use Rattle.sema_table.specs.Waking.{IsPolled, IsRetried};
+ghost use Rattle.sema_table.specs.Callers.{PollsGrant, TriesAgain};
 
 use crate::answers::{Entered, Polled};
 use crate::rows::Token;
@@ -19,7 +20,8 @@ impl SemaTable {
     /// threads run between two of them.
     pub fn poll(&self, sleeping: Sleeping) -> Polled
         requires { sleeping.table ≡ self.now }
-        ensures { IsPolled sleeping result }
+        ensures rows { IsPolled sleeping result }
+        ensures caller { PollsGrant sleeping result }
     {
         let Sleeping {
             mut token,
@@ -56,7 +58,8 @@ impl SemaTable {
     /// counter and lifo (Go's `semacquire1` after `goparkunlock`).
     pub fn retry<R: Wait>(&self, rt: &R, woken: Woken) -> Entered
         requires { woken.table ≡ self.now }
-        ensures { IsRetried woken result }
+        ensures rows { IsRetried woken result }
+        ensures caller { TriesAgain woken result }
     {
         let Woken {
             mut token,

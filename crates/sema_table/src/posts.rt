@@ -1,6 +1,7 @@
 //! A release up to its look for a wait.
 ghost use Rattle.std.specs.Prelude.{◌≡◌, ◌<◌, length, MatchResult, IfErr};
 ghost use Rattle.sema_table.specs.Tries.{IsPosted};
+ghost use Rattle.sema_table.specs.CallersReleasing.{PostsUnit};
 
 use crate::answers::{PostRefused, Posted};
 use crate::rows::AtAdd;
@@ -15,9 +16,10 @@ impl SemaTable {
     #[inline]
     pub fn post(&self, seat: Seat, counter: CounterId) -> Result<Posted, (Seat, PostRefused)>
         requires { (seat.table ≡ self.now) × (counter < length self.now.setting.starts) }
-        ensures answer { MatchResult result
+        ensures rows { MatchResult result
             (λ posted. (0 < seat.left) × IsPosted seat counter posted)
             (λ refused. (seat.left ≡ 0) × (refused.0 ≡ seat)) }
+        ensures caller { PostsUnit seat counter result }
     {
         if seat.numbers.left == 0 {
             return Err((seat, PostRefused::LimitReached));

@@ -1,6 +1,7 @@
 //! A release of many units up to its look for waits.
 ghost use Rattle.std.specs.Prelude.{◌≡◌, ◌<◌, ◌≤◌, length, MatchResult};
 ghost use Rattle.sema_table.specs.Many.{release_of, IsPostedMany};
+ghost use Rattle.sema_table.specs.CallersReleasing.{PostsUnits};
 
 use crate::answers::PostRefused;
 use crate::many_seat::{OwingMany, PostedMany};
@@ -23,9 +24,10 @@ impl SemaTable {
     ) -> Result<PostedMany, (Seat, PostRefused)>
         requires seat { (seat.table ≡ self.now) × (counter < length self.now.setting.starts) }
         requires units { (1 ≤ units) × (units ≤ 256) }
-        ensures answer { MatchResult result
+        ensures rows { MatchResult result
             (λ posted. (units ≤ seat.left) × IsPostedMany seat (release_of counter units) posted)
             (λ refused. (seat.left < units) × (refused.0 ≡ seat)) }
+        ensures caller { PostsUnits seat counter units result }
     {
         let added = u64::from(units);
         if seat.numbers.left < added {

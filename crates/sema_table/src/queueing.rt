@@ -7,6 +7,7 @@ ghost use Rattle.sema_table.specs.Places.{Begins};
 ghost use Rattle.sema_table.specs.Seats.{IsToken, table_of, seat_of};
 ghost use Rattle.sema_table.specs.Waking.{acquire_of, IsEntered};
 ghost use Rattle.sema_table.specs.Walks.{Stands, Holds, Walked, Moves, HasRecord, HasRoom, IsLast, moved_to, parked};
+ghost use Rattle.sema_table.specs.Callers.{JoinsQueue};
 
 use crate::answers::Entered;
 use crate::rows::Token;
@@ -22,7 +23,8 @@ impl SemaTable {
     /// `semacquire1` from `lockWithRank` to `goparkunlock`).
     pub fn enter<R: Wait>(&self, rt: &R, seat: Seat, counter: CounterId, lifo: bool) -> Entered
         requires { (seat.table ≡ self.now) × (counter < length self.now.setting.starts) }
-        ensures { IsEntered seat (acquire_of counter lifo) (Acquiring (acquire_of counter lifo) A3) result }
+        ensures rows { IsEntered seat (acquire_of counter lifo) (Acquiring (acquire_of counter lifo) A3) result }
+        ensures caller { JoinsQueue seat counter lifo result }
     {
         let Seat { token, numbers } = seat;
         self.enter_at_lock(rt, token, numbers, Acquire { counter, lifo })

@@ -1,6 +1,7 @@
 //! A whole release.
 ghost use Rattle.std.specs.Prelude.{◌≡◌, ◌<◌, length, MatchResult};
 ghost use Rattle.sema_table.specs.Whole.{IsReleased};
+ghost use Rattle.sema_table.specs.CallersReleasing.{ReleasesUnit};
 
 use crate::answers::{PostRefused, Posted, Wake};
 use crate::seat::Seat;
@@ -20,9 +21,10 @@ impl SemaTable {
         handoff: bool,
     ) -> Result<(Seat, Wake), (Seat, PostRefused)>
         requires { (seat.table ≡ self.now) × (counter < length self.now.setting.starts) }
-        ensures answer { MatchResult result
+        ensures rows { MatchResult result
             (λ released. (0 < seat.left) × IsReleased seat counter handoff released.0 released.1)
             (λ refused. (seat.left ≡ 0) × (refused.0 ≡ seat)) }
+        ensures caller { ReleasesUnit seat counter handoff result }
     {
         match self.post(seat, counter)? {
             Posted::Done(seat) => Ok((seat, Wake::Nobody)),

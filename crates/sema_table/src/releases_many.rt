@@ -1,6 +1,7 @@
 //! A whole release of many units.
 ghost use Rattle.std.specs.Prelude.{◌≡◌, ◌<◌, ◌≤◌, length, MatchResult};
 ghost use Rattle.sema_table.specs.Many.{release_of, IsReleasedMany};
+ghost use Rattle.sema_table.specs.CallersReleasing.{ReleasesUnits};
 
 use crate::answers::PostRefused;
 use crate::many_seat::PostedMany;
@@ -23,9 +24,10 @@ impl SemaTable {
     ) -> Result<(Seat, u32), (Seat, PostRefused)>
         requires seat { (seat.table ≡ self.now) × (counter < length self.now.setting.starts) }
         requires units { (1 ≤ units) × (units ≤ 256) }
-        ensures answer { MatchResult result
+        ensures rows { MatchResult result
             (λ released. (units ≤ seat.left) × IsReleasedMany seat (release_of counter units) released.0 released.1)
             (λ refused. (seat.left < units) × (refused.0 ≡ seat)) }
+        ensures caller { ReleasesUnits seat counter units result }
     {
         match self.post_many(seat, counter, units)? {
             PostedMany::Done(seat) => Ok((seat, 0)),

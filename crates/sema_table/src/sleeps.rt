@@ -1,6 +1,7 @@
 //! Sleeping until a grant.
 ghost use Rattle.std.specs.Prelude.{◌≡◌};
 ghost use Rattle.sema_table.specs.Whole.{IsRoused};
+ghost use Rattle.sema_table.specs.Callers.{SleepsUntilRoused};
 
 use crate::answers::{Polled, Roused};
 use crate::seat::Sleeping;
@@ -19,7 +20,8 @@ impl SemaTable {
     /// Waits until the seat's wait is granted: looks for a while, and then sleeps (Go's `goparkunlock` and what follows it).
     pub fn sleep<R: Wait>(&self, rt: &R, sleeping: Sleeping) -> Roused
         requires { sleeping.table ≡ self.now }
-        ensures { IsRoused sleeping result }
+        ensures rows { IsRoused sleeping result }
+        ensures caller { SleepsUntilRoused sleeping result }
     {
         let mut sleeping = sleeping;
         for _ in rt.forever() {

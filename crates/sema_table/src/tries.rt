@@ -1,6 +1,7 @@
 //! The calls of a step or two, which take no lock and wait for nobody.
 ghost use Rattle.std.specs.Prelude.{◌≡◌, ◌<◌, length};
 ghost use Rattle.sema_table.specs.Tries.{IsValue, IsWaiters, IsTried};
+ghost use Rattle.sema_table.specs.Callers.{ReadsNumber, CountsWaits, TriesToAcquire};
 
 use crate::answers::Tried;
 use crate::rows::AtTry;
@@ -14,7 +15,8 @@ impl SemaTable {
     #[inline]
     pub fn value(&self, seat: &mut Seat, counter: CounterId) -> u64
         requires { (seat.old.table ≡ self.now) × (counter < length self.now.setting.starts) }
-        ensures { IsValue seat.old counter result seat.new }
+        ensures rows { IsValue seat.old counter result seat.new }
+        ensures caller { ReadsNumber seat.old counter result seat.new }
     {
         let word = counter_word(counter.number());
         self.words.look(&mut seat.token, word)
@@ -23,7 +25,8 @@ impl SemaTable {
     /// How many waits are queued at the counter's root, or one more while a seat under the root's lock may yet queue its own.
     pub fn waiters_of_root(&self, seat: &mut Seat, counter: CounterId) -> u64
         requires { (seat.old.table ≡ self.now) × (counter < length self.now.setting.starts) }
-        ensures { IsWaiters seat.old counter result seat.new }
+        ensures rows { IsWaiters seat.old counter result seat.new }
+        ensures caller { CountsWaits seat.old counter result seat.new }
     {
         let word = self.waiter_word(counter);
         self.words.look(&mut seat.token, word)
@@ -34,7 +37,8 @@ impl SemaTable {
     #[inline]
     pub fn try_acquire(&self, seat: &mut Seat, counter: CounterId) -> Tried
         requires { (seat.old.table ≡ self.now) × (counter < length self.now.setting.starts) }
-        ensures { IsTried seat.old counter result seat.new }
+        ensures rows { IsTried seat.old counter result seat.new }
+        ensures caller { TriesToAcquire seat.old counter result seat.new }
     {
         let word = counter_word(counter.number());
         let found = self.words.load::<AtTry>(&mut seat.token, word);

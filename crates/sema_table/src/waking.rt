@@ -7,6 +7,7 @@ ghost use Rattle.sema_table.specs.Seats.{IsToken, table_of, seat_of};
 ghost use Rattle.sema_table.specs.Calls.{ComesTo};
 ghost use Rattle.sema_table.specs.Waking.{Wakes, IsWakened};
 ghost use Rattle.sema_table.specs.Walks.{Stands, Holds, Walked, Moves, HasRecord, Granted, moved_to, taken_out, sought, trying, unlocked, granting, taken_for};
+ghost use Rattle.sema_table.specs.CallersReleasing.{WakesFirst};
 
 use crate::answers::Wake;
 use crate::rows::Token;
@@ -22,7 +23,8 @@ impl SemaTable {
     /// one (Go's `semrelease1` from `lockWithRank` on).
     pub fn wake<R: Wait>(&self, rt: &R, owing: Owing, handoff: bool) -> (Seat, Wake)
         requires { owing.table ≡ self.now }
-        ensures { IsWakened owing handoff result.0 result.1 }
+        ensures rows { IsWakened owing handoff result.0 result.1 }
+        ensures caller { WakesFirst owing handoff result.0 result.1 }
     {
         let Owing {
             token,

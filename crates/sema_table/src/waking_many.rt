@@ -10,6 +10,7 @@ ghost use Rattle.sema_table.specs.Calls.{ComesTo};
 ghost use Rattle.sema_table.specs.Many.{leaves, WakesMany, IsWokenMany};
 ghost use Rattle.sema_table.specs.Walks.{Stands, Holds, Walked, Moves, HasRecord};
 ghost use Rattle.sema_table.specs.ManyWalks.{sought_many, picking, to_grant, with_hand, MayGrant, GrantedFirst, GrantedSome};
+ghost use Rattle.sema_table.specs.CallersReleasing.{WakesSome};
 
 use crate::many_seat::OwingMany;
 use crate::rows::Token;
@@ -29,7 +30,8 @@ impl SemaTable {
     /// are no more, and grants each. It answers how many those are.
     pub fn wake_some<R: Wait>(&self, rt: &R, owing: OwingMany) -> (Seat, u32)
         requires { owing.table ≡ self.now }
-        ensures { IsWokenMany owing result.0 result.1 }
+        ensures rows { IsWokenMany owing result.0 result.1 }
+        ensures caller { WakesSome owing result.0 result.1 }
     {
         let OwingMany {
             token,

@@ -4,7 +4,7 @@ use Rattle.step_table.specs.declared.list_place.AllRow.TheVariants.{L1}
 use Rattle.step_table.specs.declared.list_place.ListEffect.{ListEffect}
 use Rattle.step_table.specs.declared.list_place.ListPlace.{ListPlace}
 use Rattle.step_table.specs.declared.list_place.ListPlace.TheVariants.{Rest, Adding, Waiting, NotifyingOne, NotifyingAll}
-use Rattle.step_table.specs.declared.list_place.OneRow.TheVariants.{O1, O2, O3}
+use Rattle.step_table.specs.declared.list_place.OneRow.TheVariants.{O1, O3}
 use Rattle.step_table.specs.declared.list_place.Ticket.{Ticket}
 use Rattle.step_table.specs.declared.list_place.WaitRow.TheVariants.{W1}
 use Rattle.step_table.specs.declared.list_place.ListWord.{ListWord}
@@ -79,12 +79,11 @@ with_ticket seat (Some t) = record seat { place = Waiting t W1; ticket = None }
 abbrev pub waiting : ListWorld → ℕ → ListWorld
 waiting s i = record s { seats = put s.seats i (with_ticket (s.seats i) (s.seats i).ticket) }
 
--- what a caller may choose: to notify one or all; and to end after the first look of a notification of one, or after its second
+-- what a caller may choose: to notify one or all; and to end after the two looks of a notification of one
 pub data ListChoice : ListPlace → ListPlace → Type 0 where
   notify_one : ListChoice Rest (NotifyingOne 0 O1)
   notify_all : ListChoice Rest (NotifyingAll 0 L1)
-  end_first : (h a : ℕ) → ListChoice (NotifyingOne h (O2 a)) Rest
-  end_second : (h : ℕ) → ListChoice (NotifyingOne h O3) Rest
+  end_looks : (h : ℕ) → ListChoice (NotifyingOne h O3) Rest
 
 -- one step of seat i: a row, or a choice of its caller
 pub data ListStep (s : ListWorld) (i : ℕ) : ListWorld → Type 0 where

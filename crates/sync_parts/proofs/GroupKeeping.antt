@@ -1,5 +1,5 @@
 -- A row on the state word goes to the end of the history.
-use Rattle.std.proofs.Common.{◌≡◌, ◌≢◌, ◌⊎◌, ℕ, ◌<◌, ◌==◌, if◌then◌else◌, Bool, true, false, List, [], ◌∷◌, ◌++◌, slice_index, sym, refl, ap, ◌∙◌, subst, ⊎_elim, inl, inr, arith, eq-eqb, ne_eqb, length-set, get_or-set_same, IsTrue}
+use Rattle.std.proofs.Common.{◌≡◌, ◌≢◌, ℕ, ◌<◌, List, [], ◌∷◌, ◌++◌, slice_index, sym, refl, ap, ◌∙◌, subst, ⊎_elim, inr, arith, length-set, get_or-set_same, IsTrue}
 use mathlib.Core.Option.{Option}
 use Rattle.running_rows.specs.Table.{keeps}
 use Rattle.step_table.specs.declared.group_word.GroupWord.{GroupWord}
@@ -16,49 +16,23 @@ use Rattle.step_table.proofs.Paths.{goes_on_here}
 use Rattle.step_table.proofs.Sums.{put_here}
 use Rattle.running_rows.specs.declared.view.Seated.{Seated}
 use Rattle.running_rows.specs.Strides.{Went, RanRow}
-use Rattle.running_rows.specs.Rule.{In}
+use Rattle.running_rows.specs.History.{Moment}
+use Rattle.running_rows.proofs.History.{in_more, strides_here, strides_else}
 use Rattle.running_rows.specs.Owing.{Stands, Leads as LeadsOn, Owes}
 use Rattle.sync_parts.specs.declared.group_view.GroupKnown.{GroupKnown}
 use Rattle.sync_parts.specs.declared.group_view.GroupStep.{GroupStep}
-use Rattle.sync_parts.specs.GroupRule.{Follows, AreCalls, Moment, Leads, steps_of, GroupLife, ShowsLife, HasRun, living_group, stride_of, group_rows}
+use Rattle.sync_parts.specs.GroupRule.{Follows, AreCalls, Leads, GroupLife, ShowsLife, HasRun, living_group, stride_of, group_rows}
 use Rattle.sync_parts.specs.GroupPlays.{Me, step, at_row}
 
-leads_more : (word left : GroupWord) (history : List Moment) (m : Moment) → Leads word history left → m.step.found ≡ left
-    → Leads word (history ++ m ∷ []) (group_row m.step.row m.step.found).0
+leads_more : (word left : GroupWord) (history : List (Moment GroupStep)) (m : Moment GroupStep) → Leads word history left → m.stride.found ≡ left
+    → Leads word (history ++ m ∷ []) (group_row m.stride.row m.stride.found).0
 leads_more word left [] m l e = (e ∙ l, refl)
-leads_more word left (n ∷ history) m l e = (l.0, leads_more (group_row n.step.row n.step.found).0 left history m l.1 e)
+leads_more word left (n ∷ history) m l e = (l.0, leads_more (group_row n.stride.row n.stride.found).0 left history m l.1 e)
 
 calls_more : (from to : GroupNext) (steps : List GroupStep) (p : GroupStep) → AreCalls from steps to → Follows to p.row
     → AreCalls from (steps ++ p ∷ []) (group_row p.row p.found).1
 calls_more from to [] p c f = (subst (λ (k : GroupNext). Follows k p.row) c f, refl)
 calls_more from to (q ∷ steps) p c f = (c.0, calls_more (group_row q.row q.found).1 to steps p c.1 f)
-
-steps_own : (j : ℕ) (history : List Moment) (m : Moment) → m.seat ≡ j → steps_of j (history ++ m ∷ []) ≡ steps_of j history ++ m.step ∷ []
-steps_own j [] m e = ap (λ (b : Bool). if b then m.step ∷ [] else []) (eq-eqb m.seat j e)
-steps_own j (n ∷ history) m e = by (steps_own j history m e) (n.seat == j)
-  where
-    by : steps_of j (history ++ m ∷ []) ≡ steps_of j history ++ m.step ∷ [] → (b : Bool)
-        → (if b then n.step ∷ steps_of j (history ++ m ∷ []) else steps_of j (history ++ m ∷ []))
-        ≡ (if b then n.step ∷ steps_of j history else steps_of j history) ++ m.step ∷ []
-    by rest true = ap (λ l. n.step ∷ l) rest
-    by rest false = rest
-
-steps_else : (j : ℕ) (history : List Moment) (m : Moment) → m.seat ≢ j → steps_of j (history ++ m ∷ []) ≡ steps_of j history
-steps_else j [] m ne = ap (λ (b : Bool). if b then m.step ∷ [] else []) (ne_eqb m.seat j ne)
-steps_else j (n ∷ history) m ne = by (steps_else j history m ne) (n.seat == j)
-  where
-    by : steps_of j (history ++ m ∷ []) ≡ steps_of j history → (b : Bool)
-        → (if b then n.step ∷ steps_of j (history ++ m ∷ []) else steps_of j (history ++ m ∷ []))
-        ≡ (if b then n.step ∷ steps_of j history else steps_of j history)
-    by rest true = ap (λ l. n.step ∷ l) rest
-    by rest false = rest
-
--- what is in a list with one more at its end
-in_more : (a b : Moment) (l : List Moment) → In a (l ++ b ∷ []) → In a l ⊎ (b ≡ a)
-in_more a b [] (inl e) = inr e
-in_more a b [] (inr h) = absurd h
-in_more a b (x ∷ xs) (inl e) = inl (inl e)
-in_more a b (x ∷ xs) (inr h) = ⊎_elim (λ q. inl (inr q)) (λ q. inr q) (in_more a b xs h)
 
 row_can : (row : GroupRow) (w : GroupWord) → IsTrue ((group_event (tt {0}) row).can w)
 row_can (G1 d) w = search
@@ -106,8 +80,8 @@ module _ (seats : ℕ) (m : Me) (row : GroupRow) (follows : Follows m.0.own.know
     abbrev n : ℕ
     n = slice_index words 0
 
-    abbrev moment : Moment
-    moment = record { seat = m.0.own.number; step = step row (word_in n) }
+    abbrev moment : Moment GroupStep
+    moment = record { seat = m.0.own.number; stride = step row (word_in n) }
 
     abbrev next : GroupLife
     next = record { word = (group_row row (word_in n)).0; nexts = s.nexts; history = s.history ++ moment ∷ [] }
@@ -122,12 +96,12 @@ module _ (seats : ℕ) (m : Me) (row : GroupRow) (follows : Follows m.0.own.know
     shows = record {
       word_is = ap word_in (get_or-set_same words 0 (f n) 0 at.shows.wide) ∙ becomes n at.below;
       leads = leads_more empty_word s.word s.history moment at.shows.leads at.shows.word_is;
-      there = λ a h. ⊎_elim (λ q. at.shows.there a q) (λ q. subst (λ (b : Moment). b.seat < seats) q at.there) (in_more a moment s.history h);
+      there = λ a h. ⊎_elim (λ q. at.shows.there a q) (λ q. subst (λ (b : Moment GroupStep). b.seat < seats) q at.there) (in_more a moment s.history h);
       wide = let l = length-set words 0 (f n) in let w = at.shows.wide in omega arith;
     }
 
     others : (u : Seated GroupKnown GroupStep) → u.number ≢ m.0.own.number → HasRun u s → HasRun u next
-    others u ne o = record { own = steps_else u.number s.history moment (λ q. ne (sym q)) ∙ o.own; calls = o.calls }
+    others u ne o = record { own = strides_else u.number s.history moment (λ q. ne (sym q)) ∙ o.own; calls = o.calls }
 
     pub led : (begin : GroupKnown → GroupKnown) → begin m.0.own.knows ≡ at_row row m.0.own.knows
         → LeadsOn group_rows seats m s words homes 0 (f n) (λ t. RanRow group_rows begin m n t)
@@ -140,9 +114,10 @@ module _ (seats : ℕ) (m : Me) (row : GroupRow) (follows : Follows m.0.own.know
       same = refl;
       of_is = at.of_is;
       knows = record {
-        own = steps_own m.0.own.number s.history moment refl ∙ ap (λ l. l ++ step row (word_in n) ∷ []) at.knows.own;
+        own = strides_here m.0.own.number s.history moment refl ∙ ap (λ l. l ++ step row (word_in n) ∷ []) at.knows.own;
         calls = calls_more _ m.0.own.knows.next m.0.own.gone (step row (word_in n)) at.knows.calls follows;
       };
+      on = inr (step row (word_in n), refl, refl, refl);
       others = λ u ne low. others u ne;
       tells = (went m.0.own row (word_in n) is_word begin n begins refl, refl);
     }

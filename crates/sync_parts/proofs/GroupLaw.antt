@@ -4,37 +4,38 @@ use mathlib.Core.Logic.{dite}
 use native.Mathlib.Decide.{dec_le}
 use Rattle.running_rows.specs.Table.{State}
 use Rattle.running_rows.specs.declared.view.Seated.{Seated}
+use Rattle.running_rows.specs.History.{Moment, strides_of}
 use Rattle.running_rows.specs.Rule.{In, IsSeated, Sits, IsKept}
 use Rattle.sync_parts.specs.declared.group_view.GroupKnown.{GroupKnown}
 use Rattle.sync_parts.specs.declared.group_view.GroupStep.{GroupStep}
 use Rattle.sync_parts.specs.GroupPlays.{GroupView}
-use Rattle.sync_parts.specs.GroupRule.{Moment, Leads, steps_of, group_rows}
+use Rattle.sync_parts.specs.GroupRule.{Leads, group_rows}
 use Rattle.step_table.specs.Group.{empty_word}
 use Rattle.sync_parts.specs.GroupLaw.{IsOfASeat, TheGroup}
 
 -- a row in the history is one of those of its seat
-in_steps : (m : Moment) (history : List Moment) → In m history → In m.step (steps_of m.seat history)
-in_steps m [] h = absurd h
-in_steps m (n ∷ history) h = by (in_steps m history) (n.seat == m.seat) refl h
+in_strides : (m : Moment GroupStep) (history : List (Moment GroupStep)) → In m history → In m.stride (strides_of m.seat history)
+in_strides m [] h = absurd h
+in_strides m (n ∷ history) h = by (in_strides m history) (n.seat == m.seat) refl h
   where
-    by : (In m history → In m.step (steps_of m.seat history)) → (b : Bool) → (n.seat == m.seat) ≡ b → In m (n ∷ history)
-        → In m.step (if b then n.step ∷ steps_of m.seat history else steps_of m.seat history)
-    by later true e (inl q) = inl (ap (λ (k : Moment). k.step) q)
+    by : (In m history → In m.stride (strides_of m.seat history)) → (b : Bool) → (n.seat == m.seat) ≡ b → In m (n ∷ history)
+        → In m.stride (if b then n.stride ∷ strides_of m.seat history else strides_of m.seat history)
+    by later true e (inl q) = inl (ap (λ (k : Moment GroupStep). k.stride) q)
     by later true e (inr q) = inr (later q)
-    by later false e (inl q) = let yes = eq-eqb n.seat m.seat (ap (λ (k : Moment). k.seat) q) in absurd (cc)
+    by later false e (inl q) = let yes = eq-eqb n.seat m.seat (ap (λ (k : Moment GroupStep). k.seat) q) in absurd (cc)
     by later false e (inr q) = later q
 
-module _ (seats : ℕ) (s : State (Unit {0}) GroupView) (r : IsKept group_rows seats s) (m : Moment) (h : In m r.world.history) where
-  ran_it : In m.step (steps_of m.seat r.world.history)
-  ran_it = in_steps m r.world.history h
+module _ (seats : ℕ) (s : State (Unit {0}) GroupView) (r : IsKept group_rows seats s) (m : Moment GroupStep) (h : In m r.world.history) where
+  ran_it : In m.stride (strides_of m.seat r.world.history)
+  ran_it = in_strides m r.world.history h
 
   -- it was made, since it has run a row
   made : r.made ≤ m.seat → ⊥
-  made far = absurd (subst (In m.step) (r.unmade m.seat far (r.shows.there m h)).own ran_it)
+  made far = absurd (subst (In m.stride) (r.unmade m.seat far (r.shows.there m h)).own ran_it)
 
   -- a seat of this number has the row among its strides
-  has_it : (place : ℕ) (u : Seated GroupKnown GroupStep) → Sits group_rows seats r.world r.spot r.made place u → u.number ≡ m.seat → In m.step u.gone
-  has_it place u o e = subst (In m.step) o.knows.own (subst (λ n. In m.step (steps_of n r.world.history)) (λ i. sym e i) ran_it)
+  has_it : (place : ℕ) (u : Seated GroupKnown GroupStep) → Sits group_rows seats r.world r.history r.spot r.made place u → u.number ≡ m.seat → In m.stride u.gone
+  has_it place u o e = subst (In m.stride) o.knows.own (subst (λ n. In m.stride (strides_of n r.world.history)) (λ i. sym e i) ran_it)
 
   seated : m.seat < r.made → IsOfASeat seats s m
   seated low = let o : IsSeated group_rows s.views (r.spot m.seat) m.seat = r.seated m.seat low in let all = r.views (r.spot m.seat) o.0 o.1 o.2 in ⊎_elim

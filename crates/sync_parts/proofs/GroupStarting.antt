@@ -18,6 +18,7 @@ pub opens : (seats : ℕ) (homes : List (Option (Unit {0}))) → 0 < seats → O
 opens seats homes some_seats = record {
   world = record { word = empty_word; nexts = λ k. Ends; history = [] };
   shows = record { word_is = refl; leads = refl; there = λ m h. absurd h; wide = omega arith };
+  unwritten = refl;
   unmade = λ n low. record { own = refl; calls = refl };
   some_seats = some_seats;
 }

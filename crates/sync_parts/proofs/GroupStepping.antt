@@ -85,6 +85,7 @@ store_owes seats slots m seen at s words homes stands =
       same = o.same;
       of_is = o.of_is;
       knows = o.knows;
+      on = o.on;
       others = o.others;
       tells = (_, o.tells);
     }

@@ -1,6 +1,6 @@
 -- The rows of a state word: there is one history of them, each of which found the word that those before it left, and each seat has
 -- run its own of them, call after call. Nobody but a seat runs any, and there are so many seats at most.
-use Rattle.std.specs.Prelude.{◌≡◌, ℕ, ◌<◌, ◌==◌, if◌then◌else◌, false, refl, List, [], ◌∷◌, length, slice_index}
+use Rattle.std.specs.Prelude.{◌≡◌, ℕ, ◌<◌, false, refl, List, [], ◌∷◌, length, slice_index}
 use Rattle.step_table.specs.declared.group_word.GroupWord.{GroupWord}
 use Rattle.step_table.specs.declared.standing.GroupRow.{GroupRow}
 use Rattle.step_table.specs.declared.standing.GroupRow.TheVariants.{G1, V1, V3}
@@ -13,6 +13,7 @@ use Rattle.step_table.specs.GroupBits.{word_in, IsGroupWord}
 use Rattle.step_table.specs.GroupPath.{GroupStride, next_event, going, ran_row}
 use Rattle.running_rows.specs.declared.view.Seated.{Seated}
 use Rattle.running_rows.specs.Family.{Family}
+use Rattle.running_rows.specs.History.{Moment, strides_of}
 use Rattle.running_rows.specs.Rule.{In}
 use Rattle.sync_parts.specs.declared.group_view.GroupKnown.{GroupKnown}
 use Rattle.sync_parts.specs.declared.group_view.GroupStep.{GroupStep}
@@ -35,26 +36,16 @@ abbrev pub AreCalls : GroupNext → List GroupStep → GroupNext → Type 0
 AreCalls from [] to = to ≡ from
 AreCalls from (p ∷ steps) to = Follows from p.row × AreCalls (group_row p.row p.found).1 steps to
 
--- a row in the history, and its seat, by its number
-pub record Moment : Type 0 where
-  pub seat : ℕ
-  pub step : GroupStep
-
 -- each row found the word that the row before it left, and the last left this one
-abbrev pub Leads : GroupWord → List Moment → GroupWord → Type 0
+abbrev pub Leads : GroupWord → List (Moment GroupStep) → GroupWord → Type 0
 Leads word [] left = left ≡ word
-Leads word (m ∷ history) left = (m.step.found ≡ word) × Leads (group_row m.step.row m.step.found).0 history left
-
--- the rows of the seat j
-abbrev pub steps_of : ℕ → List Moment → List GroupStep
-steps_of j [] = []
-steps_of j (m ∷ history) = if m.seat == j then m.step ∷ steps_of j history else steps_of j history
+Leads word (m ∷ history) left = (m.stride.found ≡ word) × Leads (group_row m.stride.row m.stride.found).0 history left
 
 -- a state word, where each seat goes, and all rows that ran, of which the rows know nothing
 pub record GroupLife : Type 0 where
   pub word : GroupWord
   pub nexts : ℕ → GroupNext
-  pub history : List Moment
+  pub history : List (Moment GroupStep)
 
 -- one group, whose word may be any of 64 bits
 abbrev pub living_group : Watched GroupLife (Unit {0}) GroupWord GroupNext GroupNext ⊥
@@ -74,12 +65,12 @@ living_group = record {
 pub record ShowsLife (seats : ℕ) (s : GroupLife) (words : List ℕ) : Type 0 where
   pub word_is : word_in (slice_index words 0) ≡ s.word
   pub leads : Leads empty_word s.history s.word
-  pub there : (m : Moment) → In m s.history → m.seat < seats
+  pub there : (m : Moment GroupStep) → In m s.history → m.seat < seats
   pub wide : 0 < length words
 
 -- the seat's rows are those that it has gone, which are of calls
 pub record HasRun (u : Seated GroupKnown GroupStep) (s : GroupLife) : Type 0 where
-  pub own : steps_of u.number s.history ≡ u.gone
+  pub own : strides_of u.number s.history ≡ u.gone
   pub calls : AreCalls Ends u.gone u.knows.next
 
 -- the row led on from where the seat stood

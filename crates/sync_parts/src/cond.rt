@@ -1,10 +1,11 @@
 //! A condition variable: a notify list, and a locker that is given up while a caller waits.
 ghost use Rattle.std.specs.Prelude.{◌≡◌, ◌<◌, ◌++◌, ◌∷◌, [], true, All, IfOk, IfErr, IfSome, IfNone};
 ghost use Rattle.notify_list.specs.Calls.{AllGranted};
+ghost use Rattle.notify_list.specs.Callers.{NotifiesOneTicket, NotifiesAllTickets};
 ghost use Rattle.notify_list.specs.Making.{IsMade, IsRefused};
 ghost use Rattle.notify_list.specs.Notifying.{NotifiesOne, GrantsLeast};
 ghost use Rattle.notify_list.specs.NotifyingAll.{NotifiesAll, GrantsSome};
-ghost use Rattle.sync_parts.specs.Cond.{HasWaited};
+ghost use Rattle.sync_parts.specs.Cond.{HasWaited, WaitsForSignal};
 ghost use Rattle.sync_parts.specs.declared.locker_call.LockerCall.TheVariants as call;
 
 use crate::locker::Locker;
@@ -49,6 +50,7 @@ impl Cond {
         requires held { L.is_held locker.old ≡ true }
         requires left { 0 < L.may_unlock locker.old }
         ensures waited { HasWaited L.unlocks L.locks seat locker.old result.1 result.0 locker.new }
+        ensures caller { WaitsForSignal L.unlocks L.locks seat locker.old result.1 result.0 locker.new }
         ensures held { L.is_held locker.new ≡ true }
         ensures calls { L.calls locker.new ≡ L.calls locker.old ++ call.Unlocked ∷ call.Locked ∷ [] }
     {
@@ -67,6 +69,7 @@ impl Cond {
         ensures rows { NotifiesOne seat.old result seat.new }
         ensures some { IfSome result (λ word. GrantsLeast seat.old word seat.new) }
         ensures none { IfNone result (AllGranted seat.old seat.new) }
+        ensures caller { NotifiesOneTicket seat.old result seat.new }
     {
         self.list.one(rt, seat)
     }
@@ -77,6 +80,7 @@ impl Cond {
         ensures rows { NotifiesAll seat.old result seat.new }
         ensures count { GrantsSome seat.old result seat.new }
         ensures granted { AllGranted seat.old seat.new }
+        ensures caller { NotifiesAllTickets seat.old result seat.new }
     {
         self.list.all(rt, seat)
     }

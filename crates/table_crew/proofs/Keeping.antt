@@ -2,9 +2,8 @@
 use Rattle.std.proofs.Common.{◌≡◌, ◌⊎◌, inl, inr, Bool, ℕ, ◌+◌, length, add-one, refl, sym, subst}
 use Rattle.sema_table.specs.declared.answers.Tried.{Tried}
 use Rattle.sema_table.specs.declared.answers.Tried.TheVariants.{Taken, Zero, Lost}
-use Rattle.sema_table.specs.Tries.{IsTried}
-use Rattle.sema_table.specs.Whole.{IsAcquired}
 use Rattle.sema_table.specs.Seats.{TableModel, SeatModel}
+use Rattle.sema_table.specs.Callers.{TriesToAcquire, AcquiresUnit}
 use Rattle.table_crew.specs.declared.work.Work.{Work}
 use Rattle.table_crew.specs.declared.crew.Plan.{Plan}
 use Rattle.table_crew.specs.declared.work.Work.TheVariants.{Rounds}
@@ -22,11 +21,11 @@ pub one_more : (work : Work) (first : SeatModel) (n : ℕ) (s t : SeatModel) →
 one_more work first n s t ran turn = subst (λ (k : ℕ). HasRun work first k t) (sym (add-one n)) (s, ran, turn)
 
 -- a unit is taken by the try that took it, and by the acquire after one that took none
-module _ (s : SeatModel) (c : ℕ) (lifo : Bool) (tried : Tried) (u : SeatModel) (first : IsTried s c tried u) where
+module _ (s : SeatModel) (c : ℕ) (lifo : Bool) (tried : Tried) (u : SeatModel) (first : TriesToAcquire s c tried u) where
   pub by_try : tried ≡ Taken → Takes s c lifo u
   by_try is = (tried, u, first, subst (λ (x : Tried). Follows x u c lifo u) (sym is) refl)
 
-  pub by_acquire : (t : SeatModel) → (tried ≡ Zero) ⊎ (tried ≡ Lost) → IsAcquired u c lifo t → Takes s c lifo t
+  pub by_acquire : (t : SeatModel) → (tried ≡ Zero) ⊎ (tried ≡ Lost) → AcquiresUnit u c lifo t → Takes s c lifo t
   by_acquire t (inl zero) acquired = (tried, u, first, subst (λ (x : Tried). Follows x u c lifo t) (sym zero) acquired)
   by_acquire t (inr lost) acquired = (tried, u, first, subst (λ (x : Tried). Follows x u c lifo t) (sym lost) acquired)
 

@@ -1,38 +1,38 @@
 -- What the seats of a crew do, turn after turn, and the table that is closed with them.
-use Rattle.std.specs.Prelude.{◌≡◌, ◌⊎◌, ℕ, zero, suc, ◌+◌, ◌%◌, ◌^◌, ◌<◌, ◌==◌, Bool, false, List, length}
+use Rattle.std.specs.Prelude.{◌≡◌, ◌⊎◌, ℕ, zero, suc, ◌+◌, ◌%◌, ◌^◌, ◌<◌, ◌==◌, Bool, false, Ok, List, length}
 use Rattle.std.specs.List.{All}
 use Rattle.sema_table.specs.declared.answers.Tried.{Tried}
 use Rattle.sema_table.specs.declared.answers.Tried.TheVariants.{Taken, Zero, Lost}
 use Rattle.sema_table.specs.declared.answers.Wake.{Wake}
 use Rattle.sema_table.specs.declared.many_seat.PostedMany.TheVariants.{Done, Owes}
 use Rattle.sema_table.specs.Seats.{TableModel, SeatModel}
-use Rattle.sema_table.specs.Tries.{IsTried}
-use Rattle.sema_table.specs.Many.{release_of, IsPostedMany, IsWokenMany}
-use Rattle.sema_table.specs.Whole.{IsReleased, IsAcquired}
-use Rattle.sema_table.specs.Closing.{ClosedModel, AreAll, IsClosed}
+use Rattle.sema_table.specs.Callers.{TriesToAcquire, AcquiresUnit}
+use Rattle.sema_table.specs.CallersReleasing.{ReleasesUnit, PostsUnits, WakesSome}
+use Rattle.sema_table.specs.CallersEnding.{EndsTable}
+use Rattle.sema_table.specs.Closing.{ClosedModel, AreAll}
 use Rattle.table_crew.specs.declared.work.Work.{Work}
 use Rattle.table_crew.specs.declared.work.Work.TheVariants.{Adds, Hands, HandsTwo, Rounds, Spread, Locks}
 
 -- a whole release; or nothing, where the seat may add no more
 abbrev pub Releases : SeatModel → ℕ → Bool → SeatModel → Type 0
-Releases s c handoff t = ((wake : Wake) × IsReleased s c handoff t wake) ⊎ ((s.left ≡ 0) × (t ≡ s))
+Releases s c handoff t = ((wake : Wake) × ReleasesUnit s c handoff (Ok (t, wake))) ⊎ ((s.left ≡ 0) × (t ≡ s))
 
 -- a whole release of two units by one add; or nothing, where the seat may not add two
 abbrev pub ReleasesTwo : SeatModel → ℕ → SeatModel → Type 0
 ReleasesTwo s c t =
-    IsPostedMany s (release_of c 2) (Done t)
-    ⊎ (((u : SeatModel) × (woken : ℕ) × IsPostedMany s (release_of c 2) (Owes u) × IsWokenMany u t woken)
+    PostsUnits s c 2 (Ok (Done t))
+    ⊎ (((u : SeatModel) × (woken : ℕ) × PostsUnits s c 2 (Ok (Owes u)) × WakesSome u t woken)
     ⊎ ((s.left < 2) × (t ≡ s)))
 
 -- what follows a try: nothing where it took a unit, and else an acquire
 abbrev pub Follows : Tried → SeatModel → ℕ → Bool → SeatModel → Type 0
 Follows Taken s c lifo t = t ≡ s
-Follows Zero s c lifo t = IsAcquired s c lifo t
-Follows Lost s c lifo t = IsAcquired s c lifo t
+Follows Zero s c lifo t = AcquiresUnit s c lifo t
+Follows Lost s c lifo t = AcquiresUnit s c lifo t
 
 -- a unit was taken, by a try or by the acquire that followed
 abbrev pub Takes : SeatModel → ℕ → Bool → SeatModel → Type 0
-Takes s c lifo t = (tried : Tried) × (u : SeatModel) × IsTried s c tried u × Follows tried u c lifo t
+Takes s c lifo t = (tried : Tried) × (u : SeatModel) × TriesToAcquire s c tried u × Follows tried u c lifo t
 
 abbrev pub is_odd : ℕ → Bool
 is_odd turn = turn % 2 == 1
@@ -41,13 +41,13 @@ is_odd turn = turn % 2 == 1
 abbrev pub IsTurn : Work → ℕ → ℕ → ℕ → SeatModel → SeatModel → Type 0
 IsTurn Adds many own turn s t = Releases s 0 false t
 IsTurn (Hands way) many own turn s t =
-    (u : SeatModel) × IsAcquired s (own % many) way.lifo u × Releases u ((own + 1) % many) way.handoff t
+    (u : SeatModel) × AcquiresUnit s (own % many) way.lifo u × Releases u ((own + 1) % many) way.handoff t
 IsTurn HandsTwo many own turn s t =
-    (u v : SeatModel) × IsAcquired s (own % many) false u × IsAcquired u (own % many) false v × ReleasesTwo v ((own + 1) % many) t
+    (u v : SeatModel) × AcquiresUnit s (own % many) false u × AcquiresUnit u (own % many) false v × ReleasesTwo v ((own + 1) % many) t
 IsTurn Rounds many own turn s t = (u : SeatModel) × Releases s 0 (is_odd s.left) u × Takes u 0 (is_odd s.left) t
 IsTurn Spread many own turn s t = (c : ℕ) × (u : SeatModel) × Releases s c false u × Takes u c false t
 IsTurn Locks many own turn s t =
-    let c = (own + turn) % 2 ^ 32 % many in (u : SeatModel) × IsAcquired s c false u × Releases u c false t
+    let c = (own + turn) % 2 ^ 32 % many in (u : SeatModel) × AcquiresUnit s c false u × Releases u c false t
 
 -- so many turns, one after the other, from turn 0 on
 abbrev pub HasRun : Work → SeatModel → ℕ → SeatModel → Type 0
@@ -77,4 +77,4 @@ pub record IsCrewRun (t : TableModel) (work : Work) (turns : ℕ) (c : ClosedMod
   pub seats : List SeatModel
   pub all : AreAll t seats
   pub worked : All (HasWorked t work turns) seats
-  pub closed : IsClosed t.setting seats c
+  pub closed : EndsTable t.setting seats c

@@ -8,5 +8,5 @@ loop-init g c = (no_look c.args.sleeping, c.requires)
 
 pub loop-preserved : goal.loop-preserved
 loop-preserved g c =
-    let on = look_more c.args.sleeping c.loop.sleeping c.in-Still.sleeping c.loop.invariant.0 c.in-Still.ensures in
+    let on = look_more c.args.sleeping c.loop.sleeping c.in-Still.sleeping c.loop.invariant.0 c.in-Still.ensures.rows in
     (on, ap (λ (s : SeatModel). s.table) on.same ∙ c.requires)

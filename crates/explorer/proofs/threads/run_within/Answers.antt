@@ -21,5 +21,5 @@ returns g c =
       seats = back;
       made = e.table;
       worked = subst (λ (n : ℕ). HaveWorked t n c.args.rounds back) many c.in_ok-seats.ensures;
-      closed = c.close.ensures;
+      closed = c.close.ensures.rows;
     }

@@ -7,5 +7,5 @@ use Rattle.table_tests.proofs.many_tests.owes_many.Goals as goal
 pub returns : goal.returns
 returns g c =
     let e = c.in-Ok-Owes in
-    let posted : IsPostedMany c.args.seat (release_of c.counter-at.result c.args.units) (Owes e.owing) = rw e.field-0-is at e.ensures.answer.1 in
+    let posted : IsPostedMany c.args.seat (release_of c.counter-at.result c.args.units) (Owes e.owing) = rw e.field-0-is at e.ensures.rows.1 in
     ap (λ (t : SeatModel). t.table) posted.0 ∙ c.requires.seat

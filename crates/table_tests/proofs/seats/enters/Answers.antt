@@ -3,4 +3,4 @@ use Rattle.sema_table.specs.Seats.{SeatModel}
 use Rattle.table_tests.proofs.seats.enters.Goals as goal
 
 pub returns : goal.returns
-returns g c = ap (λ (t : SeatModel). t.table) c.in-Taken.ensures.0 ∙ c.requires
+returns g c = ap (λ (t : SeatModel). t.table) c.in-Taken.ensures.rows.0 ∙ c.requires

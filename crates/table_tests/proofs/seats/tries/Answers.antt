@@ -12,4 +12,4 @@ same_table s c Lost t h = ap (λ (x : SeatModel). x.table) h.0
 
 pub returns : goal.returns
 returns g c =
-    same_table c.args.seat.now c.counter-at.result c.try_acquire.result c.try_acquire.new.seat c.try_acquire.ensures ∙ c.requires
+    same_table c.args.seat.now c.counter-at.result c.try_acquire.result c.try_acquire.new.seat c.try_acquire.ensures.rows ∙ c.requires

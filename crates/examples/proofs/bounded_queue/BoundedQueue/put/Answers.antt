@@ -1,6 +1,7 @@
-use Rattle.std.proofs.Common.{◌≡◌, ◌∷◌, [], false, sym, subst}
+use Rattle.std.proofs.Common.{◌≡◌, ◌∷◌, [], false, Ok, sym, subst}
 use Rattle.crossbeam_queue.specs.Passes.{view}
-use Rattle.sema_table.specs.Whole.{IsAcquired, IsReleased}
+use Rattle.sema_table.specs.Callers.{AcquiresUnit}
+use Rattle.sema_table.specs.CallersReleasing.{ReleasesUnit}
 use Rattle.examples.specs.Parts.{QueueModel, WorkerModel}
 use Rattle.examples.specs.Queue.{free, full, IsOf, HasPut}
 use Rattle.examples.proofs.Queueing.{has_put}
@@ -17,8 +18,8 @@ returns g c =
       ring = old.table_id;
       moves = view old;
     }) = subst (λ (w : WorkerModel). IsOf q w) (sym c.worker.view_is) c.requires.0 in
-    let acquired : IsAcquired s free false u = rw c.new.ensures at c.acquire-seat.ensures in
-    let released : IsReleased u full false t c.in-Ok.field-0-1 = rw c.new-2.ensures at c.in-Ok.ensures.answer.1 in
+    let acquired : AcquiresUnit s free false u = rw c.new.ensures at c.acquire-seat.ensures.caller in
+    let released : ReleasesUnit u full false (Ok (t, c.in-Ok.field-0-1)) = rw c.new-2.ensures at c.in-Ok.ensures.caller in
     subst (λ (w : WorkerModel). HasPut q w c.args.item (record { seat = t; ring = new.table_id; moves = view new })) c.worker.view_is
     (has_put q starts s u t old.table_id new.table_id (view old)
     (view new) c.args.item c.in-Ok.field-0-1 mine c.push.ensures.same.0 acquired released c.push.ensures.put)

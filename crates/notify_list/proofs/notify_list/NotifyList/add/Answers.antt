@@ -7,6 +7,8 @@ use Rattle.notify_list.specs.Tickets.{IsAdded}
 use Rattle.notify_list.proofs.Owned.{own, low_word, owned}
 use Rattle.notify_list.proofs.Allowing.{row_goes}
 use Rattle.notify_list.proofs.Taking.{next_is, added, holding}
+use Rattle.notify_list.proofs.Answering.{is_sound}
+use Rattle.notify_list.proofs.Callers.{gets_ticket}
 use Rattle.notify_list.proofs.notify_list.NotifyList.add.Goals as goal
 
 pub add-ticket-requires : goal.add-ticket-requires
@@ -28,7 +30,11 @@ pub invariant_of-result : goal.invariant_of-result
 invariant_of-result c = let E = c.add-ticket.ensures in
     holding c.seat.inside.token c.add-ticket.new.token c.seat.inside.number c.add-ticket.result c.seat.invariant E.went E.own
 
-pub returns : goal.returns
-returns c = let E = c.add-ticket.ensures in let n : ℕ = c.seat.inside.number in
+pub returns-clause-rows : goal.returns-clause-rows
+returns-clause-rows c = let E = c.add-ticket.ensures in let n : ℕ = c.seat.inside.number in
     subst (λ (y : SeatModel). IsAdded y (seat_of c.add-ticket.new.token n)) c.seat.view_is
     (added c.seat.inside.token c.add-ticket.new.token n c.add-ticket.result c.seat.invariant E.went E.own)
+
+pub returns-clause-caller : goal.returns-clause-caller
+returns-clause-caller c = let s = c.seat.inside in
+    gets_ticket c.args.seat (seat_of c.add-ticket.new.token s.number) (is_sound c.add-ticket.new.token s.number (invariant_of-result c).token_is) (returns-clause-rows c)

@@ -3,6 +3,8 @@ use Rattle.notify_list.specs.Seats.{SeatModel, seat_of}
 use Rattle.notify_list.specs.Calls.{AllGranted}
 use Rattle.notify_list.specs.NotifyingAll.{NotifiesAll, GrantsSome}
 use Rattle.notify_list.proofs.Broadcasting.{quiet_seat, quiet_all, quiet_none, quiet_granted, may_lock, may_reach, may_take, may_wake, locked_seat, locked_all, locked_some, locked_granted}
+use Rattle.notify_list.proofs.Answering.{is_sound}
+use Rattle.notify_list.proofs.CallersNotifying.{notifies_all}
 use Rattle.notify_list.proofs.notify_list.NotifyList.all.Goals as goal
 
 pub look_for_all-requires : goal.look_for_all-requires
@@ -13,10 +15,14 @@ invariant_of-seat g c = quiet_seat c.seat.inside.token c.look_for_all.new.token 
 
 pub returns-then-look_for_all : goal.returns-then-look_for_all
 returns-then-look_for_all g c =
-    let s = c.seat.inside.token in let t = c.look_for_all.new.token in let n : ℕ = c.seat.inside.number in let x = c.if-look_for_all.ensures in record {
-      rows = subst (λ (y : SeatModel). NotifiesAll y 0 (seat_of t n)) c.seat.view_is (quiet_all s t n c.seat.invariant x);
-      count = subst (λ (y : SeatModel). GrantsSome y 0 (seat_of t n)) c.seat.view_is (quiet_none s t n c.seat.invariant x);
-      granted = subst (λ (y : SeatModel). AllGranted y (seat_of t n)) c.seat.view_is (quiet_granted s t n c.seat.invariant x);
+    let s = c.seat.inside.token in let t = c.look_for_all.new.token in let n : ℕ = c.seat.inside.number in let x = c.if-look_for_all.ensures in
+    let rows = subst (λ (y : SeatModel). NotifiesAll y 0 (seat_of t n)) c.seat.view_is (quiet_all s t n c.seat.invariant x) in
+    let count = subst (λ (y : SeatModel). GrantsSome y 0 (seat_of t n)) c.seat.view_is (quiet_none s t n c.seat.invariant x) in
+    let granted = subst (λ (y : SeatModel). AllGranted y (seat_of t n)) c.seat.view_is (quiet_granted s t n c.seat.invariant x) in record {
+      rows = rows;
+      count = count;
+      granted = granted;
+      caller = notifies_all c.args.seat.now (seat_of t n) (is_sound t n (invariant_of-seat g c).token_is).lawful 0 rows count granted;
     }
 
 pub lock-requires : goal.lock-requires
@@ -56,10 +62,14 @@ returns g c =
     let x = c.if-look_for_all.ensures in let u = c.lock.new.token in let k : ℕ = c.reach_all-granted.result in let v = c.reach_all-granted.new.token in
     let R = c.reach_all-granted.ensures x.h (may_reach l s t n c.seat.invariant own x u c.lock.ensures) in
     let T = c.take_all.ensures.taken x.h k (may_take l s t n c.seat.invariant own x u c.lock.ensures k v R) in let y = c.take_all.new.token in
-    let W = c.wake_all.ensures x.h (may_wake l s t n c.seat.invariant own x u c.lock.ensures k v R y T) in let z = c.wake_all.new.token in record {
-      rows = subst (λ (q : SeatModel). NotifiesAll q k (seat_of z n)) c.seat.view_is (locked_all l s t n c.seat.invariant own x u c.lock.ensures k v R y T z W);
-      count = subst (λ (q : SeatModel). GrantsSome q k (seat_of z n)) c.seat.view_is (locked_some l s t n c.seat.invariant own x u c.lock.ensures k v R y T z W);
-      granted = subst (λ (q : SeatModel). AllGranted q (seat_of z n)) c.seat.view_is (locked_granted l s t n c.seat.invariant own x u c.lock.ensures k v R y T z W);
+    let W = c.wake_all.ensures x.h (may_wake l s t n c.seat.invariant own x u c.lock.ensures k v R y T) in let z = c.wake_all.new.token in
+    let rows = subst (λ (q : SeatModel). NotifiesAll q k (seat_of z n)) c.seat.view_is (locked_all l s t n c.seat.invariant own x u c.lock.ensures k v R y T z W) in
+    let count = subst (λ (q : SeatModel). GrantsSome q k (seat_of z n)) c.seat.view_is (locked_some l s t n c.seat.invariant own x u c.lock.ensures k v R y T z W) in
+    let granted = subst (λ (q : SeatModel). AllGranted q (seat_of z n)) c.seat.view_is (locked_granted l s t n c.seat.invariant own x u c.lock.ensures k v R y T z W) in record {
+      rows = rows;
+      count = count;
+      granted = granted;
+      caller = notifies_all c.args.seat.now (seat_of z n) (is_sound z n (invariant_of-seat-2 g c).token_is).lawful k rows count granted;
     }
 
 pub wake_all-requires-clause-seats : goal.wake_all-requires-clause-seats

@@ -7,10 +7,11 @@ use Rattle.notify_list.specs.Closing.{AreSeatsOf}
 use Rattle.notify_list.proofs.Owned.{owned}
 use Rattle.notify_list.proofs.Reckoning.{is_closed}
 use Rattle.notify_list.proofs.Gathering.{first_and_rest, read_at}
+use Rattle.notify_list.proofs.CallersEnding.{ends_list}
 use Rattle.notify_list.proofs.notify_list.NotifyList.close.Goals as goal
 
-pub returns : goal.returns
-returns c =
+pub returns-clause-rows : goal.returns-clause-rows
+returns-clause-rows c =
     let l = c.args.self in let made = c.self.invariant in let view = c.self.view_is in let G = c.gather-token.ensures in
     let token = c.gather-token.result in let F = c.close_with-ended.ensures.values.2 in let s = F.0 in
     let items = c.args.seats.items in let some = made.some in let seated = made.seated in
@@ -23,3 +24,6 @@ returns c =
     (record { next = c.word.result; notified = c.word-2.result })
     (read_at words 0 c.word.result c.word.ensures ∙ ap (λ ws. slice_index ws 0) (sym F.2))
     (read_at words 1 c.word-2.result c.word-2.ensures ∙ ap (λ ws. slice_index ws 1) (sym F.2))
+
+pub returns-clause-caller : goal.returns-clause-caller
+returns-clause-caller c = ends_list c.args.self.setting c.args.seats.items (record { next = c.word.result; notified = c.word-2.result }) (returns-clause-rows c)

@@ -6,6 +6,7 @@ use Rattle.notify_list.proofs.Owned.{own, low_word, owned}
 use Rattle.notify_list.proofs.Allowing.{goes_at}
 use Rattle.notify_list.proofs.Recording.{gives_plain}
 use Rattle.notify_list.proofs.Notifying.{may_lock, stands4, w4, stands6, record5, seat_none, ends_none, may_grant, seat_some, ends_some}
+use Rattle.notify_list.proofs.Answering.{is_sound}
 use Rattle.notify_list.proofs.notify_list.NotifyList.one_at_lock.Goals as goal
 
 pub lock-requires : goal.lock-requires
@@ -71,8 +72,8 @@ invariant_of-seat g c =
     let at3 = ap (λ (y : SeatModel). y.sight.stands.place) c.seat.view_is ∙ c.requires.place.1 in
     seat_none s n c.requires.place.0 c.seat.invariant at3 t L u c.load-ticket.result E.went E.own y c.load.result F.went F.own c.give_lock.new.token equal G.went G.own
 
-pub returns-then-load-ticket : goal.returns-then-load-ticket
-returns-then-load-ticket g c h at =
+pub returns-then-load-ticket-clause-rows : goal.returns-then-load-ticket-clause-rows
+returns-then-load-ticket-clause-rows g c h at =
     let s = c.seat.inside.token in let n : ℕ = c.seat.inside.number in let t = c.lock.new.token in let L = c.lock.ensures in let u = c.load-ticket.new.token in let E = c.load-ticket.ensures in
     let y = c.load.new.token in let F = c.load.ensures in let G = c.give_lock.ensures in let equal = c.if-load-ticket.true in
     let at3 = ap (λ (y : SeatModel). y.sight.stands.place) c.seat.view_is ∙ at in
@@ -96,11 +97,17 @@ invariant_of-seat-2 g c =
     let may = may_grant s n c.requires.place.0 c.seat.invariant at3 t L u c.load-ticket.result E.went E.own y c.load.result F.went F.own unequal c.args.self.now (ap (λ (y : SeatModel). y.list) c.seat.view_is ∙ c.requires.seat) in
     seat_some s n c.requires.place.0 c.seat.invariant at3 t L u c.load-ticket.result E.went E.own y c.load.result F.went F.own unequal c.grant_one.new.token (c.grant_one.ensures c.requires.place.0 may)
 
-pub returns : goal.returns
-returns g c h at =
+pub returns-clause-rows : goal.returns-clause-rows
+returns-clause-rows g c h at =
     let s = c.seat.inside.token in let n : ℕ = c.seat.inside.number in let t = c.lock.new.token in let L = c.lock.ensures in let u = c.load-ticket.new.token in let E = c.load-ticket.ensures in
     let y = c.load.new.token in let F = c.load.ensures in let unequal = c.if-load-ticket.false in
     let at3 = ap (λ (y : SeatModel). y.sight.stands.place) c.seat.view_is ∙ at in
     let may = may_grant s n h c.seat.invariant at3 t L u c.load-ticket.result E.went E.own y c.load.result F.went F.own unequal c.args.self.now (ap (λ (y : SeatModel). y.list) c.seat.view_is ∙ c.requires.seat) in
     subst (λ (q : SeatModel). EndsOne q h (Some c.load-ticket.result) (seat_of c.grant_one.new.token n)) c.seat.view_is
     (ends_some s n h c.seat.invariant at3 t L u c.load-ticket.result E.went E.own y c.load.result F.went F.own unequal c.grant_one.new.token (c.grant_one.ensures h may))
+
+pub returns-then-load-ticket-clause-lawful : goal.returns-then-load-ticket-clause-lawful
+returns-then-load-ticket-clause-lawful g c = (is_sound c.give_lock.new.token c.seat.inside.number (invariant_of-seat g c).token_is).lawful
+
+pub returns-clause-lawful : goal.returns-clause-lawful
+returns-clause-lawful g c = (is_sound c.grant_one.new.token c.seat.inside.number (invariant_of-seat-2 g c).token_is).lawful

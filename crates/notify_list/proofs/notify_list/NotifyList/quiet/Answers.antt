@@ -10,6 +10,8 @@ use Rattle.notify_list.proofs.Owned.{own, low_word, owned}
 use Rattle.notify_list.proofs.Leading.{equal_is}
 use Rattle.notify_list.proofs.Allowing.{row_goes, goes_at}
 use Rattle.notify_list.proofs.Looking.{stands_first, looked, looked_seat, all_granted}
+use Rattle.notify_list.proofs.Answering.{is_sound}
+use Rattle.notify_list.proofs.Callers.{finds_all}
 use Rattle.notify_list.proofs.notify_list.NotifyList.quiet.Goals as goal
 
 pub load-waited-requires : goal.load-waited-requires
@@ -56,3 +58,8 @@ pub returns-clause-granted : goal.returns-clause-granted
 returns-clause-granted c e = let E = c.load-waited.ensures in let F = c.load.ensures in
     subst (λ (y : SeatModel). AllGranted y (seat_of c.load.new.token c.seat.inside.number)) c.seat.view_is
     (all_granted c.seat.inside.token c.load-waited.new.token c.load.new.token c.seat.inside.number c.load-waited.result c.load.result c.seat.invariant E.went F.went E.own F.own (equal_is c.load-waited.result c.load.result e))
+
+pub returns-clause-caller : goal.returns-clause-caller
+returns-clause-caller c = let s = c.seat.inside in
+    finds_all c.args.seat.now (seat_of c.load.new.token s.number) (is_sound c.load.new.token s.number (invariant_of-seat c).token_is) (c.load-waited.result == c.load.result)
+    (returns-clause-looked c) (returns-clause-granted c)

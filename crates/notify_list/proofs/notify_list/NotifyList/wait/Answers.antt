@@ -9,6 +9,8 @@ use Rattle.notify_list.proofs.Words.{wakes_aside}
 use Rattle.notify_list.proofs.Allowing.{goes_at, takes_at}
 use Rattle.notify_list.proofs.Recording.{list_edited, gives_plain, gives_edited}
 use Rattle.notify_list.proofs.Queueing.{may_wait, stands_locked, stands_looked, number_looked, record_looked, has_room, w4, seat_at_once, waited_at_once, granted_at_once, seat_parked, waited_parked, granted_parked}
+use Rattle.notify_list.proofs.Answering.{is_sound}
+use Rattle.notify_list.proofs.Callers.{waits_for}
 use Rattle.notify_list.proofs.notify_list.NotifyList.wait.Goals as goal
 
 pub lock-requires : goal.lock-requires
@@ -66,6 +68,11 @@ returns-then-less-clause-granted g c =
     subst (λ (y : SeatModel). IsGranted y (seat_of c.give_lock.new.token c.holding.inside.number)) c.holding.view_is
     (granted_at_once s c.holding.inside.number c.holding.inside.ticket c.holding.invariant c.lock.new.token c.lock.ensures c.load-notified.new.token c.load-notified.result E.went E.own c.give_lock.new.token
     (sym c.less.ensures.less ∙ c.if-less.true) F.went F.own)
+
+pub returns-then-less-clause-caller : goal.returns-then-less-clause-caller
+returns-then-less-clause-caller g c = let s = c.holding.inside in
+    waits_for c.args.holding (seat_of c.give_lock.new.token s.number) (is_sound c.give_lock.new.token s.number (invariant_of-result g c).token_is) AtOnce
+    (returns-then-less-clause-waited g c) (returns-then-less-clause-granted g c)
 
 pub insert-requires : goal.insert-requires
 insert-requires g c =
@@ -152,3 +159,8 @@ returns-clause-granted g c =
     (λ i. record { id = record { seat = (number_looked s n word H t L u v E.went E.own ∙ sym c.new-seat.ensures) i; turn = 0 }; ticket = H.word_is i }) in
     subst (λ (y : SeatModel). IsGranted y (seat_of c.take_when_granted.new.token n)) c.holding.view_is
     (granted_parked s n word H t L u v E.went E.own c.insert.new.token c.give_lock-2.new.token no_it I F.went F.own c.take_when_granted.new.token _ S.some S.went S.own)
+
+pub returns-clause-caller : goal.returns-clause-caller
+returns-clause-caller g c = let s = c.holding.inside in
+    waits_for c.args.holding (seat_of c.take_when_granted.new.token s.number) (is_sound c.take_when_granted.new.token s.number (invariant_of-result-2 g c).token_is) Parked
+    (returns-clause-waited g c) (returns-clause-granted g c)

@@ -9,10 +9,11 @@ use Rattle.sema_table.specs.Closing.{sum_by, has_added, was_given, AreOfSeats, I
 use Rattle.sema_table.proofs.Owned.{someones}
 use Rattle.sema_table.proofs.Reckoning.{is_closed}
 use Rattle.sema_table.proofs.Gathering.{first_and_rest}
+use Rattle.sema_table.proofs.CallerEnds.{ends}
 use Rattle.sema_table.proofs.sema_table.SemaTable.close.Goals as goal
 
-pub returns : goal.returns
-returns c =
+pub returns-clause-rows : goal.returns-clause-rows
+returns-clause-rows c =
     let t = c.args.self in let made = c.self.invariant in let view = c.self.view_is in let G = c.gather-token.ensures in let token = c.gather-token.result.0 in let F = c.close_with-closed.ensures.values.2 in let s = F.0 in
     let items = c.args.seats.items in let seated = made.seated in let few = made.few.0 in let seats = ap (λ (y : TableModel). y.setting.seats) view in let count = c.requires.count in
     let rows = first_and_rest items c.remove-first.new.self.items c.remove-first.result (omega arith) c.remove-first.ensures.value c.remove-first.ensures.items in
@@ -28,3 +29,6 @@ returns c =
     (is_closed t.setting s kept token.id token.me.0 (someones c.self.inside made token (G.own ∙ sym view)) F.1.1 items
     (subst (λ (r : List SeatModel). AreOfSeats t.setting (token.me.0.own ∷ token.me.0.guests) r) (sym rows) G.all) count values each
     (λ j h. get_or-map-range_with_len at 0 k j j 0 (omega (arith, h, counted, starts)) (omega arith) ∙ ap (λ w. slice_index (slots_items w) (8 * j)) c.empty.ensures.words ∙ ap (λ (ws : List ℕ). slice_index ws (8 * j)) (sym F.2)))
+
+pub returns-clause-caller : goal.returns-clause-caller
+returns-clause-caller c = ends c.args.self.setting c.args.seats.items _ (returns-clause-rows c)

@@ -13,6 +13,7 @@ use Rattle.sema_table.proofs.Striding.{slots_are}
 use Rattle.sema_table.proofs.Words.{counter_lies}
 use Rattle.sema_table.proofs.Seeing.{counter_seen}
 use Rattle.sema_table.proofs.LookingTogether.{one_seat, other_seat, have_met}
+use Rattle.sema_table.proofs.CallerEnds.{sees_the_same}
 use Rattle.sema_table.proofs.sema_table.SemaTable.meet.Goals as goal
 
 pub meet-requires : goal.meet-requires
@@ -46,9 +47,12 @@ invariant_of-other c =
     let at = own c.self.inside s c.one.inside.numbers c.self.view_is c.one.view_is c.requires.0 in
     other_seat s o a b c.one.inside.numbers c.other.inside.numbers c.meet.result c.one.invariant c.other.invariant (met_there c.self.inside c.self.invariant s o a b c.meet.result at E.met) E.own.0 E.own.1 (slots_are E.one) (slots_are E.other)
 
-pub returns : goal.returns
-returns c =
+pub returns-clause-rows : goal.returns-clause-rows
+returns-clause-rows c =
     let s = c.one.inside.token in let o = c.other.inside.token in let a = c.meet.new.one in let b = c.meet.new.other in let E = c.meet.ensures in
     let at = own c.self.inside s c.one.inside.numbers c.self.view_is c.one.view_is c.requires.0 in
     subst (λ (q : SeatModel × SeatModel). HasMet q.0 q.1 (seat_of a c.one.inside.numbers) (seat_of b c.other.inside.numbers)) (λ i. (c.one.view_is i, c.other.view_is i))
     (have_met s o a b c.one.inside.numbers c.other.inside.numbers c.meet.result c.one.invariant c.other.invariant (met_there c.self.inside c.self.invariant s o a b c.meet.result at E.met) E.own.0 E.own.1 (slots_are E.one) (slots_are E.other))
+
+pub returns-clause-caller : goal.returns-clause-caller
+returns-clause-caller c = sees_the_same c.args.one.now c.args.other.now (seat_of c.meet.new.one c.one.inside.numbers) (seat_of c.meet.new.other c.other.inside.numbers) (returns-clause-rows c)

@@ -17,6 +17,7 @@ use Rattle.sema_table.proofs.Apart.{run_of, owes_of}
 use Rattle.sema_table.proofs.Stepping.{counter_up}
 use Rattle.sema_table.proofs.Walking.{added_few, walked_adds}
 use Rattle.sema_table.proofs.Posting.{walked_add, done_seat, owing_seat, posted_done, posted_owes}
+use Rattle.sema_table.proofs.CallerPosts.{posts}
 use Rattle.sema_table.proofs.sema_table.SemaTable.post.Goals as goal
 
 pub add-requires : goal.add-requires
@@ -59,31 +60,35 @@ pub invariant_of-result : goal.invariant_of-result
 invariant_of-result c = done_seat c.seat.inside.token c.add.new.token c.load.new.token c.seat.inside.numbers c.number-counter.result c.add.result c.load.result c.seat.invariant (let z = c.if-seat-eq0.false in omega (arith, z))
     (run_of (λ k. releasing k R1) c.counter_word.result c.number-counter.result (c.counter_word.ensures.at) c.seat.inside.token.me.0.own c.add.result c.add.new.token.me.0.own c.add.ensures.went.0) c.load.ensures.went.0 c.add.ensures.own c.load.ensures.own (slots_are c.add.ensures.went.1) (slots_are c.load.ensures.went.1) c.if-load-eq0.true
 
-pub returns-then-load-eq0 : goal.returns-then-load-eq0
-returns-then-load-eq0 c =
+pub returns-then-load-eq0-clause-rows : goal.returns-then-load-eq0-clause-rows
+returns-then-load-eq0-clause-rows c =
     let n = c.seat.inside.numbers in let some : 0 < n.left = (let z = c.if-seat-eq0.false in omega (arith, z)) in let fewer : Numbers = record n { left = n.left - 1 } in
-    record {
-      answer = subst (λ (s : SeatModel). (0 < s.left) × IsPosted s c.args.counter (Done (seat_of c.load.new.token fewer))) c.seat.view_is (
-        some,
-        subst (λ k. IsPosted (seat_of c.seat.inside.token n) k (Done (seat_of c.load.new.token fewer))) c.number-counter.ensures
-            (posted_done c.seat.inside.token c.add.new.token c.load.new.token n c.number-counter.result c.add.result c.load.result c.seat.invariant some
-            (run_of (λ k. releasing k R1) c.counter_word.result c.number-counter.result (c.counter_word.ensures.at) c.seat.inside.token.me.0.own c.add.result c.add.new.token.me.0.own c.add.ensures.went.0) c.load.ensures.went.0 c.add.ensures.own c.load.ensures.own (slots_are c.add.ensures.went.1) (slots_are c.load.ensures.went.1) c.if-load-eq0.true),
-      );
-    }
+    (
+    subst (λ (s : SeatModel). (0 < s.left) × IsPosted s c.args.counter (Done (seat_of c.load.new.token fewer))) c.seat.view_is (
+      some,
+      subst (λ k. IsPosted (seat_of c.seat.inside.token n) k (Done (seat_of c.load.new.token fewer))) c.number-counter.ensures
+          (posted_done c.seat.inside.token c.add.new.token c.load.new.token n c.number-counter.result c.add.result c.load.result c.seat.invariant some
+          (run_of (λ k. releasing k R1) c.counter_word.result c.number-counter.result (c.counter_word.ensures.at) c.seat.inside.token.me.0.own c.add.result c.add.new.token.me.0.own c.add.ensures.went.0) c.load.ensures.went.0 c.add.ensures.own c.load.ensures.own (slots_are c.add.ensures.went.1) (slots_are c.load.ensures.went.1) c.if-load-eq0.true),
+    ))
+
+pub returns-then-load-eq0-clause-caller : goal.returns-then-load-eq0-clause-caller
+returns-then-load-eq0-clause-caller c = let n = c.seat.inside.numbers in let fewer : Numbers = record n { left = n.left - 1 } in posts c.args.seat c.args.counter (Done (seat_of c.load.new.token fewer)) (returns-then-load-eq0-clause-rows c)
 
 pub invariant_of-result-2 : goal.invariant_of-result-2
 invariant_of-result-2 c = owing_seat c.seat.inside.token c.add.new.token c.load.new.token c.seat.inside.numbers c.number-counter.result c.add.result c.load.result c.seat.invariant (let z = c.if-seat-eq0.false in omega (arith, z))
     (run_of (λ k. releasing k R1) c.counter_word.result c.number-counter.result (c.counter_word.ensures.at) c.seat.inside.token.me.0.own c.add.result c.add.new.token.me.0.own c.add.ensures.went.0) c.load.ensures.went.0 c.add.ensures.own c.load.ensures.own (slots_are c.add.ensures.went.1) (slots_are c.load.ensures.went.1) (let z = c.if-load-eq0.false in omega (arith, z))
     (subst (λ k. k < length c.seat.inside.token.me.0.own.knows.setting.starts) (sym c.number-counter.ensures) (counter_in c.self.inside c.seat.inside.token c.seat.inside.numbers c.self.view_is c.seat.view_is c.requires.0 c.requires.1))
 
-pub returns : goal.returns
-returns c =
+pub returns-clause-rows : goal.returns-clause-rows
+returns-clause-rows c =
     let n = c.seat.inside.numbers in let some : 0 < n.left = (let z = c.if-seat-eq0.false in omega (arith, z)) in let fewer : Numbers = record n { left = n.left - 1 } in
-    record {
-      answer = subst (λ (s : SeatModel). (0 < s.left) × IsPosted s c.args.counter (Owes (seat_of c.load.new.token fewer))) c.seat.view_is (
-        some,
-        subst (λ k. IsPosted (seat_of c.seat.inside.token n) k (Owes (seat_of c.load.new.token fewer))) c.number-counter.ensures
-            (posted_owes c.seat.inside.token c.add.new.token c.load.new.token n c.number-counter.result c.add.result c.load.result c.seat.invariant some
-            (run_of (λ k. releasing k R1) c.counter_word.result c.number-counter.result (c.counter_word.ensures.at) c.seat.inside.token.me.0.own c.add.result c.add.new.token.me.0.own c.add.ensures.went.0) c.load.ensures.went.0 c.add.ensures.own c.load.ensures.own (slots_are c.add.ensures.went.1) (slots_are c.load.ensures.went.1) (let z = c.if-load-eq0.false in omega (arith, z))),
-      );
-    }
+    (
+    subst (λ (s : SeatModel). (0 < s.left) × IsPosted s c.args.counter (Owes (seat_of c.load.new.token fewer))) c.seat.view_is (
+      some,
+      subst (λ k. IsPosted (seat_of c.seat.inside.token n) k (Owes (seat_of c.load.new.token fewer))) c.number-counter.ensures
+          (posted_owes c.seat.inside.token c.add.new.token c.load.new.token n c.number-counter.result c.add.result c.load.result c.seat.invariant some
+          (run_of (λ k. releasing k R1) c.counter_word.result c.number-counter.result (c.counter_word.ensures.at) c.seat.inside.token.me.0.own c.add.result c.add.new.token.me.0.own c.add.ensures.went.0) c.load.ensures.went.0 c.add.ensures.own c.load.ensures.own (slots_are c.add.ensures.went.1) (slots_are c.load.ensures.went.1) (let z = c.if-load-eq0.false in omega (arith, z))),
+    ))
+
+pub returns-clause-caller : goal.returns-clause-caller
+returns-clause-caller c = let n = c.seat.inside.numbers in let fewer : Numbers = record n { left = n.left - 1 } in posts c.args.seat c.args.counter (Owes (seat_of c.load.new.token fewer)) (returns-clause-rows c)

@@ -20,6 +20,7 @@ use Rattle.sema_table.proofs.Apart.{run_of, owes_of}
 use Rattle.sema_table.proofs.Stepping.{counter_up_by}
 use Rattle.sema_table.proofs.Walking.{added_few, walked_adds}
 use Rattle.sema_table.proofs.PostingMany.{walked_add, done_seat, owing_seat, posted_done, posted_owes}
+use Rattle.sema_table.proofs.CallerPosts.{posts_many}
 use Rattle.sema_table.proofs.sema_table.SemaTable.post_many.Goals as goal
 
 pub add-requires : goal.add-requires
@@ -66,17 +67,19 @@ invariant_of-result c = let a : ReleaseMany = record { counter = c.number-counte
     done_seat c.seat.inside.token c.add.new.token c.load.new.token c.seat.inside.numbers a c.add.result c.load.result c.seat.invariant c.if-seat-added.false
     (run_of (λ k. ReleasingMany (record { counter = k; units = c.from-added.result }) M1) c.counter_word.result c.number-counter.result (c.counter_word.ensures.at) c.seat.inside.token.me.0.own c.add.result c.add.new.token.me.0.own c.add.ensures.went.0) c.load.ensures.went.0 c.add.ensures.own c.load.ensures.own (slots_are c.add.ensures.went.1) (slots_are c.load.ensures.went.1) c.if-load-eq0.true
 
-pub returns-then-load-eq0 : goal.returns-then-load-eq0
-returns-then-load-eq0 c =
+pub returns-then-load-eq0-clause-rows : goal.returns-then-load-eq0-clause-rows
+returns-then-load-eq0-clause-rows c =
     let n = c.seat.inside.numbers in let N : ℕ = c.number-counter.result in let A : ℕ = c.from-added.result in let a : ReleaseMany = record { counter = N; units = A } in let fewer : Numbers = record n { left = n.left - A } in
-    let some : A ≤ n.left = c.if-seat-added.false in let is : A ≡ c.args.units = c.from-added.ensures in record {
-      answer = subst (λ (s : SeatModel). (c.args.units ≤ s.left) × IsPostedMany s (record { counter = c.args.counter; units = c.args.units }) (Done (seat_of c.load.new.token fewer))) c.seat.view_is (
-        (omega arith),
-        subst (λ (r : ReleaseMany). IsPostedMany (seat_of c.seat.inside.token n) r (Done (seat_of c.load.new.token fewer))) (λ i. record { counter = c.number-counter.ensures i; units = c.from-added.ensures i })
-            (posted_done c.seat.inside.token c.add.new.token c.load.new.token n a c.add.result c.load.result c.seat.invariant some
-            (run_of (λ k. ReleasingMany (record { counter = k; units = c.from-added.result }) M1) c.counter_word.result c.number-counter.result (c.counter_word.ensures.at) c.seat.inside.token.me.0.own c.add.result c.add.new.token.me.0.own c.add.ensures.went.0) c.load.ensures.went.0 c.add.ensures.own c.load.ensures.own (slots_are c.add.ensures.went.1) (slots_are c.load.ensures.went.1) c.if-load-eq0.true),
-      );
-    }
+    let some : A ≤ n.left = c.if-seat-added.false in let is : A ≡ c.args.units = c.from-added.ensures in (
+    subst (λ (s : SeatModel). (c.args.units ≤ s.left) × IsPostedMany s (record { counter = c.args.counter; units = c.args.units }) (Done (seat_of c.load.new.token fewer))) c.seat.view_is (
+      (omega arith),
+      subst (λ (r : ReleaseMany). IsPostedMany (seat_of c.seat.inside.token n) r (Done (seat_of c.load.new.token fewer))) (λ i. record { counter = c.number-counter.ensures i; units = c.from-added.ensures i })
+          (posted_done c.seat.inside.token c.add.new.token c.load.new.token n a c.add.result c.load.result c.seat.invariant some
+          (run_of (λ k. ReleasingMany (record { counter = k; units = c.from-added.result }) M1) c.counter_word.result c.number-counter.result (c.counter_word.ensures.at) c.seat.inside.token.me.0.own c.add.result c.add.new.token.me.0.own c.add.ensures.went.0) c.load.ensures.went.0 c.add.ensures.own c.load.ensures.own (slots_are c.add.ensures.went.1) (slots_are c.load.ensures.went.1) c.if-load-eq0.true),
+    ))
+
+pub returns-then-load-eq0-clause-caller : goal.returns-then-load-eq0-clause-caller
+returns-then-load-eq0-clause-caller c = let n = c.seat.inside.numbers in let fewer : Numbers = record n { left = n.left - c.from-added.result } in posts_many c.args.seat c.args.counter c.args.units (Done (seat_of c.load.new.token fewer)) (returns-then-load-eq0-clause-rows c)
 
 pub invariant_of-result-2 : goal.invariant_of-result-2
 invariant_of-result-2 c =
@@ -89,14 +92,16 @@ invariant_of-result-2 c =
     (subst (λ k. k < length s.me.0.own.knows.setting.starts) (sym c.number-counter.ensures) (counter_in c.self.inside s n c.self.view_is c.seat.view_is c.requires.seat.0 c.requires.seat.1))
     (one, many))
 
-pub returns : goal.returns
-returns c =
+pub returns-clause-rows : goal.returns-clause-rows
+returns-clause-rows c =
     let n = c.seat.inside.numbers in let N : ℕ = c.number-counter.result in let A : ℕ = c.from-added.result in let a : ReleaseMany = record { counter = N; units = A } in let fewer : Numbers = record n { left = n.left - A } in
-    let some : A ≤ n.left = c.if-seat-added.false in let is : A ≡ c.args.units = c.from-added.ensures in record {
-      answer = subst (λ (s : SeatModel). (c.args.units ≤ s.left) × IsPostedMany s (record { counter = c.args.counter; units = c.args.units }) (Owes (seat_of c.load.new.token fewer))) c.seat.view_is (
-        (omega arith),
-        subst (λ (r : ReleaseMany). IsPostedMany (seat_of c.seat.inside.token n) r (Owes (seat_of c.load.new.token fewer))) (λ i. record { counter = c.number-counter.ensures i; units = c.from-added.ensures i })
-            (posted_owes c.seat.inside.token c.add.new.token c.load.new.token n a c.add.result c.load.result c.seat.invariant some
-            (run_of (λ k. ReleasingMany (record { counter = k; units = c.from-added.result }) M1) c.counter_word.result c.number-counter.result (c.counter_word.ensures.at) c.seat.inside.token.me.0.own c.add.result c.add.new.token.me.0.own c.add.ensures.went.0) c.load.ensures.went.0 c.add.ensures.own c.load.ensures.own (slots_are c.add.ensures.went.1) (slots_are c.load.ensures.went.1) (let z = c.if-load-eq0.false in omega (arith, z))),
-      );
-    }
+    let some : A ≤ n.left = c.if-seat-added.false in let is : A ≡ c.args.units = c.from-added.ensures in (
+    subst (λ (s : SeatModel). (c.args.units ≤ s.left) × IsPostedMany s (record { counter = c.args.counter; units = c.args.units }) (Owes (seat_of c.load.new.token fewer))) c.seat.view_is (
+      (omega arith),
+      subst (λ (r : ReleaseMany). IsPostedMany (seat_of c.seat.inside.token n) r (Owes (seat_of c.load.new.token fewer))) (λ i. record { counter = c.number-counter.ensures i; units = c.from-added.ensures i })
+          (posted_owes c.seat.inside.token c.add.new.token c.load.new.token n a c.add.result c.load.result c.seat.invariant some
+          (run_of (λ k. ReleasingMany (record { counter = k; units = c.from-added.result }) M1) c.counter_word.result c.number-counter.result (c.counter_word.ensures.at) c.seat.inside.token.me.0.own c.add.result c.add.new.token.me.0.own c.add.ensures.went.0) c.load.ensures.went.0 c.add.ensures.own c.load.ensures.own (slots_are c.add.ensures.went.1) (slots_are c.load.ensures.went.1) (let z = c.if-load-eq0.false in omega (arith, z))),
+    ))
+
+pub returns-clause-caller : goal.returns-clause-caller
+returns-clause-caller c = let n = c.seat.inside.numbers in let fewer : Numbers = record n { left = n.left - c.from-added.result } in posts_many c.args.seat c.args.counter c.args.units (Owes (seat_of c.load.new.token fewer)) (returns-clause-rows c)

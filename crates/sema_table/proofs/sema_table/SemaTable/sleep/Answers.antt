@@ -6,6 +6,8 @@ use Rattle.sema_table.specs.Waking.{IsPolled}
 use Rattle.sema_table.proofs.Owned.{own}
 use Rattle.sema_table.proofs.Seeing.{is_aside}
 use Rattle.sema_table.proofs.Rousing.{look_more, roused_woken, roused_handed, same_seat}
+use Rattle.sema_table.specs.declared.answers.Roused.TheVariants as roused
+use Rattle.sema_table.proofs.CallerPolls.{sleeps}
 use Rattle.sema_table.proofs.sema_table.SemaTable.sleep.Goals as goal
 
 pub await_grant-requires : goal.await_grant-requires
@@ -19,14 +21,20 @@ await_grant-requires g c =
 pub loop-preserved : goal.loop-preserved
 loop-preserved g c =
     let awake = same_seat c.sleeping.inside.token c.await_grant.new.token c.sleeping.inside.numbers (c.await_grant.ensures.same.0, c.await_grant.ensures.same.1) ∙ c.sleeping.view_is in
-    look_more c.args.sleeping c.loop.sleeping c.in-Still.still c.loop.invariant (subst (λ (q : SeatModel). IsPolled q (Still c.in-Still.still)) awake c.in-Still.ensures)
+    look_more c.args.sleeping c.loop.sleeping c.in-Still.still c.loop.invariant (subst (λ (q : SeatModel). IsPolled q (Still c.in-Still.still)) awake c.in-Still.ensures.rows)
 
-pub returns-in-Woken : goal.returns-in-Woken
-returns-in-Woken g c =
+pub returns-in-Woken-clause-rows : goal.returns-in-Woken-clause-rows
+returns-in-Woken-clause-rows g c =
     let awake = same_seat c.sleeping.inside.token c.await_grant.new.token c.sleeping.inside.numbers (c.await_grant.ensures.same.0, c.await_grant.ensures.same.1) ∙ c.sleeping.view_is in
-    roused_woken c.args.sleeping c.loop.sleeping c.in-Woken.woken c.loop.invariant (subst (λ (q : SeatModel). IsPolled q (Woken c.in-Woken.woken)) awake c.in-Woken.ensures)
+    roused_woken c.args.sleeping c.loop.sleeping c.in-Woken.woken c.loop.invariant (subst (λ (q : SeatModel). IsPolled q (Woken c.in-Woken.woken)) awake c.in-Woken.ensures.rows)
 
-pub returns-in-Handed : goal.returns-in-Handed
-returns-in-Handed g c =
+pub returns-in-Woken-clause-caller : goal.returns-in-Woken-clause-caller
+returns-in-Woken-clause-caller g c = sleeps c.args.sleeping (roused.Woken c.in-Woken.woken) (returns-in-Woken-clause-rows g c)
+
+pub returns-in-Handed-clause-rows : goal.returns-in-Handed-clause-rows
+returns-in-Handed-clause-rows g c =
     let awake = same_seat c.sleeping.inside.token c.await_grant.new.token c.sleeping.inside.numbers (c.await_grant.ensures.same.0, c.await_grant.ensures.same.1) ∙ c.sleeping.view_is in
-    roused_handed c.args.sleeping c.loop.sleeping c.in-Handed.seat c.loop.invariant (subst (λ (q : SeatModel). IsPolled q (Handed c.in-Handed.seat)) awake c.in-Handed.ensures)
+    roused_handed c.args.sleeping c.loop.sleeping c.in-Handed.seat c.loop.invariant (subst (λ (q : SeatModel). IsPolled q (Handed c.in-Handed.seat)) awake c.in-Handed.ensures.rows)
+
+pub returns-in-Handed-clause-caller : goal.returns-in-Handed-clause-caller
+returns-in-Handed-clause-caller g c = sleeps c.args.sleeping (roused.Handed c.in-Handed.seat) (returns-in-Handed-clause-rows g c)

@@ -15,6 +15,7 @@ use Rattle.sema_table.specs.declared.seat.Numbers.{Numbers}
 use Rattle.sema_table.specs.Walks.{moved_to}
 use Rattle.sema_table.proofs.Walking.{added_few, walked_adds}
 use Rattle.sema_table.proofs.Trying.{walked_some, zero_seat, tried_zero, lost_seat, tried_lost, taken_seat, tried_taken}
+use Rattle.sema_table.proofs.CallerTries.{tries}
 use Rattle.sema_table.proofs.sema_table.SemaTable.try_acquire.Goals as goal
 
 pub load-found-requires : goal.load-found-requires
@@ -36,12 +37,15 @@ load-found-requires c =
 pub invariant_of-seat : goal.invariant_of-seat
 invariant_of-seat c = zero_seat c.seat.inside.token c.load-found.new.token c.seat.inside.numbers c.number.result c.load-found.result c.seat.invariant (run_of (λ k. acquiring k A1) c.counter_word-word.result c.number.result (c.counter_word-word.ensures.at) c.seat.inside.token.me.0.own c.load-found.result c.load-found.new.token.me.0.own c.load-found.ensures.went.0) c.load-found.ensures.own (slots_are c.load-found.ensures.went.1) c.if-found-eq0.true
 
-pub returns-then-found-eq0 : goal.returns-then-found-eq0
-returns-then-found-eq0 c =
+pub returns-then-found-eq0-clause-rows : goal.returns-then-found-eq0-clause-rows
+returns-then-found-eq0-clause-rows c =
     let n = c.seat.inside.numbers in let t = c.load-found.new.token in
     subst (λ (s : SeatModel). IsTried s c.args.counter Zero (seat_of t n)) c.seat.view_is
     (subst (λ k. IsTried (seat_of c.seat.inside.token n) k Zero (seat_of t n)) c.number.ensures
     (tried_zero c.seat.inside.token t n c.number.result c.load-found.result c.seat.invariant (run_of (λ k. acquiring k A1) c.counter_word-word.result c.number.result (c.counter_word-word.ensures.at) c.seat.inside.token.me.0.own c.load-found.result c.load-found.new.token.me.0.own c.load-found.ensures.went.0) c.load-found.ensures.own (slots_are c.load-found.ensures.went.1) c.if-found-eq0.true))
+
+pub returns-then-found-eq0-clause-caller : goal.returns-then-found-eq0-clause-caller
+returns-then-found-eq0-clause-caller c = tries c.args.seat.now (seat_of c.load-found.new.token c.seat.inside.numbers) c.args.counter Zero (returns-then-found-eq0-clause-rows c)
 
 pub exchange-requires : goal.exchange-requires
 exchange-requires c =
@@ -60,13 +64,16 @@ invariant_of-seat-then-exchange-found c =
     lost_seat c.seat.inside.token c.load-found.new.token c.exchange.new.token c.seat.inside.numbers c.number.result c.load-found.result c.exchange.result c.seat.invariant (run_of (λ k. acquiring k A1) c.counter_word-word.result c.number.result (c.counter_word-word.ensures.at) c.seat.inside.token.me.0.own c.load-found.result c.load-found.new.token.me.0.own c.load-found.ensures.went.0) c.exchange.ensures.went.0
     c.load-found.ensures.own c.exchange.ensures.own (slots_are c.load-found.ensures.went.1) (slots_are c.exchange.ensures.went.1) (let z = c.if-found-eq0.false in omega (arith, z)) c.if-exchange-found.true
 
-pub returns-then-exchange-found : goal.returns-then-exchange-found
-returns-then-exchange-found c =
+pub returns-then-exchange-found-clause-rows : goal.returns-then-exchange-found-clause-rows
+returns-then-exchange-found-clause-rows c =
     let n = c.seat.inside.numbers in let u = c.exchange.new.token in
     subst (λ (s : SeatModel). IsTried s c.args.counter Lost (seat_of u n)) c.seat.view_is
     (subst (λ k. IsTried (seat_of c.seat.inside.token n) k Lost (seat_of u n)) c.number.ensures
     (tried_lost c.seat.inside.token c.load-found.new.token u n c.number.result c.load-found.result c.exchange.result c.seat.invariant (run_of (λ k. acquiring k A1) c.counter_word-word.result c.number.result (c.counter_word-word.ensures.at) c.seat.inside.token.me.0.own c.load-found.result c.load-found.new.token.me.0.own c.load-found.ensures.went.0) c.exchange.ensures.went.0
     c.load-found.ensures.own c.exchange.ensures.own (slots_are c.load-found.ensures.went.1) (slots_are c.exchange.ensures.went.1) (let z = c.if-found-eq0.false in omega (arith, z)) c.if-exchange-found.true))
+
+pub returns-then-exchange-found-clause-caller : goal.returns-then-exchange-found-clause-caller
+returns-then-exchange-found-clause-caller c = tries c.args.seat.now (seat_of c.exchange.new.token c.seat.inside.numbers) c.args.counter Lost (returns-then-exchange-found-clause-rows c)
 
 pub overflow_add-seat : goal.overflow_add-seat
 overflow_add-seat c = let m = c.seat.invariant.token_is.most in omega arith
@@ -76,10 +83,13 @@ invariant_of-seat-2 c =
     taken_seat c.seat.inside.token c.load-found.new.token c.exchange.new.token c.seat.inside.numbers c.number.result c.load-found.result c.exchange.result c.seat.invariant (run_of (λ k. acquiring k A1) c.counter_word-word.result c.number.result (c.counter_word-word.ensures.at) c.seat.inside.token.me.0.own c.load-found.result c.load-found.new.token.me.0.own c.load-found.ensures.went.0) c.exchange.ensures.went.0
     c.load-found.ensures.own c.exchange.ensures.own (slots_are c.load-found.ensures.went.1) (slots_are c.exchange.ensures.went.1) (let z = c.if-found-eq0.false in omega (arith, z)) c.if-exchange-found.false
 
-pub returns : goal.returns
-returns c =
+pub returns-clause-rows : goal.returns-clause-rows
+returns-clause-rows c =
     let n = c.seat.inside.numbers in let u = c.exchange.new.token in let counted : Numbers = record n { taken = n.taken + 1 } in
     subst (λ (s : SeatModel). IsTried s c.args.counter Taken (seat_of u counted)) c.seat.view_is
     (subst (λ k. IsTried (seat_of c.seat.inside.token n) k Taken (seat_of u counted)) c.number.ensures
     (tried_taken c.seat.inside.token c.load-found.new.token u n c.number.result c.load-found.result c.exchange.result c.seat.invariant (run_of (λ k. acquiring k A1) c.counter_word-word.result c.number.result (c.counter_word-word.ensures.at) c.seat.inside.token.me.0.own c.load-found.result c.load-found.new.token.me.0.own c.load-found.ensures.went.0) c.exchange.ensures.went.0
     c.load-found.ensures.own c.exchange.ensures.own (slots_are c.load-found.ensures.went.1) (slots_are c.exchange.ensures.went.1) (let z = c.if-found-eq0.false in omega (arith, z)) c.if-exchange-found.false))
+
+pub returns-clause-caller : goal.returns-clause-caller
+returns-clause-caller c = let n = c.seat.inside.numbers in let counted : Numbers = record n { taken = n.taken + 1 } in tries c.args.seat.now (seat_of c.exchange.new.token counted) c.args.counter Taken (returns-clause-rows c)

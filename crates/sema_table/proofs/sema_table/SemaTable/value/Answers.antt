@@ -6,6 +6,7 @@ use Rattle.sema_table.proofs.Striding.{slots_are}
 use Rattle.sema_table.proofs.Owned.{own, counter_in, word_in, someones}
 use Rattle.sema_table.proofs.Seeing.{counter_seen}
 use Rattle.sema_table.proofs.Trying.{counter_look, looked_seat, is_value}
+use Rattle.sema_table.proofs.CallerTries.{reads_number}
 use Rattle.sema_table.proofs.sema_table.SemaTable.value.Goals as goal
 
 pub look-requires : goal.look-requires
@@ -25,10 +26,13 @@ invariant_of-seat c =
     (counter_look s.me.0.own t.me.0.own k c.counter_word-word.result c.look.result (counter_in c.self.inside s n c.self.view_is c.seat.view_is c.requires.0 c.requires.1) (omega (arith, e, w)) c.look.ensures.went.0)
     c.look.ensures.own (slots_are c.look.ensures.went.1)
 
-pub returns : goal.returns
-returns c =
+pub returns-clause-rows : goal.returns-clause-rows
+returns-clause-rows c =
     let s = c.seat.inside.token in let n = c.seat.inside.numbers in let t = c.look.new.token in let k : ℕ = c.args.counter in let e = c.number.ensures in let w = c.counter_word-word.ensures.at in
     subst (λ (q : SeatModel). IsValue q k c.look.result (seat_of t n)) c.seat.view_is
     (is_value s t n k c.look.result c.seat.invariant
     (counter_look s.me.0.own t.me.0.own k c.counter_word-word.result c.look.result (counter_in c.self.inside s n c.self.view_is c.seat.view_is c.requires.0 c.requires.1) (omega (arith, e, w)) c.look.ensures.went.0)
     c.look.ensures.own (slots_are c.look.ensures.went.1))
+
+pub returns-clause-caller : goal.returns-clause-caller
+returns-clause-caller c = reads_number c.args.seat.now (seat_of c.look.new.token c.seat.inside.numbers) c.args.counter c.look.result (returns-clause-rows c)

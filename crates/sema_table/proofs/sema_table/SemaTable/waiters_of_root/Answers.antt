@@ -9,6 +9,7 @@ use Rattle.running_rows.specs.Owing.{IsSeen}
 use Rattle.sema_table.specs.Rows.{semaphore_rows}
 use Rattle.sema_table.proofs.Seeing.{waiters_seen}
 use Rattle.sema_table.proofs.Trying.{waiters_look, looked_seat, is_waiters}
+use Rattle.sema_table.proofs.CallerTries.{counts_waits}
 use Rattle.sema_table.proofs.sema_table.SemaTable.waiters_of_root.Goals as goal
 
 pub look-requires : goal.look-requires
@@ -32,11 +33,14 @@ invariant_of-seat c =
     looked_seat s t n (Waiters (root s.me.0.own.knows.setting k)) c.look.result c.seat.invariant
     (waiters_look s.me.0.own t.me.0.own k c.waiter_word-word.result c.look.result (some_root c.self.inside s c.self.invariant at) lies c.look.ensures.went.0) c.look.ensures.own (slots_are c.look.ensures.went.1)
 
-pub returns : goal.returns
-returns c =
+pub returns-clause-rows : goal.returns-clause-rows
+returns-clause-rows c =
     let s = c.seat.inside.token in let n = c.seat.inside.numbers in let t = c.look.new.token in let k : ℕ = c.args.counter in
     let at = own c.self.inside s n c.self.view_is c.seat.view_is c.requires.0 in
     let lies : address s.me.0.own.knows.setting (Waiters k) ≡ c.waiter_word-word.result = ap (λ (t : TableModel). address t.setting (Waiters k)) (at ∙ c.self.view_is) ∙ sym c.waiter_word-word.ensures.at in
     subst (λ (q : SeatModel). IsWaiters q k c.look.result (seat_of t n)) c.seat.view_is
     (is_waiters s t n k c.look.result c.seat.invariant
     (waiters_look s.me.0.own t.me.0.own k c.waiter_word-word.result c.look.result (some_root c.self.inside s c.self.invariant at) lies c.look.ensures.went.0) c.look.ensures.own (slots_are c.look.ensures.went.1))
+
+pub returns-clause-caller : goal.returns-clause-caller
+returns-clause-caller c = counts_waits c.args.seat.now (seat_of c.look.new.token c.seat.inside.numbers) c.args.counter c.look.result (returns-clause-rows c)

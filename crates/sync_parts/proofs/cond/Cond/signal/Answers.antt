@@ -8,3 +8,6 @@ returns-clause-some g c = c.one.ensures.some
 
 pub returns-clause-none : goal.returns-clause-none
 returns-clause-none g c = c.one.ensures.none
+
+pub returns-clause-caller : goal.returns-clause-caller
+returns-clause-caller g c = c.one.ensures.caller

@@ -4,5 +4,8 @@ use Rattle.sync_parts.proofs.cond.Cond.wait.Goals as goal
 pub returns-clause-waited : goal.returns-clause-waited
 returns-clause-waited g c = search rules
 
+pub returns-clause-caller : goal.returns-clause-caller
+returns-clause-caller g c = search rules
+
 pub lock-requires : goal.lock-requires
 lock-requires g c = search rules

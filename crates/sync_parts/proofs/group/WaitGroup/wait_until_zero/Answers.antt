@@ -23,7 +23,7 @@ invariant_of-result-then-eq g c = let counted = c.if-not-count_unless_zero.ensur
   free = free_after c.args.token (V2 c.args.word) c.count_unless_zero.new.token c.load.new.token c.load.result counted c.load.ensures;
   number = ap (λ (m : Me). m.0.own.number) c.load.ensures.me_is ∙ counted.1.number_is ∙ c.requires.one
       ∙ sym (acquired_number c.args.sema c.acquire-sema.result
-      (subst (λ (k : ℕ). IsAcquired c.args.sema k false c.acquire-sema.result) c.new.ensures c.acquire-sema.ensures));
+      (subst (λ (k : ℕ). IsAcquired c.args.sema k false c.acquire-sema.result) c.new.ensures c.acquire-sema.ensures.rows));
 }
 
 pub invariant_of-result-2 : goal.invariant_of-result-2
@@ -32,7 +32,7 @@ invariant_of-result-2 g c = let counted = c.if-not-count_unless_zero.ensures in 
   free = free_after c.args.token (V2 c.args.word) c.count_unless_zero.new.token c.load.new.token c.load.result counted c.load.ensures;
   number = ap (λ (m : Me). m.0.own.number) c.load.ensures.me_is ∙ counted.1.number_is ∙ c.requires.one
       ∙ sym (acquired_number c.args.sema c.acquire-sema.result
-      (subst (λ (k : ℕ). IsAcquired c.args.sema k false c.acquire-sema.result) c.new.ensures c.acquire-sema.ensures));
+      (subst (λ (k : ℕ). IsAcquired c.args.sema k false c.acquire-sema.result) c.new.ensures c.acquire-sema.ensures.rows));
 }
 
 pub returns-then-not-count_unless_zero : goal.returns-then-not-count_unless_zero
@@ -43,7 +43,7 @@ returns-then-not-count_unless_zero g c = λ s some y.
 pub returns-then-eq : goal.returns-then-eq
 returns-then-eq g c = λ s some y.
     let u = c.count_unless_zero.new.token in let b = c.acquire-sema.result in
-    let acquired = subst (λ (k : ℕ). IsAcquired c.args.sema k false b) c.new.ensures c.acquire-sema.ensures in
+    let acquired = subst (λ (k : ℕ). IsAcquired c.args.sema k false b) c.new.ensures c.acquire-sema.ensures.rows in
     inr (waited s u c.load.new.token c.args.sema b
     (then_counted s c.args.token c.args.word some y u c.if-not-count_unless_zero.ensures) acquired
     c.load.result c.load.ensures (sym c.eq.ensures ∙ c.if-eq.true))
@@ -51,7 +51,7 @@ returns-then-eq g c = λ s some y.
 pub returns : goal.returns
 returns g c = λ s some y.
     let u = c.count_unless_zero.new.token in let b = c.acquire-sema.result in
-    let acquired = subst (λ (k : ℕ). IsAcquired c.args.sema k false b) c.new.ensures c.acquire-sema.ensures in
+    let acquired = subst (λ (k : ℕ). IsAcquired c.args.sema k false b) c.new.ensures c.acquire-sema.ensures.rows in
     let told = reused s u c.load.new.token c.args.sema b
     (then_counted s c.args.token c.args.word some y u c.if-not-count_unless_zero.ensures) acquired
     c.load.result c.load.ensures (sym c.eq.ensures ∙ c.if-eq.false) in (refl, (c.load.result, told.0, told.1))

@@ -10,16 +10,16 @@ invariant_of-self c =
     let i = c.self.inside in let s = c.in-Some-Some.mine in
     let seat_is : i.seat ≡ Some s = cc in
     let is : IsLock i.table.now (Some s) i.counter i.held = rw (← seat_is) c.self.invariant in
-    looked_keeps i.table.now s c.meet.new.one (Counter 0) c.meet.ensures.number i.counter i.held is (sym c.taken.ensures.counted
-    ∙ c.taken.ensures.taken) c.meet.ensures.one_looked
+    looked_keeps i.table.now s c.meet.new.one (Counter 0) c.meet.ensures.rows.number i.counter i.held is (sym c.taken.ensures.counted
+    ∙ c.taken.ensures.taken) c.meet.ensures.rows.one_looked
 
 pub invariant_of-other : goal.invariant_of-other
 invariant_of-other c =
     let i = c.other.inside in let s = c.in-Some-Some.theirs in
     let seat_is : i.seat ≡ Some s = cc in
     let is : IsLock i.table.now (Some s) i.counter i.held = rw (← seat_is) c.other.invariant in
-    looked_keeps i.table.now s c.meet.new.other (Counter 0) c.meet.ensures.number i.counter i.held is
-    (sym c.taken-2.ensures.counted ∙ c.taken-2.ensures.taken) c.meet.ensures.other_looked
+    looked_keeps i.table.now s c.meet.new.other (Counter 0) c.meet.ensures.rows.number i.counter i.held is
+    (sym c.taken-2.ensures.counted ∙ c.taken-2.ensures.taken) c.meet.ensures.rows.other_looked
 
 pub returns : goal.returns
 returns c =
@@ -38,4 +38,4 @@ returns c =
     subst (λ (l : LockModel × LockModel). HaveMet l.0 l.1 (lock_of i.table.now (Some t) i.counter i.held) (lock_of k.table.now
     (Some u) k.counter k.held)) (λ j. (was j, its_was j))
     (have_met i.table.now k.table.now s o t u i.counter k.counter i.held k.held is its
-    (sym c.taken.ensures.counted ∙ c.taken.ensures.taken) (sym c.taken-2.ensures.counted ∙ c.taken-2.ensures.taken) same c.meet.ensures)
+    (sym c.taken.ensures.counted ∙ c.taken.ensures.taken) (sym c.taken-2.ensures.counted ∙ c.taken-2.ensures.taken) same c.meet.ensures.rows)

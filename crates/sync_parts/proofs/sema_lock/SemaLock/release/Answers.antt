@@ -10,8 +10,8 @@ returns g c =
     let i = c.self.inside in let s = c.in-Some.seat in let t = c.in-Ok.seat in let wake = c.in-Ok.field-0-1 in
     let seat_is : i.seat ≡ Some s = cc in
     let is : IsLock i.table.now (Some s) i.counter i.held = rw (← seat_is) c.self.invariant in
-    let released : IsReleased s i.counter false t wake = c.in-Ok.ensures.answer.1 in
-    let some : 0 < s.left = c.in-Ok.ensures.answer.0 in
+    let released : IsReleased s i.counter false t wake = c.in-Ok.ensures.rows.1 in
+    let some : 0 < s.left = c.in-Ok.ensures.rows.0 in
     let was : lock_of i.table.now (Some s) i.counter i.held ≡ c.args.self.now = ap (λ x. lock_of i.table.now x i.counter i.held)
     (sym seat_is) ∙ c.self.view_is in
     subst (λ (l : LockModel). HasUnlocked l (lock_of i.table.now (Some t) i.counter false)) was
