@@ -4,6 +4,9 @@ use Rattle.notify_list.specs.declared.notify_list.NotifyList.TheInside.{Inside}
 use Rattle.notify_list.specs.Seats.{ListModel, SeatModel, Token, list_of, seat_of}
 use Rattle.notify_list.specs.Shared.{IsList, list_by}
 use Rattle.running_rows.specs.Rule.{IsSomeones}
+use Rattle.running_rows.specs.Owing.{IsAside}
+use Rattle.notify_list.specs.Setting.{words_shown}
+use Rattle.notify_list.proofs.Words.{wakes_aside}
 use Rattle.notify_list.specs.Rows.{list_rows}
 
 abbrev pub Made : Inside → Type 0
@@ -25,4 +28,12 @@ pub owned : (x : Inside) → Made x → (s : Token) → list_of s ≡ list_by x 
 owned x made s own = (
   ap (λ (y : ListModel). y.id) own,
   subst (λ (y : ListModel). 0 < y.setting.seats) (sym own) (let a = made.some in let c = made.seated in omega arith),
+)
+
+-- a word behind those of which the world knows
+pub aside_in : (x : Inside) {t : ListModel} {i : ℕ} (k : ℕ) → list_by x ≡ t → i ≡ words_shown t.setting + k → i < t.id.words
+    → (i < x.words.table.shared.table_id.words) × IsAside list_rows x.words.table.shared.key i
+aside_in x k is at low = (
+  (let w = ap (λ (y : ListModel). y.id.words) is in omega arith),
+  wakes_aside _ _ (let z = ap (λ (y : ListModel). y.setting.seats) is in omega arith),
 )

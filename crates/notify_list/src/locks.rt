@@ -11,6 +11,7 @@ impl NotifyList {
         requires { MayLock self.now token.old }
         ensures { Locked token.old token.new }
     {
-        self.words.take_lock::<AtWait, R>(rt, token, LOCK);
+        self.words
+            .take_lock::<AtWait, R>(rt, token, LOCK, self.sleepers_word());
     }
 }

@@ -69,7 +69,7 @@ impl NotifyList {
     {
         self.remove_all(token, hand);
         // Given back before the first waiter is told: told earlier, it would run into the lock that is still held.
-        self.words.give_lock(token, LOCK);
+        self.words.give_lock(token, LOCK, self.sleepers_word());
     }
 
     /// L8 for each wait in hand, of which these are the seats.

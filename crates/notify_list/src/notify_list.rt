@@ -1,7 +1,7 @@
 //! The list that the threads of a caller share.
 ghost use Rattle.std.specs.Prelude.{◌≡◌, ◌<◌};
 ghost use Rattle.step_table.specs.declared.list_place.ListWord.TheVariants.{Grant};
-ghost use Rattle.notify_list.specs.Setting.{address, asleep_address};
+ghost use Rattle.notify_list.specs.Setting.{address, asleep_address, misses_address, sleepers_address};
 
 use crate::rows::ListRows;
 use crate::stride::Stride;
@@ -61,5 +61,24 @@ impl NotifyList {
         ensures low { result < self.now.id.words }
     {
         GRANTS + self.seats as usize + seat as usize
+    }
+
+    /// Where the word lies that tells how many waits of late a seat looked for a grant in vain.
+    pub(crate) fn misses_word(&self, seat: u16) -> usize
+        requires { seat < self.now.setting.seats }
+        ensures at { result ≡ misses_address self.now.setting seat }
+        ensures low { result < self.now.id.words }
+    {
+        let seats = self.seats as usize;
+        GRANTS + seats + (seats + seat as usize)
+    }
+
+    /// Where the word lies that counts the threads that sleep at the lock.
+    pub(crate) fn sleepers_word(&self) -> usize
+        ensures at { result ≡ sleepers_address self.now.setting }
+        ensures low { result < self.now.id.words }
+    {
+        let seats = self.seats as usize;
+        GRANTS + seats + (seats + seats)
     }
 }

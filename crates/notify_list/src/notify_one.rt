@@ -44,7 +44,8 @@ impl NotifyList {
         // twice and leave the next one out.
         let ticket = self.words.load::<Here>(&mut seat.token, NOTIFY);
         if self.words.load::<Here>(&mut seat.token, WAIT) == ticket {
-            self.words.give_lock(&mut seat.token, LOCK);
+            self.words
+                .give_lock(&mut seat.token, LOCK, self.sleepers_word());
             return None;
         }
         self.grant_one(&mut seat.token, ticket);
@@ -60,7 +61,7 @@ impl NotifyList {
         self.words.store::<Here>(token, NOTIFY, next_word(ticket));
         let waiter = self.remove(token, ticket);
         // Given back before the waiter is told: told earlier, it would run into the lock that is still held.
-        self.words.give_lock(token, LOCK);
+        self.words.give_lock(token, LOCK, self.sleepers_word());
         if let Some(seat) = waiter {
             self.words
                 .grant(token, grant_word(seat), self.asleep_word(seat), 1);

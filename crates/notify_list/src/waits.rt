@@ -39,17 +39,19 @@ impl NotifyList {
         // was granted in between would sleep for good.
         let notified = self.words.load::<Here>(&mut token, NOTIFY);
         if less(ticket, notified) {
-            self.words.give_lock(&mut token, LOCK);
+            self.words.give_lock(&mut token, LOCK, self.sleepers_word());
             return (ListSeat { token, number }, Waited::AtOnce);
         }
         let seat = SeatId::new(number);
         let id = WaitId { seat, turn: 0 };
         // Queued in the hold of the lock in which the ticket was found ungranted: who grants it finds the wait.
         self.insert(&mut token, waiters::Wait { id, ticket });
-        self.words.give_lock(&mut token, LOCK);
+        self.words.give_lock(&mut token, LOCK, self.sleepers_word());
+        let grant = grant_word(number);
         let asleep = self.asleep_word(number);
+        let misses = self.misses_word(number);
         self.words
-            .take_when_granted(rt, &mut token, grant_word(number), asleep, &PATIENCE);
+            .take_when_granted(rt, &mut token, grant, asleep, misses, &PATIENCE);
         (ListSeat { token, number }, Waited::Parked)
     }
 }

@@ -142,14 +142,14 @@ module _ {S V T K : Type 0} (f : Family S V T K) (k : f.Key) where
       }
 
   -- a word of which the world knows nothing may be written
-  pub allowed_aside : (slots id i x : ℕ) (m : Me S (View V T)) → IsAside f k i → Allows (IsKept f k) slots id m i (λ _. x) (λ _ t. t ≡ m)
-  allowed_aside slots id i x m aside s r sized at below = (
+  pub allowed_aside_by : (slots id i : ℕ) (m : Me S (View V T)) (g : ℕ → ℕ) → IsAside f k i → Allows (IsKept f k) slots id m i g (λ _ t. t ≡ m)
+  allowed_aside_by slots id i m g aside s r sized at below = (
     m.0,
     keeps,
     tt,
-    subst (λ (views : List (View V T)). IsKept f k (record { words = set s.words i x; homes = s.homes; views = views })) (sym (set_again s.views id m.0 at)) record {
+    subst (λ (views : List (View V T)). IsKept f k (record { words = set s.words i (g (slice_index s.words i)); homes = s.homes; views = views })) (sym (set_again s.views id m.0 at)) record {
       world = r.world;
-      shows = aside r.world s.words s.homes x r.shows;
+      shows = aside r.world s.words s.homes (g (slice_index s.words i)) r.shows;
       history = r.history;
       writes = r.writes;
       by_seats = r.by_seats;
@@ -163,3 +163,6 @@ module _ {S V T K : Type 0} (f : Family S V T K) (k : f.Key) where
     },
     refl,
   )
+
+  pub allowed_aside : (slots id i x : ℕ) (m : Me S (View V T)) → IsAside f k i → Allows (IsKept f k) slots id m i (λ _. x) (λ _ t. t ≡ m)
+  allowed_aside slots id i x m = allowed_aside_by slots id i m (λ _. x)

@@ -21,11 +21,13 @@ use std::marker::PhantomData;
 use std::sync::Wait;
 use std::{hint, thread};
 
-/// How long a thread looks for its grant before it sleeps: a grant that comes meanwhile costs no call of the kernel.
+/// How long a thread looks for its grant before it sleeps: a grant that comes meanwhile costs no call of the kernel. After waits in
+/// which it looked in vain it looks the less, and from time to time as long as at first: on a busy machine who grants may be off its
+/// processor for longer than anybody should look.
 pub struct Patience {
     pub rounds: u32,
     /// How many looks a round has.
-    pub looks: u32,
+    pub looks: u64,
     /// Whether the thread lets others run after a round.
     pub yields: Yields,
 }
@@ -39,6 +41,22 @@ pub enum Yields {
     Crowded { ahead: usize, behind: usize },
 }
 
+/// Of so many waits in vain, one after the other, one looks as long as the first.
+const PROBE: u64 = 32;
+/// So often halved, the looks are few.
+const HALVINGS: u64 = 8;
+
+impl Patience {
+    /// How many looks a round has after so many waits in vain.
+    fn looks_after(&self, missed: u64) -> u64 {
+        if missed % PROBE == 0 {
+            self.looks
+        } else {
+            self.looks >> missed.min(HALVINGS)
+        }
+    }
+}
+
 impl<S, V, T, K, R: Rows<S, V, T, K>> Running<S, View<V, T>, K, OneWorld<R>> {
     /// Looks at a word at most so often: whether it is above 0. The first argument has no bytes: it names the type of views, for
     /// whose size a caller answers.
@@ -47,7 +65,7 @@ impl<S, V, T, K, R: Rows<S, V, T, K>> Running<S, View<V, T>, K, OneWorld<R>> {
         &self,
         _views: PhantomData<View<V, T>>,
         word: usize,
-        looks: u32,
+        looks: u64,
     ) -> bool
         requires { word < self.now.table.shared.table_id.words }
     {
@@ -68,18 +86,33 @@ impl<S, V, T, K, R: Rows<S, V, T, K>> Running<S, View<V, T>, K, OneWorld<R>> {
         self.table.shared.peek(ahead).wrapping_sub(last) > 1
     }
 
-    /// Looks at a grant for as long as the thread has patience: whether it is above 0.
-    fn is_granted_soon(&self, token: &Token<S, V, T>, word: usize, patience: &Patience) -> bool
+    /// Looks at a grant for as long as the thread has patience after so many waits in vain: whether it is above 0.
+    fn is_granted_soon(
+        &self,
+        token: &Token<S, V, T>,
+        word: usize,
+        patience: &Patience,
+        missed: u64,
+    ) -> bool
         requires { (word < self.now.table.shared.table_id.words) × AreThere self.now.table.shared.table_id.words patience.now.yields }
     {
         for _ in 0..patience.rounds {
-            if self.is_above_zero_soon(PhantomData, word, patience.looks) {
+            let crowded = match patience.yields {
+                Yields::Never => false,
+                Yields::Crowded { ahead, behind } => self.is_crowded(token, ahead, behind),
+            };
+            let looks = if crowded {
+                patience.looks
+            } else {
+                patience.looks_after(missed)
+            };
+            if self.is_above_zero_soon(PhantomData, word, looks) {
                 return true;
             }
-            if let Yields::Crowded { ahead, behind } = patience.yields {
-                if self.is_crowded(token, ahead, behind) {
-                    thread::yield_now();
-                }
+            if crowded {
+                thread::yield_now();
+            } else if missed != 0 {
+                return false;
             }
         }
         false
@@ -92,18 +125,26 @@ impl<S, V, T, K, R: Rows<S, V, T, K>> Running<S, View<V, T>, K, OneWorld<R>> {
         token: &mut Token<S, V, T>,
         word: usize,
         asleep: usize,
+        misses: usize,
         patience: &Patience,
     )
         requires own { token.old.table_id ≡ self.now.table.shared.table_id }
-        requires words { (word < self.now.table.shared.table_id.words) × (asleep < self.now.table.shared.table_id.words) }
+        requires words { (word < self.now.table.shared.table_id.words) × (asleep < self.now.table.shared.table_id.words)
+            × (misses < self.now.table.shared.table_id.words) }
         requires yields { AreThere self.now.table.shared.table_id.words patience.now.yields }
-        requires aside { IsAside R.family (R.family.key self.now.table.shared.key) asleep }
+        requires aside { IsAside R.family (R.family.key self.now.table.shared.key) asleep
+            × IsAside R.family (R.family.key self.now.table.shared.key) misses }
         ensures same { (token.new.table_id ≡ token.old.table_id) × (token.new.me ≡ token.old.me) }
     {
-        if self.is_granted_soon(token, word, patience) {
+        let shared = &self.table.shared;
+        let missed = shared.peek(misses);
+        if self.is_granted_soon(token, word, patience, missed) {
+            if missed != 0 {
+                shared.store::<SetsAside>(token, misses, 0);
+            }
             return;
         }
-        let shared = &self.table.shared;
+        shared.store::<SetsAside>(token, misses, missed.wrapping_add(1));
         // Set before `park` looks at the grant: who grants after that look finds it, and wakes.
         shared.store::<SetsAside>(token, asleep, 1);
         shared.park(rt, word, 0);
@@ -117,12 +158,15 @@ impl<S, V, T, K, R: Rows<S, V, T, K>> Running<S, View<V, T>, K, OneWorld<R>> {
         token: &mut Token<S, V, T>,
         word: usize,
         asleep: usize,
+        misses: usize,
         patience: &Patience,
     ) -> u64
         requires own { (token.old.table_id ≡ self.now.table.shared.table_id) × IsSomeones R.family token.old.me.0 }
-        requires words { (word < self.now.table.shared.table_id.words) × (asleep < self.now.table.shared.table_id.words) }
+        requires words { (word < self.now.table.shared.table_id.words) × (asleep < self.now.table.shared.table_id.words)
+            × (misses < self.now.table.shared.table_id.words) }
         requires yields { AreThere self.now.table.shared.table_id.words patience.now.yields }
-        requires aside { IsAside R.family (R.family.key self.now.table.shared.key) asleep }
+        requires aside { IsAside R.family (R.family.key self.now.table.shared.key) asleep
+            × IsAside R.family (R.family.key self.now.table.shared.key) misses }
         requires owes { Owes R.family (R.family.key self.now.table.shared.key) token.old.me word (λ _. 0)
             (awaits R.family (step self.now.table.shared.table_id.slots word 0 0 none) token.old.me) }
         ensures own { token.new.table_id ≡ token.old.table_id }
@@ -130,7 +174,7 @@ impl<S, V, T, K, R: Rows<S, V, T, K>> Running<S, View<V, T>, K, OneWorld<R>> {
         ensures went { RanRow R.family here token.old.me result token.new.me }
     {
         for _ in rt.forever() {
-            self.await_grant(rt, token, word, asleep, patience);
+            self.await_grant(rt, token, word, asleep, misses, patience);
             // Taken in the same step: a grant that stayed would wake the seat's next wait too.
             let found = self.table.shared.swap::<Awaits<R, K>>(token, word, 0);
             if found != 0 {

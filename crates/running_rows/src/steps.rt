@@ -3,12 +3,12 @@ ghost use Rattle.std.specs.Prelude.{◌≡◌, ◌==◌, ◌+◌, ◌-◌, ◌%�
 ghost use mathlib.Core.Option.{none};
 ghost use prog.Atomic.{either};
 ghost use Rattle.atomic_table.specs.Table.{step};
-ghost use Rattle.running_rows.specs.Strides.{looks_at, goes, stores, gives, receives};
+ghost use Rattle.running_rows.specs.Strides.{looks_at, goes, stores, receives};
 ghost use Rattle.running_rows.specs.Rule.{IsSomeones};
 ghost use Rattle.running_rows.specs.Owing.{Owes, IsSeen};
 
 use crate::families::{Rows, Start};
-use crate::plays::{Gives, Goes, Looks, Receives, Stores};
+use crate::plays::{Goes, Looks, Receives, Stores};
 use crate::rule::OneWorld;
 use crate::running::Running;
 use crate::view::{Token, View};
@@ -106,19 +106,6 @@ impl<S, V, T, K, R: Rows<S, V, T, K>> Running<S, View<V, T>, K, OneWorld<R>> {
         ensures went { stores R.family A.at (step self.now.table.shared.table_id.slots word new 0 none) token.old.me new token.new.me }
     {
         self.table.shared.store::<Stores<A, R, K>>(token, word, new);
-    }
-
-    /// A row that gives a lock back, and with it the record that was taken last.
-    #[inline]
-    pub fn give_lock(&self, token: &mut Token<S, V, T>, word: usize)
-        requires own { (token.old.table_id ≡ self.now.table.shared.table_id) × IsSomeones R.family token.old.me.0 }
-        requires word { word < self.now.table.shared.table_id.words }
-        requires owes { Owes R.family (R.family.key self.now.table.shared.key) token.old.me word (λ _. 0)
-            (λ _. gives R.family (step self.now.table.shared.table_id.slots word 0 0 none) token.old.me 0) }
-        ensures own { token.new.table_id ≡ token.old.table_id }
-        ensures went { gives R.family (step self.now.table.shared.table_id.slots word 0 0 none) token.old.me 0 token.new.me }
-    {
-        self.table.shared.store::<Gives<R, K>>(token, word, 0);
     }
 
     /// A look at a grant where it is 0, and else the row that takes it: what it found.

@@ -42,8 +42,8 @@ first_words z n (Lock c) h = behind z.starts n (root z c) (address z (Lock c)) r
 first_words z n (Waiters c) h = behind z.starts n (z.roots + root z c) (address z (Waiters c)) (omega arith)
 first_words z n (Grant s) h = behind z.starts n (z.roots + z.roots + s) (address z (Grant s)) (omega arith)
 
-pub words_long : (z : Setting) → length (apart z.starts ++ replicate (z.roots + z.roots + z.seats + z.seats) 0) ≡ words_in z
-words_long z = length-append (apart z.starts) (replicate (z.roots + z.roots + z.seats + z.seats) 0) ∙ (λ i. length_apart z.starts i + length-replicate {A = ℕ} (z.roots + z.roots + z.seats + z.seats) 0 i) ∙ omega arith
+pub words_long : (z : Setting) → length (apart z.starts ++ replicate (z.roots + z.roots + z.seats + z.seats + z.seats + z.roots) 0) ≡ words_in z
+words_long z = length-append (apart z.starts) (replicate (z.roots + z.roots + z.seats + z.seats + z.seats + z.roots) 0) ∙ (λ i. length_apart z.starts i + length-replicate {A = ℕ} (z.roots + z.roots + z.seats + z.seats + z.seats + z.roots) 0 i) ∙ omega arith
 
 small_starts : (xs : List ℕ) → All (λ n. n < 2 ^ 32) xs → (c : ℕ) → slice_index_or xs c 0 < 2 ^ 32
 small_starts xs all c = dite (dec_le (length xs) c) (λ l. let e = get_or_past xs c 0 l in omega (arith, e)) (λ n. all c 0 (lt_of_not-le n))
@@ -79,13 +79,13 @@ module _ (z : Setting) where
 
   -- words as they are made are those of the first world, and the roots are empty
   pub opens : 0 < z.roots → 0 < z.seats → z.seats ≤ 256 → length z.starts ≤ 65536 → All (λ n. n < 2 ^ 32) z.starts
-      → Opens semaphore_rows z (apart z.starts ++ replicate (z.roots + z.roots + z.seats + z.seats) 0) (map some (new_roots z.seats z.seed z.roots))
+      → Opens semaphore_rows z (apart z.starts ++ replicate (z.roots + z.roots + z.seats + z.seats + z.seats + z.roots) 0) (map some (new_roots z.seats z.seed z.roots))
   opens rooted seated most counted starts = record {
     world = first;
     shows = record {
       reached = none;
       small = record { seats = most; starts = small_starts z.starts starts; few = λ k h. omega arith };
-      words = first_words z (z.roots + z.roots + z.seats + z.seats);
+      words = first_words z (z.roots + z.roots + z.seats + z.seats + z.seats + z.roots);
       homes = λ r h free. (
         _,
         listed (λ q. new_root z.seats ((z.seed + q) % 2 ^ 64)) 0 z.roots r h,

@@ -33,13 +33,21 @@ word_at z i =
 abbrev pub words_shown : Setting → ℕ
 words_shown z = 8 * length z.starts + z.roots + z.roots + z.seats
 
--- behind them lies a word of each seat of which the world knows nothing: above 0 while the seat's thread sleeps
+-- behind them lie words of which the world knows nothing. One of each seat is above 0 while the seat's thread sleeps
 abbrev pub asleep_address : Setting → ℕ → ℕ
 asleep_address z s = words_shown z + s
 
+-- and one tells how many waits of late the seat looked for a grant in vain
+abbrev pub misses_address : Setting → ℕ → ℕ
+misses_address z s = words_shown z + (z.seats + s)
+
+-- one of each root counts the threads that sleep at its lock
+abbrev pub sleepers_address : Setting → ℕ → ℕ
+sleepers_address z c = words_shown z + (z.seats + z.seats + root z c)
+
 -- how many words there are
 abbrev pub words_in : Setting → ℕ
-words_in z = words_shown z + z.seats
+words_in z = words_shown z + z.seats + z.seats + z.roots
 
 -- numbers that lie a cache line apart
 abbrev pub apart : List ℕ → List ℕ

@@ -17,8 +17,9 @@ impl SemaTable {
         ensures { Locked token.old place.now token.new }
     {
         let word = self.lock_word(counter);
+        let sleepers = self.sleepers_word(counter);
         let begins = Record::Begins(*place);
         self.words
-            .take_lock_for::<AtSaid, R>(rt, token, word, &begins);
+            .take_lock_for::<AtSaid, R>(rt, token, word, sleepers, &begins);
     }
 }

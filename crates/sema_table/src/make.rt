@@ -72,12 +72,12 @@ fn first_words(alloc: Global, settings: &Settings) -> Result<Vec<u64>, AllocErro
     requires { AreAllowed settings.now }
     ensures words { IfOk result (λ words. words.items
         ≡ apart settings.now.starts.items
-        ++ replicate (settings.now.roots + settings.now.roots + settings.now.seats + settings.now.seats) 0) }
+        ++ replicate (settings.now.roots + settings.now.roots + settings.now.seats + settings.now.seats + settings.now.seats + settings.now.roots) 0) }
     ensures starts { OnOk result (All (λ start. start < 2 ^ 32) settings.now.starts.items) }
 {
     let roots = settings.roots as usize;
     let seats = settings.seats as usize;
-    let others = roots + roots + seats + seats;
+    let others = roots + roots + seats + seats + seats + roots;
     let all = 8 * settings.starts.len() + others;
     let mut words = Vec::with_capacity(alloc, all)?;
     for start in &settings.starts {

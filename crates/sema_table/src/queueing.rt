@@ -124,7 +124,8 @@ impl SemaTable {
         ensures { Moves token.old (Acquiring call.now A9) token.new Rest × (token.new.me.1 ≡ []) }
     {
         let word = self.lock_word(call.counter);
-        self.words.give_lock(token, word);
+        let sleepers = self.sleepers_word(call.counter);
+        self.words.give_lock(token, word, sleepers);
     }
 
     /// A7. Queued in the hold of the lock in which 0 was read: a release that saw the waiter word waits for this lock, and finds
@@ -140,6 +141,7 @@ impl SemaTable {
     {
         self.insert(token, call, wait);
         let word = self.lock_word(call.counter);
-        self.words.give_lock(token, word);
+        let sleepers = self.sleepers_word(call.counter);
+        self.words.give_lock(token, word, sleepers);
     }
 }

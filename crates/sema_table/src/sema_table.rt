@@ -1,7 +1,7 @@
 //! The table that the threads of a caller share.
 ghost use Rattle.std.specs.Prelude.{◌≡◌, ◌*◌, ◌^◌, ◌<◌, length};
 ghost use Rattle.step_table.specs.declared.word.Word.TheVariants.{Lock, Waiters, Grant};
-ghost use Rattle.sema_table.specs.Setting.{root, address, asleep_address};
+ghost use Rattle.sema_table.specs.Setting.{root, address, words_shown, asleep_address, misses_address, sleepers_address};
 
 use crate::make::MAX_ROOTS;
 use crate::rows::Semaphores;
@@ -102,13 +102,40 @@ impl SemaTable {
         counter_word(self.counters) + roots + roots + seat as usize
     }
 
+    /// Where the words begin of which the world knows nothing.
+    fn words_aside(&self) -> usize
+        ensures at { result ≡ words_shown self.now.setting }
+        ensures low { result < 2 ^ 36 }
+    {
+        let roots = self.roots as usize;
+        counter_word(self.counters) + roots + roots + self.seats as usize
+    }
+
+    /// Where the word lies that tells how many waits of late a seat looked for a grant in vain.
+    pub(crate) fn misses_word(&self, seat: u16) -> usize
+        requires { seat < self.now.setting.seats }
+        ensures at { result ≡ misses_address self.now.setting seat }
+        ensures low { result < self.now.id.words }
+    {
+        self.words_aside() + (self.seats as usize + seat as usize)
+    }
+
+    /// Where the word lies that counts the threads that sleep at the lock of a counter's root.
+    pub(crate) fn sleepers_word(&self, counter: CounterId) -> usize
+        ensures at { result ≡ sleepers_address self.now.setting counter }
+        ensures low { result < self.now.id.words }
+    {
+        let seats = self.seats as usize;
+        self.words_aside() + (seats + seats + self.root_of(counter))
+    }
+
     /// Where the word lies that tells whether a seat's thread sleeps.
     pub(crate) fn asleep_word(&self, seat: u16) -> usize
         requires { seat < self.now.setting.seats }
         ensures at { result ≡ asleep_address self.now.setting seat }
         ensures low { result < self.now.id.words }
     {
-        let roots = self.roots as usize;
-        counter_word(self.counters) + roots + roots + self.seats as usize + seat as usize
+        let _ = &self.words;
+        self.words_aside() + seat as usize
     }
 }

@@ -34,8 +34,9 @@ impl SemaTable {
             let seat = numbers.id().number();
             let word = self.grant_word(seat);
             let asleep = self.asleep_word(seat);
+            let misses = self.misses_word(seat);
             self.words
-                .await_grant(rt, &mut token, word, asleep, &PATIENCE);
+                .await_grant(rt, &mut token, word, asleep, misses, &PATIENCE);
             let awake = Sleeping {
                 token,
                 numbers,

@@ -9,7 +9,7 @@ use waiters::CounterId;
 /// How many rounds a spin looks.
 const ROUNDS: u32 = 10;
 /// How often it looks in a round.
-const LOOKS: u32 = 50;
+const LOOKS: u64 = 50;
 
 impl SemaTable {
     /// Looks for a while whether the counter has a unit, and lets other threads run after each round (the spinning of Go's

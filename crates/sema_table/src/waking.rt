@@ -124,7 +124,8 @@ impl SemaTable {
         ensures { Moves token.old (Releasing call.now R6) token.new (unlocked token.old call.now) × (token.new.me.1 ≡ []) }
     {
         let word = self.lock_word(call.counter);
-        self.words.give_lock(token, word);
+        let sleepers = self.sleepers_word(call.counter);
+        self.words.give_lock(token, word, sleepers);
     }
 
     /// R7 and R8 of a release with handoff, and else nothing: whether a unit was taken for the wait in hand.

@@ -128,7 +128,8 @@ impl SemaTable {
         ensures there { All (λ w. w.seat < self.now.setting.seats) token.new.me.0.own.knows.hand }
     {
         let word = self.lock_word(call.counter);
-        self.words.give_lock(token, word);
+        let sleepers = self.sleepers_word(call.counter);
+        self.words.give_lock(token, word, sleepers);
     }
 
     /// M7 for each wait in hand, of which these are the seats.

@@ -6,7 +6,7 @@ use Rattle.step_table.specs.declared.list_place.ListWord.TheVariants.{Grant}
 use Rattle.waiters.specs.declared.wait.Wait.{Wait}
 use Rattle.notify_list.specs.Seats.{ListModel, list_of, stands_of}
 use Rattle.notify_list.specs.Shared.{list_by}
-use Rattle.notify_list.proofs.Owned.{low_word, grant_low, owned}
+use Rattle.notify_list.proofs.Owned.{low_word, grant_low, owned, aside_in}
 use Rattle.notify_list.proofs.Allowing.{stores_at, grants_at}
 use Rattle.notify_list.proofs.Granting.{gives_out, edited_by, stands7, stands8, ended_none, to9, seat_there, ended_some}
 use Rattle.notify_list.proofs.notify_list.NotifyList.grant_one.Goals as goal
@@ -33,7 +33,7 @@ give_lock-requires c =
       omega arith,
       (
         owned x c.self.invariant c.remove-waiter.new.token ((edited_by t c.remove-waiter.new.token k c.remove-waiter.result out).0 ∙ at),
-        (low_word x c.self.invariant 2 (omega arith), gives_out _ t c.remove-waiter.new.token h k c.remove-waiter.result (stands8 l s h k may t n E.went.1 E.own) out),
+        ((low_word x c.self.invariant 2 (omega arith), (aside_in x _ c.self.view_is c.sleepers_word.ensures.at c.sleepers_word.ensures.low).0), gives_out _ t c.remove-waiter.new.token h k c.remove-waiter.result (stands8 l s h k may t n E.went.1 E.own) out),
       ),
     )
 

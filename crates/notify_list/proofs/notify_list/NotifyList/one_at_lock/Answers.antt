@@ -2,7 +2,7 @@ use Rattle.std.proofs.Common.{◌≡◌, ℕ, Some, None, refl, ap, ◌∙◌, s
 use Rattle.notify_list.specs.Seats.{SeatModel, list_of, seat_of}
 use Rattle.notify_list.specs.Shared.{list_by}
 use Rattle.notify_list.specs.Notifying.{EndsOne}
-use Rattle.notify_list.proofs.Owned.{own, low_word, owned}
+use Rattle.notify_list.proofs.Owned.{own, low_word, owned, aside_in}
 use Rattle.notify_list.proofs.Allowing.{goes_at}
 use Rattle.notify_list.proofs.Recording.{gives_plain}
 use Rattle.notify_list.proofs.Notifying.{may_lock, stands4, w4, stands6, record5, seat_none, ends_none, may_grant, seat_some, ends_some}
@@ -57,7 +57,7 @@ give_lock-requires g c =
       (
         owned x c.self.invariant y at,
         (
-          low_word x c.self.invariant 2 (omega arith),
+          (low_word x c.self.invariant 2 (omega arith), (aside_in x _ c.self.view_is c.sleepers_word.ensures.at c.sleepers_word.ensures.low).0),
           gives_plain _ y _ (stands6 s n c.requires.place.0 c.seat.invariant at3 t L u c.load-ticket.result E.went E.own y c.load.result F.went F.own equal)
               (record5 s n c.requires.place.0 c.seat.invariant at3 t L u c.load-ticket.result E.went E.own y c.load.result F.went F.own) refl
               (λ w. (record { word = refl; there = tt; can = refl; becomes = refl }, refl)),

@@ -1,6 +1,6 @@
 use Rattle.std.proofs.Common.{map, sym, ap, ◌∙◌, arith}
 use Rattle.waiters.specs.declared.wait.Wait.{Wait}
-use Rattle.notify_list.proofs.Owned.{low_word, owned}
+use Rattle.notify_list.proofs.Owned.{low_word, owned, aside_in}
 use Rattle.notify_list.proofs.Recording.{list_edited}
 use Rattle.notify_list.proofs.Emptying.{gives_all, taken_all, hand_after}
 use Rattle.notify_list.proofs.notify_list.NotifyList.take_all.Goals as goal
@@ -14,7 +14,7 @@ give_lock-requires c =
       omega arith,
       (
         owned x c.self.invariant c.remove_all.new.token (list_edited s c.remove_all.new.token _ E ∙ at),
-        (low_word x c.self.invariant 2 (omega arith), gives_all c.args.self.now s c.requires.seat.0 c.requires.seat.1 may _ c.remove_all.new.token E),
+        ((low_word x c.self.invariant 2 (omega arith), (aside_in x _ c.self.view_is c.sleepers_word.ensures.at c.sleepers_word.ensures.low).0), gives_all c.args.self.now s c.requires.seat.0 c.requires.seat.1 may _ c.remove_all.new.token E),
       ),
     )
 

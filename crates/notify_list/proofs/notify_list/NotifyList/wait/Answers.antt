@@ -4,8 +4,7 @@ use Rattle.notify_list.specs.declared.waited.Waited.TheVariants.{AtOnce, Parked}
 use Rattle.notify_list.specs.Walks.{Edited}
 use Rattle.notify_list.specs.Waiting.{IsWaited, IsGranted}
 use Rattle.notify_list.specs.Seats.{ListModel, SeatModel, seat_of, queue_of}
-use Rattle.notify_list.proofs.Owned.{own, low_word, grant_low, owned}
-use Rattle.notify_list.proofs.Words.{wakes_aside}
+use Rattle.notify_list.proofs.Owned.{own, low_word, grant_low, owned, aside_in}
 use Rattle.notify_list.proofs.Allowing.{goes_at, takes_at}
 use Rattle.notify_list.proofs.Recording.{list_edited, gives_plain, gives_edited}
 use Rattle.notify_list.proofs.Queueing.{may_wait, stands_locked, stands_looked, number_looked, record_looked, has_room, w4, seat_at_once, waited_at_once, granted_at_once, seat_parked, waited_parked, granted_parked}
@@ -42,7 +41,7 @@ give_lock-requires g c =
       (
         owned x c.self.invariant u at,
         (
-          low_word x c.self.invariant 2 (omega arith),
+          (low_word x c.self.invariant 2 (omega arith), (aside_in x _ c.self.view_is c.sleepers_word.ensures.at c.sleepers_word.ensures.low).0),
           gives_plain _ u _ (stands_looked s n word H t L u v E.went E.own true yes_it) (record_looked s n word H t L u v E.went E.own) refl
               (λ w. (record { word = refl; there = tt; can = refl; becomes = refl }, refl)),
         ),
@@ -96,7 +95,7 @@ give_lock-requires-2 g c =
       (
         owned x c.self.invariant c.insert.new.token (list_edited u c.insert.new.token _ I ∙ at),
         (
-          low_word x c.self.invariant 2 (omega arith),
+          (low_word x c.self.invariant 2 (omega arith), (aside_in x _ c.self.view_is c.sleepers_word-2.ensures.at c.sleepers_word-2.ensures.low).0),
           gives_edited _ u c.insert.new.token _ (stands_looked s n word H t L u v E.went E.own false no_it) ((queue_of u) ++ wait_for u.me.0.own.number H.ticket ∷ []) I refl
               (λ w same. (record { word = refl; there = tt; can = refl; becomes = refl }, refl)),
         ),
@@ -112,18 +111,19 @@ take_when_granted-requires g c =
     let I : Edited u ((queue_of u) ++ wait_for u.me.0.own.number H.ticket ∷ []) c.insert.new.token = c.insert.ensures (wait_for u.me.0.own.number H.ticket)
     (λ i. record { id = record { seat = (number_looked s n word H t L u v E.went E.own ∙ sym c.new-seat.ensures) i; turn = 0 }; ticket = H.word_is i }) in
     let w = w4 s n word H t L u v E.went E.own c.insert.new.token c.give_lock-2.new.token no_it I F.went F.own in let z = c.give_lock-2.new.token in
-    let grant = c.grant_word.ensures in let asleep = c.asleep_word-asleep.ensures.at in
-    let seats = ap (λ (l : ListModel). l.setting.seats) at in let shown = ap (λ (l : ListModel). l.setting.seats) c.self.view_is in let id = ap (λ (l : ListModel). l.id.words) c.self.view_is in
+    let grant = c.grant_word-grant.ensures in let seats = ap (λ (l : ListModel). l.setting.seats) at in
+    let asleep = aside_in x _ c.self.view_is c.asleep_word-asleep.ensures.at c.asleep_word-asleep.ensures.low in
+    let misses = aside_in x _ c.self.view_is c.misses_word-misses.ensures.at c.misses_word-misses.ensures.low in
     let low = grant_low x c.self.invariant n (let k = H.token_is.there in omega (arith, seats, k)) in (
       omega arith,
       (
         owned x c.self.invariant z (w.list_is ∙ at),
         (
-          (omega (arith, grant, low), (let k = c.asleep_word-asleep.ensures.low in omega (arith, id, k))),
+          (omega (arith, grant, low), asleep.0, misses.0),
           (
             (low_word x c.self.invariant 0 (omega arith), low_word x c.self.invariant 1 (omega arith)),
             (
-              wakes_aside _ _ (omega (arith, asleep, shown)),
+              (asleep.1, misses.1),
               takes_at _ z.me _ _ w.stands_is H.ticket refl (let i = w.number_is in let j = H.token_is.number_is in omega (arith, grant, i, j)),
             ),
           ),

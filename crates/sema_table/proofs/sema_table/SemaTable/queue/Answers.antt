@@ -14,7 +14,7 @@ use Rattle.sema_table.proofs.Striding.{Ran}
 use Rattle.sema_table.specs.Seats.{TableModel}
 use Rattle.sema_table.specs.Walks.{Walked, parked}
 use Rattle.sema_table.proofs.Allowing.{owes_give}
-use Rattle.sema_table.proofs.Owned.{word_in, someones}
+use Rattle.sema_table.proofs.Owned.{word_in, someones, aside_in}
 use Rattle.sema_table.proofs.Striding.{slots_are}
 use Rattle.sema_table.proofs.Leading.{led}
 use Rattle.sema_table.proofs.Walking.{walked_row, ran_from}
@@ -45,12 +45,13 @@ give_lock-requires c =
     let word : address z (Lock a.counter) ≡ c.lock_word-word.result = ap (λ (y : TableModel). address y.setting (Lock a.counter)) r.table_is ∙ sym c.lock_word-word.ensures.at in
     let low = word_in c.self.inside s c.self.invariant at (Lock a.counter) tt in
     let told = subst (λ (w : WaitId). IsRecord z (root z a.counter) q (put (lists_by z v.seen) a.counter (insert_wait a.lifo w (lists_by z v.seen a.counter)))) c.requires.wait E.1.2 in
+    let beside = aside_in c.self.inside _ c.self.view_is c.sleepers_word-sleepers.ensures.at c.sleepers_word-sleepers.ensures.low in
     let key : Setting = setting_of c.self.inside.words.table.shared.key in (
       omega arith,
       (
         (E.0 ∙ ap (λ (t : TableModel). t.id) at, subst (λ (x : Me). IsSomeones semaphore_rows x.0) (sym E.1.1) (someones c.self.inside c.self.invariant s at)),
         (
-          omega arith,
+          (omega arith, beside.0),
           subst (λ (x : Me). Owes semaphore_rows key x c.lock_word-word.result (λ _. 0) (λ _ u. (n : ℕ) × Ran here x.0.own n u.0.own × Changed semaphore_rows x (rest x.1) u)) (sym E.1.1)
               (owes_give key c.lock_word-word.result m (Acquiring a A7) r.place_is (let b = r.limited in omega arith) q 0 refl
               (λ b n known. record { fits = record { word = word; there = tt; can = refl; becomes = refl }; word_is = refl; holds_it = on_here (root z a.counter) 1; is_record = told })),

@@ -1,10 +1,8 @@
 use Rattle.std.proofs.Common.{arith, ap, ◌∙◌, subst}
 use Rattle.sema_table.specs.declared.answers.Polled.TheVariants.{Still, Woken, Handed}
 use Rattle.sema_table.specs.Seats.{TableModel, SeatModel}
-use Rattle.sema_table.specs.Setting.{words_shown}
 use Rattle.sema_table.specs.Waking.{IsPolled}
-use Rattle.sema_table.proofs.Owned.{own}
-use Rattle.sema_table.proofs.Seeing.{is_aside}
+use Rattle.sema_table.proofs.Owned.{own, aside_in}
 use Rattle.sema_table.proofs.Rousing.{look_more, roused_woken, roused_handed, same_seat}
 use Rattle.sema_table.specs.declared.answers.Roused.TheVariants as roused
 use Rattle.sema_table.proofs.CallerPolls.{sleeps}
@@ -13,9 +11,14 @@ use Rattle.sema_table.proofs.sema_table.SemaTable.sleep.Goals as goal
 pub await_grant-requires : goal.await_grant-requires
 await_grant-requires g c =
     let s = c.sleeping.inside.token in let n = c.sleeping.inside.numbers in let seat = c.sleeping.invariant in
-    let words = ap (λ (t : TableModel). t.id.words) c.self.view_is in let low = c.grant_word-word.ensures.low in let beside = c.asleep_word-asleep.ensures.low in let far = c.asleep_word-asleep.ensures.at in let z = ap (λ (t : TableModel). words_shown t.setting) c.self.view_is in (
+    let words = ap (λ (t : TableModel). t.id.words) c.self.view_is in let low = c.grant_word-word.ensures.low in
+    let asleep = aside_in c.self.inside _ c.self.view_is c.asleep_word-asleep.ensures.at c.asleep_word-asleep.ensures.low in
+    let misses = aside_in c.self.inside _ c.self.view_is c.misses_word-misses.ensures.at c.misses_word-misses.ensures.low in (
       omega arith,
-      (ap (λ (t : TableModel). t.id) (own c.self.inside s n c.self.view_is c.sleeping.view_is (ap (λ (q : SeatModel). q.table) c.loop.invariant.same ∙ c.requires)), ((omega arith, omega arith), (tt, is_aside _ c.asleep_word-asleep.result (omega (arith, far, z))))),
+      (
+        ap (λ (t : TableModel). t.id) (own c.self.inside s n c.self.view_is c.sleeping.view_is (ap (λ (q : SeatModel). q.table) c.loop.invariant.same ∙ c.requires)),
+        ((omega arith, asleep.0, misses.0), (tt, (asleep.1, misses.1))),
+      ),
     )
 
 pub loop-preserved : goal.loop-preserved
