@@ -30,10 +30,10 @@ zeros (suc n) (suc k) = zeros n k
 
 -- the words of a list at its start
 abbrev pub words_of : Setting → List ℕ
-words_of z = z.first ∷ z.first ∷ replicate (2 + z.seats + z.seats + z.seats) 0
+words_of z = z.first ∷ z.first ∷ replicate (2 + z.seats + z.seats + z.seats + z.seats + z.seats) 0
 
 pub words_long : (z : Setting) → length (words_of z) ≡ words_in z
-words_long z = ap (λ (k : ℕ). suc (suc k)) (length-replicate (2 + z.seats + z.seats + z.seats) 0) ∙ omega arith
+words_long z = ap (λ (k : ℕ). suc (suc k)) (length-replicate (2 + z.seats + z.seats + z.seats + z.seats + z.seats) 0) ∙ omega arith
 
 at_start : (first : ℕ) → first < 2 ^ 64 → first ≡ word_of first 0
 unfolding word_of
@@ -42,8 +42,8 @@ at_start first fits = sym (ap (λ (k : ℕ). k % 2 ^ 64) (let e : first + 0 ≡ 
 first_words : (z : Setting) → z.first < 2 ^ 64 → (w : ListWord) → IsThere z w → slice_index (words_of z) (address w) ≡ found (first_list z.first).words w
 first_words z fits Wait h = at_start z.first fits
 first_words z fits Notify h = at_start z.first fits
-first_words z fits Lock h = zeros (2 + z.seats + z.seats + z.seats) 0
-first_words z fits (Grant s) h = ap (λ i. get_or (words_of z) i 0) (let e : 3 + s ≡ suc (suc (1 + s)) = omega arith in e) ∙ zeros (2 + z.seats + z.seats + z.seats) (1 + s)
+first_words z fits Lock h = zeros (2 + z.seats + z.seats + z.seats + z.seats + z.seats) 0
+first_words z fits (Grant s) h = ap (λ i. get_or (words_of z) i 0) (let e : 3 + s ≡ suc (suc (1 + s)) = omega arith in e) ∙ zeros (2 + z.seats + z.seats + z.seats + z.seats + z.seats) (1 + s)
 
 -- one more of them
 pub one_more : {A : Type 0} (f : ℕ → A) (a n j : ℕ) (xs : List A) (x : A) → a + n ≡ j → xs ≡ map f (range_with_len a n) → x ≡ f j → xs ++ x ∷ [] ≡ map f (range_with_len a (n + 1))

@@ -1,5 +1,5 @@
 -- A seat of a list, and where the list's words lie for it.
-use Rattle.std.proofs.Common.{◌≡◌, ℕ, ◌+◌, ◌<◌, sym, ap, ◌∙◌, subst, arith}
+use Rattle.std.proofs.Common.{◌≡◌, ℕ, ◌+◌, ◌<◌, ◌≤◌, sym, ap, ◌∙◌, subst, arith}
 use Rattle.notify_list.specs.declared.notify_list.NotifyList.TheInside.{Inside}
 use Rattle.notify_list.specs.Seats.{ListModel, SeatModel, Token, list_of, seat_of}
 use Rattle.notify_list.specs.Shared.{IsList, list_by}
@@ -31,9 +31,13 @@ owned x made s own = (
 )
 
 -- a word behind those of which the world knows
-pub aside_in : (x : Inside) {t : ListModel} {i : ℕ} (k : ℕ) → list_by x ≡ t → i ≡ words_shown t.setting + k → i < t.id.words
+pub aside_at : (x : Inside) {t : ListModel} {i : ℕ} → list_by x ≡ t → words_shown t.setting ≤ i → i < t.id.words
     → (i < x.words.table.shared.table_id.words) × IsAside list_rows x.words.table.shared.key i
-aside_in x k is at low = (
+aside_at x is far low = (
   (let w = ap (λ (y : ListModel). y.id.words) is in omega arith),
   wakes_aside _ _ (let z = ap (λ (y : ListModel). y.setting.seats) is in omega arith),
 )
+
+pub aside_in : (x : Inside) {t : ListModel} {i : ℕ} (k : ℕ) → list_by x ≡ t → i ≡ words_shown t.setting + k → i < t.id.words
+    → (i < x.words.table.shared.table_id.words) × IsAside list_rows x.words.table.shared.key i
+aside_in x k is at low = aside_at x is (omega arith) low

@@ -20,6 +20,7 @@ use Rattle.notify_list.specs.Plays.{Me}
 use Rattle.notify_list.specs.Seats.{ListModel, Token, list_of, seat_of, IsSeat, IsHolding, queue_of, seen_of, setting_of, stands_of}
 use Rattle.notify_list.specs.Walks.{Walked, MayLock, Locked, HasRecord, Edited}
 use Rattle.notify_list.specs.Waiting.{IsWaited, IsGranted}
+use Rattle.notify_list.specs.Heirs.{IsSame}
 use Rattle.notify_list.proofs.Keeping.{laws_of}
 use Rattle.notify_list.proofs.Leading.{Ran, Led, led, ran_from, Gave, gave_from, woke_from}
 use Rattle.notify_list.proofs.Walking.{walked_row, walked_on, walked_so, token_after, calls, comes_to}
@@ -211,3 +212,7 @@ module _ (s : Token) (n word : ℕ) (H : IsHolding s n word) where
           pub granted_parked : IsGranted (seat_of s n) (seat_of z n)
           granted_parked = its_ticket z (granted_by x z at_park woke awake w4.number_is (ap (λ (l : ListModel). l.setting) w4.list_is) awake.told
               (inr (ap (λ (a : ListSeat). a.place) awake.stood, let e = awake.read in omega arith)))
+
+-- a row that ran before its seat woke others
+pub ran_same : (s t u : Token) (n : ℕ) → RanRow list_rows here s.me n t.me → IsSame t u → RanRow list_rows here s.me n u.me
+ran_same s t u n row same = subst (λ (m : Me). RanRow list_rows here s.me n m) (sym same.1) row

@@ -17,6 +17,8 @@ use Rattle.notify_list.specs.Seats.{ListModel, Token, setting_of, stands_of}
 use Rattle.notify_list.specs.Walks.{Walked}
 use Rattle.notify_list.specs.NotifyingAll.{wake_rows}
 use Rattle.notify_list.specs.GrantingAll.{MayWake, with_waits, WokenFirst, WokenSome}
+use Rattle.notify_list.specs.Heirs.{IsSame}
+use Rattle.notify_list.specs.Rule.{Lands}
 use Rattle.notify_list.proofs.Leading.{Ran, Led, led, ran_from}
 use Rattle.notify_list.proofs.Walking.{walked_row, walked_on}
 use Rattle.notify_list.proofs.Resting.{grants_in, stands_there}
@@ -67,21 +69,21 @@ seat_at (w ∷ waits) (suc n) low = seat_at waits n (omega arith)
 abbrev pub WokenUpTo : Token → ℕ → ℕ → Token → Type 0
 WokenUpTo s h n t = WokenSome s h (take n (stands_of s).hand) (drop n (stands_of s).hand) t
 
-pub woken_none : (l : ListModel) (s : Token) (h : ℕ) → MayWake l s h → WokenUpTo s h 0 s
-woken_none l s h may = record {
+pub woken_none : (l : ListModel) (s t : Token) (h : ℕ) → MayWake l s h → IsSame s t → WokenUpTo s h 0 t
+woken_none l s t h may same = record {
   walked = record {
-    list_is = refl;
-    number_is = refl;
-    stands_is = λ i. record (stands_of s) { place = may.at i };
-    lands = may.lands;
+    list_is = λ i. record { id = same.0 i; setting = (same.1 i).0.own.knows.setting };
+    number_is = ap (λ (m : Me). m.0.own.number) same.1;
+    stands_is = ap (λ (m : Me). m.0.own.knows.sight.stands) same.1 ∙ (λ i. record (stands_of s) { place = may.at i });
+    lands = subst (λ (m : Me). Lands m.0.own.number m.0.own.knows) (sym same.1) may.lands;
     strides = [];
-    path = refl;
+    path = ap (λ (m : Me). m.0.own.knows.sight) same.1;
     ran = All-nil (λ (p : ListStride). p.deed ≡ runs);
     rows_are = refl;
     told_is = refl;
-    all = sym (append-nil s.me.0.own.gone);
+    all = ap (λ (m : Me). m.0.own.gone) same.1 ∙ sym (append-nil s.me.0.own.gone);
   };
-  slots = refl;
+  slots = ap (λ (m : Me). m.1) same.1;
 }
 
 module _ (l : ListModel) (s t : Token) (h n : ℕ) (may : MayWake l s h) (x : WokenUpTo s h n t) where

@@ -15,6 +15,7 @@ pub mod Notifying
 pub mod Granting
 pub mod NotifyingAll
 pub mod GrantingAll
+pub mod Heirs
 pub mod Texts
 pub mod Making
 pub mod List

@@ -15,21 +15,28 @@ address (Grant s) = 3 + s
 abbrev pub words_shown : Setting → ℕ
 words_shown z = 3 + z.seats
 
--- behind them lie words of which the world knows nothing. One of each seat is above 0 while the seat's thread sleeps
+-- behind them lie words of which the world knows nothing, four of each seat. One is above 0 while the seat's thread sleeps
 abbrev pub asleep_address : Setting → ℕ → ℕ
 asleep_address z s = words_shown z + s
 
--- and one tells how many waits of late the seat looked for a grant in vain
+-- one tells how many waits of late the seat looked for a grant in vain
 abbrev pub misses_address : Setting → ℕ → ℕ
 misses_address z s = words_shown z + (z.seats + s)
 
+-- and two name the seats that it wakes once it has its grant
+abbrev pub heir_address : Setting → ℕ → ℕ
+heir_address z s = words_shown z + (z.seats + z.seats + s)
+
+abbrev pub other_heir_address : Setting → ℕ → ℕ
+other_heir_address z s = words_shown z + (z.seats + z.seats + z.seats + s)
+
 -- the last counts the threads that sleep at the lock
 abbrev pub sleepers_address : Setting → ℕ
-sleepers_address z = words_shown z + (z.seats + z.seats)
+sleepers_address z = words_shown z + (z.seats + z.seats + z.seats + z.seats)
 
 -- how many words there are
 abbrev pub words_in : Setting → ℕ
-words_in z = words_shown z + z.seats + z.seats + 1
+words_in z = words_shown z + z.seats + z.seats + z.seats + z.seats + 1
 
 -- the word is there
 abbrev pub IsThere : Setting → ListWord → Type 0

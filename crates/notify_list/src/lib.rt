@@ -17,6 +17,7 @@
 
 mod closed;
 mod closing;
+mod heirs;
 mod laws;
 mod locks;
 mod make;

@@ -72,26 +72,27 @@ impl NotifyList {
         self.words.give_lock(token, LOCK, self.sleepers_word());
     }
 
-    /// L8 for each wait in hand, of which these are the seats.
+    /// L8 for each wait in hand, of which these are the seats. The first are woken, and wake the others.
     fn wake_all(&self, token: &mut Token, seats: &[u16])
         requires seat { (h : ℕ) × MayWake self.now token.old h }
         requires seats { seats.now ≡ map (λ w. w.id.seat) (stands_of token.old).hand }
         ensures { (h : ℕ) → MayWake self.now token.old h
             → WokenSome token.old h (stands_of token.old).hand [] token.new }
     {
+        self.name_heirs(token, seats);
         for seat in seats {
-            self.wake_first(token, *seat);
+            self.grant_first(token, *seat);
         }
+        self.wake_first(token, seats);
     }
 
-    /// L8: the seat of the first wait in hand is granted, and its thread woken where that sleeps.
-    fn wake_first(&self, token: &mut Token, seat: u16)
+    /// L8: the seat of the first wait in hand is granted.
+    fn grant_first(&self, token: &mut Token, seat: u16)
         requires { (h : ℕ) × (w : Queued) × (rest : List Queued) × MayWake self.now token.old h
             × ((stands_of token.old).hand ≡ w ∷ rest) × (w.id.seat ≡ seat) }
         ensures { (h : ℕ) (w : Queued) (rest : List Queued) → MayWake self.now token.old h
             → (stands_of token.old).hand ≡ w ∷ rest → WokenFirst token.old h w rest token.new }
     {
-        self.words
-            .grant(token, grant_word(seat), self.asleep_word(seat), 1);
+        self.words.store_grant(token, grant_word(seat), 1);
     }
 }

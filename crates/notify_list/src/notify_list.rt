@@ -1,7 +1,7 @@
 //! The list that the threads of a caller share.
 ghost use Rattle.std.specs.Prelude.{◌≡◌, ◌<◌};
 ghost use Rattle.step_table.specs.declared.list_place.ListWord.TheVariants.{Grant};
-ghost use Rattle.notify_list.specs.Setting.{address, asleep_address, misses_address, sleepers_address};
+ghost use Rattle.notify_list.specs.Setting.{address, asleep_address, misses_address, heir_address, other_heir_address, sleepers_address};
 
 use crate::rows::ListRows;
 use crate::stride::Stride;
@@ -73,12 +73,32 @@ impl NotifyList {
         GRANTS + seats + (seats + seat as usize)
     }
 
+    /// Where the word lies that names the first of the two seats that a seat wakes.
+    pub(crate) fn heir_word(&self, seat: u16) -> usize
+        requires { seat < self.now.setting.seats }
+        ensures at { result ≡ heir_address self.now.setting seat }
+        ensures low { result < self.now.id.words }
+    {
+        let seats = self.seats as usize;
+        GRANTS + seats + (seats + seats + seat as usize)
+    }
+
+    /// Where the word lies that names the second.
+    pub(crate) fn other_heir_word(&self, seat: u16) -> usize
+        requires { seat < self.now.setting.seats }
+        ensures at { result ≡ other_heir_address self.now.setting seat }
+        ensures low { result < self.now.id.words }
+    {
+        let seats = self.seats as usize;
+        GRANTS + seats + (seats + seats + seats + seat as usize)
+    }
+
     /// Where the word lies that counts the threads that sleep at the lock.
     pub(crate) fn sleepers_word(&self) -> usize
         ensures at { result ≡ sleepers_address self.now.setting }
         ensures low { result < self.now.id.words }
     {
         let seats = self.seats as usize;
-        GRANTS + seats + (seats + seats)
+        GRANTS + seats + (seats + seats + seats + seats)
     }
 }

@@ -6,16 +6,16 @@ ghost use Rattle.notify_list.specs.Callers.{WaitsForGrant};
 use crate::notify_list::{LOCK, NOTIFY, NotifyList, WAIT, grant_word};
 use crate::seat::{Holding, ListSeat};
 use crate::waited::Waited;
-use running_rows::{Here, Patience, Yields};
+use running_rows::{GivesWay, Here, Patience};
 use std::sync::Wait;
 use ticket_words::less;
 use waiters::{SeatId, WaitId};
 
-/// How long a seat looks for its grant. Where more than one ticket isn't granted it lets others run.
+/// How long a seat looks for its grant. Where more than one ticket isn't granted it doesn't look.
 const PATIENCE: Patience = Patience {
     rounds: 10,
     looks: 100,
-    yields: Yields::Crowded {
+    gives_way: GivesWay::Crowded {
         ahead: WAIT,
         behind: NOTIFY,
     },
@@ -52,6 +52,7 @@ impl NotifyList {
         let misses = self.misses_word(number);
         self.words
             .take_when_granted(rt, &mut token, grant, asleep, misses, &PATIENCE);
+        self.wake_heirs(&mut token, number);
         (ListSeat { token, number }, Waited::Parked)
     }
 }

@@ -4,5 +4,6 @@ pub mod Keeping
 pub mod Telling
 pub mod Opening
 pub mod Seating
+pub mod LookingAtOnce
 pub mod Together
 pub use Rattle.atomic_table.proofs.Lists

@@ -20,7 +20,8 @@ module _ {S V T K : Type 0} (f : Family S V T K) (k : f.Key) where
 
   -- the step leads to a world that words and records show then, and that the seat may meet, as all others may that could meet the
   -- one before. It is one stride at most, which tells how the journal goes on. What the step tells holds
-  pub record Leads (m : Me S (View V T)) (world : f.World) (words : List ℕ) (homes : List (Option S)) (i x : ℕ) (then : Me S (View V T) → Type 0) : Type 0 where
+  pub record Leads (m : Me S (View V T)) (world : f.World) (words : List ℕ) (homes : List (Option S))
+      (i x : ℕ) (then : Me S (View V T) → Type 0) : Type 0 where
     pub next : f.World
     pub own : Seated V T
     pub act : Act S

@@ -50,7 +50,8 @@ module _ {S V T K : Type 0} (f : Family S V T K) where
   IsSeated views j n = (v : View V T) × (get_elem? views j ≡ some v) × IsSomeones v × HasSeat n v
 
   -- this seat was made, of words made so, sits at the place j, and went its strides of the history
-  pub record Sits (k : f.Key) (s : f.World) (history : List (Moment T)) (spot : ℕ → ℕ) (made j : ℕ) (u : Seated V T) : Type 0 where
+  pub record Sits (k : f.Key) (s : f.World) (history : List (Moment T)) (spot : ℕ → ℕ)
+      (made j : ℕ) (u : Seated V T) : Type 0 where
     pub place_is : spot u.number ≡ j
     pub is_made : u.number < made
     pub of_is : f.of u.knows ≡ k
@@ -58,7 +59,8 @@ module _ {S V T K : Type 0} (f : Family S V T K) where
     pub went : strides_of u.number history ≡ u.gone
 
   -- so it is, and each guest sits there too; all are different seats
-  pub record HasSeats (k : f.Key) (s : f.World) (history : List (Moment T)) (spot : ℕ → ℕ) (made j : ℕ) (v : View V T) : Type 0 where
+  pub record HasSeats (k : f.Key) (s : f.World) (history : List (Moment T)) (spot : ℕ → ℕ)
+      (made j : ℕ) (v : View V T) : Type 0 where
     pub own : Sits k s history spot made j v.own
     pub guests : (g : Seated V T) → In g v.guests → Sits k s history spot made j g
     pub others : (g : Seated V T) → In g v.guests → g.number ≢ v.own.number

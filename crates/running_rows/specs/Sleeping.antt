@@ -1,12 +1,12 @@
 -- What sleeping asks for.
 use Rattle.std.specs.Prelude.{◌≡◌, ℕ, ◌<◌, List, [], ◌∷◌, ◌++◌}
-use Rattle.running_rows.specs.declared.sleeping.Yields.{Yields}
-use Rattle.running_rows.specs.declared.sleeping.Yields.TheVariants.{Never, Crowded}
+use Rattle.running_rows.specs.declared.sleeping.GivesWay.{GivesWay}
+use Rattle.running_rows.specs.declared.sleeping.GivesWay.TheVariants.{Never, Crowded}
 use Rattle.running_rows.specs.declared.view.Seated.{Seated}
 use Rattle.running_rows.specs.Family.{Family}
 
 -- the words are there that it looks at
-abbrev pub AreThere : ℕ → Yields → Type 0
+abbrev pub AreThere : ℕ → GivesWay → Type 0
 AreThere words Never = Unit {0}
 AreThere words (Crowded ahead behind) = (ahead < words) × (behind < words)
 

@@ -4,6 +4,9 @@
 //! the grant (`park` does), then sleeps; who grants stores the grant, then looks at that word. All four are in one order, the same
 //! for all threads: either the sleeper's look finds the grant, or its word was set before the granter's look, which finds it and
 //! calls the kernel. So no grant is missed, and where nobody sleeps the kernel isn't called.
+//!
+//! Who grants may leave it to another to wake ([`Running::store_grant`]): that one looks at the word after the grant was stored
+//! ([`Running::wake`]), and the same holds.
 ghost use Rattle.std.specs.Prelude.{◌≡◌, ◌<◌, [], ◌∷◌, ◌++◌};
 ghost use mathlib.Core.Option.{none};
 ghost use Rattle.atomic_table.specs.Table.{step};
@@ -17,9 +20,9 @@ use crate::plays::{Awaits, Grants, SetsAside};
 use crate::rule::OneWorld;
 use crate::running::Running;
 use crate::view::{Token, View};
+use std::hint;
 use std::marker::PhantomData;
 use std::sync::Wait;
-use std::{hint, thread};
 
 /// How long a thread looks for its grant before it sleeps: a grant that comes meanwhile costs no call of the kernel. After waits in
 /// which it looked in vain it looks the less, and from time to time as long as at first: on a busy machine who grants may be off its
@@ -28,17 +31,26 @@ pub struct Patience {
     pub rounds: u32,
     /// How many looks a round has.
     pub looks: u64,
-    /// Whether the thread lets others run after a round.
-    pub yields: Yields,
+    /// When the thread sleeps at once.
+    pub gives_way: GivesWay,
 }
 
-/// When a thread that looks lets others run.
-pub enum Yields {
-    /// It keeps its processor.
+/// When a thread sleeps with no look before.
+pub enum GivesWay {
+    /// It looks each time.
     Never,
     /// Where the number of the first word is above that of the second by more than 1: many that look would keep those that they wait
-    /// for off the processors, and a lone one would get its processor back only after the other thread's whole turn.
+    /// for off the processors.
     Crowded { ahead: usize, behind: usize },
+}
+
+/// What came of looking for a grant.
+#[derive(Drop)]
+enum Looked {
+    Granted,
+    InVain,
+    /// Others wait too.
+    Crowded,
 }
 
 /// Of so many waits in vain, one after the other, one looks as long as the first.
@@ -86,36 +98,31 @@ impl<S, V, T, K, R: Rows<S, V, T, K>> Running<S, View<V, T>, K, OneWorld<R>> {
         self.table.shared.peek(ahead).wrapping_sub(last) > 1
     }
 
-    /// Looks at a grant for as long as the thread has patience after so many waits in vain: whether it is above 0.
-    fn is_granted_soon(
+    /// Looks at a grant for as long as the thread has patience after so many waits in vain.
+    fn look_for_grant(
         &self,
         token: &Token<S, V, T>,
         word: usize,
         patience: &Patience,
         missed: u64,
-    ) -> bool
-        requires { (word < self.now.table.shared.table_id.words) × AreThere self.now.table.shared.table_id.words patience.now.yields }
+    ) -> Looked
+        requires { (word < self.now.table.shared.table_id.words) × AreThere self.now.table.shared.table_id.words patience.now.gives_way }
     {
+        let looks = patience.looks_after(missed);
         for _ in 0..patience.rounds {
-            let crowded = match patience.yields {
-                Yields::Never => false,
-                Yields::Crowded { ahead, behind } => self.is_crowded(token, ahead, behind),
+            // Asked in each round: others may come while the thread looks.
+            let crowded = match patience.gives_way {
+                GivesWay::Never => false,
+                GivesWay::Crowded { ahead, behind } => self.is_crowded(token, ahead, behind),
             };
-            let looks = if crowded {
-                patience.looks
-            } else {
-                patience.looks_after(missed)
-            };
-            if self.is_above_zero_soon(PhantomData, word, looks) {
-                return true;
-            }
             if crowded {
-                thread::yield_now();
-            } else if missed != 0 {
-                return false;
+                return Looked::Crowded;
+            }
+            if self.is_above_zero_soon(PhantomData, word, looks) {
+                return Looked::Granted;
             }
         }
-        false
+        Looked::InVain
     }
 
     /// Returns once the grant is above 0, and perhaps before. Nobody but the seat takes what is granted, so it looks with no row.
@@ -131,24 +138,38 @@ impl<S, V, T, K, R: Rows<S, V, T, K>> Running<S, View<V, T>, K, OneWorld<R>> {
         requires own { token.old.table_id ≡ self.now.table.shared.table_id }
         requires words { (word < self.now.table.shared.table_id.words) × (asleep < self.now.table.shared.table_id.words)
             × (misses < self.now.table.shared.table_id.words) }
-        requires yields { AreThere self.now.table.shared.table_id.words patience.now.yields }
+        requires there { AreThere self.now.table.shared.table_id.words patience.now.gives_way }
         requires aside { IsAside R.family (R.family.key self.now.table.shared.key) asleep
             × IsAside R.family (R.family.key self.now.table.shared.key) misses }
         ensures same { (token.new.table_id ≡ token.old.table_id) × (token.new.me ≡ token.old.me) }
     {
-        let shared = &self.table.shared;
-        let missed = shared.peek(misses);
-        if self.is_granted_soon(token, word, patience, missed) {
-            if missed != 0 {
-                shared.store::<SetsAside>(token, misses, 0);
-            }
+        let missed = self.table.shared.peek(misses);
+        let looked = self.look_for_grant(token, word, patience, missed);
+        self.learn(token, misses, missed, &looked);
+        if let Looked::Granted = looked {
             return;
         }
-        shared.store::<SetsAside>(token, misses, missed.wrapping_add(1));
         // Set before `park` looks at the grant: who grants after that look finds it, and wakes.
-        shared.store::<SetsAside>(token, asleep, 1);
-        shared.park(rt, word, 0);
-        shared.store::<SetsAside>(token, asleep, 0);
+        self.set_aside(token, asleep, 1);
+        self.table.shared.park(rt, word, 0);
+        self.set_aside(token, asleep, 0);
+    }
+
+    /// Counts the waits in vain, one after the other. A thread that gave way to others has learnt nothing.
+    fn learn(&self, token: &mut Token<S, V, T>, misses: usize, missed: u64, looked: &Looked)
+        requires own { token.old.table_id ≡ self.now.table.shared.table_id }
+        requires low { misses < self.now.table.shared.table_id.words }
+        requires aside { IsAside R.family (R.family.key self.now.table.shared.key) misses }
+        ensures same { (token.new.table_id ≡ token.old.table_id) × (token.new.me ≡ token.old.me) }
+    {
+        let now = match looked {
+            Looked::Granted => 0,
+            Looked::InVain => missed.wrapping_add(1),
+            Looked::Crowded => missed,
+        };
+        if now != missed {
+            self.set_aside(token, misses, now);
+        }
     }
 
     /// Waits until there is a grant, and takes it, which is one row: a look that finds none is no stride.
@@ -164,7 +185,7 @@ impl<S, V, T, K, R: Rows<S, V, T, K>> Running<S, View<V, T>, K, OneWorld<R>> {
         requires own { (token.old.table_id ≡ self.now.table.shared.table_id) × IsSomeones R.family token.old.me.0 }
         requires words { (word < self.now.table.shared.table_id.words) × (asleep < self.now.table.shared.table_id.words)
             × (misses < self.now.table.shared.table_id.words) }
-        requires yields { AreThere self.now.table.shared.table_id.words patience.now.yields }
+        requires there { AreThere self.now.table.shared.table_id.words patience.now.gives_way }
         requires aside { IsAside R.family (R.family.key self.now.table.shared.key) asleep
             × IsAside R.family (R.family.key self.now.table.shared.key) misses }
         requires owes { Owes R.family (R.family.key self.now.table.shared.key) token.old.me word (λ _. 0)
@@ -194,18 +215,56 @@ impl<S, V, T, K, R: Rows<S, V, T, K>> Running<S, View<V, T>, K, OneWorld<R>> {
         ensures own { token.new.table_id ≡ token.old.table_id }
         ensures went { grants R.family (step self.now.table.shared.table_id.slots word units 0 none) token.old.me units token.new.me }
     {
-        self.table.shared.store::<Grants<R, K>>(token, word, units);
+        self.store_grant(token, word, units);
         self.rouse(token, word, asleep, units);
     }
 
-    /// Wakes the thread of a seat that was granted, where it has gone to sleep: a call of the kernel costs more than the rest of
-    /// a release.
-    fn rouse(&self, _granted: &Token<S, V, T>, word: usize, asleep: usize, _units: u64)
-        requires words { (word < self.now.table.shared.table_id.words) × (asleep < self.now.table.shared.table_id.words) }
-        requires stored { StoresLast R.family _granted.now.me.0.own word _units }
+    /// A row that stores a grant and wakes nobody: its thread is for another to wake, by [`Running::wake`].
+    #[inline]
+    pub fn store_grant(&self, token: &mut Token<S, V, T>, word: usize, units: u64)
+        requires own { (token.old.table_id ≡ self.now.table.shared.table_id) × IsSomeones R.family token.old.me.0 }
+        requires low { word < self.now.table.shared.table_id.words }
+        requires owes { Owes R.family (R.family.key self.now.table.shared.key) token.old.me word (λ _. units)
+            (λ _. grants R.family (step self.now.table.shared.table_id.slots word units 0 none) token.old.me units) }
+        ensures own { token.new.table_id ≡ token.old.table_id }
+        ensures went { grants R.family (step self.now.table.shared.table_id.slots word units 0 none) token.old.me units token.new.me }
     {
-        if self.table.shared.peek(asleep) != 0 {
+        self.table.shared.store::<Grants<R, K>>(token, word, units);
+    }
+
+    /// Wakes the thread of the seat that was just granted, where it has gone to sleep.
+    fn rouse(&self, granted: &Token<S, V, T>, word: usize, asleep: usize, _units: u64)
+        requires words { (word < self.now.table.shared.table_id.words) × (asleep < self.now.table.shared.table_id.words) }
+        requires stored { StoresLast R.family granted.now.me.0.own word _units }
+    {
+        self.wake(granted, word, asleep);
+    }
+
+    /// Wakes the thread that sleeps at a grant, where one does and the grant is there: a call of the kernel costs more than the rest
+    /// of a release.
+    pub fn wake(&self, _token: &Token<S, V, T>, word: usize, asleep: usize)
+        requires { (word < self.now.table.shared.table_id.words) × (asleep < self.now.table.shared.table_id.words) }
+    {
+        if self.table.shared.peek(asleep) != 0 && self.table.shared.peek(word) != 0 {
             self.table.shared.wake_one(word);
         }
+    }
+
+    /// Sets a number aside, in a word of which the world knows nothing.
+    pub fn set_aside(&self, token: &mut Token<S, V, T>, word: usize, number: u64)
+        requires own { token.old.table_id ≡ self.now.table.shared.table_id }
+        requires low { word < self.now.table.shared.table_id.words }
+        requires aside { IsAside R.family (R.family.key self.now.table.shared.key) word }
+        ensures same { (token.new.table_id ≡ token.old.table_id) × (token.new.me ≡ token.old.me) }
+    {
+        self.table.shared.store::<SetsAside>(token, word, number);
+    }
+
+    /// The number that was set aside there.
+    pub fn aside(&self, _token: &Token<S, V, T>, word: usize) -> u64
+        requires low { word < self.now.table.shared.table_id.words }
+        requires aside { IsAside R.family (R.family.key self.now.table.shared.key) word }
+    {
+        self.table.shared.peek(word)
     }
 }

@@ -24,7 +24,8 @@ sought_many s r = by_first (lists_of s r.counter) (ReleasingMany r M6) (λ w. Re
 -- where a release goes under the lock: one wait more, while units and waits are left
 abbrev pub picking : Token → ReleaseMany → Place
 picking s r =
-    if nat_lt (length s.me.0.own.knows.hand) r.units && nat_lt 0 (length (lists_of s r.counter)) then ReleasingMany r M5 else ReleasingMany r M6
+    let more = nat_lt (length s.me.0.own.knows.hand) r.units && nat_lt 0 (length (lists_of s r.counter)) in
+    if more then ReleasingMany r M5 else ReleasingMany r M6
 
 -- where a release goes with these waits in hand, that has given its lock back
 abbrev pub to_grant : ReleaseMany → List WaitId → Place

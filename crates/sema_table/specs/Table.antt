@@ -36,7 +36,8 @@ pub record Shows (z : Setting) (s : State Record SemaView) (world : SemaWorld) :
   pub made : ℕ
   pub by_seats : (m : Moment SemaStride) → In m history → m.seat < made
   pub spot : ℕ → ℕ
-  pub views : (j : ℕ) (v : SemaView) → get_elem? s.views j ≡ some v → IsSomeones semaphore_rows v → HasSeats semaphore_rows z world history spot made j v
+  pub views : (j : ℕ) (v : SemaView) → get_elem? s.views j ≡ some v → IsSomeones semaphore_rows v
+      → HasSeats semaphore_rows z world history spot made j v
   pub seated : (k : ℕ) → k < made → IsSeated semaphore_rows s.views (spot k) k
   pub unmade : (k : ℕ) → made ≤ k → k < z.seats → Knows z k (fresh z) world
   pub wide : length s.words ≡ words_in z

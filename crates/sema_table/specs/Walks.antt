@@ -59,7 +59,8 @@ pub record Went (IsOne : SemaStride → Type 0) (s : Token) (from : Place) (t : 
   pub counted : is_free stands.place ≡ true → takes t.me.0.own.number t.me.0.own.knows.seen ≡ t.me.0.own.knows.taken
   pub strides : List SemaStride
   pub each : All IsOne strides
-  pub path : SemaPath (layout s.me.0.own.knows.setting) s.me.0.own.number (placed from (sight_by s.me.0.own.knows)) strides (sight_by t.me.0.own.knows)
+  pub path : SemaPath (layout s.me.0.own.knows.setting) s.me.0.own.number
+      (placed from (sight_by s.me.0.own.knows)) strides (sight_by t.me.0.own.knows)
   pub all : t.me.0.own.gone ≡ s.me.0.own.gone ++ strides
   pub told_is : all_told strides ≡ told
 
@@ -103,7 +104,8 @@ Holds t s place = Stands t s place × HasRecord s (counter_at place)
 -- fewer wait at the root of c than there are seats
 abbrev pub HasRoom : Token → ℕ → Type 0
 HasRoom s c =
-    let z = s.me.0.own.knows.setting in total (length z.starts) (λ d. on (root z d) (root z c) (length (lists_by z s.me.0.own.knows.seen d))) < z.seats
+    let z = s.me.0.own.knows.setting in
+    total (length z.starts) (λ d. on (root z d) (root z c) (length (lists_by z s.me.0.own.knows.seen d))) < z.seats
 
 -- what the table says follows R4, where somebody waits at the root
 abbrev pub sought : Token → Release → Place

@@ -6,14 +6,14 @@ ghost use Rattle.sema_table.specs.Callers.{SleepsUntilRoused};
 use crate::answers::{Polled, Roused};
 use crate::seat::Sleeping;
 use crate::sema_table::SemaTable;
-use running_rows::{Patience, Yields};
+use running_rows::{GivesWay, Patience};
 use std::sync::Wait;
 
 /// How often a seat looks for its grant before its thread sleeps.
 const PATIENCE: Patience = Patience {
     rounds: 1,
-    looks: 4_000,
-    yields: Yields::Never,
+    looks: 2_000,
+    gives_way: GivesWay::Never,
 };
 
 impl SemaTable {

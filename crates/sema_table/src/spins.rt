@@ -3,38 +3,30 @@ ghost use Rattle.std.specs.Prelude.{◌<◌, length};
 
 use crate::sema_table::{SemaTable, counter_word};
 use std::marker::PhantomData;
-use std::thread;
 use waiters::CounterId;
 
-/// How many rounds a spin looks.
-const ROUNDS: u32 = 10;
-/// How often it looks in a round.
-const LOOKS: u64 = 50;
+/// How often it looks: what is done under a lock takes less, unless its holder lost its processor.
+const LOOKS: u64 = 100;
 
 impl SemaTable {
-    /// Looks for a while whether the counter has a unit, and lets other threads run after each round (the spinning of Go's
-    /// `sync.Mutex`). Who acquires a lock that is held for moments does this first: then it seldom sleeps, and has seldom to be
-    /// woken. It takes no unit, and says nothing of one: another may take it first.
+    /// Looks for a while whether the counter has a unit (the spinning of Go's `sync.Mutex`). Who acquires a lock that is held for
+    /// moments does this first: then it seldom sleeps, and has seldom to be woken. It takes no unit, and says nothing of one:
+    /// another may take it first.
     #[inline]
     pub fn spin(&self, counter: CounterId)
         requires { counter < length self.now.setting.starts }
     {
         let word = counter_word(counter.number());
         if !self.words.is_above_zero_soon(PhantomData, word, 1) {
-            self.spin_in_rounds(word);
+            self.spin_on(word);
         }
     }
 
     /// The same, apart: so a caller's own code has one look.
     #[inline(never)]
-    fn spin_in_rounds(&self, word: usize)
+    fn spin_on(&self, word: usize)
         requires { word < self.now.id.words }
     {
-        for _ in 0..ROUNDS {
-            if self.words.is_above_zero_soon(PhantomData, word, LOOKS) {
-                return;
-            }
-            thread::yield_now();
-        }
+        self.words.is_above_zero_soon(PhantomData, word, LOOKS);
     }
 }

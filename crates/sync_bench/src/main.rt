@@ -3,7 +3,7 @@
 //! `ticket` takes a ticket, grants it and waits with it, and `group` adds 1 to a wait group, takes it off and waits, each in one
 //! thread. The other cases have threads. In `signals` two wait for each other on a notify list, and in `hands` on a condition
 //! variable, for a word that says whose turn it is: an operation is the way there and back. In `broadcast` one wakes so many workers
-//! by a condition variable, each time that all of them wait; in `fork` one lets so many workers begin, each by a counter of its own,
+//! by a condition variable, each time that all of them wait; in `mutex` so many workers take one lock; in `fork` one lets so many workers begin, each by a counter of its own,
 //! and waits by a wait group until all are done.
 #![tactic(auto)]
 
@@ -14,12 +14,14 @@ mod crew;
 mod forks;
 mod hands;
 mod jobs;
+mod locks;
 mod signals;
 
 use crate::broadcasts::{Hall, HallSeats};
 use crate::forks::ForkSeats;
 use crate::hands::HandSeats;
 use crate::jobs::{Job, Seats};
+use crate::locks::HolderSeats;
 use crate::signals::{ListSeats, Signaller};
 use anyhow::{Result, bail};
 use notify_list::NotifyList;
@@ -29,6 +31,7 @@ use std::env;
 use std::num::{NonZeroU8, NonZeroU32};
 use std::sync::Wait;
 use std::sync::atomic::AtomicU64;
+use std::sync::atomic::Ordering::Relaxed;
 use std::thread::Threads;
 use std::time::{Clock, Instant};
 use sync_parts::{Cond, GroupSeat, WaitGroup};
@@ -167,6 +170,38 @@ fn time_broadcast<R: Clock + Print + Threads + Wait + Sync>(rt: &R, plan: Plan) 
     time_casts(rt, plan, &table, locks)
 }
 
+/// Times how so many workers take a lock of this table, and counts whether each was alone with it.
+fn time_locks<R: Clock + Print + Threads + Wait + Sync>(
+    rt: &R,
+    plan: Plan,
+    table: &SemaTable,
+    locks: Vec<Seat>,
+) -> Result<()>
+    requires { All (λ s. s.table ≡ table.now) locks.items × (0 < length table.now.setting.starts) }
+{
+    let held = AtomicU64::new(0);
+    let mut seats = HolderSeats {
+        table,
+        locks,
+        held: &held,
+    };
+    let jobs = jobs::make(plan.alloc, &mut seats, u32::from(plan.workers))?;
+    let times = u64::from(plan.workers) * u64::from(plan.turns);
+    let start = Instant::now(rt)?;
+    if !crew::run(rt, jobs, plan.turns) {
+        bail!("no threads")
+    }
+    if held.load(Relaxed) != times {
+        bail!("the lock was held by two")
+    }
+    tell(rt, "mutex", &start, times)
+}
+
+fn time_mutex<R: Clock + Print + Threads + Wait + Sync>(rt: &R, plan: Plan) -> Result<()> {
+    let (table, locks) = new_table(plan.alloc, 1, 1, u32::from(plan.workers))?;
+    time_locks(rt, plan, &table, locks)
+}
+
 /// Times what a seat alone adds and takes off.
 fn time_rounds(
     rt: &(impl Clock + Print + Wait),
@@ -227,6 +262,7 @@ fn time_case<R: Clock + Print + Threads + Wait + Sync>(
         ("signals", 2) => time_signals(rt, plan),
         ("hands", 2) => time_hands(rt, plan),
         ("broadcast", _) => time_broadcast(rt, plan),
+        ("mutex", _) => time_mutex(rt, plan),
         ("group", 1) => time_group(rt, plan),
         ("fork", _) => time_fork(rt, plan),
         _ => bail!("no such case of so many workers"),

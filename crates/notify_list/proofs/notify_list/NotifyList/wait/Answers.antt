@@ -7,7 +7,7 @@ use Rattle.notify_list.specs.Seats.{ListModel, SeatModel, seat_of, queue_of}
 use Rattle.notify_list.proofs.Owned.{own, low_word, grant_low, owned, aside_in}
 use Rattle.notify_list.proofs.Allowing.{goes_at, takes_at}
 use Rattle.notify_list.proofs.Recording.{list_edited, gives_plain, gives_edited}
-use Rattle.notify_list.proofs.Queueing.{may_wait, stands_locked, stands_looked, number_looked, record_looked, has_room, w4, seat_at_once, waited_at_once, granted_at_once, seat_parked, waited_parked, granted_parked}
+use Rattle.notify_list.proofs.Queueing.{may_wait, stands_locked, stands_looked, number_looked, record_looked, has_room, w4, seat_at_once, waited_at_once, granted_at_once, seat_parked, waited_parked, granted_parked, ran_same}
 use Rattle.notify_list.proofs.Answering.{is_sound}
 use Rattle.notify_list.proofs.Callers.{waits_for}
 use Rattle.notify_list.proofs.notify_list.NotifyList.wait.Goals as goal
@@ -131,6 +131,20 @@ take_when_granted-requires g c =
       ),
     )
 
+pub wake_heirs-requires : goal.wake_heirs-requires
+wake_heirs-requires g c =
+    let x = c.self.inside in let s = c.holding.inside.token in let n : ℕ = c.holding.inside.number in let word : ℕ = c.holding.inside.ticket in let H = c.holding.invariant in
+    let t = c.lock.new.token in let L = c.lock.ensures in let u = c.load-notified.new.token in let v : ℕ = c.load-notified.result in let E = c.load-notified.ensures in let F = c.give_lock-2.ensures in
+    let at = own x s n c.self.view_is c.holding.view_is c.requires in
+    let no_it = sym c.less.ensures.less ∙ c.if-less.false in
+    let I : Edited u ((queue_of u) ++ wait_for u.me.0.own.number H.ticket ∷ []) c.insert.new.token = c.insert.ensures (wait_for u.me.0.own.number H.ticket)
+    (λ i. record { id = record { seat = (number_looked s n word H t L u v E.went E.own ∙ sym c.new-seat.ensures) i; turn = 0 }; ticket = H.word_is i }) in
+    let w = w4 s n word H t L u v E.went E.own c.insert.new.token c.give_lock-2.new.token no_it I F.went F.own in let z = c.give_lock-2.new.token in
+    let S = c.take_when_granted.ensures in record {
+      own = (λ i. record { id = S.own i; setting = S.went.0.same.1 i }) ∙ w.list_is ∙ at ∙ c.self.view_is;
+      there = (let k = H.token_is.there in let seats = ap (λ (l : ListModel). l.setting.seats) (at ∙ c.self.view_is) in omega (arith, seats, k));
+    }
+
 pub invariant_of-result-2 : goal.invariant_of-result-2
 invariant_of-result-2 g c =
     let s = c.holding.inside.token in let n : ℕ = c.holding.inside.number in let word : ℕ = c.holding.inside.ticket in let H = c.holding.invariant in
@@ -138,7 +152,7 @@ invariant_of-result-2 g c =
     let no_it = sym c.less.ensures.less ∙ c.if-less.false in
     let I : Edited u ((queue_of u) ++ wait_for u.me.0.own.number H.ticket ∷ []) c.insert.new.token = c.insert.ensures (wait_for u.me.0.own.number H.ticket)
     (λ i. record { id = record { seat = (number_looked s n word H t L u v E.went E.own ∙ sym c.new-seat.ensures) i; turn = 0 }; ticket = H.word_is i }) in
-    seat_parked s n word H t L u v E.went E.own c.insert.new.token c.give_lock-2.new.token no_it I F.went F.own c.take_when_granted.new.token _ S.some S.went S.own
+    seat_parked s n word H t L u v E.went E.own c.insert.new.token c.give_lock-2.new.token no_it I F.went F.own c.wake_heirs.new.token _ S.some (ran_same c.give_lock-2.new.token c.take_when_granted.new.token c.wake_heirs.new.token _ S.went c.wake_heirs.ensures) (c.wake_heirs.ensures.0 ∙ S.own)
 
 pub returns-clause-waited : goal.returns-clause-waited
 returns-clause-waited g c =
@@ -147,8 +161,8 @@ returns-clause-waited g c =
     let no_it = sym c.less.ensures.less ∙ c.if-less.false in
     let I : Edited u ((queue_of u) ++ wait_for u.me.0.own.number H.ticket ∷ []) c.insert.new.token = c.insert.ensures (wait_for u.me.0.own.number H.ticket)
     (λ i. record { id = record { seat = (number_looked s n word H t L u v E.went E.own ∙ sym c.new-seat.ensures) i; turn = 0 }; ticket = H.word_is i }) in
-    subst (λ (y : SeatModel). IsWaited y Parked (seat_of c.take_when_granted.new.token n)) c.holding.view_is
-    (waited_parked s n word H t L u v E.went E.own c.insert.new.token c.give_lock-2.new.token no_it I F.went F.own c.take_when_granted.new.token _ S.some S.went S.own)
+    subst (λ (y : SeatModel). IsWaited y Parked (seat_of c.wake_heirs.new.token n)) c.holding.view_is
+    (waited_parked s n word H t L u v E.went E.own c.insert.new.token c.give_lock-2.new.token no_it I F.went F.own c.wake_heirs.new.token _ S.some (ran_same c.give_lock-2.new.token c.take_when_granted.new.token c.wake_heirs.new.token _ S.went c.wake_heirs.ensures) (c.wake_heirs.ensures.0 ∙ S.own))
 
 pub returns-clause-granted : goal.returns-clause-granted
 returns-clause-granted g c =
@@ -157,10 +171,10 @@ returns-clause-granted g c =
     let no_it = sym c.less.ensures.less ∙ c.if-less.false in
     let I : Edited u ((queue_of u) ++ wait_for u.me.0.own.number H.ticket ∷ []) c.insert.new.token = c.insert.ensures (wait_for u.me.0.own.number H.ticket)
     (λ i. record { id = record { seat = (number_looked s n word H t L u v E.went E.own ∙ sym c.new-seat.ensures) i; turn = 0 }; ticket = H.word_is i }) in
-    subst (λ (y : SeatModel). IsGranted y (seat_of c.take_when_granted.new.token n)) c.holding.view_is
-    (granted_parked s n word H t L u v E.went E.own c.insert.new.token c.give_lock-2.new.token no_it I F.went F.own c.take_when_granted.new.token _ S.some S.went S.own)
+    subst (λ (y : SeatModel). IsGranted y (seat_of c.wake_heirs.new.token n)) c.holding.view_is
+    (granted_parked s n word H t L u v E.went E.own c.insert.new.token c.give_lock-2.new.token no_it I F.went F.own c.wake_heirs.new.token _ S.some (ran_same c.give_lock-2.new.token c.take_when_granted.new.token c.wake_heirs.new.token _ S.went c.wake_heirs.ensures) (c.wake_heirs.ensures.0 ∙ S.own))
 
 pub returns-clause-caller : goal.returns-clause-caller
 returns-clause-caller g c = let s = c.holding.inside in
-    waits_for c.args.holding (seat_of c.take_when_granted.new.token s.number) (is_sound c.take_when_granted.new.token s.number (invariant_of-result-2 g c).token_is) Parked
+    waits_for c.args.holding (seat_of c.wake_heirs.new.token s.number) (is_sound c.wake_heirs.new.token s.number (invariant_of-result-2 g c).token_is) Parked
     (returns-clause-waited g c) (returns-clause-granted g c)

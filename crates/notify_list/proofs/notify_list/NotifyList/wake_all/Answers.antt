@@ -6,10 +6,10 @@ use Rattle.notify_list.specs.Seats.{stands_of}
 use Rattle.notify_list.proofs.notify_list.NotifyList.wake_all.Goals as goal
 
 pub loop-seat-init : goal.loop-seat-init
-loop-seat-init c = λ h may. woken_none c.args.self.now c.args.token.now h may
+loop-seat-init c = λ h may. woken_none c.args.self.now c.args.token.now c.name_heirs.new.token h may c.name_heirs.ensures
 
-pub wake_first-requires : goal.wake_first-requires
-wake_first-requires c =
+pub grant_first-requires : goal.grant_first-requires
+grant_first-requires c =
     let s = c.args.token.now in let t = c.loop-seat.token in let n : ℕ = c.loop-seat.seat-index in let h : ℕ = c.requires.seat.0 in let may = c.requires.seat.1 in let x = c.loop-seat.invariant h may in
     let all : length c.args.seats.now ≡ length (stands_of s).hand = ap length c.requires.seats ∙ length-map (stands_of s).hand (λ (w : Wait). w.id.seat) in
     let low : n < length (stands_of s).hand = (let k = c.loop-seat-test.true in omega arith) in (
@@ -26,8 +26,8 @@ loop-seat-preserved c = λ h may.
     let s = c.args.token.now in let t = c.loop-seat.token in let n : ℕ = c.loop-seat.seat-index in let x = c.loop-seat.invariant h may in
     let all : length c.args.seats.now ≡ length (stands_of s).hand = ap length c.requires.seats ∙ length-map (stands_of s).hand (λ (w : Wait). w.id.seat) in
     let low : n < length (stands_of s).hand = (let k = c.loop-seat-test.true in omega arith) in
-    woken_more c.args.self.now s t h n may x c.wake_first.new.token low
-    (c.wake_first.ensures h (get_or (stands_of s).hand n a_wait) (drop (n + 1) (stands_of s).hand) (may_next c.args.self.now s t h n may x) (hand_next c.args.self.now s t h n may x low))
+    woken_more c.args.self.now s t h n may x c.grant_first.new.token low
+    (c.grant_first.ensures h (get_or (stands_of s).hand n a_wait) (drop (n + 1) (stands_of s).hand) (may_next c.args.self.now s t h n may x) (hand_next c.args.self.now s t h n may x low))
 
 pub returns : goal.returns
 returns c h may =
@@ -35,3 +35,6 @@ returns c h may =
     let all : length c.args.seats.now ≡ length (stands_of s).hand = ap length c.requires.seats ∙ length-map (stands_of s).hand (λ (w : Wait). w.id.seat) in
     let most : length (stands_of s).hand ≤ n = (let k = c.loop-seat-test.false in omega arith) in
     woken_all s c.loop-seat.token h n most (c.loop-seat.invariant h may)
+
+pub name_heirs-requires : goal.name_heirs-requires
+name_heirs-requires c = c.requires.seat.1.list_is

@@ -4,4 +4,4 @@ use Rattle.notify_list.proofs.Wakening.{WokenUpTo}
 use Rattle.notify_list.proofs.notify_list.NotifyList.wake_all.Given as goal
 
 abbrev pub invariant-loop-seat : goal.invariant-loop-seat
-invariant-loop-seat l = (h : ℕ) → MayWake l.fn.self l.initial.token h → WokenUpTo l.initial.token h l.seat-index l.token
+invariant-loop-seat l = (h : ℕ) → MayWake l.fn.self l.fn.token h → WokenUpTo l.fn.token h l.seat-index l.token

@@ -1,4 +1,4 @@
-use Rattle.std.proofs.Common.{ℕ, ◌+◌, ◌%◌, ◌∙◌}
+use Rattle.std.proofs.Common.{◌+◌, ◌%◌, ◌∙◌}
 use Rattle.running_rows.proofs.Keeping.{allowed_aside_by}
 use Rattle.running_rows.proofs.locks.Running+S+View+V+T+K+OneWorld+R.await_lock.Goals as goal
 

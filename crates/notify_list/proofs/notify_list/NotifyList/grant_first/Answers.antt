@@ -5,10 +5,10 @@ use Rattle.notify_list.specs.Seats.{ListModel}
 use Rattle.notify_list.proofs.Owned.{grant_low, owned}
 use Rattle.notify_list.proofs.Allowing.{grants_at}
 use Rattle.notify_list.proofs.Wakening.{stands8, waiter_there, woken_first}
-use Rattle.notify_list.proofs.notify_list.NotifyList.wake_first.Goals as goal
+use Rattle.notify_list.proofs.notify_list.NotifyList.grant_first.Goals as goal
 
-pub grant-requires : goal.grant-requires
-grant-requires c =
+pub store_grant-requires : goal.store_grant-requires
+store_grant-requires c =
     let x = c.self.inside in let s = c.args.token.now in let l = c.args.self.now in let r = c.requires in let w : Wait = r.1 in let may = r.3 in
     let low = waiter_there l s r.0 w r.2 may r.4 in let at = may.list_is ∙ sym c.self.view_is in let mine = ap (λ (y : ListModel). y.setting.seats) at in
     let same = r.5 in let word = c.grant_word.ensures in (
@@ -16,17 +16,12 @@ grant-requires c =
       (
         owned x c.self.invariant s at,
         (
-          ((let g = grant_low x c.self.invariant w.id.seat (omega (arith, mine, low)) in omega (arith, same, word)), (let k = c.asleep_word.ensures.low in let id = ap (λ (y : ListModel). y.id.words) c.self.view_is in omega (arith, k, id))),
+          (let g = grant_low x c.self.invariant w.id.seat (omega (arith, mine, low)) in omega (arith, same, word)),
           grants_at _ s.me c.grant_word.result _ (stands8 l s r.0 w r.2 may r.4) (Grant w.id.seat) 1 _ (λ g. refl) (omega (arith, same, word)) low (λ e. absurd (omega (arith, word, e))),
         ),
       ),
     )
 
-pub asleep_word-requires : goal.asleep_word-requires
-asleep_word-requires c =
-    let s = c.args.token.now in let l = c.args.self.now in let r = c.requires in let w : Wait = r.1 in let may = r.3 in
-    let low = waiter_there l s r.0 w r.2 may r.4 in let mine = ap (λ (y : ListModel). y.setting.seats) may.list_is in let same = r.5 in omega (arith, low, mine, same)
-
 pub returns : goal.returns
-returns c h w rest may hand = let E = c.grant.ensures in
-    woken_first c.args.self.now c.args.token.now h w rest may hand c.grant.new.token E.went.0 (E.went.1, E.went.3) E.own
+returns c h w rest may hand = let E = c.store_grant.ensures in
+    woken_first c.args.self.now c.args.token.now h w rest may hand c.store_grant.new.token E.went.0 (E.went.1, E.went.3) E.own
