@@ -6,6 +6,7 @@ pub mod CoreRows
 pub mod RunSteps
 pub mod Bent
 pub mod Starts
+pub mod Needing
 pub mod Names
 pub mod Joining
 pub mod Differing
