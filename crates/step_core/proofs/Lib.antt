@@ -11,6 +11,8 @@ pub mod Beginning
 pub mod Worlds
 pub mod KeyErasing
 pub mod KeyExact
+pub mod KeyNames
+pub mod KeyForms
 pub mod KeySpares
 pub mod KeyWhole
 mod BentMoving

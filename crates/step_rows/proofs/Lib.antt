@@ -14,4 +14,5 @@ pub mod Turning
 pub mod KeySeats
 pub mod KeyWriting
 pub mod KeyWhole
+pub mod KeyRenaming
 pub mod Replacing

@@ -19,7 +19,7 @@ mod sema_store;
 mod semaphores;
 mod step;
 
-pub use begun::write_begun;
+pub use begun::{write_begun, write_begun_by};
 pub use caller::Caller;
 pub use copying::copy_items;
 pub use list_machine::ListMachine;

@@ -1,0 +1,12 @@
+pub mod Renamings
+pub mod Turns
+pub mod SemaRows
+pub mod ListRows
+pub mod CoreRows
+pub mod RunSteps
+pub mod Bent
+pub mod Starts
+pub mod Needing
+pub mod Names
+pub mod Joining
+pub mod Differing

@@ -1,0 +1,4 @@
+pub mod Renaming
+pub mod AllSeats
+pub mod Renamed
+pub mod DifferInNames
