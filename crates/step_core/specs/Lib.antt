@@ -3,6 +3,7 @@ pub mod WellFormed
 pub mod Stepping
 pub mod Key
 pub mod KeyLaw
+pub mod Names
 pub mod ListKind
 pub mod Finding
 pub mod Picture
