@@ -18,3 +18,4 @@ pub mod KeyWhole
 mod BentMoving
 mod Independent
 mod Finding
+pub mod Naming
