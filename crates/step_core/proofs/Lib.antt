@@ -19,3 +19,4 @@ mod BentMoving
 mod Independent
 mod Finding
 pub mod Naming
+pub mod NamedFacts
