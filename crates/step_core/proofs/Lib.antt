@@ -20,3 +20,4 @@ mod Independent
 mod Finding
 pub mod Naming
 pub mod NamedFacts
+pub mod NamedKeys

@@ -7,3 +7,4 @@ pub mod Names
 pub mod ListKind
 pub mod Finding
 pub mod Picture
+pub mod WaitsOnce
