@@ -18,3 +18,6 @@ pub mod KeyWhole
 mod BentMoving
 mod Independent
 mod Finding
+pub mod Naming
+pub mod NamedFacts
+pub mod NamedKeys

@@ -3,6 +3,8 @@ pub mod WellFormed
 pub mod Stepping
 pub mod Key
 pub mod KeyLaw
+pub mod Names
 pub mod ListKind
 pub mod Finding
 pub mod Picture
+pub mod WaitsOnce

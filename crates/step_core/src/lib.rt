@@ -30,7 +30,7 @@ pub use ends_law::{
     law_of_the_semaphores_ends,
 };
 pub use found::Found;
-pub use laws::law_of_the_keys;
+pub use laws::{law_of_one_key, law_of_the_keys};
 pub use list_law::{law_of_the_list_accounts, law_of_the_lists};
 pub use moment::Moment;
 pub use picture::Picture;

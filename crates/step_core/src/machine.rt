@@ -17,6 +17,7 @@ ghost use Rattle.step_table.specs.Scenario.{IsWithinLimits};
 ghost use Rattle.step_core.specs.State.{Becomes, IsMachineFor, HasSeat, HasListSeat, no_list, core_of};
 ghost use Rattle.step_rows.specs.Stored.{each, IsReadyFor};
 
+mod knowing;
 mod renaming;
 
 use key_words::{write_group, write_standing};

@@ -25,3 +25,7 @@ pub record AreHeld (held : List Held) (seats capacity : ℕ) : Type 0 where
   pub of_seats : All (λ (held : Held). held.seat < seats) held
   pub few : length held ≤ seats
   pub room : seats ≤ capacity
+
+-- the seats of waits
+abbrev pub ids_of : List WaitId → List ℕ
+ids_of = map (λ (w : WaitId). w.seat)
