@@ -34,7 +34,8 @@ fn new_seat(token: Token, number: u16) -> ListSeat
 fn first_words(alloc: Global, setting: Setting) -> Result<Vec<u64>, AllocError>
     requires { AreAllowed setting.seats }
     ensures { IfOk result (λ words. words.items
-        ≡ setting.first ∷ setting.first ∷ replicate (2 + setting.seats + setting.seats + setting.seats + setting.seats + setting.seats) 0) }
+        ≡ setting.first ∷ setting.first
+        ∷ replicate (2 + setting.seats + setting.seats + setting.seats + setting.seats + setting.seats) 0) }
 {
     let seats = setting.seats as usize;
     let all = 4 + seats + seats + seats + seats + seats;

@@ -5,7 +5,8 @@ ghost use Rattle.notify_list.specs.Seats.{stands_of};
 ghost use Rattle.notify_list.specs.Calls.{AllGranted};
 ghost use Rattle.notify_list.specs.NotifyingAll.{NotifiesAll, GrantsSome};
 ghost use Rattle.notify_list.specs.Callers.{NotifiesAllTickets};
-ghost use Rattle.notify_list.specs.GrantingAll.{MayLook, LookedForAll, MayReach, ReachedAll, MayTake, TakenAll, MayWake, WokenFirst, WokenSome};
+ghost use Rattle.notify_list.specs.GrantingAll.{MayLook, LookedForAll, MayReach, ReachedAll};
+ghost use Rattle.notify_list.specs.GrantingAll.{MayTake, TakenAll, MayWake, WokenFirst, WokenSome};
 
 use crate::notify_list::{LOCK, NOTIFY, NotifyList, WAIT, grant_word};
 use crate::rows::{AtAll, Token};

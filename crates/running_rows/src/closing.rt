@@ -39,7 +39,8 @@ impl<S, V, T, K, R: Rows<S, V, T, K>> Running<S, View<V, T>, K, OneWorld<R>> {
     /// Ends the words. They are as the rule has them, with the token's view.
     pub fn close_with(self, token: Token<S, V, T>) -> Closed<S, Global>
         requires { token.table_id ≡ self.table.shared.table_id }
-        ensures counts { (slots_len result.words ≡ self.table.shared.table_id.words) × (slots_len result.slots ≡ self.table.shared.table_id.slots) }
+        ensures counts { (slots_len result.words ≡ self.table.shared.table_id.words)
+            × (slots_len result.slots ≡ self.table.shared.table_id.slots) }
         ensures values { IsFull result.words × IsFull result.slots
             × Final (Seen (IsKept R.family (R.family.key self.table.shared.key)) token.id token.me.0) (slots_items result.words)
             (slots_items result.slots) }

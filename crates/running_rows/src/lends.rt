@@ -22,7 +22,8 @@ impl<S, V, T, K, R: Rows<S, V, T, K>> Running<S, View<V, T>, K, OneWorld<R>> {
         requires own { token.old.table_id ≡ words.now.table.shared.table_id }
         requires held { (old : _) × (token.old.me.1 ≡ (slot, old) ∷ rest token.old.me.1) }
         ensures* writes_back { sem 𝓛
-            (follows (the_row S.row (views.the_row V.row T.row)) S.row token.entry.ghost_name result.ghost_name (seat_with token.old slot)) }
+            (follows (the_row S.row (views.the_row V.row T.row)) S.row token.entry.ghost_name result.ghost_name
+            (seat_with token.old slot)) }
         ensures value { token.old.me.1 ≡ (slot, result.now) ∷ rest token.old.me.1 }
     {
         token.slot_mut(&words.table.shared, slot)

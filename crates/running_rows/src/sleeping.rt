@@ -54,7 +54,7 @@ enum Looked {
 }
 
 /// Of so many waits in vain, one after the other, one looks as long as the first.
-const PROBE: u64 = 32;
+const PROBE: u64 = 256;
 /// So often halved, the looks are few.
 const HALVINGS: u64 = 8;
 

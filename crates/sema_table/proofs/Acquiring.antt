@@ -1,5 +1,5 @@
 -- A whole acquire.
-use Rattle.std.proofs.Common.{◌≡◌, ◌⊎◌, Bool, ℕ, zero, suc, ◌+◌, List, [], ◌∷◌, ◌++◌, sym, refl, ap, ◌∙◌, subst, inl, inr, ⊎_elim, arith, append-nil}
+use Rattle.std.proofs.Common.{◌≡◌, Bool, ℕ, zero, suc, ◌+◌, List, [], ◌∷◌, ◌++◌, sym, refl, ap, ◌∙◌, subst, inl, inr, ⊎_elim, arith, append-nil}
 use Rattle.std.proofs.lemmas.List.Elements.{All-nil}
 use Rattle.step_table.specs.declared.entry.Entry.{Entry}
 use Rattle.step_table.specs.declared.entry.Entry.TheVariants.{Take, Queue}
@@ -18,15 +18,11 @@ use Rattle.sema_table.specs.Seats.{SeatModel}
 use Rattle.sema_table.specs.Calls.{Calls, RunsRows, ComesTo}
 use Rattle.sema_table.specs.Tries.{acquiring, IsTried}
 use Rattle.sema_table.specs.Waking.{RunsOrWaits, RunsAndSleeps, CallsGranted, IsEntered, IsRetried}
-use Rattle.sema_table.specs.Whole.{IsRoused, queued, TakesFrom, ParksLast, TakesAfter, TakesAtOnce, FindsNone, IsAcquired}
+use Rattle.sema_table.specs.Whole.{IsRoused, queued, TakesFrom, ParksLast, TakesAfter, TakesAtOnce, FindsNone, TriesOn, IsAcquired}
 use Rattle.sema_table.proofs.Calling.{placed_at, call_of, sleepless, calls_then}
 
--- tries that were lost, or none yet
-abbrev pub TriesOn : SeatModel → ℕ → SeatModel → Type 0
-TriesOn s c t = (t ≡ s) ⊎ ((t ≡ record s { sight = t.sight; strides = t.strides }) × ComesTo s (acquiring c A1) t × RunsRows s (acquiring c A1) t [])
-
 module _ (s t u : SeatModel) (c : ℕ) where
-  same_on : TriesOn s c t → t ≡ record s { sight = t.sight; strides = t.strides }
+  pub same_on : TriesOn s c t → t ≡ record s { sight = t.sight; strides = t.strides }
   same_on (inl e) = e ∙ (λ i. record s { sight = (sym e i).sight; strides = (sym e i).strides })
   same_on (inr x) = x.0
 
@@ -63,16 +59,25 @@ module _ (s t u : SeatModel) (c : ℕ) where
     e.3,
   )
 
+-- tries after tries that were lost
+pub on_after : (s t u : SeatModel) (c : ℕ) → TriesOn s c t → TriesOn t c u → TriesOn s c u
+on_after s t u c x (inl e) = subst (TriesOn s c) (sym e) x
+on_after s t u c x (inr y) = inr (
+  y.0 ∙ ap (λ (q : SeatModel). record q { sight = u.sight; strides = u.strides }) (same_on s t u c x),
+  y.1 ∙ stood_on s t u c (acquiring c A1) x,
+  calls_on s t u c [] x y.2,
+)
+
 -- an acquire after tries that were lost
 module _ (s t u : SeatModel) (c : ℕ) (lifo : Bool) (x : TriesOn s c t) where
-  taken_after : TakesAtOnce t c u → TakesAtOnce s c u
+  pub taken_after : TakesAtOnce t c u → TakesAtOnce s c u
   taken_after e = (
     e.0 ∙ ap (λ (q : SeatModel). record q { taken = q.taken + 1; sight = u.sight; strides = u.strides }) (same_on s t u c x),
     e.1 ∙ stood_on s t u c Rest x,
     subst (λ i. RunsRows s (acquiring c A1) u (Take c i ∷ [])) (number_on s t u c x) (calls_on s t u c (Take c t.number ∷ []) x e.2),
   )
 
-  none_after : (v : SeatModel) → FindsNone t c v → FindsNone s c v
+  pub none_after : (v : SeatModel) → FindsNone t c v → FindsNone s c v
   none_after v e = (
     e.0 ∙ ap (λ (q : SeatModel). record q { sight = v.sight; strides = v.strides }) (same_on s t v c x),
     e.1 ∙ stood_on s t v c (acquiring c A3) x,

@@ -12,6 +12,8 @@ use Rattle.sema_law.specs.SemaPath.{SemaStride}
 use Rattle.sema_table.specs.declared.answers.Posted.TheVariants.{Done, Owes}
 use Rattle.sema_table.specs.declared.answers.Roused.{Roused}
 use Rattle.sema_table.specs.declared.answers.Roused.TheVariants.{Woken, Handed}
+use Rattle.sema_table.specs.declared.answers.Tried.{Tried}
+use Rattle.sema_table.specs.declared.answers.Tried.TheVariants as tried
 use Rattle.sema_table.specs.declared.answers.Wake.{Wake}
 use Rattle.sema_table.specs.declared.answers.Wake.TheVariants.{Nobody}
 use Rattle.sema_table.specs.Seats.{SeatModel}
@@ -80,6 +82,19 @@ abbrev pub FindsNone : SeatModel → ℕ → SeatModel → Type 0
 FindsNone s c t =
     (t ≡ record s { sight = t.sight; strides = t.strides }) × ComesTo s (acquiring c A3) t
     × RunsRows s (acquiring c A1) t [] × ((plain_seen t).numbers c ≡ 0)
+
+-- tries that were lost, or none
+abbrev pub TriesOn : SeatModel → ℕ → SeatModel → Type 0
+TriesOn s c t =
+    (t ≡ s)
+    ⊎ ((t ≡ record s { sight = t.sight; strides = t.strides }) × ComesTo s (acquiring c A1) t
+    × RunsRows s (acquiring c A1) t [])
+
+-- at most one try, which took a unit, found none, or was lost
+abbrev pub TriesAtSight : SeatModel → ℕ → Tried → SeatModel → Type 0
+TriesAtSight s c tried.Taken t = TakesAtOnce s c t
+TriesAtSight s c tried.Zero t = FindsNone s c t
+TriesAtSight s c tried.Lost t = TriesOn s c t
 
 -- the seat has come by one unit of the counter: at once, or from the lock on, after its tries had found none
 abbrev pub IsAcquired : SeatModel → ℕ → Bool → SeatModel → Type 0

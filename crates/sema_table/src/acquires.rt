@@ -38,7 +38,13 @@ impl SemaTable {
 
     /// The same, apart: so a caller's own code has one try, and no loop that may wait.
     #[inline(never)]
-    fn acquire_again<R: Wait>(&self, rt: &R, seat: Seat, counter: CounterId, lifo: bool) -> Seat
+    pub(crate) fn acquire_again<R: Wait>(
+        &self,
+        rt: &R,
+        seat: Seat,
+        counter: CounterId,
+        lifo: bool,
+    ) -> Seat
         requires { (seat.table ≡ self.now) × (counter < length self.now.setting.starts) }
         ensures { IsAcquired seat counter lifo result }
     {
@@ -51,7 +57,13 @@ impl SemaTable {
 
     /// An acquire from the lock on.
     #[inline]
-    fn acquire_slowly<R: Wait>(&self, rt: &R, seat: Seat, counter: CounterId, lifo: bool) -> Seat
+    pub(crate) fn acquire_slowly<R: Wait>(
+        &self,
+        rt: &R,
+        seat: Seat,
+        counter: CounterId,
+        lifo: bool,
+    ) -> Seat
         requires { (seat.table ≡ self.now) × (counter < length self.now.setting.starts) }
         ensures { let a = acquire_of counter lifo in TakesFrom seat (Place.Acquiring a AcquireRow.A3) a result }
     {
@@ -60,7 +72,13 @@ impl SemaTable {
 
     /// The same, apart: so a caller's own code has the tries alone.
     #[inline(never)]
-    fn acquire_at_lock<R: Wait>(&self, rt: &R, seat: Seat, counter: CounterId, lifo: bool) -> Seat
+    pub(crate) fn acquire_at_lock<R: Wait>(
+        &self,
+        rt: &R,
+        seat: Seat,
+        counter: CounterId,
+        lifo: bool,
+    ) -> Seat
         requires { (seat.table ≡ self.now) × (counter < length self.now.setting.starts) }
         ensures { let a = acquire_of counter lifo in TakesFrom seat (Place.Acquiring a AcquireRow.A3) a result }
     {

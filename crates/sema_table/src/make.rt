@@ -72,7 +72,8 @@ fn first_words(alloc: Global, settings: &Settings) -> Result<Vec<u64>, AllocErro
     requires { AreAllowed settings.now }
     ensures words { IfOk result (λ words. words.items
         ≡ apart settings.now.starts.items
-        ++ replicate (settings.now.roots + settings.now.roots + settings.now.seats + settings.now.seats + settings.now.seats + settings.now.roots) 0) }
+        ++ replicate (settings.now.roots + settings.now.roots + settings.now.seats + settings.now.seats + settings.now.seats
+        + settings.now.roots) 0) }
     ensures starts { OnOk result (All (λ start. start < 2 ^ 32) settings.now.starts.items) }
 {
     let roots = settings.roots as usize;

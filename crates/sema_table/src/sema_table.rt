@@ -32,7 +32,8 @@ impl Model for SemaTable {
 
     ghost view = { λ t. record { id = t.words.table.shared.table_id; setting = setting_of t.words.table.shared.key } };
 
-    ghost invariant = { λ t. IsTable t.words.table.shared.table_id (setting_of t.words.table.shared.key) t.counters t.roots t.seats t.limit };
+    ghost invariant = { λ t. IsTable t.words.table.shared.table_id (setting_of t.words.table.shared.key) t.counters t.roots t.seats
+        t.limit };
 }
 
 /// Where the counter of a number lies. Each has a cache line of its own: two in one line would be fetched together.

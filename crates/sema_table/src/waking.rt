@@ -6,7 +6,8 @@ ghost use Rattle.step_table.specs.declared.place.ReleaseRow.TheVariants.{R3, R4,
 ghost use Rattle.sema_table.specs.Seats.{IsToken, table_of, seat_of};
 ghost use Rattle.sema_table.specs.Calls.{ComesTo};
 ghost use Rattle.sema_table.specs.Waking.{Wakes, IsWakened};
-ghost use Rattle.sema_table.specs.Walks.{Stands, Holds, Walked, Moves, HasRecord, Granted, moved_to, taken_out, sought, trying, unlocked, granting, taken_for};
+ghost use Rattle.sema_table.specs.Walks.{Stands, Holds, Walked, Moves, HasRecord, Granted};
+ghost use Rattle.sema_table.specs.Walks.{moved_to, taken_out, sought, trying, unlocked, granting, taken_for};
 ghost use Rattle.sema_table.specs.CallersReleasing.{WakesFirst};
 
 use crate::answers::Wake;

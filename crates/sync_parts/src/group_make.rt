@@ -39,7 +39,8 @@ impl StateWord {
         requires own { first.old.table_id ≡ self.now.id }
         requires makes { (0 < first.old.me.0.made) × (first.old.me.0.made < first.old.me.0.own.knows.seats) }
         ensures first { (first.new.table_id ≡ self.now.id) × (first.new.me ≡ (making first.old.me.0, first.old.me.1)) }
-        ensures made { (result.table_id ≡ self.now.id) × (result.me ≡ (lone (fresh_seat group_rows first.old.me.0.own.knows.seats first.old.me.0.made), [])) }
+        ensures made { (result.table_id ≡ self.now.id)
+            × (result.me ≡ (lone (fresh_seat group_rows first.old.me.0.own.knows.seats first.old.me.0.made), [])) }
     {
         self.words.make_seat(first)
     }

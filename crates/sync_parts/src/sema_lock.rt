@@ -73,8 +73,7 @@ impl<'t> SemaLock<'t> {
         let Some(seat) = self.seat.take() else {
             unreachable!()
         };
-        self.table.spin(self.counter);
-        let seat = self.table.acquire(rt, seat, self.counter, false);
+        let seat = self.table.acquire_spinning(rt, seat, self.counter);
         let _ = seat.taken();
         self.seat = Some(seat);
         self.held = true;

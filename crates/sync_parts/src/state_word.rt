@@ -62,7 +62,8 @@ impl StateWord {
 
     /// G2, V1 or V3: the word.
     pub(crate) fn load(&self, token: &mut StateToken) -> GroupWord
-        requires own { (token.old.table_id ≡ self.now.id) × Follows token.old.me.0.own.knows.next (load_row token.old.me.0.own.knows.next) }
+        requires own { (token.old.table_id ≡ self.now.id)
+            × Follows token.old.me.0.own.knows.next (load_row token.old.me.0.own.knows.next) }
         requires some { 0 < token.old.me.0.own.knows.seats }
         ensures { Steps token.old (load_row token.old.me.0.own.knows.next) result token.new }
     {

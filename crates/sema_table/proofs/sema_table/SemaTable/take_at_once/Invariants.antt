@@ -1,4 +1,4 @@
-use Rattle.sema_table.proofs.Acquiring.{TriesOn}
+use Rattle.sema_table.specs.Whole.{TriesOn}
 use Rattle.sema_table.proofs.sema_table.SemaTable.take_at_once.Given as goal
 
 abbrev pub invariant-loop : goal.invariant-loop

@@ -7,18 +7,18 @@ use Rattle.sync_parts.proofs.sema_lock.SemaLock.acquire.Goals as goal
 
 pub invariant_of-self : goal.invariant_of-self
 invariant_of-self g c =
-    let i = c.self.inside in let s = c.in-Some.seat in let t = c.acquire-seat.result in
+    let i = c.self.inside in let s = c.in-Some.seat in let t = c.acquire_spinning-seat.result in
     let seat_is : i.seat ≡ Some s = cc in
     let is : IsLock i.table.now (Some s) i.counter i.held = rw (← seat_is) c.self.invariant in
-    let acquired : IsAcquired s i.counter false t = c.acquire-seat.ensures.rows in
+    let acquired : IsAcquired s i.counter false t = c.acquire_spinning-seat.ensures.rows in
     locked_keeps i.table.now s t i.counter i.held is (sym c.taken.ensures.counted ∙ c.taken.ensures.taken) acquired
 
 pub returns : goal.returns
 returns g c =
-    let i = c.self.inside in let s = c.in-Some.seat in let t = c.acquire-seat.result in
+    let i = c.self.inside in let s = c.in-Some.seat in let t = c.acquire_spinning-seat.result in
     let seat_is : i.seat ≡ Some s = cc in
     let is : IsLock i.table.now (Some s) i.counter i.held = rw (← seat_is) c.self.invariant in
-    let acquired : IsAcquired s i.counter false t = c.acquire-seat.ensures.rows in
+    let acquired : IsAcquired s i.counter false t = c.acquire_spinning-seat.ensures.rows in
     let was : lock_of i.table.now (Some s) i.counter i.held ≡ c.args.self.now = ap (λ x. lock_of i.table.now x i.counter i.held)
     (sym seat_is) ∙ c.self.view_is in
     subst (λ (l : LockModel). HasLocked l (lock_of i.table.now (Some t) i.counter true)) was
