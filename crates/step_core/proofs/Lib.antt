@@ -21,3 +21,7 @@ mod Finding
 pub mod Naming
 pub mod NamedFacts
 pub mod NamedKeys
+pub mod Often
+pub mod StandingOnce
+pub mod WaitingOnce
+pub mod NamedLaw

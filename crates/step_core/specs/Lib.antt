@@ -8,3 +8,4 @@ pub mod ListKind
 pub mod Finding
 pub mod Picture
 pub mod WaitsOnce
+pub mod NamedKeyLaw
