@@ -18,6 +18,7 @@ pub mod KeyWhole
 mod BentMoving
 mod Independent
 mod Finding
+pub mod ListsWriting
 pub mod Naming
 pub mod NamedFacts
 pub mod NamedKeys
