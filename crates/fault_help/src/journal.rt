@@ -1,29 +1,51 @@
 //! What is said of a line of a journal that has no form.
 
 ghost use Rattle.std.specs.Prelude.{◌≡◌, IfOk, Some, string_bytes};
-ghost use Rattle.fault_help.specs.JournalHelp.{form_text, journal_help};
+ghost use Rattle.fault_help.specs.JournalHelp.{journal_help, line_help, wrong_text};
 
 use crate::beginning::shown;
+use crate::reading::ends_in_return;
 use scenario_text::line_at;
 use std::alloc::{AllocError, Global};
 use std::fmt;
 
 /// What is wrong with a line, of which this much is shown, and what was expected there.
 #[derive(Clone, Copy)]
-struct NoForm<'t>(&'t str);
+pub(crate) enum Wrong<'t> {
+    /// It ends with a carriage return before its line feed.
+    Return(&'t str),
+    /// It has no form.
+    NoForm(&'t str),
+}
 
-impl fmt::Display for NoForm<'_> {
-    ghost output = { λ form. Some (form_text form.0.now) };
+impl fmt::Display for Wrong<'_> {
+    ghost output = { λ wrong. Some (wrong_text wrong) };
 
     #[tactic(auto, unfolding(crate::specs::JournalHelp::form_text))]
     fn fmt<W: fmt::Write>(&self, f: &mut fmt::Formatter<W>) -> fmt::Result {
-        let line = self.0;
-        write!(
-            f,
-            "no line is spelled \"{line}\" here: counter N and list F come first, and then add C S, add C S many N, \
-             take C S, queue C S.T, queue C S.T lifo, leave C S.T S, ticket L S, grant L UPTO S, each of a counter or \
-             list that is declared; a line feed ends each line"
-        )
+        match self {
+            Wrong::Return(line) => {
+                write!(f, "\"{line}\" ends in CRLF: a line feed alone ends a line")
+            }
+            Wrong::NoForm(line) => write!(
+                f,
+                "no line is spelled \"{line}\" here: counter N and list F come first, and then add C S, add C S many N, \
+                 take C S, queue C S.T, queue C S.T lifo, leave C S.T S, ticket L S, grant L UPTO S, each of a counter or \
+                 list that is declared; a line feed ends each line"
+            ),
+        }
+    }
+}
+
+/// What is wrong with the line.
+fn wrong_with(line: &[u8]) -> Wrong<'_>
+    ensures { wrong_text result ≡ line_help line.now }
+{
+    let text = shown(line);
+    if ends_in_return(line) {
+        Wrong::Return(text)
+    } else {
+        Wrong::NoForm(text)
     }
 }
 
@@ -33,7 +55,7 @@ impl fmt::Display for NoForm<'_> {
 pub fn explain_journal(alloc: Global, text: &[u8], line: usize) -> Result<String, AllocError>
     ensures { IfOk result (λ told. string_bytes told ≡ journal_help text.now line) }
 {
-    let wrong = NoForm(shown(line_at(text, line)));
+    let wrong = wrong_with(line_at(text, line));
     let told = format!(in alloc; "line {line}: {wrong}\n")?;
     Ok(told)
 }

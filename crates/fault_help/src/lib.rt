@@ -7,8 +7,10 @@
 #![tactic(auto)]
 
 mod beginning;
+mod formless;
 mod journal;
 mod problem;
+mod reading;
 
 pub use journal::explain_journal;
 pub use problem::explain;

@@ -4,6 +4,8 @@ ghost use Rattle.std.specs.Prelude.{◌≡◌, IfOk, IfSome, Some, string_bytes}
 ghost use Rattle.fault_help.specs.Explained.{problem_text, IsProblem, HasCalls, IsUnspelledIn, Explains};
 
 use crate::beginning::shown;
+use crate::formless::{Formless, no_call, no_line};
+use crate::reading::ends_in_return;
 use scenario_text::{Cause, ReadFault, is_call, line_at, printable};
 use std::alloc::{AllocError, Global};
 use std::fmt;
@@ -15,10 +17,10 @@ pub(crate) enum Problem<'t> {
     NoLineFeed(&'t str),
     /// A byte behind this can't be printed.
     Unprintable(&'t str),
-    /// No line is spelled so.
-    NoLine(&'t str),
-    /// No call is spelled so.
-    NoCall(&'t str),
+    /// It ends with a carriage return before its line feed.
+    Return(&'t str),
+    /// It has no form.
+    NoForm(Formless<'t>),
     /// It may not come here.
     Misplaced(&'t str),
     /// A number is outside its range.
@@ -47,16 +49,10 @@ impl fmt::Display for Problem<'_> {
                     "a byte behind \"{line}\" can't be printed: lines are of printed ASCII"
                 )
             }
-            Problem::NoLine(line) => write!(
-                f,
-                "no line is spelled \"{line}\": roots N, counter S, list F, group, seat K: CALLS, \
-                 settled, value C N, no-misuse"
-            ),
-            Problem::NoCall(call) => write!(
-                f,
-                "no call is spelled \"{call}\": acquire C, acquire C lifo, release C, release C handoff, \
-                 release C many N, add L, wait L, one L, all L, gadd G D, gwait G"
-            ),
+            Problem::Return(line) => {
+                write!(f, "\"{line}\" ends in CRLF: a line feed alone ends a line")
+            }
+            Problem::NoForm(formless) => write!(f, "{formless}"),
             Problem::Misplaced(line) => write!(
                 f,
                 "\"{line}\" can't stand here: roots, counters, lists, groups, seats from 0 on and one property \
@@ -73,7 +69,8 @@ impl fmt::Display for Problem<'_> {
             ),
             Problem::Undeclared(line) => write!(
                 f,
-                "\"{line}\" names what isn't declared: counters, lists and groups count from 0, each kind for itself"
+                "\"{line}\" names what isn't declared: counter, list and group lines come before seats, and count from 0, \
+                 each kind for itself"
             ),
             Problem::Ticket(line) => write!(
                 f,
@@ -112,12 +109,21 @@ fn unspelled_call(line: &str) -> Option<&str>
 fn formless(line: &[u8]) -> Problem<'_>
     ensures { IsProblem Cause.Form line.now result }
 {
-    let Some(text) = printable(line) else {
-        return Problem::NoLine(shown(line));
-    };
-    match unspelled_call(text) {
-        Some(call) => Problem::NoCall(shown(call.as_bytes())),
-        None => Problem::NoLine(shown(line)),
+    match printable(line).and_then(unspelled_call) {
+        Some(call) => Problem::NoForm(no_call(call.as_bytes())),
+        None => Problem::NoForm(no_line(line)),
+    }
+}
+
+/// What is wrong with a line that has a byte which can't be printed.
+fn unprintable(line: &[u8]) -> Problem<'_>
+    ensures { IsProblem Cause.Byte line.now result }
+{
+    let text = shown(line);
+    if ends_in_return(line) {
+        Problem::Return(text)
+    } else {
+        Problem::Unprintable(text)
     }
 }
 
@@ -127,7 +133,7 @@ fn problem_of(line: &[u8], cause: Cause) -> Option<Problem<'_>>
 {
     Some(match cause {
         Cause::Cut => Problem::NoLineFeed(shown(line)),
-        Cause::Byte => Problem::Unprintable(shown(line)),
+        Cause::Byte => unprintable(line),
         Cause::Form => formless(line),
         Cause::Place => Problem::Misplaced(shown(line)),
         Cause::Range => Problem::OutOfRange(shown(line)),

@@ -1,11 +1,11 @@
-use Rattle.std.proofs.Common.{◌≡◌, ◌∙◌, List, ℕ, ap, subst}
-use Rattle.std.specs.Prelude.{string_bytes}
-use Rattle.fault_help.specs.Explained.{shown}
-use Rattle.fault_help.specs.JournalHelp.{help_about}
+use Rattle.std.proofs.Common.{◌≡◌, ◌∙◌, ℕ, List, [], ◌∷◌, ◌++◌, ap, subst}
+use Rattle.std.specs.Prelude.{string_bytes, codes}
+use Rattle.std.specs.Fmt.{decimal}
+use Rattle.fault_help.specs.JournalHelp.{line_help, wrong_text}
 use Rattle.fault_help.proofs.journal.explain_journal.Goals as goal
 
 pub returns : goal.returns
 returns c =
-    let P : List ℕ → Type 0 = λ line. string_bytes c.in_ok-told.told ≡ help_about c.args.line line in
-    let told : P c.shown.result.now = c.in_ok-told.ensures.ok in
-    subst P (c.shown.ensures ∙ ap shown c.line_at.ensures) told
+    let P : List ℕ → Type 0 = λ wrong. string_bytes c.in_ok-told.told ≡ codes "line " ++ (decimal c.args.line ++ (codes ": " ++ (wrong ++ 10 ∷ []))) in
+    let told : P (wrong_text c.wrong_with-wrong.result) = c.in_ok-told.ensures.ok in
+    subst P (c.wrong_with-wrong.ensures ∙ ap line_help c.line_at.ensures) told
