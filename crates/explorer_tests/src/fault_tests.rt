@@ -242,7 +242,7 @@ fn one_too_many_is_refused(rt: HostRuntime) {
 }
 
 /// Faulty texts, and what is told beside of each.
-const HELPED: [Row; 12] = [
+const HELPED: [Row; 16] = [
     (
         b"counter 0\nseat 0: aquire 0\nsettled\n",
         "line 2: no call is spelled \"aquire 0\": acquire C, acquire C lifo, release C, release C handoff, \
@@ -291,8 +291,27 @@ const HELPED: [Row; 12] = [
     ),
     (
         b"counter 0\nseat 0: acquire 3\n",
-        "line 2: \"seat 0: acquire 3\" names what isn't declared: counters, lists and groups count from 0, \
-         each kind for itself\n",
+        "line 2: \"seat 0: acquire 3\" names what isn't declared: counter, list and group lines come before \
+         seats, and count from 0, each kind for itself\n",
+    ),
+    (
+        b"counter 0\r\n",
+        "line 1: \"counter 0\" ends in CRLF: a line feed alone ends a line\n",
+    ),
+    (
+        b"counter 0\nseat 0: acquire 0;release 0\n",
+        "line 2: no call is spelled \"acquire 0;release 0\": a semicolon and one space part a call from the \
+         next\n",
+    ),
+    (
+        b"counter 99999999999\n",
+        "line 1: more than 10 digits stand in a row in \"counter 99999999999\": a number has ten at most, a \
+         list's first ticket twenty\n",
+    ),
+    (
+        b"counter 0\nseat 0: acquire 0; acquire 00000000000\n",
+        "line 2: more than 10 digits stand in a row in \"acquire 00000000000\": a number has ten at most, a \
+         list's first ticket twenty\n",
     ),
     (
         b"list 0\nseat 0: wait 0\n",

@@ -6,3 +6,4 @@ pub mod Placing
 pub mod Rules
 pub mod Shown
 pub mod Verdicts
+pub mod Locks

@@ -14,7 +14,7 @@ use Rattle.journal_judge.proofs.Rules.{lawful_front, lawful_breaks_none, breaks_
 
 -- ---- the entries in front of a place, the one there, and those behind
 
-split : (xs : List journal.Entry) (i : ℕ) (d : journal.Entry) → i < length xs → entries_of xs ≡ entries_of (take i xs) ++ (entry_of (get_or xs i d) ∷ entries_of (drop (suc i) xs))
+pub split : (xs : List journal.Entry) (i : ℕ) (d : journal.Entry) → i < length xs → entries_of xs ≡ entries_of (take i xs) ++ (entry_of (get_or xs i d) ∷ entries_of (drop (suc i) xs))
 split [] i d lt = absurd (omega arith)
 split (x ∷ xs) zero d lt = refl
 split (x ∷ xs) (suc i) d lt = ap (λ z. entry_of x ∷ z) (split xs i d (omega arith))
@@ -24,13 +24,13 @@ front_more [] i d lt = absurd (omega arith)
 front_more (x ∷ xs) zero d lt = refl
 front_more (x ∷ xs) (suc i) d lt = ap (λ z. entry_of x ∷ z) (front_more xs i d (omega arith))
 
-front_length : (xs : List journal.Entry) (i : ℕ) → i ≤ length xs → length (entries_of (take i xs)) ≡ i
+pub front_length : (xs : List journal.Entry) (i : ℕ) → i ≤ length xs → length (entries_of (take i xs)) ≡ i
 front_length xs zero le = refl
 front_length [] (suc i) le = absurd (omega arith)
 front_length (x ∷ xs) (suc i) le = omega (arith, front_length xs i (omega arith))
 
 -- one more, by the code's names
-next : (xs : List journal.Entry) (i : ℕ) (e : journal.Entry) → i < length xs → e ≡ get_or xs i e → entries_of (take (i + 1) xs) ≡ entries_of (take i xs) ++ (entry_of e ∷ [])
+pub next : (xs : List journal.Entry) (i : ℕ) (e : journal.Entry) → i < length xs → e ≡ get_or xs i e → entries_of (take (i + 1) xs) ≡ entries_of (take i xs) ++ (entry_of e ∷ [])
 next xs i e lt is =
     let one : suc i ≡ i + 1 = omega arith in
     ap (λ (n : ℕ). entries_of (take n xs)) (sym one) ∙ front_more xs i e lt ∙ ap (λ (x : journal.Entry). entries_of (take i xs) ++ (entry_of x ∷ [])) (sym is)

@@ -1,5 +1,5 @@
 -- What the judge keeps of the entries that it has seen.
-use Rattle.std.specs.Prelude.{ℕ, ◌+◌, ◌<◌, ◌^◌, ◌==◌, Bool, false, cond, nat_lt, ◌&&◌, ◌||◌, List, [], ◌∷◌, Option, Some, None}
+use Rattle.std.specs.Prelude.{◌≢◌, ℕ, ◌+◌, ◌<◌, ◌^◌, ◌==◌, Bool, false, cond, nat_lt, ◌&&◌, ◌||◌, List, [], ◌∷◌, Option, Some, None}
 use Rattle.waiters.specs.declared.wait.WaitId.{WaitId}
 use Rattle.step_table.specs.declared.entry.Entry.{Entry}
 use Rattle.step_table.specs.declared.entry.Entry.TheVariants.{Take, Queue, Leave, Grant}
@@ -73,3 +73,7 @@ first_broken a entry = None
 pub record HasRoom (a : Account) : Type 0 where
   pub numbers : (c : ℕ) → a.numbers c + 10 ^ 20 < 2 ^ 128
   pub handed : (l : ℕ) → (a.told l).handed + 1 < 2 ^ 128
+
+-- a wait is queued on the counter, which has a unit
+abbrev pub IsAsleepBeside : Account → ℕ → Type 0
+IsAsleepBeside a c = (0 < a.numbers c) × (a.lists c ≢ [])

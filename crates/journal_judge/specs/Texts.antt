@@ -1,6 +1,10 @@
 -- What is printed of a journal that was judged.
 use Rattle.std.specs.Prelude.{ℕ, List, ◌++◌, codes}
 use Rattle.std.specs.Fmt.{decimal}
+use Rattle.journal_judge.specs.declared.judgement.Judgement.{Judgement}
+use Rattle.journal_judge.specs.declared.judgement.Judgement.TheVariants as judged
+use Rattle.journal_judge.specs.declared.lock_rule.LockRule.{LockRule}
+use Rattle.journal_judge.specs.declared.lock_rule.LockRule.TheVariants.{NotHeld, HeldByAnother}
 use Rattle.journal_judge.specs.declared.rule.Rule.{Rule}
 use Rattle.journal_judge.specs.declared.rule.Rule.TheVariants.{NoUnit, NotFirst, GrantedBefore, NotHandedOut, QueuedTwice, LeftTwice, NoRelease}
 use Rattle.journal_judge.specs.declared.verdict.Verdict.{Verdict}
@@ -20,3 +24,14 @@ rule_text NoRelease = codes "no release"
 abbrev pub verdict_text : Verdict → List ℕ
 verdict_text Lawful = codes "lawful"
 verdict_text (Unlawful line rule) = codes "unlawful: line " ++ (decimal line ++ (codes ": " ++ rule_text rule))
+
+abbrev pub lock_rule_text : LockRule → List ℕ
+lock_rule_text NotHeld = codes "not held"
+lock_rule_text HeldByAnother = codes "held by another"
+
+-- the whole answer where more is asked than the law
+abbrev pub judgement_text : Judgement → List ℕ
+judgement_text judged.Lawful = codes "lawful"
+judgement_text (judged.Unlawful line rule) = codes "unlawful: line " ++ (decimal line ++ (codes ": " ++ rule_text rule))
+judgement_text (judged.Misheld line rule) = codes "unlawful: line " ++ (decimal line ++ (codes ": " ++ lock_rule_text rule))
+judgement_text (judged.LeftAsleep counter) = codes "left asleep: counter " ++ decimal counter

@@ -1,10 +1,10 @@
 //! What the judge keeps of the entries that it has seen.
 
-ghost use Rattle.std.specs.Prelude.{◌≡◌, ◌<◌, ◌+◌, ◌^◌, ℕ, Bool, [], length, OnOk, IfOk, slice_index, slice_index_or, vec_len};
+ghost use Rattle.std.specs.Prelude.{◌≡◌, ◌<◌, ◌+◌, ◌^◌, ℕ, Bool, [], length, OnOk, IfOk, MatchOption, slice_index, slice_index_or, vec_len};
 ghost use Rattle.waiters.specs.declared.wait.WaitId.{WaitId};
 ghost use Rattle.step_table.specs.declared.entry.Entry.TheVariants as law;
 ghost use Rattle.journal_judge.specs.LawfulJournal.{entry_of, wait_of};
-ghost use Rattle.journal_judge.specs.Account.{HasRoom, account, after, first_broken, has_unit};
+ghost use Rattle.journal_judge.specs.Account.{HasRoom, IsAsleepBeside, account, after, first_broken, has_unit};
 ghost use Rattle.journal_judge.specs.Shown.{HasSizesOf, IsReady, none_told, shown};
 
 use crate::budget::Budget;
@@ -268,5 +268,18 @@ impl Ledger {
                 Ok(())
             }
         }
+    }
+
+    /// The first counter that has a unit and on which a wait is queued.
+    pub(crate) fn left_asleep(&self) -> Option<usize>
+        requires { vec_len self.now.queues ≡ vec_len self.now.numbers }
+        ensures { MatchOption result ((c : ℕ) → IsAsleepBeside (shown self.now) c → ⊥) (IsAsleepBeside (shown self.now)) }
+    {
+        for (counter, number) in self.numbers.iter().enumerate() {
+            if *number > 0 && !self.queues[counter].is_empty() {
+                return Some(counter);
+            }
+        }
+        None
     }
 }

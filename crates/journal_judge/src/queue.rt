@@ -1,4 +1,4 @@
-ghost use Rattle.std.specs.Prelude.{◌≡◌, [], OnOk, drop};
+ghost use Rattle.std.specs.Prelude.{◌≡◌, ◌≢◌, false, [], OnOk, IsTrue, drop};
 ghost use Rattle.step_table.specs.World.{insert_wait};
 ghost use Rattle.journal_judge.specs.LawfulJournal.{wait_of};
 ghost use Rattle.journal_judge.specs.Account.{begins as begins_with};
@@ -32,6 +32,17 @@ impl Queue {
     {
         Queue {
             waits: VecDeque::new(alloc),
+        }
+    }
+
+    /// Whether nobody waits.
+    pub(crate) fn is_empty(&self) -> bool
+        ensures none { IsTrue result → self.now ≡ [] }
+        ensures some { result ≡ false → self.now ≢ [] }
+    {
+        match self.waits.front() {
+            Some(_) => false,
+            None => true,
         }
     }
 

@@ -7,7 +7,7 @@ use Rattle.journal_judge.specs.Account.{Account, account, after, first_broken}
 use Rattle.journal_judge.specs.Shown.{shown}
 use Rattle.journal_judge.proofs.Bounds.{IsBounded, bounded_start, bounded_more}
 use Rattle.journal_judge.proofs.Verdicts.{account_next, lawful_next, told_unlawful, lawful_none, whole_front}
-use Rattle.journal_judge.proofs.judging.judge.Goals as goal
+use Rattle.journal_judge.proofs.judging.replay.Goals as goal
 
 pub loop-place-init : goal.loop-place-init
 loop-place-init c =
@@ -50,5 +50,10 @@ loop-place-preserved c =
 
 pub returns : goal.returns
 returns c =
+    let I = c.loop-place.invariant in
     let all = whole_front c.args.journal.now.entries c.loop-place.place (rw (c.as_slice-entries.ensures) at c.loop-place-test.false) in
-    subst (λ (es : List Entry). IsLawfulJournal c.args.journal.now.starts (entries_of es)) all c.loop-place.invariant.lawful
+    record {
+      lawful = subst (λ (es : List Entry). IsLawfulJournal c.args.journal.now.starts (entries_of es)) all I.lawful;
+      shows = I.shows ∙ ap (λ (es : List Entry). account c.args.journal.now.starts (entries_of es)) all;
+      sizes = I.queues ∙ sym I.numbers;
+    }

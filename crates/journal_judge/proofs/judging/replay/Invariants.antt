@@ -3,7 +3,7 @@ use Rattle.journal_judge.specs.LawfulJournal.{entries_of, IsLawfulJournal}
 use Rattle.journal_judge.specs.Account.{account}
 use Rattle.journal_judge.specs.Shown.{shown}
 use Rattle.journal_judge.proofs.Bounds.{IsBounded}
-use Rattle.journal_judge.proofs.judging.judge.Given as goal
+use Rattle.journal_judge.proofs.judging.replay.Given as goal
 
 -- the ledger shows the account of the entries in front, which are lawful
 abbrev pub invariant-loop-place : goal.invariant-loop-place
