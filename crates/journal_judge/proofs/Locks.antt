@@ -1,16 +1,16 @@
 -- What is told of locks.
-use Rattle.std.proofs.Common.{◌≡◌, ◌≢◌, ℕ, suc, ◌+◌, ◌<◌, ◌≤◌, ◌⊎◌, Bool, true, false, cond, nat_lt, eqb, List, [], ◌∷◌, ◌++◌, length, get_or, take, drop, Option, Some, None, refl, sym, ap, subst, ◌∙◌, inl, inr, below_more, eq-eqb, arith}
+use Rattle.std.proofs.Common.{◌≡◌, ℕ, suc, ◌+◌, ◌<◌, ◌≤◌, Bool, true, false, cond, nat_lt, List, [], ◌∷◌, ◌++◌, length, get_or, take, drop, Option, Some, None, refl, sym, ap, subst, ◌∙◌, below_more, arith}
 use Rattle.std.proofs.lemmas.Bool.{ltb-false, ltb-true}
 use Rattle.step_table.specs.declared.entry.Entry.{Entry}
 use Rattle.journal_text.specs.declared.entry.Entry as journal
 use Rattle.journal_text.specs.declared.journal.Journal.{Journal}
 use Rattle.journal_judge.specs.declared.lock.Breach.{Breach}
 use Rattle.journal_judge.specs.declared.lock.LockUse.{LockUse}
-use Rattle.journal_judge.specs.declared.lock.LockUse.TheVariants.{Adds, Takes}
+use Rattle.journal_judge.specs.declared.lock.LockUse.TheVariants.{Takes}
 use Rattle.journal_judge.specs.declared.lock_rule.LockRule.{LockRule}
 use Rattle.journal_judge.specs.declared.lock_rule.LockRule.TheVariants.{NotHeld, HeldByAnother}
 use Rattle.journal_judge.specs.LawfulJournal.{entry_of, entries_of}
-use Rattle.journal_judge.specs.Locks.{use_of, user_of, holder_after, holder_from, holder_of, BreaksUse, BreaksLock, KeepsLock, IsBreachAt, IsToldOfUse, IsLockVerdict, IsKeptBefore, IsFirstOf, earlier}
+use Rattle.journal_judge.specs.Locks.{use_of, user_of, holder_after, holder_from, holder_of, BreaksLock, KeepsLock, IsBreachAt, IsToldOfUse, IsLockVerdict, IsKeptBefore, IsFirstOf, earlier}
 use Rattle.journal_judge.proofs.Entries.{stands_more}
 use Rattle.journal_judge.proofs.Verdicts.{next, split, front_length}
 

@@ -1,5 +1,5 @@
 -- What is said of a journal, by what is asked of it.
-use Rattle.std.specs.Prelude.{◌≡◌, ℕ, true, false, length, vec_len, Some, None}
+use Rattle.std.specs.Prelude.{◌≡◌, ℕ, true, length, vec_len, Some, None}
 use Rattle.journal_text.specs.declared.journal.Journal.{Journal}
 use Rattle.journal_judge.specs.declared.judgement.Demands.{Demands}
 use Rattle.journal_judge.specs.declared.judgement.Judgement.{Judgement}

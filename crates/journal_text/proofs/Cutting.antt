@@ -1,11 +1,11 @@
 -- How a text is cut at its first line feed.
-use Rattle.std.proofs.Common.{◌≡◌, ℕ, suc, ◌+◌, ◌<◌, ◌≤◌, Bool, true, false, cond, not, nat_lt, List, [], ◌∷◌, length, take, drop, Option, Some, None, refl, sym, ap, subst, ◌∙◌, arith}
+use Rattle.std.proofs.Common.{◌≡◌, ℕ, zero, suc, ◌+◌, ◌-◌, ◌<◌, ◌≤◌, Bool, true, false, cond, not, nat_lt, List, [], ◌∷◌, ◌++◌, length, take, drop, Option, Some, None, refl, sym, ap, subst, ◌∙◌, append_assoc, arith}
 use Rattle.std.proofs.lemmas.List.{nil_from_length}
 use Rattle.std.proofs.lemmas.Option.{none-some, same_Some}
 use Rattle.std.proofs.lemmas.Bool.{ltb-true, ltb-false}
 use Rattle.std.specs.Prelude.{◌==◌, position}
-use Rattle.std.specs.List.{position_or_len}
-use Rattle.journal_text.specs.Cutting.{put, lines}
+use Rattle.std.specs.List.{concat, position_or_len}
+use Rattle.journal_text.specs.Cutting.{put, first_lines, lines}
 
 ended_by : (t : Bool) (x : ℕ) (xs : List ℕ) (n : ℕ) → (n < length xs → lines xs ≡ take (suc n) xs ∷ lines (drop (suc n) xs)) → cond (not t) (1 + n) 0 < suc (length xs)
     → cond t ((x ∷ []) ∷ lines xs) (put x (lines xs)) ≡ take (suc (cond (not t) (1 + n) 0)) (x ∷ xs) ∷ lines (drop (suc (cond (not t) (1 + n) 0)) (x ∷ xs))
@@ -54,3 +54,16 @@ cut_none bytes after e some a =
     let f = ge_of _ (position_or_len (λ b. b == 10) bytes) (length bytes) refl (sym e) in
     let g = within bytes in
     first_open bytes (omega arith) some ∙ ap (λ (x : List ℕ). bytes ∷ lines x) (sym (nil_from_length after a))
+
+-- ---- the first lines
+
+-- one line more is passed over
+pub more_lines : (count left : ℕ) (text rest line after : List ℕ) → 0 < left → rest ≡ line ++ after → lines rest ≡ line ∷ lines after
+    → (let P : ℕ → List ℕ → Type 0 = λ n x. (front : List ℕ) × (text ≡ front ++ x) × (first_lines count text ≡ front ++ first_lines n x) in P left rest → P (left - 1) after)
+more_lines count zero text rest line after some parts cut h = absurd (omega arith)
+more_lines count (suc left) text rest line after some parts cut h = let less : left ≡ suc left - 1 = omega arith in (
+  h.0 ++ line,
+  h.1 ∙ ap (λ x. h.0 ++ x) parts ∙ sym (append_assoc h.0 line after),
+  h.2 ∙ ap (λ (ls : List (List ℕ)). h.0 ++ concat (take (suc left) ls)) cut ∙ sym (append_assoc h.0 line (first_lines left after))
+      ∙ ap (λ m. (h.0 ++ line) ++ first_lines m after) less,
+)

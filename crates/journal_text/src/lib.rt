@@ -16,4 +16,4 @@ pub use entry::{Entry, Wait};
 pub use journal::Journal;
 pub use journal_fault::JournalFault;
 pub use line::Line;
-pub use reader::read_journal;
+pub use reader::{lines_length, read_journal};

@@ -13,6 +13,7 @@ mod spelling;
 use crate::journal::Journal;
 use crate::journal_fault::JournalFault;
 use crate::reader::cutting::first_line;
+pub use crate::reader::cutting::lines_length;
 use crate::reader::spelling::read_line;
 use std::alloc::Global;
 

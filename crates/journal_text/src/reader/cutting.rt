@@ -1,7 +1,7 @@
 //! Where a text's first line ends.
 
-ghost use Rattle.std.specs.Prelude.{◌≡◌, ◌<◌, ◌+◌, ◌∷◌, length, IfSome, position, ◌==◌};
-ghost use Rattle.journal_text.specs.Cutting.{lines};
+ghost use Rattle.std.specs.Prelude.{◌≡◌, ◌<◌, ◌≤◌, ◌+◌, ◌∷◌, ◌++◌, length, take, IfSome, position, ◌==◌};
+ghost use Rattle.journal_text.specs.Cutting.{first_lines, lines};
 
 fn line_feed(text: &[u8]) -> Option<usize>
     ensures at { result ≡ position (λ byte. byte == 10) text.now }
@@ -14,6 +14,7 @@ fn line_feed(text: &[u8]) -> Option<usize>
 pub(crate) fn first_line(text: &[u8]) -> (&[u8], &[u8])
     requires { 0 < length text.now }
     ensures line { lines text.now ≡ result.0.now ∷ lines result.1.now }
+    ensures parts { text.now ≡ result.0.now ++ result.1.now }
     ensures shorter { length result.1.now < length text.now }
     ensures whole { length result.0.now + length result.1.now ≡ length text.now }
 {
@@ -21,4 +22,18 @@ pub(crate) fn first_line(text: &[u8]) -> (&[u8], &[u8])
         Some(end) => text.split_at(end + 1),
         None => (text, &[]),
     }
+}
+
+/// How many bytes the first so many lines of the text have, or all where it has fewer.
+pub fn lines_length(text: &[u8], count: usize) -> usize
+    ensures within { result ≤ length text.now }
+    ensures lines { take result text.now ≡ first_lines count text.now }
+{
+    let mut rest = text;
+    let mut left = count;
+    while left > 0 && !rest.is_empty() {
+        rest = first_line(rest).1;
+        left -= 1;
+    }
+    text.len() - rest.len()
 }
