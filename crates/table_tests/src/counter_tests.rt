@@ -5,7 +5,9 @@
 ghost use Rattle.std.specs.Prelude.{◌≡◌, All};
 
 use crate::given::{Sizes, last_seat, made, one_counter, two_seats};
-use crate::seats::{counts, enters, has_value, has_waiters, is_at_its_limit, posts, spins, tries};
+use crate::seats::{
+    acquires_spinning, counts, enters, has_value, has_waiters, is_at_its_limit, posts, spins, tries,
+};
 use sema_table::{Seat, SemaTable, Tried};
 use std::alloc::Global;
 use std::process::Abort;
@@ -42,6 +44,22 @@ fn spins_and_takes_nothing(rt: &impl Abort, table: &SemaTable, seats: &mut Vec<S
 fn a_spin_ends_and_takes_nothing(rt: HostRuntime) {
     let (table, mut seats) = made(&rt, rt.alloc(), &one_counter(0, 1));
     spins_and_takes_nothing(&rt, &table, &mut seats);
+}
+
+fn spins_and_takes<R: Abort + Wait>(rt: &R, table: &SemaTable, seats: &mut Vec<Seat>)
+    requires { All (λ s. s.table ≡ table.now) seats.old.items }
+{
+    let seat = last_seat(rt, table, seats);
+    let seat = posts(rt, table, seat, 0);
+    let mut seat = acquires_spinning(rt, table, seat, 0);
+    has_value(rt, table, &mut seat, 0, 0);
+    counts(rt, &seat, 9, 1);
+}
+
+#[test]
+fn an_acquire_that_spins_takes_a_unit_that_is_there(rt: HostRuntime) {
+    let (table, mut seats) = made(&rt, rt.alloc(), &one_counter(0, 1));
+    spins_and_takes(&rt, &table, &mut seats);
 }
 
 /// One unit is taken by a try, and one under the lock.

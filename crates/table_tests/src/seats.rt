@@ -265,6 +265,20 @@ pub(crate) fn acquires<R: Abort + Wait>(
     table.acquire(rt, seat, at, lifo)
 }
 
+/// An acquire that spins, where a unit is there.
+pub(crate) fn acquires_spinning<R: Abort + Wait>(
+    rt: &R,
+    table: &SemaTable,
+    seat: Seat,
+    number: u32,
+) -> Seat
+    requires { seat.table ≡ table.now }
+    ensures { result.table ≡ table.now }
+{
+    let at = counter(rt, table, number);
+    table.acquire_spinning(rt, seat, at)
+}
+
 /// The seat sleeps, and is handed the unit that was granted already.
 pub(crate) fn is_roused_with_a_unit<R: Abort + Wait>(
     rt: &R,
