@@ -1,2 +1,3 @@
 pub mod Lights
 pub mod Relay
+pub mod Twins

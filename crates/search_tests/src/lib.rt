@@ -15,3 +15,5 @@ mod relay_tests;
 mod stair_tests;
 #[cfg(test)]
 mod team_tests;
+#[cfg(test)]
+mod twin_tests;

@@ -1,0 +1,17 @@
+use Rattle.std.specs.Prelude.{IsTrue, IfSome}
+use Rattle.std.proofs.lemmas.Result.{IfOk-weaker}
+use Rattle.search.specs.Alike.{AreSoMany, IsReached}
+use Rattle.search.specs.Extent.{IsExtent}
+use Rattle.search_tests.specs.Twins.{Pair, rules_of}
+use Rattle.search_tests.proofs.Twins.{key_like, like_key, told_alike}
+use Rattle.search_tests.proofs.twin_tests.raise_all.Goals as goal
+
+pub search_all-requires-clause-keys : goal.search_all-requires-clause-keys
+search_all-requires-clause-keys c = λ m n s t a b runs there. (key_like _ _, like_key _ _)
+
+pub returns-clause-counted : goal.returns-clause-counted
+returns-clause-counted c =
+    let start : Pair = (c.args.from, c.args.from) in
+    IfOk-weaker c.search_all.result (λ told. IsExtent rules_of start told.extent)
+    (λ told. IsTrue told.extent.complete → IfSome told.extent.counted (AreSoMany (IsReached rules_of start)))
+    (λ told it. it.counted_in_all (told_alike c.args.from)) c.search_all.ensures.extent
