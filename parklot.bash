@@ -7,16 +7,17 @@ _parklot_values() {
     --depth) echo "32 64" ;;
     --threads | --workers) echo "1 2 4 8" ;;
     --worlds) echo "200000 2000000" ;;
+    --columns) echo "80 120" ;;
     esac
 }
 
 _parklot_options() {
-    local search="--table --stats --progress --threads --worlds"
+    local search="--table --columns --stats --progress --threads --worlds"
     case $1 in
     check) echo "$search --help" ;;
     explore) echo "$search --depth --variant --help" ;;
-    replay) echo "--schedule --schedule-of --variant --table --scenario --help" ;;
-    judge) echo "--help" ;;
+    replay) echo "--schedule --schedule-of --variant --table --columns --scenario --help" ;;
+    judge) echo "--lock --settled --most --help" ;;
     threads) echo "--workers --rounds --help" ;;
     *) echo "--help" ;;
     esac

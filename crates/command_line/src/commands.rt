@@ -8,13 +8,32 @@ use std::alloc::{AllocError, Global};
 static VARIANT_NAMES: [&str; 3] = ["no-look", "late-count", "plain-less"];
 
 /// What a command says of the file of its scenario.
-static SCENARIO_FILE: &str = "The scenario's file; without it the text stands on standard input";
+static SCENARIO_FILE: &str =
+    "The scenario's file; without it, or with -, the text stands on standard input";
 
 /// What the exit statuses mean.
 static STATUSES: &str = "\
 Status: 0 nothing bad, 1 something bad was found, 3 gave up,
         2 refused: words, text, schedule, memory, a file or a stream
 The form of a scenario's text: parklot format";
+
+/// The same, below a command that searches.
+static SEARCH_STATUSES: &str = "\
+Status: 0 nothing bad, 1 something bad was found, 3 gave up,
+        2 refused: words, text, memory, a file or a stream
+Memory: 110 to 700 bytes for each world that is reached,
+        for 1,000,000,000 of them 110 GB and more";
+
+/// The same, below `replay`.
+static REPLAY_STATUSES: &str = "\
+Status: 0 not bad, 1 the schedule ends in a bad world,
+        2 refused: words, text, schedule, one of its steps, memory, a file or a stream";
+
+/// The same, below `judge`.
+static JUDGE_STATUSES: &str = "\
+Status: 0 lawful, 1 a rule is broken, or a sleeper is left,
+        2 refused: words, text, memory, a file or a stream
+Without --lock it is units and queues that are judged, and not who holds a lock";
 
 /// The file that a command reads.
 fn file_argument<'a>(alloc: Global, help: &'a str) -> Arg<'a> {
@@ -72,6 +91,7 @@ fn with_extras<'a>(alloc: Global, search: Draft<'a>) -> Draft<'a> {
         .arg(flag_argument(alloc, "progress", progress))
         .arg(number_argument(alloc, "threads", "K", 1, 64, threads))
         .arg(file_argument(alloc, SCENARIO_FILE))
+        .after_help(SEARCH_STATUSES)
 }
 
 /// `check` and its help.
@@ -132,13 +152,29 @@ fn replay_command<'a>(alloc: Global) -> Draft<'a> {
         .arg(flag_argument(alloc, "table", drawn))
         .made_arg(scenario_argument(alloc))
         .arg(file_argument(alloc, SCENARIO_FILE))
+        .after_help(REPLAY_STATUSES)
+}
+
+/// The counters of a journal that are locks.
+fn lock_argument<'a>(alloc: Global) -> Arg<'a> {
+    let lock =
+        "Counter C is a lock: who takes it brings it back, and nobody else; once for each lock";
+    number_argument(alloc, "lock", "C", 0, 4_294_967_295, lock).action(ArgAction::Append)
 }
 
 /// `judge` and its help.
 fn judge_command<'a>(alloc: Global) -> Draft<'a> {
     let about = "Tell whether a journal of semaphores and notify lists is lawful";
-    let file = "The journal's file; without it the journal stands on standard input";
-    plain_command(alloc, "judge", about).arg(file_argument(alloc, file))
+    let settled = "Ask too that at the end no wait is left on a counter that has a unit";
+    let most =
+        "Read and judge the first N lines alone, 1 to 1,000,000, in 90 bytes of memory a line";
+    let file = "The journal's file; without it, or with -, the journal stands on standard input";
+    plain_command(alloc, "judge", about)
+        .arg(lock_argument(alloc))
+        .arg(flag_argument(alloc, "settled", settled))
+        .arg(number_argument(alloc, "most", "N", 1, 1_000_000, most))
+        .arg(file_argument(alloc, file))
+        .after_help(JUDGE_STATUSES)
 }
 
 /// `threads` and its help.
@@ -161,7 +197,6 @@ fn bare_command<'a>(alloc: Global) -> Command<'a> {
     Command::new(alloc, "parklot")
         .no_binary_name(true)
         .subcommand_required(true)
-        .disable_help_subcommand(true)
 }
 
 /// The program without its commands.

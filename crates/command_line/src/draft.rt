@@ -39,6 +39,14 @@ impl<'a> Draft<'a> {
         }
     }
 
+    /// With this text below its help.
+    pub(crate) fn after_help(self, text: &'a str) -> Draft<'a> {
+        match self.command {
+            Ok(command) => Draft::of(command.after_help(text)),
+            Err(short) => Draft::made(Err(short)),
+        }
+    }
+
     /// With this command below it.
     pub(crate) fn subcommand(self, below: Draft<'a>) -> Draft<'a> {
         match (self.command, below.command) {

@@ -24,7 +24,7 @@ use Rattle.explorer.specs.ThreadsText.{IsThreadsAnswer}
 abbrev pub IsTextFor : Asked → Option (List ℕ) → Option (List ℕ) → List ℕ → Exit → Type 0
 IsTextFor Once old new text exit = IsOnceAnswer text exit
 IsTextFor (OfScenario command file answer threads) old new text exit = IsToldOf (IsAnswerOf command) old new text exit
-IsTextFor (Judge file) old new text exit = IsJudgeToldOf old new text exit
+IsTextFor (Judge file demands most) old new text exit = IsJudgeToldOf demands most old new text exit
 IsTextFor (Threads workers rounds) old new text exit = IsThreadsAnswer workers rounds text exit
 IsTextFor (Help told) old new text exit = (text ≡ string_bytes told) × (exit ≡ NothingBad)
 IsTextFor (Mistake told) old new text exit = (text ≡ []) × (exit ≡ Refused)
@@ -34,13 +34,13 @@ IsTextFor NoMemory old new text exit = WantsMemory text exit
 -- and this is told beside: only a command that reads a text tells anything there
 abbrev pub IsAnswerTo : Asked → Option (List ℕ) → Option (List ℕ) → Option (List ℕ) → List ℕ → Exit → Type 0
 IsAnswerTo (OfScenario command file answer threads) old new aside text exit = IsReplyOf command old new aside text exit
-IsAnswerTo (Judge file) old new aside text exit = IsJudgeReplyOf old new aside text exit
+IsAnswerTo (Judge file demands most) old new aside text exit = IsJudgeReplyOf demands most old new aside text exit
 IsAnswerTo asked old new aside text exit = IsTextFor asked old new text exit × (aside ≡ None)
 
 -- the command reads an input
 abbrev pub reads_input : Asked → Bool
 reads_input (OfScenario command file answer threads) = true
-reads_input (Judge file) = true
+reads_input (Judge file demands most) = true
 reads_input _ = false
 
 -- what is wrong with the words, or with the file that they name

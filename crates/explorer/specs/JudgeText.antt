@@ -1,24 +1,27 @@
 -- What `judge` answers to the text of a journal.
-use Rattle.std.specs.Prelude.{◌≡◌, ℕ, List, ◌++◌, ◌⊎◌, Option, Some, None, codes}
+use Rattle.std.specs.Prelude.{◌≡◌, ℕ, ◌*◌, ◌<◌, ◌≤◌, List, ◌++◌, ◌⊎◌, Option, Some, None, length, slice_index, codes}
+use Rattle.std.specs.Fmt.{decimal}
 use Rattle.scenario_search.specs.declared.exit.Exit.{Exit}
 use Rattle.scenario_search.specs.declared.exit.Exit.TheVariants.{NothingBad, BadFound, Refused}
 use Rattle.scenario_search.specs.Line.{line}
 use Rattle.scenario_search.specs.Told.{WantsMemory}
-use Rattle.streams.specs.Reading.{ReadsAll}
+use Rattle.streams.specs.Reading.{Reads, ReadsAll}
 use Rattle.journal_text.specs.declared.journal.Journal.{Journal}
+use Rattle.journal_text.specs.Cutting.{first_lines}
 use Rattle.fault_help.specs.JournalHelp.{journal_help}
 use Rattle.journal_text.specs.declared.journal_fault.JournalFault.{JournalFault}
 use Rattle.journal_text.specs.declared.journal_fault.JournalFault.TheVariants.{Form, NoMemory}
 use Rattle.journal_text.specs.FaultTexts.{fault_text}
 use Rattle.journal_text.specs.JournalText.{IsJournalOf, IsFaultOf}
-use Rattle.journal_judge.specs.declared.verdict.Verdict.{Verdict}
-use Rattle.journal_judge.specs.declared.verdict.Verdict.TheVariants.{Lawful, Unlawful}
-use Rattle.journal_judge.specs.Rules.{IsVerdictOf}
-use Rattle.journal_judge.specs.Texts.{verdict_text}
+use Rattle.journal_judge.specs.declared.judgement.Demands.{Demands}
+use Rattle.journal_judge.specs.declared.judgement.Judgement.{Judgement}
+use Rattle.journal_judge.specs.declared.judgement.Judgement.TheVariants.{Lawful}
+use Rattle.journal_judge.specs.Judged.{IsJudgementOf}
+use Rattle.journal_judge.specs.Texts.{judgement_text}
 
-abbrev pub verdict_exit : Verdict → Exit
-verdict_exit Lawful = NothingBad
-verdict_exit (Unlawful line rule) = BadFound
+abbrev pub judgement_exit : Judgement → Exit
+judgement_exit Lawful = NothingBad
+judgement_exit judgement = BadFound
 
 -- the text is refused for this fault, which is told, and what was expected beside; memory that was short is no fault of it
 abbrev pub RefusesFault : List ℕ → JournalFault → List ℕ → Exit → Option (List ℕ) → Type 0
@@ -30,26 +33,57 @@ RefusesFault input NoMemory text exit aside = ⊥
 abbrev pub RefusesLine : List ℕ → List ℕ → Exit → Option (List ℕ) → Type 0
 RefusesLine input text exit aside = (number : ℕ) × IsFaultOf input number × RefusesFault input (Form number) text exit aside
 
--- the verdict is told on the journal that the input spells
-abbrev pub TellsVerdict : List ℕ → List ℕ → Exit → Type 0
-TellsVerdict input text exit =
-    (journal : Journal) × IsJournalOf input journal × (verdict : Verdict) × IsVerdictOf journal verdict
-    × (text ≡ line (verdict_text verdict)) × (exit ≡ verdict_exit verdict)
+-- each of the locks is a counter of the journal
+abbrev pub DeclaresLocks : Journal → List ℕ → Type 0
+DeclaresLocks journal locks = (k : ℕ) → k < length locks → slice_index locks k < length journal.starts
+
+-- this one isn't
+abbrev pub IsUndeclared : Journal → List ℕ → ℕ → Type 0
+IsUndeclared journal locks lock =
+    (k : ℕ) × (k < length locks) × (lock ≡ slice_index locks k) × (length journal.starts ≤ lock)
+
+-- the lock is refused, and it is told beside
+abbrev pub RefusesLock : ℕ → List ℕ → Exit → Option (List ℕ) → Type 0
+RefusesLock lock text exit aside =
+    (text ≡ line (codes "refused: lock")) × (exit ≡ Refused)
+    × (aside ≡ Some (codes "--lock " ++ (decimal lock ++ line (codes ": the journal has no such counter"))))
+
+-- one of the locks is no counter of the journal that the input spells, and is refused
+abbrev pub RefusesSomeLock : Demands → List ℕ → List ℕ → Exit → Option (List ℕ) → Type 0
+RefusesSomeLock demands input text exit aside =
+    (journal : Journal) × IsJournalOf input journal × (lock : ℕ) × IsUndeclared journal demands.locks.items lock
+    × RefusesLock lock text exit aside
+
+-- what is asked is judged of the journal that the input spells, and told
+abbrev pub TellsJudgement : Demands → List ℕ → List ℕ → Exit → Type 0
+TellsJudgement demands input text exit =
+    (journal : Journal) × IsJournalOf input journal × DeclaresLocks journal demands.locks.items
+    × (judgement : Judgement) × IsJudgementOf journal demands judgement
+    × (text ≡ line (judgement_text judgement)) × (exit ≡ judgement_exit judgement)
 
 -- what `judge` replies to the input, want of memory aside
-abbrev pub RepliesVerdict : List ℕ → List ℕ → Exit → Option (List ℕ) → Type 0
-RepliesVerdict input text exit aside = RefusesLine input text exit aside ⊎ (TellsVerdict input text exit × (aside ≡ None))
+abbrev pub RepliesJudgement : Demands → List ℕ → List ℕ → Exit → Option (List ℕ) → Type 0
+RepliesJudgement demands input text exit aside =
+    RefusesLine input text exit aside
+    ⊎ (RefusesSomeLock demands input text exit aside ⊎ (TellsJudgement demands input text exit × (aside ≡ None)))
 
 -- the text and the exit are what it answers to the input
-abbrev pub IsJudgeAnswer : List ℕ → List ℕ → Exit → Type 0
-IsJudgeAnswer input text exit = (aside : Option (List ℕ)) × RepliesVerdict input text exit aside
+abbrev pub IsJudgeAnswer : Demands → List ℕ → List ℕ → Exit → Type 0
+IsJudgeAnswer demands input text exit = (aside : Option (List ℕ)) × RepliesJudgement demands input text exit aside
 
--- of a source with these bytes before and after: they answer all that was read, or say that memory was short
-abbrev pub IsJudgeToldOf : Option (List ℕ) → Option (List ℕ) → List ℕ → Exit → Type 0
-IsJudgeToldOf old new text exit =
-    ((input : List ℕ) × ReadsAll old new input × IsJudgeAnswer input text exit) ⊎ WantsMemory text exit
+-- this is judged of a source with these bytes before and after: all that was read, to its end; or where so many lines are told
+-- these, of so many times the bytes that a line has at most
+abbrev pub IsJudgeInput : Option ℕ → Option (List ℕ) → Option (List ℕ) → List ℕ → Type 0
+IsJudgeInput None old new input = ReadsAll old new input
+IsJudgeInput (Some most) old new input = (bytes : List ℕ) × Reads (most * 90) old new bytes × (input ≡ first_lines most bytes)
+
+-- they answer that, or say that memory was short
+abbrev pub IsJudgeToldOf : Demands → Option ℕ → Option (List ℕ) → Option (List ℕ) → List ℕ → Exit → Type 0
+IsJudgeToldOf demands most old new text exit =
+    ((input : List ℕ) × IsJudgeInput most old new input × IsJudgeAnswer demands input text exit) ⊎ WantsMemory text exit
 
 -- and so does what is told beside
-abbrev pub IsJudgeReplyOf : Option (List ℕ) → Option (List ℕ) → Option (List ℕ) → List ℕ → Exit → Type 0
-IsJudgeReplyOf old new aside text exit =
-    ((input : List ℕ) × ReadsAll old new input × RepliesVerdict input text exit aside) ⊎ (WantsMemory text exit × (aside ≡ None))
+abbrev pub IsJudgeReplyOf : Demands → Option ℕ → Option (List ℕ) → Option (List ℕ) → Option (List ℕ) → List ℕ → Exit → Type 0
+IsJudgeReplyOf demands most old new aside text exit =
+    ((input : List ℕ) × IsJudgeInput most old new input × RepliesJudgement demands input text exit aside)
+    ⊎ (WantsMemory text exit × (aside ≡ None))

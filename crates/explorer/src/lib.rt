@@ -24,10 +24,11 @@ mod whole;
 pub use answer::{OnceAnswers, Released, Retried};
 pub use counted::threads_io;
 pub use gate::{Gate, Open};
+pub use journal_judge::Demands;
 pub use judged::judge_io;
 pub use once::{once_io, once_text};
 pub use program::asked_io;
-pub use program_words::{Asked, MAX_ROUNDS, MAX_WORKERS, no_file, no_words, read_words};
+pub use program_words::{Asked, FileFault, MAX_ROUNDS, MAX_WORKERS, no_file, no_words, read_words};
 pub use scenario_search::{
     Bounds, Cause, Command, Exit, Extent, Extras, Flagged, Found, FoundInAll, IoFault, Kind,
     MAX_DEPTH, MAX_TEXT, NO_MEMORY, Property, ReadFault, Request, Searched, Sink, Source,

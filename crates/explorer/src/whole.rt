@@ -7,7 +7,7 @@ ghost use Rattle.explorer.specs.Asked.{HasDone, HasDoneSome};
 use crate::answered::scheduled_by;
 use crate::program::{answer_io, beside, fault_text, status_after, tell_beside};
 use crate::ticker::Ticker;
-use program_words::{Asked, no_file, read_words};
+use program_words::{Asked, FileFault, no_file, read_words};
 use scenario_search::{Exit, Flagged, IoFault, Sink, Source};
 use std::alloc::Global;
 use std::fs;
@@ -15,6 +15,19 @@ use std::rt::Files;
 use std::sync::Wait;
 use std::thread::Threads;
 use std::time::Clock;
+
+/// The file of this name, to be read. A folder can be opened and not read: so it is told before.
+fn open_file<T: Files>(rt: &T, name: &str) -> Result<T::File, FileFault> {
+    if let Ok(told) = fs::metadata(rt, name) {
+        if told.is_dir() {
+            return Err(FileFault::Folder);
+        }
+    }
+    match fs::open(rt, name) {
+        Ok(file) => Ok(file),
+        Err(error) => Err(FileFault::of(&error)),
+    }
+}
 
 /// What is asked, with the schedule of the answer that it names, which is read into this room.
 ///
@@ -34,9 +47,9 @@ fn scheduled<'w, T: Files, R: Source>(
     match asked.answer() {
         None => Ok(asked),
         Some("-") => scheduled_by(alloc, asked, reader, room),
-        Some(name) => match fs::open(rt, name) {
+        Some(name) => match open_file(rt, name) {
             Ok(file) => scheduled_by(alloc, asked, &mut Flagged::new(file), room),
-            Err(_) => Ok(no_file(alloc, name)),
+            Err(fault) => Ok(no_file(alloc, name, fault)),
         },
     }
 }
@@ -83,9 +96,9 @@ fn opened_io<T: Files + Threads + Wait + Clock + Sync, R: Source, O: Sink, E: Si
     let Some(name) = asked.file() else {
         return shown_io(rt, alloc, asked, reader, out, err);
     };
-    match fs::open(rt, name) {
+    match open_file(rt, name) {
         Ok(file) => shown_io(rt, alloc, asked, &mut Flagged::new(file), out, err),
-        Err(_) => shown_io(rt, alloc, &no_file(alloc, name), reader, out, err),
+        Err(fault) => shown_io(rt, alloc, &no_file(alloc, name, fault), reader, out, err),
     }
 }
 

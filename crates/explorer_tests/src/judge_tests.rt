@@ -1,6 +1,6 @@
 //! What `judge` answers, word for word. The answers were worked out by hand from the rules.
 
-use crate::asked::tells;
+use crate::asked::{ALL_SOUND, Told, tells, tells_over};
 
 /// A journal, all that is told of it, and the status.
 type Row = (&'static [u8], &'static str, u8);
@@ -117,5 +117,125 @@ fn other_journals_are_told_with_their_line(rt: HostRuntime) {
         for (journal, told, status) in rows {
             tells(&rt, rt.alloc(), &["judge"], journal, told, *status);
         }
+    }
+}
+
+/// Journals of a lock, which is counter 0, and all that is told of them.
+const LOCKS: [Row; 8] = [
+    (
+        b"counter 1\ntake 0 0\nadd 0 0\ntake 0 1\nadd 0 1\n",
+        "lawful\n",
+        0,
+    ),
+    (b"counter 1\nadd 0 0\n", "unlawful: line 2: not held\n", 1),
+    (
+        b"counter 1\ntake 0 0\nadd 0 0\nadd 0 0\n",
+        "unlawful: line 4: not held\n",
+        1,
+    ),
+    (
+        b"counter 1\ntake 0 0\nadd 0 1\n",
+        "unlawful: line 3: held by another\n",
+        1,
+    ),
+    (
+        b"counter 2\ntake 0 0\ntake 0 1\n",
+        "unlawful: line 3: held by another\n",
+        1,
+    ),
+    (
+        b"counter 1\ntake 0 0\nadd 0 1 many 1\n",
+        "unlawful: line 3: held by another\n",
+        1,
+    ),
+    // another counter is none of its business
+    (
+        b"counter 1\ncounter 1\ntake 0 0\nadd 1 1\nadd 0 0\n",
+        "lawful\n",
+        0,
+    ),
+    // the law comes first
+    (
+        b"counter 1\nadd 0 0\ntake 0 0\ntake 0 0\ntake 0 0\n",
+        "unlawful: line 5: no unit\n",
+        1,
+    ),
+];
+
+/// Journals, all that is told of who is left asleep in them, and the status.
+const ENDS: [Row; 4] = [
+    (
+        b"counter 0\nqueue 0 0.0\nadd 0 1\n",
+        "left asleep: counter 0\n",
+        1,
+    ),
+    (b"counter 0\nqueue 0 0.0\n", "lawful\n", 0),
+    (
+        b"counter 0\nqueue 0 0.0\nadd 0 1\nleave 0 0.0 1\n",
+        "lawful\n",
+        0,
+    ),
+    (
+        b"counter 5\ncounter 0\nqueue 1 0.0\nadd 1 1\n",
+        "left asleep: counter 1\n",
+        1,
+    ),
+];
+
+#[test]
+fn a_lock_is_held_by_one(rt: HostRuntime) {
+    for (journal, told, status) in &LOCKS {
+        let words = ["judge", "--lock", "0"];
+        tells(&rt, rt.alloc(), &words, journal, told, *status);
+    }
+}
+
+#[test]
+fn who_is_left_asleep_is_told(rt: HostRuntime) {
+    for (journal, told, status) in &ENDS {
+        let words = ["judge", "--settled"];
+        tells(&rt, rt.alloc(), &words, journal, told, *status);
+    }
+}
+
+#[test]
+fn the_first_broken_lock_is_told(rt: HostRuntime) {
+    let journal = b"counter 1\ncounter 1\ntake 1 0\ntake 0 0\nadd 0 1\nadd 1 1\n";
+    let words = ["judge", "--lock", "1", "--lock", "0"];
+    let told = "unlawful: line 5: held by another\n";
+    tells(&rt, rt.alloc(), &words, journal, told, 1);
+}
+
+#[test]
+fn a_lock_that_is_not_declared_is_refused(rt: HostRuntime) {
+    let told = Told {
+        out: b"refused: lock\n",
+        err: b"--lock 1: the journal has no such counter\n",
+        status: 2,
+        whole: true,
+        helped: false,
+    };
+    let words = ["judge", "--lock", "0", "--lock", "1"];
+    tells_over(&rt, rt.alloc(), &words, b"counter 1\n", ALL_SOUND, told);
+}
+
+/// The first lines of a journal, how many they are, and all that is told of them.
+const FIRST: [(&str, &[u8], &str, u8); 4] = [
+    ("1", b"counter 1\ntake 0 0\ntake 0 0\n", "lawful\n", 0),
+    ("2", b"counter 1\ntake 0 0\ntake 0 0\n", "lawful\n", 0),
+    (
+        "3",
+        b"counter 1\ntake 0 0\ntake 0 0\n",
+        "unlawful: line 3: no unit\n",
+        1,
+    ),
+    ("4", b"counter 1\ntake 0 0", "refused: line 2: form\n", 2),
+];
+
+#[test]
+fn the_first_lines_are_judged(rt: HostRuntime) {
+    for (most, journal, told, status) in &FIRST {
+        let words = ["judge", "--most", *most];
+        tells(&rt, rt.alloc(), &words, journal, told, *status);
     }
 }

@@ -3,7 +3,7 @@
 ghost use Rattle.program_words.specs.Asked.{IsWithinLimits};
 
 use crate::asked::{ALL_SOUND, Host, Told, answers, ask, is_a_mistake, run, tells, tells_over};
-use explorer::{Asked, NO_MEMORY, no_file, no_words, once_text};
+use explorer::{Asked, FileFault, NO_MEMORY, no_file, no_words, once_text};
 use std::alloc::Global;
 use std::io::{self, ErrorKind};
 use std::sync::Wait;
@@ -57,10 +57,18 @@ fn some_words_are_answered_whole(rt: HostRuntime) {
 }
 
 /// Words that ask for help, and how it begins.
-const HELPS: [(&[&str], &str); 7] = [
+const HELPS: [(&[&str], &str); 9] = [
     (
         &["--help"],
         "Explore the interleavings of semaphores, notify lists and wait groups\n\nUsage: parklot <COMMAND>\n",
+    ),
+    (
+        &["help"],
+        "Explore the interleavings of semaphores, notify lists and wait groups\n\nUsage: parklot <COMMAND>\n",
+    ),
+    (
+        &["help", "check"],
+        "Search all schedules of the scenario, of whatever length, for a bad world\n\nUsage: parklot check [OPTIONS] [FILE]\n",
     ),
     (
         &["explore", "--help"],
@@ -99,8 +107,8 @@ fn help_goes_to_the_output(rt: HostRuntime) {
 fn is_form_whole(rt: &impl Host, alloc: Global) -> bool {
     let (out, _, _) = ask(rt, alloc, &["format"], b"", ALL_SOUND);
     out.as_slice().ends_with(
-        b"gwait G               wait until the number of G is 0\n\nCounters, lists and groups are named by their numbers \
-          from 0, each kind for itself. A number has no leading zero.\n",
+        b"gwait G               wait until the number of G is 0\n\nCounters, lists and groups are named by their numbers, \
+          0 to 15, each kind for itself. A number has no leading zero.\n",
     )
 }
 
@@ -111,13 +119,20 @@ fn the_form_is_told_to_its_end(rt: HostRuntime) {
 }
 
 /// Words that ask for no command, and how what is told of them begins.
-const MISTAKES: [(&[&str], &str); 24] = [
+const MISTAKES: [(&[&str], &str); 25] = [
     (
         &[],
         "error: 'parklot' requires a subcommand but one was not provided\n",
     ),
     (&["twice"], "error: unrecognized subcommand 'twice'\n"),
-    (&["help"], "error: unrecognized subcommand 'help'\n"),
+    (
+        &["help", "twice"],
+        "error: unrecognized subcommand 'twice'\n",
+    ),
+    (
+        &["judge", "--lock", "none"],
+        "error: invalid value 'none' for '--lock <C>': ",
+    ),
     (
         &["explore", "--depth", "65"],
         "error: invalid value '65' for '--depth <N>': 65 is not in 0..=64\n",
@@ -237,18 +252,56 @@ fn words_that_are_no_text_are_a_mistake(rt: HostRuntime) {
 }
 
 /// What is asked where this file can't be opened. Where memory is wanting it is asked once more.
-fn asked_without<'w>(alloc: Global, file: &str) -> Asked<'w>
+fn asked_without<'w>(alloc: Global, file: &str, fault: FileFault) -> Asked<'w>
     ensures { IsWithinLimits result }
 {
-    match no_file(alloc, file) {
-        Asked::NoMemory => no_file(alloc, file),
+    match no_file(alloc, file, fault) {
+        Asked::NoMemory => no_file(alloc, file, fault),
         asked => asked,
     }
 }
 
+/// Why a file can't be opened, and what is told.
+const UNOPENED: [(ErrorKind, &str); 5] = [
+    (
+        ErrorKind::NotFound,
+        "parklot: cannot read lost.txt: there is no such file\n",
+    ),
+    (
+        ErrorKind::PermissionDenied,
+        "parklot: cannot read lost.txt: permission denied\n",
+    ),
+    (
+        ErrorKind::IsADirectory,
+        "parklot: cannot read lost.txt: it is a folder\n",
+    ),
+    (
+        ErrorKind::NotADirectory,
+        "parklot: cannot read lost.txt: its path leads through a file\n",
+    ),
+    (
+        ErrorKind::Other,
+        "parklot: cannot read lost.txt: it can't be opened\n",
+    ),
+];
+
 #[test]
 fn a_file_that_cannot_be_opened_is_told(rt: HostRuntime) {
     let alloc = rt.alloc();
-    let asked = asked_without(alloc, "lost.txt");
-    without_a_command(&rt, alloc, &asked, "", "parklot: cannot read lost.txt\n");
+    for (kind, told) in &UNOPENED {
+        let fault = FileFault::of(&io::Error::from(*kind));
+        let asked = asked_without(alloc, "lost.txt", fault);
+        without_a_command(&rt, alloc, &asked, "", told);
+    }
+}
+
+#[test]
+fn a_folder_is_told_as_one(rt: HostRuntime) {
+    let words = ["check", "/"];
+    is_a_mistake(
+        &rt,
+        rt.alloc(),
+        &words,
+        "parklot: cannot read /: it is a folder\n",
+    );
 }

@@ -55,6 +55,6 @@ fn a_scenario_that_cannot_be_opened_is_told(rt: HostRuntime) {
         &rt,
         rt.alloc(),
         ALL_SOUND,
-        "parklot: cannot read no_such.txt\n",
+        "parklot: cannot read no_such.txt: there is no such file\n",
     );
 }

@@ -14,9 +14,16 @@ type Row = (
 );
 
 /// Searches. A search that isn't told keeps 2,000,000 worlds, or up to a depth 200,000, and is made by one thread.
-const SEARCHES: [Row; 5] = [
+const SEARCHES: [Row; 6] = [
     (
         &["check"],
+        "OfScenario { command: Check { worlds: 2000000, extras: Extras { drawn: false, counted: false, live: false } }, \
+         file: None, answer: None, threads: 1 }",
+        None,
+        false,
+    ),
+    (
+        &["check", "-"],
         "OfScenario { command: Check { worlds: 2000000, extras: Extras { drawn: false, counted: false, live: false } }, \
          file: None, answer: None, threads: 1 }",
         None,
@@ -65,7 +72,7 @@ const SEARCHES: [Row; 5] = [
 ];
 
 /// Words that ask for no search.
-const OTHERS: [Row; 7] = [
+const OTHERS: [Row; 11] = [
     (
         &["replay", "--schedule", "0 1", "--variant", "no-look", "d"],
         "OfScenario { command: Replay { schedule: \"0 1\", table: Some(NoLook), drawn: false }, \
@@ -96,11 +103,51 @@ const OTHERS: [Row; 7] = [
         None,
         false,
     ),
-    (&["judge"], "Judge { file: None }", None, false),
     (
-        &["judge", "f"],
-        "Judge { file: Some(\"f\") }",
+        &["judge"],
+        "Judge { file: None, demands: Demands { locks: [], settled: false }, most: None }",
+        None,
+        false,
+    ),
+    (
+        &[
+            "judge",
+            "--lock",
+            "0",
+            "--settled",
+            "--lock",
+            "4294967295",
+            "f",
+        ],
+        "Judge { file: Some(\"f\"), demands: Demands { locks: [0, 4294967295], settled: true }, most: None }",
         Some("f"),
+        false,
+    ),
+    (
+        &["judge", "--most", "1000000"],
+        "Judge { file: None, demands: Demands { locks: [], settled: false }, most: Some(1000000) }",
+        None,
+        false,
+    ),
+    // a hyphen is standard input
+    (
+        &["judge", "-"],
+        "Judge { file: None, demands: Demands { locks: [], settled: false }, most: None }",
+        None,
+        false,
+    ),
+    (
+        &["replay", "--schedule", "1", "-"],
+        "OfScenario { command: Replay { schedule: \"1\", table: None, drawn: false }, \
+         file: None, answer: None, threads: 1 }",
+        None,
+        false,
+    ),
+    (
+        &["replay", "--schedule-of", "g", "--scenario", "-"],
+        "OfScenario { command: Replay { schedule: \"\", table: None, drawn: false }, \
+         file: None, answer: Some(\"g\"), threads: 1 }",
+        None,
         false,
     ),
     (

@@ -1,11 +1,13 @@
 -- What the program's words may ask for.
-use Rattle.std.specs.Prelude.{◌≡◌, ◌≢◌, ℕ, ◌≤◌, List, [], ◌∷◌, ◌++◌, Option, Some, None, IsSome, Bool, false, option_map, string_bytes, codes}
+use Rattle.std.specs.Prelude.{◌≡◌, ◌≢◌, ◌⊎◌, ℕ, ◌≤◌, List, [], ◌∷◌, ◌++◌, Option, Some, None, IsSome, IfSome, Bool, false, option_map, string_bytes, codes}
 use Rattle.std.specs.Borrow.{Bor}
 use Rattle.std.specs.IoError.{error_kind}
 use Rattle.std.specs.declared.io.Error.{Error}
 use Rattle.std.specs.declared.io.ErrorKind.TheVariants.{OutOfMemory}
 use Rattle.scenario_search.specs.declared.command.Command.{Command}
 use Rattle.scenario_search.specs.declared.command.Command.TheVariants.{Explore, Check, Replay}
+use Rattle.program_words.specs.declared.file_fault.FileFault.{FileFault}
+use Rattle.program_words.specs.FileFault.{fault_text}
 use Rattle.program_words.specs.declared.asked.Asked.{Asked}
 use Rattle.program_words.specs.declared.asked.Asked.TheVariants.{OfScenario, Judge, Threads, Mistake, NoText, NoMemory}
 
@@ -24,9 +26,10 @@ IsWithin (Explore bounds table extras) = (bounds.depth ≤ 64) × IsFromOne 1000
 IsWithin (Check worlds extras) = IsFromOne 1000000000 worlds
 IsWithin (Replay spelled table drawn) = Unit {0}
 
--- the numbers are within the limits of their command: 1 to 64 threads share a search
+-- the numbers are within the limits of their command: 1 to 64 threads share a search, 1 to 1,000,000 lines are judged
 abbrev pub IsWithinLimits : Asked → Type 0
 IsWithinLimits (OfScenario command file answer threads) = IsWithin command × IsFromOne 64 threads
+IsWithinLimits (Judge file demands most) = IfSome most (IsFromOne 1000000)
 IsWithinLimits (Threads workers rounds) = AreWithin workers rounds
 IsWithinLimits _ = Unit {0}
 
@@ -37,16 +40,26 @@ IsWithoutWords error NoText = error_kind error ≢ OutOfMemory
 IsWithoutWords error _ = ⊥
 
 -- of a file that can't be read this alone is told; or memory was short
-abbrev pub IsWithoutFile : List ℕ → Asked → Type 0
-IsWithoutFile name (Mistake told) = string_bytes told ≡ codes "parklot: cannot read " ++ name ++ 10 ∷ []
-IsWithoutFile name NoMemory = Unit {0}
-IsWithoutFile name _ = ⊥
+abbrev pub IsWithoutFile : List ℕ → FileFault → Asked → Type 0
+IsWithoutFile name fault (Mistake told) =
+    string_bytes told ≡ codes "parklot: cannot read " ++ (name ++ (codes ": " ++ (fault_text fault ++ 10 ∷ [])))
+IsWithoutFile name fault NoMemory = Unit {0}
+IsWithoutFile name fault _ = ⊥
 
 -- the name of the file that is read in place of standard input
 abbrev pub file_of : Asked → Option (List ℕ)
 file_of (OfScenario command file answer threads) = option_map (λ name. name.now) file
-file_of (Judge file) = option_map (λ name. name.now) file
+file_of (Judge file demands most) = option_map (λ name. name.now) file
 file_of _ = None
+
+-- `-` is no file's name, but standard input
+abbrev pub NamesNoInput : Asked → Type 0
+NamesNoInput asked = file_of asked ≢ Some (codes "-")
+
+-- the file of this name, or none where that is standard input
+abbrev pub IsFileNamed : Option (Bor (List ℕ)) → Option (Bor (List ℕ)) → Type 0
+IsFileNamed name file =
+    (option_map (λ text. text.now) file ≢ Some (codes "-")) × ((file ≡ name) ⊎ (option_map (λ text. text.now) name ≡ Some (codes "-")))
 
 -- the name of the answer whose schedule is replayed
 abbrev pub answer_named : Asked → Option (List ℕ)

@@ -1,6 +1,7 @@
 ghost use Rattle.std.specs.Prelude.{◌≡◌, option_map};
 ghost use Rattle.program_words.specs.Asked.{file_of, answer_named, is_watched, with_schedule};
 
+use journal_judge::Demands;
 use scenario_search::Command;
 
 /// The most worlds that a search may be asked to keep.
@@ -9,6 +10,8 @@ pub const MAX_WORLDS: u32 = 1_000_000_000;
 pub const MAX_WORKERS: u32 = 64;
 /// The most rounds of each.
 pub const MAX_ROUNDS: u32 = 1_000_000;
+/// The most lines of a journal of which a number is told.
+pub const MAX_LINES: u32 = 1_000_000;
 /// The most threads that share a search.
 pub const MAX_THREADS: u16 = 64;
 
@@ -25,9 +28,12 @@ pub enum Asked<'w> {
         answer: Option<&'w str>,
         threads: u16,
     },
-    /// The command `judge` of the journal in this file or on standard input.
+    /// The command `judge` of the journal in this file or on standard input, of which this is asked. Where so many lines are
+    /// told, no more of them are read.
     Judge {
         file: Option<&'w str>,
+        demands: Demands,
+        most: Option<u32>,
     },
     /// The command `threads`: so many workers, of so many rounds each.
     Threads {
@@ -50,7 +56,7 @@ impl<'w> Asked<'w> {
         ensures { option_map (λ file. file.now) result ≡ file_of self.now }
     {
         match self {
-            Asked::OfScenario { file, .. } | Asked::Judge { file } => *file,
+            Asked::OfScenario { file, .. } | Asked::Judge { file, .. } => *file,
             _ => None,
         }
     }

@@ -1,11 +1,12 @@
 //! What the arguments of each command ask for.
 
-ghost use Rattle.std.specs.Prelude.{◌≡◌, ◌↔◌, IfOk, IsTrue, Some, option_map, codes};
-ghost use Rattle.program_words.specs.Asked.{IsFromOne, IsWithinLimits, ReadsInputOnce};
+ghost use Rattle.std.specs.Prelude.{◌≡◌, ◌↔◌, IfOk, IfSome, IsTrue, Some, option_map, codes};
+ghost use Rattle.program_words.specs.Asked.{IsFileNamed, IsFromOne, IsWithinLimits, NamesNoInput, ReadsInputOnce};
 
-use crate::asked::{Asked, MAX_ROUNDS, MAX_THREADS, MAX_WORKERS, MAX_WORLDS};
+use crate::asked::{Asked, MAX_LINES, MAX_ROUNDS, MAX_THREADS, MAX_WORKERS, MAX_WORLDS};
 use crate::format::FORMAT;
 use clap::ArgMatches;
+use journal_judge::Demands;
 use scenario_search::{
     Bounds, CHECKED_WORLDS, Command, EXPLORED_WORLDS, Extras, MAX_DEPTH, variant_named,
 };
@@ -49,10 +50,28 @@ fn extras_of(given: &ArgMatches<'_>) -> Extras {
     }
 }
 
+/// Whether this names standard input.
+fn is_standard_input(name: Option<&str>) -> bool
+    ensures { IsTrue result ↔ (option_map (λ text. text.now) name.entry ≡ Some (codes "-")) }
+{
+    match name {
+        Some(name) => name == "-",
+        None => false,
+    }
+}
+
+/// The file of this name; `-` is standard input.
+fn file_of<'w>(name: Option<&'w str>) -> Option<&'w str>
+    ensures { IsFileNamed name.entry result }
+{
+    if is_standard_input(name) { None } else { name }
+}
+
 /// What `explore` is asked for.
 fn explore_asked<'w>(given: &ArgMatches<'w>) -> Asked<'w>
     ensures limits { IsWithinLimits result }
     ensures once { ReadsInputOnce result }
+    ensures named { NamesNoInput result }
 {
     let depth = given.get_one::<u32>("depth").unwrap_or(MAX_DEPTH);
     let bounds = Bounds {
@@ -65,7 +84,7 @@ fn explore_asked<'w>(given: &ArgMatches<'w>) -> Asked<'w>
             table: variant_of(given),
             extras: extras_of(given),
         },
-        file: given.get_str("file"),
+        file: file_of(given.get_str("file")),
         answer: None,
         threads: searchers_of(given),
     }
@@ -75,25 +94,16 @@ fn explore_asked<'w>(given: &ArgMatches<'w>) -> Asked<'w>
 fn check_asked<'w>(given: &ArgMatches<'w>) -> Asked<'w>
     ensures limits { IsWithinLimits result }
     ensures once { ReadsInputOnce result }
+    ensures named { NamesNoInput result }
 {
     Asked::OfScenario {
         command: Command::Check {
             worlds: worlds_of(given, CHECKED_WORLDS),
             extras: extras_of(given),
         },
-        file: given.get_str("file"),
+        file: file_of(given.get_str("file")),
         answer: None,
         threads: searchers_of(given),
-    }
-}
-
-/// Whether this names standard input.
-fn is_standard_input(name: Option<&str>) -> bool
-    ensures { IsTrue result ↔ (option_map (λ text. text.now) name.entry ≡ Some (codes "-")) }
-{
-    match name {
-        Some(name) => name == "-",
-        None => false,
     }
 }
 
@@ -103,9 +113,10 @@ fn is_standard_input(name: Option<&str>) -> bool
 fn replay_asked<'w>(alloc: Global, given: &ArgMatches<'w>) -> Result<Asked<'w>, AllocError>
     ensures limits { IfOk result IsWithinLimits }
     ensures once { IfOk result ReadsInputOnce }
+    ensures named { IfOk result NamesNoInput }
 {
     let answer = given.get_str("schedule-of");
-    let file = given.get_str("scenario").or(given.get_str("file"));
+    let file = file_of(given.get_str("scenario").or(given.get_str("file")));
     if is_standard_input(answer) && file.is_none() {
         return Ok(Asked::Mistake(String::from_str(alloc, NO_SCENARIO)?));
     }
@@ -122,10 +133,51 @@ fn replay_asked<'w>(alloc: Global, given: &ArgMatches<'w>) -> Result<Asked<'w>, 
     })
 }
 
+/// The counters that are told to be locks.
+fn locks_of(alloc: Global, given: &ArgMatches<'_>) -> Result<Vec<usize>, AllocError> {
+    let mut locks = Vec::new(alloc);
+    let Some(told) = given.get_many::<u32>("lock") else {
+        return Ok(locks);
+    };
+    for lock in told {
+        if let Ok(lock) = lock {
+            locks.push(lock as usize)?;
+        }
+    }
+    Ok(locks)
+}
+
+/// How many lines of a journal are judged, where that is told.
+fn most_of(given: &ArgMatches<'_>) -> Option<u32>
+    ensures { IfSome result (IsFromOne 1000000) }
+{
+    let told = given.get_one::<u32>("most")?;
+    Some(told.clamp(1, MAX_LINES))
+}
+
+/// What `judge` is asked for.
+///
+/// It is an `Err` where memory is short.
+fn judge_asked<'w>(alloc: Global, given: &ArgMatches<'w>) -> Result<Asked<'w>, AllocError>
+    ensures limits { IfOk result IsWithinLimits }
+    ensures once { IfOk result ReadsInputOnce }
+    ensures named { IfOk result NamesNoInput }
+{
+    Ok(Asked::Judge {
+        file: file_of(given.get_str("file")),
+        demands: Demands {
+            locks: locks_of(alloc, given)?,
+            settled: given.get_flag("settled"),
+        },
+        most: most_of(given),
+    })
+}
+
 /// What `threads` is asked for.
 fn threads_asked<'w>(given: &ArgMatches<'w>) -> Asked<'w>
     ensures limits { IsWithinLimits result }
     ensures once { ReadsInputOnce result }
+    ensures named { NamesNoInput result }
 {
     let workers = given.get_one::<u32>("workers").unwrap_or(1);
     let rounds = given.get_one::<u32>("rounds").unwrap_or(1);
@@ -145,14 +197,13 @@ pub(crate) fn asked_of<'w>(
 ) -> Result<Asked<'w>, AllocError>
     ensures limits { IfOk result IsWithinLimits }
     ensures once { IfOk result ReadsInputOnce }
+    ensures named { IfOk result NamesNoInput }
 {
     match name {
         "check" => Ok(check_asked(given)),
         "explore" => Ok(explore_asked(given)),
         "replay" => replay_asked(alloc, given),
-        "judge" => Ok(Asked::Judge {
-            file: given.get_str("file"),
-        }),
+        "judge" => judge_asked(alloc, given),
         "threads" => Ok(threads_asked(given)),
         "format" => Ok(Asked::Help(String::from_str(alloc, FORMAT)?)),
         _ => Ok(Asked::Once),

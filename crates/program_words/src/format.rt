@@ -6,7 +6,7 @@ pub(crate) static FORMAT: &str =
   counter S             0 to 16 times: the next counter, which starts at S, 0 to 4294967295
   list F                0 to 16 times: the next notify list, whose first ticket is F
   group                 0 to 16 times: the next wait group
-  seat K: CALLS         1 to 16 times: the next seat; K is 0, then 1, and so on
+  seat K: CALLS         1 to 16 times: the next seat; K is 0, then 1, and so on, to 15
   settled               the property, once: where no seat can run, none sleeps;
   value C N                 or: where each seat has ended, counter C is at N;
   no-misuse                 or: no seat fails
@@ -25,5 +25,5 @@ CALLS are 1 to 32 calls, with a semicolon and a space between them:
   gadd G D              add D to the number of group G, from -2147483648 to 2147483647
   gwait G               wait until the number of G is 0
 
-Counters, lists and groups are named by their numbers from 0, each kind for itself. A number has no leading zero.
+Counters, lists and groups are named by their numbers, 0 to 15, each kind for itself. A number has no leading zero.
 ";

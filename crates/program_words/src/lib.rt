@@ -7,8 +7,10 @@
 
 mod asked;
 mod asking;
+mod file_fault;
 mod format;
 mod words;
 
-pub use asked::{Asked, MAX_ROUNDS, MAX_THREADS, MAX_WORKERS, MAX_WORLDS};
+pub use asked::{Asked, MAX_LINES, MAX_ROUNDS, MAX_THREADS, MAX_WORKERS, MAX_WORLDS};
+pub use file_fault::FileFault;
 pub use words::{no_file, no_words, read_words};
