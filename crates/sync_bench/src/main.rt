@@ -3,8 +3,8 @@
 //! `ticket` takes a ticket, grants it and waits with it, and `group` adds 1 to a wait group, takes it off and waits, each in one
 //! thread. The other cases have threads. In `signals` two wait for each other on a notify list, and in `hands` on a condition
 //! variable, for a word that says whose turn it is: an operation is the way there and back. In `broadcast` one wakes so many workers
-//! by a condition variable, each time that all of them wait; in `mutex` so many workers take one lock; in `fork` one lets so many workers begin, each by a counter of its own,
-//! and waits by a wait group until all are done.
+//! by a condition variable, each time that all of them wait; in `mutex` so many workers take one lock; in `fork` one lets so many
+//! workers begin, each by a counter of its own, and waits by a wait group until all are done.
 #![tactic(auto)]
 
 ghost use Rattle.std.specs.Prelude.{◌≡◌, ◌<◌, All, IfOk, length};
