@@ -1,5 +1,6 @@
 //! A lock over a counter of a table.
 ghost use Rattle.std.specs.Prelude.{◌≡◌, ◌<◌, true, false, length};
+ghost use Rattle.sema_table.specs.Whole.{IsAcquired};
 ghost use Rattle.sync_parts.specs.Lock.{TookLast};
 ghost use Rattle.sync_parts.specs.Locking.{new_lock, HasLocked, HasUnlocked};
 ghost use Rattle.sync_parts.specs.Exclusion.{HaveMet};
@@ -10,6 +11,26 @@ use sema_table::{Seat, SemaTable};
 use std::marker::Model;
 use std::sync::Wait;
 use waiters::CounterId;
+
+/// An acquire without lifo. Who was woken for the lock, with others perhaps, looks for a while and then sleeps: breaks and
+/// tries between them would keep the processor from who holds it.
+#[inline]
+fn acquire_for<R: Wait>(
+    rt: &R,
+    table: &SemaTable,
+    seat: Seat,
+    counter: CounterId,
+    was_woken: bool,
+) -> Seat
+    requires { (seat.table ≡ table.now) × (counter < length table.now.setting.starts) }
+    ensures { IsAcquired seat counter false result }
+{
+    if !was_woken {
+        return table.acquire_spinning(rt, seat, counter);
+    }
+    table.spin(counter);
+    table.acquire(rt, seat, counter, false)
+}
 
 /// A lock over a counter, held while its seat has the counter's unit.
 #[derive(Drop)]
@@ -70,10 +91,19 @@ impl<'t> SemaLock<'t> {
         requires { self.old.held ≡ false }
         ensures { HasLocked self.old self.new }
     {
+        self.lock_for(rt, false);
+    }
+
+    /// Locks, for one who comes, or for one who was woken.
+    #[inline]
+    fn lock_for<R: Wait>(&mut self, rt: &R, was_woken: bool)
+        requires { self.old.held ≡ false }
+        ensures { HasLocked self.old self.new }
+    {
         let Some(seat) = self.seat.take() else {
             unreachable!()
         };
-        let seat = self.table.acquire_spinning(rt, seat, self.counter);
+        let seat = acquire_for(rt, self.table, seat, self.counter, was_woken);
         let _ = seat.taken();
         self.seat = Some(seat);
         self.held = true;
@@ -150,6 +180,6 @@ impl<'t> Locker for SemaLock<'t> {
     }
 
     fn lock<R: Wait>(&mut self, rt: &R, _seat: &ListSeat) {
-        self.acquire(rt);
+        self.lock_for(rt, true);
     }
 }
