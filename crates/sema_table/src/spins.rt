@@ -1,5 +1,6 @@
 //! Looking for a unit before a call queues a wait for one (the spinning of Go's `sync.Mutex`).
-ghost use Rattle.std.specs.Prelude.{◌≡◌, ◌<◌, false, length};
+ghost use Rattle.std.specs.Prelude.{◌≡◌, ◌<◌, false, length, IsSomeAnd};
+ghost use Rattle.std.specs.Option.{ForSome};
 ghost use Rattle.sema_table.specs.Whole.{TriesAtSight, IsAcquired};
 ghost use Rattle.sema_table.specs.Callers.{AcquiresUnit};
 
@@ -61,6 +62,35 @@ impl SemaTable {
             Tried::Taken => seat,
             Tried::Zero => self.acquire_slowly(rt, seat, counter, false),
             Tried::Lost => self.acquire_with_breaks(rt, seat, counter),
+        }
+    }
+
+    /// The same by a seat that lies in a struct of its caller's: it is moved only where its first try is in vain.
+    #[inline]
+    pub fn acquire_in_place<R: Wait>(&self, rt: &R, place: &mut Option<Seat>, counter: CounterId)
+        requires there { IsSomeAnd place.old (λ seat. seat.table ≡ self.now) }
+        requires inside { counter < length self.now.setting.starts }
+        ensures rows { ForSome place.old (λ seat. IsSomeAnd place.new (λ later. IsAcquired seat counter false later)) }
+        ensures caller { ForSome place.old (λ seat. IsSomeAnd place.new (λ later. AcquiresUnit seat counter false later)) }
+    {
+        let tried = match place {
+            Some(seat) => self.try_at_sight(seat, counter),
+            None => unreachable!(),
+        };
+        match tried {
+            Tried::Taken => {}
+            Tried::Zero => {
+                let Some(seat) = place.take() else {
+                    unreachable!()
+                };
+                *place = Some(self.acquire_slowly(rt, seat, counter, false));
+            }
+            Tried::Lost => {
+                let Some(seat) = place.take() else {
+                    unreachable!()
+                };
+                *place = Some(self.acquire_with_breaks(rt, seat, counter));
+            }
         }
     }
 

@@ -20,16 +20,19 @@ pub struct Holder<'b> {
 }
 
 impl<'b> Job for Holder<'b> {
-    /// So often takes the lock, counts it, and gives it back.
+    /// So often takes the lock, counts it, and gives it back. It counts in a number of its own: each store to a shared word is
+    /// a locked instruction here, and would be half of what a hold takes.
     fn turns<R: Wait>(self, rt: &R, turns: u32) {
         let Holder { mut lock, held } = self;
+        let mut count = 0_u64;
         for _ in 0..turns {
             lock.acquire(rt);
-            held.store(held.load(Relaxed).wrapping_add(1), Relaxed);
+            count = count.wrapping_add(1);
             if !unlock(rt, &mut lock) {
                 break;
             }
         }
+        held.store(count, Relaxed);
     }
 }
 

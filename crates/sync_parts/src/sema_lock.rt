@@ -1,5 +1,6 @@
 //! A lock over a counter of a table.
-ghost use Rattle.std.specs.Prelude.{◌≡◌, ◌<◌, true, false, length};
+ghost use Rattle.std.specs.Prelude.{◌≡◌, ◌<◌, true, false, length, IsSomeAnd};
+ghost use Rattle.std.specs.Option.{ForSome};
 ghost use Rattle.sema_table.specs.Whole.{IsAcquired};
 ghost use Rattle.sync_parts.specs.Lock.{TookLast};
 ghost use Rattle.sync_parts.specs.Locking.{new_lock, HasLocked, HasUnlocked};
@@ -12,24 +13,29 @@ use std::marker::Model;
 use std::sync::Wait;
 use waiters::CounterId;
 
-/// An acquire without lifo. Who was woken for the lock, with others perhaps, looks for a while and then sleeps: breaks and
-/// tries between them would keep the processor from who holds it.
+/// An acquire without lifo, by the seat that lies here. Who was woken for the lock, with others perhaps, looks for a while and
+/// then sleeps: breaks and tries between them would keep the processor from who holds it.
 #[inline]
 fn acquire_for<R: Wait>(
     rt: &R,
     table: &SemaTable,
-    seat: Seat,
+    place: &mut Option<Seat>,
     counter: CounterId,
     was_woken: bool,
-) -> Seat
-    requires { (seat.table ≡ table.now) × (counter < length table.now.setting.starts) }
-    ensures { IsAcquired seat counter false result }
+)
+    requires there { IsSomeAnd place.old (λ seat. seat.table ≡ table.now) }
+    requires inside { counter < length table.now.setting.starts }
+    ensures { ForSome place.old (λ seat. IsSomeAnd place.new (λ later. IsAcquired seat counter false later)) }
 {
     if !was_woken {
-        return table.acquire_spinning(rt, seat, counter);
+        table.acquire_in_place(rt, place, counter);
+        return;
     }
+    let Some(seat) = place.take() else {
+        unreachable!()
+    };
     table.spin(counter);
-    table.acquire(rt, seat, counter, false)
+    *place = Some(table.acquire(rt, seat, counter, false));
 }
 
 /// A lock over a counter, held while its seat has the counter's unit.
@@ -100,12 +106,11 @@ impl<'t> SemaLock<'t> {
         requires { self.old.held ≡ false }
         ensures { HasLocked self.old self.new }
     {
-        let Some(seat) = self.seat.take() else {
+        acquire_for(rt, self.table, &mut self.seat, self.counter, was_woken);
+        let Some(seat) = &self.seat else {
             unreachable!()
         };
-        let seat = acquire_for(rt, self.table, seat, self.counter, was_woken);
         let _ = seat.taken();
-        self.seat = Some(seat);
         self.held = true;
     }
 
