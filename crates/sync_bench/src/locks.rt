@@ -10,29 +10,32 @@ use std::sync::atomic::Ordering::Relaxed;
 use sync_parts::SemaLock;
 use waiters::CounterId;
 
+/// One hold in so many is counted in a word that all share: each store to such a word is a locked instruction here, and would be
+/// a third of what a hold takes.
+pub const COUNTED: u32 = 64;
+
 /// One of the threads.
 #[derive(Drop)]
 pub struct Holder<'b> {
     pub lock: SemaLock<'b>,
-    /// How often the lock was held: written by its holder alone.
+    /// How often a hold was counted: written by the lock's holder alone.
     pub held: &'b AtomicU64,
     pub ghost free: { lock.held ≡ false },
 }
 
 impl<'b> Job for Holder<'b> {
-    /// So often takes the lock, counts it, and gives it back. It counts in a number of its own: each store to a shared word is
-    /// a locked instruction here, and would be half of what a hold takes.
+    /// So often takes the lock, and gives it back.
     fn turns<R: Wait>(self, rt: &R, turns: u32) {
         let Holder { mut lock, held } = self;
-        let mut count = 0_u64;
-        for _ in 0..turns {
+        for turn in 0..turns {
             lock.acquire(rt);
-            count = count.wrapping_add(1);
+            if turn % COUNTED == 0 {
+                held.store(held.load(Relaxed).wrapping_add(1), Relaxed);
+            }
             if !unlock(rt, &mut lock) {
                 break;
             }
         }
-        held.store(count, Relaxed);
     }
 }
 

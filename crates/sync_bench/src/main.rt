@@ -21,7 +21,7 @@ use crate::broadcasts::{Hall, HallSeats};
 use crate::forks::ForkSeats;
 use crate::hands::HandSeats;
 use crate::jobs::{Job, Seats};
-use crate::locks::HolderSeats;
+use crate::locks::{COUNTED, HolderSeats};
 use crate::signals::{ListSeats, Signaller};
 use anyhow::{Result, bail};
 use notify_list::NotifyList;
@@ -191,7 +191,8 @@ fn time_locks<R: Clock + Print + Threads + Wait + Sync>(
     if !crew::run(rt, jobs, plan.turns) {
         bail!("no threads")
     }
-    if held.load(Relaxed) != times {
+    let counted = u64::from(plan.workers) * u64::from(plan.turns.div_ceil(COUNTED));
+    if held.load(Relaxed) != counted {
         bail!("the lock was held by two")
     }
     tell(rt, "mutex", &start, times)
