@@ -1,0 +1,5 @@
+pub mod Turns
+pub mod Keeping
+pub mod Starting
+pub mod Guards
+pub mod Law

@@ -1,0 +1,5 @@
+pub mod Rule
+pub mod Seats
+pub mod Making
+pub mod Calls
+pub mod Law
