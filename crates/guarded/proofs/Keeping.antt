@@ -1,5 +1,6 @@
 -- What the steps of a guarded value owe.
-use Rattle.std.proofs.Common.{◌≡◌, ◌≢◌, ℕ, ◌<◌, ◌==◌, Bool, true, false, List, [], ◌∷◌, ◌++◌, slice_index, slice_set, sym, refl, ap, ◌∙◌, subst, ⊎_elim, inr, arith, length-set, get_or-set_other, get_or-set_same}
+use Rattle.std.proofs.Common.{◌≡◌, ◌≢◌, ℕ, ◌<◌, ◌==◌, Bool, true, false, List, [], ◌∷◌, ◌++◌}
+use Rattle.std.proofs.Common.{slice_index, slice_set, sym, refl, ap, ◌∙◌, subst, ⊎_elim, inr, arith, length-set, get_or-set_other, get_or-set_same}
 use mathlib.Core.Option as slot
 use lib.ListN.{get_elem?}
 use prog.Atomic.{either}
@@ -18,7 +19,8 @@ use Rattle.running_rows.proofs.Telling.{stays_so, tells_more}
 use Rattle.sync_parts.specs.declared.locker_call.LockerCall.{LockerCall}
 use Rattle.sync_parts.specs.declared.locker_call.LockerCall.TheVariants.{Locked, Unlocked}
 use Rattle.guarded.specs.declared.view.GuardKnown.{GuardKnown}
-use Rattle.guarded.specs.Rule.{Place, home, lent, InTurns, holds_after, LiesAt, GuardLife, living_guard, ShowsGuard, HasCalled, call_by, turned, sight_of, stride_of, guard_rows}
+use Rattle.guarded.specs.Rule.{Place, home, lent, InTurns, holds_after, LiesAt, GuardLife}
+use Rattle.guarded.specs.Rule.{living_guard, ShowsGuard, HasCalled, call_by, turned, sight_of, stride_of, guard_rows}
 use Rattle.guarded.proofs.Turns.{turns_more, holds_is, holds_last, lent_to}
 
 abbrev pub Me : Type 0 → Type 0
@@ -94,7 +96,8 @@ module _ {T : Type 0} (seats : ℕ) (m : Me T) (s : GuardLife) (words : List ℕ
     holds = e ∙ sym (holds_last false m.0.own.gone call);
   }
 
-  others : (call : LockerCall) (word : ℕ) (place : Place) (u : Seated GuardKnown LockerCall) → u.number ≢ m.0.own.number → HasCalled u s → HasCalled u (next call word place)
+  others : (call : LockerCall) (word : ℕ) (place : Place) (u : Seated GuardKnown LockerCall) → u.number ≢ m.0.own.number → HasCalled u s
+      → HasCalled u (next call word place)
   others call word place u ne o = record { own = strides_else u.number s.history (moment call) (λ q. ne (sym q)) ∙ o.own; holds = o.holds }
 
   -- the word is 0, and the lock is taken, with the value
@@ -124,7 +127,8 @@ module _ {T : Type 0} (seats : ℕ) (m : Me T) (s : GuardLife) (words : List ℕ
       by (lent i) lies = let e = at.shows.word_is in let o : s.word ≡ 1 = lies.0 in absurd (omega arith)
 
   -- the seat holds the lock: the value is with it, and goes home
-  gives_it : m.0.own.knows.holds ≡ true → (y : T) → m.1 ≡ (0, y) ∷ [] → Leads guard_rows seats m s words homes 0 0 (λ t. gives guard_rows (atomic.step 1 0 0 0 slot.none) m 0 t)
+  gives_it : m.0.own.knows.holds ≡ true → (y : T) → m.1 ≡ (0, y) ∷ []
+      → Leads guard_rows seats m s words homes 0 0 (λ t. gives guard_rows (atomic.step 1 0 0 0 slot.none) m 0 t)
   gives_it holds y out =
       let is_mine : s.at ≡ lent m.0.own.number = lent_to m.0.own.number s.at (sym (holds_is m.0.own.number home s.at s.history at.shows.in_turns)
       ∙ ap (holds_after false) at.knows.own ∙ sym at.knows.holds ∙ holds) in

@@ -1,5 +1,6 @@
 -- No two seats have a guarded value at once.
-use Rattle.std.proofs.Common.{◌≡◌, ℕ, ◌<◌, ◌≤◌, ◌==◌, if◌then◌else◌, Bool, true, false, List, [], ◌∷◌, refl, sym, ap, ◌∙◌, subst, ⊎_elim, inl, inr, eq-eqb, lt_of_not-le}
+use Rattle.std.proofs.Common.{◌≡◌, ℕ, ◌<◌, ◌≤◌, ◌==◌, if◌then◌else◌, Bool, true, false, List, []}
+use Rattle.std.proofs.Common.{◌∷◌, refl, sym, ap, ◌∙◌, subst, ⊎_elim, inl, inr, eq-eqb, lt_of_not-le}
 use mathlib.Core.Logic.{dite}
 use native.Mathlib.Decide.{dec_le}
 use Rattle.running_rows.specs.declared.view.Seated.{Seated}
@@ -31,7 +32,8 @@ module _ {T : Type 0} (seats : ℕ) (s : WordState T) (r : IsKept guard_rows sea
   -- a seat at this place sits there by the rule
   sits : (place : ℕ) (u : Seated GuardKnown LockerCall) → IsSeatAt s place u → Sits (guard_rows {T = T}) seats r.world r.history r.spot r.made place u
   sits place u o = let all = r.views place o.view o.at o.someones in
-      ⊎_elim (λ e. subst (λ (w : Seated GuardKnown LockerCall). Sits (guard_rows {T = T}) seats r.world r.history r.spot r.made place w) e all.own) (λ g. all.guests u g) o.sits
+      ⊎_elim (λ e. subst (λ (w : Seated GuardKnown LockerCall). Sits (guard_rows {T = T}) seats r.world r.history r.spot r.made place w) e all.own)
+      (λ g. all.guests u g) o.sits
 
   -- it holds the lock by its calls just where the value is with it
   has_it : (place : ℕ) (u : Seated GuardKnown LockerCall) → IsSeatAt s place u → holds_after false u.gone ≡ is_with u.number r.world.at

@@ -29,9 +29,9 @@ pub record IsOfASeat {T : Type 0} (s : WordState T) (m : Moment LockerCall) : Ty
   pub number : seat.number ≡ m.seat
   pub made : In m.stride seat.gone
 
--- there is one history of what was locked and unlocked, in turn, which left the value where it is: in its slot while the word is
--- 0, and out while it is 1. Each call in it is one that a seat has made, and each seat has made its own of them. The seat whose
--- last call locked is the one that has the value: so no two have it at once
+-- there is one history of what was locked and unlocked, in turn, which left the value where it is: in its slot while the
+-- word is 0, and out while it is 1. Each call in it is one that a seat has made, and each seat has made its own of them. The
+-- seat whose last call locked is the one that has the value: so no two have it at once
 pub record IsLawfulGuard {T : Type 0} (s : WordState T) : Type 0 where
   pub at : Place
   pub history : List (Moment LockerCall)

@@ -1,5 +1,5 @@
--- The rule of a guarded value: it is at home where its lock is free, and with the seat that holds the lock where it isn't. There is
--- one history of what was locked and unlocked, in turn, and each seat has made its own calls of it.
+-- The rule of a guarded value: it is at home where its lock is free, and with the seat that holds the lock where it isn't.
+-- There is one history of what was locked and unlocked, in turn, and each seat has made its own calls of it.
 use Rattle.std.specs.Prelude.{◌≡◌, ℕ, ◌<◌, ◌==◌, Bool, true, false, refl, List, [], ◌∷◌, length, slice_index}
 use mathlib.Core.Option as slot
 use Rattle.running_rows.specs.Words as words

@@ -9,6 +9,12 @@ pub record GuardedModel : Type 0 where
   pub id : TableId
   pub seats : ℕ
 
+-- two words and one slot are laid for it, and it has seats
+pub record IsLaid (id : TableId) (seats : ℕ) : Type 0 where
+  pub words : id.words ≡ 2
+  pub slots : id.slots ≡ 1
+  pub some : 0 < seats
+
 -- a seat of a guarded value: its number, and all that it has locked and unlocked
 pub record SeatModel : Type 0 where
   pub guarded : GuardedModel

@@ -125,10 +125,10 @@ impl<'g, T> Locker for Guard<'g, T> {
     }
 
     fn unlock<R: Wait>(&mut self, _rt: &R, _holding: &Holding) {
-        self.release();
+        Guard::release(self);
     }
 
     fn lock<R: Wait>(&mut self, rt: &R, _seat: &ListSeat) {
-        self.acquire(rt);
+        Guard::acquire(self, rt);
     }
 }

@@ -13,8 +13,8 @@ pub(crate) const SLEEPERS: usize = 1;
 /// In which slot the value lies.
 pub(crate) const VALUE: usize = 0;
 
-/// A value under a lock of its own. A [`Guard`](crate::Guard) takes the lock, and the value with it, by one step. Threads share it
-/// by reference, or in an `Arc`.
+/// A value under a lock of its own. A [`Guard`](crate::Guard) takes the lock, and the value with it, by one step.
+/// Threads share it by reference, or in an `Arc`.
 #[derive(Drop)]
 pub struct Guarded<T> {
     pub(crate) words: Running<T, View<GuardKnown, LockerCall>, u32, OneWorld<GuardRows>>,
@@ -27,14 +27,13 @@ pub struct GuardSeat<T> {
 }
 
 impl<T> Model for Guarded<T> {
-    ghost use Rattle.std.specs.Prelude.{◌≡◌, ◌<◌};
-    ghost use Rattle.guarded.specs.Seats.{GuardedModel};
+    ghost use Rattle.guarded.specs.Seats.{GuardedModel, IsLaid};
 
     ghost Value = { GuardedModel };
 
     ghost view = { λ g. record { id = g.words.table.shared.table_id; seats = g.words.table.shared.key } };
 
-    ghost invariant = { λ g. (g.words.table.shared.table_id.words ≡ 2) × (g.words.table.shared.table_id.slots ≡ 1) × (0 < g.words.table.shared.key) };
+    ghost invariant = { λ g. IsLaid g.words.table.shared.table_id g.words.table.shared.key };
 }
 
 impl<T> Model for GuardSeat<T> {

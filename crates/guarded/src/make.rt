@@ -75,8 +75,8 @@ impl<T> Guarded<T> {
         };
     }
 
-    /// A value with so many seats, in the order of their numbers. An error has made nothing, and gives the value back: there are not
-    /// 1 to 256 seats, or memory was refused.
+    /// A value with so many seats, in the order of their numbers. An error has made nothing, and gives the value back:
+    /// there are not 1 to 256 seats, or memory was refused.
     pub fn with_seats(
         alloc: Global,
         seats: u32,

@@ -5,8 +5,8 @@ use crate::view::GuardKnown;
 use running_rows::Rows;
 use sync_parts::LockerCall;
 
-/// The rows of a guarded value, which was made with how many seats there are: who locks takes the value out of its slot by the step
-/// that takes the lock, and who unlocks puts it back by the step that gives the lock back.
+/// The rows of a guarded value, which was made with how many seats there are: who locks takes the value out of its
+/// slot by the step that takes the lock, and who unlocks puts it back by the step that gives the lock back.
 pub struct GuardRows;
 
 /// A seat of the words. The slot has the value.

@@ -5,7 +5,7 @@ use Rattle.guarded.proofs.Guards.{locked, is_locked}
 use Rattle.guarded.proofs.guarded.Guarded.lock.Goals as goal
 
 pub take_lock-requires : goal.take_lock-requires
-take_lock-requires g c = let words = c.self.invariant.0 in (
+take_lock-requires g c = let words = c.self.invariant.words in (
   omega arith,
   (
     (ap (λ (x : GuardedModel). x.id) c.requires.own ∙ sym (ap (λ (x : GuardedModel). x.id) c.self.view_is), c.requires.some),

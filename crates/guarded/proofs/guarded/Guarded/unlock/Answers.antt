@@ -5,7 +5,7 @@ use Rattle.guarded.proofs.Guards.{unlocked, is_unlocked}
 use Rattle.guarded.proofs.guarded.Guarded.unlock.Goals as goal
 
 pub give_lock-requires : goal.give_lock-requires
-give_lock-requires g c = let words = c.self.invariant.0 in (
+give_lock-requires g c = let words = c.self.invariant.words in (
   omega arith,
   (
     (ap (λ (x : GuardedModel). x.id) c.requires.own ∙ sym (ap (λ (x : GuardedModel). x.id) c.self.view_is), c.requires.some),
