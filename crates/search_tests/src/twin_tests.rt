@@ -1,10 +1,10 @@
 //! Searches of a machine with alike worlds: two seats each raise a number of their own, and whose is whose makes no difference.
 
-ghost use Rattle.std.specs.Prelude.{◌≡◌, IfOk, IfSome, IsTrue, ⊤};
-ghost use Rattle.search.specs.Alike.{AreSoMany, IsReached};
+ghost use Rattle.std.specs.Prelude.{◌≡◌, IfOk, IsTrue, ⊤};
+ghost use Rattle.search.specs.Alike.{IsCount, IsReached};
 ghost use Rattle.search.specs.Extent.{IsExtent};
 ghost use Rattle.search.specs.FoundInAll.{IsRightInAll};
-ghost use Rattle.search_tests.specs.Twins.{Pair, rules_of, bounded};
+ghost use Rattle.search_tests.specs.Twins.{Pair, numbers_of, rules_of, bounded};
 
 use crate::given::{holds, write_over};
 use search::{Extent, FoundInAll, Machine, Searched, search_all};
@@ -26,7 +26,7 @@ impl Machine for Twins {
 
     ghost World = { Pair };
 
-    ghost world = { λ twins. (twins.first, twins.second) };
+    ghost world = { numbers_of };
 
     ghost rules = { rules_of };
 
@@ -96,9 +96,10 @@ impl Machine for Twins {
 /// Searches all ways to raise the two numbers from this one.
 fn raise_all(alloc: Global, from: u64) -> Result<Searched<FoundInAll<u64>>, NoMemory>
     ensures found { IfOk result (λ told. IsRightInAll rules_of (from, from) 100 told.found) }
-    ensures extent { IfOk result (λ told. IsExtent rules_of (from, from) told.extent) }
+    ensures extent { IfOk result (λ told.
+        IsExtent (λ twins. ⊤) numbers_of rules_of (from, from) told.extent) }
     ensures counted { IfOk result (λ told. IsTrue told.extent.complete
-        → IfSome told.extent.counted (AreSoMany (IsReached rules_of (from, from)))) }
+        → IsCount (IsReached rules_of (from, from)) told.extent.counted) }
 {
     let twins = Twins {
         first: from,

@@ -1,8 +1,8 @@
-use Rattle.std.specs.Prelude.{IsTrue, IfSome}
+use Rattle.std.specs.Prelude.{IsTrue, ⊤}
 use Rattle.std.proofs.lemmas.Result.{IfOk-weaker}
-use Rattle.search.specs.Alike.{AreSoMany, IsReached}
+use Rattle.search.specs.Alike.{IsCount, IsReached}
 use Rattle.search.specs.Extent.{IsExtent}
-use Rattle.search_tests.specs.Twins.{Pair, rules_of}
+use Rattle.search_tests.specs.Twins.{Pair, numbers_of, rules_of}
 use Rattle.search_tests.proofs.Twins.{key_like, like_key, told_alike}
 use Rattle.search_tests.proofs.twin_tests.raise_all.Goals as goal
 
@@ -12,6 +12,6 @@ search_all-requires-clause-keys c = λ m n s t a b runs there. (key_like _ _, li
 pub returns-clause-counted : goal.returns-clause-counted
 returns-clause-counted c =
     let start : Pair = (c.args.from, c.args.from) in
-    IfOk-weaker c.search_all.result (λ told. IsExtent rules_of start told.extent)
-    (λ told. IsTrue told.extent.complete → IfSome told.extent.counted (AreSoMany (IsReached rules_of start)))
-    (λ told it. it.counted_in_all (told_alike c.args.from)) c.search_all.ensures.extent
+    IfOk-weaker c.search_all.result (λ told. IsExtent (λ twins. ⊤) numbers_of rules_of start told.extent)
+    (λ told. IsTrue told.extent.complete → IsCount (IsReached rules_of start) told.extent.counted)
+    (λ told it. it.counted_in_all (told_alike c.args.from (λ twins. ⊤) numbers_of)) c.search_all.ensures.extent
