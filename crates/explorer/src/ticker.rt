@@ -23,8 +23,12 @@ impl fmt::Display for Progress {
     ghost output = { λ progress. Some (progress_text progress.extent.worlds progress.extent.depth) };
 
     fn fmt<W: fmt::Write>(&self, f: &mut fmt::Formatter<W>) -> fmt::Result {
-        let Extent { worlds, depth, .. } = self.extent;
-        write!(f, "worlds {worlds}, depth {depth}")
+        let Extent {
+            worlds: kept,
+            depth,
+            ..
+        } = self.extent;
+        write!(f, "kept {kept}, depth {depth}")
     }
 }
 

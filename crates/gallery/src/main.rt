@@ -18,7 +18,7 @@ use std::time::Clock;
 const PROMPT: &str = "$ parklot ";
 
 /// The scenarios, from the simple to the odd, the journals, and the answers.
-const NAMES: [&str; 33] = [
+const NAMES: [&str; 34] = [
     "lonely_sleeper",
     "lost_wake_up",
     "newest_first",
@@ -30,6 +30,7 @@ const NAMES: [&str; 33] = [
     "three_for_three",
     "lock",
     "five_seats_and_a_mutex",
+    "eight_seats_and_a_mutex",
     "exclusion_asserted",
     "exclusion_broken",
     "nested_reader",
