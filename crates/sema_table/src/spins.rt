@@ -14,8 +14,11 @@ use waiters::CounterId;
 
 /// How often `spin` looks: what is done under a lock takes less, unless its holder lost its processor.
 const LOOKS: u64 = 100;
-/// So often an acquire that spins makes a break before it queues a wait.
-const BREAKS: u32 = 11;
+/// The first break of an acquire that spins is of 2 to this power pauses. In a shorter one, who has the unit gives it back and
+/// takes it again a few times only, and the word goes from processor to processor for each.
+const FIRST_BREAK: u32 = 7;
+/// Its last break, before it queues a wait, is of half as many as 2 to this power.
+const BREAKS_END: u32 = 12;
 
 /// A break before the next look: twice as long each time, so that those who want one unit don't keep its cache line from
 /// who gives it back.
@@ -110,7 +113,7 @@ impl SemaTable {
         ensures { IsAcquired seat counter false result }
     {
         let mut seat = seat;
-        for turn in 0..BREAKS {
+        for turn in FIRST_BREAK..BREAKS_END {
             make_break(turn);
             match self.try_at_sight(&mut seat, counter) {
                 Tried::Taken => return seat,
