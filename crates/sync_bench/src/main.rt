@@ -3,7 +3,8 @@
 //! `ticket` takes a ticket, grants it and waits with it, and `group` adds 1 to a wait group, takes it off and waits, each in one
 //! thread. The other cases have threads. In `signals` two wait for each other on a notify list, and in `hands` on a condition
 //! variable, for a word that says whose turn it is: an operation is the way there and back. In `broadcast` one wakes so many workers
-//! by a condition variable, each time that all of them wait; in `mutex` so many workers take one lock; in `fork` one lets so many
+//! by a condition variable, each time that all of them wait; in `mutex` so many workers take one lock, and in `guarded` so many
+//! add to one guarded number; in `fork` one lets so many
 //! workers begin, each by a counter of its own, and waits by a wait group until all are done.
 #![tactic(auto)]
 
@@ -12,6 +13,7 @@ ghost use Rattle.std.specs.Prelude.{◌≡◌, ◌<◌, All, IfOk, length};
 mod broadcasts;
 mod crew;
 mod forks;
+mod guards;
 mod hands;
 mod jobs;
 mod locks;
@@ -264,6 +266,7 @@ fn time_case<R: Clock + Print + Threads + Wait + Sync>(
         ("hands", 2) => time_hands(rt, plan),
         ("broadcast", _) => time_broadcast(rt, plan),
         ("mutex", _) => time_mutex(rt, plan),
+        ("guarded", _) => guards::time(rt, plan.alloc, plan.workers, plan.turns),
         ("group", 1) => time_group(rt, plan),
         ("fork", _) => time_fork(rt, plan),
         _ => bail!("no such case of so many workers"),
