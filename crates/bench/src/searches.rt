@@ -8,11 +8,10 @@ use std::time::{Clock, Instant};
 /// How many steps a schedule has at most: enough for each of the scenarios here.
 const DEPTH: u32 = 64;
 
-/// How many worlds a search of this file of the folder `data` meets, by an independent search. The first has more than a
-/// search keeps: it gives up at the one after 200,000.
+/// How many worlds there are in this file of the folder `data`, by an independent search. Of alike worlds a search keeps one.
 fn worlds(name: &str) -> Result<u128> {
     match name {
-        "three_acquires_three_releases" => Ok(200_001),
+        "three_acquires_three_releases" => Ok(203_157),
         "two_counters_of_one_root" => Ok(61_246),
         "group" => Ok(58_676),
         "four_locks" => Ok(2_993),
@@ -20,7 +19,7 @@ fn worlds(name: &str) -> Result<u128> {
     }
 }
 
-/// What a world costs in a search of this text, in nanoseconds, and how many worlds were met.
+/// What a world costs in a search of this text, in nanoseconds, and how many worlds there are.
 pub fn world(clock: &impl Clock, alloc: Global, name: &str, text: &str) -> Result<(u128, u128)> {
     let worlds = worlds(name)?;
     let request = read_scenario(alloc, text.as_bytes())?;
