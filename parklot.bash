@@ -14,9 +14,9 @@ _parklot_values() {
 _parklot_options() {
     local search="--table --columns --stats --progress --threads --worlds"
     case $1 in
-    check) echo "$search --help" ;;
+    check) echo "$search --every --help" ;;
     explore) echo "$search --depth --variant --help" ;;
-    replay) echo "--schedule --schedule-of --variant --table --columns --scenario --help" ;;
+    replay) echo "--schedule --schedule-of --variant --every --table --columns --scenario --help" ;;
     judge) echo "--lock --settled --most --help" ;;
     threads) echo "--workers --rounds --help" ;;
     *) echo "--help" ;;

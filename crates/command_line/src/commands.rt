@@ -79,6 +79,12 @@ fn variant_argument<'a>(alloc: Global) -> Arg<'a> {
         .help("Change the step table: no-look, late-count or plain-less")
 }
 
+/// Whether every property is asked.
+fn every_argument<'a>(alloc: Global) -> Arg<'a> {
+    let every = "Ask settled and no-misuse too, beside the property of the text";
+    flag_argument(alloc, "every", every)
+}
+
 /// A search with what it may tell beyond what it found, who shares it, and its file.
 fn with_extras<'a>(alloc: Global, search: Draft<'a>) -> Draft<'a> {
     let drawn = "Behind the answer, draw the schedule that was found as a table";
@@ -98,7 +104,7 @@ fn with_extras<'a>(alloc: Global, search: Draft<'a>) -> Draft<'a> {
 fn check_command<'a>(alloc: Global) -> Draft<'a> {
     let about = "Search all schedules of the scenario, of whatever length, for a bad world";
     let worlds = "The most worlds, 1 to 1,000,000,000; without it 2,000,000";
-    let check = plain_command(alloc, "check", about);
+    let check = plain_command(alloc, "check", about).arg(every_argument(alloc));
     with_extras(alloc, check.arg(worlds_argument(alloc, worlds)))
 }
 
@@ -149,6 +155,7 @@ fn replay_command<'a>(alloc: Global) -> Draft<'a> {
         .made_arg(schedule_argument(alloc))
         .made_arg(answer_argument(alloc))
         .arg(variant_argument(alloc))
+        .arg(every_argument(alloc))
         .arg(flag_argument(alloc, "table", drawn))
         .made_arg(scenario_argument(alloc))
         .arg(file_argument(alloc, SCENARIO_FILE))

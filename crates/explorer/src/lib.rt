@@ -32,7 +32,7 @@ pub use program_words::{Asked, FileFault, MAX_ROUNDS, MAX_WORKERS, no_file, no_w
 pub use scenario_search::{
     Bounds, Cause, Command, Exit, Extent, Extras, Flagged, Found, FoundInAll, IoFault, Kind,
     MAX_DEPTH, MAX_TEXT, NO_MEMORY, Property, ReadFault, Request, Searched, Sink, Source,
-    StopWatch, Team, Told, Watch, check, command_io, explore, explore_by, explore_io,
+    StopWatch, Team, Told, Watch, check, check_asked, command_io, explore, explore_by, explore_io,
     explore_variant, explore_variant_io, read_scenario, replay_io, verdict,
 };
 pub use sema_table::Closed;

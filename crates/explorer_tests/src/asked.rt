@@ -132,17 +132,19 @@ pub(crate) fn tells_over(
     assert!(rt; told.fits(&out, &err, status), "{words:?}");
 }
 
-/// How the help begins that stands beside a refusal.
-fn help_beside(told: &str) -> &'static [u8] {
+/// How what stands beside begins: the help of a refusal, what was asked where nothing bad was found, or a seat that failed.
+fn beginning_beside(told: &str) -> &'static [u8] {
     match told {
         "refused: too long\n" => b"the text has more than 65536 bytes\n",
         "refused: schedule\n" => b"a schedule is 0 to 256 numbers of seats",
         _ if told.starts_with("refused: line ") => b"line ",
+        _ if told.starts_with("none") => b"asked: ",
+        _ if told.ends_with("verdict: misuse\n") => b"seat ",
         _ => b"",
     }
 }
 
-/// This is all that the program tells, on its output, and it ends so. Beside a refusal there is help.
+/// This is all that the program tells, on its output, and it ends so. Beside it stands what stands beside such an answer.
 pub(crate) fn tells(
     rt: &impl Host,
     alloc: Global,
@@ -151,7 +153,7 @@ pub(crate) fn tells(
     told: &str,
     status: u8,
 ) {
-    let err = help_beside(told);
+    let err = beginning_beside(told);
     let told = Told {
         out: told.as_bytes(),
         err,

@@ -27,7 +27,7 @@ const FOUND: [Row; 10] = [
         MET,
         &["check"],
         "none\nworlds 42, deepest 14\n",
-        "",
+        "asked: settled. not asked: value C N, no-misuse\n",
         0,
     ),
     // five places for each of four seats, each of which makes four steps
@@ -35,21 +35,21 @@ const FOUND: [Row; 10] = [
         TWO_EACH,
         &["check"],
         "none\nworlds 625, deepest 16\n",
-        "classes 70\n",
+        "asked: settled. not asked: value C N, no-misuse\nclasses 70\n",
         0,
     ),
     (
         TWO_EACH,
         &["check", "--threads", "3"],
         "none\nworlds 625, deepest 16\n",
-        "classes 70\n",
+        "asked: settled. not asked: value C N, no-misuse\nclasses 70\n",
         0,
     ),
     (
         TWO_EACH,
         &["check", "--worlds", "70"],
         "none\nworlds 625, deepest 16\n",
-        "classes 70\n",
+        "asked: settled. not asked: value C N, no-misuse\nclasses 70\n",
         0,
     ),
     // all but the last, in which each seat has ended
@@ -86,7 +86,7 @@ const FOUND: [Row; 10] = [
         TWO_EACH,
         &["explore", "--depth", "15", "--worlds", "69"],
         "none up to depth 15\n",
-        "",
+        "asked: settled. not asked: value C N, no-misuse\n",
         0,
     ),
 ];

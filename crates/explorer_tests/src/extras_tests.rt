@@ -22,7 +22,7 @@ const COUNTED: [Row; 5] = [
         TWO_EACH,
         &["check", "--stats"],
         "none\nworlds 625, deepest 16\n",
-        "worlds 625, classes 70, depth 16, complete\nseconds 0.000, classes a second 70000\n",
+        "asked: settled. not asked: value C N, no-misuse\nworlds 625, classes 70, depth 16, complete\nseconds 0.000, classes a second 70000\n",
         0,
     ),
     (
@@ -36,14 +36,14 @@ const COUNTED: [Row; 5] = [
         TWO_EACH,
         &["explore", "--depth", "15", "--stats"],
         "none up to depth 15\n",
-        "worlds 624, classes 69, depth 15, cut at depth\nseconds 0.000, classes a second 69000\n",
+        "asked: settled. not asked: value C N, no-misuse\nworlds 624, classes 69, depth 15, cut at depth\nseconds 0.000, classes a second 69000\n",
         0,
     ),
     (
         TWO_EACH,
         &["explore", "--stats", "--depth", "64"],
         "none up to depth 64\n",
-        "worlds 625, classes 70, depth 16, complete\nseconds 0.000, classes a second 70000\n",
+        "asked: settled. not asked: value C N, no-misuse\nworlds 625, classes 70, depth 16, complete\nseconds 0.000, classes a second 70000\n",
         0,
     ),
     // one seat: a world for each of its steps but the last
@@ -102,7 +102,11 @@ fn is_listened_to(rt: &impl Host, alloc: Global) -> bool {
     let asked = read_words(alloc, &["check", "--stats"]);
     let mut watch = Listening { told: 0 };
     let (_, beside, _) = run(rt, alloc, &asked, TWO_EACH, ALL_SOUND, &mut watch);
-    let stats = b"worlds 625, classes 70, depth 16, complete\nseconds 1.250, classes a second 56\n";
+    let stats = b"\
+asked: settled. not asked: value C N, no-misuse
+worlds 625, classes 70, depth 16, complete
+seconds 1.250, classes a second 56
+";
     watch.told == 17 && beside.as_slice() == stats.as_slice()
 }
 
@@ -141,7 +145,7 @@ fn what_is_found_is_drawn(rt: HostRuntime) {
 fn nothing_is_drawn_of_nothing(rt: HostRuntime) {
     let told = Told {
         out: b"none\nworlds 625, deepest 16\n",
-        err: b"classes 70\n",
+        err: b"asked: settled. not asked: value C N, no-misuse\nclasses 70\n",
         status: 0,
         whole: true,
         helped: false,

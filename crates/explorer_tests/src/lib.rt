@@ -15,6 +15,8 @@ mod device_tests;
 #[cfg(test)]
 mod devices;
 #[cfg(test)]
+mod every_tests;
+#[cfg(test)]
 mod explore_tests;
 #[cfg(test)]
 mod extras_tests;

@@ -14,31 +14,38 @@ type Row = (
 );
 
 /// Searches. A search that isn't told keeps 2,000,000 worlds, or up to a depth 200,000, and is made by one thread.
-const SEARCHES: [Row; 6] = [
+const SEARCHES: [Row; 7] = [
     (
         &["check"],
-        "OfScenario { command: Check { worlds: 2000000, extras: Extras { drawn: false, counted: false, live: false } }, \
+        "OfScenario { command: Check { worlds: 2000000, every: false, extras: Extras { drawn: false, counted: false, live: false } }, \
          file: None, answer: None, threads: 1 }",
         None,
         false,
     ),
     (
         &["check", "-"],
-        "OfScenario { command: Check { worlds: 2000000, extras: Extras { drawn: false, counted: false, live: false } }, \
+        "OfScenario { command: Check { worlds: 2000000, every: false, extras: Extras { drawn: false, counted: false, live: false } }, \
          file: None, answer: None, threads: 1 }",
         None,
         false,
     ),
     (
         &["check", "--worlds", "7", "--table", "--threads", "64", "a"],
-        "OfScenario { command: Check { worlds: 7, extras: Extras { drawn: true, counted: false, live: false } }, \
+        "OfScenario { command: Check { worlds: 7, every: false, extras: Extras { drawn: true, counted: false, live: false } }, \
          file: Some(\"a\"), answer: None, threads: 64 }",
         Some("a"),
         false,
     ),
     (
+        &["check", "--every"],
+        "OfScenario { command: Check { worlds: 2000000, every: true, extras: Extras { drawn: false, counted: false, live: false } }, \
+         file: None, answer: None, threads: 1 }",
+        None,
+        false,
+    ),
+    (
         &["check", "--progress", "b"],
-        "OfScenario { command: Check { worlds: 2000000, extras: Extras { drawn: false, counted: false, live: true } }, \
+        "OfScenario { command: Check { worlds: 2000000, every: false, extras: Extras { drawn: false, counted: false, live: true } }, \
          file: Some(\"b\"), answer: None, threads: 1 }",
         Some("b"),
         true,
@@ -72,10 +79,10 @@ const SEARCHES: [Row; 6] = [
 ];
 
 /// Words that ask for no search.
-const OTHERS: [Row; 11] = [
+const OTHERS: [Row; 12] = [
     (
         &["replay", "--schedule", "0 1", "--variant", "no-look", "d"],
-        "OfScenario { command: Replay { schedule: \"0 1\", table: Some(NoLook), drawn: false }, \
+        "OfScenario { command: Replay { schedule: \"0 1\", table: Some(NoLook), every: false, drawn: false }, \
          file: Some(\"d\"), answer: None, threads: 1 }",
         Some("d"),
         false,
@@ -91,16 +98,23 @@ const OTHERS: [Row; 11] = [
             "--variant",
             "plain-less",
         ],
-        "OfScenario { command: Replay { schedule: \"\", table: Some(PlainLess), drawn: true }, \
+        "OfScenario { command: Replay { schedule: \"\", table: Some(PlainLess), every: false, drawn: true }, \
          file: Some(\"e\"), answer: Some(\"-\"), threads: 1 }",
         Some("e"),
         false,
     ),
     (
         &["replay", "--schedule", "-"],
-        "OfScenario { command: Replay { schedule: \"-\", table: None, drawn: false }, \
+        "OfScenario { command: Replay { schedule: \"-\", table: None, every: false, drawn: false }, \
          file: None, answer: None, threads: 1 }",
         None,
+        false,
+    ),
+    (
+        &["replay", "--every", "--schedule-of", "g", "h"],
+        "OfScenario { command: Replay { schedule: \"\", table: None, every: true, drawn: false }, \
+         file: Some(\"h\"), answer: Some(\"g\"), threads: 1 }",
+        Some("h"),
         false,
     ),
     (
@@ -138,14 +152,14 @@ const OTHERS: [Row; 11] = [
     ),
     (
         &["replay", "--schedule", "1", "-"],
-        "OfScenario { command: Replay { schedule: \"1\", table: None, drawn: false }, \
+        "OfScenario { command: Replay { schedule: \"1\", table: None, every: false, drawn: false }, \
          file: None, answer: None, threads: 1 }",
         None,
         false,
     ),
     (
         &["replay", "--schedule-of", "g", "--scenario", "-"],
-        "OfScenario { command: Replay { schedule: \"\", table: None, drawn: false }, \
+        "OfScenario { command: Replay { schedule: \"\", table: None, every: false, drawn: false }, \
          file: None, answer: Some(\"g\"), threads: 1 }",
         None,
         false,

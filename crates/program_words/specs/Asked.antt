@@ -23,8 +23,8 @@ pub record AreWithin (workers rounds : ℕ) : Type 0 where
 -- at most 64 steps, and 1 to 1,000,000,000 worlds
 abbrev pub IsWithin : Command → Type 0
 IsWithin (Explore bounds table extras) = (bounds.depth ≤ 64) × IsFromOne 1000000000 bounds.worlds
-IsWithin (Check worlds extras) = IsFromOne 1000000000 worlds
-IsWithin (Replay spelled table drawn) = Unit {0}
+IsWithin (Check worlds every extras) = IsFromOne 1000000000 worlds
+IsWithin (Replay spelled table every drawn) = Unit {0}
 
 -- the numbers are within the limits of their command: 1 to 64 threads share a search, 1 to 1,000,000 lines are judged
 abbrev pub IsWithinLimits : Asked → Type 0
@@ -72,12 +72,12 @@ ReadsInputOnce asked = answer_named asked ≡ Some (codes "-") → IsSome (file_
 
 -- the same with the schedule that its answer has told, where a replay is asked for
 abbrev pub with_schedule : Asked → Bor (List ℕ) → Asked
-with_schedule (OfScenario (Replay spelled table drawn) file answer threads) schedule =
-    OfScenario (Replay schedule table drawn) file None threads
+with_schedule (OfScenario (Replay spelled table every drawn) file answer threads) schedule =
+    OfScenario (Replay schedule table every drawn) file None threads
 with_schedule asked schedule = asked
 
 -- it is to be told how far a search has come, while it runs
 abbrev pub is_watched : Asked → Bool
 is_watched (OfScenario (Explore bounds table extras) file answer threads) = extras.live
-is_watched (OfScenario (Check worlds extras) file answer threads) = extras.live
+is_watched (OfScenario (Check worlds every extras) file answer threads) = extras.live
 is_watched _ = false

@@ -90,7 +90,12 @@ impl<'w> Asked<'w> {
     {
         match self {
             Asked::OfScenario {
-                command: Command::Replay { table, drawn, .. },
+                command: Command::Replay {
+                    table,
+                    every,
+                    drawn,
+                    ..
+                },
                 file,
                 threads,
                 ..
@@ -98,6 +103,7 @@ impl<'w> Asked<'w> {
                 command: Command::Replay {
                     schedule,
                     table,
+                    every,
                     drawn,
                 },
                 file,

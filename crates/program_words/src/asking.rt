@@ -99,6 +99,7 @@ fn check_asked<'w>(given: &ArgMatches<'w>) -> Asked<'w>
     Asked::OfScenario {
         command: Command::Check {
             worlds: worlds_of(given, CHECKED_WORLDS),
+            every: given.get_flag("every"),
             extras: extras_of(given),
         },
         file: file_of(given.get_str("file")),
@@ -125,6 +126,7 @@ fn replay_asked<'w>(alloc: Global, given: &ArgMatches<'w>) -> Result<Asked<'w>, 
             // that of an answer takes the place of none
             schedule: given.get_str("schedule").unwrap_or(""),
             table: variant_of(given),
+            every: given.get_flag("every"),
             drawn: given.get_flag("table"),
         },
         file,
