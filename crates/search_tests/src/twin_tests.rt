@@ -4,7 +4,8 @@ ghost use Rattle.std.specs.Prelude.{◌≡◌, IfOk, IsTrue, ⊤};
 ghost use Rattle.search.specs.Alike.{IsCount, IsReached};
 ghost use Rattle.search.specs.Extent.{IsExtent};
 ghost use Rattle.search.specs.FoundInAll.{IsRightInAll};
-ghost use Rattle.search_tests.specs.Twins.{Pair, numbers_of, rules_of, bounded};
+ghost use Rattle.search_tests.specs.Twins.{Pair, rules_of, bounded};
+ghost use Rattle.search_tests.specs.declared.twin_tests.Twins.{Twins as Both};
 
 use crate::given::{holds, write_over};
 use search::{Extent, FoundInAll, Machine, Searched, search_all};
@@ -26,7 +27,7 @@ impl Machine for Twins {
 
     ghost World = { Pair };
 
-    ghost world = { numbers_of };
+    ghost world = { λ twins. (twins.first, twins.second) };
 
     ghost rules = { rules_of };
 
@@ -97,7 +98,7 @@ impl Machine for Twins {
 fn raise_all(alloc: Global, from: u64) -> Result<Searched<FoundInAll<u64>>, NoMemory>
     ensures found { IfOk result (λ told. IsRightInAll rules_of (from, from) 100 told.found) }
     ensures extent { IfOk result (λ told.
-        IsExtent (λ twins. ⊤) numbers_of rules_of (from, from) told.extent) }
+        IsExtent (λ (twins : Both). ⊤) (λ twins. (twins.first, twins.second)) rules_of (from, from) told.extent) }
     ensures counted { IfOk result (λ told. IsTrue told.extent.complete
         → IsCount (IsReached rules_of (from, from)) told.extent.counted) }
 {

@@ -2,9 +2,8 @@
 ghost use Rattle.std.specs.Prelude.{◌≡◌, false, All};
 ghost use Rattle.guarded.specs.Seats.{is_held};
 
-use crate::crew;
-use crate::jobs;
 use crate::jobs::{Job, Seats};
+use crate::{crew, jobs};
 use anyhow::{Result, bail};
 use guarded::{Guard, GuardSeat, Guarded};
 use std::alloc::Global;

@@ -2,9 +2,14 @@ use Rattle.std.specs.Prelude.{IsTrue, ⊤}
 use Rattle.std.proofs.lemmas.Result.{IfOk-weaker}
 use Rattle.search.specs.Alike.{IsCount, IsReached}
 use Rattle.search.specs.Extent.{IsExtent}
-use Rattle.search_tests.specs.Twins.{Pair, numbers_of, rules_of}
+use Rattle.search_tests.specs.Twins.{Pair, rules_of}
+use Rattle.search_tests.specs.declared.twin_tests.Twins.{Twins}
 use Rattle.search_tests.proofs.Twins.{key_like, like_key, told_alike}
 use Rattle.search_tests.proofs.twin_tests.raise_all.Goals as goal
+
+-- the two numbers of a machine
+abbrev numbers_of : Twins → Pair
+numbers_of twins = (twins.first, twins.second)
 
 pub search_all-requires-clause-keys : goal.search_all-requires-clause-keys
 search_all-requires-clause-keys c = λ m n s t a b runs there. (key_like _ _, like_key _ _)
