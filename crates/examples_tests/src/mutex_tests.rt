@@ -70,7 +70,7 @@ fn four_add<R: Abort + Threads + Wait + Sync>(
 
 fn settings(alloc: Global, seats: u32, release_limit: u64) -> Result<Settings, AllocError> {
     Ok(Settings {
-        starts: vec![in alloc; 1; 1]?,
+        starts: vec![in alloc; 1]?,
         seats,
         roots: 1,
         seed: 0,

@@ -3,6 +3,7 @@
 ghost use Rattle.std.specs.Prelude.{◌≡◌, All};
 
 use crate::rounds::{Attempt, Call, FINE, answered, is_refused_then_answers};
+use guarded::{GuardSeat, Guarded};
 use notify_list::{ListClosed, ListSeat, NotifyList};
 use sema_table::{Seat, SemaTable, Settings, SetupError};
 use std::alloc::Global;
@@ -121,4 +122,35 @@ impl Call for NewGroup {
 #[test]
 fn a_wait_group_is_refused_or_made(rt: HostRuntime) {
     is_refused_then_answers(&rt, rt.alloc(), FINE, &mut NewGroup);
+}
+
+/// The value is there, for two seats.
+fn is_the_value(guarded: Guarded<u32>, mut seats: Vec<GuardSeat<u32>>) -> bool
+    requires { All (λ s. s.guarded ≡ guarded) seats.items }
+{
+    let count = seats.len();
+    match seats.pop() {
+        Some(seat) => count == 2 && guarded.into_value(seat) == 7,
+        None => false,
+    }
+}
+
+#[derive(Drop)]
+struct NewGuarded;
+
+impl Call for NewGuarded {
+    fn attempt(&mut self, alloc: Global) -> Attempt {
+        match Guarded::with_seats(alloc, 2, 7u32) {
+            Ok((guarded, seats)) => answered(is_the_value(guarded, seats)),
+            Err(refused) if refused.why == SetupError::NoMemory && refused.value == 7 => {
+                Attempt::Refused
+            }
+            Err(_) => Attempt::Wrong,
+        }
+    }
+}
+
+#[test]
+fn a_guarded_value_is_refused_and_given_back_or_made(rt: HostRuntime) {
+    is_refused_then_answers(&rt, rt.alloc(), FINE, &mut NewGuarded);
 }
