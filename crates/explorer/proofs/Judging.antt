@@ -17,7 +17,7 @@ use Rattle.journal_text.specs.declared.journal_fault.JournalFault.TheVariants.{F
 use Rattle.journal_text.specs.Reader.{IsFault}
 use Rattle.scenario_search.specs.Told.{IsTextOf}
 use Rattle.explorer.specs.JudgeText.{judgement_exit, DeclaresLocks, IsUndeclared, IsJudgeInput, IsJudgeReplyOf, IsJudgeToldOf}
-use Rattle.explorer.specs.JudgeText.{RefusesFault, RefusesLock, RepliesJudgement}
+use Rattle.explorer.specs.JudgeText.{RefusesFault, RefusesLock, RepliesJudgement, line_beside}
 
 -- it was replied to an input
 abbrev IsReplyTo : Demands → List ℕ → Reply → Type 0
@@ -63,6 +63,7 @@ refuses_lock_well demands input journal spelled lock undeclared (Err e) told = t
 -- and so is a judgement
 pub judges_well : (demands : Demands) (input : List ℕ) (journal : Journal) → IsJournalOf input journal → DeclaresLocks journal demands.locks.items
     → (judgement : Judgement) → IsJudgementOf journal demands judgement → (text : List ℕ) (exit : Exit)
-    → text ≡ line (judgement_text judgement) → exit ≡ judgement_exit judgement → RepliesJudgement demands input text exit None
-judges_well demands input journal spelled declares judgement is text exit told ended =
-    inr (inr ((journal, spelled, declares, judgement, is, told, ended), refl))
+    → text ≡ line (judgement_text judgement) → exit ≡ judgement_exit judgement → (aside : Option (List ℕ))
+    → aside ≡ line_beside input judgement → RepliesJudgement demands input text exit aside
+judges_well demands input journal spelled declares judgement is text exit told ended aside shown =
+    inr (inr (journal, spelled, declares, judgement, is, told, ended, shown))

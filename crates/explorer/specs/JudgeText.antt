@@ -8,14 +8,14 @@ use Rattle.scenario_search.specs.Told.{WantsMemory}
 use Rattle.streams.specs.Reading.{Reads, ReadsAll}
 use Rattle.journal_text.specs.declared.journal.Journal.{Journal}
 use Rattle.journal_text.specs.Cutting.{first_lines}
-use Rattle.fault_help.specs.JournalHelp.{journal_help}
+use Rattle.fault_help.specs.JournalHelp.{journal_help, line_shown}
 use Rattle.journal_text.specs.declared.journal_fault.JournalFault.{JournalFault}
 use Rattle.journal_text.specs.declared.journal_fault.JournalFault.TheVariants.{Form, NoMemory}
 use Rattle.journal_text.specs.FaultTexts.{fault_text}
 use Rattle.journal_text.specs.JournalText.{IsJournalOf, IsFaultOf}
 use Rattle.journal_judge.specs.declared.judgement.Demands.{Demands}
 use Rattle.journal_judge.specs.declared.judgement.Judgement.{Judgement}
-use Rattle.journal_judge.specs.declared.judgement.Judgement.TheVariants.{Lawful}
+use Rattle.journal_judge.specs.declared.judgement.Judgement.TheVariants.{Lawful, Unlawful, Misheld, LeftAsleep}
 use Rattle.journal_judge.specs.Judged.{IsJudgementOf}
 use Rattle.journal_judge.specs.Texts.{judgement_text}
 
@@ -54,18 +54,26 @@ RefusesSomeLock demands input text exit aside =
     (journal : Journal) × IsJournalOf input journal × (lock : ℕ) × IsUndeclared journal demands.locks.items lock
     × RefusesLock lock text exit aside
 
+-- the line of which a judgement tells is shown beside it
+abbrev pub line_beside : List ℕ → Judgement → Option (List ℕ)
+line_beside input Lawful = None
+line_beside input (Unlawful number rule) = Some (line_shown input number)
+line_beside input (Misheld number rule) = Some (line_shown input number)
+line_beside input (LeftAsleep counter) = None
+
 -- what is asked is judged of the journal that the input spells, and told
-abbrev pub TellsJudgement : Demands → List ℕ → List ℕ → Exit → Type 0
-TellsJudgement demands input text exit =
+abbrev pub TellsJudgement : Demands → List ℕ → List ℕ → Exit → Option (List ℕ) → Type 0
+TellsJudgement demands input text exit aside =
     (journal : Journal) × IsJournalOf input journal × DeclaresLocks journal demands.locks.items
     × (judgement : Judgement) × IsJudgementOf journal demands judgement
     × (text ≡ line (judgement_text judgement)) × (exit ≡ judgement_exit judgement)
+    × (aside ≡ line_beside input judgement)
 
 -- what `judge` replies to the input, want of memory aside
 abbrev pub RepliesJudgement : Demands → List ℕ → List ℕ → Exit → Option (List ℕ) → Type 0
 RepliesJudgement demands input text exit aside =
     RefusesLine input text exit aside
-    ⊎ (RefusesSomeLock demands input text exit aside ⊎ (TellsJudgement demands input text exit × (aside ≡ None)))
+    ⊎ (RefusesSomeLock demands input text exit aside ⊎ TellsJudgement demands input text exit aside)
 
 -- the text and the exit are what it answers to the input
 abbrev pub IsJudgeAnswer : Demands → List ℕ → List ℕ → Exit → Type 0

@@ -137,7 +137,7 @@ fn beginning_beside(told: &str) -> &'static [u8] {
     match told {
         "refused: too long\n" => b"the text has more than 65536 bytes\n",
         "refused: schedule\n" => b"a schedule is 0 to 256 numbers of seats",
-        _ if told.starts_with("refused: line ") => b"line ",
+        _ if told.starts_with("refused: line ") || told.starts_with("unlawful: line ") => b"line ",
         _ if told.starts_with("none") => b"asked: ",
         _ if told.ends_with("verdict: misuse\n") => b"seat ",
         _ => b"",

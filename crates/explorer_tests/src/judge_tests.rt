@@ -207,6 +207,19 @@ fn the_first_broken_lock_is_told(rt: HostRuntime) {
 }
 
 #[test]
+fn the_line_is_shown_beside(rt: HostRuntime) {
+    let told = Told {
+        out: b"unlawful: line 3: no unit\n",
+        err: b"line 3: take 0 1\n",
+        status: 1,
+        whole: true,
+        helped: false,
+    };
+    let journal = b"counter 1\ntake 0 0\ntake 0 1\nadd 0 0\n";
+    tells_over(&rt, rt.alloc(), &["judge"], journal, ALL_SOUND, told);
+}
+
+#[test]
 fn a_lock_that_is_not_declared_is_refused(rt: HostRuntime) {
     let told = Told {
         out: b"refused: lock\n",

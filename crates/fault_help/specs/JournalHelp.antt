@@ -1,4 +1,4 @@
--- What is said of a faulty line of a journal.
+-- What is said of a line of a journal.
 use Rattle.std.specs.Prelude.{ℕ, ◌-◌, cond, ◌∷◌, [], ◌++◌, List, codes}
 use Rattle.std.specs.Fmt.{decimal}
 use Rattle.scenario_text.specs.Pieces.{pieces, text_at}
@@ -11,7 +11,7 @@ unfoldable pub form_text : List ℕ → List ℕ
 form_text line =
     codes "no line is spelled \"" ++ line
     ++ (codes "\" here: counter N and list F come first, and then add C S, add C S many N, take C S, queue C S.T, "
-    ++ (codes "queue C S.T lifo, leave C S.T S, ticket L S, grant L UPTO S, each of a counter or list that is declared; "
+    ++ (codes "queue C S.T lifo, leave C S.T R, ticket L S, grant L UPTO S, each of a counter or list that is declared; "
     ++ codes "a line feed ends each line"))
 
 -- where it ends with a carriage return, that alone
@@ -32,3 +32,8 @@ help_about number line = codes "line " ++ (decimal number ++ (codes ": " ++ (lin
 -- the line's number, the line as far as it can be printed, and what was expected there
 abbrev pub journal_help : List ℕ → ℕ → List ℕ
 journal_help text number = help_about number (text_at (number - 1) (pieces text))
+
+-- the line's number, and the line as far as it can be printed
+abbrev pub line_shown : List ℕ → ℕ → List ℕ
+line_shown text number =
+    codes "line " ++ (decimal number ++ (codes ": " ++ (shown (text_at (number - 1) (pieces text)) ++ 10 ∷ [])))

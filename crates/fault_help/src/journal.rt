@@ -1,7 +1,7 @@
-//! What is said of a line of a journal that has no form.
+//! What is said of a line of a journal: of one that has no form what was expected, of any other what it is.
 
 ghost use Rattle.std.specs.Prelude.{◌≡◌, IfOk, Some, string_bytes};
-ghost use Rattle.fault_help.specs.JournalHelp.{journal_help, line_help, wrong_text};
+ghost use Rattle.fault_help.specs.JournalHelp.{journal_help, line_help, line_shown, wrong_text};
 
 use crate::beginning::shown;
 use crate::reading::ends_in_return;
@@ -30,7 +30,7 @@ impl fmt::Display for Wrong<'_> {
             Wrong::NoForm(line) => write!(
                 f,
                 "no line is spelled \"{line}\" here: counter N and list F come first, and then add C S, add C S many N, \
-                 take C S, queue C S.T, queue C S.T lifo, leave C S.T S, ticket L S, grant L UPTO S, each of a counter or \
+                 take C S, queue C S.T, queue C S.T lifo, leave C S.T R, ticket L S, grant L UPTO S, each of a counter or \
                  list that is declared; a line feed ends each line"
             ),
         }
@@ -57,5 +57,16 @@ pub fn explain_journal(alloc: Global, text: &[u8], line: usize) -> Result<String
 {
     let wrong = wrong_with(line_at(text, line));
     let told = format!(in alloc; "line {line}: {wrong}\n")?;
+    Ok(told)
+}
+
+/// One line that shows a line of a journal, as far as it can be printed.
+///
+/// It is an `Err` where memory is short.
+pub fn show_line(alloc: Global, text: &[u8], line: usize) -> Result<String, AllocError>
+    ensures { IfOk result (λ told. string_bytes told ≡ line_shown text.now line) }
+{
+    let there = shown(line_at(text, line));
+    let told = format!(in alloc; "line {line}: {there}\n")?;
     Ok(told)
 }

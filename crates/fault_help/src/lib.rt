@@ -12,5 +12,5 @@ mod journal;
 mod problem;
 mod reading;
 
-pub use journal::explain_journal;
+pub use journal::{explain_journal, show_line};
 pub use problem::explain;

@@ -56,7 +56,7 @@ impl Call for Explaining {
 
 const NO_ENTRY: &str =
     "line 2: no line is spelled \"takee 0 1\" here: counter N and list F come first, and then add C S, \
-                        add C S many N, take C S, queue C S.T, queue C S.T lifo, leave C S.T S, ticket L S, \
+                        add C S many N, take C S, queue C S.T, queue C S.T lifo, leave C S.T R, ticket L S, \
                         grant L UPTO S, each of a counter or list that is declared; a line feed ends each line\n";
 
 #[derive(Drop)]
