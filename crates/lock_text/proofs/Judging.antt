@@ -1,0 +1,19 @@
+-- What is wrong with one line.
+use Rattle.std.proofs.Common.{◌≡◌, true, false, Some, None, Err, Ok, inl, inr, refl, sym, subst}
+use Rattle.std.specs.List.{list_all}
+use Rattle.scenario_text.specs.Causes.{is_printable}
+use Rattle.scenario_text.specs.Phrases.{ReadsAs}
+use Rattle.scenario_text.specs.Pieces.{Piece}
+use Rattle.scenario_text.proofs.Parts.{found, only, none}
+use Rattle.lock_text.specs.declared.fault.Cause.TheVariants.{Form}
+use Rattle.lock_text.specs.declared.lines.Line.{Line}
+use Rattle.lock_text.specs.Lines.{Says}
+use Rattle.lock_text.specs.Answers.{Judges}
+
+pub formless : (p : Piece) → (p.ended ≡ false → ⊥) → list_all is_printable p.text ≡ true → ReadsAs (Says p.text) None → Judges p (Err Form)
+formless p ended printable h = inr (ended, inr ((λ f. absurd cc), inl ((λ line q. none (Says p.text) line h q), refl)))
+
+pub right : (p : Piece) (l : Line) → (p.ended ≡ false → ⊥) → list_all is_printable p.text ≡ true → ReadsAs (Says p.text) (Some l) → Judges p (Ok l)
+right p l ended printable h =
+    let s = found (Says p.text) l h in
+    ((s, (ended, ((λ f. absurd cc), ((λ f. f l s), tt)))), (λ m. ((λ q. only (Says p.text) l m h q), (λ e. subst (Says p.text) (sym e) s))))

@@ -1,0 +1,255 @@
+-- Which words call the sleeping layer, or leave a section.
+use Rattle.std.proofs.Common.{◌≡◌, ℕ, List, [], ◌∷◌, true, false, Some, None, refl, ap, ◌∙◌}
+use Rattle.std.specs.Prelude.{codes}
+use Rattle.scenario_text.specs.Phrases.{ReadsAs}
+use Rattle.scenario_text.proofs.Parts.{nothing, one as one_of, found, only, none}
+use Rattle.lock_text.specs.declared.reader.keyword.Lifo.{Lifo as LifoWord}
+use Rattle.lock_text.specs.declared.reader.keyword.Handoff.{Handoff as HandoffWord}
+use Rattle.lock_text.specs.declared.reader.keyword.Many.{Many as ManyWord}
+use Rattle.lock_text.specs.declared.reader.verb.Verb.TheVariants as verb
+use Rattle.lock_text.specs.declared.words.Operand.{Operand}
+use Rattle.lock_text.specs.declared.words.Place.{Place}
+use Rattle.lock_text.specs.declared.lines.Share.TheVariants as share
+use Rattle.lock_text.specs.declared.lines.Line.{Line}
+use Rattle.lock_text.specs.declared.lines.Line.TheVariants.{Acquire, Release, Ticket, Wait, One, All, Out}
+use Rattle.lock_text.specs.Words.{IsName, IsOperand, IsPlace, operand_text, place_text}
+use Rattle.lock_text.specs.Lines.{AreArgumentsOf}
+use Rattle.lock_text.specs.Shapes.{AreOne, AreTwo, AreThree, IsLifo, IsHandoff, IsMany}
+
+pub acquire_lifo : (words : List (List ℕ)) (a : Place) → (let x : Place × LifoWord = (a, (record {})) in ReadsAs (AreTwo IsPlace (λ (word : List ℕ) (_ : LifoWord). IsLifo word) words) (Some x))
+    → ReadsAs (AreArgumentsOf verb.Acquire words) (Some (Acquire a true))
+acquire_lifo words a h =
+    let x : Place × LifoWord = (a, (record {})) in
+    let f = found (AreTwo IsPlace (λ (word : List ℕ) (_ : LifoWord). IsLifo word) words) x h in
+    one_of (AreArgumentsOf verb.Acquire words) (Acquire a true) (record { verb_is = refl; form = f.first.form; spelled = f.words_are ∙ (λ i. f.first.spelled i ∷ f.second i ∷ []) }) is
+  where
+    is : (l : Line) → AreArgumentsOf verb.Acquire words l → l ≡ (Acquire a true)
+    is (Acquire p0 true) q =
+        let x : Place × LifoWord = (a, (record {})) in
+        let y : Place × LifoWord = (p0, (record {})) in
+        ap (λ (y : Place × LifoWord). Acquire y.0 true)
+        (only (AreTwo IsPlace (λ (word : List ℕ) (_ : LifoWord). IsLifo word) words) x y h (record { v = place_text p0; w = codes "lifo"; words_are = q.spelled; first = record { form = q.form; spelled = refl }; second = refl }))
+    is (Acquire p0 false) q = let x : Place × LifoWord = (a, (record {})) in let f = found (AreTwo IsPlace (λ (word : List ℕ) (_ : LifoWord). IsLifo word) words) x h in let s = q.spelled in let t = f.words_are in absurd cc
+    is l q = let e = q.verb_is in absurd cc
+
+pub acquire_one : (words : List (List ℕ)) (a : Place) → ReadsAs (AreTwo IsPlace (λ (word : List ℕ) (_ : LifoWord). IsLifo word) words) None → (let x : Place = a in ReadsAs (AreOne IsPlace words) (Some x))
+    → ReadsAs (AreArgumentsOf verb.Acquire words) (Some (Acquire a false))
+acquire_one words a no0 h =
+    let x : Place = a in
+    let f = found (AreOne IsPlace words) x h in
+    one_of (AreArgumentsOf verb.Acquire words) (Acquire a false) (record { verb_is = refl; form = f.said.form; spelled = f.words_are ∙ (λ i. f.said.spelled i ∷ []) }) is
+  where
+    is : (l : Line) → AreArgumentsOf verb.Acquire words l → l ≡ (Acquire a false)
+    is (Acquire p0 true) q =
+        let y : Place × LifoWord = (p0, (record {})) in
+        absurd (none (AreTwo IsPlace (λ (word : List ℕ) (_ : LifoWord). IsLifo word) words) y no0 (record { v = place_text p0; w = codes "lifo"; words_are = q.spelled; first = record { form = q.form; spelled = refl }; second = refl }))
+    is (Acquire p0 false) q =
+        let x : Place = a in
+        let y : Place = p0 in
+        ap (λ (y : Place). Acquire y false)
+        (only (AreOne IsPlace words) x y h (record { w = place_text p0; words_are = q.spelled; said = record { form = q.form; spelled = refl } }))
+    is l q = let e = q.verb_is in absurd cc
+
+pub no_acquire : (words : List (List ℕ)) → ReadsAs (AreTwo IsPlace (λ (word : List ℕ) (_ : LifoWord). IsLifo word) words) None → ReadsAs (AreOne IsPlace words) None → ReadsAs (AreArgumentsOf verb.Acquire words) None
+no_acquire words no0 no1 = nothing (AreArgumentsOf verb.Acquire words) is
+  where
+    is : (l : Line) → AreArgumentsOf verb.Acquire words l → ⊥
+    is (Acquire p0 true) q =
+        let y : Place × LifoWord = (p0, (record {})) in
+        none (AreTwo IsPlace (λ (word : List ℕ) (_ : LifoWord). IsLifo word) words) y no0 (record { v = place_text p0; w = codes "lifo"; words_are = q.spelled; first = record { form = q.form; spelled = refl }; second = refl })
+    is (Acquire p0 false) q =
+        let y : Place = p0 in
+        none (AreOne IsPlace words) y no1 (record { w = place_text p0; words_are = q.spelled; said = record { form = q.form; spelled = refl } })
+    is l q = let e = q.verb_is in absurd cc
+
+pub release_handoff : (words : List (List ℕ)) (a : Place) → (let x : Place × HandoffWord = (a, (record {})) in ReadsAs (AreTwo IsPlace (λ (word : List ℕ) (_ : HandoffWord). IsHandoff word) words) (Some x))
+    → ReadsAs (AreArgumentsOf verb.Release words) (Some (Release a share.Handoff))
+release_handoff words a h =
+    let x : Place × HandoffWord = (a, (record {})) in
+    let f = found (AreTwo IsPlace (λ (word : List ℕ) (_ : HandoffWord). IsHandoff word) words) x h in
+    one_of (AreArgumentsOf verb.Release words) (Release a share.Handoff) (record { verb_is = refl; form = (f.first.form, tt); spelled = f.words_are ∙ (λ i. f.first.spelled i ∷ f.second i ∷ []) }) is
+  where
+    is : (l : Line) → AreArgumentsOf verb.Release words l → l ≡ (Release a share.Handoff)
+    is (Release p0 share.Handoff) q =
+        let x : Place × HandoffWord = (a, (record {})) in
+        let y : Place × HandoffWord = (p0, (record {})) in
+        ap (λ (y : Place × HandoffWord). Release y.0 share.Handoff)
+        (only (AreTwo IsPlace (λ (word : List ℕ) (_ : HandoffWord). IsHandoff word) words) x y h (record { v = place_text p0; w = codes "handoff"; words_are = q.spelled; first = record { form = q.form.0; spelled = refl }; second = refl }))
+    is (Release p0 (share.Many p2)) q = let x : Place × HandoffWord = (a, (record {})) in let f = found (AreTwo IsPlace (λ (word : List ℕ) (_ : HandoffWord). IsHandoff word) words) x h in let s = q.spelled in let t = f.words_are in absurd cc
+    is (Release p0 share.One) q = let x : Place × HandoffWord = (a, (record {})) in let f = found (AreTwo IsPlace (λ (word : List ℕ) (_ : HandoffWord). IsHandoff word) words) x h in let s = q.spelled in let t = f.words_are in absurd cc
+    is l q = let e = q.verb_is in absurd cc
+
+pub release_many : (words : List (List ℕ)) (a : Place) (c : Operand) → ReadsAs (AreTwo IsPlace (λ (word : List ℕ) (_ : HandoffWord). IsHandoff word) words) None → (let x : Place × ManyWord × Operand = (a, (record {}), c) in ReadsAs (AreThree IsPlace (λ (word : List ℕ) (_ : ManyWord). IsMany word) IsOperand words) (Some x))
+    → ReadsAs (AreArgumentsOf verb.Release words) (Some (Release a (share.Many c)))
+release_many words a c no0 h =
+    let x : Place × ManyWord × Operand = (a, (record {}), c) in
+    let f = found (AreThree IsPlace (λ (word : List ℕ) (_ : ManyWord). IsMany word) IsOperand words) x h in
+    one_of (AreArgumentsOf verb.Release words) (Release a (share.Many c)) (record { verb_is = refl; form = (f.first.form, f.third.form); spelled = f.words_are ∙ (λ i. f.first.spelled i ∷ f.second i ∷ f.third.spelled i ∷ []) }) is
+  where
+    is : (l : Line) → AreArgumentsOf verb.Release words l → l ≡ (Release a (share.Many c))
+    is (Release p0 share.Handoff) q =
+        let y : Place × HandoffWord = (p0, (record {})) in
+        absurd (none (AreTwo IsPlace (λ (word : List ℕ) (_ : HandoffWord). IsHandoff word) words) y no0 (record { v = place_text p0; w = codes "handoff"; words_are = q.spelled; first = record { form = q.form.0; spelled = refl }; second = refl }))
+    is (Release p0 (share.Many p2)) q =
+        let x : Place × ManyWord × Operand = (a, (record {}), c) in
+        let y : Place × ManyWord × Operand = (p0, (record {}), p2) in
+        ap (λ (y : Place × ManyWord × Operand). Release y.0 (share.Many y.2))
+        (only (AreThree IsPlace (λ (word : List ℕ) (_ : ManyWord). IsMany word) IsOperand words) x y h (record { u = place_text p0; v = codes "many"; w = operand_text p2; words_are = q.spelled; first = record { form = q.form.0; spelled = refl }; second = refl; third = record { form = q.form.1; spelled = refl } }))
+    is (Release p0 share.One) q = let x : Place × ManyWord × Operand = (a, (record {}), c) in let f = found (AreThree IsPlace (λ (word : List ℕ) (_ : ManyWord). IsMany word) IsOperand words) x h in let s = q.spelled in let t = f.words_are in absurd cc
+    is l q = let e = q.verb_is in absurd cc
+
+pub release_one : (words : List (List ℕ)) (a : Place) → ReadsAs (AreTwo IsPlace (λ (word : List ℕ) (_ : HandoffWord). IsHandoff word) words) None → ReadsAs (AreThree IsPlace (λ (word : List ℕ) (_ : ManyWord). IsMany word) IsOperand words) None → (let x : Place = a in ReadsAs (AreOne IsPlace words) (Some x))
+    → ReadsAs (AreArgumentsOf verb.Release words) (Some (Release a share.One))
+release_one words a no0 no1 h =
+    let x : Place = a in
+    let f = found (AreOne IsPlace words) x h in
+    one_of (AreArgumentsOf verb.Release words) (Release a share.One) (record { verb_is = refl; form = (f.said.form, tt); spelled = f.words_are ∙ (λ i. f.said.spelled i ∷ []) }) is
+  where
+    is : (l : Line) → AreArgumentsOf verb.Release words l → l ≡ (Release a share.One)
+    is (Release p0 share.Handoff) q =
+        let y : Place × HandoffWord = (p0, (record {})) in
+        absurd (none (AreTwo IsPlace (λ (word : List ℕ) (_ : HandoffWord). IsHandoff word) words) y no0 (record { v = place_text p0; w = codes "handoff"; words_are = q.spelled; first = record { form = q.form.0; spelled = refl }; second = refl }))
+    is (Release p0 (share.Many p2)) q =
+        let y : Place × ManyWord × Operand = (p0, (record {}), p2) in
+        absurd (none (AreThree IsPlace (λ (word : List ℕ) (_ : ManyWord). IsMany word) IsOperand words) y no1 (record { u = place_text p0; v = codes "many"; w = operand_text p2; words_are = q.spelled; first = record { form = q.form.0; spelled = refl }; second = refl; third = record { form = q.form.1; spelled = refl } }))
+    is (Release p0 share.One) q =
+        let x : Place = a in
+        let y : Place = p0 in
+        ap (λ (y : Place). Release y share.One)
+        (only (AreOne IsPlace words) x y h (record { w = place_text p0; words_are = q.spelled; said = record { form = q.form.0; spelled = refl } }))
+    is l q = let e = q.verb_is in absurd cc
+
+pub no_release : (words : List (List ℕ)) → ReadsAs (AreTwo IsPlace (λ (word : List ℕ) (_ : HandoffWord). IsHandoff word) words) None → ReadsAs (AreThree IsPlace (λ (word : List ℕ) (_ : ManyWord). IsMany word) IsOperand words) None → ReadsAs (AreOne IsPlace words) None → ReadsAs (AreArgumentsOf verb.Release words) None
+no_release words no0 no1 no2 = nothing (AreArgumentsOf verb.Release words) is
+  where
+    is : (l : Line) → AreArgumentsOf verb.Release words l → ⊥
+    is (Release p0 share.Handoff) q =
+        let y : Place × HandoffWord = (p0, (record {})) in
+        none (AreTwo IsPlace (λ (word : List ℕ) (_ : HandoffWord). IsHandoff word) words) y no0 (record { v = place_text p0; w = codes "handoff"; words_are = q.spelled; first = record { form = q.form.0; spelled = refl }; second = refl })
+    is (Release p0 (share.Many p2)) q =
+        let y : Place × ManyWord × Operand = (p0, (record {}), p2) in
+        none (AreThree IsPlace (λ (word : List ℕ) (_ : ManyWord). IsMany word) IsOperand words) y no1 (record { u = place_text p0; v = codes "many"; w = operand_text p2; words_are = q.spelled; first = record { form = q.form.0; spelled = refl }; second = refl; third = record { form = q.form.1; spelled = refl } })
+    is (Release p0 share.One) q =
+        let y : Place = p0 in
+        none (AreOne IsPlace words) y no2 (record { w = place_text p0; words_are = q.spelled; said = record { form = q.form.0; spelled = refl } })
+    is l q = let e = q.verb_is in absurd cc
+
+pub ticket_reads : (words : List (List ℕ)) (a : List ℕ) → (let x : List ℕ = a in ReadsAs (AreOne IsName words) (Some x))
+    → ReadsAs (AreArgumentsOf verb.Ticket words) (Some (Ticket a))
+ticket_reads words a h =
+    let x : List ℕ = a in
+    let f = found (AreOne IsName words) x h in
+    one_of (AreArgumentsOf verb.Ticket words) (Ticket a) (record { verb_is = refl; form = f.said.form; spelled = f.words_are ∙ (λ i. f.said.spelled i ∷ []) }) is
+  where
+    is : (l : Line) → AreArgumentsOf verb.Ticket words l → l ≡ (Ticket a)
+    is (Ticket p0) q =
+        let x : List ℕ = a in
+        let y : List ℕ = p0 in
+        ap (λ (y : List ℕ). Ticket y)
+        (only (AreOne IsName words) x y h (record { w = p0; words_are = q.spelled; said = record { form = q.form; spelled = refl } }))
+    is l q = let e = q.verb_is in absurd cc
+
+pub no_ticket : (words : List (List ℕ)) → ReadsAs (AreOne IsName words) None → ReadsAs (AreArgumentsOf verb.Ticket words) None
+no_ticket words no0 = nothing (AreArgumentsOf verb.Ticket words) is
+  where
+    is : (l : Line) → AreArgumentsOf verb.Ticket words l → ⊥
+    is (Ticket p0) q =
+        let y : List ℕ = p0 in
+        none (AreOne IsName words) y no0 (record { w = p0; words_are = q.spelled; said = record { form = q.form; spelled = refl } })
+    is l q = let e = q.verb_is in absurd cc
+
+pub wait_reads : (words : List (List ℕ)) (a : List ℕ) → (let x : List ℕ = a in ReadsAs (AreOne IsName words) (Some x))
+    → ReadsAs (AreArgumentsOf verb.Wait words) (Some (Wait a))
+wait_reads words a h =
+    let x : List ℕ = a in
+    let f = found (AreOne IsName words) x h in
+    one_of (AreArgumentsOf verb.Wait words) (Wait a) (record { verb_is = refl; form = f.said.form; spelled = f.words_are ∙ (λ i. f.said.spelled i ∷ []) }) is
+  where
+    is : (l : Line) → AreArgumentsOf verb.Wait words l → l ≡ (Wait a)
+    is (Wait p0) q =
+        let x : List ℕ = a in
+        let y : List ℕ = p0 in
+        ap (λ (y : List ℕ). Wait y)
+        (only (AreOne IsName words) x y h (record { w = p0; words_are = q.spelled; said = record { form = q.form; spelled = refl } }))
+    is l q = let e = q.verb_is in absurd cc
+
+pub no_wait : (words : List (List ℕ)) → ReadsAs (AreOne IsName words) None → ReadsAs (AreArgumentsOf verb.Wait words) None
+no_wait words no0 = nothing (AreArgumentsOf verb.Wait words) is
+  where
+    is : (l : Line) → AreArgumentsOf verb.Wait words l → ⊥
+    is (Wait p0) q =
+        let y : List ℕ = p0 in
+        none (AreOne IsName words) y no0 (record { w = p0; words_are = q.spelled; said = record { form = q.form; spelled = refl } })
+    is l q = let e = q.verb_is in absurd cc
+
+pub one_reads : (words : List (List ℕ)) (a : List ℕ) → (let x : List ℕ = a in ReadsAs (AreOne IsName words) (Some x))
+    → ReadsAs (AreArgumentsOf verb.One words) (Some (One a))
+one_reads words a h =
+    let x : List ℕ = a in
+    let f = found (AreOne IsName words) x h in
+    one_of (AreArgumentsOf verb.One words) (One a) (record { verb_is = refl; form = f.said.form; spelled = f.words_are ∙ (λ i. f.said.spelled i ∷ []) }) is
+  where
+    is : (l : Line) → AreArgumentsOf verb.One words l → l ≡ (One a)
+    is (One p0) q =
+        let x : List ℕ = a in
+        let y : List ℕ = p0 in
+        ap (λ (y : List ℕ). One y)
+        (only (AreOne IsName words) x y h (record { w = p0; words_are = q.spelled; said = record { form = q.form; spelled = refl } }))
+    is l q = let e = q.verb_is in absurd cc
+
+pub no_one : (words : List (List ℕ)) → ReadsAs (AreOne IsName words) None → ReadsAs (AreArgumentsOf verb.One words) None
+no_one words no0 = nothing (AreArgumentsOf verb.One words) is
+  where
+    is : (l : Line) → AreArgumentsOf verb.One words l → ⊥
+    is (One p0) q =
+        let y : List ℕ = p0 in
+        none (AreOne IsName words) y no0 (record { w = p0; words_are = q.spelled; said = record { form = q.form; spelled = refl } })
+    is l q = let e = q.verb_is in absurd cc
+
+pub all_reads : (words : List (List ℕ)) (a : List ℕ) → (let x : List ℕ = a in ReadsAs (AreOne IsName words) (Some x))
+    → ReadsAs (AreArgumentsOf verb.All words) (Some (All a))
+all_reads words a h =
+    let x : List ℕ = a in
+    let f = found (AreOne IsName words) x h in
+    one_of (AreArgumentsOf verb.All words) (All a) (record { verb_is = refl; form = f.said.form; spelled = f.words_are ∙ (λ i. f.said.spelled i ∷ []) }) is
+  where
+    is : (l : Line) → AreArgumentsOf verb.All words l → l ≡ (All a)
+    is (All p0) q =
+        let x : List ℕ = a in
+        let y : List ℕ = p0 in
+        ap (λ (y : List ℕ). All y)
+        (only (AreOne IsName words) x y h (record { w = p0; words_are = q.spelled; said = record { form = q.form; spelled = refl } }))
+    is l q = let e = q.verb_is in absurd cc
+
+pub no_all : (words : List (List ℕ)) → ReadsAs (AreOne IsName words) None → ReadsAs (AreArgumentsOf verb.All words) None
+no_all words no0 = nothing (AreArgumentsOf verb.All words) is
+  where
+    is : (l : Line) → AreArgumentsOf verb.All words l → ⊥
+    is (All p0) q =
+        let y : List ℕ = p0 in
+        none (AreOne IsName words) y no0 (record { w = p0; words_are = q.spelled; said = record { form = q.form; spelled = refl } })
+    is l q = let e = q.verb_is in absurd cc
+
+pub out_reads : (words : List (List ℕ)) (a : List ℕ) → (let x : List ℕ = a in ReadsAs (AreOne IsName words) (Some x))
+    → ReadsAs (AreArgumentsOf verb.Out words) (Some (Out a))
+out_reads words a h =
+    let x : List ℕ = a in
+    let f = found (AreOne IsName words) x h in
+    one_of (AreArgumentsOf verb.Out words) (Out a) (record { verb_is = refl; form = f.said.form; spelled = f.words_are ∙ (λ i. f.said.spelled i ∷ []) }) is
+  where
+    is : (l : Line) → AreArgumentsOf verb.Out words l → l ≡ (Out a)
+    is (Out p0) q =
+        let x : List ℕ = a in
+        let y : List ℕ = p0 in
+        ap (λ (y : List ℕ). Out y)
+        (only (AreOne IsName words) x y h (record { w = p0; words_are = q.spelled; said = record { form = q.form; spelled = refl } }))
+    is l q = let e = q.verb_is in absurd cc
+
+pub no_out : (words : List (List ℕ)) → ReadsAs (AreOne IsName words) None → ReadsAs (AreArgumentsOf verb.Out words) None
+no_out words no0 = nothing (AreArgumentsOf verb.Out words) is
+  where
+    is : (l : Line) → AreArgumentsOf verb.Out words l → ⊥
+    is (Out p0) q =
+        let y : List ℕ = p0 in
+        none (AreOne IsName words) y no0 (record { w = p0; words_are = q.spelled; said = record { form = q.form; spelled = refl } })
+    is l q = let e = q.verb_is in absurd cc

@@ -1,0 +1,12 @@
+pub mod AccessLines
+pub mod DeclarationLines
+pub mod FlowLines
+pub mod Judging
+pub mod LayerLines
+pub mod Parts
+pub mod PropertyLines
+pub mod Shaping
+pub mod Spelling
+pub mod Texts
+pub mod Verbs
+pub mod Wording

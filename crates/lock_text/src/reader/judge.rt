@@ -1,0 +1,26 @@
+//! One line of a text: what it says, or what is wrong with it.
+
+ghost use Rattle.lock_text.specs.Answers.{Judges};
+
+use crate::fault::Cause;
+use crate::lines::Line;
+use crate::reader::line::read_line;
+use scenario_text::printable;
+use std::alloc::Global;
+
+/// The line that the bytes are, or what is wrong with them.
+pub(crate) fn judge<'t>(alloc: Global, bytes: &'t [u8], ended: bool) -> Result<Line<'t>, Cause>
+    ensures { Judges (record { text = bytes.now; ended = ended }) result }
+{
+    if !ended {
+        return Err(Cause::Cut);
+    }
+    let Some(text) = printable(bytes) else {
+        return Err(Cause::Byte);
+    };
+    match read_line(alloc, text) {
+        Err(_) => Err(Cause::NoMemory),
+        Ok(None) => Err(Cause::Form),
+        Ok(Some(line)) => Ok(line),
+    }
+}
