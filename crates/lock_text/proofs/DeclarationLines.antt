@@ -17,14 +17,27 @@ pub const_reads : (words : List (List ℕ)) (a : List ℕ) (b : Number) → (let
 const_reads words a b h =
     let x : List ℕ × Number = (a, b) in
     let f = found (AreTwo IsName IsNumberWord words) x h in
-    one_of (AreArgumentsOf verb.Const words) (Const a b) (record { verb_is = refl; form = (f.first.form, f.second.form); spelled = f.words_are ∙ (λ i. f.first.spelled i ∷ f.second.spelled i ∷ []) }) is
+    one_of (AreArgumentsOf verb.Const words) (Const a b) (record {
+      verb_is = refl;
+      form = (f.first.form, f.second.form);
+      spelled = f.words_are ∙ (λ i. f.first.spelled i ∷ f.second.spelled i ∷ []);
+    }) is
   where
     is : (l : Line) → AreArgumentsOf verb.Const words l → l ≡ (Const a b)
     is (Const p0 p1) q =
         let x : List ℕ × Number = (a, b) in
         let y : List ℕ × Number = (p0, p1) in
         ap (λ (y : List ℕ × Number). Const y.0 y.1)
-        (only (AreTwo IsName IsNumberWord words) x y h (record { v = p0; w = number_text p1; words_are = q.spelled; first = record { form = q.form.0; spelled = refl }; second = record { form = q.form.1; spelled = refl } }))
+        (only (AreTwo IsName IsNumberWord words) x y h (record {
+          v = p0;
+          w = number_text p1;
+          words_are = q.spelled;
+          first = record {
+            form = q.form.0;
+            spelled = refl;
+          };
+          second = record { form = q.form.1; spelled = refl };
+        }))
     is l q = let e = q.verb_is in absurd cc
 
 pub no_const : (words : List (List ℕ)) → ReadsAs (AreTwo IsName IsNumberWord words) None → ReadsAs (AreArgumentsOf verb.Const words) None
@@ -33,7 +46,16 @@ no_const words no0 = nothing (AreArgumentsOf verb.Const words) is
     is : (l : Line) → AreArgumentsOf verb.Const words l → ⊥
     is (Const p0 p1) q =
         let y : List ℕ × Number = (p0, p1) in
-        none (AreTwo IsName IsNumberWord words) y no0 (record { v = p0; w = number_text p1; words_are = q.spelled; first = record { form = q.form.0; spelled = refl }; second = record { form = q.form.1; spelled = refl } })
+        none (AreTwo IsName IsNumberWord words) y no0 (record {
+          v = p0;
+          w = number_text p1;
+          words_are = q.spelled;
+          first = record {
+            form = q.form.0;
+            spelled = refl;
+          };
+          second = record { form = q.form.1; spelled = refl };
+        })
     is l q = let e = q.verb_is in absurd cc
 
 pub list_reads : (words : List (List ℕ)) (a : List ℕ) → (let x : List ℕ = a in ReadsAs (AreOne IsName words) (Some x))
@@ -41,7 +63,11 @@ pub list_reads : (words : List (List ℕ)) (a : List ℕ) → (let x : List ℕ 
 list_reads words a h =
     let x : List ℕ = a in
     let f = found (AreOne IsName words) x h in
-    one_of (AreArgumentsOf verb.List words) (NotifyList a) (record { verb_is = refl; form = f.said.form; spelled = f.words_are ∙ (λ i. f.said.spelled i ∷ []) }) is
+    one_of (AreArgumentsOf verb.List words) (NotifyList a) (record {
+      verb_is = refl;
+      form = f.said.form;
+      spelled = f.words_are ∙ (λ i. f.said.spelled i ∷ []);
+    }) is
   where
     is : (l : Line) → AreArgumentsOf verb.List words l → l ≡ (NotifyList a)
     is (NotifyList p0) q =
@@ -65,7 +91,11 @@ pub section_reads : (words : List (List ℕ)) (a : List ℕ) → (let x : List �
 section_reads words a h =
     let x : List ℕ = a in
     let f = found (AreOne IsName words) x h in
-    one_of (AreArgumentsOf verb.Section words) (Section a) (record { verb_is = refl; form = f.said.form; spelled = f.words_are ∙ (λ i. f.said.spelled i ∷ []) }) is
+    one_of (AreArgumentsOf verb.Section words) (Section a) (record {
+      verb_is = refl;
+      form = f.said.form;
+      spelled = f.words_are ∙ (λ i. f.said.spelled i ∷ []);
+    }) is
   where
     is : (l : Line) → AreArgumentsOf verb.Section words l → l ≡ (Section a)
     is (Section p0) q =
@@ -89,7 +119,11 @@ pub program_reads : (words : List (List ℕ)) (a : List ℕ) → (let x : List �
 program_reads words a h =
     let x : List ℕ = a in
     let f = found (AreOne IsName words) x h in
-    one_of (AreArgumentsOf verb.Program words) (Program a) (record { verb_is = refl; form = f.said.form; spelled = f.words_are ∙ (λ i. f.said.spelled i ∷ []) }) is
+    one_of (AreArgumentsOf verb.Program words) (Program a) (record {
+      verb_is = refl;
+      form = f.said.form;
+      spelled = f.words_are ∙ (λ i. f.said.spelled i ∷ []);
+    }) is
   where
     is : (l : Line) → AreArgumentsOf verb.Program words l → l ≡ (Program a)
     is (Program p0) q =
@@ -113,14 +147,27 @@ pub seats_reads : (words : List (List ℕ)) (a : Number) (b : List ℕ) → (let
 seats_reads words a b h =
     let x : Number × List ℕ = (a, b) in
     let f = found (AreTwo IsNumberWord IsName words) x h in
-    one_of (AreArgumentsOf verb.Seats words) (Seats a b) (record { verb_is = refl; form = (f.first.form, f.second.form); spelled = f.words_are ∙ (λ i. f.first.spelled i ∷ f.second.spelled i ∷ []) }) is
+    one_of (AreArgumentsOf verb.Seats words) (Seats a b) (record {
+      verb_is = refl;
+      form = (f.first.form, f.second.form);
+      spelled = f.words_are ∙ (λ i. f.first.spelled i ∷ f.second.spelled i ∷ []);
+    }) is
   where
     is : (l : Line) → AreArgumentsOf verb.Seats words l → l ≡ (Seats a b)
     is (Seats p0 p1) q =
         let x : Number × List ℕ = (a, b) in
         let y : Number × List ℕ = (p0, p1) in
         ap (λ (y : Number × List ℕ). Seats y.0 y.1)
-        (only (AreTwo IsNumberWord IsName words) x y h (record { v = number_text p0; w = p1; words_are = q.spelled; first = record { form = q.form.0; spelled = refl }; second = record { form = q.form.1; spelled = refl } }))
+        (only (AreTwo IsNumberWord IsName words) x y h (record {
+          v = number_text p0;
+          w = p1;
+          words_are = q.spelled;
+          first = record {
+            form = q.form.0;
+            spelled = refl;
+          };
+          second = record { form = q.form.1; spelled = refl };
+        }))
     is l q = let e = q.verb_is in absurd cc
 
 pub no_seats : (words : List (List ℕ)) → ReadsAs (AreTwo IsNumberWord IsName words) None → ReadsAs (AreArgumentsOf verb.Seats words) None
@@ -129,10 +176,20 @@ no_seats words no0 = nothing (AreArgumentsOf verb.Seats words) is
     is : (l : Line) → AreArgumentsOf verb.Seats words l → ⊥
     is (Seats p0 p1) q =
         let y : Number × List ℕ = (p0, p1) in
-        none (AreTwo IsNumberWord IsName words) y no0 (record { v = number_text p0; w = p1; words_are = q.spelled; first = record { form = q.form.0; spelled = refl }; second = record { form = q.form.1; spelled = refl } })
+        none (AreTwo IsNumberWord IsName words) y no0 (record {
+          v = number_text p0;
+          w = p1;
+          words_are = q.spelled;
+          first = record {
+            form = q.form.0;
+            spelled = refl;
+          };
+          second = record { form = q.form.1; spelled = refl };
+        })
     is l q = let e = q.verb_is in absurd cc
 
-pub word_reads : (words : List (List ℕ)) (a : Place) (b : Operand) → (let x : Place × Operand = (a, b) in ReadsAs (AreCells words) (Some x)) → ReadsAs (AreArgumentsOf verb.Word words) (Some (Word a b))
+pub word_reads : (words : List (List ℕ)) (a : Place) (b : Operand) → (let x : Place × Operand = (a, b) in ReadsAs (AreCells words) (Some x))
+    → ReadsAs (AreArgumentsOf verb.Word words) (Some (Word a b))
 word_reads words a b h =
     let x : Place × Operand = (a, b) in
     let f = found (AreCells words) x h in
@@ -142,17 +199,30 @@ word_reads words a b h =
     is (Word p0 p1) q =
         let x : Place × Operand = (a, b) in
         let y : Place × Operand = (p0, p1) in
-        ap (λ (y : Place × Operand). Word y.0 y.1) (only (AreCells words) x y h (record { place = q.form.0; size = q.form.1; operand = q.form.2; value = q.form.3; spelled = q.spelled }))
+        ap (λ (y : Place × Operand). Word y.0 y.1) (only (AreCells words) x y h (record {
+          place = q.form.0;
+          size = q.form.1;
+          operand = q.form.2;
+          value = q.form.3;
+          spelled = q.spelled;
+        }))
     is l q = let e = q.verb_is in absurd cc
 
 pub no_word : (words : List (List ℕ)) → ReadsAs (AreCells words) None → ReadsAs (AreArgumentsOf verb.Word words) None
 no_word words none_is = nothing (AreArgumentsOf verb.Word words) is
   where
     is : (l : Line) → AreArgumentsOf verb.Word words l → ⊥
-    is (Word p0 p1) q = let y : Place × Operand = (p0, p1) in none (AreCells words) y none_is (record { place = q.form.0; size = q.form.1; operand = q.form.2; value = q.form.3; spelled = q.spelled })
+    is (Word p0 p1) q = let y : Place × Operand = (p0, p1) in none (AreCells words) y none_is (record {
+      place = q.form.0;
+      size = q.form.1;
+      operand = q.form.2;
+      value = q.form.3;
+      spelled = q.spelled;
+    })
     is l q = let e = q.verb_is in absurd cc
 
-pub counter_reads : (words : List (List ℕ)) (a : Place) (b : Operand) → (let x : Place × Operand = (a, b) in ReadsAs (AreCells words) (Some x)) → ReadsAs (AreArgumentsOf verb.Counter words) (Some (Counter a b))
+pub counter_reads : (words : List (List ℕ)) (a : Place) (b : Operand) → (let x : Place × Operand = (a, b) in ReadsAs (AreCells words) (Some x))
+    → ReadsAs (AreArgumentsOf verb.Counter words) (Some (Counter a b))
 counter_reads words a b h =
     let x : Place × Operand = (a, b) in
     let f = found (AreCells words) x h in
@@ -162,12 +232,24 @@ counter_reads words a b h =
     is (Counter p0 p1) q =
         let x : Place × Operand = (a, b) in
         let y : Place × Operand = (p0, p1) in
-        ap (λ (y : Place × Operand). Counter y.0 y.1) (only (AreCells words) x y h (record { place = q.form.0; size = q.form.1; operand = q.form.2; value = q.form.3; spelled = q.spelled }))
+        ap (λ (y : Place × Operand). Counter y.0 y.1) (only (AreCells words) x y h (record {
+          place = q.form.0;
+          size = q.form.1;
+          operand = q.form.2;
+          value = q.form.3;
+          spelled = q.spelled;
+        }))
     is l q = let e = q.verb_is in absurd cc
 
 pub no_counter : (words : List (List ℕ)) → ReadsAs (AreCells words) None → ReadsAs (AreArgumentsOf verb.Counter words) None
 no_counter words none_is = nothing (AreArgumentsOf verb.Counter words) is
   where
     is : (l : Line) → AreArgumentsOf verb.Counter words l → ⊥
-    is (Counter p0 p1) q = let y : Place × Operand = (p0, p1) in none (AreCells words) y none_is (record { place = q.form.0; size = q.form.1; operand = q.form.2; value = q.form.3; spelled = q.spelled })
+    is (Counter p0 p1) q = let y : Place × Operand = (p0, p1) in none (AreCells words) y none_is (record {
+      place = q.form.0;
+      size = q.form.1;
+      operand = q.form.2;
+      value = q.form.3;
+      spelled = q.spelled;
+    })
     is l q = let e = q.verb_is in absurd cc

@@ -20,7 +20,8 @@ texts_two (v ∷ []) a b e = absurd (omega arith)
 texts_two (v ∷ w ∷ []) a b e = refl
 texts_two (v ∷ w ∷ x ∷ ws) a b e = absurd (omega arith)
 
-pub texts_three : (ws : List (Bor (List ℕ))) (a b c : Bor (List ℕ)) → length ws ≡ 3 → texts ws ≡ (get_or ws 0 a).now ∷ (get_or ws 1 b).now ∷ (get_or ws 2 c).now ∷ []
+pub texts_three : (ws : List (Bor (List ℕ))) (a b c : Bor (List ℕ)) → length ws ≡ 3
+    → texts ws ≡ (get_or ws 0 a).now ∷ (get_or ws 1 b).now ∷ (get_or ws 2 c).now ∷ []
 texts_three [] a b c e = absurd (omega arith)
 texts_three (u ∷ []) a b c e = absurd (omega arith)
 texts_three (u ∷ v ∷ []) a b c e = absurd (omega arith)
@@ -40,11 +41,23 @@ pub texts_none : (ws : List (Bor (List ℕ))) → length ws ≡ 0 → texts ws �
 texts_none [] e = refl
 texts_none (w ∷ ws) e = absurd (omega arith)
 
-pub four_reads : {A B C D : Type 0} (R : List ℕ → A → Type 0) (S : List ℕ → B → Type 0) (T : List ℕ → C → Type 0) (U : List ℕ → D → Type 0) (words : List (List ℕ)) (t u v w : List ℕ) (a : A) (b : B) (c : C) (d : D)
-    → words ≡ t ∷ u ∷ v ∷ w ∷ [] → ReadsAs (R t) (Some a) → ReadsAs (S u) (Some b) → ReadsAs (T v) (Some c) → ReadsAs (U w) (Some d) → (let x : A × B × C × D = (a, b, c, d) in ReadsAs (AreFour R S T U words) (Some x))
+pub four_reads : {A B C D : Type 0} (R : List ℕ → A → Type 0) (S : List ℕ → B → Type 0) (T : List ℕ → C → Type 0) (U : List ℕ → D
+    → Type 0) (words : List (List ℕ)) (t u v w : List ℕ) (a : A) (b : B) (c : C) (d : D)
+    → words ≡ t ∷ u ∷ v ∷ w ∷ [] → ReadsAs (R t) (Some a) → ReadsAs (S u) (Some b) → ReadsAs (T v) (Some c) → ReadsAs (U w) (Some d)
+    → (let x : A × B × C × D = (a, b, c, d) in ReadsAs (AreFour R S T U words) (Some x))
 four_reads {A} {B} {C} {D} R S T U words t u v w a b c d e ha hb hc hd =
     one_of (AreFour R S T U words) (a, b, c, d)
-    (record { u = t; v = u; w = v; z = w; words_are = e; first = found (R t) a ha; second = found (S u) b hb; third = found (T v) c hc; fourth = found (U w) d hd })
+    (record {
+      u = t;
+      v = u;
+      w = v;
+      z = w;
+      words_are = e;
+      first = found (R t) a ha;
+      second = found (S u) b hb;
+      third = found (T v) c hc;
+      fourth = found (U w) d hd;
+    })
     (λ x q.
     let s = q.words_are in
     let et : q.u ≡ t = cc in

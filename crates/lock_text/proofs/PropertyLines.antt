@@ -18,14 +18,27 @@ pub most_reads : (words : List (List ℕ)) (a : List ℕ) (b : Number) → (let 
 most_reads words a b h =
     let x : List ℕ × Number = (a, b) in
     let f = found (AreTwo IsName IsNumberWord words) x h in
-    one_of (AreArgumentsOf verb.Most words) (Most a b) (record { verb_is = refl; form = (f.first.form, f.second.form); spelled = f.words_are ∙ (λ i. f.first.spelled i ∷ f.second.spelled i ∷ []) }) is
+    one_of (AreArgumentsOf verb.Most words) (Most a b) (record {
+      verb_is = refl;
+      form = (f.first.form, f.second.form);
+      spelled = f.words_are ∙ (λ i. f.first.spelled i ∷ f.second.spelled i ∷ []);
+    }) is
   where
     is : (l : Line) → AreArgumentsOf verb.Most words l → l ≡ (Most a b)
     is (Most p0 p1) q =
         let x : List ℕ × Number = (a, b) in
         let y : List ℕ × Number = (p0, p1) in
         ap (λ (y : List ℕ × Number). Most y.0 y.1)
-        (only (AreTwo IsName IsNumberWord words) x y h (record { v = p0; w = number_text p1; words_are = q.spelled; first = record { form = q.form.0; spelled = refl }; second = record { form = q.form.1; spelled = refl } }))
+        (only (AreTwo IsName IsNumberWord words) x y h (record {
+          v = p0;
+          w = number_text p1;
+          words_are = q.spelled;
+          first = record {
+            form = q.form.0;
+            spelled = refl;
+          };
+          second = record { form = q.form.1; spelled = refl };
+        }))
     is l q = let e = q.verb_is in absurd cc
 
 pub no_most : (words : List (List ℕ)) → ReadsAs (AreTwo IsName IsNumberWord words) None → ReadsAs (AreArgumentsOf verb.Most words) None
@@ -34,7 +47,16 @@ no_most words no0 = nothing (AreArgumentsOf verb.Most words) is
     is : (l : Line) → AreArgumentsOf verb.Most words l → ⊥
     is (Most p0 p1) q =
         let y : List ℕ × Number = (p0, p1) in
-        none (AreTwo IsName IsNumberWord words) y no0 (record { v = p0; w = number_text p1; words_are = q.spelled; first = record { form = q.form.0; spelled = refl }; second = record { form = q.form.1; spelled = refl } })
+        none (AreTwo IsName IsNumberWord words) y no0 (record {
+          v = p0;
+          w = number_text p1;
+          words_are = q.spelled;
+          first = record {
+            form = q.form.0;
+            spelled = refl;
+          };
+          second = record { form = q.form.1; spelled = refl };
+        })
     is l q = let e = q.verb_is in absurd cc
 
 pub apart_reads : (words : List (List ℕ)) (a : List ℕ) (b : List ℕ) → (let x : List ℕ × List ℕ = (a, b) in ReadsAs (AreTwo IsName IsName words) (Some x))
@@ -42,14 +64,24 @@ pub apart_reads : (words : List (List ℕ)) (a : List ℕ) (b : List ℕ) → (l
 apart_reads words a b h =
     let x : List ℕ × List ℕ = (a, b) in
     let f = found (AreTwo IsName IsName words) x h in
-    one_of (AreArgumentsOf verb.Apart words) (Apart a b) (record { verb_is = refl; form = (f.first.form, f.second.form); spelled = f.words_are ∙ (λ i. f.first.spelled i ∷ f.second.spelled i ∷ []) }) is
+    one_of (AreArgumentsOf verb.Apart words) (Apart a b) (record {
+      verb_is = refl;
+      form = (f.first.form, f.second.form);
+      spelled = f.words_are ∙ (λ i. f.first.spelled i ∷ f.second.spelled i ∷ []);
+    }) is
   where
     is : (l : Line) → AreArgumentsOf verb.Apart words l → l ≡ (Apart a b)
     is (Apart p0 p1) q =
         let x : List ℕ × List ℕ = (a, b) in
         let y : List ℕ × List ℕ = (p0, p1) in
         ap (λ (y : List ℕ × List ℕ). Apart y.0 y.1)
-        (only (AreTwo IsName IsName words) x y h (record { v = p0; w = p1; words_are = q.spelled; first = record { form = q.form.0; spelled = refl }; second = record { form = q.form.1; spelled = refl } }))
+        (only (AreTwo IsName IsName words) x y h (record {
+          v = p0;
+          w = p1;
+          words_are = q.spelled;
+          first = record { form = q.form.0; spelled = refl };
+          second = record { form = q.form.1; spelled = refl };
+        }))
     is l q = let e = q.verb_is in absurd cc
 
 pub no_apart : (words : List (List ℕ)) → ReadsAs (AreTwo IsName IsName words) None → ReadsAs (AreArgumentsOf verb.Apart words) None
@@ -58,35 +90,59 @@ no_apart words no0 = nothing (AreArgumentsOf verb.Apart words) is
     is : (l : Line) → AreArgumentsOf verb.Apart words l → ⊥
     is (Apart p0 p1) q =
         let y : List ℕ × List ℕ = (p0, p1) in
-        none (AreTwo IsName IsName words) y no0 (record { v = p0; w = p1; words_are = q.spelled; first = record { form = q.form.0; spelled = refl }; second = record { form = q.form.1; spelled = refl } })
+        none (AreTwo IsName IsName words) y no0 (record {
+          v = p0;
+          w = p1;
+          words_are = q.spelled;
+          first = record { form = q.form.0; spelled = refl };
+          second = record { form = q.form.1; spelled = refl };
+        })
     is l q = let e = q.verb_is in absurd cc
 
 three_of_final : (words : List (List ℕ)) (l : Line) → AreArgumentsOf verb.Finally words l
-    → (x : Place × Relation × Operand) × (l ≡ Finally x.0 x.1 x.2) × AreThree IsPlace IsRelation IsOperand words x × (is_fixed_index x.0.index ≡ true) × (is_fixed x.2 ≡ true)
+    → (x : Place × Relation × Operand) × (l ≡ Finally x.0 x.1 x.2) × AreThree IsPlace IsRelation IsOperand words x × (is_fixed_index x.0.index ≡ true)
+    × (is_fixed x.2 ≡ true)
 three_of_final words (Finally w r v) q = (
   (w, r, v),
   refl,
-  record { u = place_text w; v = relation_text r; w = operand_text v; words_are = q.spelled; first = record { form = q.form.0; spelled = refl }; second = refl; third = record { form = q.form.2; spelled = refl } },
+  record {
+    u = place_text w;
+    v = relation_text r;
+    w = operand_text v;
+    words_are = q.spelled;
+    first = record { form = q.form.0; spelled = refl };
+    second = refl;
+    third = record { form = q.form.2; spelled = refl };
+  },
   q.form.1,
   q.form.3,
 )
 three_of_final words l q = let e = q.verb_is in absurd cc
 
-pub final : (words : List (List ℕ)) (w : Place) (r : Relation) (v : Operand) → ReadsAs (AreThree IsPlace IsRelation IsOperand words) (Some (w, r, v)) → is_fixed_index w.index ≡ true → is_fixed v ≡ true
+pub final : (words : List (List ℕ)) (w : Place) (r : Relation) (v : Operand) → ReadsAs (AreThree IsPlace IsRelation IsOperand words) (Some (w, r, v))
+    → is_fixed_index w.index ≡ true → is_fixed v ≡ true
     → ReadsAs (AreArgumentsOf verb.Finally words) (Some (Finally w r v))
 final words w r v h index value =
     let f = found (AreThree IsPlace IsRelation IsOperand words) (w, r, v) h in
     one_of (AreArgumentsOf verb.Finally words) (Finally w r v)
-    (record { verb_is = refl; form = (f.first.form, index, f.third.form, value); spelled = f.words_are ∙ (λ i. f.first.spelled i ∷ f.second i ∷ f.third.spelled i ∷ []) })
-    (λ l q. let k = three_of_final words l q in k.1 ∙ ap (λ (x : Place × Relation × Operand). Finally x.0 x.1 x.2) (only (AreThree IsPlace IsRelation IsOperand words) (w, r, v) k.0 h k.2))
+    (record {
+      verb_is = refl;
+      form = (f.first.form, index, f.third.form, value);
+      spelled = f.words_are ∙ (λ i. f.first.spelled i ∷ f.second i ∷ f.third.spelled i ∷ []);
+    })
+    (λ l q. let k = three_of_final words l q in
+    k.1 ∙ ap (λ (x : Place × Relation × Operand). Finally x.0 x.1 x.2) (only (AreThree IsPlace IsRelation IsOperand words) (w, r, v) k.0 h k.2))
 
 pub no_final : (words : List (List ℕ)) → ReadsAs (AreThree IsPlace IsRelation IsOperand words) None → ReadsAs (AreArgumentsOf verb.Finally words) None
-no_final words h = nothing (AreArgumentsOf verb.Finally words) (λ l q. let k = three_of_final words l q in none (AreThree IsPlace IsRelation IsOperand words) k.0 h k.2)
+no_final words h = nothing (AreArgumentsOf verb.Finally words) (λ l q. let k = three_of_final words l q in
+    none (AreThree IsPlace IsRelation IsOperand words) k.0 h k.2)
 
-pub bad_final : (words : List (List ℕ)) (w : Place) (r : Relation) (v : Operand) → ReadsAs (AreThree IsPlace IsRelation IsOperand words) (Some (w, r, v)) → (is_fixed_index w.index ≡ true → is_fixed v ≡ true → ⊥)
+pub bad_final : (words : List (List ℕ)) (w : Place) (r : Relation) (v : Operand) → ReadsAs (AreThree IsPlace IsRelation IsOperand words) (Some (w, r, v))
+    → (is_fixed_index w.index ≡ true → is_fixed v ≡ true → ⊥)
     → ReadsAs (AreArgumentsOf verb.Finally words) None
 bad_final words w r v h bad =
     nothing (AreArgumentsOf verb.Finally words) (λ l q.
     let k = three_of_final words l q in
     let e = only (AreThree IsPlace IsRelation IsOperand words) (w, r, v) k.0 h k.2 in
-    bad (subst (λ (y : Place × Relation × Operand). is_fixed_index y.0.index ≡ true) e k.3) (subst (λ (y : Place × Relation × Operand). is_fixed y.2 ≡ true) e k.4))
+    bad (subst (λ (y : Place × Relation × Operand). is_fixed_index y.0.index ≡ true) e k.3) (subst (λ (y : Place × Relation
+    × Operand). is_fixed y.2 ≡ true) e k.4))

@@ -20,17 +20,25 @@ two_of_cells words x q = record {
   second = record { form = q.operand; spelled = refl };
 }
 
-pub cells : (words : List (List ℕ)) (p : Place) (v : Operand) → ReadsAs (AreTwo IsPlace IsOperand words) (Some (p, v)) → is_sized p.index ≡ true → is_fixed v ≡ true → ReadsAs (AreCells words) (Some (p, v))
+pub cells : (words : List (List ℕ)) (p : Place) (v : Operand) → ReadsAs (AreTwo IsPlace IsOperand words) (Some (p, v)) → is_sized p.index ≡ true
+    → is_fixed v ≡ true → ReadsAs (AreCells words) (Some (p, v))
 cells words p v h size value =
     let f = found (AreTwo IsPlace IsOperand words) (p, v) h in
     one_of (AreCells words) (p, v)
-    (record { place = f.first.form; size = size; operand = f.second.form; value = value; spelled = f.words_are ∙ (λ i. f.first.spelled i ∷ f.second.spelled i ∷ []) })
+    (record {
+      place = f.first.form;
+      size = size;
+      operand = f.second.form;
+      value = value;
+      spelled = f.words_are ∙ (λ i. f.first.spelled i ∷ f.second.spelled i ∷ []);
+    })
     (λ x q. only (AreTwo IsPlace IsOperand words) (p, v) x h (two_of_cells words x q))
 
 pub no_cells : (words : List (List ℕ)) → ReadsAs (AreTwo IsPlace IsOperand words) None → ReadsAs (AreCells words) None
 no_cells words h = nothing (AreCells words) (λ x q. none (AreTwo IsPlace IsOperand words) x h (two_of_cells words x q))
 
-pub bad_cells : (words : List (List ℕ)) (p : Place) (v : Operand) → ReadsAs (AreTwo IsPlace IsOperand words) (Some (p, v)) → (is_sized p.index ≡ true → is_fixed v ≡ true → ⊥) → ReadsAs (AreCells words) None
+pub bad_cells : (words : List (List ℕ)) (p : Place) (v : Operand) → ReadsAs (AreTwo IsPlace IsOperand words) (Some (p, v)) → (is_sized p.index ≡ true
+    → is_fixed v ≡ true → ⊥) → ReadsAs (AreCells words) None
 bad_cells words p v h bad =
     nothing (AreCells words) (λ x q.
     let e = only (AreTwo IsPlace IsOperand words) (p, v) x h (two_of_cells words x q) in
@@ -38,7 +46,8 @@ bad_cells words p v h bad =
 
 -- ---- a register that may be left out
 
-three_of_access : (words : List (List ℕ)) (p : Place) (e : Operand) (n : List ℕ) → AreAccess words (p, e, Some n) → AreThree IsPlace IsOperand IsName words (p, e, n)
+three_of_access : (words : List (List ℕ)) (p : Place) (e : Operand) (n : List ℕ) → AreAccess words (p, e, Some n)
+    → AreThree IsPlace IsOperand IsName words (p, e, n)
 three_of_access words p e n q = record {
   u = place_text p;
   v = operand_text e;
@@ -50,29 +59,53 @@ three_of_access words p e n q = record {
 }
 
 two_of_access : (words : List (List ℕ)) (p : Place) (e : Operand) → AreAccess words (p, e, None) → AreTwo IsPlace IsOperand words (p, e)
-two_of_access words p e q = record { v = place_text p; w = operand_text e; words_are = q.spelled; first = record { form = q.place; spelled = refl }; second = record { form = q.operand; spelled = refl } }
+two_of_access words p e q = record {
+  v = place_text p;
+  w = operand_text e;
+  words_are = q.spelled;
+  first = record { form = q.place; spelled = refl };
+  second = record { form = q.operand; spelled = refl };
+}
 
-pub access_three : (words : List (List ℕ)) (p : Place) (e : Operand) (n : List ℕ) → ReadsAs (AreThree IsPlace IsOperand IsName words) (Some (p, e, n)) → ReadsAs (AreAccess words) (Some (p, e, Some n))
+pub access_three : (words : List (List ℕ)) (p : Place) (e : Operand) (n : List ℕ) → ReadsAs (AreThree IsPlace IsOperand IsName words) (Some (p, e, n))
+    → ReadsAs (AreAccess words) (Some (p, e, Some n))
 access_three words p e n h =
     let f = found (AreThree IsPlace IsOperand IsName words) (p, e, n) h in
     one_of (AreAccess words) (p, e, Some n)
-    (record { place = f.first.form; operand = f.second.form; register = f.third.form; spelled = f.words_are ∙ (λ i. f.first.spelled i ∷ f.second.spelled i ∷ f.third.spelled i ∷ []) }) (λ x q. is x.0 x.1 x.2 q)
+    (record {
+      place = f.first.form;
+      operand = f.second.form;
+      register = f.third.form;
+      spelled = f.words_are ∙ (λ i. f.first.spelled i ∷ f.second.spelled i ∷ f.third.spelled i ∷ []);
+    }) (λ x q. is x.0 x.1 x.2 q)
   where
-    is : (a : Place) (b : Operand) (o : Option (List ℕ)) → AreAccess words (a, b, o) → let x : Place × Operand × Option (List ℕ) = (a, b, o) in x ≡ (p, e, Some n)
+    is : (a : Place) (b : Operand) (o : Option (List ℕ)) → AreAccess words (a, b, o)
+        → let x : Place × Operand × Option (List ℕ) = (a, b, o) in x ≡ (p, e, Some n)
     is a b None q = let f = found (AreThree IsPlace IsOperand IsName words) (p, e, n) h in let s = q.spelled in let t = f.words_are in absurd cc
     is a b (Some m) q =
-        ap (λ (x : Place × Operand × List ℕ). (x.0, x.1, Some x.2)) (only (AreThree IsPlace IsOperand IsName words) (p, e, n) (a, b, m) h (three_of_access words a b m q))
+        ap (λ (x : Place × Operand × List ℕ). (x.0, x.1, Some x.2)) (only (AreThree IsPlace IsOperand IsName words) (p, e, n) (
+          a,
+          b,
+          m,
+        ) h (three_of_access words a b m q))
 
-pub access_two : (words : List (List ℕ)) (p : Place) (e : Operand) → ReadsAs (AreThree IsPlace IsOperand IsName words) None → ReadsAs (AreTwo IsPlace IsOperand words) (Some (p, e)) → ReadsAs (AreAccess words) (Some (p, e, None))
+pub access_two : (words : List (List ℕ)) (p : Place) (e : Operand) → ReadsAs (AreThree IsPlace IsOperand IsName words) None
+    → ReadsAs (AreTwo IsPlace IsOperand words) (Some (p, e)) → ReadsAs (AreAccess words) (Some (p, e, None))
 access_two words p e none_is h =
     let f = found (AreTwo IsPlace IsOperand words) (p, e) h in
-    one_of (AreAccess words) (p, e, None) (record { place = f.first.form; operand = f.second.form; register = tt; spelled = f.words_are ∙ (λ i. f.first.spelled i ∷ f.second.spelled i ∷ []) }) (λ x q. is x.0 x.1 x.2 q)
+    one_of (AreAccess words) (p, e, None) (record {
+      place = f.first.form;
+      operand = f.second.form;
+      register = tt;
+      spelled = f.words_are ∙ (λ i. f.first.spelled i ∷ f.second.spelled i ∷ []);
+    }) (λ x q. is x.0 x.1 x.2 q)
   where
     is : (a : Place) (b : Operand) (o : Option (List ℕ)) → AreAccess words (a, b, o) → let x : Place × Operand × Option (List ℕ) = (a, b, o) in x ≡ (p, e, None)
     is a b None q = ap (λ (x : Place × Operand). (x.0, x.1, None)) (only (AreTwo IsPlace IsOperand words) (p, e) (a, b) h (two_of_access words a b q))
     is a b (Some m) q = absurd (none (AreThree IsPlace IsOperand IsName words) (a, b, m) none_is (three_of_access words a b m q))
 
-pub no_access : (words : List (List ℕ)) → ReadsAs (AreThree IsPlace IsOperand IsName words) None → ReadsAs (AreTwo IsPlace IsOperand words) None → ReadsAs (AreAccess words) None
+pub no_access : (words : List (List ℕ)) → ReadsAs (AreThree IsPlace IsOperand IsName words) None → ReadsAs (AreTwo IsPlace IsOperand words) None
+    → ReadsAs (AreAccess words) None
 no_access words none_is h = nothing (AreAccess words) (λ x q. is x.0 x.1 x.2 q)
   where
     is : (a : Place) (b : Operand) (o : Option (List ℕ)) → AreAccess words (a, b, o) → ⊥
@@ -90,12 +123,14 @@ pub all_more : (ns : List (List ℕ)) (n : List ℕ) → AllByRecursion IsNameTe
 all_more [] n h k = (k, tt)
 all_more (m ∷ ns) n h k = (h.0, all_more ns n h.1 k)
 
-pub texts_more : (ws : List (Bor (List ℕ))) (i : ℕ) (d : Bor (List ℕ)) → i < length ws → texts (take (suc i) ws) ≡ texts (take i ws) ++ ((get_or ws i d).now ∷ [])
+pub texts_more : (ws : List (Bor (List ℕ))) (i : ℕ) (d : Bor (List ℕ)) → i < length ws
+    → texts (take (suc i) ws) ≡ texts (take i ws) ++ ((get_or ws i d).now ∷ [])
 texts_more [] i d lt = absurd (omega arith)
 texts_more (w ∷ ws) zero d lt = refl
 texts_more (w ∷ ws) (suc i) d lt = ap (λ (x : List (List ℕ)). w.now ∷ x) (texts_more ws i d (omega arith))
 
-pub names_bad : (ws : List (Bor (List ℕ))) (i : ℕ) (d : Bor (List ℕ)) → i < length ws → ReadsAs (IsName (get_or ws i d).now) None → ReadsAs (AreNames (texts ws)) None
+pub names_bad : (ws : List (Bor (List ℕ))) (i : ℕ) (d : Bor (List ℕ)) → i < length ws → ReadsAs (IsName (get_or ws i d).now) None
+    → ReadsAs (AreNames (texts ws)) None
 names_bad ws i d lt r =
     nothing (AreNames (texts ws)) (λ ns q.
     let all : AllByRecursion IsNameText (texts ws) = subst (AllByRecursion IsNameText) (sym q.spelled) q.form in
@@ -105,6 +140,11 @@ pub names_none : (ws : List (Bor (List ℕ))) → length ws ≡ 0 → ReadsAs (A
 names_none [] e = nothing (AreNames []) (λ ns q. q.some (sym q.spelled))
 names_none (w ∷ ws) e = absurd (omega arith)
 
-pub names_read : (ws : List (Bor (List ℕ))) (ns : List (List ℕ)) → (length ws ≡ 0 → ⊥) → ns ≡ texts ws → AllByRecursion IsNameText ns → ReadsAs (AreNames (texts ws)) (Some ns)
+pub names_read : (ws : List (Bor (List ℕ))) (ns : List (List ℕ)) → (length ws ≡ 0 → ⊥) → ns ≡ texts ws → AllByRecursion IsNameText ns
+    → ReadsAs (AreNames (texts ws)) (Some ns)
 names_read [] ns some e h = absurd (some refl)
-names_read (w ∷ ws) ns some e h = one_of (AreNames (texts (w ∷ ws))) ns (record { some = λ k. let f : texts (w ∷ ws) ≡ [] = sym e ∙ k in absurd cc; form = h; spelled = sym e }) (λ ms q. sym q.spelled ∙ sym e)
+names_read (w ∷ ws) ns some e h = one_of (AreNames (texts (w ∷ ws))) ns (record {
+  some = λ k. let f : texts (w ∷ ws) ≡ [] = sym e ∙ k in absurd cc;
+  form = h;
+  spelled = sym e;
+}) (λ ms q. sym q.spelled ∙ sym e)

@@ -59,19 +59,22 @@ pub first_part : (x : List ℕ) (ps : List (List ℕ)) → not_empty (x ∷ ps) 
 first_part [] ps = refl
 first_part (b ∷ bs) ps = refl
 
-pub turn : (line rest word after : List ℕ) (words : List (List ℕ)) → not_empty (parts_of line) ≡ words ++ not_empty (parts_of rest) → rest ≡ word ++ (32 ∷ after) → Lacks 32 word
+pub turn : (line rest word after : List ℕ) (words : List (List ℕ)) → not_empty (parts_of line) ≡ words ++ not_empty (parts_of rest)
+    → rest ≡ word ++ (32 ∷ after) → Lacks 32 word
     → not_empty (parts_of line) ≡ (words ++ not_empty (word ∷ [])) ++ not_empty (parts_of after)
 turn line rest word after words h e l =
     h ∙ ap (λ (x : List (List ℕ)). words ++ not_empty x) (ap parts_of e ∙ parts_cut word after l)
     ∙ ap (λ (x : List (List ℕ)). words ++ x) (first_part word (parts_of after)) ∙ sym (append_assoc words (not_empty (word ∷ [])) (not_empty (parts_of after)))
 
-pub last : (line rest : List ℕ) (words : List (List ℕ)) → not_empty (parts_of line) ≡ words ++ not_empty (parts_of rest) → Lacks 32 rest → not_empty (parts_of line) ≡ words ++ not_empty (rest ∷ [])
+pub last : (line rest : List ℕ) (words : List (List ℕ)) → not_empty (parts_of line) ≡ words ++ not_empty (parts_of rest) → Lacks 32 rest
+    → not_empty (parts_of line) ≡ words ++ not_empty (rest ∷ [])
 last line rest words h l = h ∙ ap (λ (x : List (List ℕ)). words ++ not_empty x) (parts_none rest l)
 
 -- ---- numbers
 
 minus_is : (n : ℕ) (t : List ℕ) → n < 10 ^ 20 → decimal n ≡ 45 ∷ t → ⊥
-minus_is n t small e = lacks n 45 (omega arith) (inr (omega arith)) 0 (subst (λ (x : List ℕ). 0 < length x) (sym e) (omega arith)) (ap (λ (x : List ℕ). get_or x 0 0) e)
+minus_is n t small e = lacks n 45 (omega arith) (inr (omega arith)) 0 (subst (λ (x : List ℕ). 0 < length x) (sym e) (omega arith)) (ap (λ
+    (x : List ℕ). get_or x 0 0) e)
 
 pub number_plus : (word : List ℕ) (n : ℕ) → ReadsAs (IsNumber 20 word) (Some n) → ReadsAs (IsNumberWord word) (Some (Plus n))
 number_plus word n h = let f = found (IsNumber 20 word) n h in one (IsNumberWord word) (Plus n) (record { form = f.0; spelled = f.1 }) is
@@ -80,9 +83,13 @@ number_plus word n h = let f = found (IsNumber 20 word) n h in one (IsNumberWord
     is (Plus m) q = ap Plus (only (IsNumber 20 word) n m h (q.form, q.spelled))
     is (Minus m) q = let f = found (IsNumber 20 word) n h in absurd (minus_is n (decimal m) f.0 (sym f.1 ∙ q.spelled))
 
-pub number_minus : (word rest : List ℕ) (n : ℕ) → ReadsAs (IsNumber 20 word) None → word ≡ codes "-" ++ rest → ReadsAs (IsNumber 20 rest) (Some n) → (n ≡ 0 → ⊥) → ReadsAs (IsNumberWord word) (Some (Minus n))
+pub number_minus : (word rest : List ℕ) (n : ℕ) → ReadsAs (IsNumber 20 word) None → word ≡ codes "-" ++ rest → ReadsAs (IsNumber 20 rest) (Some n)
+    → (n ≡ 0 → ⊥) → ReadsAs (IsNumberWord word) (Some (Minus n))
 number_minus word rest n absent e h some =
-    let f = found (IsNumber 20 rest) n h in one (IsNumberWord word) (Minus n) (record { form = (omega arith, f.0); spelled = e ∙ ap (λ (x : List ℕ). codes "-" ++ x) f.1 }) is
+    let f = found (IsNumber 20 rest) n h in one (IsNumberWord word) (Minus n) (record {
+      form = (omega arith, f.0);
+      spelled = e ∙ ap (λ (x : List ℕ). codes "-" ++ x) f.1;
+    }) is
   where
     is : (a : Number) → IsNumberWord word a → a ≡ Minus n
     is (Plus m) q = absurd (none (IsNumber 20 word) m absent (q.form, q.spelled))
@@ -113,7 +120,8 @@ name_high name h = letter_high (get_or name 0 0) (plain_parts name h.plain).0
 
 inside_lacks : (c : ℕ) (name : List ℕ) → is_inside c ≡ false → list_all is_inside name ≡ true → Lacks c name
 inside_lacks c [] out e i lt is = absurd (omega arith)
-inside_lacks c (b ∷ bs) out e zero lt is = let f = both (is_inside b) (list_all is_inside bs) e in let g : is_inside c ≡ true = subst (λ (x : ℕ). is_inside x ≡ true) is f.0 in absurd cc
+inside_lacks c (b ∷ bs) out e zero lt is = let f = both (is_inside b) (list_all is_inside bs) e in
+    let g : is_inside c ≡ true = subst (λ (x : ℕ). is_inside x ≡ true) is f.0 in absurd cc
 inside_lacks c (b ∷ bs) out e (suc i) lt is = inside_lacks c bs out (both (is_inside b) (list_all is_inside bs) e).1 i (omega arith) is
 
 pub name_lacks : (c : ℕ) (name : List ℕ) → is_inside c ≡ false → IsNameText name → Lacks c name
@@ -146,8 +154,12 @@ operand_number word n h = let f = found (IsNumberWord word) n h in one (IsOperan
     is operand.Me q = let f = found (IsNumberWord word) n h in absurd (number_or_me n f.form (sym f.spelled ∙ q.spelled))
     is (operand.Name name) q = let f = found (IsNumberWord word) n h in absurd (number_or_name n name f.form q.form (sym f.spelled ∙ q.spelled))
 
-pub operand_name : (word name : List ℕ) → (word ≡ codes "me" → ⊥) → ReadsAs (IsNumberWord word) None → ReadsAs (IsName word) (Some name) → ReadsAs (IsOperand word) (Some (operand.Name name))
-operand_name word name me absent h = let f = found (IsName word) name h in one (IsOperand word) (operand.Name name) (record { form = f.form; spelled = f.spelled }) is
+pub operand_name : (word name : List ℕ) → (word ≡ codes "me" → ⊥) → ReadsAs (IsNumberWord word) None → ReadsAs (IsName word) (Some name)
+    → ReadsAs (IsOperand word) (Some (operand.Name name))
+operand_name word name me absent h = let f = found (IsName word) name h in one (IsOperand word) (operand.Name name) (record {
+  form = f.form;
+  spelled = f.spelled;
+}) is
   where
     is : (a : Operand) → IsOperand word a → a ≡ operand.Name name
     is (operand.Number m) q = absurd (none (IsNumberWord word) m absent (record { form = q.form; spelled = q.spelled }))
@@ -173,7 +185,8 @@ pub place_split : (word : List ℕ) (x : Bor (List ℕ) × Bor (List ℕ)) → I
     → (e : Operand) × (p.index ≡ Some e) × (x.0.now ≡ p.name) × (x.1.now ≡ operand_text e ++ codes "]") × HasOperandForm e
 place_split word x h p q = at p.index refl q.form.1
   where
-    at : (o : Option Operand) → p.index ≡ o → HasIndexForm o → (e : Operand) × (p.index ≡ Some e) × (x.0.now ≡ p.name) × (x.1.now ≡ operand_text e ++ codes "]") × HasOperandForm e
+    at : (o : Option Operand) → p.index ≡ o → HasIndexForm o
+        → (e : Operand) × (p.index ≡ Some e) × (x.0.now ≡ p.name) × (x.1.now ≡ operand_text e ++ codes "]") × HasOperandForm e
     at None i f =
         let whole : word ≡ p.name = q.spelled ∙ ap (λ (o : Option Operand). p.name ++ index_text o) i ∙ append-nil p.name in
         let s = split_parts 91 word (Some x) h (omega arith) in
@@ -193,7 +206,8 @@ plain_place word h p q = at p.index refl
         let whole : word ≡ p.name ++ (91 ∷ (operand_text e ++ codes "]")) = q.spelled ∙ ap (λ (o : Option Operand). p.name ++ index_text o) i in
         absurd (split_after 91 word p.name (operand_text e ++ codes "]") None h (omega arith) whole (name_lacks 91 p.name refl q.form.0))
 
-pub place_plain : (word name : List ℕ) → IsSplitOnceResult 91 word None → ReadsAs (IsName word) (Some name) → ReadsAs (IsPlace word) (Some (record { name = name; index = None }))
+pub place_plain : (word name : List ℕ) → IsSplitOnceResult 91 word None → ReadsAs (IsName word) (Some name)
+    → ReadsAs (IsPlace word) (Some (record { name = name; index = None }))
 place_plain word name h r =
     let f = found (IsName word) name r in
     one (IsPlace word) (record { name = name; index = None }) (record { form = (f.form, tt); spelled = f.spelled ∙ sym (append-nil name) })
@@ -202,7 +216,8 @@ place_plain word name h r =
 pub place_no_name : (word : List ℕ) → IsSplitOnceResult 91 word None → ReadsAs (IsName word) None → ReadsAs (IsPlace word) None
 place_no_name word h r = nothing (IsPlace word) (λ p q. none (IsName word) p.name r (plain_place word h p q).1)
 
-pub place_indexed : (word index : List ℕ) (x : Bor (List ℕ) × Bor (List ℕ)) (name : List ℕ) (e : Operand) → IsSplitOnceResult 91 word (Some x) → ReadsAs (IsName x.0.now) (Some name) → x.1.now ≡ index ++ codes "]" → ReadsAs (IsOperand index) (Some e)
+pub place_indexed : (word index : List ℕ) (x : Bor (List ℕ) × Bor (List ℕ)) (name : List ℕ) (e : Operand) → IsSplitOnceResult 91 word (Some x)
+    → ReadsAs (IsName x.0.now) (Some name) → x.1.now ≡ index ++ codes "]" → ReadsAs (IsOperand index) (Some e)
     → ReadsAs (IsPlace word) (Some (record { name = name; index = Some e }))
 place_indexed word index x name e h rn back re =
     let fn = found (IsName x.0.now) name rn in
@@ -211,23 +226,36 @@ place_indexed word index x name e h rn back re =
     one (IsPlace word) (record { name = name; index = Some e })
     (record {
       form = (fn.form, fe.form);
-      spelled = s.0 ∙ ap (λ (y : List ℕ). y ++ (91 ∷ x.1.now)) fn.spelled ∙ ap (λ (y : List ℕ). name ++ (91 ∷ y)) (back ∙ ap (λ (y : List ℕ). y ++ codes "]") fe.spelled);
+      spelled = s.0 ∙ ap (λ (y : List ℕ). y ++ (91 ∷ x.1.now)) fn.spelled ∙ ap (λ (y : List ℕ). name ++ (91 ∷ y)) (back
+          ∙ ap (λ (y : List ℕ). y ++ codes "]") fe.spelled);
     })
     (λ p q.
     let k = place_split word x h p q in
     let same_name : p.name ≡ name = only (IsName x.0.now) name p.name rn (record { form = q.form.0; spelled = k.2 }) in
-    let same_index : k.0 ≡ e = only (IsOperand index) e k.0 re (record { form = k.4; spelled = append_cancel_right index (operand_text k.0) (codes "]") (sym back ∙ k.3) }) in
+    let same_index : k.0 ≡ e = only (IsOperand index) e k.0 re (record {
+      form = k.4;
+      spelled = append_cancel_right index (operand_text k.0) (codes "]") (sym back ∙ k.3);
+    }) in
     (λ i. record { name = same_name i; index = (k.1 ∙ ap Some same_index) i }))
 
-pub place_bad_name : (word : List ℕ) (x : Bor (List ℕ) × Bor (List ℕ)) → IsSplitOnceResult 91 word (Some x) → ReadsAs (IsName x.0.now) None → ReadsAs (IsPlace word) None
-place_bad_name word x h r = nothing (IsPlace word) (λ p q. let k = place_split word x h p q in none (IsName x.0.now) p.name r (record { form = q.form.0; spelled = k.2 }))
+pub place_bad_name : (word : List ℕ) (x : Bor (List ℕ) × Bor (List ℕ)) → IsSplitOnceResult 91 word (Some x) → ReadsAs (IsName x.0.now) None
+    → ReadsAs (IsPlace word) None
+place_bad_name word x h r = nothing (IsPlace word) (λ p q. let k = place_split word x h p q in none (IsName x.0.now) p.name r (record {
+  form = q.form.0;
+  spelled = k.2;
+}))
 
-pub place_open : (word : List ℕ) (x : Bor (List ℕ) × Bor (List ℕ)) → IsSplitOnceResult 91 word (Some x) → ((front : List ℕ) → x.1.now ≢ front ++ codes "]") → ReadsAs (IsPlace word) None
+pub place_open : (word : List ℕ) (x : Bor (List ℕ) × Bor (List ℕ)) → IsSplitOnceResult 91 word (Some x) → ((front : List ℕ)
+    → x.1.now ≢ front ++ codes "]") → ReadsAs (IsPlace word) None
 place_open word x h r = nothing (IsPlace word) (λ p q. let k = place_split word x h p q in r (operand_text k.0) k.3)
 
-pub place_bad_index : (word index : List ℕ) (x : Bor (List ℕ) × Bor (List ℕ)) → IsSplitOnceResult 91 word (Some x) → x.1.now ≡ index ++ codes "]" → ReadsAs (IsOperand index) None → ReadsAs (IsPlace word) None
+pub place_bad_index : (word index : List ℕ) (x : Bor (List ℕ) × Bor (List ℕ)) → IsSplitOnceResult 91 word (Some x) → x.1.now ≡ index ++ codes "]"
+    → ReadsAs (IsOperand index) None → ReadsAs (IsPlace word) None
 place_bad_index word index x h back r =
-    nothing (IsPlace word) (λ p q. let k = place_split word x h p q in none (IsOperand index) k.0 r (record { form = k.4; spelled = append_cancel_right index (operand_text k.0) (codes "]") (sym back ∙ k.3) }))
+    nothing (IsPlace word) (λ p q. let k = place_split word x h p q in none (IsOperand index) k.0 r (record {
+      form = k.4;
+      spelled = append_cancel_right index (operand_text k.0) (codes "]") (sym back ∙ k.3);
+    }))
 
 -- ---- comparisons
 

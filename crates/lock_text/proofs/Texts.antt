@@ -102,11 +102,13 @@ told text rest after before p c so e h =
     )
 
 -- the number of the line that is read
-pub reaches : (text rest after : List ℕ) (before : List Line) (p : Piece) (n : ℕ) → n ≡ length before + 1 → IsReadable p → SoFar text rest before → pieces rest ≡ p ∷ pieces after
+pub reaches : (text rest after : List ℕ) (before : List Line) (p : Piece) (n : ℕ) → n ≡ length before + 1 → IsReadable p → SoFar text rest before
+    → pieces rest ≡ p ∷ pieces after
     → IsReached [] (pieces text) n
 reaches text rest after before p n k readable so e = so.reached n (subst (λ (ps : List Piece). IsReached before ps n) (sym e) (inl (k, readable)))
 
-pub failed : (text rest after : List ℕ) (before : List Line) (p : Piece) (n : ℕ) (c : Cause) → n ≡ length before + 1 → SoFar text rest before → pieces rest ≡ p ∷ pieces after
+pub failed : (text rest after : List ℕ) (before : List Line) (p : Piece) (n : ℕ) (c : Cause) → n ≡ length before + 1 → SoFar text rest before
+    → pieces rest ≡ p ∷ pieces after
     → Judges p (Err c) → IsReadFaultBy text (record { line = n; cause = c }) c
 failed text rest after before p n NoMemory k so e h = reaches text rest after before p n k h so e
 failed text rest after before p n c k so e h =

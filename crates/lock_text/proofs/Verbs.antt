@@ -180,7 +180,8 @@ colon_free verb.Do = refl
 colon_free verb.Return = refl
 
 pub no_colon : (name : List ℕ) (v : Verb) → name ++ codes ":" ≡ verb_text v → ⊥
-no_colon name v e = let there : has 58 (name ++ codes ":") ≡ true = has_in 58 name [] in let free : has 58 (name ++ codes ":") ≡ false = ap (has 58) e ∙ colon_free v in absurd cc
+no_colon name v e = let there : has 58 (name ++ codes ":") ≡ true = has_in 58 name [] in
+    let free : has 58 (name ++ codes ":") ≡ false = ap (has 58) e ∙ colon_free v in absurd cc
 
 pub verb_found : (word : List ℕ) (v : Verb) → word ≡ verb_text v → ReadsAs (IsVerb word) (Some v)
 verb_found word v e = one (IsVerb word) v e (λ w q. verb_one w v (sym q ∙ e))
@@ -188,6 +189,7 @@ verb_found word v e = one (IsVerb word) v e (λ w q. verb_one w v (sym q ∙ e))
 pub verb_none : (word : List ℕ) → ((k : ℕ) → k < length verbs → word ≢ verb_text (get_or verbs k verb.Const)) → ReadsAs (IsVerb word) None
 verb_none word h = nothing (IsVerb word) (λ v q. h (rank v) (omega (arith, (ranked v).0)) (q ∙ ap verb_text (sym (ranked v).1)))
 
-pub verb_read : (word : List ℕ) (o : Option Verb) → MatchOption o ((k : ℕ) → k < length verbs → word ≢ verb_text (get_or verbs k verb.Const)) (λ v. word ≡ verb_text v) → ReadsAs (IsVerb word) o
+pub verb_read : (word : List ℕ) (o : Option Verb) → MatchOption o ((k : ℕ) → k < length verbs
+    → word ≢ verb_text (get_or verbs k verb.Const)) (λ v. word ≡ verb_text v) → ReadsAs (IsVerb word) o
 verb_read word None h = verb_none word h
 verb_read word (Some v) h = verb_found word v h

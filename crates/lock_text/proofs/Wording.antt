@@ -66,7 +66,8 @@ label words name h =
     let f = found (IsLabel words) name h in
     one_of (AreWordsOf words) (Label name) (record { form = f.form; spelled = f.spelled }) (λ l q. labelled words name f l q (verb_of l) refl)
 
-pub label_one : (words : List (List ℕ)) (word rest : List ℕ) (o : Option (List ℕ)) → words ≡ word ∷ [] → word ≡ rest ++ codes ":" → ReadsAs (IsName rest) o → ReadsAs (IsLabel words) o
+pub label_one : (words : List (List ℕ)) (word rest : List ℕ) (o : Option (List ℕ)) → words ≡ word ∷ [] → word ≡ rest ++ codes ":"
+    → ReadsAs (IsName rest) o → ReadsAs (IsLabel words) o
 label_one words word rest o e back h = same (IsName rest) (IsLabel words) o h
     (λ n p. record { form = p.form; spelled = e ∙ ap (λ (x : List ℕ). x ∷ []) (back ∙ ap (λ (x : List ℕ). x ++ codes ":") p.spelled) })
     (λ n q. record { form = q.form; spelled = append_cancel_right rest n (codes ":") (sym back ∙ (let s = q.spelled in cc)) })
@@ -79,7 +80,8 @@ label_many words h = nothing (IsLabel words) (λ n q. h (ap (λ (x : List (List 
 
 -- ---- registers
 
-register_line : (words rest : List (List ℕ)) → words ≡ codes "register" ∷ rest → (l : Line) → AreWordsOf words l → ReadsAs (IsLabel words) None → (o : Option Verb) → verb_of l ≡ o
+register_line : (words rest : List (List ℕ)) → words ≡ codes "register" ∷ rest → (l : Line) → AreWordsOf words l → ReadsAs (IsLabel words) None
+    → (o : Option Verb) → verb_of l ≡ o
     → (names : List (List ℕ)) × (l ≡ Registers names) × AreNames rest names
 register_line words rest e l q unlabelled (Some v) k =
     let s : words ≡ verb_text v ∷ arguments_of l = q.spelled ∙ with_verb l v k in
@@ -92,18 +94,22 @@ register_line words rest e l q unlabelled None k = at l k q
     at (Registers names) k q = (names, refl, record { some = q.form.0; form = q.form.1; spelled = let s = q.spelled in cc })
     at l k q = absurd cc
 
-pub registers : (words rest names : List (List ℕ)) → words ≡ codes "register" ∷ rest → ReadsAs (IsLabel words) None → ReadsAs (AreNames rest) (Some names) → ReadsAs (AreWordsOf words) (Some (Registers names))
+pub registers : (words rest names : List (List ℕ)) → words ≡ codes "register" ∷ rest → ReadsAs (IsLabel words) None
+    → ReadsAs (AreNames rest) (Some names) → ReadsAs (AreWordsOf words) (Some (Registers names))
 registers words rest names e unlabelled h =
     let f = found (AreNames rest) names h in
     one_of (AreWordsOf words) (Registers names) (record { form = (f.some, f.form); spelled = e ∙ ap (λ (x : List (List ℕ)). codes "register" ∷ x) f.spelled })
     (λ l q. let k = register_line words rest e l q unlabelled (verb_of l) refl in k.1 ∙ ap Registers (only (AreNames rest) names k.0 h k.2))
 
-pub no_registers : (words rest : List (List ℕ)) → words ≡ codes "register" ∷ rest → ReadsAs (IsLabel words) None → ReadsAs (AreNames rest) None → ReadsAs (AreWordsOf words) None
-no_registers words rest e unlabelled h = nothing (AreWordsOf words) (λ l q. let k = register_line words rest e l q unlabelled (verb_of l) refl in none (AreNames rest) k.0 h k.2)
+pub no_registers : (words rest : List (List ℕ)) → words ≡ codes "register" ∷ rest → ReadsAs (IsLabel words) None → ReadsAs (AreNames rest) None
+    → ReadsAs (AreWordsOf words) None
+no_registers words rest e unlabelled h = nothing (AreWordsOf words) (λ l q. let k = register_line words rest e l q unlabelled (verb_of l) refl in
+    none (AreNames rest) k.0 h k.2)
 
 -- ---- other lines
 
-verb_line : (words rest : List (List ℕ)) (word : List ℕ) → words ≡ word ∷ rest → (word ≡ codes "register" → ⊥) → ReadsAs (IsLabel words) None → (l : Line) → AreWordsOf words l → (o : Option Verb) → verb_of l ≡ o
+verb_line : (words rest : List (List ℕ)) (word : List ℕ) → words ≡ word ∷ rest → (word ≡ codes "register" → ⊥) → ReadsAs (IsLabel words) None
+    → (l : Line) → AreWordsOf words l → (o : Option Verb) → verb_of l ≡ o
     → (v : Verb) × IsVerb word v × AreArgumentsOf v rest l
 verb_line words rest word e other unlabelled l q (Some v) k =
     let s : words ≡ verb_text v ∷ arguments_of l = q.spelled ∙ with_verb l v k in
@@ -116,15 +122,18 @@ verb_line words rest word e other unlabelled l q None k = absurd (at l k q)
     at (Registers names) k q = other (let s = q.spelled in cc)
     at l k q = absurd cc
 
-pub formed : (words rest : List (List ℕ)) (word : List ℕ) (v : Verb) (o : Option Line) → words ≡ word ∷ rest → (word ≡ codes "register" → ⊥) → ReadsAs (IsLabel words) None → ReadsAs (IsVerb word) (Some v) → ReadsAs (AreArgumentsOf v rest) o
+pub formed : (words rest : List (List ℕ)) (word : List ℕ) (v : Verb) (o : Option Line) → words ≡ word ∷ rest → (word ≡ codes "register" → ⊥)
+    → ReadsAs (IsLabel words) None → ReadsAs (IsVerb word) (Some v) → ReadsAs (AreArgumentsOf v rest) o
     → ReadsAs (AreWordsOf words) o
 formed words rest word v o e other unlabelled h forms = same (AreArgumentsOf v rest) (AreWordsOf words) o forms
     (λ l p. record { form = p.form; spelled = e ∙ (λ i. (found (IsVerb word) v h) i ∷ p.spelled i) ∙ sym (with_verb l v p.verb_is) })
     (λ l q. let k = verb_line words rest word e other unlabelled l q (verb_of l) refl in
     subst (λ (u : Verb). AreArgumentsOf u rest l) (only (IsVerb word) v k.0 h k.1) k.2)
 
-pub no_verb : (words rest : List (List ℕ)) (word : List ℕ) → words ≡ word ∷ rest → (word ≡ codes "register" → ⊥) → ReadsAs (IsLabel words) None → ReadsAs (IsVerb word) None → ReadsAs (AreWordsOf words) None
-no_verb words rest word e other unlabelled h = nothing (AreWordsOf words) (λ l q. let k = verb_line words rest word e other unlabelled l q (verb_of l) refl in none (IsVerb word) k.0 h k.1)
+pub no_verb : (words rest : List (List ℕ)) (word : List ℕ) → words ≡ word ∷ rest → (word ≡ codes "register" → ⊥) → ReadsAs (IsLabel words) None
+    → ReadsAs (IsVerb word) None → ReadsAs (AreWordsOf words) None
+no_verb words rest word e other unlabelled h = nothing (AreWordsOf words) (λ l q. let k = verb_line words rest word e other unlabelled l q
+    (verb_of l) refl in none (IsVerb word) k.0 h k.1)
 
 -- ---- a jump where something holds
 
@@ -132,7 +141,8 @@ abbrev Compared : List (List ℕ) → Operand × Relation × Operand → Type 0
 Compared words x = AreThree IsOperand IsRelation IsOperand words x
 
 if_parts : (a b c d e : Bor (List ℕ)) (l : Line) → AreArgumentsOf verb.If (texts (a ∷ b ∷ c ∷ d ∷ e ∷ [])) l
-    → (x : Operand × Relation × Operand) × (label : List ℕ) × (l ≡ If x.0 x.1 x.2 label) × Compared (texts (a ∷ b ∷ c ∷ [])) x × (d.now ≡ codes "goto") × IsName e.now label
+    → (x : Operand × Relation × Operand) × (label : List ℕ) × (l ≡ If x.0 x.1 x.2 label) × Compared (texts (a ∷ b ∷ c
+    ∷ [])) x × (d.now ≡ codes "goto") × IsName e.now label
 if_parts a b c d e (If p r q label) h =
     let s = h.spelled in (
       (p, r, q),
@@ -152,13 +162,16 @@ if_parts a b c d e (If p r q label) h =
     )
 if_parts a b c d e l h = let k = h.verb_is in absurd cc
 
-pub jump : (ws : List (Bor (List ℕ))) (x y : Bor (List ℕ)) (p : Operand) (r : Relation) (q : Operand) (label : List ℕ) → length ws ≡ 5 → (get_or ws 3 x).now ≡ codes "goto"
-    → (let z : Operand × Relation × Operand = (p, r, q) in ReadsAs (Compared (texts (take 3 ws))) (Some z)) → ReadsAs (IsName (get_or ws 4 y).now) (Some label) → ReadsAs (AreArgumentsOf verb.If (texts ws)) (Some (If p r q label))
+pub jump : (ws : List (Bor (List ℕ))) (x y : Bor (List ℕ)) (p : Operand) (r : Relation) (q : Operand) (label : List ℕ) → length ws ≡ 5
+    → (get_or ws 3 x).now ≡ codes "goto"
+    → (let z : Operand × Relation × Operand = (p, r, q) in ReadsAs (Compared (texts (take 3 ws))) (Some z))
+    → ReadsAs (IsName (get_or ws 4 y).now) (Some label) → ReadsAs (AreArgumentsOf verb.If (texts ws)) (Some (If p r q label))
 jump (a ∷ b ∷ c ∷ d ∷ e ∷ []) x y p r q label len goto h n =
     let z : Operand × Relation × Operand = (p, r, q) in
     let f = found (Compared (texts (a ∷ b ∷ c ∷ []))) z h in
     let g = found (IsName e.now) label n in
-    let front : texts (a ∷ b ∷ c ∷ []) ≡ operand_text p ∷ relation_text r ∷ operand_text q ∷ [] = f.words_are ∙ (λ i. f.first.spelled i ∷ f.second i ∷ f.third.spelled i ∷ []) in
+    let front : texts (a ∷ b ∷ c ∷ []) ≡ operand_text p ∷ relation_text r ∷ operand_text q ∷ [] = f.words_are
+    ∙ (λ i. f.first.spelled i ∷ f.second i ∷ f.third.spelled i ∷ []) in
     one_of (AreArgumentsOf verb.If (texts (a ∷ b ∷ c ∷ d ∷ e ∷ []))) (If p r q label)
     (record { verb_is = refl; form = (f.first.form, f.third.form, g.form); spelled = (λ i. front i ++ (goto i ∷ g.spelled i ∷ [])) })
     (λ l k. let m = if_parts a b c d e l k in
@@ -174,14 +187,18 @@ no_jump_length ws h = nothing (AreArgumentsOf verb.If (texts ws)) is
     is (If p r q target) k = h (sym (texts_length ws) ∙ ap (λ (x : List (List ℕ)). length x) k.spelled)
     is l k = let e = k.verb_is in absurd cc
 
-pub no_jump_goto : (ws : List (Bor (List ℕ))) (x : Bor (List ℕ)) → length ws ≡ 5 → ((get_or ws 3 x).now ≡ codes "goto" → ⊥) → ReadsAs (AreArgumentsOf verb.If (texts ws)) None
+pub no_jump_goto : (ws : List (Bor (List ℕ))) (x : Bor (List ℕ)) → length ws ≡ 5 → ((get_or ws 3 x).now ≡ codes "goto" → ⊥)
+    → ReadsAs (AreArgumentsOf verb.If (texts ws)) None
 no_jump_goto (a ∷ b ∷ c ∷ d ∷ e ∷ []) x len h = nothing (AreArgumentsOf verb.If (texts (a ∷ b ∷ c ∷ d ∷ e ∷ []))) (λ l k. h ((if_parts a b c d e l k).4))
 no_jump_goto ws x len h = absurd (omega arith)
 
 pub no_jump_test : (ws : List (Bor (List ℕ))) → length ws ≡ 5 → ReadsAs (Compared (texts (take 3 ws))) None → ReadsAs (AreArgumentsOf verb.If (texts ws)) None
-no_jump_test (a ∷ b ∷ c ∷ d ∷ e ∷ []) len h = nothing (AreArgumentsOf verb.If (texts (a ∷ b ∷ c ∷ d ∷ e ∷ []))) (λ l k. let m = if_parts a b c d e l k in none (Compared (texts (a ∷ b ∷ c ∷ []))) m.0 h m.3)
+no_jump_test (a ∷ b ∷ c ∷ d ∷ e ∷ []) len h = nothing (AreArgumentsOf verb.If (texts (a ∷ b ∷ c ∷ d ∷ e ∷ []))) (λ l k. let m = if_parts a b c d e l k in
+    none (Compared (texts (a ∷ b ∷ c ∷ []))) m.0 h m.3)
 no_jump_test ws len h = absurd (omega arith)
 
-pub no_jump_label : (ws : List (Bor (List ℕ))) (y : Bor (List ℕ)) → length ws ≡ 5 → ReadsAs (IsName (get_or ws 4 y).now) None → ReadsAs (AreArgumentsOf verb.If (texts ws)) None
-no_jump_label (a ∷ b ∷ c ∷ d ∷ e ∷ []) y len h = nothing (AreArgumentsOf verb.If (texts (a ∷ b ∷ c ∷ d ∷ e ∷ []))) (λ l k. let m = if_parts a b c d e l k in none (IsName e.now) m.1 h m.5)
+pub no_jump_label : (ws : List (Bor (List ℕ))) (y : Bor (List ℕ)) → length ws ≡ 5 → ReadsAs (IsName (get_or ws 4 y).now) None
+    → ReadsAs (AreArgumentsOf verb.If (texts ws)) None
+no_jump_label (a ∷ b ∷ c ∷ d ∷ e ∷ []) y len h = nothing (AreArgumentsOf verb.If (texts (a ∷ b ∷ c ∷ d ∷ e
+    ∷ []))) (λ l k. let m = if_parts a b c d e l k in none (IsName e.now) m.1 h m.5)
 no_jump_label ws y len h = absurd (omega arith)

@@ -158,7 +158,8 @@ HasForm (Program name) = IsNameText name
 HasForm (Seats k name) = HasNumberForm k × IsNameText name
 HasForm (Most s n) = IsNameText s × HasNumberForm n
 HasForm (Apart s t) = IsNameText s × IsNameText t
-HasForm (Finally w r v) = HasPlaceForm w × (is_fixed_index w.index ≡ true) × HasOperandForm v × (is_fixed v ≡ true)
+HasForm (Finally w r v) =
+    HasPlaceForm w × (is_fixed_index w.index ≡ true) × HasOperandForm v × (is_fixed v ≡ true)
 HasForm (Load w name) = HasPlaceForm w × IsNameText name
 HasForm (Store w e) = HasPlaceForm w × HasOperandForm e
 HasForm (Swap w e o) = HasPlaceForm w × HasOperandForm e × IsResult o

@@ -13,16 +13,16 @@ pub record AreOne {A : Type 0} (R : List ℕ → A → Type 0) (words : List (Li
   pub words_are : words ≡ w ∷ []
   pub said : R w x
 
-pub record AreTwo {A B : Type 0} (R : List ℕ → A → Type 0) (S : List ℕ → B → Type 0) (words : List (List ℕ)) (x : A × B)
-    : Type 0 where
+pub record AreTwo {A B : Type 0} (R : List ℕ → A → Type 0) (S : List ℕ → B → Type 0)
+    (words : List (List ℕ)) (x : A × B) : Type 0 where
   pub v : List ℕ
   pub w : List ℕ
   pub words_are : words ≡ v ∷ w ∷ []
   pub first : R v x.0
   pub second : S w x.1
 
-pub record AreThree {A B C : Type 0} (R : List ℕ → A → Type 0) (S : List ℕ → B → Type 0) (T : List ℕ → C → Type 0)
-    (words : List (List ℕ)) (x : A × B × C) : Type 0 where
+pub record AreThree {A B C : Type 0} (R : List ℕ → A → Type 0) (S : List ℕ → B → Type 0)
+    (T : List ℕ → C → Type 0) (words : List (List ℕ)) (x : A × B × C) : Type 0 where
   pub u : List ℕ
   pub v : List ℕ
   pub w : List ℕ
@@ -31,8 +31,9 @@ pub record AreThree {A B C : Type 0} (R : List ℕ → A → Type 0) (S : List �
   pub second : S v x.1
   pub third : T w x.2
 
-pub record AreFour {A B C D : Type 0} (R : List ℕ → A → Type 0) (S : List ℕ → B → Type 0) (T : List ℕ → C → Type 0)
-    (U : List ℕ → D → Type 0) (words : List (List ℕ)) (x : A × B × C × D) : Type 0 where
+pub record AreFour {A B C D : Type 0} (R : List ℕ → A → Type 0) (S : List ℕ → B → Type 0)
+    (T : List ℕ → C → Type 0) (U : List ℕ → D → Type 0) (words : List (List ℕ)) (x : A × B × C × D)
+    : Type 0 where
   pub u : List ℕ
   pub v : List ℕ
   pub w : List ℕ

@@ -50,7 +50,8 @@ texts words = map (λ (word : Bor (List ℕ)). word.now) words
 -- ---- names
 
 abbrev pub is_letter : ℕ → Bool
-is_letter byte = (not (nat_lt byte 97) && not (nat_lt 122 byte)) || (not (nat_lt byte 65) && not (nat_lt 90 byte))
+is_letter byte =
+    (not (nat_lt byte 97) && not (nat_lt 122 byte)) || (not (nat_lt byte 65) && not (nat_lt 90 byte))
 
 -- a letter, a digit or `_`
 abbrev pub is_inside : ℕ → Bool
@@ -62,7 +63,8 @@ are_inside bytes = list_all is_inside bytes
 -- a letter and up to 23 letters, digits and `_`
 abbrev pub is_plain : List ℕ → Bool
 is_plain [] = false
-is_plain (byte ∷ bytes) = is_letter byte && (are_inside (byte ∷ bytes) && not (nat_lt 24 (length (byte ∷ bytes))))
+is_plain (byte ∷ bytes) =
+    is_letter byte && (are_inside (byte ∷ bytes) && not (nat_lt 24 (length (byte ∷ bytes))))
 
 -- of these only `me` is no name
 pub record IsNameText (name : List ℕ) : Type 0 where

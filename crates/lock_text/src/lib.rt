@@ -1,7 +1,7 @@
 //! The text of a lock program: what each line says, and what is wrong with a line that says nothing.
 //!
-//! [`read_lines`] answers the lines of a text, their names still as they are written, or the first line that is no line.
-//! What a line says is a definition by how lines are printed, of which the reader has nothing but the types.
+//! [`read_lines`] answers the lines of a text, their names still as they are written, or the first line that
+//! is none. What a line says is a definition by how lines are printed, of which the reader has but the types.
 #![tactic(auto)]
 
 mod fault;

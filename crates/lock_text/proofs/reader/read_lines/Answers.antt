@@ -18,10 +18,13 @@ pub loop-rest-preserved : goal.loop-rest-preserved
 loop-rest-preserved c =
     let p : Piece = record { text = c.first_line-ended.result.0.now; ended = c.first_line-ended.result.2 } in
     subst (λ (ls : List Line). SoFar c.args.text.now c.first_line-ended.result.1.now ls) (sym c.in-Ok-push.ensures.items)
-    (turn c.args.text.now c.loop-rest.rest.now c.first_line-ended.result.1.now c.loop-rest.lines.items p c.in-Ok.line c.loop-rest.invariant c.first_line-ended.ensures.line c.in-Ok.ensures)
+    (turn c.args.text.now c.loop-rest.rest.now c.first_line-ended.result.1.now c.loop-rest.lines.items p c.in-Ok.line c.loop-rest.invariant
+    c.first_line-ended.ensures.line c.in-Ok.ensures)
 
 pub returns-clause-lines : goal.returns-clause-lines
-returns-clause-lines c = lines_are c.args.text.now c.loop-rest.rest.now c.loop-rest.lines.items c.loop-rest.invariant (nil_from_length c.loop-rest.rest.now (grind arith))
+returns-clause-lines c = lines_are c.args.text.now c.loop-rest.rest.now c.loop-rest.lines.items c.loop-rest.invariant
+    (nil_from_length c.loop-rest.rest.now (grind arith))
 
 pub returns-clause-faultless : goal.returns-clause-faultless
-returns-clause-faultless c = faultless c.args.text.now c.loop-rest.rest.now c.loop-rest.lines.items c.loop-rest.invariant (nil_from_length c.loop-rest.rest.now (grind arith))
+returns-clause-faultless c = faultless c.args.text.now c.loop-rest.rest.now c.loop-rest.lines.items c.loop-rest.invariant
+    (nil_from_length c.loop-rest.rest.now (grind arith))

@@ -9,4 +9,5 @@ pub returns-in_default-three : goal.returns-in_default-three
 returns-in_default-three c = no_await (texts c.args.words.now) c.in_default.ensures c.in_default-three.ensures
 
 pub returns : goal.returns
-returns c = await_three (texts c.args.words.now) c.in-Some-three.place c.in-Some-three.relation c.in-Some-three.operand c.in_default.ensures c.in-Some-three.ensures
+returns c = await_three (texts c.args.words.now) c.in-Some-three.place c.in-Some-three.relation c.in-Some-three.operand c.in_default.ensures
+    c.in-Some-three.ensures

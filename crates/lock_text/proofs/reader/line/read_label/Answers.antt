@@ -18,5 +18,6 @@ returns-in_default c =
 pub returns : goal.returns
 returns c =
     let none : Bor (List ℕ) = record { ref_ptr = (0, 0); now = [] } in
-    label_one (texts c.args.words.now) (get_or c.args.words.now 0 none).now c.in-Some.label.now c.read_name.result (texts_one c.args.words.now none c.if-words-ne1.false)
+    label_one (texts c.args.words.now) (get_or c.args.words.now 0 none).now c.in-Some.label.now c.read_name.result
+    (texts_one c.args.words.now none c.if-words-ne1.false)
     (stripped_end (codes ":") (get_or c.args.words.now 0 none).now (Some c.in-Some.label) c.in-Some.ensures.cases) c.read_name.ensures

@@ -23,7 +23,8 @@ returns-in-Some-read_verb c =
     let none : Bor (List ℕ) = record { ref_ptr = (0, 0); now = [] } in
     let word : List ℕ = (get_or c.args.words.now 0 none).now in
     let first : texts c.args.words.now ≡ word ∷ others c.args.words.now = texts_first c.args.words.now none (grind arith) in
-    formed (texts c.args.words.now) (others c.args.words.now) word c.in-Some-read_verb.verb c.read_form.result first (differs c.eq.result word (codes "register") c.eq.ensures c.if-eq.false) c.in_default.ensures
+    formed (texts c.args.words.now) (others c.args.words.now) word c.in-Some-read_verb.verb c.read_form.result first (differs c.eq.result word
+    (codes "register") c.eq.ensures c.if-eq.false) c.in_default.ensures
     c.in-Some-read_verb.ensures c.read_form.ensures
 
 pub returns-in-None : goal.returns-in-None
@@ -31,4 +32,5 @@ returns-in-None c =
     let none : Bor (List ℕ) = record { ref_ptr = (0, 0); now = [] } in
     let word : List ℕ = (get_or c.args.words.now 0 none).now in
     let first : texts c.args.words.now ≡ word ∷ others c.args.words.now = texts_first c.args.words.now none (grind arith) in
-    no_verb (texts c.args.words.now) (others c.args.words.now) word first (differs c.eq.result word (codes "register") c.eq.ensures c.if-eq.false) c.in_default.ensures c.in-None.ensures
+    no_verb (texts c.args.words.now) (others c.args.words.now) word first (differs c.eq.result word
+    (codes "register") c.eq.ensures c.if-eq.false) c.in_default.ensures c.in-None.ensures

@@ -12,4 +12,5 @@ returns-then-first-eq43 c = not_plain 20 c.args.text.now (omega arith) (omega ar
 pub returns : goal.returns
 returns c =
     let plain : IsPlain 20 c.args.text.now = record { some = grind arith; short = grind arith; no_zero = λ z. grind arith; no_plus = λ z. grind arith } in
-    subst (λ (o : Option ℕ). ReadsAs (IsNumber 20 c.args.text.now) o) (sym c.ok.ensures.value) (parsed_plain 20 c.args.text.now c.parse.result (omega arith) (omega arith) plain c.parse.ensures.value.0)
+    subst (λ (o : Option ℕ). ReadsAs (IsNumber 20 c.args.text.now) o) (sym c.ok.ensures.value) (parsed_plain 20 c.args.text.now c.parse.result
+    (omega arith) (omega arith) plain c.parse.ensures.value.0)

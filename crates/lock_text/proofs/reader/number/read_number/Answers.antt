@@ -10,4 +10,5 @@ returns-in-Some c = number_plus c.args.word.now c.in-Some.size c.in-Some.ensures
 pub returns : goal.returns
 returns c =
     number_minus c.args.word.now c.in-Some-strip_prefix.digits.now c.in-Some-read_digits.size c.in_default.ensures
-    (stripped_front (codes "-") c.args.word.now (Some c.in-Some-strip_prefix.digits) c.in-Some-strip_prefix.ensures.cases) c.in-Some-read_digits.ensures c.if-size-eq0.false
+    (stripped_front (codes "-") c.args.word.now
+    (Some c.in-Some-strip_prefix.digits) c.in-Some-strip_prefix.ensures.cases) c.in-Some-read_digits.ensures c.if-size-eq0.false

@@ -14,7 +14,10 @@ pub returns-in_default-read_name-2 : goal.returns-in_default-read_name-2
 returns-in_default-read_name-2 c = place_bad_name c.args.word.now (c.in-Some.name, c.in-Some.rest) c.in-Some.ensures.cases c.in_default-read_name-2.ensures
 
 pub returns-in_default-strip_suffix : goal.returns-in_default-strip_suffix
-returns-in_default-strip_suffix c = place_open c.args.word.now (c.in-Some.name, c.in-Some.rest) c.in-Some.ensures.cases (stripped_end (codes "]") c.in-Some.rest.now None c.in_default-strip_suffix.ensures.cases)
+returns-in_default-strip_suffix c = place_open c.args.word.now (
+  c.in-Some.name,
+  c.in-Some.rest,
+) c.in-Some.ensures.cases (stripped_end (codes "]") c.in-Some.rest.now None c.in_default-strip_suffix.ensures.cases)
 
 pub returns-in_default-read_operand : goal.returns-in_default-read_operand
 returns-in_default-read_operand c =
@@ -23,5 +26,8 @@ returns-in_default-read_operand c =
 
 pub returns : goal.returns
 returns c =
-    place_indexed c.args.word.now c.in-Some-strip_suffix.index.now (c.in-Some.name, c.in-Some.rest) c.in-Some-read_name-2.name c.in-Some-read_operand.index c.in-Some.ensures.cases c.in-Some-read_name-2.ensures
+    place_indexed c.args.word.now c.in-Some-strip_suffix.index.now (
+      c.in-Some.name,
+      c.in-Some.rest,
+    ) c.in-Some-read_name-2.name c.in-Some-read_operand.index c.in-Some.ensures.cases c.in-Some-read_name-2.ensures
     (stripped_end (codes "]") c.in-Some.rest.now (Some c.in-Some-strip_suffix.index) c.in-Some-strip_suffix.ensures.cases) c.in-Some-read_operand.ensures

@@ -15,4 +15,5 @@ loop-word-preserved c =
 pub returns : goal.returns
 returns c =
     c.in_ok-push_part-2.ensures
-    ∙ sym (last c.args.line.now c.loop-word.rest.now (texts c.loop-word.words.items) c.loop-word.invariant.1 (split_parts 32 c.loop-word.rest.now None c.in_default.ensures.cases (omega arith)))
+    ∙ sym (last c.args.line.now c.loop-word.rest.now (texts c.loop-word.words.items) c.loop-word.invariant.1
+    (split_parts 32 c.loop-word.rest.now None c.in_default.ensures.cases (omega arith)))
