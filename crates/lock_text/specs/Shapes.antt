@@ -55,9 +55,6 @@ IsHandoff word = word ≡ codes "handoff"
 abbrev pub IsMany : List ℕ → Type 0
 IsMany word = word ≡ codes "many"
 
-abbrev pub IsGoto : List ℕ → Type 0
-IsGoto word = word ≡ codes "goto"
-
 -- ---- parts that several lines share
 
 -- a word or a counter, and what it starts at

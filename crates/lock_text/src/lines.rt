@@ -4,7 +4,7 @@ use crate::words::{Name, Number, Operand, Place};
 use lock_lines::{Operator, Relation};
 use step_table::Items;
 
-/// How many sleepers a release wakes, and how.
+/// How many units a release adds, and whether it hands its unit over.
 #[derive(Debug, Drop)]
 pub enum Share<'t> {
     /// One unit is released.

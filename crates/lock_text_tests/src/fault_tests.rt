@@ -23,10 +23,12 @@ static FAULTY: [(&str, &str); 14] = [
 
 fn read_twice<'t>(alloc: Global, text: &'t [u8]) -> Result<Vec<Line<'t>>, ReadFault> {
     match read_lines(alloc, text) {
-        Err(ReadFault {
-            cause: Cause::NoMemory,
-            ..
-        }) => read_lines(alloc, text),
+        Err(
+            ReadFault {
+                cause: Cause::NoMemory,
+                ..
+            },
+        ) => read_lines(alloc, text),
         read => read,
     }
 }
@@ -41,7 +43,9 @@ fn printed(alloc: Global, fault: ReadFault) -> Option<String> {
 #[test]
 fn faults_are_told(rt: HostRuntime) {
     for (text, fault) in &FAULTY {
-        let told = read_twice(rt.alloc(), text.as_bytes()).err().expect(&rt, "a fault");
+        let told = read_twice(rt.alloc(), text.as_bytes())
+            .err()
+            .expect(&rt, "a fault");
         let told = printed(rt.alloc(), told).expect(&rt, "memory");
         assert!(rt; told.as_str() == *fault, "{text}");
     }

@@ -70,10 +70,12 @@ finally w[0] == max
 
 fn read_twice<'t>(alloc: Global, text: &'t [u8]) -> Result<Vec<Line<'t>>, ReadFault> {
     match read_lines(alloc, text) {
-        Err(ReadFault {
-            cause: Cause::NoMemory,
-            ..
-        }) => read_lines(alloc, text),
+        Err(
+            ReadFault {
+                cause: Cause::NoMemory,
+                ..
+            },
+        ) => read_lines(alloc, text),
         read => read,
     }
 }

@@ -2,7 +2,7 @@
 
 ghost use Rattle.std.specs.Prelude.{◌≡◌, ℕ, List};
 ghost use Rattle.scenario_text.specs.Phrases.{ReadsAs};
-ghost use Rattle.lock_text.specs.Shapes.{IsLifo, IsHandoff, IsMany, IsGoto};
+ghost use Rattle.lock_text.specs.Shapes.{IsLifo, IsHandoff, IsMany};
 
 use crate::reader::part::Part;
 
