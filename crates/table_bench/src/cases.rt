@@ -15,6 +15,7 @@ fn release<R: Wait>(rt: &R, table: &SemaTable, seat: Seat) -> Seat
     match table.post(seat, CounterId::new(0)) {
         Ok(Posted::Done(seat)) => seat,
         Ok(Posted::Owes(owing)) => table.wake(rt, owing, false).0,
+        // its limit is reached: nothing was added
         Err((seat, _)) => seat,
     }
 }
