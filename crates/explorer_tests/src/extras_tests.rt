@@ -22,7 +22,8 @@ const COUNTED: [Row; 5] = [
         TWO_EACH,
         &["check", "--stats"],
         "none\nworlds 625, deepest 16\n",
-        "asked: settled. not asked: value C N, no-misuse\nworlds 625, classes 70, depth 16, complete\nseconds 0.000, classes a second 70000\n",
+        "asked: settled. not asked: value C N, no-misuse\nworlds 625, classes 70, depth 16, complete\n\
+         seconds 0.000, classes a second 70000\n",
         0,
     ),
     (
@@ -36,14 +37,16 @@ const COUNTED: [Row; 5] = [
         TWO_EACH,
         &["explore", "--depth", "15", "--stats"],
         "none up to depth 15\n",
-        "asked: settled. not asked: value C N, no-misuse\nworlds 624, classes 69, depth 15, cut at depth\nseconds 0.000, classes a second 69000\n",
+        "asked: settled. not asked: value C N, no-misuse\nworlds 624, classes 69, depth 15, cut at depth\n\
+         seconds 0.000, classes a second 69000\n",
         0,
     ),
     (
         TWO_EACH,
         &["explore", "--stats", "--depth", "64"],
         "none up to depth 64\n",
-        "asked: settled. not asked: value C N, no-misuse\nworlds 625, classes 70, depth 16, complete\nseconds 0.000, classes a second 70000\n",
+        "asked: settled. not asked: value C N, no-misuse\nworlds 625, classes 70, depth 16, complete\n\
+         seconds 0.000, classes a second 70000\n",
         0,
     ),
     // one seat: a world for each of its steps but the last

@@ -1,4 +1,5 @@
 pub mod AccessLines
+pub mod ConditionLines
 pub mod DeclarationLines
 pub mod FlowLines
 pub mod Judging

@@ -1,5 +1,5 @@
 use Rattle.lock_text.specs.Words.{texts}
-use Rattle.lock_text.proofs.AccessLines.{await_four, await_three, no_await}
+use Rattle.lock_text.proofs.ConditionLines.{await_four, await_three, no_await}
 use Rattle.lock_text.proofs.reader.access.read_await.Goals as goal
 
 pub returns-in-Some : goal.returns-in-Some

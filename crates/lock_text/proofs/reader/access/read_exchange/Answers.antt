@@ -1,5 +1,5 @@
 use Rattle.lock_text.specs.Words.{texts}
-use Rattle.lock_text.proofs.AccessLines.{exchange_four, exchange_three, no_exchange}
+use Rattle.lock_text.proofs.ConditionLines.{exchange_four, exchange_three, no_exchange}
 use Rattle.lock_text.proofs.reader.access.read_exchange.Goals as goal
 
 pub returns-in-Some : goal.returns-in-Some

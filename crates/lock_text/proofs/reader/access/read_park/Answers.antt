@@ -1,5 +1,5 @@
 use Rattle.lock_text.specs.Words.{texts}
-use Rattle.lock_text.proofs.AccessLines.{park_reads, no_park}
+use Rattle.lock_text.proofs.ConditionLines.{park_reads, no_park}
 use Rattle.lock_text.proofs.reader.access.read_park.Goals as goal
 
 pub returns-in_default : goal.returns-in_default

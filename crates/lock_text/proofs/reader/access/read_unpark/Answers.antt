@@ -1,5 +1,5 @@
 use Rattle.lock_text.specs.Words.{texts}
-use Rattle.lock_text.proofs.AccessLines.{unpark_reads, no_unpark}
+use Rattle.lock_text.proofs.ConditionLines.{unpark_reads, no_unpark}
 use Rattle.lock_text.proofs.reader.access.read_unpark.Goals as goal
 
 pub returns-in_default : goal.returns-in_default
