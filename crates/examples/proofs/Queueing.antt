@@ -4,8 +4,8 @@ use Rattle.atomic_table.specs.Seated.{TableId}
 use Rattle.step_table.specs.declared.entry.Entry.{Entry}
 use Rattle.step_table.specs.World.{Layout}
 use Rattle.step_table.specs.Journal.{plain_start, IsLawful}
-use Rattle.sema_law.specs.Balances.{added_on, taken_on}
-use Rattle.sema_law.proofs.Balancing.{lawful_balanced}
+use Rattle.step_law_semaphores.specs.Balances.{added_on, taken_on}
+use Rattle.step_law_semaphores.proofs.Balancing.{lawful_balanced}
 use Rattle.sema_table.specs.declared.answers.Wake.{Wake}
 use Rattle.sema_table.specs.declared.answers.Wake.TheVariants.{Nobody, One, Handed}
 use Rattle.sema_table.specs.Setting.{layout}

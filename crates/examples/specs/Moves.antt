@@ -39,7 +39,8 @@ sum_of f (v ∷ views) = f v + sum_of f views
 
 -- a pass without a part has put and taken nothing
 abbrev pub IdleIsEmpty : List Moves → Type 0
-IdleIsEmpty views = (k : ℕ) (v : Moves) → get_elem? views k ≡ some v → v.parts ≡ 0 → (v.put ≡ []) × (v.taken ≡ [])
+IdleIsEmpty views =
+    (k : ℕ) (v : Moves) → get_elem? views k ≡ some v → v.parts ≡ 0 → (v.put ≡ []) × (v.taken ≡ [])
 
 -- what was put is what was taken and what the ring holds, however the items are weighed
 abbrev pub Balanced : List ℕ → List Moves → Type 0

@@ -3,7 +3,7 @@ use Rattle.std.specs.Prelude.{◌≡◌, ℕ, ◌+◌, ◌-◌, ◌^◌, ◌≤�
 use Rattle.std.specs.List.{All}
 use Rattle.atomic_table.specs.Seated.{TableId}
 use Rattle.step_table.specs.declared.entry.Entry.{Entry}
-use Rattle.sema_law.specs.Balances.{added_on, taken_on}
+use Rattle.step_law_semaphores.specs.Balances.{added_on, taken_on}
 use Rattle.sema_table.specs.declared.answers.Wake.{Wake}
 use Rattle.sema_table.specs.declared.setup_error.SetupError.{SetupError}
 use Rattle.sema_table.specs.declared.setup_error.SetupError.TheVariants.{Seats, NoMemory}
@@ -21,9 +21,10 @@ free = 0
 abbrev pub full : ℕ
 full = 1
 
--- an empty queue of so many places, with a new seat for each worker, which may put and take 2^40 times, and no other seat. The
--- tally has all parts, and nobody has put or taken
-pub record IsNew (places workers : ℕ) (q : QueueModel) (seats : List SeatModel) (t : TallyModel) : Type 0 where
+-- an empty queue of so many places, with a new seat for each worker, which may put and take 2^40 times, and
+-- no other seat. The tally has all parts, and nobody has put or taken
+pub record IsNew (places workers : ℕ) (q : QueueModel) (seats : List SeatModel) (t : TallyModel)
+    : Type 0 where
   pub places_are : q.places ≡ places
   pub starts : q.table.setting.starts ≡ places ∷ 0 ∷ []
   pub own : All (λ s. s.table ≡ q.table) seats
@@ -42,7 +43,8 @@ IsRefused workers _ = ⊥
 abbrev pub new_worker : SeatModel → TableId → WorkerModel
 new_worker s ring = record { seat = s; ring = ring; moves = moves 1 [] [] }
 
--- the tally after a worker has come, who has one of its parts, and after one has gone, with all that it has put and taken
+-- the tally after a worker has come, who has one of its parts, and after one has gone, with all that it has
+-- put and taken
 abbrev pub after_entry : TallyModel → TallyModel
 after_entry t = record t { moves = record t.moves { parts = t.moves.parts - 1 } }
 
@@ -60,7 +62,8 @@ pub record Exchanges (s : SeatModel) (takes adds : ℕ) (t : SeatModel) : Type 0
   pub wake : Wake
   pub released : ReleasesUnit claimed adds false (Ok (t, wake))
 
--- what has come of both counters, in what was seen: no more places are claimed than there are, and no more items than came
+-- what has come of both counters, in what was seen: no more places are claimed than there are, and no more
+-- items than came
 pub record InBounds (q : QueueModel) (seen : List Entry) : Type 0 where
   pub places : taken_on free seen ≤ q.places + added_on free seen
   pub items : taken_on full seen ≤ added_on full seen
@@ -79,8 +82,8 @@ pub record HasTaken (q : QueueModel) (w : WorkerModel) (item : ℕ) (v : WorkerM
   pub bounds : InBounds q v.seat.sight.seen
   pub taken : v.moves ≡ with_taken w.moves item
 
--- n items are left, no more than there are places. Each item was taken or is left as often as it was put, and all of them together
--- are as many as were put
+-- n items are left, no more than there are places. Each item was taken or is left as often as it was put, and
+-- all of them together are as many as were put
 pub record AreLeftOf (q : QueueModel) (t : TallyModel) (n : ℕ) : Type 0 where
   pub left : List ℕ
   pub count : length left ≡ n

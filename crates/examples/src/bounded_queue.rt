@@ -2,7 +2,8 @@
 ghost use Rattle.std.specs.Prelude.{◌≡◌, ◌^◌, ◌<◌, ◌∷◌, [], IfOk, IfErr};
 ghost use Rattle.crossbeam_queue.specs.Passes.{view, IsSamePass};
 ghost use Rattle.examples.specs.Moves.{all_parts, with_put, with_taken};
-ghost use Rattle.examples.specs.Queue.{IsNew, IsRefused, IsOf, new_worker, after_entry, after_leave, HasPut, HasTaken, AreLeftOf};
+ghost use Rattle.examples.specs.Queue.{IsNew, IsRefused, IsOf, new_worker, after_entry, after_leave, HasPut};
+ghost use Rattle.examples.specs.Queue.{HasTaken, AreLeftOf};
 
 use crate::moves::{Moves, OnePart, Puts, Ring, Takes, Total};
 use crossbeam_queue::Pass;
@@ -21,8 +22,8 @@ const FREE: u32 = 0;
 /// The counter of the items.
 const FULL: u32 = 1;
 
-/// A ring of items, whose free places and items are two counters. Threads share it by reference, or in an `Arc`,
-/// each with a worker of its own.
+/// A ring of items, whose free places and items are two counters. Threads share it by reference, or in an
+/// `Arc`, each with a worker of its own.
 #[derive(Drop)]
 pub struct BoundedQueue {
     table: SemaTable,
@@ -105,8 +106,8 @@ impl Worker {
 }
 
 impl BoundedQueue {
-    /// An empty queue of so many places, a seat for each worker, and the tally. An error has made nothing: there are not 1 to
-    /// 256 workers, or no memory for what they ask.
+    /// An empty queue of so many places, a seat for each worker, and the tally. An error has made nothing:
+    /// there are not 1 to 256 workers, or no memory for what they ask.
     pub fn new(
         alloc: Global,
         places: u32,

@@ -1,4 +1,5 @@
-//! What threads put into a ring and take out of it, and the ring's rule: nothing is lost, and nothing comes twice.
+//! What threads put into a ring and take out of it, and the ring's rule: nothing is lost, and nothing comes
+//! twice.
 
 use crossbeam_queue::RuledArrayQueue;
 use crossbeam_queue::protocol::{Join, Lesson, Outcome, Protocol, Split};

@@ -60,10 +60,12 @@ fn four_add<R: Abort + Threads + Wait + Sync>(
     join(
         rt,
         move ||
-            requires { (first.table ≡ table.now) × (second.table ≡ table.now) × (0 < length table.now.setting.starts) }
+            requires { (first.table ≡ table.now) × (second.table ≡ table.now)
+                × (0 < length table.now.setting.starts) }
         { two_add(rt, table, number, first, second) },
         move ||
-            requires { (third.table ≡ table.now) × (fourth.table ≡ table.now) × (0 < length table.now.setting.starts) }
+            requires { (third.table ≡ table.now) × (fourth.table ≡ table.now)
+                × (0 < length table.now.setting.starts) }
         { two_add(rt, table, number, third, fourth) },
     );
 }

@@ -1,6 +1,7 @@
 //! Two threads put items into a queue of two places and two take them out: each item arrives, and once.
 //!
-//! The threads begin once all of them are made: a queue that nobody empties would keep those that put for ever.
+//! The threads begin once all of them are made: a queue that nobody empties would keep those that put for
+//! ever.
 
 ghost use Rattle.std.specs.Prelude.{◌≡◌, ◌+◌, ◌<◌, All};
 ghost use Rattle.examples.specs.Moves.{all_parts};

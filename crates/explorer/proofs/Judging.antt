@@ -2,20 +2,20 @@
 use Rattle.std.proofs.Common.{◌≡◌, ℕ, List, Option, None, Result, Ok, Err, IfOk, inl, inr, refl, sym, subst}
 use Rattle.std.specs.Prelude.{string_bytes, option_map}
 use Rattle.waiters.specs.declared.no_memory.NoMemory.{NoMemory}
-use Rattle.scenario_search.specs.declared.exit.Exit.{Exit}
-use Rattle.scenario_search.specs.declared.command.Reply.{Reply}
-use Rattle.scenario_search.specs.Commands.{answer_of, aside_of}
+use Rattle.explorer_scenarios.specs.declared.exit.Exit.{Exit}
+use Rattle.explorer_scenarios.specs.declared.command.Reply.{Reply}
+use Rattle.explorer_scenarios.specs.Commands.{answer_of, aside_of}
 use Rattle.journal_judge.specs.declared.judgement.Demands.{Demands}
 use Rattle.journal_judge.specs.declared.judgement.Judgement.{Judgement}
 use Rattle.journal_judge.specs.Judged.{IsJudgementOf}
 use Rattle.journal_judge.specs.Texts.{judgement_text}
 use Rattle.journal_text.specs.declared.journal.Journal.{Journal}
 use Rattle.journal_text.specs.JournalText.{IsJournalOf}
-use Rattle.scenario_search.specs.Line.{line}
+use Rattle.explorer_scenarios.specs.Line.{line}
 use Rattle.journal_text.specs.declared.journal_fault.JournalFault.{JournalFault}
 use Rattle.journal_text.specs.declared.journal_fault.JournalFault.TheVariants.{Form, NoMemory as Short}
 use Rattle.journal_text.specs.Reader.{IsFault}
-use Rattle.scenario_search.specs.Told.{IsTextOf}
+use Rattle.explorer_scenarios.specs.Told.{IsTextOf}
 use Rattle.explorer.specs.JudgeText.{judgement_exit, DeclaresLocks, IsUndeclared, IsJudgeInput, IsJudgeReplyOf, IsJudgeToldOf}
 use Rattle.explorer.specs.JudgeText.{RefusesFault, RefusesLock, RepliesJudgement, line_beside}
 

@@ -3,12 +3,12 @@ use Rattle.std.proofs.Common.{◌≡◌, ℕ, List, Option, Result, Ok, Err, IfO
 use Rattle.std.proofs.Common.{Bool, false, true, refl, sym, ◌∙◌, subst}
 use Rattle.std.specs.Prelude.{string_bytes, IsTrue, ◌↔◌}
 use Rattle.waiters.specs.declared.no_memory.NoMemory.{NoMemory}
-use Rattle.scenario_search.specs.declared.exit.Exit.{Exit}
-use Rattle.streams.specs.declared.fault.IoFault.{IoFault}
-use Rattle.streams.specs.declared.fault.IoFault.TheVariants.{Read, Write}
-use Rattle.scenario_search.specs.declared.answer.Answer.{Answer}
-use Rattle.scenario_search.specs.declared.command.Told.{Told}
-use Rattle.scenario_search.specs.Told.{IsTextOf, WantsMemory, TellsBeginning}
+use Rattle.explorer_scenarios.specs.declared.exit.Exit.{Exit}
+use Rattle.explorer_streams.specs.declared.fault.IoFault.{IoFault}
+use Rattle.explorer_streams.specs.declared.fault.IoFault.TheVariants.{Read, Write}
+use Rattle.explorer_scenarios.specs.declared.answer.Answer.{Answer}
+use Rattle.explorer_scenarios.specs.declared.command.Told.{Told}
+use Rattle.explorer_scenarios.specs.Told.{IsTextOf, WantsMemory, TellsBeginning}
 
 -- the text of an answer, or want of memory, is of each kind that has both
 pub answers : (P : List ℕ → Exit → Type 0) (r : Result Answer NoMemory) → IfOk r (λ a. P (string_bytes a.text) a.exit)

@@ -2,28 +2,30 @@
 use Rattle.std.specs.Prelude.{◌≡◌, ℕ, ◌⊎◌, Bool, true, false, IsTrue, List, [], string_bytes, codes}
 use Rattle.std.specs.Prelude.{Option, Some, None, Result, Ok, Err, option_map}
 use Rattle.std.specs.Io.KnownBytes.{Appends}
-use Rattle.scenario_search.specs.declared.exit.Exit.{Exit}
-use Rattle.scenario_search.specs.declared.exit.Exit.TheVariants.{NothingBad, Refused}
-use Rattle.streams.specs.declared.fault.IoFault.{IoFault}
-use Rattle.streams.specs.declared.fault.IoFault.TheVariants.{Read, Write}
-use Rattle.scenario_search.specs.declared.command.Told.{Told}
-use Rattle.scenario_search.specs.Exit.{status_of}
-use Rattle.scenario_search.specs.Commands.{IsAnswerOf, IsReplyOf}
-use Rattle.scenario_search.specs.Line.{line}
-use Rattle.streams.specs.Writing.{WritesBeginning}
-use Rattle.scenario_search.specs.Told.{IsToldOf, WantsMemory, TellsAll, TellsBeginning}
-use Rattle.program_words.specs.declared.asked.Asked.{Asked}
-use Rattle.program_words.specs.declared.asked.Asked.TheVariants.{Once, OfScenario, Judge, Threads, Help, Mistake, NoText, NoMemory}
-use Rattle.program_words.specs.Asked.{IsWithinLimits}
+use Rattle.explorer_scenarios.specs.declared.exit.Exit.{Exit}
+use Rattle.explorer_scenarios.specs.declared.exit.Exit.TheVariants.{NothingBad, Refused}
+use Rattle.explorer_streams.specs.declared.fault.IoFault.{IoFault}
+use Rattle.explorer_streams.specs.declared.fault.IoFault.TheVariants.{Read, Write}
+use Rattle.explorer_scenarios.specs.declared.command.Told.{Told}
+use Rattle.explorer_scenarios.specs.Exit.{status_of}
+use Rattle.explorer_scenarios.specs.Commands.{IsAnswerOf, IsReplyOf}
+use Rattle.explorer_scenarios.specs.Line.{line}
+use Rattle.explorer_streams.specs.Writing.{WritesBeginning}
+use Rattle.explorer_scenarios.specs.Told.{IsToldOf, WantsMemory, TellsAll, TellsBeginning}
+use Rattle.explorer_words.specs.declared.asked.Asked.{Asked}
+use Rattle.explorer_words.specs.declared.asked.Asked.TheVariants.{Once, OfScenario, Judge, Threads, Help}
+use Rattle.explorer_words.specs.declared.asked.Asked.TheVariants.{Mistake, NoText, NoMemory}
+use Rattle.explorer_words.specs.Asked.{IsWithinLimits}
 use Rattle.explorer.specs.JudgeText.{IsJudgeReplyOf, IsJudgeToldOf}
 use Rattle.explorer.specs.OnceText.{IsOnceAnswer}
 use Rattle.explorer.specs.ThreadsText.{IsThreadsAnswer}
 
--- the text and the exit answer what is asked, of a source with these bytes before and after. A mistake in the words has no
--- answer
+-- the text and the exit answer what is asked, of a source with these bytes before and after. A mistake in the
+-- words has no answer
 abbrev pub IsTextFor : Asked → Option (List ℕ) → Option (List ℕ) → List ℕ → Exit → Type 0
 IsTextFor Once old new text exit = IsOnceAnswer text exit
-IsTextFor (OfScenario command file answer threads) old new text exit = IsToldOf (IsAnswerOf command) old new text exit
+IsTextFor (OfScenario command file answer threads) old new text exit =
+    IsToldOf (IsAnswerOf command) old new text exit
 IsTextFor (Judge file demands most) old new text exit = IsJudgeToldOf demands most old new text exit
 IsTextFor (Threads workers rounds) old new text exit = IsThreadsAnswer workers rounds text exit
 IsTextFor (Help told) old new text exit = (text ≡ string_bytes told) × (exit ≡ NothingBad)
@@ -33,8 +35,10 @@ IsTextFor NoMemory old new text exit = WantsMemory text exit
 
 -- and this is told beside: only a command that reads a text tells anything there
 abbrev pub IsAnswerTo : Asked → Option (List ℕ) → Option (List ℕ) → Option (List ℕ) → List ℕ → Exit → Type 0
-IsAnswerTo (OfScenario command file answer threads) old new aside text exit = IsReplyOf command old new aside text exit
-IsAnswerTo (Judge file demands most) old new aside text exit = IsJudgeReplyOf demands most old new aside text exit
+IsAnswerTo (OfScenario command file answer threads) old new aside text exit =
+    IsReplyOf command old new aside text exit
+IsAnswerTo (Judge file demands most) old new aside text exit =
+    IsJudgeReplyOf demands most old new aside text exit
 IsAnswerTo asked old new aside text exit = IsTextFor asked old new text exit × (aside ≡ None)
 
 -- the command reads an input
@@ -49,7 +53,8 @@ mistake_text (Mistake told) = Some (string_bytes told)
 mistake_text NoText = Some (line (codes "error: invalid UTF-8 was detected in one or more arguments"))
 mistake_text _ = None
 
--- what goes to standard error beside an answer: what the command tells beside, or else what is wrong with the words
+-- what goes to standard error beside an answer: what the command tells beside, or else what is wrong with the
+-- words
 abbrev pub or_mistake : Option (List ℕ) → Asked → Option (List ℕ)
 or_mistake (Some told) asked = Some told
 or_mistake None asked = mistake_text asked
@@ -72,18 +77,22 @@ status_after (Err fault) = 2
 abbrev pub WritesAsFar : Option (List ℕ) → Option (List ℕ) → Bool → List ℕ → Type 0
 WritesAsFar old new failed text = Appends old new text ⊎ (IsTrue failed × WritesBeginning old new text)
 
--- the program did what is asked, on a source with these bytes before and after, which failed or not; and so with its output
-pub record HasDone (asked : Asked) (read unread : Option (List ℕ)) (broken : Bool) (old new : Option (List ℕ)) (cut : Bool)
+-- the program did what is asked, on a source with these bytes before and after, which failed or not; and so
+-- with its output
+pub record HasDone (asked : Asked) (read unread : Option (List ℕ)) (broken : Bool)
+    (old new : Option (List ℕ)) (cut : Bool)
     (status : ℕ) : Type 0 where
-  pub whole : broken ≡ false → cut ≡ false → (exit : Exit) × (aside : Option (List ℕ)) × (status ≡ status_of exit)
+  pub whole : broken ≡ false → cut ≡ false
+      → (exit : Exit) × (aside : Option (List ℕ)) × (status ≡ status_of exit)
       × TellsAll (IsAnswerTo asked read unread aside) old new exit
   pub begun : IsTrue cut → (status ≡ 2) × TellsBeginning (IsTextFor asked read unread) old new
   pub unwritten : IsTrue broken → (status ≡ 2) × (new ≡ old)
 
--- whatever its words, it did something that words may ask for, within its limits, on some source; or it ended with 2, and nothing
--- went out
+-- whatever its words, it did something that words may ask for, within its limits, on some source; or it ended
+-- with 2, and nothing went out
 abbrev pub HasDoneSome : Option (List ℕ) → Option (List ℕ) → Bool → ℕ → Type 0
 HasDoneSome old new cut status =
     ((status ≡ 2) × (new ≡ old))
-    ⊎ ((asked : Asked) × IsWithinLimits asked × (read : Option (List ℕ)) × (unread : Option (List ℕ)) × (broken : Bool)
+    ⊎ ((asked : Asked) × IsWithinLimits asked × (read : Option (List ℕ)) × (unread : Option (List ℕ))
+    × (broken : Bool)
     × HasDone asked read unread broken old new cut status)

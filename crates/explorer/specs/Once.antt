@@ -30,16 +30,20 @@ IsGranted s (Some woken) = (t : SeatModel) × OnlyLooks s t × IsPolled t (polle
 -- the seat was handed a unit; or it was woken, and its retry answered this
 abbrev pub IsAwakened : SeatModel → Option Retried → Type 0
 IsAwakened s None = IsGranted s None
-IsAwakened s (Some Taken) = (woken t : SeatModel) × IsGranted s (Some woken) × IsRetried woken (entered.Taken t)
-IsAwakened s (Some Asleep) = (woken t : SeatModel) × IsGranted s (Some woken) × IsRetried woken (entered.Asleep t)
+IsAwakened s (Some Taken) =
+    (woken t : SeatModel) × IsGranted s (Some woken) × IsRetried woken (entered.Taken t)
+IsAwakened s (Some Asleep) =
+    (woken t : SeatModel) × IsGranted s (Some woken) × IsRetried woken (entered.Asleep t)
 
 -- each answer is that of a call, made where the answers before it lead
 abbrev pub IsOnceRun : SeatModel → SeatModel → OnceAnswers → Type 0
 IsOnceRun s r (Tried tried) = (tried ≢ Zero) × ((t : SeatModel) × IsTried s 0 tried t)
 IsOnceRun s r Entered =
-    (t u : SeatModel) × IsTried s 0 Zero t × IsEntered t (acquire_of 0 false) (acquiring 0 A3) (entered.Taken u)
+    (t u : SeatModel) × IsTried s 0 Zero t
+    × IsEntered t (acquire_of 0 false) (acquiring 0 A3) (entered.Taken u)
 IsOnceRun s r (Slept released retried) =
-    (t u : SeatModel) × IsTried s 0 Zero t × IsEntered t (acquire_of 0 false) (acquiring 0 A3) (entered.Asleep u)
+    (t u : SeatModel) × IsTried s 0 Zero t
+    × IsEntered t (acquire_of 0 false) (acquiring 0 A3) (entered.Asleep u)
     × IsReleased r released × IsAwakened u retried
 
 -- one counter at 0, alone at its root, and two seats, each of which may release once

@@ -1,5 +1,7 @@
--- What `run_threads` does: the rounds of its workers, each of which holds one seat, and the table that it closes.
-use Rattle.std.specs.Prelude.{◌≡◌, ◌⊎◌, ◌%◌, ◌<◌, ◌==◌, ℕ, zero, suc, Bool, [], ◌∷◌, List, length, slice_index_or}
+-- What `run_threads` does: the rounds of its workers, each of which holds one seat, and the table that it
+-- closes.
+use Rattle.std.specs.Prelude.{◌≡◌, ◌⊎◌, ◌%◌, ◌<◌, ◌==◌, ℕ, zero, suc, Bool, [], ◌∷◌, List, length}
+use Rattle.std.specs.Prelude.{slice_index_or}
 use Rattle.std.specs.declared.thread.PromisedHandle.{PromisedHandle}
 use Rattle.sema_table.specs.declared.answers.Wake.{Wake}
 use Rattle.sema_table.specs.declared.settings.Settings.{Settings}

@@ -31,7 +31,8 @@ pub enum OnceAnswers {
     Tried(Tried),
     /// Seat 0's try found 0, and it took a unit under the lock.
     Entered,
-    /// Seat 0's try found 0, and it slept; seat 1 released, and seat 0 made its retry, if it wasn't handed a unit.
+    /// Seat 0's try found 0, and it slept; seat 1 released, and seat 0 made its retry, if it wasn't handed a
+    /// unit.
     Slept(Released, Option<Retried>),
 }
 

@@ -1,12 +1,12 @@
 //! The schedule that stands in an answer, as `explore` and `check` tell it.
 
 ghost use Rattle.std.specs.Prelude.{◌≡◌, ◌↔◌, IfOk, IsErr, IsTrue, false};
-ghost use Rattle.program_words.specs.Asked.{IsWithinLimits};
+ghost use Rattle.explorer_words.specs.Asked.{IsWithinLimits};
 
-use program_words::Asked;
-use scenario_search::{IoFault, MAX_TEXT, Source};
+use explorer_scenarios::{IoFault, MAX_TEXT, Source};
+use explorer_streams::read_at_most;
+use explorer_words::Asked;
 use std::alloc::Global;
-use streams::read_at_most;
 
 /// An answer that tells no schedule is replayed as this, which is none.
 const NO_SCHEDULE: &str = "-";

@@ -2,13 +2,13 @@
 
 ghost use Rattle.std.specs.Prelude.{◌≡◌, ◌↔◌, ◌<◌, false, length, slice_index, Some, string_bytes};
 ghost use Rattle.std.specs.Prelude.{IsTrue, IsErr, IfOk, IfErr, OnErr};
-ghost use Rattle.scenario_search.specs.Told.{TellsAll, TellsBeginning};
-ghost use Rattle.program_words.specs.Asked.{AreWithin};
+ghost use Rattle.explorer_scenarios.specs.Told.{TellsAll, TellsBeginning};
+ghost use Rattle.explorer_words.specs.Asked.{AreWithin};
 ghost use Rattle.explorer.specs.ThreadsText.{threads_lines, IsThreadsAnswer};
 
 use crate::gate::Open;
 use crate::threads::run_threads;
-use scenario_search::{Answer, Exit, IoFault, Sink, tell};
+use explorer_scenarios::{Answer, Exit, IoFault, Sink, tell};
 use sema_table::Closed;
 use std::alloc::Global;
 use std::fmt;
@@ -78,8 +78,8 @@ fn threads_answer<R: Threads + Wait + Sync>(
     })
 }
 
-/// Runs `parklot threads`: writes the lines of what was closed, or the refusal alone where memory was short or a thread couldn't
-/// be made.
+/// Runs `parklot threads`: writes the lines of what was closed, or the refusal alone where memory was short
+/// or a thread couldn't be made.
 ///
 /// It is an `Err` where a write fails. The text is whole before the first write.
 pub fn threads_io<R: Threads + Wait + Sync, S: Sink>(
@@ -91,8 +91,10 @@ pub fn threads_io<R: Threads + Wait + Sync, S: Sink>(
 ) -> Result<Exit, IoFault>
     requires limits { AreWithin workers rounds }
     requires writable { S.has_failed out.old ≡ false }
-    ensures whole { IfOk result (TellsAll (IsThreadsAnswer workers rounds) (S.contents out.old) (S.contents out.new)) }
-    ensures begun { OnErr result (TellsBeginning (IsThreadsAnswer workers rounds) (S.contents out.old) (S.contents out.new)) }
+    ensures whole { IfOk result
+        (TellsAll (IsThreadsAnswer workers rounds) (S.contents out.old) (S.contents out.new)) }
+    ensures begun { OnErr result
+        (TellsBeginning (IsThreadsAnswer workers rounds) (S.contents out.old) (S.contents out.new)) }
     ensures failed { IsErr result ↔ IsTrue (S.has_failed out.new) }
     ensures fault { IfErr result (λ e. e ≡ IoFault.Write) }
 {

@@ -1,12 +1,14 @@
 //! One acquire that sleeps and one release that wakes it, by the calls of the running table.
 
-ghost use Rattle.std.specs.Prelude.{◌≡◌, ◌<◌, length, ◌↔◌, false, IsTrue, IfOk, IfErr, OnErr, IfSome, IsErr, string_bytes};
-ghost use Rattle.scenario_search.specs.Told.{TellsAll, TellsBeginning};
-ghost use Rattle.explorer.specs.Once.{AreOnceSettings, IsOnceTable, IsOnceRun, IsReleased, IsGranted, IsAwakened};
+ghost use Rattle.std.specs.Prelude.{◌≡◌, ◌<◌, length, ◌↔◌, false, IsTrue, IfOk, IfErr, OnErr, IfSome, IsErr};
+ghost use Rattle.std.specs.Prelude.{string_bytes};
+ghost use Rattle.explorer_scenarios.specs.Told.{TellsAll, TellsBeginning};
+ghost use Rattle.explorer.specs.Once.{AreOnceSettings, IsOnceTable, IsOnceRun, IsReleased, IsGranted};
+ghost use Rattle.explorer.specs.Once.{IsAwakened};
 ghost use Rattle.explorer.specs.OnceText.{IsOnceText, IsOnceAnswer};
 
 use crate::answer::{OnceAnswers, Released, Retried};
-use scenario_search::{Answer, Exit, IoFault, Sink, tell};
+use explorer_scenarios::{Answer, Exit, IoFault, Sink, tell};
 use sema_table::{
     Entered, Polled, Posted, Seat, SemaTable, Settings, SetupError, Sleeping, Tried, Woken,
 };

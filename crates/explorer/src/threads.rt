@@ -4,11 +4,11 @@ ghost use Rattle.std.specs.Prelude.{◌≡◌, ◌*◌, ◌<◌, ◌∷◌, [], 
 ghost use Rattle.sema_table.specs.Making.{new_seat, new_seats};
 ghost use Rattle.explorer.specs.Threads.{AreOutside, AreThreadsSettings, IsThreadsTable, IsThreadsRun};
 ghost use Rattle.explorer.specs.Threads.{IsRound, HasWorked, IsWorker, HaveStarted, HaveWorked};
-ghost use Rattle.program_words.specs.Asked.{AreWithin};
+ghost use Rattle.explorer_words.specs.Asked.{AreWithin};
 ghost use Rattle.explorer.specs.ThreadsText.{threads_refused_text};
 
 use crate::gate::Gate;
-use program_words::{MAX_ROUNDS, MAX_WORKERS};
+use explorer_words::{MAX_ROUNDS, MAX_WORKERS};
 use sema_table::{Closed, Seat, SemaTable, Settings, SetupError};
 use std::alloc::{AllocError, Global};
 use std::error::Error;
@@ -69,7 +69,8 @@ fn threads_settings(alloc: Global, workers: u32, rounds: u32) -> Result<Settings
     })
 }
 
-/// A table with these settings, which refuses them for want of memory alone, and its seats in the order of their numbers.
+/// A table with these settings, which refuses them for want of memory alone, and its seats in the order of
+/// their numbers.
 ///
 /// It is an `Err` where memory is short.
 fn threads_table(
@@ -151,7 +152,8 @@ fn start<'s, E, R: Wait + Sync, G: Gate + Sync>(
 
 /// Starts a worker for each seat.
 ///
-/// It is an `Err` where memory is short or a thread can't be made: the workers that had started have ended then.
+/// It is an `Err` where memory is short or a thread can't be made: the workers that had started have ended
+/// then.
 fn start_all<'s, E, R: Threads + Wait + Sync, G: Gate + Sync>(
     scope: &'s Scope<'s, E>,
     rt: &'s R,
@@ -180,7 +182,8 @@ fn start_all<'s, E, R: Threads + Wait + Sync, G: Gate + Sync>(
 
 /// Starts a worker for each seat, and waits for their ends: the seats, in the order of their numbers.
 ///
-/// It is an `Err` where memory is short or a thread can't be made: the workers that had started have ended then.
+/// It is an `Err` where memory is short or a thread can't be made: the workers that had started have ended
+/// then.
 fn work_in<'s, E, R: Threads + Wait + Sync, G: Gate + Sync>(
     scope: &'s Scope<'s, E>,
     rt: &'s R,
@@ -223,14 +226,16 @@ fn work_all<R: Threads + Wait + Sync, G: Gate + Sync>(
         move |scope| -> Result<Vec<Seat>, NoMemory>
             requires seats { seats.items ≡ new_seats table.now 0 (length seats.items) }
             requires table { (0 < length table.now.setting.starts) × (table.now.setting.limit ≡ rounds) }
-            ensures { IfOk result (λ back. HaveWorked table.entry.now (length seats.items) rounds back.items) }
+            ensures { IfOk result
+                (λ back. HaveWorked table.entry.now (length seats.items) rounds back.items) }
         { work_in(scope, rt, alloc, table, seats, rounds, gate) },
     )
 }
 
 /// As `run_threads`, within the limits.
 ///
-/// It is an `Err` where memory is short or a thread can't be made: the workers that had started have ended then.
+/// It is an `Err` where memory is short or a thread can't be made: the workers that had started have ended
+/// then.
 fn run_within<R: Threads + Wait + Sync, G: Gate + Sync>(
     rt: &R,
     alloc: Global,
@@ -246,8 +251,9 @@ fn run_within<R: Threads + Wait + Sync, G: Gate + Sync>(
     Ok(table.close(seats))
 }
 
-/// Lets so many workers share a table, each in a thread of its own. Each runs so many rounds, in which it asks the gate, and then
-/// releases and acquires the one counter: in odd rounds with handoff, and with lifo. Then the table is closed with all seats.
+/// Lets so many workers share a table, each in a thread of its own. Each runs so many rounds, in which it
+/// asks the gate, and then releases and acquires the one counter: in odd rounds with handoff, and with lifo.
+/// Then the table is closed with all seats.
 ///
 /// It is an `Err` as [`ThreadsRefused`] says.
 #[tactic(auto, using(crate::proofs::Working::releases_are, crate::proofs::Working::acquires_are, crate::proofs::Working::values_are))]

@@ -3,7 +3,7 @@
 ghost use Rattle.std.specs.Prelude.{Some};
 ghost use Rattle.explorer.specs.ProgressText.{progress_text};
 
-use scenario_search::{Extent, Sink, StopWatch, Watch, write_all};
+use explorer_scenarios::{Extent, Sink, StopWatch, Watch, write_all};
 use std::alloc::Global;
 use std::fmt;
 use std::time::{Clock, Instant};
@@ -32,8 +32,8 @@ impl fmt::Display for Progress {
     }
 }
 
-/// Takes the time of a search, and tells how far it has come where that is asked for: on one line, which it keeps up to date
-/// and takes away at the end. What can't be told is left out.
+/// Takes the time of a search, and tells how far it has come where that is asked for: on one line, which it
+/// keeps up to date and takes away at the end. What can't be told is left out.
 #[derive(Drop)]
 pub struct Ticker<'r, T, E> {
     clock: &'r T,

@@ -1,14 +1,14 @@
 //! The whole program, on its words. The files that they name are opened through the runtime.
 
 ghost use Rattle.std.specs.Prelude.{◌≡◌, IfOk, IsTrue, false};
-ghost use Rattle.program_words.specs.Asked.{IsWithinLimits};
+ghost use Rattle.explorer_words.specs.Asked.{IsWithinLimits};
 ghost use Rattle.explorer.specs.Asked.{HasDone, HasDoneSome};
 
 use crate::answered::scheduled_by;
 use crate::program::{answer_io, beside, fault_text, status_after, tell_beside};
 use crate::ticker::Ticker;
-use program_words::{Asked, FileFault, no_file, read_words};
-use scenario_search::{Exit, Flagged, IoFault, Sink, Source};
+use explorer_scenarios::{Exit, Flagged, IoFault, Sink, Source};
+use explorer_words::{Asked, FileFault, no_file, read_words};
 use std::alloc::Global;
 use std::fs;
 use std::rt::Files;
@@ -54,7 +54,8 @@ fn scheduled<'w, T: Files, R: Source>(
     }
 }
 
-/// Does what is asked, and tells on `err` how far a search has come, where that is asked for, and what is told beside.
+/// Does what is asked, and tells on `err` how far a search has come, where that is asked for, and what is
+/// told beside.
 fn shown_io<T: Threads + Wait + Clock + Sync, R: Source, O: Sink, E: Sink>(
     rt: &T,
     alloc: Global,
@@ -90,7 +91,8 @@ fn opened_io<T: Files + Threads + Wait + Clock + Sync, R: Source, O: Sink, E: Si
     requires readable { R.has_failed reader.old ≡ false }
     requires writable { O.has_failed out.old ≡ false }
     ensures done { HasDoneSome (O.contents out.old) (O.contents out.new) (O.has_failed out.new) result }
-    ensures unread { IsTrue (R.has_failed reader.new) → (result ≡ 2) × (O.contents out.new ≡ O.contents out.old) }
+    ensures unread { IsTrue (R.has_failed reader.new)
+        → (result ≡ 2) × (O.contents out.new ≡ O.contents out.old) }
     ensures cut { IsTrue (O.has_failed out.new) → result ≡ 2 }
 {
     let Some(name) = asked.file() else {
@@ -102,12 +104,13 @@ fn opened_io<T: Files + Threads + Wait + Clock + Sync, R: Source, O: Sink, E: Si
     }
 }
 
-/// Runs the program on its words, without its own name: reads what they ask for, opens the files that they name, writes the
-/// answer to `out`, and tells on `err`, as far as that takes it, what is told beside. The result is the status to end with.
+/// Runs the program on its words, without its own name: reads what they ask for, opens the files that they
+/// name, writes the answer to `out`, and tells on `err`, as far as that takes it, what is told beside. The
+/// result is the status to end with.
 ///
-/// It is 2 where the words ask for no command, where the input, the schedule or one of its steps is refused, where memory
-/// is short, where a file can't be opened, and where a read or a write to `out` fails; 1 where something bad was found, and
-/// 3 where a search gave up.
+/// It is 2 where the words ask for no command, where the input, the schedule or one of its steps is refused,
+/// where memory is short, where a file can't be opened, and where a read or a write to `out` fails; 1 where
+/// something bad was found, and 3 where a search gave up.
 pub fn parklot_io<T: Files + Threads + Wait + Clock + Sync, R: Source, O: Sink, E: Sink>(
     rt: &T,
     alloc: Global,
@@ -119,7 +122,8 @@ pub fn parklot_io<T: Files + Threads + Wait + Clock + Sync, R: Source, O: Sink, 
     requires readable { R.has_failed reader.old ≡ false }
     requires writable { O.has_failed out.old ≡ false }
     ensures done { HasDoneSome (O.contents out.old) (O.contents out.new) (O.has_failed out.new) result }
-    ensures unread { IsTrue (R.has_failed reader.new) → (result ≡ 2) × (O.contents out.new ≡ O.contents out.old) }
+    ensures unread { IsTrue (R.has_failed reader.new)
+        → (result ≡ 2) × (O.contents out.new ≡ O.contents out.old) }
     ensures cut { IsTrue (O.has_failed out.new) → result ≡ 2 }
 {
     let mut room = Vec::new(alloc);

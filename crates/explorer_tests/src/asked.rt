@@ -1,6 +1,6 @@
 //! The program over memory. It is asked once more where memory was refused.
 
-ghost use Rattle.program_words.specs.Asked.{IsWithinLimits};
+ghost use Rattle.explorer_words.specs.Asked.{IsWithinLimits};
 
 use crate::devices::{Calls, Giving, SOUND, Taking};
 use explorer::{Asked, Flagged, NO_MEMORY, StopWatch, asked_io, parklot_io};
@@ -101,7 +101,8 @@ pub(crate) struct Told<'t> {
     pub(crate) helped: bool,
 }
 
-/// Whether the stream has this text, or where it isn't whole, one that begins so. No text stands for nothing else.
+/// Whether the stream has this text, or where it isn't whole, one that begins so. No text stands for nothing
+/// else.
 fn has(stream: &[u8], text: &[u8], whole: bool) -> bool {
     stream == text || !whole && !text.is_empty() && stream.starts_with(text)
 }
@@ -132,7 +133,8 @@ pub(crate) fn tells_over(
     assert!(rt; told.fits(&out, &err, status), "{words:?}");
 }
 
-/// How what stands beside begins: the help of a refusal, what was asked where nothing bad was found, or a seat that failed.
+/// How what stands beside begins: the help of a refusal, what was asked where nothing bad was found, or a
+/// seat that failed.
 fn beginning_beside(told: &str) -> &'static [u8] {
     match told {
         "refused: too long\n" => b"the text has more than 65536 bytes\n",
@@ -144,7 +146,8 @@ fn beginning_beside(told: &str) -> &'static [u8] {
     }
 }
 
-/// This is all that the program tells, on its output, and it ends so. Beside it stands what stands beside such an answer.
+/// This is all that the program tells, on its output, and it ends so. Beside it stands what stands beside
+/// such an answer.
 pub(crate) fn tells(
     rt: &impl Host,
     alloc: Global,

@@ -13,8 +13,8 @@ type Row = (
     u8,
 );
 
-/// What is found in all schedules, or among so many classes. Four seats that each come to five places make 625 worlds; where it
-/// makes no difference who is where, 70 classes.
+/// What is found in all schedules, or among so many classes. Four seats that each come to five places make
+/// 625 worlds; where it makes no difference who is where, 70 classes.
 const FOUND: [Row; 10] = [
     (
         ONE_ACQUIRE,

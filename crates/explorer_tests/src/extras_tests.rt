@@ -15,8 +15,8 @@ type Row = (
     u8,
 );
 
-/// Searches whose worlds were counted by hand: 625 within 16 steps, all but one of them within 15, and 70 where it makes no
-/// difference who of four stands where. Nobody takes the time.
+/// Searches whose worlds were counted by hand: 625 within 16 steps, all but one of them within 15, and 70
+/// where it makes no difference who of four stands where. Nobody takes the time.
 const COUNTED: [Row; 5] = [
     (
         TWO_EACH,
@@ -81,7 +81,8 @@ fn statistics_are_told_beside(rt: HostRuntime) {
     }
 }
 
-/// Counts how often it is told how far a search has come, and then shows that this took a second and a quarter.
+/// Counts how often it is told how far a search has come, and then shows that this took a second and a
+/// quarter.
 #[derive(Drop)]
 struct Listening {
     told: u32,
@@ -99,8 +100,8 @@ impl StopWatch for Listening {
     }
 }
 
-/// Whether who watches a search of 625 worlds is told of it before each of its 17 lengths, and asked how long it took, where
-/// memory isn't short.
+/// Whether who watches a search of 625 worlds is told of it before each of its 17 lengths, and asked how long
+/// it took, where memory isn't short.
 fn is_listened_to(rt: &impl Host, alloc: Global) -> bool {
     let asked = read_words(alloc, &["check", "--stats"]);
     let mut watch = Listening { told: 0 };

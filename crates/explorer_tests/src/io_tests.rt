@@ -1,5 +1,5 @@
-//! `explore` and `replay` as calls, over values and over readers and writers. A call that answers want of memory is made
-//! once more.
+//! `explore` and `replay` as calls, over values and over readers and writers. A call that answers want of
+//! memory is made once more.
 
 use crate::devices::{Calls, Giving, SOUND, Taking};
 use crate::reading::ONE_ACQUIRE;
@@ -93,8 +93,8 @@ fn calls_over_a_reader_and_a_writer_end_so(rt: HostRuntime) {
     }
 }
 
-/// The length of the schedule that is found of the counter with one acquire, which leads to a sleeper: all its steps are of
-/// seat 0. There is none where memory was refused.
+/// The length of the schedule that is found of the counter with one acquire, which leads to a sleeper: all
+/// its steps are of seat 0. There is none where memory was refused.
 fn steps_to_sleep(alloc: Global, variant: Option<Variant>) -> Option<usize> {
     let request = read_scenario(alloc, ONE_ACQUIRE).ok()?;
     let found = match variant {

@@ -2,8 +2,9 @@
 //!
 //! A crate with tests is proved with them and without, and `explorer` is large: so its tests stand here.
 //!
-//! A call that answers want of memory is made once more. So each test passes whichever single allocation is refused
-//! (`rt try --test --fail-alloc N`, for each N), and fails where want of memory is answered without a refusal.
+//! A call that answers want of memory is made once more. So each test passes whichever single allocation is
+//! refused (`rt try --test --fail-alloc N`, for each N), and fails where want of memory is answered without a
+//! refusal.
 #![tactic(auto)]
 
 #[cfg(test)]

@@ -60,7 +60,8 @@ verdict: not bad
 ",
         0,
     ),
-    // the ticket of the seat that parked first is not the least: the least is granted, and nobody is found to wake
+    // the ticket of the seat that parked first is not the least: the least is granted, and nobody is found to
+    // wake
     (
         b"list 0\nseat 0: add 0; wait 0\nseat 1: add 0; wait 0\nseat 2: one 0\nsettled\n",
         "0 1 1 1 1 2 2 2 2 2 2 2 0 0 0",

@@ -1,6 +1,6 @@
 //! The program over its words, and the command `once`.
 
-ghost use Rattle.program_words.specs.Asked.{IsWithinLimits};
+ghost use Rattle.explorer_words.specs.Asked.{IsWithinLimits};
 
 use crate::asked::{ALL_SOUND, Host, Told, answers, ask, is_a_mistake, run, tells, tells_over};
 use explorer::{Asked, FileFault, NO_MEMORY, no_file, no_words, once_text};

@@ -1,6 +1,6 @@
 //! Texts whose requests are known by hand.
 
-use scenario_text::read_scenario;
+use explorer_text::read_scenario;
 use std::alloc::Global;
 use std::process::Abort;
 
@@ -48,7 +48,8 @@ calls: Items { items: [Items { items: [GroupAdd(GroupId(0), -1)] }] } }, propert
     ),
 ];
 
-/// The request of the text, as it is written for those who look for mistakes. There is none where memory was refused.
+/// The request of the text, as it is written for those who look for mistakes. There is none where memory was
+/// refused.
 fn request_text(alloc: Global, text: &[u8]) -> Option<String> {
     let request = read_scenario(alloc, text).ok()?;
     format!(in alloc; "{request:?}").ok()

@@ -1,4 +1,5 @@
-//! Replays of the schedule that stands in an answer, which `--schedule-of` asks for. The gallery has those that read files.
+//! Replays of the schedule that stands in an answer, which `--schedule-of` asks for. The gallery has those
+//! that read files.
 
 use crate::asked::{ALL_SOUND, Devices, Host, Told, is_a_mistake, tells_over};
 use crate::devices::BROKEN;

@@ -28,7 +28,8 @@ fn two_workers_of_three_rounds_are_told(rt: HostRuntime) {
 /// How often one looks for the other's flag.
 const TURNS: u32 = 10_000_000;
 
-/// In round 0 seats 0 and 1 each set a flag, and pass once they see the other's: so workers that run one after the other don't.
+/// In round 0 seats 0 and 1 each set a flag, and pass once they see the other's: so workers that run one
+/// after the other don't.
 #[derive(Drop)]
 struct TwoFlags {
     first: AtomicBool,

@@ -1,11 +1,12 @@
-//! What words ask for, whole: by the `Debug` text of what they ask for, the file that it names, and whether it is watched.
+//! What words ask for, whole: by the `Debug` text of what they ask for, the file that it names, and whether
+//! it is watched.
 
 use explorer::read_words;
 use std::alloc::Global;
 use std::process::Abort;
 
-/// Words, the text of what they ask for, the file that is read in place of standard input, and whether somebody is to be told
-/// how far a search has come.
+/// Words, the text of what they ask for, the file that is read in place of standard input, and whether
+/// somebody is to be told how far a search has come.
 type Row = (
     &'static [&'static str],
     &'static str,
@@ -13,7 +14,8 @@ type Row = (
     bool,
 );
 
-/// Searches. A search that isn't told keeps 2,000,000 worlds, or up to a depth 200,000, and is made by one thread.
+/// Searches. A search that isn't told keeps 2,000,000 worlds, or up to a depth 200,000, and is made by one
+/// thread.
 const SEARCHES: [Row; 7] = [
     (
         &["check"],

@@ -1,8 +1,9 @@
-//! The gallery: each text of `crates/gallery/data` goes through the program, with the words that stand beside it, and what
-//! the program answers is compared with what stands there.
+//! The gallery: each text of `crates/gallery/data` goes through the program, with the words that stand beside
+//! it, and what the program answers is compared with what stands there.
 //!
-//! `NAME.txt` is a scenario, a journal, or an answer whose schedule is replayed. In `NAME.answers` a line that begins
-//! with `$ parklot ` has the words, and the lines after it are what is written, and `exit` with the status.
+//! `NAME.txt` is a scenario, a journal, or an answer whose schedule is replayed. In `NAME.answers` a line
+//! that begins with `$ parklot ` has the words, and the lines after it are what is written, and `exit` with
+//! the status.
 #![tactic(auto)]
 
 use anyhow::Result;

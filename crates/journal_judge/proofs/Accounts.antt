@@ -1,5 +1,6 @@
 -- What the account of a journal says of one entry more.
-use Rattle.std.proofs.Common.{◌≡◌, ℕ, ◌+◌, ◌<◌, ◌≤◌, ◌⊎◌, Bool, true, false, eqb, nat_lt, ◌||◌, List, [], ◌∷◌, ◌++◌, refl, sym, ap, ◌∙◌, inl, inr, eq-eqb, arith}
+use Rattle.std.proofs.Common.{◌≡◌, ℕ, ◌+◌, ◌<◌, ◌≤◌, ◌⊎◌, Bool, true, false, eqb, nat_lt, ◌||◌, List, [], ◌∷◌, ◌++◌, refl, sym, ap, ◌∙◌, inl, inr, eq-eqb}
+use Rattle.std.proofs.Common.{arith}
 use Rattle.std.proofs.lemmas.Bool.{cases_lt, eqb-true, and_parts, and_from, lt-ltb}
 use Rattle.waiters.specs.declared.wait.WaitId.{WaitId}
 use Rattle.step_table.specs.declared.entry.Entry.{Entry}
@@ -7,7 +8,7 @@ use Rattle.step_table.specs.declared.entry.Entry.TheVariants.{Add, AddMany, Take
 use Rattle.step_table.specs.Core.{sema_entries, list_entries}
 use Rattle.step_table.specs.Counting.{same}
 use Rattle.step_table.specs.Journal.{Plain, Budget, replay, effect_of, spent, budget, budget_from, queued}
-use Rattle.list_law.specs.ListLawful as list
+use Rattle.step_law_lists.specs.ListLawful as list
 use Rattle.journal_judge.specs.LawfulJournal.{start_of, plain_after, told_after}
 use Rattle.journal_judge.specs.Account.{account, after, is_same, queues}
 use Rattle.journal_judge.proofs.Entries.{sema_append, list_append, replay_append, list_replay_append, budget_append, queued_append, same_own, same_some}

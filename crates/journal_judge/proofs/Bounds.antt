@@ -5,7 +5,7 @@ use Rattle.std.proofs.Math.ListN.{get_or-eq_default}
 use Rattle.std.proofs.lemmas.Bool.{cases_lt}
 use Rattle.step_table.specs.ListWorld.{Numbers, Took, Granted}
 use Rattle.step_table.proofs.Sums.{put_most}
-use Rattle.list_law.specs.ListLawful as list
+use Rattle.step_law_lists.specs.ListLawful as list
 use Rattle.journal_text.specs.declared.entry.Entry as journal
 use Rattle.journal_text.specs.declared.entry.Entry.TheVariants.{Add, AddMany, Take, Queue, Leave, Ticket, Grant}
 use Rattle.journal_text.specs.JournalLine.{IsShort, HasForm}

@@ -8,7 +8,7 @@ use Rattle.step_table.specs.Counting.{on, same}
 use Rattle.step_table.specs.Journal.{Plain, Budget, effect_of, replay, spent, budget_from, queued, left}
 use Rattle.step_table.specs.ListWorld.{Numbers, ListEntry, Took, Granted}
 use Rattle.step_table.proofs.Sums.{on_here, on_some, on_most}
-use Rattle.list_law.specs.ListLawful as list
+use Rattle.step_law_lists.specs.ListLawful as list
 
 -- ---- the parts
 

@@ -1,5 +1,6 @@
 -- What is told of locks.
-use Rattle.std.proofs.Common.{◌≡◌, ℕ, suc, ◌+◌, ◌<◌, ◌≤◌, Bool, true, false, cond, nat_lt, List, [], ◌∷◌, ◌++◌, length, get_or, take, drop, Option, Some, None, refl, sym, ap, subst, ◌∙◌, below_more, arith}
+use Rattle.std.proofs.Common.{◌≡◌, ℕ, suc, ◌+◌, ◌<◌, ◌≤◌, Bool, true, false, cond, nat_lt, List, [], ◌∷◌, ◌++◌, length, get_or, take, drop, Option, Some, None}
+use Rattle.std.proofs.Common.{refl, sym, ap, subst, ◌∙◌, below_more, arith}
 use Rattle.std.proofs.lemmas.Bool.{ltb-false, ltb-true}
 use Rattle.step_table.specs.declared.entry.Entry.{Entry}
 use Rattle.journal_text.specs.declared.entry.Entry as journal
@@ -10,7 +11,8 @@ use Rattle.journal_judge.specs.declared.lock.LockUse.TheVariants.{Takes}
 use Rattle.journal_judge.specs.declared.lock_rule.LockRule.{LockRule}
 use Rattle.journal_judge.specs.declared.lock_rule.LockRule.TheVariants.{NotHeld, HeldByAnother}
 use Rattle.journal_judge.specs.LawfulJournal.{entry_of, entries_of}
-use Rattle.journal_judge.specs.Locks.{use_of, user_of, holder_after, holder_from, holder_of, BreaksLock, KeepsLock, IsBreachAt, IsToldOfUse, IsLockVerdict, IsKeptBefore, IsFirstOf, earlier}
+use Rattle.journal_judge.specs.Locks.{use_of, user_of, holder_after, holder_from, holder_of, BreaksLock, KeepsLock, IsBreachAt, IsToldOfUse, IsLockVerdict}
+use Rattle.journal_judge.specs.Locks.{IsKeptBefore, IsFirstOf, earlier}
 use Rattle.journal_judge.proofs.Entries.{stands_more}
 use Rattle.journal_judge.proofs.Verdicts.{next, split, front_length}
 

@@ -1,5 +1,6 @@
 -- One more entry keeps a lawful journal lawful exactly where it breaks no rule.
-use Rattle.std.proofs.Common.{◌≡◌, ◌≢◌, ℕ, ◌+◌, ◌<◌, ◌≤◌, ◌⊎◌, Bool, true, false, cond, eqb, List, [], ◌∷◌, ◌++◌, refl, sym, ap, subst, ◌∙◌, inl, inr, eq-eqb, arith}
+use Rattle.std.proofs.Common.{◌≡◌, ◌≢◌, ℕ, ◌+◌, ◌<◌, ◌≤◌, ◌⊎◌, Bool, true, false, cond, eqb, List, [], ◌∷◌, ◌++◌, refl, sym, ap, subst, ◌∙◌, inl, inr, eq-eqb}
+use Rattle.std.proofs.Common.{arith}
 use Rattle.std.proofs.lemmas.List.{append-nil}
 use Rattle.std.proofs.lemmas.Bool.{cases_eq, cases_lt, eqb-true}
 use Rattle.waiters.specs.declared.wait.WaitId.{WaitId}
@@ -9,11 +10,12 @@ use Rattle.step_table.specs.Core.{sema_entries, list_entries}
 use Rattle.step_table.specs.Counting.{same}
 use Rattle.step_table.specs.Journal.{Plain, replay, IsDefined, IsOwned, IsLawful, Owes, budget, queued, left}
 use Rattle.step_table.specs.ListWorld.{ListEntry, Took, Granted}
-use Rattle.list_law.specs.ListLawful as list
+use Rattle.step_law_lists.specs.ListLawful as list
 use Rattle.journal_judge.specs.declared.rule.Rule.TheVariants.{NoUnit, NotFirst, GrantedBefore, NotHandedOut, QueuedTwice, LeftTwice, NoRelease}
 use Rattle.journal_judge.specs.LawfulJournal.{start_of, IsLawfulJournal, plain_after, told_after}
 use Rattle.journal_judge.specs.Rules.{BreaksNone, TheRules}
-use Rattle.journal_judge.proofs.Entries.{sema_append, list_append, queued_append, left_append, same_own, same_some, same_most, stands_more, stands_front, stands_last}
+use Rattle.journal_judge.proofs.Entries.{sema_append, list_append, queued_append, left_append, same_own, same_some, same_most, stands_more, stands_front}
+use Rattle.journal_judge.proofs.Entries.{stands_last}
 
 -- an entry stands where it may
 abbrev pub Stands : Plain → Entry → List Entry → Type 0

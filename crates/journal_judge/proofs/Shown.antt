@@ -1,5 +1,6 @@
 -- What a ledger shows after a change.
-use Rattle.std.proofs.Common.{Result, Ok, Err, ◌≡◌, ℕ, zero, suc, ◌-◌, ◌<◌, ◌⊎◌, List, [], ◌∷◌, ◌++◌, Bool, true, false, cond, eqb, ◌||◌, map, length, get_or, set, Option, Some, refl, sym, ap, subst, ◌∙◌, inl, inr, eq-eqb, ne_eqb, arith}
+use Rattle.std.proofs.Common.{Result, Ok, Err, ◌≡◌, ℕ, zero, suc, ◌-◌, ◌<◌, ◌⊎◌, List, [], ◌∷◌, ◌++◌, Bool, true, false, cond, eqb, ◌||◌, map, length, get_or}
+use Rattle.std.proofs.Common.{set, Option, Some, refl, sym, ap, subst, ◌∙◌, inl, inr, eq-eqb, ne_eqb, arith}
 use Rattle.std.proofs.lemmas.List.{map_push, get_or-set_same, get_or-set_other}
 use Rattle.std.specs.Prelude.{OnOk}
 use Rattle.std.proofs.lemmas.Bool.{cases_eq}
@@ -9,7 +10,7 @@ use Rattle.step_table.specs.Journal.{spent}
 use Rattle.step_table.specs.ListWorld.{ListEntry}
 use Rattle.step_table.specs.World.{put, insert_wait}
 use Rattle.step_table.proofs.Sums.{put_here, put_else}
-use Rattle.list_law.specs.ListLawful as list
+use Rattle.step_law_lists.specs.ListLawful as list
 use Rattle.journal_text.specs.declared.entry.Wait.{Wait}
 use Rattle.journal_judge.specs.declared.budget.Budget.{Budget}
 use Rattle.journal_judge.specs.declared.tickets.Tickets.{Tickets}

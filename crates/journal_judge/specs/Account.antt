@@ -1,5 +1,6 @@
 -- What the judge keeps of the entries that it has seen.
-use Rattle.std.specs.Prelude.{◌≢◌, ℕ, ◌+◌, ◌<◌, ◌^◌, ◌==◌, Bool, false, cond, nat_lt, ◌&&◌, ◌||◌, List, [], ◌∷◌, Option, Some, None}
+use Rattle.std.specs.Prelude.{◌≢◌, ℕ, ◌+◌, ◌<◌, ◌^◌, ◌==◌, Bool, false, cond, nat_lt, ◌&&◌, ◌||◌, List, []}
+use Rattle.std.specs.Prelude.{◌∷◌, Option, Some, None}
 use Rattle.waiters.specs.declared.wait.WaitId.{WaitId}
 use Rattle.step_table.specs.declared.entry.Entry.{Entry}
 use Rattle.step_table.specs.declared.entry.Entry.TheVariants.{Take, Queue, Leave, Grant}
@@ -7,12 +8,14 @@ use Rattle.step_table.specs.Core.{sema_entries, list_entries}
 use Rattle.step_table.specs.Journal.{Budget, numbered, spent, budget, queued}
 use Rattle.step_table.specs.ListWorld.{Numbers}
 use Rattle.step_table.specs.World.{listed}
-use Rattle.list_law.specs.ListLawful as list
+use Rattle.step_law_lists.specs.ListLawful as list
 use Rattle.journal_judge.specs.declared.rule.Rule.{Rule}
-use Rattle.journal_judge.specs.declared.rule.Rule.TheVariants.{NoUnit, NotFirst, GrantedBefore, NotHandedOut, QueuedTwice, NoRelease}
+use Rattle.journal_judge.specs.declared.rule.Rule.TheVariants.{NoUnit, NotFirst, GrantedBefore, NotHandedOut}
+use Rattle.journal_judge.specs.declared.rule.Rule.TheVariants.{QueuedTwice, NoRelease}
 use Rattle.journal_judge.specs.LawfulJournal.{plain_after, told_after}
 
--- numbers and lists of the counters, tickets of the lists, what each seat may still let out, which waits were queued
+-- numbers and lists of the counters, tickets of the lists, what each seat may still let out, which waits were
+-- queued
 pub record Account : Type 0 where
   pub numbers : ℕ → ℕ
   pub lists : ℕ → List WaitId

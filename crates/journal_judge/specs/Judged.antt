@@ -3,7 +3,8 @@ use Rattle.std.specs.Prelude.{◌≡◌, ℕ, true, length, vec_len, Some, None}
 use Rattle.journal_text.specs.declared.journal.Journal.{Journal}
 use Rattle.journal_judge.specs.declared.judgement.Demands.{Demands}
 use Rattle.journal_judge.specs.declared.judgement.Judgement.{Judgement}
-use Rattle.journal_judge.specs.declared.judgement.Judgement.TheVariants.{Lawful, Unlawful, Misheld, LeftAsleep}
+use Rattle.journal_judge.specs.declared.judgement.Judgement.TheVariants.{Lawful, Unlawful, Misheld}
+use Rattle.journal_judge.specs.declared.judgement.Judgement.TheVariants.{LeftAsleep}
 use Rattle.journal_judge.specs.declared.judging.Replayed.{Replayed}
 use Rattle.journal_judge.specs.declared.judging.Replayed.TheVariants as replayed
 use Rattle.journal_judge.specs.declared.ledger.Ledger.{Ledger}
@@ -26,16 +27,20 @@ LeavesNone j = (c : ℕ) → LeavesAsleep j c → ⊥
 abbrev pub KeepsLocks : Journal → Demands → Type 0
 KeepsLocks j demands = IsFirstOf j demands.locks.items (length demands.locks.items) None
 
--- first the law is judged, of a lawful journal its locks, and where they are kept, and that is asked for, who is left asleep
+-- first the law is judged, of a lawful journal its locks, and where they are kept, and that is asked for, who
+-- is left asleep
 abbrev pub IsJudgementOf : Journal → Demands → Judgement → Type 0
 IsJudgementOf j demands Lawful =
-    IsLawfulJournal j.starts (entries_of j.entries) × KeepsLocks j demands × (demands.settled ≡ true → LeavesNone j)
+    IsLawfulJournal j.starts (entries_of j.entries) × KeepsLocks j demands
+    × (demands.settled ≡ true → LeavesNone j)
 IsJudgementOf j demands (Unlawful line rule) = IsVerdictOf j (verdict.Unlawful line rule)
 IsJudgementOf j demands (Misheld line rule) =
     IsLawfulJournal j.starts (entries_of j.entries)
-    × IsFirstOf j demands.locks.items (length demands.locks.items) (Some (record { line = line; rule = rule }))
+    × IsFirstOf j demands.locks.items (length demands.locks.items)
+    (Some (record { line = line; rule = rule }))
 IsJudgementOf j demands (LeftAsleep c) =
-    IsLawfulJournal j.starts (entries_of j.entries) × KeepsLocks j demands × (demands.settled ≡ true) × LeavesAsleep j c
+    IsLawfulJournal j.starts (entries_of j.entries) × KeepsLocks j demands × (demands.settled ≡ true)
+    × LeavesAsleep j c
 
 -- the ledger shows the account of a lawful journal
 pub record IsLedgerOf (j : Journal) (ledger : Ledger) : Type 0 where

@@ -6,7 +6,7 @@ use Rattle.step_table.specs.declared.entry.Entry.TheVariants.{Add, AddMany, Take
 use Rattle.step_table.specs.Core.{sema_entries, list_entries}
 use Rattle.step_table.specs.Journal.{Plain, plain_start, replay, IsLawful}
 use Rattle.step_table.specs.ListWorld.{Numbers}
-use Rattle.list_law.specs.ListLawful.{told, Follows}
+use Rattle.step_law_lists.specs.ListLawful.{told, Follows}
 use Rattle.journal_text.specs.declared.entry.Wait.{Wait}
 use Rattle.journal_text.specs.declared.entry.Entry as journal
 use Rattle.journal_text.specs.declared.entry.Entry.TheVariants as text

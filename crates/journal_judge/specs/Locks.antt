@@ -1,5 +1,7 @@
--- When a counter of a journal is a lock: between what a seat takes and what is added next no other seat adds or takes.
-use Rattle.std.specs.Prelude.{◌≡◌, ◌≢◌, ℕ, ◌+◌, ◌<◌, ◌==◌, cond, nat_lt, List, [], ◌∷◌, ◌++◌, length, slice_index, Option, Some, None}
+-- When a counter of a journal is a lock: between what a seat takes and what is added next no other seat adds
+-- or takes.
+use Rattle.std.specs.Prelude.{◌≡◌, ◌≢◌, ℕ, ◌+◌, ◌<◌, ◌==◌, cond, nat_lt, List, [], ◌∷◌, ◌++◌, length}
+use Rattle.std.specs.Prelude.{slice_index, Option, Some, None}
 use Rattle.step_table.specs.declared.entry.Entry.{Entry}
 use Rattle.step_table.specs.declared.entry.Entry.TheVariants.{Add, AddMany, Take}
 use Rattle.journal_text.specs.declared.journal.Journal.{Journal}
@@ -76,7 +78,8 @@ IsLockVerdict j lock (Some breach) = IsBreachAt j lock breach.line breach.rule
 abbrev pub IsKeptBefore : Journal → ℕ → ℕ → Type 0
 IsKeptBefore j lock line = (at : ℕ) (rule : LockRule) → at < line → IsBreachAt j lock at rule → ⊥
 
--- what is told of the first so many of these locks: each is kept; or one is broken at this line, and none before it
+-- what is told of the first so many of these locks: each is kept; or one is broken at this line, and none
+-- before it
 abbrev pub IsFirstOf : Journal → List ℕ → ℕ → Option Breach → Type 0
 IsFirstOf j locks count None = (k : ℕ) → k < count → KeepsLock (slice_index locks k) (entries_of j.entries)
 IsFirstOf j locks count (Some breach) =

@@ -7,14 +7,15 @@ use Rattle.step_table.specs.Core.{sema_entries}
 use Rattle.step_table.specs.Journal.{Owes, queued, left}
 use Rattle.journal_text.specs.declared.journal.Journal.{Journal}
 use Rattle.journal_judge.specs.declared.rule.Rule.{Rule}
-use Rattle.journal_judge.specs.declared.rule.Rule.TheVariants.{NoUnit, NotFirst, GrantedBefore, NotHandedOut, QueuedTwice, LeftTwice, NoRelease}
+use Rattle.journal_judge.specs.declared.rule.Rule.TheVariants.{NoUnit, NotFirst, GrantedBefore, NotHandedOut}
+use Rattle.journal_judge.specs.declared.rule.Rule.TheVariants.{QueuedTwice, LeftTwice, NoRelease}
 use Rattle.journal_judge.specs.declared.verdict.Verdict.{Verdict}
 use Rattle.journal_judge.specs.declared.verdict.Verdict.TheVariants.{Lawful, Unlawful}
 use Rattle.journal_judge.specs.LawfulJournal.{entries_of, IsLawfulJournal, plain_after, told_after}
 
--- the entry breaks the rule behind those before it: a unit is taken where there is none; the wait that leaves isn't the
--- first of its counter; no more is granted than was, or more than was handed out; the wait was queued before, or has left;
--- the seat's last release wasn't of this counter, or none of its units is left
+-- the entry breaks the rule behind those before it: a unit is taken where there is none; the wait that leaves
+-- isn't the first of its counter; no more is granted than was, or more than was handed out; the wait was
+-- queued before, or has left; the seat's last release wasn't of this counter, or none of its units is left
 abbrev pub Breaks : Rule → List ℕ → List Entry → Entry → Type 0
 Breaks NoUnit starts before (Take c s) = (plain_after starts before).numbers c ≡ 0
 Breaks NotFirst starts before (Leave c w s) = (l : List WaitId) → (plain_after starts before).lists c ≢ w ∷ l
@@ -50,7 +51,8 @@ TheRules =
     (starts : List ℕ) (before : List Entry) (entry : Entry) → IsLawfulJournal starts before
     → IsLawfulJournal starts (before ++ (entry ∷ [])) ↔ BreaksNone starts before entry
 
--- the journal's entry at this line is the first that no lawful journal can have there, and breaks this rule first
+-- the journal's entry at this line is the first that no lawful journal can have there, and breaks this rule
+-- first
 pub record IsUnlawfulAt (j : Journal) (line : ℕ) (rule : Rule) : Type 0 where
   pub before : List Entry
   pub entry : Entry

@@ -6,7 +6,8 @@ use Rattle.journal_judge.specs.declared.judgement.Judgement.TheVariants as judge
 use Rattle.journal_judge.specs.declared.lock_rule.LockRule.{LockRule}
 use Rattle.journal_judge.specs.declared.lock_rule.LockRule.TheVariants.{NotHeld, HeldByAnother}
 use Rattle.journal_judge.specs.declared.rule.Rule.{Rule}
-use Rattle.journal_judge.specs.declared.rule.Rule.TheVariants.{NoUnit, NotFirst, GrantedBefore, NotHandedOut, QueuedTwice, LeftTwice, NoRelease}
+use Rattle.journal_judge.specs.declared.rule.Rule.TheVariants.{NoUnit, NotFirst, GrantedBefore, NotHandedOut}
+use Rattle.journal_judge.specs.declared.rule.Rule.TheVariants.{QueuedTwice, LeftTwice, NoRelease}
 use Rattle.journal_judge.specs.declared.verdict.Verdict.{Verdict}
 use Rattle.journal_judge.specs.declared.verdict.Verdict.TheVariants.{Lawful, Unlawful}
 
@@ -23,7 +24,8 @@ rule_text NoRelease = codes "no release"
 -- the whole answer, without the byte that ends its line
 abbrev pub verdict_text : Verdict → List ℕ
 verdict_text Lawful = codes "lawful"
-verdict_text (Unlawful line rule) = codes "unlawful: line " ++ (decimal line ++ (codes ": " ++ rule_text rule))
+verdict_text (Unlawful line rule) =
+    codes "unlawful: line " ++ (decimal line ++ (codes ": " ++ rule_text rule))
 
 abbrev pub lock_rule_text : LockRule → List ℕ
 lock_rule_text NotHeld = codes "not held"
@@ -32,6 +34,8 @@ lock_rule_text HeldByAnother = codes "held by another"
 -- the whole answer where more is asked than the law
 abbrev pub judgement_text : Judgement → List ℕ
 judgement_text judged.Lawful = codes "lawful"
-judgement_text (judged.Unlawful line rule) = codes "unlawful: line " ++ (decimal line ++ (codes ": " ++ rule_text rule))
-judgement_text (judged.Misheld line rule) = codes "unlawful: line " ++ (decimal line ++ (codes ": " ++ lock_rule_text rule))
+judgement_text (judged.Unlawful line rule) =
+    codes "unlawful: line " ++ (decimal line ++ (codes ": " ++ rule_text rule))
+judgement_text (judged.Misheld line rule) =
+    codes "unlawful: line " ++ (decimal line ++ (codes ": " ++ lock_rule_text rule))
 judgement_text (judged.LeftAsleep counter) = codes "left asleep: counter " ++ decimal counter

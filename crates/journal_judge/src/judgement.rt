@@ -21,7 +21,8 @@ pub struct Demands {
 pub enum Judgement {
     /// It is all that is asked.
     Lawful,
-    /// The first line, counted from 1, that no lawful journal can have there, and the first rule that it breaks.
+    /// The first line, counted from 1, that no lawful journal can have there, and the first rule that it
+    /// breaks.
     Unlawful { line: usize, rule: Rule },
     /// It is lawful, and this is its first line that breaks a rule of a lock.
     Misheld { line: usize, rule: LockRule },

@@ -42,8 +42,8 @@ fn replay(alloc: Global, journal: &Journal) -> Result<Replayed, NoMemory>
     Ok(Replayed::Lawful(ledger))
 }
 
-/// Whether the journal is lawful, or its first line that no lawful journal can have there, with the first rule that it
-/// breaks.
+/// Whether the journal is lawful, or its first line that no lawful journal can have there, with the first
+/// rule that it breaks.
 ///
 /// A journal that was read is sound. It is an `Err` only where a growth was refused.
 pub fn judge(alloc: Global, journal: &Journal) -> Result<Verdict, NoMemory>
@@ -56,9 +56,9 @@ pub fn judge(alloc: Global, journal: &Journal) -> Result<Verdict, NoMemory>
     })
 }
 
-/// Whether the journal is all that is asked of it. First it is to be lawful; then each of its locks is to be held by one seat
-/// at a time, which brings back what it took; and at last, where that is asked for, nobody is to be left asleep beside a
-/// unit.
+/// Whether the journal is all that is asked of it. First it is to be lawful; then each of its locks is to be
+/// held by one seat at a time, which brings back what it took; and at last, where that is asked for, nobody
+/// is to be left asleep beside a unit.
 ///
 /// A journal that was read is sound. It is an `Err` only where a growth was refused.
 pub fn judge_by(alloc: Global, journal: &Journal, demands: &Demands) -> Result<Judgement, NoMemory>

@@ -1,10 +1,12 @@
 //! What the judge keeps of the entries that it has seen.
 
-ghost use Rattle.std.specs.Prelude.{◌≡◌, ◌<◌, ◌+◌, ◌^◌, ℕ, Bool, [], length, OnOk, IfOk, MatchOption, slice_index, slice_index_or, vec_len};
+ghost use Rattle.std.specs.Prelude.{◌≡◌, ◌<◌, ◌+◌, ◌^◌, ℕ, Bool, [], length, OnOk, IfOk, MatchOption};
+ghost use Rattle.std.specs.Prelude.{slice_index, slice_index_or, vec_len};
 ghost use Rattle.waiters.specs.declared.wait.WaitId.{WaitId};
 ghost use Rattle.step_table.specs.declared.entry.Entry.TheVariants as law;
 ghost use Rattle.journal_judge.specs.LawfulJournal.{entry_of, wait_of};
-ghost use Rattle.journal_judge.specs.Account.{HasRoom, IsAsleepBeside, account, after, first_broken, has_unit};
+ghost use Rattle.journal_judge.specs.Account.{HasRoom, IsAsleepBeside, account, after, first_broken};
+ghost use Rattle.journal_judge.specs.Account.{has_unit};
 ghost use Rattle.journal_judge.specs.Shown.{HasSizesOf, IsReady, none_told, shown};
 
 use crate::budget::Budget;
@@ -15,7 +17,8 @@ use journal_text::{Entry, Wait};
 use std::alloc::{AllocError, Global};
 use std::collections::{HashMap, HashSet};
 
-/// Numbers and lists of the counters, tickets of the lists, what each seat may still let out, which waits were queued.
+/// Numbers and lists of the counters, tickets of the lists, what each seat may still let out, which waits
+/// were queued.
 #[derive(Drop)]
 pub(crate) struct Ledger {
     pub(crate) numbers: Vec<u128>,
@@ -98,7 +101,8 @@ impl Ledger {
     fn add(&mut self, counter: usize, seat: u128, units: u128) -> Result<(), AllocError>
         requires counter { counter < vec_len self.old.numbers }
         requires room { slice_index self.old.numbers.items counter + units < 2 ^ 128 }
-        ensures shown { OnOk result (shown self.new ≡ after (shown self.old) (law.AddMany counter units seat)) }
+        ensures shown { OnOk result
+            (shown self.new ≡ after (shown self.old) (law.AddMany counter units seat)) }
         ensures sizes { HasSizesOf self.old self.new }
     {
         self.numbers[counter] += units;
@@ -118,7 +122,8 @@ impl Ledger {
     /// The wait was queued.
     fn queue(&mut self, counter: usize, wait: Wait, lifo: bool) -> Result<(), AllocError>
         requires { counter < vec_len self.old.queues }
-        ensures shown { OnOk result (shown self.new ≡ after (shown self.old) (law.Queue counter (wait_of wait) lifo)) }
+        ensures shown { OnOk result
+            (shown self.new ≡ after (shown self.old) (law.Queue counter (wait_of wait) lifo)) }
         ensures sizes { HasSizesOf self.old self.new }
     {
         self.queues[counter].insert(wait, lifo)?;
@@ -273,7 +278,8 @@ impl Ledger {
     /// The first counter that has a unit and on which a wait is queued.
     pub(crate) fn left_asleep(&self) -> Option<usize>
         requires { vec_len self.now.queues ≡ vec_len self.now.numbers }
-        ensures { MatchOption result ((c : ℕ) → IsAsleepBeside (shown self.now) c → ⊥) (IsAsleepBeside (shown self.now)) }
+        ensures { MatchOption result ((c : ℕ) → IsAsleepBeside (shown self.now) c → ⊥)
+            (IsAsleepBeside (shown self.now)) }
     {
         for (counter, number) in self.numbers.iter().enumerate() {
             if *number > 0 && !self.queues[counter].is_empty() {

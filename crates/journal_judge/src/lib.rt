@@ -1,11 +1,11 @@
 //! The judge of a journal: whether what an instrumented lock or runtime told is what a lawful one may tell.
 //!
-//! [`judge`] answers that a journal is lawful, or its first line that no lawful journal can have there, with the first
-//! rule that it breaks. What is lawful is the laws' own definition; that one more entry keeps a lawful journal lawful
-//! exactly where it breaks none of the rules is [`law_of_the_rules`].
+//! [`judge`] answers that a journal is lawful, or its first line that no lawful journal can have there, with
+//! the first rule that it breaks. What is lawful is the laws' own definition; that one more entry keeps a
+//! lawful journal lawful exactly where it breaks none of the rules is [`law_of_the_rules`].
 //!
-//! That says nothing of who takes a unit and who brings it back. [`judge_by`] asks more where that is demanded: that counters are
-//! locks, and that nobody is left asleep beside a unit.
+//! That says nothing of who takes a unit and who brings it back. [`judge_by`] asks more where that is
+//! demanded: that counters are locks, and that nobody is left asleep beside a unit.
 #![tactic(auto)]
 
 mod budget;

@@ -3,7 +3,8 @@ ghost use Rattle.journal_judge.specs.Texts.{lock_rule_text};
 
 use std::fmt;
 
-/// What an entry of a lock may break: of a counter whose unit one seat takes and brings back, and then the next.
+/// What an entry of a lock may break: of a counter whose unit one seat takes and brings back, and then the
+/// next.
 #[derive(Clone, Copy, Debug, PartialEq, Eq, Drop)]
 pub enum LockRule {
     /// A unit is added, and no seat holds the lock.

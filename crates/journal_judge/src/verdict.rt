@@ -9,7 +9,8 @@ use std::fmt;
 pub enum Verdict {
     /// It is lawful.
     Lawful,
-    /// The first line, counted from 1, that no lawful journal can have there, and the first rule that it breaks.
+    /// The first line, counted from 1, that no lawful journal can have there, and the first rule that it
+    /// breaks.
     Unlawful { line: usize, rule: Rule },
 }
 

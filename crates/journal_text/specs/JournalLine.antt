@@ -3,7 +3,8 @@ use Rattle.std.specs.Prelude.{ℕ, ◌<◌, ◌^◌, Bool, true, false, List, []
 use Rattle.std.specs.Fmt.{decimal}
 use Rattle.journal_text.specs.declared.entry.Wait.{Wait}
 use Rattle.journal_text.specs.declared.entry.Entry.{Entry}
-use Rattle.journal_text.specs.declared.entry.Entry.TheVariants.{Add, AddMany, Take, Queue, Leave, Ticket, Grant}
+use Rattle.journal_text.specs.declared.entry.Entry.TheVariants.{Add, AddMany, Take, Queue, Leave, Ticket}
+use Rattle.journal_text.specs.declared.entry.Entry.TheVariants.{Grant}
 use Rattle.journal_text.specs.declared.line.Line.{Line}
 use Rattle.journal_text.specs.declared.line.Line.TheVariants.{Counter, List as NotifyList, Entry as Tells}
 

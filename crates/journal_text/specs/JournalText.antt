@@ -16,7 +16,8 @@ with_line j (Counter start) = record j { starts = j.starts ++ (start ∷ []); he
 with_line j (NotifyList first) = record j { lists = j.lists + 1; heads = j.heads + 1 }
 with_line j (Tells entry) = record j { entries = j.entries ++ (entry ∷ []) }
 
--- the line may come behind this journal: a head line stands before all entries, and an entry names what is declared
+-- the line may come behind this journal: a head line stands before all entries, and an entry names what is
+-- declared
 abbrev pub MayFollow : Journal → Line → Type 0
 MayFollow j (Counter start) = IsShort start × (j.entries ≡ [])
 MayFollow j (NotifyList first) = IsShort first × (j.entries ≡ [])

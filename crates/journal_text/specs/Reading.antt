@@ -94,7 +94,8 @@ IsIndexedTwo count keyword first second end =
 abbrev pub IsIndexedThree : ℕ → List ℕ → List ℕ → List ℕ → List ℕ → List ℕ → List ℕ
     → ℕ × (ℕ × (ℕ × ℕ)) → Type 0
 IsIndexedThree count keyword first second third end =
-    IsSpelled (λ z. IsOneOf count z.0 × AreThree z.1) (with_number keyword (three_text first second third end))
+    IsSpelled (λ z. IsOneOf count z.0 × AreThree z.1)
+    (with_number keyword (three_text first second third end))
 
 -- the text spells this entry, of so many counters and lists
 abbrev pub IsEntryOf : ℕ → ℕ → List ℕ → Entry → Type 0

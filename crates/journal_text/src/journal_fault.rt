@@ -8,8 +8,8 @@ use std::fmt;
 /// Why a text makes no journal.
 #[derive(Clone, Copy, Debug, PartialEq, Eq, Drop)]
 pub enum JournalFault {
-    /// The first line, counted from 1, that is spelled as no line, names what isn't declared, or is a head line
-    /// behind an entry.
+    /// The first line, counted from 1, that is spelled as no line, names what isn't declared, or is a head
+    /// line behind an entry.
     Form { line: usize },
     /// A growth was refused while the text was read.
     NoMemory,

@@ -1,7 +1,7 @@
 -- Which words load, store, swap and add.
 use Rattle.std.proofs.Common.{◌≡◌, ℕ, List, [], ◌∷◌, Option, Some, None, refl, ap, ◌∙◌}
-use Rattle.scenario_text.specs.Phrases.{ReadsAs}
-use Rattle.scenario_text.proofs.Parts.{nothing, one as one_of, found, only, none}
+use Rattle.explorer_text.specs.Phrases.{ReadsAs}
+use Rattle.explorer_text.proofs.Parts.{nothing, one as one_of, found, only, none}
 use Rattle.lock_text.specs.declared.reader.verb.Verb.TheVariants as verb
 use Rattle.lock_text.specs.declared.words.Operand.{Operand}
 use Rattle.lock_text.specs.declared.words.Place.{Place}

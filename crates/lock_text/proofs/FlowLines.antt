@@ -1,7 +1,7 @@
 -- Which words make no step.
 use Rattle.std.proofs.Common.{◌≡◌, ℕ, List, [], ◌∷◌, Some, None, refl, ap, ◌∙◌}
-use Rattle.scenario_text.specs.Phrases.{ReadsAs}
-use Rattle.scenario_text.proofs.Parts.{nothing, one as one_of, found, only, none}
+use Rattle.explorer_text.specs.Phrases.{ReadsAs}
+use Rattle.explorer_text.proofs.Parts.{nothing, one as one_of, found, only, none}
 use Rattle.lock_lines.specs.declared.operator.Operator.{Operator}
 use Rattle.lock_lines.specs.declared.relation.Relation.{Relation}
 use Rattle.lock_text.specs.declared.reader.verb.Verb.TheVariants as verb

@@ -1,10 +1,10 @@
 -- What is wrong with one line.
 use Rattle.std.proofs.Common.{◌≡◌, true, false, Some, None, Err, Ok, inl, inr, refl, sym, subst}
 use Rattle.std.specs.List.{list_all}
-use Rattle.scenario_text.specs.Causes.{is_printable}
-use Rattle.scenario_text.specs.Phrases.{ReadsAs}
-use Rattle.scenario_text.specs.Pieces.{Piece}
-use Rattle.scenario_text.proofs.Parts.{found, only, none}
+use Rattle.explorer_text.specs.Causes.{is_printable}
+use Rattle.explorer_text.specs.Phrases.{ReadsAs}
+use Rattle.explorer_text.specs.Pieces.{Piece}
+use Rattle.explorer_text.proofs.Parts.{found, only, none}
 use Rattle.lock_text.specs.declared.fault.Cause.TheVariants.{Form}
 use Rattle.lock_text.specs.declared.lines.Line.{Line}
 use Rattle.lock_text.specs.Lines.{Says}

@@ -1,8 +1,8 @@
 -- Which words call the sleeping layer, or leave a section.
 use Rattle.std.proofs.Common.{◌≡◌, ℕ, List, [], ◌∷◌, true, false, Some, None, refl, ap, ◌∙◌}
 use Rattle.std.specs.Prelude.{codes}
-use Rattle.scenario_text.specs.Phrases.{ReadsAs}
-use Rattle.scenario_text.proofs.Parts.{nothing, one as one_of, found, only, none}
+use Rattle.explorer_text.specs.Phrases.{ReadsAs}
+use Rattle.explorer_text.proofs.Parts.{nothing, one as one_of, found, only, none}
 use Rattle.lock_text.specs.declared.reader.keyword.Lifo.{Lifo as LifoWord}
 use Rattle.lock_text.specs.declared.reader.keyword.Handoff.{Handoff as HandoffWord}
 use Rattle.lock_text.specs.declared.reader.keyword.Many.{Many as ManyWord}

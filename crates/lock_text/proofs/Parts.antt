@@ -1,7 +1,7 @@
 -- What so many words are, one after the other.
 use Rattle.std.proofs.Common.{◌≡◌, ℕ, ◌<◌, List, [], ◌∷◌, length, get_or, Some, Bor, refl, subst, arith}
-use Rattle.scenario_text.specs.Phrases.{ReadsAs}
-use Rattle.scenario_text.proofs.Parts.{one as one_of, found, only}
+use Rattle.explorer_text.specs.Phrases.{ReadsAs}
+use Rattle.explorer_text.proofs.Parts.{one as one_of, found, only}
 use Rattle.lock_text.specs.Words.{texts}
 use Rattle.lock_text.specs.Shapes.{AreFour}
 

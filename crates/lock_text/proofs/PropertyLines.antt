@@ -1,7 +1,7 @@
 -- Which words say what must hold.
 use Rattle.std.proofs.Common.{◌≡◌, ℕ, List, [], ◌∷◌, true, Some, None, refl, ap, subst, ◌∙◌}
-use Rattle.scenario_text.specs.Phrases.{ReadsAs}
-use Rattle.scenario_text.proofs.Parts.{nothing, one as one_of, found, only, none}
+use Rattle.explorer_text.specs.Phrases.{ReadsAs}
+use Rattle.explorer_text.proofs.Parts.{nothing, one as one_of, found, only, none}
 use Rattle.lock_lines.specs.declared.relation.Relation.{Relation}
 use Rattle.lock_text.specs.declared.reader.verb.Verb.TheVariants as verb
 use Rattle.lock_text.specs.declared.words.Number.{Number}

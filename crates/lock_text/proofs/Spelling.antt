@@ -1,5 +1,6 @@
 -- How the words of a line are found, and what one word is.
-use Rattle.std.proofs.Common.{◌≡◌, ◌≢◌, ℕ, zero, suc, ◌^◌, ◌<◌, Bool, true, false, cond, not, eqb, List, [], ◌∷◌, ◌++◌, length, get_or, Option, Some, None, Bor, refl, sym, ap, subst, ◌∙◌, append_assoc, ne_eqb, arith, inr}
+use Rattle.std.proofs.Common.{◌≡◌, ◌≢◌, ℕ, zero, suc, ◌^◌, ◌<◌, Bool, true, false, cond, not, eqb, List, [], ◌∷◌, ◌++◌, length, get_or, Option, Some, None, Bor}
+use Rattle.std.proofs.Common.{refl, sym, ap, subst, ◌∙◌, append_assoc, ne_eqb, arith, inr}
 use Rattle.std.specs.Prelude.{codes, ◌&&◌, nat_lt}
 use Rattle.std.specs.List.{list_all}
 use Rattle.std.specs.Str.{bytes_eq}
@@ -8,15 +9,16 @@ use Rattle.std.proofs.lemmas.Slice.Eq.{bytes_eq-Decides}
 use Rattle.std.proofs.lemmas.List.{append_cancel_left, append_cancel_right, append-nil}
 use Rattle.std.proofs.lemmas.Str.Parse.{digit_at}
 use Rattle.std.proofs.lemmas.Str.Pattern.{IsSplitOnceResult, split_after, split_parts}
-use Rattle.scenario_text.specs.Phrases.{ReadsAs, IsNumber}
-use Rattle.scenario_text.proofs.Numbers.{decimal_digits, first_decimal}
-use Rattle.scenario_text.proofs.Parts.{nothing, one, found, only, none, lacks}
+use Rattle.explorer_text.specs.Phrases.{ReadsAs, IsNumber}
+use Rattle.explorer_text.proofs.Numbers.{decimal_digits, first_decimal}
+use Rattle.explorer_text.proofs.Parts.{nothing, one, found, only, none, lacks}
 use Rattle.lock_text.specs.declared.words.Number.{Number}
 use Rattle.lock_text.specs.declared.words.Number.TheVariants.{Plus, Minus}
 use Rattle.lock_text.specs.declared.words.Operand.{Operand}
 use Rattle.lock_text.specs.declared.words.Operand.TheVariants as operand
 use Rattle.lock_text.specs.declared.words.Place.{Place}
-use Rattle.lock_text.specs.Words.{without_comment, put, parts_of, not_empty, is_letter, is_inside, are_inside, is_plain, IsNameText, IsName, number_text, HasNumberForm, IsNumberWord, operand_text, HasOperandForm, IsOperand, index_text, HasIndexForm, IsPlace}
+use Rattle.lock_text.specs.Words.{without_comment, put, parts_of, not_empty, is_letter, is_inside, are_inside, is_plain, IsNameText, IsName, number_text}
+use Rattle.lock_text.specs.Words.{HasNumberForm, IsNumberWord, operand_text, HasOperandForm, IsOperand, index_text, HasIndexForm, IsPlace}
 
 abbrev pub Lacks : ℕ → List ℕ → Type 0
 Lacks c xs = (i : ℕ) → i < length xs → get_or xs i 0 ≢ c

@@ -6,10 +6,10 @@ use Rattle.lock_text.specs.declared.fault.Cause.{Cause}
 use Rattle.lock_text.specs.declared.fault.Cause.TheVariants.{NoMemory}
 use Rattle.lock_text.specs.declared.fault.ReadFault.{ReadFault}
 use Rattle.lock_text.specs.declared.lines.Line.{Line}
-use Rattle.scenario_text.specs.Pieces.{Piece, pieces}
+use Rattle.explorer_text.specs.Pieces.{Piece, pieces}
 use Rattle.lock_text.specs.Causes.{Holds, IsFirst, HoldsNone, IsFault, IsReadable, causes}
 use Rattle.lock_text.specs.Text.{AreRight, AreLinesOf, IsFirstFault, IsFaultOf, IsReached}
-use Rattle.scenario_text.specs.Reader.{IsOnly, IsNone}
+use Rattle.explorer_text.specs.Reader.{IsOnly, IsNone}
 use Rattle.lock_text.specs.Answers.{IsOnlyRight, Judges, IsReadFaultBy}
 
 -- ---- causes exclude each other

@@ -3,9 +3,9 @@ use Rattle.std.proofs.Common.{◌≡◌, ◌≢◌, ℕ, suc, ◌<◌, true, fal
 use Rattle.std.specs.Prelude.{codes}
 use Rattle.std.specs.Option.{MatchOption}
 use Rattle.std.specs.Str.{bytes_eq}
-use Rattle.scenario_text.specs.Phrases.{ReadsAs}
-use Rattle.scenario_text.proofs.Joined.{has, has_in}
-use Rattle.scenario_text.proofs.Parts.{nothing, one}
+use Rattle.explorer_text.specs.Phrases.{ReadsAs}
+use Rattle.explorer_text.proofs.Joined.{has, has_in}
+use Rattle.explorer_text.proofs.Parts.{nothing, one}
 use Rattle.lock_text.specs.declared.reader.verb.Verb.{Verb}
 use Rattle.lock_text.specs.declared.reader.verb.Verb.TheVariants as verb
 use Rattle.lock_text.specs.Verb.{verb_text, IsVerb}

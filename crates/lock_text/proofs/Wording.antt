@@ -1,9 +1,10 @@
 -- Which line has these words.
-use Rattle.std.proofs.Common.{◌≡◌, ◌≢◌, ℕ, zero, suc, ◌-◌, ◌<◌, ◌≤◌, List, [], ◌∷◌, ◌++◌, length, take, drop, get_or, Option, Some, None, Bor, refl, sym, ap, subst, ◌∙◌, arith}
+use Rattle.std.proofs.Common.{◌≡◌, ◌≢◌, ℕ, zero, suc, ◌-◌, ◌<◌, ◌≤◌, List, [], ◌∷◌, ◌++◌, length, take, drop, get_or, Option, Some, None, Bor, refl, sym, ap}
+use Rattle.std.proofs.Common.{subst, ◌∙◌, arith}
 use Rattle.std.specs.Prelude.{codes}
 use Rattle.std.proofs.lemmas.List.{append_cancel_right}
-use Rattle.scenario_text.specs.Phrases.{ReadsAs}
-use Rattle.scenario_text.proofs.Parts.{nothing, one as one_of, found, only, none, same}
+use Rattle.explorer_text.specs.Phrases.{ReadsAs}
+use Rattle.explorer_text.proofs.Parts.{nothing, one as one_of, found, only, none, same}
 use Rattle.lock_lines.specs.declared.relation.Relation.{Relation}
 use Rattle.lock_text.specs.declared.reader.verb.Verb.{Verb}
 use Rattle.lock_text.specs.declared.reader.verb.Verb.TheVariants as verb

@@ -1,7 +1,7 @@
 -- What the reader of a lock program's text answers.
 use Rattle.std.specs.Prelude.{ℕ, List, Result, Ok, Err, []}
-use Rattle.scenario_text.specs.Pieces.{Piece, pieces}
-use Rattle.scenario_text.specs.Reader.{IsOnly, IsNone}
+use Rattle.explorer_text.specs.Pieces.{Piece, pieces}
+use Rattle.explorer_text.specs.Reader.{IsOnly, IsNone}
 use Rattle.lock_text.specs.declared.fault.Cause.{Cause}
 use Rattle.lock_text.specs.declared.fault.Cause.TheVariants.{NoMemory}
 use Rattle.lock_text.specs.declared.fault.ReadFault.{ReadFault}

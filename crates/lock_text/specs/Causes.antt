@@ -1,8 +1,8 @@
 -- What may be wrong with a line.
 use Rattle.std.specs.Prelude.{⊤, ◌≡◌, false, List, [], ◌∷◌, ◌⊎◌}
 use Rattle.std.specs.List.{list_all}
-use Rattle.scenario_text.specs.Causes.{is_printable}
-use Rattle.scenario_text.specs.Pieces.{Piece}
+use Rattle.explorer_text.specs.Causes.{is_printable}
+use Rattle.explorer_text.specs.Pieces.{Piece}
 use Rattle.lock_text.specs.declared.fault.Cause.{Cause}
 use Rattle.lock_text.specs.declared.fault.Cause.TheVariants.{Cut, Byte, Form, NoMemory}
 use Rattle.lock_text.specs.declared.lines.Line.{Line}

@@ -1,5 +1,6 @@
 -- How the lines of a lock program are printed, word by word.
-use Rattle.std.specs.Prelude.{⊤, ◌≡◌, ◌≢◌, ℕ, Bool, true, false, List, [], ◌∷◌, ◌++◌, Option, Some, None, codes}
+use Rattle.std.specs.Prelude.{⊤, ◌≡◌, ◌≢◌, ℕ, Bool, true, false, List, [], ◌∷◌, ◌++◌, Option, Some, None}
+use Rattle.std.specs.Prelude.{codes}
 use Rattle.std.specs.List.{AllByRecursion}
 use Rattle.lock_text.specs.declared.reader.verb.Verb.{Verb}
 use Rattle.lock_text.specs.declared.reader.verb.Verb.TheVariants as verb
@@ -8,9 +9,16 @@ use Rattle.lock_text.specs.declared.words.Operand.TheVariants as operand
 use Rattle.lock_text.specs.declared.lines.Share.{Share}
 use Rattle.lock_text.specs.declared.lines.Share.TheVariants as share
 use Rattle.lock_text.specs.declared.lines.Line.{Line}
-use Rattle.lock_text.specs.declared.lines.Line.TheVariants.{Blank, Const, Word, Counter, List as NotifyList, Registers, Section, Program, Seats, Most, Apart, Finally, Load, Store, Swap, Add, Exchange, Await, Acquire, Release, Ticket, Wait, One, All, Park, Unpark, Out, Let, Compute, If, Goto, Label, In, Assert, Fail, Do, Return}
+use Rattle.lock_text.specs.declared.lines.Line.TheVariants.{Blank, Const, Word, Counter, List as NotifyList}
+use Rattle.lock_text.specs.declared.lines.Line.TheVariants.{Registers, Section, Program, Seats, Most, Apart}
+use Rattle.lock_text.specs.declared.lines.Line.TheVariants.{Finally, Load, Store, Swap, Add, Exchange, Await}
+use Rattle.lock_text.specs.declared.lines.Line.TheVariants.{Acquire, Release, Ticket, Wait, One, All, Park}
+use Rattle.lock_text.specs.declared.lines.Line.TheVariants.{Unpark, Out, Let, Compute, If, Goto, Label, In}
+use Rattle.lock_text.specs.declared.lines.Line.TheVariants.{Assert, Fail, Do, Return}
 use Rattle.lock_text.specs.Verb.{verb_text}
-use Rattle.lock_text.specs.Words.{IsNameText, number_text, HasNumberForm, operand_text, HasOperandForm, place_text, HasPlaceForm, relation_text, operator_text, without_comment, words_of}
+use Rattle.lock_text.specs.Words.{IsNameText, number_text, HasNumberForm, operand_text, HasOperandForm}
+use Rattle.lock_text.specs.Words.{place_text, HasPlaceForm, relation_text, operator_text, without_comment}
+use Rattle.lock_text.specs.Words.{words_of}
 
 -- ---- parts
 

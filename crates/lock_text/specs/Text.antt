@@ -1,6 +1,6 @@
 -- A lock program's text: its lines, or its fault.
 use Rattle.std.specs.Prelude.{⊤, ◌≡◌, ℕ, ◌+◌, List, [], ◌∷◌, ◌++◌, length, ◌⊎◌}
-use Rattle.scenario_text.specs.Pieces.{Piece, pieces}
+use Rattle.explorer_text.specs.Pieces.{Piece, pieces}
 use Rattle.lock_text.specs.declared.fault.ReadFault.{ReadFault}
 use Rattle.lock_text.specs.declared.lines.Line.{Line}
 use Rattle.lock_text.specs.Causes.{IsFault, IsReadable, IsRight}

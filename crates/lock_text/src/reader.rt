@@ -1,7 +1,7 @@
 //! The reader of a lock program's text, line by line.
 
 ghost use Rattle.std.specs.Prelude.{IfOk, IfErr};
-ghost use Rattle.scenario_text.specs.Reader.{IsOnly, IsNone};
+ghost use Rattle.explorer_text.specs.Reader.{IsOnly, IsNone};
 ghost use Rattle.lock_text.specs.Text.{AreLinesOf, IsFaultOf};
 ghost use Rattle.lock_text.specs.Answers.{IsReadFault};
 

@@ -3,10 +3,10 @@
 ghost use Rattle.std.specs.Prelude.{◌≡◌, All};
 
 use crate::rounds::{Attempt, Call, FINE, answered, is_refused_then_answers};
-use guarded::{GuardSeat, Guarded};
 use notify_list::{ListClosed, ListSeat, NotifyList};
 use sema_table::{Seat, SemaTable, Settings, SetupError};
 use std::alloc::Global;
+use sync_guarded::{GuardSeat, Guarded};
 use sync_parts::{Cond, GroupSeat, WaitGroup};
 use waiters::CounterId;
 

@@ -1,6 +1,6 @@
 //! A call in rounds.
 
-use scarce_memory::ScarceMemory;
+use crate::scarce::ScarceMemory;
 use std::alloc::{AllocError, Global};
 use std::process::Abort;
 

@@ -1,12 +1,12 @@
 //! Schedules, journals and streams, and what is said of faulty texts.
 
 use crate::rounds::{Attempt, Call, FINE, Rounds, answered, is_refused_then_answers};
-use fault_help::{explain, explain_journal};
+use explorer_help::{explain, explain_journal};
+use explorer_streams::{Flagged, IoFault, read_all, read_at_most};
+use explorer_text::{Cause, ReadFault, read_schedule};
 use journal_judge::{Verdict, judge};
 use journal_text::{Entry, Journal, JournalFault, read_journal};
-use scenario_text::{Cause, ReadFault, read_schedule};
 use std::alloc::{AllocError, Global};
-use streams::{Flagged, IoFault, read_all, read_at_most};
 use waiters::SeatId;
 
 const SEATS: [SeatId; 5] = [SeatId(0), SeatId(1), SeatId(15), SeatId(0), SeatId(2)];

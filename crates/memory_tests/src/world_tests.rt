@@ -1,7 +1,7 @@
 //! Worlds of a scenario: how they are reached, and what they are asked.
 
 use crate::rounds::{Attempt, Call, FINE, answered, is_refused_then_answers};
-use scenario_text::read_scenario;
+use explorer_text::read_scenario;
 use std::alloc::Global;
 use std::process::Abort;
 use step_core::{
@@ -72,9 +72,9 @@ impl Call for Waiting<'_, '_> {
     }
 }
 
-/// The words of its key, by hand: the counter's number, its list's length and the seat in it; the words of its root, whose
-/// waiter word is 1; the seat that is parked, and one word for no grant and nothing in hand; the one before its row of a
-/// release; that both are on a counter; how many calls each has begun.
+/// The words of its key, by hand: the counter's number, its list's length and the seat in it; the words of
+/// its root, whose waiter word is 1; the seat that is parked, and one word for no grant and nothing in hand;
+/// the one before its row of a release; that both are on a counter; how many calls each has begun.
 pub(crate) static KEY: [u64; 15] = [0, 1, 0, 0, 1, 20, 0, 0, 26, 0, 0, 1, 1, 1, 1];
 
 /// A world that is asked for its key.

@@ -1,5 +1,6 @@
 -- What an atomic step of the code owes, by the kind of its row.
-use Rattle.std.proofs.Common.{◌≡◌, ◌≢◌, ℕ, ◌<◌, ◌==◌, List, [], ◌∷◌, slice_index, sym, refl, ap, ◌∙◌, subst, arith, lt-ltb, length-set, get_or-set_other, get_or-set_same}
+use Rattle.std.proofs.Common.{◌≡◌, ◌≢◌, ℕ, ◌<◌, ◌==◌, List, [], ◌∷◌, slice_index, sym, refl, ap, ◌∙◌, subst, arith, lt-ltb, length-set, get_or-set_other}
+use Rattle.std.proofs.Common.{get_or-set_same}
 use mathlib.Core.Option.{none, some}
 use native.Mathlib.Decide.{ℕ_discrete}
 use prog.Atomic.{either}
@@ -18,8 +19,8 @@ use Rattle.step_table.specs.ListEvent.{ListEvent, ListNext}
 use Rattle.step_table.specs.ListTable.{list_table, list_event_at}
 use Rattle.step_table.specs.ListSteps.{event_of, finds}
 use Rattle.step_table.specs.Path.{runs}
-use Rattle.list_law.specs.ListLawful.{holds}
-use Rattle.list_law.proofs.ListAccounts.{the_list_accounts}
+use Rattle.step_law_lists.specs.ListLawful.{holds}
+use Rattle.step_law_lists.proofs.ListAccounts.{the_list_accounts}
 use Rattle.running_rows.specs.Strides.{Went, RanRow, Took, Changed, here, grants, becomes}
 use Rattle.running_rows.specs.Strides as strides
 use Rattle.running_rows.specs.Owing.{Stands, Leads, Owes}

@@ -4,10 +4,10 @@ use Rattle.std.proofs.lemmas.List.Elements.{filter-append}
 use Rattle.step_table.specs.declared.list_place.ListPlace.{ListPlace}
 use Rattle.step_table.specs.ListWorld.{ListSeat, ListEntry, Granted}
 use Rattle.step_table.specs.Path.{GoesOn}
-use Rattle.list_law.specs.ListLawful.{Follows}
-use Rattle.list_law.specs.ListPath.{ListSight, is_own}
-use Rattle.list_law.proofs.ListPaths.{the_list_paths}
-use Rattle.list_law.proofs.ListPromises.{the_list_law}
+use Rattle.step_law_lists.specs.ListLawful.{Follows}
+use Rattle.step_law_lists.specs.ListPath.{ListSight, is_own}
+use Rattle.step_law_lists.proofs.ListPaths.{the_list_paths}
+use Rattle.step_law_lists.proofs.ListPromises.{the_list_law}
 use Rattle.notify_list.specs.Seats.{ListModel, SeatModel, Token, seat_of, IsToken, setting_of}
 use Rattle.notify_list.specs.Calls.{Calls, ComesTo}
 use Rattle.notify_list.specs.Callers.{IsSeatAfter}

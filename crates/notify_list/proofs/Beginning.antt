@@ -11,7 +11,7 @@ use Rattle.step_table.specs.World.{put}
 use Rattle.step_table.specs.ListWorld.{ListSeat, ListWorld}
 use Rattle.step_table.specs.ListSteps.{ListStep, ListChoice, notify_one, notify_all, end_looks, choose, add, wait, with_ticket}
 use Rattle.step_table.proofs.Sums.{put_here, put_else, put_same}
-use Rattle.list_law.specs.ListLawful.{holds}
+use Rattle.step_law_lists.specs.ListLawful.{holds}
 use Rattle.notify_list.specs.Places.{is_free, at_place, waiting, Begins, stands, adds, ones, alls, waits}
 
 put_put : {A : Type 0} (f : ℕ → A) (i : ℕ) (x y : A) → put (put f i x) i y ≡ put f i y

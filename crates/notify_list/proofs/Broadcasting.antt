@@ -10,10 +10,10 @@ use Rattle.step_table.specs.ListWorld.{Numbers, ListSeat, ListEntry, Granted}
 use Rattle.step_table.specs.ListSteps.{with_ticket}
 use Rattle.step_table.specs.Path.{GoesOn, own_entries}
 use Rattle.step_table.proofs.Paths.{goes_on_more}
-use Rattle.list_law.specs.ListLawful.{told}
-use Rattle.list_law.specs.ListPath.{ListSight}
-use Rattle.list_law.proofs.ListAccounts.{the_list_accounts}
-use Rattle.list_law.proofs.ListPaths.{the_list_paths}
+use Rattle.step_law_lists.specs.ListLawful.{told}
+use Rattle.step_law_lists.specs.ListPath.{ListSight}
+use Rattle.step_law_lists.proofs.ListAccounts.{the_list_accounts}
+use Rattle.step_law_lists.proofs.ListPaths.{the_list_paths}
 use Rattle.notify_list.specs.Places.{at_place, is_free, waiting, locked, takes_lock, Begins, stands}
 use Rattle.notify_list.specs.Rule.{watched}
 use Rattle.notify_list.specs.Seats.{ListModel, Token, list_of, seat_of, IsSeat, seen_of, setting_of, stands_of}

@@ -5,9 +5,9 @@ use Rattle.step_table.specs.declared.list_place.ListPlace.TheVariants.{Rest, Add
 use Rattle.step_table.specs.declared.list_place.OneRow.TheVariants.{O1, O2}
 use Rattle.step_table.specs.declared.list_place.Ticket.{Ticket}
 use Rattle.step_table.specs.declared.list_place.WaitRow.TheVariants.{W1, W2, W3, W4, P}
-use Rattle.ticket_words.specs.Wrapping.{word_of, less}
+use Rattle.step_table.specs.Wrapping.{word_of, less}
 use Rattle.step_table.specs.ListWorld.{Numbers, ListSeat, ListEntry, Took}
-use Rattle.list_law.specs.ListLawful.{told}
+use Rattle.step_law_lists.specs.ListLawful.{told}
 use Rattle.notify_list.specs.declared.waited.Waited.{Waited}
 use Rattle.notify_list.specs.declared.waited.Waited.TheVariants.{AtOnce, Parked}
 use Rattle.notify_list.specs.Places.{at_place, waiting}

@@ -4,9 +4,9 @@ use Rattle.step_table.specs.declared.list_place.ListWord.{ListWord}
 use Rattle.step_table.specs.declared.list_place.ListWord.TheVariants.{Wait}
 use Rattle.step_table.specs.Path.{Looked, Did}
 use Rattle.std.proofs.Common.{List}
-use Rattle.ticket_words.specs.Wrapping.{word_of}
-use Rattle.list_law.specs.ListLawful.{Follows}
-use Rattle.list_law.specs.ListPath.{ListSight, notify_list}
+use Rattle.step_table.specs.Wrapping.{word_of}
+use Rattle.step_law_lists.specs.ListLawful.{Follows}
+use Rattle.step_law_lists.specs.ListPath.{ListSight, notify_list}
 use Rattle.notify_list.specs.declared.closed.ListClosed.{ListClosed}
 use Rattle.notify_list.specs.declared.view.Setting.{Setting}
 use Rattle.notify_list.specs.Seats.{SeatModel}

@@ -8,7 +8,7 @@ use Rattle.step_table.specs.declared.list_place.OneRow.TheVariants.{O1}
 use Rattle.step_table.specs.ListWorld.{ListSeat, ListEntry, Granted}
 use Rattle.step_table.specs.Path.{GoesOn}
 use Rattle.step_table.proofs.Paths.{goes_on_more}
-use Rattle.list_law.specs.ListLawful.{told, Follows}
+use Rattle.step_law_lists.specs.ListLawful.{told, Follows}
 use Rattle.notify_list.specs.Places.{at_place}
 use Rattle.notify_list.specs.Seats.{SeatModel}
 use Rattle.notify_list.specs.Calls.{Calls, AllGranted}

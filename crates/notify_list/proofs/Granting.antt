@@ -6,15 +6,15 @@ use Rattle.waiters.specs.Lists.{first_with, without_first}
 use Rattle.step_table.specs.declared.list_place.ListEffect.TheVariants.{Nothing, TakesOut, Gives}
 use Rattle.step_table.specs.declared.list_place.ListPlace.TheVariants.{Rest, NotifyingOne}
 use Rattle.step_table.specs.declared.list_place.OneRow.TheVariants.{O7, O8, O9}
-use Rattle.ticket_words.specs.Wrapping.{word_of}
+use Rattle.step_table.specs.Wrapping.{word_of}
 use Rattle.step_table.specs.ListWorld.{Numbers, ListSeat, ListEntry, Granted, queue_after, hand_after, ticket_after, one_or_none}
 use Rattle.step_table.specs.ListEvent.{ListNext, by_found}
 use Rattle.step_table.specs.Path.{GoesOn}
 use Rattle.step_table.proofs.Paths.{goes_on_more}
-use Rattle.list_law.specs.ListLawful.{told}
-use Rattle.list_law.specs.ListInvariant.{Knows}
-use Rattle.list_law.specs.ListPlaces.{ReachedList}
-use Rattle.list_law.specs.ListPath.{entries_of}
+use Rattle.step_law_lists.specs.ListLawful.{told}
+use Rattle.step_law_lists.specs.ListInvariant.{Knows}
+use Rattle.step_law_lists.specs.ListPlaces.{ReachedList}
+use Rattle.step_law_lists.specs.ListPath.{entries_of}
 use Rattle.running_rows.specs.Strides.{RanRow, here}
 use Rattle.notify_list.specs.declared.view.Setting.{Setting}
 use Rattle.notify_list.specs.Places.{at_place}

@@ -1,5 +1,6 @@
 -- A row of the step table leads on, whichever row it is.
-use Rattle.std.proofs.Common.{◌≡◌, ◌≢◌, ℕ, ◌<◌, ◌≤◌, IsTrue, List, [], ◌∷◌, ◌++◌, length, get_or, set, slice_index, sym, refl, ap, ◌∙◌, subst, inr, arith, length-set, get_or-set_other, get_or-set_same}
+use Rattle.std.proofs.Common.{◌≡◌, ◌≢◌, ℕ, ◌<◌, ◌≤◌, IsTrue, List, [], ◌∷◌, ◌++◌, length, get_or, set, slice_index, sym, refl, ap, ◌∙◌, subst, inr, arith}
+use Rattle.std.proofs.Common.{length-set, get_or-set_other, get_or-set_same}
 use mathlib.Core.Logic.{dite}
 use native.Mathlib.Decide.{ℕ_discrete}
 use Rattle.running_rows.specs.Table.{Act, Valid, homes_after, carried_after}
@@ -11,11 +12,11 @@ use Rattle.step_table.specs.ListSteps.{event_of, effect_of, finds, turned, ListT
 use Rattle.step_table.specs.Path.{Meets, sight, runs}
 use Rattle.step_table.proofs.Paths.{meets_sight}
 use Rattle.step_table.proofs.Sums.{put_here, total_has}
-use Rattle.list_law.specs.ListLawful.{holds}
-use Rattle.list_law.specs.ListPath.{ListSight, row_stride}
-use Rattle.list_law.specs.ListPlaces.{ReachedList}
-use Rattle.list_law.proofs.ListAccounts.{the_list_accounts}
-use Rattle.list_law.proofs.ListPaths.{the_list_paths, journal_told}
+use Rattle.step_law_lists.specs.ListLawful.{holds}
+use Rattle.step_law_lists.specs.ListPath.{ListSight, row_stride}
+use Rattle.step_law_lists.specs.ListPlaces.{ReachedList}
+use Rattle.step_law_lists.proofs.ListAccounts.{the_list_accounts}
+use Rattle.step_law_lists.proofs.ListPaths.{the_list_paths, journal_told}
 use Rattle.running_rows.specs.Strides.{Went, becomes}
 use Rattle.running_rows.specs.Owing.{Stands, Leads}
 use Rattle.notify_list.specs.declared.view.Known.{Known}

@@ -1,7 +1,7 @@
 -- The rule gives the lawful list.
 use Rattle.std.proofs.Common.{arith}
-use Rattle.list_law.proofs.ListAccounts.{the_list_accounts}
-use Rattle.list_law.proofs.ListPromises.{the_list_law}
+use Rattle.step_law_lists.proofs.ListAccounts.{the_list_accounts}
+use Rattle.step_law_lists.proofs.ListPromises.{the_list_law}
 use Rattle.running_rows.specs.Rule.{IsKept}
 use Rattle.notify_list.specs.Rows.{list_rows}
 use Rattle.notify_list.specs.List.{TheList}

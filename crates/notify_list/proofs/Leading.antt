@@ -16,17 +16,17 @@ use Rattle.step_table.specs.ListSteps.{event_of, effect_of, finds, seat_after}
 use Rattle.step_table.specs.Path.{GoesOn, RanRow as RowRan, Did, runs}
 use Rattle.step_table.proofs.Paths.{stride_told, stride_later}
 use Rattle.step_table.proofs.Sums.{put_here}
-use Rattle.list_law.specs.ListLawful.{holds, IsGrantOf}
-use Rattle.list_law.specs.ListPath.{ListSight, ListStride, entries_of}
-use Rattle.list_law.specs.ListPlaces.{ReachedList}
-use Rattle.list_law.proofs.ListAccounts.{the_list_accounts}
+use Rattle.step_law_lists.specs.ListLawful.{holds, IsGrantOf}
+use Rattle.step_law_lists.specs.ListPath.{ListSight, ListStride, entries_of}
+use Rattle.step_law_lists.specs.ListPlaces.{ReachedList}
+use Rattle.step_law_lists.proofs.ListAccounts.{the_list_accounts}
 use Rattle.running_rows.specs.Strides.{Went, RanRow, gives, here}
 use Rattle.running_rows.proofs.Telling.{went_from}
 use Rattle.notify_list.specs.Rule.{watched, IsMet}
 use Rattle.notify_list.specs.Rows.{list_rows, queue_left}
 use Rattle.notify_list.specs.Plays.{OneSeat, standing}
 use Rattle.notify_list.specs.Seats.{Token, setting_of, stands_of}
-use Rattle.list_law.proofs.ListPaths.{journal_told}
+use Rattle.step_law_lists.proofs.ListPaths.{journal_told}
 use Rattle.notify_list.proofs.Keeping.{laws_of}
 
 -- the row ran of a seat that stood so

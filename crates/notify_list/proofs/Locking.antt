@@ -9,8 +9,8 @@ use Rattle.step_table.specs.declared.list_place.WaitRow.TheVariants.{W1}
 use Rattle.step_table.specs.ListWorld.{ListWords, ListSeat}
 use Rattle.step_table.specs.ListTable.{list_event_at}
 use Rattle.step_table.specs.ListSteps.{seat_after}
-use Rattle.list_law.specs.ListLawful.{holds}
-use Rattle.list_law.specs.ListPath.{entries_of}
+use Rattle.step_law_lists.specs.ListLawful.{holds}
+use Rattle.step_law_lists.specs.ListPath.{entries_of}
 use Rattle.notify_list.specs.declared.view.Setting.{Setting}
 use Rattle.notify_list.specs.Places.{at_place, waiting, takes_lock, locked}
 use Rattle.running_rows.specs.Strides.{Took}

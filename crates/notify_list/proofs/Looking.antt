@@ -5,9 +5,9 @@ use Rattle.step_table.specs.declared.list_place.ListPlace.TheVariants.{Notifying
 use Rattle.step_table.specs.declared.list_place.OneRow.TheVariants.{O1, O2}
 use Rattle.step_table.specs.ListWorld.{Numbers, ListSeat, ListEntry, ListWorld}
 use Rattle.step_table.specs.Path.{GoesOn}
-use Rattle.list_law.specs.ListLawful.{told}
-use Rattle.list_law.specs.ListCalls.{Concludes, one_equal}
-use Rattle.list_law.specs.ListPlaces.{ReachedList}
+use Rattle.step_law_lists.specs.ListLawful.{told}
+use Rattle.step_law_lists.specs.ListCalls.{Concludes, one_equal}
+use Rattle.step_law_lists.specs.ListPlaces.{ReachedList}
 use Rattle.running_rows.specs.Strides.{RanRow, here}
 use Rattle.running_rows.proofs.Telling.{went_from}
 use Rattle.notify_list.specs.declared.view.Setting.{Setting}

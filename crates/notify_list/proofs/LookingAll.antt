@@ -5,8 +5,8 @@ use Rattle.step_table.specs.declared.list_place.ListPlace.{ListPlace}
 use Rattle.step_table.specs.declared.list_place.ListPlace.TheVariants.{Rest, NotifyingAll}
 use Rattle.step_table.specs.ListWorld.{Numbers, ListSeat, ListEntry}
 use Rattle.step_table.specs.Path.{GoesOn}
-use Rattle.list_law.specs.ListLawful.{told}
-use Rattle.list_law.specs.ListCalls.{Concludes, all_equal}
+use Rattle.step_law_lists.specs.ListLawful.{told}
+use Rattle.step_law_lists.specs.ListCalls.{Concludes, all_equal}
 use Rattle.running_rows.specs.Strides.{RanRow, here}
 use Rattle.running_rows.proofs.Telling.{went_from}
 use Rattle.notify_list.specs.declared.view.Setting.{Setting}

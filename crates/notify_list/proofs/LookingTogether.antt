@@ -4,7 +4,7 @@ use Rattle.step_table.specs.declared.list_place.ListWord.TheVariants.{Wait}
 use Rattle.step_table.specs.ListWorld.{ListSeat, ListWorld}
 use Rattle.step_table.specs.Path.{looks, Looked, Did, look_in, sight}
 use Rattle.step_table.proofs.Paths.{meets_sight, stride_grows}
-use Rattle.list_law.specs.ListPath.{ListSight}
+use Rattle.step_law_lists.specs.ListPath.{ListSight}
 use Rattle.running_rows.specs.Strides.{Went, here}
 use Rattle.running_rows.specs.Owing.{Stands, Sees, IsSeen}
 use Rattle.running_rows.specs.Sitting.{Met}

@@ -1,5 +1,6 @@
 -- A notification of one, from its lock on and as a whole.
-use Rattle.std.proofs.Common.{◌≡◌, ◌≢◌, ◌⊎◌, ℕ, ◌+◌, ◌≤◌, ◌==◌, if◌then◌else◌, List, [], ◌∷◌, ◌++◌, Option, Some, None, inl, inr, ⊎_elim, sym, refl, ap, ◌∙◌, subst, arith}
+use Rattle.std.proofs.Common.{◌≡◌, ◌≢◌, ◌⊎◌, ℕ, ◌+◌, ◌≤◌, ◌==◌, if◌then◌else◌, List, [], ◌∷◌, ◌++◌, Option, Some, None, inl, inr, ⊎_elim, sym, refl, ap, ◌∙◌}
+use Rattle.std.proofs.Common.{subst, arith}
 use Rattle.running_rows.specs.Table.{rest}
 use Rattle.step_table.specs.declared.list_place.ListPlace.{ListPlace}
 use Rattle.step_table.specs.declared.list_place.ListPlace.TheVariants.{Rest, NotifyingOne}
@@ -9,8 +10,8 @@ use Rattle.step_table.specs.ListWorld.{ListSeat, ListEntry, Granted}
 use Rattle.step_table.specs.ListSteps.{with_ticket}
 use Rattle.step_table.specs.Path.{GoesOn}
 use Rattle.step_table.proofs.Paths.{goes_on_more}
-use Rattle.list_law.specs.ListLawful.{told}
-use Rattle.list_law.specs.ListCalls.{Concludes, one_locked}
+use Rattle.step_law_lists.specs.ListLawful.{told}
+use Rattle.step_law_lists.specs.ListCalls.{Concludes, one_locked}
 use Rattle.running_rows.specs.Strides.{RanRow, here}
 use Rattle.notify_list.specs.declared.view.Setting.{Setting}
 use Rattle.notify_list.specs.Places.{at_place, is_free, waiting, locked, takes_lock, Begins, stands}
@@ -206,6 +207,6 @@ module _ (s : Token) (n h : ℕ) (seat : IsSeat s n) (at : (stands_of s).place �
                 later = goes_on_more (seen_of s) (seen_of x) G.before (walked_later s x (a (NotifyingOne h O3)) (a (NotifyingOne h (O7 ticket))) [] rows5 w7) G.later;
                 seen = subst (λ i. GoesOn (seen_of z) (G.before ++ Granted ((told G.before).granted + 1) i ∷ [])) (number5 ∙ seat.token_is.number_is) G.seen;
                 handed = G.handed;
-                word_is = G.word_is ∙ ap (λ (z : Setting). Rattle.ticket_words.specs.Wrapping.word_of z.first (told G.before).granted) setting5;
+                word_is = G.word_is ∙ ap (λ (z : Setting). Rattle.step_table.specs.Wrapping.word_of z.first (told G.before).granted) setting5;
               },
             )

@@ -5,9 +5,9 @@ use Rattle.std.proofs.lemmas.List.{append_cancel_left}
 use Rattle.std.proofs.lemmas.List.Elements.{filter-append}
 use Rattle.step_table.specs.ListWorld.{ListEntry}
 use Rattle.step_table.specs.Path.{GoesOn}
-use Rattle.list_law.specs.ListLawful.{told, counted, Follows}
-use Rattle.list_law.specs.ListPath.{is_own}
-use Rattle.list_law.proofs.ListWriting.{replay_append}
+use Rattle.step_law_lists.specs.ListLawful.{told, counted, Follows}
+use Rattle.step_law_lists.specs.ListPath.{is_own}
+use Rattle.step_law_lists.proofs.ListWriting.{replay_append}
 
 -- the numbers after one more entry
 pub told_last : (journal : List ListEntry) (e : ListEntry) → told (journal ++ e ∷ []) ≡ counted e (told journal)

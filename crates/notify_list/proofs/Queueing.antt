@@ -1,16 +1,17 @@
 -- A wait from the lock to its end.
-use Rattle.std.proofs.Common.{◌≡◌, ℕ, ◌<◌, ◌≤◌, if◌then◌else◌, Bool, true, false, List, [], ◌∷◌, ◌++◌, length, Option, Some, None, inl, inr, sym, refl, ap, ◌∙◌, subst, arith}
+use Rattle.std.proofs.Common.{◌≡◌, ℕ, ◌<◌, ◌≤◌, if◌then◌else◌, Bool, true, false, List, [], ◌∷◌, ◌++◌, length, Option, Some, None, inl, inr, sym, refl, ap, ◌∙◌}
+use Rattle.std.proofs.Common.{subst, arith}
 use Rattle.running_rows.specs.Table.{rest}
 use Rattle.step_table.specs.declared.list_place.ListPlace.TheVariants.{Rest, Waiting}
 use Rattle.step_table.specs.declared.list_place.Ticket.{Ticket}
 use Rattle.step_table.specs.declared.list_place.WaitRow.TheVariants.{W1, W2, W3, W4, P}
-use Rattle.ticket_words.specs.Wrapping.{less}
+use Rattle.step_table.specs.Wrapping.{less}
 use Rattle.step_table.specs.ListWorld.{ListSeat, ListEntry, late_after}
 use Rattle.step_table.specs.ListTable.{wait_for}
 use Rattle.step_table.specs.ListSteps.{with_ticket}
-use Rattle.list_law.specs.ListLawful.{told}
-use Rattle.list_law.specs.ListCalls.{Returns}
-use Rattle.list_law.specs.ListWellFormed.{asleep_on_list}
+use Rattle.step_law_lists.specs.ListLawful.{told}
+use Rattle.step_law_lists.specs.ListCalls.{Returns}
+use Rattle.step_law_lists.specs.ListWellFormed.{asleep_on_list}
 use Rattle.running_rows.specs.Strides.{RanRow, here}
 use Rattle.notify_list.specs.declared.view.Setting.{Setting}
 use Rattle.notify_list.specs.declared.waited.Waited.TheVariants.{AtOnce, Parked}

@@ -1,5 +1,6 @@
 -- The rows by which a notification of all grants.
-use Rattle.std.proofs.Common.{◌≡◌, ◌≢◌, ℕ, zero, suc, ◌+◌, ◌≤◌, ◌==◌, if◌then◌else◌, Bool, true, false, List, [], ◌∷◌, ◌++◌, sym, refl, ap, ◌∙◌, subst, arith, append-nil}
+use Rattle.std.proofs.Common.{◌≡◌, ◌≢◌, ℕ, zero, suc, ◌+◌, ◌≤◌, ◌==◌, if◌then◌else◌, Bool, true, false, List, [], ◌∷◌, ◌++◌, sym, refl, ap, ◌∙◌, subst, arith}
+use Rattle.std.proofs.Common.{append-nil}
 use native.Mathlib.Decide.{ℕ_discrete}
 use Rattle.waiters.specs.declared.wait.Wait.{Wait}
 use Rattle.step_table.specs.declared.list_place.AllRow.TheVariants.{L4, L5, L6, L7}
@@ -8,15 +9,15 @@ use Rattle.step_table.specs.declared.list_place.ListEffect.TheVariants.{Nothing,
 use Rattle.step_table.specs.declared.list_place.ListPlace.{ListPlace}
 use Rattle.step_table.specs.declared.list_place.ListPlace.TheVariants.{NotifyingAll}
 use Rattle.step_table.specs.declared.list_place.Reach.{Reach}
-use Rattle.ticket_words.specs.Wrapping.{word_of, minus}
+use Rattle.step_table.specs.Wrapping.{word_of, minus}
 use Rattle.step_table.specs.ListSteps.{seat_after}
 use Rattle.step_table.specs.ListWorld.{Numbers, ListWords, ListSeat, Granted, queue_after}
 use Rattle.step_table.specs.Path.{GoesOn}
 use Rattle.step_table.proofs.Paths.{goes_on_more}
-use Rattle.list_law.specs.ListLawful.{told}
-use Rattle.list_law.specs.ListCalls.{Reaches}
-use Rattle.list_law.specs.ListPath.{entries_of}
-use Rattle.list_law.specs.ListPlaces.{ReachedList}
+use Rattle.step_law_lists.specs.ListLawful.{told}
+use Rattle.step_law_lists.specs.ListCalls.{Reaches}
+use Rattle.step_law_lists.specs.ListPath.{entries_of}
+use Rattle.step_law_lists.specs.ListPlaces.{ReachedList}
 use Rattle.running_rows.specs.Strides.{RanRow, here}
 use Rattle.notify_list.specs.declared.view.Setting.{Setting}
 use Rattle.notify_list.specs.Places.{at_place}

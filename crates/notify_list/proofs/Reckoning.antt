@@ -1,5 +1,6 @@
 -- Where one view has every seat of the list, and all may begin a call and hold no ticket, all is granted and nothing is left.
-use Rattle.std.proofs.Common.{◌≡◌, ◌≢◌, ◌⊎◌, ℕ, zero, suc, Bool, true, false, ◌||◌, ◌<◌, ◌≤◌, eqb, List, [], ◌∷◌, length, map, slice_index, None, sym, refl, ap, ◌∙◌, subst, inl, inr, arith}
+use Rattle.std.proofs.Common.{◌≡◌, ◌≢◌, ◌⊎◌, ℕ, zero, suc, Bool, true, false, ◌||◌, ◌<◌, ◌≤◌, eqb, List, [], ◌∷◌, length, map, slice_index, None, sym, refl, ap}
+use Rattle.std.proofs.Common.{◌∙◌, subst, inl, inr, arith}
 use Rattle.std.proofs.lemmas.Bool.Decides.{nat_tests}
 use Rattle.std.proofs.lemmas.Bool.{cases_Bool}
 use Rattle.std.proofs.lemmas.Map.Steps.{length-le_from_distinct_below}
@@ -16,9 +17,9 @@ use Rattle.step_table.specs.ListWorld.{ListSeat, ListEntry, ListWorld}
 use Rattle.step_table.specs.ListSteps.{more}
 use Rattle.step_table.specs.Path.{GoesOn, own_entries}
 use Rattle.step_table.proofs.Sums.{put_here, put_else}
-use Rattle.list_law.proofs.ListAccounts.{the_list_accounts}
-use Rattle.list_law.proofs.ListPromises.{the_list_law}
-use Rattle.list_law.specs.ListPlaces.{ReachedList}
+use Rattle.step_law_lists.proofs.ListAccounts.{the_list_accounts}
+use Rattle.step_law_lists.proofs.ListPromises.{the_list_law}
+use Rattle.step_law_lists.specs.ListPlaces.{ReachedList}
 use Rattle.notify_list.specs.declared.closed.ListClosed.{ListClosed}
 use Rattle.notify_list.specs.declared.view.Record.{Record}
 use Rattle.notify_list.specs.declared.view.Setting.{Setting}

@@ -1,15 +1,16 @@
 -- The record while a seat holds the lock.
-use Rattle.std.proofs.Common.{◌≡◌, ℕ, ◌+◌, ◌==◌, if◌then◌else◌, Bool, true, false, List, [], ◌∷◌, length, Option, Some, None, IsSome, unwrap_or, sym, refl, ap, ◌∙◌, subst, arith}
+use Rattle.std.proofs.Common.{◌≡◌, ℕ, ◌+◌, ◌==◌, if◌then◌else◌, Bool, true, false, List, [], ◌∷◌, length, Option, Some, None, IsSome, unwrap_or, sym, refl, ap}
+use Rattle.std.proofs.Common.{◌∙◌, subst, arith}
 use Rattle.running_rows.specs.Table.{rest}
 use Rattle.running_rows.specs.Lent.{seat_with}
 use Rattle.waiters.specs.declared.wait.Wait.{Wait}
 use Rattle.waiters.specs.Lists.{Lists, IsOpen, waits_at, Changes, first_with, without_first}
 use Rattle.step_table.specs.ListErased.{erased_wait}
-use Rattle.list_law.proofs.ListErasing.{erased_found, first_erased, without_erased}
+use Rattle.step_law_lists.proofs.ListErasing.{erased_found, first_erased, without_erased}
 use Rattle.notify_list.specs.declared.view.Record.{Record}
 use Rattle.step_table.specs.ListWorld.{ListSeat, ListWorld, queue_after}
 use Rattle.step_table.specs.ListTable.{list_table}
-use Rattle.list_law.specs.ListLawful.{holds}
+use Rattle.step_law_lists.specs.ListLawful.{holds}
 use Rattle.notify_list.specs.declared.view.Setting.{Setting}
 use Rattle.notify_list.specs.Rule.{IsRecord}
 use Rattle.notify_list.specs.Seats.{Token, list_of, queue_of, setting_of, stands_of}

@@ -4,14 +4,14 @@ use Rattle.std.proofs.lemmas.List.Elements.{All-head, All-tail}
 use Rattle.step_table.specs.declared.list_place.ListPlace.{ListPlace}
 use Rattle.step_table.specs.declared.list_place.ListWord.{ListWord}
 use Rattle.step_table.specs.declared.list_place.ListWord.TheVariants.{Wait, Notify}
-use Rattle.ticket_words.specs.Wrapping.{word_of}
+use Rattle.step_table.specs.Wrapping.{word_of}
 use Rattle.step_table.specs.ListWorld.{ListSeat, first_list}
 use Rattle.step_table.specs.ListTable.{list_event_at}
 use Rattle.step_table.specs.Path.{GoesOn, runs, all_told}
 use Rattle.step_table.proofs.Paths.{goes_on_more, goes_on_by, stride_told, stride_later, stride_grows}
-use Rattle.list_law.specs.ListLawful.{told}
-use Rattle.list_law.specs.ListPath.{ListSight, ListStride, ListPath, ListRan, notify_list, word_of_deed, word_of_stride}
-use Rattle.list_law.proofs.ListPaths.{the_list_paths}
+use Rattle.step_law_lists.specs.ListLawful.{told}
+use Rattle.step_law_lists.specs.ListPath.{ListSight, ListStride, ListPath, ListRan, notify_list, word_of_deed, word_of_stride}
+use Rattle.step_law_lists.proofs.ListPaths.{the_list_paths}
 use Rattle.notify_list.specs.Seats.{SeatModel}
 use Rattle.notify_list.specs.Calls.{Calls, AreRows, rows_of}
 use Rattle.notify_list.proofs.Parting.{none_first, none_rest}

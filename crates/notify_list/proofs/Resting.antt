@@ -8,11 +8,11 @@ use Rattle.step_table.specs.EventOf.{store}
 use Rattle.step_table.specs.ListEvent.{ListNext}
 use Rattle.step_table.specs.ListTable.{list_table}
 use Rattle.step_table.specs.ListWorld.{ListWords, ListSeat, ListWorld}
-use Rattle.list_law.specs.ListInvariant.{HandFits}
-use Rattle.list_law.specs.ListPath.{ListSight}
-use Rattle.list_law.specs.ListWellFormed.{asleep_on_list}
-use Rattle.list_law.specs.ListPlaces.{ReachedList, GrantsParked}
-use Rattle.list_law.proofs.ListAccounts.{the_list_accounts}
+use Rattle.step_law_lists.specs.ListInvariant.{HandFits}
+use Rattle.step_law_lists.specs.ListPath.{ListSight}
+use Rattle.step_law_lists.specs.ListWellFormed.{asleep_on_list}
+use Rattle.step_law_lists.specs.ListPlaces.{ReachedList, GrantsParked}
+use Rattle.step_law_lists.proofs.ListAccounts.{the_list_accounts}
 use Rattle.notify_list.specs.Places.{is_free}
 use Rattle.notify_list.specs.declared.view.Setting.{Setting}
 use Rattle.notify_list.specs.Rule.{IsMet, Lands}

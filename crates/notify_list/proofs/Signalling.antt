@@ -1,13 +1,14 @@
 -- A notification of one as a whole: its two looks, and what comes of them.
-use Rattle.std.proofs.Common.{◌≡◌, ℕ, ◌+◌, true, false, List, [], ◌∷◌, ◌++◌, Option, Some, None, IfSome, IfNone, inl, inr, ⊎_elim, sym, refl, ap, ◌∙◌, subst, arith}
+use Rattle.std.proofs.Common.{◌≡◌, ℕ, ◌+◌, true, false, List, [], ◌∷◌, ◌++◌, Option, Some, None, IfSome, IfNone, inl, inr, ⊎_elim, sym, refl, ap, ◌∙◌, subst}
+use Rattle.std.proofs.Common.{arith}
 use Rattle.step_table.specs.declared.list_place.ListPlace.{ListPlace}
 use Rattle.step_table.specs.declared.list_place.ListPlace.TheVariants.{Rest, NotifyingOne}
 use Rattle.step_table.specs.declared.list_place.OneRow.TheVariants.{O1, O3}
 use Rattle.step_table.specs.ListWorld.{ListSeat, ListEntry, Granted}
 use Rattle.step_table.specs.Path.{GoesOn}
 use Rattle.step_table.proofs.Paths.{goes_on_more}
-use Rattle.list_law.specs.ListLawful.{told}
-use Rattle.list_law.proofs.ListPaths.{the_list_paths}
+use Rattle.step_law_lists.specs.ListLawful.{told}
+use Rattle.step_law_lists.proofs.ListPaths.{the_list_paths}
 use Rattle.notify_list.specs.Places.{at_place}
 use Rattle.notify_list.specs.Seats.{SeatModel}
 use Rattle.notify_list.specs.Calls.{Calls, ComesTo, AllGranted}
@@ -84,7 +85,7 @@ module _ (s u : SeatModel) where
       later = goes_on_more s.sight.seen u.sight.seen g.before (call_later s u a [] (looks x.h x.waited x.notified) x.call) g.later;
       seen = subst (λ i. GoesOn t.sight.seen (g.before ++ Granted ((told g.before).granted + 1) i ∷ [])) number_is g.seen;
       handed = g.handed;
-      word_is = g.word_is ∙ ap (λ (q : SeatModel). Rattle.ticket_words.specs.Wrapping.word_of q.list.setting.first (told g.before).granted) x.comes.same;
+      word_is = g.word_is ∙ ap (λ (q : SeatModel). Rattle.step_table.specs.Wrapping.word_of q.list.setting.first (told g.before).granted) x.comes.same;
     }
 
     pub none_one : (answer : Option ℕ) → EndsOne u x.h answer t → IfNone answer (AllGranted s t)

@@ -2,11 +2,11 @@
 use Rattle.std.proofs.Common.{◌≡◌, ℕ, ◌+◌, ◌<◌, ◌%◌, ◌^◌, [], ◌∷◌, ◌++◌, Some, sym, refl, ap, ◌∙◌, subst, arith}
 use Rattle.step_table.specs.declared.list_place.ListPlace.TheVariants.{Adding}
 use Rattle.step_table.specs.declared.list_place.Ticket.{Ticket}
-use Rattle.ticket_words.specs.Wrapping.{word_of, next_word}
+use Rattle.step_table.specs.Wrapping.{word_of, next_word}
 use Rattle.step_table.specs.ListWorld.{Numbers, ListSeat, Took}
-use Rattle.list_law.specs.ListLawful.{told}
-use Rattle.list_law.specs.ListPath.{ListSight}
-use Rattle.list_law.specs.ListPlaces.{ReachedList}
+use Rattle.step_law_lists.specs.ListLawful.{told}
+use Rattle.step_law_lists.specs.ListPath.{ListSight}
+use Rattle.step_law_lists.specs.ListPlaces.{ReachedList}
 use Rattle.running_rows.specs.Strides.{RanRow}
 use Rattle.running_rows.proofs.Telling.{went_from}
 use Rattle.notify_list.specs.Places.{at_place}

@@ -1,5 +1,6 @@
 -- The rows by which a notification of all grants the waits that it took out.
-use Rattle.std.proofs.Common.{◌≡◌, ℕ, ◌+◌, ◌<◌, ◌≤◌, nat_lt, if◌then◌else◌, Bool, List, [], ◌∷◌, length, map, take, drop, get_or, zero, suc, sym, refl, ap, ◌∙◌, subst, arith, append-nil, lt-ltb}
+use Rattle.std.proofs.Common.{◌≡◌, ℕ, ◌+◌, ◌<◌, ◌≤◌, nat_lt, if◌then◌else◌, Bool, List, [], ◌∷◌, length, map, take, drop, get_or, zero, suc, sym, refl, ap, ◌∙◌}
+use Rattle.std.proofs.Common.{subst, arith, append-nil, lt-ltb}
 use Rattle.std.proofs.lemmas.List.{map-append, drop_more, take_more, take_all, drop_all}
 use Rattle.std.proofs.lemmas.List.Elements.{All-nil}
 use Rattle.waiters.specs.declared.wait.Wait.{Wait}
@@ -9,7 +10,7 @@ use Rattle.step_table.specs.declared.list_place.ListPlace.TheVariants.{Rest, Not
 use Rattle.step_table.specs.ListEvent.{if_any}
 use Rattle.step_table.specs.ListWorld.{ListSeat}
 use Rattle.step_table.specs.Path.{runs}
-use Rattle.list_law.specs.ListPath.{ListStride}
+use Rattle.step_law_lists.specs.ListPath.{ListStride}
 use Rattle.running_rows.specs.Strides.{RanRow, here}
 use Rattle.notify_list.specs.Rows.{list_rows}
 use Rattle.notify_list.specs.Plays.{Me}

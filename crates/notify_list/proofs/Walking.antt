@@ -6,8 +6,8 @@ use Rattle.step_table.specs.declared.list_place.ListPlace.{ListPlace}
 use Rattle.step_table.specs.ListWorld.{ListSeat, ListEntry}
 use Rattle.step_table.specs.Path.{GoesOn, runs, all_told}
 use Rattle.step_table.proofs.Paths.{goes_on_more, goes_on_here, stride_told, stride_later}
-use Rattle.list_law.specs.ListPath.{ListSight, ListStride, ListPath, notify_list}
-use Rattle.list_law.proofs.ListPaths.{the_list_paths}
+use Rattle.step_law_lists.specs.ListPath.{ListSight, ListStride, ListPath, notify_list}
+use Rattle.step_law_lists.proofs.ListPaths.{the_list_paths}
 use Rattle.notify_list.specs.declared.view.Setting.{Setting}
 use Rattle.notify_list.specs.Rule.{Lands}
 use Rattle.notify_list.specs.Seats.{ListModel, SeatModel, Token, seat_of, IsToken, seen_of, setting_of, stands_of}

@@ -1,12 +1,14 @@
--- What each call is to its caller: the seat before and after, the entries that it told, tickets, and what the answer means.
-use Rattle.std.specs.Prelude.{◌≡◌, ◌≢◌, ℕ, zero, suc, ◌+◌, ◌<◌, Bool, true, false, List, [], ◌∷◌, ◌++◌, Option, Some, None}
+-- What each call is to its caller: the seat before and after, the entries that it told, tickets, and what the
+-- answer means.
+use Rattle.std.specs.Prelude.{◌≡◌, ◌≢◌, ℕ, zero, suc, ◌+◌, ◌<◌, Bool, true, false, List, [], ◌∷◌, ◌++◌}
+use Rattle.std.specs.Prelude.{Option, Some, None}
 use Rattle.std.specs.List.{filter}
 use Rattle.step_table.specs.declared.list_place.Ticket.{Ticket}
 use Rattle.step_table.specs.ListWorld.{ListEntry, Took, Granted}
 use Rattle.step_table.specs.Path.{GoesOn}
-use Rattle.ticket_words.specs.Wrapping.{word_of, less}
-use Rattle.list_law.specs.ListLawful.{told, Follows}
-use Rattle.list_law.specs.ListPath.{is_own}
+use Rattle.step_table.specs.Wrapping.{word_of, less}
+use Rattle.step_law_lists.specs.ListLawful.{told, Follows}
+use Rattle.step_law_lists.specs.ListPath.{is_own}
 use Rattle.running_rows.specs.Rule.{In}
 use Rattle.notify_list.specs.declared.closed.ListClosed.{ListClosed}
 use Rattle.notify_list.specs.declared.view.Setting.{Setting}
@@ -15,8 +17,8 @@ use Rattle.notify_list.specs.declared.waited.Waited.TheVariants.{AtOnce, Parked}
 use Rattle.notify_list.specs.Seats.{SeatModel}
 use Rattle.notify_list.specs.Calls.{TellsIn, AllGranted, numbers_seen}
 
--- t is the seat s of the same list, after it has told these entries, in this order, among what others told, and nothing else; and
--- what it has seen is lawful
+-- t is the seat s of the same list, after it has told these entries, in this order, among what others told,
+-- and nothing else; and what it has seen is lawful
 pub record IsSeatAfter (s : SeatModel) (entries : List ListEntry) (t : SeatModel) : Type 0 where
   pub list : t.list ≡ s.list
   pub number : t.number ≡ s.number
@@ -24,14 +26,17 @@ pub record IsSeatAfter (s : SeatModel) (entries : List ListEntry) (t : SeatModel
   pub own : filter (is_own s.number) t.sight.seen ≡ filter (is_own s.number) (s.sight.seen ++ entries)
   pub lawful : Follows t.sight.seen
 
--- the seat took the ticket that is the last handed out in what it has seen, and holds it; the ticket has the word of its number
+-- the seat took the ticket that is the last handed out in what it has seen, and holds it; the ticket has the
+-- word of its number
 abbrev pub GetsTicket : SeatModel → SeatModel → Type 0
 GetsTicket s t =
     IsSeatAfter s (Took s.number ∷ []) t
-    × ((ticket : Ticket) × (t.sight.stands.ticket ≡ Some ticket) × ((numbers_seen t).handed ≡ ticket.number + 1)
+    × ((ticket : Ticket) × (t.sight.stands.ticket ≡ Some ticket)
+    × ((numbers_seen t).handed ≡ ticket.number + 1)
     × (ticket.word ≡ word_of s.list.setting.first ticket.number))
 
--- the seat looked, under the lock, whether its ticket comes before the first that isn't granted: if so, it never slept
+-- the seat looked, under the lock, whether its ticket comes before the first that isn't granted: if so, it
+-- never slept
 abbrev pub LooksWith : SeatModel → Ticket → Waited → SeatModel → Type 0
 LooksWith s ticket AtOnce u =
     IsSeatAfter s [] u × (less ticket.word (word_of s.list.setting.first (numbers_seen u).granted) ≡ true)
@@ -45,18 +50,19 @@ WaitsForGrant s waited t =
     × ((ticket : Ticket) × (s.sight.stands.ticket ≡ Some ticket) × (ticket.number < (numbers_seen t).granted)
     × ((u : SeatModel) × LooksWith s ticket waited u × TellsIn u.sight.seen [] t.sight.seen))
 
--- by one entry, as the last that it told, the seat granted the least ticket that wasn't granted, and the answer is its word; or
--- all tickets are granted of which it knew before
+-- by one entry, as the last that it told, the seat granted the least ticket that wasn't granted, and the
+-- answer is its word; or all tickets are granted of which it knew before
 abbrev pub NotifiesOneTicket : SeatModel → Option ℕ → SeatModel → Type 0
 NotifiesOneTicket s (Some word) t =
     (u : SeatModel) × IsSeatAfter s [] u
-    × ((numbers_seen u).granted < (numbers_seen u).handed) × (word ≡ word_of s.list.setting.first (numbers_seen u).granted)
+    × ((numbers_seen u).granted < (numbers_seen u).handed)
+    × (word ≡ word_of s.list.setting.first (numbers_seen u).granted)
     × IsSeatAfter s (Granted ((numbers_seen u).granted + 1) s.number ∷ []) t
     × TellsIn (u.sight.seen ++ Granted ((numbers_seen u).granted + 1) s.number ∷ []) [] t.sight.seen
 NotifiesOneTicket s None t = IsSeatAfter s [] t × AllGranted s t
 
--- all tickets are granted of which the seat knew before. It told nothing; or one entry, by which all n were granted that were
--- handed out when it looked, and weren't granted yet
+-- all tickets are granted of which the seat knew before. It told nothing; or one entry, by which all n were
+-- granted that were handed out when it looked, and weren't granted yet
 abbrev pub NotifiesAllTickets : SeatModel → ℕ → SeatModel → Type 0
 NotifiesAllTickets s zero t = AllGranted s t × IsSeatAfter s [] t
 NotifiesAllTickets s (suc n) t =
@@ -66,11 +72,13 @@ NotifiesAllTickets s (suc n) t =
     × IsSeatAfter s (Granted (numbers_seen look).handed s.number ∷ []) t
     × TellsIn (u.sight.seen ++ Granted (numbers_seen look).handed s.number ∷ []) [] t.sight.seen)
 
--- all tickets are granted of which the seat knew before; or it saw another number granted than, a look earlier, handed out
+-- all tickets are granted of which the seat knew before; or it saw another number granted than, a look
+-- earlier, handed out
 abbrev pub FindsAllGranted : SeatModel → Bool → SeatModel → Type 0
 FindsAllGranted s true t = IsSeatAfter s [] t × AllGranted s t
 FindsAllGranted s false t =
-    (u : SeatModel) × IsSeatAfter s [] u × IsSeatAfter u [] t × ((numbers_seen t).granted ≢ (numbers_seen u).handed)
+    (u : SeatModel) × IsSeatAfter s [] u × IsSeatAfter u [] t
+    × ((numbers_seen t).granted ≢ (numbers_seen u).handed)
 
 -- two seats have seen one journal now, and nothing else of them has changed
 pub record SeeTheSame (one other one_now other_now : SeatModel) : Type 0 where
@@ -79,14 +87,16 @@ pub record SeeTheSame (one other one_now other_now : SeatModel) : Type 0 where
   pub same : one_now.sight.seen ≡ other_now.sight.seen
   pub two : one.number ≢ other.number
 
--- all seats, of each number one, end their list. There is one lawful journal, of which each has seen a beginning with all that it
--- told; each ticket that was handed out is granted, and the two words are those of how many these are
+-- all seats, of each number one, end their list. There is one lawful journal, of which each has seen a
+-- beginning with all that it told; each ticket that was handed out is granted, and the two words are those of
+-- how many these are
 pub record EndsList (z : Setting) (seats : List SeatModel) (c : ListClosed) : Type 0 where
   pub journal : List ListEntry
   pub lawful : Follows journal
   pub begins : (s : SeatModel) → In s seats → GoesOn journal s.sight.seen
   pub each : (k : ℕ) → k < z.seats → (s : SeatModel) × In s seats × (s.number ≡ k)
-  pub own : (s : SeatModel) → In s seats → filter (is_own s.number) journal ≡ filter (is_own s.number) s.sight.seen
+  pub own : (s : SeatModel) → In s seats
+      → filter (is_own s.number) journal ≡ filter (is_own s.number) s.sight.seen
   pub granted : (told journal).granted ≡ (told journal).handed
   pub next : c.next ≡ word_of z.first (told journal).handed
   pub notified : c.notified ≡ c.next

@@ -1,14 +1,16 @@
--- What a call of one seat is to its caller: the rows that it ran, the entries that it told, and what it has seen then.
+-- What a call of one seat is to its caller: the rows that it ran, the entries that it told, and what it has
+-- seen then.
 use Rattle.std.specs.Prelude.{◌≡◌, ℕ, ◌≤◌, List, [], ◌∷◌, ◌++◌, map}
 use Rattle.std.specs.List.{All}
 use Rattle.step_table.specs.declared.list_place.ListPlace.{ListPlace}
 use Rattle.step_table.specs.ListWorld.{Numbers, ListSeat, ListEntry}
 use Rattle.step_table.specs.Path.{GoesOn, runs, all_told}
-use Rattle.list_law.specs.ListLawful.{told}
-use Rattle.list_law.specs.ListPath.{ListStride, ListPath}
+use Rattle.step_law_lists.specs.ListLawful.{told}
+use Rattle.step_law_lists.specs.ListPath.{ListStride, ListPath}
 use Rattle.notify_list.specs.Seats.{SeatModel}
 
--- what is seen now begins with what was seen before. Then come these entries in this order, among what others told
+-- what is seen now begins with what was seen before. Then come these entries in this order, among what others
+-- told
 abbrev pub TellsIn : List ListEntry → List ListEntry → List ListEntry → Type 0
 TellsIn seen [] now = GoesOn now seen
 TellsIn seen (e ∷ entries) now = (others : List ListEntry) × TellsIn ((seen ++ others) ++ e ∷ []) entries now
@@ -21,12 +23,14 @@ AreRows strides = All (λ p. p.deed ≡ runs) strides
 abbrev pub rows_of : List ListStride → List (ListPlace × ℕ)
 rows_of strides = map (λ p. (p.stood.place, p.read)) strides
 
--- the seat, standing so at first, ran just these rows of the step table, each of which read this: one path from the one sight to
--- the other, which told these entries and no others. It did nothing else meanwhile
-pub record Calls (s : SeatModel) (begun : ListSeat) (t : SeatModel) (entries : List ListEntry) (rows : List (ListPlace × ℕ))
+-- the seat, standing so at first, ran just these rows of the step table, each of which read this: one path
+-- from the one sight to the other, which told these entries and no others. It did nothing else meanwhile
+pub record Calls (s : SeatModel) (begun : ListSeat) (t : SeatModel) (entries : List ListEntry)
+    (rows : List (ListPlace × ℕ))
     : Type 0 where
   pub strides : List ListStride
-  pub path : ListPath s.list.setting.first s.list.setting.seats s.number (record { stands = begun; seen = s.sight.seen }) strides t.sight
+  pub path : ListPath s.list.setting.first s.list.setting.seats s.number
+      (record { stands = begun; seen = s.sight.seen }) strides t.sight
   pub ran : AreRows strides
   pub rows_are : rows_of strides ≡ rows
   pub told_is : all_told strides ≡ entries

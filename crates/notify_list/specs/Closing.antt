@@ -2,12 +2,12 @@
 use Rattle.std.specs.Prelude.{◌≡◌, ℕ, true, ◌<◌, List, [], ◌∷◌, length, None}
 use Rattle.std.specs.List.{All}
 use Rattle.step_table.specs.Path.{GoesOn, own_entries}
-use Rattle.ticket_words.specs.Wrapping.{word_of}
+use Rattle.step_table.specs.Wrapping.{word_of}
 use Rattle.step_table.specs.ListWorld.{ListWorld}
-use Rattle.list_law.specs.ListEntries.{EntriesNamed}
-use Rattle.list_law.specs.ListLawful.{told, IsLawfulList}
-use Rattle.list_law.specs.ListPath.{ListStride}
-use Rattle.list_law.specs.ListPlaces.{AllRest, NothingLeft}
+use Rattle.step_law_lists.specs.ListEntries.{EntriesNamed}
+use Rattle.step_law_lists.specs.ListLawful.{told, IsLawfulList}
+use Rattle.step_law_lists.specs.ListPath.{ListStride}
+use Rattle.step_law_lists.specs.ListPlaces.{AllRest, NothingLeft}
 use Rattle.notify_list.specs.declared.closed.ListClosed.{ListClosed}
 use Rattle.notify_list.specs.declared.view.Setting.{Setting}
 use Rattle.notify_list.specs.Places.{is_free}
@@ -37,15 +37,16 @@ pub record IsGathered (l : ListModel) (seats : List SeatModel) (token : Token) :
   pub own : list_of token ≡ l
   pub all : AreSeatsOf (token.me.0.own ∷ token.me.0.guests) seats
 
--- these are all seats of the list: each is one of its seats, and they are as many. None can come twice, since none can be copied
+-- these are all seats of the list: each is one of its seats, and they are as many. None can come twice, since
+-- none can be copied
 pub record AreAll (l : ListModel) (seats : List SeatModel) : Type 0 where
   pub own : All (λ s. s.list ≡ l) seats
   pub count : length seats ≡ l.setting.seats
 
--- there is one journal, in a lawful world in which all rest and nobody holds a ticket or waits. Each seat of the list is one of
--- these, and has seen a beginning of the journal with all entries of its own: so the journal has no entry but theirs. The strides
--- that the seats went told it, one after the other. Every ticket that it tells was handed out was granted, and the two words are
--- those of how many these are
+-- there is one journal, in a lawful world in which all rest and nobody holds a ticket or waits. Each seat of
+-- the list is one of these, and has seen a beginning of the journal with all entries of its own: so the
+-- journal has no entry but theirs. The strides that the seats went told it, one after the other. Every ticket
+-- that it tells was handed out was granted, and the two words are those of how many these are
 pub record IsClosed (z : Setting) (seats : List SeatModel) (c : ListClosed) : Type 0 where
   pub world : ListWorld
   pub met : IsMet z world

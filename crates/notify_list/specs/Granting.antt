@@ -3,10 +3,10 @@ use Rattle.std.specs.Prelude.{◌≡◌, ◌⊎◌, ℕ, ◌+◌, ◌<◌, ◌�
 use Rattle.step_table.specs.declared.list_place.ListPlace.{ListPlace}
 use Rattle.step_table.specs.declared.list_place.ListPlace.TheVariants.{Rest, NotifyingOne}
 use Rattle.step_table.specs.declared.list_place.OneRow.TheVariants.{O7, O8}
-use Rattle.ticket_words.specs.Wrapping.{word_of}
+use Rattle.step_table.specs.Wrapping.{word_of}
 use Rattle.step_table.specs.ListWorld.{ListEntry, Granted}
 use Rattle.step_table.specs.Path.{GoesOn}
-use Rattle.list_law.specs.ListLawful.{told}
+use Rattle.step_law_lists.specs.ListLawful.{told}
 use Rattle.notify_list.specs.Places.{at_place}
 use Rattle.notify_list.specs.Seats.{ListModel, Token, list_of, seen_of, setting_of, stands_of}
 use Rattle.notify_list.specs.Walks.{Walked, HasRecord}
@@ -24,7 +24,8 @@ pub record MayGrant (l : ListModel) (s : Token) (h ticket : ℕ) : Type 0 where
 abbrev pub grant_rows : ℕ → ℕ → List (ListPlace × ℕ)
 grant_rows h ticket = (NotifyingOne h (O7 ticket), ticket) ∷ (NotifyingOne h (O8 ticket), 1) ∷ []
 
--- the ticket was granted, and its wait wasn't in the list or was granted. It was the least that wasn't granted
+-- the ticket was granted, and its wait wasn't in the list or was granted. It was the least that wasn't
+-- granted
 pub record GrantedOne (s : Token) (h ticket : ℕ) (t : Token) : Type 0 where
   pub before : List ListEntry
   pub later : GoesOn before (seen_of s)
@@ -33,7 +34,9 @@ pub record GrantedOne (s : Token) (h ticket : ℕ) (t : Token) : Type 0 where
   pub word_is : ticket ≡ word_of (setting_of s).first (told before).granted
   pub bare : t.me.1 ≡ []
   pub walked :
-      Walked s (stands_of s) t (at_place Rest (stands_of s)) (Granted ((told before).granted + 1) s.me.0.own.number ∷ [])
+      Walked s (stands_of s) t (at_place Rest (stands_of s))
+      (Granted ((told before).granted + 1) s.me.0.own.number ∷ [])
       (grant_rows h ticket)
-      ⊎ Walked s (stands_of s) t (at_place Rest (stands_of s)) (Granted ((told before).granted + 1) s.me.0.own.number ∷ [])
+      ⊎ Walked s (stands_of s) t (at_place Rest (stands_of s))
+      (Granted ((told before).granted + 1) s.me.0.own.number ∷ [])
       (grant_rows h ticket ++ grants_it h)

@@ -7,7 +7,7 @@ use Rattle.step_table.specs.declared.list_place.ListPlace.TheVariants.{Rest, Not
 use Rattle.step_table.specs.ListEvent.{if_any}
 use Rattle.step_table.specs.ListWorld.{ListSeat, ListEntry}
 use Rattle.step_table.specs.Path.{GoesOn}
-use Rattle.list_law.specs.ListLawful.{told}
+use Rattle.step_law_lists.specs.ListLawful.{told}
 use Rattle.notify_list.specs.Places.{at_place}
 use Rattle.notify_list.specs.Rule.{Lands}
 use Rattle.notify_list.specs.Seats.{ListModel, Token, list_of, IsSeat, seen_of, setting_of, stands_of}
@@ -46,7 +46,8 @@ pub record ReachedAll (s : Token) (h n : ℕ) (t : Token) : Type 0 where
   pub notified : ℕ
   pub waited : ℕ
   pub handed : ℕ
-  pub walked : Walked s (stands_of s) t (at_place (NotifyingAll h (L7 n)) (stands_of s)) (all_entries s.me.0.own.number handed n)
+  pub walked : Walked s (stands_of s) t (at_place (NotifyingAll h (L7 n)) (stands_of s))
+      (all_entries s.me.0.own.number handed n)
       (reach_rows h notified waited handed)
   pub record_is : HasRecord t
   pub look : List ListEntry
@@ -63,11 +64,13 @@ MayTake l s h n = IsAt l s (NotifyingAll h (L7 n)) × HasRecord s × ((stands_of
 
 -- how the seat stands with these waits to grant
 abbrev pub with_waits : ℕ → List Wait → ListSeat → ListSeat
-with_waits h hand a = record { place = if_any hand (NotifyingAll h L8) Rest; ticket = a.ticket; hand = hand; late = a.late }
+with_waits h hand a =
+    record { place = if_any hand (NotifyingAll h L8) Rest; ticket = a.ticket; hand = hand; late = a.late }
 
 -- L7 ran
 pub record TakenAll (s : Token) (h n : ℕ) (t : Token) : Type 0 where
-  pub walked : Walked s (stands_of s) t (with_waits h (stands_of t).hand (stands_of s)) [] ((NotifyingAll h (L7 n), 1) ∷ [])
+  pub walked : Walked s (stands_of s) t (with_waits h (stands_of t).hand (stands_of s)) []
+      ((NotifyingAll h (L7 n), 1) ∷ [])
   pub bare : t.me.1 ≡ []
 
 abbrev pub MayWake : ListModel → Token → ℕ → Type 0

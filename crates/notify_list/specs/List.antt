@@ -1,17 +1,17 @@
 -- What the rule says of a list between any two steps of its threads.
 use Rattle.running_rows.specs.Table.{State}
-use Rattle.list_law.specs.ListLawful.{IsLawfulList}
-use Rattle.list_law.specs.ListEntries.{EntriesNamed}
-use Rattle.list_law.specs.ListGrants.{EachGrantsLeast}
+use Rattle.step_law_lists.specs.ListLawful.{IsLawfulList}
+use Rattle.step_law_lists.specs.ListEntries.{EntriesNamed}
+use Rattle.step_law_lists.specs.ListGrants.{EachGrantsLeast}
 use Rattle.running_rows.specs.Rule.{IsKept}
 use Rattle.notify_list.specs.declared.view.Record.{Record}
 use Rattle.notify_list.specs.declared.view.Setting.{Setting}
 use Rattle.notify_list.specs.Plays.{ListView}
 use Rattle.notify_list.specs.Rows.{list_rows}
 
--- words, the record at home and views are those of a world that the steps of the list's seats lead to, and this world is lawful.
--- Its journal names seats that are there, and each of its grants is of the least ungranted ticket, or of all that were handed out
--- when the wait word was read
+-- words, the record at home and views are those of a world that the steps of the list's seats lead to, and
+-- this world is lawful. Its journal names seats that are there, and each of its grants is of the least
+-- ungranted ticket, or of all that were handed out when the wait word was read
 pub record IsLawfulShown (z : Setting) (s : State Record ListView) : Type 0 where
   pub kept : IsKept list_rows z s
   pub lawful : IsLawfulList z.first z.seats kept.world

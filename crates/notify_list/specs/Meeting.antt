@@ -3,10 +3,11 @@ use Rattle.std.specs.Prelude.{◌≡◌, ◌≢◌, ℕ, [], ◌∷◌, ◌++◌
 use Rattle.step_table.specs.declared.list_place.ListWord.{ListWord}
 use Rattle.step_table.specs.declared.list_place.ListWord.TheVariants.{Wait}
 use Rattle.step_table.specs.Path.{GoesOn, looks}
-use Rattle.list_law.specs.ListPath.{ListStride, ListRan}
+use Rattle.step_law_lists.specs.ListPath.{ListStride, ListRan}
 use Rattle.notify_list.specs.Seats.{SeatModel}
 
--- nothing but a look: the seat stands as it stood, and has seen all that was told up to the look, which read n
+-- nothing but a look: the seat stands as it stood, and has seen all that was told up to the look, which read
+-- n
 pub record LooksAt (s : SeatModel) (w : ListWord) (n : ℕ) (t : SeatModel) : Type 0 where
   pub same : t ≡ record s { sight = t.sight; strides = t.strides }
   pub stride : ListStride
@@ -17,7 +18,8 @@ pub record LooksAt (s : SeatModel) (w : ListWord) (n : ℕ) (t : SeatModel) : Ty
   pub stays : t.sight.stands ≡ s.sight.stands
   pub later : GoesOn t.sight.seen s.sight.seen
 
--- each of both seats looked at the wait word once, and found this number. They have seen one journal then, and are two seats
+-- each of both seats looked at the wait word once, and found this number. They have seen one journal then,
+-- and are two seats
 pub record HasMet (one other one_now other_now : SeatModel) : Type 0 where
   pub number : ℕ
   pub one_looked : LooksAt one Wait number one_now

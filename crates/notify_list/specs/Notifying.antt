@@ -3,10 +3,10 @@ use Rattle.std.specs.Prelude.{◌≡◌, ◌≢◌, ◌⊎◌, ℕ, ◌+◌, ◌
 use Rattle.step_table.specs.declared.list_place.ListPlace.{ListPlace}
 use Rattle.step_table.specs.declared.list_place.ListPlace.TheVariants.{Rest, NotifyingOne}
 use Rattle.step_table.specs.declared.list_place.OneRow.TheVariants.{O1, O3, O4, O5, O6, O7, O8, O9}
-use Rattle.ticket_words.specs.Wrapping.{word_of}
+use Rattle.step_table.specs.Wrapping.{word_of}
 use Rattle.step_table.specs.ListWorld.{ListSeat, ListEntry, Granted}
 use Rattle.step_table.specs.Path.{GoesOn}
-use Rattle.list_law.specs.ListLawful.{told}
+use Rattle.step_law_lists.specs.ListLawful.{told}
 use Rattle.notify_list.specs.Places.{at_place}
 use Rattle.notify_list.specs.Seats.{SeatModel}
 use Rattle.notify_list.specs.Calls.{Calls, ComesTo}
@@ -15,7 +15,8 @@ use Rattle.notify_list.specs.Tickets.{looks}
 -- the lock was taken and the notify word read again; the wait word was equal to it now
 abbrev pub finds_none : ℕ → ℕ → List (ListPlace × ℕ)
 finds_none h ticket =
-    (NotifyingOne h O3, 0) ∷ (NotifyingOne h O4, ticket) ∷ (NotifyingOne h (O5 ticket), ticket) ∷ (NotifyingOne h O6, 1) ∷ []
+    (NotifyingOne h O3, 0) ∷ (NotifyingOne h O4, ticket) ∷ (NotifyingOne h (O5 ticket), ticket) ∷
+    (NotifyingOne h O6, 1) ∷ []
 
 -- the wait word was another, and the ticket of the notify word was granted
 abbrev pub finds_one : ℕ → ℕ → ℕ → List (ListPlace × ℕ)
@@ -27,7 +28,8 @@ finds_one h ticket waited =
 abbrev pub grants_it : ℕ → List (ListPlace × ℕ)
 grants_it h = (NotifyingOne h O9, 0) ∷ []
 
--- the rows from the lock on. Nothing was granted; or one entry was told, and the ticket's wait wasn't in the list or was granted
+-- the rows from the lock on. Nothing was granted; or one entry was told, and the ticket's wait wasn't in the
+-- list or was granted
 abbrev pub OneFromLock : SeatModel → ListSeat → ℕ → List (ListPlace × ℕ) → Option ℕ → SeatModel → Type 0
 OneFromLock s begun h before None t = (ticket : ℕ) × Calls s begun t [] (before ++ finds_none h ticket)
 OneFromLock s begun h before (Some ticket) t =
@@ -35,19 +37,21 @@ OneFromLock s begun h before (Some ticket) t =
     × (Calls s begun t (Granted upto s.number ∷ []) (before ++ finds_one h ticket waited)
     ⊎ Calls s begun t (Granted upto s.number ∷ []) (before ++ (finds_one h ticket waited ++ grants_it h)))
 
--- the whole: the two first looks found one word, and nothing was granted; or they differed, and the seat went to the lock
+-- the whole: the two first looks found one word, and nothing was granted; or they differed, and the seat went
+-- to the lock
 pub record NotifiesOne (s : SeatModel) (answer : Option ℕ) (t : SeatModel) : Type 0 where
   pub comes : ComesTo s (at_place Rest s.sight.stands) t
   pub h : ℕ
   pub waited : ℕ
   pub notified : ℕ
   pub rows :
-      ((answer ≡ None) × (waited ≡ notified) × Calls s (at_place (NotifyingOne 0 O1) s.sight.stands) t [] (looks h waited notified))
+      ((answer ≡ None) × (waited ≡ notified)
+      × Calls s (at_place (NotifyingOne 0 O1) s.sight.stands) t [] (looks h waited notified))
       ⊎ ((waited ≢ notified)
       × OneFromLock s (at_place (NotifyingOne 0 O1) s.sight.stands) h (looks h waited notified) answer t)
 
--- the seat granted the least ticket that wasn't granted, and that alone, by an entry of its own which stands after all that it had
--- seen before. The ticket was handed out, and this is its word
+-- the seat granted the least ticket that wasn't granted, and that alone, by an entry of its own which stands
+-- after all that it had seen before. The ticket was handed out, and this is its word
 pub record GrantsLeast (s : SeatModel) (word : ℕ) (t : SeatModel) : Type 0 where
   pub before : List ListEntry
   pub later : GoesOn before s.sight.seen
@@ -55,9 +59,12 @@ pub record GrantsLeast (s : SeatModel) (word : ℕ) (t : SeatModel) : Type 0 whe
   pub handed : (told before).granted < (told before).handed
   pub word_is : word ≡ word_of s.list.setting.first (told before).granted
 
--- the rows of a notification from O3 on, whose first look found h tickets handed out. Where it answers none, these are granted
+-- the rows of a notification from O3 on, whose first look found h tickets handed out. Where it answers none,
+-- these are granted
 abbrev pub EndsOne : SeatModel → ℕ → Option ℕ → SeatModel → Type 0
 EndsOne s h None t =
-    ComesTo s (at_place Rest s.sight.stands) t × OneFromLock s s.sight.stands h [] None t × (h ≤ (told t.sight.seen).granted)
+    ComesTo s (at_place Rest s.sight.stands) t × OneFromLock s s.sight.stands h [] None t
+    × (h ≤ (told t.sight.seen).granted)
 EndsOne s h (Some word) t =
-    ComesTo s (at_place Rest s.sight.stands) t × OneFromLock s s.sight.stands h [] (Some word) t × GrantsLeast s word t
+    ComesTo s (at_place Rest s.sight.stands) t × OneFromLock s s.sight.stands h [] (Some word) t
+    × GrantsLeast s word t

@@ -6,17 +6,19 @@ use Rattle.step_table.specs.declared.list_place.ListPlace.{ListPlace}
 use Rattle.step_table.specs.declared.list_place.ListPlace.TheVariants.{Rest, NotifyingAll}
 use Rattle.step_table.specs.ListWorld.{ListEntry, Granted}
 use Rattle.step_table.specs.Path.{GoesOn, own_entries}
-use Rattle.list_law.specs.ListLawful.{told}
+use Rattle.step_law_lists.specs.ListLawful.{told}
 use Rattle.notify_list.specs.Places.{at_place}
 use Rattle.notify_list.specs.Rule.{watched}
 use Rattle.notify_list.specs.Seats.{SeatModel}
 use Rattle.notify_list.specs.Calls.{Calls, ComesTo}
 
--- the two first looks: the wait word was this, then the notify word that; h tickets were handed out at the first
+-- the two first looks: the wait word was this, then the notify word that; h tickets were handed out at the
+-- first
 abbrev pub looks_all : ℕ → ℕ → ℕ → List (ListPlace × ℕ)
 looks_all h waited notified = (NotifyingAll 0 L1, waited) ∷ (NotifyingAll h (L2 waited), notified) ∷ []
 
--- both words were read again under the lock, when so many tickets were handed out, and the notify word was set to the wait word
+-- both words were read again under the lock, when so many tickets were handed out, and the notify word was
+-- set to the wait word
 abbrev pub reach_rows : ℕ → ℕ → ℕ → ℕ → List (ListPlace × ℕ)
 reach_rows h notified waited handed =
     (NotifyingAll h L4, notified) ∷ (NotifyingAll h (L5 notified), waited)
@@ -29,28 +31,31 @@ wake_rows h hand = map (λ w. (NotifyingAll h L8, 0)) hand
 -- all rows from the lock on, by which n tickets were granted, and these waits taken out
 abbrev pub all_rows : ℕ → ℕ → ℕ → ℕ → ℕ → List Wait → List (ListPlace × ℕ)
 all_rows h notified waited handed n hand =
-    (NotifyingAll h L3, 0) ∷ (reach_rows h notified waited handed ++ (NotifyingAll h (L7 n), 1) ∷ wake_rows h hand)
+    (NotifyingAll h L3, 0) ∷
+    (reach_rows h notified waited handed ++ (NotifyingAll h (L7 n), 1) ∷ wake_rows h hand)
 
 -- one entry, by which so many tickets are granted, or none where that granted no ticket
 abbrev pub all_entries : ℕ → ℕ → ℕ → List ListEntry
 all_entries i upto zero = []
 all_entries i upto (suc n) = Granted upto i ∷ []
 
--- the two first looks found one word, and nothing was granted; or they differed, and all was done under the lock
+-- the two first looks found one word, and nothing was granted; or they differed, and all was done under the
+-- lock
 pub record NotifiesAll (s : SeatModel) (n : ℕ) (t : SeatModel) : Type 0 where
   pub comes : ComesTo s (at_place Rest s.sight.stands) t
   pub h : ℕ
   pub waited : ℕ
   pub notified : ℕ
   pub rows :
-      ((n ≡ 0) × (waited ≡ notified) × Calls s (at_place (NotifyingAll 0 L1) s.sight.stands) t [] (looks_all h waited notified))
+      ((n ≡ 0) × (waited ≡ notified)
+      × Calls s (at_place (NotifyingAll 0 L1) s.sight.stands) t [] (looks_all h waited notified))
       ⊎ ((waited ≢ notified)
       × ((was now handed : ℕ) × (hand : List Wait)
       × Calls s (at_place (NotifyingAll 0 L1) s.sight.stands) t (all_entries s.number handed n)
       (looks_all h waited notified ++ all_rows h was now handed n hand)))
 
--- n tickets were granted, by one entry of the seat which stands after all that it had seen before: all that were handed out when it
--- read the wait word and weren't granted
+-- n tickets were granted, by one entry of the seat which stands after all that it had seen before: all that
+-- were handed out when it read the wait word and weren't granted
 pub record GrantsUpTo (s : SeatModel) (n : ℕ) (t : SeatModel) : Type 0 where
   pub before : List ListEntry
   pub look : List ListEntry
@@ -62,5 +67,6 @@ pub record GrantsUpTo (s : SeatModel) (n : ℕ) (t : SeatModel) : Type 0 where
 -- the seat granted so many: none, and told nothing; or by one entry
 abbrev pub GrantsSome : SeatModel → ℕ → SeatModel → Type 0
 GrantsSome s zero t =
-    own_entries (watched s.list.setting) s.number t.sight.seen ≡ own_entries (watched s.list.setting) s.number s.sight.seen
+    own_entries (watched s.list.setting) s.number t.sight.seen
+    ≡ own_entries (watched s.list.setting) s.number s.sight.seen
 GrantsSome s (suc n) t = GrantsUpTo s (suc n) t

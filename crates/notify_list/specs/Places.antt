@@ -2,7 +2,8 @@
 use Rattle.std.specs.Prelude.{◌≡◌, Bool, true, false, Some, None}
 use Rattle.step_table.specs.declared.list_place.AllRow.TheVariants.{L1, L3, L4}
 use Rattle.step_table.specs.declared.list_place.ListPlace.{ListPlace}
-use Rattle.step_table.specs.declared.list_place.ListPlace.TheVariants.{Rest, Adding, Waiting, NotifyingOne, NotifyingAll}
+use Rattle.step_table.specs.declared.list_place.ListPlace.TheVariants.{Rest, Adding, Waiting, NotifyingOne}
+use Rattle.step_table.specs.declared.list_place.ListPlace.TheVariants.{NotifyingAll}
 use Rattle.step_table.specs.declared.list_place.OneRow.TheVariants.{O1, O3, O4}
 use Rattle.step_table.specs.declared.list_place.Ticket.{Ticket}
 use Rattle.step_table.specs.declared.list_place.WaitRow.TheVariants.{W1, W2}
@@ -23,7 +24,8 @@ at_place place a = record a { place = place }
 abbrev pub waiting : ListSeat → ListSeat
 waiting a = with_ticket a a.ticket
 
--- a seat that stands like the first may run the row at which the second stands: it stands there, or begins a call
+-- a seat that stands like the first may run the row at which the second stands: it stands there, or begins a
+-- call
 pub data Begins (a : ListSeat) : ListSeat → Type 0 where
   stands : Begins a a
   adds : is_free a.place ≡ true → a.ticket ≡ None → Begins a (at_place Adding a)

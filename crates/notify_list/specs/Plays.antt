@@ -4,7 +4,7 @@ use Rattle.step_table.specs.declared.list_place.AllRow.TheVariants.{L1}
 use Rattle.step_table.specs.declared.list_place.ListPlace.TheVariants.{Adding, NotifyingOne, NotifyingAll}
 use Rattle.step_table.specs.declared.list_place.OneRow.TheVariants.{O1}
 use Rattle.step_table.specs.ListWorld.{ListSeat}
-use Rattle.list_law.specs.ListPath.{ListStride}
+use Rattle.step_law_lists.specs.ListPath.{ListStride}
 use Rattle.running_rows.specs.declared.view.View.{View}
 use Rattle.running_rows.specs.declared.view.Seated.{Seated}
 use Rattle.notify_list.specs.declared.view.Known.{Known}

@@ -21,4 +21,5 @@ HasWaits s queue = (y : Record) × (s.me.1 ≡ (0, y) ∷ []) × IsRecord (setti
 -- of these waits there was none; or the first of them is the seat's, and was taken out
 abbrev pub FirstOut : Token → List Wait → Option ℕ → Token → Type 0
 FirstOut s queue None t = (queue ≡ []) × Edited s [] t
-FirstOut s queue (Some seat) t = (w : Wait) × (rest : List Wait) × (queue ≡ w ∷ rest) × (w.id.seat ≡ seat) × Edited s rest t
+FirstOut s queue (Some seat) t =
+    (w : Wait) × (rest : List Wait) × (queue ≡ w ∷ rest) × (w.id.seat ≡ seat) × Edited s rest t

@@ -1,4 +1,5 @@
--- What the words and the record of a running notify list show, and what a seat knows: a reached world of the step table.
+-- What the words and the record of a running notify list show, and what a seat knows: a reached world of the
+-- step table.
 use Rattle.std.specs.Prelude.{◌≡◌, ℕ, ◌+◌, ◌≤◌, List, [], length, slice_index, None}
 use mathlib.Core.Option.{Option, some}
 use lib.ListN.{get_elem?}
@@ -11,8 +12,8 @@ use Rattle.step_table.specs.ListWorld.{ListWords, ListSeat, ListEntry, ListWorld
 use Rattle.step_table.specs.ListEvent.{ListNext}
 use Rattle.step_table.specs.ListSteps.{IsListReached}
 use Rattle.step_table.specs.Path.{Watched, Meets, sight}
-use Rattle.list_law.specs.ListLawful.{holds}
-use Rattle.list_law.specs.ListPath.{notify_list}
+use Rattle.step_law_lists.specs.ListLawful.{holds}
+use Rattle.step_law_lists.specs.ListPath.{notify_list}
 use Rattle.notify_list.specs.declared.view.Known.{Known}
 use Rattle.notify_list.specs.declared.view.Setting.{Setting}
 use Rattle.notify_list.specs.declared.view.Record.{Record}

@@ -6,7 +6,7 @@ use Rattle.waiters.specs.declared.wait.Wait.{Wait}
 use Rattle.step_table.specs.declared.list_place.ListPlace.TheVariants.{Rest}
 use Rattle.step_table.specs.declared.list_place.Ticket.{Ticket}
 use Rattle.step_table.specs.ListWorld.{ListSeat, ListEntry}
-use Rattle.list_law.specs.ListPath.{ListSight, ListStride}
+use Rattle.step_law_lists.specs.ListPath.{ListSight, ListStride}
 use Rattle.notify_list.specs.declared.view.Record.{Record}
 use Rattle.notify_list.specs.declared.view.Setting.{Setting}
 use Rattle.notify_list.specs.Places.{is_free}
@@ -28,7 +28,8 @@ pub record SeatModel : Type 0 where
 abbrev pub Token : Type 0
 Token = words.Token Record Known ListStride
 
--- what the token's seat knows of its list, how it stands, what it has seen, and the list of waits after its last stride
+-- what the token's seat knows of its list, how it stands, what it has seen, and the list of waits after its
+-- last stride
 abbrev pub setting_of : Token → Setting
 setting_of t = t.me.0.own.knows.setting
 
@@ -45,9 +46,11 @@ abbrev pub list_of : Token → ListModel
 list_of t = record { id = t.table_id; setting = setting_of t }
 
 abbrev pub seat_of : Token → ℕ → SeatModel
-seat_of t n = record { list = list_of t; number = n; sight = t.me.0.own.knows.sight; strides = t.me.0.own.gone }
+seat_of t n =
+    record { list = list_of t; number = n; sight = t.me.0.own.knows.sight; strides = t.me.0.own.gone }
 
--- the token is that of the seat n: it holds no slot, and its sight is that of the seat in a world that was met
+-- the token is that of the seat n: it holds no slot, and its sight is that of the seat in a world that was
+-- met
 pub record IsToken (t : Token) (n : ℕ) : Type 0 where
   pub bare : t.me.1 ≡ []
   pub number_is : t.me.0.own.number ≡ n

@@ -6,7 +6,7 @@ use Rattle.step_table.specs.declared.list_place.ListWord.{ListWord}
 use Rattle.step_table.specs.declared.list_place.Ticket.{Ticket}
 use Rattle.step_table.specs.ListWorld.{ListEntry, Took, Granted}
 use Rattle.step_table.specs.Path.{Deed, runs, looks}
-use Rattle.list_law.specs.ListPath.{ListSight, ListStride}
+use Rattle.step_law_lists.specs.ListPath.{ListSight, ListStride}
 
 -- a ticket was taken by the seat, or it granted tickets, so that so many are
 abbrev pub entry_of : Option ℕ → ℕ → ListEntry

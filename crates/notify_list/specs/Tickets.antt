@@ -4,9 +4,9 @@ use Rattle.step_table.specs.declared.list_place.ListPlace.{ListPlace}
 use Rattle.step_table.specs.declared.list_place.ListPlace.TheVariants.{Rest, Adding, NotifyingOne}
 use Rattle.step_table.specs.declared.list_place.OneRow.TheVariants.{O1, O2, O3}
 use Rattle.step_table.specs.declared.list_place.Ticket.{Ticket}
-use Rattle.ticket_words.specs.Wrapping.{word_of}
+use Rattle.step_table.specs.Wrapping.{word_of}
 use Rattle.step_table.specs.ListWorld.{ListSeat, ListEntry, Took}
-use Rattle.list_law.specs.ListLawful.{told}
+use Rattle.step_law_lists.specs.ListLawful.{told}
 use Rattle.notify_list.specs.Places.{at_place}
 use Rattle.notify_list.specs.Seats.{SeatModel}
 use Rattle.notify_list.specs.Calls.{Calls, ComesTo, numbers_seen}
@@ -15,7 +15,8 @@ use Rattle.notify_list.specs.Calls.{Calls, ComesTo, numbers_seen}
 abbrev pub with_held : Ticket → ListSeat → ListSeat
 with_held ticket a = record { place = Rest; ticket = Some ticket; hand = a.hand; late = a.late }
 
--- the ticket is the next one: its number is how many were handed out before, and its word is that of its number
+-- the ticket is the next one: its number is how many were handed out before, and its word is that of its
+-- number
 pub record IsNextTicket (s : SeatModel) (ticket : Ticket) (t : SeatModel) : Type 0 where
   pub before : List ListEntry
   pub seen_is : t.sight.seen ≡ before ++ Took s.number ∷ []
@@ -37,7 +38,8 @@ pub record HasTicket (s : SeatModel) (word : ℕ) : Type 0 where
   pub shown : word ≡ word_of s.list.setting.first ticket.number
   pub handed : ticket.number < (numbers_seen s).handed
 
--- the first two looks of a notification: the wait word was this, then the notify word that; h tickets were handed out at the first
+-- the first two looks of a notification: the wait word was this, then the notify word that; h tickets were
+-- handed out at the first
 abbrev pub looks : ℕ → ℕ → ℕ → List (ListPlace × ℕ)
 looks h waited notified = (NotifyingOne 0 O1, waited) ∷ (NotifyingOne h (O2 waited), notified) ∷ []
 
@@ -45,8 +47,8 @@ looks h waited notified = (NotifyingOne 0 O1, waited) ∷ (NotifyingOne h (O2 wa
 abbrev pub after_looks : ℕ → Bool → ListPlace
 after_looks h equal = if equal then Rest else NotifyingOne h O3
 
--- the seat looked at both words; the answer is whether they were equal. All tickets that it has seen handed out were so at the
--- first look
+-- the seat looked at both words; the answer is whether they were equal. All tickets that it has seen handed
+-- out were so at the first look
 pub record HasLooked (s : SeatModel) (equal : Bool) (t : SeatModel) : Type 0 where
   pub h : ℕ
   pub waited : ℕ

@@ -3,15 +3,16 @@ use Rattle.std.specs.Prelude.{◌≡◌, ℕ, ◌<◌, true, false, [], ◌∷�
 use Rattle.step_table.specs.declared.list_place.ListPlace.TheVariants.{Rest, Waiting}
 use Rattle.step_table.specs.declared.list_place.Ticket.{Ticket}
 use Rattle.step_table.specs.declared.list_place.WaitRow.TheVariants.{W1, W2, W3, W4, P}
-use Rattle.ticket_words.specs.Wrapping.{less}
+use Rattle.step_table.specs.Wrapping.{less}
 use Rattle.notify_list.specs.declared.waited.Waited.{Waited}
 use Rattle.notify_list.specs.declared.waited.Waited.TheVariants.{AtOnce, Parked}
 use Rattle.notify_list.specs.Places.{waiting}
 use Rattle.notify_list.specs.Seats.{SeatModel}
 use Rattle.notify_list.specs.Calls.{Calls, ComesTo, numbers_seen}
 
--- the seat waited with this ticket, and read this in the notify word under the lock. The ticket was found granted there, and the lock
--- given back; or it wasn't, and the wait was queued in the same hold of the lock, and granted
+-- the seat waited with this ticket, and read this in the notify word under the lock. The ticket was found
+-- granted there, and the lock given back; or it wasn't, and the wait was queued in the same hold of the lock,
+-- and granted
 abbrev pub WaitsWith : SeatModel → Ticket → ℕ → Waited → SeatModel → Type 0
 WaitsWith s ticket notified AtOnce t =
     (less ticket.word notified ≡ true)
@@ -20,7 +21,8 @@ WaitsWith s ticket notified AtOnce t =
 WaitsWith s ticket notified Parked t =
     (less ticket.word notified ≡ false)
     × Calls s (waiting s.sight.stands) t []
-    ((Waiting ticket W1, 0) ∷ (Waiting ticket W2, notified) ∷ (Waiting ticket W4, 1) ∷ (Waiting ticket P, 1) ∷ [])
+    ((Waiting ticket W1, 0) ∷ (Waiting ticket W2, notified) ∷ (Waiting ticket W4, 1) ∷
+    (Waiting ticket P, 1) ∷ [])
 
 -- the seat waited with the ticket that it held, and rests without one
 pub record IsWaited (s : SeatModel) (waited : Waited) (t : SeatModel) : Type 0 where
@@ -28,8 +30,10 @@ pub record IsWaited (s : SeatModel) (waited : Waited) (t : SeatModel) : Type 0 w
   pub held : s.sight.stands.ticket ≡ Some ticket
   pub notified : ℕ
   pub how : WaitsWith s ticket notified waited t
-  pub comes : ComesTo s (record { place = Rest; ticket = None; hand = s.sight.stands.hand; late = t.sight.stands.late }) t
+  pub comes : ComesTo s
+      (record { place = Rest; ticket = None; hand = s.sight.stands.hand; late = t.sight.stands.late }) t
 
 -- the ticket that the seat held is granted
 abbrev pub IsGranted : SeatModel → SeatModel → Type 0
-IsGranted s t = (ticket : Ticket) → s.sight.stands.ticket ≡ Some ticket → ticket.number < (numbers_seen t).granted
+IsGranted s t =
+    (ticket : Ticket) → s.sight.stands.ticket ≡ Some ticket → ticket.number < (numbers_seen t).granted

@@ -4,7 +4,7 @@ use Rattle.waiters.specs.declared.wait.Wait.{Wait}
 use Rattle.step_table.specs.declared.list_place.ListPlace.{ListPlace}
 use Rattle.step_table.specs.ListWorld.{ListSeat, ListEntry}
 use Rattle.step_table.specs.Path.{all_told}
-use Rattle.list_law.specs.ListPath.{ListStride, ListPath}
+use Rattle.step_law_lists.specs.ListPath.{ListStride, ListPath}
 use Rattle.notify_list.specs.declared.view.Record.{Record}
 use Rattle.notify_list.specs.Places.{Begins, at_place, waiting, takes_lock, locked}
 use Rattle.notify_list.specs.Rule.{Lands, IsRecord}
@@ -39,7 +39,8 @@ pub record MayLock (l : ListModel) (s : Token) : Type 0 where
 
 -- the row ran, and the record came with the lock
 pub record Locked (s t : Token) : Type 0 where
-  pub walked : Walked s (waiting (stands_of s)) t (at_place (locked (waiting (stands_of s)).place) (waiting (stands_of s))) []
+  pub walked : Walked s (waiting (stands_of s)) t
+      (at_place (locked (waiting (stands_of s)).place) (waiting (stands_of s))) []
       (((waiting (stands_of s)).place, 0) ∷ [])
   pub record_is : HasRecord t
 

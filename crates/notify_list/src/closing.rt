@@ -30,7 +30,8 @@ impl NotifyList {
         token
     }
 
-    /// Ends the list, for which it asks for all seats: every ticket that was handed out is granted, and nobody waits.
+    /// Ends the list, for which it asks for all seats: every ticket that was handed out is granted, and
+    /// nobody waits.
     pub fn close(self, seats: Vec<ListSeat>) -> ListClosed
         requires { AreAll self seats.items }
         ensures rows { IsClosed self.setting seats.items result }

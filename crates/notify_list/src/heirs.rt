@@ -1,13 +1,15 @@
 //! Whom a seat wakes after a notification of all.
 //!
-//! A call of the kernel takes longer than all else of a grant. If who grants made one for each of many, the first would run into
-//! the lock that the caller may still hold, and the last would wait for all the calls. So who grants wakes the first three alone, once
-//! all are granted; and each seat, once it has its grant, wakes two more, its heirs, whom two words beside its grant name.
+//! A call of the kernel takes longer than all else of a grant. If who grants made one for each of many, the
+//! first would run into the lock that the caller may still hold, and the last would wait for all the calls.
+//! So who grants wakes the first three alone, once all are granted; and each seat, once it has its grant,
+//! wakes two more, its heirs, whom two words beside its grant name.
 //!
-//! The heirs are named before any seat is granted. A seat that didn't sleep may have its grant before its heirs have theirs: it takes
-//! their names away, then looks whether they are granted, and sleep; who grants stores a grant, then looks whether its seat is still
-//! named. All four are in one order, the same for all threads: either the seat finds its heir granted, or its name was taken away
-//! before the granter's look, and the granter wakes the heir. So each that was granted is woken.
+//! The heirs are named before any seat is granted. A seat that didn't sleep may have its grant before its
+//! heirs have theirs: it takes their names away, then looks whether they are granted, and sleep; who grants
+//! stores a grant, then looks whether its seat is still named. All four are in one order, the same for all
+//! threads: either the seat finds its heir granted, or its name was taken away before the granter's look, and
+//! the granter wakes the heir. So each that was granted is woken.
 ghost use Rattle.std.specs.Prelude.{◌≡◌, ◌<◌, ◌≤◌};
 ghost use Rattle.notify_list.specs.Seats.{list_of};
 ghost use Rattle.notify_list.specs.Setting.{words_shown};
@@ -118,7 +120,8 @@ impl NotifyList {
     {
         let name = self.words.aside(token, word);
         if name != 0 {
-            // First the name, then the looks at the heir's words: whoever grants it meanwhile finds it unnamed.
+            // First the name, then the looks at the heir's words: whoever grants it meanwhile finds it
+            // unnamed.
             self.words.set_aside(token, word, 0);
             self.wake_named(token, name);
         }

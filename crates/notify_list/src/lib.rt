@@ -1,18 +1,21 @@
-//! The running notify list: tickets on which the callers' own threads wait and which they grant, over shared words, after
-//! `notifyList` of Go's `runtime/sema.go`.
+//! The running notify list: tickets on which the callers' own threads wait and which they grant, over shared
+//! words, after `notifyList` of Go's `runtime/sema.go`.
 //!
-//! [`NotifyList::add`] takes the next ticket. [`NotifyList::wait`] waits with it, and comes back once it is granted: at once, where
-//! it was granted before, or after its seat has slept. [`NotifyList::one`] grants the least ticket that isn't granted,
-//! [`NotifyList::all`] grants all that aren't, and [`NotifyList::quiet`] looks whether all are. By [`NotifyList::meet`] two seats come
-//! to have seen one journal, and [`NotifyList::close`] ends the list with all its seats. Each atomic step is one row of the step table,
-//! in every schedule, and the contract of a call is the rows that it ran and the entries of the journal that they told; beside it stands
-//! what it says of tickets, and in a clause `caller` what the call is to one who knows no rows: the seat before and after, the entries
-//! that it told, and what the answer means. [`law_of_the_list`] says that the list is lawful between any two of them.
+//! [`NotifyList::add`] takes the next ticket. [`NotifyList::wait`] waits with it, and comes back once it is
+//! granted: at once, where it was granted before, or after its seat has slept. [`NotifyList::one`] grants the
+//! least ticket that isn't granted, [`NotifyList::all`] grants all that aren't, and [`NotifyList::quiet`]
+//! looks whether all are. By [`NotifyList::meet`] two seats come to have seen one journal, and
+//! [`NotifyList::close`] ends the list with all its seats. Each atomic step is one row of the step table, in
+//! every schedule, and the contract of a call is the rows that it ran and the entries of the journal that
+//! they told; beside it stands what it says of tickets, and in a clause `caller` what the call is to one who
+//! knows no rows: the seat before and after, the entries that it told, and what the answer means.
+//! [`law_of_the_list`] says that the list is lawful between any two of them.
 //!
-//! A list has 1 to 256 seats. Its tickets are words of 64 bits that wrap: the first is what the list starts at, and a ticket comes
-//! before another where it is up to 2^63 behind. [`NotifyList::starting_at`] refuses any other number of seats, or answers want of
-//! memory, and takes all memory that the list ever takes. After it no call is refused. A seat is used by one thread at a time, since
-//! it is moved or lent. `one` and `all` may wait for the list's lock, and `wait` for its grant too; all other calls end.
+//! A list has 1 to 256 seats. Its tickets are words of 64 bits that wrap: the first is what the list starts
+//! at, and a ticket comes before another where it is up to 2^63 behind. [`NotifyList::starting_at`] refuses
+//! any other number of seats, or answers want of memory, and takes all memory that the list ever takes. After
+//! it no call is refused. A seat is used by one thread at a time, since it is moved or lent. `one` and `all`
+//! may wait for the list's lock, and `wait` for its grant too; all other calls end.
 #![tactic(auto)]
 
 mod closed;

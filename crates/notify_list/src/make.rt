@@ -23,7 +23,8 @@ const MAX_SEATS: u32 = 256;
 
 /// A seat that has run nothing.
 fn new_seat(token: Token, number: u16) -> ListSeat
-    requires own { (z : Made) × (token.me.0.own ≡ fresh_seat list_rows z number) × (number < z.seats) × AreAllowed z.seats }
+    requires own { (z : Made) × (token.me.0.own ≡ fresh_seat list_rows z number) × (number < z.seats)
+        × AreAllowed z.seats }
     requires bare { token.me.1 ≡ [] }
     ensures { result ≡ making.new_seat (list_of token) number }
 {
@@ -84,8 +85,8 @@ fn make(alloc: Global, setting: Setting) -> Result<(NotifyList, Vec<ListSeat>), 
 }
 
 impl NotifyList {
-    /// A list whose first ticket is this one, and its seats in the order of their numbers. An error has made nothing: there
-    /// are not 1 to 256 seats, or no memory for them.
+    /// A list whose first ticket is this one, and its seats in the order of their numbers. An error has made
+    /// nothing: there are not 1 to 256 seats, or no memory for them.
     pub fn starting_at(
         alloc: Global,
         first: u64,

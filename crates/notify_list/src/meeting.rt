@@ -7,8 +7,8 @@ use crate::notify_list::{NotifyList, WAIT};
 use crate::seat::ListSeat;
 
 impl NotifyList {
-    /// Afterwards both seats have seen one journal, which begins with what either had seen. Each has looked at
-    /// the wait word once, and both found one number.
+    /// Afterwards both seats have seen one journal, which begins with what either had seen. Each has looked
+    /// at the wait word once, and both found one number.
     pub fn meet(&self, one: &mut ListSeat, other: &mut ListSeat)
         requires { (one.old.list ≡ self.now) × (other.old.list ≡ self.now) }
         ensures rows { HasMet one.old other.old one.new other.new }

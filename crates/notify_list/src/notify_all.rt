@@ -14,13 +14,15 @@ use crate::seat::ListSeat;
 use arrayvec::ArrayVec;
 use running_rows::Here;
 use std::sync::Wait;
-use ticket_words::minus;
+use step_table::minus;
 
-/// The seats of the waits that a notification of all has taken out. On the stack: after the list is made no memory is taken.
+/// The seats of the waits that a notification of all has taken out. On the stack: after the list is made no
+/// memory is taken.
 pub(crate) type Hand = ArrayVec<u16, 256>;
 
 impl NotifyList {
-    /// Grants all tickets that aren't granted, and wakes their waits (Go's `notifyListNotifyAll`). It answers how many it granted.
+    /// Grants all tickets that aren't granted, and wakes their waits (Go's `notifyListNotifyAll`). It answers
+    /// how many it granted.
     pub fn all<R: Wait>(&self, rt: &R, seat: &mut ListSeat) -> u32
         requires { seat.old.list ≡ self.now }
         ensures rows { NotifiesAll seat.old result seat.new }
@@ -53,7 +55,8 @@ impl NotifyList {
         requires { (h : ℕ) × MayReach self.now token.old h }
         ensures { (h : ℕ) → MayReach self.now token.old h → ReachedAll token.old h result token.new }
     {
-        // Read under the lock for the answer: what was read before it may be behind, and would count what another has granted since.
+        // Read under the lock for the answer: what was read before it may be behind, and would count what
+        // another has granted since.
         let notified = self.words.load::<Here>(token, NOTIFY);
         // Read again under the lock: the word of the first look may be behind what is granted by now.
         let waited = self.words.load::<Here>(token, WAIT);
@@ -69,7 +72,8 @@ impl NotifyList {
         ensures hand { hand.new.items ≡ map (λ w. w.id.seat) (stands_of token.new).hand }
     {
         self.remove_all(token, hand);
-        // Given back before the first waiter is told: told earlier, it would run into the lock that is still held.
+        // Given back before the first waiter is told: told earlier, it would run into the lock that is still
+        // held.
         self.words.give_lock(token, LOCK, self.sleepers_word());
     }
 

@@ -1,7 +1,8 @@
 //! The list that the threads of a caller share.
 ghost use Rattle.std.specs.Prelude.{◌≡◌, ◌<◌};
 ghost use Rattle.step_table.specs.declared.list_place.ListWord.TheVariants.{Grant};
-ghost use Rattle.notify_list.specs.Setting.{address, asleep_address, misses_address, heir_address, other_heir_address, sleepers_address};
+ghost use Rattle.notify_list.specs.Setting.{address, asleep_address, misses_address, heir_address};
+ghost use Rattle.notify_list.specs.Setting.{other_heir_address, sleepers_address};
 
 use crate::rows::ListRows;
 use crate::stride::Stride;
@@ -20,8 +21,8 @@ const GRANTS: usize = 3;
 /// In which slot the list of waits lies.
 pub(crate) const RECORD: usize = 0;
 
-/// A list on which seats wait for their tickets and grant them. Its calls take `&self` and a seat, so threads share it in an
-/// `Arc`.
+/// A list on which seats wait for their tickets and grant them. Its calls take `&self` and a seat, so threads
+/// share it in an `Arc`.
 #[derive(Drop)]
 pub struct NotifyList {
     pub(crate) words: Running<Record, View<Known, Stride>, Setting, OneWorld<ListRows>>,

@@ -17,7 +17,8 @@ impl NotifyList {
     pub(crate) fn insert(&self, token: &mut Token, wait: Wait)
         requires seat { (list_of token.old ≡ self.now) × HasRecord token.old }
         requires room { length (queue_of token.old) < (setting_of token.old).seats }
-        ensures { (w : Queued) → erased_wait w ≡ wait → Edited token.old (queue_of token.old ++ w ∷ []) token.new }
+        ensures { (w : Queued) → erased_wait w ≡ wait
+            → Edited token.old (queue_of token.old ++ w ∷ []) token.new }
     {
         let record = Running::record_mut(token, &self.words, RECORD);
         record.lists.push_back(record.key, wait);
@@ -38,7 +39,8 @@ impl NotifyList {
     /// Takes the first wait out of the list, if there is one: its seat's number.
     fn remove_first(&self, token: &mut Token) -> Option<u16>
         requires { (list_of token.old ≡ self.now) × ((queue : List Queued) × HasWaits token.old queue) }
-        ensures { (queue : List Queued) → HasWaits token.old queue → FirstOut token.old queue result token.new }
+        ensures { (queue : List Queued) → HasWaits token.old queue
+            → FirstOut token.old queue result token.new }
     {
         let record = Running::record_mut(token, &self.words, RECORD);
         let Some(wait) = record.lists.pop_front(record.key) else {
@@ -49,7 +51,8 @@ impl NotifyList {
 
     /// Takes all waits out of the list: their seats' numbers, in order.
     pub(crate) fn remove_all(&self, token: &mut Token, hand: &mut Hand)
-        requires seat { (list_of token.old ≡ self.now) × HasRecord token.old × ((setting_of token.old).seats ≤ 256) }
+        requires seat { (list_of token.old ≡ self.now) × HasRecord token.old
+            × ((setting_of token.old).seats ≤ 256) }
         requires hand { hand.old.items ≡ [] }
         ensures edited { Edited token.old [] token.new }
         ensures hand { hand.new.items ≡ map (λ w. w.id.seat) (queue_of token.old) }

@@ -27,8 +27,8 @@ impl NotifyList {
         }
     }
 
-    /// Whether the two words were equal, one read after the other: then every ticket that the seat has seen handed out is granted
-    /// (the fast path of Go's `notifyListNotifyOne` and `notifyListNotifyAll`).
+    /// Whether the two words were equal, one read after the other: then every ticket that the seat has seen
+    /// handed out is granted (the fast path of Go's `notifyListNotifyOne` and `notifyListNotifyAll`).
     #[inline]
     pub fn quiet(&self, seat: &mut ListSeat) -> bool
         requires { seat.old.list ≡ self.now }

@@ -10,7 +10,8 @@ pub struct Setting {
     pub seats: u32,
 }
 
-/// An entry of the list's journal: the seat took a ticket, or it granted tickets, so that this many are. No value of it is made.
+/// An entry of the list's journal: the seat took a ticket, or it granted tickets, so that this many are. No
+/// value of it is made.
 pub struct Told {
     upto: Option<u64>,
     seat: u64,
@@ -50,7 +51,7 @@ impl Model for Told {
 }
 
 impl Model for Sight {
-    ghost use Rattle.list_law.specs.ListPath.{ListSight};
+    ghost use Rattle.step_law_lists.specs.ListPath.{ListSight};
     ghost use Rattle.notify_list.specs.Sights.{sight_of};
 
     ghost Value = { ListSight };

@@ -8,7 +8,7 @@ use crate::seat::{Holding, ListSeat};
 use crate::waited::Waited;
 use running_rows::{GivesWay, Here, Patience};
 use std::sync::Wait;
-use ticket_words::less;
+use step_table::less;
 use waiters::{SeatId, WaitId};
 
 /// How long a seat looks for its grant. Where more than one ticket isn't granted it doesn't look.
@@ -35,8 +35,8 @@ impl NotifyList {
             ticket,
         } = holding;
         self.lock(rt, &mut token);
-        // Looked at under the lock, where alone tickets are granted. Without the look, or with one before the lock, a ticket that
-        // was granted in between would sleep for good.
+        // Looked at under the lock, where alone tickets are granted. Without the look, or with one before the
+        // lock, a ticket that was granted in between would sleep for good.
         let notified = self.words.load::<Here>(&mut token, NOTIFY);
         if less(ticket, notified) {
             self.words.give_lock(&mut token, LOCK, self.sleepers_word());
@@ -44,7 +44,8 @@ impl NotifyList {
         }
         let seat = SeatId::new(number);
         let id = WaitId { seat, turn: 0 };
-        // Queued in the hold of the lock in which the ticket was found ungranted: who grants it finds the wait.
+        // Queued in the hold of the lock in which the ticket was found ungranted: who grants it finds the
+        // wait.
         self.insert(&mut token, waiters::Wait { id, ticket });
         self.words.give_lock(&mut token, LOCK, self.sleepers_word());
         let grant = grant_word(number);

@@ -1,4 +1,5 @@
--- A family of rows: which worlds its words and records show, what a seat knows of them, and what a stride of it is.
+-- A family of rows: which worlds its words and records show, what a seat knows of them, and what a stride of
+-- it is.
 use Rattle.std.specs.Prelude.{◌≡◌, ℕ, List}
 use mathlib.Core.Option.{Option}
 use Rattle.step_table.specs.Path.{Watched, Sight, Stride}

@@ -23,8 +23,8 @@ module _ {S V T K : Type 0} (f : Family S V T K) where
   abbrev pub journal_of : f.Key → f.World → List f.Entry
   journal_of k world = (f.watched k).journal world
 
-  -- the seat u, which is w now, went no stride, and the journal is as it was; or it went one, which saw all of the journal, and
-  -- told what came next
+  -- the seat u, which is w now, went no stride, and the journal is as it was; or it went one, which saw all
+  -- of the journal, and told what came next
   abbrev pub TellsOn : f.Key → f.World → f.World → Seated V T → Seated V T → Type 0
   TellsOn k world next u w =
       ((w.gone ≡ u.gone) × (journal_of k next ≡ journal_of k world))

@@ -11,15 +11,17 @@ use Rattle.running_rows.specs.Strides.{Went, becomes, here}
 
 module _ {S V T K : Type 0} (f : Family S V T K) (k : f.Key) where
   -- what is known where a seat steps: words and records show a world that it may meet
-  pub record Stands (u : Seated V T) (world : f.World) (words : List ℕ) (homes : List (Option S)) (i : ℕ) : Type 0 where
+  pub record Stands (u : Seated V T) (world : f.World) (words : List ℕ) (homes : List (Option S)) (i : ℕ)
+      : Type 0 where
     pub shows : f.Shows k world words homes
     pub of_is : f.of u.knows ≡ k
     pub there : u.number < f.seats k
     pub knows : f.Knows k u world
     pub below : slice_index words i < 2 ^ 64
 
-  -- the step leads to a world that words and records show then, and that the seat may meet, as all others may that could meet the
-  -- one before. It is one stride at most, which tells how the journal goes on. What the step tells holds
+  -- the step leads to a world that words and records show then, and that the seat may meet, as all others may
+  -- that could meet the one before. It is one stride at most, which tells how the journal goes on. What the
+  -- step tells holds
   pub record Leads (m : Me S (View V T)) (world : f.World) (words : List ℕ) (homes : List (Option S))
       (i x : ℕ) (then : Me S (View V T) → Type 0) : Type 0 where
     pub next : f.World
@@ -31,7 +33,8 @@ module _ {S V T K : Type 0} (f : Family S V T K) (k : f.Key) where
     pub of_is : f.of own.knows ≡ k
     pub knows : f.Knows k own next
     pub on : TellsOn f k world next m.0.own own
-    pub others : (u : Seated V T) → u.number ≢ own.number → u.number < f.seats k → f.Knows k u world → f.Knows k u next
+    pub others : (u : Seated V T) → u.number ≢ own.number → u.number < f.seats k → f.Knows k u world
+        → f.Knows k u next
     pub tells : then (becomes f m own (carried_after m.1 act))
 
   -- wherever the token's seat makes of the number n at the word i the number g n, the step leads on
@@ -50,7 +53,8 @@ module _ {S V T K : Type 0} (f : Family S V T K) (k : f.Key) where
   -- each seat may look at the word
   abbrev pub IsSeen : ℕ → Type 0
   IsSeen i =
-      (world : f.World) (words : List ℕ) (homes : List (Option S)) (u : Seated V T) → Stands u world words homes i
+      (world : f.World) (words : List ℕ) (homes : List (Option S)) (u : Seated V T)
+      → Stands u world words homes i
       → Sees u world i (slice_index words i)
 
   -- the world knows nothing of the word

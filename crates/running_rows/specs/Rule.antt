@@ -66,9 +66,9 @@ module _ {S V T K : Type 0} (f : Family S V T K) where
     pub others : (g : Seated V T) → In g v.guests → g.number ≢ v.own.number
     pub apart : AreApart v.guests
 
-  -- the rule. Words and records at home show a world, whose journal the strides of all seats told, one after the other. Each view
-  -- is that of its seats, no two of one seat. Seats are made one after the other: each of them sits somewhere, and those that
-  -- aren't yet have run nothing
+  -- the rule. Words and records at home show a world, whose journal the strides of all seats told, one after
+  -- the other. Each view is that of its seats, no two of one seat. Seats are made one after the other: each
+  -- of them sits somewhere, and those that aren't yet have run nothing
   pub record IsKept (k : f.Key) (s : State S (View V T)) : Type 0 where
     pub world : f.World
     pub shows : f.Shows k world s.words s.homes
@@ -77,14 +77,16 @@ module _ {S V T K : Type 0} (f : Family S V T K) where
     pub made : ℕ
     pub by_seats : (m : Moment T) → In m history → m.seat < made
     pub spot : ℕ → ℕ
-    pub views : (j : ℕ) (v : View V T) → get_elem? s.views j ≡ some v → IsSomeones v → HasSeats k world history spot made j v
+    pub views : (j : ℕ) (v : View V T) → get_elem? s.views j ≡ some v → IsSomeones v
+        → HasSeats k world history spot made j v
     pub seated : (n : ℕ) → n < made → IsSeated s.views (spot n) n
     pub unmade : (n : ℕ) → made ≤ n → n < f.seats k → f.Knows k (fresh_seat k n) world
     pub maker : (j : ℕ) (v : View V T) → get_elem? s.views j ≡ some v → IsSomeones v → 0 < v.made
         → (v.own.number ≡ 0) × (v.made ≡ made)
     pub fits : made ≤ f.seats k
 
-  -- words and records as they are made show a world of an empty journal, that each seat may meet which has run nothing
+  -- words and records as they are made show a world of an empty journal, that each seat may meet which has
+  -- run nothing
   pub record Opens (k : f.Key) (words : List ℕ) (homes : List (Option S)) : Type 0 where
     pub world : f.World
     pub shows : f.Shows k world words homes

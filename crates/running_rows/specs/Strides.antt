@@ -14,7 +14,8 @@ module _ {S V T K : Type 0} (f : Family S V T K) where
   -- one stride led the seat u, which began so, to w, by this deed, and read n
   pub record Went (at : V → V) (deed : Deed f.Word) (u : Seated V T) (n : ℕ) (w : Seated V T) : Type 0 where
     pub stride : T
-    pub ran : Ran (f.watched (f.of u.knows)) u.number (f.sight (at u.knows)) (f.stride stride) (f.sight w.knows)
+    pub ran : Ran (f.watched
+        (f.of u.knows)) u.number (f.sight (at u.knows)) (f.stride stride) (f.sight w.knows)
     pub did : (f.stride stride).deed ≡ deed
     pub read : (f.stride stride).read ≡ f.value n
     pub also : f.Also ran.world u.number (at u.knows) stride w.knows
@@ -63,7 +64,8 @@ module _ {S V T K : Type 0} (f : Family S V T K) where
   -- a row ran that stored x at the word
   abbrev pub grants : Step S → Me S (View V T) → ℕ → Me S (View V T) → Type 0
   grants st m x t =
-      (n : ℕ) × (w : Went here runs m.0.own n t.0.own) × f.HasStored (f.of m.0.own.knows) w.stride st.word x × Changed m m.1 t
+      (n : ℕ) × (w : Went here runs m.0.own n t.0.own)
+      × f.HasStored (f.of m.0.own.knows) w.stride st.word x × Changed m m.1 t
 
   -- a grant of 0 was looked at, and another was taken
   abbrev pub receives : Step S → Me S (View V T) → ℕ → Me S (View V T) → Type 0

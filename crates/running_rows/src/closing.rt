@@ -16,7 +16,8 @@ use std::alloc::Global;
 impl<S, V, T, K, R: Rows<S, V, T, K>> Running<S, View<V, T>, K, OneWorld<R>> {
     /// The token has no guest any more.
     pub fn seat_alone(&self, token: &mut Token<S, V, T>)
-        requires own { (token.old.table_id ≡ self.now.table.shared.table_id) × IsSomeones R.family token.old.me.0 }
+        requires own { (token.old.table_id ≡ self.now.table.shared.table_id)
+            × IsSomeones R.family token.old.me.0 }
         requires some { 0 < self.now.table.shared.table_id.words }
         ensures own { token.new.table_id ≡ token.old.table_id }
         ensures alone { token.new.me ≡ (alone token.old.me.0, token.old.me.1) }
@@ -26,8 +27,10 @@ impl<S, V, T, K, R: Rows<S, V, T, K>> Running<S, View<V, T>, K, OneWorld<R>> {
 
     /// The other seat, which has no guest, sits with the token's.
     pub fn seat_with(&self, token: &mut Token<S, V, T>, other: Token<S, V, T>)
-        requires own { (token.old.table_id ≡ self.now.table.shared.table_id) × IsSomeones R.family token.old.me.0 }
-        requires other { (other.table_id ≡ self.now.table.shared.table_id) × IsSomeones R.family other.me.0 × (other.me.1 ≡ []) }
+        requires own { (token.old.table_id ≡ self.now.table.shared.table_id)
+            × IsSomeones R.family token.old.me.0 }
+        requires other { (other.table_id ≡ self.now.table.shared.table_id) × IsSomeones R.family other.me.0
+            × (other.me.1 ≡ []) }
         requires lone { other.me.0.guests ≡ [] }
         requires some { 0 < self.now.table.shared.table_id.words }
         ensures own { token.new.table_id ≡ token.old.table_id }

@@ -1,6 +1,7 @@
 //! How seats come to sit in one view, and leave it again.
 ghost use Rattle.running_rows.specs.Rule.{nobody, making, made_by};
-ghost use Rattle.running_rows.specs.Sitting.{alone, leaving, staying, vacant, sitting, parting, parted, meets};
+ghost use Rattle.running_rows.specs.Sitting.{alone, leaving, staying, vacant, sitting, parting, parted};
+ghost use Rattle.running_rows.specs.Sitting.{meets};
 
 use crate::families::Rows;
 use crate::view::View;

@@ -1,4 +1,5 @@
-//! `record_mut` has a file of its own: its clause names the rows of a seat and of a view, which other files don't need.
+//! `record_mut` has a file of its own: its clause names the rows of a seat and of a view, which other files
+//! don't need.
 ghost use Rattle.std.specs.Prelude.{◌≡◌, ◌∷◌};
 ghost use types.Logic.{sem};
 ghost use denote.Follow.{follows};

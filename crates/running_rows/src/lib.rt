@@ -1,11 +1,12 @@
 //! The base of the running parts: words that threads share, and that change by the rows of one family alone.
 //!
-//! A seat has a [`Token`], whose view keeps all strides that the seat has gone. [`Running`] owns the words and makes the steps:
-//! each call of [`Running::load`], [`Running::exchange`], [`Running::add`] and their like is one atomic step of one word, and one
-//! stride more in the view, which read what the step found. Words, tokens' views and what a step tells are private to this crate: a
-//! crate above can neither make a step that is no stride nor count a stride that no step made, but for what is named here: looks at
-//! a lock that is held, at a grant before a sleep, and at a word for a while ([`Running::is_above_zero_soon`]); and words set aside
-//! ([`Running::set_aside`]), of which the world knows nothing.
+//! A seat has a [`Token`], whose view keeps all strides that the seat has gone. [`Running`] owns the words
+//! and makes the steps: each call of [`Running::load`], [`Running::exchange`], [`Running::add`] and their
+//! like is one atomic step of one word, and one stride more in the view, which read what the step found.
+//! Words, tokens' views and what a step tells are private to this crate: a crate above can neither make a
+//! step that is no stride nor count a stride that no step made, but for what is named here: looks at a lock
+//! that is held, at a grant before a sleep, and at a word for a while ([`Running::is_above_zero_soon`]); and
+//! words set aside ([`Running::set_aside`]), of which the world knows nothing.
 //!
 //! [`Rows`] says what the family is; [`OneWorld`] is the rule that the words keep.
 #![tactic(auto)]

@@ -1,10 +1,12 @@
 //! Taking a lock, and giving it back.
 //!
-//! Beside each lock word lies a word that says how many threads sleep at it, or are about to. Who finds the lock held looks for a
-//! short while, then counts itself there, then looks at the lock (`park` does), then sleeps; who gives the lock back stores 0 in
-//! it, then looks at the count. All four are in one order, the same for all threads: either the sleeper's look finds the lock free,
-//! or it was counted before the giver's look, which finds it and calls the kernel. So nobody sleeps at a free lock for good, and
-//! where nobody sleeps the kernel isn't called. A thread that comes meanwhile may take the lock first; who was woken looks again.
+//! Beside each lock word lies a word that says how many threads sleep at it, or are about to. Who finds the
+//! lock held looks for a short while, then counts itself there, then looks at the lock (`park` does), then
+//! sleeps; who gives the lock back stores 0 in it, then looks at the count. All four are in one order, the
+//! same for all threads: either the sleeper's look finds the lock free, or it was counted before the giver's
+//! look, which finds it and calls the kernel. So nobody sleeps at a free lock for good, and where nobody
+//! sleeps the kernel isn't called. A thread that comes meanwhile may take the lock first; who was woken looks
+//! again.
 ghost use Rattle.std.specs.Prelude.{◌≡◌, ◌≢◌, ◌==◌, ◌<◌};
 ghost use mathlib.Core.Option.{none, some};
 ghost use prog.Atomic.{either};
@@ -21,7 +23,8 @@ use crate::view::{Token, View};
 use std::hint;
 use std::sync::Wait;
 
-/// How often a seat looks at a held lock before it sleeps: what is done under a lock takes less, unless its holder lost its processor.
+/// How often a seat looks at a held lock before it sleeps: what is done under a lock takes less, unless its
+/// holder lost its processor.
 const LOOKS: u32 = 100;
 
 impl<S, V, T, K, R: Rows<S, V, T, K>> Running<S, View<V, T>, K, OneWorld<R>> {
@@ -33,13 +36,17 @@ impl<S, V, T, K, R: Rows<S, V, T, K>> Running<S, View<V, T>, K, OneWorld<R>> {
         word: usize,
         sleepers: usize,
     )
-        requires own { (token.old.table_id ≡ self.now.table.shared.table_id) × IsSomeones R.family token.old.me.0 }
-        requires words { (word < self.now.table.shared.table_id.words) × (sleepers < self.now.table.shared.table_id.words) }
+        requires own { (token.old.table_id ≡ self.now.table.shared.table_id)
+            × IsSomeones R.family token.old.me.0 }
+        requires words { (word < self.now.table.shared.table_id.words)
+            × (sleepers < self.now.table.shared.table_id.words) }
         requires aside { IsAside R.family (R.family.key self.now.table.shared.key) sleepers }
-        requires owes { Owes R.family (R.family.key self.now.table.shared.key) token.old.me word (λ n. either (n == 0) 1 n)
+        requires owes { Owes R.family (R.family.key self.now.table.shared.key) token.old.me word
+            (λ n. either (n == 0) 1 n)
             (locks R.family A.at (step self.now.table.shared.table_id.slots word 0 1 none) token.old.me) }
         ensures own { token.new.table_id ≡ token.old.table_id }
-        ensures took { Took R.family (A.at (step self.now.table.shared.table_id.slots word 0 1 none)) token.old.me token.new.me }
+        ensures took { Took R.family
+            (A.at (step self.now.table.shared.table_id.slots word 0 1 none)) token.old.me token.new.me }
     {
         for _ in rt.forever() {
             if self
@@ -64,13 +71,18 @@ impl<S, V, T, K, R: Rows<S, V, T, K>> Running<S, View<V, T>, K, OneWorld<R>> {
         sleepers: usize,
         said: &S,
     )
-        requires own { (token.old.table_id ≡ self.now.table.shared.table_id) × IsSomeones R.family token.old.me.0 }
-        requires words { (word < self.now.table.shared.table_id.words) × (sleepers < self.now.table.shared.table_id.words) }
+        requires own { (token.old.table_id ≡ self.now.table.shared.table_id)
+            × IsSomeones R.family token.old.me.0 }
+        requires words { (word < self.now.table.shared.table_id.words)
+            × (sleepers < self.now.table.shared.table_id.words) }
         requires aside { IsAside R.family (R.family.key self.now.table.shared.key) sleepers }
-        requires owes { Owes R.family (R.family.key self.now.table.shared.key) token.old.me word (λ n. either (n == 0) 1 n)
+        requires owes { Owes R.family (R.family.key self.now.table.shared.key) token.old.me word
+            (λ n. either (n == 0) 1 n)
             (locks R.family A.at (step self.now.table.shared.table_id.slots word 0 1 (some said.now)) token.old.me) }
         ensures own { token.new.table_id ≡ token.old.table_id }
-        ensures took { Took R.family (A.at (step self.now.table.shared.table_id.slots word 0 1 (some said.now))) token.old.me token.new.me }
+        ensures took { Took R.family
+            (A.at (step self.now.table.shared.table_id.slots word 0 1
+            (some said.now))) token.old.me token.new.me }
     {
         for _ in rt.forever() {
             if self
@@ -86,11 +98,12 @@ impl<S, V, T, K, R: Rows<S, V, T, K>> Running<S, View<V, T>, K, OneWorld<R>> {
         unreachable!()
     }
 
-    /// Returns once the lock was free, and perhaps before. Looks are plain loads, since each exchange would take the word from its
-    /// holder's processor.
+    /// Returns once the lock was free, and perhaps before. Looks are plain loads, since each exchange would
+    /// take the word from its holder's processor.
     fn await_lock<W: Wait>(&self, rt: &W, token: &mut Token<S, V, T>, word: usize, sleepers: usize)
         requires own { token.old.table_id ≡ self.now.table.shared.table_id }
-        requires words { (word < self.now.table.shared.table_id.words) × (sleepers < self.now.table.shared.table_id.words) }
+        requires words { (word < self.now.table.shared.table_id.words)
+            × (sleepers < self.now.table.shared.table_id.words) }
         requires aside { IsAside R.family (R.family.key self.now.table.shared.key) sleepers }
         ensures same { (token.new.table_id ≡ token.old.table_id) × (token.new.me ≡ token.old.me) }
     {
@@ -101,21 +114,26 @@ impl<S, V, T, K, R: Rows<S, V, T, K>> Running<S, View<V, T>, K, OneWorld<R>> {
             }
             hint::spin_loop();
         }
-        // Counted before `park` looks at the lock: who gives it back after that look finds the count, and wakes.
+        // Counted before `park` looks at the lock: who gives it back after that look finds the count, and
+        // wakes.
         shared.fetch_add::<SetsAside>(token, sleepers, 1);
         shared.park(rt, word, 1);
         shared.fetch_sub::<SetsAside>(token, sleepers, 1);
     }
 
-    /// A row that gives a lock back, and with it the record that was taken last; one thread that sleeps at the lock is woken.
+    /// A row that gives a lock back, and with it the record that was taken last; one thread that sleeps at
+    /// the lock is woken.
     #[inline]
     pub fn give_lock(&self, token: &mut Token<S, V, T>, word: usize, sleepers: usize)
-        requires own { (token.old.table_id ≡ self.now.table.shared.table_id) × IsSomeones R.family token.old.me.0 }
-        requires words { (word < self.now.table.shared.table_id.words) × (sleepers < self.now.table.shared.table_id.words) }
+        requires own { (token.old.table_id ≡ self.now.table.shared.table_id)
+            × IsSomeones R.family token.old.me.0 }
+        requires words { (word < self.now.table.shared.table_id.words)
+            × (sleepers < self.now.table.shared.table_id.words) }
         requires owes { Owes R.family (R.family.key self.now.table.shared.key) token.old.me word (λ _. 0)
             (λ _. gives R.family (step self.now.table.shared.table_id.slots word 0 0 none) token.old.me 0) }
         ensures own { token.new.table_id ≡ token.old.table_id }
-        ensures went { gives R.family (step self.now.table.shared.table_id.slots word 0 0 none) token.old.me 0 token.new.me }
+        ensures went { gives R.family
+            (step self.now.table.shared.table_id.slots word 0 0 none) token.old.me 0 token.new.me }
     {
         let shared = &self.table.shared;
         shared.store::<Gives<R, K>>(token, word, 0);

@@ -12,8 +12,8 @@ use atomic_table::{Refused, Table};
 use std::alloc::Global;
 
 impl<S, V, T, K, R: Rows<S, V, T, K>> Running<S, View<V, T>, K, OneWorld<R>> {
-    /// Words and records that were made with this, and the token of the seat 0, which makes the others. Without memory the records
-    /// come back.
+    /// Words and records that were made with this, and the token of the seat 0, which makes the others.
+    /// Without memory the records come back.
     pub fn new(
         alloc: Global,
         words: &[u64],
@@ -36,7 +36,8 @@ impl<S, V, T, K, R: Rows<S, V, T, K>> Running<S, View<V, T>, K, OneWorld<R>> {
 
     /// The token of the next seat.
     pub fn make_seat(&self, first: &mut Token<S, V, T>) -> Token<S, V, T>
-        requires own { (first.old.table_id ≡ self.now.table.shared.table_id) × (0 < self.now.table.shared.table_id.words) }
+        requires own { (first.old.table_id ≡ self.now.table.shared.table_id)
+            × (0 < self.now.table.shared.table_id.words) }
         requires made { 0 < first.old.me.0.made }
         requires room { first.old.me.0.made < R.family.seats (R.family.of first.old.me.0.own.knows) }
         ensures own { (first.new.table_id ≡ first.old.table_id) × (result.table_id ≡ first.old.table_id) }

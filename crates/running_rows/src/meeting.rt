@@ -14,13 +14,16 @@ use std::mem;
 impl<S, V, T, K, R: Rows<S, V, T, K>> Running<S, View<V, T>, K, OneWorld<R>> {
     /// Both seats look at a word at one moment: the number that they found.
     pub fn meet(&self, one: &mut Token<S, V, T>, other: &mut Token<S, V, T>, word: usize) -> u64
-        requires one { (one.old.table_id ≡ self.now.table.shared.table_id) × IsSomeones R.family one.old.me.0 }
-        requires other { (other.old.table_id ≡ self.now.table.shared.table_id) × IsSomeones R.family other.old.me.0 }
+        requires one { (one.old.table_id ≡ self.now.table.shared.table_id)
+            × IsSomeones R.family one.old.me.0 }
+        requires other { (other.old.table_id ≡ self.now.table.shared.table_id)
+            × IsSomeones R.family other.old.me.0 }
         requires bare { other.old.me.1 ≡ [] }
         requires word { word < self.now.table.shared.table_id.words }
         requires seen { IsSeen R.family (R.family.key self.now.table.shared.key) word }
         ensures own { (one.new.table_id ≡ one.old.table_id) × (other.new.table_id ≡ other.old.table_id) }
-        ensures met { Met R.family (R.family.word_at (R.family.of one.old.me.0.own.knows) word) one.old.me.0.own other.old.me.0.own
+        ensures met { Met R.family
+            (R.family.word_at (R.family.of one.old.me.0.own.knows) word) one.old.me.0.own other.old.me.0.own
             result one.new.me.0.own other.new.me.0.own }
         ensures one { one.new.me ≡ (record one.old.me.0 { own = one.new.me.0.own }, one.old.me.1) }
         ensures other { other.new.me ≡ (lone other.new.me.0.own, []) }

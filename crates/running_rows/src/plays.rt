@@ -1,5 +1,6 @@
 //! What each kind of step tells its seat.
-ghost use Rattle.running_rows.specs.Strides.{looks_at, goes, stores, locks, gives, grants, receives, awaits, sets_aside};
+ghost use Rattle.running_rows.specs.Strides.{looks_at, goes, stores, locks, gives, grants, receives, awaits};
+ghost use Rattle.running_rows.specs.Strides.{sets_aside};
 
 use crate::families::{Rows, Start};
 use crate::view::View;

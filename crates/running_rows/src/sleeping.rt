@@ -1,12 +1,13 @@
 //! Sleeping until a grant, and waking who sleeps.
 //!
-//! Each grant word has a word beside it, which is above 0 while its thread sleeps, or is about to. Who sleeps sets it, then looks at
-//! the grant (`park` does), then sleeps; who grants stores the grant, then looks at that word. All four are in one order, the same
-//! for all threads: either the sleeper's look finds the grant, or its word was set before the granter's look, which finds it and
-//! calls the kernel. So no grant is missed, and where nobody sleeps the kernel isn't called.
+//! Each grant word has a word beside it, which is above 0 while its thread sleeps, or is about to. Who sleeps
+//! sets it, then looks at the grant (`park` does), then sleeps; who grants stores the grant, then looks at
+//! that word. All four are in one order, the same for all threads: either the sleeper's look finds the grant,
+//! or its word was set before the granter's look, which finds it and calls the kernel. So no grant is missed,
+//! and where nobody sleeps the kernel isn't called.
 //!
-//! Who grants may leave it to another to wake ([`Running::store_grant`]): that one looks at the word after the grant was stored
-//! ([`Running::wake`]), and the same holds.
+//! Who grants may leave it to another to wake ([`Running::store_grant`]): that one looks at the word after
+//! the grant was stored ([`Running::wake`]), and the same holds.
 ghost use Rattle.std.specs.Prelude.{◌≡◌, ◌<◌, [], ◌∷◌, ◌++◌};
 ghost use mathlib.Core.Option.{none};
 ghost use Rattle.atomic_table.specs.Table.{step};
@@ -24,9 +25,9 @@ use std::hint;
 use std::marker::PhantomData;
 use std::sync::Wait;
 
-/// How long a thread looks for its grant before it sleeps: a grant that comes meanwhile costs no call of the kernel. After waits in
-/// which it looked in vain it looks the less, and from time to time as long as at first: on a busy machine who grants may be off its
-/// processor for longer than anybody should look.
+/// How long a thread looks for its grant before it sleeps: a grant that comes meanwhile costs no call of the
+/// kernel. After waits in which it looked in vain it looks the less, and from time to time as long as at
+/// first: on a busy machine who grants may be off its processor for longer than anybody should look.
 pub struct Patience {
     pub rounds: u32,
     /// How many looks a round has.
@@ -39,8 +40,8 @@ pub struct Patience {
 pub enum GivesWay {
     /// It looks each time.
     Never,
-    /// Where the number of the first word is above that of the second by more than 1: many that look would keep those that they wait
-    /// for off the processors.
+    /// Where the number of the first word is above that of the second by more than 1: many that look would
+    /// keep those that they wait for off the processors.
     Crowded { ahead: usize, behind: usize },
 }
 
@@ -70,8 +71,8 @@ impl Patience {
 }
 
 impl<S, V, T, K, R: Rows<S, V, T, K>> Running<S, View<V, T>, K, OneWorld<R>> {
-    /// Looks at a word at most so often: whether it is above 0. The first argument has no bytes: it names the type of views, for
-    /// whose size a caller answers.
+    /// Looks at a word at most so often: whether it is above 0. The first argument has no bytes: it names the
+    /// type of views, for whose size a caller answers.
     #[inline]
     pub fn is_above_zero_soon(
         &self,
@@ -92,7 +93,8 @@ impl<S, V, T, K, R: Rows<S, V, T, K>> Running<S, View<V, T>, K, OneWorld<R>> {
 
     /// Whether the numbers of two words, which go round, are more than 1 apart.
     fn is_crowded(&self, _token: &Token<S, V, T>, ahead: usize, behind: usize) -> bool
-        requires { (ahead < self.now.table.shared.table_id.words) × (behind < self.now.table.shared.table_id.words) }
+        requires { (ahead < self.now.table.shared.table_id.words)
+            × (behind < self.now.table.shared.table_id.words) }
     {
         let last = self.table.shared.peek(behind);
         self.table.shared.peek(ahead).wrapping_sub(last) > 1
@@ -106,7 +108,8 @@ impl<S, V, T, K, R: Rows<S, V, T, K>> Running<S, View<V, T>, K, OneWorld<R>> {
         patience: &Patience,
         missed: u64,
     ) -> Looked
-        requires { (word < self.now.table.shared.table_id.words) × AreThere self.now.table.shared.table_id.words patience.now.gives_way }
+        requires { (word < self.now.table.shared.table_id.words)
+            × AreThere self.now.table.shared.table_id.words patience.now.gives_way }
     {
         let looks = patience.looks_after(missed);
         for _ in 0..patience.rounds {
@@ -125,7 +128,8 @@ impl<S, V, T, K, R: Rows<S, V, T, K>> Running<S, View<V, T>, K, OneWorld<R>> {
         Looked::InVain
     }
 
-    /// Returns once the grant is above 0, and perhaps before. Nobody but the seat takes what is granted, so it looks with no row.
+    /// Returns once the grant is above 0, and perhaps before. Nobody but the seat takes what is granted, so
+    /// it looks with no row.
     pub fn await_grant<W: Wait>(
         &self,
         rt: &W,
@@ -136,7 +140,8 @@ impl<S, V, T, K, R: Rows<S, V, T, K>> Running<S, View<V, T>, K, OneWorld<R>> {
         patience: &Patience,
     )
         requires own { token.old.table_id ≡ self.now.table.shared.table_id }
-        requires words { (word < self.now.table.shared.table_id.words) × (asleep < self.now.table.shared.table_id.words)
+        requires words { (word < self.now.table.shared.table_id.words)
+            × (asleep < self.now.table.shared.table_id.words)
             × (misses < self.now.table.shared.table_id.words) }
         requires there { AreThere self.now.table.shared.table_id.words patience.now.gives_way }
         requires aside { IsAside R.family (R.family.key self.now.table.shared.key) asleep
@@ -182,8 +187,10 @@ impl<S, V, T, K, R: Rows<S, V, T, K>> Running<S, View<V, T>, K, OneWorld<R>> {
         misses: usize,
         patience: &Patience,
     ) -> u64
-        requires own { (token.old.table_id ≡ self.now.table.shared.table_id) × IsSomeones R.family token.old.me.0 }
-        requires words { (word < self.now.table.shared.table_id.words) × (asleep < self.now.table.shared.table_id.words)
+        requires own { (token.old.table_id ≡ self.now.table.shared.table_id)
+            × IsSomeones R.family token.old.me.0 }
+        requires words { (word < self.now.table.shared.table_id.words)
+            × (asleep < self.now.table.shared.table_id.words)
             × (misses < self.now.table.shared.table_id.words) }
         requires there { AreThere self.now.table.shared.table_id.words patience.now.gives_way }
         requires aside { IsAside R.family (R.family.key self.now.table.shared.key) asleep
@@ -208,12 +215,15 @@ impl<S, V, T, K, R: Rows<S, V, T, K>> Running<S, View<V, T>, K, OneWorld<R>> {
     /// A row that stores a grant, and wakes the thread that sleeps at it, if one does.
     #[inline]
     pub fn grant(&self, token: &mut Token<S, V, T>, word: usize, asleep: usize, units: u64)
-        requires own { (token.old.table_id ≡ self.now.table.shared.table_id) × IsSomeones R.family token.old.me.0 }
-        requires words { (word < self.now.table.shared.table_id.words) × (asleep < self.now.table.shared.table_id.words) }
+        requires own { (token.old.table_id ≡ self.now.table.shared.table_id)
+            × IsSomeones R.family token.old.me.0 }
+        requires words { (word < self.now.table.shared.table_id.words)
+            × (asleep < self.now.table.shared.table_id.words) }
         requires owes { Owes R.family (R.family.key self.now.table.shared.key) token.old.me word (λ _. units)
             (λ _. grants R.family (step self.now.table.shared.table_id.slots word units 0 none) token.old.me units) }
         ensures own { token.new.table_id ≡ token.old.table_id }
-        ensures went { grants R.family (step self.now.table.shared.table_id.slots word units 0 none) token.old.me units token.new.me }
+        ensures went { grants R.family
+            (step self.now.table.shared.table_id.slots word units 0 none) token.old.me units token.new.me }
     {
         self.store_grant(token, word, units);
         self.rouse(token, word, asleep, units);
@@ -222,28 +232,32 @@ impl<S, V, T, K, R: Rows<S, V, T, K>> Running<S, View<V, T>, K, OneWorld<R>> {
     /// A row that stores a grant and wakes nobody: its thread is for another to wake, by [`Running::wake`].
     #[inline]
     pub fn store_grant(&self, token: &mut Token<S, V, T>, word: usize, units: u64)
-        requires own { (token.old.table_id ≡ self.now.table.shared.table_id) × IsSomeones R.family token.old.me.0 }
+        requires own { (token.old.table_id ≡ self.now.table.shared.table_id)
+            × IsSomeones R.family token.old.me.0 }
         requires low { word < self.now.table.shared.table_id.words }
         requires owes { Owes R.family (R.family.key self.now.table.shared.key) token.old.me word (λ _. units)
             (λ _. grants R.family (step self.now.table.shared.table_id.slots word units 0 none) token.old.me units) }
         ensures own { token.new.table_id ≡ token.old.table_id }
-        ensures went { grants R.family (step self.now.table.shared.table_id.slots word units 0 none) token.old.me units token.new.me }
+        ensures went { grants R.family
+            (step self.now.table.shared.table_id.slots word units 0 none) token.old.me units token.new.me }
     {
         self.table.shared.store::<Grants<R, K>>(token, word, units);
     }
 
     /// Wakes the thread of the seat that was just granted, where it has gone to sleep.
     fn rouse(&self, granted: &Token<S, V, T>, word: usize, asleep: usize, _units: u64)
-        requires words { (word < self.now.table.shared.table_id.words) × (asleep < self.now.table.shared.table_id.words) }
+        requires words { (word < self.now.table.shared.table_id.words)
+            × (asleep < self.now.table.shared.table_id.words) }
         requires stored { StoresLast R.family granted.now.me.0.own word _units }
     {
         self.wake(granted, word, asleep);
     }
 
-    /// Wakes the thread that sleeps at a grant, where one does and the grant is there: a call of the kernel costs more than the rest
-    /// of a release.
+    /// Wakes the thread that sleeps at a grant, where one does and the grant is there: a call of the kernel
+    /// costs more than the rest of a release.
     pub fn wake(&self, _token: &Token<S, V, T>, word: usize, asleep: usize)
-        requires { (word < self.now.table.shared.table_id.words) × (asleep < self.now.table.shared.table_id.words) }
+        requires { (word < self.now.table.shared.table_id.words)
+            × (asleep < self.now.table.shared.table_id.words) }
     {
         if self.table.shared.peek(asleep) != 0 && self.table.shared.peek(word) != 0 {
             self.table.shared.wake_one(word);

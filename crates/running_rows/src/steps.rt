@@ -17,11 +17,13 @@ impl<S, V, T, K, R: Rows<S, V, T, K>> Running<S, View<V, T>, K, OneWorld<R>> {
     /// A look at a word, which is no row.
     #[inline]
     pub fn look(&self, token: &mut Token<S, V, T>, word: usize) -> u64
-        requires own { (token.old.table_id ≡ self.now.table.shared.table_id) × IsSomeones R.family token.old.me.0 }
+        requires own { (token.old.table_id ≡ self.now.table.shared.table_id)
+            × IsSomeones R.family token.old.me.0 }
         requires word { word < self.now.table.shared.table_id.words }
         requires seen { IsSeen R.family (R.family.key self.now.table.shared.key) word }
         ensures own { token.new.table_id ≡ token.old.table_id }
-        ensures went { looks_at R.family (step self.now.table.shared.table_id.slots word 0 0 none) token.old.me result token.new.me }
+        ensures went { looks_at R.family
+            (step self.now.table.shared.table_id.slots word 0 0 none) token.old.me result token.new.me }
     {
         self.table.shared.load::<Looks<R, K>>(token, word)
     }
@@ -29,12 +31,14 @@ impl<S, V, T, K, R: Rows<S, V, T, K>> Running<S, View<V, T>, K, OneWorld<R>> {
     /// A row that loads.
     #[inline]
     pub fn load<A: Start<S, V>>(&self, token: &mut Token<S, V, T>, word: usize) -> u64
-        requires own { (token.old.table_id ≡ self.now.table.shared.table_id) × IsSomeones R.family token.old.me.0 }
+        requires own { (token.old.table_id ≡ self.now.table.shared.table_id)
+            × IsSomeones R.family token.old.me.0 }
         requires word { word < self.now.table.shared.table_id.words }
         requires owes { Owes R.family (R.family.key self.now.table.shared.key) token.old.me word (λ n. n)
             (goes R.family A.at (step self.now.table.shared.table_id.slots word 0 0 none) token.old.me) }
         ensures own { token.new.table_id ≡ token.old.table_id }
-        ensures went { goes R.family A.at (step self.now.table.shared.table_id.slots word 0 0 none) token.old.me result token.new.me }
+        ensures went { goes R.family A.at
+            (step self.now.table.shared.table_id.slots word 0 0 none) token.old.me result token.new.me }
     {
         self.table.shared.load::<Goes<A, R, K>>(token, word)
     }
@@ -48,12 +52,15 @@ impl<S, V, T, K, R: Rows<S, V, T, K>> Running<S, View<V, T>, K, OneWorld<R>> {
         old: u64,
         new: u64,
     ) -> u64
-        requires own { (token.old.table_id ≡ self.now.table.shared.table_id) × IsSomeones R.family token.old.me.0 }
+        requires own { (token.old.table_id ≡ self.now.table.shared.table_id)
+            × IsSomeones R.family token.old.me.0 }
         requires word { word < self.now.table.shared.table_id.words }
-        requires owes { Owes R.family (R.family.key self.now.table.shared.key) token.old.me word (λ n. either (n == old) new n)
+        requires owes { Owes R.family (R.family.key self.now.table.shared.key) token.old.me word
+            (λ n. either (n == old) new n)
             (goes R.family A.at (step self.now.table.shared.table_id.slots word old new none) token.old.me) }
         ensures own { token.new.table_id ≡ token.old.table_id }
-        ensures went { goes R.family A.at (step self.now.table.shared.table_id.slots word old new none) token.old.me result token.new.me }
+        ensures went { goes R.family A.at
+            (step self.now.table.shared.table_id.slots word old new none) token.old.me result token.new.me }
     {
         self.table
             .shared
@@ -63,12 +70,15 @@ impl<S, V, T, K, R: Rows<S, V, T, K>> Running<S, View<V, T>, K, OneWorld<R>> {
     /// A row that adds: what it found.
     #[inline]
     pub fn add<A: Start<S, V>>(&self, token: &mut Token<S, V, T>, word: usize, more: u64) -> u64
-        requires own { (token.old.table_id ≡ self.now.table.shared.table_id) × IsSomeones R.family token.old.me.0 }
+        requires own { (token.old.table_id ≡ self.now.table.shared.table_id)
+            × IsSomeones R.family token.old.me.0 }
         requires word { word < self.now.table.shared.table_id.words }
-        requires owes { Owes R.family (R.family.key self.now.table.shared.key) token.old.me word (λ n. (n + more) % 2 ^ 64)
+        requires owes { Owes R.family (R.family.key self.now.table.shared.key) token.old.me word
+            (λ n. (n + more) % 2 ^ 64)
             (goes R.family A.at (step self.now.table.shared.table_id.slots word more 0 none) token.old.me) }
         ensures own { token.new.table_id ≡ token.old.table_id }
-        ensures went { goes R.family A.at (step self.now.table.shared.table_id.slots word more 0 none) token.old.me result token.new.me }
+        ensures went { goes R.family A.at
+            (step self.now.table.shared.table_id.slots word more 0 none) token.old.me result token.new.me }
     {
         self.table
             .shared
@@ -83,12 +93,15 @@ impl<S, V, T, K, R: Rows<S, V, T, K>> Running<S, View<V, T>, K, OneWorld<R>> {
         word: usize,
         less: u64,
     ) -> u64
-        requires own { (token.old.table_id ≡ self.now.table.shared.table_id) × IsSomeones R.family token.old.me.0 }
+        requires own { (token.old.table_id ≡ self.now.table.shared.table_id)
+            × IsSomeones R.family token.old.me.0 }
         requires word { word < self.now.table.shared.table_id.words }
-        requires owes { Owes R.family (R.family.key self.now.table.shared.key) token.old.me word (λ n. (n + (2 ^ 64 - less)) % 2 ^ 64)
+        requires owes { Owes R.family (R.family.key self.now.table.shared.key) token.old.me word
+            (λ n. (n + (2 ^ 64 - less)) % 2 ^ 64)
             (goes R.family A.at (step self.now.table.shared.table_id.slots word less 0 none) token.old.me) }
         ensures own { token.new.table_id ≡ token.old.table_id }
-        ensures went { goes R.family A.at (step self.now.table.shared.table_id.slots word less 0 none) token.old.me result token.new.me }
+        ensures went { goes R.family A.at
+            (step self.now.table.shared.table_id.slots word less 0 none) token.old.me result token.new.me }
     {
         self.table
             .shared
@@ -98,12 +111,14 @@ impl<S, V, T, K, R: Rows<S, V, T, K>> Running<S, View<V, T>, K, OneWorld<R>> {
     /// A row that stores.
     #[inline]
     pub fn store<A: Start<S, V>>(&self, token: &mut Token<S, V, T>, word: usize, new: u64)
-        requires own { (token.old.table_id ≡ self.now.table.shared.table_id) × IsSomeones R.family token.old.me.0 }
+        requires own { (token.old.table_id ≡ self.now.table.shared.table_id)
+            × IsSomeones R.family token.old.me.0 }
         requires word { word < self.now.table.shared.table_id.words }
         requires owes { Owes R.family (R.family.key self.now.table.shared.key) token.old.me word (λ _. new)
             (λ _. stores R.family A.at (step self.now.table.shared.table_id.slots word new 0 none) token.old.me new) }
         ensures own { token.new.table_id ≡ token.old.table_id }
-        ensures went { stores R.family A.at (step self.now.table.shared.table_id.slots word new 0 none) token.old.me new token.new.me }
+        ensures went { stores R.family A.at
+            (step self.now.table.shared.table_id.slots word new 0 none) token.old.me new token.new.me }
     {
         self.table.shared.store::<Stores<A, R, K>>(token, word, new);
     }
@@ -111,12 +126,14 @@ impl<S, V, T, K, R: Rows<S, V, T, K>> Running<S, View<V, T>, K, OneWorld<R>> {
     /// A look at a grant where it is 0, and else the row that takes it: what it found.
     #[inline]
     pub fn take_grant(&self, token: &mut Token<S, V, T>, word: usize) -> u64
-        requires own { (token.old.table_id ≡ self.now.table.shared.table_id) × IsSomeones R.family token.old.me.0 }
+        requires own { (token.old.table_id ≡ self.now.table.shared.table_id)
+            × IsSomeones R.family token.old.me.0 }
         requires word { word < self.now.table.shared.table_id.words }
         requires owes { Owes R.family (R.family.key self.now.table.shared.key) token.old.me word (λ _. 0)
             (receives R.family (step self.now.table.shared.table_id.slots word 0 0 none) token.old.me) }
         ensures own { token.new.table_id ≡ token.old.table_id }
-        ensures went { receives R.family (step self.now.table.shared.table_id.slots word 0 0 none) token.old.me result token.new.me }
+        ensures went { receives R.family
+            (step self.now.table.shared.table_id.slots word 0 0 none) token.old.me result token.new.me }
     {
         self.table.shared.swap::<Receives<R, K>>(token, word, 0)
     }

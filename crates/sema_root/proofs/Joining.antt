@@ -8,7 +8,8 @@ use Rattle.sema_root.specs.Entries.{entry_of, AllBelow, AllAbove, AreRising, Add
 use Rattle.sema_root.specs.Queues.{waits_on, total, AreQueues, Changes}
 use Rattle.sema_root.specs.Joined.{queues_in, AreApart, AreJoined}
 use Rattle.sema_root.proofs.Rising.{All-append, All-append_left, All-append_right, All-weaken, Rising-below, Rising-above}
-use Rattle.sema_root.proofs.Entering.{Adds-rising, Adds-was, Adds-is, Adds-else, Adds-length, Removes-rising, Removes-was, Removes-is, Removes-else, Removes-length}
+use Rattle.sema_root.proofs.Entering.{Adds-rising, Adds-was, Adds-is, Adds-else, Adds-length, Removes-rising, Removes-was, Removes-is, Removes-else}
+use Rattle.sema_root.proofs.Entering.{Removes-length}
 
 -- each entry names another list than this one
 abbrev pub AreOthers : ℕ → List (ℕ × ℕ) → Type 0

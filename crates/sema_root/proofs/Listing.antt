@@ -19,7 +19,8 @@ use Rattle.sema_root.proofs.Seeking.{entry, sought-here}
 use Rattle.sema_root.proofs.Splitting.{split-entries, split-size}
 use Rattle.sema_root.proofs.Grafting.{grafted-top}
 use Rattle.sema_root.proofs.Parting.{Splits-leaf}
-use Rattle.sema_root.proofs.Standing.{Holds-nothing, none_lacked, Opens, Opens-holds, Stands-kept, sought-open_left, sought-open_right, smaller_left, smaller_right}
+use Rattle.sema_root.proofs.Standing.{Holds-nothing, none_lacked, Opens, Opens-holds, Stands-kept, sought-open_left, sought-open_right, smaller_left}
+use Rattle.sema_root.proofs.Standing.{smaller_right}
 use Rattle.sema_root.proofs.Linking.{Lacks-parts, Keeps-both}
 use Rattle.sema_root.proofs.Hanging.{ComesTo-left, ComesTo-right, Regrows-left, Regrows-right, Regrows-hung}
 

@@ -1,5 +1,7 @@
--- Where a tree of nodes hangs, and what a walk that ends at one link leaves of the nodes. No public clause cites this.
-use Rattle.std.specs.Prelude.{◌≡◌, ◌≢◌, ◌==◌, ◌⊎◌, ◌^◌, ◌≤◌, ◌<◌, ◌+◌, ℕ, Option, Some, None, true, false, length, ltb, if◌then◌else◌}
+-- Where a tree of nodes hangs, and what a walk that ends at one link leaves of the nodes. No public clause
+-- cites this.
+use Rattle.std.specs.Prelude.{◌≡◌, ◌≢◌, ◌==◌, ◌⊎◌, ◌^◌, ◌≤◌, ◌<◌, ◌+◌, ℕ, Option, Some, None, true, false}
+use Rattle.std.specs.Prelude.{length, ltb, if◌then◌else◌}
 use Rattle.slab.specs.Slab.{get, ContainsKey, slab_len, Updates}
 use Rattle.waiters.specs.Lists.{Lists, IsOpen, waits_at}
 use Rattle.sema_root.specs.declared.nodes.Node.{Node}
@@ -50,7 +52,8 @@ IsThere branches (Right at) = ContainsKey branches.nodes at
 
 -- a tree was hung at the link
 pub record Hangs (old new : Branches) (link : Link) (tree : Option ℕ) : Type 0 where
-  pub nodes : (key : ℕ) (node : Node) → get old.nodes key ≡ Some node → get new.nodes key ≡ Some (relinked link tree key node)
+  pub nodes : (key : ℕ) (node : Node) → get old.nodes key ≡ Some node
+      → get new.nodes key ≡ Some (relinked link tree key node)
   pub there : IsThere old link → held new link ≡ tree
   pub top : new.top ≡ topped link tree old.top
   pub capacity : new.nodes.capacity ≡ old.nodes.capacity
@@ -72,9 +75,11 @@ pub record IsAbove (node : Node) (tree : Tree ℕ) (counter : ℕ) : Type 0 wher
 abbrev pub HangsAt : Branches → Link → Option ℕ → ℕ → Type 0
 HangsAt branches Top at counter = branches.top ≡ at
 HangsAt branches (Left above) at counter =
-    (node : Node) × (get branches.nodes above ≡ Some node) × (node.left ≡ at) × IsAbove node (tree_at branches.nodes at) counter
+    (node : Node) × (get branches.nodes above ≡ Some node) × (node.left ≡ at)
+    × IsAbove node (tree_at branches.nodes at) counter
 HangsAt branches (Right above) at counter =
-    (node : Node) × (get branches.nodes above ≡ Some node) × (node.right ≡ at) × IsAbove node (tree_at branches.nodes at) counter
+    (node : Node) × (get branches.nodes above ≡ Some node) × (node.right ≡ at)
+    × IsAbove node (tree_at branches.nodes at) counter
 
 -- a walk for the counter has come to this link, and what hangs there
 pub record ComesTo (branches : Branches) (link : Link) (at : Option ℕ) (counter : ℕ) : Type 0 where
@@ -82,7 +87,8 @@ pub record ComesTo (branches : Branches) (link : Link) (at : Option ℕ) (counte
   pub hangs : HangsAt branches link at counter
 
 -- a new node was hung at the link, with these two trees below it
-pub record HangsNew (old new : Branches) (link : Link) (left right : Option ℕ) (sprout : Sprig ℕ) : Type 0 where
+pub record HangsNew (old new : Branches) (link : Link) (left right : Option ℕ) (sprout : Sprig ℕ)
+    : Type 0 where
   pub mid : Branches
   pub key : ℕ
   pub node : Node
@@ -98,14 +104,17 @@ pub record HangsNew (old new : Branches) (link : Link) (left right : Option ℕ)
 
 -- a node with a new list was grafted on the tree
 pub record Enters
-    (old new : Branches) (tree : Tree ℕ) (counter ticket : ℕ) (old_lists new_lists : Lists) (listed : Listed) : Type 0 where
+    (old new : Branches) (tree : Tree ℕ) (counter ticket : ℕ) (old_lists new_lists : Lists)
+    (listed : Listed) : Type 0 where
   pub is_new : listed.is_new ≡ true
-  pub regrows : Regrows old new Top tree (grafted (record { counter = counter; ticket = ticket; value = listed.list }) tree)
+  pub regrows : Regrows old new Top tree
+      (grafted (record { counter = counter; ticket = ticket; value = listed.list }) tree)
   pub len : slab_len new.nodes ≡ slab_len old.nodes + 1
   pub opens : Opens old_lists new_lists listed.list
 
 -- the list was found, and nothing changed
-pub record IsFoundInBranches (old new : Branches) (old_lists new_lists : Lists) (listed : Listed) (key : ℕ) : Type 0 where
+pub record IsFoundInBranches (old new : Branches) (old_lists new_lists : Lists) (listed : Listed) (key : ℕ)
+    : Type 0 where
   pub is_old : listed.is_new ≡ false
   pub list : listed.list ≡ key
   pub same : new ≡ old
@@ -133,19 +142,23 @@ pub record IsPlanted (branches : Branches) (reserved : ℕ) : Type 0 where
   pub within : slab_len branches.nodes ≤ reserved
   pub fits : reserved ≤ branches.nodes.capacity
 
--- a walk from the top for the counter, past no ticket larger than this, comes to this link: what becomes of the tree
--- there by grafting or pruning becomes of the whole tree
+-- a walk from the top for the counter, past no ticket larger than this, comes to this link: what becomes of
+-- the tree there by grafting or pruning becomes of the whole tree
 pub record Seeks (branches : Branches) (counter ticket : ℕ) (link : Link) (at : Option ℕ) : Type 0 where
   pub comes : ComesTo branches link at counter
   pub same : sought counter (tree_at branches.nodes branches.top) ≡ sought counter (tree_at branches.nodes at)
   pub within : size (tree_at branches.nodes at) ≤ size (tree_at branches.nodes branches.top)
-  pub grafts : (new : Branches) (list : ℕ) → size (tree_at branches.nodes branches.top) < branches.nodes.capacity
+  pub grafts : (new : Branches) (list : ℕ)
+      → size (tree_at branches.nodes branches.top) < branches.nodes.capacity
       → Regrows branches new link (tree_at branches.nodes at)
       (grafted (record { counter = counter; ticket = ticket; value = list }) (tree_at branches.nodes at))
       → Regrows branches new Top (tree_at branches.nodes branches.top)
-      (grafted (record { counter = counter; ticket = ticket; value = list }) (tree_at branches.nodes branches.top))
-  pub prunes : (new : Branches) → Regrows branches new link (tree_at branches.nodes at) (pruned counter (tree_at branches.nodes at))
-      → Regrows branches new Top (tree_at branches.nodes branches.top) (pruned counter (tree_at branches.nodes branches.top))
+      (grafted (record { counter = counter; ticket = ticket; value = list })
+      (tree_at branches.nodes branches.top))
+  pub prunes : (new : Branches)
+      → Regrows branches new link (tree_at branches.nodes at) (pruned counter (tree_at branches.nodes at))
+      → Regrows branches new Top (tree_at branches.nodes branches.top)
+      (pruned counter (tree_at branches.nodes branches.top))
 
 -- a walk ends at this node: it is the counter's, or has a larger ticket
 abbrev pub IsEnd : ℕ → ℕ → Sprig ℕ → Type 0

@@ -44,7 +44,8 @@ Lacks counter = AllByRecursion (λ entry. entry.0 ≢ counter)
 
 -- each node stays as it was, but for those of the counters of these entries
 pub record Keeps (old new : Slab Node) (changed : List (ℕ × (ℕ × ℕ))) : Type 0 where
-  pub others : (at : ℕ) (node : Node) → get old at ≡ Some node → Lacks node.counter changed → get new at ≡ Some node
+  pub others : (at : ℕ) (node : Node) → get old at ≡ Some node → Lacks node.counter changed
+      → get new at ≡ Some node
   pub capacity : new.capacity ≡ old.capacity
 
 -- two trees can become one in this slab: all counters of the first are below those of the second

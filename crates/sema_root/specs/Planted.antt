@@ -1,4 +1,5 @@
--- What a contract sees of a `Treap`: its tree, with the ticket and the list key of each counter, and its room.
+-- What a contract sees of a `Treap`: its tree, with the ticket and the list key of each counter, and its
+-- room.
 use Rattle.std.specs.Prelude.{◌≡◌, ◌≢◌, ℕ, ◌+◌, [], Some, None, true, false, length, refl}
 use Rattle.std.specs.Coded.{Coded, code_by, coded×, coded_ℕ}
 use Rattle.waiters.specs.Lists.{Lists, list_at, waits_at, Changes}
@@ -26,14 +27,16 @@ pub record Opens (old new : Lists) (key : ℕ) : Type 0 where
   pub list_room : new.list_room + 1 ≡ old.list_room
 
 -- the counter got a node with this ticket, and a list, which was opened
-pub record Enters (old new : Planted) (counter ticket : ℕ) (old_lists new_lists : Lists) (listed : Listed) : Type 0 where
+pub record Enters (old new : Planted) (counter ticket : ℕ) (old_lists new_lists : Lists) (listed : Listed)
+    : Type 0 where
   pub is_new : listed.is_new ≡ true
   pub tree : new.tree ≡ grafted (record { counter = counter; ticket = ticket; value = listed.list }) old.tree
   pub room : new.room + 1 ≡ old.room
   pub opens : Opens old_lists new_lists listed.list
 
 -- the counter had this list, and nothing changed
-pub record IsFound (old new : Planted) (old_lists new_lists : Lists) (listed : Listed) (key : ℕ) : Type 0 where
+pub record IsFound (old new : Planted) (old_lists new_lists : Lists) (listed : Listed) (key : ℕ)
+    : Type 0 where
   pub is_old : listed.is_new ≡ false
   pub list : listed.list ≡ key
   pub same : new ≡ old

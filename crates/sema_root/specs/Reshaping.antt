@@ -34,7 +34,8 @@ module _ {V : Type 0} where
   grafted new (fork left node right) =
       if ltb new.ticket node.ticket
       then (let sides = split new.counter (fork left node right) in fork sides.0 new sides.1)
-      else (if ltb new.counter node.counter then fork (grafted new left) node right else fork left node (grafted new right))
+      else (if ltb new.counter node.counter then fork (grafted new left) node right else fork left node
+      (grafted new right))
 
   -- the node of a counter goes, and its two trees become one
   abbrev pub pruned : ℕ → Tree V → Tree V
@@ -42,4 +43,5 @@ module _ {V : Type 0} where
   pruned counter (fork left node right) =
       if counter == node.counter
       then merged left right
-      else (if ltb counter node.counter then fork (pruned counter left) node right else fork left node (pruned counter right))
+      else (if ltb counter node.counter then fork (pruned counter left) node right else fork left node
+      (pruned counter right))

@@ -1,4 +1,5 @@
--- How a `TreapRoot` keeps its queues: each node of the treap names a list of `Lists`. No public clause cites this.
+-- How a `TreapRoot` keeps its queues: each node of the treap names a list of `Lists`. No public clause cites
+-- this.
 use Rattle.std.specs.Prelude.{◌≡◌, ◌+◌, ℕ, List, map}
 use Rattle.waiters.specs.Lists.{Lists, waits_at}
 use Rattle.sema_root.specs.Joined.{AreJoined}
@@ -26,14 +27,17 @@ pub record IsRooted (planted : Planted) (lists : Lists) (seats : ℕ) : Type 0 w
   pub room : planted.room + size planted.tree ≡ seats
 
 -- a counter came in, with the next ticket and an empty list
-pub record Comes (old new : Planted) (old_tickets new_tickets : Tickets) (old_lists new_lists : Lists) (counter key : ℕ) : Type 0 where
-  pub tree : new.tree ≡ grafted (record { counter = counter; ticket = old_tickets.next; value = key }) old.tree
+pub record Comes (old new : Planted) (old_tickets new_tickets : Tickets) (old_lists new_lists : Lists)
+    (counter key : ℕ) : Type 0 where
+  pub tree : new.tree ≡ grafted
+      (record { counter = counter; ticket = old_tickets.next; value = key }) old.tree
   pub room : new.room + 1 ≡ old.room
   pub tickets : new_tickets ≡ drawn_from old_tickets.generator
   pub opens : Opens old_lists new_lists key
 
 -- a counter that is in has this list, and nothing changed
-pub record IsIn (old new : Planted) (old_tickets new_tickets : Tickets) (old_lists new_lists : Lists) (found key : ℕ) : Type 0 where
+pub record IsIn (old new : Planted) (old_tickets new_tickets : Tickets) (old_lists new_lists : Lists)
+    (found key : ℕ) : Type 0 where
   pub list : key ≡ found
   pub same : new ≡ old
   pub same_tickets : new_tickets ≡ old_tickets

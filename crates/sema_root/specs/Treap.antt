@@ -1,4 +1,5 @@
--- What a `TreapRoot` is to whoever uses it: a treap of counters, each with its waits, and where tickets come from.
+-- What a `TreapRoot` is to whoever uses it: a treap of counters, each with its waits, and where tickets come
+-- from.
 use Rattle.std.specs.Prelude.{◌≡◌, ℕ, ◌%◌, ◌^◌, List, map, Option, Some, None, IsSome, bit_or, refl}
 use Rattle.std.specs.Coded.{Coded, code_by, coded×, coded_list, coded_ℕ}
 use Rattle.waiters.specs.declared.wait.Wait.{Wait}
@@ -49,7 +50,8 @@ as_ticket word = bit_or (word % 2 ^ 32) 1
 
 -- the ticket of the generator's next word, and the state behind that word
 abbrev pub drawn_from : List ℕ → Tickets
-drawn_from generator = let drawn = plus_plus generator in record { next = as_ticket drawn.0; generator = drawn.1 }
+drawn_from generator =
+    let drawn = plus_plus generator in record { next = as_ticket drawn.0; generator = drawn.1 }
 
 -- the tickets of a seed, from the first on
 abbrev pub tickets_from : ℕ → Tickets
@@ -64,4 +66,5 @@ KeepsTickets old new = (counter : ℕ) → IsSome (ticket_of old counter) → Is
 pub record Draws (old new : Treap) (counter : ℕ) : Type 0 where
   pub waited : IsSome (ticket_of old.tree counter) → new.tickets ≡ old.tickets
   pub came : ticket_of old.tree counter ≡ None
-      → (ticket_of new.tree counter ≡ Some old.tickets.next) × (new.tickets ≡ drawn_from old.tickets.generator)
+      → (ticket_of new.tree counter ≡ Some old.tickets.next)
+      × (new.tickets ≡ drawn_from old.tickets.generator)

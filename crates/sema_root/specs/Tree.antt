@@ -1,5 +1,6 @@
 -- What a treap is: a search tree by counters that is a heap by tickets, whatever it holds for each counter.
-use Rattle.std.specs.Prelude.{◌==◌, ◌≤◌, ◌+◌, ℕ, List, [], ◌∷◌, ◌++◌, Option, Some, None, ⊤, ltb, if◌then◌else◌}
+use Rattle.std.specs.Prelude.{◌==◌, ◌≤◌, ◌+◌, ℕ, List, [], ◌∷◌, ◌++◌, Option, Some, None, ⊤, ltb}
+use Rattle.std.specs.Prelude.{if◌then◌else◌}
 use Rattle.sema_root.specs.declared.place.Place.{Place}
 use Rattle.sema_root.specs.Entries.{AreRising}
 
@@ -69,4 +70,6 @@ module _ {V W : Type 0} where
   abbrev pub mapped : (V → W) → Tree V → Tree W
   mapped change leaf = leaf
   mapped change (fork left node right) =
-      fork (mapped change left) (record { counter = node.counter; ticket = node.ticket; value = change node.value }) (mapped change right)
+      fork (mapped change left)
+      (record { counter = node.counter; ticket = node.ticket; value = change node.value })
+      (mapped change right)

@@ -1,4 +1,5 @@
--- A tree's code, as a `Model` needs one: the nodes from the root down, left before right, with a mark for each leaf.
+-- A tree's code, as a `Model` needs one: the nodes from the root down, left before right, with a mark for
+-- each leaf.
 use mathlib.Core.Path.{refl, sym, ap, ◌∙◌}
 use mathlib.Core.List.{append_assoc, append-nil}
 use Rattle.std.specs.Prelude.{◌≡◌, ℕ, List, [], ◌∷◌, ◌++◌, Option, Some, None}
@@ -32,10 +33,12 @@ module _ {V : Type 0} where
   grown list = first_tree (planted list)
 
   -- a tree's list says that tree, and what stands behind it the next ones
-  pub planted-flat : (tree : Tree V) (rest : List (Option (ℕ × (ℕ × V)))) → planted (flat tree ++ rest) ≡ tree ∷ planted rest
+  pub planted-flat : (tree : Tree V) (rest : List (Option (ℕ × (ℕ × V))))
+      → planted (flat tree ++ rest) ≡ tree ∷ planted rest
   planted-flat leaf rest = refl
   planted-flat (fork left node right) rest =
-      ap (λ list. forked (node.counter, (node.ticket, node.value)) (planted list)) (append_assoc (flat left) (flat right) rest)
+      ap (λ list. forked (node.counter, (node.ticket, node.value)) (planted list))
+      (append_assoc (flat left) (flat right) rest)
       ∙ ap (forked (node.counter, (node.ticket, node.value)))
       (planted-flat left (flat right ++ rest) ∙ ap (λ trees. left ∷ trees) (planted-flat right rest))
 

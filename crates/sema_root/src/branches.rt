@@ -1,11 +1,12 @@
-//! How a treap takes a counter in and gives one up: one walk goes down to where its node is or belongs, and what becomes
-//! of the tree there is hung at the one link that the walk came through. A counter that would come in above others is
-//! first looked for below them.
+//! How a treap takes a counter in and gives one up: one walk goes down to where its node is or belongs, and
+//! what becomes of the tree there is hung at the one link that the walk came through. A counter that would
+//! come in above others is first looked for below them.
 ghost use Rattle.std.specs.Prelude.{◌≡◌, ◌≢◌, ◌<◌, ◌≤◌, MatchBool, MatchOption, true};
 ghost use Rattle.slab.specs.Slab.{HasRoomFor};
 ghost use Rattle.sema_root.specs.Tree.{size, sought, top_value};
 ghost use Rattle.sema_root.specs.Linked.{sprig, tree_at};
-ghost use Rattle.sema_root.specs.Hanging.{ComesTo, Enters, Hangs, HangsNew, IsEnd, IsFoundInBranches, IsListed, IsThere, Leaves, SeeksTo, toward};
+ghost use Rattle.sema_root.specs.Hanging.{ComesTo, Enters, Hangs, HangsNew, IsEnd, IsFoundInBranches};
+ghost use Rattle.sema_root.specs.Hanging.{IsListed, IsThere, Leaves, SeeksTo, toward};
 ghost use Rattle.sema_root.specs.Planted.{Opens};
 
 use crate::listed::Listed;
@@ -56,7 +57,8 @@ fn toward(counter: CounterId, key: usize, node: &Node) -> (Link, Option<usize>)
 // Whether a walk for a counter ends at a node: it is the counter's, or has a larger ticket.
 #[inline]
 fn is_end(counter: CounterId, ticket: u32, node: &Node) -> bool
-    ensures { MatchBool result (IsEnd counter ticket (sprig node.now)) ((counter ≢ node.now.counter) × (node.now.ticket ≤ ticket)) }
+    ensures { MatchBool result (IsEnd counter ticket (sprig node.now))
+        ((counter ≢ node.now.counter) × (node.now.ticket ≤ ticket)) }
 {
     counter == node.counter || ticket < node.ticket
 }

@@ -1,8 +1,8 @@
 //! The nodes of a treap, in records that are reserved once and linked by index, and three walks over them.
 //!
-//! Removal goes as by Go's rotations: of a node's two children the one with the smaller ticket comes up until the
-//! node is a leaf. [`merge`] leaves that very tree and writes one link a turn where a rotation writes three; with
-//! [`split`] the same holds of a leaf that comes up while its parent's ticket is larger.
+//! Removal goes as by Go's rotations: of a node's two children the one with the smaller ticket comes up until
+//! the node is a leaf. [`merge`] leaves that very tree and writes one link a turn where a rotation writes
+//! three; with [`split`] the same holds of a leaf that comes up while its parent's ticket is larger.
 ghost use Rattle.std.specs.Prelude.{◌≡◌, Some};
 ghost use Rattle.slab.specs.Slab.{get, slab_len, ContainsKey, Updates};
 ghost use Rattle.sema_root.specs.declared.nodes.Node.{Node};

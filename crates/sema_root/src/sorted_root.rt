@@ -1,5 +1,5 @@
-//! A root as a sorted vector: the reference for [`TreapRoot`](crate::TreapRoot), and faster while few counters
-//! have waits. A search takes logarithmic time; a counter that comes in or goes moves the tail.
+//! A root as a sorted vector: the reference for [`TreapRoot`](crate::TreapRoot), and faster while few
+//! counters have waits. A search takes logarithmic time; a counter that comes in or goes moves the tail.
 ghost use Rattle.std.specs.Prelude.{◌≡◌, ◌<◌, [], IfOk, IfErr};
 ghost use Rattle.sema_root.specs.Entries.{AreRising};
 ghost use Rattle.sema_root.specs.Search.{pairs, IsAt, IsGapFor};

@@ -1,4 +1,5 @@
-ghost use Rattle.std.specs.Prelude.{◌≡◌, ◌<◌, ◌≤◌, ◌+◌, ℕ, List, drop, length, map, slice_get, IfOk, OnSome, IfNone, IsTrue, ◌↔◌};
+ghost use Rattle.std.specs.Prelude.{◌≡◌, ◌<◌, ◌≤◌, ◌+◌, ℕ, List, drop, length, map, slice_get, IfOk, OnSome};
+ghost use Rattle.std.specs.Prelude.{IfNone, IsTrue, ◌↔◌};
 ghost use Rattle.waiters.specs.declared.wait.Wait.{Wait};
 ghost use Rattle.sema_root.specs.Queues.{waits_on, total, AreQueues, joined_by, Changes};
 
@@ -48,7 +49,8 @@ pub trait RootStore {
 
     /// The names of the waits of a counter's queue, in order. Memory is taken for the answer alone, at once.
     fn ids(&self, alloc: Global, counter: CounterId) -> Result<Vec<WaitId>, NoMemory>
-        ensures { IfOk result (λ ids. ids.items ≡ map (λ wait. wait.id) (waits_on (queues self.now) counter)) };
+        ensures { IfOk result
+            (λ ids. ids.items ≡ map (λ wait. wait.id) (waits_on (queues self.now) counter)) };
 
     /// Whether no wait fits any more.
     fn is_full(&self) -> bool

@@ -7,8 +7,8 @@ use rand_xoshiro::Xoshiro256PlusPlus;
 use std::alloc::AllocError;
 use std::marker::Model;
 
-/// The tickets of new nodes, from a seed. The next one is drawn ahead, so that the walk that finds no node for a
-/// counter knows on its way where the new one will hang.
+/// The tickets of new nodes, from a seed. The next one is drawn ahead, so that the walk that finds no node
+/// for a counter knows on its way where the new one will hang.
 #[derive(Drop)]
 pub(crate) struct Tickets {
     next: u32,

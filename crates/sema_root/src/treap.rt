@@ -111,14 +111,15 @@ impl Treap {
     pub(crate) fn leave(&mut self, counter: CounterId, lists: &Lists) -> Option<ListKey>
         requires { (key : ℕ) → top_value (sought counter self.old.tree) ≡ Some key → IsOpen lists.now key }
         ensures list { result ≡ top_value (sought counter self.old.tree) }
-        ensures leaves { MatchOption result (self.new ≡ self.old) (Leaves self.old self.new counter lists.now) }
+        ensures leaves { MatchOption result (self.new ≡ self.old)
+            (Leaves self.old self.new counter lists.now) }
         ensures treap { IsTreap self.new.tree }
     {
         leave(&mut self.branches, counter, lists)
     }
 
-    /// Becomes as the other treap is, and the lists as the other's lists are; or both stay as they were. No memory is
-    /// taken where there is as much as the other has.
+    /// Becomes as the other treap is, and the lists as the other's lists are; or both stay as they were. No
+    /// memory is taken where there is as much as the other has.
     pub(crate) fn copy_from(
         &mut self,
         other: &Treap,

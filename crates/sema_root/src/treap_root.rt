@@ -1,9 +1,10 @@
 //! A root as a treap, with the tickets of Go's `semaRoot`.
 //!
-//! A node's ticket is the low 32 bits of the generator's next word with the lowest bit set. The generator starts as
-//! `seed_from_u64(seed)`, and a word is used for each node and for nothing else. A counter keeps its node, and so its
-//! ticket, while it has waits.
-ghost use Rattle.std.specs.Prelude.{◌≡◌, ◌<◌, ◌+◌, ◌++◌, MatchOption, IfOk, OnOk, OnErr, IfNone, OnSome, drop, slice_get};
+//! A node's ticket is the low 32 bits of the generator's next word with the lowest bit set. The generator
+//! starts as `seed_from_u64(seed)`, and a word is used for each node and for nothing else. A counter keeps
+//! its node, and so its ticket, while it has waits.
+ghost use Rattle.std.specs.Prelude.{◌≡◌, ◌<◌, ◌+◌, ◌++◌, MatchOption, IfOk, OnOk, OnErr, IfNone, OnSome};
+ghost use Rattle.std.specs.Prelude.{drop, slice_get};
 ghost use Rattle.waiters.specs.Lists.{seats_of};
 ghost use Rattle.sema_root.specs.Queues.{waits_on, total, AreQueues, joined_by, Changes};
 ghost use Rattle.sema_root.specs.Rooted.{Comes, IsIn};
@@ -90,7 +91,8 @@ impl TreapRoot {
         Ok(())
     }
 
-    /// Writes the seat of each wait of a counter's queue behind these words, in order. On `Err` nothing is written.
+    /// Writes the seat of each wait of a counter's queue behind these words, in order. On `Err` nothing is
+    /// written.
     pub fn write_seats(&self, counter: CounterId, words: &mut Vec<u64>) -> Result<(), NoMemory>
         ensures ok { OnOk result (words.new.items
             ≡ words.old.items ++ seats_of (waits_on (queues_of self.now.tree) counter)) }
@@ -126,7 +128,8 @@ impl RootStore for TreapRoot {
         ensures first { result ≡ slice_get (waits_on (queues_of self.old.tree) counter) 0 }
         ensures rest { Changes (queues_of self.old.tree) (queues_of self.new.tree) counter
             (drop 1 (waits_on (queues_of self.old.tree) counter)) }
-        ensures count { OnSome result (total (queues_of self.new.tree) + 1 ≡ total (queues_of self.old.tree)) }
+        ensures count { OnSome result
+            (total (queues_of self.new.tree) + 1 ≡ total (queues_of self.old.tree)) }
         ensures none { IfNone result (self.new ≡ self.old) }
         ensures map { AreQueues (queues_of self.new.tree) }
         ensures seats { self.new.seats ≡ self.old.seats }

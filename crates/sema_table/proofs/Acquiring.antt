@@ -10,7 +10,7 @@ use Rattle.step_table.specs.declared.place.Place.TheVariants.{Rest, Acquiring}
 use Rattle.step_table.specs.World.{SeatState}
 use Rattle.step_table.specs.Journal.{HasItsUnit}
 use Rattle.step_table.specs.Counting.{wait}
-use Rattle.sema_law.specs.SemaPath.{SemaStride}
+use Rattle.step_law_semaphores.specs.SemaPath.{SemaStride}
 use Rattle.sema_table.specs.declared.answers.Tried.TheVariants as tried
 use Rattle.sema_table.specs.declared.answers.Entered.TheVariants.{Taken, Asleep}
 use Rattle.sema_table.specs.declared.answers.Roused.TheVariants.{Woken, Handed}

@@ -5,7 +5,7 @@ use Rattle.step_table.specs.declared.entry.Entry.TheVariants.{Add, AddMany, Take
 use Rattle.std.specs.List.{filter}
 use native.Mathlib.Decide.{ℕ_discrete}
 use Rattle.step_table.specs.Path.{Meets}
-use Rattle.sema_law.specs.SemaPath.{SemaSight, semaphores, is_own}
+use Rattle.step_law_semaphores.specs.SemaPath.{SemaSight, semaphores, is_own}
 use Rattle.step_table.specs.declared.effect.Effect.{Effect}
 use Rattle.step_table.specs.declared.place.ReleaseRow.TheVariants.{R1}
 use Rattle.step_table.specs.declared.place.ManyRow.TheVariants.{M1}
@@ -15,10 +15,10 @@ use Rattle.step_table.specs.World.{Layout, Words, SeatState, SemaWorld}
 use Rattle.step_table.specs.Counting.{on}
 use Rattle.step_table.specs.Steps as steps
 use Rattle.step_table.proofs.Sums.{on_here, on_else}
-use Rattle.sema_law.specs.Balances.{added_by}
-use Rattle.sema_law.specs.Invariant.{IsInvariant}
-use Rattle.sema_law.proofs.Lines.{Line, r1, m1, begin_acquire, Step, own, post, step_of}
-use Rattle.sema_law.proofs.Telling.{entries, Counts, count_append, count_after}
+use Rattle.step_law_semaphores.specs.Balances.{added_by}
+use Rattle.step_law_semaphores.specs.Invariant.{IsInvariant}
+use Rattle.step_law_semaphores.proofs.Lines.{Line, r1, m1, begin_acquire, Step, own, post, step_of}
+use Rattle.step_law_semaphores.proofs.Telling.{entries, Counts, count_append, count_after}
 
 -- how many units the row adds
 abbrev pub adding : Place → ℕ

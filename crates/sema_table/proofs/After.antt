@@ -1,5 +1,6 @@
 -- A seat after strides: the same seat, which has told just their entries, and what it has seen is lawful.
-use Rattle.std.proofs.Common.{◌≡◌, ◌⊎◌, ℕ, ◌+◌, ◌<◌, ◌≤◌, IsTrue, true, false, List, [], ◌∷◌, ◌++◌, refl, sym, ap, ◌∙◌, subst, inl, inr, arith, append_assoc, append-nil}
+use Rattle.std.proofs.Common.{◌≡◌, ◌⊎◌, ℕ, ◌+◌, ◌<◌, ◌≤◌, IsTrue, true, false, List, [], ◌∷◌, ◌++◌, refl, sym, ap, ◌∙◌, subst, inl, inr, arith, append_assoc}
+use Rattle.std.proofs.Common.{append-nil}
 use Rattle.std.specs.List.{filter}
 use Rattle.std.proofs.lemmas.Bool.{cases_lt}
 use Rattle.std.proofs.lemmas.List.Elements.{filter-append}
@@ -14,9 +15,9 @@ use Rattle.step_table.specs.Journal.{plain_start, IsLawful}
 use Rattle.step_table.specs.Path.{Deed, runs, looks, Did, OnlyLooked, all_told, ArePaths}
 use Rattle.step_table.proofs.Sums.{put_else}
 use Rattle.step_table.proofs.Turns.{steps_keep}
-use Rattle.sema_law.specs.SemaPath.{SemaSight, SemaStride, SemaRan, SemaPath, SemaDid, semaphores, placed, is_own}
-use Rattle.sema_law.proofs.SemaPaths.{the_sema_paths}
-use Rattle.sema_law.proofs.Promises.{the_law}
+use Rattle.step_law_semaphores.specs.SemaPath.{SemaSight, SemaStride, SemaRan, SemaPath, SemaDid, semaphores, placed, is_own}
+use Rattle.step_law_semaphores.proofs.SemaPaths.{the_sema_paths}
+use Rattle.step_law_semaphores.proofs.Promises.{the_law}
 use Rattle.sema_table.specs.Setting.{layout}
 use Rattle.sema_table.specs.Seats.{TableModel, SeatModel}
 use Rattle.sema_table.specs.Calls.{TellsIn, Calls}

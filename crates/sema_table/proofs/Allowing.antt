@@ -1,5 +1,6 @@
 -- What an atomic step of the code owes, by the kind of its row.
-use Rattle.std.proofs.Common.{◌≡◌, ◌≢◌, ℕ, ◌+◌, ◌^◌, ◌<◌, ◌≤◌, ◌==◌, false, List, [], ◌∷◌, length, set, slice_index, sym, refl, ap, ◌∙◌, subst, inl, arith, length-set}
+use Rattle.std.proofs.Common.{◌≡◌, ◌≢◌, ℕ, ◌+◌, ◌^◌, ◌<◌, ◌≤◌, ◌==◌, false, List, [], ◌∷◌, length, set, slice_index, sym, refl, ap, ◌∙◌, subst, inl, arith}
+use Rattle.std.proofs.Common.{length-set}
 use mathlib.Core.Option.{none, some}
 use native.Mathlib.Decide.{ℕ_discrete}
 use lib.ListN.{get_elem?}
@@ -17,8 +18,8 @@ use Rattle.step_table.specs.World.{SemaWorld, SeatState, put, found, written, li
 use Rattle.step_table.specs.Steps.{event_of, finds}
 use Rattle.step_table.specs.Counting.{counter_at}
 use Rattle.step_table.proofs.Sums.{put_here, put_else}
-use Rattle.sema_law.specs.Lawful.{holds}
-use Rattle.sema_law.specs.Balances.{added_by}
+use Rattle.step_law_semaphores.specs.Lawful.{holds}
+use Rattle.step_law_semaphores.specs.Balances.{added_by}
 use Rattle.sema_root.specs.Treap.{Treap}
 use Rattle.running_rows.specs.Strides.{here, becomes, RanRow, Changed, grants}
 use Rattle.running_rows.specs.Owing.{Stands, Leads, Owes}
@@ -35,7 +36,8 @@ use Rattle.sema_table.proofs.Words.{low_root, is_lock, locks_unwritten, listed_a
 use Rattle.sema_table.proofs.Adding.{adding}
 use Rattle.sema_table.proofs.Striding.{Ran, ran_here}
 use Rattle.running_rows.proofs.Telling.{owes_own, tells_more, stays_so}
-use Rattle.sema_table.proofs.Keeping.{Fits, Ready, ready, b, t, after, others, knows_after, shows_after, went, home_stays, lists_are, lists_told, read_is, tells_on}
+use Rattle.sema_table.proofs.Keeping.{Fits, Ready, ready, b, t, after, others, knows_after, shows_after, went, home_stays, lists_are, lists_told, read_is}
+use Rattle.sema_table.proofs.Keeping.{tells_on}
 
 -- a row of no lock: the code's step is the event of the table
 pub record Stays (z : Setting) (e : Event) (i n x : ℕ) : Type 0 where

@@ -10,8 +10,8 @@ use Rattle.step_table.specs.declared.place.Place.TheVariants.{Rest, Acquiring, R
 use Rattle.step_table.specs.World.{Layout, SemaWorld, SeatState, put}
 use Rattle.step_table.specs.Steps.{moved, Choice, acquire, enter, release, release_many, give_up, give_up_lock, decide, Step, choose}
 use Rattle.step_table.proofs.Sums.{put_here, put_else, put_same}
-use Rattle.sema_law.specs.Lawful.{holds}
-use Rattle.sema_law.specs.Served.{carries}
+use Rattle.step_law_semaphores.specs.Lawful.{holds}
+use Rattle.step_law_semaphores.specs.Served.{carries}
 use Rattle.waiters.specs.declared.wait.WaitId.{WaitId}
 use Rattle.sema_table.specs.Places.{is_free, IsFirst, Decides, Begins}
 

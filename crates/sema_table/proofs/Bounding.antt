@@ -6,10 +6,10 @@ use Rattle.step_table.specs.Journal.{takes}
 use Rattle.step_table.specs.Counting.{total}
 use Rattle.step_table.proofs.Sums.{total_has}
 use Rattle.step_table.proofs.SumsOfSums.{total_most}
-use Rattle.sema_law.specs.Lawful.{added}
-use Rattle.sema_law.specs.Balances.{added_by, taken}
-use Rattle.sema_law.specs.Bounds.{IsSmall}
-use Rattle.sema_law.proofs.Accounts.{the_accounts}
+use Rattle.step_law_semaphores.specs.Lawful.{added}
+use Rattle.step_law_semaphores.specs.Balances.{added_by, taken}
+use Rattle.step_law_semaphores.specs.Bounds.{IsSmall}
+use Rattle.step_law_semaphores.proofs.Accounts.{the_accounts}
 use Rattle.sema_table.specs.declared.view.Setting.{Setting}
 use Rattle.sema_table.specs.Setting.{layout}
 

@@ -11,7 +11,7 @@ use Rattle.step_table.specs.declared.place.Place.TheVariants.{Rest, Acquiring}
 use Rattle.step_table.specs.World.{Layout, SeatState}
 use Rattle.step_table.specs.Counting.{wait}
 use Rattle.step_table.specs.Path.{runs, all_told}
-use Rattle.sema_law.specs.SemaPath.{SemaSight, SemaStride, SemaPath, placed}
+use Rattle.step_law_semaphores.specs.SemaPath.{SemaSight, SemaStride, SemaPath, placed}
 use Rattle.sema_table.specs.Setting.{layout}
 use Rattle.sema_table.specs.Seats.{SeatModel}
 use Rattle.sema_table.specs.Tries.{acquiring}

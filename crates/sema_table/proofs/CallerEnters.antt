@@ -1,5 +1,6 @@
 -- What an acquire from the lock on is to its caller, up to its wait.
-use Rattle.std.proofs.Common.{◌≡◌, ◌⊎◌, ◌==◌, if◌then◌else◌, Bool, true, false, ℕ, zero, suc, ◌+◌, List, [], ◌∷◌, ◌++◌, refl, sym, ap, ◌∙◌, subst, inl, inr, arith}
+use Rattle.std.proofs.Common.{◌≡◌, ◌⊎◌, ◌==◌, if◌then◌else◌, Bool, true, false, ℕ, zero, suc, ◌+◌, List, [], ◌∷◌, ◌++◌, refl, sym, ap, ◌∙◌, subst, inl, inr}
+use Rattle.std.proofs.Common.{arith}
 use Rattle.std.specs.List.{All}
 use Rattle.std.proofs.lemmas.List.Elements.{All-head, All-tail}
 use Rattle.waiters.specs.declared.wait.WaitId.{WaitId}
@@ -15,7 +16,7 @@ use Rattle.step_table.specs.Event.{Next, zero_or}
 use Rattle.step_table.specs.Counting.{wait}
 use Rattle.step_table.specs.Journal.{plain_start, replay}
 use Rattle.step_table.specs.Path.{runs, all_told}
-use Rattle.sema_law.specs.SemaPath.{SemaSight, SemaStride, SemaRan, SemaPath, placed, plain_before, entries_of}
+use Rattle.step_law_semaphores.specs.SemaPath.{SemaSight, SemaStride, SemaRan, SemaPath, placed, plain_before, entries_of}
 use Rattle.sema_table.specs.declared.answers.Entered.{Entered}
 use Rattle.sema_table.specs.declared.answers.Entered.TheVariants.{Taken, Asleep}
 use Rattle.sema_table.specs.Setting.{layout}

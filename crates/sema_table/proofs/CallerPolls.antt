@@ -7,8 +7,8 @@ use Rattle.step_table.specs.declared.word.Word.TheVariants.{Grant}
 use Rattle.step_table.specs.World.{SeatState}
 use Rattle.step_table.specs.Journal.{HasLeft, HasItsUnit}
 use Rattle.step_table.specs.Counting.{wait}
-use Rattle.sema_law.specs.SemaPath.{SemaStride, SemaPath, placed}
-use Rattle.sema_law.proofs.SemaPaths.{the_sema_paths}
+use Rattle.step_law_semaphores.specs.SemaPath.{SemaStride, SemaPath, placed}
+use Rattle.step_law_semaphores.proofs.SemaPaths.{the_sema_paths}
 use Rattle.sema_table.specs.declared.answers.Polled.{Polled}
 use Rattle.sema_table.specs.declared.answers.Polled.TheVariants.{Still, Woken, Handed}
 use Rattle.sema_table.specs.declared.answers.Roused.{Roused}

@@ -13,8 +13,8 @@ use Rattle.step_table.specs.World.{Layout, SeatState}
 use Rattle.step_table.specs.Table.{event_at}
 use Rattle.step_table.specs.Counting.{IsWithin}
 use Rattle.step_table.specs.Journal.{plain_start, replay}
-use Rattle.sema_law.specs.SemaPath.{SemaSight, SemaStride, SemaPath, placed, plain_before, entries_of}
-use Rattle.sema_law.proofs.SemaPaths.{the_sema_paths}
+use Rattle.step_law_semaphores.specs.SemaPath.{SemaSight, SemaStride, SemaPath, placed, plain_before, entries_of}
+use Rattle.step_law_semaphores.proofs.SemaPaths.{the_sema_paths}
 use Rattle.sema_table.specs.declared.answers.Posted.{Posted}
 use Rattle.sema_table.specs.declared.answers.Posted.TheVariants.{Done, Owes}
 use Rattle.sema_table.specs.declared.many_seat.PostedMany.{PostedMany}

@@ -12,8 +12,8 @@ use Rattle.step_table.specs.World.{Layout, SeatState}
 use Rattle.step_table.specs.Table.{event_at}
 use Rattle.step_table.specs.Journal.{plain_start, replay}
 use Rattle.step_table.specs.Path.{runs, all_told}
-use Rattle.sema_law.specs.SemaPath.{SemaSight, SemaStride, SemaRan, SemaPath, placed, plain_before, word_of_deed}
-use Rattle.sema_law.proofs.SemaPaths.{the_sema_paths}
+use Rattle.step_law_semaphores.specs.SemaPath.{SemaSight, SemaStride, SemaRan, SemaPath, placed, plain_before, word_of_deed}
+use Rattle.step_law_semaphores.proofs.SemaPaths.{the_sema_paths}
 use Rattle.sema_table.specs.declared.answers.Tried.{Tried}
 use Rattle.sema_table.specs.declared.answers.Tried.TheVariants.{Taken, Zero, Lost}
 use Rattle.sema_table.specs.Setting.{root, layout}

@@ -1,5 +1,6 @@
 -- What a release is to its caller, from its look for waits on, and whole.
-use Rattle.std.proofs.Common.{◌≡◌, ◌≢◌, ◌⊎◌, Bool, false, ℕ, zero, suc, ◌+◌, ◌<◌, Ok, List, [], ◌∷◌, ◌++◌, refl, sym, ap, ◌∙◌, subst, inl, inr, arith, append-nil}
+use Rattle.std.proofs.Common.{◌≡◌, ◌≢◌, ◌⊎◌, Bool, false, ℕ, zero, suc, ◌+◌, ◌<◌, Ok, List, [], ◌∷◌, ◌++◌, refl, sym, ap, ◌∙◌, subst, inl, inr, arith}
+use Rattle.std.proofs.Common.{append-nil}
 use Rattle.std.specs.List.{All}
 use Rattle.std.proofs.lemmas.List.Elements.{All-head, All-tail}
 use Rattle.waiters.specs.declared.wait.WaitId.{WaitId}
@@ -18,8 +19,8 @@ use Rattle.step_table.specs.Counting.{IsWithin, counter_at}
 use Rattle.step_table.specs.Journal.{plain_start, replay}
 use Rattle.step_table.specs.Path.{runs, all_told}
 use Rattle.step_table.proofs.Paths.{goes_on_here}
-use Rattle.sema_law.specs.SemaPath.{SemaSight, SemaStride, SemaRan, SemaPath, placed, plain_before, entries_of}
-use Rattle.sema_law.proofs.SemaPaths.{the_sema_paths}
+use Rattle.step_law_semaphores.specs.SemaPath.{SemaSight, SemaStride, SemaRan, SemaPath, placed, plain_before, entries_of}
+use Rattle.step_law_semaphores.proofs.SemaPaths.{the_sema_paths}
 use Rattle.sema_table.specs.declared.answers.Posted.TheVariants.{Done, Owes}
 use Rattle.sema_table.specs.declared.answers.Wake.{Wake}
 use Rattle.sema_table.specs.declared.answers.Wake.TheVariants.{Nobody, One, Handed}

@@ -1,5 +1,6 @@
 -- What a release of many units is to its caller, from its look for waits on, and whole.
-use Rattle.std.proofs.Common.{◌≡◌, ◌⊎◌, ◌&&◌, nat_lt, if◌then◌else◌, Bool, true, false, ℕ, zero, suc, ◌+◌, ◌<◌, ◌≤◌, Ok, List, [], ◌∷◌, ◌++◌, drop, length, map, refl, sym, ap, ◌∙◌, subst, inl, inr, arith, append-nil, length-append, lt-ltb, le-ltb}
+use Rattle.std.proofs.Common.{◌≡◌, ◌⊎◌, ◌&&◌, nat_lt, if◌then◌else◌, Bool, true, false, ℕ, zero, suc, ◌+◌, ◌<◌, ◌≤◌, Ok, List, [], ◌∷◌, ◌++◌, drop, length, map}
+use Rattle.std.proofs.Common.{refl, sym, ap, ◌∙◌, subst, inl, inr, arith, append-nil, length-append, lt-ltb, le-ltb}
 use Rattle.std.specs.List.{All}
 use Rattle.std.proofs.lemmas.Bool.{cases_lt}
 use Rattle.std.proofs.lemmas.List.{map-append}
@@ -22,9 +23,9 @@ use Rattle.step_table.specs.Journal.{Plain, plain_start, replay}
 use Rattle.step_table.specs.Path.{runs, all_told}
 use Rattle.step_table.proofs.Sums.{put_here}
 use Rattle.step_table.proofs.Paths.{goes_on_here, stride_told}
-use Rattle.sema_law.specs.Invariant.{HandFits}
-use Rattle.sema_law.specs.SemaPath.{SemaSight, SemaStride, SemaRan, SemaPath, semaphores, placed, plain_before, entries_of}
-use Rattle.sema_law.proofs.Telling.{replay_last}
+use Rattle.step_law_semaphores.specs.Invariant.{HandFits}
+use Rattle.step_law_semaphores.specs.SemaPath.{SemaSight, SemaStride, SemaRan, SemaPath, semaphores, placed, plain_before, entries_of}
+use Rattle.step_law_semaphores.proofs.Telling.{replay_last}
 use Rattle.sema_table.specs.declared.many_seat.PostedMany.TheVariants as many
 use Rattle.sema_table.specs.Setting.{layout}
 use Rattle.sema_table.specs.Seats.{SeatModel}

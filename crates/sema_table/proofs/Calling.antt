@@ -9,13 +9,13 @@ use Rattle.step_table.specs.declared.word.Word.TheVariants.{Grant}
 use Rattle.step_table.specs.World.{Layout, SeatState}
 use Rattle.step_table.specs.Path.{GoesOn, runs, all_told}
 use Rattle.step_table.proofs.Paths.{goes_on_more, goes_on_here, stride_told, stride_later}
-use Rattle.sema_law.specs.SemaPath.{SemaSight, SemaStride, SemaPath, semaphores, placed, row_event, word_of_deed, word_of_stride}
+use Rattle.step_law_semaphores.specs.SemaPath.{SemaSight, SemaStride, SemaPath, semaphores, placed, row_event, word_of_deed, word_of_stride}
 use Rattle.sema_table.specs.Rows.{SemaSeat}
 use Rattle.sema_table.specs.declared.seat.Numbers.{Numbers}
 use Rattle.sema_table.specs.Starts.{begin}
 use Rattle.sema_table.proofs.Striding.{Ran}
 use Rattle.sema_table.specs.Seats.{SeatModel, TableModel, Token, table_of, seat_of, IsToken}
-use Rattle.sema_law.proofs.SemaPaths.{the_sema_paths}
+use Rattle.step_law_semaphores.proofs.SemaPaths.{the_sema_paths}
 use Rattle.sema_table.specs.Setting.{layout}
 use Rattle.sema_table.specs.Rule.{stands_by, sight_by}
 use Rattle.sema_table.proofs.Walking.{told_append}

@@ -9,7 +9,7 @@ use Rattle.step_table.specs.declared.place.Place.{Place}
 use Rattle.step_table.specs.declared.place.Place.TheVariants.{Rest, Acquiring}
 use Rattle.step_table.specs.World.{SeatState}
 use Rattle.step_table.specs.Counting.{counter_at, wait}
-use Rattle.sema_law.specs.Balances.{added_by}
+use Rattle.step_law_semaphores.specs.Balances.{added_by}
 use Rattle.sema_table.specs.declared.seat.Numbers.{Numbers}
 use Rattle.sema_table.specs.declared.answers.Entered.TheVariants.{Taken, Asleep}
 use Rattle.sema_table.specs.Places.{is_free}

@@ -15,10 +15,10 @@ use Rattle.step_table.specs.Counting.{on, wait, IsWithin}
 use Rattle.step_table.specs.Journal.{Plain, HasLeft}
 use Rattle.step_table.specs.Path.{Deed, runs, looks, Did}
 use Rattle.step_table.proofs.Sums.{total_has, on_here}
-use Rattle.sema_law.specs.Invariant.{IsInvariant, HandFits, Story}
-use Rattle.sema_law.specs.SemaPath.{SemaSight, SemaStride, SemaRan, semaphores, plain_before, row_event}
-use Rattle.sema_law.proofs.Promises.{the_law}
-use Rattle.sema_law.proofs.Accounts.{the_accounts}
+use Rattle.step_law_semaphores.specs.Invariant.{IsInvariant, HandFits, Story}
+use Rattle.step_law_semaphores.specs.SemaPath.{SemaSight, SemaStride, SemaRan, semaphores, plain_before, row_event}
+use Rattle.step_law_semaphores.proofs.Promises.{the_law}
+use Rattle.step_law_semaphores.proofs.Accounts.{the_accounts}
 use Rattle.sema_table.proofs.After.{there}
 use Rattle.sema_table.proofs.Tellers.{in_law, plain_there, stood_there}
 

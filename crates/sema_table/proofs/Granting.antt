@@ -1,5 +1,6 @@
 -- A release from its root's lock on, row by row.
-use Rattle.std.proofs.Common.{◌≡◌, ◌≢◌, ℕ, ◌+◌, ◌-◌, ◌^◌, ◌<◌, ◌≤◌, nat_eq, not, MatchBool, Bool, true, false, List, [], ◌∷◌, ◌++◌, drop, sym, refl, ap, ◌∙◌, subst, arith, eq-eqb, ne_eqb}
+use Rattle.std.proofs.Common.{◌≡◌, ◌≢◌, ℕ, ◌+◌, ◌-◌, ◌^◌, ◌<◌, ◌≤◌, nat_eq, not, MatchBool, Bool, true, false, List, [], ◌∷◌, ◌++◌, drop, sym, refl, ap, ◌∙◌}
+use Rattle.std.proofs.Common.{subst, arith, eq-eqb, ne_eqb}
 use mathlib.Core.Logic.{dite}
 use native.Mathlib.Decide.{ℕ_discrete}
 use Rattle.waiters.specs.declared.wait.WaitId.{WaitId}
@@ -13,11 +14,11 @@ use Rattle.step_table.specs.World.{SeatState, SemaWorld, put}
 use Rattle.step_table.specs.Event.{Next, to, zero_or, by_first, waiter}
 use Rattle.step_table.specs.Counting.{times}
 use Rattle.step_table.proofs.Sums.{on_here}
-use Rattle.sema_law.specs.Lawful.{holds}
-use Rattle.sema_law.specs.SemaPath.{SemaSight, plain_before}
-use Rattle.sema_law.proofs.Promises.{the_law}
-use Rattle.sema_law.proofs.SemaPaths.{the_sema_paths}
-use Rattle.sema_law.proofs.Placing.{same_here}
+use Rattle.step_law_semaphores.specs.Lawful.{holds}
+use Rattle.step_law_semaphores.specs.SemaPath.{SemaSight, plain_before}
+use Rattle.step_law_semaphores.proofs.Promises.{the_law}
+use Rattle.step_law_semaphores.proofs.SemaPaths.{the_sema_paths}
+use Rattle.step_law_semaphores.proofs.Placing.{same_here}
 use Rattle.sema_root.specs.Treap.{Treap}
 use mathlib.Core.Option.{none}
 use Rattle.running_rows.specs.Table.{step}
@@ -26,7 +27,7 @@ use Rattle.sema_table.specs.declared.view.Record.TheVariants.{Root}
 use Rattle.sema_table.specs.Setting.{root, layout, address}
 use Rattle.running_rows.specs.Owing.{Owes}
 use Rattle.sema_table.specs.Rule.{sight_by, lists_by, IsRecord}
-use Rattle.sema_law.specs.Balances.{added_by}
+use Rattle.step_law_semaphores.specs.Balances.{added_by}
 use Rattle.step_table.specs.declared.word.Word.TheVariants.{Grant}
 use Rattle.sema_table.specs.declared.view.Setting.{Setting}
 use Rattle.sema_table.specs.Rows.{Me, semaphore_rows}

@@ -1,5 +1,6 @@
 -- A release of many units from its root's lock on, row by row.
-use Rattle.std.proofs.Common.{◌≡◌, ℕ, ◌+◌, ◌-◌, ◌^◌, ◌<◌, ◌≤◌, zero, suc, nat_eq, nat_lt, ◌&&◌, if◌then◌else◌, not, MatchBool, Bool, true, false, List, [], ◌∷◌, ◌++◌, length, get_or, drop, sym, refl, ap, ◌∙◌, subst, arith, eq-eqb, ne_eqb, length-append}
+use Rattle.std.proofs.Common.{◌≡◌, ℕ, ◌+◌, ◌-◌, ◌^◌, ◌<◌, ◌≤◌, zero, suc, nat_eq, nat_lt, ◌&&◌, if◌then◌else◌, not, MatchBool, Bool, true, false, List, [], ◌∷◌}
+use Rattle.std.proofs.Common.{◌++◌, length, get_or, drop, sym, refl, ap, ◌∙◌, subst, arith, eq-eqb, ne_eqb, length-append}
 use Rattle.std.specs.List.{All}
 use Rattle.std.proofs.lemmas.Bool.{lt-ltb}
 use mathlib.Core.Logic.{dite}
@@ -17,12 +18,12 @@ use Rattle.step_table.specs.Event.{Next, to, zero_or, by_first, waiter}
 use Rattle.step_table.specs.ReleaseMany.{after_leave}
 use Rattle.step_table.specs.Counting.{times}
 use Rattle.step_table.proofs.Sums.{on_here, put_here}
-use Rattle.sema_law.specs.Lawful.{holds}
-use Rattle.sema_law.specs.Balances.{added_by}
-use Rattle.sema_law.specs.SemaPath.{SemaSight, plain_before}
-use Rattle.sema_law.proofs.Promises.{the_law}
-use Rattle.sema_law.proofs.SemaPaths.{the_sema_paths}
-use Rattle.sema_law.proofs.Placing.{same_here}
+use Rattle.step_law_semaphores.specs.Lawful.{holds}
+use Rattle.step_law_semaphores.specs.Balances.{added_by}
+use Rattle.step_law_semaphores.specs.SemaPath.{SemaSight, plain_before}
+use Rattle.step_law_semaphores.proofs.Promises.{the_law}
+use Rattle.step_law_semaphores.proofs.SemaPaths.{the_sema_paths}
+use Rattle.step_law_semaphores.proofs.Placing.{same_here}
 use Rattle.sema_root.specs.Treap.{Treap}
 use mathlib.Core.Option.{none}
 use Rattle.running_rows.specs.Table.{step}

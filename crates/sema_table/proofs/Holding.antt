@@ -1,5 +1,6 @@
 -- The record of a root while a seat holds the root's lock.
-use Rattle.std.proofs.Common.{◌≡◌, ℕ, ◌+◌, ◌<◌, Bool, true, false, List, [], ◌∷◌, length, get_or, map, drop, slice_get, Option, Some, None, IsSome, suc, sym, refl, ap, ◌∙◌, subst, arith}
+use Rattle.std.proofs.Common.{◌≡◌, ℕ, ◌+◌, ◌<◌, Bool, true, false, List, [], ◌∷◌, length, get_or, map, drop, slice_get, Option, Some, None, IsSome, suc, sym}
+use Rattle.std.proofs.Common.{refl, ap, ◌∙◌, subst, arith}
 use Rattle.std.proofs.lemmas.List.{map-append}
 use native.Mathlib.Decide.{ℕ_discrete}
 use Rattle.running_rows.specs.Table.{rest}
@@ -14,11 +15,11 @@ use Rattle.step_table.specs.World.{SemaWorld, put, insert_wait, lists_after}
 use Rattle.step_table.specs.Event.{Next}
 use Rattle.step_table.specs.Counting.{total, on}
 use Rattle.step_table.proofs.Sums.{put_here, put_else, on_here, total_same, total_change, length_insert}
-use Rattle.sema_law.specs.Lawful.{holds, raises}
-use Rattle.sema_law.specs.SemaPath.{SemaSight}
-use Rattle.sema_law.proofs.Promises.{the_law}
-use Rattle.sema_law.proofs.SemaPaths.{the_sema_paths}
-use Rattle.sema_law.proofs.Raising.{waits_up}
+use Rattle.step_law_semaphores.specs.Lawful.{holds, raises}
+use Rattle.step_law_semaphores.specs.SemaPath.{SemaSight}
+use Rattle.step_law_semaphores.proofs.Promises.{the_law}
+use Rattle.step_law_semaphores.proofs.SemaPaths.{the_sema_paths}
+use Rattle.step_law_semaphores.proofs.Raising.{waits_up}
 use Rattle.sema_root.specs.Queues.{waits_on, joined_by, Changes}
 use Rattle.sema_root.specs.Queues as queues
 use Rattle.sema_root.specs.Treap.{Treap, Tickets, Draws, queues_of, ticket_of, drawn_from}

@@ -1,5 +1,6 @@
 -- A row of the step table leads on to a world that may be met, whichever row it is.
-use Rattle.std.proofs.Common.{◌≡◌, ◌≢◌, ℕ, ◌+◌, ◌^◌, ◌<◌, ◌≤◌, IsTrue, List, [], ◌∷◌, ◌++◌, length, get_or, set, slice_index, slice_set, sym, refl, ap, ◌∙◌, subst, inr, arith, length-set, get_or-set_other, get_or-set_same}
+use Rattle.std.proofs.Common.{◌≡◌, ◌≢◌, ℕ, ◌+◌, ◌^◌, ◌<◌, ◌≤◌, IsTrue, List, [], ◌∷◌, ◌++◌, length, get_or, set, slice_index, slice_set, sym, refl, ap, ◌∙◌}
+use Rattle.std.proofs.Common.{subst, inr, arith, length-set, get_or-set_other, get_or-set_same}
 use mathlib.Core.Logic.{dite}
 use native.Mathlib.Decide.{ℕ_discrete}
 use lib.ListN.{get_elem?}
@@ -16,15 +17,15 @@ use Rattle.step_table.specs.Counting.{on}
 use Rattle.step_table.specs.Path.{Meets, sight}
 use Rattle.step_table.proofs.Paths.{meets_sight}
 use Rattle.step_table.proofs.Sums.{put_here, put_at, on_here, on_else, total_has, total_same}
-use Rattle.sema_law.specs.Lawful.{holds, IsLawfulWorld}
-use Rattle.sema_law.specs.Invariant.{IsInvariant}
-use Rattle.sema_law.specs.Balances.{added_by}
-use Rattle.sema_law.specs.Bounds.{IsSmall}
-use Rattle.sema_law.specs.Served.{carries, served, gains}
-use Rattle.sema_law.specs.SemaPath.{SemaSight, semaphores, row_stride, plain_before}
-use Rattle.sema_law.proofs.Promises.{the_law}
-use Rattle.sema_law.proofs.Accounts.{the_accounts}
-use Rattle.sema_law.proofs.SemaPaths.{the_sema_paths, journal_told}
+use Rattle.step_law_semaphores.specs.Lawful.{holds, IsLawfulWorld}
+use Rattle.step_law_semaphores.specs.Invariant.{IsInvariant}
+use Rattle.step_law_semaphores.specs.Balances.{added_by}
+use Rattle.step_law_semaphores.specs.Bounds.{IsSmall}
+use Rattle.step_law_semaphores.specs.Served.{carries, served, gains}
+use Rattle.step_law_semaphores.specs.SemaPath.{SemaSight, semaphores, row_stride, plain_before}
+use Rattle.step_law_semaphores.proofs.Promises.{the_law}
+use Rattle.step_law_semaphores.proofs.Accounts.{the_accounts}
+use Rattle.step_law_semaphores.proofs.SemaPaths.{the_sema_paths, journal_told}
 use Rattle.running_rows.specs.History.{TellsOn}
 use Rattle.running_rows.specs.Owing.{Stands}
 use Rattle.sema_table.specs.declared.view.Known.{Known}

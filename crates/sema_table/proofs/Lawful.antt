@@ -1,8 +1,8 @@
 -- The rule gives the lawful table.
 use Rattle.running_rows.specs.Table.{State}
 use Rattle.step_table.specs.declared.word.Word.TheVariants.{Counter, Lock, Waiters, Grant}
-use Rattle.sema_law.proofs.Promises.{the_law}
-use Rattle.sema_law.proofs.Accounts.{the_accounts}
+use Rattle.step_law_semaphores.proofs.Promises.{the_law}
+use Rattle.step_law_semaphores.proofs.Accounts.{the_accounts}
 use Rattle.running_rows.specs.Rule.{IsKept}
 use Rattle.sema_table.specs.Rows.{SemaView, semaphore_rows}
 use Rattle.sema_table.specs.declared.view.Record.{Record}

@@ -1,6 +1,7 @@
 -- Where a row that ran leads its seat, by what the table says of it.
 use prog.Atomic.{either}
-use Rattle.std.proofs.Common.{◌≡◌, ◌≢◌, ℕ, zero, suc, ◌-◌, ◌+◌, ◌<◌, ◌==◌, cond, Bool, true, false, List, [], ◌∷◌, ◌++◌, refl, ap, ◌∙◌, subst, arith, eq-eqb, ne_eqb}
+use Rattle.std.proofs.Common.{◌≡◌, ◌≢◌, ℕ, zero, suc, ◌-◌, ◌+◌, ◌<◌, ◌==◌, cond, Bool, true, false, List, [], ◌∷◌, ◌++◌, refl, ap, ◌∙◌, subst, arith, eq-eqb}
+use Rattle.std.proofs.Common.{ne_eqb}
 use Rattle.step_table.specs.declared.effect.Effect.{Effect}
 use Rattle.step_table.specs.declared.effect.Effect.TheVariants.{Nothing, Tells, Wakes}
 use Rattle.step_table.specs.declared.entry.Entry.{Entry}
@@ -10,8 +11,8 @@ use Rattle.step_table.specs.Table.{table}
 use Rattle.step_table.specs.World.{seat_after, lists_after}
 use Rattle.step_table.specs.Journal.{Plain, replay, plain_start, effect_of}
 use Rattle.step_table.proofs.Paths.{stride_told}
-use Rattle.sema_law.specs.SemaPath.{SemaSight, SemaStride, RanSemaRow, SemaDid, plain_before, row_next, entries_of, semaphores}
-use Rattle.sema_law.proofs.SemaPaths.{the_sema_paths}
+use Rattle.step_law_semaphores.specs.SemaPath.{SemaSight, SemaStride, RanSemaRow, SemaDid, plain_before, row_next, entries_of, semaphores}
+use Rattle.step_law_semaphores.proofs.SemaPaths.{the_sema_paths}
 use Rattle.sema_table.specs.Setting.{layout}
 use Rattle.sema_table.specs.Rule.{stands_by, sight_by, lists_by}
 use Rattle.sema_table.specs.Rows.{SemaSeat}

@@ -12,7 +12,7 @@ use Rattle.step_table.specs.Table.{event_at}
 use Rattle.step_table.specs.World.{SeatState}
 use Rattle.step_table.specs.Event.{Next, to}
 use Rattle.step_table.specs.Counting.{counter_at}
-use Rattle.sema_law.specs.Served.{gains}
+use Rattle.step_law_semaphores.specs.Served.{gains}
 use Rattle.sema_table.specs.declared.view.Setting.{Setting}
 use Rattle.sema_table.specs.declared.view.Record.TheVariants.{Root}
 use Rattle.sema_table.specs.Setting.{root, address}
@@ -20,7 +20,7 @@ use Rattle.sema_table.specs.Places.{Begins, takes_lock, locked}
 use Rattle.sema_table.specs.Rule.{stands_by, lists_by, IsRecord}
 use Rattle.running_rows.specs.Strides.{Took, Changed}
 use Rattle.running_rows.specs.Owing.{Owes}
-use Rattle.sema_law.specs.Balances.{added_by}
+use Rattle.step_law_semaphores.specs.Balances.{added_by}
 use Rattle.sema_root.specs.Treap.{Treap}
 use Rattle.sema_table.specs.Rows.{Me, semaphore_rows}
 use Rattle.sema_table.specs.Starts.{begin}

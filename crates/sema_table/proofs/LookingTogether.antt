@@ -4,8 +4,8 @@ use Rattle.step_table.specs.declared.word.Word.{Word}
 use Rattle.step_table.specs.Path.{looks, OnlyLooked}
 use Rattle.step_table.specs.World.{SemaWorld}
 use Rattle.step_table.proofs.Paths.{stride_told}
-use Rattle.sema_law.specs.SemaPath.{SemaDid, semaphores}
-use Rattle.sema_law.proofs.SemaPaths.{the_sema_paths}
+use Rattle.step_law_semaphores.specs.SemaPath.{SemaDid, semaphores}
+use Rattle.step_law_semaphores.proofs.SemaPaths.{the_sema_paths}
 use Rattle.running_rows.specs.Strides.{here}
 use Rattle.running_rows.specs.Sitting.{Met}
 use Rattle.step_table.specs.declared.word.Word.TheVariants.{Counter}

@@ -1,5 +1,6 @@
 -- A table as it is made shows the first world.
-use Rattle.std.proofs.Common.{◌≡◌, ℕ, zero, suc, ◌+◌, ◌*◌, ◌%◌, ◌^◌, ◌<◌, ◌≤◌, List, [], ◌∷◌, ◌++◌, length, replicate, map, get_or, slice_index, slice_index_or, All, sym, refl, ap, ◌∙◌, subst, arith, length-append, lt_of_not-le}
+use Rattle.std.proofs.Common.{◌≡◌, ℕ, zero, suc, ◌+◌, ◌*◌, ◌%◌, ◌^◌, ◌<◌, ◌≤◌, List, [], ◌∷◌, ◌++◌, length, replicate, map, get_or, slice_index, slice_index_or}
+use Rattle.std.proofs.Common.{All, sym, refl, ap, ◌∙◌, subst, arith, length-append, lt_of_not-le}
 use Rattle.std.proofs.lemmas.List.{get_or-append-add, get_or_past, length-map, length-replicate}
 use Rattle.std.proofs.lemmas.List.FromFn.{length-map-range_with_len, map-range_with_len_more}
 use Rattle.std.specs.List.{range_with_len}
@@ -14,7 +15,7 @@ use Rattle.step_table.specs.Turn.{none}
 use Rattle.step_table.specs.Counting.{on}
 use Rattle.step_table.proofs.Sums.{nothing, on_else, on_zero}
 use Rattle.step_table.proofs.Paths.{goes_on_here}
-use Rattle.sema_law.specs.Served.{served}
+use Rattle.step_law_semaphores.specs.Served.{served}
 use Rattle.sema_table.specs.declared.view.Setting.{Setting}
 use Rattle.sema_root.specs.Treap.{tickets_from}
 use Rattle.sema_table.specs.Setting.{root, layout, address, apart, words_in, IsThere}

@@ -13,9 +13,9 @@ use Rattle.step_table.specs.Journal.{HasItsUnit}
 use Rattle.step_table.specs.Counting.{wait}
 use Rattle.step_table.specs.Path.{Deed, looks, Did}
 use Rattle.step_table.proofs.Paths.{stride_told}
-use Rattle.sema_law.specs.Lawful.{IsGrantOf}
-use Rattle.sema_law.specs.SemaPath.{semaphores}
-use Rattle.sema_law.proofs.Promises.{the_law}
+use Rattle.step_law_semaphores.specs.Lawful.{IsGrantOf}
+use Rattle.step_law_semaphores.specs.SemaPath.{semaphores}
+use Rattle.step_law_semaphores.proofs.Promises.{the_law}
 use Rattle.running_rows.specs.Strides.{here}
 use Rattle.sema_table.specs.declared.seat.Numbers.{Numbers}
 use Rattle.sema_table.specs.declared.answers.Polled.TheVariants.{Still, Woken, Handed}

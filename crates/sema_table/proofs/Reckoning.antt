@@ -1,5 +1,6 @@
 -- Where one view has every seat of the table, and all may begin a call, the counts add up and nothing is left.
-use Rattle.std.proofs.Common.{◌≡◌, ◌≢◌, ◌⊎◌, ℕ, zero, suc, true, ◌+◌, ◌*◌, ◌-◌, ◌<◌, ◌≤◌, List, [], ◌∷◌, length, slice_index, sym, refl, ap, ◌∙◌, subst, inl, inr, arith}
+use Rattle.std.proofs.Common.{◌≡◌, ◌≢◌, ◌⊎◌, ℕ, zero, suc, true, ◌+◌, ◌*◌, ◌-◌, ◌<◌, ◌≤◌, List, [], ◌∷◌, length, slice_index, sym, refl, ap, ◌∙◌, subst, inl}
+use Rattle.std.proofs.Common.{inr, arith}
 use mathlib.Core.Logic.{dite}
 use mathlib.Core.Option.{some}
 use native.Mathlib.Decide.{ℕ_discrete}
@@ -17,12 +18,12 @@ use Rattle.step_table.specs.Path.{GoesOn, own_entries}
 use Rattle.step_table.specs.Journal.{plain_start, replay, takes}
 use Rattle.step_table.specs.Counting.{total}
 use Rattle.step_table.proofs.Sums.{put_here, put_else, total_zero, total_suc, total_same, total_change, total_has}
-use Rattle.sema_law.specs.Lawful.{IsParked, IsLawfulWorld, added}
-use Rattle.sema_law.specs.Balances.{added_by, taken}
-use Rattle.sema_law.specs.Served.{served}
-use Rattle.sema_law.specs.SemaPath.{semaphores}
-use Rattle.sema_law.proofs.Promises.{the_law}
-use Rattle.sema_law.proofs.Accounts.{the_accounts}
+use Rattle.step_law_semaphores.specs.Lawful.{IsParked, IsLawfulWorld, added}
+use Rattle.step_law_semaphores.specs.Balances.{added_by, taken}
+use Rattle.step_law_semaphores.specs.Served.{served}
+use Rattle.step_law_semaphores.specs.SemaPath.{semaphores}
+use Rattle.step_law_semaphores.proofs.Promises.{the_law}
+use Rattle.step_law_semaphores.proofs.Accounts.{the_accounts}
 use Rattle.running_rows.specs.History.{Writes, strides_of}
 use Rattle.running_rows.specs.Rule.{IsSomeones, In, AreApart, Sits, HasSeats, IsKept}
 use Rattle.sema_table.specs.Rows.{SemaSeat, SemaView, semaphore_rows}

@@ -5,9 +5,9 @@ use native.Mathlib.Decide.{ℕ_discrete}
 use Rattle.step_table.specs.World.{SemaWorld}
 use Rattle.step_table.specs.Steps.{IsReached}
 use Rattle.step_table.specs.Journal.{takes}
-use Rattle.sema_law.specs.Served.{served}
-use Rattle.sema_law.proofs.Promises.{the_law}
-use Rattle.sema_law.proofs.Accounts.{the_accounts}
+use Rattle.step_law_semaphores.specs.Served.{served}
+use Rattle.step_law_semaphores.proofs.Promises.{the_law}
+use Rattle.step_law_semaphores.proofs.Accounts.{the_accounts}
 use Rattle.sema_table.specs.declared.view.Known.{Known}
 use Rattle.sema_table.specs.declared.view.Setting.{Setting}
 use Rattle.sema_table.specs.Setting.{layout}

@@ -10,8 +10,8 @@ use Rattle.step_table.specs.World.{SeatState}
 use Rattle.step_table.specs.Journal.{HasItsUnit}
 use Rattle.step_table.specs.Counting.{wait}
 use Rattle.step_table.specs.Path.{OnlyLooked}
-use Rattle.sema_law.specs.SemaPath.{SemaSight, SemaPath, SemaDid, placed}
-use Rattle.sema_law.proofs.SemaPaths.{the_sema_paths}
+use Rattle.step_law_semaphores.specs.SemaPath.{SemaSight, SemaPath, SemaDid, placed}
+use Rattle.step_law_semaphores.proofs.SemaPaths.{the_sema_paths}
 use Rattle.sema_table.specs.declared.answers.Polled.TheVariants as polled
 use Rattle.sema_table.specs.declared.answers.Roused.TheVariants.{Woken, Handed}
 use Rattle.sema_table.specs.declared.seat.Numbers.{Numbers}

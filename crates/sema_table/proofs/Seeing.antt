@@ -1,5 +1,6 @@
 -- A look at a word changes nothing, and the seat sees what was told so far.
-use Rattle.std.proofs.Common.{◌≡◌, ℕ, ◌+◌, ◌^◌, ◌<◌, ◌≤◌, List, [], ◌∷◌, ◌++◌, length, slice_index, sym, refl, ap, ◌∙◌, subst, inl, arith, get_or-set_other, length-set}
+use Rattle.std.proofs.Common.{◌≡◌, ℕ, ◌+◌, ◌^◌, ◌<◌, ◌≤◌, List, [], ◌∷◌, ◌++◌, length, slice_index, sym, refl, ap, ◌∙◌, subst, inl, arith, get_or-set_other}
+use Rattle.std.proofs.Common.{length-set}
 use lib.Seq.{set-get_or}
 use native.Mathlib.Decide.{ℕ_discrete}
 use Rattle.running_rows.specs.Table.{keeps}
@@ -9,10 +10,10 @@ use Rattle.step_table.specs.declared.word.Word.TheVariants.{Counter, Waiters, Gr
 use Rattle.step_table.specs.World.{Layout, SemaWorld}
 use Rattle.step_table.specs.Path.{sight, looks, look_in}
 use Rattle.step_table.proofs.Paths.{meets_sight}
-use Rattle.sema_law.specs.SemaPath.{semaphores}
-use Rattle.sema_law.specs.Balances.{added_by}
-use Rattle.sema_law.proofs.Promises.{the_law}
-use Rattle.sema_law.proofs.Accounts.{the_accounts}
+use Rattle.step_law_semaphores.specs.SemaPath.{semaphores}
+use Rattle.step_law_semaphores.specs.Balances.{added_by}
+use Rattle.step_law_semaphores.proofs.Promises.{the_law}
+use Rattle.step_law_semaphores.proofs.Accounts.{the_accounts}
 use Rattle.running_rows.specs.Strides.{here, Looked, RanRow}
 use Rattle.running_rows.specs.Owing.{Stands, Leads, Owes, Sees, IsSeen, IsAside}
 use Rattle.sema_table.specs.declared.view.Setting.{Setting}

@@ -15,9 +15,9 @@ use Rattle.step_table.specs.ReleaseMany.{after_leave}
 use Rattle.step_table.specs.Table.{table, event_at}
 use Rattle.step_table.specs.Steps.{event_of}
 use Rattle.sema_table.specs.Rule.{stands_by}
-use Rattle.sema_law.specs.Lawful.{holds, raises, IsLawfulWorld}
-use Rattle.sema_law.proofs.Promises.{the_law}
-use Rattle.sema_law.proofs.Accounts.{the_accounts}
+use Rattle.step_law_semaphores.specs.Lawful.{holds, raises, IsLawfulWorld}
+use Rattle.step_law_semaphores.proofs.Promises.{the_law}
+use Rattle.step_law_semaphores.proofs.Accounts.{the_accounts}
 use Rattle.sema_table.specs.declared.view.Known.{Known}
 use Rattle.sema_table.specs.Setting.{root, layout, address}
 use Rattle.sema_table.proofs.Keeping.{Ready}

@@ -16,11 +16,11 @@ use Rattle.step_table.specs.Table.{event_at}
 use Rattle.step_table.specs.Counting.{times}
 use Rattle.step_table.specs.Journal.{Plain, plain, plain_start, replay, IsDefined, IsLawful}
 use Rattle.step_table.specs.Path.{GoesOn, Deed, runs, looks, all_told}
-use Rattle.sema_law.specs.Lawful.{IsLawfulWorld}
-use Rattle.sema_law.specs.SemaPath.{SemaSight, SemaStride, SemaRan, SemaPath, SemaDid, RanSemaRow, plain_before, row_next, entries_of}
-use Rattle.sema_law.proofs.SemaPaths.{the_sema_paths}
-use Rattle.sema_law.proofs.Promises.{the_law}
-use Rattle.sema_law.proofs.Placing.{same_here}
+use Rattle.step_law_semaphores.specs.Lawful.{IsLawfulWorld}
+use Rattle.step_law_semaphores.specs.SemaPath.{SemaSight, SemaStride, SemaRan, SemaPath, SemaDid, RanSemaRow, plain_before, row_next, entries_of}
+use Rattle.step_law_semaphores.proofs.SemaPaths.{the_sema_paths}
+use Rattle.step_law_semaphores.proofs.Promises.{the_law}
+use Rattle.step_law_semaphores.proofs.Placing.{same_here}
 
 -- a stride tells one entry or none
 one_told : (m : Layout) (i : ℕ) (v w : SemaSight) (p : SemaStride) → SemaRan m i v p w

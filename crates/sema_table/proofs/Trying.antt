@@ -15,10 +15,10 @@ use Rattle.step_table.specs.Counting.{total, on}
 use Rattle.step_table.specs.Path.{Deed, looks, OnlyLooked, Did}
 use Rattle.step_table.proofs.Paths.{stride_told}
 use Rattle.step_table.proofs.Sums.{total_same}
-use Rattle.sema_law.specs.SemaPath.{SemaDid, semaphores, placed, word_of_deed}
-use Rattle.sema_law.proofs.Promises.{the_law}
-use Rattle.sema_law.proofs.Accounts.{the_accounts}
-use Rattle.sema_law.proofs.SemaPaths.{the_sema_paths}
+use Rattle.step_law_semaphores.specs.SemaPath.{SemaDid, semaphores, placed, word_of_deed}
+use Rattle.step_law_semaphores.proofs.Promises.{the_law}
+use Rattle.step_law_semaphores.proofs.Accounts.{the_accounts}
+use Rattle.step_law_semaphores.proofs.SemaPaths.{the_sema_paths}
 use Rattle.running_rows.specs.Strides.{here}
 use Rattle.sema_table.specs.declared.seat.Numbers.{Numbers}
 use Rattle.sema_table.specs.declared.answers.Tried.TheVariants.{Taken, Zero, Lost}

@@ -1,5 +1,6 @@
 -- A release from its root's lock on, to its end.
-use Rattle.std.proofs.Common.{◌≡◌, ◌+◌, ◌^◌, ◌<◌, ◌≤◌, if◌then◌else◌, MatchBool, Bool, true, false, List, [], ◌∷◌, ◌++◌, drop, Option, Some, None, IfSome, IfNone, sym, refl, ap, ◌∙◌, subst, arith, append-nil}
+use Rattle.std.proofs.Common.{◌≡◌, ◌+◌, ◌^◌, ◌<◌, ◌≤◌, if◌then◌else◌, MatchBool, Bool, true, false, List, [], ◌∷◌, ◌++◌, drop, Option, Some, None, IfSome}
+use Rattle.std.proofs.Common.{IfNone, sym, refl, ap, ◌∙◌, subst, arith, append-nil}
 use Rattle.waiters.specs.declared.wait.WaitId.{WaitId}
 use Rattle.step_table.specs.declared.entry.Entry.{Entry}
 use Rattle.step_table.specs.declared.entry.Entry.TheVariants.{Take, Leave}
@@ -12,8 +13,8 @@ use Rattle.step_table.specs.Event.{by_first}
 use Rattle.step_table.specs.Counting.{counter_at}
 use Rattle.sema_table.specs.Rows.{SemaView}
 use Rattle.sema_table.specs.Setting.{layout}
-use Rattle.sema_law.specs.Balances.{added_by}
-use Rattle.sema_law.specs.SemaPath.{SemaPath, placed}
+use Rattle.step_law_semaphores.specs.Balances.{added_by}
+use Rattle.step_law_semaphores.specs.SemaPath.{SemaPath, placed}
 use Rattle.sema_table.specs.declared.seat.Numbers.{Numbers}
 use Rattle.sema_table.specs.declared.answers.Wake.TheVariants.{Nobody, One, Handed}
 use Rattle.sema_table.specs.Places.{is_free}

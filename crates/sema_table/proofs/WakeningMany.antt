@@ -1,5 +1,6 @@
 -- A release of many units from its root's lock on, to its end.
-use Rattle.std.proofs.Common.{◌≡◌, ℕ, ◌+◌, ◌^◌, ◌<◌, ◌≤◌, zero, suc, nat_lt, ◌&&◌, if◌then◌else◌, Bool, true, false, List, [], ◌∷◌, ◌++◌, length, get_or, map, take, drop, sym, refl, ap, ◌∙◌, subst, arith, append-nil}
+use Rattle.std.proofs.Common.{◌≡◌, ℕ, ◌+◌, ◌^◌, ◌<◌, ◌≤◌, zero, suc, nat_lt, ◌&&◌, if◌then◌else◌, Bool, true, false, List, [], ◌∷◌, ◌++◌, length, get_or, map}
+use Rattle.std.proofs.Common.{take, drop, sym, refl, ap, ◌∙◌, subst, arith, append-nil}
 use Rattle.std.proofs.lemmas.Bool.{lt-ltb, le-ltb}
 use Rattle.std.proofs.lemmas.List.{map-append, drop_more, take_more, take_all, drop_all}
 use Rattle.waiters.specs.declared.wait.WaitId.{WaitId}
@@ -13,8 +14,8 @@ use Rattle.step_table.specs.World.{Layout, SeatState}
 use Rattle.step_table.specs.Path.{runs}
 use Rattle.step_table.specs.Event.{by_first}
 use Rattle.step_table.specs.Counting.{counter_at, wait}
-use Rattle.sema_law.specs.Balances.{added_by}
-use Rattle.sema_law.specs.SemaPath.{SemaPath, SemaStride, placed, row_event, word_of_deed}
+use Rattle.step_law_semaphores.specs.Balances.{added_by}
+use Rattle.step_law_semaphores.specs.SemaPath.{SemaPath, SemaStride, placed, row_event, word_of_deed}
 use Rattle.sema_table.specs.Rows.{SemaView}
 use Rattle.sema_table.specs.declared.seat.Numbers.{Numbers}
 use Rattle.sema_table.specs.Setting.{layout}

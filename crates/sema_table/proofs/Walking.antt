@@ -9,10 +9,10 @@ use Rattle.step_table.specs.World.{SeatState, seat_after}
 use Rattle.step_table.specs.Counting.{counter_at}
 use Rattle.step_table.specs.Journal.{takes}
 use Rattle.step_table.specs.Path.{Deed, runs, all_told, own_entries}
-use Rattle.sema_law.specs.Balances.{added_by}
-use Rattle.sema_law.specs.Served.{gains}
-use Rattle.sema_law.specs.SemaPath.{SemaSight, SemaStride, SemaPath, placed, semaphores, entries_of}
-use Rattle.sema_law.proofs.SemaPaths.{the_sema_paths}
+use Rattle.step_law_semaphores.specs.Balances.{added_by}
+use Rattle.step_law_semaphores.specs.Served.{gains}
+use Rattle.step_law_semaphores.specs.SemaPath.{SemaSight, SemaStride, SemaPath, placed, semaphores, entries_of}
+use Rattle.step_law_semaphores.proofs.SemaPaths.{the_sema_paths}
 use Rattle.sema_table.specs.declared.view.Setting.{Setting}
 use Rattle.sema_table.specs.Setting.{layout}
 use Rattle.sema_table.specs.Places.{is_free}

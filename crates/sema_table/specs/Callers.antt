@@ -1,4 +1,5 @@
--- What the calls that look, take and sleep are to their caller: the seat before and after, and what the answer means.
+-- What the calls that look, take and sleep are to their caller: the seat before and after, and what the
+-- answer means.
 use Rattle.std.specs.Prelude.{◌≡◌, ◌≢◌, ◌⊎◌, ℕ, ◌+◌, ◌<◌, Bool, Option, Some, None, List, [], ◌∷◌, ◌++◌, map}
 use Rattle.std.specs.List.{All, filter}
 use Rattle.waiters.specs.declared.wait.WaitId.{WaitId}
@@ -7,7 +8,7 @@ use Rattle.step_table.specs.declared.entry.Entry.TheVariants.{Take, Queue}
 use Rattle.step_table.specs.declared.place.AcquireRow.TheVariants.{P, A10}
 use Rattle.step_table.specs.declared.place.Place.TheVariants.{Acquiring}
 use Rattle.step_table.specs.Journal.{plain_start, IsLawful, HasLeft, HasItsUnit}
-use Rattle.sema_law.specs.SemaPath.{is_own}
+use Rattle.step_law_semaphores.specs.SemaPath.{is_own}
 use Rattle.sema_table.specs.declared.answers.Tried.{Tried}
 use Rattle.sema_table.specs.declared.answers.Tried.TheVariants.{Taken, Zero, Lost}
 use Rattle.sema_table.specs.declared.answers.Entered.{Entered}
@@ -21,8 +22,9 @@ use Rattle.sema_table.specs.Seats.{SeatModel}
 use Rattle.sema_table.specs.Calls.{TellsIn, plain_seen}
 use Rattle.sema_table.specs.Tries.{waits_seen}
 
--- t is the seat s of the same table, after it has added so many units and was given so many. It has told these entries, in this
--- order, among what others told, and nothing else that it alone can tell; and what it has seen is lawful
+-- t is the seat s of the same table, after it has added so many units and was given so many. It has told
+-- these entries, in this order, among what others told, and nothing else that it alone can tell; and what it
+-- has seen is lawful
 pub record IsSeatAfter (s : SeatModel) (added given : ℕ) (told : List Entry) (t : SeatModel) : Type 0 where
   pub table : t.table ≡ s.table
   pub number : t.number ≡ s.number
@@ -39,7 +41,8 @@ ReadsNumber s c n t = IsSeatAfter s 0 0 [] t × (n ≡ (plain_seen t).numbers c)
 -- n waits are queued on the counters of c's root after all that is seen now, or one fewer
 abbrev pub CountsWaits : SeatModel → ℕ → ℕ → SeatModel → Type 0
 CountsWaits s c n t =
-    let waits = waits_seen t (root s.table.setting c) in IsSeatAfter s 0 0 [] t × ((n ≡ waits) ⊎ (n ≡ waits + 1))
+    let waits = waits_seen t (root s.table.setting c) in
+    IsSeatAfter s 0 0 [] t × ((n ≡ waits) ⊎ (n ≡ waits + 1))
 
 -- there is no unit of c after all that is seen now
 abbrev pub FindsNoUnit : SeatModel → ℕ → SeatModel → Type 0
@@ -53,8 +56,8 @@ TriesToAcquire s c Lost t =
     (u : SeatModel) × IsSeatAfter s 0 0 [] u × (0 < (plain_seen u).numbers c)
     × IsSeatAfter u 0 0 [] t × ((plain_seen t).numbers c ≢ (plain_seen u).numbers c)
 
--- waits of the seat were queued on c, one after the other, at the end or with lifo at the front; it took a unit last of all,
--- or one was taken for the last of these waits, after that had left
+-- waits of the seat were queued on c, one after the other, at the end or with lifo at the front; it took a
+-- unit last of all, or one was taken for the last of these waits, after that had left
 abbrev pub WaitsForUnit : SeatModel → ℕ → Bool → SeatModel → Type 0
 WaitsForUnit s c lifo t =
     (waits : List WaitId) × All (λ w. w.seat ≡ s.number) waits
@@ -65,7 +68,8 @@ WaitsForUnit s c lifo t =
 -- a unit was taken at once; or there was none, and the seat waited for one
 abbrev pub AcquiresUnit : SeatModel → ℕ → Bool → SeatModel → Type 0
 AcquiresUnit s c lifo t =
-    IsSeatAfter s 0 1 (Take c s.number ∷ []) t ⊎ ((u : SeatModel) × FindsNoUnit s c u × WaitsForUnit u c lifo t)
+    IsSeatAfter s 0 1 (Take c s.number ∷ []) t
+    ⊎ ((u : SeatModel) × FindsNoUnit s c u × WaitsForUnit u c lifo t)
 
 -- the seat waits for a unit of c: it sleeps with this wait, or it was woken and has to try
 abbrev pub IsWaitingOn : SeatModel → ℕ → Bool → Option WaitId → Type 0
@@ -85,8 +89,8 @@ JoinsQueue s c lifo (entered.Asleep t) =
 abbrev pub TriesAgain : SeatModel → Entered → Type 0
 TriesAgain s entered = (c : ℕ) × (lifo : Bool) × IsWaitingOn s c lifo None × JoinsQueue s c lifo entered
 
--- the seat sleeps on as before; or it was woken, its wait has left, and it has to try; or it was handed a unit, which was taken
--- for it after its wait had left
+-- the seat sleeps on as before; or it was woken, its wait has left, and it has to try; or it was handed a
+-- unit, which was taken for it after its wait had left
 abbrev pub PollsGrant : SeatModel → Polled → Type 0
 PollsGrant s (Still t) = IsSeatAfter s 0 0 [] t × (t.sight.stands ≡ s.sight.stands)
 PollsGrant s (Woken t) =

@@ -6,11 +6,11 @@ use Rattle.step_table.specs.Steps.{IsReached}
 use Rattle.step_table.specs.Path.{GoesOn, own_entries}
 use Rattle.step_table.specs.Counting.{total}
 use Rattle.step_table.specs.Journal.{plain_start, replay}
-use Rattle.sema_law.specs.Lawful.{IsLawfulWorld, added}
-use Rattle.sema_law.specs.Balances.{taken, added_by}
-use Rattle.sema_law.specs.Bounds.{AllRest, IsCleared}
-use Rattle.sema_law.specs.Entries.{IsNamed}
-use Rattle.sema_law.specs.SemaPath.{SemaStride, semaphores}
+use Rattle.step_law_semaphores.specs.Lawful.{IsLawfulWorld, added}
+use Rattle.step_law_semaphores.specs.Balances.{taken, added_by}
+use Rattle.step_law_semaphores.specs.Bounds.{AllRest, IsCleared}
+use Rattle.step_law_semaphores.specs.Entries.{IsNamed}
+use Rattle.step_law_semaphores.specs.SemaPath.{SemaStride, semaphores}
 use Rattle.sema_table.specs.declared.view.Setting.{Setting}
 use Rattle.running_rows.specs.History.{Moment, Writes, strides_of}
 use Rattle.running_rows.specs.Rule.{In}
@@ -46,7 +46,8 @@ AreOfSeats z (g ∷ gs) (s ∷ ss) = IsOfSeat z g s × AreOfSeats z gs ss
 AreOfSeats z _ _ = ⊥
 
 -- a token of this table has these seats in its view, which have added so many units and were given so many
-pub record IsGathered (t : TableModel) (seats : List SeatModel) (token : Token) (releases acquires : ℕ) : Type 0 where
+pub record IsGathered (t : TableModel) (seats : List SeatModel) (token : Token) (releases acquires : ℕ)
+    : Type 0 where
   pub own : table_of token ≡ t
   pub all : AreOfSeats t.setting (token.me.0.own ∷ token.me.0.guests) seats
   pub releases_are : releases ≡ sum_by (has_added t.setting.limit) seats
@@ -58,16 +59,18 @@ pub record ClosedModel : Type 0 where
   pub releases : ℕ
   pub acquires : ℕ
 
--- these are all seats of the table: each is one of its seats, and they are as many. None can come twice, since none can be copied
+-- these are all seats of the table: each is one of its seats, and they are as many. None can come twice,
+-- since none can be copied
 pub record AreAll (t : TableModel) (seats : List SeatModel) : Type 0 where
   pub own : All (λ s. s.table ≡ t) seats
   pub count : length seats ≡ t.setting.seats
 
--- there is one journal, in a lawful world in which all rest. Each seat of the table is one of these, and has seen a beginning of
--- the journal with all entries that it alone can tell; the journal names seats and counters that are there. The strides that the
--- seats went told it, one after the other: each entry was told by one stride of one of them. The values are those that it tells,
--- and no wait is queued any more. The units that the seats added are those that it tells, and so are those that they were given.
--- What is there and what was given are what was there at the start and what was added
+-- there is one journal, in a lawful world in which all rest. Each seat of the table is one of these, and has
+-- seen a beginning of the journal with all entries that it alone can tell; the journal names seats and
+-- counters that are there. The strides that the seats went told it, one after the other: each entry was told
+-- by one stride of one of them. The values are those that it tells, and no wait is queued any more. The units
+-- that the seats added are those that it tells, and so are those that they were given. What is there and what
+-- was given are what was there at the start and what was added
 pub record IsClosed (z : Setting) (seats : List SeatModel) (c : ClosedModel) : Type 0 where
   pub world : SemaWorld
   pub reached : IsReached (layout z) world
@@ -78,7 +81,8 @@ pub record IsClosed (z : Setting) (seats : List SeatModel) (c : ClosedModel) : T
   pub each : (k : ℕ) → k < z.seats → (s : SeatModel) × In s seats × (s.number ≡ k)
   pub begins : (s : SeatModel) → In s seats → GoesOn world.journal s.sight.seen
   pub own : (s : SeatModel) → In s seats
-      → own_entries (semaphores (layout z)) s.number world.journal ≡ own_entries (semaphores (layout z)) s.number s.sight.seen
+      → own_entries (semaphores (layout z)) s.number world.journal
+      ≡ own_entries (semaphores (layout z)) s.number s.sight.seen
   pub history : List (Moment SemaStride)
   pub writes : Writes semaphore_rows [] history world.journal
   pub by_seats : (m : Moment SemaStride) → In m history → m.seat < z.seats
@@ -90,4 +94,5 @@ pub record IsClosed (z : Setting) (seats : List SeatModel) (c : ClosedModel) : T
   pub added_all : c.releases ≡ added world.journal
   pub acquired : c.acquires ≡ sum_by was_given seats
   pub taken_all : c.acquires ≡ taken world.journal
-  pub balanced : total (length z.starts) (slice_index c.values) + c.acquires ≡ total (length z.starts) (layout z).starts + c.releases
+  pub balanced : total (length z.starts) (slice_index c.values) + c.acquires
+      ≡ total (length z.starts) (layout z).starts + c.releases

@@ -6,7 +6,8 @@ use Rattle.sema_root.specs.Tree.{leaf}
 use Rattle.sema_root.specs.Treap.{tickets_from}
 use Rattle.sema_table.specs.declared.settings.Settings.{Settings}
 use Rattle.sema_table.specs.declared.setup_error.SetupError.{SetupError}
-use Rattle.sema_table.specs.declared.setup_error.SetupError.TheVariants.{Counters, Seats, Roots, ReleaseLimit, NoMemory}
+use Rattle.sema_table.specs.declared.setup_error.SetupError.TheVariants.{Counters, Seats, Roots, ReleaseLimit}
+use Rattle.sema_table.specs.declared.setup_error.SetupError.TheVariants.{NoMemory}
 use Rattle.sema_table.specs.declared.view.Record.{Record}
 use Rattle.sema_table.specs.declared.view.Record.TheVariants.{Root}
 use Rattle.sema_table.specs.Rule.{setting_of}
@@ -42,9 +43,11 @@ pub record AreAllowed (k : Settings) : Type 0 where
 abbrev pub IsRefused : Settings → SetupError → Type 0
 IsRefused k Counters = IsOutside most_counters (length k.starts.items)
 IsRefused k Seats = IsFromOne most_counters (length k.starts.items) × IsOutside most_seats k.seats
-IsRefused k Roots = IsFromOne most_counters (length k.starts.items) × IsFromOne most_seats k.seats × IsOutside most_roots k.roots
+IsRefused k Roots = IsFromOne most_counters (length k.starts.items) × IsFromOne most_seats k.seats
+    × IsOutside most_roots k.roots
 IsRefused k ReleaseLimit =
-    IsFromOne most_counters (length k.starts.items) × IsFromOne most_seats k.seats × IsFromOne most_roots k.roots
+    IsFromOne most_counters (length k.starts.items) × IsFromOne most_seats k.seats
+    × IsFromOne most_roots k.roots
     × IsOutside most_releases k.release_limit
 IsRefused k NoMemory = AreAllowed k
 

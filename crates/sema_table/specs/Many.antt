@@ -9,7 +9,7 @@ use Rattle.step_table.specs.declared.place.Place.TheVariants.{Rest, ReleasingMan
 use Rattle.step_table.specs.declared.word.Word.TheVariants.{Grant}
 use Rattle.step_table.specs.World.{Layout}
 use Rattle.step_table.specs.Path.{runs}
-use Rattle.sema_law.specs.SemaPath.{SemaStride, row_event, word_of_stride}
+use Rattle.step_law_semaphores.specs.SemaPath.{SemaStride, row_event, word_of_stride}
 use Rattle.sema_table.specs.declared.many_seat.PostedMany.{PostedMany}
 use Rattle.sema_table.specs.declared.many_seat.PostedMany.TheVariants.{Done, Owes}
 use Rattle.sema_table.specs.Setting.{layout}
@@ -20,8 +20,8 @@ use Rattle.sema_table.specs.Calls.{RunsRows, CallsRows, IsAt, ComesTo}
 abbrev pub release_of : ℕ → ℕ → ReleaseMany
 release_of c units = record { counter = c; units = units }
 
--- all units were added by one row. Then the waiter word read 0, and the release has ended, or it read more, and the release goes to
--- the lock
+-- all units were added by one row. Then the waiter word read 0, and the release has ended, or it read more,
+-- and the release goes to the lock
 abbrev pub IsPostedMany : SeatModel → ReleaseMany → PostedMany → Type 0
 IsPostedMany s r (Done t) =
     (t ≡ record s { left = s.left - r.units; sight = t.sight; strides = t.strides }) × ComesTo s Rest t
@@ -29,7 +29,8 @@ IsPostedMany s r (Done t) =
     × CallsRows s (ReleasingMany r M1) t (AddMany r.counter r.units s.number ∷ [])
     ((ReleasingMany r M1, n) ∷ (ReleasingMany r M2, 0) ∷ []))
 IsPostedMany s r (Owes t) =
-    (t ≡ record s { left = s.left - r.units; sight = t.sight; strides = t.strides }) × ComesTo s (ReleasingMany r M3) t
+    (t ≡ record s { left = s.left - r.units; sight = t.sight; strides = t.strides })
+    × ComesTo s (ReleasingMany r M3) t
     × ((n waits : ℕ)
     × CallsRows s (ReleasingMany r M1) t (AddMany r.counter r.units s.number ∷ [])
     ((ReleasingMany r M1, n) ∷ (ReleasingMany r M2, waits + 1) ∷ []))
@@ -53,7 +54,8 @@ GrantsEach m i r [] [] = Unit {0}
 GrantsEach m i r (w ∷ waits) (p ∷ strides) = GrantsFirst m i r w p × GrantsEach m i r waits strides
 GrantsEach m i r _ _ = ⊥
 
--- n waits were taken out, by the seat, and then granted 1 each in the order in which they were taken out, by its last n rows
+-- n waits were taken out, by the seat, and then granted 1 each in the order in which they were taken out, by
+-- its last n rows
 pub record WakesMany (s : SeatModel) (r : ReleaseMany) (t : SeatModel) (n : ℕ) : Type 0 where
   pub waits : List WaitId
   pub count : length waits ≡ n
@@ -63,8 +65,8 @@ pub record WakesMany (s : SeatModel) (r : ReleaseMany) (t : SeatModel) (n : ℕ)
   pub strides_are : call.strides ≡ before ++ grants
   pub granted : GrantsEach (layout s.table.setting) s.number r waits grants
 
--- the rows of a release of many units from the lock on, by which the seat has come to rest. It took a wait out while one was
--- listed and fewer than its units were in hand: so the rows say
+-- the rows of a release of many units from the lock on, by which the seat has come to rest. It took a wait
+-- out while one was listed and fewer than its units were in hand: so the rows say
 abbrev pub IsWokenMany : SeatModel → SeatModel → ℕ → Type 0
 IsWokenMany s t n =
     (r : ReleaseMany) × IsAt s (ReleasingMany r M3)

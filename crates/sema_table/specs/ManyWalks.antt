@@ -1,5 +1,6 @@
 -- What the rows of a release of many units do to a token.
-use Rattle.std.specs.Prelude.{◌≡◌, nat_lt, ◌&&◌, drop, if◌then◌else◌, ◌+◌, ◌^◌, ◌<◌, ◌≤◌, true, List, [], ◌∷◌, length}
+use Rattle.std.specs.Prelude.{◌≡◌, nat_lt, ◌&&◌, drop, if◌then◌else◌, ◌+◌, ◌^◌, ◌<◌, ◌≤◌, true, List, [], ◌∷◌}
+use Rattle.std.specs.Prelude.{length}
 use Rattle.waiters.specs.declared.wait.WaitId.{WaitId}
 use Rattle.step_table.specs.declared.place.ReleaseMany.{ReleaseMany}
 use Rattle.step_table.specs.declared.place.ManyRow.TheVariants.{M5, M6, M7}
@@ -9,8 +10,8 @@ use Rattle.step_table.specs.Event.{by_first}
 use Rattle.step_table.specs.World.{SeatState}
 use Rattle.step_table.specs.Journal.{takes}
 use Rattle.step_table.specs.Path.{runs}
-use Rattle.sema_law.specs.Balances.{added_by}
-use Rattle.sema_law.specs.SemaPath.{SemaStride}
+use Rattle.step_law_semaphores.specs.Balances.{added_by}
+use Rattle.step_law_semaphores.specs.SemaPath.{SemaStride}
 use Rattle.sema_table.specs.Setting.{layout}
 use Rattle.sema_table.specs.Places.{is_free}
 use Rattle.sema_table.specs.Seats.{TableModel, Token, table_of}
@@ -43,12 +44,14 @@ pub record MayGrant (t : TableModel) (s : Token) (r : ReleaseMany) : Type 0 wher
   pub limited : added_by s.me.0.own.number s.me.0.own.knows.seen ≤ 2 ^ 40
   pub few : s.me.0.own.knows.turn ≤ 2 ^ 48 + 256
   pub most : s.me.0.own.knows.taken ≤ 2 ^ 49
-  pub counted : is_free s.me.0.own.knows.place ≡ true → takes s.me.0.own.number s.me.0.own.knows.seen ≡ s.me.0.own.knows.taken
+  pub counted : is_free s.me.0.own.knows.place ≡ true
+      → takes s.me.0.own.number s.me.0.own.knows.seen ≡ s.me.0.own.knows.taken
 
 -- M7 ran, and the seat stands without the first wait in hand
 pub record GrantedFirst (s : Token) (r : ReleaseMany) (t : Token) : Type 0 where
   pub walked : Walked s (ReleasingMany r M7) t
-      (with_hand s (if nat_lt 1 (length s.me.0.own.knows.hand) then ReleasingMany r M7 else Rest) (drop 1 s.me.0.own.knows.hand)) [] 0
+      (with_hand s (if nat_lt 1 (length s.me.0.own.knows.hand) then ReleasingMany r M7 else Rest)
+      (drop 1 s.me.0.own.knows.hand)) [] 0
   pub stride : SemaStride
   pub strides_are : walked.strides ≡ stride ∷ []
   pub did : stride.deed ≡ runs
@@ -56,7 +59,8 @@ pub record GrantedFirst (s : Token) (r : ReleaseMany) (t : Token) : Type 0 where
   pub slots : t.me.1 ≡ s.me.1
 
 -- rows ran from this place on that granted these waits, and it stands so
-pub record GrantedSome (s : Token) (from : Place) (r : ReleaseMany) (waits : List WaitId) (t : Token) (stands : SeatState) : Type 0 where
+pub record GrantedSome (s : Token) (from : Place) (r : ReleaseMany) (waits : List WaitId) (t : Token)
+    (stands : SeatState) : Type 0 where
   pub walked : Walked s from t stands [] 0
   pub granted : GrantsEach (layout s.me.0.own.knows.setting) s.me.0.own.number r waits walked.strides
   pub slots : t.me.1 ≡ s.me.1

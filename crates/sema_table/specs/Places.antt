@@ -26,7 +26,8 @@ abbrev pub Decides : Place → Place → Type 0
 Decides (Releasing r R3) (Releasing q R3) = r.counter ≡ q.counter
 Decides _ _ = ⊥
 
--- a seat of a table with n counters may run the row at `to`: it stands there, or comes there by its caller's choice
+-- a seat of a table with n counters may run the row at `to`: it stands there, or comes there by its caller's
+-- choice
 abbrev pub Begins : ℕ → Place → Place → Type 0
 Begins n from to = (from ≡ to) ⊎ (((is_free from ≡ true) × IsFirst n to) ⊎ Decides from to)
 

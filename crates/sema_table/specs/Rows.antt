@@ -10,9 +10,9 @@ use Rattle.step_table.specs.Event.{Next}
 use Rattle.step_table.specs.Counting.{counter_at}
 use Rattle.step_table.specs.Journal.{takes}
 use Rattle.step_table.specs.Path.{Deed, runs, looks}
-use Rattle.sema_law.specs.Lawful.{holds}
-use Rattle.sema_law.specs.Served.{gains}
-use Rattle.sema_law.specs.SemaPath.{SemaStride, semaphores, plain_before, row_event}
+use Rattle.step_law_semaphores.specs.Lawful.{holds}
+use Rattle.step_law_semaphores.specs.Served.{gains}
+use Rattle.step_law_semaphores.specs.SemaPath.{SemaStride, semaphores, plain_before, row_event}
 use Rattle.sema_root.specs.Treap.{Treap}
 use Rattle.running_rows.specs.declared.view.View.{View}
 use Rattle.running_rows.specs.declared.view.Seated.{Seated}
@@ -37,8 +37,8 @@ IsHeld v slot y =
     let r = root v.setting (counter_at v.place) in
     (treap : Treap) × (slot ≡ r) × (y ≡ Root treap) × IsRecord v.setting r treap (lists_by v.setting v.seen)
 
--- what else a stride tells. What the seat k had seen of a root whose lock it holds was so still. Where it may begin a call, it has
--- come by all units that it has seen taken for it
+-- what else a stride tells. What the seat k had seen of a root whose lock it holds was so still. Where it may
+-- begin a call, it has come by all units that it has seen taken for it
 pub record Beside (k : ℕ) (v : Known) (p : SemaStride) (w : Known) : Type 0 where
   pub came : w.taken ≡ v.taken + gains_by p.deed v.place w.place
   pub most : w.taken ≤ 2 ^ 49
@@ -52,7 +52,8 @@ pub record Beside (k : ℕ) (v : Known) (p : SemaStride) (w : Known) : Type 0 wh
 abbrev pub HasStored : Setting → SemaStride → ℕ → ℕ → Type 0
 HasStored z p i x =
     (p.deed ≡ runs)
-    × ((k : ℕ) × (address z (row_event (layout z) k p).word ≡ i) × ((row_event (layout z) k p).becomes p.read ≡ x))
+    × ((k : ℕ) × (address z (row_event (layout z) k p).word ≡ i)
+    × ((row_event (layout z) k p).becomes p.read ≡ x))
 
 -- a seat that has run nothing
 abbrev pub fresh : Setting → Known

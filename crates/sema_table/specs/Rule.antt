@@ -10,10 +10,10 @@ use Rattle.step_table.specs.Steps.{IsReached}
 use Rattle.step_table.specs.Path.{Meets}
 use Rattle.step_table.specs.Counting.{total, on}
 use Rattle.step_table.specs.Journal.{plain_start, replay, takes}
-use Rattle.sema_law.specs.Lawful.{holds}
-use Rattle.sema_law.specs.Bounds.{IsSmall}
-use Rattle.sema_law.specs.Served.{served}
-use Rattle.sema_law.specs.SemaPath.{SemaSight, semaphores}
+use Rattle.step_law_semaphores.specs.Lawful.{holds}
+use Rattle.step_law_semaphores.specs.Bounds.{IsSmall}
+use Rattle.step_law_semaphores.specs.Served.{served}
+use Rattle.step_law_semaphores.specs.SemaPath.{SemaSight, semaphores}
 use Rattle.sema_root.specs.Queues.{waits_on}
 use Rattle.sema_root.specs.Queues as queues
 use Rattle.sema_root.specs.Treap.{Treap, Tickets, queues_of, drawn_from, tickets_from}
@@ -25,7 +25,13 @@ use Rattle.sema_table.specs.declared.view.Record.TheVariants.{Root}
 use Rattle.sema_table.specs.Setting.{root, layout, address, words_in, IsThere}
 
 abbrev pub setting_of : Settings → Setting
-setting_of k = record { starts = k.starts.items; roots = k.roots; seats = k.seats; limit = k.release_limit; seed = k.seed }
+setting_of k = record {
+  starts = k.starts.items;
+  roots = k.roots;
+  seats = k.seats;
+  limit = k.release_limit;
+  seed = k.seed;
+}
 
 -- how a seat stands, and what it has seen
 abbrev pub stands_by : Known → SeatState
@@ -42,8 +48,9 @@ seeing w v = record v { place = w.stands.place; turn = w.stands.turn; hand = w.s
 abbrev pub lists_by : Setting → List Entry → ℕ → List WaitId
 lists_by z journal = (replay (plain_start (layout z).starts) journal).lists
 
--- the seat k of a table made so may meet this world. While it holds a root's lock, the lists of the root are those that it has
--- seen, since nobody else changes them. The units taken for it are those that it has come by, and those served to it since
+-- the seat k of a table made so may meet this world. While it holds a root's lock, the lists of the root are
+-- those that it has seen, since nobody else changes them. The units taken for it are those that it has come
+-- by, and those served to it since
 pub record Knows (z : Setting) (k : ℕ) (v : Known) (s : SemaWorld) : Type 0 where
   pub meets : Meets (semaphores (layout z)) s k (sight_by v)
   pub held : (c : ℕ) → holds (root z) (root z c) v.place ≡ 1 → lists_by z v.seen c ≡ s.words.lists c
@@ -61,7 +68,8 @@ root_seed z r = (z.seed + r) % 2 ^ 64
 -- the record of the root r has these lists, room for a wait of each seat, and its tickets from its own seed
 pub record IsRecord (z : Setting) (r : ℕ) (treap : Treap) (lists : ℕ → List WaitId) : Type 0 where
   pub waits : (c : ℕ) → root z c ≡ r → map (λ wait. wait.id) (waits_on (queues_of treap.tree) c) ≡ lists c
-  pub count : queues.total (queues_of treap.tree) ≡ total (length z.starts) (λ c. on (root z c) r (length (lists c)))
+  pub count : queues.total (queues_of treap.tree)
+      ≡ total (length z.starts) (λ c. on (root z c) r (length (lists c)))
   pub seats : treap.seats ≡ z.seats
   pub drawn : (n : ℕ) × (treap.tickets ≡ drawn_after n (tickets_from (root_seed z r)))
 
@@ -70,7 +78,8 @@ Homes = List (Option Record)
 
 -- the record of the root r is at home
 abbrev pub AtHome : Setting → Words → Homes → ℕ → Type 0
-AtHome z g homes r = (treap : Treap) × (get_elem? homes r ≡ some (some (Root treap))) × IsRecord z r treap g.lists
+AtHome z g homes r =
+    (treap : Treap) × (get_elem? homes r ≡ some (some (Root treap))) × IsRecord z r treap g.lists
 
 -- each word is what the reached world has there, and the record of each root whose lock is free is at home
 pub record ShowsWorld (z : Setting) (world : SemaWorld) (ws : List ℕ) (hs : Homes) : Type 0 where

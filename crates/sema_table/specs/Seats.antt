@@ -9,8 +9,8 @@ use Rattle.step_table.specs.declared.place.ReleaseRow.TheVariants.{R3}
 use Rattle.step_table.specs.declared.place.Place.{Place}
 use Rattle.step_table.specs.declared.place.Place.TheVariants.{Acquiring, Releasing}
 use Rattle.step_table.specs.Journal.{takes}
-use Rattle.sema_law.specs.Balances.{added_by}
-use Rattle.sema_law.specs.SemaPath.{SemaSight, SemaStride}
+use Rattle.step_law_semaphores.specs.Balances.{added_by}
+use Rattle.step_law_semaphores.specs.SemaPath.{SemaSight, SemaStride}
 use Rattle.sema_table.specs.declared.view.Known.{Known}
 use Rattle.sema_table.specs.declared.view.Record.{Record}
 use Rattle.sema_table.specs.declared.view.Setting.{Setting}
@@ -23,8 +23,8 @@ pub record TableModel : Type 0 where
   pub id : TableId
   pub setting : Setting
 
--- a seat: its table, its number, how many units more it may add, how many it was given, how it stands, what it has seen, and the
--- strides that it has gone
+-- a seat: its table, its number, how many units more it may add, how many it was given, how it stands, what
+-- it has seen, and the strides that it has gone
 pub record SeatModel : Type 0 where
   pub table : TableModel
   pub number : ℕ
@@ -49,8 +49,8 @@ seat_of t n = record {
   strides = t.me.0.own.gone;
 }
 
--- what a seat's numbers say of its token: it holds no slot and has no wait in hand, has queued so many waits, may add so
--- many units more, and has come by so many
+-- what a seat's numbers say of its token: it holds no slot and has no wait in hand, has queued so many waits,
+-- may add so many units more, and has come by so many
 pub record IsToken (t : Token) (n : Numbers) : Type 0 where
   pub bare : t.me.1 ≡ []
   pub number_is : t.me.0.own.number ≡ n.seat

@@ -1,5 +1,6 @@
 -- How a table is laid out: which root a counter has, and where each word lies.
-use Rattle.std.specs.Prelude.{ℕ, ◌+◌, ◌-◌, ◌*◌, ◌/◌, ◌%◌, ◌<◌, nat_lt, if◌then◌else◌, List, [], ◌∷◌, length, slice_index_or}
+use Rattle.std.specs.Prelude.{ℕ, ◌+◌, ◌-◌, ◌*◌, ◌/◌, ◌%◌, ◌<◌, nat_lt, if◌then◌else◌, List, [], ◌∷◌, length}
+use Rattle.std.specs.Prelude.{slice_index_or}
 use Rattle.step_table.specs.declared.word.Word.{Word}
 use Rattle.step_table.specs.declared.word.Word.TheVariants.{Counter, Lock, Waiters, Grant}
 use Rattle.step_table.specs.World.{Layout}
@@ -10,10 +11,15 @@ root z c = c % z.roots
 
 -- the layout of the worlds of such a table
 abbrev pub layout : Setting → Layout
-layout z = record { counters = length z.starts; seats = z.seats; root = root z; starts = λ c. slice_index_or z.starts c 0 }
+layout z = record {
+  counters = length z.starts;
+  seats = z.seats;
+  root = root z;
+  starts = λ c. slice_index_or z.starts c 0;
+}
 
--- where a word lies: first the counters, each in a cache line of its own, which is eight words long, then the lock of each root, then
--- the waiter word of each, then the grants
+-- where a word lies: first the counters, each in a cache line of its own, which is eight words long, then the
+-- lock of each root, then the waiter word of each, then the grants
 abbrev pub address : Setting → Word → ℕ
 address z (Counter c) = 8 * c
 address z (Lock c) = 8 * length z.starts + root z c
@@ -33,7 +39,8 @@ word_at z i =
 abbrev pub words_shown : Setting → ℕ
 words_shown z = 8 * length z.starts + z.roots + z.roots + z.seats
 
--- behind them lie words of which the world knows nothing. One of each seat is above 0 while the seat's thread sleeps
+-- behind them lie words of which the world knows nothing. One of each seat is above 0 while the seat's thread
+-- sleeps
 abbrev pub asleep_address : Setting → ℕ → ℕ
 asleep_address z s = words_shown z + s
 

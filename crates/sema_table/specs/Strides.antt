@@ -2,7 +2,7 @@
 use Rattle.std.specs.Prelude.{◌≡◌, Option, Some, None}
 use Rattle.step_table.specs.declared.word.Word.{Word}
 use Rattle.step_table.specs.Path.{Deed, runs, looks}
-use Rattle.sema_law.specs.SemaPath.{SemaStride}
+use Rattle.step_law_semaphores.specs.SemaPath.{SemaStride}
 
 -- a row, or a look at this word
 abbrev pub deed_of : Option Word → Deed Word

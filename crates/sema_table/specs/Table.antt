@@ -7,10 +7,10 @@ use Rattle.running_rows.specs.Table.{State}
 use Rattle.step_table.specs.declared.word.Word.TheVariants.{Counter, Lock, Waiters, Grant}
 use Rattle.step_table.specs.World.{SemaWorld}
 use Rattle.step_table.specs.Steps.{IsReached}
-use Rattle.sema_law.specs.Lawful.{IsLawfulWorld}
-use Rattle.sema_law.specs.Bounds.{IsSmall}
-use Rattle.sema_law.specs.Entries.{IsNamed}
-use Rattle.sema_law.specs.SemaPath.{SemaStride}
+use Rattle.step_law_semaphores.specs.Lawful.{IsLawfulWorld}
+use Rattle.step_law_semaphores.specs.Bounds.{IsSmall}
+use Rattle.step_law_semaphores.specs.Entries.{IsNamed}
+use Rattle.step_law_semaphores.specs.SemaPath.{SemaStride}
 use Rattle.running_rows.specs.History.{Moment, Writes}
 use Rattle.running_rows.specs.Rule.{In, IsSomeones, IsSeated, HasSeats}
 use Rattle.sema_table.specs.declared.view.Record.{Record}
@@ -20,13 +20,15 @@ use Rattle.sema_table.specs.Setting.{root, layout, address, words_in}
 use Rattle.sema_table.specs.Rule.{setting_of, Knows, AtHome}
 use Rattle.sema_table.specs.Rows.{SemaView, semaphore_rows, fresh}
 
--- each word and the records at home are those of this world. The strides of all seats told its journal, one after the other, and
--- each is of a seat that was made. Each view that isn't spent is that of a seat there, and of the seats that sit with it, each seat
--- in one view: it went its strides, stands so, has seen a beginning of the journal with all entries that it alone can tell, knows
--- the lists of a root whose lock it holds, and has come by the units that were taken for it, but for those served to it since. Each
--- seat that was made sits somewhere; those that aren't yet have seen nothing and run nothing
+-- each word and the records at home are those of this world. The strides of all seats told its journal, one
+-- after the other, and each is of a seat that was made. Each view that isn't spent is that of a seat there,
+-- and of the seats that sit with it, each seat in one view: it went its strides, stands so, has seen a
+-- beginning of the journal with all entries that it alone can tell, knows the lists of a root whose lock it
+-- holds, and has come by the units that were taken for it, but for those served to it since. Each seat that
+-- was made sits somewhere; those that aren't yet have seen nothing and run nothing
 pub record Shows (z : Setting) (s : State Record SemaView) (world : SemaWorld) : Type 0 where
-  pub numbers : (c : ℕ) → c < length z.starts → slice_index s.words (address z (Counter c)) ≡ world.words.numbers c
+  pub numbers : (c : ℕ) → c < length z.starts
+      → slice_index s.words (address z (Counter c)) ≡ world.words.numbers c
   pub locks : (c : ℕ) → slice_index s.words (address z (Lock c)) ≡ world.words.locks (root z c)
   pub waiters : (c : ℕ) → slice_index s.words (address z (Waiters c)) ≡ world.words.waiters (root z c)
   pub grants : (k : ℕ) → k < z.seats → slice_index s.words (address z (Grant k)) ≡ world.words.grants k
@@ -43,8 +45,8 @@ pub record Shows (z : Setting) (s : State Record SemaView) (world : SemaWorld) :
   pub wide : length s.words ≡ words_in z
   pub deep : length s.homes ≡ z.roots
 
--- a world that the steps of the table's seats lead to is lawful, and the table shows it. Its journal names seats and counters that
--- are there, and no seat has added more than 2^40 units
+-- a world that the steps of the table's seats lead to is lawful, and the table shows it. Its journal names
+-- seats and counters that are there, and no seat has added more than 2^40 units
 pub record IsLawfulTable (z : Setting) (s : State Record SemaView) : Type 0 where
   pub world : SemaWorld
   pub reached : IsReached (layout z) world
@@ -55,4 +57,5 @@ pub record IsLawfulTable (z : Setting) (s : State Record SemaView) : Type 0 wher
 
 -- a table of which such a rule holds is lawful
 abbrev pub MakesLawful : (Settings → State Record SemaView → Type 0) → Type 0
-MakesLawful holds = (key : Settings) (s : State Record SemaView) → holds key s → IsLawfulTable (setting_of key) s
+MakesLawful holds =
+    (key : Settings) (s : State Record SemaView) → holds key s → IsLawfulTable (setting_of key) s

@@ -3,7 +3,8 @@ use Rattle.std.specs.Prelude.{ℕ, List, ◌∷◌, ◌++◌, codes}
 use Rattle.std.specs.Fmt.{decimal}
 use Rattle.waiters.specs.declared.wait.WaitId.{WaitId}
 use Rattle.sema_table.specs.declared.setup_error.SetupError.{SetupError}
-use Rattle.sema_table.specs.declared.setup_error.SetupError.TheVariants.{Counters, Seats, Roots, ReleaseLimit, NoMemory}
+use Rattle.sema_table.specs.declared.setup_error.SetupError.TheVariants.{Counters, Seats, Roots, ReleaseLimit}
+use Rattle.sema_table.specs.declared.setup_error.SetupError.TheVariants.{NoMemory}
 use Rattle.sema_table.specs.declared.answers.Tried.{Tried}
 use Rattle.sema_table.specs.declared.answers.Tried.TheVariants.{Taken, Zero, Lost}
 use Rattle.sema_table.specs.declared.answers.Wake.{Wake}

@@ -11,7 +11,7 @@ use Rattle.step_table.specs.declared.word.Word.{Word}
 use Rattle.step_table.specs.declared.word.Word.TheVariants.{Counter, Waiters}
 use Rattle.step_table.specs.Path.{GoesOn, looks}
 use Rattle.step_table.specs.Counting.{total, on}
-use Rattle.sema_law.specs.SemaPath.{SemaStride, SemaRan}
+use Rattle.step_law_semaphores.specs.SemaPath.{SemaStride, SemaRan}
 use Rattle.sema_table.specs.declared.answers.Tried.{Tried}
 use Rattle.sema_table.specs.declared.answers.Tried.TheVariants.{Taken, Zero, Lost}
 use Rattle.sema_table.specs.declared.answers.Posted.{Posted}
@@ -27,7 +27,8 @@ acquiring c row = Acquiring (record { counter = c; lifo = false }) row
 abbrev pub releasing : ℕ → ReleaseRow → Place
 releasing c row = Releasing (record { counter = c; handoff = false }) row
 
--- nothing but a look: the seat stands as it stood, and has seen all that was told up to the look, which read n
+-- nothing but a look: the seat stands as it stood, and has seen all that was told up to the look, which read
+-- n
 pub record LooksAt (s : SeatModel) (w : Word) (n : ℕ) (t : SeatModel) : Type 0 where
   pub same : t ≡ record s { sight = t.sight; strides = t.strides }
   pub stride : SemaStride
@@ -45,14 +46,16 @@ pub record IsValue (s : SeatModel) (c n : ℕ) (t : SeatModel) : Type 0 where
 
 -- how many waits are queued on all counters of the root r, after all that is seen
 abbrev pub waits_seen : SeatModel → ℕ → ℕ
-waits_seen s r = let z = s.table.setting in total (length z.starts) (λ c. on (root z c) r (length ((plain_seen s).lists c)))
+waits_seen s r = let z = s.table.setting in
+    total (length z.starts) (λ c. on (root z c) r (length ((plain_seen s).lists c)))
 
 -- n is the number of the waits at the counter's root after all that is seen now, or one more
 pub record IsWaiters (s : SeatModel) (c n : ℕ) (t : SeatModel) : Type 0 where
   pub looked : LooksAt s (Waiters (root s.table.setting c)) n t
   pub near : (n ≡ waits_seen t (root s.table.setting c)) ⊎ (n ≡ waits_seen t (root s.table.setting c) + 1)
 
--- the rows of one try: A1, and A2 where A1 read more than 0. A unit is taken exactly where A2 found what A1 read
+-- the rows of one try: A1, and A2 where A1 read more than 0. A unit is taken exactly where A2 found what A1
+-- read
 abbrev pub IsTried : SeatModel → ℕ → Tried → SeatModel → Type 0
 IsTried s c Zero t =
     (t ≡ record s { sight = t.sight; strides = t.strides }) × ComesTo s (acquiring c A3) t
@@ -65,14 +68,18 @@ IsTried s c Lost t =
 IsTried s c Taken t =
     (t ≡ record s { taken = s.taken + 1; sight = t.sight; strides = t.strides }) × ComesTo s Rest t
     × ((left : ℕ)
-    × CallsRows s (acquiring c A1) t (Take c s.number ∷ []) ((acquiring c A1, left + 1) ∷ (acquiring c (A2 left), left + 1) ∷ []))
+    × CallsRows s (acquiring c A1) t (Take c s.number ∷ [])
+    ((acquiring c A1, left + 1) ∷ (acquiring c (A2 left), left + 1) ∷ []))
 
--- a unit was added. Then the waiter word read 0, and the release has ended, or it read more, and the release goes to the lock
+-- a unit was added. Then the waiter word read 0, and the release has ended, or it read more, and the release
+-- goes to the lock
 abbrev pub IsPosted : SeatModel → ℕ → Posted → Type 0
 IsPosted s c (Done t) =
     (t ≡ record s { left = s.left - 1; sight = t.sight; strides = t.strides }) × ComesTo s Rest t
-    × ((n : ℕ) × CallsRows s (releasing c R1) t (Add c s.number ∷ []) ((releasing c R1, n) ∷ (releasing c R2, 0) ∷ []))
+    × ((n : ℕ) × CallsRows s (releasing c R1) t (Add c s.number ∷ [])
+    ((releasing c R1, n) ∷ (releasing c R2, 0) ∷ []))
 IsPosted s c (Owes t) =
     (t ≡ record s { left = s.left - 1; sight = t.sight; strides = t.strides }) × ComesTo s (releasing c R3) t
     × ((n waits : ℕ)
-    × CallsRows s (releasing c R1) t (Add c s.number ∷ []) ((releasing c R1, n) ∷ (releasing c R2, waits + 1) ∷ []))
+    × CallsRows s (releasing c R1) t (Add c s.number ∷ [])
+    ((releasing c R1, n) ∷ (releasing c R2, waits + 1) ∷ []))

@@ -14,7 +14,7 @@ use Rattle.step_table.specs.declared.word.Word.TheVariants.{Grant}
 use Rattle.step_table.specs.Journal.{HasItsUnit}
 use Rattle.step_table.specs.Counting.{wait}
 use Rattle.step_table.specs.Path.{runs, looks}
-use Rattle.sema_law.specs.SemaPath.{SemaStride, row_event, word_of_stride}
+use Rattle.step_law_semaphores.specs.SemaPath.{SemaStride, row_event, word_of_stride}
 use Rattle.sema_table.specs.Setting.{layout}
 use Rattle.sema_table.specs.declared.answers.Entered.{Entered}
 use Rattle.sema_table.specs.declared.answers.Entered.TheVariants.{Taken, Asleep}
@@ -33,10 +33,11 @@ acquire_of c lifo = record { counter = c; lifo = lifo }
 -- the seat is parked, and its wait has the turn that was its next
 abbrev pub Parks : SeatModel → Acquire → SeatModel → Type 0
 Parks s a t =
-    let was = s.sight.stands in t.sight.stands ≡ record { place = Acquiring a (P was.turn); turn = was.turn + 1; hand = was.hand }
+    let was = s.sight.stands in
+    t.sight.stands ≡ record { place = Acquiring a (P was.turn); turn = was.turn + 1; hand = was.hand }
 
--- rows ran from this place on. A unit was taken, by the seat for itself; or the seat is parked, and its wait is queued, at the
--- end that it asked for: the last thing that it has seen
+-- rows ran from this place on. A unit was taken, by the seat for itself; or the seat is parked, and its wait
+-- is queued, at the end that it asked for: the last thing that it has seen
 abbrev pub IsEntered : SeatModel → Acquire → Place → Entered → Type 0
 IsEntered s a from (Taken t) =
     (t ≡ record s { taken = s.taken + 1; sight = t.sight; strides = t.strides }) × ComesTo s Rest t
@@ -44,7 +45,8 @@ IsEntered s a from (Taken t) =
 IsEntered s a from (Asleep t) =
     (t ≡ record s { sight = t.sight; strides = t.strides }) × Parks s a t
     × RunsRows s from t (Queue a.counter (wait s.number s.sight.stands.turn) a.lifo ∷ [])
-    × ((before : List Entry) × (t.sight.seen ≡ before ++ Queue a.counter (wait s.number s.sight.stands.turn) a.lifo ∷ []))
+    × ((before : List Entry)
+    × (t.sight.seen ≡ before ++ Queue a.counter (wait s.number s.sight.stands.turn) a.lifo ∷ []))
 
 -- the seat, which was parked, looked at its own grant word, and found nothing
 pub record FindsNoGrant (i : ℕ) (p : SemaStride) : Type 0 where
@@ -69,7 +71,8 @@ abbrev pub RunsAndSleeps : SeatModel → Place → SeatModel → List Entry → 
 RunsAndSleeps s = Calls (RunsOrWaits s.number) s
 
 -- the row that takes the grant ran last, and found n; before it were these looks, which found nothing
-pub record CallsGranted (s : SeatModel) (from : Place) (t : SeatModel) (before : List SemaStride) (n : ℕ) : Type 0 where
+pub record CallsGranted (s : SeatModel) (from : Place) (t : SeatModel) (before : List SemaStride) (n : ℕ)
+    : Type 0 where
   pub call : RunsAndSleeps s from t []
   pub last : SemaStride
   pub strides_are : call.strides ≡ before ++ last ∷ []
@@ -78,10 +81,11 @@ pub record CallsGranted (s : SeatModel) (from : Place) (t : SeatModel) (before :
   pub row : last.stood.place ≡ from
   pub found : last.read ≡ n
 
--- the parked seat found nothing granted at its look; or it was woken by a grant of 1, and has yet to try; or it was handed a unit
--- by a grant of 2, which was taken for it after its wait had left
+-- the parked seat found nothing granted at its look; or it was woken by a grant of 1, and has yet to try; or
+-- it was handed a unit by a grant of 2, which was taken for it after its wait had left
 abbrev pub IsPolled : SeatModel → Polled → Type 0
-IsPolled s (Still t) = (a : Acquire) × (turn : ℕ) × IsAt s (Acquiring a (P turn)) × LooksAt s (Grant s.number) 0 t
+IsPolled s (Still t) =
+    (a : Acquire) × (turn : ℕ) × IsAt s (Acquiring a (P turn)) × LooksAt s (Grant s.number) 0 t
 IsPolled s (Woken t) =
     (t ≡ record s { sight = t.sight; strides = t.strides })
     × ((a : Acquire) × (turn : ℕ) × IsAt s (Acquiring a (P turn)) × ComesTo s (Acquiring a A10) t
@@ -97,7 +101,8 @@ abbrev pub IsRetried : SeatModel → Entered → Type 0
 IsRetried s entered = (a : Acquire) × IsAt s (Acquiring a A10) × IsEntered s a (Acquiring a A10) entered
 
 -- a call whose last row stood here, with this wait in hand, and stored n in the grant word of the wait's seat
-pub record CallsGrant (s : SeatModel) (from : Place) (t : SeatModel) (told : List Entry) (place : Place) (w : WaitId) (n : ℕ)
+pub record CallsGrant (s : SeatModel) (from : Place) (t : SeatModel) (told : List Entry) (place : Place)
+    (w : WaitId) (n : ℕ)
     : Type 0 where
   pub call : RunsRows s from t told
   pub before : List SemaStride
@@ -109,14 +114,16 @@ pub record CallsGrant (s : SeatModel) (from : Place) (t : SeatModel) (told : Lis
   pub word : word_of_stride (layout s.table.setting) s.number last ≡ Grant w.seat
   pub stored : (row_event (layout s.table.setting) s.number last).becomes last.read ≡ n
 
--- nobody was taken out; or one wait, by the seat, which granted it 1 at its last row, or 2, for the unit that it took for the
--- wait's seat
+-- nobody was taken out; or one wait, by the seat, which granted it 1 at its last row, or 2, for the unit that
+-- it took for the wait's seat
 abbrev pub Wakes : SeatModel → Release → SeatModel → Wake → Type 0
 Wakes s r t woken.Nobody = RunsRows s (Releasing r R3) t []
-Wakes s r t (woken.One w) = CallsGrant s (Releasing r R3) t (Leave r.counter w s.number ∷ []) (Releasing r R10) w 1
+Wakes s r t (woken.One w) =
+    CallsGrant s (Releasing r R3) t (Leave r.counter w s.number ∷ []) (Releasing r R10) w 1
 Wakes s r t (woken.Handed w) =
     (r.handoff ≡ true)
-    × CallsGrant s (Releasing r R3) t (Leave r.counter w s.number ∷ Take r.counter w.seat ∷ []) (Releasing r R9) w 2
+    × CallsGrant s (Releasing r R3) t (Leave r.counter w s.number ∷ Take r.counter w.seat ∷ [])
+    (Releasing r R9) w 2
 
 -- the rows of a release from the lock on, by which the seat has come to rest
 abbrev pub IsWakened : SeatModel → Bool → SeatModel → Wake → Type 0

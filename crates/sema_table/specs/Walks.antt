@@ -1,5 +1,6 @@
 -- What rows of one seat do to its token.
-use Rattle.std.specs.Prelude.{◌≡◌, ℕ, Bool, true, false, drop, if◌then◌else◌, ◌+◌, ◌^◌, ◌<◌, ◌≤◌, List, [], ◌∷◌, ◌++◌, length}
+use Rattle.std.specs.Prelude.{◌≡◌, ℕ, Bool, true, false, drop, if◌then◌else◌, ◌+◌, ◌^◌, ◌<◌, ◌≤◌, List, []}
+use Rattle.std.specs.Prelude.{◌∷◌, ◌++◌, length}
 use Rattle.std.specs.List.{All}
 use Rattle.waiters.specs.declared.wait.WaitId.{WaitId}
 use Rattle.step_table.specs.declared.entry.Entry.{Entry}
@@ -15,8 +16,8 @@ use Rattle.step_table.specs.World.{SeatState}
 use Rattle.step_table.specs.Counting.{total, on, counter_at}
 use Rattle.step_table.specs.Journal.{takes}
 use Rattle.step_table.specs.Path.{runs, all_told}
-use Rattle.sema_law.specs.Balances.{added_by}
-use Rattle.sema_law.specs.SemaPath.{SemaStride, SemaPath, placed}
+use Rattle.step_law_semaphores.specs.Balances.{added_by}
+use Rattle.step_law_semaphores.specs.SemaPath.{SemaStride, SemaPath, placed}
 use Rattle.sema_root.specs.Treap.{Treap}
 use Rattle.sema_table.specs.declared.view.Record.TheVariants.{Root}
 use Rattle.sema_table.specs.Strides.{IsRow}
@@ -47,8 +48,10 @@ pub record Starts (t : TableModel) (s : Token) (place : Place) : Type 0 where
   pub bare : s.me.1 ≡ []
   pub takes : takes_lock place ≡ true
 
--- such strides were gone from this place on, which told these entries, and by which the seat came by so many units; it stands so
-pub record Went (IsOne : SemaStride → Type 0) (s : Token) (from : Place) (t : Token) (stands : SeatState) (told : List Entry)
+-- such strides were gone from this place on, which told these entries, and by which the seat came by so many
+-- units; it stands so
+pub record Went (IsOne : SemaStride → Type 0) (s : Token) (from : Place) (t : Token) (stands : SeatState)
+    (told : List Entry)
     (gained : ℕ) : Type 0 where
   pub table_is : table_of t ≡ table_of s
   pub number_is : t.me.0.own.number ≡ s.me.0.own.number
@@ -56,7 +59,8 @@ pub record Went (IsOne : SemaStride → Type 0) (s : Token) (from : Place) (t : 
   pub few : t.me.0.own.knows.turn ≤ 2 ^ 48 + 256
   pub came : t.me.0.own.knows.taken ≡ s.me.0.own.knows.taken + gained
   pub most : t.me.0.own.knows.taken ≤ 2 ^ 49
-  pub counted : is_free stands.place ≡ true → takes t.me.0.own.number t.me.0.own.knows.seen ≡ t.me.0.own.knows.taken
+  pub counted : is_free stands.place ≡ true
+      → takes t.me.0.own.number t.me.0.own.knows.seen ≡ t.me.0.own.knows.taken
   pub strides : List SemaStride
   pub each : All IsOne strides
   pub path : SemaPath (layout s.me.0.own.knows.setting) s.me.0.own.number
@@ -80,7 +84,8 @@ Moves s from t place = Walked s from t (moved_to s place) [] 0
 abbrev pub HasRecord : Token → ℕ → Type 0
 HasRecord s c =
     let z = s.me.0.own.knows.setting in
-    (treap : Treap) × (s.me.1 ≡ (root z c, Root treap) ∷ []) × IsRecord z (root z c) treap (lists_by z s.me.0.own.knows.seen)
+    (treap : Treap) × (s.me.1 ≡ (root z c, Root treap) ∷ [])
+    × IsRecord z (root z c) treap (lists_by z s.me.0.own.knows.seen)
 
 -- the lists that the seat has seen
 abbrev pub lists_of : Token → ℕ → List WaitId
@@ -105,11 +110,13 @@ Holds t s place = Stands t s place × HasRecord s (counter_at place)
 abbrev pub HasRoom : Token → ℕ → Type 0
 HasRoom s c =
     let z = s.me.0.own.knows.setting in
-    total (length z.starts) (λ d. on (root z d) (root z c) (length (lists_by z s.me.0.own.knows.seen d))) < z.seats
+    total (length z.starts)
+    (λ d. on (root z d) (root z c) (length (lists_by z s.me.0.own.knows.seen d))) < z.seats
 
 -- what the table says follows R4, where somebody waits at the root
 abbrev pub sought : Token → Release → Place
-sought s r = by_first (lists_by s.me.0.own.knows.setting s.me.0.own.knows.seen r.counter) (Releasing r R6) (λ w. Releasing r R5)
+sought s r = by_first (lists_by s.me.0.own.knows.setting s.me.0.own.knows.seen r.counter) (Releasing r R6)
+    (λ w. Releasing r R5)
 
 -- where a release goes with a wait in hand
 abbrev pub trying : Release → Place
@@ -121,7 +128,11 @@ unlocked s r = by_first s.me.0.own.knows.hand Rest (λ w. trying r)
 
 -- how a seat stands whose wait was queued
 abbrev pub parked : Token → Acquire → SeatState
-parked s a = record { place = Acquiring a (P s.me.0.own.knows.turn); turn = s.me.0.own.knows.turn + 1; hand = s.me.0.own.knows.hand }
+parked s a = record {
+  place = Acquiring a (P s.me.0.own.knows.turn);
+  turn = s.me.0.own.knows.turn + 1;
+  hand = s.me.0.own.knows.hand;
+}
 
 -- the entry is the last that the seat has seen
 abbrev pub IsLast : Token → Entry → Type 0
@@ -129,7 +140,8 @@ IsLast s e = (before : List Entry) × (s.me.0.own.knows.seen ≡ before ++ e ∷
 
 -- how a seat stands that has taken a wait out
 abbrev pub taken_out : Token → Release → WaitId → SeatState
-taken_out s r w = record { place = Releasing r R6; turn = s.me.0.own.knows.turn; hand = s.me.0.own.knows.hand ++ w ∷ [] }
+taken_out s r w =
+    record { place = Releasing r R6; turn = s.me.0.own.knows.turn; hand = s.me.0.own.knows.hand ++ w ∷ [] }
 
 -- the row that grants the wait in hand, with a unit or without
 abbrev pub granting : Release → Bool → Place
@@ -148,7 +160,8 @@ taken_for r w false = []
 
 -- that row ran, and the seat is at rest without the wait
 pub record Granted (s : Token) (from : Place) (t : Token) : Type 0 where
-  pub walked : Walked s from t (record { place = Rest; turn = s.me.0.own.knows.turn; hand = drop 1 s.me.0.own.knows.hand }) [] 0
+  pub walked : Walked s from t
+      (record { place = Rest; turn = s.me.0.own.knows.turn; hand = drop 1 s.me.0.own.knows.hand }) [] 0
   pub stride : SemaStride
   pub strides_are : walked.strides ≡ stride ∷ []
   pub did : stride.deed ≡ runs

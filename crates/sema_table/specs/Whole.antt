@@ -8,7 +8,7 @@ use Rattle.step_table.specs.declared.place.Place.{Place}
 use Rattle.step_table.specs.declared.place.Place.TheVariants.{Rest, Acquiring}
 use Rattle.step_table.specs.Journal.{HasItsUnit}
 use Rattle.step_table.specs.Counting.{wait}
-use Rattle.sema_law.specs.SemaPath.{SemaStride}
+use Rattle.step_law_semaphores.specs.SemaPath.{SemaStride}
 use Rattle.sema_table.specs.declared.answers.Posted.TheVariants.{Done, Owes}
 use Rattle.sema_table.specs.declared.answers.Roused.{Roused}
 use Rattle.sema_table.specs.declared.answers.Roused.TheVariants.{Woken, Handed}
@@ -21,8 +21,8 @@ use Rattle.sema_table.specs.Calls.{RunsRows, IsAt, ComesTo, plain_seen}
 use Rattle.sema_table.specs.Tries.{acquiring, IsPosted}
 use Rattle.sema_table.specs.Waking.{acquire_of, RunsAndSleeps, CallsGranted, IsWakened}
 
--- the seat was woken by a grant of 1, and has yet to try; or it was handed a unit by a grant of 2, which was taken for it after
--- its wait had left
+-- the seat was woken by a grant of 1, and has yet to try; or it was handed a unit by a grant of 2, which was
+-- taken for it after its wait had left
 abbrev pub IsRoused : SeatModel → Roused → Type 0
 IsRoused s (Woken t) =
     (t ≡ record s { sight = t.sight; strides = t.strides })
@@ -37,15 +37,17 @@ IsRoused s (Handed t) =
 -- a unit was added, and nobody waited at the root; or somebody did, and the release went on to wake
 abbrev pub IsReleased : SeatModel → ℕ → Bool → SeatModel → Wake → Type 0
 IsReleased s c handoff t wake =
-    (IsPosted s c (Done t) × (wake ≡ Nobody)) ⊎ ((u : SeatModel) × IsPosted s c (Owes u) × IsWakened u handoff t wake)
+    (IsPosted s c (Done t) × (wake ≡ Nobody))
+    ⊎ ((u : SeatModel) × IsPosted s c (Owes u) × IsWakened u handoff t wake)
 
--- the queueing of so many waits of the seat i by one acquire, one after the other, the first of which has this turn
+-- the queueing of so many waits of the seat i by one acquire, one after the other, the first of which has
+-- this turn
 abbrev pub queued : ℕ → Acquire → ℕ → ℕ → List Entry
 queued i a turn zero = []
 queued i a turn (suc n) = Queue a.counter (wait i turn) a.lifo ∷ queued i a (turn + 1) n
 
--- the seat took the unit itself, after it had queued so many waits; or the unit was taken for the last of them, after that had
--- left
+-- the seat took the unit itself, after it had queued so many waits; or the unit was taken for the last of
+-- them, after that had left
 abbrev pub TakesUnit : SeatModel → Place → Acquire → ℕ → SeatModel → Type 0
 TakesUnit s from a n t =
     let turn = s.sight.stands.turn in
@@ -62,7 +64,8 @@ TakesFrom s from a t =
 
 -- the seat is parked, and its wait is the last that it queued
 abbrev pub ParksLast : SeatModel → Acquire → ℕ → Type 0
-ParksLast s a turn = s.sight.stands ≡ record { place = Acquiring a (P turn); turn = turn + 1; hand = s.sight.stands.hand }
+ParksLast s a turn =
+    s.sight.stands ≡ record { place = Acquiring a (P turn); turn = turn + 1; hand = s.sight.stands.hand }
 
 abbrev pub HasParked : SeatModel → Type 0
 HasParked s = (a : Acquire) × (turn : ℕ) × ParksLast s a turn
@@ -100,4 +103,5 @@ TriesAtSight s c tried.Lost t = TriesOn s c t
 abbrev pub IsAcquired : SeatModel → ℕ → Bool → SeatModel → Type 0
 IsAcquired s c lifo t =
     TakesAtOnce s c t
-    ⊎ ((u : SeatModel) × FindsNone s c u × TakesFrom u (Acquiring (acquire_of c lifo) A3) (acquire_of c lifo) t)
+    ⊎ ((u : SeatModel) × FindsNone s c u
+    × TakesFrom u (Acquiring (acquire_of c lifo) A3) (acquire_of c lifo) t)

@@ -1,7 +1,8 @@
 //! A whole acquire.
 ghost use Rattle.std.specs.Prelude.{◌≡◌, ◌<◌, length, MatchBool};
 ghost use Rattle.sema_table.specs.Waking.{acquire_of};
-ghost use Rattle.sema_table.specs.Whole.{TakesAtOnce, FindsNone, HasParked, TakesAfter, TakesFrom, IsAcquired};
+ghost use Rattle.sema_table.specs.Whole.{TakesAtOnce, FindsNone, HasParked, TakesAfter, TakesFrom};
+ghost use Rattle.sema_table.specs.Whole.{IsAcquired};
 ghost use Rattle.sema_table.specs.Callers.{AcquiresUnit};
 
 use crate::answers::{Entered, Roused, Tried};
@@ -12,7 +13,8 @@ use step_table::{AcquireRow, Place};
 use waiters::CounterId;
 
 impl SemaTable {
-    /// Takes a unit, and sleeps while there is none (Go's `semacquire1`). With lifo its wait goes to the front of the list.
+    /// Takes a unit, and sleeps while there is none (Go's `semacquire1`). With lifo its wait goes to the
+    /// front of the list.
     #[inline]
     pub fn acquire<R: Wait>(&self, rt: &R, seat: Seat, counter: CounterId, lifo: bool) -> Seat
         requires { (seat.table ≡ self.now) × (counter < length self.now.setting.starts) }
@@ -27,7 +29,8 @@ impl SemaTable {
         }
     }
 
-    /// An acquire after a try that was lost. What it keeps of a seat in memory is cleared in here, and not before each try.
+    /// An acquire after a try that was lost. What it keeps of a seat in memory is cleared in here, and not
+    /// before each try.
     #[inline]
     fn acquire_lost<R: Wait>(&self, rt: &R, seat: Seat, counter: CounterId, lifo: bool) -> Seat
         requires { (seat.table ≡ self.now) × (counter < length self.now.setting.starts) }
@@ -65,7 +68,8 @@ impl SemaTable {
         lifo: bool,
     ) -> Seat
         requires { (seat.table ≡ self.now) × (counter < length self.now.setting.starts) }
-        ensures { let a = acquire_of counter lifo in TakesFrom seat (Place.Acquiring a AcquireRow.A3) a result }
+        ensures { let a = acquire_of counter lifo in
+            TakesFrom seat (Place.Acquiring a AcquireRow.A3) a result }
     {
         self.acquire_at_lock(rt, seat, counter, lifo)
     }
@@ -80,7 +84,8 @@ impl SemaTable {
         lifo: bool,
     ) -> Seat
         requires { (seat.table ≡ self.now) × (counter < length self.now.setting.starts) }
-        ensures { let a = acquire_of counter lifo in TakesFrom seat (Place.Acquiring a AcquireRow.A3) a result }
+        ensures { let a = acquire_of counter lifo in
+            TakesFrom seat (Place.Acquiring a AcquireRow.A3) a result }
     {
         match self.enter(rt, seat, counter, lifo) {
             Entered::Taken(seat) => seat,
@@ -92,7 +97,8 @@ impl SemaTable {
     #[inline]
     fn take_at_once<R: Wait>(&self, rt: &R, seat: &mut Seat, counter: CounterId) -> bool
         requires { (seat.old.table ≡ self.now) × (counter < length self.now.setting.starts) }
-        ensures { MatchBool result (TakesAtOnce seat.old counter seat.new) (FindsNone seat.old counter seat.new) }
+        ensures { MatchBool result (TakesAtOnce seat.old counter seat.new)
+            (FindsNone seat.old counter seat.new) }
     {
         for _ in rt.forever() {
             match self.try_acquire(seat, counter) {

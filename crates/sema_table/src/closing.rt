@@ -15,7 +15,8 @@ use std::alloc::Global;
 fn empty(closed: &mut running_rows::Closed<Record, Global>)
     requires { IsFull closed.old.slots }
     ensures words { closed.new.words ≡ closed.old.words }
-    ensures empty { (k : ℕ) → k < slots_len closed.new.slots → slice_index_or (slots_filled closed.new.slots) k false ≡ false }
+    ensures empty { (k : ℕ) → k < slots_len closed.new.slots
+        → slice_index_or (slots_filled closed.new.slots) k false ≡ false }
 {
     let mut slot = 0;
     while slot < closed.slot_count() {
@@ -48,7 +49,8 @@ impl SemaTable {
         (token, releases, acquires)
     }
 
-    /// Ends the table, for which it asks for all seats: what they have added and were given adds up with the counters' numbers.
+    /// Ends the table, for which it asks for all seats: what they have added and were given adds up with the
+    /// counters' numbers.
     pub fn close(self, seats: Vec<Seat>) -> Closed
         requires { AreAll self seats.items }
         ensures rows { IsClosed self.setting seats.items result }

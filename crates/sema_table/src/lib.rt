@@ -1,24 +1,26 @@
-//! The running semaphore table: counters on which the callers' own threads sleep and wake each other, over shared
-//! words, after `semacquire1` and `semrelease1` of Go's `runtime/sema.go`.
+//! The running semaphore table: counters on which the callers' own threads sleep and wake each other, over
+//! shared words, after `semacquire1` and `semrelease1` of Go's `runtime/sema.go`.
 //!
-//! A counter holds units. [`SemaTable::acquire`] takes one, and sleeps while there is none; [`SemaTable::release`]
-//! adds one, and wakes the first that waits. Each can be gone in parts. [`SemaTable::try_acquire`] takes a unit where
-//! there is one; [`SemaTable::enter`] goes to the lock of the counter's root and queues the seat's wait there,
-//! [`SemaTable::poll`] looks whether the wait was granted, [`SemaTable::sleep`] waits for that, and
-//! [`SemaTable::retry`] tries once it was. [`SemaTable::post`] adds a unit, and [`SemaTable::wake`] takes the first
-//! wait out and grants it. [`SemaTable::release_many`] does the same for many units, and for as many waits; its parts
-//! are [`SemaTable::post_many`] and [`SemaTable::wake_some`]. [`SemaTable::spin`] looks for a unit for a while, as a
-//! lock does before it acquires; it takes none, and nothing is promised of it. By [`SemaTable::meet`] two seats come
-//! to have seen one journal. Each atomic step is one row of the step table, in every schedule, and the contract of a
-//! call has a path of such rows and the entries of the journal that they told (`rows`), and says what the call is to its
-//! caller, without rows (`caller`); [`law_of_the_table`] says that the table is lawful between any two of them.
+//! A counter holds units. [`SemaTable::acquire`] takes one, and sleeps while there is none;
+//! [`SemaTable::release`] adds one, and wakes the first that waits. Each can be gone in parts.
+//! [`SemaTable::try_acquire`] takes a unit where there is one; [`SemaTable::enter`] goes to the lock of the
+//! counter's root and queues the seat's wait there, [`SemaTable::poll`] looks whether the wait was granted,
+//! [`SemaTable::sleep`] waits for that, and [`SemaTable::retry`] tries once it was. [`SemaTable::post`] adds
+//! a unit, and [`SemaTable::wake`] takes the first wait out and grants it. [`SemaTable::release_many`] does
+//! the same for many units, and for as many waits; its parts are [`SemaTable::post_many`] and
+//! [`SemaTable::wake_some`]. [`SemaTable::spin`] looks for a unit for a while, as a lock does before it
+//! acquires; it takes none, and nothing is promised of it. By [`SemaTable::meet`] two seats come to have seen
+//! one journal. Each atomic step is one row of the step table, in every schedule, and the contract of a call
+//! has a path of such rows and the entries of the journal that they told (`rows`), and says what the call is
+//! to its caller, without rows (`caller`); [`law_of_the_table`] says that the table is lawful between any two
+//! of them.
 //!
-//! A table has 1 to 65,536 counters, 1 to 256 seats and 1 to 251 roots; a counter starts below 2^32, and a seat adds
-//! at most 2^40 units. [`SemaTable::new`] names the first of these limits that isn't kept, or want of memory, and
-//! takes all memory that the table ever takes. After it the one refusal is [`PostRefused::LimitReached`]. A seat is
-//! used by one thread at a time, since it is moved or lent. `enter`, `retry`, `wake`, `release`, `wake_some` and
-//! `release_many` may wait for a root's lock, or for a counter that others keep changing, and `sleep` and `acquire`
-//! for a grant; all other calls end.
+//! A table has 1 to 65,536 counters, 1 to 256 seats and 1 to 251 roots; a counter starts below 2^32, and a
+//! seat adds at most 2^40 units. [`SemaTable::new`] names the first of these limits that isn't kept, or want
+//! of memory, and takes all memory that the table ever takes. After it the one refusal is
+//! [`PostRefused::LimitReached`]. A seat is used by one thread at a time, since it is moved or lent. `enter`,
+//! `retry`, `wake`, `release`, `wake_some` and `release_many` may wait for a root's lock, or for a counter
+//! that others keep changing, and `sleep` and `acquire` for a grant; all other calls end.
 #![tactic(auto)]
 
 mod acquires;

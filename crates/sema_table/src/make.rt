@@ -51,7 +51,8 @@ fn check(settings: &Settings) -> Result<(), SetupError>
 
 /// A seat that has run nothing.
 fn new_seat(token: Token, number: u16, limit: u64) -> Seat
-    requires fresh { (z : Setting) × (token.me.0.own ≡ fresh_seat semaphore_rows z number) × (token.me.1 ≡ []) × (z.limit ≡ limit)
+    requires fresh { (z : Setting) × (token.me.0.own ≡ fresh_seat semaphore_rows z number)
+        × (token.me.1 ≡ []) × (z.limit ≡ limit)
         × (number < z.seats) }
     requires limit { limit ≤ 2 ^ 40 }
     ensures { result ≡ making.new_seat (table_of token) number }
@@ -137,8 +138,8 @@ fn make(alloc: Global, settings: Settings) -> Result<(SemaTable, Vec<Seat>), NoM
 }
 
 impl SemaTable {
-    /// A table with these settings, and its seats in the order of their numbers. An error has made nothing: settings out of
-    /// their limits, or no memory for what they ask.
+    /// A table with these settings, and its seats in the order of their numbers. An error has made nothing:
+    /// settings out of their limits, or no memory for what they ask.
     pub fn new(alloc: Global, settings: Settings) -> Result<(SemaTable, Vec<Seat>), SetupError>
         ensures ok { IfOk result (λ t. IsMade settings t.0 t.1.items) }
         ensures own { IfOk result (λ t. All (λ s. s.table ≡ t.0) t.1.items) }

@@ -7,8 +7,8 @@ use crate::seat::Seat;
 use crate::sema_table::SemaTable;
 
 impl SemaTable {
-    /// Afterwards both seats have seen one journal, which begins with what either had seen. Each has looked at
-    /// counter 0 once, and both found one number.
+    /// Afterwards both seats have seen one journal, which begins with what either had seen. Each has looked
+    /// at counter 0 once, and both found one number.
     pub fn meet(&self, one: &mut Seat, other: &mut Seat)
         requires { (one.old.table ≡ self.now) × (other.old.table ≡ self.now) }
         ensures rows { HasMet one.old other.old one.new other.new }

@@ -16,8 +16,8 @@ use std::sync::Wait;
 use step_table::Acquire;
 
 impl SemaTable {
-    /// Looks at the seat's grant word once, and takes what is granted. Each look writes the word: a caller that waits lets other
-    /// threads run between two of them.
+    /// Looks at the seat's grant word once, and takes what is granted. Each look writes the word: a caller
+    /// that waits lets other threads run between two of them.
     pub fn poll(&self, sleeping: Sleeping) -> Polled
         requires { sleeping.table ≡ self.now }
         ensures rows { IsPolled sleeping result }
@@ -54,8 +54,8 @@ impl SemaTable {
         Polled::Handed(Seat { token, numbers })
     }
 
-    /// The try of a seat that was woken without a unit, and where it finds none, the way to the lock again, with the same
-    /// counter and lifo (Go's `semacquire1` after `goparkunlock`).
+    /// The try of a seat that was woken without a unit, and where it finds none, the way to the lock again,
+    /// with the same counter and lifo (Go's `semacquire1` after `goparkunlock`).
     pub fn retry<R: Wait>(&self, rt: &R, woken: Woken) -> Entered
         requires { woken.table ≡ self.now }
         ensures rows { IsRetried woken result }
@@ -88,7 +88,8 @@ impl SemaTable {
         let word = counter_word(call.counter.number());
         for _ in rt.forever() {
             let found = self.words.load::<Here>(token, word);
-            // On 0 the seat goes to the lock, and does not look again: it would miss what is told to those who wait.
+            // On 0 the seat goes to the lock, and does not look again: it would miss what is told to those
+            // who wait.
             if found == 0 {
                 return false;
             }

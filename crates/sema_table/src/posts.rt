@@ -11,8 +11,8 @@ use running_rows::Here;
 use waiters::CounterId;
 
 impl SemaTable {
-    /// Adds a unit, and looks whether somebody waits at the counter's root (Go's `semrelease1` up to its `nwait`). The seat
-    /// comes back with nothing changed exactly where it may add no more.
+    /// Adds a unit, and looks whether somebody waits at the counter's root (Go's `semrelease1` up to its
+    /// `nwait`). The seat comes back with nothing changed exactly where it may add no more.
     #[inline]
     pub fn post(&self, seat: Seat, counter: CounterId) -> Result<Posted, (Seat, PostRefused)>
         requires { (seat.table ≡ self.now) × (counter < length self.now.setting.starts) }
@@ -26,7 +26,8 @@ impl SemaTable {
         }
         let Seat { mut token, numbers } = seat;
         let counter = counter.number();
-        // Added before the look: a look that came first could read 0 while an acquire is about to read 0 and sleep.
+        // Added before the look: a look that came first could read 0 while an acquire is about to read 0 and
+        // sleep.
         self.words
             .add::<AtAdd>(&mut token, counter_word(counter), 1);
         let numbers = Numbers {

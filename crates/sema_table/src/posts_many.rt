@@ -13,8 +13,8 @@ use step_table::ReleaseMany;
 use waiters::CounterId;
 
 impl SemaTable {
-    /// Adds many units by one step, and looks whether somebody waits at the counter's root. The seat comes back with nothing
-    /// changed exactly where it may not add so many.
+    /// Adds many units by one step, and looks whether somebody waits at the counter's root. The seat comes
+    /// back with nothing changed exactly where it may not add so many.
     #[inline]
     pub fn post_many(
         &self,

@@ -6,7 +6,8 @@ ghost use Rattle.step_table.specs.declared.place.AcquireRow.TheVariants.{A3, A4,
 ghost use Rattle.sema_table.specs.Places.{Begins};
 ghost use Rattle.sema_table.specs.Seats.{IsToken, table_of, seat_of};
 ghost use Rattle.sema_table.specs.Waking.{acquire_of, IsEntered};
-ghost use Rattle.sema_table.specs.Walks.{Stands, Holds, Walked, Moves, HasRecord, HasRoom, IsLast, moved_to, parked};
+ghost use Rattle.sema_table.specs.Walks.{Stands, Holds, Walked, Moves, HasRecord, HasRoom, IsLast, moved_to};
+ghost use Rattle.sema_table.specs.Walks.{parked};
 ghost use Rattle.sema_table.specs.Callers.{JoinsQueue};
 
 use crate::answers::Entered;
@@ -19,11 +20,12 @@ use step_table::{Acquire, AcquireRow, Place};
 use waiters::{CounterId, WaitId};
 
 impl SemaTable {
-    /// Goes to the lock of the counter's root, takes a unit that is there when the lock is held, or queues a wait (Go's
-    /// `semacquire1` from `lockWithRank` to `goparkunlock`).
+    /// Goes to the lock of the counter's root, takes a unit that is there when the lock is held, or queues a
+    /// wait (Go's `semacquire1` from `lockWithRank` to `goparkunlock`).
     pub fn enter<R: Wait>(&self, rt: &R, seat: Seat, counter: CounterId, lifo: bool) -> Entered
         requires { (seat.table ≡ self.now) × (counter < length self.now.setting.starts) }
-        ensures rows { IsEntered seat (acquire_of counter lifo) (Acquiring (acquire_of counter lifo) A3) result }
+        ensures rows { IsEntered seat (acquire_of counter lifo)
+            (Acquiring (acquire_of counter lifo) A3) result }
         ensures caller { JoinsQueue seat counter lifo result }
     {
         let Seat { token, numbers } = seat;
@@ -75,18 +77,20 @@ impl SemaTable {
         })
     }
 
-    /// A4. Raised before the second look: a release that adds its unit after that look finds the word above 0. Raised later,
-    /// the release could come in between and find nobody, and this seat would sleep beside a unit.
+    /// A4. Raised before the second look: a release that adds its unit after that look finds the word above
+    /// 0. Raised later, the release could come in between and find nobody, and this seat would sleep beside a
+    /// unit.
     fn raise(&self, token: &mut Token, call: &Acquire)
         requires { Holds self.now token.old (Acquiring call.now A4) }
-        ensures { Moves token.old (Acquiring call.now A4) token.new (Acquiring call.now A5) × HasRecord token.new call.now.counter }
+        ensures { Moves token.old (Acquiring call.now A4) token.new (Acquiring call.now A5)
+            × HasRecord token.new call.now.counter }
     {
         let word = self.waiter_word(call.counter);
         self.words.add::<Here>(token, word, 1);
     }
 
-    /// A5, and A6 where A5 read more than 0, until one of them settles it: whether a unit was taken. The second look: a release
-    /// that came since the first may have found the waiter word at 0 and gone.
+    /// A5, and A6 where A5 read more than 0, until one of them settles it: whether a unit was taken. The
+    /// second look: a release that came since the first may have found the waiter word at 0 and gone.
     fn look_again<R: Wait>(&self, rt: &R, token: &mut Token, call: &Acquire) -> bool
         requires { Holds self.now token.old (Acquiring call.now A5) }
         ensures record { HasRecord token.new call.now.counter }
@@ -112,7 +116,8 @@ impl SemaTable {
     /// A8. The seat queues no wait: a word left raised would send every release of the root to the lock.
     fn lower(&self, token: &mut Token, call: &Acquire)
         requires { Holds self.now token.old (Acquiring call.now A8) }
-        ensures { Moves token.old (Acquiring call.now A8) token.new (Acquiring call.now A9) × HasRecord token.new call.now.counter }
+        ensures { Moves token.old (Acquiring call.now A8) token.new (Acquiring call.now A9)
+            × HasRecord token.new call.now.counter }
     {
         let word = self.waiter_word(call.counter);
         self.words.subtract::<Here>(token, word, 1);
@@ -128,12 +133,14 @@ impl SemaTable {
         self.words.give_lock(token, word, sleepers);
     }
 
-    /// A7. Queued in the hold of the lock in which 0 was read: a release that saw the waiter word waits for this lock, and finds
-    /// the wait.
+    /// A7. Queued in the hold of the lock in which 0 was read: a release that saw the waiter word waits for
+    /// this lock, and finds the wait.
     fn queue(&self, token: &mut Token, call: &Acquire, wait: waiters::Wait)
-        requires seat { Stands self.now token.old (Acquiring call.now A7) × HasRecord token.old call.now.counter
+        requires seat { Stands self.now token.old (Acquiring call.now A7)
+            × HasRecord token.old call.now.counter
             × HasRoom token.old call.now.counter }
-        requires wait { wait.id ≡ record { seat = token.old.me.0.own.number; turn = token.old.me.0.own.knows.turn } }
+        requires wait { wait.id
+            ≡ record { seat = token.old.me.0.own.number; turn = token.old.me.0.own.knows.turn } }
         ensures walked { Walked token.old (Acquiring call.now A7) token.new (parked token.old call.now)
             (Queue call.now.counter wait.id call.now.lifo ∷ []) 0 }
         ensures bare { token.new.me.1 ≡ [] }

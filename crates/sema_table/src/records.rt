@@ -15,7 +15,8 @@ use waiters::{CounterId, Wait, WaitId};
 impl SemaTable {
     /// Puts a wait into the list of the call's counter, at the end that the call asks for.
     pub(crate) fn insert(&self, token: &mut Token, call: &Acquire, wait: Wait)
-        requires seat { (table_of token.old ≡ self.now) × HasRecord token.old call.now.counter × HasRoom token.old call.now.counter }
+        requires seat { (table_of token.old ≡ self.now) × HasRecord token.old call.now.counter
+            × HasRoom token.old call.now.counter }
         requires call { call.now.counter < length self.now.setting.starts }
         ensures { let c = call.now.counter in let lists = lists_of token.old in
             Edited token.old c (put lists c (insert_wait call.now.lifo wait.id (lists c))) token.new }
@@ -29,11 +30,13 @@ impl SemaTable {
 
     /// Takes the first wait out of the list of a counter.
     pub(crate) fn remove_first(&self, token: &mut Token, counter: CounterId) -> Option<WaitId>
-        requires { (table_of token.old ≡ self.now) × HasRecord token.old counter × (counter < length self.now.setting.starts) }
+        requires { (table_of token.old ≡ self.now) × HasRecord token.old counter
+            × (counter < length self.now.setting.starts) }
         ensures some { let lists = lists_of token.old in IfSome result (λ w.
             (lists counter ≡ w ∷ drop 1 (lists counter))
             × Edited token.old counter (put lists counter (drop 1 (lists counter))) token.new) }
-        ensures none { IfNone result ((lists_of token.old counter ≡ []) × Edited token.old counter (lists_of token.old) token.new) }
+        ensures none { IfNone result
+            ((lists_of token.old counter ≡ []) × Edited token.old counter (lists_of token.old) token.new) }
     {
         let slot = self.root_of(counter);
         let Record::Root(root) = Running::record_mut(token, &self.words, slot) else {

@@ -10,8 +10,9 @@ use std::sync::Wait;
 use waiters::CounterId;
 
 impl SemaTable {
-    /// Adds a unit and wakes the counter's first wait, if there is one; with handoff, together with a unit if there is one (Go's
-    /// `semrelease1`). The seat comes back with nothing changed exactly where it may add no more.
+    /// Adds a unit and wakes the counter's first wait, if there is one; with handoff, together with a unit if
+    /// there is one (Go's `semrelease1`). The seat comes back with nothing changed exactly where it may add
+    /// no more.
     #[inline]
     pub fn release<R: Wait>(
         &self,

@@ -11,9 +11,9 @@ use std::sync::Wait;
 use waiters::CounterId;
 
 impl SemaTable {
-    /// Adds many units by one step, and wakes as many of the counter's first waits, or all where there are fewer.
-    /// It answers how many it woke. The seat comes back with nothing changed exactly where it may not add so
-    /// many.
+    /// Adds many units by one step, and wakes as many of the counter's first waits, or all where there are
+    /// fewer. It answers how many it woke. The seat comes back with nothing changed exactly where it may not
+    /// add so many.
     #[inline]
     pub fn release_many<R: Wait>(
         &self,

@@ -1,7 +1,7 @@
 //! A seat between two calls, and what it is in the middle of one.
 ghost use Rattle.std.specs.Prelude.{◌≡◌, ◌+◌, ◌^◌, ◌<◌};
 ghost use Rattle.step_table.specs.Journal.{takes};
-ghost use Rattle.sema_law.specs.Balances.{added_by};
+ghost use Rattle.step_law_semaphores.specs.Balances.{added_by};
 ghost use Rattle.sema_table.specs.Seats.{IsWaitOf};
 
 use crate::rows::Token;
@@ -19,7 +19,8 @@ pub struct Seat {
 /// What a seat counts.
 #[derive(Clone, Copy, Drop)]
 pub(crate) struct Numbers {
-    /// Its own number, as wide as the others: bytes between them that no field has would be copied through memory.
+    /// Its own number, as wide as the others: bytes between them that no field has would be copied through
+    /// memory.
     pub(crate) seat: u64,
     /// How many units more it may add.
     pub(crate) left: u64,
@@ -126,8 +127,8 @@ impl Seat {
         self.numbers.taken
     }
 
-    /// The same seat, put together anew. A caller whose rare half is a function that isn't inlined hands the seat over so: where
-    /// the rare half isn't called, the seat then stays in registers.
+    /// The same seat, put together anew. A caller whose rare half is a function that isn't inlined hands the
+    /// seat over so: where the rare half isn't called, the seat then stays in registers.
     #[inline]
     pub fn rebuilt(self) -> Seat
         ensures { result ≡ self }

@@ -1,7 +1,8 @@
 //! The table that the threads of a caller share.
 ghost use Rattle.std.specs.Prelude.{◌≡◌, ◌*◌, ◌^◌, ◌<◌, length};
 ghost use Rattle.step_table.specs.declared.word.Word.TheVariants.{Lock, Waiters, Grant};
-ghost use Rattle.sema_table.specs.Setting.{root, address, words_shown, asleep_address, misses_address, sleepers_address};
+ghost use Rattle.sema_table.specs.Setting.{root, address, words_shown, asleep_address, misses_address};
+ghost use Rattle.sema_table.specs.Setting.{sleepers_address};
 
 use crate::make::MAX_ROOTS;
 use crate::rows::Semaphores;
@@ -12,7 +13,8 @@ use running_rows::{OneWorld, Running, View};
 use std::marker::Model;
 use waiters::CounterId;
 
-/// Counters, on which seats sleep and wake each other. Its calls take `&self` and a seat, so threads share it in an `Arc`.
+/// Counters, on which seats sleep and wake each other. Its calls take `&self` and a seat, so threads share it
+/// in an `Arc`.
 #[derive(Drop)]
 pub struct SemaTable {
     pub(crate) words: Running<Record, View<Known, Stride>, Settings, OneWorld<Semaphores>>,
@@ -36,7 +38,8 @@ impl Model for SemaTable {
         t.limit };
 }
 
-/// Where the counter of a number lies. Each has a cache line of its own: two in one line would be fetched together.
+/// Where the counter of a number lies. Each has a cache line of its own: two in one line would be fetched
+/// together.
 #[inline]
 pub(crate) fn counter_word(counter: u32) -> usize
     ensures at { result ≡ 8 * counter }
@@ -60,9 +63,10 @@ impl SemaTable {
         self.seats
     }
 
-    /// The root of a counter. By the most roots, which are as many as Go has, the compiler divides with a product and a shift, which
-    /// costs nothing beside a step; a look whether the number is small would be guessed wrong too often. By fewer, a number below
-    /// that of the roots is its own, and isn't divided: that takes as long as a step.
+    /// The root of a counter. By the most roots, which are as many as Go has, the compiler divides with a
+    /// product and a shift, which costs nothing beside a step; a look whether the number is small would be
+    /// guessed wrong too often. By fewer, a number below that of the roots is its own, and isn't divided:
+    /// that takes as long as a step.
     #[inline]
     pub(crate) fn root_of(&self, counter: CounterId) -> usize
         ensures { result ≡ root self.now.setting counter }

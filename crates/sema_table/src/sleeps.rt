@@ -17,7 +17,8 @@ const PATIENCE: Patience = Patience {
 };
 
 impl SemaTable {
-    /// Waits until the seat's wait is granted: looks for a while, and then sleeps (Go's `goparkunlock` and what follows it).
+    /// Waits until the seat's wait is granted: looks for a while, and then sleeps (Go's `goparkunlock` and
+    /// what follows it).
     pub fn sleep<R: Wait>(&self, rt: &R, sleeping: Sleeping) -> Roused
         requires { sleeping.table ≡ self.now }
         ensures rows { IsRoused sleeping result }

@@ -14,14 +14,14 @@ use waiters::CounterId;
 
 /// How often `spin` looks: what is done under a lock takes less, unless its holder lost its processor.
 const LOOKS: u64 = 100;
-/// The first break of an acquire that spins is of 2 to this power pauses. In a shorter one, who has the unit gives it back and
-/// takes it again a few times only, and the word goes from processor to processor for each.
+/// The first break of an acquire that spins is of 2 to this power pauses. In a shorter one, who has the unit
+/// gives it back and takes it again a few times only, and the word goes from processor to processor for each.
 const FIRST_BREAK: u32 = 7;
 /// Its last break, before it queues a wait, is of half as many as 2 to this power.
 const BREAKS_END: u32 = 12;
 
-/// A break before the next look: twice as long each time, so that those who want one unit don't keep its cache line from
-/// who gives it back.
+/// A break before the next look: twice as long each time, so that those who want one unit don't keep its
+/// cache line from who gives it back.
 fn make_break(turn: u32)
     requires { turn < 32 }
 {
@@ -31,9 +31,9 @@ fn make_break(turn: u32)
 }
 
 impl SemaTable {
-    /// Looks for a while whether the counter has a unit. Who acquires what another gives back in a moment may do this first:
-    /// then it seldom sleeps, and has seldom to be woken. It takes no unit, and says nothing of one: another may take it
-    /// first.
+    /// Looks for a while whether the counter has a unit. Who acquires what another gives back in a moment may
+    /// do this first: then it seldom sleeps, and has seldom to be woken. It takes no unit, and says nothing
+    /// of one: another may take it first.
     #[inline]
     pub fn spin(&self, counter: CounterId)
         requires { counter < length self.now.setting.starts }
@@ -52,8 +52,8 @@ impl SemaTable {
         self.words.is_above_zero_soon(PhantomData, word, LOOKS);
     }
 
-    /// An acquire without lifo by one who expects a unit in a moment, as of a lock: where it sees none, or loses it to
-    /// another, it makes a break and looks again, and queues a wait only after some of them.
+    /// An acquire without lifo by one who expects a unit in a moment, as of a lock: where it sees none, or
+    /// loses it to another, it makes a break and looks again, and queues a wait only after some of them.
     #[inline]
     pub fn acquire_spinning<R: Wait>(&self, rt: &R, seat: Seat, counter: CounterId) -> Seat
         requires { (seat.table ≡ self.now) × (counter < length self.now.setting.starts) }
@@ -68,13 +68,16 @@ impl SemaTable {
         }
     }
 
-    /// The same by a seat that lies in a struct of its caller's: it is moved only where its first try is in vain.
+    /// The same by a seat that lies in a struct of its caller's: it is moved only where its first try is in
+    /// vain.
     #[inline]
     pub fn acquire_in_place<R: Wait>(&self, rt: &R, place: &mut Option<Seat>, counter: CounterId)
         requires there { IsSomeAnd place.old (λ seat. seat.table ≡ self.now) }
         requires inside { counter < length self.now.setting.starts }
-        ensures rows { ForSome place.old (λ seat. IsSomeAnd place.new (λ later. IsAcquired seat counter false later)) }
-        ensures caller { ForSome place.old (λ seat. IsSomeAnd place.new (λ later. AcquiresUnit seat counter false later)) }
+        ensures rows { ForSome place.old
+            (λ seat. IsSomeAnd place.new (λ later. IsAcquired seat counter false later)) }
+        ensures caller { ForSome place.old
+            (λ seat. IsSomeAnd place.new (λ later. AcquiresUnit seat counter false later)) }
     {
         let tried = match place {
             Some(seat) => self.try_at_sight(seat, counter),
@@ -97,7 +100,8 @@ impl SemaTable {
         }
     }
 
-    /// An acquire after a first try in vain. What it keeps of a seat in memory is cleared in here, and not before each try.
+    /// An acquire after a first try in vain. What it keeps of a seat in memory is cleared in here, and not
+    /// before each try.
     #[inline]
     fn acquire_with_breaks<R: Wait>(&self, rt: &R, seat: Seat, counter: CounterId) -> Seat
         requires { (seat.table ≡ self.now) × (counter < length self.now.setting.starts) }
@@ -124,8 +128,8 @@ impl SemaTable {
         self.acquire_again(rt, seat, counter, false)
     }
 
-    /// A try where a look finds a unit. It is lost where that finds none, or another was faster; `Zero` says that the unit was
-    /// gone when the try began.
+    /// A try where a look finds a unit. It is lost where that finds none, or another was faster; `Zero` says
+    /// that the unit was gone when the try began.
     #[inline]
     fn try_at_sight(&self, seat: &mut Seat, counter: CounterId) -> Tried
         requires { (seat.old.table ≡ self.now) × (counter < length self.now.setting.starts) }

@@ -3,7 +3,8 @@ use std::marker::Model;
 use step_table::{Entry, Place, Word};
 use waiters::WaitId;
 
-/// One stride of a seat: how it stood, its deed, what it read, and what it had seen and told. No value of it is made.
+/// One stride of a seat: how it stood, its deed, what it read, and what it had seen and told. No value of it
+/// is made.
 pub struct Stride {
     /// The word that it only looked at; of a row none.
     looked: Option<Word>,
@@ -16,7 +17,7 @@ pub struct Stride {
 }
 
 impl Model for Stride {
-    ghost use Rattle.sema_law.specs.SemaPath.{SemaStride};
+    ghost use Rattle.step_law_semaphores.specs.SemaPath.{SemaStride};
     ghost use Rattle.sema_table.specs.Strides.{deed_of};
 
     ghost Value = { SemaStride };

@@ -22,7 +22,8 @@ impl SemaTable {
         self.words.look(&mut seat.token, word)
     }
 
-    /// How many waits are queued at the counter's root, or one more while a seat under the root's lock may yet queue its own.
+    /// How many waits are queued at the counter's root, or one more while a seat under the root's lock may
+    /// yet queue its own.
     pub fn waiters_of_root(&self, seat: &mut Seat, counter: CounterId) -> u64
         requires { (seat.old.table ≡ self.now) × (counter < length self.now.setting.starts) }
         ensures rows { IsWaiters seat.old counter result seat.new }
@@ -32,8 +33,8 @@ impl SemaTable {
         self.words.look(&mut seat.token, word)
     }
 
-    /// Takes a unit if there is one (the fast path of Go's `semacquire1`). `Lost` says that the counter changed between the look
-    /// and the exchange.
+    /// Takes a unit if there is one (the fast path of Go's `semacquire1`). `Lost` says that the counter
+    /// changed between the look and the exchange.
     #[inline]
     pub fn try_acquire(&self, seat: &mut Seat, counter: CounterId) -> Tried
         requires { (seat.old.table ≡ self.now) × (counter < length self.now.setting.starts) }
@@ -45,7 +46,8 @@ impl SemaTable {
         if found == 0 {
             return Tried::Zero;
         }
-        // An exchange, and no subtraction: another may have taken the unit since, and the counter can't go below 0.
+        // An exchange, and no subtraction: another may have taken the unit since, and the counter can't go
+        // below 0.
         if self
             .words
             .exchange::<Here>(&mut seat.token, word, found, found - 1)

@@ -23,8 +23,8 @@ pub struct Known {
     pub taken: u64,
 }
 
-/// What lies in a root's slot: the root, or nothing while a seat has it. A `Begins` lies in none: it tells a step at
-/// which place it begins.
+/// What lies in a root's slot: the root, or nothing while a seat has it. A `Begins` lies in none: it tells a
+/// step at which place it begins.
 #[derive(Drop)]
 pub enum Record {
     Root(TreapRoot),

@@ -20,8 +20,8 @@ use step_table::{Place, Release, ReleaseRow};
 use waiters::{CounterId, WaitId};
 
 impl SemaTable {
-    /// The rest of a release: takes the counter's first wait out and grants it; with handoff, together with a unit if there is
-    /// one (Go's `semrelease1` from `lockWithRank` on).
+    /// The rest of a release: takes the counter's first wait out and grants it; with handoff, together with a
+    /// unit if there is one (Go's `semrelease1` from `lockWithRank` on).
     pub fn wake<R: Wait>(&self, rt: &R, owing: Owing, handoff: bool) -> (Seat, Wake)
         requires { owing.table ≡ self.now }
         ensures rows { IsWakened owing handoff result.0 result.1 }
@@ -48,7 +48,8 @@ impl SemaTable {
         requires seat { IsToken token numbers × (table_of token ≡ self.now) }
         requires call { (counter < length self.now.setting.starts)
             × (token.me.0.own.knows.place ≡ Releasing (record { counter = counter; handoff = false }) R3) }
-        ensures { (result.0 ≡ record (seat_of token numbers) { sight = result.0.sight; strides = result.0.strides })
+        ensures { (result.0 ≡ record
+            (seat_of token numbers) { sight = result.0.sight; strides = result.0.strides })
             × ComesTo (seat_of token numbers) Rest result.0
             × Wakes (seat_of token numbers) (record { counter = counter; handoff = handoff }) result.0 result.1 }
     {
@@ -71,14 +72,16 @@ impl SemaTable {
 
     /// R4, and R5 where the counter has a wait.
     fn take_first(&self, token: &mut Token, call: &Release) -> Option<WaitId>
-        requires seat { Stands self.now token.old (Releasing call.now R4) × HasRecord token.old call.now.counter
+        requires seat { Stands self.now token.old (Releasing call.now R4)
+            × HasRecord token.old call.now.counter
             × (token.old.me.0.own.knows.hand ≡ []) }
         ensures record { HasRecord token.new call.now.counter }
         ensures some { IfSome result (λ w.
             Walked token.old (Releasing call.now R4) token.new (taken_out token.old call.now w)
             (Leave call.now.counter w token.old.me.0.own.number ∷ []) 0
             × (w.seat < self.now.setting.seats)) }
-        ensures none { IfNone result (Moves token.old (Releasing call.now R4) token.new (Releasing call.now R6)) }
+        ensures none { IfNone result
+            (Moves token.old (Releasing call.now R4) token.new (Releasing call.now R6)) }
         ensures stands { Stands self.now token.new (Releasing call.now R6) }
     {
         if !self.look_for_waits(token, call) {
@@ -87,8 +90,8 @@ impl SemaTable {
         self.take_out(token, call)
     }
 
-    /// R4: whether somebody waits at the root. Looked at again under the lock: since R2 the waiter may have taken the unit itself,
-    /// or another release may have taken it out.
+    /// R4: whether somebody waits at the root. Looked at again under the lock: since R2 the waiter may have
+    /// taken the unit itself, or another release may have taken it out.
     fn look_for_waits(&self, token: &mut Token, call: &Release) -> bool
         requires { Holds self.now token.old (Releasing call.now R4) }
         ensures record { HasRecord token.new call.now.counter }
@@ -100,10 +103,12 @@ impl SemaTable {
         self.words.load::<Here>(token, word) != 0
     }
 
-    /// R5 where the counter has a wait, and else nothing. Under the lock and with the word lowered: after the lock two releases
-    /// could take one wait, and a word left behind would send every later release to the lock.
+    /// R5 where the counter has a wait, and else nothing. Under the lock and with the word lowered: after the
+    /// lock two releases could take one wait, and a word left behind would send every later release to the
+    /// lock.
     fn take_out(&self, token: &mut Token, call: &Release) -> Option<WaitId>
-        requires seat { Stands self.now token.old (sought token.old call.now) × HasRecord token.old call.now.counter
+        requires seat { Stands self.now token.old (sought token.old call.now)
+            × HasRecord token.old call.now.counter
             × (token.old.me.0.own.knows.hand ≡ []) }
         ensures record { HasRecord token.new call.now.counter }
         ensures some { IfSome result (λ w.
@@ -122,7 +127,8 @@ impl SemaTable {
     /// R6. Given back before the waiter is told: told earlier, it would run into the lock that is still held.
     fn unlock_released(&self, token: &mut Token, call: &Release)
         requires { Holds self.now token.old (Releasing call.now R6) }
-        ensures { Moves token.old (Releasing call.now R6) token.new (unlocked token.old call.now) × (token.new.me.1 ≡ []) }
+        ensures { Moves token.old (Releasing call.now R6) token.new (unlocked token.old call.now)
+            × (token.new.me.1 ≡ []) }
     {
         let word = self.lock_word(call.counter);
         let sleepers = self.sleepers_word(call.counter);
@@ -131,9 +137,11 @@ impl SemaTable {
 
     /// R7 and R8 of a release with handoff, and else nothing: whether a unit was taken for the wait in hand.
     fn take_for<R: Wait>(&self, rt: &R, token: &mut Token, call: &Release, id: &WaitId) -> bool
-        requires { Stands self.now token.old (trying call.now) × (token.old.me.0.own.knows.hand ≡ id.now ∷ []) }
+        requires { Stands self.now token.old (trying call.now)
+            × (token.old.me.0.own.knows.hand ≡ id.now ∷ []) }
         ensures slots { token.new.me.1 ≡ token.old.me.1 }
-        ensures walked { Walked token.old (trying call.now) token.new (moved_to token.old (granting call.now result))
+        ensures walked { Walked token.old (trying call.now) token.new
+            (moved_to token.old (granting call.now result))
             (taken_for call.now id.now result) 0 }
         ensures asked { result ≡ true → call.now.handoff ≡ true }
     {
@@ -143,10 +151,12 @@ impl SemaTable {
         self.take_unit(rt, token, call, id)
     }
 
-    /// R7, and R8 where R7 read more than 0, until one of them settles it: whether a unit was taken for the wait in hand. A unit
-    /// is looked for, not assumed: a seat that never slept may have taken the one that was added.
+    /// R7, and R8 where R7 read more than 0, until one of them settles it: whether a unit was taken for the
+    /// wait in hand. A unit is looked for, not assumed: a seat that never slept may have taken the one that
+    /// was added.
     fn take_unit<R: Wait>(&self, rt: &R, token: &mut Token, call: &Release, id: &WaitId) -> bool
-        requires { Stands self.now token.old (Releasing call.now R7) × (token.old.me.0.own.knows.hand ≡ id.now ∷ []) }
+        requires { Stands self.now token.old (Releasing call.now R7)
+            × (token.old.me.0.own.knows.hand ≡ id.now ∷ []) }
         ensures slots { token.new.me.1 ≡ token.old.me.1 }
         ensures settled { MatchBool result
             (Walked token.old (Releasing call.now R7) token.new (moved_to token.old (Releasing call.now R9))
@@ -168,7 +178,8 @@ impl SemaTable {
 
     /// R9 where a unit was taken for the wait in hand, and else R10: its seat is granted.
     fn grant(&self, token: &mut Token, call: &Release, id: &WaitId, handed: bool)
-        requires seat { Stands self.now token.old (granting call.now handed) × (token.old.me.0.own.knows.hand ≡ id.now ∷ []) }
+        requires seat { Stands self.now token.old (granting call.now handed)
+            × (token.old.me.0.own.knows.hand ≡ id.now ∷ []) }
         requires there { id.now.seat < self.now.setting.seats }
         ensures granted { Granted token.old (granting call.now handed) token.new }
         ensures slots { token.new.me.1 ≡ token.old.me.1 }

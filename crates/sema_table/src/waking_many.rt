@@ -1,5 +1,6 @@
 //! A release of many units from its root's lock on.
-ghost use Rattle.std.specs.Prelude.{◌≡◌, ◌+◌, ◌^◌, ◌<◌, ◌≤◌, [], ◌∷◌, ◌++◌, length, map, All, MatchBool, IfSome, IfNone};
+ghost use Rattle.std.specs.Prelude.{◌≡◌, ◌+◌, ◌^◌, ◌<◌, ◌≤◌, [], ◌∷◌, ◌++◌, length, map, All, MatchBool};
+ghost use Rattle.std.specs.Prelude.{IfSome, IfNone};
 ghost use Rattle.step_table.specs.declared.entry.Entry.TheVariants.{Leave};
 ghost use Rattle.step_table.specs.declared.place.Place.TheVariants.{Rest, ReleasingMany};
 ghost use Rattle.step_table.specs.declared.place.ManyRow.TheVariants.{M3, M4, M5, M6, M7};
@@ -9,7 +10,8 @@ ghost use Rattle.sema_table.specs.ManySeats.{HasUnits};
 ghost use Rattle.sema_table.specs.Calls.{ComesTo};
 ghost use Rattle.sema_table.specs.Many.{leaves, WakesMany, IsWokenMany};
 ghost use Rattle.sema_table.specs.Walks.{Stands, Holds, Walked, Moves, HasRecord};
-ghost use Rattle.sema_table.specs.ManyWalks.{sought_many, picking, to_grant, with_hand, MayGrant, GrantedFirst, GrantedSome};
+ghost use Rattle.sema_table.specs.ManyWalks.{sought_many, picking, to_grant, with_hand, MayGrant};
+ghost use Rattle.sema_table.specs.ManyWalks.{GrantedFirst, GrantedSome};
 ghost use Rattle.sema_table.specs.CallersReleasing.{WakesSome};
 
 use crate::many_seat::OwingMany;
@@ -22,12 +24,13 @@ use std::sync::Wait;
 use step_table::{ManyRow, Place, ReleaseMany};
 use waiters::WaitId;
 
-/// The seats of the waits that a release of many units has taken out. On the stack: after the table is made no memory is taken.
+/// The seats of the waits that a release of many units has taken out. On the stack: after the table is made
+/// no memory is taken.
 type Hand = ArrayVec<u16, 256>;
 
 impl SemaTable {
-    /// The rest of a release of many units: takes out the counter's first waits, as many as units were added or fewer if there
-    /// are no more, and grants each. It answers how many those are.
+    /// The rest of a release of many units: takes out the counter's first waits, as many as units were added
+    /// or fewer if there are no more, and grants each. It answers how many those are.
     pub fn wake_some<R: Wait>(&self, rt: &R, owing: OwingMany) -> (Seat, u32)
         requires { owing.table ≡ self.now }
         ensures rows { IsWokenMany owing result.0 result.1 }
@@ -51,9 +54,11 @@ impl SemaTable {
         call: &ReleaseMany,
     ) -> (Seat, u32)
         requires seat { IsToken token numbers × (table_of token ≡ self.now) }
-        requires call { (call.now.counter < length self.now.setting.starts) × (token.me.0.own.knows.place ≡ ReleasingMany call.now M3) }
+        requires call { (call.now.counter < length self.now.setting.starts)
+            × (token.me.0.own.knows.place ≡ ReleasingMany call.now M3) }
         requires units { HasUnits call.now }
-        ensures { (result.0 ≡ record (seat_of token numbers) { sight = result.0.sight; strides = result.0.strides })
+        ensures { (result.0 ≡ record
+            (seat_of token numbers) { sight = result.0.sight; strides = result.0.strides })
             × ComesTo (seat_of token numbers) Rest result.0
             × WakesMany (seat_of token numbers) call.now result.0 result.1 }
     {
@@ -70,7 +75,8 @@ impl SemaTable {
 
     /// M4, and M5 while fewer waits than units are in hand and the counter has one more.
     fn take_waits(&self, token: &mut Token, call: &ReleaseMany, hand: &mut Hand)
-        requires seat { Holds self.now token.old (ReleasingMany call.now M4) × (token.old.me.0.own.knows.hand ≡ []) }
+        requires seat { Holds self.now token.old (ReleasingMany call.now M4)
+            × (token.old.me.0.own.knows.hand ≡ []) }
         requires hand { (hand.old.items ≡ []) × HasUnits call.now }
         ensures record { HasRecord token.new call.now.counter }
         ensures walked { Walked token.old (ReleasingMany call.now M4) token.new
@@ -101,9 +107,11 @@ impl SemaTable {
         self.words.load::<Here>(token, word) != 0
     }
 
-    /// M5 where the counter has a wait, and else nothing. All under one hold of the lock, and with the word lowered for each.
+    /// M5 where the counter has a wait, and else nothing. All under one hold of the lock, and with the word
+    /// lowered for each.
     fn take_one(&self, token: &mut Token, call: &ReleaseMany) -> Option<WaitId>
-        requires seat { Stands self.now token.old (picking token.old call.now) × HasRecord token.old call.now.counter }
+        requires seat { Stands self.now token.old (picking token.old call.now)
+            × HasRecord token.old call.now.counter }
         requires few { length token.old.me.0.own.knows.hand < call.now.units }
         ensures record { HasRecord token.new call.now.counter }
         ensures some { IfSome result (λ w.
@@ -120,10 +128,12 @@ impl SemaTable {
         Some(id)
     }
 
-    /// M6. Given back before the first waiter is told: told earlier, it would run into the lock that is still held.
+    /// M6. Given back before the first waiter is told: told earlier, it would run into the lock that is still
+    /// held.
     fn unlock_many(&self, token: &mut Token, call: &ReleaseMany)
         requires { Holds self.now token.old (ReleasingMany call.now M6) }
-        ensures walked { Moves token.old (ReleasingMany call.now M6) token.new (to_grant call.now token.old.me.0.own.knows.hand) }
+        ensures walked { Moves token.old (ReleasingMany call.now M6) token.new
+            (to_grant call.now token.old.me.0.own.knows.hand) }
         ensures bare { token.new.me.1 ≡ [] }
         ensures there { All (λ w. w.seat < self.now.setting.seats) token.new.me.0.own.knows.hand }
     {
@@ -137,7 +147,8 @@ impl SemaTable {
         requires seat { MayGrant self.now token.old call.now }
         requires seats { seats.now ≡ map (λ w. w.seat) token.old.me.0.own.knows.hand }
         requires there { All (λ w. w.seat < self.now.setting.seats) token.old.me.0.own.knows.hand }
-        ensures { GrantedSome token.old (to_grant call.now token.old.me.0.own.knows.hand) call.now token.old.me.0.own.knows.hand token.new
+        ensures { GrantedSome token.old
+            (to_grant call.now token.old.me.0.own.knows.hand) call.now token.old.me.0.own.knows.hand token.new
             (with_hand token.old Rest []) }
     {
         for seat in seats {

@@ -4,20 +4,21 @@ use Rattle.std.proofs.Common.{IsTrue, ◌↔◌, Bool, true, false}
 use Rattle.std.proofs.lemmas.Bool.{lt-ltb}
 use Rattle.step_table.specs.declared.place.Place.{Place}
 use Rattle.step_table.specs.declared.place.Place.TheVariants.{Releasing}
-use Rattle.table_names.specs.declared.refusal.StepRefused.{StepRefused}
-use Rattle.table_names.specs.declared.refusal.StepRefused.TheVariants.{NoSuchSeat}
+use Rattle.step_table.specs.declared.refusal.StepRefused.{StepRefused}
+use Rattle.step_table.specs.declared.refusal.StepRefused.TheVariants.{NoSuchSeat}
 use Rattle.step_table.specs.declared.standing.After.{After}
 use Rattle.step_table.specs.declared.standing.After.TheVariants.{NextCall, LooksAgain, Releases}
 use Rattle.step_table.specs.declared.standing.Standing.{Standing}
 use Rattle.step_table.specs.declared.standing.Standing.TheVariants.{Rest, AtCounter, AtList, AtGroup, Failed}
 use Rattle.step_core.specs.declared.turn.Turn.{Turn}
 use Rattle.step_rows.specs.Stored.{each}
-use Rattle.core_law.specs.CoreLaw.{IsCallBefore, IsStanding}
+use Rattle.step_law_whole.specs.CoreLaw.{IsCallBefore, IsStanding}
 use Rattle.step_table.specs.Core.{CoreLayout, Core}
 use Rattle.step_table.specs.CoreSteps.{can_run}
 use Rattle.step_table.specs.Run.{layout, unless, refusal_of, refusal}
 use Rattle.step_core.specs.WellFormed.{IsWellFormed, HasPast}
-use Rattle.step_core.specs.State.{Moment, State, HasSeat, HasSeatOn, HasSeatAt, HasGroup, MayGoOn, MayGo, AsksFor, IsMachineFor, IsRefusal, core_of, run_of, run_at, telling}
+use Rattle.step_core.specs.State.{Moment, State, HasSeat, HasSeatOn, HasSeatAt, HasGroup, MayGoOn, MayGo, AsksFor, IsMachineFor, IsRefusal, core_of, run_of}
+use Rattle.step_core.specs.State.{run_at, telling}
 use Rattle.step_core.proofs.Ranges.{asks_for, begun_small, change_in, well_formed_by}
 
 -- a cause is told exactly where the row can't run

@@ -13,7 +13,7 @@ use Rattle.step_rows.specs.Stored.{Semaphores, Stored, IsStoredFor, each, idle, 
 use Rattle.step_rows.specs.Stored as sema
 use Rattle.step_table.specs.ListWorld.{first_list}
 use Rattle.step_rows.specs.ListStored.{StoredList, moment_of, first_moment, world_at, world_of, ListMoment}
-use Rattle.ticket_words.specs.Wrapping.{word_of}
+use Rattle.step_table.specs.Wrapping.{word_of}
 use Rattle.step_table.specs.Group.{empty_word}
 use Rattle.step_table.specs.Core.{first_core}
 use Rattle.step_table.specs.Run.{layout}

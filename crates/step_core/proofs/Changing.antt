@@ -33,8 +33,8 @@ use Rattle.step_table.specs.CoreSteps.{stands, at_counter, releases, goes_on, af
 use Rattle.step_core.specs.State.{Machine, core_of, list_of, no_list, IsMachineFor, AreSameSize, Becomes, HasSeat}
 use Rattle.step_table.proofs.Sums.{put_here, put_else}
 use Rattle.step_rows.proofs.Storing.{each_set}
-use Rattle.core_law.proofs.CoreJournals.{sema_after, list_unchanged, sema_unchanged, list_after, other_unchanged}
-use Rattle.core_law.proofs.CoreRows.{leads_on}
+use Rattle.step_law_whole.proofs.CoreJournals.{sema_after, list_unchanged, sema_unchanged, list_after, other_unchanged}
+use Rattle.step_law_whole.proofs.CoreRows.{leads_on}
 
 no_change : (m : Semaphores) → IsSameSize m m
 no_change m = record {

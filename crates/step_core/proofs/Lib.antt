@@ -15,7 +15,7 @@ pub mod KeyNames
 pub mod KeyForms
 pub mod KeySpares
 pub mod KeyWhole
-mod BentMoving
+mod ChangedMoving
 mod Independent
 mod Finding
 pub mod ListsWriting

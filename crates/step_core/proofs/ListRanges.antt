@@ -8,13 +8,13 @@ use Rattle.step_table.specs.declared.list_place.ListPlace.{ListPlace}
 use Rattle.step_table.specs.declared.list_place.ListPlace.TheVariants.{Waiting, NotifyingAll}
 use Rattle.step_table.specs.declared.list_place.WaitRow.TheVariants.{W2, W4}
 use Rattle.step_table.specs.ListWorld.{ListWorld}
-use Rattle.list_law.specs.ListLawful.{times}
-use Rattle.list_law.specs.ListInvariant.{HandFits}
-use Rattle.list_law.specs.ListWellFormed.{asleep_on_list, IsWellFormedList}
+use Rattle.step_law_lists.specs.ListLawful.{times}
+use Rattle.step_law_lists.specs.ListInvariant.{HandFits}
+use Rattle.step_law_lists.specs.ListWellFormed.{asleep_on_list, IsWellFormedList}
 use Rattle.step_rows.specs.ListStored.{AsksAt, HasListRow}
 use Rattle.step_table.proofs.Sums.{total_has}
-use Rattle.list_law.proofs.ListPlacing.{one_here, waiter_of}
-use Rattle.list_law.proofs.ListSleeping.{room}
+use Rattle.step_law_lists.proofs.ListPlacing.{one_here, waiter_of}
+use Rattle.step_law_lists.proofs.ListSleeping.{room}
 
 nothing_held : (l : List Wait) → length l ≡ 0 → l ≡ []
 nothing_held [] empty = refl

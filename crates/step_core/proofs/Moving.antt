@@ -1,5 +1,6 @@
 -- A step of a moment is a step of the run that it shows, with each journal behind it.
-use Rattle.std.proofs.Common.{◌≡◌, ◌≢◌, ℕ, zero, suc, ◌<◌, ◌≤◌, Bool, true, false, List, [], Some, None, Option, nat_lt, cond, length, refl, sym, ap, ◌∙◌, subst, ltb-true}
+use Rattle.std.proofs.Common.{◌≡◌, ◌≢◌, ℕ, zero, suc, ◌<◌, ◌≤◌, Bool, true, false, List, [], Some, None, Option, nat_lt, cond, length, refl, sym, ap, ◌∙◌}
+use Rattle.std.proofs.Common.{subst, ltb-true}
 use Rattle.std.proofs.lemmas.Bool.{le-ltb}
 use Rattle.step_table.specs.declared.entry.Entry.{Entry}
 use Rattle.step_table.specs.declared.list_place.ListEffect.{ListEffect}
@@ -11,7 +12,7 @@ use Rattle.step_table.specs.declared.effect.Effect.TheVariants.{Nothing, Tells, 
 use Rattle.step_table.specs.declared.place.Place.{Place}
 use Rattle.step_table.specs.declared.place.Place.TheVariants.{Releasing}
 use Rattle.step_table.specs.declared.place.Place.TheVariants as on_counter
-use Rattle.table_names.specs.declared.refusal.StepRefused.TheVariants.{NoSuchSeat}
+use Rattle.step_table.specs.declared.refusal.StepRefused.TheVariants.{NoSuchSeat}
 use Rattle.step_table.specs.declared.parts.Parts.{Parts}
 use Rattle.step_table.specs.declared.standing.After.{After}
 use Rattle.step_table.specs.declared.standing.After.TheVariants.{NextCall, LooksAgain, Releases}
@@ -29,19 +30,20 @@ use Rattle.step_table.specs.Core.{CoreLayout, Core, journal_after_list}
 use Rattle.step_table.specs.CoreSteps.{can_run, releases, goes_on, after_counter, after_list, after_group, row_of_standing, core_turned}
 use Rattle.step_table.specs.Run.{Run, layout, continued, refusal_of, refusal}
 use Rattle.step_table.specs.Core.{counters_of}
-use Rattle.core_law.specs.RunInvariant.{IsSoundRun, IsSoundRunOf}
-use Rattle.alike_law.specs.declared.variant.Variant.{Variant}
-use Rattle.alike_law.specs.BentInvariant.{IsWellFormedCore, WaitersRaisedIn}
-use Rattle.alike_law.specs.Bent.{bent_stepped}
-use Rattle.alike_law.proofs.BentRuns.{bent_kept}
+use Rattle.step_law_whole.specs.RunInvariant.{IsSoundRun, IsSoundRunOf}
+use Rattle.step_law_alike.specs.declared.variant.Variant.{Variant}
+use Rattle.step_law_alike.specs.ChangedInvariant.{IsWellFormedCore, WaitersRaisedIn}
+use Rattle.step_law_alike.specs.Changed.{changed_stepped}
+use Rattle.step_law_alike.proofs.ChangedRuns.{changed_kept}
 use Rattle.step_core.specs.Stepping.{HasStepped, Steps}
 use Rattle.step_core.specs.WellFormed.{HasPast, IsSoundBy}
-use Rattle.step_core.specs.State.{Machine, AreSameSize, Moment, IsMachineFor, HasRunRow, HasBegun, GoesOn, IsRefusal, IsReady, IsReadyAt, core_of, run_with, run_of, run_at, telling, entry_of, list_entry, and_then}
+use Rattle.step_core.specs.State.{Machine, AreSameSize, Moment, IsMachineFor, HasRunRow, HasBegun, GoesOn, IsRefusal, IsReady, IsReadyAt, core_of, run_with}
+use Rattle.step_core.specs.State.{run_of, run_at, telling, entry_of, list_entry, and_then}
 use Rattle.step_rows.proofs.Storing.{get_here}
 use Rattle.step_core.proofs.Changing.{same_layout, then_all}
 use Rattle.step_core.proofs.Ranges.{well_formed_by}
 use Rattle.step_core.proofs.Asking.{said}
-use Rattle.core_law.proofs.RunSound.{is_stepped}
+use Rattle.step_law_whole.proofs.RunSound.{is_stepped}
 use Rattle.step_core.proofs.NextCalls.{still_stored}
 
 -- no row reads the journal, and so it refuses no step
@@ -224,10 +226,10 @@ module _ (m : Moment) (i : ℕ) (entry : Option Entry) (free : refusal m.parts (
     waiters = subst (λ (r : Run). WaitersRaisedIn v (counters_of (layout m.parts)) r.core.semaphores) (sym (is.run journal)) kept.1;
   }
     where
-      kept : IsSoundRunOf (IsWellFormedCore (layout m.parts)) m.parts (bent_stepped v m.parts (run_of (telling m journal)) i)
-          × WaitersRaisedIn v (counters_of (layout m.parts)) (bent_stepped v m.parts (run_of (telling m journal)) i).core.semaphores
+      kept : IsSoundRunOf (IsWellFormedCore (layout m.parts)) m.parts (changed_stepped v m.parts (run_of (telling m journal)) i)
+          × WaitersRaisedIn v (counters_of (layout m.parts)) (changed_stepped v m.parts (run_of (telling m journal)) i).core.semaphores
       kept =
-          bent_kept v m.parts (run_of (telling m journal)) i before.scenario before.run before.waiters (same_refusal m journal i ∙ free)
+          changed_kept v m.parts (run_of (telling m journal)) i before.scenario before.run before.waiters (same_refusal m journal i ∙ free)
 
 -- the moment has stepped
 module _ (m : Moment) (past : HasPast m) (i : ℕ) (entry : Option Entry) (free : refusal m.parts (run_at m) i ≡ None) (n : Machine) (now : List ℕ)

@@ -1,5 +1,6 @@
 -- A seat begins its next call; and each in turn has begun its first, which is the start.
-use Rattle.std.proofs.Common.{◌≡◌, ℕ, zero, suc, ◌+◌, ◌^◌, ◌<◌, ◌≤◌, List, [], Option, Some, None, length, set, replicate, refl, sym, ap, ◌∙◌, subst, arith, length-set}
+use Rattle.std.proofs.Common.{◌≡◌, ℕ, zero, suc, ◌+◌, ◌^◌, ◌<◌, ◌≤◌, List, [], Option, Some, None, length, set, replicate, refl, sym, ap, ◌∙◌, subst, arith}
+use Rattle.std.proofs.Common.{length-set}
 use Rattle.std.proofs.lemmas.List.{length-replicate}
 use Rattle.step_table.specs.declared.call.Call.{Call}
 use Rattle.step_table.specs.declared.call.Call.TheVariants.{Acquire, Release, ReleaseMany, Add, Wait, One, All as NotifyAll, GroupAdd, GroupWait}
@@ -9,17 +10,17 @@ use Rattle.step_table.specs.Core.{Core, first_core, counters_of}
 use Rattle.step_table.specs.CoreSteps.{calls}
 use Rattle.step_table.specs.Scenario.{IsCallOn}
 use Rattle.step_table.specs.Run.{Run, layout, call_of, begun, all_begun}
-use Rattle.core_law.specs.RunInvariant.{IsSoundRun, IsScenario, calls_of}
-use Rattle.alike_law.specs.declared.variant.Variant.{Variant}
-use Rattle.alike_law.specs.BentInvariant.{WaitersRaisedIn}
-use Rattle.alike_law.proofs.BentWaiters.{raised_first}
+use Rattle.step_law_whole.specs.RunInvariant.{IsSoundRun, IsScenario, calls_of}
+use Rattle.step_law_alike.specs.declared.variant.Variant.{Variant}
+use Rattle.step_law_alike.specs.ChangedInvariant.{WaitersRaisedIn}
+use Rattle.step_law_alike.proofs.ChangedWaiters.{raised_first}
 use Rattle.step_core.specs.State.{Machine, State, IsMachineFor, Becomes, HasBegun, MayBegin, IsSound, IsStarted, core_of, run_with}
 use Rattle.step_core.specs.WellFormed.{IsSoundBy}
 use Rattle.step_table.proofs.Sums.{put_else}
 use Rattle.step_rows.proofs.Storing.{each_set, get_here, copies}
 use Rattle.step_core.proofs.Changing.{same_layout}
 use Rattle.step_core.proofs.Ranges.{well_formed_state}
-use Rattle.core_law.proofs.RunSound.{is_started}
+use Rattle.step_law_whole.proofs.RunSound.{is_started}
 
 -- to begin a call tells nothing
 call_journal : (s : Core) (i : ℕ) (call : Call) → (calls s i call).journal ≡ s.journal

@@ -13,32 +13,32 @@ use Rattle.step_table.specs.declared.standing.Standing.TheVariants.{Rest, AtCoun
 use Rattle.step_table.specs.declared.word.Word.{Word}
 use Rattle.step_table.specs.declared.word.Word.TheVariants.{Counter, Lock, Waiters, Grant}
 use Rattle.step_table.specs.World.{Layout, SemaWorld, found, root_number}
-use Rattle.sema_law.specs.Lawful.{added, IsGrantOf, AllBounded}
+use Rattle.step_law_semaphores.specs.Lawful.{added, IsGrantOf, AllBounded}
 use Rattle.step_table.specs.Counting.{total, times, IsWithin}
-use Rattle.sema_law.specs.Invariant.{Finds, asleep}
+use Rattle.step_law_semaphores.specs.Invariant.{Finds, asleep}
 use Rattle.step_rows.specs.Stored.{Stored, HasRow, HasRowsOf, HasHand, MayMove, each, idle, words_of, root_of, row_finds, row_event}
 use Rattle.step_table.specs.ListWorld.{ListWorld}
 use Rattle.step_rows.specs.ListStored.{HasListRow, CanStep}
 use Rattle.step_rows.specs.Roots.{queued}
 use Rattle.step_table.specs.Core.{counters_of}
-use Rattle.core_law.specs.CoreLaw.{IsStanding}
+use Rattle.step_law_whole.specs.CoreLaw.{IsStanding}
 use Rattle.step_table.specs.Run.{layout}
-use Rattle.alike_law.specs.declared.variant.Variant.{Variant}
-use Rattle.alike_law.specs.declared.variant.Variant.TheVariants.{PlainLess}
-use Rattle.sema_law.specs.WellFormed.{IsWellFormedWorld}
+use Rattle.step_law_alike.specs.declared.variant.Variant.{Variant}
+use Rattle.step_law_alike.specs.declared.variant.Variant.TheVariants.{PlainLess}
+use Rattle.step_law_semaphores.specs.WellFormed.{IsWellFormedWorld}
 use Rattle.step_core.specs.WellFormed.{IsWellFormed, IsSoundBy}
 use Rattle.step_core.specs.State.{State, IsSound, AsksFor, no_list, run_of}
 use Rattle.step_table.proofs.Sums.{total_rest, total_has}
-use Rattle.core_law.proofs.RunEarly.{begun_few, all_begun_few, handed_few}
-use Rattle.sema_law.proofs.Placing.{same_here}
+use Rattle.step_law_whole.proofs.RunEarly.{begun_few, all_begun_few, handed_few}
+use Rattle.step_law_semaphores.proofs.Placing.{same_here}
 use Rattle.step_rows.proofs.Rooting.{root_within}
-use Rattle.sema_law.proofs.Bounding.{well_formed}
-use Rattle.alike_law.proofs.BentBounding.{bent_bounded}
-use Rattle.sema_law.proofs.Parking.{in_a_hand}
-use Rattle.alike_law.proofs.BentLists.{well_formed_list}
+use Rattle.step_law_semaphores.proofs.Bounding.{well_formed}
+use Rattle.step_law_alike.proofs.ChangedBounding.{changed_bounded}
+use Rattle.step_law_semaphores.proofs.Parking.{in_a_hand}
+use Rattle.step_law_alike.proofs.ChangedLists.{well_formed_list}
 use Rattle.step_core.proofs.ListRanges.{has_list_row}
 use Rattle.step_table.proofs.SumsOfSums.{total_most}
-use Rattle.sema_law.proofs.Resting.{asleep_most}
+use Rattle.step_law_semaphores.proofs.Resting.{asleep_most}
 
 grant_most : (p : Place) (g : ℕ) → IsGrantOf p g → g ≤ 2
 grant_most (Acquiring a (P turn)) g h = h
@@ -73,7 +73,7 @@ module _ (v : Variant) (m : State) (sound : IsWellFormed v m) where
   law = sound.run.core.semaphores
 
   few_words : AllBounded rows_of world
-  few_words = bent_bounded v rows_of world law sound.waiters
+  few_words = changed_bounded v rows_of world law sound.waiters
 
   pub begun_small : (k : ℕ) → each 0 m.begun k + 1 < 2 ^ 64
   begun_small k = let few = begun_few m.parts sound.scenario (run_of m) sound.run k in omega arith

@@ -4,14 +4,14 @@ use Rattle.step_table.specs.declared.parts.Parts.{Parts}
 use Rattle.step_table.specs.Run.{Run, start, stepped, refusal, after_all, reached, AllRunFrom, AllRun}
 use Rattle.step_core.specs.State.{State, run_of}
 use Rattle.step_core.specs.Stepping.{IsStepped}
-use Rattle.core_law.specs.RunInvariant.{IsScenario}
-use Rattle.core_law.specs.Misused.{AllFairFrom, IsUnmisused}
-use Rattle.core_law.specs.RunGrants.{EachStepGrantsLeast}
-use Rattle.ends_law.specs.RunWeight.{most_steps}
-use Rattle.ends_law.proofs.RunEnding.{the_run_ends}
-use Rattle.core_law.proofs.RunSound.{is_started, is_stepped}
-use Rattle.core_law.proofs.RunReading.{after_one_more, each_step_grants}
-use Rattle.core_law.proofs.GroupRuns as groups
+use Rattle.step_law_whole.specs.RunInvariant.{IsScenario}
+use Rattle.step_law_whole.specs.Misused.{AllFairFrom, IsUnmisused}
+use Rattle.step_law_whole.specs.RunGrants.{EachStepGrantsLeast}
+use Rattle.step_law_ends.specs.RunWeight.{most_steps}
+use Rattle.step_law_ends.proofs.RunEnding.{the_run_ends}
+use Rattle.step_law_whole.proofs.RunSound.{is_started, is_stepped}
+use Rattle.step_law_whole.proofs.RunReading.{after_one_more, each_step_grants}
+use Rattle.step_law_whole.proofs.GroupRuns as groups
 
 all_run_with : (parts : Parts) (run : Run) (schedule : List ℕ) (i : ℕ)
     → AllRunFrom parts run schedule → refusal parts (after_all parts run schedule) i ≡ None → AllRunFrom parts run (schedule ++ i ∷ [])

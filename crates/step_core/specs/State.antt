@@ -1,5 +1,6 @@
 -- The machine as it is stored, and the run that it shows.
-use Rattle.std.specs.Prelude.{◌≡◌, ℕ, ◌+◌, ◌^◌, ◌<◌, ◌≤◌, List, [], ◌∷◌, ◌++◌, Option, Some, None, IsTrue, length, slice_index_or}
+use Rattle.std.specs.Prelude.{◌≡◌, ℕ, ◌+◌, ◌^◌, ◌<◌, ◌≤◌, List, [], ◌∷◌, ◌++◌, Option, Some, None, IsTrue}
+use Rattle.std.specs.Prelude.{length, slice_index_or}
 use Rattle.step_table.specs.declared.call.Call.{Call}
 use Rattle.step_table.specs.declared.call.Call.TheVariants.{Add, Wait, One, All}
 use Rattle.step_table.specs.declared.entry.Entry.{Entry}
@@ -9,28 +10,29 @@ use Rattle.step_table.specs.declared.list_place.ListEffect.{ListEffect}
 use Rattle.step_table.specs.declared.list_place.ListEffect.TheVariants.{HandsOut, Grants}
 use Rattle.step_core.specs.declared.turn.Turn.{Turn}
 use Rattle.step_core.specs.declared.turn.Turn.TheVariants as turn
-use Rattle.table_names.specs.declared.refusal.StepRefused.{StepRefused}
+use Rattle.step_table.specs.declared.refusal.StepRefused.{StepRefused}
 use Rattle.step_table.specs.declared.parts.Parts.{Parts}
 use Rattle.step_table.specs.declared.standing.After.{After}
 use Rattle.step_table.specs.declared.standing.After.TheVariants.{Releases}
 use Rattle.step_table.specs.declared.standing.Standing.{Standing}
 use Rattle.step_table.specs.declared.standing.Standing.TheVariants.{Rest, AtCounter, AtList, AtGroup}
 use Rattle.step_table.specs.Journal.{Plain, plain_start, replay}
-use Rattle.step_rows.specs.Stored.{Semaphores, IsStoredFor, IsSameSize, HasRow, IsReadyFor, each, root_of, event_in, finds_in}
+use Rattle.step_rows.specs.Stored.{Semaphores, IsStoredFor, IsSameSize, HasRow, IsReadyFor, each, root_of}
+use Rattle.step_rows.specs.Stored.{event_in, finds_in}
 use Rattle.step_rows.specs.Stored as sema
 use Rattle.step_table.specs.ListWorld.{ListWorld}
-use Rattle.list_law.specs.ListGrants.{EachGrantsLeast}
+use Rattle.step_law_lists.specs.ListGrants.{EachGrantsLeast}
 use Rattle.step_rows.specs.ListStored.{StoredList, CanStep, IsListReady}
 use Rattle.step_rows.specs.ListStored as list
 use Rattle.step_table.specs.Group.{empty_word}
 use Rattle.step_table.specs.Core.{CoreLayout, Core, sema_entries, list_entries}
 use Rattle.step_table.specs.CoreSteps.{IsCoreEnd, core_turned}
-use Rattle.core_law.specs.CoreLaw.{IsCoreAtRest}
-use Rattle.core_law.specs.RunPromises.{IsLawfulRun}
+use Rattle.step_law_whole.specs.CoreLaw.{IsCoreAtRest}
+use Rattle.step_law_whole.specs.RunPromises.{IsLawfulRun}
 use Rattle.step_table.specs.Run.{Run, layout, call_of, begun, start, refusal_of, reached, AllRun}
-use Rattle.alike_law.specs.declared.variant.Variant.{Variant}
-use Rattle.core_law.specs.RunInvariant.{IsSoundRun, IsScenario}
-use Rattle.ends_law.specs.RunWeight.{most_steps}
+use Rattle.step_law_alike.specs.declared.variant.Variant.{Variant}
+use Rattle.step_law_whole.specs.RunInvariant.{IsSoundRun, IsScenario}
+use Rattle.step_law_ends.specs.RunWeight.{most_steps}
 
 -- the semaphores, the lists, the words of the groups, and what each seat is doing
 pub record Machine : Type 0 where
@@ -140,8 +142,10 @@ AsksFor h i _ = Unit {0}
 -- this is the row of a seat that does this, and it can run
 abbrev pub IsReadyAt : Machine → ℕ → Standing → Turn → Type 0
 IsReadyAt h i (AtCounter after) (turn.OnCounter next ready) =
-    (next ≡ after) × IsReadyFor h.semaphores i ready × IsTrue ((event_in h.semaphores i).can (finds_in h.semaphores i))
-IsReadyAt h i (AtList l) (turn.OnList k ready) = (k ≡ l) × (l < length h.lists) × IsListReady (each no_list h.lists l) i ready
+    (next ≡ after) × IsReadyFor h.semaphores i ready
+    × IsTrue ((event_in h.semaphores i).can (finds_in h.semaphores i))
+IsReadyAt h i (AtList l) (turn.OnList k ready) =
+    (k ≡ l) × (l < length h.lists) × IsListReady (each no_list h.lists l) i ready
 IsReadyAt h i (AtGroup g row) (turn.OnGroup k now) = (k ≡ g) × (now ≡ row) × (g < length h.groups)
 IsReadyAt h i _ _ = ⊥
 
@@ -170,7 +174,8 @@ abbrev pub run_with : Machine → List ℕ → List Entry → Run
 run_with h counts journal = record { core = core_of h journal; begun = each 0 counts }
 
 -- the seat has begun its next call, if it has one: with each journal, its run is the one in which it has
-pub record HasBegun (parts : Parts) (i : ℕ) (h : Machine) (counts : List ℕ) (k : Machine) (now : List ℕ) : Type 0 where
+pub record HasBegun (parts : Parts) (i : ℕ) (h : Machine) (counts : List ℕ) (k : Machine) (now : List ℕ)
+    : Type 0 where
   pub alike : AreSameSize h k
   pub count : length now ≡ length counts
   pub run : (journal : List Entry)
@@ -181,7 +186,8 @@ abbrev pub GoesOn : Parts → ℕ → Machine → List ℕ → Machine → List 
 GoesOn parts i h counts k now Rest = HasBegun parts i h counts k now
 GoesOn parts i h counts k now _ = (k ≡ h) × (now ≡ counts)
 
--- all that a run has at one moment but its journal, and the change of the step table by which it steps, if there is one
+-- all that a run has at one moment but its journal, and the change of the step table by which it steps, if
+-- there is one
 pub record Moment : Type 0 where
   pub parts : Parts
   pub machine : Machine
@@ -217,7 +223,8 @@ ShowsLawful m = IsLawfulRun (layout m.parts) (run_of m).core
 abbrev pub RestsAtEnd : State → Type 0
 RestsAtEnd m = IsCoreEnd (layout m.parts) (run_of m).core → IsCoreAtRest (layout m.parts) (run_of m).core
 
--- each grant of the journal is of the least ungranted ticket alone, or of all that were handed out when L5 read the wait word
+-- each grant of the journal is of the least ungranted ticket alone, or of all that were handed out when L5
+-- read the wait word
 abbrev pub TellsLeast : State → Type 0
 TellsLeast m =
     (l : ℕ) → EachGrantsLeast ((layout m.parts).firsts l) (length m.parts.calls) (list_entries l m.journal)
@@ -231,7 +238,8 @@ HasFewSteps m = (schedule : List ℕ) → AllRun m.parts schedule → run_of m �
 pub record IsSound (m : State) : Type 0 where
   pub scenario : IsScenario m.parts
   pub starts : (c : ℕ) → (layout m.parts).starts c < 2 ^ 32
-  pub stored : IsStoredFor (length m.parts.starts) m.parts.groups m.parts.roots (length m.parts.calls) m.machine.semaphores.stored
+  pub stored : IsStoredFor (length m.parts.starts) m.parts.groups m.parts.roots
+      (length m.parts.calls) m.machine.semaphores.stored
   pub machine : IsMachineFor (layout m.parts) m.machine
   pub begun : length m.begun ≡ length m.parts.calls
   pub run : IsSoundRun m.parts (run_of m)

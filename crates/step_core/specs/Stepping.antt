@@ -2,8 +2,8 @@
 use Rattle.std.specs.Prelude.{◌≡◌, ℕ, List, Option, Some, None, length}
 use Rattle.step_table.specs.declared.entry.Entry.{Entry}
 use Rattle.step_table.specs.declared.parts.Parts.{Parts}
-use Rattle.alike_law.specs.declared.variant.Variant.{Variant}
-use Rattle.alike_law.specs.Bent.{bent_stepped}
+use Rattle.step_law_alike.specs.declared.variant.Variant.{Variant}
+use Rattle.step_law_alike.specs.Changed.{changed_stepped}
 use Rattle.step_table.specs.Run.{Run, stepped}
 use Rattle.step_core.specs.State.{Machine, Moment, State, AreSameSize, and_then, run_with, run_of, telling}
 use Rattle.step_core.specs.WellFormed.{IsSoundBy}
@@ -11,11 +11,12 @@ use Rattle.step_core.specs.WellFormed.{IsSoundBy}
 -- the run after a step of seat i
 abbrev pub stepped_by : Option Variant → Parts → Run → ℕ → Run
 stepped_by None parts run i = stepped parts run i
-stepped_by (Some v) parts run i = bent_stepped v parts run i
+stepped_by (Some v) parts run i = changed_stepped v parts run i
 
--- the seat has run its row, which told this, and has begun its next call where that ended one: with each journal, its run is
--- the one after a step of the seat
-pub record HasStepped (table : Option Variant) (parts : Parts) (i : ℕ) (h : Machine) (counts : List ℕ) (k : Machine)
+-- the seat has run its row, which told this, and has begun its next call where that ended one: with each
+-- journal, its run is the one after a step of the seat
+pub record HasStepped (table : Option Variant) (parts : Parts) (i : ℕ) (h : Machine) (counts : List ℕ)
+    (k : Machine)
     (now : List ℕ) (entry : Option Entry) : Type 0 where
   pub alike : AreSameSize h k
   pub count : length now ≡ length counts
@@ -30,11 +31,12 @@ pub record IsSteppedBy (table : Option Variant) (m : State) (s : ℕ) (n : State
 abbrev pub IsStepped : State → ℕ → State → Type 0
 IsStepped m s n = IsSteppedBy None m s n
 
--- the moment steps by its table, and the step tells this: so it is with each journal behind it, and what was true of the run
--- with that stays true
+-- the moment steps by its table, and the step tells this: so it is with each journal behind it, and what was
+-- true of the run with that stays true
 pub record Steps (m : Moment) (s : ℕ) (n : Moment) (entry : Option Entry) : Type 0 where
   pub table : n.table ≡ m.table
-  pub steps : (journal : List Entry) → IsSteppedBy m.table (telling m journal) s (telling n (and_then journal entry))
+  pub steps : (journal : List Entry)
+      → IsSteppedBy m.table (telling m journal) s (telling n (and_then journal entry))
   pub sound : (journal : List Entry)
       → IsSoundBy m.table (telling m journal) → IsSoundBy m.table (telling n (and_then journal entry))
 
@@ -43,5 +45,5 @@ abbrev pub HasStep : Moment → ℕ → Moment → Type 0
 HasStep m s n = (entry : Option Entry) × Steps m s n entry
 
 -- the moment steps by a change of the table
-abbrev pub IsBent : Moment → Type 0
-IsBent m = (v : Variant) × (m.table ≡ Some v)
+abbrev pub IsChanged : Moment → Type 0
+IsChanged m = (v : Variant) × (m.table ≡ Some v)

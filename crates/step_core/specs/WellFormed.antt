@@ -1,11 +1,11 @@
 -- What is true of each run that is stored, whichever table it steps by: what rows ask for follows from it.
 use Rattle.std.specs.Prelude.{◌≡◌, ℕ, ◌<◌, ◌^◌, List, Option, Some, None, length}
 use Rattle.step_table.specs.declared.entry.Entry.{Entry}
-use Rattle.alike_law.specs.declared.variant.Variant.{Variant}
-use Rattle.alike_law.specs.BentInvariant.{IsWellFormedCore, WaitersRaisedIn}
+use Rattle.step_law_alike.specs.declared.variant.Variant.{Variant}
+use Rattle.step_law_alike.specs.ChangedInvariant.{IsWellFormedCore, WaitersRaisedIn}
 use Rattle.step_table.specs.Core.{counters_of}
 use Rattle.step_table.specs.Run.{layout}
-use Rattle.core_law.specs.RunInvariant.{IsSoundRunOf, IsScenario}
+use Rattle.step_law_whole.specs.RunInvariant.{IsSoundRunOf, IsScenario}
 use Rattle.step_rows.specs.Stored.{IsStoredFor}
 use Rattle.step_core.specs.State.{Moment, State, IsMachineFor, IsSound, run_of, telling}
 
@@ -13,7 +13,8 @@ use Rattle.step_core.specs.State.{Moment, State, IsMachineFor, IsSound, run_of, 
 pub record IsWellFormed (v : Variant) (m : State) : Type 0 where
   pub scenario : IsScenario m.parts
   pub starts : (c : ℕ) → (layout m.parts).starts c < 2 ^ 32
-  pub stored : IsStoredFor (length m.parts.starts) m.parts.groups m.parts.roots (length m.parts.calls) m.machine.semaphores.stored
+  pub stored : IsStoredFor (length m.parts.starts) m.parts.groups m.parts.roots
+      (length m.parts.calls) m.machine.semaphores.stored
   pub machine : IsMachineFor (layout m.parts) m.machine
   pub begun : length m.begun ≡ length m.parts.calls
   pub run : IsSoundRunOf (IsWellFormedCore (layout m.parts)) m.parts (run_of m)

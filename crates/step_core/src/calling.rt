@@ -67,7 +67,8 @@ impl Machine {
     pub(crate) fn settle_on_counter(&mut self, seat: SeatId, after: After)
         requires seat { HasSeat self.old seat }
         requires group { MayGoOn self.old after }
-        ensures { Becomes (λ m s. after_counter m s seat after (s.semaphores.seats seat).place) self.old self.new }
+        ensures { Becomes (λ m s. after_counter m s seat after
+            (s.semaphores.seats seat).place) self.old self.new }
     {
         if let Place::Rest = self.semaphores.place(seat) {
             self.go_on(seat, after);

@@ -1,13 +1,13 @@
 //! The sleeping layer, semaphores, notify lists and wait groups, as a pure machine of single steps.
 //!
-//! A scenario gives each seat a list of calls. Each step runs one row of the step table: one event of one word.
-//! The rows are those of Go's `semacquire1`, `semrelease1`, `notifyList` and `WaitGroup`, and those of a release of many
-//! units at once.
+//! A scenario gives each seat a list of calls. Each step runs one row of the step table: one event of one
+//! word. The rows are those of Go's `semacquire1`, `semrelease1`, `notifyList` and `WaitGroup`, and those of
+//! a release of many units at once.
 #![tactic(auto)]
 
 mod apart;
-mod bent;
 mod calling;
+mod changed;
 mod following;
 mod found;
 mod group;
@@ -22,30 +22,29 @@ mod turn;
 mod words;
 mod world;
 
-pub use alike_law::{Variant, law_of_the_alike, law_of_the_bent, law_of_the_commuting};
-pub use bent::BentWorld;
-pub use core_law::{law_of_the_core, law_of_the_runs};
-pub use ends_law::{
+pub use changed::ChangedWorld;
+pub use found::Found;
+pub use laws::{law_of_one_key, law_of_the_keys};
+pub use moment::Moment;
+pub use picture::Picture;
+pub use schedule::run;
+pub use step_law_alike::{Variant, law_of_the_alike, law_of_the_changed, law_of_the_commuting};
+pub use step_law_ends::{
     law_of_the_core_ends, law_of_the_endless_tables, law_of_the_lists_ends, law_of_the_runs_ends,
     law_of_the_semaphores_ends,
 };
-pub use found::Found;
-pub use laws::{law_of_one_key, law_of_the_keys};
-pub use list_law::{law_of_the_list_accounts, law_of_the_lists};
-pub use moment::Moment;
-pub use picture::Picture;
-pub use row_outcomes::Outcome;
-pub use scenario::Scenario;
-pub use schedule::run;
-pub use sema_law::{law_of_the_accounts, law_of_the_rows};
+pub use step_law_lists::{law_of_the_list_accounts, law_of_the_lists};
+pub use step_law_semaphores::{law_of_the_accounts, law_of_the_rows};
+pub use step_law_whole::{law_of_the_core, law_of_the_runs};
+pub use step_outcomes::Outcome;
 pub use step_rows::Caller;
+pub use step_scenario::Scenario;
 pub use step_table::{
     Acquire, AcquireRow, After, AllRow, Call, Effect, Entry, GroupId, GroupNext, GroupRow,
     GroupWord, Items, ListEffect, ListId, ListPlace, ListWord, MAX_CALLS, MAX_COUNTERS, MAX_GROUPS,
     MAX_LISTS, MAX_ROOTS, MAX_SEATS, MAX_UNITS, MIN_UNITS, ManyRow, Misuse, OneRow, Parts, Phase,
     Place, Reach, Release, ReleaseMany, ReleaseRow, Row, RunRefused, ScenarioRefused, Standing,
-    StepRefused, Ticket, WaitRow, Word,
+    StepRefused, Ticket, WaitRow, Word, less,
 };
-pub use ticket_words::less;
 pub use waiters::{CounterId, NoMemory, SeatId, WaitId};
 pub use world::World;

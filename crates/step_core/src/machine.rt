@@ -1,18 +1,19 @@
 //! The whole machine: its semaphores, its notify lists and its wait groups, and what each seat is doing.
 //!
-//! A seat's call is on one part of the machine at a time, and in all other parts the seat is at rest. Each method here is
-//! one change of the whole, and holds for every journal that may stand behind it.
+//! A seat's call is on one part of the machine at a time, and in all other parts the seat is at rest. Each
+//! method here is one change of the whole, and holds for every journal that may stand behind it.
 
 ghost use Rattle.std.specs.Prelude.{◌≡◌, ◌<◌, ◌+◌, ◌^◌, ◌++◌, ℕ, [], length, IfOk, OnOk};
 ghost use Rattle.step_table.specs.World.{put};
 ghost use Rattle.step_table.specs.Steps.{moved};
 ghost use Rattle.step_table.specs.ListSteps.{moved as moved_on_list, waiting};
 ghost use Rattle.step_table.specs.Group.{empty_word};
-ghost use Rattle.key_words.specs.Key.{joined, list_words, group_words, standing_words};
+ghost use Rattle.step_keys.specs.Key.{joined, list_words, group_words, standing_words};
 ghost use Rattle.step_core.specs.Key.{core_words, HasForm};
 ghost use Rattle.step_rows.specs.ListStored.{IsListReady, world_of};
 ghost use Rattle.step_table.specs.Core.{CoreLayout, semaphore};
-ghost use Rattle.step_table.specs.CoreSteps.{stands, at_counter, at_list, waits_on_list, releases, counter_row, list_row};
+ghost use Rattle.step_table.specs.CoreSteps.{stands, at_counter, at_list, waits_on_list, releases};
+ghost use Rattle.step_table.specs.CoreSteps.{counter_row, list_row};
 ghost use Rattle.step_table.specs.Scenario.{IsWithinLimits};
 ghost use Rattle.step_core.specs.State.{Becomes, IsMachineFor, HasSeat, HasListSeat, no_list, core_of};
 ghost use Rattle.step_rows.specs.Stored.{each, IsReadyFor};
@@ -20,8 +21,8 @@ ghost use Rattle.step_rows.specs.Stored.{each, IsReadyFor};
 mod knowing;
 mod renaming;
 
-use key_words::{write_group, write_standing};
 use std::marker::Model;
+use step_keys::{write_group, write_standing};
 use step_rows::{ListMachine, ListReady, Ready, Semaphores};
 use step_table::{
     After, GroupId, GroupWord, ListId, ListPlace, Parts, Place, Release, ReleaseRow, Standing,
@@ -78,7 +79,10 @@ impl Machine {
     /// The seat stands at this place on the list.
     pub fn move_on_list(&mut self, seat: SeatId, list: ListId, place: ListPlace)
         requires { HasListSeat self.old list seat }
-        ensures { Becomes (λ m s. record s { lists = put s.lists list (moved_on_list (s.lists list) seat place) })
+        ensures { Becomes (λ m s. record s {
+          lists = put s.lists list
+              (moved_on_list (s.lists list) seat place);
+        })
             self.old self.new }
     {
         self.lists[list.number() as usize].begin(seat, place);
@@ -87,7 +91,10 @@ impl Machine {
     /// The seat waits with the ticket of the list that it holds.
     fn wait_with_ticket(&mut self, seat: SeatId, list: ListId)
         requires { HasListSeat self.old list seat }
-        ensures { Becomes (λ m s. record s { lists = put s.lists list (waiting (s.lists list) seat) }) self.old self.new }
+        ensures { Becomes (λ m s. record s {
+          lists = put s.lists list
+              (waiting (s.lists list) seat);
+        }) self.old self.new }
     {
         self.lists[list.number() as usize].begin_wait(seat);
     }
@@ -174,7 +181,8 @@ impl Machine {
 
     /// Writes the words of each list, of which there are so many.
     fn write_lists(&self, key: &mut Vec<u64>) -> Result<(), NoMemory>
-        requires { (l : ℕ) → l < length self.now.lists → length (each no_list self.now.lists l).seats < 2 ^ 16 }
+        requires { (l : ℕ) → l < length self.now.lists
+            → length (each no_list self.now.lists l).seats < 2 ^ 16 }
         ensures { OnOk result (key.new.items ≡ key.old.items ++ joined (length self.now.lists)
             (λ l. list_words (length (each no_list self.now.lists l).seats) (world_of (each no_list self.now.lists l) []))) }
     {

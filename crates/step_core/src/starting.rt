@@ -12,9 +12,9 @@ ghost use Rattle.step_table.specs.declared.standing.Standing.TheVariants.{Rest};
 
 use crate::group::EMPTY;
 use crate::machine::Machine;
-use scenario::Scenario;
 use std::alloc::{AllocError, Global};
 use step_rows::{ListMachine, Semaphores, copy_items};
+use step_scenario::Scenario;
 use step_table::{GroupWord, Standing};
 use waiters::NoMemory;
 
@@ -76,7 +76,8 @@ impl Machine {
     /// The machine before any call has begun. All memory of a run is taken here.
     pub(crate) fn new(alloc: Global, scenario: &Scenario) -> Result<Machine, NoMemory>
         ensures shape { IfOk result (λ h. IsMachineFor (layout scenario.now) h) }
-        ensures stored { IfOk result (λ h. IsStoredFor (length scenario.now.starts) scenario.now.groups scenario.now.roots
+        ensures stored { IfOk result
+            (λ h. IsStoredFor (length scenario.now.starts) scenario.now.groups scenario.now.roots
             (length scenario.now.calls) h.semaphores.stored) }
         ensures core { IfOk result (λ h. core_of h [] ≡ first_core (layout scenario.now)) }
     {
@@ -103,7 +104,8 @@ impl Machine {
         })
     }
 
-    /// Becomes as the other is, in the memory that it has. Memory is taken where that has other lists, roots or seats.
+    /// Becomes as the other is, in the memory that it has. Memory is taken where that has other lists, roots
+    /// or seats.
     pub(crate) fn copy_from(&mut self, alloc: Global, other: &Machine) -> Result<(), NoMemory>
         ensures { OnOk result (self.new ≡ other.now) }
     {

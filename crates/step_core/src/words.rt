@@ -4,7 +4,7 @@ ghost use Rattle.std.specs.Prelude.{◌≡◌, ◌<◌, List, [], length, map, I
 ghost use Rattle.step_table.specs.declared.entry.Entry.{Entry as Told};
 ghost use Rattle.step_table.specs.Group.{empty_word};
 ghost use Rattle.step_table.specs.ListWorld.{found};
-ghost use Rattle.row_outcomes.specs.ListOutcomes.{HasListWord};
+ghost use Rattle.step_outcomes.specs.ListOutcomes.{HasListWord};
 ghost use Rattle.step_core.specs.Picture.{ticket_of};
 ghost use Rattle.step_core.specs.State.{core_of, no_list, HasListSeat};
 ghost use Rattle.step_rows.specs.Stored.{each};
@@ -19,7 +19,8 @@ impl Machine {
     pub(crate) fn list_number(&self, list: ListId, word: &ListWord) -> u64
         requires list { list < length self.now.lists }
         requires word { HasListWord (length (each no_list self.now.lists list).seats) word.now }
-        ensures { (journal : List Told) → result ≡ found ((core_of self.now journal).lists list).words word.now }
+        ensures { (journal : List Told)
+            → result ≡ found ((core_of self.now journal).lists list).words word.now }
     {
         self.lists[list.number() as usize].read(word)
     }
@@ -36,7 +37,8 @@ impl Machine {
     /// The ticket of the list that the seat holds or waits with.
     pub(crate) fn ticket(&self, list: ListId, seat: SeatId) -> Option<Ticket>
         requires { HasListSeat self.now list seat }
-        ensures { (journal : List Told) → result ≡ ticket_of (((core_of self.now journal).lists list).seats seat) }
+        ensures { (journal : List Told)
+            → result ≡ ticket_of (((core_of self.now journal).lists list).seats seat) }
     {
         let list = &self.lists[list.number() as usize];
         match list.place(seat) {
@@ -48,7 +50,8 @@ impl Machine {
     /// How many tickets of the list were handed out.
     pub(crate) fn handed_out(&self, list: ListId) -> u64
         requires { list < length self.now.lists }
-        ensures { (journal : List Told) → result ≡ ((core_of self.now journal).lists list).words.numbers.handed }
+        ensures { (journal : List Told)
+            → result ≡ ((core_of self.now journal).lists list).words.numbers.handed }
     {
         self.lists[list.number() as usize].handed()
     }
@@ -56,7 +59,8 @@ impl Machine {
     /// How many tickets of the list are granted.
     pub(crate) fn granted(&self, list: ListId) -> u64
         requires { list < length self.now.lists }
-        ensures { (journal : List Told) → result ≡ ((core_of self.now journal).lists list).words.numbers.granted }
+        ensures { (journal : List Told)
+            → result ≡ ((core_of self.now journal).lists list).words.numbers.granted }
     {
         self.lists[list.number() as usize].granted()
     }

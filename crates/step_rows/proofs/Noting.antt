@@ -1,5 +1,6 @@
 -- A notify list after each of its changes, as a clause sees it.
-use Rattle.std.proofs.Common.{◌≡◌, ℕ, ◌+◌, ◌<◌, List, [], ◌∷◌, ◌++◌, length, set, slice_get, get_or, drop, Option, Some, None, refl, sym, ap, ◌∙◌, subst, arith, length-set, append-nil, Bool, true, false, if◌then◌else◌, ◌==◌}
+use Rattle.std.proofs.Common.{◌≡◌, ℕ, ◌+◌, ◌<◌, List, [], ◌∷◌, ◌++◌, length, set, slice_get, get_or, drop, Option, Some, None, refl, sym, ap, ◌∙◌, subst, arith}
+use Rattle.std.proofs.Common.{length-set, append-nil, Bool, true, false, if◌then◌else◌, ◌==◌}
 use Rattle.std.specs.Prelude.{unwrap_or, OnSome, IfNone}
 use Rattle.std.proofs.lemmas.List.{length-map, length_push}
 use Rattle.std.proofs.lemmas.Option.{slice_get-get_or}
@@ -20,7 +21,8 @@ use Rattle.step_table.specs.World.{put}
 use Rattle.step_table.specs.ListWorld.{ListEntry, written, one_or_none}
 use Rattle.step_table.specs.ListSteps.{with_ticket, waiting}
 use Rattle.step_rows.specs.ListStored.{StoredList, ListMoment, moment_of, world_at, world_of, seat_of, stored_seat, seats_in, placed, made, waits_in, AreLists}
-use Rattle.step_rows.proofs.Handing.{put_self, shown, grants_in, grants_shown, seat_at, grant_at, seats_set, grants_set, are_set, queue_kept, seats_hand, are_hand, are_swapped, queue_here, seats_queue, are_queue}
+use Rattle.step_rows.proofs.Handing.{put_self, shown, grants_in, grants_shown, seat_at, grant_at, seats_set, grants_set, are_set, queue_kept, seats_hand}
+use Rattle.step_rows.proofs.Handing.{are_hand, are_swapped, queue_here, seats_queue, are_queue}
 
 -- the moment that the fields tell
 abbrev pub told : Inside → ListMoment

@@ -1,5 +1,6 @@
 -- A notify list at its start: the hands are opened one after the other, and all lists are empty.
-use Rattle.std.proofs.Common.{◌≡◌, ◌≢◌, ℕ, zero, suc, ◌+◌, ◌<◌, ◌^◌, ◌⊎◌, inl, inr, List, [], ◌∷◌, ◌++◌, length, slice_get, Option, Some, None, refl, sym, ap, ◌∙◌, subst, arith}
+use Rattle.std.proofs.Common.{◌≡◌, ◌≢◌, ℕ, zero, suc, ◌+◌, ◌<◌, ◌^◌, ◌⊎◌, inl, inr, List, [], ◌∷◌, ◌++◌, length, slice_get, Option, Some, None, refl, sym, ap}
+use Rattle.std.proofs.Common.{◌∙◌, subst, arith}
 use native.Mathlib.Decide.{ℕ_discrete}
 use mathlib.Core.Path.{fun_ext}
 use Rattle.std.specs.Option.{option_map}
@@ -11,7 +12,7 @@ use Rattle.step_table.specs.declared.list_place.ListPlace.TheVariants.{Rest}
 use Rattle.step_rows.specs.declared.list_machine.ListMachine.TheInside.{Inside}
 use Rattle.step_rows.specs.declared.list_machine.SeatRecord.{SeatRecord}
 use Rattle.step_rows.specs.contracts.list_machine.ListMachine.{the_view}
-use Rattle.ticket_words.specs.Wrapping.{word_of}
+use Rattle.step_table.specs.Wrapping.{word_of}
 use Rattle.step_rows.specs.ListStored.{moment_of, first_moment, seat_of, stored_seat, seats_in, AreLists, AreFresh}
 use Rattle.step_table.proofs.Sums.{nothing}
 use Rattle.step_rows.proofs.Handing.{grant_in}

@@ -1,7 +1,7 @@
 -- A row puts a wait into a list only at A7, and into a hand only at R5 and M5, where one fits; and its word is stored.
 use Rattle.std.proofs.Common.{ℕ, ◌+◌, ◌==◌, length, Bool, true, false, if◌then◌else◌, List, [], ◌∷◌, Option, Some, None, IfSome, subst, sym}
 use Rattle.waiters.specs.declared.wait.WaitId.{WaitId}
-use Rattle.row_outcomes.specs.declared.outcome.Outcome.{Outcome}
+use Rattle.step_outcomes.specs.declared.outcome.Outcome.{Outcome}
 use Rattle.step_table.specs.declared.place.AcquireRow.TheVariants.{A2, A6, A7, A11}
 use Rattle.step_table.specs.declared.place.ReleaseRow.TheVariants.{R5, R8}
 use Rattle.step_table.specs.declared.place.ManyRow.TheVariants.{M5}
@@ -10,7 +10,7 @@ use Rattle.step_table.specs.declared.place.Place.TheVariants.{Rest, Acquiring, R
 use Rattle.step_table.specs.World.{SeatState}
 use Rattle.step_table.specs.Event.{Next, by_first}
 use Rattle.step_table.specs.Table.{event_at}
-use Rattle.row_outcomes.specs.Outcomes.{Does, IsWordWithin}
+use Rattle.step_outcomes.specs.Outcomes.{Does, IsWordWithin}
 use Rattle.step_table.specs.declared.word.Word.{Word}
 use Rattle.step_table.specs.declared.word.Word.TheVariants.{Counter, Lock, Waiters, Grant}
 use Rattle.step_rows.specs.Stored.{Stored, HasSeat, MayMove, HasRowsOf, HasWord}

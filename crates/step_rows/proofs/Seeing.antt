@@ -6,12 +6,12 @@ use Rattle.step_table.specs.declared.place.Place.{Place}
 use Rattle.step_table.specs.declared.place.Place.TheVariants.{Rest, Acquiring, Releasing, ReleasingMany}
 use Rattle.step_table.specs.declared.place.ReleaseRow.TheVariants.{R1}
 use Rattle.step_table.specs.declared.place.ManyRow.TheVariants.{M1}
-use Rattle.row_outcomes.specs.declared.outcome.Outcome.{Outcome}
+use Rattle.step_outcomes.specs.declared.outcome.Outcome.{Outcome}
 use Rattle.step_table.specs.declared.word.Word.{Word}
 use Rattle.step_table.specs.World.{Words, found}
 use Rattle.step_table.specs.Event.{Event}
 use Rattle.step_table.specs.Table.{event_at}
-use Rattle.row_outcomes.specs.Outcomes.{Does}
+use Rattle.step_outcomes.specs.Outcomes.{Does}
 use Rattle.step_rows.specs.Stored.{hand_seen, lists_seen, seat_of}
 
 module _ (s : ℕ) (caller : Caller) (hand : List WaitId) (lists : ℕ → List WaitId) where

@@ -1,5 +1,6 @@
 -- A stored list that is written at one place shows the function with that one value changed.
-use Rattle.std.proofs.Common.{[], ◌∷◌, zero, suc, Some, slice_get, ap, ◌≡◌, ◌≢◌, Bool, ℕ, ◌<◌, List, length, get_or, set, sym, refl, subst, ◌∙◌, get_or-set_same, get_or-set_other, length-set, replicate, arith}
+use Rattle.std.proofs.Common.{[], ◌∷◌, zero, suc, Some, slice_get, ap, ◌≡◌, ◌≢◌, Bool, ℕ, ◌<◌, List, length, get_or, set, sym, refl, subst, ◌∙◌}
+use Rattle.std.proofs.Common.{get_or-set_same, get_or-set_other, length-set, replicate, arith}
 use Rattle.std.proofs.lemmas.List.{get_or-replicate, get_or_past, length-replicate}
 use native.Mathlib.Decide.{ℕ_discrete, dec_lt}
 use mathlib.Core.Path.{fun_ext}

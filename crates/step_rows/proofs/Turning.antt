@@ -3,7 +3,7 @@ use Rattle.std.proofs.Common.{◌≡◌, ℕ, ◌+◌, Bool, true, false, if◌t
 use Rattle.std.proofs.lemmas.Bool.{le-ltb}
 use Rattle.waiters.specs.declared.wait.Wait.{Wait}
 use Rattle.waiters.specs.Lists.{first_with}
-use Rattle.row_outcomes.specs.declared.list_outcome.ListOutcome.{ListOutcome}
+use Rattle.step_outcomes.specs.declared.list_outcome.ListOutcome.{ListOutcome}
 use Rattle.step_table.specs.declared.list_place.AllRow.TheVariants.{L6, L7}
 use Rattle.step_table.specs.declared.list_place.ListEffect.{ListEffect}
 use Rattle.step_table.specs.declared.list_place.ListEffect.TheVariants.{Nothing, Grants}
@@ -19,7 +19,7 @@ use Rattle.step_table.specs.ListEvent.{ListNext, ListEvent, by_found}
 use Rattle.step_table.specs.ListTable.{list_event_at}
 use Rattle.step_table.specs.ListSteps.{event_of, finds, turned, seat_after, ListTurn}
 use Rattle.step_rows.specs.ListStored.{ListMoment, world_at, HasListRow, AsksAt, Allows, made, placed}
-use Rattle.row_outcomes.specs.ListOutcomes.{IsListOutcome}
+use Rattle.step_outcomes.specs.ListOutcomes.{IsListOutcome}
 use Rattle.step_table.proofs.Sums.{put_here}
 use Rattle.step_rows.proofs.Handing.{put_put}
 

@@ -15,14 +15,14 @@ use Rattle.step_table.specs.declared.list_place.Ticket.{Ticket}
 use Rattle.step_table.specs.declared.list_place.WaitRow.TheVariants.{W2, W4}
 use Rattle.step_rows.specs.declared.ready.ListReady.{ListReady}
 use Rattle.step_rows.specs.declared.list_machine.SeatRecord.{SeatRecord}
-use Rattle.table_names.specs.declared.refusal.StepRefused.{StepRefused}
-use Rattle.table_names.specs.declared.refusal.StepRefused.TheVariants.{LockHeld, Asleep}
+use Rattle.step_table.specs.declared.refusal.StepRefused.{StepRefused}
+use Rattle.step_table.specs.declared.refusal.StepRefused.TheVariants.{LockHeld, Asleep}
 use Rattle.step_table.specs.Counting.{total}
 use Rattle.step_table.specs.World.{put}
 use Rattle.step_table.specs.ListWorld.{ListWords, ListSeat, ListEntry, ListWorld, numbers_after}
 use Rattle.step_table.specs.ListWorld.{queue_after, hand_after, ticket_after, journal_after, first_list}
 use Rattle.step_table.specs.ListSteps.{event_of, finds, effect_of, can_turn, ListTurn}
-use Rattle.row_outcomes.specs.ListOutcomes.{IsListOutcome, HasListWord}
+use Rattle.step_outcomes.specs.ListOutcomes.{IsListOutcome, HasListWord}
 
 -- a list as it is stored, with a record for each seat
 pub record StoredSeat : Type 0 where
@@ -84,7 +84,8 @@ first_moment first seats =
 
 -- a seat's record, with the waits under the key of its hand
 abbrev pub stored_seat : Lists → SeatRecord → StoredSeat
-stored_seat waits s = record { place = s.place; ticket = s.ticket; grant = s.grant; hand = waits_at waits s.hand }
+stored_seat waits s =
+    record { place = s.place; ticket = s.ticket; grant = s.grant; hand = waits_at waits s.hand }
 
 -- the seats whose records and waits these are
 abbrev pub seats_in : Lists → List SeatRecord → ℕ → ListSeat
@@ -99,15 +100,18 @@ pub record AreLists (waits : Lists) (queue : ℕ) (seats : List SeatRecord) : Ty
   pub open_queue : IsOpen waits queue
   pub open_hand : (k : ℕ) (s : SeatRecord) → slice_get seats k ≡ Some s → IsOpen waits s.hand
   pub apart : (k : ℕ) (s : SeatRecord) → slice_get seats k ≡ Some s → s.hand ≢ queue
-  pub different : (k l : ℕ) (s t : SeatRecord) → slice_get seats k ≡ Some s → slice_get seats l ≡ Some t → k ≢ l
+  pub different : (k l : ℕ) (s t : SeatRecord) → slice_get seats k ≡ Some s → slice_get seats l ≡ Some t
+      → k ≢ l
       → s.hand ≢ t.hand
-  pub room : waits.room + length (waits_at waits queue) + held (length seats) (seats_in waits seats) ≡ length seats
+  pub room : waits.room + length (waits_at waits queue) + held (length seats) (seats_in waits seats)
+      ≡ length seats
 
 -- how many waits are in the list and in hands
 abbrev pub waits_in : ℕ → ListWords → (ℕ → ListSeat) → ℕ
 waits_in seats g stand = length g.queue + held seats stand
 
--- what the row at this place asks for: that the ticket isn't late, that its wait fits, or that the hand is empty
+-- what the row at this place asks for: that the ticket isn't late, that its wait fits, or that the hand is
+-- empty
 abbrev pub AsksAt : ℕ → ListWords → (ℕ → ListSeat) → ListSeat → ListPlace → Type 0
 AsksAt seats g stand seat (Waiting t W2) = g.numbers.granted ≤ t.number + 2 ^ 63
 AsksAt seats g stand seat (Waiting t W4) = waits_in seats g stand < seats
@@ -155,10 +159,12 @@ Allows l i (Queues w) = waits_in l.count l.words l.seats < l.count
 Allows l i TakesAll = (l.seats i).hand ≡ []
 Allows l i _ = Unit {0}
 
--- seat i has run its row, with this effect: the world with any journal has turned, and the journal tells the effect
+-- seat i has run its row, with this effect: the world with any journal has turned, and the journal tells the
+-- effect
 pub record IsListTurned (l : StoredList) (i : ℕ) (effect : ListEffect) (m : StoredList) : Type 0 where
   pub effect_is : effect ≡ effect_of (world_of l []) i
-  pub turn : (journal : List ListEntry) → ListTurn (world_of l journal) i (world_of m (journal_after i effect journal))
+  pub turn : (journal : List ListEntry)
+      → ListTurn (world_of l journal) i (world_of m (journal_after i effect journal))
   pub count : length m.seats ≡ length l.seats
 
 -- the row of seat i can run of which this is the word and the outcome
@@ -173,13 +179,16 @@ pub record IsListRefusedBy (cause : StepRefused) (l : StoredList) (i : ℕ) : Ty
   pub cannot : IsTrue (can_turn (world_of l []) i) → ⊥
   pub is : cause ≡ list_refused_by (event_of (world_of l []) i).word
 
--- so many seats at rest, each with an empty list of its own that wasn't open before, and the other lists as they were
+-- so many seats at rest, each with an empty list of its own that wasn't open before, and the other lists as
+-- they were
 pub record AreFresh (old new : Lists) (seats : List SeatRecord) (count : ℕ) : Type 0 where
   pub count_is : length seats ≡ count
-  pub rest : (k : ℕ) (s : SeatRecord) → slice_get seats k ≡ Some s → (s.place ≡ Rest) × (s.ticket ≡ None) × (s.grant ≡ 0)
+  pub rest : (k : ℕ) (s : SeatRecord) → slice_get seats k ≡ Some s
+      → (s.place ≡ Rest) × (s.ticket ≡ None) × (s.grant ≡ 0)
   pub empty : (k : ℕ) (s : SeatRecord) → slice_get seats k ≡ Some s → list_at new s.hand ≡ Some []
   pub closed : (k : ℕ) (s : SeatRecord) → slice_get seats k ≡ Some s → list_at old s.hand ≡ None
-  pub different : (k l : ℕ) (s t : SeatRecord) → slice_get seats k ≡ Some s → slice_get seats l ≡ Some t → k ≢ l
+  pub different : (k l : ℕ) (s t : SeatRecord) → slice_get seats k ≡ Some s → slice_get seats l ≡ Some t
+      → k ≢ l
       → s.hand ≢ t.hand
   pub kept : (key : ℕ) → IsOpen old key → list_at new key ≡ list_at old key
   pub room : new.room ≡ old.room

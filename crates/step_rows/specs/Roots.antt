@@ -41,7 +41,8 @@ held_in root = held.total (queues_of root.tree)
 pub record AreRoots (place : ℕ → ℕ) (roots : List Treap) (counters seats : ℕ) : Type 0 where
   pub placed : (c : ℕ) → c < counters → place c < length roots
   pub seats_in : (r : ℕ) → r < length roots → (root_at roots r).seats ≡ seats
-  pub counted : total counters (λ c. length (ids_at place roots c)) ≡ total (length roots) (λ r. held_in (root_at roots r))
+  pub counted : total counters (λ c. length (ids_at place roots c))
+      ≡ total (length roots) (λ r. held_in (root_at roots r))
 
 -- so many roots, with nobody in them
 pub record AreEmpty (roots : List Treap) (number seats : ℕ) : Type 0 where

@@ -1,5 +1,6 @@
 -- The semaphores as they are stored, and their world.
-use Rattle.std.specs.Prelude.{◌≡◌, ℕ, ◌+◌, ◌^◌, ◌<◌, List, [], ◌++◌, Option, Some, None, length, slice_get, slice_index_or, IfSome, IsTrue, replicate}
+use Rattle.std.specs.Prelude.{◌≡◌, ℕ, ◌+◌, ◌^◌, ◌<◌, List, [], ◌++◌, Option, Some, None, length, slice_get}
+use Rattle.std.specs.Prelude.{slice_index_or, IfSome, IsTrue, replicate}
 use Rattle.std.specs.Prelude.{Bool, true, false, cond, ◌==◌, nat_lt}
 use Rattle.waiters.specs.declared.wait.WaitId.{WaitId}
 use Rattle.step_rows.specs.declared.caller.Caller.{Caller}
@@ -9,8 +10,8 @@ use Rattle.step_table.specs.declared.entry.Entry.{Entry}
 use Rattle.step_table.specs.declared.entry.Entry.TheVariants.{Queue, Leave}
 use Rattle.step_table.specs.declared.effect.Effect.{Effect}
 use Rattle.step_table.specs.declared.effect.Effect.TheVariants.{Tells}
-use Rattle.table_names.specs.declared.refusal.StepRefused.{StepRefused}
-use Rattle.table_names.specs.declared.refusal.StepRefused.TheVariants.{LockHeld, Asleep}
+use Rattle.step_table.specs.declared.refusal.StepRefused.{StepRefused}
+use Rattle.step_table.specs.declared.refusal.StepRefused.TheVariants.{LockHeld, Asleep}
 use Rattle.step_table.specs.declared.place.AcquireRow.TheVariants.{A7}
 use Rattle.step_table.specs.declared.place.ReleaseRow.TheVariants.{R4, R5, R6, R8, R9, R10}
 use Rattle.step_table.specs.declared.place.ManyRow.TheVariants.{M4, M5, M6, M7}
@@ -19,20 +20,21 @@ use Rattle.step_table.specs.declared.place.Place.TheVariants.{Rest, Acquiring, R
 use Rattle.step_rows.specs.declared.ready.Ready.{Ready}
 use Rattle.step_table.specs.declared.word.Word.{Word}
 use Rattle.step_table.specs.declared.word.Word.TheVariants.{Counter, Lock, Waiters, Grant}
-use Rattle.step_table.specs.World.{Words, SeatState, SemaWorld, root_number, put, found, lists_after, journal_after, turn_after, hand_after}
+use Rattle.step_table.specs.World.{Words, SeatState, SemaWorld, root_number, put, found, lists_after}
+use Rattle.step_table.specs.World.{journal_after, turn_after, hand_after}
 use Rattle.step_table.specs.Event.{Event}
 use Rattle.step_table.specs.Table.{event_at}
 use Rattle.step_table.specs.Steps.{words_after, event_of, finds, turned, moved}
 use Rattle.step_table.specs.Counting.{IsWithin}
 use Rattle.step_rows.specs.Roots.{queued}
-use Rattle.row_outcomes.specs.Outcomes.{IsOutcome, HasRoom}
+use Rattle.step_outcomes.specs.Outcomes.{IsOutcome, HasRoom}
 
 -- the elements of a list by their places, and d past its end
 abbrev pub each : {A : Type 0} → A → List A → ℕ → A
 each d l = λ i. slice_index_or l i d
 
--- how many counters are no group's and how many roots those have; and the words, lists and hands as they are stored:
--- by counter, by root and by seat
+-- how many counters are no group's and how many roots those have; and the words, lists and hands as they are
+-- stored: by counter, by root and by seat
 pub record Stored : Type 0 where
   pub own : ℕ
   pub roots : ℕ
@@ -101,7 +103,8 @@ HandBecomes h s hand k = Becomes h (words_of h) (put (hands_of h) s hand) k
 -- lists and the hand of the seat have changed as the effect says
 abbrev pub Makes : Effect → ℕ → Stored → Stored → Type 0
 Makes e s h k =
-    Becomes h (record (words_of h) { lists = lists_after e (words_of h).lists }) (put (hands_of h) s (hand_after e (hands_of h s))) k
+    Becomes h (record (words_of h) { lists = lists_after e (words_of h).lists })
+    (put (hands_of h) s (hand_after e (hands_of h s))) k
 
 -- a seat that has queued nothing
 abbrev pub idle : Caller
@@ -121,7 +124,8 @@ pub record Semaphores : Type 0 where
 
 -- their world, with this journal
 abbrev pub world_of : Semaphores → List Entry → SemaWorld
-world_of m journal = record { words = words_of m.stored; seats = seats_of m.callers m.stored.hands; journal = journal }
+world_of m journal =
+    record { words = words_of m.stored; seats = seats_of m.callers m.stored.hands; journal = journal }
 
 -- the words are those of so many counters, with one for each group, roots, with one for each group, and seats
 pub record IsStoredFor (own groups roots seats : ℕ) (h : Stored) : Type 0 where
@@ -239,11 +243,14 @@ pub record IsReady (h : Stored) (s : ℕ) (ready : Ready) : Type 0 where
   pub room : HasRoom (length h.lists) ready.outcome.effect
   pub fits : HasSeat h ready.outcome.effect
   pub word : ready.word ≡ (row_event s ready.caller h (hands_of h s)).word
-  pub does : IsOutcome (row_event s ready.caller h (hands_of h s)) (row_finds s ready.caller h (hands_of h s)) ready.outcome
+  pub does : IsOutcome (row_event s ready.caller h (hands_of h s))
+      (row_finds s ready.caller h (hands_of h s)) ready.outcome
 
--- the row of the seat ran: words, lists and hands, its effect, and where it stands next, are those of its event
+-- the row of the seat ran: words, lists and hands, its effect, and where it stands next, are those of its
+-- event
 pub record HasRun
-    (s : ℕ) (caller : Caller) (h : Stored) (hand : List WaitId) (effect : Effect) (k : Stored) (next : Caller) : Type 0 where
+    (s : ℕ) (caller : Caller) (h : Stored) (hand : List WaitId) (effect : Effect) (k : Stored)
+    (next : Caller) : Type 0 where
   pub can : IsTrue ((row_event s caller h hand).can (row_finds s caller h hand))
   pub place : next.place ≡ ((row_event s caller h hand).leads (row_finds s caller h hand)).0
   pub turn : next.turn ≡ turn_after effect caller.turn
@@ -293,7 +300,8 @@ finds_in m s = finds (root_of m.stored) (world_of m []) s
 -- seat s has run its row, which had this effect: with each journal its world has turned
 pub record HasTurned (m : Semaphores) (s : ℕ) (effect : Effect) (n : Semaphores) : Type 0 where
   pub effect_is : effect ≡ ((event_in m s).leads (finds_in m s)).1
-  pub world : (journal : List Entry) → world_of n (journal_after effect journal) ≡ turned (root_of m.stored) (world_of m journal) s
+  pub world : (journal : List Entry)
+      → world_of n (journal_after effect journal) ≡ turned (root_of m.stored) (world_of m journal) s
   pub alike : IsSameSize m n
 
 -- seat s stands at another place

@@ -1,18 +1,21 @@
 //! A seat of a scenario, and the row that it runs next.
 
-ghost use Rattle.std.specs.Prelude.{◌≡◌, ◌≢◌, ◌<◌, ◌+◌, ◌^◌, ◌↔◌, ℕ, IsTrue, List, length, map, slice_get, IfOk, IfSome};
+ghost use Rattle.std.specs.Prelude.{◌≡◌, ◌≢◌, ◌<◌, ◌+◌, ◌^◌, ◌↔◌, ℕ, IsTrue, List, length, map, slice_get};
+ghost use Rattle.std.specs.Prelude.{IfOk, IfSome};
 ghost use Rattle.std.specs.List.{range_with_len};
 ghost use Rattle.waiters.specs.declared.wait.WaitId.{WaitId};
 ghost use Rattle.step_table.specs.World.{turn_after};
 ghost use Rattle.step_table.specs.Table.{event_at};
-ghost use Rattle.row_outcomes.specs.Outcomes.{HasRoom, Does};
-ghost use Rattle.step_rows.specs.Stored.{Stored, HasRowsOf, HasWord, IsListed, IsQueue, seat_of, words_of, idle};
-ghost use Rattle.step_rows.specs.Stored.{row_event, row_finds, lets_through, hands_of, hand_seen, lists_seen, HasGuard};
+ghost use Rattle.step_outcomes.specs.Outcomes.{HasRoom, Does};
+ghost use Rattle.step_rows.specs.Stored.{Stored, HasRowsOf, HasWord, IsListed, IsQueue, seat_of, words_of};
+ghost use Rattle.step_rows.specs.Stored.{idle};
+ghost use Rattle.step_rows.specs.Stored.{row_event, row_finds, lets_through, hands_of, hand_seen, lists_seen};
+ghost use Rattle.step_rows.specs.Stored.{HasGuard};
 ghost use Rattle.step_table.specs.Counting.{IsWithin};
 
 use crate::sema_store::SemaStore;
-use row_outcomes::{Outcome, Sight, acquire, release, release_many};
 use std::alloc::{AllocError, Global};
+use step_outcomes::{Outcome, Sight, acquire, release, release_many};
 use step_table::{AcquireRow, Effect, Entry, ManyRow, Place, ReleaseRow, Word};
 use waiters::{CounterId, SeatId, WaitId};
 
@@ -77,13 +80,15 @@ impl Caller {
         }
     }
 
-    /// What the row at which the seat stands sees. The list and the hand are looked up where that row looks at them
-    /// alone, and are empty to it elsewhere.
+    /// What the row at which the seat stands sees. The list and the hand are looked up where that row looks
+    /// at them alone, and are empty to it elsewhere.
     pub fn sight(&self, seat: SeatId, shared: &SemaStore) -> Sight
         requires within { IsWithin (length shared.now.lists) self.now.place }
         requires hand { seat < length shared.now.hands }
-        ensures listed { IsListed (lists_seen self.now.place (words_of shared.now).lists) self.now.place result.listed }
-        ensures queued { IsQueue (lists_seen self.now.place (words_of shared.now).lists) self.now.place result.queued }
+        ensures listed { IsListed
+            (lists_seen self.now.place (words_of shared.now).lists) self.now.place result.listed }
+        ensures queued { IsQueue
+            (lists_seen self.now.place (words_of shared.now).lists) self.now.place result.queued }
         ensures in_hand { slice_get (hand_seen self.now.place (hands_of shared.now seat)) 0 ≡ result.in_hand }
         ensures held { length (hand_seen self.now.place (hands_of shared.now seat)) ≡ result.held }
     {

@@ -5,7 +5,7 @@ ghost use Rattle.step_rows.specs.Stored.{entry_of};
 ghost use Rattle.step_rows.specs.ListStored.{list_refused_by};
 
 use crate::caller::Caller;
-use row_outcomes::{ListOutcome, Outcome};
+use step_outcomes::{ListOutcome, Outcome};
 use step_table::{Effect, Entry, ListWord, StepRefused, Word};
 
 /// A row that can run: how its seat stands, the word of its event, and what it does.

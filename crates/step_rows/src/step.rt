@@ -1,14 +1,16 @@
 //! One row of the step table, run over the words, the lists and the hands.
 
-ghost use Rattle.std.specs.Prelude.{◌≡◌, ◌<◌, ◌+◌, ◌^◌, ◌↔◌, ℕ, IsTrue, List, length, slice_get, IfOk, IfErr, IfSome};
-ghost use Rattle.row_outcomes.specs.Outcomes.{HasRoom, Does};
+ghost use Rattle.std.specs.Prelude.{◌≡◌, ◌<◌, ◌+◌, ◌^◌, ◌↔◌, ℕ, IsTrue, List, length, slice_get, IfOk, IfErr};
+ghost use Rattle.std.specs.Prelude.{IfSome};
+ghost use Rattle.step_outcomes.specs.Outcomes.{HasRoom, Does};
 ghost use Rattle.step_rows.specs.Stored.{hands_of, HasWord, HasSeat, Makes};
-ghost use Rattle.step_rows.specs.Stored.{HasRowsOf, row_event, row_finds, IsReady, HasRun, IsRowRefusedBy, refused_by};
+ghost use Rattle.step_rows.specs.Stored.{HasRowsOf, row_event, row_finds, IsReady, HasRun, IsRowRefusedBy};
+ghost use Rattle.step_rows.specs.Stored.{refused_by};
 
 use crate::caller::{Caller, Guard};
 use crate::ready::Ready;
 use crate::sema_store::SemaStore;
-use row_outcomes::Outcome;
+use step_outcomes::Outcome;
 use step_table::{Effect, Entry, StepRefused, Word};
 use waiters::SeatId;
 
@@ -54,7 +56,8 @@ fn apply_effect(shared: &mut SemaStore, seat: SeatId, effect: &Effect)
     }
 }
 
-/// The word of the row at which the seat stands, and what the row does; `None` where its condition doesn't hold.
+/// The word of the row at which the seat stands, and what the row does; `None` where its condition doesn't
+/// hold.
 // A body of its own: within its callers, what it answers would be moved once more.
 #[inline(never)]
 pub fn look(shared: &SemaStore, seat: SeatId, caller: &Caller) -> (Word, Option<Outcome>)
@@ -79,7 +82,8 @@ pub fn ready(shared: &SemaStore, seat: SeatId, caller: &Caller) -> Result<Ready,
     requires fits { row_finds seat caller.now shared.now (hands_of shared.now seat) + 2 ^ 32 < 2 ^ 64 }
     ensures ok { IfOk result (λ ready. IsReady shared.now seat ready) }
     ensures caller { IfOk result (λ ready. ready.caller ≡ caller.now) }
-    ensures why { IfErr result (λ cause. IsRowRefusedBy cause seat caller.now shared.now (hands_of shared.now seat)) }
+    ensures why { IfErr result
+        (λ cause. IsRowRefusedBy cause seat caller.now shared.now (hands_of shared.now seat)) }
 {
     let (word, outcome) = look(shared, seat, caller);
     let Some(outcome) = outcome else {
@@ -116,9 +120,11 @@ pub fn run_row(
     word: &Word,
     outcome: &Outcome,
 ) -> Caller
-    requires ready { IsReady shared.old seat (record { caller = caller.now; word = word.now; outcome = outcome.now }) }
+    requires ready { IsReady shared.old seat
+        (record { caller = caller.now; word = word.now; outcome = outcome.now }) }
     requires turn { caller.now.turn + 1 < 2 ^ 64 }
-    ensures { HasRun seat caller.now shared.old (hands_of shared.old seat) outcome.now.effect shared.new result }
+    ensures { HasRun seat caller.now shared.old
+        (hands_of shared.old seat) outcome.now.effect shared.new result }
 {
     apply_effect(shared, seat, &outcome.effect);
     shared.write(*word, outcome.becomes);

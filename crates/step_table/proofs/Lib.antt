@@ -1,3 +1,4 @@
+pub mod Wrapping
 pub mod Sums
 pub mod SumsOfSums
 pub mod Turns

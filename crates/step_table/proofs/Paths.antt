@@ -2,7 +2,8 @@
 use Rattle.std.proofs.Common.{◌≡◌, ℕ, IsTrue, List, [], ◌∷◌, ◌++◌, refl, sym, ap, ◌∙◌, subst, append_assoc, append-nil}
 use Rattle.std.proofs.lemmas.List.Elements.{filter-append}
 use Rattle.step_table.specs.Turn.{can_turn, turned}
-use Rattle.step_table.specs.Path.{GoesOn, Watched, Sight, Deed, runs, looks, Stride, sight, Meets, Did, Ran, Path, all_told, own_entries, row_in, look_in, ArePaths}
+use Rattle.step_table.specs.Path.{GoesOn, Watched, Sight, Deed, runs, looks, Stride, sight, Meets, Did, Ran, Path, all_told, own_entries, row_in, look_in}
+use Rattle.step_table.specs.Path.{ArePaths}
 
 pub goes_on_here : {Entry : Type 0} (seen : List Entry) → GoesOn seen seen
 goes_on_here seen = record { more = []; is = sym (append-nil seen) }

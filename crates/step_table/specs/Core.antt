@@ -1,5 +1,5 @@
--- The whole machine at one moment: its semaphores, its notify lists and its wait groups, what each seat is doing, and the
--- journal. The seats stand at rest in each part that their call isn't on.
+-- The whole machine at one moment: its semaphores, its notify lists and its wait groups, what each seat is
+-- doing, and the journal. The seats stand at rest in each part that their call isn't on.
 use Rattle.std.specs.Prelude.{◌≡◌, ℕ, ◌+◌, List, [], ◌∷◌, ◌++◌, eqb, cond}
 use Rattle.step_table.specs.declared.entry.Entry.{Entry}
 use Rattle.step_table.specs.declared.entry.Entry.TheVariants.{Ticket, Grant}
@@ -12,8 +12,8 @@ use Rattle.step_table.specs.World.{Layout, SemaWorld, first_world}
 use Rattle.step_table.specs.ListWorld.{ListEntry, Took, Granted, ListWorld, first_list}
 use Rattle.step_table.specs.Group.{empty_word}
 
--- how many seats, counters, lists and groups there are; the root of each counter and the number at which it starts; and the
--- word of each list's first ticket. The counters of groups' semaphores come after the others
+-- how many seats, counters, lists and groups there are; the root of each counter and the number at which it
+-- starts; and the word of each list's first ticket. The counters of groups' semaphores come after the others
 pub record CoreLayout : Type 0 where
   pub seats : ℕ
   pub counters : ℕ

@@ -1,7 +1,8 @@
 -- Steps of the whole machine: a seat runs the row at which it stands in the part that its call is on.
 use Rattle.std.specs.Prelude.{ℕ, zero, suc, ◌<◌, Bool, true, false, IsTrue}
 use Rattle.step_table.specs.declared.call.Call.{Call}
-use Rattle.step_table.specs.declared.call.Call.TheVariants.{Acquire, Release, ReleaseMany, Add, Wait, One, All, GroupAdd, GroupWait}
+use Rattle.step_table.specs.declared.call.Call.TheVariants.{Acquire, Release, ReleaseMany, Add, Wait, One}
+use Rattle.step_table.specs.declared.call.Call.TheVariants.{All, GroupAdd, GroupWait}
 use Rattle.step_table.specs.declared.list_place.AllRow.TheVariants.{L1}
 use Rattle.step_table.specs.declared.list_place.ListPlace.{ListPlace}
 use Rattle.step_table.specs.declared.list_place.ListPlace.TheVariants.{Adding, NotifyingOne, NotifyingAll}
@@ -39,7 +40,8 @@ at_counter s i place after = stands (record s { semaphores = moved s.semaphores 
 
 -- seat i stands at this row of a call on the list l
 abbrev pub at_list : Core → ℕ → ℕ → ListPlace → Core
-at_list s i l place = stands (record s { lists = put s.lists l (list.moved (s.lists l) i place) }) i (AtList l)
+at_list s i l place =
+    stands (record s { lists = put s.lists l (list.moved (s.lists l) i place) }) i (AtList l)
 
 -- seat i waits on the list l with the ticket that it holds
 abbrev pub waits_on_list : Core → ℕ → ℕ → Core
@@ -54,7 +56,8 @@ releases m s i g (suc more) =
 -- seat i begins this call: that is no step
 abbrev pub calls : Core → ℕ → Call → Core
 calls s i (Acquire c lifo) = at_counter s i (Acquiring (record { counter = c; lifo = lifo }) A1) NextCall
-calls s i (Release c handoff) = at_counter s i (Releasing (record { counter = c; handoff = handoff }) R1) NextCall
+calls s i (Release c handoff) =
+    at_counter s i (Releasing (record { counter = c; handoff = handoff }) R1) NextCall
 calls s i (ReleaseMany c n) = at_counter s i (ReleasingMany (record { counter = c; units = n }) M1) NextCall
 calls s i (Add l) = at_list s i l Adding
 calls s i (Wait l) = waits_on_list s i l
@@ -114,7 +117,8 @@ abbrev pub list_row : Core → ℕ → ℕ → Core
 list_row s i l =
     record s {
       lists = put s.lists l (list.turned (s.lists l) i);
-      journal = journal_after_list l i ((list.event_of (s.lists l) i).leads (list.finds (s.lists l) i)).1 s.journal;
+      journal =
+          journal_after_list l i ((list.event_of (s.lists l) i).leads (list.finds (s.lists l) i)).1 s.journal;
     }
 
 -- seat i, which does this, runs its row

@@ -1,7 +1,8 @@
 -- Events of one word, and the verbs that the tables are written in.
 use Rattle.std.specs.Prelude.{ℕ, ◌+◌, ◌-◌, ◌==◌, nat_lt, if◌then◌else◌, Bool, true, false}
 
--- one event: its word, and by the value that is found there whether it can be, what the word becomes and what follows
+-- one event: its word, and by the value that is found there whether it can be, what the word becomes and what
+-- follows
 pub record EventOf (Word Value Next : Type 0) : Type 0 where
   pub word : Word
   pub can : Value → Bool
@@ -15,7 +16,8 @@ abbrev pub store : {Word Value Next : Type 0} → Word → Value → Next → Ev
 store w x next = record { word = w; can = λ v. true; becomes = λ v. x; leads = λ v. next }
 
 -- the word changes so, and what follows is told what it has become
-abbrev pub change : {Word Value Next : Type 0} → Word → (Value → Value) → (Value → Next) → EventOf Word Value Next
+abbrev pub change : {Word Value Next : Type 0} → Word → (Value → Value) → (Value → Next)
+    → EventOf Word Value Next
 change w to next = record { word = w; can = λ v. true; becomes = to; leads = λ v. next (to v) }
 
 -- the word changes so where what is found is wanted

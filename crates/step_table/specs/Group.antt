@@ -3,7 +3,7 @@ use Rattle.std.specs.Prelude.{◌+◌, ◌==◌, ◌&&◌, ◌||◌, not, if◌t
 use Rattle.std.specs.Int.{int_wrapping_add, w32}
 use Rattle.std.specs.Ordering.{int_eq}
 use Rattle.step_table.specs.declared.group_word.GroupWord.{GroupWord}
-use Rattle.table_names.specs.declared.misuse.Misuse.TheVariants.{Negative, AddWithWait, Reused}
+use Rattle.step_table.specs.declared.misuse.Misuse.TheVariants.{Negative, AddWithWait, Reused}
 use Rattle.step_table.specs.declared.standing.GroupRow.{GroupRow}
 use Rattle.step_table.specs.declared.standing.GroupRow.TheVariants.{G1, G2, G3, V1, V2, V3}
 use Rattle.step_table.specs.declared.standing.GroupNext.{GroupNext}
@@ -39,17 +39,18 @@ after_add d w =
 -- what a row does to the word of its group
 abbrev pub group_event : {Word : Type 0} → Word → GroupRow → EventOf Word GroupWord GroupNext
 group_event g (G1 d) = change g (λ w. plus w d) (after_add d)
--- looked at again: an add that came since G1 has begun a round beside waits that haven't returned, and the store of G3 would
--- wipe it out unseen
+-- looked at again: an add that came since G1 has begun a round beside waits that haven't returned, and the
+-- store of G3 would wipe it out unseen
 group_event g (G2 seen) = load g (λ w. if same_word seen w then Goes (G3 seen) else Fails AddWithWait)
 -- emptied before the first release: a woken wait would find the old word at V3, and take it for a new round
 group_event g (G3 seen) = store g empty_word (Releases seen.waits)
 group_event g V1 = load g (λ w. if int_eq w.counter (pos 0) then Ends else Goes (V2 w))
--- counted before it sleeps, and only in the word that V1 read: an add that leads to 0 releases the waits that are counted. One
--- that isn't, or that counts itself after that add, would sleep for good
+-- counted before it sleeps, and only in the word that V1 read: an add that leads to 0 releases the waits that
+-- are counted. One that isn't, or that counts itself after that add, would sleep for good
 group_event g (V2 seen) = exchange_if g (same_word seen) one_more Acquires (Goes V1)
 group_event g V3 = load g (λ w. if same_word w empty_word then Ends else Fails Reused)
 
 -- what it leaves of the word that it found, and what follows
 abbrev pub group_row : GroupRow → GroupWord → GroupWord × GroupNext
-group_row row w = let e : EventOf (Unit {0}) GroupWord GroupNext = group_event tt row in (e.becomes w, e.leads w)
+group_row row w =
+    let e : EventOf (Unit {0}) GroupWord GroupNext = group_event tt row in (e.becomes w, e.leads w)

@@ -1,5 +1,6 @@
 -- Words of wait groups as numbers of 64 bits.
-use Rattle.std.specs.Prelude.{◌≡◌, ℕ, ◌+◌, ◌*◌, ◌/◌, ◌%◌, ◌<◌, ◌==◌, if◌then◌else◌, ℤ, pos, ◌*ℤ◌, FitsSigned, ◌^◌}
+use Rattle.std.specs.Prelude.{◌≡◌, ℕ, ◌+◌, ◌*◌, ◌/◌, ◌%◌, ◌<◌, ◌==◌, if◌then◌else◌, ℤ, pos, ◌*ℤ◌, FitsSigned}
+use Rattle.std.specs.Prelude.{◌^◌}
 use Rattle.std.specs.Int.{w32, w64, cast_signed, cast_unsigned}
 use Rattle.step_table.specs.declared.group_word.GroupWord.{GroupWord}
 use Rattle.step_table.specs.declared.standing.GroupRow.{GroupRow}
@@ -37,9 +38,10 @@ ComparesWord (G2 seen) = IsGroupWord seen
 ComparesWord (V2 seen) = IsGroupWord seen
 ComparesWord _ = Unit {0}
 
--- words are numbers below 2^64 and those are words, each way and back; equal words are equal numbers. An add to the high half
--- is an add of so many times 2^32 modulo 2^64; one more wait is 1 more modulo 2^64, with the carry from the low half into the
--- high one and off the top; and the empty word is 0. And so each row does to the number what it does to the word
+-- words are numbers below 2^64 and those are words, each way and back; equal words are equal numbers. An add
+-- to the high half is an add of so many times 2^32 modulo 2^64; one more wait is 1 more modulo 2^64, with the
+-- carry from the low half into the high one and off the top; and the empty word is 0. And so each row does to
+-- the number what it does to the word
 pub record TheGroupWords : Type 0 where
   pub below : (w : GroupWord) → IsGroupWord w → bits_of w < 2 ^ 64
   pub words : (n : ℕ) → n < 2 ^ 64 → IsGroupWord (word_in n)

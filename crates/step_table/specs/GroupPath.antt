@@ -9,7 +9,8 @@ use Rattle.step_table.specs.EventOf.{EventOf, stays}
 use Rattle.step_table.specs.Turn.{Rules}
 use Rattle.step_table.specs.Group.{group_event, group_row}
 use Rattle.step_table.specs.GroupBits.{IsGroupWord}
-use Rattle.step_table.specs.Path.{Watched, Sight, Deed, runs, looks, Stride, ran_at, looked_at, Ran, Path, ArePaths}
+use Rattle.step_table.specs.Path.{Watched, Sight, Deed, runs, looks, Stride, ran_at, looked_at, Ran, Path}
+use Rattle.step_table.specs.Path.{ArePaths}
 
 -- the word of a group, and what each seat's last row led to
 pub record GroupWorld : Type 0 where

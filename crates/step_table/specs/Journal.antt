@@ -38,7 +38,8 @@ IsDefined (Take c s) x = 0 < x.numbers c
 IsDefined (Leave c w s) x = (l : List WaitId) × (x.lists c ≡ w ∷ l)
 IsDefined _ x = Unit {0}
 
--- what a seat may still take out: the counter of its last release, and that release's units less the waits taken out since
+-- what a seat may still take out: the counter of its last release, and that release's units less the waits
+-- taken out since
 pub record Budget : Type 0 where
   pub counter : ℕ
   pub units : ℕ
@@ -85,7 +86,8 @@ Follows start journal =
 
 -- and no wait was queued twice or left twice
 abbrev pub IsLawful : Plain → List Entry → Type 0
-IsLawful start journal = Follows start journal × ((w : WaitId) → (queued w journal ≤ 1) × (left w journal ≤ 1))
+IsLawful start journal =
+    Follows start journal × ((w : WaitId) → (queued w journal ≤ 1) × (left w journal ≤ 1))
 
 -- how many units were taken for the seat s
 abbrev pub takes : ℕ → List Entry → ℕ

@@ -1,3 +1,6 @@
+pub mod Wrapping
+pub mod RowTexts
+pub mod Texts
 pub mod World
 pub mod EventOf
 pub mod Turn

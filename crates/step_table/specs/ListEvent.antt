@@ -8,7 +8,7 @@ use Rattle.step_table.specs.declared.list_place.ListPlace.TheVariants.{Rest}
 use Rattle.step_table.specs.declared.list_place.ListWord.{ListWord}
 use Rattle.step_table.specs.declared.list_place.ListWord.TheVariants.{Wait as WaitWord}
 use Rattle.step_table.specs.EventOf.{EventOf}
-use Rattle.ticket_words.specs.Wrapping.{next_word}
+use Rattle.step_table.specs.Wrapping.{next_word}
 
 -- where the seat goes, and the effect
 abbrev pub ListNext : Type 0

@@ -3,13 +3,16 @@ use Rattle.std.specs.Prelude.{◌≡◌, ℕ, Bool, Option, Some, None}
 use Rattle.step_table.specs.declared.list_place.AllRow.TheVariants.{L1}
 use Rattle.step_table.specs.declared.list_place.ListEffect.{ListEffect}
 use Rattle.step_table.specs.declared.list_place.ListPlace.{ListPlace}
-use Rattle.step_table.specs.declared.list_place.ListPlace.TheVariants.{Rest, Adding, Waiting, NotifyingOne, NotifyingAll}
+use Rattle.step_table.specs.declared.list_place.ListPlace.TheVariants.{Rest, Adding, Waiting, NotifyingOne}
+use Rattle.step_table.specs.declared.list_place.ListPlace.TheVariants.{NotifyingAll}
 use Rattle.step_table.specs.declared.list_place.OneRow.TheVariants.{O1, O3}
 use Rattle.step_table.specs.declared.list_place.Ticket.{Ticket}
 use Rattle.step_table.specs.declared.list_place.WaitRow.TheVariants.{W1}
 use Rattle.step_table.specs.declared.list_place.ListWord.{ListWord}
 use Rattle.step_table.specs.World.{put}
-use Rattle.step_table.specs.ListWorld.{ListWords, ListSeat, ListWorld, found, written, numbers_after, queue_after, hand_after, ticket_after, late_after, journal_after, first_list}
+use Rattle.step_table.specs.ListWorld.{ListWords, ListSeat, ListWorld, found, written, numbers_after}
+use Rattle.step_table.specs.ListWorld.{queue_after, hand_after, ticket_after, late_after, journal_after}
+use Rattle.step_table.specs.ListWorld.{first_list}
 use Rattle.step_table.specs.ListEvent.{ListNext, ListEvent}
 use Rattle.step_table.specs.ListTable.{list_table}
 use Rattle.step_table.specs.Turn.{Rules, TurnOf, LeadsBy, IsEndOf}

@@ -4,16 +4,18 @@ use Rattle.waiters.specs.declared.wait.Wait.{Wait}
 use Rattle.waiters.specs.Lists.{first_with}
 use Rattle.step_table.specs.declared.list_place.AllRow.{AllRow}
 use Rattle.step_table.specs.declared.list_place.AllRow.TheVariants.{L1, L2, L3, L4, L5, L6, L7, L8}
-use Rattle.step_table.specs.declared.list_place.ListEffect.TheVariants.{Nothing, Grants, Queues, TakesOut, TakesAll, Gives}
+use Rattle.step_table.specs.declared.list_place.ListEffect.TheVariants.{Nothing, Grants, Queues, TakesOut}
+use Rattle.step_table.specs.declared.list_place.ListEffect.TheVariants.{TakesAll, Gives}
 use Rattle.step_table.specs.declared.list_place.ListPlace.{ListPlace}
-use Rattle.step_table.specs.declared.list_place.ListPlace.TheVariants.{Rest, Adding, Waiting, NotifyingOne, NotifyingAll}
+use Rattle.step_table.specs.declared.list_place.ListPlace.TheVariants.{Rest, Adding, Waiting, NotifyingOne}
+use Rattle.step_table.specs.declared.list_place.ListPlace.TheVariants.{NotifyingAll}
 use Rattle.step_table.specs.declared.list_place.ListWord.TheVariants.{Wait as WaitWord, Notify, Lock, Grant}
 use Rattle.step_table.specs.declared.list_place.OneRow.{OneRow}
 use Rattle.step_table.specs.declared.list_place.OneRow.TheVariants.{O1, O2, O3, O4, O5, O6, O7, O8, O9}
 use Rattle.step_table.specs.declared.list_place.Ticket.{Ticket}
 use Rattle.step_table.specs.declared.list_place.WaitRow.{WaitRow}
 use Rattle.step_table.specs.declared.list_place.WaitRow.TheVariants.{W1, W2, W3, W4, P}
-use Rattle.ticket_words.specs.Wrapping.{next_word, minus, less}
+use Rattle.step_table.specs.Wrapping.{next_word, minus, less}
 use Rattle.step_table.specs.ListWorld.{ListWords, ListSeat}
 use Rattle.step_table.specs.EventOf.{load, store, take_lock, give_lock, take_grant, stays}
 use Rattle.step_table.specs.ListEvent.{ListEvent, to, take_ticket, by_found, if_any, waiter}
@@ -25,27 +27,31 @@ wait_for s t = record { id = record { seat = s; turn = t.number }; ticket = t.wo
 -- what a row of a wait for the ticket t does for the seat s
 abbrev pub wait_event : ℕ → Ticket → WaitRow → ListEvent
 wait_event s t W1 = take_lock Lock (to (Waiting t W2))
--- looked at under the lock: a grant is stored only there, so none falls between this look and W4. Without the look, a ticket
--- that was granted before would sleep for good
+-- looked at under the lock: a grant is stored only there, so none falls between this look and W4. Without the
+-- look, a ticket that was granted before would sleep for good
 wait_event s t W2 = load Notify (λ v. to (if less t.word v then Waiting t W3 else Waiting t W4))
 wait_event s t W3 = give_lock Lock (to Rest)
 wait_event s t W4 = give_lock Lock (Waiting t P, Queues (wait_for s t))
 wait_event s t P = take_grant (Grant s) (λ v. to Rest)
 
--- what a row of a notification of one does for the seat s, which has these waits in hand; h tickets were handed out at its
--- first look
+-- what a row of a notification of one does for the seat s, which has these waits in hand; h tickets were
+-- handed out at its first look
 abbrev pub one_event : ℕ → List Wait → ListWords → ℕ → OneRow → ListEvent
 one_event s hand g h O1 = load WaitWord (λ v. to (NotifyingOne g.numbers.handed (O2 v)))
 one_event s hand g h (O2 a) = load Notify (λ v. to (if a == v then Rest else NotifyingOne h O3))
 one_event s hand g h O3 = take_lock Lock (to (NotifyingOne h O4))
--- read again under the lock: since O2 another notification may have granted that ticket, and this one would grant it twice
--- and leave the next one out
+-- read again under the lock: since O2 another notification may have granted that ticket, and this one would
+-- grant it twice and leave the next one out
 one_event s hand g h O4 = load Notify (λ v. to (NotifyingOne h (O5 v)))
-one_event s hand g h (O5 t) = load WaitWord (λ v. to (if v == t then NotifyingOne h O6 else NotifyingOne h (O7 t)))
+one_event s hand g h (O5 t) =
+    load WaitWord (λ v. to (if v == t then NotifyingOne h O6 else NotifyingOne h (O7 t)))
 one_event s hand g h O6 = give_lock Lock (to Rest)
--- granted before the wait is looked for: its seat may not have come to W2 yet, and would find no grant there and sleep
-one_event s hand g h (O7 t) = store Notify (next_word t) (NotifyingOne h (O8 t), Grants (g.numbers.granted + 1))
-one_event s hand g h (O8 t) = give_lock Lock (by_found (first_with t g.queue) (to Rest) (λ w. (NotifyingOne h O9, TakesOut t)))
+-- granted before the wait is looked for: its seat may not have come to W2 yet, and would find no grant there
+-- and sleep
+one_event s hand g h (O7 t) =
+    store Notify (next_word t) (NotifyingOne h (O8 t), Grants (g.numbers.granted + 1))
+one_event s hand g h (O8 t) =
+    give_lock Lock (by_found (first_with t g.queue) (to Rest) (λ w. (NotifyingOne h O9, TakesOut t)))
 one_event s hand g h O9 = store (Grant (waiter s hand)) 1 (Rest, Gives)
 
 -- the same of a notification of all
@@ -53,13 +59,15 @@ abbrev pub all_event : ℕ → List Wait → ListWords → ℕ → AllRow → Li
 all_event s hand g h L1 = load WaitWord (λ v. to (NotifyingAll g.numbers.handed (L2 v)))
 all_event s hand g h (L2 a) = load Notify (λ v. to (if a == v then Rest else NotifyingAll h L3))
 all_event s hand g h L3 = take_lock Lock (to (NotifyingAll h L4))
--- read for the answer: what L5 reads less this is how many tickets the call grants. What L2 read may be behind, and would
--- count tickets that another notification has granted since
+-- read for the answer: what L5 reads less this is how many tickets the call grants. What L2 read may be
+-- behind, and would count tickets that another notification has granted since
 all_event s hand g h L4 = load Notify (λ v. to (NotifyingAll h (L5 v)))
 all_event s hand g h (L5 t) =
-    load WaitWord (λ v. to (NotifyingAll h (L6 (record { notified = t; waited = v; handed = g.numbers.handed }))))
+    load WaitWord (λ v. to
+    (NotifyingAll h (L6 (record { notified = t; waited = v; handed = g.numbers.handed }))))
 all_event s hand g h (L6 r) =
-    store Notify r.waited (NotifyingAll h (L7 (minus r.waited r.notified)), if r.notified == r.waited then Nothing else Grants r.handed)
+    store Notify r.waited
+    (NotifyingAll h (L7 (minus r.waited r.notified)), if r.notified == r.waited then Nothing else Grants r.handed)
 all_event s hand g h (L7 n) = give_lock Lock (if_any g.queue (NotifyingAll h L8) Rest, TakesAll)
 all_event s hand g h L8 =
     store (Grant (waiter s hand)) 1 (if nat_lt 1 (length hand) then NotifyingAll h L8 else Rest, Gives)

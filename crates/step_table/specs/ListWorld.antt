@@ -1,16 +1,18 @@
 -- The world of one notify list: its words, the numbers of its tickets, its waits, seats and journal.
-use Rattle.std.specs.Prelude.{ℕ, ◌+◌, List, [], ◌∷◌, ◌++◌, drop, nat_lt, if◌then◌else◌, Option, Some, None, ◌^◌}
+use Rattle.std.specs.Prelude.{ℕ, ◌+◌, List, [], ◌∷◌, ◌++◌, drop, nat_lt, if◌then◌else◌, Option, Some, None}
+use Rattle.std.specs.Prelude.{◌^◌}
 use Rattle.waiters.specs.declared.wait.Wait.{Wait}
 use Rattle.waiters.specs.Lists.{first_with, without_first}
 use Rattle.step_table.specs.declared.list_place.ListEffect.{ListEffect}
-use Rattle.step_table.specs.declared.list_place.ListEffect.TheVariants.{HandsOut, Grants, Queues, TakesOut, TakesAll, Gives}
+use Rattle.step_table.specs.declared.list_place.ListEffect.TheVariants.{HandsOut, Grants, Queues, TakesOut}
+use Rattle.step_table.specs.declared.list_place.ListEffect.TheVariants.{TakesAll, Gives}
 use Rattle.step_table.specs.declared.list_place.ListPlace.{ListPlace}
 use Rattle.step_table.specs.declared.list_place.ListPlace.TheVariants.{Rest, Waiting}
 use Rattle.step_table.specs.declared.list_place.ListWord.{ListWord}
 use Rattle.step_table.specs.declared.list_place.ListWord.TheVariants as word
 use Rattle.step_table.specs.declared.list_place.Ticket.{Ticket}
 use Rattle.step_table.specs.declared.list_place.WaitRow.TheVariants.{W2}
-use Rattle.ticket_words.specs.Wrapping.{word_of}
+use Rattle.step_table.specs.Wrapping.{word_of}
 use Rattle.step_table.specs.World.{put}
 
 -- how many tickets were handed out, and how many are granted. They don't wrap, and no row looks at them
@@ -27,8 +29,8 @@ pub record ListWords : Type 0 where
   pub numbers : Numbers
   pub queue : List Wait
 
--- where a seat stands, the ticket that it holds and doesn't wait with yet, the waits that it has taken out and not granted, and
--- 1 once its W2 has looked at a late ticket
+-- where a seat stands, the ticket that it holds and doesn't wait with yet, the waits that it has taken out
+-- and not granted, and 1 once its W2 has looked at a late ticket
 pub record ListSeat : Type 0 where
   pub place : ListPlace
   pub ticket : Option Ticket

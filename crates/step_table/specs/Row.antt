@@ -14,17 +14,18 @@ use Rattle.step_table.specs.declared.standing.Standing.{Standing}
 use Rattle.step_table.specs.declared.standing.Standing.TheVariants as doing
 use Rattle.step_table.specs.Core.{Core}
 use Rattle.step_table.specs.declared.place.AcquireRow.{AcquireRow}
-use Rattle.step_table.specs.declared.place.AcquireRow.TheVariants.{A1, A2, A3, A4, A5, A6, A7, A8, A9, P, A10, A11}
+use Rattle.step_table.specs.declared.place.AcquireRow.TheVariants.{A1, A2, A3, A4, A5, A6, A7, A8, A9, P, A10}
+use Rattle.step_table.specs.declared.place.AcquireRow.TheVariants.{A11}
 use Rattle.step_table.specs.declared.place.ReleaseRow.{ReleaseRow}
 use Rattle.step_table.specs.declared.place.ReleaseRow.TheVariants.{R1, R2, R3, R4, R5, R6, R7, R8, R9, R10}
 use Rattle.step_table.specs.declared.place.ManyRow.{ManyRow}
 use Rattle.step_table.specs.declared.place.ManyRow.TheVariants.{M1, M2, M3, M4, M5, M6, M7}
 use Rattle.step_table.specs.declared.place.Place.{Place}
 use Rattle.step_table.specs.declared.place.Place.TheVariants.{Rest, Acquiring, Releasing, ReleasingMany}
-use Rattle.table_names.specs.declared.phase.Phase.{Phase}
-use Rattle.table_names.specs.declared.phase.Phase.TheVariants.{At, Ended, Failed}
-use Rattle.table_names.specs.declared.row.Row.{Row}
-use Rattle.table_names.specs.declared.row.Row.TheVariants as name
+use Rattle.step_table.specs.declared.phase.Phase.{Phase}
+use Rattle.step_table.specs.declared.phase.Phase.TheVariants.{At, Ended, Failed}
+use Rattle.step_table.specs.declared.row.Row.{Row}
+use Rattle.step_table.specs.declared.row.Row.TheVariants as name
 
 abbrev pub acquire_row_name : AcquireRow → Row
 acquire_row_name A1 = name.A1

@@ -1,13 +1,15 @@
 -- A scenario's run: each seat makes its calls one after the other, and a schedule says whose row runs next.
-use Rattle.std.specs.Prelude.{◌≡◌, ◌⊎◌, ℕ, zero, suc, ◌+◌, nat_lt, cond, Bool, true, false, List, [], ◌∷◌, ◌++◌, Option, Some, None, length, slice_get, slice_index_or, take}
+use Rattle.std.specs.Prelude.{◌≡◌, ◌⊎◌, ℕ, zero, suc, ◌+◌, nat_lt, cond, Bool, true, false, List, [], ◌∷◌}
+use Rattle.std.specs.Prelude.{◌++◌, Option, Some, None, length, slice_get, slice_index_or, take}
 use Rattle.step_table.specs.declared.call.Call.{Call}
 use Rattle.step_table.specs.declared.entry.Entry.{Entry}
 use Rattle.step_table.specs.declared.list_place.ListWord.{ListWord}
 use Rattle.step_table.specs.declared.list_place.ListWord.TheVariants as list_word
 use Rattle.step_table.specs.declared.parts.Parts.{Parts}
-use Rattle.table_names.specs.declared.refusal.RunRefused.{RunRefused}
-use Rattle.table_names.specs.declared.refusal.StepRefused.{StepRefused}
-use Rattle.table_names.specs.declared.refusal.StepRefused.TheVariants.{NoSuchSeat, SeatEnded, LockHeld, Asleep, SeatFailed, NoMemory}
+use Rattle.step_table.specs.declared.refusal.RunRefused.{RunRefused}
+use Rattle.step_table.specs.declared.refusal.StepRefused.{StepRefused}
+use Rattle.step_table.specs.declared.refusal.StepRefused.TheVariants.{NoSuchSeat, SeatEnded, LockHeld, Asleep}
+use Rattle.step_table.specs.declared.refusal.StepRefused.TheVariants.{SeatFailed, NoMemory}
 use Rattle.step_table.specs.declared.standing.Standing.{Standing}
 use Rattle.step_table.specs.declared.standing.Standing.TheVariants.{Rest, AtCounter, AtList, AtGroup, Failed}
 use Rattle.step_table.specs.declared.word.Word.{Word}
@@ -58,10 +60,11 @@ abbrev pub all_begun : Parts → Run → ℕ → Run
 all_begun parts run zero = run
 all_begun parts run (suc n) = let before : Run = all_begun parts run n in begun before n (call_of parts n 0)
 
--- the start: each counter at its number, each list at its first ticket, nobody waits, each seat at the first row of its first
--- call, and nothing else
+-- the start: each counter at its number, each list at its first ticket, nobody waits, each seat at the first
+-- row of its first call, and nothing else
 abbrev pub start : Parts → Run
-start parts = all_begun parts (record { core = first_core (layout parts); begun = λ s. 0 }) (length parts.calls)
+start parts =
+    all_begun parts (record { core = first_core (layout parts); begun = λ s. 0 }) (length parts.calls)
 
 -- the run after a step of seat i: its row, and where that ended its call the next begins
 abbrev pub stepped : Parts → Run → ℕ → Run
@@ -85,21 +88,27 @@ unless false cause = Some cause
 -- why seat i, which does this, can't step
 abbrev pub refusal_of : CoreLayout → Core → ℕ → Standing → Option StepRefused
 refusal_of m s i Rest = Some SeatEnded
-refusal_of m s i (AtCounter after) = unless (can_run m s i (AtCounter after)) (refused_at (event_of s.semaphores i).word)
-refusal_of m s i (AtList l) = unless (can_run m s i (AtList l)) (list_refused_at (list.event_of (s.lists l) i).word)
+refusal_of m s i (AtCounter after) =
+    unless (can_run m s i (AtCounter after)) (refused_at (event_of s.semaphores i).word)
+refusal_of m s i (AtList l) =
+    unless (can_run m s i (AtList l)) (list_refused_at (list.event_of (s.lists l) i).word)
 refusal_of m s i (AtGroup g row) = None
 refusal_of m s i (Failed misuse) = Some SeatFailed
 
--- why seat i can't step, memory aside: there is no such seat, it has ended or failed, or its row's condition doesn't hold
+-- why seat i can't step, memory aside: there is no such seat, it has ended or failed, or its row's condition
+-- doesn't hold
 abbrev pub refusal : Parts → Run → ℕ → Option StepRefused
 refusal parts run i =
-    cond (nat_lt i (length parts.calls)) (refusal_of (layout parts) run.core i (run.core.standing i)) (Some NoSuchSeat)
+    cond (nat_lt i (length parts.calls)) (refusal_of (layout parts) run.core i (run.core.standing i))
+    (Some NoSuchSeat)
 
 -- the row of seat i has an entry
 abbrev pub HasEntry : Parts → Run → ℕ → Type 0
-HasEntry parts run i = (e : Entry) × ((core_turned (layout parts) run.core i).journal ≡ run.core.journal ++ e ∷ [])
+HasEntry parts run i =
+    (e : Entry) × ((core_turned (layout parts) run.core i).journal ≡ run.core.journal ++ e ∷ [])
 
--- a step is refused by this: its own cause, or want of memory, which is answered only for a row that could run and has an entry
+-- a step is refused by this: its own cause, or want of memory, which is answered only for a row that could
+-- run and has an entry
 abbrev pub IsRefusedBy : StepRefused → Parts → Run → ℕ → Type 0
 IsRefusedBy NoMemory parts run i = (refusal parts run i ≡ None) × HasEntry parts run i
 IsRefusedBy cause parts run i = refusal parts run i ≡ Some cause
@@ -115,7 +124,8 @@ reached parts schedule = after_all parts (start parts) schedule
 -- each step in turn can run
 abbrev pub AllRunFrom : Parts → Run → List ℕ → Type 0
 AllRunFrom parts run [] = Unit {0}
-AllRunFrom parts run (i ∷ schedule) = (refusal parts run i ≡ None) × AllRunFrom parts (stepped parts run i) schedule
+AllRunFrom parts run (i ∷ schedule) =
+    (refusal parts run i ≡ None) × AllRunFrom parts (stepped parts run i) schedule
 
 abbrev pub AllRun : Parts → List ℕ → Type 0
 AllRun parts schedule = AllRunFrom parts (start parts) schedule
@@ -123,9 +133,11 @@ AllRun parts schedule = AllRunFrom parts (start parts) schedule
 -- the steps before this one can run in turn, and it is refused by this
 pub record IsRefusedAt (parts : Parts) (schedule : List ℕ) (at : ℕ) (cause : StepRefused) : Type 0 where
   pub before : AllRun parts (take at schedule)
-  pub here : (i : ℕ) × (slice_get schedule at ≡ Some i) × IsRefusedBy cause parts (reached parts (take at schedule)) i
+  pub here : (i : ℕ) × (slice_get schedule at ≡ Some i)
+      × IsRefusedBy cause parts (reached parts (take at schedule)) i
 
--- a schedule is refused: there was no memory for the start, which is told of step 0, or this is its first step that can't be run
+-- a schedule is refused: there was no memory for the start, which is told of step 0, or this is its first
+-- step that can't be run
 abbrev pub IsRefusedRun : RunRefused → Parts → List ℕ → Type 0
 IsRefusedRun refused parts schedule =
     ((refused.at ≡ 0) × (refused.cause ≡ NoMemory)) ⊎ IsRefusedAt parts schedule refused.at refused.cause

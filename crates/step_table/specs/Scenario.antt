@@ -1,7 +1,9 @@
 -- Which parts make a scenario.
-use Rattle.std.specs.Prelude.{◌≡◌, ℕ, ◌<◌, ◌≤◌, ◌==◌, if◌then◌else◌, Bool, true, false, List, [], ◌∷◌, All, IfSome, length, slice_get, take}
+use Rattle.std.specs.Prelude.{◌≡◌, ℕ, ◌<◌, ◌≤◌, ◌==◌, if◌then◌else◌, Bool, true, false, List, [], ◌∷◌, All}
+use Rattle.std.specs.Prelude.{IfSome, length, slice_get, take}
 use Rattle.step_table.specs.declared.call.Call.{Call}
-use Rattle.step_table.specs.declared.call.Call.TheVariants.{Acquire, Release, ReleaseMany, Add, Wait, One, All as NotifyAll, GroupAdd, GroupWait}
+use Rattle.step_table.specs.declared.call.Call.TheVariants.{Acquire, Release, ReleaseMany, Add, Wait, One}
+use Rattle.step_table.specs.declared.call.Call.TheVariants.{All as NotifyAll, GroupAdd, GroupWait}
 use Rattle.step_table.specs.declared.parts.Parts.{Parts}
 
 -- a release of many is of 1 to 256 units

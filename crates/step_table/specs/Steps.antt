@@ -9,7 +9,8 @@ use Rattle.step_table.specs.declared.place.ManyRow.TheVariants.{M1}
 use Rattle.step_table.specs.declared.place.Place.{Place}
 use Rattle.step_table.specs.declared.place.Place.TheVariants.{Rest, Acquiring, Releasing, ReleasingMany}
 use Rattle.step_table.specs.declared.word.Word.{Word}
-use Rattle.step_table.specs.World.{Layout, Words, SemaWorld, put, found, written, lists_after, journal_after, seat_after, first_world}
+use Rattle.step_table.specs.World.{Layout, Words, SemaWorld, put, found, written, lists_after, journal_after}
+use Rattle.step_table.specs.World.{seat_after, first_world}
 use Rattle.step_table.specs.Event.{Event, Next}
 use Rattle.step_table.specs.Turn.{Rules, TurnOf, LeadsBy, IsEndOf}
 use Rattle.step_table.specs.Turn as turns
@@ -17,7 +18,8 @@ use Rattle.step_table.specs.Table.{table}
 
 -- the words and lists after x was written in this word
 abbrev pub words_with : (ℕ → ℕ) → Words → Word → ℕ → Next → Words
-words_with root g w x next = let h : Words = written root g w x in record h { lists = lists_after next.1 h.lists }
+words_with root g w x next =
+    let h : Words = written root g w x in record h { lists = lists_after next.1 h.lists }
 
 -- those after an event that found v
 abbrev pub words_after : (ℕ → ℕ) → Words → Event → ℕ → Words
@@ -55,8 +57,9 @@ Turn root = TurnOf (rules root)
 abbrev pub moved : SemaWorld → ℕ → Place → SemaWorld
 moved s i place = record s { seats = put s.seats i (record (s.seats i) { place = place }) }
 
--- what a caller may choose: to begin an acquire, at its first row or at the lock, a release, or a release of 1 to 256 units;
--- to give up an acquire before it has the lock; and, of a release that goes to the lock, whether it hands its unit over
+-- what a caller may choose: to begin an acquire, at its first row or at the lock, a release, or a release of
+-- 1 to 256 units; to give up an acquire before it has the lock; and, of a release that goes to the lock,
+-- whether it hands its unit over
 pub data Choice (counters : ℕ) : Place → Place → Type 0 where
   acquire : (a : Acquire) → a.counter < counters → Choice counters Rest (Acquiring a A1)
   enter : (a : Acquire) → a.counter < counters → Choice counters Rest (Acquiring a A3)
@@ -65,7 +68,8 @@ pub data Choice (counters : ℕ) : Place → Place → Type 0 where
       → Choice counters Rest (ReleasingMany r M1)
   give_up : (a : Acquire) → Choice counters (Acquiring a A1) Rest
   give_up_lock : (a : Acquire) → Choice counters (Acquiring a A3) Rest
-  decide : (r : Release) (handoff : Bool) → Choice counters (Releasing r R3) (Releasing (record r { handoff = handoff }) R3)
+  decide : (r : Release) (handoff : Bool)
+      → Choice counters (Releasing r R3) (Releasing (record r { handoff = handoff }) R3)
 
 -- one step of seat i: a row, or a choice of its caller
 pub data Step (m : Layout) (s : SemaWorld) (i : ℕ) : SemaWorld → Type 0 where

@@ -2,7 +2,8 @@
 use Rattle.std.specs.Prelude.{◌≡◌, ℕ, ◌<◌, Bool, IsTrue}
 use Rattle.step_table.specs.EventOf.{EventOf}
 
--- the event of each seat's row, what is found in each word, and the world after seat i wrote this there and went on so
+-- the event of each seat's row, what is found in each word, and the world after seat i wrote this there and
+-- went on so
 pub record Rules (World Word Value Next : Type 0) : Type 0 where
   pub event_of : World → ℕ → EventOf Word Value Next
   pub found : World → Word → Value
@@ -23,12 +24,14 @@ turned rules s i =
     ((rules.event_of s i).leads (finds rules s i))
 
 -- seat i runs its row
-pub record TurnOf {World Word Value Next : Type 0} (rules : Rules World Word Value Next) (s : World) (i : ℕ) (t : World) : Type 0 where
+pub record TurnOf {World Word Value Next : Type 0} (rules : Rules World Word Value Next) (s : World) (i : ℕ)
+    (t : World) : Type 0 where
   pub can : IsTrue (can_turn rules s i)
   pub is : t ≡ turned rules s i
 
 -- the worlds to which steps of the seats below `seats` lead from s
-pub data LeadsBy {World : Type 0} (Step : World → ℕ → World → Type 0) (seats : ℕ) (s : World) : World → Type 0 where
+pub data LeadsBy {World : Type 0} (Step : World → ℕ → World → Type 0) (seats : ℕ) (s : World) : World
+    → Type 0 where
   none : LeadsBy Step seats s s
   more : {t u : World} (i : ℕ) → i < seats → LeadsBy Step seats s t → Step t i u → LeadsBy Step seats s u
 

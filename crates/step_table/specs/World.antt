@@ -1,5 +1,6 @@
 -- The world that the step table speaks of: words, lists, seats and the journal, by their numbers.
-use Rattle.std.specs.Prelude.{ℕ, ◌+◌, ◌-◌, ◌%◌, Bool, true, false, List, [], ◌∷◌, ◌++◌, drop, eqb, cond, nat_lt}
+use Rattle.std.specs.Prelude.{ℕ, ◌+◌, ◌-◌, ◌%◌, Bool, true, false, List, [], ◌∷◌, ◌++◌, drop, eqb, cond}
+use Rattle.std.specs.Prelude.{nat_lt}
 use Rattle.waiters.specs.declared.wait.WaitId.{WaitId}
 use Rattle.step_table.specs.declared.entry.Entry.{Entry}
 use Rattle.step_table.specs.declared.entry.Entry.TheVariants.{Queue, Leave}
@@ -10,15 +11,16 @@ use Rattle.step_table.specs.declared.place.Place.TheVariants.{Rest}
 use Rattle.step_table.specs.declared.word.Word.{Word}
 use Rattle.step_table.specs.declared.word.Word.TheVariants.{Counter, Lock, Waiters, Grant}
 
--- how many counters and seats there are, the root of each counter, and the number at which each counter starts
+-- how many counters and seats there are, the root of each counter, and the number at which each counter
+-- starts
 pub record Layout : Type 0 where
   pub counters : ℕ
   pub seats : ℕ
   pub root : ℕ → ℕ
   pub starts : ℕ → ℕ
 
--- the root of counter c: one of the first so many, which are no group's, has c modulo the number of their roots, and
--- each of the others has one of its own after those
+-- the root of counter c: one of the first so many, which are no group's, has c modulo the number of their
+-- roots, and each of the others has one of its own after those
 abbrev pub root_number : ℕ → ℕ → ℕ → ℕ
 root_number own roots c = cond (nat_lt c own) (c % roots) (roots + (c - own))
 
@@ -91,7 +93,8 @@ hand_after Wakes hand = drop 1 hand
 hand_after _ hand = hand
 
 abbrev pub seat_after : Effect → Place → SeatState → SeatState
-seat_after effect place seat = record { place = place; turn = turn_after effect seat.turn; hand = hand_after effect seat.hand }
+seat_after effect place seat =
+    record { place = place; turn = turn_after effect seat.turn; hand = hand_after effect seat.hand }
 
 -- the world in which all seats are at rest and nothing has happened
 abbrev pub first_world : (ℕ → ℕ) → SemaWorld

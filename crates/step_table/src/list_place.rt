@@ -1,7 +1,7 @@
 ghost use Rattle.std.specs.Prelude.{◌≡◌};
 ghost use Rattle.step_table.specs.Row.{list_row_of, wait_row_name, one_row_name, all_row_name};
 
-use table_names::Row;
+use crate::row::Row;
 use waiters::{SeatId, Wait};
 
 /// A ticket of a notify list.
@@ -23,7 +23,8 @@ pub enum WaitRow {
     P,
 }
 
-/// A row of a notification of one wait. `O2` carries the wait word, `O5`, `O7` and `O8` the notify word that was read.
+/// A row of a notification of one wait. `O2` carries the wait word, `O5`, `O7` and `O8` the notify word that
+/// was read.
 #[derive(Clone, Copy, Drop)]
 pub enum OneRow {
     O1,
@@ -62,8 +63,9 @@ pub enum AllRow {
     L8,
 }
 
-/// Where a seat stands on a notify list: at rest, or before a row of its call. A notification carries how many tickets
-/// were handed out at its first look, and 0 before that. No row looks at it: it tells what the call may conclude.
+/// Where a seat stands on a notify list: at rest, or before a row of its call. A notification carries how
+/// many tickets were handed out at its first look, and 0 before that. No row looks at it: it tells what the
+/// call may conclude.
 #[derive(Clone, Copy, Drop)]
 pub enum ListPlace {
     Rest,

@@ -1,7 +1,7 @@
 ghost use Rattle.std.specs.Prelude.{◌≡◌};
 ghost use Rattle.step_table.specs.Row.{row_of, acquire_row_name, release_row_name, many_row_name};
 
-use table_names::Row;
+use crate::row::Row;
 use waiters::CounterId;
 
 /// What an acquire was called with.
@@ -28,8 +28,8 @@ pub struct ReleaseMany {
     pub units: u32,
 }
 
-/// A row of an acquire, with what the seat carries to it.
-/// An exchange carries the number that it would leave: one less than was read. A parked seat carries its wait's turn.
+/// A row of an acquire, with what the seat carries to it. An exchange carries the number that it would leave:
+/// one less than was read. A parked seat carries its wait's turn.
 #[derive(Clone, Copy, Drop)]
 pub enum AcquireRow {
     A1,

@@ -4,10 +4,11 @@ ghost use Rattle.step_table.specs.Row.{group_row_name};
 use crate::group_id::GroupId;
 use crate::group_word::GroupWord;
 use crate::list_id::ListId;
-use table_names::{Misuse, Row};
+use crate::misuse::Misuse;
+use crate::row::Row;
 
-/// A row of a wait group, with what the seat carries to it: an add what it adds, and each row after a first look the word
-/// that was read.
+/// A row of a wait group, with what the seat carries to it: an add what it adds, and each row after a first
+/// look the word that was read.
 #[derive(Clone, Copy, Drop)]
 pub enum GroupRow {
     G1(i32),

@@ -1,7 +1,7 @@
 //! Each public name, called from outside as a caller writes it.
 //!
-//! What the calls answer in all their cases is tested beside each crate; here a short run goes through the names of each
-//! part. A call that answers want of memory is made once more.
+//! What the calls answer in all their cases is tested beside each crate; here a short run goes through the
+//! names of each part. A call that answers want of memory is made once more.
 #![tactic(auto)]
 
 #[cfg(test)]

@@ -4,7 +4,7 @@ use crate::given::holds;
 use std::alloc::{AllocError, Global};
 use std::process::Abort;
 use step_core::{
-    BentWorld, Call, CounterId, Entry, GroupId, Items, ListId, NoMemory, Parts, Phase, Row,
+    Call, ChangedWorld, CounterId, Entry, GroupId, Items, ListId, NoMemory, Parts, Phase, Row,
     RunRefused, Scenario, ScenarioRefused, SeatId, StepRefused, Variant, World, less, run,
 };
 
@@ -129,7 +129,7 @@ fn a_step_has_its_names(rt: HostRuntime) {
 }
 
 /// By the table whose acquire takes no second look, one sleeps beside a unit.
-fn sleeps_beside_a_unit(rt: &impl Abort, alloc: Global, world: &mut BentWorld<'_>) {
+fn sleeps_beside_a_unit(rt: &impl Abort, alloc: Global, world: &mut ChangedWorld<'_>) {
     for seat in [0, 0, 1, 1, 0, 0] {
         holds(rt, world.step(SeatId(seat)) == Ok(()));
     }
@@ -141,15 +141,15 @@ fn sleeps_beside_a_unit(rt: &impl Abort, alloc: Global, world: &mut BentWorld<'_
 }
 
 /// The start by this change of the table.
-fn bent<'s>(
+fn changed<'s>(
     rt: &impl Abort,
     alloc: Global,
     scenario: &'s Scenario,
     variant: Variant,
-) -> BentWorld<'s> {
-    match BentWorld::new(alloc, scenario, variant) {
+) -> ChangedWorld<'s> {
+    match ChangedWorld::new(alloc, scenario, variant) {
         Ok(world) => world,
-        Err(NoMemory) => BentWorld::new(alloc, scenario, variant).expect(rt, "a world"),
+        Err(NoMemory) => ChangedWorld::new(alloc, scenario, variant).expect(rt, "a world"),
     }
 }
 
@@ -157,10 +157,10 @@ fn bent<'s>(
 fn a_changed_table_has_its_names(rt: HostRuntime) {
     let alloc = rt.alloc();
     let scenario = scenario(&rt, alloc, true);
-    let mut world = bent(&rt, alloc, &scenario, Variant::NoLook);
+    let mut world = changed(&rt, alloc, &scenario, Variant::NoLook);
     sleeps_beside_a_unit(&rt, alloc, &mut world);
     for variant in [Variant::LateCount, Variant::PlainLess] {
-        let mut world = bent(&rt, alloc, &scenario, variant);
+        let mut world = changed(&rt, alloc, &scenario, variant);
         holds(&rt, world.step(SeatId(1)) == Ok(()));
     }
 }

@@ -1,5 +1,6 @@
 -- What an acquire and a release of a seat add to its uses of the counter.
-use Rattle.std.proofs.Common.{◌≡◌, ℕ, zero, suc, ◌+◌, ◌-◌, ◌≤◌, true, false, ◌&&◌, eqb, cond, List, [], ◌∷◌, ◌++◌, inl, inr, refl, sym, ap, ◌∙◌, subst, arith, append-nil, append_assoc, eq-eqb}
+use Rattle.std.proofs.Common.{◌≡◌, ℕ, zero, suc, ◌+◌, ◌-◌, ◌≤◌, true, false, ◌&&◌, eqb, cond, List, [], ◌∷◌, ◌++◌, inl, inr, refl, sym, ap, ◌∙◌, subst, arith}
+use Rattle.std.proofs.Common.{append-nil, append_assoc, eq-eqb}
 use Rattle.std.proofs.lemmas.List.Elements.{filter-append}
 use Rattle.step_table.specs.declared.entry.Entry.{Entry}
 use Rattle.step_table.specs.declared.entry.Entry.TheVariants.{Add, Take, Leave}
@@ -13,10 +14,10 @@ use Rattle.step_table.specs.declared.word.Word.{Word}
 use Rattle.step_table.specs.Journal.{plain_start, IsLawful, takes}
 use Rattle.step_table.specs.Path.{GoesOn, OnlyLooked}
 use Rattle.step_table.proofs.Paths.{goes_on_more}
-use Rattle.sema_law.specs.SemaPath.{SemaStride, is_own, placed, SemaDid}
-use Rattle.sema_law.proofs.SemaPaths.{the_sema_paths}
-use Rattle.sema_law.proofs.Telling.{count_append}
-use Rattle.sema_law.proofs.Stories.{takes_counts}
+use Rattle.step_law_semaphores.specs.SemaPath.{SemaStride, is_own, placed, SemaDid}
+use Rattle.step_law_semaphores.proofs.SemaPaths.{the_sema_paths}
+use Rattle.step_law_semaphores.proofs.Telling.{count_append}
+use Rattle.step_law_semaphores.proofs.Stories.{takes_counts}
 use Rattle.sema_table.specs.declared.answers.Wake.{Wake}
 use Rattle.sema_table.specs.declared.answers.Wake.TheVariants.{Nobody, One, Handed}
 use Rattle.sema_table.specs.Setting.{layout}

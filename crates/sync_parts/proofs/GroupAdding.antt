@@ -1,13 +1,14 @@
 -- The rows of an add, and its releases.
-use Rattle.std.proofs.Common.{◌≡◌, ℕ, zero, suc, ◌+◌, ◌-◌, ◌≤◌, ◌==◌, ◌&&◌, ◌||◌, not, if◌then◌else◌, Bool, true, false, List, [], ◌∷◌, ◌++◌, ℤ, pos, sym, refl, ap, ◌∙◌, subst, append_assoc, inl, inr, arith, eqb-true}
+use Rattle.std.proofs.Common.{◌≡◌, ℕ, zero, suc, ◌+◌, ◌-◌, ◌≤◌, ◌==◌, ◌&&◌, ◌||◌, not, if◌then◌else◌, Bool, true, false, List, [], ◌∷◌, ◌++◌, ℤ, pos, sym, refl}
+use Rattle.std.proofs.Common.{ap, ◌∙◌, subst, append_assoc, inl, inr, arith, eqb-true}
 use Rattle.std.specs.Prelude.{Ok, Err, int_lt}
 use Rattle.std.specs.Ordering.{int_eq}
 use Rattle.std.proofs.lemmas.Bool.Decides.{same_from_decides, Decides-int_eq}
 use Rattle.std.proofs.lemmas.Int.{ints}
 use Rattle.step_table.proofs.GroupBits.{same_is, same_itself}
 use Rattle.step_table.specs.declared.group_word.GroupWord.{GroupWord}
-use Rattle.table_names.specs.declared.misuse.Misuse.{Misuse}
-use Rattle.table_names.specs.declared.misuse.Misuse.TheVariants.{Negative, AddWithWait}
+use Rattle.step_table.specs.declared.misuse.Misuse.{Misuse}
+use Rattle.step_table.specs.declared.misuse.Misuse.TheVariants.{Negative, AddWithWait}
 use Rattle.step_table.specs.declared.standing.GroupRow.{GroupRow}
 use Rattle.step_table.specs.declared.standing.GroupRow.TheVariants.{G1, G2, G3}
 use Rattle.step_table.specs.declared.standing.GroupNext.{GroupNext}

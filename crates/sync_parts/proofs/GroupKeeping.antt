@@ -1,5 +1,6 @@
 -- A row on the state word goes to the end of the history.
-use Rattle.std.proofs.Common.{◌≡◌, ◌≢◌, ℕ, ◌<◌, List, [], ◌∷◌, ◌++◌, slice_index, sym, refl, ap, ◌∙◌, subst, ⊎_elim, inr, arith, length-set, get_or-set_same, IsTrue}
+use Rattle.std.proofs.Common.{◌≡◌, ◌≢◌, ℕ, ◌<◌, List, [], ◌∷◌, ◌++◌, slice_index, sym, refl, ap, ◌∙◌, subst, ⊎_elim, inr, arith, length-set, get_or-set_same}
+use Rattle.std.proofs.Common.{IsTrue}
 use mathlib.Core.Option.{Option}
 use Rattle.running_rows.specs.Table.{keeps}
 use Rattle.step_table.specs.declared.group_word.GroupWord.{GroupWord}

@@ -1,5 +1,6 @@
 -- Each row in the history of a state word is that of a seat.
-use Rattle.std.proofs.Common.{◌≡◌, ℕ, ◌<◌, ◌≤◌, ◌==◌, if◌then◌else◌, Bool, true, false, List, [], ◌∷◌, refl, sym, ap, subst, ⊎_elim, inl, inr, eq-eqb, lt_of_not-le}
+use Rattle.std.proofs.Common.{◌≡◌, ℕ, ◌<◌, ◌≤◌, ◌==◌, if◌then◌else◌, Bool, true, false, List, [], ◌∷◌, refl, sym, ap, subst, ⊎_elim, inl, inr, eq-eqb}
+use Rattle.std.proofs.Common.{lt_of_not-le}
 use mathlib.Core.Logic.{dite}
 use native.Mathlib.Decide.{dec_le}
 use Rattle.running_rows.specs.Table.{State}

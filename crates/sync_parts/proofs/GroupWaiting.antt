@@ -1,5 +1,6 @@
 -- The rows of a wait.
-use Rattle.std.proofs.Common.{◌≡◌, ◌≢◌, ℕ, if◌then◌else◌, Bool, true, false, List, [], ◌∷◌, ◌++◌, map, ℤ, pos, sym, refl, ap, ◌∙◌, subst, append-nil, append_assoc, inl, inr}
+use Rattle.std.proofs.Common.{◌≡◌, ◌≢◌, ℕ, if◌then◌else◌, Bool, true, false, List, [], ◌∷◌, ◌++◌, map, ℤ, pos, sym, refl, ap, ◌∙◌, subst, append-nil}
+use Rattle.std.proofs.Common.{append_assoc, inl, inr}
 use Rattle.std.proofs.lemmas.List.{map-append}
 use Rattle.std.specs.Prelude.{FitsSigned}
 use Rattle.std.specs.Int.{w32, cast_signed, cast_unsigned}
@@ -12,7 +13,7 @@ use Rattle.step_table.specs.declared.standing.GroupRow.TheVariants.{G1, V1, V2, 
 use Rattle.step_table.specs.declared.standing.GroupNext.{GroupNext}
 use Rattle.step_table.specs.declared.standing.GroupNext.TheVariants.{Ends, Goes, Fails, Acquires, Releases}
 use Rattle.step_table.specs.Group.{empty_word, group_row, same_word}
-use Rattle.table_names.specs.declared.misuse.Misuse.TheVariants.{Reused}
+use Rattle.step_table.specs.declared.misuse.Misuse.TheVariants.{Reused}
 use Rattle.step_table.proofs.GroupBits.{same_is, same_itself}
 use Rattle.sema_table.specs.Seats.{SeatModel}
 use Rattle.sema_table.specs.Whole.{IsAcquired}

@@ -1,5 +1,6 @@
 -- What a seat's uses of a counter grow by: what it told that it added, and what was taken for it.
-use Rattle.std.proofs.Common.{◌≡◌, ℕ, ◌+◌, ◌≤◌, Bool, true, false, ◌&&◌, eqb, cond, List, [], ◌∷◌, ◌++◌, refl, sym, ap, ◌∙◌, arith, append_assoc, eq-eqb, ne_eqb}
+use Rattle.std.proofs.Common.{◌≡◌, ℕ, ◌+◌, ◌≤◌, Bool, true, false, ◌&&◌, eqb, cond, List, [], ◌∷◌, ◌++◌, refl, sym, ap, ◌∙◌, arith, append_assoc, eq-eqb}
+use Rattle.std.proofs.Common.{ne_eqb}
 use Rattle.std.proofs.Math.Bool.{and-false}
 use Rattle.std.proofs.lemmas.List.{append_cancel_left}
 use Rattle.std.proofs.lemmas.List.Elements.{filter-append}
@@ -10,9 +11,9 @@ use Rattle.step_table.specs.Counting.{on}
 use Rattle.step_table.specs.Journal.{takes}
 use Rattle.step_table.specs.Path.{GoesOn}
 use Rattle.step_table.proofs.Sums.{on_here}
-use Rattle.sema_law.specs.SemaPath.{is_own}
-use Rattle.sema_law.proofs.Telling.{count_append}
-use Rattle.sema_law.proofs.Stories.{takes_counts}
+use Rattle.step_law_semaphores.specs.SemaPath.{is_own}
+use Rattle.step_law_semaphores.proofs.Telling.{count_append}
+use Rattle.step_law_semaphores.proofs.Stories.{takes_counts}
 use Rattle.sema_table.specs.Calls.{TellsIn}
 use Rattle.sync_parts.specs.Lock.{is_use, uses}
 

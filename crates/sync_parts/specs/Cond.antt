@@ -5,8 +5,9 @@ use Rattle.notify_list.specs.Tickets.{IsAdded}
 use Rattle.notify_list.specs.Waiting.{IsWaited, IsGranted}
 use Rattle.notify_list.specs.Callers.{GetsTicket, WaitsForGrant}
 
--- the seat took a ticket, unlocked the locker showing the holding that has it, waited with the ticket until it was granted, and
--- locked the locker. Its rows on the list are those of the two, and no others: so it grants nothing
+-- the seat took a ticket, unlocked the locker showing the holding that has it, waited with the ticket until
+-- it was granted, and locked the locker. Its rows on the list are those of the two, and no others: so it
+-- grants nothing
 pub record HasWaited {L : Type 0} (unlocks : L → SeatModel → L → Type 0) (locks : L → L → Type 0)
     (s : SeatModel) (l : L) (waited : Waited) (t : SeatModel) (m : L) : Type 0 where
   pub holding : SeatModel
@@ -17,8 +18,8 @@ pub record HasWaited {L : Type 0} (unlocks : L → SeatModel → L → Type 0) (
   pub granted : IsGranted holding t
   pub locked : locks between m
 
--- the same to a caller who knows no rows: the seat got a ticket, and held it while the locker was unlocked; it waited with it, and
--- the locker was locked
+-- the same to a caller who knows no rows: the seat got a ticket, and held it while the locker was unlocked;
+-- it waited with it, and the locker was locked
 pub record WaitsForSignal {L : Type 0} (unlocks : L → SeatModel → L → Type 0) (locks : L → L → Type 0)
     (s : SeatModel) (l : L) (waited : Waited) (t : SeatModel) (m : L) : Type 0 where
   pub holding : SeatModel

@@ -8,14 +8,16 @@ use Rattle.sema_table.specs.Seats.{TableModel}
 use Rattle.sema_table.specs.Meeting.{HasMet}
 use Rattle.sync_parts.specs.Lock.{LockModel, uses, lock_calls}
 
--- these uses of a counter by one seat are Take and Add in turn: it takes where it holds no unit, and adds where it holds one
+-- these uses of a counter by one seat are Take and Add in turn: it takes where it holds no unit, and adds
+-- where it holds one
 abbrev pub InTurn : Bool → List Entry → Type 0
 InTurn holds [] = Unit {0}
 InTurn false (Take c s ∷ rest) = InTurn true rest
 InTurn true (Add c s ∷ rest) = InTurn false rest
 InTurn holds (e ∷ rest) = ⊥
 
--- the counter started at 1, and only locks have used it: of each seat the journal tells Take and Add in turn, a Take first
+-- the counter started at 1, and only locks have used it: of each seat the journal tells Take and Add in turn,
+-- a Take first
 pub record OnlyLocks (t : TableModel) (c : ℕ) (journal : List Entry) : Type 0 where
   pub started : slice_index t.setting.starts c ≡ 1
   pub in_turn : (i : ℕ) → InTurn false (uses c i journal)
@@ -31,8 +33,8 @@ TheLocks =
     → IsLawful (plain_start (layout t.setting).starts) journal → OnlyLocks t c journal
     → (i k : ℕ) → HoldsUnit c i journal → HoldsUnit c k journal → i ≡ k
 
--- two locks of one counter met: their seats met, neither has used the counter meanwhile, and if only locks used it, in what
--- both have seen now, they aren't both held
+-- two locks of one counter met: their seats met, neither has used the counter meanwhile, and if only locks
+-- used it, in what both have seen now, they aren't both held
 pub record HaveMet (one other one_now other_now : LockModel) : Type 0 where
   pub met : HasMet one.seat other.seat one_now.seat other_now.seat
   pub one_is : one_now ≡ record one { seat = one_now.seat }

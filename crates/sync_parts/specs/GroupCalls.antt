@@ -1,10 +1,11 @@
--- What the calls of a wait group promise: the rows that they ran on the state word, the semaphore's left out, and what they did on
--- the semaphore.
-use Rattle.std.specs.Prelude.{◌≡◌, ◌≢◌, ◌⊎◌, ℕ, zero, suc, ◌+◌, if◌then◌else◌, false, List, [], ◌∷◌, ◌++◌, map, ℤ, pos, MatchResult, Result, Ok, Err, IfOk}
+-- What the calls of a wait group promise: the rows that they ran on the state word, the semaphore's left out,
+-- and what they did on the semaphore.
+use Rattle.std.specs.Prelude.{◌≡◌, ◌≢◌, ◌⊎◌, ℕ, zero, suc, ◌+◌, if◌then◌else◌, false, List, [], ◌∷◌, ◌++◌}
+use Rattle.std.specs.Prelude.{map, ℤ, pos, MatchResult, Result, Ok, Err, IfOk}
 use Rattle.std.specs.Ordering.{int_eq}
 use Rattle.step_table.specs.declared.group_word.GroupWord.{GroupWord}
-use Rattle.table_names.specs.declared.misuse.Misuse.{Misuse}
-use Rattle.table_names.specs.declared.misuse.Misuse.TheVariants.{Reused}
+use Rattle.step_table.specs.declared.misuse.Misuse.{Misuse}
+use Rattle.step_table.specs.declared.misuse.Misuse.TheVariants.{Reused}
 use Rattle.step_table.specs.declared.standing.GroupRow.{GroupRow}
 use Rattle.step_table.specs.declared.standing.GroupRow.TheVariants.{G1, V1, V3}
 use Rattle.step_table.specs.declared.standing.GroupNext.{GroupNext}
@@ -38,20 +39,22 @@ pub record IsUncounted (s t : GroupSeatModel) : Type 0 where
   pub alone : t.sema ≡ s.sema
 
 -- V2 was won, and one whole acquire took a unit of the semaphore. Then V3 found this word
-pub record IsCounted (s : GroupSeatModel) (word : GroupWord) (next : GroupNext) (t : GroupSeatModel) : Type 0 where
+pub record IsCounted (s : GroupSeatModel) (word : GroupWord) (next : GroupNext) (t : GroupSeatModel)
+    : Type 0 where
   pub before : List GroupStep
   pub ran : RanSteps s (before ++ step V3 word ∷ []) t
   pub path : Walks s.sema.number V1 before Acquires
   pub acquired : IsAcquired s.sema 0 false t.sema
   pub looked : Walks s.sema.number V3 (step V3 word ∷ []) next
 
--- a wait comes back where it found counter 0, uncounted, or counted and then with nobody counted or waiting; or else the group was
--- used again
+-- a wait comes back where it found counter 0, uncounted, or counted and then with nobody counted or waiting;
+-- or else the group was used again
 abbrev pub IsWaited : GroupSeatModel → GroupSeatModel → Result (Unit {0}) Misuse → Type 0
 IsWaited s t answer =
     MatchResult answer
     (λ done. IsUncounted s t ⊎ IsCounted s empty_word Ends t)
-    (λ misuse. (misuse ≡ Reused) × ((word : GroupWord) × (word ≢ empty_word) × IsCounted s word (Fails Reused) t))
+    (λ misuse. (misuse ≡ Reused)
+    × ((word : GroupWord) × (word ≢ empty_word) × IsCounted s word (Fails Reused) t))
 
 -- so many releases of a unit of the semaphore, without handoff, one after the other
 abbrev pub HasReleased : ℕ → SeatModel → SeatModel → Type 0
@@ -69,8 +72,8 @@ Answers _ s t answer = ⊥
 abbrev pub waits_at_zero : GroupWord → ℕ
 waits_at_zero w = if int_eq w.counter (pos 0) then w.waits else 0
 
--- G1 found this word, and what followed led here, and to this answer. It is a number of releases exactly where that is what is left
--- to wake in the word that G1 left
+-- G1 found this word, and what followed led here, and to this answer. It is a number of releases exactly
+-- where that is what is left to wake in the word that G1 left
 pub record IsAdded (s : GroupSeatModel) (d : ℤ) (t : GroupSeatModel) (answer : Result ℕ Misuse) : Type 0 where
   pub found : GroupWord
   pub after : List GroupStep

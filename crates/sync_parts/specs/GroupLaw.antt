@@ -27,8 +27,8 @@ pub record IsOfASeat (seats : ℕ) (s : WordState) (m : Moment GroupStep) : Type
   pub number : seat.number ≡ m.seat
   pub ran : In m.stride seat.gone
 
--- there is one history of rows, which left the word as it is. Each of them is one that a seat has run, and each seat has run its
--- own of them
+-- there is one history of rows, which left the word as it is. Each of them is one that a seat has run, and
+-- each seat has run its own of them
 pub record IsLawfulGroup (seats : ℕ) (s : WordState) : Type 0 where
   pub history : List (Moment GroupStep)
   pub leads : Leads empty_word history (word_in (slice_index s.words 0))

@@ -1,5 +1,6 @@
--- The rows of a state word: there is one history of them, each of which found the word that those before it left, and each seat has
--- run its own of them, call after call. Nobody but a seat runs any, and there are so many seats at most.
+-- The rows of a state word: there is one history of them, each of which found the word that those before it
+-- left, and each seat has run its own of them, call after call. Nobody but a seat runs any, and there are so
+-- many seats at most.
 use Rattle.std.specs.Prelude.{◌≡◌, ℕ, ◌<◌, false, refl, List, [], ◌∷◌, length, slice_index}
 use Rattle.step_table.specs.declared.group_word.GroupWord.{GroupWord}
 use Rattle.step_table.specs.declared.standing.GroupRow.{GroupRow}
@@ -24,8 +25,8 @@ IsFirst (G1 d) = Unit {0}
 IsFirst V1 = Unit {0}
 IsFirst _ = ⊥
 
--- which row may come: the one to which the last row led; after an acquire the last look of a wait; where no call is under way the
--- first of another
+-- which row may come: the one to which the last row led; after an acquire the last look of a wait; where no
+-- call is under way the first of another
 abbrev pub Follows : GroupNext → GroupRow → Type 0
 Follows (Goes next) row = row ≡ next
 Follows Acquires row = row ≡ V3
@@ -39,7 +40,8 @@ AreCalls from (p ∷ steps) to = Follows from p.row × AreCalls (group_row p.row
 -- each row found the word that the row before it left, and the last left this one
 abbrev pub Leads : GroupWord → List (Moment GroupStep) → GroupWord → Type 0
 Leads word [] left = left ≡ word
-Leads word (m ∷ history) left = (m.stride.found ≡ word) × Leads (group_row m.stride.row m.stride.found).0 history left
+Leads word (m ∷ history) left =
+    (m.stride.found ≡ word) × Leads (group_row m.stride.row m.stride.found).0 history left
 
 -- a state word, where each seat goes, and all rows that ran, of which the rows know nothing
 pub record GroupLife : Type 0 where

@@ -18,14 +18,15 @@ pub record GroupModel : Type 0 where
   pub word : TableId
   pub sema : TableModel
 
--- a seat of a wait group: its group, its seat on the semaphore, and all rows that it has run on the state word, each with the word
--- that it found
+-- a seat of a wait group: its group, its seat on the semaphore, and all rows that it has run on the state
+-- word, each with the word that it found
 pub record GroupSeatModel : Type 0 where
   pub group : GroupModel
   pub sema : SeatModel
   pub steps : List GroupStep
 
--- what the semaphore of a group with so many seats is made with: one counter at 0, one root, 2^40 releases a seat
+-- what the semaphore of a group with so many seats is made with: one counter at 0, one root, 2^40 releases a
+-- seat
 abbrev pub group_setting : ℕ → Setting
 group_setting seats = record { starts = 0 ∷ []; roots = 1; seats = seats; limit = 2 ^ 40; seed = 0 }
 
@@ -38,11 +39,13 @@ is_free (Goes row) = false
 is_free Acquires = false
 is_free _ = true
 
--- what a seat keeps between two calls: none is under way, and it has one number on the state word and on the semaphore
+-- what a seat keeps between two calls: none is under way, and it has one number on the state word and on the
+-- semaphore
 pub record IsGroupSeat (t : Token) (s : SeatModel) : Type 0 where
   pub some : 0 < t.me.0.own.knows.seats
   pub free : is_free t.me.0.own.knows.next ≡ true
   pub number : t.me.0.own.number ≡ s.number
 
 abbrev pub group_seat_of : Token → SeatModel → GroupSeatModel
-group_seat_of t s = record { group = record { word = t.table_id; sema = s.table }; sema = s; steps = t.me.0.own.gone }
+group_seat_of t s =
+    record { group = record { word = t.table_id; sema = s.table }; sema = s; steps = t.me.0.own.gone }

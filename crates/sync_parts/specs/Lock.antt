@@ -1,5 +1,6 @@
 -- A lock over a counter: what a caller sees of it, and its calls as a list.
-use Rattle.std.specs.Prelude.{◌≡◌, ℕ, ◌<◌, Bool, true, false, ◌&&◌, eqb, List, [], ◌∷◌, ◌++◌, length, map, Option, Some, None}
+use Rattle.std.specs.Prelude.{◌≡◌, ℕ, ◌<◌, Bool, true, false, ◌&&◌, eqb, List, [], ◌∷◌, ◌++◌, length, map}
+use Rattle.std.specs.Prelude.{Option, Some, None}
 use Rattle.std.specs.List.{filter}
 use Rattle.step_table.specs.declared.entry.Entry.{Entry}
 use Rattle.step_table.specs.declared.entry.Entry.TheVariants.{Add, AddMany, Take}
@@ -26,7 +27,8 @@ is_use c i _ = false
 abbrev pub uses : ℕ → ℕ → List Entry → List Entry
 uses c i journal = filter (is_use c i) journal
 
--- the calls of a lock, told from what its seat has seen: a Take for each time that it was locked, an Add for each release
+-- the calls of a lock, told from what its seat has seen: a Take for each time that it was locked, an Add for
+-- each release
 abbrev pub lock_calls : LockModel → List Entry
 lock_calls l = uses l.counter l.seat.number l.seat.sight.seen
 
@@ -51,8 +53,8 @@ seat_or t (Some s) = s
 abbrev pub lock_of : TableModel → Option SeatModel → ℕ → Bool → LockModel
 lock_of t seat counter held = record { seat = seat_or t seat; counter = counter; held = held }
 
--- what it keeps: a seat of its table, for which the journal tells as many takes as it counts, and a counter of the table. While
--- it is held, the last of its calls took a unit
+-- what it keeps: a seat of its table, for which the journal tells as many takes as it counts, and a counter
+-- of the table. While it is held, the last of its calls took a unit
 pub record IsLock (t : TableModel) (seat : Option SeatModel) (counter : ℕ) (held : Bool) : Type 0 where
   pub mine : SeatModel
   pub seat_is : seat ≡ Some mine

@@ -62,8 +62,8 @@ impl Cond {
         (seat, waited)
     }
 
-    /// Grants the least ticket that isn't granted, and wakes its wait where that is queued (Go's `Cond.Signal`). It answers the
-    /// ticket.
+    /// Grants the least ticket that isn't granted, and wakes its wait where that is queued (Go's
+    /// `Cond.Signal`). It answers the ticket.
     pub fn signal<R: Wait>(&self, rt: &R, seat: &mut ListSeat) -> Option<u64>
         requires { seat.old.list ≡ self.now }
         ensures rows { NotifiesOne seat.old result seat.new }

@@ -1,14 +1,14 @@
 //! A wait group, and a seat of it.
 ghost use Rattle.std.specs.Prelude.{◌≡◌, ◌+◌};
-ghost use Rattle.sema_law.specs.Balances.{added_by};
+ghost use Rattle.step_law_semaphores.specs.Balances.{added_by};
 
 use crate::group_rows::StateToken;
 use crate::state_word::StateWord;
 use sema_table::{Seat, SemaTable};
 use std::marker::Model;
 
-/// What is still to be done, counted, and waits that sleep until nothing is (Go's `sync.WaitGroup`). Its calls take `&self` and a
-/// seat, so threads share it in an `Arc`.
+/// What is still to be done, counted, and waits that sleep until nothing is (Go's `sync.WaitGroup`). Its
+/// calls take `&self` and a seat, so threads share it in an `Arc`.
 #[derive(Drop)]
 pub struct WaitGroup {
     pub(crate) word: StateWord,
@@ -48,7 +48,8 @@ impl GroupSeat {
     /// How many releases more the seat may make: 2^40 less those that it has made.
     pub fn left(&self) -> u64
         ensures left { result ≡ self.now.sema.left }
-        ensures made { result + added_by self.now.sema.number self.now.sema.sight.seen ≡ self.now.sema.table.setting.limit }
+        ensures made { result + added_by self.now.sema.number self.now.sema.sight.seen
+            ≡ self.now.sema.table.setting.limit }
     {
         self.sema.left()
     }

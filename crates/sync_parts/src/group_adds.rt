@@ -43,8 +43,9 @@ fn is_quiet(left: GroupWord) -> bool
 }
 
 impl WaitGroup {
-    /// Adds `d`, which may be below 0, and where that leads to 0 releases each wait: how many (Go's `WaitGroup.Add`). `Negative`
-    /// says that it led below 0, `AddWithWait` that it ran beside a wait. The seat comes back in either case.
+    /// Adds `d`, which may be below 0, and where that leads to 0 releases each wait: how many (Go's
+    /// `WaitGroup.Add`). `Negative` says that it led below 0, `AddWithWait` that it ran beside a wait. The
+    /// seat comes back in either case.
     #[inline]
     pub fn add<R: Wait>(&self, rt: &R, seat: GroupSeat, d: i32) -> (GroupSeat, Result<u32, Misuse>)
         requires own { seat.group ≡ self.now }
@@ -60,8 +61,8 @@ impl WaitGroup {
         self.finish_add(rt, token, sema, d, word)
     }
 
-    /// The rest of an add that has left this word. What it keeps of a seat in memory is cleared and written in here, and not
-    /// before each add.
+    /// The rest of an add that has left this word. What it keeps of a seat in memory is cleared and written
+    /// in here, and not before each add.
     #[inline]
     fn finish_add<R: Wait>(
         &self,
@@ -104,7 +105,8 @@ impl WaitGroup {
             Ok(false) => return (GroupSeat { token, sema }, Ok(0)),
             Ok(true) => {}
         }
-        // Looked at again: an add or a wait that came since has begun a round beside waits that haven't come back.
+        // Looked at again: an add or a wait that came since has begun a round beside waits that haven't come
+        // back.
         if self.word.load(&mut token) != word {
             return (GroupSeat { token, sema }, Err(Misuse::AddWithWait));
         }
@@ -123,8 +125,8 @@ impl WaitGroup {
         self.add(rt, seat, -1)
     }
 
-    /// Releases so many waits. The word was emptied before: a wait that was released earlier would find the old word, and take it
-    /// for that of a new round.
+    /// Releases so many waits. The word was emptied before: a wait that was released earlier would find the
+    /// old word, and take it for that of a new round.
     #[inline(never)]
     fn release_waits<R: Wait>(&self, rt: &R, _emptied: &StateToken, sema: Seat, waits: u32) -> Seat
         requires emptied { _emptied.now.me.0.own.knows.next ≡ Releases waits }

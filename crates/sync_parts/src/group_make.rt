@@ -38,7 +38,8 @@ impl StateWord {
     fn split(&self, first: &mut StateToken) -> StateToken
         requires own { first.old.table_id ≡ self.now.id }
         requires makes { (0 < first.old.me.0.made) × (first.old.me.0.made < first.old.me.0.own.knows.seats) }
-        ensures first { (first.new.table_id ≡ self.now.id) × (first.new.me ≡ (making first.old.me.0, first.old.me.1)) }
+        ensures first { (first.new.table_id ≡ self.now.id)
+            × (first.new.me ≡ (making first.old.me.0, first.old.me.1)) }
         ensures made { (result.table_id ≡ self.now.id)
             × (result.me ≡ (lone (fresh_seat group_rows first.old.me.0.own.knows.seats first.old.me.0.made), [])) }
     {
@@ -68,7 +69,8 @@ fn seat_all(
     first: StateToken,
     seats: Vec<Seat>,
 ) -> Result<Vec<GroupSeat>, AllocError>
-    requires first { (first.table_id ≡ word.now.id) × (first.me ≡ (first_view group_rows word.now.seats, [])) }
+    requires first { (first.table_id ≡ word.now.id)
+        × (first.me ≡ (first_view group_rows word.now.seats, [])) }
     requires some { 0 < word.now.seats }
     requires numbers { map (λ s. s.number) seats.items ≡ range_with_len 0 word.now.seats }
     ensures { IfOk result (λ made. made.items ≡ map (seat_on word.now.id) seats.items) }
@@ -111,8 +113,8 @@ fn make(alloc: Global, seats: u32) -> Result<(WaitGroup, Vec<GroupSeat>), AllocE
 }
 
 impl WaitGroup {
-    /// A group with so many seats, in the order of their numbers, in which nobody is counted. An error has made nothing: there are
-    /// not 1 to 256 seats, or memory was refused.
+    /// A group with so many seats, in the order of their numbers, in which nobody is counted. An error has
+    /// made nothing: there are not 1 to 256 seats, or memory was refused.
     pub fn with_seats(alloc: Global, seats: u32) -> Result<(WaitGroup, Vec<GroupSeat>), SetupError>
         ensures ok { IfOk result (λ t. IsGroupMade seats t.0 t.1.items) }
         ensures own { IfOk result (λ t. All (λ s. s.group ≡ t.0) t.1.items) }

@@ -5,8 +5,8 @@ ghost use Rattle.sync_parts.specs.GroupPlays.{at_add, at_load};
 use crate::group_view::{GroupKnown, GroupStep};
 use running_rows::{Rows, Start};
 
-/// The rows of a state word, which was made with how many seats there are. There is one history of them, each of which found the
-/// word that those before it left.
+/// The rows of a state word, which was made with how many seats there are. There is one history of them, each
+/// of which found the word that those before it left.
 pub struct GroupRows;
 
 /// A seat of the state word. There is no record.

@@ -21,7 +21,8 @@ const EMPTY: GroupWord = GroupWord {
 };
 
 impl StateWord {
-    /// V2 for the word that V1 found, and V1 again where V2 is lost, until one of them settles it: whether the wait is counted.
+    /// V2 for the word that V1 found, and V1 again where V2 is lost, until one of them settles it: whether
+    /// the wait is counted.
     fn count_unless_zero<R: Wait>(&self, rt: &R, token: &mut StateToken, word: GroupWord) -> bool
         requires own { token.old.table_id ≡ self.now.id }
         requires some { 0 < token.old.me.0.own.knows.seats }
@@ -32,8 +33,8 @@ impl StateWord {
     {
         let mut word = word;
         for _ in rt.forever() {
-            // Counted by an exchange for the word that was looked at: the add that leads to 0 may have come since, and would not
-            // release a wait that is counted after it.
+            // Counted by an exchange for the word that was looked at: the add that leads to 0 may have come
+            // since, and would not release a wait that is counted after it.
             if self.count_wait(token, word) {
                 return true;
             }
@@ -47,8 +48,8 @@ impl StateWord {
 }
 
 impl WaitGroup {
-    /// Comes back where the counter is 0, and sleeps until then (Go's `WaitGroup.Wait`). `Reused` says that the group was used
-    /// again before this wait had come back. The seat comes back in either case.
+    /// Comes back where the counter is 0, and sleeps until then (Go's `WaitGroup.Wait`). `Reused` says that
+    /// the group was used again before this wait had come back. The seat comes back in either case.
     #[inline]
     pub fn wait<R: Wait>(&self, rt: &R, seat: GroupSeat) -> (GroupSeat, Result<(), Misuse>)
         requires { seat.group ≡ self.now }
@@ -63,8 +64,8 @@ impl WaitGroup {
         self.finish_wait(rt, token, sema, word)
     }
 
-    /// The rest of a wait that has found this word. What it keeps of a seat in memory is cleared and written in here, and not
-    /// before each wait.
+    /// The rest of a wait that has found this word. What it keeps of a seat in memory is cleared and written
+    /// in here, and not before each wait.
     #[inline]
     fn finish_wait<R: Wait>(
         &self,
@@ -102,7 +103,8 @@ impl WaitGroup {
             return (GroupSeat { token, sema }, Ok(()));
         }
         let sema = self.sema.acquire(rt, sema, CounterId::new(0), false);
-        // Looked at again: the add that released this wait had emptied the word before, so another word is that of a new round.
+        // Looked at again: the add that released this wait had emptied the word before, so another word is
+        // that of a new round.
         if self.word.load(&mut token) == EMPTY {
             return (GroupSeat { token, sema }, Ok(()));
         }

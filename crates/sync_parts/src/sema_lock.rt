@@ -13,8 +13,9 @@ use std::marker::Model;
 use std::sync::Wait;
 use waiters::CounterId;
 
-/// An acquire without lifo, by the seat that lies here. Who was woken for the lock, with others perhaps, looks for a while and
-/// then sleeps: breaks and tries between them would keep the processor from who holds it.
+/// An acquire without lifo, by the seat that lies here. Who was woken for the lock, with others perhaps,
+/// looks for a while and then sleeps: breaks and tries between them would keep the processor from who holds
+/// it.
 #[inline]
 fn acquire_for<R: Wait>(
     rt: &R,
@@ -92,7 +93,8 @@ impl<'t> SemaLock<'t> {
         }
     }
 
-    /// Locks: takes the counter's unit; while another has it, looks for a while, and then sleeps (an acquire without lifo).
+    /// Locks: takes the counter's unit; while another has it, looks for a while, and then sleeps (an acquire
+    /// without lifo).
     pub fn acquire<R: Wait>(&mut self, rt: &R)
         requires { self.old.held ≡ false }
         ensures { HasLocked self.old self.new }
@@ -131,8 +133,8 @@ impl<'t> SemaLock<'t> {
         self.held = false;
     }
 
-    /// The seats of two locks of one counter meet. Afterwards at most one of the two is held, if only such locks
-    /// used the counter.
+    /// The seats of two locks of one counter meet. Afterwards at most one of the two is held, if only such
+    /// locks used the counter.
     pub fn meet(&mut self, other: &mut SemaLock<'_>)
         requires { (other.old.seat.table ≡ self.old.seat.table) × (other.old.counter ≡ self.old.counter) }
         ensures { HaveMet self.old other.old self.new other.new }

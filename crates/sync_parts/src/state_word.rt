@@ -72,9 +72,11 @@ impl StateWord {
 
     /// V2: counts one more wait if the word is still that which was seen.
     pub(crate) fn count_wait(&self, token: &mut StateToken, seen: GroupWord) -> bool
-        requires own { (token.old.table_id ≡ self.now.id) × (token.old.me.0.own.knows.next ≡ Goes (V2 seen)) × IsGroupWord seen }
+        requires own { (token.old.table_id ≡ self.now.id) × (token.old.me.0.own.knows.next ≡ Goes (V2 seen))
+            × IsGroupWord seen }
         requires some { 0 < token.old.me.0.own.knows.seats }
-        ensures { (found : GroupWord) × (result ≡ same_word seen found) × Steps token.old (V2 seen) found token.new }
+        ensures { (found : GroupWord) × (result ≡ same_word seen found)
+            × Steps token.old (V2 seen) found token.new }
     {
         let bits = bits_of(seen);
         self.words

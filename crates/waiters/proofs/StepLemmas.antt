@@ -1,5 +1,6 @@
 -- Lemmas on one step of `Lists`: one list changes, and every other keeps its records.
-use Rattle.std.proofs.Common.{◌≡◌, ◌≢◌, ℕ, ◌+◌, ◌-◌, ◌<◌, ◌≤◌, ◌^◌, List, [], ◌∷◌, ◌++◌, length, map, Option, Some, None, is_some, cond, eqb, refl, sym, ap, ◌∙◌, append-nil, length-append, inl, inr, arith, get_or}
+use Rattle.std.proofs.Common.{◌≡◌, ◌≢◌, ℕ, ◌+◌, ◌-◌, ◌<◌, ◌≤◌, ◌^◌, List, [], ◌∷◌, ◌++◌, length, map, Option, Some, None, is_some, cond, eqb, refl, sym, ap}
+use Rattle.std.proofs.Common.{◌∙◌, append-nil, length-append, inl, inr, arith, get_or}
 use Rattle.std.proofs.lemmas.Bool.{cases_eq}
 use Rattle.std.proofs.lemmas.Bool.Decides.{nat_tests}
 use Rattle.std.proofs.lemmas.List.{map_push, length-map}
@@ -12,9 +13,12 @@ use Rattle.waiters.specs.declared.wait.Wait.{Wait}
 use Rattle.waiters.specs.declared.lists.Record.{Record}
 use Rattle.waiters.specs.declared.lists.Chain.{Chain}
 use Rattle.waiters.specs.declared.lists.Place.{Place}
-use Rattle.waiters.specs.Chains.{waits_in, waits_of, listed, Linked, last_key, Links, Owned, IsChain, HasRoom, AreChained, IsThere, Appends, Prepends, Unlinks, StandsAt, FoundAt, Finds}
+use Rattle.waiters.specs.Chains.{waits_in, waits_of, listed, Linked, last_key, Links, Owned, IsChain, HasRoom, AreChained, IsThere, Appends, Prepends, Unlinks}
+use Rattle.waiters.specs.Chains.{StandsAt, FoundAt, Finds}
 use Rattle.waiters.proofs.SlotLemmas.{get_or-trimmed}
-use Rattle.waiters.proofs.ChainLemmas.{Avoids, Avoids-last, Linked-split, same_entries, nil_from_last, nil_from_none, Avoids-vacant, Avoids-owned, Owned-changed, Owned-split, Owned-join, front_of, waits_from-Linked, length-Linked, Linked-Updates, Linked-others, Relinks-room, last_there, slab_len-with_value, Links-appended, Links-prepended, Links-unlinked}
+use Rattle.waiters.proofs.ChainLemmas.{Avoids, Avoids-last, Linked-split, same_entries, nil_from_last, nil_from_none, Avoids-vacant, Avoids-owned}
+use Rattle.waiters.proofs.ChainLemmas.{Owned-changed, Owned-split, Owned-join, front_of, waits_from-Linked, length-Linked, Linked-Updates, Linked-others}
+use Rattle.waiters.proofs.ChainLemmas.{Relinks-room, last_there, slab_len-with_value, Links-appended, Links-prepended, Links-unlinked}
 
 pub list_at-listed : (records : Slab Record) (chains : Slab Chain) (key : ℕ) → get_or (listed records chains) key None ≡ waits_in records (get chains key)
 list_at-listed records chains key =

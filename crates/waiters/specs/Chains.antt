@@ -1,4 +1,5 @@
--- How `Lists` keeps its lists: each open key has a chain of records, linked by index. No public clause cites this.
+-- How `Lists` keeps its lists: each open key has a chain of records, linked by index. No public clause cites
+-- this.
 use Rattle.std.specs.Prelude.{◌≡◌, ◌+◌, ◌<◌, ◌≤◌, ◌^◌, [], ◌∷◌, ◌++◌, if◌then◌else◌}
 use Rattle.std.specs.Prelude.{ℕ, zero, suc, List, map, drop, length, Option, Some, None, is_none}
 use Rattle.std.specs.Option.{option_or}
@@ -40,7 +41,8 @@ listed records chains = trimmed (map (waits_in records) chains.slots)
 abbrev pub Linked : Slab Record → Option ℕ → List (ℕ × Wait) → Option ℕ → Type 0
 Linked records here [] there = here ≡ there
 Linked records here (entry ∷ rest) there =
-    (next : Option ℕ) × (here ≡ Some entry.0) × (get records entry.0 ≡ Some (record { wait = entry.1; next = next }))
+    (next : Option ℕ) × (here ≡ Some entry.0)
+    × (get records entry.0 ≡ Some (record { wait = entry.1; next = next }))
     × Linked records next rest there
 
 -- the key of the last of these records, or `None` where there is none
@@ -91,7 +93,8 @@ IsThere records (Some key) = ContainsKey records key
 abbrev pub Relinks : Slab Record → Slab Record → Option ℕ → Option ℕ → Option ℕ → Option ℕ → Type 0
 Relinks old new first None next result = (new ≡ old) × (result ≡ next)
 Relinks old new first (Some key) next result =
-    (found : Record) × (get old key ≡ Some found) × (new ≡ with_value old key (record found { next = next })) × (result ≡ first)
+    (found : Record) × (get old key ≡ Some found) × (new ≡ with_value old key (record found { next = next }))
+    × (result ≡ first)
 
 -- a record with this wait was put at the end of a chain
 pub record Appends (old new : Slab Record) (chain : Chain) (wait : Wait) (longer : Chain) : Type 0 where
@@ -117,7 +120,8 @@ pub record Prepends (old new : Slab Record) (chain : Chain) (wait : Wait) (longe
   pub capacity : new.capacity ≡ old.capacity
 
 -- a record was taken out of its chain
-pub record Unlinks (old new : Slab Record) (chain : Chain) (place : Place) (wait : Wait) (left : Chain) : Type 0 where
+pub record Unlinks (old new : Slab Record) (chain : Chain) (place : Place) (wait : Wait) (left : Chain)
+    : Type 0 where
   pub next : Option ℕ
   pub middle : Slab Record
   pub found : get old place.key ≡ Some (record { wait = wait; next = next })
@@ -149,22 +153,26 @@ pub record FoundAt (entries : List (ℕ × Wait)) (ticket : ℕ) (place : Place)
 abbrev pub Finds : Slab Record → Chain → ℕ → Option Place → Type 0
 Finds records chain ticket None =
     (entries : List (ℕ × Wait)) × Links records chain entries
-    × (first_with ticket (waits_of entries) ≡ None) × (without_first ticket (waits_of entries) ≡ waits_of entries)
+    × (first_with ticket (waits_of entries) ≡ None)
+    × (without_first ticket (waits_of entries) ≡ waits_of entries)
 Finds records chain ticket (Some place) =
     (entries : List (ℕ × Wait)) × Links records chain entries × FoundAt entries ticket place
 
 -- a walk for the ticket has passed these records and found none
-pub record WalkedTo (records : Slab Record) (chain : Chain) (ticket : ℕ) (before here : Option ℕ) : Type 0 where
+pub record WalkedTo (records : Slab Record) (chain : Chain) (ticket : ℕ) (before here : Option ℕ)
+    : Type 0 where
   pub passed : List (ℕ × Wait)
   pub rest : List (ℕ × Wait)
   pub links : Links records chain (passed ++ rest)
   pub left : Linked records here rest None
   pub ends : before ≡ last_key passed
   pub first : first_with ticket (waits_of (passed ++ rest)) ≡ first_with ticket (waits_of rest)
-  pub without : without_first ticket (waits_of (passed ++ rest)) ≡ waits_of passed ++ without_first ticket (waits_of rest)
+  pub without : without_first ticket (waits_of (passed ++ rest)) ≡ waits_of passed
+      ++ without_first ticket (waits_of rest)
 
 -- the seats of the first records are copied, and the rest of the buffer is as it was
-pub record CopiedTo (records : Slab Record) (waits : List Wait) (old items : List ℕ) (here : Option ℕ) (copied : ℕ) : Type 0 where
+pub record CopiedTo (records : Slab Record) (waits : List Wait) (old items : List ℕ) (here : Option ℕ)
+    (copied : ℕ) : Type 0 where
   pub passed : List (ℕ × Wait)
   pub rest : List (ℕ × Wait)
   pub all : waits ≡ waits_of (passed ++ rest)

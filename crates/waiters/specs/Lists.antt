@@ -1,6 +1,7 @@
 -- What a contract sees of `Lists`: a finite map from open keys to lists of waits, and two numbers of room.
 use Rattle.std.specs.Prelude.{◌≡◌, ◌≢◌, ◌==◌, [], ◌∷◌, ◌++◌, if◌then◌else◌}
-use Rattle.std.specs.Prelude.{ℕ, List, map, take, drop, length, Option, Some, None, IsSome, slice_index_or, unwrap_or}
+use Rattle.std.specs.Prelude.{ℕ, List, map, take, drop, length, Option, Some, None, IsSome, slice_index_or}
+use Rattle.std.specs.Prelude.{unwrap_or}
 use Rattle.waiters.specs.declared.wait.Wait.{Wait}
 
 -- the list under each key from 0 on, `None` where none is open; how many more waits and lists fit

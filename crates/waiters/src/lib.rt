@@ -1,8 +1,8 @@
 //! Typed numbers for what waits on what: counters, seats and their waits; and lists of waits.
 //!
-//! A seat is one caller's place at a table of counters, used by one thread at a time. Each time a seat goes to
-//! sleep it queues a new wait, and its turns number them from 0. These are the names that Go's `semaRoot` and
-//! `notifyList` give by addresses and pointers.
+//! A seat is one caller's place at a table of counters, used by one thread at a time. Each time a seat goes
+//! to sleep it queues a new wait, and its turns number them from 0. These are the names that Go's `semaRoot`
+//! and `notifyList` give by addresses and pointers.
 #![tactic(auto)]
 
 mod counter_id;

@@ -1,6 +1,6 @@
-//! A copy of a slab in the memory of another: each value under its key. First [`reserve_as`], which may be refused, and
-//! then [`copy_values`], which takes no memory: a step for each key up to the last value's, and none where there is no
-//! value.
+//! A copy of a slab in the memory of another: each value under its key. First [`reserve_as`], which may be
+//! refused, and then [`copy_values`], which takes no memory: a step for each key up to the last value's, and
+//! none where there is no value.
 ghost use Rattle.std.specs.Prelude.{◌≡◌, ◌≢◌, ◌<◌, ◌≤◌, ℕ, OnOk, Some};
 ghost use Rattle.slab.specs.Slab.{get, SameValues};
 ghost use Rattle.waiters.specs.Slabs.{HasAll};
@@ -54,13 +54,14 @@ fn put_all<T: Copy + Drop>(slab: &mut Slab<T>, other: &Slab<T>)
     }
 }
 
-// Puts a value under a key. A slab picks the key of what is inserted, so this fills vacant keys up to the one that is
-// asked for.
+// Puts a value under a key. A slab picks the key of what is inserted, so this fills vacant keys up to the one
+// that is asked for.
 #[inline]
 fn put<T: Copy + Drop>(slab: &mut Slab<T>, key: usize, value: T)
     requires { key < slab.old.capacity }
     ensures there { get slab.new key ≡ Some value }
-    ensures kept { (other : ℕ) (found : T) → other ≢ key → get slab.old other ≡ Some found → get slab.new other ≡ Some found }
+    ensures kept { (other : ℕ) (found : T) → other ≢ key → get slab.old other ≡ Some found
+        → get slab.new other ≡ Some found }
     ensures capacity { slab.new.capacity ≡ slab.old.capacity }
 {
     while !slab.contains(key) && slab.len() < slab.capacity() {

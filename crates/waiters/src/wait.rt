@@ -22,7 +22,8 @@ impl fmt::Display for WaitId {
     }
 }
 
-/// A wait as a list holds it. On a notify list the ticket says which notification it is for; elsewhere it is 0.
+/// A wait as a list holds it. On a notify list the ticket says which notification it is for; elsewhere it is
+/// 0.
 #[derive(Clone, Copy, Debug, PartialEq, Eq, Drop)]
 pub struct Wait {
     pub id: WaitId,

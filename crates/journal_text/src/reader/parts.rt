@@ -3,7 +3,8 @@
 ghost use Rattle.std.specs.Prelude.{◌≡◌, ◌++◌, List, ℕ, MatchOption};
 ghost use Rattle.std.specs.Option.{option_map};
 ghost use Rattle.journal_text.specs.JournalLine.{IsShort, IsOneOf};
-ghost use Rattle.journal_text.specs.Reading.{ReadsAs, EndsNumber, PartsNumbers, IsAfter, IsLast, IsLastTwo, IsLastThree, IsIndexed, IsIndexedTwo, IsIndexedThree};
+ghost use Rattle.journal_text.specs.Reading.{ReadsAs, EndsNumber, PartsNumbers, IsAfter, IsLast, IsLastTwo};
+ghost use Rattle.journal_text.specs.Reading.{IsLastThree, IsIndexed, IsIndexedTwo, IsIndexedThree};
 
 use crate::reader::number::{number, split_digits};
 
@@ -27,7 +28,8 @@ fn number_after<'a>(text: &'a [u8], word: &[u8]) -> Option<(u128, &'a [u8])>
 
 /// The number behind the keyword, if so many things are declared, and what stands behind it.
 fn index_after<'a>(text: &'a [u8], keyword: &[u8], count: usize) -> Option<(usize, &'a [u8])>
-    ensures { ReadsAs (IsAfter (IsOneOf count) keyword.now text.now) (option_map (λ z. (z.0, z.1.now)) result) }
+    ensures { ReadsAs (IsAfter (IsOneOf count) keyword.now text.now)
+        (option_map (λ z. (z.0, z.1.now)) result) }
 {
     let (n, rest) = number_after(text, keyword)?;
     if n >= count as u128 {

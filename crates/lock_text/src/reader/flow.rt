@@ -1,6 +1,6 @@
 //! The lines without a step.
 
-ghost use Rattle.scenario_text.specs.Phrases.{ReadsAs};
+ghost use Rattle.explorer_text.specs.Phrases.{ReadsAs};
 ghost use Rattle.lock_text.specs.Words.{texts};
 ghost use Rattle.lock_text.specs.Lines.{AreArgumentsOf};
 ghost use Rattle.lock_text.specs.declared.reader.verb.Verb.TheVariants as verb;

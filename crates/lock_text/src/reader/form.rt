@@ -1,6 +1,6 @@
 //! What stands behind a line's first word.
 
-ghost use Rattle.scenario_text.specs.Phrases.{ReadsAs};
+ghost use Rattle.explorer_text.specs.Phrases.{ReadsAs};
 ghost use Rattle.lock_text.specs.Words.{texts};
 ghost use Rattle.lock_text.specs.Lines.{AreArgumentsOf};
 

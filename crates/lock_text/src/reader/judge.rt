@@ -5,7 +5,7 @@ ghost use Rattle.lock_text.specs.Answers.{Judges};
 use crate::fault::Cause;
 use crate::lines::Line;
 use crate::reader::line::read_line;
-use scenario_text::printable;
+use explorer_text::printable;
 use std::alloc::Global;
 
 /// The line that the bytes are, or what is wrong with them.

@@ -1,7 +1,7 @@
 //! The words inside of lines that are always the same.
 
 ghost use Rattle.std.specs.Prelude.{◌≡◌, ℕ, List};
-ghost use Rattle.scenario_text.specs.Phrases.{ReadsAs};
+ghost use Rattle.explorer_text.specs.Phrases.{ReadsAs};
 ghost use Rattle.lock_text.specs.Shapes.{IsLifo, IsHandoff, IsMany};
 
 use crate::reader::part::Part;

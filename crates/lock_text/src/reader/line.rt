@@ -1,7 +1,7 @@
 //! One line of a text.
 
 ghost use Rattle.std.specs.Prelude.{IfOk};
-ghost use Rattle.scenario_text.specs.Phrases.{ReadsAs};
+ghost use Rattle.explorer_text.specs.Phrases.{ReadsAs};
 ghost use Rattle.lock_text.specs.Words.{texts};
 ghost use Rattle.lock_text.specs.Lines.{AreWordsOf, IsLabel, Says};
 

@@ -1,7 +1,7 @@
 //! Names.
 
 ghost use Rattle.std.specs.Prelude.{◌≡◌};
-ghost use Rattle.scenario_text.specs.Phrases.{ReadsAs};
+ghost use Rattle.explorer_text.specs.Phrases.{ReadsAs};
 ghost use Rattle.lock_text.specs.Words as words;
 ghost use Rattle.lock_text.specs.Words.{IsName};
 

@@ -1,6 +1,6 @@
 //! Numbers.
 
-ghost use Rattle.scenario_text.specs.Phrases.{ReadsAs, IsNumber};
+ghost use Rattle.explorer_text.specs.Phrases.{ReadsAs, IsNumber};
 ghost use Rattle.lock_text.specs.Words.{IsNumberWord};
 
 use crate::words::Number;

@@ -1,6 +1,6 @@
 //! Operands and places.
 
-ghost use Rattle.scenario_text.specs.Phrases.{ReadsAs};
+ghost use Rattle.explorer_text.specs.Phrases.{ReadsAs};
 ghost use Rattle.lock_text.specs.Words.{IsOperand, IsPlace};
 
 use crate::reader::name::read_name;

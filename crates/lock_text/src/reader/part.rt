@@ -1,7 +1,7 @@
 //! What one word of a line may be, and how so many words are read one after the other.
 
 ghost use Rattle.std.specs.Prelude.{◌≡◌, ℕ, List};
-ghost use Rattle.scenario_text.specs.Phrases.{ReadsAs};
+ghost use Rattle.explorer_text.specs.Phrases.{ReadsAs};
 ghost use Rattle.lock_text.specs.Shapes.{AreOne, AreTwo, AreThree, AreFour};
 ghost use Rattle.lock_text.specs.Words as words;
 ghost use Rattle.lock_text.specs.Words.{texts};

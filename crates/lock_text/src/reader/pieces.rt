@@ -1,7 +1,7 @@
 //! Where a text's lines end.
 
 ghost use Rattle.std.specs.Prelude.{◌≡◌, ◌<◌, ◌∷◌, length, IfSome, position, ◌==◌};
-ghost use Rattle.scenario_text.specs.Pieces.{pieces};
+ghost use Rattle.explorer_text.specs.Pieces.{pieces};
 
 fn line_feed(text: &[u8]) -> Option<usize>
     ensures at { result ≡ position (λ byte. byte == 10) text.now }

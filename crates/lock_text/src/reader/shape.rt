@@ -1,7 +1,7 @@
 //! Parts that several lines share.
 
 ghost use Rattle.std.specs.Prelude.{◌≡◌, IfOk};
-ghost use Rattle.scenario_text.specs.Phrases.{ReadsAs};
+ghost use Rattle.explorer_text.specs.Phrases.{ReadsAs};
 ghost use Rattle.lock_text.specs.Words.{texts};
 ghost use Rattle.lock_text.specs.Lines as lines;
 ghost use Rattle.lock_text.specs.Shapes.{AreCells, AreAccess, AreNames};

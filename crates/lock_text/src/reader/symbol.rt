@@ -1,6 +1,6 @@
 //! Relations and operators.
 
-ghost use Rattle.scenario_text.specs.Phrases.{ReadsAs};
+ghost use Rattle.explorer_text.specs.Phrases.{ReadsAs};
 ghost use Rattle.lock_text.specs.Words.{IsRelation, IsOperator};
 
 use lock_lines::{Operator, Relation};

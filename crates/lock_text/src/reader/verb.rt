@@ -2,7 +2,7 @@
 
 ghost use Rattle.std.specs.Prelude.{◌≡◌, ◌≢◌, ℕ, ◌<◌, length, slice_index_or};
 ghost use Rattle.std.specs.Option.{MatchOption};
-ghost use Rattle.scenario_text.specs.Phrases.{ReadsAs};
+ghost use Rattle.explorer_text.specs.Phrases.{ReadsAs};
 ghost use Rattle.lock_text.specs.Verb.{verb_text, IsVerb};
 ghost use Rattle.lock_text.specs.declared.reader.verb.Verb.TheVariants as verb;
 

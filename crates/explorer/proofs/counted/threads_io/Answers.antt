@@ -1,5 +1,5 @@
 use Rattle.std.proofs.Common.{inr}
-use Rattle.scenario_search.proofs.Telling.{all_tell}
+use Rattle.explorer_scenarios.proofs.Telling.{all_tell}
 use Rattle.explorer.specs.ThreadsText.{IsThreadsAnswer}
 use Rattle.explorer.proofs.Outcomes.{answers, begun_tells}
 use Rattle.explorer.proofs.counted.threads_io.Goals as goal

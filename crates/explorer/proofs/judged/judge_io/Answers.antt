@@ -1,7 +1,7 @@
 use Rattle.std.proofs.Common.{rules}
 use Rattle.explorer.specs.JudgeText.{IsJudgeInput}
-use Rattle.scenario_search.proofs.Replying.{all_reply}
-use Rattle.scenario_search.proofs.Telling.{beginning_tells}
+use Rattle.explorer_scenarios.proofs.Replying.{all_reply}
+use Rattle.explorer_scenarios.proofs.Telling.{beginning_tells}
 use Rattle.explorer.proofs.Judging.{replies_judgement, tells_judgement}
 use Rattle.explorer.proofs.judged.judge_io.Goals as goal
 

@@ -1,6 +1,6 @@
 use Rattle.std.proofs.Common.{◌+◌, List, sym, subst, arith}
 use Rattle.std.proofs.lemmas.List.{nil_from_length}
-use Rattle.scenario_text.specs.Pieces.{Piece}
+use Rattle.explorer_text.specs.Pieces.{Piece}
 use Rattle.lock_text.specs.declared.lines.Line.{Line}
 use Rattle.lock_text.proofs.Texts.{SoFar, begins, turn, failed, lines_are, faultless}
 use Rattle.lock_text.proofs.reader.read_lines.Goals as goal

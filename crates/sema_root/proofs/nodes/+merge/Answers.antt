@@ -1,6 +1,7 @@
 use Rattle.std.proofs.Common.{arith}
 use Rattle.sema_root.proofs.Standing.{Opens-holds, Holds-occupied, smaller_left, smaller_right}
-use Rattle.sema_root.proofs.Parting.{Merges-no_first, Merges-no_second, AreMergeable-first, AreMergeable-second, Merges-first, Merges-second, first_around, second_around, Keeps-occupied}
+use Rattle.sema_root.proofs.Parting.{Merges-no_first, Merges-no_second, AreMergeable-first, AreMergeable-second, Merges-first, Merges-second, first_around}
+use Rattle.sema_root.proofs.Parting.{second_around, Keeps-occupied}
 use Rattle.sema_root.proofs.nodes.+merge.Goals as goal
 
 pub returns-in_default-clause-merges : goal.returns-in_default-clause-merges

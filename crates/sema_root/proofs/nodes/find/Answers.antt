@@ -1,6 +1,7 @@
 use Rattle.std.proofs.Common.{◌∙◌}
 use Rattle.sema_root.proofs.Parting.{Holds-leaf}
-use Rattle.sema_root.proofs.Standing.{Opens-holds, Holds-occupied, Holds-nothing, sought-open_here, sought-open_left, sought-open_right, smaller_left, smaller_right, same_tested, above_tested, below_tested}
+use Rattle.sema_root.proofs.Standing.{Opens-holds, Holds-occupied, Holds-nothing, sought-open_here, sought-open_left, sought-open_right, smaller_left}
+use Rattle.sema_root.proofs.Standing.{smaller_right, same_tested, above_tested, below_tested}
 use Rattle.sema_root.proofs.nodes.find.Goals as goal
 
 pub index-requires : goal.index-requires

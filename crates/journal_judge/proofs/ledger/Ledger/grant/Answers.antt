@@ -1,6 +1,6 @@
 use Rattle.std.proofs.Common.{ap}
 use Rattle.std.proofs.lemmas.List.{get_or_read_under}
-use Rattle.list_law.specs.ListLawful as list
+use Rattle.step_law_lists.specs.ListLawful as list
 use Rattle.step_table.specs.ListWorld.{Granted}
 use Rattle.journal_judge.specs.declared.tickets.Tickets.{Tickets}
 use Rattle.step_table.specs.Journal.{spent}

@@ -1,5 +1,5 @@
 use Rattle.std.proofs.Common.{arith, rules}
-use Rattle.scenario_text.specs.Pieces.{Piece}
+use Rattle.explorer_text.specs.Pieces.{Piece}
 use Rattle.lock_text.proofs.Judging.{formless, right}
 use Rattle.lock_text.proofs.reader.judge.judge.Goals as goal
 

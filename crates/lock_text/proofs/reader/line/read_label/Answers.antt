@@ -1,6 +1,6 @@
 use Rattle.std.proofs.Common.{ℕ, List, [], Some, None, Bor, get_or, sym, ◌∙◌}
 use Rattle.std.specs.Prelude.{codes}
-use Rattle.scenario_text.proofs.Parts.{stripped_end}
+use Rattle.explorer_text.proofs.Parts.{stripped_end}
 use Rattle.lock_text.specs.Words.{texts}
 use Rattle.lock_text.proofs.Parts.{texts_length, texts_one}
 use Rattle.lock_text.proofs.Wording.{label_one, label_none, label_many}

@@ -1,6 +1,6 @@
 use Rattle.std.proofs.Common.{◌≡◌, ℕ, List, [], ◌∷◌, Bor, get_or, ap, ◌∙◌, arith}
 use Rattle.std.specs.Prelude.{codes}
-use Rattle.scenario_text.proofs.Forms.{differs}
+use Rattle.explorer_text.proofs.Forms.{differs}
 use Rattle.lock_text.specs.Words.{texts}
 use Rattle.lock_text.proofs.Spelling.{equals}
 use Rattle.lock_text.proofs.Wording.{texts_first, others, label, registers, formed, no_verb}

@@ -1,6 +1,6 @@
 use Rattle.std.proofs.Common.{ℕ, Option, subst, sym, arith}
-use Rattle.scenario_text.specs.Phrases.{IsNumber, ReadsAs}
-use Rattle.scenario_text.proofs.Numbers.{IsPlain, not_plain, parsed_plain}
+use Rattle.explorer_text.specs.Phrases.{IsNumber, ReadsAs}
+use Rattle.explorer_text.proofs.Numbers.{IsPlain, not_plain, parsed_plain}
 use Rattle.lock_text.proofs.reader.number.read_digits.Goals as goal
 
 pub returns-then-is_empty : goal.returns-then-is_empty

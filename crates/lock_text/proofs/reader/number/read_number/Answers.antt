@@ -1,6 +1,6 @@
 use Rattle.std.proofs.Common.{Some}
 use Rattle.std.specs.Prelude.{codes}
-use Rattle.scenario_text.proofs.Parts.{stripped_front}
+use Rattle.explorer_text.proofs.Parts.{stripped_front}
 use Rattle.lock_text.proofs.Spelling.{number_plus, number_minus}
 use Rattle.lock_text.proofs.reader.number.read_number.Goals as goal
 

@@ -1,5 +1,5 @@
 use Rattle.std.specs.Prelude.{codes}
-use Rattle.scenario_text.proofs.Forms.{differs}
+use Rattle.explorer_text.proofs.Forms.{differs}
 use Rattle.lock_text.proofs.Spelling.{equals, operand_me, operand_number, operand_name, operand_none}
 use Rattle.lock_text.proofs.reader.operand.read_operand.Goals as goal
 

@@ -1,6 +1,6 @@
 use Rattle.std.proofs.Common.{Some, None}
 use Rattle.std.specs.Prelude.{codes}
-use Rattle.scenario_text.proofs.Parts.{stripped_end}
+use Rattle.explorer_text.proofs.Parts.{stripped_end}
 use Rattle.lock_text.proofs.Spelling.{place_plain, place_no_name, place_indexed, place_bad_name, place_open, place_bad_index}
 use Rattle.lock_text.proofs.reader.operand.read_place.Goals as goal
 

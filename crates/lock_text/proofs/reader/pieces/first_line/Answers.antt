@@ -1,5 +1,5 @@
 use Rattle.std.proofs.Common.{◌+◌, ◌-◌, length, take, drop, [], refl}
-use Rattle.scenario_text.proofs.Cutting.{cut_at, cut_none, behind}
+use Rattle.explorer_text.proofs.Cutting.{cut_at, cut_none, behind}
 use Rattle.lock_text.proofs.reader.pieces.first_line.Goals as goal
 
 pub returns-in-Some-clause-line : goal.returns-in-Some-clause-line

@@ -2,7 +2,8 @@ use Rattle.std.proofs.Common.{ℕ, ap, ◌∙◌, subst, rules}
 use Rattle.notify_list.specs.Seats.{SeatModel, seat_of}
 use Rattle.notify_list.specs.Calls.{AllGranted}
 use Rattle.notify_list.specs.NotifyingAll.{NotifiesAll, GrantsSome}
-use Rattle.notify_list.proofs.Broadcasting.{quiet_seat, quiet_all, quiet_none, quiet_granted, may_lock, may_reach, may_take, may_wake, locked_seat, locked_all, locked_some, locked_granted}
+use Rattle.notify_list.proofs.Broadcasting.{quiet_seat, quiet_all, quiet_none, quiet_granted, may_lock, may_reach, may_take, may_wake, locked_seat, locked_all}
+use Rattle.notify_list.proofs.Broadcasting.{locked_some, locked_granted}
 use Rattle.notify_list.proofs.Answering.{is_sound}
 use Rattle.notify_list.proofs.CallersNotifying.{notifies_all}
 use Rattle.notify_list.proofs.notify_list.NotifyList.all.Goals as goal

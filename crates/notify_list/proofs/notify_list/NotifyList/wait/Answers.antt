@@ -7,7 +7,8 @@ use Rattle.notify_list.specs.Seats.{ListModel, SeatModel, seat_of, queue_of}
 use Rattle.notify_list.proofs.Owned.{own, low_word, grant_low, owned, aside_in}
 use Rattle.notify_list.proofs.Allowing.{goes_at, takes_at}
 use Rattle.notify_list.proofs.Recording.{list_edited, gives_plain, gives_edited}
-use Rattle.notify_list.proofs.Queueing.{may_wait, stands_locked, stands_looked, number_looked, record_looked, has_room, w4, seat_at_once, waited_at_once, granted_at_once, seat_parked, waited_parked, granted_parked, ran_same}
+use Rattle.notify_list.proofs.Queueing.{may_wait, stands_locked, stands_looked, number_looked, record_looked, has_room, w4, seat_at_once, waited_at_once}
+use Rattle.notify_list.proofs.Queueing.{granted_at_once, seat_parked, waited_parked, granted_parked, ran_same}
 use Rattle.notify_list.proofs.Answering.{is_sound}
 use Rattle.notify_list.proofs.Callers.{waits_for}
 use Rattle.notify_list.proofs.notify_list.NotifyList.wait.Goals as goal

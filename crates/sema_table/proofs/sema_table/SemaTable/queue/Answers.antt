@@ -28,7 +28,7 @@ use Rattle.running_rows.specs.Rule.{IsSomeones}
 use Rattle.sema_table.specs.Rule.{lists_by, IsRecord, setting_of}
 use Rattle.sema_table.specs.Rows.{Me, semaphore_rows}
 use Rattle.step_table.proofs.Paths.{stride_told}
-use Rattle.sema_law.specs.SemaPath.{semaphores}
+use Rattle.step_law_semaphores.specs.SemaPath.{semaphores}
 use Rattle.sema_table.specs.Setting.{layout}
 use Rattle.sema_table.specs.Rule.{sight_by}
 use Rattle.sema_table.specs.Walks.{IsLast}

@@ -7,7 +7,8 @@ use Rattle.step_table.specs.declared.place.Place.TheVariants.{Releasing}
 use Rattle.step_table.specs.World.{SeatState}
 use Rattle.sema_table.specs.Walks.{trying, granting, taken_for}
 use Rattle.sema_table.proofs.Entering.{stands_at, stands_after}
-use Rattle.sema_table.proofs.Wakening.{nobody_seat, wakes_nobody, carried, carrying, none_added, trying_counter, granting_counter, settled, granted_seat, same_seat, at_rest, last_granted, wakes_one, wakes_handed}
+use Rattle.sema_table.proofs.Wakening.{nobody_seat, wakes_nobody, carried, carrying, none_added, trying_counter, granting_counter, settled, granted_seat}
+use Rattle.sema_table.proofs.Wakening.{same_seat, at_rest, last_granted, wakes_one, wakes_handed}
 use Rattle.sema_table.proofs.sema_table.SemaTable.wake_at_lock.Goals as goal
 
 pub take_first-first-requires : goal.take_first-first-requires

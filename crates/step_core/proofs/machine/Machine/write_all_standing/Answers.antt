@@ -1,9 +1,9 @@
 use Rattle.std.proofs.Common.{◌++◌, ap, ◌∙◌}
 use Rattle.step_table.specs.declared.standing.Standing.TheVariants.{Rest}
-use Rattle.key_words.specs.Key.{standing_words}
+use Rattle.step_keys.specs.Key.{standing_words}
 use Rattle.step_core.specs.State.{Machine}
 use Rattle.step_rows.proofs.KeyWriting.{item_is}
-use Rattle.key_words.proofs.KeyPieces.{none_written, one_written}
+use Rattle.step_keys.proofs.KeyPieces.{none_written, one_written}
 use Rattle.step_core.proofs.machine.Machine.write_all_standing.Goals as goal
 
 pub loop-standing-init : goal.loop-standing-init

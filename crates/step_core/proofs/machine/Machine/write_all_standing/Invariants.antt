@@ -1,5 +1,5 @@
 use Rattle.std.proofs.Common.{◌≡◌, ◌++◌}
-use Rattle.key_words.specs.Key.{joined, standing_words}
+use Rattle.step_keys.specs.Key.{joined, standing_words}
 use Rattle.step_table.specs.declared.standing.Standing.TheVariants.{Rest}
 use Rattle.step_rows.specs.Stored.{each}
 use Rattle.step_core.proofs.machine.Machine.write_all_standing.Given as goal

@@ -1,9 +1,9 @@
 use Rattle.std.proofs.Common.{◌++◌, ap, ◌∙◌}
 use Rattle.step_table.specs.Group.{empty_word}
-use Rattle.key_words.specs.Key.{group_words}
+use Rattle.step_keys.specs.Key.{group_words}
 use Rattle.step_core.specs.State.{Machine}
 use Rattle.step_rows.specs.Stored.{each}
-use Rattle.key_words.proofs.KeyPieces.{none_written, one_written}
+use Rattle.step_keys.proofs.KeyPieces.{none_written, one_written}
 use Rattle.step_core.proofs.machine.Machine.write_groups.Goals as goal
 
 pub loop-word-init : goal.loop-word-init

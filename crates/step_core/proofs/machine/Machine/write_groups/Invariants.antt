@@ -1,6 +1,6 @@
 use Rattle.std.proofs.Common.{◌≡◌, ◌++◌}
 use Rattle.step_table.specs.Group.{empty_word}
-use Rattle.key_words.specs.Key.{joined, group_words}
+use Rattle.step_keys.specs.Key.{joined, group_words}
 use Rattle.step_rows.specs.Stored.{each}
 use Rattle.step_core.proofs.machine.Machine.write_groups.Given as goal
 

@@ -1,9 +1,9 @@
 use Rattle.std.proofs.Common.{[], ◌++◌, length, ap, ◌∙◌}
-use Rattle.key_words.specs.Key.{list_words}
+use Rattle.step_keys.specs.Key.{list_words}
 use Rattle.step_rows.specs.ListStored.{world_of}
 use Rattle.step_core.specs.State.{Machine, no_list}
 use Rattle.step_rows.proofs.KeyWriting.{item_is}
-use Rattle.key_words.proofs.KeyPieces.{none_written, one_written}
+use Rattle.step_keys.proofs.KeyPieces.{none_written, one_written}
 use Rattle.step_core.proofs.machine.Machine.write_lists.Goals as goal
 
 pub loop-list-init : goal.loop-list-init

@@ -1,5 +1,5 @@
 use Rattle.std.proofs.Common.{◌≡◌, ◌++◌, [], length}
-use Rattle.key_words.specs.Key.{joined, list_words}
+use Rattle.step_keys.specs.Key.{joined, list_words}
 use Rattle.step_rows.specs.ListStored.{world_of}
 use Rattle.step_core.specs.State.{no_list}
 use Rattle.step_rows.specs.Stored.{each}

@@ -1,7 +1,8 @@
 use Rattle.std.proofs.Common.{drop, ap, sym, ◌∙◌, refl}
 use Rattle.std.specs.Prelude.{Some}
 use Rattle.waiters.specs.Chains.{waits_of}
-use Rattle.waiters.proofs.StepLemmas.{ContainsKey-open, AreChained-unlinked, Changes-unlinked, Changes-same, wait-unlinked, first_waits, waits_at-open, list_at-open, nil_from_first, StandsAt-first, ContainsKey-place, some_counted}
+use Rattle.waiters.proofs.StepLemmas.{ContainsKey-open, AreChained-unlinked, Changes-unlinked, Changes-same, wait-unlinked, first_waits, waits_at-open}
+use Rattle.waiters.proofs.StepLemmas.{list_at-open, nil_from_first, StandsAt-first, ContainsKey-place, some_counted}
 use Rattle.waiters.proofs.lists.Lists.pop_front.Goals as goal
 
 pub index-chain-requires : goal.index-chain-requires

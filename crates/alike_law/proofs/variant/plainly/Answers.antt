@@ -1,8 +1,0 @@
-use Rattle.std.proofs.Common.{rules}
-use Rattle.alike_law.proofs.variant.plainly.Goals as goal
-
-pub returns-then-ticket-notify : goal.returns-then-ticket-notify
-returns-then-ticket-notify c = search rules
-
-pub returns-else-ticket-notify : goal.returns-else-ticket-notify
-returns-else-ticket-notify c = search rules

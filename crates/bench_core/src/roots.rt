@@ -1,0 +1,63 @@
+ghost use Rattle.std.specs.Prelude.{◌<◌};
+
+use rand_core::{Rng, SeedableRng};
+use rand_xoshiro::Xoshiro256PlusPlus;
+use sema_root::RootStore;
+use std::io;
+use std::time::{Clock, Instant};
+use waiters::{CounterId, SeatId, Wait, WaitId};
+
+const TURNS: u32 = 2_000_000;
+
+/// Queues a wait, where there is room.
+#[inline]
+fn put<R: RootStore>(root: &mut R, counter: CounterId, wait: Wait) {
+    if !root.is_full() {
+        root.queue(counter, wait, false);
+    }
+}
+
+/// Queues a wait at each of the counters.
+fn fill<R: RootStore>(root: &mut R, counters: u16) {
+    for number in 0..counters {
+        let id = WaitId {
+            seat: SeatId::new(number),
+            turn: 0,
+        };
+        put(
+            root,
+            CounterId::new(u32::from(number)),
+            Wait { id, ticket: 0 },
+        );
+    }
+}
+
+/// A counter drawn at random.
+#[inline]
+fn draw(draws: &mut Xoshiro256PlusPlus, counters: u16) -> CounterId
+    requires { 0 < counters }
+{
+    CounterId::new((draws.next_u64() % u64::from(counters)) as u32)
+}
+
+/// Takes a wait out at a counter, and queues it there again.
+#[inline]
+fn queue_again<R: RootStore>(root: &mut R, counter: CounterId) {
+    if let Some(wait) = root.dequeue(counter) {
+        put(root, counter, wait);
+    }
+}
+
+/// What a turn costs, in nanoseconds: a wait is taken out at a counter drawn at random, and queued there
+/// again. Each of the counters has one wait.
+pub fn turn<R: RootStore>(clock: &impl Clock, root: &mut R, counters: u16) -> io::Result<u128>
+    requires { 0 < counters }
+{
+    fill(root, counters);
+    let mut draws = Xoshiro256PlusPlus::seed_from_u64(7);
+    let start = Instant::now(clock)?;
+    for _ in 0..TURNS {
+        queue_again(root, draw(&mut draws, counters));
+    }
+    Ok(start.elapsed(clock)?.as_nanos() / u128::from(TURNS))
+}

@@ -1,5 +1,0 @@
-use Rattle.std.proofs.Common.{arith}
-use Rattle.callers.proofs.adds_most.Goals as goal
-
-pub post_many-requires-clause-units : goal.post_many-requires-clause-units
-post_many-requires-clause-units c = (omega arith, omega arith)

@@ -1,5 +1,0 @@
-use Rattle.std.proofs.Common.{arith}
-use Rattle.callers.proofs.adds_one.Goals as goal
-
-pub add-seat-requires-clause-left : goal.add-seat-requires-clause-left
-add-seat-requires-clause-left c = omega arith

@@ -1,5 +1,0 @@
-use Rattle.std.proofs.Common.{rules}
-use Rattle.callers.proofs.closes.Goals as goal
-
-pub close-requires : goal.close-requires
-close-requires c = search rules

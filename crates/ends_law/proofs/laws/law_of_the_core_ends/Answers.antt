@@ -1,5 +1,0 @@
-use Rattle.ends_law.proofs.CoreEnding.{the_core_ends}
-use Rattle.ends_law.proofs.laws.law_of_the_core_ends.Goals as goal
-
-pub returns : goal.returns
-returns c = the_core_ends

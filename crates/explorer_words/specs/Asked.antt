@@ -1,0 +1,88 @@
+-- What the program's words may ask for.
+use Rattle.std.specs.Prelude.{◌≡◌, ◌≢◌, ◌⊎◌, ℕ, ◌≤◌, List, [], ◌∷◌, ◌++◌, Option, Some, None, IsSome, IfSome}
+use Rattle.std.specs.Prelude.{Bool, false, option_map, string_bytes, codes}
+use Rattle.std.specs.Borrow.{Bor}
+use Rattle.std.specs.IoError.{error_kind}
+use Rattle.std.specs.declared.io.Error.{Error}
+use Rattle.std.specs.declared.io.ErrorKind.TheVariants.{OutOfMemory}
+use Rattle.explorer_scenarios.specs.declared.command.Command.{Command}
+use Rattle.explorer_scenarios.specs.declared.command.Command.TheVariants.{Explore, Check, Replay}
+use Rattle.explorer_words.specs.declared.file_fault.FileFault.{FileFault}
+use Rattle.explorer_words.specs.FileFault.{fault_text}
+use Rattle.explorer_words.specs.declared.asked.Asked.{Asked}
+use Rattle.explorer_words.specs.declared.asked.Asked.TheVariants.{OfScenario, Judge, Threads, Mistake, NoText}
+use Rattle.explorer_words.specs.declared.asked.Asked.TheVariants.{NoMemory}
+
+-- 1 to so many
+abbrev pub IsFromOne : ℕ → ℕ → Type 0
+IsFromOne most n = (1 ≤ n) × (n ≤ most)
+
+-- 1 to 64 workers, and 1 to 1,000,000 rounds
+pub record AreWithin (workers rounds : ℕ) : Type 0 where
+  pub workers_are : IsFromOne 64 workers
+  pub rounds_are : IsFromOne 1000000 rounds
+
+-- at most 64 steps, and 1 to 1,000,000,000 worlds
+abbrev pub IsWithin : Command → Type 0
+IsWithin (Explore bounds table extras) = (bounds.depth ≤ 64) × IsFromOne 1000000000 bounds.worlds
+IsWithin (Check worlds every extras) = IsFromOne 1000000000 worlds
+IsWithin (Replay spelled table every drawn) = Unit {0}
+
+-- the numbers are within the limits of their command: 1 to 64 threads share a search, 1 to 1,000,000 lines
+-- are judged
+abbrev pub IsWithinLimits : Asked → Type 0
+IsWithinLimits (OfScenario command file answer threads) = IsWithin command × IsFromOne 64 threads
+IsWithinLimits (Judge file demands most) = IfSome most (IsFromOne 1000000)
+IsWithinLimits (Threads workers rounds) = AreWithin workers rounds
+IsWithinLimits _ = Unit {0}
+
+-- words that couldn't be read for this reason: memory was short, or one is no text
+abbrev pub IsWithoutWords : Error → Asked → Type 0
+IsWithoutWords error NoMemory = error_kind error ≡ OutOfMemory
+IsWithoutWords error NoText = error_kind error ≢ OutOfMemory
+IsWithoutWords error _ = ⊥
+
+-- of a file that can't be read this alone is told; or memory was short
+abbrev pub IsWithoutFile : List ℕ → FileFault → Asked → Type 0
+IsWithoutFile name fault (Mistake told) =
+    string_bytes told ≡ codes "parklot: cannot read "
+    ++ (name ++ (codes ": " ++ (fault_text fault ++ 10 ∷ [])))
+IsWithoutFile name fault NoMemory = Unit {0}
+IsWithoutFile name fault _ = ⊥
+
+-- the name of the file that is read in place of standard input
+abbrev pub file_of : Asked → Option (List ℕ)
+file_of (OfScenario command file answer threads) = option_map (λ name. name.now) file
+file_of (Judge file demands most) = option_map (λ name. name.now) file
+file_of _ = None
+
+-- `-` is no file's name, but standard input
+abbrev pub NamesNoInput : Asked → Type 0
+NamesNoInput asked = file_of asked ≢ Some (codes "-")
+
+-- the file of this name, or none where that is standard input
+abbrev pub IsFileNamed : Option (Bor (List ℕ)) → Option (Bor (List ℕ)) → Type 0
+IsFileNamed name file =
+    (option_map (λ text. text.now) file ≢ Some (codes "-"))
+    × ((file ≡ name) ⊎ (option_map (λ text. text.now) name ≡ Some (codes "-")))
+
+-- the name of the answer whose schedule is replayed
+abbrev pub answer_named : Asked → Option (List ℕ)
+answer_named (OfScenario command file answer threads) = option_map (λ name. name.now) answer
+answer_named _ = None
+
+-- standard input has one text at most: where it has the answer, the scenario stands in a file
+abbrev pub ReadsInputOnce : Asked → Type 0
+ReadsInputOnce asked = answer_named asked ≡ Some (codes "-") → IsSome (file_of asked)
+
+-- the same with the schedule that its answer has told, where a replay is asked for
+abbrev pub with_schedule : Asked → Bor (List ℕ) → Asked
+with_schedule (OfScenario (Replay spelled table every drawn) file answer threads) schedule =
+    OfScenario (Replay schedule table every drawn) file None threads
+with_schedule asked schedule = asked
+
+-- it is to be told how far a search has come, while it runs
+abbrev pub is_watched : Asked → Bool
+is_watched (OfScenario (Explore bounds table extras) file answer threads) = extras.live
+is_watched (OfScenario (Check worlds every extras) file answer threads) = extras.live
+is_watched _ = false

@@ -1,0 +1,16 @@
+//! The words of the program's command line, and what they ask for.
+//!
+//! [`read_words`] reads them with clap, by the commands of `command_line`: a command with its numbers, each
+//! within its limits, and the file that it reads in place of standard input; or help, or what is wrong with
+//! the words. What is asked is done by the crate `explorer`.
+#![tactic(auto)]
+
+mod asked;
+mod asking;
+mod file_fault;
+mod format;
+mod words;
+
+pub use asked::{Asked, MAX_LINES, MAX_ROUNDS, MAX_THREADS, MAX_WORKERS, MAX_WORLDS};
+pub use file_fault::FileFault;
+pub use words::{no_file, no_words, read_words};

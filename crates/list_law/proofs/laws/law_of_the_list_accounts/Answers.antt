@@ -1,5 +1,0 @@
-use Rattle.list_law.proofs.ListAccounts.{the_list_accounts}
-use Rattle.list_law.proofs.laws.law_of_the_list_accounts.Goals as goal
-
-pub returns : goal.returns
-returns c = the_list_accounts

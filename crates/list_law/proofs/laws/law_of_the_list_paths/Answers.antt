@@ -1,5 +1,0 @@
-use Rattle.list_law.proofs.ListPaths.{the_list_paths}
-use Rattle.list_law.proofs.laws.law_of_the_list_paths.Goals as goal
-
-pub returns : goal.returns
-returns c = the_list_paths

@@ -1,5 +1,0 @@
-use Rattle.list_law.proofs.ListPromises.{the_list_law}
-use Rattle.list_law.proofs.laws.law_of_the_lists.Goals as goal
-
-pub returns : goal.returns
-returns c = the_list_law

@@ -1,4 +1,0 @@
-pub mod Renaming
-pub mod AllSeats
-pub mod Renamed
-pub mod DifferInNames

@@ -1,5 +1,0 @@
-use Rattle.std.proofs.Common.{rules}
-use Rattle.row_outcomes.proofs.list_rows.outcome_of.Goals as goal
-
-pub returns-in-Adding : goal.returns-in-Adding
-returns-in-Adding c = search rules

@@ -1,0 +1,10 @@
+use Rattle.std.proofs.Common.{◌≡◌, vec_len}
+use Rattle.std.specs.List.{All}
+use Rattle.sema_table_crew.specs.Crew.{IsWorker}
+use Rattle.sema_table_crew.proofs.crew.hire_all.Given as goal
+
+abbrev pub invariant-loop-seat : goal.invariant-loop-seat
+invariant-loop-seat g l = All (λ s. s.table ≡ l.fn.table) l.seats.items × All (IsWorker l.fn.table l.plan) l.workers.items
+
+abbrev pub decreases-loop-seat : goal.decreases-loop-seat
+decreases-loop-seat g l = vec_len l.seats

@@ -1,0 +1,222 @@
+-- Where a changed table leads, a seat stands as well as where the table leads: only what has been seen, and the count of
+-- waiter words, can tell the places apart.
+use Rattle.std.proofs.Common.{◌≡◌, ℕ, Bool, true, false, if◌then◌else◌, nat_lt, List, Option, refl}
+use Rattle.waiters.specs.declared.wait.Wait.{Wait}
+use Rattle.waiters.specs.declared.wait.WaitId.{WaitId}
+use Rattle.step_table.specs.declared.list_place.ListPlace.{ListPlace}
+use Rattle.step_table.specs.declared.list_place.ListPlace.TheVariants.{Waiting}
+use Rattle.step_table.specs.declared.list_place.Ticket.{Ticket}
+use Rattle.step_table.specs.declared.list_place.WaitRow.{WaitRow}
+use Rattle.step_table.specs.declared.list_place.WaitRow.TheVariants.{W2, W3, W4}
+use Rattle.step_table.specs.declared.place.Acquire.{Acquire}
+use Rattle.step_table.specs.declared.place.AcquireRow.{AcquireRow}
+use Rattle.step_table.specs.declared.place.AcquireRow.TheVariants.{A3, A4, A5, A6, A7, A8, A9}
+use Rattle.step_table.specs.declared.place.Place.{Place}
+use Rattle.step_table.specs.declared.place.Place.TheVariants.{Acquiring}
+use Rattle.step_table.specs.declared.place.Place.TheVariants as on_counter
+use Rattle.step_table.specs.declared.list_place.ListPlace.TheVariants as on_list
+use Rattle.step_table.specs.declared.standing.After.{After}
+use Rattle.step_table.specs.declared.standing.After.TheVariants.{NextCall, LooksAgain, Releases}
+use Rattle.step_law_alike.specs.declared.variant.Variant.{Variant}
+use Rattle.step_law_alike.specs.declared.variant.Variant.TheVariants.{NoLook, LateCount, PlainLess}
+use Rattle.step_law_semaphores.specs.Lawful.{holds, IsGrantOf}
+use Rattle.step_table.specs.Counting.{counter_at, IsWithin}
+use Rattle.step_law_semaphores.specs.Invariant.{awaits, asleep, owing, HandFits, Finds}
+use Rattle.step_table.specs.ListWorld.{ListWords}
+use Rattle.step_law_lists.specs.ListLawful as lists
+use Rattle.step_law_lists.specs.ListInvariant as list
+use Rattle.step_table.specs.Core.{CoreLayout}
+use Rattle.step_law_whole.specs.CoreLaw.{IsCallBefore}
+use Rattle.step_law_whole.specs.RunInvariant.{to_add, to_take, has_ticket}
+use Rattle.step_law_alike.specs.Changed.{changed_row, changed_place, changed_wait_row, changed_list_place}
+use Rattle.step_law_lists.specs.ListWellFormed.{StillReads}
+
+-- two places between which a change of the table leads
+pub data Bends : Place → Place → Type 0 where
+  same : {p : Place} → Bends p p
+  skips_look : {a : Acquire} → Bends (Acquiring a A5) (Acquiring a A7)
+  looks_first : {a : Acquire} → Bends (Acquiring a A4) (Acquiring a A5)
+  counts_late : {a : Acquire} → Bends (Acquiring a A7) (Acquiring a A4)
+  lowers_none : {a : Acquire} → Bends (Acquiring a A8) (Acquiring a A9)
+
+row_bends : (v : Variant) (b : Acquire) (from next : AcquireRow) → Bends (Acquiring b next) (Acquiring b (changed_row v from next))
+row_bends NoLook b A4 A5 = skips_look
+row_bends LateCount b A3 A4 = looks_first
+row_bends LateCount b A5 A7 = counts_late
+row_bends LateCount b A4 A5 = skips_look
+row_bends LateCount b (A6 left) A8 = lowers_none
+row_bends v b from next = same
+
+pub bends : (v : Variant) (from next : Place) → Bends next (changed_place v from next)
+bends v (Acquiring a from) (Acquiring b next) = row_bends v b from next
+bends v from next = same
+
+-- what of a place the invariant of form and bounds looks at
+pub record IsAsGood (p q : Place) : Type 0 where
+  pub holds : (root : ℕ → ℕ) (r : ℕ) → holds root r q ≡ holds root r p
+  pub counter : counter_at q ≡ counter_at p
+  pub awaits : (c : ℕ) (w : WaitId) (k grant : ℕ) → awaits c w k q grant ≡ awaits c w k p grant
+  pub asleep : (grant : ℕ) → asleep q grant ≡ asleep p grant
+  pub owing : (n : ℕ) → owing q n ≡ owing p n
+  pub to_add : to_add q ≡ to_add p
+  pub within : (n : ℕ) → IsWithin n p → IsWithin n q
+  pub fits : (n : ℕ) → HandFits p n → HandFits q n
+  pub granted : (grant : ℕ) → IsGrantOf p grant → IsGrantOf q grant
+  pub finds : (waits : ℕ → List WaitId) → Finds waits p → Finds waits q
+  pub call : (m : CoreLayout) (after : After) → IsCallBefore m after p → IsCallBefore m after q
+  pub rest : p ≡ on_counter.Rest → q ≡ on_counter.Rest
+
+call_at : (m : CoreLayout) (after : After) (a : Acquire) (row next : AcquireRow) → IsCallBefore m after (Acquiring a row) → IsCallBefore m after (Acquiring a next)
+call_at m NextCall a row next is = ((λ e. cc), is.1)
+call_at m (LooksAgain g) a row next is = is
+call_at m (Releases g more) a row next is = is
+
+pub as_good : {p q : Place} → Bends p q → IsAsGood p q
+as_good same = record {
+  holds = λ root r. refl;
+  counter = refl;
+  awaits = λ c w k grant. refl;
+  asleep = λ grant. refl;
+  owing = λ n. refl;
+  to_add = refl;
+  within = λ n is. is;
+  fits = λ n is. is;
+  granted = λ grant is. is;
+  finds = λ waits is. is;
+  call = λ m after is. is;
+  rest = λ e. e;
+}
+as_good (skips_look {a = a}) = record {
+  holds = λ root r. refl;
+  counter = refl;
+  awaits = λ c w k grant. refl;
+  asleep = λ grant. refl;
+  owing = λ n. refl;
+  to_add = refl;
+  within = λ n is. is;
+  fits = λ n is. is;
+  granted = λ grant is. is;
+  finds = λ waits is. is;
+  call = λ m after is. call_at m after a A5 A7 is;
+  rest = λ e. cc;
+}
+as_good (looks_first {a = a}) = record {
+  holds = λ root r. refl;
+  counter = refl;
+  awaits = λ c w k grant. refl;
+  asleep = λ grant. refl;
+  owing = λ n. refl;
+  to_add = refl;
+  within = λ n is. is;
+  fits = λ n is. is;
+  granted = λ grant is. is;
+  finds = λ waits is. is;
+  call = λ m after is. call_at m after a A4 A5 is;
+  rest = λ e. cc;
+}
+as_good (counts_late {a = a}) = record {
+  holds = λ root r. refl;
+  counter = refl;
+  awaits = λ c w k grant. refl;
+  asleep = λ grant. refl;
+  owing = λ n. refl;
+  to_add = refl;
+  within = λ n is. is;
+  fits = λ n is. is;
+  granted = λ grant is. is;
+  finds = λ waits is. is;
+  call = λ m after is. call_at m after a A7 A4 is;
+  rest = λ e. cc;
+}
+as_good (lowers_none {a = a}) = record {
+  holds = λ root r. refl;
+  counter = refl;
+  awaits = λ c w k grant. refl;
+  asleep = λ grant. refl;
+  owing = λ n. refl;
+  to_add = refl;
+  within = λ n is. is;
+  fits = λ n is. is;
+  granted = λ grant is. is;
+  finds = λ waits is. is;
+  call = λ m after is. call_at m after a A8 A9 is;
+  rest = λ e. cc;
+}
+
+-- the same of a list
+pub data ListBends : ListPlace → ListPlace → Type 0 where
+  same_place : {p : ListPlace} → ListBends p p
+  parks : {t : Ticket} → ListBends (Waiting t W3) (Waiting t W4)
+  returns : {t : Ticket} → ListBends (Waiting t W4) (Waiting t W3)
+
+from_w3 : (t : Ticket) (b : Bool) → ListBends (Waiting t W3) (Waiting t (if b then W3 else W4))
+from_w3 t true = same_place
+from_w3 t false = parks
+
+from_w4 : (t : Ticket) (b : Bool) → ListBends (Waiting t W4) (Waiting t (if b then W3 else W4))
+from_w4 t true = returns
+from_w4 t false = same_place
+
+wait_bends : (v : Variant) (t : Ticket) (ticket notify : ℕ) (from next : WaitRow)
+    → ListBends (Waiting t next) (Waiting t (changed_wait_row v ticket notify from next))
+wait_bends PlainLess t ticket notify W2 W3 = from_w3 t (nat_lt ticket notify)
+wait_bends PlainLess t ticket notify W2 W4 = from_w4 t (nat_lt ticket notify)
+wait_bends v t ticket notify from next = same_place
+
+pub list_bends : (v : Variant) (notify : ℕ) (from next : ListPlace) → ListBends next (changed_list_place v notify from next)
+list_bends v notify (Waiting t from) (Waiting u next) = wait_bends v u t.word notify from next
+list_bends v notify from next = same_place
+
+pub record IsAsGoodOnList (p q : ListPlace) : Type 0 where
+  pub holds : lists.holds q ≡ lists.holds p
+  pub awaits : (w : Wait) (k grant : ℕ) → list.awaits w k q grant ≡ list.awaits w k p grant
+  pub to_take : to_take q ≡ to_take p
+  pub has : (ticket : Option Ticket) → has_ticket q ticket ≡ has_ticket p ticket
+  pub fits : (n : ℕ) → list.HandFits p n → list.HandFits q n
+  pub only : (ticket : Option Ticket) → list.TicketFits p ticket → list.TicketFits q ticket
+  pub granted : (grant : ℕ) → lists.IsGrantOf p grant → lists.IsGrantOf q grant
+  pub reads : (first : ℕ) (g : ListWords) → StillReads first g p → StillReads first g q
+  pub rest : q ≡ on_list.Rest → p ≡ on_list.Rest
+  pub still : p ≡ on_list.Rest → q ≡ on_list.Rest
+
+has_none : (t : Ticket) (row next : WaitRow) (ticket : Option Ticket) → has_ticket (Waiting t row) ticket ≡ has_ticket (Waiting t next) ticket
+has_none t row next Rattle.std.specs.Prelude.None = refl
+has_none t row next (Rattle.std.specs.Prelude.Some u) = refl
+
+pub as_good_on_list : {p q : ListPlace} → ListBends p q → IsAsGoodOnList p q
+as_good_on_list same_place = record {
+  holds = refl;
+  awaits = λ w k grant. refl;
+  to_take = refl;
+  has = λ ticket. refl;
+  fits = λ n is. is;
+  only = λ ticket is. is;
+  granted = λ grant is. is;
+  reads = λ first g is. is;
+  rest = λ e. e;
+  still = λ e. e;
+}
+as_good_on_list (parks {t = t}) = record {
+  holds = refl;
+  awaits = λ w k grant. refl;
+  to_take = refl;
+  has = λ ticket. has_none t W4 W3 ticket;
+  fits = λ n is. is;
+  only = λ ticket is. is;
+  granted = λ grant is. is;
+  reads = λ first g is. is;
+  rest = λ e. cc;
+  still = λ e. cc;
+}
+as_good_on_list (returns {t = t}) = record {
+  holds = refl;
+  awaits = λ w k grant. refl;
+  to_take = refl;
+  has = λ ticket. has_none t W3 W4 ticket;
+  fits = λ n is. is;
+  only = λ ticket is. is;
+  granted = λ grant is. is;
+  reads = λ first g is. is;
+  rest = λ e. cc;
+  still = λ e. cc;
+}

@@ -1,0 +1,9 @@
+pub mod Alike
+pub mod PartsApart
+pub mod Commuting
+pub mod Changed
+pub mod ChangedInvariant
+pub mod Renaming
+pub mod AllSeats
+pub mod Renamed
+pub mod DifferInNames

@@ -1,0 +1,52 @@
+-- How many waits a notify list has, whom a grant reaches, and what is left where seats rest.
+use Rattle.std.specs.Prelude.{◌≡◌, ◌≢◌, ℕ, ◌+◌, ◌<◌, List, [], ◌∷◌, length}
+use Rattle.waiters.specs.declared.wait.Wait.{Wait}
+use Rattle.step_table.specs.declared.list_place.ListPlace.TheVariants.{Rest, Waiting}
+use Rattle.step_table.specs.declared.list_place.Ticket.{Ticket}
+use Rattle.step_table.specs.declared.list_place.WaitRow.TheVariants.{P}
+use Rattle.step_table.specs.Counting.{total}
+use Rattle.step_table.specs.ListWorld.{ListWorld}
+use Rattle.step_table.specs.ListTable.{wait_for}
+use Rattle.step_law_lists.specs.ListLawful.{told, IsLawfulList}
+use Rattle.step_law_lists.specs.ListCalls.{CallsConclude, GrantsLeast}
+use Rattle.step_law_lists.specs.ListInvariant.{IsListInvariant}
+use Rattle.step_law_lists.specs.ListWellFormed.{asleep_on_list}
+
+-- while a seat isn't parked without a grant, the list and all hands together have room for its wait
+abbrev pub HasRoom : ℕ → ListWorld → Type 0
+HasRoom seats s =
+    (k : ℕ) → k < seats → asleep_on_list (s.seats k).place (s.words.grants k) ≡ 0
+    → length s.words.queue + total seats (λ j. length (s.seats j).hand) < seats
+
+-- the seat i is about to grant the first wait in its hand: that of another seat k that is there, parked with
+-- it and not granted, though its ticket is
+pub record GrantsParked (seats i k : ℕ) (s : ListWorld) : Type 0 where
+  pub ticket : Ticket
+  pub rest : List Wait
+  pub hand : (s.seats i).hand ≡ wait_for k ticket ∷ rest
+  pub there : k < seats
+  pub other : k ≢ i
+  pub parked : (s.seats k).place ≡ Waiting ticket P
+  pub unset : s.words.grants k ≡ 0
+  pub granted : ticket.number < (told s.journal).granted
+
+-- a seat at rest has nothing in hand
+abbrev pub RestsIdle : ℕ → ListWorld → Type 0
+RestsIdle seats s = (k : ℕ) → k < seats → (s.seats k).place ≡ Rest → (s.seats k).hand ≡ []
+
+abbrev pub AllRest : ℕ → ListWorld → Type 0
+AllRest seats s = (k : ℕ) → k < seats → (s.seats k).place ≡ Rest
+
+-- the lock is free, and nothing is left in list, grants and hands; a seat may still hold a ticket
+pub record NothingLeft (seats : ℕ) (s : ListWorld) : Type 0 where
+  pub lock : s.words.lock ≡ 0
+  pub queue : s.words.queue ≡ []
+  pub grants : (k : ℕ) → k < seats → s.words.grants k ≡ 0
+  pub hands : (k : ℕ) → k < seats → (s.seats k).hand ≡ []
+
+-- what is known of a world that steps reach
+pub record ReachedList (first seats : ℕ) (s : ListWorld) : Type 0 where
+  pub invariant : IsListInvariant first seats s
+  pub lawful : IsLawfulList first seats s
+  pub calls : CallsConclude first seats s
+  pub least : (i : ℕ) → i < seats → GrantsLeast first s i

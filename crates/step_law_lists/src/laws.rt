@@ -1,0 +1,26 @@
+//! The laws of one notify list, as functions.
+
+ghost use Rattle.step_law_lists.specs.ListAccounts.{TheListAccounts};
+ghost use Rattle.step_law_lists.specs.ListLaw.{TheListLaw};
+ghost use Rattle.step_law_lists.specs.ListPath.{TheListPaths};
+
+/// The rows of one notify list, for up to 2^63 seats, with tickets that wrap at 64 bits: one invariant holds
+/// at every start, every step keeps it, and it gives the whole lawful list; and what the list's calls may
+/// conclude.
+pub fn law_of_the_lists()
+    ensures { TheListLaw }
+{}
+
+/// The accounts of one notify list: whose each entry is, who may change which word, how many waits there are,
+/// whom a grant reaches, and that nothing is left where all seats rest.
+pub fn law_of_the_list_accounts()
+    ensures { TheListAccounts }
+{}
+
+/// The path of one seat on a notify list, between whose rows others do anything: rows and looks that follow
+/// each other make a path, and what is seen only grows; each read of the wait and notify words follows from
+/// what was seen alone, and each lead from what was read and seen, and for O8 and L7 from some list of waits,
+/// which no journal tells.
+pub fn law_of_the_list_paths()
+    ensures { TheListPaths }
+{}

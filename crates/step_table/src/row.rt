@@ -1,0 +1,141 @@
+ghost use Rattle.std.specs.Prelude.{◌≡◌, Some};
+ghost use Rattle.step_table.specs.RowTexts.{row_text};
+
+use std::fmt;
+
+/// A row of the step table, by its name.
+#[derive(Clone, Copy, Debug, PartialEq, Eq, Drop)]
+pub enum Row {
+    A1,
+    A2,
+    A3,
+    A4,
+    A5,
+    A6,
+    A7,
+    A8,
+    A9,
+    A10,
+    A11,
+    P,
+    R1,
+    R2,
+    R3,
+    R4,
+    R5,
+    R6,
+    R7,
+    R8,
+    R9,
+    R10,
+    M1,
+    M2,
+    M3,
+    M4,
+    M5,
+    M6,
+    M7,
+    N1,
+    W1,
+    W2,
+    W3,
+    W4,
+    O1,
+    O2,
+    O3,
+    O4,
+    O5,
+    O6,
+    O7,
+    O8,
+    O9,
+    L1,
+    L2,
+    L3,
+    L4,
+    L5,
+    L6,
+    L7,
+    L8,
+    G1,
+    G2,
+    G3,
+    V1,
+    V2,
+    V3,
+}
+
+impl Row {
+    /// The name, as the table has it.
+    fn name(&self) -> &'static str
+        ensures { result.now ≡ row_text self.now }
+    {
+        match self {
+            Row::A1 => "A1",
+            Row::A2 => "A2",
+            Row::A3 => "A3",
+            Row::A4 => "A4",
+            Row::A5 => "A5",
+            Row::A6 => "A6",
+            Row::A7 => "A7",
+            Row::A8 => "A8",
+            Row::A9 => "A9",
+            Row::A10 => "A10",
+            Row::A11 => "A11",
+            Row::P => "P",
+            Row::R1 => "R1",
+            Row::R2 => "R2",
+            Row::R3 => "R3",
+            Row::R4 => "R4",
+            Row::R5 => "R5",
+            Row::R6 => "R6",
+            Row::R7 => "R7",
+            Row::R8 => "R8",
+            Row::R9 => "R9",
+            Row::R10 => "R10",
+            Row::M1 => "M1",
+            Row::M2 => "M2",
+            Row::M3 => "M3",
+            Row::M4 => "M4",
+            Row::M5 => "M5",
+            Row::M6 => "M6",
+            Row::M7 => "M7",
+            Row::N1 => "N1",
+            Row::W1 => "W1",
+            Row::W2 => "W2",
+            Row::W3 => "W3",
+            Row::W4 => "W4",
+            Row::O1 => "O1",
+            Row::O2 => "O2",
+            Row::O3 => "O3",
+            Row::O4 => "O4",
+            Row::O5 => "O5",
+            Row::O6 => "O6",
+            Row::O7 => "O7",
+            Row::O8 => "O8",
+            Row::O9 => "O9",
+            Row::L1 => "L1",
+            Row::L2 => "L2",
+            Row::L3 => "L3",
+            Row::L4 => "L4",
+            Row::L5 => "L5",
+            Row::L6 => "L6",
+            Row::L7 => "L7",
+            Row::L8 => "L8",
+            Row::G1 => "G1",
+            Row::G2 => "G2",
+            Row::G3 => "G3",
+            Row::V1 => "V1",
+            Row::V2 => "V2",
+            Row::V3 => "V3",
+        }
+    }
+}
+
+impl fmt::Display for Row {
+    ghost output = { λ row. Some (row_text row) };
+
+    fn fmt<W: fmt::Write>(&self, f: &mut fmt::Formatter<W>) -> fmt::Result {
+        f.write_str(self.name())
+    }
+}

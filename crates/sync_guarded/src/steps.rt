@@ -1,0 +1,42 @@
+//! The steps of a guarded value.
+ghost use Rattle.std.specs.Prelude.{true, false};
+ghost use Rattle.std.specs.Fn.{FnOnceReturnsAtMut};
+ghost use Rattle.sync_guarded.specs.Seats.{guard_of, IsGuard};
+ghost use Rattle.sync_guarded.specs.Calls.{HasLocked, HasUnlocked, HasLent};
+
+use crate::guarded::{Guarded, LOCK, SLEEPERS, VALUE};
+use crate::rows::GuardToken;
+use running_rows::{Here, Running};
+use std::sync::Wait;
+
+impl<T> Guarded<T> {
+    /// Takes the lock, and the value out of its slot.
+    pub(crate) fn lock<R: Wait>(&self, rt: &R, token: &mut GuardToken<T>)
+        requires { IsGuard self.now token.old false }
+        ensures own { IsGuard self.now token.new true }
+        ensures locked { HasLocked (guard_of token.old) (guard_of token.new) }
+    {
+        self.words.take_lock::<Here, R>(rt, token, LOCK, SLEEPERS);
+    }
+
+    /// Gives the lock back, and the value with it.
+    pub(crate) fn unlock(&self, token: &mut GuardToken<T>)
+        requires { IsGuard self.now token.old true }
+        ensures own { IsGuard self.now token.new false }
+        ensures unlocked { HasUnlocked (guard_of token.old) (guard_of token.new) }
+    {
+        self.words.give_lock(token, LOCK, SLEEPERS);
+    }
+
+    /// Lends the value, which is out with the token, for one call.
+    pub(crate) fn lend<A, F: FnOnce(&mut T) -> A>(&self, token: &mut GuardToken<T>, body: F) -> A
+        requires own { IsGuard self.now token.old true }
+        requires callable { F.IsAlwaysCallable body }
+        ensures own { IsGuard self.now token.new true }
+        ensures lent { HasLent (FnOnceReturnsAtMut F.FnOnce body) (guard_of token.old) result
+            (guard_of token.new) }
+    {
+        let value = Running::record_mut(token, &self.words, VALUE);
+        body(value)
+    }
+}

@@ -1,8 +1,0 @@
-use Rattle.std.proofs.Common.{rules}
-use Rattle.table_crew.proofs.crew.run.Goals as goal
-
-pub close-requires : goal.close-requires
-close-requires g c = search rules
-
-pub returns : goal.returns
-returns g c = search rules

@@ -1,2 +1,0 @@
-pub mod RowTexts
-pub mod Texts
