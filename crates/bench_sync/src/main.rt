@@ -1,4 +1,4 @@
-//! What lists, condition variables and wait groups cost, in nanoseconds an operation: `sync_bench CASE
+//! What lists, condition variables and wait groups cost, in nanoseconds an operation: `bench_sync CASE
 //! WORKERS TURNS` prints a line.
 //!
 //! `ticket` takes a ticket, grants it and waits with it, and `group` adds 1 to a wait group, takes it off and
@@ -300,7 +300,7 @@ fn answer<R: Clock + Print + Threads + Wait + Sync>(
     match words {
         (Some(case), Some(workers), Some(turns)) => time_words(rt, alloc, case, workers, turns),
         _ => {
-            println!(rt; "usage: sync_bench CASE WORKERS TURNS")?;
+            println!(rt; "usage: bench_sync CASE WORKERS TURNS")?;
             Ok(())
         }
     }

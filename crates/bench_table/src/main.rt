@@ -1,4 +1,4 @@
-//! What the running table costs, in nanoseconds an operation: `table_bench CASE WORKERS TURNS` prints a line.
+//! What the running table costs, in nanoseconds an operation: `bench_table CASE WORKERS TURNS` prints a line.
 //!
 //! `pair` adds a unit and takes it again, by one seat, with nobody waiting; `cycle` lets one seat queue its
 //! wait, another release and wake it, and the first take the unit, all in one thread. `pair-words` and
@@ -168,7 +168,7 @@ fn answer<R: Clock + Print + Threads + Wait + Sync>(
     match words {
         (Some(case), Some(workers), Some(turns)) => time(rt, alloc, case, workers, turns),
         _ => {
-            println!(rt; "usage: table_bench CASE WORKERS TURNS")?;
+            println!(rt; "usage: bench_table CASE WORKERS TURNS")?;
             Ok(())
         }
     }

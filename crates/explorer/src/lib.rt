@@ -4,7 +4,7 @@
 //! A command's text is whole before the first byte of it goes out, so that want of memory leaves nothing half
 //! told. It goes out through a [`Sink`], which knows whether a write failed, and the command answers with an
 //! [`Exit`]. [`parklot_io`] is the whole program on its words; [`read_words`] tells what they ask for (crate
-//! `program_words`), and [`asked_io`] does just that. `once` makes the calls of the running table, some of
+//! `explorer_words`), and [`asked_io`] does just that. `once` makes the calls of the running table, some of
 //! which may wait, and `threads` makes them in threads of its own: so the program asks for a runtime.
 //!
 //! [`run_threads`] lets 1 to 64 workers release and acquire one counter, 1 to 1,000,000 times each, and gives

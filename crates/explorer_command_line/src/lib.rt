@@ -1,7 +1,7 @@
 //! The program's command line as clap takes it: the commands, the arguments of each with their limits, and
 //! the help.
 //!
-//! The crate `program_words` reads words by these commands, and tells what they ask for.
+//! The crate `explorer_words` reads words by these commands, and tells what they ask for.
 #![tactic(auto)]
 
 mod commands;

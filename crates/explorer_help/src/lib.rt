@@ -3,7 +3,7 @@
 //!
 //! [`explain`] makes the one line that goes to standard error beside the refusal: the line of the text as far
 //! as it can be printed, and the forms that may stand there. It adds to the cause that the reader tells
-//! (crate `scenario_text`) and decides nothing.
+//! (crate `explorer_text`) and decides nothing.
 #![tactic(auto)]
 
 mod beginning;

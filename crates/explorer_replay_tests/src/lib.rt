@@ -1,4 +1,4 @@
-//! The tests of `replay_table` and `replay_text`, which use them from outside: tables as text that were
+//! The tests of `explorer_replay`, which use it from outside: tables as text that were
 //! worked out by hand.
 #![tactic(auto)]
 

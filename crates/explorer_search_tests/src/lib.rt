@@ -1,4 +1,4 @@
-//! The tests of `search`, which use it from outside, as a crate above it does.
+//! The tests of `explorer_search`, which use it from outside, as a crate above it does.
 //!
 //! A crate with tests is proved with them and without: so they stand here.
 #![tactic(auto)]

@@ -213,5 +213,6 @@ pub(crate) fn asked_of<'w>(
     }
 }
 
-// The numbers that the help in `command_line` tells of a search that isn't told how many worlds it may keep.
+// The numbers that the help in `explorer_command_line` tells of a search that isn't told how many worlds it
+// may keep.
 const _: () = prove!(EXPLORED_WORLDS == 200_000 && CHECKED_WORLDS == 2_000_000);

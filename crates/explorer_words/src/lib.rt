@@ -1,8 +1,8 @@
 //! The words of the program's command line, and what they ask for.
 //!
-//! [`read_words`] reads them with clap, by the commands of `command_line`: a command with its numbers, each
-//! within its limits, and the file that it reads in place of standard input; or help, or what is wrong with
-//! the words. What is asked is done by the crate `explorer`.
+//! [`read_words`] reads them with clap, by the commands of `explorer_command_line`: a command with its
+//! numbers, each within its limits, and the file that it reads in place of standard input; or help, or what
+//! is wrong with the words. What is asked is done by the crate `explorer`.
 #![tactic(auto)]
 
 mod asked;

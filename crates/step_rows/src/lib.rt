@@ -3,10 +3,10 @@
 //!
 //! [`Semaphores`] has the counters, their roots and the seats on them, and runs the rows of Go's
 //! `semacquire1` and `semrelease1`, and those of a release of many units; a [`ListMachine`] is Go's
-//! `notifyList`. What a row does is told by `row_outcomes`, and made here; no row takes memory.
+//! `notifyList`. What a row does is told by `step_outcomes`, and made here; no row takes memory.
 //! [`Semaphores::step`] runs a row where it can run; who has to know of it before it runs asks first
 //! (`ready`), and then runs it, which can't fail. The words of a key for these parts are written here too,
-//! out of those of `key_words`.
+//! out of those of `step_keys`.
 #![tactic(auto)]
 
 mod apart;

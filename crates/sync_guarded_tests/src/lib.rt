@@ -1,4 +1,4 @@
-//! The tests of `guarded`, which use it from outside: each call once in one thread; and by threads, that
+//! The tests of `sync_guarded`, which use it from outside: each call once in one thread; and by threads, that
 //! nothing is lost between two who put in and two who take out, who wait for each other by a condition
 //! variable.
 //!
