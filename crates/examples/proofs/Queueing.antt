@@ -1,17 +1,17 @@
 -- What a worker has after a call.
 use Rattle.std.proofs.Common.{◌≡◌, ℕ, ◌+◌, ◌≤◌, false, Ok, List, [], ◌∷◌, inl, inr, slice_index_or, arith, ap, ◌∙◌, subst}
 use Rattle.atomic_table.specs.Seated.{TableId}
-use Rattle.step_table.specs.declared.entry.Entry.{Entry}
-use Rattle.step_table.specs.World.{Layout}
-use Rattle.step_table.specs.Journal.{plain_start, IsLawful}
-use Rattle.step_law_semaphores.specs.Balances.{added_on, taken_on}
+use Rattle.sync_parts.specs.Entry.{Entry}
+use Rattle.sync_parts.specs.World.{Layout}
+use Rattle.sync_parts.specs.Journal.{plain_start, IsLawful}
+use Rattle.sync_parts.specs.Balances.{added_on, taken_on}
 use Rattle.step_law_semaphores.proofs.Balancing.{lawful_balanced}
-use Rattle.sema_table.specs.declared.answers.Wake.{Wake}
-use Rattle.sema_table.specs.declared.answers.Wake.TheVariants.{Nobody, One, Handed}
-use Rattle.sema_table.specs.Setting.{layout}
-use Rattle.sema_table.specs.Seats.{TableModel, SeatModel}
-use Rattle.sema_table.specs.Callers.{IsSeatAfter, AcquiresUnit}
-use Rattle.sema_table.specs.CallersReleasing.{ReleasesUnit}
+use Rattle.sync_parts.specs.Wake.{Wake}
+use Rattle.sync_parts.specs.Wake.TheVariants.{Nobody, One, Handed}
+use Rattle.sync_parts.specs.TableLayout.{layout}
+use Rattle.sync_parts.specs.TableSeats.{TableModel, SeatModel}
+use Rattle.sync_parts.specs.TableCallers.{IsSeatAfter, AcquiresUnit}
+use Rattle.sync_parts.specs.CallersReleasing.{ReleasesUnit}
 use Rattle.examples.specs.declared.moves.Moves.{Moves}
 use Rattle.examples.specs.Moves.{with_put, with_taken}
 use Rattle.examples.specs.Parts.{QueueModel}

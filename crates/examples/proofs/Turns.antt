@@ -1,8 +1,8 @@
 -- What a turn under a lock does to the counts of its seat.
 use Rattle.std.proofs.Common.{◌≡◌, ℕ, ◌+◌, Bool, inl, inr, ap, ◌∙◌}
-use Rattle.sema_table.specs.declared.answers.Wake.{Wake}
-use Rattle.sema_table.specs.Seats.{SeatModel}
-use Rattle.sema_table.specs.Whole.{IsAcquired, IsReleased}
+use Rattle.sync_parts.specs.Wake.{Wake}
+use Rattle.sync_parts.specs.TableSeats.{SeatModel}
+use Rattle.sync_parts.specs.TableWhole.{IsAcquired, IsReleased}
 use Rattle.sync_parts.specs.Lock.{LockModel}
 use Rattle.examples.specs.Mutex.{HasHeld}
 

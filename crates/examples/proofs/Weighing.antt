@@ -4,7 +4,7 @@ use mathlib.Core.Option.{some, some-injective, some-ne-none}
 use lib.ListN.{get_elem?}
 use Rattle.crossbeam_queue.specs.Fifo.{Pushes, Pops, Forks, Merges, Learns, Held}
 use Rattle.crossbeam_queue.proofs.Lists.{at_set, at_snoc}
-use Rattle.step_table.specs.Counting.{on}
+use Rattle.sync_parts.specs.Counting.{on}
 use Rattle.examples.specs.Parts.{QueueModel, TallyModel}
 use Rattle.examples.specs.Queue.{AreLeftOf}
 use Rattle.examples.specs.declared.moves.Moves.{Moves}

@@ -2,7 +2,7 @@
 use Rattle.std.specs.Prelude.{◌≡◌, ℕ, ◌+◌, List, [], ◌∷◌, ◌++◌}
 use mathlib.Core.Option.{some}
 use lib.ListN.{get_elem?}
-use Rattle.step_table.specs.Counting.{on}
+use Rattle.sync_parts.specs.Counting.{on}
 use Rattle.examples.specs.declared.moves.Moves.{Moves}
 
 abbrev pub moves : ℕ → List ℕ → List ℕ → Moves

@@ -1,6 +1,6 @@
 -- What turns under a lock are.
 use Rattle.std.specs.Prelude.{◌≡◌, ℕ, zero, suc, ◌+◌, min}
-use Rattle.sema_table.specs.Seats.{SeatModel}
+use Rattle.sync_parts.specs.TableSeats.{SeatModel}
 use Rattle.sync_parts.specs.Lock.{LockModel}
 use Rattle.sync_parts.specs.Locking.{new_lock, HasLocked, HasUnlocked}
 

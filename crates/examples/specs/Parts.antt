@@ -1,7 +1,7 @@
 -- What a caller sees of a bounded queue and of those who use it.
 use Rattle.std.specs.Prelude.{ℕ}
 use Rattle.atomic_table.specs.Seated.{TableId}
-use Rattle.sema_table.specs.Seats.{TableModel, SeatModel}
+use Rattle.sync_parts.specs.TableSeats.{TableModel, SeatModel}
 use Rattle.examples.specs.declared.moves.Moves.{Moves}
 
 -- the table of its counters, its ring by name, and how many places it has

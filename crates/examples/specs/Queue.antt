@@ -2,15 +2,15 @@
 use Rattle.std.specs.Prelude.{◌≡◌, ℕ, ◌+◌, ◌-◌, ◌^◌, ◌≤◌, false, Ok, List, [], ◌∷◌, length}
 use Rattle.std.specs.List.{All}
 use Rattle.atomic_table.specs.Seated.{TableId}
-use Rattle.step_table.specs.declared.entry.Entry.{Entry}
-use Rattle.step_law_semaphores.specs.Balances.{added_on, taken_on}
-use Rattle.sema_table.specs.declared.answers.Wake.{Wake}
-use Rattle.sema_table.specs.declared.setup_error.SetupError.{SetupError}
-use Rattle.sema_table.specs.declared.setup_error.SetupError.TheVariants.{Seats, NoMemory}
-use Rattle.sema_table.specs.Seats.{SeatModel}
-use Rattle.sema_table.specs.Making.{IsFromOne, IsOutside, most_seats, new_seats}
-use Rattle.sema_table.specs.Callers.{AcquiresUnit}
-use Rattle.sema_table.specs.CallersReleasing.{ReleasesUnit}
+use Rattle.sync_parts.specs.Entry.{Entry}
+use Rattle.sync_parts.specs.Balances.{added_on, taken_on}
+use Rattle.sync_parts.specs.Wake.{Wake}
+use Rattle.sync_parts.specs.SetupError.{SetupError}
+use Rattle.sync_parts.specs.SetupError.TheVariants.{Seats, NoMemory}
+use Rattle.sync_parts.specs.TableSeats.{SeatModel}
+use Rattle.sync_parts.specs.TableMaking.{IsFromOne, IsOutside, most_seats, new_seats}
+use Rattle.sync_parts.specs.TableCallers.{AcquiresUnit}
+use Rattle.sync_parts.specs.CallersReleasing.{ReleasesUnit}
 use Rattle.examples.specs.Moves.{moves, all_parts, times, with_put, with_taken, together}
 use Rattle.examples.specs.Parts.{QueueModel, WorkerModel, TallyModel}
 

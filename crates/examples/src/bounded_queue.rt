@@ -7,12 +7,11 @@ ghost use Rattle.examples.specs.Queue.{HasTaken, AreLeftOf};
 
 use crate::moves::{Moves, OnePart, Puts, Ring, Takes, Total};
 use crossbeam_queue::Pass;
-use sema_table::{Seat, SemaTable, Settings, SetupError};
 use std::alloc::Global;
 use std::marker::Model;
 use std::sync::Wait;
 use std::thread;
-use waiters::CounterId;
+use sync_parts::{CounterId, Seat, SemaTable, Settings, SetupError};
 
 /// The most workers: each has a seat of the table.
 const MAX_WORKERS: u32 = 256;

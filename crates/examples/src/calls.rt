@@ -8,14 +8,14 @@
 //! The answers in `proofs` name the fact that carries each `requires`. The prover would find it, but where a
 //! call is broken it would search for long before it gave up.
 ghost use Rattle.std.specs.Prelude.{◌≡◌, ◌<◌, true, false, [], length, All, IfSome, IfNone};
-ghost use Rattle.notify_list.specs.Calls.{AllGranted, numbers_seen};
-ghost use Rattle.notify_list.specs.Callers.{IsSeatAfter};
+ghost use Rattle.sync_parts.specs.ListCalls.{AllGranted, numbers_seen};
+ghost use Rattle.sync_parts.specs.ListCallers.{IsSeatAfter};
 
-use notify_list::{Holding, ListSeat, NotifyList, Waited};
-use sema_table::{Closed, PostRefused, PostedMany, Seat, SemaTable, Tried};
 use std::sync::Wait;
-use sync_parts::{Cond, GroupSeat, Misuse, SemaLock, WaitGroup};
-use waiters::CounterId;
+use sync_parts::{
+    Closed, Cond, CounterId, GroupSeat, Holding, ListSeat, Misuse, NotifyList, PostRefused,
+    PostedMany, Seat, SemaLock, SemaTable, Tried, WaitGroup, Waited,
+};
 
 /// Tries to take a unit of each table, with a seat of each.
 pub fn tries_both(

@@ -3,12 +3,10 @@ ghost use Rattle.std.specs.Prelude.{◌≡◌, ◌<◌, ◌&&◌, true, false, l
 ghost use Rattle.sync_parts.specs.Exclusion.{OnlyLocks, HaveMet};
 ghost use Rattle.examples.specs.Mutex.{HasHeld, HasAdded};
 
-use sema_table::{Seat, SemaTable};
 use std::sync::Wait;
 use std::sync::atomic::AtomicU64;
 use std::sync::atomic::Ordering::SeqCst;
-use sync_parts::SemaLock;
-use waiters::CounterId;
+use sync_parts::{CounterId, Seat, SemaLock, SemaTable};
 
 /// Adds one to the number, by a load and a store: nobody else who locks comes between the two.
 pub fn add_one<R: Wait>(rt: &R, lock: &mut SemaLock<'_>, number: &AtomicU64)

@@ -3,8 +3,7 @@
 //! The compiler refuses a caller who lets one go, before anything is proved: so no edit in `must-fail` shows
 //! it. In place of edits stands code that compiles only while it is so.
 
-use notify_list::Holding;
-use sema_table::{Owing, OwingMany, Sleeping, Woken};
+use sync_parts::{Holding, Owing, OwingMany, Sleeping, Woken};
 
 /// Each type has this by `AnyWay`, and one that can be let go has it by `LetGo` too.
 trait Ends<By> {

@@ -60,3 +60,4 @@ pub use seat::{Owing, Seat, Sleeping, Woken};
 pub use sema_table::SemaTable;
 pub use settings::Settings;
 pub use setup_error::SetupError;
+pub use waiters::CounterId;

@@ -27,3 +27,4 @@ pub use guard::Guard;
 pub use guarded::{GuardSeat, Guarded};
 pub use laws::law_of_the_guards;
 pub use make::Refused;
+pub use sync_parts::{Cond, ListSeat, ListSetupError, SetupError, Waited};

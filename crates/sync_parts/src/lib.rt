@@ -53,8 +53,13 @@ pub use group::{GroupSeat, WaitGroup};
 pub use laws::{law_of_the_groups, law_of_the_locks};
 pub use locker::Locker;
 pub use locker_call::LockerCall;
-pub use notify_list::{Holding, ListSeat, SetupError as ListSetupError, Waited};
+pub use notify_list::{
+    Holding, ListClosed, ListSeat, NotifyList, SetupError as ListSetupError, Waited,
+};
 pub use sema_lock::SemaLock;
-pub use sema_table::{Seat, SemaTable, SetupError};
+pub use sema_table::{
+    Closed, Entered, Owing, OwingMany, Polled, PostRefused, Posted, PostedMany, Roused, Seat,
+    SemaTable, Settings, SetupError, Sleeping, Tried, Wake, Woken,
+};
 pub use step_table::Misuse;
-pub use waiters::CounterId;
+pub use waiters::{CounterId, NoMemory};

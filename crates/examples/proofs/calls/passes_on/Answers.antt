@@ -1,7 +1,7 @@
 use Rattle.std.proofs.Common.{ℕ, [], Option, Some, None, IfNone}
-use Rattle.notify_list.specs.Seats.{SeatModel}
-use Rattle.notify_list.specs.Calls.{AllGranted}
-use Rattle.notify_list.specs.Callers.{IsSeatAfter, NotifiesOneTicket}
+use Rattle.sync_parts.specs.ListSeats.{SeatModel}
+use Rattle.sync_parts.specs.ListCalls.{AllGranted}
+use Rattle.sync_parts.specs.ListCallers.{IsSeatAfter, NotifiesOneTicket}
 use Rattle.examples.proofs.calls.passes_on.Goals as goal
 
 pub wait-seat-requires : goal.wait-seat-requires

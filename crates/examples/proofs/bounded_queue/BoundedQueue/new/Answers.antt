@@ -1,6 +1,6 @@
 use Rattle.std.proofs.Common.{ap, ◌∙◌, subst, rules}
-use Rattle.sema_table.specs.declared.view.Setting.{Setting}
-use Rattle.sema_table.specs.Making.{IsFromOne, most_seats, new_seats}
+use Rattle.sync_parts.specs.Setting.{Setting}
+use Rattle.sync_parts.specs.TableMaking.{IsFromOne, most_seats, new_seats}
 use Rattle.examples.proofs.bounded_queue.BoundedQueue.new.Goals as goal
 
 pub returns-clause-ok : goal.returns-clause-ok

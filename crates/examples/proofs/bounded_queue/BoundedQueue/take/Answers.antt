@@ -1,7 +1,7 @@
 use Rattle.std.proofs.Common.{◌≡◌, ◌∷◌, [], false, Ok, sym, subst}
 use Rattle.crossbeam_queue.specs.Passes.{view}
-use Rattle.sema_table.specs.Callers.{AcquiresUnit}
-use Rattle.sema_table.specs.CallersReleasing.{ReleasesUnit}
+use Rattle.sync_parts.specs.TableCallers.{AcquiresUnit}
+use Rattle.sync_parts.specs.CallersReleasing.{ReleasesUnit}
 use Rattle.examples.specs.Parts.{QueueModel, WorkerModel}
 use Rattle.examples.specs.Queue.{free, full, IsOf, HasTaken}
 use Rattle.examples.proofs.Queueing.{has_taken}
