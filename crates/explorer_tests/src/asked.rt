@@ -1,6 +1,6 @@
 //! The program over memory. It is asked once more where memory was refused.
 
-ghost use Rattle.explorer_words.specs.Asked.{IsWithinLimits};
+ghost use Rattle.explorer_words.specs.Invocation.{IsWithinLimits};
 
 use crate::devices::{Calls, Giving, SOUND, Taking};
 use explorer::{Asked, Flagged, NO_MEMORY, StopWatch, asked_io, parklot_io};
