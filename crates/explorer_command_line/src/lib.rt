@@ -4,7 +4,7 @@
 //! The crate `explorer_words` reads words by these commands, and tells what they ask for.
 #![tactic(auto)]
 
+mod argument;
 mod commands;
-mod draft;
 
 pub use commands::parklot_command;
