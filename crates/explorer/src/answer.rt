@@ -42,10 +42,7 @@ impl fmt::Display for Released {
     fn fmt<W: fmt::Write>(&self, f: &mut fmt::Formatter<W>) -> fmt::Result {
         match self {
             Released::Done => writeln!(f, "seat 1 post: Done"),
-            Released::Owed(wake) => {
-                writeln!(f, "seat 1 post: Owes")?;
-                writeln!(f, "seat 1 wake: {wake}")
-            }
+            Released::Owed(wake) => write!(f, "seat 1 post: Owes\nseat 1 wake: {wake}\n"),
         }
     }
 }
@@ -67,14 +64,9 @@ impl fmt::Display for OnceAnswers {
     fn fmt<W: fmt::Write>(&self, f: &mut fmt::Formatter<W>) -> fmt::Result {
         match self {
             OnceAnswers::Tried(tried) => writeln!(f, "seat 0 try: {tried}"),
-            OnceAnswers::Entered => {
-                writeln!(f, "seat 0 try: Zero")?;
-                writeln!(f, "seat 0 enter: Taken")
-            }
+            OnceAnswers::Entered => f.write_str("seat 0 try: Zero\nseat 0 enter: Taken\n"),
             OnceAnswers::Slept(released, retried) => {
-                writeln!(f, "seat 0 try: Zero")?;
-                writeln!(f, "seat 0 enter: Asleep")?;
-                write!(f, "{released}")?;
+                write!(f, "seat 0 try: Zero\nseat 0 enter: Asleep\n{released}")?;
                 match retried {
                     Some(retried) => writeln!(f, "seat 0 retry: {retried}"),
                     None => Ok(()),

@@ -17,7 +17,7 @@ use std::thread::Threads;
 use waiters::{CounterId, NoMemory};
 
 /// What a table has counted that was closed.
-#[derive(Clone, Copy, Debug, Drop)]
+#[derive(Clone, Copy, Drop)]
 struct Counted {
     releases: u64,
     acquires: u64,
