@@ -4,7 +4,7 @@
 //! (`rt try --test --fail-alloc N`, for each N), and shows that after a refusal the memory can still be had.
 
 use crate::given::{holds, sorted, treap};
-use sema_root::{RootStore, TreapRoot};
+use sema_root::{Place, RootStore, TreapRoot};
 use std::alloc::Global;
 use std::process::Abort;
 use waiters::{CounterId, NoMemory, SeatId, Wait, WaitId};
@@ -136,10 +136,24 @@ fn is_on_top(rt: &impl Abort, root: &TreapRoot, top: Option<CounterId>) {
     holds(rt, root.top() == top);
 }
 
+/// The root has this counter alone, at an odd ticket.
+fn stands_alone(root: &TreapRoot, at: CounterId) -> bool {
+    match root.place(at) {
+        Some(
+            Place {
+                ticket,
+                left: None,
+                right: None,
+            },
+        ) => ticket % 2 == 1 && root.top() == Some(at),
+        _ => false,
+    }
+}
+
 fn places(rt: &impl Abort, root: &mut TreapRoot) {
     is_on_top(rt, root, None);
     queue(root, 5, 0, false);
-    is_on_top(rt, root, Some(counter(5)));
+    holds(rt, stands_alone(root, counter(5)));
     has_counters(rt, root, &[5]);
     queue(root, 3, 1, false);
     has_counters(rt, root, &[3, 5]);

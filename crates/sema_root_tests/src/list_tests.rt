@@ -99,6 +99,12 @@ fn first_seat(lists: &Lists, key: ListKey) -> (usize, SeatId) {
     (copied, seats[0])
 }
 
+/// These two seats are copied into a buffer of two.
+fn has_seats(lists: &Lists, key: ListKey, expected: [SeatId; 2]) -> bool {
+    let mut seats = [SeatId::new(9); 2];
+    lists.is_open(key) && lists.copy_into(key, seats.as_mut_slice()) == 2 && seats == expected
+}
+
 fn has_ids(
     alloc: Global,
     lists: &Lists,
@@ -176,6 +182,7 @@ fn answers(rt: &impl Abort, alloc: Global, lists: &mut Lists) {
     has_room(rt, lists, 3, 1);
     answers_as_written(rt, lists, key, &TAKES);
     holds(rt, first_seat(lists, key) == (1, SeatId::new(0)));
+    holds(rt, has_seats(lists, key, [SeatId::new(0), SeatId::new(1)]));
     let ids = [wait(0, 5).id, wait(1, 7).id];
     holds(rt, has_ids_again(alloc, lists, key, ids.as_slice()));
     answers_as_written(rt, lists, key, &GIVES);

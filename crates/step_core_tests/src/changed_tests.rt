@@ -115,3 +115,12 @@ fn a_world_of_a_changed_table_answers(rt: HostRuntime) {
     let key = changed_key(&rt, rt.alloc(), &world);
     assert!(rt; key.as_slice() == KEY.as_slice());
 }
+
+#[test]
+fn each_changed_table_has_a_world(rt: HostRuntime) {
+    let scenario = scenario(&rt, rt.alloc(), LOST[0].text);
+    for variant in [Variant::LateCount, Variant::PlainLess] {
+        let mut world = changed_world_again(&rt, rt.alloc(), &scenario, variant);
+        assert!(rt; world.step(seat(1)).is_ok());
+    }
+}

@@ -7,6 +7,7 @@ use waiters::CounterId;
 
 /// The call of a seat, by the numbers of its counter, list or group and its units.
 enum Asked {
+    Acquire(u32),
     Release(u32),
     ReleaseMany(u32, u32),
     Add(u32),
@@ -72,7 +73,8 @@ static IN_GROUPS: [Row; 5] = [
     (1, 1, 0, 1, 1, 1, Asked::Release(1), UNDECLARED),
 ];
 
-static ON_COUNTERS: [Row; 9] = [
+static ON_COUNTERS: [Row; 10] = [
+    (1, 1, 0, 0, 1, 1, Asked::Acquire(0), None),
     (1, 1, 0, 0, 1, 1, Asked::ReleaseMany(0, 0), OUTSIDE),
     (1, 1, 0, 0, 1, 1, Asked::ReleaseMany(0, 1), None),
     (1, 1, 0, 0, 1, 1, Asked::ReleaseMany(0, 256), None),
@@ -86,6 +88,7 @@ static ON_COUNTERS: [Row; 9] = [
 
 fn call(asked: &Asked) -> Call {
     match *asked {
+        Asked::Acquire(counter) => Call::Acquire(CounterId::new(counter), true),
         Asked::Release(counter) => Call::Release(CounterId::new(counter), true),
         Asked::ReleaseMany(counter, units) => Call::ReleaseMany(CounterId::new(counter), units),
         Asked::Add(list) => Call::Add(ListId::new(list)),

@@ -12,7 +12,13 @@ type Row = (&'static str, &'static [u16], usize, StepRefused);
 const HANDED_OVER: &str =
     "roots 1\ncounter 0\nseat 0: acquire 0\nseat 1: acquire 0\nseat 2: release 0 handoff\nsettled\n";
 
-static REFUSED: [Row; 6] = [
+static REFUSED: [Row; 7] = [
+    (
+        "counter 0\nseat 0: acquire 0\nsettled\n",
+        &[0, 0, 0, 0, 0, 0],
+        5,
+        StepRefused::Asleep,
+    ),
     // a unit is handed over to seat 0, and then another seat steps too
     (
         HANDED_OVER,

@@ -3,7 +3,7 @@
 use std::alloc::Global;
 use std::fmt::Display;
 use std::process::Abort;
-use step_core::{GroupId, ListId, RunRefused, ScenarioRefused, StepRefused};
+use step_core::{CounterId, GroupId, ListId, RunRefused, ScenarioRefused, SeatId, StepRefused};
 
 fn text_of(alloc: Global, told: &impl Display) -> Option<String> {
     format!(in alloc; "{told}").ok()
@@ -51,4 +51,11 @@ fn refusals_are_printed(rt: HostRuntime) {
 fn names_are_printed(rt: HostRuntime) {
     is_printed(&rt, rt.alloc(), &ListId::new(4), "4");
     is_printed(&rt, rt.alloc(), &GroupId::new(15), "15");
+}
+
+#[test]
+fn numbers_are_tuples(rt: HostRuntime) {
+    let (counter, seat) = (CounterId(4_294_967_295), SeatId(65_535));
+    let (list, group) = (ListId(1), GroupId(2));
+    assert!(rt; (counter.0, seat.0, list.0, group.0) == (4_294_967_295, 65_535, 1, 2));
 }
