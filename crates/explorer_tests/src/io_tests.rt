@@ -153,20 +153,3 @@ fn a_request_shows_what_it_was_read_from(rt: HostRuntime) {
     };
     assert!(rt; read_scenario(alloc, b"").err() == Some(fault));
 }
-
-/// What is printed of the fault.
-fn text_of(alloc: Global, fault: IoFault) -> Option<String> {
-    format!(in alloc; "{fault}").ok()
-}
-
-#[test]
-fn faults_are_printed(rt: HostRuntime) {
-    let alloc = rt.alloc();
-    for (fault, text) in [
-        (IoFault::Read, "read failed"),
-        (IoFault::Write, "write failed"),
-    ] {
-        let printed = text_of(alloc, fault).or(text_of(alloc, fault));
-        assert!(rt; printed.is_some_and(|printed| printed.as_str() == text));
-    }
-}

@@ -1,4 +1,5 @@
-//! The tests of the running parts, which use them from outside, as a crate above them does.
+//! The tests of the running parts and of the roots below them, which use them from outside, as a crate above
+//! them does.
 //!
 //! A crate with tests is proved with them and without: so they stand here, together, since what they stand on
 //! is read for each crate anew. What answers want of memory is asked for once more. So each test passes
@@ -14,5 +15,7 @@ mod guards;
 mod lists;
 #[cfg(test)]
 mod parts;
+#[cfg(test)]
+mod roots;
 #[cfg(test)]
 mod tables;

@@ -8,6 +8,7 @@ mod limit_tests;
 mod many_tests;
 mod meet_tests;
 mod order_tests;
+mod scene_tests;
 mod seats;
 mod sleeper_tests;
 pub(crate) mod text_tests;

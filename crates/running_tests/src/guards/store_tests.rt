@@ -21,6 +21,24 @@ fn last_own(rt: &impl Abort, cond: &Cond, owns: &mut Vec<ListSeat>) -> ListSeat
     owns.pop().expect(rt, "a seat of the condition variable")
 }
 
+/// One by the last seats.
+fn hire<'t>(
+    rt: &impl Abort,
+    guarded: &'t Guarded<Store>,
+    cond: &'t Cond,
+    seats: &mut Vec<GuardSeat<Store>>,
+    owns: &mut Vec<ListSeat>,
+) -> Worker<'t>
+    requires seats { All (λ s. s.guarded ≡ guarded.now) seats.old.items }
+    requires owns { All (λ s. s.list ≡ cond.now) owns.old.items }
+    ensures seats { All (λ s. s.guarded ≡ guarded.now) seats.new.items }
+    ensures owns { All (λ s. s.list ≡ cond.now) owns.new.items }
+{
+    let seat = last_seat(rt, guarded, seats);
+    let own = last_own(rt, cond, owns);
+    Worker::new(guarded, cond, seat, own)
+}
+
 /// One who puts and one who takes, each in a thread: what they put and took.
 fn pair<R: Abort + Threads + Wait + Sync>(
     rt: &R,
@@ -42,30 +60,10 @@ fn exchange<R: Abort + Threads + Wait + Sync>(
     requires owns { All (λ s. s.list ≡ cond.now) owns.old.items }
     ensures { All (λ s. s.guarded ≡ guarded.now) seats.new.items }
 {
-    let first = Worker::new(
-        guarded,
-        cond,
-        last_seat(rt, guarded, seats),
-        last_own(rt, cond, owns),
-    );
-    let second = Worker::new(
-        guarded,
-        cond,
-        last_seat(rt, guarded, seats),
-        last_own(rt, cond, owns),
-    );
-    let third = Worker::new(
-        guarded,
-        cond,
-        last_seat(rt, guarded, seats),
-        last_own(rt, cond, owns),
-    );
-    let fourth = Worker::new(
-        guarded,
-        cond,
-        last_seat(rt, guarded, seats),
-        last_own(rt, cond, owns),
-    );
+    let first = hire(rt, guarded, cond, seats, owns);
+    let second = hire(rt, guarded, cond, seats, owns);
+    let third = hire(rt, guarded, cond, seats, owns);
+    let fourth = hire(rt, guarded, cond, seats, owns);
     let (one, other) = join(
         rt,
         move || pair(rt, first, second),

@@ -107,11 +107,8 @@ fn all_come_back_again<R: Abort + Threads + Wait + Sync>(rt: &R, alloc: Global, 
 }
 
 #[test]
-fn all_come_back_that_are_notified_one_by_one(rt: HostRuntime) {
-    all_come_back_again(&rt, rt.alloc(), Way::OneByOne);
-}
-
-#[test]
-fn all_come_back_that_are_notified_together(rt: HostRuntime) {
-    all_come_back_again(&rt, rt.alloc(), Way::All);
+fn all_come_back_that_are_notified_one_by_one_or_together(rt: HostRuntime) {
+    for way in [Way::OneByOne, Way::All] {
+        all_come_back_again(&rt, rt.alloc(), way);
+    }
 }

@@ -36,18 +36,19 @@ fn two_tickets<R: Abort + Wait>(
     gives_back(rt, list, seats, third);
 }
 
-#[test]
-fn a_ticket_wraps(rt: HostRuntime) {
-    let (list, mut seats) = made(&rt, rt.alloc(), 18_446_744_073_709_551_615, 3);
-    two_tickets(&rt, &list, &mut seats, 18_446_744_073_709_551_615, 0);
-    ends_at(&rt, list, seats, 1);
-}
+/// A ticket that wraps, and one that goes past 32 bits: the first, the second, and the next after both.
+const TICKETS: [(u64, u64, u64); 2] = [
+    (18_446_744_073_709_551_615, 0, 1),
+    (4_294_967_295, 4_294_967_296, 4_294_967_297),
+];
 
 #[test]
-fn a_ticket_goes_past_32_bits(rt: HostRuntime) {
-    let (list, mut seats) = made(&rt, rt.alloc(), 4_294_967_295, 3);
-    two_tickets(&rt, &list, &mut seats, 4_294_967_295, 4_294_967_296);
-    ends_at(&rt, list, seats, 4_294_967_297);
+fn tickets_go_past_their_ends(rt: HostRuntime) {
+    for (first, second, next) in TICKETS {
+        let (list, mut seats) = made(&rt, rt.alloc(), first, 3);
+        two_tickets(&rt, &list, &mut seats, first, second);
+        ends_at(&rt, list, seats, next);
+    }
 }
 
 #[test]

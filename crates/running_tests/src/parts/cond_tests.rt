@@ -24,48 +24,40 @@ fn plays<R: Abort + Threads + Wait + Sync>(
     Ok(())
 }
 
-/// The same, again and again.
+/// The same, so many times.
 fn plays_on<R: Abort + Threads + Wait + Sync>(
     rt: &R,
     alloc: Global,
-    play: Play,
-    least: u64,
-    most: u64,
+    row: &Row,
 ) -> Result<(), NoMemory> {
-    for _ in 0..100 {
+    let (play, rounds, least, most) = *row;
+    for _ in 0..rounds {
         plays(rt, alloc, play, least, most)?;
     }
     Ok(())
 }
 
-#[test]
-fn a_signal_wakes_one(rt: HostRuntime) -> Result<(), Fail> {
-    // Each of two that wait locks twice, and the one who signals twice.
-    Ok(plays(&rt, rt.alloc(), Play::OneByOne, 6, 6)?)
-}
+/// A play, how often it is played, and how often the lock is locked at least and at most.
+type Row = (Play, u32, u64, u64);
+
+static PLAYS: [Row; 6] = [
+    // each of two that wait locks twice, and the one who signals twice
+    (Play::OneByOne, 1, 6, 6),
+    // a signal is not for who comes after it
+    (Play::InTurn, 1, 96, 96),
+    // each of eight locks once and after each of five waits, and the one who broadcasts five times
+    (Play::Together, 1, 53, 53),
+    // a late one takes no signal, and no broadcast
+    (Play::BesideALateOne(Wakes::One), 100, 5, 7),
+    (Play::BesideALateOne(Wakes::All), 100, 5, 7),
+    // all come back once all is done
+    (Play::UntilDone, 100, 4, 7),
+];
 
 #[test]
-fn a_signal_is_not_for_who_comes_after_it(rt: HostRuntime) -> Result<(), Fail> {
-    Ok(plays(&rt, rt.alloc(), Play::InTurn, 96, 96)?)
-}
-
-#[test]
-fn a_broadcast_wakes_all(rt: HostRuntime) -> Result<(), Fail> {
-    // Each of eight locks once and after each of five waits, and the one who broadcasts five times.
-    Ok(plays(&rt, rt.alloc(), Play::Together, 53, 53)?)
-}
-
-#[test]
-fn a_late_one_takes_no_signal(rt: HostRuntime) -> Result<(), Fail> {
-    Ok(plays_on(&rt, rt.alloc(), Play::BesideALateOne(Wakes::One), 5, 7)?)
-}
-
-#[test]
-fn a_late_one_takes_no_broadcast(rt: HostRuntime) -> Result<(), Fail> {
-    Ok(plays_on(&rt, rt.alloc(), Play::BesideALateOne(Wakes::All), 5, 7)?)
-}
-
-#[test]
-fn all_come_back_once_all_is_done(rt: HostRuntime) -> Result<(), Fail> {
-    Ok(plays_on(&rt, rt.alloc(), Play::UntilDone, 4, 7)?)
+fn who_waits_is_woken(rt: HostRuntime) -> Result<(), Fail> {
+    for row in &PLAYS {
+        plays_on(&rt, rt.alloc(), row)?;
+    }
+    Ok(())
 }

@@ -13,7 +13,7 @@ use std::alloc::Global;
 use std::process::Abort;
 use std::sync::Wait;
 
-fn tries_at_zero(rt: &impl Abort, table: &SemaTable, seats: Vec<Seat>)
+pub(crate) fn tries_at_zero(rt: &impl Abort, table: &SemaTable, seats: Vec<Seat>)
     requires { All (λ s. s.table ≡ table.now) seats.items }
 {
     let (mut first, second) = two_seats(rt, table, seats);
@@ -23,16 +23,11 @@ fn tries_at_zero(rt: &impl Abort, table: &SemaTable, seats: Vec<Seat>)
     has_value(rt, table, &mut second, 0, 1);
 }
 
-#[test]
-fn a_try_at_zero_takes_nothing(rt: HostRuntime) {
-    let (table, seats) = made(&rt, rt.alloc(), &one_counter(0, 2));
-    tries_at_zero(&rt, &table, seats);
-}
-
-fn spins_and_takes_nothing(rt: &impl Abort, table: &SemaTable, seats: &mut Vec<Seat>)
-    requires { All (λ s. s.table ≡ table.now) seats.old.items }
+pub(crate) fn spins_and_takes_nothing(rt: &impl Abort, table: &SemaTable, seats: Vec<Seat>)
+    requires { All (λ s. s.table ≡ table.now) seats.items }
 {
-    let seat = last_seat(rt, table, seats);
+    let mut seats = seats;
+    let seat = last_seat(rt, table, &mut seats);
     spins(rt, table, 0);
     let mut seat = posts(rt, table, seat, 0);
     spins(rt, table, 0);
@@ -40,33 +35,23 @@ fn spins_and_takes_nothing(rt: &impl Abort, table: &SemaTable, seats: &mut Vec<S
     counts(rt, &seat, 9, 0);
 }
 
-#[test]
-fn a_spin_ends_and_takes_nothing(rt: HostRuntime) {
-    let (table, mut seats) = made(&rt, rt.alloc(), &one_counter(0, 1));
-    spins_and_takes_nothing(&rt, &table, &mut seats);
-}
-
-fn spins_and_takes<R: Abort + Wait>(rt: &R, table: &SemaTable, seats: &mut Vec<Seat>)
-    requires { All (λ s. s.table ≡ table.now) seats.old.items }
+pub(crate) fn spins_and_takes<R: Abort + Wait>(rt: &R, table: &SemaTable, seats: Vec<Seat>)
+    requires { All (λ s. s.table ≡ table.now) seats.items }
 {
-    let seat = last_seat(rt, table, seats);
+    let mut seats = seats;
+    let seat = last_seat(rt, table, &mut seats);
     let seat = posts(rt, table, seat, 0);
     let mut seat = acquires_spinning(rt, table, seat, 0);
     has_value(rt, table, &mut seat, 0, 0);
     counts(rt, &seat, 9, 1);
 }
 
-#[test]
-fn an_acquire_that_spins_takes_a_unit_that_is_there(rt: HostRuntime) {
-    let (table, mut seats) = made(&rt, rt.alloc(), &one_counter(0, 1));
-    spins_and_takes(&rt, &table, &mut seats);
-}
-
 /// One unit is taken by a try, and one under the lock.
-fn takes_two<R: Abort + Wait>(rt: &R, table: &SemaTable, seats: &mut Vec<Seat>)
-    requires { All (λ s. s.table ≡ table.now) seats.old.items }
+pub(crate) fn takes_two<R: Abort + Wait>(rt: &R, table: &SemaTable, seats: Vec<Seat>)
+    requires { All (λ s. s.table ≡ table.now) seats.items }
 {
-    let mut seat = last_seat(rt, table, seats);
+    let mut seats = seats;
+    let mut seat = last_seat(rt, table, &mut seats);
     tries(rt, table, &mut seat, 0, Tried::Taken);
     counts(rt, &seat, 10, 1);
     has_value(rt, table, &mut seat, 0, 1);
@@ -74,12 +59,6 @@ fn takes_two<R: Abort + Wait>(rt: &R, table: &SemaTable, seats: &mut Vec<Seat>)
     has_value(rt, table, &mut seat, 0, 0);
     counts(rt, &seat, 10, 2);
     has_waiters(rt, table, &mut seat, 0, 0);
-}
-
-#[test]
-fn a_unit_is_taken_by_a_try_and_under_the_lock(rt: HostRuntime) {
-    let (table, mut seats) = made(&rt, rt.alloc(), &one_counter(2, 1));
-    takes_two(&rt, &table, &mut seats);
 }
 
 /// The seat may add two units; what the counter's number is after the first, and after the second.

@@ -67,6 +67,15 @@ fn works_again<R: Abort + Threads + Wait + Sync>(rt: &R, alloc: Global, plan: &P
     }
 }
 
+/// Two threads that hand over, for 10,000 times.
+const TWO_HANDS: Sizes = Sizes {
+    counters: 2,
+    start: 0,
+    seats: 2,
+    roots: 1,
+    release_limit: 20_002,
+};
+
 /// All seats work: how many units are added and how many given, and the last numbers of these counters.
 fn comes_to<R: Abort + Threads + Wait + Sync>(
     rt: &R,
@@ -82,117 +91,114 @@ fn comes_to<R: Abort + Threads + Wait + Sync>(
     }
 }
 
-const TWO_ADD: Plan = Plan {
-    sizes: Sizes {
-        counters: 1,
-        start: 0,
-        seats: 2,
-        roots: 251,
-        release_limit: 1_000,
-    },
-    units: 0,
-    work: Work::Adds,
-    turns: 1_000,
-};
-
-#[test]
-fn no_unit_of_two_threads_is_lost(rt: HostRuntime) {
-    comes_to(&rt, rt.alloc(), &TWO_ADD, (2_000, 0), &[(0, 2_000)]);
-}
-
-/// Two threads hand so many units back and forth over two counters of one root, 10,000 times.
-fn back_and_forth(work: Work, units: u32) -> Plan {
-    Plan {
-        sizes: Sizes {
-            counters: 2,
-            start: 0,
-            seats: 2,
-            roots: 1,
-            release_limit: 20_002,
+/// What is done, how many units are added and how many given, and the last numbers of these counters.
+static PLANS: [(Plan, (u64, u64), &[(u32, u64)]); 7] = [
+    // two threads add, and no unit is lost
+    (
+        Plan {
+            sizes: Sizes {
+                counters: 1,
+                start: 0,
+                seats: 2,
+                roots: 251,
+                release_limit: 1_000,
+            },
+            units: 0,
+            work: Work::Adds,
+            turns: 1_000,
         },
-        units,
-        work,
-        turns: 10_000,
-    }
-}
-
-fn goes_back_and_forth<R: Abort + Threads + Wait + Sync>(rt: &R, alloc: Global, way: Way) {
-    let plan = back_and_forth(Work::Hands(way), 1);
-    comes_to(rt, alloc, &plan, (20_001, 20_000), &[(0, 1), (1, 0)]);
-}
-
-#[test]
-fn a_unit_goes_back_and_forth_in_order(rt: HostRuntime) {
-    let way = Way {
-        lifo: false,
-        handoff: false,
-    };
-    goes_back_and_forth(&rt, rt.alloc(), way);
-}
-
-#[test]
-fn a_unit_goes_back_and_forth_with_lifo(rt: HostRuntime) {
-    let way = Way {
-        lifo: true,
-        handoff: false,
-    };
-    goes_back_and_forth(&rt, rt.alloc(), way);
-}
-
-#[test]
-fn a_unit_goes_back_and_forth_with_handoff(rt: HostRuntime) {
-    let way = Way {
-        lifo: false,
-        handoff: true,
-    };
-    goes_back_and_forth(&rt, rt.alloc(), way);
-}
-
-#[test]
-fn two_units_go_back_and_forth_by_one_add(rt: HostRuntime) {
-    let plan = back_and_forth(Work::HandsTwo, 2);
-    comes_to(&rt, rt.alloc(), &plan, (40_002, 40_000), &[(0, 2), (1, 0)]);
-}
-
-const FOUR_LOCK: Plan = Plan {
-    sizes: Sizes {
-        counters: 3,
-        start: 1,
-        seats: 4,
-        roots: 1,
-        release_limit: 5_000,
-    },
-    units: 0,
-    work: Work::Locks,
-    turns: 5_000,
-};
-
-#[test]
-fn four_threads_lose_nobody(rt: HostRuntime) {
-    let ends = [(0, 1), (1, 1), (2, 1)];
-    comes_to(
-        &rt,
-        rt.alloc(),
-        &FOUR_LOCK,
+        (2_000, 0),
+        &[(0, 2_000)],
+    ),
+    // a unit goes back and forth over two counters of one root: in order, with lifo and with handoff
+    (
+        Plan {
+            sizes: TWO_HANDS,
+            units: 1,
+            work: Work::Hands(Way {
+                lifo: false,
+                handoff: false,
+            }),
+            turns: 10_000,
+        },
+        (20_001, 20_000),
+        &[(0, 1), (1, 0)],
+    ),
+    (
+        Plan {
+            sizes: TWO_HANDS,
+            units: 1,
+            work: Work::Hands(Way {
+                lifo: true,
+                handoff: false,
+            }),
+            turns: 10_000,
+        },
+        (20_001, 20_000),
+        &[(0, 1), (1, 0)],
+    ),
+    (
+        Plan {
+            sizes: TWO_HANDS,
+            units: 1,
+            work: Work::Hands(Way {
+                lifo: false,
+                handoff: true,
+            }),
+            turns: 10_000,
+        },
+        (20_001, 20_000),
+        &[(0, 1), (1, 0)],
+    ),
+    // two units by one add
+    (
+        Plan {
+            sizes: TWO_HANDS,
+            units: 2,
+            work: Work::HandsTwo,
+            turns: 10_000,
+        },
+        (40_002, 40_000),
+        &[(0, 2), (1, 0)],
+    ),
+    // four threads lock three counters, and ten lock one: nobody is lost
+    (
+        Plan {
+            sizes: Sizes {
+                counters: 3,
+                start: 1,
+                seats: 4,
+                roots: 1,
+                release_limit: 5_000,
+            },
+            units: 0,
+            work: Work::Locks,
+            turns: 5_000,
+        },
         (20_000, 20_000),
-        ends.as_slice(),
-    );
-}
-
-const TEN_LOCK: Plan = Plan {
-    sizes: Sizes {
-        counters: 1,
-        start: 1,
-        seats: 10,
-        roots: 251,
-        release_limit: 1_000,
-    },
-    units: 0,
-    work: Work::Locks,
-    turns: 1_000,
-};
+        &[(0, 1), (1, 1), (2, 1)],
+    ),
+    (
+        Plan {
+            sizes: Sizes {
+                counters: 1,
+                start: 1,
+                seats: 10,
+                roots: 251,
+                release_limit: 1_000,
+            },
+            units: 0,
+            work: Work::Locks,
+            turns: 1_000,
+        },
+        (10_000, 10_000),
+        &[(0, 1)],
+    ),
+];
 
 #[test]
-fn ten_threads_lock_one_counter(rt: HostRuntime) {
-    comes_to(&rt, rt.alloc(), &TEN_LOCK, (10_000, 10_000), &[(0, 1)]);
+fn no_unit_and_nobody_is_lost(rt: HostRuntime) {
+    for (plan, counts, ends) in &PLANS {
+        comes_to(&rt, rt.alloc(), plan, *counts, ends);
+    }
 }

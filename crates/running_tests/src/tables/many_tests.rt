@@ -2,7 +2,7 @@
 
 ghost use Rattle.std.specs.Prelude.{◌≡◌, ◌≤◌, All};
 
-use crate::tables::given::{counter, holds, last_seat, made, one_counter, two_seats, wait};
+use crate::tables::given::{counter, holds, last_seat, two_seats, wait};
 use crate::tables::seats::{
     FIFO, PLAIN, counts, has_value, has_waiters, is_still_asleep, releases, sleeps, wakes_up,
 };
@@ -94,7 +94,7 @@ fn releases_too_many<R: Abort + Wait>(rt: &R, table: &SemaTable, seat: Seat, uni
     }
 }
 
-fn wakes_the_only_one<R: Abort + Wait>(rt: &R, table: &SemaTable, seats: Vec<Seat>)
+pub(crate) fn wakes_the_only_one<R: Abort + Wait>(rt: &R, table: &SemaTable, seats: Vec<Seat>)
     requires { All (λ s. s.table ≡ table.now) seats.items }
 {
     let (first, second) = two_seats(rt, table, seats);
@@ -107,13 +107,11 @@ fn wakes_the_only_one<R: Abort + Wait>(rt: &R, table: &SemaTable, seats: Vec<Sea
     has_value(rt, table, &mut second, 0, 4);
 }
 
-#[test]
-fn more_units_than_waits_wake_each_wait(rt: HostRuntime) {
-    let (table, seats) = made(&rt, rt.alloc(), &one_counter(0, 2));
-    wakes_the_only_one(&rt, &table, seats);
-}
-
-fn wakes_the_only_one_at_once<R: Abort + Wait>(rt: &R, table: &SemaTable, seats: Vec<Seat>)
+pub(crate) fn wakes_the_only_one_at_once<R: Abort + Wait>(
+    rt: &R,
+    table: &SemaTable,
+    seats: Vec<Seat>,
+)
     requires { All (λ s. s.table ≡ table.now) seats.items }
 {
     let (first, second) = two_seats(rt, table, seats);
@@ -124,16 +122,11 @@ fn wakes_the_only_one_at_once<R: Abort + Wait>(rt: &R, table: &SemaTable, seats:
     wakes_up(rt, table, sleeping);
 }
 
-#[test]
-fn a_whole_release_of_many_wakes_each_wait(rt: HostRuntime) {
-    let (table, seats) = made(&rt, rt.alloc(), &one_counter(0, 2));
-    wakes_the_only_one_at_once(&rt, &table, seats);
-}
-
-fn posts_all_at_once(rt: &impl Abort, table: &SemaTable, seats: &mut Vec<Seat>)
-    requires { All (λ s. s.table ≡ table.now) seats.old.items }
+pub(crate) fn posts_all_at_once(rt: &impl Abort, table: &SemaTable, seats: Vec<Seat>)
+    requires { All (λ s. s.table ≡ table.now) seats.items }
 {
-    let seat = last_seat(rt, table, seats);
+    let mut seats = seats;
+    let seat = last_seat(rt, table, &mut seats);
     let mut seat = is_past_its_limit(rt, table, seat, 11);
     counts(rt, &seat, 10, 0);
     has_value(rt, table, &mut seat, 0, 0);
@@ -142,27 +135,16 @@ fn posts_all_at_once(rt: &impl Abort, table: &SemaTable, seats: &mut Vec<Seat>)
     has_value(rt, table, &mut seat, 0, 10);
 }
 
-#[test]
-fn a_seat_adds_at_once_no_more_than_its_limit(rt: HostRuntime) {
-    let (table, mut seats) = made(&rt, rt.alloc(), &one_counter(0, 1));
-    posts_all_at_once(&rt, &table, &mut seats);
-}
-
-fn releases_all_at_once<R: Abort + Wait>(rt: &R, table: &SemaTable, seats: &mut Vec<Seat>)
-    requires { All (λ s. s.table ≡ table.now) seats.old.items }
+pub(crate) fn releases_all_at_once<R: Abort + Wait>(rt: &R, table: &SemaTable, seats: Vec<Seat>)
+    requires { All (λ s. s.table ≡ table.now) seats.items }
 {
-    let seat = last_seat(rt, table, seats);
+    let mut seats = seats;
+    let seat = last_seat(rt, table, &mut seats);
     let mut seat = releases_too_many(rt, table, seat, 11);
     has_value(rt, table, &mut seat, 0, 0);
     let mut seat = releases_many(rt, table, seat, 10, 0);
     counts(rt, &seat, 0, 0);
     has_value(rt, table, &mut seat, 0, 10);
-}
-
-#[test]
-fn a_whole_release_of_many_adds_no_more_than_its_limit(rt: HostRuntime) {
-    let (table, mut seats) = made(&rt, rt.alloc(), &one_counter(0, 1));
-    releases_all_at_once(&rt, &table, &mut seats);
 }
 
 /// The last seat adds two units where three seats wait, and then one more for the third.
@@ -188,7 +170,7 @@ fn wakes_two_of_three<R: Abort + Wait>(
     wakes_up(rt, table, third);
 }
 
-fn three_sleep<R: Abort + Wait>(rt: &R, table: &SemaTable, seats: Vec<Seat>)
+pub(crate) fn three_sleep<R: Abort + Wait>(rt: &R, table: &SemaTable, seats: Vec<Seat>)
     requires { All (λ s. s.table ≡ table.now) seats.items }
 {
     let mut seats = seats;
@@ -199,10 +181,4 @@ fn three_sleep<R: Abort + Wait>(rt: &R, table: &SemaTable, seats: Vec<Seat>)
     let second = sleeps(rt, table, second, 0, FIFO, wait(1, 0));
     let third = sleeps(rt, table, third, 0, FIFO, wait(2, 0));
     wakes_two_of_three(rt, table, (first, second), third, last);
-}
-
-#[test]
-fn as_many_waits_are_woken_as_units_were_added(rt: HostRuntime) {
-    let (table, seats) = made(&rt, rt.alloc(), &one_counter(0, 4));
-    three_sleep(&rt, &table, seats);
 }

@@ -1,10 +1,8 @@
 //! Two seats that meet.
-//!
-//! A test makes a table, and another function has the calls: a body that owns a table is slow to prove.
 
 ghost use Rattle.std.specs.Prelude.{◌≡◌, All};
 
-use crate::tables::given::{made, one_counter, two_seats};
+use crate::tables::given::two_seats;
 use crate::tables::seats::{counts, has_value, posts, tries};
 use sema_table::{Seat, SemaTable, Tried};
 use std::process::Abort;
@@ -16,7 +14,7 @@ fn meets(table: &SemaTable, one: &mut Seat, other: &mut Seat)
     table.meet(one, other);
 }
 
-fn meets_between_calls(rt: &impl Abort, table: &SemaTable, seats: Vec<Seat>)
+pub(crate) fn meets_between_calls(rt: &impl Abort, table: &SemaTable, seats: Vec<Seat>)
     requires { All (λ s. s.table ≡ table.now) seats.items }
 {
     let (first, mut second) = two_seats(rt, table, seats);
@@ -28,10 +26,4 @@ fn meets_between_calls(rt: &impl Abort, table: &SemaTable, seats: Vec<Seat>)
     counts(rt, &second, 10, 1);
     has_value(rt, table, &mut first, 0, 0);
     has_value(rt, table, &mut second, 0, 0);
-}
-
-#[test]
-fn seats_that_met_go_on(rt: HostRuntime) {
-    let (table, seats) = made(&rt, rt.alloc(), &one_counter(0, 2));
-    meets_between_calls(&rt, &table, seats);
 }

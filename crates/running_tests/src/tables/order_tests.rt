@@ -2,7 +2,7 @@
 
 ghost use Rattle.std.specs.Prelude.{◌≡◌, All};
 
-use crate::tables::given::{last_seat, made, one_counter, two_seats, wait};
+use crate::tables::given::{last_seat, two_seats, wait};
 use crate::tables::seats::{FIFO, LIFO, PLAIN, has_value, releases, sleeps, wakes_up};
 use sema_table::{Seat, SemaTable, Sleeping, Wake};
 use std::process::Abort;
@@ -65,7 +65,7 @@ fn sleep_and_wake<R: Abort + Wait>(
     two_wake_up(rt, table, fronts);
 }
 
-fn five_seats<R: Abort + Wait>(rt: &R, table: &SemaTable, seats: Vec<Seat>)
+pub(crate) fn five_seats<R: Abort + Wait>(rt: &R, table: &SemaTable, seats: Vec<Seat>)
     requires { All (λ s. s.table ≡ table.now) seats.items }
 {
     let mut seats = seats;
@@ -74,10 +74,4 @@ fn five_seats<R: Abort + Wait>(rt: &R, table: &SemaTable, seats: Vec<Seat>)
     let third = last_seat(rt, table, &mut seats);
     let ends = two_seats(rt, table, seats);
     sleep_and_wake(rt, table, ends, (third, fourth), last);
-}
-
-#[test]
-fn the_first_of_the_queue_is_woken(rt: HostRuntime) {
-    let (table, seats) = made(&rt, rt.alloc(), &one_counter(0, 5));
-    five_seats(&rt, &table, seats);
 }

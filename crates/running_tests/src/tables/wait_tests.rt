@@ -42,18 +42,12 @@ fn is_woken_by<R: Abort + Wait>(rt: &R, table: &SemaTable, sleeping: Sleeping, s
     has_waiters(rt, table, &mut second, 0, 0);
 }
 
-fn sleeps_until_woken<R: Abort + Wait>(rt: &R, table: &SemaTable, seats: Vec<Seat>)
+pub(crate) fn sleeps_until_woken<R: Abort + Wait>(rt: &R, table: &SemaTable, seats: Vec<Seat>)
     requires { All (λ s. s.table ≡ table.now) seats.items }
 {
     let (first, mut second) = two_seats(rt, table, seats);
     let sleeping = falls_asleep(rt, table, first, &mut second);
     is_woken_by(rt, table, sleeping, second);
-}
-
-#[test]
-fn a_seat_sleeps_until_it_is_woken(rt: HostRuntime) {
-    let (table, seats) = made(&rt, rt.alloc(), &one_counter(0, 2));
-    sleeps_until_woken(&rt, &table, seats);
 }
 
 /// The third seat takes the unit of the second before the first is woken.
@@ -80,7 +74,7 @@ fn finds_no_unit<R: Abort + Wait>(
     (sleeping, second)
 }
 
-fn loses_its_unit<R: Abort + Wait>(rt: &R, table: &SemaTable, seats: Vec<Seat>)
+pub(crate) fn loses_its_unit<R: Abort + Wait>(rt: &R, table: &SemaTable, seats: Vec<Seat>)
     requires { All (λ s. s.table ≡ table.now) seats.items }
 {
     let mut seats = seats;
@@ -90,12 +84,6 @@ fn loses_its_unit<R: Abort + Wait>(rt: &R, table: &SemaTable, seats: Vec<Seat>)
     let (sleeping, second) = finds_no_unit(rt, table, sleeping, second, &mut third);
     releases(rt, table, second, 0, PLAIN, Wake::One(wait(0, 1)));
     wakes_up(rt, table, sleeping);
-}
-
-#[test]
-fn a_unit_may_be_taken_before_the_woken_seat_tries(rt: HostRuntime) {
-    let (table, seats) = made(&rt, rt.alloc(), &one_counter(0, 3));
-    loses_its_unit(&rt, &table, seats);
 }
 
 /// The third seat hands its unit to the first, and then releases once more, to the second.
@@ -120,7 +108,11 @@ fn hands_over<R: Abort + Wait>(
     wakes_up(rt, table, second);
 }
 
-fn two_sleep_and_one_is_handed<R: Abort + Wait>(rt: &R, table: &SemaTable, seats: Vec<Seat>)
+pub(crate) fn two_sleep_and_one_is_handed<R: Abort + Wait>(
+    rt: &R,
+    table: &SemaTable,
+    seats: Vec<Seat>,
+)
     requires { All (λ s. s.table ≡ table.now) seats.items }
 {
     let mut seats = seats;
@@ -129,12 +121,6 @@ fn two_sleep_and_one_is_handed<R: Abort + Wait>(rt: &R, table: &SemaTable, seats
     let first = sleeps(rt, table, first, 0, FIFO, wait(0, 0));
     let second = sleeps(rt, table, second, 0, FIFO, wait(1, 0));
     hands_over(rt, table, first, second, third);
-}
-
-#[test]
-fn a_unit_is_handed_over(rt: HostRuntime) {
-    let (table, seats) = made(&rt, rt.alloc(), &one_counter(0, 3));
-    two_sleep_and_one_is_handed(&rt, &table, seats);
 }
 
 /// The first seat sleeps on counter 0, whose root counter 251 has too.

@@ -2,7 +2,7 @@
 
 ghost use Rattle.std.specs.Prelude.{◌≡◌, All};
 
-use crate::tables::given::{made, one_counter, two_seats, wait};
+use crate::tables::given::{two_seats, wait};
 use crate::tables::seats::{
     FIFO, HANDOFF, LIFO, PLAIN, acquires, counts, has_value, is_roused, is_roused_with_a_unit,
     posts, releases, retries, sleeps,
@@ -12,7 +12,7 @@ use std::process::Abort;
 use std::sync::Wait;
 
 /// The first seat takes two units, one with lifo: nobody waits for either.
-fn takes_what_is_there<R: Abort + Wait>(rt: &R, table: &SemaTable, seats: Vec<Seat>)
+pub(crate) fn takes_what_is_there<R: Abort + Wait>(rt: &R, table: &SemaTable, seats: Vec<Seat>)
     requires { All (λ s. s.table ≡ table.now) seats.items }
 {
     let (first, second) = two_seats(rt, table, seats);
@@ -25,15 +25,9 @@ fn takes_what_is_there<R: Abort + Wait>(rt: &R, table: &SemaTable, seats: Vec<Se
     has_value(rt, table, &mut first, 0, 0);
 }
 
-#[test]
-fn an_acquire_takes_what_is_there(rt: HostRuntime) {
-    let (table, seats) = made(&rt, rt.alloc(), &one_counter(0, 2));
-    takes_what_is_there(&rt, &table, seats);
-}
-
 /// The first seat sleeps twice, and both times its grant is there before its thread sleeps: with a unit, and
 /// without.
-fn finds_its_grant<R: Abort + Wait>(rt: &R, table: &SemaTable, seats: Vec<Seat>)
+pub(crate) fn finds_its_grant<R: Abort + Wait>(rt: &R, table: &SemaTable, seats: Vec<Seat>)
     requires { All (λ s. s.table ≡ table.now) seats.items }
 {
     let (first, second) = two_seats(rt, table, seats);
@@ -48,10 +42,4 @@ fn finds_its_grant<R: Abort + Wait>(rt: &R, table: &SemaTable, seats: Vec<Seat>)
     counts(rt, &first, 10, 2);
     counts(rt, &second, 8, 0);
     has_value(rt, table, &mut first, 0, 0);
-}
-
-#[test]
-fn a_sleep_ends_at_once_where_its_grant_is_there(rt: HostRuntime) {
-    let (table, seats) = made(&rt, rt.alloc(), &one_counter(0, 2));
-    finds_its_grant(&rt, &table, seats);
 }
