@@ -7,7 +7,7 @@ use Rattle.explorer_scenarios.specs.declared.exit.Exit.{Exit}
 use Rattle.explorer_streams.specs.declared.fault.IoFault.{IoFault}
 use Rattle.explorer_streams.specs.declared.fault.IoFault.TheVariants.{Read, Write}
 use Rattle.explorer_scenarios.specs.declared.answer.Answer.{Answer}
-use Rattle.explorer_scenarios.specs.declared.command.Told.{Told}
+use Rattle.explorer_scenarios.specs.declared.command.Outcome.{Outcome}
 use Rattle.explorer_scenarios.specs.Told.{IsTextOf, WantsMemory, TellsBeginning}
 
 -- the text of an answer, or want of memory, is of each kind that has both
@@ -34,9 +34,9 @@ false_true : false ≡ true → ⊥
 false_true e = absurd cc
 
 -- where neither failed the command has ended
-pub ended : (P : Told → Type 0) (outcome : Result Told IoFault) (read_failed write_failed : Bool)
+pub ended : (P : Outcome → Type 0) (outcome : Result Outcome IoFault) (read_failed write_failed : Bool)
     → ((outcome ≡ Err Read) ↔ IsTrue read_failed) → ((outcome ≡ Err Write) ↔ IsTrue write_failed)
-    → read_failed ≡ false → write_failed ≡ false → IfOk outcome P → (told : Told) × (outcome ≡ Ok told) × P told
+    → read_failed ≡ false → write_failed ≡ false → IfOk outcome P → (told : Outcome) × (outcome ≡ Ok told) × P told
 ended P (Ok told) r w reads writes e f p = (told, refl, p)
 ended P (Err Read) r w reads writes e f p = let t = reads.0 refl in absurd (false_true (sym e ∙ t))
 ended P (Err Write) r w reads writes e f p = let t = writes.0 refl in absurd (false_true (sym f ∙ t))

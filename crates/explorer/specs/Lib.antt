@@ -1,5 +1,5 @@
 pub mod Answer
-pub mod Asked
+pub mod Invocation
 pub mod JudgeText
 pub mod Once
 pub mod OnceText

@@ -1,11 +1,11 @@
 //! The schedule that stands in an answer, as `explore` and `check` tell it.
 
 ghost use Rattle.std.specs.Prelude.{◌≡◌, ◌↔◌, IfOk, IsErr, IsTrue, false};
-ghost use Rattle.explorer_words.specs.Asked.{IsWithinLimits};
+ghost use Rattle.explorer_words.specs.Invocation.{IsWithinLimits};
 
 use explorer_scenarios::{IoFault, MAX_TEXT, Source};
 use explorer_streams::read_at_most;
-use explorer_words::Asked;
+use explorer_words::Invocation;
 use std::alloc::Global;
 
 /// An answer that tells no schedule is replayed as this, which is none.
@@ -23,10 +23,10 @@ fn told_schedule(answer: &str) -> Option<&str> {
 /// It is an `Err` where a read fails.
 pub(crate) fn scheduled_by<'w, R: Source>(
     alloc: Global,
-    asked: Asked<'w>,
+    asked: Invocation<'w>,
     reader: &mut R,
     room: &'w mut Vec<u8>,
-) -> Result<Asked<'w>, IoFault>
+) -> Result<Invocation<'w>, IoFault>
     requires limits { IsWithinLimits asked }
     requires readable { R.has_failed reader.old ≡ false }
     ensures limits { IfOk result IsWithinLimits }
@@ -34,7 +34,7 @@ pub(crate) fn scheduled_by<'w, R: Source>(
 {
     match read_at_most(alloc, reader, MAX_TEXT)? {
         Ok(answer) => *room = answer,
-        Err(_) => return Ok(Asked::NoMemory),
+        Err(_) => return Ok(Invocation::NoMemory),
     }
     let schedule = str::from_utf8(room).ok().and_then(told_schedule);
     Ok(asked.with_schedule(schedule.unwrap_or(NO_SCHEDULE)))

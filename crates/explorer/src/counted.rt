@@ -3,7 +3,7 @@
 ghost use Rattle.std.specs.Prelude.{◌≡◌, ◌↔◌, ◌<◌, false, length, slice_index, Some, string_bytes};
 ghost use Rattle.std.specs.Prelude.{IsTrue, IsErr, IfOk, IfErr, OnErr};
 ghost use Rattle.explorer_scenarios.specs.Told.{TellsAll, TellsBeginning};
-ghost use Rattle.explorer_words.specs.Asked.{AreWithin};
+ghost use Rattle.explorer_words.specs.Invocation.{AreWithin};
 ghost use Rattle.explorer.specs.ThreadsText.{threads_lines, IsThreadsAnswer};
 
 use crate::gate::Open;

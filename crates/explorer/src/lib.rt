@@ -27,12 +27,12 @@ pub use answer::{OnceAnswers, Released, Retried};
 pub use counted::threads_io;
 pub use explorer_scenarios::{
     Bounds, Cause, Command, Exit, Extent, Extras, Flagged, Found, FoundInAll, IoFault, Kind,
-    MAX_DEPTH, MAX_TEXT, NO_MEMORY, Property, ReadFault, Request, Searched, Sink, Source,
-    StopWatch, Team, Told, Watch, check, check_asked, command_io, explore, explore_by, explore_io,
+    MAX_DEPTH, MAX_TEXT, NO_MEMORY, Outcome, Property, ReadFault, Request, Searched, Sink, Source,
+    StopWatch, Team, Watch, check, check_asked, command_io, explore, explore_by, explore_io,
     explore_variant, explore_variant_io, read_scenario, replay_io, verdict,
 };
 pub use explorer_words::{
-    Asked, FileFault, MAX_ROUNDS, MAX_WORKERS, no_file, no_words, read_words,
+    FileFault, Invocation, MAX_ROUNDS, MAX_WORKERS, no_file, no_words, read_words,
 };
 pub use gate::{Gate, Open};
 pub use journal_judge::Demands;

@@ -4,7 +4,7 @@ ghost use Rattle.std.specs.Prelude.{◌≡◌, ◌*◌, ◌<◌, ◌∷◌, [], 
 ghost use Rattle.sema_table.specs.Making.{new_seat, new_seats};
 ghost use Rattle.explorer.specs.Threads.{AreOutside, AreThreadsSettings, IsThreadsTable, IsThreadsRun};
 ghost use Rattle.explorer.specs.Threads.{IsRound, HasWorked, IsWorker, HaveStarted, HaveWorked};
-ghost use Rattle.explorer_words.specs.Asked.{AreWithin};
+ghost use Rattle.explorer_words.specs.Invocation.{AreWithin};
 ghost use Rattle.explorer.specs.ThreadsText.{threads_refused_text};
 
 use crate::gate::Gate;

@@ -1,14 +1,14 @@
 //! The whole program, on its words. The files that they name are opened through the runtime.
 
 ghost use Rattle.std.specs.Prelude.{◌≡◌, IfOk, IsTrue, false};
-ghost use Rattle.explorer_words.specs.Asked.{IsWithinLimits};
-ghost use Rattle.explorer.specs.Asked.{HasDone, HasDoneSome};
+ghost use Rattle.explorer_words.specs.Invocation.{IsWithinLimits};
+ghost use Rattle.explorer.specs.Invocation.{HasDone, HasDoneSome};
 
 use crate::answered::scheduled_by;
 use crate::program::{answer_io, beside, fault_text, status_after, tell_beside};
 use crate::ticker::Ticker;
 use explorer_scenarios::{Exit, Flagged, IoFault, Sink, Source};
-use explorer_words::{Asked, FileFault, no_file, read_words};
+use explorer_words::{FileFault, Invocation, no_file, read_words};
 use std::alloc::Global;
 use std::fs;
 use std::rt::Files;
@@ -35,10 +35,10 @@ fn open_file<T: Files>(rt: &T, name: &str) -> Result<T::File, FileFault> {
 fn scheduled<'w, T: Files, R: Source>(
     rt: &T,
     alloc: Global,
-    asked: Asked<'w>,
+    asked: Invocation<'w>,
     reader: &mut R,
     room: &'w mut Vec<u8>,
-) -> Result<Asked<'w>, IoFault>
+) -> Result<Invocation<'w>, IoFault>
     requires limits { IsWithinLimits asked }
     requires readable { R.has_failed reader.old ≡ false }
     ensures limits { IfOk result IsWithinLimits }
@@ -59,7 +59,7 @@ fn scheduled<'w, T: Files, R: Source>(
 fn shown_io<T: Threads + Wait + Clock + Sync, R: Source, O: Sink, E: Sink>(
     rt: &T,
     alloc: Global,
-    asked: &Asked<'_>,
+    asked: &Invocation<'_>,
     reader: &mut R,
     out: &mut O,
     err: &mut E,
@@ -82,7 +82,7 @@ fn shown_io<T: Threads + Wait + Clock + Sync, R: Source, O: Sink, E: Sink>(
 fn opened_io<T: Files + Threads + Wait + Clock + Sync, R: Source, O: Sink, E: Sink>(
     rt: &T,
     alloc: Global,
-    asked: &Asked<'_>,
+    asked: &Invocation<'_>,
     reader: &mut R,
     out: &mut O,
     err: &mut E,

@@ -1,9 +1,9 @@
 //! The program over its words, and the command `once`.
 
-ghost use Rattle.explorer_words.specs.Asked.{IsWithinLimits};
+ghost use Rattle.explorer_words.specs.Invocation.{IsWithinLimits};
 
 use crate::asked::{ALL_SOUND, Host, Told, answers, ask, is_a_mistake, run, tells, tells_over};
-use explorer::{Asked, FileFault, NO_MEMORY, no_file, no_words, once_text};
+use explorer::{FileFault, Invocation, NO_MEMORY, no_file, no_words, once_text};
 use std::alloc::Global;
 use std::io::{self, ErrorKind};
 use std::sync::Wait;
@@ -247,7 +247,7 @@ fn other_words_are_mistakes(rt: HostRuntime) {
 fn without_a_command(
     rt: &impl Host,
     alloc: Global,
-    asked: &Asked<'_>,
+    asked: &Invocation<'_>,
     told: &str,
     told_beside: &str,
 )
@@ -269,11 +269,11 @@ fn words_that_are_no_text_are_a_mistake(rt: HostRuntime) {
 }
 
 /// What is asked where this file can't be opened. Where memory is wanting it is asked once more.
-fn asked_without<'w>(alloc: Global, file: &str, fault: FileFault) -> Asked<'w>
+fn asked_without<'w>(alloc: Global, file: &str, fault: FileFault) -> Invocation<'w>
     ensures { IsWithinLimits result }
 {
     match no_file(alloc, file, fault) {
-        Asked::NoMemory => no_file(alloc, file, fault),
+        Invocation::NoMemory => no_file(alloc, file, fault),
         asked => asked,
     }
 }

@@ -1,2 +1,2 @@
-pub mod Asked
+pub mod Invocation
 pub mod FileFault

@@ -1,11 +1,11 @@
 //! What the arguments of each command ask for.
 
 ghost use Rattle.std.specs.Prelude.{◌≡◌, ◌↔◌, IfOk, IfSome, IsTrue, Some, option_map, codes};
-ghost use Rattle.explorer_words.specs.Asked.{IsFileNamed, IsFromOne, IsWithinLimits, NamesNoInput};
-ghost use Rattle.explorer_words.specs.Asked.{ReadsInputOnce};
+ghost use Rattle.explorer_words.specs.Invocation.{IsFileNamed, IsFromOne, IsWithinLimits, NamesNoInput};
+ghost use Rattle.explorer_words.specs.Invocation.{ReadsInputOnce};
 
-use crate::asked::{Asked, MAX_LINES, MAX_ROUNDS, MAX_THREADS, MAX_WORKERS, MAX_WORLDS};
 use crate::format::FORMAT;
+use crate::invocation::{Invocation, MAX_LINES, MAX_ROUNDS, MAX_THREADS, MAX_WORKERS, MAX_WORLDS};
 use clap::ArgMatches;
 use explorer_scenarios::{
     Bounds, CHECKED_WORLDS, Command, EXPLORED_WORLDS, Extras, MAX_DEPTH, variant_named,
@@ -69,7 +69,7 @@ fn file_of<'w>(name: Option<&'w str>) -> Option<&'w str>
 }
 
 /// What `explore` is asked for.
-fn explore_asked<'w>(given: &ArgMatches<'w>) -> Asked<'w>
+fn explore_asked<'w>(given: &ArgMatches<'w>) -> Invocation<'w>
     ensures limits { IsWithinLimits result }
     ensures once { ReadsInputOnce result }
     ensures named { NamesNoInput result }
@@ -79,7 +79,7 @@ fn explore_asked<'w>(given: &ArgMatches<'w>) -> Asked<'w>
         depth: depth.min(MAX_DEPTH),
         worlds: worlds_of(given, EXPLORED_WORLDS),
     };
-    Asked::OfScenario {
+    Invocation::OfScenario {
         command: Command::Explore {
             bounds,
             table: variant_of(given),
@@ -92,12 +92,12 @@ fn explore_asked<'w>(given: &ArgMatches<'w>) -> Asked<'w>
 }
 
 /// What `check` is asked for.
-fn check_asked<'w>(given: &ArgMatches<'w>) -> Asked<'w>
+fn check_asked<'w>(given: &ArgMatches<'w>) -> Invocation<'w>
     ensures limits { IsWithinLimits result }
     ensures once { ReadsInputOnce result }
     ensures named { NamesNoInput result }
 {
-    Asked::OfScenario {
+    Invocation::OfScenario {
         command: Command::Check {
             worlds: worlds_of(given, CHECKED_WORLDS),
             every: given.get_flag("every"),
@@ -112,7 +112,7 @@ fn check_asked<'w>(given: &ArgMatches<'w>) -> Asked<'w>
 /// What `replay` is asked for. An answer on standard input leaves no room there for the scenario.
 ///
 /// It is an `Err` where memory is short.
-fn replay_asked<'w>(alloc: Global, given: &ArgMatches<'w>) -> Result<Asked<'w>, AllocError>
+fn replay_asked<'w>(alloc: Global, given: &ArgMatches<'w>) -> Result<Invocation<'w>, AllocError>
     ensures limits { IfOk result IsWithinLimits }
     ensures once { IfOk result ReadsInputOnce }
     ensures named { IfOk result NamesNoInput }
@@ -120,9 +120,9 @@ fn replay_asked<'w>(alloc: Global, given: &ArgMatches<'w>) -> Result<Asked<'w>, 
     let answer = given.get_str("schedule-of");
     let file = file_of(given.get_str("scenario").or(given.get_str("file")));
     if is_standard_input(answer) && file.is_none() {
-        return Ok(Asked::Mistake(String::from_str(alloc, NO_SCENARIO)?));
+        return Ok(Invocation::Mistake(String::from_str(alloc, NO_SCENARIO)?));
     }
-    Ok(Asked::OfScenario {
+    Ok(Invocation::OfScenario {
         command: Command::Replay {
             // that of an answer takes the place of none
             schedule: given.get_str("schedule").unwrap_or(""),
@@ -161,12 +161,12 @@ fn most_of(given: &ArgMatches<'_>) -> Option<u32>
 /// What `judge` is asked for.
 ///
 /// It is an `Err` where memory is short.
-fn judge_asked<'w>(alloc: Global, given: &ArgMatches<'w>) -> Result<Asked<'w>, AllocError>
+fn judge_asked<'w>(alloc: Global, given: &ArgMatches<'w>) -> Result<Invocation<'w>, AllocError>
     ensures limits { IfOk result IsWithinLimits }
     ensures once { IfOk result ReadsInputOnce }
     ensures named { IfOk result NamesNoInput }
 {
-    Ok(Asked::Judge {
+    Ok(Invocation::Judge {
         file: file_of(given.get_str("file")),
         demands: Demands {
             locks: locks_of(alloc, given)?,
@@ -177,14 +177,14 @@ fn judge_asked<'w>(alloc: Global, given: &ArgMatches<'w>) -> Result<Asked<'w>, A
 }
 
 /// What `threads` is asked for.
-fn threads_asked<'w>(given: &ArgMatches<'w>) -> Asked<'w>
+fn threads_asked<'w>(given: &ArgMatches<'w>) -> Invocation<'w>
     ensures limits { IsWithinLimits result }
     ensures once { ReadsInputOnce result }
     ensures named { NamesNoInput result }
 {
     let workers = given.get_one::<u32>("workers").unwrap_or(1);
     let rounds = given.get_one::<u32>("rounds").unwrap_or(1);
-    Asked::Threads {
+    Invocation::Threads {
         workers: workers.clamp(1, MAX_WORKERS),
         rounds: rounds.clamp(1, MAX_ROUNDS),
     }
@@ -197,7 +197,7 @@ pub(crate) fn asked_of<'w>(
     alloc: Global,
     name: &str,
     given: &ArgMatches<'w>,
-) -> Result<Asked<'w>, AllocError>
+) -> Result<Invocation<'w>, AllocError>
     ensures limits { IfOk result IsWithinLimits }
     ensures once { IfOk result ReadsInputOnce }
     ensures named { IfOk result NamesNoInput }
@@ -208,8 +208,8 @@ pub(crate) fn asked_of<'w>(
         "replay" => replay_asked(alloc, given),
         "judge" => judge_asked(alloc, given),
         "threads" => Ok(threads_asked(given)),
-        "format" => Ok(Asked::Help(String::from_str(alloc, FORMAT)?)),
-        _ => Ok(Asked::Once),
+        "format" => Ok(Invocation::Help(String::from_str(alloc, FORMAT)?)),
+        _ => Ok(Invocation::Once),
     }
 }
 

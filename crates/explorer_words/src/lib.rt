@@ -5,12 +5,12 @@
 //! is wrong with the words. What is asked is done by the crate `explorer`.
 #![tactic(auto)]
 
-mod asked;
 mod asking;
 mod file_fault;
 mod format;
+mod invocation;
 mod words;
 
-pub use asked::{Asked, MAX_LINES, MAX_ROUNDS, MAX_THREADS, MAX_WORKERS, MAX_WORLDS};
 pub use file_fault::FileFault;
+pub use invocation::{Invocation, MAX_LINES, MAX_ROUNDS, MAX_THREADS, MAX_WORKERS, MAX_WORLDS};
 pub use words::{no_file, no_words, read_words};

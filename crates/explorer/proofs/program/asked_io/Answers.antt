@@ -1,6 +1,6 @@
 use Rattle.std.proofs.Common.{◌≡◌, ℕ, List, Option, MatchOption, ◌∙◌, ap, subst}
 use Rattle.std.specs.Prelude.{string_bytes, option_map}
-use Rattle.explorer.specs.Asked.{status_after, beside, WritesAsFar}
+use Rattle.explorer.specs.Invocation.{status_after, beside, WritesAsFar}
 use Rattle.explorer.proofs.Outcomes.{ended}
 use Rattle.explorer.proofs.program.asked_io.Goals as goal
 

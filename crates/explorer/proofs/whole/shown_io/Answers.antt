@@ -1,6 +1,6 @@
 use Rattle.std.proofs.Common.{◌∙◌, ap}
 use Rattle.std.specs.Prelude.{string_bytes, option_map}
-use Rattle.explorer.specs.Asked.{status_after}
+use Rattle.explorer.specs.Invocation.{status_after}
 use Rattle.explorer.proofs.Outcomes.{ended}
 use Rattle.explorer.proofs.whole.shown_io.Goals as goal
 

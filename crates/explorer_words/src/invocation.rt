@@ -1,5 +1,5 @@
 ghost use Rattle.std.specs.Prelude.{◌≡◌, option_map};
-ghost use Rattle.explorer_words.specs.Asked.{file_of, answer_named, is_watched, with_schedule};
+ghost use Rattle.explorer_words.specs.Invocation.{file_of, answer_named, is_watched, with_schedule};
 
 use explorer_scenarios::Command;
 use journal_judge::Demands;
@@ -17,7 +17,7 @@ pub const MAX_THREADS: u16 = 64;
 
 /// What the program's words ask for.
 #[derive(Debug, Drop)]
-pub enum Asked<'w> {
+pub enum Invocation<'w> {
     /// The command `once`.
     Once,
     /// A command that reads the text of a scenario, in this file or on standard input. So many threads share
@@ -51,13 +51,13 @@ pub enum Asked<'w> {
     NoMemory,
 }
 
-impl<'w> Asked<'w> {
+impl<'w> Invocation<'w> {
     /// The file that the command reads in place of standard input, if it reads one.
     pub fn file(&self) -> Option<&'w str>
         ensures { option_map (λ file. file.now) result ≡ file_of self.now }
     {
         match self {
-            Asked::OfScenario { file, .. } | Asked::Judge { file, .. } => *file,
+            Invocation::OfScenario { file, .. } | Invocation::Judge { file, .. } => *file,
             _ => None,
         }
     }
@@ -67,7 +67,7 @@ impl<'w> Asked<'w> {
         ensures { option_map (λ answer. answer.now) result ≡ answer_named self.now }
     {
         match self {
-            Asked::OfScenario { answer, .. } => *answer,
+            Invocation::OfScenario { answer, .. } => *answer,
             _ => None,
         }
     }
@@ -77,7 +77,7 @@ impl<'w> Asked<'w> {
         ensures { result ≡ is_watched self.now }
     {
         match self {
-            Asked::OfScenario {
+            Invocation::OfScenario {
                 command: Command::Explore { extras, .. } | Command::Check { extras, .. },
                 ..
             } => extras.live,
@@ -86,11 +86,11 @@ impl<'w> Asked<'w> {
     }
 
     /// The same with this schedule, which its answer has told, where a replay is asked for.
-    pub fn with_schedule(self, schedule: &'w str) -> Asked<'w>
+    pub fn with_schedule(self, schedule: &'w str) -> Invocation<'w>
         ensures { result ≡ with_schedule self.entry schedule.entry }
     {
         match self {
-            Asked::OfScenario {
+            Invocation::OfScenario {
                 command: Command::Replay {
                     table,
                     every,
@@ -100,7 +100,7 @@ impl<'w> Asked<'w> {
                 file,
                 threads,
                 ..
-            } => Asked::OfScenario {
+            } => Invocation::OfScenario {
                 command: Command::Replay {
                     schedule,
                     table,

@@ -6,23 +6,24 @@ use Rattle.explorer_scenarios.specs.declared.exit.Exit.{Exit}
 use Rattle.explorer_scenarios.specs.declared.exit.Exit.TheVariants.{NothingBad, Refused}
 use Rattle.explorer_streams.specs.declared.fault.IoFault.{IoFault}
 use Rattle.explorer_streams.specs.declared.fault.IoFault.TheVariants.{Read, Write}
-use Rattle.explorer_scenarios.specs.declared.command.Told.{Told}
+use Rattle.explorer_scenarios.specs.declared.command.Outcome.{Outcome}
 use Rattle.explorer_scenarios.specs.Exit.{status_of}
 use Rattle.explorer_scenarios.specs.Commands.{IsAnswerOf, IsReplyOf}
 use Rattle.explorer_scenarios.specs.Line.{line}
 use Rattle.explorer_streams.specs.Writing.{WritesBeginning}
 use Rattle.explorer_scenarios.specs.Told.{IsToldOf, WantsMemory, TellsAll, TellsBeginning}
-use Rattle.explorer_words.specs.declared.asked.Asked.{Asked}
-use Rattle.explorer_words.specs.declared.asked.Asked.TheVariants.{Once, OfScenario, Judge, Threads, Help}
-use Rattle.explorer_words.specs.declared.asked.Asked.TheVariants.{Mistake, NoText, NoMemory}
-use Rattle.explorer_words.specs.Asked.{IsWithinLimits}
+use Rattle.explorer_words.specs.declared.invocation.Invocation.{Invocation}
+use Rattle.explorer_words.specs.declared.invocation.Invocation.TheVariants.{Once, OfScenario, Judge, Threads}
+use Rattle.explorer_words.specs.declared.invocation.Invocation.TheVariants.{Help}
+use Rattle.explorer_words.specs.declared.invocation.Invocation.TheVariants.{Mistake, NoText, NoMemory}
+use Rattle.explorer_words.specs.Invocation.{IsWithinLimits}
 use Rattle.explorer.specs.JudgeText.{IsJudgeReplyOf, IsJudgeToldOf}
 use Rattle.explorer.specs.OnceText.{IsOnceAnswer}
 use Rattle.explorer.specs.ThreadsText.{IsThreadsAnswer}
 
 -- the text and the exit answer what is asked, of a source with these bytes before and after. A mistake in the
 -- words has no answer
-abbrev pub IsTextFor : Asked → Option (List ℕ) → Option (List ℕ) → List ℕ → Exit → Type 0
+abbrev pub IsTextFor : Invocation → Option (List ℕ) → Option (List ℕ) → List ℕ → Exit → Type 0
 IsTextFor Once old new text exit = IsOnceAnswer text exit
 IsTextFor (OfScenario command file answer threads) old new text exit =
     IsToldOf (IsAnswerOf command) old new text exit
@@ -34,7 +35,8 @@ IsTextFor NoText old new text exit = (text ≡ []) × (exit ≡ Refused)
 IsTextFor NoMemory old new text exit = WantsMemory text exit
 
 -- and this is told beside: only a command that reads a text tells anything there
-abbrev pub IsAnswerTo : Asked → Option (List ℕ) → Option (List ℕ) → Option (List ℕ) → List ℕ → Exit → Type 0
+abbrev pub IsAnswerTo : Invocation → Option (List ℕ) → Option (List ℕ) → Option (List ℕ) → List ℕ → Exit
+    → Type 0
 IsAnswerTo (OfScenario command file answer threads) old new aside text exit =
     IsReplyOf command old new aside text exit
 IsAnswerTo (Judge file demands most) old new aside text exit =
@@ -42,20 +44,20 @@ IsAnswerTo (Judge file demands most) old new aside text exit =
 IsAnswerTo asked old new aside text exit = IsTextFor asked old new text exit × (aside ≡ None)
 
 -- the command reads an input
-abbrev pub reads_input : Asked → Bool
+abbrev pub reads_input : Invocation → Bool
 reads_input (OfScenario command file answer threads) = true
 reads_input (Judge file demands most) = true
 reads_input _ = false
 
 -- what is wrong with the words, or with the file that they name
-abbrev pub mistake_text : Asked → Option (List ℕ)
+abbrev pub mistake_text : Invocation → Option (List ℕ)
 mistake_text (Mistake told) = Some (string_bytes told)
 mistake_text NoText = Some (line (codes "error: invalid UTF-8 was detected in one or more arguments"))
 mistake_text _ = None
 
 -- what goes to standard error beside an answer: what the command tells beside, or else what is wrong with the
 -- words
-abbrev pub or_mistake : Option (List ℕ) → Asked → Option (List ℕ)
+abbrev pub or_mistake : Option (List ℕ) → Invocation → Option (List ℕ)
 or_mistake (Some told) asked = Some told
 or_mistake None asked = mistake_text asked
 
@@ -64,12 +66,12 @@ abbrev pub fault_text : IoFault → List ℕ
 fault_text Read = line (codes "parklot: read failed")
 fault_text Write = line (codes "parklot: write failed")
 
-abbrev pub beside : Asked → Result Told IoFault → Option (List ℕ)
+abbrev pub beside : Invocation → Result Outcome IoFault → Option (List ℕ)
 beside asked (Ok told) = or_mistake (option_map string_bytes told.aside) asked
 beside asked (Err fault) = Some (fault_text fault)
 
 -- the status after a command that ended so, or in which a read or a write failed
-abbrev pub status_after : Result Told IoFault → ℕ
+abbrev pub status_after : Result Outcome IoFault → ℕ
 status_after (Ok told) = status_of told.exit
 status_after (Err fault) = 2
 
@@ -79,7 +81,7 @@ WritesAsFar old new failed text = Appends old new text ⊎ (IsTrue failed × Wri
 
 -- the program did what is asked, on a source with these bytes before and after, which failed or not; and so
 -- with its output
-pub record HasDone (asked : Asked) (read unread : Option (List ℕ)) (broken : Bool)
+pub record HasDone (asked : Invocation) (read unread : Option (List ℕ)) (broken : Bool)
     (old new : Option (List ℕ)) (cut : Bool)
     (status : ℕ) : Type 0 where
   pub whole : broken ≡ false → cut ≡ false
@@ -93,6 +95,6 @@ pub record HasDone (asked : Asked) (read unread : Option (List ℕ)) (broken : B
 abbrev pub HasDoneSome : Option (List ℕ) → Option (List ℕ) → Bool → ℕ → Type 0
 HasDoneSome old new cut status =
     ((status ≡ 2) × (new ≡ old))
-    ⊎ ((asked : Asked) × IsWithinLimits asked × (read : Option (List ℕ)) × (unread : Option (List ℕ))
+    ⊎ ((asked : Invocation) × IsWithinLimits asked × (read : Option (List ℕ)) × (unread : Option (List ℕ))
     × (broken : Bool)
     × HasDone asked read unread broken old new cut status)
