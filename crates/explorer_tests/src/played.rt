@@ -1,10 +1,10 @@
-//! What the tests start from: scenarios as texts, and schedules.
+//! What the tests of tables start from: scenarios as texts, and schedules.
 //!
 //! What answers want of memory is made once more.
 
+use crate::machine::given::{scenario, seats_again};
 use explorer_replay::{Refused, ReplayTable, table_of, table_text};
-use explorer_text::read_scenario;
-use std::alloc::{AllocError, Global};
+use std::alloc::Global;
 use std::process::Abort;
 use step_core::{NoMemory, Scenario, SeatId, StepRefused, Variant};
 
@@ -19,24 +19,6 @@ pub(crate) struct Played {
     pub(crate) refused: Option<(usize, StepRefused)>,
 }
 
-fn seats(alloc: Global, schedule: &[u16]) -> Result<Vec<SeatId>, AllocError> {
-    schedule
-        .iter()
-        .map(|number| SeatId::new(*number))
-        .collect(alloc)
-}
-
-/// The scenario of a text that is right: only memory may be short.
-fn scenario(alloc: Global, text: &str) -> Result<Scenario, NoMemory> {
-    let Ok(request) = read_scenario(alloc, text.as_bytes()) else {
-        return Err(NoMemory);
-    };
-    match Scenario::of(request.parts) {
-        Ok(scenario) => Ok(scenario),
-        Err(_) => Err(NoMemory),
-    }
-}
-
 /// How a table ends.
 fn end_of(table: &ReplayTable<'_>) -> Option<(usize, StepRefused)> {
     match table.refused {
@@ -45,20 +27,25 @@ fn end_of(table: &ReplayTable<'_>) -> Option<(usize, StepRefused)> {
     }
 }
 
-/// Whether what is played has this table, and ends so.
-fn is_told(alloc: Global, played: &Played) -> Result<bool, NoMemory> {
-    let scenario = scenario(alloc, played.text)?;
-    let seats = seats(alloc, played.schedule)?;
-    let table = table_of(alloc, &scenario, played.change, &seats)?;
+/// Whether the schedule of what is played has this table, and ends so.
+fn is_told(
+    alloc: Global,
+    scenario: &Scenario,
+    schedule: &[SeatId],
+    played: &Played,
+) -> Result<bool, NoMemory> {
+    let table = table_of(alloc, scenario, played.change, schedule)?;
     let text = table_text(alloc, &table)?;
     Ok(text.as_str() == played.table && end_of(&table) == played.refused)
 }
 
 /// What is played has this table, and ends so.
 pub(crate) fn tells(rt: &impl Abort, alloc: Global, played: &Played) {
-    let told = match is_told(alloc, played) {
+    let scenario = scenario(rt, alloc, played.text);
+    let schedule = seats_again(rt, alloc, played.schedule);
+    let told = match is_told(alloc, &scenario, &schedule, played) {
         Ok(told) => told,
-        Err(NoMemory) => is_told(alloc, played).expect(rt, "memory"),
+        Err(NoMemory) => is_told(alloc, &scenario, &schedule, played).expect(rt, "memory"),
     };
     assert!(rt; told);
 }

@@ -10,7 +10,7 @@ fn text_of(alloc: Global, told: &impl Display) -> Option<String> {
 }
 
 /// This is printed so.
-fn is_printed(rt: &impl Abort, alloc: Global, told: &impl Display, text: &str) {
+pub(crate) fn is_printed(rt: &impl Abort, alloc: Global, told: &impl Display, text: &str) {
     let printed = match text_of(alloc, told) {
         Some(printed) => printed,
         None => text_of(alloc, told).expect(rt, "memory"),
