@@ -12,6 +12,7 @@ pub mod Apart
 pub mod Stepping
 pub mod Leading
 pub mod Walking
+pub mod Repeating
 pub mod Calling
 pub mod Trying
 pub mod Posting

@@ -9,6 +9,7 @@ pub mod Shared
 pub mod Walks
 pub mod Calls
 pub mod Tries
+pub mod Outcomes
 pub mod Waking
 pub mod Whole
 pub mod ManySeats

@@ -4,10 +4,11 @@ ghost use Rattle.step_table.specs.declared.entry.Entry.TheVariants.{Take};
 ghost use Rattle.step_table.specs.declared.place.Place.TheVariants.{Rest, Acquiring};
 ghost use Rattle.step_table.specs.declared.place.AcquireRow.TheVariants.{A3, A10};
 ghost use Rattle.sema_table.specs.Walks.{Stands, Walked, Moves, moved_to};
+ghost use Rattle.sema_table.specs.Outcomes.{MatchTried};
 ghost use Rattle.sema_table.specs.Waking.{IsPolled, IsRetried};
 ghost use Rattle.sema_table.specs.Callers.{PollsGrant, TriesAgain};
 
-use crate::answers::{Entered, Polled};
+use crate::answers::{Entered, Polled, Tried};
 use crate::rows::Token;
 use crate::seat::{Numbers, Seat, Sleeping, Woken};
 use crate::sema_table::{SemaTable, counter_word};
@@ -85,18 +86,37 @@ impl SemaTable {
             (Take call.now.counter token.old.me.0.own.number ∷ []) 1)
             (Moves token.old (Acquiring call.now A10) token.new (Acquiring call.now A3)) }
     {
-        let word = counter_word(call.counter.number());
         for _ in rt.forever() {
-            let found = self.words.load::<Here>(token, word);
-            // On 0 the seat goes to the lock, and does not look again: it would miss what is told to those
-            // who wait.
-            if found == 0 {
-                return false;
-            }
-            if self.words.exchange::<Here>(token, word, found, found - 1) == found {
-                return true;
+            match self.try_woken(token, call) {
+                Tried::Taken => return true,
+                Tried::Zero => return false,
+                Tried::Lost => {}
             }
         }
         unreachable!()
+    }
+
+    /// A10, and A11 where A10 read more than 0.
+    #[inline]
+    fn try_woken(&self, token: &mut Token, call: &Acquire) -> Tried
+        requires { Stands self.now token.old (Acquiring call.now A10) }
+        ensures slots { token.new.me.1 ≡ token.old.me.1 }
+        ensures tried { MatchTried result
+            (Walked token.old (Acquiring call.now A10) token.new (moved_to token.old Rest)
+            (Take call.now.counter token.old.me.0.own.number ∷ []) 1)
+            (Moves token.old (Acquiring call.now A10) token.new (Acquiring call.now A3))
+            (Moves token.old (Acquiring call.now A10) token.new (Acquiring call.now A10)) }
+    {
+        let word = counter_word(call.counter.number());
+        let found = self.words.load::<Here>(token, word);
+        // On 0 the seat goes to the lock, and does not look again: it would miss what is told to those who
+        // wait.
+        if found == 0 {
+            return Tried::Zero;
+        }
+        if self.words.exchange::<Here>(token, word, found, found - 1) != found {
+            return Tried::Lost;
+        }
+        Tried::Taken
     }
 }

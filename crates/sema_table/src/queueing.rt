@@ -8,9 +8,10 @@ ghost use Rattle.sema_table.specs.Seats.{IsToken, table_of, seat_of};
 ghost use Rattle.sema_table.specs.Waking.{acquire_of, IsEntered};
 ghost use Rattle.sema_table.specs.Walks.{Stands, Holds, Walked, Moves, HasRecord, HasRoom, IsLast, moved_to};
 ghost use Rattle.sema_table.specs.Walks.{parked};
+ghost use Rattle.sema_table.specs.Outcomes.{MatchTried};
 ghost use Rattle.sema_table.specs.Callers.{JoinsQueue};
 
-use crate::answers::Entered;
+use crate::answers::{Entered, Tried};
 use crate::rows::Token;
 use crate::seat::{Numbers, Seat, Sleeping};
 use crate::sema_table::{SemaTable, counter_word};
@@ -99,18 +100,38 @@ impl SemaTable {
             (Take call.now.counter token.old.me.0.own.number ∷ []) 1)
             (Moves token.old (Acquiring call.now A5) token.new (Acquiring call.now A7) × HasRoom token.new call.now.counter) }
     {
-        let word = counter_word(call.counter.number());
         for _ in rt.forever() {
-            let found = self.words.load::<Here>(token, word);
-            if found == 0 {
-                return false;
-            }
-            // Lost only to a try or a release, which take no lock: then the counter is looked at anew.
-            if self.words.exchange::<Here>(token, word, found, found - 1) == found {
-                return true;
+            match self.try_at_lock(token, call) {
+                Tried::Taken => return true,
+                Tried::Zero => return false,
+                // Only to a try or a release, which take no lock: then the counter is looked at anew.
+                Tried::Lost => {}
             }
         }
         unreachable!()
+    }
+
+    /// A5, and A6 where A5 read more than 0.
+    #[inline]
+    fn try_at_lock(&self, token: &mut Token, call: &Acquire) -> Tried
+        requires { Holds self.now token.old (Acquiring call.now A5) }
+        ensures record { HasRecord token.new call.now.counter }
+        ensures tried { MatchTried result
+            (Walked token.old (Acquiring call.now A5) token.new (moved_to token.old (Acquiring call.now A8))
+            (Take call.now.counter token.old.me.0.own.number ∷ []) 1)
+            (Moves token.old (Acquiring call.now A5) token.new (Acquiring call.now A7)
+            × HasRoom token.new call.now.counter)
+            (Moves token.old (Acquiring call.now A5) token.new (Acquiring call.now A5)) }
+    {
+        let word = counter_word(call.counter.number());
+        let found = self.words.load::<Here>(token, word);
+        if found == 0 {
+            return Tried::Zero;
+        }
+        if self.words.exchange::<Here>(token, word, found, found - 1) != found {
+            return Tried::Lost;
+        }
+        Tried::Taken
     }
 
     /// A8. The seat queues no wait: a word left raised would send every release of the root to the lock.

@@ -8,9 +8,10 @@ ghost use Rattle.sema_table.specs.Calls.{ComesTo};
 ghost use Rattle.sema_table.specs.Waking.{Wakes, IsWakened};
 ghost use Rattle.sema_table.specs.Walks.{Stands, Holds, Walked, Moves, HasRecord, Granted};
 ghost use Rattle.sema_table.specs.Walks.{moved_to, taken_out, sought, trying, unlocked, granting, taken_for};
+ghost use Rattle.sema_table.specs.Outcomes.{MatchTried};
 ghost use Rattle.sema_table.specs.CallersReleasing.{WakesFirst};
 
-use crate::answers::Wake;
+use crate::answers::{Tried, Wake};
 use crate::rows::Token;
 use crate::seat::{Numbers, Owing, Seat};
 use crate::sema_table::{SemaTable, counter_word};
@@ -163,17 +164,37 @@ impl SemaTable {
             (Take call.now.counter id.now.seat ∷ []) 0)
             (Moves token.old (Releasing call.now R7) token.new (Releasing call.now R10)) }
     {
-        let word = counter_word(call.counter.number());
         for _ in rt.forever() {
-            let found = self.words.load::<Here>(token, word);
-            if found == 0 {
-                return false;
-            }
-            if self.words.exchange::<Here>(token, word, found, found - 1) == found {
-                return true;
+            match self.try_for(token, call, id) {
+                Tried::Taken => return true,
+                Tried::Zero => return false,
+                Tried::Lost => {}
             }
         }
         unreachable!()
+    }
+
+    /// R7, and R8 where R7 read more than 0.
+    #[inline]
+    fn try_for(&self, token: &mut Token, call: &Release, id: &WaitId) -> Tried
+        requires { Stands self.now token.old (Releasing call.now R7)
+            × (token.old.me.0.own.knows.hand ≡ id.now ∷ []) }
+        ensures slots { token.new.me.1 ≡ token.old.me.1 }
+        ensures tried { MatchTried result
+            (Walked token.old (Releasing call.now R7) token.new (moved_to token.old (Releasing call.now R9))
+            (Take call.now.counter id.now.seat ∷ []) 0)
+            (Moves token.old (Releasing call.now R7) token.new (Releasing call.now R10))
+            (Moves token.old (Releasing call.now R7) token.new (Releasing call.now R7)) }
+    {
+        let word = counter_word(call.counter.number());
+        let found = self.words.load::<Here>(token, word);
+        if found == 0 {
+            return Tried::Zero;
+        }
+        if self.words.exchange::<Here>(token, word, found, found - 1) != found {
+            return Tried::Lost;
+        }
+        Tried::Taken
     }
 
     /// R9 where a unit was taken for the wait in hand, and else R10: its seat is granted.

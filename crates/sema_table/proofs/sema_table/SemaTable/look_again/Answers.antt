@@ -1,67 +1,39 @@
-use Rattle.std.proofs.Common.{◌-◌, ◌<◌, ◌==◌, ℕ, [], length, sym, ap, refl, ◌∙◌, subst, arith}
-use Rattle.step_table.specs.declared.place.AcquireRow.TheVariants.{A5, A6}
+use Rattle.std.proofs.Common.{[], refl}
+use Rattle.step_table.specs.declared.place.AcquireRow.TheVariants.{A5, A7, A8}
 use Rattle.step_table.specs.declared.place.Place.TheVariants.{Acquiring}
-use Rattle.step_table.specs.declared.word.Word.TheVariants.{Counter}
-use Rattle.step_table.specs.World.{SeatState}
-use Rattle.sema_table.specs.Seats.{TableModel}
 use Rattle.sema_table.specs.Walks.{moved_to}
-use Rattle.sema_table.proofs.Striding.{slots_are}
-use Rattle.sema_table.proofs.Owned.{someones, word_in}
-use Rattle.sema_table.proofs.Allowing.{owes_here}
-use Rattle.sema_table.proofs.Leading.{exchanged}
-use Rattle.sema_table.proofs.Walking.{walked_adds}
-use prog.Atomic.{either}
-use Rattle.sema_table.proofs.Walking.{walked_yet}
-use Rattle.sema_table.proofs.Looking.{zero_walked, zero_record, zero_room, some_walked, won_walked, lost_walked, won_record, lost_record}
+use Rattle.sema_table.proofs.Walking.{walked_yet, stands_on}
+use Rattle.sema_table.proofs.Repeating.{then_moved, then_took}
 use Rattle.sema_table.proofs.sema_table.SemaTable.look_again.Goals as goal
 
 pub loop-init : goal.loop-init
 loop-init g c = record { walked = walked_yet c.args.self.now c.args.token.now (Acquiring c.args.call.now A5) refl c.requires.0; kept = c.requires.1 }
 
-pub load-found-requires : goal.load-found-requires
-load-found-requires g c =
-    let s = c.loop.token in let a = c.args.call.now in let r = c.requires.0 in let i = c.loop.invariant in let N : ℕ = c.number.result in
-    let t = i.walked.table_is ∙ r.table_is in
-    let inside : N < length s.me.0.own.knows.setting.starts = subst (λ (y : TableModel). N < length y.setting.starts) (sym t) (let e = c.number.ensures in let h = r.inside in omega arith) in (
-      omega arith,
-      ((ap (λ (y : TableModel). y.id) (t ∙ sym c.self.view_is), someones c.self.inside c.self.invariant s (t ∙ sym c.self.view_is)), ((let w = c.counter_word-word.ensures.at in let low = word_in c.self.inside s c.self.invariant (t ∙ sym c.self.view_is) (Counter N) inside in omega (arith, w, low)), owes_here _ c.counter_word-word.result s.me (Acquiring a A5) (ap (λ (y : SeatState). y.place) i.walked.stands_is) (let b = r.limited in let d = walked_adds c.args.token.now s (Acquiring a A5) (moved_to c.args.token.now (Acquiring a A5)) [] 0 i.walked in omega arith) (λ n. n) (λ b n known. record { fits = record { word = (let e = c.number.ensures in let w = c.counter_word-word.ensures.at in omega (arith, e, w)); there = subst (λ k. k < length s.me.0.own.knows.setting.starts) c.number.ensures inside; can = refl; becomes = refl }; apart = refl }))),
-    )
-
-pub returns-then-found-eq0-clause-record : goal.returns-then-found-eq0-clause-record
-returns-then-found-eq0-clause-record g c = let i = c.loop.invariant in
-    zero_record c.args.token.now c.loop.token c.load-found.new.token c.args.call.now c.load-found.result i.walked i.kept c.load-found.ensures.went.0 c.load-found.ensures.own (slots_are c.load-found.ensures.went.1) c.if-found-eq0.true
-
-pub returns-then-found-eq0-clause-settled : goal.returns-then-found-eq0-clause-settled
-returns-then-found-eq0-clause-settled g c = let i = c.loop.invariant in (
-  zero_walked c.args.token.now c.loop.token c.load-found.new.token c.args.call.now c.load-found.result i.walked i.kept c.load-found.ensures.went.0 c.load-found.ensures.own (slots_are c.load-found.ensures.went.1) c.if-found-eq0.true,
-  zero_room c.args.token.now c.loop.token c.load-found.new.token c.args.call.now c.load-found.result i.walked i.kept c.load-found.ensures.went.0 c.load-found.ensures.own (slots_are c.load-found.ensures.went.1) c.if-found-eq0.true,
+pub try_at_lock-requires : goal.try_at_lock-requires
+try_at_lock-requires g c = let a = c.args.call.now in let s = c.args.token.now in (
+  stands_on c.args.self.now s c.loop.token (Acquiring a A5) (moved_to s (Acquiring a A5)) [] 0 c.requires.0 c.loop.invariant.walked refl refl,
+  c.loop.invariant.kept,
 )
 
-pub exchange-requires : goal.exchange-requires
-exchange-requires g c =
-    let s = c.args.token.now in let u = c.load-found.new.token in let a = c.args.call.now in let r = c.requires.0 in let i = c.loop.invariant in let N : ℕ = c.number.result in let n : ℕ = c.load-found.result in
-    let some : 0 < n = (let z = c.if-found-eq0.false in omega (arith, z)) in
-    let x = some_walked s c.loop.token u a n i.walked i.kept c.load-found.ensures.went.0 c.load-found.ensures.own (slots_are c.load-found.ensures.went.1) some in
-    let t = x.table_is ∙ r.table_is in
-    let inside : N < length u.me.0.own.knows.setting.starts = subst (λ (y : TableModel). N < length y.setting.starts) (sym t) (let e = c.number.ensures in let h = r.inside in omega arith) in (
-      omega arith,
-      ((ap (λ (y : TableModel). y.id) (t ∙ sym c.self.view_is), someones c.self.inside c.self.invariant u (t ∙ sym c.self.view_is)), ((let w = c.counter_word-word.ensures.at in let low = word_in c.self.inside u c.self.invariant (t ∙ sym c.self.view_is) (Counter N) inside in omega (arith, w, low)), owes_here _ c.counter_word-word.result u.me (Acquiring a (A6 (n - 1))) (ap (λ (y : SeatState). y.place) x.stands_is) (let b = r.limited in let d = walked_adds s u (Acquiring a A5) (moved_to s (Acquiring a (A6 (n - 1)))) [] 0 x in omega arith) (λ y. either (y == n) (n - 1) y) (λ b y known. record { fits = record { word = (let e = c.number.ensures in let w = c.counter_word-word.ensures.at in omega (arith, e, w)); there = subst (λ k. k < length u.me.0.own.knows.setting.starts) c.number.ensures inside; can = refl; becomes = exchanged n y some }; apart = refl }))),
-    )
+pub returns-in-Taken-clause-record : goal.returns-in-Taken-clause-record
+returns-in-Taken-clause-record g c = c.in-Taken.ensures.record
 
-pub returns-then-exchange-found-clause-record : goal.returns-then-exchange-found-clause-record
-returns-then-exchange-found-clause-record g c = let i = c.loop.invariant in
-    won_record c.args.token.now c.loop.token c.load-found.new.token c.args.call.now c.load-found.result i.walked i.kept c.load-found.ensures.went.0 c.load-found.ensures.own (slots_are c.load-found.ensures.went.1)
-    c.exchange.new.token c.exchange.result (let z = c.if-found-eq0.false in omega (arith, z)) c.exchange.ensures.went.0 c.exchange.ensures.own (slots_are c.exchange.ensures.went.1) c.if-exchange-found.true
+pub returns-in-Taken-clause-settled : goal.returns-in-Taken-clause-settled
+returns-in-Taken-clause-settled g c =
+    let a = c.args.call.now in let s = c.args.token.now in
+    then_took s c.loop.token c.try_at_lock.new.token (Acquiring a A5) (Acquiring a A8) c.loop.invariant.walked a.counter c.in-Taken.ensures.tried
 
-pub returns-then-exchange-found-clause-settled : goal.returns-then-exchange-found-clause-settled
-returns-then-exchange-found-clause-settled g c = let i = c.loop.invariant in
-    won_walked c.args.token.now c.loop.token c.load-found.new.token c.args.call.now c.load-found.result i.walked i.kept c.load-found.ensures.went.0 c.load-found.ensures.own (slots_are c.load-found.ensures.went.1)
-    c.exchange.new.token c.exchange.result (let z = c.if-found-eq0.false in omega (arith, z)) c.exchange.ensures.went.0 c.exchange.ensures.own (slots_are c.exchange.ensures.went.1) c.if-exchange-found.true
+pub returns-in-Zero-clause-record : goal.returns-in-Zero-clause-record
+returns-in-Zero-clause-record g c = c.in-Zero.ensures.record
+
+pub returns-in-Zero-clause-settled : goal.returns-in-Zero-clause-settled
+returns-in-Zero-clause-settled g c = let a = c.args.call.now in (
+  then_moved c.args.token.now c.loop.token c.try_at_lock.new.token (Acquiring a A5) (Acquiring a A7) c.loop.invariant.walked c.in-Zero.ensures.tried.0,
+  c.in-Zero.ensures.tried.1,
+)
 
 pub loop-preserved : goal.loop-preserved
-loop-preserved g c = let i = c.loop.invariant in record {
-  walked = lost_walked c.args.token.now c.loop.token c.load-found.new.token c.args.call.now c.load-found.result i.walked i.kept c.load-found.ensures.went.0 c.load-found.ensures.own (slots_are c.load-found.ensures.went.1)
-      c.exchange.new.token c.exchange.result (let z = c.if-found-eq0.false in omega (arith, z)) c.exchange.ensures.went.0 c.exchange.ensures.own (slots_are c.exchange.ensures.went.1) c.if-exchange-found.false;
-  kept = lost_record c.args.token.now c.loop.token c.load-found.new.token c.args.call.now c.load-found.result i.walked i.kept c.load-found.ensures.went.0 c.load-found.ensures.own (slots_are c.load-found.ensures.went.1)
-      c.exchange.new.token c.exchange.result (let z = c.if-found-eq0.false in omega (arith, z)) c.exchange.ensures.went.0 c.exchange.ensures.own (slots_are c.exchange.ensures.went.1) c.if-exchange-found.false;
+loop-preserved g c = let a = c.args.call.now in record {
+  walked = then_moved c.args.token.now c.loop.token c.try_at_lock.new.token (Acquiring a A5) (Acquiring a A5) c.loop.invariant.walked c.in-Lost.ensures.tried;
+  kept = c.in-Lost.ensures.record;
 }

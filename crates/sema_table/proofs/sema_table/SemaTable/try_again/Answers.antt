@@ -1,60 +1,37 @@
-use Rattle.std.proofs.Common.{◌-◌, ◌<◌, ◌==◌, ℕ, [], length, sym, ap, refl, ◌∙◌, subst, arith}
-use Rattle.step_table.specs.declared.place.AcquireRow.TheVariants.{A10, A11}
-use Rattle.step_table.specs.declared.place.Place.TheVariants.{Acquiring}
-use Rattle.step_table.specs.declared.word.Word.TheVariants.{Counter}
-use Rattle.step_table.specs.World.{SeatState}
-use Rattle.sema_table.specs.Seats.{TableModel}
+use Rattle.std.proofs.Common.{[], refl, ◌∙◌}
+use Rattle.step_table.specs.declared.place.AcquireRow.TheVariants.{A3, A10}
+use Rattle.step_table.specs.declared.place.Place.TheVariants.{Rest, Acquiring}
 use Rattle.sema_table.specs.Walks.{moved_to}
-use Rattle.sema_table.proofs.Striding.{slots_are}
-use Rattle.sema_table.proofs.Owned.{someones, word_in}
-use Rattle.sema_table.proofs.Allowing.{owes_here}
-use Rattle.sema_table.proofs.Leading.{exchanged}
-use Rattle.sema_table.proofs.Walking.{walked_adds}
-use prog.Atomic.{either}
-use Rattle.sema_table.proofs.Walking.{walked_yet}
-use Rattle.sema_table.proofs.Retrying.{zero_again, some_again, won_again, lost_again}
+use Rattle.sema_table.proofs.Walking.{walked_yet, stands_on}
+use Rattle.sema_table.proofs.Repeating.{then_moved, then_took}
 use Rattle.sema_table.proofs.sema_table.SemaTable.try_again.Goals as goal
 
 pub loop-init : goal.loop-init
 loop-init g c = record { walked = walked_yet c.args.self.now c.args.token.now (Acquiring c.args.call.now A10) refl c.requires; slots = refl }
 
-pub load-found-requires : goal.load-found-requires
-load-found-requires g c =
-    let s = c.loop.token in let a = c.args.call.now in let r = c.requires in let i = c.loop.invariant in let N : ℕ = c.number.result in
-    let t = i.walked.table_is ∙ r.table_is in
-    let inside : N < length s.me.0.own.knows.setting.starts = subst (λ (y : TableModel). N < length y.setting.starts) (sym t) (let e = c.number.ensures in let h = r.inside in omega arith) in (
-      omega arith,
-      ((ap (λ (y : TableModel). y.id) (t ∙ sym c.self.view_is), someones c.self.inside c.self.invariant s (t ∙ sym c.self.view_is)), ((let w = c.counter_word-word.ensures.at in let low = word_in c.self.inside s c.self.invariant (t ∙ sym c.self.view_is) (Counter N) inside in omega (arith, w, low)), owes_here _ c.counter_word-word.result s.me (Acquiring a A10) (ap (λ (y : SeatState). y.place) i.walked.stands_is) (let b = r.limited in let d = walked_adds c.args.token.now s (Acquiring a A10) (moved_to c.args.token.now (Acquiring a A10)) [] 0 i.walked in omega arith) (λ n. n) (λ b n known. record { fits = record { word = (let e = c.number.ensures in let w = c.counter_word-word.ensures.at in omega (arith, e, w)); there = subst (λ k. k < length s.me.0.own.knows.setting.starts) c.number.ensures inside; can = refl; becomes = refl }; apart = refl }))),
-    )
+pub try_woken-requires : goal.try_woken-requires
+try_woken-requires g c =
+    let a = c.args.call.now in let s = c.args.token.now in
+    stands_on c.args.self.now s c.loop.token (Acquiring a A10) (moved_to s (Acquiring a A10)) [] 0 c.requires c.loop.invariant.walked refl refl
 
-pub returns-then-found-eq0-clause-slots : goal.returns-then-found-eq0-clause-slots
-returns-then-found-eq0-clause-slots g c = (slots_are c.load-found.ensures.went.1) ∙ c.loop.invariant.slots
+pub returns-in-Taken-clause-slots : goal.returns-in-Taken-clause-slots
+returns-in-Taken-clause-slots g c = c.in-Taken.ensures.slots ∙ c.loop.invariant.slots
 
-pub returns-then-found-eq0-clause-settled : goal.returns-then-found-eq0-clause-settled
-returns-then-found-eq0-clause-settled g c = let i = c.loop.invariant in zero_again c.args.token.now c.loop.token c.load-found.new.token c.args.call.now c.load-found.result i.walked c.load-found.ensures.went.0 c.load-found.ensures.own c.if-found-eq0.true
+pub returns-in-Taken-clause-settled : goal.returns-in-Taken-clause-settled
+returns-in-Taken-clause-settled g c =
+    let a = c.args.call.now in let s = c.args.token.now in
+    then_took s c.loop.token c.try_woken.new.token (Acquiring a A10) Rest c.loop.invariant.walked a.counter c.in-Taken.ensures.tried
 
-pub exchange-requires : goal.exchange-requires
-exchange-requires g c =
-    let s = c.args.token.now in let u = c.load-found.new.token in let a = c.args.call.now in let r = c.requires in let i = c.loop.invariant in let N : ℕ = c.number.result in let n : ℕ = c.load-found.result in
-    let some : 0 < n = (let z = c.if-found-eq0.false in omega (arith, z)) in
-    let x = some_again s c.loop.token u a n i.walked c.load-found.ensures.went.0 c.load-found.ensures.own some in
-    let t = x.table_is ∙ r.table_is in
-    let inside : N < length u.me.0.own.knows.setting.starts = subst (λ (y : TableModel). N < length y.setting.starts) (sym t) (let e = c.number.ensures in let h = r.inside in omega arith) in (
-      omega arith,
-      ((ap (λ (y : TableModel). y.id) (t ∙ sym c.self.view_is), someones c.self.inside c.self.invariant u (t ∙ sym c.self.view_is)), ((let w = c.counter_word-word.ensures.at in let low = word_in c.self.inside u c.self.invariant (t ∙ sym c.self.view_is) (Counter N) inside in omega (arith, w, low)), owes_here _ c.counter_word-word.result u.me (Acquiring a (A11 (n - 1))) (ap (λ (y : SeatState). y.place) x.stands_is) (let b = r.limited in let d = walked_adds s u (Acquiring a A10) (moved_to s (Acquiring a (A11 (n - 1)))) [] 0 x in omega arith) (λ y. either (y == n) (n - 1) y) (λ b y known. record { fits = record { word = (let e = c.number.ensures in let w = c.counter_word-word.ensures.at in omega (arith, e, w)); there = subst (λ k. k < length u.me.0.own.knows.setting.starts) c.number.ensures inside; can = refl; becomes = exchanged n y some }; apart = refl }))),
-    )
+pub returns-in-Zero-clause-slots : goal.returns-in-Zero-clause-slots
+returns-in-Zero-clause-slots g c = c.in-Zero.ensures.slots ∙ c.loop.invariant.slots
 
-pub returns-then-exchange-found-clause-slots : goal.returns-then-exchange-found-clause-slots
-returns-then-exchange-found-clause-slots g c = (slots_are c.exchange.ensures.went.1) ∙ (slots_are c.load-found.ensures.went.1) ∙ c.loop.invariant.slots
-
-pub returns-then-exchange-found-clause-settled : goal.returns-then-exchange-found-clause-settled
-returns-then-exchange-found-clause-settled g c = let i = c.loop.invariant in
-    won_again c.args.token.now c.loop.token c.load-found.new.token c.args.call.now c.load-found.result i.walked c.load-found.ensures.went.0 c.load-found.ensures.own
-    c.exchange.new.token c.exchange.result (let z = c.if-found-eq0.false in omega (arith, z)) c.exchange.ensures.went.0 c.exchange.ensures.own c.if-exchange-found.true
+pub returns-in-Zero-clause-settled : goal.returns-in-Zero-clause-settled
+returns-in-Zero-clause-settled g c =
+    let a = c.args.call.now in let s = c.args.token.now in
+    then_moved s c.loop.token c.try_woken.new.token (Acquiring a A10) (Acquiring a A3) c.loop.invariant.walked c.in-Zero.ensures.tried
 
 pub loop-preserved : goal.loop-preserved
-loop-preserved g c = let i = c.loop.invariant in record {
-  walked = lost_again c.args.token.now c.loop.token c.load-found.new.token c.args.call.now c.load-found.result i.walked c.load-found.ensures.went.0 c.load-found.ensures.own
-      c.exchange.new.token c.exchange.result (let z = c.if-found-eq0.false in omega (arith, z)) c.exchange.ensures.went.0 c.exchange.ensures.own c.if-exchange-found.false;
-  slots = (slots_are c.exchange.ensures.went.1) ∙ (slots_are c.load-found.ensures.went.1) ∙ i.slots;
+loop-preserved g c = let a = c.args.call.now in record {
+  walked = then_moved c.args.token.now c.loop.token c.try_woken.new.token (Acquiring a A10) (Acquiring a A10) c.loop.invariant.walked c.in-Lost.ensures.tried;
+  slots = c.in-Lost.ensures.slots ∙ c.loop.invariant.slots;
 }
