@@ -11,7 +11,7 @@ use std::sync::Wait;
 use std::sync::atomic::Ordering::SeqCst;
 use std::sync::atomic::{AtomicBool, AtomicU64};
 use std::thread;
-use std::thread::Threads;
+use std::thread::{JoinHandle, Scope, Threads};
 use sync_parts::{Cond, ListSeat, SemaLock};
 use waiters::CounterId;
 
@@ -243,6 +243,30 @@ fn consume<R: Wait>(rt: &R, worker: Worker<'_>) -> Sum {
     unreachable!()
 }
 
+/// What a thread does: it puts the numbers from this one on, or takes them.
+#[derive(Clone, Copy, Drop)]
+enum Part {
+    Puts(u64),
+    Takes,
+}
+
+/// A thread for the worker, where there can be one.
+fn start<'s, E, R: Wait + Sync>(
+    rt: &'s R,
+    scope: &'s Scope<'s, E>,
+    worker: Worker<'s>,
+    part: Part,
+) -> Option<JoinHandle<Sum>> {
+    let thread = scope.spawn(move || match part {
+        Part::Puts(first) => produce(rt, worker, first),
+        Part::Takes => consume(rt, worker),
+    });
+    match thread {
+        Ok(thread) => Some(thread),
+        Err(_refused) => None,
+    }
+}
+
 /// A worker by the last seats.
 fn hire<'s>(
     shared: &'s Shared<'s>,
@@ -280,16 +304,11 @@ fn run<R: Threads + Wait + Sync>(
     let fourth = hire(shared, &mut seats, &mut owns)?;
     let closer = hire(shared, &mut seats, &mut owns)?;
     thread::scope(thread::scope_env(), rt, move |scope| {
-        let Ok(third) = scope.spawn(move || consume(rt, third)) else {
-            return closer.give_up(rt);
-        };
-        let Ok(fourth) = scope.spawn(move || consume(rt, fourth)) else {
-            return closer.give_up(rt);
-        };
-        let Ok(one) = scope.spawn(move || produce(rt, one, 1)) else {
-            return closer.give_up(rt);
-        };
-        let Ok(other) = scope.spawn(move || produce(rt, other, EACH + 1)) else {
+        let third = start(rt, scope, third, Part::Takes);
+        let fourth = start(rt, scope, fourth, Part::Takes);
+        let one = start(rt, scope, one, Part::Puts(1));
+        let other = start(rt, scope, other, Part::Puts(EACH + 1));
+        let (Some(third), Some(fourth), Some(one), Some(other)) = (third, fourth, one, other) else {
             return closer.give_up(rt);
         };
         let put = one.join(rt).plus(other.join(rt));

@@ -3,7 +3,7 @@
 ghost use Rattle.explorer_words.specs.Invocation.{IsWithinLimits};
 
 use crate::devices::{Calls, Giving, SOUND, Taking};
-use explorer::{Asked, Flagged, NO_MEMORY, StopWatch, asked_io, parklot_io};
+use explorer::{Flagged, Invocation, NO_MEMORY, StopWatch, asked_io, parklot_io};
 use std::alloc::{AllocError, Global};
 use std::process::Abort;
 use std::rt::Files;
@@ -35,7 +35,7 @@ pub(crate) const ALL_SOUND: Devices = Devices {
 pub(crate) fn run(
     rt: &(impl Threads + Wait + Sync),
     alloc: Global,
-    asked: &Asked<'_>,
+    asked: &Invocation<'_>,
     input: &[u8],
     devices: Devices,
     watch: &mut impl StopWatch,

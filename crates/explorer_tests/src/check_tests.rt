@@ -1,17 +1,9 @@
 //! What `check` answers, word for word. How many worlds there are was found by hand or by another search.
 
-use crate::asked::{ALL_SOUND, Told, tells, tells_over};
+use crate::asked::tells;
+use crate::every_tests::{Row, are_told};
 use crate::explore_tests::{MET, TWO_EACH, TWO_EACH_FOR_SEVEN};
 use crate::reading::ONE_ACQUIRE;
-
-/// A scenario, words, all that is told, what is told beside, and the status.
-type Row = (
-    &'static [u8],
-    &'static [&'static str],
-    &'static str,
-    &'static str,
-    u8,
-);
 
 /// What is found in all schedules, or among so many classes. Four seats that each come to five places make
 /// 625 worlds; where it makes no difference who is where, 70 classes.
@@ -93,20 +85,8 @@ const FOUND: [Row; 10] = [
 
 #[test]
 fn what_is_found_in_all_is_told(rt: HostRuntime) {
-    for (input, words, told, beside, status) in &FOUND {
-        let told = Told {
-            out: told.as_bytes(),
-            err: beside.as_bytes(),
-            status: *status,
-            whole: true,
-            helped: false,
-        };
-        tells_over(&rt, rt.alloc(), words, input, ALL_SOUND, told);
-    }
-}
-
-#[test]
-fn a_text_that_is_no_scenario_is_refused(rt: HostRuntime) {
+    are_told(&rt, rt.alloc(), &FOUND);
+    // a text that is no scenario
     let told = "refused: line 2: form\n";
     tells(&rt, rt.alloc(), &["check"], b"counter 0\nfoo\n", told, 2);
 }

@@ -5,7 +5,7 @@ use crate::explore_tests::TWO_EACH;
 use std::alloc::Global;
 
 /// A scenario, words, what is told, what is told beside, and the status.
-type Row = (
+pub(crate) type Row = (
     &'static [u8],
     &'static [&'static str],
     &'static str,
@@ -37,7 +37,15 @@ const GOOD_SETTLED: &[u8] = b"counter 1\nseat 0: acquire 0\nsettled\n";
 const GOOD_UNMISUSED: &[u8] = b"counter 1\nseat 0: acquire 0\nno-misuse\n";
 
 /// What a search finds of what is asked.
-const SEARCHES: [Row; 13] = [
+const SEARCHES: [Row; 14] = [
+    // a search that finds nothing has no table
+    (
+        TWO_EACH,
+        &["check", "--table"],
+        "none\nworlds 625, deepest 16\n",
+        "asked: settled. not asked: value C N, no-misuse\nclasses 70\n",
+        0,
+    ),
     (
         DEADLOCK,
         &["check"],
@@ -190,7 +198,7 @@ verdict: stuck
 ];
 
 /// Each row is told word for word.
-fn are_told(rt: &impl Host, alloc: Global, rows: &[Row]) {
+pub(crate) fn are_told(rt: &impl Host, alloc: Global, rows: &[Row]) {
     for (input, words, out, err, status) in rows {
         let told = Told {
             out: out.as_bytes(),
@@ -204,11 +212,7 @@ fn are_told(rt: &impl Host, alloc: Global, rows: &[Row]) {
 }
 
 #[test]
-fn what_was_asked_is_told(rt: HostRuntime) {
+fn what_was_asked_and_who_failed_is_told(rt: HostRuntime) {
     are_told(&rt, rt.alloc(), &SEARCHES);
-}
-
-#[test]
-fn a_seat_that_failed_is_named(rt: HostRuntime) {
     are_told(&rt, rt.alloc(), &REPLAYS);
 }

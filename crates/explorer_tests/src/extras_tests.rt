@@ -1,19 +1,11 @@
 //! What a search tells beyond what it found: its statistics and the table of the schedule that it found.
 
 use crate::asked::{ALL_SOUND, Host, Told, ask, is_short, run, tells_over};
+use crate::every_tests::Row;
 use crate::explore_tests::TWO_EACH;
 use crate::reading::ONE_ACQUIRE;
 use explorer::{Extent, StopWatch, Watch, read_words};
 use std::alloc::Global;
-
-/// A scenario, words, what is told, what is told beside, and the status.
-type Row = (
-    &'static [u8],
-    &'static [&'static str],
-    &'static str,
-    &'static str,
-    u8,
-);
 
 /// Searches whose worlds were counted by hand: 625 within 16 steps, all but one of them within 15, and 70
 /// where it makes no difference who of four stands where. Nobody takes the time.
@@ -142,26 +134,6 @@ fn draws(rt: &impl Host, alloc: Global, words: &[&str]) {
 fn what_is_found_is_drawn(rt: HostRuntime) {
     draws(&rt, rt.alloc(), &["check", "--table"]);
     draws(&rt, rt.alloc(), &["explore", "--table", "--depth", "9"]);
-}
-
-// a search that finds nothing has no table
-#[test]
-fn nothing_is_drawn_of_nothing(rt: HostRuntime) {
-    let told = Told {
-        out: b"none\nworlds 625, deepest 16\n",
-        err: b"asked: settled. not asked: value C N, no-misuse\nclasses 70\n",
-        status: 0,
-        whole: true,
-        helped: false,
-    };
-    tells_over(
-        &rt,
-        rt.alloc(),
-        &["check", "--table"],
-        TWO_EACH,
-        ALL_SOUND,
-        told,
-    );
 }
 
 #[test]

@@ -4,8 +4,8 @@
 use crate::devices::{Calls, Giving, SOUND, Taking};
 use crate::reading::ONE_ACQUIRE;
 use explorer::{
-    Exit, Flagged, Found, IoFault, Kind, NO_MEMORY, explore, explore_io, explore_variant,
-    explore_variant_io, read_scenario, replay_io,
+    Cause, Exit, Flagged, Found, IoFault, Kind, NO_MEMORY, Property, ReadFault, explore,
+    explore_io, explore_variant, explore_variant_io, read_scenario, replay_io,
 };
 use std::alloc::Global;
 use step_core::Variant;
@@ -27,7 +27,7 @@ const FOUR_BYTES: Calls = Calls {
     left: 1,
 };
 
-static ENDED: [Row; 6] = [
+static ENDED: [Row; 7] = [
     (
         Asked::Explore(32),
         SOUND,
@@ -46,6 +46,12 @@ static ENDED: [Row; 6] = [
         SOUND,
         "bad: stuck\nschedule: 0 0 0 0\n",
         Ok(Exit::BadFound),
+    ),
+    (
+        Asked::ExploreVariant(3, Variant::NoLook),
+        SOUND,
+        "none up to depth 3\n",
+        Ok(Exit::NothingBad),
     ),
     (
         Asked::Replay("0 0"),
@@ -94,12 +100,12 @@ fn calls_over_a_reader_and_a_writer_end_so(rt: HostRuntime) {
 }
 
 /// The length of the schedule that is found of the counter with one acquire, which leads to a sleeper: all
-/// its steps are of seat 0. There is none where memory was refused.
-fn steps_to_sleep(alloc: Global, variant: Option<Variant>) -> Option<usize> {
+/// its steps are of seat 0. It is 0 where nothing is found, and there is none where memory was refused.
+fn steps_to_sleep(alloc: Global, depth: u32, variant: Option<Variant>) -> Option<usize> {
     let request = read_scenario(alloc, ONE_ACQUIRE).ok()?;
     let found = match variant {
-        None => explore(alloc, &request, 32),
-        Some(variant) => explore_variant(alloc, &request, 32, variant),
+        None => explore(alloc, &request, depth.min(64)),
+        Some(variant) => explore_variant(alloc, &request, depth.min(64), variant),
     };
     match found {
         Ok(
@@ -111,6 +117,7 @@ fn steps_to_sleep(alloc: Global, variant: Option<Variant>) -> Option<usize> {
             .iter()
             .all(|seat| seat.0 == 0)
             .then_some(schedule.len()),
+        Ok(Found::None) => Some(0),
         _ => None,
     }
 }
@@ -118,25 +125,31 @@ fn steps_to_sleep(alloc: Global, variant: Option<Variant>) -> Option<usize> {
 #[test]
 fn a_sleeper_is_found(rt: HostRuntime) {
     let alloc = rt.alloc();
-    for (variant, steps) in [(None, 5), (Some(Variant::NoLook), 4)] {
-        let found = steps_to_sleep(alloc, variant).or(steps_to_sleep(alloc, variant));
+    let rows = [
+        (32, None, 5),
+        (32, Some(Variant::NoLook), 4),
+        (3, Some(Variant::NoLook), 0),
+    ];
+    for (depth, variant, steps) in rows {
+        let found = steps_to_sleep(alloc, depth, variant);
+        let found = found.or(steps_to_sleep(alloc, depth, variant));
         assert!(rt; found == Some(steps));
     }
 }
 
-/// What is printed of the fault.
-fn text_of(alloc: Global, fault: IoFault) -> Option<String> {
-    format!(in alloc; "{fault}").ok()
+/// Whether a request shows what it was read from. There is none where memory was refused.
+fn is_read(alloc: Global) -> Option<bool> {
+    let request = read_scenario(alloc, ONE_ACQUIRE).ok()?;
+    Some(request.property() == Property::Settled && request.scenario().seats() == 1)
 }
 
 #[test]
-fn faults_are_printed(rt: HostRuntime) {
+fn a_request_shows_what_it_was_read_from(rt: HostRuntime) {
     let alloc = rt.alloc();
-    for (fault, text) in [
-        (IoFault::Read, "read failed"),
-        (IoFault::Write, "write failed"),
-    ] {
-        let printed = text_of(alloc, fault).or(text_of(alloc, fault));
-        assert!(rt; printed.is_some_and(|printed| printed.as_str() == text));
-    }
+    assert!(rt; is_read(alloc).or(is_read(alloc)) == Some(true));
+    let fault = ReadFault {
+        line: 1,
+        cause: Cause::End,
+    };
+    assert!(rt; read_scenario(alloc, b"").err() == Some(fault));
 }

@@ -1,20 +1,34 @@
 //! What `judge` answers, word for word. The answers were worked out by hand from the rules.
 
-use crate::asked::{ALL_SOUND, Told, tells, tells_over};
+use crate::asked::{Host, tells};
+use crate::every_tests::{Row as RowBeside, are_told};
+use std::alloc::Global;
 
 /// A journal, all that is told of it, and the status.
 type Row = (&'static [u8], &'static str, u8);
 
 /// Journals that are lawful.
-const LAWFUL: [&[u8]; 8] = [
-    b"",
-    b"counter 0\n",
-    b"list 18446744073709551615\n",
-    b"counter 1\ntake 0 0\n",
-    b"counter 0\nqueue 0 0.0\nadd 0 1\nleave 0 0.0 1\ntake 0 0\n",
-    b"counter 0\nadd 0 1\nqueue 0 0.0\nqueue 0 2.0 lifo\nleave 0 2.0 1\n",
-    b"list 5\nticket 0 0\ngrant 0 1 3\n",
-    b"counter 99999999999999999999\nadd 0 99999999999999999999 many 99999999999999999999\ntake 0 0\n",
+const LAWFUL: [Row; 8] = [
+    (b"", "lawful\n", 0),
+    (b"counter 0\n", "lawful\n", 0),
+    (b"list 18446744073709551615\n", "lawful\n", 0),
+    (b"counter 1\ntake 0 0\n", "lawful\n", 0),
+    (
+        b"counter 0\nqueue 0 0.0\nadd 0 1\nleave 0 0.0 1\ntake 0 0\n",
+        "lawful\n",
+        0,
+    ),
+    (
+        b"counter 0\nadd 0 1\nqueue 0 0.0\nqueue 0 2.0 lifo\nleave 0 2.0 1\n",
+        "lawful\n",
+        0,
+    ),
+    (b"list 5\nticket 0 0\ngrant 0 1 3\n", "lawful\n", 0),
+    (
+        b"counter 99999999999999999999\nadd 0 99999999999999999999 many 99999999999999999999\ntake 0 0\n",
+        "lawful\n",
+        0,
+    ),
 ];
 
 /// Journals with a line that no lawful one can have there.
@@ -104,22 +118,6 @@ const REFUSED: [Row; 10] = [
     (b"counter 0\ntake 0 0\nfoo\n", "refused: line 3: form\n", 2),
 ];
 
-#[test]
-fn lawful_journals_are_told(rt: HostRuntime) {
-    for journal in &LAWFUL {
-        tells(&rt, rt.alloc(), &["judge"], journal, "lawful\n", 0);
-    }
-}
-
-#[test]
-fn other_journals_are_told_with_their_line(rt: HostRuntime) {
-    for rows in [UNLAWFUL.as_slice(), REFUSED.as_slice()] {
-        for (journal, told, status) in rows {
-            tells(&rt, rt.alloc(), &["judge"], journal, told, *status);
-        }
-    }
-}
-
 /// Journals of a lock, which is counter 0, and all that is told of them.
 const LOCKS: [Row; 8] = [
     (
@@ -182,54 +180,58 @@ const ENDS: [Row; 4] = [
     ),
 ];
 
-#[test]
-fn a_lock_is_held_by_one(rt: HostRuntime) {
-    for (journal, told, status) in &LOCKS {
-        let words = ["judge", "--lock", "0"];
-        tells(&rt, rt.alloc(), &words, journal, told, *status);
+/// Of two locks the first that is broken is told.
+const TWO_LOCKS: [Row; 1] = [(
+    b"counter 1\ncounter 1\ntake 1 0\ntake 0 0\nadd 0 1\nadd 1 1\n",
+    "unlawful: line 5: held by another\n",
+    1,
+)];
+
+/// These words are answered so, each journal for itself.
+fn are_judged(rt: &impl Host, alloc: Global, words: &[&str], rows: &[Row]) {
+    for (journal, told, status) in rows {
+        tells(rt, alloc, words, journal, told, *status);
     }
 }
 
 #[test]
-fn who_is_left_asleep_is_told(rt: HostRuntime) {
-    for (journal, told, status) in &ENDS {
-        let words = ["judge", "--settled"];
-        tells(&rt, rt.alloc(), &words, journal, told, *status);
-    }
+fn journals_are_judged(rt: HostRuntime) {
+    let alloc = rt.alloc();
+    are_judged(&rt, alloc, &["judge"], &LAWFUL);
+    are_judged(&rt, alloc, &["judge"], &UNLAWFUL);
+    are_judged(&rt, alloc, &["judge"], &REFUSED);
+    are_judged(&rt, alloc, &["judge", "--settled"], &ENDS);
 }
 
 #[test]
-fn the_first_broken_lock_is_told(rt: HostRuntime) {
-    let journal = b"counter 1\ncounter 1\ntake 1 0\ntake 0 0\nadd 0 1\nadd 1 1\n";
-    let words = ["judge", "--lock", "1", "--lock", "0"];
-    let told = "unlawful: line 5: held by another\n";
-    tells(&rt, rt.alloc(), &words, journal, told, 1);
+fn locks_are_judged(rt: HostRuntime) {
+    let both = ["judge", "--lock", "1", "--lock", "0"];
+    are_judged(&rt, rt.alloc(), &["judge", "--lock", "0"], &LOCKS);
+    are_judged(&rt, rt.alloc(), &both, &TWO_LOCKS);
 }
 
-#[test]
-fn the_line_is_shown_beside(rt: HostRuntime) {
-    let told = Told {
-        out: b"unlawful: line 3: no unit\n",
-        err: b"line 3: take 0 1\n",
-        status: 1,
-        whole: true,
-        helped: false,
-    };
-    let journal = b"counter 1\ntake 0 0\ntake 0 1\nadd 0 0\n";
-    tells_over(&rt, rt.alloc(), &["judge"], journal, ALL_SOUND, told);
-}
+/// Journals, words, all that is told, what is told beside, and the status: the line that is unlawful, and a
+/// lock that isn't declared.
+const BESIDE: [RowBeside; 2] = [
+    (
+        b"counter 1\ntake 0 0\ntake 0 1\nadd 0 0\n",
+        &["judge"],
+        "unlawful: line 3: no unit\n",
+        "line 3: take 0 1\n",
+        1,
+    ),
+    (
+        b"counter 1\n",
+        &["judge", "--lock", "0", "--lock", "1"],
+        "refused: lock\n",
+        "--lock 1: the journal has no such counter\n",
+        2,
+    ),
+];
 
 #[test]
-fn a_lock_that_is_not_declared_is_refused(rt: HostRuntime) {
-    let told = Told {
-        out: b"refused: lock\n",
-        err: b"--lock 1: the journal has no such counter\n",
-        status: 2,
-        whole: true,
-        helped: false,
-    };
-    let words = ["judge", "--lock", "0", "--lock", "1"];
-    tells_over(&rt, rt.alloc(), &words, b"counter 1\n", ALL_SOUND, told);
+fn the_fault_is_shown_beside(rt: HostRuntime) {
+    are_told(&rt, rt.alloc(), &BESIDE);
 }
 
 /// The first lines of a journal, how many they are, and all that is told of them.

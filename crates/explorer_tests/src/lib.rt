@@ -1,6 +1,9 @@
-//! The tests of `explorer`, which use it from outside, as the program does.
+//! The tests of the program and of what it stands on, which use each crate from outside, as one above it does:
+//! `machine` those of `step_core`, `search` those of `explorer_search`, `table_tests` that of `explorer_replay`,
+//! `lock_line_tests` and `lock_fault_tests` those of `lock_text`, and the others those of `explorer`.
 //!
-//! A crate with tests is proved with them and without, and `explorer` is large: so its tests stand here.
+//! A crate with tests is proved with them and without: so they stand here, together, since what they stand on
+//! is read for each crate anew.
 //!
 //! A call that answers want of memory is made once more. So each test passes whichever single allocation is
 //! refused (`rt try --test --fail-alloc N`, for each N), and fails where want of memory is answered without a
@@ -28,9 +31,17 @@ mod io_tests;
 #[cfg(test)]
 mod judge_tests;
 #[cfg(test)]
-mod list_replay_tests;
+mod list_replays;
+#[cfg(test)]
+mod lock_fault_tests;
+#[cfg(test)]
+mod lock_line_tests;
+#[cfg(test)]
+mod machine;
 #[cfg(test)]
 mod memory_tests;
+#[cfg(test)]
+mod played;
 #[cfg(test)]
 mod program_tests;
 #[cfg(test)]
@@ -46,7 +57,11 @@ mod schedule_tests;
 #[cfg(test)]
 mod scheduled_tests;
 #[cfg(test)]
+mod search;
+#[cfg(test)]
 mod size_tests;
+#[cfg(test)]
+mod table_tests;
 #[cfg(test)]
 mod threads_tests;
 #[cfg(test)]

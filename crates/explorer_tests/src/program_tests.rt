@@ -118,8 +118,25 @@ fn the_form_is_told_to_its_end(rt: HostRuntime) {
     assert!(rt; is_form_whole(&rt, alloc) || is_form_whole(&rt, alloc));
 }
 
-/// Words that ask for no command, and how what is told of them begins.
-const MISTAKES: [(&[&str], &str); 25] = [
+/// Words that ask for no command, or for a file that is none, and how what is told of them begins.
+const MISTAKES: [(&[&str], &str); 30] = [
+    (
+        &["explore", "--depth", "32", "--variant", "plain"],
+        "error: invalid value 'plain' for '--variant <",
+    ),
+    (
+        &["explore", "--depth", "32", "--variant", "No-Look"],
+        "error: invalid value 'No-Look' for '--variant <",
+    ),
+    (
+        &["replay", "--schedule-of", "-"],
+        "error: with --schedule-of - standard input has the answer: name the scenario by --scenario FILE\n",
+    ),
+    (
+        &["replay", "--schedule", "0", "--schedule-of", "answer.txt"],
+        "error: the argument '--schedule <S>' cannot be used with '--schedule-of <FILE>'\n",
+    ),
+    (&["check", "/"], "parklot: cannot read /: it is a folder\n"),
     (
         &[],
         "error: 'parklot' requires a subcommand but one was not provided\n",
@@ -293,15 +310,4 @@ fn a_file_that_cannot_be_opened_is_told(rt: HostRuntime) {
         let asked = asked_without(alloc, "lost.txt", fault);
         without_a_command(&rt, alloc, &asked, "", told);
     }
-}
-
-#[test]
-fn a_folder_is_told_as_one(rt: HostRuntime) {
-    let words = ["check", "/"];
-    is_a_mistake(
-        &rt,
-        rt.alloc(),
-        &words,
-        "parklot: cannot read /: it is a folder\n",
-    );
 }

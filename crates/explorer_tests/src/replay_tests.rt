@@ -1,9 +1,12 @@
 //! What `replay` answers of semaphores and wait groups, word for word, as it is known by hand.
 
 use crate::asked::replays;
+use crate::list_replays::LIST_REPLAYS;
 
 /// A text, a schedule, all that is told, and the status.
-const REPLAYS: [(&[u8], &str, &str, u8); 13] = [
+pub(crate) type Row = (&'static [u8], &'static str, &'static str, u8);
+
+const REPLAYS: [Row; 13] = [
     // the release comes between the two looks of the acquire
     (
         b"counter 0\nseat 0: acquire 0\nseat 1: release 0\nsettled\n",
@@ -249,7 +252,9 @@ verdict: not bad
 
 #[test]
 fn replays_are_told_word_for_word(rt: HostRuntime) {
-    for (input, spelled, told, status) in &REPLAYS {
-        replays(&rt, rt.alloc(), input, spelled, told, *status);
+    for rows in [REPLAYS.as_slice(), LIST_REPLAYS.as_slice()] {
+        for (input, spelled, told, status) in rows {
+            replays(&rt, rt.alloc(), input, spelled, told, *status);
+        }
     }
 }

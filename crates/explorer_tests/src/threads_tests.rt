@@ -3,9 +3,9 @@
 ghost use Rattle.std.specs.Prelude.{◌≡◌, ◌<◌, ◌∷◌, [], length, IfOk};
 
 use crate::asked::tells;
+use crate::machine::text_tests::is_printed;
 use explorer::{Closed, Gate, IoFault, Open, ThreadsRefused, run_threads};
 use std::alloc::Global;
-use std::fmt::Display;
 use std::process::Abort;
 use std::sync::Wait;
 use std::sync::atomic::Ordering::SeqCst;
@@ -165,19 +165,6 @@ fn limits_are_kept(rt: HostRuntime) {
     }
 }
 
-/// Whether it is told so, where memory isn't short.
-fn is_told_as(alloc: Global, told: &impl Display, text: &str) -> bool {
-    match format!(in alloc; "{told}") {
-        Ok(written) => written.as_str() == text,
-        Err(_) => false,
-    }
-}
-
-/// A refusal has this text. It is written once more where memory was refused.
-fn has_text(rt: &impl Abort, alloc: Global, refused: &impl Display, text: &str) {
-    assert!(rt; is_told_as(alloc, refused, text) || is_told_as(alloc, refused, text));
-}
-
 #[test]
 fn refusals_have_their_numbers(rt: HostRuntime) {
     let threads = (
@@ -191,8 +178,8 @@ fn refusals_have_their_numbers(rt: HostRuntime) {
 #[test]
 fn refusals_have_their_texts(rt: HostRuntime) {
     let alloc = rt.alloc();
-    has_text(&rt, alloc, &ThreadsRefused::OutOfLimits, "out of limits");
-    has_text(&rt, alloc, &ThreadsRefused::NoMemory, "no memory");
-    has_text(&rt, alloc, &IoFault::Read, "read failed");
-    has_text(&rt, alloc, &IoFault::Write, "write failed");
+    is_printed(&rt, alloc, &ThreadsRefused::OutOfLimits, "out of limits");
+    is_printed(&rt, alloc, &ThreadsRefused::NoMemory, "no memory");
+    is_printed(&rt, alloc, &IoFault::Read, "read failed");
+    is_printed(&rt, alloc, &IoFault::Write, "write failed");
 }

@@ -1,6 +1,6 @@
 //! What `explore` finds in changed tables, word for word. The schedules were found by another search.
 
-use crate::asked::{is_a_mistake, tells};
+use crate::asked::tells;
 use crate::explore_tests::{FROM_32_BITS, FROM_64_BITS, MET};
 use crate::reading::ONE_ACQUIRE;
 
@@ -60,17 +60,6 @@ fn what_is_found_in_a_changed_table_is_told(rt: HostRuntime) {
     for (input, variant, depth, told, status) in &VARIANTS {
         let words = ["explore", "--depth", depth, "--variant", variant];
         tells(&rt, rt.alloc(), &words, input, told, *status);
-    }
-}
-
-#[test]
-fn another_variant_is_a_mistake(rt: HostRuntime) {
-    for (variant, text) in [
-        ("plain", "error: invalid value 'plain' for '--variant <"),
-        ("No-Look", "error: invalid value 'No-Look' for '--variant <"),
-    ] {
-        let words = ["explore", "--depth", "32", "--variant", variant];
-        is_a_mistake(&rt, rt.alloc(), &words, text);
     }
 }
 

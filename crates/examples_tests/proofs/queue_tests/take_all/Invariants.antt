@@ -1,5 +1,0 @@
-use Rattle.examples.specs.Queue.{IsOf}
-use Rattle.examples_tests.proofs.queue_tests.take_all.Given as goal
-
-abbrev pub invariant-loop : goal.invariant-loop
-invariant-loop g l = IsOf l.queue l.worker

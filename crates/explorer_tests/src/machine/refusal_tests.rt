@@ -1,0 +1,106 @@
+//! Schedules that are refused, and the numbers of the refusals.
+
+use crate::machine::again::run_again;
+use crate::machine::given::{scenario, seats_again};
+use std::alloc::Global;
+use std::process::Abort;
+use step_core::{Misuse, RunRefused, ScenarioRefused, StepRefused};
+
+/// A scenario, a schedule, at which step it is refused, and why.
+type Row = (&'static str, &'static [u16], usize, StepRefused);
+
+const HANDED_OVER: &str =
+    "roots 1\ncounter 0\nseat 0: acquire 0\nseat 1: acquire 0\nseat 2: release 0 handoff\nsettled\n";
+
+static REFUSED: [Row; 7] = [
+    (
+        "counter 0\nseat 0: acquire 0\nsettled\n",
+        &[0, 0, 0, 0, 0, 0],
+        5,
+        StepRefused::Asleep,
+    ),
+    // a unit is handed over to seat 0, and then another seat steps too
+    (
+        HANDED_OVER,
+        &[
+            0, 0, 0, 0, 0, 1, 1, 1, 1, 1, 2, 2, 2, 2, 2, 2, 2, 2, 2, 0, 1,
+        ],
+        20,
+        StepRefused::Asleep,
+    ),
+    (
+        HANDED_OVER,
+        &[
+            0, 0, 0, 0, 0, 1, 1, 1, 1, 1, 2, 2, 2, 2, 2, 2, 2, 2, 2, 0, 2,
+        ],
+        20,
+        StepRefused::SeatEnded,
+    ),
+    (
+        HANDED_OVER,
+        &[
+            0, 0, 0, 0, 0, 1, 1, 1, 1, 1, 2, 2, 2, 2, 2, 2, 2, 2, 2, 0, 3,
+        ],
+        20,
+        StepRefused::NoSuchSeat,
+    ),
+    (
+        "roots 1\ncounter 0\nseat 0: acquire 0\nseat 1: release 0\nsettled\n",
+        &[0, 0, 0, 1, 1, 1],
+        5,
+        StepRefused::LockHeld,
+    ),
+    (
+        "roots 1\ngroup\nseat 0: gadd 0 -1\nsettled\n",
+        &[0, 0],
+        1,
+        StepRefused::SeatFailed,
+    ),
+    // ticket 0 is granted, and the seat that sleeps with ticket 1 steps too
+    (
+        "roots 1\nlist 0\nseat 0: add 0; wait 0\nseat 1: add 0; wait 0\nseat 2: one 0\nsettled\n",
+        &[0, 1, 1, 1, 1, 2, 2, 2, 2, 2, 2, 2, 0, 0, 0, 1],
+        15,
+        StepRefused::Asleep,
+    ),
+];
+
+fn is_refused(rt: &impl Abort, alloc: Global, row: &Row) {
+    let scenario = scenario(rt, alloc, row.0);
+    let schedule = seats_again(rt, alloc, row.1);
+    let refused = RunRefused {
+        at: row.2,
+        cause: row.3,
+    };
+    assert!(rt; run_again(alloc, &scenario, &schedule).err() == Some(refused));
+}
+
+#[test]
+fn schedules_are_refused(rt: HostRuntime) {
+    for row in &REFUSED {
+        is_refused(&rt, rt.alloc(), row);
+    }
+}
+
+#[test]
+fn refusals_and_misuses_have_their_numbers(rt: HostRuntime) {
+    let steps = [
+        StepRefused::NoSuchSeat as u8,
+        StepRefused::SeatEnded as u8,
+        StepRefused::LockHeld as u8,
+        StepRefused::Asleep as u8,
+        StepRefused::SeatFailed as u8,
+        StepRefused::NoMemory as u8,
+    ];
+    let misuses = [
+        Misuse::Negative as u8,
+        Misuse::AddWithWait as u8,
+        Misuse::Reused as u8,
+    ];
+    let scenarios = [
+        ScenarioRefused::OutOfLimits as u8,
+        ScenarioRefused::Undeclared as u8,
+        ScenarioRefused::Ticket as u8,
+    ];
+    assert!(rt; steps == [1, 2, 3, 4, 5, 6] && misuses == [1, 2, 3] && scenarios == [1, 2, 3]);
+}

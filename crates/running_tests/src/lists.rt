@@ -1,0 +1,8 @@
+//! The tests of `notify_list`.
+
+mod crew;
+mod given;
+mod order_tests;
+mod text_tests;
+mod thread_tests;
+mod ticket_tests;

@@ -1,0 +1,63 @@
+//! Threads that wait on a condition variable and are woken. Afterwards their sums are compared: who locked
+//! has unlocked.
+
+use crate::parts::cast::perform_again;
+use crate::parts::play::Play;
+use crate::parts::wakers::Wakes;
+use std::alloc::Global;
+use std::process::Abort;
+use std::sync::Wait;
+use std::test::Fail;
+use std::thread::Threads;
+use waiters::NoMemory;
+
+/// A play, in which the lock was locked at least and at most so many times, and unlocked as often.
+fn plays<R: Abort + Threads + Wait + Sync>(
+    rt: &R,
+    alloc: Global,
+    play: Play,
+    least: u64,
+    most: u64,
+) -> Result<(), NoMemory> {
+    let (locked, unlocked) = perform_again(rt, alloc, play)?;
+    assert!(rt; unlocked == locked && least <= locked && locked <= most);
+    Ok(())
+}
+
+/// The same, so many times.
+fn plays_on<R: Abort + Threads + Wait + Sync>(
+    rt: &R,
+    alloc: Global,
+    row: &Row,
+) -> Result<(), NoMemory> {
+    let (play, rounds, least, most) = *row;
+    for _ in 0..rounds {
+        plays(rt, alloc, play, least, most)?;
+    }
+    Ok(())
+}
+
+/// A play, how often it is played, and how often the lock is locked at least and at most.
+type Row = (Play, u32, u64, u64);
+
+static PLAYS: [Row; 6] = [
+    // each of two that wait locks twice, and the one who signals twice
+    (Play::OneByOne, 1, 6, 6),
+    // a signal is not for who comes after it
+    (Play::InTurn, 1, 96, 96),
+    // each of eight locks once and after each of five waits, and the one who broadcasts five times
+    (Play::Together, 1, 53, 53),
+    // a late one takes no signal, and no broadcast
+    (Play::BesideALateOne(Wakes::One), 100, 5, 7),
+    (Play::BesideALateOne(Wakes::All), 100, 5, 7),
+    // all come back once all is done
+    (Play::UntilDone, 100, 4, 7),
+];
+
+#[test]
+fn who_waits_is_woken(rt: HostRuntime) -> Result<(), Fail> {
+    for row in &PLAYS {
+        plays_on(&rt, rt.alloc(), row)?;
+    }
+    Ok(())
+}

@@ -1,0 +1,41 @@
+//! How many seats a wait group may have.
+
+use crate::parts::group_given::new_again;
+use std::alloc::Global;
+use std::test::Fail;
+use sync_parts::{GroupSeat, SetupError};
+
+const MOST_LEFT: u64 = 1 << 40;
+
+/// How many seats there are, if each has all its releases to make.
+fn count(seats: &[GroupSeat]) -> usize {
+    for seat in seats {
+        if seat.left() != MOST_LEFT {
+            return 0;
+        }
+    }
+    seats.len()
+}
+
+/// How many seats are made, and the refusal by its number.
+fn made(alloc: Global, seats: u32) -> Result<usize, u8> {
+    match new_again(alloc, seats) {
+        Ok((_group, seats)) => Ok(count(&seats)),
+        Err(refused) => Err(refused as u8),
+    }
+}
+
+#[test]
+fn a_group_has_1_to_256_seats(rt: HostRuntime) -> Result<(), Fail> {
+    let rows = [
+        (0, Err(2)),
+        (257, Err(SetupError::Seats as u8)),
+        (u32::MAX, Err(2)),
+        (1, Ok(1)),
+        (256, Ok(256)),
+    ];
+    for (seats, expected) in rows {
+        assert!(rt; made(rt.alloc(), seats) == expected);
+    }
+    Ok(())
+}

@@ -1,0 +1,111 @@
+//! What is played around a wait group by threads.
+
+use crate::parts::group_given::{Team, new_again};
+use crate::parts::group_races::{begins_anew, races};
+use crate::parts::group_threads::{flags_are_seen, forks_and_joins};
+use std::alloc::Global;
+use std::process::Abort;
+use std::sync::Wait;
+use std::sync::atomic::AtomicU64;
+use std::test::Fail;
+use std::thread;
+use std::thread::{Scope, Threads};
+use sync_parts::SetupError;
+
+#[derive(Clone, Copy, Drop)]
+enum Scene {
+    /// An add may run beside a wait.
+    Race,
+    /// A round is begun before the wait of the last one is back.
+    Anew,
+    /// Three workers are waited for.
+    Fork,
+    /// Each of two threads waits for what the other does.
+    Flags,
+}
+
+/// What threads tell one another.
+#[derive(Drop)]
+pub(crate) struct Flags {
+    /// In the fork, the sum of all shares.
+    pub(crate) left: AtomicU64,
+    pub(crate) right: AtomicU64,
+}
+
+impl Scene {
+    fn seats(self) -> u32 {
+        match self {
+            Scene::Anew => 2,
+            Scene::Race | Scene::Flags => 3,
+            Scene::Fork => 4,
+        }
+    }
+
+    fn plays<'s, E, R: Abort + Threads + Wait + Sync>(
+        self,
+        rt: &'s R,
+        scope: &'s Scope<'s, E>,
+        team: Team<'s>,
+        flags: &'s Flags,
+    ) {
+        match self {
+            Scene::Race => races(rt, scope, team),
+            Scene::Anew => begins_anew(rt, scope, team),
+            Scene::Fork => forks_and_joins(rt, scope, team, &flags.left),
+            Scene::Flags => flags_are_seen(rt, scope, team, flags),
+        }
+    }
+}
+
+fn in_scope<R: Abort + Threads + Wait + Sync>(rt: &R, scene: Scene, team: Team<'_>, flags: &Flags) {
+    thread::scope(
+        thread::scope_env(),
+        rt,
+        move |scope| scene.plays(rt, scope, team, flags),
+    );
+}
+
+/// The scene in a new group.
+fn play<R: Abort + Threads + Wait + Sync>(
+    rt: &R,
+    alloc: Global,
+    scene: Scene,
+) -> Result<(), SetupError> {
+    let (group, seats) = new_again(alloc, scene.seats())?;
+    let flags = Flags {
+        left: AtomicU64::new(0),
+        right: AtomicU64::new(0),
+    };
+    in_scope(rt, scene, Team::new(&group, seats), &flags);
+    Ok(())
+}
+
+/// The same, so many times.
+fn play_on<R: Abort + Threads + Wait + Sync>(
+    rt: &R,
+    alloc: Global,
+    scene: Scene,
+    rounds: u32,
+) -> Result<(), SetupError> {
+    for _ in 0..rounds {
+        play(rt, alloc, scene)?;
+    }
+    Ok(())
+}
+
+/// Scenes, and how often each is played.
+static SCENES: [(Scene, u32); 4] = [
+    (Scene::Race, 500),
+    (Scene::Anew, 500),
+    (Scene::Fork, 200),
+    (Scene::Flags, 1),
+];
+
+#[test]
+fn scenes_end_as_known(rt: HostRuntime) -> Result<(), Fail> {
+    for row in &SCENES {
+        let (scene, rounds) = *row;
+        play_on(&rt, rt.alloc(), scene, rounds)?;
+    }
+    Ok(())
+}

@@ -1,0 +1,6 @@
+//! The tests of `waiters` and of `sema_root`.
+
+mod both_tests;
+mod drawn_tests;
+mod given;
+mod list_tests;

@@ -1,0 +1,154 @@
+//! Threads that sleep on one counter, until units are added to it many at once.
+//!
+//! There are more of them than processors, and the units come once all have slept for a while: who is granted
+//! a unit and isn't roused then sleeps for good, and the test with it.
+
+ghost use Rattle.std.specs.Prelude.{◌≡◌, ◌<◌, ◌≤◌, length, All, IfOk};
+
+use crate::tables::given::{last_seat, new_again, one_counter};
+use crate::tables::many_tests::owes_many;
+use crate::tables::seats::{has_value, has_waiters};
+use sema_table::{Seat, SemaTable};
+use sema_table_crew::Start;
+use std::alloc::Global;
+use std::process::Abort;
+use std::sync::Wait;
+use std::test::Fail;
+use std::thread;
+use std::thread::{Scope, Threads};
+use std::time::{Clock, Duration};
+use waiters::{CounterId, NoMemory};
+
+const SLEEPERS: u32 = 10;
+
+/// How many milliseconds: long enough for each of them to look for its grant as often as it does before it
+/// sleeps.
+const WHILE: u64 = 20;
+
+/// Takes a unit, once all threads are there.
+fn takes_one<R: Wait>(rt: &R, table: &SemaTable, seat: Seat, start: &Start)
+    requires { (seat.table ≡ table.now) × (0 < length table.now.setting.starts) }
+{
+    if start.wait(rt) {
+        table.acquire(rt, seat, CounterId::new(0), false);
+    }
+}
+
+/// Makes a thread for each seat, as long as there can be one: whether all were made.
+fn hire_all<'s, E, R: Threads + Wait + Sync>(
+    scope: &'s Scope<'s, E>,
+    rt: &'s R,
+    table: &'s SemaTable,
+    seats: Vec<Seat>,
+    start: &'s Start,
+) -> bool
+    requires table { 0 < length table.now.setting.starts }
+    requires seats { All (λ s. s.table ≡ table.now) seats.items }
+{
+    let mut seats = seats;
+    while let Some(seat) = seats.pop() {
+        let made = scope.spawn(
+            move ||
+                requires { (seat.table ≡ table.now) × (0 < length table.now.setting.starts) }
+            { takes_one(rt, table, seat, start) },
+        );
+        if made.is_err() {
+            return false;
+        }
+    }
+    true
+}
+
+/// Waits until all sleepers have queued, and for a while more.
+fn lets_all_sleep<R: Abort + Clock + Wait>(rt: &R, table: &SemaTable, seat: &mut Seat)
+    requires { (seat.old.table ≡ table.now) × (0 < length table.now.setting.starts) }
+    ensures { seat.new.table ≡ table.now }
+{
+    for _ in rt.forever() {
+        if table.waiters_of_root(seat, CounterId::new(0)) == u64::from(SLEEPERS) {
+            break;
+        }
+        thread::yield_now();
+    }
+    thread::sleep(rt, Duration::from_millis(WHILE));
+}
+
+/// Adds units by one add, and wakes whom it can.
+fn adds_many<R: Abort + Wait>(rt: &R, table: &SemaTable, seat: Seat, units: u32) -> Seat
+    requires table { (seat.table ≡ table.now) × (0 < length table.now.setting.starts) }
+    requires units { (1 ≤ units) × (units ≤ 256) }
+    ensures { result.table ≡ table.now }
+{
+    let owing = owes_many(rt, table, seat, units);
+    table.wake_some(rt, owing).0
+}
+
+/// Units for four of the sleepers, and then for the others, once all sleep.
+fn wakes_all<R: Abort + Clock + Wait>(rt: &R, table: &SemaTable, seat: Seat) -> Seat
+    requires { (seat.table ≡ table.now) × (0 < length table.now.setting.starts) }
+    ensures { result.table ≡ table.now }
+{
+    let mut seat = seat;
+    lets_all_sleep(rt, table, &mut seat);
+    let seat = adds_many(rt, table, seat, 4);
+    adds_many(rt, table, seat, SLEEPERS - 4)
+}
+
+/// Sleepers at these seats, who are woken by another, and have ended.
+///
+/// It is an `Err` where a thread can't be made: then nobody has slept.
+fn sleep_and_wake<R: Abort + Clock + Threads + Wait + Sync>(
+    rt: &R,
+    table: &SemaTable,
+    seats: Vec<Seat>,
+    waker: Seat,
+) -> Result<Seat, NoMemory>
+    requires table { (waker.table ≡ table.now) × (0 < length table.now.setting.starts) }
+    requires seats { All (λ s. s.table ≡ table.now) seats.items }
+    ensures { IfOk result (λ seat. seat.table ≡ table.now) }
+{
+    let start = Start::new();
+    let start = &start;
+    thread::scope(
+        thread::scope_env(),
+        rt,
+        move |scope| -> Result<Seat, NoMemory>
+            requires table { (waker.table ≡ table.now) × (0 < length table.now.setting.starts) }
+            requires seats { All (λ s. s.table ≡ table.now) seats.items }
+            ensures { IfOk result (λ seat. seat.table ≡ table.entry.now) }
+        {
+            let all = hire_all(scope, rt, table, seats, start);
+            start.tell(all);
+            if all {
+                Ok(wakes_all(rt, table, waker))
+            } else {
+                Err(NoMemory)
+            }
+        },
+    )
+}
+
+/// All sleepers have come by their units: none is left, and nobody waits.
+fn all_come_back<R: Abort + Clock + Threads + Wait + Sync>(
+    rt: &R,
+    alloc: Global,
+) -> Result<(), NoMemory> {
+    let sizes = one_counter(0, SLEEPERS + 1);
+    let Ok((table, mut seats)) = new_again(alloc, &sizes) else {
+        return Err(NoMemory);
+    };
+    let waker = last_seat(rt, &table, &mut seats);
+    assert!(rt; 0 < table.counters());
+    let mut waker = sleep_and_wake(rt, &table, seats, waker)?;
+    has_value(rt, &table, &mut waker, 0, 0);
+    has_waiters(rt, &table, &mut waker, 0, 0);
+    Ok(())
+}
+
+#[test]
+fn many_units_wake_threads_that_sleep(rt: HostRuntime) -> Result<(), Fail> {
+    match all_come_back(&rt, rt.alloc()) {
+        Err(NoMemory) => Ok(all_come_back(&rt, rt.alloc())?),
+        Ok(()) => Ok(()),
+    }
+}
