@@ -5,15 +5,13 @@
 ghost use Rattle.std.specs.Prelude.{◌≡◌, ◌<◌, All, length, true, false};
 
 use anyhow::{Result, bail};
-use sema_table::{Seat, SemaTable, Settings};
 use std::alloc::AllocError;
 use std::sync::Wait;
 use std::sync::atomic::Ordering::SeqCst;
 use std::sync::atomic::{AtomicBool, AtomicU64};
 use std::thread;
 use std::thread::{JoinHandle, Scope, Threads};
-use sync_parts::{Cond, ListSeat, SemaLock};
-use waiters::CounterId;
+use sync_parts::{Cond, CounterId, ListSeat, Seat, SemaLock, SemaTable, Settings};
 
 /// How many numbers each producer puts.
 const EACH: u64 = 1_000;

@@ -1,6 +1,6 @@
 //! The tests of the program and of what it stands on, which use each crate from outside, as one above it does:
 //! `machine` those of `step_core`, `search` those of `explorer_search`, `table_tests` that of `explorer_replay`,
-//! `lock_line_tests` and `lock_fault_tests` those of `lock_text`, and the others those of `explorer`.
+//! and the others those of `explorer`.
 //!
 //! A crate with tests is proved with them and without: so they stand here, together, since what they stand on
 //! is read for each crate anew.
@@ -32,10 +32,6 @@ mod io_tests;
 mod judge_tests;
 #[cfg(test)]
 mod list_replays;
-#[cfg(test)]
-mod lock_fault_tests;
-#[cfg(test)]
-mod lock_line_tests;
 #[cfg(test)]
 mod machine;
 #[cfg(test)]

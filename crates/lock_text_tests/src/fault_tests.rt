@@ -1,7 +1,6 @@
-//! Which lines of lock programs are none, and why.
+//! Which lines are none, and why.
 
-use crate::lock_line_tests::read_twice;
-use lock_text::ReadFault;
+use lock_text::{Cause, Line, ReadFault, read_lines};
 use std::alloc::Global;
 
 /// A text, and what its fault prints.
@@ -21,6 +20,18 @@ static FAULTY: [(&str, &str); 14] = [
     ("load w [r] x\n", "line 1: form"),
     ("again :\n", "line 1: form"),
 ];
+
+fn read_twice<'t>(alloc: Global, text: &'t [u8]) -> Result<Vec<Line<'t>>, ReadFault> {
+    match read_lines(alloc, text) {
+        Err(
+            ReadFault {
+                cause: Cause::NoMemory,
+                ..
+            },
+        ) => read_lines(alloc, text),
+        read => read,
+    }
+}
 
 fn printed(alloc: Global, fault: ReadFault) -> Option<String> {
     match format!(in alloc; "{fault}") {

@@ -1,4 +1,4 @@
-//! What lines of lock programs say.
+//! What lines say.
 
 use lock_lines::Relation;
 use lock_text::{Cause, Line, Number, Operand, ReadFault, read_lines};
@@ -68,8 +68,7 @@ apart held held
 finally w[0] == max
 ";
 
-/// The lines of the text, which is read once more where memory was refused.
-pub(crate) fn read_twice<'t>(alloc: Global, text: &'t [u8]) -> Result<Vec<Line<'t>>, ReadFault> {
+fn read_twice<'t>(alloc: Global, text: &'t [u8]) -> Result<Vec<Line<'t>>, ReadFault> {
     match read_lines(alloc, text) {
         Err(
             ReadFault {
