@@ -212,7 +212,11 @@ pub(crate) fn are_told(rt: &impl Host, alloc: Global, rows: &[Row]) {
 }
 
 #[test]
-fn what_was_asked_and_who_failed_is_told(rt: HostRuntime) {
+fn what_was_asked_is_told(rt: HostRuntime) {
     are_told(&rt, rt.alloc(), &SEARCHES);
+}
+
+#[test]
+fn a_seat_that_failed_is_named(rt: HostRuntime) {
     are_told(&rt, rt.alloc(), &REPLAYS);
 }

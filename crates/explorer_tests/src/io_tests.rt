@@ -1,11 +1,13 @@
 //! `explore` and `replay` as calls, over values and over readers and writers. A call that answers want of
 //! memory is made once more.
 
+ghost use Rattle.std.specs.Prelude.{◌≡◌, false};
+
 use crate::devices::{Calls, Giving, SOUND, Taking};
 use crate::reading::ONE_ACQUIRE;
 use explorer::{
-    Cause, Exit, Flagged, Found, IoFault, Kind, NO_MEMORY, Property, ReadFault, explore,
-    explore_io, explore_variant, explore_variant_io, read_scenario, replay_io,
+    Cause, Exit, Flagged, Found, IoFault, Kind, NO_MEMORY, Property, ReadFault, Sink, Source,
+    explore, explore_io, explore_variant, explore_variant_io, read_scenario, replay_io,
 };
 use std::alloc::Global;
 use step_core::Variant;
@@ -67,17 +69,30 @@ static ENDED: [Row; 7] = [
     ),
 ];
 
+/// The call over these streams, and how it ends.
+fn ended<R: Source, W: Sink>(
+    alloc: Global,
+    reader: &mut R,
+    writer: &mut W,
+    asked: Asked,
+) -> Result<Exit, IoFault>
+    requires readable { R.has_failed reader.old ≡ false }
+    requires writable { W.has_failed writer.old ≡ false }
+{
+    match asked {
+        Asked::Explore(depth) => explore_io(alloc, reader, writer, depth.min(64)),
+        Asked::ExploreVariant(depth, variant) => {
+            explore_variant_io(alloc, reader, writer, depth.min(64), variant)
+        }
+        Asked::Replay(schedule) => replay_io(alloc, reader, writer, schedule),
+    }
+}
+
 /// What goes out, and how the call ends, of a counter with one acquire.
 fn ends(alloc: Global, asked: Asked, calls: Calls) -> (Vec<u8>, Result<Exit, IoFault>) {
     let mut reader = Flagged::new(Giving::new(ONE_ACQUIRE, SOUND));
     let mut out = Flagged::new(Taking::new(alloc, calls));
-    let ended = match asked {
-        Asked::Explore(depth) => explore_io(alloc, &mut reader, &mut out, depth.min(64)),
-        Asked::ExploreVariant(depth, variant) => {
-            explore_variant_io(alloc, &mut reader, &mut out, depth.min(64), variant)
-        }
-        Asked::Replay(schedule) => replay_io(alloc, &mut reader, &mut out, schedule),
-    };
+    let ended = ended(alloc, &mut reader, &mut out, asked);
     (out.into_inner().into_taken(), ended)
 }
 

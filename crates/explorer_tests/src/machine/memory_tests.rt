@@ -1,14 +1,14 @@
 //! Where there is memory no call answers want of it, and what a world and its copies then show.
 
 use crate::machine::again::{
-    copied_moment, copy_again, key_again, moments_key, new_again, steps_again,
+    copied_moment, copy_again, key_again, moments_key, new_again, run_again, steps_again,
 };
 use crate::machine::given::{scenario, seat};
 use crate::machine::limit_tests::fill;
 use crate::machine::story::{Line, Story, shows};
 use std::alloc::Global;
 use std::process::Abort;
-use step_core::{Items, Phase, Row, World};
+use step_core::{Items, Phase, Row, StepRefused, World};
 
 #[test]
 fn items_grow(rt: HostRuntime) {
@@ -65,4 +65,17 @@ fn a_world_has_its_memory(rt: HostRuntime) {
     shows(&rt, rt.alloc(), &world, &SLEEPER);
     copy_shows(&rt, rt.alloc(), &world);
     have_key(&rt, rt.alloc(), &world);
+}
+
+#[test]
+fn a_run_of_no_step_is_the_start(rt: HostRuntime) {
+    let scenario = scenario(&rt, rt.alloc(), SLEEPER.text);
+    let mut world = new_again(&rt, rt.alloc(), &scenario);
+    assert!(rt; world.step(seat(2)) == Err(StepRefused::NoSuchSeat));
+    let start = run_again(rt.alloc(), &scenario, &[]).expect(&rt, "a run");
+    let (one, other) = (
+        key_again(&rt, rt.alloc(), &world),
+        key_again(&rt, rt.alloc(), &start),
+    );
+    assert!(rt; one.as_slice() == other.as_slice());
 }

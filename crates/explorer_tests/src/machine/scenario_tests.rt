@@ -30,3 +30,18 @@ fn a_scenario_shows_its_parts(rt: HostRuntime) {
     let scenario = scenario(&rt, rt.alloc(), TEXT);
     assert!(rt; shows_parts(&scenario));
 }
+
+/// Each kind of call, in a turn that keeps its tickets.
+const EVERY_CALL: &str = "\
+counter 0
+list 7
+group
+seat 0: acquire 0 lifo; release 0; release 0 many 256; add 0; one 0; wait 0; all 0; gadd 0 -1; gwait 0
+settled
+";
+
+#[test]
+fn a_seat_may_make_each_call(rt: HostRuntime) {
+    let scenario = scenario(&rt, rt.alloc(), EVERY_CALL);
+    assert!(rt; scenario.seats() == 1 && scenario.semaphores() == 2);
+}
