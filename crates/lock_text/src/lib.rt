@@ -11,5 +11,7 @@ mod words;
 
 pub use fault::{Cause, ReadFault};
 pub use lines::{Line, Share};
+pub use reader::judge::judge;
+pub use reader::pieces::first_line;
 pub use reader::read_lines;
 pub use words::{Name, Number, Operand, Place};

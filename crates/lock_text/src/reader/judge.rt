@@ -8,8 +8,10 @@ use crate::reader::line::read_line;
 use explorer_text::printable;
 use std::alloc::Global;
 
-/// The line that the bytes are, or what is wrong with them.
-pub(crate) fn judge<'t>(alloc: Global, bytes: &'t [u8], ended: bool) -> Result<Line<'t>, Cause>
+/// What the bytes of one line say, or what is wrong with them.
+///
+/// For who reads a text line by line, since a line that is right alone may not be so behind those before it.
+pub fn judge<'t>(alloc: Global, bytes: &'t [u8], ended: bool) -> Result<Line<'t>, Cause>
     ensures { Judges (record { text = bytes.now; ended = ended }) result }
 {
     if !ended {

@@ -11,7 +11,7 @@ fn line_feed(text: &[u8]) -> Option<usize>
 }
 
 /// The first line, what stands behind it, and whether it is ended.
-pub(crate) fn first_line(text: &[u8]) -> (&[u8], &[u8], bool)
+pub fn first_line(text: &[u8]) -> (&[u8], &[u8], bool)
     requires { 0 < length text.now }
     ensures line { pieces text.now ≡ record { text = result.0.now; ended = result.2 } ∷ pieces result.1.now }
     ensures shorter { length result.1.now < length text.now }
