@@ -1,0 +1,161 @@
+-- The reader's own numbers stay small, whatever the lines are.
+use Rattle.std.proofs.Common.{◌≡◌, ℕ, ◌+◌, ◌≤◌, List, [], ◌∷◌, ◌++◌, length, All, Option, Result, Ok, Err, refl, sym, ap, subst, ◌∙◌, arith, length-append}
+use Rattle.std.specs.Prelude.{replicate, IfOk, OnOk}
+use Rattle.std.specs.Option.{unwrap_or}
+use Rattle.std.proofs.lemmas.List.{length-replicate}
+use Rattle.std.proofs.lemmas.List.Elements.{All-nil, All-push}
+use Rattle.std.proofs.lemmas.List.Sums.{sum_by-append}
+use Rattle.lock_program.specs.declared.names.Cells.{Cells}
+use Rattle.lock_program.specs.declared.statement.Written.{Written}
+use Rattle.lock_program.specs.declared.stage.Stage.{Stage}
+use Rattle.lock_program.specs.declared.stage.Stage.TheVariants as stage
+use Rattle.lock_program.specs.declared.stage.LineKind.{LineKind}
+use Rattle.lock_program.specs.declared.stage.LineKind.TheVariants as kind
+use Rattle.lock_program.specs.declared.meant.Meant.{Meant}
+use Rattle.lock_program.specs.declared.meant.Meant.TheVariants as meant
+use Rattle.lock_program.specs.declared.draft.Draft.{Draft}
+use Rattle.lock_program.specs.Bounds.{IsNear}
+use Rattle.lock_program.specs.Codes.{IsClosed, JumpsByLabel, code_of, size_of, width}
+use Rattle.lock_program.specs.Drafts.{no_lines, closed, closed_by, one_cells, with_meant, at_stage}
+use Rattle.lock_program.specs.Fitting.{IsFitting, FitsMeant}
+use Rattle.lock_program.proofs.Closing.{closed_code}
+
+pub fits_none : IsFitting no_lines
+fits_none = record {
+  near = record { words = All-nil IsNear; counters = All-nil IsNear };
+  few_words = omega arith;
+  few_counters = omega arith;
+  short = omega arith;
+  by_label = All-nil (λ (w : Written). JumpsByLabel w.statement);
+  closed = All-nil IsClosed;
+}
+
+pub fits_closed : (d : Draft) → IsFitting d → IsFitting (closed d)
+fits_closed d k = record {
+  near = k.near;
+  few_words = k.few_words;
+  few_counters = k.few_counters;
+  short = omega arith;
+  by_label = All-nil (λ (w : Written). JumpsByLabel w.statement);
+  closed = All-push IsClosed d.codes (code_of d.codes d.body) k.closed (closed_code d.codes d.body k.short k.by_label k.closed);
+}
+
+pub fits_closed_by : (behind : Stage) (line : LineKind) (d : Draft) → IsFitting d → IsFitting (closed_by behind line d)
+fits_closed_by stage.Programs kind.Program d k = fits_closed d k
+fits_closed_by stage.Programs kind.Seats d k = fits_closed d k
+fits_closed_by behind line d k = k
+
+more_items : {A : Type 0} (xs : List A) (n : ℕ) (x : A) → length xs + n ≤ 32 → length (xs ++ replicate n x) ≤ 32
+more_items xs n x h = omega (arith, length-append xs (replicate n x), length-replicate n x)
+
+pub fits_with : (d : Draft) (line : ℕ) (m : Meant) → IsFitting d → FitsMeant d m → IsFitting (with_meant d line m)
+fits_with d line meant.Nothing k h = k
+fits_with d line (meant.Constant name v) k h = record {
+  near = record { words = k.near.words; counters = k.near.counters };
+  few_words = k.few_words;
+  few_counters = k.few_counters;
+  short = k.short;
+  by_label = k.by_label;
+  closed = k.closed;
+}
+fits_with d line (meant.Words name members v) k h = record {
+  near =
+      record {
+        words = All-push IsNear d.names.words (one_cells name (length d.words) members) k.near.words k.few_words;
+        counters = k.near.counters;
+      };
+  few_words = more_items d.words (unwrap_or members 1) v h;
+  few_counters = k.few_counters;
+  short = k.short;
+  by_label = k.by_label;
+  closed = k.closed;
+}
+fits_with d line (meant.Counters name members v) k h = record {
+  near =
+      record {
+        words = k.near.words;
+        counters = All-push IsNear d.names.counters (one_cells name (length d.counters) members) k.near.counters k.few_counters;
+      };
+  few_words = k.few_words;
+  few_counters = more_items d.counters (unwrap_or members 1) v h;
+  short = k.short;
+  by_label = k.by_label;
+  closed = k.closed;
+}
+fits_with d line (meant.List name) k h = record {
+  near = record { words = k.near.words; counters = k.near.counters };
+  few_words = k.few_words;
+  few_counters = k.few_counters;
+  short = k.short;
+  by_label = k.by_label;
+  closed = k.closed;
+}
+fits_with d line (meant.Registers names) k h = record {
+  near = record { words = k.near.words; counters = k.near.counters };
+  few_words = k.few_words;
+  few_counters = k.few_counters;
+  short = k.short;
+  by_label = k.by_label;
+  closed = k.closed;
+}
+fits_with d line (meant.Section name) k h = record {
+  near = record { words = k.near.words; counters = k.near.counters };
+  few_words = k.few_words;
+  few_counters = k.few_counters;
+  short = k.short;
+  by_label = k.by_label;
+  closed = k.closed;
+}
+fits_with d line (meant.Program name) k h = record {
+  near = record { words = k.near.words; counters = k.near.counters };
+  few_words = k.few_words;
+  few_counters = k.few_counters;
+  short = k.short;
+  by_label = k.by_label;
+  closed = k.closed;
+}
+fits_with d line (meant.Seats count program) k h = record {
+  near = k.near;
+  few_words = k.few_words;
+  few_counters = k.few_counters;
+  short = k.short;
+  by_label = k.by_label;
+  closed = k.closed;
+}
+fits_with d line (meant.Property p) k h = record {
+  near = k.near;
+  few_words = k.few_words;
+  few_counters = k.few_counters;
+  short = k.short;
+  by_label = k.by_label;
+  closed = k.closed;
+}
+fits_with d line (meant.Statement s) k h =
+    let w : Written = record { line = line; statement = s } in
+    record {
+      near = k.near;
+      few_words = k.few_words;
+      few_counters = k.few_counters;
+      short = omega (arith, h.0, sum_by-append (λ (v : Written). width d.codes v.statement) d.body (w ∷ []));
+      by_label = All-push (λ (v : Written). JumpsByLabel v.statement) d.body w k.by_label h.1;
+      closed = k.closed;
+    }
+
+pub fits_stage : (d : Draft) (behind : Stage) → IsFitting d → IsFitting (at_stage d behind)
+fits_stage d behind k = record {
+  near = k.near;
+  few_words = k.few_words;
+  few_counters = k.few_counters;
+  short = k.short;
+  by_label = k.by_label;
+  closed = k.closed;
+}
+
+pub fits_result : {E : Type 0} (d : Draft) (r : Result Draft E) → IsFitting d → IfOk r (λ e. e ≡ closed d) → IfOk r IsFitting
+fits_result d (Ok e) k h = subst IsFitting (sym h) (fits_closed d k)
+fits_result d (Err c) k h = tt
+
+pub fits_meant : {U E : Type 0} (d e : Draft) (line : ℕ) (m : Meant) (r : Result U E) → IsFitting d → FitsMeant d m
+    → OnOk r (e ≡ with_meant d line m) → OnOk r (IsFitting e)
+fits_meant d e line m (Ok u) k h is = subst IsFitting (sym is) (fits_with d line m k h)
+fits_meant d e line m (Err c) k h is = tt

@@ -1,0 +1,31 @@
+-- What a line makes of a draft.
+use Rattle.std.proofs.Common.{◌≡◌, ℕ, Bool, length, Result, Ok, ap, ◌∙◌}
+use Rattle.lock_text.specs.declared.lines.Line.{Line}
+use Rattle.lock_program.specs.declared.fault.Cause.{Cause}
+use Rattle.lock_program.specs.declared.fault.Cause.TheVariants.{TooMany, Twice}
+use Rattle.lock_program.specs.declared.meant.Meant.{Meant}
+use Rattle.lock_program.specs.declared.draft.Draft.{Draft}
+use Rattle.lock_program.specs.Causes.{too_if}
+use Rattle.lock_program.specs.Places.{kind_of}
+use Rattle.lock_program.specs.Limits.{is_too_many, is_again}
+use Rattle.lock_program.specs.Meanings.{meant_of}
+use Rattle.lock_program.specs.Drafts.{closed_by}
+use Rattle.lock_program.specs.Fitting.{IsFitting, FitsMeant}
+use Rattle.lock_program.proofs.Rooms.{too_none, room_closed}
+
+-- what a line means, or the least of what is wrong with it where it stands
+abbrev pub told : Draft → Line → Result Meant Cause
+told d line = too_if (is_too_many d line) TooMany (too_if (is_again d line) Twice (meant_of d.names (length d.codes) line))
+
+pub told_from : (d : Draft) (line : Line) (over again : Bool) (n : ℕ) (m1 m2 m3 : Result Meant Cause) → over ≡ is_too_many d line → again ≡ is_again d line
+    → n ≡ length d.codes → m1 ≡ meant_of d.names n line → m2 ≡ too_if again Twice m1 → m3 ≡ too_if over TooMany m2 → m3 ≡ told d line
+told_from d line over again n m1 m2 m3 o a l e f g =
+    let p : m1 ≡ meant_of d.names (length d.codes) line = e ∙ ap (λ (k : ℕ). meant_of d.names k line) l in
+    let q : m2 ≡ too_if (is_again d line) Twice (meant_of d.names (length d.codes) line) = f ∙ (λ i. too_if (a i) Twice (p i)) in
+    g ∙ (λ i. too_if (o i) TooMany (q i))
+
+pub told_room : (d : Draft) (line : Line) (m : Meant) → IsFitting d → told d line ≡ Ok m → FitsMeant (closed_by d.stage (kind_of line) d) m
+told_room d line m k e =
+    let over = too_none (is_too_many d line) TooMany (too_if (is_again d line) Twice (meant_of d.names (length d.codes) line)) m e in
+    let again = too_none (is_again d line) Twice (meant_of d.names (length d.codes) line) m over.1 in
+    room_closed d.stage d line m k.few_words k.few_counters k.short over.0 again.1

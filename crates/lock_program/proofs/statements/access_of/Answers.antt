@@ -1,0 +1,4 @@
+use Rattle.lock_program.proofs.statements.access_of.Goals as goal
+
+pub returns : goal.returns
+returns c = cc

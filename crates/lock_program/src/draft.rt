@@ -1,0 +1,265 @@
+//! What the lines that were read so far declare and say.
+
+ghost use Rattle.std.specs.Prelude.{◌≡◌, [], ◌++◌, replicate, IfOk, OnOk};
+ghost use Rattle.lock_program.specs.Drafts as drafts;
+ghost use Rattle.lock_program.specs.Answers.{AnswersTo, Finishes};
+ghost use Rattle.lock_program.specs.Fitting.{IsFitting, FitsMeant};
+
+use crate::codes::{code_of, first_lost};
+use crate::fault::{Cause, ReadFault};
+use crate::limits::{is_again, is_too_many};
+use crate::meanings::meant_of;
+use crate::meant::Meant;
+use crate::named_program::NamedProgram;
+use crate::names::{Cells, Constant, Extent, Names};
+use crate::results::too_if;
+use crate::stage::{LineKind, Stage};
+use crate::statement::Written;
+use lock_code::{Asked, CodeLine, Program};
+use lock_text::{Line, Name};
+use std::alloc::{AllocError, Global};
+use step_table::Items;
+
+/// A program of which lines may still be missing.
+#[derive(Drop)]
+pub(crate) struct Draft<'t> {
+    /// Where the next line may stand.
+    pub(crate) stage: Stage,
+    /// The names that are declared.
+    pub(crate) names: Names<'t>,
+    /// What each word starts at.
+    pub(crate) words: Items<i64>,
+    /// What each counter starts at.
+    pub(crate) counters: Items<u32>,
+    /// The programs whose lines have ended.
+    pub(crate) codes: Items<Items<CodeLine>>,
+    /// The lines so far of the program that is open.
+    pub(crate) body: Items<Written<'t>>,
+    /// The first line of an ended program that jumps to no label of its program.
+    pub(crate) lost: Option<usize>,
+    /// Which program each seat runs.
+    pub(crate) seats: Items<usize>,
+    /// What must hold.
+    pub(crate) properties: Items<Asked>,
+}
+
+/// Puts the item behind the others so many times.
+fn push_times<T: Copy + Drop>(items: &mut Items<T>, count: usize, item: T) -> Result<(), AllocError>
+    ensures { OnOk result (items.new ≡ items.old ++ replicate count item) }
+{
+    for _i in 0..count {
+        items.push_back(item)?;
+    }
+    Ok(())
+}
+
+/// Puts the names behind the others.
+fn push_names<'t>(names: &mut Items<Name<'t>>, more: Items<Name<'t>>) -> Result<(), AllocError>
+    ensures { OnOk result (names.new ≡ names.old ++ more.entry) }
+{
+    for name in more.into_vec() {
+        names.push_back(name)?;
+    }
+    Ok(())
+}
+
+/// The words or counters of a name, the first of which has this number.
+fn cells<'t>(name: Name<'t>, first: usize, length: Option<usize>) -> Cells<'t>
+    ensures { result ≡ drafts.one_cells name.entry first length }
+{
+    Cells {
+        name,
+        extent: Extent { first, length },
+    }
+}
+
+/// The first of both lines, of which the second comes later.
+fn first_of(first: Option<usize>, later: Option<usize>) -> Option<usize>
+    ensures { result ≡ drafts.first_of first later }
+{
+    match first {
+        Some(line) => Some(line),
+        None => later,
+    }
+}
+
+impl<'t> Draft<'t> {
+    /// No lines.
+    pub(crate) fn new(alloc: Global) -> Self
+        ensures { result ≡ drafts.no_lines }
+    {
+        Draft {
+            stage: Stage::Declarations,
+            names: Names {
+                constants: Items::empty(alloc),
+                words: Items::empty(alloc),
+                counters: Items::empty(alloc),
+                lists: Items::empty(alloc),
+                registers: Items::empty(alloc),
+                sections: Items::empty(alloc),
+                programs: Items::empty(alloc),
+            },
+            words: Items::empty(alloc),
+            counters: Items::empty(alloc),
+            codes: Items::empty(alloc),
+            body: Items::empty(alloc),
+            lost: None,
+            seats: Items::empty(alloc),
+            properties: Items::empty(alloc),
+        }
+    }
+
+    /// The lines of the program that is open have ended.
+    fn closed(self, alloc: Global) -> Result<Self, AllocError>
+        requires { IsFitting self }
+        ensures { IfOk result (λ d. d ≡ drafts.closed self.entry) }
+    {
+        let Draft {
+            stage,
+            names,
+            words,
+            counters,
+            mut codes,
+            body,
+            lost,
+            seats,
+            properties,
+        } = self;
+        let code = code_of(alloc, codes.as_slice(), body.as_slice())?;
+        codes.push_back(code)?;
+        Ok(Draft {
+            stage,
+            names,
+            words,
+            counters,
+            codes,
+            body: Items::empty(alloc),
+            lost: first_of(lost, first_lost(body.as_slice())),
+            seats,
+            properties,
+        })
+    }
+
+    /// Behind a program's lines the next program, or seats, end it.
+    fn closed_by(self, alloc: Global, kind: LineKind) -> Result<Self, AllocError>
+        requires { IsFitting self }
+        ensures closed { IfOk result (λ d. d ≡ drafts.closed_by self.entry.stage kind self.entry) }
+        ensures fitting { IfOk result IsFitting }
+    {
+        match (self.stage, kind) {
+            (Stage::Programs, LineKind::Program | LineKind::Seats) => self.closed(alloc),
+            _ => Ok(self),
+        }
+    }
+
+    /// Takes what the line of this number means.
+    fn add(&mut self, line: usize, meant: Meant<'t>) -> Result<(), AllocError>
+        requires fitting { IsFitting self.old }
+        requires room { FitsMeant self.old meant }
+        ensures with { OnOk result (self.new ≡ drafts.with_meant self.old line meant.entry) }
+        ensures fitting { OnOk result (IsFitting self.new) }
+    {
+        match meant {
+            Meant::Nothing => {}
+            Meant::Constant(name, value) => {
+                self.names.constants.push_back(Constant { name, value })?;
+            }
+            Meant::Words(name, length, start) => {
+                let cells = cells(name, self.words.len(), length);
+                self.names.words.push_back(cells)?;
+                push_times(&mut self.words, length.unwrap_or(1), start)?;
+            }
+            Meant::Counters(name, length, start) => {
+                let cells = cells(name, self.counters.len(), length);
+                self.names.counters.push_back(cells)?;
+                push_times(&mut self.counters, length.unwrap_or(1), start)?;
+            }
+            Meant::List(name) => self.names.lists.push_back(name)?,
+            Meant::Registers(names) => push_names(&mut self.names.registers, names)?,
+            Meant::Section(name) => self.names.sections.push_back(name)?,
+            Meant::Program(name) => self.names.programs.push_back(name)?,
+            Meant::Seats(count, program) => push_times(&mut self.seats, count, program)?,
+            Meant::Property(property) => self.properties.push_back(Asked { line, property })?,
+            Meant::Statement(statement) => self.body.push_back(Written { line, statement })?,
+        }
+        Ok(())
+    }
+
+    /// With the line of this number more, or the least of what is wrong with the line.
+    pub(crate) fn next(self, alloc: Global, number: usize, line: Line<'t>) -> Result<Self, Cause>
+        requires { IsFitting self }
+        ensures answer { AnswersTo (drafts.next self.entry number line.entry) result }
+        ensures fitting { IfOk result IsFitting }
+    {
+        let kind = LineKind::of(&line);
+        let stage = self.stage;
+        if !kind.may_stand(stage) {
+            return Err(Cause::Place);
+        }
+        let over = is_too_many(&self, &line);
+        let again = is_again(&self, &line);
+        let meant = meant_of(&self.names, self.codes.len(), line);
+        let meant = too_if(over, Cause::TooMany, too_if(again, Cause::Twice, meant))?;
+        let mut draft = self.closed_by(alloc, kind)?;
+        draft.add(number, meant)?;
+        draft.stage = kind.stage_after(stage);
+        Ok(draft)
+    }
+
+    /// What the lines say together, behind the last of which the line of this number would be.
+    pub(crate) fn finished(
+        self,
+        alloc: Global,
+        number: usize,
+    ) -> Result<NamedProgram<'t>, ReadFault>
+        requires { IsFitting self }
+        ensures { Finishes self.entry number result }
+    {
+        let draft = match self.closed_by(alloc, LineKind::Seats) {
+            Ok(draft) => draft,
+            Err(_) => return Err(ReadFault {
+                line: number,
+                cause: Cause::NoMemory,
+            }),
+        };
+        if let Some(line) = draft.lost {
+            return Err(ReadFault {
+                line,
+                cause: Cause::Label,
+            });
+        }
+        if draft.seats.len() == 0 {
+            return Err(ReadFault {
+                line: number,
+                cause: Cause::End,
+            });
+        }
+        Ok(draft.said())
+    }
+
+    /// What the lines say together.
+    fn said(self) -> NamedProgram<'t>
+        ensures { result ≡ drafts.program_said self.entry }
+    {
+        let Draft {
+            names,
+            words,
+            counters,
+            codes,
+            seats,
+            properties,
+            ..
+        } = self;
+        let program = Program {
+            words,
+            counters,
+            lists: names.lists.len(),
+            registers: names.registers.len(),
+            sections: names.sections.len(),
+            codes,
+            seats,
+            properties,
+        };
+        NamedProgram { names, program }
+    }
+}

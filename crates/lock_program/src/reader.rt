@@ -1,0 +1,56 @@
+//! The reader of a lock program's text.
+
+ghost use Rattle.std.specs.Prelude.{IfOk, IfErr};
+ghost use Rattle.explorer_text.specs.Reader.{IsOnly, IsNone};
+ghost use Rattle.lock_program.specs.Answers.{IsReadFault, Judges};
+ghost use Rattle.lock_program.specs.Fitting.{IsFitting};
+ghost use Rattle.lock_program.specs.Text.{IsFaultOf, IsProgramOf};
+
+use crate::draft::Draft;
+use crate::fault::{Cause, ReadFault};
+use crate::named_program::NamedProgram;
+use lock_text::{first_line, judge};
+use std::alloc::Global;
+
+/// The draft with the line of these bytes more, or what is wrong with them.
+fn read_line<'t>(
+    alloc: Global,
+    draft: Draft<'t>,
+    number: usize,
+    bytes: &'t [u8],
+    ended: bool,
+) -> Result<Draft<'t>, Cause>
+    requires { IsFitting draft }
+    ensures judged { Judges draft.entry number (record { text = bytes.now; ended = ended }) result }
+    ensures fitting { IfOk result IsFitting }
+{
+    let line = judge(alloc, bytes, ended)?;
+    draft.next(alloc, number, line)
+}
+
+/// The program that the text says, or the first line that is faulty.
+///
+/// A jump to no label is told only where all lines are else right, and then want of any seats, at the line
+/// behind the last one. Want of memory is told with the line that was read then.
+pub fn read_program<'t>(alloc: Global, text: &'t [u8]) -> Result<NamedProgram<'t>, ReadFault>
+    ensures program { IfOk result (λ program. IsOnly (IsProgramOf text.now) program) }
+    ensures faultless { IfOk result (λ _. IsNone (IsFaultOf text.now)) }
+    ensures fault { IfErr result (IsReadFault text.now) }
+{
+    let mut draft = Draft::new(alloc);
+    let mut number = 1;
+    let mut rest = text;
+    while !rest.is_empty() {
+        let (bytes, after, ended) = first_line(rest);
+        draft = match read_line(alloc, draft, number, bytes, ended) {
+            Ok(draft) => draft,
+            Err(cause) => return Err(ReadFault {
+                line: number,
+                cause,
+            }),
+        };
+        rest = after;
+        number += 1;
+    }
+    draft.finished(alloc, number)
+}
