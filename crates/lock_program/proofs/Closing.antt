@@ -1,10 +1,9 @@
 -- The lines that are put together: how many they are, and that they jump no further than behind the last.
-use Rattle.std.proofs.Common.{◌≡◌, ℕ, ◌+◌, ◌-◌, ◌^◌, ◌≤◌, ◌<◌, List, [], ◌∷◌, ◌++◌, length, map, take, get_or, All, Some, None, Option, refl, sym, ap, subst}
+use Rattle.std.proofs.Common.{◌≡◌, ℕ, ◌+◌, ◌-◌, ◌^◌, ◌≤◌, ◌<◌, List, [], ◌∷◌, ◌++◌, length, take, get_or, All, Some, None, Option, refl, sym, ap, subst}
 use Rattle.std.proofs.Common.{◌∙◌, arith}
 use Rattle.std.proofs.Common.{length-append, inl, inr, ◌⊎◌}
 use Rattle.std.proofs.lemmas.Bool.{cases_lt}
-use Rattle.std.specs.Prelude.{⊤}
-use Rattle.std.specs.List.{sum_by, fold}
+use Rattle.std.specs.List.{fold}
 use Rattle.std.proofs.lemmas.List.{length-map, get_or_past}
 use Rattle.std.proofs.lemmas.List.Elements.{All-append, All-nil, All-cons, All-head, All-tail, All-map, All-get_or, All-weaker}
 use Rattle.std.proofs.lemmas.List.Sums.{sum_by-append, sum_by-take-le, sum_by_more_le}
@@ -14,7 +13,7 @@ use Rattle.lock_code.specs.declared.program.CodeLine.{CodeLine}
 use Rattle.lock_program.specs.declared.statement.Statement.{Statement}
 use Rattle.lock_program.specs.declared.statement.Statement.TheVariants as says
 use Rattle.lock_program.specs.declared.statement.Written.{Written}
-use Rattle.lock_program.specs.Codes.{code_at, width, size_of, label_at, before, target_of, moved, put_in, lines_of, code_from, code_of, IsTargetWithin}
+use Rattle.lock_program.specs.Codes.{code_at, width, size_of, label_at, before, target_of, moved, put_in, lines_of, code_of, IsTargetWithin}
 use Rattle.lock_program.specs.Codes.{IsClosed}
 use Rattle.lock_program.specs.Codes.{JumpsByLabel, CanPutIn}
 

@@ -1,5 +1,5 @@
 -- A line of none of these kinds is read by the next definition.
-use Rattle.std.proofs.Common.{◌≡◌, ℕ, Bool, List, Option, Result, Ok, Err, refl, sym, ap, ◌∙◌}
+use Rattle.std.proofs.Common.{◌≡◌, ℕ, Bool, List, Option, refl}
 use Rattle.lock_lines.specs.declared.relation.Relation.{Relation}
 use Rattle.lock_text.specs.declared.words.Operand.{Operand}
 use Rattle.lock_text.specs.declared.words.Place.{Place}

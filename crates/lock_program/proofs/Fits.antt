@@ -1,11 +1,10 @@
 -- The reader's own numbers stay small, whatever the lines are.
-use Rattle.std.proofs.Common.{◌≡◌, ℕ, ◌+◌, ◌≤◌, List, [], ◌∷◌, ◌++◌, length, All, Option, Result, Ok, Err, refl, sym, ap, subst, ◌∙◌, arith, length-append}
+use Rattle.std.proofs.Common.{◌≡◌, ℕ, ◌+◌, ◌≤◌, List, [], ◌∷◌, ◌++◌, length, Result, Ok, Err, sym, subst, arith, length-append}
 use Rattle.std.specs.Prelude.{replicate, IfOk, OnOk}
 use Rattle.std.specs.Option.{unwrap_or}
 use Rattle.std.proofs.lemmas.List.{length-replicate}
 use Rattle.std.proofs.lemmas.List.Elements.{All-nil, All-push}
 use Rattle.std.proofs.lemmas.List.Sums.{sum_by-append}
-use Rattle.lock_program.specs.declared.names.Cells.{Cells}
 use Rattle.lock_program.specs.declared.statement.Written.{Written}
 use Rattle.lock_program.specs.declared.stage.Stage.{Stage}
 use Rattle.lock_program.specs.declared.stage.Stage.TheVariants as stage
@@ -15,7 +14,7 @@ use Rattle.lock_program.specs.declared.meant.Meant.{Meant}
 use Rattle.lock_program.specs.declared.meant.Meant.TheVariants as meant
 use Rattle.lock_program.specs.declared.draft.Draft.{Draft}
 use Rattle.lock_program.specs.Bounds.{IsNear}
-use Rattle.lock_program.specs.Codes.{IsClosed, JumpsByLabel, code_of, size_of, width}
+use Rattle.lock_program.specs.Codes.{IsClosed, JumpsByLabel, code_of, width}
 use Rattle.lock_program.specs.Drafts.{no_lines, closed, closed_by, one_cells, with_meant, at_stage}
 use Rattle.lock_program.specs.Fitting.{IsFitting, FitsMeant}
 use Rattle.lock_program.proofs.Closing.{closed_code}

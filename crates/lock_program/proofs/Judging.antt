@@ -1,5 +1,5 @@
 -- What is wrong with one line behind those before it.
-use Rattle.std.proofs.Common.{◌≡◌, ℕ, Result, Ok, Err, inr, sym}
+use Rattle.std.proofs.Common.{ℕ, Result, Ok, Err, inr, sym}
 use Rattle.explorer_text.specs.Pieces.{Piece}
 use Rattle.lock_text.specs.declared.lines.Line.{Line}
 use Rattle.lock_text.specs.Answers as alone

@@ -1,6 +1,6 @@
 -- The words and counters of a name have small numbers.
 use Rattle.std.proofs.Common.{◌≡◌, ℕ, ◌≤◌, Bool, true, false, List, [], ◌∷◌, Option, Some, None, Result, Ok, Err, All, IfSome, subst}
-use Rattle.std.specs.Prelude.{⊤, cond}
+use Rattle.std.specs.Prelude.{cond}
 use Rattle.std.specs.Option.{ok_or}
 use Rattle.std.specs.Str.{bytes_eq}
 use Rattle.std.proofs.lemmas.List.Elements.{All-head, All-tail}

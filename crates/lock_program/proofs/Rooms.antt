@@ -1,6 +1,6 @@
 -- Where nothing is too much, there is room for what a line means.
-use Rattle.std.proofs.Common.{◌≡◌, ℕ, ◌+◌, ◌-◌, ◌≤◌, Bool, true, false, List, length, Some, None, Option, Result, Ok, Err, refl, sym, ap, subst, ◌∙◌, arith}
-use Rattle.std.specs.Prelude.{⊤, ℤ, nat_lt, cond, ◌==◌, ◌||◌}
+use Rattle.std.proofs.Common.{◌≡◌, ℕ, ◌+◌, ◌-◌, ◌≤◌, Bool, true, false, length, Some, None, Option, Result, Ok, Err, refl, sym, ap, subst, arith}
+use Rattle.std.specs.Prelude.{nat_lt, cond, ◌==◌, ◌||◌}
 use Rattle.std.specs.Option.{unwrap_or}
 use Rattle.std.proofs.lemmas.Bool.{ltb-false}
 use Rattle.lock_text.specs.declared.words.Number.TheVariants.{Plus, Minus}
@@ -13,7 +13,6 @@ use Rattle.lock_text.specs.declared.lines.Line.TheVariants.{All as NotifyAll}
 use Rattle.lock_text.specs.declared.lines.Line.TheVariants.{Park, Unpark, Out, Let, Compute, If, Goto, Label, In, Assert, Fail, Do, Return}
 use Rattle.lock_code.specs.declared.instruction.Instruction.{Instruction}
 use Rattle.lock_code.specs.declared.instruction.Instruction.TheVariants as code
-use Rattle.lock_code.specs.declared.program.CodeLine.{CodeLine}
 use Rattle.lock_program.specs.declared.fault.Cause.{Cause}
 use Rattle.lock_program.specs.declared.fault.Cause.TheVariants.{Undeclared}
 use Rattle.lock_program.specs.declared.names.Names.{Names}
@@ -27,8 +26,8 @@ use Rattle.lock_program.specs.Parts.{number_of, some_of, length_of, fixed_of, st
 use Rattle.lock_program.specs.Parts.{counter_of, share_of}
 use Rattle.lock_program.specs.Statements.{ended_of, done_of, access_of, place_and_operand, two_of, seat_line, layer_line, access_line, statement_of}
 use Rattle.lock_program.specs.Meanings.{property_of, meant_of}
-use Rattle.lock_program.specs.Codes.{code_at, width, size_of, IsTargetWithin, JumpsByLabel}
-use Rattle.lock_program.specs.Limits.{cells_asked, lines_at, lines_asked, is_too_long, is_too_many}
+use Rattle.lock_program.specs.Codes.{width, size_of, IsTargetWithin, JumpsByLabel}
+use Rattle.lock_program.specs.Limits.{cells_asked, lines_at, lines_asked, is_too_many}
 use Rattle.lock_program.specs.declared.stage.Stage.{Stage}
 use Rattle.lock_program.specs.declared.stage.Stage.TheVariants as stage
 use Rattle.lock_program.specs.declared.stage.LineKind.{LineKind}

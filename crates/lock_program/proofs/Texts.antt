@@ -15,7 +15,7 @@ use Rattle.lock_program.specs.declared.draft.Draft.{Draft}
 use Rattle.lock_program.specs.declared.named_program.NamedProgram.{NamedProgram}
 use Rattle.lock_program.specs.Causes.{and_then, of_text}
 use Rattle.lock_program.specs.Drafts.{no_lines, next, finished}
-use Rattle.lock_program.specs.Text.{with_lines, IsProgramOf, IsRight, IsFault, IsReadable, IsFirstFault, IsFaultOf, IsReached}
+use Rattle.lock_program.specs.Text.{with_lines, IsProgramOf, IsRight, IsFault, IsFirstFault, IsFaultOf, IsReached}
 use Rattle.lock_program.specs.Answers.{IsOnlyRight, IsOnlyFault, Judges, FinishesBy, Finishes, IsReadFaultBy, IsReadFault}
 
 -- ---- causes exclude each other

@@ -1,5 +1,5 @@
 -- What keeps the reader's own numbers small, whatever the lines are.
-use Rattle.std.specs.Prelude.{⊤, ℕ, ◌+◌, ◌≤◌, List, length, Option}
+use Rattle.std.specs.Prelude.{⊤, ◌+◌, ◌≤◌, length}
 use Rattle.std.specs.Option.{unwrap_or}
 use Rattle.std.specs.List.{All}
 use Rattle.lock_program.specs.declared.draft.Draft.{Draft}

@@ -1,5 +1,5 @@
 -- What a line means, or which of the causes 5, 7 and 9 is the least that holds of its parts.
-use Rattle.std.specs.Prelude.{ℕ, ℤ, ◌-◌, List}
+use Rattle.std.specs.Prelude.{ℕ, ℤ, List}
 use Rattle.std.specs.Prelude.{Option, Some, None, Result, Ok, Err}
 use Rattle.lock_text.specs.declared.words.Operand.{Operand}
 use Rattle.lock_text.specs.declared.words.Place.{Place}

@@ -1,5 +1,5 @@
 -- Where a line may stand.
-use Rattle.std.specs.Prelude.{◌-◌, Bool, true, false}
+use Rattle.std.specs.Prelude.{Bool, true, false}
 use Rattle.lock_text.specs.declared.lines.Line.{Line}
 use Rattle.lock_text.specs.declared.lines.Line.TheVariants.{Blank, Const, Word, Counter, List as NotifyList}
 use Rattle.lock_text.specs.declared.lines.Line.TheVariants.{Registers, Section, Program, Seats, Most, Apart}

@@ -11,8 +11,6 @@ use Rattle.lock_code.specs.declared.instruction.Instruction.{Instruction}
 use Rattle.lock_code.specs.declared.instruction.Instruction.TheVariants as code
 use Rattle.lock_code.specs.declared.operand.Operand.{Operand as CodeOperand}
 use Rattle.lock_code.specs.declared.operand.Place.{Place as CodePlace}
-use Rattle.lock_lines.specs.declared.operator.Operator.{Operator}
-use Rattle.lock_lines.specs.declared.relation.Relation.{Relation}
 use Rattle.lock_program.specs.declared.fault.Cause.{Cause}
 use Rattle.lock_program.specs.declared.fault.Cause.TheVariants.{Place as Misplaced, Undeclared}
 use Rattle.lock_program.specs.declared.names.Names.{Names}

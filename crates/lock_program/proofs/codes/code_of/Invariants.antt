@@ -1,5 +1,5 @@
 use Rattle.std.proofs.Common.{◌≡◌, take, length}
-use Rattle.lock_program.specs.Codes.{code_of, code_from, size_of}
+use Rattle.lock_program.specs.Codes.{code_from, size_of}
 use Rattle.lock_program.proofs.codes.code_of.Given as goal
 
 -- what is put in so far, and how long it is

@@ -1,4 +1,4 @@
-use Rattle.std.proofs.Common.{◌+◌, List, sym, subst, arith}
+use Rattle.std.proofs.Common.{sym, subst, arith}
 use Rattle.std.proofs.lemmas.List.{nil_from_length}
 use Rattle.explorer_text.specs.Pieces.{Piece}
 use Rattle.lock_program.specs.declared.draft.Draft.{Draft}
