@@ -1,0 +1,4 @@
+mod Standing
+mod Calling
+pub mod Layers
+pub mod Alike

@@ -1,0 +1,11 @@
+pub mod Numbers
+pub mod World
+pub mod Reading
+pub mod InUse
+pub mod Going
+pub mod Calls
+pub mod Steps
+pub mod Bad
+pub mod WellFormed
+pub mod LayerLaw
+pub mod AlikeWorlds

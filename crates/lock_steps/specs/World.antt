@@ -1,0 +1,67 @@
+-- The world of a lock program: its words, the counters and lists of the sleeping layer, those who sleep on
+-- words, and of each seat where it stands, its registers and its sections.
+use Rattle.std.specs.Prelude.{ℕ, ℤ, pos, Bool, false, List, [], length, slice_index_or}
+use Rattle.lock_code.specs.declared.program.CodeLine.{CodeLine}
+use Rattle.lock_code.specs.declared.program.Program.{Program}
+use Rattle.lock_steps.specs.declared.cause.Cause.{Cause}
+use Rattle.step_table.specs.Core.{CoreLayout, Core, first_core}
+
+-- where a seat stands: before a line, in the call that this line has begun, asleep on a word there, behind
+-- the last line, or at a line where it failed
+pub data Stand : Type 0 where
+  Before : ℕ → Stand
+  Within : ℕ → Stand
+  Asleep : ℕ → Stand
+  Ended : Stand
+  FailedAt : ℕ → Cause → Stand
+
+pub record LockSeat : Type 0 where
+  pub stand : Stand
+  pub registers : ℕ → ℤ
+  pub sections : ℕ → Bool
+
+-- who sleeps, and on which word
+pub record Sleeper : Type 0 where
+  pub seat : ℕ
+  pub word : ℕ
+
+-- the grants are those of who sleeps on a word; the layer has its own. What a seat stands at in the layer is
+-- what the layer says of it
+pub record LockWorld : Type 0 where
+  pub words : ℕ → ℤ
+  pub layer : Core
+  pub sleepers : List Sleeper
+  pub grants : ℕ → ℕ
+  pub seats : ℕ → LockSeat
+
+-- the layer's counters have a root each
+abbrev pub layer_of : Program → CoreLayout
+layer_of p =
+    record {
+      seats = length p.seats;
+      counters = length p.counters;
+      lists = p.lists;
+      groups = 0;
+      root = λ c. c;
+      starts = λ c. slice_index_or p.counters c 0;
+      firsts = λ l. 0;
+    }
+
+-- the lines of the program that a seat runs
+abbrev pub code_of : Program → ℕ → List CodeLine
+code_of p i = slice_index_or p.codes (slice_index_or p.seats i 0) []
+
+-- before the first line, with all registers 0 and in no section
+abbrev pub new_seat : LockSeat
+new_seat = record { stand = Before 0; registers = λ r. pos 0; sections = λ s. false }
+
+-- nobody has gone on from its first line yet
+abbrev pub first_world : Program → LockWorld
+first_world p =
+    record {
+      words = λ w. slice_index_or p.words w (pos 0);
+      layer = first_core (layer_of p);
+      sleepers = [];
+      grants = λ i. 0;
+      seats = λ i. new_seat;
+    }

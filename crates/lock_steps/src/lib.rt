@@ -1,0 +1,11 @@
+//! The steps of a lock program, as definitions: what each line does to the words, to the sleeping layer and to who
+//! sleeps on words, where a seat goes on, and which worlds are bad. Nothing here runs.
+#![tactic(auto)]
+
+mod cause;
+mod laws;
+mod numbers;
+
+pub use cause::Cause;
+pub use laws::{law_of_the_alike_worlds, law_of_the_layers};
+pub use numbers::{compute, is_so};
