@@ -1,7 +1,4 @@
-//! The lines of a lock program: its own words, counters, lists, registers and sections, and what seats do
-//! with them.
-//!
-//! A machine stands on these types alone: names are numbers here, and jumps go to lines.
+//! How a lock program compares numbers, and makes one of two: types that its text and its steps share.
 #![tactic(auto)]
 
 mod operator;
