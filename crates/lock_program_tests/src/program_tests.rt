@@ -3,15 +3,370 @@
 use crate::given::read_twice;
 
 static LOCKS: [&str; 9] = [
-    "# A barrier that can be used again: two turnstiles (Downey, Little Book of Semaphores, 3.6).\nword count 0\ncounter mutex 1\ncounter turnstile 0\ncounter turnstile2 1\nregister n rounds\nsection before\nsection after\n\nprogram party\n  let rounds 2\nagain:\n  in before\n  out before\n  acquire mutex                   # 1: the last one opens the first turnstile\n  add count 1 n\n  if n != 2 goto in1\n  acquire turnstile2\n  release turnstile\nin1:\n  release mutex\n  acquire turnstile\n  release turnstile\n  in after\n  out after\n  acquire mutex                   # 2: the last one opens the second\n  add count -1 n\n  if n != 1 goto in2\n  acquire turnstile\n  release turnstile2\nin2:\n  release mutex\n  acquire turnstile2\n  release turnstile2\n  let rounds rounds - 1\n  if rounds > 0 goto again\n\nseats 3 party\napart before after\nfinally count == 0\n",
-    "# WRONG: the first attempt: nobody says that it is up, and a later waiter takes what was given to an earlier one\n# Birrell, \"Implementing Condition Variables with Semaphores\" (2003), from memory:\n# the second attempt. A signaller waits (h) until somebody it let go is up.\n# The client asks what a signal promises: it wakes one of those who wait by then.\nword waiters 0\nword ready 0\ncounter m 1                       # the lock of the caller\ncounter x 1                       # guards waiters\ncounter s 0                       # waiters sleep here\ncounter h 0                       # they tell the signaller that they are up\ncounter up 0                      # the client's own: the first waiter is back\nregister n\n\nprogram Wait\n  acquire x\n  add waiters 1\n  release x\n  release m\n  acquire s\n  acquire m\n\nprogram Signal\n  acquire x\n  load waiters n\n  if n == 0 goto none\n  add waiters -1\n  release s\nnone:\n  release x\n\nprogram Broadcast\n  acquire x\n  load waiters n\ngive:\n  if n == 0 goto given\n  release s\n  let n n - 1\n  goto give\ngiven:\n  store waiters 0\n  release x\n\nprogram early                     # waits first\n  acquire m\n  store ready 1\n  do Wait\n  release m\n  release up\n\nprogram signaller                 # signals while only early waits\n  await ready == 1\n  acquire m\n  do Signal\n  store ready 2\n  release m\n\nprogram late                      # waits after the signal, which is none for it\n  await ready >= 2\n  acquire m\n  add ready 1\n  do Wait\n  release m\n\nprogram closer                    # wakes late, once early is back\n  acquire up\n  await ready == 4\n  acquire m\n  do Broadcast\n  release m\n\nseats 1 early\nseats 1 signaller\nseats 2 late\nseats 1 closer\nfinally waiters == 0\nfinally s == 0\nfinally h == 0\n",
-    "# Drepper, \"Futexes are tricky\" (2004), mutex 2: 0 free, 1 held, 2 held and somebody may sleep.\nword val 0\nregister c d\nsection held\nprogram lock\n  exchange val 0 1 c\n  if c == 0 goto done\nagain:\n  if c == 2 goto sleep\n  exchange val 1 2 d\n  if d == 0 goto retry\nsleep:\n  park val 2\nretry:\n  exchange val 0 2 c\n  if c != 0 goto again\ndone:\nprogram unlock\n  add val -1 c\n  if c == 1 goto done\n  store val 0\n  unpark val 1\ndone:\nprogram user\nagain:\n  do lock\n  in held\n  out held\n  do unlock\n  goto again\nseats 3 user\nmost held 1\n",
-    "# Go 1.19, src/sync/cond.go: a queue of two units, each put in by one seat and taken by another.\nword items 0\ncounter m 1\nlist c\nregister n\n\nprogram Wait\n  ticket c\n  release m\n  wait c\n  acquire m\n\nprogram taker\n  acquire m\nlook:\n  load items n\n  if n > 0 goto take\n  do Wait\n  goto look\ntake:\n  add items -1\n  release m\n\nprogram giver\n  acquire m\n  add items 1\n  one c\n  release m\n\nseats 2 taker\nseats 2 giver\nfinally items == 0\n",
-    "# Go 1.19, src/runtime/lock_futex.go: lock2 and unlock2, each spin being one look.\nconst sleeping 2\nword key 0\nregister v wait got\nsection held\nprogram lock\n  swap key 1 v\n  if v == 0 goto done\n  let wait v\nagain:\n  load key v\n  if v != 0 goto sleep\n  exchange key 0 wait got\n  if got == 0 goto done\nsleep:\n  swap key sleeping v\n  if v == 0 goto done\n  let wait sleeping\n  park key sleeping\n  goto again\ndone:\nprogram unlock\n  swap key 0 v\n  assert v != 0                   # \"unlock of unlocked lock\"\n  if v != sleeping goto done\n  unpark key 1\ndone:\nprogram user\n  do lock\n  in held\n  out held\n  do unlock\nseats 4 user\nmost held 1\nfinally key == 0\n",
-    "# Go 1.19, src/sync/once.go: the mutex o.m is a semaphore, f is the section f and the word made.\nword done 0\nword made 0\ncounter m 1\nregister d x\nsection f\n\nprogram caller\n  load done d\n  if d != 0 goto back\n  acquire m\n  load done d                     # the second look\n  if d != 0 goto unlock\n  in f\n  add made 1\n  out f\n  store done 1\nunlock:\n  release m\nback:\n  load made x                     # who is back finds f done, once\n  assert x == 1\n\nseats 3 caller\nmost f 1\nfinally made == 1\nfinally m == 1\n",
-    "# The queue lock of Mellor-Crummey and Scott (1991). A node is named by its seat and 1, 0 is none.\nword tail 0\nword next[4] 0\nword blocked[4] 0\nregister self pred n got turns\nsection held\n\nprogram user\n  let turns 2\nagain:\n  let self me + 1\n  store next[me] 0\n  swap tail self pred\n  if pred == 0 goto enter\n  store blocked[me] 1\n  let pred pred - 1\n  store next[pred] self\n  await blocked[me] == 0\nenter:\n  in held\n  out held\n  load next[me] n\n  if n != 0 goto pass\n  exchange tail self 0 got\n  if got == self goto left\n  await next[me] != 0 n           # somebody swapped the tail and hasn't linked yet\npass:\n  let n n - 1\n  store blocked[n] 0\nleft:\n  let turns turns - 1\n  if turns > 0 goto again\n\nseats 3 user\nmost held 1\nfinally tail == 0\n",
-    "# Readers and writers that don't starve (Downey, Little Book of Semaphores, 4.2.3).\nword readers 0\ncounter turnstile 1\ncounter mutex 1\ncounter roomEmpty 1\nregister n\nsection reading\nsection writing\n\nprogram reader\n  acquire turnstile\n  release turnstile\n  acquire mutex\n  add readers 1 n\n  if n != 0 goto enter\n  acquire roomEmpty\nenter:\n  release mutex\n  in reading\n  out reading\n  acquire mutex\n  add readers -1 n\n  if n != 1 goto leave\n  release roomEmpty\nleave:\n  release mutex\n\nprogram writer\n  acquire turnstile\n  acquire roomEmpty\n  in writing\n  out writing\n  release turnstile\n  release roomEmpty\n\nseats 2 reader\nseats 2 writer\nmost writing 1\napart reading writing\nfinally readers == 0\n",
-    "# A sequence lock: a reader that saw an even number twice has seen a whole write.\nword seq 0\nword a 0\nword b 0\nregister s t x y\nprogram writer\n  add seq 1\n  add a 1\n  add b 1\n  add seq 1\n  add seq 1\n  add a 1\n  add b 1\n  add seq 1\nprogram reader\nagain:\n  load seq s\n  let t s & 1\n  if t != 0 goto again\n  load a x\n  load b y\n  load seq t\n  if t != s goto again\n  assert x == y\nseats 1 writer\nseats 3 reader\nfinally seq == 4\n",
+    "\
+# A barrier that can be used again: two turnstiles (Downey, Little Book of Semaphores, 3.6).
+word count 0
+counter mutex 1
+counter turnstile 0
+counter turnstile2 1
+register n rounds
+section before
+section after
+
+program party
+  let rounds 2
+again:
+  in before
+  out before
+  acquire mutex                   # 1: the last one opens the first turnstile
+  add count 1 n
+  if n != 2 goto in1
+  acquire turnstile2
+  release turnstile
+in1:
+  release mutex
+  acquire turnstile
+  release turnstile
+  in after
+  out after
+  acquire mutex                   # 2: the last one opens the second
+  add count -1 n
+  if n != 1 goto in2
+  acquire turnstile
+  release turnstile2
+in2:
+  release mutex
+  acquire turnstile2
+  release turnstile2
+  let rounds rounds - 1
+  if rounds > 0 goto again
+
+seats 3 party
+apart before after
+finally count == 0
+",
+    "\
+# WRONG: the first attempt: nobody says that it is up, and a later waiter takes what was given to an earlier one
+# Birrell, \"Implementing Condition Variables with Semaphores\" (2003), from memory:
+# the second attempt. A signaller waits (h) until somebody it let go is up.
+# The client asks what a signal promises: it wakes one of those who wait by then.
+word waiters 0
+word ready 0
+counter m 1                       # the lock of the caller
+counter x 1                       # guards waiters
+counter s 0                       # waiters sleep here
+counter h 0                       # they tell the signaller that they are up
+counter up 0                      # the client's own: the first waiter is back
+register n
+
+program Wait
+  acquire x
+  add waiters 1
+  release x
+  release m
+  acquire s
+  acquire m
+
+program Signal
+  acquire x
+  load waiters n
+  if n == 0 goto none
+  add waiters -1
+  release s
+none:
+  release x
+
+program Broadcast
+  acquire x
+  load waiters n
+give:
+  if n == 0 goto given
+  release s
+  let n n - 1
+  goto give
+given:
+  store waiters 0
+  release x
+
+program early                     # waits first
+  acquire m
+  store ready 1
+  do Wait
+  release m
+  release up
+
+program signaller                 # signals while only early waits
+  await ready == 1
+  acquire m
+  do Signal
+  store ready 2
+  release m
+
+program late                      # waits after the signal, which is none for it
+  await ready >= 2
+  acquire m
+  add ready 1
+  do Wait
+  release m
+
+program closer                    # wakes late, once early is back
+  acquire up
+  await ready == 4
+  acquire m
+  do Broadcast
+  release m
+
+seats 1 early
+seats 1 signaller
+seats 2 late
+seats 1 closer
+finally waiters == 0
+finally s == 0
+finally h == 0
+",
+    "\
+# Drepper, \"Futexes are tricky\" (2004), mutex 2: 0 free, 1 held, 2 held and somebody may sleep.
+word val 0
+register c d
+section held
+program lock
+  exchange val 0 1 c
+  if c == 0 goto done
+again:
+  if c == 2 goto sleep
+  exchange val 1 2 d
+  if d == 0 goto retry
+sleep:
+  park val 2
+retry:
+  exchange val 0 2 c
+  if c != 0 goto again
+done:
+program unlock
+  add val -1 c
+  if c == 1 goto done
+  store val 0
+  unpark val 1
+done:
+program user
+again:
+  do lock
+  in held
+  out held
+  do unlock
+  goto again
+seats 3 user
+most held 1
+",
+    "\
+# Go 1.19, src/sync/cond.go: a queue of two units, each put in by one seat and taken by another.
+word items 0
+counter m 1
+list c
+register n
+
+program Wait
+  ticket c
+  release m
+  wait c
+  acquire m
+
+program taker
+  acquire m
+look:
+  load items n
+  if n > 0 goto take
+  do Wait
+  goto look
+take:
+  add items -1
+  release m
+
+program giver
+  acquire m
+  add items 1
+  one c
+  release m
+
+seats 2 taker
+seats 2 giver
+finally items == 0
+",
+    "\
+# Go 1.19, src/runtime/lock_futex.go: lock2 and unlock2, each spin being one look.
+const sleeping 2
+word key 0
+register v wait got
+section held
+program lock
+  swap key 1 v
+  if v == 0 goto done
+  let wait v
+again:
+  load key v
+  if v != 0 goto sleep
+  exchange key 0 wait got
+  if got == 0 goto done
+sleep:
+  swap key sleeping v
+  if v == 0 goto done
+  let wait sleeping
+  park key sleeping
+  goto again
+done:
+program unlock
+  swap key 0 v
+  assert v != 0                   # \"unlock of unlocked lock\"
+  if v != sleeping goto done
+  unpark key 1
+done:
+program user
+  do lock
+  in held
+  out held
+  do unlock
+seats 4 user
+most held 1
+finally key == 0
+",
+    "\
+# Go 1.19, src/sync/once.go: the mutex o.m is a semaphore, f is the section f and the word made.
+word done 0
+word made 0
+counter m 1
+register d x
+section f
+
+program caller
+  load done d
+  if d != 0 goto back
+  acquire m
+  load done d                     # the second look
+  if d != 0 goto unlock
+  in f
+  add made 1
+  out f
+  store done 1
+unlock:
+  release m
+back:
+  load made x                     # who is back finds f done, once
+  assert x == 1
+
+seats 3 caller
+most f 1
+finally made == 1
+finally m == 1
+",
+    "\
+# The queue lock of Mellor-Crummey and Scott (1991). A node is named by its seat and 1, 0 is none.
+word tail 0
+word next[4] 0
+word blocked[4] 0
+register self pred n got turns
+section held
+
+program user
+  let turns 2
+again:
+  let self me + 1
+  store next[me] 0
+  swap tail self pred
+  if pred == 0 goto enter
+  store blocked[me] 1
+  let pred pred - 1
+  store next[pred] self
+  await blocked[me] == 0
+enter:
+  in held
+  out held
+  load next[me] n
+  if n != 0 goto pass
+  exchange tail self 0 got
+  if got == self goto left
+  await next[me] != 0 n           # somebody swapped the tail and hasn't linked yet
+pass:
+  let n n - 1
+  store blocked[n] 0
+left:
+  let turns turns - 1
+  if turns > 0 goto again
+
+seats 3 user
+most held 1
+finally tail == 0
+",
+    "\
+# Readers and writers that don't starve (Downey, Little Book of Semaphores, 4.2.3).
+word readers 0
+counter turnstile 1
+counter mutex 1
+counter roomEmpty 1
+register n
+section reading
+section writing
+
+program reader
+  acquire turnstile
+  release turnstile
+  acquire mutex
+  add readers 1 n
+  if n != 0 goto enter
+  acquire roomEmpty
+enter:
+  release mutex
+  in reading
+  out reading
+  acquire mutex
+  add readers -1 n
+  if n != 1 goto leave
+  release roomEmpty
+leave:
+  release mutex
+
+program writer
+  acquire turnstile
+  acquire roomEmpty
+  in writing
+  out writing
+  release turnstile
+  release roomEmpty
+
+seats 2 reader
+seats 2 writer
+most writing 1
+apart reading writing
+finally readers == 0
+",
+    "\
+# A sequence lock: a reader that saw an even number twice has seen a whole write.
+word seq 0
+word a 0
+word b 0
+register s t x y
+program writer
+  add seq 1
+  add a 1
+  add b 1
+  add seq 1
+  add seq 1
+  add a 1
+  add b 1
+  add seq 1
+program reader
+again:
+  load seq s
+  let t s & 1
+  if t != 0 goto again
+  load a x
+  load b y
+  load seq t
+  if t != s goto again
+  assert x == y
+seats 1 writer
+seats 3 reader
+finally seq == 4
+",
 ];
 
 #[test]

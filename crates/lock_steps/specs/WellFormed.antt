@@ -1,6 +1,7 @@
--- What a program keeps that was read: its lines name words, counters, lists, registers, sections and lines that are
--- there.
-use Rattle.std.specs.Prelude.{◌≡◌, ℕ, ◌+◌, ◌<◌, ◌≤◌, List, [], length, slice_get, slice_index_or, Option, Some, IfSome, ⊤}
+-- What a program keeps that was read: its lines name words, counters, lists, registers, sections and lines
+-- that are there.
+use Rattle.std.specs.Prelude.{◌≡◌, ℕ, ◌+◌, ◌<◌, ◌≤◌, List, [], length, slice_get, slice_index_or, Option}
+use Rattle.std.specs.Prelude.{Some, IfSome, ⊤}
 use Rattle.lock_code.specs.declared.instruction.Instruction.{Instruction}
 use Rattle.lock_code.specs.declared.instruction.Instruction.TheVariants as line
 use Rattle.lock_code.specs.declared.operand.Operand.{Operand}

@@ -1,5 +1,5 @@
-//! The steps of a lock program, as definitions: what each line does to the words, to the sleeping layer and to who
-//! sleeps on words, where a seat goes on, and which worlds are bad. Nothing here runs.
+//! The steps of a lock program, as definitions: what each line does to the words, to the sleeping layer and
+//! to who sleeps on words, where a seat goes on, and which worlds are bad. Nothing here runs.
 #![tactic(auto)]
 
 mod cause;

@@ -5,8 +5,8 @@ ghost use Rattle.lock_steps.specs.Numbers.{computed, holds, shift};
 
 use lock_lines::{Operator, Relation};
 
-/// What the operator makes of the two, modulo 2^64. A shift goes as far as its second number says modulo 64, and one
-/// down keeps the sign.
+/// What the operator makes of the two, modulo 2^64. A shift goes as far as its second number says modulo 64,
+/// and one down keeps the sign.
 pub fn compute(operator: Operator, first: i64, second: i64) -> i64
     ensures { result ≡ computed operator first second }
 {
