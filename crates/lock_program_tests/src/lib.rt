@@ -9,4 +9,8 @@ mod fault_tests;
 #[cfg(test)]
 mod given;
 #[cfg(test)]
+mod layer_locks;
+#[cfg(test)]
 mod program_tests;
+#[cfg(test)]
+mod word_locks;
