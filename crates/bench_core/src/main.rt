@@ -1,4 +1,4 @@
-//! What the parts cost, in nanoseconds an operation: `bench CASE SIZE..` prints a line for each size.
+//! What the parts cost, in nanoseconds an operation: `bench_core CASE SIZE..` prints a line for each size.
 //!
 //! `treap` and `sorted` take a wait out of a root at a counter drawn at random, and queue it there again; the
 //! size is how many counters have a wait, from 1 to 65535. `explore NAME..` searches scenarios of the folder
@@ -52,7 +52,7 @@ fn tell_search(rt: &(impl Clock + Print), alloc: Global, name: &str, text: &str)
 fn main(rt: HostRuntime) -> Result<()> {
     let mut words = env::args(&rt)?.skip(1);
     let Some(case) = words.next() else {
-        println!(rt; "usage: bench treap|sorted COUNTERS.. or bench explore NAMES..")?;
+        println!(rt; "usage: bench_core treap|sorted COUNTERS.. or bench_core explore NAMES..")?;
         return Ok(());
     };
     for word in words {
