@@ -29,6 +29,7 @@ fn two_tickets<R: Abort + Wait>(
     grants(rt, list, &mut third, Some(first));
     grants(rt, list, &mut third, Some(second));
     grants(rt, list, &mut third, None);
+    holds(rt, list.all(rt, &mut third) == 0);
     let holding = waits_at_once(rt, list, holding);
     let other = waits_at_once(rt, list, other);
     gives_back(rt, list, seats, holding);

@@ -24,19 +24,6 @@ fn plays<R: Abort + Threads + Wait + Sync>(
     Ok(())
 }
 
-/// The same, so many times.
-fn plays_on<R: Abort + Threads + Wait + Sync>(
-    rt: &R,
-    alloc: Global,
-    row: &Row,
-) -> Result<(), NoMemory> {
-    let (play, rounds, least, most) = *row;
-    for _ in 0..rounds {
-        plays(rt, alloc, play, least, most)?;
-    }
-    Ok(())
-}
-
 /// A play, how often it is played, and how often the lock is locked at least and at most.
 type Row = (Play, u32, u64, u64);
 
@@ -56,8 +43,14 @@ static PLAYS: [Row; 6] = [
 
 #[test]
 fn who_waits_is_woken(rt: HostRuntime) -> Result<(), Fail> {
-    for row in &PLAYS {
-        plays_on(&rt, rt.alloc(), row)?;
+    // round after round, so that the first allocations are those of each play
+    for round in 0..100 {
+        for row in &PLAYS {
+            let (play, rounds, least, most) = *row;
+            if round < rounds {
+                plays(&rt, rt.alloc(), play, least, most)?;
+            }
+        }
     }
     Ok(())
 }

@@ -80,19 +80,6 @@ fn play<R: Abort + Threads + Wait + Sync>(
     Ok(())
 }
 
-/// The same, so many times.
-fn play_on<R: Abort + Threads + Wait + Sync>(
-    rt: &R,
-    alloc: Global,
-    scene: Scene,
-    rounds: u32,
-) -> Result<(), SetupError> {
-    for _ in 0..rounds {
-        play(rt, alloc, scene)?;
-    }
-    Ok(())
-}
-
 /// Scenes, and how often each is played.
 static SCENES: [(Scene, u32); 4] = [
     (Scene::Race, 500),
@@ -103,9 +90,14 @@ static SCENES: [(Scene, u32); 4] = [
 
 #[test]
 fn scenes_end_as_known(rt: HostRuntime) -> Result<(), Fail> {
-    for row in &SCENES {
-        let (scene, rounds) = *row;
-        play_on(&rt, rt.alloc(), scene, rounds)?;
+    // round after round, so that the first allocations are those of each scene
+    for round in 0..500 {
+        for row in &SCENES {
+            let (scene, rounds) = *row;
+            if round < rounds {
+                play(&rt, rt.alloc(), scene)?;
+            }
+        }
     }
     Ok(())
 }

@@ -3,10 +3,12 @@
 ghost use Rattle.std.specs.Prelude.{◌≡◌, true, false};
 ghost use Rattle.notify_list.specs.Tickets.{HasTicket};
 
+use crate::tables::given::{last_seat, made, one_counter};
 use std::process::Abort;
 use std::sync::Wait;
 use std::test::Fail;
-use sync_parts::{Cond, Holding, ListSeat, Locker, LockerCall, Waited};
+use sync_parts::{Cond, Holding, ListSeat, Locker, LockerCall, SemaLock, Waited};
+use waiters::CounterId;
 
 /// It has a seat of the condition variable that waits on it.
 #[derive(Drop)]
@@ -95,5 +97,31 @@ fn a_locker_signals_as_it_is_unlocked(rt: HostRuntime) -> Result<(), Fail> {
     let second = seats.pop().expect(&rt, "a seat");
     let first = seats.pop().expect(&rt, "a seat");
     waits(&rt, &cond, first, second, calls);
+    Ok(())
+}
+
+/// The lock over a counter is a locker too.
+fn locks_and_unlocks<R: Abort + Wait>(rt: &R, lock: &mut SemaLock<'_>, own: &ListSeat) {
+    assert!(rt; !lock.held());
+    lock.lock(rt, own);
+    assert!(rt; lock.held() && lock.left() > 0);
+    lock.release(rt);
+    assert!(rt; !lock.held() && lock.left() == 9);
+}
+
+#[test]
+fn a_lock_over_a_counter_is_a_locker(rt: HostRuntime) -> Result<(), Fail> {
+    let (_cond, mut owns) = match Cond::with_seats(rt.alloc(), 1) {
+        Ok(made) => made,
+        Err(_refused) => Cond::with_seats(rt.alloc(), 1)?,
+    };
+    let own = owns.pop().expect(&rt, "a seat");
+    let (table, mut seats) = made(&rt, rt.alloc(), &one_counter(1, 1));
+    let seat = last_seat(&rt, &table, &mut seats);
+    assert!(rt; 0 < table.counters());
+    let mut lock = SemaLock::over(&table, seat, CounterId::new(0));
+    locks_and_unlocks(&rt, &mut lock, &own);
+    assert!(rt; !lock.held());
+    assert!(rt; lock.into_seat().taken() == 1);
     Ok(())
 }

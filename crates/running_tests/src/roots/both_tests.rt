@@ -165,6 +165,16 @@ fn places(rt: &impl Abort, root: &mut TreapRoot) {
     root.dequeue(counter(3));
     holds(rt, root.place(counter(7)) == None);
     has_counters(rt, root, &[5, 9]);
+    goes_empty(rt, root);
+}
+
+/// A treap whose waits have all gone has no top, and the next counter stands alone.
+fn goes_empty(rt: &impl Abort, root: &mut TreapRoot) {
+    root.dequeue(counter(9));
+    root.dequeue(counter(5));
+    is_on_top(rt, root, None);
+    queue(root, 7, 2, false);
+    holds(rt, stands_alone(root, counter(7)));
 }
 
 #[test]

@@ -157,11 +157,15 @@ fn has_room(rt: &impl Abort, lists: &Lists, waits: usize, more: usize) {
     holds(rt, lists.list_room() == more);
 }
 
-/// Waits come in at both ends, and one is taken out by its ticket.
-const TAKES: [Row; 6] = [
+/// Waits come in at both ends.
+const COMES_IN: [Row; 3] = [
     Row(Call::PushBack(0, 5), None, 1, 2),
     Row(Call::PushBack(1, 7), None, 2, 1),
     Row(Call::PushFront(2, 5), None, 3, 0),
+];
+
+/// One is taken out by its ticket.
+const TAKES: [Row; 3] = [
     Row(Call::TakeTicket(5), Some((2, 5)), 2, 1),
     Row(Call::TakeTicket(9), None, 2, 1),
     Row(Call::First, Some((0, 5)), 2, 1),
@@ -180,6 +184,8 @@ fn answers(rt: &impl Abort, alloc: Global, lists: &mut Lists) {
     let key = open(rt, lists);
     holds(rt, lists.is_open(key));
     has_room(rt, lists, 3, 1);
+    answers_as_written(rt, lists, key, &COMES_IN);
+    holds(rt, has_seats(lists, key, [SeatId::new(2), SeatId::new(0)]));
     answers_as_written(rt, lists, key, &TAKES);
     holds(rt, first_seat(lists, key) == (1, SeatId::new(0)));
     holds(rt, has_seats(lists, key, [SeatId::new(0), SeatId::new(1)]));

@@ -3,8 +3,9 @@
 ghost use Rattle.std.specs.Prelude.{◌≡◌, All};
 
 use crate::tables::given::{Sizes, closes, gives_back, holds, last_seat, made, one_counter, wait};
+use crate::tables::many_tests::{posts_many, releases_many};
 use crate::tables::seats::{
-    FIFO, PLAIN, acquires, is_woken, posts, releases, retries, sleeps, tries,
+    FIFO, LIFO, PLAIN, acquires, is_woken, posts, releases, retries, sleeps, tries,
 };
 use sema_table::{Closed, Seat, SemaTable, Tried, Wake};
 use std::process::Abort;
@@ -90,4 +91,25 @@ fn nobody_waits_in_a_closed_table(rt: HostRuntime) {
     let closed = closes(&rt, table, seats);
     adds_up(&rt, &closed, 2, 2);
     ends_at(&rt, &closed, 0, 0);
+}
+
+/// Five units are added by two calls, of which one is taken.
+fn adds_at_once<R: Abort + Wait>(rt: &R, table: &SemaTable, seats: &mut Vec<Seat>)
+    requires { All (λ s. s.table ≡ table.now) seats.old.items }
+    ensures { All (λ s. s.table ≡ table.now) seats.new.items }
+{
+    let seat = last_seat(rt, table, seats);
+    let seat = posts_many(rt, table, seat, 2);
+    let seat = releases_many(rt, table, seat, 3, 0);
+    let seat = acquires(rt, table, seat, 0, LIFO);
+    gives_back(rt, table, seats, seat);
+}
+
+#[test]
+fn units_that_were_added_at_once_add_up(rt: HostRuntime) {
+    let (table, mut seats) = made(&rt, rt.alloc(), &one_counter(0, 2));
+    adds_at_once(&rt, &table, &mut seats);
+    let closed = closes(&rt, table, seats);
+    adds_up(&rt, &closed, 5, 1);
+    ends_at(&rt, &closed, 0, 4);
 }

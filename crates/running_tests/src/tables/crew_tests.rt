@@ -93,23 +93,6 @@ fn comes_to<R: Abort + Threads + Wait + Sync>(
 
 /// What is done, how many units are added and how many given, and the last numbers of these counters.
 static PLANS: [(Plan, (u64, u64), &[(u32, u64)]); 7] = [
-    // two threads add, and no unit is lost
-    (
-        Plan {
-            sizes: Sizes {
-                counters: 1,
-                start: 0,
-                seats: 2,
-                roots: 251,
-                release_limit: 1_000,
-            },
-            units: 0,
-            work: Work::Adds,
-            turns: 1_000,
-        },
-        (2_000, 0),
-        &[(0, 2_000)],
-    ),
     // a unit goes back and forth over two counters of one root: in order, with lifo and with handoff
     (
         Plan {
@@ -161,7 +144,7 @@ static PLANS: [(Plan, (u64, u64), &[(u32, u64)]); 7] = [
         (40_002, 40_000),
         &[(0, 2), (1, 0)],
     ),
-    // four threads lock three counters, and ten lock one: nobody is lost
+    // four threads lock three counters: nobody is lost
     (
         Plan {
             sizes: Sizes {
@@ -178,6 +161,24 @@ static PLANS: [(Plan, (u64, u64), &[(u32, u64)]); 7] = [
         (20_000, 20_000),
         &[(0, 1), (1, 1), (2, 1)],
     ),
+    // two threads add, and no unit is lost
+    (
+        Plan {
+            sizes: Sizes {
+                counters: 1,
+                start: 0,
+                seats: 2,
+                roots: 251,
+                release_limit: 1_000,
+            },
+            units: 0,
+            work: Work::Adds,
+            turns: 1_000,
+        },
+        (2_000, 0),
+        &[(0, 2_000)],
+    ),
+    // ten lock one
     (
         Plan {
             sizes: Sizes {

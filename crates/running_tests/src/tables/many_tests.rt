@@ -11,7 +11,7 @@ use std::process::Abort;
 use std::sync::Wait;
 
 /// The seat adds units, and nobody waits at the root.
-fn posts_many(rt: &impl Abort, table: &SemaTable, seat: Seat, units: u32) -> Seat
+pub(crate) fn posts_many(rt: &impl Abort, table: &SemaTable, seat: Seat, units: u32) -> Seat
     requires seat { seat.table ≡ table.now }
     requires units { (1 ≤ units) × (units ≤ 256) }
     ensures { result.table ≡ table.now }
@@ -60,7 +60,7 @@ fn wakes_some<R: Abort + Wait>(rt: &R, table: &SemaTable, owing: OwingMany, expe
 }
 
 /// A whole release of many units, and how many waits it wakes.
-fn releases_many<R: Abort + Wait>(
+pub(crate) fn releases_many<R: Abort + Wait>(
     rt: &R,
     table: &SemaTable,
     seat: Seat,

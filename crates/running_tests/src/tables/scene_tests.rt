@@ -7,7 +7,7 @@ ghost use Rattle.std.specs.Prelude.{◌≡◌, All};
 use crate::tables::counter_tests::{
     spins_and_takes, spins_and_takes_nothing, takes_two, tries_at_zero,
 };
-use crate::tables::given::{made, one_counter};
+use crate::tables::given::{Sizes, made, one_counter};
 use crate::tables::many_tests::{
     posts_all_at_once, releases_all_at_once, three_sleep, wakes_the_only_one,
     wakes_the_only_one_at_once,
@@ -103,10 +103,14 @@ static SCENES: [(Scene, u32, u32); 16] = [
 ];
 
 #[test]
-fn scenes_end_as_known(rt: HostRuntime) {
+fn scenes_of_a_table_end_as_known(rt: HostRuntime) {
     for row in &SCENES {
         let (scene, start, count) = *row;
-        let (table, seats) = made(&rt, rt.alloc(), &one_counter(start, count));
+        let sizes = Sizes {
+            roots: 1,
+            ..one_counter(start, count)
+        };
+        let (table, seats) = made(&rt, rt.alloc(), &sizes);
         scene.plays(&rt, &table, seats);
     }
 }
