@@ -8,7 +8,8 @@ use Rattle.lock_code.specs.declared.instruction.Instruction.TheVariants as line
 use Rattle.lock_code.specs.declared.program.CodeLine.{CodeLine}
 use Rattle.lock_code.specs.declared.program.Program.{Program}
 use Rattle.lock_steps.specs.declared.cause.Cause.{Cause}
-use Rattle.lock_steps.specs.Numbers.{holds, is_equal}
+use Rattle.lock_steps.specs.Numbers.{holds}
+use Rattle.std.specs.Ordering.{int_eq}
 use Rattle.lock_steps.specs.World.{LockWorld, LockSeat, Stand, Before, Within, Asleep, Ended, FailedAt, layer_of, code_of}
 use Rattle.lock_steps.specs.Reading.{value, place_of}
 use Rattle.lock_steps.specs.Calls.{call_of}
@@ -96,7 +97,7 @@ module _ (p : Program) where
         sym (ap (λ (d : Did). d.world.layer) so.1)) is
     line_same n (line.Park w e) did is =
         on_word_same (place_of i (s.seats i).registers w) _ did
-        (λ k here. either (is_equal (s.words k) (value i (s.seats i).registers e)) _ _ did refl refl here) is
+        (λ k here. either (int_eq (s.words k) (value i (s.seats i).registers e)) _ _ did refl refl here) is
     line_same n (line.Unpark w e) did is = on_word_same (place_of i (s.seats i).registers w) _ did (λ w e. told _ did refl e) is
     line_same n (line.Out k) did is = told _ did refl is
     line_same n (line.Acquire c lifo) did is = absurd (none-some did is)

@@ -1,5 +1,6 @@
 -- What an operator makes of two signed numbers of 64 bits, and how they are compared.
-use Rattle.std.specs.Prelude.{ℤ, ℕ, Bool, not, ◌&&◌, ◌%◌, int_lt, int_le}
+use Rattle.std.specs.Prelude.{ℤ, ℕ, Bool, not, ◌%◌, int_lt, int_le}
+use Rattle.std.specs.Ordering.{int_eq}
 use Rattle.std.specs.Int.{w64, cast_unsigned, int_wrapping_add, int_wrapping_sub}
 use Rattle.std.specs.Int.{int_bit_and, int_bit_or, int_bit_xor, int_shl, int_shr}
 use Rattle.lock_lines.specs.declared.operator.Operator.{Operator}
@@ -23,13 +24,10 @@ computed ExclusiveOr a b = int_bit_xor w64 a b
 computed ShiftLeft a b = int_shl w64 a (shift b)
 computed ShiftRight a b = int_shr a (shift b)
 
-abbrev pub is_equal : ℤ → ℤ → Bool
-is_equal a b = int_le a b && int_le b a
-
 -- whether the two are so
 abbrev pub holds : Relation → ℤ → ℤ → Bool
-holds Equal a b = is_equal a b
-holds Unequal a b = not (is_equal a b)
+holds Equal a b = int_eq a b
+holds Unequal a b = not (int_eq a b)
 holds Less a b = int_lt a b
 holds AtMost a b = int_le a b
 holds Greater a b = int_lt b a

@@ -10,7 +10,8 @@ use Rattle.lock_code.specs.declared.program.CodeLine.{CodeLine}
 use Rattle.lock_code.specs.declared.program.Program.{Program}
 use Rattle.lock_steps.specs.declared.cause.Cause.{Cause}
 use Rattle.lock_steps.specs.declared.cause.Cause.TheVariants.{Index}
-use Rattle.lock_steps.specs.Numbers.{holds, is_equal}
+use Rattle.lock_steps.specs.Numbers.{holds}
+use Rattle.std.specs.Ordering.{int_eq}
 use Rattle.lock_steps.specs.World.{LockWorld, LockSeat, Sleeper, Stand, Before, Within, Asleep, Ended}
 use Rattle.lock_steps.specs.World.{FailedAt}
 use Rattle.lock_steps.specs.World.{layer_of, code_of, first_world, new_seat}
@@ -97,7 +98,7 @@ row_of_line s i n (line.Exchange w e f r) =
     let seat : LockSeat = s.seats i in
     on_word s (place_of i seat.registers w)
     (λ w. Some (reading s i r w
-    (cond (is_equal (s.words w) (value i seat.registers e)) (value i seat.registers f) (s.words w))))
+    (cond (int_eq (s.words w) (value i seat.registers e)) (value i seat.registers f) (s.words w))))
 row_of_line s i n (line.Await w rel e r) =
     let seat : LockSeat = s.seats i in
     on_word s (place_of i seat.registers w)
@@ -106,7 +107,7 @@ row_of_line s i n (line.Await w rel e r) =
 row_of_line s i n (line.Park w e) =
     let seat : LockSeat = s.seats i in
     on_word s (place_of i seat.registers w)
-    (λ w. cond (is_equal (s.words w) (value i seat.registers e))
+    (λ w. cond (int_eq (s.words w) (value i seat.registers e))
     (Some (record {
       world = record s { sleepers = s.sleepers ++ (record { seat = i; word = w }) ∷ [] };
       next = Stands (Asleep n);
