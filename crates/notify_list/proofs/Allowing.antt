@@ -21,7 +21,7 @@ use Rattle.step_table.specs.ListSteps.{event_of, finds}
 use Rattle.step_table.specs.Path.{runs}
 use Rattle.step_law_lists.specs.ListLawful.{holds}
 use Rattle.step_law_lists.proofs.ListAccounts.{the_list_accounts}
-use Rattle.running_rows.specs.Strides.{Went, RanRow, Took, Changed, here, grants, becomes}
+use Rattle.running_rows.specs.Strides.{Went, RanRow, Took, Changed, here, runs_grant, becomes}
 use Rattle.running_rows.specs.Strides as strides
 use Rattle.running_rows.specs.Owing.{Stands, Leads, Owes}
 use Rattle.running_rows.proofs.Telling.{went_from, owes_own, stays_so, tells_more}
@@ -131,8 +131,8 @@ module _ (k : Setting) (m : Me) (i : ℕ) (a : ListSeat) (is : m.0.own.knows.sig
 
   -- a store of a grant
   pub grants_at : (word : ListWord) (x : ℕ) (next : ListNext) → ((g : ListWords) → list_table m.0.own.number a g ≡ store word x next) → address word ≡ i
-      → IsThere m.0.own.knows.setting word → i ≢ 2 → Owes list_rows k m i (λ n. x) (λ n t. grants list_rows (step 0 i x 0 none) m x t)
-  grants_at word x next row lies there ne = row_owes m a ok k i (λ n. x) (λ n t. grants list_rows (step 0 i x 0 none) m x t) ne
+      → IsThere m.0.own.knows.setting word → i ≢ 2 → Owes list_rows k m i (λ n. x) (λ n t. runs_grant list_rows (step 0 i x 0 none) m x t)
+  grants_at word x next row lies there ne = row_owes m a ok k i (λ n. x) (λ n t. runs_grant list_rows (step 0 i x 0 none) m x t) ne
       (λ w n known. subst (λ (e : ListEvent). Fits m.0.own.knows.setting e i n x) (sym (row w.words)) (record { word = lies; there = there; can = refl; becomes = refl }))
       (λ n t r. let w : Went list_rows here runs m.0.own n t.0.own = went_from list_rows (standing a) here m.0.own t.0.own n begins r.0 in (
         n,

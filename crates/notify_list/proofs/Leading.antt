@@ -20,7 +20,7 @@ use Rattle.step_law_lists.specs.ListLawful.{holds, IsGrantOf}
 use Rattle.step_law_lists.specs.ListPath.{ListSight, ListStride, entries_of}
 use Rattle.step_law_lists.specs.ListPlaces.{ReachedList}
 use Rattle.step_law_lists.proofs.ListAccounts.{the_list_accounts}
-use Rattle.running_rows.specs.Strides.{Went, RanRow, gives, here}
+use Rattle.running_rows.specs.Strides.{Went, RanRow, runs_unlock, here}
 use Rattle.running_rows.proofs.Telling.{went_from}
 use Rattle.notify_list.specs.Rule.{watched, IsMet}
 use Rattle.notify_list.specs.Rows.{list_rows, queue_left}
@@ -86,7 +86,7 @@ ran_from s t a n is r = row_from s t a n is r.0
 
 -- the row gave the lock back
 abbrev pub Gave : Token → Token → Type 0
-Gave s t = gives list_rows (step 0 2 0 0 none) s.me 0 t.me
+Gave s t = runs_unlock list_rows (step 0 2 0 0 none) s.me 0 t.me
 
 -- it found the lock held. Since the seat was seen, its record may have been edited
 pub gave_from : (s e t : Token) (a : ListSeat) → e.me.0.own ≡ s.me.0.own → stands_of s ≡ a → holds a.place ≡ 1 → (setting_of s).seats ≤ 256

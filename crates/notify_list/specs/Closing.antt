@@ -11,7 +11,7 @@ use Rattle.step_law_lists.specs.ListPlaces.{AllRest, NothingLeft}
 use Rattle.notify_list.specs.declared.closed.ListClosed.{ListClosed}
 use Rattle.notify_list.specs.declared.view.Setting.{Setting}
 use Rattle.notify_list.specs.Places.{is_free}
-use Rattle.running_rows.specs.History.{Moment, Writes, strides_of}
+use Rattle.running_rows.specs.History.{SeatStride, Writes, strides_of}
 use Rattle.running_rows.specs.Rule.{In}
 use Rattle.notify_list.specs.Rule.{IsMet, watched}
 use Rattle.notify_list.specs.Plays.{OneSeat}
@@ -59,9 +59,9 @@ pub record IsClosed (z : Setting) (seats : List SeatModel) (c : ListClosed) : Ty
   pub begins : (s : SeatModel) → In s seats → GoesOn world.journal s.sight.seen
   pub own : (s : SeatModel) → In s seats
       → own_entries (watched z) s.number world.journal ≡ own_entries (watched z) s.number s.sight.seen
-  pub history : List (Moment ListStride)
+  pub history : List (SeatStride ListStride)
   pub writes : Writes list_rows [] history world.journal
-  pub by_seats : (m : Moment ListStride) → In m history → m.seat < z.seats
+  pub by_seats : (m : SeatStride ListStride) → In m history → m.seat < z.seats
   pub went : (s : SeatModel) → In s seats → strides_of s.number history ≡ s.strides
   pub granted : (told world.journal).granted ≡ (told world.journal).handed
   pub next : c.next ≡ word_of z.first (told world.journal).handed

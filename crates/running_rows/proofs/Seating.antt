@@ -13,16 +13,16 @@ use Rattle.running_rows.specs.declared.view.Seated.{Seated}
 use Rattle.running_rows.specs.Family.{Family}
 use Rattle.running_rows.specs.Rule.{IsSomeones, IsSeated, HasSeat, In, AreApart, nobody, Sits, HasSeats, IsKept}
 use Rattle.running_rows.specs.Sitting.{alone, leaving, guests_apart, lone, staying, vacant, sitting, other_guests, first_guest, parting, parted}
-use Rattle.running_rows.specs.History.{Moment}
+use Rattle.running_rows.specs.History.{SeatStride}
 use Rattle.running_rows.proofs.Opening.{at_end}
 use Rattle.running_rows.proofs.Places.{at_low, same_at, replaced, longer, moved, moved_in, moved_else}
 
 module _ {S V T K : Type 0} (f : Family S V T K) (k : f.Key) where
   -- what a view is under the rule
-  abbrev Is : f.World → List (Moment T) → (ℕ → ℕ) → ℕ → ℕ → View V T → Type 0
+  abbrev Is : f.World → List (SeatStride T) → (ℕ → ℕ) → ℕ → ℕ → View V T → Type 0
   Is world history spot made j v = HasSeats f k world history spot made j v × (0 < v.made → (v.own.number ≡ 0) × (v.made ≡ made))
 
-  is_at : (world : f.World) (history : List (Moment T)) (spot : ℕ → ℕ) (made i j : ℕ) (v w : View V T) → j ≡ i → v ≡ w → Is world history spot made i v → Is world history spot made j w
+  is_at : (world : f.World) (history : List (SeatStride T)) (spot : ℕ → ℕ) (made i j : ℕ) (v w : View V T) → j ≡ i → v ≡ w → Is world history spot made i v → Is world history spot made j w
   is_at world history spot made i j v w there same = subst (λ (y : ℕ × View V T). Is world history spot made y.0 y.1) (λ n. (sym there n, same n))
 
   -- the tokens have changed, and nothing else
@@ -59,7 +59,7 @@ module _ {S V T K : Type 0} (f : Family S V T K) (k : f.Key) where
       (λ n low. longer f (set s.views id v) (nobody f) (r.spot n) n (subst (λ (l : List (View V T)). IsSeated f l (r.spot n) n) (sym (set_again s.views id v at)) (r.seated n low)))
 
   -- the seats of a view sit at another place
-  sits_at : (world : f.World) (history : List (Moment T)) (spot goes : ℕ → ℕ) (made j i : ℕ) (u : Seated V T) → Sits f k world history spot made j u → goes u.number ≡ i
+  sits_at : (world : f.World) (history : List (SeatStride T)) (spot goes : ℕ → ℕ) (made j i : ℕ) (u : Seated V T) → Sits f k world history spot made j u → goes u.number ≡ i
       → Sits f k world history goes made i u
   sits_at world history spot goes made j i u o is = record { place_is = is; is_made = o.is_made; of_is = o.of_is; knows = o.knows; went = o.went }
 

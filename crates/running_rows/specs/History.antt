@@ -4,18 +4,18 @@ use Rattle.running_rows.specs.declared.view.Seated.{Seated}
 use Rattle.running_rows.specs.Family.{Family}
 
 -- a stride, and the seat that went it, by its number
-pub record Moment (T : Type 0) : Type 0 where
+pub record SeatStride (T : Type 0) : Type 0 where
   pub seat : ℕ
   pub stride : T
 
 -- the strides of the seat i
-abbrev pub strides_of : {T : Type 0} → ℕ → List (Moment T) → List T
+abbrev pub strides_of : {T : Type 0} → ℕ → List (SeatStride T) → List T
 strides_of i [] = []
 strides_of i (m ∷ history) = if m.seat == i then m.stride ∷ strides_of i history else strides_of i history
 
 module _ {S V T K : Type 0} (f : Family S V T K) where
   -- each stride saw all of the journal that was there, and told what came next; the last left this one
-  abbrev pub Writes : List f.Entry → List (Moment T) → List f.Entry → Type 0
+  abbrev pub Writes : List f.Entry → List (SeatStride T) → List f.Entry → Type 0
   Writes seen [] journal = journal ≡ seen
   Writes seen (m ∷ history) journal =
       ((f.stride m.stride).seen ≡ seen) × Writes (seen ++ (f.stride m.stride).told) history journal

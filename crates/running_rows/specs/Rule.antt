@@ -6,7 +6,7 @@ use Rattle.atomic_table.specs.Table.{State}
 use Rattle.running_rows.specs.declared.view.View.{View}
 use Rattle.running_rows.specs.declared.view.Seated.{Seated}
 use Rattle.running_rows.specs.Family.{Family}
-use Rattle.running_rows.specs.History.{Moment, strides_of, Writes, journal_of}
+use Rattle.running_rows.specs.History.{SeatStride, strides_of, Writes, journal_of}
 
 -- what is in a list
 abbrev pub In : {A : Type 0} → A → List A → Type 0
@@ -50,7 +50,7 @@ module _ {S V T K : Type 0} (f : Family S V T K) where
   IsSeated views j n = (v : View V T) × (get_elem? views j ≡ some v) × IsSomeones v × HasSeat n v
 
   -- this seat was made, of words made so, sits at the place j, and went its strides of the history
-  pub record Sits (k : f.Key) (s : f.World) (history : List (Moment T)) (spot : ℕ → ℕ)
+  pub record Sits (k : f.Key) (s : f.World) (history : List (SeatStride T)) (spot : ℕ → ℕ)
       (made j : ℕ) (u : Seated V T) : Type 0 where
     pub place_is : spot u.number ≡ j
     pub is_made : u.number < made
@@ -59,7 +59,7 @@ module _ {S V T K : Type 0} (f : Family S V T K) where
     pub went : strides_of u.number history ≡ u.gone
 
   -- so it is, and each guest sits there too; all are different seats
-  pub record HasSeats (k : f.Key) (s : f.World) (history : List (Moment T)) (spot : ℕ → ℕ)
+  pub record HasSeats (k : f.Key) (s : f.World) (history : List (SeatStride T)) (spot : ℕ → ℕ)
       (made j : ℕ) (v : View V T) : Type 0 where
     pub own : Sits k s history spot made j v.own
     pub guests : (g : Seated V T) → In g v.guests → Sits k s history spot made j g
@@ -72,10 +72,10 @@ module _ {S V T K : Type 0} (f : Family S V T K) where
   pub record IsKept (k : f.Key) (s : State S (View V T)) : Type 0 where
     pub world : f.World
     pub shows : f.Shows k world s.words s.homes
-    pub history : List (Moment T)
+    pub history : List (SeatStride T)
     pub writes : Writes f [] history (journal_of f k world)
     pub made : ℕ
-    pub by_seats : (m : Moment T) → In m history → m.seat < made
+    pub by_seats : (m : SeatStride T) → In m history → m.seat < made
     pub spot : ℕ → ℕ
     pub views : (j : ℕ) (v : View V T) → get_elem? s.views j ≡ some v → IsSomeones v
         → HasSeats k world history spot made j v

@@ -46,34 +46,34 @@ module _ {S V T K : Type 0} (f : Family S V T K) where
   abbrev pub looks_at : Step S → Me S (View V T) → ℕ → Me S (View V T) → Type 0
   looks_at st m n t = Looked st.word m n t
 
-  abbrev pub goes : (Step S → V → V) → Step S → Me S (View V T) → ℕ → Me S (View V T) → Type 0
-  goes at st m n t = RanRow (at st) m n t
+  abbrev pub runs_access : (Step S → V → V) → Step S → Me S (View V T) → ℕ → Me S (View V T) → Type 0
+  runs_access at st m n t = RanRow (at st) m n t
 
   -- a store tells nothing of what it found
-  abbrev pub stores : (Step S → V → V) → Step S → Me S (View V T) → ℕ → Me S (View V T) → Type 0
-  stores at st m x t = (n : ℕ) × RanRow (at st) m n t
+  abbrev pub runs_store : (Step S → V → V) → Step S → Me S (View V T) → ℕ → Me S (View V T) → Type 0
+  runs_store at st m x t = (n : ℕ) × RanRow (at st) m n t
 
   -- a lock that is held changes nothing
-  abbrev pub locks : (Step S → V → V) → Step S → Me S (View V T) → ℕ → Me S (View V T) → Type 0
-  locks at st m n t = (n ≢ 0 → t ≡ m) × (n ≡ 0 → Took (at st) m t)
+  abbrev pub runs_lock : (Step S → V → V) → Step S → Me S (View V T) → ℕ → Me S (View V T) → Type 0
+  runs_lock at st m n t = (n ≢ 0 → t ≡ m) × (n ≡ 0 → Took (at st) m t)
 
   -- a row that gives a lock back ran, and the record is at home
-  abbrev pub gives : Step S → Me S (View V T) → ℕ → Me S (View V T) → Type 0
-  gives st m x t = (n : ℕ) × Went here runs m.0.own n t.0.own × Changed m (rest m.1) t
+  abbrev pub runs_unlock : Step S → Me S (View V T) → ℕ → Me S (View V T) → Type 0
+  runs_unlock st m x t = (n : ℕ) × Went here runs m.0.own n t.0.own × Changed m (rest m.1) t
 
   -- a row ran that stored x at the word
-  abbrev pub grants : Step S → Me S (View V T) → ℕ → Me S (View V T) → Type 0
-  grants st m x t =
+  abbrev pub runs_grant : Step S → Me S (View V T) → ℕ → Me S (View V T) → Type 0
+  runs_grant st m x t =
       (n : ℕ) × (w : Went here runs m.0.own n t.0.own)
       × f.HasStored (f.of m.0.own.knows) w.stride st.word x × Changed m m.1 t
 
   -- a grant of 0 was looked at, and another was taken
-  abbrev pub receives : Step S → Me S (View V T) → ℕ → Me S (View V T) → Type 0
-  receives st m n t = (n ≡ 0 → Looked st.word m 0 t) × (0 < n → RanRow here m n t)
+  abbrev pub runs_take_or_look : Step S → Me S (View V T) → ℕ → Me S (View V T) → Type 0
+  runs_take_or_look st m n t = (n ≡ 0 → Looked st.word m 0 t) × (0 < n → RanRow here m n t)
 
   -- a grant of 0 was left, and another was taken
-  abbrev pub awaits : Step S → Me S (View V T) → ℕ → Me S (View V T) → Type 0
-  awaits st m n t = (n ≡ 0 → t ≡ m) × (0 < n → RanRow here m n t)
+  abbrev pub runs_take_or_nothing : Step S → Me S (View V T) → ℕ → Me S (View V T) → Type 0
+  runs_take_or_nothing st m n t = (n ≡ 0 → t ≡ m) × (0 < n → RanRow here m n t)
 
 -- a word was written of which the world knows nothing, and nothing changed
 abbrev pub sets_aside : {S V T : Type 0} → Step S → Me S (View V T) → ℕ → Me S (View V T) → Type 0

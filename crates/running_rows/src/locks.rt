@@ -11,12 +11,12 @@ ghost use Rattle.std.specs.Prelude.{◌≡◌, ◌≢◌, ◌==◌, ◌<◌};
 ghost use mathlib.Core.Option.{none, some};
 ghost use prog.Atomic.{either};
 ghost use Rattle.atomic_table.specs.Table.{step};
-ghost use Rattle.running_rows.specs.Strides.{locks, Took, gives};
+ghost use Rattle.running_rows.specs.Strides.{runs_lock, Took, runs_unlock};
 ghost use Rattle.running_rows.specs.Rule.{IsSomeones};
 ghost use Rattle.running_rows.specs.Owing.{Owes, IsAside};
 
 use crate::families::{Rows, Start};
-use crate::plays::{Gives, Locks, SetsAside};
+use crate::plays::{RunsLock, RunsUnlock, SetsAside};
 use crate::rule::OneWorld;
 use crate::running::Running;
 use crate::view::{Token, View};
@@ -43,7 +43,7 @@ impl<S, V, T, K, R: Rows<S, V, T, K>> Running<S, View<V, T>, K, OneWorld<R>> {
         requires aside { IsAside R.family (R.family.key self.now.table.shared.key) sleepers }
         requires owes { Owes R.family (R.family.key self.now.table.shared.key) token.old.me word
             (λ n. either (n == 0) 1 n)
-            (locks R.family A.at (step self.now.table.shared.table_id.slots word 0 1 none) token.old.me) }
+            (runs_lock R.family A.at (step self.now.table.shared.table_id.slots word 0 1 none) token.old.me) }
         ensures own { token.new.table_id ≡ token.old.table_id }
         ensures took { Took R.family
             (A.at (step self.now.table.shared.table_id.slots word 0 1 none)) token.old.me token.new.me }
@@ -52,7 +52,7 @@ impl<S, V, T, K, R: Rows<S, V, T, K>> Running<S, View<V, T>, K, OneWorld<R>> {
             if self
                 .table
                 .shared
-                .compare_exchange::<Locks<A, R, K>>(token, word, 0, 1)
+                .compare_exchange::<RunsLock<A, R, K>>(token, word, 0, 1)
                 == 0
             {
                 return;
@@ -78,7 +78,8 @@ impl<S, V, T, K, R: Rows<S, V, T, K>> Running<S, View<V, T>, K, OneWorld<R>> {
         requires aside { IsAside R.family (R.family.key self.now.table.shared.key) sleepers }
         requires owes { Owes R.family (R.family.key self.now.table.shared.key) token.old.me word
             (λ n. either (n == 0) 1 n)
-            (locks R.family A.at (step self.now.table.shared.table_id.slots word 0 1 (some said.now)) token.old.me) }
+            (runs_lock R.family A.at (step self.now.table.shared.table_id.slots word 0 1 (some said.now))
+            token.old.me) }
         ensures own { token.new.table_id ≡ token.old.table_id }
         ensures took { Took R.family
             (A.at (step self.now.table.shared.table_id.slots word 0 1
@@ -88,7 +89,7 @@ impl<S, V, T, K, R: Rows<S, V, T, K>> Running<S, View<V, T>, K, OneWorld<R>> {
             if self
                 .table
                 .shared
-                .compare_exchange_with::<Locks<A, R, K>>(token, word, 0, 1, said)
+                .compare_exchange_with::<RunsLock<A, R, K>>(token, word, 0, 1, said)
                 == 0
             {
                 return;
@@ -130,13 +131,14 @@ impl<S, V, T, K, R: Rows<S, V, T, K>> Running<S, View<V, T>, K, OneWorld<R>> {
         requires words { (word < self.now.table.shared.table_id.words)
             × (sleepers < self.now.table.shared.table_id.words) }
         requires owes { Owes R.family (R.family.key self.now.table.shared.key) token.old.me word (λ _. 0)
-            (λ _. gives R.family (step self.now.table.shared.table_id.slots word 0 0 none) token.old.me 0) }
+            (λ _. runs_unlock R.family (step self.now.table.shared.table_id.slots word 0 0 none)
+            token.old.me 0) }
         ensures own { token.new.table_id ≡ token.old.table_id }
-        ensures went { gives R.family
+        ensures went { runs_unlock R.family
             (step self.now.table.shared.table_id.slots word 0 0 none) token.old.me 0 token.new.me }
     {
         let shared = &self.table.shared;
-        shared.store::<Gives<R, K>>(token, word, 0);
+        shared.store::<RunsUnlock<R, K>>(token, word, 0);
         if shared.peek(sleepers) != 0 {
             shared.wake_one(word);
         }

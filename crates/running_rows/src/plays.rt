@@ -1,5 +1,6 @@
 //! What each kind of step tells its seat.
-ghost use Rattle.running_rows.specs.Strides.{looks_at, goes, stores, locks, gives, grants, receives, awaits};
+ghost use Rattle.running_rows.specs.Strides.{looks_at, runs_access, runs_store, runs_lock, runs_unlock};
+ghost use Rattle.running_rows.specs.Strides.{runs_grant, runs_take_or_look, runs_take_or_nothing};
 ghost use Rattle.running_rows.specs.Strides.{sets_aside};
 
 use crate::families::{Rows, Start};
@@ -17,66 +18,66 @@ impl<S, V, T, K, R: Rows<S, V, T, K>> Play<S, View<V, T>> for Looks<R, K> {
 }
 
 /// A row that loads, exchanges or adds.
-pub(crate) struct Goes<A, R, K> {
+pub(crate) struct RunsAccess<A, R, K> {
     rows: PhantomData<(A, R, K)>,
 }
 
-impl<S, V, T, K, A: Start<S, V>, R: Rows<S, V, T, K>> Play<S, View<V, T>> for Goes<A, R, K> {
-    ghost then = { goes R.family A.at };
+impl<S, V, T, K, A: Start<S, V>, R: Rows<S, V, T, K>> Play<S, View<V, T>> for RunsAccess<A, R, K> {
+    ghost then = { runs_access R.family A.at };
 }
 
 /// A row that stores.
-pub(crate) struct Stores<A, R, K> {
+pub(crate) struct RunsStore<A, R, K> {
     rows: PhantomData<(A, R, K)>,
 }
 
-impl<S, V, T, K, A: Start<S, V>, R: Rows<S, V, T, K>> Play<S, View<V, T>> for Stores<A, R, K> {
-    ghost then = { stores R.family A.at };
+impl<S, V, T, K, A: Start<S, V>, R: Rows<S, V, T, K>> Play<S, View<V, T>> for RunsStore<A, R, K> {
+    ghost then = { runs_store R.family A.at };
 }
 
 /// A row that takes a lock.
-pub(crate) struct Locks<A, R, K> {
+pub(crate) struct RunsLock<A, R, K> {
     rows: PhantomData<(A, R, K)>,
 }
 
-impl<S, V, T, K, A: Start<S, V>, R: Rows<S, V, T, K>> Play<S, View<V, T>> for Locks<A, R, K> {
-    ghost then = { locks R.family A.at };
+impl<S, V, T, K, A: Start<S, V>, R: Rows<S, V, T, K>> Play<S, View<V, T>> for RunsLock<A, R, K> {
+    ghost then = { runs_lock R.family A.at };
 }
 
 /// A row that gives a lock back.
-pub(crate) struct Gives<R, K> {
+pub(crate) struct RunsUnlock<R, K> {
     rows: PhantomData<(R, K)>,
 }
 
-impl<S, V, T, K, R: Rows<S, V, T, K>> Play<S, View<V, T>> for Gives<R, K> {
-    ghost then = { gives R.family };
+impl<S, V, T, K, R: Rows<S, V, T, K>> Play<S, View<V, T>> for RunsUnlock<R, K> {
+    ghost then = { runs_unlock R.family };
 }
 
 /// A row that stores a grant.
-pub(crate) struct Grants<R, K> {
+pub(crate) struct RunsGrant<R, K> {
     rows: PhantomData<(R, K)>,
 }
 
-impl<S, V, T, K, R: Rows<S, V, T, K>> Play<S, View<V, T>> for Grants<R, K> {
-    ghost then = { grants R.family };
+impl<S, V, T, K, R: Rows<S, V, T, K>> Play<S, View<V, T>> for RunsGrant<R, K> {
+    ghost then = { runs_grant R.family };
 }
 
 /// A look at a grant, or the row that takes it.
-pub(crate) struct Receives<R, K> {
+pub(crate) struct RunsTakeOrLook<R, K> {
     rows: PhantomData<(R, K)>,
 }
 
-impl<S, V, T, K, R: Rows<S, V, T, K>> Play<S, View<V, T>> for Receives<R, K> {
-    ghost then = { receives R.family };
+impl<S, V, T, K, R: Rows<S, V, T, K>> Play<S, View<V, T>> for RunsTakeOrLook<R, K> {
+    ghost then = { runs_take_or_look R.family };
 }
 
 /// The row that takes a grant, or nothing.
-pub(crate) struct Awaits<R, K> {
+pub(crate) struct RunsTakeOrNothing<R, K> {
     rows: PhantomData<(R, K)>,
 }
 
-impl<S, V, T, K, R: Rows<S, V, T, K>> Play<S, View<V, T>> for Awaits<R, K> {
-    ghost then = { awaits R.family };
+impl<S, V, T, K, R: Rows<S, V, T, K>> Play<S, View<V, T>> for RunsTakeOrNothing<R, K> {
+    ghost then = { runs_take_or_nothing R.family };
 }
 
 /// A store that is no row.

@@ -11,13 +11,13 @@
 ghost use Rattle.std.specs.Prelude.{◌≡◌, ◌<◌, [], ◌∷◌, ◌++◌};
 ghost use mathlib.Core.Option.{none};
 ghost use Rattle.atomic_table.specs.Table.{step};
-ghost use Rattle.running_rows.specs.Strides.{grants, awaits, RanRow, here};
+ghost use Rattle.running_rows.specs.Strides.{runs_grant, runs_take_or_nothing, RanRow, here};
 ghost use Rattle.running_rows.specs.Rule.{IsSomeones};
 ghost use Rattle.running_rows.specs.Owing.{Owes, IsAside};
 ghost use Rattle.running_rows.specs.Sleeping.{AreThere, StoresLast};
 
 use crate::families::Rows;
-use crate::plays::{Awaits, Grants, SetsAside};
+use crate::plays::{RunsGrant, RunsTakeOrNothing, SetsAside};
 use crate::rule::OneWorld;
 use crate::running::Running;
 use crate::view::{Token, View};
@@ -196,7 +196,8 @@ impl<S, V, T, K, R: Rows<S, V, T, K>> Running<S, View<V, T>, K, OneWorld<R>> {
         requires aside { IsAside R.family (R.family.key self.now.table.shared.key) asleep
             × IsAside R.family (R.family.key self.now.table.shared.key) misses }
         requires owes { Owes R.family (R.family.key self.now.table.shared.key) token.old.me word (λ _. 0)
-            (awaits R.family (step self.now.table.shared.table_id.slots word 0 0 none) token.old.me) }
+            (runs_take_or_nothing R.family (step self.now.table.shared.table_id.slots word 0 0 none)
+            token.old.me) }
         ensures own { token.new.table_id ≡ token.old.table_id }
         ensures some { 0 < result }
         ensures went { RanRow R.family here token.old.me result token.new.me }
@@ -204,7 +205,10 @@ impl<S, V, T, K, R: Rows<S, V, T, K>> Running<S, View<V, T>, K, OneWorld<R>> {
         for _ in rt.forever() {
             self.await_grant(rt, token, word, asleep, misses, patience);
             // Taken in the same step: a grant that stayed would wake the seat's next wait too.
-            let found = self.table.shared.swap::<Awaits<R, K>>(token, word, 0);
+            let found = self
+                .table
+                .shared
+                .swap::<RunsTakeOrNothing<R, K>>(token, word, 0);
             if found != 0 {
                 return found;
             }
@@ -220,9 +224,10 @@ impl<S, V, T, K, R: Rows<S, V, T, K>> Running<S, View<V, T>, K, OneWorld<R>> {
         requires words { (word < self.now.table.shared.table_id.words)
             × (asleep < self.now.table.shared.table_id.words) }
         requires owes { Owes R.family (R.family.key self.now.table.shared.key) token.old.me word (λ _. units)
-            (λ _. grants R.family (step self.now.table.shared.table_id.slots word units 0 none) token.old.me units) }
+            (λ _. runs_grant R.family (step self.now.table.shared.table_id.slots word units 0 none)
+            token.old.me units) }
         ensures own { token.new.table_id ≡ token.old.table_id }
-        ensures went { grants R.family
+        ensures went { runs_grant R.family
             (step self.now.table.shared.table_id.slots word units 0 none) token.old.me units token.new.me }
     {
         self.store_grant(token, word, units);
@@ -236,12 +241,15 @@ impl<S, V, T, K, R: Rows<S, V, T, K>> Running<S, View<V, T>, K, OneWorld<R>> {
             × IsSomeones R.family token.old.me.0 }
         requires low { word < self.now.table.shared.table_id.words }
         requires owes { Owes R.family (R.family.key self.now.table.shared.key) token.old.me word (λ _. units)
-            (λ _. grants R.family (step self.now.table.shared.table_id.slots word units 0 none) token.old.me units) }
+            (λ _. runs_grant R.family (step self.now.table.shared.table_id.slots word units 0 none)
+            token.old.me units) }
         ensures own { token.new.table_id ≡ token.old.table_id }
-        ensures went { grants R.family
+        ensures went { runs_grant R.family
             (step self.now.table.shared.table_id.slots word units 0 none) token.old.me units token.new.me }
     {
-        self.table.shared.store::<Grants<R, K>>(token, word, units);
+        self.table
+            .shared
+            .store::<RunsGrant<R, K>>(token, word, units);
     }
 
     /// Wakes the thread of the seat that was just granted, where it has gone to sleep.

@@ -3,12 +3,12 @@ ghost use Rattle.std.specs.Prelude.{◌≡◌, ◌==◌, ◌+◌, ◌-◌, ◌%�
 ghost use mathlib.Core.Option.{none};
 ghost use prog.Atomic.{either};
 ghost use Rattle.atomic_table.specs.Table.{step};
-ghost use Rattle.running_rows.specs.Strides.{looks_at, goes, stores, receives};
+ghost use Rattle.running_rows.specs.Strides.{looks_at, runs_access, runs_store, runs_take_or_look};
 ghost use Rattle.running_rows.specs.Rule.{IsSomeones};
 ghost use Rattle.running_rows.specs.Owing.{Owes, IsSeen};
 
 use crate::families::{Rows, Start};
-use crate::plays::{Goes, Looks, Receives, Stores};
+use crate::plays::{Looks, RunsAccess, RunsStore, RunsTakeOrLook};
 use crate::rule::OneWorld;
 use crate::running::Running;
 use crate::view::{Token, View};
@@ -35,12 +35,13 @@ impl<S, V, T, K, R: Rows<S, V, T, K>> Running<S, View<V, T>, K, OneWorld<R>> {
             × IsSomeones R.family token.old.me.0 }
         requires word { word < self.now.table.shared.table_id.words }
         requires owes { Owes R.family (R.family.key self.now.table.shared.key) token.old.me word (λ n. n)
-            (goes R.family A.at (step self.now.table.shared.table_id.slots word 0 0 none) token.old.me) }
+            (runs_access R.family A.at (step self.now.table.shared.table_id.slots word 0 0 none)
+            token.old.me) }
         ensures own { token.new.table_id ≡ token.old.table_id }
-        ensures went { goes R.family A.at
+        ensures went { runs_access R.family A.at
             (step self.now.table.shared.table_id.slots word 0 0 none) token.old.me result token.new.me }
     {
-        self.table.shared.load::<Goes<A, R, K>>(token, word)
+        self.table.shared.load::<RunsAccess<A, R, K>>(token, word)
     }
 
     /// A row that writes `new` where it finds `old`: what it found.
@@ -57,14 +58,15 @@ impl<S, V, T, K, R: Rows<S, V, T, K>> Running<S, View<V, T>, K, OneWorld<R>> {
         requires word { word < self.now.table.shared.table_id.words }
         requires owes { Owes R.family (R.family.key self.now.table.shared.key) token.old.me word
             (λ n. either (n == old) new n)
-            (goes R.family A.at (step self.now.table.shared.table_id.slots word old new none) token.old.me) }
+            (runs_access R.family A.at (step self.now.table.shared.table_id.slots word old new none)
+            token.old.me) }
         ensures own { token.new.table_id ≡ token.old.table_id }
-        ensures went { goes R.family A.at
+        ensures went { runs_access R.family A.at
             (step self.now.table.shared.table_id.slots word old new none) token.old.me result token.new.me }
     {
         self.table
             .shared
-            .compare_exchange::<Goes<A, R, K>>(token, word, old, new)
+            .compare_exchange::<RunsAccess<A, R, K>>(token, word, old, new)
     }
 
     /// A row that adds: what it found.
@@ -75,14 +77,15 @@ impl<S, V, T, K, R: Rows<S, V, T, K>> Running<S, View<V, T>, K, OneWorld<R>> {
         requires word { word < self.now.table.shared.table_id.words }
         requires owes { Owes R.family (R.family.key self.now.table.shared.key) token.old.me word
             (λ n. (n + more) % 2 ^ 64)
-            (goes R.family A.at (step self.now.table.shared.table_id.slots word more 0 none) token.old.me) }
+            (runs_access R.family A.at (step self.now.table.shared.table_id.slots word more 0 none)
+            token.old.me) }
         ensures own { token.new.table_id ≡ token.old.table_id }
-        ensures went { goes R.family A.at
+        ensures went { runs_access R.family A.at
             (step self.now.table.shared.table_id.slots word more 0 none) token.old.me result token.new.me }
     {
         self.table
             .shared
-            .fetch_add::<Goes<A, R, K>>(token, word, more)
+            .fetch_add::<RunsAccess<A, R, K>>(token, word, more)
     }
 
     /// A row that takes off: what it found.
@@ -98,14 +101,15 @@ impl<S, V, T, K, R: Rows<S, V, T, K>> Running<S, View<V, T>, K, OneWorld<R>> {
         requires word { word < self.now.table.shared.table_id.words }
         requires owes { Owes R.family (R.family.key self.now.table.shared.key) token.old.me word
             (λ n. (n + (2 ^ 64 - less)) % 2 ^ 64)
-            (goes R.family A.at (step self.now.table.shared.table_id.slots word less 0 none) token.old.me) }
+            (runs_access R.family A.at (step self.now.table.shared.table_id.slots word less 0 none)
+            token.old.me) }
         ensures own { token.new.table_id ≡ token.old.table_id }
-        ensures went { goes R.family A.at
+        ensures went { runs_access R.family A.at
             (step self.now.table.shared.table_id.slots word less 0 none) token.old.me result token.new.me }
     {
         self.table
             .shared
-            .fetch_sub::<Goes<A, R, K>>(token, word, less)
+            .fetch_sub::<RunsAccess<A, R, K>>(token, word, less)
     }
 
     /// A row that stores.
@@ -115,12 +119,15 @@ impl<S, V, T, K, R: Rows<S, V, T, K>> Running<S, View<V, T>, K, OneWorld<R>> {
             × IsSomeones R.family token.old.me.0 }
         requires word { word < self.now.table.shared.table_id.words }
         requires owes { Owes R.family (R.family.key self.now.table.shared.key) token.old.me word (λ _. new)
-            (λ _. stores R.family A.at (step self.now.table.shared.table_id.slots word new 0 none) token.old.me new) }
+            (λ _. runs_store R.family A.at (step self.now.table.shared.table_id.slots word new 0 none)
+            token.old.me new) }
         ensures own { token.new.table_id ≡ token.old.table_id }
-        ensures went { stores R.family A.at
+        ensures went { runs_store R.family A.at
             (step self.now.table.shared.table_id.slots word new 0 none) token.old.me new token.new.me }
     {
-        self.table.shared.store::<Stores<A, R, K>>(token, word, new);
+        self.table
+            .shared
+            .store::<RunsStore<A, R, K>>(token, word, new);
     }
 
     /// A look at a grant where it is 0, and else the row that takes it: what it found.
@@ -130,11 +137,14 @@ impl<S, V, T, K, R: Rows<S, V, T, K>> Running<S, View<V, T>, K, OneWorld<R>> {
             × IsSomeones R.family token.old.me.0 }
         requires word { word < self.now.table.shared.table_id.words }
         requires owes { Owes R.family (R.family.key self.now.table.shared.key) token.old.me word (λ _. 0)
-            (receives R.family (step self.now.table.shared.table_id.slots word 0 0 none) token.old.me) }
+            (runs_take_or_look R.family (step self.now.table.shared.table_id.slots word 0 0 none)
+            token.old.me) }
         ensures own { token.new.table_id ≡ token.old.table_id }
-        ensures went { receives R.family
+        ensures went { runs_take_or_look R.family
             (step self.now.table.shared.table_id.slots word 0 0 none) token.old.me result token.new.me }
     {
-        self.table.shared.swap::<Receives<R, K>>(token, word, 0)
+        self.table
+            .shared
+            .swap::<RunsTakeOrLook<R, K>>(token, word, 0)
     }
 }

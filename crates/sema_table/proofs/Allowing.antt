@@ -21,7 +21,7 @@ use Rattle.step_table.proofs.Sums.{put_here, put_else}
 use Rattle.step_law_semaphores.specs.Lawful.{holds}
 use Rattle.step_law_semaphores.specs.Balances.{added_by}
 use Rattle.sema_root.specs.Treap.{Treap}
-use Rattle.running_rows.specs.Strides.{here, becomes, RanRow, Changed, grants}
+use Rattle.running_rows.specs.Strides.{here, becomes, RanRow, Changed, runs_grant}
 use Rattle.running_rows.specs.Owing.{Stands, Leads, Owes}
 use Rattle.sema_table.specs.declared.view.Known.{Known}
 use Rattle.sema_table.specs.declared.view.Setting.{Setting}
@@ -250,9 +250,9 @@ module _ (z : Setting) (i : ℕ) (m : Me) (p : Place) (at : m.0.own.knows.place 
 
   -- a row that stores x, which is a grant
   pub owes_grant : (slots x : ℕ) → ((w : SemaWorld) (n : ℕ) → Ready m.0.own.number (begin p m.0.own.knows) w i n → Stays m.0.own.knows.setting (event_by m.0.own.number (begin p m.0.own.knows) w) i n x)
-      → Owes semaphore_rows z m i (λ _. x) (λ _ s. grants semaphore_rows (step slots i x 0 none) m x s)
+      → Owes semaphore_rows z m i (λ _. x) (λ _ s. runs_grant semaphore_rows (step slots i x 0 none) m x s)
   owes_grant slots x ready world words homes st = let k : ℕ = slice_index words i in
-      tells_more semaphore_rows z m i world words homes x (λ s. Stored (begin p) m i x k s) (λ s. grants semaphore_rows (step slots i x 0 none) m x s)
+      tells_more semaphore_rows z m i world words homes x (λ s. Stored (begin p) m i x k s) (λ s. runs_grant semaphore_rows (step slots i x 0 none) m x s)
       (λ s r. (k, ran_here m.0.own s.0.own p k at r.0, r.1, r.2)) (owes_stored i m p (inl at) bound z (λ _. x) ready world words homes st)
 
   pub owes_give : (treap : Treap) (x : ℕ) → m.1 ≡ (root m.0.own.knows.setting (counter_at p), Root treap) ∷ []

@@ -22,7 +22,7 @@ use Rattle.step_law_semaphores.proofs.Placing.{same_here}
 use Rattle.sema_root.specs.Treap.{Treap}
 use mathlib.Core.Option.{none}
 use Rattle.running_rows.specs.Table.{step}
-use Rattle.running_rows.specs.Strides.{here, grants}
+use Rattle.running_rows.specs.Strides.{here, runs_grant}
 use Rattle.sema_table.specs.declared.view.Record.TheVariants.{Root}
 use Rattle.sema_table.specs.Setting.{root, layout, address}
 use Rattle.running_rows.specs.Owing.{Owes}
@@ -188,6 +188,6 @@ module _ (s0 s u : Token) (a : Release) (id : WaitId) (n : ℕ) (before : Walked
 
 -- the store of a grant leads on
 pub grants_at : (z : Setting) (slots i : ℕ) (m : Me) (a : Release) (handed : Bool) → m.0.own.knows.place ≡ granting a handed → added_by m.0.own.number m.0.own.knows.seen ≤ 2 ^ 40 → address m.0.own.knows.setting (Grant (waiter m.0.own.number m.0.own.knows.hand)) ≡ i
-    → waiter m.0.own.number m.0.own.knows.hand < m.0.own.knows.setting.seats → Owes semaphore_rows z m i (λ _. grant_of handed) (λ _ t. grants semaphore_rows (step slots i (grant_of handed) 0 none) m (grant_of handed) t)
+    → waiter m.0.own.number m.0.own.knows.hand < m.0.own.knows.setting.seats → Owes semaphore_rows z m i (λ _. grant_of handed) (λ _ t. runs_grant semaphore_rows (step slots i (grant_of handed) 0 none) m (grant_of handed) t)
 grants_at z slots i m a true at few word there = owes_grant z i m (Releasing a R9) at (omega arith) slots 2 (λ w n known. record { fits = record { word = word; there = there; can = refl; becomes = refl }; apart = refl })
 grants_at z slots i m a false at few word there = owes_grant z i m (Releasing a R10) at (omega arith) slots 1 (λ w n known. record { fits = record { word = word; there = there; can = refl; becomes = refl }; apart = refl })

@@ -27,7 +27,7 @@ use Rattle.step_law_semaphores.proofs.Placing.{same_here}
 use Rattle.sema_root.specs.Treap.{Treap}
 use mathlib.Core.Option.{none}
 use Rattle.running_rows.specs.Table.{step}
-use Rattle.running_rows.specs.Strides.{here, grants}
+use Rattle.running_rows.specs.Strides.{here, runs_grant}
 use Rattle.sema_table.specs.declared.view.Setting.{Setting}
 use Rattle.sema_table.specs.declared.view.Record.TheVariants.{Root}
 use Rattle.sema_table.specs.Setting.{root, layout, address}
@@ -184,5 +184,5 @@ granted_first s u a n at r same slots = let row = ran_from s u (ReleasingMany a 
 
 -- the store of 1 leads on
 pub grants_first : (z : Setting) (slots i : ℕ) (m : Me) (a : ReleaseMany) → m.0.own.knows.place ≡ ReleasingMany a M7 → added_by m.0.own.number m.0.own.knows.seen ≤ 2 ^ 40 → address m.0.own.knows.setting (Grant (waiter m.0.own.number m.0.own.knows.hand)) ≡ i
-    → waiter m.0.own.number m.0.own.knows.hand < m.0.own.knows.setting.seats → Owes semaphore_rows z m i (λ _. 1) (λ _ t. grants semaphore_rows (step slots i 1 0 none) m 1 t)
+    → waiter m.0.own.number m.0.own.knows.hand < m.0.own.knows.setting.seats → Owes semaphore_rows z m i (λ _. 1) (λ _ t. runs_grant semaphore_rows (step slots i 1 0 none) m 1 t)
 grants_first z slots i m a at few word there = owes_grant z i m (ReleasingMany a M7) at (omega arith) slots 1 (λ w n known. record { fits = record { word = word; there = there; can = refl; becomes = refl }; apart = refl })

@@ -12,7 +12,7 @@ use Rattle.step_law_semaphores.specs.Bounds.{AllRest, IsCleared}
 use Rattle.step_law_semaphores.specs.Entries.{IsNamed}
 use Rattle.step_law_semaphores.specs.SemaPath.{SemaStride, semaphores}
 use Rattle.sema_table.specs.declared.view.Setting.{Setting}
-use Rattle.running_rows.specs.History.{Moment, Writes, strides_of}
+use Rattle.running_rows.specs.History.{SeatStride, Writes, strides_of}
 use Rattle.running_rows.specs.Rule.{In}
 use Rattle.sema_table.specs.Places.{is_free}
 use Rattle.sema_table.specs.Setting.{layout}
@@ -83,9 +83,9 @@ pub record IsClosed (z : Setting) (seats : List SeatModel) (c : ClosedModel) : T
   pub own : (s : SeatModel) → In s seats
       → own_entries (semaphores (layout z)) s.number world.journal
       ≡ own_entries (semaphores (layout z)) s.number s.sight.seen
-  pub history : List (Moment SemaStride)
+  pub history : List (SeatStride SemaStride)
   pub writes : Writes semaphore_rows [] history world.journal
-  pub by_seats : (m : Moment SemaStride) → In m history → m.seat < z.seats
+  pub by_seats : (m : SeatStride SemaStride) → In m history → m.seat < z.seats
   pub went : (s : SeatModel) → In s seats → strides_of s.number history ≡ s.strides
   pub long : length c.values ≡ length z.starts
   pub values : (k : ℕ) → k < length z.starts

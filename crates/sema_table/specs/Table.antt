@@ -11,7 +11,7 @@ use Rattle.step_law_semaphores.specs.Lawful.{IsLawfulWorld}
 use Rattle.step_law_semaphores.specs.Bounds.{IsSmall}
 use Rattle.step_law_semaphores.specs.Entries.{IsNamed}
 use Rattle.step_law_semaphores.specs.SemaPath.{SemaStride}
-use Rattle.running_rows.specs.History.{Moment, Writes}
+use Rattle.running_rows.specs.History.{SeatStride, Writes}
 use Rattle.running_rows.specs.Rule.{In, IsSomeones, IsSeated, HasSeats}
 use Rattle.sema_table.specs.declared.view.Record.{Record}
 use Rattle.sema_table.specs.declared.view.Setting.{Setting}
@@ -33,10 +33,10 @@ pub record Shows (z : Setting) (s : State Record SemaView) (world : SemaWorld) :
   pub waiters : (c : ℕ) → slice_index s.words (address z (Waiters c)) ≡ world.words.waiters (root z c)
   pub grants : (k : ℕ) → k < z.seats → slice_index s.words (address z (Grant k)) ≡ world.words.grants k
   pub homes : (r : ℕ) → r < z.roots → world.words.locks r ≡ 0 → AtHome z world.words s.homes r
-  pub history : List (Moment SemaStride)
+  pub history : List (SeatStride SemaStride)
   pub writes : Writes semaphore_rows [] history world.journal
   pub made : ℕ
-  pub by_seats : (m : Moment SemaStride) → In m history → m.seat < made
+  pub by_seats : (m : SeatStride SemaStride) → In m history → m.seat < made
   pub spot : ℕ → ℕ
   pub views : (j : ℕ) (v : SemaView) → get_elem? s.views j ≡ some v → IsSomeones semaphore_rows v
       → HasSeats semaphore_rows z world history spot made j v

@@ -16,7 +16,7 @@ use Rattle.step_law_lists.specs.ListWellFormed.{IsWellFormedList}
 use Rattle.step_law_semaphores.specs.WellFormed.{IsWellFormedWorld}
 use Rattle.step_table.proofs.Sums.{put_at}
 use Rattle.step_law_whole.proofs.CoreStanding.{StepsKeep}
-use Rattle.step_law_alike.proofs.ChangedPlaces.{IsAsGood, IsAsGoodOnList, same, same_place, as_good, as_good_on_list, bends, list_bends}
+use Rattle.step_law_alike.proofs.ChangedPlaces.{IsAsGood, IsAsGoodOnList, same, same_place, as_good, as_good_on_list, changes, list_changes}
 use Rattle.step_law_alike.proofs.ChangedCounters.{well_formed_first, well_formed_kept, well_formed_moved}
 use Rattle.step_law_alike.proofs.ChangedLists.{well_formed_list_first, well_formed_list_kept, well_formed_list_moved}
 
@@ -64,7 +64,7 @@ module _ (v : Variant) (m : CoreLayout) (s t : Core) (i : ℕ) (there : i < m.se
   pub well_formed_changed : (standing : Standing) → IsWellFormedCore m (changed v s t i standing)
   well_formed_changed (AtCounter after) =
       let place : Place = changed_place v (s.semaphores.seats i).place (t.semaphores.seats i).place in
-      let good = as_good (bends v (s.semaphores.seats i).place (t.semaphores.seats i).place) in
+      let good = as_good (changes v (s.semaphores.seats i).place (t.semaphores.seats i).place) in
       record {
         semaphores = well_formed_moved (counters_of m) t.semaphores i there place good inv.semaphores;
         lists = inv.lists;
@@ -74,7 +74,7 @@ module _ (v : Variant) (m : CoreLayout) (s t : Core) (i : ℕ) (there : i < m.se
       }
   well_formed_changed (AtList l) =
       let place : ListPlace = changed_list_place v (s.lists l).words.notify ((s.lists l).seats i).place ((t.lists l).seats i).place in
-      let good = as_good_on_list (list_bends v (s.lists l).words.notify ((s.lists l).seats i).place ((t.lists l).seats i).place) in
+      let good = as_good_on_list (list_changes v (s.lists l).words.notify ((s.lists l).seats i).place ((t.lists l).seats i).place) in
       let w : ListWorld = list.moved (t.lists l) i place in
       record {
         semaphores = inv.semaphores;

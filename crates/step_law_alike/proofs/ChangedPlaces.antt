@@ -32,24 +32,24 @@ use Rattle.step_law_alike.specs.Changed.{changed_row, changed_place, changed_wai
 use Rattle.step_law_lists.specs.ListWellFormed.{StillReads}
 
 -- two places between which a change of the table leads
-pub data Bends : Place → Place → Type 0 where
-  same : {p : Place} → Bends p p
-  skips_look : {a : Acquire} → Bends (Acquiring a A5) (Acquiring a A7)
-  looks_first : {a : Acquire} → Bends (Acquiring a A4) (Acquiring a A5)
-  counts_late : {a : Acquire} → Bends (Acquiring a A7) (Acquiring a A4)
-  lowers_none : {a : Acquire} → Bends (Acquiring a A8) (Acquiring a A9)
+pub data ChangesTo : Place → Place → Type 0 where
+  same : {p : Place} → ChangesTo p p
+  skips_look : {a : Acquire} → ChangesTo (Acquiring a A5) (Acquiring a A7)
+  looks_first : {a : Acquire} → ChangesTo (Acquiring a A4) (Acquiring a A5)
+  counts_late : {a : Acquire} → ChangesTo (Acquiring a A7) (Acquiring a A4)
+  lowers_none : {a : Acquire} → ChangesTo (Acquiring a A8) (Acquiring a A9)
 
-row_bends : (v : Variant) (b : Acquire) (from next : AcquireRow) → Bends (Acquiring b next) (Acquiring b (changed_row v from next))
-row_bends NoLook b A4 A5 = skips_look
-row_bends LateCount b A3 A4 = looks_first
-row_bends LateCount b A5 A7 = counts_late
-row_bends LateCount b A4 A5 = skips_look
-row_bends LateCount b (A6 left) A8 = lowers_none
-row_bends v b from next = same
+row_changes : (v : Variant) (b : Acquire) (from next : AcquireRow) → ChangesTo (Acquiring b next) (Acquiring b (changed_row v from next))
+row_changes NoLook b A4 A5 = skips_look
+row_changes LateCount b A3 A4 = looks_first
+row_changes LateCount b A5 A7 = counts_late
+row_changes LateCount b A4 A5 = skips_look
+row_changes LateCount b (A6 left) A8 = lowers_none
+row_changes v b from next = same
 
-pub bends : (v : Variant) (from next : Place) → Bends next (changed_place v from next)
-bends v (Acquiring a from) (Acquiring b next) = row_bends v b from next
-bends v from next = same
+pub changes : (v : Variant) (from next : Place) → ChangesTo next (changed_place v from next)
+changes v (Acquiring a from) (Acquiring b next) = row_changes v b from next
+changes v from next = same
 
 -- what of a place the invariant of form and bounds looks at
 pub record IsAsGood (p q : Place) : Type 0 where
@@ -71,7 +71,7 @@ call_at m NextCall a row next is = ((λ e. cc), is.1)
 call_at m (LooksAgain g) a row next is = is
 call_at m (Releases g more) a row next is = is
 
-pub as_good : {p q : Place} → Bends p q → IsAsGood p q
+pub as_good : {p q : Place} → ChangesTo p q → IsAsGood p q
 as_good same = record {
   holds = λ root r. refl;
   counter = refl;
@@ -144,28 +144,28 @@ as_good (lowers_none {a = a}) = record {
 }
 
 -- the same of a list
-pub data ListBends : ListPlace → ListPlace → Type 0 where
-  same_place : {p : ListPlace} → ListBends p p
-  parks : {t : Ticket} → ListBends (Waiting t W3) (Waiting t W4)
-  returns : {t : Ticket} → ListBends (Waiting t W4) (Waiting t W3)
+pub data ListChangesTo : ListPlace → ListPlace → Type 0 where
+  same_place : {p : ListPlace} → ListChangesTo p p
+  parks : {t : Ticket} → ListChangesTo (Waiting t W3) (Waiting t W4)
+  returns : {t : Ticket} → ListChangesTo (Waiting t W4) (Waiting t W3)
 
-from_w3 : (t : Ticket) (b : Bool) → ListBends (Waiting t W3) (Waiting t (if b then W3 else W4))
+from_w3 : (t : Ticket) (b : Bool) → ListChangesTo (Waiting t W3) (Waiting t (if b then W3 else W4))
 from_w3 t true = same_place
 from_w3 t false = parks
 
-from_w4 : (t : Ticket) (b : Bool) → ListBends (Waiting t W4) (Waiting t (if b then W3 else W4))
+from_w4 : (t : Ticket) (b : Bool) → ListChangesTo (Waiting t W4) (Waiting t (if b then W3 else W4))
 from_w4 t true = returns
 from_w4 t false = same_place
 
-wait_bends : (v : Variant) (t : Ticket) (ticket notify : ℕ) (from next : WaitRow)
-    → ListBends (Waiting t next) (Waiting t (changed_wait_row v ticket notify from next))
-wait_bends PlainLess t ticket notify W2 W3 = from_w3 t (nat_lt ticket notify)
-wait_bends PlainLess t ticket notify W2 W4 = from_w4 t (nat_lt ticket notify)
-wait_bends v t ticket notify from next = same_place
+wait_changes : (v : Variant) (t : Ticket) (ticket notify : ℕ) (from next : WaitRow)
+    → ListChangesTo (Waiting t next) (Waiting t (changed_wait_row v ticket notify from next))
+wait_changes PlainLess t ticket notify W2 W3 = from_w3 t (nat_lt ticket notify)
+wait_changes PlainLess t ticket notify W2 W4 = from_w4 t (nat_lt ticket notify)
+wait_changes v t ticket notify from next = same_place
 
-pub list_bends : (v : Variant) (notify : ℕ) (from next : ListPlace) → ListBends next (changed_list_place v notify from next)
-list_bends v notify (Waiting t from) (Waiting u next) = wait_bends v u t.word notify from next
-list_bends v notify from next = same_place
+pub list_changes : (v : Variant) (notify : ℕ) (from next : ListPlace) → ListChangesTo next (changed_list_place v notify from next)
+list_changes v notify (Waiting t from) (Waiting u next) = wait_changes v u t.word notify from next
+list_changes v notify from next = same_place
 
 pub record IsAsGoodOnList (p q : ListPlace) : Type 0 where
   pub holds : lists.holds q ≡ lists.holds p
@@ -183,7 +183,7 @@ has_none : (t : Ticket) (row next : WaitRow) (ticket : Option Ticket) → has_ti
 has_none t row next Rattle.std.specs.Prelude.None = refl
 has_none t row next (Rattle.std.specs.Prelude.Some u) = refl
 
-pub as_good_on_list : {p q : ListPlace} → ListBends p q → IsAsGoodOnList p q
+pub as_good_on_list : {p q : ListPlace} → ListChangesTo p q → IsAsGoodOnList p q
 as_good_on_list same_place = record {
   holds = refl;
   awaits = λ w k grant. refl;

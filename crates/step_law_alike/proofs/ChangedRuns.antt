@@ -21,7 +21,7 @@ use Rattle.step_law_whole.proofs.CoreKeeping as keeping
 use Rattle.step_law_whole.proofs.RunBeginning.{KeepsRuns}
 use Rattle.step_law_whole.proofs.RunStarting.{starts_so}
 use Rattle.step_law_whole.proofs.RunStepping.{is_there, can_run_at, steps_so}
-use Rattle.step_law_alike.proofs.ChangedPlaces.{IsAsGood, IsAsGoodOnList, as_good, as_good_on_list, bends, list_bends}
+use Rattle.step_law_alike.proofs.ChangedPlaces.{IsAsGood, IsAsGoodOnList, as_good, as_good_on_list, changes, list_changes}
 use Rattle.step_law_alike.proofs.ChangedWaiters.{waiters_stepped}
 use Rattle.step_law_alike.proofs.ChangedCore.{well_formed_keep, well_formed_core_first, well_formed_changed, goods, list_goods}
 
@@ -53,7 +53,7 @@ module _ (v : Variant) (parts : Parts) (s : Core) (run : Run) (i : ℕ) (there :
   runs_changed (AtCounter after) =
       let t : Core = run.core in
       let place : Place = changed_place v (s.semaphores.seats i).place (t.semaphores.seats i).place in
-      let good = as_good (bends v (s.semaphores.seats i).place (t.semaphores.seats i).place) in
+      let good = as_good (changes v (s.semaphores.seats i).place (t.semaphores.seats i).place) in
       let seat : SeatState = record (t.semaphores.seats i) { place = place } in
       record {
         core = well_formed_changed v (layout parts) s t i there sound.core (AtCounter after);
@@ -73,7 +73,7 @@ module _ (v : Variant) (parts : Parts) (s : Core) (run : Run) (i : ℕ) (there :
   runs_changed (AtList l) =
       let t : Core = run.core in
       let place : ListPlace = changed_list_place v (s.lists l).words.notify ((s.lists l).seats i).place ((t.lists l).seats i).place in
-      let good = as_good_on_list (list_bends v (s.lists l).words.notify ((s.lists l).seats i).place ((t.lists l).seats i).place) in
+      let good = as_good_on_list (list_changes v (s.lists l).words.notify ((s.lists l).seats i).place ((t.lists l).seats i).place) in
       let w : ListWorld = list.moved (t.lists l) i place in
       record {
         core = well_formed_changed v (layout parts) s t i there sound.core (AtList l);

@@ -7,7 +7,7 @@
 //! very same calls may change names. A renaming that keeps each seat's calls maps each run to a run, of the
 //! step table and of each changed one: it keeps refusals, phases, numbers and the start. A search that keeps
 //! one run of those that differ in names alone rests on that. The definitions are over those of `step_table`.
-//! Nothing here runs.
+//! What runs is `Variant` alone, which names the change of a table.
 #![tactic(auto)]
 
 mod laws;

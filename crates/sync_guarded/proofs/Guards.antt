@@ -1,6 +1,6 @@
 -- What a token is after each step of a guarded value.
 use Rattle.std.proofs.Common.{◌≡◌, ◌<◌, true, false, [], ◌∷◌, ◌++◌, sym, ap, ◌∙◌, subst}
-use Rattle.running_rows.specs.Strides.{Took, here, gives}
+use Rattle.running_rows.specs.Strides.{Took, here, runs_unlock}
 use Rattle.running_rows.specs.Table as atomic
 use mathlib.Core.Option as slot
 use Rattle.sync_parts.specs.declared.locker_call.LockerCall.{LockerCall}
@@ -42,7 +42,7 @@ module _ {T : Type 0} (g : GuardedModel) (s t : Token T) where
       out = (took.1.1, out_is);
     }
 
-  module _ (is : IsGuard g s true) (table : t.table_id ≡ s.table_id) (gave : gives (guard_rows {T = T}) (atomic.step 1 0 0 0 slot.none) s.me 0 t.me) where
+  module _ (is : IsGuard g s true) (table : t.table_id ≡ s.table_id) (gave : runs_unlock (guard_rows {T = T}) (atomic.step 1 0 0 0 slot.none) s.me 0 t.me) where
     unlock_is : gave.1.stride ≡ Unlocked
     unlock_is = gave.1.also.call_is ∙ ap call_by is.holds
 

@@ -11,8 +11,8 @@ use Rattle.step_table.proofs.Paths.{goes_on_here}
 use Rattle.step_table.proofs.Sums.{put_here}
 use Rattle.running_rows.specs.declared.view.View.{View}
 use Rattle.running_rows.specs.declared.view.Seated.{Seated}
-use Rattle.running_rows.specs.History.{Moment}
-use Rattle.running_rows.specs.Strides.{Went, Took, here, locks, gives}
+use Rattle.running_rows.specs.History.{SeatStride}
+use Rattle.running_rows.specs.Strides.{Went, Took, here, runs_lock, runs_unlock}
 use Rattle.running_rows.specs.Owing.{Stands, Leads, Owes, IsAside}
 use Rattle.running_rows.proofs.History.{in_more, strides_here, strides_else}
 use Rattle.running_rows.proofs.Telling.{stays_so, tells_more}
@@ -72,7 +72,7 @@ went_unlock u e = record {
 
 module _ {T : Type 0} (seats : ℕ) (m : Me T) (s : GuardLife) (words : List ℕ) (homes : List (slot.Option T))
     (at : Stands guard_rows seats m.0.own s words homes 0) where
-  abbrev moment : LockerCall → Moment LockerCall
+  abbrev moment : LockerCall → SeatStride LockerCall
   moment call = record { seat = m.0.own.number; stride = call }
 
   -- the world after this call
@@ -86,7 +86,7 @@ module _ {T : Type 0} (seats : ℕ) (m : Me T) (s : GuardLife) (words : List ℕ
     wide = length-set words 0 word ∙ at.shows.wide;
     lies = lies;
     in_turns = turns_more home s.at place s.history (moment call) at.shows.in_turns turn;
-    there = λ a h. ⊎_elim (λ q. at.shows.there a q) (λ q. subst (λ (b : Moment LockerCall). b.seat < seats) q at.there) (in_more a (moment call) s.history h);
+    there = λ a h. ⊎_elim (λ q. at.shows.there a q) (λ q. subst (λ (b : SeatStride LockerCall). b.seat < seats) q at.there) (in_more a (moment call) s.history h);
   }
 
   own_calls : (call : LockerCall) (word : ℕ) (place : Place) (holds : Bool) → holds ≡ holds_after false (call ∷ [])
@@ -128,7 +128,7 @@ module _ {T : Type 0} (seats : ℕ) (m : Me T) (s : GuardLife) (words : List ℕ
 
   -- the seat holds the lock: the value is with it, and goes home
   gives_it : m.0.own.knows.holds ≡ true → (y : T) → m.1 ≡ (0, y) ∷ []
-      → Leads guard_rows seats m s words homes 0 0 (λ t. gives guard_rows (atomic.step 1 0 0 0 slot.none) m 0 t)
+      → Leads guard_rows seats m s words homes 0 0 (λ t. runs_unlock guard_rows (atomic.step 1 0 0 0 slot.none) m 0 t)
   gives_it holds y out =
       let is_mine : s.at ≡ lent m.0.own.number = lent_to m.0.own.number s.at (sym (holds_is m.0.own.number home s.at s.history at.shows.in_turns)
       ∙ ap (holds_after false) at.knows.own ∙ sym at.knows.holds ∙ holds) in
@@ -150,7 +150,7 @@ module _ {T : Type 0} (seats : ℕ) (m : Me T) (s : GuardLife) (words : List ℕ
 
 -- an exchange of 0 for 1 by a seat that doesn't hold the lock
 pub lock_owes : {T : Type 0} (seats slots : ℕ) (m : Me T) → m.0.own.knows.holds ≡ false
-    → Owes guard_rows seats m 0 (λ n. either (n == 0) 1 n) (locks guard_rows (λ st. here) (atomic.step slots 0 0 1 slot.none) m)
+    → Owes guard_rows seats m 0 (λ n. either (n == 0) 1 n) (runs_lock guard_rows (λ st. here) (atomic.step slots 0 0 1 slot.none) m)
 lock_owes {T} seats slots m free s words homes at =
     let n : ℕ = slice_index words 0 in
     let told : Me T → Type 0 = λ t. (n ≢ 0 → t ≡ m) × (n ≡ 0 → Took guard_rows here m t) in
@@ -161,7 +161,7 @@ lock_owes {T} seats slots m free s words homes at =
 
 -- a store of 0 by the seat that holds it
 pub unlock_owes : {T : Type 0} (seats slots : ℕ) (m : Me T) → m.0.own.knows.holds ≡ true → (y : T) → m.1 ≡ (0, y) ∷ []
-    → Owes guard_rows seats m 0 (λ _. 0) (λ _. gives guard_rows (atomic.step slots 0 0 0 slot.none) m 0)
+    → Owes guard_rows seats m 0 (λ _. 0) (λ _. runs_unlock guard_rows (atomic.step slots 0 0 0 slot.none) m 0)
 unlock_owes seats slots m holds y out s words homes at = gives_it seats m s words homes at holds y out
 
 -- the world knows nothing of the word that says how many sleep

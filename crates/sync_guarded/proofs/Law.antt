@@ -4,7 +4,7 @@ use Rattle.std.proofs.Common.{◌∷◌, refl, sym, ap, ◌∙◌, subst, ⊎_el
 use mathlib.Core.Logic.{dite}
 use native.Mathlib.Decide.{dec_le}
 use Rattle.running_rows.specs.declared.view.Seated.{Seated}
-use Rattle.running_rows.specs.History.{Moment, strides_of}
+use Rattle.running_rows.specs.History.{SeatStride, strides_of}
 use Rattle.running_rows.specs.Rule.{In, IsSeated, Sits, IsKept}
 use Rattle.sync_parts.specs.declared.locker_call.LockerCall.{LockerCall}
 use Rattle.sync_guarded.specs.declared.view.GuardKnown.{GuardKnown}
@@ -13,15 +13,15 @@ use Rattle.sync_guarded.specs.Law.{WordState, IsSeatAt, IsOfASeat, TheGuard}
 use Rattle.sync_guarded.proofs.Turns.{holds_is, lent_to}
 
 -- a call in the history is one of those of its seat
-in_strides : (m : Moment LockerCall) (history : List (Moment LockerCall)) → In m history → In m.stride (strides_of m.seat history)
+in_strides : (m : SeatStride LockerCall) (history : List (SeatStride LockerCall)) → In m history → In m.stride (strides_of m.seat history)
 in_strides m [] h = absurd h
 in_strides m (n ∷ history) h = by (in_strides m history) (n.seat == m.seat) refl h
   where
     by : (In m history → In m.stride (strides_of m.seat history)) → (b : Bool) → (n.seat == m.seat) ≡ b → In m (n ∷ history)
         → In m.stride (if b then n.stride ∷ strides_of m.seat history else strides_of m.seat history)
-    by later true e (inl q) = inl (ap (λ (k : Moment LockerCall). k.stride) q)
+    by later true e (inl q) = inl (ap (λ (k : SeatStride LockerCall). k.stride) q)
     by later true e (inr q) = inr (later q)
-    by later false e (inl q) = let yes = eq-eqb n.seat m.seat (ap (λ (k : Moment LockerCall). k.seat) q) in absurd (cc)
+    by later false e (inl q) = let yes = eq-eqb n.seat m.seat (ap (λ (k : SeatStride LockerCall). k.seat) q) in absurd (cc)
     by later false e (inr q) = later q
 
 abbrev lent_is : Place → ℕ
@@ -42,7 +42,7 @@ module _ {T : Type 0} (seats : ℕ) (s : WordState T) (r : IsKept guard_rows sea
   one_has_it : (i k : ℕ) → is_with i r.world.at ≡ true → is_with k r.world.at ≡ true → i ≡ k
   one_has_it i k e d = ap lent_is (sym (lent_to i r.world.at e) ∙ lent_to k r.world.at d)
 
-  module _ (m : Moment LockerCall) (h : In m r.world.history) where
+  module _ (m : SeatStride LockerCall) (h : In m r.world.history) where
     made_it : In m.stride (strides_of m.seat r.world.history)
     made_it = in_strides m r.world.history h
 

@@ -1,19 +1,19 @@
 -- Who holds the lock of a guarded value, told from its history.
 use Rattle.std.proofs.Common.{◌≡◌, ℕ, ◌==◌, if◌then◌else◌, Bool, true, false, List, [], ◌∷◌, ◌++◌, sym, refl, ap, ◌∙◌, subst, eqb-true}
-use Rattle.running_rows.specs.History.{Moment, strides_of}
+use Rattle.running_rows.specs.History.{SeatStride, strides_of}
 use Rattle.sync_parts.specs.declared.locker_call.LockerCall.{LockerCall}
 use Rattle.sync_parts.specs.declared.locker_call.LockerCall.TheVariants.{Locked, Unlocked}
 use Rattle.sync_guarded.specs.Rule.{Place, home, lent, InTurns, is_with, holds_after}
 
 -- what was locked and unlocked in turn, and one call more
-pub turns_more : (from mid to : Place) (history : List (Moment LockerCall)) (m : Moment LockerCall) → InTurns from history mid → InTurns mid (m ∷ []) to
+pub turns_more : (from mid to : Place) (history : List (SeatStride LockerCall)) (m : SeatStride LockerCall) → InTurns from history mid → InTurns mid (m ∷ []) to
     → InTurns from (history ++ m ∷ []) to
 turns_more from mid to [] m t n = subst (λ (p : Place). InTurns p (m ∷ []) to) t n
 turns_more home mid to (h ∷ history) m t n = (t.0, turns_more (lent h.seat) mid to history m t.1 n)
 turns_more (lent i) mid to (h ∷ history) m t n = (t.0, t.1, turns_more home mid to history m t.2 n)
 
 -- a seat holds the lock by its own calls just where the value is with it by the history
-pub holds_is : (i : ℕ) (from last : Place) (history : List (Moment LockerCall)) → InTurns from history last
+pub holds_is : (i : ℕ) (from last : Place) (history : List (SeatStride LockerCall)) → InTurns from history last
     → holds_after (is_with i from) (strides_of i history) ≡ is_with i last
 holds_is i from last [] t = ap (is_with i) (sym t)
 holds_is i home last (m ∷ history) t = by (m.seat == i) refl (holds_is i (lent m.seat) last history t.1)

@@ -5,7 +5,7 @@ use lib.ListN.{get_elem?}
 use Rattle.running_rows.specs.Table.{State}
 use Rattle.running_rows.specs.declared.view.View.{View}
 use Rattle.running_rows.specs.declared.view.Seated.{Seated}
-use Rattle.running_rows.specs.History.{Moment, strides_of}
+use Rattle.running_rows.specs.History.{SeatStride, strides_of}
 use Rattle.running_rows.specs.Rule.{In}
 use Rattle.sync_parts.specs.declared.locker_call.LockerCall.{LockerCall}
 use Rattle.sync_guarded.specs.declared.view.GuardKnown.{GuardKnown}
@@ -23,7 +23,7 @@ pub record IsSeatAt {T : Type 0} (s : WordState T) (place : ℕ) (u : Seated Gua
   pub sits : (view.own ≡ u) ⊎ In u view.guests
 
 -- the call is one that a seat of the words has made
-pub record IsOfASeat {T : Type 0} (s : WordState T) (m : Moment LockerCall) : Type 0 where
+pub record IsOfASeat {T : Type 0} (s : WordState T) (m : SeatStride LockerCall) : Type 0 where
   pub place : ℕ
   pub seat : Seated GuardKnown LockerCall
   pub sits : IsSeatAt s place seat
@@ -36,10 +36,10 @@ pub record IsOfASeat {T : Type 0} (s : WordState T) (m : Moment LockerCall) : Ty
 -- at once
 pub record IsLawfulGuard {T : Type 0} (s : WordState T) : Type 0 where
   pub at : Place
-  pub history : List (Moment LockerCall)
+  pub history : List (SeatStride LockerCall)
   pub in_turns : InTurns home history at
   pub lies : LiesAt at (slice_index s.words 0) s.homes
-  pub each : (m : Moment LockerCall) → In m history → IsOfASeat s m
+  pub each : (m : SeatStride LockerCall) → In m history → IsOfASeat s m
   pub own : (place : ℕ) (u : Seated GuardKnown LockerCall) → IsSeatAt s place u
       → (strides_of u.number history ≡ u.gone) × (holds_after false u.gone ≡ is_with u.number at)
   pub one : (place other : ℕ) (u w : Seated GuardKnown LockerCall) → IsSeatAt s place u → IsSeatAt s other w

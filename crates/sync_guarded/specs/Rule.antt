@@ -6,7 +6,7 @@ use mathlib.Core.Option as slot
 use Rattle.running_rows.specs.Words as words
 use Rattle.running_rows.specs.declared.view.Seated.{Seated}
 use Rattle.running_rows.specs.Family.{Family}
-use Rattle.running_rows.specs.History.{Moment, strides_of}
+use Rattle.running_rows.specs.History.{SeatStride, strides_of}
 use Rattle.running_rows.specs.Rule.{In}
 use Rattle.step_table.specs.EventOf.{EventOf, take_lock, give_lock}
 use Rattle.step_table.specs.Path.{Watched, Sight, Stride, ran_at}
@@ -21,7 +21,7 @@ pub data Place : Type 0 where
   lent : ℕ → Place
 
 -- it is locked where it is at home, and unlocked by the seat that it was lent to
-abbrev pub InTurns : Place → List (Moment LockerCall) → Place → Type 0
+abbrev pub InTurns : Place → List (SeatStride LockerCall) → Place → Type 0
 InTurns at [] last = last ≡ at
 InTurns home (m ∷ history) last = (m.stride ≡ Locked) × InTurns (lent m.seat) history last
 InTurns (lent i) (m ∷ history) last = (m.stride ≡ Unlocked) × (m.seat ≡ i) × InTurns home history last
@@ -47,7 +47,7 @@ pub record GuardLife : Type 0 where
   pub word : ℕ
   pub holds : ℕ → Bool
   pub at : Place
-  pub history : List (Moment LockerCall)
+  pub history : List (SeatStride LockerCall)
 
 -- what a seat does next: who holds the lock unlocks
 abbrev pub next_event : Bool → EventOf (Unit {0}) ℕ Bool
@@ -75,7 +75,7 @@ pub record ShowsGuard {T : Type 0} (seats : ℕ) (s : GuardLife) (words : List �
   pub wide : length words ≡ 2
   pub lies : LiesAt s.at s.word homes
   pub in_turns : InTurns home s.history s.at
-  pub there : (m : Moment LockerCall) → In m s.history → m.seat < seats
+  pub there : (m : SeatStride LockerCall) → In m s.history → m.seat < seats
 
 -- the seat's calls are those that it has made, and it holds the lock where the last of them locked
 pub record HasCalled (u : Seated GuardKnown LockerCall) (s : GuardLife) : Type 0 where

@@ -17,7 +17,7 @@ use Rattle.step_table.proofs.Paths.{goes_on_here}
 use Rattle.step_table.proofs.Sums.{put_here}
 use Rattle.running_rows.specs.declared.view.Seated.{Seated}
 use Rattle.running_rows.specs.Strides.{Went, RanRow}
-use Rattle.running_rows.specs.History.{Moment}
+use Rattle.running_rows.specs.History.{SeatStride}
 use Rattle.running_rows.proofs.History.{in_more, strides_here, strides_else}
 use Rattle.running_rows.specs.Owing.{Stands, Leads as LeadsOn, Owes}
 use Rattle.sync_parts.specs.declared.group_view.GroupKnown.{GroupKnown}
@@ -25,7 +25,7 @@ use Rattle.sync_parts.specs.declared.group_view.GroupStep.{GroupStep}
 use Rattle.sync_parts.specs.GroupRule.{Follows, AreCalls, Leads, GroupLife, ShowsLife, HasRun, living_group, stride_of, group_rows}
 use Rattle.sync_parts.specs.GroupPlays.{Me, step, at_row}
 
-leads_more : (word left : GroupWord) (history : List (Moment GroupStep)) (m : Moment GroupStep) → Leads word history left → m.stride.found ≡ left
+leads_more : (word left : GroupWord) (history : List (SeatStride GroupStep)) (m : SeatStride GroupStep) → Leads word history left → m.stride.found ≡ left
     → Leads word (history ++ m ∷ []) (group_row m.stride.row m.stride.found).0
 leads_more word left [] m l e = (e ∙ l, refl)
 leads_more word left (n ∷ history) m l e = (l.0, leads_more (group_row n.stride.row n.stride.found).0 left history m l.1 e)
@@ -81,7 +81,7 @@ module _ (seats : ℕ) (m : Me) (row : GroupRow) (follows : Follows m.0.own.know
     abbrev n : ℕ
     n = slice_index words 0
 
-    abbrev moment : Moment GroupStep
+    abbrev moment : SeatStride GroupStep
     moment = record { seat = m.0.own.number; stride = step row (word_in n) }
 
     abbrev next : GroupLife
@@ -97,7 +97,7 @@ module _ (seats : ℕ) (m : Me) (row : GroupRow) (follows : Follows m.0.own.know
     shows = record {
       word_is = ap word_in (get_or-set_same words 0 (f n) 0 at.shows.wide) ∙ becomes n at.below;
       leads = leads_more empty_word s.word s.history moment at.shows.leads at.shows.word_is;
-      there = λ a h. ⊎_elim (λ q. at.shows.there a q) (λ q. subst (λ (b : Moment GroupStep). b.seat < seats) q at.there) (in_more a moment s.history h);
+      there = λ a h. ⊎_elim (λ q. at.shows.there a q) (λ q. subst (λ (b : SeatStride GroupStep). b.seat < seats) q at.there) (in_more a moment s.history h);
       wide = let l = length-set words 0 (f n) in let w = at.shows.wide in omega arith;
     }
 

@@ -5,7 +5,7 @@ use mathlib.Core.Logic.{dite}
 use native.Mathlib.Decide.{dec_le}
 use Rattle.running_rows.specs.Table.{State}
 use Rattle.running_rows.specs.declared.view.Seated.{Seated}
-use Rattle.running_rows.specs.History.{Moment, strides_of}
+use Rattle.running_rows.specs.History.{SeatStride, strides_of}
 use Rattle.running_rows.specs.Rule.{In, IsSeated, Sits, IsKept}
 use Rattle.sync_parts.specs.declared.group_view.GroupKnown.{GroupKnown}
 use Rattle.sync_parts.specs.declared.group_view.GroupStep.{GroupStep}
@@ -15,18 +15,18 @@ use Rattle.step_table.specs.Group.{empty_word}
 use Rattle.sync_parts.specs.GroupLaw.{IsOfASeat, TheGroup}
 
 -- a row in the history is one of those of its seat
-in_strides : (m : Moment GroupStep) (history : List (Moment GroupStep)) → In m history → In m.stride (strides_of m.seat history)
+in_strides : (m : SeatStride GroupStep) (history : List (SeatStride GroupStep)) → In m history → In m.stride (strides_of m.seat history)
 in_strides m [] h = absurd h
 in_strides m (n ∷ history) h = by (in_strides m history) (n.seat == m.seat) refl h
   where
     by : (In m history → In m.stride (strides_of m.seat history)) → (b : Bool) → (n.seat == m.seat) ≡ b → In m (n ∷ history)
         → In m.stride (if b then n.stride ∷ strides_of m.seat history else strides_of m.seat history)
-    by later true e (inl q) = inl (ap (λ (k : Moment GroupStep). k.stride) q)
+    by later true e (inl q) = inl (ap (λ (k : SeatStride GroupStep). k.stride) q)
     by later true e (inr q) = inr (later q)
-    by later false e (inl q) = let yes = eq-eqb n.seat m.seat (ap (λ (k : Moment GroupStep). k.seat) q) in absurd (cc)
+    by later false e (inl q) = let yes = eq-eqb n.seat m.seat (ap (λ (k : SeatStride GroupStep). k.seat) q) in absurd (cc)
     by later false e (inr q) = later q
 
-module _ (seats : ℕ) (s : State (Unit {0}) GroupView) (r : IsKept group_rows seats s) (m : Moment GroupStep) (h : In m r.world.history) where
+module _ (seats : ℕ) (s : State (Unit {0}) GroupView) (r : IsKept group_rows seats s) (m : SeatStride GroupStep) (h : In m r.world.history) where
   ran_it : In m.stride (strides_of m.seat r.world.history)
   ran_it = in_strides m r.world.history h
 

@@ -17,7 +17,7 @@ use Rattle.step_table.specs.declared.standing.GroupNext.TheVariants.{Ends, Goes,
 use Rattle.step_table.specs.Group.{group_row, plus, same_word}
 use Rattle.step_table.specs.GroupBits.{bits_of, word_in, high, bits_after, IsGroupWord}
 use Rattle.step_table.proofs.GroupBits.{the_group_words}
-use Rattle.running_rows.specs.Strides.{RanRow, here, goes, stores}
+use Rattle.running_rows.specs.Strides.{RanRow, here, runs_access, runs_store}
 use Rattle.running_rows.specs.Owing.{Owes}
 use Rattle.sync_parts.specs.declared.group_view.GroupKnown.{GroupKnown}
 use Rattle.sync_parts.specs.GroupRule.{Follows, group_rows}
@@ -29,7 +29,7 @@ pub begins_add : (d : ℤ) (more : ℕ) → FitsSigned w32 d → more ≡ high d
 begins_add d more fits is = ap (cast_signed w32) (omega (arith, is)) ∙ to_z-of_z w32 d fits
 
 pub add_owes : (seats slots : ℕ) (m : Me) (d : ℤ) (more : ℕ) → FitsSigned w32 d → more ≡ high d → Follows m.0.own.knows.next (G1 d)
-    → Owes group_rows seats m 0 (λ n. (n + more) % 18446744073709551616) (goes group_rows at_add (atomic.step slots 0 more 0 none) m)
+    → Owes group_rows seats m 0 (λ n. (n + more) % 18446744073709551616) (runs_access group_rows at_add (atomic.step slots 0 more 0 none) m)
 add_owes seats slots m d more fits is follows =
     owes seats m (G1 d) follows (λ n. (n + more) % 18446744073709551616)
     (λ n below. ap (λ (k : ℕ). word_in ((n + k) % 18446744073709551616)) is ∙ the_group_words.shown n (G1 d) below tt)
@@ -49,7 +49,7 @@ load_keeps Acquires w = refl
 load_keeps (Releases n) w = refl
 
 pub load_owes : (seats slots : ℕ) (m : Me) → Follows m.0.own.knows.next (load_row m.0.own.knows.next)
-    → Owes group_rows seats m 0 (λ n. n) (goes group_rows at_load (atomic.step slots 0 0 0 none) m)
+    → Owes group_rows seats m 0 (λ n. n) (runs_access group_rows at_load (atomic.step slots 0 0 0 none) m)
 load_owes seats slots m follows =
     owes seats m (load_row m.0.own.knows.next) follows (λ n. n) (λ n below. load_keeps m.0.own.knows.next (word_in n)) (at_load (atomic.step slots 0 0 0 none)) refl
 
@@ -59,7 +59,7 @@ standing row v e i = record v { next = e i }
 
 pub exchange_owes : (seats slots : ℕ) (m : Me) (seen : GroupWord) (old new : ℕ) → IsGroupWord seen → m.0.own.knows.next ≡ Goes (V2 seen)
     → old ≡ bits_of seen → new ≡ (old + 1) % 18446744073709551616
-    → Owes group_rows seats m 0 (λ n. either (n == old) new n) (goes group_rows (λ st. here) (atomic.step slots 0 old new none) m)
+    → Owes group_rows seats m 0 (λ n. either (n == old) new n) (runs_access group_rows (λ st. here) (atomic.step slots 0 old new none) m)
 exchange_owes seats slots m seen old new is at old_is new_is =
     owes seats m (V2 seen) (subst (λ (k : GroupNext). Follows k (V2 seen)) (sym at) refl) (λ n. either (n == old) new n)
     (λ n below. ap word_in (exchanged n old new (λ y. y ≡ bits_after (V2 seen) n) (won n) (lost n)) ∙ the_group_words.shown n (V2 seen) below is)
@@ -74,7 +74,7 @@ exchange_owes seats slots m seen old new is at old_is new_is =
         (sym (ne_eqb n (bits_of seen) (λ e. ne (e ∙ sym old_is))))
 
 pub store_owes : (seats slots : ℕ) (m : Me) (seen : GroupWord) → m.0.own.knows.next ≡ Goes (G3 seen)
-    → Owes group_rows seats m 0 (λ _. 0) (λ _. stores group_rows (λ st. here) (atomic.step slots 0 0 0 none) m 0)
+    → Owes group_rows seats m 0 (λ _. 0) (λ _. runs_store group_rows (λ st. here) (atomic.step slots 0 0 0 none) m 0)
 store_owes seats slots m seen at s words homes stands =
     let o = led seats m (G3 seen) (subst (λ (k : GroupNext). Follows k (G3 seen)) (sym at) refl) (λ _. 0) (λ n below. refl) s words homes stands
     here (standing (G3 seen) m.0.own.knows at) in record {

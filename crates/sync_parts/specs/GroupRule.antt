@@ -14,7 +14,7 @@ use Rattle.step_table.specs.GroupBits.{word_in, IsGroupWord}
 use Rattle.step_table.specs.GroupPath.{GroupStride, next_event, going, ran_row}
 use Rattle.running_rows.specs.declared.view.Seated.{Seated}
 use Rattle.running_rows.specs.Family.{Family}
-use Rattle.running_rows.specs.History.{Moment, strides_of}
+use Rattle.running_rows.specs.History.{SeatStride, strides_of}
 use Rattle.running_rows.specs.Rule.{In}
 use Rattle.sync_parts.specs.declared.group_view.GroupKnown.{GroupKnown}
 use Rattle.sync_parts.specs.declared.group_view.GroupStep.{GroupStep}
@@ -38,7 +38,7 @@ AreCalls from [] to = to ≡ from
 AreCalls from (p ∷ steps) to = Follows from p.row × AreCalls (group_row p.row p.found).1 steps to
 
 -- each row found the word that the row before it left, and the last left this one
-abbrev pub Leads : GroupWord → List (Moment GroupStep) → GroupWord → Type 0
+abbrev pub Leads : GroupWord → List (SeatStride GroupStep) → GroupWord → Type 0
 Leads word [] left = left ≡ word
 Leads word (m ∷ history) left =
     (m.stride.found ≡ word) × Leads (group_row m.stride.row m.stride.found).0 history left
@@ -47,7 +47,7 @@ Leads word (m ∷ history) left =
 pub record GroupLife : Type 0 where
   pub word : GroupWord
   pub nexts : ℕ → GroupNext
-  pub history : List (Moment GroupStep)
+  pub history : List (SeatStride GroupStep)
 
 -- one group, whose word may be any of 64 bits
 abbrev pub living_group : Watched GroupLife (Unit {0}) GroupWord GroupNext GroupNext ⊥
@@ -67,7 +67,7 @@ living_group = record {
 pub record ShowsLife (seats : ℕ) (s : GroupLife) (words : List ℕ) : Type 0 where
   pub word_is : word_in (slice_index words 0) ≡ s.word
   pub leads : Leads empty_word s.history s.word
-  pub there : (m : Moment GroupStep) → In m s.history → m.seat < seats
+  pub there : (m : SeatStride GroupStep) → In m s.history → m.seat < seats
   pub wide : 0 < length words
 
 -- the seat's rows are those that it has gone, which are of calls

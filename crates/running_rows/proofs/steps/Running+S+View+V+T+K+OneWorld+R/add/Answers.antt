@@ -1,7 +1,7 @@
 use Rattle.std.proofs.Common.{◌+◌, ◌%◌, ◌^◌}
 use mathlib.Core.Option.{none}
 use Rattle.atomic_table.specs.Table.{step}
-use Rattle.running_rows.specs.Strides.{goes}
+use Rattle.running_rows.specs.Strides.{runs_access}
 use Rattle.running_rows.proofs.Keeping.{allowed}
 use Rattle.running_rows.proofs.steps.Running+S+View+V+T+K+OneWorld+R.add.Goals as goal
 
@@ -9,5 +9,5 @@ pub fetch_add-requires : goal.fetch_add-requires
 fetch_add-requires g c = (
   c.requires.own.0,
   c.requires.word,
-  allowed g.R.Rows.family _ _ _ _ _ (λ n. (n + c.args.more) % 2 ^ 64) (goes g.R.Rows.family g.A.Start.at (step _ _ c.args.more 0 none) _) c.requires.own.1 c.requires.owes,
+  allowed g.R.Rows.family _ _ _ _ _ (λ n. (n + c.args.more) % 2 ^ 64) (runs_access g.R.Rows.family g.A.Start.at (step _ _ c.args.more 0 none) _) c.requires.own.1 c.requires.owes,
 )
