@@ -13,7 +13,7 @@ use waiters::SeatId;
 
 impl Machine {
     /// The seat begins this call: that is no step.
-    pub(crate) fn call(&mut self, seat: SeatId, call: Call)
+    pub fn call(&mut self, seat: SeatId, call: Call)
         requires seat { HasSeat self.old seat }
         requires call { MayBegin self.old seat call }
         ensures { Becomes (λ m s. calls s seat call) self.old self.new }

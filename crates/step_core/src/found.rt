@@ -1,15 +1,15 @@
 //! What the row of a seat finds in its word.
 
-ghost use Rattle.std.specs.Prelude.{◌≡◌, ◌<◌, ◌+◌, ◌^◌, List, Some};
+ghost use Rattle.std.specs.Prelude.{◌≡◌, ◌<◌, ◌+◌, ◌^◌, List, IfOk, IfErr, Some, None};
 ghost use Rattle.step_table.specs.declared.entry.Entry.{Entry as Told};
 ghost use Rattle.step_table.specs.Core.{CoreLayout};
 ghost use Rattle.step_core.specs.Finding.{exchanged, found_on_counter, found_on_group, found_doing};
-ghost use Rattle.step_core.specs.State.{core_of, HasSeat, IsMachineFor, IsReady};
+ghost use Rattle.step_core.specs.State.{core_of, AsksFor, HasSeat, IsMachineFor, IsReady, IsRefusal};
 ghost use Rattle.step_rows.specs.Stored.{each};
 
 use crate::machine::Machine;
 use crate::turn::Turn;
-use step_table::{AcquireRow, GroupRow, GroupWord, Place, ReleaseRow, Standing};
+use step_table::{AcquireRow, GroupRow, GroupWord, Place, ReleaseRow, Standing, StepRefused};
 use waiters::SeatId;
 
 /// What a row finds in its word; of an exchange, whether it is won.
@@ -59,6 +59,20 @@ fn on_group(row: GroupRow, word: GroupWord) -> Found
 }
 
 impl Machine {
+    /// What the row finds at which the seat stands, if it can run, or why it can't.
+    pub fn look(&self, seat: SeatId) -> Result<Found, StepRefused>
+        requires seat { HasSeat self.now seat }
+        requires asks { AsksFor self.now seat (each Standing.Rest self.now.standing seat) }
+        ensures can { IfOk result (λ found. IsRefusal self.now seat None) }
+        ensures found { IfOk result (λ found. (m : CoreLayout) → IsMachineFor m self.now
+            → (journal : List Told)
+            → found_doing m (core_of self.now journal) seat (each Standing.Rest self.now.standing seat) ≡ Some found) }
+        ensures why { IfErr result (λ cause. IsRefusal self.now seat (Some cause)) }
+    {
+        let turn = self.ready(seat)?;
+        Ok(self.found(seat, &turn))
+    }
+
     /// What the row of the seat finds, which can run.
     pub(crate) fn found(&self, seat: SeatId, turn: &Turn) -> Found
         requires seat { HasSeat self.now seat }

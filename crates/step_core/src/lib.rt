@@ -25,6 +25,7 @@ mod world;
 pub use changed::ChangedWorld;
 pub use found::Found;
 pub use laws::{law_of_one_key, law_of_the_keys};
+pub use machine::Machine;
 pub use moment::Moment;
 pub use picture::Picture;
 pub use schedule::run;

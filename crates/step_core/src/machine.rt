@@ -14,7 +14,6 @@ ghost use Rattle.step_rows.specs.ListStored.{IsListReady, world_of};
 ghost use Rattle.step_table.specs.Core.{CoreLayout, semaphore};
 ghost use Rattle.step_table.specs.CoreSteps.{stands, at_counter, at_list, waits_on_list, releases};
 ghost use Rattle.step_table.specs.CoreSteps.{counter_row, list_row};
-ghost use Rattle.step_table.specs.Scenario.{IsWithinLimits};
 ghost use Rattle.step_core.specs.State.{Becomes, IsMachineFor, HasSeat, HasListSeat, no_list, core_of};
 ghost use Rattle.step_rows.specs.Stored.{each, IsReadyFor};
 
@@ -31,11 +30,11 @@ use waiters::{CounterId, NoMemory, SeatId};
 
 /// All that rows read and write, and what each seat is doing.
 #[derive(Drop)]
-pub(crate) struct Machine {
-    pub semaphores: Semaphores,
-    pub lists: Vec<ListMachine>,
-    pub groups: Vec<GroupWord>,
-    pub standing: Vec<Standing>,
+pub struct Machine {
+    pub(crate) semaphores: Semaphores,
+    pub(crate) lists: Vec<ListMachine>,
+    pub(crate) groups: Vec<GroupWord>,
+    pub(crate) standing: Vec<Standing>,
 }
 
 impl Model for Machine {
@@ -61,7 +60,7 @@ impl Machine {
     }
 
     /// The seat does this now.
-    pub fn stand(&mut self, seat: SeatId, standing: Standing)
+    pub(crate) fn stand(&mut self, seat: SeatId, standing: Standing)
         requires { HasSeat self.old seat }
         ensures { Becomes (λ m s. stands s seat standing) self.old self.new }
     {
@@ -69,7 +68,7 @@ impl Machine {
     }
 
     /// The seat stands at this place on the semaphores.
-    pub fn move_on_counters(&mut self, seat: SeatId, place: Place)
+    pub(crate) fn move_on_counters(&mut self, seat: SeatId, place: Place)
         requires { HasSeat self.old seat }
         ensures { Becomes (λ m s. record s { semaphores = moved s.semaphores seat place }) self.old self.new }
     {
@@ -77,7 +76,7 @@ impl Machine {
     }
 
     /// The seat stands at this place on the list.
-    pub fn move_on_list(&mut self, seat: SeatId, list: ListId, place: ListPlace)
+    pub(crate) fn move_on_list(&mut self, seat: SeatId, list: ListId, place: ListPlace)
         requires { HasListSeat self.old list seat }
         ensures { Becomes (λ m s. record s {
           lists = put s.lists list
@@ -100,7 +99,7 @@ impl Machine {
     }
 
     /// The word of the group becomes this.
-    pub fn set_group(&mut self, group: GroupId, word: GroupWord)
+    pub(crate) fn set_group(&mut self, group: GroupId, word: GroupWord)
         requires { group < length self.old.groups }
         ensures { Becomes (λ m s. record s { groups = put s.groups group word }) self.old self.new }
     {
@@ -108,7 +107,7 @@ impl Machine {
     }
 
     /// A row on the semaphores, which can run.
-    pub fn run_on_counter(&mut self, seat: SeatId, ready: &Ready)
+    pub(crate) fn run_on_counter(&mut self, seat: SeatId, ready: &Ready)
         requires { IsReadyFor self.old.semaphores seat ready.now }
         ensures { Becomes (λ m s. counter_row m s seat) self.old self.new }
     {
@@ -116,7 +115,7 @@ impl Machine {
     }
 
     /// A row on the list, which can run.
-    pub fn run_on_list(&mut self, seat: SeatId, list: ListId, ready: &ListReady)
+    pub(crate) fn run_on_list(&mut self, seat: SeatId, list: ListId, ready: &ListReady)
         requires there { list < length self.old.lists }
         requires ready { IsListReady (each no_list self.old.lists list) seat ready.now }
         ensures { Becomes (λ m s. list_row s seat list) self.old self.new }
@@ -125,7 +124,7 @@ impl Machine {
     }
 
     /// The seat stands at this place of a call on a counter, after which this comes.
-    pub fn at_counter(&mut self, seat: SeatId, place: Place, after: After)
+    pub(crate) fn at_counter(&mut self, seat: SeatId, place: Place, after: After)
         requires { HasSeat self.old seat }
         ensures { Becomes (λ m s. at_counter s seat place after) self.old self.new }
     {
@@ -134,7 +133,7 @@ impl Machine {
     }
 
     /// The seat stands at this place of a call on the list.
-    pub fn at_list(&mut self, seat: SeatId, list: ListId, place: ListPlace)
+    pub(crate) fn at_list(&mut self, seat: SeatId, list: ListId, place: ListPlace)
         requires seat { HasSeat self.old seat }
         requires list { HasListSeat self.old list seat }
         ensures { Becomes (λ m s. at_list s seat list place) self.old self.new }
@@ -144,7 +143,7 @@ impl Machine {
     }
 
     /// The seat waits on the list with the ticket that it holds.
-    pub fn wait_on_list(&mut self, seat: SeatId, list: ListId)
+    pub(crate) fn wait_on_list(&mut self, seat: SeatId, list: ListId)
         requires seat { HasSeat self.old seat }
         requires list { HasListSeat self.old list seat }
         ensures { Becomes (λ m s. waits_on_list s seat list) self.old self.new }
@@ -154,7 +153,7 @@ impl Machine {
     }
 
     /// The counter that is the semaphore of the group.
-    pub fn semaphore(&self, group: GroupId) -> CounterId
+    pub(crate) fn semaphore(&self, group: GroupId) -> CounterId
         requires { self.now.semaphores.stored.own + group < 2 ^ 32 }
         ensures { (m : CoreLayout) → IsMachineFor m self.now → result ≡ semaphore m group }
     {
@@ -162,7 +161,7 @@ impl Machine {
     }
 
     /// The seat makes so many releases on the semaphore of the group, one after the other.
-    pub fn release(&mut self, seat: SeatId, group: GroupId, number: u32)
+    pub(crate) fn release(&mut self, seat: SeatId, group: GroupId, number: u32)
         requires seat { HasSeat self.old seat }
         requires group { self.old.semaphores.stored.own + group < 2 ^ 32 }
         ensures { Becomes (λ m s. releases m s seat group number) self.old self.new }
@@ -217,7 +216,9 @@ impl Machine {
     /// Writes all that rows look at, for so much as the parts say.
     pub fn write_key(&self, parts: &Parts, key: &mut Vec<u64>) -> Result<(), NoMemory>
         requires form { HasForm parts.now self.now }
-        requires limits { IsWithinLimits parts.now }
+        requires few_counters { length parts.now.starts + parts.now.groups < 2 ^ 32 }
+        requires few_roots { parts.now.roots + parts.now.groups < 2 ^ 32 }
+        requires few_seats { length parts.now.calls < 2 ^ 16 }
         ensures { OnOk result (key.new.items ≡ key.old.items ++ core_words parts.now (core_of self.now [])) }
     {
         self.semaphores.write_key(parts.groups, key)?;

@@ -1,21 +1,20 @@
-//! The machine at the start of a scenario, and copies of it.
+//! The machine at its start, and copies of it.
 
-ghost use Rattle.std.specs.Prelude.{◌≡◌, ◌<◌, ◌^◌, ℕ, [], length, map, IfOk, OnOk};
+ghost use Rattle.std.specs.Prelude.{◌≡◌, ◌<◌, ◌+◌, ◌^◌, ℕ, [], length, map, IfOk, OnOk};
 ghost use Rattle.std.specs.List.{range_with_len};
 ghost use Rattle.step_table.specs.Core.{first_core};
 ghost use Rattle.step_table.specs.Run.{layout};
 ghost use Rattle.step_table.specs.Group.{empty_word};
 ghost use Rattle.step_rows.specs.ListStored.{first_moment, moment_of};
-ghost use Rattle.step_core.specs.State.{core_of, AreFirst, IsMachineFor};
-ghost use Rattle.step_rows.specs.Stored.{IsStoredFor};
+ghost use Rattle.step_core.specs.Key.{HasForm};
+ghost use Rattle.step_core.specs.State.{core_of, AreFirst};
 ghost use Rattle.step_table.specs.declared.standing.Standing.TheVariants.{Rest};
 
 use crate::group::EMPTY;
 use crate::machine::Machine;
 use std::alloc::{AllocError, Global};
 use step_rows::{ListMachine, Semaphores, copy_items};
-use step_scenario::Scenario;
-use step_table::{GroupWord, Standing};
+use step_table::{GroupWord, Parts, Standing};
 use waiters::NoMemory;
 
 /// The lists at their first tickets.
@@ -74,16 +73,15 @@ pub(crate) fn boxed(alloc: Global, machine: Machine) -> Result<Box<Machine>, All
 
 impl Machine {
     /// The machine before any call has begun. All memory of a run is taken here.
-    pub(crate) fn new(alloc: Global, scenario: &Scenario) -> Result<Machine, NoMemory>
-        ensures shape { IfOk result (λ h. IsMachineFor (layout scenario.now) h) }
-        ensures stored { IfOk result
-            (λ h. IsStoredFor (length scenario.now.starts) scenario.now.groups scenario.now.roots
-            (length scenario.now.calls) h.semaphores.stored) }
-        ensures core { IfOk result (λ h. core_of h [] ≡ first_core (layout scenario.now)) }
+    pub fn new(alloc: Global, parts: &Parts) -> Result<Machine, NoMemory>
+        requires some_root { 0 < parts.now.roots }
+        requires few_counters { length parts.now.starts + parts.now.groups < 2 ^ 32 }
+        requires few_seats { length parts.now.calls < 2 ^ 16 }
+        ensures form { IfOk result (HasForm parts.now) }
+        ensures core { IfOk result (λ h. core_of h [] ≡ first_core (layout parts.now)) }
     {
-        let parts = scenario.parts();
         let seats = parts.calls.len();
-        let starts = scenario.starts();
+        let starts = parts.starts.as_slice();
         Ok(Machine {
             semaphores: Semaphores::new(alloc, starts, parts.groups, parts.roots, seats)?,
             lists: first_lists(alloc, parts.firsts.as_slice(), seats as u16)?,
@@ -93,7 +91,7 @@ impl Machine {
     }
 
     /// The same, with memory of its own for the rest of the run.
-    pub(crate) fn try_clone(&self, alloc: Global) -> Result<Machine, NoMemory>
+    pub fn try_clone(&self, alloc: Global) -> Result<Machine, NoMemory>
         ensures { IfOk result (λ other. other ≡ self.now) }
     {
         Ok(Machine {
@@ -106,7 +104,7 @@ impl Machine {
 
     /// Becomes as the other is, in the memory that it has. Memory is taken where that has other lists, roots
     /// or seats.
-    pub(crate) fn copy_from(&mut self, alloc: Global, other: &Machine) -> Result<(), NoMemory>
+    pub fn copy_from(&mut self, alloc: Global, other: &Machine) -> Result<(), NoMemory>
         ensures { OnOk result (self.new ≡ other.now) }
     {
         if self.lists.len() != other.lists.len() {

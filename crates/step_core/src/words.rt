@@ -1,6 +1,6 @@
-//! What the machine has in the words of its lists and groups.
+//! What the machine has in its words.
 
-ghost use Rattle.std.specs.Prelude.{◌≡◌, ◌<◌, List, [], length, map, IfOk};
+ghost use Rattle.std.specs.Prelude.{◌≡◌, ◌<◌, List, [], length, map, IfOk, is_some};
 ghost use Rattle.step_table.specs.declared.entry.Entry.{Entry as Told};
 ghost use Rattle.step_table.specs.Group.{empty_word};
 ghost use Rattle.step_table.specs.ListWorld.{found};
@@ -12,11 +12,38 @@ ghost use Rattle.step_rows.specs.Stored.{each};
 use crate::machine::Machine;
 use std::alloc::Global;
 use step_table::{GroupId, GroupWord, ListId, ListPlace, ListWord, Ticket};
-use waiters::{NoMemory, SeatId, WaitId};
+use waiters::{CounterId, NoMemory, SeatId, WaitId};
 
 impl Machine {
+    /// The number of the counter.
+    pub fn number(&self, counter: CounterId) -> u64
+        requires { counter < length self.now.semaphores.stored.numbers }
+        ensures { (journal : List Told)
+            → result ≡ (core_of self.now journal).semaphores.words.numbers counter }
+    {
+        self.semaphores.number(counter)
+    }
+
+    /// The waits of the counter's list, in order.
+    pub fn waiting(&self, alloc: Global, counter: CounterId) -> Result<Vec<WaitId>, NoMemory>
+        requires { counter < length self.now.semaphores.stored.lists }
+        ensures { IfOk result (λ waits. (journal : List Told)
+            → waits.items ≡ (core_of self.now journal).semaphores.words.lists counter) }
+    {
+        self.semaphores.waiting(alloc, counter)
+    }
+
+    /// Whether the seat holds a ticket of the list with which it doesn't wait yet.
+    pub fn holds_ticket(&self, list: ListId, seat: SeatId) -> bool
+        requires { HasListSeat self.now list seat }
+        ensures { (journal : List Told)
+            → result ≡ is_some (((core_of self.now journal).lists list).seats seat).ticket }
+    {
+        self.lists[list.number() as usize].ticket(seat).is_some()
+    }
+
     /// The number in a word of the list.
-    pub(crate) fn list_number(&self, list: ListId, word: &ListWord) -> u64
+    pub fn list_number(&self, list: ListId, word: &ListWord) -> u64
         requires list { list < length self.now.lists }
         requires word { HasListWord (length (each no_list self.now.lists list).seats) word.now }
         ensures { (journal : List Told)
@@ -26,7 +53,7 @@ impl Machine {
     }
 
     /// The waits of the list, in order.
-    pub(crate) fn queued(&self, alloc: Global, list: ListId) -> Result<Vec<WaitId>, NoMemory>
+    pub fn queued(&self, alloc: Global, list: ListId) -> Result<Vec<WaitId>, NoMemory>
         requires { list < length self.now.lists }
         ensures { IfOk result (λ waits. (journal : List Told) → waits.items
             ≡ map (λ wait. wait.id) ((core_of self.now journal).lists list).words.queue) }
@@ -35,7 +62,7 @@ impl Machine {
     }
 
     /// The ticket of the list that the seat holds or waits with.
-    pub(crate) fn ticket(&self, list: ListId, seat: SeatId) -> Option<Ticket>
+    pub fn ticket(&self, list: ListId, seat: SeatId) -> Option<Ticket>
         requires { HasListSeat self.now list seat }
         ensures { (journal : List Told)
             → result ≡ ticket_of (((core_of self.now journal).lists list).seats seat) }
@@ -48,7 +75,7 @@ impl Machine {
     }
 
     /// How many tickets of the list were handed out.
-    pub(crate) fn handed_out(&self, list: ListId) -> u64
+    pub fn handed_out(&self, list: ListId) -> u64
         requires { list < length self.now.lists }
         ensures { (journal : List Told)
             → result ≡ ((core_of self.now journal).lists list).words.numbers.handed }
@@ -57,7 +84,7 @@ impl Machine {
     }
 
     /// How many tickets of the list are granted.
-    pub(crate) fn granted(&self, list: ListId) -> u64
+    pub fn granted(&self, list: ListId) -> u64
         requires { list < length self.now.lists }
         ensures { (journal : List Told)
             → result ≡ ((core_of self.now journal).lists list).words.numbers.granted }
@@ -66,7 +93,7 @@ impl Machine {
     }
 
     /// The state word of the group.
-    pub(crate) fn group(&self, group: GroupId) -> GroupWord
+    pub fn group(&self, group: GroupId) -> GroupWord
         requires { group < length self.now.groups }
         ensures { result ≡ each empty_word self.now.groups group }
     {
