@@ -271,7 +271,8 @@ pub wait_reads : (words : List (List ℕ)) (a : List ℕ) → (let x : List ℕ 
 wait_reads words a h =
     let x : List ℕ = a in
     let f = found (AreOne IsName words) x h in
-    one_of (AreArgumentsOf verb.Wait words) (Wait a) (record { verb_is = refl; form = f.said.form; spelled = f.words_are ∙ (λ i. f.said.spelled i ∷ []) }) is
+    one_of (AreArgumentsOf verb.Wait words) (Wait a) (record { verb_is = refl; form = f.said.form; spelled = f.words_are ∙ (λ i. f.said.spelled i ∷ []) })
+    is
   where
     is : (l : Line) → AreArgumentsOf verb.Wait words l → l ≡ (Wait a)
     is (Wait p0) q =

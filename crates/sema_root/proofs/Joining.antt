@@ -1,5 +1,6 @@
 -- What a change of one list does to the queues of all counters, whatever keeps the entries.
-use Rattle.std.proofs.Common.{◌≡◌, ◌≢◌, ◌==◌, ℕ, ◌+◌, ◌<◌, ◌≤◌, Bool, true, false, List, [], ◌∷◌, ◌++◌, Option, Some, None, IsSome, length, if◌then◌else◌}
+use Rattle.std.proofs.Common.{◌≡◌, ◌≢◌, ◌==◌, ℕ, ◌+◌, ◌<◌, ◌≤◌, Bool, true, false, List, [], ◌∷◌, ◌++◌, Option, Some}
+use Rattle.std.proofs.Common.{None, IsSome, length, if◌then◌else◌}
 use Rattle.std.proofs.Common.{refl, sym, ap, ◌∙◌, subst, arith, eqb-true, unwrap_or}
 use Rattle.std.specs.List.{AllByRecursion}
 use Rattle.waiters.specs.declared.wait.Wait.{Wait}
@@ -104,7 +105,8 @@ module _ (lists : Lists) where
       by false further none = further none
 
   -- an entry that comes in or goes takes its queue with it
-  abbrev queues_in-Adds : {old new : List (ℕ × ℕ)} {c k : ℕ} → Adds old new c k → Adds (queues_in lists old) (queues_in lists new) c (waits_at lists k)
+  abbrev queues_in-Adds : {old new : List (ℕ × ℕ)} {c k : ℕ} → Adds old new c k
+      → Adds (queues_in lists old) (queues_in lists new) c (waits_at lists k)
   queues_in-Adds {c = c} {k = k} adds = record {
     before = queues_in lists adds.before;
     behind = queues_in lists adds.behind;
@@ -131,7 +133,13 @@ total-Adds {c = c} {waits = waits} adds =
 -- one that goes takes them
 total-Removes : {old new : List (ℕ × List Wait)} {c : ℕ} (removes : Removes old new c) → total old ≡ total new + length removes.value
 total-Removes {c = c} removes =
-    omega (arith, ap total removes.were, ap total removes.are, total-append removes.before removes.behind, total-append removes.before ((c, removes.value) ∷ removes.behind))
+    omega (
+      arith,
+      ap total removes.were,
+      ap total removes.are,
+      total-append removes.before removes.behind,
+      total-append removes.before ((c, removes.value) ∷ removes.behind),
+    )
 
 -- where the entry of a counter stands among the others
 record Stands (entries : List (ℕ × ℕ)) (c k : ℕ) : Type 0 where
@@ -274,12 +282,14 @@ module _ {entries fewer : List (ℕ × ℕ)} {c : ℕ} (removes : Removes entrie
   others-after = subst (AreOthers removes.value) (sym removes.are)
       (others-without c removes.value removes.before removes.behind (subst AreApart removes.were apart))
 
-waited-after : (lists : Lists) {entries fewer : List (ℕ × ℕ)} {c : ℕ} (removes : Removes entries fewer c) → AreWaited lists entries → AreWaited lists fewer
+waited-after : (lists : Lists) {entries fewer : List (ℕ × ℕ)} {c : ℕ} (removes : Removes entries fewer c)
+    → AreWaited lists entries → AreWaited lists fewer
 waited-after lists {c = c} removes waited = subst (AreWaited lists) (sym removes.are)
     (All-without _ (c, removes.value) removes.before removes.behind (subst (AreWaited lists) removes.were waited))
 
 -- what goes names the list that the counter had
-gone : {entries fewer : List (ℕ × ℕ)} {c k : ℕ} (removes : Removes entries fewer c) → AreRising entries → entry_of c entries ≡ Some k → removes.value ≡ k
+gone : {entries fewer : List (ℕ × ℕ)} {c k : ℕ} (removes : Removes entries fewer c) → AreRising entries
+    → entry_of c entries ≡ Some k → removes.value ≡ k
 gone removes rising has = ap (λ found. unwrap_or found 0) (sym (Removes-was removes rising) ∙ has)
 
 -- a counter goes, and its list is closed
@@ -342,7 +352,8 @@ module _ (old new : Lists) (c k : ℕ) (waits : List Wait) (before behind : List
 
   returned : Adds (queues_in old (before ++ behind)) (queues_in new (before ++ (c, k) ∷ behind)) c waits
   returned = subst (λ queues. Adds queues (queues_in new (before ++ (c, k) ∷ behind)) c waits) (queues_in-others changed (before ++ behind) others-beside)
-      (subst (λ list. Adds (queues_in new (before ++ behind)) (queues_in new (before ++ (c, k) ∷ behind)) c list) (pending changed) (queues_in-Adds new comes_back))
+      (subst (λ list. Adds (queues_in new (before ++ behind)) (queues_in new (before ++ (c, k) ∷ behind)) c list)
+      (pending changed) (queues_in-Adds new comes_back))
 
   total-taken : total (queues_in old (before ++ (c, k) ∷ behind)) ≡ total (queues_in old (before ++ behind)) + length (waits_at old k)
   total-taken = total-Removes (queues_in-Removes old leaves)
@@ -364,7 +375,8 @@ module _ (old new : Lists) (c k : ℕ) (waits : List Wait) (before behind : List
           ap (λ found. unwrap_or found []) (Adds-else returned other differs
           ∙ Removes-else (queues_in-Removes old leaves) (queues_in-rising old (before ++ (c, k) ∷ behind) joined.rising) other differs);
     };
-    total = omega (arith, total-Adds returned, total-taken, ap length (waits_on-entry old c k (before ++ (c, k) ∷ behind) (Removes-was leaves joined.rising)));
+    total =
+        omega (arith, total-Adds returned, total-taken, ap length (waits_on-entry old c k (before ++ (c, k) ∷ behind) (Removes-was leaves joined.rising)));
   }
 
 -- the list of a counter that is in changes, and somebody is still in it

@@ -1,5 +1,6 @@
 -- What a release of many units is to its caller, from its look for waits on, and whole.
-use Rattle.std.proofs.Common.{◌≡◌, ◌⊎◌, ◌&&◌, nat_lt, if◌then◌else◌, Bool, true, false, ℕ, zero, suc, ◌+◌, ◌<◌, ◌≤◌, Ok, List, [], ◌∷◌, ◌++◌, drop, length, map}
+use Rattle.std.proofs.Common.{◌≡◌, ◌⊎◌, ◌&&◌, nat_lt, if◌then◌else◌, Bool, true, false, ℕ, zero, suc, ◌+◌, ◌<◌, ◌≤◌, Ok}
+use Rattle.std.proofs.Common.{List, [], ◌∷◌, ◌++◌, drop, length, map}
 use Rattle.std.proofs.Common.{refl, sym, ap, ◌∙◌, subst, inl, inr, arith, append-nil, length-append, lt-ltb, le-ltb}
 use Rattle.std.specs.List.{All}
 use Rattle.std.proofs.lemmas.Bool.{cases_lt}
@@ -102,13 +103,15 @@ module _ (m : Layout) (i : ℕ) (v w : SemaSight) (p : SemaStride) (ran : SemaRa
   one_left (x ∷ l) e = absurd (omega arith)
 
   picked : (z : Place) → p.stood.place ≡ z → Picks r z → Picked
-  picked (ReleasingMany q M3) at is = on (row_tells m i v w p ran (ReleasingMany q M3) row at) (subst (Picks r) (sym (row_leads m i v w p ran (ReleasingMany q M3) row at)) is) (ap length (row_hand m i v w p ran (ReleasingMany q M3) row at))
+  picked (ReleasingMany q M3) at is = on (row_tells m i v w p ran (ReleasingMany q M3) row at)
+      (subst (Picks r) (sym (row_leads m i v w p ran (ReleasingMany q M3) row at)) is) (ap length (row_hand m i v w p ran (ReleasingMany q M3) row at))
   picked (ReleasingMany q M4) at is = by p.read ((plain_before m p).lists q.counter) refl refl
     where
       bare : k ≡ 0
       bare = subst (λ (z : Place). HandFits z k) at (fits m i v w p ran)
 
-      leads : w.stands.place ≡ zero_or (ReleasingMany q M6) (λ left. by_first ((plain_before m p).lists q.counter) (ReleasingMany q M6) (λ w. ReleasingMany q M5)) p.read
+      leads : w.stands.place ≡ zero_or (ReleasingMany q M6)
+          (λ left. by_first ((plain_before m p).lists q.counter) (ReleasingMany q M6) (λ w. ReleasingMany q M5)) p.read
       leads = row_leads m i v w p ran (ReleasingMany q M4) row at
 
       told : p.told ≡ []
@@ -119,12 +122,17 @@ module _ (m : Layout) (i : ℕ) (v w : SemaSight) (p : SemaStride) (ran : SemaRa
 
       by : (n : ℕ) (l : List WaitId) → p.read ≡ n → (plain_before m p).lists q.counter ≡ l → Picked
       by zero l read listed = nobody
-          (its (nobody_there m i v w p ran q.counter (subst (IsWithin m.counters) at (within m i v w p ran)).0 row (ap (λ (x : Place). (event_at i p.stood (plain_before m p).lists x).word) at) read))
-          (omega (arith, bare)) told (subst Settled (sym (leads ∙ ap (zero_or (ReleasingMany q M6) (λ left. by_first ((plain_before m p).lists q.counter) (ReleasingMany q M6) (λ w. ReleasingMany q M5))) read)) tt)
+          (its (nobody_there m i v w p ran q.counter (subst (IsWithin m.counters) at (within m i v w p ran)).0 row
+          (ap (λ (x : Place). (event_at i p.stood (plain_before m p).lists x).word) at) read))
+          (omega (arith, bare)) told (subst Settled
+          (sym (leads ∙ ap (zero_or (ReleasingMany q M6)
+          (λ left. by_first ((plain_before m p).lists q.counter) (ReleasingMany q M6) (λ w. ReleasingMany q M5))) read)) tt)
       by (suc n) [] read listed = nobody (its listed) (omega (arith, bare)) told
-          (subst Settled (sym (leads ∙ (λ j. zero_or (ReleasingMany q M6) (λ left. by_first (listed j) (ReleasingMany q M6) (λ w. ReleasingMany q M5)) (read j)))) tt)
+          (subst Settled
+          (sym (leads ∙ (λ j. zero_or (ReleasingMany q M6) (λ left. by_first (listed j) (ReleasingMany q M6) (λ w. ReleasingMany q M5)) (read j)))) tt)
       by (suc n) (x ∷ l) read listed = on told
-          (subst (Picks r) (sym (leads ∙ (λ j. zero_or (ReleasingMany q M6) (λ left. by_first (listed j) (ReleasingMany q M6) (λ w. ReleasingMany q M5)) (read j)))) is)
+          (subst (Picks r)
+          (sym (leads ∙ (λ j. zero_or (ReleasingMany q M6) (λ left. by_first (listed j) (ReleasingMany q M6) (λ w. ReleasingMany q M5)) (read j)))) is)
           (ap length (row_hand m i v w p ran (ReleasingMany q M4) row at))
   picked (ReleasingMany q M5) at is = by ((plain_before m p).lists q.counter) refl
     where
@@ -138,28 +146,37 @@ module _ (m : Layout) (i : ℕ) (v w : SemaSight) (p : SemaStride) (ran : SemaRa
       next_by l = by_first {A = Place × Effect} l (ReleasingMany q M6, Nothing) (λ w. (after_leave q k (length l), Tells (Leave q.counter w i)))
 
       by : (l : List WaitId) → (plain_before m p).lists q.counter ≡ l → Picked
-      by [] listed = nobody (its [] listed) (omega (arith, fewer)) (row_tells m i v w p ran (ReleasingMany q M5) row at ∙ ap (λ l. entries_of (next_by l).1) listed)
+      by [] listed =
+          nobody (its [] listed) (omega (arith, fewer)) (row_tells m i v w p ran (ReleasingMany q M5) row at ∙ ap (λ l. entries_of (next_by l).1) listed)
           (subst Settled (sym (row_leads m i v w p ran (ReleasingMany q M5) row at ∙ ap (λ l. (next_by l).0) listed)) tt)
       by (x ∷ l) listed = test (cases_lt (k + 1) r.units) (cases_lt 1 (length (x ∷ l)))
         where
           told : p.told ≡ Leave r.counter x i ∷ []
-          told = row_tells m i v w p ran (ReleasingMany q M5) row at ∙ ap (λ l. entries_of (next_by l).1) listed ∙ ap (λ (y : ReleaseMany). Leave y.counter x i ∷ []) is
+          told = row_tells m i v w p ran (ReleasingMany q M5) row at ∙ ap (λ l. entries_of (next_by l).1) listed
+              ∙ ap (λ (y : ReleaseMany). Leave y.counter x i ∷ []) is
 
           leads : w.stands.place ≡ after_leave q k (length (x ∷ l))
           leads = row_leads m i v w p ran (ReleasingMany q M5) row at ∙ ap (λ l. (next_by l).0) listed
 
           longer : length w.stands.hand ≡ k + 1
-          longer = ap length (row_hand m i v w p ran (ReleasingMany q M5) row at ∙ ap (λ l. hand_after (next_by l).1 p.stood.hand) listed) ∙ length-append p.stood.hand (x ∷ [])
+          longer = ap length (row_hand m i v w p ran (ReleasingMany q M5) row at ∙ ap (λ l. hand_after (next_by l).1 p.stood.hand) listed)
+              ∙ length-append p.stood.hand (x ∷ [])
 
           test : (k + 1 < r.units) ⊎ (r.units ≤ k + 1) → (1 < length (x ∷ l)) ⊎ (length (x ∷ l) ≤ 1) → Picked
           test (inl less) (inl some) = one x told
-              (subst (Picks r) (sym (leads ∙ (λ j. if lt-ltb (k + 1) q.units (subst (λ (y : ReleaseMany). k + 1 < y.units) (sym is) less) j && lt-ltb 1 (length (x ∷ l)) some j then ReleasingMany q M5 else ReleasingMany q M6))) is)
+              (subst (Picks r)
+              (sym (leads ∙ (λ j. if lt-ltb (k + 1) q.units (subst (λ (y : ReleaseMany). k + 1 < y.units) (sym is) less) j && lt-ltb 1 (length (x ∷ l))
+              some j then ReleasingMany q M5 else ReleasingMany q M6))) is)
               longer
           test (inl less) (inr none) = last x told
-              (subst Settled (sym (leads ∙ (λ j. if lt-ltb (k + 1) q.units (subst (λ (y : ReleaseMany). k + 1 < y.units) (sym is) less) j && le-ltb 1 (length (x ∷ l)) none j then ReleasingMany q M5 else ReleasingMany q M6))) tt)
+              (subst Settled
+              (sym (leads ∙ (λ j. if lt-ltb (k + 1) q.units (subst (λ (y : ReleaseMany). k + 1 < y.units) (sym is) less) j && le-ltb 1 (length (x ∷ l))
+              none j then ReleasingMany q M5 else ReleasingMany q M6))) tt)
               (omega (arith, fewer)) (λ h. its (x ∷ l) listed ∙ ap (λ l. x ∷ l) (one_left l (omega arith)))
           test (inr full) some = last x told
-              (subst Settled (sym (leads ∙ (λ j. if le-ltb (k + 1) q.units (subst (λ (y : ReleaseMany). y.units ≤ k + 1) (sym is) full) j && nat_lt 1 (length (x ∷ l)) then ReleasingMany q M5 else ReleasingMany q M6))) tt)
+              (subst Settled
+              (sym (leads ∙ (λ j. if le-ltb (k + 1) q.units (subst (λ (y : ReleaseMany). y.units ≤ k + 1) (sym is) full) j && nat_lt 1 (length (x ∷ l))
+              then ReleasingMany q M5 else ReleasingMany q M6))) tt)
               (omega (arith, fewer)) (λ h. absurd (omega arith))
   picked _ at is = absurd is
 
@@ -202,16 +219,21 @@ woke_all m i v w (p ∷ strides) r waits each path picks ends told =
         → Picked m i v path.0 p path.1 row r → WokeAll m i v w r ws
     by ws told later (nobody empty few quiet done) =
         let none = no_waits i r ws (sym told ∙ (λ j. quiet j ++ settled m i path.0 w strides (All-tail IsRow p strides each) path.2 done j)) in
-        subst (WokeAll m i v w r) (sym none) ((omega (arith, few, hand)), (λ h. (all_told (p ∷ strides), at_stride m i v w [] strides p (Empty m r.counter) path empty)))
+        subst (WokeAll m i v w r) (sym none) (
+          (omega (arith, few, hand)),
+          (λ h. (all_told (p ∷ strides), at_stride m i v w [] strides p (Empty m r.counter) path empty)),
+        )
     by ws told later (on quiet picks same) =
         let x = later ws picks (ap (λ l. l ++ all_told strides) (sym quiet) ∙ told) in let most = x.0 in (
           omega (arith, hand, same, most),
           (λ h. let o = x.1 (omega (arith, hand, same, h)) in (
             o.0,
-            subst (λ l. Sighted m i v w l o.0 (Empty m r.counter)) (ap (λ l. l ++ leaves i r ws) quiet) (one_later m i v path.0 w p (leaves i r ws) o.0 (Empty m r.counter) path.1 o.1),
+            subst (λ l. Sighted m i v w l o.0 (Empty m r.counter)) (ap (λ l. l ++ leaves i r ws) quiet)
+                (one_later m i v path.0 w p (leaves i r ws) o.0 (Empty m r.counter) path.1 o.1),
           )),
         )
-    by [] told later (one x let_out picks longer) = absurd (let e : Leave r.counter x i ∷ all_told strides ≡ [] = ap (λ l. l ++ all_told strides) (sym let_out) ∙ told in cc)
+    by [] told later (one x let_out picks longer) =
+        absurd (let e : Leave r.counter x i ∷ all_told strides ≡ [] = ap (λ l. l ++ all_told strides) (sym let_out) ∙ told in cc)
     by (y ∷ ws) told later (one x let_out picks longer) =
         let e : Leave r.counter x i ∷ all_told strides ≡ Leave r.counter y i ∷ leaves i r ws = ap (λ l. l ++ all_told strides) (sym let_out) ∙ told in
         let others : all_told strides ≡ leaves i r ws = cc in let first : Leave r.counter x i ≡ Leave r.counter y i = cc in
@@ -219,10 +241,12 @@ woke_all m i v w (p ∷ strides) r waits each path picks ends told =
           omega (arith, hand, longer, most),
           (λ h. let o = z.1 (omega (arith, hand, longer, h)) in (
             o.0,
-            subst (λ l. Sighted m i v w l o.0 (Empty m r.counter)) (λ j. (let_out ∙ ap (λ (z : Entry). z ∷ []) first) j ++ leaves i r ws) (one_later m i v path.0 w p (leaves i r ws) o.0 (Empty m r.counter) path.1 o.1),
+            subst (λ l. Sighted m i v w l o.0 (Empty m r.counter)) (λ j. (let_out ∙ ap (λ (z : Entry). z ∷ []) first) j ++ leaves i r ws)
+                (one_later m i v path.0 w p (leaves i r ws) o.0 (Empty m r.counter) path.1 o.1),
           )),
         )
-    by [] told later (last x let_out done few single) = absurd (let e : Leave r.counter x i ∷ all_told strides ≡ [] = ap (λ l. l ++ all_told strides) (sym let_out) ∙ told in cc)
+    by [] told later (last x let_out done few single) =
+        absurd (let e : Leave r.counter x i ∷ all_told strides ≡ [] = ap (λ l. l ++ all_told strides) (sym let_out) ∙ told in cc)
     by (y ∷ ws) told later (last x let_out done few single) =
         let e : Leave r.counter x i ∷ all_told strides ≡ Leave r.counter y i ∷ leaves i r ws = ap (λ l. l ++ all_told strides) (sym let_out) ∙ told in
         let others : all_told strides ≡ leaves i r ws = cc in let first : Leave r.counter x i ≡ Leave r.counter y i = cc in
@@ -233,13 +257,15 @@ woke_all m i v w (p ∷ strides) r waits each path picks ends told =
             all_told strides,
             subst (λ l. Sighted m i v w l (all_told strides) (Empty m r.counter)) (let_out ∙ ap (λ (z : Entry). z ∷ []) first)
                 (after_stride m i v path.0 w strides p (Empty m r.counter) path.1 path.2
-                (subst (Empty m r.counter) (sym (stride_told (semaphores m) i v path.0 p path.1 ∙ ap (λ l. p.seen ++ l) let_out)) (left_last m r.counter i x p.seen (single (omega (arith, hand, h)))))),
+                (subst (Empty m r.counter) (sym (stride_told (semaphores m) i v path.0 p path.1 ∙ ap (λ l. p.seen ++ l) let_out))
+                (left_last m r.counter i x p.seen (single (omega (arith, hand, h)))))),
           )),
         )
 
 pub wakes_some : (s t : SeatModel) (n : ℕ) → IsWokenMany s t n → WakesSome s t n
 wakes_some s t n x =
-    let r = x.0 in let m = layout s.table.setting in let i : ℕ = s.number in let from = ReleasingMany r M3 in let v = placed from s.sight in let y = x.4 in let at = ap (λ (z : SeatState). z.place) x.3 in
+    let r = x.0 in let m = layout s.table.setting in let i : ℕ = s.number in let from = ReleasingMany r M3 in let v = placed from s.sight in let y = x.4 in
+    let at = ap (λ (z : SeatState). z.place) x.3 in
     let whole = after_call s t from Rest s.left s.taken x.2 (leaves i r y.waits) y.call at (λ e. cc) 0 0 (omega arith) (omega arith) in
     let all = woke_all m i v t.sight y.call.strides r y.waits y.call.each y.call.path refl at y.call.told_is in
     let most = all.0 in let count = y.count in let bare = hand_bare m i v t.sight y.call.strides r y.call.each y.call.path at in (
@@ -251,8 +277,10 @@ wakes_some s t n x =
         count = y.count;
         after = whole;
         first = λ before rest w is.
-            let told : leaves i r y.waits ≡ leaves i r before ++ Leave r.counter w i ∷ leaves i r rest = ap (leaves i r) is ∙ map-append (λ w. Leave r.counter w i) before (w ∷ rest) in
-            let o = sees_first s t from (leaves i r before) (leaves i r rest) r.counter w (subst (RunsRows s from t) told y.call) (subst (λ l. IsSeatAfter s 0 0 l t) told whole) in (o.1, o.0);
+            let told : leaves i r y.waits ≡ leaves i r before ++ Leave r.counter w i ∷ leaves i r rest = ap (leaves i r) is
+            ∙ map-append (λ w. Leave r.counter w i) before (w ∷ rest) in
+            let o = sees_first s t from (leaves i r before) (leaves i r rest) r.counter w (subst (RunsRows s from t) told y.call)
+            (subst (λ l. IsSeatAfter s 0 0 l t) told whole) in (o.1, o.0);
         most = omega (arith, most, count);
         all = λ h. let o = all.1 (omega (arith, bare, h, count)) in (
           seat_then s t from (leaves i r y.waits) o.0 (Empty m r.counter) o.1,
@@ -281,7 +309,11 @@ woken_some_after s u t a c units n told x y =
       after = subst (λ k. IsSeatAfter s a 0 (told ++ out k y.waits) t) x.number (after_added s u t a told (out u.number y.waits) x y.after);
       first = λ before rest w is. let o = y.first before rest w is in (
         (λ e. o.0 (e ∙ sym x.number)),
-        (o.1.0, subst (λ k. SeesWaiting s a (told ++ out k before) c (w ∷ o.1.0) t) x.number (sees_after s u t a c told (out u.number before) (w ∷ o.1.0) x o.1.1)),
+        (
+          o.1.0,
+          subst (λ k. SeesWaiting s a (told ++ out k before) c (w ∷ o.1.0) t) x.number
+              (sees_after s u t a c told (out u.number before) (w ∷ o.1.0) x o.1.1),
+        ),
       );
       most = y.most;
       all = λ h. subst (λ k. SeesWaiting s a (told ++ out k y.waits) c [] t) x.number (sees_after s u t a c told (out u.number y.waits) [] x (y.all h));

@@ -1,5 +1,6 @@
 -- The changes of the stored machine, one by one: each is what the machine as a whole makes of it.
-use Rattle.std.proofs.Common.{◌≡◌, ◌≢◌, ℕ, zero, suc, ◌-◌, ◌<◌, false, List, length, set, slice_get, get_or, refl, sym, ap, ◌∙◌, subst, arith, length-set}
+use Rattle.std.proofs.Common.{◌≡◌, ◌≢◌, ℕ, zero, suc, ◌-◌, ◌<◌, false, List, length, set, slice_get, get_or, refl, sym, ap, ◌∙◌}
+use Rattle.std.proofs.Common.{subst, arith, length-set}
 use mathlib.Core.Path.{fun_ext}
 use native.Mathlib.Decide.{ℕ_discrete}
 use Rattle.std.proofs.lemmas.List.{get_or_default}
@@ -290,7 +291,8 @@ module _ (h shows : Machine) (same : h ≡ shows) where
 
 -- a change that two functions tell alike of machines of this shape
 pub told_as : {f g : CoreLayout → Core → Core} {h k : Machine}
-    → ((m : CoreLayout) → IsMachineFor m h → (journal : List Entry) → f m (core_of h journal) ≡ g m (core_of h journal)) → Becomes f h k → Becomes g h k
+    → ((m : CoreLayout) → IsMachineFor m h → (journal : List Entry) → f m (core_of h journal) ≡ g m (core_of h journal)) → Becomes f h k
+    → Becomes g h k
 told_as {h = h} {k = k} same is = record {
   alike = is.alike;
   core = λ m at journal. subst (λ (s : Core). core_of k s.journal ≡ s) (same m at journal) (is.core m at journal);
@@ -353,7 +355,8 @@ module _ (h shows : Machine) (same : h ≡ shows) (i : ℕ) (after : After) wher
       }
 
 -- the same after a row on a list
-module _ (h shows : Machine) (same : h ≡ shows) (i l n : ℕ) (number : n ≡ l) (there : l < length shows.lists) (was : StoredList) (at : was ≡ get_or h.lists n was) where
+module _ (h shows : Machine) (same : h ≡ shows) (i l n : ℕ) (number : n ≡ l) (there : l < length shows.lists) (was : StoredList)
+    (at : was ≡ get_or h.lists n was) where
   abbrev place_there : StoredList → ListPlace
   place_there z = (stored_list.seat_of (slice_get z.seats i)).place
 

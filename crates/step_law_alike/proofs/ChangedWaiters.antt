@@ -1,5 +1,6 @@
 -- A waiter word counts the waits of its root, and the seats that have raised it, by a changed table too.
-use Rattle.std.proofs.Common.{◌≡◌, ◌≢◌, ℕ, zero, suc, ◌+◌, ◌-◌, ◌<◌, length, Option, Some, None, refl, sym, ap, ◌∙◌, IsTrue, arith}
+use Rattle.std.proofs.Common.{◌≡◌, ◌≢◌, ℕ, zero, suc, ◌+◌, ◌-◌, ◌<◌, length, Option, Some, None, refl, sym, ap, ◌∙◌, IsTrue}
+use Rattle.std.proofs.Common.{arith}
 use Rattle.waiters.specs.declared.wait.WaitId.{WaitId}
 use Rattle.step_table.specs.declared.call.Call.{Call}
 use Rattle.step_table.specs.declared.call.Call.TheVariants.{Acquire, Release, ReleaseMany, Add, Wait, One, All, GroupAdd, GroupWait}
@@ -60,7 +61,8 @@ plain_less : (root : ℕ → ℕ) (r : ℕ) (p q : Place) → raises root r (cha
 plain_less root r (Acquiring a from) (Acquiring b next) = refl
 plain_less root r p q = refl
 
-late_rows : {m : Layout} {i : ℕ} {g h : Words} {p q : SeatState} {e : Effect} → Line m i g p q h e → Raised (λ r. raises_late m.root r p.place) m g p.place
+late_rows : {m : Layout} {i : ℕ} {g h : Words} {p q : SeatState} {e : Effect} → Line m i g p q h e
+    → Raised (λ r. raises_late m.root r p.place) m g p.place
     → (r : ℕ) → h.waiters r + waits_of m r g + raises_late m.root r p.place
     ≡ g.waiters r + waits_of m r h + raises_late m.root r (changed_place LateCount p.place q.place)
 late_rows (begin_acquire _) known r = refl
@@ -330,7 +332,8 @@ seated m run i place after starts has = record {
       starts (λ ne. has.seats k);
 }
 
-starts_now : (m : CoreLayout) (run : Run) (i : ℕ) (call : Call) → HasStarted m run → HasStarted m (record { core = calls run.core i call; begun = run.begun })
+starts_now : (m : CoreLayout) (run : Run) (i : ℕ) (call : Call) → HasStarted m run
+    → HasStarted m (record { core = calls run.core i call; begun = run.begun })
 starts_now m run i (Acquire d lifo) has = seated m run i _ NextCall acquires has
 starts_now m run i (Release d handoff) has = seated m run i _ NextCall release has
 starts_now m run i (ReleaseMany d n) has = seated m run i _ NextCall releases_many has

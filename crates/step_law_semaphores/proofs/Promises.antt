@@ -1,5 +1,6 @@
 -- The law of the rows: the invariant holds at every start, every step keeps it, and it gives what is promised of a world.
-use Rattle.std.proofs.Common.{◌≡◌, ℕ, zero, suc, ◌+◌, ◌<◌, ◌≤◌, ◌≢◌, ◌⊎◌, List, [], ◌∷◌, ◌++◌, length, refl, ap, inl, inr, subst, arith}
+use Rattle.std.proofs.Common.{◌≡◌, ℕ, zero, suc, ◌+◌, ◌<◌, ◌≤◌, ◌≢◌, ◌⊎◌, List, [], ◌∷◌, ◌++◌, length, refl, ap}
+use Rattle.std.proofs.Common.{inl, inr, subst, arith}
 use native.Mathlib.Decide.{ℕ_discrete}
 use Rattle.waiters.specs.declared.wait.WaitId.{WaitId}
 use Rattle.step_table.specs.declared.entry.Entry.{Entry}
@@ -86,7 +87,8 @@ raises_held root r (Acquiring a A7) = omega arith
 raises_held root r (Acquiring a A8) = omega arith
 raises_held root r _ = omega arith
 
-helps_flies : (c : ℕ) (p : Place) (hand : List WaitId) (grant : ℕ) → HandFits p (length hand) → helps_at c p hand grant ≤ flies c p (length hand) grant
+helps_flies : (c : ℕ) (p : Place) (hand : List WaitId) (grant : ℕ) → HandFits p (length hand)
+    → helps_at c p hand grant ≤ flies c p (length hand) grant
 helps_flies c (Acquiring a (P turn)) hand zero fits = omega arith
 helps_flies c (Acquiring a (P turn)) hand (suc zero) fits = omega arith
 helps_flies c (Acquiring a (P turn)) hand (suc (suc g)) fits = omega arith
@@ -123,7 +125,8 @@ module _ (m : Layout) (s : SemaWorld) (inv : IsInvariant m s) where
 
   few_units : NoLostWakeUp m s
   few_units c some =
-      let all_fly = total_le m.seats (λ k. helps c (s.seats k) (s.words.grants k)) (λ k. flies c (s.seats k).place (length (s.seats k).hand) (s.words.grants k))
+      let all_fly = total_le m.seats (λ k. helps c (s.seats k) (s.words.grants k))
+      (λ k. flies c (s.seats k).place (length (s.seats k).hand) (s.words.grants k))
       (λ k h. helps_flies c (s.seats k).place (s.seats k).hand (s.words.grants k) (inv.seats k).fits) in
       let few = inv.units c (by some) in omega arith
     where

@@ -40,8 +40,10 @@ split_seat-requires g c =
       c.load-found.ensures.0 ∙ c.join_seat.ensures.0 ∙ E.0 ∙ c.requires.one.0,
       (let h = c.requires.word in omega arith),
       parts_kept g.R.Rows.family _ _ _ _ _
-          (guests_u g.R.Rows.family c.args.one.now.me c.args.other.now.me c.join_seat.new.seat.me c.load-found.new.seat.me joined c.args.word _ c.load-found.ensures.2)
-          (some_u g.R.Rows.family c.args.one.now.me c.args.other.now.me c.join_seat.new.seat.me c.load-found.new.seat.me joined c.args.word _ c.load-found.ensures.2 c.requires.one.1),
+          (guests_u g.R.Rows.family c.args.one.now.me c.args.other.now.me c.join_seat.new.seat.me c.load-found.new.seat.me
+          joined c.args.word _ c.load-found.ensures.2)
+          (some_u g.R.Rows.family c.args.one.now.me c.args.other.now.me c.join_seat.new.seat.me c.load-found.new.seat.me joined c.args.word
+          _ c.load-found.ensures.2 c.requires.one.1),
     )
 
 pub returns-clause-met : goal.returns-clause-met

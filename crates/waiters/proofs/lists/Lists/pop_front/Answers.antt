@@ -66,4 +66,5 @@ returns-clause-rest c =
     let was = ap (λ lists. lists.slots) (sym c.self.view_is) in
     let stands = StandsAt-first _ _ _ _ c.self.invariant list chain c.index-chain.ensures c.in-Some.key c.in-Some.is in
     let waits = first_waits _ _ _ _ c.self.invariant list chain c.index-chain.ensures c.in-Some.key stands c.args.self.now was in
-    rw (← c.number-list.ensures) (Changes-unlinked _ _ _ _ c.self.invariant list chain c.index-chain.ensures _ _ _ _ stands c.unlink-wait.ensures c.args.self.now _ _ was refl (ap (drop 1) (sym waits)))
+    rw (← c.number-list.ensures) (Changes-unlinked _ _ _ _ c.self.invariant list chain c.index-chain.ensures _ _ _ _ stands c.unlink-wait.ensures
+    c.args.self.now _ _ was refl (ap (drop 1) (sym waits)))

@@ -20,4 +20,5 @@ invariant_of-self c =
 pub returns-clause-pushed : goal.returns-clause-pushed
 returns-clause-pushed c =
     let some = rw (← c.self.view_is) at c.requires.fits in
-    rw (← c.number-list.ensures) (Changes-prepended _ _ _ _ c.self.invariant c.number-list.result c.index-chain.result.now c.index-chain.ensures _ c.args.wait _ c.prepend.ensures some c.args.self.now _ (ap (λ lists. lists.slots) (sym c.self.view_is)) refl)
+    rw (← c.number-list.ensures) (Changes-prepended _ _ _ _ c.self.invariant c.number-list.result c.index-chain.result.now c.index-chain.ensures _ c.args.wait
+    _ c.prepend.ensures some c.args.self.now _ (ap (λ lists. lists.slots) (sym c.self.view_is)) refl)

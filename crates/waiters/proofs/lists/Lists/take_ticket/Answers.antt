@@ -93,4 +93,5 @@ returns-clause-rest c =
     let found = FoundAt-mine _ _ _ _ c.self.invariant list chain c.index-chain.ensures c.args.ticket _ finds in
     let was = ap (λ lists. lists.slots) (sym c.self.view_is) in
     let waits = waits_at-open _ _ _ _ c.self.invariant list chain c.index-chain.ensures c.args.self.now was in
-    rw (← c.number-list.ensures) (Changes-unlinked _ _ _ _ c.self.invariant list chain c.index-chain.ensures _ _ _ _ found.stands c.unlink-wait.ensures c.args.self.now _ _ was refl (sym found.without ∙ ap (without_first c.args.ticket) (sym waits)))
+    rw (← c.number-list.ensures) (Changes-unlinked _ _ _ _ c.self.invariant list chain c.index-chain.ensures _ _ _ _ found.stands c.unlink-wait.ensures
+    c.args.self.now _ _ was refl (sym found.without ∙ ap (without_first c.args.ticket) (sym waits)))
