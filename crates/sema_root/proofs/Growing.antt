@@ -14,8 +14,8 @@ use Rattle.sema_root.specs.Rooted.{listed, shown, IsRooted, Comes, IsIn}
 use Rattle.sema_root.specs.Treap.{Tickets, queues_of, KeepsTickets, Draws}
 use Rattle.sema_root.specs.Tree.{Sprig, entries, size, sought, top_value, mapped, IsTreap}
 use Rattle.sema_root.proofs.Grafting.{grafted-size, grafted-treap}
-use Rattle.sema_root.proofs.Joining.{joined-fits, joined-list_room, joined-open, joined-queues, joined-room, joined-waited, pending, waits_on-absent}
-use Rattle.sema_root.proofs.Joining.{waits_on-entry}
+use Rattle.sema_root.proofs.Joining.{joined-fits, joined-list_room, joined-open, joined-queues, joined-room, joined-waited, pending}
+use Rattle.sema_root.proofs.Entries.{waits_on-absent, waits_on-entry}
 use Rattle.sema_root.proofs.Pruning.{pruned-size, pruned-treap}
 use Rattle.sema_root.proofs.Queueing.{Queued, queued_beside, queued_first, Dequeued, dequeued_beside, dequeued_last}
 use Rattle.sema_root.proofs.Rooting.{grafted-listed, grafted-ticket, holding, keeps-grafted, keeps-pruned, keeps-same, lacking, pruned-listed, shown-queues}

@@ -8,7 +8,8 @@ use Rattle.sema_root.specs.Entries.{entry_of, Adds, Removes}
 use Rattle.sema_root.specs.Queues.{waits_on, total, joined_by, Changes}
 use Rattle.sema_root.specs.Joined.{queues_in, AreJoined}
 use Rattle.sema_root.proofs.Entering.{Adds-was}
-use Rattle.sema_root.proofs.Joining.{Replaces, comes_in, goes, stays, waits_on-entry, waits_on-absent, joined-waited, pending, ListChanges-then}
+use Rattle.sema_root.proofs.Joining.{Replaces, comes_in, goes, stays, joined-waited, pending, ListChanges-then}
+use Rattle.sema_root.proofs.Entries.{waits_on-entry, waits_on-absent}
 
 -- a wait that joins a queue makes it longer by one
 length-joined_by : (lifo : Bool) (wait : Wait) (waits : List Wait) → length (joined_by lifo wait waits) ≡ length waits + 1

@@ -18,7 +18,8 @@ use Rattle.step_table.specs.Steps as steps
 use Rattle.step_table.proofs.Sums.{on_here, on_else}
 use Rattle.step_law_semaphores.specs.Balances.{added_by}
 use Rattle.step_law_semaphores.specs.Invariant.{IsInvariant}
-use Rattle.step_law_semaphores.proofs.Lines.{Line, r1, m1, begin_acquire, Step, own, post, step_of}
+use Rattle.step_law_semaphores.proofs.Lines.{Line, r1, m1, begin_acquire, Step, own, post}
+use Rattle.step_law_semaphores.proofs.Cases.{step_of}
 use Rattle.step_law_semaphores.proofs.Telling.{entries, Counts, count_append, count_after}
 
 -- how many units the row adds

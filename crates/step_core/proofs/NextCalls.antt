@@ -14,7 +14,7 @@ use Rattle.step_table.specs.Run.{Run, layout, call_of, begun, all_begun}
 use Rattle.step_law_whole.specs.RunInvariant.{IsSoundRun, IsScenario, calls_of}
 use Rattle.step_law_alike.specs.declared.variant.Variant.{Variant}
 use Rattle.step_law_alike.specs.ChangedInvariant.{WaitersRaisedIn}
-use Rattle.step_law_alike.proofs.ChangedWaiters.{raised_first}
+use Rattle.step_law_alike.proofs.ChangedRaising.{raised_first}
 use Rattle.step_core.specs.State.{Machine, State, IsMachineFor, Becomes, HasBegun, MayBegin, IsSound, IsStarted, core_of, run_with}
 use Rattle.step_core.specs.WellFormed.{IsSoundBy}
 use Rattle.step_table.proofs.Sums.{put_else}

@@ -21,7 +21,8 @@ use Rattle.step_law_semaphores.specs.Lawful.{WaitersCounted, NoLostWakeUp, Parke
 use Rattle.step_law_semaphores.specs.Invariant.{hands, awaits, helps_at, helps, commits, HandFits, IsInvariant}
 use Rattle.step_law_semaphores.specs.Law.{TheLaw}
 use Rattle.step_table.proofs.Sums.{on_here, on_zero, on_le, nothing, single, total_has, total_le, total_same, total_rest}
-use Rattle.step_law_semaphores.proofs.Lines.{Step, step_of}
+use Rattle.step_law_semaphores.proofs.Lines.{Step}
+use Rattle.step_law_semaphores.proofs.Cases.{step_of}
 use Rattle.step_law_semaphores.proofs.Locks.{locks_kept}
 use Rattle.step_law_semaphores.proofs.Raising.{raised_kept}
 use Rattle.step_law_semaphores.proofs.Placing.{same_here, awaits_else, placed_kept, seats_kept}

@@ -1,7 +1,8 @@
 use Rattle.std.proofs.Common.{sym, ap, ◌∙◌, subst, arith}
 use Rattle.running_rows.specs.Rule.{IsSomeones}
 use Rattle.running_rows.specs.Sitting.{sitting}
-use Rattle.running_rows.proofs.Seating.{spares_kept, sits_kept, parts_kept}
+use Rattle.running_rows.proofs.Seating.{spares_kept, sits_kept}
+use Rattle.running_rows.proofs.Parting.{parts_kept}
 use Rattle.running_rows.proofs.LookingAtOnce.{meets_kept}
 use Rattle.running_rows.proofs.Together.{guests_u, some_u, met_at, left_at, right_at}
 use Rattle.running_rows.proofs.meeting.Running+S+View+V+T+K+OneWorld+R.meet.Goals as goal

@@ -1,7 +1,8 @@
 use Rattle.std.proofs.Common.{◌≡◌, subst, sym, ap, ◌∙◌, [], slice_get, arith}
 use Rattle.sema_root.specs.Queues.{waits_on}
 use Rattle.sema_root.specs.Search.{pairs, IsAt, IsGapFor}
-use Rattle.sema_root.proofs.Joining.{joined-queues, joined-open, waits_on-absent}
+use Rattle.sema_root.proofs.Joining.{joined-queues, joined-open}
+use Rattle.sema_root.proofs.Entries.{waits_on-absent}
 use Rattle.sema_root.proofs.Searching.{found_list, absent_entry, removes_at}
 use Rattle.sema_root.proofs.Queueing.{Dequeued, dequeued_beside, dequeued_last, nothing_taken, on_some_from, if_none_from}
 use Rattle.sema_root.proofs.sorted_root.SortedRootRootStore.dequeue.Goals as goal

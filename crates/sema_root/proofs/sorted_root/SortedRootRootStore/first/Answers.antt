@@ -1,6 +1,7 @@
 use Rattle.std.proofs.Common.{subst, sym, ap, ◌∙◌, slice_get}
 use Rattle.sema_root.specs.Search.{pairs, IsAt, IsGapFor}
-use Rattle.sema_root.proofs.Joining.{joined-open, waits_on-entry, waits_on-absent}
+use Rattle.sema_root.proofs.Joining.{joined-open}
+use Rattle.sema_root.proofs.Entries.{waits_on-entry, waits_on-absent}
 use Rattle.sema_root.proofs.Searching.{found_list, absent_entry}
 use Rattle.sema_root.proofs.sorted_root.SortedRootRootStore.first.Goals as goal
 

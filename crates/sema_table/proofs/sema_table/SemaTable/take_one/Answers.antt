@@ -22,7 +22,7 @@ use Rattle.sema_table.specs.Rule.{lists_by, setting_of}
 use Rattle.sema_table.specs.Rows.{Me, semaphore_rows}
 use Rattle.sema_table.proofs.Stepping.{lowered_some_many}
 use Rattle.sema_table.proofs.GrantingMany.{picking_more, out_walk, out_record}
-use Rattle.sema_table.proofs.WakeningMany.{picking_counter}
+use Rattle.sema_table.proofs.PickingMany.{picking_counter}
 use Rattle.sema_table.proofs.sema_table.SemaTable.take_one.Goals as goal
 
 pub remove_first-requires : goal.remove_first-requires

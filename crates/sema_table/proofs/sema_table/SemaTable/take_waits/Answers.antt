@@ -4,7 +4,7 @@ use Rattle.waiters.specs.declared.wait.WaitId.{WaitId}
 use Rattle.step_table.specs.declared.entry.Entry.TheVariants.{Leave}
 use Rattle.step_table.specs.World.{SeatState}
 use Rattle.sema_table.specs.ManyWalks.{picking}
-use Rattle.sema_table.proofs.WakeningMany.{picking_full, stands_looked, pick_first, pick_more, hand_more, stands_picking, all_taken, taken_none}
+use Rattle.sema_table.proofs.PickingMany.{picking_full, stands_looked, pick_first, pick_more, hand_more, stands_picking, all_taken, taken_none}
 use Rattle.sema_table.proofs.sema_table.SemaTable.take_waits.Goals as goal
 
 pub loop-init : goal.loop-init

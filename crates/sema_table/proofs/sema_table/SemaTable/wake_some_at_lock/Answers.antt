@@ -9,7 +9,8 @@ use Rattle.sema_table.specs.Many.{leaves}
 use Rattle.sema_table.specs.ManyWalks.{with_hand}
 use Rattle.sema_table.proofs.Walking.{stands_on}
 use Rattle.sema_table.proofs.Entering.{stands_after}
-use Rattle.sema_table.proofs.WakeningMany.{leaves_add, may_grant, hand_stays, unlocked_many, woken_seat, same_seat, at_rest, wakes_many}
+use Rattle.sema_table.proofs.WakeningMany.{may_grant, hand_stays, unlocked_many, woken_seat, same_seat, at_rest, wakes_many}
+use Rattle.sema_table.proofs.PickingMany.{leaves_add}
 use Rattle.sema_table.proofs.sema_table.SemaTable.wake_some_at_lock.Goals as goal
 
 pub take_waits-requires-clause-seat : goal.take_waits-requires-clause-seat

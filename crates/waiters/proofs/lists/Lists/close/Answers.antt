@@ -1,5 +1,5 @@
 use Rattle.std.proofs.Common.{is_some, ap, sym, refl}
-use Rattle.waiters.proofs.StepLemmas.{ContainsKey-open, AreChained-step, Changes-step, Keeps-same, HasRoom-more}
+use Rattle.waiters.proofs.OtherLemmas.{ContainsKey-open, AreChained-step, Changes-step, Keeps-same, HasRoom-more}
 use Rattle.waiters.proofs.lists.Lists.close.Goals as goal
 
 pub remove-requires : goal.remove-requires

@@ -1,5 +1,5 @@
 use Rattle.std.proofs.Common.{ap, sym, refl, ◌∙◌}
-use Rattle.waiters.proofs.StepLemmas.{list_at-listed, AreChained-step, Changes-step, Keeps-same, IsSlot-empty, HasRoom-less}
+use Rattle.waiters.proofs.OtherLemmas.{list_at-listed, AreChained-step, Changes-step, Keeps-same, IsSlot-empty, HasRoom-less}
 use Rattle.waiters.specs.Chains.{waits_in}
 use Rattle.waiters.proofs.lists.Lists.open.Goals as goal
 

@@ -1,8 +1,9 @@
 use Rattle.std.proofs.Common.{drop, ap, sym, ◌∙◌, refl}
 use Rattle.std.specs.Prelude.{Some}
 use Rattle.waiters.specs.Chains.{waits_of}
-use Rattle.waiters.proofs.StepLemmas.{ContainsKey-open, AreChained-unlinked, Changes-unlinked, Changes-same, wait-unlinked, first_waits, waits_at-open}
-use Rattle.waiters.proofs.StepLemmas.{list_at-open, nil_from_first, StandsAt-first, ContainsKey-place, some_counted}
+use Rattle.waiters.proofs.StepLemmas.{AreChained-unlinked, Changes-unlinked, wait-unlinked, first_waits, waits_at-open, list_at-open, nil_from_first}
+use Rattle.waiters.proofs.StepLemmas.{StandsAt-first, ContainsKey-place, some_counted}
+use Rattle.waiters.proofs.OtherLemmas.{ContainsKey-open, Changes-same}
 use Rattle.waiters.proofs.lists.Lists.pop_front.Goals as goal
 
 pub index-chain-requires : goal.index-chain-requires

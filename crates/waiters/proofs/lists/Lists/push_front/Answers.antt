@@ -1,5 +1,6 @@
 use Rattle.std.proofs.Common.{ap, sym, refl}
-use Rattle.waiters.proofs.StepLemmas.{ContainsKey-open, AreChained-prepended, Changes-prepended, len_fits}
+use Rattle.waiters.proofs.StepLemmas.{AreChained-prepended, Changes-prepended, len_fits}
+use Rattle.waiters.proofs.OtherLemmas.{ContainsKey-open}
 use Rattle.waiters.proofs.lists.Lists.push_front.Goals as goal
 
 pub index-chain-requires : goal.index-chain-requires

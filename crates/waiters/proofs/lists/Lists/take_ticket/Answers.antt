@@ -1,8 +1,9 @@
 use Rattle.std.proofs.Common.{ap, sym, ◌∙◌, refl}
 use Rattle.std.specs.Prelude.{Some}
 use Rattle.waiters.specs.Lists.{without_first}
-use Rattle.waiters.proofs.StepLemmas.{ContainsKey-open, mine, AreChained-unlinked, Changes-unlinked, Changes-same, wait-unlinked, waits_at-open, none_found}
-use Rattle.waiters.proofs.StepLemmas.{FoundAt-mine, ContainsKey-place, IsThere-before, before_apart, some_counted}
+use Rattle.waiters.proofs.StepLemmas.{mine, AreChained-unlinked, Changes-unlinked, wait-unlinked, waits_at-open, none_found, FoundAt-mine, ContainsKey-place}
+use Rattle.waiters.proofs.StepLemmas.{IsThere-before, before_apart, some_counted}
+use Rattle.waiters.proofs.OtherLemmas.{ContainsKey-open, Changes-same}
 use Rattle.waiters.proofs.lists.Lists.take_ticket.Goals as goal
 
 pub index-chain-requires : goal.index-chain-requires

@@ -1,5 +1,5 @@
 use Rattle.std.proofs.Common.{arith}
-use Rattle.waiters.proofs.StepLemmas.{HasRoom-empty, AreChained-empty}
+use Rattle.waiters.proofs.OtherLemmas.{HasRoom-empty, AreChained-empty}
 use Rattle.waiters.proofs.lists.Lists.with_room.Goals as goal
 
 pub invariant_of-result : goal.invariant_of-result
