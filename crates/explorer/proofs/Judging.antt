@@ -25,7 +25,8 @@ IsReplyTo demands input reply = RepliesJudgement demands input (string_bytes rep
 
 -- a reply to all that was read, and what of it goes out
 pub replies_judgement : (demands : Demands) (most : Option ℕ) (old new : Option (List ℕ)) (input : List ℕ) (r : Result Reply NoMemory)
-    → IsJudgeInput most old new input → IfOk r (IsReplyTo demands input) → (aside : Option (List ℕ)) → aside ≡ aside_of r → (text : List ℕ) (exit : Exit)
+    → IsJudgeInput most old new input → IfOk r (IsReplyTo demands input) → (aside : Option (List ℕ))
+    → aside ≡ aside_of r → (text : List ℕ) (exit : Exit)
     → IsTextOf (answer_of r) text exit → IsJudgeReplyOf demands most old new aside text exit
 replies_judgement demands most old new input (Ok reply) read h aside e text exit t =
     let beside = option_map string_bytes reply.aside in

@@ -1,5 +1,6 @@
 -- The calls of a seat's line, and the first of them that is spelled as none.
-use Rattle.std.proofs.Common.{◌≡◌, ℕ, ◌<◌, ◌≤◌, List, [], ◌∷◌, ◌++◌, length, take, drop, sym, ap, ◌∙◌, inl, inr, refl, subst, arith, length-append}
+use Rattle.std.proofs.Common.{◌≡◌, ℕ, ◌<◌, ◌≤◌, List, [], ◌∷◌, ◌++◌, length, take, drop, sym, ap, ◌∙◌, inl, inr, refl, subst}
+use Rattle.std.proofs.Common.{arith, length-append}
 use Rattle.std.specs.Prelude.{codes}
 use Rattle.std.specs.List.{AllByRecursion}
 use Rattle.std.specs.Str.Pattern.{FindsText, LacksTextAt, SplitsAroundMatch}
@@ -25,14 +26,16 @@ pub lacks : (this text : List ℕ) → ((i : ℕ) → i ≤ length text → Lack
 lacks this text none before behind e = none (length before) (omega (arith, ap length e, length-append before (this ++ behind))) behind
     (ap (drop (length before)) e ∙ drop_at before (this ++ behind) (length before) refl)
 
-parted_more : (before : List (List ℕ)) (call others : List ℕ) → parted (before ++ call ∷ []) ++ others ≡ parted before ++ (call ++ (codes "; " ++ others))
+parted_more : (before : List (List ℕ)) (call others : List ℕ) → parted (before ++ call ∷ []) ++ others
+    ≡ parted before ++ (call ++ (codes "; " ++ others))
 parted_more [] call others = append_assoc call (codes "; ") others
 parted_more (c ∷ before) call others =
     append_assoc c (codes "; " ++ parted (before ++ call ∷ [])) others
     ∙ ap (λ l. c ++ (codes "; " ++ l)) (parted_more before call others)
     ∙ sym (append_assoc c (codes "; " ++ parted before) (call ++ (codes "; " ++ others)))
 
-all_more : (before : List (List ℕ)) (call : List ℕ) → AllByRecursion IsSomeCall before → IsSomeCall call → AllByRecursion IsSomeCall (before ++ call ∷ [])
+all_more : (before : List (List ℕ)) (call : List ℕ) → AllByRecursion IsSomeCall before → IsSomeCall call
+    → AllByRecursion IsSomeCall (before ++ call ∷ [])
 all_more [] call all is = (is, tt)
 all_more (c ∷ before) call all is = (all.0, all_more before call all.1 is)
 
@@ -41,7 +44,8 @@ pub calls_begin : (line seat calls : List ℕ) → line ≡ codes "seat " ++ (se
 calls_begin line seat calls stands named = record { seat = seat; before = []; stands = stands; named = named; spelled = tt }
 
 -- one call more is spelled as one
-pub calls_go_on : (line rest call others : List ℕ) → HasCalls line rest → rest ≡ call ++ (codes "; " ++ others) → IsSomeCall call → HasCalls line others
+pub calls_go_on : (line rest call others : List ℕ) → HasCalls line rest → rest ≡ call ++ (codes "; " ++ others)
+    → IsSomeCall call → HasCalls line others
 calls_go_on line rest call others has e is = record {
   seat = has.seat;
   before = has.before ++ call ∷ [];

@@ -1,5 +1,6 @@
 -- One line more, and the whole table.
-use Rattle.std.proofs.Common.{◌≡◌, ℕ, zero, suc, ◌+◌, ◌<◌, List, [], ◌∷◌, ◌++◌, Option, Some, None, IfSome, length, replicate, set, slice_get, get_or}
+use Rattle.std.proofs.Common.{◌≡◌, ℕ, zero, suc, ◌+◌, ◌<◌, List, [], ◌∷◌, ◌++◌, Option, Some, None, IfSome, length, replicate, set}
+use Rattle.std.proofs.Common.{slice_get, get_or}
 use Rattle.std.proofs.Common.{length-set, take, refl, sym, ap, ◌∙◌, subst, arith}
 use mathlib.Core.Path.{fun_ext}
 use Rattle.std.proofs.lemmas.List.{get_or_default, length-replicate}
@@ -155,7 +156,8 @@ no_line change parts schedule first r told started table shows none = record {
 }
 
 module _ (change : Option Variant) (parts : Parts) (schedule : List ℕ) (first : Moment) (at i : ℕ) (r : Moment) (told : List ℕ)
-    (lines : List Line) (before : TableSoFar change parts schedule first at r told lines) (there : at < length schedule) (is_seat : i ≡ get_or schedule at i) where
+    (lines : List Line) (before : TableSoFar change parts schedule first at r told lines) (there : at < length schedule)
+    (is_seat : i ≡ get_or schedule at i) where
   step_is : slice_get schedule at ≡ Some i
   step_is = slice_get-get_or schedule at i there ∙ ap Some (sym is_seat)
 

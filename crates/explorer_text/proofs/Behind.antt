@@ -15,12 +15,14 @@ unfolding text_at
 at_none n = refl
 
 -- behind one line more
-pub next : (n m : ℕ) (p : Piece) (ps lines : List Piece) (text : List ℕ) → n ≡ suc m → lines ≡ p ∷ ps → text_at n lines ≡ text → text_at m ps ≡ text
+pub next : (n m : ℕ) (p : Piece) (ps lines : List Piece) (text : List ℕ) → n ≡ suc m → lines ≡ p ∷ ps
+    → text_at n lines ≡ text → text_at m ps ≡ text
 next n m p ps lines text e f h =
     sym (at_next m p ps) ∙ subst (λ k. text_at k (p ∷ ps) ≡ text) e (subst (λ (ls : List Piece). text_at n ls ≡ text) f h)
 
 -- the first line
-pub first : (n : ℕ) (p : Piece) (ps lines : List Piece) (text : List ℕ) → n ≡ zero → lines ≡ p ∷ ps → text_at n lines ≡ text → p.text ≡ text
+pub first : (n : ℕ) (p : Piece) (ps lines : List Piece) (text : List ℕ) → n ≡ zero → lines ≡ p ∷ ps
+    → text_at n lines ≡ text → p.text ≡ text
 first n p ps lines text e f h =
     sym (at_first p ps) ∙ subst (λ k. text_at k (p ∷ ps) ≡ text) e (subst (λ (ls : List Piece). text_at n ls ≡ text) f h)
 

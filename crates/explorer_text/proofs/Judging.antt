@@ -1,5 +1,6 @@
 -- What is wrong with one line.
-use Rattle.std.proofs.Common.{◌≡◌, ℕ, zero, suc, ◌<◌, Bool, true, false, cond, List, [], ◌∷◌, Option, Some, None, Err, ◌⊎◌, inl, inr, refl, sym, ap, subst, ◌∙◌}
+use Rattle.std.proofs.Common.{◌≡◌, ℕ, zero, suc, ◌<◌, Bool, true, false, cond, List, [], ◌∷◌, Option, Some, None, Err, ◌⊎◌, inl, inr}
+use Rattle.std.proofs.Common.{refl, sym, ap, subst, ◌∙◌}
 use Rattle.std.proofs.Common.{arith}
 use Rattle.std.specs.Prelude.{◌&&◌}
 use Rattle.std.specs.List.{list_all}
@@ -15,7 +16,8 @@ use Rattle.explorer_text.specs.Causes.{is_printable}
 use Rattle.explorer_text.specs.Reader.{Judges, IsOnlyRight, flaw_of}
 use Rattle.explorer_text.proofs.Parts.{found, only}
 
-step : (b : Bool) (d c : Cause) (rest : Option Cause) → cond b (Some d) rest ≡ Some c → ((b ≡ true) × (c ≡ d)) ⊎ ((b ≡ false) × (rest ≡ Some c))
+step : (b : Bool) (d c : Cause) (rest : Option Cause) → cond b (Some d) rest ≡ Some c → ((b ≡ true) × (c ≡ d))
+    ⊎ ((b ≡ false) × (rest ≡ Some c))
 step true d c rest e = inl (refl, cc)
 step false d c rest e = inr (refl, e)
 
@@ -37,7 +39,8 @@ judges : (lines : List Line) (p : Piece) (c : Cause) → IsFault lines p c → J
 judges lines p NoMemory f = no_cause lines p f
 judges lines p c f = f
 
-pub flawed : (lines : List Line) (p : Piece) (l : Line) (c : Cause) → (p.ended ≡ false → ⊥) → list_all is_printable p.text ≡ true → ReadsAs (Spells p.text) (Some l) → flaw_of lines l ≡ Some c → Judges lines p (Err c)
+pub flawed : (lines : List Line) (p : Piece) (l : Line) (c : Cause) → (p.ended ≡ false → ⊥) → list_all is_printable p.text ≡ true
+    → ReadsAs (Spells p.text) (Some l) → flaw_of lines l ≡ Some c → Judges lines p (Err c)
 flawed lines p l c ended printable h e =
     let s = found (Spells p.text) l h in
     judges lines p c (inr (
@@ -78,7 +81,8 @@ flawed lines p l c ended printable h e =
     never : (c : Cause) → let o : Option Cause = None in o ≡ Some c → ⊥
     never c e = absurd cc
 
-pub right : (lines : List Line) (p : Piece) (l : Line) → (p.ended ≡ false → ⊥) → list_all is_printable p.text ≡ true → ReadsAs (Spells p.text) (Some l) → flaw_of lines l ≡ None → IsOnlyRight lines p l
+pub right : (lines : List Line) (p : Piece) (l : Line) → (p.ended ≡ false → ⊥) → list_all is_printable p.text ≡ true
+    → ReadsAs (Spells p.text) (Some l) → flaw_of lines l ≡ None → IsOnlyRight lines p l
 right lines p l ended printable h e =
     let s = found (Spells p.text) l h in
     let a = past (is_misplaced lines l) Place _ e in
@@ -86,7 +90,25 @@ right lines p l ended printable h e =
     let a3 = past (is_too_many lines l) TooMany _ a2.1 in
     let a4 = past (is_undeclared lines l) Undeclared _ a3.1 in
     let a5 = past (has_wrong_ticket l) Ticket _ a4.1 in (
-      (s, (ended, ((λ f. absurd cc), ((λ f. f l s), (other p.text l (is_misplaced lines) h a.0, (other p.text l is_out_of_range h a2.0, (other p.text l (is_too_many lines) h a3.0, (other p.text l (is_undeclared lines) h a4.0, (other p.text l has_wrong_ticket h a5.0, tt))))))))),
+      (
+        s,
+        (
+          ended,
+          (
+            (λ f. absurd cc),
+            (
+              (λ f. f l s),
+              (
+                other p.text l (is_misplaced lines) h a.0,
+                (
+                  other p.text l is_out_of_range h a2.0,
+                  (other p.text l (is_too_many lines) h a3.0, (other p.text l (is_undeclared lines) h a4.0, (other p.text l has_wrong_ticket h a5.0, tt))),
+                ),
+              ),
+            ),
+          ),
+        ),
+      ),
       λ m. ((λ q. only (Spells p.text) l m h q), λ e. subst (Spells p.text) (sym e) s),
     )
 

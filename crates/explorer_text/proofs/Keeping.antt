@@ -1,5 +1,6 @@
 -- The parts that right lines ask for keep the limits, name what is declared, and keep tickets in turn.
-use Rattle.std.proofs.Common.{◌≡◌, ℕ, ◌+◌, ◌<◌, ◌≤◌, false, cond, List, [], ◌∷◌, ◌++◌, map, length, All, Option, Some, None, IfSome, refl, sym, subst}
+use Rattle.std.proofs.Common.{◌≡◌, ℕ, ◌+◌, ◌<◌, ◌≤◌, false, cond, List, [], ◌∷◌, ◌++◌, map, length, All, Option, Some, None}
+use Rattle.std.proofs.Common.{IfSome, refl, sym, subst}
 use Rattle.std.proofs.Common.{append_assoc, arith}
 use Rattle.std.specs.Prelude.{nat_lt, ◌==◌, ◌||◌}
 use Rattle.std.proofs.lemmas.List.{append-nil, length-map, length_push}
@@ -28,7 +29,8 @@ use Rattle.explorer_text.proofs.Passing.{tickets_kept}
 
 -- ---- more is declared
 
-call_on_more : (p q : Parts) → length p.starts ≤ length q.starts → length p.firsts ≤ length q.firsts → p.groups ≤ q.groups → (c : Call) → IsCallOn p c → IsCallOn q c
+call_on_more : (p q : Parts) → length p.starts ≤ length q.starts → length p.firsts ≤ length q.firsts → p.groups ≤ q.groups
+    → (c : Call) → IsCallOn p c → IsCallOn q c
 call_on_more p q starts firsts groups (core.Acquire c lifo) h = omega arith
 call_on_more p q starts firsts groups (core.Release c handoff) h = omega arith
 call_on_more p q starts firsts groups (core.ReleaseMany c n) h = omega arith
@@ -39,10 +41,12 @@ call_on_more p q starts firsts groups (core.All l) h = omega arith
 call_on_more p q starts firsts groups (core.GroupAdd g d) h = omega arith
 call_on_more p q starts firsts groups (core.GroupWait g) h = omega arith
 
-declared_more : (p q : Parts) → length p.starts ≤ length q.starts → length p.firsts ≤ length q.firsts → p.groups ≤ q.groups → p.calls ≡ q.calls → IsDeclared p → IsDeclared q
+declared_more : (p q : Parts) → length p.starts ≤ length q.starts → length p.firsts ≤ length q.firsts → p.groups ≤ q.groups
+    → p.calls ≡ q.calls → IsDeclared p → IsDeclared q
 declared_more p q starts firsts groups same h =
     subst (λ (calls : List (List Call)). All (All (IsCallOn q)) calls) same
-    (All-weaker (All (IsCallOn p)) (All (IsCallOn q)) (λ cs all. All-weaker (IsCallOn p) (IsCallOn q) (call_on_more p q starts firsts groups) cs all) p.calls h)
+    (All-weaker (All (IsCallOn p)) (All (IsCallOn q)) (λ cs all. All-weaker (IsCallOn p) (IsCallOn q) (call_on_more p q starts firsts groups) cs all)
+    p.calls h)
 
 -- ---- what right lines keep
 
@@ -63,7 +67,8 @@ pub record Keeps (parts : Parts) (property : Option Property) (counters lists gr
   pub about : IfSome property (IsAbout parts)
 
 abbrev pub Kept : List Line → Type 0
-Kept lines = Keeps (parts_of lines) (property_of lines) (count_of CounterKind lines) (count_of ListKind lines) (count_of GroupKind lines) (count_of SeatKind lines)
+Kept lines =
+    Keeps (parts_of lines) (property_of lines) (count_of CounterKind lines) (count_of ListKind lines) (count_of GroupKind lines) (count_of SeatKind lines)
 
 pub kept_none : Kept []
 kept_none = record {
@@ -84,8 +89,11 @@ kept_none = record {
 
 script : (lines : List Line) (k : ℕ) (calls : List SpelledCall) → Passes lines (Seat k calls) → IsScript (map call_of calls)
 script lines k calls h =
-    let m = length-map calls call_of in
-    (omega (arith, h.form), omega (arith, at_most 32 (length calls) (right (nat_lt 15 (count_of SeatKind lines)) (nat_lt 32 (length calls)) h.few)), all_of_none IsOfFewUnits call_of is_wide few_units calls h.range)
+    let m = length-map calls call_of in (
+      omega (arith, h.form),
+      omega (arith, at_most 32 (length calls) (right (nat_lt 15 (count_of SeatKind lines)) (nat_lt 32 (length calls)) h.few)),
+      all_of_none IsOfFewUnits call_of is_wide few_units calls h.range,
+    )
 
 -- a property stands behind a seat
 behind_seat : (lines : List Line) (l : Line) → (nat_lt 0 (count_later (kind l) lines) || is_early_property lines) ≡ false → 0 < count_of SeatKind lines
@@ -108,7 +116,8 @@ about_more p q more (Some (property.Value c n)) h = omega arith
 about_more p q more (Some property.NoMisuse) h = tt
 
 -- a line that changes the property alone
-stays : (lines : List Line) (o : Option Property) → Kept lines → 0 < count_of SeatKind lines → IfSome o (IsAbout (parts_of lines)) → Keeps (parts_of lines) o (count_of CounterKind lines + 0) (count_of ListKind lines + 0) (count_of GroupKind lines + 0) (count_of SeatKind lines + 0)
+stays : (lines : List Line) (o : Option Property) → Kept lines → 0 < count_of SeatKind lines → IfSome o (IsAbout (parts_of lines))
+    → Keeps (parts_of lines) o (count_of CounterKind lines + 0) (count_of ListKind lines + 0) (count_of GroupKind lines + 0) (count_of SeatKind lines + 0)
 stays lines o k behind about = record {
   some_root = k.some_root;
   roots = k.roots;
@@ -131,7 +140,10 @@ stays lines o k behind about = record {
 
 -- one line more, in the counts that follow it
 abbrev Next : List Line → Line → Type 0
-Next lines l = Keeps (with_line (parts_of lines) l) (with_property (property_of lines) l) (count_of CounterKind lines + cond (rank (kind l) == rank CounterKind) 1 0) (count_of ListKind lines + cond (rank (kind l) == rank ListKind) 1 0) (count_of GroupKind lines + cond (rank (kind l) == rank GroupKind) 1 0) (count_of SeatKind lines + cond (rank (kind l) == rank SeatKind) 1 0)
+Next lines l =
+    Keeps (with_line (parts_of lines) l) (with_property (property_of lines) l) (count_of CounterKind lines + cond (rank (kind l) == rank CounterKind) 1 0)
+    (count_of ListKind lines + cond (rank (kind l) == rank ListKind) 1 0) (count_of GroupKind lines + cond (rank (kind l) == rank GroupKind) 1 0)
+    (count_of SeatKind lines + cond (rank (kind l) == rank SeatKind) 1 0)
 
 next : (lines : List Line) (l : Line) → Kept lines → Passes lines l → Next lines l
 next lines (Roots n) k h = record {
@@ -155,29 +167,41 @@ next lines (Roots n) k h = record {
 next lines (Counter start) k h = record {
   some_root = k.some_root;
   roots = k.roots;
-  declares = record { starts = omega (arith, k.declares, length_push (parts_of lines).starts start); firsts = omega (arith, k.declares); groups_are = omega (arith, k.declares) };
+  declares = record {
+    starts = omega (arith, k.declares, length_push (parts_of lines).starts start);
+    firsts = omega (arith, k.declares);
+    groups_are = omega (arith, k.declares);
+  };
   counters_few = omega (arith, at_most 15 (count_of CounterKind lines) h.few);
   lists_few = omega arith;
   groups_few = omega arith;
   seats_are = omega arith;
   seats_few = omega arith;
   scripts = k.scripts;
-  declared = declared_more (parts_of lines) (with_line (parts_of lines) (Counter start)) (omega (arith, length_push (parts_of lines).starts start)) (omega arith) (omega arith) refl k.declared;
+  declared = declared_more (parts_of lines) (with_line (parts_of lines) (Counter start)) (omega (arith, length_push (parts_of lines).starts start))
+      (omega arith) (omega arith) refl k.declared;
   tickets = k.tickets;
   some_seat = subst (λ (n : ℕ). IfSome (property_of lines) (λ p. 0 < n)) (omega arith) k.some_seat;
-  about = about_more (parts_of lines) (with_line (parts_of lines) (Counter start)) (omega (arith, length_push (parts_of lines).starts start)) (property_of lines) k.about;
+  about =
+      about_more (parts_of lines) (with_line (parts_of lines) (Counter start))
+      (omega (arith, length_push (parts_of lines).starts start)) (property_of lines) k.about;
 }
 next lines (NotifyList first) k h = record {
   some_root = k.some_root;
   roots = k.roots;
-  declares = record { starts = omega (arith, k.declares); firsts = omega (arith, k.declares, length_push (parts_of lines).firsts first); groups_are = omega (arith, k.declares) };
+  declares = record {
+    starts = omega (arith, k.declares);
+    firsts = omega (arith, k.declares, length_push (parts_of lines).firsts first);
+    groups_are = omega (arith, k.declares);
+  };
   counters_few = omega arith;
   lists_few = omega (arith, at_most 15 (count_of ListKind lines) h.few);
   groups_few = omega arith;
   seats_are = omega arith;
   seats_few = omega arith;
   scripts = k.scripts;
-  declared = declared_more (parts_of lines) (with_line (parts_of lines) (NotifyList first)) (omega arith) (omega (arith, length_push (parts_of lines).firsts first)) (omega arith) refl k.declared;
+  declared = declared_more (parts_of lines) (with_line (parts_of lines) (NotifyList first)) (omega arith)
+      (omega (arith, length_push (parts_of lines).firsts first)) (omega arith) refl k.declared;
   tickets = k.tickets;
   some_seat = subst (λ (n : ℕ). IfSome (property_of lines) (λ p. 0 < n)) (omega arith) k.some_seat;
   about = about_more (parts_of lines) (with_line (parts_of lines) (NotifyList first)) (omega arith) (property_of lines) k.about;
@@ -207,21 +231,31 @@ next lines (Seat n calls) k h = record {
   seats_are = omega (arith, length_push (parts_of lines).calls (map call_of calls));
   seats_few = omega (arith, at_most 15 (count_of SeatKind lines) (left (nat_lt 15 (count_of SeatKind lines)) (nat_lt 32 (length calls)) h.few));
   scripts = All-push IsScript (parts_of lines).calls (map call_of calls) k.scripts (script lines n calls h);
-  declared = All-push (All (IsCallOn (parts_of lines))) (parts_of lines).calls (map call_of calls) k.declared (all_of_none (IsCallOn (parts_of lines)) call_of (names_missing lines) (call_on lines (parts_of lines) k.declares) calls h.declared);
+  declared = All-push (All (IsCallOn (parts_of lines))) (parts_of lines).calls (map call_of calls) k.declared
+      (all_of_none (IsCallOn (parts_of lines)) call_of (names_missing lines) (call_on lines (parts_of lines) k.declares) calls h.declared);
   tickets = All-push AreTicketsKept (parts_of lines).calls (map call_of calls) k.tickets (tickets_kept calls h.ticket);
   some_seat = more_seats (property_of lines) (count_of SeatKind lines) k.some_seat;
   about = about_more (parts_of lines) (with_line (parts_of lines) (Seat n calls)) (omega arith) (property_of lines) k.about;
 }
 next lines Settled k h = stays lines (Some property.Settled) k (behind_seat lines Settled h.place) tt
-next lines (Value c n) k h = stays lines (Some (property.Value c n)) k (behind_seat lines (Value c n) h.place) (omega (arith, k.declares, there c (count_of CounterKind lines) h.declared))
+next lines (Value c n) k h = stays lines (Some (property.Value c n)) k (behind_seat lines (Value c n) h.place)
+    (omega (arith, k.declares, there c (count_of CounterKind lines) h.declared))
 next lines NoMisuse k h = stays lines (Some property.NoMisuse) k (behind_seat lines NoMisuse h.place) tt
 
-counted : (kinds : LineKind) (lines : List Line) (l : Line) → count_of kinds (lines ++ (l ∷ [])) ≡ count_of kinds lines + cond (rank (kind l) == rank kinds) 1 0
+counted : (kinds : LineKind) (lines : List Line) (l : Line) → count_of kinds (lines ++ (l ∷ []))
+    ≡ count_of kinds lines + cond (rank (kind l) == rank kinds) 1 0
 counted kinds lines l = fold_push (λ (n : ℕ) (x : Line). n + cond (rank (kind x) == rank kinds) 1 0) 0 lines l
 
 pub kept_more : (lines : List Line) (l : Line) → Kept lines → Passes lines l → Kept (lines ++ (l ∷ []))
 kept_more lines l k h =
-    rw (fold_push with_line no_parts lines l, fold_push with_property None lines l, counted CounterKind lines l, counted ListKind lines l, counted GroupKind lines l, counted SeatKind lines l) (next lines l k h)
+    rw (
+      fold_push with_line no_parts lines l,
+      fold_push with_property None lines l,
+      counted CounterKind lines l,
+      counted ListKind lines l,
+      counted GroupKind lines l,
+      counted SeatKind lines l,
+    ) (next lines l k h)
 
 -- the line's numbers fit
 pub fits : (lines : List Line) (l : Line) → Kept lines → Passes lines l → FitsLine l
@@ -229,7 +263,8 @@ fits lines (Roots n) k h = omega (arith, at_most 251 n (right (n == 0) (nat_lt 2
 fits lines (Counter start) k h = omega (arith, at_most 4294967295 start h.range)
 fits lines (NotifyList first) k h = omega (arith, at_most 18446744073709551615 first h.range)
 fits lines Group k h = tt
-fits lines (Seat n calls) k h = all_here FitsCall is_wide (names_missing lines) (fits_call lines k.counters_few k.lists_few k.groups_few) calls h.range h.declared
+fits lines (Seat n calls) k h =
+    all_here FitsCall is_wide (names_missing lines) (fits_call lines k.counters_few k.lists_few k.groups_few) calls h.range h.declared
 fits lines Settled k h = tt
 fits lines (Value c n) k h = (omega (arith, k.counters_few, there c (count_of CounterKind lines) h.declared), omega (arith, at_most 4294967295 n h.range))
 fits lines NoMisuse k h = tt
@@ -250,7 +285,8 @@ pub record Makes (parts : Parts) (property : Property) : Type 0 where
   pub tickets : KeepsTickets parts
   pub about : IsAbout parts property
 
-keeps_makes : (parts : Parts) (property : Property) (counters lists groups seats : ℕ) → Keeps parts (Some property) counters lists groups seats → Makes parts property
+keeps_makes : (parts : Parts) (property : Property) (counters lists groups seats : ℕ)
+    → Keeps parts (Some property) counters lists groups seats → Makes parts property
 keeps_makes parts property counters lists groups seats k = record {
   limits =
       record {
@@ -268,7 +304,8 @@ keeps_makes parts property counters lists groups seats k = record {
   about = k.about;
 }
 
-pub makes : (text : List ℕ) (lines : List Line) (parts : Parts) (p : Property) → AreLinesOf text lines → parts ≡ parts_of lines → property_of lines ≡ Some p → Makes parts p
+pub makes : (text : List ℕ) (lines : List Line) (parts : Parts) (p : Property) → AreLinesOf text lines → parts ≡ parts_of lines
+    → property_of lines ≡ Some p → Makes parts p
 makes text lines parts p are same there =
     let counters = count_of CounterKind lines in
     let lists = count_of ListKind lines in
@@ -276,4 +313,5 @@ makes text lines parts p are same there =
     let seats = count_of SeatKind lines in
     let kept : Kept lines = kept_behind [] (pieces text) lines ((are.right lines).1 refl) kept_none in
     subst (λ (q : Parts). Makes q p) (sym same)
-    (keeps_makes (parts_of lines) p counters lists groups seats (subst (λ (o : Option Property). Keeps (parts_of lines) o counters lists groups seats) there kept))
+    (keeps_makes (parts_of lines) p counters lists groups seats
+    (subst (λ (o : Option Property). Keeps (parts_of lines) o counters lists groups seats) there kept))

@@ -1,5 +1,6 @@
 -- What a right line passes: the tests of its numbers, of its place, of each of its calls, and of the tickets of its seat.
-use Rattle.std.proofs.Common.{◌≡◌, ℕ, zero, suc, ◌<◌, ◌≤◌, Bool, true, false, not, List, [], ◌∷◌, ◌++◌, map, length, take, All, IfSome, refl, sym, ap, subst}
+use Rattle.std.proofs.Common.{◌≡◌, ℕ, zero, suc, ◌<◌, ◌≤◌, Bool, true, false, not, List, [], ◌∷◌, ◌++◌, map, length, take, All}
+use Rattle.std.proofs.Common.{IfSome, refl, sym, ap, subst}
 use Rattle.std.proofs.Common.{◌∙◌, append_assoc, arith}
 use Rattle.std.specs.Prelude.{nat_lt, ◌==◌, ◌||◌, ◌&&◌, if◌then◌else◌, fold, slice_get}
 use Rattle.std.specs.List.{list_any}
@@ -67,14 +68,17 @@ pub there : (n k : ℕ) → not (nat_lt n k) ≡ false → n < k
 there n k e = ltb-true n k (is_true (nat_lt n k) e)
 
 -- of no element a test holds, so of each that which follows
-pub all_of_none : {X Y : Type 0} (P : Y → Type 0) (f : X → Y) (t : X → Bool) → ((x : X) → t x ≡ false → P (f x)) → (xs : List X) → list_any t xs ≡ false → All P (map f xs)
+pub all_of_none : {X Y : Type 0} (P : Y → Type 0) (f : X → Y) (t : X → Bool) → ((x : X) → t x ≡ false → P (f x)) → (xs : List X)
+    → list_any t xs ≡ false → All P (map f xs)
 all_of_none P f t to [] e = All-nil P
 all_of_none P f t to (x ∷ xs) e = All-cons P (f x) (map f xs) (to x (left (t x) (list_any t xs) e)) (all_of_none P f t to xs (right (t x) (list_any t xs) e))
 
-pub all_here : {X : Type 0} (P : X → Type 0) (t u : X → Bool) → ((x : X) → t x ≡ false → u x ≡ false → P x) → (xs : List X) → list_any t xs ≡ false → list_any u xs ≡ false → All P xs
+pub all_here : {X : Type 0} (P : X → Type 0) (t u : X → Bool) → ((x : X) → t x ≡ false → u x ≡ false → P x) → (xs : List X)
+    → list_any t xs ≡ false → list_any u xs ≡ false → All P xs
 all_here P t u to [] e f = All-nil P
 all_here P t u to (x ∷ xs) e f =
-    All-cons P x xs (to x (left (t x) (list_any t xs) e) (left (u x) (list_any u xs) f)) (all_here P t u to xs (right (t x) (list_any t xs) e) (right (u x) (list_any u xs) f))
+    All-cons P x xs (to x (left (t x) (list_any t xs) e) (left (u x) (list_any u xs) f))
+    (all_here P t u to xs (right (t x) (list_any t xs) e) (right (u x) (list_any u xs) f))
 
 -- ---- one call
 
@@ -100,7 +104,8 @@ pub record Declares (parts : Parts) (counters lists groups : ℕ) : Type 0 where
   pub firsts : length parts.firsts ≡ lists
   pub groups_are : parts.groups ≡ groups
 
-pub call_on : (lines : List Line) (parts : Parts) → Declares parts (count_of CounterKind lines) (count_of ListKind lines) (count_of GroupKind lines) → (c : SpelledCall) → names_missing lines c ≡ false → IsCallOn parts (call_of c)
+pub call_on : (lines : List Line) (parts : Parts) → Declares parts (count_of CounterKind lines) (count_of ListKind lines) (count_of GroupKind lines)
+    → (c : SpelledCall) → names_missing lines c ≡ false → IsCallOn parts (call_of c)
 call_on lines parts h (Acquire c) e = omega (arith, there c (count_of CounterKind lines) e)
 call_on lines parts h (AcquireLifo c) e = omega (arith, there c (count_of CounterKind lines) e)
 call_on lines parts h (Release c) e = omega (arith, there c (count_of CounterKind lines) e)
@@ -117,12 +122,14 @@ fits_change : (g : ℕ) (d : Change) → is_wide (GroupAdd g d) ≡ false → Fi
 fits_change g (Up n) e = omega (arith, at_most 2147483647 n e)
 fits_change g (Down n) e = omega (arith, at_most 2147483648 n e)
 
-pub fits_call : (lines : List Line) → count_of CounterKind lines ≤ 16 → count_of ListKind lines ≤ 16 → count_of GroupKind lines ≤ 16 → (c : SpelledCall) → is_wide c ≡ false → names_missing lines c ≡ false → FitsCall c
+pub fits_call : (lines : List Line) → count_of CounterKind lines ≤ 16 → count_of ListKind lines ≤ 16 → count_of GroupKind lines ≤ 16
+    → (c : SpelledCall) → is_wide c ≡ false → names_missing lines c ≡ false → FitsCall c
 fits_call lines counters lists groups (Acquire c) w e = omega (arith, there c (count_of CounterKind lines) e)
 fits_call lines counters lists groups (AcquireLifo c) w e = omega (arith, there c (count_of CounterKind lines) e)
 fits_call lines counters lists groups (Release c) w e = omega (arith, there c (count_of CounterKind lines) e)
 fits_call lines counters lists groups (ReleaseHandoff c) w e = omega (arith, there c (count_of CounterKind lines) e)
-fits_call lines counters lists groups (ReleaseMany c n) w e = (omega (arith, there c (count_of CounterKind lines) e), omega (arith, at_most 256 n (right (n == 0) (nat_lt 256 n) w)))
+fits_call lines counters lists groups (ReleaseMany c n) w e =
+    (omega (arith, there c (count_of CounterKind lines) e), omega (arith, at_most 256 n (right (n == 0) (nat_lt 256 n) w)))
 fits_call lines counters lists groups (Add l) w e = omega (arith, there l (count_of ListKind lines) e)
 fits_call lines counters lists groups (Wait l) w e = omega (arith, there l (count_of ListKind lines) e)
 fits_call lines counters lists groups (One l) w e = omega (arith, there l (count_of ListKind lines) e)
@@ -171,14 +178,16 @@ ticket_call before (NotifyAll l) e = tt
 ticket_call before (GroupAdd g d) e = tt
 ticket_call before (GroupWait g) e = tt
 
-in_turn : (before calls : List SpelledCall) → misuses_ticket before calls ≡ false → (i : ℕ) → IfSome (slice_get (map call_of calls) i) (IsTicketCall (map call_of before ++ take i (map call_of calls)))
+in_turn : (before calls : List SpelledCall) → misuses_ticket before calls ≡ false → (i : ℕ)
+    → IfSome (slice_get (map call_of calls) i) (IsTicketCall (map call_of before ++ take i (map call_of calls)))
 in_turn before [] e i = tt
 in_turn before (c ∷ calls) e zero =
     subst (λ (xs : List Call). IsTicketCall xs (call_of c)) (sym (append-nil (map call_of before)))
     (ticket_call before c (left (is_wrong_after before c) (misuses_ticket (before ++ (c ∷ [])) calls) e))
 in_turn before (c ∷ calls) e (suc i) =
     let joined : map call_of (before ++ (c ∷ [])) ++ take i (map call_of calls) ≡ map call_of before ++ (call_of c ∷ take i (map call_of calls)) =
-    ap (λ (xs : List Call). xs ++ take i (map call_of calls)) (map-append call_of before (c ∷ [])) ∙ append_assoc (map call_of before) (call_of c ∷ []) (take i (map call_of calls)) in
+    ap (λ (xs : List Call). xs ++ take i (map call_of calls)) (map-append call_of before (c ∷ [])) ∙ append_assoc (map call_of before)
+    (call_of c ∷ []) (take i (map call_of calls)) in
     subst (λ (xs : List Call). IfSome (slice_get (map call_of calls) i) (IsTicketCall xs)) joined
     (in_turn (before ++ (c ∷ [])) calls (right (is_wrong_after before c) (misuses_ticket (before ++ (c ∷ [])) calls) e) i)
 

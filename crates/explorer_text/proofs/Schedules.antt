@@ -1,5 +1,6 @@
 -- Numbers of seats with a space between them.
-use Rattle.std.proofs.Common.{◌≡◌, ℕ, ◌<◌, ◌≤◌, true, false, List, [], ◌∷◌, ◌++◌, length, Some, None, Bor, refl, sym, ap, subst, ◌∙◌, append_assoc, arith, inr}
+use Rattle.std.proofs.Common.{◌≡◌, ℕ, ◌<◌, ◌≤◌, true, false, List, [], ◌∷◌, ◌++◌, length, Some, None, Bor, refl, sym, ap, subst}
+use Rattle.std.proofs.Common.{◌∙◌, append_assoc, arith, inr}
 use Rattle.std.specs.List.{AllByRecursion}
 use Rattle.std.specs.Fmt.{decimal}
 use Rattle.std.proofs.lemmas.List.{length-append}
@@ -27,19 +28,27 @@ first_seat rest x h (c ∷ []) p =
     let e : has 32 rest ≡ true = ap (has 32) s.0 ∙ has_in 32 x.0.now x.1.now in
     let f : has 32 rest ≡ false = ap (has 32) p.spelled ∙ number_has 32 c (omega (arith, p.short)) (inr (omega arith)) in absurd cc
 first_seat rest x h (c ∷ d ∷ ds) p =
-    let s = split_after 32 rest (decimal c) (schedule_text (d ∷ ds)) (Some x) h (omega arith) p.spelled (lacks c 32 (omega (arith, p.short)) (inr (omega arith))) in
+    let s = split_after 32 rest (decimal c) (schedule_text (d ∷ ds)) (Some x) h (omega arith) p.spelled
+    (lacks c 32 (omega (arith, p.short)) (inr (omega arith))) in
     (c, d ∷ ds, refl, (p.short.0, s.0), record { some = omega arith; short = p.short.1; spelled = s.1 })
 
-more_seats : (rest first after : List ℕ) (c : ℕ) (ds : List ℕ) → rest ≡ first ++ (32 ∷ after) → IsNumber 2 first c → AreSeats after ds → AreSeats rest (c ∷ ds)
+more_seats : (rest first after : List ℕ) (c : ℕ) (ds : List ℕ) → rest ≡ first ++ (32 ∷ after) → IsNumber 2 first c
+    → AreSeats after ds → AreSeats rest (c ∷ ds)
 more_seats rest first after c [] e p q = absurd (omega (arith, q.some))
 more_seats rest first after c (d ∷ ds) e p q =
-    record { some = omega arith; short = (p.0, q.short); spelled = e ∙ ap (λ (x : List ℕ). x ++ (32 ∷ after)) p.1 ∙ ap (λ (x : List ℕ). decimal c ++ (32 ∷ x)) q.spelled }
+    record {
+      some = omega arith;
+      short = (p.0, q.short);
+      spelled = e ∙ ap (λ (x : List ℕ). x ++ (32 ∷ after)) p.1 ∙ ap (λ (x : List ℕ). decimal c ++ (32 ∷ x)) q.spelled;
+    }
 
 -- the seat of a text without one
-last_seat : (rest : List ℕ) → IsSplitOnceResult 32 rest None → (seats : List ℕ) → AreSeats rest seats → (seat : ℕ) × (seats ≡ seat ∷ []) × IsNumber 2 rest seat
+last_seat : (rest : List ℕ) → IsSplitOnceResult 32 rest None → (seats : List ℕ) → AreSeats rest seats → (seat : ℕ)
+    × (seats ≡ seat ∷ []) × IsNumber 2 rest seat
 last_seat rest h [] p = absurd (omega (arith, p.some))
 last_seat rest h (c ∷ []) p = (c, refl, (p.short.0, p.spelled))
-last_seat rest h (c ∷ d ∷ ds) p = absurd (split_after 32 rest (decimal c) (schedule_text (d ∷ ds)) None h (omega arith) p.spelled (lacks c 32 (omega (arith, p.short)) (inr (omega arith))))
+last_seat rest h (c ∷ d ∷ ds) p =
+    absurd (split_after 32 rest (decimal c) (schedule_text (d ∷ ds)) None h (omega arith) p.spelled (lacks c 32 (omega (arith, p.short)) (inr (omega arith))))
 
 -- ---- the loop
 
@@ -51,18 +60,23 @@ pub record SoFar (text rest front : List ℕ) : Type 0 where
 pub begins : (text : List ℕ) → SoFar text text []
 begins text = record { to = λ seats p. p; from = λ all p. (all, refl, p) }
 
-pub turn : (text rest after front : List ℕ) (x : Bor (List ℕ) × Bor (List ℕ)) (c : ℕ) → SoFar text rest front → IsSplitOnceResult 32 rest (Some x) → ReadsAs (IsNumber 2 x.0.now) (Some c) → x.1.now ≡ after
+pub turn : (text rest after front : List ℕ) (x : Bor (List ℕ) × Bor (List ℕ)) (c : ℕ) → SoFar text rest front → IsSplitOnceResult 32 rest (Some x)
+    → ReadsAs (IsNumber 2 x.0.now) (Some c) → x.1.now ≡ after
     → SoFar text after (front ++ (c ∷ []))
 turn text rest after front x c so h reads e = record {
   to = λ seats p.
       let s = split_parts 32 rest (Some x) h (omega arith) in
-      let q = so.to (c ∷ seats) (more_seats rest x.0.now after c seats (s.0 ∙ ap (λ (y : List ℕ). x.0.now ++ (32 ∷ y)) e) (found (IsNumber 2 x.0.now) c reads) p) in
+      let q = so.to (c ∷ seats) (more_seats rest x.0.now after c seats (s.0 ∙ ap (λ (y : List ℕ). x.0.now ++ (32 ∷ y)) e)
+      (found (IsNumber 2 x.0.now) c reads) p) in
       subst (AreSeats text) (sym (append_assoc front (c ∷ []) seats)) q;
   from = λ all p.
       let g = so.from all p in
       let f = first_seat rest x h g.0 g.2 in
-      let same : f.0 ≡ c = only (IsNumber 2 x.0.now) c f.0 reads f.3 in
-      (f.1, g.1 ∙ ap (λ (y : List ℕ). front ++ y) (f.2 ∙ ap (λ (y : ℕ). y ∷ f.1) same) ∙ sym (append_assoc front (c ∷ []) f.1), subst (λ (y : List ℕ). AreSeats y f.1) e f.4);
+      let same : f.0 ≡ c = only (IsNumber 2 x.0.now) c f.0 reads f.3 in (
+        f.1,
+        g.1 ∙ ap (λ (y : List ℕ). front ++ y) (f.2 ∙ ap (λ (y : ℕ). y ∷ f.1) same) ∙ sym (append_assoc front (c ∷ []) f.1),
+        subst (λ (y : List ℕ). AreSeats y f.1) e f.4,
+      );
 }
 
 -- ---- what is answered
@@ -74,16 +88,19 @@ no_schedule text some other = nothing (IsSchedule text) (λ seats p. refuse seat
     refuse [] p = omega (arith, ap length p.spelled)
     refuse (c ∷ cs) p = other (c ∷ cs) (record { some = omega arith; short = p.short; spelled = p.spelled })
 
-pub no_first : (text rest front : List ℕ) (x : Bor (List ℕ) × Bor (List ℕ)) → 0 < length text → SoFar text rest front → IsSplitOnceResult 32 rest (Some x) → ReadsAs (IsNumber 2 x.0.now) None → ReadsAs (IsSchedule text) None
+pub no_first : (text rest front : List ℕ) (x : Bor (List ℕ) × Bor (List ℕ)) → 0 < length text → SoFar text rest front
+    → IsSplitOnceResult 32 rest (Some x) → ReadsAs (IsNumber 2 x.0.now) None → ReadsAs (IsSchedule text) None
 no_first text rest front x some so h reads =
     no_schedule text some (λ seats p. let g = so.from seats p in let f = first_seat rest x h g.0 g.2 in none (IsNumber 2 x.0.now) f.0 reads f.3)
 
-pub no_last : (text rest front : List ℕ) → 0 < length text → SoFar text rest front → IsSplitOnceResult 32 rest None → ReadsAs (IsNumber 2 rest) None → ReadsAs (IsSchedule text) None
+pub no_last : (text rest front : List ℕ) → 0 < length text → SoFar text rest front → IsSplitOnceResult 32 rest None
+    → ReadsAs (IsNumber 2 rest) None → ReadsAs (IsSchedule text) None
 no_last text rest front some so h reads =
     no_schedule text some (λ seats p. let g = so.from seats p in let l = last_seat rest h g.0 g.2 in none (IsNumber 2 rest) l.0 reads l.2)
 
 -- the seats are these and no others
-only_seats : (text rest front : List ℕ) (c : ℕ) → SoFar text rest front → IsSplitOnceResult 32 rest None → ReadsAs (IsNumber 2 rest) (Some c) → (seats : List ℕ) → AreSeats text seats → seats ≡ front ++ (c ∷ [])
+only_seats : (text rest front : List ℕ) (c : ℕ) → SoFar text rest front → IsSplitOnceResult 32 rest None → ReadsAs (IsNumber 2 rest) (Some c)
+    → (seats : List ℕ) → AreSeats text seats → seats ≡ front ++ (c ∷ [])
 only_seats text rest front c so h reads seats p =
     let g = so.from seats p in
     let l = last_seat rest h g.0 g.2 in
@@ -93,11 +110,14 @@ with_some : (text seats : List ℕ) → 0 < length text → IsSchedule text seat
 with_some text [] some p = absurd (omega (arith, ap length p.spelled))
 with_some text (c ∷ cs) some p = record { some = omega arith; short = p.short; spelled = p.spelled }
 
-pub too_long : (text rest front : List ℕ) (c : ℕ) → 0 < length text → SoFar text rest front → IsSplitOnceResult 32 rest None → ReadsAs (IsNumber 2 rest) (Some c) → 256 < length (front ++ (c ∷ [])) → ReadsAs (IsSchedule text) None
+pub too_long : (text rest front : List ℕ) (c : ℕ) → 0 < length text → SoFar text rest front → IsSplitOnceResult 32 rest None
+    → ReadsAs (IsNumber 2 rest) (Some c) → 256 < length (front ++ (c ∷ [])) → ReadsAs (IsSchedule text) None
 too_long text rest front c some so h reads long =
-    nothing (IsSchedule text) (λ seats p. let e = only_seats text rest front c so h reads seats (with_some text seats some p) in omega (arith, p.few, ap length e))
+    nothing (IsSchedule text) (λ seats p. let e = only_seats text rest front c so h reads seats (with_some text seats some p) in
+    omega (arith, p.few, ap length e))
 
-pub whole : (text rest front : List ℕ) (c : ℕ) → 0 < length text → SoFar text rest front → IsSplitOnceResult 32 rest None → ReadsAs (IsNumber 2 rest) (Some c) → length (front ++ (c ∷ [])) ≤ 256 → ReadsAs (IsSchedule text) (Some (front ++ (c ∷ [])))
+pub whole : (text rest front : List ℕ) (c : ℕ) → 0 < length text → SoFar text rest front → IsSplitOnceResult 32 rest None
+    → ReadsAs (IsNumber 2 rest) (Some c) → length (front ++ (c ∷ [])) ≤ 256 → ReadsAs (IsSchedule text) (Some (front ++ (c ∷ [])))
 whole text rest front c some so h reads few =
     let f = found (IsNumber 2 rest) c reads in
     let all = so.to (c ∷ []) (record { some = omega arith; short = (f.0, tt); spelled = f.1 }) in

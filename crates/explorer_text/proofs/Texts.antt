@@ -30,7 +30,8 @@ first_is_one P (e ∷ es) c d (inr f) (inr g) = first_is_one P es c d f.1 g.1
 -- the lines before the rest are right, and the text can be read in no other way
 pub record SoFar (text rest : List ℕ) (before : List Line) : Type 0 where
   pub right : (more : List Line) → AreRight before (pieces rest) more → AreRight [] (pieces text) (before ++ more)
-  pub only_right : (lines : List Line) → AreRight [] (pieces text) lines → (more : List Line) × (lines ≡ before ++ more) × AreRight before (pieces rest) more
+  pub only_right : (lines : List Line) → AreRight [] (pieces text) lines → (more : List Line)
+      × (lines ≡ before ++ more) × AreRight before (pieces rest) more
   pub fault : (f : ReadFault) → IsFirstFault before (pieces rest) f ↔ IsFaultOf text f
   pub reached : (n : ℕ) → IsReached before (pieces rest) n → IsReached [] (pieces text) n
 
@@ -42,7 +43,8 @@ begins text = record {
   reached = λ n h. h;
 }
 
-tail_right : (before : List Line) (p : Piece) (ps : List Piece) (l : Line) → IsOnlyRight before p l → (lines : List Line) → AreRight before (p ∷ ps) lines
+tail_right : (before : List Line) (p : Piece) (ps : List Piece) (l : Line) → IsOnlyRight before p l
+    → (lines : List Line) → AreRight before (p ∷ ps) lines
     → (more : List Line) × (lines ≡ l ∷ more) × AreRight (before ++ (l ∷ [])) ps more
 tail_right before p ps l h [] a = absurd a
 tail_right before p ps l h (m ∷ ms) a =
@@ -56,7 +58,8 @@ tail_fault before p ps l h f (inr a) =
     let e : a.0 ≡ l = (h.1 a.0).0 a.1.0 in
     subst (λ (x : Line). IsFirstFault (before ++ (x ∷ [])) ps f) e a.2
 
-pub turn : (text rest after : List ℕ) (before : List Line) (p : Piece) (l : Line) → SoFar text rest before → pieces rest ≡ p ∷ pieces after → IsOnlyRight before p l
+pub turn : (text rest after : List ℕ) (before : List Line) (p : Piece) (l : Line) → SoFar text rest before
+    → pieces rest ≡ p ∷ pieces after → IsOnlyRight before p l
     → SoFar text after (before ++ (l ∷ []))
 turn text rest after before p l so e h = record {
   right = λ more a.
@@ -82,11 +85,13 @@ faulty_is_one before p ps c h f (inl a) =
     (λ i. record { line = a.0 i; cause = e i })
 faulty_is_one before p ps c h f (inr a) = absurd (first_excludes (Holds before p) causes c h a.1.1)
 
-faulty_is_not_right : (before : List Line) (p : Piece) (ps : List Piece) (c : Cause) → IsFault before p c → (lines : List Line) → AreRight before (p ∷ ps) lines → ⊥
+faulty_is_not_right : (before : List Line) (p : Piece) (ps : List Piece) (c : Cause) → IsFault before p c → (lines : List Line)
+    → AreRight before (p ∷ ps) lines → ⊥
 faulty_is_not_right before p ps c h [] a = a
 faulty_is_not_right before p ps c h (l ∷ ls) a = first_excludes (Holds before p) causes c h a.0.1
 
-told : (text rest after : List ℕ) (before : List Line) (p : Piece) (c : Cause) → SoFar text rest before → pieces rest ≡ p ∷ pieces after → IsFault before p c
+told : (text rest after : List ℕ) (before : List Line) (p : Piece) (c : Cause) → SoFar text rest before
+    → pieces rest ≡ p ∷ pieces after → IsFault before p c
     → IsOnly (IsFaultOf text) (record { line = length before + 1; cause = c }) × IsNone (IsRequestOf text)
 told text rest after before p c so e h =
     let mine : IsFaultOf text (record { line = length before + 1; cause = c }) =
@@ -101,11 +106,13 @@ told text rest after before p c so e h =
     )
 
 -- the number of the line that is read
-pub reaches : (text rest after : List ℕ) (before : List Line) (p : Piece) (n : ℕ) → n ≡ length before + 1 → IsReadable before p → SoFar text rest before → pieces rest ≡ p ∷ pieces after
+pub reaches : (text rest after : List ℕ) (before : List Line) (p : Piece) (n : ℕ) → n ≡ length before + 1 → IsReadable before p
+    → SoFar text rest before → pieces rest ≡ p ∷ pieces after
     → IsReached [] (pieces text) n
 reaches text rest after before p n k readable so e = so.reached n (subst (λ (ps : List Piece). IsReached before ps n) (sym e) (inl (k, readable)))
 
-pub failed : (text rest after : List ℕ) (before : List Line) (p : Piece) (n : ℕ) (c : Cause) → n ≡ length before + 1 → SoFar text rest before → pieces rest ≡ p ∷ pieces after
+pub failed : (text rest after : List ℕ) (before : List Line) (p : Piece) (n : ℕ) (c : Cause) → n ≡ length before + 1
+    → SoFar text rest before → pieces rest ≡ p ∷ pieces after
     → Judges before p (Err c) → IsReadFaultBy text (record { line = n; cause = c }) c
 failed text rest after before p n NoMemory k so e h = reaches text rest after before p n k h so e
 failed text rest after before p n c k so e h =
@@ -118,7 +125,8 @@ no_more before [] a = refl
 no_more before (l ∷ ls) a = absurd a
 
 -- at the end the lines are those before it
-whole : (text rest : List ℕ) (before : List Line) → SoFar text rest before → rest ≡ [] → (lines : List Line) → AreRight [] (pieces text) lines → lines ≡ before
+whole : (text rest : List ℕ) (before : List Line) → SoFar text rest before → rest ≡ [] → (lines : List Line)
+    → AreRight [] (pieces text) lines → lines ≡ before
 whole text rest before so e lines a =
     let g = so.only_right lines a in
     let none : g.0 ≡ [] = no_more before g.0 (subst (λ (bytes : List ℕ). AreRight before (pieces bytes) g.0) e g.2) in

@@ -1,5 +1,6 @@
 -- What the account of a journal says of one entry more.
-use Rattle.std.proofs.Common.{◌≡◌, ℕ, ◌+◌, ◌<◌, ◌≤◌, ◌⊎◌, Bool, true, false, eqb, nat_lt, ◌||◌, List, [], ◌∷◌, ◌++◌, refl, sym, ap, ◌∙◌, inl, inr, eq-eqb}
+use Rattle.std.proofs.Common.{◌≡◌, ℕ, ◌+◌, ◌<◌, ◌≤◌, ◌⊎◌, Bool, true, false, eqb, nat_lt, ◌||◌, List, [], ◌∷◌, ◌++◌}
+use Rattle.std.proofs.Common.{refl, sym, ap, ◌∙◌, inl, inr, eq-eqb}
 use Rattle.std.proofs.Common.{arith}
 use Rattle.std.proofs.lemmas.Bool.{cases_lt, eqb-true, and_parts, and_from, lt-ltb}
 use Rattle.waiters.specs.declared.wait.WaitId.{WaitId}
@@ -16,10 +17,12 @@ use Rattle.journal_judge.proofs.Entries.{sema_append, list_append, replay_append
 -- ---- waits
 
 pub same_is : (w x : WaitId) → is_same w x ≡ true → w ≡ x
-same_is w x h = let p = and_parts (eqb w.seat x.seat) (eqb w.turn x.turn) h in let s = eqb-true w.seat x.seat p.0 in let t = eqb-true w.turn x.turn p.1 in (λ i. record { seat = s i; turn = t i })
+same_is w x h = let p = and_parts (eqb w.seat x.seat) (eqb w.turn x.turn) h in let s = eqb-true w.seat x.seat p.0 in let t = eqb-true w.turn x.turn p.1 in
+    (λ i. record { seat = s i; turn = t i })
 
 pub is_same_own : (w x : WaitId) → w ≡ x → is_same w x ≡ true
-is_same_own w x e = and_from (eqb w.seat x.seat) (eqb w.turn x.turn) (eq-eqb w.seat x.seat (ap (λ (v : WaitId). v.seat) e)) (eq-eqb w.turn x.turn (ap (λ (v : WaitId). v.turn) e))
+is_same_own w x e = and_from (eqb w.seat x.seat) (eqb w.turn x.turn) (eq-eqb w.seat x.seat (ap (λ (v : WaitId). v.seat) e))
+    (eq-eqb w.turn x.turn (ap (λ (v : WaitId). v.turn) e))
 
 false_is : (b : Bool) → (b ≡ true → ⊥) → b ≡ false
 false_is true h = absurd (h refl)
@@ -49,14 +52,19 @@ queued_more w (Ticket l s) = ((λ h. absurd cc), (λ h. refl))
 queued_more w (Grant l u s) = ((λ h. absurd cc), (λ h. refl))
 
 -- of the entries of counters
-plain_last : (starts : List ℕ) (before : List Entry) (e : Entry) → plain_after starts (before ++ e ∷ []) ≡ replay (plain_after starts before) (sema_entries (e ∷ []))
-plain_last starts before e = ap (replay (start_of starts)) (sema_append before (e ∷ [])) ∙ replay_append (start_of starts) (sema_entries before) (sema_entries (e ∷ []))
+plain_last : (starts : List ℕ) (before : List Entry) (e : Entry) → plain_after starts (before ++ e ∷ [])
+    ≡ replay (plain_after starts before) (sema_entries (e ∷ []))
+plain_last starts before e =
+    ap (replay (start_of starts)) (sema_append before (e ∷ [])) ∙ replay_append (start_of starts) (sema_entries before) (sema_entries (e ∷ []))
 
 told_last : (before : List Entry) (e : Entry) (l : ℕ) → told_after (before ++ e ∷ []) l ≡ list.replay (told_after before l) (list_entries l (e ∷ []))
-told_last before e l = ap list.told (list_append l before (e ∷ [])) ∙ list_replay_append (record { handed = 0; granted = 0 }) (list_entries l before) (list_entries l (e ∷ []))
+told_last before e l = ap list.told (list_append l before (e ∷ [])) ∙ list_replay_append (record { handed = 0; granted = 0 })
+    (list_entries l before) (list_entries l (e ∷ []))
 
-budget_last : (before : List Entry) (e : Entry) (s : ℕ) → budget s (sema_entries (before ++ e ∷ [])) ≡ budget_from (budget s (sema_entries before)) s (sema_entries (e ∷ []))
-budget_last before e s = ap (budget s) (sema_append before (e ∷ [])) ∙ budget_append (record { counter = 0; units = 0 }) s (sema_entries before) (sema_entries (e ∷ []))
+budget_last : (before : List Entry) (e : Entry) (s : ℕ) → budget s (sema_entries (before ++ e ∷ []))
+    ≡ budget_from (budget s (sema_entries before)) s (sema_entries (e ∷ []))
+budget_last before e s =
+    ap (budget s) (sema_append before (e ∷ [])) ∙ budget_append (record { counter = 0; units = 0 }) s (sema_entries before) (sema_entries (e ∷ []))
 
 -- an entry changes numbers, lists and budgets as its part of the journal does
 one_plain : (x : Plain) (e : Entry) → replay x (sema_entries (e ∷ [])) ≡ effect_of e x
@@ -77,11 +85,14 @@ one_queued w e = refl
 
 pub account_last : (starts : List ℕ) (before : List Entry) (e : Entry) → account starts (before ++ e ∷ []) ≡ after (account starts before) e
 account_last starts before e =
-    let plain_is : plain_after starts (before ++ e ∷ []) ≡ effect_of e (plain_after starts before) = plain_last starts before e ∙ one_plain (plain_after starts before) e in
-    let budget_is : (s : ℕ) → budget s (sema_entries (before ++ e ∷ [])) ≡ spent s e (budget s (sema_entries before)) = λ s. budget_last before e s ∙ one_budget (budget s (sema_entries before)) s e in
+    let plain_is : plain_after starts (before ++ e ∷ []) ≡ effect_of e (plain_after starts before) = plain_last starts before e
+    ∙ one_plain (plain_after starts before) e in
+    let budget_is : (s : ℕ) → budget s (sema_entries (before ++ e ∷ [])) ≡ spent s e (budget s (sema_entries before)) = λ s. budget_last before e s
+    ∙ one_budget (budget s (sema_entries before)) s e in
     let queued_is : (w : WaitId) → nat_lt 0 (queued w (sema_entries (before ++ e ∷ []))) ≡ queues w e || nat_lt 0 (queued w (sema_entries before)) =
     λ w. ap (λ (es : List Entry). nat_lt 0 (queued w es)) (sema_append before (e ∷ []))
-    ∙ ap (nat_lt 0) (queued_append w (sema_entries before) (sema_entries (e ∷ [])) ∙ ap (λ (n : ℕ). queued w (sema_entries before) + n) (one_queued w e))
+    ∙ ap (nat_lt 0) (queued_append w (sema_entries before) (sema_entries (e ∷ []))
+    ∙ ap (λ (n : ℕ). queued w (sema_entries before) + n) (one_queued w e))
     ∙ queued_by (queued w (sema_entries before)) (queued w (e ∷ [])) (queues w e) (queued_more w e).0 (queued_more w e).1 in
     (λ i. record {
       numbers = (plain_is i).numbers;

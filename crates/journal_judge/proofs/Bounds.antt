@@ -1,5 +1,6 @@
 -- What is kept of few entries with short numbers stays far below 128 bits.
-use Rattle.std.proofs.Common.{◌≡◌, ℕ, ◌+◌, ◌-◌, ◌*◌, ◌^◌, ◌<◌, ◌≤◌, ◌⊎◌, Bool, true, false, cond, eqb, List, [], ◌∷◌, length, get_or, inl, inr, arith}
+use Rattle.std.proofs.Common.{◌≡◌, ℕ, ◌+◌, ◌-◌, ◌*◌, ◌^◌, ◌<◌, ◌≤◌, ◌⊎◌, Bool, true, false, cond, eqb, List, []}
+use Rattle.std.proofs.Common.{◌∷◌, length, get_or, inl, inr, arith}
 use Rattle.std.specs.Prelude.{All}
 use Rattle.std.proofs.Math.ListN.{get_or-eq_default}
 use Rattle.std.proofs.lemmas.Bool.{cases_lt}
@@ -33,7 +34,8 @@ granted : (n : Numbers) (u s : ℕ) (b : Bool) → (list.replay n (cond b (Grant
 granted n u s true = omega arith
 granted n u s false = omega arith
 
-pub bounded_more : (counters lists k : ℕ) (a : Account) (e : journal.Entry) → HasForm counters lists e → IsBounded k a → IsBounded (k + 1) (after a (entry_of e))
+pub bounded_more : (counters lists k : ℕ) (a : Account) (e : journal.Entry) → HasForm counters lists e → IsBounded k a
+    → IsBounded (k + 1) (after a (entry_of e))
 bounded_more counters lists k a (Add c s) h b = record {
   numbers = λ d. put_most a.numbers c (a.numbers c + 1) d (10 ^ 20 * (k + 1 + 1)) (omega (arith, b.numbers c)) (omega (arith, b.numbers d));
   handed = λ l. omega (arith, b.handed l);
@@ -48,8 +50,10 @@ bounded_more counters lists k a (Take c s) h b = record {
 }
 bounded_more counters lists k a (Queue c w lifo) h b = record { numbers = λ d. omega (arith, b.numbers d); handed = λ l. omega (arith, b.handed l) }
 bounded_more counters lists k a (Leave c w s) h b = record { numbers = λ d. omega (arith, b.numbers d); handed = λ l. omega (arith, b.handed l) }
-bounded_more counters lists k a (Ticket m s) h b = record { numbers = λ d. omega (arith, b.numbers d); handed = λ l. omega (arith, b.handed l, took (a.told l) s (eqb m l)) }
-bounded_more counters lists k a (Grant m u s) h b = record { numbers = λ d. omega (arith, b.numbers d); handed = λ l. omega (arith, b.handed l, granted (a.told l) u s (eqb m l)) }
+bounded_more counters lists k a (Ticket m s) h b =
+    record { numbers = λ d. omega (arith, b.numbers d); handed = λ l. omega (arith, b.handed l, took (a.told l) s (eqb m l)) }
+bounded_more counters lists k a (Grant m u s) h b =
+    record { numbers = λ d. omega (arith, b.numbers d); handed = λ l. omega (arith, b.handed l, granted (a.told l) u s (eqb m l)) }
 
 pub room : (heads k len : ℕ) (a : Account) → IsBounded k a → 6 * (heads + len) < 2 ^ 64 → k < len → HasRoom a
 room heads k len a b few lt = record { numbers = λ c. omega (arith, b.numbers c); handed = λ l. omega (arith, b.handed l) }

@@ -1,5 +1,6 @@
 -- A journal and one entry more: what its parts, its replay and its counts become.
-use Rattle.std.proofs.Common.{◌≡◌, ℕ, ◌+◌, ◌<◌, ◌≤◌, ◌⊎◌, Bool, true, false, cond, eqb, List, [], ◌∷◌, ◌++◌, refl, ap, ◌∙◌, append_assoc, inl, inr, arith}
+use Rattle.std.proofs.Common.{◌≡◌, ℕ, ◌+◌, ◌<◌, ◌≤◌, ◌⊎◌, Bool, true, false, cond, eqb, List, [], ◌∷◌, ◌++◌, refl, ap}
+use Rattle.std.proofs.Common.{◌∙◌, append_assoc, inl, inr, arith}
 use Rattle.waiters.specs.declared.wait.WaitId.{WaitId}
 use Rattle.step_table.specs.declared.entry.Entry.{Entry}
 use Rattle.step_table.specs.declared.entry.Entry.TheVariants.{Queue, Leave, Ticket, Grant}

@@ -31,10 +31,12 @@ is_begins w [] m e = absurd cc
 is_begins w (x ∷ l) m e = let head : x ≡ w = cc in is_same_own x w head
 
 unit_is : (s c : ℕ) (before : List Entry) → has_unit (budget s before) c ≡ true → Owes s c 1 before
-unit_is s c before h = let p = and_parts (eqb (budget s before).counter c) (nat_lt 0 (budget s before).units) h in let some = ltb-true 0 (budget s before).units p.1 in (eqb-true (budget s before).counter c p.0, omega arith)
+unit_is s c before h = let p = and_parts (eqb (budget s before).counter c) (nat_lt 0 (budget s before).units) h in
+    let some = ltb-true 0 (budget s before).units p.1 in (eqb-true (budget s before).counter c p.0, omega arith)
 
 is_unit : (s c : ℕ) (before : List Entry) → Owes s c 1 before → has_unit (budget s before) c ≡ true
-is_unit s c before o = and_from (eqb (budget s before).counter c) (nat_lt 0 (budget s before).units) (eq-eqb (budget s before).counter c o.0) (lt-ltb 0 (budget s before).units (omega (arith, o.1)))
+is_unit s c before o = and_from (eqb (budget s before).counter c) (nat_lt 0 (budget s before).units) (eq-eqb (budget s before).counter c o.0)
+    (lt-ltb 0 (budget s before).units (omega (arith, o.1)))
 
 module _ (starts : List ℕ) (before : List Entry) where
   take_judged : (c s : ℕ) (b : Bool) → eqb ((plain_after starts before).numbers c) 0 ≡ b → Judged starts before (Take c s) (cond b (Some NoUnit) None)
@@ -45,7 +47,8 @@ module _ (starts : List ℕ) (before : List Entry) where
       none NoUnit b = differs (eqb ((plain_after starts before).numbers c) 0) (eq-eqb ((plain_after starts before).numbers c) 0 b) q
       none r b = b
 
-  queue_judged : (c : ℕ) (w : WaitId) (lifo b : Bool) → nat_lt 0 (queued w (sema_entries before)) ≡ b → Judged starts before (Queue c w lifo) (cond b (Some QueuedTwice) None)
+  queue_judged : (c : ℕ) (w : WaitId) (lifo b : Bool) → nat_lt 0 (queued w (sema_entries before)) ≡ b
+      → Judged starts before (Queue c w lifo) (cond b (Some QueuedTwice) None)
   queue_judged c w lifo true q = record { broken = ltb-true 0 (queued w (sema_entries before)) q; first = first }
     where
       first : (r : Rule) → rank r < 4 → Breaks r starts before (Queue c w lifo) → ⊥
@@ -78,9 +81,13 @@ module _ (starts : List ℕ) (before : List Entry) where
       none NotHandedOut b = omega (arith, ltb-false (told_after before l).handed u t, b)
       none r b = b
 
-  leave_judged : (c : ℕ) (w : WaitId) (s : ℕ) (b d : Bool) → IsLawfulJournal starts before → begins w ((plain_after starts before).lists c) ≡ b → has_unit (budget s (sema_entries before)) c ≡ d
+  leave_judged : (c : ℕ) (w : WaitId) (s : ℕ) (b d : Bool) → IsLawfulJournal starts before → begins w ((plain_after starts before).lists c) ≡ b
+      → has_unit (budget s (sema_entries before)) c ≡ d
       → Judged starts before (Leave c w s) (cond b (cond d None (Some NoRelease)) (Some NotFirst))
-  leave_judged c w s false d h q t = record { broken = λ m e. differs (begins w ((plain_after starts before).lists c)) (is_begins w ((plain_after starts before).lists c) m e) q; first = first }
+  leave_judged c w s false d h q t = record {
+    broken = λ m e. differs (begins w ((plain_after starts before).lists c)) (is_begins w ((plain_after starts before).lists c) m e) q;
+    first = first;
+  }
     where
       first : (r : Rule) → rank r < 1 → Breaks r starts before (Leave c w s) → ⊥
       first NotFirst lt b = omega arith

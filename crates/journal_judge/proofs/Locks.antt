@@ -1,5 +1,6 @@
 -- What is told of locks.
-use Rattle.std.proofs.Common.{◌≡◌, ℕ, suc, ◌+◌, ◌<◌, ◌≤◌, Bool, true, false, cond, nat_lt, List, [], ◌∷◌, ◌++◌, length, get_or, take, drop, Option, Some, None}
+use Rattle.std.proofs.Common.{◌≡◌, ℕ, suc, ◌+◌, ◌<◌, ◌≤◌, Bool, true, false, cond, nat_lt, List, [], ◌∷◌, ◌++◌, length, get_or}
+use Rattle.std.proofs.Common.{take, drop, Option, Some, None}
 use Rattle.std.proofs.Common.{refl, sym, ap, subst, ◌∙◌, below_more, arith}
 use Rattle.std.proofs.lemmas.Bool.{ltb-false, ltb-true}
 use Rattle.step_table.specs.declared.entry.Entry.{Entry}
@@ -34,29 +35,35 @@ own_use h used e HeldByAnother b = b e
 
 -- ---- the holder
 
-pub holder_more : (lock : ℕ) (h : Option ℕ) (xs : List Entry) (e : Entry) → holder_from lock h (xs ++ e ∷ []) ≡ holder_after (holder_from lock h xs) (use_of lock e)
+pub holder_more : (lock : ℕ) (h : Option ℕ) (xs : List Entry) (e : Entry) → holder_from lock h (xs ++ e ∷ [])
+    ≡ holder_after (holder_from lock h xs) (use_of lock e)
 holder_more lock h [] e = refl
 holder_more lock h (x ∷ xs) e = holder_more lock (holder_after h (use_of lock x)) xs e
 
 -- ---- the loop over entries
 
 module _ (j : Journal) (lock i : ℕ) (e : journal.Entry) (lt : i < length j.entries) (is : e ≡ get_or j.entries i e) where
-  pub holder_next : holder_of lock (entries_of (take (i + 1) j.entries)) ≡ holder_after (holder_of lock (entries_of (take i j.entries))) (use_of lock (entry_of e))
+  pub holder_next : holder_of lock (entries_of (take (i + 1) j.entries))
+      ≡ holder_after (holder_of lock (entries_of (take i j.entries))) (use_of lock (entry_of e))
   holder_next = ap (holder_of lock) (next j.entries i e lt is) ∙ holder_more lock None (entries_of (take i j.entries)) (entry_of e)
 
-  pub kept_next : KeepsLock lock (entries_of (take i j.entries)) → ((rule : LockRule) → BreaksLock rule lock (entries_of (take i j.entries)) (entry_of e) → ⊥)
+  pub kept_next : KeepsLock lock (entries_of (take i j.entries))
+      → ((rule : LockRule) → BreaksLock rule lock (entries_of (take i j.entries)) (entry_of e) → ⊥)
       → KeepsLock lock (entries_of (take (i + 1) j.entries))
   kept_next kept none =
       subst (KeepsLock lock) (sym (next j.entries i e lt is))
-      (stands_more (λ (x : Entry) (before : List Entry). (rule : LockRule) → BreaksLock rule lock before x → ⊥) (entries_of (take i j.entries)) (entry_of e) kept none)
+      (stands_more (λ (x : Entry) (before : List Entry). (rule : LockRule) → BreaksLock rule lock before x → ⊥)
+      (entries_of (take i j.entries)) (entry_of e) kept none)
 
-  pub breach_here : (rule : LockRule) (line : ℕ) → KeepsLock lock (entries_of (take i j.entries)) → BreaksLock rule lock (entries_of (take i j.entries)) (entry_of e)
+  pub breach_here : (rule : LockRule) (line : ℕ) → KeepsLock lock (entries_of (take i j.entries))
+      → BreaksLock rule lock (entries_of (take i j.entries)) (entry_of e)
       → line ≡ j.heads + i + 1 → IsBreachAt j lock line rule
   breach_here rule line kept breaks place = record {
     before = entries_of (take i j.entries);
     entry = entry_of e;
     after = entries_of (drop (suc i) j.entries);
-    whole = split j.entries i e lt ∙ ap (λ (x : journal.Entry). entries_of (take i j.entries) ++ (entry_of x ∷ entries_of (drop (suc i) j.entries))) (sym is);
+    whole =
+        split j.entries i e lt ∙ ap (λ (x : journal.Entry). entries_of (take i j.entries) ++ (entry_of x ∷ entries_of (drop (suc i) j.entries))) (sym is);
     place = omega (arith, place, front_length j.entries i (omega arith));
     kept = kept;
     breaks = breaks;
@@ -69,7 +76,8 @@ kept_none lock (b ∷ before) after e q = absurd cc
 -- ---- the first of several
 
 -- of two cuts of a list the shorter is within the longer
-within : (xs ys us vs : List Entry) (e f : Entry) → xs ++ (e ∷ us) ≡ ys ++ (f ∷ vs) → length xs < length ys → (rest : List Entry) × (ys ≡ xs ++ (e ∷ rest))
+within : (xs ys us vs : List Entry) (e f : Entry) → xs ++ (e ∷ us) ≡ ys ++ (f ∷ vs) → length xs < length ys
+    → (rest : List Entry) × (ys ≡ xs ++ (e ∷ rest))
 within xs [] us vs e f q lt = absurd (omega arith)
 within [] (y ∷ ys) us vs e f q lt = (ys, cc)
 within (x ∷ xs) (y ∷ ys) us vs e f q lt =
@@ -83,7 +91,8 @@ none_earlier j lock at line one two lt a b =
     let r = within a.before b.before a.after b.after a.entry b.entry (sym a.whole ∙ b.whole) (omega (arith, a.place, b.place)) in
     b.kept a.before r.0 a.entry r.1 one a.breaks
 
-kept_before : (j : Journal) (lock line : ℕ) (v : Option Breach) → IsLockVerdict j lock v → ((b : Breach) → v ≡ Some b → line ≤ b.line) → IsKeptBefore j lock line
+kept_before : (j : Journal) (lock line : ℕ) (v : Option Breach) → IsLockVerdict j lock v
+    → ((b : Breach) → v ≡ Some b → line ≤ b.line) → IsKeptBefore j lock line
 kept_before j lock line None v le at rule lt b = kept_breaks j lock at rule v b
 kept_before j lock line (Some c) v le at rule lt b = none_earlier j lock at c.line rule c.rule (omega (arith, le c refl)) b v
 

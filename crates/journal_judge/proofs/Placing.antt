@@ -1,5 +1,6 @@
 -- Behind a lawful journal a wait stands in one list at most, and the first of a list hasn't left.
-use Rattle.std.proofs.Common.{◌≡◌, ◌≢◌, ℕ, ◌+◌, ◌<◌, ◌≤◌, ◌⊎◌, Bool, List, [], ◌∷◌, ◌++◌, drop, refl, sym, ap, subst, ◌∙◌, append_assoc, inl, inr, arith}
+use Rattle.std.proofs.Common.{◌≡◌, ◌≢◌, ℕ, ◌+◌, ◌<◌, ◌≤◌, ◌⊎◌, Bool, List, [], ◌∷◌, ◌++◌, drop, refl, sym, ap}
+use Rattle.std.proofs.Common.{subst, ◌∙◌, append_assoc, inl, inr, arith}
 use Rattle.std.proofs.lemmas.List.{append-nil}
 use Rattle.std.proofs.lemmas.Bool.{cases_eq, cases_lt}
 use Rattle.waiters.specs.declared.wait.WaitId.{WaitId}
@@ -20,7 +21,8 @@ module _ (w : WaitId) where
     pub here : times w (lists at) + gone ≡ waits
 
   -- in no list at all
-  nowhere : (lists : ℕ → List WaitId) (waits gone : ℕ) → Placed lists waits gone → waits ≡ 0 → (c : ℕ) → (times w (lists c) ≡ 0) × (gone ≡ 0)
+  nowhere : (lists : ℕ → List WaitId) (waits gone : ℕ) → Placed lists waits gone → waits ≡ 0 → (c : ℕ)
+      → (times w (lists c) ≡ 0) × (gone ≡ 0)
   nowhere lists waits gone p none c = by (cases_eq c p.at)
     where
       by : (c ≡ p.at) ⊎ (c ≡ p.at → ⊥) → (times w (lists c) ≡ 0) × (gone ≡ 0)
@@ -73,7 +75,8 @@ module _ (w : WaitId) where
       }
 
   -- one entry more, which stands behind those before it
-  entry_placed : (e : Entry) (start : Plain) (before : List Entry) (waits gone : ℕ) → Placed (replay start before).lists waits gone → Stands start e before → waits + queued w (e ∷ []) ≤ 1
+  entry_placed : (e : Entry) (start : Plain) (before : List Entry) (waits gone : ℕ) → Placed (replay start before).lists waits gone
+      → Stands start e before → waits + queued w (e ∷ []) ≤ 1
       → Placed (effect_of e (replay start before)).lists (waits + queued w (e ∷ [])) (gone + left w (e ∷ []))
   entry_placed (Queue c x lifo) start before waits gone p s most =
       let q = queue_placed (replay start before).lists waits gone c x lifo p (omega arith) in
@@ -90,23 +93,30 @@ module _ (w : WaitId) where
   abbrev PlacedBehind : Plain → List Entry → Type 0
   PlacedBehind start before = Placed (replay start before).lists (queued w before) (left w before)
 
-  last_placed : (start : Plain) (before : List Entry) (e : Entry) → PlacedBehind start before → IsLawful start (before ++ e ∷ []) → PlacedBehind start (before ++ e ∷ [])
+  last_placed : (start : Plain) (before : List Entry) (e : Entry) → PlacedBehind start before → IsLawful start (before ++ e ∷ [])
+      → PlacedBehind start (before ++ e ∷ [])
   last_placed start before e p h =
-      let q = entry_placed e start before (queued w before) (left w before) p (stands_last (Stands start) before e h.0) (omega (arith, (h.1 w).0, queued_append w before (e ∷ []))) in
-      let lists : (replay start (before ++ e ∷ [])).lists ≡ (effect_of e (replay start before)).lists = ap (λ (x : Plain). x.lists) (replay_append start before (e ∷ [])) in
+      let q = entry_placed e start before (queued w before) (left w before) p (stands_last (Stands start) before e h.0)
+      (omega (arith, (h.1 w).0, queued_append w before (e ∷ []))) in
+      let lists : (replay start (before ++ e ∷ [])).lists ≡ (effect_of e (replay start before)).lists = ap (λ (x : Plain). x.lists)
+      (replay_append start before (e ∷ [])) in
       rw (lists, queued_append w before (e ∷ []), left_append w before (e ∷ [])) q
 
   lawful_front : (start : Plain) (xs ys : List Entry) → IsLawful start (xs ++ ys) → IsLawful start xs
-  lawful_front start xs ys h = (stands_front (Stands start) xs ys h.0, λ v. (omega (arith, (h.1 v).0, queued_append v xs ys), omega (arith, (h.1 v).1, left_append v xs ys)))
+  lawful_front start xs ys h =
+      (stands_front (Stands start) xs ys h.0, λ v. (omega (arith, (h.1 v).0, queued_append v xs ys), omega (arith, (h.1 v).1, left_append v xs ys)))
 
-  placed_from : (start : Plain) (before more : List Entry) → PlacedBehind start before → IsLawful start (before ++ more) → PlacedBehind start (before ++ more)
+  placed_from : (start : Plain) (before more : List Entry) → PlacedBehind start before
+      → IsLawful start (before ++ more) → PlacedBehind start (before ++ more)
   placed_from start before [] p h = subst (PlacedBehind start) (sym (append-nil before)) p
   placed_from start before (e ∷ more) p h =
       let path = append_assoc before (e ∷ []) more in
       let whole : IsLawful start ((before ++ e ∷ []) ++ more) = subst (IsLawful start) (sym path) h in
-      subst (PlacedBehind start) path (placed_from start (before ++ e ∷ []) more (last_placed start before e p (lawful_front start (before ++ e ∷ []) more whole)) whole)
+      subst (PlacedBehind start) path (placed_from start (before ++ e ∷ []) more
+      (last_placed start before e p (lawful_front start (before ++ e ∷ []) more whole)) whole)
 
-  pub not_left : (starts : ℕ → ℕ) (journal : List Entry) (c : ℕ) (l : List WaitId) → IsLawful (plain_start starts) journal → (replay (plain_start starts) journal).lists c ≡ w ∷ l → left w journal ≡ 0
+  pub not_left : (starts : ℕ → ℕ) (journal : List Entry) (c : ℕ) (l : List WaitId) → IsLawful (plain_start starts) journal
+      → (replay (plain_start starts) journal).lists c ≡ w ∷ l → left w journal ≡ 0
   not_left starts journal c l h first =
       by (cases_eq c p.at)
     where

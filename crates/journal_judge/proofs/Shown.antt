@@ -1,5 +1,6 @@
 -- What a ledger shows after a change.
-use Rattle.std.proofs.Common.{Result, Ok, Err, ◌≡◌, ℕ, zero, suc, ◌-◌, ◌<◌, ◌⊎◌, List, [], ◌∷◌, ◌++◌, Bool, true, false, cond, eqb, ◌||◌, map, length, get_or}
+use Rattle.std.proofs.Common.{Result, Ok, Err, ◌≡◌, ℕ, zero, suc, ◌-◌, ◌<◌, ◌⊎◌, List, [], ◌∷◌, ◌++◌, Bool, true, false, cond}
+use Rattle.std.proofs.Common.{eqb, ◌||◌, map, length, get_or}
 use Rattle.std.proofs.Common.{set, Option, Some, refl, sym, ap, subst, ◌∙◌, inl, inr, eq-eqb, ne_eqb, arith}
 use Rattle.std.proofs.lemmas.List.{map_push, get_or-set_same, get_or-set_other}
 use Rattle.std.specs.Prelude.{OnOk}
@@ -20,19 +21,22 @@ use Rattle.journal_judge.specs.Shown.{numbers_of, budget_of}
 
 -- ---- a queue
 
-pub front_put : (old new : List Wait) (w : Wait) (lifo : Bool) → lifo ≡ true → new ≡ w ∷ old → map wait_of new ≡ insert_wait lifo (wait_of w) (map wait_of old)
+pub front_put : (old new : List Wait) (w : Wait) (lifo : Bool) → lifo ≡ true → new ≡ w ∷ old
+    → map wait_of new ≡ insert_wait lifo (wait_of w) (map wait_of old)
 unfolding insert_wait
 front_put old new w true q e = ap (map wait_of) e
 front_put old new w false q e = absurd cc
 
-pub back_put : (old new : List Wait) (w : Wait) (lifo : Bool) → lifo ≡ false → new ≡ old ++ w ∷ [] → map wait_of new ≡ insert_wait lifo (wait_of w) (map wait_of old)
+pub back_put : (old new : List Wait) (w : Wait) (lifo : Bool) → lifo ≡ false → new ≡ old ++ w ∷ []
+    → map wait_of new ≡ insert_wait lifo (wait_of w) (map wait_of old)
 unfolding insert_wait
 back_put old new w true q e = absurd cc
 back_put old new w false q e = ap (map wait_of) e ∙ map_push wait_of old w
 
 -- ---- one element of a list
 
-pub at_put : {A : Type 0} (xs : List A) (i n : ℕ) (x d : A) → i < n → n ≡ length xs → (c : ℕ) → get_or (set xs i x) c d ≡ put (λ k. get_or xs k d) i x c
+pub at_put : {A : Type 0} (xs : List A) (i n : ℕ) (x d : A) → i < n → n ≡ length xs → (c : ℕ)
+    → get_or (set xs i x) c d ≡ put (λ k. get_or xs k d) i x c
 at_put {A} xs i n x d lt e c = by (cases_eq c i)
   where
     by : (c ≡ i) ⊎ (c ≡ i → ⊥) → get_or (set xs i x) c d ≡ put (λ k. get_or xs k d) i x c
@@ -43,7 +47,8 @@ at_put {A} xs i n x d lt e c = by (cases_eq c i)
 
 -- ---- the tickets of a list
 
-pub tickets_put : (ts : List Tickets) (i n : ℕ) (t d : Tickets) (x : ListEntry) → i < n → n ≡ length ts → numbers_of t ≡ list.counted x (numbers_of (get_or ts i d))
+pub tickets_put : (ts : List Tickets) (i n : ℕ) (t d : Tickets) (x : ListEntry) → i < n → n ≡ length ts
+    → numbers_of t ≡ list.counted x (numbers_of (get_or ts i d))
     → (k : ℕ) → numbers_of (get_or (set ts i t) k d) ≡ list.replay (numbers_of (get_or ts k d)) (cond (eqb i k) (x ∷ []) [])
 tickets_put ts i n t d x lt e is k = by (cases_eq i k)
   where
@@ -64,8 +69,10 @@ unfolding spent
 budget_put old new s v is k = by (cases_eq s k)
   where
     by : (s ≡ k) ⊎ (s ≡ k → ⊥) → budget_of (new k) ≡ cond (eqb k s) (record { counter = v.counter; units = v.units }) (budget_of (old k))
-    by (inl q) = ap budget_of (is k ∙ ap (λ (b : Bool). cond b (Some v) (old k)) (eq-eqb s k q)) ∙ ap (λ (b : Bool). cond b (record { counter = v.counter; units = v.units }) (budget_of (old k))) (sym (eq-eqb k s (sym q)))
-    by (inr ne) = ap budget_of (is k ∙ ap (λ (b : Bool). cond b (Some v) (old k)) (ne_eqb s k ne)) ∙ ap (λ (b : Bool). cond b (record { counter = v.counter; units = v.units }) (budget_of (old k))) (sym (ne_eqb k s (λ q. ne (sym q))))
+    by (inl q) = ap budget_of (is k ∙ ap (λ (b : Bool). cond b (Some v) (old k)) (eq-eqb s k q))
+        ∙ ap (λ (b : Bool). cond b (record { counter = v.counter; units = v.units }) (budget_of (old k))) (sym (eq-eqb k s (sym q)))
+    by (inr ne) = ap budget_of (is k ∙ ap (λ (b : Bool). cond b (Some v) (old k)) (ne_eqb s k ne))
+        ∙ ap (λ (b : Bool). cond b (record { counter = v.counter; units = v.units }) (budget_of (old k))) (sym (ne_eqb k s (λ q. ne (sym q))))
 
 pub budget_less : (old new : ℕ → Option Budget) (s c : ℕ) (w : WaitId) (v : Budget) → ((k : ℕ) → new k ≡ cond (eqb s k) (Some v) (old k))
     → v.counter ≡ (budget_of (old s)).counter → v.units ≡ (budget_of (old s)).units - 1
@@ -73,14 +80,19 @@ pub budget_less : (old new : ℕ → Option Budget) (s c : ℕ) (w : WaitId) (v 
 unfolding spent
 budget_less old new s c w v is at less k = by (cases_eq s k)
   where
-    by : (s ≡ k) ⊎ (s ≡ k → ⊥) → budget_of (new k) ≡ cond (eqb k s) (record (budget_of (old k)) { units = (budget_of (old k)).units - 1 }) (budget_of (old k))
+    by : (s ≡ k) ⊎ (s ≡ k → ⊥) → budget_of (new k)
+        ≡ cond (eqb k s) (record (budget_of (old k)) { units = (budget_of (old k)).units - 1 }) (budget_of (old k))
     by (inl q) =
         ap budget_of (is k ∙ ap (λ (b : Bool). cond b (Some v) (old k)) (eq-eqb s k q))
-        ∙ (λ i. record { counter = (at ∙ ap (λ (m : ℕ). (budget_of (old m)).counter) q) i; units = (less ∙ ap (λ (m : ℕ). (budget_of (old m)).units - 1) q) i })
+        ∙ (λ i. record {
+          counter = (at ∙ ap (λ (m : ℕ). (budget_of (old m)).counter) q) i;
+          units = (less ∙ ap (λ (m : ℕ). (budget_of (old m)).units - 1) q) i;
+        })
         ∙ ap (λ (b : Bool). cond b (record (budget_of (old k)) { units = (budget_of (old k)).units - 1 }) (budget_of (old k))) (sym (eq-eqb k s (sym q)))
     by (inr ne) =
         ap budget_of (is k ∙ ap (λ (b : Bool). cond b (Some v) (old k)) (ne_eqb s k ne))
-        ∙ ap (λ (b : Bool). cond b (record (budget_of (old k)) { units = (budget_of (old k)).units - 1 }) (budget_of (old k))) (sym (ne_eqb k s (λ q. ne (sym q))))
+        ∙ ap (λ (b : Bool). cond b (record (budget_of (old k)) { units = (budget_of (old k)).units - 1 }) (budget_of (old k)))
+        (sym (ne_eqb k s (λ q. ne (sym q))))
 
 -- ---- the waits that were queued
 

@@ -1,5 +1,6 @@
 -- What the judge says of a journal, by the entries in front of a place.
-use Rattle.std.proofs.Common.{◌≡◌, ℕ, zero, suc, ◌+◌, ◌<◌, ◌≤◌, List, [], ◌∷◌, ◌++◌, length, get_or, take, drop, Option, Some, None, refl, sym, ap, subst, ◌∙◌}
+use Rattle.std.proofs.Common.{◌≡◌, ℕ, zero, suc, ◌+◌, ◌<◌, ◌≤◌, List, [], ◌∷◌, ◌++◌, length, get_or, take, drop, Option, Some}
+use Rattle.std.proofs.Common.{None, refl, sym, ap, subst, ◌∙◌}
 use Rattle.std.proofs.Common.{append_assoc, arith}
 use Rattle.step_table.specs.declared.entry.Entry.{Entry}
 use Rattle.journal_text.specs.declared.entry.Entry as journal
@@ -15,12 +16,14 @@ use Rattle.journal_judge.proofs.Rules.{lawful_front, lawful_breaks_none, breaks_
 
 -- ---- the entries in front of a place, the one there, and those behind
 
-pub split : (xs : List journal.Entry) (i : ℕ) (d : journal.Entry) → i < length xs → entries_of xs ≡ entries_of (take i xs) ++ (entry_of (get_or xs i d) ∷ entries_of (drop (suc i) xs))
+pub split : (xs : List journal.Entry) (i : ℕ) (d : journal.Entry) → i < length xs → entries_of xs ≡ entries_of (take i xs)
+    ++ (entry_of (get_or xs i d) ∷ entries_of (drop (suc i) xs))
 split [] i d lt = absurd (omega arith)
 split (x ∷ xs) zero d lt = refl
 split (x ∷ xs) (suc i) d lt = ap (λ z. entry_of x ∷ z) (split xs i d (omega arith))
 
-front_more : (xs : List journal.Entry) (i : ℕ) (d : journal.Entry) → i < length xs → entries_of (take (suc i) xs) ≡ entries_of (take i xs) ++ (entry_of (get_or xs i d) ∷ [])
+front_more : (xs : List journal.Entry) (i : ℕ) (d : journal.Entry) → i < length xs
+    → entries_of (take (suc i) xs) ≡ entries_of (take i xs) ++ (entry_of (get_or xs i d) ∷ [])
 front_more [] i d lt = absurd (omega arith)
 front_more (x ∷ xs) zero d lt = refl
 front_more (x ∷ xs) (suc i) d lt = ap (λ z. entry_of x ∷ z) (front_more xs i d (omega arith))
@@ -31,23 +34,27 @@ front_length [] (suc i) le = absurd (omega arith)
 front_length (x ∷ xs) (suc i) le = omega (arith, front_length xs i (omega arith))
 
 -- one more, by the code's names
-pub next : (xs : List journal.Entry) (i : ℕ) (e : journal.Entry) → i < length xs → e ≡ get_or xs i e → entries_of (take (i + 1) xs) ≡ entries_of (take i xs) ++ (entry_of e ∷ [])
+pub next : (xs : List journal.Entry) (i : ℕ) (e : journal.Entry) → i < length xs → e ≡ get_or xs i e
+    → entries_of (take (i + 1) xs) ≡ entries_of (take i xs) ++ (entry_of e ∷ [])
 next xs i e lt is =
     let one : suc i ≡ i + 1 = omega arith in
-    ap (λ (n : ℕ). entries_of (take n xs)) (sym one) ∙ front_more xs i e lt ∙ ap (λ (x : journal.Entry). entries_of (take i xs) ++ (entry_of x ∷ [])) (sym is)
+    ap (λ (n : ℕ). entries_of (take n xs)) (sym one) ∙ front_more xs i e lt
+    ∙ ap (λ (x : journal.Entry). entries_of (take i xs) ++ (entry_of x ∷ [])) (sym is)
 
 module _ (j : Journal) (i : ℕ) (e : journal.Entry) (lt : i < length j.entries) (is : e ≡ get_or j.entries i e) where
   pub account_next : account j.starts (entries_of (take (i + 1) j.entries)) ≡ after (account j.starts (entries_of (take i j.entries))) (entry_of e)
   account_next = ap (account j.starts) (next j.entries i e lt is) ∙ account_last j.starts (entries_of (take i j.entries)) (entry_of e)
 
-  pub lawful_next : IsLawfulJournal j.starts (entries_of (take i j.entries)) → (let o : Option Rule = None in o ≡ first_broken (account j.starts (entries_of (take i j.entries))) (entry_of e))
+  pub lawful_next : IsLawfulJournal j.starts (entries_of (take i j.entries))
+      → (let o : Option Rule = None in o ≡ first_broken (account j.starts (entries_of (take i j.entries))) (entry_of e))
       → IsLawfulJournal j.starts (entries_of (take (i + 1) j.entries))
   lawful_next h q =
       let none : BreaksNone j.starts (entries_of (take i j.entries)) (entry_of e) =
       subst (Judged j.starts (entries_of (take i j.entries)) (entry_of e)) (sym q) (judged j.starts (entries_of (take i j.entries)) (entry_of e) h) in
       subst (IsLawfulJournal j.starts) (sym (next j.entries i e lt is)) (breaks_none_lawful j.starts (entries_of (take i j.entries)) (entry_of e) h none)
 
-  pub told_unlawful : (rule : Rule) (line : ℕ) → IsLawfulJournal j.starts (entries_of (take i j.entries)) → Some rule ≡ first_broken (account j.starts (entries_of (take i j.entries))) (entry_of e)
+  pub told_unlawful : (rule : Rule) (line : ℕ) → IsLawfulJournal j.starts (entries_of (take i j.entries))
+      → Some rule ≡ first_broken (account j.starts (entries_of (take i j.entries))) (entry_of e)
       → line ≡ j.heads + i + 1 → IsVerdictOf j (Unlawful line rule)
   told_unlawful rule line h q place = (found, refused)
     where
@@ -58,7 +65,8 @@ module _ (j : Journal) (i : ℕ) (e : journal.Entry) (lt : i < length j.entries)
       behind = entries_of (drop (suc i) j.entries)
 
       whole : entries_of j.entries ≡ entries_of (take i j.entries) ++ (entry_of e ∷ entries_of (drop (suc i) j.entries))
-      whole = split j.entries i e lt ∙ ap (λ (x : journal.Entry). entries_of (take i j.entries) ++ (entry_of x ∷ entries_of (drop (suc i) j.entries))) (sym is)
+      whole =
+          split j.entries i e lt ∙ ap (λ (x : journal.Entry). entries_of (take i j.entries) ++ (entry_of x ∷ entries_of (drop (suc i) j.entries))) (sym is)
 
       breaks : BreaksFirst j.starts (entries_of (take i j.entries)) (entry_of e) rule
       breaks = subst (Judged j.starts (entries_of (take i j.entries)) (entry_of e)) (sym q) (judged j.starts (entries_of (take i j.entries)) (entry_of e) h)
@@ -77,7 +85,8 @@ module _ (j : Journal) (i : ℕ) (e : journal.Entry) (lt : i < length j.entries)
       refused : IsLawfulJournal j.starts (entries_of j.entries) → ⊥
       refused all =
           let parted : IsLawfulJournal j.starts ((entries_of (take i j.entries) ++ (entry_of e ∷ [])) ++ entries_of (drop (suc i) j.entries)) =
-          subst (IsLawfulJournal j.starts) (whole ∙ sym (append_assoc (entries_of (take i j.entries)) (entry_of e ∷ []) (entries_of (drop (suc i) j.entries)))) all in
+          subst (IsLawfulJournal j.starts) (whole ∙ sym
+          (append_assoc (entries_of (take i j.entries)) (entry_of e ∷ []) (entries_of (drop (suc i) j.entries)))) all in
           lawful_breaks_none j.starts (entries_of (take i j.entries)) (entry_of e)
           (lawful_front j.starts (entries_of (take i j.entries) ++ (entry_of e ∷ [])) (entries_of (drop (suc i) j.entries)) parted) rule breaks.broken
 

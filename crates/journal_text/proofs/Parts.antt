@@ -1,5 +1,6 @@
 -- How the reading of a part becomes that of the whole.
-use Rattle.std.proofs.Common.{◌≡◌, Bool, true, false, not, Bor, ℕ, ◌<◌, List, [], ◌∷◌, ◌++◌, Option, Some, None, refl, sym, ap, subst, ◌∙◌, arith}
+use Rattle.std.proofs.Common.{◌≡◌, Bool, true, false, not, Bor, ℕ, ◌<◌, List, [], ◌∷◌, ◌++◌, Option, Some, None, refl, sym, ap, subst}
+use Rattle.std.proofs.Common.{◌∙◌, arith}
 use Rattle.std.specs.Option.{option_map}
 use Rattle.std.specs.Str.Parse.{AllDigits}
 use Rattle.std.specs.Fmt.{decimal}
@@ -29,7 +30,8 @@ none P a h p = let e = (h a).0 p in cc
 pub failed : {A : Type 0} (P : A → Type 0) (o : Option A) → o ≡ None → ReadsAs P None → ReadsAs P o
 failed {A} P o e h = subst (λ (x : Option A). ReadsAs P x) (sym e) h
 
-pub failed_pair : (P : ℕ × List ℕ → Type 0) (o : Option (ℕ × Bor (List ℕ))) → o ≡ None → ReadsAs P None → ReadsAs P (option_map (λ z. (z.0, z.1.now)) o)
+pub failed_pair : (P : ℕ × List ℕ → Type 0) (o : Option (ℕ × Bor (List ℕ))) → o ≡ None → ReadsAs P None
+    → ReadsAs P (option_map (λ z. (z.0, z.1.now)) o)
 failed_pair P o e h = subst (λ (x : Option (ℕ × Bor (List ℕ))). ReadsAs P (option_map (λ z. (z.0, z.1.now)) x)) (sym e) h
 
 -- ---- digits in front of a text, and the rest, are one pair
@@ -37,7 +39,8 @@ failed_pair P o e h = subst (λ (x : Option (ℕ × Bor (List ℕ))). ReadsAs P 
 is_digit : (c : ℕ) (cs : List ℕ) → AllDigits 10 (c ∷ cs) → IsDigit c
 is_digit c cs d = let k = digit_from_value c d.0 in (omega arith, omega arith)
 
-pub runs_one : (xs ys a b : List ℕ) → AllDigits 10 xs → AllDigits 10 ys → EndsNumber a → EndsNumber b → xs ++ a ≡ ys ++ b → (xs ≡ ys) × (a ≡ b)
+pub runs_one : (xs ys a b : List ℕ) → AllDigits 10 xs → AllDigits 10 ys → EndsNumber a → EndsNumber b
+    → xs ++ a ≡ ys ++ b → (xs ≡ ys) × (a ≡ b)
 runs_one [] [] a b p q ea eb e = (refl, e)
 runs_one [] (y ∷ ys) [] b p q ea eb e = absurd cc
 runs_one [] (y ∷ ys) (c ∷ cs) b p q ea eb e = let same : c ≡ y = cc in absurd (ea (subst IsDigit (sym same) (is_digit y ys q)))
@@ -51,33 +54,39 @@ runs_one (x ∷ xs) (y ∷ ys) a b p q ea eb e =
 
 -- ---- a number behind a word
 
-pub after_made : (word text behind digits rest : List ℕ) (n : ℕ) → text ≡ word ++ behind → behind ≡ digits ++ rest → AllDigits 10 digits → EndsNumber rest → ReadsAs (IsNumber digits) (Some n)
+pub after_made : (word text behind digits rest : List ℕ) (n : ℕ) → text ≡ word ++ behind → behind ≡ digits ++ rest → AllDigits 10 digits
+    → EndsNumber rest → ReadsAs (IsNumber digits) (Some n)
     → ReadsAs (IsAfter IsShort word text) (Some (n, rest))
 after_made word text behind digits rest n e w d ends h =
     let f = found (IsNumber digits) n h in
     one (IsAfter IsShort word text) (n, rest) (f.0, e ∙ ap (λ (x : List ℕ). word ++ x) (w ∙ ap (λ (x : List ℕ). x ++ rest) f.1), ends)
     (λ z q.
-    let r = runs_one digits (decimal z.0) rest z.1 d (decimal_digits z.0 (omega (arith, q.0))) ends q.2 (sym w ∙ append_cancel_left word behind (decimal z.0 ++ z.1) (sym e ∙ q.1)) in
+    let r = runs_one digits (decimal z.0) rest z.1 d (decimal_digits z.0 (omega (arith, q.0))) ends q.2
+    (sym w ∙ append_cancel_left word behind (decimal z.0 ++ z.1) (sym e ∙ q.1)) in
     let m : z.0 ≡ n = only (IsNumber digits) n z.0 h (q.0, r.0) in
     (λ i. (m i, sym r.1 i)))
 
-pub after_no_number : (word text behind digits rest : List ℕ) → text ≡ word ++ behind → behind ≡ digits ++ rest → AllDigits 10 digits → EndsNumber rest → ReadsAs (IsNumber digits) None
+pub after_no_number : (word text behind digits rest : List ℕ) → text ≡ word ++ behind → behind ≡ digits ++ rest → AllDigits 10 digits
+    → EndsNumber rest → ReadsAs (IsNumber digits) None
     → ReadsAs (IsAfter IsShort word text) None
 after_no_number word text behind digits rest e w d ends h =
     nothing (IsAfter IsShort word text)
     (λ z q.
-    let r = runs_one digits (decimal z.0) rest z.1 d (decimal_digits z.0 (omega (arith, q.0))) ends q.2 (sym w ∙ append_cancel_left word behind (decimal z.0 ++ z.1) (sym e ∙ q.1)) in
+    let r = runs_one digits (decimal z.0) rest z.1 d (decimal_digits z.0 (omega (arith, q.0))) ends q.2
+    (sym w ∙ append_cancel_left word behind (decimal z.0 ++ z.1) (sym e ∙ q.1)) in
     none (IsNumber digits) z.0 h (q.0, r.0))
 
 -- ---- a number behind a word, and more of which S holds, spelled by f
 
 module _ {A : Type 0} (S0 : ℕ → Type 0) (S : A → Type 0) (f : A → List ℕ) where
-  pub more_made : (word text rest : List ℕ) (n : ℕ) (x : A) → ((a : A) → EndsNumber (f a)) → ReadsAs (IsAfter S0 word text) (Some (n, rest)) → ReadsAs (IsSpelled S f rest) (Some x)
+  pub more_made : (word text rest : List ℕ) (n : ℕ) (x : A) → ((a : A) → EndsNumber (f a)) → ReadsAs (IsAfter S0 word text) (Some (n, rest))
+      → ReadsAs (IsSpelled S f rest) (Some x)
       → ReadsAs (IsSpelled (λ (z : ℕ × A). S0 z.0 × S z.1) (with_number word f) text) (Some (n, x))
   more_made word text rest n x ends h k =
       let g = found (IsAfter S0 word text) (n, rest) h in
       let s = found (IsSpelled S f rest) x k in
-      one (IsSpelled (λ (z : ℕ × A). S0 z.0 × S z.1) (with_number word f) text) (n, x) ((g.0, s.0), g.1 ∙ ap (λ (y : List ℕ). word ++ (decimal n ++ y)) s.1)
+      one (IsSpelled (λ (z : ℕ × A). S0 z.0 × S z.1) (with_number word f) text) (n, x)
+      ((g.0, s.0), g.1 ∙ ap (λ (y : List ℕ). word ++ (decimal n ++ y)) s.1)
       (λ z q.
       let same : (let it : ℕ × List ℕ = (z.0, f z.1) in it ≡ (n, rest)) = only (IsAfter S0 word text) (n, rest) (z.0, f z.1) h (q.0.0, q.1, ends z.1) in
       let behind : rest ≡ f z.1 = sym (ap (λ (y : ℕ × List ℕ). y.1) same) in
@@ -85,7 +94,8 @@ module _ {A : Type 0} (S0 : ℕ → Type 0) (S : A → Type 0) (f : A → List �
       let number : z.0 ≡ n = ap (λ (y : ℕ × List ℕ). y.0) same in
       (λ i. (number i, more i)))
 
-  pub more_none : (word text rest : List ℕ) (n : ℕ) → ((a : A) → EndsNumber (f a)) → ReadsAs (IsAfter S0 word text) (Some (n, rest)) → ReadsAs (IsSpelled S f rest) None
+  pub more_none : (word text rest : List ℕ) (n : ℕ) → ((a : A) → EndsNumber (f a))
+      → ReadsAs (IsAfter S0 word text) (Some (n, rest)) → ReadsAs (IsSpelled S f rest) None
       → ReadsAs (IsSpelled (λ (z : ℕ × A). S0 z.0 × S z.1) (with_number word f) text) None
   more_none word text rest n ends h k =
       nothing (IsSpelled (λ (z : ℕ × A). S0 z.0 × S z.1) (with_number word f) text)
@@ -97,7 +107,8 @@ module _ {A : Type 0} (S0 : ℕ → Type 0) (S : A → Type 0) (f : A → List �
   pub none_after : (word text : List ℕ) → ((a : A) → EndsNumber (f a)) → ReadsAs (IsAfter S0 word text) None
       → ReadsAs (IsSpelled (λ (z : ℕ × A). S0 z.0 × S z.1) (with_number word f) text) None
   none_after word text ends h =
-      nothing (IsSpelled (λ (z : ℕ × A). S0 z.0 × S z.1) (with_number word f) text) (λ z q. none (IsAfter S0 word text) (z.0, f z.1) h (q.0.0, q.1, ends z.1))
+      nothing (IsSpelled (λ (z : ℕ × A). S0 z.0 × S z.1) (with_number word f) text)
+      (λ z q. none (IsAfter S0 word text) (z.0, f z.1) h (q.0.0, q.1, ends z.1))
 
 -- what begins with a word that parts numbers ends a number
 pub parts : (word more : List ℕ) → PartsNumbers word → EndsNumber (word ++ more)
@@ -106,7 +117,8 @@ parts (c ∷ cs) more p = p
 
 -- ---- one of so many things
 
-pub index_made : (count : ℕ) (word text rest : List ℕ) (n : ℕ) → n < count → ReadsAs (IsAfter IsShort word text) (Some (n, rest)) → ReadsAs (IsAfter (IsOneOf count) word text) (Some (n, rest))
+pub index_made : (count : ℕ) (word text rest : List ℕ) (n : ℕ) → n < count → ReadsAs (IsAfter IsShort word text) (Some (n, rest))
+    → ReadsAs (IsAfter (IsOneOf count) word text) (Some (n, rest))
 index_made count word text rest n lt h =
     let f = found (IsAfter IsShort word text) (n, rest) h in
     one (IsAfter (IsOneOf count) word text) (n, rest) ((f.0, lt), f.1, f.2) (λ z q. only (IsAfter IsShort word text) (n, rest) z h (q.0.0, q.1, q.2))
@@ -130,11 +142,14 @@ agree r xs ys e t = (bytes_eq-Decides xs ys).0 (must_be r (bytes_eq xs ys) e t)
 pub last_none : (word end text : List ℕ) → EndsNumber end → ReadsAs (IsAfter IsShort word text) None → ReadsAs (IsLast word end text) None
 last_none word end text ends h = nothing (IsLast word end text) (λ n q. none (IsAfter IsShort word text) (n, end) h (q.0, q.1, ends))
 
-pub last_other : (word end text rest : List ℕ) (n : ℕ) → EndsNumber end → ReadsAs (IsAfter IsShort word text) (Some (n, rest)) → (rest ≡ end → ⊥) → ReadsAs (IsLast word end text) None
+pub last_other : (word end text rest : List ℕ) (n : ℕ) → EndsNumber end → ReadsAs (IsAfter IsShort word text) (Some (n, rest))
+    → (rest ≡ end → ⊥) → ReadsAs (IsLast word end text) None
 last_other word end text rest n ends h other =
-    nothing (IsLast word end text) (λ m q. other (sym (ap (λ (y : ℕ × List ℕ). y.1) (only (IsAfter IsShort word text) (n, rest) (m, end) h (q.0, q.1, ends)))))
+    nothing (IsLast word end text)
+    (λ m q. other (sym (ap (λ (y : ℕ × List ℕ). y.1) (only (IsAfter IsShort word text) (n, rest) (m, end) h (q.0, q.1, ends)))))
 
-pub last_made : (word end text rest : List ℕ) (n : ℕ) → EndsNumber end → ReadsAs (IsAfter IsShort word text) (Some (n, rest)) → rest ≡ end → ReadsAs (IsLast word end text) (Some n)
+pub last_made : (word end text rest : List ℕ) (n : ℕ) → EndsNumber end → ReadsAs (IsAfter IsShort word text) (Some (n, rest)) → rest ≡ end
+    → ReadsAs (IsLast word end text) (Some n)
 last_made word end text rest n ends h same =
     let f = found (IsAfter IsShort word text) (n, rest) h in
     one (IsLast word end text) n (f.0, f.1 ∙ ap (λ (y : List ℕ). word ++ (decimal n ++ y)) same)

@@ -31,14 +31,17 @@ entry_key (Grant l u s) n (inl h) = omega arith
 entry_key (Grant l u s) n (inr h) = omega arith
 
 module _ (before : Journal) (text : List ℕ) where
-  pub entry_line : (entry : Entry) → ReadsAs (IsEntryOf (length before.starts) before.lists text) (Some entry) → ReadsAs (Spells before text) (Some (Tells entry))
+  pub entry_line : (entry : Entry) → ReadsAs (IsEntryOf (length before.starts) before.lists text) (Some entry)
+      → ReadsAs (Spells before text) (Some (Tells entry))
   entry_line entry h =
       let f = found (IsEntryOf (length before.starts) before.lists text) entry h in
       one (Spells before text) (Tells entry) (record { follows = f.0; spelled = f.1 }) is
     where
       is : (a : Line) → Spells before text a → a ≡ Tells entry
-      is (Counter m) q = let f = found (IsEntryOf (length before.starts) before.lists text) entry h in absurd (entry_key entry m (inl (ap key (sym f.1 ∙ q.spelled))))
-      is (NotifyList m) q = let f = found (IsEntryOf (length before.starts) before.lists text) entry h in absurd (entry_key entry m (inr (ap key (sym f.1 ∙ q.spelled))))
+      is (Counter m) q =
+          let f = found (IsEntryOf (length before.starts) before.lists text) entry h in absurd (entry_key entry m (inl (ap key (sym f.1 ∙ q.spelled))))
+      is (NotifyList m) q =
+          let f = found (IsEntryOf (length before.starts) before.lists text) entry h in absurd (entry_key entry m (inr (ap key (sym f.1 ∙ q.spelled))))
       is (Tells other) q = ap Tells (only (IsEntryOf (length before.starts) before.lists text) entry other h (q.follows, q.spelled))
 
   pub late_line : ReadsAs (IsEntryOf (length before.starts) before.lists text) None → 0 < length before.entries → ReadsAs (Spells before text) None
@@ -49,7 +52,8 @@ module _ (before : Journal) (text : List ℕ) where
       is (NotifyList m) q = omega (arith, ap length q.follows.1)
       is (Tells other) q = none (IsEntryOf (length before.starts) before.lists text) other h (q.follows, q.spelled)
 
-  pub head_line : (o : Option Line) → ReadsAs (IsEntryOf (length before.starts) before.lists text) None → before.entries ≡ [] → ReadsAs (IsHeadOf text) o → ReadsAs (Spells before text) o
+  pub head_line : (o : Option Line) → ReadsAs (IsEntryOf (length before.starts) before.lists text) None → before.entries ≡ []
+      → ReadsAs (IsHeadOf text) o → ReadsAs (Spells before text) o
   head_line o h early k a = (to a, λ e. from a ((k a).1 e))
     where
       to : (a : Line) → Spells before text a → o ≡ Some a

@@ -1,5 +1,6 @@
 -- What the lines that were read say of the whole text.
-use Rattle.std.proofs.Common.{◌≡◌, ℕ, ◌+◌, ◌*◌, ◌<◌, ◌≤◌, ◌^◌, List, [], ◌∷◌, ◌++◌, length, Some, None, sym, ap, subst, ◌∙◌, arith, inl, inr}
+use Rattle.std.proofs.Common.{◌≡◌, ℕ, ◌+◌, ◌*◌, ◌<◌, ◌≤◌, ◌^◌, List, [], ◌∷◌, ◌++◌, length, Some, None, sym, ap, subst}
+use Rattle.std.proofs.Common.{◌∙◌, arith, inl, inr}
 use Rattle.std.specs.Prelude.{◌↔◌, All}
 use Rattle.journal_text.specs.declared.journal.Journal.{Journal}
 use Rattle.journal_text.specs.declared.entry.Entry.{Entry}
@@ -23,20 +24,23 @@ pub begins : (text : List ℕ) → SoFar text text no_lines
 begins text = record { makes = λ j. ((λ h. h), (λ h. h)); fault = λ n. ((λ h. h), (λ h. h)) }
 
 -- one line more
-makes_more : (before : Journal) (p : List ℕ) (ps : List (List ℕ)) (line : Line) → ReadsAs (Spells before p) (Some line) → (j : Journal) → Makes (with_line before line) ps j ↔ Makes before (p ∷ ps) j
+makes_more : (before : Journal) (p : List ℕ) (ps : List (List ℕ)) (line : Line) → ReadsAs (Spells before p) (Some line) → (j : Journal)
+    → Makes (with_line before line) ps j ↔ Makes before (p ∷ ps) j
 makes_more before p ps line h j = (
   (λ m. (line, found (Spells before p) line h, m)),
   (λ m. subst (λ (l : Line). Makes (with_line before l) ps j) (only (Spells before p) line m.0 h m.1) m.2),
 )
 
-fault_more : (before : Journal) (p : List ℕ) (ps : List (List ℕ)) (line : Line) → ReadsAs (Spells before p) (Some line) → (n : ℕ) → IsFirstFault (with_line before line) ps n ↔ IsFirstFault before (p ∷ ps) n
+fault_more : (before : Journal) (p : List ℕ) (ps : List (List ℕ)) (line : Line) → ReadsAs (Spells before p) (Some line) → (n : ℕ)
+    → IsFirstFault (with_line before line) ps n ↔ IsFirstFault before (p ∷ ps) n
 fault_more before p ps line h n = ((λ f. inr (line, found (Spells before p) line h, f)), back)
   where
     back : IsFirstFault before (p ∷ ps) n → IsFirstFault (with_line before line) ps n
     back (inl f) = absurd (f.1 line (found (Spells before p) line h))
     back (inr f) = subst (λ (l : Line). IsFirstFault (with_line before l) ps n) (only (Spells before p) line f.0 h f.1) f.2
 
-pub turn : (text rest after p : List ℕ) (before : Journal) (line : Line) → SoFar text rest before → lines rest ≡ p ∷ lines after → ReadsAs (Spells before p) (Some line)
+pub turn : (text rest after p : List ℕ) (before : Journal) (line : Line) → SoFar text rest before → lines rest ≡ p ∷ lines after
+    → ReadsAs (Spells before p) (Some line)
     → SoFar text after (with_line before line)
 turn text rest after p before line so e h = record {
   makes = λ j. (
@@ -51,14 +55,17 @@ turn text rest after p before line so e h = record {
 
 -- ---- a faulty line
 
-faulty : (before : Journal) (p : List ℕ) (ps : List (List ℕ)) → ReadsAs (Spells before p) None → (n : ℕ) → IsFirstFault before (p ∷ ps) n → n ≡ before.heads + length before.entries + 1
+faulty : (before : Journal) (p : List ℕ) (ps : List (List ℕ)) → ReadsAs (Spells before p) None → (n : ℕ) → IsFirstFault before (p ∷ ps) n
+    → n ≡ before.heads + length before.entries + 1
 faulty before p ps h n (inl f) = f.0
 faulty before p ps h n (inr f) = absurd (none (Spells before p) f.0 h f.1)
 
-pub refused : (text rest after p : List ℕ) (before : Journal) (n : ℕ) → SoFar text rest before → lines rest ≡ p ∷ lines after → ReadsAs (Spells before p) None → n ≡ before.heads + length before.entries + 1
+pub refused : (text rest after p : List ℕ) (before : Journal) (n : ℕ) → SoFar text rest before → lines rest ≡ p ∷ lines after
+    → ReadsAs (Spells before p) None → n ≡ before.heads + length before.entries + 1
     → IsOnly (IsFaultOf text) n × IsNone (IsJournalOf text)
 refused text rest after p before n so e h k =
-    let mine : IsFaultOf text n = (so.fault n).0 (subst (λ (ps : List (List ℕ)). IsFirstFault before ps n) (sym e) (inl (k, λ l q. none (Spells before p) l h q))) in (
+    let mine : IsFaultOf text n = (so.fault n).0
+    (subst (λ (ps : List (List ℕ)). IsFirstFault before ps n) (sym e) (inl (k, λ l q. none (Spells before p) l h q))) in (
       (λ m. (
         (λ f. faulty before p (lines after) h m (subst (λ (ps : List (List ℕ)). IsFirstFault before ps m) e ((so.fault m).1 f)) ∙ sym k),
         (λ i. subst (IsFaultOf text) (sym i) mine),

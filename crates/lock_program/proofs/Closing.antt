@@ -1,5 +1,6 @@
 -- The lines that are put together: how many they are, and that they jump no further than behind the last.
-use Rattle.std.proofs.Common.{◌≡◌, ℕ, ◌+◌, ◌-◌, ◌^◌, ◌≤◌, ◌<◌, List, [], ◌∷◌, ◌++◌, length, take, get_or, All, Some, None, Option, refl, sym, ap, subst}
+use Rattle.std.proofs.Common.{◌≡◌, ℕ, ◌+◌, ◌-◌, ◌^◌, ◌≤◌, ◌<◌, List, [], ◌∷◌, ◌++◌, length, take, get_or, All, Some}
+use Rattle.std.proofs.Common.{None, Option, refl, sym, ap, subst}
 use Rattle.std.proofs.Common.{◌∙◌, arith}
 use Rattle.std.proofs.Common.{length-append, inl, inr, ◌⊎◌}
 use Rattle.std.proofs.lemmas.Bool.{cases_lt}
@@ -19,7 +20,8 @@ use Rattle.lock_program.specs.Codes.{JumpsByLabel, CanPutIn}
 
 -- ---- how many lines
 
-pub line_length : (codes : List (List CodeLine)) (body : List Written) (at line : ℕ) (s : Statement) → length (lines_of codes body at line s) ≡ width codes s
+pub line_length : (codes : List (List CodeLine)) (body : List Written) (at line : ℕ) (s : Statement)
+    → length (lines_of codes body at line s) ≡ width codes s
 line_length codes body at line (says.Plain i) = refl
 line_length codes body at line (says.If e r f name) = refl
 line_length codes body at line (says.Goto name) = refl
@@ -118,7 +120,8 @@ can_put_in codes at (says.Label name) h le = tt
 can_put_in codes at (says.Do n) h le = can_move codes n at (2 ^ 64 - 1) h (omega arith)
 can_put_in codes at says.Return h le = tt
 
-pub put_more : (codes : List (List CodeLine)) (body : List Written) (i at : ℕ) (w : Written) → i < length body → w ≡ get_or body i w → size_of codes body ≤ 255
+pub put_more : (codes : List (List CodeLine)) (body : List Written) (i at : ℕ) (w : Written) → i < length body
+    → w ≡ get_or body i w → size_of codes body ≤ 255
     → at ≡ size_of codes (take i body) → All IsClosed codes → CanPutIn codes at w.statement
 put_more codes body i at w lt e short is h =
     let same : wide codes w ≡ wide codes (get_or body i w) = ap (wide codes) e in
@@ -134,7 +137,8 @@ one_within most line i h =
     All-cons (λ (c : CodeLine). IsTargetWithin most c.instruction) (record { line = line; within = []; instruction = i }) [] h
     (All-nil (λ (c : CodeLine). IsTargetWithin most c.instruction))
 
-lines_within : (codes : List (List CodeLine)) (body : List Written) (at line most : ℕ) (s : Statement) → at + width codes s ≤ most → size_of codes body ≤ most
+lines_within : (codes : List (List CodeLine)) (body : List Written) (at line most : ℕ) (s : Statement)
+    → at + width codes s ≤ most → size_of codes body ≤ most
     → JumpsByLabel s → All IsClosed codes → Within most (lines_of codes body at line s)
 lines_within codes body at line most (says.Plain i) le size h closed = one_within most line i (further 0 most (omega arith) i h)
 lines_within codes body at line most (says.If e r f name) le size h closed =

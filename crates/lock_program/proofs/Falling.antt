@@ -17,9 +17,12 @@ use Rattle.lock_program.specs.Causes.{map_ok}
 use Rattle.lock_program.specs.declared.statement.Statement.TheVariants as says
 use Rattle.lock_program.specs.declared.meant.Meant.TheVariants as meant
 
-pub seat_is : (names : Names) (line : Line) → ((c : Place) (l : Bool) → line ≡ Acquire c l → ⊥) → ((c : Place) (s : Share) → line ≡ Release c s → ⊥)
-    → ((l : List ℕ) → line ≡ Ticket l → ⊥) → ((l : List ℕ) → line ≡ Wait l → ⊥) → ((l : List ℕ) → line ≡ One l → ⊥) → ((l : List ℕ) → line ≡ All l → ⊥)
-    → ((w : Place) (e : Operand) → line ≡ Park w e → ⊥) → ((w : Place) (e : Operand) → line ≡ Unpark w e → ⊥) → seat_line names line ≡ layer_line names line
+pub seat_is : (names : Names) (line : Line) → ((c : Place) (l : Bool) → line ≡ Acquire c l → ⊥)
+    → ((c : Place) (s : Share) → line ≡ Release c s → ⊥)
+    → ((l : List ℕ) → line ≡ Ticket l → ⊥) → ((l : List ℕ) → line ≡ Wait l → ⊥) → ((l : List ℕ) → line ≡ One l → ⊥)
+    → ((l : List ℕ) → line ≡ All l → ⊥)
+    → ((w : Place) (e : Operand) → line ≡ Park w e → ⊥) → ((w : Place) (e : Operand) → line ≡ Unpark w e → ⊥)
+    → seat_line names line ≡ layer_line names line
 seat_is names (Acquire c l) a b d e f g h i = absurd (a c l refl)
 seat_is names (Release c s) a b d e f g h i = absurd (b c s refl)
 seat_is names (Ticket l) a b d e f g h i = absurd (d l refl)
@@ -30,10 +33,13 @@ seat_is names (Park w o) a b d e f g h i = absurd (h w o refl)
 seat_is names (Unpark w o) a b d e f g h i = absurd (i w o refl)
 seat_is names line a b d e f g h i = refl
 
-pub layer_is : (names : Names) (line : Line) → ((w : Place) (r : List ℕ) → line ≡ Load w r → ⊥) → ((w : Place) (e : Operand) → line ≡ Store w e → ⊥)
-    → ((w : Place) (e : Operand) (o : Option (List ℕ)) → line ≡ Swap w e o → ⊥) → ((w : Place) (e : Operand) (o : Option (List ℕ)) → line ≡ Add w e o → ⊥)
+pub layer_is : (names : Names) (line : Line) → ((w : Place) (r : List ℕ) → line ≡ Load w r → ⊥)
+    → ((w : Place) (e : Operand) → line ≡ Store w e → ⊥)
+    → ((w : Place) (e : Operand) (o : Option (List ℕ)) → line ≡ Swap w e o → ⊥)
+    → ((w : Place) (e : Operand) (o : Option (List ℕ)) → line ≡ Add w e o → ⊥)
     → ((w : Place) (e f : Operand) (o : Option (List ℕ)) → line ≡ Exchange w e f o → ⊥)
-    → ((w : Place) (r : Relation) (e : Operand) (o : Option (List ℕ)) → line ≡ Await w r e o → ⊥) → layer_line names line ≡ access_line names line
+    → ((w : Place) (r : Relation) (e : Operand) (o : Option (List ℕ)) → line ≡ Await w r e o → ⊥)
+    → layer_line names line ≡ access_line names line
 layer_is names (Load w r) a b d e f g = absurd (a w r refl)
 layer_is names (Store w o) a b d e f g = absurd (b w o refl)
 layer_is names (Swap w o r) a b d e f g = absurd (d w o r refl)
@@ -43,7 +49,8 @@ layer_is names (Await w rel o r) a b d e f g = absurd (g w rel o r refl)
 layer_is names line a b d e f g = refl
 
 pub plain_is : (names : Names) (ended : ℕ) (line : Line) → ((e : Operand) (r : Relation) (f : Operand) (a : List ℕ) → line ≡ If e r f a → ⊥)
-    → ((a : List ℕ) → line ≡ Goto a → ⊥) → ((a : List ℕ) → line ≡ Label a → ⊥) → ((p : List ℕ) → line ≡ Do p → ⊥) → (line ≡ Return → ⊥)
+    → ((a : List ℕ) → line ≡ Goto a → ⊥) → ((a : List ℕ) → line ≡ Label a → ⊥)
+    → ((p : List ℕ) → line ≡ Do p → ⊥) → (line ≡ Return → ⊥)
     → map_ok says.Plain (access_line names line) ≡ statement_of names ended line
 plain_is names ended (If e r f n) a b d g h = absurd (a e r f n refl)
 plain_is names ended (Goto n) a b d g h = absurd (b n refl)
@@ -67,7 +74,8 @@ pub record IsOther (line : Line) : Type 0 where
   pub apart : (s t : List ℕ) → line ≡ Apart s t → ⊥
   pub finally : (w : Place) (r : Relation) (v : Operand) → line ≡ Finally w r v → ⊥
 
-pub statement_is : (names : Names) (ended : ℕ) (line : Line) → IsOther line → map_ok meant.Statement (statement_of names ended line) ≡ meant_of names ended line
+pub statement_is : (names : Names) (ended : ℕ) (line : Line) → IsOther line
+    → map_ok meant.Statement (statement_of names ended line) ≡ meant_of names ended line
 statement_is names ended Blank o = absurd (o.blank refl)
 statement_is names ended (Const n v) o = absurd (o.const n v refl)
 statement_is names ended (Word w v) o = absurd (o.word w v refl)

@@ -1,5 +1,6 @@
 -- Where nothing is too much, there is room for what a line means.
-use Rattle.std.proofs.Common.{◌≡◌, ℕ, ◌+◌, ◌-◌, ◌≤◌, Bool, true, false, length, Some, None, Option, Result, Ok, Err, refl, sym, ap, subst, arith}
+use Rattle.std.proofs.Common.{◌≡◌, ℕ, ◌+◌, ◌-◌, ◌≤◌, Bool, true, false, length, Some, None, Option, Result, Ok, Err, refl, sym, ap, subst}
+use Rattle.std.proofs.Common.{arith}
 use Rattle.std.specs.Prelude.{nat_lt, cond, ◌==◌, ◌||◌}
 use Rattle.std.specs.Option.{unwrap_or}
 use Rattle.std.proofs.lemmas.Bool.{ltb-false}
@@ -151,7 +152,8 @@ both_first (Ok a) (Err d) x e = absurd cc
 both_first (Err c) (Ok b) x e = absurd cc
 both_first (Err c) (Err d) x e = absurd cc
 
-room : (d : Draft) (line : Line) (m : Meant) → length d.words ≤ 32 → length d.counters ≤ 32 → size_of d.codes d.body ≤ 255 → is_too_many d line ≡ false
+room : (d : Draft) (line : Line) (m : Meant) → length d.words ≤ 32 → length d.counters ≤ 32
+    → size_of d.codes d.body ≤ 255 → is_too_many d line ≡ false
     → meant_of d.names (length d.codes) line ≡ Ok m → FitsMeant d m
 room d Blank m words counters short few e = simply (FitsMeant d) meant.Nothing m tt e
 room d (Const name v) m words counters short few e = made (FitsMeant d) (λ z. meant.Constant name z) (number_of v) m (λ a h. tt) e
@@ -197,7 +199,8 @@ stays_open stage.Programs k d e = refl
 stays_open stage.Seats k d e = refl
 stays_open stage.Properties k d e = refl
 
-pub room_closed : (behind : Stage) (d : Draft) (line : Line) (m : Meant) → length d.words ≤ 32 → length d.counters ≤ 32 → size_of d.codes d.body ≤ 255
+pub room_closed : (behind : Stage) (d : Draft) (line : Line) (m : Meant) → length d.words ≤ 32
+    → length d.counters ≤ 32 → size_of d.codes d.body ≤ 255
     → is_too_many d line ≡ false → meant_of d.names (length d.codes) line ≡ Ok m → FitsMeant (closed_by behind (kind_of line) d) m
 room_closed behind d (Program name) m words counters short few e = simply (FitsMeant (closed_by behind kind.Program d)) (meant.Program name) m tt e
 room_closed behind d (Seats k name) m words counters short few e =

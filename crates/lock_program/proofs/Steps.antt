@@ -17,7 +17,8 @@ use Rattle.lock_program.proofs.Rooms.{too_none, room_closed}
 abbrev pub told : Draft → Line → Result Meant Cause
 told d line = too_if (is_too_many d line) TooMany (too_if (is_again d line) Twice (meant_of d.names (length d.codes) line))
 
-pub told_from : (d : Draft) (line : Line) (over again : Bool) (n : ℕ) (m1 m2 m3 : Result Meant Cause) → over ≡ is_too_many d line → again ≡ is_again d line
+pub told_from : (d : Draft) (line : Line) (over again : Bool) (n : ℕ) (m1 m2 m3 : Result Meant Cause)
+    → over ≡ is_too_many d line → again ≡ is_again d line
     → n ≡ length d.codes → m1 ≡ meant_of d.names n line → m2 ≡ too_if again Twice m1 → m3 ≡ too_if over TooMany m2 → m3 ≡ told d line
 told_from d line over again n m1 m2 m3 o a l e f g =
     let p : m1 ≡ meant_of d.names (length d.codes) line = e ∙ ap (λ (k : ℕ). meant_of d.names k line) l in

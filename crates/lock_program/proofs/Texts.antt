@@ -162,7 +162,8 @@ tail_fault : (d e : Draft) (n : ℕ) (p : Piece) (ps : List Piece) → IsOnlyRig
 tail_fault d e n p ps h f (inl a) = absurd (right_is_faultless d n p e f.cause h a.1)
 tail_fault d e n p ps h f (inr a) = subst (λ (g : Draft). IsFirstFault g (n + 1) ps f) (only_right d n p e a.0 h a.1) a.2
 
-pub turn : (text rest after : List ℕ) (d e : Draft) (n : ℕ) (p : Piece) → SoFar text rest d n → pieces rest ≡ p ∷ pieces after → IsOnlyRight d n p e
+pub turn : (text rest after : List ℕ) (d e : Draft) (n : ℕ) (p : Piece) → SoFar text rest d n
+    → pieces rest ≡ p ∷ pieces after → IsOnlyRight d n p e
     → SoFar text after e (n + 1)
 turn text rest after d e n p so is h = record {
   program = λ x. (
@@ -185,7 +186,8 @@ faulty_is_one d n p ps c h f (inl a) =
     (λ i. record { line = a.0 i; cause = e i })
 faulty_is_one d n p ps c h f (inr a) = absurd (fault_is_not_right d n p c a.0 h a.1)
 
-told : (text rest after : List ℕ) (d : Draft) (n : ℕ) (p : Piece) (c : Cause) → SoFar text rest d n → pieces rest ≡ p ∷ pieces after → IsOnlyFault d n p c
+told : (text rest after : List ℕ) (d : Draft) (n : ℕ) (p : Piece) (c : Cause) → SoFar text rest d n
+    → pieces rest ≡ p ∷ pieces after → IsOnlyFault d n p c
     → IsOnly (IsFaultOf text) (record { line = n; cause = c }) × IsNone (IsProgramOf text)
 told text rest after d n p c so is h =
     let mine : IsFaultOf text (record { line = n; cause = c }) =
@@ -239,13 +241,15 @@ program_is text rest d n x so e h y = (
     same_ok : (a b : NamedProgram) (r : Result NamedProgram ReadFault) → r ≡ Ok a → r ≡ Ok b → a ≡ b
     same_ok a b r f g = cc
 
-fault_ends : (text rest : List ℕ) (d : Draft) (n : ℕ) (f : ReadFault) → SoFar text rest d n → rest ≡ [] → IsFaultOf text f → finished d n ≡ Err f
+fault_ends : (text rest : List ℕ) (d : Draft) (n : ℕ) (f : ReadFault) → SoFar text rest d n → rest ≡ []
+    → IsFaultOf text f → finished d n ≡ Err f
 fault_ends text rest d n f so e a = subst (λ (bytes : List ℕ). IsFirstFault d n (pieces bytes) f) e ((so.fault f).1 a)
 
 one_end : (a b : NamedProgram) (f g : ReadFault) (r : Result NamedProgram ReadFault) → r ≡ Ok a → r ≡ Err f → ⊥
 one_end a b f g r p q = cc
 
-pub faultless : (text rest : List ℕ) (d : Draft) (n : ℕ) (x : NamedProgram) → SoFar text rest d n → rest ≡ [] → finished d n ≡ Ok x → IsNone (IsFaultOf text)
+pub faultless : (text rest : List ℕ) (d : Draft) (n : ℕ) (x : NamedProgram) → SoFar text rest d n → rest ≡ []
+    → finished d n ≡ Ok x → IsNone (IsFaultOf text)
 faultless text rest d n x so e h f a = one_end x x f f (finished d n) h (fault_ends text rest d n f so e a)
 
 told_last : (text rest : List ℕ) (d : Draft) (n : ℕ) (f : ReadFault) → SoFar text rest d n → rest ≡ [] → finished d n ≡ Err f
@@ -261,13 +265,15 @@ told_last text rest d n f so e h = (
     same : (r : Result NamedProgram ReadFault) (a b : ReadFault) → r ≡ Err a → r ≡ Err b → a ≡ b
     same r a b p q = cc
 
-last_by : (text rest : List ℕ) (d : Draft) (n : ℕ) (f : ReadFault) (c : Cause) → f.cause ≡ c → SoFar text rest d n → rest ≡ [] → FinishesBy d n f c
+last_by : (text rest : List ℕ) (d : Draft) (n : ℕ) (f : ReadFault) (c : Cause) → f.cause ≡ c
+    → SoFar text rest d n → rest ≡ [] → FinishesBy d n f c
     → IsReadFaultBy text f c
 last_by text rest d n f NoMemory is so e h =
     so.reached f.line (subst (λ (bytes : List ℕ). IsReached d n (pieces bytes) f.line) (sym e) h)
 last_by text rest d n f c is so e h = told_last text rest d n f so e h
 
-pub last_fault : (text rest : List ℕ) (d : Draft) (n : ℕ) (f : ReadFault) → SoFar text rest d n → rest ≡ [] → Finishes d n (Err f) → IsReadFault text f
+pub last_fault : (text rest : List ℕ) (d : Draft) (n : ℕ) (f : ReadFault) → SoFar text rest d n → rest ≡ []
+    → Finishes d n (Err f) → IsReadFault text f
 last_fault text rest d n f so e h = last_by text rest d n f f.cause refl so e h
 
 pub last_program : (text rest : List ℕ) (d : Draft) (n : ℕ) (r : Result NamedProgram ReadFault) → SoFar text rest d n → rest ≡ [] → Finishes d n r

@@ -57,7 +57,8 @@ no_load words no0 = nothing (AreArgumentsOf verb.Load words) is
         })
     is l q = let e = q.verb_is in absurd cc
 
-pub store_reads : (words : List (List ℕ)) (a : Place) (b : Operand) → (let x : Place × Operand = (a, b) in ReadsAs (AreTwo IsPlace IsOperand words) (Some x))
+pub store_reads : (words : List (List ℕ)) (a : Place) (b : Operand)
+    → (let x : Place × Operand = (a, b) in ReadsAs (AreTwo IsPlace IsOperand words) (Some x))
     → ReadsAs (AreArgumentsOf verb.Store words) (Some (Store a b))
 store_reads words a b h =
     let x : Place × Operand = (a, b) in

@@ -223,7 +223,8 @@ no_await words no0 no1 = nothing (AreArgumentsOf verb.Await words) is
         })
     is l q = let e = q.verb_is in absurd cc
 
-pub park_reads : (words : List (List ℕ)) (a : Place) (b : Operand) → (let x : Place × Operand = (a, b) in ReadsAs (AreTwo IsPlace IsOperand words) (Some x))
+pub park_reads : (words : List (List ℕ)) (a : Place) (b : Operand)
+    → (let x : Place × Operand = (a, b) in ReadsAs (AreTwo IsPlace IsOperand words) (Some x))
     → ReadsAs (AreArgumentsOf verb.Park words) (Some (Park a b))
 park_reads words a b h =
     let x : Place × Operand = (a, b) in
@@ -263,7 +264,8 @@ no_park words no0 = nothing (AreArgumentsOf verb.Park words) is
         })
     is l q = let e = q.verb_is in absurd cc
 
-pub unpark_reads : (words : List (List ℕ)) (a : Place) (b : Operand) → (let x : Place × Operand = (a, b) in ReadsAs (AreTwo IsPlace IsOperand words) (Some x))
+pub unpark_reads : (words : List (List ℕ)) (a : Place) (b : Operand)
+    → (let x : Place × Operand = (a, b) in ReadsAs (AreTwo IsPlace IsOperand words) (Some x))
     → ReadsAs (AreArgumentsOf verb.Unpark words) (Some (Unpark a b))
 unpark_reads words a b h =
     let x : Place × Operand = (a, b) in

@@ -12,7 +12,8 @@ use Rattle.lock_text.specs.Words.{IsName, IsNumberWord, number_text}
 use Rattle.lock_text.specs.Lines.{AreArgumentsOf}
 use Rattle.lock_text.specs.Shapes.{AreOne, AreTwo, AreCells}
 
-pub const_reads : (words : List (List ℕ)) (a : List ℕ) (b : Number) → (let x : List ℕ × Number = (a, b) in ReadsAs (AreTwo IsName IsNumberWord words) (Some x))
+pub const_reads : (words : List (List ℕ)) (a : List ℕ) (b : Number)
+    → (let x : List ℕ × Number = (a, b) in ReadsAs (AreTwo IsName IsNumberWord words) (Some x))
     → ReadsAs (AreArgumentsOf verb.Const words) (Some (Const a b))
 const_reads words a b h =
     let x : List ℕ × Number = (a, b) in
@@ -142,7 +143,8 @@ no_program words no0 = nothing (AreArgumentsOf verb.Program words) is
         none (AreOne IsName words) y no0 (record { w = p0; words_are = q.spelled; said = record { form = q.form; spelled = refl } })
     is l q = let e = q.verb_is in absurd cc
 
-pub seats_reads : (words : List (List ℕ)) (a : Number) (b : List ℕ) → (let x : Number × List ℕ = (a, b) in ReadsAs (AreTwo IsNumberWord IsName words) (Some x))
+pub seats_reads : (words : List (List ℕ)) (a : Number) (b : List ℕ)
+    → (let x : Number × List ℕ = (a, b) in ReadsAs (AreTwo IsNumberWord IsName words) (Some x))
     → ReadsAs (AreArgumentsOf verb.Seats words) (Some (Seats a b))
 seats_reads words a b h =
     let x : Number × List ℕ = (a, b) in

@@ -126,7 +126,8 @@ pub goto_reads : (words : List (List ℕ)) (a : List ℕ) → (let x : List ℕ 
 goto_reads words a h =
     let x : List ℕ = a in
     let f = found (AreOne IsName words) x h in
-    one_of (AreArgumentsOf verb.Goto words) (Goto a) (record { verb_is = refl; form = f.said.form; spelled = f.words_are ∙ (λ i. f.said.spelled i ∷ []) }) is
+    one_of (AreArgumentsOf verb.Goto words) (Goto a) (record { verb_is = refl; form = f.said.form; spelled = f.words_are ∙ (λ i. f.said.spelled i ∷ []) })
+    is
   where
     is : (l : Line) → AreArgumentsOf verb.Goto words l → l ≡ (Goto a)
     is (Goto p0) q =

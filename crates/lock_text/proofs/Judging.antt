@@ -13,7 +13,8 @@ use Rattle.lock_text.specs.Answers.{Judges}
 pub formless : (p : Piece) → (p.ended ≡ false → ⊥) → list_all is_printable p.text ≡ true → ReadsAs (Says p.text) None → Judges p (Err Form)
 formless p ended printable h = inr (ended, inr ((λ f. absurd cc), inl ((λ line q. none (Says p.text) line h q), refl)))
 
-pub right : (p : Piece) (l : Line) → (p.ended ≡ false → ⊥) → list_all is_printable p.text ≡ true → ReadsAs (Says p.text) (Some l) → Judges p (Ok l)
+pub right : (p : Piece) (l : Line) → (p.ended ≡ false → ⊥) → list_all is_printable p.text ≡ true
+    → ReadsAs (Says p.text) (Some l) → Judges p (Ok l)
 right p l ended printable h =
     let s = found (Says p.text) l h in
     ((s, (ended, ((λ f. absurd cc), ((λ f. f l s), tt)))), (λ m. ((λ q. only (Says p.text) l m h q), (λ e. subst (Says p.text) (sym e) s))))

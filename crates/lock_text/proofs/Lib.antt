@@ -4,6 +4,7 @@ pub mod DeclarationLines
 pub mod FlowLines
 pub mod Judging
 pub mod LayerLines
+pub mod ListLines
 pub mod Parts
 pub mod PropertyLines
 pub mod Shaping

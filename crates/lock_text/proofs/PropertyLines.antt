@@ -13,7 +13,8 @@ use Rattle.lock_text.specs.Words.{IsName, IsNumberWord, IsOperand, IsPlace, IsRe
 use Rattle.lock_text.specs.Lines.{AreArgumentsOf, is_fixed, is_fixed_index}
 use Rattle.lock_text.specs.Shapes.{AreTwo, AreThree}
 
-pub most_reads : (words : List (List ℕ)) (a : List ℕ) (b : Number) → (let x : List ℕ × Number = (a, b) in ReadsAs (AreTwo IsName IsNumberWord words) (Some x))
+pub most_reads : (words : List (List ℕ)) (a : List ℕ) (b : Number)
+    → (let x : List ℕ × Number = (a, b) in ReadsAs (AreTwo IsName IsNumberWord words) (Some x))
     → ReadsAs (AreArgumentsOf verb.Most words) (Some (Most a b))
 most_reads words a b h =
     let x : List ℕ × Number = (a, b) in
@@ -59,7 +60,8 @@ no_most words no0 = nothing (AreArgumentsOf verb.Most words) is
         })
     is l q = let e = q.verb_is in absurd cc
 
-pub apart_reads : (words : List (List ℕ)) (a : List ℕ) (b : List ℕ) → (let x : List ℕ × List ℕ = (a, b) in ReadsAs (AreTwo IsName IsName words) (Some x))
+pub apart_reads : (words : List (List ℕ)) (a : List ℕ) (b : List ℕ)
+    → (let x : List ℕ × List ℕ = (a, b) in ReadsAs (AreTwo IsName IsName words) (Some x))
     → ReadsAs (AreArgumentsOf verb.Apart words) (Some (Apart a b))
 apart_reads words a b h =
     let x : List ℕ × List ℕ = (a, b) in
@@ -100,7 +102,8 @@ no_apart words no0 = nothing (AreArgumentsOf verb.Apart words) is
     is l q = let e = q.verb_is in absurd cc
 
 three_of_final : (words : List (List ℕ)) (l : Line) → AreArgumentsOf verb.Finally words l
-    → (x : Place × Relation × Operand) × (l ≡ Finally x.0 x.1 x.2) × AreThree IsPlace IsRelation IsOperand words x × (is_fixed_index x.0.index ≡ true)
+    → (x : Place × Relation × Operand) × (l ≡ Finally x.0 x.1 x.2)
+    × AreThree IsPlace IsRelation IsOperand words x × (is_fixed_index x.0.index ≡ true)
     × (is_fixed x.2 ≡ true)
 three_of_final words (Finally w r v) q = (
   (w, r, v),

@@ -1,5 +1,6 @@
 -- Parts that several lines share.
-use Rattle.std.proofs.Common.{◌≡◌, ℕ, zero, suc, ◌<◌, List, [], ◌∷◌, ◌++◌, length, take, get_or, true, Option, Some, None, Bor, refl, sym, ap, subst, ◌∙◌}
+use Rattle.std.proofs.Common.{◌≡◌, ℕ, zero, suc, ◌<◌, List, [], ◌∷◌, ◌++◌, length, take, get_or, true, Option, Some, None, Bor, refl, sym}
+use Rattle.std.proofs.Common.{ap, subst, ◌∙◌}
 use Rattle.std.proofs.Common.{arith}
 use Rattle.std.specs.List.{AllByRecursion}
 use Rattle.explorer_text.specs.Phrases.{ReadsAs}
@@ -101,7 +102,8 @@ access_two words p e none_is h =
       spelled = f.words_are ∙ (λ i. f.first.spelled i ∷ f.second.spelled i ∷ []);
     }) (λ x q. is x.0 x.1 x.2 q)
   where
-    is : (a : Place) (b : Operand) (o : Option (List ℕ)) → AreAccess words (a, b, o) → let x : Place × Operand × Option (List ℕ) = (a, b, o) in x ≡ (p, e, None)
+    is : (a : Place) (b : Operand) (o : Option (List ℕ)) → AreAccess words (a, b, o) → let x : Place × Operand
+        × Option (List ℕ) = (a, b, o) in x ≡ (p, e, None)
     is a b None q = ap (λ (x : Place × Operand). (x.0, x.1, None)) (only (AreTwo IsPlace IsOperand words) (p, e) (a, b) h (two_of_access words a b q))
     is a b (Some m) q = absurd (none (AreThree IsPlace IsOperand IsName words) (a, b, m) none_is (three_of_access words a b m q))
 
@@ -115,7 +117,8 @@ no_access words none_is h = nothing (AreAccess words) (λ x q. is x.0 x.1 x.2 q)
 
 -- ---- one name or more
 
-all_at : (ws : List (Bor (List ℕ))) (i : ℕ) (d : Bor (List ℕ)) → AllByRecursion IsNameText (texts ws) → i < length ws → IsNameText (get_or ws i d).now
+all_at : (ws : List (Bor (List ℕ))) (i : ℕ) (d : Bor (List ℕ)) → AllByRecursion IsNameText (texts ws)
+    → i < length ws → IsNameText (get_or ws i d).now
 all_at [] i d h lt = absurd (omega arith)
 all_at (w ∷ ws) zero d h lt = h.0
 all_at (w ∷ ws) (suc i) d h lt = all_at ws i d h.1 (omega arith)

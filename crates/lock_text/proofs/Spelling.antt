@@ -1,5 +1,6 @@
 -- How the words of a line are found, and what one word is.
-use Rattle.std.proofs.Common.{◌≡◌, ◌≢◌, ℕ, zero, suc, ◌^◌, ◌<◌, Bool, true, false, cond, not, eqb, List, [], ◌∷◌, ◌++◌, length, get_or, Option, Some, None, Bor}
+use Rattle.std.proofs.Common.{◌≡◌, ◌≢◌, ℕ, zero, suc, ◌^◌, ◌<◌, Bool, true, false, cond, not, eqb, List, [], ◌∷◌, ◌++◌, length}
+use Rattle.std.proofs.Common.{get_or, Option, Some, None, Bor}
 use Rattle.std.proofs.Common.{refl, sym, ap, subst, ◌∙◌, append_assoc, ne_eqb, arith, inr}
 use Rattle.std.specs.Prelude.{codes, ◌&&◌, nat_lt}
 use Rattle.std.specs.List.{list_all}
@@ -41,7 +42,8 @@ comment_cut (x ∷ xs) ys h =
 pub comment_none : (xs : List ℕ) → Lacks 35 xs → without_comment xs ≡ xs
 comment_none [] h = refl
 comment_none (x ∷ xs) h =
-    other (eqb x 35) [] (x ∷ without_comment xs) (ne_eqb x 35 (h 0 (omega arith))) ∙ ap (λ (l : List ℕ). x ∷ l) (comment_none xs (lacks_next 35 x xs h))
+    other (eqb x 35) [] (x ∷ without_comment xs) (ne_eqb x 35 (h 0 (omega arith))) ∙ ap (λ (l : List ℕ). x ∷ l)
+    (comment_none xs (lacks_next 35 x xs h))
 
 -- ---- parts between spaces
 
@@ -66,7 +68,8 @@ pub turn : (line rest word after : List ℕ) (words : List (List ℕ)) → not_e
     → not_empty (parts_of line) ≡ (words ++ not_empty (word ∷ [])) ++ not_empty (parts_of after)
 turn line rest word after words h e l =
     h ∙ ap (λ (x : List (List ℕ)). words ++ not_empty x) (ap parts_of e ∙ parts_cut word after l)
-    ∙ ap (λ (x : List (List ℕ)). words ++ x) (first_part word (parts_of after)) ∙ sym (append_assoc words (not_empty (word ∷ [])) (not_empty (parts_of after)))
+    ∙ ap (λ (x : List (List ℕ)). words ++ x) (first_part word (parts_of after))
+    ∙ sym (append_assoc words (not_empty (word ∷ [])) (not_empty (parts_of after)))
 
 pub last : (line rest : List ℕ) (words : List (List ℕ)) → not_empty (parts_of line) ≡ words ++ not_empty (parts_of rest) → Lacks 32 rest
     → not_empty (parts_of line) ≡ words ++ not_empty (rest ∷ [])
@@ -168,7 +171,8 @@ operand_name word name me absent h = let f = found (IsName word) name h in one (
     is operand.Me q = absurd (me q.spelled)
     is (operand.Name other_name) q = ap operand.Name (only (IsName word) name other_name h (record { form = q.form; spelled = q.spelled }))
 
-pub operand_none : (word : List ℕ) → (word ≡ codes "me" → ⊥) → ReadsAs (IsNumberWord word) None → ReadsAs (IsName word) None → ReadsAs (IsOperand word) None
+pub operand_none : (word : List ℕ) → (word ≡ codes "me" → ⊥) → ReadsAs (IsNumberWord word) None
+    → ReadsAs (IsName word) None → ReadsAs (IsOperand word) None
 operand_none word me absent h = nothing (IsOperand word) is
   where
     is : (a : Operand) → IsOperand word a → ⊥
@@ -213,7 +217,8 @@ pub place_plain : (word name : List ℕ) → IsSplitOnceResult 91 word None → 
 place_plain word name h r =
     let f = found (IsName word) name r in
     one (IsPlace word) (record { name = name; index = None }) (record { form = (f.form, tt); spelled = f.spelled ∙ sym (append-nil name) })
-    (λ p q. let k = plain_place word h p q in let same : p.name ≡ name = only (IsName word) name p.name r k.1 in (λ i. record { name = same i; index = k.0 i }))
+    (λ p q. let k = plain_place word h p q in let same : p.name ≡ name = only (IsName word) name p.name r k.1 in
+    (λ i. record { name = same i; index = k.0 i }))
 
 pub place_no_name : (word : List ℕ) → IsSplitOnceResult 91 word None → ReadsAs (IsName word) None → ReadsAs (IsPlace word) None
 place_no_name word h r = nothing (IsPlace word) (λ p q. none (IsName word) p.name r (plain_place word h p q).1)

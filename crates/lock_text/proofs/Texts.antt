@@ -57,7 +57,8 @@ tail_fault before p ps l h f (inr a) =
     let e : a.0 ≡ l = (h.1 a.0).0 a.1.0 in
     subst (λ (x : Line). IsFirstFault (before ++ (x ∷ [])) ps f) e a.2
 
-pub turn : (text rest after : List ℕ) (before : List Line) (p : Piece) (l : Line) → SoFar text rest before → pieces rest ≡ p ∷ pieces after → IsOnlyRight p l
+pub turn : (text rest after : List ℕ) (before : List Line) (p : Piece) (l : Line) → SoFar text rest before
+    → pieces rest ≡ p ∷ pieces after → IsOnlyRight p l
     → SoFar text after (before ++ (l ∷ []))
 turn text rest after before p l so e h = record {
   right = λ more a.
@@ -83,11 +84,13 @@ faulty_is_one before p ps c h f (inl a) =
     (λ i. record { line = a.0 i; cause = e i })
 faulty_is_one before p ps c h f (inr a) = absurd (first_excludes (Holds p) causes c h a.1.1)
 
-faulty_is_not_right : (before : List Line) (p : Piece) (ps : List Piece) (c : Cause) → IsFault p c → (lines : List Line) → AreRight (p ∷ ps) lines → ⊥
+faulty_is_not_right : (before : List Line) (p : Piece) (ps : List Piece) (c : Cause) → IsFault p c
+    → (lines : List Line) → AreRight (p ∷ ps) lines → ⊥
 faulty_is_not_right before p ps c h [] a = a
 faulty_is_not_right before p ps c h (l ∷ ls) a = first_excludes (Holds p) causes c h a.0.1
 
-told : (text rest after : List ℕ) (before : List Line) (p : Piece) (c : Cause) → SoFar text rest before → pieces rest ≡ p ∷ pieces after → IsFault p c
+told : (text rest after : List ℕ) (before : List Line) (p : Piece) (c : Cause) → SoFar text rest before
+    → pieces rest ≡ p ∷ pieces after → IsFault p c
     → IsOnly (IsFaultOf text) (record { line = length before + 1; cause = c }) × IsNone (AreLinesOf text)
 told text rest after before p c so e h =
     let mine : IsFaultOf text (record { line = length before + 1; cause = c }) =
@@ -121,7 +124,8 @@ no_more before [] a = refl
 no_more before (l ∷ ls) a = absurd a
 
 -- at the end the lines are those before it
-whole : (text rest : List ℕ) (before : List Line) → SoFar text rest before → rest ≡ [] → (lines : List Line) → AreRight (pieces text) lines → lines ≡ before
+whole : (text rest : List ℕ) (before : List Line) → SoFar text rest before → rest ≡ [] → (lines : List Line)
+    → AreRight (pieces text) lines → lines ≡ before
 whole text rest before so e lines a =
     let g = so.only_right lines a in
     let none : g.0 ≡ [] = no_more before g.0 (subst (λ (bytes : List ℕ). AreRight (pieces bytes) g.0) e g.2) in

@@ -1,5 +1,6 @@
 -- Each verb has a spelling of its own.
-use Rattle.std.proofs.Common.{◌≡◌, ◌≢◌, ℕ, suc, ◌<◌, true, false, cond, List, [], ◌∷◌, ◌++◌, length, get_or, Option, Some, None, refl, sym, ap, ◌∙◌, arith}
+use Rattle.std.proofs.Common.{◌≡◌, ◌≢◌, ℕ, suc, ◌<◌, true, false, cond, List, [], ◌∷◌, ◌++◌, length, get_or, Option, Some, None}
+use Rattle.std.proofs.Common.{refl, sym, ap, ◌∙◌, arith}
 use Rattle.std.specs.Prelude.{codes}
 use Rattle.std.specs.Option.{MatchOption}
 use Rattle.std.specs.Str.{bytes_eq}
@@ -13,8 +14,10 @@ use Rattle.lock_text.specs.Verb.{verb_text, IsVerb}
 abbrev pub verbs : List Verb
 verbs =
     verb.Const ∷ verb.Word ∷ verb.Counter ∷ verb.List ∷ verb.Section ∷ verb.Program ∷ verb.Seats ∷ verb.Most ∷ verb.Apart ∷ verb.Finally ∷
-    verb.Load ∷ verb.Store ∷ verb.Swap ∷ verb.Add ∷ verb.Exchange ∷ verb.Await ∷ verb.Acquire ∷ verb.Release ∷ verb.Ticket ∷ verb.Wait ∷ verb.One ∷
-    verb.All ∷ verb.Park ∷ verb.Unpark ∷ verb.Out ∷ verb.Let ∷ verb.If ∷ verb.Goto ∷ verb.In ∷ verb.Assert ∷ verb.Fail ∷ verb.Do ∷ verb.Return ∷ []
+    verb.Load ∷ verb.Store ∷ verb.Swap ∷ verb.Add ∷ verb.Exchange ∷ verb.Await ∷ verb.Acquire ∷ verb.Release
+    ∷ verb.Ticket ∷ verb.Wait ∷ verb.One ∷
+    verb.All ∷ verb.Park ∷ verb.Unpark ∷ verb.Out ∷ verb.Let ∷ verb.If ∷ verb.Goto ∷ verb.In ∷ verb.Assert
+    ∷ verb.Fail ∷ verb.Do ∷ verb.Return ∷ []
 
 rank : Verb → ℕ
 rank verb.Const = 0

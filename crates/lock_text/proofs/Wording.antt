@@ -1,5 +1,6 @@
 -- Which line has these words.
-use Rattle.std.proofs.Common.{◌≡◌, ◌≢◌, ℕ, zero, suc, ◌-◌, ◌<◌, ◌≤◌, List, [], ◌∷◌, ◌++◌, length, take, drop, get_or, Option, Some, None, Bor, refl, sym, ap}
+use Rattle.std.proofs.Common.{◌≡◌, ◌≢◌, ℕ, zero, suc, ◌-◌, ◌<◌, ◌≤◌, List, [], ◌∷◌, ◌++◌, length, take, drop, get_or}
+use Rattle.std.proofs.Common.{Option, Some, None, Bor, refl, sym, ap}
 use Rattle.std.proofs.Common.{subst, ◌∙◌, arith}
 use Rattle.std.specs.Prelude.{codes}
 use Rattle.std.proofs.lemmas.List.{append_cancel_right}
@@ -55,7 +56,8 @@ verbless words name h (Registers []) e q = absurd (q.form.0 refl)
 verbless words name h (Registers (n ∷ ns)) e q = let s = q.spelled in let t = h.spelled in absurd cc
 verbless words name h l e q = absurd cc
 
-labelled : (words : List (List ℕ)) (name : List ℕ) → IsLabel words name → (l : Line) → AreWordsOf words l → (o : Option Verb) → verb_of l ≡ o → l ≡ Label name
+labelled : (words : List (List ℕ)) (name : List ℕ) → IsLabel words name → (l : Line) → AreWordsOf words l → (o : Option Verb)
+    → verb_of l ≡ o → l ≡ Label name
 labelled words name h l q None e = verbless words name h l e q
 labelled words name h l q (Some v) e =
     let s : words ≡ verb_text v ∷ arguments_of l = q.spelled ∙ with_verb l v e in
@@ -73,7 +75,8 @@ label_one words word rest o e back h = same (IsName rest) (IsLabel words) o h
     (λ n p. record { form = p.form; spelled = e ∙ ap (λ (x : List ℕ). x ∷ []) (back ∙ ap (λ (x : List ℕ). x ++ codes ":") p.spelled) })
     (λ n q. record { form = q.form; spelled = append_cancel_right rest n (codes ":") (sym back ∙ (let s = q.spelled in cc)) })
 
-pub label_none : (words : List (List ℕ)) (word : List ℕ) → words ≡ word ∷ [] → ((front : List ℕ) → word ≢ front ++ codes ":") → ReadsAs (IsLabel words) None
+pub label_none : (words : List (List ℕ)) (word : List ℕ) → words ≡ word ∷ []
+    → ((front : List ℕ) → word ≢ front ++ codes ":") → ReadsAs (IsLabel words) None
 label_none words word e h = nothing (IsLabel words) (λ n q. h n (let s = q.spelled in cc))
 
 pub label_many : (words : List (List ℕ)) → (length words ≡ 1 → ⊥) → ReadsAs (IsLabel words) None
@@ -99,7 +102,8 @@ pub registers : (words rest names : List (List ℕ)) → words ≡ codes "regist
     → ReadsAs (AreNames rest) (Some names) → ReadsAs (AreWordsOf words) (Some (Registers names))
 registers words rest names e unlabelled h =
     let f = found (AreNames rest) names h in
-    one_of (AreWordsOf words) (Registers names) (record { form = (f.some, f.form); spelled = e ∙ ap (λ (x : List (List ℕ)). codes "register" ∷ x) f.spelled })
+    one_of (AreWordsOf words) (Registers names)
+    (record { form = (f.some, f.form); spelled = e ∙ ap (λ (x : List (List ℕ)). codes "register" ∷ x) f.spelled })
     (λ l q. let k = register_line words rest e l q unlabelled (verb_of l) refl in k.1 ∙ ap Registers (only (AreNames rest) names k.0 h k.2))
 
 pub no_registers : (words rest : List (List ℕ)) → words ≡ codes "register" ∷ rest → ReadsAs (IsLabel words) None → ReadsAs (AreNames rest) None
@@ -109,7 +113,8 @@ no_registers words rest e unlabelled h = nothing (AreWordsOf words) (λ l q. let
 
 -- ---- other lines
 
-verb_line : (words rest : List (List ℕ)) (word : List ℕ) → words ≡ word ∷ rest → (word ≡ codes "register" → ⊥) → ReadsAs (IsLabel words) None
+verb_line : (words rest : List (List ℕ)) (word : List ℕ) → words ≡ word ∷ rest
+    → (word ≡ codes "register" → ⊥) → ReadsAs (IsLabel words) None
     → (l : Line) → AreWordsOf words l → (o : Option Verb) → verb_of l ≡ o
     → (v : Verb) × IsVerb word v × AreArgumentsOf v rest l
 verb_line words rest word e other unlabelled l q (Some v) k =
@@ -131,7 +136,8 @@ formed words rest word v o e other unlabelled h forms = same (AreArgumentsOf v r
     (λ l q. let k = verb_line words rest word e other unlabelled l q (verb_of l) refl in
     subst (λ (u : Verb). AreArgumentsOf u rest l) (only (IsVerb word) v k.0 h k.1) k.2)
 
-pub no_verb : (words rest : List (List ℕ)) (word : List ℕ) → words ≡ word ∷ rest → (word ≡ codes "register" → ⊥) → ReadsAs (IsLabel words) None
+pub no_verb : (words rest : List (List ℕ)) (word : List ℕ) → words ≡ word ∷ rest
+    → (word ≡ codes "register" → ⊥) → ReadsAs (IsLabel words) None
     → ReadsAs (IsVerb word) None → ReadsAs (AreWordsOf words) None
 no_verb words rest word e other unlabelled h = nothing (AreWordsOf words) (λ l q. let k = verb_line words rest word e other unlabelled l q
     (verb_of l) refl in none (IsVerb word) k.0 h k.1)
@@ -190,11 +196,14 @@ no_jump_length ws h = nothing (AreArgumentsOf verb.If (texts ws)) is
 
 pub no_jump_goto : (ws : List (Bor (List ℕ))) (x : Bor (List ℕ)) → length ws ≡ 5 → ((get_or ws 3 x).now ≡ codes "goto" → ⊥)
     → ReadsAs (AreArgumentsOf verb.If (texts ws)) None
-no_jump_goto (a ∷ b ∷ c ∷ d ∷ e ∷ []) x len h = nothing (AreArgumentsOf verb.If (texts (a ∷ b ∷ c ∷ d ∷ e ∷ []))) (λ l k. h ((if_parts a b c d e l k).4))
+no_jump_goto (a ∷ b ∷ c ∷ d ∷ e ∷ []) x len h =
+    nothing (AreArgumentsOf verb.If (texts (a ∷ b ∷ c ∷ d ∷ e ∷ []))) (λ l k. h ((if_parts a b c d e l k).4))
 no_jump_goto ws x len h = absurd (omega arith)
 
-pub no_jump_test : (ws : List (Bor (List ℕ))) → length ws ≡ 5 → ReadsAs (Compared (texts (take 3 ws))) None → ReadsAs (AreArgumentsOf verb.If (texts ws)) None
-no_jump_test (a ∷ b ∷ c ∷ d ∷ e ∷ []) len h = nothing (AreArgumentsOf verb.If (texts (a ∷ b ∷ c ∷ d ∷ e ∷ []))) (λ l k. let m = if_parts a b c d e l k in
+pub no_jump_test : (ws : List (Bor (List ℕ))) → length ws ≡ 5 → ReadsAs (Compared (texts (take 3 ws))) None
+    → ReadsAs (AreArgumentsOf verb.If (texts ws)) None
+no_jump_test (a ∷ b ∷ c ∷ d ∷ e ∷ []) len h =
+    nothing (AreArgumentsOf verb.If (texts (a ∷ b ∷ c ∷ d ∷ e ∷ []))) (λ l k. let m = if_parts a b c d e l k in
     none (Compared (texts (a ∷ b ∷ c ∷ []))) m.0 h m.3)
 no_jump_test ws len h = absurd (omega arith)
 

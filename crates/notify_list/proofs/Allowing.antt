@@ -1,5 +1,6 @@
 -- What an atomic step of the code owes, by the kind of its row.
-use Rattle.std.proofs.Common.{◌≡◌, ◌≢◌, ℕ, ◌<◌, ◌==◌, List, [], ◌∷◌, slice_index, sym, refl, ap, ◌∙◌, subst, arith, lt-ltb, length-set, get_or-set_other}
+use Rattle.std.proofs.Common.{◌≡◌, ◌≢◌, ℕ, ◌<◌, ◌==◌, List, [], ◌∷◌, slice_index, sym, refl, ap, ◌∙◌, subst, arith, lt-ltb}
+use Rattle.std.proofs.Common.{length-set, get_or-set_other}
 use Rattle.std.proofs.Common.{get_or-set_same}
 use mathlib.Core.Option.{none, some}
 use native.Mathlib.Decide.{ℕ_discrete}
@@ -54,7 +55,8 @@ module _ (m : Me) (a : ListSeat) (ok : Begins m.0.own.knows.sight.stands a) wher
   setting = m.0.own.knows.setting
 
   abbrev pub Ready : ℕ → (ℕ → ℕ) → Type 0
-  Ready i g = (w : ListWorld) (n : ℕ) → RunsIn m.0.own.number (standing a m.0.own.knows) w i n → Fits m.0.own.knows.setting (list_table m.0.own.number a w.words) i n (g n)
+  Ready i g = (w : ListWorld) (n : ℕ) → RunsIn m.0.own.number (standing a m.0.own.knows) w i n
+      → Fits m.0.own.knows.setting (list_table m.0.own.number a w.words) i n (g n)
 
   module _ (world : ListWorld) (words : List ℕ) (homes : Homes) (i : ℕ) (at : Stands list_rows m.0.own.knows.setting m.0.own world words homes i) where
     abbrev w0 : ListWorld
@@ -77,7 +79,8 @@ module _ (m : Me) (a : ListSeat) (ok : Begins m.0.own.knows.sight.stands a) wher
         (tells _ (went m world words homes i at a ok x fits, refl))
 
   -- it leads on, and tells that it ran
-  row_owes : (k : Setting) (i : ℕ) (g : ℕ → ℕ) (then : ℕ → Me → Type 0) → i ≢ 2 → Ready i g → ((n : ℕ) (t : Me) → RanRow list_rows (standing a) m n t → then n t)
+  row_owes : (k : Setting) (i : ℕ) (g : ℕ → ℕ) (then : ℕ → Me → Type 0) → i ≢ 2 → Ready i g
+      → ((n : ℕ) (t : Me) → RanRow list_rows (standing a) m n t → then n t)
       → Owes list_rows k m i g then
   row_owes k i g then ne ready tells = owes_own list_rows k m i g then (λ world words homes at.
       stays world words homes i at (g (slice_index words i)) (then (slice_index words i)) ne
@@ -92,7 +95,8 @@ module _ (m : Me) (a : ListSeat) (ok : Begins m.0.own.knows.sight.stands a) wher
 
     -- an exchange of 0 for 1 on the lock word: the row ran, or the lock was held and nothing changed
     module _ (ready : (w : ListWorld) → Takes m.0.own.knows.setting (list_table m.0.own.number a w.words) a 0) where
-      takes_it : (world : ListWorld) (words : List ℕ) (homes : Homes) (at : Stands list_rows m.0.own.knows.setting m.0.own world words homes 2) → slice_index words 2 ≡ 0
+      takes_it : (world : ListWorld) (words : List ℕ) (homes : Homes) (at : Stands list_rows m.0.own.knows.setting m.0.own world words homes 2)
+          → slice_index words 2 ≡ 0
           → Leads list_rows m.0.own.knows.setting m world words homes 2 1 (Took list_rows begin m)
       takes_it world words homes at free_is =
           let w : ListWorld = b m world words homes 2 at a ok in
@@ -100,19 +104,26 @@ module _ (m : Me) (a : ListSeat) (ok : Begins m.0.own.knows.sight.stands a) wher
           (in_world world words homes 2 at (λ e. Fits setting e 2 0 1) (ready w).fits) in
           let home = at.shows.home (sym (at.shows.words Lock tt) ∙ free_is) in
           let held = lock_is m world words homes 2 at a ok 1 fits ∙ get_or-set_same words 2 1 0 (let y = at.shows.wide in omega arith) in
-          leads m world words homes 2 at a ok 1 fits (takes 0 home.0) (Took list_rows begin m) home.1 (length-set homes 0 none ∙ at.shows.deep) (λ gone. absurd (omega arith)) (
+          leads m world words homes 2 at a ok 1 fits (takes 0 home.0) (Took list_rows begin m) home.1
+          (length-set homes 0 none ∙ at.shows.deep) (λ gone. absurd (omega arith)) (
             subst (λ n. Went list_rows begin runs m.0.own n (after m world words homes 2 at a ok 1 fits)) free_is
-                (went_from list_rows (standing a) begin m.0.own (after m world words homes 2 at a ok 1 fits) _ begins (went m world words homes 2 at a ok 1 fits)),
+                (went_from list_rows (standing a) begin m.0.own (after m world words homes 2 at a ok 1 fits) _ begins
+                (went m world words homes 2 at a ok 1 fits)),
             (0, home.0, refl, (refl, subst (IsRecord setting.seats home.0) (sym (queue_stays m world words homes 2 at a ok 1 fits (ready w).free)) home.2)),
           )
 
-      pub row_takes : (k : Setting) → Owes list_rows k m 2 (λ n. either (n == 0) 1 n) (λ n t. (n ≢ 0 → t ≡ m) × (n ≡ 0 → Took list_rows begin m t))
-      row_takes k = owes_own list_rows k m 2 (λ n. either (n == 0) 1 n) (λ n t. (n ≢ 0 → t ≡ m) × (n ≡ 0 → Took list_rows begin m t)) (λ world words homes at.
+      pub row_takes : (k : Setting) → Owes list_rows k m 2 (λ n. either (n == 0) 1 n)
+          (λ n t. (n ≢ 0 → t ≡ m) × (n ≡ 0 → Took list_rows begin m t))
+      row_takes k =
+          owes_own list_rows k m 2 (λ n. either (n == 0) 1 n)
+          (λ n t. (n ≢ 0 → t ≡ m) × (n ≡ 0 → Took list_rows begin m t)) (λ world words homes at.
           let n : ℕ = slice_index words 2 in
           exchanged n 0 1 (λ x. Leads list_rows setting m world words homes 2 x (λ t. (n ≢ 0 → t ≡ m) × (n ≡ 0 → Took list_rows begin m t)))
-          (λ free. tells_more list_rows setting m 2 world words homes 1 (Took list_rows begin m) (λ t. (n ≢ 0 → t ≡ m) × (n ≡ 0 → Took list_rows begin m t))
+          (λ free. tells_more list_rows setting m 2 world words homes 1 (Took list_rows begin m)
+          (λ t. (n ≢ 0 → t ≡ m) × (n ≡ 0 → Took list_rows begin m t))
           (λ t o. ((λ held. absurd (held free)), (λ e. o))) (takes_it world words homes at free))
-          (λ held. stays_so list_rows setting m 2 world words homes (λ t. (n ≢ 0 → t ≡ m) × (n ≡ 0 → Took list_rows begin m t)) at ((λ e. refl), (λ free. absurd (held free)))))
+          (λ held. stays_so list_rows setting m 2 world words homes (λ t. (n ≢ 0 → t ≡ m) × (n ≡ 0 → Took list_rows begin m t)) at
+          ((λ e. refl), (λ free. absurd (held free)))))
 
 -- the row at which the seat stands
 module _ (k : Setting) (m : Me) (i : ℕ) (a : ListSeat) (is : m.0.own.knows.sight.stands ≡ a) where
@@ -125,15 +136,18 @@ module _ (k : Setting) (m : Me) (i : ℕ) (a : ListSeat) (is : m.0.own.knows.sig
   pub goes_at : (g : ℕ → ℕ) → i ≢ 2 → Ready m a ok i g → Owes list_rows k m i g (RanRow list_rows here m)
   goes_at g ne ready = row_goes m a ok here begins k i g ne ready
 
-  pub stores_at : (x : ℕ) → i ≢ 2 → Ready m a ok i (λ n. x) → Owes list_rows k m i (λ n. x) (λ n t. (found : ℕ) × RanRow list_rows here m found t)
+  pub stores_at : (x : ℕ) → i ≢ 2 → Ready m a ok i (λ n. x)
+      → Owes list_rows k m i (λ n. x) (λ n t. (found : ℕ) × RanRow list_rows here m found t)
   stores_at x ne ready = row_owes m a ok k i (λ n. x) (λ n t. (found : ℕ) × RanRow list_rows here m found t) ne ready
       (λ n t r. (n, (went_from list_rows (standing a) here m.0.own t.0.own n begins r.0, r.1)))
 
   -- a store of a grant
-  pub grants_at : (word : ListWord) (x : ℕ) (next : ListNext) → ((g : ListWords) → list_table m.0.own.number a g ≡ store word x next) → address word ≡ i
+  pub grants_at : (word : ListWord) (x : ℕ) (next : ListNext)
+      → ((g : ListWords) → list_table m.0.own.number a g ≡ store word x next) → address word ≡ i
       → IsThere m.0.own.knows.setting word → i ≢ 2 → Owes list_rows k m i (λ n. x) (λ n t. runs_grant list_rows (step 0 i x 0 none) m x t)
   grants_at word x next row lies there ne = row_owes m a ok k i (λ n. x) (λ n t. runs_grant list_rows (step 0 i x 0 none) m x t) ne
-      (λ w n known. subst (λ (e : ListEvent). Fits m.0.own.knows.setting e i n x) (sym (row w.words)) (record { word = lies; there = there; can = refl; becomes = refl }))
+      (λ w n known. subst (λ (e : ListEvent). Fits m.0.own.knows.setting e i n x) (sym (row w.words))
+      (record { word = lies; there = there; can = refl; becomes = refl }))
       (λ n t r. let w : Went list_rows here runs m.0.own n t.0.own = went_from list_rows (standing a) here m.0.own t.0.own n begins r.0 in (
         n,
         w,
@@ -152,17 +166,25 @@ module _ (k : Setting) (m : Me) (i : ℕ) (a : ListSeat) (is : m.0.own.knows.sig
   -- a grant that is taken, or nothing where there is none
   pub takes_at : (ticket : Ticket) → a.place ≡ Waiting ticket P → address (Grant m.0.own.number) ≡ i
       → Owes list_rows k m i (λ n. 0) (λ n t. (n ≡ 0 → t ≡ m) × (0 < n → RanRow list_rows here m n t))
-  takes_at ticket parked word = owes_own list_rows k m i (λ n. 0) (λ n t. (n ≡ 0 → t ≡ m) × (0 < n → RanRow list_rows here m n t)) (λ world words homes at. by world words homes at (ℕ_discrete (slice_index words i) 0))
+  takes_at ticket parked word = owes_own list_rows k m i (λ n. 0) (λ n t. (n ≡ 0 → t ≡ m) × (0 < n → RanRow list_rows here m n t))
+      (λ world words homes at. by world words homes at (ℕ_discrete (slice_index words i) 0))
     where
-      by : (world : ListWorld) (words : List ℕ) (homes : Homes) → Stands list_rows m.0.own.knows.setting m.0.own world words homes i → Dec (slice_index words i ≡ 0)
-          → Leads list_rows m.0.own.knows.setting m world words homes i 0 (λ t. (slice_index words i ≡ 0 → t ≡ m) × (0 < slice_index words i → RanRow list_rows here m (slice_index words i) t))
+      by : (world : ListWorld) (words : List ℕ) (homes : Homes)
+          → Stands list_rows m.0.own.knows.setting m.0.own world words homes i → Dec (slice_index words i ≡ 0)
+          → Leads list_rows m.0.own.knows.setting m world words homes i 0
+          (λ t. (slice_index words i ≡ 0 → t ≡ m) × (0 < slice_index words i → RanRow list_rows here m (slice_index words i) t))
       by world words homes at (yes e) =
-          subst (λ x. Leads list_rows m.0.own.knows.setting m world words homes i x (λ t. (slice_index words i ≡ 0 → t ≡ m) × (0 < slice_index words i → RanRow list_rows here m (slice_index words i) t))) e
-          (stays_so list_rows m.0.own.knows.setting m i world words homes (λ t. (slice_index words i ≡ 0 → t ≡ m) × (0 < slice_index words i → RanRow list_rows here m (slice_index words i) t)) at
+          subst (λ x. Leads list_rows m.0.own.knows.setting m world words homes i x
+          (λ t. (slice_index words i ≡ 0 → t ≡ m) × (0 < slice_index words i → RanRow list_rows here m (slice_index words i) t))) e
+          (stays_so list_rows m.0.own.knows.setting m i world words homes
+          (λ t. (slice_index words i ≡ 0 → t ≡ m) × (0 < slice_index words i → RanRow list_rows here m (slice_index words i) t)) at
           ((λ none_found. refl), (λ some_found. absurd (omega arith))))
-      by world words homes at (no ne) = stays m a ok world words homes i at 0 (λ t. (slice_index words i ≡ 0 → t ≡ m) × (0 < slice_index words i → RanRow list_rows here m (slice_index words i) t))
+      by world words homes at (no ne) =
+          stays m a ok world words homes i at 0 (λ t. (slice_index words i ≡ 0 → t ≡ m)
+          × (0 < slice_index words i → RanRow list_rows here m (slice_index words i) t))
           (λ e. absurd (omega arith))
-          (subst (λ (p : ListPlace). Fits m.0.own.knows.setting (list_event_at m.0.own.number a (b m world words homes i at a ok).words p) i (slice_index words i) 0) (sym parked)
+          (subst (λ (p : ListPlace). Fits m.0.own.knows.setting
+          (list_event_at m.0.own.number a (b m world words homes i at a ok).words p) i (slice_index words i) 0) (sym parked)
           (record { word = word; there = at.there; can = lt-ltb 0 (slice_index words i) (omega arith); becomes = refl }))
           (λ t r. ((λ e. absurd (ne e)), (λ some_found. (went_from list_rows (standing a) here m.0.own t.0.own (slice_index words i) begins r.0, r.1))))
 
@@ -171,8 +193,10 @@ abbrev pub GivesBack : Setting → Me → Type 0
 GivesBack k m = Owes list_rows k m 2 (λ n. 0) (λ n t. strides.gives list_rows (step 0 2 0 0 none) m 0 t)
 
 -- a store of 0 on the lock word, which the seat holds
-module _ (k : Setting) (m : Me) (a : ListSeat) (is : m.0.own.knows.sight.stands ≡ a) (y : Record) (carried : m.1 ≡ (0, y) ∷ []) (holding : holds a.place ≡ 1)
-    (ready : (w : ListWorld) → m.0.own.knows.queue ≡ w.words.queue → Gives m.0.own.knows.setting y (list_table m.0.own.number a w.words) m.0.own.knows.queue) where
+module _ (k : Setting) (m : Me) (a : ListSeat) (is : m.0.own.knows.sight.stands ≡ a) (y : Record)
+    (carried : m.1 ≡ (0, y) ∷ []) (holding : holds a.place ≡ 1)
+    (ready : (w : ListWorld) → m.0.own.knows.queue ≡ w.words.queue
+    → Gives m.0.own.knows.setting y (list_table m.0.own.number a w.words) m.0.own.knows.queue) where
   abbrev with_it : Me
   with_it = (m.0, (0, y) ∷ [])
 
@@ -188,14 +212,17 @@ module _ (k : Setting) (m : Me) (a : ListSeat) (is : m.0.own.knows.sight.stands 
       let one : slice_index words 2 ≡ 1 = at.shows.words Lock tt ∙ lock in
       let fits = subst (λ n. Fits m.0.own.knows.setting (event_of w m.0.own.number) 2 n 0) (sym one) G.fits in
       let found_is : finds w m.0.own.number ≡ 1 = sym (read_is with_it world words homes 2 at a ok 0 fits) ∙ one in
-      leads with_it world words homes 2 at a ok 0 fits gives (λ t. strides.gives list_rows (step 0 2 0 0 none) with_it 0 t) tt (length-set homes 0 (some y) ∙ at.shows.deep)
+      leads with_it world words homes 2 at a ok 0 fits gives (λ t. strides.gives list_rows (step 0 2 0 0 none) with_it 0 t) tt
+      (length-set homes 0 (some y) ∙ at.shows.deep)
       (λ free. (
         y,
         set_here homes 0 (some y) (let d = at.shows.deep in omega arith),
-        subst (λ (q : ℕ × List Wait). IsRecord m.0.own.knows.setting.seats y (queue_after ((event_of w m.0.own.number).leads q.0).1 q.1)) (λ j. (sym found_is j, o.knows.held holding j)) G.is_record,
+        subst (λ (q : ℕ × List Wait). IsRecord m.0.own.knows.setting.seats y (queue_after ((event_of w m.0.own.number).leads q.0).1 q.1))
+            (λ j. (sym found_is j, o.knows.held holding j)) G.is_record,
       )) (
         slice_index words 2,
-        went_from list_rows (standing a) here m.0.own (after with_it world words homes 2 at a ok 0 fits) _ (λ j. standing (sym is j) m.0.own.knows) (went with_it world words homes 2 at a ok 0 fits),
+        went_from list_rows (standing a) here m.0.own (after with_it world words homes 2 at a ok 0 fits) _ (λ j. standing (sym is j) m.0.own.knows)
+            (went with_it world words homes 2 at a ok 0 fits),
         refl,
       )
 

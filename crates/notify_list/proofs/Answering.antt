@@ -1,5 +1,6 @@
 -- What the rows of a call leave of a seat, in its caller's words.
-use Rattle.std.proofs.Common.{◌≡◌, ℕ, ◌≤◌, List, [], ◌∷◌, ◌++◌, refl, sym, ap, ◌∙◌, subst, arith, append-nil, append_assoc, eq-eqb}
+use Rattle.std.proofs.Common.{◌≡◌, ℕ, ◌≤◌, List, [], ◌∷◌, ◌++◌, refl, sym, ap, ◌∙◌, subst, arith, append-nil, append_assoc}
+use Rattle.std.proofs.Common.{eq-eqb}
 use Rattle.std.proofs.lemmas.List.Elements.{filter-append}
 use Rattle.step_table.specs.declared.list_place.ListPlace.{ListPlace}
 use Rattle.step_table.specs.ListWorld.{ListSeat, ListEntry, Granted}
@@ -31,14 +32,17 @@ pub few_then : (s t : SeatModel) → t.list ≡ s.list → IsSound t → s.list.
 few_then s t same is = let e = ap (λ (l : ListModel). l.setting.seats) same in let few = is.few in omega arith
 
 -- a call's rows, by which these entries were told
-pub seat_after : (s t : SeatModel) (begun stands : ListSeat) (entries : List ListEntry) (rows : List (ListPlace × ℕ)) → Follows t.sight.seen → ComesTo s stands t → Calls s begun t entries rows
+pub seat_after : (s t : SeatModel) (begun stands : ListSeat) (entries : List ListEntry) (rows : List (ListPlace × ℕ)) → Follows t.sight.seen
+    → ComesTo s stands t → Calls s begun t entries rows
     → IsSeatAfter s entries t
 seat_after s t begun stands entries rows lawful comes call =
-    let first : ℕ = s.list.setting.first in let seats : ℕ = s.list.setting.seats in let v : ListSight = record { stands = begun; seen = s.sight.seen } in record {
+    let first : ℕ = s.list.setting.first in let seats : ℕ = s.list.setting.seats in
+    let v : ListSight = record { stands = begun; seen = s.sight.seen } in record {
       list = ap (λ (y : SeatModel). y.list) comes.same;
       number = ap (λ (y : SeatModel). y.number) comes.same;
       tells = call.seen;
-      own = (the_list_paths.paths first seats).own s.number v t.sight call.strides call.path ∙ ap (λ l. own_of s.number s.sight.seen ++ own_of s.number l) call.told_is
+      own = (the_list_paths.paths first seats).own s.number v t.sight call.strides call.path
+          ∙ ap (λ l. own_of s.number s.sight.seen ++ own_of s.number l) call.told_is
           ∙ sym (filter-append (is_own s.number) s.sight.seen entries);
       lawful = lawful;
     }
@@ -69,10 +73,12 @@ module _ (s t : SeatModel) (journal : List ListEntry) (x : IsSeatAfter s [] t) (
   }
 
 -- where it granted by one entry, the seat as it had seen the journal up to that entry
-module _ (s t : SeatModel) (journal : List ListEntry) (upto granted : ℕ) (x : IsSeatAfter s (Granted upto s.number ∷ []) t) (later : GoesOn journal s.sight.seen)
+module _ (s t : SeatModel) (journal : List ListEntry) (upto granted : ℕ)
+    (x : IsSeatAfter s (Granted upto s.number ∷ []) t) (later : GoesOn journal s.sight.seen)
     (now : GoesOn t.sight.seen (journal ++ Granted granted s.number ∷ [])) where
   parts : (own_of s.number journal ≡ own_of s.number s.sight.seen) × (Granted granted s.number ≡ Granted upto s.number)
-  parts = own_before s.number s.sight.seen journal t.sight.seen (Granted upto s.number) (Granted granted s.number) later now x.own (eq-eqb s.number s.number refl) (eq-eqb s.number s.number refl)
+  parts = own_before s.number s.sight.seen journal t.sight.seen (Granted upto s.number) (Granted granted s.number) later now x.own
+      (eq-eqb s.number s.number refl) (eq-eqb s.number s.number refl)
 
   pub seat_before : IsSeatAfter s [] (seen_as s journal)
   seat_before = record {
@@ -80,7 +86,9 @@ module _ (s t : SeatModel) (journal : List ListEntry) (upto granted : ℕ) (x : 
     number = refl;
     tells = later;
     own = parts.0 ∙ ap (own_of s.number) (sym (append-nil s.sight.seen));
-    lawful = follows_first t.sight.seen journal (record { more = Granted granted s.number ∷ now.more; is = now.is ∙ append_assoc journal (Granted granted s.number ∷ []) now.more }) x.lawful;
+    lawful =
+        follows_first t.sight.seen journal
+        (record { more = Granted granted s.number ∷ now.more; is = now.is ∙ append_assoc journal (Granted granted s.number ∷ []) now.more }) x.lawful;
   }
 
   pub granted_it : IsSeatAfter s (Granted granted s.number ∷ []) t

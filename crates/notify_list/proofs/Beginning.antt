@@ -30,7 +30,8 @@ module _ (i : ℕ) (Q : ListWorld → Type 0) (kept : (s t : ListWorld) → List
   Sound a = Q (with_seat s i a)
 
   -- a step that makes the seat stand otherwise
-  changed : (a : ListSeat) (to : ListSeat → ListSeat) → ListStep (with_seat s i a) i (with_seat (with_seat s i a) i (to (put s.seats i a i))) → Sound a → Sound (to a)
+  changed : (a : ListSeat) (to : ListSeat → ListSeat) → ListStep (with_seat s i a) i (with_seat (with_seat s i a) i (to (put s.seats i a i))) → Sound a
+      → Sound (to a)
   changed a to step q =
       subst Q (λ k. record s { seats = (ap (λ (y : ListSeat). put (put s.seats i a) i (to y)) (put_here s.seats i a) ∙ put_put s.seats i a (to a)) k })
       (kept (with_seat s i a) (with_seat (with_seat s i a) i (to (put s.seats i a i))) step q)
@@ -47,7 +48,8 @@ module _ (i : ℕ) (Q : ListWorld → Type 0) (kept : (s t : ListWorld) → List
   began a b q stands = q
   began a b q (adds free none) =
       let there : put s.seats i (at_place Rest a) i ≡ at_place Rest a = put_here s.seats i (at_place Rest a) in
-      changed (at_place Rest a) (at_place Adding) (add (ap (λ (y : ListSeat). y.place) there) (ap (λ (y : ListSeat). y.ticket) there ∙ none)) (rested a a.place refl free q)
+      changed (at_place Rest a) (at_place Adding) (add (ap (λ (y : ListSeat). y.place) there) (ap (λ (y : ListSeat). y.ticket) there ∙ none))
+      (rested a a.place refl free q)
   began a b q (ones free) = chosen (at_place Rest a) (NotifyingOne 0 O1) (rested a a.place refl free q) notify_one
   began a b q (alls free) = chosen (at_place Rest a) (NotifyingAll 0 L1) (rested a a.place refl free q) notify_all
   began a b q (waits {t = t} rest some) =
@@ -68,4 +70,5 @@ begins_holds a b stands h = h
 begins_holds a b (adds free none) h = absurd (omega arith)
 begins_holds a b (ones free) h = absurd (omega arith)
 begins_holds a b (alls free) h = absurd (omega arith)
-begins_holds a b (waits {t = t} rest some) h = let e : holds (with_ticket a (Some t)).place ≡ 1 = ap (λ (k : Option Ticket). holds (with_ticket a k).place) (sym some) ∙ h in absurd (omega arith)
+begins_holds a b (waits {t = t} rest some) h =
+    let e : holds (with_ticket a (Some t)).place ≡ 1 = ap (λ (k : Option Ticket). holds (with_ticket a k).place) (sym some) ∙ h in absurd (omega arith)

@@ -1,5 +1,6 @@
 -- A notification of all as a whole.
-use Rattle.std.proofs.Common.{◌≡◌, ℕ, zero, suc, ◌+◌, true, false, List, [], ◌∷◌, ◌++◌, Option, inl, inr, sym, refl, ap, ◌∙◌, subst, arith, append-nil}
+use Rattle.std.proofs.Common.{◌≡◌, ℕ, zero, suc, ◌+◌, true, false, List, [], ◌∷◌, ◌++◌, Option, inl, inr, sym, refl, ap, ◌∙◌, subst}
+use Rattle.std.proofs.Common.{arith, append-nil}
 use Rattle.waiters.specs.declared.wait.Wait.{Wait}
 use Rattle.step_table.specs.declared.list_place.AllRow.TheVariants.{L1, L3, L4, L7, L8}
 use Rattle.step_table.specs.declared.list_place.ListPlace.{ListPlace}
@@ -27,13 +28,18 @@ use Rattle.notify_list.proofs.Walking.{walked_on, walked_so, walked_later, token
 use Rattle.notify_list.proofs.Resting.{empty_there, there_of, laws_there}
 
 -- what a call told of its own where it told nothing
-own_none : (s t : Token) (n : ℕ) (from a : ListSeat) (entries : List ListEntry) (rows : List (ListPlace × ℕ)) → Walked s from t a entries rows → entries ≡ [] → s.me.0.own.number ≡ n
+own_none : (s t : Token) (n : ℕ) (from a : ListSeat) (entries : List ListEntry) (rows : List (ListPlace × ℕ)) → Walked s from t a entries rows
+    → entries ≡ [] → s.me.0.own.number ≡ n
     → own_entries (watched (setting_of s)) n (seen_of t) ≡ own_entries (watched (setting_of s)) n (seen_of s)
-own_none s t n from a entries rows x none is = subst (λ i. own_entries (watched (setting_of s)) i (seen_of t) ≡ own_entries (watched (setting_of s)) i (seen_of s)) is
-    ((the_list_paths.paths (setting_of s).first (setting_of s).seats).own s.me.0.own.number (record { stands = from; seen = seen_of s }) t.me.0.own.knows.sight x.strides x.path
-    ∙ ap (λ l. own_entries (watched (setting_of s)) s.me.0.own.number (seen_of s) ++ own_entries (watched (setting_of s)) s.me.0.own.number l) (x.told_is ∙ none) ∙ append-nil _)
+own_none s t n from a entries rows x none is =
+    subst (λ i. own_entries (watched (setting_of s)) i (seen_of t) ≡ own_entries (watched (setting_of s)) i (seen_of s)) is
+    ((the_list_paths.paths (setting_of s).first (setting_of s).seats).own s.me.0.own.number
+    (record { stands = from; seen = seen_of s }) t.me.0.own.knows.sight x.strides x.path
+    ∙ ap (λ l. own_entries (watched (setting_of s)) s.me.0.own.number (seen_of s) ++ own_entries (watched (setting_of s)) s.me.0.own.number l)
+    (x.told_is ∙ none) ∙ append-nil _)
 
-granted_then : (before : List ListEntry) (i handed n : ℕ) → handed ≡ (told before).granted + n → (told (before ++ all_entries i handed n)).granted ≡ handed
+granted_then : (before : List ListEntry) (i handed n : ℕ) → handed ≡ (told before).granted + n
+    → (told (before ++ all_entries i handed n)).granted ≡ handed
 granted_then before i handed zero e = ap (λ l. (told l).granted) (append-nil before) ∙ omega arith
 granted_then before i handed (suc n) e = ap (λ (x : Numbers). x.granted) (told_last before (Granted handed i))
 
@@ -41,7 +47,8 @@ granted_then before i handed (suc n) e = ap (λ (x : Numbers). x.granted) (told_
 module _ (s t : Token) (n : ℕ) (seat : IsSeat s n) (x : LookedForAll s true t) where
   pub quiet_seat : IsSeat t n
   quiet_seat = record {
-    token_is = token_after s t n (at_place (NotifyingAll 0 L1) (stands_of s)) (at_place Rest (stands_of s)) [] (looks_all x.h x.waited x.notified) seat.token_is x.walked (x.slots ∙ seat.token_is.bare);
+    token_is = token_after s t n (at_place (NotifyingAll 0 L1) (stands_of s)) (at_place Rest (stands_of s)) [] (looks_all x.h x.waited x.notified)
+        seat.token_is x.walked (x.slots ∙ seat.token_is.bare);
     free = ap (λ (y : ListSeat). is_free y.place) x.walked.stands_is;
     holds_none = ap (λ (y : ListSeat). y.ticket) x.walked.stands_is ∙ seat.holds_none;
   }
@@ -52,11 +59,17 @@ module _ (s t : Token) (n : ℕ) (seat : IsSeat s n) (x : LookedForAll s true t)
     h = x.h;
     waited = x.waited;
     notified = x.notified;
-    rows = inl (refl, equal_is x.waited x.notified (sym x.answer), calls s t n (at_place (NotifyingAll 0 L1) (stands_of s)) (at_place Rest (stands_of s)) [] (looks_all x.h x.waited x.notified) seat.token_is x.walked);
+    rows =
+        inl (
+          refl,
+          equal_is x.waited x.notified (sym x.answer),
+          calls s t n (at_place (NotifyingAll 0 L1) (stands_of s)) (at_place Rest (stands_of s)) [] (looks_all x.h x.waited x.notified) seat.token_is x.walked,
+        );
   }
 
   pub quiet_none : GrantsSome (seat_of s n) 0 (seat_of t n)
-  quiet_none = own_none s t n (at_place (NotifyingAll 0 L1) (stands_of s)) (at_place Rest (stands_of s)) [] (looks_all x.h x.waited x.notified) x.walked refl seat.token_is.number_is
+  quiet_none = own_none s t n (at_place (NotifyingAll 0 L1) (stands_of s)) (at_place Rest (stands_of s)) []
+      (looks_all x.h x.waited x.notified) x.walked refl seat.token_is.number_is
 
   pub quiet_granted : AllGranted (seat_of s n) (seat_of t n)
   quiet_granted = let a = x.since in let b = x.quiet refl in omega arith
@@ -85,9 +98,11 @@ module _ (l : ListModel) (s t : Token) (n : ℕ) (seat : IsSeat s n) (own : list
     w2 = subst (λ (y : ListSeat). Walked t y u (at_place (locked y.place) y) [] ((y.place, 0) ∷ [])) begun L.walked
 
     w12 : Walked s (a (NotifyingAll 0 L1)) u (a (NotifyingAll x.h L4)) [] (looks_all x.h x.waited x.notified ++ (NotifyingAll x.h L3, 0) ∷ [])
-    w12 = walked_on s t u (a (NotifyingAll 0 L1)) (a (NotifyingAll x.h L3)) (a (NotifyingAll x.h L4)) [] [] (looks_all x.h x.waited x.notified) ((NotifyingAll x.h L3, 0) ∷ []) x.walked w2
+    w12 = walked_on s t u (a (NotifyingAll 0 L1)) (a (NotifyingAll x.h L3)) (a (NotifyingAll x.h L4)) [] [] (looks_all x.h x.waited x.notified)
+        ((NotifyingAll x.h L3, 0) ∷ []) x.walked w2
 
-    is_at : (v : Token) (p : ListPlace) (b : ListSeat) (entries : List ListEntry) (rows : List (ListPlace × ℕ)) → Walked s (a (NotifyingAll 0 L1)) v b entries rows → b.place ≡ p → IsAt l v p
+    is_at : (v : Token) (p : ListPlace) (b : ListSeat) (entries : List ListEntry) (rows : List (ListPlace × ℕ))
+        → Walked s (a (NotifyingAll 0 L1)) v b entries rows → b.place ≡ p → IsAt l v p
     is_at v p b entries rows y e = record {
       list_is = y.list_is ∙ own;
       there = let q = ap (λ (z : ListModel). z.setting.seats) y.list_is in let i = y.number_is in let k = there_of s n seat.token_is in omega arith;
@@ -97,27 +112,35 @@ module _ (l : ListModel) (s t : Token) (n : ℕ) (seat : IsSeat s n) (own : list
     }
 
     pub may_reach : MayReach l u x.h
-    may_reach = (is_at u (NotifyingAll x.h L4) (a (NotifyingAll x.h L4)) [] (looks_all x.h x.waited x.notified ++ (NotifyingAll x.h L3, 0) ∷ []) w12 refl, L.record_is)
+    may_reach = (
+      is_at u (NotifyingAll x.h L4) (a (NotifyingAll x.h L4)) [] (looks_all x.h x.waited x.notified ++ (NotifyingAll x.h L3, 0) ∷ []) w12 refl,
+      L.record_is,
+    )
 
     module _ (k : ℕ) (v : Token) (R : ReachedAll u x.h k v) where
       abbrev entries : List ListEntry
       entries = all_entries s.me.0.own.number R.handed k
 
       w3 : Walked u (a (NotifyingAll x.h L4)) v (a (NotifyingAll x.h (L7 k))) entries (reach_rows x.h R.notified R.waited R.handed)
-      w3 = subst (λ (y : ListSeat × ℕ). Walked u y.0 v (at_place (NotifyingAll x.h (L7 k)) y.0) (all_entries y.1 R.handed k) (reach_rows x.h R.notified R.waited R.handed)) (λ i. (w12.stands_is i, w12.number_is i)) R.walked
+      w3 =
+          subst (λ (y : ListSeat × ℕ). Walked u y.0 v (at_place (NotifyingAll x.h (L7 k)) y.0) (all_entries y.1 R.handed k)
+          (reach_rows x.h R.notified R.waited R.handed)) (λ i. (w12.stands_is i, w12.number_is i)) R.walked
 
       rows3 : List (ListPlace × ℕ)
       rows3 = looks_all x.h x.waited x.notified ++ (NotifyingAll x.h L3, 0) ∷ reach_rows x.h R.notified R.waited R.handed
 
-      w13 : Walked s (a (NotifyingAll 0 L1)) v (a (NotifyingAll x.h (L7 k))) entries (looks_all x.h x.waited x.notified ++ (NotifyingAll x.h L3, 0) ∷ reach_rows x.h R.notified R.waited R.handed)
-      w13 = walked_on s u v (a (NotifyingAll 0 L1)) (a (NotifyingAll x.h L4)) (a (NotifyingAll x.h (L7 k))) [] entries (looks_all x.h x.waited x.notified ++ (NotifyingAll x.h L3, 0) ∷ []) (reach_rows x.h R.notified R.waited R.handed) w12 w3
+      w13 : Walked s (a (NotifyingAll 0 L1)) v (a (NotifyingAll x.h (L7 k))) entries
+          (looks_all x.h x.waited x.notified ++ (NotifyingAll x.h L3, 0) ∷ reach_rows x.h R.notified R.waited R.handed)
+      w13 = walked_on s u v (a (NotifyingAll 0 L1)) (a (NotifyingAll x.h L4)) (a (NotifyingAll x.h (L7 k))) [] entries
+          (looks_all x.h x.waited x.notified ++ (NotifyingAll x.h L3, 0) ∷ []) (reach_rows x.h R.notified R.waited R.handed) w12 w3
 
       empty : (stands_of s).hand ≡ []
       empty = empty_there s.me.0.own seat.token_is.lands (there_of s n seat.token_is) seat.token_is.few seat.free
 
       pub may_take : MayTake l v x.h k
       may_take = (
-        is_at v (NotifyingAll x.h (L7 k)) (a (NotifyingAll x.h (L7 k))) entries (looks_all x.h x.waited x.notified ++ (NotifyingAll x.h L3, 0) ∷ reach_rows x.h R.notified R.waited R.handed) w13 refl,
+        is_at v (NotifyingAll x.h (L7 k)) (a (NotifyingAll x.h (L7 k))) entries
+            (looks_all x.h x.waited x.notified ++ (NotifyingAll x.h L3, 0) ∷ reach_rows x.h R.notified R.waited R.handed) w13 refl,
         R.record_is,
         ap (λ (z : ListSeat). z.hand) w13.stands_is ∙ empty,
       )
@@ -129,16 +152,22 @@ module _ (l : ListModel) (s t : Token) (n : ℕ) (seat : IsSeat s n) (own : list
         w4 : Walked v (a (NotifyingAll x.h (L7 k))) y (with_waits x.h hand (stands_of s)) [] ((NotifyingAll x.h (L7 k), 1) ∷ [])
         w4 = subst (λ (q : ListSeat). Walked v q y (with_waits x.h hand q) [] ((NotifyingAll x.h (L7 k), 1) ∷ [])) w13.stands_is T.walked
 
-        w34 : Walked u (a (NotifyingAll x.h L4)) y (with_waits x.h hand (stands_of s)) (entries ++ []) (reach_rows x.h R.notified R.waited R.handed ++ (NotifyingAll x.h (L7 k), 1) ∷ [])
-        w34 = walked_on u v y (a (NotifyingAll x.h L4)) (a (NotifyingAll x.h (L7 k))) (with_waits x.h hand (stands_of s)) entries [] (reach_rows x.h R.notified R.waited R.handed) ((NotifyingAll x.h (L7 k), 1) ∷ []) w3 w4
+        w34 : Walked u (a (NotifyingAll x.h L4)) y (with_waits x.h hand (stands_of s)) (entries ++ [])
+            (reach_rows x.h R.notified R.waited R.handed ++ (NotifyingAll x.h (L7 k), 1) ∷ [])
+        w34 = walked_on u v y (a (NotifyingAll x.h L4)) (a (NotifyingAll x.h (L7 k))) (with_waits x.h hand (stands_of s)) entries []
+            (reach_rows x.h R.notified R.waited R.handed) ((NotifyingAll x.h (L7 k), 1) ∷ []) w3 w4
 
-        w14 : Walked s (a (NotifyingAll 0 L1)) y (with_waits x.h hand (stands_of s)) (entries ++ []) (looks_all x.h x.waited x.notified ++ (NotifyingAll x.h L3, 0) ∷ (reach_rows x.h R.notified R.waited R.handed ++ (NotifyingAll x.h (L7 k), 1) ∷ []))
-        w14 = walked_on s u y (a (NotifyingAll 0 L1)) (a (NotifyingAll x.h L4)) (with_waits x.h hand (stands_of s)) [] (entries ++ []) (looks_all x.h x.waited x.notified ++ (NotifyingAll x.h L3, 0) ∷ [])
+        w14 : Walked s (a (NotifyingAll 0 L1)) y (with_waits x.h hand (stands_of s)) (entries ++ [])
+            (looks_all x.h x.waited x.notified ++ (NotifyingAll x.h L3, 0)
+            ∷ (reach_rows x.h R.notified R.waited R.handed ++ (NotifyingAll x.h (L7 k), 1) ∷ []))
+        w14 = walked_on s u y (a (NotifyingAll 0 L1)) (a (NotifyingAll x.h L4)) (with_waits x.h hand (stands_of s)) [] (entries ++ [])
+            (looks_all x.h x.waited x.notified ++ (NotifyingAll x.h L3, 0) ∷ [])
             (reach_rows x.h R.notified R.waited R.handed ++ (NotifyingAll x.h (L7 k), 1) ∷ []) w12 w34
 
         pub may_wake : MayWake l y x.h
         may_wake = is_at y (if_any hand (NotifyingAll x.h L8) Rest) (with_waits x.h hand (stands_of s)) (entries ++ [])
-            (looks_all x.h x.waited x.notified ++ (NotifyingAll x.h L3, 0) ∷ (reach_rows x.h R.notified R.waited R.handed ++ (NotifyingAll x.h (L7 k), 1) ∷ [])) w14 refl
+            (looks_all x.h x.waited x.notified ++ (NotifyingAll x.h L3, 0)
+            ∷ (reach_rows x.h R.notified R.waited R.handed ++ (NotifyingAll x.h (L7 k), 1) ∷ [])) w14 refl
 
         module _ (z : Token) (W : WokenSome y x.h (stands_of y).hand [] z) where
           w5 : Walked y (with_waits x.h hand (stands_of s)) z (with_waits x.h [] (stands_of s)) [] (wake_rows x.h hand)
@@ -152,9 +181,11 @@ module _ (l : ListModel) (s t : Token) (n : ℕ) (seat : IsSeat s n) (own : list
 
           w15 : Walked s (a (NotifyingAll 0 L1)) z (a Rest) entries rows
           w15 = walked_so s z (a (NotifyingAll 0 L1)) (with_waits x.h [] (stands_of s)) (a Rest) entries rows
-              (subst (λ (es : List ListEntry). Walked s (a (NotifyingAll 0 L1)) z (with_waits x.h [] (stands_of s)) es rows) (append-nil (entries ++ []) ∙ append-nil entries)
+              (subst (λ (es : List ListEntry). Walked s (a (NotifyingAll 0 L1)) z (with_waits x.h [] (stands_of s)) es rows)
+              (append-nil (entries ++ []) ∙ append-nil entries)
               (walked_on s y z (a (NotifyingAll 0 L1)) (with_waits x.h hand (stands_of s)) (with_waits x.h [] (stands_of s)) (entries ++ []) []
-              (looks_all x.h x.waited x.notified ++ (NotifyingAll x.h L3, 0) ∷ (reach_rows x.h R.notified R.waited R.handed ++ (NotifyingAll x.h (L7 k), 1) ∷ [])) (wake_rows x.h hand) w14 w5)) rests
+              (looks_all x.h x.waited x.notified ++ (NotifyingAll x.h L3, 0)
+              ∷ (reach_rows x.h R.notified R.waited R.handed ++ (NotifyingAll x.h (L7 k), 1) ∷ [])) (wake_rows x.h hand) w14 w5)) rests
 
           pub locked_seat : IsSeat z n
           locked_seat = record {
@@ -176,7 +207,8 @@ module _ (l : ListModel) (s t : Token) (n : ℕ) (seat : IsSeat s n) (own : list
                 R.waited,
                 R.handed,
                 hand,
-                subst (λ i. Calls (seat_of s n) (a (NotifyingAll 0 L1)) (seat_of z n) (all_entries i R.handed k) rows) seat.token_is.number_is (calls s z n (a (NotifyingAll 0 L1)) (a Rest) entries rows seat.token_is w15),
+                subst (λ i. Calls (seat_of s n) (a (NotifyingAll 0 L1)) (seat_of z n) (all_entries i R.handed k) rows) seat.token_is.number_is
+                    (calls s z n (a (NotifyingAll 0 L1)) (a Rest) entries rows seat.token_is w15),
               ),
             );
           }
@@ -190,14 +222,19 @@ module _ (l : ListModel) (s t : Token) (n : ℕ) (seat : IsSeat s n) (own : list
           locked_some = by k refl
             where
               by : (m : ℕ) → k ≡ m → GrantsSome (seat_of s n) m (seat_of z n)
-              by zero e = own_none s z n (a (NotifyingAll 0 L1)) (a Rest) entries rows w15 (ap (all_entries s.me.0.own.number R.handed) e) seat.token_is.number_is
+              by zero e =
+                  own_none s z n (a (NotifyingAll 0 L1)) (a Rest) entries rows w15 (ap (all_entries s.me.0.own.number R.handed) e) seat.token_is.number_is
               by (suc m) e = record {
                 before = R.before;
                 look = R.look;
-                first = goes_on_more (seen_of s) (seen_of u) R.look (walked_later s u (a (NotifyingAll 0 L1)) (a (NotifyingAll x.h L4)) [] (looks_all x.h x.waited x.notified ++ (NotifyingAll x.h L3, 0) ∷ []) w12) R.first;
+                first =
+                    goes_on_more (seen_of s) (seen_of u) R.look
+                    (walked_later s u (a (NotifyingAll 0 L1)) (a (NotifyingAll x.h L4)) []
+                    (looks_all x.h x.waited x.notified ++ (NotifyingAll x.h L3, 0) ∷ []) w12) R.first;
                 later = R.later;
                 seen = subst (λ (q : List ListEntry). GoesOn (seen_of z) q) (R.seen ∙ ap (λ j. R.before ++ all_entries u.me.0.own.number R.handed j) e
-                    ∙ (λ i. R.before ++ Granted ((R.counted ∙ ap (λ j. (told R.before).granted + j) e) i) ((w12.number_is ∙ seat.token_is.number_is) i) ∷ [])) seen_on;
+                    ∙ (λ i. R.before ++ Granted ((R.counted ∙ ap (λ j. (told R.before).granted + j) e) i)
+                    ((w12.number_is ∙ seat.token_is.number_is) i) ∷ [])) seen_on;
                 all = sym R.all ∙ R.counted ∙ ap (λ j. (told R.before).granted + j) e;
               }
 
@@ -207,6 +244,7 @@ module _ (l : ListModel) (s t : Token) (n : ℕ) (seat : IsSeat s n) (own : list
               let token = token_after s z n (a (NotifyingAll 0 L1)) (a Rest) entries rows seat.token_is w15 (W.slots ∙ T.bare) in
               let laws = laws_there z.me.0.own token.lands (there_of z n token) token.few in
               let journal = ap (λ (q : ListSight). q.seen) token.lands.sees in
-              let stays = (the_list_accounts.stays (setting_of z).first (setting_of z).seats token.lands.world laws.invariant (seen_of v) seen_on.more (sym journal ∙ seen_on.is)).granted in
+              let stays = (the_list_accounts.stays (setting_of z).first (setting_of z).seats token.lands.world laws.invariant (seen_of v) seen_on.more
+              (sym journal ∙ seen_on.is)).granted in
               let j = ap (λ (q : List ListEntry). (told q).granted) journal in
               let c = x.since in let d = R.reaches in omega arith

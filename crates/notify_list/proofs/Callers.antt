@@ -24,11 +24,13 @@ use Rattle.notify_list.proofs.Rereading.{call_ran, finds_handed, finds_granted}
 module _ (s t : SeatModel) (is : IsSound t) where
   pub gets_ticket : IsAdded s t → GetsTicket s t
   gets_ticket x = (
-    seat_after s t (at_place Adding s.sight.stands) (with_held x.ticket s.sight.stands) (Took s.number ∷ []) ((Adding, x.ticket.word) ∷ []) is.lawful x.comes x.call,
+    seat_after s t (at_place Adding s.sight.stands) (with_held x.ticket s.sight.stands) (Took s.number ∷ [])
+        ((Adding, x.ticket.word) ∷ []) is.lawful x.comes x.call,
     (
       x.ticket,
       ap (λ (y : ListSeat). y.ticket) x.comes.stands_is,
-      ap (λ (l : List ListEntry). (told l).handed) x.next.seen_is ∙ ap (λ (n : Numbers). n.handed) (told_last x.next.before (Took s.number)) ∙ ap (λ n. n + 1) (sym x.next.number_is),
+      ap (λ (l : List ListEntry). (told l).handed) x.next.seen_is ∙ ap (λ (n : Numbers). n.handed) (told_last x.next.before (Took s.number))
+          ∙ ap (λ n. n + 1) (sym x.next.number_is),
       x.next.word_is,
     ),
   )
@@ -37,7 +39,8 @@ module _ (s t : SeatModel) (is : IsSound t) where
   finds_all = by
     where
       after : (answer : Bool) (x : HasLooked s answer t) → IsSeatAfter s [] t
-      after answer x = seat_after s t (at_place (NotifyingOne 0 O1) s.sight.stands) (at_place (after_looks x.h answer) s.sight.stands) [] (looks x.h x.waited x.notified) is.lawful x.comes x.call
+      after answer x = seat_after s t (at_place (NotifyingOne 0 O1) s.sight.stands) (at_place (after_looks x.h answer) s.sight.stands) []
+          (looks x.h x.waited x.notified) is.lawful x.comes x.call
 
       by : (answer : Bool) → HasLooked s answer t → (answer ≡ true → AllGranted s t) → FindsAllGranted s answer t
       by true x granted = (after true x, granted refl)
@@ -62,12 +65,15 @@ module _ (s t : SeatModel) (is : IsSound t) where
   abbrev waits_by : Ticket → ℕ → List (ListPlace × ℕ) → List (ListPlace × ℕ)
   waits_by ticket notified rest = (Waiting ticket W1, 0) ∷ (Waiting ticket W2, notified) ∷ rest
 
-  after_wait : (ticket : Ticket) (notified : ℕ) (rest : List (ListPlace × ℕ)) → ComesTo s rested t → Calls s (waiting s.sight.stands) t [] (waits_by ticket notified rest) → IsSeatAfter s [] t
+  after_wait : (ticket : Ticket) (notified : ℕ) (rest : List (ListPlace × ℕ)) → ComesTo s rested t
+      → Calls s (waiting s.sight.stands) t [] (waits_by ticket notified rest) → IsSeatAfter s [] t
   after_wait ticket notified rest comes call = seat_after s t (waiting s.sight.stands) rested [] (waits_by ticket notified rest) is.lawful comes call
 
-  looks_with : (ticket : Ticket) (notified : ℕ) (before : Bool) (rest : List (ListPlace × ℕ)) → ComesTo s rested t → less ticket.word notified ≡ before
+  looks_with : (ticket : Ticket) (notified : ℕ) (before : Bool) (rest : List (ListPlace × ℕ)) → ComesTo s rested t
+      → less ticket.word notified ≡ before
       → Calls s (waiting s.sight.stands) t [] (waits_by ticket notified rest)
-      → (u : SeatModel) × (IsSeatAfter s [] u × (less ticket.word (word_of s.list.setting.first (numbers_seen u).granted) ≡ before)) × TellsIn u.sight.seen [] t.sight.seen
+      → (u : SeatModel) × (IsSeatAfter s [] u × (less ticket.word (word_of s.list.setting.first (numbers_seen u).granted) ≡ before))
+      × TellsIn u.sight.seen [] t.sight.seen
   looks_with ticket notified before rest comes found call =
       let look = call_ran s t (waiting s.sight.stands) ((Waiting ticket W1, 0) ∷ []) rest (Waiting ticket W2) notified call in
       let after = after_wait ticket notified rest comes call in

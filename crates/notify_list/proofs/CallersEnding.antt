@@ -27,7 +27,8 @@ after_look s t word n lawful x =
       lawful = lawful;
     }
 
-pub see_the_same : (one other one_now other_now : SeatModel) → Follows one_now.sight.seen → Follows other_now.sight.seen → HasMet one other one_now other_now → SeeTheSame one other one_now other_now
+pub see_the_same : (one other one_now other_now : SeatModel) → Follows one_now.sight.seen → Follows other_now.sight.seen
+    → HasMet one other one_now other_now → SeeTheSame one other one_now other_now
 see_the_same one other one_now other_now is is_other x = record {
   one_after = after_look one one_now Wait x.number is x.one_looked;
   other_after = after_look other other_now Wait x.number is_other x.other_looked;

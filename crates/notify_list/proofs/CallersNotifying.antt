@@ -1,5 +1,6 @@
 -- What notifying one and all are to their caller, from what they are in rows.
-use Rattle.std.proofs.Common.{◌≡◌, ◌≢◌, ◌⊎◌, ℕ, zero, suc, ◌+◌, List, [], ◌∷◌, ◌++◌, Option, Some, None, IfSome, IfNone, inl, inr, ⊎_elim, sym, subst, arith}
+use Rattle.std.proofs.Common.{◌≡◌, ◌≢◌, ◌⊎◌, ℕ, zero, suc, ◌+◌, List, [], ◌∷◌, ◌++◌, Option, Some, None, IfSome, IfNone, inl}
+use Rattle.std.proofs.Common.{inr, ⊎_elim, sym, subst, arith}
 use Rattle.waiters.specs.declared.wait.Wait.{Wait}
 use Rattle.step_table.specs.declared.list_place.ListPlace.{ListPlace}
 use Rattle.step_table.specs.declared.list_place.ListPlace.TheVariants.{Rest, NotifyingOne, NotifyingAll}
@@ -30,7 +31,8 @@ module _ (s t : SeatModel) (lawful : Follows t.sight.seen) where
     g.seen,
   )
 
-  pub notifies_one : (answer : Option ℕ) → NotifiesOne s answer t → IfSome answer (λ word. GrantsLeast s word t) → IfNone answer (AllGranted s t) → NotifiesOneTicket s answer t
+  pub notifies_one : (answer : Option ℕ) → NotifiesOne s answer t → IfSome answer (λ word. GrantsLeast s word t)
+      → IfNone answer (AllGranted s t) → NotifiesOneTicket s answer t
   notifies_one answer x = by answer x.rows
     where
       begun : ListSeat
@@ -48,9 +50,11 @@ module _ (s t : SeatModel) (lawful : Follows t.sight.seen) where
       by (Some word) (inr locked) some none = least word locked.1.1 (⊎_elim after after locked.1.3) some
 
   -- all were granted that were handed out
-  all_handed : (n handed : ℕ) → AllGranted s t → IsSeatAfter s (Granted handed s.number ∷ []) t → GrantsUpTo s (suc n) t → NotifiesAllTickets s (suc n) t
+  all_handed : (n handed : ℕ) → AllGranted s t → IsSeatAfter s (Granted handed s.number ∷ []) t
+      → GrantsUpTo s (suc n) t → NotifiesAllTickets s (suc n) t
   all_handed n handed granted after g =
-      let now : GoesOn t.sight.seen (g.before ++ Granted (told g.look).handed s.number ∷ []) = subst (λ k. GoesOn t.sight.seen (g.before ++ Granted k s.number ∷ [])) (sym g.all) g.seen in
+      let now : GoesOn t.sight.seen (g.before ++ Granted (told g.look).handed s.number ∷ [])
+      = subst (λ k. GoesOn t.sight.seen (g.before ++ Granted k s.number ∷ [])) (sym g.all) g.seen in
       let later = goes_on_more s.sight.seen g.look g.before g.first g.later in
       let before = seat_before s t g.before handed (told g.look).handed after later now in (
         granted,

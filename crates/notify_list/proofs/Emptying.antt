@@ -1,5 +1,6 @@
 -- Taking all waits out of the list.
-use Rattle.std.proofs.Common.{◌≡◌, ℕ, ◌+◌, ◌<◌, ◌≤◌, List, [], ◌∷◌, ◌++◌, length, map, drop, slice_get, Option, Some, None, sym, refl, ap, ◌∙◌, subst, arith}
+use Rattle.std.proofs.Common.{◌≡◌, ℕ, ◌+◌, ◌<◌, ◌≤◌, List, [], ◌∷◌, ◌++◌, length, map, drop, slice_get, Option, Some, None, sym}
+use Rattle.std.proofs.Common.{refl, ap, ◌∙◌, subst, arith}
 use Rattle.std.proofs.Common.{length-append, append-nil, append_assoc}
 use Rattle.std.proofs.lemmas.List.{map-append}
 use Rattle.running_rows.specs.Table.{rest}
@@ -26,30 +27,40 @@ use Rattle.notify_list.proofs.Walking.{walked_row}
 use Rattle.notify_list.proofs.Recording.{changed_open, gives_edited}
 
 -- what is lent is the record
-pub lent_waits : (s : Token) (lent : Record) (queue : List Wait) → HasWaits s queue → s.me.1 ≡ (0, lent) ∷ rest s.me.1 → IsRecord (setting_of s).seats lent queue
+pub lent_waits : (s : Token) (lent : Record) (queue : List Wait) → HasWaits s queue → s.me.1 ≡ (0, lent) ∷ rest s.me.1
+    → IsRecord (setting_of s).seats lent queue
 lent_waits s lent queue h value = subst (λ (y : Record). IsRecord (setting_of s).seats y queue) (ap (first_of h.0) (sym h.1 ∙ value)) h.2
   where
     first_of : Record → List (ℕ × Record) → Record
     first_of y [] = y
     first_of y (x ∷ l) = x.1
 
-written_back : (s : Token) (y : Record) (queue left : List Wait) → HasWaits s queue → IsRecord (setting_of s).seats y left → Edited s left (seat_with s 0 y)
+written_back : (s : Token) (y : Record) (queue left : List Wait) → HasWaits s queue
+    → IsRecord (setting_of s).seats y left → Edited s left (seat_with s 0 y)
 written_back s y queue left h made = (refl, (y, (λ i. (s.me.0, (0, y) ∷ rest (h.1 i))), made))
 
 -- no wait is left
-pub first_none : (s : Token) (y : Record) (lists : Lists) (queue : List Wait) → HasWaits s queue → IsRecord (setting_of s).seats y queue → None ≡ slice_get (waits_at y.lists y.key) 0 → lists ≡ y.lists
+pub first_none : (s : Token) (y : Record) (lists : Lists) (queue : List Wait) → HasWaits s queue → IsRecord (setting_of s).seats y queue
+    → None ≡ slice_get (waits_at y.lists y.key) 0 → lists ≡ y.lists
     → FirstOut s queue None (seat_with s 0 (record y { lists = lists }))
 first_none s y lists queue h is first same = by queue is h (first ∙ ap (λ l. slice_get l 0) is.waits)
   where
-    by : (q : List Wait) → IsRecord (setting_of s).seats y q → HasWaits s q → None ≡ slice_get (erased_waits q) 0 → FirstOut s q None (seat_with s 0 (record y { lists = lists }))
-    by [] r k e = (refl, written_back s (record y { lists = lists }) [] [] k (subst (λ (l : Lists). IsRecord (setting_of s).seats (record y { lists = l }) []) (sym same) r))
+    by : (q : List Wait) → IsRecord (setting_of s).seats y q → HasWaits s q → None ≡ slice_get (erased_waits q) 0
+        → FirstOut s q None (seat_with s 0 (record y { lists = lists }))
+    by [] r k e = (
+      refl,
+      written_back s (record y { lists = lists }) [] [] k (subst (λ (l : Lists). IsRecord (setting_of s).seats (record y { lists = l }) []) (sym same) r),
+    )
     by (w ∷ q) r k e = absurd cc
 
-pub first_some : (s : Token) (y : Record) (lists : Lists) (queue : List Wait) (wait : Wait) (seat : ℕ) → HasWaits s queue → IsRecord (setting_of s).seats y queue → Some wait ≡ slice_get (waits_at y.lists y.key) 0
-    → Changes y.lists lists y.key (Some (drop 1 (waits_at y.lists y.key))) → lists.room ≡ y.lists.room + 1 → seat ≡ wait.id.seat → FirstOut s queue (Some seat) (seat_with s 0 (record y { lists = lists }))
+pub first_some : (s : Token) (y : Record) (lists : Lists) (queue : List Wait) (wait : Wait) (seat : ℕ) → HasWaits s queue
+    → IsRecord (setting_of s).seats y queue → Some wait ≡ slice_get (waits_at y.lists y.key) 0
+    → Changes y.lists lists y.key (Some (drop 1 (waits_at y.lists y.key))) → lists.room ≡ y.lists.room + 1 → seat ≡ wait.id.seat
+    → FirstOut s queue (Some seat) (seat_with s 0 (record y { lists = lists }))
 first_some s y lists queue wait seat h is first change room same = by queue is h (first ∙ ap (λ l. slice_get l 0) is.waits)
   where
-    by : (q : List Wait) → IsRecord (setting_of s).seats y q → HasWaits s q → Some wait ≡ slice_get (erased_waits q) 0 → FirstOut s q (Some seat) (seat_with s 0 (record y { lists = lists }))
+    by : (q : List Wait) → IsRecord (setting_of s).seats y q → HasWaits s q → Some wait ≡ slice_get (erased_waits q) 0
+        → FirstOut s q (Some seat) (seat_with s 0 (record y { lists = lists }))
     by [] r k e = absurd cc
     by (w ∷ q) r k e =
         let is_it : wait ≡ erased_wait w = cc in
@@ -58,7 +69,8 @@ first_some s y lists queue wait seat h is first change room same = by queue is h
           q,
           refl,
           ap (λ (x : Wait). x.id.seat) (sym is_it) ∙ sym same,
-          written_back s (record y { lists = lists }) (w ∷ q) q k (record { opened = c.0; waits = c.1 ∙ ap (drop 1) r.waits; room = let a = r.room in omega (arith, room) }),
+          written_back s (record y { lists = lists }) (w ∷ q) q k
+              (record { opened = c.0; waits = c.1 ∙ ap (drop 1) r.waits; room = let a = r.room in omega (arith, room) }),
         )
 
 -- of the waits of the list so many were taken out, and their seats are in the hand
@@ -86,20 +98,26 @@ none_emptied s seats h few none = record {
 
 pub emptied_few : (s t : Token) (seats : List ℕ) (seat : ℕ) (u : Token) (x : Emptied s t seats) → FirstOut t x.left (Some seat) u → length seats < 256
 emptied_few s t seats seat u x out =
-    let a = ap length x.parts in let b = length-append x.gone x.left in let c = ap length out.2 in let d = ap length x.items in let e = length_map x.gone in let f = x.few in omega arith
+    let a = ap length x.parts in let b = length-append x.gone x.left in let c = ap length out.2 in let d = ap length x.items in
+    let e = length_map x.gone in let f = x.few in omega arith
   where
     length_map : (l : List Wait) → length (map (λ (w : Wait). w.id.seat) l) ≡ length l
     length_map [] = refl
     length_map (w ∷ l) = ap Rattle.std.proofs.Common.suc (length_map l)
 
-pub one_emptied : (s t : Token) (seats more : List ℕ) (seat : ℕ) (u : Token) (x : Emptied s t seats) → FirstOut t x.left (Some seat) u → more ≡ seats ++ seat ∷ [] → Emptied s u more
+pub one_emptied : (s t : Token) (seats more : List ℕ) (seat : ℕ) (u : Token) (x : Emptied s t seats) → FirstOut t x.left (Some seat) u
+    → more ≡ seats ++ seat ∷ [] → Emptied s u more
 one_emptied s t seats more seat u x out added = record {
   gone = x.gone ++ out.0 ∷ [];
   left = out.1;
   parts = x.parts ∙ ap (λ l. x.gone ++ l) out.2 ∙ sym (append_assoc x.gone (out.0 ∷ []) out.1);
   table = out.4.0 ∙ x.table;
   view = ap (λ (m : Me). m.0) out.4.1.1 ∙ x.view;
-  has = (out.4.1.0, ap (λ (m : Me). m.1) out.4.1.1, subst (λ (v : ListView). IsRecord v.own.knows.setting.seats out.4.1.0 out.1) (sym (ap (λ (m : Me). m.0) out.4.1.1)) out.4.1.2);
+  has = (
+    out.4.1.0,
+    ap (λ (m : Me). m.1) out.4.1.1,
+    subst (λ (v : ListView). IsRecord v.own.knows.setting.seats out.4.1.0 out.1) (sym (ap (λ (m : Me). m.0) out.4.1.1)) out.4.1.2,
+  );
   items = added ∙ (λ i. x.items i ++ sym out.3 i ∷ []) ∙ sym (map-append (λ (w : Wait). w.id.seat) x.gone (out.0 ∷ []));
   few = x.few;
 }
@@ -114,7 +132,8 @@ all_emptied s t seats u x out = (
   ),
 )
 
-pub all_seats : (s t : Token) (seats : List ℕ) (u : Token) (x : Emptied s t seats) → FirstOut t x.left None u → seats ≡ map (λ (w : Wait). w.id.seat) (queue_of s)
+pub all_seats : (s t : Token) (seats : List ℕ) (u : Token) (x : Emptied s t seats) → FirstOut t x.left None u
+    → seats ≡ map (λ (w : Wait). w.id.seat) (queue_of s)
 all_seats s t seats u x out = x.items ∙ ap (map (λ (w : Wait). w.id.seat)) (sym (append-nil x.gone) ∙ ap (λ l. x.gone ++ l) (sym out.0) ∙ sym x.parts)
 
 -- L7
@@ -148,7 +167,8 @@ module _ (l : ListModel) (s : Token) (h n : ℕ) (may : MayTake l s h n) where
 
     pub taken_all : TakenAll s h n u
     taken_all = record {
-      walked = subst (λ (y : ListSeat × List Wait). Walked s y.0 u (with_waits h y.1 (stands_of s)) [] ((NotifyingAll h (L7 n), 1) ∷ [])) (λ i. (sym stands7 i, sym hand_after i))
+      walked = subst (λ (y : ListSeat × List Wait). Walked s y.0 u (with_waits h y.1 (stands_of s)) [] ((NotifyingAll h (L7 n), 1) ∷ []))
+          (λ i. (sym stands7 i, sym hand_after i))
           (walked_row s u at7 1 (with_waits h (queue_of s) (stands_of s)) [] row7 (same ∙ E.0) stands_after d7.told);
       bare = ap (λ (m : Me). m.1) r.2 ∙ ap (λ (m : Me). rest m.1) E.1.1;
     }

@@ -1,5 +1,6 @@
 -- Seats that are gathered into one view, one after the other from the end of a row.
-use Rattle.std.proofs.Common.{◌≡◌, ℕ, ◌+◌, ◌<◌, List, [], ◌∷◌, ◌++◌, length, slice_index, slice_index_or, length-append, zero, suc, sym, refl, ap, ◌∙◌, subst}
+use Rattle.std.proofs.Common.{◌≡◌, ℕ, ◌+◌, ◌<◌, List, [], ◌∷◌, ◌++◌, length, slice_index, slice_index_or, length-append, zero, suc}
+use Rattle.std.proofs.Common.{sym, refl, ap, ◌∙◌, subst}
 use Rattle.std.proofs.Common.{arith, append-nil, append_assoc}
 use Rattle.std.proofs.lemmas.List.{get_or-append-add}
 use Rattle.std.specs.List.{All, remove}
@@ -35,7 +36,8 @@ seat_at : (s : Token) (n : ℕ) (seat : SeatModel) (g : OneSeat) → seat_of s n
     → IsSeatOf g seat
 seat_at s n seat g seen is at = subst (λ (q : OneSeat × SeatModel). IsSeatOf q.0 q.1) (λ i. (at i, seen i)) (seat_is s n is)
 
-pub one_gathered : (l : ListModel) (items : List SeatModel) (first : OneSeat) (now rest : List SeatModel) (token after : Token) (seat : SeatModel) (s o : Token) (n : ℕ)
+pub one_gathered : (l : ListModel) (items : List SeatModel) (first : OneSeat) (now rest : List SeatModel) (token after : Token)
+    (seat : SeatModel) (s o : Token) (n : ℕ)
     → Gathered l items first now token → now ≡ rest ++ seat ∷ [] → seat_of s n ≡ seat → IsSeat s n → o.me.0.own ≡ s.me.0.own
     → after.table_id ≡ token.table_id → after.me ≡ (sitting token.me.0 o.me.0, token.me.1)
     → Gathered l items first rest after
@@ -44,7 +46,8 @@ one_gathered l items first now rest token after seat s o n x last seen is alike 
   view = ap (λ (m : Me). m.0.own) joined ∙ x.view;
   gone = seat ∷ x.gone;
   parts = x.parts ∙ ap (λ k. k ++ x.gone) last ∙ append_assoc rest (seat ∷ []) x.gone;
-  are = subst (λ (gs : List OneSeat). AreSeatsOf gs (seat ∷ x.gone)) (sym (ap (λ (m : Me). m.0.guests) joined)) (seat_at s n seat o.me.0.own seen is (sym alike), x.are);
+  are = subst (λ (gs : List OneSeat). AreSeatsOf gs (seat ∷ x.gone)) (sym (ap (λ (m : Me). m.0.guests) joined))
+      (seat_at s n seat o.me.0.own seen is (sym alike), x.are);
 }
 
 pub all_gathered : (l : ListModel) (items : List SeatModel) (token : Token) (seat : SeatModel) (s : Token) (n : ℕ)

@@ -1,5 +1,6 @@
 -- The rows that grant one ticket.
-use Rattle.std.proofs.Common.{◌≡◌, ◌⊎◌, ℕ, ◌+◌, ◌<◌, ◌≤◌, List, [], ◌∷◌, ◌++◌, Option, Some, None, inl, inr, sym, refl, ap, ◌∙◌, subst, arith}
+use Rattle.std.proofs.Common.{◌≡◌, ◌⊎◌, ℕ, ◌+◌, ◌<◌, ◌≤◌, List, [], ◌∷◌, ◌++◌, Option, Some, None, inl, inr, sym, refl}
+use Rattle.std.proofs.Common.{ap, ◌∙◌, subst, arith}
 use Rattle.running_rows.specs.Table.{rest}
 use Rattle.waiters.specs.declared.wait.Wait.{Wait}
 use Rattle.waiters.specs.Lists.{first_with, without_first}
@@ -37,17 +38,25 @@ abbrev pub by_wait : ℕ → ℕ → Option Wait → ListNext
 by_wait h ticket o = by_found o (Rest, Nothing) (λ w. (NotifyingOne h O9, TakesOut ticket))
 
 -- the lock may be given back with the ticket's wait taken out
-pub gives_out : (k : Setting) (s t : Token) (h ticket : ℕ) (found_it : Option ℕ) → stands_of s ≡ at_place (NotifyingOne h (O8 ticket)) (stands_of s) → IsOut s ticket found_it t
+pub gives_out : (k : Setting) (s t : Token) (h ticket : ℕ) (found_it : Option ℕ)
+    → stands_of s ≡ at_place (NotifyingOne h (O8 ticket)) (stands_of s) → IsOut s ticket found_it t
     → GivesBack k t.me
 gives_out k s t h ticket None is out =
     gives_edited k s t (at_place (NotifyingOne h (O8 ticket)) (stands_of s)) is (queue_of s) out.1 refl
-    (λ w e. (record { word = refl; there = tt; can = refl; becomes = refl }, ap (λ o. queue_after (by_wait h ticket o).1 (queue_of s)) (ap (first_with ticket) (sym e) ∙ out.0)))
+    (λ w e. (
+      record { word = refl; there = tt; can = refl; becomes = refl },
+      ap (λ o. queue_after (by_wait h ticket o).1 (queue_of s)) (ap (first_with ticket) (sym e) ∙ out.0),
+    ))
 gives_out k s t h ticket (Some seat) is out =
     gives_edited k s t (at_place (NotifyingOne h (O8 ticket)) (stands_of s)) is (without_first ticket (queue_of s)) out.3 refl
-    (λ w e. (record { word = refl; there = tt; can = refl; becomes = refl }, ap (λ o. queue_after (by_wait h ticket o).1 (queue_of s)) (ap (first_with ticket) (sym e) ∙ out.1)))
+    (λ w e. (
+      record { word = refl; there = tt; can = refl; becomes = refl },
+      ap (λ o. queue_after (by_wait h ticket o).1 (queue_of s)) (ap (first_with ticket) (sym e) ∙ out.1),
+    ))
 
 -- the token after the list was edited
-pub edited_by : (s t : Token) (ticket : ℕ) (found_it : Option ℕ) → IsOut s ticket found_it t → (list_of t ≡ list_of s) × (t.me.0.own ≡ s.me.0.own) × (rest t.me.1 ≡ [])
+pub edited_by : (s t : Token) (ticket : ℕ) (found_it : Option ℕ) → IsOut s ticket found_it t → (list_of t ≡ list_of s)
+    × (t.me.0.own ≡ s.me.0.own) × (rest t.me.1 ≡ [])
 edited_by s t ticket None out = (list_edited s t _ out.1, ap (λ (m : Me). m.0.own) out.1.1.1, ap (λ (m : Me). rest m.1) out.1.1.1)
 edited_by s t ticket (Some seat) out = (list_edited s t _ out.3, ap (λ (m : Me). m.0.own) out.3.1.1, ap (λ (m : Me). rest m.1) out.3.1.1)
 
@@ -73,7 +82,8 @@ module _ (l : ListModel) (s : Token) (h ticket : ℕ) (may : MayGrant l s h tick
     laws7 = laws_of (setting_of s) d7.world may.few d7.met
 
     knows7 : (ticket ≡ d7.world.words.notify) × (h ≤ d7.world.words.numbers.handed) × (d7.world.words.numbers.granted < d7.world.words.numbers.handed)
-    knows7 = subst (λ (a : ListSeat). Knows (setting_of s).first d7.world.words s.me.0.own.number a.place a.late) d7.stood (laws7.invariant.seats_known s.me.0.own.number may.there).knows
+    knows7 = subst (λ (a : ListSeat). Knows (setting_of s).first d7.world.words s.me.0.own.number a.place a.late) d7.stood
+        (laws7.invariant.seats_known s.me.0.own.number may.there).knows
 
     numbers7 : d7.world.words.numbers ≡ told row7.stride.seen
     numbers7 = laws7.invariant.numbers ∙ ap told (sym d7.seen_is)
@@ -85,7 +95,9 @@ module _ (l : ListModel) (s : Token) (h ticket : ℕ) (may : MayGrant l s h tick
     told7 = Granted ((told row7.stride.seen).granted + 1) s.me.0.own.number ∷ []
 
     w7 : Walked s at7 t at8 (Granted ((told row7.stride.seen).granted + 1) s.me.0.own.number ∷ []) ((NotifyingOne h (O7 ticket), ticket) ∷ [])
-    w7 = subst (λ (k : ℕ). Walked s at7 t at8 (Granted ((told row7.stride.seen).granted + 1) s.me.0.own.number ∷ []) ((NotifyingOne h (O7 ticket), k) ∷ [])) (d7.read ∙ sym knows7.0)
+    w7 =
+        subst (λ (k : ℕ). Walked s at7 t at8 (Granted ((told row7.stride.seen).granted + 1) s.me.0.own.number ∷ [])
+        ((NotifyingOne h (O7 ticket), k) ∷ [])) (d7.read ∙ sym knows7.0)
         (walked_row s t at7 n at8 (Granted ((told row7.stride.seen).granted + 1) s.me.0.own.number ∷ []) row7 same d7.stands
         (d7.told ∙ ap (λ (x : Numbers). Granted (x.granted + 1) s.me.0.own.number ∷ []) numbers7))
 
@@ -121,24 +133,33 @@ module _ (l : ListModel) (s : Token) (h ticket : ℕ) (may : MayGrant l s h tick
       first8 : (o : Option Wait) → first_with ticket (queue_of t) ≡ o → first_with ticket d8.world.words.queue ≡ o
       first8 o e = ap (first_with ticket) (sym (d8.held refl)) ∙ e
 
-      only8 : (o : Option Wait) → first_with ticket (queue_of t) ≡ o → (b : ListSeat) → found8 o ≡ b → Walked t at8 u b [] ((NotifyingOne h (O8 ticket), 1) ∷ [])
-      only8 o e b is = walked_row t u at8 1 b [] row8 (again ∙ ap (λ (l : ListModel). l.id) (edited_by t y ticket found_it out).0) (d8.stands ∙ ap found8 (first8 o e) ∙ is) (d8.told ∙ told_none t.me.0.own.number h ticket (first_with ticket d8.world.words.queue))
+      only8 : (o : Option Wait) → first_with ticket (queue_of t) ≡ o → (b : ListSeat) → found8 o ≡ b
+          → Walked t at8 u b [] ((NotifyingOne h (O8 ticket), 1) ∷ [])
+      only8 o e b is = walked_row t u at8 1 b [] row8 (again ∙ ap (λ (l : ListModel). l.id) (edited_by t y ticket found_it out).0)
+          (d8.stands ∙ ap found8 (first8 o e) ∙ is) (d8.told ∙ told_none t.me.0.own.number h ticket (first_with ticket d8.world.words.queue))
 
-      w8 : (o : Option Wait) → first_with ticket (queue_of t) ≡ o → (b : ListSeat) → found8 o ≡ b → Walked s at7 u b (Granted ((told row7.stride.seen).granted + 1) s.me.0.own.number ∷ []) (grant_rows h ticket)
-      w8 o e b is = walked_on s t u at7 at8 b told7 [] ((NotifyingOne h (O7 ticket), ticket) ∷ []) ((NotifyingOne h (O8 ticket), 1) ∷ []) w7 (only8 o e b is)
+      w8 : (o : Option Wait) → first_with ticket (queue_of t) ≡ o → (b : ListSeat) → found8 o ≡ b
+          → Walked s at7 u b (Granted ((told row7.stride.seen).granted + 1) s.me.0.own.number ∷ []) (grant_rows h ticket)
+      w8 o e b is =
+          walked_on s t u at7 at8 b told7 [] ((NotifyingOne h (O7 ticket), ticket) ∷ []) ((NotifyingOne h (O8 ticket), 1) ∷ []) w7 (only8 o e b is)
 
       -- what is known of the grant by who has seen it
       granted_so : (z : Token) → GoesOn (seen_of z) (seen_of t) → z.me.1 ≡ []
-          → (Walked s at7 z (at_place Rest (stands_of s)) told7 (grant_rows h ticket) ⊎ Walked s at7 z (at_place Rest (stands_of s)) told7 (grant_rows h ticket ++ grants_it h))
+          → (Walked s at7 z (at_place Rest (stands_of s)) told7 (grant_rows h ticket)
+          ⊎ Walked s at7 z (at_place Rest (stands_of s)) told7 (grant_rows h ticket ++ grants_it h))
           → GrantedOne s h ticket z
       granted_so z more bare walked = record {
         before = row7.stride.seen;
         later = d7.later;
-        seen = subst (λ l. GoesOn (seen_of z) l) (d7.seen ∙ ap (λ l. row7.stride.seen ++ l) (d7.told ∙ ap (λ (x : Numbers). Granted (x.granted + 1) s.me.0.own.number ∷ []) numbers7)) more;
+        seen =
+            subst (λ l. GoesOn (seen_of z) l) (d7.seen ∙ ap (λ l. row7.stride.seen ++ l)
+            (d7.told ∙ ap (λ (x : Numbers). Granted (x.granted + 1) s.me.0.own.number ∷ []) numbers7)) more;
         handed = subst (λ (x : Numbers). x.granted < x.handed) numbers7 knows7.2;
         word_is = knows7.0 ∙ laws7.invariant.words.1 ∙ ap (λ (x : Numbers). word_of (setting_of s).first x.granted) numbers7;
         bare = bare;
-        walked = subst (λ (a : ListSeat). Walked s a z (at_place Rest (stands_of s)) told7 (grant_rows h ticket) ⊎ Walked s a z (at_place Rest (stands_of s)) told7 (grant_rows h ticket ++ grants_it h))
+        walked =
+            subst (λ (a : ListSeat). Walked s a z (at_place Rest (stands_of s)) told7 (grant_rows h ticket)
+            ⊎ Walked s a z (at_place Rest (stands_of s)) told7 (grant_rows h ticket ++ grants_it h))
             (sym stands7) walked;
       }
 
@@ -159,7 +180,8 @@ module _ (l : ListModel) (s : Token) (h ticket : ℕ) (may : MayGrant l s h tick
           late = (stands_of s).late;
         }
 
-        pub to9 : Walked s (at_place (NotifyingOne h (O7 ticket)) (stands_of s)) u (record { place = NotifyingOne h O9; ticket = (stands_of s).ticket; hand = w ∷ []; late = (stands_of s).late })
+        pub to9 : Walked s (at_place (NotifyingOne h (O7 ticket)) (stands_of s)) u
+            (record { place = NotifyingOne h O9; ticket = (stands_of s).ticket; hand = w ∷ []; late = (stands_of s).late })
             (Granted ((told row7.stride.seen).granted + 1) s.me.0.own.number ∷ []) (grant_rows h ticket)
         to9 = w8 (Some w) first at9 is9
 
@@ -175,7 +197,8 @@ module _ (l : ListModel) (s : Token) (h ticket : ℕ) (may : MayGrant l s h tick
         pub seat_there : w.id.seat < (setting_of s).seats
         seat_there =
             let L = to9.lands in let e = ap (λ (z : Setting). z.seats) setting9 in
-            let k = (grants_in (setting_of u) L.world u.me.0.own.number at9 w.id.seat (Rest, Gives) few9 L.met there9 (stands_there u.me.0.own L there9 few9 ∙ to9.stands_is) (λ g. refl)).there in omega arith
+            let k = (grants_in (setting_of u) L.world u.me.0.own.number at9 w.id.seat (Rest, Gives) few9 L.met there9
+            (stands_there u.me.0.own L there9 few9 ∙ to9.stands_is) (λ g. refl)).there in omega arith
 
         module _ (z : Token) (m : ℕ) (p : RanRow list_rows here u.me m z.me) (last : z.table_id ≡ u.table_id) where
           row9 : Ran at9 u.me.0.own m z.me.0.own
@@ -196,7 +219,8 @@ module _ (l : ListModel) (s : Token) (h ticket : ℕ) (may : MayGrant l s h tick
 
           pub ended_some : GrantedOne s h ticket z
           ended_some = granted_so z
-              (goes_on_more (seen_of t) (seen_of u) (seen_of z) (walked_later t u at8 at9 [] ((NotifyingOne h (O8 ticket), 1) ∷ []) (only8 (Some w) first at9 is9))
+              (goes_on_more (seen_of t) (seen_of u) (seen_of z)
+              (walked_later t u at8 at9 [] ((NotifyingOne h (O8 ticket), 1) ∷ []) (only8 (Some w) first at9 is9))
               (walked_later u z at9 (at_place Rest (stands_of s)) [] ((NotifyingOne h O9, 0) ∷ []) w9))
               (ap (λ (m : Me). m.1) p.1 ∙ bare8)
               (inr (walked_on s u z at7 at9 (at_place Rest (stands_of s)) told7 [] (grant_rows h ticket) ((NotifyingOne h O9, 0) ∷ []) to9 w9))

@@ -1,5 +1,6 @@
 -- A row of the step table leads on, whichever row it is.
-use Rattle.std.proofs.Common.{◌≡◌, ◌≢◌, ℕ, ◌<◌, ◌≤◌, IsTrue, List, [], ◌∷◌, ◌++◌, length, get_or, set, slice_index, sym, refl, ap, ◌∙◌, subst, inr, arith}
+use Rattle.std.proofs.Common.{◌≡◌, ◌≢◌, ℕ, ◌<◌, ◌≤◌, IsTrue, List, [], ◌∷◌, ◌++◌, length, get_or, set, slice_index, sym, refl}
+use Rattle.std.proofs.Common.{ap, ◌∙◌, subst, inr, arith}
 use Rattle.std.proofs.Common.{length-set, get_or-set_other, get_or-set_same}
 use mathlib.Core.Logic.{dite}
 use native.Mathlib.Decide.{ℕ_discrete}

@@ -1,5 +1,6 @@
 -- Where a row that ran leads its seat, by what the table says of it.
-use Rattle.std.proofs.Common.{◌≡◌, ◌≢◌, ℕ, ◌<◌, ◌≤◌, ◌==◌, cond, Bool, true, false, ◌++◌, sym, ap, ◌∙◌, subst, arith, eq-eqb, ne_eqb}
+use Rattle.std.proofs.Common.{◌≡◌, ◌≢◌, ℕ, ◌<◌, ◌≤◌, ◌==◌, cond, Bool, true, false, ◌++◌, sym, ap, ◌∙◌, subst, arith}
+use Rattle.std.proofs.Common.{eq-eqb, ne_eqb}
 use Rattle.std.proofs.lemmas.List.{append_cancel_left}
 use mathlib.Core.Option.{none}
 use native.Mathlib.Decide.{ℕ_discrete}
@@ -72,7 +73,8 @@ led a u w n r =
       stands = ap (λ (y : ListSight). y.stands) did.leads ∙ put_here s.seats i (seat_after s.words ((event_of s i).leads (finds s i)) (s.seats i))
           ∙ (λ k. seat_after s.words (next k) (r.ran.meets.stands k));
       queue = r.also.left ∙ ap (queue_left s i) r.did ∙ ap (λ (x : ListNext). queue_after x.1 s.words.queue) next;
-      told = append_cancel_left s.journal p.told (entries_of i (effect_of s i)) (sym did.told_is ∙ journal_told i (effect_of s i) s.journal) ∙ ap (λ (x : ListNext). entries_of i x.1) next;
+      told = append_cancel_left s.journal p.told (entries_of i (effect_of s i)) (sym did.told_is ∙ journal_told i (effect_of s i) s.journal)
+          ∙ ap (λ (x : ListNext). entries_of i x.1) next;
       seen = stride_told (watched u.knows.setting) i before w.knows.sight p r.ran;
       held = r.also.held;
     }
@@ -101,7 +103,8 @@ gave_from s e t a same is holding few word given =
     subst (λ n. Ran a s.me.0.own n t.me.0.own) (d.read ∙ ap (found d.world.words) (word d.world.words) ∙ lock) r
 
 -- a grant that was taken was one
-pub woke_from : (s t : Token) (a : ListSeat) (n : ℕ) (ticket : Ticket) → stands_of s ≡ a → a.place ≡ Waiting ticket P → (setting_of s).seats ≤ 256 → 0 < n
+pub woke_from : (s t : Token) (a : ListSeat) (n : ℕ) (ticket : Ticket) → stands_of s ≡ a → a.place ≡ Waiting ticket P
+    → (setting_of s).seats ≤ 256 → 0 < n
     → RanRow list_rows here s.me n t.me → Ran a s.me.0.own 1 t.me.0.own
 woke_from s t a n ticket is parked few some row =
     let k : ℕ = s.me.0.own.number in

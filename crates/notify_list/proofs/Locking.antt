@@ -37,7 +37,8 @@ locking_free (NotifyingOne h O3) e = refl
 locking_free (NotifyingAll h L3) e = refl
 locking_free _ e = absurd (cc)
 
-locked_seat : (i : ℕ) (a : ListSeat) (g : ListWords) (p : ListPlace) → takes_lock p ≡ true → seat_after g ((list_event_at i a g p).leads 0) (at_place p a) ≡ at_place (locked p) a
+locked_seat : (i : ℕ) (a : ListSeat) (g : ListWords) (p : ListPlace) → takes_lock p ≡ true
+    → seat_after g ((list_event_at i a g p).leads 0) (at_place p a) ≡ at_place (locked p) a
 locked_seat i a g (Waiting t W1) e = refl
 locked_seat i a g (NotifyingOne h O3) e = refl
 locked_seat i a g (NotifyingAll h L3) e = refl
@@ -50,7 +51,8 @@ locked_told i a g (NotifyingAll h L3) e = refl
 locked_told i a g _ e = absurd (cc)
 
 -- what taking the lock owes
-pub lock_owes : (k : Setting) (l : ListModel) (s : Token) → MayLock l s → Owes list_rows k s.me 2 (λ n. either (n == 0) 1 n) (λ n t. (n ≢ 0 → t ≡ s.me) × (n ≡ 0 → Took list_rows at_wait s.me t))
+pub lock_owes : (k : Setting) (l : ListModel) (s : Token) → MayLock l s
+    → Owes list_rows k s.me 2 (λ n. either (n == 0) 1 n) (λ n t. (n ≢ 0 → t ≡ s.me) × (n ≡ 0 → Took list_rows at_wait s.me t))
 lock_owes k l s may = row_takes s.me (waiting (stands_of s)) may.begins at_wait refl
     (λ w. record {
       fits = locking_fits (setting_of s) s.me.0.own.number (waiting (stands_of s)) w.words (waiting (stands_of s)).place may.takes;
@@ -64,6 +66,7 @@ has_locked l s t may T same =
     let d : Led a s.me.0.own 0 t.me.0.own r.stride = led a s.me.0.own t.me.0.own 0 r in
     let slots : t.me.1 ≡ (0, T.1.1) ∷ [] = ap (λ (m : Me). m.1) T.1.2 ∙ (λ i. (T.1.3.0 i, T.1.1) ∷ may.bare i) in record {
       walked = walked_row s t a 0 (at_place (locked a.place) a) [] r same
-          (d.stands ∙ locked_seat s.me.0.own.number a d.world.words a.place may.takes) (d.told ∙ locked_told s.me.0.own.number a d.world.words a.place may.takes);
+          (d.stands ∙ locked_seat s.me.0.own.number a d.world.words a.place may.takes)
+          (d.told ∙ locked_told s.me.0.own.number a d.world.words a.place may.takes);
       record_is = (T.1.1, slots, T.1.3.1);
     }

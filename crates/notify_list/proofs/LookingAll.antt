@@ -34,7 +34,8 @@ module _ (s t : Token) (waited : ℕ) (x : RanRow list_rows at_all s.me waited t
   stands_first = first.stands
 
 -- and L2
-module _ (s t u : Token) (n waited notified : ℕ) (seat : IsSeat s n) (x : RanRow list_rows at_all s.me waited t.me) (q : RanRow list_rows here t.me notified u.me)
+module _ (s t u : Token) (n waited notified : ℕ) (seat : IsSeat s n) (x : RanRow list_rows at_all s.me waited t.me)
+    (q : RanRow list_rows here t.me notified u.me)
     (same : t.table_id ≡ s.table_id) (again : u.table_id ≡ t.table_id) where
   abbrev r : Ran (at_place (NotifyingAll 0 L1) (stands_of s)) s.me.0.own waited t.me.0.own
   r = row_first s t waited x
@@ -57,8 +58,10 @@ module _ (s t u : Token) (n waited notified : ℕ) (seat : IsSeat s n) (x : RanR
   second : Led (at_place place (stands_of s)) t.me.0.own notified u.me.0.own look.stride
   second = led (at_place place (stands_of s)) t.me.0.own u.me.0.own notified look
 
-  pub walked : Walked s (at_place (NotifyingAll 0 L1) (stands_of s)) u (at_place (if waited == notified then Rest else NotifyingAll h L3) (stands_of s)) [] (looks_all h waited notified)
-  walked = walked_on s t u (at_place (NotifyingAll 0 L1) a) (at_place place a) (at_place (if waited == notified then Rest else NotifyingAll h L3) a) [] [] ((NotifyingAll 0 L1, waited) ∷ []) ((place, notified) ∷ [])
+  pub walked : Walked s (at_place (NotifyingAll 0 L1) (stands_of s)) u
+      (at_place (if waited == notified then Rest else NotifyingAll h L3) (stands_of s)) [] (looks_all h waited notified)
+  walked = walked_on s t u (at_place (NotifyingAll 0 L1) a) (at_place place a) (at_place (if waited == notified then Rest else NotifyingAll h L3) a) [] []
+      ((NotifyingAll 0 L1, waited) ∷ []) ((place, notified) ∷ [])
       (walked_row s t (at_place (NotifyingAll 0 L1) a) waited (at_place place a) [] r same one.stands one.told)
       (walked_row t u (at_place place a) notified (at_place (if waited == notified then Rest else NotifyingAll h L3) a) [] look again second.stands second.told)
 
@@ -66,7 +69,8 @@ module _ (s t u : Token) (n waited notified : ℕ) (seat : IsSeat s n) (x : RanR
   pub handed_first : (told (seen_of s)).handed ≤ h
   handed_first =
       let laws = laws_of (setting_of s) one.world seat.token_is.few one.met in
-      let since = handed_since (setting_of s).first (setting_of s).seats one.world (seen_of s) laws (subst (λ l. GoesOn l (seen_of s)) one.seen_is one.later) in
+      let since = handed_since (setting_of s).first (setting_of s).seats one.world (seen_of s) laws
+      (subst (λ l. GoesOn l (seen_of s)) one.seen_is one.later) in
       let e = ap (λ (x : Numbers). x.handed) laws.invariant.numbers in omega arith
 
   few : (setting_of t).seats ≤ 256
@@ -76,7 +80,8 @@ module _ (s t u : Token) (n waited notified : ℕ) (seat : IsSeat s n) (x : RanR
   quiet e =
       let laws = laws_of (setting_of t) second.world few second.met in
       let at : (second.world.seats t.me.0.own.number).place ≡ place = ap (λ (y : ListSeat). y.place) second.stood in
-      let ends = laws.calls.notified t.me.0.own.number h look.also.there (subst (λ (p : ListPlace). Concludes second.world p h) (sym at) (all_equal h waited (e ∙ second.read))) in
+      let ends = laws.calls.notified t.me.0.own.number h look.also.there
+      (subst (λ (p : ListPlace). Concludes second.world p h) (sym at) (all_equal h waited (e ∙ second.read))) in
       subst (λ (l : List ListEntry). h ≤ (told l).granted) (sym (seen_all look second second.told)) ends
 
   pub looked_for_all : LookedForAll s (waited == notified) u

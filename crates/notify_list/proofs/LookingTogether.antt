@@ -62,7 +62,8 @@ word_seen k i there world words homes u at = subst (λ (q : Setting). Sees list_
     (subst (λ (q : Setting). Stands list_rows q u world words homes i) (sym at.of_is) at))
 
 -- a look of a token
-module _ (s t : Token) (n q : ℕ) (seat : IsSeat s n) (r : Went list_rows here (looks Wait) s.me.0.own q t.me.0.own) (same : t.table_id ≡ s.table_id) (bare : t.me.1 ≡ []) where
+module _ (s t : Token) (n q : ℕ) (seat : IsSeat s n) (r : Went list_rows here (looks Wait) s.me.0.own q t.me.0.own)
+    (same : t.table_id ≡ s.table_id) (bare : t.me.1 ≡ []) where
   only : Looked (watched (setting_of s)) r.ran.world s.me.0.own.number Wait r.stride.read r.stride.told t.me.0.own.knows.sight
   only = subst (λ d. Did (watched (setting_of s)) r.ran.world s.me.0.own.number d r.stride.read r.stride.told t.me.0.own.knows.sight) r.did r.ran.did
 
@@ -102,12 +103,15 @@ module _ (s t : Token) (n q : ℕ) (seat : IsSeat s n) (r : Went list_rows here 
     holds_none = ap (λ (y : ListSeat). y.ticket) stays ∙ seat.holds_none;
   }
 
-pub have_met : (s o a b : Token) (n k q : ℕ) (seat_s : IsSeat s n) (seat_o : IsSeat o k) (m : Met list_rows Wait s.me.0.own o.me.0.own q a.me.0.own b.me.0.own)
-    → a.table_id ≡ s.table_id → b.table_id ≡ o.table_id → a.me.1 ≡ [] → b.me.1 ≡ [] → HasMet (seat_of s n) (seat_of o k) (seat_of a n) (seat_of b k)
+pub have_met : (s o a b : Token) (n k q : ℕ) (seat_s : IsSeat s n) (seat_o : IsSeat o k)
+    (m : Met list_rows Wait s.me.0.own o.me.0.own q a.me.0.own b.me.0.own)
+    → a.table_id ≡ s.table_id → b.table_id ≡ o.table_id → a.me.1 ≡ [] → b.me.1 ≡ []
+    → HasMet (seat_of s n) (seat_of o k) (seat_of a n) (seat_of b k)
 have_met s o a b n k q seat_s seat_o m same_a same_b bare_a bare_b = record {
   number = q;
   one_looked = looks_at s a n q seat_s m.one same_a bare_a;
   other_looked = looks_at o b k q seat_o m.other same_b bare_b;
-  same = journal_seen s a n q seat_s m.one same_a bare_a ∙ ap (λ (w : ListWorld). w.journal) m.together ∙ sym (journal_seen o b k q seat_o m.other same_b bare_b);
+  same = journal_seen s a n q seat_s m.one same_a bare_a ∙ ap (λ (w : ListWorld). w.journal) m.together
+      ∙ sym (journal_seen o b k q seat_o m.other same_b bare_b);
   two = λ e. m.two (seat_s.token_is.number_is ∙ e ∙ sym seat_o.token_is.number_is);
 }

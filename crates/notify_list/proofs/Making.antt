@@ -1,5 +1,6 @@
 -- A list as it is made.
-use Rattle.std.proofs.Common.{◌≡◌, ℕ, zero, suc, ◌+◌, ◌%◌, ◌^◌, ◌<◌, List, [], ◌∷◌, ◌++◌, length, replicate, map, get_or, slice_index, All, sym, refl, ap, ◌∙◌}
+use Rattle.std.proofs.Common.{◌≡◌, ℕ, zero, suc, ◌+◌, ◌%◌, ◌^◌, ◌<◌, List, [], ◌∷◌, ◌++◌, length, replicate, map, get_or}
+use Rattle.std.proofs.Common.{slice_index, All, sym, refl, ap, ◌∙◌}
 use Rattle.std.proofs.Common.{subst, arith}
 use Rattle.std.proofs.lemmas.List.{length-replicate}
 use Rattle.std.proofs.lemmas.List.FromFn.{map-range_with_len_more}
@@ -40,26 +41,32 @@ at_start : (first : ℕ) → first < 2 ^ 64 → first ≡ word_of first 0
 unfolding word_of
 at_start first fits = sym (ap (λ (k : ℕ). k % 2 ^ 64) (let e : first + 0 ≡ first = omega arith in e) ∙ mod-eq_of_lt fits)
 
-first_words : (z : Setting) → z.first < 2 ^ 64 → (w : ListWord) → IsThere z w → slice_index (words_of z) (address w) ≡ found (first_list z.first).words w
+first_words : (z : Setting) → z.first < 2 ^ 64 → (w : ListWord) → IsThere z w
+    → slice_index (words_of z) (address w) ≡ found (first_list z.first).words w
 first_words z fits Wait h = at_start z.first fits
 first_words z fits Notify h = at_start z.first fits
 first_words z fits Lock h = zeros (2 + z.seats + z.seats + z.seats + z.seats + z.seats) 0
-first_words z fits (Grant s) h = ap (λ i. get_or (words_of z) i 0) (let e : 3 + s ≡ suc (suc (1 + s)) = omega arith in e) ∙ zeros (2 + z.seats + z.seats + z.seats + z.seats + z.seats) (1 + s)
+first_words z fits (Grant s) h = ap (λ i. get_or (words_of z) i 0) (let e : 3 + s ≡ suc (suc (1 + s)) = omega arith in e)
+    ∙ zeros (2 + z.seats + z.seats + z.seats + z.seats + z.seats) (1 + s)
 
 -- one more of them
-pub one_more : {A : Type 0} (f : ℕ → A) (a n j : ℕ) (xs : List A) (x : A) → a + n ≡ j → xs ≡ map f (range_with_len a n) → x ≡ f j → xs ++ x ∷ [] ≡ map f (range_with_len a (n + 1))
+pub one_more : {A : Type 0} (f : ℕ → A) (a n j : ℕ) (xs : List A) (x : A) → a + n ≡ j → xs ≡ map f (range_with_len a n) → x ≡ f j
+    → xs ++ x ∷ [] ≡ map f (range_with_len a (n + 1))
 one_more f a n j xs x at before is = (λ i. before i ++ is i ∷ []) ∙ sym (map-range_with_len_more f a n j at)
 
 -- the seat 0 goes to the front of the others
-pub in_front : (t u : ListModel) (n seats : ℕ) (xs : List SeatModel) (x : SeatModel) → t ≡ u → n + 1 ≡ seats → xs ≡ new_seats t 1 n → x ≡ new_seat t 0 → ◌≡◌ {A = List SeatModel} (x ∷ xs) (new_seats u 0 seats)
-in_front t u n seats xs x same all before is = let e : suc n ≡ seats = omega (arith, all) in (λ i. is i ∷ before i) ∙ ap (new_seats t 0) e ∙ ap (λ (y : ListModel). new_seats y 0 seats) same
+pub in_front : (t u : ListModel) (n seats : ℕ) (xs : List SeatModel) (x : SeatModel) → t ≡ u → n + 1 ≡ seats → xs ≡ new_seats t 1 n
+    → x ≡ new_seat t 0 → ◌≡◌ {A = List SeatModel} (x ∷ xs) (new_seats u 0 seats)
+in_front t u n seats xs x same all before is =
+    let e : suc n ≡ seats = omega (arith, all) in (λ i. is i ∷ before i) ∙ ap (new_seats t 0) e ∙ ap (λ (y : ListModel). new_seats y 0 seats) same
 
 -- a seat that was just made may meet the first world, which is its own
 pub lands_fresh : (z : Setting) (k : ℕ) → Lands k (fresh z)
 lands_fresh z k = record { world = first_list z.first; met = none; sees = refl; queue = refl }
 
 -- words and record of a list as it is made show the first world
-pub opens : (z : Setting) (y : Record) → z.first < 2 ^ 64 → AreAllowed z.seats → IsRecord z.seats y [] → Opens list_rows z (words_of z) (map some (y ∷ []))
+pub opens : (z : Setting) (y : Record) → z.first < 2 ^ 64 → AreAllowed z.seats → IsRecord z.seats y []
+    → Opens list_rows z (words_of z) (map some (y ∷ []))
 opens z y fits seats empty = record {
   world = first_list z.first;
   shows = record {
@@ -80,10 +87,12 @@ opens z y fits seats empty = record {
 
 -- the seats of a list are of this list
 pub seats_own : (first count : ℕ) (t : ListModel) (seats : List SeatModel) → IsMade first count t seats → All (λ s. s.list ≡ t) seats
-seats_own first count t seats made = subst (All (λ s. s.list ≡ t)) (sym made.seats_are) (All-map (λ s. s.list ≡ t) (new_seat t) (range_with_len 0 count) (λ i n low. refl))
+seats_own first count t seats made =
+    subst (All (λ s. s.list ≡ t)) (sym made.seats_are) (All-map (λ s. s.list ≡ t) (new_seat t) (range_with_len 0 count) (λ i n low. refl))
 
 -- a token of a seat that has run nothing
-pub seat_made : (t : Token) (z : Setting) (number : ℕ) → t.me.0.own ≡ fresh_seat list_rows z number → t.me.1 ≡ [] → number < z.seats → AreAllowed z.seats → IsSeat t number
+pub seat_made : (t : Token) (z : Setting) (number : ℕ) → t.me.0.own ≡ fresh_seat list_rows z number → t.me.1 ≡ [] → number < z.seats
+    → AreAllowed z.seats → IsSeat t number
 seat_made t z number is bare there allowed = record {
   token_is = record {
     bare = bare;

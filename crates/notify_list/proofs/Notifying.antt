@@ -1,5 +1,6 @@
 -- A notification of one, from its lock on and as a whole.
-use Rattle.std.proofs.Common.{◌≡◌, ◌≢◌, ◌⊎◌, ℕ, ◌+◌, ◌≤◌, ◌==◌, if◌then◌else◌, List, [], ◌∷◌, ◌++◌, Option, Some, None, inl, inr, ⊎_elim, sym, refl, ap, ◌∙◌}
+use Rattle.std.proofs.Common.{◌≡◌, ◌≢◌, ◌⊎◌, ℕ, ◌+◌, ◌≤◌, ◌==◌, if◌then◌else◌, List, [], ◌∷◌, ◌++◌, Option}
+use Rattle.std.proofs.Common.{Some, None, inl, inr, ⊎_elim, sym, refl, ap, ◌∙◌}
 use Rattle.std.proofs.Common.{subst, arith}
 use Rattle.running_rows.specs.Table.{rest}
 use Rattle.step_table.specs.declared.list_place.ListPlace.{ListPlace}
@@ -63,8 +64,10 @@ module _ (s : Token) (n h : ℕ) (seat : IsSeat s n) (at : (stands_of s).place �
       d4 : Led (a (NotifyingOne h O4)) t.me.0.own ticket u.me.0.own row4.stride
       d4 = led (a (NotifyingOne h O4)) t.me.0.own u.me.0.own ticket row4
 
-      pub w4 : Walked s (at_place (NotifyingOne h O3) (stands_of s)) u (at_place (NotifyingOne h (O5 ticket)) (stands_of s)) [] ((NotifyingOne h O3, 0) ∷ (NotifyingOne h O4, ticket) ∷ [])
-      w4 = walked_on s t u (a (NotifyingOne h O3)) (a (NotifyingOne h O4)) (a (NotifyingOne h (O5 ticket))) [] [] ((NotifyingOne h O3, 0) ∷ []) ((NotifyingOne h O4, ticket) ∷ []) w3
+      pub w4 : Walked s (at_place (NotifyingOne h O3) (stands_of s)) u (at_place (NotifyingOne h (O5 ticket)) (stands_of s)) []
+          ((NotifyingOne h O3, 0) ∷ (NotifyingOne h O4, ticket) ∷ [])
+      w4 = walked_on s t u (a (NotifyingOne h O3)) (a (NotifyingOne h O4)) (a (NotifyingOne h (O5 ticket))) [] []
+          ((NotifyingOne h O3, 0) ∷ []) ((NotifyingOne h O4, ticket) ∷ []) w3
           (walked_row t u (a (NotifyingOne h O4)) ticket (a (NotifyingOne h (O5 ticket))) [] row4 same d4.stands d4.told)
 
       record4 : HasRecord u
@@ -81,8 +84,10 @@ module _ (s : Token) (n h : ℕ) (seat : IsSeat s n) (at : (stands_of s).place �
         abbrev rows5 : List (ListPlace × ℕ)
         rows5 = (NotifyingOne h O3, 0) ∷ (NotifyingOne h O4, ticket) ∷ (NotifyingOne h (O5 ticket), waited) ∷ []
 
-        w5 : (p : ListPlace) → (if waited == ticket then NotifyingOne h O6 else NotifyingOne h (O7 ticket)) ≡ p → Walked s (a (NotifyingOne h O3)) x (a p) [] rows5
-        w5 p e = walked_on s u x (a (NotifyingOne h O3)) (a (NotifyingOne h (O5 ticket))) (a p) [] [] ((NotifyingOne h O3, 0) ∷ (NotifyingOne h O4, ticket) ∷ []) ((NotifyingOne h (O5 ticket), waited) ∷ []) w4
+        w5 : (p : ListPlace) → (if waited == ticket then NotifyingOne h O6 else NotifyingOne h (O7 ticket)) ≡ p
+            → Walked s (a (NotifyingOne h O3)) x (a p) [] rows5
+        w5 p e = walked_on s u x (a (NotifyingOne h O3)) (a (NotifyingOne h (O5 ticket))) (a p) [] []
+            ((NotifyingOne h O3, 0) ∷ (NotifyingOne h O4, ticket) ∷ []) ((NotifyingOne h (O5 ticket), waited) ∷ []) w4
             (walked_row u x (a (NotifyingOne h (O5 ticket))) waited (a p) [] row5 again (d5.stands ∙ ap a e) d5.told)
 
         pub record5 : HasRecord x
@@ -116,8 +121,10 @@ module _ (s : Token) (n h : ℕ) (seat : IsSeat s n) (at : (stands_of s).place �
 
           w6 : Walked s (stands_of s) z (a Rest) [] (finds_none h ticket)
           w6 = subst (λ (y : ListSeat). Walked s y z (a Rest) [] (finds_none h ticket)) (λ i. record (stands_of s) { place = sym at i })
-              (subst (λ k. Walked s (a (NotifyingOne h O3)) z (a Rest) [] ((NotifyingOne h O3, 0) ∷ (NotifyingOne h O4, ticket) ∷ (NotifyingOne h (O5 ticket), k) ∷ (NotifyingOne h O6, 1) ∷ [])) equal
-              (walked_on s x z (a (NotifyingOne h O3)) (a (NotifyingOne h O6)) (a Rest) [] [] rows5 ((NotifyingOne h O6, 1) ∷ []) (w5 (NotifyingOne h O6) (equal5 equal))
+              (subst (λ k. Walked s (a (NotifyingOne h O3)) z (a Rest) []
+              ((NotifyingOne h O3, 0) ∷ (NotifyingOne h O4, ticket) ∷ (NotifyingOne h (O5 ticket), k) ∷ (NotifyingOne h O6, 1) ∷ [])) equal
+              (walked_on s x z (a (NotifyingOne h O3)) (a (NotifyingOne h O6)) (a Rest) [] [] rows5
+              ((NotifyingOne h O6, 1) ∷ []) (w5 (NotifyingOne h O6) (equal5 equal))
               (walked_row x z (a (NotifyingOne h O6)) 1 (a Rest) [] row6 last d6.stands d6.told)))
 
           pub seat_none : IsSeat z n
@@ -132,7 +139,8 @@ module _ (s : Token) (n h : ℕ) (seat : IsSeat s n) (at : (stands_of s).place �
             comes_to s z n (stands_of s) (a Rest) [] (finds_none h ticket) w6,
             (ticket, calls s z n (stands_of s) (a Rest) [] (finds_none h ticket) seat.token_is w6),
             (let laws = laws_of (setting_of x) d6.world few5 d6.met in
-                let c = laws.calls.notified x.me.0.own.number h row6.also.there (subst (λ (y : ListPlace). Concludes d6.world y h) (sym (ap (λ (y : ListSeat). y.place) d6.stood)) (one_locked h)) in
+                let c = laws.calls.notified x.me.0.own.number h row6.also.there
+                (subst (λ (y : ListPlace). Concludes d6.world y h) (sym (ap (λ (y : ListSeat). y.place) d6.stood)) (one_locked h)) in
                 subst (λ (l : List ListEntry). h ≤ (told l).granted) (sym (seen_all row6 d6 d6.told)) c),
           )
 
@@ -146,7 +154,8 @@ module _ (s : Token) (n h : ℕ) (seat : IsSeat s n) (at : (stands_of s).place �
             list_is = w7.list_is ∙ own;
             there = let e = ap (λ (z : Setting). z.seats) setting5 in let i = number5 in let k = there_of s n seat.token_is in omega arith;
             few = few5;
-            empty = ap (λ (y : ListSeat). y.hand) w7.stands_is ∙ empty_there s.me.0.own seat.token_is.lands (there_of s n seat.token_is) seat.token_is.few seat.free;
+            empty = ap (λ (y : ListSeat). y.hand) w7.stands_is ∙ empty_there s.me.0.own seat.token_is.lands
+                (there_of s n seat.token_is) seat.token_is.few seat.free;
             at = ap (λ (y : ListSeat). y.place) w7.stands_is;
             record_is = record5;
           }
@@ -156,18 +165,22 @@ module _ (s : Token) (n h : ℕ) (seat : IsSeat s n) (at : (stands_of s).place �
             told9 = Granted ((told G.before).granted + 1) s.me.0.own.number ∷ []
 
             -- the rows before and those that granted
-            whole : (rows : List (ListPlace × ℕ)) → Walked x (stands_of x) z (at_place Rest (stands_of x)) (Granted ((told G.before).granted + 1) x.me.0.own.number ∷ []) rows
+            whole : (rows : List (ListPlace × ℕ))
+                → Walked x (stands_of x) z (at_place Rest (stands_of x)) (Granted ((told G.before).granted + 1) x.me.0.own.number ∷ []) rows
                 → Walked s (stands_of s) z (a Rest) told9 (rows5 ++ rows)
             whole rows y = subst (λ (b : ListSeat). Walked s b z (a Rest) told9 (rows5 ++ rows)) (λ i. record (stands_of s) { place = sym at i })
                 (walked_on s x z (a (NotifyingOne h O3)) (a (NotifyingOne h (O7 ticket))) (a Rest) [] told9 rows5 rows w7
-                (subst (λ (b : ListSeat × ℕ). Walked x b.0 z (at_place Rest b.0) (Granted ((told G.before).granted + 1) b.1 ∷ []) rows) (λ i. (w7.stands_is i, number5 i)) y))
+                (subst (λ (b : ListSeat × ℕ). Walked x b.0 z (at_place Rest b.0) (Granted ((told G.before).granted + 1) b.1 ∷ []) rows)
+                (λ i. (w7.stands_is i, number5 i)) y))
 
-            either : (Walked s (stands_of s) z (a Rest) told9 (rows5 ++ grant_rows h ticket)) ⊎ (Walked s (stands_of s) z (a Rest) told9 (rows5 ++ (grant_rows h ticket ++ grants_it h)))
+            either : (Walked s (stands_of s) z (a Rest) told9 (rows5 ++ grant_rows h ticket))
+                ⊎ (Walked s (stands_of s) z (a Rest) told9 (rows5 ++ (grant_rows h ticket ++ grants_it h)))
             either = ⊎_elim (λ y. inl (whole (grant_rows h ticket) y)) (λ y. inr (whole (grant_rows h ticket ++ grants_it h) y)) G.walked
 
             abbrev ending : Type 0
             ending = (IsToken z n) × (stands_of z ≡ a Rest) × ComesTo (seat_of s n) (a Rest) (seat_of z n)
-                × (Calls (seat_of s n) (stands_of s) (seat_of z n) told9 (finds_one h ticket waited) ⊎ Calls (seat_of s n) (stands_of s) (seat_of z n) told9 (finds_one h ticket waited ++ grants_it h))
+                × (Calls (seat_of s n) (stands_of s) (seat_of z n) told9 (finds_one h ticket waited)
+                ⊎ Calls (seat_of s n) (stands_of s) (seat_of z n) told9 (finds_one h ticket waited ++ grants_it h))
 
             ends : ending
             ends = ⊎_elim
@@ -199,13 +212,18 @@ module _ (s : Token) (n h : ℕ) (seat : IsSeat s n) (at : (stands_of s).place �
                 waited,
                 (told G.before).granted + 1,
                 unequal,
-                subst (λ i. Calls (seat_of s n) (stands_of s) (seat_of z n) (Granted ((told G.before).granted + 1) i ∷ []) (finds_one h ticket waited) ⊎ Calls (seat_of s n) (stands_of s) (seat_of z n) (Granted ((told G.before).granted + 1) i ∷ []) (finds_one h ticket waited ++ grants_it h))
+                subst (λ i. Calls (seat_of s n) (stands_of s) (seat_of z n) (Granted ((told G.before).granted + 1) i ∷ []) (finds_one h ticket waited)
+                    ⊎ Calls (seat_of s n) (stands_of s) (seat_of z n) (Granted ((told G.before).granted + 1) i ∷ [])
+                    (finds_one h ticket waited ++ grants_it h))
                     seat.token_is.number_is ends.3,
               ),
               record {
                 before = G.before;
-                later = goes_on_more (seen_of s) (seen_of x) G.before (walked_later s x (a (NotifyingOne h O3)) (a (NotifyingOne h (O7 ticket))) [] rows5 w7) G.later;
-                seen = subst (λ i. GoesOn (seen_of z) (G.before ++ Granted ((told G.before).granted + 1) i ∷ [])) (number5 ∙ seat.token_is.number_is) G.seen;
+                later =
+                    goes_on_more (seen_of s) (seen_of x) G.before
+                    (walked_later s x (a (NotifyingOne h O3)) (a (NotifyingOne h (O7 ticket))) [] rows5 w7) G.later;
+                seen =
+                    subst (λ i. GoesOn (seen_of z) (G.before ++ Granted ((told G.before).granted + 1) i ∷ [])) (number5 ∙ seat.token_is.number_is) G.seen;
                 handed = G.handed;
                 word_is = G.word_is ∙ ap (λ (z : Setting). Rattle.step_table.specs.Wrapping.word_of z.first (told G.before).granted) setting5;
               },

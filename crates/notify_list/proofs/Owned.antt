@@ -13,7 +13,8 @@ abbrev pub Made : Inside → Type 0
 Made x = IsList (list_by x).id (list_by x).setting x.seats
 
 -- the seat's list is this one
-pub own : (x : Inside) (s : Token) (n : ℕ) {l : ListModel} {seat : SeatModel} → list_by x ≡ l → seat_of s n ≡ seat → seat.list ≡ l → list_of s ≡ list_by x
+pub own : (x : Inside) (s : Token) (n : ℕ) {l : ListModel} {seat : SeatModel} → list_by x ≡ l → seat_of s n ≡ seat
+    → seat.list ≡ l → list_of s ≡ list_by x
 own x s n is seen of = ap (λ (y : SeatModel). y.list) seen ∙ of ∙ sym is
 
 -- a word before the first word of the sleepers lies in the list
@@ -24,7 +25,8 @@ pub grant_low : (x : Inside) → Made x → (i : ℕ) → i < x.words.table.shar
 grant_low x made i low = let w = made.words in omega arith
 
 -- a seat of the list may step
-pub owned : (x : Inside) → Made x → (s : Token) → list_of s ≡ list_by x → (s.table_id ≡ x.words.table.shared.table_id) × IsSomeones list_rows s.me.0
+pub owned : (x : Inside) → Made x → (s : Token) → list_of s ≡ list_by x
+    → (s.table_id ≡ x.words.table.shared.table_id) × IsSomeones list_rows s.me.0
 owned x made s own = (
   ap (λ (y : ListModel). y.id) own,
   subst (λ (y : ListModel). 0 < y.setting.seats) (sym own) (let a = made.some in let c = made.seated in omega arith),

@@ -45,7 +45,8 @@ pub own_between : (i : ℕ) (seen journal now : List ListEntry) → GoesOn journ
     → own_of i journal ≡ own_of i seen
 own_between i seen journal now one two own =
     let more : own_of i one.more ++ own_of i two.more ≡ [] = append_cancel_left (own_of i seen) (own_of i one.more ++ own_of i two.more) [] (
-    sym (append_assoc (own_of i seen) (own_of i one.more) (own_of i two.more)) ∙ ap (λ l. l ++ own_of i two.more) (sym (own_more i journal seen one)) ∙ sym (own_more i now journal two)
+    sym (append_assoc (own_of i seen) (own_of i one.more) (own_of i two.more)) ∙ ap (λ l. l ++ own_of i two.more)
+    (sym (own_more i journal seen one)) ∙ sym (own_more i now journal two)
     ∙ own ∙ filter-append (is_own i) seen []
     ) in
     own_more i journal seen one ∙ ap (λ l. own_of i seen ++ l) (none_first (own_of i one.more) (own_of i two.more) more) ∙ append-nil (own_of i seen)

@@ -1,5 +1,6 @@
 -- A wait from the lock to its end.
-use Rattle.std.proofs.Common.{◌≡◌, ℕ, ◌<◌, ◌≤◌, if◌then◌else◌, Bool, true, false, List, [], ◌∷◌, ◌++◌, length, Option, Some, None, inl, inr, sym, refl, ap, ◌∙◌}
+use Rattle.std.proofs.Common.{◌≡◌, ℕ, ◌<◌, ◌≤◌, if◌then◌else◌, Bool, true, false, List, [], ◌∷◌, ◌++◌, length, Option, Some}
+use Rattle.std.proofs.Common.{None, inl, inr, sym, refl, ap, ◌∙◌}
 use Rattle.std.proofs.Common.{subst, arith}
 use Rattle.running_rows.specs.Table.{rest}
 use Rattle.step_table.specs.declared.list_place.ListPlace.TheVariants.{Rest, Waiting}
@@ -48,11 +49,13 @@ module _ (s : Token) (n word : ℕ) (H : IsHolding s n word) where
       let same : H.ticket ≡ ticket = cc in subst (λ (k : Ticket). k.number < (told (seen_of x)).granted) same granted
 
   -- a row after which a wait returns finds its ticket granted
-  granted_by : (u x : Token) (a : ListSeat) (r : Ran a u.me.0.own 1 x.me.0.own) (d : Led a u.me.0.own 1 x.me.0.own r.stride) → u.me.0.own.number ≡ s.me.0.own.number → (setting_of u) ≡ setting_of s
+  granted_by : (u x : Token) (a : ListSeat) (r : Ran a u.me.0.own 1 x.me.0.own) (d : Led a u.me.0.own 1 x.me.0.own r.stride)
+      → u.me.0.own.number ≡ s.me.0.own.number → (setting_of u) ≡ setting_of s
       → r.stride.told ≡ [] → Returns d.world u.me.0.own.number H.ticket → H.ticket.number < (told (seen_of x)).granted
   granted_by u x a r d numbers settings none returns =
       let laws = laws_of (setting_of u) d.world (let e = ap (λ (z : Setting). z.seats) settings in let f = H.token_is.few in omega arith) d.met in
-      subst (λ (l : List ListEntry). H.ticket.number < (told l).granted) (sym (seen_all r d none)) (laws.calls.returned u.me.0.own.number H.ticket r.also.there returns).1
+      subst (λ (l : List ListEntry). H.ticket.number < (told l).granted) (sym (seen_all r d none))
+      (laws.calls.returned u.me.0.own.number H.ticket r.also.there returns).1
 
   -- how the seat stands under the lock, before its look
   abbrev at_look : ListSeat
@@ -74,11 +77,19 @@ module _ (s : Token) (n word : ℕ) (H : IsHolding s n word) where
 
       -- how it stands then, by what it found
       abbrev stands_by : Bool → ListSeat
-      stands_by b = record { place = if b then Waiting H.ticket W3 else Waiting H.ticket W4; ticket = None; hand = (stands_of s).hand; late = (stands_of u).late }
+      stands_by b =
+          record { place = if b then Waiting H.ticket W3 else Waiting H.ticket W4; ticket = None; hand = (stands_of s).hand; late = (stands_of u).late }
 
-      w2 : (b : Bool) → less word v ≡ b → Walked s (waiting (stands_of s)) u (stands_by b) [] ((Waiting H.ticket W1, 0) ∷ (Waiting H.ticket W2, v) ∷ [])
+      w2 : (b : Bool) → less word v ≡ b → Walked s (waiting (stands_of s)) u (stands_by b) []
+          ((Waiting H.ticket W1, 0) ∷ (Waiting H.ticket W2, v) ∷ [])
       w2 b e =
-          let a : ListSeat = record { place = if less H.ticket.word v then Waiting H.ticket W3 else Waiting H.ticket W4; ticket = None; hand = (stands_of s).hand; late = late_after (Waiting H.ticket W2) looked.world.words.numbers.granted (stands_of s).late } in
+          let a : ListSeat = record {
+            place = if less H.ticket.word v then Waiting H.ticket W3 else Waiting H.ticket W4;
+            ticket = None;
+            hand =
+                (stands_of s).hand;
+            late = late_after (Waiting H.ticket W2) looked.world.words.numbers.granted (stands_of s).late;
+          } in
           walked_so s u (waiting (stands_of s)) a (stands_by b) [] ((Waiting H.ticket W1, 0) ∷ (Waiting H.ticket W2, v) ∷ [])
           (walked_on s t u (waiting (stands_of s)) at_look a [] [] ((Waiting H.ticket W1, 0) ∷ []) ((Waiting H.ticket W2, v) ∷ []) w1
           (walked_row t u at_look v a [] look same looked.stands looked.told))
@@ -90,17 +101,24 @@ module _ (s : Token) (n word : ℕ) (H : IsHolding s n word) where
           })
 
       pub stands_looked : (b : Bool) → less word v ≡ b
-          → stands_of u ≡ record { place = if b then Waiting H.ticket W3 else Waiting H.ticket W4; ticket = None; hand = (stands_of s).hand; late = (stands_of u).late }
+          → stands_of u ≡ record {
+            place = if b then Waiting H.ticket W3 else Waiting H.ticket W4;
+            ticket = None;
+            hand = (stands_of s).hand;
+            late = (stands_of u).late;
+          }
       stands_looked b e = (w2 b e).stands_is
 
       pub record_looked : HasRecord u
-      record_looked = record_kept t u L.record_is (ap (λ (m : Me). m.1) r.1) (ap (λ (z : Setting). z.seats) look.same.1) (looked.queue ∙ sym (looked.held refl))
+      record_looked =
+          record_kept t u L.record_is (ap (λ (m : Me). m.1) r.1) (ap (λ (z : Setting). z.seats) look.same.1) (looked.queue ∙ sym (looked.held refl))
 
       pub number_looked : u.me.0.own.number ≡ n
       number_looked = look.same.0 ∙ w1.number_is ∙ H.token_is.number_is
 
       few_looked : (setting_of u).seats ≤ 256
-      few_looked = let a = ap (λ (z : Setting). z.seats) look.same.1 in let b = ap (λ (l : ListModel). l.setting.seats) w1.list_is in let f = H.token_is.few in omega arith
+      few_looked = let a = ap (λ (z : Setting). z.seats) look.same.1 in
+          let b = ap (λ (l : ListModel). l.setting.seats) w1.list_is in let f = H.token_is.few in omega arith
 
       pub has_room : less word v ≡ false → length (queue_of u) < (setting_of u).seats
       has_room e =
@@ -118,9 +136,12 @@ module _ (s : Token) (n word : ℕ) (H : IsHolding s n word) where
 
         w3 : Walked s (waiting (stands_of s)) x (record { place = Rest; ticket = None; hand = (stands_of s).hand; late = (stands_of u).late }) []
             ((Waiting H.ticket W1, 0) ∷ (Waiting H.ticket W2, v) ∷ (Waiting H.ticket W3, 1) ∷ [])
-        w3 = walked_on s u x (waiting (stands_of s)) (stands_by true) (record { place = Rest; ticket = None; hand = (stands_of s).hand; late = (stands_of u).late }) [] []
+        w3 =
+            walked_on s u x (waiting (stands_of s)) (stands_by true)
+            (record { place = Rest; ticket = None; hand = (stands_of s).hand; late = (stands_of u).late }) [] []
             ((Waiting H.ticket W1, 0) ∷ (Waiting H.ticket W2, v) ∷ []) ((Waiting H.ticket W3, 1) ∷ []) (w2 true found_it)
-            (walked_row u x (stands_by true) 1 (record { place = Rest; ticket = None; hand = (stands_of s).hand; late = (stands_of u).late }) [] leave again left.stands left.told)
+            (walked_row u x (stands_by true) 1 (record { place = Rest; ticket = None; hand = (stands_of s).hand; late = (stands_of u).late })
+            [] leave again left.stands left.told)
 
         bare_left : x.me.1 ≡ []
         bare_left = ap (λ (m : Me). m.1) q.2 ∙ ap rest record_looked.1
@@ -145,15 +166,19 @@ module _ (s : Token) (n word : ℕ) (H : IsHolding s n word) where
           );
           comes = comes_to s x n (waiting (stands_of s)) (record { place = Rest; ticket = None; hand = (stands_of s).hand; late = (stands_of x).late }) []
               ((Waiting H.ticket W1, 0) ∷ (Waiting H.ticket W2, v) ∷ (Waiting H.ticket W3, 1) ∷ [])
-              (subst (λ k. Walked s (waiting (stands_of s)) x (record { place = Rest; ticket = None; hand = (stands_of s).hand; late = k }) [] ((Waiting H.ticket W1, 0) ∷ (Waiting H.ticket W2, v) ∷ (Waiting H.ticket W3, 1) ∷ []))
+              (subst (λ k. Walked s (waiting (stands_of s)) x (record { place = Rest; ticket = None; hand = (stands_of s).hand; late = k }) []
+              ((Waiting H.ticket W1, 0) ∷ (Waiting H.ticket W2, v) ∷ (Waiting H.ticket W3, 1) ∷ []))
               (sym (ap (λ (a : ListSeat). a.late) w3.stands_is)) w3);
         }
 
         pub granted_at_once : IsGranted (seat_of s n) (seat_of x n)
-        granted_at_once = its_ticket x (granted_by u x (stands_by true) leave left (w2 true found_it).number_is (ap (λ (l : ListModel). l.setting) (w2 true found_it).list_is) left.told (inl (ap (λ (a : ListSeat). a.place) left.stood)))
+        granted_at_once =
+            its_ticket x (granted_by u x (stands_by true) leave left (w2 true found_it).number_is
+            (ap (λ (l : ListModel). l.setting) (w2 true found_it).list_is) left.told (inl (ap (λ (a : ListSeat). a.place) left.stood)))
 
       -- W4 and P, and the end
-      module _ (y x : Token) (not_found : less word v ≡ false) (E : Edited u ((queue_of u) ++ wait_for u.me.0.own.number H.ticket ∷ []) y) (q : Gave y x) (again : x.table_id ≡ y.table_id) where
+      module _ (y x : Token) (not_found : less word v ≡ false) (E : Edited u ((queue_of u) ++ wait_for u.me.0.own.number H.ticket ∷ []) y) (q : Gave y x)
+          (again : x.table_id ≡ y.table_id) where
         queued_row : Ran (stands_by false) u.me.0.own 1 x.me.0.own
         queued_row = gave_from u y x (stands_by false) (ap (λ (m : Me). m.0.own) E.1.1) (stands_looked false not_found) refl few_looked (λ g. refl) q
 
@@ -163,8 +188,10 @@ module _ (s : Token) (n word : ℕ) (H : IsHolding s n word) where
         abbrev at_park : ListSeat
         at_park = record { place = Waiting H.ticket P; ticket = None; hand = (stands_of s).hand; late = (stands_of u).late }
 
-        pub w4 : Walked s (waiting (stands_of s)) x (record { place = Waiting H.ticket P; ticket = None; hand = (stands_of s).hand; late = (stands_of u).late }) [] ((Waiting H.ticket W1, 0) ∷ (Waiting H.ticket W2, v) ∷ (Waiting H.ticket W4, 1) ∷ [])
-        w4 = walked_on s u x (waiting (stands_of s)) (stands_by false) at_park [] [] ((Waiting H.ticket W1, 0) ∷ (Waiting H.ticket W2, v) ∷ []) ((Waiting H.ticket W4, 1) ∷ []) (w2 false not_found)
+        pub w4 : Walked s (waiting (stands_of s)) x (record { place = Waiting H.ticket P; ticket = None; hand = (stands_of s).hand; late = (stands_of u).late })
+            [] ((Waiting H.ticket W1, 0) ∷ (Waiting H.ticket W2, v) ∷ (Waiting H.ticket W4, 1) ∷ [])
+        w4 = walked_on s u x (waiting (stands_of s)) (stands_by false) at_park [] [] ((Waiting H.ticket W1, 0) ∷ (Waiting H.ticket W2, v) ∷ [])
+            ((Waiting H.ticket W4, 1) ∷ []) (w2 false not_found)
             (walked_row u x (stands_by false) 1 at_park [] queued_row (again ∙ E.0) queued.stands queued.told)
 
         few_parked : (setting_of x).seats ≤ 256
@@ -179,17 +206,22 @@ module _ (s : Token) (n word : ℕ) (H : IsHolding s n word) where
 
           w5 : Walked s (waiting (stands_of s)) z (record { place = Rest; ticket = None; hand = (stands_of s).hand; late = (stands_of u).late }) []
               ((Waiting H.ticket W1, 0) ∷ (Waiting H.ticket W2, v) ∷ (Waiting H.ticket W4, 1) ∷ (Waiting H.ticket P, 1) ∷ [])
-          w5 = walked_on s x z (waiting (stands_of s)) at_park (record { place = Rest; ticket = None; hand = (stands_of s).hand; late = (stands_of u).late }) [] []
+          w5 =
+              walked_on s x z (waiting (stands_of s)) at_park (record { place = Rest; ticket = None; hand = (stands_of s).hand; late = (stands_of u).late })
+              [] []
               ((Waiting H.ticket W1, 0) ∷ (Waiting H.ticket W2, v) ∷ (Waiting H.ticket W4, 1) ∷ []) ((Waiting H.ticket P, 1) ∷ []) w4
-              (walked_row x z at_park 1 (record { place = Rest; ticket = None; hand = (stands_of s).hand; late = (stands_of u).late }) [] woke woken awake.stands awake.told)
+              (walked_row x z at_park 1 (record { place = Rest; ticket = None; hand = (stands_of s).hand; late = (stands_of u).late })
+              [] woke woken awake.stands awake.told)
 
           bare_woken : z.me.1 ≡ []
           bare_woken = ap (λ (m : Me). m.1) p.1 ∙ ap (λ (m : Me). m.1) q.2 ∙ ap (λ (m : Me). rest m.1) E.1.1
 
           pub seat_parked : IsSeat z n
           seat_parked = record {
-            token_is = token_after s z n (waiting (stands_of s)) (record { place = Rest; ticket = None; hand = (stands_of s).hand; late = (stands_of u).late }) []
-                ((Waiting H.ticket W1, 0) ∷ (Waiting H.ticket W2, v) ∷ (Waiting H.ticket W4, 1) ∷ (Waiting H.ticket P, 1) ∷ []) H.token_is w5 bare_woken;
+            token_is =
+                token_after s z n (waiting (stands_of s)) (record { place = Rest; ticket = None; hand = (stands_of s).hand; late = (stands_of u).late }) []
+                ((Waiting H.ticket W1, 0) ∷ (Waiting H.ticket W2, v) ∷ (Waiting H.ticket W4, 1) ∷ (Waiting H.ticket P, 1) ∷ [])
+                H.token_is w5 bare_woken;
             free = ap (λ (a : ListSeat). is_free a.place) w5.stands_is;
             holds_none = ap (λ (a : ListSeat). a.ticket) w5.stands_is;
           }
@@ -206,7 +238,8 @@ module _ (s : Token) (n word : ℕ) (H : IsHolding s n word) where
             );
             comes = comes_to s z n (waiting (stands_of s)) (record { place = Rest; ticket = None; hand = (stands_of s).hand; late = (stands_of z).late }) []
                 ((Waiting H.ticket W1, 0) ∷ (Waiting H.ticket W2, v) ∷ (Waiting H.ticket W4, 1) ∷ (Waiting H.ticket P, 1) ∷ [])
-                (subst (λ k. Walked s (waiting (stands_of s)) z (record { place = Rest; ticket = None; hand = (stands_of s).hand; late = k }) [] ((Waiting H.ticket W1, 0) ∷ (Waiting H.ticket W2, v) ∷ (Waiting H.ticket W4, 1) ∷ (Waiting H.ticket P, 1) ∷ []))
+                (subst (λ k. Walked s (waiting (stands_of s)) z (record { place = Rest; ticket = None; hand = (stands_of s).hand; late = k }) []
+                ((Waiting H.ticket W1, 0) ∷ (Waiting H.ticket W2, v) ∷ (Waiting H.ticket W4, 1) ∷ (Waiting H.ticket P, 1) ∷ []))
                 (sym (ap (λ (a : ListSeat). a.late) w5.stands_is)) w5);
           }
 

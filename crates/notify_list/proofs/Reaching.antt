@@ -1,5 +1,6 @@
 -- The rows by which a notification of all grants.
-use Rattle.std.proofs.Common.{◌≡◌, ◌≢◌, ℕ, zero, suc, ◌+◌, ◌≤◌, ◌==◌, if◌then◌else◌, Bool, true, false, List, [], ◌∷◌, ◌++◌, sym, refl, ap, ◌∙◌, subst, arith}
+use Rattle.std.proofs.Common.{◌≡◌, ◌≢◌, ℕ, zero, suc, ◌+◌, ◌≤◌, ◌==◌, if◌then◌else◌, Bool, true, false, List, [], ◌∷◌}
+use Rattle.std.proofs.Common.{◌++◌, sym, refl, ap, ◌∙◌, subst, arith}
 use Rattle.std.proofs.Common.{append-nil}
 use native.Mathlib.Decide.{ℕ_discrete}
 use Rattle.waiters.specs.declared.wait.Wait.{Wait}
@@ -50,11 +51,13 @@ l6_told i first g handed notified waited n sum low high few = by (ℕ_discrete n
     some_granted (suc m) e ne = refl
 
     by : Dec (notified ≡ waited) → entries_of i (if notified == waited then Nothing else Grants handed) ≡ all_entries i handed n
-    by (yes e) = ap (λ (x : ListEffect). entries_of i x) (if_equal notified waited Nothing (Grants handed) e) ∙ ap (all_entries i handed) (sym (same_words e))
+    by (yes e) =
+        ap (λ (x : ListEffect). entries_of i x) (if_equal notified waited Nothing (Grants handed) e) ∙ ap (all_entries i handed) (sym (same_words e))
     by (no ne) = ap (λ (x : ListEffect). entries_of i x) (if_unequal notified waited Nothing (Grants handed) ne) ∙ some_granted n refl ne
 
 -- and nothing of the seat but its place
-l6_seat : (b : Bool) (h handed : ℕ) (r : Reach) (g : ListWords) (p : ListPlace) (y : ListSeat) → seat_after g (p, if b then Nothing else Grants handed) (at_place (NotifyingAll h (L6 r)) y) ≡ at_place p y
+l6_seat : (b : Bool) (h handed : ℕ) (r : Reach) (g : ListWords) (p : ListPlace) (y : ListSeat)
+    → seat_after g (p, if b then Nothing else Grants handed) (at_place (NotifyingAll h (L6 r)) y) ≡ at_place p y
 l6_seat true h handed r g p y = refl
 l6_seat false h handed r g p y = refl
 
@@ -77,7 +80,8 @@ module _ (l : ListModel) (s : Token) (h : ℕ) (may : MayReach l s h) where
     d4 : Led (a (NotifyingAll h L4)) s.me.0.own notified t.me.0.own row4.stride
     d4 = led (a (NotifyingAll h L4)) s.me.0.own t.me.0.own notified row4
 
-    pub w4 : Walked s (at_place (NotifyingAll h L4) (stands_of s)) t (at_place (NotifyingAll h (L5 notified)) (stands_of s)) [] ((NotifyingAll h L4, notified) ∷ [])
+    pub w4 : Walked s (at_place (NotifyingAll h L4) (stands_of s)) t (at_place (NotifyingAll h (L5 notified)) (stands_of s))
+        [] ((NotifyingAll h L4, notified) ∷ [])
     w4 = walked_row s t (a (NotifyingAll h L4)) notified (a (NotifyingAll h (L5 notified))) [] row4 same d4.stands d4.told
 
     record4 : HasRecord t
@@ -94,9 +98,11 @@ module _ (l : ListModel) (s : Token) (h : ℕ) (may : MayReach l s h) where
       abbrev reach : Reach
       reach = record { notified = notified; waited = waited; handed = d5.world.words.numbers.handed }
 
-      pub w5 : Walked s (at_place (NotifyingAll h L4) (stands_of s)) u (at_place (NotifyingAll h (L6 (record { notified = notified; waited = waited; handed = d5.world.words.numbers.handed }))) (stands_of s)) []
+      pub w5 : Walked s (at_place (NotifyingAll h L4) (stands_of s)) u
+          (at_place (NotifyingAll h (L6 (record { notified = notified; waited = waited; handed = d5.world.words.numbers.handed }))) (stands_of s)) []
           ((NotifyingAll h L4, notified) ∷ (NotifyingAll h (L5 notified), waited) ∷ [])
-      w5 = walked_on s t u (a (NotifyingAll h L4)) (a (NotifyingAll h (L5 notified))) (a (NotifyingAll h (L6 reach))) [] [] ((NotifyingAll h L4, notified) ∷ []) ((NotifyingAll h (L5 notified), waited) ∷ []) w4
+      w5 = walked_on s t u (a (NotifyingAll h L4)) (a (NotifyingAll h (L5 notified))) (a (NotifyingAll h (L6 reach))) [] []
+          ((NotifyingAll h L4, notified) ∷ []) ((NotifyingAll h (L5 notified), waited) ∷ []) w4
           (walked_row t u (a (NotifyingAll h (L5 notified))) waited (a (NotifyingAll h (L6 reach))) [] row5 again d5.stands d5.told)
 
       record5 : HasRecord u
@@ -129,19 +135,27 @@ module _ (l : ListModel) (s : Token) (h : ℕ) (may : MayReach l s h) where
         few_granted = let r = reaches6 in let f = laws6.calls.few in let k = few6 in omega arith
 
         told6 : row6.stride.told ≡ all_entries s.me.0.own.number d5.world.words.numbers.handed (minus waited notified)
-        told6 = d6.told ∙ l6_told u.me.0.own.number (setting_of u).first (told d6.world.journal).granted d5.world.words.numbers.handed notified waited (minus waited notified)
+        told6 =
+            d6.told ∙ l6_told u.me.0.own.number (setting_of u).first (told d6.world.journal).granted
+            d5.world.words.numbers.handed notified waited (minus waited notified)
             reaches6.0 reaches6.1 reaches6.2 few_granted
             ∙ ap (λ i. all_entries i d5.world.words.numbers.handed (minus waited notified)) w5.number_is
 
         read6 : n6 ≡ notified
         read6 = d6.read ∙ laws6.invariant.words.1 ∙ ap (λ (y : Numbers). word_of (setting_of u).first y.granted) laws6.invariant.numbers ∙ sym reaches6.1
 
-        w6 : Walked s (a (NotifyingAll h L4)) x (a (NotifyingAll h (L7 (minus waited notified)))) (all_entries s.me.0.own.number d5.world.words.numbers.handed (minus waited notified))
+        w6 : Walked s (a (NotifyingAll h L4)) x (a (NotifyingAll h (L7 (minus waited notified))))
+            (all_entries s.me.0.own.number d5.world.words.numbers.handed (minus waited notified))
             (reach_rows h notified waited d5.world.words.numbers.handed)
-        w6 = walked_on s u x (a (NotifyingAll h L4)) (a (NotifyingAll h (L6 reach))) (a (NotifyingAll h (L7 (minus waited notified)))) [] (all_entries s.me.0.own.number d5.world.words.numbers.handed (minus waited notified))
+        w6 = walked_on s u x (a (NotifyingAll h L4)) (a (NotifyingAll h (L6 reach))) (a (NotifyingAll h (L7 (minus waited notified)))) []
+            (all_entries s.me.0.own.number d5.world.words.numbers.handed (minus waited notified))
             ((NotifyingAll h L4, notified) ∷ (NotifyingAll h (L5 notified), waited) ∷ []) ((NotifyingAll h (L6 reach), notified) ∷ []) w5
-            (subst (λ k. Walked u (a (NotifyingAll h (L6 reach))) x (a (NotifyingAll h (L7 (minus waited notified)))) (all_entries s.me.0.own.number d5.world.words.numbers.handed (minus waited notified)) ((NotifyingAll h (L6 reach), k) ∷ [])) read6
-            (walked_row u x (a (NotifyingAll h (L6 reach))) n6 (a (NotifyingAll h (L7 (minus waited notified)))) (all_entries s.me.0.own.number d5.world.words.numbers.handed (minus waited notified)) row6 last (d6.stands ∙ l6_seat (notified == waited) h d5.world.words.numbers.handed reach d6.world.words (NotifyingAll h (L7 (minus waited notified))) (stands_of s)) told6))
+            (subst (λ k. Walked u (a (NotifyingAll h (L6 reach))) x (a (NotifyingAll h (L7 (minus waited notified))))
+            (all_entries s.me.0.own.number d5.world.words.numbers.handed (minus waited notified)) ((NotifyingAll h (L6 reach), k) ∷ [])) read6
+            (walked_row u x (a (NotifyingAll h (L6 reach))) n6 (a (NotifyingAll h (L7 (minus waited notified))))
+            (all_entries s.me.0.own.number d5.world.words.numbers.handed (minus waited notified)) row6 last
+            (d6.stands ∙ l6_seat (notified == waited) h d5.world.words.numbers.handed reach d6.world.words
+            (NotifyingAll h (L7 (minus waited notified))) (stands_of s)) told6))
 
         seen5 : seen_of u ≡ row5.stride.seen
         seen5 = d5.seen ∙ ap (λ l. row5.stride.seen ++ l) d5.told ∙ append-nil row5.stride.seen
@@ -151,17 +165,24 @@ module _ (l : ListModel) (s : Token) (h : ℕ) (may : MayReach l s h) where
           notified = notified;
           waited = waited;
           handed = d5.world.words.numbers.handed;
-          walked = subst (λ (b : ListSeat). Walked s b x (a (NotifyingAll h (L7 (minus waited notified)))) (all_entries s.me.0.own.number d5.world.words.numbers.handed (minus waited notified)) (reach_rows h notified waited d5.world.words.numbers.handed))
+          walked =
+              subst (λ (b : ListSeat). Walked s b x (a (NotifyingAll h (L7 (minus waited notified))))
+              (all_entries s.me.0.own.number d5.world.words.numbers.handed (minus waited notified))
+              (reach_rows h notified waited d5.world.words.numbers.handed))
               (sym stands4) w6;
-          record_is = record_kept u x record5 (ap (λ (m : Me). m.1) p.1) (ap (λ (z : Setting). z.seats) row6.same.1) (d6.queue ∙ l6_queue (notified == waited) d5.world.words.numbers.handed d6.world.words.queue ∙ sym (d6.held refl));
+          record_is = record_kept u x record5 (ap (λ (m : Me). m.1) p.1) (ap (λ (z : Setting). z.seats) row6.same.1)
+              (d6.queue ∙ l6_queue (notified == waited) d5.world.words.numbers.handed d6.world.words.queue ∙ sym (d6.held refl));
           look = row5.stride.seen;
           before = row6.stride.seen;
-          first = goes_on_more (seen_of s) (seen_of t) row5.stride.seen (walked_later s t (a (NotifyingAll h L4)) (a (NotifyingAll h (L5 notified))) [] ((NotifyingAll h L4, notified) ∷ []) w4) d5.later;
+          first =
+              goes_on_more (seen_of s) (seen_of t) row5.stride.seen
+              (walked_later s t (a (NotifyingAll h L4)) (a (NotifyingAll h (L5 notified))) [] ((NotifyingAll h L4, notified) ∷ []) w4) d5.later;
           later = subst (λ l. GoesOn row6.stride.seen l) seen5 d6.later;
           seen = d6.seen ∙ ap (λ l. row6.stride.seen ++ l) told6;
           reaches = reaches6.4;
           counted = let r = reaches6.0 in let e = ap (λ (y : Numbers). y.granted) numbers6 in omega arith;
-          all = let laws5 = laws_of (setting_of t) d5.world few5 d5.met in ap (λ (y : Numbers). y.handed) (laws5.invariant.numbers ∙ ap told (sym d5.seen_is));
+          all =
+              let laws5 = laws_of (setting_of t) d5.world few5 d5.met in ap (λ (y : Numbers). y.handed) (laws5.invariant.numbers ∙ ap told (sym d5.seen_is));
         }
           where
             few5 : (setting_of t).seats ≤ 256

@@ -1,5 +1,6 @@
 -- Where one view has every seat of the list, and all may begin a call and hold no ticket, all is granted and nothing is left.
-use Rattle.std.proofs.Common.{◌≡◌, ◌≢◌, ◌⊎◌, ℕ, zero, suc, Bool, true, false, ◌||◌, ◌<◌, ◌≤◌, eqb, List, [], ◌∷◌, length, map, slice_index, None, sym, refl, ap}
+use Rattle.std.proofs.Common.{◌≡◌, ◌≢◌, ◌⊎◌, ℕ, zero, suc, Bool, true, false, ◌||◌, ◌<◌, ◌≤◌, eqb, List, [], ◌∷◌}
+use Rattle.std.proofs.Common.{length, map, slice_index, None, sym, refl, ap}
 use Rattle.std.proofs.Common.{◌∙◌, subst, inl, inr, arith}
 use Rattle.std.proofs.lemmas.Bool.Decides.{nat_tests}
 use Rattle.std.proofs.lemmas.Bool.{cases_Bool}
@@ -126,7 +127,8 @@ record Rested (z : Setting) (was : ListWorld) (n : ℕ) : Type 0 where
 
 all_rest : (z : Setting) (was : ListWorld) → IsMet z was → ((k : ℕ) → k < z.seats → is_free (was.seats k).place ≡ true) → (n : ℕ)
     → n ≤ z.seats → Rested z was n
-all_rest z was met free zero low = record { world = was; met = met; words = refl; journal = refl; rest = λ k h. absurd (omega arith); tickets = λ k. refl; others = λ k h. refl }
+all_rest z was met free zero low =
+    record { world = was; met = met; words = refl; journal = refl; rest = λ k h. absurd (omega arith); tickets = λ k. refl; others = λ k h. refl }
 all_rest z was met free (suc n) low =
     let o = all_rest z was met free n (omega arith) in let at = ap (λ (y : ListSeat). is_free y.place) (o.others n (omega arith)) in
     let a : ListSeat = at_place Rest (o.world.seats n) in record {
@@ -138,12 +140,14 @@ all_rest z was met free (suc n) low =
           (λ q. subst (λ (j : ℕ). (put o.world.seats n a j).place ≡ Rest) (sym q) (ap (λ (y : ListSeat). y.place) (put_here o.world.seats n a)))
           (λ ne. ap (λ (y : ListSeat). y.place) (put_else o.world.seats n a k ne) ∙ o.rest k (omega arith));
       tickets = λ k. dite (ℕ_discrete k n)
-          (λ q. subst (λ (j : ℕ). (put o.world.seats n a j).ticket ≡ (was.seats j).ticket) (sym q) (ap (λ (y : ListSeat). y.ticket) (put_here o.world.seats n a) ∙ o.tickets n))
+          (λ q. subst (λ (j : ℕ). (put o.world.seats n a j).ticket ≡ (was.seats j).ticket) (sym q)
+          (ap (λ (y : ListSeat). y.ticket) (put_here o.world.seats n a) ∙ o.tickets n))
           (λ ne. ap (λ (y : ListSeat). y.ticket) (put_else o.world.seats n a k ne) ∙ o.tickets k);
       others = λ k h. put_else o.world.seats n a k (λ q. absurd (omega arith)) ∙ o.others k (omega arith);
     }
 
-module _ (z : Setting) (s : State Record ListView) (r : IsKept list_rows z s) (id : ℕ) (v : ListView) (someones : IsSomeones list_rows v) (at : get_elem? s.views id ≡ some v) (seats : List SeatModel) (are : AreSeatsOf (v.own ∷ v.guests) seats) (full : length seats ≡ z.seats) where
+module _ (z : Setting) (s : State Record ListView) (r : IsKept list_rows z s) (id : ℕ) (v : ListView) (someones : IsSomeones list_rows v)
+    (at : get_elem? s.views id ≡ some v) (seats : List SeatModel) (are : AreSeatsOf (v.own ∷ v.guests) seats) (full : length seats ≡ z.seats) where
   abbrev all : List OneSeat
   all = v.own ∷ v.guests
 
@@ -179,7 +183,8 @@ module _ (z : Setting) (s : State Record ListView) (r : IsKept list_rows z s) (i
   has_seen t e =
       let o = guest_for all seats are t e in let m = (sits o.0 o.1).knows.meets in (
         subst (GoesOn r.world.journal) o.2.seen m.later,
-        subst (λ (y : ℕ × List ListEntry). own_entries (watched z) y.0 r.world.journal ≡ own_entries (watched z) y.0 y.1) (λ i. (o.2.number_is i, o.2.seen i)) m.quiet,
+        subst (λ (y : ℕ × List ListEntry). own_entries (watched z) y.0 r.world.journal ≡ own_entries (watched z) y.0 y.1)
+            (λ i. (o.2.number_is i, o.2.seen i)) m.quiet,
       )
 
   pub is_closed : (c : ListClosed) → c.next ≡ slice_index s.words 0 → c.notified ≡ slice_index s.words 1 → IsClosed z seats c
@@ -198,7 +203,8 @@ module _ (z : Setting) (s : State Record ListView) (r : IsKept list_rows z s) (i
         history = r.history;
         writes = subst (Writes list_rows [] r.history) (sym rested.journal) r.writes;
         by_seats = λ h e. let a = r.by_seats h e in let f = r.fits in omega arith;
-        went = λ t e. let o = guest_for all seats are t e in ap (λ (n : ℕ). strides_of n r.history) (sym o.2.number_is) ∙ (sits o.0 o.1).went ∙ o.2.went;
+        went =
+            λ t e. let o = guest_for all seats are t e in ap (λ (n : ℕ). strides_of n r.history) (sym o.2.number_is) ∙ (sits o.0 o.1).went ∙ o.2.went;
         granted = sym told_all.0;
         next = next ∙ r.shows.words Wait tt ∙ ap (λ g. g.wait) (sym rested.words) ∙ laws.lawful.journal.1;
         notified = notified ∙ r.shows.words Notify tt ∙ ap (λ g. g.notify) (sym rested.words) ∙ laws.lawful.journal.2;

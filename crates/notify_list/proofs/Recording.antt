@@ -1,5 +1,6 @@
 -- The record while a seat holds the lock.
-use Rattle.std.proofs.Common.{◌≡◌, ℕ, ◌+◌, ◌==◌, if◌then◌else◌, Bool, true, false, List, [], ◌∷◌, length, Option, Some, None, IsSome, unwrap_or, sym, refl, ap}
+use Rattle.std.proofs.Common.{◌≡◌, ℕ, ◌+◌, ◌==◌, if◌then◌else◌, Bool, true, false, List, [], ◌∷◌, length, Option, Some, None}
+use Rattle.std.proofs.Common.{IsSome, unwrap_or, sym, refl, ap}
 use Rattle.std.proofs.Common.{◌∙◌, subst, arith}
 use Rattle.running_rows.specs.Table.{rest}
 use Rattle.running_rows.specs.Lent.{seat_with}
@@ -45,11 +46,13 @@ pub changed_open : (y : Lists) (z : Lists) (key : ℕ) (l : List Wait) → Chang
 changed_open y z key l c = (subst IsSome (sym c.there) refl, ap (λ o. unwrap_or o []) c.there)
 
 -- no wait has the ticket
-pub out_none : (s : Token) (y : Record) (lists : Lists) (ticket : ℕ) → HasRecord s → IsRecord (setting_of s).seats y (queue_of s) → None ≡ first_with ticket (waits_at y.lists y.key) → lists ≡ y.lists
+pub out_none : (s : Token) (y : Record) (lists : Lists) (ticket : ℕ) → HasRecord s → IsRecord (setting_of s).seats y (queue_of s)
+    → None ≡ first_with ticket (waits_at y.lists y.key) → lists ≡ y.lists
     → IsOut s ticket None (seat_with s 0 (record y { lists = lists }))
 out_none s y lists ticket h is first same = (
   by (first_with ticket (queue_of s)) (first ∙ ap (first_with ticket) is.waits ∙ first_erased ticket (queue_of s)),
-  edited s (record y { lists = lists }) (queue_of s) h (subst (λ (l : Lists). IsRecord (setting_of s).seats (record y { lists = l }) (queue_of s)) (sym same) is),
+  edited s (record y { lists = lists }) (queue_of s) h
+      (subst (λ (l : Lists). IsRecord (setting_of s).seats (record y { lists = l }) (queue_of s)) (sym same) is),
 )
   where
     by : (f : Option Wait) → None ≡ erased_found f → f ≡ None
@@ -57,11 +60,15 @@ out_none s y lists ticket h is first same = (
     by (Some x) e = absurd cc
 
 -- the first with the ticket was taken out
-pub out_some : (s : Token) (y : Record) (lists : Lists) (ticket seat : ℕ) (wait : Wait) → HasRecord s → IsRecord (setting_of s).seats y (queue_of s) → Some wait ≡ first_with ticket (waits_at y.lists y.key)
-    → Changes y.lists lists y.key (Some (without_first ticket (waits_at y.lists y.key))) → lists.room ≡ y.lists.room + 1 → seat ≡ wait.id.seat → IsOut s ticket (Some seat) (seat_with s 0 (record y { lists = lists }))
-out_some s y lists ticket seat wait h is first change room same = by (first_with ticket (queue_of s)) refl (first ∙ ap (first_with ticket) is.waits ∙ first_erased ticket (queue_of s))
+pub out_some : (s : Token) (y : Record) (lists : Lists) (ticket seat : ℕ) (wait : Wait) → HasRecord s → IsRecord (setting_of s).seats y (queue_of s)
+    → Some wait ≡ first_with ticket (waits_at y.lists y.key)
+    → Changes y.lists lists y.key (Some (without_first ticket (waits_at y.lists y.key))) → lists.room ≡ y.lists.room + 1 → seat ≡ wait.id.seat
+    → IsOut s ticket (Some seat) (seat_with s 0 (record y { lists = lists }))
+out_some s y lists ticket seat wait h is first change room same =
+    by (first_with ticket (queue_of s)) refl (first ∙ ap (first_with ticket) is.waits ∙ first_erased ticket (queue_of s))
   where
-    by : (f : Option Wait) → first_with ticket (queue_of s) ≡ f → Some wait ≡ erased_found f → IsOut s ticket (Some seat) (seat_with s 0 (record y { lists = lists }))
+    by : (f : Option Wait) → first_with ticket (queue_of s) ≡ f → Some wait ≡ erased_found f
+        → IsOut s ticket (Some seat) (seat_with s 0 (record y { lists = lists }))
     by None e b = absurd cc
     by (Some x) e b =
         let is_it : wait ≡ erased_wait x = cc in
@@ -77,7 +84,8 @@ out_some s y lists ticket seat wait h is first change room same = by (first_with
         )
 
 -- a row that leaves the list of waits leaves the record
-pub record_kept : (s t : Token) → HasRecord s → t.me.1 ≡ s.me.1 → (setting_of t).seats ≡ (setting_of s).seats → (queue_of t) ≡ queue_of s → HasRecord t
+pub record_kept : (s t : Token) → HasRecord s → t.me.1 ≡ s.me.1 → (setting_of t).seats ≡ (setting_of s).seats
+    → (queue_of t) ≡ queue_of s → HasRecord t
 record_kept s t h slots seats queue = (h.0, slots ∙ h.1, subst (λ (q : ℕ × List Wait). IsRecord q.0 h.0 q.1) (λ i. (sym seats i, sym queue i)) h.2)
 
 -- it is of the list still
@@ -86,7 +94,8 @@ list_edited s t queue E = λ i. record { id = E.0 i; setting = (E.1.1 i).0.own.k
 
 -- the lock may be given back with what the row makes of the list
 pub gives_edited : (k : Setting) (s t : Token) (a : ListSeat) → stands_of s ≡ a → (queue : List Wait) → Edited s queue t → holds a.place ≡ 1
-    → ((w : ListWorld) → (queue_of s) ≡ w.words.queue → Fits (setting_of s) (list_table s.me.0.own.number a w.words) 2 1 0 × (queue_after ((list_table s.me.0.own.number a w.words).leads 1).1 (queue_of s) ≡ queue))
+    → ((w : ListWorld) → (queue_of s) ≡ w.words.queue → Fits (setting_of s) (list_table s.me.0.own.number a w.words) 2 1 0
+    × (queue_after ((list_table s.me.0.own.number a w.words).leads 1).1 (queue_of s) ≡ queue))
     → GivesBack k t.me
 gives_edited k s t a is queue E holding ready =
     subst (GivesBack k) (sym E.1.1)
@@ -95,7 +104,8 @@ gives_edited k s t a is queue E holding ready =
 
 -- and where the row leaves the list
 pub gives_plain : (k : Setting) (s : Token) (a : ListSeat) → stands_of s ≡ a → HasRecord s → holds a.place ≡ 1
-    → ((w : ListWorld) → Fits (setting_of s) (list_table s.me.0.own.number a w.words) 2 1 0 × (queue_after ((list_table s.me.0.own.number a w.words).leads 1).1 (queue_of s) ≡ queue_of s))
+    → ((w : ListWorld) → Fits (setting_of s) (list_table s.me.0.own.number a w.words) 2 1 0
+    × (queue_after ((list_table s.me.0.own.number a w.words).leads 1).1 (queue_of s) ≡ queue_of s))
     → GivesBack k s.me
 gives_plain k s a is h holding ready =
     gives_at k s.me a is h.0 h.1 holding (λ w e. let r = ready w in record { fits = r.0; is_record = subst (IsRecord (setting_of s).seats h.0) (sym r.1) h.2 })

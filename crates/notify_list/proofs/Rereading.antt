@@ -36,7 +36,8 @@ stays : (first seats i : ℕ) (v w : ListSight) (strides : List ListStride) → 
 stays first seats i v w [] path none = path
 stays first seats i v w (p ∷ strides) path none = absurd cc
 
-has_run : (first seats i : ℕ) (v w : ListSight) (strides : List ListStride) (earlier rest : List (ListPlace × ℕ)) (place : ListPlace) (read : ℕ) → ListPath first seats i v strides w → AreRows strides
+has_run : (first seats i : ℕ) (v w : ListSight) (strides : List ListStride) (earlier rest : List (ListPlace × ℕ)) (place : ListPlace) (read : ℕ)
+    → ListPath first seats i v strides w → AreRows strides
     → all_told strides ≡ [] → rows_of strides ≡ earlier ++ (place, read) ∷ rest → HasRun first seats i v w place read rest
 has_run first seats i v w [] [] rest place read path ran none is = absurd cc
 has_run first seats i v w [] (r ∷ earlier) rest place read path ran none is = absurd cc
@@ -51,12 +52,15 @@ has_run first seats i v w (p ∷ strides) [] rest place read path ran none is =
       stood = ap (λ (q : ListPlace × ℕ). q.0) same.0;
       read_is = ap (λ (q : ListPlace × ℕ). q.1) same.0;
       later = stride_later (notify_list first seats) i v path.0 p path.1;
-      now = goes_on_more p.seen path.0.seen w.seen (goes_on_by path.0.seen p.seen p.told told_it) ((the_list_paths.paths first seats).grows i path.0 w strides path.2);
-      last = λ e. ap (λ (x : ListSight). x.seen) (stays first seats i path.0 w strides path.2 (same.1 ∙ e)) ∙ told_it ∙ ap (λ l. p.seen ++ l) (none_first p.told (all_told strides) none) ∙ append-nil p.seen;
+      now = goes_on_more p.seen path.0.seen w.seen (goes_on_by path.0.seen p.seen p.told told_it)
+          ((the_list_paths.paths first seats).grows i path.0 w strides path.2);
+      last = λ e. ap (λ (x : ListSight). x.seen) (stays first seats i path.0 w strides path.2 (same.1 ∙ e)) ∙ told_it
+          ∙ ap (λ l. p.seen ++ l) (none_first p.told (all_told strides) none) ∙ append-nil p.seen;
     }
 has_run first seats i v w (p ∷ strides) (r ∷ earlier) rest place read path ran none is =
     let same = same_rows (p.stood.place, p.read) r (rows_of strides) (earlier ++ (place, read) ∷ rest) is in
-    let x = has_run first seats i path.0 w strides earlier rest place read path.2 (All-tail (λ (q : ListStride). q.deed ≡ runs) p strides ran) (none_rest p.told (all_told strides) none) same.1 in record {
+    let x = has_run first seats i path.0 w strides earlier rest place read path.2 (All-tail (λ (q : ListStride). q.deed ≡ runs) p strides ran)
+    (none_rest p.told (all_told strides) none) same.1 in record {
       stride = x.stride;
       before = x.before;
       after = x.after;
@@ -70,18 +74,23 @@ has_run first seats i v w (p ∷ strides) (r ∷ earlier) rest place read path r
     }
 
 -- a row of a call
-pub call_ran : (s t : SeatModel) (begun : ListSeat) (earlier rest : List (ListPlace × ℕ)) (place : ListPlace) (read : ℕ) → Calls s begun t [] (earlier ++ (place, read) ∷ rest)
+pub call_ran : (s t : SeatModel) (begun : ListSeat) (earlier rest : List (ListPlace × ℕ)) (place : ListPlace) (read : ℕ)
+    → Calls s begun t [] (earlier ++ (place, read) ∷ rest)
     → HasRun s.list.setting.first s.list.setting.seats s.number (record { stands = begun; seen = s.sight.seen }) t.sight place read rest
 call_ran s t begun earlier rest place read call =
-    has_run s.list.setting.first s.list.setting.seats s.number (record { stands = begun; seen = s.sight.seen }) t.sight call.strides earlier rest place read call.path call.ran call.told_is call.rows_are
+    has_run s.list.setting.first s.list.setting.seats s.number (record { stands = begun; seen = s.sight.seen }) t.sight call.strides earlier rest place
+    read call.path call.ran call.told_is call.rows_are
 
-module _ {first seats i : ℕ} {from to : ListSight} {place : ListPlace} {read : ℕ} {rest : List (ListPlace × ℕ)} (few : seats ≤ 256) (x : HasRun first seats i from to place read rest) where
+module _ {first seats i : ℕ} {from to : ListSight} {place : ListPlace} {read : ℕ} {rest : List (ListPlace × ℕ)} (few : seats ≤ 256)
+    (x : HasRun first seats i from to place read rest) where
   -- the row's word
   on : (word : ListWord) → ((seat : ListSeat) → (list_event_at i seat (first_list 0).words place).word ≡ word) → word_of_stride i x.stride ≡ word
   on word is = ap (word_of_deed i x.stride) x.did ∙ ap (λ q. (list_event_at i x.stride.stood (first_list 0).words q).word) x.stood ∙ is x.stride.stood
 
-  pub finds_handed : ((seat : ListSeat) → (list_event_at i seat (first_list 0).words place).word ≡ Wait) → read ≡ word_of first (told x.stride.seen).handed
+  pub finds_handed : ((seat : ListSeat) → (list_event_at i seat (first_list 0).words place).word ≡ Wait)
+      → read ≡ word_of first (told x.stride.seen).handed
   finds_handed is = sym x.read_is ∙ the_list_paths.reads_wait first seats i x.before x.after x.stride (omega arith) x.ran (on Wait is)
 
-  pub finds_granted : ((seat : ListSeat) → (list_event_at i seat (first_list 0).words place).word ≡ Notify) → read ≡ word_of first (told x.stride.seen).granted
+  pub finds_granted : ((seat : ListSeat) → (list_event_at i seat (first_list 0).words place).word ≡ Notify)
+      → read ≡ word_of first (told x.stride.seen).granted
   finds_granted is = sym x.read_is ∙ the_list_paths.reads_notify first seats i x.before x.after x.stride (omega arith) x.ran (on Notify is)

@@ -54,7 +54,9 @@ pub there_of : (t : Token) (n : ℕ) → IsToken t n → t.me.0.own.number < (se
 there_of t n is = let a = is.number_is in let b = is.there in omega arith
 
 -- a seat that is about to grant grants another, which is there and wasn't granted
-pub grants_in : (z : Setting) (s : ListWorld) (i : ℕ) (a : ListSeat) (k : ℕ) (next : ListNext) → z.seats ≤ 256 → IsMet z s → i < z.seats → s.seats i ≡ a
+pub grants_in : (z : Setting) (s : ListWorld) (i : ℕ) (a : ListSeat) (k : ℕ) (next : ListNext) → z.seats ≤ 256
+    → IsMet z s → i < z.seats → s.seats i ≡ a
     → ((g : ListWords) → list_table i a g ≡ store (Grant k) 1 next) → GrantsParked z.seats i k s
 grants_in z s i a k next few met there is e =
-    (the_list_accounts.granted z.first z.seats i k 1 s there (laws_of z s few met).invariant (next, ap (λ (y : ListSeat). list_table i y s.words) is ∙ e s.words)).1
+    (the_list_accounts.granted z.first z.seats i k 1 s there (laws_of z s few met).invariant
+    (next, ap (λ (y : ListSeat). list_table i y s.words) is ∙ e s.words)).1

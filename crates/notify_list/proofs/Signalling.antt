@@ -1,5 +1,6 @@
 -- A notification of one as a whole: its two looks, and what comes of them.
-use Rattle.std.proofs.Common.{◌≡◌, ℕ, ◌+◌, true, false, List, [], ◌∷◌, ◌++◌, Option, Some, None, IfSome, IfNone, inl, inr, ⊎_elim, sym, refl, ap, ◌∙◌, subst}
+use Rattle.std.proofs.Common.{◌≡◌, ℕ, ◌+◌, true, false, List, [], ◌∷◌, ◌++◌, Option, Some, None, IfSome, IfNone, inl, inr, ⊎_elim, sym}
+use Rattle.std.proofs.Common.{refl, ap, ◌∙◌, subst}
 use Rattle.std.proofs.Common.{arith}
 use Rattle.step_table.specs.declared.list_place.ListPlace.{ListPlace}
 use Rattle.step_table.specs.declared.list_place.ListPlace.TheVariants.{Rest, NotifyingOne}
@@ -18,8 +19,10 @@ use Rattle.notify_list.proofs.Leading.{equal_is, unequal_is}
 use Rattle.notify_list.proofs.Walking.{calls_then}
 
 -- what was seen at a call's start is seen still
-pub call_later : (s t : SeatModel) (begun : ListSeat) (entries : List ListEntry) (rows : List (ListPlace × ℕ)) → Calls s begun t entries rows → GoesOn t.sight.seen s.sight.seen
-call_later s t begun entries rows x = (the_list_paths.paths s.list.setting.first s.list.setting.seats).grows s.number (record { stands = begun; seen = s.sight.seen }) t.sight x.strides x.path
+pub call_later : (s t : SeatModel) (begun : ListSeat) (entries : List ListEntry) (rows : List (ListPlace × ℕ))
+    → Calls s begun t entries rows → GoesOn t.sight.seen s.sight.seen
+call_later s t begun entries rows x =
+    (the_list_paths.paths s.list.setting.first s.list.setting.seats).grows s.number (record { stands = begun; seen = s.sight.seen }) t.sight x.strides x.path
 
 module _ (s u : SeatModel) where
   -- it was quiet
@@ -40,7 +43,8 @@ module _ (s u : SeatModel) where
     place_then = ap (λ (y : ListSeat). y.place) x.comes.stands_is
 
     -- the call's rows after the looks'
-    whole : (entries : List ListEntry) (rows : List (ListPlace × ℕ)) → Calls u u.sight.stands t entries rows → Calls s a t entries (looks x.h x.waited x.notified ++ rows)
+    whole : (entries : List ListEntry) (rows : List (ListPlace × ℕ)) → Calls u u.sight.stands t entries rows
+        → Calls s a t entries (looks x.h x.waited x.notified ++ rows)
     whole entries rows y = calls_then s u t a [] entries (looks x.h x.waited x.notified) rows x.comes.same x.call y
 
     number_is : u.number ≡ s.number
@@ -59,7 +63,8 @@ module _ (s u : SeatModel) where
       y.1,
       y.2,
       ⊎_elim
-          (λ c. inl (subst (λ i. Calls s a t (Granted y.1 i ∷ []) (looks x.h x.waited x.notified ++ finds_one x.h ticket y.0)) number_is (whole (Granted y.1 u.number ∷ []) (finds_one x.h ticket y.0) c)))
+          (λ c. inl (subst (λ i. Calls s a t (Granted y.1 i ∷ []) (looks x.h x.waited x.notified ++ finds_one x.h ticket y.0)) number_is
+          (whole (Granted y.1 u.number ∷ []) (finds_one x.h ticket y.0) c)))
           (λ c. inr (subst (λ i. Calls s a t (Granted y.1 i ∷ []) (looks x.h x.waited x.notified ++ (finds_one x.h ticket y.0 ++ grants_it x.h))) number_is
           (whole (Granted y.1 u.number ∷ []) (finds_one x.h ticket y.0 ++ grants_it x.h) c)))
           y.3,

@@ -43,8 +43,10 @@ module _ (s t : Token) (n word : ℕ) (seat : IsSeat s n) (x : RanRow list_rows 
   pub added : IsAdded (seat_of s n) (seat_of t n)
   added = subst (λ k. IsAdded (record (seat_of s n) { number = k }) (record (seat_of t n) { number = k })) seat.token_is.number_is (record {
     ticket = ticket;
-    comes = let c = comes_to s t s.me.0.own.number (at_place Adding (stands_of s)) (with_held ticket (stands_of s)) (Took s.me.0.own.number ∷ []) ((Adding, word) ∷ []) walked in c;
-    call = calls s t s.me.0.own.number (at_place Adding (stands_of s)) (with_held ticket (stands_of s)) (Took s.me.0.own.number ∷ []) ((Adding, word) ∷ []) own_token walked;
+    comes = let c = comes_to s t s.me.0.own.number (at_place Adding (stands_of s)) (with_held ticket (stands_of s))
+        (Took s.me.0.own.number ∷ []) ((Adding, word) ∷ []) walked in c;
+    call = calls s t s.me.0.own.number (at_place Adding (stands_of s)) (with_held ticket (stands_of s)) (Took s.me.0.own.number ∷ [])
+        ((Adding, word) ∷ []) own_token walked;
     next = record {
       before = r.stride.seen;
       seen_is = d.seen ∙ ap (λ l. r.stride.seen ++ l) d.told;
@@ -61,7 +63,8 @@ module _ (s t : Token) (n word : ℕ) (seat : IsSeat s n) (x : RanRow list_rows 
 
   pub holding : IsHolding t n word
   holding = record {
-    token_is = token_after s t n (at_place Adding (stands_of s)) (with_held ticket (stands_of s)) (Took s.me.0.own.number ∷ []) ((Adding, word) ∷ []) seat.token_is walked (ap (λ (m : Me). m.1) x.1 ∙ seat.token_is.bare);
+    token_is = token_after s t n (at_place Adding (stands_of s)) (with_held ticket (stands_of s)) (Took s.me.0.own.number ∷ []) ((Adding, word) ∷ [])
+        seat.token_is walked (ap (λ (m : Me). m.1) x.1 ∙ seat.token_is.bare);
     rests = ap (λ (a : ListSeat). a.place) walked.stands_is;
     ticket = ticket;
     held = ap (λ (a : ListSeat). a.ticket) walked.stands_is;

@@ -1,5 +1,6 @@
 -- The rows by which a notification of all grants the waits that it took out.
-use Rattle.std.proofs.Common.{◌≡◌, ℕ, ◌+◌, ◌<◌, ◌≤◌, nat_lt, if◌then◌else◌, Bool, List, [], ◌∷◌, length, map, take, drop, get_or, zero, suc, sym, refl, ap, ◌∙◌}
+use Rattle.std.proofs.Common.{◌≡◌, ℕ, ◌+◌, ◌<◌, ◌≤◌, nat_lt, if◌then◌else◌, Bool, List, [], ◌∷◌, length, map, take, drop}
+use Rattle.std.proofs.Common.{get_or, zero, suc, sym, refl, ap, ◌∙◌}
 use Rattle.std.proofs.Common.{subst, arith, append-nil, lt-ltb}
 use Rattle.std.proofs.lemmas.List.{map-append, drop_more, take_more, take_all, drop_all}
 use Rattle.std.proofs.lemmas.List.Elements.{All-nil}
@@ -24,7 +25,8 @@ use Rattle.notify_list.proofs.Leading.{Ran, Led, led, ran_from}
 use Rattle.notify_list.proofs.Walking.{walked_row, walked_on}
 use Rattle.notify_list.proofs.Resting.{grants_in, stands_there}
 
-one_less : (h : ℕ) (w : Wait) (rest : List Wait) → (if nat_lt 1 (length (w ∷ rest)) then NotifyingAll h L8 else Rest) ≡ if_any rest (NotifyingAll h L8) Rest
+one_less : (h : ℕ) (w : Wait) (rest : List Wait) → (if nat_lt 1 (length (w ∷ rest)) then NotifyingAll h L8 else Rest)
+    ≡ if_any rest (NotifyingAll h L8) Rest
 one_less h w [] = refl
 one_less h w (x ∷ rest) = ap (λ (b : Bool). if b then NotifyingAll h L8 else Rest) (lt-ltb 1 (length (w ∷ x ∷ rest)) (omega arith))
 
@@ -33,10 +35,18 @@ module _ (l : ListModel) (s : Token) (h : ℕ) (w : Wait) (rest : List Wait) (ma
   at8 = record { place = NotifyingAll h L8; ticket = (stands_of s).ticket; hand = w ∷ rest; late = (stands_of s).late }
 
   pub stands8 : stands_of s ≡ record { place = NotifyingAll h L8; ticket = (stands_of s).ticket; hand = w ∷ rest; late = (stands_of s).late }
-  stands8 = λ i. record { place = (may.at ∙ ap (λ (q : List Wait). if_any q (NotifyingAll h L8) Rest) hand) i; ticket = (stands_of s).ticket; hand = hand i; late = (stands_of s).late }
+  stands8 =
+      λ i. record {
+        place = (may.at ∙ ap (λ (q : List Wait). if_any q (NotifyingAll h L8) Rest) hand) i;
+        ticket = (stands_of s).ticket;
+        hand = hand i;
+        late = (stands_of s).late;
+      }
 
   pub waiter_there : w.id.seat < (setting_of s).seats
-  waiter_there = (grants_in (setting_of s) may.lands.world s.me.0.own.number at8 w.id.seat ((if nat_lt 1 (length (w ∷ rest)) then NotifyingAll h L8 else Rest), Gives) may.few may.lands.met may.there
+  waiter_there =
+      (grants_in (setting_of s) may.lands.world s.me.0.own.number at8 w.id.seat
+      ((if nat_lt 1 (length (w ∷ rest)) then NotifyingAll h L8 else Rest), Gives) may.few may.lands.met may.there
       (stands_there s.me.0.own may.lands may.there may.few ∙ stands8) (λ g. refl)).there
 
   module _ (t : Token) (n : ℕ) (r : RanRow list_rows here s.me n t.me) (same : t.table_id ≡ s.table_id) where
@@ -47,7 +57,9 @@ module _ (l : ListModel) (s : Token) (h : ℕ) (w : Wait) (rest : List Wait) (ma
     d8 = led at8 s.me.0.own t.me.0.own n row8
 
     zero8 : n ≡ 0
-    zero8 = d8.read ∙ (grants_in (setting_of s) d8.world s.me.0.own.number at8 w.id.seat ((if nat_lt 1 (length (w ∷ rest)) then NotifyingAll h L8 else Rest), Gives) may.few d8.met may.there d8.stood (λ g. refl)).unset
+    zero8 =
+        d8.read ∙ (grants_in (setting_of s) d8.world s.me.0.own.number at8 w.id.seat
+        ((if nat_lt 1 (length (w ∷ rest)) then NotifyingAll h L8 else Rest), Gives) may.few d8.met may.there d8.stood (λ g. refl)).unset
 
     pub woken_first : WokenFirst s h w rest t
     woken_first = record {
@@ -93,24 +105,29 @@ module _ (l : ListModel) (s t : Token) (h n : ℕ) (may : MayWake l s h) (x : Wo
     list_is = x.walked.list_is ∙ may.list_is;
     there = let e = ap (λ (y : ListModel). y.setting.seats) x.walked.list_is in let i = x.walked.number_is in let k = may.there in omega arith;
     few = let e = ap (λ (y : ListModel). y.setting.seats) x.walked.list_is in let k = may.few in omega arith;
-    at = ap (λ (y : ListSeat). y.place) x.walked.stands_is ∙ ap (λ (q : List Wait). if_any q (NotifyingAll h L8) Rest) (sym (ap (λ (y : ListSeat). y.hand) x.walked.stands_is));
+    at = ap (λ (y : ListSeat). y.place) x.walked.stands_is ∙ ap (λ (q : List Wait). if_any q (NotifyingAll h L8) Rest)
+        (sym (ap (λ (y : ListSeat). y.hand) x.walked.stands_is));
     lands = x.walked.lands;
   }
 
   pub hand_next : n < length (stands_of s).hand → (stands_of t).hand ≡ get_or (stands_of s).hand n a_wait ∷ drop (n + 1) (stands_of s).hand
   hand_next low = ap (λ (y : ListSeat). y.hand) x.walked.stands_is ∙ drop_more (stands_of s).hand n a_wait low
 
-  pub woken_more : (u : Token) → n < length (stands_of s).hand → WokenFirst t h (get_or (stands_of s).hand n a_wait) (drop (n + 1) (stands_of s).hand) u → WokenUpTo s h (n + 1) u
+  pub woken_more : (u : Token) → n < length (stands_of s).hand
+      → WokenFirst t h (get_or (stands_of s).hand n a_wait) (drop (n + 1) (stands_of s).hand) u → WokenUpTo s h (n + 1) u
   woken_more u low y =
       let w : Wait = get_or (stands_of s).hand n a_wait in
       let hand : List Wait = (stands_of s).hand in
       let a : ListSeat = with_waits h (drop n hand) (stands_of s) in
       let b : ListSeat = with_waits h (drop (n + 1) hand) (stands_of s) in record {
-        walked = subst (λ rows. Walked s (stands_of s) u b [] rows) (sym (ap (wake_rows h) (take_more hand n a_wait low) ∙ map-append (λ (v : Wait). (NotifyingAll h L8, 0)) (take n hand) (w ∷ [])))
+        walked =
+            subst (λ rows. Walked s (stands_of s) u b [] rows)
+            (sym (ap (wake_rows h) (take_more hand n a_wait low) ∙ map-append (λ (v : Wait). (NotifyingAll h L8, 0)) (take n hand) (w ∷ [])))
             (walked_on s t u (stands_of s) a b [] [] (wake_rows h (take n hand)) ((NotifyingAll h L8, 0) ∷ []) x.walked
             (subst (λ (q : ListSeat). Walked t q u (with_waits h (drop (n + 1) hand) q) [] ((NotifyingAll h L8, 0) ∷ [])) x.walked.stands_is y.walked));
         slots = y.slots ∙ x.slots;
       }
 
 pub woken_all : (s t : Token) (h n : ℕ) → length (stands_of s).hand ≤ n → WokenUpTo s h n t → WokenSome s h (stands_of s).hand [] t
-woken_all s t h n all x = subst (λ (q : List Wait × List Wait). WokenSome s h q.0 q.1 t) (λ i. (take_all n (stands_of s).hand all i, drop_all n (stands_of s).hand all i)) x
+woken_all s t h n all x =
+    subst (λ (q : List Wait × List Wait). WokenSome s h q.0 q.1 t) (λ i. (take_all n (stands_of s).hand all i, drop_all n (stands_of s).hand all i)) x

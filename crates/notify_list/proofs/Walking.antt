@@ -26,7 +26,8 @@ ran_append : (a b : List ListStride) → AreRows a → AreRows b → AreRows (a 
 ran_append a b = All-append (λ (p : ListStride). p.deed ≡ runs) a b
 
 -- one row
-pub walked_row : (s t : Token) (from : ListSeat) (n : ℕ) (stands : ListSeat) (entries : List ListEntry) (r : Ran from s.me.0.own n t.me.0.own) → t.table_id ≡ s.table_id
+pub walked_row : (s t : Token) (from : ListSeat) (n : ℕ) (stands : ListSeat) (entries : List ListEntry) (r : Ran from s.me.0.own n t.me.0.own)
+    → t.table_id ≡ s.table_id
     → stands_of t ≡ stands → r.stride.told ≡ entries → Walked s from t stands entries ((from.place, n) ∷ [])
 walked_row s t from n stands entries r same at told = record {
   list_is = λ i. record { id = same i; setting = r.same.1 i };
@@ -34,7 +35,8 @@ walked_row s t from n stands entries r same at told = record {
   stands_is = at;
   lands = subst (λ k. Lands k t.me.0.own.knows) (sym r.same.0) r.also.lands;
   strides = r.stride ∷ [];
-  path = ((the_list_paths.paths (setting_of s).first (setting_of s).seats).single s.me.0.own.number (record { stands = from; seen = seen_of s }) t.me.0.own.knows.sight r.stride).0 r.ran;
+  path = ((the_list_paths.paths (setting_of s).first (setting_of s).seats).single s.me.0.own.number (record { stands = from; seen = seen_of s })
+      t.me.0.own.knows.sight r.stride).0 r.ran;
   ran = let row = λ (p : ListStride). p.deed ≡ runs in All-cons row r.stride [] r.did (All-nil row);
   rows_are = λ i. ((r.ran.stood i).place, r.read i) ∷ [];
   told_is = append-nil r.stride.told ∙ told;
@@ -42,7 +44,8 @@ walked_row s t from n stands entries r same at told = record {
 }
 
 -- rows after rows
-pub walked_on : (s t u : Token) (from a b : ListSeat) (told more : List ListEntry) (rows others : List (ListPlace × ℕ)) → Walked s from t a told rows → Walked t a u b more others
+pub walked_on : (s t u : Token) (from a b : ListSeat) (told more : List ListEntry) (rows others : List (ListPlace × ℕ))
+    → Walked s from t a told rows → Walked t a u b more others
     → Walked s from u b (told ++ more) (rows ++ others)
 walked_on s t u from a b told more rows others x y = record {
   list_is = y.list_is ∙ x.list_is;
@@ -50,7 +53,8 @@ walked_on s t u from a b told more rows others x y = record {
   stands_is = y.stands_is;
   lands = y.lands;
   strides = x.strides ++ y.strides;
-  path = (the_list_paths.paths (setting_of s).first (setting_of s).seats).joined s.me.0.own.number (record { stands = from; seen = seen_of s }) t.me.0.own.knows.sight u.me.0.own.knows.sight x.strides y.strides x.path
+  path = (the_list_paths.paths (setting_of s).first (setting_of s).seats).joined s.me.0.own.number (record { stands = from; seen = seen_of s })
+      t.me.0.own.knows.sight u.me.0.own.knows.sight x.strides y.strides x.path
       (subst (λ (q : Setting × (ℕ × ListSight)). ListPath q.0.first q.0.seats q.1.0 q.1.1 y.strides u.me.0.own.knows.sight)
       (λ i. ((x.list_is i).setting, (x.number_is i, record { stands = sym x.stands_is i; seen = seen_of t }))) y.path);
   ran = ran_append x.strides y.strides x.ran y.ran;
@@ -60,11 +64,13 @@ walked_on s t u from a b told more rows others x y = record {
 }
 
 -- the same rows, told of otherwise
-pub walked_so : (s t : Token) (from a b : ListSeat) (told : List ListEntry) (rows : List (ListPlace × ℕ)) → Walked s from t a told rows → a ≡ b → Walked s from t b told rows
+pub walked_so : (s t : Token) (from a b : ListSeat) (told : List ListEntry) (rows : List (ListPlace × ℕ)) → Walked s from t a told rows
+    → a ≡ b → Walked s from t b told rows
 walked_so s t from a b told rows x e = subst (λ (y : ListSeat). Walked s from t y told rows) e x
 
 -- a token after rows
-pub token_after : (s t : Token) (n : ℕ) (from a : ListSeat) (told : List ListEntry) (rows : List (ListPlace × ℕ)) → IsToken s n → Walked s from t a told rows → t.me.1 ≡ [] → IsToken t n
+pub token_after : (s t : Token) (n : ℕ) (from a : ListSeat) (told : List ListEntry) (rows : List (ListPlace × ℕ)) → IsToken s n
+    → Walked s from t a told rows → t.me.1 ≡ [] → IsToken t n
 token_after s t n from a told rows is x bare = record {
   bare = bare;
   number_is = x.number_is ∙ is.number_is;
@@ -86,12 +92,14 @@ tells_first seen (e ∷ told) rest now tells = (
       (subst (λ l. TellsIn l rest now) (sym (append_assoc seen (e ∷ []) told) ∙ ap (λ l. (l ++ e ∷ []) ++ told) (sym (append-nil seen))) tells),
 )
 
-pub path_tells : (first seats i : ℕ) (v w : ListSight) (strides : List ListStride) → ListPath first seats i v strides w → TellsIn v.seen (all_told strides) w.seen
+pub path_tells : (first seats i : ℕ) (v w : ListSight) (strides : List ListStride) → ListPath first seats i v strides w
+    → TellsIn v.seen (all_told strides) w.seen
 path_tells first seats i v w [] path = subst (λ (x : ListSight). GoesOn x.seen v.seen) (sym path) (goes_on_here v.seen)
 path_tells first seats i v w (p ∷ strides) path =
     tells_later v.seen p.seen (p.told ++ all_told strides) w.seen (stride_later (notify_list first seats) i v path.0 p path.1)
     (tells_first p.seen p.told (all_told strides) w.seen
-    (subst (λ l. TellsIn l (all_told strides) w.seen) (stride_told (notify_list first seats) i v path.0 p path.1) (path_tells first seats i path.0 w strides path.2)))
+    (subst (λ l. TellsIn l (all_told strides) w.seen) (stride_told (notify_list first seats) i v path.0 p path.1)
+    (path_tells first seats i path.0 w strides path.2)))
 
 -- what a caller reads of the rows
 pub calls : (s t : Token) (n : ℕ) (from a : ListSeat) (told : List ListEntry) (rows : List (ListPlace × ℕ)) → IsToken s n → Walked s from t a told rows
@@ -104,21 +112,26 @@ calls s t n from a told rows is x = subst (λ i. Calls (record (seat_of s n) { n
   told_is = x.told_is;
   all = x.all;
   seen = subst (λ l. TellsIn (seen_of s) l (seen_of t)) x.told_is
-      (path_tells (setting_of s).first (setting_of s).seats s.me.0.own.number (record { stands = from; seen = seen_of s }) t.me.0.own.knows.sight x.strides x.path);
+      (path_tells (setting_of s).first (setting_of s).seats s.me.0.own.number (record { stands = from; seen = seen_of s })
+      t.me.0.own.knows.sight x.strides x.path);
 })
 
-pub comes_to : (s t : Token) (n : ℕ) (from a : ListSeat) (told : List ListEntry) (rows : List (ListPlace × ℕ)) → Walked s from t a told rows → ComesTo (seat_of s n) a (seat_of t n)
+pub comes_to : (s t : Token) (n : ℕ) (from a : ListSeat) (told : List ListEntry) (rows : List (ListPlace × ℕ)) → Walked s from t a told rows
+    → ComesTo (seat_of s n) a (seat_of t n)
 comes_to s t n from a told rows x = record {
   same = λ i. record { list = x.list_is i; number = n; sight = t.me.0.own.knows.sight; strides = t.me.0.own.gone };
   stands_is = x.stands_is;
 }
 
 -- what was seen at first is seen still
-pub walked_later : (s t : Token) (from a : ListSeat) (told : List ListEntry) (rows : List (ListPlace × ℕ)) → Walked s from t a told rows → GoesOn (seen_of t) (seen_of s)
-walked_later s t from a told rows x = (the_list_paths.paths (setting_of s).first (setting_of s).seats).grows s.me.0.own.number (record { stands = from; seen = seen_of s }) t.me.0.own.knows.sight x.strides x.path
+pub walked_later : (s t : Token) (from a : ListSeat) (told : List ListEntry) (rows : List (ListPlace × ℕ))
+    → Walked s from t a told rows → GoesOn (seen_of t) (seen_of s)
+walked_later s t from a told rows x = (the_list_paths.paths (setting_of s).first (setting_of s).seats).grows s.me.0.own.number
+    (record { stands = from; seen = seen_of s }) t.me.0.own.knows.sight x.strides x.path
 
 -- a call after a call
-pub calls_then : (s u t : SeatModel) (begun : ListSeat) (told more : List ListEntry) (rows others : List (ListPlace × ℕ)) → u ≡ record s { sight = u.sight; strides = u.strides }
+pub calls_then : (s u t : SeatModel) (begun : ListSeat) (told more : List ListEntry) (rows others : List (ListPlace × ℕ))
+    → u ≡ record s { sight = u.sight; strides = u.strides }
     → Calls s begun u told rows → Calls u u.sight.stands t more others → Calls s begun t (told ++ more) (rows ++ others)
 calls_then s u t begun told more rows others same x y =
     let first : ℕ = s.list.setting.first in let seats : ℕ = s.list.setting.seats in

@@ -1,5 +1,6 @@
 -- The history goes on with each stride.
-use Rattle.std.proofs.Common.{◌≡◌, ◌≢◌, ◌⊎◌, ℕ, ◌==◌, if◌then◌else◌, Bool, true, false, List, [], ◌∷◌, ◌++◌, refl, sym, ap, ◌∙◌, subst, ⊎_elim, inl, inr}
+use Rattle.std.proofs.Common.{◌≡◌, ◌≢◌, ◌⊎◌, ℕ, ◌==◌, if◌then◌else◌, Bool, true, false, List, [], ◌∷◌, ◌++◌, refl, sym}
+use Rattle.std.proofs.Common.{ap, ◌∙◌, subst, ⊎_elim, inl, inr}
 use Rattle.std.proofs.Common.{eq-eqb, ne_eqb, append-nil}
 use Rattle.step_table.specs.Path.{Deed, Did}
 use Rattle.running_rows.specs.declared.view.Seated.{Seated}
@@ -16,7 +17,8 @@ in_more a b (x ∷ xs) (inl e) = inl (inl e)
 in_more a b (x ∷ xs) (inr h) = ⊎_elim (λ q. inl (inr q)) (λ q. inr q) (in_more a b xs h)
 
 module _ {T : Type 0} (i : ℕ) where
-  pub strides_here : (history : List (SeatStride T)) (m : SeatStride T) → m.seat ≡ i → strides_of i (history ++ m ∷ []) ≡ strides_of i history ++ m.stride ∷ []
+  pub strides_here : (history : List (SeatStride T)) (m : SeatStride T) → m.seat ≡ i → strides_of i (history ++ m ∷ [])
+      ≡ strides_of i history ++ m.stride ∷ []
   strides_here [] m e = ap (λ (b : Bool). if b then m.stride ∷ [] else []) (eq-eqb m.seat i e)
   strides_here (n ∷ history) m e = by (strides_here history m e) (n.seat == i)
     where
@@ -44,7 +46,8 @@ module _ {T : Type 0} (i : ℕ) where
       ∙ strides_none history (λ n h. none n (inr h))
 
 module _ {S V T K : Type 0} (f : Family S V T K) where
-  writes_more : (seen journal : List f.Entry) (history : List (SeatStride T)) (m : SeatStride T) → Writes f seen history journal → (f.stride m.stride).seen ≡ journal
+  writes_more : (seen journal : List f.Entry) (history : List (SeatStride T)) (m : SeatStride T) → Writes f seen history journal
+      → (f.stride m.stride).seen ≡ journal
       → Writes f seen (history ++ m ∷ []) (journal ++ (f.stride m.stride).told)
   writes_more seen journal [] m w e = (e ∙ w, ap (λ (l : List f.Entry). l ++ (f.stride m.stride).told) w)
   writes_more seen journal (n ∷ history) m w e = (w.0, writes_more (seen ++ (f.stride n.stride).told) journal history m w.1 e)
@@ -58,7 +61,8 @@ module _ {S V T K : Type 0} (f : Family S V T K) where
       pub here : strides_of u.number history ≡ u.gone → strides_of u.number now ≡ w.gone
       pub others : (i : ℕ) → i ≢ u.number → strides_of i now ≡ strides_of i history
 
-    pub gone_on : (world next : f.World) (history : List (SeatStride T)) (u w : Seated V T) → TellsOn f k world next u w → Writes f [] history (journal_of f k world)
+    pub gone_on : (world next : f.World) (history : List (SeatStride T)) (u w : Seated V T) → TellsOn f k world next u w
+        → Writes f [] history (journal_of f k world)
         → HasGoneOn next history u w
     gone_on world next history u w (inl idle) writes = record {
       now = history;
@@ -80,11 +84,14 @@ module _ {S V T K : Type 0} (f : Family S V T K) where
 
     -- a look tells nothing
     pub looked_on : (world : f.World) (u : Seated V T) (i n : ℕ) → f.of u.knows ≡ k → (o : Sees f k u world i n) → TellsOn f k world world u o.now
-    looked_on world u i n of_is o = inr (o.went.stride, o.went.one, seen, sym (append-nil (journal_of f k world)) ∙ ap (λ l. journal_of f k world ++ l) (sym told))
+    looked_on world u i n of_is o =
+        inr (o.went.stride, o.went.one, seen, sym (append-nil (journal_of f k world)) ∙ ap (λ l. journal_of f k world ++ l) (sym told))
       where
         seen : (f.stride o.went.stride).seen ≡ journal_of f k world
         seen = o.went.ran.seen ∙ (λ j. (f.watched (of_is j)).journal (o.world_is j))
 
         told : (f.stride o.went.stride).told ≡ []
-        told = (subst (λ (d : Deed f.Word). Did (f.watched (f.of u.knows)) o.went.ran.world u.number d (f.stride o.went.stride).read (f.stride o.went.stride).told (f.sight o.now.knows))
+        told =
+            (subst (λ (d : Deed f.Word). Did (f.watched (f.of u.knows)) o.went.ran.world u.number d (f.stride o.went.stride).read
+            (f.stride o.went.stride).told (f.sight o.now.knows))
             o.went.did o.went.ran.did).told_is

@@ -36,7 +36,8 @@ module _ {S V T K : Type 0} (f : Family S V T K) (k : f.Key) (s : State S (View 
     moves = gone_on f k r.world l.next r.history m.0.own l.own l.on r.writes
 
     -- another seat sits where it sat
-    sits_else : (j : ℕ) (u : Seated V T) → u.number ≢ l.own.number → Sits f k r.world r.history r.spot r.made j u → Sits f k l.next moves.now r.spot r.made j u
+    sits_else : (j : ℕ) (u : Seated V T) → u.number ≢ l.own.number → Sits f k r.world r.history r.spot r.made j u
+        → Sits f k l.next moves.now r.spot r.made j u
     sits_else j u ne o = record {
       place_is = o.place_is;
       is_made = o.is_made;
@@ -87,10 +88,12 @@ module _ {S V T K : Type 0} (f : Family S V T K) (k : f.Key) (s : State S (View 
       spot = r.spot;
       made = r.made;
       views = λ j u e h. ⊎_elim
-          (λ (q : (j ≡ id) × (after ≡ u)). subst (λ (y : ℕ × View V T). HasSeats f k l.next moves.now r.spot r.made y.0 y.1) (λ i. (sym q.0 i, q.1 i)) seats_here)
+          (λ (q : (j ≡ id) × (after ≡ u)). subst
+          (λ (y : ℕ × View V T). HasSeats f k l.next moves.now r.spot r.made y.0 y.1) (λ i. (sym q.0 i, q.1 i)) seats_here)
           (λ (q : (j ≢ id) × (get_elem? s.views j ≡ some u)). seats_else j u q.0 (r.views j u q.1 h))
           (at_set s.views id j after u e);
-      seated = λ n low. replaced f s.views id m.0 after at someones_after (r.spot n) n (λ e. ⊎_elim (λ q. inl (l.same ∙ q)) (λ g. inr g)) (r.seated n low);
+      seated =
+          λ n low. replaced f s.views id m.0 after at someones_after (r.spot n) n (λ e. ⊎_elim (λ q. inl (l.same ∙ q)) (λ g. inr g)) (r.seated n low);
       unmade = λ n le low. l.others (fresh_seat f k n)
           (λ q. let a = seated.own.is_made in let b = l.same in absurd (omega arith)) low (r.unmade n le low);
       maker = λ j u e h some_made. ⊎_elim
@@ -115,7 +118,8 @@ module _ {S V T K : Type 0} (f : Family S V T K) (k : f.Key) where
       )
 
   -- so it is of a token that has changed nothing since
-  pub allowed_since : (slots id i : ℕ) (m t : Me S (View V T)) (g : ℕ → ℕ) (then : Me S (View V T) → ℕ → Me S (View V T) → Type 0) → IsSomeones f m.0
+  pub allowed_since : (slots id i : ℕ) (m t : Me S (View V T)) (g : ℕ → ℕ) (then : Me S (View V T) → ℕ → Me S (View V T) → Type 0)
+      → IsSomeones f m.0
       → Owes f k m i g (then m) → t ≡ m → Allows (IsKept f k) slots id t i g (then t)
   allowed_since slots id i m t g then someones owes same =
       subst (λ q. Allows (IsKept f k) slots id q i g (then q)) (sym same) (allowed slots id i m g (then m) someones owes)
@@ -123,7 +127,8 @@ module _ {S V T K : Type 0} (f : Family S V T K) (k : f.Key) where
   -- a look changes no word, and is told as that of the word at the address
   pub allowed_look : (slots id i : ℕ) (m : Me S (View V T)) → IsSomeones f m.0 → IsSeen f k i
       → Allows (IsKept f k) slots id m i (λ n. n) (λ n t. Looked f i m n t)
-  allowed_look slots id i m someones seen = allowed slots id i m (λ n. n) (λ n t. Looked f i m n t) someones (λ world words homes at. looked world words homes at)
+  allowed_look slots id i m someones seen =
+      allowed slots id i m (λ n. n) (λ n t. Looked f i m n t) someones (λ world words homes at. looked world words homes at)
     where
       looked : (world : f.World) (words : List ℕ) (homes : List (Option S)) → Stands f k m.0.own world words homes i
           → Leads f k m world words homes i (slice_index words i) (λ t. Looked f i m (slice_index words i) t)
@@ -147,20 +152,21 @@ module _ {S V T K : Type 0} (f : Family S V T K) (k : f.Key) where
     m.0,
     keeps,
     tt,
-    subst (λ (views : List (View V T)). IsKept f k (record { words = set s.words i (g (slice_index s.words i)); homes = s.homes; views = views })) (sym (set_again s.views id m.0 at)) record {
-      world = r.world;
-      shows = aside r.world s.words s.homes (g (slice_index s.words i)) r.shows;
-      history = r.history;
-      writes = r.writes;
-      by_seats = r.by_seats;
-      spot = r.spot;
-      made = r.made;
-      views = r.views;
-      seated = r.seated;
-      unmade = r.unmade;
-      maker = r.maker;
-      fits = r.fits;
-    },
+    subst (λ (views : List (View V T)). IsKept f k (record { words = set s.words i (g (slice_index s.words i)); homes = s.homes; views = views }))
+        (sym (set_again s.views id m.0 at)) record {
+          world = r.world;
+          shows = aside r.world s.words s.homes (g (slice_index s.words i)) r.shows;
+          history = r.history;
+          writes = r.writes;
+          by_seats = r.by_seats;
+          spot = r.spot;
+          made = r.made;
+          views = r.views;
+          seated = r.seated;
+          unmade = r.unmade;
+          maker = r.maker;
+          fits = r.fits;
+        },
     refl,
   )
 

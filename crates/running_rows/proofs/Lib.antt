@@ -4,6 +4,7 @@ pub mod Keeping
 pub mod Telling
 pub mod Opening
 pub mod Seating
+pub mod Parting
 pub mod LookingAtOnce
 pub mod Together
 pub use Rattle.atomic_table.proofs.Lists

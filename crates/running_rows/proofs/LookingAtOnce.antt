@@ -1,5 +1,6 @@
 -- The rule is kept where a seat and its first guest look at one moment.
-use Rattle.std.proofs.Common.{◌≡◌, ◌≢◌, ℕ, ◌<◌, ◌^◌, List, [], ◌∷◌, set, slice_index, sym, refl, ap, ◌∙◌, subst, ⊎_elim, inl, inr, arith}
+use Rattle.std.proofs.Common.{◌≡◌, ◌≢◌, ℕ, ◌<◌, ◌^◌, List, [], ◌∷◌, set, slice_index, sym, refl, ap, ◌∙◌, subst, ⊎_elim}
+use Rattle.std.proofs.Common.{inl, inr, arith}
 use Rattle.std.proofs.lemmas.List.{set-get_or}
 use mathlib.Core.Option.{some}
 use lib.ListN.{get_elem?}
@@ -17,7 +18,8 @@ use Rattle.running_rows.proofs.Places.{replaced}
 
 module _ {S V T K : Type 0} (f : Family S V T K) (k : f.Key) where
   -- a seat and its first guest look at one moment
-  module _ (i : ℕ) (m : Me S (View V T)) (g : Seated V T) (gs : List (Seated V T)) (with_it : m.0.guests ≡ g ∷ gs) (some_v : IsSomeones f m.0) (seen : IsSeen f k i)
+  module _ (i : ℕ) (m : Me S (View V T)) (g : Seated V T) (gs : List (Seated V T)) (with_it : m.0.guests ≡ g ∷ gs)
+      (some_v : IsSomeones f m.0) (seen : IsSeen f k i)
       (s : State S (View V T)) (r : IsKept f k s) (id : ℕ) (at : get_elem? s.views id ≡ some m.0) (below : slice_index s.words i < 2 ^ 64) where
     both : HasSeats f k r.world r.history r.spot r.made id m.0
     both = r.views id m.0 at some_v
@@ -62,7 +64,8 @@ module _ {S V T K : Type 0} (f : Family S V T K) (k : f.Key) where
     }
 
     -- and so does any other
-    still : (j : ℕ) (u : Seated V T) → u.number ≢ m.0.own.number → u.number ≢ g.number → Sits f k r.world r.history r.spot r.made j u → Sits f k r.world second.now r.spot r.made j u
+    still : (j : ℕ) (u : Seated V T) → u.number ≢ m.0.own.number → u.number ≢ g.number → Sits f k r.world r.history r.spot r.made j u
+        → Sits f k r.world second.now r.spot r.made j u
     still j u no_own no_guest o = record {
       place_is = o.place_is;
       is_made = o.is_made;
@@ -117,7 +120,8 @@ module _ {S V T K : Type 0} (f : Family S V T K) (k : f.Key) where
           (λ e. let a = guest.is_made in omega (arith, e)) (second.seats q h);
       spot = r.spot;
       views = λ j u e h. ⊎_elim
-          (λ (q : (j ≡ id) × (now ≡ u)). subst (λ (y : ℕ × View V T). HasSeats f k r.world second.now r.spot r.made y.0 y.1) (λ n. (sym q.0 n, q.1 n)) seats_now)
+          (λ (q : (j ≡ id) × (now ≡ u)). subst
+          (λ (y : ℕ × View V T). HasSeats f k r.world second.now r.spot r.made y.0 y.1) (λ n. (sym q.0 n, q.1 n)) seats_now)
           (λ (q : (j ≢ id) × (get_elem? s.views j ≡ some u)). let o = r.views j u q.1 h in
           record { own = still_there j u.own q.0 o.own; guests = λ y at_it. still_there j y q.0 (o.guests y at_it); others = o.others; apart = o.apart })
           (at_set s.views id j now u e);
@@ -146,7 +150,8 @@ module _ {S V T K : Type 0} (f : Family S V T K) (k : f.Key) where
       head [] = g
       head (x ∷ xs) = x
 
-  pub meets_kept : (slots id i : ℕ) (m : Me S (View V T)) (g : Seated V T) (gs : List (Seated V T)) → m.0.guests ≡ g ∷ gs → IsSomeones f m.0 → IsSeen f k i
+  pub meets_kept : (slots id i : ℕ) (m : Me S (View V T)) (g : Seated V T) (gs : List (Seated V T))
+      → m.0.guests ≡ g ∷ gs → IsSomeones f m.0 → IsSeen f k i
       → Allows (IsKept f k) slots id m i (λ n. n) (λ n t. MetAt f i m n t)
   meets_kept slots id i m g gs with_it some_v seen s r sized at below = (
     now i m g gs with_it some_v seen s r id at below,
@@ -155,8 +160,15 @@ module _ {S V T K : Type 0} (f : Family S V T K) (k : f.Key) where
     kept i m g gs with_it some_v seen s r id at below,
     (λ h hs is. let e = first_is g h gs hs (sym with_it ∙ is) in (
       (other i m g gs with_it some_v seen s r id at below).now,
-      subst (λ (y : Seated V T). Met f (f.word_at (f.of m.0.own.knows) i) m.0.own y (slice_index s.words i) (one i m g gs with_it some_v seen s r id at below).now (other i m g gs with_it some_v seen s r id at below).now) e.0
+      subst (λ (y : Seated V T). Met f (f.word_at (f.of m.0.own.knows) i) m.0.own y (slice_index s.words i)
+          (one i m g gs with_it some_v seen s r id at below).now (other i m g gs with_it some_v seen s r id at below).now) e.0
           (met i m g gs with_it some_v seen s r id at below),
-      (λ n. (record m.0 { own = (one i m g gs with_it some_v seen s r id at below).now; guests = (other i m g gs with_it some_v seen s r id at below).now ∷ e.1 n }, m.1)),
+      (λ n. (
+        record m.0 {
+          own = (one i m g gs with_it some_v seen s r id at below).now;
+          guests = (other i m g gs with_it some_v seen s r id at below).now ∷ e.1 n;
+        },
+        m.1,
+      )),
     )),
   )

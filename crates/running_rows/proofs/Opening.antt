@@ -1,5 +1,6 @@
 -- The rule holds of words as they are made, and is kept where the seat 0 makes another.
-use Rattle.std.proofs.Common.{◌≡◌, ◌≢◌, ℕ, zero, suc, ◌+◌, ◌<◌, List, [], ◌∷◌, ◌++◌, length, map, set, sym, refl, ap, ◌∙◌, subst, ⊎_elim, inl, inr, ◌⊎◌, arith}
+use Rattle.std.proofs.Common.{◌≡◌, ◌≢◌, ℕ, zero, suc, ◌+◌, ◌<◌, List, [], ◌∷◌, ◌++◌, length, map, set, sym, refl, ap, ◌∙◌}
+use Rattle.std.proofs.Common.{subst, ⊎_elim, inl, inr, ◌⊎◌, arith}
 use mathlib.Core.Option.{some, some-injective, some-ne-none}
 use lib.ListN.{get_elem?}
 use Rattle.atomic_table.specs.Table.{State, opening, Splits}
@@ -15,7 +16,8 @@ use Rattle.running_rows.proofs.Places.{replaced, longer}
 use Rattle.running_rows.proofs.History.{strides_none}
 use Rattle.running_rows.specs.Rule.{IsSomeones, IsSeated, fresh_seat, first_view, making, made_by, Sits, HasSeats, IsKept, Opens}
 
-pub at_end : {A : Type 0} (l : List A) (a b : A) (j : ℕ) → get_elem? (l ++ a ∷ []) j ≡ some b → (get_elem? l j ≡ some b) ⊎ ((j ≡ length l) × (a ≡ b))
+pub at_end : {A : Type 0} (l : List A) (a b : A) (j : ℕ) → get_elem? (l ++ a ∷ []) j ≡ some b
+    → (get_elem? l j ≡ some b) ⊎ ((j ≡ length l) × (a ≡ b))
 at_end [] a b zero e = inr (refl, some-injective a b e)
 at_end [] a b (suc j) e = absurd (some-ne-none b (sym e))
 at_end (x ∷ xs) a b zero e = inl e
@@ -41,8 +43,10 @@ module _ {S V T K : Type 0} (f : Family S V T K) where
       some_first : IsSomeones f (first_view f k)
       some_first = let a = ap f.seats (f.fresh_is k) in let b = o.some_seats in omega arith
 
-      alone : (j : ℕ) (v : View V T) → get_elem? (first_view f k ∷ []) j ≡ some v → IsSomeones f v → 0 < v.made → (v.own.number ≡ 0) × (v.made ≡ 1)
-      alone zero v e h some_made = let is = sym (some-injective (first_view f k) v e) in (ap (λ (u : View V T). u.own.number) is, ap (λ (u : View V T). u.made) is)
+      alone : (j : ℕ) (v : View V T) → get_elem? (first_view f k ∷ []) j ≡ some v → IsSomeones f v → 0 < v.made
+          → (v.own.number ≡ 0) × (v.made ≡ 1)
+      alone zero v e h some_made =
+          let is = sym (some-injective (first_view f k) v e) in (ap (λ (u : View V T). u.own.number) is, ap (λ (u : View V T). u.made) is)
       alone (suc j) v e h some_made = absurd (some-ne-none v (sym e))
 
       one : (j : ℕ) (v : View V T) → get_elem? (first_view f k ∷ []) j ≡ some v → HasSeats f k o.world [] (λ n. 0) 1 j v
@@ -55,7 +59,8 @@ module _ {S V T K : Type 0} (f : Family S V T K) where
       one (suc j) v e = absurd (some-ne-none v (sym e))
 
   -- the seat 0 makes the next one
-  module _ (k : f.Key) (id : ℕ) (v : View V T) (some_made : 0 < v.made) (room : v.made < f.seats (f.of v.own.knows)) (s : State S (View V T)) (r : IsKept f k s) (at : get_elem? s.views id ≡ some v) where
+  module _ (k : f.Key) (id : ℕ) (v : View V T) (some_made : 0 < v.made) (room : v.made < f.seats (f.of v.own.knows)) (s : State S (View V T))
+      (r : IsKept f k s) (at : get_elem? s.views id ≡ some v) where
     abbrev before : List (View V T)
     before = set s.views id (making v)
 
@@ -118,10 +123,12 @@ module _ {S V T K : Type 0} (f : Family S V T K) where
       made = r.made + 1;
       views = λ j u e h. ⊎_elim
           (λ (was : get_elem? before j ≡ some u). ⊎_elim
-          (λ (t : (j ≡ id) × (making v ≡ u)). subst (λ (y : ℕ × View V T). HasSeats f k r.world r.history spots (r.made + 1) y.0 y.1) (λ i. (sym t.0 i, t.1 i)) seats_making)
+          (λ (t : (j ≡ id) × (making v ≡ u)). subst (λ (y : ℕ × View V T). HasSeats f k r.world r.history spots (r.made + 1) y.0 y.1)
+          (λ i. (sym t.0 i, t.1 i)) seats_making)
           (λ (t : (j ≢ id) × (get_elem? s.views j ≡ some u)). seats_yet j u (r.views j u t.1 h))
           (at_set s.views id j (making v) u was))
-          (λ (t : (j ≡ length before) × (made_by f v ≡ u)). subst (λ (y : ℕ × View V T). HasSeats f k r.world r.history spots (r.made + 1) y.0 y.1) (λ i. (sym t.0 i, t.1 i)) seats_made)
+          (λ (t : (j ≡ length before) × (made_by f v ≡ u)). subst
+          (λ (y : ℕ × View V T). HasSeats f k r.world r.history spots (r.made + 1) y.0 y.1) (λ i. (sym t.0 i, t.1 i)) seats_made)
           (at_end before (made_by f v) u j e);
       seated = λ n low. dite (ℕ_discrete n r.made)
           (λ e. subst (λ q. IsSeated f (before ++ made_by f v ∷ []) (spots q) q) (sym e)
@@ -132,7 +139,8 @@ module _ {S V T K : Type 0} (f : Family S V T K) where
       unmade = λ n le low. r.unmade n (omega arith) low;
       maker = λ j u e h made. ⊎_elim
           (λ (was : get_elem? before j ≡ some u). ⊎_elim
-          (λ (t : (j ≡ id) × (making v ≡ u)). (ap (λ (y : View V T). y.own.number) (sym t.1) ∙ maker.0, ap (λ (y : View V T). y.made) (sym t.1) ∙ ap (λ (n : ℕ). n + 1) maker.1))
+          (λ (t : (j ≡ id) × (making v ≡ u)).
+          (ap (λ (y : View V T). y.own.number) (sym t.1) ∙ maker.0, ap (λ (y : View V T). y.made) (sym t.1) ∙ ap (λ (n : ℕ). n + 1) maker.1))
           (λ (t : (j ≢ id) × (get_elem? s.views j ≡ some u)). let o = r.views j u t.1 h in
           absurd (t.0 (sym o.own.place_is ∙ ap r.spot ((r.maker j u t.1 h made).0 ∙ sym maker.0) ∙ mine.own.place_is)))
           (at_set s.views id j (making v) u was))
@@ -141,5 +149,6 @@ module _ {S V T K : Type 0} (f : Family S V T K) where
       fits = let m = maker.1 in let l = ap f.seats mine.own.of_is in omega arith;
     }
 
-  pub splits : (k : f.Key) (id : ℕ) (v : View V T) → 0 < v.made → v.made < f.seats (f.of v.own.knows) → Splits (IsKept f k) id v (making v) (made_by f v)
+  pub splits : (k : f.Key) (id : ℕ) (v : View V T) → 0 < v.made → v.made < f.seats (f.of v.own.knows)
+      → Splits (IsKept f k) id v (making v) (made_by f v)
   splits k id v some_made room s r at = made_one k id v some_made room s r at

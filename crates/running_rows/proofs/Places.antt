@@ -1,5 +1,6 @@
 -- Who sits where, after a token's view has changed or a token was made.
-use Rattle.std.proofs.Common.{◌≡◌, ◌≢◌, ℕ, zero, suc, ◌<◌, List, [], ◌∷◌, ◌++◌, length, set, sym, refl, ap, ◌∙◌, subst, inl, inr, arith}
+use Rattle.std.proofs.Common.{◌≡◌, ◌≢◌, ℕ, zero, suc, ◌<◌, List, [], ◌∷◌, ◌++◌, length, set, sym, refl, ap, ◌∙◌, subst, inl}
+use Rattle.std.proofs.Common.{inr, arith}
 use mathlib.Core.Logic.{dite}
 use mathlib.Core.Option.{some, some-injective, some-ne-none}
 use native.Mathlib.Decide.{ℕ_discrete}
@@ -24,7 +25,8 @@ same_at l i j a b e at_i at_j = some-injective a b (sym at_i ∙ ap (get_elem? l
 
 module _ {S V T K : Type 0} (f : Family S V T K) where
   -- a view has changed, and has the seats that it had
-  pub replaced : (views : List (View V T)) (id : ℕ) (v w : View V T) → get_elem? views id ≡ some v → IsSomeones f w → (j n : ℕ) → (j ≡ id → HasSeat n v → HasSeat n w)
+  pub replaced : (views : List (View V T)) (id : ℕ) (v w : View V T) → get_elem? views id ≡ some v → IsSomeones f w → (j n : ℕ)
+      → (j ≡ id → HasSeat n v → HasSeat n w)
       → IsSeated f views j n → IsSeated f (set views id w) j n
   replaced views id v w at someones j n keeps o = dite (ℕ_discrete j id)
       (λ e. subst (λ i. IsSeated f (set views id w) i n) (sym e)
@@ -47,6 +49,8 @@ module _ {V T : Type 0} where
       (λ e. ap (put (moved spot gs j) x.number j) e ∙ put_here (moved spot gs j) x.number j)
       (λ ne. put_else (moved spot gs j) x.number j g.number ne ∙ moved_in spot gs j g h)
 
-  pub moved_else : (spot : ℕ → ℕ) (gs : List (Seated V T)) (j n : ℕ) → ((g : Seated V T) → In g gs → g.number ≢ n) → moved spot gs j n ≡ spot n
+  pub moved_else : (spot : ℕ → ℕ) (gs : List (Seated V T)) (j n : ℕ)
+      → ((g : Seated V T) → In g gs → g.number ≢ n) → moved spot gs j n ≡ spot n
   moved_else spot [] j n none = refl
-  moved_else spot (x ∷ gs) j n none = put_else (moved spot gs j) x.number j n (λ e. none x (inl refl) (sym e)) ∙ moved_else spot gs j n (λ g h. none g (inr h))
+  moved_else spot (x ∷ gs) j n none =
+      put_else (moved spot gs j) x.number j n (λ e. none x (inl refl) (sym e)) ∙ moved_else spot gs j n (λ g h. none g (inr h))

@@ -1,5 +1,6 @@
--- The rule is kept where seats come to sit in one view, look together, and part.
-use Rattle.std.proofs.Common.{◌≡◌, ◌≢◌, ℕ, ◌<◌, List, [], ◌∷◌, ◌++◌, length, set, sym, refl, ap, ◌∙◌, subst, ⊎_elim, inl, inr, arith}
+-- The rule is kept where seats come to sit in one view, and where all guests leave together.
+use Rattle.std.proofs.Common.{◌≡◌, ◌≢◌, ℕ, ◌<◌, List, [], ◌∷◌, ◌++◌, length, set, sym, refl, ap, ◌∙◌, subst, ⊎_elim, inl}
+use Rattle.std.proofs.Common.{inr, arith}
 use mathlib.Core.Option.{some}
 use lib.ListN.{get_elem?}
 use Rattle.atomic_table.specs.Table.{State, Splits, Joins}
@@ -12,21 +13,22 @@ use Rattle.running_rows.specs.declared.view.View.{View}
 use Rattle.running_rows.specs.declared.view.Seated.{Seated}
 use Rattle.running_rows.specs.Family.{Family}
 use Rattle.running_rows.specs.Rule.{IsSomeones, IsSeated, HasSeat, In, AreApart, nobody, Sits, HasSeats, IsKept}
-use Rattle.running_rows.specs.Sitting.{alone, leaving, guests_apart, lone, staying, vacant, sitting, other_guests, first_guest, parting, parted}
+use Rattle.running_rows.specs.Sitting.{alone, leaving, guests_apart, staying, vacant, sitting}
 use Rattle.running_rows.specs.History.{SeatStride}
 use Rattle.running_rows.proofs.Opening.{at_end}
 use Rattle.running_rows.proofs.Places.{at_low, same_at, replaced, longer, moved, moved_in, moved_else}
 
 module _ {S V T K : Type 0} (f : Family S V T K) (k : f.Key) where
   -- what a view is under the rule
-  abbrev Is : f.World → List (SeatStride T) → (ℕ → ℕ) → ℕ → ℕ → View V T → Type 0
+  abbrev pub Is : f.World → List (SeatStride T) → (ℕ → ℕ) → ℕ → ℕ → View V T → Type 0
   Is world history spot made j v = HasSeats f k world history spot made j v × (0 < v.made → (v.own.number ≡ 0) × (v.made ≡ made))
 
-  is_at : (world : f.World) (history : List (SeatStride T)) (spot : ℕ → ℕ) (made i j : ℕ) (v w : View V T) → j ≡ i → v ≡ w → Is world history spot made i v → Is world history spot made j w
+  pub is_at : (world : f.World) (history : List (SeatStride T)) (spot : ℕ → ℕ) (made i j : ℕ) (v w : View V T) → j ≡ i → v ≡ w
+      → Is world history spot made i v → Is world history spot made j w
   is_at world history spot made i j v w there same = subst (λ (y : ℕ × View V T). Is world history spot made y.0 y.1) (λ n. (sym there n, same n))
 
   -- the tokens have changed, and nothing else
-  respotted : (s : State S (View V T)) (r : IsKept f k s) (spot : ℕ → ℕ) (views : List (View V T))
+  pub respotted : (s : State S (View V T)) (r : IsKept f k s) (spot : ℕ → ℕ) (views : List (View V T))
       → ((j : ℕ) (v : View V T) → get_elem? views j ≡ some v → IsSomeones f v → Is r.world r.history spot r.made j v)
       → ((n : ℕ) → n < r.made → IsSeated f views (spot n) n) → IsKept f k (record { words = s.words; homes = s.homes; views = views })
   respotted s r spot views ok seated = record {
@@ -47,19 +49,23 @@ module _ {S V T K : Type 0} (f : Family S V T K) (k : f.Key) where
   nobody_not : (v : View V T) → nobody f ≡ v → IsSomeones f v → ⊥
   nobody_not v e h = let l = ap (λ (u : View V T). f.seats (f.of u.own.knows)) e in let n = f.nobody_is in omega arith
 
-  was_so : (s : State S (View V T)) (r : IsKept f k s) (j : ℕ) (v : View V T) → get_elem? s.views j ≡ some v → IsSomeones f v → Is r.world r.history r.spot r.made j v
+  was_so : (s : State S (View V T)) (r : IsKept f k s) (j : ℕ) (v : View V T) → get_elem? s.views j ≡ some v → IsSomeones f v
+      → Is r.world r.history r.spot r.made j v
   was_so s r j v e h = (r.views j v e h, r.maker j v e h)
 
   -- a token of no seat may be made
   pub spares_kept : (id : ℕ) (v : View V T) → Splits (IsKept f k) id v (staying v) (vacant f v)
   spares_kept id v s r at = respotted s r r.spot (set s.views id v ++ nobody f ∷ []) (λ j u e h. ⊎_elim
-      (λ (was : get_elem? (set s.views id v) j ≡ some u). was_so s r j u (ap (λ (l : List (View V T)). get_elem? l j) (sym (set_again s.views id v at)) ∙ was) h)
+      (λ (was : get_elem? (set s.views id v) j ≡ some u). was_so s r j u
+      (ap (λ (l : List (View V T)). get_elem? l j) (sym (set_again s.views id v at)) ∙ was) h)
       (λ (t : (j ≡ length (set s.views id v)) × (nobody f ≡ u)). absurd (nobody_not u t.1 h))
       (at_end (set s.views id v) (nobody f) u j e))
-      (λ n low. longer f (set s.views id v) (nobody f) (r.spot n) n (subst (λ (l : List (View V T)). IsSeated f l (r.spot n) n) (sym (set_again s.views id v at)) (r.seated n low)))
+      (λ n low. longer f (set s.views id v) (nobody f) (r.spot n) n
+      (subst (λ (l : List (View V T)). IsSeated f l (r.spot n) n) (sym (set_again s.views id v at)) (r.seated n low)))
 
   -- the seats of a view sit at another place
-  sits_at : (world : f.World) (history : List (SeatStride T)) (spot goes : ℕ → ℕ) (made j i : ℕ) (u : Seated V T) → Sits f k world history spot made j u → goes u.number ≡ i
+  pub sits_at : (world : f.World) (history : List (SeatStride T)) (spot goes : ℕ → ℕ) (made j i : ℕ) (u : Seated V T)
+      → Sits f k world history spot made j u → goes u.number ≡ i
       → Sits f k world history goes made i u
   sits_at world history spot goes made j i u o is = record { place_is = is; is_made = o.is_made; of_is = o.of_is; knows = o.knows; went = o.went }
 
@@ -75,11 +81,13 @@ module _ {S V T K : Type 0} (f : Family S V T K) (k : f.Key) where
     away = moved r.spot v.guests (length without)
 
     -- a seat that is no guest sits where it sat
-    no_guest : (j : ℕ) (u : Seated V T) → ((g : Seated V T) → In g v.guests → g.number ≢ u.number) → Sits f k r.world r.history r.spot r.made j u → Sits f k r.world r.history away r.made j u
+    no_guest : (j : ℕ) (u : Seated V T) → ((g : Seated V T) → In g v.guests → g.number ≢ u.number) → Sits f k r.world r.history r.spot r.made j u
+        → Sits f k r.world r.history away r.made j u
     no_guest j u none o = sits_at r.world r.history r.spot away r.made j j u o (moved_else r.spot v.guests (length without) u.number none ∙ o.place_is)
 
     -- who sits at another place is none
-    not_there : (j : ℕ) (u : Seated V T) → j ≢ id → Sits f k r.world r.history r.spot r.made j u → (g : Seated V T) → In g v.guests → g.number ≢ u.number
+    not_there : (j : ℕ) (u : Seated V T) → j ≢ id → Sits f k r.world r.history r.spot r.made j u → (g : Seated V T)
+        → In g v.guests → g.number ≢ u.number
     not_there j u ne o g h e = ne (sym o.place_is ∙ ap r.spot (sym e) ∙ (stay.guests g h).place_is)
 
     left_alone : HasSeats f k r.world r.history away r.made id (alone v)
@@ -90,15 +98,16 @@ module _ {S V T K : Type 0} (f : Family S V T K) (k : f.Key) where
       where
         by : (gs : List (Seated V T)) → v.guests ≡ gs → Is r.world r.history away r.made (length without) u
         by [] none = absurd (nobody_not u (sym (ap (guests_apart f) none) ∙ e) h)
-        by (x ∷ xs) is = is_at r.world r.history away r.made (length without) (length without) (record { own = x; guests = xs; made = 0 }) u refl (sym (ap (guests_apart f) is) ∙ e) (
-          record {
-            own = leaves x (inl refl);
-            guests = λ g i. leaves g (inr i);
-            others = all.0;
-            apart = all.1;
-          },
-          (λ made. absurd (omega arith)),
-        )
+        by (x ∷ xs) is = is_at r.world r.history away r.made (length without) (length without) (record { own = x; guests = xs; made = 0 })
+            u refl (sym (ap (guests_apart f) is) ∙ e) (
+              record {
+                own = leaves x (inl refl);
+                guests = λ g i. leaves g (inr i);
+                others = all.0;
+                apart = all.1;
+              },
+              (λ made. absurd (omega arith)),
+            )
           where
             all : AreApart (x ∷ xs)
             all = subst AreApart is stay.apart
@@ -136,7 +145,8 @@ module _ {S V T K : Type 0} (f : Family S V T K) (k : f.Key) where
 
             some_leaving : (gs : List (Seated V T)) → v.guests ≡ gs → (h : Seated V T) → In h gs → IsSomeones f (guests_apart f gs)
             some_leaving [] is h i = absurd i
-            some_leaving (x ∷ xs) is h i = let a = ap f.seats (stay.guests x (subst (In x) (sym is) (inl refl))).of_is in let b = ap f.seats stay.own.of_is in omega (arith, some_v)
+            some_leaving (x ∷ xs) is h i =
+                let a = ap f.seats (stay.guests x (subst (In x) (sym is) (inl refl))).of_is in let b = ap f.seats stay.own.of_is in omega (arith, some_v)
 
         here_it : r.spot n ≡ id → IsSeated f (without ++ leaving f v ∷ []) (away n) n
         here_it e = ⊎_elim stays goes (subst (HasSeat n) (same_at s.views (r.spot n) id o.0 v e o.1 at) o.3)
@@ -146,7 +156,12 @@ module _ {S V T K : Type 0} (f : Family S V T K) (k : f.Key) where
         (λ (was : get_elem? without j ≡ some u). ⊎_elim
         (λ (q : (j ≡ id) × (alone v ≡ u)). is_at r.world r.history away r.made id j (alone v) u q.0 q.1 (left_alone, r.maker id v at some_v))
         (λ (q : (j ≢ id) × (get_elem? s.views j ≡ some u)). let o = r.views j u q.1 h in (
-          record { own = no_guest j u.own (not_there j u.own q.0 o.own) o.own; guests = λ g i. no_guest j g (not_there j g q.0 (o.guests g i)) (o.guests g i); others = o.others; apart = o.apart },
+          record {
+            own = no_guest j u.own (not_there j u.own q.0 o.own) o.own;
+            guests = λ g i. no_guest j g (not_there j g q.0 (o.guests g i)) (o.guests g i);
+            others = o.others;
+            apart = o.apart;
+          },
           r.maker j u q.1 h,
         ))
         (at_set s.views id j (alone v) u was))
@@ -158,7 +173,8 @@ module _ {S V T K : Type 0} (f : Family S V T K) (k : f.Key) where
   forgets_kept id v some_v s r at = apart_kept id v some_v s r at
 
   -- a seat comes to sit with another
-  module _ (id : ℕ) (v : View V T) (other : ℕ) (w : View V T) (some_v : IsSomeones f v) (some_w : IsSomeones f w) (s : State S (View V T)) (r : IsKept f k s) (at : get_elem? s.views id ≡ some v) (lone_w : w.guests ≡ []) (apart : ¬ (other ≡ id))
+  module _ (id : ℕ) (v : View V T) (other : ℕ) (w : View V T) (some_v : IsSomeones f v) (some_w : IsSomeones f w) (s : State S (View V T))
+      (r : IsKept f k s) (at : get_elem? s.views id ≡ some v) (lone_w : w.guests ≡ []) (apart : ¬ (other ≡ id))
       (theirs : get_elem? (set s.views id (sitting v w)) other ≡ some w) where
     mine : HasSeats f k r.world r.history r.spot r.made id v
     mine = r.views id v at some_v
@@ -171,7 +187,9 @@ module _ {S V T K : Type 0} (f : Family S V T K) (k : f.Key) where
 
     -- who sits elsewhere isn't the seat that moves
     stays_there : (j : ℕ) (u : Seated V T) → j ≢ other → Sits f k r.world r.history r.spot r.made j u → Sits f k r.world r.history spot r.made j u
-    stays_there j u ne o = sits_at r.world r.history r.spot spot r.made j j u o (put_else r.spot w.own.number id u.number (λ q. ne (sym o.place_is ∙ ap r.spot q ∙ their.own.place_is)) ∙ o.place_is)
+    stays_there j u ne o =
+        sits_at r.world r.history r.spot spot r.made j j u o
+        (put_else r.spot w.own.number id u.number (λ q. ne (sym o.place_is ∙ ap r.spot q ∙ their.own.place_is)) ∙ o.place_is)
 
     differs : (u : Seated V T) → Sits f k r.world r.history r.spot r.made id u → u.number ≢ w.own.number
     differs u o q = apart (sym their.own.place_is ∙ ap r.spot (sym q) ∙ o.place_is)
@@ -195,7 +213,8 @@ module _ {S V T K : Type 0} (f : Family S V T K) (k : f.Key) where
       apart = ((λ h e. differs h (mine.guests h e)), mine.apart);
     }
 
-    seats_stay : (j : ℕ) (u : View V T) → j ≢ other → HasSeats f k r.world r.history r.spot r.made j u → HasSeats f k r.world r.history spot r.made j u
+    seats_stay : (j : ℕ) (u : View V T) → j ≢ other → HasSeats f k r.world r.history r.spot r.made j u
+        → HasSeats f k r.world r.history spot r.made j u
     seats_stay j u ne o = record { own = stays_there j u.own ne o.own; guests = λ g h. stays_there j g ne (o.guests g h); others = o.others; apart = o.apart }
 
     -- each seat sits somewhere
@@ -235,84 +254,6 @@ module _ {S V T K : Type 0} (f : Family S V T K) (k : f.Key) where
         (at_set (set s.views id (sitting v w)) other j (nobody f) u e))
         seated_both
 
-  pub sits_kept : (id : ℕ) (v : View V T) (other : ℕ) (w : View V T) → IsSomeones f v → IsSomeones f w → w.guests ≡ [] → Joins (IsKept f k) id v other w (sitting v w) (nobody f)
+  pub sits_kept : (id : ℕ) (v : View V T) (other : ℕ) (w : View V T) → IsSomeones f v → IsSomeones f w → w.guests ≡ []
+      → Joins (IsKept f k) id v other w (sitting v w) (nobody f)
   sits_kept id v other w some_v some_w lone_w s r at apart theirs = joined id v other w some_v some_w s r at lone_w apart theirs
-
-  -- the first guest leaves
-  module _ (id : ℕ) (v : View V T) (g : Seated V T) (gs : List (Seated V T)) (with_it : v.guests ≡ g ∷ gs) (some_v : IsSomeones f v) (s : State S (View V T)) (r : IsKept f k s) (at : get_elem? s.views id ≡ some v) where
-    abbrev left : View V T
-    left = record v { guests = gs }
-
-    abbrev before : List (View V T)
-    before = set s.views id left
-
-    all : HasSeats f k r.world r.history r.spot r.made id v
-    all = r.views id v at some_v
-
-    in_all : (h : Seated V T) → In h (g ∷ gs) → In h v.guests
-    in_all h = subst (In h) (sym with_it)
-
-    all_apart : AreApart (g ∷ gs)
-    all_apart = subst AreApart with_it all.apart
-
-    abbrev goes : ℕ → ℕ
-    goes = put r.spot g.number (length before)
-
-    remains : (j : ℕ) (u : Seated V T) → u.number ≢ g.number → Sits f k r.world r.history r.spot r.made j u → Sits f k r.world r.history goes r.made j u
-    remains j u ne o = sits_at r.world r.history r.spot goes r.made j j u o (put_else r.spot g.number (length before) u.number ne ∙ o.place_is)
-
-    leaver : Sits f k r.world r.history r.spot r.made id g
-    leaver = all.guests g (in_all g (inl refl))
-
-    elsewhere : (j : ℕ) (u : Seated V T) → j ≢ id → Sits f k r.world r.history r.spot r.made j u → Sits f k r.world r.history goes r.made j u
-    elsewhere j u ne o = remains j u (λ q. ne (sym o.place_is ∙ ap r.spot q ∙ leaver.place_is)) o
-
-    seats_left : HasSeats f k r.world r.history goes r.made id left
-    seats_left = record {
-      own = remains id v.own (λ q. all.others g (in_all g (inl refl)) (sym q)) all.own;
-      guests = λ h e. remains id h (all_apart.0 h e) (all.guests h (in_all h (inr e)));
-      others = λ h e. all.others h (in_all h (inr e));
-      apart = all_apart.1;
-    }
-
-    seats_right : HasSeats f k r.world r.history goes r.made (length before) (lone g)
-    seats_right = record {
-      own = sits_at r.world r.history r.spot goes r.made id (length before) g leaver (put_here r.spot g.number (length before));
-      guests = λ h e. absurd e;
-      others = λ h e. absurd e;
-      apart = tt;
-    }
-
-    -- each seat sits somewhere
-    seated_parted : (n : ℕ) → n < r.made → IsSeated f (before ++ lone g ∷ []) (goes n) n
-    seated_parted n low = dite (ℕ_discrete n g.number)
-        (λ e. subst (λ q. IsSeated f (before ++ lone g ∷ []) (goes q) q) (sym e)
-        (subst (λ j. IsSeated f (before ++ lone g ∷ []) j g.number) (sym (put_here r.spot g.number (length before)))
-        (lone g, at_last before (lone g) (length before) refl, some_g, inl refl)))
-        (λ ne. subst (λ j. IsSeated f (before ++ lone g ∷ []) j n) (sym (put_else r.spot g.number (length before) n ne))
-        (longer f before (lone g) (r.spot n) n (replaced f s.views id v left at some_v (r.spot n) n (fewer n ne (r.spot n)) (r.seated n low))))
-      where
-        some_g : IsSomeones f (lone g)
-        some_g = let a = ap f.seats leaver.of_is in let b = ap f.seats all.own.of_is in omega (arith, some_v)
-
-        fewer : (n : ℕ) → n ≢ g.number → (j : ℕ) → j ≡ id → HasSeat n v → HasSeat n left
-        fewer n ne j e = ⊎_elim (λ q. inl q) (λ h. ⊎_elim
-            (λ q. absurd (ne (sym h.2 ∙ ap (λ (y : Seated V T). y.number) (sym q))))
-            (λ q. inr (h.0, q, h.2))
-            (subst (In h.0) with_it h.1))
-
-    parts : IsKept f k (record { words = s.words; homes = s.homes; views = set s.views id left ++ lone g ∷ [] })
-    parts = respotted s r goes (set s.views id left ++ lone g ∷ []) (λ j u e h. ⊎_elim
-        (λ (was : get_elem? before j ≡ some u). ⊎_elim
-        (λ (q : (j ≡ id) × (left ≡ u)). is_at r.world r.history goes r.made id j left u q.0 q.1 (seats_left, r.maker id v at some_v))
-        (λ (q : (j ≢ id) × (get_elem? s.views j ≡ some u)). let o = r.views j u q.1 h in
-        (record { own = elsewhere j u.own q.0 o.own; guests = λ y e. elsewhere j y q.0 (o.guests y e); others = o.others; apart = o.apart }, r.maker j u q.1 h))
-        (at_set s.views id j left u was))
-        (λ (t : (j ≡ length before) × (lone g ≡ u)). is_at r.world r.history goes r.made (length before) j (lone g) u t.0 t.1 (seats_right, (λ made. absurd (omega arith))))
-        (at_end before (lone g) u j e))
-        seated_parted
-
-  pub parts_kept : (id : ℕ) (v : View V T) (g : Seated V T) (gs : List (Seated V T)) → v.guests ≡ g ∷ gs → IsSomeones f v → Splits (IsKept f k) id v (parting v) (parted f v)
-  parts_kept id v g gs with_it some_v s r at =
-      subst (λ (l : List (Seated V T)). IsKept f k (record { words = s.words; homes = s.homes; views = set s.views id (record v { guests = other_guests l }) ++ first_guest f l ∷ [] })) (sym with_it)
-      (parts id v g gs with_it some_v s r at)

@@ -12,10 +12,13 @@ use Rattle.running_rows.specs.Owing.{Stands, Leads, Owes}
 
 module _ {S V T K : Type 0} (f : Family S V T K) where
   -- a stride hangs alone on what the seat knew as it began
-  abbrev pub went_from : (from to : V → V) {deed : Deed f.Word} (u w : Seated V T) (n : ℕ) → from u.knows ≡ to u.knows → Went f from deed u n w → Went f to deed u n w
+  abbrev pub went_from : (from to : V → V) {deed : Deed f.Word} (u w : Seated V T) (n : ℕ) → from u.knows ≡ to u.knows
+      → Went f from deed u n w → Went f to deed u n w
   went_from from to u w n e r =
-      let o : (x : Ran (f.watched (f.of u.knows)) u.number (f.sight (to u.knows)) (f.stride r.stride) (f.sight w.knows)) × f.Also x.world u.number (to u.knows) r.stride w.knows
-      = subst (λ (v : V). (x : Ran (f.watched (f.of u.knows)) u.number (f.sight v) (f.stride r.stride) (f.sight w.knows)) × f.Also x.world u.number v r.stride w.knows) e (r.ran, r.also) in
+      let o : (x : Ran (f.watched (f.of u.knows)) u.number (f.sight (to u.knows)) (f.stride r.stride) (f.sight w.knows))
+      × f.Also x.world u.number (to u.knows) r.stride w.knows
+      = subst (λ (v : V). (x : Ran (f.watched (f.of u.knows)) u.number (f.sight v) (f.stride r.stride) (f.sight w.knows))
+      × f.Also x.world u.number v r.stride w.knows) e (r.ran, r.also) in
       record { stride = r.stride; ran = o.0; did = r.did; read = r.read; also = o.1; one = r.one; same = r.same }
 
   module _ (k : f.Key) (m : Me S (View V T)) (i : ℕ) where
@@ -27,7 +30,8 @@ module _ {S V T K : Type 0} (f : Family S V T K) where
 
     module _ (world : f.World) (words : List ℕ) (homes : List (Option S)) where
       -- a step that changes nothing leads on
-      pub stays_so : (then : Me S (View V T) → Type 0) → Stands f k m.0.own world words homes i → then m → Leads f k m world words homes i (slice_index words i) then
+      pub stays_so : (then : Me S (View V T) → Type 0) → Stands f k m.0.own world words homes i → then m
+          → Leads f k m world words homes i (slice_index words i) then
       stays_so then at tells = record {
         next = world;
         own = m.0.own;

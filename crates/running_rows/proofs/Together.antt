@@ -22,14 +22,16 @@ module _ {S V T K : Type 0} (f : Family S V T K) (s o t u : Me S (View V T)) (jo
 
   -- the first is as it was, but for what it saw
   pub left : ◌≡◌ {A = Me S (View V T)} (parting u.0, u.1) (record s.0 { own = u.0.own }, s.1)
-  left = (λ j. (record (parting (changed j).0) { own = u.0.own }, (changed j).1)) ∙ (λ j. (record (joined j).0 { own = u.0.own; guests = s.0.guests }, (joined j).1))
+  left = (λ j. (record (parting (changed j).0) { own = u.0.own }, (changed j).1))
+      ∙ (λ j. (record (joined j).0 { own = u.0.own; guests = s.0.guests }, (joined j).1))
 
   -- the guest sits alone
   pub right : ◌≡◌ {A = Me S (View V T)} (parted f u.0, []) (lone guest, [])
   right = ap (λ (gs : List (Seated V T)). (first_guest f gs, [])) guests_u
 
   pub met : Met f (f.word_at (f.of s.0.own.knows) i) s.0.own o.0.own n u.0.own guest
-  met = subst (λ (v : Seated V T). Met f (f.word_at (f.of v.knows) i) v o.0.own n u.0.own guest) (ap (λ (m : Me S (View V T)). m.0.own) joined) (told o.0.own s.0.guests guests_t).1
+  met = subst (λ (v : Seated V T). Met f (f.word_at (f.of v.knows) i) v o.0.own n u.0.own guest)
+      (ap (λ (m : Me S (View V T)). m.0.own) joined) (told o.0.own s.0.guests guests_t).1
 
   pub some_u : IsSomeones f s.0 → IsSomeones f u.0
   some_u some = subst (λ k. 0 < f.seats k) (sym (met.one.same.1)) some
@@ -46,7 +48,8 @@ module _ {S V T K : Type 0} (f : Family S V T K) (s o t u : Me S (View V T)) (jo
     own_b = ap (λ (m : Me S (View V T)). m.0.own) alone_b
 
     pub met_at : Met f (f.word_at (f.of s.0.own.knows) i) s.0.own o.0.own n a.0.own b.0.own
-    met_at = subst (λ (y : Seated V T × Seated V T). Met f (f.word_at (f.of s.0.own.knows) i) s.0.own o.0.own n y.0 y.1) (λ j. (sym own_a j, sym own_b j)) met
+    met_at =
+        subst (λ (y : Seated V T × Seated V T). Met f (f.word_at (f.of s.0.own.knows) i) s.0.own o.0.own n y.0 y.1) (λ j. (sym own_a j, sym own_b j)) met
 
     pub left_at : a ≡ (record s.0 { own = a.0.own }, s.1)
     left_at = left_is ∙ left ∙ (λ j. (record s.0 { own = sym own_a j }, s.1))

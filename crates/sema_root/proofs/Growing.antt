@@ -1,5 +1,6 @@
 -- What `queue` and `dequeue` come to on a root whose entries a treap keeps.
-use Rattle.std.proofs.Common.{◌≡◌, ℕ, ◌+◌, ◌<◌, Bool, [], Option, Some, None, is_some, IsSome, OnSome, MatchOption, slice_get, drop, length, option_map}
+use Rattle.std.proofs.Common.{◌≡◌, ℕ, ◌+◌, ◌<◌, Bool, [], Option, Some, None, is_some, IsSome, OnSome, MatchOption, slice_get, drop, length}
+use Rattle.std.proofs.Common.{option_map}
 use Rattle.std.proofs.Common.{refl, sym, ap, ◌∙◌, subst, arith, length-drop}
 use Rattle.std.proofs.lemmas.List.{length-map}
 use Rattle.waiters.specs.declared.wait.Wait.{Wait}
@@ -13,8 +14,8 @@ use Rattle.sema_root.specs.Rooted.{listed, shown, IsRooted, Comes, IsIn}
 use Rattle.sema_root.specs.Treap.{Tickets, queues_of, KeepsTickets, Draws}
 use Rattle.sema_root.specs.Tree.{Sprig, entries, size, sought, top_value, mapped, IsTreap}
 use Rattle.sema_root.proofs.Grafting.{grafted-size, grafted-treap}
-use Rattle.sema_root.proofs.Joining.{joined-fits, joined-list_room, joined-open, joined-queues, joined-room, joined-waited, pending, waits_on-absent}
-use Rattle.sema_root.proofs.Joining.{waits_on-entry}
+use Rattle.sema_root.proofs.Joining.{joined-fits, joined-list_room, joined-open, joined-queues, joined-room, joined-waited, pending}
+use Rattle.sema_root.proofs.Entries.{waits_on-absent, waits_on-entry}
 use Rattle.sema_root.proofs.Pruning.{pruned-size, pruned-treap}
 use Rattle.sema_root.proofs.Queueing.{Queued, queued_beside, queued_first, Dequeued, dequeued_beside, dequeued_last}
 use Rattle.sema_root.proofs.Rooting.{grafted-listed, grafted-ticket, holding, keeps-grafted, keeps-pruned, keeps-same, lacking, pruned-listed, shown-queues}
@@ -59,7 +60,8 @@ module _ {treap : Planted} {lists : Lists} {seats : ℕ} (rooted : IsRooted trea
       ∙ waits_on-absent lists c (listed treap.tree) (sym (sought-listed c treap.tree rooted.treap) ∙ is)
 
 -- what `queue` promises, and what the root keeps
-pub record QueuedOn (old new : Planted) (old_tickets new_tickets : Tickets) (old_lists new_lists : Lists) (seats counter : ℕ) (lifo : Bool) (wait : Wait) : Type 0 where
+pub record QueuedOn (old new : Planted) (old_tickets new_tickets : Tickets) (old_lists new_lists : Lists) (seats counter : ℕ)
+    (lifo : Bool) (wait : Wait) : Type 0 where
   pub rooted : IsRooted new new_lists seats
   pub queued : Changes (queues_of (mapped (waits_at old_lists) old.tree)) (queues_of (mapped (waits_at new_lists) new.tree)) counter
       (joined_by lifo wait (waits_on (queues_of (mapped (waits_at old_lists) old.tree)) counter))
@@ -67,7 +69,8 @@ pub record QueuedOn (old new : Planted) (old_tickets new_tickets : Tickets) (old
   pub kept : KeepsTickets (mapped (waits_at old_lists) old.tree) (mapped (waits_at new_lists) new.tree)
   pub drawn : Draws (shown old_lists old.tree old_tickets seats) (shown new_lists new.tree new_tickets seats) counter
 
-module _ (old : Planted) (old_tickets : Tickets) (old_lists : Lists) (seats : ℕ) (rooted : IsRooted old old_lists seats) (counter : ℕ) (lifo : Bool) (wait : Wait) where
+module _ (old : Planted) (old_tickets : Tickets) (old_lists : Lists) (seats : ℕ) (rooted : IsRooted old old_lists seats)
+    (counter : ℕ) (lifo : Bool) (wait : Wait) where
   -- a counter that comes in
   queued_in : (new : Planted) (new_tickets : Tickets) (mid new_lists : Lists) (key : ℕ)
       → top_value (sought counter old.tree) ≡ None → Comes old new old_tickets new_tickets old_lists mid counter key
@@ -112,7 +115,10 @@ module _ (old : Planted) (old_tickets : Tickets) (old_lists : Lists) (seats : �
         kept = keeps-same old_lists new_lists old.tree;
         drawn = record {
           waited = λ some. refl;
-          came = λ none. absurd (some_none (sym (ap (option_map ticket_in) (holding old.tree rooted.treap counter key has).1) ∙ sym (shown-ticket old_lists old.tree counter) ∙ none));
+          came =
+              λ none.
+              absurd (some_none (sym (ap (option_map ticket_in) (holding old.tree rooted.treap counter key has).1)
+              ∙ sym (shown-ticket old_lists old.tree counter) ∙ none));
         };
       }
     where
@@ -185,7 +191,8 @@ module _ (old : Planted) (old_lists : Lists) (seats : ℕ) (rooted : IsRooted ol
     -- somebody still waits on the counter
     pub dequeued_among : 0 < length (waits_at popped key) → DequeuedOn old new old_lists popped seats counter taken
     dequeued_among left =
-        subst (λ (n : Planted). DequeuedOn old n old_lists popped seats counter taken) (sym (leaves.others (λ one. absurd (omega (arith, one, one_less, left)))))
+        subst (λ (n : Planted). DequeuedOn old n old_lists popped seats counter taken)
+        (sym (leaves.others (λ one. absurd (omega (arith, one, one_less, left)))))
         (dequeued_to old popped rooted.treap rooted.room (keeps-same old_lists popped old.tree)
         (dequeued_beside rooted.joined taken has first rest room list_room left))
 

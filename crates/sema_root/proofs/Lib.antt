@@ -1,5 +1,6 @@
 pub mod Rising
 pub mod Entering
+pub mod Entries
 pub mod Joining
 pub mod Queueing
 pub mod Searching

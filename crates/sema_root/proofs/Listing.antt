@@ -1,5 +1,6 @@
 -- A walk for a counter's list finds it or enters it.
-use Rattle.std.proofs.Common.{◌≡◌, ◌≢◌, inl, inr, ℕ, suc, ◌+◌, ◌<◌, ◌≤◌, [], ◌∷◌, ◌++◌, Option, Some, None, MatchOption, true}
+use Rattle.std.proofs.Common.{◌≡◌, ◌≢◌, inl, inr, ℕ, suc, ◌+◌, ◌<◌, ◌≤◌, [], ◌∷◌, ◌++◌, Option, Some, None, MatchOption}
+use Rattle.std.proofs.Common.{true}
 use Rattle.std.proofs.Common.{refl, sym, ap, ◌∙◌, subst, arith, ltb, ltb-true, ltb-false}
 use Rattle.std.proofs.lemmas.Bool.{cond_both}
 use Rattle.slab.specs.Slab.{get, slab_len}
@@ -59,13 +60,16 @@ module _ (old : Branches) (link : Link) (at : Option ℕ) (key : ℕ) (node : No
       (λ more. sought-open_right old.nodes node (tree_at old.nodes at) opens counter (omega arith))
 
   -- and comes back up from there
-  module _ (new : Branches) (f : Tree ℕ → Tree ℕ) (is_left : counter < node.counter → (left right : Tree ℕ) → f (fork left (sprig node) right) ≡ fork (f left) (sprig node) right)
+  module _ (new : Branches) (f : Tree ℕ → Tree ℕ)
+      (is_left : counter < node.counter → (left right : Tree ℕ) → f (fork left (sprig node) right) ≡ fork (f left) (sprig node) right)
       (is_right : node.counter < counter → (left right : Tree ℕ) → f (fork left (sprig node) right) ≡ fork left (sprig node) (f right))
       (fits : size (f (tree_at old.nodes at)) ≤ old.nodes.capacity) where
-    pub Regrows-toward : Regrows old new (toward counter key node).0 (tree_at old.nodes (toward counter key node).1) (f (tree_at old.nodes (toward counter key node).1))
+    pub Regrows-toward : Regrows old new (toward counter key node).0 (tree_at old.nodes (toward counter key node).1)
+        (f (tree_at old.nodes (toward counter key node).1))
         → Regrows old new link (tree_at old.nodes at) (f (tree_at old.nodes at))
     Regrows-toward = toward-by counter key node
-        (λ r. Regrows old new r.0 (tree_at old.nodes r.1) (f (tree_at old.nodes r.1)) → Regrows old new link (tree_at old.nodes at) (f (tree_at old.nodes at)))
+        (λ r. Regrows old new r.0 (tree_at old.nodes r.1) (f (tree_at old.nodes r.1))
+        → Regrows old new link (tree_at old.nodes at) (f (tree_at old.nodes at)))
         (λ less below.
         let left = tree_at old.nodes node.left in
         let right = tree_at old.nodes node.right in
@@ -75,7 +79,8 @@ module _ (old : Branches) (link : Link) (at : Option ℕ) (key : ℕ) (node : No
         let left = tree_at old.nodes node.left in
         let right = tree_at old.nodes node.right in
         let is : f (tree_at old.nodes at) ≡ fork left (sprig node) (f right) = ap f opens.is ∙ is_right (omega arith) left right in
-        rw is (Regrows-right old link at key node counter comes leads got new (f right) below (subst (λ (t : Tree ℕ). size t ≤ old.nodes.capacity) is fits)))
+        rw is (Regrows-right old link at key node counter comes leads got new (f right) below
+        (subst (λ (t : Tree ℕ). size t ≤ old.nodes.capacity) is fits)))
 
 -- a new node is hung at the link, over two trees that the tree there came apart into
 pub Regrows-new : (old mid new : Branches) (link : Link) (at left right : Option ℕ) (sprout : Sprig ℕ) (on_left on_right : Tree ℕ)
@@ -91,7 +96,8 @@ Regrows-new old mid new link at left right sprout on_left on_right comes keeps t
     let was = entries (tree_at old.nodes at) in
     let added : Keeps mid.nodes hangs.mid.nodes [] = record {
       others = λ key node got lacks.
-          let other : key ≢ hangs.key = λ same. (let here : get mid.nodes hangs.key ≡ Some node = ap (get mid.nodes) (sym same) ∙ got in cc (hangs.vacant, here)) in
+          let other : key ≢ hangs.key = λ same.
+          (let here : get mid.nodes hangs.key ≡ Some node = ap (get mid.nodes) (sym same) ∙ got in cc (hangs.vacant, here)) in
           hangs.updates.others key other ∙ got;
       capacity = hangs.same_capacity;
     } in
@@ -119,7 +125,8 @@ abbrev pub sprout : ℕ → ℕ → Answer → Sprig ℕ
 sprout counter ticket answer = record { counter = counter; ticket = ticket; value = answer.list }
 
 -- where the walk has ended and the counter is not found, all tickets are larger
-larger_left : (counter ticket : ℕ) (tree : Tree ℕ) → EndsAt counter ticket tree → top_value (sought counter tree) ≡ None → IsAtMost (suc ticket) tree
+larger_left : (counter ticket : ℕ) (tree : Tree ℕ) → EndsAt counter ticket tree
+    → top_value (sought counter tree) ≡ None → IsAtMost (suc ticket) tree
 larger_left counter ticket leaf ends none = tt
 larger_left counter ticket (fork left node right) (inl same) none =
     let here : top_value (sought counter (fork left node right)) ≡ Some node.value = ap top_value (sought-here counter left node right (sym same)) in
@@ -159,4 +166,5 @@ module _ (old : Branches) (counter ticket : ℕ) (link : Link) (at : Option ℕ)
   Enters-end new none fits =
       let holds = walked.seeks.comes.searchable.holds in
       let is : tree_at old.nodes at ≡ leaf = Holds-nothing old.nodes at (tree_at old.nodes at) none holds in
-      Enters-there old new None None fits (sym (ap (λ (t : Tree ℕ). top_value (sought counter t)) is)) (Splits-leaf old.nodes at counter none holds) refl refl
+      Enters-there old new None None fits (sym (ap (λ (t : Tree ℕ). top_value (sought counter t)) is))
+      (Splits-leaf old.nodes at counter none holds) refl refl

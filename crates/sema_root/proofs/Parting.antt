@@ -84,7 +84,8 @@ module _ (old mid new : Slab Node) (link : Option ℕ) (at : ℕ) (node : Node) 
       let rehung = Rehangs-left old mid new at node above (entries whole) got capacity (entries left) sides.1 right searched done.keeps
       done.above_holds.stands parted.1 opens.right.stands updates
       (λ c lacks. let parts = Lacks-around c (entries left) (entry (sprig node)) (entries right) lacks in (parts.0, parts.1)) in
-      let is : split counter tree ≡ (sides.0, fork sides.1 (sprig node) right) = ap (split counter) opens.is ∙ split-left counter left (sprig node) right less in
+      let is : split counter tree ≡ (sides.0, fork sides.1 (sprig node) right) = ap (split counter) opens.is
+      ∙ split-left counter left (sprig node) right less in
       let fits : size tree ≤ old.capacity = holds.fits in
       record {
         below_holds = rw is (Holds-kept mid new _ rehung.later below sides.0 (Apart-one (entry (sprig node)) (entries sides.0) parted.0) done.below_holds);
@@ -102,11 +103,13 @@ module _ (old mid new : Slab Node) (link : Option ℕ) (at : ℕ) (node : Node) 
       let whole = fork left (sprig node) right in
       let searched : AreRising (entries whole) = subst (λ (t : Tree ℕ). AreRising (entries t)) opens.is rising in
       let around = Around-rising (entry (sprig node)) (entries left) (entries right) searched in
-      let parted = Lacks-parts node.counter (entries sides.0) (entries sides.1) (subst (Lacks node.counter) (sym (split-entries counter right)) around.behind) in
+      let parted = Lacks-parts node.counter (entries sides.0) (entries sides.1)
+      (subst (Lacks node.counter) (sym (split-entries counter right)) around.behind) in
       let rehung = Rehangs-right old mid new at node below (entries whole) got capacity (entries right) sides.0 left searched done.keeps
       done.below_holds.stands parted.0 opens.left.stands updates
       (λ c lacks. let parts = Lacks-around c (entries left) (entry (sprig node)) (entries right) lacks in (parts.2, parts.1)) in
-      let is : split counter tree ≡ (fork left (sprig node) sides.0, sides.1) = ap (split counter) opens.is ∙ split-right counter left (sprig node) right more in
+      let is : split counter tree ≡ (fork left (sprig node) sides.0, sides.1) = ap (split counter) opens.is
+      ∙ split-right counter left (sprig node) right more in
       let fits : size tree ≤ old.capacity = holds.fits in
       record {
         below_holds = rw is (record { stands = rehung.stands; fits = omega (arith, split-size counter right, ap size opens.is, rehung.keeps.capacity) });
@@ -173,7 +176,8 @@ module _ (old : Slab Node) (first second : Option ℕ) (node : Node) (can : AreM
       done.holds.stands (subst (Lacks node.counter) (sym (merged-entries right other)) first_around.behind) opens.left.stands updates
       (λ c lacks.
       let parts = Lacks-around c (entries left) (entry (sprig node)) both
-      (subst (Lacks c) (ap (λ (t : Tree ℕ). entries t ++ entries other) opens.is ∙ append_assoc (entries left) (entry (sprig node) ∷ entries right) (entries other)) lacks) in
+      (subst (Lacks c) (ap (λ (t : Tree ℕ). entries t ++ entries other) opens.is ∙ append_assoc (entries left)
+      (entry (sprig node) ∷ entries right) (entries other)) lacks) in
       (parts.2, parts.1)) in
       let is : merged (tree_at old first) other ≡ fork left (sprig node) into =
       ap (λ (t : Tree ℕ). merged t other) opens.is ∙ ap (merged (fork left (sprig node) right)) lower_opens.is
@@ -217,7 +221,8 @@ module _ (old : Slab Node) (first second : Option ℕ) (node : Node) (can : AreM
       done.holds.stands (subst (Lacks node.counter) (sym (merged-entries other left)) second_around.before) opens.right.stands updates
       (λ c lacks.
       let parts = Lacks-around c both (entry (sprig node)) (entries right)
-      (subst (Lacks c) (ap (λ (t : Tree ℕ). entries other ++ entries t) opens.is ∙ sym (append_assoc (entries other) (entries left) (entry (sprig node) ∷ entries right))) lacks) in
+      (subst (Lacks c) (ap (λ (t : Tree ℕ). entries other ++ entries t) opens.is
+      ∙ sym (append_assoc (entries other) (entries left) (entry (sprig node) ∷ entries right))) lacks) in
       (parts.0, parts.1)) in
       let is : merged other (tree_at old second) ≡ fork into (sprig node) right =
       ap (merged other) opens.is ∙ ap (λ (t : Tree ℕ). merged t (fork left (sprig node) right)) upper_opens.is

@@ -131,7 +131,8 @@ module _ (old : Branches) (reserved : ℕ) (planted : IsPlanted old reserved) (c
   -- or may have gone
   pub Leaves-top : (new : Branches) (lists : Lists) (found : Option ℕ) → found ≡ top_value (sought counter (tree_at old.nodes old.top))
       → MatchOption found (new ≡ old) (Leaves old new (tree_at old.nodes old.top) counter lists)
-      → IsReplanted new reserved (MatchOption found (seen new reserved ≡ seen old reserved) (treap.Leaves (seen old reserved) (seen new reserved) counter lists))
+      → IsReplanted new reserved (MatchOption found (seen new reserved ≡ seen old reserved)
+      (treap.Leaves (seen old reserved) (seen new reserved) counter lists))
   Leaves-top new lists None none same = record {
     stays = subst (λ (b : Branches). IsPlanted b reserved) (sym same) planted;
     settled = ap (λ (b : Branches). seen b reserved) same;

@@ -1,5 +1,6 @@
 -- What a wait that is queued, and one that is taken, comes to on the queues, whatever keeps the entries.
-use Rattle.std.proofs.Common.{◌≡◌, ℕ, ◌+◌, ◌<◌, Bool, true, false, List, [], ◌∷◌, Option, Some, None, is_some, IsSome, IfNone, OnSome, slice_get, drop, length}
+use Rattle.std.proofs.Common.{◌≡◌, ℕ, ◌+◌, ◌<◌, Bool, true, false, List, [], ◌∷◌, Option, Some, None, is_some, IsSome, IfNone, OnSome}
+use Rattle.std.proofs.Common.{slice_get, drop, length}
 use Rattle.std.proofs.Common.{refl, sym, ap, ◌∙◌, subst, arith, length-append, length-drop}
 use Rattle.waiters.specs.declared.wait.Wait.{Wait}
 use Rattle.waiters.specs.Lists.{Lists, list_at, waits_at, Changes as ListChanges}
@@ -7,7 +8,8 @@ use Rattle.sema_root.specs.Entries.{entry_of, Adds, Removes}
 use Rattle.sema_root.specs.Queues.{waits_on, total, joined_by, Changes}
 use Rattle.sema_root.specs.Joined.{queues_in, AreJoined}
 use Rattle.sema_root.proofs.Entering.{Adds-was}
-use Rattle.sema_root.proofs.Joining.{Replaces, comes_in, goes, stays, waits_on-entry, waits_on-absent, joined-waited, pending, ListChanges-then}
+use Rattle.sema_root.proofs.Joining.{Replaces, comes_in, goes, stays, joined-waited, pending, ListChanges-then}
+use Rattle.sema_root.proofs.Entries.{waits_on-entry, waits_on-absent}
 
 -- a wait that joins a queue makes it longer by one
 length-joined_by : (lifo : Bool) (wait : Wait) (waits : List Wait) → length (joined_by lifo wait waits) ≡ length waits + 1
@@ -39,7 +41,8 @@ module _ {old : Lists} {entries : List (ℕ × ℕ)} {seats c : ℕ} (joined : A
       let longer = length-joined_by lifo wait (waits_at old k) in
       let replaces : Replaces old new entries entries seats c (joined_by lifo wait (waits_at old k)) =
       stays joined has changed (omega arith) (omega arith) list_room in
-      queued_from lifo wait (subst (λ waits. Replaces old new entries entries seats c (joined_by lifo wait waits)) (sym (waits_on-entry old c k entries has)) replaces)
+      queued_from lifo wait (subst (λ waits. Replaces old new entries entries seats c (joined_by lifo wait waits))
+      (sym (waits_on-entry old c k entries has)) replaces)
 
   -- or is the first of a counter that comes in
   pub queued_first : {opened new : Lists} {more : List (ℕ × ℕ)} {k : ℕ} → Adds entries more c k
@@ -53,7 +56,8 @@ module _ {old : Lists} {entries : List (ℕ × ℕ)} {seats c : ℕ} (joined : A
       subst (λ waits. ListChanges opened new k (Some (joined_by lifo wait waits))) (pending opens) changed in
       let replaces : Replaces old new entries more seats c (joined_by lifo wait []) =
       comes_in joined adds closed (ListChanges-then opens pushed) (omega arith) (omega arith) (omega arith) in
-      queued_from lifo wait (subst (λ waits. Replaces old new entries more seats c (joined_by lifo wait waits)) (sym (waits_on-absent old c entries (Adds-was adds))) replaces)
+      queued_from lifo wait (subst (λ waits. Replaces old new entries more seats c (joined_by lifo wait waits))
+      (sym (waits_on-absent old c entries (Adds-was adds))) replaces)
 
 -- what `dequeue` promises of a counter that is in, and what a root keeps
 pub record Dequeued (old new : Lists) (entries fewer : List (ℕ × ℕ)) (seats c : ℕ) (taken : Option Wait) : Type 0 where

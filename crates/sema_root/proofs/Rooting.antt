@@ -52,7 +52,8 @@ module _ {A B : Type 0} (change : A → B) where
 
 -- the queues that a tree shows are those of its lists
 pub shown-queues : (lists : Lists) (tree : Tree ℕ) → queues_of (mapped (waits_at lists) tree) ≡ queues_in lists (listed tree)
-shown-queues lists tree = ap (map {A = ℕ × (ℕ × List Wait)} (λ entry. (entry.0, entry.1.1))) (mapped-entries (waits_at lists) tree) ∙ along (entries tree)
+shown-queues lists tree =
+    ap (map {A = ℕ × (ℕ × List Wait)} (λ entry. (entry.0, entry.1.1))) (mapped-entries (waits_at lists) tree) ∙ along (entries tree)
   where
     along : (es : List (ℕ × (ℕ × ℕ)))
         → map {A = ℕ × (ℕ × List Wait)} (λ entry. (entry.0, entry.1.1)) (map (λ entry. (entry.0, (entry.1.0, waits_at lists entry.1.1))) es)
@@ -124,7 +125,8 @@ module _ (tree : Tree ℕ) (treap : IsTreap tree) (c k : ℕ) (has : entry_of c 
   pruned-listed = changed-Removes list_in gone
 
 -- a counter with a ticket is in
-pub ticketed : (lists : Lists) (tree : Tree ℕ) (c : ℕ) → IsSome (ticket_of (mapped (waits_at lists) tree) c) → entry_of c (entries tree) ≡ None → ⊥
+pub ticketed : (lists : Lists) (tree : Tree ℕ) (c : ℕ) → IsSome (ticket_of (mapped (waits_at lists) tree) c)
+    → entry_of c (entries tree) ≡ None → ⊥
 ticketed lists tree c some lacks = none_some (ap is_some (sym (shown-ticket lists tree c ∙ ap (option_map ticket_in) lacks)) ∙ some)
   where
     none_some : false ≡ true → ⊥

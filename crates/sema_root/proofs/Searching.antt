@@ -1,5 +1,6 @@
 -- What a search finds in a sorted vector of entries, and what an edit of the vector at that place does to the pairs.
-use Rattle.std.proofs.Common.{◌≡◌, ℕ, zero, suc, ◌+◌, ◌<◌, ◌≤◌, List, [], ◌∷◌, ◌++◌, length, take, drop, get_or, Some, None, Result, Ok, Err, IfOk, IfErr}
+use Rattle.std.proofs.Common.{◌≡◌, ℕ, zero, suc, ◌+◌, ◌<◌, ◌≤◌, List, [], ◌∷◌, ◌++◌, length, take, drop, get_or, Some, None}
+use Rattle.std.proofs.Common.{Result, Ok, Err, IfOk, IfErr}
 use Rattle.std.proofs.Common.{sym, ap, ◌∙◌, arith, drop-cons, length-drop}
 use Rattle.std.specs.List.{insert, remove}
 use Rattle.std.specs.List.Sorted.{IsSearchInRange, IsBinarySearchResult, IsNonDecreasingBy}
@@ -79,12 +80,14 @@ removes_at entries c at is_at entry is = record {
       ∙ map-append _ (take at entries) (drop at entries)
       ∙ ap (λ rest. pairs (take at entries) ++ pairs rest) (drop-cons entries at entry is_at.in_range)
       ∙ ap (λ here. pairs (take at entries) ++ (here.counter, here.list) ∷ pairs (drop (suc at) entries)) (sym is)
-      ∙ ap (λ counter. pairs (take at entries) ++ (counter, entry.list) ∷ pairs (drop (suc at) entries)) (ap (λ here. here.counter) is ∙ is_at.here entry);
+      ∙ ap (λ counter. pairs (take at entries) ++ (counter, entry.list) ∷ pairs (drop (suc at) entries))
+      (ap (λ here. here.counter) is ∙ is_at.here entry);
   are = map-append _ (take at entries) (drop (suc at) entries);
 }
 
 -- so the pairs have its list for the counter
-pub found_list : (entries : List CounterQueue) (c at : ℕ) → AreRising (pairs entries) → IsAt entries c at → (entry : CounterQueue) → entry ≡ get_or entries at entry
+pub found_list : (entries : List CounterQueue) (c at : ℕ) → AreRising (pairs entries) → IsAt entries c at
+    → (entry : CounterQueue) → entry ≡ get_or entries at entry
     → entry_of c (pairs entries) ≡ Some entry.list
 unfolding removes_at
 found_list entries c at rising is_at entry is = Removes-was (removes_at entries c at is_at entry is) rising

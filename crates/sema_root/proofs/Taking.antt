@@ -22,7 +22,8 @@ use Rattle.sema_root.proofs.Hanging.{IsThere-kept, Regrows-hung}
 -- a pruned tree is no larger
 pub pruned-fits : (counter : ℕ) (tree : Tree ℕ) → size (pruned counter tree) ≤ size tree
 pruned-fits counter = pruned-by counter (λ old tree. size tree ≤ size old)
-    (omega arith) (λ left node right same. omega (arith, merged-size left right)) (λ left node right tree less is. omega arith) (λ left node right tree more is. omega arith)
+    (omega arith) (λ left node right same. omega (arith, merged-size left right)) (λ left node right tree less is. omega arith)
+    (λ left node right tree more is. omega arith)
 
 -- the walk has ended at the link
 module _ (old : Branches) (counter ticket : ℕ) (link : Link) (at : Option ℕ) (walked : SeeksTo old counter ticket link at) where

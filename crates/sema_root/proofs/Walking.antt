@@ -44,13 +44,15 @@ module _ (branches : Branches) (counter ticket : ℕ) (link : Link) (at : Option
               let new_node : Sprig ℕ = record { counter = counter; ticket = ticket; value = list } in
               seeks.grafts new list fits (Regrows-toward branches link at key node counter comes leads got apart new (grafted new_node)
               (λ less left right. rw (le-ltb ticket node.ticket most, lt-ltb counter node.counter less))
-              (λ more left right. let no_less : node.counter ≤ counter = omega arith in rw (le-ltb ticket node.ticket most, le-ltb counter node.counter no_less))
+              (λ more left right. let no_less : node.counter ≤ counter = omega arith in
+              rw (le-ltb ticket node.ticket most, le-ltb counter node.counter no_less))
               (omega (arith, grafted-size new_node tree, seeks.within))
               regrows);
           prunes = λ new regrows.
               seeks.prunes new (Regrows-toward branches link at key node counter comes leads got apart new (pruned counter)
               (λ less left right. rw (ne_eqb counter node.counter apart, lt-ltb counter node.counter less))
-              (λ more left right. let no_less : node.counter ≤ counter = omega arith in rw (ne_eqb counter node.counter apart, le-ltb counter node.counter no_less))
+              (λ more left right. let no_less : node.counter ≤ counter = omega arith in
+              rw (ne_eqb counter node.counter apart, le-ltb counter node.counter no_less))
               (omega (arith, pruned-fits counter tree, comes.searchable.holds.fits))
               regrows);
         }

@@ -1,5 +1,6 @@
 -- A whole acquire.
-use Rattle.std.proofs.Common.{◌≡◌, Bool, ℕ, zero, suc, ◌+◌, List, [], ◌∷◌, ◌++◌, sym, refl, ap, ◌∙◌, subst, inl, inr, ⊎_elim, arith, append-nil}
+use Rattle.std.proofs.Common.{◌≡◌, Bool, ℕ, zero, suc, ◌+◌, List, [], ◌∷◌, ◌++◌, sym, refl, ap, ◌∙◌, subst, inl, inr, ⊎_elim}
+use Rattle.std.proofs.Common.{arith, append-nil}
 use Rattle.std.proofs.lemmas.List.Elements.{All-nil}
 use Rattle.step_table.specs.declared.entry.Entry.{Entry}
 use Rattle.step_table.specs.declared.entry.Entry.TheVariants.{Take, Queue}
@@ -32,7 +33,8 @@ module _ (s t u : SeatModel) (c : ℕ) where
 
   calls_on : (told : List Entry) → TriesOn s c t → RunsRows t (acquiring c A1) u told → RunsRows s (acquiring c A1) u told
   calls_on told (inl e) y = subst (λ (q : SeatModel). RunsRows q (acquiring c A1) u told) e y
-  calls_on told (inr x) y = calls_then s t u (acquiring c A1) (acquiring c A1) [] told (ap (λ (q : SeatModel). q.table) x.0) (ap (λ (q : SeatModel). q.number) x.0) (ap (λ (q : SeatState). q.place) x.1) x.2 y
+  calls_on told (inr x) y = calls_then s t u (acquiring c A1) (acquiring c A1) [] told (ap (λ (q : SeatModel). q.table) x.0)
+      (ap (λ (q : SeatModel). q.number) x.0) (ap (λ (q : SeatState). q.place) x.1) x.2 y
 
   number_on : TriesOn s c t → t.number ≡ s.number
   number_on x = ap (λ (q : SeatModel). q.number) (same_on x)
@@ -92,7 +94,9 @@ module _ (s t u : SeatModel) (c : ℕ) (lifo : Bool) (x : TriesOn s c t) where
 -- one more wait at the end
 queued_more : (i : ℕ) (a : Acquire) (turn n : ℕ) → queued i a turn n ++ Queue a.counter (wait i (turn + n)) a.lifo ∷ [] ≡ queued i a turn (suc n)
 queued_more i a turn zero = ap (λ k. Queue a.counter (wait i k) a.lifo ∷ []) (omega arith)
-queued_more i a turn (suc n) = ap (λ l. Queue a.counter (wait i turn) a.lifo ∷ l) (ap (λ k. queued i a (turn + 1) n ++ Queue a.counter (wait i k) a.lifo ∷ []) (omega arith) ∙ queued_more i a (turn + 1) n)
+queued_more i a turn (suc n) =
+    ap (λ l. Queue a.counter (wait i turn) a.lifo ∷ l)
+    (ap (λ k. queued i a (turn + 1) n ++ Queue a.counter (wait i k) a.lifo ∷ []) (omega arith) ∙ queued_more i a (turn + 1) n)
 
 -- of which call a seat is parked, and which turn its wait has
 abbrev acquire_in : Acquire → Place → Acquire
@@ -108,11 +112,17 @@ module _ (t : SeatModel) (a : Acquire) (turn : ℕ) (at : t.sight.stands.place �
   same_wait : (b : Acquire) (k : ℕ) → t.sight.stands.place ≡ Acquiring b (P k) → ◌≡◌ {A = Acquire × ℕ} (b, k) (a, turn)
   same_wait b k e = λ i. (acquire_in b ((sym e ∙ at) i), turn_in ((sym e ∙ at) i))
 
-  woken_by : (w : SeatModel) → IsRoused t (Woken w) → ComesTo t (Acquiring a A10) w × ((looked : List SemaStride) × CallsGranted t (Acquiring a (P turn)) w looked 1)
-  woken_by w e = subst (λ (q : Acquire × ℕ). ComesTo t (Acquiring q.0 A10) w × ((looked : List SemaStride) × CallsGranted t (Acquiring q.0 (P q.1)) w looked 1)) (same_wait e.1.0 e.1.1 e.1.2) (e.1.3, e.1.4)
+  woken_by : (w : SeatModel) → IsRoused t (Woken w) → ComesTo t (Acquiring a A10) w
+      × ((looked : List SemaStride) × CallsGranted t (Acquiring a (P turn)) w looked 1)
+  woken_by w e =
+      subst (λ (q : Acquire × ℕ). ComesTo t (Acquiring q.0 A10) w × ((looked : List SemaStride) × CallsGranted t (Acquiring q.0 (P q.1)) w looked 1))
+      (same_wait e.1.0 e.1.1 e.1.2) (e.1.3, e.1.4)
 
-  handed_by : (v : SeatModel) → IsRoused t (Handed v) → ((looked : List SemaStride) × CallsGranted t (Acquiring a (P turn)) v looked 2) × HasItsUnit a.counter (wait t.number turn) v.sight.seen
-  handed_by v e = subst (λ (q : Acquire × ℕ). ((looked : List SemaStride) × CallsGranted t (Acquiring q.0 (P q.1)) v looked 2) × HasItsUnit q.0.counter (wait t.number q.1) v.sight.seen) (same_wait e.2.0 e.2.1 e.2.2) (e.2.3, e.2.4)
+  handed_by : (v : SeatModel) → IsRoused t (Handed v) → ((looked : List SemaStride) × CallsGranted t (Acquiring a (P turn)) v looked 2)
+      × HasItsUnit a.counter (wait t.number turn) v.sight.seen
+  handed_by v e =
+      subst (λ (q : Acquire × ℕ). ((looked : List SemaStride) × CallsGranted t (Acquiring q.0 (P q.1)) v looked 2)
+      × HasItsUnit q.0.counter (wait t.number q.1) v.sight.seen) (same_wait e.2.0 e.2.1 e.2.2) (e.2.3, e.2.4)
 
 woken_acquire : (w : SeatModel) (a b : Acquire) → w.sight.stands.place ≡ Acquiring a A10 → w.sight.stands.place ≡ Acquiring b A10 → b ≡ a
 woken_acquire w a b at e = λ i. acquire_in b ((sym e ∙ at) i)
@@ -131,8 +141,11 @@ pub sleeps_first : (s : SeatModel) → SleepsOn s s
 sleeps_first s a turn parks = record {
   same = refl;
   times = 0;
-  stands = (λ i. record s.sight.stands { place = (parks i).place }) ∙ (λ i. record s.sight.stands { place = Acquiring a (P (none_more turn i)); turn = none_more s.sight.stands.turn i });
-  call = call_of s s (Acquiring a (P turn)) [] [] (All-nil (RunsOrWaits s.number)) (sym (placed_at (Acquiring a (P turn)) s.sight (ap (λ (q : SeatState). q.place) parks))) (sym (append-nil s.strides)) refl;
+  stands = (λ i. record s.sight.stands { place = (parks i).place })
+      ∙ (λ i. record s.sight.stands { place = Acquiring a (P (none_more turn i)); turn = none_more s.sight.stands.turn i });
+  call =
+      call_of s s (Acquiring a (P turn)) [] [] (All-nil (RunsOrWaits s.number))
+      (sym (placed_at (Acquiring a (P turn)) s.sight (ap (λ (q : SeatState). q.place) parks))) (sym (append-nil s.strides)) refl;
 }
   where
     none_more : (k : ℕ) → k ≡ k + 0
@@ -159,8 +172,10 @@ module _ (s t : SeatModel) (a : Acquire) (turn : ℕ) (parks : ParksLast s a tur
   at = ap (λ (q : SeatState). q.place) x.stands
 
   -- rows that follow
-  then_calls : (u : SeatModel) (more : List Entry) → RunsAndSleeps t (Acquiring a (P (turn + x.times))) u more → RunsAndSleeps s (Acquiring a (P turn)) u (queued s.number a s.sight.stands.turn x.times ++ more)
-  then_calls u more y = calls_then s t u (Acquiring a (P turn)) (Acquiring a (P (turn + x.times))) (queued s.number a s.sight.stands.turn x.times) more tables numbers at x.call
+  then_calls : (u : SeatModel) (more : List Entry) → RunsAndSleeps t (Acquiring a (P (turn + x.times))) u more
+      → RunsAndSleeps s (Acquiring a (P turn)) u (queued s.number a s.sight.stands.turn x.times ++ more)
+  then_calls u more y =
+      calls_then s t u (Acquiring a (P turn)) (Acquiring a (P (turn + x.times))) (queued s.number a s.sight.stands.turn x.times) more tables numbers at x.call
       (subst (λ i. Calls (RunsOrWaits i) t (Acquiring a (P (turn + x.times))) u more) numbers y)
 
   pub handed_on : (v : SeatModel) → IsRoused t (Handed v) → TakesFrom s (Acquiring a (P turn)) a v
@@ -187,13 +202,17 @@ module _ (s t : SeatModel) (a : Acquire) (turn : ℕ) (parks : ParksLast s a tur
     at_woken = ap (λ (q : SeatState). q.place) woke.0
 
     -- the rows of a retry
-    retry_calls : (u : SeatModel) (more : List Entry) → RunsRows w (Acquiring a A10) u more → RunsAndSleeps s (Acquiring a (P turn)) u (queued s.number a s.sight.stands.turn x.times ++ more)
+    retry_calls : (u : SeatModel) (more : List Entry) → RunsRows w (Acquiring a A10) u more
+        → RunsAndSleeps s (Acquiring a (P turn)) u (queued s.number a s.sight.stands.turn x.times ++ more)
     retry_calls u more y = then_calls u more
-        (calls_then t w u (Acquiring a (P (turn + x.times))) (Acquiring a A10) [] more (ap (λ (q : SeatModel). q.table) e.0) (ap (λ (q : SeatModel). q.number) e.0) at_woken woke.1.1.call
+        (calls_then t w u (Acquiring a (P (turn + x.times))) (Acquiring a A10) [] more (ap (λ (q : SeatModel). q.table) e.0)
+        (ap (λ (q : SeatModel). q.number) e.0) at_woken woke.1.1.call
         (sleepless t.number w u (Acquiring a A10) more y))
 
-    stands_woken : (place : Place) (k : ℕ) → record w.sight.stands { place = place; turn = w.sight.stands.turn + k } ≡ record s.sight.stands { place = place; turn = s.sight.stands.turn + x.times + k }
-    stands_woken place k = ap (λ (q : SeatState). record q { place = place; turn = q.turn + k }) (woke.0 ∙ ap (λ (q : SeatState). record q { place = Acquiring a A10 }) x.stands)
+    stands_woken : (place : Place) (k : ℕ) → record w.sight.stands { place = place; turn = w.sight.stands.turn + k }
+        ≡ record s.sight.stands { place = place; turn = s.sight.stands.turn + x.times + k }
+    stands_woken place k = ap (λ (q : SeatState). record q { place = place; turn = q.turn + k })
+        (woke.0 ∙ ap (λ (q : SeatState). record q { place = Acquiring a A10 }) x.stands)
 
     turn_woken : w.sight.stands.turn ≡ s.sight.stands.turn + x.times
     turn_woken = ap (λ (q : SeatState). q.turn) (woke.0 ∙ ap (λ (q : SeatState). record q { place = Acquiring a A10 }) x.stands)
@@ -211,7 +230,8 @@ module _ (s t : SeatModel) (a : Acquire) (turn : ℕ) (parks : ParksLast s a tur
       (
         x.times,
         y.1 ∙ ap (λ (q : SeatState). record q { place = Rest }) (woke.0 ∙ ap (λ (q : SeatState). record q { place = Acquiring a A10 }) x.stands),
-        inl (subst (λ i. RunsAndSleeps s (Acquiring a (P turn)) u (queued s.number a s.sight.stands.turn x.times ++ Take a.counter i ∷ [])) number_woken (retry_calls u (Take a.counter w.number ∷ []) y.2)),
+        inl (subst (λ i. RunsAndSleeps s (Acquiring a (P turn)) u (queued s.number a s.sight.stands.turn x.times ++ Take a.counter i ∷ [])) number_woken
+            (retry_calls u (Take a.counter w.number ∷ []) y.2)),
       ),
     )
 
@@ -219,10 +239,12 @@ module _ (s t : SeatModel) (a : Acquire) (turn : ℕ) (parks : ParksLast s a tur
     asleep_on u r = let y : IsEntered w a (Acquiring a A10) (Asleep u) = retried {R = λ b. IsEntered w b (Acquiring b A10) (Asleep u)} r in record {
       same = y.0 ∙ ap (λ (q : SeatModel). record q { sight = u.sight; strides = u.strides }) same_woken;
       times = suc x.times;
-      stands = y.1 ∙ ap (λ (q : SeatState). record { place = Acquiring a (P q.turn); turn = q.turn + 1; hand = q.hand }) (woke.0 ∙ ap (λ (q : SeatState). record q { place = Acquiring a A10 }) x.stands)
+      stands = y.1 ∙ ap (λ (q : SeatState). record { place = Acquiring a (P q.turn); turn = q.turn + 1; hand = q.hand })
+          (woke.0 ∙ ap (λ (q : SeatState). record q { place = Acquiring a A10 }) x.stands)
           ∙ (λ i. record s.sight.stands { place = Acquiring a (P (later i)); turn = one_more i });
       call = subst (λ l. RunsAndSleeps s (Acquiring a (P turn)) u l) (queued_more s.number a s.sight.stands.turn x.times)
-          (subst (λ (q : ℕ × ℕ). RunsAndSleeps s (Acquiring a (P turn)) u (queued s.number a s.sight.stands.turn x.times ++ Queue a.counter (wait q.0 q.1) a.lifo ∷ [])) (λ i. (number_woken i, turn_woken i))
+          (subst (λ (q : ℕ × ℕ). RunsAndSleeps s (Acquiring a (P turn)) u
+          (queued s.number a s.sight.stands.turn x.times ++ Queue a.counter (wait q.0 q.1) a.lifo ∷ [])) (λ i. (number_woken i, turn_woken i))
           (retry_calls u (Queue a.counter (wait w.number w.sight.stands.turn) a.lifo ∷ []) y.2));
     }
       where
@@ -234,7 +256,14 @@ module _ (s t : SeatModel) (a : Acquire) (turn : ℕ) (parks : ParksLast s a tur
 
 -- from the lock on, after tries that found none
 pub entered_at_once : (u t : SeatModel) (a : Acquire) → IsEntered u a (Acquiring a A3) (Taken t) → TakesFrom u (Acquiring a A3) a t
-entered_at_once u t a e = (e.0, (0, e.1 ∙ (λ i. record u.sight.stands { place = Rest; turn = none_more i }), inl (sleepless u.number u t (Acquiring a A3) (Take a.counter u.number ∷ []) e.2)))
+entered_at_once u t a e = (
+  e.0,
+  (
+    0,
+    e.1 ∙ (λ i. record u.sight.stands { place = Rest; turn = none_more i }),
+    inl (sleepless u.number u t (Acquiring a A3) (Take a.counter u.number ∷ []) e.2),
+  ),
+)
   where
     none_more : u.sight.stands.turn ≡ u.sight.stands.turn + 0
     none_more = omega arith
@@ -249,10 +278,13 @@ module _ (u w : SeatModel) (a : Acquire) (e : IsEntered u a (Acquiring a A3) (As
     (
       suc x.1.0,
       x.1.1 ∙ (λ i. record { place = Rest; turn = (turns x.1.0) i; hand = (e.1 i).hand }),
-      ⊎_elim (λ own. inl (first_then x.1.0 (Take a.counter u.number ∷ []) (subst (λ i. RunsAndSleeps w (Acquiring a (P u.sight.stands.turn)) t (queued w.number a w.sight.stands.turn x.1.0 ++ Take a.counter i ∷ [])) numbers own)))
+      ⊎_elim (λ own. inl (first_then x.1.0 (Take a.counter u.number ∷ [])
+          (subst (λ i. RunsAndSleeps w (Acquiring a (P u.sight.stands.turn)) t (queued w.number a w.sight.stands.turn x.1.0 ++ Take a.counter i ∷ []))
+          numbers own)))
           (λ handed. inr (
             subst (λ l. RunsAndSleeps u (Acquiring a A3) t l) (append-nil (queued u.number a u.sight.stands.turn (suc x.1.0)))
-                (first_then x.1.0 [] (subst (λ l. RunsAndSleeps w (Acquiring a (P u.sight.stands.turn)) t l) (sym (append-nil (queued w.number a w.sight.stands.turn x.1.0))) handed.0)),
+                (first_then x.1.0 [] (subst (λ l. RunsAndSleeps w (Acquiring a (P u.sight.stands.turn)) t l)
+                (sym (append-nil (queued w.number a w.sight.stands.turn x.1.0))) handed.0)),
             (
               handed.1.0,
               handed.1.1 ∙ turns x.1.0,
@@ -270,8 +302,11 @@ module _ (u w : SeatModel) (a : Acquire) (e : IsEntered u a (Acquiring a A3) (As
       turns n = let k = ap (λ (q : SeatState). q.turn) e.1 in omega arith
 
       -- the first wait, and what followed
-      first_then : (n : ℕ) (more : List Entry) → RunsAndSleeps w (Acquiring a (P u.sight.stands.turn)) t (queued w.number a w.sight.stands.turn n ++ more) → RunsAndSleeps u (Acquiring a A3) t (queued u.number a u.sight.stands.turn (suc n) ++ more)
-      first_then n more y = calls_then u w t (Acquiring a A3) (Acquiring a (P u.sight.stands.turn)) (Queue a.counter (wait u.number u.sight.stands.turn) a.lifo ∷ []) (queued u.number a (u.sight.stands.turn + 1) n ++ more)
+      first_then : (n : ℕ) (more : List Entry) → RunsAndSleeps w (Acquiring a (P u.sight.stands.turn)) t (queued w.number a w.sight.stands.turn n ++ more)
+          → RunsAndSleeps u (Acquiring a A3) t (queued u.number a u.sight.stands.turn (suc n) ++ more)
+      first_then n more y = calls_then u w t (Acquiring a A3) (Acquiring a (P u.sight.stands.turn))
+          (Queue a.counter (wait u.number u.sight.stands.turn) a.lifo ∷ []) (queued u.number a (u.sight.stands.turn + 1) n ++ more)
           (ap (λ (q : SeatModel). q.table) e.0) numbers (ap (λ (q : SeatState). q.place) e.1)
           (sleepless u.number u w (Acquiring a A3) (Queue a.counter (wait u.number u.sight.stands.turn) a.lifo ∷ []) e.2)
-          (subst (λ (q : ℕ × ℕ). Calls (RunsOrWaits q.0) w (Acquiring a (P u.sight.stands.turn)) t (queued q.0 a q.1 n ++ more)) (λ i. (numbers i, (e.1 i).turn)) y)
+          (subst (λ (q : ℕ × ℕ). Calls (RunsOrWaits q.0) w (Acquiring a (P u.sight.stands.turn)) t (queued q.0 a q.1 n ++ more))
+          (λ i. (numbers i, (e.1 i).turn)) y)

@@ -1,5 +1,6 @@
 -- How many units a row adds: a release adds them at its first row, and at no other.
-use Rattle.std.proofs.Common.{◌≡◌, ◌≢◌, ℕ, ◌+◌, ◌<◌, ◌≤◌, List, [], ◌∷◌, ◌++◌, sym, refl, ap, ◌∙◌, arith, Bool, true, false, cond, eq-eqb, ne_eqb}
+use Rattle.std.proofs.Common.{◌≡◌, ◌≢◌, ℕ, ◌+◌, ◌<◌, ◌≤◌, List, [], ◌∷◌, ◌++◌, sym, refl, ap, ◌∙◌, arith, Bool}
+use Rattle.std.proofs.Common.{true, false, cond, eq-eqb, ne_eqb}
 use Rattle.step_table.specs.declared.entry.Entry.{Entry}
 use Rattle.step_table.specs.declared.entry.Entry.TheVariants.{Add, AddMany, Take, Queue, Leave, Ticket, Grant}
 use Rattle.std.specs.List.{filter}
@@ -17,7 +18,8 @@ use Rattle.step_table.specs.Steps as steps
 use Rattle.step_table.proofs.Sums.{on_here, on_else}
 use Rattle.step_law_semaphores.specs.Balances.{added_by}
 use Rattle.step_law_semaphores.specs.Invariant.{IsInvariant}
-use Rattle.step_law_semaphores.proofs.Lines.{Line, r1, m1, begin_acquire, Step, own, post, step_of}
+use Rattle.step_law_semaphores.proofs.Lines.{Line, r1, m1, begin_acquire, Step, own, post}
+use Rattle.step_law_semaphores.proofs.Cases.{step_of}
 use Rattle.step_law_semaphores.proofs.Telling.{entries, Counts, count_append, count_after}
 
 -- how many units the row adds
@@ -43,7 +45,8 @@ line_adds {i = i} (m1 {r = r}) = let o = on_here i r.units in omega arith
 line_adds (begin_acquire _) = omega arith
 line_adds _ = omega arith
 
-line_adds_else : {m : Layout} {i : ℕ} {g h : Words} {p q : SeatState} {e : Effect} → Line m i g p q h e → (k : ℕ) → k ≢ i → added_by k (entries e) ≡ 0
+line_adds_else : {m : Layout} {i : ℕ} {g h : Words} {p q : SeatState} {e : Effect} → Line m i g p q h e → (k : ℕ)
+    → k ≢ i → added_by k (entries e) ≡ 0
 line_adds_else {i = i} r1 k ne = let o = on_else k i 1 ne in omega arith
 line_adds_else {i = i} (m1 {r = r}) k ne = let o = on_else k i r.units ne in omega arith
 line_adds_else (begin_acquire _) k ne = refl
@@ -63,7 +66,8 @@ pub step_adds : (m : Layout) (s t : SemaWorld) (i : ℕ) → i < m.seats → IsI
 step_adds m s t i there known step = by_line (step_of m s t i (known.seats i) (known.finds i there) step)
 
 -- an entry that adds nothing for the seat, taken or left out
-either_way : (k : ℕ) (b : Bool) (e : Entry) (es xs : List Entry) → added_by k (e ∷ xs) ≡ added_by k xs → added_by k (e ∷ es) ≡ added_by k es → added_by k xs ≡ added_by k es
+either_way : (k : ℕ) (b : Bool) (e : Entry) (es xs : List Entry) → added_by k (e ∷ xs) ≡ added_by k xs
+    → added_by k (e ∷ es) ≡ added_by k es → added_by k xs ≡ added_by k es
     → added_by k (cond b (e ∷ xs) xs) ≡ added_by k (e ∷ es)
 either_way k true e es xs a c rest = a ∙ rest ∙ sym c
 either_way k false e es xs a c rest = rest ∙ sym c
@@ -79,7 +83,8 @@ own_only k (Add c s ∷ es) = by (own_only k es) (ℕ_discrete s k)
         ∙ (let o = on_else k s 1 (λ q. ne (sym q)) in omega arith)
 own_only k (AddMany c n s ∷ es) = by (own_only k es) (ℕ_discrete s k)
   where
-    by : added_by k (filter (is_own k) es) ≡ added_by k es → Dec (s ≡ k) → added_by k (filter (is_own k) (AddMany c n s ∷ es)) ≡ on k s n + added_by k es
+    by : added_by k (filter (is_own k) es) ≡ added_by k es → Dec (s ≡ k)
+        → added_by k (filter (is_own k) (AddMany c n s ∷ es)) ≡ on k s n + added_by k es
     by r (yes e) = ap (λ b. added_by k (cond b (AddMany c n s ∷ filter (is_own k) es) (filter (is_own k) es))) (eq-eqb s k e) ∙ ap (λ y. on k s n + y) r
     by r (no ne) = ap (λ b. added_by k (cond b (AddMany c n s ∷ filter (is_own k) es) (filter (is_own k) es))) (ne_eqb s k ne)
         ∙ (let o = on_else k s n (λ q. ne (sym q)) in omega arith)

@@ -1,5 +1,6 @@
 -- A seat after strides: the same seat, which has told just their entries, and what it has seen is lawful.
-use Rattle.std.proofs.Common.{◌≡◌, ◌⊎◌, ℕ, ◌+◌, ◌<◌, ◌≤◌, IsTrue, true, false, List, [], ◌∷◌, ◌++◌, refl, sym, ap, ◌∙◌, subst, inl, inr, arith, append_assoc}
+use Rattle.std.proofs.Common.{◌≡◌, ◌⊎◌, ℕ, ◌+◌, ◌<◌, ◌≤◌, IsTrue, true, false, List, [], ◌∷◌, ◌++◌, refl, sym, ap}
+use Rattle.std.proofs.Common.{◌∙◌, subst, inl, inr, arith, append_assoc}
 use Rattle.std.proofs.Common.{append-nil}
 use Rattle.std.specs.List.{filter}
 use Rattle.std.proofs.lemmas.Bool.{cases_lt}
@@ -30,7 +31,8 @@ paths m = the_sema_paths.paths m
 
 -- a seat that isn't there stays at rest
 never_moved : (m : Layout) (i : ℕ) → m.seats ≤ i → (s : SemaWorld) → IsReached m s → (s.seats i).place ≡ Rest
-never_moved m i out s reached = steps_keep (Step m) m.seats (λ s. (s.seats i).place ≡ Rest) (λ s t j low at step. by s j low at step) (first_world m.starts) s reached refl
+never_moved m i out s reached =
+    steps_keep (Step m) m.seats (λ s. (s.seats i).place ≡ Rest) (λ s t j low at step. by s j low at step) (first_world m.starts) s reached refl
   where
     by : (s : SemaWorld) (j : ℕ) → j < m.seats → (s.seats i).place ≡ Rest → {t : SemaWorld} → Step m s j t
         → (t.seats i).place ≡ Rest
@@ -48,7 +50,9 @@ module _ (m : Layout) (i : ℕ) where
     there did = by (cases_lt i m.seats)
       where
         ran : (d : Deed Word) → d ≡ runs → Did (semaphores m) r.world i d p.read p.told w → m.seats ≤ i → ⊥
-        ran runs e x out = let never : false ≡ true = subst (λ (z : Place). IsTrue ((event_at i (r.world.seats i) r.world.words.lists z).can (finds m.root r.world i))) (never_moved m i out r.world r.meets.met) x.can in cc
+        ran runs e x out =
+            let never : false ≡ true = subst (λ (z : Place). IsTrue ((event_at i (r.world.seats i) r.world.words.lists z).can (finds m.root r.world i)))
+            (never_moved m i out r.world r.meets.met) x.can in cc
         ran (looks word) e x out = absurd cc
 
         by : (i < m.seats) ⊎ (m.seats ≤ i) → i < m.seats
@@ -63,7 +67,8 @@ module _ (m : Layout) (i : ℕ) where
 
         by : (d : Deed Word) → p.deed ≡ d → Did (semaphores m) r.world i d p.read p.told w
             → IsLawful (plain_start m.starts) w.seen
-        by runs e x = let o = the_sema_paths.ends m i v w p (there e) r in subst (λ (z : SemaSight). IsLawful (plain_start m.starts) z.seen) (sym o.2) (lawful_in o.0 o.1)
+        by runs e x = let o = the_sema_paths.ends m i v w p (there e) r in
+            subst (λ (z : SemaSight). IsLawful (plain_start m.starts) z.seen) (sym o.2) (lawful_in o.0 o.1)
         by (looks word) e x = subst (λ (z : SemaSight). IsLawful (plain_start m.starts) z.seen) (sym x.leads) (lawful_in r.world r.meets.met)
 
   -- what is seen after strides is lawful
@@ -110,11 +115,13 @@ some_stride m i v w from to [] path at ne e = ne (sym (ap (λ (x : SemaSight). x
 some_stride m i v w from to (p ∷ strides) path at ne e = cc
 
 -- a seat after a call that led to another place
-module _ {IsOne : SemaStride → Type 0} (s t : SeatModel) (from to : Place) (l k : ℕ) (same : t ≡ record s { left = l; taken = k; sight = t.sight; strides = t.strides }) (told : List Entry) (c : Calls IsOne s from t told)
+module _ {IsOne : SemaStride → Type 0} (s t : SeatModel) (from to : Place) (l k : ℕ)
+    (same : t ≡ record s { left = l; taken = k; sight = t.sight; strides = t.strides }) (told : List Entry) (c : Calls IsOne s from t told)
     (at : t.sight.stands.place ≡ to) (ne : from ≡ to → ⊥) where
   pub after_call : (added given : ℕ) → l + added ≡ s.left → k ≡ s.taken + given → IsSeatAfter s added given told t
   after_call added given left taken =
-      after_strides s t from added given told c.strides c.path c.told_is (some_stride (layout s.table.setting) s.number s.sight t.sight from to c.strides c.path at ne)
+      after_strides s t from added given told c.strides c.path c.told_is
+      (some_stride (layout s.table.setting) s.number s.sight t.sight from to c.strides c.path at ne)
       (ap (λ (x : SeatModel). x.table) same) (ap (λ (x : SeatModel). x.number) same)
       (ap (λ (x : SeatModel). x.left + added) same ∙ left) (ap (λ (x : SeatModel). x.taken) same ∙ taken)
 
@@ -122,8 +129,10 @@ module _ {IsOne : SemaStride → Type 0} (s t : SeatModel) (from to : Place) (l 
 pub after_look : (s t : SeatModel) (w : Word) (n : ℕ) → LooksAt s w n t → IsSeatAfter s 0 0 [] t
 after_look s t w n x =
     let m = layout s.table.setting in
-    let looked : OnlyLooked x.stride t.sight = subst (SemaDid m s.number x.stride t.sight) x.did (the_sema_paths.does m s.number s.sight t.sight x.stride x.ran) in
-    after_strides s t s.sight.stands.place 0 0 [] (x.stride ∷ []) (((paths m).single s.number s.sight t.sight x.stride).0 x.ran) (append-nil x.stride.told ∙ looked.told) (λ e. cc)
+    let looked : OnlyLooked x.stride t.sight = subst (SemaDid m s.number x.stride t.sight) x.did
+    (the_sema_paths.does m s.number s.sight t.sight x.stride x.ran) in
+    after_strides s t s.sight.stands.place 0 0 [] (x.stride ∷ []) (((paths m).single s.number s.sight t.sight x.stride).0 x.ran)
+    (append-nil x.stride.told ∙ looked.told) (λ e. cc)
     (ap (λ (y : SeatModel). y.table) x.same) (ap (λ (y : SeatModel). y.number) x.same)
     (let e = ap (λ (y : SeatModel). y.left) x.same in omega arith) (let e = ap (λ (y : SeatModel). y.taken) x.same in omega arith)
 
@@ -143,7 +152,9 @@ after_then s u t a b g h told more x y =
       left = let p = x.left in let q = y.left in omega arith;
       taken = let p = x.taken in let q = y.taken in omega arith;
       tells = tells_then s.sight.seen told more u.sight.seen t.sight.seen x.tells y.tells;
-      own = subst (λ i. filter (is_own i) t.sight.seen ≡ filter (is_own i) (u.sight.seen ++ more)) x.number y.own ∙ filter-append (is_own s.number) u.sight.seen more
-          ∙ ap (λ l. l ++ own more) x.own ∙ sym (filter-append (is_own s.number) (s.sight.seen ++ told) more) ∙ ap own (append_assoc s.sight.seen told more);
+      own = subst (λ i. filter (is_own i) t.sight.seen ≡ filter (is_own i) (u.sight.seen ++ more)) x.number y.own
+          ∙ filter-append (is_own s.number) u.sight.seen more
+          ∙ ap (λ l. l ++ own more) x.own ∙ sym (filter-append (is_own s.number) (s.sight.seen ++ told) more)
+          ∙ ap own (append_assoc s.sight.seen told more);
       lawful = subst (λ (z : TableModel). IsLawful (plain_start (layout z.setting).starts) t.sight.seen) x.table y.lawful;
     }

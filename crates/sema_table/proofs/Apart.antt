@@ -1,5 +1,6 @@
 -- Counters that lie a cache line apart.
-use Rattle.std.proofs.Common.{◌≡◌, ℕ, zero, suc, ◌*◌, ◌/◌, ◌<◌, List, [], ◌∷◌, ◌++◌, length, slice_index, sym, refl, ap, ◌∙◌, subst, arith}
+use Rattle.std.proofs.Common.{◌≡◌, ℕ, zero, suc, ◌*◌, ◌/◌, ◌<◌, List, [], ◌∷◌, ◌++◌, length, slice_index, sym, refl, ap}
+use Rattle.std.proofs.Common.{◌∙◌, subst, arith}
 use Rattle.running_rows.specs.Strides.{RanRow}
 use Rattle.running_rows.specs.Owing.{Owes}
 use Rattle.step_table.specs.declared.place.Place.{Place}
@@ -14,11 +15,13 @@ pub back : (i c : ℕ) → i ≡ 8 * c → i / 8 ≡ c
 back i c e = omega (arith, e)
 
 -- a row of the word's counter is one of the counter
-pub run_of : (row : ℕ → Place) (i c : ℕ) → i ≡ 8 * c → (v : SemaSeat) (n : ℕ) (w : SemaSeat) → Ran (begin (row (i / 8))) v n w → Ran (begin (row c)) v n w
+pub run_of : (row : ℕ → Place) (i c : ℕ) → i ≡ 8 * c → (v : SemaSeat) (n : ℕ) (w : SemaSeat)
+    → Ran (begin (row (i / 8))) v n w → Ran (begin (row c)) v n w
 run_of row i c e v n w r = subst (λ k. Ran (begin (row k)) v n w) (back i c e) r
 
 pub owes_of : (row : ℕ → Place) (i c : ℕ) → i ≡ 8 * c → (z : Setting) (m : Me) (f : ℕ → ℕ)
-    → Owes semaphore_rows z m i f (λ n t. RanRow semaphore_rows (begin (row c)) m n t) → Owes semaphore_rows z m i f (λ n t. RanRow semaphore_rows (begin (row (i / 8))) m n t)
+    → Owes semaphore_rows z m i f (λ n t. RanRow semaphore_rows (begin (row c)) m n t)
+    → Owes semaphore_rows z m i f (λ n t. RanRow semaphore_rows (begin (row (i / 8))) m n t)
 owes_of row i c e z m f a = subst (λ k. Owes semaphore_rows z m i f (λ n t. RanRow semaphore_rows (begin (row k)) m n t)) (sym (back i c e)) a
 
 pub length_apart : (xs : List ℕ) → length (apart xs) ≡ 8 * length xs

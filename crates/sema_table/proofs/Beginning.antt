@@ -30,7 +30,8 @@ first_holds n root r (ReleasingMany q M1) f = refl
 first_holds n root r _ f = absurd f
 
 decided : (n : ℕ) (from to : Place) → Decides from to → Choice n from to
-decided n (Releasing r R3) (Releasing q R3) d = subst (λ k. Choice n (Releasing r R3) (Releasing (record { counter = k; handoff = q.handoff }) R3)) d (decide r q.handoff)
+decided n (Releasing r R3) (Releasing q R3) d =
+    subst (λ k. Choice n (Releasing r R3) (Releasing (record { counter = k; handoff = q.handoff }) R3)) d (decide r q.handoff)
 decided n _ _ d = absurd d
 
 decided_holds : (root : ℕ → ℕ) (r : ℕ) (from to : Place) → Decides from to → holds root r to ≡ 0
@@ -85,7 +86,8 @@ module _ (m : Layout) (i : ℕ) (Q : SemaWorld → Type 0) (kept : (s t : SemaWo
 
   given_up : (w : SemaWorld) (a p : Place) → (w.seats i).place ≡ a → Choice m.counters a Rest → IsFirst m.counters p → Q w → Q (moved w i p)
   given_up w a p at c f q = subst Q (again w Rest p)
-      (chosen (moved w i Rest) Rest p (ap (λ (y : SeatState). y.place) (put_here w.seats i (record (w.seats i) { place = Rest }))) (first_choice m.counters p f)
+      (chosen (moved w i Rest) Rest p (ap (λ (y : SeatState). y.place) (put_here w.seats i (record (w.seats i) { place = Rest })))
+      (first_choice m.counters p f)
       (chosen w a Rest at c q))
 
   free_begins : (w : SemaWorld) (a p : Place) → (w.seats i).place ≡ a → is_free a ≡ true → IsFirst m.counters p → Q w → Q (moved w i p)

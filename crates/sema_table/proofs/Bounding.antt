@@ -14,7 +14,8 @@ use Rattle.sema_table.specs.declared.view.Setting.{Setting}
 use Rattle.sema_table.specs.Setting.{layout}
 
 -- what is taken was there at the start or was added
-pub taken_most : (z : Setting) (k : ℕ) (s : SemaWorld) → IsReached (layout z) s → IsSmall (layout z) s → length z.starts ≤ 65536 → k < z.seats → takes k s.journal ≤ 2 ^ 49
+pub taken_most : (z : Setting) (k : ℕ) (s : SemaWorld) → IsReached (layout z) s → IsSmall (layout z) s → length z.starts ≤ 65536
+    → k < z.seats → takes k s.journal ≤ 2 ^ 49
 taken_most z k s reached small counted there =
     let all : taken s.journal ≡ total z.seats (λ i. takes i s.journal) = the_accounts.taken (layout z) s reached in
     let one = total_has z.seats (λ i. takes i s.journal) k there in
@@ -22,6 +23,7 @@ taken_most z k s reached small counted there =
     let units : added s.journal ≡ total z.seats (λ i. added_by i s.journal) = the_accounts.added (layout z) s reached in
     let few : total z.seats (λ i. added_by i s.journal) ≤ z.seats * (2 ^ 40) = total_most z.seats (2 ^ 40) (λ i. added_by i s.journal) small.few in
     let seats : z.seats * (2 ^ 40) ≤ 256 * (2 ^ 40) = mul-le-mul_right (2 ^ 40) small.seats in
-    let starts : total (length z.starts) (layout z).starts ≤ length z.starts * (2 ^ 32) = total_most (length z.starts) (2 ^ 32) (layout z).starts (λ c h. let q = small.starts c in omega arith) in
+    let starts : total (length z.starts) (layout z).starts ≤ length z.starts * (2 ^ 32) = total_most (length z.starts) (2 ^ 32) (layout z).starts
+    (λ c h. let q = small.starts c in omega arith) in
     let counters : length z.starts * (2 ^ 32) ≤ 65536 * (2 ^ 32) = mul-le-mul_right (2 ^ 32) counted in
     omega arith

@@ -27,7 +27,8 @@ never_rests : (m : Layout) (i : ℕ) (v w : SemaSight) (strides : List SemaStrid
     → SemaPath m i v strides w → Wants a v.stands.place → all_told strides ≡ [] → w.stands.place ≡ Rest → ⊥
 never_rests m i v w [] a each path wants told ends = subst (Wants a) (sym (ap (λ (x : SemaSight). x.stands.place) path) ∙ ends) wants
 never_rests m i v w (p ∷ strides) a each path wants told ends =
-    by (All-head (RunsOrWaits i) p strides each) (λ on. never_rests m i path.0 w strides a (All-tail (RunsOrWaits i) p strides each) path.2 on (both_nil p.told (all_told strides) told).1 ends)
+    by (All-head (RunsOrWaits i) p strides each)
+    (λ on. never_rests m i path.0 w strides a (All-tail (RunsOrWaits i) p strides each) path.2 on (both_nil p.told (all_told strides) told).1 ends)
   where
     at : p.stood.place ≡ v.stands.place
     at = ap (λ (z : SeatState). z.place) path.1.stood
@@ -57,7 +58,8 @@ last_of : (i turn n last : ℕ) → last ≡ turn + n → waits_from i turn (suc
 last_of i turn zero last e = ap (λ k. wait i k ∷ []) (omega arith)
 last_of i turn (suc n) last e = ap (λ l. wait i turn ∷ l) (last_of i (turn + 1) n last (omega arith))
 
-module _ (u t : SeatModel) (a : Acquire) (same : t ≡ record u { taken = u.taken + 1; sight = t.sight; strides = t.strides }) (at : t.sight.stands.place ≡ Rest) where
+module _ (u t : SeatModel) (a : Acquire) (same : t ≡ record u { taken = u.taken + 1; sight = t.sight; strides = t.strides })
+    (at : t.sight.stands.place ≡ Rest) where
   abbrev turn : ℕ
   turn = u.sight.stands.turn
 
@@ -68,9 +70,11 @@ module _ (u t : SeatModel) (a : Acquire) (same : t ≡ record u { taken = u.take
   waits n (inl own) = (
     waits_from u.number turn n,
     all_of u.number turn n,
-    inl (subst (λ l. IsSeatAfter u 0 1 (l ++ Take a.counter u.number ∷ []) t) (queued_is u.number a turn n) (came (queued u.number a turn n ++ Take a.counter u.number ∷ []) own)),
+    inl (subst (λ l. IsSeatAfter u 0 1 (l ++ Take a.counter u.number ∷ []) t) (queued_is u.number a turn n)
+        (came (queued u.number a turn n ++ Take a.counter u.number ∷ []) own)),
   )
-  waits zero (inr x) = absurd (never_rests (layout u.table.setting) u.number (placed (Acquiring a A3) u.sight) t.sight x.0.strides a x.0.each x.0.path refl x.0.told_is at)
+  waits zero (inr x) =
+      absurd (never_rests (layout u.table.setting) u.number (placed (Acquiring a A3) u.sight) t.sight x.0.strides a x.0.each x.0.path refl x.0.told_is at)
   waits (suc n) (inr x) = (
     waits_from u.number turn (suc n),
     all_of u.number turn (suc n),
@@ -81,9 +85,15 @@ module _ (u t : SeatModel) (a : Acquire) (same : t ≡ record u { taken = u.take
   )
 
 pub acquires : (s t : SeatModel) (c : ℕ) (lifo : Bool) → IsAcquired s c lifo t → AcquiresUnit s c lifo t
-acquires s t c lifo (inl x) = inl (after_call s t (acquiring c A1) Rest s.left (s.taken + 1) x.0 (Take c s.number ∷ []) x.2 (ap (λ (z : SeatState). z.place) x.1) (λ e. cc) 0 1 (omega arith) refl)
+acquires s t c lifo (inl x) =
+    inl (after_call s t (acquiring c A1) Rest s.left (s.taken + 1) x.0 (Take c s.number ∷ []) x.2
+    (ap (λ (z : SeatState). z.place) x.1) (λ e. cc) 0 1 (omega arith) refl)
 acquires s t c lifo (inr (u, none, takes)) = inr (
   u,
-  (after_call s u (acquiring c A1) (acquiring c A3) s.left s.taken none.0 [] none.2 (ap (λ (z : SeatState). z.place) none.1) (λ e. cc) 0 0 (omega arith) (omega arith), none.3),
+  (
+    after_call s u (acquiring c A1) (acquiring c A3) s.left s.taken none.0 [] none.2 (ap (λ (z : SeatState). z.place) none.1) (λ e. cc)
+        0 0 (omega arith) (omega arith),
+    none.3,
+  ),
   waits u t (acquire_of c lifo) takes.0 (ap (λ (z : SeatState). z.place) takes.1.1) takes.1.0 takes.1.2,
 )

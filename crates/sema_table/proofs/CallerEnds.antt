@@ -45,5 +45,6 @@ ends z seats c x = record {
   nobody = λ k. ap (λ (y : Plain). y.lists k) (sym x.lawful.journal.0) ∙ x.cleared.lists k;
   released = x.released;
   acquired = x.acquired;
-  balanced = let values = sum_of c.values (length z.starts) x.long in let starts = sum_of z.starts (length z.starts) refl in let all = x.balanced in omega arith;
+  balanced =
+      let values = sum_of c.values (length z.starts) x.long in let starts = sum_of z.starts (length z.starts) refl in let all = x.balanced in omega arith;
 }

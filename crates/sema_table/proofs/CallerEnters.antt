@@ -1,5 +1,6 @@
 -- What an acquire from the lock on is to its caller, up to its wait.
-use Rattle.std.proofs.Common.{◌≡◌, ◌⊎◌, ◌==◌, if◌then◌else◌, Bool, true, false, ℕ, zero, suc, ◌+◌, List, [], ◌∷◌, ◌++◌, refl, sym, ap, ◌∙◌, subst, inl, inr}
+use Rattle.std.proofs.Common.{◌≡◌, ◌⊎◌, ◌==◌, if◌then◌else◌, Bool, true, false, ℕ, zero, suc, ◌+◌, List, [], ◌∷◌, ◌++◌}
+use Rattle.std.proofs.Common.{refl, sym, ap, ◌∙◌, subst, inl, inr}
 use Rattle.std.proofs.Common.{arith}
 use Rattle.std.specs.List.{All}
 use Rattle.std.proofs.lemmas.List.Elements.{All-head, All-tail}
@@ -65,7 +66,8 @@ module _ (m : Layout) (i : ℕ) (v w : SemaSight) (p : SemaStride) (ran : SemaRa
 
   -- a look, at 0 or not
   looked : (z at_zero : Place) (above : ℕ → Place) (b : Acquire) → b ≡ a → p.read ≡ (plain_before m p).numbers b.counter → p.told ≡ []
-      → w.stands.place ≡ zero_or at_zero above p.read → Wants a at_zero → ((left : ℕ) → Wants a (above left)) → ((left : ℕ) → Searches a (above left)) → Stepped z
+      → w.stands.place ≡ zero_or at_zero above p.read → Wants a at_zero → ((left : ℕ) → Wants a (above left))
+      → ((left : ℕ) → Searches a (above left)) → Stepped z
   looked z at_zero above b is number told leads none some on = by p.read refl
     where
       by : (n : ℕ) → p.read ≡ n → Stepped z
@@ -77,13 +79,16 @@ module _ (m : Layout) (i : ℕ) (v w : SemaSight) (p : SemaStride) (ran : SemaRa
       by (suc n) e = quietly z (above n) told (leads ∙ ap (zero_or at_zero above) e) (some n) (on n)
 
   -- a try to take a unit, by what it came to
-  tried : (z back q : Place) (c k : ℕ) (won : Bool) → p.told ≡ entries_of (taken_or won q back c k).1 → w.stands.place ≡ (taken_or won q back c k).0 → Wants a back → Searches a back → Stepped z
+  tried : (z back q : Place) (c k : ℕ) (won : Bool) → p.told ≡ entries_of (taken_or won q back c k).1 → w.stands.place ≡ (taken_or won q back c k).0
+      → Wants a back → Searches a back → Stepped z
   tried z back q c k true told leads wants on = inr (Take c k, told, inr tt)
   tried z back q c k false told leads wants on = quietly z back told leads wants on
 
   pub stepped : (z : Place) → p.stood.place ≡ z → Wants a z → Stepped z
-  stepped (Acquiring b A3) at is = let z = Acquiring b A3 in quietly z (Acquiring b A4) (row_tells m i v w p ran z row at) (row_leads m i v w p ran z row at) is is
-  stepped (Acquiring b A4) at is = let z = Acquiring b A4 in quietly z (Acquiring b A5) (row_tells m i v w p ran z row at) (row_leads m i v w p ran z row at) is is
+  stepped (Acquiring b A3) at is =
+      let z = Acquiring b A3 in quietly z (Acquiring b A4) (row_tells m i v w p ran z row at) (row_leads m i v w p ran z row at) is is
+  stepped (Acquiring b A4) at is =
+      let z = Acquiring b A4 in quietly z (Acquiring b A5) (row_tells m i v w p ran z row at) (row_leads m i v w p ran z row at) is is
   stepped (Acquiring b A5) at is = let z = Acquiring b A5 in
       looked z (Acquiring b A7) (λ left. Acquiring b (A6 left)) b is (number_there m i b.counter v w p z ran row at (λ y. refl))
       (row_tells m i v w p ran z row at) (row_leads m i v w p ran z row at) is (λ left. is) (λ left. is)
@@ -109,7 +114,8 @@ finds_none : (m : Layout) (i : ℕ) (v w : SemaSight) (strides : List SemaStride
     → all_told strides ≡ Queue c x lifo ∷ [] → SeesNone m i a v w (Queue c x lifo ∷ [])
 finds_none m i v w [] a c x lifo each path on told = absurd cc
 finds_none m i v w (p ∷ strides) a c x lifo each path on told =
-    by (stepped m i v path.0 p path.1 (All-head IsRow p strides each) a v.stands.place (ap (λ (z : SeatState). z.place) path.1.stood) (wants v.stands.place on))
+    by (stepped m i v path.0 p path.1 (All-head IsRow p strides each) a v.stands.place
+    (ap (λ (z : SeatState). z.place) path.1.stood) (wants v.stands.place on))
     (λ next e. finds_none m i path.0 w strides a c x lifo (All-tail IsRow p strides each) path.2 next e)
   where
     wants : (z : Place) → Searches a z → Wants a z
@@ -125,14 +131,17 @@ finds_none m i v w (p ∷ strides) a c x lifo each path on told =
         (one_later m i v path.0 w p [] (Queue c x lifo ∷ []) (NoUnit m a.counter) path.1 (later next (ap (λ l. l ++ all_told strides) (sym quiet) ∙ told)))
     by (inr (e, is, inl queues)) later = absurd (queues on)
     by (inr (e, is, inr takes)) later =
-        absurd (let same : e ∷ all_told strides ≡ Queue c x lifo ∷ [] = ap (λ l. l ++ all_told strides) (sym is) ∙ told in let first : e ≡ Queue c x lifo = cc in subst IsTake first takes)
+        absurd (let same : e ∷ all_told strides ≡ Queue c x lifo ∷ [] = ap (λ l. l ++ all_told strides) (sym is) ∙ told in
+        let first : e ≡ Queue c x lifo = cc in subst IsTake first takes)
 
 enters_from : (s : SeatModel) (a : Acquire) (from : Place) → Searches a from → (from ≡ Rest → ⊥)
     → ((turn : ℕ) → from ≡ Acquiring a (P turn) → ⊥) → (answer : Entered) → IsEntered s a from answer
     → JoinsQueue s a.counter a.lifo answer
-enters_from s a from on busy awake (Taken t) x = after_call s t from Rest s.left (s.taken + 1) x.0 (Take a.counter s.number ∷ []) x.2 (ap (λ (z : SeatState). z.place) x.1) busy 0 1 (omega arith) refl
+enters_from s a from on busy awake (Taken t) x =
+    after_call s t from Rest s.left (s.taken + 1) x.0 (Take a.counter s.number ∷ []) x.2 (ap (λ (z : SeatState). z.place) x.1) busy 0 1 (omega arith) refl
 enters_from s a from on busy awake (Asleep t) x =
-    let m = layout s.table.setting in let v = placed from s.sight in let turn = s.sight.stands.turn in let w = wait s.number turn in let told = Queue a.counter w a.lifo ∷ [] in
+    let m = layout s.table.setting in let v = placed from s.sight in let turn = s.sight.stands.turn in let w = wait s.number turn in
+    let told = Queue a.counter w a.lifo ∷ [] in
     let at = ap (λ (z : SeatState). z.place) x.1 in
     let whole = after_call s t from (Acquiring a (P turn)) s.left s.taken x.0 told x.2 at (awake turn) 0 0 (omega arith) (omega arith) in
     let seen = finds_none m s.number v t.sight x.2.strides a a.counter w a.lifo x.2.each x.2.path on x.2.told_is in (

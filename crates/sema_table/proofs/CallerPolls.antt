@@ -24,13 +24,15 @@ use Rattle.sema_table.proofs.Tellers.{row_tells}
 use Rattle.sema_table.proofs.Finding.{left_there}
 
 module _ (s t : SeatModel) (a : Acquire) (turn : ℕ) (at : IsAt s (Acquiring a (P turn))) (looked : List SemaStride) where
-  woken_by : t ≡ record s { sight = t.sight; strides = t.strides } → ComesTo s (Acquiring a A10) t → CallsGranted s (Acquiring a (P turn)) t looked 1 → PollsGrant s (Woken t)
+  woken_by : t ≡ record s { sight = t.sight; strides = t.strides } → ComesTo s (Acquiring a A10) t
+      → CallsGranted s (Acquiring a (P turn)) t looked 1 → PollsGrant s (Woken t)
   woken_by same comes x =
       let m = layout s.table.setting in let from = Acquiring a (P turn) in let v = placed from s.sight in
       let path : SemaPath m s.number v (looked ++ x.last ∷ []) t.sight = subst (λ l. SemaPath m s.number v l t.sight) x.strides_are x.call.path in
       let parts = (the_sema_paths.paths m).parted s.number v t.sight looked (x.last ∷ []) path in
       let quiet = row_tells m s.number parts.0 parts.2.0 x.last parts.2.1 from x.did x.row in
-      let seen : t.sight.seen ≡ x.last.seen = (the_sema_paths.paths m).ends s.number v t.sight looked x.last path ∙ ap (λ l. x.last.seen ++ l) quiet ∙ append-nil x.last.seen in (
+      let seen : t.sight.seen ≡ x.last.seen = (the_sema_paths.paths m).ends s.number v t.sight looked x.last path
+      ∙ ap (λ l. x.last.seen ++ l) quiet ∙ append-nil x.last.seen in (
         a.counter,
         a.lifo,
         wait s.number turn,
@@ -40,7 +42,8 @@ module _ (s t : SeatModel) (a : Acquire) (turn : ℕ) (at : IsAt s (Acquiring a 
         subst (HasLeft a.counter (wait s.number turn)) (sym seen) (left_there m s.number parts.0 parts.2.0 x.last parts.2.1 a turn x.did x.row x.found),
       )
 
-  handed_by : t ≡ record s { taken = s.taken + 1; sight = t.sight; strides = t.strides } → ComesTo s Rest t → CallsGranted s (Acquiring a (P turn)) t looked 2 → HasItsUnit a.counter (wait s.number turn) t.sight.seen
+  handed_by : t ≡ record s { taken = s.taken + 1; sight = t.sight; strides = t.strides } → ComesTo s Rest t
+      → CallsGranted s (Acquiring a (P turn)) t looked 2 → HasItsUnit a.counter (wait s.number turn) t.sight.seen
       → PollsGrant s (Handed t)
   handed_by same comes x unit = (
     a.counter,

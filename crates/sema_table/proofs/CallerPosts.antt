@@ -44,7 +44,8 @@ module _ (m : Layout) (i c : ℕ) (v w : SemaSight) (first last : Place) (n : �
       let ran = All-head IsRow q [] (All-tail IsRow p (q ∷ []) each) in
       let row : ◌≡◌ {A = Place × ℕ} (q.stood.place, q.read) (last, 0) = cc in
       let at = ap (λ (x : Place × ℕ). x.0) row in let read = ap (λ (x : Place × ℕ). x.1) row in
-      let told = row_tells m i path.0 path.2.0 q path.2.1 last ran at ∙ ap (λ k. entries_of ((event_at i q.stood (plain_before m q).lists last).leads k).1) read ∙ quiet q.stood (plain_before m q).lists in
+      let told = row_tells m i path.0 path.2.0 q path.2.1 last ran at ∙ ap (λ k. entries_of ((event_at i q.stood (plain_before m q).lists last).leads k).1)
+      read ∙ quiet q.stood (plain_before m q).lists in
       let seen : w.seen ≡ q.seen = (the_sema_paths.paths m).ends i v w (p ∷ []) q path ∙ ap (λ l. q.seen ++ l) told ∙ append-nil q.seen in
       ap (λ l. (replay (plain_start m.starts) l).lists c) seen
       ∙ nobody_there m i path.0 path.2.0 q path.2.1 c (inside (subst (IsWithin m.counters) at (within m i path.0 path.2.0 q path.2.1))) ran
@@ -52,13 +53,16 @@ module _ (m : Layout) (i c : ℕ) (v w : SemaSight) (first last : Place) (n : �
 
 pub posts : (s : SeatModel) (c : ℕ) (posted : Posted) → (0 < s.left) × IsPosted s c posted → PostsUnit s c (Ok posted)
 posts s c (Done t) (some, x) = (
-  after_call s t (releasing c R1) Rest (s.left - 1) s.taken x.0 (Add c s.number ∷ []) x.2.1.call (ap (λ (z : SeatState). z.place) x.1) (λ e. cc) 1 0 (omega arith) (omega arith),
+  after_call s t (releasing c R1) Rest (s.left - 1) s.taken x.0 (Add c s.number ∷ []) x.2.1.call (ap (λ (z : SeatState). z.place) x.1)
+      (λ e. cc) 1 0 (omega arith) (omega arith),
   ap (λ (y : SeatModel). (plain_seen y).lists c) x.0
-      ∙ none_after (layout s.table.setting) s.number c (placed (releasing c R1) s.sight) t.sight (releasing c R1) (releasing c R2) x.2.0 (λ z lists. refl) (λ z lists. refl) (λ h. h)
+      ∙ none_after (layout s.table.setting) s.number c (placed (releasing c R1) s.sight) t.sight (releasing c R1) (releasing c R2) x.2.0
+      (λ z lists. refl) (λ z lists. refl) (λ h. h)
       x.2.1.call.strides x.2.1.call.each x.2.1.call.path x.2.1.rows_are,
 )
 posts s c (Owes t) (some, x) = (
-  after_call s t (releasing c R1) (releasing c R3) (s.left - 1) s.taken x.0 (Add c s.number ∷ []) x.2.2.call (ap (λ (z : SeatState). z.place) x.1) (λ e. cc) 1 0 (omega arith) (omega arith),
+  after_call s t (releasing c R1) (releasing c R3) (s.left - 1) s.taken x.0 (Add c s.number ∷ []) x.2.2.call (ap (λ (z : SeatState). z.place) x.1)
+      (λ e. cc) 1 0 (omega arith) (omega arith),
   ap (λ (z : SeatState). z.place) x.1,
 )
 
@@ -66,13 +70,16 @@ pub posts_many : (s : SeatModel) (c units : ℕ) (posted : PostedMany)
     → (units ≤ s.left) × IsPostedMany s (release_of c units) posted → PostsUnits s c units (Ok posted)
 posts_many s c units (many.Done t) (some, x) =
     let r = release_of c units in (
-      after_call s t (ReleasingMany r M1) Rest (s.left - units) s.taken x.0 (AddMany c units s.number ∷ []) x.2.1.call (ap (λ (z : SeatState). z.place) x.1) (λ e. cc) units 0 (omega arith) (omega arith),
+      after_call s t (ReleasingMany r M1) Rest (s.left - units) s.taken x.0 (AddMany c units s.number ∷ []) x.2.1.call (ap (λ (z : SeatState). z.place) x.1)
+          (λ e. cc) units 0 (omega arith) (omega arith),
       ap (λ (y : SeatModel). (plain_seen y).lists c) x.0
-          ∙ none_after (layout s.table.setting) s.number c (placed (ReleasingMany r M1) s.sight) t.sight (ReleasingMany r M1) (ReleasingMany r M2) x.2.0 (λ z lists. refl) (λ z lists. refl) (λ h. h.0)
+          ∙ none_after (layout s.table.setting) s.number c (placed (ReleasingMany r M1) s.sight) t.sight (ReleasingMany r M1) (ReleasingMany r M2) x.2.0
+          (λ z lists. refl) (λ z lists. refl) (λ h. h.0)
           x.2.1.call.strides x.2.1.call.each x.2.1.call.path x.2.1.rows_are,
     )
 posts_many s c units (many.Owes t) (some, x) =
     let r = release_of c units in (
-      after_call s t (ReleasingMany r M1) (ReleasingMany r M3) (s.left - units) s.taken x.0 (AddMany c units s.number ∷ []) x.2.2.call (ap (λ (z : SeatState). z.place) x.1) (λ e. cc) units 0 (omega arith) (omega arith),
+      after_call s t (ReleasingMany r M1) (ReleasingMany r M3) (s.left - units) s.taken x.0 (AddMany c units s.number ∷ []) x.2.2.call
+          (ap (λ (z : SeatState). z.place) x.1) (λ e. cc) units 0 (omega arith) (omega arith),
       ap (λ (z : SeatState). z.place) x.1,
     )

@@ -40,7 +40,8 @@ pub number_there : (m : Layout) (i c : ℕ) (v w : SemaSight) (p : SemaStride) (
     → p.stood.place ≡ place
     → ((z : SeatState) → (event_at i z (plain_before m p).lists place).word ≡ Counter c) → p.read ≡ (plain_before m p).numbers c
 number_there m i c v w p place r ran at word =
-    the_sema_paths.reads m i c v w p r (ap (word_of_deed m i p) ran ∙ ap (λ (z : Place). (event_at i p.stood (plain_before m p).lists z).word) at ∙ word p.stood)
+    the_sema_paths.reads m i c v w p r (ap (word_of_deed m i p) ran
+    ∙ ap (λ (z : Place). (event_at i p.stood (plain_before m p).lists z).word) at ∙ word p.stood)
 
 -- a try that was lost: two strides
 module _ (s t : SeatModel) (c left n : ℕ) (same : t ≡ record s { sight = t.sight; strides = t.strides }) (ne : n ≢ left + 1) where
@@ -64,9 +65,12 @@ module _ (s t : SeatModel) (c left n : ℕ) (same : t ≡ record s { sight = t.s
       let number_p = number_there m s.number c v path.0 p (acquiring c A1) path.1 ran_p at_p (λ z. refl) in
       let number_q = number_there m s.number c path.0 path.2.0 q (acquiring c (A2 left)) path.2.1 ran_q at_q (λ z. refl) in
       let quiet = both_nil q.told [] (both_nil p.told (q.told ++ []) told).1 in
-      let seen_t : t.sight.seen ≡ q.seen = (the_sema_paths.paths m).ends s.number v t.sight (p ∷ []) q path ∙ ap (λ l. q.seen ++ l) quiet.0 ∙ append-nil q.seen in
-      let now : (plain_seen t).numbers c ≡ n = ap (λ (x : SeatModel). (plain_seen x).numbers c) same ∙ ap (λ l. (replay (plain_start m.starts) l).numbers c) seen_t ∙ sym number_q ∙ read_q in
-      let whole : IsSeatAfter s 0 0 [] t = after_strides s t (acquiring c A1) 0 0 [] (p ∷ q ∷ []) path told (λ e. cc) (ap (λ (x : SeatModel). x.table) same) (ap (λ (x : SeatModel). x.number) same)
+      let seen_t : t.sight.seen ≡ q.seen = (the_sema_paths.paths m).ends s.number v t.sight (p ∷ []) q path
+      ∙ ap (λ l. q.seen ++ l) quiet.0 ∙ append-nil q.seen in
+      let now : (plain_seen t).numbers c ≡ n = ap (λ (x : SeatModel). (plain_seen x).numbers c) same
+      ∙ ap (λ l. (replay (plain_start m.starts) l).numbers c) seen_t ∙ sym number_q ∙ read_q in
+      let whole : IsSeatAfter s 0 0 [] t = after_strides s t (acquiring c A1) 0 0 [] (p ∷ q ∷ []) path told (λ e. cc)
+      (ap (λ (x : SeatModel). x.table) same) (ap (λ (x : SeatModel). x.number) same)
       (let e = ap (λ (x : SeatModel). x.left) same in omega arith) (let e = ap (λ (x : SeatModel). x.taken) same in omega arith) in
       let seen : Sighted m s.number v t.sight [] (all_told (p ∷ q ∷ [])) (λ l. (replay (plain_start m.starts) l).numbers c ≡ left + 1) =
       at_stride m s.number v t.sight [] (q ∷ []) p (λ l. (replay (plain_start m.starts) l).numbers c ≡ left + 1) path (sym number_p ∙ read_p) in
@@ -81,6 +85,11 @@ module _ (s t : SeatModel) (c left n : ℕ) (same : t ≡ record s { sight = t.s
       )
 
 pub tries : (s t : SeatModel) (c : ℕ) (answer : Tried) → IsTried s c answer t → TriesToAcquire s c answer t
-tries s t c Zero x = (after_call s t (acquiring c A1) (acquiring c A3) s.left s.taken x.0 [] x.2.call (ap (λ (z : SeatState). z.place) x.1) (λ e. cc) 0 0 (omega arith) (omega arith), x.3)
-tries s t c Taken x = after_call s t (acquiring c A1) Rest s.left (s.taken + 1) x.0 (Take c s.number ∷ []) x.2.1.call (ap (λ (z : SeatState). z.place) x.1) (λ e. cc) 0 1 (omega arith) refl
+tries s t c Zero x = (
+  after_call s t (acquiring c A1) (acquiring c A3) s.left s.taken x.0 [] x.2.call (ap (λ (z : SeatState). z.place) x.1)
+      (λ e. cc) 0 0 (omega arith) (omega arith),
+  x.3,
+)
+tries s t c Taken x = after_call s t (acquiring c A1) Rest s.left (s.taken + 1) x.0 (Take c s.number ∷ []) x.2.1.call
+    (ap (λ (z : SeatState). z.place) x.1) (λ e. cc) 0 1 (omega arith) refl
 tries s t c Lost x = lost_by s t c x.2.0 x.2.1 x.0 x.2.2 x.2.3.call.strides x.2.3.call.each x.2.3.call.path x.2.3.call.told_is x.2.3.rows_are

@@ -1,5 +1,6 @@
 -- What a release is to its caller, from its look for waits on, and whole.
-use Rattle.std.proofs.Common.{◌≡◌, ◌≢◌, ◌⊎◌, Bool, false, ℕ, zero, suc, ◌+◌, ◌<◌, Ok, List, [], ◌∷◌, ◌++◌, refl, sym, ap, ◌∙◌, subst, inl, inr, arith}
+use Rattle.std.proofs.Common.{◌≡◌, ◌≢◌, ◌⊎◌, Bool, false, ℕ, zero, suc, ◌+◌, ◌<◌, Ok, List, [], ◌∷◌, ◌++◌, refl, sym, ap}
+use Rattle.std.proofs.Common.{◌∙◌, subst, inl, inr, arith}
 use Rattle.std.proofs.Common.{append-nil}
 use Rattle.std.specs.List.{All}
 use Rattle.std.proofs.lemmas.List.Elements.{All-head, All-tail}
@@ -49,19 +50,24 @@ Seeks r _ = ⊥
 -- a row of a release that looks: nobody waited, or it told nothing and looks on, or it told something
 module _ (m : Layout) (i : ℕ) (v w : SemaSight) (p : SemaStride) (ran : SemaRan m i v p w) (row : p.deed ≡ runs) (r : Release) where
   abbrev Sought : Type 0
-  Sought = ((plain_before m p).lists r.counter ≡ []) ⊎ (((p.told ≡ []) × Seeks r w.stands.place) ⊎ ((e : Entry) × (l : List Entry) × (p.told ≡ e ∷ l)))
+  Sought = ((plain_before m p).lists r.counter ≡ [])
+      ⊎ (((p.told ≡ []) × Seeks r w.stands.place) ⊎ ((e : Entry) × (l : List Entry) × (p.told ≡ e ∷ l)))
 
   sought : (z : Place) → p.stood.place ≡ z → Seeks r z → Sought
-  sought (Releasing q R3) at is = inr (inl (row_tells m i v w p ran (Releasing q R3) row at, subst (Seeks r) (sym (row_leads m i v w p ran (Releasing q R3) row at)) is))
+  sought (Releasing q R3) at is =
+      inr (inl (row_tells m i v w p ran (Releasing q R3) row at, subst (Seeks r) (sym (row_leads m i v w p ran (Releasing q R3) row at)) is))
   sought (Releasing q R4) at is = by p.read ((plain_before m p).lists q.counter) refl refl
     where
       by : (n : ℕ) (l : List WaitId) → p.read ≡ n → (plain_before m p).lists q.counter ≡ l → Sought
       by zero l read listed = inl (ap (λ (x : Release). (plain_before m p).lists x.counter) (sym is)
-          ∙ nobody_there m i v w p ran q.counter (subst (IsWithin m.counters) at (within m i v w p ran)) row (ap (λ (x : Place). (event_at i p.stood (plain_before m p).lists x).word) at) read)
+          ∙ nobody_there m i v w p ran q.counter (subst (IsWithin m.counters) at (within m i v w p ran)) row
+          (ap (λ (x : Place). (event_at i p.stood (plain_before m p).lists x).word) at) read)
       by (suc n) [] read listed = inl (ap (λ (x : Release). (plain_before m p).lists x.counter) (sym is) ∙ listed)
       by (suc n) (x ∷ l) read listed = inr (inl (
         row_tells m i v w p ran (Releasing q R4) row at,
-        subst (Seeks r) (sym (row_leads m i v w p ran (Releasing q R4) row at ∙ (λ j. zero_or (Releasing q R6) (λ left. by_first (listed j) (Releasing q R6) (λ w. Releasing q R5)) (read j)))) is,
+        subst (Seeks r)
+            (sym (row_leads m i v w p ran (Releasing q R4) row at
+            ∙ (λ j. zero_or (Releasing q R6) (λ left. by_first (listed j) (Releasing q R6) (λ w. Releasing q R5)) (read j)))) is,
       ))
   sought (Releasing q R5) at is = by ((plain_before m p).lists q.counter) refl
     where
@@ -70,7 +76,8 @@ module _ (m : Layout) (i : ℕ) (v w : SemaSight) (p : SemaStride) (ran : SemaRa
       by (x ∷ l) listed = inr (inr (
         Leave q.counter x i,
         [],
-        row_tells m i v w p ran (Releasing q R5) row at ∙ ap (λ k. entries_of (by_first {A = Place × Effect} k (Releasing q R6, Nothing) (λ w. (Releasing q R6, Tells (Leave q.counter w i)))).1) listed,
+        row_tells m i v w p ran (Releasing q R5) row at ∙ ap
+            (λ k. entries_of (by_first {A = Place × Effect} k (Releasing q R6, Nothing) (λ w. (Releasing q R6, Tells (Leave q.counter w i)))).1) listed,
       ))
   sought _ at is = absurd is
 
@@ -115,19 +122,23 @@ sees_first s t from told rest c w call whole =
       not_own m s.number parts.0 parts.2.0 x.stride parts.2.1 c s.number w first.0 x.told first.1,
     )
 
-wakes_by : (s t : SeatModel) (c : ℕ) (handoff : Bool) (wake : Wake) → t ≡ record s { sight = t.sight; strides = t.strides } → ComesTo s Rest t → Wakes s (record { counter = c; handoff = handoff }) t wake → HasWoken s 0 [] c handoff t wake
+wakes_by : (s t : SeatModel) (c : ℕ) (handoff : Bool) (wake : Wake) → t ≡ record s { sight = t.sight; strides = t.strides } → ComesTo s Rest t
+    → Wakes s (record { counter = c; handoff = handoff }) t wake → HasWoken s 0 [] c handoff t wake
 wakes_by s t c handoff Nobody same comes call =
     let r : Release = record { counter = c; handoff = handoff } in let m = layout s.table.setting in let from = Releasing r R3 in
     let whole = after_call s t from Rest s.left s.taken same [] call (ap (λ (z : SeatState). z.place) comes) (λ e. cc) 0 0 (omega arith) (omega arith) in
-    let o = finds_nobody m s.number (placed from s.sight) t.sight call.strides r call.each call.path refl call.told_is (ap (λ (z : SeatState). z.place) comes) in
+    let o = finds_nobody m s.number (placed from s.sight) t.sight call.strides r call.each call.path refl call.told_is
+    (ap (λ (z : SeatState). z.place) comes) in
     ((seat_then s t from [] o.0 (Empty m c) o.1, until_then s t from [] o.0 (Empty m c) o.1, o.1.holds, goes_on s t from [] o.0 (Empty m c) o.1), whole)
 wakes_by s t c handoff (One w) same comes x =
     let r : Release = record { counter = c; handoff = handoff } in let from = Releasing r R3 in
-    let whole = after_call s t from Rest s.left s.taken same (Leave c w s.number ∷ []) x.call (ap (λ (z : SeatState). z.place) comes) (λ e. cc) 0 0 (omega arith) (omega arith) in
+    let whole = after_call s t from Rest s.left s.taken same (Leave c w s.number ∷ []) x.call (ap (λ (z : SeatState). z.place) comes)
+    (λ e. cc) 0 0 (omega arith) (omega arith) in
     let first = sees_first s t from [] [] c w x.call whole in (first.0, first.1, whole)
 wakes_by s t c handoff (Handed w) same comes x =
     let r : Release = record { counter = c; handoff = handoff } in let from = Releasing r R3 in let told = Leave c w s.number ∷ Take c w.seat ∷ [] in
-    let whole = after_call s t from Rest s.left s.taken same told x.1.call (ap (λ (z : SeatState). z.place) comes) (λ e. cc) 0 0 (omega arith) (omega arith) in
+    let whole = after_call s t from Rest s.left s.taken same told x.1.call (ap (λ (z : SeatState). z.place) comes)
+    (λ e. cc) 0 0 (omega arith) (omega arith) in
     let first = sees_first s t from [] (Take c w.seat ∷ []) c w x.1.call whole in (first.0, first.1, whole, x.0)
 
 pub wakes : (s t : SeatModel) (handoff : Bool) (wake : Wake) → IsWakened s handoff t wake → WakesFirst s handoff t wake
@@ -136,7 +147,8 @@ wakes s t handoff wake x = (x.0, x.1, wakes_by s t x.0 handoff wake x.2 x.3 x.4)
 -- after units were added
 pub after_added : (s u t : SeatModel) (a : ℕ) (told more : List Entry) → IsSeatAfter s a 0 told u → IsSeatAfter u 0 0 more t
     → IsSeatAfter s a 0 (told ++ more) t
-after_added s u t a told more x y = subst (λ n. IsSeatAfter s n 0 (told ++ more) t) (let none : a + 0 ≡ a = omega arith in none) (after_then s u t a 0 0 0 told more x y)
+after_added s u t a told more x y =
+    subst (λ n. IsSeatAfter s n 0 (told ++ more) t) (let none : a + 0 ≡ a = omega arith in none) (after_then s u t a 0 0 0 told more x y)
 
 pub sees_after : (s u t : SeatModel) (a c : ℕ) (told more : List Entry) (waits : List WaitId) → IsSeatAfter s a 0 told u
     → SeesWaiting u 0 more c waits t → SeesWaiting s a (told ++ more) c waits t
@@ -160,7 +172,8 @@ module _ (s u t : SeatModel) (a c : ℕ) (told : List Entry) (handoff : Bool) (x
   woken_after (Handed w) y = (
     first_after w y.0,
     (λ e. y.1 (e ∙ sym x.number)),
-    subst (λ k. IsSeatAfter s a 0 (told ++ Leave c w k ∷ Take c w.seat ∷ []) t) x.number (after_added s u t a told (Leave c w u.number ∷ Take c w.seat ∷ []) x y.2),
+    subst (λ k. IsSeatAfter s a 0 (told ++ Leave c w k ∷ Take c w.seat ∷ []) t) x.number
+        (after_added s u t a told (Leave c w u.number ∷ Take c w.seat ∷ []) x y.2),
     y.3,
   )
 
@@ -173,5 +186,6 @@ releases s t c handoff wake (some, inr (u, posted, wakened)) =
     let x = posts s c (Owes u) (some, posted) in let y = wakes u t handoff wake wakened in
     woken_after s u t 1 c (Add c s.number ∷ []) handoff x.0 wake (subst (λ d. HasWoken u 0 [] d handoff t wake) (same_counter (sym y.1 ∙ x.1)) y.2)
   where
-    same_counter : {a b : ℕ} → ◌≡◌ {A = Place} (Releasing (record { counter = a; handoff = false }) R3) (Releasing (record { counter = b; handoff = false }) R3) → a ≡ b
+    same_counter : {a b : ℕ} → ◌≡◌ {A = Place} (Releasing (record { counter = a; handoff = false }) R3)
+        (Releasing (record { counter = b; handoff = false }) R3) → a ≡ b
     same_counter e = ap counter_at e

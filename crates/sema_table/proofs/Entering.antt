@@ -22,7 +22,8 @@ use Rattle.sema_table.proofs.Walking.{walked_on, walked_then, walked_adds, token
 use Rattle.sema_table.proofs.Calling.{calls}
 
 -- a seat after rows that added nothing stands where they led
-pub stands_at : (z : TableModel) (s t : Token) (n : Numbers) (from : Place) (a : SeatState) (told : List Entry) (j : ℕ) → IsToken s n → table_of s ≡ z → counter_at a.place < length z.setting.starts → Walked s from t a told j
+pub stands_at : (z : TableModel) (s t : Token) (n : Numbers) (from : Place) (a : SeatState) (told : List Entry) (j : ℕ) → IsToken s n → table_of s ≡ z
+    → counter_at a.place < length z.setting.starts → Walked s from t a told j
     → added_by s.me.0.own.number told ≡ 0 → Stands z t a.place
 stands_at z s t n from a told j is of inside x none = record {
   table_is = x.table_is ∙ of;
@@ -33,7 +34,8 @@ stands_at z s t n from a told j is of inside x none = record {
   most = x.most;
 }
 
-pub stands_after : (z : TableModel) (s t : Token) (n : Numbers) (from q : Place) (told : List Entry) (j : ℕ) → IsToken s n → table_of s ≡ z → counter_at q < length z.setting.starts → Walked s from t (moved_to s q) told j
+pub stands_after : (z : TableModel) (s t : Token) (n : Numbers) (from q : Place) (told : List Entry) (j : ℕ) → IsToken s n → table_of s ≡ z
+    → counter_at q < length z.setting.starts → Walked s from t (moved_to s q) told j
     → added_by s.me.0.own.number told ≡ 0 → Stands z t q
 stands_after z s t n from q = stands_at z s t n from (moved_to s q)
 
@@ -42,15 +44,18 @@ module _ (s t1 t2 t3 : Token) (a : Acquire) where
   from = Acquiring a A3
 
   -- to the second look
-  abbrev pub to_look : Walked s (Acquiring a A3) t1 (moved_to s (Acquiring a A4)) [] 0 → Walked t1 (Acquiring a A4) t2 (moved_to t1 (Acquiring a A5)) [] 0 → Walked s (Acquiring a A3) t2 (moved_to s (Acquiring a A5)) [] 0
+  abbrev pub to_look : Walked s (Acquiring a A3) t1 (moved_to s (Acquiring a A4)) [] 0 → Walked t1 (Acquiring a A4) t2 (moved_to t1 (Acquiring a A5)) [] 0
+      → Walked s (Acquiring a A3) t2 (moved_to s (Acquiring a A5)) [] 0
   to_look x y = walked_then s t1 t2 (Acquiring a A3) (Acquiring a A4) (Acquiring a A5) [] [] 0 0 x y
 
   -- and behind it
-  abbrev pub to_taken : Walked s (Acquiring a A3) t2 (moved_to s (Acquiring a A5)) [] 0 → Walked t2 (Acquiring a A5) t3 (moved_to t2 (Acquiring a A8)) (Take a.counter t2.me.0.own.number ∷ []) 1
+  abbrev pub to_taken : Walked s (Acquiring a A3) t2 (moved_to s (Acquiring a A5)) [] 0 → Walked t2 (Acquiring a A5) t3 (moved_to t2 (Acquiring a A8))
+      (Take a.counter t2.me.0.own.number ∷ []) 1
       → Walked s (Acquiring a A3) t3 (moved_to s (Acquiring a A8)) (Take a.counter t2.me.0.own.number ∷ []) 1
   to_taken x y = walked_then s t2 t3 (Acquiring a A3) (Acquiring a A5) (Acquiring a A8) [] (Take a.counter t2.me.0.own.number ∷ []) 0 1 x y
 
-  abbrev pub to_committed : Walked s (Acquiring a A3) t2 (moved_to s (Acquiring a A5)) [] 0 → Walked t2 (Acquiring a A5) t3 (moved_to t2 (Acquiring a A7)) [] 0 → Walked s (Acquiring a A3) t3 (moved_to s (Acquiring a A7)) [] 0
+  abbrev pub to_committed : Walked s (Acquiring a A3) t2 (moved_to s (Acquiring a A5)) [] 0
+      → Walked t2 (Acquiring a A5) t3 (moved_to t2 (Acquiring a A7)) [] 0 → Walked s (Acquiring a A3) t3 (moved_to s (Acquiring a A7)) [] 0
   to_committed x y = walked_then s t2 t3 (Acquiring a A3) (Acquiring a A5) (Acquiring a A7) [] [] 0 0 x y
 
 -- a unit was taken
@@ -59,10 +64,12 @@ module _ (s t2 t3 t4 t5 : Token) (n : Numbers) (a : Acquire) (is : IsToken s n) 
   abbrev took : List Entry
   took = Take a.counter t2.me.0.own.number ∷ []
 
-  abbrev pub to_lowered : Walked t3 (Acquiring a A8) t4 (moved_to t3 (Acquiring a A9)) [] 0 → Walked s (Acquiring a A3) t4 (moved_to s (Acquiring a A9)) (Take a.counter t2.me.0.own.number ∷ []) 1
+  abbrev pub to_lowered : Walked t3 (Acquiring a A8) t4 (moved_to t3 (Acquiring a A9)) [] 0
+      → Walked s (Acquiring a A3) t4 (moved_to s (Acquiring a A9)) (Take a.counter t2.me.0.own.number ∷ []) 1
   to_lowered y = walked_then s t3 t4 (Acquiring a A3) (Acquiring a A8) (Acquiring a A9) (Take a.counter t2.me.0.own.number ∷ []) [] 1 0 taken y
 
-  module _ (lowered : Walked s (Acquiring a A3) t4 (moved_to s (Acquiring a A9)) (Take a.counter t2.me.0.own.number ∷ []) 1) (y : Walked t4 (Acquiring a A9) t5 (moved_to t4 Rest) [] 0) (bare : t5.me.1 ≡ []) where
+  module _ (lowered : Walked s (Acquiring a A3) t4 (moved_to s (Acquiring a A9)) (Take a.counter t2.me.0.own.number ∷ []) 1)
+      (y : Walked t4 (Acquiring a A9) t5 (moved_to t4 Rest) [] 0) (bare : t5.me.1 ≡ []) where
     abbrev counted : Numbers
     counted = record n { taken = n.taken + 1 }
 
@@ -78,20 +85,30 @@ module _ (s t2 t3 t4 t5 : Token) (n : Numbers) (a : Acquire) (is : IsToken s n) 
 
     pub entered_taken : IsEntered (seat_of s n) a (Acquiring a A3) (Taken (seat_of t5 counted))
     entered_taken = (
-      (λ i. record { table = ended.table_is i; number = n.seat; left = n.left; taken = n.taken + 1; sight = sight_by t5.me.0.own.knows; strides = t5.me.0.own.gone }),
+      (λ i. record {
+        table = ended.table_is i;
+        number = n.seat;
+        left = n.left;
+        taken = n.taken + 1;
+        sight = sight_by t5.me.0.own.knows;
+        strides = t5.me.0.own.gone;
+      }),
       ended.stands_is,
       subst (λ k. RunsRows (seat_of s n) (Acquiring a A3) (seat_of t5 counted) (Take a.counter k ∷ [])) (looked.number_is ∙ is.number_is)
           (calls s t5 n counted (Acquiring a A3) (moved_to s Rest) took 1 is ended),
     )
 
 -- or the seat's wait is queued
-module _ (s t3 t4 : Token) (n : Numbers) (a : Acquire) (w : WaitId) (is : IsToken s n) (committed : Walked s (Acquiring a A3) t3 (moved_to s (Acquiring a A7)) [] 0)
+module _ (s t3 t4 : Token) (n : Numbers) (a : Acquire) (w : WaitId) (is : IsToken s n)
+    (committed : Walked s (Acquiring a A3) t3 (moved_to s (Acquiring a A7)) [] 0)
     (y : Walked t3 (Acquiring a A7) t4 (parked t3 a) (Queue a.counter w a.lifo ∷ []) 0) (own : w ≡ wait n.seat n.turns) (bare : t4.me.1 ≡ []) where
   abbrev queues : List Entry
   queues = Queue a.counter w a.lifo ∷ []
 
   slept : Walked s (Acquiring a A3) t4 (parked s a) queues 0
-  slept = subst (λ (q : SeatState). Walked s (Acquiring a A3) t4 (record { place = Acquiring a (P q.turn); turn = q.turn + 1; hand = q.hand }) queues 0) committed.stands_is
+  slept =
+      subst (λ (q : SeatState). Walked s (Acquiring a A3) t4 (record { place = Acquiring a (P q.turn); turn = q.turn + 1; hand = q.hand }) queues 0)
+      committed.stands_is
       (walked_on s t3 t4 (Acquiring a A3) (moved_to s (Acquiring a A7)) (parked t3 a) [] queues 0 0 committed y)
 
   abbrev later : Numbers
@@ -102,16 +119,25 @@ module _ (s t3 t4 : Token) (n : Numbers) (a : Acquire) (w : WaitId) (is : IsToke
 
   pub asleep_seat : a.counter < length s.me.0.own.knows.setting.starts → IsSleeping t4 later a n.turns
   asleep_seat inside = record {
-    token_is = token_after s t4 (Acquiring a A3) (parked s a) queues 0 n later is slept bare is.empty (ap (λ k. k + 1) is.turns_are) (omega arith) refl (omega arith);
+    token_is =
+        token_after s t4 (Acquiring a A3) (parked s a) queues 0 n later is slept bare is.empty (ap (λ k. k + 1) is.turns_are) (omega arith) refl (omega arith);
     inside = subst (λ (z : TableModel). a.counter < length z.setting.starts) (sym slept.table_is) inside;
     at = at;
   }
 
   pub entered_asleep : IsLast t4 (Queue a.counter w a.lifo) → IsEntered (seat_of s n) a (Acquiring a A3) (Asleep (seat_of t4 later))
   entered_asleep last = (
-    (λ i. record { table = slept.table_is i; number = n.seat; left = n.left; taken = n.taken; sight = sight_by t4.me.0.own.knows; strides = t4.me.0.own.gone }),
+    (λ i. record {
+      table = slept.table_is i;
+      number = n.seat;
+      left = n.left;
+      taken = n.taken;
+      sight = sight_by t4.me.0.own.knows;
+      strides = t4.me.0.own.gone;
+    }),
     slept.stands_is,
-    subst (λ x. RunsRows (seat_of s n) (Acquiring a A3) (seat_of t4 later) (Queue a.counter x a.lifo ∷ [])) wait_is (calls s t4 n later (Acquiring a A3) (parked s a) queues 0 is slept),
+    subst (λ x. RunsRows (seat_of s n) (Acquiring a A3) (seat_of t4 later) (Queue a.counter x a.lifo ∷ [])) wait_is
+        (calls s t4 n later (Acquiring a A3) (parked s a) queues 0 is slept),
     subst (λ x. IsLast t4 (Queue a.counter x a.lifo)) wait_is last,
   )
     where

@@ -63,7 +63,9 @@ module _ (m : Layout) (i : ℕ) (v w : SemaSight) (p : SemaStride) (r : SemaRan 
   pub left_there : (a : Acquire) (turn : ℕ) → p.deed ≡ runs → p.stood.place ≡ Acquiring a (P turn) → p.read ≡ 1
       → HasLeft a.counter (wait i turn) p.seen
   left_there a turn ran at one =
-      let granted : r.world.words.grants i ≡ 1 = sym (found_there (Grant i) ran (ap (λ (z : Place). (event_at i p.stood (plain_before m p).lists z).word) at)) ∙ one in
+      let granted : r.world.words.grants i ≡ 1
+      = sym (found_there (Grant i) ran (ap (λ (z : Place). (event_at i p.stood (plain_before m p).lists z).word) at)) ∙ one in
       let place : (r.world.seats i).place ≡ Acquiring a (P turn) = ap (λ (z : SeatState). z.place) (sym (stood_there m i v w p r)) ∙ at in
       subst (λ l. HasLeft a.counter (wait i turn) l) (sym r.seen)
-      (subst (λ (z : Place × ℕ). Story i z.0 (r.world.seats i).hand z.1 r.world.journal) (λ j. (place j, granted j)) (invariant.stories i (there m i v w p r ran)))
+      (subst (λ (z : Place × ℕ). Story i z.0 (r.world.seats i).hand z.1 r.world.journal) (λ j. (place j, granted j))
+      (invariant.stories i (there m i v w p r ran)))

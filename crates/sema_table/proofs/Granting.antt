@@ -1,5 +1,6 @@
 -- A release from its root's lock on, row by row.
-use Rattle.std.proofs.Common.{◌≡◌, ◌≢◌, ℕ, ◌+◌, ◌-◌, ◌^◌, ◌<◌, ◌≤◌, nat_eq, not, MatchBool, Bool, true, false, List, [], ◌∷◌, ◌++◌, drop, sym, refl, ap, ◌∙◌}
+use Rattle.std.proofs.Common.{◌≡◌, ◌≢◌, ℕ, ◌+◌, ◌-◌, ◌^◌, ◌<◌, ◌≤◌, nat_eq, not, MatchBool, Bool, true, false, List, []}
+use Rattle.std.proofs.Common.{◌∷◌, ◌++◌, drop, sym, refl, ap, ◌∙◌}
 use Rattle.std.proofs.Common.{subst, arith, eq-eqb, ne_eqb}
 use mathlib.Core.Logic.{dite}
 use native.Mathlib.Decide.{ℕ_discrete}
@@ -42,7 +43,8 @@ use Rattle.sema_table.proofs.Walking.{walked_row, walked_then, ran_from}
 use Rattle.sema_table.proofs.Holding.{record_on}
 
 -- R4
-module _ (s u : Token) (a : Release) (n : ℕ) (at : s.me.0.own.knows.place ≡ Releasing a R4) (r : Ran here s.me.0.own n u.me.0.own) (same : u.table_id ≡ s.table_id) where
+module _ (s u : Token) (a : Release) (n : ℕ) (at : s.me.0.own.knows.place ≡ Releasing a R4) (r : Ran here s.me.0.own n u.me.0.own)
+    (same : u.table_id ≡ s.table_id) where
   abbrev look : Ran (begin (Releasing a R4)) s.me.0.own n u.me.0.own
   look = ran_from s u (Releasing a R4) n at r
 
@@ -66,17 +68,22 @@ module _ (s u : Token) (a : Release) (n : ℕ) (at : s.me.0.own.knows.place ≡ 
   listed_is h = ap (λ (l : List WaitId). by_first l (Releasing a R6) (λ w. Releasing a R5))
       (sym (found.lists a.counter) ∙ ap (λ (y : TableModel). lists_by y.setting u.me.0.own.knows.seen a.counter) (sym (some_walk h).table_is))
 
-  pub looked_walk : MatchBool (not (nat_eq n 0)) (Walked s (Releasing a R4) u (moved_to s (sought u a)) [] 0) (Walked s (Releasing a R4) u (moved_to s (Releasing a R6)) [] 0)
+  pub looked_walk : MatchBool (not (nat_eq n 0)) (Walked s (Releasing a R4) u (moved_to s (sought u a)) [] 0)
+      (Walked s (Releasing a R4) u (moved_to s (Releasing a R6)) [] 0)
   looked_walk = dite (ℕ_discrete n 0)
-      (λ e. subst (λ b. MatchBool (not b) (Walked s (Releasing a R4) u (moved_to s (sought u a)) [] 0) (Walked s (Releasing a R4) u (moved_to s (Releasing a R6)) [] 0)) (sym (eq-eqb n 0 e)) (zero_walk e))
-      (λ ne. subst (λ b. MatchBool (not b) (Walked s (Releasing a R4) u (moved_to s (sought u a)) [] 0) (Walked s (Releasing a R4) u (moved_to s (Releasing a R6)) [] 0)) (sym (ne_eqb n 0 ne))
+      (λ e. subst (λ b. MatchBool (not b) (Walked s (Releasing a R4) u (moved_to s (sought u a)) [] 0)
+      (Walked s (Releasing a R4) u (moved_to s (Releasing a R6)) [] 0)) (sym (eq-eqb n 0 e)) (zero_walk e))
+      (λ ne. subst (λ b. MatchBool (not b) (Walked s (Releasing a R4) u (moved_to s (sought u a)) [] 0)
+      (Walked s (Releasing a R4) u (moved_to s (Releasing a R6)) [] 0)) (sym (ne_eqb n 0 ne))
       (subst (λ q. Walked s (Releasing a R4) u (moved_to s q) [] 0) (listed_is (omega (arith, ne))) (some_walk (omega (arith, ne)))))
 
   pub looked_record : u.me.1 ≡ s.me.1 → HasRecord s a.counter → HasRecord u a.counter
-  looked_record slots kept = record_on s u (Releasing a R4) n a.counter (zero_or (Releasing a R6) above n, Nothing) look found (λ i. record { id = same i; setting = look.same.1 i }) (on_here (root s.me.0.own.knows.setting a.counter) 1) (λ l q. refl) slots kept
+  looked_record slots kept = record_on s u (Releasing a R4) n a.counter (zero_or (Releasing a R6) above n, Nothing) look found
+      (λ i. record { id = same i; setting = look.same.1 i }) (on_here (root s.me.0.own.knows.setting a.counter) 1) (λ l q. refl) slots kept
 
 -- a wait in hand is that of a seat of the table
-pub hand_there : (s u : Token) (from : Place) (n : ℕ) (x : WaitId) → Ran (begin from) s.me.0.own n u.me.0.own → u.me.0.own.knows.hand ≡ x ∷ [] → x.seat < s.me.0.own.knows.setting.seats
+pub hand_there : (s u : Token) (from : Place) (n : ℕ) (x : WaitId) → Ran (begin from) s.me.0.own n u.me.0.own → u.me.0.own.knows.hand ≡ x ∷ []
+    → x.seat < s.me.0.own.knows.setting.seats
 hand_there s u from n x r at =
     let m = layout s.me.0.own.knows.setting in let i : ℕ = s.me.0.own.number in
     let end = the_sema_paths.ends m i (sight_by (begin from s.me.0.own.knows)) (sight_by u.me.0.own.knows) r.stride r.also.there r.ran in
@@ -87,7 +94,8 @@ hand_there s u from n x r at =
     (good.parked.1 i x r.also.there (omega arith)).0
 
 -- R5, where the record is already without the wait
-module _ (s u : Token) (a : Release) (n : ℕ) (w : WaitId) (tail : List WaitId) (at : s.me.0.own.knows.place ≡ Releasing a R5) (r : Ran here s.me.0.own n u.me.0.own) (same : u.table_id ≡ s.table_id)
+module _ (s u : Token) (a : Release) (n : ℕ) (w : WaitId) (tail : List WaitId) (at : s.me.0.own.knows.place ≡ Releasing a R5)
+    (r : Ran here s.me.0.own n u.me.0.own) (same : u.table_id ≡ s.table_id)
     (first : lists_by s.me.0.own.knows.setting s.me.0.own.knows.seen a.counter ≡ w ∷ tail) where
   abbrev lowers : Ran (begin (Releasing a R5)) s.me.0.own n u.me.0.own
   lowers = ran_from s u (Releasing a R5) n at r
@@ -96,14 +104,17 @@ module _ (s u : Token) (a : Release) (n : ℕ) (w : WaitId) (tail : List WaitId)
   leaves = (Releasing a R6, Tells (Leave a.counter w s.me.0.own.number))
 
   -- the root's lists are those that the seat has seen
-  held_lists : (d : ℕ) → root s.me.0.own.knows.setting d ≡ root s.me.0.own.knows.setting a.counter → (plain_before (layout s.me.0.own.knows.setting) lowers.stride).lists d ≡ lists_by s.me.0.own.knows.setting s.me.0.own.knows.seen d
+  held_lists : (d : ℕ) → root s.me.0.own.knows.setting d ≡ root s.me.0.own.knows.setting a.counter
+      → (plain_before (layout s.me.0.own.knows.setting) lowers.stride).lists d ≡ lists_by s.me.0.own.knows.setting s.me.0.own.knows.seen d
   held_lists d e = lowers.also.held d (ap (λ k. holds_at k) e ∙ on_here (root s.me.0.own.knows.setting a.counter) 1)
     where
       holds_at : ℕ → ℕ
       holds_at k = holds (root s.me.0.own.knows.setting) k (Releasing a R5)
 
   went : Goes s.me.0.own lowers.stride leaves u.me.0.own
-  went = subst (λ (l : List WaitId). Goes s.me.0.own lowers.stride (by_first l (to (Releasing a R6)) (λ x. (Releasing a R6, Tells (Leave a.counter x s.me.0.own.number)))) u.me.0.own)
+  went =
+      subst (λ (l : List WaitId). Goes s.me.0.own lowers.stride
+      (by_first l (to (Releasing a R6)) (λ x. (Releasing a R6, Tells (Leave a.counter x s.me.0.own.number)))) u.me.0.own)
       (held_lists a.counter refl ∙ first) (led s.me.0.own u.me.0.own (Releasing a R5) n lowers)
 
   pub out_walk : Walked s (Releasing a R5) u (taken_out s a w) (Leave a.counter w s.me.0.own.number ∷ []) 0
@@ -113,13 +124,19 @@ module _ (s u : Token) (a : Release) (n : ℕ) (w : WaitId) (tail : List WaitId)
   out_there empty = hand_there s u (Releasing a R5) n w lowers (ap (λ (y : SeatState). y.hand) went.stands ∙ ap (λ (l : List WaitId). l ++ w ∷ []) empty)
 
   pub out_record : (treap : Treap) → u.me.1 ≡ (root s.me.0.own.knows.setting a.counter, Root treap) ∷ []
-      → IsRecord s.me.0.own.knows.setting (root s.me.0.own.knows.setting a.counter) treap (put (lists_by s.me.0.own.knows.setting s.me.0.own.knows.seen) a.counter (drop 1 (lists_by s.me.0.own.knows.setting s.me.0.own.knows.seen a.counter))) → HasRecord u a.counter
+      → IsRecord s.me.0.own.knows.setting (root s.me.0.own.knows.setting a.counter) treap
+      (put (lists_by s.me.0.own.knows.setting s.me.0.own.knows.seen) a.counter (drop 1 (lists_by s.me.0.own.knows.setting s.me.0.own.knows.seen a.counter)))
+      → HasRecord u a.counter
   out_record treap slots is = (
     treap,
     slots ∙ (λ i. (root (sym out_walk.table_is i).setting a.counter, Root treap) ∷ []),
     subst (λ (y : TableModel). IsRecord y.setting (root y.setting a.counter) treap (lists_by y.setting u.me.0.own.knows.seen)) (sym out_walk.table_is)
-        (same_record s.me.0.own.knows.setting (root s.me.0.own.knows.setting a.counter) treap (put (lists_by s.me.0.own.knows.setting s.me.0.own.knows.seen) a.counter (drop 1 (lists_by s.me.0.own.knows.setting s.me.0.own.knows.seen a.counter))) (lists_by s.me.0.own.knows.setting u.me.0.own.knows.seen)
-        (λ d e. went.lists d ∙ listed_agree (Tells (Leave a.counter w s.me.0.own.number)) ((plain_before (layout s.me.0.own.knows.setting) lowers.stride).lists) (lists_by s.me.0.own.knows.setting s.me.0.own.knows.seen) d (held_lists d e)) is),
+        (same_record s.me.0.own.knows.setting (root s.me.0.own.knows.setting a.counter) treap
+        (put (lists_by s.me.0.own.knows.setting s.me.0.own.knows.seen) a.counter (drop 1 (lists_by s.me.0.own.knows.setting s.me.0.own.knows.seen a.counter)))
+        (lists_by s.me.0.own.knows.setting u.me.0.own.knows.seen)
+        (λ d e. went.lists d ∙ listed_agree (Tells (Leave a.counter w s.me.0.own.number))
+        ((plain_before (layout s.me.0.own.knows.setting) lowers.stride).lists) (lists_by s.me.0.own.knows.setting s.me.0.own.knows.seen) d (held_lists d e))
+        is),
   )
 
 -- R9 or R10
@@ -141,7 +158,8 @@ module _ (s u : Token) (a : Release) (id : WaitId) (n : ℕ) (r : Ran here s.me.
   }
 
 -- R7, after rows that led there
-module _ (s0 s u : Token) (a : Release) (id : WaitId) (n : ℕ) (before : Walked s0 (Releasing a R7) s (moved_to s0 (Releasing a R7)) [] 0) (hand : s0.me.0.own.knows.hand ≡ id ∷ []) (r : Ran here s.me.0.own n u.me.0.own) (same : u.table_id ≡ s.table_id) where
+module _ (s0 s u : Token) (a : Release) (id : WaitId) (n : ℕ) (before : Walked s0 (Releasing a R7) s (moved_to s0 (Releasing a R7)) [] 0)
+    (hand : s0.me.0.own.knows.hand ≡ id ∷ []) (r : Ran here s.me.0.own n u.me.0.own) (same : u.table_id ≡ s.table_id) where
   abbrev look_for : Ran (begin (Releasing a R7)) s.me.0.own n u.me.0.own
   look_for = ran_from s u (Releasing a R7) n (ap (λ (y : SeatState). y.place) before.stands_is) r
 
@@ -154,7 +172,8 @@ module _ (s0 s u : Token) (a : Release) (id : WaitId) (n : ℕ) (before : Walked
 
   pub some_for : 0 < n → Walked s0 (Releasing a R7) u (moved_to s0 (Releasing a (R8 (n - 1)))) [] 0
   some_for h = walked_then s0 s u (Releasing a R7) (Releasing a R7) (Releasing a (R8 (n - 1))) [] [] 0 0 before
-      (walked_row s u (Releasing a R7) n (Releasing a (R8 (n - 1)), Nothing) look_for (load_some n (Releasing a R10) (λ left. Releasing a (R8 left)) found_for h) same)
+      (walked_row s u (Releasing a R7) n (Releasing a (R8 (n - 1)), Nothing) look_for
+      (load_some n (Releasing a R10) (λ left. Releasing a (R8 left)) found_for h) same)
 
   -- and R8
   module _ (w : Token) (y : ℕ) (some : 0 < n) (q : Ran here u.me.0.own y w.me.0.own) (again : w.table_id ≡ u.table_id) where
@@ -179,7 +198,8 @@ module _ (s0 s u : Token) (a : Release) (id : WaitId) (n : ℕ) (before : Walked
 
     pub won_for : y ≡ n → Walked s0 (Releasing a R7) w (moved_to s0 (Releasing a R9)) (Take a.counter id.seat ∷ []) 0
     won_for e = subst (λ i. Walked s0 (Releasing a R7) w (moved_to s0 (Releasing a R9)) (Take a.counter i ∷ []) 0) for_it
-        (walked_then s0 u w (Releasing a R7) before_it (Releasing a R9) [] (Take a.counter (waiter u.me.0.own.number u.me.0.own.knows.hand) ∷ []) 0 0 (some_for some)
+        (walked_then s0 u w (Releasing a R7) before_it (Releasing a R9) []
+        (Take a.counter (waiter u.me.0.own.number u.me.0.own.knows.hand) ∷ []) 0 0 (some_for some)
         (walked_row u w before_it y wins swap (won y (n - 1 + 1) wins loses swapped (omega arith)) again))
 
     pub lost_for : y ≢ n → Walked s0 (Releasing a R7) w (moved_to s0 (Releasing a R7)) [] 0
@@ -187,7 +207,11 @@ module _ (s0 s u : Token) (a : Release) (id : WaitId) (n : ℕ) (before : Walked
         (walked_row u w before_it y loses swap (lost y (n - 1 + 1) wins loses swapped (λ e. ne (omega arith))) again)
 
 -- the store of a grant leads on
-pub grants_at : (z : Setting) (slots i : ℕ) (m : Me) (a : Release) (handed : Bool) → m.0.own.knows.place ≡ granting a handed → added_by m.0.own.number m.0.own.knows.seen ≤ 2 ^ 40 → address m.0.own.knows.setting (Grant (waiter m.0.own.number m.0.own.knows.hand)) ≡ i
-    → waiter m.0.own.number m.0.own.knows.hand < m.0.own.knows.setting.seats → Owes semaphore_rows z m i (λ _. grant_of handed) (λ _ t. runs_grant semaphore_rows (step slots i (grant_of handed) 0 none) m (grant_of handed) t)
-grants_at z slots i m a true at few word there = owes_grant z i m (Releasing a R9) at (omega arith) slots 2 (λ w n known. record { fits = record { word = word; there = there; can = refl; becomes = refl }; apart = refl })
-grants_at z slots i m a false at few word there = owes_grant z i m (Releasing a R10) at (omega arith) slots 1 (λ w n known. record { fits = record { word = word; there = there; can = refl; becomes = refl }; apart = refl })
+pub grants_at : (z : Setting) (slots i : ℕ) (m : Me) (a : Release) (handed : Bool) → m.0.own.knows.place ≡ granting a handed
+    → added_by m.0.own.number m.0.own.knows.seen ≤ 2 ^ 40 → address m.0.own.knows.setting (Grant (waiter m.0.own.number m.0.own.knows.hand)) ≡ i
+    → waiter m.0.own.number m.0.own.knows.hand < m.0.own.knows.setting.seats
+    → Owes semaphore_rows z m i (λ _. grant_of handed) (λ _ t. runs_grant semaphore_rows (step slots i (grant_of handed) 0 none) m (grant_of handed) t)
+grants_at z slots i m a true at few word there = owes_grant z i m (Releasing a R9) at (omega arith) slots 2
+    (λ w n known. record { fits = record { word = word; there = there; can = refl; becomes = refl }; apart = refl })
+grants_at z slots i m a false at few word there = owes_grant z i m (Releasing a R10) at (omega arith) slots 1
+    (λ w n known. record { fits = record { word = word; there = there; can = refl; becomes = refl }; apart = refl })

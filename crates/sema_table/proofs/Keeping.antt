@@ -1,5 +1,6 @@
 -- A row of the step table leads on to a world that may be met, whichever row it is.
-use Rattle.std.proofs.Common.{◌≡◌, ◌≢◌, ℕ, ◌+◌, ◌^◌, ◌<◌, ◌≤◌, IsTrue, List, [], ◌∷◌, ◌++◌, length, get_or, set, slice_index, slice_set, sym, refl, ap, ◌∙◌}
+use Rattle.std.proofs.Common.{◌≡◌, ◌≢◌, ℕ, ◌+◌, ◌^◌, ◌<◌, ◌≤◌, IsTrue, List, [], ◌∷◌, ◌++◌, length, get_or, set}
+use Rattle.std.proofs.Common.{slice_index, slice_set, sym, refl, ap, ◌∙◌}
 use Rattle.std.proofs.Common.{subst, inr, arith, length-set, get_or-set_other, get_or-set_same}
 use mathlib.Core.Logic.{dite}
 use native.Mathlib.Decide.{ℕ_discrete}
@@ -95,7 +96,8 @@ module _ (u : SemaSeat) (world : SemaWorld) (words : List ℕ) (homes : Homes) (
   begun_served : (k : ℕ) → served m b k ≡ served m world k
   begun_served k = ap (λ y. on (world.words.grants k) 2 1 + y)
       (total_same z.seats (λ j. carries k (b.seats j).place (b.seats j).hand) (λ j. carries k (world.seats j).place (world.seats j).hand)
-      (λ j h. put_at (λ i (x : SeatState). carries k x.place x.hand ≡ carries k (world.seats i).place (world.seats i).hand) world.seats id (record (world.seats id) { place = p }) j
+      (λ j h. put_at (λ i (x : SeatState). carries k x.place x.hand ≡ carries k (world.seats i).place (world.seats i).hand) world.seats id
+      (record (world.seats id) { place = p }) j
       (begins_carries (length z.starts) k (world.seats id).hand v.place p ok ∙ ap (λ q. carries k q (world.seats id).hand) (sym stands)) (λ ne. refl)))
 
   meets : Meets (semaphores m) b id (sight_by (begin p v))
@@ -107,7 +109,11 @@ module _ (u : SemaSeat) (world : SemaWorld) (words : List ℕ) (homes : Homes) (
   }
 
   knows : Knows z id (begin p v) b
-  knows = record { meets = meets; takes = let a = viewed.takes in let k = begun_served id in omega arith; held = λ c h. viewed.held c (begins_holds (length z.starts) (root z) (root z c) v.place p ok h) }
+  knows = record {
+    meets = meets;
+    takes = let a = viewed.takes in let k = begun_served id in omega arith;
+    held = λ c h. viewed.held c (begins_holds (length z.starts) (root z) (root z c) v.place p ok h);
+  }
 
   invariant : IsInvariant m b
   invariant = the_law.invariant m b reached
@@ -128,7 +134,8 @@ module _ (u : SemaSeat) (world : SemaWorld) (words : List ℕ) (homes : Homes) (
 
   -- another seat may meet the world in which the row begins
   met_else : (j : ℕ) (o : SemaSight) → j ≢ id → Meets (semaphores m) world j o → Meets (semaphores m) b j o
-  met_else j o ne = begun m id (λ s. Meets (semaphores m) s j o) (λ s t step q. the_sema_paths.others m s t id j o st.there ne step q) world v.place p stands ok
+  met_else j o ne =
+      begun m id (λ s. Meets (semaphores m) s j o) (λ s t step q. the_sema_paths.others m s t id j o st.there ne step q) world v.place p stands ok
 
   module _ (x : ℕ) (fits : Fits z (event_of b id) i (slice_index words i) x) where
     abbrev pub t : SemaWorld
@@ -155,7 +162,8 @@ module _ (u : SemaSeat) (world : SemaWorld) (words : List ℕ) (homes : Homes) (
     here_is : (b.seats id).place ≡ p
     here_is = ap (λ (y : SeatState). y.place) (put_here world.seats id (record (world.seats id) { place = p }))
 
-    adds : (added_by id t.journal ≤ added_by id b.journal + adding (b.seats id).place) × ((k : ℕ) → k ≢ id → added_by k t.journal ≡ added_by k b.journal)
+    adds : (added_by id t.journal ≤ added_by id b.journal + adding (b.seats id).place)
+        × ((k : ℕ) → k ≢ id → added_by k t.journal ≡ added_by k b.journal)
     adds = step_adds m b t id st.there invariant step
 
     small_after : IsSmall m t
@@ -163,7 +171,8 @@ module _ (u : SemaSeat) (world : SemaWorld) (words : List ℕ) (homes : Homes) (
       seats = shown.small.seats;
       starts = shown.small.starts;
       few = λ k h. dite (ℕ_discrete k id)
-          (λ q. subst (λ y. added_by y t.journal ≤ 2 ^ 40) (sym q) (let a = adds.0 in let c = ap adding here_is in let o = own_adds m world id (sight_by v) viewed.meets in omega arith))
+          (λ q. subst (λ y. added_by y t.journal ≤ 2 ^ 40) (sym q) (let a = adds.0 in let c = ap adding here_is in
+          let o = own_adds m world id (sight_by v) viewed.meets in omega arith))
           (λ ne. let a = adds.1 k ne in let c = shown.small.few k h in omega arith);
     }
 
@@ -179,9 +188,13 @@ module _ (u : SemaSeat) (world : SemaWorld) (words : List ℕ) (homes : Homes) (
     pub others : (o : SemaSeat) → o.number ≢ id → o.number < z.seats → Knows z o.number o.knows world → Knows z o.number o.knows t
     others o ne h known = record {
       meets = met_after;
-      takes = let a = the_accounts.counted m b t id st.there invariant step o.number in let n = on_else o.number id (gains (b.seats id).place (t.seats id).place) ne in let k = begun_served o.number in let was = known.takes in omega arith;
+      takes = let a = the_accounts.counted m b t id st.there invariant step o.number in
+          let n = on_else o.number id (gains (b.seats id).place (t.seats id).place) ne in let k = begun_served o.number in let was = known.takes in omega arith;
       held = λ c one. known.held c one
-          ∙ sym (leaves c ((the_accounts.alone m b invariant o.number (root z c) h (ap (λ (y : SeatState). holds (root z) (root z c) y.place) met_before.stands ∙ one)).1 id st.there (λ q. ne (sym q))));
+          ∙ sym
+          (leaves c
+          ((the_accounts.alone m b invariant o.number (root z c) h (ap (λ (y : SeatState). holds (root z) (root z c) y.place) met_before.stands ∙ one)).1
+          id st.there (λ q. ne (sym q))));
     }
       where
         met_before : Meets (semaphores m) b o.number (sight_by o.knows)
@@ -194,7 +207,8 @@ module _ (u : SemaSeat) (world : SemaWorld) (words : List ℕ) (homes : Homes) (
     abbrev pub after : SemaSeat
     after = record {
       number = u.number;
-      knows = record (seeing (sight (semaphores (layout u.knows.setting)) t u.number) u.knows) { taken = u.knows.taken + gains (b.seats u.number).place (t.seats u.number).place };
+      knows = record (seeing (sight (semaphores (layout u.knows.setting)) t u.number) u.knows)
+          { taken = u.knows.taken + gains (b.seats u.number).place (t.seats u.number).place };
       gone = u.gone ++ row_stride (layout u.knows.setting) b u.number ∷ [];
     }
 
@@ -203,21 +217,26 @@ module _ (u : SemaSeat) (world : SemaWorld) (words : List ℕ) (homes : Homes) (
     tells_on = inr (row_stride m b id, refl, refl, journal_told (e.leads (finds (root z) b id)).1 b.journal)
 
     came : takes id t.journal ≡ after.knows.taken + served m t id
-    came = let a = the_accounts.counted m b t id st.there invariant step id in let o = on_here id (gains (b.seats id).place (t.seats id).place) in let k = knows.takes in omega arith
+    came = let a = the_accounts.counted m b t id st.there invariant step id in
+        let o = on_here id (gains (b.seats id).place (t.seats id).place) in let k = knows.takes in omega arith
 
     came_most : after.knows.taken ≤ 2 ^ 49
     came_most = let a = taken_most z id t reached_after small_after shown.counted st.there in omega (arith, came)
 
     pub knows_after : Knows z id after.knows t
-    knows_after = record { meets = meets_sight (semaphores m) t id reached_after; takes = came; held = λ c h. ap (λ y. y.lists c) (sym lawful_after.journal.0) }
+    knows_after =
+        record { meets = meets_sight (semaphores m) t id reached_after; takes = came; held = λ c h. ap (λ y. y.lists c) (sym lawful_after.journal.0) }
 
-    pub shows_after : (homes : Homes) → length homes ≡ z.roots → ((q : ℕ) → q < z.roots → t.words.locks q ≡ 0 → AtHome z t.words homes q) → ShowsWorld z t (slice_set words i x) homes
+    pub shows_after : (homes : Homes) → length homes ≡ z.roots → ((q : ℕ) → q < z.roots → t.words.locks q ≡ 0 → AtHome z t.words homes q)
+        → ShowsWorld z t (slice_set words i x) homes
     shows_after homes deep home = record {
       reached = reached_after;
       small = small_after;
-      words = λ o h. let k = finds (root z) b id in let a = written_word z shown.rooted b.words e.word o (e.becomes k) t.words.lists fits.there h in let l = inside z shown.rooted e.word fits.there in
+      words = λ o h. let k = finds (root z) b id in let a = written_word z shown.rooted b.words e.word o (e.becomes k) t.words.lists fits.there h in
+          let l = inside z shown.rooted e.word fits.there in
           dite (ℕ_discrete (address z o) i)
-          (λ q. ap (λ y. get_or (set words i x) y 0) q ∙ get_or-set_same words i x 0 (let y = shown.wide in let w = fits.word in omega arith) ∙ fits.becomes ∙ ap e.becomes read_is ∙ sym (a.0 (q ∙ sym fits.word)))
+          (λ q. ap (λ y. get_or (set words i x) y 0) q ∙ get_or-set_same words i x 0 (let y = shown.wide in let w = fits.word in omega arith)
+          ∙ fits.becomes ∙ ap e.becomes read_is ∙ sym (a.0 (q ∙ sym fits.word)))
           (λ ne. get_or-set_other words i (address z o) x 0 ne ∙ shown.words o h ∙ sym (a.1 (λ q. ne (q ∙ fits.word))));
       homes = home;
       wide = length-set words i x ∙ shown.wide;
@@ -265,7 +284,8 @@ module _ (u : SemaSeat) (world : SemaWorld) (words : List ℕ) (homes : Homes) (
 
     -- the lists that the row leaves
     pub lists_are : (c : ℕ) → t.words.lists c ≡ lists_after (e.leads (slice_index words i)).1 world.words.lists c
-    lists_are c = ap (λ (l : ℕ → List WaitId). lists_after (e.leads (finds (root z) b id)).1 l c) (lists_unwritten (root z) b.words e.word (e.becomes (finds (root z) b id)))
+    lists_are c = ap (λ (l : ℕ → List WaitId). lists_after (e.leads (finds (root z) b id)).1 l c)
+        (lists_unwritten (root z) b.words e.word (e.becomes (finds (root z) b id)))
         ∙ ap (λ k. lists_after (e.leads k).1 world.words.lists c) (sym read_is)
 
     -- and that the journal tells

@@ -1,6 +1,7 @@
 -- Where a row that ran leads its seat, by what the table says of it.
 use prog.Atomic.{either}
-use Rattle.std.proofs.Common.{◌≡◌, ◌≢◌, ℕ, zero, suc, ◌-◌, ◌+◌, ◌<◌, ◌==◌, cond, Bool, true, false, List, [], ◌∷◌, ◌++◌, refl, ap, ◌∙◌, subst, arith, eq-eqb}
+use Rattle.std.proofs.Common.{◌≡◌, ◌≢◌, ℕ, zero, suc, ◌-◌, ◌+◌, ◌<◌, ◌==◌, cond, Bool, true, false, List, [], ◌∷◌, ◌++◌}
+use Rattle.std.proofs.Common.{refl, ap, ◌∙◌, subst, arith, eq-eqb}
 use Rattle.std.proofs.Common.{ne_eqb}
 use Rattle.step_table.specs.declared.effect.Effect.{Effect}
 use Rattle.step_table.specs.declared.effect.Effect.TheVariants.{Nothing, Tells, Wakes}
@@ -41,7 +42,8 @@ next_by u place p n = (table u.number (stands_by (begin place u.knows)) (plain_b
 pub led : (u w : SemaSeat) (place : Place) (n : ℕ) (r : Ran (begin place) u n w) → Goes u r.stride (next_by u place r.stride n) w
 led u w place n r =
     let m = layout u.knows.setting in let p : SemaStride = r.stride in let from : SemaSight = sight_by (begin place u.knows) in
-    let row : RanSemaRow m u.number p (sight_by w.knows) = subst (SemaDid m u.number p (sight_by w.knows)) r.did (the_sema_paths.does m u.number from (sight_by w.knows) p r.ran) in
+    let row : RanSemaRow m u.number p (sight_by w.knows) = subst (SemaDid m u.number p (sight_by w.knows)) r.did
+    (the_sema_paths.does m u.number from (sight_by w.knows) p r.ran) in
     let same : row_next m u.number p ≡ next_by u place p n = λ i. (table u.number (r.ran.stood i) (plain_before m p).lists).leads (r.read i) in
     let told : p.told ≡ entries_of (next_by u place p n).1 = row.told ∙ ap (λ (x : Next). entries_of x.1) same in record {
       stands = row.leads ∙ (λ i. seat_after (same i).1 (same i).0 (r.ran.stood i));

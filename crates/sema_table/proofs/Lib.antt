@@ -28,6 +28,7 @@ pub mod Retrying
 pub mod Granting
 pub mod Wakening
 pub mod GrantingMany
+pub mod PickingMany
 pub mod WakeningMany
 pub mod Making
 pub mod Reckoning
@@ -44,5 +45,6 @@ mod CallerWakes
 mod CallerPolls
 mod CallerEnters
 mod CallerAcquires
+mod CallerLooksMany
 mod CallerWakesMany
 mod CallerEnds

@@ -1,5 +1,6 @@
 -- The row that takes a lock, and what comes of it.
-use Rattle.std.proofs.Common.{◌≡◌, ◌≢◌, ℕ, ◌^◌, ◌≤◌, ◌==◌, true, List, [], ◌∷◌, length, slice_index, sym, refl, ap, ◌∙◌, subst, arith, eq-eqb}
+use Rattle.std.proofs.Common.{◌≡◌, ◌≢◌, ℕ, ◌^◌, ◌≤◌, ◌==◌, true, List, [], ◌∷◌, length, slice_index, sym, refl, ap, ◌∙◌}
+use Rattle.std.proofs.Common.{subst, arith, eq-eqb}
 use prog.Atomic.{either}
 use Rattle.waiters.specs.declared.wait.WaitId.{WaitId}
 use Rattle.step_table.specs.declared.place.AcquireRow.TheVariants.{A3}
@@ -41,14 +42,19 @@ locking_adds (ReleasingMany r M3) e = refl
 locking_adds _ e = absurd (cc)
 
 -- its event takes the lock of its call's counter
-pub locking_event : (z : Setting) (s : ℕ) (seat : SeatState) (lists : ℕ → List WaitId) (p : Place) (i n : ℕ) → takes_lock p ≡ true → address z (Lock (counter_at p)) ≡ i → n ≡ 0
+pub locking_event : (z : Setting) (s : ℕ) (seat : SeatState) (lists : ℕ → List WaitId) (p : Place) (i n : ℕ) → takes_lock p ≡ true
+    → address z (Lock (counter_at p)) ≡ i → n ≡ 0
     → Takes z (counter_at p) (event_at s seat lists p) i n
-locking_event z s seat lists (Acquiring a A3) i n e word none = record { fits = record { word = word; there = tt; can = eq-eqb n 0 none; becomes = refl }; word_is = refl; silent = refl }
-locking_event z s seat lists (Releasing r R3) i n e word none = record { fits = record { word = word; there = tt; can = eq-eqb n 0 none; becomes = refl }; word_is = refl; silent = refl }
-locking_event z s seat lists (ReleasingMany r M3) i n e word none = record { fits = record { word = word; there = tt; can = eq-eqb n 0 none; becomes = refl }; word_is = refl; silent = refl }
+locking_event z s seat lists (Acquiring a A3) i n e word none =
+    record { fits = record { word = word; there = tt; can = eq-eqb n 0 none; becomes = refl }; word_is = refl; silent = refl }
+locking_event z s seat lists (Releasing r R3) i n e word none =
+    record { fits = record { word = word; there = tt; can = eq-eqb n 0 none; becomes = refl }; word_is = refl; silent = refl }
+locking_event z s seat lists (ReleasingMany r M3) i n e word none =
+    record { fits = record { word = word; there = tt; can = eq-eqb n 0 none; becomes = refl }; word_is = refl; silent = refl }
 locking_event z s seat lists _ i n e word none = absurd (cc)
 
-locking_leads : (s : ℕ) (seat : SeatState) (lists : ℕ → List WaitId) (p : Place) → takes_lock p ≡ true → (event_at s seat lists p).leads 0 ≡ to (locked p)
+locking_leads : (s : ℕ) (seat : SeatState) (lists : ℕ → List WaitId) (p : Place) → takes_lock p ≡ true
+    → (event_at s seat lists p).leads 0 ≡ to (locked p)
 locking_leads s seat lists (Acquiring a A3) e = refl
 locking_leads s seat lists (Releasing r R3) e = refl
 locking_leads s seat lists (ReleasingMany r M3) e = refl
@@ -66,14 +72,19 @@ locked_counter (Releasing r R3) e = refl
 locked_counter (ReleasingMany r M3) e = refl
 locked_counter _ e = absurd (cc)
 
-pub has_locked : (t : TableModel) (s u : Token) (p : Place) → Starts t s p → Took semaphore_rows (begin p) s.me u.me → u.table_id ≡ s.table_id → Locked s p u
+pub has_locked : (t : TableModel) (s u : Token) (p : Place) → Starts t s p → Took semaphore_rows (begin p) s.me u.me
+    → u.table_id ≡ s.table_id → Locked s p u
 has_locked t s u p starts T same =
     let g : Goes s.me.0.own T.0.stride (to (locked p)) u.me.0.own
-    = subst (λ (x : Next). Goes s.me.0.own T.0.stride x u.me.0.own) (locking_leads s.me.0.own.number (record { place = p; turn = s.me.0.own.knows.turn; hand = s.me.0.own.knows.hand }) _ p starts.takes) (led s.me.0.own u.me.0.own p 0 T.0) in
+    = subst (λ (x : Next). Goes s.me.0.own T.0.stride x u.me.0.own)
+    (locking_leads s.me.0.own.number (record { place = p; turn = s.me.0.own.knows.turn; hand = s.me.0.own.knows.hand }) _ p starts.takes)
+    (led s.me.0.own u.me.0.own p 0 T.0) in
     let x = subst (λ k. Walked s p u (moved_to s (locked p)) [] k) (locking_gains p starts.takes) (walked_row s u p 0 (to (locked p)) T.0 g same) in
     let H = T.1.3 in
-    let place : counter_at u.me.0.own.knows.place ≡ counter_at p = ap (λ (q : SeatState). counter_at q.place) x.stands_is ∙ locked_counter p starts.takes in
-    let at : root u.me.0.own.knows.setting (counter_at u.me.0.own.knows.place) ≡ root u.me.0.own.knows.setting (counter_at p) = ap (root u.me.0.own.knows.setting) place in (
+    let place : counter_at u.me.0.own.knows.place ≡ counter_at p = ap (λ (q : SeatState). counter_at q.place)
+    x.stands_is ∙ locked_counter p starts.takes in
+    let at : root u.me.0.own.knows.setting (counter_at u.me.0.own.knows.place) ≡ root u.me.0.own.knows.setting (counter_at p)
+    = ap (root u.me.0.own.knows.setting) place in (
       x,
       (
         H.0,
@@ -83,22 +94,31 @@ has_locked t s u p starts T same =
     )
 
 -- what a lock owes by its row
-pub takes_lock_by : (z : Setting) (i : ℕ) (s : Token) (p : Place) → takes_lock p ≡ true → Begins (length s.me.0.own.knows.setting.starts) s.me.0.own.knows.place p → added_by s.me.0.own.number s.me.0.own.knows.seen ≤ 2 ^ 40
+pub takes_lock_by : (z : Setting) (i : ℕ) (s : Token) (p : Place) → takes_lock p ≡ true
+    → Begins (length s.me.0.own.knows.setting.starts) s.me.0.own.knows.place p → added_by s.me.0.own.number s.me.0.own.knows.seen ≤ 2 ^ 40
     → address s.me.0.own.knows.setting (Lock (counter_at p)) ≡ i
     → Owes semaphore_rows z s.me i (λ n. either (n == 0) 1 n) (λ n t. (n ≢ 0 → t ≡ s.me) × (n ≡ 0 → Took semaphore_rows (begin p) s.me t))
 takes_lock_by z i s p takes begins few word world words homes st = let k : ℕ = slice_index words i in
-    tells_more semaphore_rows z s.me i world words homes (either (k == 0) 1 k) _ (λ t. (k ≢ 0 → t ≡ s.me) × (k ≡ 0 → Took semaphore_rows (begin p) s.me t))
+    tells_more semaphore_rows z s.me i world words homes (either (k == 0) 1 k)
+    _ (λ t. (k ≢ 0 → t ≡ s.me) × (k ≡ 0 → Took semaphore_rows (begin p) s.me t))
     (λ t told. (told.0, (λ free. got t (told.1 free))))
     (owes_lock i s.me p begins (let a = locking_adds p takes in omega arith) z
-    (λ b n known free. locking_event s.me.0.own.knows.setting s.me.0.own.number (stands_by (begin p s.me.0.own.knows)) b.words.lists p i n takes word free) world words homes st)
+    (λ b n known free. locking_event s.me.0.own.knows.setting s.me.0.own.number (stands_by (begin p s.me.0.own.knows)) b.words.lists p i n takes word free)
+    world words homes st)
   where
-    got : (t : Me) → Ran (begin p) s.me.0.own 0 t.0.own × ((treap : Treap) × Changed semaphore_rows s.me ((root s.me.0.own.knows.setting (counter_at p), Root treap) ∷ s.me.1) t × IsRecord s.me.0.own.knows.setting (root s.me.0.own.knows.setting (counter_at p)) treap (lists_by s.me.0.own.knows.setting t.0.own.knows.seen))
+    got : (t : Me) → Ran (begin p) s.me.0.own 0 t.0.own
+        × ((treap : Treap) × Changed semaphore_rows s.me ((root s.me.0.own.knows.setting (counter_at p), Root treap) ∷ s.me.1) t
+        × IsRecord s.me.0.own.knows.setting (root s.me.0.own.knows.setting (counter_at p)) treap (lists_by s.me.0.own.knows.setting t.0.own.knows.seen))
         → Took semaphore_rows (begin p) s.me t
     got t g =
         let lead : Goes s.me.0.own g.0.stride (to (locked p)) t.0.own
-        = subst (λ (x : Next). Goes s.me.0.own g.0.stride x t.0.own) (locking_leads s.me.0.own.number (record { place = p; turn = s.me.0.own.knows.turn; hand = s.me.0.own.knows.hand }) _ p takes) (led s.me.0.own t.0.own p 0 g.0) in
-        let place : counter_at p ≡ counter_at t.0.own.knows.place = sym (ap (λ (q : SeatState). counter_at q.place) lead.stands ∙ locked_counter p takes) in
-        let at : root s.me.0.own.knows.setting (counter_at p) ≡ root t.0.own.knows.setting (counter_at t.0.own.knows.place) = λ i. root (sym g.0.same.1 i) (place i) in (
+        = subst (λ (x : Next). Goes s.me.0.own g.0.stride x t.0.own)
+        (locking_leads s.me.0.own.number (record { place = p; turn = s.me.0.own.knows.turn; hand = s.me.0.own.knows.hand }) _ p takes)
+        (led s.me.0.own t.0.own p 0 g.0) in
+        let place : counter_at p ≡ counter_at t.0.own.knows.place
+        = sym (ap (λ (q : SeatState). counter_at q.place) lead.stands ∙ locked_counter p takes) in
+        let at : root s.me.0.own.knows.setting (counter_at p) ≡ root t.0.own.knows.setting (counter_at t.0.own.knows.place)
+        = λ i. root (sym g.0.same.1 i) (place i) in (
           g.0,
           (
             root s.me.0.own.knows.setting (counter_at p),

@@ -38,20 +38,24 @@ module _ (s0 s u : Token) (a : Acquire) (n : ℕ) (before : Walked s0 (Acquiring
   zero_walked e = walked_then s0 s u (Acquiring a A5) (Acquiring a A5) (Acquiring a A7) [] [] 0 0 before (zero_row e)
 
   pub zero_record : n ≡ 0 → HasRecord u a.counter
-  zero_record e = record_on s u (Acquiring a A5) n a.counter (Acquiring a A7, Nothing) look (load_zero n (Acquiring a A7) (λ left. Acquiring a (A6 left)) found e) (zero_row e).table_is
+  zero_record e =
+      record_on s u (Acquiring a A5) n a.counter (Acquiring a A7, Nothing) look
+      (load_zero n (Acquiring a A7) (λ left. Acquiring a (A6 left)) found e) (zero_row e).table_is
       (on_here (root s.me.0.own.knows.setting a.counter) 1) (λ l q. refl) slots kept
 
   pub zero_room : n ≡ 0 → HasRoom u a.counter
   zero_room e = has_room s u (Acquiring a A5) n a look (zero_row e).table_is (ap (λ (y : SeatState). y.place) (zero_row e).stands_is)
 
   some_row : 0 < n → Walked s (Acquiring a A5) u (moved_to s (Acquiring a (A6 (n - 1)))) [] 0
-  some_row h = walked_row s u (Acquiring a A5) n (Acquiring a (A6 (n - 1)), Nothing) look (load_some n (Acquiring a A7) (λ left. Acquiring a (A6 left)) found h) same
+  some_row h =
+      walked_row s u (Acquiring a A5) n (Acquiring a (A6 (n - 1)), Nothing) look (load_some n (Acquiring a A7) (λ left. Acquiring a (A6 left)) found h) same
 
   pub some_walked : 0 < n → Walked s0 (Acquiring a A5) u (moved_to s0 (Acquiring a (A6 (n - 1)))) [] 0
   some_walked h = walked_then s0 s u (Acquiring a A5) (Acquiring a A5) (Acquiring a (A6 (n - 1))) [] [] 0 0 before (some_row h)
 
   some_record : 0 < n → HasRecord u a.counter
-  some_record h = record_on s u (Acquiring a A5) n a.counter (Acquiring a (A6 (n - 1)), Nothing) look (load_some n (Acquiring a A7) (λ left. Acquiring a (A6 left)) found h) (some_row h).table_is
+  some_record h = record_on s u (Acquiring a A5) n a.counter (Acquiring a (A6 (n - 1)), Nothing) look
+      (load_some n (Acquiring a A7) (λ left. Acquiring a (A6 left)) found h) (some_row h).table_is
       (on_here (root s.me.0.own.knows.setting a.counter) 1) (λ l q. refl) slots kept
 
   -- and A6
@@ -79,13 +83,17 @@ module _ (s0 s u : Token) (a : Acquire) (n : ℕ) (before : Walked s0 (Acquiring
 
     pub won_walked : y ≡ n → Walked s0 (Acquiring a A5) w (moved_to s0 (Acquiring a A8)) (Take a.counter s0.me.0.own.number ∷ []) 1
     won_walked e = subst (λ i. Walked s0 (Acquiring a A5) w (moved_to s0 (Acquiring a A8)) (Take a.counter i ∷ []) 1) (some_walked some).number_is
-        (walked_then s0 u w (Acquiring a A5) before_it (Acquiring a A8) [] (Take a.counter u.me.0.own.number ∷ []) 0 1 (some_walked some) (walked_row u w before_it y wins swap (win e) again))
+        (walked_then s0 u w (Acquiring a A5) before_it (Acquiring a A8) [] (Take a.counter u.me.0.own.number ∷ []) 0 1 (some_walked some)
+        (walked_row u w before_it y wins swap (win e) again))
 
     pub lost_walked : y ≢ n → Walked s0 (Acquiring a A5) w (moved_to s0 (Acquiring a A5)) [] 0
-    lost_walked ne = walked_then s0 u w (Acquiring a A5) before_it (Acquiring a A5) [] [] 0 0 (some_walked some) (walked_row u w before_it y loses swap (lose ne) again)
+    lost_walked ne =
+        walked_then s0 u w (Acquiring a A5) before_it (Acquiring a A5) [] [] 0 0 (some_walked some) (walked_row u w before_it y loses swap (lose ne) again)
 
     pub won_record : y ≡ n → HasRecord w a.counter
-    won_record e = record_on u w before_it y a.counter wins swap (win e) (walked_row u w before_it y wins swap (win e) again).table_is (on_here (root u.me.0.own.knows.setting a.counter) 1) (λ l x. refl) still (some_record some)
+    won_record e = record_on u w before_it y a.counter wins swap (win e) (walked_row u w before_it y wins swap (win e) again).table_is
+        (on_here (root u.me.0.own.knows.setting a.counter) 1) (λ l x. refl) still (some_record some)
 
     pub lost_record : y ≢ n → HasRecord w a.counter
-    lost_record ne = record_on u w before_it y a.counter loses swap (lose ne) (walked_row u w before_it y loses swap (lose ne) again).table_is (on_here (root u.me.0.own.knows.setting a.counter) 1) (λ l x. refl) still (some_record some)
+    lost_record ne = record_on u w before_it y a.counter loses swap (lose ne) (walked_row u w before_it y loses swap (lose ne) again).table_is
+        (on_here (root u.me.0.own.knows.setting a.counter) 1) (λ l x. refl) still (some_record some)

@@ -22,10 +22,13 @@ use Rattle.sema_table.proofs.Trying.{looks_at, looked_seat}
 sees_all : (u w : SemaSeat) (x : Word) (n : ℕ) → (r : Strode here (looks x) u n w) → w.knows.seen ≡ r.ran.world.journal
 sees_all u w x n r =
     let m = layout u.knows.setting in
-    let only : OnlyLooked r.stride (sight_by w.knows) = subst (SemaDid m u.number r.stride (sight_by w.knows)) r.did (the_sema_paths.does m u.number (sight_by u.knows) (sight_by w.knows) r.stride r.ran) in
-    stride_told (semaphores m) u.number (sight_by u.knows) (sight_by w.knows) r.stride r.ran ∙ ap (λ l. r.stride.seen ++ l) only.told ∙ append-nil r.stride.seen ∙ r.ran.seen
+    let only : OnlyLooked r.stride (sight_by w.knows) = subst (SemaDid m u.number r.stride (sight_by w.knows)) r.did
+    (the_sema_paths.does m u.number (sight_by u.knows) (sight_by w.knows) r.stride r.ran) in
+    stride_told (semaphores m) u.number (sight_by u.knows) (sight_by w.knows) r.stride r.ran ∙ ap (λ l. r.stride.seen ++ l) only.told
+    ∙ append-nil r.stride.seen ∙ r.ran.seen
 
-module _ (s o a b : Token) (n k : Numbers) (q : ℕ) (seat_s : IsSeat s n) (seat_o : IsSeat o k) (met : Met semaphore_rows (Counter 0) s.me.0.own o.me.0.own q a.me.0.own b.me.0.own)
+module _ (s o a b : Token) (n k : Numbers) (q : ℕ) (seat_s : IsSeat s n) (seat_o : IsSeat o k)
+    (met : Met semaphore_rows (Counter 0) s.me.0.own o.me.0.own q a.me.0.own b.me.0.own)
     (same_a : a.table_id ≡ s.table_id) (same_b : b.table_id ≡ o.table_id) (slots_a : a.me.1 ≡ s.me.1) (slots_b : b.me.1 ≡ []) where
   bare_b : b.me.1 ≡ o.me.1
   bare_b = slots_b ∙ sym seat_o.token_is.bare
@@ -41,6 +44,7 @@ module _ (s o a b : Token) (n k : Numbers) (q : ℕ) (seat_s : IsSeat s n) (seat
     number = q;
     one_looked = looks_at s a n (Counter 0) q seat_s.token_is met.one same_a slots_a;
     other_looked = looks_at o b k (Counter 0) q seat_o.token_is met.other same_b bare_b;
-    same = sees_all s.me.0.own a.me.0.own (Counter 0) q met.one ∙ ap (λ (w : SemaWorld). w.journal) met.together ∙ sym (sees_all o.me.0.own b.me.0.own (Counter 0) q met.other);
+    same = sees_all s.me.0.own a.me.0.own (Counter 0) q met.one ∙ ap (λ (w : SemaWorld). w.journal) met.together
+        ∙ sym (sees_all o.me.0.own b.me.0.own (Counter 0) q met.other);
     two = λ e. met.two (seat_s.token_is.number_is ∙ e ∙ sym seat_o.token_is.number_is);
   }

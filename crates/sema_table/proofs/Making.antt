@@ -1,5 +1,6 @@
 -- A table as it is made shows the first world.
-use Rattle.std.proofs.Common.{◌≡◌, ℕ, zero, suc, ◌+◌, ◌*◌, ◌%◌, ◌^◌, ◌<◌, ◌≤◌, List, [], ◌∷◌, ◌++◌, length, replicate, map, get_or, slice_index, slice_index_or}
+use Rattle.std.proofs.Common.{◌≡◌, ℕ, zero, suc, ◌+◌, ◌*◌, ◌%◌, ◌^◌, ◌<◌, ◌≤◌, List, [], ◌∷◌, ◌++◌, length}
+use Rattle.std.proofs.Common.{replicate, map, get_or, slice_index, slice_index_or}
 use Rattle.std.proofs.Common.{All, sym, refl, ap, ◌∙◌, subst, arith, length-append, lt_of_not-le}
 use Rattle.std.proofs.lemmas.List.{get_or-append-add, get_or_past, length-map, length-replicate}
 use Rattle.std.proofs.lemmas.List.FromFn.{length-map-range_with_len, map-range_with_len_more}
@@ -34,17 +35,21 @@ zeros (suc n) zero = refl
 zeros (suc n) (suc k) = zeros n k
 
 behind : (xs : List ℕ) (n k i : ℕ) → i ≡ 8 * length xs + k → slice_index (apart xs ++ replicate n 0) i ≡ 0
-behind xs n k i e = let long = length_apart xs in ap (λ (j : ℕ). get_or (apart xs ++ replicate n 0) j 0) (let same : i ≡ length (apart xs) + k = omega (arith, e, long) in same) ∙ get_or-append-add (apart xs) (replicate n 0) k 0 ∙ zeros n k
+behind xs n k i e = let long = length_apart xs in
+    ap (λ (j : ℕ). get_or (apart xs ++ replicate n 0) j 0) (let same : i ≡ length (apart xs) + k = omega (arith, e, long) in same)
+    ∙ get_or-append-add (apart xs) (replicate n 0) k 0 ∙ zeros n k
 
 -- the counters' starts with a 0 for each other word are the words of the first world
-first_words : (z : Setting) (n : ℕ) (w : Word) → IsThere z w → slice_index (apart z.starts ++ replicate n 0) (address z w) ≡ found (root z) (first_world (layout z).starts).words w
+first_words : (z : Setting) (n : ℕ) (w : Word) → IsThere z w → slice_index (apart z.starts ++ replicate n 0) (address z w)
+    ≡ found (root z) (first_world (layout z).starts).words w
 first_words z n (Counter c) h = at_apart z.starts (replicate n 0) c h
 first_words z n (Lock c) h = behind z.starts n (root z c) (address z (Lock c)) refl
 first_words z n (Waiters c) h = behind z.starts n (z.roots + root z c) (address z (Waiters c)) (omega arith)
 first_words z n (Grant s) h = behind z.starts n (z.roots + z.roots + s) (address z (Grant s)) (omega arith)
 
 pub words_long : (z : Setting) → length (apart z.starts ++ replicate (z.roots + z.roots + z.seats + z.seats + z.seats + z.roots) 0) ≡ words_in z
-words_long z = length-append (apart z.starts) (replicate (z.roots + z.roots + z.seats + z.seats + z.seats + z.roots) 0) ∙ (λ i. length_apart z.starts i + length-replicate {A = ℕ} (z.roots + z.roots + z.seats + z.seats + z.seats + z.roots) 0 i) ∙ omega arith
+words_long z = length-append (apart z.starts) (replicate (z.roots + z.roots + z.seats + z.seats + z.seats + z.roots) 0)
+    ∙ (λ i. length_apart z.starts i + length-replicate {A = ℕ} (z.roots + z.roots + z.seats + z.seats + z.seats + z.roots) 0 i) ∙ omega arith
 
 small_starts : (xs : List ℕ) → All (λ n. n < 2 ^ 32) xs → (c : ℕ) → slice_index_or xs c 0 < 2 ^ 32
 small_starts xs all c = dite (dec_le (length xs) c) (λ l. let e = get_or_past xs c 0 l in omega (arith, e)) (λ n. all c 0 (lt_of_not-le n))
@@ -56,12 +61,15 @@ listed f a (suc n) zero h = ap (λ j. some (some (f j))) (omega arith)
 listed f a (suc n) (suc k) h = listed f (a + 1) n k (omega arith) ∙ ap (λ j. some (some (f j))) (omega arith)
 
 -- one more of them
-pub one_more : {A : Type 0} (f : ℕ → A) (a n j : ℕ) (xs : List A) (x : A) → a + n ≡ j → xs ≡ map f (range_with_len a n) → x ≡ f j → xs ++ x ∷ [] ≡ map f (range_with_len a (n + 1))
+pub one_more : {A : Type 0} (f : ℕ → A) (a n j : ℕ) (xs : List A) (x : A) → a + n ≡ j → xs ≡ map f (range_with_len a n) → x ≡ f j
+    → xs ++ x ∷ [] ≡ map f (range_with_len a (n + 1))
 one_more f a n j xs x at before is = (λ i. before i ++ is i ∷ []) ∙ sym (map-range_with_len_more f a n j at)
 
 -- the seat 0 goes to the front of the others
-pub in_front : (t u : TableModel) (n seats : ℕ) (xs : List SeatModel) (x : SeatModel) → t ≡ u → n + 1 ≡ seats → xs ≡ new_seats t 1 n → x ≡ new_seat t 0 → ◌≡◌ {A = List SeatModel} (x ∷ xs) (new_seats u 0 seats)
-in_front t u n seats xs x same all before is = let e : suc n ≡ seats = omega (arith, all) in (λ i. is i ∷ before i) ∙ ap (new_seats t 0) e ∙ ap (λ (y : TableModel). new_seats y 0 seats) same
+pub in_front : (t u : TableModel) (n seats : ℕ) (xs : List SeatModel) (x : SeatModel) → t ≡ u → n + 1 ≡ seats → xs ≡ new_seats t 1 n
+    → x ≡ new_seat t 0 → ◌≡◌ {A = List SeatModel} (x ∷ xs) (new_seats u 0 seats)
+in_front t u n seats xs x same all before is =
+    let e : suc n ≡ seats = omega (arith, all) in (λ i. is i ∷ before i) ∙ ap (new_seats t 0) e ∙ ap (λ (y : TableModel). new_seats y 0 seats) same
 
 module _ (z : Setting) where
   abbrev first : SemaWorld
@@ -80,7 +88,8 @@ module _ (z : Setting) where
 
   -- words as they are made are those of the first world, and the roots are empty
   pub opens : 0 < z.roots → 0 < z.seats → z.seats ≤ 256 → length z.starts ≤ 65536 → All (λ n. n < 2 ^ 32) z.starts
-      → Opens semaphore_rows z (apart z.starts ++ replicate (z.roots + z.roots + z.seats + z.seats + z.seats + z.roots) 0) (map some (new_roots z.seats z.seed z.roots))
+      → Opens semaphore_rows z (apart z.starts ++ replicate (z.roots + z.roots + z.seats + z.seats + z.seats + z.roots) 0)
+      (map some (new_roots z.seats z.seed z.roots))
   opens rooted seated most counted starts = record {
     world = first;
     shows = record {
@@ -109,4 +118,5 @@ module _ (z : Setting) where
 
 -- the seats of a table are of this table
 pub seats_own : (k : Settings) (t : TableModel) (seats : List SeatModel) → IsMade k t seats → All (λ s. s.table ≡ t) seats
-seats_own k t seats made = subst (All (λ s. s.table ≡ t)) (sym made.seats_are) (All-map (λ s. s.table ≡ t) (new_seat t) (range_with_len 0 k.seats) (λ i n low. refl))
+seats_own k t seats made =
+    subst (All (λ s. s.table ≡ t)) (sym made.seats_are) (All-map (λ s. s.table ≡ t) (new_seat t) (range_with_len 0 k.seats) (λ i n low. refl))

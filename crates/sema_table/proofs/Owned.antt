@@ -16,7 +16,8 @@ use Rattle.sema_table.proofs.Seeing.{is_aside}
 abbrev pub IsMade : Inside → Type 0
 IsMade x = IsTable (table_by x).id (table_by x).setting x.counters x.roots x.seats x.limit
 
-module _ (x : Inside) (s : Token) (n : Numbers) {t : TableModel} {seat : SeatModel} (is : table_by x ≡ t) (seen : seat_of s n ≡ seat) (of : seat.table ≡ t) where
+module _ (x : Inside) (s : Token) (n : Numbers) {t : TableModel} {seat : SeatModel} (is : table_by x ≡ t)
+    (seen : seat_of s n ≡ seat) (of : seat.table ≡ t) where
   -- the seat's table is this one
   pub own : table_of s ≡ table_by x
   own = ap (λ (y : SeatModel). y.table) seen ∙ of ∙ sym is

@@ -1,5 +1,6 @@
 -- What is granted to a parked seat.
-use Rattle.std.proofs.Common.{◌≡◌, ◌≢◌, ℕ, ◌+◌, ◌<◌, ◌≤◌, ◌==◌, cond, Bool, [], ◌∷◌, ◌++◌, length, sym, refl, ap, ◌∙◌, subst, arith, eq-eqb, ne_eqb, append-nil}
+use Rattle.std.proofs.Common.{◌≡◌, ◌≢◌, ℕ, ◌+◌, ◌<◌, ◌≤◌, ◌==◌, cond, Bool, [], ◌∷◌, ◌++◌, length, sym, refl, ap}
+use Rattle.std.proofs.Common.{◌∙◌, subst, arith, eq-eqb, ne_eqb, append-nil}
 use Rattle.step_table.specs.declared.place.Acquire.{Acquire}
 use Rattle.step_table.specs.declared.place.AcquireRow.TheVariants.{P, A10}
 use Rattle.step_table.specs.declared.place.Place.{Place}
@@ -33,7 +34,8 @@ use Rattle.sema_table.proofs.Walking.{walked_row, token_after}
 use Rattle.sema_table.proofs.Calling.{calls_granted}
 use Rattle.sema_table.proofs.Trying.{looked_token, looked_stays, looked_table, looks_at}
 
-module _ (s t : Token) (n : Numbers) (a : Acquire) (turn k : ℕ) (seat : IsSleeping s n a turn) (same : t.table_id ≡ s.table_id) (bare : t.me.1 ≡ s.me.1) where
+module _ (s t : Token) (n : Numbers) (a : Acquire) (turn k : ℕ) (seat : IsSleeping s n a turn)
+    (same : t.table_id ≡ s.table_id) (bare : t.me.1 ≡ s.me.1) where
   abbrev parked : Place
   parked = Acquiring a (P turn)
 
@@ -41,12 +43,21 @@ module _ (s t : Token) (n : Numbers) (a : Acquire) (turn k : ℕ) (seat : IsSlee
   pub still_seat : Strode here (looks (Grant s.me.0.own.number)) s.me.0.own k t.me.0.own → IsSleeping t n a turn
   still_seat r = record {
     token_is = looked_token s t n (Grant s.me.0.own.number) k seat.token_is r same bare;
-    inside = subst (λ (y : TableModel). a.counter < length y.setting.starts) (sym (looked_table s t n (Grant s.me.0.own.number) k seat.token_is r same bare)) seat.inside;
+    inside =
+        subst (λ (y : TableModel). a.counter < length y.setting.starts)
+        (sym (looked_table s t n (Grant s.me.0.own.number) k seat.token_is r same bare)) seat.inside;
     at = ap (λ (q : SeatState). q.place) (looked_stays s t n (Grant s.me.0.own.number) k seat.token_is r same bare) ∙ seat.at;
   }
 
   pub polled_still : Strode here (looks (Grant s.me.0.own.number)) s.me.0.own k t.me.0.own → k ≡ 0 → IsPolled (seat_of s n) (Still (seat_of t n))
-  polled_still r e = (a, turn, seat.at, subst (λ i. LooksAt (seat_of s n) (Grant i) 0 (seat_of t n)) seat.token_is.number_is (subst (λ j. LooksAt (seat_of s n) (Grant s.me.0.own.number) j (seat_of t n)) e (looks_at s t n (Grant s.me.0.own.number) k seat.token_is r same bare)))
+  polled_still r e = (
+    a,
+    turn,
+    seat.at,
+    subst (λ i. LooksAt (seat_of s n) (Grant i) 0 (seat_of t n)) seat.token_is.number_is
+        (subst (λ j. LooksAt (seat_of s n) (Grant s.me.0.own.number) j (seat_of t n)) e
+        (looks_at s t n (Grant s.me.0.own.number) k seat.token_is r same bare)),
+  )
 
   module _ (q : Ran here s.me.0.own k t.me.0.own) where
     abbrev row : Ran (begin parked) s.me.0.own k t.me.0.own
@@ -56,13 +67,19 @@ module _ (s t : Token) (n : Numbers) (a : Acquire) (turn k : ℕ) (seat : IsSlee
     next = led s.me.0.own t.me.0.own parked k row
 
     abbrev woken_walk : k ≡ 1 → Walked s parked t (moved_to s (Acquiring a A10)) [] 0
-    woken_walk e = walked_row s t parked k (to (Acquiring a A10)) row (subst (λ (b : Bool). Goes s.me.0.own row.stride (to (cond b (Acquiring a A10) Rest)) t.me.0.own) (eq-eqb k 1 e) next) same
+    woken_walk e =
+        walked_row s t parked k (to (Acquiring a A10)) row
+        (subst (λ (b : Bool). Goes s.me.0.own row.stride (to (cond b (Acquiring a A10) Rest)) t.me.0.own) (eq-eqb k 1 e) next) same
 
     abbrev handed_walk : k ≢ 1 → Walked s parked t (moved_to s Rest) [] 1
-    handed_walk ne = walked_row s t parked k (to Rest) row (subst (λ (b : Bool). Goes s.me.0.own row.stride (to (cond b (Acquiring a A10) Rest)) t.me.0.own) (ne_eqb k 1 ne) next) same
+    handed_walk ne =
+        walked_row s t parked k (to Rest) row (subst (λ (b : Bool). Goes s.me.0.own row.stride (to (cond b (Acquiring a A10) Rest)) t.me.0.own) (ne_eqb k 1 ne)
+        next) same
 
-    took_grant : (later : Numbers) (stands : SeatState) (gained j : ℕ) → (x : Walked s parked t stands [] gained) → x.strides ≡ row.stride ∷ [] → k ≡ j → CallsGranted (seat_of s n) parked (seat_of t later) [] j
-    took_grant later stands gained j x ran is = calls_granted s t n later parked stands gained row.stride j seat.token_is x ran row.did (ap (λ (q : SeatState). q.place) row.ran.stood) (row.read ∙ is)
+    took_grant : (later : Numbers) (stands : SeatState) (gained j : ℕ) → (x : Walked s parked t stands [] gained) → x.strides ≡ row.stride ∷ []
+        → k ≡ j → CallsGranted (seat_of s n) parked (seat_of t later) [] j
+    took_grant later stands gained j x ran is = calls_granted s t n later parked stands gained row.stride j seat.token_is x ran row.did
+        (ap (λ (q : SeatState). q.place) row.ran.stood) (row.read ∙ is)
 
     abbrev world : SemaWorld
     world = row.ran.world
@@ -73,15 +90,19 @@ module _ (s t : Token) (n : Numbers) (a : Acquire) (turn k : ℕ) (seat : IsSlee
 
     granted : k ≡ world.words.grants s.me.0.own.number
     granted = sym row.read
-        ∙ (subst (λ (d : Deed Word). Did (semaphores (layout s.me.0.own.knows.setting)) world s.me.0.own.number d row.stride.read row.stride.told (sight_by t.me.0.own.knows)) row.did row.ran.did).read_is
+        ∙ (subst (λ (d : Deed Word). Did (semaphores (layout s.me.0.own.knows.setting)) world s.me.0.own.number d row.stride.read row.stride.told
+        (sight_by t.me.0.own.knows)) row.did row.ran.did).read_is
         ∙ ap (λ (x : SeatState). found (root s.me.0.own.knows.setting) world.words (table s.me.0.own.number x world.words.lists).word) stood
 
     most_two : k ≤ 2
-    most_two = subst (λ j. j ≤ 2) (sym granted) (subst (λ (x : SeatState). IsGrantOf x.place (world.words.grants s.me.0.own.number)) stood ((the_law.reached (layout s.me.0.own.knows.setting) world row.ran.meets.met).grants.0 s.me.0.own.number))
+    most_two =
+        subst (λ j. j ≤ 2) (sym granted) (subst (λ (x : SeatState). IsGrantOf x.place (world.words.grants s.me.0.own.number)) stood
+        ((the_law.reached (layout s.me.0.own.knows.setting) world row.ran.meets.met).grants.0 s.me.0.own.number))
 
     pub woken_seat : k ≡ 1 → IsWoken t n a
     woken_seat e = let x = woken_walk e in record {
-      token_is = token_after s t parked (moved_to s (Acquiring a A10)) [] 0 n n seat.token_is x (bare ∙ seat.token_is.bare) seat.token_is.empty seat.token_is.turns_are (omega arith) refl (omega arith);
+      token_is = token_after s t parked (moved_to s (Acquiring a A10)) [] 0 n n seat.token_is x (bare ∙ seat.token_is.bare) seat.token_is.empty
+          seat.token_is.turns_are (omega arith) refl (omega arith);
       inside = subst (λ (y : TableModel). a.counter < length y.setting.starts) (sym x.table_is) seat.inside;
       at = ap (λ (q : SeatState). q.place) x.stands_is;
     }
@@ -103,7 +124,8 @@ module _ (s t : Token) (n : Numbers) (a : Acquire) (turn k : ℕ) (seat : IsSlee
 
     pub handed_seat : k ≢ 1 → IsSeat t counted
     handed_seat ne = let x = handed_walk ne in record {
-      token_is = token_after s t parked (moved_to s Rest) [] 1 n counted seat.token_is x (bare ∙ seat.token_is.bare) seat.token_is.empty seat.token_is.turns_are (omega arith) refl refl;
+      token_is = token_after s t parked (moved_to s Rest) [] 1 n counted seat.token_is x (bare ∙ seat.token_is.bare) seat.token_is.empty
+          seat.token_is.turns_are (omega arith) refl refl;
       free = ap (λ (q : SeatState). is_free q.place) x.stands_is;
       counted = x.counted refl;
     }
@@ -112,17 +134,27 @@ module _ (s t : Token) (n : Numbers) (a : Acquire) (turn k : ℕ) (seat : IsSlee
     polled_handed ne some =
         let x = handed_walk ne in let two : k ≡ 2 = (let m = most_two in omega (arith, ne)) in
         let told : row.stride.told ≡ [] = sym (append-nil row.stride.told) ∙ x.told_is in
-        let seen : t.me.0.own.knows.seen ≡ world.journal = stride_told (semaphores (layout s.me.0.own.knows.setting)) s.me.0.own.number (sight_by (begin parked s.me.0.own.knows)) (sight_by t.me.0.own.knows) row.stride row.ran
+        let seen : t.me.0.own.knows.seen ≡ world.journal = stride_told (semaphores (layout s.me.0.own.knows.setting)) s.me.0.own.number
+        (sight_by (begin parked s.me.0.own.knows)) (sight_by t.me.0.own.knows) row.stride row.ran
         ∙ ap (λ l. row.stride.seen ++ l) told ∙ append-nil row.stride.seen ∙ row.ran.seen in
         let unit : HasItsUnit a.counter (wait s.me.0.own.number turn) world.journal
-        = (the_law.reached (layout s.me.0.own.knows.setting) world row.ran.meets.met).grants.1 s.me.0.own.number a.counter turn row.also.there (a, refl, ap (λ (y : SeatState). y.place) stood) (sym granted ∙ two) in (
-          (λ i. record { table = x.table_is i; number = n.seat; left = n.left; taken = n.taken + 1; sight = sight_by t.me.0.own.knows; strides = t.me.0.own.gone }),
+        = (the_law.reached (layout s.me.0.own.knows.setting) world row.ran.meets.met).grants.1 s.me.0.own.number a.counter turn row.also.there
+        (a, refl, ap (λ (y : SeatState). y.place) stood) (sym granted ∙ two) in (
+          (λ i. record {
+            table = x.table_is i;
+            number = n.seat;
+            left = n.left;
+            taken = n.taken + 1;
+            sight = sight_by t.me.0.own.knows;
+            strides = t.me.0.own.gone;
+          }),
           x.stands_is,
           (
             a,
             turn,
             seat.at,
             took_grant counted (moved_to s Rest) 1 2 x refl two,
-            subst (λ i. HasItsUnit a.counter (wait i turn) t.me.0.own.knows.seen) seat.token_is.number_is (subst (HasItsUnit a.counter (wait s.me.0.own.number turn)) (sym seen) unit),
+            subst (λ i. HasItsUnit a.counter (wait i turn) t.me.0.own.knows.seen) seat.token_is.number_is
+                (subst (HasItsUnit a.counter (wait s.me.0.own.number turn)) (sym seen) unit),
           ),
         )

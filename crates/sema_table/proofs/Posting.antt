@@ -27,7 +27,8 @@ module _ (s t : Token) (n : Numbers) (c k : ℕ) (r : Ran (begin (releasing c R1
   walked_add = walked_row s t (releasing c R1) k (releasing c R2, Tells (Add c s.me.0.own.number)) r (led s.me.0.own t.me.0.own (releasing c R1) k r) same
 
 -- and the look
-module _ (s t u : Token) (n : Numbers) (c k found : ℕ) (seat : IsSeat s n) (some : 0 < n.left) (r : Ran (begin (releasing c R1)) s.me.0.own k t.me.0.own) (q : Ran here t.me.0.own found u.me.0.own)
+module _ (s t u : Token) (n : Numbers) (c k found : ℕ) (seat : IsSeat s n) (some : 0 < n.left) (r : Ran (begin (releasing c R1)) s.me.0.own k t.me.0.own)
+    (q : Ran here t.me.0.own found u.me.0.own)
     (same : t.table_id ≡ s.table_id) (again : u.table_id ≡ t.table_id) (bare : t.me.1 ≡ s.me.1) (still : u.me.1 ≡ t.me.1) where
   abbrev fewer : Numbers
   fewer = record n { left = n.left - 1 }
@@ -66,14 +67,16 @@ module _ (s t u : Token) (n : Numbers) (c k found : ℕ) (seat : IsSeat s n) (so
 
   pub done_seat : found ≡ 0 → IsSeat u fewer
   done_seat e = let x = done_walk e in let o = on_here s.me.0.own.number 1 in record {
-    token_is = token_after s u (releasing c R1) (moved_to t Rest) (Add c s.me.0.own.number ∷ []) 0 n fewer seat.token_is x bare_after hand_is turns_stay (omega arith) refl (omega arith);
+    token_is = token_after s u (releasing c R1) (moved_to t Rest) (Add c s.me.0.own.number ∷ []) 0 n fewer seat.token_is x bare_after hand_is
+        turns_stay (omega arith) refl (omega arith);
     free = ap (λ (q : SeatState). is_free q.place) x.stands_is;
     counted = x.counted refl;
   }
 
   pub owing_seat : 0 < found → c < length s.me.0.own.knows.setting.starts → IsOwing u fewer c
   owing_seat h inside = let x = owes_walk h in let o = on_here s.me.0.own.number 1 in record {
-    token_is = token_after s u (releasing c R1) (moved_to t (releasing c R3)) (Add c s.me.0.own.number ∷ []) 0 n fewer seat.token_is x bare_after hand_is turns_stay (omega arith) refl (omega arith);
+    token_is = token_after s u (releasing c R1) (moved_to t (releasing c R3)) (Add c s.me.0.own.number ∷ []) 0 n fewer seat.token_is x bare_after hand_is
+        turns_stay (omega arith) refl (omega arith);
     inside = subst (λ (y : TableModel). c < length y.setting.starts) (sym x.table_is) inside;
     at = ap (λ (q : SeatState). q.place) x.stands_is;
   }
@@ -84,8 +87,10 @@ module _ (s t u : Token) (n : Numbers) (c k found : ℕ) (seat : IsSeat s n) (so
     x.stands_is ∙ ap (λ (q : SeatState). record q { place = Rest }) one.stands_is,
     (
       k,
-      subst (λ i. CallsRows (seat_of s n) (releasing c R1) (seat_of u fewer) (Add c i ∷ []) ((releasing c R1, k) ∷ (releasing c R2, 0) ∷ [])) seat.token_is.number_is
-          (calls_rows s u n fewer (releasing c R1) (moved_to t Rest) (Add c s.me.0.own.number ∷ []) 0 ((releasing c R1, k) ∷ (releasing c R2, 0) ∷ []) seat.token_is x
+      subst (λ i. CallsRows (seat_of s n) (releasing c R1) (seat_of u fewer) (Add c i ∷ []) ((releasing c R1, k) ∷ (releasing c R2, 0) ∷ []))
+          seat.token_is.number_is
+          (calls_rows s u n fewer (releasing c R1) (moved_to t Rest) (Add c s.me.0.own.number ∷ []) 0
+          ((releasing c R1, k) ∷ (releasing c R2, 0) ∷ []) seat.token_is x
           (rows ∙ ap (λ j. (releasing c R1, k) ∷ (releasing c R2, j) ∷ []) e)),
     ),
   )
@@ -97,8 +102,10 @@ module _ (s t u : Token) (n : Numbers) (c k found : ℕ) (seat : IsSeat s n) (so
     (
       k,
       found - 1,
-      subst (λ i. CallsRows (seat_of s n) (releasing c R1) (seat_of u fewer) (Add c i ∷ []) ((releasing c R1, k) ∷ (releasing c R2, found - 1 + 1) ∷ [])) seat.token_is.number_is
-          (calls_rows s u n fewer (releasing c R1) (moved_to t (releasing c R3)) (Add c s.me.0.own.number ∷ []) 0 ((releasing c R1, k) ∷ (releasing c R2, found - 1 + 1) ∷ []) seat.token_is x
+      subst (λ i. CallsRows (seat_of s n) (releasing c R1) (seat_of u fewer) (Add c i ∷ []) ((releasing c R1, k) ∷ (releasing c R2, found - 1 + 1) ∷ []))
+          seat.token_is.number_is
+          (calls_rows s u n fewer (releasing c R1) (moved_to t (releasing c R3)) (Add c s.me.0.own.number ∷ []) 0
+          ((releasing c R1, k) ∷ (releasing c R2, found - 1 + 1) ∷ []) seat.token_is x
           (rows ∙ ap (λ j. (releasing c R1, k) ∷ (releasing c R2, j) ∷ []) is)),
     ),
   )

@@ -1,5 +1,6 @@
 -- Where one view has every seat of the table, and all may begin a call, the counts add up and nothing is left.
-use Rattle.std.proofs.Common.{◌≡◌, ◌≢◌, ◌⊎◌, ℕ, zero, suc, true, ◌+◌, ◌*◌, ◌-◌, ◌<◌, ◌≤◌, List, [], ◌∷◌, length, slice_index, sym, refl, ap, ◌∙◌, subst, inl}
+use Rattle.std.proofs.Common.{◌≡◌, ◌≢◌, ◌⊎◌, ℕ, zero, suc, true, ◌+◌, ◌*◌, ◌-◌, ◌<◌, ◌≤◌, List, [], ◌∷◌, length}
+use Rattle.std.proofs.Common.{slice_index, sym, refl, ap, ◌∙◌, subst, inl}
 use Rattle.std.proofs.Common.{inr, arith}
 use mathlib.Core.Logic.{dite}
 use mathlib.Core.Option.{some}
@@ -58,7 +59,8 @@ zeroed_in (h ∷ gs) f g (inr e) = dite (ℕ_discrete g.number h.number)
     (λ q. subst (λ (k : ℕ). put (zeroed gs f) h.number 0 k ≡ 0) (sym q) (put_here (zeroed gs f) h.number 0))
     (λ ne. put_else (zeroed gs f) h.number 0 g.number ne ∙ zeroed_in gs f g e)
 
-sums : (n : ℕ) (f : ℕ → ℕ) (gs : List SemaSeat) → AreApart gs → ((g : SemaSeat) → In g gs → g.number < n) → sum_over f gs + total n (zeroed gs f) ≡ total n f
+sums : (n : ℕ) (f : ℕ → ℕ) (gs : List SemaSeat) → AreApart gs → ((g : SemaSeat) → In g gs → g.number < n)
+    → sum_over f gs + total n (zeroed gs f) ≡ total n f
 sums n f [] apart low = omega arith
 sums n f (g ∷ gs) apart low =
     let rest = sums n f gs apart.1 (λ h e. low h (inr e)) in
@@ -81,12 +83,14 @@ found_in (g ∷ gs) k e = dite (ℕ_discrete k g.number) (λ q. (g, inl refl, sy
 module _ (n : ℕ) (gs : List SemaSeat) (apart : AreApart gs) (low : (g : SemaSeat) → In g gs → g.number < n) (full : length gs ≡ n) where
   -- so many seats, all different, are all seats
   each_is_in : (k : ℕ) → k < n → (g : SemaSeat) × In g gs × (g.number ≡ k)
-  each_is_in k h = let s = sums n (λ j. 1) gs apart low in let a = ones gs in let b = all_ones n in let c = total_has n (zeroed gs (λ j. 1)) k h in found_in gs k (omega arith)
+  each_is_in k h = let s = sums n (λ j. 1) gs apart low in let a = ones gs in let b = all_ones n in
+      let c = total_has n (zeroed gs (λ j. 1)) k h in found_in gs k (omega arith)
 
   -- so a sum over them is the sum over all numbers
   sum_all : (f : ℕ → ℕ) → sum_over f gs ≡ total n f
   sum_all f = let s = sums n f gs apart low in
-      let none : total n (zeroed gs f) ≡ total n (λ k. 0) = total_same n (zeroed gs f) (λ k. 0) (λ k h. let o = each_is_in k h in subst (λ (j : ℕ). zeroed gs f j ≡ 0) o.2 (zeroed_in gs f o.0 o.1)) in
+      let none : total n (zeroed gs f) ≡ total n (λ k. 0) = total_same n (zeroed gs f) (λ k. 0)
+      (λ k h. let o = each_is_in k h in subst (λ (j : ℕ). zeroed gs f j ≡ 0) o.2 (zeroed_in gs f o.0 o.1)) in
       let zeros = all_zeros n in omega arith
     where
       all_zeros : (n : ℕ) → total n (λ k. 0) ≡ 0
@@ -94,7 +98,8 @@ module _ (n : ℕ) (gs : List SemaSeat) (apart : AreApart gs) (low : (g : SemaSe
       all_zeros (suc n) = let a = all_zeros n in let b = total_suc n (λ k. 0) in omega arith
 
 pub seat_is : (t : Token) (n : Numbers) → IsSeat t n → IsOfSeat t.me.0.own.knows.setting t.me.0.own (seat_of t n)
-seat_is t n is = record { number_is = is.token_is.number_is; free = is.free; given = is.token_is.taken_is; left = is.token_is.left_is; seen = refl; went = refl }
+seat_is t n is =
+    record { number_is = is.token_is.number_is; free = is.free; given = is.token_is.taken_is; left = is.token_is.left_is; seen = refl; went = refl }
 
 long : (z : Setting) (gs : List SemaSeat) (ss : List SeatModel) → AreOfSeats z gs ss → length gs ≡ length ss
 long z [] [] are = refl
@@ -102,20 +107,23 @@ long z (g ∷ gs) (s ∷ ss) are = ap suc (long z gs ss are.1)
 long z [] (s ∷ ss) are = absurd are
 long z (g ∷ gs) [] are = absurd are
 
-sum_is : (z : Setting) (f : ℕ → ℕ) (h : SeatModel → ℕ) (gs : List SemaSeat) (ss : List SeatModel) → AreOfSeats z gs ss → ((g : SemaSeat) (s : SeatModel) → In g gs → IsOfSeat z g s → f g.number ≡ h s) → sum_over f gs ≡ sum_by h ss
+sum_is : (z : Setting) (f : ℕ → ℕ) (h : SeatModel → ℕ) (gs : List SemaSeat) (ss : List SeatModel) → AreOfSeats z gs ss
+    → ((g : SemaSeat) (s : SeatModel) → In g gs → IsOfSeat z g s → f g.number ≡ h s) → sum_over f gs ≡ sum_by h ss
 sum_is z f h [] [] are each = refl
 sum_is z f h (g ∷ gs) (s ∷ ss) are each = let a = each g s (inl refl) are.0 in let r = sum_is z f h gs ss are.1 (λ k t e. each k t (inr e)) in omega arith
 sum_is z f h [] (s ∷ ss) are each = absurd are
 sum_is z f h (g ∷ gs) [] are each = absurd are
 
 -- the seat of a guest, and the guest of a seat
-seat_for : (z : Setting) (gs : List SemaSeat) (ss : List SeatModel) → AreOfSeats z gs ss → (g : SemaSeat) → In g gs → (s : SeatModel) × In s ss × IsOfSeat z g s
+seat_for : (z : Setting) (gs : List SemaSeat) (ss : List SeatModel) → AreOfSeats z gs ss → (g : SemaSeat) → In g gs
+    → (s : SeatModel) × In s ss × IsOfSeat z g s
 seat_for z [] ss are g e = absurd e
 seat_for z (h ∷ gs) [] are g e = absurd are
 seat_for z (h ∷ gs) (s ∷ ss) are g (inl e) = (s, inl refl, subst (λ (x : SemaSeat). IsOfSeat z x s) e are.0)
 seat_for z (h ∷ gs) (s ∷ ss) are g (inr e) = let o = seat_for z gs ss are.1 g e in (o.0, inr o.1, o.2)
 
-guest_for : (z : Setting) (gs : List SemaSeat) (ss : List SeatModel) → AreOfSeats z gs ss → (s : SeatModel) → In s ss → (g : SemaSeat) × In g gs × IsOfSeat z g s
+guest_for : (z : Setting) (gs : List SemaSeat) (ss : List SeatModel) → AreOfSeats z gs ss → (s : SeatModel) → In s ss
+    → (g : SemaSeat) × In g gs × IsOfSeat z g s
 guest_for z gs [] are s e = absurd e
 guest_for z [] (t ∷ ss) are s e = absurd are
 guest_for z (g ∷ gs) (t ∷ ss) are s (inl e) = (g, inl refl, subst (λ (x : SeatModel). IsOfSeat z g x) e are.0)
@@ -138,8 +146,10 @@ record Rested (m : Layout) (was : SemaWorld) (n : ℕ) : Type 0 where
   pub rest : (k : ℕ) → k < n → (world.seats k).place ≡ Rest
   pub others : (k : ℕ) → n ≤ k → world.seats k ≡ was.seats k
 
-all_rest : (m : Layout) (was : SemaWorld) → IsReached m was → ((k : ℕ) → k < m.seats → is_free (was.seats k).place ≡ true) → (n : ℕ) → n ≤ m.seats → Rested m was n
-all_rest m was reached free zero low = record { world = was; reached = reached; words = refl; journal = refl; rest = λ k h. absurd (omega arith); others = λ k h. refl }
+all_rest : (m : Layout) (was : SemaWorld) → IsReached m was → ((k : ℕ) → k < m.seats → is_free (was.seats k).place ≡ true)
+    → (n : ℕ) → n ≤ m.seats → Rested m was n
+all_rest m was reached free zero low =
+    record { world = was; reached = reached; words = refl; journal = refl; rest = λ k h. absurd (omega arith); others = λ k h. refl }
 all_rest m was reached free (suc n) low =
     let o = all_rest m was reached free n (omega arith) in let at = ap (λ (x : SeatState). x.place) (o.others n (omega arith)) in record {
       world = moved o.world n Rest;
@@ -147,7 +157,8 @@ all_rest m was reached free (suc n) low =
       words = o.words;
       journal = o.journal;
       rest = λ k h. dite (ℕ_discrete k n)
-          (λ q. subst (λ (j : ℕ). (put o.world.seats n (record (o.world.seats n) { place = Rest }) j).place ≡ Rest) (sym q) (ap (λ (x : SeatState). x.place) (put_here o.world.seats n (record (o.world.seats n) { place = Rest }))))
+          (λ q. subst (λ (j : ℕ). (put o.world.seats n (record (o.world.seats n) { place = Rest }) j).place ≡ Rest) (sym q)
+          (ap (λ (x : SeatState). x.place) (put_here o.world.seats n (record (o.world.seats n) { place = Rest }))))
           (λ ne. ap (λ (x : SeatState). x.place) (put_else o.world.seats n (record (o.world.seats n) { place = Rest }) k ne) ∙ o.rest k (omega arith));
       others = λ k h. put_else o.world.seats n (record (o.world.seats n) { place = Rest }) k (λ q. absurd (omega arith)) ∙ o.others k (omega arith);
     }
@@ -161,7 +172,8 @@ free_unparked p k c turn w at free parked = not_free (sym parked.2 ∙ at) free
         clash : Rattle.std.proofs.Common.false ≡ true → ⊥
         clash e = cc
 
-module _ (z : Setting) (s : State Record SemaView) (r : IsKept semaphore_rows z s) (id : ℕ) (v : SemaView) (someones : IsSomeones semaphore_rows v) (at : get_elem? s.views id ≡ some v) (seats : List SeatModel) (are : AreOfSeats z (v.own ∷ v.guests) seats) (full : length seats ≡ z.seats) where
+module _ (z : Setting) (s : State Record SemaView) (r : IsKept semaphore_rows z s) (id : ℕ) (v : SemaView) (someones : IsSomeones semaphore_rows v)
+    (at : get_elem? s.views id ≡ some v) (seats : List SeatModel) (are : AreOfSeats z (v.own ∷ v.guests) seats) (full : length seats ≡ z.seats) where
   abbrev all : List SemaSeat
   all = v.own ∷ v.guests
 
@@ -188,29 +200,37 @@ module _ (z : Setting) (s : State Record SemaView) (r : IsKept semaphore_rows z 
   there : (k : ℕ) → k < z.seats → (g : SemaSeat) × In g all × (g.number ≡ k)
   there = each_is_in z.seats all apart low count
 
-  has_seen : (t : SeatModel) → In t seats → GoesOn r.world.journal t.sight.seen × (own_entries (semaphores m) t.number r.world.journal ≡ own_entries (semaphores m) t.number t.sight.seen)
+  has_seen : (t : SeatModel) → In t seats → GoesOn r.world.journal t.sight.seen
+      × (own_entries (semaphores m) t.number r.world.journal ≡ own_entries (semaphores m) t.number t.sight.seen)
   has_seen t e = let o = guest_for z all seats are t e in let q = (sits o.0 o.1).knows.meets in (
     subst (GoesOn r.world.journal) o.2.seen q.later,
-    subst (λ (y : ℕ × List Entry). own_entries (semaphores m) y.0 r.world.journal ≡ own_entries (semaphores m) y.0 y.1) (λ i. (o.2.number_is i, o.2.seen i)) q.quiet,
+    subst (λ (y : ℕ × List Entry). own_entries (semaphores m) y.0 r.world.journal ≡ own_entries (semaphores m) y.0 y.1)
+        (λ i. (o.2.number_is i, o.2.seen i)) q.quiet,
   )
 
   free : (k : ℕ) → k < z.seats → is_free (r.world.seats k).place ≡ true
   free k h = let o = there k h in
-      subst (λ (j : ℕ). is_free (r.world.seats j).place ≡ true) o.2 (ap (λ (x : SeatState). is_free x.place) (sits o.0 o.1).knows.meets.stands ∙ (seat_for z all seats are o.0 o.1).2.free)
+      subst (λ (j : ℕ). is_free (r.world.seats j).place ≡ true) o.2
+      (ap (λ (x : SeatState). is_free x.place) (sits o.0 o.1).knows.meets.stands ∙ (seat_for z all seats are o.0 o.1).2.free)
 
   rested : Rested m r.world z.seats
   rested = all_rest m r.world r.shows.reached free z.seats (omega arith)
 
   unserved : (k : ℕ) → k < z.seats → served m r.world k ≡ 0
   unserved k h = dite (ℕ_discrete (served m r.world k) 0) (λ e. e)
-      (λ ne. let p = (the_accounts.served m r.world (the_law.invariant m r.world r.shows.reached) k h).1 (omega (arith, ne)) in absurd (free_unparked (r.world.seats k).place k p.0 p.1 r.world refl (free k h) p.2))
+      (λ ne. let p = (the_accounts.served m r.world (the_law.invariant m r.world r.shows.reached) k h).1 (omega (arith, ne)) in
+      absurd (free_unparked (r.world.seats k).place k p.0 p.1 r.world refl (free k h) p.2))
 
   given_all : sum_by was_given seats ≡ taken r.world.journal
-  given_all = sym (sum_is z (λ k. takes k r.world.journal) was_given all seats are (λ g t e is. let o = sits g e in let a = o.knows.takes in let b = unserved g.number (low g e) in let c = is.given in omega arith))
+  given_all =
+      sym (sum_is z (λ k. takes k r.world.journal) was_given all seats are
+      (λ g t e is. let o = sits g e in let a = o.knows.takes in let b = unserved g.number (low g e) in let c = is.given in omega arith))
       ∙ sum_all z.seats all apart low count (λ k. takes k r.world.journal) ∙ sym (the_accounts.taken m r.world r.shows.reached)
 
   added_all : sum_by (has_added z.limit) seats ≡ added r.world.journal
-  added_all = sym (sum_is z (λ k. added_by k r.world.journal) (has_added z.limit) all seats are (λ g t e is. let o = own_adds m r.world g.number (sight_by g.knows) (sits g e).knows.meets in let l = is.left in omega arith))
+  added_all =
+      sym (sum_is z (λ k. added_by k r.world.journal) (has_added z.limit) all seats are
+      (λ g t e is. let o = own_adds m r.world g.number (sight_by g.knows) (sits g e).knows.meets in let l = is.left in omega arith))
       ∙ sum_all z.seats all apart low count (λ k. added_by k r.world.journal) ∙ sym (the_accounts.added m r.world r.shows.reached)
 
   lawful : IsLawfulWorld m r.world
@@ -219,10 +239,14 @@ module _ (z : Setting) (s : State Record SemaView) (r : IsKept semaphore_rows z 
   value_is : (k : ℕ) → k < length z.starts → slice_index s.words (8 * k) ≡ r.world.words.numbers k
   value_is k h = r.shows.words (Counter k) h
 
-  balance : total (length z.starts) (λ k. slice_index s.words (8 * k)) + sum_by was_given seats ≡ total (length z.starts) (layout z).starts + sum_by (has_added z.limit) seats
-  balance = let a = the_accounts.balanced_in_all m r.world r.shows.reached in let b = total_same (length z.starts) (λ k. slice_index s.words (8 * k)) r.world.words.numbers value_is in let c = given_all in let d = added_all in omega arith
+  balance : total (length z.starts) (λ k. slice_index s.words (8 * k)) + sum_by was_given seats ≡ total (length z.starts)
+      (layout z).starts + sum_by (has_added z.limit) seats
+  balance = let a = the_accounts.balanced_in_all m r.world r.shows.reached in
+      let b = total_same (length z.starts) (λ k. slice_index s.words (8 * k)) r.world.words.numbers value_is in
+      let c = given_all in let d = added_all in omega arith
 
-  pub is_closed : (values : List ℕ) → length values ≡ length z.starts → ((k : ℕ) → k < length z.starts → slice_index values k ≡ slice_index s.words (8 * k))
+  pub is_closed : (values : List ℕ) → length values ≡ length z.starts
+      → ((k : ℕ) → k < length z.starts → slice_index values k ≡ slice_index s.words (8 * k))
       → IsClosed z seats (record { values = values; releases = sum_by (has_added z.limit) seats; acquires = sum_by was_given seats })
   is_closed values long_values same = record {
     long = long_values;
@@ -234,12 +258,14 @@ module _ (z : Setting) (s : State Record SemaView) (r : IsKept semaphore_rows z 
     named = the_accounts.named m rested.world rested.reached;
     each = λ k h. (let o = there k h in let q = seat_for z all seats are o.0 o.1 in (q.0, q.1, sym q.2.number_is ∙ o.2));
     begins = λ t e. subst (λ j. GoesOn j t.sight.seen) (sym rested.journal) (has_seen t e).0;
-    own = λ t e. subst (λ j. own_entries (semaphores m) t.number j ≡ own_entries (semaphores m) t.number t.sight.seen) (sym rested.journal) (has_seen t e).1;
+    own =
+        λ t e. subst (λ j. own_entries (semaphores m) t.number j ≡ own_entries (semaphores m) t.number t.sight.seen) (sym rested.journal) (has_seen t e).1;
     history = r.history;
     writes = subst (Writes semaphore_rows [] r.history) (sym rested.journal) r.writes;
     by_seats = λ h e. let a = r.by_seats h e in let f = r.fits in omega arith;
     went = λ t e. let o = guest_for z all seats are t e in ap (λ (n : ℕ). strides_of n r.history) (sym o.2.number_is) ∙ (sits o.0 o.1).went ∙ o.2.went;
-    values = λ k h. same k h ∙ value_is k h ∙ ap (λ y. y.numbers k) lawful.journal.0 ∙ ap (λ j. (replay (plain_start (layout z).starts) j).numbers k) (sym rested.journal);
+    values = λ k h. same k h ∙ value_is k h ∙ ap (λ y. y.numbers k) lawful.journal.0
+        ∙ ap (λ j. (replay (plain_start (layout z).starts) j).numbers k) (sym rested.journal);
     released = refl;
     added_all = added_all ∙ ap added (sym rested.journal);
     acquired = refl;

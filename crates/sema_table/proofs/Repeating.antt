@@ -15,6 +15,7 @@ module _ (s0 s t : Token) (p q : Place) (before : Walked s0 p s (moved_to s0 p) 
   then_told e y = walked_then s0 s t p p q [] (e ∷ []) 0 0 before y
 
   -- the unit is for the seat itself
-  pub then_took : (c : ℕ) → Walked s p t (moved_to s q) (Take c s.me.0.own.number ∷ []) 1 → Walked s0 p t (moved_to s0 q) (Take c s0.me.0.own.number ∷ []) 1
+  pub then_took : (c : ℕ) → Walked s p t (moved_to s q) (Take c s.me.0.own.number ∷ []) 1
+      → Walked s0 p t (moved_to s0 q) (Take c s0.me.0.own.number ∷ []) 1
   then_took c y = subst (λ i. Walked s0 p t (moved_to s0 q) (Take c i ∷ []) 1) before.number_is
       (walked_then s0 s t p p q [] (Take c s.me.0.own.number ∷ []) 0 1 before y)

@@ -17,11 +17,13 @@ pub not_both : {A : Type 0} (b : Bool) → b ≡ false → b ≡ true → A
 not_both b e f = absurd (cc)
 
 -- nothing is served to it, since it isn't parked
-pub free_counted : (z : Setting) (k : ℕ) (w : Known) (t : SemaWorld) → IsReached (layout z) t → k < z.seats → (t.seats k).place ≡ w.place → t.journal ≡ w.seen
+pub free_counted : (z : Setting) (k : ℕ) (w : Known) (t : SemaWorld) → IsReached (layout z) t → k < z.seats
+    → (t.seats k).place ≡ w.place → t.journal ≡ w.seen
     → takes k t.journal ≡ w.taken + served (layout z) t k → is_free w.place ≡ true → takes k w.seen ≡ w.taken
 free_counted z k w t reached there at seen all free = ap (takes k) (sym seen) ∙ all ∙ (let e = none_served in omega arith)
   where
     none_served : served (layout z) t k ≡ 0
     none_served = dite (ℕ_discrete (served (layout z) t k) 0)
         (λ e. e)
-        (λ ne. let parked = (the_accounts.served (layout z) t (the_law.invariant (layout z) t reached) k there).1 (omega (arith, ne)) in not_both (is_free w.place) (ap is_free (sym at ∙ parked.2.2)) free)
+        (λ ne. let parked = (the_accounts.served (layout z) t (the_law.invariant (layout z) t reached) k there).1 (omega (arith, ne)) in
+        not_both (is_free w.place) (ap is_free (sym at ∙ parked.2.2)) free)

@@ -27,7 +27,8 @@ use Rattle.sema_table.proofs.Walking.{walked_row, walked_then, ran_from, token_a
 use Rattle.sema_table.proofs.Calling.{calls, calls_after}
 
 -- A10, after rows that led there
-module _ (s0 s u : Token) (a : Acquire) (n : ℕ) (before : Walked s0 (Acquiring a A10) s (moved_to s0 (Acquiring a A10)) [] 0) (r : Ran here s.me.0.own n u.me.0.own) (same : u.table_id ≡ s.table_id) where
+module _ (s0 s u : Token) (a : Acquire) (n : ℕ) (before : Walked s0 (Acquiring a A10) s (moved_to s0 (Acquiring a A10)) [] 0)
+    (r : Ran here s.me.0.own n u.me.0.own) (same : u.table_id ≡ s.table_id) where
   abbrev look : Ran (begin (Acquiring a A10)) s.me.0.own n u.me.0.own
   look = ran_from s u (Acquiring a A10) n (ap (λ (y : SeatState). y.place) before.stands_is) r
 
@@ -40,7 +41,8 @@ module _ (s0 s u : Token) (a : Acquire) (n : ℕ) (before : Walked s0 (Acquiring
 
   pub some_again : 0 < n → Walked s0 (Acquiring a A10) u (moved_to s0 (Acquiring a (A11 (n - 1)))) [] 0
   some_again h = walked_then s0 s u (Acquiring a A10) (Acquiring a A10) (Acquiring a (A11 (n - 1))) [] [] 0 0 before
-      (walked_row s u (Acquiring a A10) n (Acquiring a (A11 (n - 1)), Nothing) look (load_some n (Acquiring a A3) (λ left. Acquiring a (A11 left)) found h) same)
+      (walked_row s u (Acquiring a A10) n (Acquiring a (A11 (n - 1)), Nothing) look
+      (load_some n (Acquiring a A3) (λ left. Acquiring a (A11 left)) found h) same)
 
   -- and A11
   module _ (w : Token) (y : ℕ) (some : 0 < n) (q : Ran here u.me.0.own y w.me.0.own) (again : w.table_id ≡ u.table_id) where
@@ -61,14 +63,16 @@ module _ (s0 s u : Token) (a : Acquire) (n : ℕ) (before : Walked s0 (Acquiring
 
     pub won_again : y ≡ n → Walked s0 (Acquiring a A10) w (moved_to s0 Rest) (Take a.counter s0.me.0.own.number ∷ []) 1
     won_again e = subst (λ i. Walked s0 (Acquiring a A10) w (moved_to s0 Rest) (Take a.counter i ∷ []) 1) (some_again some).number_is
-        (walked_then s0 u w (Acquiring a A10) before_it Rest [] (Take a.counter u.me.0.own.number ∷ []) 0 1 (some_again some) (walked_row u w before_it y wins swap (won y (n - 1 + 1) wins loses went (omega arith)) again))
+        (walked_then s0 u w (Acquiring a A10) before_it Rest [] (Take a.counter u.me.0.own.number ∷ []) 0 1 (some_again some)
+        (walked_row u w before_it y wins swap (won y (n - 1 + 1) wins loses went (omega arith)) again))
 
     pub lost_again : y ≢ n → Walked s0 (Acquiring a A10) w (moved_to s0 (Acquiring a A10)) [] 0
     lost_again ne = walked_then s0 u w (Acquiring a A10) before_it (Acquiring a A10) [] [] 0 0 (some_again some)
         (walked_row u w before_it y loses swap (lost y (n - 1 + 1) wins loses went (λ e. ne (omega arith))) again)
 
 -- a unit was taken at once
-module _ (s t : Token) (n : Numbers) (a : Acquire) (seat : IsWoken s n a) (x : Walked s (Acquiring a A10) t (moved_to s Rest) (Take a.counter s.me.0.own.number ∷ []) 1) (bare : t.me.1 ≡ s.me.1) where
+module _ (s t : Token) (n : Numbers) (a : Acquire) (seat : IsWoken s n a)
+    (x : Walked s (Acquiring a A10) t (moved_to s Rest) (Take a.counter s.me.0.own.number ∷ []) 1) (bare : t.me.1 ≡ s.me.1) where
   abbrev counted : Numbers
   counted = record n { taken = n.taken + 1 }
 
@@ -77,7 +81,8 @@ module _ (s t : Token) (n : Numbers) (a : Acquire) (seat : IsWoken s n a) (x : W
 
   pub retried_seat : IsSeat t counted
   retried_seat = record {
-    token_is = token_after s t (Acquiring a A10) (moved_to s Rest) took 1 n counted seat.token_is x (bare ∙ seat.token_is.bare) seat.token_is.empty seat.token_is.turns_are (omega arith) refl refl;
+    token_is = token_after s t (Acquiring a A10) (moved_to s Rest) took 1 n counted seat.token_is x (bare ∙ seat.token_is.bare) seat.token_is.empty
+        seat.token_is.turns_are (omega arith) refl refl;
     free = ap (λ (q : SeatState). is_free q.place) x.stands_is;
     counted = x.counted refl;
   }
@@ -87,16 +92,26 @@ module _ (s t : Token) (n : Numbers) (a : Acquire) (seat : IsWoken s n a) (x : W
     a,
     seat.at,
     (
-      (λ i. record { table = x.table_is i; number = n.seat; left = n.left; taken = n.taken + 1; sight = sight_by t.me.0.own.knows; strides = t.me.0.own.gone }),
+      (λ i. record {
+        table = x.table_is i;
+        number = n.seat;
+        left = n.left;
+        taken = n.taken + 1;
+        sight = sight_by t.me.0.own.knows;
+        strides = t.me.0.own.gone;
+      }),
       x.stands_is,
-      subst (λ k. RunsRows (seat_of s n) (Acquiring a A10) (seat_of t counted) (Take a.counter k ∷ [])) seat.token_is.number_is (calls s t n counted (Acquiring a A10) (moved_to s Rest) took 1 seat.token_is x),
+      subst (λ k. RunsRows (seat_of s n) (Acquiring a A10) (seat_of t counted) (Take a.counter k ∷ [])) seat.token_is.number_is
+          (calls s t n counted (Acquiring a A10) (moved_to s Rest) took 1 seat.token_is x),
     ),
   )
 
 -- or there was none
-module _ (s t : Token) (n : Numbers) (a : Acquire) (seat : IsWoken s n a) (x : Walked s (Acquiring a A10) t (moved_to s (Acquiring a A3)) [] 0) (bare : t.me.1 ≡ s.me.1) where
+module _ (s t : Token) (n : Numbers) (a : Acquire) (seat : IsWoken s n a)
+    (x : Walked s (Acquiring a A10) t (moved_to s (Acquiring a A3)) [] 0) (bare : t.me.1 ≡ s.me.1) where
   pub again_token : IsToken t n
-  again_token = token_after s t (Acquiring a A10) (moved_to s (Acquiring a A3)) [] 0 n n seat.token_is x (bare ∙ seat.token_is.bare) seat.token_is.empty seat.token_is.turns_are (omega arith) refl (omega arith)
+  again_token = token_after s t (Acquiring a A10) (moved_to s (Acquiring a A3)) [] 0 n n seat.token_is x (bare ∙ seat.token_is.bare)
+      seat.token_is.empty seat.token_is.turns_are (omega arith) refl (omega arith)
 
   same_turn : t.me.0.own.knows.turn ≡ s.me.0.own.knows.turn
   same_turn = ap (λ (q : SeatState). q.turn) x.stands_is

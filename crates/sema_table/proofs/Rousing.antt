@@ -27,7 +27,8 @@ use Rattle.sema_table.proofs.Calling.{placed_at, call_of}
 
 -- no look yet, and one more
 pub no_look : (s : SeatModel) → OnlyLooks s s
-no_look s = record { same = refl; stays = refl; call = call_of s s s.sight.stands.place [] [] (All-nil (FindsNoGrant s.number)) refl (sym (append-nil s.strides)) refl }
+no_look s =
+    record { same = refl; stays = refl; call = call_of s s s.sight.stands.place [] [] (All-nil (FindsNoGrant s.number)) refl (sym (append-nil s.strides)) refl }
 
 pub look_more : (s t u : SeatModel) → OnlyLooks s t → IsPolled t (polled.Still u) → OnlyLooks s u
 look_more s t u x y = record {
@@ -50,7 +51,9 @@ look_more s t u x y = record {
     z = subst (λ (q : SeatModel). LooksAt q (Grant q.number) 0 u) x.same y.3
 
     only : OnlyLooked z.stride u.sight
-    only = subst (SemaDid (layout s.table.setting) s.number z.stride u.sight) z.did (the_sema_paths.does (layout s.table.setting) s.number t.sight u.sight z.stride z.ran)
+    only =
+        subst (SemaDid (layout s.table.setting) s.number z.stride u.sight) z.did
+        (the_sema_paths.does (layout s.table.setting) s.number t.sight u.sight z.stride z.ran)
 
 -- the row that takes the grant, after looks
 module _ (s t u : SeatModel) (x : OnlyLooks s t) where
@@ -66,11 +69,14 @@ module _ (s t u : SeatModel) (x : OnlyLooks s t) where
   granted_after : (place : Place) (n : ℕ) → t.sight.stands.place ≡ place → CallsGranted t place u [] n → CallsGranted s place u x.call.strides n
   granted_after place n at g = record {
     call = call_of s u place [] (x.call.strides ++ g.call.strides)
-        (All-append (RunsOrWaits s.number) x.call.strides g.call.strides (All-weaker (FindsNoGrant s.number) (RunsOrWaits s.number) (λ p. inr) x.call.strides x.call.each)
+        (All-append (RunsOrWaits s.number) x.call.strides g.call.strides
+        (All-weaker (FindsNoGrant s.number) (RunsOrWaits s.number) (λ p. inr) x.call.strides x.call.each)
         (subst (λ i. All (RunsOrWaits i) g.call.strides) numbers g.call.each))
         ((the_sema_paths.paths (layout s.table.setting)).joined s.number (placed place s.sight) t.sight u.sight x.call.strides g.call.strides
-        (subst (λ (v : SemaSight). SemaPath (layout s.table.setting) s.number v x.call.strides t.sight) (sym (placed_at place s.sight (stood place at))) x.call.path)
-        (subst (λ (q : SemaSight × (TableModel × ℕ)). SemaPath (layout q.1.0.setting) q.1.1 q.0 g.call.strides u.sight) (λ i. (placed_at place t.sight at i, (tables i, numbers i))) g.call.path))
+        (subst (λ (v : SemaSight). SemaPath (layout s.table.setting) s.number v x.call.strides t.sight)
+        (sym (placed_at place s.sight (stood place at))) x.call.path)
+        (subst (λ (q : SemaSight × (TableModel × ℕ)). SemaPath (layout q.1.0.setting) q.1.1 q.0 g.call.strides u.sight)
+        (λ i. (placed_at place t.sight at i, (tables i, numbers i))) g.call.path))
         (g.call.all ∙ ap (λ l. l ++ g.call.strides) x.call.all ∙ append_assoc s.strides x.call.strides g.call.strides)
         (told_append x.call.strides g.call.strides ∙ (λ i. x.call.told_is i ++ g.call.told_is i));
     last = g.last;
@@ -108,4 +114,13 @@ module _ (s t u : SeatModel) (x : OnlyLooks s t) where
 
 -- a token of which nothing has come
 pub same_seat : (s t : Token) (n : Numbers) → IsSame s t → seat_of t n ≡ seat_of s n
-same_seat s t n e = λ i. record { table = record { id = e.0 i; setting = (e.1 i).0.own.knows.setting }; number = n.seat; left = n.left; taken = n.taken; sight = sight_by (e.1 i).0.own.knows; strides = (e.1 i).0.own.gone }
+same_seat s t n e =
+    λ i. record {
+      table = record { id = e.0 i; setting = (e.1 i).0.own.knows.setting };
+      number = n.seat;
+      left = n.left;
+      taken = n.taken;
+      sight =
+          sight_by (e.1 i).0.own.knows;
+      strides = (e.1 i).0.own.gone;
+    }

@@ -1,5 +1,6 @@
 -- A look at a word changes nothing, and the seat sees what was told so far.
-use Rattle.std.proofs.Common.{◌≡◌, ℕ, ◌+◌, ◌^◌, ◌<◌, ◌≤◌, List, [], ◌∷◌, ◌++◌, length, slice_index, sym, refl, ap, ◌∙◌, subst, inl, arith, get_or-set_other}
+use Rattle.std.proofs.Common.{◌≡◌, ℕ, ◌+◌, ◌^◌, ◌<◌, ◌≤◌, List, [], ◌∷◌, ◌++◌, length, slice_index, sym, refl, ap}
+use Rattle.std.proofs.Common.{◌∙◌, subst, inl, arith, get_or-set_other}
 use Rattle.std.proofs.Common.{length-set}
 use lib.Seq.{set-get_or}
 use native.Mathlib.Decide.{ℕ_discrete}
@@ -31,7 +32,8 @@ use Rattle.running_rows.proofs.History.{looked_on}
 use Rattle.sema_table.proofs.Keeping.{Ready}
 use Rattle.sema_table.proofs.Allowing.{Stays, event_by, owed_some}
 
-module _ (u : SemaSeat) (world : SemaWorld) (words : List ℕ) (homes : Homes) (i : ℕ) (st : Stands semaphore_rows u.knows.setting u world words homes i) (x : Word) where
+module _ (u : SemaSeat) (world : SemaWorld) (words : List ℕ) (homes : Homes) (i : ℕ)
+    (st : Stands semaphore_rows u.knows.setting u world words homes i) (x : Word) where
   abbrev m : Layout
   m = layout u.knows.setting
 
@@ -55,7 +57,8 @@ module _ (u : SemaSeat) (world : SemaWorld) (words : List ℕ) (homes : Homes) (
   pub knows_now : Knows u.knows.setting u.number now.knows world
   knows_now = record { meets = meets_sight (semaphores m) world u.number shows.reached; takes = knew.takes; held = λ c h. told c }
 
-  pub looked : IsThere u.knows.setting x → address u.knows.setting x ≡ i → (r : Strode here (looks x) u (slice_index words i) now) × (r.ran.world ≡ world)
+  pub looked : IsThere u.knows.setting x → address u.knows.setting x ≡ i
+      → (r : Strode here (looks x) u (slice_index words i) now) × (r.ran.world ≡ world)
   looked h e = (
     record {
       stride = look_in (semaphores m) world u.number x;
@@ -77,7 +80,8 @@ module _ (u : SemaSeat) (world : SemaWorld) (words : List ℕ) (homes : Homes) (
   )
 
   -- it is a look at the word that lies there
-  pub sees : word_at u.knows.setting i ≡ x → IsThere u.knows.setting x → address u.knows.setting x ≡ i → Sees semaphore_rows u.knows.setting u world i (slice_index words i)
+  pub sees : word_at u.knows.setting i ≡ x → IsThere u.knows.setting x → address u.knows.setting x ≡ i
+      → Sees semaphore_rows u.knows.setting u world i (slice_index words i)
   sees is h e =
       let o = subst (λ (y : Word). (r : Strode here (looks y) u (slice_index words i) now) × (r.ran.world ≡ world)) (sym is) (looked h e) in
       record { now = now; went = o.0; world_is = o.1; knows = knows_now }
@@ -86,7 +90,8 @@ module _ (z : Setting) (i : ℕ) where
   -- each seat may look at a word that lies at its address
   is_seen : (x : Word) → word_at z i ≡ x → IsThere z x → address z x ≡ i → IsSeen semaphore_rows z i
   is_seen x is h e world words homes u st =
-      subst (λ (q : Setting). word_at q i ≡ x → IsThere q x → address q x ≡ i → Stands semaphore_rows q u world words homes i → Sees semaphore_rows q u world i (slice_index words i))
+      subst (λ (q : Setting). word_at q i ≡ x → IsThere q x → address q x ≡ i → Stands semaphore_rows q u world words homes i
+      → Sees semaphore_rows q u world i (slice_index words i))
       st.of_is (λ is h e st. sees u world words homes i st x is h e) is h e st
 
   pub counter_seen : (c : ℕ) → c < length z.starts → address z (Counter c) ≡ i → IsSeen semaphore_rows z i
@@ -109,16 +114,19 @@ module _ (z : Setting) (i : ℕ) where
   }
 
 -- a grant word that is taken: the row ran, or nothing was granted and nothing changed
-module _ (z : Setting) (i : ℕ) (m : Me) (p : Place) (at : m.0.own.knows.place ≡ p) (bound : added_by m.0.own.number m.0.own.knows.seen + adding p ≤ 2 ^ 40)
+module _ (z : Setting) (i : ℕ) (m : Me) (p : Place) (at : m.0.own.knows.place ≡ p)
+    (bound : added_by m.0.own.number m.0.own.knows.seen + adding p ≤ 2 ^ 40)
     (lies : address m.0.own.knows.setting (Grant m.0.own.number) ≡ i)
-    (ready : (w : SemaWorld) (n : ℕ) → Ready m.0.own.number (begin p m.0.own.knows) w i n → 0 < n → Stays m.0.own.knows.setting (event_by m.0.own.number (begin p m.0.own.knows) w) i n 0) where
+    (ready : (w : SemaWorld) (n : ℕ) → Ready m.0.own.number (begin p m.0.own.knows) w i n → 0 < n
+    → Stays m.0.own.knows.setting (event_by m.0.own.number (begin p m.0.own.knows) w) i n 0) where
   abbrev Received : ℕ → Me → Type 0
   Received n s = (n ≡ 0 → Looked semaphore_rows i m 0 s) × (0 < n → RanRow semaphore_rows here m n s)
 
   pub owes_received : Owes semaphore_rows z m i (λ _. 0) (λ n s. (n ≡ 0 → Looked semaphore_rows i m 0 s) × (0 < n → RanRow semaphore_rows here m n s))
   owes_received = owes_own semaphore_rows z m i (λ _. 0) Received (λ world words homes st. by world words homes st (ℕ_discrete (slice_index words i) 0))
     where
-      by : (world : SemaWorld) (words : List ℕ) (homes : Homes) → (st : Stands semaphore_rows m.0.own.knows.setting m.0.own world words homes i) → Dec (slice_index words i ≡ 0)
+      by : (world : SemaWorld) (words : List ℕ) (homes : Homes)
+          → (st : Stands semaphore_rows m.0.own.knows.setting m.0.own world words homes i) → Dec (slice_index words i ≡ 0)
           → Leads semaphore_rows m.0.own.knows.setting m world words homes i 0 (Received (slice_index words i))
       by world words homes st (yes e) =
           let o = sees m.0.own world words homes i st (Grant m.0.own.number) (grant_lies m.0.own.knows.setting m.0.own.number i lies) st.there lies in
@@ -133,9 +141,11 @@ module _ (z : Setting) (i : ℕ) (m : Me) (p : Place) (at : m.0.own.knows.place 
             knows = o.knows;
             on = looked_on semaphore_rows m.0.own.knows.setting world m.0.own i (slice_index words i) refl o;
             others = λ u ne low known. known;
-            tells = ((λ _. (subst (λ k. Strode here (looks (word_at m.0.own.knows.setting i)) m.0.own k o.now) e o.went, refl)), (λ some. absurd (omega arith)));
+            tells =
+                ((λ _. (subst (λ k. Strode here (looks (word_at m.0.own.knows.setting i)) m.0.own k o.now) e o.went, refl)), (λ some. absurd (omega arith)));
           })
       by world words homes st (no ne) =
-          tells_more semaphore_rows m.0.own.knows.setting m i world words homes 0 (λ s. RanRow semaphore_rows (begin p) m (slice_index words i) s) (Received (slice_index words i))
+          tells_more semaphore_rows m.0.own.knows.setting m i world words homes 0
+          (λ s. RanRow semaphore_rows (begin p) m (slice_index words i) s) (Received (slice_index words i))
           (λ s r. ((λ e. absurd (ne e)), (λ _. (ran_here m.0.own s.0.own p (slice_index words i) at r.0, r.1))))
           (owed_some i m p (inl at) bound m.0.own.knows.setting 0 ready world words homes st (omega arith))

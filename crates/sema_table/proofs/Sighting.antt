@@ -47,7 +47,13 @@ module _ (m : Layout) (i : ℕ) where
         to = paths.more i v parts.0 (sight (semaphores m) ran.world i) before look parts.1 (paths.looked i ran.world parts.0 (Counter 0) ran.meets);
         on = (
           parts.2.0,
-          record { world = ran.world; meets = meets_sight (semaphores m) ran.world i ran.meets.met; stood = ran.stood ∙ sym ran.meets.stands; seen = ran.seen; did = ran.did },
+          record {
+            world = ran.world;
+            meets = meets_sight (semaphores m) ran.world i ran.meets.met;
+            stood = ran.stood ∙ sym ran.meets.stands;
+            seen = ran.seen;
+            did = ran.did;
+          },
           parts.2.2,
         );
         some = not_nil before look;
@@ -88,7 +94,8 @@ module _ (m : Layout) (i : ℕ) where
   }
 
 -- the seat at that moment
-module _ (s t : SeatModel) (from : Place) (told rest : List Entry) (Holds : List Entry → Type 0) (x : Sighted (layout s.table.setting) s.number (placed from s.sight) t.sight told rest Holds) where
+module _ (s t : SeatModel) (from : Place) (told rest : List Entry) (Holds : List Entry → Type 0)
+    (x : Sighted (layout s.table.setting) s.number (placed from s.sight) t.sight told rest Holds) where
   abbrev pub seat_then : SeatModel
   seat_then = record s { sight = x.u }
 
@@ -100,4 +107,5 @@ module _ (s t : SeatModel) (from : Place) (told rest : List Entry) (Holds : List
 
   pub since_then : (added given : ℕ) (all : List Entry) → IsSeatAfter s added given all t
       → IsSeatAfter seat_then added given rest t
-  since_then added given all whole = after_path seat_then t x.u.stands.place added given rest x.after x.on x.rest_is whole.table whole.number whole.left whole.taken whole.lawful
+  since_then added given all whole =
+      after_path seat_then t x.u.stands.place added given rest x.after x.on x.rest_is whole.table whole.number whole.left whole.taken whole.lawful

@@ -45,11 +45,13 @@ module _ {k : ℕ} {v : Known} {b : SemaWorld} {i n : ℕ} (known : Ready k v b 
       let is = known.word (Waiters c) tt at in omega arith
 
   -- one less in a waiter word that is above 0
-  pub waiters_down : (c : ℕ) → address v.setting (Waiters c) ≡ i → 0 < b.words.waiters (root v.setting c) → (n + 18446744073709551615) % 2 ^ 64 ≡ n - 1
+  pub waiters_down : (c : ℕ) → address v.setting (Waiters c) ≡ i → 0 < b.words.waiters (root v.setting c)
+      → (n + 18446744073709551615) % 2 ^ 64 ≡ n - 1
   waiters_down c at some = let is = known.word (Waiters c) tt at in let below = known.below in omega arith
 
   -- a waiter word that the seat has raised is above 0
-  pub raised_some : (c : ℕ) → holds (root v.setting) (root v.setting c) v.place ≡ 1 → raises (root v.setting) (root v.setting c) v.place ≡ 1 → 0 < b.words.waiters (root v.setting c)
+  pub raised_some : (c : ℕ) → holds (root v.setting) (root v.setting c) v.place ≡ 1 → raises (root v.setting) (root v.setting c) v.place ≡ 1
+      → 0 < b.words.waiters (root v.setting c)
   raised_some c held raised =
       let x : ℕ = root v.setting c in
       let stands = ap (λ (y : SeatState). y.place) known.knows.meets.stands in
@@ -77,7 +79,8 @@ module _ {k : ℕ} {v : Known} {b : SemaWorld} {i n : ℕ} (known : Ready k v b 
       by : (l : List WaitId) → b.words.lists a.counter ≡ l → 0 < b.words.waiters (root v.setting a.counter)
       by l e = the_accounts.lowered (layout v.setting) b (the_law.invariant (layout v.setting) b known.reached) k (root v.setting a.counter) known.there (
         a.counter,
-        by_first (b.words.lists a.counter) (to (ReleasingMany a M6)) (λ w. (after_leave a (length v.hand) (length (b.words.lists a.counter)), Tells (Leave a.counter w k))),
+        by_first (b.words.lists a.counter) (to (ReleasingMany a M6))
+            (λ w. (after_leave a (length v.hand) (length (b.words.lists a.counter)), Tells (Leave a.counter w k))),
         refl,
         stands,
       )

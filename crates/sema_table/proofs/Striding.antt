@@ -21,7 +21,8 @@ pub stands_here : (u : SemaSeat) (from : Place) → u.knows.place ≡ from → u
 stands_here u from at i = record u.knows { place = at i }
 
 -- from where it stood, and the other way
-abbrev pub strode_at : (deed : Deed Word) (u w : SemaSeat) (from : Place) (n : ℕ) → u.knows.place ≡ from → Strode here deed u n w → Strode (begin from) deed u n w
+abbrev pub strode_at : (deed : Deed Word) (u w : SemaSeat) (from : Place) (n : ℕ) → u.knows.place ≡ from
+    → Strode here deed u n w → Strode (begin from) deed u n w
 strode_at deed u w from n at = went_from semaphore_rows here (begin from) u w n (stands_here u from at)
 
 abbrev pub ran_at : (u w : SemaSeat) (from : Place) (n : ℕ) → u.knows.place ≡ from → Ran here u n w → Ran (begin from) u n w

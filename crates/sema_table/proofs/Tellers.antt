@@ -1,5 +1,6 @@
 -- Which stride of a path told an entry, and what it saw.
-use Rattle.std.proofs.Common.{◌≡◌, ◌≢◌, ◌⊎◌, ℕ, ◌<◌, IsTrue, List, [], ◌∷◌, ◌++◌, refl, sym, ap, ◌∙◌, subst, inl, inr, ⊎_elim, arith, append_assoc}
+use Rattle.std.proofs.Common.{◌≡◌, ◌≢◌, ◌⊎◌, ℕ, ◌<◌, IsTrue, List, [], ◌∷◌, ◌++◌, refl, sym, ap, ◌∙◌, subst, inl, inr}
+use Rattle.std.proofs.Common.{⊎_elim, arith, append_assoc}
 use Rattle.waiters.specs.declared.wait.WaitId.{WaitId}
 use Rattle.step_table.specs.declared.effect.Effect.{Effect}
 use Rattle.step_table.specs.declared.effect.Effect.TheVariants.{Nothing, Tells, Wakes}
@@ -134,7 +135,8 @@ module _ (m : Layout) (i : ℕ) (v w : SemaSight) (p : SemaStride) (r : SemaRan 
   pub not_own : (c k : ℕ) (x : WaitId) (l : List WaitId) → p.told ≡ Leave c x k ∷ [] → (plain_before m p).lists c ≡ x ∷ l
       → x.seat ≢ i
   not_own c k x l told first e =
-      let listed : 0 < times x (r.world.words.lists c) = subst (λ (y : List WaitId). 0 < times x y) (sym first ∙ ap (λ (y : Plain). y.lists c) plain_there) (let here = same_here x in omega arith) in
+      let listed : 0 < times x (r.world.words.lists c) = subst (λ (y : List WaitId). 0 < times x y) (sym first ∙ ap (λ (y : Plain). y.lists c) plain_there)
+      (let here = same_here x in omega arith) in
       let parked = (in_law.parked.0 c x listed).1 in
       let quiet = parked_quiet parked.0 x.turn (ap (λ (z : SeatState). z.place) stood_there ∙ ap (λ k. (r.world.seats k).place) (sym e) ∙ parked.2) in
       cc

@@ -1,5 +1,6 @@
 -- A release from its root's lock on, to its end.
-use Rattle.std.proofs.Common.{◌≡◌, ◌+◌, ◌^◌, ◌<◌, ◌≤◌, if◌then◌else◌, MatchBool, Bool, true, false, List, [], ◌∷◌, ◌++◌, drop, Option, Some, None, IfSome}
+use Rattle.std.proofs.Common.{◌≡◌, ◌+◌, ◌^◌, ◌<◌, ◌≤◌, if◌then◌else◌, MatchBool, Bool, true, false, List, [], ◌∷◌, ◌++◌}
+use Rattle.std.proofs.Common.{drop, Option, Some, None, IfSome}
 use Rattle.std.proofs.Common.{IfNone, sym, refl, ap, ◌∙◌, subst, arith, append-nil}
 use Rattle.waiters.specs.declared.wait.WaitId.{WaitId}
 use Rattle.step_table.specs.declared.entry.Entry.{Entry}
@@ -41,17 +42,20 @@ trying_busy r = by r.handoff
     by false = refl
 
 -- without handoff no row runs
-pub no_unit : (z : TableModel) (s : Token) (r : Release) (w : WaitId) → Stands z s (trying r) → r.handoff ≡ false → Walked s (trying r) s (moved_to s (granting r false)) (taken_for r w false) 0
+pub no_unit : (z : TableModel) (s : Token) (r : Release) (w : WaitId) → Stands z s (trying r) → r.handoff ≡ false
+    → Walked s (trying r) s (moved_to s (granting r false)) (taken_for r w false) 0
 no_unit z s r w stands e = subst (λ q. Walked s (trying r) s (moved_to s q) [] 0) (not_trying r e) (walked_yet z s (trying r) (trying_busy r) stands)
 
 pub tried_unit : (s t : Token) (r : Release) (w : WaitId) (b : Bool) → r.handoff ≡ true
-    → MatchBool b (Walked s (Releasing r R7) t (moved_to s (Releasing r R9)) (Take r.counter w.seat ∷ []) 0) (Walked s (Releasing r R7) t (moved_to s (Releasing r R10)) [] 0)
+    → MatchBool b (Walked s (Releasing r R7) t (moved_to s (Releasing r R9)) (Take r.counter w.seat ∷ []) 0)
+    (Walked s (Releasing r R7) t (moved_to s (Releasing r R10)) [] 0)
     → Walked s (trying r) t (moved_to s (granting r b)) (taken_for r w b) 0
 tried_unit s t r w true e x = subst (λ q. Walked s q t (moved_to s (Releasing r R9)) (Take r.counter w.seat ∷ []) 0) (sym (is_trying r e)) x
 tried_unit s t r w false e x = subst (λ q. Walked s q t (moved_to s (Releasing r R10)) [] 0) (sym (is_trying r e)) x
 
 -- nobody waits
-module _ (s t1 t2 t3 : Token) (n : Numbers) (a : Release) (is : IsToken s n) (x1 : Walked s (Releasing a R3) t1 (moved_to s (Releasing a R4)) [] 0) (x2 : Walked t1 (Releasing a R4) t2 (moved_to t1 (Releasing a R6)) [] 0)
+module _ (s t1 t2 t3 : Token) (n : Numbers) (a : Release) (is : IsToken s n) (x1 : Walked s (Releasing a R3) t1 (moved_to s (Releasing a R4)) [] 0)
+    (x2 : Walked t1 (Releasing a R4) t2 (moved_to t1 (Releasing a R6)) [] 0)
     (x3 : Walked t2 (Releasing a R6) t3 (moved_to t2 (unlocked t2 a)) [] 0) (bare : t3.me.1 ≡ []) where
   unlocks : SeatState → SeatState
   unlocks y = record y { place = by_first y.hand Rest (λ w. trying a) }
@@ -59,7 +63,8 @@ module _ (s t1 t2 t3 : Token) (n : Numbers) (a : Release) (is : IsToken s n) (x1
   ended : Walked s (Releasing a R3) t3 (moved_to s Rest) [] 0
   unfolding unlocks
   ended = subst (λ (l : List WaitId). Walked s (Releasing a R3) t3 (moved_to s (by_first l Rest (λ w. trying a))) [] 0) is.empty
-      (walked_via s t2 t3 (Releasing a R3) (moved_to s (Releasing a R6)) unlocks [] [] 0 0 (walked_then s t1 t2 (Releasing a R3) (Releasing a R4) (Releasing a R6) [] [] 0 0 x1 x2) x3)
+      (walked_via s t2 t3 (Releasing a R3) (moved_to s (Releasing a R6)) unlocks [] [] 0 0
+      (walked_then s t1 t2 (Releasing a R3) (Releasing a R4) (Releasing a R6) [] [] 0 0 x1 x2) x3)
 
   pub nobody_seat : IsSeat t3 n
   nobody_seat = record {
@@ -68,9 +73,17 @@ module _ (s t1 t2 t3 : Token) (n : Numbers) (a : Release) (is : IsToken s n) (x1
     counted = ended.counted refl;
   }
 
-  pub wakes_nobody : (seat_of t3 n ≡ record (seat_of s n) { sight = sight_by t3.me.0.own.knows; strides = t3.me.0.own.gone }) × ComesTo (seat_of s n) Rest (seat_of t3 n) × Wakes (seat_of s n) a (seat_of t3 n) Nobody
+  pub wakes_nobody : (seat_of t3 n ≡ record (seat_of s n) { sight = sight_by t3.me.0.own.knows; strides = t3.me.0.own.gone })
+      × ComesTo (seat_of s n) Rest (seat_of t3 n) × Wakes (seat_of s n) a (seat_of t3 n) Nobody
   wakes_nobody = (
-    (λ i. record { table = ended.table_is i; number = n.seat; left = n.left; taken = n.taken; sight = sight_by t3.me.0.own.knows; strides = t3.me.0.own.gone }),
+    (λ i. record {
+      table = ended.table_is i;
+      number = n.seat;
+      left = n.left;
+      taken = n.taken;
+      sight = sight_by t3.me.0.own.knows;
+      strides = t3.me.0.own.gone;
+    }),
     ended.stands_is,
     calls s t3 n n (Releasing a R3) (moved_to s Rest) [] 0 is ended,
   )
@@ -81,33 +94,45 @@ carrying s q w = record { place = q; turn = s.me.0.own.knows.turn; hand = w ∷ 
 
 -- the first wait was taken out
 module _ (s t1 t2 t3 : Token) (n : Numbers) (a : Release) (w : WaitId) (is : IsToken s n) (x1 : Walked s (Releasing a R3) t1 (moved_to s (Releasing a R4)) [] 0)
-    (x2 : Walked t1 (Releasing a R4) t2 (taken_out t1 a w) (Leave a.counter w t1.me.0.own.number ∷ []) 0) (x3 : Walked t2 (Releasing a R6) t3 (moved_to t2 (unlocked t2 a)) [] 0) where
+    (x2 : Walked t1 (Releasing a R4) t2 (taken_out t1 a w) (Leave a.counter w t1.me.0.own.number ∷ []) 0)
+    (x3 : Walked t2 (Releasing a R6) t3 (moved_to t2 (unlocked t2 a)) [] 0) where
   abbrev left_it : List Entry
   left_it = Leave a.counter w t1.me.0.own.number ∷ []
 
-  abbrev out : Walked s (Releasing a R3) t2 (record { place = Releasing a R6; turn = s.me.0.own.knows.turn; hand = s.me.0.own.knows.hand ++ w ∷ [] }) left_it 0
-  out = walked_via s t1 t2 (Releasing a R3) (moved_to s (Releasing a R4)) (λ y. record { place = Releasing a R6; turn = y.turn; hand = y.hand ++ w ∷ [] }) [] left_it 0 0 x1 x2
+  abbrev out : Walked s (Releasing a R3) t2 (record { place = Releasing a R6; turn = s.me.0.own.knows.turn; hand = s.me.0.own.knows.hand ++ w ∷ [] })
+      left_it 0
+  out =
+      walked_via s t1 t2 (Releasing a R3) (moved_to s (Releasing a R4))
+      (λ y. record { place = Releasing a R6; turn = y.turn; hand = y.hand ++ w ∷ [] }) [] left_it 0 0 x1 x2
 
   pub carried : Walked s (Releasing a R3) t3 (carrying s (trying a) w) (Leave a.counter w t1.me.0.own.number ∷ []) 0
-  carried = subst (λ (l : List WaitId). Walked s (Releasing a R3) t3 (record { place = by_first (l ++ w ∷ []) Rest (λ v. trying a); turn = s.me.0.own.knows.turn; hand = l ++ w ∷ [] }) left_it 0) is.empty
-      (walked_via s t2 t3 (Releasing a R3) (record { place = Releasing a R6; turn = s.me.0.own.knows.turn; hand = s.me.0.own.knows.hand ++ w ∷ [] }) (λ y. record y { place = by_first y.hand Rest (λ v. trying a) }) left_it [] 0 0 out x3)
+  carried =
+      subst (λ (l : List WaitId). Walked s (Releasing a R3) t3
+      (record { place = by_first (l ++ w ∷ []) Rest (λ v. trying a); turn = s.me.0.own.knows.turn; hand = l ++ w ∷ [] }) left_it 0) is.empty
+      (walked_via s t2 t3 (Releasing a R3) (record { place = Releasing a R6; turn = s.me.0.own.knows.turn; hand = s.me.0.own.knows.hand ++ w ∷ [] })
+      (λ y. record y { place = by_first y.hand Rest (λ v. trying a) }) left_it [] 0 0 out x3)
 
 -- and granted
 module _ (s t1 t3 t4 t5 : Token) (n : Numbers) (a : Release) (w : WaitId) (handed : Bool) (is : IsToken s n) (own : t1.me.0.own.number ≡ s.me.0.own.number)
-    (x3 : Walked s (Releasing a R3) t3 (carrying s (trying a) w) (Leave a.counter w t1.me.0.own.number ∷ []) 0) (x4 : Walked t3 (trying a) t4 (moved_to t3 (granting a handed)) (taken_for a w handed) 0) where
+    (x3 : Walked s (Releasing a R3) t3 (carrying s (trying a) w) (Leave a.counter w t1.me.0.own.number ∷ []) 0)
+    (x4 : Walked t3 (trying a) t4 (moved_to t3 (granting a handed)) (taken_for a w handed) 0) where
   abbrev told : List Entry
   told = Leave a.counter w t1.me.0.own.number ∷ taken_for a w handed
 
   abbrev pub settled : Walked s (Releasing a R3) t4 (carrying s (granting a handed) w) (Leave a.counter w t1.me.0.own.number ∷ taken_for a w handed) 0
-  settled = walked_via s t3 t4 (Releasing a R3) (carrying s (trying a) w) (λ y. record y { place = granting a handed }) (Leave a.counter w t1.me.0.own.number ∷ []) (taken_for a w handed) 0 0 x3 x4
+  settled = walked_via s t3 t4 (Releasing a R3) (carrying s (trying a) w) (λ y. record y { place = granting a handed })
+      (Leave a.counter w t1.me.0.own.number ∷ []) (taken_for a w handed) 0 0 x3 x4
 
   pub none_added : (b : Bool) → added_by s.me.0.own.number (Leave a.counter w t1.me.0.own.number ∷ taken_for a w b) ≡ 0
   none_added true = refl
   none_added false = refl
 
   module _ (x5 : Granted t4 (granting a handed) t5) (bare : t5.me.1 ≡ []) where
-    abbrev all_ended : Walked s (Releasing a R3) t5 (record { place = Rest; turn = t4.me.0.own.knows.turn; hand = drop 1 t4.me.0.own.knows.hand }) (told ++ []) 0
-    all_ended = walked_on s t4 t5 (Releasing a R3) (carrying s (granting a handed) w) (record { place = Rest; turn = t4.me.0.own.knows.turn; hand = drop 1 t4.me.0.own.knows.hand }) told [] 0 0 settled x5.walked
+    abbrev all_ended : Walked s (Releasing a R3) t5 (record { place = Rest; turn = t4.me.0.own.knows.turn; hand = drop 1 t4.me.0.own.knows.hand }) (told ++ [])
+        0
+    all_ended =
+        walked_on s t4 t5 (Releasing a R3) (carrying s (granting a handed) w)
+        (record { place = Rest; turn = t4.me.0.own.knows.turn; hand = drop 1 t4.me.0.own.knows.hand }) told [] 0 0 settled x5.walked
 
     hand_is : t4.me.0.own.knows.hand ≡ w ∷ []
     hand_is = ap (λ (y : SeatState). y.hand) settled.stands_is
@@ -117,31 +142,51 @@ module _ (s t1 t3 t4 t5 : Token) (n : Numbers) (a : Release) (w : WaitId) (hande
 
     pub granted_seat : IsSeat t5 n
     granted_seat = record {
-      token_is = token_after s t5 (Releasing a R3) (record { place = Rest; turn = t4.me.0.own.knows.turn; hand = drop 1 t4.me.0.own.knows.hand }) (told ++ []) 0 n n is all_ended bare (ap (drop 1) hand_is)
+      token_is = token_after s t5 (Releasing a R3) (record { place = Rest; turn = t4.me.0.own.knows.turn; hand = drop 1 t4.me.0.own.knows.hand }) (told ++ [])
+          0 n n is all_ended bare (ap (drop 1) hand_is)
           (ap (λ (y : SeatState). y.turn) settled.stands_is ∙ is.turns_are) (let q = nothing_added in omega arith) refl (omega arith);
       free = ap (λ (q : SeatState). is_free q.place) all_ended.stands_is;
       counted = all_ended.counted refl;
     }
 
     pub same_seat : seat_of t5 n ≡ record (seat_of s n) { sight = sight_by t5.me.0.own.knows; strides = t5.me.0.own.gone }
-    same_seat = λ i. record { table = all_ended.table_is i; number = n.seat; left = n.left; taken = n.taken; sight = sight_by t5.me.0.own.knows; strides = t5.me.0.own.gone }
+    same_seat =
+        λ i. record {
+          table = all_ended.table_is i;
+          number = n.seat;
+          left = n.left;
+          taken = n.taken;
+          sight = sight_by t5.me.0.own.knows;
+          strides = t5.me.0.own.gone;
+        }
 
     pub at_rest : ComesTo (seat_of s n) Rest (seat_of t5 n)
     at_rest = all_ended.stands_is ∙ (λ i. record { place = Rest; turn = (settled.stands_is i).turn; hand = (ap (drop 1) hand_is ∙ sym is.empty) i })
 
-    pub last_granted : CallsGrant (seat_of s n) (Releasing a R3) (seat_of t5 n) (Leave a.counter w n.seat ∷ taken_for a w handed) (granting a handed) w (grant_of handed)
-    last_granted = subst (λ i. CallsGrant (seat_of s n) (Releasing a R3) (seat_of t5 n) (Leave a.counter w i ∷ taken_for a w handed) (granting a handed) w (grant_of handed)) (own ∙ is.number_is)
+    pub last_granted : CallsGrant (seat_of s n) (Releasing a R3) (seat_of t5 n)
+        (Leave a.counter w n.seat ∷ taken_for a w handed) (granting a handed) w (grant_of handed)
+    last_granted =
+        subst (λ i. CallsGrant (seat_of s n) (Releasing a R3) (seat_of t5 n) (Leave a.counter w i ∷ taken_for a w handed) (granting a handed) w
+        (grant_of handed)) (own ∙ is.number_is)
         (subst (λ l. CallsGrant (seat_of s n) (Releasing a R3) (seat_of t5 n) l (granting a handed) w (grant_of handed)) (append-nil told)
-        (calls_grant s t5 n n (Releasing a R3) (record { place = Rest; turn = t4.me.0.own.knows.turn; hand = drop 1 t4.me.0.own.knows.hand }) (told ++ []) 0 settled.strides x5.stride a handed t4.me.0.own.knows.turn w is all_ended
-        (ap (λ l. settled.strides ++ l) x5.strides_are) x5.did (x5.stood ∙ (λ i. record { place = granting a handed; turn = t4.me.0.own.knows.turn; hand = hand_is i }))))
+        (calls_grant s t5 n n (Releasing a R3) (record { place = Rest; turn = t4.me.0.own.knows.turn; hand = drop 1 t4.me.0.own.knows.hand }) (told ++ [])
+        0 settled.strides x5.stride a handed t4.me.0.own.knows.turn w is all_ended
+        (ap (λ l. settled.strides ++ l) x5.strides_are) x5.did
+        (x5.stood ∙ (λ i. record { place = granting a handed; turn = t4.me.0.own.knows.turn; hand = hand_is i }))))
 
 -- what a caller is told of it
-module _ (s t : Token) (n : Numbers) (a : Release) (w : WaitId) (handed : Bool) (last : CallsGrant (seat_of s n) (Releasing a R3) (seat_of t n) (Leave a.counter w n.seat ∷ taken_for a w handed) (granting a handed) w (grant_of handed)) where
+module _ (s t : Token) (n : Numbers) (a : Release) (w : WaitId) (handed : Bool)
+    (last : CallsGrant (seat_of s n) (Releasing a R3) (seat_of t n) (Leave a.counter w n.seat ∷ taken_for a w handed)
+    (granting a handed) w (grant_of handed)) where
   pub wakes_one : handed ≡ false → Wakes (seat_of s n) a (seat_of t n) (One w)
-  wakes_one e = subst (λ b. CallsGrant (seat_of s n) (Releasing a R3) (seat_of t n) (Leave a.counter w n.seat ∷ taken_for a w b) (granting a b) w (grant_of b)) e last
+  wakes_one e =
+      subst (λ b. CallsGrant (seat_of s n) (Releasing a R3) (seat_of t n) (Leave a.counter w n.seat ∷ taken_for a w b) (granting a b) w (grant_of b)) e last
 
   pub wakes_handed : handed ≡ true → a.handoff ≡ true → Wakes (seat_of s n) a (seat_of t n) (Handed w)
-  wakes_handed e asked = (asked, subst (λ b. CallsGrant (seat_of s n) (Releasing a R3) (seat_of t n) (Leave a.counter w n.seat ∷ taken_for a w b) (granting a b) w (grant_of b)) e last)
+  wakes_handed e asked = (
+    asked,
+    subst (λ b. CallsGrant (seat_of s n) (Releasing a R3) (seat_of t n) (Leave a.counter w n.seat ∷ taken_for a w b) (granting a b) w (grant_of b)) e last,
+  )
 
 -- R4, and R5 where the counter has a wait
 module _ (z : TableModel) (s t : Token) (a : Release) (before : Stands z s (Releasing a R4)) where
@@ -154,45 +199,58 @@ module _ (z : TableModel) (s t : Token) (a : Release) (before : Stands z s (Rele
     sought_counter (w ∷ l) = refl
 
     pub stands_sought : Stands z t (sought t a)
-    stands_sought = stands_on z s t (Releasing a R4) (moved_to s (sought t a)) [] 0 before x refl (sought_counter (lists_by t.me.0.own.knows.setting t.me.0.own.knows.seen a.counter))
+    stands_sought = stands_on z s t (Releasing a R4) (moved_to s (sought t a)) [] 0 before x refl
+        (sought_counter (lists_by t.me.0.own.knows.setting t.me.0.own.knows.seen a.counter))
 
     module _ (u : Token) where
-      out_after : (w : WaitId) → Walked t (Releasing a R5) u (taken_out t a w) (Leave a.counter w t.me.0.own.number ∷ []) 0 → t.me.0.own.knows.place ≡ Releasing a R5
+      out_after : (w : WaitId) → Walked t (Releasing a R5) u (taken_out t a w) (Leave a.counter w t.me.0.own.number ∷ []) 0
+          → t.me.0.own.knows.place ≡ Releasing a R5
           → Walked s (Releasing a R4) u (taken_out s a w) (Leave a.counter w s.me.0.own.number ∷ []) 0
       out_after w y at = subst (λ i. Walked s (Releasing a R4) u (taken_out s a w) (Leave a.counter w i ∷ []) 0) x.number_is
-          (walked_via s t u (Releasing a R4) (moved_to s (sought t a)) (λ q. record { place = Releasing a R6; turn = q.turn; hand = q.hand ++ w ∷ [] }) [] (Leave a.counter w t.me.0.own.number ∷ []) 0 0 x
-          (subst (λ q. Walked t q u (taken_out t a w) (Leave a.counter w t.me.0.own.number ∷ []) 0) (sym at ∙ ap (λ (y : SeatState). y.place) x.stands_is) y))
+          (walked_via s t u (Releasing a R4) (moved_to s (sought t a)) (λ q. record { place = Releasing a R6; turn = q.turn; hand = q.hand ++ w ∷ [] })
+          [] (Leave a.counter w t.me.0.own.number ∷ []) 0 0 x
+          (subst (λ q. Walked t q u (taken_out t a w) (Leave a.counter w t.me.0.own.number ∷ []) 0)
+          (sym at ∙ ap (λ (y : SeatState). y.place) x.stands_is) y))
 
       pub first_out : (found : Option WaitId)
-          → IfSome found (λ w. Walked t (Releasing a R5) u (taken_out t a w) (Leave a.counter w t.me.0.own.number ∷ []) 0 × (t.me.0.own.knows.place ≡ Releasing a R5) × (w.seat < z.setting.seats))
+          → IfSome found (λ w. Walked t (Releasing a R5) u (taken_out t a w) (Leave a.counter w t.me.0.own.number ∷ []) 0
+          × (t.me.0.own.knows.place ≡ Releasing a R5) × (w.seat < z.setting.seats))
           → IfSome found (λ w. Walked s (Releasing a R4) u (taken_out s a w) (Leave a.counter w s.me.0.own.number ∷ []) 0 × (w.seat < z.setting.seats))
       first_out (Some w) h = (out_after w h.0 h.1, h.2)
       first_out None h = h
 
-      none_after : (t.me.0.own.knows.place ≡ Releasing a R6) → (u.table_id ≡ t.table_id) → (u.me.0 ≡ t.me.0) → Walked s (Releasing a R4) u (moved_to s (Releasing a R6)) [] 0
+      none_after : (t.me.0.own.knows.place ≡ Releasing a R6) → (u.table_id ≡ t.table_id) → (u.me.0 ≡ t.me.0)
+          → Walked s (Releasing a R4) u (moved_to s (Releasing a R6)) [] 0
       none_after at same view = record {
         table_is = (λ i. record { id = same i; setting = (view i).own.knows.setting }) ∙ x.table_is;
         number_is = ap (λ (v : SemaView). v.own.number) view ∙ x.number_is;
-        stands_is = ap (λ (v : SemaView). stands_by v.own.knows) view ∙ x.stands_is ∙ ap (moved_to s) (sym (ap (λ (y : SeatState). y.place) x.stands_is) ∙ at);
+        stands_is =
+            ap (λ (v : SemaView). stands_by v.own.knows) view ∙ x.stands_is ∙ ap (moved_to s) (sym (ap (λ (y : SeatState). y.place) x.stands_is) ∙ at);
         few = subst (λ (v : SemaView). v.own.knows.turn ≤ 2 ^ 48 + 256) (sym view) x.few;
         came = ap (λ (v : SemaView). v.own.knows.taken) view ∙ x.came;
         most = subst (λ (v : SemaView). v.own.knows.taken ≤ 2 ^ 49) (sym view) x.most;
         counted = λ free. not_both false refl free;
         strides = x.strides;
         each = x.each;
-        path = subst (λ (v : SemaView). SemaPath (layout s.me.0.own.knows.setting) s.me.0.own.number (placed (Releasing a R4) (sight_by s.me.0.own.knows)) x.strides (sight_by v.own.knows)) (sym view) x.path;
+        path =
+            subst (λ (v : SemaView). SemaPath (layout s.me.0.own.knows.setting) s.me.0.own.number (placed (Releasing a R4) (sight_by s.me.0.own.knows))
+            x.strides (sight_by v.own.knows)) (sym view) x.path;
         all = ap (λ (v : SemaView). v.own.gone) view ∙ x.all;
         told_is = x.told_is;
       }
 
-      pub first_none : (found : Option WaitId) → IfNone found ((t.me.0.own.knows.place ≡ Releasing a R6) × (u.table_id ≡ t.table_id) × (u.me.0 ≡ t.me.0)) → IfNone found (Walked s (Releasing a R4) u (moved_to s (Releasing a R6)) [] 0)
+      pub first_none : (found : Option WaitId)
+          → IfNone found ((t.me.0.own.knows.place ≡ Releasing a R6) × (u.table_id ≡ t.table_id) × (u.me.0 ≡ t.me.0))
+          → IfNone found (Walked s (Releasing a R4) u (moved_to s (Releasing a R6)) [] 0)
       first_none (Some w) h = h
       first_none None h = none_after h.0 h.1 h.2
 
       pub stands_out : (found : Option WaitId)
-          → IfSome found (λ w. Walked t (Releasing a R5) u (taken_out t a w) (Leave a.counter w t.me.0.own.number ∷ []) 0 × (t.me.0.own.knows.place ≡ Releasing a R5) × (w.seat < z.setting.seats))
+          → IfSome found (λ w. Walked t (Releasing a R5) u (taken_out t a w) (Leave a.counter w t.me.0.own.number ∷ []) 0
+          × (t.me.0.own.knows.place ≡ Releasing a R5) × (w.seat < z.setting.seats))
           → IfNone found ((t.me.0.own.knows.place ≡ Releasing a R6) × (u.table_id ≡ t.table_id) × (u.me.0 ≡ t.me.0)) → Stands z u (Releasing a R6)
-      stands_out (Some w) h k = stands_on z s u (Releasing a R4) (taken_out s a w) (Leave a.counter w s.me.0.own.number ∷ []) 0 before (out_after w h.0 h.1) refl refl
+      stands_out (Some w) h k =
+          stands_on z s u (Releasing a R4) (taken_out s a w) (Leave a.counter w s.me.0.own.number ∷ []) 0 before (out_after w h.0 h.1) refl refl
       stands_out None h k = stands_on z s u (Releasing a R4) (moved_to s (Releasing a R6)) [] 0 before (none_after k.0 k.1 k.2) refl refl
 
 pub trying_counter : (r : Release) → counter_at (trying r) ≡ r.counter

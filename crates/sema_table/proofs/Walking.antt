@@ -1,5 +1,6 @@
 -- Rows one after the other, and what they leave of a token.
-use Rattle.std.proofs.Common.{◌≡◌, ℕ, ◌+◌, ◌^◌, ◌≤◌, true, false, List, [], ◌∷◌, ◌++◌, sym, refl, ap, ◌∙◌, subst, arith, append-nil, append_assoc}
+use Rattle.std.proofs.Common.{◌≡◌, ℕ, ◌+◌, ◌^◌, ◌≤◌, true, false, List, [], ◌∷◌, ◌++◌, sym, refl, ap, ◌∙◌, subst, arith}
+use Rattle.std.proofs.Common.{append-nil, append_assoc}
 use Rattle.std.proofs.lemmas.List.Elements.{All-nil, All-cons, All-append}
 use Rattle.step_table.specs.declared.entry.Entry.{Entry}
 use Rattle.step_table.specs.declared.place.Place.{Place}
@@ -34,8 +35,10 @@ told_append [] b = refl
 told_append (p ∷ a) b = ap (λ l. p.told ++ l) (told_append a b) ∙ sym (append_assoc p.told (all_told a) (all_told b))
 
 -- one stride, from this place
-abbrev pub walked_by : (s t : Token) (from : Place) (deed : Deed Word) (n : ℕ) (stands : SeatState) (told : List Entry) (gained : ℕ) → (r : Strode (begin from) deed s.me.0.own n t.me.0.own)
-    → gains_by deed from stands.place ≡ gained → t.table_id ≡ s.table_id → stands_by t.me.0.own.knows ≡ stands → r.stride.told ≡ told → Went (λ p. p.deed ≡ deed) s from t stands told gained
+abbrev pub walked_by : (s t : Token) (from : Place) (deed : Deed Word) (n : ℕ) (stands : SeatState) (told : List Entry) (gained : ℕ)
+    → (r : Strode (begin from) deed s.me.0.own n t.me.0.own)
+    → gains_by deed from stands.place ≡ gained → t.table_id ≡ s.table_id → stands_by t.me.0.own.knows ≡ stands → r.stride.told ≡ told
+    → Went (λ p. p.deed ≡ deed) s from t stands told gained
 walked_by s t from deed n stands told gained r come same at entries = record {
   table_is = λ i. record { id = same i; setting = r.same.1 i };
   number_is = r.same.0;
@@ -46,18 +49,23 @@ walked_by s t from deed n stands told gained r come same at entries = record {
   counted = λ free. ap (λ k. takes k t.me.0.own.knows.seen) r.same.0 ∙ r.also.counted (ap (λ (q : SeatState). is_free q.place) at ∙ free);
   strides = r.stride ∷ [];
   each = All-cons (λ (p : SemaStride). p.deed ≡ deed) r.stride [] r.did (All-nil (λ (p : SemaStride). p.deed ≡ deed));
-  path = ((the_sema_paths.paths (layout s.me.0.own.knows.setting)).single s.me.0.own.number (placed from (sight_by s.me.0.own.knows)) (sight_by t.me.0.own.knows) r.stride).0 r.ran;
+  path = ((the_sema_paths.paths (layout s.me.0.own.knows.setting)).single s.me.0.own.number (placed from (sight_by s.me.0.own.knows))
+      (sight_by t.me.0.own.knows) r.stride).0 r.ran;
   all = r.one;
   told_is = append-nil r.stride.told ∙ entries;
 }
 
 -- one row that went on so
-abbrev pub walked_row : (s t : Token) (from : Place) (n : ℕ) (next : Next) (r : Ran (begin from) s.me.0.own n t.me.0.own) → Goes s.me.0.own r.stride next t.me.0.own
+abbrev pub walked_row : (s t : Token) (from : Place) (n : ℕ) (next : Next) (r : Ran (begin from) s.me.0.own n t.me.0.own)
+    → Goes s.me.0.own r.stride next t.me.0.own
     → t.table_id ≡ s.table_id → Walked s from t (seat_after next.1 next.0 (stands_by s.me.0.own.knows)) (entries_of next.1) (gains from next.0)
-walked_row s t from n next r g same = walked_by s t from runs n (seat_after next.1 next.0 (stands_by s.me.0.own.knows)) (entries_of next.1) (gains from next.0) r refl same g.stands g.told
+walked_row s t from n next r g same =
+    walked_by s t from runs n (seat_after next.1 next.0 (stands_by s.me.0.own.knows)) (entries_of next.1) (gains from next.0) r refl same g.stands g.told
 
 -- no row
-abbrev pub walked_none : (s : Token) (from : Place) → s.me.0.own.knows.place ≡ from → s.me.0.own.knows.turn ≤ 2 ^ 48 + 256 → s.me.0.own.knows.taken ≤ 2 ^ 49 → (is_free s.me.0.own.knows.place ≡ true → takes s.me.0.own.number s.me.0.own.knows.seen ≡ s.me.0.own.knows.taken) → Walked s from s (stands_by s.me.0.own.knows) [] 0
+abbrev pub walked_none : (s : Token) (from : Place) → s.me.0.own.knows.place ≡ from → s.me.0.own.knows.turn ≤ 2 ^ 48 + 256
+    → s.me.0.own.knows.taken ≤ 2 ^ 49 → (is_free s.me.0.own.knows.place ≡ true → takes s.me.0.own.number s.me.0.own.knows.seen
+    ≡ s.me.0.own.knows.taken) → Walked s from s (stands_by s.me.0.own.knows) [] 0
 walked_none s from at few most counted = record {
   table_is = refl;
   number_is = refl;
@@ -74,7 +82,8 @@ walked_none s from at few most counted = record {
 }
 
 -- rows after rows
-abbrev pub walked_on : (s t u : Token) (from : Place) (a b : SeatState) (told more : List Entry) (j k : ℕ) → Walked s from t a told j → Walked t a.place u b more k → Walked s from u b (told ++ more) (j + k)
+abbrev pub walked_on : (s t u : Token) (from : Place) (a b : SeatState) (told more : List Entry) (j k : ℕ) → Walked s from t a told j
+    → Walked t a.place u b more k → Walked s from u b (told ++ more) (j + k)
 walked_on s t u from a b told more j k x y = record {
   table_is = y.table_is ∙ x.table_is;
   number_is = y.number_is ∙ x.number_is;
@@ -85,7 +94,8 @@ walked_on s t u from a b told more j k x y = record {
   counted = y.counted;
   strides = x.strides ++ y.strides;
   each = All-append IsRow x.strides y.strides x.each y.each;
-  path = (the_sema_paths.paths (layout s.me.0.own.knows.setting)).joined s.me.0.own.number (placed from (sight_by s.me.0.own.knows)) (sight_by t.me.0.own.knows) (sight_by u.me.0.own.knows) x.strides y.strides x.path
+  path = (the_sema_paths.paths (layout s.me.0.own.knows.setting)).joined s.me.0.own.number (placed from (sight_by s.me.0.own.knows)) (sight_by t.me.0.own.knows)
+      (sight_by u.me.0.own.knows) x.strides y.strides x.path
       (subst (λ (q : Setting × (ℕ × SemaSight)). SemaPath (layout q.0) q.1.0 q.1.1 y.strides (sight_by u.me.0.own.knows))
       (λ i. ((x.table_is i).setting, (x.number_is i, record { stands = stays i; seen = t.me.0.own.knows.seen })))
       y.path);
@@ -106,7 +116,8 @@ walked_adds s t from a told j x =
     ∙ added_append k (own_entries (semaphores m) k s.me.0.own.knows.seen) (own_entries (semaphores m) k (all_told x.strides))
     ∙ (λ i. own_only k s.me.0.own.knows.seen i + own_only k (x.told_is i) i)
 
-pub stands_on : (z : TableModel) (s t : Token) (from : Place) (a : SeatState) (told : List Entry) (j : ℕ) → Stands z s from → Walked s from t a told j → added_by s.me.0.own.number told ≡ 0
+pub stands_on : (z : TableModel) (s t : Token) (from : Place) (a : SeatState) (told : List Entry) (j : ℕ) → Stands z s from → Walked s from t a told j
+    → added_by s.me.0.own.number told ≡ 0
     → counter_at a.place ≡ counter_at from → Stands z t a.place
 stands_on z s t from a told j x y none same = record {
   table_is = y.table_is ∙ x.table_is;
@@ -118,8 +129,10 @@ stands_on z s t from a told j x y none same = record {
 }
 
 -- a token after rows that added so much
-pub token_after : {IsOne : SemaStride → Type 0} (s t : Token) (from : Place) (a : SeatState) (told : List Entry) (j : ℕ) (n k : Numbers) → IsToken s n → Went IsOne s from t a told j
-    → t.me.1 ≡ [] → a.hand ≡ [] → a.turn ≡ k.turns → k.left + added_by s.me.0.own.number told ≡ n.left → k.seat ≡ n.seat → k.taken ≡ n.taken + j → IsToken t k
+pub token_after : {IsOne : SemaStride → Type 0} (s t : Token) (from : Place) (a : SeatState) (told : List Entry) (j : ℕ) (n k : Numbers)
+    → IsToken s n → Went IsOne s from t a told j
+    → t.me.1 ≡ [] → a.hand ≡ [] → a.turn ≡ k.turns → k.left + added_by s.me.0.own.number told ≡ n.left → k.seat ≡ n.seat
+    → k.taken ≡ n.taken + j → IsToken t k
 token_after s t from a told j n k is x bare empty turned less same more = record {
   bare = bare;
   number_is = x.number_is ∙ is.number_is ∙ sym same;
@@ -139,18 +152,23 @@ pub added_few : (s : Token) (n : Numbers) (k : ℕ) → IsToken s n → k ≤ n.
 added_few s n k is h = let l = is.left_is in let m = is.limited in omega arith
 
 -- the row at which the seat stands
-abbrev pub ran_from : (s t : Token) (from : Place) (n : ℕ) → s.me.0.own.knows.place ≡ from → Ran here s.me.0.own n t.me.0.own → Ran (begin from) s.me.0.own n t.me.0.own
+abbrev pub ran_from : (s t : Token) (from : Place) (n : ℕ) → s.me.0.own.knows.place ≡ from → Ran here s.me.0.own n t.me.0.own
+    → Ran (begin from) s.me.0.own n t.me.0.own
 ran_from s t from n at = ran_at s.me.0.own t.me.0.own from n at
 
 -- rows after rows, by what they make of how the seat stands
-abbrev pub walked_via : (s t u : Token) (from : Place) (a : SeatState) (to : SeatState → SeatState) (told more : List Entry) (j k : ℕ) → Walked s from t a told j → Walked t a.place u (to (stands_by t.me.0.own.knows)) more k
+abbrev pub walked_via : (s t u : Token) (from : Place) (a : SeatState) (to : SeatState → SeatState) (told more : List Entry) (j k : ℕ)
+    → Walked s from t a told j → Walked t a.place u (to (stands_by t.me.0.own.knows)) more k
     → Walked s from u (to a) (told ++ more) (j + k)
-walked_via s t u from a to told more j k x y = subst (λ (w : SeatState). Walked s from u (to w) (told ++ more) (j + k)) x.stands_is (walked_on s t u from a (to (stands_by t.me.0.own.knows)) told more j k x y)
+walked_via s t u from a to told more j k x y = subst (λ (w : SeatState). Walked s from u (to w) (told ++ more) (j + k)) x.stands_is
+    (walked_on s t u from a (to (stands_by t.me.0.own.knows)) told more j k x y)
 
 -- rows after rows that left all but the place
-abbrev pub walked_then : (s t u : Token) (from p q : Place) (told more : List Entry) (j k : ℕ) → Walked s from t (moved_to s p) told j → Walked t p u (moved_to t q) more k
+abbrev pub walked_then : (s t u : Token) (from p q : Place) (told more : List Entry) (j k : ℕ)
+    → Walked s from t (moved_to s p) told j → Walked t p u (moved_to t q) more k
     → Walked s from u (moved_to s q) (told ++ more) (j + k)
-walked_then s t u from p q told more j k x y = subst (λ (w : SeatState). Walked s from u (record w { place = q }) (told ++ more) (j + k)) x.stands_is (walked_on s t u from (moved_to s p) (moved_to t q) told more j k x y)
+walked_then s t u from p q told more j k x y = subst (λ (w : SeatState). Walked s from u (record w { place = q }) (told ++ more) (j + k)) x.stands_is
+    (walked_on s t u from (moved_to s p) (moved_to t q) told more j k x y)
 
 -- no row yet, in the middle of a call
 pub walked_yet : (z : TableModel) (s : Token) (p : Place) → is_free p ≡ false → Stands z s p → Walked s p s (moved_to s p) [] 0

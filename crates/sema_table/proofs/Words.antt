@@ -1,5 +1,6 @@
 -- Where words lie, and what a write changes.
-use Rattle.std.proofs.Common.{◌≡◌, ◌≢◌, ℕ, ◌+◌, ◌*◌, ◌<◌, false, Bool, true, List, length, drop, sym, refl, ap, ◌∙◌, arith, lt-ltb, le-ltb}
+use Rattle.std.proofs.Common.{◌≡◌, ◌≢◌, ℕ, ◌+◌, ◌*◌, ◌<◌, false, Bool, true, List, length, drop, sym, refl, ap, ◌∙◌, arith}
+use Rattle.std.proofs.Common.{lt-ltb, le-ltb}
 use native.Mathlib.Decide.{ℕ_discrete}
 use Rattle.std.proofs.Math.Nat.{mod-lt, mod-mod}
 use Rattle.waiters.specs.declared.wait.WaitId.{WaitId}
@@ -58,7 +59,8 @@ pub listed_agree : (e : Effect) (l k : ℕ → List WaitId) (c : ℕ) → l c �
 listed_agree (Tells (Queue d w lifo)) l k c same = by (ℕ_discrete c d)
   where
     by : Dec (c ≡ d) → put l d (insert_wait lifo w (l d)) c ≡ put k d (insert_wait lifo w (k d)) c
-    by (yes e) = ap (put l d (insert_wait lifo w (l d))) e ∙ put_here l d (insert_wait lifo w (l d)) ∙ ap (insert_wait lifo w) (ap l (sym e) ∙ same ∙ ap k e)
+    by (yes e) =
+        ap (put l d (insert_wait lifo w (l d))) e ∙ put_here l d (insert_wait lifo w (l d)) ∙ ap (insert_wait lifo w) (ap l (sym e) ∙ same ∙ ap k e)
         ∙ sym (put_here k d (insert_wait lifo w (k d))) ∙ ap (put k d (insert_wait lifo w (k d))) (sym e)
     by (no ne) = put_else l d (insert_wait lifo w (l d)) c ne ∙ same ∙ sym (put_else k d (insert_wait lifo w (k d)) c ne)
 listed_agree (Tells (Leave d w s)) l k c same = by (ℕ_discrete c d)
@@ -70,10 +72,12 @@ listed_agree (Tells (Leave d w s)) l k c same = by (ℕ_discrete c d)
 listed_agree _ l k c same = same
 
 -- a record depends on its root's lists alone
-pub same_record : (z : Setting) (r : ℕ) (treap : Treap) (l k : ℕ → List WaitId) → ((c : ℕ) → root z c ≡ r → k c ≡ l c) → IsRecord z r treap l → IsRecord z r treap k
+pub same_record : (z : Setting) (r : ℕ) (treap : Treap) (l k : ℕ → List WaitId) → ((c : ℕ) → root z c ≡ r → k c ≡ l c)
+    → IsRecord z r treap l → IsRecord z r treap k
 same_record z r treap l k same is = record {
   waits = λ c e. is.waits c e ∙ sym (same c e);
-  count = is.count ∙ total_same (length z.starts) (λ c. on (root z c) r (length (l c))) (λ c. on (root z c) r (length (k c))) (λ c h. by c (ℕ_discrete (root z c) r));
+  count = is.count ∙ total_same (length z.starts) (λ c. on (root z c) r (length (l c))) (λ c. on (root z c) r (length (k c)))
+      (λ c h. by c (ℕ_discrete (root z c) r));
   seats = is.seats;
   drawn = is.drawn;
 }
@@ -87,10 +91,19 @@ module _ (z : Setting) (some : 0 < z.roots) where
   pub written_word : (g : Words) (w u : Word) (x : ℕ) (l : ℕ → List WaitId) → IsThere z w → IsThere z u
       → (address z u ≡ address z w → found (root z) (record (written (root z) g w x) { lists = l }) u ≡ x)
       × (address z u ≢ address z w → found (root z) (record (written (root z) g w x) { lists = l }) u ≡ found (root z) g u)
-  written_word g (Counter c) (Counter d) x l a b = ((λ e. ap (put g.numbers c x) (omega arith) ∙ put_here g.numbers c x), (λ ne. put_else g.numbers c x d (λ q. ne (omega arith))))
-  written_word g (Lock c) (Lock d) x l a b = ((λ e. ap (put g.locks (root z c) x) (omega arith) ∙ put_here g.locks (root z c) x), (λ ne. put_else g.locks (root z c) x (root z d) (λ q. ne (omega arith))))
-  written_word g (Waiters c) (Waiters d) x l a b = ((λ e. ap (put g.waiters (root z c) x) (omega arith) ∙ put_here g.waiters (root z c) x), (λ ne. put_else g.waiters (root z c) x (root z d) (λ q. ne (omega arith))))
-  written_word g (Grant c) (Grant d) x l a b = ((λ e. ap (put g.grants c x) (omega arith) ∙ put_here g.grants c x), (λ ne. put_else g.grants c x d (λ q. ne (omega arith))))
+  written_word g (Counter c) (Counter d) x l a b =
+      ((λ e. ap (put g.numbers c x) (omega arith) ∙ put_here g.numbers c x), (λ ne. put_else g.numbers c x d (λ q. ne (omega arith))))
+  written_word g (Lock c) (Lock d) x l a b = (
+    (λ e. ap (put g.locks (root z c) x) (omega arith) ∙ put_here g.locks (root z c) x),
+    (λ ne. put_else g.locks (root z c) x (root z d) (λ q. ne (omega arith))),
+  )
+  written_word g (Waiters c) (Waiters d) x l a
+      b = (
+        (λ e. ap (put g.waiters (root z c) x) (omega arith) ∙ put_here g.waiters (root z c) x),
+        (λ ne. put_else g.waiters (root z c) x (root z d) (λ q. ne (omega arith))),
+      )
+  written_word g (Grant c) (Grant d) x l a b =
+      ((λ e. ap (put g.grants c x) (omega arith) ∙ put_here g.grants c x), (λ ne. put_else g.grants c x d (λ q. ne (omega arith))))
   written_word g (Counter c) (Lock d) x l a b = ((λ e. absurd (omega arith)), (λ ne. refl))
   written_word g (Counter c) (Waiters d) x l a b = ((λ e. absurd (omega arith)), (λ ne. refl))
   written_word g (Counter c) (Grant d) x l a b = ((λ e. absurd (omega arith)), (λ ne. refl))

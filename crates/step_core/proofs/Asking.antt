@@ -1,5 +1,6 @@
 -- What is asked for of a seat of a moment, whichever table it steps by, and what the machine answers for it.
-use Rattle.std.proofs.Common.{◌≡◌, ℕ, ◌+◌, ◌^◌, ◌<◌, [], Option, Some, None, Result, Ok, Err, IfOk, IfErr, OnOk, cond, length, refl, ap, sym, ◌∙◌, subst, arith}
+use Rattle.std.proofs.Common.{◌≡◌, ℕ, ◌+◌, ◌^◌, ◌<◌, [], Option, Some, None, Result, Ok, Err, IfOk, IfErr, OnOk, cond, length, refl, ap}
+use Rattle.std.proofs.Common.{sym, ◌∙◌, subst, arith}
 use Rattle.std.proofs.Common.{IsTrue, ◌↔◌, Bool, true, false}
 use Rattle.std.proofs.lemmas.Bool.{lt-ltb}
 use Rattle.step_table.specs.declared.place.Place.{Place}

@@ -1,4 +1,5 @@
 pub mod Changing
+pub mod Settling
 mod ListRanges
 pub mod Ranges
 mod Asking

@@ -1,5 +1,6 @@
 -- A step of a moment is a step of the run that it shows, with each journal behind it.
-use Rattle.std.proofs.Common.{◌≡◌, ◌≢◌, ℕ, zero, suc, ◌<◌, ◌≤◌, Bool, true, false, List, [], Some, None, Option, nat_lt, cond, length, refl, sym, ap, ◌∙◌}
+use Rattle.std.proofs.Common.{◌≡◌, ◌≢◌, ℕ, zero, suc, ◌<◌, ◌≤◌, Bool, true, false, List, [], Some, None, Option, nat_lt, cond, length}
+use Rattle.std.proofs.Common.{refl, sym, ap, ◌∙◌}
 use Rattle.std.proofs.Common.{subst, ltb-true}
 use Rattle.std.proofs.lemmas.Bool.{le-ltb}
 use Rattle.step_table.specs.declared.entry.Entry.{Entry}
@@ -146,7 +147,8 @@ module _ (parts : Parts) (i : ℕ) (h : Machine) (counts : List ℕ) where
   stays (AtGroup g row) awake = (refl, refl)
   stays (Failed misuse) awake = (refl, refl)
 
-  pub begins : (doing : Standing) → doing ≡ Rest → (k : Machine) (now : List ℕ) → HasBegun parts i h counts k now → GoesOn parts i h counts k now doing
+  pub begins : (doing : Standing) → doing ≡ Rest → (k : Machine) (now : List ℕ)
+      → HasBegun parts i h counts k now → GoesOn parts i h counts k now doing
   begins doing rest k now is = subst (GoesOn parts i h counts k now) (sym rest) is
 
   module _ (k : Machine) (now : List ℕ) where

@@ -1,5 +1,6 @@
 -- A seat begins its next call; and each in turn has begun its first, which is the start.
-use Rattle.std.proofs.Common.{◌≡◌, ℕ, zero, suc, ◌+◌, ◌^◌, ◌<◌, ◌≤◌, List, [], Option, Some, None, length, set, replicate, refl, sym, ap, ◌∙◌, subst, arith}
+use Rattle.std.proofs.Common.{◌≡◌, ℕ, zero, suc, ◌+◌, ◌^◌, ◌<◌, ◌≤◌, List, [], Option, Some, None, length, set, replicate, refl, sym}
+use Rattle.std.proofs.Common.{ap, ◌∙◌, subst, arith}
 use Rattle.std.proofs.Common.{length-set}
 use Rattle.std.proofs.lemmas.List.{length-replicate}
 use Rattle.step_table.specs.declared.call.Call.{Call}
@@ -13,7 +14,7 @@ use Rattle.step_table.specs.Run.{Run, layout, call_of, begun, all_begun}
 use Rattle.step_law_whole.specs.RunInvariant.{IsSoundRun, IsScenario, calls_of}
 use Rattle.step_law_alike.specs.declared.variant.Variant.{Variant}
 use Rattle.step_law_alike.specs.ChangedInvariant.{WaitersRaisedIn}
-use Rattle.step_law_alike.proofs.ChangedWaiters.{raised_first}
+use Rattle.step_law_alike.proofs.ChangedRaising.{raised_first}
 use Rattle.step_core.specs.State.{Machine, State, IsMachineFor, Becomes, HasBegun, MayBegin, IsSound, IsStarted, core_of, run_with}
 use Rattle.step_core.specs.WellFormed.{IsSoundBy}
 use Rattle.step_table.proofs.Sums.{put_else}

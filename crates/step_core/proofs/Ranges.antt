@@ -1,6 +1,7 @@
 -- What the rows of the whole machine ask for holds in each sound state: no sum wraps, each word and list is stored, and what
 -- a seat's call is on is there.
-use Rattle.std.proofs.Common.{◌≡◌, ℕ, ◌+◌, ◌^◌, ◌<◌, ◌≤◌, List, [], ◌∷◌, IfSome, Option, Some, None, length, slice_get, refl, sym, ap, ◌∙◌, subst, arith}
+use Rattle.std.proofs.Common.{◌≡◌, ℕ, ◌+◌, ◌^◌, ◌<◌, ◌≤◌, List, [], ◌∷◌, IfSome, Option, Some, None, length, slice_get, refl}
+use Rattle.std.proofs.Common.{sym, ap, ◌∙◌, subst, arith}
 use Rattle.waiters.specs.declared.wait.WaitId.{WaitId}
 use Rattle.step_rows.specs.declared.caller.Caller.{Caller}
 use Rattle.step_table.specs.declared.place.AcquireRow.TheVariants.{A7, P}
@@ -49,7 +50,8 @@ total_fewer : (n : ℕ) (f : ℕ → ℕ) (i : ℕ) → i < n → ((k : ℕ) →
 total_fewer n f i h most none =
     let rest = total_rest n f (λ k. 1) i h most in let all = total_most n 1 (λ k. 1) (λ k h. omega arith) in omega arith
 
-first_in_hand : (hand : List WaitId) (seats : ℕ) → ((w : WaitId) → 0 < times w hand → w.seat < seats) → IfSome (slice_get hand 0) (λ w. w.seat < seats)
+first_in_hand : (hand : List WaitId) (seats : ℕ) → ((w : WaitId) → 0 < times w hand → w.seat < seats)
+    → IfSome (slice_get hand 0) (λ w. w.seat < seats)
 first_in_hand [] seats all = tt
 first_in_hand (w ∷ hand) seats all = all w (let here = same_here w in omega arith)
 

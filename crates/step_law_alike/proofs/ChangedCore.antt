@@ -82,7 +82,8 @@ module _ (v : Variant) (m : CoreLayout) (s t : Core) (i : ℕ) (there : i < m.se
             (well_formed_list_moved (m.firsts l) m.seats i (t.lists l) there place good (inv.lists l)) (λ ne. inv.lists j);
         journals = record {
           semaphores = inv.journals.semaphores;
-          lists = λ j. put_at (λ j (w : ListWorld). w.journal ≡ list_entries j t.journal) t.lists l w j (inv.journals.lists l) (λ ne. inv.journals.lists j);
+          lists =
+              λ j. put_at (λ j (w : ListWorld). w.journal ≡ list_entries j t.journal) t.lists l w j (inv.journals.lists l) (λ ne. inv.journals.lists j);
         };
         standing = λ k.
             carry_good m t (changed v s t i (AtList l)) k (t.standing k) (as_good same) (list_goods t i l place good k) (inv.standing k);

@@ -10,7 +10,8 @@ use Rattle.step_table.specs.Counting.{total}
 use Rattle.step_law_semaphores.specs.Invariant.{hands_at, hands, awaits, asleep, owing, Finds, IsSeat}
 use Rattle.step_law_semaphores.specs.WellFormed.{IsWellFormedWorld}
 use Rattle.step_table.proofs.Sums.{put_at, total_same}
-use Rattle.step_law_semaphores.proofs.Lines.{Step, step_of}
+use Rattle.step_law_semaphores.proofs.Lines.{Step}
+use Rattle.step_law_semaphores.proofs.Cases.{step_of}
 use Rattle.step_law_semaphores.proofs.Locks.{locks_kept}
 use Rattle.step_law_semaphores.proofs.Placing.{placed_kept, seats_kept}
 use Rattle.step_law_semaphores.proofs.Finding.{finds_kept}

@@ -58,7 +58,8 @@ record Leaves (g h : ListWords) (held : ℕ) : Type 0 where
   granted : 0 < held → h.numbers.granted ≡ g.numbers.granted
   handed : g.numbers.handed ≤ h.numbers.handed
 
-leaves_row : (first : ℕ) {i : ℕ} {g h : ListWords} {p q : ListSeat} {e : ListEffect} → Row i g p q h e → (held : ℕ) → (0 < holds p.place → held ≡ 0)
+leaves_row : (first : ℕ) {i : ℕ} {g h : ListWords} {p q : ListSeat} {e : ListEffect} → Row i g p q h e
+    → (held : ℕ) → (0 < holds p.place → held ≡ 0)
     → Leaves g h held
 leaves_row first n1 held alone = record { notify = λ some. refl; granted = λ some. refl; handed = omega arith }
 leaves_row first o7 held alone =
@@ -146,7 +147,8 @@ well_formed_list_first first seats =
       seats_known = λ k there. record { fits = refl; only = tt; reads = tt };
     }
 
-pub well_formed_list_kept : (first seats i : ℕ) (s t : ListWorld) → i < seats → IsWellFormedList first seats s → ListStep s i t → IsWellFormedList first seats t
+pub well_formed_list_kept : (first seats i : ℕ) (s t : ListWorld) → i < seats → IsWellFormedList first seats s
+    → ListStep s i t → IsWellFormedList first seats t
 well_formed_list_kept first seats i s t in_range inv step =
     let mine = inv.seats_known i in_range in kept_by first seats i s t in_range inv (step_of s t i mine.fits mine.only step)
 

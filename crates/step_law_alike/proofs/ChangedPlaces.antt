@@ -66,7 +66,8 @@ pub record IsAsGood (p q : Place) : Type 0 where
   pub call : (m : CoreLayout) (after : After) → IsCallBefore m after p → IsCallBefore m after q
   pub rest : p ≡ on_counter.Rest → q ≡ on_counter.Rest
 
-call_at : (m : CoreLayout) (after : After) (a : Acquire) (row next : AcquireRow) → IsCallBefore m after (Acquiring a row) → IsCallBefore m after (Acquiring a next)
+call_at : (m : CoreLayout) (after : After) (a : Acquire) (row next : AcquireRow) → IsCallBefore m after (Acquiring a row)
+    → IsCallBefore m after (Acquiring a next)
 call_at m NextCall a row next is = ((λ e. cc), is.1)
 call_at m (LooksAgain g) a row next is = is
 call_at m (Releases g more) a row next is = is

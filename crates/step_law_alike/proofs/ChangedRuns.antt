@@ -22,7 +22,7 @@ use Rattle.step_law_whole.proofs.RunBeginning.{KeepsRuns}
 use Rattle.step_law_whole.proofs.RunStarting.{starts_so}
 use Rattle.step_law_whole.proofs.RunStepping.{is_there, can_run_at, steps_so}
 use Rattle.step_law_alike.proofs.ChangedPlaces.{IsAsGood, IsAsGoodOnList, as_good, as_good_on_list, changes, list_changes}
-use Rattle.step_law_alike.proofs.ChangedWaiters.{waiters_stepped}
+use Rattle.step_law_alike.proofs.ChangedRaising.{waiters_stepped}
 use Rattle.step_law_alike.proofs.ChangedCore.{well_formed_keep, well_formed_core_first, well_formed_changed, goods, list_goods}
 
 pub well_formed_runs : (parts : Parts) → KeepsRuns parts (IsWellFormedCore (layout parts))

@@ -11,6 +11,7 @@ pub mod ChangedBounding
 pub mod ChangedCounters
 pub mod ChangedLists
 pub mod ChangedWaiters
+pub mod ChangedRaising
 pub mod ChangedCore
 pub mod ChangedRuns
 pub mod ChangedAlike

@@ -21,7 +21,8 @@ use Rattle.step_law_ends.proofs.WaitsCounting.{calls_counted, rows_counted, firs
 abbrev pub IsEnding : CoreLayout → Core → Type 0
 IsEnding m s = IsCoreInvariant m s × WaitsCounted m s
 
-pub row_ends : (m : CoreLayout) (s : Core) (i : ℕ) → i < m.seats → IsEnding m s → IsTrue (can_run m s i (s.standing i)) → IsEnding m (core_turned m s i)
+pub row_ends : (m : CoreLayout) (s : Core) (i : ℕ) → i < m.seats → IsEnding m s
+    → IsTrue (can_run m s i (s.standing i)) → IsEnding m (core_turned m s i)
 row_ends m s i in_range ending can = (rows_keep m s i in_range ending.0 can, rows_counted m s i in_range ending.1)
 
 raised : (m : CoreLayout) (s t : Core) (i cost : ℕ) → i < m.seats → Called m s i cost t → core_weight m t ≤ core_weight m s + cost
@@ -30,7 +31,8 @@ raised m s t i cost in_range = by
     by : {cost : ℕ} {t : Core} → Called m s i cost t → core_weight m t ≤ core_weight m s + cost
     by (called call rests may) = calls_raise m i in_range s call
 
-lowered : (m : CoreLayout) (s t : Core) (i : ℕ) → i < m.seats → m.seats ≤ 9223372036854775808 → IsEnding m s → CoreRow m s i t → core_weight m t < core_weight m s
+lowered : (m : CoreLayout) (s t : Core) (i : ℕ) → i < m.seats → m.seats ≤ 9223372036854775808 → IsEnding m s
+    → CoreRow m s i t → core_weight m t < core_weight m s
 lowered m s t i in_range small ending row =
     subst (λ t. core_weight m t < core_weight m s) (sym row.1) (core_lowered m s i in_range small ending.0 ending.1 row.0)
 

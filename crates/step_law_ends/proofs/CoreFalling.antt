@@ -1,5 +1,6 @@
 -- Each row of the whole lowers its weight.
-use Rattle.std.proofs.Common.{◌≡◌, ℕ, ◌+◌, ◌-◌, ◌*◌, ◌<◌, ◌≤◌, ◌==◌, ◌&&◌, ◌||◌, not, if◌then◌else◌, Bool, true, false, cond, IsTrue, ℤ, pos, int_lt, int_eq}
+use Rattle.std.proofs.Common.{◌≡◌, ℕ, ◌+◌, ◌-◌, ◌*◌, ◌<◌, ◌≤◌, ◌==◌, ◌&&◌, ◌||◌, not, if◌then◌else◌, Bool, true}
+use Rattle.std.proofs.Common.{false, cond, IsTrue, ℤ, pos, int_lt, int_eq}
 use Rattle.std.proofs.Common.{refl, sym, ap, subst, arith}
 use Rattle.std.proofs.Math.Nat.{mul-le-mul_right}
 use Rattle.step_table.specs.declared.group_word.GroupWord.{GroupWord}
@@ -92,7 +93,8 @@ module _ (n g : ℕ) (groups : ℕ → GroupWord) (some : 0 < n) where
   group_falls (G3 seen) few = pays (omega arith)
   group_falls V1 few =
       either (GroupFalls n g groups V1 (groups g)) (int_eq (groups g).counter (pos 0)) _ _ (alone refl (omega arith))
-      (alone refl (let fresh : stale_word groups (AtGroup g (V2 (groups g))) ≡ 0 = ap (λ b. cond {A = ℕ} b 0 2) (same_itself (groups g) (groups g) refl) in omega arith))
+      (alone refl (let fresh : stale_word groups (AtGroup g (V2 (groups g))) ≡ 0 = ap (λ b. cond {A = ℕ} b 0 2) (same_itself (groups g) (groups g) refl) in
+      omega arith))
   group_falls (V2 seen) few = by (same_word seen (groups g)) refl
     where
       by : (b : Bool) → same_word seen (groups g) ≡ b

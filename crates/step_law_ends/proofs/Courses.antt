@@ -1,5 +1,6 @@
 -- What holds of courses of any world: no more rows than the weight at their start and the costs; and rows lead to an end.
-use Rattle.std.proofs.Common.{◌≡◌, ℕ, zero, suc, ◌+◌, ◌<◌, ◌≤◌, ◌⊎◌, Bool, true, false, IsTrue, inl, inr, refl, sym, ap, ◌∙◌, arith}
+use Rattle.std.proofs.Common.{◌≡◌, ℕ, zero, suc, ◌+◌, ◌<◌, ◌≤◌, ◌⊎◌, Bool, true, false, IsTrue, inl, inr, refl, sym, ap, ◌∙◌}
+use Rattle.std.proofs.Common.{arith}
 use native.Mathlib.Decide.{ℕ_discrete}
 use Rattle.step_law_ends.specs.Course.{Course, none, row, choice, Rows}
 
@@ -27,7 +28,8 @@ look can (suc n) = by (can n) refl (look can n)
     by false is (inr others) = inr (last is others)
 
 -- a row, and then more
-pub first : {World : Type 0} {Row : World → ℕ → World → Type 0} {Chosen : World → ℕ → ℕ → World → Type 0} {seats : ℕ} {s t u : World} {rows costs : ℕ}
+pub first : {World : Type 0} {Row : World → ℕ → World → Type 0} {Chosen : World → ℕ → ℕ → World → Type 0}
+    {seats : ℕ} {s t u : World} {rows costs : ℕ}
     (i : ℕ) → i < seats → Row s i t → Course Row Chosen seats t rows costs u → Course Row Chosen seats s (suc rows) costs u
 first i in_range x none = row i in_range none x
 first i in_range x (row k there before y) = row k there (first i in_range x before) y

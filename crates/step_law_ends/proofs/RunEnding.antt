@@ -1,5 +1,6 @@
 -- The law of the ends of a scenario's runs.
-use Rattle.std.proofs.Common.{◌≡◌, ◌⊎◌, ℕ, zero, suc, ◌+◌, ◌<◌, ◌≤◌, cond, Bool, true, false, IsTrue, List, [], ◌∷◌, length, drop, slice_get, Option, Some}
+use Rattle.std.proofs.Common.{◌≡◌, ◌⊎◌, ℕ, zero, suc, ◌+◌, ◌<◌, ◌≤◌, cond, Bool, true, false, IsTrue, List, [], ◌∷◌, length}
+use Rattle.std.proofs.Common.{drop, slice_get, Option, Some}
 use Rattle.std.proofs.Common.{None, refl, ap, ◌∙◌, inl, inr, lt-ltb, arith}
 use Rattle.step_table.specs.declared.call.Call.{Call}
 use Rattle.step_table.specs.declared.parts.Parts.{Parts}
@@ -167,7 +168,8 @@ module _ (parts : Parts) where
     end_within zero run sound few = absurd (omega arith)
     end_within (suc bound) run sound few = by (λ t held less. end_within bound t held less) (look (can_step run) seats)
       where
-        by : ((t : Run) → IsSoundRunOf Ending parts t → run_weight parts t < bound → Goes t) → SomeCan (can_step run) seats ⊎ NoneCan (can_step run) seats → Goes run
+        by : ((t : Run) → IsSoundRunOf Ending parts t → run_weight parts t < bound → Goes t) → SomeCan (can_step run) seats
+            ⊎ NoneCan (can_step run) seats → Goes run
         by goes (inl some) =
             let may_step = free run some.0 some.1 some.2 in
             let falls = less run some.0 sound may_step in

@@ -1,5 +1,6 @@
 -- Row by row: how a row of a seat changes what it weighs, and whether it writes a number, another's grant, or neither.
-use Rattle.std.proofs.Common.{◌≡◌, ℕ, zero, suc, ◌+◌, ◌-◌, ◌*◌, ◌<◌, ◌≢◌, ◌⊎◌, ◌==◌, ◌&&◌, if◌then◌else◌, nat_lt, Bool, true, false, IsTrue, eqb, cond, List}
+use Rattle.std.proofs.Common.{◌≡◌, ℕ, zero, suc, ◌+◌, ◌-◌, ◌*◌, ◌<◌, ◌≢◌, ◌⊎◌, ◌==◌, ◌&&◌, if◌then◌else◌}
+use Rattle.std.proofs.Common.{nat_lt, Bool, true, false, IsTrue, eqb, cond, List}
 use Rattle.std.proofs.Common.{[], ◌∷◌, length, refl, sym, ap, subst, inl, inr, eq-eqb, ltb-true, arith}
 use Rattle.std.proofs.lemmas.Bool.Decides.{eqb_tells}
 use Rattle.waiters.specs.declared.wait.WaitId.{WaitId}
@@ -79,7 +80,8 @@ module _ (m : Layout) (n i : ℕ) (some : 0 < n) (g : Words) where
       by (suc left) e = above_case left e
 
   -- a load of a waiter word, which leads on to one of two places
-  counted : (z : SeatState) (v : ℕ) (h : Words) (at_zero above : Place) → h.numbers ≡ g.numbers → h.grants ≡ g.grants → Less z at_zero → Less z above
+  counted : (z : SeatState) (v : ℕ) (h : Words) (at_zero above : Place) → h.numbers ≡ g.numbers
+      → h.grants ≡ g.grants → Less z at_zero → Less z above
       → Falls n i g z (record z { place = zero_or at_zero (λ left. above) v }) h
   counted z zero h at_zero above numbers grants zero_case above_case = alone numbers (λ k ne j. grants j k) (rw grants zero_case)
   counted z (suc v) h at_zero above numbers grants zero_case above_case = alone numbers (λ k ne j. grants j k) (rw grants above_case)
@@ -179,7 +181,8 @@ module _ (m : Layout) (n i : ℕ) (some : 0 < n) (g : Words) where
       looked (standing (Releasing r R7) t hand) r.counter (Releasing r R10) (λ left. Releasing r (R8 left)) (omega arith)
       (λ left e. let now = fresh left (g.numbers r.counter) e in omega arith)
   falls (Releasing r (R8 left)) t hand fits room granted can =
-      exchanged (standing (Releasing r (R8 left)) t hand) r.counter left (waiter i hand) (Releasing r R9) (Releasing r R7) refl (λ numbers. refl) (omega arith) (omega arith)
+      exchanged (standing (Releasing r (R8 left)) t hand) r.counter left (waiter i hand) (Releasing r R9) (Releasing r R7) refl
+      (λ numbers. refl) (omega arith) (omega arith)
   falls (Releasing r R9) t (w ∷ l) fits room granted can = wakes w l 2 refl (λ a u e. cc) refl refl refl (omega arith)
   falls (Releasing r R9) t [] fits room granted can = absurd (omega arith)
   falls (Releasing r R10) t (w ∷ l) fits room granted can = wakes w l 1 refl (λ a u e. cc) refl refl refl (omega arith)

@@ -1,5 +1,6 @@
 -- Each row of the semaphores lowers the weight, and a choice raises it by its cost at most.
-use Rattle.std.proofs.Common.{◌≡◌, ℕ, zero, suc, ◌+◌, ◌-◌, ◌*◌, ◌<◌, ◌≤◌, ◌≢◌, Bool, true, false, length, refl, sym, ap, ap₂, ◌∙◌, subst, arith, ◌==◌, cond}
+use Rattle.std.proofs.Common.{◌≡◌, ℕ, zero, suc, ◌+◌, ◌-◌, ◌*◌, ◌<◌, ◌≤◌, ◌≢◌, Bool, true, false, length, refl, sym, ap}
+use Rattle.std.proofs.Common.{ap₂, ◌∙◌, subst, arith, ◌==◌, cond}
 use Rattle.step_table.specs.declared.place.AcquireRow.TheVariants.{A2, A6, A11, P}
 use Rattle.step_table.specs.declared.place.ReleaseRow.TheVariants.{R8}
 use Rattle.step_table.specs.declared.place.Place.{Place}

@@ -1,5 +1,6 @@
 -- Waits, lists, held tickets and seats without the numbers of their tickets.
-use Rattle.std.proofs.Common.{◌≡◌, ℕ, ◌==◌, if◌then◌else◌, Bool, true, false, List, [], ◌∷◌, ◌++◌, length, suc, Option, Some, None, refl, ap}
+use Rattle.std.proofs.Common.{◌≡◌, ℕ, ◌==◌, if◌then◌else◌, Bool, true, false, List, [], ◌∷◌, ◌++◌, length, suc, Option, Some, None}
+use Rattle.std.proofs.Common.{refl, ap}
 use Rattle.waiters.specs.declared.wait.Wait.{Wait}
 use Rattle.waiters.specs.Lists.{first_with, without_first}
 use Rattle.step_table.specs.declared.list_place.AllRow.TheVariants.{L6, L7}

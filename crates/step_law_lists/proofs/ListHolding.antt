@@ -1,5 +1,6 @@
 -- Who may change which word of a notify list.
-use Rattle.std.proofs.Common.{◌≡◌, ◌⊎◌, ℕ, ◌+◌, ◌<◌, ◌≤◌, IsTrue, List, [], ◌∷◌, ◌++◌, refl, sym, ap, ◌∙◌, subst, inl, inr, eqb-true, arith}
+use Rattle.std.proofs.Common.{◌≡◌, ◌⊎◌, ℕ, ◌+◌, ◌<◌, ◌≤◌, IsTrue, List, [], ◌∷◌, ◌++◌, refl, sym, ap, ◌∙◌, subst}
+use Rattle.std.proofs.Common.{inl, inr, eqb-true, arith}
 use native.Mathlib.Decide.{ℕ_discrete}
 use Rattle.waiters.specs.declared.wait.Wait.{Wait}
 use Rattle.step_table.specs.declared.list_place.AllRow.TheVariants.{L1, L2, L3, L7, L8}
@@ -112,7 +113,8 @@ reads_grant i grants event takes some k = by (ℕ_discrete k i)
     by (no ne) = inl (put_else grants i 0 k ne)
 
 -- which word a row changes, where a seat that holds the lock finds 1 there
-changed : {i : ℕ} {g h : ListWords} {p q : ListSeat} {e : ListEffect} → Row i g p q h e → (j : List ListEntry) → holds p.place ≤ g.lock → g.lock ≤ 1
+changed : {i : ℕ} {g h : ListWords} {p q : ListSeat} {e : ListEffect} → Row i g p q h e → (j : List ListEntry)
+    → holds p.place ≤ g.lock → g.lock ≤ 1
     → Changes i (list_table i p g) j (journal_after i e j) g h
 changed n1 j held one = record { wait = inr (refl, refl); lock = inl refl; grants = λ k. inl refl }
 changed (w1 free) j held one = taken (_, refl) free

@@ -1,5 +1,6 @@
 -- What a path of a seat of a notify list tells by what was seen alone, since every reached world is lawful.
-use Rattle.std.proofs.Common.{◌≡◌, ◌≢◌, ℕ, ◌<◌, ◌≤◌, IsTrue, Some, None, List, ◌∷◌, [], ◌++◌, refl, sym, ap, ◌∙◌, subst, append-nil, cond, ne_eqb}
+use Rattle.std.proofs.Common.{◌≡◌, ◌≢◌, ℕ, ◌<◌, ◌≤◌, IsTrue, Some, None, List, ◌∷◌, [], ◌++◌, refl, sym, ap, ◌∙◌, subst}
+use Rattle.std.proofs.Common.{append-nil, cond, ne_eqb}
 use Rattle.std.proofs.lemmas.List.{append_cancel_left}
 use Rattle.std.proofs.lemmas.List.Elements.{filter-append}
 use Rattle.std.specs.List.{filter}
@@ -95,7 +96,8 @@ module _ (first seats : ℕ) (s : ListWorld) (i : ℕ) where
       → Meets (notify_list first seats) (moved s i Adding) i (placed Adding v)
   list_adds v in_range meets at_rest holds =
       stands_so v (λ z. record z { place = Adding })
-      (more i in_range meets.met (add (ap (λ (z : ListSeat). z.place) meets.stands ∙ at_rest) (ap (λ (z : ListSeat). z.ticket) meets.stands ∙ holds))) meets
+      (more i in_range meets.met (add (ap (λ (z : ListSeat). z.place) meets.stands ∙ at_rest) (ap (λ (z : ListSeat). z.ticket) meets.stands ∙ holds)))
+      meets
 
   pub list_waits : (v : ListSight) (t : Ticket) → i < seats → Meets (notify_list first seats) s i v
       → v.stands.place ≡ Rest → v.stands.ticket ≡ Some t

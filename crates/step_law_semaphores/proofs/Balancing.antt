@@ -102,7 +102,8 @@ balance_all x (e ∷ j) c all =
     let adds = added_first c e j in let takes_it = taken_first c e j in omega arith
 
 -- so it is in each lawful journal
-pub lawful_balanced : (start : Plain) (j : List Entry) (c : ℕ) → IsLawful start j → (replay start j).numbers c + taken_on c j ≡ start.numbers c + added_on c j
+pub lawful_balanced : (start : Plain) (j : List Entry) (c : ℕ) → IsLawful start j
+    → (replay start j).numbers c + taken_on c j ≡ start.numbers c + added_on c j
 lawful_balanced start j c lawful = balance_all start j c (λ before after e is. (lawful.0 before after e is).0)
 
 pub balanced : (m : Layout) (s : SemaWorld) → IsInvariant m s → Balanced m s

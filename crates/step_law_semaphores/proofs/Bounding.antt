@@ -45,8 +45,10 @@ asleep_or_raises root r (Acquiring a (P t)) (suc g) = omega arith
 asleep_or_raises root r _ grant = omega arith
 
 -- wherever seats raise a waiter word, if none does that sleeps
-pub well_formed_bounded : (m : Layout) (s : SemaWorld) (raising : ℕ → Place → ℕ) → ((r : ℕ) (p : Place) (grant : ℕ) → asleep p grant + raising r p ≤ 1)
-    → IsWellFormedWorld m s → ((r : ℕ) → s.words.waiters r ≡ waits_of m r s.words + total m.seats (λ k. raising r (s.seats k).place)) → AllBounded m s
+pub well_formed_bounded : (m : Layout) (s : SemaWorld) (raising : ℕ → Place → ℕ)
+    → ((r : ℕ) (p : Place) (grant : ℕ) → asleep p grant + raising r p ≤ 1)
+    → IsWellFormedWorld m s → ((r : ℕ) → s.words.waiters r ≡ waits_of m r s.words + total m.seats (λ k. raising r (s.seats k).place))
+    → AllBounded m s
 well_formed_bounded m s raising apart inv raised = (numbers, (λ r. ((inv.locks r).1, waiters r)), turns)
   where
     numbers : (c : ℕ) → s.words.numbers c ≤ m.starts c + added s.journal

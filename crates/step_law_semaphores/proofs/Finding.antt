@@ -15,7 +15,8 @@ use Rattle.step_table.proofs.Sums.{put_here, put_else, put_at, on_here, pair}
 use Rattle.step_law_semaphores.proofs.Lines.{Line, begin_acquire, a7, r4_some, r5, m4_some, m5_more, m5_last, Post, r9, r10, m7_last, m7_more, Step, own, post}
 
 -- a change to the list of d leaves the list of c, or is one of c's root
-put_list : (root : ℕ → ℕ) (lists : ℕ → List WaitId) (d : ℕ) (l : List WaitId) (c : ℕ) → (put lists d l c ≡ lists c) ⊎ (0 < on (root d) (root c) 1)
+put_list : (root : ℕ → ℕ) (lists : ℕ → List WaitId) (d : ℕ) (l : List WaitId) (c : ℕ)
+    → (put lists d l c ≡ lists c) ⊎ (0 < on (root d) (root c) 1)
 put_list root lists d l c = by (ℕ_discrete c d)
   where
     by : Dec (c ≡ d) → (put lists d l c ≡ lists c) ⊎ (0 < on (root d) (root c) 1)
@@ -54,7 +55,8 @@ posts r10 lists = tt
 posts m7_last lists = tt
 posts m7_more lists = tt
 
-pub finds_kept : (m : Layout) (s t : SemaWorld) (i : ℕ) → i < m.seats → LocksOwned m s → ((k : ℕ) → k < m.seats → Finds s.words.lists (s.seats k).place)
+pub finds_kept : (m : Layout) (s t : SemaWorld) (i : ℕ) → i < m.seats → LocksOwned m s
+    → ((k : ℕ) → k < m.seats → Finds s.words.lists (s.seats k).place)
     → Step m s i t → (k : ℕ) → k < m.seats → Finds t.words.lists (t.seats k).place
 finds_kept m s t i in_range locks finds = by
   where

@@ -1,5 +1,6 @@
 -- While a wait is queued on a counter, or a seat is committed there, its number is at most what helps.
-use Rattle.std.proofs.Common.{◌≡◌, ℕ, suc, ◌+◌, ◌<◌, ◌≤◌, ◌⊎◌, List, [], ◌∷◌, ◌++◌, length, refl, sym, ap, ap₂, ◌∙◌, inl, inr, arith}
+use Rattle.std.proofs.Common.{◌≡◌, ℕ, suc, ◌+◌, ◌<◌, ◌≤◌, ◌⊎◌, List, [], ◌∷◌, ◌++◌, length, refl, sym, ap, ap₂}
+use Rattle.std.proofs.Common.{◌∙◌, inl, inr, arith}
 use native.Mathlib.Decide.{ℕ_discrete}
 use Rattle.waiters.specs.declared.wait.WaitId.{WaitId}
 use Rattle.step_table.specs.declared.effect.Effect.{Effect}
@@ -31,7 +32,8 @@ record Known (m : Layout) (g : Words) (p : Place) (committed : ℕ → ℕ) : Ty
 
 -- a seat that reads 0 at c may commit itself there, or stop helping there
 reads_zero : (g : Words) (c d committed helping committed_after helping_after : ℕ) → g.numbers c ≡ 0
-    → committed_after ≤ committed + on c d 1 → helping ≤ helping_after + on c d 1 → Few g d committed helping → Few g d committed_after helping_after
+    → committed_after ≤ committed + on c d 1 → helping ≤ helping_after + on c d 1 → Few g d committed helping
+    → Few g d committed_after helping_after
 reads_zero g c d committed helping committed_after helping_after none commit stop before now = by (pick 1 g.numbers c d)
   where
     by : (g.numbers c ≡ g.numbers d) ⊎ (on c d 1 ≡ 0) → g.numbers d ≤ helping_after
@@ -39,7 +41,8 @@ reads_zero g c d committed helping committed_after helping_after none commit sto
     by (inr elsewhere) = let few = before (omega arith) in omega arith
 
 -- a seat may stop helping with n units at c where nobody waits
-nobody_waits : (n : ℕ) (g : Words) (c d : ℕ) (committed : ℕ → ℕ) (helping committed_after helping_after : ℕ) → length (g.lists c) + committed c ≡ 0
+nobody_waits : (n : ℕ) (g : Words) (c d : ℕ) (committed : ℕ → ℕ) (helping committed_after helping_after : ℕ)
+    → length (g.lists c) + committed c ≡ 0
     → committed_after ≤ committed d → helping ≤ helping_after + on c d n → Few g d (committed d) helping → Few g d committed_after helping_after
 nobody_waits n g c d committed helping committed_after helping_after none commit stop before now = by (pick n (λ z. length (g.lists z) + committed z) c d)
   where

@@ -1,4 +1,5 @@
 pub mod Lines
+pub mod Cases
 pub mod Locks
 pub mod Raising
 pub mod Placing

@@ -44,7 +44,8 @@ rows {m = m} {g = g} (m6_none {r = q}) held r = given g.locks (m.root q.counter)
 rows {m = m} {g = g} (m6_some {r = q}) held r = given g.locks (m.root q.counter) held r
 rows _ held r = (refl, (held r).1)
 
-posts : {p q : SeatState} {c x : ℕ} {w : WaitId} → Post p q c w x → (root : ℕ → ℕ) (r : ℕ) → (holds root r p.place ≡ 0) × (holds root r q.place ≡ 0)
+posts : {p q : SeatState} {c x : ℕ} {w : WaitId} → Post p q c w x → (root : ℕ → ℕ) (r : ℕ)
+    → (holds root r p.place ≡ 0) × (holds root r q.place ≡ 0)
 posts r9 root r = (refl, refl)
 posts r10 root r = (refl, refl)
 posts m7_last root r = (refl, refl)

@@ -1,5 +1,6 @@
 -- The law of the rows: the invariant holds at every start, every step keeps it, and it gives what is promised of a world.
-use Rattle.std.proofs.Common.{◌≡◌, ℕ, zero, suc, ◌+◌, ◌<◌, ◌≤◌, ◌≢◌, ◌⊎◌, List, [], ◌∷◌, ◌++◌, length, refl, ap, inl, inr, subst, arith}
+use Rattle.std.proofs.Common.{◌≡◌, ℕ, zero, suc, ◌+◌, ◌<◌, ◌≤◌, ◌≢◌, ◌⊎◌, List, [], ◌∷◌, ◌++◌, length, refl, ap}
+use Rattle.std.proofs.Common.{inl, inr, subst, arith}
 use native.Mathlib.Decide.{ℕ_discrete}
 use Rattle.waiters.specs.declared.wait.WaitId.{WaitId}
 use Rattle.step_table.specs.declared.entry.Entry.{Entry}
@@ -20,7 +21,8 @@ use Rattle.step_law_semaphores.specs.Lawful.{WaitersCounted, NoLostWakeUp, Parke
 use Rattle.step_law_semaphores.specs.Invariant.{hands, awaits, helps_at, helps, commits, HandFits, IsInvariant}
 use Rattle.step_law_semaphores.specs.Law.{TheLaw}
 use Rattle.step_table.proofs.Sums.{on_here, on_zero, on_le, nothing, single, total_has, total_le, total_same, total_rest}
-use Rattle.step_law_semaphores.proofs.Lines.{Step, step_of}
+use Rattle.step_law_semaphores.proofs.Lines.{Step}
+use Rattle.step_law_semaphores.proofs.Cases.{step_of}
 use Rattle.step_law_semaphores.proofs.Locks.{locks_kept}
 use Rattle.step_law_semaphores.proofs.Raising.{raised_kept}
 use Rattle.step_law_semaphores.proofs.Placing.{same_here, awaits_else, placed_kept, seats_kept}
@@ -86,7 +88,8 @@ raises_held root r (Acquiring a A7) = omega arith
 raises_held root r (Acquiring a A8) = omega arith
 raises_held root r _ = omega arith
 
-helps_flies : (c : ℕ) (p : Place) (hand : List WaitId) (grant : ℕ) → HandFits p (length hand) → helps_at c p hand grant ≤ flies c p (length hand) grant
+helps_flies : (c : ℕ) (p : Place) (hand : List WaitId) (grant : ℕ) → HandFits p (length hand)
+    → helps_at c p hand grant ≤ flies c p (length hand) grant
 helps_flies c (Acquiring a (P turn)) hand zero fits = omega arith
 helps_flies c (Acquiring a (P turn)) hand (suc zero) fits = omega arith
 helps_flies c (Acquiring a (P turn)) hand (suc (suc g)) fits = omega arith
@@ -123,7 +126,8 @@ module _ (m : Layout) (s : SemaWorld) (inv : IsInvariant m s) where
 
   few_units : NoLostWakeUp m s
   few_units c some =
-      let all_fly = total_le m.seats (λ k. helps c (s.seats k) (s.words.grants k)) (λ k. flies c (s.seats k).place (length (s.seats k).hand) (s.words.grants k))
+      let all_fly = total_le m.seats (λ k. helps c (s.seats k) (s.words.grants k))
+      (λ k. flies c (s.seats k).place (length (s.seats k).hand) (s.words.grants k))
       (λ k h. helps_flies c (s.seats k).place (s.seats k).hand (s.words.grants k) (inv.seats k).fits) in
       let few = inv.units c (by some) in omega arith
     where

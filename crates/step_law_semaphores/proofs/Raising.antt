@@ -43,7 +43,8 @@ pub record Raised (raised : ℕ → ℕ) (m : Layout) (g : Words) (p : Place) : 
   pub within : IsWithin m.counters p
 
 -- the first wait of the list of c has left it
-pub one_less : {raised : ℕ → ℕ} {m : Layout} {g : Words} {p : Place} → Raised raised m g p → (c : ℕ) (w : WaitId) (l : List WaitId) → c < m.counters → g.lists c ≡ w ∷ l
+pub one_less : {raised : ℕ → ℕ} {m : Layout} {g : Words} {p : Place} → Raised raised m g p → (c : ℕ) (w : WaitId) (l : List WaitId)
+    → c < m.counters → g.lists c ≡ w ∷ l
     → (r : ℕ) → put g.waiters (m.root c) (g.waiters (m.root c) - 1) r + waits m r g.lists ≡ g.waiters r + waits m r (put g.lists c l)
 one_less {m = m} {g = g} known c w l within first r =
     let x = m.root c in
@@ -68,14 +69,16 @@ rows (m5_more {r = q} {w = w} {l = l} first _ _) known r = let left = one_less k
 rows (m5_last {r = q} {w = w} {l = l} first _) known r = let left = one_less known q.counter w l known.within.0 first r in omega arith
 rows _ known r = refl
 
-posts : {p q : SeatState} {c x : ℕ} {w : WaitId} → Post p q c w x → (root : ℕ → ℕ) (r : ℕ) → (raises root r p.place ≡ 0) × (raises root r q.place ≡ 0)
+posts : {p q : SeatState} {c x : ℕ} {w : WaitId} → Post p q c w x → (root : ℕ → ℕ) (r : ℕ)
+    → (raises root r p.place ≡ 0) × (raises root r q.place ≡ 0)
 posts r9 root r = (refl, refl)
 posts r10 root r = (refl, refl)
 posts m7_last root r = (refl, refl)
 posts m7_more root r = (refl, refl)
 
 -- a list is no longer than the waiter word of its root
-pub lists_below : (m : Layout) (s : SemaWorld) (raised : ℕ → ℕ) → ((r : ℕ) → s.words.waiters r ≡ waits_of m r s.words + raised r) → (c : ℕ) → c < m.counters → length (s.words.lists c) ≤ s.words.waiters (m.root c)
+pub lists_below : (m : Layout) (s : SemaWorld) (raised : ℕ → ℕ) → ((r : ℕ) → s.words.waiters r ≡ waits_of m r s.words + raised r) → (c : ℕ)
+    → c < m.counters → length (s.words.lists c) ≤ s.words.waiters (m.root c)
 lists_below m s raised waiters c h =
     let all = total_has m.counters (λ d. on (m.root d) (m.root c) (length (s.words.lists d))) c h in
     let here = on_here (m.root c) (length (s.words.lists c)) in

@@ -4,7 +4,8 @@ use Rattle.step_table.specs.World.{Layout, SemaWorld, first_world}
 use Rattle.step_table.specs.Steps.{IsReached}
 use Rattle.step_table.specs.Steps as steps
 use Rattle.step_law_semaphores.specs.Invariant.{IsInvariant}
-use Rattle.step_law_semaphores.proofs.Lines.{Step, step_of}
+use Rattle.step_law_semaphores.proofs.Lines.{Step}
+use Rattle.step_law_semaphores.proofs.Cases.{step_of}
 use Rattle.step_table.proofs.Turns.{steps_keep}
 use Rattle.step_law_semaphores.proofs.Promises.{at_first, kept}
 

@@ -71,7 +71,8 @@ owes_less k c n less w j fewer owes =
     (owes.0, (let most = owes.1 in omega arith))
 
 -- a row spends nothing of another seat
-spends_own : {m : Layout} {i : ℕ} {g h : Words} {p q : SeatState} {e : Effect} → Line m i g p q h e → (k : ℕ) (b : Budget) → k ≢ i → spent_by k e b ≡ b
+spends_own : {m : Layout} {i : ℕ} {g h : Words} {p q : SeatState} {e : Effect} → Line m i g p q h e
+    → (k : ℕ) (b : Budget) → k ≢ i → spent_by k e b ≡ b
 unfolding spent
 spends_own {i = i} (r1 {r = r}) k b ne = chosen_else k i (record { counter = r.counter; units = 1 }) b ne
 spends_own {i = i} (r5 _) k b ne = chosen_else k i (record { counter = b.counter; units = b.units - 1 }) b ne
@@ -269,7 +270,8 @@ spares_granted {m = m} {i = i} {e = e} s line placed in_range k ne some = by (ta
         let u = in_a_hand m s placed i r.0 in_range r.1 in let none = u.3 in let its_own = ap s.words.grants r.2 in absurd (omega arith)
 
 -- the story of the seat whose grant is stored
-post_story : {p q : SeatState} {c x : ℕ} {w : WaitId} → Post p q c w x → (i g : ℕ) (a : Acquire) (hand : List WaitId) (j : List Entry) → a.counter ≡ c
+post_story : {p q : SeatState} {c x : ℕ} {w : WaitId} → Post p q c w x
+    → (i g : ℕ) (a : Acquire) (hand : List WaitId) (j : List Entry) → a.counter ≡ c
     → Story i p.place p.hand g j → Story w.seat (Acquiring a (P w.turn)) hand x j
 post_story {w = w} r9 i g a hand j here story = subst (λ c. HasItsUnit c w j) (sym here) story.0
 post_story {w = w} r10 i g a hand j here story = subst (λ c. HasLeft c w j) (sym here) story.0

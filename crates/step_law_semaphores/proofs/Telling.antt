@@ -1,5 +1,6 @@
 -- The journal tells what happened: the numbers and lists are its replay, each entry is lawful where it stands, and no wait is queued twice.
-use Rattle.std.proofs.Common.{◌≡◌, ℕ, suc, ◌+◌, ◌-◌, ◌<◌, ◌≤◌, ◌≢◌, ◌⊎◌, List, [], ◌∷◌, ◌++◌, drop, length, refl, sym, ap, ◌∙◌, subst, inl, inr, arith}
+use Rattle.std.proofs.Common.{◌≡◌, ℕ, suc, ◌+◌, ◌-◌, ◌<◌, ◌≤◌, ◌≢◌, ◌⊎◌, List, [], ◌∷◌, ◌++◌, drop, length}
+use Rattle.std.proofs.Common.{refl, sym, ap, ◌∙◌, subst, inl, inr, arith}
 use native.Mathlib.Decide.{ℕ_discrete}
 use Rattle.waiters.specs.declared.wait.WaitId.{WaitId}
 use Rattle.step_table.specs.declared.entry.Entry.{Entry}
@@ -37,7 +38,8 @@ taken : (g : Words) (c n : ℕ) → g.numbers c ≡ suc n → plain (record g { 
 taken g c n e = let left : n ≡ g.numbers c - 1 = omega arith in λ k. record { numbers = put g.numbers c (left k); lists = g.lists }
 
 -- the first wait of c has left
-left_out : (g : Words) (c : ℕ) (w : WaitId) (l : List WaitId) → g.lists c ≡ w ∷ l → plain (record g { lists = put g.lists c l }) ≡ effect_of (Leave c w 0) (plain g)
+left_out : (g : Words) (c : ℕ) (w : WaitId) (l : List WaitId) → g.lists c ≡ w ∷ l
+    → plain (record g { lists = put g.lists c l }) ≡ effect_of (Leave c w 0) (plain g)
 left_out g c w l first =
     let rest : l ≡ drop 1 (g.lists c) = sym (ap (drop 1) first) in λ k. record { numbers = g.numbers; lists = put g.lists c (rest k) }
 

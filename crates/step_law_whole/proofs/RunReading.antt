@@ -1,6 +1,7 @@
 -- A seat that stands at L6 along a schedule ran L5 in its course, and no other row since; and so each step of a schedule grants
 -- the least ungranted ticket alone, or all that were handed out when its L5 read.
-use Rattle.std.proofs.Common.{◌≡◌, ◌≢◌, ℕ, zero, suc, ◌<◌, ◌≤◌, ◌⊎◌, IsTrue, List, [], ◌∷◌, ◌++◌, Option, Some, None, length, refl, sym, ap, ◌∙◌, subst, inl}
+use Rattle.std.proofs.Common.{◌≡◌, ◌≢◌, ℕ, zero, suc, ◌<◌, ◌≤◌, ◌⊎◌, IsTrue, List, [], ◌∷◌, ◌++◌, Option, Some, None}
+use Rattle.std.proofs.Common.{length, refl, sym, ap, ◌∙◌, subst, inl}
 use Rattle.std.proofs.Common.{inr, append_assoc, append-nil, arith}
 use Rattle.std.proofs.lemmas.List.Elements.{All-nil, All-push}
 use native.Mathlib.Decide.{ℕ_discrete}
@@ -142,7 +143,8 @@ module _ (parts : Parts) (scenario : IsScenario parts) (run : Run) (sound : IsSo
   turned_here l h r is = by (s.standing i) refl (sound.core.standing i) can is
     where
       -- it was off the list
-      was_off : (lists : ℕ → ListWorld) → lists ≡ s.lists → IsOffList s i l → ((lists l).seats i).place ≡ NotifyingAll h (L6 r) → HasReadNow l h r
+      was_off : (lists : ℕ → ListWorld) → lists ≡ s.lists → IsOffList s i l
+          → ((lists l).seats i).place ≡ NotifyingAll h (L6 r) → HasReadNow l h r
       was_off lists same off is =
           let before = ap (λ (lists : ℕ → ListWorld). ((lists l).seats i).place) same in absurd cc
 
@@ -167,7 +169,8 @@ module _ (parts : Parts) (scenario : IsScenario parts) (run : Run) (sound : IsSo
           → (((row_of_standing m s i standing).lists l).seats i).place ≡ NotifyingAll h (L6 r) → HasReadNow l h r
       by (AtList n) at stand can is =
           on_it n at stand can (ℕ_discrete l n)
-          (ap (λ (lists : ℕ → ListWorld). ((lists l).seats i).place) (sym (after_list_lists (list_row s i n) i (((list_row s i n).lists n).seats i).place)) ∙ is)
+          (ap (λ (lists : ℕ → ListWorld). ((lists l).seats i).place) (sym (after_list_lists (list_row s i n) i (((list_row s i n).lists n).seats i).place))
+          ∙ is)
       by (AtCounter after) at stand can is =
           let row : Core = counter_row m s i in
           was_off (row_of_standing m s i (AtCounter after)).lists (after_counter_lists m row i after (row.semaphores.seats i).place) (stand.1 l) is

@@ -1,5 +1,6 @@
 -- The seats of a notify list and their hands, after a change of one record or one list.
-use Rattle.std.proofs.Common.{◌≡◌, ◌≢◌, ℕ, ◌+◌, ◌<◌, ◌⊎◌, inl, inr, List, [], length, set, slice_get, map, Option, Some, None, refl, sym, ap, ◌∙◌, subst, arith}
+use Rattle.std.proofs.Common.{◌≡◌, ◌≢◌, ℕ, ◌+◌, ◌<◌, ◌⊎◌, inl, inr, List, [], length, set, slice_get, map, Option, Some, None, refl}
+use Rattle.std.proofs.Common.{sym, ap, ◌∙◌, subst, arith}
 use Rattle.std.proofs.Common.{length-set, get_or-set_same, get_or-set_other}
 use native.Mathlib.Decide.{ℕ_discrete, dec_lt}
 use mathlib.Core.Path.{fun_ext}
@@ -55,7 +56,8 @@ grants_shown waits seats = fun_ext (λ k. ap grant_of (slice_get-map (stored_sea
     by None = refl
     by (Some s) = refl
 
-module _ (waits : Lists) (queue : ℕ) (seats : List SeatRecord) (are : AreLists waits queue seats) (i : ℕ) (s : SeatRecord) (at : slice_get seats i ≡ Some s) where
+module _ (waits : Lists) (queue : ℕ) (seats : List SeatRecord) (are : AreLists waits queue seats) (i : ℕ) (s : SeatRecord)
+    (at : slice_get seats i ≡ Some s) where
   pub within : i < length seats
   within = slice_get_within seats i s at
 
@@ -73,18 +75,22 @@ module _ (waits : Lists) (queue : ℕ) (seats : List SeatRecord) (are : AreLists
         (λ k ne. ap (λ o. seat_of (option_map (stored_seat waits) o)) (get_other seats i t k ne))
 
     pub grants_set : grants_in (set seats i t) ≡ put (grants_in seats) i t.grant
-    grants_set = put_ext (grants_in seats) (grants_in (set seats i t)) i t.grant (ap grant_in (get_same seats i t within)) (λ k ne. ap grant_in (get_other seats i t k ne))
+    grants_set = put_ext (grants_in seats) (grants_in (set seats i t)) i t.grant (ap grant_in (get_same seats i t within))
+        (λ k ne. ap grant_in (get_other seats i t k ne))
 
     -- a record of the new list has this hand, or is the old one
-    found_set : (k : ℕ) (u : SeatRecord) → slice_get (set seats i t) k ≡ Some u → ((k ≡ i) × (u ≡ t)) ⊎ ((k ≢ i) × (slice_get seats k ≡ Some u))
+    found_set : (k : ℕ) (u : SeatRecord) → slice_get (set seats i t) k ≡ Some u → ((k ≡ i) × (u ≡ t))
+        ⊎ ((k ≢ i) × (slice_get seats k ≡ Some u))
     found_set k u e = by (ℕ_discrete k i)
       where
         by : Dec (k ≡ i) → ((k ≡ i) × (u ≡ t)) ⊎ ((k ≢ i) × (slice_get seats k ≡ Some u))
         by (yes q) = let here = get_same seats i t within in let there = ap (slice_get (set seats i t)) q in let same : u ≡ t = cc in inl (q, same)
         by (no ne) = inr (ne, sym (get_other seats i t k ne) ∙ e)
 
-    was : t.hand ≡ s.hand → (k : ℕ) (u : SeatRecord) → slice_get (set seats i t) k ≡ Some u → (v : SeatRecord) × (slice_get seats k ≡ Some v) × (v.hand ≡ u.hand)
-    was same k u e = elim (found_set k u e) [ inl h ↦ (s, ap (slice_get seats) h.0 ∙ at, sym same ∙ ap (λ r. r.hand) (sym h.1)) | inr h ↦ (u, h.1, refl) ]
+    was : t.hand ≡ s.hand → (k : ℕ) (u : SeatRecord) → slice_get (set seats i t) k ≡ Some u → (v : SeatRecord)
+        × (slice_get seats k ≡ Some v) × (v.hand ≡ u.hand)
+    was same k u e =
+        elim (found_set k u e) [ inl h ↦ (s, ap (slice_get seats) h.0 ∙ at, sym same ∙ ap (λ r. r.hand) (sym h.1)) | inr h ↦ (u, h.1, refl) ]
 
     held_set : t.hand ≡ s.hand → held (length (set seats i t)) (seats_in waits (set seats i t)) ≡ held (length seats) (seats_in waits seats)
     held_set same = ap (λ n. held n (seats_in waits (set seats i t))) (length-set seats i t)
@@ -115,7 +121,8 @@ module _ (waits : Lists) (queue : ℕ) (seats : List SeatRecord) (are : AreLists
     pub queue_kept : waits_at later queue ≡ waits_at waits queue
     queue_kept = hand_else queue (λ q. are.apart i s at (sym q))
 
-    seat_else : (k : ℕ) → k ≢ i → (o : Option SeatRecord) → slice_get seats k ≡ o → seat_of (option_map (stored_seat later) o) ≡ seat_of (option_map (stored_seat waits) o)
+    seat_else : (k : ℕ) → k ≢ i → (o : Option SeatRecord) → slice_get seats k ≡ o → seat_of (option_map (stored_seat later) o)
+        ≡ seat_of (option_map (stored_seat waits) o)
     seat_else k ne None e = refl
     seat_else k ne (Some u) e = ap (λ h. record (seat_of (Some (stored_seat waits u))) { hand = h }) (hand_else u.hand (are.different k i u s e at ne))
 
@@ -140,7 +147,8 @@ module _ (waits : Lists) (queue : ℕ) (seats : List SeatRecord) (are : AreLists
       apart = are.apart;
       different = are.different;
       room =
-          let c : held (length seats) (seats_in later seats) + length (seats_in waits seats i).hand ≡ held (length seats) (seats_in waits seats) + length (seats_in later seats i).hand
+          let c : held (length seats) (seats_in later seats) + length (seats_in waits seats i).hand
+          ≡ held (length seats) (seats_in waits seats) + length (seats_in later seats i).hand
           = total_change (length seats) (λ k. length (seats_in waits seats k).hand) (λ k. length (seats_in later seats k).hand) i within
           (λ k ne. ap (λ z. length z.hand) (seat_else k ne (slice_get seats k) refl)) in
           let a = ap (λ z. length z.hand) seat_at in let b = ap (λ z. length z.hand) seat_here in
@@ -152,7 +160,8 @@ module _ (waits : Lists) (queue : ℕ) (seats : List SeatRecord) (are : AreLists
     abbrev pub swapped : List SeatRecord
     swapped = set seats i (record s { hand = queue })
 
-    hands : (k : ℕ) (u : SeatRecord) → slice_get swapped k ≡ Some u → ((k ≡ i) × (u.hand ≡ queue)) ⊎ ((k ≢ i) × (slice_get seats k ≡ Some u))
+    hands : (k : ℕ) (u : SeatRecord) → slice_get swapped k ≡ Some u → ((k ≡ i) × (u.hand ≡ queue))
+        ⊎ ((k ≢ i) × (slice_get seats k ≡ Some u))
     hands k u e = elim (found_set (record s { hand = queue }) k u e) [ inl h ↦ inl (h.0, ap (λ r. r.hand) h.1) | inr h ↦ inr h ]
 
     pub are_swapped : AreLists waits s.hand swapped
@@ -167,7 +176,8 @@ module _ (waits : Lists) (queue : ℕ) (seats : List SeatRecord) (are : AreLists
       room =
           let n = length-set seats i (record s { hand = queue }) in
           let m = ap (λ n. held n (seats_in waits swapped)) n in
-          let c : held (length seats) (seats_in waits swapped) + length (seats_in waits seats i).hand ≡ held (length seats) (seats_in waits seats) + length (seats_in waits swapped i).hand
+          let c : held (length seats) (seats_in waits swapped) + length (seats_in waits seats i).hand
+          ≡ held (length seats) (seats_in waits seats) + length (seats_in waits swapped i).hand
           = total_change (length seats) (λ k. length (seats_in waits seats k).hand) (λ k. length (seats_in waits swapped k).hand) i within
           (λ k ne. ap (λ o. length (seat_of (option_map (stored_seat waits) o)).hand) (get_other seats i (record s { hand = queue }) k ne)) in
           let a = ap (λ z. length z.hand) seat_at in
@@ -176,13 +186,16 @@ module _ (waits : Lists) (queue : ℕ) (seats : List SeatRecord) (are : AreLists
     }
 
 -- another list for the queue
-module _ (waits : Lists) (queue : ℕ) (seats : List SeatRecord) (are : AreLists waits queue seats) (later : Lists) (l : List Wait) (ch : Changes waits later queue (Some l)) where
+module _ (waits : Lists) (queue : ℕ) (seats : List SeatRecord) (are : AreLists waits queue seats) (later : Lists) (l : List Wait)
+    (ch : Changes waits later queue (Some l)) where
   pub queue_here : waits_at later queue ≡ l
   queue_here = ap (λ o. unwrap_or o []) ch.there
 
-  seat_same : (k : ℕ) (o : Option SeatRecord) → slice_get seats k ≡ o → seat_of (option_map (stored_seat later) o) ≡ seat_of (option_map (stored_seat waits) o)
+  seat_same : (k : ℕ) (o : Option SeatRecord) → slice_get seats k ≡ o → seat_of (option_map (stored_seat later) o)
+      ≡ seat_of (option_map (stored_seat waits) o)
   seat_same k None e = refl
-  seat_same k (Some u) e = ap (λ h. record (seat_of (Some (stored_seat waits u))) { hand = h }) (ap (λ o. unwrap_or o []) (ch.elsewhere u.hand (are.apart k u e)))
+  seat_same k (Some u) e =
+      ap (λ h. record (seat_of (Some (stored_seat waits u))) { hand = h }) (ap (λ o. unwrap_or o []) (ch.elsewhere u.hand (are.apart k u e)))
 
   pub seats_queue : seats_in later seats ≡ seats_in waits seats
   seats_queue = fun_ext (λ k. seat_same k (slice_get seats k) refl)
@@ -201,6 +214,7 @@ module _ (waits : Lists) (queue : ℕ) (seats : List SeatRecord) (are : AreLists
     apart = are.apart;
     different = are.different;
     room =
-        let c = total_same (length seats) (λ k. length (seats_in later seats k).hand) (λ k. length (seats_in waits seats k).hand) (λ k h. ap (λ z. length z.hand) (seat_same k (slice_get seats k) refl)) in
+        let c = total_same (length seats) (λ k. length (seats_in later seats k).hand) (λ k. length (seats_in waits seats k).hand)
+        (λ k h. ap (λ z. length z.hand) (seat_same k (slice_get seats k) refl)) in
         let q = ap length queue_here in let r = are.room in omega arith;
   }

@@ -1,5 +1,6 @@
 -- A notify list after each of its changes, as a clause sees it.
-use Rattle.std.proofs.Common.{◌≡◌, ℕ, ◌+◌, ◌<◌, List, [], ◌∷◌, ◌++◌, length, set, slice_get, get_or, drop, Option, Some, None, refl, sym, ap, ◌∙◌, subst, arith}
+use Rattle.std.proofs.Common.{◌≡◌, ℕ, ◌+◌, ◌<◌, List, [], ◌∷◌, ◌++◌, length, set, slice_get, get_or, drop, Option, Some, None, refl}
+use Rattle.std.proofs.Common.{sym, ap, ◌∙◌, subst, arith}
 use Rattle.std.proofs.Common.{length-set, append-nil, Bool, true, false, if◌then◌else◌, ◌==◌}
 use Rattle.std.specs.Prelude.{unwrap_or, OnSome, IfNone}
 use Rattle.std.proofs.lemmas.List.{length-map, length_push}
@@ -48,7 +49,8 @@ told_is h = λ j. record (told h) {
 }
 
 -- what is shown after a change, by what the fields tell
-pub changed : (f : ListMoment → ListMoment) (h k : Inside) (l : StoredList) → the_view h ≡ l → told k ≡ f (told h) → moment_of (the_view k) ≡ f (moment_of l)
+pub changed : (f : ListMoment → ListMoment) (h k : Inside) (l : StoredList) → the_view h ≡ l → told k ≡ f (told h)
+    → moment_of (the_view k) ≡ f (moment_of l)
 changed f h k l same e = told_is k ∙ e ∙ ap f (sym (told_is h) ∙ ap moment_of same)
 
 pub made_nothing : (m : ListMoment) (i : ℕ) → m ≡ made m i Nothing
@@ -79,7 +81,8 @@ pub record Reads (h : Inside) (l : StoredList) (i n : ℕ) (s : SeatRecord) : Ty
 module _ (h : Inside) (l : StoredList) (i n : ℕ) (s : SeatRecord) (reads : Reads h l i n s) where
   pub below : n < length h.seats.items
   below =
-      let a = ap (λ z. length z.seats) reads.same in let b = length-map h.seats.items (stored_seat h.waits) in let r = reads.in_range in let q = reads.number in
+      let a = ap (λ z. length z.seats) reads.same in let b = length-map h.seats.items (stored_seat h.waits) in
+      let r = reads.in_range in let q = reads.number in
       omega arith
 
   pub at : slice_get h.seats.items n ≡ Some s
@@ -135,7 +138,8 @@ module _ (h : Inside) (l : StoredList) (i n : ℕ) (s : SeatRecord) (reads : Rea
     count = length-set h.seats.items n s j;
   }
 
-  pub in_world : (k : Inside) → told k ≡ with_waiting (told h) n → (journal : List ListEntry) → world_of (the_view k) journal ≡ waiting (world_of l journal) i
+  pub in_world : (k : Inside) → told k ≡ with_waiting (told h) n → (journal : List ListEntry)
+      → world_of (the_view k) journal ≡ waiting (world_of l journal) i
   in_world k e journal = ap (λ m. world_at m journal) (changed (λ m. with_waiting m i) h k l reads.same (e ∙ ap (with_waiting (told h)) reads.number))
 
   pub put_granted : (x : ℕ) → told (with_record (record s { grant = x })) ≡ record (told h) { words = written (told h).words (Grant n) x }
@@ -147,8 +151,11 @@ module _ (h : Inside) (l : StoredList) (i n : ℕ) (s : SeatRecord) (reads : Rea
 
   pub put_ticket : (t : Ticket) → told (record (with_record (record s { ticket = Some t })) { handed = h.handed + 1 }) ≡ made (told h) n (HandsOut t)
   put_ticket t = λ j. record (told h) {
-    words = record (told h).words { grants = grants_same (record s { ticket = Some t }) refl j; numbers = record { handed = h.handed + 1; granted = h.granted } };
-    seats = (seats_put (record s { ticket = Some t }) ∙ ap (λ z. put (seats_in h.waits h.seats.items) n (record z { ticket = Some t; hand = z.hand })) (sym here)) j;
+    words =
+        record (told h).words { grants = grants_same (record s { ticket = Some t }) refl j; numbers = record { handed = h.handed + 1; granted = h.granted } };
+    seats =
+        (seats_put (record s { ticket = Some t })
+        ∙ ap (λ z. put (seats_in h.waits h.seats.items) n (record z { ticket = Some t; hand = z.hand })) (sym here)) j;
     count = length-set h.seats.items n (record s { ticket = Some t }) j;
   }
 
@@ -164,7 +171,8 @@ module _ (h : Inside) (l : StoredList) (i n : ℕ) (s : SeatRecord) (reads : Rea
           ∙ ap (λ z. put (seats_in h.waits h.seats.items) n (record z { ticket = z.ticket; hand = drop 1 z.hand })) (sym here)) j;
     }
 
-    pub given_kept : (r : Option Wait) → r ≡ slice_get (waits_at h.waits s.hand) 0 → OnSome r (later.room ≡ h.waits.room + 1) → IfNone r (later ≡ h.waits) → AreLists later h.queue h.seats.items
+    pub given_kept : (r : Option Wait) → r ≡ slice_get (waits_at h.waits s.hand) 0 → OnSome r (later.room ≡ h.waits.room + 1)
+        → IfNone r (later ≡ h.waits) → AreLists later h.queue h.seats.items
     given_kept r e some none = are_hand h.waits h.queue h.seats.items reads.are n s at later _ ch
         (popped (waits_at h.waits s.hand) (subst (λ o. OnSome o (later.room ≡ h.waits.room + 1)) e some) (subst (λ o. IfNone o (later ≡ h.waits)) e none))
       where
@@ -189,7 +197,8 @@ module _ (h : Inside) (l : StoredList) (i n : ℕ) (s : SeatRecord) (reads : Rea
     taken = λ j. record (told h) {
       words = record (told h).words { grants = grants_same (record s { hand = h.queue }) refl j; queue = none_in_hand j };
       seats = (seats_put (record s { hand = h.queue })
-          ∙ ap (λ q. put (seats_in h.waits h.seats.items) n (record (seat_of (Some (stored_seat h.waits s))) { hand = q ++ waits_at h.waits h.queue })) (sym none_in_hand)
+          ∙ ap (λ q. put (seats_in h.waits h.seats.items) n (record (seat_of (Some (stored_seat h.waits s))) { hand = q ++ waits_at h.waits h.queue }))
+          (sym none_in_hand)
           ∙ ap (λ z. put (seats_in h.waits h.seats.items) n (record z { ticket = z.ticket; hand = z.hand ++ waits_at h.waits h.queue })) (sym here)) j;
       count = length-set h.seats.items n (record s { hand = h.queue }) j;
     }
@@ -203,7 +212,8 @@ module _ (h : Inside) (l : StoredList) (i n : ℕ) (s : SeatRecord) (reads : Rea
           ∙ put_self (seats_in h.waits h.seats.items) n _ (sym same_hand)) j;
     }
       where
-        same_hand : record (seats_in h.waits h.seats.items n) { hand = (seats_in h.waits h.seats.items n).hand ++ one_or_none (first_with t (waits_at h.waits h.queue)) } ≡ seats_in h.waits h.seats.items n
+        same_hand : record (seats_in h.waits h.seats.items n)
+            { hand = (seats_in h.waits h.seats.items n).hand ++ one_or_none (first_with t (waits_at h.waits h.queue)) } ≡ seats_in h.waits h.seats.items n
         same_hand = λ j. record (seats_in h.waits h.seats.items n) {
           hand = (ap (λ o. (seats_in h.waits h.seats.items n).hand ++ one_or_none o) none ∙ append-nil (seats_in h.waits h.seats.items n).hand) j;
         }
@@ -233,10 +243,13 @@ module _ (h : Inside) (l : StoredList) (i n : ℕ) (s : SeatRecord) (reads : Rea
             queue = (queue_kept later h.queue h.seats.items middle n s at last _ put_in ∙ queue_here h.waits h.queue h.seats.items reads.are later _ ch) j;
           };
           seats = (seats_hand later h.queue h.seats.items middle n s at last _ put_in
-              ∙ ap (λ f. put f n (record (seat_of (Some (stored_seat later s))) { hand = waits_at later s.hand ++ w ∷ [] })) (seats_queue h.waits h.queue h.seats.items reads.are later _ ch)
+              ∙ ap (λ f. put f n (record (seat_of (Some (stored_seat later s))) { hand = waits_at later s.hand ++ w ∷ [] }))
+              (seats_queue h.waits h.queue h.seats.items reads.are later _ ch)
               ∙ ap (λ q. put (seats_in h.waits h.seats.items) n (record (seat_of (Some (stored_seat h.waits s))) { hand = q ++ w ∷ [] })) hand_kept
-              ∙ ap (λ o. put (seats_in h.waits h.seats.items) n (record (seat_of (Some (stored_seat h.waits s))) { hand = waits_at h.waits s.hand ++ one_or_none o })) (sym first)
-              ∙ ap (λ z. put (seats_in h.waits h.seats.items) n (record z { ticket = z.ticket; hand = z.hand ++ one_or_none (first_with t (waits_at h.waits h.queue)) })) (sym here)) j;
+              ∙ ap (λ o. put (seats_in h.waits h.seats.items) n
+              (record (seat_of (Some (stored_seat h.waits s))) { hand = waits_at h.waits s.hand ++ one_or_none o })) (sym first)
+              ∙ ap (λ z. put (seats_in h.waits h.seats.items) n
+              (record z { ticket = z.ticket; hand = z.hand ++ one_or_none (first_with t (waits_at h.waits h.queue)) })) (sym here)) j;
         }
 
 -- what changes no seat
@@ -258,7 +271,8 @@ module _ (h : Inside) (are : AreLists h.waits h.queue h.seats.items) (i : ℕ) w
     queue_made_kept e = are_queue h.waits h.queue h.seats.items are later _ ch (let a = length_push (waits_at h.waits h.queue) w in omega arith)
 
   -- there is room for one more where fewer waits are held than there are seats
-  pub fits : (l : StoredList) → the_view h ≡ l → waits_in (moment_of l).count (moment_of l).words (moment_of l).seats < (moment_of l).count → 0 < h.waits.room
+  pub fits : (l : StoredList) → the_view h ≡ l → waits_in (moment_of l).count (moment_of l).words (moment_of l).seats
+      < (moment_of l).count → 0 < h.waits.room
   fits l same space =
       let m = sym (told_is h) ∙ ap moment_of same in
       let a : waits_in (told h).count (told h).words (told h).seats < (told h).count = subst (λ m. waits_in m.count m.words m.seats < m.count) (sym m) space in

@@ -1,5 +1,6 @@
 -- A notify list at its start: the hands are opened one after the other, and all lists are empty.
-use Rattle.std.proofs.Common.{◌≡◌, ◌≢◌, ℕ, zero, suc, ◌+◌, ◌<◌, ◌^◌, ◌⊎◌, inl, inr, List, [], ◌∷◌, ◌++◌, length, slice_get, Option, Some, None, refl, sym, ap}
+use Rattle.std.proofs.Common.{◌≡◌, ◌≢◌, ℕ, zero, suc, ◌+◌, ◌<◌, ◌^◌, ◌⊎◌, inl, inr, List, [], ◌∷◌, ◌++◌, length}
+use Rattle.std.proofs.Common.{slice_get, Option, Some, None, refl, sym, ap}
 use Rattle.std.proofs.Common.{◌∙◌, subst, arith}
 use native.Mathlib.Decide.{ℕ_discrete}
 use mathlib.Core.Path.{fun_ext}
@@ -22,7 +23,8 @@ abbrev resting : ℕ → SeatRecord
 resting key = record { place = Rest; ticket = None; grant = 0; hand = key }
 
 -- one at the end of a list is the last, or was there
-pushed : (l : List SeatRecord) (x : SeatRecord) (k : ℕ) (s : SeatRecord) → slice_get (l ++ x ∷ []) k ≡ Some s → (slice_get l k ≡ Some s) ⊎ ((k ≡ length l) × (s ≡ x))
+pushed : (l : List SeatRecord) (x : SeatRecord) (k : ℕ) (s : SeatRecord) → slice_get (l ++ x ∷ []) k ≡ Some s
+    → (slice_get l k ≡ Some s) ⊎ ((k ≡ length l) × (s ≡ x))
 pushed [] x zero s e = let same : s ≡ x = cc in inr (refl, same)
 pushed [] x (suc k) s e = absurd (cc)
 pushed (y ∷ l) x zero s e = inl e
@@ -78,14 +80,16 @@ module _ (old mid new : Lists) (seats : List SeatRecord) (n key : ℕ) (fresh : 
       by other o (no ne) = ch.elsewhere other ne ∙ fresh.kept other o
 
 -- all are opened, after the queue
-module _ (old new : Lists) (queue : ℕ) (seats : List SeatRecord) (n : ℕ) (fresh : AreFresh old new seats n) (opened : list_at old queue ≡ Some []) (room : old.room ≡ n) where
+module _ (old new : Lists) (queue : ℕ) (seats : List SeatRecord) (n : ℕ) (fresh : AreFresh old new seats n)
+    (opened : list_at old queue ≡ Some []) (room : old.room ≡ n) where
   queue_open : IsOpen old queue
   queue_open = subst IsSome (sym opened) refl
 
   queue_empty : list_at new queue ≡ Some []
   queue_empty = fresh.kept queue queue_open ∙ opened
 
-  at_rest : (k : ℕ) (o : Option SeatRecord) → slice_get seats k ≡ o → seat_of (option_map (stored_seat new) o) ≡ record { place = Rest; ticket = None; hand = []; late = 0 }
+  at_rest : (k : ℕ) (o : Option SeatRecord) → slice_get seats k ≡ o → seat_of (option_map (stored_seat new) o)
+      ≡ record { place = Rest; ticket = None; hand = []; late = 0 }
   at_rest k None e = refl
   at_rest k (Some s) e =
       let r = fresh.rest k s e in let h = ap (λ o. unwrap_or o []) (fresh.empty k s e) in
@@ -111,7 +115,8 @@ first_word : (first : ℕ) → first < 2 ^ 64 → first ≡ word_of first 0
 unfolding word_of
 first_word first h = omega arith
 
-pub first_told : (h : Inside) (old : Lists) (first n : ℕ) → first < 2 ^ 64 → AreFresh old h.waits h.seats.items n → list_at old h.queue ≡ Some [] → old.room ≡ n
+pub first_told : (h : Inside) (old : Lists) (first n : ℕ) → first < 2 ^ 64 → AreFresh old h.waits h.seats.items n
+    → list_at old h.queue ≡ Some [] → old.room ≡ n
     → h.wait ≡ first → h.notify ≡ first → h.lock ≡ 0 → h.handed ≡ 0 → h.granted ≡ 0 → moment_of (the_view h) ≡ first_moment first n
 first_told h old first n fits fresh opened room wait notify lock handed granted =
     told_is h ∙ (λ j. record {

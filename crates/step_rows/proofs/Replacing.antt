@@ -8,7 +8,8 @@ module _ {T : Type 0} where
     pub counted : length items ≡ length others
     pub same : take at items ≡ take at others
 
-  pub AreCopied-next : (items others : List T) (at : ℕ) (new other : T) → at < length others → other ≡ get_or others at other → new ≡ other → AreCopied items others at → AreCopied (set items at new) others (at + 1)
+  pub AreCopied-next : (items others : List T) (at : ℕ) (new other : T) → at < length others → other ≡ get_or others at other → new ≡ other
+      → AreCopied items others at → AreCopied (set items at new) others (at + 1)
   AreCopied-next items others at new other within found is copied = record {
     counted = length-set items at new ∙ copied.counted;
     same = take_more_set items at new (omega (arith, copied.counted))

@@ -1,5 +1,6 @@
 -- A row puts a wait into a list only at A7, and into a hand only at R5 and M5, where one fits; and its word is stored.
-use Rattle.std.proofs.Common.{ℕ, ◌+◌, ◌==◌, length, Bool, true, false, if◌then◌else◌, List, [], ◌∷◌, Option, Some, None, IfSome, subst, sym}
+use Rattle.std.proofs.Common.{ℕ, ◌+◌, ◌==◌, length, Bool, true, false, if◌then◌else◌, List, [], ◌∷◌, Option, Some, None, IfSome, subst}
+use Rattle.std.proofs.Common.{sym}
 use Rattle.waiters.specs.declared.wait.WaitId.{WaitId}
 use Rattle.step_outcomes.specs.declared.outcome.Outcome.{Outcome}
 use Rattle.step_table.specs.declared.place.AcquireRow.TheVariants.{A2, A6, A7, A11}

@@ -1,5 +1,6 @@
 -- A stored list that is written at one place shows the function with that one value changed.
-use Rattle.std.proofs.Common.{[], ◌∷◌, zero, suc, Some, slice_get, ap, ◌≡◌, ◌≢◌, Bool, ℕ, ◌<◌, List, length, get_or, set, sym, refl, subst, ◌∙◌}
+use Rattle.std.proofs.Common.{[], ◌∷◌, zero, suc, Some, slice_get, ap, ◌≡◌, ◌≢◌, Bool, ℕ, ◌<◌, List, length, get_or, set, sym, refl}
+use Rattle.std.proofs.Common.{subst, ◌∙◌}
 use Rattle.std.proofs.Common.{get_or-set_same, get_or-set_other, length-set, replicate, arith}
 use Rattle.std.proofs.lemmas.List.{get_or-replicate, get_or_past, length-replicate}
 use native.Mathlib.Decide.{ℕ_discrete, dec_lt}
@@ -72,7 +73,8 @@ module _ (h g : Stored) (same : h ≡ g) where
             (λ j. record (words_of h) { locks = each_set 0 h.locks i x within j });
       }))
 
-  pub waiters_stored : (w : Word) (c i x : ℕ) → Waiters c ≡ w → root_of h c ≡ i → i < length h.waiters → Wrote w x (record h { waiters = set h.waiters i x })
+  pub waiters_stored : (w : Word) (c i x : ℕ) → Waiters c ≡ w → root_of h c ≡ i → i < length h.waiters
+      → Wrote w x (record h { waiters = set h.waiters i x })
   waiters_stored w c i x is at within =
       subst (Kept w x (record h { waiters = set h.waiters i x })) same
       (subst (λ v. Kept v x (record h { waiters = set h.waiters i x }) h) is
@@ -109,7 +111,8 @@ module _ (h g : Stored) (same : h ≡ g) where
       }))
 
   -- the list of the counter c has changed
-  pub list_stored : (c : ℕ) (lists : List (List WaitId)) → c < length h.lists → (change : List WaitId → List WaitId) → lists ≡ set h.lists c (change (each [] h.lists c))
+  pub list_stored : (c : ℕ) (lists : List (List WaitId)) → c < length h.lists → (change : List WaitId → List WaitId)
+      → lists ≡ set h.lists c (change (each [] h.lists c))
       → ListsBecome g (put (each [] g.lists) c (change (each [] g.lists c))) (record h { lists = lists })
   list_stored c lists within change new =
       subst (λ (f : Stored). ListsBecome f (put (each [] f.lists) c (change (each [] f.lists c))) (record h { lists = lists })) same

@@ -1,5 +1,6 @@
 -- What a row of a notify list asks for lets its effect be made; and effect, word and place together are its turn.
-use Rattle.std.proofs.Common.{◌≡◌, ℕ, ◌+◌, Bool, true, false, if◌then◌else◌, List, Option, Some, None, refl, sym, ap, ◌∙◌, subst, nat_lt}
+use Rattle.std.proofs.Common.{◌≡◌, ℕ, ◌+◌, Bool, true, false, if◌then◌else◌, List, Option, Some, None, refl, sym, ap, ◌∙◌, subst}
+use Rattle.std.proofs.Common.{nat_lt}
 use Rattle.std.proofs.lemmas.Bool.{le-ltb}
 use Rattle.waiters.specs.declared.wait.Wait.{Wait}
 use Rattle.waiters.specs.Lists.{first_with}
@@ -28,7 +29,8 @@ module _ (m : ListMoment) (i : ℕ) (row : HasListRow m.count m.words m.seats i)
   either true e f a b = a
   either false e f a b = b
 
-  by_wait : (o : Option Wait) (none : ListNext) (some : Wait → ListNext) → Allows m i none.1 → ((w : Wait) → Allows m i (some w).1) → Allows m i (by_found o none some).1
+  by_wait : (o : Option Wait) (none : ListNext) (some : Wait → ListNext) → Allows m i none.1
+      → ((w : Wait) → Allows m i (some w).1) → Allows m i (by_found o none some).1
   by_wait None none some a b = a
   by_wait (Some w) none some a b = b w
 
@@ -58,7 +60,8 @@ module _ (m : ListMoment) (i : ℕ) (row : HasListRow m.count m.words m.seats i)
     run w x next =
         let n : ListMoment = made m i next.1 in placed (record n { words = written n.words w x }) i next.0
 
-    words_run : (w : ListWord) (x : ℕ) (next : ListNext) → (run w x next).words ≡ record (written m.words w x) { numbers = (made m i next.1).words.numbers; queue = (made m i next.1).words.queue }
+    words_run : (w : ListWord) (x : ℕ) (next : ListNext)
+        → (run w x next).words ≡ record (written m.words w x) { numbers = (made m i next.1).words.numbers; queue = (made m i next.1).words.queue }
     words_run word.Wait x next = refl
     words_run word.Notify x next = refl
     words_run word.Lock x next = refl

@@ -1,5 +1,6 @@
 -- Words of wait groups are numbers of 64 bits, and each row does to the number what it does to the word.
-use Rattle.std.proofs.Common.{◌≡◌, ℕ, ◌+◌, ◌*◌, ◌/◌, ◌%◌, ◌<◌, ◌==◌, ◌&&◌, if◌then◌else◌, Bool, true, false, ℤ, pos, negsuc, ◌*ℤ◌, refl, sym, ap, ◌∙◌, eqb-true}
+use Rattle.std.proofs.Common.{◌≡◌, ℕ, ◌+◌, ◌*◌, ◌/◌, ◌%◌, ◌<◌, ◌==◌, ◌&&◌, if◌then◌else◌, Bool, true, false, ℤ, pos}
+use Rattle.std.proofs.Common.{negsuc, ◌*ℤ◌, refl, sym, ap, ◌∙◌, eqb-true}
 use Rattle.std.proofs.Common.{eq-eqb, arith}
 use Rattle.std.specs.Prelude.{FitsSigned}
 use Rattle.std.specs.Int.{w32, w64, cast_signed, cast_unsigned, int_wrapping_add}
@@ -81,7 +82,9 @@ same a b is_a is_b = same_from_decides (same_word a b) (bits_of a == bits_of b) 
 
 -- the counter after an add, as bits
 raised : (x d : ℤ) → cast_unsigned w32 (int_wrapping_add w32 x d) ≡ (cast_unsigned w32 x + cast_unsigned w32 d) % 4294967296
-raised x d = of_z-to_z w32 ((cast_unsigned w32 x + cast_unsigned w32 d) % 4294967296) (let h : (cast_unsigned w32 x + cast_unsigned w32 d) % 4294967296 < 4294967296 = omega arith in h)
+raised x d =
+    of_z-to_z w32 ((cast_unsigned w32 x + cast_unsigned w32 d) % 4294967296)
+    (let h : (cast_unsigned w32 x + cast_unsigned w32 d) % 4294967296 < 4294967296 = omega arith in h)
 
 pub adds : (w : GroupWord) (d : ℤ) → IsGroupWord w → bits_of (plus w d) ≡ (bits_of w + high d) % 18446744073709551616
 adds w d is =
@@ -105,7 +108,8 @@ waits w is = by (w.waits == 4294967295) refl
     by false e =
         one_up (cast_unsigned w32 w.counter) w.waits (low_below w.counter is.0) (not_full (Decides-eqb w.waits 4294967295))
       where
-        not_full : ((w.waits == 4294967295) ≡ true → w.waits ≡ 4294967295) × (w.waits ≡ 4294967295 → (w.waits == 4294967295) ≡ true) → w.waits < 4294967295
+        not_full : ((w.waits == 4294967295) ≡ true → w.waits ≡ 4294967295)
+            × (w.waits ≡ 4294967295 → (w.waits == 4294967295) ≡ true) → w.waits < 4294967295
         not_full d = let few = is.1 in let differ : w.waits ≡ 4294967295 → ⊥ = λ q. absurd (let yes = d.1 q in cc) in omega arith
 
 -- rows
@@ -123,7 +127,8 @@ kept w (V2 seen) is = by (same_word seen w) (w.waits == 4294967295) refl
     room e = let few = is.1 in let differ : w.waits ≡ 4294967295 → ⊥ = λ q. absurd (let yes = eq-eqb w.waits 4294967295 q in cc) in omega arith
 
     by : (won full : Bool) → (w.waits == 4294967295) ≡ full
-        → IsGroupWord (if won then if full then record { counter = int_wrapping_add w32 w.counter (pos 1); waits = 0 } else record w { waits = w.waits + 1 } else w)
+        → IsGroupWord (if won then if full then record { counter = int_wrapping_add w32 w.counter (pos 1); waits = 0 }
+        else record w { waits = w.waits + 1 } else w)
     by true true e = (fits, omega arith)
     by true false e = (is.0, room e)
     by false full e = is

@@ -1,5 +1,6 @@
 -- Sums over seats and counters, and functions with one value changed.
-use Rattle.std.proofs.Common.{◌≡◌, ℕ, zero, suc, ◌+◌, ◌<◌, ◌≤◌, ◌≢◌, ◌⊎◌, Bool, true, false, cond, List, [], ◌∷◌, ◌++◌, length, refl, sym, ap, ◌∙◌, inl, inr}
+use Rattle.std.proofs.Common.{◌≡◌, ℕ, zero, suc, ◌+◌, ◌<◌, ◌≤◌, ◌≢◌, ◌⊎◌, Bool, true, false, cond, List, [], ◌∷◌}
+use Rattle.std.proofs.Common.{◌++◌, length, refl, sym, ap, ◌∙◌, inl, inr}
 use Rattle.std.proofs.Common.{eq-eqb, ne_eqb, arith}
 use mathlib.Core.Path.{fun_ext}
 use native.Mathlib.Decide.{ℕ_discrete}
@@ -49,7 +50,8 @@ unfolding total
 total_change zero f g i h e = absurd (omega arith)
 total_change (suc n) f g i h e = by (total_change n f g i) (ℕ_discrete n i)
   where
-    by : (i < n → ((k : ℕ) → k ≢ i → g k ≡ f k) → total n g + f i ≡ total n f + g i) → Dec (n ≡ i) → total n g + g n + f i ≡ total n f + f n + g i
+    by : (i < n → ((k : ℕ) → k ≢ i → g k ≡ f k) → total n g + f i ≡ total n f + g i) → Dec (n ≡ i)
+        → total n g + g n + f i ≡ total n f + f n + g i
     by ih (yes q) = let a : total n g ≡ total n f = total_same n g f (λ k lt. e k (λ w. omega arith)) in let b = ap f q in let c = ap g q in omega arith
     by ih (no ne) = let a : total n g + f i ≡ total n f + g i = ih (omega arith) e in let b = e n ne in omega arith
 
@@ -108,16 +110,19 @@ down f c x d e = by (ℕ_discrete d c)
     by (no ne) = let a = put_else f c x d ne in let b = on_else c d 1 (λ q. ne (sym q)) in omega arith
 
 -- a sum over the seats, after a row of seat i that changes no other grant word
-pub owned : {A : Type 0} (f : ℕ → A → ℕ → ℕ) (seats : ℕ) (stand : ℕ → A) (grants after : ℕ → ℕ) (i : ℕ) (q : A) → i < seats → ((k : ℕ) → k ≢ i → after k ≡ grants k)
+pub owned : {A : Type 0} (f : ℕ → A → ℕ → ℕ) (seats : ℕ) (stand : ℕ → A) (grants after : ℕ → ℕ) (i : ℕ) (q : A) → i < seats
+    → ((k : ℕ) → k ≢ i → after k ≡ grants k)
     → total seats (λ k. f k (put stand i q k) (after k)) + f i (stand i) (grants i) ≡ total seats (λ k. f k (stand k) (grants k)) + f i q (after i)
 owned f seats stand grants after i q in_range e =
-    let a : total seats (λ k. f k (put stand i q k) (after k)) + f i (stand i) (grants i) ≡ total seats (λ k. f k (stand k) (grants k)) + f i (put stand i q i) (after i)
+    let a : total seats (λ k. f k (put stand i q k) (after k)) + f i (stand i) (grants i)
+    ≡ total seats (λ k. f k (stand k) (grants k)) + f i (put stand i q i) (after i)
     = total_change seats (λ k. f k (stand k) (grants k)) (λ k. f k (put stand i q k) (after k)) i in_range
     (λ k ne. ap (λ p. f k p (after k)) (put_else stand i q k ne) ∙ ap (f k (stand k)) (e k ne)) in
     let h = ap (λ p. f i p (after i)) (put_here stand i q) in omega arith
 
 -- the same after seat i has stored x in the grant word of seat j
-pub posted : {A : Type 0} (f : ℕ → A → ℕ → ℕ) (seats : ℕ) (stand : ℕ → A) (grants : ℕ → ℕ) (i j x : ℕ) (q : A) → i < seats → j < seats → j ≢ i
+pub posted : {A : Type 0} (f : ℕ → A → ℕ → ℕ) (seats : ℕ) (stand : ℕ → A) (grants : ℕ → ℕ) (i j x : ℕ)
+    (q : A) → i < seats → j < seats → j ≢ i
     → total seats (λ k. f k (put stand i q k) (put grants j x k)) + f i (stand i) (grants i) + f j (stand j) (grants j)
     ≡ total seats (λ k. f k (stand k) (grants k)) + f i q (grants i) + f j (stand j) x
 posted f seats stand grants i j x q in_range there ne =
@@ -129,7 +134,8 @@ posted f seats stand grants i j x q in_range there ne =
     (λ k h. ap (f k (put stand i q k)) (put_else grants j x k h)) in
     let p = put_else stand i q j ne in
     let c = ap (λ z. f j z (grants j)) p in
-    let d : f j (put stand i q j) (put grants j x j) ≡ f j (stand j) x = ap (λ z. f j z (put grants j x j)) p ∙ ap (f j (stand j)) (put_here grants j x) in omega arith
+    let d : f j (put stand i q j) (put grants j x j) ≡ f j (stand j) x = ap (λ z. f j z (put grants j x j)) p ∙ ap (f j (stand j)) (put_here grants j x) in
+    omega arith
 
 pub on_add : (a b m n : ℕ) → on a b (m + n) ≡ on a b m + on a b n
 on_add a b m n = by (ℕ_discrete a b)
@@ -161,14 +167,16 @@ pick n f c d = by (ℕ_discrete c d)
     by (no ne) = inr (on_else c d n ne)
 
 -- a measure of lists after the list of c has changed
-pub list_up : (f : List WaitId → ℕ) (lists : ℕ → List WaitId) (c : ℕ) (l : List WaitId) (d n : ℕ) → f l ≡ f (lists c) + n → f (put lists c l d) ≡ f (lists d) + on c d n
+pub list_up : (f : List WaitId → ℕ) (lists : ℕ → List WaitId) (c : ℕ) (l : List WaitId) (d n : ℕ) → f l ≡ f (lists c) + n
+    → f (put lists c l d) ≡ f (lists d) + on c d n
 list_up f lists c l d n e = by (ℕ_discrete d c)
   where
     by : Dec (d ≡ c) → f (put lists c l d) ≡ f (lists d) + on c d n
     by (yes q) = rw q (let a = ap f (put_here lists c l) in let b = on_here c n in omega arith)
     by (no ne) = let a = ap f (put_else lists c l d ne) in let b = on_else c d n (λ q. ne (sym q)) in omega arith
 
-pub list_down : (f : List WaitId → ℕ) (lists : ℕ → List WaitId) (c : ℕ) (l : List WaitId) (d n : ℕ) → f l + n ≡ f (lists c) → f (put lists c l d) + on c d n ≡ f (lists d)
+pub list_down : (f : List WaitId → ℕ) (lists : ℕ → List WaitId) (c : ℕ) (l : List WaitId) (d n : ℕ) → f l + n ≡ f (lists c)
+    → f (put lists c l d) + on c d n ≡ f (lists d)
 list_down f lists c l d n e = by (ℕ_discrete d c)
   where
     by : Dec (d ≡ c) → f (put lists c l d) + on c d n ≡ f (lists d)
@@ -226,7 +234,8 @@ on_most a b n = by (ℕ_discrete a b)
     by (no ne) = let e = on_else a b n ne in omega arith
 
 -- what holds of each value of f, after the one at i has changed
-pub put_at : {A : Type 0} (Has : ℕ → A → Type 0) (f : ℕ → A) (i : ℕ) (x : A) (k : ℕ) → Has i x → (k ≢ i → Has k (f k)) → Has k (put f i x k)
+pub put_at : {A : Type 0} (Has : ℕ → A → Type 0) (f : ℕ → A) (i : ℕ) (x : A) (k : ℕ) → Has i x
+    → (k ≢ i → Has k (f k)) → Has k (put f i x k)
 put_at Has f i x k here else = by (ℕ_discrete k i)
   where
     by : Dec (k ≡ i) → Has k (put f i x k)

@@ -45,7 +45,9 @@ module _ {SemaWorld Word Value Next : Type 0} (r : Rules SemaWorld Word Value Ne
       → TurnOf r s i (r.after s i w x next)
   atomic_turn s i w v x next a = record {
     can = subst (λ y. IsTrue ((r.event_of s i).can y)) is_found a.can;
-    is = λ j. r.after s i (sym a.word j) ((a.becomes ∙ ap (λ y. (r.event_of s i).becomes y) is_found) j) ((a.leads ∙ ap (λ y. (r.event_of s i).leads y) is_found) j);
+    is =
+        λ j. r.after s i (sym a.word j) ((a.becomes ∙ ap (λ y. (r.event_of s i).becomes y) is_found) j)
+        ((a.leads ∙ ap (λ y. (r.event_of s i).leads y) is_found) j);
   }
     where
       is_found : v ≡ r.found s (r.event_of s i).word
@@ -61,15 +63,18 @@ abbrev IsSemaphoreRow : (ℕ → ℕ) → SemaWorld → ℕ → Word → ℕ →
 IsSemaphoreRow root = IsAtomicRow (rules root)
 
 semaphores_keep : (root : ℕ → ℕ) (Rule : SemaWorld → Type 0) → ((s t : SemaWorld) (i : ℕ) → Rule s → TurnOf (rules root) s i t → Rule t)
-    → (s : SemaWorld) (i : ℕ) (w : Word) (v x : ℕ) (next : Next) → IsSemaphoreRow root s i w v x next → Rule s → Rule ((rules root).after s i w x next)
+    → (s : SemaWorld) (i : ℕ) (w : Word) (v x : ℕ) (next : Next) → IsSemaphoreRow root s i w v x next → Rule s
+    → Rule ((rules root).after s i w x next)
 semaphores_keep root = atomic_keeps (rules root)
 
 lists_keep : (Rule : ListWorld → Type 0) → ((s t : ListWorld) (i : ℕ) → Rule s → TurnOf list_rules s i t → Rule t)
-    → (s : ListWorld) (i : ℕ) (w : ListWord) (v x : ℕ) (next : ListNext) → IsAtomicRow list_rules s i w v x next → Rule s → Rule (list_rules.after s i w x next)
+    → (s : ListWorld) (i : ℕ) (w : ListWord) (v x : ℕ) (next : ListNext) → IsAtomicRow list_rules s i w v x next → Rule s
+    → Rule (list_rules.after s i w x next)
 lists_keep = atomic_keeps list_rules
 
 groups_keep : (m : CoreLayout) (Rule : Core → Type 0) → ((s t : Core) (i : ℕ) → Rule s → TurnOf (group_rules m) s i t → Rule t)
-    → (s : Core) (i g : ℕ) (v x : GroupWord) (next : GroupNext) → IsAtomicRow (group_rules m) s i g v x next → Rule s → Rule ((group_rules m).after s i g x next)
+    → (s : Core) (i g : ℕ) (v x : GroupWord) (next : GroupNext) → IsAtomicRow (group_rules m) s i g v x next → Rule s
+    → Rule ((group_rules m).after s i g x next)
 groups_keep m = atomic_keeps (group_rules m)
 
 -- a row of a group is a turn

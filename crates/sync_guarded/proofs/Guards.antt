@@ -12,7 +12,8 @@ use Rattle.sync_guarded.proofs.Keeping.{Me}
 
 module _ {T : Type 0} (g : GuardedModel) (s t : Token T) where
   -- the token of a seat that made this call
-  pub seat_after : (call : LockerCall) → t.table_id ≡ s.table_id → t.me.0.own.number ≡ s.me.0.own.number → t.me.0.own.knows.seats ≡ s.me.0.own.knows.seats
+  pub seat_after : (call : LockerCall) → t.table_id ≡ s.table_id → t.me.0.own.number ≡ s.me.0.own.number
+      → t.me.0.own.knows.seats ≡ s.me.0.own.knows.seats
       → t.me.0.own.gone ≡ s.me.0.own.gone ++ call ∷ [] → seat_of t ≡ having_called (seat_of s) (call ∷ [])
   seat_after call table number seats gone i = record {
     guarded = record { id = table i; seats = seats i };
@@ -42,7 +43,8 @@ module _ {T : Type 0} (g : GuardedModel) (s t : Token T) where
       out = (took.1.1, out_is);
     }
 
-  module _ (is : IsGuard g s true) (table : t.table_id ≡ s.table_id) (gave : runs_unlock (guard_rows {T = T}) (atomic.step 1 0 0 0 slot.none) s.me 0 t.me) where
+  module _ (is : IsGuard g s true) (table : t.table_id ≡ s.table_id)
+      (gave : runs_unlock (guard_rows {T = T}) (atomic.step 1 0 0 0 slot.none) s.me 0 t.me) where
     unlock_is : gave.1.stride ≡ Unlocked
     unlock_is = gave.1.also.call_is ∙ ap call_by is.holds
 

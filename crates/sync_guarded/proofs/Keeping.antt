@@ -86,7 +86,9 @@ module _ {T : Type 0} (seats : ℕ) (m : Me T) (s : GuardLife) (words : List ℕ
     wide = length-set words 0 word ∙ at.shows.wide;
     lies = lies;
     in_turns = turns_more home s.at place s.history (moment call) at.shows.in_turns turn;
-    there = λ a h. ⊎_elim (λ q. at.shows.there a q) (λ q. subst (λ (b : SeatStride LockerCall). b.seat < seats) q at.there) (in_more a (moment call) s.history h);
+    there =
+        λ a h. ⊎_elim (λ q. at.shows.there a q)
+        (λ q. subst (λ (b : SeatStride LockerCall). b.seat < seats) q at.there) (in_more a (moment call) s.history h);
   }
 
   own_calls : (call : LockerCall) (word : ℕ) (place : Place) (holds : Bool) → holds ≡ holds_after false (call ∷ [])

@@ -1,5 +1,6 @@
 -- A guarded value as it is made.
-use Rattle.std.proofs.Common.{◌≡◌, ℕ, zero, suc, ◌+◌, ◌<◌, false, length, length-append, List, [], ◌∷◌, ◌++◌, map, refl, sym, ap, ◌∙◌, subst, arith}
+use Rattle.std.proofs.Common.{◌≡◌, ℕ, zero, suc, ◌+◌, ◌<◌, false, length, length-append, List, [], ◌∷◌, ◌++◌, map, refl, sym, ap}
+use Rattle.std.proofs.Common.{◌∙◌, subst, arith}
 use Rattle.std.specs.List.{All, range_with_len}
 use Rattle.std.proofs.lemmas.List.{map-append}
 use Rattle.std.proofs.lemmas.List.Elements.{All-map}
@@ -24,7 +25,8 @@ range_more from zero = let e : from + 0 ≡ from = omega arith in ap (λ (k : �
 range_more from (suc n) = ap (λ l. from ∷ l) (ap (λ (k : ℕ). range_with_len (from + 1) n ++ k ∷ []) (omega arith) ∙ range_more (from + 1) n)
 
 -- the seats are of this value
-pub seats_own : (seats : ℕ) (g : GuardedModel) (made : List SeatModel) → made ≡ map (new_seat g) (range_with_len 0 seats) → All (λ s. s.guarded ≡ g) made
+pub seats_own : (seats : ℕ) (g : GuardedModel) (made : List SeatModel)
+    → made ≡ map (new_seat g) (range_with_len 0 seats) → All (λ s. s.guarded ≡ g) made
 seats_own seats g made is = subst (All (λ s. s.guarded ≡ g)) (sym is)
     (All-map (λ s. s.guarded ≡ g) (new_seat g) (range_with_len 0 seats) (λ i n low. refl))
 

@@ -1,12 +1,14 @@
 -- Who holds the lock of a guarded value, told from its history.
-use Rattle.std.proofs.Common.{◌≡◌, ℕ, ◌==◌, if◌then◌else◌, Bool, true, false, List, [], ◌∷◌, ◌++◌, sym, refl, ap, ◌∙◌, subst, eqb-true}
+use Rattle.std.proofs.Common.{◌≡◌, ℕ, ◌==◌, if◌then◌else◌, Bool, true, false, List, [], ◌∷◌, ◌++◌, sym, refl, ap, ◌∙◌, subst}
+use Rattle.std.proofs.Common.{eqb-true}
 use Rattle.running_rows.specs.History.{SeatStride, strides_of}
 use Rattle.sync_parts.specs.declared.locker_call.LockerCall.{LockerCall}
 use Rattle.sync_parts.specs.declared.locker_call.LockerCall.TheVariants.{Locked, Unlocked}
 use Rattle.sync_guarded.specs.Rule.{Place, home, lent, InTurns, is_with, holds_after}
 
 -- what was locked and unlocked in turn, and one call more
-pub turns_more : (from mid to : Place) (history : List (SeatStride LockerCall)) (m : SeatStride LockerCall) → InTurns from history mid → InTurns mid (m ∷ []) to
+pub turns_more : (from mid to : Place) (history : List (SeatStride LockerCall)) (m : SeatStride LockerCall)
+    → InTurns from history mid → InTurns mid (m ∷ []) to
     → InTurns from (history ++ m ∷ []) to
 turns_more from mid to [] m t n = subst (λ (p : Place). InTurns p (m ∷ []) to) t n
 turns_more home mid to (h ∷ history) m t n = (t.0, turns_more (lent h.seat) mid to history m t.1 n)

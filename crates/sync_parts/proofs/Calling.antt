@@ -1,5 +1,6 @@
 -- What an acquire and a release of a seat add to its uses of the counter.
-use Rattle.std.proofs.Common.{◌≡◌, ℕ, zero, suc, ◌+◌, ◌-◌, ◌≤◌, true, false, ◌&&◌, eqb, cond, List, [], ◌∷◌, ◌++◌, inl, inr, refl, sym, ap, ◌∙◌, subst, arith}
+use Rattle.std.proofs.Common.{◌≡◌, ℕ, zero, suc, ◌+◌, ◌-◌, ◌≤◌, true, false, ◌&&◌, eqb, cond, List, [], ◌∷◌, ◌++◌, inl, inr}
+use Rattle.std.proofs.Common.{refl, sym, ap, ◌∙◌, subst, arith}
 use Rattle.std.proofs.Common.{append-nil, append_assoc, eq-eqb}
 use Rattle.std.proofs.lemmas.List.Elements.{filter-append}
 use Rattle.step_table.specs.declared.entry.Entry.{Entry}
@@ -34,7 +35,8 @@ pub record Sees (i : ℕ) (seen now told : List Entry) : Type 0 where
   pub later : GoesOn now seen
   pub owns : own i now ≡ own i seen ++ own i told
 
-sees_call : {IsOne : SemaStride → Type 0} (s t : SeatModel) (from : Place) (told : List Entry) → Calls IsOne s from t told → Sees s.number s.sight.seen t.sight.seen told
+sees_call : {IsOne : SemaStride → Type 0} (s t : SeatModel) (from : Place) (told : List Entry) → Calls IsOne s from t told
+    → Sees s.number s.sight.seen t.sight.seen told
 sees_call s t from told call =
     let paths = the_sema_paths.paths (layout s.table.setting) in
     record {

@@ -1,5 +1,6 @@
 -- A row on the state word goes to the end of the history.
-use Rattle.std.proofs.Common.{◌≡◌, ◌≢◌, ℕ, ◌<◌, List, [], ◌∷◌, ◌++◌, slice_index, sym, refl, ap, ◌∙◌, subst, ⊎_elim, inr, arith, length-set, get_or-set_same}
+use Rattle.std.proofs.Common.{◌≡◌, ◌≢◌, ℕ, ◌<◌, List, [], ◌∷◌, ◌++◌, slice_index, sym, refl, ap, ◌∙◌, subst, ⊎_elim, inr}
+use Rattle.std.proofs.Common.{arith, length-set, get_or-set_same}
 use Rattle.std.proofs.Common.{IsTrue}
 use mathlib.Core.Option.{Option}
 use Rattle.running_rows.specs.Table.{keeps}
@@ -97,7 +98,8 @@ module _ (seats : ℕ) (m : Me) (row : GroupRow) (follows : Follows m.0.own.know
     shows = record {
       word_is = ap word_in (get_or-set_same words 0 (f n) 0 at.shows.wide) ∙ becomes n at.below;
       leads = leads_more empty_word s.word s.history moment at.shows.leads at.shows.word_is;
-      there = λ a h. ⊎_elim (λ q. at.shows.there a q) (λ q. subst (λ (b : SeatStride GroupStep). b.seat < seats) q at.there) (in_more a moment s.history h);
+      there =
+          λ a h. ⊎_elim (λ q. at.shows.there a q) (λ q. subst (λ (b : SeatStride GroupStep). b.seat < seats) q at.there) (in_more a moment s.history h);
       wide = let l = length-set words 0 (f n) in let w = at.shows.wide in omega arith;
     }
 
@@ -123,5 +125,6 @@ module _ (seats : ℕ) (m : Me) (row : GroupRow) (follows : Follows m.0.own.know
       tells = (went m.0.own row (word_in n) is_word begin n begins refl, refl);
     }
 
-  pub owes : (begin : GroupKnown → GroupKnown) → begin m.0.own.knows ≡ at_row row m.0.own.knows → Owes group_rows seats m 0 f (RanRow group_rows begin m)
+  pub owes : (begin : GroupKnown → GroupKnown) → begin m.0.own.knows ≡ at_row row m.0.own.knows
+      → Owes group_rows seats m 0 f (RanRow group_rows begin m)
   owes begin begins s words homes at = led s words homes at begin begins

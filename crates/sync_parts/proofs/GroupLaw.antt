@@ -1,5 +1,6 @@
 -- Each row in the history of a state word is that of a seat.
-use Rattle.std.proofs.Common.{◌≡◌, ℕ, ◌<◌, ◌≤◌, ◌==◌, if◌then◌else◌, Bool, true, false, List, [], ◌∷◌, refl, sym, ap, subst, ⊎_elim, inl, inr, eq-eqb}
+use Rattle.std.proofs.Common.{◌≡◌, ℕ, ◌<◌, ◌≤◌, ◌==◌, if◌then◌else◌, Bool, true, false, List, [], ◌∷◌, refl, sym, ap, subst}
+use Rattle.std.proofs.Common.{⊎_elim, inl, inr, eq-eqb}
 use Rattle.std.proofs.Common.{lt_of_not-le}
 use mathlib.Core.Logic.{dite}
 use native.Mathlib.Decide.{dec_le}
@@ -35,7 +36,8 @@ module _ (seats : ℕ) (s : State (Unit {0}) GroupView) (r : IsKept group_rows s
   made far = absurd (subst (In m.stride) (r.unmade m.seat far (r.shows.there m h)).own ran_it)
 
   -- a seat of this number has the row among its strides
-  has_it : (place : ℕ) (u : Seated GroupKnown GroupStep) → Sits group_rows seats r.world r.history r.spot r.made place u → u.number ≡ m.seat → In m.stride u.gone
+  has_it : (place : ℕ) (u : Seated GroupKnown GroupStep) → Sits group_rows seats r.world r.history r.spot r.made place u
+      → u.number ≡ m.seat → In m.stride u.gone
   has_it place u o e = subst (In m.stride) o.knows.own (subst (λ n. In m.stride (strides_of n r.world.history)) (λ i. sym e i) ran_it)
 
   seated : m.seat < r.made → IsOfASeat seats s m

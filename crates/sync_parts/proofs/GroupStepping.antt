@@ -1,5 +1,6 @@
 -- The four kinds of step lead on, and tell which row ran.
-use Rattle.std.proofs.Common.{◌≡◌, ◌≢◌, ℕ, ◌+◌, ◌*◌, ◌/◌, ◌%◌, ◌<◌, ◌==◌, if◌then◌else◌, Bool, ℤ, [], ◌∷◌, ◌++◌, sym, refl, ap, ◌∙◌, subst, arith, eq-eqb}
+use Rattle.std.proofs.Common.{◌≡◌, ◌≢◌, ℕ, ◌+◌, ◌*◌, ◌/◌, ◌%◌, ◌<◌, ◌==◌, if◌then◌else◌, Bool, ℤ, [], ◌∷◌}
+use Rattle.std.proofs.Common.{◌++◌, sym, refl, ap, ◌∙◌, subst, arith, eq-eqb}
 use Rattle.std.proofs.Common.{ne_eqb, eqb-true}
 use Rattle.std.specs.Prelude.{FitsSigned}
 use Rattle.std.specs.Int.{w32, cast_signed, cast_unsigned}
@@ -51,7 +52,8 @@ load_keeps (Releases n) w = refl
 pub load_owes : (seats slots : ℕ) (m : Me) → Follows m.0.own.knows.next (load_row m.0.own.knows.next)
     → Owes group_rows seats m 0 (λ n. n) (runs_access group_rows at_load (atomic.step slots 0 0 0 none) m)
 load_owes seats slots m follows =
-    owes seats m (load_row m.0.own.knows.next) follows (λ n. n) (λ n below. load_keeps m.0.own.knows.next (word_in n)) (at_load (atomic.step slots 0 0 0 none)) refl
+    owes seats m (load_row m.0.own.knows.next) follows (λ n. n) (λ n below. load_keeps m.0.own.knows.next (word_in n))
+    (at_load (atomic.step slots 0 0 0 none)) refl
 
 -- a seat that goes to a row is at it
 standing : (row : GroupRow) (v : GroupKnown) → v.next ≡ Goes row → v ≡ at_row row v

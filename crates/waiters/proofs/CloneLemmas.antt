@@ -10,7 +10,8 @@ use Rattle.waiters.specs.Chains.{waits_from, waits_in, listed, Linked, HasRoom, 
 use Rattle.waiters.proofs.SlotLemmas.{slab_len-same, trimmed-same}
 
 -- where a clone of a value is that value, a clone of a slab has the same values
-pub SameValues-clone : {T : Type 0} (is_clone : T → T → Type 0) (slab copy : Slab T) → ((x y : T) → is_clone x y → y ≡ x) → IsSlabClone is_clone slab copy → SameValues slab copy
+pub SameValues-clone : {T : Type 0} (is_clone : T → T → Type 0) (slab copy : Slab T) → ((x y : T) → is_clone x y → y ≡ x)
+    → IsSlabClone is_clone slab copy → SameValues slab copy
 SameValues-clone {T} is_clone slab copy same clones key =
     ap (λ slots. get_or slots key None) (same_from_all_zip (IsSlotClone is_clone) slab.slots copy.slots clones.slots same_slot)
   where
@@ -24,7 +25,8 @@ HasRoom-same slab copy room same fits old =
     record { fits = fits; bounded = omega (arith, slab_len-same slab copy same, old.bounded) }
 
 -- with as much memory there is room for as many
-HasRoomFor-same : {T : Type 0} (slab copy : Slab T) (room : ℕ) → SameValues slab copy → slab.capacity ≤ copy.capacity → HasRoomFor slab room → HasRoomFor copy room
+HasRoomFor-same : {T : Type 0} (slab copy : Slab T) (room : ℕ) → SameValues slab copy → slab.capacity ≤ copy.capacity
+    → HasRoomFor slab room → HasRoomFor copy room
 HasRoomFor-same slab copy room same grown fits = omega (arith, slab_len-same slab copy same, grown, fits)
 
 -- more memory changes no value
@@ -32,7 +34,9 @@ pub SameValues-grown : {T : Type 0} (slab later : Slab T) → later ≡ record s
 SameValues-grown slab later kept key = ap (λ s. get s key) kept
 
 module _ (records copy : Slab Record) (same : SameValues records copy) where
-  same_step : (left key : ℕ) (slot : Option Record) → get records key ≡ slot → ((here : Option ℕ) → waits_from copy left here ≡ waits_from records left here) → waits_from copy (suc left) (Some key) ≡ waits_from records (suc left) (Some key)
+  same_step : (left key : ℕ) (slot : Option Record) → get records key ≡ slot
+      → ((here : Option ℕ) → waits_from copy left here ≡ waits_from records left here) → waits_from copy (suc left) (Some key)
+      ≡ waits_from records (suc left) (Some key)
   same_step left key None is later = rw (waits_from, same key, is) refl
   same_step left key (Some found) is later =
       rw (waits_from, same key, is) (ap (λ rest. found.wait ∷ rest) (later found.next))
@@ -60,7 +64,8 @@ module _ (records copy : Slab Record) (same : SameValues records copy) where
     pub listed-same : listed copy next ≡ listed records chains
     listed-same = trimmed-same (map (waits_in copy) next.slots) (map (waits_in records) chains.slots) same_at
 
-    pub AreChained-same : (room list_room : ℕ) → HasRoomFor copy room → HasRoomFor next list_room → AreChained records chains room list_room → AreChained copy next room list_room
+    pub AreChained-same : (room list_room : ℕ) → HasRoomFor copy room → HasRoomFor next list_room
+        → AreChained records chains room list_room → AreChained copy next room list_room
     AreChained-same room list_room fits lists_fit old =
         record {
           owner = old.owner;
@@ -80,6 +85,8 @@ module _ (records copy : Slab Record) (same : SameValues records copy) where
           chains_fit = HasRoom-same chains next list_room same_chains lists_fit old.chains_fit;
         }
 
-    pub AreChained-copied : (room list_room : ℕ) → records.capacity ≤ copy.capacity → chains.capacity ≤ next.capacity → AreChained records chains room list_room → AreChained copy next room list_room
+    pub AreChained-copied : (room list_room : ℕ) → records.capacity ≤ copy.capacity → chains.capacity ≤ next.capacity
+        → AreChained records chains room list_room → AreChained copy next room list_room
     AreChained-copied room list_room grown lists_grown old =
-        AreChained-same room list_room (HasRoomFor-same records copy room same grown old.records_fit.fits) (HasRoomFor-same chains next list_room same_chains lists_grown old.chains_fit.fits) old
+        AreChained-same room list_room (HasRoomFor-same records copy room same grown old.records_fit.fits)
+        (HasRoomFor-same chains next list_room same_chains lists_grown old.chains_fit.fits) old

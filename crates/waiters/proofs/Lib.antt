@@ -3,6 +3,7 @@ pub mod CloneLemmas
 pub mod CopyLemmas
 pub mod LeftLemmas
 pub mod SlotLemmas
+pub mod OtherLemmas
 pub mod StepLemmas
 pub mod WalkLemmas
 pub mod WordLemmas

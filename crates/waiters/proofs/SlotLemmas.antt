@@ -1,5 +1,6 @@
 -- Lemmas on slots, which have a value or nothing: what they hold up to the last value, and how many values.
-use Rattle.std.proofs.Common.{◌≡◌, ◌≢◌, ℕ, zero, suc, ◌+◌, ◌<◌, ◌≤◌, List, [], ◌∷◌, length, get_or, Option, Some, None, is_some, true, cond, count_by, refl}
+use Rattle.std.proofs.Common.{◌≡◌, ◌≢◌, ℕ, zero, suc, ◌+◌, ◌<◌, ◌≤◌, List, [], ◌∷◌, length, get_or, Option, Some, None}
+use Rattle.std.proofs.Common.{is_some, true, cond, count_by, refl}
 use Rattle.std.proofs.Common.{sym, ap, ◌∙◌, inl, inr, arith}
 use Rattle.std.proofs.lemmas.Bool.{cases_eq, cases_lt}
 use Rattle.std.proofs.lemmas.List.{get_or_past}
@@ -26,7 +27,8 @@ module _ {T : Type 0} where
   get_or-trimmed (slot ∷ rest) (suc key) = get_or-tail slot (trimmed rest) key ∙ get_or-trimmed rest key
 
   -- slots that hold the same up to their last values are the same up to there
-  pub trimmed-same : (slots others : List (Option T)) → ((key : ℕ) → get_or slots key None ≡ get_or others key None) → trimmed slots ≡ trimmed others
+  pub trimmed-same : (slots others : List (Option T))
+      → ((key : ℕ) → get_or slots key None ≡ get_or others key None) → trimmed slots ≡ trimmed others
   trimmed-same [] [] same = refl
   trimmed-same [] (other ∷ others) same =
       ap (λ rest. put_before None rest) (trimmed-same [] others (λ key. same (suc key))) ∙ ap (λ slot. put_before slot (trimmed others)) (same zero)
@@ -65,7 +67,8 @@ module _ {T : Type 0} where
       omega (arith, some_more found slots, some_more value others, count_all slots others (later (Some found) (Some value) slots others all))
 
   -- where there are no more values, there are no others
-  same_all : (slots others : List (Option T)) → HaveAll slots others → values_in slots ≤ values_in others → (key : ℕ) → get_or slots key None ≡ get_or others key None
+  same_all : (slots others : List (Option T)) → HaveAll slots others → values_in slots ≤ values_in others → (key : ℕ)
+      → get_or slots key None ≡ get_or others key None
   same_all [] [] all few key = refl
   same_all (None ∷ slots) [] all few zero = refl
   same_all (None ∷ slots) [] all few (suc key) =
@@ -103,14 +106,16 @@ module _ {T : Type 0} where
   vacant_slot (Some value ∷ rest) (suc key) within vacant = omega (arith, some_more value rest, vacant_slot rest key (omega arith) vacant)
 
   -- a vacant key below the capacity leaves room
-  pub HasRoomFor-vacant : (slab : Slab T) (key : ℕ) → length slab.slots ≤ slab.capacity → key < slab.capacity → get slab key ≡ None → HasRoomFor slab 1
+  pub HasRoomFor-vacant : (slab : Slab T) (key : ℕ) → length slab.slots ≤ slab.capacity → key < slab.capacity
+      → get slab key ≡ None → HasRoomFor slab 1
   HasRoomFor-vacant slab key slots within vacant = elim (cases_lt key (length slab.slots)) [
     | inl in_slots ↦ omega (arith, vacant_slot slab.slots key in_slots vacant)
     | inr past ↦ omega (arith, count_by-le-length is_some slab.slots)
   ]
 
   -- where there is no room, each key below the capacity has a value
-  pub ContainsKey-full : (slab : Slab T) (key : ℕ) → length slab.slots ≤ slab.capacity → key < slab.capacity → slab.capacity ≤ slab_len slab → ContainsKey slab key
+  pub ContainsKey-full : (slab : Slab T) (key : ℕ) → length slab.slots ≤ slab.capacity → key < slab.capacity
+      → slab.capacity ≤ slab_len slab → ContainsKey slab key
   ContainsKey-full slab key slots within full = by_slot (get slab key) refl
     where
       by_slot : (slot : Option T) → get slab key ≡ slot → is_some slot ≡ true
@@ -118,7 +123,8 @@ module _ {T : Type 0} where
       by_slot (Some value) read = refl
 
   -- an insertion loses no value
-  pub HasAll-inserted : (slab later other : Slab T) (key : ℕ) (value : T) → get slab key ≡ None → Updates slab later key (Some value) → HasAll slab other → HasAll later other
+  pub HasAll-inserted : (slab later other : Slab T) (key : ℕ) (value : T) → get slab key ≡ None → Updates slab later key (Some value)
+      → HasAll slab other → HasAll later other
   HasAll-inserted slab later other key value vacant updates all at found read =
       let kept = all at found read in
       let apart : at ≢ key = λ same. let wrong = sym kept ∙ ap (get slab) same ∙ vacant in absurd (cc) in
@@ -139,7 +145,9 @@ module _ {T : Type 0} where
   abbrev pub HasBelow : Slab T → Slab T → ℕ → Type 0
   HasBelow slab other key = (at : ℕ) (found : T) → at < key → get other at ≡ Some found → get slab at ≡ Some found
 
-  pub HasBelow-put : (slab later other : Slab T) (key : ℕ) (value : T) → get other key ≡ Some value → get later key ≡ Some value → ((at : ℕ) (found : T) → at ≢ key → get slab at ≡ Some found → get later at ≡ Some found) → HasBelow slab other key → HasBelow later other (key + 1)
+  pub HasBelow-put : (slab later other : Slab T) (key : ℕ) (value : T) → get other key ≡ Some value → get later key ≡ Some value
+      → ((at : ℕ) (found : T) → at ≢ key → get slab at ≡ Some found → get later at ≡ Some found)
+      → HasBelow slab other key → HasBelow later other (key + 1)
   HasBelow-put slab later other key value has there kept below at found within read = elim (cases_eq at key) [
     | inl same ↦ ap (get later) same ∙ there ∙ sym has ∙ sym (ap (get other) same) ∙ read
     | inr differs ↦ kept at found differs (below at found (omega arith) read)
@@ -170,7 +178,8 @@ module _ {T : Type 0} where
     past = λ at beyond. get-past slab at (omega arith);
   }
 
-  pub IsCutTo-removed : (slab later other : Slab T) (capacity key : ℕ) → get other key ≡ None → Updates slab later key None → IsCutTo slab other capacity key → IsCutTo later other capacity (key + 1)
+  pub IsCutTo-removed : (slab later other : Slab T) (capacity key : ℕ) → get other key ≡ None → Updates slab later key None
+      → IsCutTo slab other capacity key → IsCutTo later other capacity (key + 1)
   IsCutTo-removed slab later other capacity key vacant updates cut = record {
     all = λ at found read.
         let apart : at ≢ key = λ same. let wrong = sym read ∙ ap (get other) same ∙ vacant in absurd (cc) in
@@ -185,7 +194,8 @@ module _ {T : Type 0} where
     ];
   }
 
-  pub IsCutTo-kept : (slab other : Slab T) (capacity key : ℕ) → ContainsKey other key → IsCutTo slab other capacity key → IsCutTo slab other capacity (key + 1)
+  pub IsCutTo-kept : (slab other : Slab T) (capacity key : ℕ) → ContainsKey other key → IsCutTo slab other capacity key
+      → IsCutTo slab other capacity (key + 1)
   IsCutTo-kept slab other capacity key has cut = record {
     all = cut.all;
     below = λ at within. elim (cases_eq at key) [

@@ -1,141 +1,33 @@
--- Lemmas on one step of `Lists`: one list changes, and every other keeps its records.
-use Rattle.std.proofs.Common.{◌≡◌, ◌≢◌, ℕ, ◌+◌, ◌-◌, ◌<◌, ◌≤◌, ◌^◌, List, [], ◌∷◌, ◌++◌, length, map, Option, Some, None, is_some, cond, eqb, refl, sym, ap}
-use Rattle.std.proofs.Common.{◌∙◌, append-nil, length-append, inl, inr, arith, get_or}
-use Rattle.std.proofs.lemmas.Bool.{cases_eq}
-use Rattle.std.proofs.lemmas.Bool.Decides.{nat_tests}
+-- Lemmas on one step of an open list of `Lists`: what its chain and its waits come to.
+use Rattle.std.proofs.Common.{◌≡◌, ◌≢◌, ℕ, ◌+◌, ◌-◌, ◌<◌, ◌^◌, List, [], ◌∷◌, ◌++◌, length, Option, Some, None, refl}
+use Rattle.std.proofs.Common.{sym, ap, ◌∙◌, append-nil, length-append, arith}
 use Rattle.std.proofs.lemmas.List.{map_push, length-map}
 use Rattle.std.specs.Option.{unwrap_or}
-use Rattle.std.proofs.Math.ListN.{get_or-map}
-use Rattle.slab.specs.Slab.{Slab, get, ContainsKey, slab_len, Updates, with_value}
+use Rattle.slab.specs.Slab.{Slab, get, ContainsKey, Updates, with_value}
 use Rattle.slab.proofs.SlabLemmas.{Updates-with_value}
-use Rattle.waiters.specs.Lists.{Lists, list_at, IsOpen, waits_at, Changes, first_with, without_first}
+use Rattle.waiters.specs.Lists.{Lists, list_at, waits_at, Changes, first_with, without_first}
 use Rattle.waiters.specs.declared.wait.Wait.{Wait}
 use Rattle.waiters.specs.declared.lists.Record.{Record}
 use Rattle.waiters.specs.declared.lists.Chain.{Chain}
 use Rattle.waiters.specs.declared.lists.Place.{Place}
-use Rattle.waiters.specs.Chains.{waits_in, waits_of, listed, Linked, last_key, Links, Owned, IsChain, HasRoom, AreChained, IsThere, Appends, Prepends, Unlinks}
-use Rattle.waiters.specs.Chains.{StandsAt, FoundAt, Finds}
-use Rattle.waiters.proofs.SlotLemmas.{get_or-trimmed}
-use Rattle.waiters.proofs.ChainLemmas.{Avoids, Avoids-last, Linked-split, same_entries, nil_from_last, nil_from_none, Avoids-vacant, Avoids-owned}
-use Rattle.waiters.proofs.ChainLemmas.{Owned-changed, Owned-split, Owned-join, front_of, waits_from-Linked, length-Linked, Linked-Updates, Linked-others}
-use Rattle.waiters.proofs.ChainLemmas.{Relinks-room, last_there, slab_len-with_value, Links-appended, Links-prepended, Links-unlinked}
-
-pub list_at-listed : (records : Slab Record) (chains : Slab Chain) (key : ℕ) → get_or (listed records chains) key None ≡ waits_in records (get chains key)
-list_at-listed records chains key =
-    get_or-trimmed (map (waits_in records) chains.slots) key ∙ get_or-map (waits_in records) chains.slots key None
-
--- a list is open where it has a chain
-pub is_some_listed : (records : Slab Record) (chains : Slab Chain) (key : ℕ) → is_some (get_or (listed records chains) key None) ≡ is_some (get chains key)
-is_some_listed records chains key = ap is_some (list_at-listed records chains key) ∙ by_chain (get chains key)
-  where
-    by_chain : (slot : Option Chain) → is_some (waits_in records slot) ≡ is_some slot
-    by_chain None = refl
-    by_chain (Some chain) = refl
-
-pub ContainsKey-open : (records : Slab Record) (chains : Slab Chain) (lists : Lists) (key at : ℕ) → at ≡ key → lists.slots ≡ listed records chains → IsOpen lists key → ContainsKey chains at
-ContainsKey-open records chains lists key at is was has =
-    rw is (sym (is_some_listed records chains key) ∙ ap (λ slots. is_some (get_or slots key None)) (sym was) ∙ has)
-
-pub waits_in-Links : (records : Slab Record) (chain : Chain) (entries : List (ℕ × Wait)) → Links records chain entries → waits_in records (Some chain) ≡ Some (waits_of entries)
-waits_in-Links records chain entries links =
-    ap Some (waits_from-Linked records entries chain.len chain.first (omega (arith, links.counted)) links.linked)
-
--- the record is the list's from now on
-abbrev pub with_owner : (ℕ → ℕ) → ℕ → ℕ → ℕ → ℕ
-with_owner owner key list other = cond (eqb other key) list (owner other)
-
-with_owner-same : (owner : ℕ → ℕ) (key list : ℕ) → with_owner owner key list key ≡ list
-with_owner-same owner key list = grind (arith, nat_tests)
-
-with_owner-other : (owner : ℕ → ℕ) (key list other : ℕ) → other ≢ key → with_owner owner key list other ≡ owner other
-with_owner-other owner key list other differs = grind (arith, nat_tests)
-
--- the list under a slot is a chain of its own
-abbrev pub IsSlot : Slab Record → (ℕ → ℕ) → ℕ → Option Chain → Type 0
-IsSlot records owner list None = Unit {0}
-IsSlot records owner list (Some chain) = IsChain records owner list chain
-
-module _ (records later : Slab Record) (chains next : Slab Chain) (room list_room : ℕ) (old : AreChained records chains room list_room) (list : ℕ) (slot : Option Chain) (updates : Updates chains next list slot) (owner : ℕ → ℕ) where
-  -- every other list keeps its records
-  abbrev pub Keeps : Type 0
-  Keeps =
-      (other : ℕ) (here : Option ℕ) (entries : List (ℕ × Wait)) → other ≢ list → Linked records here entries None → Owned old.owner other entries
-      → Linked later here entries None × Owned owner other entries
-
-  pub AreChained-step : (room2 list_room2 : ℕ) → Keeps → IsSlot later owner list slot → HasRoom later room2 → HasRoom next list_room2 → AreChained later next room2 list_room2
-  AreChained-step room2 list_room2 keeps is_slot fits lists_fit =
-      record {
-        owner = owner;
-        chained = λ other chain read. elim (cases_eq other list) [
-          | inl same ↦
-              let is : slot ≡ Some chain = sym updates.changed ∙ ap (get next) (sym same) ∙ read in
-              rw same (rw is at is_slot)
-          | inr differs ↦
-              let before = old.chained other chain (sym (updates.others other differs) ∙ read) in
-              let kept = keeps other chain.first before.entries differs before.links.linked before.owned in
-              record {
-                entries = before.entries;
-                links = record { linked = kept.0; ends = before.links.ends; counted = before.links.counted };
-                owned = kept.1;
-              }
-        ];
-        records_fit = fits;
-        chains_fit = lists_fit;
-      }
-
-  same_waits : Keeps → (other : ℕ) (found : Option Chain) → other ≢ list → get chains other ≡ found → waits_in later found ≡ waits_in records found
-  same_waits keeps other None differs read = refl
-  same_waits keeps other (Some chain) differs read =
-      let before = old.chained other chain read in
-      let kept = keeps other chain.first before.entries differs before.links.linked before.owned in
-      let links : Links later chain before.entries = record { linked = kept.0; ends = before.links.ends; counted = before.links.counted } in
-      waits_in-Links later chain before.entries links ∙ sym (waits_in-Links records chain before.entries before.links)
-
-  pub Changes-step : (from to : Lists) (result : Option (List Wait)) → Keeps → from.slots ≡ listed records chains → to.slots ≡ listed later next → waits_in later slot ≡ result → Changes from to list result
-  Changes-step from to result keeps was is gives =
-      record {
-        there = rw is (list_at-listed later next list ∙ ap (waits_in later) updates.changed ∙ gives);
-        elsewhere = λ other differs.
-            rw (is, was) (list_at-listed later next other ∙ ap (waits_in later) (updates.others other differs) ∙ same_waits keeps other (get chains other) differs refl ∙ sym (list_at-listed records chains other));
-      }
-
-module _ {T : Type 0} (old new : Slab T) (room : ℕ) (fits : HasRoom old room) (same : new.capacity ≡ old.capacity) where
-  pub HasRoom-kept : slab_len new ≡ slab_len old → HasRoom new room
-  HasRoom-kept counted = let before = fits in record { fits = omega (arith, fits.fits); bounded = omega (arith, fits.bounded) }
-
-  pub HasRoom-less : 0 < room → slab_len new ≡ slab_len old + 1 → HasRoom new (room - 1)
-  HasRoom-less some counted = record { fits = omega (arith, fits.fits); bounded = omega (arith, fits.bounded) }
-
-  pub HasRoom-more : slab_len new + 1 ≡ slab_len old → HasRoom new (room + 1)
-  HasRoom-more counted = record { fits = omega (arith, fits.fits); bounded = omega (arith, fits.bounded) }
-
--- where no record changes, every list keeps its own
-pub Keeps-same : (records : Slab Record) (owner : ℕ → ℕ) (list other : ℕ) (here : Option ℕ) (entries : List (ℕ × Wait)) → other ≢ list → Linked records here entries None → Owned owner other entries → Linked records here entries None × Owned owner other entries
-Keeps-same records owner list other here entries differs linked owned = (linked, owned)
-
-pub IsSlot-empty : (records : Slab Record) (owner : ℕ → ℕ) (list : ℕ) → IsSlot records owner list (Some (record { first = None; last = None; len = 0 }))
-IsSlot-empty records owner list =
-    record { entries = []; links = record { linked = refl; ends = refl; counted = refl }; owned = tt }
-
--- the last record of a list is none of another's
-Avoids-other : (owner : ℕ → ℕ) (list other : ℕ) (last : Option ℕ) (mine entries : List (ℕ × Wait)) → other ≢ list → last ≡ last_key mine → Owned owner list mine → Owned owner other entries → Avoids last entries
-Avoids-other owner list other None mine entries differs is owned theirs = tt
-Avoids-other owner list other (Some key) mine entries differs is owned theirs =
-    let ends = front_of mine key is in
-    let parts = Owned-split owner list ends.0 ((key, ends.1) ∷ []) (rw ends.2 at owned) in
-    Avoids-owned owner other key entries (λ same. differs (sym same ∙ parts.1.0)) theirs
-
-pub Changes-same : (lists : Lists) (list : ℕ) (result : Option (List Wait)) → list_at lists list ≡ result → Changes lists lists list result
-Changes-same lists list result is = record { there = is; elsewhere = λ other differs. refl }
+use Rattle.waiters.specs.Chains.{waits_in, waits_of, listed, Linked, Links, Owned, IsChain, HasRoom, AreChained, IsThere, Appends, Prepends, Unlinks, StandsAt}
+use Rattle.waiters.specs.Chains.{FoundAt, Finds}
+use Rattle.waiters.proofs.ChainLemmas.{Avoids-last, Linked-split, same_entries, nil_from_last, nil_from_none, Avoids-vacant, Avoids-owned, Owned-changed}
+use Rattle.waiters.proofs.ChainLemmas.{Owned-split, Owned-join, length-Linked, Linked-Updates, Linked-others, Relinks-room, last_there, slab_len-with_value}
+use Rattle.waiters.proofs.ChainLemmas.{Links-appended, Links-prepended, Links-unlinked}
+use Rattle.waiters.proofs.OtherLemmas.{list_at-listed, waits_in-Links, with_owner, with_owner-same, with_owner-other, AreChained-step, Changes-step}
+use Rattle.waiters.proofs.OtherLemmas.{HasRoom-kept, HasRoom-less, HasRoom-more, Avoids-other}
 
 -- the first record of a chain, if it has one
-StandsAt-linked : (records : Slab Record) (first : Option ℕ) (key : ℕ) (entries : List (ℕ × Wait)) → first ≡ Some key → Linked records first entries None → StandsAt entries (record { before = None; key = key })
+StandsAt-linked : (records : Slab Record) (first : Option ℕ) (key : ℕ) (entries : List (ℕ × Wait)) → first ≡ Some key
+    → Linked records first entries None → StandsAt entries (record { before = None; key = key })
 StandsAt-linked records first key [] is linked = absurd (cc)
 StandsAt-linked records first key (entry ∷ rest) is linked =
     let same : key ≡ entry.0 = cc in
     record { passed = []; wait = entry.1; rest = rest; splits = rw same refl; before = refl }
 
-module _ (records : Slab Record) (chains : Slab Chain) (room list_room : ℕ) (old : AreChained records chains room list_room) (list : ℕ) (chain : Chain) (is_open : get chains list ≡ Some chain) where
+module _ (records : Slab Record) (chains : Slab Chain) (room list_room : ℕ) (old : AreChained records chains room list_room) (list : ℕ) (chain : Chain)
+    (is_open : get chains list ≡ Some chain) where
   -- the chain of an open list
   abbrev pub mine : IsChain records old.owner list chain
   mine = old.chained list chain is_open
@@ -157,7 +49,8 @@ module _ (records : Slab Record) (chains : Slab Chain) (room list_room : ℕ) (o
     pub owner : ℕ → ℕ
     pub links : Links later next entries
     pub owned : Owned owner list entries
-    pub keeps : (other : ℕ) (here : Option ℕ) (theirs : List (ℕ × Wait)) → other ≢ list → Linked records here theirs None → Owned old.owner other theirs → Linked later here theirs None × Owned owner other theirs
+    pub keeps : (other : ℕ) (here : Option ℕ) (theirs : List (ℕ × Wait)) → other ≢ list → Linked records here theirs None
+        → Owned old.owner other theirs → Linked later here theirs None × Owned owner other theirs
     pub fits : HasRoom later room2
 
   module _ (later : Slab Record) (next : Chain) (entries : List (ℕ × Wait)) (room2 : ℕ) (step : Step later next entries room2) where
@@ -166,13 +59,18 @@ module _ (records : Slab Record) (chains : Slab Chain) (room list_room : ℕ) (o
 
     pub Step-AreChained : AreChained later (with_value chains list next) room2 list_room
     Step-AreChained =
-        AreChained-step records later chains (with_value chains list next) room list_room old list (Some next) updates step.owner room2 list_room step.keeps (record { entries = entries; links = step.links; owned = step.owned }) step.fits (HasRoom-kept chains (with_value chains list next) list_room old.chains_fit refl (slab_len-with_value chains list next (rw is_open refl)))
+        AreChained-step records later chains (with_value chains list next) room list_room old list (Some next) updates step.owner room2 list_room step.keeps
+        (record { entries = entries; links = step.links; owned = step.owned }) step.fits
+        (HasRoom-kept chains (with_value chains list next) list_room old.chains_fit refl (slab_len-with_value chains list next (rw is_open refl)))
 
-    pub Step-Changes : (from to : Lists) (result : List Wait) → from.slots ≡ listed records chains → to.slots ≡ listed later (with_value chains list next) → waits_of entries ≡ result → Changes from to list (Some result)
+    pub Step-Changes : (from to : Lists) (result : List Wait) → from.slots ≡ listed records chains
+        → to.slots ≡ listed later (with_value chains list next) → waits_of entries ≡ result → Changes from to list (Some result)
     Step-Changes from to result was is gives =
-        Changes-step records later chains (with_value chains list next) room list_room old list (Some next) updates step.owner from to (Some result) step.keeps was is (waits_in-Links later next entries step.links ∙ ap Some gives)
+        Changes-step records later chains (with_value chains list next) room list_room old list (Some next) updates step.owner from to (Some result)
+        step.keeps was is (waits_in-Links later next entries step.links ∙ ap Some gives)
 
-  pub appended : (later : Slab Record) (wait : Wait) (longer : Chain) (appends : Appends records later chain wait longer) → 0 < room → Step later longer (mine.entries ++ (appends.key, wait) ∷ []) (room - 1)
+  pub appended : (later : Slab Record) (wait : Wait) (longer : Chain) (appends : Appends records later chain wait longer) → 0 < room
+      → Step later longer (mine.entries ++ (appends.key, wait) ∷ []) (room - 1)
   appended later wait longer appends some =
       let key = appends.key in
       let owner = with_owner old.owner key list in
@@ -182,18 +80,22 @@ module _ (records : Slab Record) (chains : Slab Chain) (room list_room : ℕ) (o
         owner = owner;
         links = Links-appended records later chain mine.entries wait longer mine.links appends;
         owned =
-            Owned-join owner list mine.entries ((key, wait) ∷ []) (Owned-changed old.owner owner list key mine.entries (with_owner-other old.owner key list) avoids mine.owned) (with_owner-same old.owner key list, tt);
+            Owned-join owner list mine.entries ((key, wait) ∷ [])
+            (Owned-changed old.owner owner list key mine.entries (with_owner-other old.owner key list) avoids mine.owned)
+            (with_owner-same old.owner key list, tt);
         keeps = λ other here theirs differs linked owned.
             let free = Avoids-vacant records key theirs here None appends.vacant linked in
             let kept = Linked-Updates records appends.middle key _ theirs here None appends.added free linked in (
-              Linked-others appends.middle later chain.first chain.last (Some key) longer.first theirs here None appends.relinked (Avoids-other old.owner list other chain.last mine.entries theirs differs mine.links.ends mine.owned owned) kept,
+              Linked-others appends.middle later chain.first chain.last (Some key) longer.first theirs here None appends.relinked
+                  (Avoids-other old.owner list other chain.last mine.entries theirs differs mine.links.ends mine.owned owned) kept,
               Owned-changed old.owner owner other key theirs (with_owner-other old.owner key list) free owned,
             );
         fits =
             HasRoom-less records later room old.records_fit (held.1 ∙ appends.capacity) some (held.0 ∙ appends.room);
       }
 
-  pub prepended : (later : Slab Record) (wait : Wait) (longer : Chain) (prepends : Prepends records later chain wait longer) → 0 < room → Step later longer ((prepends.key, wait) ∷ mine.entries) (room - 1)
+  pub prepended : (later : Slab Record) (wait : Wait) (longer : Chain) (prepends : Prepends records later chain wait longer) → 0 < room
+      → Step later longer ((prepends.key, wait) ∷ mine.entries) (room - 1)
   prepended later wait longer prepends some =
       let key = prepends.key in
       let owner = with_owner old.owner key list in
@@ -211,7 +113,8 @@ module _ (records : Slab Record) (chains : Slab Chain) (room list_room : ℕ) (o
         fits = HasRoom-less records later room old.records_fit prepends.capacity some prepends.room;
       }
 
-  pub unlinked : (later : Slab Record) (place : Place) (wait : Wait) (left : Chain) (stands : StandsAt mine.entries place) → Unlinks records later chain place wait left → Step later left (stands.passed ++ stands.rest) (room + 1)
+  pub unlinked : (later : Slab Record) (place : Place) (wait : Wait) (left : Chain) (stands : StandsAt mine.entries place)
+      → Unlinks records later chain place wait left → Step later left (stands.passed ++ stands.rest) (room + 1)
   unlinked later place wait left stands unlinks =
       let held = Relinks-room unlinks.middle later chain.first place.before unlinks.next left.first unlinks.relinked in
       let parts = Owned-split old.owner list stands.passed ((place.key, stands.wait) ∷ stands.rest) (rw stands.splits at mine.owned) in
@@ -221,8 +124,11 @@ module _ (records : Slab Record) (chains : Slab Chain) (room list_room : ℕ) (o
         owned = Owned-join old.owner list stands.passed stands.rest parts.0 parts.1.1;
         keeps = λ other here theirs differs linked owned.
             let free = Avoids-owned old.owner other place.key theirs (λ same. differs (sym same ∙ parts.1.0)) owned in
-            let kept = Linked-Updates records unlinks.middle place.key None theirs here None unlinks.removed free linked in
-            (Linked-others unlinks.middle later chain.first place.before unlinks.next left.first theirs here None unlinks.relinked (Avoids-other old.owner list other place.before stands.passed theirs differs stands.before parts.0 owned) kept, owned);
+            let kept = Linked-Updates records unlinks.middle place.key None theirs here None unlinks.removed free linked in (
+              Linked-others unlinks.middle later chain.first place.before unlinks.next left.first theirs here None unlinks.relinked
+                  (Avoids-other old.owner list other place.before stands.passed theirs differs stands.before parts.0 owned) kept,
+              owned,
+            );
         fits =
             HasRoom-more records later room old.records_fit (held.1 ∙ unlinks.capacity) (rw held.0 unlinks.room);
       }
@@ -239,25 +145,32 @@ module _ (records : Slab Record) (chains : Slab Chain) (room list_room : ℕ) (o
     AreChained-appended =
         Step-AreChained later longer (mine.entries ++ (appends.key, wait) ∷ []) (room - 1) (appended later wait longer appends some)
 
-    pub Changes-appended : (from to : Lists) → from.slots ≡ listed records chains → to.slots ≡ listed later (with_value chains list longer) → Changes from to list (Some (waits_at from list ++ wait ∷ []))
+    pub Changes-appended : (from to : Lists) → from.slots ≡ listed records chains → to.slots ≡ listed later (with_value chains list longer)
+        → Changes from to list (Some (waits_at from list ++ wait ∷ []))
     Changes-appended from to was is =
-        Step-Changes later longer (mine.entries ++ (appends.key, wait) ∷ []) (room - 1) (appended later wait longer appends some) from to (waits_at from list ++ wait ∷ []) was is (map_push (λ entry. entry.1) mine.entries (appends.key, wait) ∙ ap (λ waits. waits ++ wait ∷ []) (sym (waits_at-open from was)))
+        Step-Changes later longer (mine.entries ++ (appends.key, wait) ∷ []) (room - 1) (appended later wait longer appends some) from to
+        (waits_at from list ++ wait ∷ []) was is
+        (map_push (λ entry. entry.1) mine.entries (appends.key, wait) ∙ ap (λ waits. waits ++ wait ∷ []) (sym (waits_at-open from was)))
 
   module _ (later : Slab Record) (wait : Wait) (longer : Chain) (prepends : Prepends records later chain wait longer) (some : 0 < room) where
     pub AreChained-prepended : AreChained later (with_value chains list longer) (room - 1) list_room
     AreChained-prepended =
         Step-AreChained later longer ((prepends.key, wait) ∷ mine.entries) (room - 1) (prepended later wait longer prepends some)
 
-    pub Changes-prepended : (from to : Lists) → from.slots ≡ listed records chains → to.slots ≡ listed later (with_value chains list longer) → Changes from to list (Some (wait ∷ waits_at from list))
+    pub Changes-prepended : (from to : Lists) → from.slots ≡ listed records chains → to.slots ≡ listed later (with_value chains list longer)
+        → Changes from to list (Some (wait ∷ waits_at from list))
     Changes-prepended from to was is =
-        Step-Changes later longer ((prepends.key, wait) ∷ mine.entries) (room - 1) (prepended later wait longer prepends some) from to (wait ∷ waits_at from list) was is (ap (λ waits. wait ∷ waits) (sym (waits_at-open from was)))
+        Step-Changes later longer ((prepends.key, wait) ∷ mine.entries) (room - 1) (prepended later wait longer prepends some) from to
+        (wait ∷ waits_at from list) was is (ap (λ waits. wait ∷ waits) (sym (waits_at-open from was)))
 
-  module _ (later : Slab Record) (place : Place) (wait : Wait) (left : Chain) (stands : StandsAt mine.entries place) (unlinks : Unlinks records later chain place wait left) where
+  module _ (later : Slab Record) (place : Place) (wait : Wait) (left : Chain) (stands : StandsAt mine.entries place)
+      (unlinks : Unlinks records later chain place wait left) where
     pub AreChained-unlinked : AreChained later (with_value chains list left) (room + 1) list_room
     AreChained-unlinked =
         Step-AreChained later left (stands.passed ++ stands.rest) (room + 1) (unlinked later place wait left stands unlinks)
 
-    pub Changes-unlinked : (from to : Lists) (result : List Wait) → from.slots ≡ listed records chains → to.slots ≡ listed later (with_value chains list left) → waits_of (stands.passed ++ stands.rest) ≡ result → Changes from to list (Some result)
+    pub Changes-unlinked : (from to : Lists) (result : List Wait) → from.slots ≡ listed records chains → to.slots
+        ≡ listed later (with_value chains list left) → waits_of (stands.passed ++ stands.rest) ≡ result → Changes from to list (Some result)
     Changes-unlinked =
         Step-Changes later left (stands.passed ++ stands.rest) (room + 1) (unlinked later place wait left stands unlinks)
 
@@ -268,7 +181,8 @@ module _ (records : Slab Record) (chains : Slab Chain) (room list_room : ℕ) (o
   pub StandsAt-first : (key : ℕ) → chain.first ≡ Some key → StandsAt mine.entries (record { before = None; key = key })
   StandsAt-first key is = StandsAt-linked records chain.first key mine.entries is mine.links.linked
 
-  pub first_waits : (key : ℕ) (stands : StandsAt mine.entries (record { before = None; key = key })) (from : Lists) → from.slots ≡ listed records chains → waits_at from list ≡ stands.wait ∷ waits_of (stands.passed ++ stands.rest)
+  pub first_waits : (key : ℕ) (stands : StandsAt mine.entries (record { before = None; key = key })) (from : Lists) → from.slots ≡ listed records chains
+      → waits_at from list ≡ stands.wait ∷ waits_of (stands.passed ++ stands.rest)
   first_waits key stands from was =
       let nil = nil_from_last stands.passed stands.before in
       let splits = stands.splits ∙ ap (λ front. front ++ (key, stands.wait) ∷ stands.rest) nil in
@@ -282,7 +196,8 @@ module _ (records : Slab Record) (chains : Slab Chain) (room list_room : ℕ) (o
       let same = same_entries records finds.0 mine.entries chain.first finds.1.linked mine.links.linked in
       rw same at finds.2
 
-  pub none_found : (ticket : ℕ) (from : Lists) → from.slots ≡ listed records chains → Finds records chain ticket None → (first_with ticket (waits_at from list) ≡ None) × (list_at from list ≡ Some (without_first ticket (waits_at from list)))
+  pub none_found : (ticket : ℕ) (from : Lists) → from.slots ≡ listed records chains → Finds records chain ticket None
+      → (first_with ticket (waits_at from list) ≡ None) × (list_at from list ≡ Some (without_first ticket (waits_at from list)))
   none_found ticket from was finds =
       let same = same_entries records finds.0 mine.entries chain.first finds.1.linked mine.links.linked in
       let waits = waits_at-open from was in (
@@ -318,16 +233,3 @@ module _ (records : Slab Record) (chains : Slab Chain) (room list_room : ℕ) (o
     pub some_counted : 0 < chain.len
     some_counted =
         omega (arith, mine.links.counted, ap length stands.splits, length-append stands.passed ((place.key, stands.wait) ∷ stands.rest))
-
-pub HasRoom-empty : {T : Type 0} (values : Slab T) (room : ℕ) → values.slots ≡ [] → room ≤ values.capacity → room < 2 ^ 64 → HasRoom values room
-HasRoom-empty values room empty fits bounded =
-    record { fits = rw empty (omega arith); bounded = rw empty (omega arith) }
-
-pub AreChained-empty : (records : Slab Record) (chains : Slab Chain) (room list_room : ℕ) → chains.slots ≡ [] → HasRoom records room → HasRoom chains list_room → AreChained records chains room list_room
-AreChained-empty records chains room list_room empty fits lists_fit =
-    record {
-      owner = λ key. key;
-      chained = λ list chain read. let found = rw empty at read in absurd (cc);
-      records_fit = fits;
-      chains_fit = lists_fit;
-    }

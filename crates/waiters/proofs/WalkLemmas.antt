@@ -1,5 +1,6 @@
 -- Lemmas on a walk along a chain.
-use Rattle.std.proofs.Common.{◌≡◌, ◌≢◌, ℕ, ◌+◌, ◌<◌, ◌≤◌, List, [], ◌∷◌, ◌++◌, length, Option, Some, None, refl, sym, ap, ◌∙◌, arith, append_assoc, append-nil}
+use Rattle.std.proofs.Common.{◌≡◌, ◌≢◌, ℕ, ◌+◌, ◌<◌, ◌≤◌, List, [], ◌∷◌, ◌++◌, length, Option, Some, None, refl, sym, ap}
+use Rattle.std.proofs.Common.{◌∙◌, arith, append_assoc, append-nil}
 use Rattle.std.proofs.Common.{length-append}
 use Rattle.std.proofs.lemmas.List.{map-append}
 use Rattle.std.proofs.lemmas.Bool.Decides.{nat_tests}
@@ -14,17 +15,20 @@ use Rattle.waiters.proofs.ChainLemmas.{waits_from-Linked, last_key-append}
 pub first_with-here : (ticket : ℕ) (wait : Wait) (rest : List Wait) → wait.ticket ≡ ticket → first_with ticket (wait ∷ rest) ≡ Some wait
 first_with-here ticket wait rest same = grind (arith, nat_tests)
 
-pub first_with-later : (ticket : ℕ) (wait : Wait) (rest : List Wait) → wait.ticket ≢ ticket → first_with ticket (wait ∷ rest) ≡ first_with ticket rest
+pub first_with-later : (ticket : ℕ) (wait : Wait) (rest : List Wait) → wait.ticket ≢ ticket
+    → first_with ticket (wait ∷ rest) ≡ first_with ticket rest
 first_with-later ticket wait rest differs = grind (arith, nat_tests)
 
 pub without_first-here : (ticket : ℕ) (wait : Wait) (rest : List Wait) → wait.ticket ≡ ticket → without_first ticket (wait ∷ rest) ≡ rest
 without_first-here ticket wait rest same = grind (arith, nat_tests)
 
-pub without_first-later : (ticket : ℕ) (wait : Wait) (rest : List Wait) → wait.ticket ≢ ticket → without_first ticket (wait ∷ rest) ≡ wait ∷ without_first ticket rest
+pub without_first-later : (ticket : ℕ) (wait : Wait) (rest : List Wait) → wait.ticket ≢ ticket
+    → without_first ticket (wait ∷ rest) ≡ wait ∷ without_first ticket rest
 without_first-later ticket wait rest differs = grind (arith, nat_tests)
 
 module _ (records : Slab Record) where
-  pub Linked-from : (here : Option ℕ) (key : ℕ) (rest : List (ℕ × Wait)) → here ≡ Some key → Linked records here rest None → Linked records (Some key) rest None
+  pub Linked-from : (here : Option ℕ) (key : ℕ) (rest : List (ℕ × Wait)) → here ≡ Some key
+      → Linked records here rest None → Linked records (Some key) rest None
   Linked-from here key rest is linked = rw is at linked
 
   pub Linked-there : (key : ℕ) (rest : List (ℕ × Wait)) → Linked records (Some key) rest None → ContainsKey records key
@@ -33,7 +37,8 @@ module _ (records : Slab Record) where
       let same : key ≡ entry.0 = cc in rw (same, linked.2) refl
 
   -- a record that is linked to comes next
-  pub Linked-next : (key : ℕ) (found : Record) (rest : List (ℕ × Wait)) → Linked records (Some key) rest None → get records key ≡ Some found → (later : List (ℕ × Wait)) × (rest ≡ (key, found.wait) ∷ later) × Linked records found.next later None
+  pub Linked-next : (key : ℕ) (found : Record) (rest : List (ℕ × Wait)) → Linked records (Some key) rest None → get records key ≡ Some found
+      → (later : List (ℕ × Wait)) × (rest ≡ (key, found.wait) ∷ later) × Linked records found.next later None
   Linked-next key found [] linked read = absurd (cc)
   Linked-next key found (entry ∷ later) linked read =
       let same : key ≡ entry.0 = cc in
@@ -55,7 +60,8 @@ module _ (records : Slab Record) (chain : Chain) (ticket : ℕ) where
       }
 
   module _ (before : Option ℕ) (key : ℕ) (found : Record) (walked : WalkedTo records chain ticket before (Some key)) where
-    passing : (later : List (ℕ × Wait)) → walked.rest ≡ (key, found.wait) ∷ later → Linked records found.next later None → found.wait.ticket ≢ ticket → WalkedTo records chain ticket (Some key) found.next
+    passing : (later : List (ℕ × Wait)) → walked.rest ≡ (key, found.wait) ∷ later → Linked records found.next later None
+        → found.wait.ticket ≢ ticket → WalkedTo records chain ticket (Some key) found.next
     passing later is left differs =
         let more : List (ℕ × Wait) = walked.passed ++ (key, found.wait) ∷ [] in
         let same : walked.passed ++ walked.rest ≡ more ++ later =
@@ -68,7 +74,12 @@ module _ (records : Slab Record) (chain : Chain) (ticket : ℕ) where
           ends = sym (last_key-append walked.passed (key, found.wait) []);
           first = rw (← same) (walked.first ∙ rw is (first_with-later ticket found.wait (waits_of later) differs));
           without =
-              rw (← same) (walked.without ∙ rw (is, map-append (λ entry. entry.1) walked.passed ((key, found.wait) ∷ []), append_assoc (waits_of walked.passed) (found.wait ∷ [])) (ap (λ waits. waits_of walked.passed ++ waits) (without_first-later ticket found.wait (waits_of later) differs)));
+              rw (← same)
+              (walked.without ∙ rw (
+                is,
+                map-append (λ entry. entry.1) walked.passed ((key, found.wait) ∷ []),
+                append_assoc (waits_of walked.passed) (found.wait ∷ []),
+              ) (ap (λ waits. waits_of walked.passed ++ waits) (without_first-later ticket found.wait (waits_of later) differs)));
         }
 
     pub WalkedTo-next : get records key ≡ Some found → found.wait.ticket ≢ ticket → WalkedTo records chain ticket (Some key) found.next
@@ -76,7 +87,8 @@ module _ (records : Slab Record) (chain : Chain) (ticket : ℕ) where
         let step = Linked-next records key found walked.rest walked.left read in
         passing step.0 step.1 step.2 differs
 
-    arriving : (later : List (ℕ × Wait)) → walked.rest ≡ (key, found.wait) ∷ later → found.wait.ticket ≡ ticket → Finds records chain ticket (Some (record { before = before; key = key }))
+    arriving : (later : List (ℕ × Wait)) → walked.rest ≡ (key, found.wait) ∷ later → found.wait.ticket ≡ ticket
+        → Finds records chain ticket (Some (record { before = before; key = key }))
     arriving later is same = (
       walked.passed ++ walked.rest,
       walked.links,
@@ -91,16 +103,19 @@ module _ (records : Slab Record) (chain : Chain) (ticket : ℕ) where
             };
         first = walked.first ∙ rw is (first_with-here ticket found.wait (waits_of later) same);
         without =
-            walked.without ∙ rw (is, map-append (λ entry. entry.1) walked.passed later) (ap (λ waits. waits_of walked.passed ++ waits) (without_first-here ticket found.wait (waits_of later) same));
+            walked.without ∙ rw (is, map-append (λ entry. entry.1) walked.passed later)
+            (ap (λ waits. waits_of walked.passed ++ waits) (without_first-here ticket found.wait (waits_of later) same));
       },
     )
 
-    pub WalkedTo-found : get records key ≡ Some found → found.wait.ticket ≡ ticket → Finds records chain ticket (Some (record { before = before; key = key }))
+    pub WalkedTo-found : get records key ≡ Some found → found.wait.ticket ≡ ticket
+        → Finds records chain ticket (Some (record { before = before; key = key }))
     WalkedTo-found read same =
         let step = Linked-next records key found walked.rest walked.left read in arriving step.0 step.1 same
 
     -- the walk gets shorter
-    pub WalkedTo-shorter : get records key ≡ Some found → length (waits_from records chain.len found.next) < length (waits_from records chain.len (Some key))
+    pub WalkedTo-shorter : get records key ≡ Some found → length (waits_from records chain.len found.next)
+        < length (waits_from records chain.len (Some key))
     WalkedTo-shorter read =
         let step = Linked-next records key found walked.rest walked.left read in
         let counted = rw step.1 at walked.links.counted in

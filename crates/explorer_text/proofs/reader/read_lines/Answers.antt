@@ -21,13 +21,15 @@ pub returns-in-Err-clause-fault : goal.returns-in-Err-clause-fault
 returns-in-Err-clause-fault c =
     let p : Piece = record { text = c.first_line-ended.result.0.now; ended = c.first_line-ended.result.2 } in
     failed c.args.text.now c.loop-rest.rest.now c.first_line-ended.result.1.now (map line_of c.loop-rest.lines.items) p (c.len-number.result + 1) c.in-Err.cause
-    (grind (arith, length-map)) c.loop-rest.invariant.so_far c.first_line-ended.ensures.line (subst (λ (ls : List code.the_data). Judges (map line_of ls) p (Err c.in-Err.cause)) c.deref.ensures.value c.in-Err.ensures)
+    (grind (arith, length-map)) c.loop-rest.invariant.so_far c.first_line-ended.ensures.line
+    (subst (λ (ls : List code.the_data). Judges (map line_of ls) p (Err c.in-Err.cause)) c.deref.ensures.value c.in-Err.ensures)
 
 pub add_line-requires-clause-fits : goal.add_line-requires-clause-fits
 add_line-requires-clause-fits c =
     let p : Piece = record { text = c.first_line-ended.result.0.now; ended = c.first_line-ended.result.2 } in
     let h : IsOnlyRight (map line_of c.loop-rest.lines.items) p (line_of c.in-Ok.line) = (rw (c.deref.ensures.value) at c.in-Ok.ensures) in
-    fits (map line_of c.loop-rest.lines.items) (line_of c.in-Ok.line) c.loop-rest.invariant.kept (passes (map line_of c.loop-rest.lines.items) p (line_of c.in-Ok.line) h.0)
+    fits (map line_of c.loop-rest.lines.items) (line_of c.in-Ok.line) c.loop-rest.invariant.kept
+    (passes (map line_of c.loop-rest.lines.items) p (line_of c.in-Ok.line) h.0)
 
 pub loop-rest-preserved : goal.loop-rest-preserved
 loop-rest-preserved c =
@@ -35,15 +37,21 @@ loop-rest-preserved c =
     let line : Line = line_of c.in-Ok.line in
     let p : Piece = record { text = c.first_line-ended.result.0.now; ended = c.first_line-ended.result.2 } in
     let h : IsOnlyRight before p line = (rw (c.deref.ensures.value) at c.in-Ok.ensures) in
-    let items : map line_of c.add_line.new.lines.items ≡ before ++ (line ∷ []) = ap (map line_of) c.in-Ok-add_line.ensures.lines ∙ map_push line_of c.loop-rest.lines.items c.in-Ok.line in
+    let items : map line_of c.add_line.new.lines.items ≡ before ++ (line ∷ []) = ap (map line_of) c.in-Ok-add_line.ensures.lines
+    ∙ map_push line_of c.loop-rest.lines.items c.in-Ok.line in
     rw items
     (record {
-      so_far = turn c.args.text.now c.loop-rest.rest.now c.first_line-ended.result.1.now before p line c.loop-rest.invariant.so_far c.first_line-ended.ensures.line h;
+      so_far =
+          turn c.args.text.now c.loop-rest.rest.now c.first_line-ended.result.1.now before p line
+          c.loop-rest.invariant.so_far c.first_line-ended.ensures.line h;
       kept = kept_more before line c.loop-rest.invariant.kept (passes before p line h.0);
-      parts = c.in-Ok-add_line.ensures.parts ∙ ap (λ (q : Parts). with_line q line) c.loop-rest.invariant.parts ∙ sym (fold_push with_line no_parts before line);
-      property = c.in-Ok-add_line.ensures.property ∙ ap (λ (q : Option Property). with_property q line) c.loop-rest.invariant.property ∙ sym (fold_push with_property None before line);
+      parts = c.in-Ok-add_line.ensures.parts ∙ ap (λ (q : Parts). with_line q line) c.loop-rest.invariant.parts
+          ∙ sym (fold_push with_line no_parts before line);
+      property = c.in-Ok-add_line.ensures.property ∙ ap (λ (q : Option Property). with_property q line) c.loop-rest.invariant.property
+          ∙ sym (fold_push with_property None before line);
     })
 
 pub returns-clause-lines : goal.returns-clause-lines
 returns-clause-lines c =
-    are_lines c.args.text.now c.loop-rest.rest.now (map line_of c.loop-rest.lines.items) c.loop-rest.invariant.so_far (nil_from_length c.loop-rest.rest.now (grind arith))
+    are_lines c.args.text.now c.loop-rest.rest.now (map line_of c.loop-rest.lines.items) c.loop-rest.invariant.so_far
+    (nil_from_length c.loop-rest.rest.now (grind arith))

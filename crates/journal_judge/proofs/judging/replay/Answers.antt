@@ -42,7 +42,9 @@ loop-place-preserved c =
       shows = shown_is ∙ ap (λ (a : Account). after a (entry_of e)) c.loop-place.invariant.shows ∙ sym (account_next c.args.journal.now i e lt is);
       lawful = lawful_next c.args.journal.now i e lt is c.loop-place.invariant.lawful
           ((rw (c.as_slice-entries.ensures) at c.in_default.ensures) ∙ ap (λ (a : Account). first_broken a (entry_of e)) c.loop-place.invariant.shows);
-      bounded = subst (IsBounded (i + 1)) (sym shown_is) (bounded_more (length c.args.journal.now.starts) c.args.journal.now.lists i _ e (c.requires.entries i (Add 0 0) lt) c.loop-place.invariant.bounded);
+      bounded =
+          subst (IsBounded (i + 1)) (sym shown_is)
+          (bounded_more (length c.args.journal.now.starts) c.args.journal.now.lists i _ e (c.requires.entries i (Add 0 0) lt) c.loop-place.invariant.bounded);
       numbers = c.in_ok-enter.ensures.sizes.0 ∙ c.loop-place.invariant.numbers;
       queues = c.in_ok-enter.ensures.sizes.1 ∙ c.loop-place.invariant.queues;
       tickets = c.in_ok-enter.ensures.sizes.2 ∙ c.loop-place.invariant.tickets;

@@ -8,8 +8,11 @@ pub loop-rest-preserved : goal.loop-rest-preserved
 loop-rest-preserved c =
     rw (c.in_ok-add.ensures)
     (record {
-      so_far = turn c.args.text.now c.loop-rest.rest.now c.first_line.result.1.now c.first_line.result.0.now c.loop-rest.journal c.in-Some.line c.loop-rest.invariant.so_far c.first_line.ensures.line c.in-Some.ensures;
-      kept = kept_more c.loop-rest.journal c.in-Some.line c.loop-rest.invariant.kept (found (Spells c.loop-rest.journal c.first_line.result.0.now) c.in-Some.line c.in-Some.ensures).follows;
+      so_far = turn c.args.text.now c.loop-rest.rest.now c.first_line.result.1.now c.first_line.result.0.now c.loop-rest.journal c.in-Some.line
+          c.loop-rest.invariant.so_far c.first_line.ensures.line c.in-Some.ensures;
+      kept =
+          kept_more c.loop-rest.journal c.in-Some.line c.loop-rest.invariant.kept
+          (found (Spells c.loop-rest.journal c.first_line.result.0.now) c.in-Some.line c.in-Some.ensures).follows;
       few =
           let more = counted c.loop-rest.journal c.in-Some.line in
           let six = longer c.loop-rest.journal c.first_line.result.0.now c.in-Some.line c.in-Some.ensures in

@@ -16,7 +16,8 @@ new-requires c = let z : Setting = c.args.setting in
     let starts = c.as_slice.ensures.value ∙ c.in_ok-starts.ensures in
     let slots = c.in_ok-slots.ensures in (
       omega arith,
-      subst (λ (p : List ℕ × List Record). Opens list_rows z p.0 (map some p.1)) (λ i. (sym starts i, sym slots.1 i)) (opens z slots.0 c.requires.1 c.requires.0 slots.2),
+      subst (λ (p : List ℕ × List Record). Opens list_rows z p.0 (map some p.1)) (λ i. (sym starts i, sym slots.1 i))
+          (opens z slots.0 c.requires.1 c.requires.0 slots.2),
     )
 
 pub make_seat-token-requires : goal.make_seat-token-requires
@@ -53,7 +54,8 @@ loop-number-preserved c = let inv = c.loop-number.invariant in let f = inv.first
       same = M.own.0 ∙ inv.same;
       first = M.first ∙ (λ i. (making (f i).0, (f i).1));
       made = c.push_reserved.ensures.items
-          ∙ one_more (new_seat t) 1 (n - 1) n c.loop-number.made.items c.new_seat.result (omega arith) inv.made (c.new_seat.ensures ∙ ap (λ (y : ListModel). new_seat y n) of)
+          ∙ one_more (new_seat t) 1 (n - 1) n c.loop-number.made.items c.new_seat.result (omega arith) inv.made
+          (c.new_seat.ensures ∙ ap (λ (y : ListModel). new_seat y n) of)
           ∙ ap (new_seats t 1) (omega arith);
       count = search rules;
       upto = search rules;
@@ -83,6 +85,8 @@ returns c = let inv = c.loop-number.invariant in let key = c.in-Ok.ensures.key i
       allowed = c.requires.0;
       setting = key;
       seats_are = c.in-Ok-insert.ensures.items
-          ∙ in_front t (record { id = id; setting = c.in-Ok.words.table.shared.key }) (c.loop-number.number - 1) c.args.setting.seats c.loop-number.made.items c.new_seat-2.result
-          (ap (λ (y : Setting). record { id = id; setting = y }) (sym key)) (let h = inv.upto in omega arith) inv.made (c.new_seat-2.ensures ∙ ap (λ (y : ListModel). new_seat y 0) of);
+          ∙ in_front t (record { id = id; setting = c.in-Ok.words.table.shared.key }) (c.loop-number.number - 1) c.args.setting.seats
+          c.loop-number.made.items c.new_seat-2.result
+          (ap (λ (y : Setting). record { id = id; setting = y }) (sym key)) (let h = inv.upto in omega arith) inv.made
+          (c.new_seat-2.ensures ∙ ap (λ (y : ListModel). new_seat y 0) of);
     }

@@ -32,7 +32,8 @@ returns-then-upper-lower-clause-merges t c =
     let opens = Opens-holds _ _ _ _ _ c.in-Some.is c.index-upper.ensures c.requires.first_holds in
     let lower_opens = Opens-holds _ _ _ _ _ c.in-Some-second.is c.index-lower.ensures c.requires.second_holds in
     let done = rw (← c.in-Some-second.is) at c.merge-below.ensures.merges in
-    Merges-first _ _ _ _ c.requires opens _ _ _ _ _ lower_opens c.index-upper.ensures c.set_right.ensures.capacity c.if-upper-lower.true done c.set_right.ensures.right
+    Merges-first _ _ _ _ c.requires opens _ _ _ _ _ lower_opens c.index-upper.ensures c.set_right.ensures.capacity
+    c.if-upper-lower.true done c.set_right.ensures.right
 
 pub merge-below-requires-else-upper-lower : goal.merge-below-requires-else-upper-lower
 merge-below-requires-else-upper-lower t c =
@@ -50,4 +51,5 @@ returns-else-upper-lower-clause-merges t c =
     let opens = Opens-holds _ _ _ _ _ c.in-Some-second.is c.index-lower.ensures c.requires.second_holds in
     let upper_opens = Opens-holds _ _ _ _ _ c.in-Some.is c.index-upper.ensures c.requires.first_holds in
     let done = rw (← c.in-Some.is) at c.merge-below-else-upper-lower.ensures.merges in
-    Merges-second _ _ _ _ c.requires opens _ _ _ _ _ upper_opens c.index-lower.ensures c.set_left.ensures.capacity c.if-upper-lower.false done c.set_left.ensures.left
+    Merges-second _ _ _ _ c.requires opens _ _ _ _ _ upper_opens c.index-lower.ensures c.set_left.ensures.capacity
+    c.if-upper-lower.false done c.set_left.ensures.left

@@ -1,4 +1,5 @@
-use Rattle.std.proofs.Common.{rules, ◌≡◌, ℕ, ◌+◌, ◌-◌, ◌*◌, ◌++◌, [], ◌∷◌, replicate, length, take, get_or, sym, ap, ◌∙◌, arith}
+use Rattle.std.proofs.Common.{rules, ◌≡◌, ℕ, ◌+◌, ◌-◌, ◌*◌, ◌++◌, [], ◌∷◌, replicate, length, take, get_or, sym, ap, ◌∙◌}
+use Rattle.std.proofs.Common.{arith}
 use Rattle.std.specs.Vec.{vec_len}
 use Rattle.std.proofs.lemmas.Grind.{common_steps}
 use Rattle.std.proofs.lemmas.List.{take_more, take_all}
@@ -18,9 +19,12 @@ loop-start-preserved c =
 
 pub returns-clause-words : goal.returns-clause-words
 returns-clause-words c =
-    let xs = c.deref-start-items.result.now in let i0 : ℕ = c.loop-start.start-index in let inv = c.loop-start.invariant in let starts = c.args.settings.now.starts.items in let words = c.loop-start.words.items in
-    let others : ℕ = c.args.settings.now.roots + c.args.settings.now.roots + c.args.settings.now.seats + c.args.settings.now.seats + c.args.settings.now.seats + c.args.settings.now.roots in let all : ℕ = 8 * c.len.result + others in
+    let xs = c.deref-start-items.result.now in let i0 : ℕ = c.loop-start.start-index in let inv = c.loop-start.invariant in
+    let starts = c.args.settings.now.starts.items in let words = c.loop-start.words.items in
+    let others : ℕ = c.args.settings.now.roots + c.args.settings.now.roots + c.args.settings.now.seats + c.args.settings.now.seats + c.args.settings.now.seats
+    + c.args.settings.now.roots in let all : ℕ = 8 * c.len.result + others in
     let is : words ≡ apart starts = inv.copied ∙ ap apart (take_all i0 xs (search rules) ∙ c.deref-start-items.ensures.value) in
     let long : length words ≡ 8 * length starts = ap length is ∙ length_apart starts in let len = c.len.ensures in
     let rest : all - vec_len c.loop-start.words ≡ others = omega (arith, long, len) in
-    c.in_ok-resize.ensures.items ∙ (λ i. take_all all words (omega (arith, long, len)) i ++ replicate {A = ℕ} (rest i) 0) ∙ ap (λ l. l ++ replicate others 0) is
+    c.in_ok-resize.ensures.items ∙ (λ i. take_all all words (omega (arith, long, len)) i ++ replicate {A = ℕ} (rest i) 0)
+    ∙ ap (λ l. l ++ replicate others 0) is

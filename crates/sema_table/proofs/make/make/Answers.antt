@@ -44,12 +44,14 @@ pub loop-number-preserved : goal.loop-number-preserved
 loop-number-preserved c = let inv = c.loop-number.invariant in let f = inv.first in let s = c.make_seat-token.ensures in
     let n : ℕ = c.loop-number.number in let z : Setting = setting_of c.args.settings in
     let t : TableModel = record { id = c.in-Ok.words.table.shared.table_id; setting = z } in
-    let of : table_of c.make_seat-token.result ≡ t = λ i. record { id = (s.own.1 ∙ inv.same) i; setting = (ap (λ (m : Me). m.0.own.knows.setting) s.made ∙ ap (λ (m : Me). m.0.own.knows.setting) f) i } in
+    let of : table_of c.make_seat-token.result ≡ t = λ i.
+    record { id = (s.own.1 ∙ inv.same) i; setting = (ap (λ (m : Me). m.0.own.knows.setting) s.made ∙ ap (λ (m : Me). m.0.own.knows.setting) f) i } in
     let count = inv.count in record {
       same = s.own.0 ∙ inv.same;
       first = s.first ∙ (λ i. (record (f i).0 { made = (f i).0.made + 1 }, (f i).1));
       made = c.push_reserved.ensures.items
-          ∙ one_more (new_seat t) 1 (n - 1) n c.loop-number.made.items c.new_seat.result (omega arith) inv.made (c.new_seat.ensures ∙ ap (λ (y : TableModel). new_seat y n) of)
+          ∙ one_more (new_seat t) 1 (n - 1) n c.loop-number.made.items c.new_seat.result (omega arith) inv.made
+          (c.new_seat.ensures ∙ ap (λ (y : TableModel). new_seat y n) of)
           ∙ ap (new_seats t 1) (omega arith);
       count = search rules;
       upto = search rules;
@@ -82,6 +84,8 @@ returns c = let inv = c.loop-number.invariant in let E = c.in-Ok.ensures in let 
       allowed = c.requires;
       setting = key;
       seats_are = c.in-Ok-insert.ensures.items
-          ∙ in_front t (record { id = id; setting = setting_of c.in-Ok.words.table.shared.key }) (c.loop-number.number - 1) c.args.settings.seats c.loop-number.made.items c.new_seat-2.result
-          (ap (λ (y : Setting). record { id = id; setting = y }) (sym key)) (let h = inv.upto in omega arith) inv.made (c.new_seat-2.ensures ∙ ap (λ (y : TableModel). new_seat y 0) of);
+          ∙ in_front t (record { id = id; setting = setting_of c.in-Ok.words.table.shared.key }) (c.loop-number.number - 1) c.args.settings.seats
+          c.loop-number.made.items c.new_seat-2.result
+          (ap (λ (y : Setting). record { id = id; setting = y }) (sym key)) (let h = inv.upto in omega arith) inv.made
+          (c.new_seat-2.ensures ∙ ap (λ (y : TableModel). new_seat y 0) of);
     }

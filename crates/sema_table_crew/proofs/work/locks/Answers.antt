@@ -27,5 +27,8 @@ loop-turn-preserved g c =
     )
 
 pub release-seat-requires : goal.release-seat-requires
-release-seat-requires g c = let was = c.loop-turn.invariant in
-    ((acquired_keeps c.loop-turn.seat c.acquire-seat.result c.counter-counter.result false c.acquire-seat.ensures.caller).table ∙ was.0, c.counter-counter.ensures.inside)
+release-seat-requires g c = let was = c.loop-turn.invariant in (
+  (acquired_keeps c.loop-turn.seat c.acquire-seat.result c.counter-counter.result false c.acquire-seat.ensures.caller).table
+      ∙ was.0,
+  c.counter-counter.ensures.inside,
+)

@@ -7,7 +7,8 @@ loop-at-init c = record { counted = c.requires; same = refl }
 
 pub loop-at-preserved : goal.loop-at-preserved
 loop-at-preserved c =
-    AreCopied-next c.loop-at.lists c.args.others.now c.loop-at.at c.copy_from.new.self c.index-others-at.result c.loop-at-test.true c.index-others-at.is c.in_ok-copy_from.ensures c.loop-at.invariant
+    AreCopied-next c.loop-at.lists c.args.others.now c.loop-at.at c.copy_from.new.self c.index-others-at.result c.loop-at-test.true c.index-others-at.is
+    c.in_ok-copy_from.ensures c.loop-at.invariant
 
 pub returns : goal.returns
 returns c = AreCopied-done c.loop-at.lists c.args.others.now c.loop-at.at c.loop-at-test.false c.loop-at.invariant

@@ -1,4 +1,5 @@
-use Rattle.std.proofs.Common.{rules, ◌≡◌, ℕ, ◌+◌, ◌-◌, ◌<◌, subst, List, [], ◌∷◌, ◌++◌, length, map, sym, ap, ◌∙◌, arith, append_assoc, length-append}
+use Rattle.std.proofs.Common.{rules, ◌≡◌, ℕ, ◌+◌, ◌-◌, ◌<◌, subst, List, [], ◌∷◌, ◌++◌, length, map, sym, ap, ◌∙◌, arith}
+use Rattle.std.proofs.Common.{append_assoc, length-append}
 use Rattle.std.specs.Prelude.{reverse}
 use Rattle.std.specs.List.{range_with_len}
 use Rattle.std.proofs.lemmas.List.{reverse-reverse}
@@ -30,7 +31,9 @@ invariant_of-push_reserved c =
     let made = c.loop-sema.made.items in
     let p = popped (length made + 1) (c.args.word.now.seats - (length made + 1)) c.loop-sema.rest.items c.pop-in-loop-sema.new.self.items
     c.in-Some-pop.sema c.in-Some-pop.ensures.items c.loop-sema.invariant.numbers in record {
-      some = subst (λ (m : Me). 0 < m.0.own.knows.seats) (sym c.split-token.ensures.made.1) (subst (λ (m : Me). 0 < m.0.own.knows.seats) (sym c.loop-sema.invariant.makes) c.requires.some);
+      some =
+          subst (λ (m : Me). 0 < m.0.own.knows.seats) (sym c.split-token.ensures.made.1)
+          (subst (λ (m : Me). 0 < m.0.own.knows.seats) (sym c.loop-sema.invariant.makes) c.requires.some);
       free = ap (λ (m : Me). is_free m.0.own.knows.next) c.split-token.ensures.made.1;
       number = ap (λ (m : Me). m.0.own.number) c.split-token.ensures.made.1 ∙ ap (λ (m : Me). m.0.made) c.loop-sema.invariant.makes ∙ sym p.0;
     }

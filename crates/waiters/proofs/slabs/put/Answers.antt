@@ -6,8 +6,10 @@ use Rattle.waiters.proofs.slabs.put.Goals.{then-loop-slab-test+else-len-capacity
 pub loop-slab-preserved : goal.loop-slab-preserved
 loop-slab-preserved g c =
     let inserted = c.insert_reserved.ensures in
-    let later = c.insert_reserved.new.self in
-    (HasAll-inserted c.loop-slab.slab later c.args.slab.now _ _ inserted.was_vacant inserted.updates c.loop-slab.invariant.0, inserted.capacity ∙ c.loop-slab.invariant.1)
+    let later = c.insert_reserved.new.self in (
+      HasAll-inserted c.loop-slab.slab later c.args.slab.now _ _ inserted.was_vacant inserted.updates c.loop-slab.invariant.0,
+      inserted.capacity ∙ c.loop-slab.invariant.1,
+    )
 
 pub index_mut-requires : goal.index_mut-requires
 index_mut-requires g c = elim c.loop-slab-test.branch [

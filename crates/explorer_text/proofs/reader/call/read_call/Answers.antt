@@ -30,10 +30,13 @@ pub returns-in-Some-keyed-5 : goal.returns-in-Some-keyed-5
 returns-in-Some-keyed-5 c = all_reads c.args.text.now c.in-Some-keyed-5.list c.in-Some-keyed-5.ensures
 
 pub returns-in-Some-read_group_add : goal.returns-in-Some-read_group_add
-returns-in-Some-read_group_add c = group_add_reads c.args.text.now c.in-Some-read_group_add.group c.in-Some-read_group_add.change c.in-Some-read_group_add.ensures
+returns-in-Some-read_group_add c =
+    group_add_reads c.args.text.now c.in-Some-read_group_add.group c.in-Some-read_group_add.change c.in-Some-read_group_add.ensures
 
 pub returns-in-Some-keyed-6 : goal.returns-in-Some-keyed-6
 returns-in-Some-keyed-6 c = gwait_reads c.args.text.now c.in-Some-keyed-6.group c.in-Some-keyed-6.ensures
 
 pub returns : goal.returns
-returns c = no_call c.args.text.now c.in_default.ensures c.in_default-flagged.ensures c.in_default-keyed.ensures c.in_default-flagged-2.ensures c.in_default-pair.ensures c.in_default-keyed-2.ensures c.in_default-keyed-3.ensures c.in_default-keyed-4.ensures c.in_default-keyed-5.ensures c.in_default-read_group_add.ensures c.in_default-keyed-6.ensures
+returns c = no_call c.args.text.now c.in_default.ensures c.in_default-flagged.ensures c.in_default-keyed.ensures c.in_default-flagged-2.ensures
+    c.in_default-pair.ensures c.in_default-keyed-2.ensures c.in_default-keyed-3.ensures c.in_default-keyed-4.ensures c.in_default-keyed-5.ensures
+    c.in_default-read_group_add.ensures c.in_default-keyed-6.ensures

@@ -18,5 +18,8 @@ pub returns-in-Some-2 : goal.returns-in-Some-2
 returns-in-Some-2 c = seat_line c.args.text.now c.in-Some-2.name c.in-Some-2.calls.items (rw c.in-Some-2.is at c.in_ok-name.ensures)
 
 pub returns-in-None : goal.returns-in-None
-returns-in-None c = no_line c.args.text.now c.in_default.ensures c.in_default-keyed.ensures c.in_default-keyed-2.ensures c.in_default-pair.ensures (rw c.in-None.is at c.in_ok-name.ensures)
-    (differs c.eq.result c.args.text.now (codes "group") c.eq.ensures c.if-eq.false) (differs c.eq-2.result c.args.text.now (codes "settled") c.eq-2.ensures c.if-eq-2.false) (differs c.eq-3.result c.args.text.now (codes "no-misuse") c.eq-3.ensures c.if-eq-3.false)
+returns-in-None c = no_line c.args.text.now c.in_default.ensures c.in_default-keyed.ensures c.in_default-keyed-2.ensures c.in_default-pair.ensures
+    (rw c.in-None.is at c.in_ok-name.ensures)
+    (differs c.eq.result c.args.text.now (codes "group") c.eq.ensures c.if-eq.false)
+    (differs c.eq-2.result c.args.text.now (codes "settled") c.eq-2.ensures c.if-eq-2.false)
+    (differs c.eq-3.result c.args.text.now (codes "no-misuse") c.eq-3.ensures c.if-eq-3.false)

@@ -5,8 +5,12 @@ use Rattle.explorer_text.proofs.Parts.{nothing, flagged_reads, stripped_end}
 use Rattle.explorer_text.proofs.reader.number.flagged.Goals as goal
 
 pub returns-in_err-strip_suffix : goal.returns-in_err-strip_suffix
-returns-in_err-strip_suffix c = subst (λ (o : Option ℕ). ReadsAs (IsFlagged c.args.keyword.now c.args.flag.now c.args.text.now) o) (sym c.from_residual.ensures)
-    (nothing (IsFlagged c.args.keyword.now c.args.flag.now c.args.text.now) (λ n p. stripped_end c.args.flag.now c.args.text.now None c.in_err-strip_suffix.ensures.cases (c.args.keyword.now ++ decimal n) (p.1 ∙ sym (append_assoc c.args.keyword.now (decimal n) c.args.flag.now))))
+returns-in_err-strip_suffix c =
+    subst (λ (o : Option ℕ). ReadsAs (IsFlagged c.args.keyword.now c.args.flag.now c.args.text.now) o) (sym c.from_residual.ensures)
+    (nothing (IsFlagged c.args.keyword.now c.args.flag.now c.args.text.now)
+    (λ n p. stripped_end c.args.flag.now c.args.text.now None c.in_err-strip_suffix.ensures.cases (c.args.keyword.now ++ decimal n)
+    (p.1 ∙ sym (append_assoc c.args.keyword.now (decimal n) c.args.flag.now))))
 
 pub returns : goal.returns
-returns c = flagged_reads c.args.keyword.now c.args.flag.now c.in_ok-strip_suffix.field-0.now c.args.text.now c.keyed.result (stripped_end c.args.flag.now c.args.text.now (Some c.in_ok-strip_suffix.field-0) c.in_ok-strip_suffix.ensures.cases) c.keyed.ensures
+returns c = flagged_reads c.args.keyword.now c.args.flag.now c.in_ok-strip_suffix.field-0.now c.args.text.now c.keyed.result
+    (stripped_end c.args.flag.now c.args.text.now (Some c.in_ok-strip_suffix.field-0) c.in_ok-strip_suffix.ensures.cases) c.keyed.ensures

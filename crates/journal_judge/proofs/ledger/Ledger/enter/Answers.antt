@@ -9,7 +9,8 @@ use Rattle.journal_judge.proofs.ledger.Ledger.enter.Goals as goal
 pub returns-in-Add-clause-shown : goal.returns-in-Add-clause-shown
 returns-in-Add-clause-shown c =
     on_ok c.add.result c.add.ensures.shown
-    (λ h. h ∙ add_one (shown c.args.self.now) c.in-Add.counter c.in-Add.seat ∙ ap (λ (e : Entry). after (shown c.args.self.now) (entry_of e)) (sym c.in-Add.is))
+    (λ h. h ∙ add_one (shown c.args.self.now) c.in-Add.counter c.in-Add.seat
+    ∙ ap (λ (e : Entry). after (shown c.args.self.now) (entry_of e)) (sym c.in-Add.is))
 
 pub returns-in-Take-clause-shown : goal.returns-in-Take-clause-shown
 returns-in-Take-clause-shown c = c.take.ensures.shown c.in-Take.seat ∙ ap (λ (e : Entry). after (shown c.args.self.now) (entry_of e)) (sym c.in-Take.is)
@@ -20,7 +21,8 @@ returns-in-Leave-clause-shown c =
     (λ h. h (wait_of c.in-Leave.wait) ∙ ap (λ (e : Entry). after (shown c.args.self.now) (entry_of e)) (sym c.in-Leave.is))
 
 pub returns-in-Ticket-clause-shown : goal.returns-in-Ticket-clause-shown
-returns-in-Ticket-clause-shown c = c.hand_out.ensures.shown c.in-Ticket.seat ∙ ap (λ (e : Entry). after (shown c.args.self.now) (entry_of e)) (sym c.in-Ticket.is)
+returns-in-Ticket-clause-shown c =
+    c.hand_out.ensures.shown c.in-Ticket.seat ∙ ap (λ (e : Entry). after (shown c.args.self.now) (entry_of e)) (sym c.in-Ticket.is)
 
 pub returns-in-Grant-clause-shown : goal.returns-in-Grant-clause-shown
 returns-in-Grant-clause-shown c = c.grant.ensures.shown c.in-Grant.seat ∙ ap (λ (e : Entry). after (shown c.args.self.now) (entry_of e)) (sym c.in-Grant.is)

@@ -14,6 +14,7 @@ returns-clause-shown c = λ seat.
     let old = c.args.self.now.tickets in
     let none : Tickets = record { handed = 0; granted = 0 } in
     let read = get_or_read_under old.items c.args.list old.len c.index_mut.result.now none c.index_mut.ensures.value c.requires old.ok.0 in
-    let told = tickets_put old.items c.args.list old.len (record { handed = c.index_mut.result.now.handed; granted = c.args.upto }) none (Granted c.args.upto seat) c.requires old.ok.0
+    let told = tickets_put old.items c.args.list old.len (record { handed = c.index_mut.result.now.handed; granted = c.args.upto }) none
+    (Granted c.args.upto seat) c.requires old.ok.0
     (ap (λ (t : Tickets). list.counted (Granted c.args.upto seat) (numbers_of t)) read) in
     (λ i. record (shown c.args.self.now) { told = λ k. told k i })

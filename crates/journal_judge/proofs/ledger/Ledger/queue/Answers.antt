@@ -16,7 +16,8 @@ returns-clause-shown c =
     let read = get_or_read_under old.items c.args.counter old.len c.index_mut.result.now [] c.index_mut.ensures.value c.requires old.ok.0 in
     (λ i. record (shown c.args.self.now) {
       lists = λ k. (at_put old.items c.args.counter old.len c.insert.new.self [] c.requires old.ok.0 k
-          ∙ ap (λ (x : List WaitId). put (λ (m : ℕ). get_or old.items m []) c.args.counter x k) (c.in_ok-insert.ensures ∙ ap (insert_wait c.args.lifo (wait_of c.args.wait)) read)) i;
+          ∙ ap (λ (x : List WaitId). put (λ (m : ℕ). get_or old.items m []) c.args.counter x k)
+          (c.in_ok-insert.ensures ∙ ap (insert_wait c.args.lifo (wait_of c.args.wait)) read)) i;
       queued = λ w. (c.in_ok-insert-2.ensures.updates.0 (record { seat = w.seat; turn = w.turn })
           ∙ or_is (is_same (wait_of c.args.wait) w) ((shown c.args.self.now).queued w)) i;
     })

@@ -7,7 +7,9 @@ returns-in_err-n c = failed (IsLast c.args.word.now c.args.end.now c.args.text.n
     (last_none c.args.word.now c.args.end.now c.args.text.now c.requires c.in_err-n.ensures)
 
 pub returns-then-ne : goal.returns-then-ne
-returns-then-ne c = last_other c.args.word.now c.args.end.now c.args.text.now c.in_ok-n.rest.now c.in_ok-n.n c.requires c.in_ok-n.ensures (differ c.ne.result c.in_ok-n.rest.now c.args.end.now c.ne.ensures c.if-ne.true)
+returns-then-ne c = last_other c.args.word.now c.args.end.now c.args.text.now c.in_ok-n.rest.now c.in_ok-n.n c.requires c.in_ok-n.ensures
+    (differ c.ne.result c.in_ok-n.rest.now c.args.end.now c.ne.ensures c.if-ne.true)
 
 pub returns : goal.returns
-returns c = last_made c.args.word.now c.args.end.now c.args.text.now c.in_ok-n.rest.now c.in_ok-n.n c.requires c.in_ok-n.ensures (agree c.ne.result c.in_ok-n.rest.now c.args.end.now c.ne.ensures c.if-ne.false)
+returns c = last_made c.args.word.now c.args.end.now c.args.text.now c.in_ok-n.rest.now c.in_ok-n.n c.requires c.in_ok-n.ensures
+    (agree c.ne.result c.in_ok-n.rest.now c.args.end.now c.ne.ensures c.if-ne.false)

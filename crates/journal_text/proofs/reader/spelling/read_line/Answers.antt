@@ -7,4 +7,5 @@ pub returns-in-Some : goal.returns-in-Some
 returns-in-Some c = entry_line c.args.before.now c.args.text.now c.in-Some.entry (rw c.len.ensures at c.in-Some.ensures)
 
 pub returns : goal.returns
-returns c = head_line c.args.before.now c.args.text.now c.read_head.result (rw c.len.ensures at c.in_default.ensures) (nil_from_length c.args.before.now.entries (omega arith)) c.read_head.ensures
+returns c = head_line c.args.before.now c.args.text.now c.read_head.result (rw c.len.ensures at c.in_default.ensures)
+    (nil_from_length c.args.before.now.entries (omega arith)) c.read_head.ensures

@@ -1,5 +1,5 @@
 use Rattle.lock_text.specs.Words.{texts}
-use Rattle.lock_text.proofs.LayerLines.{all_reads, no_all}
+use Rattle.lock_text.proofs.ListLines.{all_reads, no_all}
 use Rattle.lock_text.proofs.reader.layer.read_all.Goals as goal
 
 pub returns-in_default : goal.returns-in_default

@@ -1,5 +1,5 @@
 use Rattle.lock_text.specs.Words.{texts}
-use Rattle.lock_text.proofs.LayerLines.{one_reads, no_one}
+use Rattle.lock_text.proofs.ListLines.{one_reads, no_one}
 use Rattle.lock_text.proofs.reader.layer.read_one.Goals as goal
 
 pub returns-in_default : goal.returns-in_default

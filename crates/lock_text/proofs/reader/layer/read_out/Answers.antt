@@ -1,5 +1,5 @@
 use Rattle.lock_text.specs.Words.{texts}
-use Rattle.lock_text.proofs.LayerLines.{out_reads, no_out}
+use Rattle.lock_text.proofs.ListLines.{out_reads, no_out}
 use Rattle.lock_text.proofs.reader.layer.read_out.Goals as goal
 
 pub returns-in_default : goal.returns-in_default

@@ -1,5 +1,5 @@
 use Rattle.lock_text.specs.Words.{texts}
-use Rattle.lock_text.proofs.LayerLines.{ticket_reads, no_ticket}
+use Rattle.lock_text.proofs.ListLines.{ticket_reads, no_ticket}
 use Rattle.lock_text.proofs.reader.layer.read_ticket.Goals as goal
 
 pub returns-in_default : goal.returns-in_default

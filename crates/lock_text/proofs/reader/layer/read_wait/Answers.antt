@@ -1,5 +1,5 @@
 use Rattle.lock_text.specs.Words.{texts}
-use Rattle.lock_text.proofs.LayerLines.{wait_reads, no_wait}
+use Rattle.lock_text.proofs.ListLines.{wait_reads, no_wait}
 use Rattle.lock_text.proofs.reader.layer.read_wait.Goals as goal
 
 pub returns-in_default : goal.returns-in_default

@@ -15,7 +15,8 @@ returns-then-eq c =
     let word : List ℕ = (get_or c.args.words.now 0 none).now in
     let first : texts c.args.words.now ≡ word ∷ others c.args.words.now = texts_first c.args.words.now none (grind arith) in
     let register : word ≡ codes "register" = equals c.eq.result word (codes "register") c.eq.ensures c.if-eq.true in
-    let whole : texts c.args.words.now ≡ codes "register" ∷ others c.args.words.now = first ∙ ap (λ (x : List ℕ). x ∷ others c.args.words.now) register in
+    let whole : texts c.args.words.now ≡ codes "register" ∷ others c.args.words.now = first
+    ∙ ap (λ (x : List ℕ). x ∷ others c.args.words.now) register in
     registers (texts c.args.words.now) (others c.args.words.now) c.in-Some-2.names whole c.in_default.ensures (rw c.in-Some-2.is at c.in_ok-names.ensures)
 
 pub returns-in-Some-read_verb : goal.returns-in-Some-read_verb

@@ -20,7 +20,8 @@ add-ticket-requires c =
         owned x c.self.invariant s at,
         (
           low_word x c.self.invariant 0 (omega arith),
-          row_goes s.me (at_place Adding (stands_of s)) (adds seat.free seat.holds_none) at_ticket refl _ 0 (λ n. (n + 1) % 2 ^ 64) (λ e. absurd (omega arith))
+          row_goes s.me (at_place Adding (stands_of s)) (adds seat.free seat.holds_none) at_ticket refl _ 0
+              (λ n. (n + 1) % 2 ^ 64) (λ e. absurd (omega arith))
               (λ w n known. record { word = refl; there = tt; can = refl; becomes = next_is n }),
         ),
       ),
@@ -37,4 +38,5 @@ returns-clause-rows c = let E = c.add-ticket.ensures in let n : ℕ = c.seat.ins
 
 pub returns-clause-caller : goal.returns-clause-caller
 returns-clause-caller c = let s = c.seat.inside in
-    gets_ticket c.args.seat (seat_of c.add-ticket.new.token s.number) (is_sound c.add-ticket.new.token s.number (invariant_of-result c).token_is) (returns-clause-rows c)
+    gets_ticket c.args.seat (seat_of c.add-ticket.new.token s.number)
+    (is_sound c.add-ticket.new.token s.number (invariant_of-result c).token_is) (returns-clause-rows c)

@@ -27,22 +27,28 @@ returns-then-look_for_all g c =
     }
 
 pub lock-requires : goal.lock-requires
-lock-requires g c = may_lock c.args.self.now c.seat.inside.token c.look_for_all.new.token c.seat.inside.number c.seat.invariant (ap (λ (y : SeatModel). y.list) c.seat.view_is ∙ c.requires) c.if-look_for_all.ensures
+lock-requires g c = may_lock c.args.self.now c.seat.inside.token c.look_for_all.new.token c.seat.inside.number c.seat.invariant
+    (ap (λ (y : SeatModel). y.list) c.seat.view_is ∙ c.requires) c.if-look_for_all.ensures
 
 pub reach_all-granted-requires : goal.reach_all-granted-requires
-reach_all-granted-requires g c = let x = c.if-look_for_all.ensures in
-    (x.h, may_reach c.args.self.now c.seat.inside.token c.look_for_all.new.token c.seat.inside.number c.seat.invariant (ap (λ (y : SeatModel). y.list) c.seat.view_is ∙ c.requires) x c.lock.new.token c.lock.ensures)
+reach_all-granted-requires g c = let x = c.if-look_for_all.ensures in (
+  x.h,
+  may_reach c.args.self.now c.seat.inside.token c.look_for_all.new.token c.seat.inside.number c.seat.invariant
+      (ap (λ (y : SeatModel). y.list) c.seat.view_is ∙ c.requires) x c.lock.new.token c.lock.ensures,
+)
 
 pub take_all-requires-clause-seat : goal.take_all-requires-clause-seat
 take_all-requires-clause-seat g c =
-    let l = c.args.self.now in let s = c.seat.inside.token in let t = c.look_for_all.new.token in let n : ℕ = c.seat.inside.number in let own = ap (λ (y : SeatModel). y.list) c.seat.view_is ∙ c.requires in
+    let l = c.args.self.now in let s = c.seat.inside.token in let t = c.look_for_all.new.token in let n : ℕ = c.seat.inside.number in
+    let own = ap (λ (y : SeatModel). y.list) c.seat.view_is ∙ c.requires in
     let x = c.if-look_for_all.ensures in let u = c.lock.new.token in let k : ℕ = c.reach_all-granted.result in let v = c.reach_all-granted.new.token in
     let R = c.reach_all-granted.ensures x.h (may_reach l s t n c.seat.invariant own x u c.lock.ensures) in
     (x.h, k, may_take l s t n c.seat.invariant own x u c.lock.ensures k v R)
 
 pub wake_all-requires-clause-seat : goal.wake_all-requires-clause-seat
 wake_all-requires-clause-seat g c =
-    let l = c.args.self.now in let s = c.seat.inside.token in let t = c.look_for_all.new.token in let n : ℕ = c.seat.inside.number in let own = ap (λ (y : SeatModel). y.list) c.seat.view_is ∙ c.requires in
+    let l = c.args.self.now in let s = c.seat.inside.token in let t = c.look_for_all.new.token in let n : ℕ = c.seat.inside.number in
+    let own = ap (λ (y : SeatModel). y.list) c.seat.view_is ∙ c.requires in
     let x = c.if-look_for_all.ensures in let u = c.lock.new.token in let k : ℕ = c.reach_all-granted.result in let v = c.reach_all-granted.new.token in
     let R = c.reach_all-granted.ensures x.h (may_reach l s t n c.seat.invariant own x u c.lock.ensures) in
     let T = c.take_all.ensures.taken x.h k (may_take l s t n c.seat.invariant own x u c.lock.ensures k v R) in
@@ -50,7 +56,8 @@ wake_all-requires-clause-seat g c =
 
 pub invariant_of-seat-2 : goal.invariant_of-seat-2
 invariant_of-seat-2 g c =
-    let l = c.args.self.now in let s = c.seat.inside.token in let t = c.look_for_all.new.token in let n : ℕ = c.seat.inside.number in let own = ap (λ (y : SeatModel). y.list) c.seat.view_is ∙ c.requires in
+    let l = c.args.self.now in let s = c.seat.inside.token in let t = c.look_for_all.new.token in let n : ℕ = c.seat.inside.number in
+    let own = ap (λ (y : SeatModel). y.list) c.seat.view_is ∙ c.requires in
     let x = c.if-look_for_all.ensures in let u = c.lock.new.token in let k : ℕ = c.reach_all-granted.result in let v = c.reach_all-granted.new.token in
     let R = c.reach_all-granted.ensures x.h (may_reach l s t n c.seat.invariant own x u c.lock.ensures) in
     let T = c.take_all.ensures.taken x.h k (may_take l s t n c.seat.invariant own x u c.lock.ensures k v R) in
@@ -59,14 +66,18 @@ invariant_of-seat-2 g c =
 
 pub returns : goal.returns
 returns g c =
-    let l = c.args.self.now in let s = c.seat.inside.token in let t = c.look_for_all.new.token in let n : ℕ = c.seat.inside.number in let own = ap (λ (y : SeatModel). y.list) c.seat.view_is ∙ c.requires in
+    let l = c.args.self.now in let s = c.seat.inside.token in let t = c.look_for_all.new.token in let n : ℕ = c.seat.inside.number in
+    let own = ap (λ (y : SeatModel). y.list) c.seat.view_is ∙ c.requires in
     let x = c.if-look_for_all.ensures in let u = c.lock.new.token in let k : ℕ = c.reach_all-granted.result in let v = c.reach_all-granted.new.token in
     let R = c.reach_all-granted.ensures x.h (may_reach l s t n c.seat.invariant own x u c.lock.ensures) in
     let T = c.take_all.ensures.taken x.h k (may_take l s t n c.seat.invariant own x u c.lock.ensures k v R) in let y = c.take_all.new.token in
     let W = c.wake_all.ensures x.h (may_wake l s t n c.seat.invariant own x u c.lock.ensures k v R y T) in let z = c.wake_all.new.token in
-    let rows = subst (λ (q : SeatModel). NotifiesAll q k (seat_of z n)) c.seat.view_is (locked_all l s t n c.seat.invariant own x u c.lock.ensures k v R y T z W) in
-    let count = subst (λ (q : SeatModel). GrantsSome q k (seat_of z n)) c.seat.view_is (locked_some l s t n c.seat.invariant own x u c.lock.ensures k v R y T z W) in
-    let granted = subst (λ (q : SeatModel). AllGranted q (seat_of z n)) c.seat.view_is (locked_granted l s t n c.seat.invariant own x u c.lock.ensures k v R y T z W) in record {
+    let rows = subst (λ (q : SeatModel). NotifiesAll q k (seat_of z n)) c.seat.view_is
+    (locked_all l s t n c.seat.invariant own x u c.lock.ensures k v R y T z W) in
+    let count = subst (λ (q : SeatModel). GrantsSome q k (seat_of z n)) c.seat.view_is
+    (locked_some l s t n c.seat.invariant own x u c.lock.ensures k v R y T z W) in
+    let granted = subst (λ (q : SeatModel). AllGranted q (seat_of z n)) c.seat.view_is
+    (locked_granted l s t n c.seat.invariant own x u c.lock.ensures k v R y T z W) in record {
       rows = rows;
       count = count;
       granted = granted;

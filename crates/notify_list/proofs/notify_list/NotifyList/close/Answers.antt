@@ -16,7 +16,8 @@ returns-clause-rows c =
     let token = c.gather-token.result in let F = c.close_with-ended.ensures.values.2 in let s = F.0 in
     let items = c.args.seats.items in let some = made.some in let seated = made.seated in
     let seats = ap (λ (y : ListModel). y.setting.seats) view in let count = c.requires.count in
-    let rows = first_and_rest items c.remove-first.new.self.items c.remove-first.result (omega arith) c.remove-first.ensures.value c.remove-first.ensures.items in
+    let rows = first_and_rest items c.remove-first.new.self.items c.remove-first.result (omega arith)
+    c.remove-first.ensures.value c.remove-first.ensures.items in
     let kept = subst (λ (y : ListModel). IsKept list_rows y.setting s) view F.1.0 in
     let words = slots_items c.close_with-ended.result.words in
     is_closed l.setting s kept token.id token.me.0 (owned c.self.inside made token (G.own ∙ sym view)).1 F.1.1 items

@@ -17,7 +17,8 @@ store_grant-requires c =
         owned x c.self.invariant s at,
         (
           (let g = grant_low x c.self.invariant w.id.seat (omega (arith, mine, low)) in omega (arith, same, word)),
-          grants_at _ s.me c.grant_word.result _ (stands8 l s r.0 w r.2 may r.4) (Grant w.id.seat) 1 _ (λ g. refl) (omega (arith, same, word)) low (λ e. absurd (omega (arith, word, e))),
+          grants_at _ s.me c.grant_word.result _ (stands8 l s r.0 w r.2 may r.4) (Grant w.id.seat) 1 _ (λ g. refl) (omega (arith, same, word)) low
+              (λ e. absurd (omega (arith, word, e))),
         ),
       ),
     )

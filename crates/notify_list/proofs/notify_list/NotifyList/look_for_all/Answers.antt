@@ -40,4 +40,5 @@ load-requires c =
 
 pub returns : goal.returns
 returns c = let E = c.load-waited.ensures in let F = c.load.ensures in
-    looked_for_all c.args.token.now c.load-waited.new.token c.load.new.token c.requires.1.0 c.load-waited.result c.load.result c.requires.1.1 E.went F.went E.own F.own
+    looked_for_all c.args.token.now c.load-waited.new.token c.load.new.token c.requires.1.0 c.load-waited.result c.load.result
+    c.requires.1.1 E.went F.went E.own F.own

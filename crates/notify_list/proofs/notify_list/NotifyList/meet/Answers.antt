@@ -22,7 +22,8 @@ meet-requires c = let x = c.self.inside in let s = c.one.inside.token in let o =
 
 pub invariant_of-one : goal.invariant_of-one
 invariant_of-one c = let M = c.meet.ensures in
-    looked_seat c.one.inside.token c.meet.new.one c.one.inside.number c.meet.result c.one.invariant M.met.one M.own.0 (ap (λ (m : Me). m.1) M.one ∙ c.one.invariant.token_is.bare)
+    looked_seat c.one.inside.token c.meet.new.one c.one.inside.number c.meet.result c.one.invariant M.met.one M.own.0
+    (ap (λ (m : Me). m.1) M.one ∙ c.one.invariant.token_is.bare)
 
 pub invariant_of-other : goal.invariant_of-other
 invariant_of-other c = let M = c.meet.ensures in
@@ -30,11 +31,13 @@ invariant_of-other c = let M = c.meet.ensures in
 
 pub returns-clause-rows : goal.returns-clause-rows
 returns-clause-rows c = let M = c.meet.ensures in let s = c.one.inside.token in let o = c.other.inside.token in
-    subst (λ (q : SeatModel × SeatModel). HasMet q.0 q.1 (seat_of c.meet.new.one c.one.inside.number) (seat_of c.meet.new.other c.other.inside.number)) (λ i. (c.one.view_is i, c.other.view_is i))
+    subst (λ (q : SeatModel × SeatModel). HasMet q.0 q.1 (seat_of c.meet.new.one c.one.inside.number) (seat_of c.meet.new.other c.other.inside.number))
+    (λ i. (c.one.view_is i, c.other.view_is i))
     (have_met s o c.meet.new.one c.meet.new.other c.one.inside.number c.other.inside.number c.meet.result c.one.invariant c.other.invariant M.met
     M.own.0 M.own.1 (ap (λ (m : Me). m.1) M.one ∙ c.one.invariant.token_is.bare) (ap (λ (m : Me). m.1) M.other))
 
 pub returns-clause-caller : goal.returns-clause-caller
 returns-clause-caller c = let s = c.one.inside in let o = c.other.inside in
-    see_the_same c.args.one.now c.args.other.now (seat_of c.meet.new.one s.number) (seat_of c.meet.new.other o.number) (is_sound c.meet.new.one s.number (invariant_of-one c).token_is).lawful
+    see_the_same c.args.one.now c.args.other.now (seat_of c.meet.new.one s.number) (seat_of c.meet.new.other o.number)
+    (is_sound c.meet.new.one s.number (invariant_of-one c).token_is).lawful
     (is_sound c.meet.new.other o.number (invariant_of-other c).token_is).lawful (returns-clause-rows c)

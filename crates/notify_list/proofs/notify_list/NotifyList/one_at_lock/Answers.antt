@@ -11,7 +11,8 @@ use Rattle.notify_list.proofs.notify_list.NotifyList.one_at_lock.Goals as goal
 
 pub lock-requires : goal.lock-requires
 lock-requires g c = let s = c.seat.inside.token in let n : ℕ = c.seat.inside.number in
-    may_lock s n c.requires.place.0 c.seat.invariant (ap (λ (y : SeatModel). y.sight.stands.place) c.seat.view_is ∙ c.requires.place.1) c.args.self.now (ap (λ (y : SeatModel). y.list) c.seat.view_is ∙ c.requires.seat)
+    may_lock s n c.requires.place.0 c.seat.invariant (ap (λ (y : SeatModel). y.sight.stands.place) c.seat.view_is ∙ c.requires.place.1) c.args.self.now
+    (ap (λ (y : SeatModel). y.list) c.seat.view_is ∙ c.requires.seat)
 
 pub load-ticket-requires : goal.load-ticket-requires
 load-ticket-requires g c =
@@ -31,7 +32,8 @@ load-ticket-requires g c =
 
 pub load-requires : goal.load-requires
 load-requires g c =
-    let x = c.self.inside in let s = c.seat.inside.token in let n : ℕ = c.seat.inside.number in let t = c.lock.new.token in let L = c.lock.ensures in let u = c.load-ticket.new.token in let E = c.load-ticket.ensures in
+    let x = c.self.inside in let s = c.seat.inside.token in let n : ℕ = c.seat.inside.number in let t = c.lock.new.token in let L = c.lock.ensures in
+    let u = c.load-ticket.new.token in let E = c.load-ticket.ensures in
     let at3 = ap (λ (y : SeatModel). y.sight.stands.place) c.seat.view_is ∙ c.requires.place.1 in
     let R = w4 s n c.requires.place.0 c.seat.invariant at3 t L u c.load-ticket.result E.went E.own in
     let at = R.list_is ∙ own x s n c.self.view_is c.seat.view_is c.requires.seat in (
@@ -48,11 +50,13 @@ load-requires g c =
 
 pub give_lock-requires : goal.give_lock-requires
 give_lock-requires g c =
-    let x = c.self.inside in let s = c.seat.inside.token in let n : ℕ = c.seat.inside.number in let t = c.lock.new.token in let L = c.lock.ensures in let u = c.load-ticket.new.token in let E = c.load-ticket.ensures in
+    let x = c.self.inside in let s = c.seat.inside.token in let n : ℕ = c.seat.inside.number in let t = c.lock.new.token in let L = c.lock.ensures in
+    let u = c.load-ticket.new.token in let E = c.load-ticket.ensures in
     let y = c.load.new.token in let F = c.load.ensures in let equal = c.if-load-ticket.true in
     let at3 = ap (λ (y : SeatModel). y.sight.stands.place) c.seat.view_is ∙ c.requires.place.1 in
     let R = w4 s n c.requires.place.0 c.seat.invariant at3 t L u c.load-ticket.result E.went E.own in
-    let at : list_of y ≡ list_by x = (λ i. record { id = F.own i; setting = F.went.0.same.1 i }) ∙ R.list_is ∙ own x s n c.self.view_is c.seat.view_is c.requires.seat in (
+    let at : list_of y ≡ list_by x = (λ i. record { id = F.own i; setting = F.went.0.same.1 i }) ∙ R.list_is
+    ∙ own x s n c.self.view_is c.seat.view_is c.requires.seat in (
       omega arith,
       (
         owned x c.self.invariant y at,
@@ -67,14 +71,17 @@ give_lock-requires g c =
 
 pub invariant_of-seat : goal.invariant_of-seat
 invariant_of-seat g c =
-    let s = c.seat.inside.token in let n : ℕ = c.seat.inside.number in let t = c.lock.new.token in let L = c.lock.ensures in let u = c.load-ticket.new.token in let E = c.load-ticket.ensures in
+    let s = c.seat.inside.token in let n : ℕ = c.seat.inside.number in let t = c.lock.new.token in let L = c.lock.ensures in
+    let u = c.load-ticket.new.token in let E = c.load-ticket.ensures in
     let y = c.load.new.token in let F = c.load.ensures in let G = c.give_lock.ensures in let equal = c.if-load-ticket.true in
     let at3 = ap (λ (y : SeatModel). y.sight.stands.place) c.seat.view_is ∙ c.requires.place.1 in
-    seat_none s n c.requires.place.0 c.seat.invariant at3 t L u c.load-ticket.result E.went E.own y c.load.result F.went F.own c.give_lock.new.token equal G.went G.own
+    seat_none s n c.requires.place.0 c.seat.invariant at3 t L u c.load-ticket.result E.went E.own y c.load.result F.went F.own
+    c.give_lock.new.token equal G.went G.own
 
 pub returns-then-load-ticket-clause-rows : goal.returns-then-load-ticket-clause-rows
 returns-then-load-ticket-clause-rows g c h at =
-    let s = c.seat.inside.token in let n : ℕ = c.seat.inside.number in let t = c.lock.new.token in let L = c.lock.ensures in let u = c.load-ticket.new.token in let E = c.load-ticket.ensures in
+    let s = c.seat.inside.token in let n : ℕ = c.seat.inside.number in let t = c.lock.new.token in let L = c.lock.ensures in
+    let u = c.load-ticket.new.token in let E = c.load-ticket.ensures in
     let y = c.load.new.token in let F = c.load.ensures in let G = c.give_lock.ensures in let equal = c.if-load-ticket.true in
     let at3 = ap (λ (y : SeatModel). y.sight.stands.place) c.seat.view_is ∙ at in
     subst (λ (q : SeatModel). EndsOne q h None (seat_of c.give_lock.new.token n)) c.seat.view_is
@@ -82,29 +89,37 @@ returns-then-load-ticket-clause-rows g c h at =
 
 pub grant_one-requires : goal.grant_one-requires
 grant_one-requires g c =
-    let s = c.seat.inside.token in let n : ℕ = c.seat.inside.number in let t = c.lock.new.token in let L = c.lock.ensures in let u = c.load-ticket.new.token in let E = c.load-ticket.ensures in
+    let s = c.seat.inside.token in let n : ℕ = c.seat.inside.number in let t = c.lock.new.token in let L = c.lock.ensures in
+    let u = c.load-ticket.new.token in let E = c.load-ticket.ensures in
     let y = c.load.new.token in let F = c.load.ensures in let unequal = c.if-load-ticket.false in
     let at3 = ap (λ (y : SeatModel). y.sight.stands.place) c.seat.view_is ∙ c.requires.place.1 in (
       c.requires.place.0,
-      may_grant s n c.requires.place.0 c.seat.invariant at3 t L u c.load-ticket.result E.went E.own y c.load.result F.went F.own unequal c.args.self.now (ap (λ (y : SeatModel). y.list) c.seat.view_is ∙ c.requires.seat),
+      may_grant s n c.requires.place.0 c.seat.invariant at3 t L u c.load-ticket.result E.went E.own y c.load.result F.went F.own unequal c.args.self.now
+          (ap (λ (y : SeatModel). y.list) c.seat.view_is ∙ c.requires.seat),
     )
 
 pub invariant_of-seat-2 : goal.invariant_of-seat-2
 invariant_of-seat-2 g c =
-    let s = c.seat.inside.token in let n : ℕ = c.seat.inside.number in let t = c.lock.new.token in let L = c.lock.ensures in let u = c.load-ticket.new.token in let E = c.load-ticket.ensures in
+    let s = c.seat.inside.token in let n : ℕ = c.seat.inside.number in let t = c.lock.new.token in let L = c.lock.ensures in
+    let u = c.load-ticket.new.token in let E = c.load-ticket.ensures in
     let y = c.load.new.token in let F = c.load.ensures in let unequal = c.if-load-ticket.false in
     let at3 = ap (λ (y : SeatModel). y.sight.stands.place) c.seat.view_is ∙ c.requires.place.1 in
-    let may = may_grant s n c.requires.place.0 c.seat.invariant at3 t L u c.load-ticket.result E.went E.own y c.load.result F.went F.own unequal c.args.self.now (ap (λ (y : SeatModel). y.list) c.seat.view_is ∙ c.requires.seat) in
-    seat_some s n c.requires.place.0 c.seat.invariant at3 t L u c.load-ticket.result E.went E.own y c.load.result F.went F.own unequal c.grant_one.new.token (c.grant_one.ensures c.requires.place.0 may)
+    let may = may_grant s n c.requires.place.0 c.seat.invariant at3 t L u c.load-ticket.result E.went E.own y c.load.result F.went F.own unequal c.args.self.now
+    (ap (λ (y : SeatModel). y.list) c.seat.view_is ∙ c.requires.seat) in
+    seat_some s n c.requires.place.0 c.seat.invariant at3 t L u c.load-ticket.result E.went E.own y c.load.result F.went F.own unequal c.grant_one.new.token
+    (c.grant_one.ensures c.requires.place.0 may)
 
 pub returns-clause-rows : goal.returns-clause-rows
 returns-clause-rows g c h at =
-    let s = c.seat.inside.token in let n : ℕ = c.seat.inside.number in let t = c.lock.new.token in let L = c.lock.ensures in let u = c.load-ticket.new.token in let E = c.load-ticket.ensures in
+    let s = c.seat.inside.token in let n : ℕ = c.seat.inside.number in let t = c.lock.new.token in let L = c.lock.ensures in
+    let u = c.load-ticket.new.token in let E = c.load-ticket.ensures in
     let y = c.load.new.token in let F = c.load.ensures in let unequal = c.if-load-ticket.false in
     let at3 = ap (λ (y : SeatModel). y.sight.stands.place) c.seat.view_is ∙ at in
-    let may = may_grant s n h c.seat.invariant at3 t L u c.load-ticket.result E.went E.own y c.load.result F.went F.own unequal c.args.self.now (ap (λ (y : SeatModel). y.list) c.seat.view_is ∙ c.requires.seat) in
+    let may = may_grant s n h c.seat.invariant at3 t L u c.load-ticket.result E.went E.own y c.load.result F.went F.own unequal c.args.self.now
+    (ap (λ (y : SeatModel). y.list) c.seat.view_is ∙ c.requires.seat) in
     subst (λ (q : SeatModel). EndsOne q h (Some c.load-ticket.result) (seat_of c.grant_one.new.token n)) c.seat.view_is
-    (ends_some s n h c.seat.invariant at3 t L u c.load-ticket.result E.went E.own y c.load.result F.went F.own unequal c.grant_one.new.token (c.grant_one.ensures h may))
+    (ends_some s n h c.seat.invariant at3 t L u c.load-ticket.result E.went E.own y c.load.result F.went F.own unequal
+    c.grant_one.new.token (c.grant_one.ensures h may))
 
 pub returns-then-load-ticket-clause-lawful : goal.returns-then-load-ticket-clause-lawful
 returns-then-load-ticket-clause-lawful g c = (is_sound c.give_lock.new.token c.seat.inside.number (invariant_of-seat g c).token_is).lawful

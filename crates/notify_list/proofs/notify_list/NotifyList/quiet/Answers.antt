@@ -31,7 +31,8 @@ load-waited-requires c =
 
 pub load-requires : goal.load-requires
 load-requires c =
-    let x = c.self.inside in let s = c.seat.inside.token in let n : ℕ = c.seat.inside.number in let t = c.load-waited.new.token in let E = c.load-waited.ensures in
+    let x = c.self.inside in let s = c.seat.inside.token in let n : ℕ = c.seat.inside.number in
+    let t = c.load-waited.new.token in let E = c.load-waited.ensures in
     let at = own x s n c.self.view_is c.seat.view_is c.requires in
     let at_t = (λ i. record { id = E.own i; setting = E.went.0.same.1 i }) ∙ at in (
       omega arith,
@@ -47,19 +48,23 @@ load-requires c =
 
 pub invariant_of-seat : goal.invariant_of-seat
 invariant_of-seat c = let E = c.load-waited.ensures in let F = c.load.ensures in
-    looked_seat c.seat.inside.token c.load-waited.new.token c.load.new.token c.seat.inside.number c.load-waited.result c.load.result c.seat.invariant E.went F.went E.own F.own
+    looked_seat c.seat.inside.token c.load-waited.new.token c.load.new.token c.seat.inside.number c.load-waited.result c.load.result
+    c.seat.invariant E.went F.went E.own F.own
 
 pub returns-clause-looked : goal.returns-clause-looked
 returns-clause-looked c = let E = c.load-waited.ensures in let F = c.load.ensures in
     subst (λ (y : SeatModel). HasLooked y (c.load-waited.result == c.load.result) (seat_of c.load.new.token c.seat.inside.number)) c.seat.view_is
-    (looked c.seat.inside.token c.load-waited.new.token c.load.new.token c.seat.inside.number c.load-waited.result c.load.result c.seat.invariant E.went F.went E.own F.own)
+    (looked c.seat.inside.token c.load-waited.new.token c.load.new.token c.seat.inside.number c.load-waited.result c.load.result
+    c.seat.invariant E.went F.went E.own F.own)
 
 pub returns-clause-granted : goal.returns-clause-granted
 returns-clause-granted c e = let E = c.load-waited.ensures in let F = c.load.ensures in
     subst (λ (y : SeatModel). AllGranted y (seat_of c.load.new.token c.seat.inside.number)) c.seat.view_is
-    (all_granted c.seat.inside.token c.load-waited.new.token c.load.new.token c.seat.inside.number c.load-waited.result c.load.result c.seat.invariant E.went F.went E.own F.own (equal_is c.load-waited.result c.load.result e))
+    (all_granted c.seat.inside.token c.load-waited.new.token c.load.new.token c.seat.inside.number c.load-waited.result c.load.result c.seat.invariant
+    E.went F.went E.own F.own (equal_is c.load-waited.result c.load.result e))
 
 pub returns-clause-caller : goal.returns-clause-caller
 returns-clause-caller c = let s = c.seat.inside in
-    finds_all c.args.seat.now (seat_of c.load.new.token s.number) (is_sound c.load.new.token s.number (invariant_of-seat c).token_is) (c.load-waited.result == c.load.result)
+    finds_all c.args.seat.now (seat_of c.load.new.token s.number)
+    (is_sound c.load.new.token s.number (invariant_of-seat c).token_is) (c.load-waited.result == c.load.result)
     (returns-clause-looked c) (returns-clause-granted c)

@@ -21,7 +21,8 @@ load-notified-requires c =
 
 pub load-waited-requires : goal.load-waited-requires
 load-waited-requires c =
-    let x = c.self.inside in let s = c.args.token.now in let l = c.args.self.now in let may = c.requires.1 in let t = c.load-notified.new.token in let E = c.load-notified.ensures in
+    let x = c.self.inside in let s = c.args.token.now in let l = c.args.self.now in let may = c.requires.1 in
+    let t = c.load-notified.new.token in let E = c.load-notified.ensures in
     let R = w4 l s c.requires.0 may t c.load-notified.result E.went E.own in let at = R.list_is ∙ may.0.list_is ∙ sym c.self.view_is in (
       omega arith,
       (
@@ -36,9 +37,11 @@ load-waited-requires c =
 
 pub store-requires : goal.store-requires
 store-requires c =
-    let x = c.self.inside in let s = c.args.token.now in let l = c.args.self.now in let may = c.requires.1 in let t = c.load-notified.new.token in let E = c.load-notified.ensures in
+    let x = c.self.inside in let s = c.args.token.now in let l = c.args.self.now in let may = c.requires.1 in
+    let t = c.load-notified.new.token in let E = c.load-notified.ensures in
     let u = c.load-waited.new.token in let F = c.load-waited.ensures in
-    let R = w5 l s c.requires.0 may t c.load-notified.result E.went E.own u c.load-waited.result F.went F.own in let at = R.list_is ∙ may.0.list_is ∙ sym c.self.view_is in (
+    let R = w5 l s c.requires.0 may t c.load-notified.result E.went E.own u c.load-waited.result F.went F.own in
+    let at = R.list_is ∙ may.0.list_is ∙ sym c.self.view_is in (
       omega arith,
       (
         owned x c.self.invariant u at,
@@ -52,12 +55,15 @@ store-requires c =
 
 pub overflow_cast-result : goal.overflow_cast-result
 overflow_cast-result c =
-    let s = c.args.token.now in let l = c.args.self.now in let may = c.requires.1 in let E = c.load-notified.ensures in let F = c.load-waited.ensures in let G = c.store.ensures in
-    let few = few_granted l s c.requires.0 may c.load-notified.new.token c.load-notified.result E.went E.own c.load-waited.new.token c.load-waited.result F.went F.own c.store.new.token G.went.0 G.went.1 G.own in
+    let s = c.args.token.now in let l = c.args.self.now in let may = c.requires.1 in let E = c.load-notified.ensures in
+    let F = c.load-waited.ensures in let G = c.store.ensures in
+    let few = few_granted l s c.requires.0 may c.load-notified.new.token c.load-notified.result E.went E.own c.load-waited.new.token c.load-waited.result
+    F.went F.own c.store.new.token G.went.0 G.went.1 G.own in
     let is = c.minus.ensures in omega (arith, few, is)
 
 pub returns : goal.returns
 returns c h may =
     let s = c.args.token.now in let l = c.args.self.now in let E = c.load-notified.ensures in let F = c.load-waited.ensures in let G = c.store.ensures in
     subst (λ n. ReachedAll s h n c.store.new.token) (sym c.minus.ensures)
-    (reached_all l s h may c.load-notified.new.token c.load-notified.result E.went E.own c.load-waited.new.token c.load-waited.result F.went F.own c.store.new.token G.went.0 G.went.1 G.own)
+    (reached_all l s h may c.load-notified.new.token c.load-notified.result E.went E.own c.load-waited.new.token c.load-waited.result F.went F.own
+    c.store.new.token G.went.0 G.went.1 G.own)

@@ -9,5 +9,6 @@ returns-in_default c =
 pub returns : goal.returns
 returns c =
     let s = c.args.token.now in let y = c.record_mut-record.result.now in let E = c.in-Some.ensures in
-    out_some s y c.take_ticket.new.self c.args.ticket c.number.result c.in-Some.wait c.requires.1 (lent_record s y c.requires.1 c.record_mut-record.ensures.value)
+    out_some s y c.take_ticket.new.self c.args.ticket c.number.result c.in-Some.wait c.requires.1
+    (lent_record s y c.requires.1 c.record_mut-record.ensures.value)
     E.first E.rest E.room c.number.ensures

@@ -10,17 +10,21 @@ remove_first-requires c = let x = c.loop-seat.invariant in
     ((λ i. record { id = x.table i; setting = (x.view i).own.knows.setting }) ∙ c.requires.seat.0, (x.left, x.has))
 
 pub push-requires : goal.push-requires
-push-requires c = let x = c.loop-seat.invariant in
-    ((omega arith), emptied_few c.args.token.now c.loop-seat.token c.loop-seat.hand.items c.in-Some.seat c.remove_first.new.token x (c.in-Some.ensures x.left x.has))
+push-requires c = let x = c.loop-seat.invariant in (
+  (omega arith),
+  emptied_few c.args.token.now c.loop-seat.token c.loop-seat.hand.items c.in-Some.seat c.remove_first.new.token x (c.in-Some.ensures x.left x.has),
+)
 
 pub loop-seat-smaller : goal.loop-seat-smaller
 loop-seat-smaller c = let x = c.loop-seat.invariant in
-    let few = emptied_few c.args.token.now c.loop-seat.token c.loop-seat.hand.items c.in-Some.seat c.remove_first.new.token x (c.in-Some.ensures x.left x.has) in
+    let few = emptied_few c.args.token.now c.loop-seat.token c.loop-seat.hand.items c.in-Some.seat
+    c.remove_first.new.token x (c.in-Some.ensures x.left x.has) in
     let more = ap length c.push.ensures.items ∙ length-append c.loop-seat.hand.items (c.in-Some.seat ∷ []) in omega (arith, few, more)
 
 pub loop-seat-preserved : goal.loop-seat-preserved
 loop-seat-preserved c = let x = c.loop-seat.invariant in
-    one_emptied c.args.token.now c.loop-seat.token c.loop-seat.hand.items c.push.new.self.items c.in-Some.seat c.remove_first.new.token x (c.in-Some.ensures x.left x.has) c.push.ensures.items
+    one_emptied c.args.token.now c.loop-seat.token c.loop-seat.hand.items c.push.new.self.items c.in-Some.seat c.remove_first.new.token x
+    (c.in-Some.ensures x.left x.has) c.push.ensures.items
 
 pub returns-clause-edited : goal.returns-clause-edited
 returns-clause-edited c = let x = c.loop-seat.invariant in

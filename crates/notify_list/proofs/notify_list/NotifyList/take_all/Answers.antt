@@ -10,11 +10,15 @@ remove_all-requires c = let may = c.requires.seat.2 in record { seat = (may.0.li
 
 pub give_lock-requires : goal.give_lock-requires
 give_lock-requires c =
-    let x = c.self.inside in let s = c.args.token.now in let may = c.requires.seat.2 in let E = c.remove_all.ensures.edited in let at = may.0.list_is ∙ sym c.self.view_is in (
+    let x = c.self.inside in let s = c.args.token.now in let may = c.requires.seat.2 in let E = c.remove_all.ensures.edited in
+    let at = may.0.list_is ∙ sym c.self.view_is in (
       omega arith,
       (
         owned x c.self.invariant c.remove_all.new.token (list_edited s c.remove_all.new.token _ E ∙ at),
-        ((low_word x c.self.invariant 2 (omega arith), (aside_in x _ c.self.view_is c.sleepers_word.ensures.at c.sleepers_word.ensures.low).0), gives_all c.args.self.now s c.requires.seat.0 c.requires.seat.1 may _ c.remove_all.new.token E),
+        (
+          (low_word x c.self.invariant 2 (omega arith), (aside_in x _ c.self.view_is c.sleepers_word.ensures.at c.sleepers_word.ensures.low).0),
+          gives_all c.args.self.now s c.requires.seat.0 c.requires.seat.1 may _ c.remove_all.new.token E,
+        ),
       ),
     )
 
@@ -24,4 +28,6 @@ returns-clause-taken c h n may = let S = c.give_lock.ensures in
 
 pub returns-clause-hand : goal.returns-clause-hand
 returns-clause-hand c = let S = c.give_lock.ensures in let may = c.requires.seat.2 in
-    c.remove_all.ensures.hand ∙ ap (map (λ (w : Wait). w.id.seat)) (sym (hand_after c.args.self.now c.args.token.now c.requires.seat.0 c.requires.seat.1 may c.remove_all.new.token c.give_lock.new.token c.remove_all.ensures.edited S.went S.own))
+    c.remove_all.ensures.hand ∙ ap (map (λ (w : Wait). w.id.seat))
+    (sym (hand_after c.args.self.now c.args.token.now c.requires.seat.0 c.requires.seat.1 may c.remove_all.new.token c.give_lock.new.token
+    c.remove_all.ensures.edited S.went S.own))

@@ -34,8 +34,10 @@ load-notified-requires g c =
 
 pub give_lock-requires : goal.give_lock-requires
 give_lock-requires g c =
-    let x = c.self.inside in let s = c.holding.inside.token in let n : ℕ = c.holding.inside.number in let word : ℕ = c.holding.inside.ticket in let H = c.holding.invariant in
-    let t = c.lock.new.token in let L = c.lock.ensures in let u = c.load-notified.new.token in let v : ℕ = c.load-notified.result in let E = c.load-notified.ensures in
+    let x = c.self.inside in let s = c.holding.inside.token in let n : ℕ = c.holding.inside.number in
+    let word : ℕ = c.holding.inside.ticket in let H = c.holding.invariant in
+    let t = c.lock.new.token in let L = c.lock.ensures in let u = c.load-notified.new.token in
+    let v : ℕ = c.load-notified.result in let E = c.load-notified.ensures in
     let at = (λ i. record { id = E.own i; setting = E.went.0.same.1 i }) ∙ L.walked.list_is ∙ own x s n c.self.view_is c.holding.view_is c.requires in
     let yes_it = sym c.less.ensures.less ∙ c.if-less.true in (
       omega arith,
@@ -52,21 +54,24 @@ give_lock-requires g c =
 pub invariant_of-result : goal.invariant_of-result
 invariant_of-result g c =
     let s = c.holding.inside.token in let E = c.load-notified.ensures in let F = c.give_lock.ensures in
-    seat_at_once s c.holding.inside.number c.holding.inside.ticket c.holding.invariant c.lock.new.token c.lock.ensures c.load-notified.new.token c.load-notified.result E.went E.own c.give_lock.new.token
+    seat_at_once s c.holding.inside.number c.holding.inside.ticket c.holding.invariant c.lock.new.token c.lock.ensures c.load-notified.new.token
+    c.load-notified.result E.went E.own c.give_lock.new.token
     (sym c.less.ensures.less ∙ c.if-less.true) F.went F.own
 
 pub returns-then-less-clause-waited : goal.returns-then-less-clause-waited
 returns-then-less-clause-waited g c =
     let s = c.holding.inside.token in let E = c.load-notified.ensures in let F = c.give_lock.ensures in
     subst (λ (y : SeatModel). IsWaited y AtOnce (seat_of c.give_lock.new.token c.holding.inside.number)) c.holding.view_is
-    (waited_at_once s c.holding.inside.number c.holding.inside.ticket c.holding.invariant c.lock.new.token c.lock.ensures c.load-notified.new.token c.load-notified.result E.went E.own c.give_lock.new.token
+    (waited_at_once s c.holding.inside.number c.holding.inside.ticket c.holding.invariant c.lock.new.token c.lock.ensures c.load-notified.new.token
+    c.load-notified.result E.went E.own c.give_lock.new.token
     (sym c.less.ensures.less ∙ c.if-less.true) F.went F.own)
 
 pub returns-then-less-clause-granted : goal.returns-then-less-clause-granted
 returns-then-less-clause-granted g c =
     let s = c.holding.inside.token in let E = c.load-notified.ensures in let F = c.give_lock.ensures in
     subst (λ (y : SeatModel). IsGranted y (seat_of c.give_lock.new.token c.holding.inside.number)) c.holding.view_is
-    (granted_at_once s c.holding.inside.number c.holding.inside.ticket c.holding.invariant c.lock.new.token c.lock.ensures c.load-notified.new.token c.load-notified.result E.went E.own c.give_lock.new.token
+    (granted_at_once s c.holding.inside.number c.holding.inside.ticket c.holding.invariant c.lock.new.token c.lock.ensures c.load-notified.new.token
+    c.load-notified.result E.went E.own c.give_lock.new.token
     (sym c.less.ensures.less ∙ c.if-less.true) F.went F.own)
 
 pub returns-then-less-clause-caller : goal.returns-then-less-clause-caller
@@ -76,8 +81,10 @@ returns-then-less-clause-caller g c = let s = c.holding.inside in
 
 pub insert-requires : goal.insert-requires
 insert-requires g c =
-    let x = c.self.inside in let s = c.holding.inside.token in let n : ℕ = c.holding.inside.number in let word : ℕ = c.holding.inside.ticket in let H = c.holding.invariant in
-    let t = c.lock.new.token in let L = c.lock.ensures in let u = c.load-notified.new.token in let v : ℕ = c.load-notified.result in let E = c.load-notified.ensures in
+    let x = c.self.inside in let s = c.holding.inside.token in let n : ℕ = c.holding.inside.number in
+    let word : ℕ = c.holding.inside.ticket in let H = c.holding.invariant in
+    let t = c.lock.new.token in let L = c.lock.ensures in let u = c.load-notified.new.token in
+    let v : ℕ = c.load-notified.result in let E = c.load-notified.ensures in
     let at = (λ i. record { id = E.own i; setting = E.went.0.same.1 i }) ∙ L.walked.list_is ∙ own x s n c.self.view_is c.holding.view_is c.requires in
     let no_it = sym c.less.ensures.less ∙ c.if-less.false in record {
       seat = (at ∙ c.self.view_is, record_looked s n word H t L u v E.went E.own);
@@ -86,8 +93,10 @@ insert-requires g c =
 
 pub give_lock-requires-2 : goal.give_lock-requires-2
 give_lock-requires-2 g c =
-    let x = c.self.inside in let s = c.holding.inside.token in let n : ℕ = c.holding.inside.number in let word : ℕ = c.holding.inside.ticket in let H = c.holding.invariant in
-    let t = c.lock.new.token in let L = c.lock.ensures in let u = c.load-notified.new.token in let v : ℕ = c.load-notified.result in let E = c.load-notified.ensures in
+    let x = c.self.inside in let s = c.holding.inside.token in let n : ℕ = c.holding.inside.number in
+    let word : ℕ = c.holding.inside.ticket in let H = c.holding.invariant in
+    let t = c.lock.new.token in let L = c.lock.ensures in let u = c.load-notified.new.token in
+    let v : ℕ = c.load-notified.result in let E = c.load-notified.ensures in
     let at = (λ i. record { id = E.own i; setting = E.went.0.same.1 i }) ∙ L.walked.list_is ∙ own x s n c.self.view_is c.holding.view_is c.requires in
     let no_it = sym c.less.ensures.less ∙ c.if-less.false in
     let I : Edited u ((queue_of u) ++ wait_for u.me.0.own.number H.ticket ∷ []) c.insert.new.token = c.insert.ensures (wait_for u.me.0.own.number H.ticket)
@@ -97,7 +106,8 @@ give_lock-requires-2 g c =
         owned x c.self.invariant c.insert.new.token (list_edited u c.insert.new.token _ I ∙ at),
         (
           (low_word x c.self.invariant 2 (omega arith), (aside_in x _ c.self.view_is c.sleepers_word-2.ensures.at c.sleepers_word-2.ensures.low).0),
-          gives_edited _ u c.insert.new.token _ (stands_looked s n word H t L u v E.went E.own false no_it) ((queue_of u) ++ wait_for u.me.0.own.number H.ticket ∷ []) I refl
+          gives_edited _ u c.insert.new.token _ (stands_looked s n word H t L u v E.went E.own false no_it)
+              ((queue_of u) ++ wait_for u.me.0.own.number H.ticket ∷ []) I refl
               (λ w same. (record { word = refl; there = tt; can = refl; becomes = refl }, refl)),
         ),
       ),
@@ -105,8 +115,10 @@ give_lock-requires-2 g c =
 
 pub take_when_granted-requires : goal.take_when_granted-requires
 take_when_granted-requires g c =
-    let x = c.self.inside in let s = c.holding.inside.token in let n : ℕ = c.holding.inside.number in let word : ℕ = c.holding.inside.ticket in let H = c.holding.invariant in
-    let t = c.lock.new.token in let L = c.lock.ensures in let u = c.load-notified.new.token in let v : ℕ = c.load-notified.result in let E = c.load-notified.ensures in let F = c.give_lock-2.ensures in
+    let x = c.self.inside in let s = c.holding.inside.token in let n : ℕ = c.holding.inside.number in
+    let word : ℕ = c.holding.inside.ticket in let H = c.holding.invariant in
+    let t = c.lock.new.token in let L = c.lock.ensures in let u = c.load-notified.new.token in let v : ℕ = c.load-notified.result in
+    let E = c.load-notified.ensures in let F = c.give_lock-2.ensures in
     let at = own x s n c.self.view_is c.holding.view_is c.requires in
     let no_it = sym c.less.ensures.less ∙ c.if-less.false in
     let I : Edited u ((queue_of u) ++ wait_for u.me.0.own.number H.ticket ∷ []) c.insert.new.token = c.insert.ensures (wait_for u.me.0.own.number H.ticket)
@@ -134,8 +146,10 @@ take_when_granted-requires g c =
 
 pub wake_heirs-requires : goal.wake_heirs-requires
 wake_heirs-requires g c =
-    let x = c.self.inside in let s = c.holding.inside.token in let n : ℕ = c.holding.inside.number in let word : ℕ = c.holding.inside.ticket in let H = c.holding.invariant in
-    let t = c.lock.new.token in let L = c.lock.ensures in let u = c.load-notified.new.token in let v : ℕ = c.load-notified.result in let E = c.load-notified.ensures in let F = c.give_lock-2.ensures in
+    let x = c.self.inside in let s = c.holding.inside.token in let n : ℕ = c.holding.inside.number in
+    let word : ℕ = c.holding.inside.ticket in let H = c.holding.invariant in
+    let t = c.lock.new.token in let L = c.lock.ensures in let u = c.load-notified.new.token in let v : ℕ = c.load-notified.result in
+    let E = c.load-notified.ensures in let F = c.give_lock-2.ensures in
     let at = own x s n c.self.view_is c.holding.view_is c.requires in
     let no_it = sym c.less.ensures.less ∙ c.if-less.false in
     let I : Edited u ((queue_of u) ++ wait_for u.me.0.own.number H.ticket ∷ []) c.insert.new.token = c.insert.ensures (wait_for u.me.0.own.number H.ticket)
@@ -149,31 +163,37 @@ wake_heirs-requires g c =
 pub invariant_of-result-2 : goal.invariant_of-result-2
 invariant_of-result-2 g c =
     let s = c.holding.inside.token in let n : ℕ = c.holding.inside.number in let word : ℕ = c.holding.inside.ticket in let H = c.holding.invariant in
-    let t = c.lock.new.token in let L = c.lock.ensures in let u = c.load-notified.new.token in let v : ℕ = c.load-notified.result in let E = c.load-notified.ensures in let F = c.give_lock-2.ensures in let S = c.take_when_granted.ensures in
+    let t = c.lock.new.token in let L = c.lock.ensures in let u = c.load-notified.new.token in let v : ℕ = c.load-notified.result in
+    let E = c.load-notified.ensures in let F = c.give_lock-2.ensures in let S = c.take_when_granted.ensures in
     let no_it = sym c.less.ensures.less ∙ c.if-less.false in
     let I : Edited u ((queue_of u) ++ wait_for u.me.0.own.number H.ticket ∷ []) c.insert.new.token = c.insert.ensures (wait_for u.me.0.own.number H.ticket)
     (λ i. record { id = record { seat = (number_looked s n word H t L u v E.went E.own ∙ sym c.new-seat.ensures) i; turn = 0 }; ticket = H.word_is i }) in
-    seat_parked s n word H t L u v E.went E.own c.insert.new.token c.give_lock-2.new.token no_it I F.went F.own c.wake_heirs.new.token _ S.some (ran_same c.give_lock-2.new.token c.take_when_granted.new.token c.wake_heirs.new.token _ S.went c.wake_heirs.ensures) (c.wake_heirs.ensures.0 ∙ S.own)
+    seat_parked s n word H t L u v E.went E.own c.insert.new.token c.give_lock-2.new.token no_it I F.went F.own c.wake_heirs.new.token _ S.some
+    (ran_same c.give_lock-2.new.token c.take_when_granted.new.token c.wake_heirs.new.token _ S.went c.wake_heirs.ensures) (c.wake_heirs.ensures.0 ∙ S.own)
 
 pub returns-clause-waited : goal.returns-clause-waited
 returns-clause-waited g c =
     let s = c.holding.inside.token in let n : ℕ = c.holding.inside.number in let word : ℕ = c.holding.inside.ticket in let H = c.holding.invariant in
-    let t = c.lock.new.token in let L = c.lock.ensures in let u = c.load-notified.new.token in let v : ℕ = c.load-notified.result in let E = c.load-notified.ensures in let F = c.give_lock-2.ensures in let S = c.take_when_granted.ensures in
+    let t = c.lock.new.token in let L = c.lock.ensures in let u = c.load-notified.new.token in let v : ℕ = c.load-notified.result in
+    let E = c.load-notified.ensures in let F = c.give_lock-2.ensures in let S = c.take_when_granted.ensures in
     let no_it = sym c.less.ensures.less ∙ c.if-less.false in
     let I : Edited u ((queue_of u) ++ wait_for u.me.0.own.number H.ticket ∷ []) c.insert.new.token = c.insert.ensures (wait_for u.me.0.own.number H.ticket)
     (λ i. record { id = record { seat = (number_looked s n word H t L u v E.went E.own ∙ sym c.new-seat.ensures) i; turn = 0 }; ticket = H.word_is i }) in
     subst (λ (y : SeatModel). IsWaited y Parked (seat_of c.wake_heirs.new.token n)) c.holding.view_is
-    (waited_parked s n word H t L u v E.went E.own c.insert.new.token c.give_lock-2.new.token no_it I F.went F.own c.wake_heirs.new.token _ S.some (ran_same c.give_lock-2.new.token c.take_when_granted.new.token c.wake_heirs.new.token _ S.went c.wake_heirs.ensures) (c.wake_heirs.ensures.0 ∙ S.own))
+    (waited_parked s n word H t L u v E.went E.own c.insert.new.token c.give_lock-2.new.token no_it I F.went F.own c.wake_heirs.new.token _ S.some
+    (ran_same c.give_lock-2.new.token c.take_when_granted.new.token c.wake_heirs.new.token _ S.went c.wake_heirs.ensures) (c.wake_heirs.ensures.0 ∙ S.own))
 
 pub returns-clause-granted : goal.returns-clause-granted
 returns-clause-granted g c =
     let s = c.holding.inside.token in let n : ℕ = c.holding.inside.number in let word : ℕ = c.holding.inside.ticket in let H = c.holding.invariant in
-    let t = c.lock.new.token in let L = c.lock.ensures in let u = c.load-notified.new.token in let v : ℕ = c.load-notified.result in let E = c.load-notified.ensures in let F = c.give_lock-2.ensures in let S = c.take_when_granted.ensures in
+    let t = c.lock.new.token in let L = c.lock.ensures in let u = c.load-notified.new.token in let v : ℕ = c.load-notified.result in
+    let E = c.load-notified.ensures in let F = c.give_lock-2.ensures in let S = c.take_when_granted.ensures in
     let no_it = sym c.less.ensures.less ∙ c.if-less.false in
     let I : Edited u ((queue_of u) ++ wait_for u.me.0.own.number H.ticket ∷ []) c.insert.new.token = c.insert.ensures (wait_for u.me.0.own.number H.ticket)
     (λ i. record { id = record { seat = (number_looked s n word H t L u v E.went E.own ∙ sym c.new-seat.ensures) i; turn = 0 }; ticket = H.word_is i }) in
     subst (λ (y : SeatModel). IsGranted y (seat_of c.wake_heirs.new.token n)) c.holding.view_is
-    (granted_parked s n word H t L u v E.went E.own c.insert.new.token c.give_lock-2.new.token no_it I F.went F.own c.wake_heirs.new.token _ S.some (ran_same c.give_lock-2.new.token c.take_when_granted.new.token c.wake_heirs.new.token _ S.went c.wake_heirs.ensures) (c.wake_heirs.ensures.0 ∙ S.own))
+    (granted_parked s n word H t L u v E.went E.own c.insert.new.token c.give_lock-2.new.token no_it I F.went F.own c.wake_heirs.new.token _ S.some
+    (ran_same c.give_lock-2.new.token c.take_when_granted.new.token c.wake_heirs.new.token _ S.went c.wake_heirs.ensures) (c.wake_heirs.ensures.0 ∙ S.own))
 
 pub returns-clause-caller : goal.returns-clause-caller
 returns-clause-caller g c = let s = c.holding.inside in

@@ -10,7 +10,8 @@ loop-seat-init c = λ h may. woken_none c.args.self.now c.args.token.now c.name_
 
 pub grant_first-requires : goal.grant_first-requires
 grant_first-requires c =
-    let s = c.args.token.now in let t = c.loop-seat.token in let n : ℕ = c.loop-seat.seat-index in let h : ℕ = c.requires.seat.0 in let may = c.requires.seat.1 in let x = c.loop-seat.invariant h may in
+    let s = c.args.token.now in let t = c.loop-seat.token in let n : ℕ = c.loop-seat.seat-index in let h : ℕ = c.requires.seat.0 in
+    let may = c.requires.seat.1 in let x = c.loop-seat.invariant h may in
     let all : length c.args.seats.now ≡ length (stands_of s).hand = ap length c.requires.seats ∙ length-map (stands_of s).hand (λ (w : Wait). w.id.seat) in
     let low : n < length (stands_of s).hand = (let k = c.loop-seat-test.true in omega arith) in (
       h,
@@ -27,7 +28,8 @@ loop-seat-preserved c = λ h may.
     let all : length c.args.seats.now ≡ length (stands_of s).hand = ap length c.requires.seats ∙ length-map (stands_of s).hand (λ (w : Wait). w.id.seat) in
     let low : n < length (stands_of s).hand = (let k = c.loop-seat-test.true in omega arith) in
     woken_more c.args.self.now s t h n may x c.grant_first.new.token low
-    (c.grant_first.ensures h (get_or (stands_of s).hand n a_wait) (drop (n + 1) (stands_of s).hand) (may_next c.args.self.now s t h n may x) (hand_next c.args.self.now s t h n may x low))
+    (c.grant_first.ensures h (get_or (stands_of s).hand n a_wait) (drop (n + 1) (stands_of s).hand) (may_next c.args.self.now s t h n may x)
+    (hand_next c.args.self.now s t h n may x low))
 
 pub returns : goal.returns
 returns c h may =

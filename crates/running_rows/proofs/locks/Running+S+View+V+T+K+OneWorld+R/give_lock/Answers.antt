@@ -8,5 +8,7 @@ pub store-requires : goal.store-requires
 store-requires g c = (
   c.requires.own.0,
   c.requires.words.0,
-  allowed g.R.Rows.family _ _ _ _ _ (λ _. 0) (λ _. runs_unlock g.R.Rows.family (step c.args.self.now.table.shared.table_id.slots c.args.word 0 0 none) c.args.token.now.me 0) c.requires.own.1 c.requires.owes,
+  allowed g.R.Rows.family _ _ _ _ _ (λ _. 0)
+      (λ _. runs_unlock g.R.Rows.family (step c.args.self.now.table.shared.table_id.slots c.args.word 0 0 none) c.args.token.now.me 0)
+      c.requires.own.1 c.requires.owes,
 )

@@ -10,7 +10,8 @@ pub compare_exchange-requires : goal.compare_exchange-requires
 compare_exchange-requires g c = let same = c.loop.invariant in (
   same.0 ∙ c.requires.own.0,
   c.requires.words.0,
-  allowed_since g.R.Rows.family _ _ _ _ c.args.token.now.me _ (λ n. either (n == 0) 1 n) (runs_lock g.R.Rows.family g.A.Start.at (step c.args.self.now.table.shared.table_id.slots c.args.word 0 1 none))
+  allowed_since g.R.Rows.family _ _ _ _ c.args.token.now.me _ (λ n. either (n == 0) 1 n)
+      (runs_lock g.R.Rows.family g.A.Start.at (step c.args.self.now.table.shared.table_id.slots c.args.word 0 1 none))
       c.requires.own.1 c.requires.owes same.1,
 )
 

@@ -1,7 +1,8 @@
 use Rattle.std.proofs.Common.{sym, ap, ◌∙◌, subst, arith}
 use Rattle.running_rows.specs.Rule.{IsSomeones}
 use Rattle.running_rows.specs.Sitting.{sitting}
-use Rattle.running_rows.proofs.Seating.{spares_kept, sits_kept, parts_kept}
+use Rattle.running_rows.proofs.Seating.{spares_kept, sits_kept}
+use Rattle.running_rows.proofs.Parting.{parts_kept}
 use Rattle.running_rows.proofs.LookingAtOnce.{meets_kept}
 use Rattle.running_rows.proofs.Together.{guests_u, some_u, met_at, left_at, right_at}
 use Rattle.running_rows.proofs.meeting.Running+S+View+V+T+K+OneWorld+R.meet.Goals as goal
@@ -40,8 +41,10 @@ split_seat-requires g c =
       c.load-found.ensures.0 ∙ c.join_seat.ensures.0 ∙ E.0 ∙ c.requires.one.0,
       (let h = c.requires.word in omega arith),
       parts_kept g.R.Rows.family _ _ _ _ _
-          (guests_u g.R.Rows.family c.args.one.now.me c.args.other.now.me c.join_seat.new.seat.me c.load-found.new.seat.me joined c.args.word _ c.load-found.ensures.2)
-          (some_u g.R.Rows.family c.args.one.now.me c.args.other.now.me c.join_seat.new.seat.me c.load-found.new.seat.me joined c.args.word _ c.load-found.ensures.2 c.requires.one.1),
+          (guests_u g.R.Rows.family c.args.one.now.me c.args.other.now.me c.join_seat.new.seat.me c.load-found.new.seat.me
+          joined c.args.word _ c.load-found.ensures.2)
+          (some_u g.R.Rows.family c.args.one.now.me c.args.other.now.me c.join_seat.new.seat.me c.load-found.new.seat.me joined c.args.word
+          _ c.load-found.ensures.2 c.requires.one.1),
     )
 
 pub returns-clause-met : goal.returns-clause-met

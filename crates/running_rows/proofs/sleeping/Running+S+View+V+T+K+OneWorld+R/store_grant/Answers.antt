@@ -8,5 +8,7 @@ pub store-requires : goal.store-requires
 store-requires g c = (
   c.requires.own.0,
   c.requires.low,
-  allowed g.R.Rows.family _ _ _ _ _ (λ _. c.args.units) (λ _. runs_grant g.R.Rows.family (step c.args.self.now.table.shared.table_id.slots c.args.word c.args.units 0 none) c.args.token.now.me c.args.units) c.requires.own.1 c.requires.owes,
+  allowed g.R.Rows.family _ _ _ _ _ (λ _. c.args.units)
+      (λ _. runs_grant g.R.Rows.family (step c.args.self.now.table.shared.table_id.slots c.args.word c.args.units 0 none) c.args.token.now.me c.args.units)
+      c.requires.own.1 c.requires.owes,
 )

@@ -9,5 +9,6 @@ pub fetch_add-requires : goal.fetch_add-requires
 fetch_add-requires g c = (
   c.requires.own.0,
   c.requires.word,
-  allowed g.R.Rows.family _ _ _ _ _ (λ n. (n + c.args.more) % 2 ^ 64) (runs_access g.R.Rows.family g.A.Start.at (step _ _ c.args.more 0 none) _) c.requires.own.1 c.requires.owes,
+  allowed g.R.Rows.family _ _ _ _ _ (λ n. (n + c.args.more) % 2 ^ 64)
+      (runs_access g.R.Rows.family g.A.Start.at (step _ _ c.args.more 0 none) _) c.requires.own.1 c.requires.owes,
 )

@@ -10,5 +10,6 @@ pub compare_exchange-requires : goal.compare_exchange-requires
 compare_exchange-requires g c = (
   c.requires.own.0,
   c.requires.word,
-  allowed g.R.Rows.family _ _ _ _ _ (λ n. either (n == c.args.old) c.args.new n) (runs_access g.R.Rows.family g.A.Start.at (step _ _ c.args.old c.args.new none) _) c.requires.own.1 c.requires.owes,
+  allowed g.R.Rows.family _ _ _ _ _ (λ n. either (n == c.args.old) c.args.new n)
+      (runs_access g.R.Rows.family g.A.Start.at (step _ _ c.args.old c.args.new none) _) c.requires.own.1 c.requires.owes,
 )

@@ -8,5 +8,7 @@ pub store-requires : goal.store-requires
 store-requires g c = (
   c.requires.own.0,
   c.requires.word,
-  allowed g.R.Rows.family _ _ _ _ _ (λ _. c.args.new) (λ _. runs_store g.R.Rows.family g.A.Start.at (step c.args.self.now.table.shared.table_id.slots c.args.word c.args.new 0 none) c.args.token.now.me c.args.new) c.requires.own.1 c.requires.owes,
+  allowed g.R.Rows.family _ _ _ _ _ (λ _. c.args.new)
+      (λ _. runs_store g.R.Rows.family g.A.Start.at (step c.args.self.now.table.shared.table_id.slots c.args.word c.args.new 0 none)
+      c.args.token.now.me c.args.new) c.requires.own.1 c.requires.owes,
 )

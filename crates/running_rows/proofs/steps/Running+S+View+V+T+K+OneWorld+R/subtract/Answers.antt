@@ -9,5 +9,6 @@ pub fetch_sub-requires : goal.fetch_sub-requires
 fetch_sub-requires g c = (
   c.requires.own.0,
   c.requires.word,
-  allowed g.R.Rows.family _ _ _ _ _ (λ n. (n + (2 ^ 64 - c.args.less)) % 2 ^ 64) (runs_access g.R.Rows.family g.A.Start.at (step _ _ c.args.less 0 none) _) c.requires.own.1 c.requires.owes,
+  allowed g.R.Rows.family _ _ _ _ _ (λ n. (n + (2 ^ 64 - c.args.less)) % 2 ^ 64)
+      (runs_access g.R.Rows.family g.A.Start.at (step _ _ c.args.less 0 none) _) c.requires.own.1 c.requires.owes,
 )

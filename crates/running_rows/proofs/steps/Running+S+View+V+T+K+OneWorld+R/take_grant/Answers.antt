@@ -8,5 +8,7 @@ pub swap-requires : goal.swap-requires
 swap-requires g c = (
   c.requires.own.0,
   c.requires.word,
-  allowed g.R.Rows.family _ _ _ _ _ (λ _. 0) (runs_take_or_look g.R.Rows.family (step c.args.self.now.table.shared.table_id.slots c.args.word 0 0 none) c.args.token.now.me) c.requires.own.1 c.requires.owes,
+  allowed g.R.Rows.family _ _ _ _ _ (λ _. 0)
+      (runs_take_or_look g.R.Rows.family (step c.args.self.now.table.shared.table_id.slots c.args.word 0 0 none) c.args.token.now.me)
+      c.requires.own.1 c.requires.owes,
 )

@@ -1,22 +1,28 @@
 use Rattle.std.proofs.Common.{◌≡◌, IfOk, subst, sym, ap, ◌∙◌, map}
 use Rattle.sema_root.specs.Search.{pairs, IsAt, IsGapFor}
-use Rattle.sema_root.proofs.Joining.{joined-open, waits_on-entry, waits_on-absent}
+use Rattle.sema_root.proofs.Joining.{joined-open}
+use Rattle.sema_root.proofs.Entries.{waits_on-entry, waits_on-absent}
 use Rattle.sema_root.proofs.Searching.{found_list, absent_entry}
 use Rattle.sema_root.proofs.sorted_root.SortedRootRootStore.ids.Goals as goal
 
 -- the counter's entry names its list
 pub ids-requires : goal.ids-requires
 ids-requires c =
-    let has = found_list c.self.inside.entries.items c.args.counter c.in-Ok.at c.self.invariant.joined.rising (subst (λ entries. IsAt entries c.args.counter c.in-Ok.at) c.deref.ensures.value c.in-Ok.ensures.found) c.index.result.now c.index.ensures in
+    let has = found_list c.self.inside.entries.items c.args.counter c.in-Ok.at c.self.invariant.joined.rising
+    (subst (λ entries. IsAt entries c.args.counter c.in-Ok.at) c.deref.ensures.value c.in-Ok.ensures.found) c.index.result.now c.index.ensures in
     record { «open» = joined-open c.self.invariant.joined c.args.counter c.index.result.now.list has }
 
 pub returns-in-Ok : goal.returns-in-Ok
 returns-in-Ok c =
-    let has = found_list c.self.inside.entries.items c.args.counter c.in-Ok.at c.self.invariant.joined.rising (subst (λ entries. IsAt entries c.args.counter c.in-Ok.at) c.deref.ensures.value c.in-Ok.ensures.found) c.index.result.now c.index.ensures in
-    rw (← c.self.view_is) (subst (λ waits. IfOk c.ids.result (λ ids. ids.items ≡ map (λ wait. wait.id) waits)) (sym (waits_on-entry c.self.inside.lists c.args.counter c.index.result.now.list (pairs c.self.inside.entries.items) has)) c.ids.ensures)
+    let has = found_list c.self.inside.entries.items c.args.counter c.in-Ok.at c.self.invariant.joined.rising
+    (subst (λ entries. IsAt entries c.args.counter c.in-Ok.at) c.deref.ensures.value c.in-Ok.ensures.found) c.index.result.now c.index.ensures in
+    rw (← c.self.view_is) (subst (λ waits. IfOk c.ids.result (λ ids. ids.items ≡ map (λ wait. wait.id) waits))
+    (sym (waits_on-entry c.self.inside.lists c.args.counter c.index.result.now.list (pairs c.self.inside.entries.items) has)) c.ids.ensures)
 
 -- the counter has none
 pub returns-in-Err : goal.returns-in-Err
 returns-in-Err c =
-    let lacks = absent_entry c.self.inside.entries.items c.args.counter _ (subst (λ entries. IsGapFor entries c.args.counter c.in-Err.field-0) c.deref.ensures.value c.in-Err.ensures.absent) in
-    rw (← c.self.view_is) (c.new.ensures.items ∙ ap (map (λ wait. wait.id)) (sym (waits_on-absent c.self.inside.lists c.args.counter (pairs c.self.inside.entries.items) lacks)))
+    let lacks = absent_entry c.self.inside.entries.items c.args.counter
+    _ (subst (λ entries. IsGapFor entries c.args.counter c.in-Err.field-0) c.deref.ensures.value c.in-Err.ensures.absent) in
+    rw (← c.self.view_is) (c.new.ensures.items ∙ ap (map (λ wait. wait.id))
+    (sym (waits_on-absent c.self.inside.lists c.args.counter (pairs c.self.inside.entries.items) lacks)))

@@ -11,13 +11,16 @@ use Rattle.sema_root.proofs.sorted_root.SortedRootRootStore.queue.Goals.{After-p
 
 pub push-requires-clause-open : goal.push-requires-clause-open
 push-requires-clause-open c =
-    let has = found_list c.self.inside.entries.items c.args.counter c.in-Ok.at c.self.invariant.joined.rising (subst (λ entries. IsAt entries c.args.counter c.in-Ok.at) c.deref.ensures.value c.in-Ok.ensures.found) c.index.result.now c.index.ensures in
+    let has = found_list c.self.inside.entries.items c.args.counter c.in-Ok.at c.self.invariant.joined.rising
+    (subst (λ entries. IsAt entries c.args.counter c.in-Ok.at) c.deref.ensures.value c.in-Ok.ensures.found) c.index.result.now c.index.ensures in
     joined-open c.self.invariant.joined c.args.counter c.index.result.now.list has
 
 -- the wait joins the list of its counter
-joins : (c : After-push) → Queued c.self.inside.lists c.push.new.lists (pairs c.self.inside.entries.items) (pairs c.self.inside.entries.items) c.self.inside.seats c.args.counter c.args.lifo c.args.wait
+joins : (c : After-push) → Queued c.self.inside.lists c.push.new.lists (pairs c.self.inside.entries.items) (pairs c.self.inside.entries.items)
+    c.self.inside.seats c.args.counter c.args.lifo c.args.wait
 joins c =
-    let has = found_list c.self.inside.entries.items c.args.counter c.in-Ok.at c.self.invariant.joined.rising (subst (λ entries. IsAt entries c.args.counter c.in-Ok.at) c.deref.ensures.value c.in-Ok.ensures.found) c.index.result.now c.index.ensures in
+    let has = found_list c.self.inside.entries.items c.args.counter c.in-Ok.at c.self.invariant.joined.rising
+    (subst (λ entries. IsAt entries c.args.counter c.in-Ok.at) c.deref.ensures.value c.in-Ok.ensures.found) c.index.result.now c.index.ensures in
     queued_beside c.self.invariant.joined c.args.lifo c.args.wait has c.push.ensures.pushed c.push.ensures.room c.push.ensures.list_room
 
 pub invariant_of-self : goal.invariant_of-self
@@ -33,7 +36,8 @@ pub open-list-requires : goal.open-list-requires
 open-list-requires c = joined-list_room c.self.invariant.joined (subst (λ root. total root.queues < root.seats) (sym c.self.view_is) c.requires.fits)
 
 -- the counter comes in with a list of its own
-comes : (c : After-unwrap) → Queued c.self.inside.lists c.push-in-Err.new.lists (pairs c.self.inside.entries.items) (pairs c.insert.new.self.items) c.self.inside.seats c.args.counter c.args.lifo c.args.wait
+comes : (c : After-unwrap) → Queued c.self.inside.lists c.push-in-Err.new.lists (pairs c.self.inside.entries.items) (pairs c.insert.new.self.items)
+    c.self.inside.seats c.args.counter c.args.lifo c.args.wait
 comes c =
     let entry : CounterQueue = record { counter = c.args.counter; list = c.open-list.result } in
     let items : c.insert.new.self.items ≡ insert c.self.inside.entries.items c.in-Err.at entry = rw c.unwrap.ensures at c.insert.ensures.items in

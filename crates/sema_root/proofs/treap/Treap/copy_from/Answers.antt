@@ -31,9 +31,11 @@ returns-in_err-copy_from-clause-treap_stays c =
 pub invariant_of-self-2 : goal.invariant_of-self-2
 invariant_of-self-2 c =
     let copied = c.copy_values.ensures in
-    IsPlanted-copied c.other.inside.branches.nodes c.copy_values.new.slab copied.values _ _ c.other.invariant (omega (arith, copied.capacity, c.in_ok-reserve_as.ensures.fits, c.other.invariant.fits))
+    IsPlanted-copied c.other.inside.branches.nodes c.copy_values.new.slab copied.values _ _ c.other.invariant
+    (omega (arith, copied.capacity, c.in_ok-reserve_as.ensures.fits, c.other.invariant.fits))
 
 pub returns-clause-treap : goal.returns-clause-treap
 returns-clause-treap c =
     let copied = c.copy_values.ensures in
-    seen-copied c.other.inside.branches.nodes c.copy_values.new.slab copied.values _ _ c.other.invariant (omega (arith, copied.capacity, c.in_ok-reserve_as.ensures.fits, c.other.invariant.fits)) ∙ c.other.view_is
+    seen-copied c.other.inside.branches.nodes c.copy_values.new.slab copied.values _ _ c.other.invariant
+    (omega (arith, copied.capacity, c.in_ok-reserve_as.ensures.fits, c.other.invariant.fits)) ∙ c.other.view_is

@@ -10,7 +10,8 @@ invariant_of-result c =
     let copied = SameValues-clone _ nodes c.in_ok-nodes.nodes (λ x y is. is) c.in_ok-nodes.ensures.cases in
     let same = λ (key : ℕ). SameValues-grown c.in_ok-nodes.nodes c.reserve_exact.new.self reserves.rest_kept key ∙ copied key in
     let free = c.room.ensures ∙ sym (ap (λ treap. treap.room) c.self.view_is) in
-    IsPlanted-copied nodes c.reserve_exact.new.self same _ _ c.self.invariant (fits-copied nodes c.reserve_exact.new.self same _ _ c.self.invariant _ free reserves.room)
+    IsPlanted-copied nodes c.reserve_exact.new.self same _ _ c.self.invariant
+    (fits-copied nodes c.reserve_exact.new.self same _ _ c.self.invariant _ free reserves.room)
 
 pub returns : goal.returns
 returns c =
@@ -19,4 +20,7 @@ returns c =
     let copied = SameValues-clone _ nodes c.in_ok-nodes.nodes (λ x y is. is) c.in_ok-nodes.ensures.cases in
     let same = λ (key : ℕ). SameValues-grown c.in_ok-nodes.nodes c.reserve_exact.new.self reserves.rest_kept key ∙ copied key in
     let free = c.room.ensures ∙ sym (ap (λ treap. treap.room) c.self.view_is) in
-    record { cases = seen-copied nodes c.reserve_exact.new.self same _ _ c.self.invariant (fits-copied nodes c.reserve_exact.new.self same _ _ c.self.invariant _ free reserves.room) ∙ c.self.view_is }
+    record {
+      cases = seen-copied nodes c.reserve_exact.new.self same _ _ c.self.invariant
+          (fits-copied nodes c.reserve_exact.new.self same _ _ c.self.invariant _ free reserves.room) ∙ c.self.view_is;
+    }

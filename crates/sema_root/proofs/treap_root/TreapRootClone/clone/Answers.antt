@@ -5,7 +5,8 @@ use Rattle.sema_root.proofs.treap_root.TreapRootClone.clone.Goals as goal
 pub invariant_of-result : goal.invariant_of-result
 invariant_of-result c =
     let seats = c.self.inside.seats in
-    subst (λ treap. IsRooted treap c.in_ok-lists.lists seats) (sym c.in_ok-treap.ensures.cases) (subst (λ lists. IsRooted c.self.inside.treap lists seats) (sym c.in_ok-lists.ensures.cases) c.self.invariant)
+    subst (λ treap. IsRooted treap c.in_ok-lists.lists seats) (sym c.in_ok-treap.ensures.cases)
+    (subst (λ lists. IsRooted c.self.inside.treap lists seats) (sym c.in_ok-lists.ensures.cases) c.self.invariant)
 
 pub returns : goal.returns
 returns c =

@@ -74,7 +74,8 @@ nobody c = rw (← c.self.view_is) (rooted-nobody c.self.invariant c.args.counte
 
 -- and nothing changed
 same : (c : In_default) → shown c.self.inside.lists c.leave.new.self.tree c.self.inside.tickets c.self.inside.seats ≡ c.args.self.now
-same c = ap (λ treap. shown c.self.inside.lists treap.tree c.self.inside.tickets c.self.inside.seats) (rw c.in_default.is at c.leave.ensures.leaves) ∙ c.self.view_is
+same c = ap (λ treap. shown c.self.inside.lists treap.tree c.self.inside.tickets c.self.inside.seats)
+    (rw c.in_default.is at c.leave.ensures.leaves) ∙ c.self.view_is
 
 pub returns-in_default-clause-first : goal.returns-in_default-clause-first
 returns-in_default-clause-first c = ap (λ waits. slice_get waits 0) (sym (nobody c))

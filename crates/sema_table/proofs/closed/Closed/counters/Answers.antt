@@ -5,4 +5,5 @@ use Rattle.sema_table.specs.Closing.{ClosedModel}
 use Rattle.sema_table.proofs.closed.Closed.counters.Goals as goal
 
 pub returns : goal.returns
-returns c = sym (length-map-range_with_len (λ (k : ℕ). slice_index (slots_items c.self.inside.words.words) (8 * k)) 0 c.self.inside.counters) ∙ ap (λ (m : ClosedModel). length m.values) c.self.view_is
+returns c = sym (length-map-range_with_len (λ (k : ℕ). slice_index (slots_items c.self.inside.words.words) (8 * k)) 0 c.self.inside.counters)
+    ∙ ap (λ (m : ClosedModel). length m.values) c.self.view_is

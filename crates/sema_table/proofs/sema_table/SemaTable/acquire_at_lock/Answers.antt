@@ -16,4 +16,5 @@ returns-in-Taken g c = entered_at_once c.args.seat c.in-Taken.seat (acquire_of c
 
 pub returns-in-Asleep : goal.returns-in-Asleep
 returns-in-Asleep g c =
-    entered_then c.args.seat c.in-Asleep.sleeping (acquire_of c.args.counter c.args.lifo) c.in-Asleep.ensures.rows c.sleep_until_taken.result c.sleep_until_taken.ensures
+    entered_then c.args.seat c.in-Asleep.sleeping (acquire_of c.args.counter c.args.lifo) c.in-Asleep.ensures.rows
+    c.sleep_until_taken.result c.sleep_until_taken.ensures

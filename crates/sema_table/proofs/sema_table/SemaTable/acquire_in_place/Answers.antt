@@ -18,7 +18,11 @@ pub returns-in-Some-take-clause-rows : goal.returns-in-Some-take-clause-rows
 returns-in-Some-take-clause-rows g c s e =
     let t = c.try_at_sight-tried.new.seat in let u = c.in-Some-take.seat in let first : c.in-Some.seat ≡ s = cc in let last : t ≡ u = cc in
     let none : FindsNone c.in-Some.seat c.args.counter t = c.in-Zero.ensures in
-    inr (u, subst (λ (q : SeatModel). FindsNone s c.args.counter q) last (subst (λ (q : SeatModel). FindsNone q c.args.counter t) first none), c.acquire_slowly.ensures)
+    inr (
+      u,
+      subst (λ (q : SeatModel). FindsNone s c.args.counter q) last (subst (λ (q : SeatModel). FindsNone q c.args.counter t) first none),
+      c.acquire_slowly.ensures,
+    )
 
 pub returns-in-Some-take-clause-caller : goal.returns-in-Some-take-clause-caller
 returns-in-Some-take-clause-caller g c s e = acquires s c.acquire_slowly.result c.args.counter false (returns-in-Some-take-clause-rows g c s e)
@@ -27,7 +31,8 @@ pub returns-in-Some-take-2-clause-rows : goal.returns-in-Some-take-2-clause-rows
 returns-in-Some-take-2-clause-rows g c s e =
     let t = c.try_at_sight-tried.new.seat in let u = c.in-Some-take-2.seat in let first : c.in-Some.seat ≡ s = cc in let last : t ≡ u = cc in
     let lost : TriesOn c.in-Some.seat c.args.counter t = c.in-Lost.ensures in
-    let on : TriesOn s c.args.counter u = subst (λ (q : SeatModel). TriesOn s c.args.counter q) last (subst (λ (q : SeatModel). TriesOn q c.args.counter t) first lost) in
+    let on : TriesOn s c.args.counter u = subst (λ (q : SeatModel). TriesOn s c.args.counter q) last
+    (subst (λ (q : SeatModel). TriesOn q c.args.counter t) first lost) in
     acquired_after s u c.acquire_with_breaks.result c.args.counter false on c.acquire_with_breaks.ensures
 
 pub returns-in-Some-take-2-clause-caller : goal.returns-in-Some-take-2-clause-caller

@@ -16,7 +16,8 @@ pub returns-in-Zero-clause-caller : goal.returns-in-Zero-clause-caller
 returns-in-Zero-clause-caller g c = acquires c.args.seat c.acquire_slowly.result c.args.counter _ (returns-in-Zero-clause-rows g c)
 
 pub returns-in-Lost-clause-rows : goal.returns-in-Lost-clause-rows
-returns-in-Lost-clause-rows g c = acquired_after c.args.seat c.try_at_sight.new.seat c.acquire_with_breaks.result c.args.counter _ c.in-Lost.ensures c.acquire_with_breaks.ensures
+returns-in-Lost-clause-rows g c =
+    acquired_after c.args.seat c.try_at_sight.new.seat c.acquire_with_breaks.result c.args.counter _ c.in-Lost.ensures c.acquire_with_breaks.ensures
 
 pub returns-in-Lost-clause-caller : goal.returns-in-Lost-clause-caller
 returns-in-Lost-clause-caller g c = acquires c.args.seat c.acquire_with_breaks.result c.args.counter _ (returns-in-Lost-clause-rows g c)

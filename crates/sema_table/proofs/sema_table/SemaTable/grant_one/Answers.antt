@@ -12,14 +12,19 @@ pub grant-requires : goal.grant-requires
 grant-requires c =
     let s = c.args.token.now in let a = c.args.call.now in let r = c.requires.seat.0 in let at = r.table_is ∙ sym c.self.view_is in
     let first : waiter s.me.0.own.number s.me.0.own.knows.hand ≡ c.args.seat = c.requires.seat.1 in
-    let there : waiter s.me.0.own.number s.me.0.own.knows.hand < s.me.0.own.knows.setting.seats = subst (λ (y : TableModel). waiter s.me.0.own.number s.me.0.own.knows.hand < y.setting.seats) (sym r.table_is) (let h = c.requires.there in omega arith) in
+    let there : waiter s.me.0.own.number s.me.0.own.knows.hand < s.me.0.own.knows.setting.seats = subst
+    (λ (y : TableModel). waiter s.me.0.own.number s.me.0.own.knows.hand < y.setting.seats) (sym r.table_is) (let h = c.requires.there in omega arith) in
     let word : address s.me.0.own.knows.setting (Grant (waiter s.me.0.own.number s.me.0.own.knows.hand)) ≡ c.grant_word-word.result
     = (λ i. address (r.table_is i).setting (Grant (first i))) ∙ sym c.grant_word-word.ensures.at in
-    let words = ap (λ (t : TableModel). t.id.words) c.self.view_is in let low = c.grant_word-word.ensures.low in let beside = c.asleep_word-asleep.ensures.low in (
+    let words = ap (λ (t : TableModel). t.id.words) c.self.view_is in let low = c.grant_word-word.ensures.low in
+    let beside = c.asleep_word-asleep.ensures.low in (
       omega arith,
       (
         (ap (λ (t : TableModel). t.id) at, someones c.self.inside c.self.invariant s at),
-        ((omega arith, omega arith), grants_first _ c.self.inside.words.table.shared.table_id.slots c.grant_word-word.result s.me a r.place_is r.limited word there),
+        (
+          (omega arith, omega arith),
+          grants_first _ c.self.inside.words.table.shared.table_id.slots c.grant_word-word.result s.me a r.place_is r.limited word there,
+        ),
       ),
     )
 

@@ -23,11 +23,13 @@ take_lock_for-requires g c =
           (omega arith, beside.0),
           (
             beside.1,
-            takes_lock_by _ c.lock_word-word.result s p r.takes (subst (λ (y : TableModel). Begins (length y.setting.starts) s.me.0.own.knows.place p) (sym r.table_is) r.begins) r.limited word,
+            takes_lock_by _ c.lock_word-word.result s p r.takes
+                (subst (λ (y : TableModel). Begins (length y.setting.starts) s.me.0.own.knows.place p) (sym r.table_is) r.begins) r.limited word,
           ),
         ),
       ),
     )
 
 pub returns : goal.returns
-returns g c = has_locked c.args.self.now c.args.token.now c.take_lock_for.new.token c.args.place.now c.requires.0 c.take_lock_for.ensures.took c.take_lock_for.ensures.own
+returns g c =
+    has_locked c.args.self.now c.args.token.now c.take_lock_for.new.token c.args.place.now c.requires.0 c.take_lock_for.ensures.took c.take_lock_for.ensures.own

@@ -18,7 +18,8 @@ use Rattle.sema_table.proofs.sema_table.SemaTable.meet.Goals as goal
 
 pub meet-requires : goal.meet-requires
 meet-requires c =
-    let at = own c.self.inside c.one.inside.token c.one.inside.numbers c.self.view_is c.one.view_is c.requires.0 in let at_o = own c.self.inside c.other.inside.token c.other.inside.numbers c.self.view_is c.other.view_is c.requires.1 in
+    let at = own c.self.inside c.one.inside.token c.one.inside.numbers c.self.view_is c.one.view_is c.requires.0 in
+    let at_o = own c.self.inside c.other.inside.token c.other.inside.numbers c.self.view_is c.other.view_is c.requires.1 in
     let any = c.self.invariant.any in let counted = c.self.invariant.counted in (
       omega arith,
       (
@@ -31,28 +32,35 @@ meet-requires c =
     )
 
 -- the word at the address 0 is the first counter
-met_there : (x : Inside) (made : IsMade x) (s o a b : Token) (q : ℕ) → table_of s ≡ table_by x → Met semaphore_rows (word_at s.me.0.own.knows.setting 0) s.me.0.own o.me.0.own q a.me.0.own b.me.0.own → Met semaphore_rows (Counter 0) s.me.0.own o.me.0.own q a.me.0.own b.me.0.own
+met_there : (x : Inside) (made : IsMade x) (s o a b : Token) (q : ℕ) → table_of s ≡ table_by x → Met semaphore_rows (word_at s.me.0.own.knows.setting 0)
+    s.me.0.own o.me.0.own q a.me.0.own b.me.0.own → Met semaphore_rows (Counter 0) s.me.0.own o.me.0.own q a.me.0.own b.me.0.own
 met_there x made s o a b q at = subst (λ (w : Word). Met semaphore_rows w s.me.0.own o.me.0.own q a.me.0.own b.me.0.own)
-    (counter_lies s.me.0.own.knows.setting 0 0 (subst (λ (y : TableModel). 0 < length y.setting.starts) (sym at) (let any = made.any in let counted = made.counted in omega arith)) refl)
+    (counter_lies s.me.0.own.knows.setting 0 0
+    (subst (λ (y : TableModel). 0 < length y.setting.starts) (sym at) (let any = made.any in let counted = made.counted in omega arith)) refl)
 
 pub invariant_of-one : goal.invariant_of-one
 invariant_of-one c =
     let s = c.one.inside.token in let o = c.other.inside.token in let a = c.meet.new.one in let b = c.meet.new.other in let E = c.meet.ensures in
     let at = own c.self.inside s c.one.inside.numbers c.self.view_is c.one.view_is c.requires.0 in
-    one_seat s o a b c.one.inside.numbers c.other.inside.numbers c.meet.result c.one.invariant c.other.invariant (met_there c.self.inside c.self.invariant s o a b c.meet.result at E.met) E.own.0 E.own.1 (slots_are E.one) (slots_are E.other)
+    one_seat s o a b c.one.inside.numbers c.other.inside.numbers c.meet.result c.one.invariant c.other.invariant
+    (met_there c.self.inside c.self.invariant s o a b c.meet.result at E.met) E.own.0 E.own.1 (slots_are E.one) (slots_are E.other)
 
 pub invariant_of-other : goal.invariant_of-other
 invariant_of-other c =
     let s = c.one.inside.token in let o = c.other.inside.token in let a = c.meet.new.one in let b = c.meet.new.other in let E = c.meet.ensures in
     let at = own c.self.inside s c.one.inside.numbers c.self.view_is c.one.view_is c.requires.0 in
-    other_seat s o a b c.one.inside.numbers c.other.inside.numbers c.meet.result c.one.invariant c.other.invariant (met_there c.self.inside c.self.invariant s o a b c.meet.result at E.met) E.own.0 E.own.1 (slots_are E.one) (slots_are E.other)
+    other_seat s o a b c.one.inside.numbers c.other.inside.numbers c.meet.result c.one.invariant c.other.invariant
+    (met_there c.self.inside c.self.invariant s o a b c.meet.result at E.met) E.own.0 E.own.1 (slots_are E.one) (slots_are E.other)
 
 pub returns-clause-rows : goal.returns-clause-rows
 returns-clause-rows c =
     let s = c.one.inside.token in let o = c.other.inside.token in let a = c.meet.new.one in let b = c.meet.new.other in let E = c.meet.ensures in
     let at = own c.self.inside s c.one.inside.numbers c.self.view_is c.one.view_is c.requires.0 in
-    subst (λ (q : SeatModel × SeatModel). HasMet q.0 q.1 (seat_of a c.one.inside.numbers) (seat_of b c.other.inside.numbers)) (λ i. (c.one.view_is i, c.other.view_is i))
-    (have_met s o a b c.one.inside.numbers c.other.inside.numbers c.meet.result c.one.invariant c.other.invariant (met_there c.self.inside c.self.invariant s o a b c.meet.result at E.met) E.own.0 E.own.1 (slots_are E.one) (slots_are E.other))
+    subst (λ (q : SeatModel × SeatModel). HasMet q.0 q.1 (seat_of a c.one.inside.numbers) (seat_of b c.other.inside.numbers))
+    (λ i. (c.one.view_is i, c.other.view_is i))
+    (have_met s o a b c.one.inside.numbers c.other.inside.numbers c.meet.result c.one.invariant c.other.invariant
+    (met_there c.self.inside c.self.invariant s o a b c.meet.result at E.met) E.own.0 E.own.1 (slots_are E.one) (slots_are E.other))
 
 pub returns-clause-caller : goal.returns-clause-caller
-returns-clause-caller c = sees_the_same c.args.one.now c.args.other.now (seat_of c.meet.new.one c.one.inside.numbers) (seat_of c.meet.new.other c.other.inside.numbers) (returns-clause-rows c)
+returns-clause-caller c = sees_the_same c.args.one.now c.args.other.now (seat_of c.meet.new.one c.one.inside.numbers)
+    (seat_of c.meet.new.other c.other.inside.numbers) (returns-clause-rows c)

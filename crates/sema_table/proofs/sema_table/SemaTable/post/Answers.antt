@@ -1,4 +1,5 @@
-use Rattle.std.proofs.Common.{◌≡◌, ◌+◌, ◌-◌, ◌%◌, ◌^◌, ◌<◌, ℕ, [], ◌∷◌, length, sym, ap, refl, ◌∙◌, subst, inl, inr, arith}
+use Rattle.std.proofs.Common.{◌≡◌, ◌+◌, ◌-◌, ◌%◌, ◌^◌, ◌<◌, ℕ, [], ◌∷◌, length, sym, ap, refl, ◌∙◌, subst, inl, inr}
+use Rattle.std.proofs.Common.{arith}
 use Rattle.step_table.specs.declared.place.ReleaseRow.TheVariants.{R1, R2}
 use Rattle.step_table.specs.declared.entry.Entry.TheVariants.{Add}
 use Rattle.step_table.specs.declared.word.Word.TheVariants.{Counter, Waiters}
@@ -24,15 +25,25 @@ pub add-requires : goal.add-requires
 add-requires c =
     let s = c.seat.inside.token in let n = c.seat.inside.numbers in let N : ℕ = c.number-counter.result in
     let at = own c.self.inside s n c.self.view_is c.seat.view_is c.requires.0 in
-    let inside : N < length s.me.0.own.knows.setting.starts = subst (λ k. k < length s.me.0.own.knows.setting.starts) (sym c.number-counter.ensures) (counter_in c.self.inside s n c.self.view_is c.seat.view_is c.requires.0 c.requires.1) in (
+    let inside : N < length s.me.0.own.knows.setting.starts = subst (λ k. k < length s.me.0.own.knows.setting.starts) (sym c.number-counter.ensures)
+    (counter_in c.self.inside s n c.self.view_is c.seat.view_is c.requires.0 c.requires.1) in (
       omega arith,
       (
         (ap (λ (t : TableModel). t.id) at, someones c.self.inside c.self.invariant s at),
         (
           (let w = c.counter_word.ensures.at in let low = word_in c.self.inside s c.self.invariant at (Counter N) inside in omega (arith, w, low)),
           owes_of (λ k. releasing k R1) c.counter_word.result N c.counter_word.ensures.at _ s.me (λ n. (n + 1) % 2 ^ 64)
-              (owes c.counter_word.result s.me (releasing N R1) (inr (inl (c.seat.invariant.free, inside))) (added_few s n 1 c.seat.invariant.token_is (let z = c.if-seat-eq0.false in omega (arith, z))) _ (λ n. (n + 1) % 2 ^ 64)
-              (λ b y known. record { fits = record { word = sym c.counter_word.ensures.at; there = inside; can = refl; becomes = counter_up known N inside (sym c.counter_word.ensures.at) }; apart = refl })),
+              (owes c.counter_word.result s.me (releasing N R1) (inr (inl (c.seat.invariant.free, inside)))
+              (added_few s n 1 c.seat.invariant.token_is (let z = c.if-seat-eq0.false in omega (arith, z))) _ (λ n. (n + 1) % 2 ^ 64)
+              (λ b y known. record {
+                fits = record {
+                  word = sym c.counter_word.ensures.at;
+                  there = inside;
+                  can = refl;
+                  becomes = counter_up known N inside (sym c.counter_word.ensures.at);
+                };
+                apart = refl;
+              })),
         ),
       ),
     )
@@ -41,54 +52,75 @@ pub load-requires : goal.load-requires
 load-requires c =
     let s = c.seat.inside.token in let n = c.seat.inside.numbers in let N : ℕ = c.number-counter.result in let t = c.add.new.token in
     let at = own c.self.inside s n c.self.view_is c.seat.view_is c.requires.0 in
-    let walk = walked_add s t n N c.add.result (run_of (λ k. releasing k R1) c.counter_word.result c.number-counter.result (c.counter_word.ensures.at) c.seat.inside.token.me.0.own c.add.result c.add.new.token.me.0.own c.add.ensures.went.0) c.add.ensures.own in
+    let walk = walked_add s t n N c.add.result
+    (run_of (λ k. releasing k R1) c.counter_word.result c.number-counter.result (c.counter_word.ensures.at) c.seat.inside.token.me.0.own c.add.result
+    c.add.new.token.me.0.own c.add.ensures.went.0) c.add.ensures.own in
     let word : address t.me.0.own.knows.setting (Waiters N) ≡ c.waiter_word-word.result
-    = ap (λ (y : TableModel). address y.setting (Waiters N)) (walk.table_is ∙ at ∙ c.self.view_is) ∙ sym (c.waiter_word-word.ensures.at ∙ ap (λ k. address c.args.self.now.setting (Waiters k)) c.new.ensures) in
+    = ap (λ (y : TableModel). address y.setting (Waiters N)) (walk.table_is ∙ at ∙ c.self.view_is)
+    ∙ sym (c.waiter_word-word.ensures.at ∙ ap (λ k. address c.args.self.now.setting (Waiters k)) c.new.ensures) in
     let low = word_in c.self.inside t c.self.invariant (walk.table_is ∙ at) (Waiters N) tt in (
       omega arith,
       (
         (c.add.ensures.own ∙ ap (λ (t : TableModel). t.id) at, someones c.self.inside c.self.invariant t (walk.table_is ∙ at)),
         (
           omega arith,
-          owes_here _ c.waiter_word-word.result t.me (releasing N R2) (ap (λ (q : SeatState). q.place) walk.stands_is) (let a = walked_adds s t (releasing N R1) (moved_to s (releasing N R2)) (Add N s.me.0.own.number ∷ []) 0 walk in let o = on_here s.me.0.own.number 1 in let b = added_few s n 1 c.seat.invariant.token_is (let z = c.if-seat-eq0.false in omega (arith, z)) in omega arith) (λ n. n)
+          owes_here _ c.waiter_word-word.result t.me (releasing N R2) (ap (λ (q : SeatState). q.place) walk.stands_is)
+              (let a = walked_adds s t (releasing N R1) (moved_to s (releasing N R2)) (Add N s.me.0.own.number ∷ []) 0 walk in
+              let o = on_here s.me.0.own.number 1 in let b = added_few s n 1 c.seat.invariant.token_is (let z = c.if-seat-eq0.false in omega (arith, z)) in
+              omega arith) (λ n. n)
               (λ b y known. record { fits = record { word = word; there = tt; can = refl; becomes = refl }; apart = refl }),
         ),
       ),
     )
 
 pub invariant_of-result : goal.invariant_of-result
-invariant_of-result c = done_seat c.seat.inside.token c.add.new.token c.load.new.token c.seat.inside.numbers c.number-counter.result c.add.result c.load.result c.seat.invariant (let z = c.if-seat-eq0.false in omega (arith, z))
-    (run_of (λ k. releasing k R1) c.counter_word.result c.number-counter.result (c.counter_word.ensures.at) c.seat.inside.token.me.0.own c.add.result c.add.new.token.me.0.own c.add.ensures.went.0) c.load.ensures.went.0 c.add.ensures.own c.load.ensures.own (slots_are c.add.ensures.went.1) (slots_are c.load.ensures.went.1) c.if-load-eq0.true
+invariant_of-result c = done_seat c.seat.inside.token c.add.new.token c.load.new.token c.seat.inside.numbers c.number-counter.result c.add.result c.load.result
+    c.seat.invariant (let z = c.if-seat-eq0.false in omega (arith, z))
+    (run_of (λ k. releasing k R1) c.counter_word.result c.number-counter.result (c.counter_word.ensures.at) c.seat.inside.token.me.0.own c.add.result
+    c.add.new.token.me.0.own c.add.ensures.went.0) c.load.ensures.went.0 c.add.ensures.own c.load.ensures.own (slots_are c.add.ensures.went.1)
+    (slots_are c.load.ensures.went.1) c.if-load-eq0.true
 
 pub returns-then-load-eq0-clause-rows : goal.returns-then-load-eq0-clause-rows
 returns-then-load-eq0-clause-rows c =
-    let n = c.seat.inside.numbers in let some : 0 < n.left = (let z = c.if-seat-eq0.false in omega (arith, z)) in let fewer : Numbers = record n { left = n.left - 1 } in
+    let n = c.seat.inside.numbers in let some : 0 < n.left = (let z = c.if-seat-eq0.false in omega (arith, z)) in
+    let fewer : Numbers = record n { left = n.left - 1 } in
     (
     subst (λ (s : SeatModel). (0 < s.left) × IsPosted s c.args.counter (Done (seat_of c.load.new.token fewer))) c.seat.view_is (
       some,
       subst (λ k. IsPosted (seat_of c.seat.inside.token n) k (Done (seat_of c.load.new.token fewer))) c.number-counter.ensures
           (posted_done c.seat.inside.token c.add.new.token c.load.new.token n c.number-counter.result c.add.result c.load.result c.seat.invariant some
-          (run_of (λ k. releasing k R1) c.counter_word.result c.number-counter.result (c.counter_word.ensures.at) c.seat.inside.token.me.0.own c.add.result c.add.new.token.me.0.own c.add.ensures.went.0) c.load.ensures.went.0 c.add.ensures.own c.load.ensures.own (slots_are c.add.ensures.went.1) (slots_are c.load.ensures.went.1) c.if-load-eq0.true),
+          (run_of (λ k. releasing k R1) c.counter_word.result c.number-counter.result (c.counter_word.ensures.at) c.seat.inside.token.me.0.own c.add.result
+          c.add.new.token.me.0.own c.add.ensures.went.0) c.load.ensures.went.0 c.add.ensures.own c.load.ensures.own (slots_are c.add.ensures.went.1)
+          (slots_are c.load.ensures.went.1) c.if-load-eq0.true),
     ))
 
 pub returns-then-load-eq0-clause-caller : goal.returns-then-load-eq0-clause-caller
-returns-then-load-eq0-clause-caller c = let n = c.seat.inside.numbers in let fewer : Numbers = record n { left = n.left - 1 } in posts c.args.seat c.args.counter (Done (seat_of c.load.new.token fewer)) (returns-then-load-eq0-clause-rows c)
+returns-then-load-eq0-clause-caller c = let n = c.seat.inside.numbers in let fewer : Numbers = record n { left = n.left - 1 } in
+    posts c.args.seat c.args.counter (Done (seat_of c.load.new.token fewer)) (returns-then-load-eq0-clause-rows c)
 
 pub invariant_of-result-2 : goal.invariant_of-result-2
-invariant_of-result-2 c = owing_seat c.seat.inside.token c.add.new.token c.load.new.token c.seat.inside.numbers c.number-counter.result c.add.result c.load.result c.seat.invariant (let z = c.if-seat-eq0.false in omega (arith, z))
-    (run_of (λ k. releasing k R1) c.counter_word.result c.number-counter.result (c.counter_word.ensures.at) c.seat.inside.token.me.0.own c.add.result c.add.new.token.me.0.own c.add.ensures.went.0) c.load.ensures.went.0 c.add.ensures.own c.load.ensures.own (slots_are c.add.ensures.went.1) (slots_are c.load.ensures.went.1) (let z = c.if-load-eq0.false in omega (arith, z))
-    (subst (λ k. k < length c.seat.inside.token.me.0.own.knows.setting.starts) (sym c.number-counter.ensures) (counter_in c.self.inside c.seat.inside.token c.seat.inside.numbers c.self.view_is c.seat.view_is c.requires.0 c.requires.1))
+invariant_of-result-2 c = owing_seat c.seat.inside.token c.add.new.token c.load.new.token c.seat.inside.numbers c.number-counter.result c.add.result
+    c.load.result c.seat.invariant (let z = c.if-seat-eq0.false in omega (arith, z))
+    (run_of (λ k. releasing k R1) c.counter_word.result c.number-counter.result (c.counter_word.ensures.at) c.seat.inside.token.me.0.own c.add.result
+    c.add.new.token.me.0.own c.add.ensures.went.0) c.load.ensures.went.0 c.add.ensures.own c.load.ensures.own (slots_are c.add.ensures.went.1)
+    (slots_are c.load.ensures.went.1) (let z = c.if-load-eq0.false in omega (arith, z))
+    (subst (λ k. k < length c.seat.inside.token.me.0.own.knows.setting.starts) (sym c.number-counter.ensures)
+    (counter_in c.self.inside c.seat.inside.token c.seat.inside.numbers c.self.view_is c.seat.view_is c.requires.0 c.requires.1))
 
 pub returns-clause-rows : goal.returns-clause-rows
 returns-clause-rows c =
-    let n = c.seat.inside.numbers in let some : 0 < n.left = (let z = c.if-seat-eq0.false in omega (arith, z)) in let fewer : Numbers = record n { left = n.left - 1 } in
+    let n = c.seat.inside.numbers in let some : 0 < n.left = (let z = c.if-seat-eq0.false in omega (arith, z)) in
+    let fewer : Numbers = record n { left = n.left - 1 } in
     (
     subst (λ (s : SeatModel). (0 < s.left) × IsPosted s c.args.counter (Owes (seat_of c.load.new.token fewer))) c.seat.view_is (
       some,
       subst (λ k. IsPosted (seat_of c.seat.inside.token n) k (Owes (seat_of c.load.new.token fewer))) c.number-counter.ensures
           (posted_owes c.seat.inside.token c.add.new.token c.load.new.token n c.number-counter.result c.add.result c.load.result c.seat.invariant some
-          (run_of (λ k. releasing k R1) c.counter_word.result c.number-counter.result (c.counter_word.ensures.at) c.seat.inside.token.me.0.own c.add.result c.add.new.token.me.0.own c.add.ensures.went.0) c.load.ensures.went.0 c.add.ensures.own c.load.ensures.own (slots_are c.add.ensures.went.1) (slots_are c.load.ensures.went.1) (let z = c.if-load-eq0.false in omega (arith, z))),
+          (run_of (λ k. releasing k R1) c.counter_word.result c.number-counter.result (c.counter_word.ensures.at) c.seat.inside.token.me.0.own c.add.result
+          c.add.new.token.me.0.own c.add.ensures.went.0) c.load.ensures.went.0 c.add.ensures.own c.load.ensures.own (slots_are c.add.ensures.went.1)
+          (slots_are c.load.ensures.went.1) (let z = c.if-load-eq0.false in omega (arith, z))),
     ))
 
 pub returns-clause-caller : goal.returns-clause-caller
-returns-clause-caller c = let n = c.seat.inside.numbers in let fewer : Numbers = record n { left = n.left - 1 } in posts c.args.seat c.args.counter (Owes (seat_of c.load.new.token fewer)) (returns-clause-rows c)
+returns-clause-caller c = let n = c.seat.inside.numbers in let fewer : Numbers = record n { left = n.left - 1 } in
+    posts c.args.seat c.args.counter (Owes (seat_of c.load.new.token fewer)) (returns-clause-rows c)

@@ -12,4 +12,5 @@ pub returns-in-Owes-clause-rows : goal.returns-in-Owes-clause-rows
 returns-in-Owes-clause-rows g c = search rules
 
 pub returns-in-Owes-clause-caller : goal.returns-in-Owes-clause-caller
-returns-in-Owes-clause-caller g c = releases_many c.args.seat c.wake_some.result.0 c.args.counter c.args.units c.wake_some.result.1 (returns-in-Owes-clause-rows g c)
+returns-in-Owes-clause-caller g c =
+    releases_many c.args.seat c.wake_some.result.0 c.args.counter c.args.units c.wake_some.result.1 (returns-in-Owes-clause-rows g c)

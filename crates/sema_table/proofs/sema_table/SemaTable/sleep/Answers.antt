@@ -16,28 +16,35 @@ await_grant-requires g c =
     let misses = aside_in c.self.inside _ c.self.view_is c.misses_word-misses.ensures.at c.misses_word-misses.ensures.low in (
       omega arith,
       (
-        ap (λ (t : TableModel). t.id) (own c.self.inside s n c.self.view_is c.sleeping.view_is (ap (λ (q : SeatModel). q.table) c.loop.invariant.same ∙ c.requires)),
+        ap (λ (t : TableModel). t.id) (own c.self.inside s n c.self.view_is c.sleeping.view_is
+            (ap (λ (q : SeatModel). q.table) c.loop.invariant.same ∙ c.requires)),
         ((omega arith, asleep.0, misses.0), (tt, (asleep.1, misses.1))),
       ),
     )
 
 pub loop-preserved : goal.loop-preserved
 loop-preserved g c =
-    let awake = same_seat c.sleeping.inside.token c.await_grant.new.token c.sleeping.inside.numbers (c.await_grant.ensures.same.0, c.await_grant.ensures.same.1) ∙ c.sleeping.view_is in
-    look_more c.args.sleeping c.loop.sleeping c.in-Still.still c.loop.invariant (subst (λ (q : SeatModel). IsPolled q (Still c.in-Still.still)) awake c.in-Still.ensures.rows)
+    let awake = same_seat c.sleeping.inside.token c.await_grant.new.token c.sleeping.inside.numbers
+    (c.await_grant.ensures.same.0, c.await_grant.ensures.same.1) ∙ c.sleeping.view_is in
+    look_more c.args.sleeping c.loop.sleeping c.in-Still.still c.loop.invariant
+    (subst (λ (q : SeatModel). IsPolled q (Still c.in-Still.still)) awake c.in-Still.ensures.rows)
 
 pub returns-in-Woken-clause-rows : goal.returns-in-Woken-clause-rows
 returns-in-Woken-clause-rows g c =
-    let awake = same_seat c.sleeping.inside.token c.await_grant.new.token c.sleeping.inside.numbers (c.await_grant.ensures.same.0, c.await_grant.ensures.same.1) ∙ c.sleeping.view_is in
-    roused_woken c.args.sleeping c.loop.sleeping c.in-Woken.woken c.loop.invariant (subst (λ (q : SeatModel). IsPolled q (Woken c.in-Woken.woken)) awake c.in-Woken.ensures.rows)
+    let awake = same_seat c.sleeping.inside.token c.await_grant.new.token c.sleeping.inside.numbers
+    (c.await_grant.ensures.same.0, c.await_grant.ensures.same.1) ∙ c.sleeping.view_is in
+    roused_woken c.args.sleeping c.loop.sleeping c.in-Woken.woken c.loop.invariant
+    (subst (λ (q : SeatModel). IsPolled q (Woken c.in-Woken.woken)) awake c.in-Woken.ensures.rows)
 
 pub returns-in-Woken-clause-caller : goal.returns-in-Woken-clause-caller
 returns-in-Woken-clause-caller g c = sleeps c.args.sleeping (roused.Woken c.in-Woken.woken) (returns-in-Woken-clause-rows g c)
 
 pub returns-in-Handed-clause-rows : goal.returns-in-Handed-clause-rows
 returns-in-Handed-clause-rows g c =
-    let awake = same_seat c.sleeping.inside.token c.await_grant.new.token c.sleeping.inside.numbers (c.await_grant.ensures.same.0, c.await_grant.ensures.same.1) ∙ c.sleeping.view_is in
-    roused_handed c.args.sleeping c.loop.sleeping c.in-Handed.seat c.loop.invariant (subst (λ (q : SeatModel). IsPolled q (Handed c.in-Handed.seat)) awake c.in-Handed.ensures.rows)
+    let awake = same_seat c.sleeping.inside.token c.await_grant.new.token c.sleeping.inside.numbers
+    (c.await_grant.ensures.same.0, c.await_grant.ensures.same.1) ∙ c.sleeping.view_is in
+    roused_handed c.args.sleeping c.loop.sleeping c.in-Handed.seat c.loop.invariant
+    (subst (λ (q : SeatModel). IsPolled q (Handed c.in-Handed.seat)) awake c.in-Handed.ensures.rows)
 
 pub returns-in-Handed-clause-caller : goal.returns-in-Handed-clause-caller
 returns-in-Handed-clause-caller g c = sleeps c.args.sleeping (roused.Handed c.in-Handed.seat) (returns-in-Handed-clause-rows g c)

@@ -14,10 +14,13 @@ retry-requires g c = let p = c.requires.1 in
     ap (λ (s : SeatModel). s.table) c.in-Woken.ensures.rows.0 ∙ ap (λ (s : SeatModel). s.table) (c.loop.invariant p.0 p.1 p.2).same ∙ c.requires.0
 
 pub returns-in-Handed : goal.returns-in-Handed
-returns-in-Handed g c = λ a turn parks. handed_on c.args.sleeping c.loop.sleeping a turn parks (c.loop.invariant a turn parks) c.in-Handed.seat c.in-Handed.ensures.rows
+returns-in-Handed g c =
+    λ a turn parks. handed_on c.args.sleeping c.loop.sleeping a turn parks (c.loop.invariant a turn parks) c.in-Handed.seat c.in-Handed.ensures.rows
 
 pub returns-in-Taken : goal.returns-in-Taken
-returns-in-Taken g c = λ a turn parks. taken_on c.args.sleeping c.loop.sleeping a turn parks (c.loop.invariant a turn parks) c.in-Woken.woken c.in-Woken.ensures.rows c.in-Taken.seat c.in-Taken.ensures.rows
+returns-in-Taken g c = λ a turn parks. taken_on c.args.sleeping c.loop.sleeping a turn parks (c.loop.invariant a turn parks)
+    c.in-Woken.woken c.in-Woken.ensures.rows c.in-Taken.seat c.in-Taken.ensures.rows
 
 pub loop-preserved : goal.loop-preserved
-loop-preserved g c = λ a turn parks. asleep_on c.args.sleeping c.loop.sleeping a turn parks (c.loop.invariant a turn parks) c.in-Woken.woken c.in-Woken.ensures.rows c.in-Asleep.again c.in-Asleep.ensures.rows
+loop-preserved g c = λ a turn parks. asleep_on c.args.sleeping c.loop.sleeping a turn parks (c.loop.invariant a turn parks)
+    c.in-Woken.woken c.in-Woken.ensures.rows c.in-Asleep.again c.in-Asleep.ensures.rows

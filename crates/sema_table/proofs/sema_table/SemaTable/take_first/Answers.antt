@@ -4,7 +4,8 @@ use Rattle.sema_table.proofs.Wakening.{stands_sought, stands_out, stands_none, f
 use Rattle.sema_table.proofs.sema_table.SemaTable.take_first.Goals as goal
 
 pub returns-then-not-look_for_waits-clause-stands : goal.returns-then-not-look_for_waits-clause-stands
-returns-then-not-look_for_waits-clause-stands c = stands_none c.args.self.now c.args.token.now c.look_for_waits.new.token c.args.call.now c.requires.seat.0 c.if-not-look_for_waits.ensures.found
+returns-then-not-look_for_waits-clause-stands c =
+    stands_none c.args.self.now c.args.token.now c.look_for_waits.new.token c.args.call.now c.requires.seat.0 c.if-not-look_for_waits.ensures.found
 
 pub take_out-requires : goal.take_out-requires
 take_out-requires c = record {
@@ -16,10 +17,13 @@ take_out-requires c = record {
 }
 
 pub returns-clause-some : goal.returns-clause-some
-returns-clause-some c = first_out c.args.self.now c.args.token.now c.look_for_waits.new.token c.args.call.now c.requires.seat.0 c.if-not-look_for_waits.ensures.found c.take_out.new.token c.take_out.result c.take_out.ensures.some
+returns-clause-some c = first_out c.args.self.now c.args.token.now c.look_for_waits.new.token c.args.call.now c.requires.seat.0
+    c.if-not-look_for_waits.ensures.found c.take_out.new.token c.take_out.result c.take_out.ensures.some
 
 pub returns-clause-none : goal.returns-clause-none
-returns-clause-none c = first_none c.args.self.now c.args.token.now c.look_for_waits.new.token c.args.call.now c.requires.seat.0 c.if-not-look_for_waits.ensures.found c.take_out.new.token c.take_out.result c.take_out.ensures.none
+returns-clause-none c = first_none c.args.self.now c.args.token.now c.look_for_waits.new.token c.args.call.now c.requires.seat.0
+    c.if-not-look_for_waits.ensures.found c.take_out.new.token c.take_out.result c.take_out.ensures.none
 
 pub returns-clause-stands : goal.returns-clause-stands
-returns-clause-stands c = stands_out c.args.self.now c.args.token.now c.look_for_waits.new.token c.args.call.now c.requires.seat.0 c.if-not-look_for_waits.ensures.found c.take_out.new.token c.take_out.result c.take_out.ensures.some c.take_out.ensures.none
+returns-clause-stands c = stands_out c.args.self.now c.args.token.now c.look_for_waits.new.token c.args.call.now c.requires.seat.0
+    c.if-not-look_for_waits.ensures.found c.take_out.new.token c.take_out.result c.take_out.ensures.some c.take_out.ensures.none

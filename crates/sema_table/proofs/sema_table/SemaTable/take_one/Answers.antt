@@ -22,7 +22,7 @@ use Rattle.sema_table.specs.Rule.{lists_by, setting_of}
 use Rattle.sema_table.specs.Rows.{Me, semaphore_rows}
 use Rattle.sema_table.proofs.Stepping.{lowered_some_many}
 use Rattle.sema_table.proofs.GrantingMany.{picking_more, out_walk, out_record}
-use Rattle.sema_table.proofs.WakeningMany.{picking_counter}
+use Rattle.sema_table.proofs.PickingMany.{picking_counter}
 use Rattle.sema_table.proofs.sema_table.SemaTable.take_one.Goals as goal
 
 pub remove_first-requires : goal.remove_first-requires
@@ -31,38 +31,51 @@ remove_first-requires c = let s = c.args.token.now in let r = c.requires.seat.0 
 
 pub subtract-requires : goal.subtract-requires
 subtract-requires c =
-    let s = c.args.token.now in let v : Known = s.me.0.own.knows in let a = c.args.call.now in let k : ℕ = a.counter in let r = c.requires.seat.0 in let z : Setting = v.setting in
+    let s = c.args.token.now in let v : Known = s.me.0.own.knows in let a = c.args.call.now in let k : ℕ = a.counter in
+    let r = c.requires.seat.0 in let z : Setting = v.setting in
     let R = c.in_ok-id.ensures.some in let first = R.0 in let E = R.1 in let q : Treap = E.1.0 in
     let m : Me = (s.me.0, (root z k, Root q) ∷ []) in
     let at = r.table_is ∙ sym c.self.view_is in
     let place : v.place ≡ ReleasingMany a M5 = r.place_is ∙ picking_more s a c.in_ok-id.id (drop 1 (lists_by z v.seen k)) first c.requires.few in
-    let word : address z (Waiters k) ≡ c.waiter_word-word.result = ap (λ (y : TableModel). address y.setting (Waiters k)) r.table_is ∙ sym c.waiter_word-word.ensures.at in
+    let word : address z (Waiters k) ≡ c.waiter_word-word.result = ap (λ (y : TableModel). address y.setting (Waiters k)) r.table_is
+    ∙ sym c.waiter_word-word.ensures.at in
     let low = word_in c.self.inside s c.self.invariant at (Waiters k) tt in
     let key : Setting = setting_of c.self.inside.words.table.shared.key in (
       omega arith,
       (
-        (E.0 ∙ ap (λ (t : TableModel). t.id) at, subst (λ (x : Me). IsSomeones semaphore_rows x.0) (sym E.1.1) (someones c.self.inside c.self.invariant s at)),
+        (
+          E.0 ∙ ap (λ (t : TableModel). t.id) at,
+          subst (λ (x : Me). IsSomeones semaphore_rows x.0) (sym E.1.1) (someones c.self.inside c.self.invariant s at),
+        ),
         (
           omega arith,
-          subst (λ (x : Me). Owes semaphore_rows key x c.waiter_word-word.result (λ n. (n + 18446744073709551615) % 2 ^ 64) (λ n u. RanRow semaphore_rows here x n u)) (sym E.1.1)
-              (owes_here key c.waiter_word-word.result m (ReleasingMany a M5) place (let b = r.limited in omega arith) (λ n. (n + 18446744073709551615) % 2 ^ 64)
-              (λ b n known. record { fits = record { word = word; there = tt; can = refl; becomes = waiters_down known k word (lowered_some_many known a refl) }; apart = refl })),
+          subst (λ (x : Me). Owes semaphore_rows key x c.waiter_word-word.result (λ n. (n + 18446744073709551615) % 2 ^ 64)
+              (λ n u. RanRow semaphore_rows here x n u)) (sym E.1.1)
+              (owes_here key c.waiter_word-word.result m (ReleasingMany a M5) place (let b = r.limited in omega arith)
+              (λ n. (n + 18446744073709551615) % 2 ^ 64)
+              (λ b n known. record {
+                fits = record { word = word; there = tt; can = refl; becomes = waiters_down known k word (lowered_some_many known a refl) };
+                apart = refl;
+              })),
         ),
       ),
     )
 
 pub returns-clause-record : goal.returns-clause-record
 returns-clause-record c =
-    let s = c.args.token.now in let v : Known = s.me.0.own.knows in let a = c.args.call.now in let k : ℕ = a.counter in let r = c.requires.seat.0 in let z : Setting = v.setting in
+    let s = c.args.token.now in let v : Known = s.me.0.own.knows in let a = c.args.call.now in let k : ℕ = a.counter in
+    let r = c.requires.seat.0 in let z : Setting = v.setting in
     let R = c.in_ok-id.ensures.some in let first = R.0 in let E = R.1 in
     let place : v.place ≡ ReleasingMany a M5 = r.place_is ∙ picking_more s a c.in_ok-id.id (drop 1 (lists_by z v.seen k)) first c.requires.few in
     let u = c.subtract.new.token in let n : ℕ = c.subtract.result in
     let row : Ran here s.me.0.own n u.me.0.own = subst (λ (x : Me). Ran here x.0.own n u.me.0.own) E.1.1 c.subtract.ensures.went.0 in
-    out_record s u a n c.in_ok-id.id (drop 1 (lists_by z v.seen k)) place row (c.subtract.ensures.own ∙ E.0) first E.1.0 ((slots_are c.subtract.ensures.went.1) ∙ ap (λ (x : Me). x.1) E.1.1) E.1.2
+    out_record s u a n c.in_ok-id.id (drop 1 (lists_by z v.seen k)) place row (c.subtract.ensures.own ∙ E.0) first E.1.0
+    ((slots_are c.subtract.ensures.went.1) ∙ ap (λ (x : Me). x.1) E.1.1) E.1.2
 
 pub returns-clause-some : goal.returns-clause-some
 returns-clause-some c =
-    let s = c.args.token.now in let v : Known = s.me.0.own.knows in let a = c.args.call.now in let k : ℕ = a.counter in let r = c.requires.seat.0 in let z : Setting = v.setting in
+    let s = c.args.token.now in let v : Known = s.me.0.own.knows in let a = c.args.call.now in let k : ℕ = a.counter in
+    let r = c.requires.seat.0 in let z : Setting = v.setting in
     let R = c.in_ok-id.ensures.some in let first = R.0 in let E = R.1 in
     let place : v.place ≡ ReleasingMany a M5 = r.place_is ∙ picking_more s a c.in_ok-id.id (drop 1 (lists_by z v.seen k)) first c.requires.few in
     let u = c.subtract.new.token in let n : ℕ = c.subtract.result in

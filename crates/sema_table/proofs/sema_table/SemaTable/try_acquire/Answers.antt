@@ -21,75 +21,114 @@ use Rattle.sema_table.proofs.sema_table.SemaTable.try_acquire.Goals as goal
 pub load-found-requires : goal.load-found-requires
 load-found-requires c =
     let at = own c.self.inside c.seat.inside.token c.seat.inside.numbers c.self.view_is c.seat.view_is c.requires.0 in let N : ℕ = c.number.result in
-    let inside : N < length c.seat.inside.token.me.0.own.knows.setting.starts = subst (λ k. k < length c.seat.inside.token.me.0.own.knows.setting.starts) (sym c.number.ensures) (counter_in c.self.inside c.seat.inside.token c.seat.inside.numbers c.self.view_is c.seat.view_is c.requires.0 c.requires.1) in (
+    let inside : N < length c.seat.inside.token.me.0.own.knows.setting.starts = subst (λ k. k < length c.seat.inside.token.me.0.own.knows.setting.starts)
+    (sym c.number.ensures) (counter_in c.self.inside c.seat.inside.token c.seat.inside.numbers c.self.view_is c.seat.view_is c.requires.0 c.requires.1) in (
       omega arith,
       (
         (ap (λ (t : TableModel). t.id) at, someones c.self.inside c.self.invariant c.seat.inside.token at),
         (
-          (let w = c.counter_word-word.ensures.at in let low = word_in c.self.inside c.seat.inside.token c.self.invariant at (Counter N) inside in omega (arith, w, low)),
+          (let w = c.counter_word-word.ensures.at in
+              let low = word_in c.self.inside c.seat.inside.token c.self.invariant at (Counter N) inside in omega (arith, w, low)),
           owes_of (λ k. acquiring k A1) c.counter_word-word.result N c.counter_word-word.ensures.at _ c.seat.inside.token.me (λ n. n)
-              (owes c.counter_word-word.result c.seat.inside.token.me (acquiring N A1) (inr (inl (c.seat.invariant.free, inside))) (added_few c.seat.inside.token c.seat.inside.numbers 0 c.seat.invariant.token_is (omega arith)) _ (λ n. n)
+              (owes c.counter_word-word.result c.seat.inside.token.me (acquiring N A1) (inr (inl (c.seat.invariant.free, inside)))
+              (added_few c.seat.inside.token c.seat.inside.numbers 0 c.seat.invariant.token_is (omega arith)) _ (λ n. n)
               (λ b n known. record { fits = record { word = sym c.counter_word-word.ensures.at; there = inside; can = refl; becomes = refl }; apart = refl })),
         ),
       ),
     )
 
 pub invariant_of-seat : goal.invariant_of-seat
-invariant_of-seat c = zero_seat c.seat.inside.token c.load-found.new.token c.seat.inside.numbers c.number.result c.load-found.result c.seat.invariant (run_of (λ k. acquiring k A1) c.counter_word-word.result c.number.result (c.counter_word-word.ensures.at) c.seat.inside.token.me.0.own c.load-found.result c.load-found.new.token.me.0.own c.load-found.ensures.went.0) c.load-found.ensures.own (slots_are c.load-found.ensures.went.1) c.if-found-eq0.true
+invariant_of-seat c = zero_seat c.seat.inside.token c.load-found.new.token c.seat.inside.numbers c.number.result c.load-found.result c.seat.invariant
+    (run_of (λ k. acquiring k A1) c.counter_word-word.result c.number.result (c.counter_word-word.ensures.at) c.seat.inside.token.me.0.own c.load-found.result
+    c.load-found.new.token.me.0.own c.load-found.ensures.went.0) c.load-found.ensures.own (slots_are c.load-found.ensures.went.1) c.if-found-eq0.true
 
 pub returns-then-found-eq0-clause-rows : goal.returns-then-found-eq0-clause-rows
 returns-then-found-eq0-clause-rows c =
     let n = c.seat.inside.numbers in let t = c.load-found.new.token in
     subst (λ (s : SeatModel). IsTried s c.args.counter Zero (seat_of t n)) c.seat.view_is
     (subst (λ k. IsTried (seat_of c.seat.inside.token n) k Zero (seat_of t n)) c.number.ensures
-    (tried_zero c.seat.inside.token t n c.number.result c.load-found.result c.seat.invariant (run_of (λ k. acquiring k A1) c.counter_word-word.result c.number.result (c.counter_word-word.ensures.at) c.seat.inside.token.me.0.own c.load-found.result c.load-found.new.token.me.0.own c.load-found.ensures.went.0) c.load-found.ensures.own (slots_are c.load-found.ensures.went.1) c.if-found-eq0.true))
+    (tried_zero c.seat.inside.token t n c.number.result c.load-found.result c.seat.invariant
+    (run_of (λ k. acquiring k A1) c.counter_word-word.result c.number.result (c.counter_word-word.ensures.at) c.seat.inside.token.me.0.own c.load-found.result
+    c.load-found.new.token.me.0.own c.load-found.ensures.went.0) c.load-found.ensures.own (slots_are c.load-found.ensures.went.1) c.if-found-eq0.true))
 
 pub returns-then-found-eq0-clause-caller : goal.returns-then-found-eq0-clause-caller
-returns-then-found-eq0-clause-caller c = tries c.args.seat.now (seat_of c.load-found.new.token c.seat.inside.numbers) c.args.counter Zero (returns-then-found-eq0-clause-rows c)
+returns-then-found-eq0-clause-caller c =
+    tries c.args.seat.now (seat_of c.load-found.new.token c.seat.inside.numbers) c.args.counter Zero (returns-then-found-eq0-clause-rows c)
 
 pub exchange-requires : goal.exchange-requires
 exchange-requires c =
-    let s = c.seat.inside.token in let n = c.seat.inside.numbers in let t = c.load-found.new.token in let N : ℕ = c.number.result in let k : ℕ = c.load-found.result in
-    let R = (run_of (λ k. acquiring k A1) c.counter_word-word.result c.number.result (c.counter_word-word.ensures.at) c.seat.inside.token.me.0.own c.load-found.result c.load-found.new.token.me.0.own c.load-found.ensures.went.0) in let same = c.load-found.ensures.own in
+    let s = c.seat.inside.token in let n = c.seat.inside.numbers in let t = c.load-found.new.token in
+    let N : ℕ = c.number.result in let k : ℕ = c.load-found.result in
+    let R = (run_of (λ k. acquiring k A1) c.counter_word-word.result c.number.result (c.counter_word-word.ensures.at) c.seat.inside.token.me.0.own
+    c.load-found.result c.load-found.new.token.me.0.own c.load-found.ensures.went.0) in let same = c.load-found.ensures.own in
     let at = own c.self.inside s n c.self.view_is c.seat.view_is c.requires.0 in
     let some : 0 < k = (let z = c.if-found-eq0.false in omega (arith, z)) in
     let walk = walked_some s t n N k c.seat.invariant R same (slots_are c.load-found.ensures.went.1) some in
-    let inside : N < length t.me.0.own.knows.setting.starts = subst (λ (y : TableModel). N < length y.setting.starts) (sym walk.table_is) (subst (λ j. j < length s.me.0.own.knows.setting.starts) (sym c.number.ensures) (counter_in c.self.inside s n c.self.view_is c.seat.view_is c.requires.0 c.requires.1)) in (
+    let inside : N < length t.me.0.own.knows.setting.starts = subst (λ (y : TableModel). N < length y.setting.starts) (sym walk.table_is)
+    (subst (λ j. j < length s.me.0.own.knows.setting.starts) (sym c.number.ensures)
+    (counter_in c.self.inside s n c.self.view_is c.seat.view_is c.requires.0 c.requires.1)) in (
       omega arith,
-      ((same ∙ ap (λ (t : TableModel). t.id) at, someones c.self.inside c.self.invariant t (walk.table_is ∙ at)), ((let w = c.counter_word-word.ensures.at in let low = word_in c.self.inside t c.self.invariant (walk.table_is ∙ at) (Counter N) inside in omega (arith, w, low)), owes_here _ c.counter_word-word.result t.me (acquiring N (A2 (k - 1))) (ap (λ (q : SeatState). q.place) walk.stands_is) (let a = walked_adds s t (acquiring N A1) (moved_to s (acquiring N (A2 (k - 1)))) [] 0 walk in let b = added_few s n 0 c.seat.invariant.token_is (omega arith) in omega arith) (λ y. either (y == k) (k - 1) y) (λ b y known. record { fits = record { word = sym c.counter_word-word.ensures.at; there = inside; can = refl; becomes = exchanged k y some }; apart = refl }))),
+      (
+        (same ∙ ap (λ (t : TableModel). t.id) at, someones c.self.inside c.self.invariant t (walk.table_is ∙ at)),
+        (
+          (let w = c.counter_word-word.ensures.at in let low = word_in c.self.inside t c.self.invariant (walk.table_is ∙ at) (Counter N) inside in
+              omega (arith, w, low)),
+          owes_here _ c.counter_word-word.result t.me (acquiring N (A2 (k - 1))) (ap (λ (q : SeatState). q.place) walk.stands_is)
+              (let a = walked_adds s t (acquiring N A1) (moved_to s (acquiring N (A2 (k - 1)))) [] 0 walk in
+              let b = added_few s n 0 c.seat.invariant.token_is (omega arith) in omega arith) (λ y. either (y == k) (k - 1) y)
+              (λ b y known. record {
+                fits = record { word = sym c.counter_word-word.ensures.at; there = inside; can = refl; becomes = exchanged k y some };
+                apart = refl;
+              }),
+        ),
+      ),
     )
 
 pub invariant_of-seat-then-exchange-found : goal.invariant_of-seat-then-exchange-found
 invariant_of-seat-then-exchange-found c =
-    lost_seat c.seat.inside.token c.load-found.new.token c.exchange.new.token c.seat.inside.numbers c.number.result c.load-found.result c.exchange.result c.seat.invariant (run_of (λ k. acquiring k A1) c.counter_word-word.result c.number.result (c.counter_word-word.ensures.at) c.seat.inside.token.me.0.own c.load-found.result c.load-found.new.token.me.0.own c.load-found.ensures.went.0) c.exchange.ensures.went.0
-    c.load-found.ensures.own c.exchange.ensures.own (slots_are c.load-found.ensures.went.1) (slots_are c.exchange.ensures.went.1) (let z = c.if-found-eq0.false in omega (arith, z)) c.if-exchange-found.true
+    lost_seat c.seat.inside.token c.load-found.new.token c.exchange.new.token c.seat.inside.numbers c.number.result c.load-found.result c.exchange.result
+    c.seat.invariant (run_of (λ k. acquiring k A1) c.counter_word-word.result c.number.result (c.counter_word-word.ensures.at) c.seat.inside.token.me.0.own
+    c.load-found.result c.load-found.new.token.me.0.own c.load-found.ensures.went.0) c.exchange.ensures.went.0
+    c.load-found.ensures.own c.exchange.ensures.own (slots_are c.load-found.ensures.went.1) (slots_are c.exchange.ensures.went.1)
+    (let z = c.if-found-eq0.false in omega (arith, z)) c.if-exchange-found.true
 
 pub returns-then-exchange-found-clause-rows : goal.returns-then-exchange-found-clause-rows
 returns-then-exchange-found-clause-rows c =
     let n = c.seat.inside.numbers in let u = c.exchange.new.token in
     subst (λ (s : SeatModel). IsTried s c.args.counter Lost (seat_of u n)) c.seat.view_is
     (subst (λ k. IsTried (seat_of c.seat.inside.token n) k Lost (seat_of u n)) c.number.ensures
-    (tried_lost c.seat.inside.token c.load-found.new.token u n c.number.result c.load-found.result c.exchange.result c.seat.invariant (run_of (λ k. acquiring k A1) c.counter_word-word.result c.number.result (c.counter_word-word.ensures.at) c.seat.inside.token.me.0.own c.load-found.result c.load-found.new.token.me.0.own c.load-found.ensures.went.0) c.exchange.ensures.went.0
-    c.load-found.ensures.own c.exchange.ensures.own (slots_are c.load-found.ensures.went.1) (slots_are c.exchange.ensures.went.1) (let z = c.if-found-eq0.false in omega (arith, z)) c.if-exchange-found.true))
+    (tried_lost c.seat.inside.token c.load-found.new.token u n c.number.result c.load-found.result c.exchange.result c.seat.invariant
+    (run_of (λ k. acquiring k A1) c.counter_word-word.result c.number.result (c.counter_word-word.ensures.at) c.seat.inside.token.me.0.own c.load-found.result
+    c.load-found.new.token.me.0.own c.load-found.ensures.went.0) c.exchange.ensures.went.0
+    c.load-found.ensures.own c.exchange.ensures.own (slots_are c.load-found.ensures.went.1) (slots_are c.exchange.ensures.went.1)
+    (let z = c.if-found-eq0.false in omega (arith, z)) c.if-exchange-found.true))
 
 pub returns-then-exchange-found-clause-caller : goal.returns-then-exchange-found-clause-caller
-returns-then-exchange-found-clause-caller c = tries c.args.seat.now (seat_of c.exchange.new.token c.seat.inside.numbers) c.args.counter Lost (returns-then-exchange-found-clause-rows c)
+returns-then-exchange-found-clause-caller c =
+    tries c.args.seat.now (seat_of c.exchange.new.token c.seat.inside.numbers) c.args.counter Lost (returns-then-exchange-found-clause-rows c)
 
 pub overflow_add-seat : goal.overflow_add-seat
 overflow_add-seat c = let m = c.seat.invariant.token_is.most in omega arith
 
 pub invariant_of-seat-2 : goal.invariant_of-seat-2
 invariant_of-seat-2 c =
-    taken_seat c.seat.inside.token c.load-found.new.token c.exchange.new.token c.seat.inside.numbers c.number.result c.load-found.result c.exchange.result c.seat.invariant (run_of (λ k. acquiring k A1) c.counter_word-word.result c.number.result (c.counter_word-word.ensures.at) c.seat.inside.token.me.0.own c.load-found.result c.load-found.new.token.me.0.own c.load-found.ensures.went.0) c.exchange.ensures.went.0
-    c.load-found.ensures.own c.exchange.ensures.own (slots_are c.load-found.ensures.went.1) (slots_are c.exchange.ensures.went.1) (let z = c.if-found-eq0.false in omega (arith, z)) c.if-exchange-found.false
+    taken_seat c.seat.inside.token c.load-found.new.token c.exchange.new.token c.seat.inside.numbers c.number.result c.load-found.result c.exchange.result
+    c.seat.invariant (run_of (λ k. acquiring k A1) c.counter_word-word.result c.number.result (c.counter_word-word.ensures.at) c.seat.inside.token.me.0.own
+    c.load-found.result c.load-found.new.token.me.0.own c.load-found.ensures.went.0) c.exchange.ensures.went.0
+    c.load-found.ensures.own c.exchange.ensures.own (slots_are c.load-found.ensures.went.1) (slots_are c.exchange.ensures.went.1)
+    (let z = c.if-found-eq0.false in omega (arith, z)) c.if-exchange-found.false
 
 pub returns-clause-rows : goal.returns-clause-rows
 returns-clause-rows c =
     let n = c.seat.inside.numbers in let u = c.exchange.new.token in let counted : Numbers = record n { taken = n.taken + 1 } in
     subst (λ (s : SeatModel). IsTried s c.args.counter Taken (seat_of u counted)) c.seat.view_is
     (subst (λ k. IsTried (seat_of c.seat.inside.token n) k Taken (seat_of u counted)) c.number.ensures
-    (tried_taken c.seat.inside.token c.load-found.new.token u n c.number.result c.load-found.result c.exchange.result c.seat.invariant (run_of (λ k. acquiring k A1) c.counter_word-word.result c.number.result (c.counter_word-word.ensures.at) c.seat.inside.token.me.0.own c.load-found.result c.load-found.new.token.me.0.own c.load-found.ensures.went.0) c.exchange.ensures.went.0
-    c.load-found.ensures.own c.exchange.ensures.own (slots_are c.load-found.ensures.went.1) (slots_are c.exchange.ensures.went.1) (let z = c.if-found-eq0.false in omega (arith, z)) c.if-exchange-found.false))
+    (tried_taken c.seat.inside.token c.load-found.new.token u n c.number.result c.load-found.result c.exchange.result c.seat.invariant
+    (run_of (λ k. acquiring k A1) c.counter_word-word.result c.number.result (c.counter_word-word.ensures.at) c.seat.inside.token.me.0.own c.load-found.result
+    c.load-found.new.token.me.0.own c.load-found.ensures.went.0) c.exchange.ensures.went.0
+    c.load-found.ensures.own c.exchange.ensures.own (slots_are c.load-found.ensures.went.1) (slots_are c.exchange.ensures.went.1)
+    (let z = c.if-found-eq0.false in omega (arith, z)) c.if-exchange-found.false))
 
 pub returns-clause-caller : goal.returns-clause-caller
-returns-clause-caller c = let n = c.seat.inside.numbers in let counted : Numbers = record n { taken = n.taken + 1 } in tries c.args.seat.now (seat_of c.exchange.new.token counted) c.args.counter Taken (returns-clause-rows c)
+returns-clause-caller c = let n = c.seat.inside.numbers in let counted : Numbers = record n { taken = n.taken + 1 } in
+    tries c.args.seat.now (seat_of c.exchange.new.token counted) c.args.counter Taken (returns-clause-rows c)

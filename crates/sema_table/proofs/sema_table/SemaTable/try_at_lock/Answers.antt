@@ -50,7 +50,8 @@ exchange-requires c =
     some in
     let t = x.table_is ∙ r.table_is ∙ sym c.self.view_is in
     let inside : N < length u.me.0.own.knows.setting.starts
-    = subst (λ (y : TableModel). N < length y.setting.starts) (sym (x.table_is ∙ r.table_is)) (let e = c.number.ensures in let h = r.inside in omega arith) in
+    = subst (λ (y : TableModel). N < length y.setting.starts) (sym (x.table_is ∙ r.table_is))
+    (let e = c.number.ensures in let h = r.inside in omega arith) in
     let low = word_in c.self.inside u c.self.invariant t (Counter N) inside in let w = c.counter_word-word.ensures.at in let e = c.number.ensures in (
       omega arith,
       (

@@ -11,27 +11,38 @@ use Rattle.sema_table.proofs.sema_table.SemaTable.value.Goals as goal
 
 pub look-requires : goal.look-requires
 look-requires c =
-    let s = c.seat.inside.token in let n = c.seat.inside.numbers in let k : ℕ = c.args.counter in let e = c.number.ensures in let w = c.counter_word-word.ensures.at in
+    let s = c.seat.inside.token in let n = c.seat.inside.numbers in let k : ℕ = c.args.counter in let e = c.number.ensures in
+    let w = c.counter_word-word.ensures.at in
     let at = own c.self.inside s n c.self.view_is c.seat.view_is c.requires.0 in
     let there = counter_in c.self.inside s n c.self.view_is c.seat.view_is c.requires.0 c.requires.1 in
     let low = word_in c.self.inside s c.self.invariant at (Counter k) there in (
       omega arith,
-      ((ap (λ (t : TableModel). t.id) at, someones c.self.inside c.self.invariant s at), (omega (arith, e, w), counter_seen _ c.counter_word-word.result k (subst (λ (y : TableModel). k < length y.setting.starts) at there) (omega (arith, e, w)))),
+      (
+        (ap (λ (t : TableModel). t.id) at, someones c.self.inside c.self.invariant s at),
+        (
+          omega (arith, e, w),
+          counter_seen _ c.counter_word-word.result k (subst (λ (y : TableModel). k < length y.setting.starts) at there) (omega (arith, e, w)),
+        ),
+      ),
     )
 
 pub invariant_of-seat : goal.invariant_of-seat
 invariant_of-seat c =
-    let s = c.seat.inside.token in let n = c.seat.inside.numbers in let t = c.look.new.token in let k : ℕ = c.args.counter in let e = c.number.ensures in let w = c.counter_word-word.ensures.at in
+    let s = c.seat.inside.token in let n = c.seat.inside.numbers in let t = c.look.new.token in let k : ℕ = c.args.counter in let e = c.number.ensures in
+    let w = c.counter_word-word.ensures.at in
     looked_seat s t n (Counter k) c.look.result c.seat.invariant
-    (counter_look s.me.0.own t.me.0.own k c.counter_word-word.result c.look.result (counter_in c.self.inside s n c.self.view_is c.seat.view_is c.requires.0 c.requires.1) (omega (arith, e, w)) c.look.ensures.went.0)
+    (counter_look s.me.0.own t.me.0.own k c.counter_word-word.result c.look.result
+    (counter_in c.self.inside s n c.self.view_is c.seat.view_is c.requires.0 c.requires.1) (omega (arith, e, w)) c.look.ensures.went.0)
     c.look.ensures.own (slots_are c.look.ensures.went.1)
 
 pub returns-clause-rows : goal.returns-clause-rows
 returns-clause-rows c =
-    let s = c.seat.inside.token in let n = c.seat.inside.numbers in let t = c.look.new.token in let k : ℕ = c.args.counter in let e = c.number.ensures in let w = c.counter_word-word.ensures.at in
+    let s = c.seat.inside.token in let n = c.seat.inside.numbers in let t = c.look.new.token in let k : ℕ = c.args.counter in let e = c.number.ensures in
+    let w = c.counter_word-word.ensures.at in
     subst (λ (q : SeatModel). IsValue q k c.look.result (seat_of t n)) c.seat.view_is
     (is_value s t n k c.look.result c.seat.invariant
-    (counter_look s.me.0.own t.me.0.own k c.counter_word-word.result c.look.result (counter_in c.self.inside s n c.self.view_is c.seat.view_is c.requires.0 c.requires.1) (omega (arith, e, w)) c.look.ensures.went.0)
+    (counter_look s.me.0.own t.me.0.own k c.counter_word-word.result c.look.result
+    (counter_in c.self.inside s n c.self.view_is c.seat.view_is c.requires.0 c.requires.1) (omega (arith, e, w)) c.look.ensures.went.0)
     c.look.ensures.own (slots_are c.look.ensures.went.1))
 
 pub returns-clause-caller : goal.returns-clause-caller

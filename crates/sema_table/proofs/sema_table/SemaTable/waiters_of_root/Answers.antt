@@ -17,11 +17,16 @@ look-requires c =
     let s = c.seat.inside.token in let n = c.seat.inside.numbers in let z = s.me.0.own.knows.setting in let k : ℕ = c.args.counter in
     let at = own c.self.inside s n c.self.view_is c.seat.view_is c.requires.0 in
     let low = word_in c.self.inside s c.self.invariant at (Waiters k) tt in
-    let lies : address z (Waiters k) ≡ c.waiter_word-word.result = ap (λ (t : TableModel). address t.setting (Waiters k)) (at ∙ c.self.view_is) ∙ sym c.waiter_word-word.ensures.at in (
+    let lies : address z (Waiters k) ≡ c.waiter_word-word.result = ap (λ (t : TableModel). address t.setting (Waiters k)) (at ∙ c.self.view_is)
+    ∙ sym c.waiter_word-word.ensures.at in (
       omega arith,
       (
         (ap (λ (t : TableModel). t.id) at, someones c.self.inside c.self.invariant s at),
-        (omega arith, subst (λ (y : TableModel). IsSeen semaphore_rows y.setting c.waiter_word-word.result) at (waiters_seen z c.waiter_word-word.result k (some_root c.self.inside s c.self.invariant at) lies)),
+        (
+          omega arith,
+          subst (λ (y : TableModel). IsSeen semaphore_rows y.setting c.waiter_word-word.result) at
+              (waiters_seen z c.waiter_word-word.result k (some_root c.self.inside s c.self.invariant at) lies),
+        ),
       ),
     )
 
@@ -29,18 +34,22 @@ pub invariant_of-seat : goal.invariant_of-seat
 invariant_of-seat c =
     let s = c.seat.inside.token in let n = c.seat.inside.numbers in let t = c.look.new.token in let k : ℕ = c.args.counter in
     let at = own c.self.inside s n c.self.view_is c.seat.view_is c.requires.0 in
-    let lies : address s.me.0.own.knows.setting (Waiters k) ≡ c.waiter_word-word.result = ap (λ (t : TableModel). address t.setting (Waiters k)) (at ∙ c.self.view_is) ∙ sym c.waiter_word-word.ensures.at in
+    let lies : address s.me.0.own.knows.setting (Waiters k) ≡ c.waiter_word-word.result = ap (λ (t : TableModel). address t.setting (Waiters k))
+    (at ∙ c.self.view_is) ∙ sym c.waiter_word-word.ensures.at in
     looked_seat s t n (Waiters (root s.me.0.own.knows.setting k)) c.look.result c.seat.invariant
-    (waiters_look s.me.0.own t.me.0.own k c.waiter_word-word.result c.look.result (some_root c.self.inside s c.self.invariant at) lies c.look.ensures.went.0) c.look.ensures.own (slots_are c.look.ensures.went.1)
+    (waiters_look s.me.0.own t.me.0.own k c.waiter_word-word.result c.look.result (some_root c.self.inside s c.self.invariant at) lies c.look.ensures.went.0)
+    c.look.ensures.own (slots_are c.look.ensures.went.1)
 
 pub returns-clause-rows : goal.returns-clause-rows
 returns-clause-rows c =
     let s = c.seat.inside.token in let n = c.seat.inside.numbers in let t = c.look.new.token in let k : ℕ = c.args.counter in
     let at = own c.self.inside s n c.self.view_is c.seat.view_is c.requires.0 in
-    let lies : address s.me.0.own.knows.setting (Waiters k) ≡ c.waiter_word-word.result = ap (λ (t : TableModel). address t.setting (Waiters k)) (at ∙ c.self.view_is) ∙ sym c.waiter_word-word.ensures.at in
+    let lies : address s.me.0.own.knows.setting (Waiters k) ≡ c.waiter_word-word.result = ap (λ (t : TableModel). address t.setting (Waiters k))
+    (at ∙ c.self.view_is) ∙ sym c.waiter_word-word.ensures.at in
     subst (λ (q : SeatModel). IsWaiters q k c.look.result (seat_of t n)) c.seat.view_is
     (is_waiters s t n k c.look.result c.seat.invariant
-    (waiters_look s.me.0.own t.me.0.own k c.waiter_word-word.result c.look.result (some_root c.self.inside s c.self.invariant at) lies c.look.ensures.went.0) c.look.ensures.own (slots_are c.look.ensures.went.1))
+    (waiters_look s.me.0.own t.me.0.own k c.waiter_word-word.result c.look.result (some_root c.self.inside s c.self.invariant at) lies c.look.ensures.went.0)
+    c.look.ensures.own (slots_are c.look.ensures.went.1))
 
 pub returns-clause-caller : goal.returns-clause-caller
 returns-clause-caller c = counts_waits c.args.seat.now (seat_of c.look.new.token c.seat.inside.numbers) c.args.counter c.look.result (returns-clause-rows c)

@@ -15,7 +15,8 @@ pub take_first-first-requires : goal.take_first-first-requires
 take_first-first-requires g c =
     let s = c.args.token in let a : Release = record { counter = c.args.counter; handoff = c.args.handoff } in record {
       seat = (
-        stands_after c.args.self.now s c.lock.new.token c.args.numbers (Releasing a R3) (Releasing a R4) [] 0 c.requires.seat.0 c.requires.seat.1 c.requires.call.0 c.lock.ensures.0 refl,
+        stands_after c.args.self.now s c.lock.new.token c.args.numbers (Releasing a R3) (Releasing a R4) [] 0 c.requires.seat.0 c.requires.seat.1
+            c.requires.call.0 c.lock.ensures.0 refl,
         c.lock.ensures.1,
         ap (λ (y : SeatState). y.hand) c.lock.ensures.0.stands_is ∙ c.requires.seat.0.empty,
       );
@@ -24,37 +25,45 @@ take_first-first-requires g c =
 pub invariant_of-result : goal.invariant_of-result
 invariant_of-result g c =
     let a : Release = record { counter = c.args.counter; handoff = c.args.handoff } in
-    nobody_seat c.args.token c.lock.new.token c.take_first-first.new.token c.unlock_released.new.token c.args.numbers a c.requires.seat.0 c.lock.ensures.0 c.in_default.ensures.none c.unlock_released.ensures.0 c.unlock_released.ensures.1
+    nobody_seat c.args.token c.lock.new.token c.take_first-first.new.token c.unlock_released.new.token c.args.numbers a c.requires.seat.0 c.lock.ensures.0
+    c.in_default.ensures.none c.unlock_released.ensures.0 c.unlock_released.ensures.1
 
 pub returns-in_default : goal.returns-in_default
 returns-in_default g c =
     let a : Release = record { counter = c.args.counter; handoff = c.args.handoff } in
-    wakes_nobody c.args.token c.lock.new.token c.take_first-first.new.token c.unlock_released.new.token c.args.numbers a c.requires.seat.0 c.lock.ensures.0 c.in_default.ensures.none c.unlock_released.ensures.0 c.unlock_released.ensures.1
+    wakes_nobody c.args.token c.lock.new.token c.take_first-first.new.token c.unlock_released.new.token c.args.numbers a c.requires.seat.0 c.lock.ensures.0
+    c.in_default.ensures.none c.unlock_released.ensures.0 c.unlock_released.ensures.1
 
 pub take_for-handed-requires : goal.take_for-handed-requires
 take_for-handed-requires g c =
-    let s = c.args.token in let t1 = c.lock.new.token in let t3 = c.unlock_released.new.token in let n = c.args.numbers in let w : WaitId = c.in-Some.id in let a : Release = record { counter = c.args.counter; handoff = c.args.handoff } in
+    let s = c.args.token in let t1 = c.lock.new.token in let t3 = c.unlock_released.new.token in let n = c.args.numbers in let w : WaitId = c.in-Some.id in
+    let a : Release = record { counter = c.args.counter; handoff = c.args.handoff } in
     let x = carried s t1 c.take_first-first.new.token t3 n a w c.requires.seat.0 c.lock.ensures.0 c.in-Some.ensures.some.0 c.unlock_released.ensures.0 in (
-      stands_at c.args.self.now s t3 n (Releasing a R3) (carrying s (trying a) w) (Leave a.counter w t1.me.0.own.number ∷ []) 0 c.requires.seat.0 c.requires.seat.1
+      stands_at c.args.self.now s t3 n (Releasing a R3) (carrying s (trying a) w)
+          (Leave a.counter w t1.me.0.own.number ∷ []) 0 c.requires.seat.0 c.requires.seat.1
           (subst (λ k. k < length c.args.self.now.setting.starts) (sym (trying_counter a)) c.requires.call.0) x refl,
       ap (λ (q : SeatState). q.hand) x.stands_is,
     )
 
 pub grant-requires-clause-seat : goal.grant-requires-clause-seat
 grant-requires-clause-seat g c =
-    let s = c.args.token in let t1 = c.lock.new.token in let t3 = c.unlock_released.new.token in let n = c.args.numbers in let w : WaitId = c.in-Some.id in let a : Release = record { counter = c.args.counter; handoff = c.args.handoff } in
+    let s = c.args.token in let t1 = c.lock.new.token in let t3 = c.unlock_released.new.token in let n = c.args.numbers in let w : WaitId = c.in-Some.id in
+    let a : Release = record { counter = c.args.counter; handoff = c.args.handoff } in
     let x = carried s t1 c.take_first-first.new.token t3 n a w c.requires.seat.0 c.lock.ensures.0 c.in-Some.ensures.some.0 c.unlock_released.ensures.0 in
     let b : Bool = c.take_for-handed.result in let t4 = c.take_for-handed.new.token in
     let own = c.lock.ensures.0.number_is in
     let y = settled s t1 t3 t4 t4 n a w b c.requires.seat.0 own x c.take_for-handed.ensures.walked in (
-      stands_at c.args.self.now s t4 n (Releasing a R3) (carrying s (granting a b) w) (Leave a.counter w t1.me.0.own.number ∷ taken_for a w b) 0 c.requires.seat.0 c.requires.seat.1
-          (subst (λ k. k < length c.args.self.now.setting.starts) (sym (granting_counter a b)) c.requires.call.0) y (none_added s t1 t3 t4 t4 n a w b c.requires.seat.0 own x c.take_for-handed.ensures.walked b),
+      stands_at c.args.self.now s t4 n (Releasing a R3) (carrying s (granting a b) w)
+          (Leave a.counter w t1.me.0.own.number ∷ taken_for a w b) 0 c.requires.seat.0 c.requires.seat.1
+          (subst (λ k. k < length c.args.self.now.setting.starts) (sym (granting_counter a b)) c.requires.call.0) y
+          (none_added s t1 t3 t4 t4 n a w b c.requires.seat.0 own x c.take_for-handed.ensures.walked b),
       ap (λ (q : SeatState). q.hand) y.stands_is,
     )
 
 pub invariant_of-result-then-handed : goal.invariant_of-result-then-handed
 invariant_of-result-then-handed g c =
-    let s = c.args.token in let t1 = c.lock.new.token in let t3 = c.unlock_released.new.token in let n = c.args.numbers in let w : WaitId = c.in-Some.id in let a : Release = record { counter = c.args.counter; handoff = c.args.handoff } in
+    let s = c.args.token in let t1 = c.lock.new.token in let t3 = c.unlock_released.new.token in let n = c.args.numbers in let w : WaitId = c.in-Some.id in
+    let a : Release = record { counter = c.args.counter; handoff = c.args.handoff } in
     let x = carried s t1 c.take_first-first.new.token t3 n a w c.requires.seat.0 c.lock.ensures.0 c.in-Some.ensures.some.0 c.unlock_released.ensures.0 in
     let b : Bool = c.take_for-handed.result in let t4 = c.take_for-handed.new.token in
     let own = c.lock.ensures.0.number_is in
@@ -64,7 +73,8 @@ invariant_of-result-then-handed g c =
 
 pub returns-then-handed : goal.returns-then-handed
 returns-then-handed g c =
-    let s = c.args.token in let t1 = c.lock.new.token in let t3 = c.unlock_released.new.token in let n = c.args.numbers in let w : WaitId = c.in-Some.id in let a : Release = record { counter = c.args.counter; handoff = c.args.handoff } in
+    let s = c.args.token in let t1 = c.lock.new.token in let t3 = c.unlock_released.new.token in let n = c.args.numbers in let w : WaitId = c.in-Some.id in
+    let a : Release = record { counter = c.args.counter; handoff = c.args.handoff } in
     let x = carried s t1 c.take_first-first.new.token t3 n a w c.requires.seat.0 c.lock.ensures.0 c.in-Some.ensures.some.0 c.unlock_released.ensures.0 in
     let b : Bool = c.take_for-handed.result in let t4 = c.take_for-handed.new.token in
     let own = c.lock.ensures.0.number_is in
@@ -72,12 +82,14 @@ returns-then-handed g c =
     let t5 = c.grant.new.token in let bare = c.grant.ensures.slots ∙ c.take_for-handed.ensures.slots ∙ c.unlock_released.ensures.1 in (
       same_seat s t1 t3 t4 t5 n a w b c.requires.seat.0 own x c.take_for-handed.ensures.walked c.grant.ensures.granted bare,
       at_rest s t1 t3 t4 t5 n a w b c.requires.seat.0 own x c.take_for-handed.ensures.walked c.grant.ensures.granted bare,
-      wakes_handed s t5 n a w b (last_granted s t1 t3 t4 t5 n a w b c.requires.seat.0 own x c.take_for-handed.ensures.walked c.grant.ensures.granted bare) c.if-handed.true (c.take_for-handed.ensures.asked c.if-handed.true),
+      wakes_handed s t5 n a w b (last_granted s t1 t3 t4 t5 n a w b c.requires.seat.0 own x c.take_for-handed.ensures.walked c.grant.ensures.granted bare)
+          c.if-handed.true (c.take_for-handed.ensures.asked c.if-handed.true),
     )
 
 pub invariant_of-result-2 : goal.invariant_of-result-2
 invariant_of-result-2 g c =
-    let s = c.args.token in let t1 = c.lock.new.token in let t3 = c.unlock_released.new.token in let n = c.args.numbers in let w : WaitId = c.in-Some.id in let a : Release = record { counter = c.args.counter; handoff = c.args.handoff } in
+    let s = c.args.token in let t1 = c.lock.new.token in let t3 = c.unlock_released.new.token in let n = c.args.numbers in let w : WaitId = c.in-Some.id in
+    let a : Release = record { counter = c.args.counter; handoff = c.args.handoff } in
     let x = carried s t1 c.take_first-first.new.token t3 n a w c.requires.seat.0 c.lock.ensures.0 c.in-Some.ensures.some.0 c.unlock_released.ensures.0 in
     let b : Bool = c.take_for-handed.result in let t4 = c.take_for-handed.new.token in
     let own = c.lock.ensures.0.number_is in
@@ -87,7 +99,8 @@ invariant_of-result-2 g c =
 
 pub returns : goal.returns
 returns g c =
-    let s = c.args.token in let t1 = c.lock.new.token in let t3 = c.unlock_released.new.token in let n = c.args.numbers in let w : WaitId = c.in-Some.id in let a : Release = record { counter = c.args.counter; handoff = c.args.handoff } in
+    let s = c.args.token in let t1 = c.lock.new.token in let t3 = c.unlock_released.new.token in let n = c.args.numbers in let w : WaitId = c.in-Some.id in
+    let a : Release = record { counter = c.args.counter; handoff = c.args.handoff } in
     let x = carried s t1 c.take_first-first.new.token t3 n a w c.requires.seat.0 c.lock.ensures.0 c.in-Some.ensures.some.0 c.unlock_released.ensures.0 in
     let b : Bool = c.take_for-handed.result in let t4 = c.take_for-handed.new.token in
     let own = c.lock.ensures.0.number_is in
@@ -95,5 +108,6 @@ returns g c =
     let t5 = c.grant.new.token in let bare = c.grant.ensures.slots ∙ c.take_for-handed.ensures.slots ∙ c.unlock_released.ensures.1 in (
       same_seat s t1 t3 t4 t5 n a w b c.requires.seat.0 own x c.take_for-handed.ensures.walked c.grant.ensures.granted bare,
       at_rest s t1 t3 t4 t5 n a w b c.requires.seat.0 own x c.take_for-handed.ensures.walked c.grant.ensures.granted bare,
-      wakes_one s t5 n a w b (last_granted s t1 t3 t4 t5 n a w b c.requires.seat.0 own x c.take_for-handed.ensures.walked c.grant.ensures.granted bare) c.if-handed.false,
+      wakes_one s t5 n a w b (last_granted s t1 t3 t4 t5 n a w b c.requires.seat.0 own x c.take_for-handed.ensures.walked c.grant.ensures.granted bare)
+          c.if-handed.false,
     )

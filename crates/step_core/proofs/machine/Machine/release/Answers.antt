@@ -1,4 +1,4 @@
-use Rattle.step_core.proofs.Changing.{releases_more}
+use Rattle.step_core.proofs.Settling.{releases_more}
 use Rattle.step_core.proofs.machine.Machine.release.Goals as goal
 
 pub returns-then-number-eq0 : goal.returns-then-number-eq0

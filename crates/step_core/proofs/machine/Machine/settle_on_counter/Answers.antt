@@ -1,5 +1,5 @@
 use Rattle.std.proofs.Common.{◌∙◌, sym}
-use Rattle.step_core.proofs.Changing.{settles_now, settles_on}
+use Rattle.step_core.proofs.Settling.{settles_now, settles_on}
 use Rattle.step_core.proofs.machine.Machine.settle_on_counter.Goals as goal
 
 pub returns-in-Rest : goal.returns-in-Rest

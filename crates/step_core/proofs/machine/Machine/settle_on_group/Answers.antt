@@ -1,4 +1,4 @@
-use Rattle.step_core.proofs.Changing.{acquires_now}
+use Rattle.step_core.proofs.Settling.{acquires_now}
 use Rattle.step_core.proofs.machine.Machine.settle_on_group.Goals as goal
 
 pub returns-in-Ends : goal.returns-in-Ends

@@ -1,5 +1,5 @@
 use Rattle.std.proofs.Common.{◌∙◌, sym}
-use Rattle.step_core.proofs.Changing.{ends_on_list, stays_on_list}
+use Rattle.step_core.proofs.Settling.{ends_on_list, stays_on_list}
 use Rattle.step_core.proofs.machine.Machine.settle_on_list.Goals as goal
 
 pub returns-in-Rest : goal.returns-in-Rest

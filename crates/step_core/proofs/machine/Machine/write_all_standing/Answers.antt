@@ -11,5 +11,6 @@ loop-standing-init c = none_written _ _
 
 pub loop-standing-preserved : goal.loop-standing-preserved
 loop-standing-preserved c =
-    let is = item_is Rest _ _ _ _ c.standing-item.is c.loop-standing-test.true (c.deref-standing-items.ensures.value ∙ ap (λ (h : Machine). h.standing) c.self.view_is) in
+    let is = item_is Rest _ _ _ _ c.standing-item.is c.loop-standing-test.true
+    (c.deref-standing-items.ensures.value ∙ ap (λ (h : Machine). h.standing) c.self.view_is) in
     one_written _ _ _ _ _ c.loop-standing.invariant (c.in_ok-write_standing.ensures ∙ ap (λ s. c.loop-standing.key.items ++ standing_words s) is)

@@ -12,4 +12,5 @@ loop-word-init c = none_written _ _
 pub loop-word-preserved : goal.loop-word-preserved
 loop-word-preserved c =
     one_written _ _ _ _ _ c.loop-word.invariant
-    (c.in_ok-write_group.ensures ∙ ap (λ l. c.loop-word.key.items ++ group_words (each empty_word l c.loop-word.word-index)) (c.deref-word-items.ensures.value ∙ ap (λ (h : Machine). h.groups) c.self.view_is))
+    (c.in_ok-write_group.ensures ∙ ap (λ l. c.loop-word.key.items ++ group_words (each empty_word l c.loop-word.word-index))
+    (c.deref-word-items.ensures.value ∙ ap (λ (h : Machine). h.groups) c.self.view_is))

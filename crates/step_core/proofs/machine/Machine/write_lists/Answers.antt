@@ -11,5 +11,7 @@ loop-list-init c = none_written _ _
 
 pub loop-list-preserved : goal.loop-list-preserved
 loop-list-preserved c =
-    let is = item_is no_list _ _ _ _ c.list-item.is c.loop-list-test.true (c.deref-list-items.ensures.value ∙ ap (λ (h : Machine). h.lists) c.self.view_is) in
-    one_written _ _ _ _ _ c.loop-list.invariant (c.in_ok-write_key.ensures ∙ ap (λ l. c.loop-list.key.items ++ list_words (length l.seats) (world_of l [])) is)
+    let is = item_is no_list _ _ _ _ c.list-item.is c.loop-list-test.true
+    (c.deref-list-items.ensures.value ∙ ap (λ (h : Machine). h.lists) c.self.view_is) in
+    one_written _ _ _ _ _ c.loop-list.invariant
+    (c.in_ok-write_key.ensures ∙ ap (λ l. c.loop-list.key.items ++ list_words (length l.seats) (world_of l [])) is)

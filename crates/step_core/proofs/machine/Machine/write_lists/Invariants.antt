@@ -6,4 +6,6 @@ use Rattle.step_rows.specs.Stored.{each}
 use Rattle.step_core.proofs.machine.Machine.write_lists.Given as goal
 
 abbrev pub invariant-loop-list : goal.invariant-loop-list
-invariant-loop-list l = l.key.items ≡ l.fn.key.items ++ joined l.list-index (λ k. list_words (length (each no_list l.fn.self.lists k).seats) (world_of (each no_list l.fn.self.lists k) []))
+invariant-loop-list l =
+    l.key.items ≡ l.fn.key.items ++ joined l.list-index
+    (λ k. list_words (length (each no_list l.fn.self.lists k).seats) (world_of (each no_list l.fn.self.lists k) []))

@@ -6,7 +6,8 @@ use Rattle.step_rows.proofs.list_machine.ListMachine.apply_effect.Goals as goal
 
 pub push_back-requires-clause-fits : goal.push_back-requires-clause-fits
 push_back-requires-clause-fits c =
-    fits c.self-in-Queues.inside c.self-in-Queues.invariant c.args.seat _ c.self-in-Queues.view_is (subst (Allows (moment_of c.args.self.now) c.args.seat) c.in-Queues.is c.requires.allowed)
+    fits c.self-in-Queues.inside c.self-in-Queues.invariant c.args.seat _ c.self-in-Queues.view_is
+    (subst (Allows (moment_of c.args.self.now) c.args.seat) c.in-Queues.is c.requires.allowed)
 
 pub invariant_of-self-in-Queues : goal.invariant_of-self-in-Queues
 invariant_of-self-in-Queues c =
@@ -23,6 +24,7 @@ returns-in-Grants c =
 
 pub returns-in-Queues : goal.returns-in-Queues
 returns-in-Queues c =
-    changed (λ m. made m c.args.seat (Queues c.in-Queues.wait)) c.self-in-Queues.inside (record c.self-in-Queues.inside { waits = c.push_back.new.self }) _ c.self-in-Queues.view_is
+    changed (λ m. made m c.args.seat (Queues c.in-Queues.wait)) c.self-in-Queues.inside
+    (record c.self-in-Queues.inside { waits = c.push_back.new.self }) _ c.self-in-Queues.view_is
     (queue_made c.self-in-Queues.inside c.self-in-Queues.invariant c.args.seat c.in-Queues.wait _ c.push_back.ensures.pushed)
     ∙ ap (made (moment_of c.args.self.now) c.args.seat) (sym c.in-Queues.is)

@@ -40,7 +40,9 @@ returns g c = λ s found left y.
 
 pub invariant_of-result-2 : goal.invariant_of-result-2
 invariant_of-result-2 g c = record {
-  some = subst (λ (m : Me). 0 < m.0.own.knows.seats) (sym c.empty.ensures.1.me_is) (subst (λ (m : Me). 0 < m.0.own.knows.seats) (sym c.load.ensures.me_is) c.requires.some);
+  some =
+      subst (λ (m : Me). 0 < m.0.own.knows.seats) (sym c.empty.ensures.1.me_is)
+      (subst (λ (m : Me). 0 < m.0.own.knows.seats) (sym c.load.ensures.me_is) c.requires.some);
   free = ap (λ (m : Me). is_free m.0.own.knows.next) c.empty.ensures.1.me_is;
   number = ap (λ (m : Me). m.0.own.number) c.empty.ensures.1.me_is ∙ ap (λ (m : Me). m.0.own.number) c.load.ensures.me_is ∙ c.requires.one
       ∙ sym (same_number c.args.word.waits c.args.sema c.release_waits-sema.result c.release_waits-sema.ensures);

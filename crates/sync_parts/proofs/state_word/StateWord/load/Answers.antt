@@ -18,4 +18,5 @@ load-requires c = (
 pub returns : goal.returns
 returns c = let told = c.load.ensures in
     subst (λ w. Steps c.args.token.now (load_row c.args.token.now.me.0.own.knows.next) w c.load.new.token) (sym c.word_of.ensures)
-    (ran_steps c.args.token.now c.load.new.token (at_load (step 0 0 0 0 none)) (load_row c.args.token.now.me.0.own.knows.next) c.load.result refl told.own told.went)
+    (ran_steps c.args.token.now c.load.new.token (at_load (step 0 0 0 0 none))
+    (load_row c.args.token.now.me.0.own.knows.next) c.load.result refl told.own told.went)

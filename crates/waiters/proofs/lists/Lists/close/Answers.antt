@@ -1,5 +1,5 @@
 use Rattle.std.proofs.Common.{is_some, ap, sym, refl}
-use Rattle.waiters.proofs.StepLemmas.{ContainsKey-open, AreChained-step, Changes-step, Keeps-same, HasRoom-more}
+use Rattle.waiters.proofs.OtherLemmas.{ContainsKey-open, AreChained-step, Changes-step, Keeps-same, HasRoom-more}
 use Rattle.waiters.proofs.lists.Lists.close.Goals as goal
 
 pub remove-requires : goal.remove-requires
@@ -12,10 +12,12 @@ invariant_of-self c =
     let old = c.self.invariant in
     let records = c.self.inside.records in
     let removed = c.remove.ensures in
-    AreChained-step records records _ _ _ _ old _ _ removed.updates old.owner _ _ (Keeps-same records old.owner _) tt old.records_fit (HasRoom-more _ _ _ old.chains_fit removed.capacity removed.len)
+    AreChained-step records records _ _ _ _ old _ _ removed.updates old.owner _ _ (Keeps-same records old.owner _) tt old.records_fit
+    (HasRoom-more _ _ _ old.chains_fit removed.capacity removed.len)
 
 pub returns-clause-closed : goal.returns-clause-closed
 returns-clause-closed c =
     let old = c.self.invariant in
     let records = c.self.inside.records in
-    rw (← c.number.ensures) (Changes-step records records _ _ _ _ old _ _ c.remove.ensures.updates old.owner _ _ _ (Keeps-same records old.owner _) (ap (λ lists. lists.slots) (sym c.self.view_is)) refl refl)
+    rw (← c.number.ensures) (Changes-step records records _ _ _ _ old _ _ c.remove.ensures.updates old.owner _ _ _ (Keeps-same records old.owner _)
+    (ap (λ lists. lists.slots) (sym c.self.view_is)) refl refl)

@@ -1,6 +1,7 @@
 use Rattle.std.proofs.Common.{ap, sym, ◌∙◌}
 use Rattle.std.specs.Prelude.{Some}
-use Rattle.waiters.proofs.StepLemmas.{ContainsKey-open, mine, waits_at-open, none_found, FoundAt-mine, ContainsKey-place, wait_found}
+use Rattle.waiters.proofs.StepLemmas.{mine, waits_at-open, none_found, FoundAt-mine, ContainsKey-place, wait_found}
+use Rattle.waiters.proofs.OtherLemmas.{ContainsKey-open}
 use Rattle.waiters.proofs.lists.Lists.first_with.Goals as goal
 
 pub index-chain-requires : goal.index-chain-requires

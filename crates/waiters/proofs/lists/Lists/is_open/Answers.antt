@@ -1,4 +1,4 @@
-use Rattle.waiters.proofs.StepLemmas.{is_some_listed}
+use Rattle.waiters.proofs.OtherLemmas.{is_some_listed}
 use Rattle.waiters.proofs.lists.Lists.is_open.Goals as goal
 
 pub returns : goal.returns

@@ -1,5 +1,5 @@
 use Rattle.std.proofs.Common.{ap, sym, refl, ◌∙◌}
-use Rattle.waiters.proofs.StepLemmas.{list_at-listed, AreChained-step, Changes-step, Keeps-same, IsSlot-empty, HasRoom-less}
+use Rattle.waiters.proofs.OtherLemmas.{list_at-listed, AreChained-step, Changes-step, Keeps-same, IsSlot-empty, HasRoom-less}
 use Rattle.waiters.specs.Chains.{waits_in}
 use Rattle.waiters.proofs.lists.Lists.open.Goals as goal
 
@@ -9,13 +9,15 @@ invariant_of-self c =
     let records = c.self.inside.records in
     let inserted = c.insert_reserved.ensures in
     let some = rw (← c.self.view_is) at c.requires in
-    AreChained-step records records _ _ _ _ old _ _ inserted.updates old.owner _ _ (Keeps-same records old.owner _) (IsSlot-empty records old.owner _) old.records_fit (HasRoom-less _ _ _ old.chains_fit inserted.capacity some inserted.len)
+    AreChained-step records records _ _ _ _ old _ _ inserted.updates old.owner _ _ (Keeps-same records old.owner _) (IsSlot-empty records old.owner _)
+    old.records_fit (HasRoom-less _ _ _ old.chains_fit inserted.capacity some inserted.len)
 
 pub returns-clause-opened : goal.returns-clause-opened
 returns-clause-opened c =
     let old = c.self.invariant in
     let records = c.self.inside.records in
-    rw c.new.ensures (Changes-step records records _ _ _ _ old _ _ c.insert_reserved.ensures.updates old.owner _ _ _ (Keeps-same records old.owner _) (ap (λ lists. lists.slots) (sym c.self.view_is)) refl refl)
+    rw c.new.ensures (Changes-step records records _ _ _ _ old _ _ c.insert_reserved.ensures.updates old.owner _ _ _ (Keeps-same records old.owner _)
+    (ap (λ lists. lists.slots) (sym c.self.view_is)) refl refl)
 
 pub returns-clause-was_closed : goal.returns-clause-was_closed
 returns-clause-was_closed c =

@@ -1,8 +1,9 @@
 use Rattle.std.proofs.Common.{drop, ap, sym, ◌∙◌, refl}
 use Rattle.std.specs.Prelude.{Some}
 use Rattle.waiters.specs.Chains.{waits_of}
-use Rattle.waiters.proofs.StepLemmas.{ContainsKey-open, AreChained-unlinked, Changes-unlinked, Changes-same, wait-unlinked, first_waits, waits_at-open}
-use Rattle.waiters.proofs.StepLemmas.{list_at-open, nil_from_first, StandsAt-first, ContainsKey-place, some_counted}
+use Rattle.waiters.proofs.StepLemmas.{AreChained-unlinked, Changes-unlinked, wait-unlinked, first_waits, waits_at-open, list_at-open, nil_from_first}
+use Rattle.waiters.proofs.StepLemmas.{StandsAt-first, ContainsKey-place, some_counted}
+use Rattle.waiters.proofs.OtherLemmas.{ContainsKey-open, Changes-same}
 use Rattle.waiters.proofs.lists.Lists.pop_front.Goals as goal
 
 pub index-chain-requires : goal.index-chain-requires
@@ -66,4 +67,5 @@ returns-clause-rest c =
     let was = ap (λ lists. lists.slots) (sym c.self.view_is) in
     let stands = StandsAt-first _ _ _ _ c.self.invariant list chain c.index-chain.ensures c.in-Some.key c.in-Some.is in
     let waits = first_waits _ _ _ _ c.self.invariant list chain c.index-chain.ensures c.in-Some.key stands c.args.self.now was in
-    rw (← c.number-list.ensures) (Changes-unlinked _ _ _ _ c.self.invariant list chain c.index-chain.ensures _ _ _ _ stands c.unlink-wait.ensures c.args.self.now _ _ was refl (ap (drop 1) (sym waits)))
+    rw (← c.number-list.ensures) (Changes-unlinked _ _ _ _ c.self.invariant list chain c.index-chain.ensures _ _ _ _ stands c.unlink-wait.ensures
+    c.args.self.now _ _ was refl (ap (drop 1) (sym waits)))

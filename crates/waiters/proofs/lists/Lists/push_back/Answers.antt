@@ -1,5 +1,6 @@
 use Rattle.std.proofs.Common.{ap, sym, refl}
-use Rattle.waiters.proofs.StepLemmas.{ContainsKey-open, AreChained-appended, Changes-appended, len_fits, IsThere-last}
+use Rattle.waiters.proofs.StepLemmas.{AreChained-appended, Changes-appended, len_fits, IsThere-last}
+use Rattle.waiters.proofs.OtherLemmas.{ContainsKey-open}
 use Rattle.waiters.proofs.lists.Lists.push_back.Goals as goal
 
 pub index-chain-requires : goal.index-chain-requires
@@ -24,4 +25,5 @@ invariant_of-self c =
 pub returns-clause-pushed : goal.returns-clause-pushed
 returns-clause-pushed c =
     let some = rw (← c.self.view_is) at c.requires.fits in
-    rw (← c.number-list.ensures) (Changes-appended _ _ _ _ c.self.invariant c.number-list.result c.index-chain.result.now c.index-chain.ensures _ c.args.wait _ c.append.ensures some c.args.self.now _ (ap (λ lists. lists.slots) (sym c.self.view_is)) refl)
+    rw (← c.number-list.ensures) (Changes-appended _ _ _ _ c.self.invariant c.number-list.result c.index-chain.result.now c.index-chain.ensures _ c.args.wait
+    _ c.append.ensures some c.args.self.now _ (ap (λ lists. lists.slots) (sym c.self.view_is)) refl)

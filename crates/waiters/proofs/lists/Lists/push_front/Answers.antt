@@ -1,5 +1,6 @@
 use Rattle.std.proofs.Common.{ap, sym, refl}
-use Rattle.waiters.proofs.StepLemmas.{ContainsKey-open, AreChained-prepended, Changes-prepended, len_fits}
+use Rattle.waiters.proofs.StepLemmas.{AreChained-prepended, Changes-prepended, len_fits}
+use Rattle.waiters.proofs.OtherLemmas.{ContainsKey-open}
 use Rattle.waiters.proofs.lists.Lists.push_front.Goals as goal
 
 pub index-chain-requires : goal.index-chain-requires
@@ -20,4 +21,5 @@ invariant_of-self c =
 pub returns-clause-pushed : goal.returns-clause-pushed
 returns-clause-pushed c =
     let some = rw (← c.self.view_is) at c.requires.fits in
-    rw (← c.number-list.ensures) (Changes-prepended _ _ _ _ c.self.invariant c.number-list.result c.index-chain.result.now c.index-chain.ensures _ c.args.wait _ c.prepend.ensures some c.args.self.now _ (ap (λ lists. lists.slots) (sym c.self.view_is)) refl)
+    rw (← c.number-list.ensures) (Changes-prepended _ _ _ _ c.self.invariant c.number-list.result c.index-chain.result.now c.index-chain.ensures _ c.args.wait
+    _ c.prepend.ensures some c.args.self.now _ (ap (λ lists. lists.slots) (sym c.self.view_is)) refl)

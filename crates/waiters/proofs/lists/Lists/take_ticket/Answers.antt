@@ -1,8 +1,9 @@
 use Rattle.std.proofs.Common.{ap, sym, ◌∙◌, refl}
 use Rattle.std.specs.Prelude.{Some}
 use Rattle.waiters.specs.Lists.{without_first}
-use Rattle.waiters.proofs.StepLemmas.{ContainsKey-open, mine, AreChained-unlinked, Changes-unlinked, Changes-same, wait-unlinked, waits_at-open, none_found}
-use Rattle.waiters.proofs.StepLemmas.{FoundAt-mine, ContainsKey-place, IsThere-before, before_apart, some_counted}
+use Rattle.waiters.proofs.StepLemmas.{mine, AreChained-unlinked, Changes-unlinked, wait-unlinked, waits_at-open, none_found, FoundAt-mine, ContainsKey-place}
+use Rattle.waiters.proofs.StepLemmas.{IsThere-before, before_apart, some_counted}
+use Rattle.waiters.proofs.OtherLemmas.{ContainsKey-open, Changes-same}
 use Rattle.waiters.proofs.lists.Lists.take_ticket.Goals as goal
 
 pub index-chain-requires : goal.index-chain-requires
@@ -93,4 +94,5 @@ returns-clause-rest c =
     let found = FoundAt-mine _ _ _ _ c.self.invariant list chain c.index-chain.ensures c.args.ticket _ finds in
     let was = ap (λ lists. lists.slots) (sym c.self.view_is) in
     let waits = waits_at-open _ _ _ _ c.self.invariant list chain c.index-chain.ensures c.args.self.now was in
-    rw (← c.number-list.ensures) (Changes-unlinked _ _ _ _ c.self.invariant list chain c.index-chain.ensures _ _ _ _ found.stands c.unlink-wait.ensures c.args.self.now _ _ was refl (sym found.without ∙ ap (without_first c.args.ticket) (sym waits)))
+    rw (← c.number-list.ensures) (Changes-unlinked _ _ _ _ c.self.invariant list chain c.index-chain.ensures _ _ _ _ found.stands c.unlink-wait.ensures
+    c.args.self.now _ _ was refl (sym found.without ∙ ap (without_first c.args.ticket) (sym waits)))
