@@ -1,5 +1,5 @@
 use Rattle.waiters.proofs.WalkLemmas.{WalkedTo-start, WalkedTo-next, WalkedTo-found, WalkedTo-end, WalkedTo-shorter, Linked-there}
-use Rattle.waiters.proofs.lists.find.Goals as goal
+use Rattle.waiters.proofs.lists.tickets.find.Goals as goal
 
 pub loop-here-init : goal.loop-here-init
 loop-here-init c = WalkedTo-start _ _ _ c.requires

@@ -1,6 +1,6 @@
 use Rattle.std.proofs.Common.{length}
 use Rattle.waiters.specs.Chains.{WalkedTo, waits_from}
-use Rattle.waiters.proofs.lists.find.Given as goal
+use Rattle.waiters.proofs.lists.tickets.find.Given as goal
 
 abbrev pub invariant-loop-here : goal.invariant-loop-here
 invariant-loop-here l = WalkedTo l.records l.fn.chain l.ticket l.before l.here
