@@ -8,7 +8,9 @@ use Rattle.lock_code.specs.declared.instruction.Instruction.TheVariants as line
 use Rattle.lock_code.specs.declared.program.CodeLine.{CodeLine}
 use Rattle.lock_steps.specs.declared.cause.Cause.TheVariants.{Assert, Fail, Endless}
 use Rattle.lock_steps.specs.Numbers.{computed, holds}
-use Rattle.lock_steps.specs.World.{LockSeat, Stand, Before, Ended, FailedAt}
+use Rattle.lock_steps.specs.declared.stand.Stand.{Stand}
+use Rattle.lock_steps.specs.declared.stand.Stand.TheVariants.{Before, Ended, FailedAt}
+use Rattle.lock_steps.specs.World.{LockSeat}
 use Rattle.lock_steps.specs.Reading.{value, kept, makes_steps}
 use Rattle.lock_steps.specs.InUse.{AreCleared}
 

@@ -12,8 +12,10 @@ use Rattle.lock_steps.specs.declared.cause.Cause.{Cause}
 use Rattle.lock_steps.specs.declared.cause.Cause.TheVariants.{Index}
 use Rattle.lock_steps.specs.Numbers.{holds}
 use Rattle.std.specs.Ordering.{int_eq}
-use Rattle.lock_steps.specs.World.{LockWorld, LockSeat, Sleeper, Stand, Before, Within, Asleep, Ended}
-use Rattle.lock_steps.specs.World.{FailedAt}
+use Rattle.lock_steps.specs.declared.stand.Stand.{Stand}
+use Rattle.lock_steps.specs.declared.stand.Stand.TheVariants.{Before, Within, Asleep, Ended, FailedAt}
+use Rattle.lock_steps.specs.declared.stand.Sleeper.{Sleeper}
+use Rattle.lock_steps.specs.World.{LockWorld, LockSeat}
 use Rattle.lock_steps.specs.World.{layer_of, code_of, first_world, new_seat}
 use Rattle.lock_steps.specs.Reading.{value, place_of}
 use Rattle.lock_steps.specs.Going.{with_register, with_section, GoesOn}

@@ -1,29 +1,19 @@
 -- The world of a lock program: its words, the counters and lists of the sleeping layer, those who sleep on
 -- words, and of each seat where it stands, its registers and its sections.
-use Rattle.std.specs.Prelude.{ℕ, ℤ, pos, Bool, false, List, [], length, slice_index_or}
+use Rattle.std.specs.Prelude.{ℕ, ℤ, pos, Bool, false, List, [], length, slice_index_or, max}
 use Rattle.lock_code.specs.declared.program.CodeLine.{CodeLine}
 use Rattle.lock_code.specs.declared.program.Program.{Program}
-use Rattle.lock_steps.specs.declared.cause.Cause.{Cause}
+use Rattle.lock_steps.specs.declared.stand.Stand.{Stand}
+use Rattle.lock_steps.specs.declared.stand.Stand.TheVariants.{Before}
+use Rattle.lock_steps.specs.declared.stand.Sleeper.{Sleeper}
 use Rattle.step_table.specs.Core.{CoreLayout, Core, first_core}
+use Rattle.step_table.specs.World.{root_number}
 
--- where a seat stands: before a line, in the call that this line has begun, asleep on a word there, behind
--- the last line, or at a line where it failed
-pub data Stand : Type 0 where
-  Before : ℕ → Stand
-  Within : ℕ → Stand
-  Asleep : ℕ → Stand
-  Ended : Stand
-  FailedAt : ℕ → Cause → Stand
-
+-- where a seat stands, what its registers hold, and the sections that it is in
 pub record LockSeat : Type 0 where
   pub stand : Stand
   pub registers : ℕ → ℤ
   pub sections : ℕ → Bool
-
--- who sleeps, and on which word
-pub record Sleeper : Type 0 where
-  pub seat : ℕ
-  pub word : ℕ
 
 -- the grants are those of who sleeps on a word; the layer has its own. What a seat stands at in the layer is
 -- what the layer says of it
@@ -42,7 +32,7 @@ layer_of p =
       counters = length p.counters;
       lists = p.lists;
       groups = 0;
-      root = λ c. c;
+      root = root_number (length p.counters) (max 1 (length p.counters));
       starts = λ c. slice_index_or p.counters c 0;
       firsts = λ l. 0;
     }

@@ -1,11 +1,13 @@
 //! The steps of a lock program, as definitions: what each line does to the words, to the sleeping layer and
-//! to who sleeps on words, where a seat goes on, and which worlds are bad. Nothing here runs.
+//! to who sleeps on words, where a seat goes on, and which worlds are bad. What runs are the numbers alone.
 #![tactic(auto)]
 
 mod cause;
 mod laws;
 mod numbers;
+mod stand;
 
 pub use cause::Cause;
 pub use laws::{law_of_the_alike_worlds, law_of_the_layers};
 pub use numbers::{compute, is_so};
+pub use stand::{Sleeper, Stand};
