@@ -15,6 +15,8 @@ use Rattle.std.specs.Ordering.{int_eq}
 use Rattle.lock_steps.specs.declared.stand.Stand.{Stand}
 use Rattle.lock_steps.specs.declared.stand.Stand.TheVariants.{Before, Within, Asleep, Ended, FailedAt}
 use Rattle.lock_steps.specs.declared.stand.Sleeper.{Sleeper}
+pub use Rattle.lock_steps.specs.declared.stand.Then.{Then}
+pub use Rattle.lock_steps.specs.declared.stand.Then.TheVariants.{OnFromNext, Stands, Fails}
 use Rattle.lock_steps.specs.World.{LockWorld, LockSeat}
 use Rattle.lock_steps.specs.World.{layer_of, code_of, first_world, new_seat}
 use Rattle.lock_steps.specs.Reading.{value, place_of}
@@ -26,12 +28,6 @@ use Rattle.step_table.specs.declared.standing.Standing.TheVariants.{Rest}
 use Rattle.step_table.specs.World.{put}
 use Rattle.step_table.specs.Core.{CoreLayout, Core}
 use Rattle.step_table.specs.CoreSteps.{calls, can_run, core_turned}
-
--- what comes after a row: the seat goes on from the next line, or it stands there, or it fails at its line
-pub data Then : Type 0 where
-  OnFromNext : Then
-  Stands : Stand → Then
-  Fails : Cause → Then
 
 -- a world whose seat has yet to go there
 pub record Did : Type 0 where

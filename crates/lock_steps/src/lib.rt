@@ -10,4 +10,4 @@ mod stand;
 pub use cause::Cause;
 pub use laws::{law_of_the_alike_worlds, law_of_the_layers};
 pub use numbers::{compute, is_so};
-pub use stand::{Sleeper, Stand};
+pub use stand::{Sleeper, Stand, Then};

@@ -24,3 +24,14 @@ pub struct Sleeper {
     /// The number of the word.
     pub word: usize,
 }
+
+/// What comes after a row.
+#[derive(Clone, Copy, PartialEq, Eq, Drop)]
+pub enum Then {
+    /// The seat goes on from the next line.
+    OnFromNext,
+    /// It stands there.
+    Stands(Stand),
+    /// It fails at its line.
+    Fails(Cause),
+}
