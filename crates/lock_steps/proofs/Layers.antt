@@ -78,7 +78,7 @@ module _ (p : Program) where
     on_word_same None row did each is = sym (ap (λ (d : Did). d.world.layer) (same_Some _ did is))
     on_word_same (Some w) row did each is = each w is
 
-    told : (x did : Did) → x.world.layer ≡ s.layer → Some x ≡ Some did → did.world.layer ≡ s.layer
+    pub told : (x did : Did) → x.world.layer ≡ s.layer → Some x ≡ Some did → did.world.layer ≡ s.layer
     told x did same is = sym (ap (λ (d : Did). d.world.layer) (same_Some x did is)) ∙ same
 
     either : (b : Bool) (x y did : Did) → x.world.layer ≡ s.layer → y.world.layer ≡ s.layer
@@ -86,7 +86,7 @@ module _ (p : Program) where
     either true x y did one other is = told x did one is
     either false x y did one other is = told y did other is
 
-    line_same : (n : ℕ) (l : Instruction) (did : Did) → row_of_line s i n l ≡ Some did → did.world.layer ≡ s.layer
+    pub line_same : (n : ℕ) (l : Instruction) (did : Did) → row_of_line s i n l ≡ Some did → did.world.layer ≡ s.layer
     line_same n (line.Load w r) did is = on_word_same (place_of i (s.seats i).registers w) _ did (λ w e. told _ did refl e) is
     line_same n (line.Store w e) did is = on_word_same (place_of i (s.seats i).registers w) _ did (λ w e. told _ did refl e) is
     line_same n (line.Swap w e r) did is = on_word_same (place_of i (s.seats i).registers w) _ did (λ w e. told _ did refl e) is
@@ -154,7 +154,7 @@ module _ (p : Program) where
         first_fine n (length (code_of p i)) l.instruction is rest (call_of s i l.instruction)
         (may_begin p s i (length (code_of p i)) l.instruction is) did e
 
-    awoken_same : (b : Bool) (x did : Did) → x.world.layer ≡ s.layer → cond b None (Some x) ≡ Some did → did.world.layer ≡ s.layer
+    pub awoken_same : (b : Bool) (x did : Did) → x.world.layer ≡ s.layer → cond b None (Some x) ≡ Some did → did.world.layer ≡ s.layer
     awoken_same true x did same e = absurd (none-some did e)
     awoken_same false x did same e = told x did same e
 
@@ -208,7 +208,8 @@ module _ (p : Program) where
       resting = λ i below. rests s i (s.seats i).stand (ap (λ (c : Core). c.standing i) is.layer);
     }
 
-    all_keep : (schedule : List ℕ) (s : LockWorld) → Reaches p schedule s → Keeps s
+    -- what each reached world keeps
+    pub all_keep : (schedule : List ℕ) (s : LockWorld) → Reaches p schedule s → Keeps s
     all_keep schedule s (start is) = starts_keep s is
     all_keep schedule s (step {s = r} i below reached to) = steps_keep r s i below (all_keep _ r reached) to
 

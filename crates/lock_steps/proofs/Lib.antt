@@ -1,4 +1,6 @@
 mod Standing
-mod Calling
+pub mod Calling
 pub mod Layers
+mod Fitting
+pub mod Counting
 pub mod Alike

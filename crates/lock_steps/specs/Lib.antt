@@ -8,4 +8,5 @@ pub mod Steps
 pub mod Bad
 pub mod WellFormed
 pub mod LayerLaw
+pub mod Counting
 pub mod AlikeWorlds

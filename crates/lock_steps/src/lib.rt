@@ -8,6 +8,6 @@ mod numbers;
 mod stand;
 
 pub use cause::Cause;
-pub use laws::{law_of_the_alike_worlds, law_of_the_layers};
+pub use laws::{law_of_the_alike_worlds, law_of_the_layers, law_of_the_numbers};
 pub use numbers::{compute, is_so};
 pub use stand::{Sleeper, Stand, Then};
