@@ -254,7 +254,7 @@ module _ (h shows : Machine) (same : h ≡ shows) where
   turns_at i effect n is = shown (counters_turned h i effect n is)
 
   -- the list that was read is that of this number
-  is_list : (l n : ℕ) → n ≡ l → l < length shows.lists → (was : StoredList) → was ≡ get_or h.lists n was
+  pub is_list : (l n : ℕ) → n ≡ l → l < length shows.lists → (was : StoredList) → was ≡ get_or h.lists n was
       → (l < length h.lists) × (was ≡ each no_list h.lists l)
   is_list l n number there was at =
       let here : l < length h.lists = subst (λ (z : Machine). l < length z.lists) (sym same) there in

@@ -17,7 +17,7 @@ use Rattle.step_rows.specs.ListStored as stored_list
 use Rattle.step_table.specs.Core.{CoreLayout, semaphore, Core}
 use Rattle.step_table.specs.CoreSteps.{stands, at_counter, releases, goes_on, after_counter, after_list, after_group}
 use Rattle.step_core.specs.State.{Machine, core_of, no_list, IsMachineFor, AreSameSize, Becomes}
-use Rattle.step_core.proofs.Changing.{no_change, told_as}
+use Rattle.step_core.proofs.Changing.{no_change, is_list, told_as}
 
 -- releases on the semaphore of a group, and an acquire there
 module _ (h k : Machine) (i g : ℕ) where
