@@ -69,8 +69,10 @@ impl Machine {
             → found_doing m (core_of self.now journal) seat (each Standing.Rest self.now.standing seat) ≡ Some found) }
         ensures why { IfErr result (λ cause. IsRefusal self.now seat (Some cause)) }
     {
-        let turn = self.ready(seat)?;
-        Ok(self.found(seat, &turn))
+        match self.ready(seat) {
+            Ok(turn) => Ok(self.found(seat, &turn)),
+            Err(cause) => Err(cause),
+        }
     }
 
     /// What the row of the seat finds, which can run.
