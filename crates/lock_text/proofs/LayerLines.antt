@@ -11,7 +11,7 @@ use Rattle.lock_text.specs.declared.words.Operand.{Operand}
 use Rattle.lock_text.specs.declared.words.Place.{Place}
 use Rattle.lock_text.specs.declared.lines.Share.TheVariants as share
 use Rattle.lock_text.specs.declared.lines.Line.{Line}
-use Rattle.lock_text.specs.declared.lines.Line.TheVariants.{Acquire, Release, One}
+use Rattle.lock_text.specs.declared.lines.Line.TheVariants.{Acquire, Release}
 use Rattle.lock_text.specs.Words.{IsOperand, IsPlace, operand_text, place_text}
 use Rattle.lock_text.specs.Lines.{AreArgumentsOf}
 use Rattle.lock_text.specs.Shapes.{AreOne, AreTwo, AreThree, IsLifo, IsHandoff, IsMany}
