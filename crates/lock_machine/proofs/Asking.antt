@@ -6,13 +6,14 @@ use Rattle.waiters.specs.declared.wait.Wait.{Wait}
 use Rattle.waiters.specs.declared.wait.WaitId.{WaitId}
 use Rattle.lock_code.specs.declared.instruction.Instruction.{Instruction}
 use Rattle.lock_code.specs.declared.program.Program.{Program}
-use Rattle.lock_machine.specs.Layer.{IsFew}
+use Rattle.lock_machine.specs.Beginning.{MayRun, MayRunFirst}
+use Rattle.lock_code.specs.WellFormed.{IsFew}
 use Rattle.lock_machine.proofs.Showing.{IsLayer, machine_is, stored_is, has_seat, has_list_seat, may_call, layer_called}
 use Rattle.lock_steps.specs.Calls.{call_of}
 use Rattle.lock_steps.specs.WellFormed.{IsLine}
 use Rattle.lock_steps.specs.World.{LockWorld, layer_of}
 use Rattle.lock_steps.proofs.Calling.{AllowedIf, may_begin}
-use Rattle.step_core.specs.State.{Machine, no_list, core_of, IsMachineFor, Becomes, HasSeatOn, HasSeatAt}
+use Rattle.step_core.specs.State.{Machine, no_list, core_of, IsMachineFor, HasSeatOn}
 use Rattle.step_core.specs.State.{MayBegin, MayGoOn, MayGo, AsksFor}
 use Rattle.step_law_alike.proofs.ChangedLists.{well_formed_list}
 use Rattle.step_law_lists.specs.ListInvariant.{HandFits}
@@ -51,7 +52,6 @@ use Rattle.step_table.specs.declared.standing.Standing.TheVariants.{Rest, AtCoun
 use Rattle.step_table.specs.declared.word.Word.{Word}
 use Rattle.step_table.specs.declared.word.Word.TheVariants.{Counter, Lock, Waiters, Grant}
 use Rattle.step_table.specs.Core.{Core, counters_of}
-use Rattle.step_table.specs.CoreSteps.{calls}
 use Rattle.step_table.specs.Counting.{total, times, IsWithin}
 use Rattle.step_table.specs.ListWorld.{ListWorld}
 use Rattle.step_table.specs.World.{Layout, SemaWorld, found, root_number}
@@ -100,16 +100,6 @@ module _ (seats i : ℕ) (s : ListWorld) (there : i < seats) (inv : IsWellFormed
         (λ w some. let held = total_has seats (λ k. times_on_list w (s.seats k).hand) i there in (waiter_of seats s w inv.placed (omega arith)).2);
     asks = list_asks_at (s.seats i).place refl;
   }
-
--- the row at which the seat stands may be asked for and run
-pub record MayRun (h : Machine) (i : ℕ) : Type 0 where
-  pub at : HasSeatAt h i
-  pub asks : AsksFor h i (each Rest h.standing i)
-  pub goes : MayGo h (each Rest h.standing i)
-
--- and so may the first row of the call, once that has begun
-abbrev pub MayRunFirst : Machine → ℕ → Call → Type 0
-MayRunFirst h i call = (k : Machine) → Becomes (λ m s. calls s i call) h k → MayRun k i
 
 module _ (p : Program) (few : IsFew p) (n : ℕ) (small : n < 2 ^ 63) (h : Machine) (journal : List Entry) (shows : IsLayer p n h journal)
     (i : ℕ) (there : i < length p.seats) where

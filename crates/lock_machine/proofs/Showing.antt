@@ -5,10 +5,10 @@ use Rattle.std.proofs.Common.{refl, sym, ap, ◌∙◌, subst, arith}
 use Rattle.std.specs.Prelude.{slice_index_or}
 use Rattle.std.proofs.lemmas.List.{length-replicate}
 use Rattle.lock_code.specs.declared.program.Program.{Program}
-use Rattle.lock_machine.specs.Layer.{parts_of, IsFew}
+use Rattle.lock_machine.specs.Layer.{parts_of}
 use Rattle.lock_steps.specs.Counting.{CountsAtMost}
 use Rattle.lock_steps.specs.Steps.{Reaches}
-use Rattle.lock_steps.specs.WellFormed.{IsWellFormed}
+use Rattle.lock_code.specs.WellFormed.{IsWellFormed, IsFew}
 use Rattle.lock_steps.specs.World.{LockWorld, layer_of}
 use Rattle.lock_steps.proofs.Counting.{counts_at_most}
 use Rattle.lock_steps.proofs.Layers.{all_keep}

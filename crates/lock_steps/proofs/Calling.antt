@@ -16,7 +16,7 @@ use Rattle.lock_steps.specs.declared.cause.Cause.TheVariants.{Ticket as TicketCa
 use Rattle.lock_steps.specs.World.{LockWorld, layer_of}
 use Rattle.lock_steps.specs.Reading.{value, member, place_of}
 use Rattle.lock_steps.specs.Calls.{unless_over, many_of, release_of, on_counter, call_of}
-use Rattle.lock_steps.specs.WellFormed.{IsLine, IsCounter}
+use Rattle.lock_code.specs.WellFormed.{IsLine, IsCounter}
 use Rattle.step_law_whole.specs.TheCore.{MayCall}
 use Rattle.step_table.specs.declared.call.Call.{Call}
 use Rattle.step_table.specs.declared.call.Call.TheVariants.{Acquire, Release, ReleaseMany, Add, Wait}

@@ -13,7 +13,7 @@ use Rattle.lock_steps.specs.World.{LockWorld, layer_of, code_of}
 use Rattle.lock_steps.specs.Calls.{call_of}
 use Rattle.lock_steps.specs.Counting.{CountsAtMost}
 use Rattle.lock_steps.specs.Steps.{Did, layer_row, first_row, row_before, row_at, StepsTo, Reaches, start, step}
-use Rattle.lock_steps.specs.WellFormed.{IsWellFormed, IsLine}
+use Rattle.lock_code.specs.WellFormed.{IsWellFormed, IsLine}
 use Rattle.lock_steps.proofs.Calling.{AllowedIf, may_begin}
 use Rattle.lock_steps.proofs.Fitting.{Fits, FitsIf, fits_line}
 use Rattle.lock_steps.proofs.Layers.{IsAtRest, Keeps, told, line_same, awoken_same, all_keep}

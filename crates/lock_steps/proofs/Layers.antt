@@ -17,7 +17,7 @@ use Rattle.lock_steps.specs.Reading.{value, place_of}
 use Rattle.lock_steps.specs.Calls.{call_of}
 use Rattle.lock_steps.specs.Steps.{Then, OnFromNext, Stands, Fails, Did, on_word, row_of_line, after_call, layer_row, first_row}
 use Rattle.lock_steps.specs.Steps.{row_before, row_at, IsSeatAfter, StepsTo, IsStart, Reaches, start, step, at}
-use Rattle.lock_steps.specs.WellFormed.{IsWellFormed, IsLine}
+use Rattle.lock_code.specs.WellFormed.{IsWellFormed, IsLine}
 use Rattle.lock_steps.proofs.Standing.{turned_else, calls_else}
 use Rattle.lock_steps.proofs.Calling.{AllowedIf, may_begin}
 use Rattle.step_law_lists.proofs.ListPromises.{the_list_law}

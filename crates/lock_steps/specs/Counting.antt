@@ -4,7 +4,7 @@ use Rattle.std.specs.Prelude.{ℕ, ◌<◌, ◌≤◌, ◌^◌, List, length, sl
 use Rattle.lock_code.specs.declared.program.Program.{Program}
 use Rattle.lock_steps.specs.World.{LockWorld}
 use Rattle.lock_steps.specs.Steps.{Reaches}
-use Rattle.lock_steps.specs.WellFormed.{IsWellFormed}
+use Rattle.lock_code.specs.WellFormed.{IsWellFormed}
 use Rattle.step_table.specs.Core.{Core}
 
 -- a layer in which no seat has queued more than n waits, and no list has handed out more than n tickets or

@@ -3,7 +3,7 @@ use Rattle.std.specs.Prelude.{ℕ, ◌≤◌, ◌^◌, List, length}
 use Rattle.lock_code.specs.declared.program.Program.{Program}
 use Rattle.lock_steps.specs.World.{LockWorld, layer_of}
 use Rattle.lock_steps.specs.Steps.{Reaches}
-use Rattle.lock_steps.specs.WellFormed.{IsWellFormed}
+use Rattle.lock_code.specs.WellFormed.{IsWellFormed}
 use Rattle.step_law_whole.specs.CoreLaw.{IsLawfulCore}
 
 -- semaphores and lists are lawful whatever words, registers and branches a program has of its own

@@ -6,7 +6,6 @@ pub mod Going
 pub mod Calls
 pub mod Steps
 pub mod Bad
-pub mod WellFormed
 pub mod LayerLaw
 pub mod Counting
 pub mod AlikeWorlds

@@ -1,7 +1,7 @@
 -- What a program keeps that was read: its lines name words, counters, lists, registers, sections and lines
 -- that are there.
-use Rattle.std.specs.Prelude.{◌≡◌, ℕ, ◌+◌, ◌<◌, ◌≤◌, List, [], length, slice_get, slice_index_or, Option}
-use Rattle.std.specs.Prelude.{Some, IfSome, ⊤}
+use Rattle.std.specs.Prelude.{◌≡◌, ℕ, ◌+◌, ◌<◌, ◌≤◌, ◌^◌, List, [], length, slice_get, slice_index_or}
+use Rattle.std.specs.Prelude.{Option, Some, IfSome, ⊤}
 use Rattle.lock_code.specs.declared.instruction.Instruction.{Instruction}
 use Rattle.lock_code.specs.declared.instruction.Instruction.TheVariants as line
 use Rattle.lock_code.specs.declared.operand.Operand.{Operand}
@@ -67,3 +67,13 @@ IsCode p code = (n : ℕ) (l : CodeLine) → slice_get code n ≡ Some l → IsL
 pub record IsWellFormed (p : Program) : Type 0 where
   pub codes : (k : ℕ) → IsCode p (slice_index_or p.codes k [])
   pub seats : (i k : ℕ) → slice_get p.seats i ≡ Some k → k < length p.codes
+
+-- so few of everything that small numbers name them, and counters start below 2^32
+pub record IsFew (p : Program) : Type 0 where
+  pub seats : length p.seats < 2 ^ 16
+  pub words : length p.words < 2 ^ 32
+  pub counters : length p.counters < 2 ^ 32
+  pub lists : p.lists < 2 ^ 32
+  pub registers : p.registers ≤ 8
+  pub sections : p.sections ≤ 8
+  pub starts : (c : ℕ) → slice_index_or p.counters c 0 < 2 ^ 32

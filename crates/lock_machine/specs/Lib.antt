@@ -1,0 +1,2 @@
+pub mod Layer
+pub mod Beginning

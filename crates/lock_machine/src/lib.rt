@@ -1,0 +1,2 @@
+//! A lock program as a machine of single steps.
+#![tactic(auto)]

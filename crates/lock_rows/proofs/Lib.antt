@@ -1,0 +1,3 @@
+pub mod Going
+pub mod Storing
+pub mod Waking

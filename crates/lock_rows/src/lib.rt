@@ -1,0 +1,8 @@
+//! The rows of a lock program's own lines: each looks at one word, as one step, and then its seat goes on.
+#![tactic(auto)]
+
+mod rows;
+mod seat;
+mod state;
+
+pub use state::ProgramState;
