@@ -1,3 +1,4 @@
-pub mod Going
+pub mod Coming
 pub mod Storing
 pub mod Waking
+pub mod Clearing

@@ -126,11 +126,11 @@ module _ (h g : Stored) (same : h ≡ g) (i n : ℕ) (at : n ≡ i) (there : i <
         → Does (reads_at i r w x) g (record { words = set h.words w y; sleepers = h.sleepers; seats = set h.seats n seat }) OnFromNext
     reads old is was z found kept seat now grant =
         subst (λ (s : Stored). Does (reads_at i r w x) s
-            (record { words = set h.words w y; sleepers = h.sleepers; seats = set h.seats n seat }) OnFromNext) same
+        (record { words = set h.words w y; sleepers = h.sleepers; seats = set h.seats n seat }) OnFromNext) same
         (subst (λ k. Does (reads_at i r w x) h
-            (record { words = set h.words w y; sleepers = h.sleepers; seats = set h.seats k seat }) OnFromNext) (sym at)
+        (record { words = set h.words w y; sleepers = h.sleepers; seats = set h.seats k seat }) OnFromNext) (sym at)
         (subst (λ v. Does (reads_at i r w x) h
-            (record { words = set h.words w v; sleepers = h.sleepers; seats = set h.seats i seat }) OnFromNext) (sym value)
+        (record { words = set h.words w v; sleepers = h.sleepers; seats = set h.seats i seat }) OnFromNext) (sym value)
         (read_does h i here r w in_h x seat
         (now ∙ (λ j. with_register (seat_of (seat_read old is j)) r ((kept ∙ read_at (pos 0) h.words w was in_h found) j)))
         (grant ∙ ap (λ (s : Seat). s.grant) (seat_read old is)))))

@@ -77,7 +77,13 @@ granted_none grants = refl
 module _ (w many : ℕ) (s : Stored) where
   pub starts : AreThere s → Waking w many s s many 0
   starts there = record {
-    within = omega arith; words = refl; count = refl; seats = refl; sleepers = refl; grants = refl; there = there;
+    within = omega arith;
+    words = refl;
+    count = refl;
+    seats = refl;
+    sleepers = refl;
+    grants = refl;
+    there = there;
   }
 
   module _ (t : Stored) (more at : ℕ) (so : Waking w many s t more at) where

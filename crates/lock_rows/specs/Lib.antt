@@ -1,3 +1,4 @@
 pub mod Fitting
 pub mod Stored
 pub mod Rows
+pub mod Settling

@@ -1,4 +1,4 @@
-use Rattle.lock_rows.proofs.Going.{HasCome}
+use Rattle.lock_rows.proofs.Coming.{HasCome}
 use Rattle.lock_rows.proofs.seat.Seat.come_from.Given as goal
 
 abbrev pub invariant-loop : goal.invariant-loop

@@ -22,8 +22,8 @@ returns-then-not-is_so c =
     let asked : FitsSigned w64 c.value.result = search rules in
     let not : holds c.args.relation (each (pos 0) c.args.self.now.words c.in-Some.word) (value c.args.seat (seats_of c.args.self.now.seats c.args.seat).registers c.args.operand.now) ≡ false
     = (λ j. holds c.args.relation ((sym (word_read _ _ c.self.view_is c.in-Some.word (c.in-Some.ensures.within) c.index-number.result.now c.index-number.ensures)) j) (sym c.value.ensures j))
-        ∙ (λ j. holds c.args.relation (sym (to_z-of_z w64 c.index-number.result.now fits) j) (sym (to_z-of_z w64 c.value.result asked) j))
-        ∙ sym c.is_so.ensures ∙ search rules in
+    ∙ (λ j. holds c.args.relation (sym (to_z-of_z w64 c.index-number.result.now fits) j) (sym (to_z-of_z w64 c.value.result asked) j))
+    ∙ sym c.is_so.ensures ∙ search rules in
     λ n. record {
       none = λ layer. found (row_at c.args.seat n (line.Await c.args.place.now c.args.relation c.args.operand.now c.args.register)) c.args.self.now c.word.result (λ (world : LockWorld) (w : ℕ). cond (holds c.args.relation (world.words w) (value c.args.seat (world.seats c.args.seat).registers c.args.operand.now)) (Some (reading world c.args.seat c.args.register w (world.words w))) None)
           (on_place c.args.self.now c.args.seat c.args.place.now c.word.result c.word.ensures.found (λ (world : LockWorld) (w : ℕ). cond (holds c.args.relation (world.words w) (value c.args.seat (world.seats c.args.seat).registers c.args.operand.now)) (Some (reading world c.args.seat c.args.register w (world.words w))) None)) c.in-Some.word c.in-Some.is layer
@@ -37,8 +37,8 @@ returns c =
     let asked : FitsSigned w64 c.value.result = search rules in
     let so : holds c.args.relation (each (pos 0) c.args.self.now.words c.in-Some.word) (value c.args.seat (seats_of c.args.self.now.seats c.args.seat).registers c.args.operand.now) ≡ true
     = (λ j. holds c.args.relation ((sym (word_read _ _ c.self.view_is c.in-Some.word (c.in-Some.ensures.within) c.index-number.result.now c.index-number.ensures)) j) (sym c.value.ensures j))
-        ∙ (λ j. holds c.args.relation (sym (to_z-of_z w64 c.index-number.result.now fits) j) (sym (to_z-of_z w64 c.value.result asked) j))
-        ∙ sym c.is_so.ensures ∙ search rules in
+    ∙ (λ j. holds c.args.relation (sym (to_z-of_z w64 c.index-number.result.now fits) j) (sym (to_z-of_z w64 c.value.result asked) j))
+    ∙ sym c.is_so.ensures ∙ search rules in
     λ n. reads_there (row_at c.args.seat n (line.Await c.args.place.now c.args.relation c.args.operand.now c.args.register)) c.args.self.now c.word.result (λ (world : LockWorld) (w : ℕ). cond (holds c.args.relation (world.words w) (value c.args.seat (world.seats c.args.seat).registers c.args.operand.now)) (Some (reading world c.args.seat c.args.register w (world.words w))) None)
     (on_place c.args.self.now c.args.seat c.args.place.now c.word.result c.word.ensures.found (λ (world : LockWorld) (w : ℕ). cond (holds c.args.relation (world.words w) (value c.args.seat (world.seats c.args.seat).registers c.args.operand.now)) (Some (reading world c.args.seat c.args.register w (world.words w))) None)) c.in-Some.word c.in-Some.is c.args.seat c.args.register
     _ _ _ _ c.read.ensures

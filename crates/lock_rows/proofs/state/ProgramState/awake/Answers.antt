@@ -11,7 +11,7 @@ pub returns : goal.returns
 returns c =
     let awake : eqb (grants_of c.args.self.now.seats c.args.seat) 0 ≡ false
     = ne_eqb _ 0 (λ e. c.if-stored-eq0.false (ap (λ (s : Seat). s.grant)
-        (stored_is _ _ c.self.view_is c.args.seat _ c.number.ensures c.requires _ c.index_mut-stored.ensures.value) ∙ e)) in
+    (stored_is _ _ c.self.view_is c.args.seat _ c.number.ensures c.requires _ c.index_mut-stored.ensures.value) ∙ e)) in
     grant_changes _ _ c.self.view_is c.args.seat _ c.number.ensures c.requires _ c.index_mut-stored.ensures.value _
     (wakes_at c.args.seat) _ refl
     (λ layer. ap (λ b. cond b None (Some (record {

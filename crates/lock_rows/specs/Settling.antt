@@ -1,0 +1,37 @@
+-- What comes after a row, as it is stored: the seat goes on from the next line, stands there, or fails, and
+-- the registers that aren't in use are 0.
+use Rattle.std.specs.Prelude.{◌≡◌, ◌≢◌, ℕ, ◌+◌, pos, Bool, false, cond, List, Option, Some, None}
+use Rattle.lock_code.specs.declared.program.CodeLine.{CodeLine}
+use Rattle.lock_liveness.specs.Table.{tells}
+use Rattle.lock_rows.specs.Stored.{Stored, IsSameSize, seats_of, grants_of}
+use Rattle.lock_steps.specs.declared.stand.Stand.TheVariants.{FailedAt}
+use Rattle.lock_steps.specs.declared.stand.Then.{Then}
+use Rattle.lock_steps.specs.declared.stand.Then.TheVariants.{OnFromNext, Stands, Fails}
+use Rattle.lock_steps.specs.Going.{GoesOn, line_of}
+use Rattle.lock_steps.specs.World.{LockSeat}
+
+-- whether a table says of a register that it is in use before this line, if there is one
+abbrev pub kept_by : List (List Bool) → Option ℕ → ℕ → Bool
+kept_by table None r = false
+kept_by table (Some n) r = tells table n r
+
+-- the seat with those registers alone of which the table says so
+pub record IsClearedBy (table : List (List Bool)) (s t : LockSeat) : Type 0 where
+  pub stand : t.stand ≡ s.stand
+  pub sections : t.sections ≡ s.sections
+  pub registers : (r : ℕ) → t.registers r ≡ cond (kept_by table (line_of s.stand) r) (s.registers r) (pos 0)
+
+-- the seat, which stood at line n of the code, after its row
+abbrev pub IsSeatAfterIn : List CodeLine → ℕ → ℕ → LockSeat → Then → LockSeat → Type 0
+IsSeatAfterIn code i n s OnFromNext t = GoesOn code i s (n + 1) t
+IsSeatAfterIn code i n s (Stands stand) t = t ≡ record s { stand = stand }
+IsSeatAfterIn code i n s (Fails why) t = t ≡ record s { stand = FailedAt n why }
+
+-- and nothing else has changed
+pub record HasSettled (code : List CodeLine) (i n : ℕ) (then : Then) (s t : Stored) : Type 0 where
+  pub seat : IsSeatAfterIn code i n (seats_of s.seats i) then (seats_of t.seats i)
+  pub others : (k : ℕ) → k ≢ i → seats_of t.seats k ≡ seats_of s.seats k
+  pub words : t.words ≡ s.words
+  pub sleepers : t.sleepers ≡ s.sleepers
+  pub grants : grants_of t.seats ≡ grants_of s.seats
+  pub size : IsSameSize s t

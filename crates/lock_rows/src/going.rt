@@ -1,0 +1,97 @@
+//! What comes after a row: the seat goes on from the next line, stands there, or fails.
+
+ghost use Rattle.std.specs.Prelude.{◌≡◌, ◌<◌, ◌≤◌, ◌+◌, ◌^◌, ℕ, pos, length, Some, None};
+ghost use Rattle.lock_liveness.specs.Table.{IsTableOf};
+ghost use Rattle.lock_rows.specs.Fitting.{FitsCode};
+ghost use Rattle.lock_rows.specs.Settling.{IsClearedBy, kept_by, HasSettled, IsSeatAfterIn};
+ghost use Rattle.lock_rows.specs.Stored.{seat_of};
+ghost use Rattle.lock_steps.specs.Going.{line_of, GoesOn};
+
+use crate::seat::{MAX_REGISTERS, Seat};
+use crate::state::ProgramState;
+use lock_code::CodeLine;
+use lock_liveness::InUse;
+use lock_steps::{Stand, Then};
+use waiters::SeatId;
+
+/// The line before which a seat stands, or at which it failed.
+fn line_of(stand: Stand) -> Option<usize>
+    ensures { result ≡ line_of stand }
+{
+    match stand {
+        Stand::Before(line) | Stand::FailedAt(line, _) => Some(line),
+        _ => None,
+    }
+}
+
+/// Whether the register is in use where the seat stands.
+fn is_kept(in_use: &InUse, line: Option<usize>, register: usize) -> bool
+    ensures { result ≡ kept_by in_use.now line register }
+{
+    match line {
+        Some(line) => in_use.is_in_use(line, register),
+        None => false,
+    }
+}
+
+impl Seat {
+    /// The registers that aren't in use where the seat stands become 0.
+    fn clear(&mut self, in_use: &InUse)
+        ensures seat { IsClearedBy in_use.now (seat_of self.old) (seat_of self.new) }
+        ensures few { (r : ℕ) → 8 ≤ r → (seat_of self.old).registers r ≡ pos 0 }
+        ensures grant { self.new.grant ≡ self.old.grant }
+    {
+        let line = line_of(self.stand);
+        for register in 0..MAX_REGISTERS {
+            if !is_kept(in_use, line, register) {
+                self.registers[register] = 0;
+            }
+        }
+    }
+
+    /// The seat goes on from the line of this number, and then what isn't in use is 0.
+    fn go_on(&mut self, me: SeatId, code: &[CodeLine], in_use: &InUse, line: usize)
+        requires fits { FitsCode code.now }
+        requires table { IsTableOf code.now 8 in_use.now }
+        ensures seat { GoesOn code.now me (seat_of self.old) line (seat_of self.new) }
+        ensures grant { self.new.grant ≡ self.old.grant }
+    {
+        self.come_from(me, code, line);
+        self.clear(in_use);
+    }
+
+    /// What comes after the row of a seat at this line.
+    fn settle(&mut self, me: SeatId, code: &[CodeLine], in_use: &InUse, line: usize, then: Then)
+        requires fits { FitsCode code.now }
+        requires table { IsTableOf code.now 8 in_use.now }
+        requires line { line < length code.now }
+        ensures seat { IsSeatAfterIn code.now me line (seat_of self.old) then (seat_of self.new) }
+        ensures grant { self.new.grant ≡ self.old.grant }
+    {
+        match then {
+            Then::OnFromNext => self.go_on(me, code, in_use, line + 1),
+            Then::Stands(stand) => self.stand = stand,
+            Then::Fails(cause) => self.stand = Stand::FailedAt(line, cause),
+        }
+    }
+}
+
+impl ProgramState {
+    /// What comes after the row of the seat at this line.
+    pub fn settle(
+        &mut self,
+        seat: SeatId,
+        code: &[CodeLine],
+        in_use: &InUse,
+        line: usize,
+        then: Then,
+    )
+        requires seat { seat < length self.old.seats }
+        requires fits { FitsCode code.now }
+        requires table { IsTableOf code.now 8 in_use.now }
+        requires line { line < length code.now }
+        ensures { HasSettled code.now seat line then self.old self.new }
+    {
+        self.seats[seat.number() as usize].settle(seat, code, in_use, line, then);
+    }
+}
