@@ -25,7 +25,12 @@ pub record ClearedUpTo (table : List (List Bool)) (line : Option ℕ) (s t : Sea
 module _ (table : List (List Bool)) (line : Option ℕ) (s : Seat) where
   pub none_yet : ClearedUpTo table line s s 0
   none_yet = record {
-    stand = refl; sections = refl; grant = refl; count = refl; done = λ r below. absurd (omega arith); rest = λ r from. refl;
+    stand = refl;
+    sections = refl;
+    grant = refl;
+    count = refl;
+    done = λ r below. absurd (omega arith);
+    rest = λ r from. refl;
   }
 
   module _ (t : Seat) (k : ℕ) (so : ClearedUpTo table line s t k) where

@@ -2,3 +2,4 @@ pub mod Fitting
 pub mod Stored
 pub mod Rows
 pub mod Settling
+pub mod Starting

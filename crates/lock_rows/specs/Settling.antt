@@ -27,11 +27,20 @@ IsSeatAfterIn code i n s OnFromNext t = GoesOn code i s (n + 1) t
 IsSeatAfterIn code i n s (Stands stand) t = t ≡ record s { stand = stand }
 IsSeatAfterIn code i n s (Fails why) t = t ≡ record s { stand = FailedAt n why }
 
--- and nothing else has changed
-pub record HasSettled (code : List CodeLine) (i n : ℕ) (then : Then) (s t : Stored) : Type 0 where
-  pub seat : IsSeatAfterIn code i n (seats_of s.seats i) then (seats_of t.seats i)
+-- nothing has changed but the seat i
+pub record IsOfOneSeat (i : ℕ) (s t : Stored) : Type 0 where
   pub others : (k : ℕ) → k ≢ i → seats_of t.seats k ≡ seats_of s.seats k
   pub words : t.words ≡ s.words
   pub sleepers : t.sleepers ≡ s.sleepers
   pub grants : grants_of t.seats ≡ grants_of s.seats
   pub size : IsSameSize s t
+
+-- the seat has gone on from its first line
+pub record HasStarted (code : List CodeLine) (i : ℕ) (s t : Stored) : Type 0 where
+  pub seat : GoesOn code i (seats_of s.seats i) 0 (seats_of t.seats i)
+  pub rest : IsOfOneSeat i s t
+
+-- what comes after its row has come
+pub record HasSettled (code : List CodeLine) (i n : ℕ) (then : Then) (s t : Stored) : Type 0 where
+  pub seat : IsSeatAfterIn code i n (seats_of s.seats i) then (seats_of t.seats i)
+  pub rest : IsOfOneSeat i s t

@@ -3,7 +3,7 @@
 ghost use Rattle.std.specs.Prelude.{◌≡◌, ◌<◌, ◌≤◌, ◌+◌, ◌^◌, ℕ, pos, length, Some, None};
 ghost use Rattle.lock_liveness.specs.Table.{IsTableOf};
 ghost use Rattle.lock_rows.specs.Fitting.{FitsCode};
-ghost use Rattle.lock_rows.specs.Settling.{IsClearedBy, kept_by, HasSettled, IsSeatAfterIn};
+ghost use Rattle.lock_rows.specs.Settling.{IsClearedBy, kept_by, HasSettled, HasStarted, IsSeatAfterIn};
 ghost use Rattle.lock_rows.specs.Stored.{seat_of};
 ghost use Rattle.lock_steps.specs.Going.{line_of, GoesOn};
 
@@ -77,6 +77,16 @@ impl Seat {
 }
 
 impl ProgramState {
+    /// The seat goes on from its first line.
+    pub fn start(&mut self, seat: SeatId, code: &[CodeLine], in_use: &InUse)
+        requires seat { seat < length self.old.seats }
+        requires fits { FitsCode code.now }
+        requires table { IsTableOf code.now 8 in_use.now }
+        ensures { HasStarted code.now seat self.old self.new }
+    {
+        self.seats[seat.number() as usize].go_on(seat, code, in_use, 0);
+    }
+
     /// What comes after the row of the seat at this line.
     pub fn settle(
         &mut self,
