@@ -10,7 +10,7 @@ use Rattle.lock_machine.specs.Beginning.{MayRun, MayRunFirst}
 use Rattle.lock_code.specs.WellFormed.{IsFew}
 use Rattle.lock_machine.proofs.Showing.{IsLayer, machine_is, stored_is, has_seat, has_list_seat, may_call, layer_called}
 use Rattle.lock_steps.specs.Calls.{call_of}
-use Rattle.lock_steps.specs.WellFormed.{IsLine}
+use Rattle.lock_code.specs.WellFormed.{IsLine}
 use Rattle.lock_steps.specs.World.{LockWorld, layer_of}
 use Rattle.lock_steps.proofs.Calling.{AllowedIf, may_begin}
 use Rattle.step_core.specs.State.{Machine, no_list, core_of, IsMachineFor, HasSeatOn}

@@ -1,2 +1,3 @@
 pub mod Showing
 pub mod Asking
+pub mod Running

@@ -1,11 +1,22 @@
 -- Whether the first row of a call can run, and what a row of the layer asks for.
-use Rattle.std.specs.Prelude.{◌≡◌, ◌↔◌, ℕ, Bool, IsTrue, []}
-use Rattle.step_core.specs.State.{Machine, Becomes, HasSeatAt, AsksFor, MayGo, core_of}
+use Rattle.std.specs.Prelude.{◌≡◌, ◌↔◌, ◌<◌, ℕ, Bool, IsTrue, [], length, ⊤}
+use Rattle.step_core.specs.State.{Machine, Becomes, HasSeatAt, AsksFor, MayGo, IsMachineFor, core_of}
+use Rattle.step_law_whole.specs.TheCore.{MayCall}
 use Rattle.step_rows.specs.Stored.{each}
 use Rattle.step_table.specs.declared.call.Call.{Call}
 use Rattle.step_table.specs.declared.call.Call.TheVariants.{Wait}
 use Rattle.step_table.specs.declared.standing.Standing.TheVariants.{Rest}
+use Rattle.step_table.specs.Core.{CoreLayout}
 use Rattle.step_table.specs.CoreSteps.{calls}
+
+-- the list of a wait is there
+abbrev pub HasListOf : Machine → Call → Type 0
+HasListOf h (Wait l) = l < length h.lists
+HasListOf h _ = ⊤
+
+-- the seat may begin this call: what it is on is there, and so is the ticket of a wait
+abbrev pub HasCall : Machine → ℕ → Call → Type 0
+HasCall h i call = (m : CoreLayout) × IsMachineFor m h × MayCall m (core_of h []) i call
 
 -- a wait begins where the list's lock is free, and any other call
 abbrev pub CanBegin : Machine → Call → Bool → Type 0

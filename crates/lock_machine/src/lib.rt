@@ -1,2 +1,4 @@
-//! A lock program as a machine of single steps.
+//! A lock program as a machine of single steps: its own rows, and below them the sleeping layer of scenarios.
 #![tactic(auto)]
+
+mod layer;
