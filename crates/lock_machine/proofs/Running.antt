@@ -67,13 +67,16 @@ can_some m c i (Failed misuse) is = absurd cc
 -- the row ran
 pub row_ran : (h k : Machine) (i n : ℕ) (entry : Option Entry) → HasRunRow i h k entry → IsRefusal h i None
     → (next : Then) → next ≡ after_call n (each Rest k.standing i) → HasLayerRow h i n as_it_is k next
-row_ran h k i n entry ran can next is m are journal = ((core_turned m c i).journal, λ s.
-    ap (λ b. cond b (Some (record {
-      world = record s { layer = core_turned m c i };
-      next = after_call n ((core_turned m c i).standing i);
-    })) None) (can_some m c i (c.standing i) (can m are journal))
-    ∙ ap (λ (t : Core). Some (record { world = record s { layer = t }; next = after_call n (t.standing i) })) (sym turned)
-    ∙ ap (λ x. Some (record { world = record s { layer = core_of k (core_turned m c i).journal }; next = x })) (sym is))
+row_ran h k i n entry ran can next is m are journal = (
+  (core_turned m c i).journal,
+  λ s.
+      ap (λ b. cond b (Some (record {
+        world = record s { layer = core_turned m c i };
+        next = after_call n ((core_turned m c i).standing i);
+      })) None) (can_some m c i (c.standing i) (can m are journal))
+      ∙ ap (λ (t : Core). Some (record { world = record s { layer = t }; next = after_call n (t.standing i) })) (sym turned)
+      ∙ ap (λ x. Some (record { world = record s { layer = core_of k (core_turned m c i).journal }; next = x })) (sym is),
+)
   where
     c : Core
     c = core_of h journal
@@ -94,9 +97,12 @@ module _ (h mid : Machine) (i : ℕ) (call : Call) (called : Becomes (λ m s. ca
   pub first_row_ran : (k : Machine) (next : Then) → HasLayerRow mid i n as_it_is k next → HasLayerRow h i n (with_call i call) k next
   first_row_ran k next row m are journal =
       let told : List Entry = (calls (core_of h journal) i call).journal in
-      let got = row m (same_layout m h mid called.alike are) told in (got.0, λ s.
-        subst (λ c. layer_row m s i n c ≡ Some (record { world = record s { layer = core_of k got.0 }; next = next }))
-        (called.core m are journal) (got.1 s))
+      let got = row m (same_layout m h mid called.alike are) told in (
+        got.0,
+        λ s.
+            subst (λ c. layer_row m s i n c ≡ Some (record { world = record s { layer = core_of k got.0 }; next = next }))
+            (called.core m are journal) (got.1 s),
+      )
 
   pub first_row_refused : HasNoLayerRow mid i n as_it_is → HasNoLayerRow h i n (with_call i call)
   first_row_refused none m are journal s =
@@ -109,7 +115,7 @@ counter_can : (root : ℕ → ℕ) (s : SemaWorld) (i : ℕ) (place : Place)
     → can_turn root (moved s i place) i ≡ true
 counter_can root s i place can =
     ap (λ (seat : SeatState). (event_at i seat s.words.lists seat.place).can
-        (found root s.words (event_at i seat s.words.lists seat.place).word))
+    (found root s.words (event_at i seat s.words.lists seat.place).word))
     (put_here s.seats i (record (s.seats i) { place = place }))
     ∙ can (found root s.words (event_at i (record (s.seats i) { place = place }) s.words.lists place).word)
 
@@ -119,7 +125,7 @@ list_can : (s : ListWorld) (i : ℕ) (seat : ListSeat) (b : Bool)
     → list.can_turn (record s { seats = put s.seats i seat }) i ≡ b
 list_can s i seat b can =
     ap (λ (seat : ListSeat). (list_event_at i seat s.words seat.place).can
-        (found_on_list s.words (list_event_at i seat s.words seat.place).word)) (put_here s.seats i seat)
+    (found_on_list s.words (list_event_at i seat s.words seat.place).word)) (put_here s.seats i seat)
     ∙ can (found_on_list s.words (list_event_at i seat s.words seat.place).word) refl
 
 module _ (m : CoreLayout) (c : Core) (i : ℕ) where
@@ -201,13 +207,13 @@ module _ (h : Machine) (i : ℕ) (call : Call) where
   -- it can, and then its first row isn't refused
   pub not_refused : (can : Bool) → can ≡ true → CanBegin h call can → HasCall h i call → (n : ℕ) → HasNoLayerRow h i n (with_call i call) → ⊥
   not_refused can is found may n none = absurd (
-    let c : Core = core_of h [] in
-    let runs : can_run may.0 (calls c i call) i ((calls c i call).standing i) ≡ true
-    = first_can may.0 c i call may.2 (free_of can is found) in
-    some_none _ (sym (ap (λ b. cond b (Some (record {
-      world = record any_world { layer = core_turned may.0 (calls c i call) i };
-      next = after_call n ((core_turned may.0 (calls c i call) i).standing i);
-    })) None) runs) ∙ none may.0 may.1 [] any_world))
+      let c : Core = core_of h [] in
+      let runs : can_run may.0 (calls c i call) i ((calls c i call).standing i) ≡ true
+      = first_can may.0 c i call may.2 (free_of can is found) in
+      some_none _ (sym (ap (λ b. cond b (Some (record {
+        world = record any_world { layer = core_turned may.0 (calls c i call) i };
+        next = after_call n ((core_turned may.0 (calls c i call) i).standing i);
+      })) None) runs) ∙ none may.0 may.1 [] any_world))
     where
       some_none : {A : Type 0} (x : A) → Some x ≡ None → ⊥
       some_none x is = absurd cc

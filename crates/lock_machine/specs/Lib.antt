@@ -1,3 +1,5 @@
 pub mod Layer
 pub mod Beginning
 pub mod LayerRows
+pub mod Shared
+pub mod Calling

@@ -1,4 +1,5 @@
 //! A lock program as a machine of single steps: its own rows, and below them the sleeping layer of scenarios.
 #![tactic(auto)]
 
+mod calls;
 mod layer;

@@ -40,16 +40,6 @@ FitsWords n (line.Unpark w e) = FitsPlace n w
 FitsWords n (line.Out k) = k < 8
 FitsWords n _ = ⊤
 
--- a line of the layer, over so many counters and lists
-abbrev pub FitsCall : ℕ → ℕ → Instruction → Type 0
-FitsCall counters lists (line.Acquire c lifo) = FitsPlace counters c
-FitsCall counters lists (line.Release c share) = FitsPlace counters c
-FitsCall counters lists (line.Ticket l) = l < lists
-FitsCall counters lists (line.Wait l) = l < lists
-FitsCall counters lists (line.One l) = l < lists
-FitsCall counters lists (line.All l) = l < lists
-FitsCall counters lists _ = ⊤
-
 -- each line of a program that may be run without a step
 abbrev pub FitsCode : List CodeLine → Type 0
 FitsCode code = (n : ℕ) (l : CodeLine) → slice_get code n ≡ Some l → FitsFree l.instruction

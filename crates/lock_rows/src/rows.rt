@@ -6,7 +6,7 @@ ghost use Rattle.std.specs.Ordering.{int_eq};
 ghost use Rattle.step_table.specs.Core.{Core};
 ghost use Rattle.lock_steps.specs.Reading.{place_of, value};
 ghost use Rattle.lock_steps.specs.Steps.{row_of_line, as_many};
-ghost use Rattle.lock_rows.specs.Fitting.{FitsPlace, FitsWords};
+ghost use Rattle.lock_rows.specs.Fitting.{FitsPlace, FitsWords, HasNumbers};
 ghost use Rattle.lock_rows.specs.Rows.{Does, DoesIfItCan, HasWoken, row_at, reads_at, wakes_at};
 ghost use Rattle.lock_rows.specs.Stored.{AreThere, seats_of, world_over};
 
@@ -38,6 +38,16 @@ fn exchanged(was: i64, old: i64, new: i64) -> i64
 }
 
 impl ProgramState {
+    /// The word or counter of a place, where its index is within the array.
+    pub fn place(&self, seat: SeatId, place: &Place) -> Option<usize>
+        requires seat { seat < length self.now.seats }
+        requires numbers { HasNumbers place.now }
+        ensures found { result ≡ place_of seat (seats_of self.now.seats seat).registers place.now }
+        ensures within { (n : ℕ) → FitsPlace n place.now → IfSome result (λ k. k < n) }
+    {
+        self.seats[seat.number() as usize].place(seat, place)
+    }
+
     /// The word of a place, where its index is within the array.
     fn word(&self, seat: SeatId, place: &Place) -> Option<usize>
         requires seat { seat < length self.now.seats }
