@@ -1,3 +1,5 @@
 pub mod Showing
 pub mod Asking
 pub mod Running
+pub mod Lines
+pub mod Standing

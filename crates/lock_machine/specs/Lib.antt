@@ -3,3 +3,5 @@ pub mod Beginning
 pub mod LayerRows
 pub mod Shared
 pub mod Calling
+pub mod Sound
+pub mod Prepared

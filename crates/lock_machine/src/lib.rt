@@ -3,3 +3,7 @@
 
 mod calls;
 mod layer;
+mod prepared;
+mod shared;
+
+pub use prepared::Prepared;

@@ -6,4 +6,5 @@ mod rows;
 mod seat;
 mod state;
 
+pub use seat::{MAX_REGISTERS, MAX_SECTIONS};
 pub use state::ProgramState;

@@ -13,8 +13,8 @@ returns c =
     = c.unsigned_abs-units.ensures.value ∙ ap unsigned_abs (to_z-of_z w64 c.args.units fits) in
     let many : (int_le (pos 1) c.args.units && int_le c.args.units (pos 256)) ≡ true
     = (λ j. int_le (pos 1) (sym (to_z-of_z w64 c.args.units fits) j) && int_le (sym (to_z-of_z w64 c.args.units fits) j) (pos 256))
-        ∙ sym c.is_many.ensures ∙ c.if-not-is_many.false in
+    ∙ sym c.is_many.ensures ∙ c.if-not-is_many.false in
     λ own. c.unless_over.ensures own
-        ∙ (λ j. unless_over (world_at c.args.layer.now own) c.args.counter (units j) (ReleaseMany c.args.counter (units j)))
-        ∙ sym (ap (λ b. cond b (unless_over (world_at c.args.layer.now own) c.args.counter (unsigned_abs c.args.units)
-        (ReleaseMany c.args.counter (unsigned_abs c.args.units))) (Err Many)) many)
+    ∙ (λ j. unless_over (world_at c.args.layer.now own) c.args.counter (units j) (ReleaseMany c.args.counter (units j)))
+    ∙ sym (ap (λ b. cond b (unless_over (world_at c.args.layer.now own) c.args.counter (unsigned_abs c.args.units)
+    (ReleaseMany c.args.counter (unsigned_abs c.args.units))) (Err Many)) many)

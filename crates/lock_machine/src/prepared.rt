@@ -1,0 +1,73 @@
+//! A lock program that is ready to run: the program, and which of its registers are in use where.
+
+ghost use Rattle.std.specs.Prelude.{◌≡◌, ◌<◌, length, IfOk};
+ghost use Rattle.lock_code.specs.WellFormed.{IsWellFormed, IsFew};
+ghost use Rattle.lock_liveness.specs.Table.{IsTableOf};
+ghost use Rattle.lock_machine.specs.Prepared.{ArePrepared};
+ghost use Rattle.lock_steps.specs.World.{code_of};
+
+use lock_code::{CodeLine, Program};
+use lock_liveness::InUse;
+use lock_rows::MAX_REGISTERS;
+use std::alloc::Global;
+use std::marker::Model;
+use waiters::{NoMemory, SeatId};
+
+/// A program that is ready to run.
+#[derive(Drop)]
+pub struct Prepared {
+    program: Program,
+    in_use: Vec<InUse>,
+}
+
+impl Model for Prepared {
+    ghost use Rattle.lock_code.specs.declared.program.Program.{Program as Shown};
+    ghost use Rattle.lock_machine.specs.Prepared.{IsPrepared};
+
+    ghost Value = { Shown };
+
+    ghost view = { λ p. p.program };
+
+    ghost invariant = { λ p. IsPrepared p.program p.in_use.items };
+}
+
+impl Prepared {
+    /// Finds out which registers are in use before each line of each program.
+    pub fn new(alloc: Global, program: Program) -> Result<Prepared, NoMemory>
+        requires formed { IsWellFormed program }
+        requires few { IsFew program }
+        ensures { IfOk result (λ prepared. prepared ≡ program) }
+    {
+        let mut in_use = Vec::with_capacity(alloc, program.codes.len())?;
+        for code in program.codes.as_slice() {
+            in_use.push_reserved(InUse::of(alloc, code.as_slice(), MAX_REGISTERS)?);
+        }
+        Ok(Prepared { program, in_use })
+    }
+
+    /// The program.
+    pub fn program(&self) -> &Program
+        ensures program { result.now ≡ self.now }
+        ensures formed { IsWellFormed self.now }
+        ensures few { IsFew self.now }
+    {
+        &self.program
+    }
+
+    /// The lines that the seat runs.
+    pub(crate) fn code(&self, seat: SeatId) -> &[CodeLine]
+        requires { seat < length self.now.seats }
+        ensures { result.now ≡ code_of self.now seat }
+    {
+        let code = self.program.seats.as_slice()[seat.number() as usize];
+        self.program.codes.as_slice()[code].as_slice()
+    }
+
+    /// Which registers are in use before the lines that the seat runs.
+    pub(crate) fn in_use(&self, seat: SeatId) -> &InUse
+        requires { seat < length self.now.seats }
+        ensures { IsTableOf (code_of self.now seat) 8 result.now }
+    {
+        &self.in_use[self.program.seats.as_slice()[seat.number() as usize]]
+    }
+}
