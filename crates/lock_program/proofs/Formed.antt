@@ -1,9 +1,8 @@
 -- A program that a text says is well formed, and has few of everything.
 use Rattle.std.proofs.Common.{◌≡◌, ℕ, ◌+◌, ◌^◌, ◌<◌, ◌≤◌, List, [], ◌∷◌, length, Option, Some, None, Result, Ok, Err, IfOk, All, slice_get, slice_index_or}
-use Rattle.std.proofs.Common.{refl, sym, subst, arith, inl, inr, ◌⊎◌, get_or}
+use Rattle.std.proofs.Common.{refl, subst, arith, inl, inr, ◌⊎◌}
 use Rattle.std.proofs.lemmas.Bool.{cases_lt}
 use Rattle.std.proofs.lemmas.List.{get_or_past}
-use Rattle.std.proofs.lemmas.List.Elements.{All-get_or}
 use Rattle.std.proofs.lemmas.Option.{slice_get_within, get_or_from_slice_get}
 use Rattle.explorer_text.specs.Reader.{IsOnly}
 use Rattle.lock_code.specs.declared.instruction.Instruction.{Instruction}
@@ -17,7 +16,7 @@ use Rattle.lock_code.specs.declared.operand.Share.TheVariants as share
 use Rattle.lock_code.specs.declared.program.Asked.{Asked}
 use Rattle.lock_code.specs.declared.program.CodeLine.{CodeLine}
 use Rattle.lock_code.specs.declared.program.Program.{Program}
-use Rattle.lock_code.specs.WellFormed.{IsOperand, IsPlace, IsShare, IsLine, IsCode, IsWellFormed, IsFew}
+use Rattle.lock_code.specs.WellFormed.{IsOperand, IsPlace, IsShare, IsLine, IsWellFormed, IsFew}
 use Rattle.lock_program.specs.declared.fault.ReadFault.{ReadFault}
 use Rattle.lock_program.specs.declared.named_program.NamedProgram.{NamedProgram}
 use Rattle.lock_program.specs.declared.stage.LineKind.TheVariants as kind

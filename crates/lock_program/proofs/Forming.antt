@@ -1,19 +1,10 @@
 -- What a draft declares and says is there, and few, and stays so with a line more.
-use Rattle.std.proofs.Common.{◌≡◌, ℕ, ◌+◌, ◌-◌, ◌^◌, ◌<◌, ◌≤◌, Bool, true, false, cond, ℤ, pos, negsuc, List, [], ◌∷◌, ◌++◌, length, Option, Some, None}
-use Rattle.std.proofs.Common.{Result, Ok, Err, IfOk, All, refl, sym, ap, subst, ◌∙◌, arith, length-append, replicate, nat_lt, ◌==◌, ◌||◌}
-use Rattle.std.proofs.Common.{unwrap_or}
+use Rattle.std.proofs.Common.{◌≡◌, ℕ, ◌+◌, ◌^◌, ◌<◌, ◌≤◌, List, [], ◌∷◌, ◌++◌, length, Option, All, arith}
+use Rattle.std.proofs.Common.{length-append, replicate, unwrap_or}
 use Rattle.std.specs.Prelude.{⊤}
 use Rattle.std.proofs.lemmas.List.{length-replicate}
 use Rattle.std.proofs.lemmas.List.Elements.{All-nil, All-same, All-push, All-append, All-replicate, All-weaker}
-use Rattle.lock_text.specs.declared.words.Number.{Number}
-use Rattle.lock_text.specs.declared.words.Number.TheVariants.{Plus, Minus}
-use Rattle.lock_text.specs.declared.words.Operand.{Operand}
-use Rattle.lock_text.specs.declared.lines.Line.{Line}
-use Rattle.lock_text.specs.declared.lines.Line.TheVariants.{Blank, Const, Word, Counter, List as NotifyList, Registers, Section, Program, Seats, Most, Apart}
-use Rattle.lock_text.specs.declared.lines.Line.TheVariants.{Finally}
 use Rattle.lock_code.specs.declared.program.CodeLine.{CodeLine}
-use Rattle.lock_program.specs.declared.fault.Cause.{Cause}
-use Rattle.lock_program.specs.declared.fault.Cause.TheVariants.{Range}
 use Rattle.lock_program.specs.declared.names.Cells.{Cells}
 use Rattle.lock_program.specs.declared.stage.Stage.{Stage}
 use Rattle.lock_program.specs.declared.stage.Stage.TheVariants as stage
@@ -23,18 +14,10 @@ use Rattle.lock_program.specs.declared.statement.Written.{Written}
 use Rattle.lock_program.specs.declared.meant.Meant.{Meant}
 use Rattle.lock_program.specs.declared.meant.Meant.TheVariants as meant
 use Rattle.lock_program.specs.declared.draft.Draft.{Draft}
-use Rattle.lock_program.specs.Causes.{both, map_ok, and_then}
 use Rattle.lock_program.specs.Codes.{code_of}
-use Rattle.lock_program.specs.Parts.{number_of, length_of, fixed_of, as_start, start_of, some_of, program_of}
-use Rattle.lock_program.specs.Places.{kind_of, may_stand, stage_after}
-use Rattle.lock_program.specs.Limits.{seats_asked, is_too_many}
-use Rattle.lock_program.specs.Meanings.{property_of, meant_of}
-use Rattle.lock_program.specs.Statements.{statement_of}
 use Rattle.lock_program.specs.Drafts.{no_lines, closed, closed_by, one_cells, with_meant, at_stage}
-use Rattle.lock_program.proofs.Oks.{oks_any, oks_map, oks_both, oks_then}
-use Rattle.lock_program.proofs.Naming.{sizes, Below, number_within, IsWithin, AreWithin, HasCells, IsStatement, statement_in}
+use Rattle.lock_program.proofs.Naming.{sizes, Below, IsWithin, AreWithin, HasCells, IsStatement}
 use Rattle.lock_program.proofs.Lining.{IsLined, lined_code}
-use Rattle.lock_program.proofs.Rooms.{within, closes, stays_open}
 
 -- ---- what is there, and few
 

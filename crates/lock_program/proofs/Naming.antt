@@ -1,5 +1,5 @@
 -- What a line of a program means names only what is there.
-use Rattle.std.proofs.Common.{◌≡◌, ℕ, ◌+◌, ◌<◌, ◌≤◌, Bool, true, false, cond, ℤ, List, [], ◌∷◌, length, Option, Some, None, Result, Ok, Err, IfOk, IfSome}
+use Rattle.std.proofs.Common.{ℕ, ◌+◌, ◌<◌, ◌≤◌, Bool, true, false, cond, ℤ, List, [], ◌∷◌, length, Option, Some, None, Result, IfOk, IfSome}
 use Rattle.std.proofs.Common.{All, unwrap_or, bytes_eq, arith}
 use Rattle.std.specs.Prelude.{⊤}
 use Rattle.std.proofs.lemmas.List.Elements.{All-head, All-tail}
@@ -28,7 +28,7 @@ use Rattle.lock_program.specs.declared.statement.Statement.{Statement}
 use Rattle.lock_program.specs.declared.statement.Statement.TheVariants as says
 use Rattle.lock_program.specs.Causes.{both}
 use Rattle.lock_program.specs.Names.{declared, number_of_name, value_of, extent_of}
-use Rattle.lock_program.specs.Parts.{number_of, list_of, register_of, section_of, program_of, result_of, constant_or, operand_of, single_of, member_of, place_of}
+use Rattle.lock_program.specs.Parts.{number_of, list_of, register_of, section_of, result_of, constant_or, operand_of, single_of, member_of, place_of}
 use Rattle.lock_program.specs.Parts.{word_of, counter_of, share_of}
 use Rattle.lock_program.specs.Statements.{done_of, access_of, place_and_operand, two_of, seat_line, layer_line, access_line, statement_of}
 use Rattle.lock_program.proofs.Oks.{oks_any, oks_map, oks_both, oks_then, oks_declared, position_within}

@@ -1,5 +1,5 @@
 -- What holds of an answer's value, where one there is.
-use Rattle.std.proofs.Common.{◌≡◌, ℕ, ◌<◌, Bool, true, false, List, length, position, Option, Some, None, Result, Ok, Err, IfOk, IfSome, refl, subst, [], ◌∷◌}
+use Rattle.std.proofs.Common.{◌≡◌, ℕ, ◌<◌, Bool, List, length, position, Option, Some, None, Result, Ok, Err, IfOk, IfSome, refl, subst, []}
 use Rattle.std.proofs.lemmas.List.Quantifiers.{position-Some}
 use Rattle.lock_program.specs.declared.fault.Cause.{Cause}
 use Rattle.lock_program.specs.Causes.{both, map_ok, and_then}
