@@ -1,8 +1,15 @@
 mod Closing
 mod Falling
 mod Fits
+mod Formed
+mod Forming
 mod Judging
+mod Keeping
+mod Lining
+mod Naming
 mod Nearness
+mod Oks
 mod Rooms
+mod Standing
 mod Steps
 mod Texts

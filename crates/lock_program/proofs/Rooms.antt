@@ -48,11 +48,11 @@ too_none true c (Err d) a e = absurd cc
 too_none false c r a e = (refl, e)
 
 -- what holds of each answer that is made so holds of the answer
-made : {A B : Type 0} (P : B → Type 0) (f : A → B) (r : Result A Cause) (b : B) → ((a : A) → r ≡ Ok a → P (f a)) → map_ok f r ≡ Ok b → P b
+pub made : {A B : Type 0} (P : B → Type 0) (f : A → B) (r : Result A Cause) (b : B) → ((a : A) → r ≡ Ok a → P (f a)) → map_ok f r ≡ Ok b → P b
 made P f (Ok a) b h e = let is : f a ≡ b = cc in subst P is (h a refl)
 made P f (Err c) b h e = absurd cc
 
-simply : {B : Type 0} (P : B → Type 0) (a b : B) → P a → (let r : Result B Cause = Ok a in r ≡ Ok b) → P b
+pub simply : {B : Type 0} (P : B → Type 0) (a b : B) → P a → (let r : Result B Cause = Ok a in r ≡ Ok b) → P b
 simply P a b h e = let is : a ≡ b = cc in subst P is h
 
 -- ---- jumps of a program's lines go to labels
@@ -128,11 +128,11 @@ as_asked d line s e = made (λ (t : Statement). width d.codes t ≡ 1) says.Plai
 
 -- ---- room
 
-neither : (a b : Bool) → (a || b) ≡ false → b ≡ false
+pub neither : (a b : Bool) → (a || b) ≡ false → b ≡ false
 neither true b e = absurd cc
 neither false b e = e
 
-within : (most used more : ℕ) → used ≤ most → nat_lt (most - used) more ≡ false → used + more ≤ most
+pub within : (most used more : ℕ) → used ≤ most → nat_lt (most - used) more ≡ false → used + more ≤ most
 within most used more le e = omega (arith, ltb-false (most - used) more e)
 
 members_asked : (index : Option Operand) (members : Option ℕ) → length_of index ≡ Ok members → unwrap_or members 1 ≡ cells_asked index
@@ -186,12 +186,12 @@ room d line m words counters short few e =
 
 -- ---- room behind a program that ends
 
-abbrev closes : LineKind → Bool
+abbrev pub closes : LineKind → Bool
 closes kind.Program = true
 closes kind.Seats = true
 closes k = false
 
-stays_open : (behind : Stage) (k : LineKind) (d : Draft) → closes k ≡ false → closed_by behind k d ≡ d
+pub stays_open : (behind : Stage) (k : LineKind) (d : Draft) → closes k ≡ false → closed_by behind k d ≡ d
 stays_open behind kind.Program d e = absurd cc
 stays_open behind kind.Seats d e = absurd cc
 stays_open stage.Declarations k d e = refl

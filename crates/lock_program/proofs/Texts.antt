@@ -87,7 +87,7 @@ pub record Makes (d : Draft) (n : ℕ) (ps : List Piece) (x : NamedProgram) : Ty
   pub together : with_lines d n lines ≡ Ok draft
   pub ends : finished draft (n + length lines) ≡ Ok x
 
-then_ok : {A B : Type 0} (r : Result A Cause) (k : A → Result B Cause) (b : B) → and_then r k ≡ Ok b → (a : A) × (r ≡ Ok a) × (k a ≡ Ok b)
+pub then_ok : {A B : Type 0} (r : Result A Cause) (k : A → Result B Cause) (b : B) → and_then r k ≡ Ok b → (a : A) × (r ≡ Ok a) × (k a ≡ Ok b)
 then_ok (Ok a) k b e = (a, refl, e)
 then_ok (Err c) k b e = absurd cc
 

@@ -2,6 +2,7 @@
 
 ghost use Rattle.std.specs.Prelude.{IfOk, IfErr};
 ghost use Rattle.explorer_text.specs.Reader.{IsOnly, IsNone};
+ghost use Rattle.lock_code.specs.WellFormed.{IsFew, IsWellFormed};
 ghost use Rattle.lock_program.specs.Answers.{IsReadFault, Judges};
 ghost use Rattle.lock_program.specs.Fitting.{IsFitting};
 ghost use Rattle.lock_program.specs.Text.{IsFaultOf, IsProgramOf};
@@ -35,6 +36,8 @@ fn read_line<'t>(
 pub fn read_program<'t>(alloc: Global, text: &'t [u8]) -> Result<NamedProgram<'t>, ReadFault>
     ensures program { IfOk result (λ program. IsOnly (IsProgramOf text.now) program) }
     ensures faultless { IfOk result (λ _. IsNone (IsFaultOf text.now)) }
+    ensures formed { IfOk result (λ program. IsWellFormed program.program) }
+    ensures few { IfOk result (λ program. IsFew program.program) }
     ensures fault { IfErr result (IsReadFault text.now) }
 {
     let mut draft = Draft::new(alloc);

@@ -4,6 +4,7 @@ use Rattle.explorer_text.specs.Pieces.{Piece}
 use Rattle.lock_program.specs.declared.draft.Draft.{Draft}
 use Rattle.lock_program.specs.Fitting.{IsFitting}
 use Rattle.lock_program.proofs.Fits.{fits_none}
+use Rattle.lock_program.proofs.Formed.{answer_is_formed, answer_is_few}
 use Rattle.lock_program.proofs.Texts.{SoFar, begins, turn, failed, last_program, last_faultless, last_told}
 use Rattle.lock_program.proofs.reader.read_program.Goals as goal
 
@@ -37,6 +38,16 @@ returns-clause-program c = last_program c.args.text.now c.loop-rest.rest.now c.l
 pub returns-clause-faultless : goal.returns-clause-faultless
 returns-clause-faultless c = last_faultless c.args.text.now c.loop-rest.rest.now c.loop-rest.draft c.loop-rest.number c.finished.result c.loop-rest.invariant.so
     (nil_from_length c.loop-rest.rest.now (grind arith)) c.finished.ensures
+
+pub returns-clause-formed : goal.returns-clause-formed
+returns-clause-formed c = answer_is_formed c.args.text.now c.finished.result
+    (last_program c.args.text.now c.loop-rest.rest.now c.loop-rest.draft c.loop-rest.number c.finished.result c.loop-rest.invariant.so
+    (nil_from_length c.loop-rest.rest.now (grind arith)) c.finished.ensures)
+
+pub returns-clause-few : goal.returns-clause-few
+returns-clause-few c = answer_is_few c.args.text.now c.finished.result
+    (last_program c.args.text.now c.loop-rest.rest.now c.loop-rest.draft c.loop-rest.number c.finished.result c.loop-rest.invariant.so
+    (nil_from_length c.loop-rest.rest.now (grind arith)) c.finished.ensures)
 
 pub returns-clause-fault : goal.returns-clause-fault
 returns-clause-fault c = last_told c.args.text.now c.loop-rest.rest.now c.loop-rest.draft c.loop-rest.number c.finished.result c.loop-rest.invariant.so
