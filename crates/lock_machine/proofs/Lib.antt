@@ -1,5 +1,5 @@
 pub mod Showing
 pub mod Asking
 pub mod Running
-pub mod Lines
 pub mod Standing
+pub mod Lines

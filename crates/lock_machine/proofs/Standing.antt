@@ -234,10 +234,12 @@ module _ (p : Program) where
   pub stands_there : (schedule : List ℕ) (s : LockWorld) → Reaches p schedule s → (k : ℕ) → k < length p.seats
       → IsThere (code_of p k) (s.seats k).stand
   stands_there schedule s (start is) k below = gone_there (code_of p k) k _ 0 (s.seats k) (is.seats k below)
-  stands_there schedule s (step {s = r} i there reached to) k below = by (ℕ_discrete k i)
+  stands_there schedule s (step {s = r} i there reached to) k below =
+      after i (stands_there _ r reached i there) (stands_there _ r reached k below) (ℕ_discrete k i) to
     where
-      by : Dec (k ≡ i) → IsThere (code_of p k) (s.seats k).stand
-      by (yes e) = subst (λ j. IsThere (code_of p j) (s.seats j).stand) (sym e)
+      after : (i : ℕ) → IsThere (code_of p i) (r.seats i).stand → IsThere (code_of p k) (r.seats k).stand → Dec (k ≡ i)
+          → StepsTo p r i s → IsThere (code_of p k) (s.seats k).stand
+      after i here there (yes e) to = subst (λ j. IsThere (code_of p j) (s.seats j).stand) (sym e)
           (settled_there i (at (r.seats i).stand) (to.did.world.seats i) to.did.next (s.seats i)
-          (row_kept p r i (r.seats i).stand (stands_there _ r reached i there) to.did to.is).there to.seat)
-      by (no ne) = subst (λ (q : LockSeat). IsThere (code_of p k) q.stand) (sym (to.others k ne)) (stands_there _ r reached k below)
+          (row_kept p r i (r.seats i).stand here to.did to.is).there to.seat)
+      after i here there (no ne) to = subst (λ (q : LockSeat). IsThere (code_of p k) q.stand) (sym (to.others k ne)) there

@@ -11,13 +11,14 @@ use lock_liveness::InUse;
 use lock_rows::MAX_REGISTERS;
 use std::alloc::Global;
 use std::marker::Model;
+use step_table::Items;
 use waiters::{NoMemory, SeatId};
 
 /// A program that is ready to run.
 #[derive(Drop)]
 pub struct Prepared {
     program: Program,
-    in_use: Vec<InUse>,
+    in_use: Items<InUse>,
 }
 
 impl Model for Prepared {
@@ -28,7 +29,7 @@ impl Model for Prepared {
 
     ghost view = { λ p. p.program };
 
-    ghost invariant = { λ p. IsPrepared p.program p.in_use.items };
+    ghost invariant = { λ p. IsPrepared p.program p.in_use };
 }
 
 impl Prepared {
@@ -38,9 +39,9 @@ impl Prepared {
         requires few { IsFew program }
         ensures { IfOk result (λ prepared. prepared ≡ program) }
     {
-        let mut in_use = Vec::with_capacity(alloc, program.codes.len())?;
+        let mut in_use = Items::empty(alloc);
         for code in program.codes.as_slice() {
-            in_use.push_reserved(InUse::of(alloc, code.as_slice(), MAX_REGISTERS)?);
+            in_use.push_back(InUse::of(alloc, code.as_slice(), MAX_REGISTERS)?)?;
         }
         Ok(Prepared { program, in_use })
     }
@@ -68,6 +69,7 @@ impl Prepared {
         requires { seat < length self.now.seats }
         ensures { IsTableOf (code_of self.now seat) 8 result.now }
     {
-        &self.in_use[self.program.seats.as_slice()[seat.number() as usize]]
+        let code = self.program.seats.as_slice()[seat.number() as usize];
+        &self.in_use.as_slice()[code]
     }
 }
