@@ -3,3 +3,5 @@ pub mod Asking
 pub mod Running
 pub mod Standing
 pub mod Lines
+pub mod Past
+pub mod FirstSeats

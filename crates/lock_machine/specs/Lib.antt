@@ -5,3 +5,5 @@ pub mod Shared
 pub mod Calling
 pub mod Sound
 pub mod Prepared
+pub mod Starting
+pub mod Moment

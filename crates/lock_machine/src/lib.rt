@@ -3,7 +3,10 @@
 
 mod calls;
 mod layer;
+mod machine;
 mod prepared;
 mod shared;
+mod starting;
 
+pub use machine::LockMachine;
 pub use prepared::Prepared;

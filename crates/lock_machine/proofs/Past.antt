@@ -1,0 +1,37 @@
+-- A machine that was sound before a step is sound after it: the schedule that led there is one step longer.
+use Rattle.std.proofs.Common.{◌≡◌, ℕ, ◌+◌, ◌<◌, List, [], ◌∷◌, ◌++◌, length, refl, sym, ap, ◌∙◌, subst}
+use Rattle.std.proofs.lemmas.List.{length-append}
+use Rattle.lock_code.specs.declared.program.Program.{Program}
+use Rattle.lock_machine.specs.Layer.{parts_of}
+use Rattle.lock_machine.specs.Moment.{LockMoment, HasMoved}
+use Rattle.lock_machine.specs.Shared.{Shared, world_of}
+use Rattle.lock_machine.specs.Sound.{IsSound, HasStepped}
+use Rattle.lock_machine.proofs.Showing.{form_after}
+use Rattle.lock_steps.specs.Steps.{Reaches, step}
+
+module _ (p : Program) (n : ℕ) (s : Shared) (i : ℕ) (t : Shared) (sound : IsSound p n s) (there : i < length p.seats)
+    (stepped : HasStepped p s i t) where
+  pub sound_after : IsSound p (n + 1) t
+  sound_after = record {
+    formed = sound.formed;
+    few = sound.few;
+    form = form_after (parts_of p) s.layer t.layer stepped.size.layer sound.form;
+    words = stepped.size.own.words ∙ sound.words;
+    seats = stepped.size.own.seats ∙ sound.seats;
+    there = stepped.size.own.there sound.there;
+    past = record {
+      journal = (stepped.step sound.past.journal).0;
+      schedule = sound.past.schedule ++ i ∷ [];
+      reached = step i there sound.past.reached (stepped.step sound.past.journal).1;
+      count = length-append sound.past.schedule (i ∷ []) ∙ ap (λ k. k + 1) sound.past.count;
+    };
+  }
+
+-- the step as a caller sees it
+pub moved : (h m : LockMoment) → h ≡ m → (i : ℕ) (t : Shared) → HasStepped h.program h.shared i t
+    → HasMoved m i (record { program = h.program; shared = t; steps = h.steps + 1 })
+moved h m same i t stepped = subst (λ q. HasMoved q i (record { program = h.program; shared = t; steps = h.steps + 1 })) same (record {
+  program = refl;
+  step = stepped.step;
+  steps = refl;
+})

@@ -1,0 +1,89 @@
+//! A lock program at one moment, and its steps.
+
+ghost use Rattle.std.specs.Prelude.{◌≡◌, ◌<◌, length, IfOk, IfErr, OnOk, OnErr};
+ghost use Rattle.lock_machine.specs.Moment.{IsStarted, HasMoved, IsRefusedBy};
+ghost use Rattle.lock_rows.specs.Stored.{seats_of};
+
+use crate::prepared::Prepared;
+use crate::shared::Shared;
+use crate::starting::{first_layer, first_state};
+use lock_steps::Stand;
+use std::alloc::Global;
+use std::marker::Model;
+use step_table::StepRefused;
+use waiters::{NoMemory, SeatId};
+
+/// So many steps a machine makes at most: then its numbers of turns and tickets could run out.
+const MOST_STEPS: u64 = 1 << 63;
+
+/// A lock program at one moment.
+#[derive(Drop)]
+pub struct LockMachine<'p> {
+    program: &'p Prepared,
+    shared: Shared,
+    steps: u64,
+}
+
+impl<'p> Model for LockMachine<'p> {
+    ghost use Rattle.lock_machine.specs.Moment.{LockMoment};
+    ghost use Rattle.lock_machine.specs.Sound.{IsSound};
+
+    ghost Value = { LockMoment };
+
+    ghost view = { λ m. record { program = m.program.now; shared = m.shared; steps = m.steps } };
+
+    ghost invariant = { λ m. IsSound m.program.now m.steps m.shared };
+}
+
+impl<'p> LockMachine<'p> {
+    /// The program at its start: each seat has gone on from its first line.
+    pub fn new(alloc: Global, program: &'p Prepared) -> Result<LockMachine<'p>, NoMemory>
+        ensures { IfOk result (IsStarted program.now) }
+    {
+        let shared = Shared {
+            layer: first_layer(alloc, program)?,
+            own: first_state(alloc, program)?,
+        };
+        Ok(LockMachine {
+            program,
+            shared,
+            steps: 0,
+        })
+    }
+
+    /// How many seats there are.
+    pub fn seats(&self) -> usize
+        ensures { result ≡ length self.now.program.seats }
+    {
+        self.program.program().seats.len()
+    }
+
+    /// Where the seat stands.
+    pub fn stand(&self, seat: SeatId) -> Stand
+        requires { seat < length self.now.program.seats }
+        ensures { result ≡ (seats_of self.now.shared.own.seats seat).stand }
+    {
+        self.shared.own.stand(seat)
+    }
+
+    /// A step of the seat: its row, and then it goes on. A refused step changes nothing.
+    pub fn step(&mut self, seat: SeatId) -> Result<(), StepRefused>
+        ensures step { OnOk result (HasMoved self.old seat self.new) }
+        ensures err { OnErr result (self.new ≡ self.old) }
+        ensures why { IfErr result (λ cause. IsRefusedBy cause self.old seat) }
+    {
+        if self.seats() <= seat.number() as usize {
+            return Err(StepRefused::NoSuchSeat);
+        }
+        if MOST_STEPS <= self.steps {
+            return Err(StepRefused::NoMemory);
+        }
+        match self.shared.step(self.program, seat) {
+            Ok(()) => {
+                self.steps += 1;
+                Ok(())
+            }
+            Err(cause) => Err(cause),
+        }
+    }
+}
