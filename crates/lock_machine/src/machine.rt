@@ -1,8 +1,9 @@
 //! A lock program at one moment, and its steps.
 
-ghost use Rattle.std.specs.Prelude.{◌≡◌, ◌<◌, length, IfOk, IfErr, OnOk, OnErr};
+ghost use Rattle.std.specs.Prelude.{◌≡◌, ◌<◌, pos, length, IfOk, IfErr, OnOk, OnErr};
 ghost use Rattle.lock_machine.specs.Moment.{IsStarted, HasMoved, IsRefusedBy};
 ghost use Rattle.lock_rows.specs.Stored.{seats_of};
+ghost use Rattle.step_rows.specs.Stored.{each};
 
 use crate::prepared::Prepared;
 use crate::shared::Shared;
@@ -64,6 +65,22 @@ impl<'p> LockMachine<'p> {
         ensures { result ≡ (seats_of self.now.shared.own.seats seat).stand }
     {
         self.shared.own.stand(seat)
+    }
+
+    /// Whether the seat is in the section.
+    pub fn is_inside(&self, seat: SeatId, section: usize) -> bool
+        requires { seat < length self.now.program.seats }
+        ensures { result ≡ (seats_of self.now.shared.own.seats seat).sections section }
+    {
+        self.shared.own.is_inside(seat, section)
+    }
+
+    /// The number in the word.
+    pub fn number(&self, word: usize) -> i64
+        requires { word < length self.now.program.words }
+        ensures { result ≡ each (pos 0) self.now.shared.own.words word }
+    {
+        self.shared.own.number(word)
     }
 
     /// A step of the seat: its row, and then it goes on. A refused step changes nothing.
