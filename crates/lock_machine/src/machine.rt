@@ -59,6 +59,13 @@ impl<'p> LockMachine<'p> {
         self.program.program().seats.len()
     }
 
+    /// How many words there are.
+    pub fn words(&self) -> usize
+        ensures { result ≡ length self.now.program.words }
+    {
+        self.program.program().words.len()
+    }
+
     /// Where the seat stands.
     pub fn stand(&self, seat: SeatId) -> Stand
         requires { seat < length self.now.program.seats }

@@ -1,0 +1,223 @@
+//! Where a schedule leads a program's seat, and whether it can step there.
+
+use lock_machine::{LockMachine, Prepared};
+use lock_program::{Cause as Fault, NamedProgram, read_program};
+use lock_steps::{Cause, Stand};
+use std::alloc::Global;
+use step_table::StepRefused;
+use waiters::{NoMemory, SeatId};
+
+/// A program, a schedule, and what is known of one seat then.
+struct Scene {
+    text: &'static str,
+    schedule: &'static [u16],
+    seat: u16,
+    stand: Stand,
+    /// Why the seat can't step, if it can't.
+    refused: Option<StepRefused>,
+    /// What the first word is, where there is one.
+    word: Option<i64>,
+}
+
+static SCENES: [Scene; 16] = [
+    // asleep on a counter
+    Scene {
+        text: "counter c 0\nprogram p\nacquire c\nseats 1 p\n",
+        schedule: &[0, 0, 0, 0, 0],
+        seat: 0,
+        stand: Stand::Within(0),
+        refused: Some(StepRefused::Asleep),
+        word: None,
+    },
+    // sums wrap
+    Scene {
+        text: "word w 9223372036854775807\nregister r\nprogram p\nadd w 1 r\nassert r > 0\nseats 1 p\n",
+        schedule: &[0],
+        seat: 0,
+        stand: Stand::Ended,
+        refused: Some(StepRefused::SeatEnded),
+        word: Some(-9223372036854775808),
+    },
+    // an update is lost
+    Scene {
+        text: "word w 0\nregister r\nprogram p\nload w r\nlet r r + 1\nstore w r\nseats 2 p\n",
+        schedule: &[0, 1, 0, 1],
+        seat: 1,
+        stand: Stand::Ended,
+        refused: Some(StepRefused::SeatEnded),
+        word: Some(1),
+    },
+    // waits for a word
+    Scene {
+        text: "word w 0\nprogram p\nawait w == 1\nseats 1 p\n",
+        schedule: &[],
+        seat: 0,
+        stand: Stand::Before(0),
+        refused: Some(StepRefused::Asleep),
+        word: Some(0),
+    },
+    // an exchange is lost
+    Scene {
+        text: "word w 0\nregister r\nprogram p\nexchange w 0 1 r\nassert r == 0\nseats 2 p\n",
+        schedule: &[0, 1],
+        seat: 1,
+        stand: Stand::FailedAt(1, Cause::Assert),
+        refused: Some(StepRefused::SeatFailed),
+        word: Some(1),
+    },
+    // nobody wakes it
+    Scene {
+        text: "word w 0\nprogram p\npark w 0\nprogram q\nunpark w 1\nseats 1 p\nseats 1 q\n",
+        schedule: &[1, 0],
+        seat: 0,
+        stand: Stand::Asleep(0),
+        refused: Some(StepRefused::Asleep),
+        word: Some(0),
+    },
+    // it is woken
+    Scene {
+        text: "word w 0\nprogram p\npark w 0\nprogram q\nunpark w 1\nseats 1 p\nseats 1 q\n",
+        schedule: &[0, 1, 0],
+        seat: 0,
+        stand: Stand::Ended,
+        refused: Some(StepRefused::SeatEnded),
+        word: Some(0),
+    },
+    // the first sleeper is woken
+    Scene {
+        text: "word w 0\nprogram p\npark w 0\nprogram q\nunpark w 1\nseats 2 p\nseats 1 q\n",
+        schedule: &[1, 0, 2, 1],
+        seat: 0,
+        stand: Stand::Asleep(0),
+        refused: Some(StepRefused::Asleep),
+        word: Some(0),
+    },
+    // lines without end
+    Scene {
+        text: "word w 0\nprogram p\nstore w 1\na:\ngoto a\nseats 1 p\n",
+        schedule: &[0],
+        seat: 0,
+        stand: Stand::FailedAt(1, Cause::Endless),
+        refused: Some(StepRefused::SeatFailed),
+        word: Some(1),
+    },
+    // no such member
+    Scene {
+        text: "word w[2] 0\nprogram p\nstore w[me] 1\nseats 3 p\n",
+        schedule: &[2],
+        seat: 2,
+        stand: Stand::FailedAt(0, Cause::Index),
+        refused: Some(StepRefused::SeatFailed),
+        word: Some(0),
+    },
+    // takes and gives
+    Scene {
+        text: "counter c 1\nprogram lock\nacquire c\nreturn\nrelease c\nprogram p\ndo lock\nrelease c\nseats 2 p\n",
+        schedule: &[0, 0, 0, 0],
+        seat: 0,
+        stand: Stand::Ended,
+        refused: Some(StepRefused::SeatEnded),
+        word: None,
+    },
+    // waits without a ticket
+    Scene {
+        text: "list l\nprogram p\nwait l\nseats 1 p\n",
+        schedule: &[0],
+        seat: 0,
+        stand: Stand::FailedAt(0, Cause::Ticket),
+        refused: Some(StepRefused::SeatFailed),
+        word: None,
+    },
+    // releases none
+    Scene {
+        text: "counter c 0\nprogram p\nrelease c many 0\nseats 1 p\n",
+        schedule: &[0],
+        seat: 0,
+        stand: Stand::FailedAt(0, Cause::Many),
+        refused: Some(StepRefused::SeatFailed),
+        word: None,
+    },
+    // releases too much
+    Scene {
+        text: "counter c 4294967295\nprogram p\nrelease c\nseats 1 p\n",
+        schedule: &[0],
+        seat: 0,
+        stand: Stand::FailedAt(0, Cause::Overflow),
+        refused: Some(StepRefused::SeatFailed),
+        word: None,
+    },
+    // its ticket is called
+    Scene {
+        text: "list l\nprogram p\nticket l\nwait l\nprogram q\none l\nseats 1 p\nseats 1 q\n",
+        schedule: &[0, 0, 0, 0, 1, 1, 1, 1, 1, 1, 1, 1, 0],
+        seat: 0,
+        stand: Stand::Ended,
+        refused: Some(StepRefused::SeatEnded),
+        word: None,
+    },
+    // the list is held
+    Scene {
+        text: "list l\nprogram p\nticket l\nwait l\nseats 2 p\n",
+        schedule: &[0, 1, 0],
+        seat: 1,
+        stand: Stand::Before(1),
+        refused: Some(StepRefused::LockHeld),
+        word: None,
+    },
+];
+
+/// The program of a text: `None` where it has a fault.
+fn program_of(alloc: Global, text: &'static str) -> Result<Option<Prepared>, NoMemory> {
+    let NamedProgram { program, .. } = match read_program(alloc, text.as_bytes()) {
+        Ok(read) => read,
+        Err(fault) if fault.cause == Fault::NoMemory => return Err(NoMemory),
+        Err(_) => return Ok(None),
+    };
+    Ok(Some(Prepared::new(alloc, program)?))
+}
+
+/// Whether the seat stands as the scene says, and can step or not.
+fn is_as_told(machine: &mut LockMachine, scene: &Scene) -> bool {
+    let seat = SeatId::new(scene.seat);
+    if machine.seats() <= scene.seat as usize || machine.stand(seat) != scene.stand {
+        return false;
+    }
+    machine.step(seat).err() == scene.refused
+}
+
+/// Whether the first word is this, where something is told of it.
+fn has_word(machine: &LockMachine, word: Option<i64>) -> bool {
+    match word {
+        None => true,
+        Some(number) => 0 < machine.words() && machine.number(0) == number,
+    }
+}
+
+/// Whether the scene goes as it says.
+fn goes(alloc: Global, scene: &Scene) -> Result<bool, NoMemory> {
+    let Some(program) = program_of(alloc, scene.text)? else {
+        return Ok(false);
+    };
+    let mut machine = LockMachine::new(alloc, &program)?;
+    for number in scene.schedule {
+        if machine.step(SeatId::new(*number)).is_err() {
+            return Ok(false);
+        }
+    }
+    Ok(has_word(&machine, scene.word) && is_as_told(&mut machine, scene))
+}
+
+/// The same, twice where memory was short.
+fn goes_twice(alloc: Global, scene: &Scene) -> bool {
+    match goes(alloc, scene) {
+        Ok(so) => so,
+        Err(_) => goes(alloc, scene) == Ok(true),
+    }
+}
+
+#[test]
+fn scenes_end_as_told(rt: HostRuntime) {
+    for scene in &SCENES {
+        assert!(rt; goes_twice(rt.alloc(), scene));
+    }
+}
