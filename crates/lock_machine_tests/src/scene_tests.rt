@@ -19,7 +19,16 @@ struct Scene {
     word: Option<i64>,
 }
 
-static SCENES: [Scene; 16] = [
+static SCENES: [Scene; 17] = [
+    // a swap keeps what the word was
+    Scene {
+        text: "word w 5\nregister r\nprogram p\nswap w 7 r\nassert r == 5\nseats 1 p\n",
+        schedule: &[0],
+        seat: 0,
+        stand: Stand::Ended,
+        refused: Some(StepRefused::SeatEnded),
+        word: Some(7),
+    },
     // asleep on a counter
     Scene {
         text: "counter c 0\nprogram p\nacquire c\nseats 1 p\n",
