@@ -1,15 +1,13 @@
 //! Sixteen workers that end a first wait group, and then wait for a second one.
 
 use crate::parts::actor::reaches;
-use crate::parts::group_given::{Call, Member, Team, new_again};
+use crate::parts::group_given::{Call, Member, Team, made};
 use std::alloc::Global;
 use std::process::Abort;
 use std::sync::Wait;
 use std::sync::atomic::{AtomicU64, Ordering};
-use std::test::Fail;
 use std::thread;
 use std::thread::{Scope, Threads};
-use sync_parts::SetupError;
 
 const WORKERS: u32 = 16;
 
@@ -114,22 +112,17 @@ fn come_through<R: Abort + Threads + Wait + Sync>(rt: &R, works: Team<'_>, barri
     });
 }
 
-fn barriers<R: Abort + Threads + Wait + Sync>(
-    rt: &R,
-    alloc: Global,
-    works: Team<'_>,
-) -> Result<(), SetupError> {
-    let (barrier, seats) = new_again(alloc, WORKERS + 1)?;
+fn barriers<R: Abort + Threads + Wait + Sync>(rt: &R, alloc: Global, works: Team<'_>) {
+    let (barrier, seats) = made(rt, alloc, WORKERS + 1);
     come_through(rt, works, Team::new(&barrier, seats));
-    Ok(())
 }
 
-fn groups<R: Abort + Threads + Wait + Sync>(rt: &R, alloc: Global) -> Result<(), SetupError> {
-    let (work, seats) = new_again(alloc, WORKERS + 1)?;
-    barriers(rt, alloc, Team::new(&work, seats))
+fn groups<R: Abort + Threads + Wait + Sync>(rt: &R, alloc: Global) {
+    let (work, seats) = made(rt, alloc, WORKERS + 1);
+    barriers(rt, alloc, Team::new(&work, seats));
 }
 
 #[test]
-fn sixteen_wait_at_a_barrier(rt: HostRuntime) -> Result<(), Fail> {
-    Ok(groups(&rt, rt.alloc())?)
+fn sixteen_wait_at_a_barrier(rt: HostRuntime) {
+    groups(&rt, rt.alloc());
 }

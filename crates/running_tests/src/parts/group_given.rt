@@ -37,6 +37,13 @@ pub(crate) fn new_again(
     }
 }
 
+/// The same, of so many seats that there can be.
+pub(crate) fn made(rt: &impl Abort, alloc: Global, seats: u32) -> (WaitGroup, Vec<GroupSeat>)
+    ensures { All (λ s. s.group ≡ result.0) result.1.items }
+{
+    new_again(alloc, seats).expect(rt, "a group")
+}
+
 fn add<R: Abort + Wait>(rt: &R, group: &WaitGroup, seat: GroupSeat, d: i32) -> (GroupSeat, Answer)
     requires { seat.group ≡ group.now }
     ensures { result.0.group ≡ group.now }

@@ -2,7 +2,6 @@
 
 use crate::parts::group_given::new_again;
 use std::alloc::Global;
-use std::test::Fail;
 use sync_parts::{GroupSeat, SetupError};
 
 const MOST_LEFT: u64 = 1 << 40;
@@ -26,7 +25,7 @@ fn made(alloc: Global, seats: u32) -> Result<usize, u8> {
 }
 
 #[test]
-fn a_group_has_1_to_256_seats(rt: HostRuntime) -> Result<(), Fail> {
+fn a_group_has_1_to_256_seats(rt: HostRuntime) {
     let rows = [
         (0, Err(2)),
         (257, Err(SetupError::Seats as u8)),
@@ -37,5 +36,4 @@ fn a_group_has_1_to_256_seats(rt: HostRuntime) -> Result<(), Fail> {
     for (seats, expected) in rows {
         assert!(rt; made(rt.alloc(), seats) == expected);
     }
-    Ok(())
 }

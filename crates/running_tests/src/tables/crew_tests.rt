@@ -3,7 +3,7 @@
 
 ghost use Rattle.std.specs.Prelude.{◌≡◌, All};
 
-use crate::tables::close_tests::{adds_up, ends_at};
+use crate::tables::close_tests::adds_up;
 use crate::tables::given::{Sizes, gives_back, last_seat, new_again};
 use crate::tables::seats::posts;
 use sema_table::{Closed, Seat, SemaTable};
@@ -75,21 +75,6 @@ const TWO_HANDS: Sizes = Sizes {
     roots: 1,
     release_limit: 20_002,
 };
-
-/// All seats work: how many units are added and how many given, and the last numbers of these counters.
-fn comes_to<R: Abort + Threads + Wait + Sync>(
-    rt: &R,
-    alloc: Global,
-    plan: &Plan,
-    counts: (u64, u64),
-    ends: &[(u32, u64)],
-) {
-    let closed = works_again(rt, alloc, plan);
-    adds_up(rt, &closed, counts.0, counts.1);
-    for end in ends {
-        ends_at(rt, &closed, end.0, end.1);
-    }
-}
 
 /// What is done, how many units are added and how many given, and the last numbers of these counters.
 static PLANS: [(Plan, (u64, u64), &[(u32, u64)]); 7] = [
@@ -200,6 +185,7 @@ static PLANS: [(Plan, (u64, u64), &[(u32, u64)]); 7] = [
 #[test]
 fn no_unit_and_nobody_is_lost(rt: HostRuntime) {
     for (plan, counts, ends) in &PLANS {
-        comes_to(&rt, rt.alloc(), plan, *counts, ends);
+        let closed = works_again(&rt, rt.alloc(), plan);
+        adds_up(&rt, &closed, *counts, ends);
     }
 }

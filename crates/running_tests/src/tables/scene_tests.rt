@@ -17,6 +17,7 @@ use crate::tables::order_tests::five_seats;
 use crate::tables::wait_tests::{loses_its_unit, sleeps_until_woken, two_sleep_and_one_is_handed};
 use crate::tables::whole_tests::{finds_its_grant, takes_what_is_there};
 use sema_table::{Seat, SemaTable};
+use std::alloc::Global;
 use std::process::Abort;
 use std::sync::Wait;
 
@@ -82,8 +83,10 @@ impl Scene {
     }
 }
 
-/// Scenes, the number at which the counter starts, and how many seats there are.
-static SCENES: [(Scene, u32, u32); 16] = [
+/// A scene, the number at which the counter starts, and how many seats there are.
+type Row = (Scene, u32, u32);
+
+static SCENES: [Row; 16] = [
     (Scene::TriesAtZero, 0, 2),
     (Scene::SpinsInVain, 0, 1),
     (Scene::SpinsAndTakes, 0, 1),
@@ -102,15 +105,19 @@ static SCENES: [(Scene, u32, u32); 16] = [
     (Scene::TwoOfThree, 0, 4),
 ];
 
+/// The scene of this row in a new table.
+fn plays_in_a_table<R: Abort + Wait>(rt: &R, alloc: Global, row: &Row) {
+    let sizes = Sizes {
+        roots: 1,
+        ..one_counter(row.1, row.2)
+    };
+    let (table, seats) = made(rt, alloc, &sizes);
+    row.0.plays(rt, &table, seats);
+}
+
 #[test]
 fn scenes_of_a_table_end_as_known(rt: HostRuntime) {
     for row in &SCENES {
-        let (scene, start, count) = *row;
-        let sizes = Sizes {
-            roots: 1,
-            ..one_counter(start, count)
-        };
-        let (table, seats) = made(&rt, rt.alloc(), &sizes);
-        scene.plays(&rt, &table, seats);
+        plays_in_a_table(&rt, rt.alloc(), row);
     }
 }
