@@ -1,5 +1,6 @@
 //! How many seats a condition variable may have.
 
+use crate::tables::given::holds;
 use std::alloc::Global;
 use sync_parts::{Cond, ListSeat, ListSetupError};
 
@@ -29,6 +30,6 @@ fn a_condition_variable_has_1_to_256_seats(rt: HostRuntime) {
         (256, Ok(256)),
     ];
     for (seats, expected) in rows {
-        assert!(rt; made(rt.alloc(), seats) == expected);
+        holds(&rt, made(rt.alloc(), seats) == expected);
     }
 }

@@ -2,6 +2,7 @@
 
 use crate::parts::actor::reaches;
 use crate::parts::group_given::{Call, Member, Team, made};
+use crate::tables::given::holds;
 use std::alloc::Global;
 use std::process::Abort;
 use std::sync::Wait;
@@ -37,9 +38,9 @@ fn comes_through<R: Abort + Wait>(rt: &R, work: Member<'_>, barrier: Member<'_>,
 fn opens<R: Abort + Wait>(rt: &R, barrier: &mut Member<'_>, through: &AtomicU64, before: u64) {
     for _ in 1..WORKERS {
         barrier.answers(rt, Call::Done, Ok(0));
-        assert!(rt; through.load(Ordering::SeqCst) == before);
+        holds(rt, through.load(Ordering::SeqCst) == before);
     }
-    assert!(rt; barrier.finishes(rt) <= WORKERS);
+    holds(rt, barrier.finishes(rt) <= WORKERS);
 }
 
 /// One round with both groups, after so many workers have come through. All of them are back before the next.
@@ -57,7 +58,7 @@ fn round<R: Abort + Wait>(
     opens(rt, barrier, &doors.through, before);
     let after = before.wrapping_add(u64::from(WORKERS));
     reaches(rt, &doors.through, after);
-    assert!(rt; doors.through.load(Ordering::SeqCst) == after);
+    holds(rt, doors.through.load(Ordering::SeqCst) == after);
 }
 
 /// Starts a worker, asked for once more where none was made.
@@ -69,7 +70,7 @@ fn begin<'s, E, R: Abort + Wait + Sync>(
     doors: &'s Doors,
 ) {
     if let Err(refused) = scope.spawn(move || comes_through(rt, work, barrier, doors)) {
-        assert!(rt; scope.spawn(refused.value).is_ok());
+        holds(rt, scope.spawn(refused.value).is_ok());
     }
 }
 

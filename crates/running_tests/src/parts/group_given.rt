@@ -5,6 +5,7 @@
 ghost use Rattle.std.specs.Prelude.{◌≡◌, All, IfOk};
 ghost use Rattle.std.specs.Option.{ForSome};
 
+use crate::tables::given::holds;
 use std::alloc::Global;
 use std::process::Abort;
 use std::sync::Wait;
@@ -92,7 +93,7 @@ impl<'g> Member<'g> {
 
     /// A call that is answered so.
     pub(crate) fn answers<R: Abort + Wait>(&mut self, rt: &R, call: Call, expected: Answer) {
-        assert!(rt; self.calls(rt, call) == expected);
+        holds(rt, self.calls(rt, call) == expected);
     }
 
     /// A `done` that is no misuse: how many it released.

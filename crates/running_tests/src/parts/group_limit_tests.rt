@@ -1,6 +1,7 @@
 //! How many seats a wait group may have.
 
 use crate::parts::group_given::new_again;
+use crate::tables::given::holds;
 use std::alloc::Global;
 use sync_parts::{GroupSeat, SetupError};
 
@@ -34,6 +35,6 @@ fn a_group_has_1_to_256_seats(rt: HostRuntime) {
         (256, Ok(256)),
     ];
     for (seats, expected) in rows {
-        assert!(rt; made(rt.alloc(), seats) == expected);
+        holds(&rt, made(rt.alloc(), seats) == expected);
     }
 }

@@ -3,6 +3,7 @@
 
 use crate::parts::group_given::{Answer, Call, Member, Team};
 use crate::parts::group_parts::{Back, Part, begin};
+use crate::tables::given::holds;
 use std::process::Abort;
 use std::sync::Wait;
 use std::thread::{JoinHandle, Scope, Threads};
@@ -38,8 +39,8 @@ pub(crate) fn races<'s, E, R: Abort + Threads + Wait + Sync>(
     let adder = begin(rt, scope, team.member(rt), Part::Adds);
     let last = first.calls(rt, Call::Done);
     let adder = adder.join(rt);
-    assert!(rt; agree(adder.first, adder.last, last));
-    assert!(rt; may_be_reused(waiter.join(rt).last));
+    holds(rt, agree(adder.first, adder.last, last));
+    holds(rt, may_be_reused(waiter.join(rt).last));
 }
 
 /// Ends a round for which another waits, begins one more at once, and ends it. The wait that was released may
@@ -56,9 +57,10 @@ fn goes_on<'g, R: Abort + Threads + Wait>(
     }
     let Back { member, last, .. } = waiter.join(rt);
     if released == 0 {
-        assert!(rt; last == Ok(0));
+        holds(rt, last == Ok(0));
     } else {
-        assert!(rt; may_be_reused(last) && first.finishes(rt) == 0);
+        holds(rt, may_be_reused(last));
+        holds(rt, first.finishes(rt) == 0);
     }
     member
 }

@@ -3,6 +3,7 @@
 use crate::parts::group_given::{Call, Team};
 use crate::parts::group_parts::{Part, begin};
 use crate::parts::group_scene_tests::Flags;
+use crate::tables::given::holds;
 use std::process::Abort;
 use std::sync::Wait;
 use std::sync::atomic::{AtomicU64, Ordering};
@@ -25,7 +26,7 @@ pub(crate) fn forks_and_joins<'s, E, R: Abort + Threads + Wait + Sync>(
         begin(rt, scope, team.member(rt), Part::Works(share, sum));
     }
     first.answers(rt, Call::Wait, Ok(0));
-    assert!(rt; sum.load(Ordering::SeqCst) == 321);
+    holds(rt, sum.load(Ordering::SeqCst) == 321);
 }
 
 /// Each of two threads sets a flag and sees the other's: two flags need two threads.

@@ -24,7 +24,7 @@ pub(crate) fn sleeps_after<R: Abort + Wait>(rt: &R, actor: &mut Actor<'_>, befor
     reaches(rt, &actor.marks.told, before);
     actor.locks(rt);
     actor.waits(rt);
-    assert!(rt; actor.marks.woke.load(SeqCst) == before.wrapping_add(1));
+    actor.has_woken(rt, before.wrapping_add(1));
     actor.unlocks(rt);
 }
 

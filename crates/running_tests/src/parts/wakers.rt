@@ -2,34 +2,72 @@
 
 use crate::parts::actor::{Actor, reaches};
 use crate::parts::sleepers::{ALL_DONE, MAY_COME};
+use crate::tables::given::holds;
 use std::process::Abort;
 use std::sync::Wait;
 use std::sync::atomic::Ordering::SeqCst;
+
+/// Signals once: the ticket that is granted.
+fn wakes<R: Abort + Wait>(rt: &R, actor: &mut Actor<'_>, expected: Option<u64>) {
+    holds(rt, actor.signals(rt) == expected);
+}
+
+/// Broadcasts once: how many tickets are granted.
+fn wakes_all<R: Abort + Wait>(rt: &R, actor: &mut Actor<'_>, expected: u32) {
+    holds(rt, actor.broadcasts(rt) == expected);
+}
+
+/// Wakes the next one, after so many are awake.
+fn wakes_next<R: Abort + Wait>(rt: &R, actor: &mut Actor<'_>, awake: u64) {
+    actor.locks(rt);
+    actor.has_woken(rt, awake);
+    wakes(rt, actor, Some(awake));
+    actor.unlocks(rt);
+    reaches(rt, &actor.marks.woke, awake.wrapping_add(1));
+}
 
 /// Signals so many times, once as many wait: each wakes one, and one more nobody.
 pub(crate) fn signals<R: Abort + Wait>(rt: &R, actor: &mut Actor<'_>, sleepers: u64) {
     reaches(rt, &actor.marks.came, sleepers);
     for awake in 0..sleepers {
-        actor.locks(rt);
-        assert!(rt; actor.marks.woke.load(SeqCst) == awake);
-        assert!(rt; actor.signals(rt) == Some(awake));
-        actor.unlocks(rt);
-        reaches(rt, &actor.marks.woke, awake + 1);
+        wakes_next(rt, actor, awake);
     }
-    assert!(rt; actor.marks.woke.load(SeqCst) == sleepers);
-    assert!(rt; actor.signals(rt) == None && actor.broadcasts(rt) == 0);
+    actor.has_woken(rt, sleepers);
+    wakes(rt, actor, None);
+    wakes_all(rt, actor, 0);
+}
+
+/// Signals to the one who waits after so many are back; then the next may come.
+fn calls_next<R: Abort + Wait>(rt: &R, actor: &mut Actor<'_>, before: u64) {
+    let after = before.wrapping_add(1);
+    reaches(rt, &actor.marks.woke, before);
+    reaches(rt, &actor.marks.came, after);
+    actor.locks(rt);
+    wakes(rt, actor, Some(before));
+    actor.marks.told.store(after, SeqCst);
+    actor.unlocks(rt);
 }
 
 /// Signals to each of so many once it waits; then the next may come.
 pub(crate) fn signals_in_turn<R: Abort + Wait>(rt: &R, actor: &mut Actor<'_>, sleepers: u64) {
     for before in 0..sleepers {
-        reaches(rt, &actor.marks.woke, before);
-        reaches(rt, &actor.marks.came, before + 1);
-        actor.locks(rt);
-        assert!(rt; actor.signals(rt) == Some(before));
-        actor.marks.told.store(before + 1, SeqCst);
-        actor.unlocks(rt);
+        calls_next(rt, actor, before);
     }
+}
+
+/// Broadcasts once so many wait, of whom so many are awake, and wakes so many.
+fn wakes_together<R: Abort + Wait>(
+    rt: &R,
+    actor: &mut Actor<'_>,
+    all: u64,
+    before: u64,
+    sleepers: u32,
+) {
+    reaches(rt, &actor.marks.came, all);
+    actor.locks(rt);
+    actor.has_woken(rt, before);
+    wakes_all(rt, actor, sleepers);
+    actor.unlocks(rt);
 }
 
 /// Broadcasts so many times, each time once so many wait, and wakes them all.
@@ -42,11 +80,7 @@ pub(crate) fn broadcasts<R: Abort + Wait>(
     let mut before = 0_u64;
     for _ in 0..times {
         let all = before.wrapping_add(u64::from(sleepers));
-        reaches(rt, &actor.marks.came, all);
-        actor.locks(rt);
-        assert!(rt; actor.marks.woke.load(SeqCst) == before);
-        assert!(rt; actor.broadcasts(rt) == sleepers);
-        actor.unlocks(rt);
+        wakes_together(rt, actor, all, before, sleepers);
         before = all;
     }
 }
@@ -74,7 +108,7 @@ pub(crate) fn wakes_the_first<R: Abort + Wait>(rt: &R, actor: &mut Actor<'_>, wa
     actor.locks(rt);
     actor.unlocks(rt);
     actor.marks.told.store(MAY_COME, SeqCst);
-    assert!(rt; is_woken(rt, actor, way));
+    holds(rt, is_woken(rt, actor, way));
     reaches(rt, &actor.marks.first, 1);
     ends(rt, actor);
 }
