@@ -49,11 +49,11 @@ fn lock_in_turn<R: Abort + Wait>(
 
 #[test]
 fn of_two_locks_that_meet_one_is_held(rt: HostRuntime) -> Result<(), Fail> {
+    let mut all = Vec::with_capacity(rt.alloc(), 2)?;
     let (table, mut seats) = SemaTable::new(rt.alloc(), settings(rt.alloc(), 1)?)?;
     assert!(rt; table.counters() == 1 && table.seats() == 2);
     let second = last_seat(&rt, &table, &mut seats);
     let first = last_seat(&rt, &table, &mut seats);
-    let mut all = Vec::with_capacity(rt.alloc(), 2)?;
     let (first, second) = lock_in_turn(&rt, &table, first, second);
     all.push_reserved(first);
     all.push_reserved(second);

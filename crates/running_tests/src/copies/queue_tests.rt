@@ -153,11 +153,11 @@ fn marks(rt: &impl Abort, seen: &mut [bool], items: &[u32]) {
 
 #[test]
 fn each_item_arrives_once(rt: HostRuntime) -> Result<(), Fail> {
-    let (queue, seats, mut tally) = BoundedQueue::new(rt.alloc(), 2, 4)?;
     let into = (
         Vec::with_capacity(rt.alloc(), ITEMS as usize)?,
         Vec::with_capacity(rt.alloc(), ITEMS as usize)?,
     );
+    let (queue, seats, mut tally) = BoundedQueue::new(rt.alloc(), 2, 4)?;
     let (one, other) = move_all(&rt, &queue, &mut tally, seats, into)?;
     let mut seen = [false; 1_000];
     marks(&rt, &mut seen, one.as_slice());

@@ -1,16 +1,9 @@
 //! How many seats a condition variable may have.
 
+use crate::parts::cond_given::new_again;
 use crate::tables::given::holds;
 use std::alloc::Global;
-use sync_parts::{Cond, ListSeat, ListSetupError};
-
-/// A condition variable and its seats, asked for once more where memory was refused.
-fn new_again(alloc: Global, seats: u32) -> Result<(Cond, Vec<ListSeat>), ListSetupError> {
-    match Cond::with_seats(alloc, seats) {
-        Err(ListSetupError::NoMemory) => Cond::with_seats(alloc, seats),
-        answer => answer,
-    }
-}
+use sync_parts::ListSetupError;
 
 /// How many seats are made, and the refusal by its number.
 fn made(alloc: Global, seats: u32) -> Result<usize, u8> {

@@ -1,8 +1,9 @@
 //! A locker that signals as it is unlocked: whoever it wakes has its ticket by then.
 
-ghost use Rattle.std.specs.Prelude.{◌≡◌, ◌<◌, length, true, false, All};
+ghost use Rattle.std.specs.Prelude.{◌≡◌, ◌<◌, length, true, false};
 ghost use Rattle.notify_list.specs.Tickets.{HasTicket};
 
+use crate::parts::cond_given;
 use crate::tables::given::{holds, last_seat, made, one_counter};
 use sema_table::{Seat, SemaTable};
 use std::alloc::Global;
@@ -85,25 +86,6 @@ fn waits<R: Abort + Wait>(
     holds(rt, locker.held());
 }
 
-/// A condition variable and its seats, asked for once more where memory was refused.
-fn made_cond(rt: &impl Abort, alloc: Global, seats: u32) -> (Cond, Vec<ListSeat>)
-    ensures { All (λ s. s.list ≡ result.0) result.1.items }
-{
-    match Cond::with_seats(alloc, seats) {
-        Ok(made) => made,
-        Err(_refused) => Cond::with_seats(alloc, seats).expect(rt, "memory"),
-    }
-}
-
-/// Takes the last seat.
-fn last_own(rt: &impl Abort, cond: &Cond, owns: &mut Vec<ListSeat>) -> ListSeat
-    requires { All (λ s. s.list ≡ cond.now) owns.old.items }
-    ensures own { result.list ≡ cond.now }
-    ensures rest { All (λ s. s.list ≡ cond.now) owns.new.items }
-{
-    owns.pop().expect(rt, "a seat of the condition variable")
-}
-
 /// Room for two calls, asked for once more where memory was refused.
 fn room_for_two(rt: &impl Abort, alloc: Global) -> Vec<LockerCall> {
     match Vec::with_capacity(alloc, 2) {
@@ -114,9 +96,9 @@ fn room_for_two(rt: &impl Abort, alloc: Global) -> Vec<LockerCall> {
 
 #[test]
 fn a_locker_signals_as_it_is_unlocked(rt: HostRuntime) {
-    let (cond, mut seats) = made_cond(&rt, rt.alloc(), 2);
-    let second = last_own(&rt, &cond, &mut seats);
-    let first = last_own(&rt, &cond, &mut seats);
+    let (cond, mut seats) = cond_given::made(&rt, rt.alloc(), 2);
+    let second = cond_given::last_own(&rt, &cond, &mut seats);
+    let first = cond_given::last_own(&rt, &cond, &mut seats);
     waits(&rt, &cond, first, second, room_for_two(&rt, rt.alloc()));
 }
 
@@ -149,7 +131,7 @@ fn locks_over_a_counter<R: Abort + Wait>(rt: &R, alloc: Global, own: &ListSeat) 
 
 #[test]
 fn a_lock_over_a_counter_is_a_locker(rt: HostRuntime) {
-    let (cond, mut owns) = made_cond(&rt, rt.alloc(), 1);
-    let own = last_own(&rt, &cond, &mut owns);
+    let (cond, mut owns) = cond_given::made(&rt, rt.alloc(), 1);
+    let own = cond_given::last_own(&rt, &cond, &mut owns);
     locks_over_a_counter(&rt, rt.alloc(), &own);
 }

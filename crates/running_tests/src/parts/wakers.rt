@@ -8,7 +8,7 @@ use std::sync::Wait;
 use std::sync::atomic::Ordering::SeqCst;
 
 /// Signals once: the ticket that is granted.
-fn wakes<R: Abort + Wait>(rt: &R, actor: &mut Actor<'_>, expected: Option<u64>) {
+fn wakes_one<R: Abort + Wait>(rt: &R, actor: &mut Actor<'_>, expected: Option<u64>) {
     holds(rt, actor.signals(rt) == expected);
 }
 
@@ -21,7 +21,7 @@ fn wakes_all<R: Abort + Wait>(rt: &R, actor: &mut Actor<'_>, expected: u32) {
 fn wakes_next<R: Abort + Wait>(rt: &R, actor: &mut Actor<'_>, awake: u64) {
     actor.locks(rt);
     actor.has_woken(rt, awake);
-    wakes(rt, actor, Some(awake));
+    wakes_one(rt, actor, Some(awake));
     actor.unlocks(rt);
     reaches(rt, &actor.marks.woke, awake.wrapping_add(1));
 }
@@ -33,7 +33,7 @@ pub(crate) fn signals<R: Abort + Wait>(rt: &R, actor: &mut Actor<'_>, sleepers: 
         wakes_next(rt, actor, awake);
     }
     actor.has_woken(rt, sleepers);
-    wakes(rt, actor, None);
+    wakes_one(rt, actor, None);
     wakes_all(rt, actor, 0);
 }
 
@@ -43,7 +43,7 @@ fn calls_next<R: Abort + Wait>(rt: &R, actor: &mut Actor<'_>, before: u64) {
     reaches(rt, &actor.marks.woke, before);
     reaches(rt, &actor.marks.came, after);
     actor.locks(rt);
-    wakes(rt, actor, Some(before));
+    wakes_one(rt, actor, Some(before));
     actor.marks.told.store(after, SeqCst);
     actor.unlocks(rt);
 }

@@ -4,7 +4,7 @@
 ghost use Rattle.std.specs.Prelude.{◌≡◌, All};
 
 use crate::tables::close_tests::adds_up;
-use crate::tables::given::{Sizes, gives_back, last_seat, new_again};
+use crate::tables::given::{Sizes, gives_back, last_seat, made};
 use crate::tables::seats::posts;
 use sema_table::{Closed, Seat, SemaTable};
 use sema_table_crew::{Way, Work, run};
@@ -51,9 +51,7 @@ fn works<R: Abort + Threads + Wait + Sync>(
     alloc: Global,
     plan: &Plan,
 ) -> Result<Closed, NoMemory> {
-    let Ok((table, mut seats)) = new_again(alloc, &plan.sizes) else {
-        return Err(NoMemory);
-    };
+    let (table, mut seats) = made(rt, alloc, &plan.sizes);
     begins(rt, &table, &mut seats, plan.units);
     assert!(rt; 0 < table.counters());
     run(rt, alloc, table, seats, plan.work, plan.turns)

@@ -1,10 +1,10 @@
 //! Seats that sleep, and how they are woken.
 //!
-//! A test ends with all seats at rest, since one that sleeps can't be let go.
+//! A scene ends with all seats at rest, since one that sleeps can't be let go.
 
 ghost use Rattle.std.specs.Prelude.{◌≡◌, All};
 
-use crate::tables::given::{Sizes, last_seat, made, one_counter, two_seats, wait};
+use crate::tables::given::{last_seat, two_seats, wait};
 use crate::tables::seats::{
     FIFO, HANDOFF, PLAIN, counts, has_value, has_waiters, is_handed, is_still_asleep, is_woken,
     owes, releases, retries, sleeps, sleeps_again, tries, wakes, wakes_up,
@@ -124,7 +124,7 @@ pub(crate) fn two_sleep_and_one_is_handed<R: Abort + Wait>(
 }
 
 /// The first seat sleeps on counter 0, whose root counter 251 has too.
-fn wakes_nobody<R: Abort + Wait>(rt: &R, table: &SemaTable, seats: Vec<Seat>)
+pub(crate) fn wakes_nobody<R: Abort + Wait>(rt: &R, table: &SemaTable, seats: Vec<Seat>)
     requires { All (λ s. s.table ≡ table.now) seats.items }
 {
     let (first, second) = two_seats(rt, table, seats);
@@ -135,14 +135,4 @@ fn wakes_nobody<R: Abort + Wait>(rt: &R, table: &SemaTable, seats: Vec<Seat>)
     has_waiters(rt, table, &mut second, 251, 1);
     releases(rt, table, second, 0, PLAIN, Wake::One(wait(0, 0)));
     wakes_up(rt, table, sleeping);
-}
-
-#[test]
-fn a_release_wakes_nobody_of_another_counter(rt: HostRuntime) {
-    let sizes = Sizes {
-        counters: 252,
-        ..one_counter(0, 2)
-    };
-    let (table, seats) = made(&rt, rt.alloc(), &sizes);
-    wakes_nobody(&rt, &table, seats);
 }
