@@ -58,17 +58,26 @@ fn acts<R: Abort + Wait>(rt: &R, play: Play, actor: Actor<'_>, part: u16) {
     }
 }
 
+/// Makes a thread for the next part: whether there could be one.
+fn hire<'s, E, R: Abort + Threads + Wait + Sync>(
+    rt: &'s R,
+    scope: &'s Scope<'s, E>,
+    play: Play,
+    cast: &mut Cast<'s>,
+) -> bool {
+    let (actor, part) = cast.next(rt);
+    scope.spawn(move || acts(rt, play, actor, part)).is_ok()
+}
+
 /// Makes a thread for each part, as long as there can be one: whether all were made.
 fn hire_all<'s, E, R: Abort + Threads + Wait + Sync>(
     rt: &'s R,
     scope: &'s Scope<'s, E>,
     play: Play,
-    cast: Cast<'s>,
+    cast: &mut Cast<'s>,
 ) -> bool {
-    let mut cast = cast;
     for _ in 0..play.parts() {
-        let (actor, part) = cast.next(rt);
-        if scope.spawn(move || acts(rt, play, actor, part)).is_err() {
+        if !hire(rt, scope, play, cast) {
             return false;
         }
     }
@@ -79,7 +88,8 @@ fn hire_all<'s, E, R: Abort + Threads + Wait + Sync>(
 fn act_all<R: Abort + Threads + Wait + Sync>(rt: &R, cast: Cast<'_>) -> bool {
     let stage = cast.stage;
     thread::scope(thread::scope_env(), rt, move |scope| {
-        let all = hire_all(rt, scope, stage.play, cast);
+        let mut cast = cast;
+        let all = hire_all(rt, scope, stage.play, &mut cast);
         let told = if all { BEGIN } else { GIVE_UP };
         stage.marks.curtain.store(told, SeqCst);
         all

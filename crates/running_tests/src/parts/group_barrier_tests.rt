@@ -23,15 +23,24 @@ struct Doors {
     through: AtomicU64,
 }
 
-/// A worker's part: in each round a member of the first group, and one of the second.
-fn comes_through<R: Abort + Wait>(rt: &R, work: Member<'_>, barrier: Member<'_>, doors: &Doors) {
-    let (mut work, mut barrier) = (work, barrier);
+/// A worker's part in all rounds, in each of which it is a member of both groups.
+fn comes_through_each<R: Abort + Wait>(
+    rt: &R,
+    work: &mut Member<'_>,
+    barrier: &mut Member<'_>,
+    doors: &Doors,
+) {
     for before in 0..ROUNDS {
         reaches(rt, &doors.begun, before + 1);
         work.finishes(rt);
         barrier.answers(rt, Call::Wait, Ok(0));
         doors.through.fetch_add(1, Ordering::SeqCst);
     }
+}
+
+fn comes_through<R: Abort + Wait>(rt: &R, work: Member<'_>, barrier: Member<'_>, doors: &Doors) {
+    let (mut work, mut barrier) = (work, barrier);
+    comes_through_each(rt, &mut work, &mut barrier, doors);
 }
 
 /// Nobody comes through before the last `done` of the barrier.
@@ -75,16 +84,27 @@ fn begin<'s, E, R: Abort + Wait + Sync>(
 }
 
 /// Goes the rounds.
-fn goes_rounds<R: Abort + Wait>(rt: &R, work: Member<'_>, barrier: Member<'_>, doors: &Doors) {
-    let (mut work, mut barrier) = (work, barrier);
+fn goes_rounds<R: Abort + Wait>(
+    rt: &R,
+    work: &mut Member<'_>,
+    barrier: &mut Member<'_>,
+    doors: &Doors,
+) {
     for before in 0..ROUNDS {
-        round(
-            rt,
-            &mut work,
-            &mut barrier,
-            doors,
-            before * u64::from(WORKERS),
-        );
+        round(rt, work, barrier, doors, before * u64::from(WORKERS));
+    }
+}
+
+/// Makes the workers.
+fn begin_all<'s, E, R: Abort + Wait + Sync>(
+    rt: &'s R,
+    scope: &'s Scope<'s, E>,
+    works: &mut Team<'s>,
+    barriers: &mut Team<'s>,
+    doors: &'s Doors,
+) {
+    for _ in 0..WORKERS {
+        begin(rt, scope, works.member(rt), barriers.member(rt), doors);
     }
 }
 
@@ -97,10 +117,9 @@ fn all_come_through<'s, E, R: Abort + Threads + Wait + Sync>(
     doors: &'s Doors,
 ) {
     let (mut works, mut barriers) = (works, barriers);
-    for _ in 0..WORKERS {
-        begin(rt, scope, works.member(rt), barriers.member(rt), doors);
-    }
-    goes_rounds(rt, works.member(rt), barriers.member(rt), doors);
+    begin_all(rt, scope, &mut works, &mut barriers, doors);
+    let (mut work, mut barrier) = (works.member(rt), barriers.member(rt));
+    goes_rounds(rt, &mut work, &mut barrier, doors);
 }
 
 fn come_through<R: Abort + Threads + Wait + Sync>(rt: &R, works: Team<'_>, barriers: Team<'_>) {

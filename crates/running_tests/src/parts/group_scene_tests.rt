@@ -1,6 +1,6 @@
 //! What is played around a wait group by threads.
 
-use crate::parts::group_given::{Team, made};
+use crate::parts::group_given::{Member, Team, made};
 use crate::parts::group_races::{begins_anew, races};
 use crate::parts::group_threads::{flags_are_seen, forks_and_joins};
 use std::alloc::Global;
@@ -46,11 +46,25 @@ impl Scene {
         team: Team<'s>,
         flags: &'s Flags,
     ) {
+        let mut team = team;
+        let mut first = team.member(rt);
+        self.plays_with(rt, scope, &mut first, &mut team, flags);
+    }
+
+    /// The scene with its first member.
+    fn plays_with<'s, E, R: Abort + Threads + Wait + Sync>(
+        self,
+        rt: &'s R,
+        scope: &'s Scope<'s, E>,
+        first: &mut Member<'s>,
+        team: &mut Team<'s>,
+        flags: &'s Flags,
+    ) {
         match self {
-            Scene::Race => races(rt, scope, team),
-            Scene::Anew => begins_anew(rt, scope, team),
-            Scene::Fork => forks_and_joins(rt, scope, team, &flags.left),
-            Scene::Flags => flags_are_seen(rt, scope, team, flags),
+            Scene::Race => races(rt, scope, first, team),
+            Scene::Anew => begins_anew(rt, scope, first, team),
+            Scene::Fork => forks_and_joins(rt, scope, first, team, &flags.left),
+            Scene::Flags => flags_are_seen(rt, scope, first, team, flags),
         }
     }
 }
