@@ -4,7 +4,6 @@ ghost use Rattle.std.specs.Prelude.{◌≡◌, ◌<◌, length};
 ghost use Rattle.std.specs.Option.{ForSome};
 
 use crate::parts::play::Play;
-use crate::tables::given::holds;
 use sema_table::{Seat, SemaTable};
 use std::process::Abort;
 use std::sync::Wait;
@@ -114,11 +113,6 @@ impl<'t> Actor<'t> {
         let (own, _) = self.cond.wait(rt, own, &mut self.lock);
         self.marks.woke.fetch_add(1, SeqCst);
         self.own = Some(own);
-    }
-
-    /// So many have come back.
-    pub(crate) fn has_woken(&self, rt: &impl Abort, times: u64) {
-        holds(rt, self.marks.woke.load(SeqCst) == times);
     }
 
     /// Signals: the ticket that was granted.

@@ -58,17 +58,6 @@ fn acts<R: Abort + Wait>(rt: &R, play: Play, actor: Actor<'_>, part: u16) {
     }
 }
 
-/// Makes a thread for the next part: whether there could be one.
-fn hire<'s, E, R: Abort + Threads + Wait + Sync>(
-    rt: &'s R,
-    scope: &'s Scope<'s, E>,
-    play: Play,
-    cast: &mut Cast<'s>,
-) -> bool {
-    let (actor, part) = cast.next(rt);
-    scope.spawn(move || acts(rt, play, actor, part)).is_ok()
-}
-
 /// Makes a thread for each part, as long as there can be one: whether all were made.
 fn hire_all<'s, E, R: Abort + Threads + Wait + Sync>(
     rt: &'s R,
@@ -77,7 +66,8 @@ fn hire_all<'s, E, R: Abort + Threads + Wait + Sync>(
     cast: &mut Cast<'s>,
 ) -> bool {
     for _ in 0..play.parts() {
-        if !hire(rt, scope, play, cast) {
+        let (actor, part) = cast.next(rt);
+        if scope.spawn(move || acts(rt, play, actor, part)).is_err() {
             return false;
         }
     }
@@ -123,20 +113,6 @@ fn perform_on<R: Abort + Threads + Wait + Sync>(
     }
 }
 
-/// The play, over a table for its lock.
-fn perform_over<R: Abort + Threads + Wait + Sync>(
-    rt: &R,
-    alloc: Global,
-    play: Play,
-    table: &SemaTable,
-    seats: Vec<Seat>,
-) -> Result<Sums, NoMemory>
-    requires { All (λ s. s.table ≡ table.now) seats.items }
-{
-    let (cond, owns) = cond_given::made(rt, alloc, play.parts());
-    perform_on(rt, play, table, &cond, seats, owns)
-}
-
 /// The whole play: what all have come to. It is an `Err` where a thread can't be made: then nobody has played.
 fn perform<R: Abort + Threads + Wait + Sync>(
     rt: &R,
@@ -149,7 +125,8 @@ fn perform<R: Abort + Threads + Wait + Sync>(
         ..one_counter(1, play.parts())
     };
     let (table, seats) = made(rt, alloc, &sizes);
-    perform_over(rt, alloc, play, &table, seats)
+    let (cond, owns) = cond_given::made(rt, alloc, play.parts());
+    perform_on(rt, play, &table, &cond, seats, owns)
 }
 
 /// The same, once more where a thread was refused.

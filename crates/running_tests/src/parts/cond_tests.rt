@@ -27,20 +27,16 @@ static PLAYS: [Row; 6] = [
     (Play::UntilDone, 100, 4, 7),
 ];
 
-/// The play of this row, where it is played in this round. The lock is unlocked as often as it was locked.
-fn plays<R: Abort + Threads + Wait + Sync>(rt: &R, alloc: Global, row: &Row, round: u32) {
-    let (play, rounds, least, most) = *row;
-    if round < rounds {
-        let (locked, unlocked) = perform_again(rt, alloc, play).expect(rt, "memory and threads");
-        holds(rt, unlocked == locked);
-        holds(rt, least <= locked && locked <= most);
-    }
-}
-
-/// One round of all plays.
-fn plays_all<R: Abort + Threads + Wait + Sync>(rt: &R, alloc: Global, round: u32) {
+/// Each play that is played in this round. The lock is unlocked as often as it was locked.
+fn plays<R: Abort + Threads + Wait + Sync>(rt: &R, alloc: Global, round: u32) {
     for row in &PLAYS {
-        plays(rt, alloc, row, round);
+        let (play, rounds, least, most) = *row;
+        if round < rounds {
+            let played = perform_again(rt, alloc, play);
+            let (locked, unlocked) = played.expect(rt, "memory and threads");
+            holds(rt, unlocked == locked);
+            holds(rt, least <= locked && locked <= most);
+        }
     }
 }
 
@@ -48,6 +44,6 @@ fn plays_all<R: Abort + Threads + Wait + Sync>(rt: &R, alloc: Global, round: u32
 fn who_waits_is_woken(rt: HostRuntime) {
     // round after round, so that the first allocations are those of each play
     for round in 0..100 {
-        plays_all(&rt, rt.alloc(), round);
+        plays(&rt, rt.alloc(), round);
     }
 }

@@ -23,24 +23,15 @@ struct Doors {
     through: AtomicU64,
 }
 
-/// A worker's part in all rounds, in each of which it is a member of both groups.
-fn comes_through_each<R: Abort + Wait>(
-    rt: &R,
-    work: &mut Member<'_>,
-    barrier: &mut Member<'_>,
-    doors: &Doors,
-) {
+/// A worker's part: in each round a member of the first group, and one of the second.
+fn comes_through<R: Abort + Wait>(rt: &R, work: Member<'_>, barrier: Member<'_>, doors: &Doors) {
+    let (mut work, mut barrier) = (work, barrier);
     for before in 0..ROUNDS {
         reaches(rt, &doors.begun, before + 1);
         work.finishes(rt);
         barrier.answers(rt, Call::Wait, Ok(0));
         doors.through.fetch_add(1, Ordering::SeqCst);
     }
-}
-
-fn comes_through<R: Abort + Wait>(rt: &R, work: Member<'_>, barrier: Member<'_>, doors: &Doors) {
-    let (mut work, mut barrier) = (work, barrier);
-    comes_through_each(rt, &mut work, &mut barrier, doors);
 }
 
 /// Nobody comes through before the last `done` of the barrier.
@@ -132,17 +123,13 @@ fn come_through<R: Abort + Threads + Wait + Sync>(rt: &R, works: Team<'_>, barri
     });
 }
 
-fn barriers<R: Abort + Threads + Wait + Sync>(rt: &R, alloc: Global, works: Team<'_>) {
-    let (barrier, seats) = made(rt, alloc, WORKERS + 1);
-    come_through(rt, works, Team::new(&barrier, seats));
-}
-
-fn groups<R: Abort + Threads + Wait + Sync>(rt: &R, alloc: Global) {
+fn come_through_groups<R: Abort + Threads + Wait + Sync>(rt: &R, alloc: Global) {
     let (work, seats) = made(rt, alloc, WORKERS + 1);
-    barriers(rt, alloc, Team::new(&work, seats));
+    let (barrier, others) = made(rt, alloc, WORKERS + 1);
+    come_through(rt, Team::new(&work, seats), Team::new(&barrier, others));
 }
 
 #[test]
 fn sixteen_wait_at_a_barrier(rt: HostRuntime) {
-    groups(&rt, rt.alloc());
+    come_through_groups(&rt, rt.alloc());
 }

@@ -43,19 +43,6 @@ impl Scene {
         self,
         rt: &'s R,
         scope: &'s Scope<'s, E>,
-        team: Team<'s>,
-        flags: &'s Flags,
-    ) {
-        let mut team = team;
-        let mut first = team.member(rt);
-        self.plays_with(rt, scope, &mut first, &mut team, flags);
-    }
-
-    /// The scene with its first member.
-    fn plays_with<'s, E, R: Abort + Threads + Wait + Sync>(
-        self,
-        rt: &'s R,
-        scope: &'s Scope<'s, E>,
         first: &mut Member<'s>,
         team: &mut Team<'s>,
         flags: &'s Flags,
@@ -70,11 +57,11 @@ impl Scene {
 }
 
 fn in_scope<R: Abort + Threads + Wait + Sync>(rt: &R, scene: Scene, team: Team<'_>, flags: &Flags) {
-    thread::scope(
-        thread::scope_env(),
-        rt,
-        move |scope| scene.plays(rt, scope, team, flags),
-    );
+    thread::scope(thread::scope_env(), rt, move |scope| {
+        let mut team = team;
+        let mut first = team.member(rt);
+        scene.plays(rt, scope, &mut first, &mut team, flags);
+    });
 }
 
 /// Scenes, and how often each is played.

@@ -103,21 +103,15 @@ fn a_locker_signals_as_it_is_unlocked(rt: HostRuntime) {
 }
 
 /// The lock over a counter is a locker too.
-fn locks_and_unlocks<R: Abort + Wait>(rt: &R, lock: &mut SemaLock<'_>, own: &ListSeat) {
-    assert!(rt; !lock.held());
-    lock.lock(rt, own);
-    assert!(rt; lock.held() && lock.left() > 0);
-    lock.release(rt);
-    holds(rt, !lock.held());
-    holds(rt, lock.left() == 9);
-}
-
-/// A seat of the table locks by it.
 fn is_a_locker<R: Abort + Wait>(rt: &R, table: &SemaTable, seat: Seat, own: &ListSeat)
     requires { (seat.table ≡ table.now) × (0 < length table.now.setting.starts) }
 {
     let mut lock = SemaLock::over(table, seat, CounterId::new(0));
-    locks_and_unlocks(rt, &mut lock, own);
+    assert!(rt; !lock.held());
+    lock.lock(rt, own);
+    assert!(rt; lock.held() && lock.left() > 0);
+    lock.release(rt);
+    holds(rt, lock.left() == 9);
     assert!(rt; !lock.held());
     holds(rt, lock.into_seat().taken() == 1);
 }

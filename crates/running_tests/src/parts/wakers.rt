@@ -7,67 +7,31 @@ use std::process::Abort;
 use std::sync::Wait;
 use std::sync::atomic::Ordering::SeqCst;
 
-/// Signals once: the ticket that is granted.
-fn wakes_one<R: Abort + Wait>(rt: &R, actor: &mut Actor<'_>, expected: Option<u64>) {
-    holds(rt, actor.signals(rt) == expected);
-}
-
-/// Broadcasts once: how many tickets are granted.
-fn wakes_all<R: Abort + Wait>(rt: &R, actor: &mut Actor<'_>, expected: u32) {
-    holds(rt, actor.broadcasts(rt) == expected);
-}
-
-/// Wakes the next one, after so many are awake.
-fn wakes_next<R: Abort + Wait>(rt: &R, actor: &mut Actor<'_>, awake: u64) {
-    actor.locks(rt);
-    actor.has_woken(rt, awake);
-    wakes_one(rt, actor, Some(awake));
-    actor.unlocks(rt);
-    reaches(rt, &actor.marks.woke, awake.wrapping_add(1));
-}
-
 /// Signals so many times, once as many wait: each wakes one, and one more nobody.
 pub(crate) fn signals<R: Abort + Wait>(rt: &R, actor: &mut Actor<'_>, sleepers: u64) {
     reaches(rt, &actor.marks.came, sleepers);
     for awake in 0..sleepers {
-        wakes_next(rt, actor, awake);
+        actor.locks(rt);
+        holds(rt, actor.marks.woke.load(SeqCst) == awake);
+        holds(rt, actor.signals(rt) == Some(awake));
+        actor.unlocks(rt);
+        reaches(rt, &actor.marks.woke, awake + 1);
     }
-    actor.has_woken(rt, sleepers);
-    wakes_one(rt, actor, None);
-    wakes_all(rt, actor, 0);
-}
-
-/// Signals to the one who waits after so many are back; then the next may come.
-fn calls_next<R: Abort + Wait>(rt: &R, actor: &mut Actor<'_>, before: u64) {
-    let after = before.wrapping_add(1);
-    reaches(rt, &actor.marks.woke, before);
-    reaches(rt, &actor.marks.came, after);
-    actor.locks(rt);
-    wakes_one(rt, actor, Some(before));
-    actor.marks.told.store(after, SeqCst);
-    actor.unlocks(rt);
+    holds(rt, actor.marks.woke.load(SeqCst) == sleepers);
+    holds(rt, actor.signals(rt) == None);
+    holds(rt, actor.broadcasts(rt) == 0);
 }
 
 /// Signals to each of so many once it waits; then the next may come.
 pub(crate) fn signals_in_turn<R: Abort + Wait>(rt: &R, actor: &mut Actor<'_>, sleepers: u64) {
     for before in 0..sleepers {
-        calls_next(rt, actor, before);
+        reaches(rt, &actor.marks.woke, before);
+        reaches(rt, &actor.marks.came, before + 1);
+        actor.locks(rt);
+        holds(rt, actor.signals(rt) == Some(before));
+        actor.marks.told.store(before + 1, SeqCst);
+        actor.unlocks(rt);
     }
-}
-
-/// Broadcasts once so many wait, of whom so many are awake, and wakes so many.
-fn wakes_together<R: Abort + Wait>(
-    rt: &R,
-    actor: &mut Actor<'_>,
-    all: u64,
-    before: u64,
-    sleepers: u32,
-) {
-    reaches(rt, &actor.marks.came, all);
-    actor.locks(rt);
-    actor.has_woken(rt, before);
-    wakes_all(rt, actor, sleepers);
-    actor.unlocks(rt);
 }
 
 /// Broadcasts so many times, each time once so many wait, and wakes them all.
@@ -80,7 +44,11 @@ pub(crate) fn broadcasts<R: Abort + Wait>(
     let mut before = 0_u64;
     for _ in 0..times {
         let all = before.wrapping_add(u64::from(sleepers));
-        wakes_together(rt, actor, all, before, sleepers);
+        reaches(rt, &actor.marks.came, all);
+        actor.locks(rt);
+        holds(rt, actor.marks.woke.load(SeqCst) == before);
+        holds(rt, actor.broadcasts(rt) == sleepers);
+        actor.unlocks(rt);
         before = all;
     }
 }

@@ -3,7 +3,7 @@
 //! A call that answers want of memory is made once more. So each test passes whichever single allocation is
 //! refused (`rt try --test --fail-alloc N`, for each N), and shows that a refused call can be made again.
 
-use crate::roots::given::{holds, is_written_again};
+use crate::roots::given::{has_text, holds};
 use std::alloc::Global;
 use std::process::Abort;
 use waiters::{CounterId, ListKey, Lists, NoMemory, SeatId, Wait, WaitId};
@@ -15,10 +15,10 @@ fn numbers_are_written(rt: HostRuntime) {
         seat: SeatId::new(0),
         turn: 1,
     };
-    holds(&rt, is_written_again(alloc, &wait, "0.1"));
+    has_text(&rt, alloc, &wait, "0.1");
     let counter = CounterId::new(4294967295);
-    holds(&rt, is_written_again(alloc, &counter, "4294967295"));
-    holds(&rt, is_written_again(alloc, &NoMemory, "no memory"));
+    has_text(&rt, alloc, &counter, "4294967295");
+    has_text(&rt, alloc, &NoMemory, "no memory");
 }
 
 fn wait(seat: u16, ticket: u64) -> Wait {
