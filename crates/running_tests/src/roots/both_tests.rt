@@ -139,12 +139,6 @@ fn a_sorted_root_answers_as_written(rt: HostRuntime) {
     exercise(&rt, rt.alloc(), &mut root);
 }
 
-#[test]
-fn a_treap_root_answers_as_written(rt: HostRuntime) {
-    let mut root = treap(&rt, rt.alloc(), 4, 1);
-    exercise(&rt, rt.alloc(), &mut root);
-}
-
 /// How many of the counters are met, of which so many were met before: those of the nodes below this one have
 /// to be the next ones, left to right, in so many levels at most.
 fn walk(
@@ -229,12 +223,6 @@ fn places(rt: &impl Abort, root: &mut TreapRoot) {
     comes_first(rt, root, 7, 2);
 }
 
-#[test]
-fn places_are_in_the_order_of_counters(rt: HostRuntime) {
-    let mut root = treap(&rt, rt.alloc(), 4, 1);
-    places(&rt, &mut root);
-}
-
 /// A wait comes in at both roots, on one counter, whose places are then the same.
 fn queue_both(rt: &impl Abort, root: &mut TreapRoot, copy: &mut TreapRoot, number: u32, seat: u16) {
     queue(root, number, seat, false);
@@ -277,12 +265,6 @@ fn copy_goes_on(rt: &impl Abort, root: &mut TreapRoot) {
     copy_answers(rt, root, &mut copy);
 }
 
-#[test]
-fn a_copy_draws_the_same_tickets(rt: HostRuntime) {
-    let mut root = treap(&rt, rt.alloc(), 4, 1);
-    copy_goes_on(&rt, &mut root);
-}
-
 const OF_ONE: [Call; 3] = [
     Call::Queue(5, 0, false),
     Call::Queue(3, 1, false),
@@ -306,12 +288,6 @@ fn copy_over_another(rt: &impl Abort, root: &mut TreapRoot, over: &mut TreapRoot
     queue_all(rt, root, over, &[(9, 2), (5, 3), (7, 4)], 2);
 }
 
-#[test]
-fn a_copy_over_another_root_takes_no_memory(rt: HostRuntime) {
-    let mut root = treap(&rt, rt.alloc(), 4, 1);
-    copy_over_another(&rt, &mut root, &mut treap(&rt, rt.alloc(), 4, 2));
-}
-
 /// The root becomes as the other is, at the second time where memory was refused.
 fn becomes_larger(rt: &impl Abort, root: &mut TreapRoot, over: &mut TreapRoot) {
     queue(root, 5, 0, false);
@@ -323,8 +299,46 @@ fn becomes_larger(rt: &impl Abort, root: &mut TreapRoot, over: &mut TreapRoot) {
     holds(rt, !over.is_full());
 }
 
+/// What a treap does.
+#[derive(Clone, Copy, Drop)]
+enum Scene {
+    Answers,
+    /// Its places are in the order of counters.
+    HasPlaces,
+    /// A copy draws the same tickets.
+    Copied,
+    /// A copy over another root takes no memory.
+    CopiedOverAnother,
+    /// A copy over a smaller root takes memory.
+    CopiedOverSmaller,
+}
+
+/// The scene with a new treap.
+fn plays(rt: &impl Abort, alloc: Global, scene: Scene) {
+    let mut root = treap(rt, alloc, 4, 1);
+    match scene {
+        Scene::Answers => exercise(rt, alloc, &mut root),
+        Scene::HasPlaces => places(rt, &mut root),
+        Scene::Copied => copy_goes_on(rt, &mut root),
+        Scene::CopiedOverAnother => {
+            copy_over_another(rt, &mut root, &mut treap(rt, alloc, 4, 2));
+        }
+        Scene::CopiedOverSmaller => {
+            becomes_larger(rt, &mut root, &mut treap(rt, alloc, 0, 2));
+        }
+    }
+}
+
 #[test]
-fn a_copy_over_a_smaller_root_takes_memory(rt: HostRuntime) {
-    let mut root = treap(&rt, rt.alloc(), 4, 1);
-    becomes_larger(&rt, &mut root, &mut treap(&rt, rt.alloc(), 0, 2));
+fn a_treap_root_and_its_copies_answer_as_written(rt: HostRuntime) {
+    let scenes = [
+        Scene::Answers,
+        Scene::HasPlaces,
+        Scene::Copied,
+        Scene::CopiedOverAnother,
+        Scene::CopiedOverSmaller,
+    ];
+    for scene in scenes {
+        plays(&rt, rt.alloc(), scene);
+    }
 }
