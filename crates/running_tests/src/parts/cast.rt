@@ -63,8 +63,9 @@ fn hire_all<'s, E, R: Abort + Threads + Wait + Sync>(
     rt: &'s R,
     scope: &'s Scope<'s, E>,
     play: Play,
-    cast: &mut Cast<'s>,
+    cast: Cast<'s>,
 ) -> bool {
+    let mut cast = cast;
     for _ in 0..play.parts() {
         let (actor, part) = cast.next(rt);
         if scope.spawn(move || acts(rt, play, actor, part)).is_err() {
@@ -78,8 +79,7 @@ fn hire_all<'s, E, R: Abort + Threads + Wait + Sync>(
 fn act_all<R: Abort + Threads + Wait + Sync>(rt: &R, cast: Cast<'_>) -> bool {
     let stage = cast.stage;
     thread::scope(thread::scope_env(), rt, move |scope| {
-        let mut cast = cast;
-        let all = hire_all(rt, scope, stage.play, &mut cast);
+        let all = hire_all(rt, scope, stage.play, cast);
         let told = if all { BEGIN } else { GIVE_UP };
         stage.marks.curtain.store(told, SeqCst);
         all

@@ -1,6 +1,6 @@
 //! What is played around a wait group by threads.
 
-use crate::parts::group_given::{Member, Team, made};
+use crate::parts::group_given::{Team, made};
 use crate::parts::group_races::{begins_anew, races};
 use crate::parts::group_threads::{flags_are_seen, forks_and_joins};
 use std::alloc::Global;
@@ -43,25 +43,26 @@ impl Scene {
         self,
         rt: &'s R,
         scope: &'s Scope<'s, E>,
-        first: &mut Member<'s>,
-        team: &mut Team<'s>,
+        team: Team<'s>,
         flags: &'s Flags,
     ) {
+        let mut team = team;
+        let mut first = team.member(rt);
         match self {
-            Scene::Race => races(rt, scope, first, team),
-            Scene::Anew => begins_anew(rt, scope, first, team),
-            Scene::Fork => forks_and_joins(rt, scope, first, team, &flags.left),
-            Scene::Flags => flags_are_seen(rt, scope, first, team, flags),
+            Scene::Race => races(rt, scope, &mut first, &mut team),
+            Scene::Anew => begins_anew(rt, scope, &mut first, &mut team),
+            Scene::Fork => forks_and_joins(rt, scope, &mut first, &mut team, &flags.left),
+            Scene::Flags => flags_are_seen(rt, scope, &mut first, &mut team, flags),
         }
     }
 }
 
 fn in_scope<R: Abort + Threads + Wait + Sync>(rt: &R, scene: Scene, team: Team<'_>, flags: &Flags) {
-    thread::scope(thread::scope_env(), rt, move |scope| {
-        let mut team = team;
-        let mut first = team.member(rt);
-        scene.plays(rt, scope, &mut first, &mut team, flags);
-    });
+    thread::scope(
+        thread::scope_env(),
+        rt,
+        move |scope| scene.plays(rt, scope, team, flags),
+    );
 }
 
 /// Scenes, and how often each is played.
