@@ -190,7 +190,7 @@ module _ (k : Setting) (m : Me) (i : ℕ) (a : ListSeat) (is : m.0.own.knows.sig
 
 -- what is owed for a store that gives the lock back
 abbrev pub GivesBack : Setting → Me → Type 0
-GivesBack k m = Owes list_rows k m 2 (λ n. 0) (λ n t. strides.gives list_rows (step 0 2 0 0 none) m 0 t)
+GivesBack k m = Owes list_rows k m 2 (λ n. 0) (λ n t. strides.runs_unlock list_rows (step 0 2 0 0 none) m 0 t)
 
 -- a store of 0 on the lock word, which the seat holds
 module _ (k : Setting) (m : Me) (a : ListSeat) (is : m.0.own.knows.sight.stands ≡ a) (y : Record)
@@ -201,7 +201,7 @@ module _ (k : Setting) (m : Me) (a : ListSeat) (is : m.0.own.knows.sight.stands 
   with_it = (m.0, (0, y) ∷ [])
 
   gives_it : (world : ListWorld) (words : List ℕ) (homes : Homes) → Stands list_rows m.0.own.knows.setting m.0.own world words homes 2
-      → Leads list_rows m.0.own.knows.setting with_it world words homes 2 0 (λ t. strides.gives list_rows (step 0 2 0 0 none) with_it 0 t)
+      → Leads list_rows m.0.own.knows.setting with_it world words homes 2 0 (λ t. strides.runs_unlock list_rows (step 0 2 0 0 none) with_it 0 t)
   gives_it world words homes at =
       let ok : Begins m.0.own.knows.sight.stands a = subst (Begins m.0.own.knows.sight.stands) is stands in
       let w : ListWorld = b with_it world words homes 2 at a ok in
@@ -212,7 +212,7 @@ module _ (k : Setting) (m : Me) (a : ListSeat) (is : m.0.own.knows.sight.stands 
       let one : slice_index words 2 ≡ 1 = at.shows.words Lock tt ∙ lock in
       let fits = subst (λ n. Fits m.0.own.knows.setting (event_of w m.0.own.number) 2 n 0) (sym one) G.fits in
       let found_is : finds w m.0.own.number ≡ 1 = sym (read_is with_it world words homes 2 at a ok 0 fits) ∙ one in
-      leads with_it world words homes 2 at a ok 0 fits gives (λ t. strides.gives list_rows (step 0 2 0 0 none) with_it 0 t) tt
+      leads with_it world words homes 2 at a ok 0 fits gives (λ t. strides.runs_unlock list_rows (step 0 2 0 0 none) with_it 0 t) tt
       (length-set homes 0 (some y) ∙ at.shows.deep)
       (λ free. (
         y,
@@ -227,5 +227,5 @@ module _ (k : Setting) (m : Me) (a : ListSeat) (is : m.0.own.knows.sight.stands 
       )
 
   pub gives_at : GivesBack k m
-  gives_at = owes_own list_rows k m 2 (λ n. 0) (λ n t. strides.gives list_rows (step 0 2 0 0 none) m 0 t)
+  gives_at = owes_own list_rows k m 2 (λ n. 0) (λ n t. strides.runs_unlock list_rows (step 0 2 0 0 none) m 0 t)
       (subst (λ (c : List (ℕ × Record)). GivesBack m.0.own.knows.setting (m.0, c)) (sym carried) gives_it)

@@ -2,6 +2,7 @@
 
 mod actor;
 mod cast;
+mod cond_given;
 mod cond_limit_tests;
 mod cond_tests;
 mod group_barrier_tests;

@@ -3,6 +3,7 @@
 ghost use Rattle.std.specs.Prelude.{◌≡◌, ◌<◌, length};
 
 use crate::copies::mutex_tests::last_seat;
+use crate::tables::given::holds;
 use examples::are_both_held;
 use sema_table::{Seat, SemaTable, Settings};
 use std::alloc::{AllocError, Global};
@@ -38,7 +39,7 @@ fn lock_in_turn<R: Abort + Wait>(
     one.acquire(rt);
     assert!(rt; one.left() == 10);
     one.release(rt);
-    assert!(rt; one.left() == 9);
+    holds(rt, one.left() == 9);
     other.acquire(rt);
     one.meet(&mut other);
     assert!(rt; !one.held() && other.held());
@@ -49,17 +50,17 @@ fn lock_in_turn<R: Abort + Wait>(
 
 #[test]
 fn of_two_locks_that_meet_one_is_held(rt: HostRuntime) -> Result<(), Fail> {
+    let mut all = Vec::with_capacity(rt.alloc(), 2)?;
     let (table, mut seats) = SemaTable::new(rt.alloc(), settings(rt.alloc(), 1)?)?;
     assert!(rt; table.counters() == 1 && table.seats() == 2);
     let second = last_seat(&rt, &table, &mut seats);
     let first = last_seat(&rt, &table, &mut seats);
-    let mut all = Vec::with_capacity(rt.alloc(), 2)?;
     let (first, second) = lock_in_turn(&rt, &table, first, second);
     all.push_reserved(first);
     all.push_reserved(second);
     let closed = table.close(all);
-    assert!(rt; closed.value(CounterId::new(0)) == 1);
-    assert!(rt; closed.releases() == 2 && closed.acquires() == 2);
+    holds(&rt, closed.value(CounterId::new(0)) == 1);
+    holds(&rt, closed.releases() == 2 && closed.acquires() == 2);
     Ok(())
 }
 
@@ -70,12 +71,12 @@ fn lock_both<R: Abort + Wait>(rt: &R, table: &SemaTable, first: Seat, second: Se
 {
     let mut one = SemaLock::over(table, first, CounterId::new(0));
     let mut other = SemaLock::over(table, second, CounterId::new(0));
-    assert!(rt; !are_both_held(&mut one, &mut other));
+    holds(rt, !are_both_held(&mut one, &mut other));
     one.acquire(rt);
-    assert!(rt; !are_both_held(&mut one, &mut other));
+    holds(rt, !are_both_held(&mut one, &mut other));
     assert!(rt; !other.held());
     other.acquire(rt);
-    assert!(rt; are_both_held(&mut one, &mut other));
+    holds(rt, are_both_held(&mut one, &mut other));
 }
 
 #[test]

@@ -2,6 +2,7 @@
 
 ghost use Rattle.std.specs.Prelude.{◌≡◌, ◌<◌, length, All};
 
+use crate::tables::given::holds;
 use examples::add_many;
 use sema_table::{Seat, SemaTable, Settings};
 use std::alloc::{AllocError, Global};
@@ -96,11 +97,11 @@ fn adds_up_to_the_limit<R: Abort + Wait>(rt: &R, table: &SemaTable, seat: Seat)
 {
     let number = AtomicU64::new(0);
     let seat = add_many(rt, table, seat, &number, 3);
-    assert!(rt; seat.left() == 7 && seat.taken() == 3);
-    assert!(rt; number.load(SeqCst) == 3);
+    holds(rt, seat.left() == 7 && seat.taken() == 3);
+    holds(rt, number.load(SeqCst) == 3);
     let seat = add_many(rt, table, seat, &number, 20);
-    assert!(rt; seat.left() == 0 && seat.taken() == 10);
-    assert!(rt; number.load(SeqCst) == 10);
+    holds(rt, seat.left() == 0 && seat.taken() == 10);
+    holds(rt, number.load(SeqCst) == 10);
 }
 
 #[test]

@@ -16,7 +16,7 @@ use std::sync::atomic::AtomicU64;
 use std::sync::atomic::Ordering::SeqCst;
 use std::test::Fail;
 use std::thread;
-use std::thread::Threads;
+use std::thread::{Scope, Threads};
 use waiters::NoMemory;
 
 const ITEMS: u32 = 500;
@@ -93,6 +93,22 @@ fn enters(rt: &impl Abort, queue: &BoundedQueue, tally: &mut Tally, seats: &mut 
     queue.enter(tally, seat)
 }
 
+/// Whether there could be a thread that puts all items from this one on.
+fn hire<'s, E, R: Threads + Wait + Sync>(
+    scope: &'s Scope<'s, E>,
+    rt: &'s R,
+    queue: &'s BoundedQueue,
+    told: &'s AtomicU64,
+    worker: Worker,
+    first: u32,
+) -> bool
+    requires { IsOf queue.now worker }
+{
+    scope
+        .spawn(move || put_all(rt, queue, told, worker, first))
+        .is_ok()
+}
+
 /// Two workers put all items, and what two others took comes back.
 fn move_all<R: Abort + Threads + Wait + Sync>(
     rt: &R,
@@ -119,12 +135,9 @@ fn move_all<R: Abort + Threads + Wait + Sync>(
             requires puts { IsOf queue.now first × IsOf queue.now second }
             requires takes { IsOf queue.now third × IsOf queue.now fourth }
         {
-            let putting = scope
-                .spawn(move || put_all(rt, queue, told, first, 0))
-                .is_ok()
-                && scope
-                    .spawn(move || put_all(rt, queue, told, second, ITEMS))
-                    .is_ok();
+            let one_puts = hire(scope, rt, queue, told, first, 0);
+            let other_puts = hire(scope, rt, queue, told, second, ITEMS);
+            let putting = one_puts && other_puts;
             let taking = scope.spawn(move || take_all(rt, queue, told, third, one));
             let Ok(taking) = taking else {
                 told.store(GIVE_UP, SeqCst);
@@ -153,11 +166,11 @@ fn marks(rt: &impl Abort, seen: &mut [bool], items: &[u32]) {
 
 #[test]
 fn each_item_arrives_once(rt: HostRuntime) -> Result<(), Fail> {
-    let (queue, seats, mut tally) = BoundedQueue::new(rt.alloc(), 2, 4)?;
     let into = (
         Vec::with_capacity(rt.alloc(), ITEMS as usize)?,
         Vec::with_capacity(rt.alloc(), ITEMS as usize)?,
     );
+    let (queue, seats, mut tally) = BoundedQueue::new(rt.alloc(), 2, 4)?;
     let (one, other) = move_all(&rt, &queue, &mut tally, seats, into)?;
     let mut seen = [false; 1_000];
     marks(&rt, &mut seen, one.as_slice());

@@ -50,28 +50,8 @@ fn awaits<R: Wait>(rt: &R, number: &AtomicU64, wanted: u64) -> bool {
     told
 }
 
-/// Takes this ticket, goes to wait with it after those behind it, and comes back after those before it.
-fn waits_with<R: Abort + Wait>(
-    rt: &R,
-    list: &NotifyList,
-    seat: ListSeat,
-    turns: &Turns,
-    ticket: u64,
-)
-    requires { seat.list ≡ list.now }
-{
-    let holding = adds(rt, list, seat, ticket);
-    turns.taken.store(ticket.wrapping_add(1), SeqCst);
-    let _ = awaits(rt, &turns.gone, 2_u64.wrapping_sub(ticket));
-    turns.gone.store(3_u64.wrapping_sub(ticket), SeqCst);
-    let _ = list.wait(rt, holding);
-    holds(
-        rt,
-        turns.back.swap(ticket.wrapping_add(1), SeqCst) == ticket,
-    );
-}
-
-/// The same with this ticket, of three, after those before it are taken.
+/// Takes this ticket, of three, after those before it, goes to wait with it after those behind it, and comes
+/// back after those before it.
 fn waits_in_turn<R: Abort + Wait>(
     rt: &R,
     list: &NotifyList,
@@ -82,7 +62,15 @@ fn waits_in_turn<R: Abort + Wait>(
     requires { seat.list ≡ list.now }
 {
     if awaits(rt, &turns.taken, ticket) {
-        waits_with(rt, list, seat, turns, ticket);
+        let holding = adds(rt, list, seat, ticket);
+        turns.taken.store(ticket.wrapping_add(1), SeqCst);
+        let _ = awaits(rt, &turns.gone, 2_u64.wrapping_sub(ticket));
+        turns.gone.store(3_u64.wrapping_sub(ticket), SeqCst);
+        let _ = list.wait(rt, holding);
+        holds(
+            rt,
+            turns.back.swap(ticket.wrapping_add(1), SeqCst) == ticket,
+        );
     }
 }
 

@@ -59,31 +59,38 @@ fn granted_while_it_waits<R: Threads + Wait + Copy + Send + 'static>(
 /// One waits with a ticket that was taken before both began, and the other grants all: one ticket.
 fn one_wakes<R: Abort + Threads + Wait + Copy + Send + 'static>(
     rt: R,
-    alloc: Global,
-    list: NotifyList,
-    seats: &mut Vec<ListSeat>,
+    list: &Arc<NotifyList, Global>,
+    first: ListSeat,
+    second: ListSeat,
 ) -> Result<(), AllocError>
-    requires { All (λ s. s.list ≡ list) seats.old.items }
+    requires { (first.list ≡ arc_value list.now) × (second.list ≡ arc_value list.now) }
 {
-    let second = last_seat(&rt, &list, seats);
-    let first = last_seat(&rt, &list, seats);
-    let list = Arc::new(alloc, list)?;
-    let notifier = notifier_of(&list, second)?;
-    let holding = adds(&rt, &*list, first, 0);
+    let notifier = notifier_of(list, second)?;
+    let holding = adds(&rt, &**list, first, 0);
     holds(
         &rt,
-        granted_while_it_waits(rt, &*list, holding, notifier) == 1,
+        granted_while_it_waits(rt, &**list, holding, notifier) == 1,
     );
     Ok(())
 }
 
+/// The same in a new list.
+fn one_wakes_in_a_list<R: Abort + Threads + Wait + Copy + Send + 'static>(
+    rt: R,
+    alloc: Global,
+) -> Result<(), AllocError> {
+    let (list, mut seats) = made(&rt, alloc, 0, 2);
+    let second = last_seat(&rt, &list, &mut seats);
+    let first = last_seat(&rt, &list, &mut seats);
+    let list = Arc::new(alloc, list)?;
+    one_wakes(rt, &list, first, second)
+}
+
 #[test]
 fn a_broadcast_wakes_who_took_a_ticket_before(rt: HostRuntime) {
-    let (list, mut seats) = made(&rt, rt.alloc(), 0, 2);
-    if one_wakes(rt, rt.alloc(), list, &mut seats).is_err() {
-        let (list, mut seats) = made(&rt, rt.alloc(), 0, 2);
-        holds(&rt, one_wakes(rt, rt.alloc(), list, &mut seats).is_ok());
-    }
+    let told = one_wakes_in_a_list(rt, rt.alloc()).is_ok()
+        || one_wakes_in_a_list(rt, rt.alloc()).is_ok();
+    holds(&rt, told);
 }
 
 /// Eight threads wait, again and again, and this one notifies as often. The list is closed with all nine

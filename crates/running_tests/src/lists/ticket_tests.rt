@@ -43,12 +43,17 @@ const TICKETS: [(u64, u64, u64); 2] = [
     (4_294_967_295, 4_294_967_296, 4_294_967_297),
 ];
 
+fn goes_past_an_end<R: Abort + Wait>(rt: &R, alloc: Global, row: (u64, u64, u64)) {
+    let (first, second, next) = row;
+    let (list, mut seats) = made(rt, alloc, first, 3);
+    two_tickets(rt, &list, &mut seats, first, second);
+    ends_at(rt, list, seats, next);
+}
+
 #[test]
 fn tickets_go_past_their_ends(rt: HostRuntime) {
-    for (first, second, next) in TICKETS {
-        let (list, mut seats) = made(&rt, rt.alloc(), first, 3);
-        two_tickets(&rt, &list, &mut seats, first, second);
-        ends_at(&rt, list, seats, next);
+    for row in TICKETS {
+        goes_past_an_end(&rt, rt.alloc(), row);
     }
 }
 

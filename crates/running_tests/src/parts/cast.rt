@@ -1,11 +1,13 @@
 //! One thread for each part of a play.
 
-ghost use Rattle.std.specs.Prelude.{◌≡◌, All, IfOk};
+ghost use Rattle.std.specs.Prelude.{◌≡◌, All};
 
 use crate::parts::actor::{Actor, Marks, RELEASE_LIMIT, Stage, reaches};
+use crate::parts::cond_given;
 use crate::parts::play::Play;
-use sema_table::{Seat, SemaTable, Settings};
-use std::alloc::{AllocError, Global};
+use crate::tables::given::{Sizes, made, one_counter};
+use sema_table::{Seat, SemaTable};
+use std::alloc::Global;
 use std::process::Abort;
 use std::sync::Wait;
 use std::sync::atomic::Ordering::SeqCst;
@@ -84,23 +86,6 @@ fn act_all<R: Abort + Threads + Wait + Sync>(rt: &R, cast: Cast<'_>) -> bool {
     })
 }
 
-/// One counter at 1, for a lock, and so many seats.
-fn new_table(alloc: Global, seats: u32) -> Result<(SemaTable, Vec<Seat>), AllocError>
-    ensures { IfOk result (λ t. All (λ s. s.table ≡ t.0) t.1.items) }
-{
-    let settings = Settings {
-        starts: vec![in alloc; 1; 1]?,
-        seats,
-        roots: 1,
-        seed: 1,
-        release_limit: RELEASE_LIMIT,
-    };
-    match SemaTable::new(alloc, settings) {
-        Ok(made) => Ok(made),
-        Err(_refused) => Err(AllocError),
-    }
-}
-
 /// The play, over a table for its lock, and a condition variable.
 fn perform_on<R: Abort + Threads + Wait + Sync>(
     rt: &R,
@@ -128,34 +113,23 @@ fn perform_on<R: Abort + Threads + Wait + Sync>(
     }
 }
 
-/// The play, over a table for its lock.
-fn perform_over<R: Abort + Threads + Wait + Sync>(
-    rt: &R,
-    alloc: Global,
-    play: Play,
-    table: &SemaTable,
-    seats: Vec<Seat>,
-) -> Result<Sums, NoMemory>
-    requires { All (λ s. s.table ≡ table.now) seats.items }
-{
-    match Cond::with_seats(alloc, play.parts()) {
-        Ok((cond, owns)) => perform_on(rt, play, table, &cond, seats, owns),
-        Err(_refused) => Err(NoMemory),
-    }
-}
-
-/// The whole play: what all have come to. It is an `Err` where memory is short or a thread can't be made:
-/// then nobody has played.
+/// The whole play: what all have come to. It is an `Err` where a thread can't be made: then nobody has played.
 fn perform<R: Abort + Threads + Wait + Sync>(
     rt: &R,
     alloc: Global,
     play: Play,
 ) -> Result<Sums, NoMemory> {
-    let (table, seats) = new_table(alloc, play.parts())?;
-    perform_over(rt, alloc, play, &table, seats)
+    let sizes = Sizes {
+        roots: 1,
+        release_limit: RELEASE_LIMIT,
+        ..one_counter(1, play.parts())
+    };
+    let (table, seats) = made(rt, alloc, &sizes);
+    let (cond, owns) = cond_given::made(rt, alloc, play.parts());
+    perform_on(rt, play, &table, &cond, seats, owns)
 }
 
-/// The same, once more where memory was refused.
+/// The same, once more where a thread was refused.
 pub(crate) fn perform_again<R: Abort + Threads + Wait + Sync>(
     rt: &R,
     alloc: Global,

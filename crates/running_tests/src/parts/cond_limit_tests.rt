@@ -1,16 +1,9 @@
 //! How many seats a condition variable may have.
 
+use crate::parts::cond_given::new_again;
+use crate::tables::given::holds;
 use std::alloc::Global;
-use std::test::Fail;
-use sync_parts::{Cond, ListSeat, ListSetupError};
-
-/// A condition variable and its seats, asked for once more where memory was refused.
-fn new_again(alloc: Global, seats: u32) -> Result<(Cond, Vec<ListSeat>), ListSetupError> {
-    match Cond::with_seats(alloc, seats) {
-        Err(ListSetupError::NoMemory) => Cond::with_seats(alloc, seats),
-        answer => answer,
-    }
-}
+use sync_parts::ListSetupError;
 
 /// How many seats are made, and the refusal by its number.
 fn made(alloc: Global, seats: u32) -> Result<usize, u8> {
@@ -21,7 +14,7 @@ fn made(alloc: Global, seats: u32) -> Result<usize, u8> {
 }
 
 #[test]
-fn a_condition_variable_has_1_to_256_seats(rt: HostRuntime) -> Result<(), Fail> {
+fn a_condition_variable_has_1_to_256_seats(rt: HostRuntime) {
     let rows = [
         (0, Err(2)),
         (257, Err(ListSetupError::Seats as u8)),
@@ -30,7 +23,6 @@ fn a_condition_variable_has_1_to_256_seats(rt: HostRuntime) -> Result<(), Fail> 
         (256, Ok(256)),
     ];
     for (seats, expected) in rows {
-        assert!(rt; made(rt.alloc(), seats) == expected);
+        holds(&rt, made(rt.alloc(), seats) == expected);
     }
-    Ok(())
 }

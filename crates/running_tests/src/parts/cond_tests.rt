@@ -4,25 +4,11 @@
 use crate::parts::cast::perform_again;
 use crate::parts::play::Play;
 use crate::parts::wakers::Wakes;
+use crate::tables::given::holds;
 use std::alloc::Global;
 use std::process::Abort;
 use std::sync::Wait;
-use std::test::Fail;
 use std::thread::Threads;
-use waiters::NoMemory;
-
-/// A play, in which the lock was locked at least and at most so many times, and unlocked as often.
-fn plays<R: Abort + Threads + Wait + Sync>(
-    rt: &R,
-    alloc: Global,
-    play: Play,
-    least: u64,
-    most: u64,
-) -> Result<(), NoMemory> {
-    let (locked, unlocked) = perform_again(rt, alloc, play)?;
-    assert!(rt; unlocked == locked && least <= locked && locked <= most);
-    Ok(())
-}
 
 /// A play, how often it is played, and how often the lock is locked at least and at most.
 type Row = (Play, u32, u64, u64);
@@ -41,16 +27,23 @@ static PLAYS: [Row; 6] = [
     (Play::UntilDone, 100, 4, 7),
 ];
 
-#[test]
-fn who_waits_is_woken(rt: HostRuntime) -> Result<(), Fail> {
-    // round after round, so that the first allocations are those of each play
-    for round in 0..100 {
-        for row in &PLAYS {
-            let (play, rounds, least, most) = *row;
-            if round < rounds {
-                plays(&rt, rt.alloc(), play, least, most)?;
-            }
+/// Each play that is played in this round. The lock is unlocked as often as it was locked.
+fn plays<R: Abort + Threads + Wait + Sync>(rt: &R, alloc: Global, round: u32) {
+    for row in &PLAYS {
+        let (play, rounds, least, most) = *row;
+        if round < rounds {
+            let played = perform_again(rt, alloc, play);
+            let (locked, unlocked) = played.expect(rt, "memory and threads");
+            holds(rt, unlocked == locked);
+            holds(rt, least <= locked && locked <= most);
         }
     }
-    Ok(())
+}
+
+#[test]
+fn who_waits_is_woken(rt: HostRuntime) {
+    // round after round, so that the first allocations are those of each play
+    for round in 0..100 {
+        plays(&rt, rt.alloc(), round);
+    }
 }

@@ -1,15 +1,14 @@
 //! Sixteen workers that end a first wait group, and then wait for a second one.
 
 use crate::parts::actor::reaches;
-use crate::parts::group_given::{Call, Member, Team, new_again};
+use crate::parts::group_given::{Call, Member, Team, made};
+use crate::tables::given::holds;
 use std::alloc::Global;
 use std::process::Abort;
 use std::sync::Wait;
 use std::sync::atomic::{AtomicU64, Ordering};
-use std::test::Fail;
 use std::thread;
 use std::thread::{Scope, Threads};
-use sync_parts::SetupError;
 
 const WORKERS: u32 = 16;
 
@@ -39,9 +38,9 @@ fn comes_through<R: Abort + Wait>(rt: &R, work: Member<'_>, barrier: Member<'_>,
 fn opens<R: Abort + Wait>(rt: &R, barrier: &mut Member<'_>, through: &AtomicU64, before: u64) {
     for _ in 1..WORKERS {
         barrier.answers(rt, Call::Done, Ok(0));
-        assert!(rt; through.load(Ordering::SeqCst) == before);
+        holds(rt, through.load(Ordering::SeqCst) == before);
     }
-    assert!(rt; barrier.finishes(rt) <= WORKERS);
+    holds(rt, barrier.finishes(rt) <= WORKERS);
 }
 
 /// One round with both groups, after so many workers have come through. All of them are back before the next.
@@ -59,7 +58,7 @@ fn round<R: Abort + Wait>(
     opens(rt, barrier, &doors.through, before);
     let after = before.wrapping_add(u64::from(WORKERS));
     reaches(rt, &doors.through, after);
-    assert!(rt; doors.through.load(Ordering::SeqCst) == after);
+    holds(rt, doors.through.load(Ordering::SeqCst) == after);
 }
 
 /// Starts a worker, asked for once more where none was made.
@@ -71,21 +70,32 @@ fn begin<'s, E, R: Abort + Wait + Sync>(
     doors: &'s Doors,
 ) {
     if let Err(refused) = scope.spawn(move || comes_through(rt, work, barrier, doors)) {
-        assert!(rt; scope.spawn(refused.value).is_ok());
+        holds(rt, scope.spawn(refused.value).is_ok());
     }
 }
 
 /// Goes the rounds.
-fn goes_rounds<R: Abort + Wait>(rt: &R, work: Member<'_>, barrier: Member<'_>, doors: &Doors) {
-    let (mut work, mut barrier) = (work, barrier);
+fn goes_rounds<R: Abort + Wait>(
+    rt: &R,
+    work: &mut Member<'_>,
+    barrier: &mut Member<'_>,
+    doors: &Doors,
+) {
     for before in 0..ROUNDS {
-        round(
-            rt,
-            &mut work,
-            &mut barrier,
-            doors,
-            before * u64::from(WORKERS),
-        );
+        round(rt, work, barrier, doors, before * u64::from(WORKERS));
+    }
+}
+
+/// Makes the workers.
+fn begin_all<'s, E, R: Abort + Wait + Sync>(
+    rt: &'s R,
+    scope: &'s Scope<'s, E>,
+    works: &mut Team<'s>,
+    barriers: &mut Team<'s>,
+    doors: &'s Doors,
+) {
+    for _ in 0..WORKERS {
+        begin(rt, scope, works.member(rt), barriers.member(rt), doors);
     }
 }
 
@@ -98,10 +108,9 @@ fn all_come_through<'s, E, R: Abort + Threads + Wait + Sync>(
     doors: &'s Doors,
 ) {
     let (mut works, mut barriers) = (works, barriers);
-    for _ in 0..WORKERS {
-        begin(rt, scope, works.member(rt), barriers.member(rt), doors);
-    }
-    goes_rounds(rt, works.member(rt), barriers.member(rt), doors);
+    begin_all(rt, scope, &mut works, &mut barriers, doors);
+    let (mut work, mut barrier) = (works.member(rt), barriers.member(rt));
+    goes_rounds(rt, &mut work, &mut barrier, doors);
 }
 
 fn come_through<R: Abort + Threads + Wait + Sync>(rt: &R, works: Team<'_>, barriers: Team<'_>) {
@@ -114,22 +123,13 @@ fn come_through<R: Abort + Threads + Wait + Sync>(rt: &R, works: Team<'_>, barri
     });
 }
 
-fn barriers<R: Abort + Threads + Wait + Sync>(
-    rt: &R,
-    alloc: Global,
-    works: Team<'_>,
-) -> Result<(), SetupError> {
-    let (barrier, seats) = new_again(alloc, WORKERS + 1)?;
-    come_through(rt, works, Team::new(&barrier, seats));
-    Ok(())
-}
-
-fn groups<R: Abort + Threads + Wait + Sync>(rt: &R, alloc: Global) -> Result<(), SetupError> {
-    let (work, seats) = new_again(alloc, WORKERS + 1)?;
-    barriers(rt, alloc, Team::new(&work, seats))
+fn come_through_groups<R: Abort + Threads + Wait + Sync>(rt: &R, alloc: Global) {
+    let (work, seats) = made(rt, alloc, WORKERS + 1);
+    let (barrier, others) = made(rt, alloc, WORKERS + 1);
+    come_through(rt, Team::new(&work, seats), Team::new(&barrier, others));
 }
 
 #[test]
-fn sixteen_wait_at_a_barrier(rt: HostRuntime) -> Result<(), Fail> {
-    Ok(groups(&rt, rt.alloc())?)
+fn sixteen_wait_at_a_barrier(rt: HostRuntime) {
+    come_through_groups(&rt, rt.alloc());
 }

@@ -5,6 +5,7 @@
 ghost use Rattle.std.specs.Prelude.{◌≡◌, All, IfOk};
 ghost use Rattle.std.specs.Option.{ForSome};
 
+use crate::tables::given::holds;
 use std::alloc::Global;
 use std::process::Abort;
 use std::sync::Wait;
@@ -35,6 +36,13 @@ pub(crate) fn new_again(
         Err(SetupError::NoMemory) => WaitGroup::with_seats(alloc, seats),
         answer => answer,
     }
+}
+
+/// The same, of so many seats that there can be.
+pub(crate) fn made(rt: &impl Abort, alloc: Global, seats: u32) -> (WaitGroup, Vec<GroupSeat>)
+    ensures { All (λ s. s.group ≡ result.0) result.1.items }
+{
+    new_again(alloc, seats).expect(rt, "a group")
 }
 
 fn add<R: Abort + Wait>(rt: &R, group: &WaitGroup, seat: GroupSeat, d: i32) -> (GroupSeat, Answer)
@@ -85,7 +93,7 @@ impl<'g> Member<'g> {
 
     /// A call that is answered so.
     pub(crate) fn answers<R: Abort + Wait>(&mut self, rt: &R, call: Call, expected: Answer) {
-        assert!(rt; self.calls(rt, call) == expected);
+        holds(rt, self.calls(rt, call) == expected);
     }
 
     /// A `done` that is no misuse: how many it released.

@@ -1,8 +1,8 @@
 //! How many seats a wait group may have.
 
 use crate::parts::group_given::new_again;
+use crate::tables::given::holds;
 use std::alloc::Global;
-use std::test::Fail;
 use sync_parts::{GroupSeat, SetupError};
 
 const MOST_LEFT: u64 = 1 << 40;
@@ -26,7 +26,7 @@ fn made(alloc: Global, seats: u32) -> Result<usize, u8> {
 }
 
 #[test]
-fn a_group_has_1_to_256_seats(rt: HostRuntime) -> Result<(), Fail> {
+fn a_group_has_1_to_256_seats(rt: HostRuntime) {
     let rows = [
         (0, Err(2)),
         (257, Err(SetupError::Seats as u8)),
@@ -35,7 +35,6 @@ fn a_group_has_1_to_256_seats(rt: HostRuntime) -> Result<(), Fail> {
         (256, Ok(256)),
     ];
     for (seats, expected) in rows {
-        assert!(rt; made(rt.alloc(), seats) == expected);
+        holds(&rt, made(rt.alloc(), seats) == expected);
     }
-    Ok(())
 }

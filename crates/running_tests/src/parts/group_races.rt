@@ -3,6 +3,7 @@
 
 use crate::parts::group_given::{Answer, Call, Member, Team};
 use crate::parts::group_parts::{Back, Part, begin};
+use crate::tables::given::holds;
 use std::process::Abort;
 use std::sync::Wait;
 use std::thread::{JoinHandle, Scope, Threads};
@@ -24,22 +25,32 @@ fn may_be_reused(answer: Answer) -> bool {
     answer == Ok(0) || answer == Err(Misuse::Reused)
 }
 
+/// The end of a round for which one waits, beside one who may begin another: what all three are answered.
+fn ends_beside<'g, R: Abort + Threads + Wait>(
+    rt: &R,
+    first: &mut Member<'g>,
+    waiter: JoinHandle<Back<'g>>,
+    adder: JoinHandle<Back<'g>>,
+) {
+    let last = first.calls(rt, Call::Done);
+    let adder = adder.join(rt);
+    holds(rt, agree(adder.first, adder.last, last));
+    let waiter = waiter.join(rt);
+    holds(rt, may_be_reused(waiter.last));
+}
+
 /// A member ends a round for which another waits, while a third may begin one more. Whatever comes first, all
 /// come back.
 pub(crate) fn races<'s, E, R: Abort + Threads + Wait + Sync>(
     rt: &'s R,
     scope: &'s Scope<'s, E>,
-    team: Team<'s>,
+    first: &mut Member<'s>,
+    team: &mut Team<'s>,
 ) {
-    let mut team = team;
-    let mut first = team.member(rt);
     first.answers(rt, Call::Add(1), Ok(0));
     let waiter = begin(rt, scope, team.member(rt), Part::Waits);
     let adder = begin(rt, scope, team.member(rt), Part::Adds);
-    let last = first.calls(rt, Call::Done);
-    let adder = adder.join(rt);
-    assert!(rt; agree(adder.first, adder.last, last));
-    assert!(rt; may_be_reused(waiter.join(rt).last));
+    ends_beside(rt, first, waiter, adder);
 }
 
 /// Ends a round for which another waits, begins one more at once, and ends it. The wait that was released may
@@ -56,9 +67,10 @@ fn goes_on<'g, R: Abort + Threads + Wait>(
     }
     let Back { member, last, .. } = waiter.join(rt);
     if released == 0 {
-        assert!(rt; last == Ok(0));
+        holds(rt, last == Ok(0));
     } else {
-        assert!(rt; may_be_reused(last) && first.finishes(rt) == 0);
+        holds(rt, may_be_reused(last));
+        holds(rt, first.finishes(rt) == 0);
     }
     member
 }
@@ -67,13 +79,12 @@ fn goes_on<'g, R: Abort + Threads + Wait>(
 pub(crate) fn begins_anew<'s, E, R: Abort + Threads + Wait + Sync>(
     rt: &'s R,
     scope: &'s Scope<'s, E>,
-    team: Team<'s>,
+    first: &mut Member<'s>,
+    team: &mut Team<'s>,
 ) {
-    let mut team = team;
-    let mut first = team.member(rt);
     first.answers(rt, Call::Add(1), Ok(0));
     let waiter = begin(rt, scope, team.member(rt), Part::Waits);
-    let mut second = goes_on(rt, &mut first, waiter);
+    let mut second = goes_on(rt, first, waiter);
     first.answers(rt, Call::Wait, Ok(0));
     second.answers(rt, Call::Wait, Ok(0));
 }

@@ -1,16 +1,14 @@
 //! What is played around a wait group by threads.
 
-use crate::parts::group_given::{Team, new_again};
+use crate::parts::group_given::{Team, made};
 use crate::parts::group_races::{begins_anew, races};
 use crate::parts::group_threads::{flags_are_seen, forks_and_joins};
 use std::alloc::Global;
 use std::process::Abort;
 use std::sync::Wait;
 use std::sync::atomic::AtomicU64;
-use std::test::Fail;
 use std::thread;
 use std::thread::{Scope, Threads};
-use sync_parts::SetupError;
 
 #[derive(Clone, Copy, Drop)]
 enum Scene {
@@ -48,11 +46,13 @@ impl Scene {
         team: Team<'s>,
         flags: &'s Flags,
     ) {
+        let mut team = team;
+        let mut first = team.member(rt);
         match self {
-            Scene::Race => races(rt, scope, team),
-            Scene::Anew => begins_anew(rt, scope, team),
-            Scene::Fork => forks_and_joins(rt, scope, team, &flags.left),
-            Scene::Flags => flags_are_seen(rt, scope, team, flags),
+            Scene::Race => races(rt, scope, &mut first, &mut team),
+            Scene::Anew => begins_anew(rt, scope, &mut first, &mut team),
+            Scene::Fork => forks_and_joins(rt, scope, &mut first, &mut team, &flags.left),
+            Scene::Flags => flags_are_seen(rt, scope, &mut first, &mut team, flags),
         }
     }
 }
@@ -65,21 +65,6 @@ fn in_scope<R: Abort + Threads + Wait + Sync>(rt: &R, scene: Scene, team: Team<'
     );
 }
 
-/// The scene in a new group.
-fn play<R: Abort + Threads + Wait + Sync>(
-    rt: &R,
-    alloc: Global,
-    scene: Scene,
-) -> Result<(), SetupError> {
-    let (group, seats) = new_again(alloc, scene.seats())?;
-    let flags = Flags {
-        left: AtomicU64::new(0),
-        right: AtomicU64::new(0),
-    };
-    in_scope(rt, scene, Team::new(&group, seats), &flags);
-    Ok(())
-}
-
 /// Scenes, and how often each is played.
 static SCENES: [(Scene, u32); 4] = [
     (Scene::Race, 500),
@@ -88,16 +73,29 @@ static SCENES: [(Scene, u32); 4] = [
     (Scene::Flags, 1),
 ];
 
-#[test]
-fn scenes_end_as_known(rt: HostRuntime) -> Result<(), Fail> {
-    // round after round, so that the first allocations are those of each scene
-    for round in 0..500 {
-        for row in &SCENES {
-            let (scene, rounds) = *row;
-            if round < rounds {
-                play(&rt, rt.alloc(), scene)?;
-            }
+/// The scene in a new group.
+fn play<R: Abort + Threads + Wait + Sync>(rt: &R, alloc: Global, scene: Scene) {
+    let (group, seats) = made(rt, alloc, scene.seats());
+    let flags = Flags {
+        left: AtomicU64::new(0),
+        right: AtomicU64::new(0),
+    };
+    in_scope(rt, scene, Team::new(&group, seats), &flags);
+}
+
+/// One round of all scenes.
+fn play_all<R: Abort + Threads + Wait + Sync>(rt: &R, alloc: Global, round: u32) {
+    for row in &SCENES {
+        if round < row.1 {
+            play(rt, alloc, row.0);
         }
     }
-    Ok(())
+}
+
+#[test]
+fn scenes_end_as_known(rt: HostRuntime) {
+    // round after round, so that the first allocations are those of each scene
+    for round in 0..500 {
+        play_all(&rt, rt.alloc(), round);
+    }
 }

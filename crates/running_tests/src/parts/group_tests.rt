@@ -1,11 +1,11 @@
 //! Wait groups in one thread.
 
-use crate::parts::group_given::{Answer, Call, Team, new_again};
+use crate::parts::group_given::{Answer, Call, Member, Team, made};
+use crate::tables::given::holds;
 use std::alloc::Global;
 use std::process::Abort;
 use std::sync::Wait;
-use std::test::Fail;
-use sync_parts::{Misuse, SetupError};
+use sync_parts::Misuse;
 
 const MOST_LEFT: u64 = 1 << 40;
 
@@ -19,24 +19,30 @@ enum Who {
 /// A call, and what it is answered.
 type Row = (Who, Call, Answer);
 
-fn runs<R: Abort + Wait>(rt: &R, team: Team<'_>, rows: &[Row]) {
-    let mut team = team;
-    let mut second = team.member(rt);
-    let mut first = team.member(rt);
-    for (who, call, expected) in rows {
-        match who {
-            Who::First => first.answers(rt, *call, *expected),
-            Who::Second => second.answers(rt, *call, *expected),
+/// The two make the calls in their order.
+fn make_calls<R: Abort + Wait>(
+    rt: &R,
+    first: &mut Member<'_>,
+    second: &mut Member<'_>,
+    rows: &[Row],
+) {
+    for row in rows {
+        match row.0 {
+            Who::First => first.answers(rt, row.1, row.2),
+            Who::Second => second.answers(rt, row.1, row.2),
         }
     }
-    assert!(rt; (first.left(rt), second.left(rt)) == (MOST_LEFT, MOST_LEFT));
 }
 
 /// The calls in their order, by the two seats of a new group. None of them releases a wait.
-fn answers<R: Abort + Wait>(rt: &R, alloc: Global, rows: &[Row]) -> Result<(), SetupError> {
-    let (group, seats) = new_again(alloc, 2)?;
-    runs(rt, Team::new(&group, seats), rows);
-    Ok(())
+fn answers<R: Abort + Wait>(rt: &R, alloc: Global, rows: &[Row]) {
+    let (group, seats) = made(rt, alloc, 2);
+    let mut team = Team::new(&group, seats);
+    let mut second = team.member(rt);
+    let mut first = team.member(rt);
+    make_calls(rt, &mut first, &mut second, rows);
+    holds(rt, first.left(rt) == MOST_LEFT);
+    holds(rt, second.left(rt) == MOST_LEFT);
 }
 
 const COUNTS_DOWN: [Row; 4] = [
@@ -70,16 +76,11 @@ const ADDS_NOTHING: [Row; 6] = [
     (Who::First, Call::Done, Ok(0)),
 ];
 
+const TABLES: [&[Row]; 4] = [&COUNTS_DOWN, &GOES_BELOW_ZERO, &WRAPS, &ADDS_NOTHING];
+
 #[test]
-fn calls_are_answered(rt: HostRuntime) -> Result<(), Fail> {
-    let tables = [
-        COUNTS_DOWN.as_slice(),
-        GOES_BELOW_ZERO.as_slice(),
-        WRAPS.as_slice(),
-        ADDS_NOTHING.as_slice(),
-    ];
-    for rows in tables {
-        answers(&rt, rt.alloc(), rows)?;
+fn calls_are_answered(rt: HostRuntime) {
+    for rows in TABLES {
+        answers(&rt, rt.alloc(), rows);
     }
-    Ok(())
 }

@@ -1,12 +1,14 @@
 //! A locker that signals as it is unlocked: whoever it wakes has its ticket by then.
 
-ghost use Rattle.std.specs.Prelude.{◌≡◌, true, false};
+ghost use Rattle.std.specs.Prelude.{◌≡◌, ◌<◌, length, true, false};
 ghost use Rattle.notify_list.specs.Tickets.{HasTicket};
 
-use crate::tables::given::{last_seat, made, one_counter};
+use crate::parts::cond_given;
+use crate::tables::given::{holds, last_seat, made, one_counter};
+use sema_table::{Seat, SemaTable};
+use std::alloc::Global;
 use std::process::Abort;
 use std::sync::Wait;
-use std::test::Fail;
 use sync_parts::{Cond, Holding, ListSeat, Locker, LockerCall, SemaLock, Waited};
 use waiters::CounterId;
 
@@ -77,51 +79,53 @@ fn waits<R: Abort + Wait>(
         granted: None,
     };
     let (_first, waited) = cond.wait(rt, first, &mut locker);
-    assert!(rt; waited == Waited::AtOnce);
-    assert!(rt; locker.granted == Some(0));
+    holds(rt, waited == Waited::AtOnce);
+    holds(rt, locker.granted == Some(0));
     let expected = [LockerCall::Unlocked, LockerCall::Locked];
-    assert!(rt; locker.calls.as_slice() == expected.as_slice());
-    assert!(rt; locker.held());
+    holds(rt, locker.calls.as_slice() == expected.as_slice());
+    holds(rt, locker.held());
+}
+
+/// Room for two calls, asked for once more where memory was refused.
+fn room_for_two(rt: &impl Abort, alloc: Global) -> Vec<LockerCall> {
+    match Vec::with_capacity(alloc, 2) {
+        Ok(calls) => calls,
+        Err(_refused) => Vec::with_capacity(alloc, 2).expect(rt, "memory"),
+    }
 }
 
 #[test]
-fn a_locker_signals_as_it_is_unlocked(rt: HostRuntime) -> Result<(), Fail> {
-    let (cond, mut seats) = match Cond::with_seats(rt.alloc(), 2) {
-        Ok(made) => made,
-        Err(_refused) => Cond::with_seats(rt.alloc(), 2)?,
-    };
-    let calls = match Vec::with_capacity(rt.alloc(), 2) {
-        Ok(calls) => calls,
-        Err(_refused) => Vec::with_capacity(rt.alloc(), 2)?,
-    };
-    let second = seats.pop().expect(&rt, "a seat");
-    let first = seats.pop().expect(&rt, "a seat");
-    waits(&rt, &cond, first, second, calls);
-    Ok(())
+fn a_locker_signals_as_it_is_unlocked(rt: HostRuntime) {
+    let (cond, mut seats) = cond_given::made(&rt, rt.alloc(), 2);
+    let second = cond_given::last_own(&rt, &cond, &mut seats);
+    let first = cond_given::last_own(&rt, &cond, &mut seats);
+    waits(&rt, &cond, first, second, room_for_two(&rt, rt.alloc()));
 }
 
 /// The lock over a counter is a locker too.
-fn locks_and_unlocks<R: Abort + Wait>(rt: &R, lock: &mut SemaLock<'_>, own: &ListSeat) {
+fn is_a_locker<R: Abort + Wait>(rt: &R, table: &SemaTable, seat: Seat, own: &ListSeat)
+    requires { (seat.table ≡ table.now) × (0 < length table.now.setting.starts) }
+{
+    let mut lock = SemaLock::over(table, seat, CounterId::new(0));
     assert!(rt; !lock.held());
     lock.lock(rt, own);
     assert!(rt; lock.held() && lock.left() > 0);
     lock.release(rt);
-    assert!(rt; !lock.held() && lock.left() == 9);
+    holds(rt, lock.left() == 9);
+    assert!(rt; !lock.held());
+    holds(rt, lock.into_seat().taken() == 1);
+}
+
+fn locks_over_a_counter<R: Abort + Wait>(rt: &R, alloc: Global, own: &ListSeat) {
+    let (table, mut seats) = made(rt, alloc, &one_counter(1, 1));
+    let seat = last_seat(rt, &table, &mut seats);
+    assert!(rt; 0 < table.counters());
+    is_a_locker(rt, &table, seat, own);
 }
 
 #[test]
-fn a_lock_over_a_counter_is_a_locker(rt: HostRuntime) -> Result<(), Fail> {
-    let (_cond, mut owns) = match Cond::with_seats(rt.alloc(), 1) {
-        Ok(made) => made,
-        Err(_refused) => Cond::with_seats(rt.alloc(), 1)?,
-    };
-    let own = owns.pop().expect(&rt, "a seat");
-    let (table, mut seats) = made(&rt, rt.alloc(), &one_counter(1, 1));
-    let seat = last_seat(&rt, &table, &mut seats);
-    assert!(rt; 0 < table.counters());
-    let mut lock = SemaLock::over(&table, seat, CounterId::new(0));
-    locks_and_unlocks(&rt, &mut lock, &own);
-    assert!(rt; !lock.held());
-    assert!(rt; lock.into_seat().taken() == 1);
-    Ok(())
+fn a_lock_over_a_counter_is_a_locker(rt: HostRuntime) {
+    let (cond, mut owns) = cond_given::made(&rt, rt.alloc(), 1);
+    let own = cond_given::last_own(&rt, &cond, &mut owns);
+    locks_over_a_counter(&rt, rt.alloc(), &own);
 }

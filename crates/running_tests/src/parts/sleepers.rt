@@ -1,6 +1,7 @@
 //! Those who wait on a condition variable.
 
 use crate::parts::actor::{Actor, reaches};
+use crate::tables::given::holds;
 use std::process::Abort;
 use std::sync::Wait;
 use std::sync::atomic::Ordering::SeqCst;
@@ -24,7 +25,7 @@ pub(crate) fn sleeps_after<R: Abort + Wait>(rt: &R, actor: &mut Actor<'_>, befor
     reaches(rt, &actor.marks.told, before);
     actor.locks(rt);
     actor.waits(rt);
-    assert!(rt; actor.marks.woke.load(SeqCst) == before.wrapping_add(1));
+    holds(rt, actor.marks.woke.load(SeqCst) == before.wrapping_add(1));
     actor.unlocks(rt);
 }
 

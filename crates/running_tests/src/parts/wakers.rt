@@ -2,6 +2,7 @@
 
 use crate::parts::actor::{Actor, reaches};
 use crate::parts::sleepers::{ALL_DONE, MAY_COME};
+use crate::tables::given::holds;
 use std::process::Abort;
 use std::sync::Wait;
 use std::sync::atomic::Ordering::SeqCst;
@@ -11,13 +12,14 @@ pub(crate) fn signals<R: Abort + Wait>(rt: &R, actor: &mut Actor<'_>, sleepers: 
     reaches(rt, &actor.marks.came, sleepers);
     for awake in 0..sleepers {
         actor.locks(rt);
-        assert!(rt; actor.marks.woke.load(SeqCst) == awake);
-        assert!(rt; actor.signals(rt) == Some(awake));
+        holds(rt, actor.marks.woke.load(SeqCst) == awake);
+        holds(rt, actor.signals(rt) == Some(awake));
         actor.unlocks(rt);
         reaches(rt, &actor.marks.woke, awake + 1);
     }
-    assert!(rt; actor.marks.woke.load(SeqCst) == sleepers);
-    assert!(rt; actor.signals(rt) == None && actor.broadcasts(rt) == 0);
+    holds(rt, actor.marks.woke.load(SeqCst) == sleepers);
+    holds(rt, actor.signals(rt) == None);
+    holds(rt, actor.broadcasts(rt) == 0);
 }
 
 /// Signals to each of so many once it waits; then the next may come.
@@ -26,7 +28,7 @@ pub(crate) fn signals_in_turn<R: Abort + Wait>(rt: &R, actor: &mut Actor<'_>, sl
         reaches(rt, &actor.marks.woke, before);
         reaches(rt, &actor.marks.came, before + 1);
         actor.locks(rt);
-        assert!(rt; actor.signals(rt) == Some(before));
+        holds(rt, actor.signals(rt) == Some(before));
         actor.marks.told.store(before + 1, SeqCst);
         actor.unlocks(rt);
     }
@@ -44,8 +46,8 @@ pub(crate) fn broadcasts<R: Abort + Wait>(
         let all = before.wrapping_add(u64::from(sleepers));
         reaches(rt, &actor.marks.came, all);
         actor.locks(rt);
-        assert!(rt; actor.marks.woke.load(SeqCst) == before);
-        assert!(rt; actor.broadcasts(rt) == sleepers);
+        holds(rt, actor.marks.woke.load(SeqCst) == before);
+        holds(rt, actor.broadcasts(rt) == sleepers);
         actor.unlocks(rt);
         before = all;
     }
@@ -74,7 +76,7 @@ pub(crate) fn wakes_the_first<R: Abort + Wait>(rt: &R, actor: &mut Actor<'_>, wa
     actor.locks(rt);
     actor.unlocks(rt);
     actor.marks.told.store(MAY_COME, SeqCst);
-    assert!(rt; is_woken(rt, actor, way));
+    holds(rt, is_woken(rt, actor, way));
     reaches(rt, &actor.marks.first, 1);
     ends(rt, actor);
 }

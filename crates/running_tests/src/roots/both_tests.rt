@@ -56,29 +56,73 @@ fn has_ids_again<R: RootStore>(alloc: Global, root: &R, number: u32, expected: &
     }
 }
 
-fn comes_out<R: RootStore>(rt: &impl Abort, root: &mut R, number: u32, wait: Option<Wait>) {
-    holds(rt, root.dequeue(counter(number)) == wait);
+/// A call of a root.
+enum Call {
+    /// The wait of a seat comes in at a counter, as the first or as the last.
+    Queue(u32, u16, bool),
+    /// The wait of this seat comes out at a counter, or none.
+    Dequeue(u32, Option<u16>),
+    /// So many wait on a counter, the first of them of this seat.
+    Has(u32, usize, Option<u16>),
+    /// So many wait in all.
+    Count(usize),
+    Full(bool),
 }
 
-/// The table: four waits come in, after which the root is full, and those of one counter come out.
+/// The wait of the seat, if there is one.
+fn wait_of(seat: Option<u16>) -> Option<Wait> {
+    match seat {
+        Some(seat) => Some(wait(seat)),
+        None => None,
+    }
+}
+
+fn make_call<R: RootStore>(rt: &impl Abort, root: &mut R, call: &Call) {
+    match *call {
+        Call::Queue(number, seat, lifo) => queue(root, number, seat, lifo),
+        Call::Dequeue(number, seat) => {
+            holds(rt, root.dequeue(counter(number)) == wait_of(seat));
+        }
+        Call::Has(number, waiting, first) => has(rt, root, number, waiting, wait_of(first)),
+        Call::Count(count) => holds(rt, root.count() == count),
+        Call::Full(full) => holds(rt, root.is_full() == full),
+    }
+}
+
+fn make_calls<R: RootStore>(rt: &impl Abort, root: &mut R, calls: &[Call]) {
+    for made in calls {
+        make_call(rt, root, made);
+    }
+}
+
+/// Four waits come in, after which the root is full.
+const COMES_IN: [Call; 8] = [
+    Call::Queue(5, 0, false),
+    Call::Queue(3, 1, false),
+    Call::Queue(9, 2, false),
+    Call::Full(false),
+    Call::Queue(3, 3, true),
+    Call::Full(true),
+    Call::Count(4),
+    Call::Has(3, 2, Some(3)),
+];
+
+/// Those of one counter come out.
+const COMES_OUT: [Call; 7] = [
+    Call::Dequeue(3, Some(3)),
+    Call::Dequeue(3, Some(1)),
+    Call::Dequeue(3, None),
+    Call::Dequeue(7, None),
+    Call::Count(2),
+    Call::Has(5, 1, Some(0)),
+    Call::Has(3, 0, None),
+];
+
 fn exercise<R: RootStore>(rt: &impl Abort, alloc: Global, root: &mut R) {
-    queue(root, 5, 0, false);
-    queue(root, 3, 1, false);
-    queue(root, 9, 2, false);
-    holds(rt, !root.is_full());
-    queue(root, 3, 3, true);
-    holds(rt, root.is_full());
-    holds(rt, root.count() == 4);
-    has(rt, root, 3, 2, Some(wait(3)));
+    make_calls(rt, root, &COMES_IN);
     let ids = [wait(3).id, wait(1).id];
     holds(rt, has_ids_again(alloc, root, 3, ids.as_slice()));
-    comes_out(rt, root, 3, Some(wait(3)));
-    comes_out(rt, root, 3, Some(wait(1)));
-    comes_out(rt, root, 3, None);
-    comes_out(rt, root, 7, None);
-    holds(rt, root.count() == 2);
-    has(rt, root, 5, 1, Some(wait(0)));
-    has(rt, root, 3, 0, None);
+    make_calls(rt, root, &COMES_OUT);
     holds(rt, has_ids_again(alloc, root, 3, &[]));
 }
 
@@ -92,12 +136,6 @@ fn copied(rt: &impl Abort, root: &TreapRoot) -> TreapRoot {
 #[test]
 fn a_sorted_root_answers_as_written(rt: HostRuntime) {
     let mut root = sorted(&rt, rt.alloc(), 4);
-    exercise(&rt, rt.alloc(), &mut root);
-}
-
-#[test]
-fn a_treap_root_answers_as_written(rt: HostRuntime) {
-    let mut root = treap(&rt, rt.alloc(), 4, 1);
     exercise(&rt, rt.alloc(), &mut root);
 }
 
@@ -150,37 +188,39 @@ fn stands_alone(root: &TreapRoot, at: CounterId) -> bool {
     }
 }
 
+/// A call, and the counters of the tree after it.
+type Row = (Call, &'static [u32]);
+
+static COMES_AND_GOES: [Row; 6] = [
+    (Call::Queue(3, 1, false), &[3, 5]),
+    (Call::Queue(9, 2, false), &[3, 5, 9]),
+    (Call::Queue(3, 3, true), &[3, 5, 9]),
+    (Call::Dequeue(3, Some(3)), &[3, 5, 9]),
+    (Call::Dequeue(3, Some(1)), &[5, 9]),
+    (Call::Dequeue(9, Some(2)), &[5]),
+];
+
+fn comes_and_goes(rt: &impl Abort, root: &mut TreapRoot) {
+    for row in &COMES_AND_GOES {
+        make_call(rt, root, &row.0);
+        has_counters(rt, root, row.1);
+        holds(rt, root.place(counter(7)) == None);
+    }
+}
+
+/// A wait comes in at an empty treap, whose counter stands alone then.
+fn comes_first(rt: &impl Abort, root: &mut TreapRoot, number: u32, seat: u16) {
+    is_on_top(rt, root, None);
+    queue(root, number, seat, false);
+    holds(rt, stands_alone(root, counter(number)));
+}
+
 fn places(rt: &impl Abort, root: &mut TreapRoot) {
-    is_on_top(rt, root, None);
-    queue(root, 5, 0, false);
-    holds(rt, stands_alone(root, counter(5)));
+    comes_first(rt, root, 5, 0);
     has_counters(rt, root, &[5]);
-    queue(root, 3, 1, false);
-    has_counters(rt, root, &[3, 5]);
-    queue(root, 9, 2, false);
-    has_counters(rt, root, &[3, 5, 9]);
-    queue(root, 3, 3, true);
-    has_counters(rt, root, &[3, 5, 9]);
-    root.dequeue(counter(3));
-    root.dequeue(counter(3));
-    holds(rt, root.place(counter(7)) == None);
-    has_counters(rt, root, &[5, 9]);
-    goes_empty(rt, root);
-}
-
-/// A treap whose waits have all gone has no top, and the next counter stands alone.
-fn goes_empty(rt: &impl Abort, root: &mut TreapRoot) {
-    root.dequeue(counter(9));
-    root.dequeue(counter(5));
-    is_on_top(rt, root, None);
-    queue(root, 7, 2, false);
-    holds(rt, stands_alone(root, counter(7)));
-}
-
-#[test]
-fn places_are_in_the_order_of_counters(rt: HostRuntime) {
-    let mut root = treap(&rt, rt.alloc(), 4, 1);
-    places(&rt, &mut root);
+    comes_and_goes(rt, root);
+    make_call(rt, root, &Call::Dequeue(5, Some(0)));
+    comes_first(rt, root, 7, 2);
 }
 
 /// A wait comes in at both roots, on one counter, whose places are then the same.
@@ -214,7 +254,7 @@ fn queue_all(
 
 fn copy_answers(rt: &impl Abort, root: &mut TreapRoot, copy: &mut TreapRoot) {
     queue_all(rt, root, copy, &[(3, 2), (9, 3), (7, 4)], 1);
-    comes_out(rt, copy, 5, Some(wait(0)));
+    make_call(rt, copy, &Call::Dequeue(5, Some(0)));
     has(rt, copy, 5, 0, None);
     has(rt, root, 5, 1, Some(wait(0)));
 }
@@ -225,31 +265,27 @@ fn copy_goes_on(rt: &impl Abort, root: &mut TreapRoot) {
     copy_answers(rt, root, &mut copy);
 }
 
-#[test]
-fn a_copy_draws_the_same_tickets(rt: HostRuntime) {
-    let mut root = treap(&rt, rt.alloc(), 4, 1);
-    copy_goes_on(&rt, &mut root);
-}
+const OF_ONE: [Call; 3] = [
+    Call::Queue(5, 0, false),
+    Call::Queue(3, 1, false),
+    Call::Dequeue(5, Some(0)),
+];
+
+const OF_ANOTHER: [Call; 4] = [
+    Call::Queue(2, 3, false),
+    Call::Queue(8, 3, false),
+    Call::Queue(5, 3, false),
+    Call::Dequeue(2, Some(3)),
+];
 
 /// Another root, with other counters and tickets, becomes as this one is, and needs no memory for that.
 fn copy_over_another(rt: &impl Abort, root: &mut TreapRoot, over: &mut TreapRoot) {
-    queue(root, 5, 0, false);
-    queue(root, 3, 1, false);
-    root.dequeue(counter(5));
-    queue(over, 2, 3, false);
-    queue(over, 8, 3, false);
-    queue(over, 5, 3, false);
-    over.dequeue(counter(2));
+    make_calls(rt, root, &OF_ONE);
+    make_calls(rt, over, &OF_ANOTHER);
     holds(rt, over.copy_from(root).is_ok());
     holds(rt, over.count() == 1);
     has(rt, over, 3, 1, Some(wait(1)));
     queue_all(rt, root, over, &[(9, 2), (5, 3), (7, 4)], 2);
-}
-
-#[test]
-fn a_copy_over_another_root_takes_no_memory(rt: HostRuntime) {
-    let mut root = treap(&rt, rt.alloc(), 4, 1);
-    copy_over_another(&rt, &mut root, &mut treap(&rt, rt.alloc(), 4, 2));
 }
 
 /// The root becomes as the other is, at the second time where memory was refused.
@@ -263,8 +299,46 @@ fn becomes_larger(rt: &impl Abort, root: &mut TreapRoot, over: &mut TreapRoot) {
     holds(rt, !over.is_full());
 }
 
+/// What a treap does.
+#[derive(Clone, Copy, Drop)]
+enum Scene {
+    Answers,
+    /// Its places are in the order of counters.
+    HasPlaces,
+    /// A copy draws the same tickets.
+    Copied,
+    /// A copy over another root takes no memory.
+    CopiedOverAnother,
+    /// A copy over a smaller root takes memory.
+    CopiedOverSmaller,
+}
+
+/// The scene with a new treap.
+fn plays(rt: &impl Abort, alloc: Global, scene: Scene) {
+    let mut root = treap(rt, alloc, 4, 1);
+    match scene {
+        Scene::Answers => exercise(rt, alloc, &mut root),
+        Scene::HasPlaces => places(rt, &mut root),
+        Scene::Copied => copy_goes_on(rt, &mut root),
+        Scene::CopiedOverAnother => {
+            copy_over_another(rt, &mut root, &mut treap(rt, alloc, 4, 2));
+        }
+        Scene::CopiedOverSmaller => {
+            becomes_larger(rt, &mut root, &mut treap(rt, alloc, 0, 2));
+        }
+    }
+}
+
 #[test]
-fn a_copy_over_a_smaller_root_takes_memory(rt: HostRuntime) {
-    let mut root = treap(&rt, rt.alloc(), 4, 1);
-    becomes_larger(&rt, &mut root, &mut treap(&rt, rt.alloc(), 0, 2));
+fn a_treap_root_and_its_copies_answer_as_written(rt: HostRuntime) {
+    let scenes = [
+        Scene::Answers,
+        Scene::HasPlaces,
+        Scene::Copied,
+        Scene::CopiedOverAnother,
+        Scene::CopiedOverSmaller,
+    ];
+    for scene in scenes {
+        plays(&rt, rt.alloc(), scene);
+    }
 }

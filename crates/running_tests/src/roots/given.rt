@@ -1,27 +1,11 @@
 //! What all tests here call.
 
 pub(crate) use crate::tables::given::holds;
+pub(crate) use crate::tables::text_tests::has_text;
 use sema_root::{SortedRoot, TreapRoot};
 use std::alloc::Global;
-use std::fmt::Display;
 use std::process::Abort;
 use waiters::NoMemory;
-
-/// Whether this is how it is written, where there is memory.
-fn is_written<T: Display>(alloc: Global, value: &T, text: &str) -> Option<bool> {
-    match format!(in alloc; "{value}") {
-        Ok(written) => Some(written.as_str() == text),
-        Err(_) => None,
-    }
-}
-
-/// Whether this is how it is written, asked for once more where memory was refused.
-pub(crate) fn is_written_again<T: Display>(alloc: Global, value: &T, text: &str) -> bool {
-    match is_written(alloc, value, text) {
-        Some(told) => told,
-        None => is_written(alloc, value, text) == Some(true),
-    }
-}
 
 /// A root of so many seats, asked for once more where memory was refused.
 pub(crate) fn sorted(rt: &impl Abort, alloc: Global, seats: u16) -> SortedRoot {

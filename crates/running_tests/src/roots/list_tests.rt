@@ -3,7 +3,7 @@
 //! A call that answers want of memory is made once more. So each test passes whichever single allocation is
 //! refused (`rt try --test --fail-alloc N`, for each N), and shows that a refused call can be made again.
 
-use crate::roots::given::{holds, is_written_again};
+use crate::roots::given::{has_text, holds};
 use std::alloc::Global;
 use std::process::Abort;
 use waiters::{CounterId, ListKey, Lists, NoMemory, SeatId, Wait, WaitId};
@@ -15,10 +15,10 @@ fn numbers_are_written(rt: HostRuntime) {
         seat: SeatId::new(0),
         turn: 1,
     };
-    holds(&rt, is_written_again(alloc, &wait, "0.1"));
+    has_text(&rt, alloc, &wait, "0.1");
     let counter = CounterId::new(4294967295);
-    holds(&rt, is_written_again(alloc, &counter, "4294967295"));
-    holds(&rt, is_written_again(alloc, &NoMemory, "no memory"));
+    has_text(&rt, alloc, &counter, "4294967295");
+    has_text(&rt, alloc, &NoMemory, "no memory");
 }
 
 fn wait(seat: u16, ticket: u64) -> Wait {
@@ -197,12 +197,6 @@ fn answers(rt: &impl Abort, alloc: Global, lists: &mut Lists) {
     has_room(rt, lists, 3, 2);
 }
 
-#[test]
-fn lists_answer_as_written(rt: HostRuntime) {
-    let mut lists = made(&rt, rt.alloc(), 3, 2);
-    answers(&rt, rt.alloc(), &mut lists);
-}
-
 const OF_A_COPY: [Row; 5] = [
     Row(Call::PushBack(1, 7), None, 2, 1),
     Row(Call::PushBack(2, 7), None, 3, 0),
@@ -225,12 +219,6 @@ fn is_copied(rt: &impl Abort, lists: &mut Lists) {
     answers_row(rt, lists, key, &Row(Call::PushBack(0, 5), None, 1, 2));
     copy_answers(rt, &mut copied(rt, lists), key);
     answers_row(rt, lists, key, &Row(Call::First, Some((0, 5)), 1, 2));
-}
-
-#[test]
-fn a_copy_answers_for_itself(rt: HostRuntime) {
-    let mut lists = made(&rt, rt.alloc(), 3, 2);
-    is_copied(&rt, &mut lists);
 }
 
 const ONE_LEFT: [Row; 3] = [
@@ -273,12 +261,6 @@ fn copy_over_others(rt: &impl Abort, lists: &mut Lists, over: &mut Lists) {
     answers_row(rt, over, key, &LEFT);
 }
 
-#[test]
-fn a_copy_over_other_lists_takes_no_memory(rt: HostRuntime) {
-    let mut lists = made(&rt, rt.alloc(), 3, 2);
-    copy_over_others(&rt, &mut lists, &mut made(&rt, rt.alloc(), 3, 2));
-}
-
 /// The lists become as the others are, at the second time where memory was refused.
 fn copy_over_smaller(rt: &impl Abort, lists: &mut Lists, over: &mut Lists) {
     let key = one_list(rt, lists);
@@ -289,8 +271,42 @@ fn copy_over_smaller(rt: &impl Abort, lists: &mut Lists, over: &mut Lists) {
     answers_as_written(rt, over, key, &EMPTIES);
 }
 
+/// What the lists do.
+#[derive(Clone, Copy, Drop)]
+enum Scene {
+    Answer,
+    /// A copy answers for itself.
+    Copied,
+    /// A copy over other lists takes no memory.
+    CopiedOverOthers,
+    /// A copy over smaller lists takes memory.
+    CopiedOverSmaller,
+}
+
+/// The scene with new lists.
+fn plays(rt: &impl Abort, alloc: Global, scene: Scene) {
+    let mut lists = made(rt, alloc, 3, 2);
+    match scene {
+        Scene::Answer => answers(rt, alloc, &mut lists),
+        Scene::Copied => is_copied(rt, &mut lists),
+        Scene::CopiedOverOthers => {
+            copy_over_others(rt, &mut lists, &mut made(rt, alloc, 3, 2));
+        }
+        Scene::CopiedOverSmaller => {
+            copy_over_smaller(rt, &mut lists, &mut made(rt, alloc, 0, 0));
+        }
+    }
+}
+
 #[test]
-fn a_copy_over_smaller_lists_takes_memory(rt: HostRuntime) {
-    let mut lists = made(&rt, rt.alloc(), 3, 2);
-    copy_over_smaller(&rt, &mut lists, &mut made(&rt, rt.alloc(), 0, 0));
+fn lists_and_their_copies_answer_as_written(rt: HostRuntime) {
+    let scenes = [
+        Scene::Answer,
+        Scene::Copied,
+        Scene::CopiedOverOthers,
+        Scene::CopiedOverSmaller,
+    ];
+    for scene in scenes {
+        plays(&rt, rt.alloc(), scene);
+    }
 }

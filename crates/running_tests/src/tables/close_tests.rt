@@ -8,35 +8,24 @@ use crate::tables::seats::{
     FIFO, LIFO, PLAIN, acquires, is_woken, posts, releases, retries, sleeps, tries,
 };
 use sema_table::{Closed, Seat, SemaTable, Tried, Wake};
+use std::alloc::Global;
 use std::process::Abort;
 use std::sync::Wait;
 use waiters::CounterId;
 
-/// What was added in all, and what was given.
-pub(crate) fn adds_up(rt: &impl Abort, closed: &Closed, releases: u64, acquires: u64) {
-    holds(rt, closed.releases() == releases);
-    holds(rt, closed.acquires() == acquires);
-}
-
 /// The last number of a counter.
-pub(crate) fn ends_at(rt: &impl Abort, closed: &Closed, number: u32, value: u64) {
+fn ends_at(rt: &impl Abort, closed: &Closed, number: u32, value: u64) {
     assert!(rt; number < closed.counters());
     holds(rt, closed.value(CounterId::new(number)) == value);
 }
 
-#[test]
-fn an_unused_table_has_its_starts(rt: HostRuntime) {
-    let sizes = Sizes {
-        counters: 2,
-        start: 7,
-        ..one_counter(0, 3)
-    };
-    let (table, seats) = made(&rt, rt.alloc(), &sizes);
-    let closed = closes(&rt, table, seats);
-    adds_up(&rt, &closed, 0, 0);
-    holds(&rt, closed.counters() == 2);
-    ends_at(&rt, &closed, 0, 7);
-    ends_at(&rt, &closed, 1, 7);
+/// How many units were added in all and how many given, and the last numbers of these counters.
+pub(crate) fn adds_up(rt: &impl Abort, closed: &Closed, counts: (u64, u64), ends: &[(u32, u64)]) {
+    holds(rt, closed.releases() == counts.0);
+    holds(rt, closed.acquires() == counts.1);
+    for end in ends {
+        ends_at(rt, closed, end.0, end.1);
+    }
 }
 
 /// A unit is taken from counter 0, and two are added to counter 1.
@@ -51,20 +40,6 @@ fn takes_one_and_adds_two<R: Abort + Wait>(rt: &R, table: &SemaTable, seats: &mu
     let first = posts(rt, table, first, 1);
     gives_back(rt, table, seats, second);
     gives_back(rt, table, seats, first);
-}
-
-#[test]
-fn two_counters_add_up(rt: HostRuntime) {
-    let sizes = Sizes {
-        counters: 2,
-        ..one_counter(3, 2)
-    };
-    let (table, mut seats) = made(&rt, rt.alloc(), &sizes);
-    takes_one_and_adds_two(&rt, &table, &mut seats);
-    let closed = closes(&rt, table, seats);
-    adds_up(&rt, &closed, 2, 1);
-    ends_at(&rt, &closed, 0, 2);
-    ends_at(&rt, &closed, 1, 5);
 }
 
 /// A seat sleeps, is woken by a release, and takes the unit.
@@ -84,15 +59,6 @@ fn sleeps_and_takes<R: Abort + Wait>(rt: &R, table: &SemaTable, seats: &mut Vec<
     gives_back(rt, table, seats, second);
 }
 
-#[test]
-fn nobody_waits_in_a_closed_table(rt: HostRuntime) {
-    let (table, mut seats) = made(&rt, rt.alloc(), &one_counter(0, 2));
-    sleeps_and_takes(&rt, &table, &mut seats);
-    let closed = closes(&rt, table, seats);
-    adds_up(&rt, &closed, 2, 2);
-    ends_at(&rt, &closed, 0, 0);
-}
-
 /// Five units are added by two calls, of which one is taken.
 fn adds_at_once<R: Abort + Wait>(rt: &R, table: &SemaTable, seats: &mut Vec<Seat>)
     requires { All (λ s. s.table ≡ table.now) seats.old.items }
@@ -105,11 +71,68 @@ fn adds_at_once<R: Abort + Wait>(rt: &R, table: &SemaTable, seats: &mut Vec<Seat
     gives_back(rt, table, seats, seat);
 }
 
+/// What the seats of a table do before it is closed.
+#[derive(Clone, Copy, Drop)]
+enum Scene {
+    Nothing,
+    TakesOneAndAddsTwo,
+    /// Nobody waits when it is closed.
+    SleepsAndTakes,
+    AddsAtOnce,
+}
+
+impl Scene {
+    fn plays<R: Abort + Wait>(self, rt: &R, table: &SemaTable, seats: &mut Vec<Seat>)
+        requires { All (λ s. s.table ≡ table.now) seats.old.items }
+        ensures { All (λ s. s.table ≡ table.now) seats.new.items }
+    {
+        match self {
+            Scene::Nothing => {}
+            Scene::TakesOneAndAddsTwo => takes_one_and_adds_two(rt, table, seats),
+            Scene::SleepsAndTakes => sleeps_and_takes(rt, table, seats),
+            Scene::AddsAtOnce => adds_at_once(rt, table, seats),
+        }
+    }
+}
+
+/// A scene, how many counters start at which number, and how many seats there are; then how many units are
+/// added and how many given, and the last numbers of the counters.
+type Row = (Scene, (usize, u32, u32), (u64, u64), &'static [(u32, u64)]);
+
+static SCENES: [Row; 4] = [
+    (Scene::Nothing, (2, 7, 3), (0, 0), &[(0, 7), (1, 7)]),
+    (
+        Scene::TakesOneAndAddsTwo,
+        (2, 3, 2),
+        (2, 1),
+        &[(0, 2), (1, 5)],
+    ),
+    (Scene::SleepsAndTakes, (1, 0, 2), (2, 2), &[(0, 0)]),
+    (Scene::AddsAtOnce, (1, 0, 2), (5, 1), &[(0, 4)]),
+];
+
+/// The scene in a new table, which is closed then.
+fn plays_and_closes<R: Abort + Wait>(
+    rt: &R,
+    alloc: Global,
+    scene: Scene,
+    sizes: (usize, u32, u32),
+) -> Closed {
+    let (counters, start, count) = sizes;
+    let sizes = Sizes {
+        counters,
+        ..one_counter(start, count)
+    };
+    let (table, mut seats) = made(rt, alloc, &sizes);
+    scene.plays(rt, &table, &mut seats);
+    closes(rt, table, seats)
+}
+
 #[test]
-fn units_that_were_added_at_once_add_up(rt: HostRuntime) {
-    let (table, mut seats) = made(&rt, rt.alloc(), &one_counter(0, 2));
-    adds_at_once(&rt, &table, &mut seats);
-    let closed = closes(&rt, table, seats);
-    adds_up(&rt, &closed, 5, 1);
-    ends_at(&rt, &closed, 0, 4);
+fn closed_tables_add_up(rt: HostRuntime) {
+    for (scene, sizes, counts, ends) in &SCENES {
+        let closed = plays_and_closes(&rt, rt.alloc(), *scene, *sizes);
+        holds(&rt, closed.counters() as usize == sizes.0);
+        adds_up(&rt, &closed, *counts, ends);
+    }
 }

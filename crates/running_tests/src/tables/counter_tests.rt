@@ -1,15 +1,14 @@
 //! Units that are added and taken where nobody waits.
 //!
-//! A test makes a table, and another function has the calls: a body that owns a table is slow to prove.
+//! Another function makes the table: a body that owns a table is slow to prove.
 
 ghost use Rattle.std.specs.Prelude.{◌≡◌, All};
 
-use crate::tables::given::{Sizes, last_seat, made, one_counter, two_seats};
+use crate::tables::given::{last_seat, two_seats};
 use crate::tables::seats::{
     acquires_spinning, counts, enters, has_value, has_waiters, is_at_its_limit, posts, spins, tries,
 };
 use sema_table::{Seat, SemaTable, Tried};
-use std::alloc::Global;
 use std::process::Abort;
 use std::sync::Wait;
 
@@ -62,40 +61,21 @@ pub(crate) fn takes_two<R: Abort + Wait>(rt: &R, table: &SemaTable, seats: Vec<S
 }
 
 /// The seat may add two units; what the counter's number is after the first, and after the second.
-fn posts_up_to_its_limit(
+pub(crate) fn posts_up_to_its_limit(
     rt: &impl Abort,
     table: &SemaTable,
-    seats: &mut Vec<Seat>,
-    numbers: (u64, u64),
+    seats: Vec<Seat>,
+    one: u64,
+    two: u64,
 )
-    requires { All (λ s. s.table ≡ table.now) seats.old.items }
+    requires { All (λ s. s.table ≡ table.now) seats.items }
 {
-    let seat = last_seat(rt, table, seats);
+    let mut seats = seats;
+    let seat = last_seat(rt, table, &mut seats);
     let mut seat = posts(rt, table, seat, 0);
-    has_value(rt, table, &mut seat, 0, numbers.0);
+    has_value(rt, table, &mut seat, 0, one);
     let seat = posts(rt, table, seat, 0);
     let mut seat = is_at_its_limit(rt, table, seat, 0);
     counts(rt, &seat, 0, 0);
-    has_value(rt, table, &mut seat, 0, numbers.1);
-}
-
-/// The same, of a counter that starts at this number.
-fn ends_at_its_limit(rt: &impl Abort, alloc: Global, start: u32, numbers: (u64, u64)) {
-    let sizes = Sizes {
-        release_limit: 2,
-        ..one_counter(start, 1)
-    };
-    let (table, mut seats) = made(rt, alloc, &sizes);
-    posts_up_to_its_limit(rt, &table, &mut seats, numbers);
-}
-
-#[test]
-fn a_seat_adds_up_to_its_limit(rt: HostRuntime) {
-    ends_at_its_limit(&rt, rt.alloc(), 0, (1, 2));
-}
-
-#[test]
-fn a_seat_adds_past_the_highest_start_up_to_its_limit(rt: HostRuntime) {
-    let numbers = (4_294_967_296, 4_294_967_297);
-    ends_at_its_limit(&rt, rt.alloc(), 4_294_967_295, numbers);
+    has_value(rt, table, &mut seat, 0, two);
 }

@@ -3,8 +3,8 @@
 
 ghost use Rattle.std.specs.Prelude.{◌≡◌, All};
 
-use crate::tables::close_tests::{adds_up, ends_at};
-use crate::tables::given::{Sizes, gives_back, last_seat, new_again};
+use crate::tables::close_tests::adds_up;
+use crate::tables::given::{Sizes, gives_back, last_seat, made};
 use crate::tables::seats::posts;
 use sema_table::{Closed, Seat, SemaTable};
 use sema_table_crew::{Way, Work, run};
@@ -51,9 +51,7 @@ fn works<R: Abort + Threads + Wait + Sync>(
     alloc: Global,
     plan: &Plan,
 ) -> Result<Closed, NoMemory> {
-    let Ok((table, mut seats)) = new_again(alloc, &plan.sizes) else {
-        return Err(NoMemory);
-    };
+    let (table, mut seats) = made(rt, alloc, &plan.sizes);
     begins(rt, &table, &mut seats, plan.units);
     assert!(rt; 0 < table.counters());
     run(rt, alloc, table, seats, plan.work, plan.turns)
@@ -75,21 +73,6 @@ const TWO_HANDS: Sizes = Sizes {
     roots: 1,
     release_limit: 20_002,
 };
-
-/// All seats work: how many units are added and how many given, and the last numbers of these counters.
-fn comes_to<R: Abort + Threads + Wait + Sync>(
-    rt: &R,
-    alloc: Global,
-    plan: &Plan,
-    counts: (u64, u64),
-    ends: &[(u32, u64)],
-) {
-    let closed = works_again(rt, alloc, plan);
-    adds_up(rt, &closed, counts.0, counts.1);
-    for end in ends {
-        ends_at(rt, &closed, end.0, end.1);
-    }
-}
 
 /// What is done, how many units are added and how many given, and the last numbers of these counters.
 static PLANS: [(Plan, (u64, u64), &[(u32, u64)]); 7] = [
@@ -200,6 +183,7 @@ static PLANS: [(Plan, (u64, u64), &[(u32, u64)]); 7] = [
 #[test]
 fn no_unit_and_nobody_is_lost(rt: HostRuntime) {
     for (plan, counts, ends) in &PLANS {
-        comes_to(&rt, rt.alloc(), plan, *counts, ends);
+        let closed = works_again(&rt, rt.alloc(), plan);
+        adds_up(&rt, &closed, *counts, ends);
     }
 }

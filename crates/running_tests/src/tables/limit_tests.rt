@@ -57,20 +57,18 @@ const PAST_TWO_LIMITS: [Judged; 12] = [
     Judged(Sized(1, 2, 252, MOST_RELEASES + 1), 3),
 ];
 
-fn are_refused(rt: &impl Abort, alloc: Global, rows: &[Judged]) {
-    for row in rows {
-        is_refused(rt, alloc, row);
+#[test]
+fn settings_past_a_limit_are_refused(rt: HostRuntime) {
+    for row in &PAST_ONE_LIMIT {
+        is_refused(&rt, rt.alloc(), row);
     }
 }
 
 #[test]
-fn settings_past_a_limit_are_refused(rt: HostRuntime) {
-    are_refused(&rt, rt.alloc(), &PAST_ONE_LIMIT);
-}
-
-#[test]
 fn the_lower_number_is_told(rt: HostRuntime) {
-    are_refused(&rt, rt.alloc(), &PAST_TWO_LIMITS);
+    for row in &PAST_TWO_LIMITS {
+        is_refused(&rt, rt.alloc(), row);
+    }
 }
 
 /// Seats that have run nothing, in the order of their numbers.

@@ -6,7 +6,7 @@ use crate::tables::given::{counter, holds, last_seat, two_seats, wait};
 use crate::tables::seats::{
     FIFO, PLAIN, counts, has_value, has_waiters, is_still_asleep, releases, sleeps, wakes_up,
 };
-use sema_table::{OwingMany, PostRefused, PostedMany, Seat, SemaTable, Sleeping, Wake};
+use sema_table::{OwingMany, PostRefused, PostedMany, Seat, SemaTable, Wake};
 use std::process::Abort;
 use std::sync::Wait;
 
@@ -148,28 +148,6 @@ pub(crate) fn releases_all_at_once<R: Abort + Wait>(rt: &R, table: &SemaTable, s
 }
 
 /// The last seat adds two units where three seats wait, and then one more for the third.
-fn wakes_two_of_three<R: Abort + Wait>(
-    rt: &R,
-    table: &SemaTable,
-    sleeping: (Sleeping, Sleeping),
-    third: Sleeping,
-    last: Seat,
-)
-    requires sleeping { (sleeping.0.table ≡ table.now) × (sleeping.1.table ≡ table.now) }
-    requires third { third.table ≡ table.now }
-    requires last { last.table ≡ table.now }
-{
-    let owing = owes_many(rt, table, last, 2);
-    let mut last = wakes_some(rt, table, owing, 2);
-    has_value(rt, table, &mut last, 0, 2);
-    has_waiters(rt, table, &mut last, 0, 1);
-    let third = is_still_asleep(rt, table, third);
-    wakes_up(rt, table, sleeping.0);
-    wakes_up(rt, table, sleeping.1);
-    releases(rt, table, last, 0, PLAIN, Wake::One(wait(2, 0)));
-    wakes_up(rt, table, third);
-}
-
 pub(crate) fn three_sleep<R: Abort + Wait>(rt: &R, table: &SemaTable, seats: Vec<Seat>)
     requires { All (λ s. s.table ≡ table.now) seats.items }
 {
@@ -180,5 +158,13 @@ pub(crate) fn three_sleep<R: Abort + Wait>(rt: &R, table: &SemaTable, seats: Vec
     let first = sleeps(rt, table, first, 0, FIFO, wait(0, 0));
     let second = sleeps(rt, table, second, 0, FIFO, wait(1, 0));
     let third = sleeps(rt, table, third, 0, FIFO, wait(2, 0));
-    wakes_two_of_three(rt, table, (first, second), third, last);
+    let owing = owes_many(rt, table, last, 2);
+    let mut last = wakes_some(rt, table, owing, 2);
+    has_value(rt, table, &mut last, 0, 2);
+    has_waiters(rt, table, &mut last, 0, 1);
+    let third = is_still_asleep(rt, table, third);
+    wakes_up(rt, table, first);
+    wakes_up(rt, table, second);
+    releases(rt, table, last, 0, PLAIN, Wake::One(wait(2, 0)));
+    wakes_up(rt, table, third);
 }

@@ -1,22 +1,25 @@
-//! Scenes of a table of one counter, in one thread.
+//! Scenes of a table, in one thread.
 //!
 //! They are played by one test, since a body that owns a table is slow to prove.
 
 ghost use Rattle.std.specs.Prelude.{◌≡◌, All};
 
 use crate::tables::counter_tests::{
-    spins_and_takes, spins_and_takes_nothing, takes_two, tries_at_zero,
+    posts_up_to_its_limit, spins_and_takes, spins_and_takes_nothing, takes_two, tries_at_zero,
 };
-use crate::tables::given::{Sizes, made, one_counter};
+use crate::tables::given::{Sizes, made};
 use crate::tables::many_tests::{
     posts_all_at_once, releases_all_at_once, three_sleep, wakes_the_only_one,
     wakes_the_only_one_at_once,
 };
 use crate::tables::meet_tests::meets_between_calls;
 use crate::tables::order_tests::five_seats;
-use crate::tables::wait_tests::{loses_its_unit, sleeps_until_woken, two_sleep_and_one_is_handed};
+use crate::tables::wait_tests::{
+    loses_its_unit, sleeps_until_woken, two_sleep_and_one_is_handed, wakes_nobody,
+};
 use crate::tables::whole_tests::{finds_its_grant, takes_what_is_there};
 use sema_table::{Seat, SemaTable};
+use std::alloc::Global;
 use std::process::Abort;
 use std::sync::Wait;
 
@@ -55,9 +58,29 @@ enum Scene {
     ReleasesToItsLimit,
     /// As many waits are woken as units were added.
     TwoOfThree,
+    /// A release wakes nobody of another counter.
+    WakesNobody,
+    /// A seat adds up to its limit: the counter's number after the first unit, and after the second.
+    AddsToItsLimit(u64, u64),
 }
 
 impl Scene {
+    /// The settings of its table.
+    fn sizes(self, start: u32, seats: u32) -> Sizes {
+        let (counters, roots, release_limit) = match self {
+            Scene::WakesNobody => (252, 251, 10),
+            Scene::AddsToItsLimit(..) => (1, 1, 2),
+            _ => (1, 1, 10),
+        };
+        Sizes {
+            counters,
+            start,
+            seats,
+            roots,
+            release_limit,
+        }
+    }
+
     fn plays<R: Abort + Wait>(self, rt: &R, table: &SemaTable, seats: Vec<Seat>)
         requires { All (λ s. s.table ≡ table.now) seats.items }
     {
@@ -78,12 +101,16 @@ impl Scene {
             Scene::PostsToItsLimit => posts_all_at_once(rt, table, seats),
             Scene::ReleasesToItsLimit => releases_all_at_once(rt, table, seats),
             Scene::TwoOfThree => three_sleep(rt, table, seats),
+            Scene::WakesNobody => wakes_nobody(rt, table, seats),
+            Scene::AddsToItsLimit(one, two) => posts_up_to_its_limit(rt, table, seats, one, two),
         }
     }
 }
 
-/// Scenes, the number at which the counter starts, and how many seats there are.
-static SCENES: [(Scene, u32, u32); 16] = [
+/// A scene, the number at which the counter starts, and how many seats there are.
+type Row = (Scene, u32, u32);
+
+static SCENES: [Row; 19] = [
     (Scene::TriesAtZero, 0, 2),
     (Scene::SpinsInVain, 0, 1),
     (Scene::SpinsAndTakes, 0, 1),
@@ -100,17 +127,25 @@ static SCENES: [(Scene, u32, u32); 16] = [
     (Scene::PostsToItsLimit, 0, 1),
     (Scene::ReleasesToItsLimit, 0, 1),
     (Scene::TwoOfThree, 0, 4),
+    (Scene::WakesNobody, 0, 2),
+    (Scene::AddsToItsLimit(1, 2), 0, 1),
+    // past the highest start
+    (
+        Scene::AddsToItsLimit(4_294_967_296, 4_294_967_297),
+        4_294_967_295,
+        1,
+    ),
 ];
+
+/// The scene of this row in a new table.
+fn plays_in_a_table<R: Abort + Wait>(rt: &R, alloc: Global, row: &Row) {
+    let (table, seats) = made(rt, alloc, &row.0.sizes(row.1, row.2));
+    row.0.plays(rt, &table, seats);
+}
 
 #[test]
 fn scenes_of_a_table_end_as_known(rt: HostRuntime) {
     for row in &SCENES {
-        let (scene, start, count) = *row;
-        let sizes = Sizes {
-            roots: 1,
-            ..one_counter(start, count)
-        };
-        let (table, seats) = made(&rt, rt.alloc(), &sizes);
-        scene.plays(&rt, &table, seats);
+        plays_in_a_table(&rt, rt.alloc(), row);
     }
 }

@@ -5,7 +5,7 @@
 
 ghost use Rattle.std.specs.Prelude.{◌≡◌, ◌<◌, ◌≤◌, length, All, IfOk};
 
-use crate::tables::given::{last_seat, new_again, one_counter};
+use crate::tables::given::{holds, last_seat, made, one_counter};
 use crate::tables::many_tests::owes_many;
 use crate::tables::seats::{has_value, has_waiters};
 use sema_table::{Seat, SemaTable};
@@ -13,7 +13,6 @@ use sema_table_crew::Start;
 use std::alloc::Global;
 use std::process::Abort;
 use std::sync::Wait;
-use std::test::Fail;
 use std::thread;
 use std::thread::{Scope, Threads};
 use std::time::{Clock, Duration};
@@ -131,24 +130,35 @@ fn sleep_and_wake<R: Abort + Clock + Threads + Wait + Sync>(
 /// All sleepers have come by their units: none is left, and nobody waits.
 fn all_come_back<R: Abort + Clock + Threads + Wait + Sync>(
     rt: &R,
-    alloc: Global,
-) -> Result<(), NoMemory> {
-    let sizes = one_counter(0, SLEEPERS + 1);
-    let Ok((table, mut seats)) = new_again(alloc, &sizes) else {
-        return Err(NoMemory);
+    table: &SemaTable,
+    seats: Vec<Seat>,
+    waker: Seat,
+) -> bool
+    requires table { (waker.table ≡ table.now) × (0 < length table.now.setting.starts) }
+    requires seats { All (λ s. s.table ≡ table.now) seats.items }
+{
+    let Ok(mut waker) = sleep_and_wake(rt, table, seats, waker) else {
+        return false;
     };
+    has_value(rt, table, &mut waker, 0, 0);
+    has_waiters(rt, table, &mut waker, 0, 0);
+    true
+}
+
+/// The same, of a new table.
+fn all_come_back_to_a_table<R: Abort + Clock + Threads + Wait + Sync>(
+    rt: &R,
+    alloc: Global,
+) -> bool {
+    let (table, mut seats) = made(rt, alloc, &one_counter(0, SLEEPERS + 1));
     let waker = last_seat(rt, &table, &mut seats);
     assert!(rt; 0 < table.counters());
-    let mut waker = sleep_and_wake(rt, &table, seats, waker)?;
-    has_value(rt, &table, &mut waker, 0, 0);
-    has_waiters(rt, &table, &mut waker, 0, 0);
-    Ok(())
+    all_come_back(rt, &table, seats, waker)
 }
 
 #[test]
-fn many_units_wake_threads_that_sleep(rt: HostRuntime) -> Result<(), Fail> {
-    match all_come_back(&rt, rt.alloc()) {
-        Err(NoMemory) => Ok(all_come_back(&rt, rt.alloc())?),
-        Ok(()) => Ok(()),
-    }
+fn many_units_wake_threads_that_sleep(rt: HostRuntime) {
+    let told = all_come_back_to_a_table(&rt, rt.alloc())
+        || all_come_back_to_a_table(&rt, rt.alloc());
+    holds(&rt, told);
 }
