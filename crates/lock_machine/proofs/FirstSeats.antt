@@ -1,19 +1,18 @@
 -- Seats that go on from their first lines one by one, and the machine that is sound when all have.
-use Rattle.std.proofs.Common.{◌≡◌, ◌≢◌, ℕ, ℤ, pos, ◌+◌, ◌<◌, ◌≤◌, List, [], length, refl, sym, ap, ◌∙◌, subst, arith}
+use Rattle.std.proofs.Common.{◌≡◌, ℕ, ℤ, pos, ◌+◌, ◌<◌, List, [], length, refl, sym, ap, ◌∙◌, subst, arith}
 use native.Mathlib.Decide.{ℕ_discrete}
 use Rattle.lock_code.specs.declared.program.CodeLine.{CodeLine}
 use Rattle.lock_code.specs.declared.program.Program.{Program}
 use Rattle.lock_code.specs.WellFormed.{IsWellFormed, IsFew}
 use Rattle.lock_machine.specs.Layer.{parts_of}
-use Rattle.lock_machine.specs.Moment.{LockMoment, IsStarted}
-use Rattle.lock_machine.specs.Shared.{Shared, world_of}
+use Rattle.lock_machine.specs.Shared.{world_of}
 use Rattle.lock_machine.specs.Sound.{IsSound}
 use Rattle.lock_machine.specs.Starting.{HaveStarted}
 use Rattle.lock_rows.specs.Settling.{HasStarted}
 use Rattle.lock_rows.specs.Starting.{IsFirst}
 use Rattle.lock_rows.specs.Stored.{Stored, seats_of}
 use Rattle.lock_steps.specs.Going.{GoesOn}
-use Rattle.lock_steps.specs.Steps.{IsStart, Reaches, start}
+use Rattle.lock_steps.specs.Steps.{IsStart, start}
 use Rattle.lock_steps.specs.World.{LockSeat, layer_of, code_of, new_seat}
 use Rattle.step_core.specs.Key.{HasForm}
 use Rattle.step_core.specs.State.{Machine, core_of}

@@ -1,39 +1,31 @@
 -- The row of the line before which a seat stands: what it asks for is there, and what it has made is the definition's row.
-use Rattle.std.proofs.Common.{◌≡◌, ◌≢◌, ℕ, ◌+◌, ◌<◌, ◌≤◌, ◌^◌, List, [], Option, Some, None, Result, Ok, Err, IfOk, IfErr, OnOk, IfSome, length, max, pos, slice_get, refl, sym, ap, ◌∙◌, subst, arith}
+use Rattle.std.proofs.Common.{◌≡◌, ℕ, ◌<◌, List, [], Option, Some, None, Result, Ok, Err, IfOk, IfErr, OnOk}
+use Rattle.std.proofs.Common.{IfSome, length, refl, sym, ap, ◌∙◌, subst, arith}
 use Rattle.std.specs.Prelude.{slice_index_or}
 use Rattle.lock_code.specs.declared.instruction.Instruction.{Instruction}
 use Rattle.lock_code.specs.declared.instruction.Instruction.TheVariants as line
-use Rattle.lock_code.specs.declared.operand.Operand.{Operand}
 use Rattle.lock_code.specs.declared.operand.Place.{Place}
 use Rattle.lock_code.specs.declared.operand.Place.TheVariants.{Single, Member}
-use Rattle.lock_code.specs.declared.operand.Share.{Share}
 use Rattle.lock_code.specs.declared.operand.Share.TheVariants as share
 use Rattle.lock_code.specs.declared.program.Program.{Program}
-use Rattle.lock_code.specs.WellFormed.{IsWellFormed, IsFew, IsLine, IsPlace, IsRegister}
+use Rattle.lock_code.specs.WellFormed.{IsFew, IsLine, IsPlace, IsRegister}
 use Rattle.lock_machine.specs.Beginning.{HasCall, MayRun, MayRunFirst}
 use Rattle.lock_machine.specs.Calling.{HasAll, FitsCall}
-use Rattle.lock_machine.specs.Layer.{parts_of}
-use Rattle.lock_machine.specs.LayerRows.{HasLayerRow, HasNoLayerRow, with_call, as_it_is}
+use Rattle.lock_machine.specs.LayerRows.{HasLayerRow, HasNoLayerRow, with_call}
 use Rattle.lock_machine.specs.Shared.{Shared, world_of, world_at}
-use Rattle.lock_machine.specs.Sound.{IsSound, CanGoOn, IsBefore, IsAsLarge, HasRun, HasNoRow, HasStepped}
-use Rattle.lock_machine.proofs.Standing.{IsThere, Kept, row_kept, stands_there}
-use Rattle.lock_rows.specs.Settling.{HasSettled, IsSeatAfterIn}
-use Rattle.lock_code.specs.declared.program.CodeLine.{CodeLine}
-use Rattle.lock_steps.specs.Going.{GoesOn}
+use Rattle.lock_machine.specs.Sound.{IsSound, CanGoOn, IsBefore, IsAsLarge, HasRun, HasNoRow}
 use Rattle.lock_machine.proofs.Asking.{line_may_call, line_may_begin, line_may_run_first, may_run}
 use Rattle.lock_machine.proofs.Showing.{IsLayer, layer_reached, machine_is, stored_is, has_seat, has_list_seat}
 use Rattle.lock_rows.specs.Fitting.{FitsPlace, FitsRegister, FitsWords}
-use Rattle.lock_rows.specs.Rows.{Does, row_at as row_of_words, wakes_at}
-use Rattle.lock_rows.specs.Stored.{Stored, world_over, seats_of, IsSameSize}
+use Rattle.lock_rows.specs.Rows.{Does, row_at as row_of_words}
+use Rattle.lock_rows.specs.Stored.{Stored, world_over}
 use Rattle.lock_rows.proofs.Storing.{same_size}
 use Rattle.lock_steps.specs.declared.cause.Cause.{Cause}
-use Rattle.lock_steps.specs.declared.stand.Stand.{Stand}
-use Rattle.lock_steps.specs.declared.stand.Stand.TheVariants.{Before, Within, Asleep, Ended, FailedAt}
 use Rattle.lock_steps.specs.declared.stand.Then.{Then}
-use Rattle.lock_steps.specs.declared.stand.Then.TheVariants.{OnFromNext, Stands, Fails}
+use Rattle.lock_steps.specs.declared.stand.Then.TheVariants.{Fails}
 use Rattle.lock_steps.specs.Calls.{call_of}
-use Rattle.lock_steps.specs.Steps.{Did, row_of, row_at, row_before, first_row, row_of_line, at, IsSeatAfter}
-use Rattle.lock_steps.specs.World.{LockWorld, LockSeat, layer_of, code_of}
+use Rattle.lock_steps.specs.Steps.{row_of, row_at, row_before, first_row, row_of_line}
+use Rattle.lock_steps.specs.World.{LockWorld, layer_of, code_of}
 use Rattle.lock_steps.proofs.Layers.{all_keep, IsAtRest}
 use Rattle.step_core.specs.State.{Machine, AreSameSize, HasSeat, MayBegin, core_of}
 use Rattle.step_law_whole.specs.TheCore.{MayCall}
@@ -200,75 +192,6 @@ module _ (p : Program) (s : Shared) (i : ℕ) (can : CanGoOn p s i) where
   -- the row of the layer at which it stands may be run
   pub may_run_here : MayRun s.layer i
   may_run_here = may_run p can.sound.few can.steps can.small s.layer can.sound.past.journal shows i can.there
-
-  -- it stands within a call of the layer
-  module _ (n : ℕ) (within : (seats_of s.own.seats i).stand ≡ Within n) where
-    pub within_there : n < length (code_of p i)
-    within_there = subst (IsThere (code_of p i)) within (stands_there p can.sound.past.schedule world can.sound.past.reached i can.there)
-
-    pub within_ran : (k : Machine) (then : Then) → HasLayerRow s.layer i n as_it_is k then → AreSameSize s.layer k
-        → HasRun p s i (record { layer = k; own = s.own }) then
-    within_ran k then row alike = record {
-      row = λ journal. let got = row (layer_of p) (machine_is p s.layer can.sound.form) journal in
-          (got.0, ap (row_at p (world_of s journal) i) within ∙ got.1 (world_of s journal));
-      size = record { layer = alike; own = same_size s.own };
-    }
-
-    pub within_refused : HasNoLayerRow s.layer i n as_it_is → HasNoRow p s i
-    within_refused can_not journal =
-        ap (row_at p (world_of s journal) i) within ∙ can_not (layer_of p) (machine_is p s.layer can.sound.form) journal (world_of s journal)
-
-  -- it sleeps on a word
-  module _ (n : ℕ) (asleep : (seats_of s.own.seats i).stand ≡ Asleep n) where
-    pub asleep_there : n < length (code_of p i)
-    asleep_there = subst (IsThere (code_of p i)) asleep (stands_there p can.sound.past.schedule world can.sound.past.reached i can.there)
-
-    pub asleep_ran : (t : Stored) (then : Then) → Does (wakes_at i) s.own t then → HasRun p s i (record { layer = s.layer; own = t }) then
-    asleep_ran t then does = record {
-      row = λ journal. (journal, ap (row_at p (world_of s journal) i) asleep ∙ does.did (core_of s.layer journal));
-      size = record { layer = alike_self s.layer; own = does.size };
-    }
-
-    pub asleep_refused : ((layer : Core) → wakes_at i (world_over layer s.own) ≡ None) → HasNoRow p s i
-    asleep_refused can_not journal = ap (row_at p (world_of s journal) i) asleep ∙ can_not (core_of s.layer journal)
-
-  -- a row and what comes after it are a step
-  module _ (mid : Shared) (then : Then) (ran : HasRun p s i mid then) (code : List CodeLine) (code_is : code ≡ code_of p i) (n : ℕ)
-      (line_at : n ≡ at (seats_of s.own.seats i).stand) (own : Stored) (settled : HasSettled code i n then mid.own own) where
-    seat_after : (then : Then) (q t : LockSeat) → IsSeatAfterIn code i n q then t → IsSeatAfter p i (at (seats_of s.own.seats i).stand) q then t
-    seat_after OnFromNext q t is =
-        subst (λ k. GoesOn (code_of p i) i q (k + 1) t) line_at (subst (λ lines. GoesOn lines i q (n + 1) t) code_is is)
-    seat_after (Stands stand) q t is = is
-    seat_after (Fails why) q t is = is ∙ ap (λ k. record q { stand = FailedAt k why }) line_at
-
-    kept_by_row : (journal : List Entry) → Kept p (world_of s journal) i (record { world = world_of mid (ran.row journal).0; next = then })
-    kept_by_row journal = row_kept p (world_of s journal) i (seats_of s.own.seats i).stand
-        (stands_there p can.sound.past.schedule world can.sound.past.reached i can.there) _ (ran.row journal).1
-
-    pub stepped : HasStepped p s i (record { layer = mid.layer; own = own })
-    stepped = record {
-      step = λ journal. (
-        (ran.row journal).0,
-        record {
-          did = record { world = world_of mid (ran.row journal).0; next = then };
-          is = (ran.row journal).1;
-          seat = seat_after then (seats_of mid.own.seats i) (seats_of own.seats i) settled.seat;
-          others = λ k ne. settled.rest.others k ne ∙ (kept_by_row journal).others k ne;
-          words = ap (each (pos 0)) settled.rest.words;
-          layer = refl;
-          sleepers = settled.rest.sleepers;
-          grants = settled.rest.grants;
-        },
-      );
-      size = record {
-        layer = ran.size.layer;
-        own = record {
-          words = settled.rest.size.words ∙ ran.size.own.words;
-          seats = settled.rest.size.seats ∙ ran.size.own.seats;
-          there = λ q. settled.rest.size.there (ran.size.own.there q);
-        };
-      };
-    }
 
   -- it stands before this line
   module _ (n : ℕ) (l : Instruction) (before : IsBefore p s i n l) where

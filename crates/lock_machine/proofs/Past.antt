@@ -1,13 +1,13 @@
 -- A machine that was sound before a step is sound after it: the schedule that led there is one step longer.
-use Rattle.std.proofs.Common.{◌≡◌, ℕ, ◌+◌, ◌<◌, List, [], ◌∷◌, ◌++◌, length, refl, sym, ap, ◌∙◌, subst}
+use Rattle.std.proofs.Common.{◌≡◌, ℕ, ◌+◌, ◌<◌, [], ◌∷◌, ◌++◌, length, refl, ap, ◌∙◌, subst}
 use Rattle.std.proofs.lemmas.List.{length-append}
 use Rattle.lock_code.specs.declared.program.Program.{Program}
 use Rattle.lock_machine.specs.Layer.{parts_of}
 use Rattle.lock_machine.specs.Moment.{LockMoment, HasMoved}
-use Rattle.lock_machine.specs.Shared.{Shared, world_of}
+use Rattle.lock_machine.specs.Shared.{Shared}
 use Rattle.lock_machine.specs.Sound.{IsSound, HasStepped}
 use Rattle.lock_machine.proofs.Showing.{form_after}
-use Rattle.lock_steps.specs.Steps.{Reaches, step}
+use Rattle.lock_steps.specs.Steps.{step}
 
 module _ (p : Program) (n : ℕ) (s : Shared) (i : ℕ) (t : Shared) (sound : IsSound p n s) (there : i < length p.seats)
     (stepped : HasStepped p s i t) where

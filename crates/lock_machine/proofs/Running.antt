@@ -1,19 +1,19 @@
 -- A row of the layer that the machine has run, or refused, is the layer's row; and the first row of a call can run, but for
 -- that of a wait, which takes its list's lock.
-use Rattle.std.proofs.Common.{◌≡◌, ℕ, ◌<◌, Bool, true, false, cond, pos, List, [], Option, Some, None, IsTrue, ◌↔◌, ◌==◌, ne_eqb, refl, sym, ap, ◌∙◌, subst}
-use Rattle.lock_machine.specs.Beginning.{HasCall, HasListOf, CanBegin}
+use Rattle.std.proofs.Common.{◌≡◌, ℕ, Bool, true, false, cond, pos, List, [], Option, Some, None, ◌==◌, ne_eqb, refl}
+use Rattle.std.proofs.Common.{sym, ap, ◌∙◌, subst}
+use Rattle.lock_machine.specs.Beginning.{HasCall, CanBegin}
 use Rattle.lock_machine.specs.LayerRows.{HasLayerRow, HasNoLayerRow, as_it_is, with_call}
 use Rattle.lock_steps.specs.declared.stand.Then.{Then}
 use Rattle.lock_steps.specs.Steps.{after_call, layer_row}
 use Rattle.lock_steps.specs.World.{LockWorld, new_seat}
-use Rattle.step_core.specs.State.{Machine, IsMachineFor, IsRefusal, HasRunRow, Becomes, core_of}
+use Rattle.step_core.specs.State.{Machine, IsRefusal, HasRunRow, Becomes, core_of}
 use Rattle.step_core.proofs.Changing.{same_layout}
 use Rattle.step_law_whole.specs.TheCore.{MayCall}
 use Rattle.step_rows.specs.Stored.{each}
 use Rattle.step_table.specs.declared.call.Call.{Call}
 use Rattle.step_table.specs.declared.call.Call.TheVariants.{Acquire, Release, ReleaseMany, Add, Wait, One, All, GroupAdd, GroupWait}
 use Rattle.step_table.specs.declared.entry.Entry.{Entry}
-use Rattle.step_table.specs.declared.list_place.ListPlace.{ListPlace}
 use Rattle.step_table.specs.declared.list_place.ListPlace.TheVariants.{Adding, Waiting, NotifyingOne, NotifyingAll}
 use Rattle.step_table.specs.declared.list_place.WaitRow.TheVariants.{W1}
 use Rattle.step_table.specs.declared.list_place.OneRow.TheVariants.{O1}

@@ -1,5 +1,6 @@
 -- What a row leaves of other seats, and that the lines at which seats stand in calls or asleep are lines of their codes.
-use Rattle.std.proofs.Common.{◌≡◌, ◌≢◌, ℕ, zero, suc, ◌+◌, ◌<◌, ◌≤◌, ℤ, Bool, true, false, cond, eqb, List, Option, Some, None, Result, Ok, Err, length, slice_get, refl, sym, ap, ◌∙◌, subst}
+use Rattle.std.proofs.Common.{◌≡◌, ◌≢◌, ℕ, zero, suc, ◌+◌, ◌<◌, Bool, true, false, cond, eqb, List, Option, Some, None}
+use Rattle.std.proofs.Common.{Result, Ok, Err, length, slice_get, refl, sym, ap, ◌∙◌, subst}
 use Rattle.std.specs.Ordering.{int_eq}
 use Rattle.std.specs.Prelude.{⊤}
 use Rattle.std.proofs.lemmas.Option.{slice_get_within}
@@ -15,10 +16,11 @@ use Rattle.lock_steps.specs.declared.stand.Stand.TheVariants.{Before, Within, As
 use Rattle.lock_steps.specs.declared.stand.Then.{Then}
 use Rattle.lock_steps.specs.declared.stand.Then.TheVariants.{OnFromNext, Stands, Fails}
 use Rattle.lock_steps.specs.Calls.{call_of}
-use Rattle.lock_steps.specs.Going.{advanced, advanced_from, after_line, after_line_of, endless_from, endless_at, come_from, at_line, GoesOn}
+use Rattle.lock_steps.specs.Going.{advanced, advanced_from, after_line, after_line_of, endless_from, endless_at, at_line, GoesOn}
 use Rattle.lock_steps.specs.Numbers.{holds}
 use Rattle.lock_steps.specs.Reading.{place_of, value, makes_steps}
-use Rattle.lock_steps.specs.Steps.{Did, row_of, row_at, row_before, first_row, row_of_line, layer_row, after_call, awoken, on_word, at, IsSeatAfter, StepsTo, Reaches, start, step}
+use Rattle.lock_steps.specs.Steps.{Did, row_at, row_before, first_row, row_of_line, layer_row, after_call, on_word, at, IsSeatAfter, StepsTo}
+use Rattle.lock_steps.specs.Steps.{Reaches, start, step}
 use Rattle.lock_steps.specs.World.{LockWorld, LockSeat, layer_of, code_of}
 use Rattle.step_table.specs.declared.call.Call.{Call}
 use Rattle.step_table.specs.declared.standing.Standing.{Standing}

@@ -1,5 +1,5 @@
 -- What is true of a lock program at each moment, and one row of it.
-use Rattle.std.specs.Prelude.{◌≡◌, ◌≢◌, ◌<◌, ◌^◌, ℕ, List, Some, None, length, slice_get}
+use Rattle.std.specs.Prelude.{◌≡◌, ◌<◌, ◌^◌, ℕ, List, Some, None, length, slice_get}
 use Rattle.lock_code.specs.declared.instruction.Instruction.{Instruction}
 use Rattle.lock_code.specs.declared.program.CodeLine.{CodeLine}
 use Rattle.lock_code.specs.declared.program.Program.{Program}

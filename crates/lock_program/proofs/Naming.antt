@@ -1,5 +1,6 @@
 -- What a line of a program means names only what is there.
-use Rattle.std.proofs.Common.{ℕ, ◌+◌, ◌<◌, ◌≤◌, Bool, true, false, cond, ℤ, List, [], ◌∷◌, length, Option, Some, None, Result, IfOk, IfSome}
+use Rattle.std.proofs.Common.{ℕ, ◌+◌, ◌<◌, ◌≤◌, Bool, true, false, cond, ℤ, List, [], ◌∷◌, length, Option, Some, None, Result, IfOk}
+use Rattle.std.proofs.Common.{IfSome}
 use Rattle.std.proofs.Common.{All, unwrap_or, bytes_eq, arith}
 use Rattle.std.specs.Prelude.{⊤}
 use Rattle.std.proofs.lemmas.List.Elements.{All-head, All-tail}
@@ -83,7 +84,8 @@ constant_in d (Some v) r h = tt
 constant_in d None r h = oks_map (Below (length d.names.registers)) (IsOperand (sizes d)) operand.Register r h (λ k lt. lt)
 
 operand_in : (d : Draft) (e : Operand) → IfOk (operand_of d.names e) (IsOperand (sizes d))
-operand_in d (text.Number n) = oks_map (λ _. ⊤) (IsOperand (sizes d)) operand.Number (number_of n) (oks_any (λ _. ⊤) (number_of n) (λ v. tt)) (λ v h. tt)
+operand_in d (text.Number n) =
+    oks_map (λ _. ⊤) (IsOperand (sizes d)) operand.Number (number_of n) (oks_any (λ _. ⊤) (number_of n) (λ v. tt)) (λ v h. tt)
 operand_in d text.Me = tt
 operand_in d (text.Name name) = constant_in d (value_of d.names.constants name) (register_of d.names name) (number_within d.names.registers name)
 

@@ -139,7 +139,8 @@ module _ (h g : Stored) (same : h ≡ g) (i n : ℕ) (at : n ≡ i) (there : i <
         in_h = subst (λ (s : Stored). w < length s.words) (sym same) within
 
 -- a word that was read
-pub word_read : (h g : Stored) → h ≡ g → (w : ℕ) → w < length g.words → (was : ℤ) → was ≡ get_or h.words w was → was ≡ each (pos 0) g.words w
+pub word_read : (h g : Stored) → h ≡ g → (w : ℕ) → w < length g.words → (was : ℤ)
+    → was ≡ get_or h.words w was → was ≡ each (pos 0) g.words w
 word_read h g same w within was is =
     read_at (pos 0) g.words w was within (subst (λ (s : Stored). was ≡ get_or s.words w was) same is)
 

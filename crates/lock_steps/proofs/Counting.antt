@@ -1,5 +1,6 @@
 -- A step adds at most one to the turns of its seat and to the tickets of a list, and takes no counter above 32 bits.
-use Rattle.std.proofs.Common.{◌≡◌, ◌≢◌, ℕ, ◌+◌, ◌<◌, ◌≤◌, IsTrue, List, [], ◌∷◌, length, refl, sym, ap, ◌∙◌, subst, arith, length-append}
+use Rattle.std.proofs.Common.{◌≡◌, ◌≢◌, ℕ, ◌+◌, ◌<◌, ◌≤◌, IsTrue, List, [], ◌∷◌, length, refl, sym, ap, ◌∙◌, subst}
+use Rattle.std.proofs.Common.{arith, length-append}
 use Rattle.std.specs.Prelude.{eqb, Option, Some, None, Result, Ok, Err, slice_get, slice_index_or}
 use Rattle.std.proofs.lemmas.Option.{none-some, cond_some}
 use Rattle.waiters.specs.declared.wait.WaitId.{WaitId}

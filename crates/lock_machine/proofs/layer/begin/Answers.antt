@@ -1,5 +1,4 @@
-use Rattle.std.proofs.Common.{rules, ◌≡◌, Result, Ok, Err, IfOk, IfErr, OnErr}
-use Rattle.lock_machine.specs.LayerRows.{HasLayerRow, HasNoLayerRow, as_it_is, with_call}
+use Rattle.std.proofs.Common.{rules, Result, Ok, Err, IfErr, OnErr}
 use Rattle.lock_machine.proofs.Running.{first_row_ran, first_row_refused, held_back, not_refused}
 use Rattle.lock_machine.proofs.Lines.{on_ok, on_err}
 use Rattle.lock_machine.proofs.layer.begin.Goals as goal
@@ -19,7 +18,8 @@ returns-clause-row c =
 
 pub returns-clause-err : goal.returns-clause-err
 returns-clause-err c =
-    never_err _ _ (λ cause none. not_refused c.args.layer.now c.args.seat c.args.call c.can_begin.result (search rules) c.can_begin.ensures c.requires.may c.args.line
+    never_err _ _ (λ cause none. not_refused c.args.layer.now c.args.seat c.args.call c.can_begin.result (search rules)
+    c.can_begin.ensures c.requires.may c.args.line
     (first_row_refused c.args.layer.now c.call.new.self c.args.seat c.args.call c.call.ensures c.args.line none)) c.run_row.result c.run_row.ensures.why
 
 pub returns-clause-why : goal.returns-clause-why

@@ -1,4 +1,4 @@
-use Rattle.std.proofs.Common.{ℕ, List, length, sym, ap, ◌∙◌, subst}
+use Rattle.std.proofs.Common.{length, ap, ◌∙◌, subst}
 use Rattle.lock_code.specs.declared.program.Program.{Program}
 use Rattle.lock_rows.specs.Settling.{HasStarted}
 use Rattle.lock_machine.proofs.FirstSeats.{none_started, one_started}

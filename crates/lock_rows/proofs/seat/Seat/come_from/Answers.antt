@@ -17,15 +17,20 @@ returns-in-None-clause-seat c =
 pub returns-in-Some-clause-seat : goal.returns-in-Some-clause-seat
 returns-in-Some-clause-seat c =
     comes_to c.args.code.now c.args.me c.args.self.now c.args.line c.loop.counter c.loop.self c.loop.invariant c.in-Before.at c.in-Before.is
-    c.in-Some.next.now (slice_get_read c.args.code.now (length c.args.code.now) c.in-Before.at c.in-Some.next.now refl c.in-Some.ensures.lookup.3.0 c.in-Some.ensures.lookup.1) (sym c.makes_steps.ensures ∙ c.if-makes_steps.true)
+    c.in-Some.next.now (slice_get_read c.args.code.now (length c.args.code.now) c.in-Before.at c.in-Some.next.now refl c.in-Some.ensures.lookup.3.0
+    c.in-Some.ensures.lookup.1) (sym c.makes_steps.ensures ∙ c.if-makes_steps.true)
 
 pub advance-requires-clause-fits : goal.advance-requires-clause-fits
-advance-requires-clause-fits c = c.requires c.in-Before.at c.in-Some.next.now (slice_get_read c.args.code.now (length c.args.code.now) c.in-Before.at c.in-Some.next.now refl c.in-Some.ensures.lookup.3.0 c.in-Some.ensures.lookup.1)
+advance-requires-clause-fits c =
+    c.requires c.in-Before.at c.in-Some.next.now
+    (slice_get_read c.args.code.now (length c.args.code.now) c.in-Before.at c.in-Some.next.now refl c.in-Some.ensures.lookup.3.0 c.in-Some.ensures.lookup.1)
 
 pub loop-preserved : goal.loop-preserved
 loop-preserved c =
     goes_on c.args.code.now c.args.me c.args.self.now c.args.line c.loop.counter c.loop.self c.loop.invariant c.in-Before.at c.in-Before.is
-    (let t = c.loop-test.true in omega arith) c.in-Some.next.now (slice_get_read c.args.code.now (length c.args.code.now) c.in-Before.at c.in-Some.next.now refl c.in-Some.ensures.lookup.3.0 c.in-Some.ensures.lookup.1) c.advance.new.self c.advance.ensures.seat
+    (let t = c.loop-test.true in omega arith) c.in-Some.next.now
+    (slice_get_read c.args.code.now (length c.args.code.now) c.in-Before.at c.in-Some.next.now refl c.in-Some.ensures.lookup.3.0 c.in-Some.ensures.lookup.1)
+    c.advance.new.self c.advance.ensures.seat
     c.advance.ensures.grant
 
 pub returns-clause-seat : goal.returns-clause-seat

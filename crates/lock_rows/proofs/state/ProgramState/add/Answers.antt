@@ -14,13 +14,23 @@ use Rattle.lock_rows.proofs.state.ProgramState.add.Goals as goal
 
 pub returns-in_default : goal.returns-in_default
 returns-in_default c =
-    λ n. fails (row_at c.args.seat n (line.Add c.args.place.now c.args.operand.now c.args.register)) c.args.self.now c.word.result (λ (world : LockWorld) (w : ℕ). Some (reading world c.args.seat c.args.register w (int_wrapping_add w64 (world.words w) (value c.args.seat (world.seats c.args.seat).registers c.args.operand.now))))
-    (on_place c.args.self.now c.args.seat c.args.place.now c.word.result c.word.ensures.found (λ (world : LockWorld) (w : ℕ). Some (reading world c.args.seat c.args.register w (int_wrapping_add w64 (world.words w) (value c.args.seat (world.seats c.args.seat).registers c.args.operand.now))))) c.in_default.not-Some
+    λ n. fails (row_at c.args.seat n (line.Add c.args.place.now c.args.operand.now c.args.register)) c.args.self.now c.word.result
+    (λ (world : LockWorld) (w : ℕ). Some (reading world c.args.seat c.args.register w
+    (int_wrapping_add w64 (world.words w) (value c.args.seat (world.seats c.args.seat).registers c.args.operand.now))))
+    (on_place c.args.self.now c.args.seat c.args.place.now c.word.result c.word.ensures.found
+    (λ (world : LockWorld) (w : ℕ). Some (reading world c.args.seat c.args.register w
+    (int_wrapping_add w64 (world.words w) (value c.args.seat (world.seats c.args.seat).registers c.args.operand.now))))) c.in_default.not-Some
 
 pub returns : goal.returns
 returns c =
     let fits : FitsSigned w64 c.index.result.now = search rules in
-    λ n. reads_there (row_at c.args.seat n (line.Add c.args.place.now c.args.operand.now c.args.register)) c.args.self.now c.word.result (λ (world : LockWorld) (w : ℕ). Some (reading world c.args.seat c.args.register w (int_wrapping_add w64 (world.words w) (value c.args.seat (world.seats c.args.seat).registers c.args.operand.now))))
-    (on_place c.args.self.now c.args.seat c.args.place.now c.word.result c.word.ensures.found (λ (world : LockWorld) (w : ℕ). Some (reading world c.args.seat c.args.register w (int_wrapping_add w64 (world.words w) (value c.args.seat (world.seats c.args.seat).registers c.args.operand.now))))) c.in-Some.word c.in-Some.is c.args.seat c.args.register
+    λ n. reads_there (row_at c.args.seat n (line.Add c.args.place.now c.args.operand.now c.args.register)) c.args.self.now c.word.result
+    (λ (world : LockWorld) (w : ℕ). Some (reading world c.args.seat c.args.register w
+    (int_wrapping_add w64 (world.words w) (value c.args.seat (world.seats c.args.seat).registers c.args.operand.now))))
+    (on_place c.args.self.now c.args.seat c.args.place.now c.word.result c.word.ensures.found
+    (λ (world : LockWorld) (w : ℕ). Some (reading world c.args.seat c.args.register w
+    (int_wrapping_add w64 (world.words w) (value c.args.seat (world.seats c.args.seat).registers c.args.operand.now)))))
+    c.in-Some.word c.in-Some.is c.args.seat c.args.register
     _ _ _ _ c.read.ensures (λ layer. refl)
-    ((λ j. int_wrapping_add w64 ((sym (word_read _ _ c.self.view_is c.in-Some.word (c.in-Some.ensures.within) c.index.result.now c.index.ensures)) j) (sym c.value.ensures j)))
+    ((λ j. int_wrapping_add w64 ((sym (word_read _ _ c.self.view_is c.in-Some.word (c.in-Some.ensures.within) c.index.result.now c.index.ensures)) j)
+    (sym c.value.ensures j)))

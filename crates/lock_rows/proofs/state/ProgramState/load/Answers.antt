@@ -14,13 +14,19 @@ use Rattle.lock_rows.proofs.state.ProgramState.load.Goals as goal
 
 pub returns-in_default : goal.returns-in_default
 returns-in_default c =
-    λ n. fails (row_at c.args.seat n (line.Load c.args.place.now c.args.register)) c.args.self.now c.word.result (λ (world : LockWorld) (w : ℕ). Some (reading world c.args.seat (Some c.args.register) w (world.words w)))
-    (on_place c.args.self.now c.args.seat c.args.place.now c.word.result c.word.ensures.found (λ (world : LockWorld) (w : ℕ). Some (reading world c.args.seat (Some c.args.register) w (world.words w)))) c.in_default.not-Some
+    λ n. fails (row_at c.args.seat n (line.Load c.args.place.now c.args.register)) c.args.self.now c.word.result
+    (λ (world : LockWorld) (w : ℕ). Some (reading world c.args.seat (Some c.args.register) w (world.words w)))
+    (on_place c.args.self.now c.args.seat c.args.place.now c.word.result c.word.ensures.found
+    (λ (world : LockWorld) (w : ℕ). Some (reading world c.args.seat (Some c.args.register) w (world.words w)))) c.in_default.not-Some
 
 pub returns : goal.returns
 returns c =
     let fits : FitsSigned w64 c.index-number.result.now = search rules in
-    λ n. reads_there (row_at c.args.seat n (line.Load c.args.place.now c.args.register)) c.args.self.now c.word.result (λ (world : LockWorld) (w : ℕ). Some (reading world c.args.seat (Some c.args.register) w (world.words w)))
-    (on_place c.args.self.now c.args.seat c.args.place.now c.word.result c.word.ensures.found (λ (world : LockWorld) (w : ℕ). Some (reading world c.args.seat (Some c.args.register) w (world.words w)))) c.in-Some.word c.in-Some.is c.args.seat (Some c.args.register)
+    λ n. reads_there (row_at c.args.seat n (line.Load c.args.place.now c.args.register)) c.args.self.now c.word.result
+    (λ (world : LockWorld) (w : ℕ). Some (reading world c.args.seat (Some c.args.register) w (world.words w)))
+    (on_place c.args.self.now c.args.seat c.args.place.now c.word.result c.word.ensures.found
+    (λ (world : LockWorld) (w : ℕ). Some (reading world c.args.seat (Some c.args.register) w (world.words w))))
+    c.in-Some.word c.in-Some.is c.args.seat (Some c.args.register)
     _ _ _ _ c.read.ensures (λ layer. refl)
-    (sym (word_read _ _ c.self.view_is c.in-Some.word (c.in-Some.ensures.within) c.index-number.result.now c.index-number.ensures) ∙ sym (to_z-of_z w64 c.index-number.result.now fits))
+    (sym (word_read _ _ c.self.view_is c.in-Some.word (c.in-Some.ensures.within) c.index-number.result.now c.index-number.ensures)
+    ∙ sym (to_z-of_z w64 c.index-number.result.now fits))

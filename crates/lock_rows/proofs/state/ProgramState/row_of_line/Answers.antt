@@ -24,7 +24,8 @@ returns-in-Add-clause-row c =
 
 pub returns-in-Exchange-clause-row : goal.returns-in-Exchange-clause-row
 returns-in-Exchange-clause-row c =
-    subst (λ l. Does (row_at c.args.seat c.args.line l) c.args.self.now c.exchange.new.self c.exchange.result) (sym c.in-Exchange.is) (c.exchange.ensures c.args.line)
+    subst (λ l. Does (row_at c.args.seat c.args.line l) c.args.self.now c.exchange.new.self c.exchange.result)
+    (sym c.in-Exchange.is) (c.exchange.ensures c.args.line)
 
 pub returns-in-Unpark-clause-row : goal.returns-in-Unpark-clause-row
 returns-in-Unpark-clause-row c =
@@ -38,16 +39,19 @@ returns-in-Out-clause-row c =
 pub returns-in-Some-clause-row : goal.returns-in-Some-clause-row
 returns-in-Some-clause-row c =
     subst (λ l. Does (row_at c.args.seat c.args.line l) c.args.self.now c.await_word.new.self c.in-Some.then) (sym c.in-Await.is)
-    (subst (λ then. DoesIfItCan (row_at c.args.seat c.args.line (line.Await c.in-Await.place c.in-Await.relation c.in-Await.operand c.in-Await.register)) c.args.self.now c.await_word.new.self then) c.in-Some.is
+    (subst (λ then. DoesIfItCan (row_at c.args.seat c.args.line (line.Await c.in-Await.place c.in-Await.relation c.in-Await.operand c.in-Await.register))
+    c.args.self.now c.await_word.new.self then) c.in-Some.is
     (c.await_word.ensures c.args.line))
 
 pub returns-in-None-clause-err : goal.returns-in-None-clause-err
 returns-in-None-clause-err c =
-    (subst (λ then. DoesIfItCan (row_at c.args.seat c.args.line (line.Await c.in-Await.place c.in-Await.relation c.in-Await.operand c.in-Await.register)) c.args.self.now c.await_word.new.self then) c.in-None.is
+    (subst (λ then. DoesIfItCan (row_at c.args.seat c.args.line (line.Await c.in-Await.place c.in-Await.relation c.in-Await.operand c.in-Await.register))
+    c.args.self.now c.await_word.new.self then) c.in-None.is
     (c.await_word.ensures c.args.line)).same
 
 pub returns-in-None-clause-why : goal.returns-in-None-clause-why
 returns-in-None-clause-why c =
     λ other layer. subst (λ l. row_at c.args.seat c.args.line l (world_over layer c.args.self.now) ≡ None) (sym c.in-Await.is)
-    ((subst (λ then. DoesIfItCan (row_at c.args.seat c.args.line (line.Await c.in-Await.place c.in-Await.relation c.in-Await.operand c.in-Await.register)) c.args.self.now c.await_word.new.self then) c.in-None.is
+    ((subst (λ then. DoesIfItCan (row_at c.args.seat c.args.line (line.Await c.in-Await.place c.in-Await.relation c.in-Await.operand c.in-Await.register))
+    c.args.self.now c.await_word.new.self then) c.in-None.is
     (c.await_word.ensures c.args.line)).none layer)

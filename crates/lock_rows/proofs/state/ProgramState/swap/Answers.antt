@@ -14,13 +14,21 @@ use Rattle.lock_rows.proofs.state.ProgramState.swap.Goals as goal
 
 pub returns-in_default : goal.returns-in_default
 returns-in_default c =
-    λ n. fails (row_at c.args.seat n (line.Swap c.args.place.now c.args.operand.now c.args.register)) c.args.self.now c.word.result (λ (world : LockWorld) (w : ℕ). Some (reading world c.args.seat c.args.register w (value c.args.seat (world.seats c.args.seat).registers c.args.operand.now)))
-    (on_place c.args.self.now c.args.seat c.args.place.now c.word.result c.word.ensures.found (λ (world : LockWorld) (w : ℕ). Some (reading world c.args.seat c.args.register w (value c.args.seat (world.seats c.args.seat).registers c.args.operand.now)))) c.in_default.not-Some
+    λ n. fails (row_at c.args.seat n (line.Swap c.args.place.now c.args.operand.now c.args.register)) c.args.self.now c.word.result
+    (λ (world : LockWorld) (w : ℕ). Some (reading world c.args.seat c.args.register w
+    (value c.args.seat (world.seats c.args.seat).registers c.args.operand.now)))
+    (on_place c.args.self.now c.args.seat c.args.place.now c.word.result c.word.ensures.found
+    (λ (world : LockWorld) (w : ℕ). Some (reading world c.args.seat c.args.register w
+    (value c.args.seat (world.seats c.args.seat).registers c.args.operand.now)))) c.in_default.not-Some
 
 pub returns : goal.returns
 returns c =
     let fits : FitsSigned w64 c.value-number.result = search rules in
-    λ n. reads_there (row_at c.args.seat n (line.Swap c.args.place.now c.args.operand.now c.args.register)) c.args.self.now c.word.result (λ (world : LockWorld) (w : ℕ). Some (reading world c.args.seat c.args.register w (value c.args.seat (world.seats c.args.seat).registers c.args.operand.now)))
-    (on_place c.args.self.now c.args.seat c.args.place.now c.word.result c.word.ensures.found (λ (world : LockWorld) (w : ℕ). Some (reading world c.args.seat c.args.register w (value c.args.seat (world.seats c.args.seat).registers c.args.operand.now)))) c.in-Some.word c.in-Some.is c.args.seat c.args.register
+    λ n. reads_there (row_at c.args.seat n (line.Swap c.args.place.now c.args.operand.now c.args.register)) c.args.self.now c.word.result
+    (λ (world : LockWorld) (w : ℕ). Some (reading world c.args.seat c.args.register w
+    (value c.args.seat (world.seats c.args.seat).registers c.args.operand.now)))
+    (on_place c.args.self.now c.args.seat c.args.place.now c.word.result c.word.ensures.found
+    (λ (world : LockWorld) (w : ℕ). Some (reading world c.args.seat c.args.register w
+    (value c.args.seat (world.seats c.args.seat).registers c.args.operand.now)))) c.in-Some.word c.in-Some.is c.args.seat c.args.register
     _ _ _ _ c.read.ensures (λ layer. refl)
     (sym c.value-number.ensures ∙ sym (to_z-of_z w64 c.value-number.result fits))
