@@ -17,6 +17,8 @@ _parklot_options() {
     check) echo "$search --every --help" ;;
     explore) echo "$search --depth --variant --help" ;;
     replay) echo "--schedule --schedule-of --variant --every --table --columns --scenario --help" ;;
+    try) echo "$search --help" ;;
+    retrace) echo "--schedule --table --columns --help" ;;
     judge) echo "--lock --settled --most --help" ;;
     threads) echo "--workers --rounds --help" ;;
     *) echo "--help" ;;
@@ -26,7 +28,7 @@ _parklot_options() {
 _parklot() {
     local word=${COMP_WORDS[COMP_CWORD]} before=${COMP_WORDS[COMP_CWORD - 1]} words
     if [ "$COMP_CWORD" -eq 1 ]; then
-        words="check explore replay judge once threads format help --help --version"
+        words="check explore replay try retrace judge once threads format help --help --version"
     elif [[ $before == --schedule-of || $before == --scenario ]]; then
         words=
     else

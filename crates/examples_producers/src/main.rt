@@ -8,7 +8,7 @@ mod queue;
 
 use anyhow::{Result, bail};
 use queue::{Queue, Want};
-use std::alloc::AllocError;
+use std::alloc::{AllocError, Global};
 use std::sync::Wait;
 use std::sync::atomic::Ordering::SeqCst;
 use std::thread;
@@ -248,8 +248,8 @@ fn run<R: Threads + Wait + Sync>(
     })
 }
 
-fn main(rt: HostRuntime) -> Result<()> {
-    let alloc = rt.alloc();
+/// The same over a table, a condition variable and a queue of its own.
+fn put_and_take<R: Threads + Wait + Sync>(rt: &R, alloc: Global) -> Result<(Sum, Sum)> {
     // one counter, at 1, for the lock: it has one unit, and who takes it holds the lock
     let settings = Settings {
         starts: vec![in alloc; 1]?,
@@ -268,10 +268,18 @@ fn main(rt: HostRuntime) -> Result<()> {
         cond: &cond,
         queue: Queue::new(),
     };
-    let (put, taken) = run(&rt, &shared, seats, owns)?;
-    let Sum { count, total } = put;
-    println!(rt; "put {count} numbers, their sum is {total}")?;
-    let Sum { count, total } = taken;
-    println!(rt; "taken {count} numbers, their sum is {total}")?;
+    Ok(run(rt, &shared, seats, owns)?)
+}
+
+/// Tells how many numbers were put or taken, and their sum.
+fn tell(rt: &impl Print, done: &str, sum: Sum) -> Result<()> {
+    let Sum { count, total } = sum;
+    println!(rt; "{done} {count} numbers, their sum is {total}")?;
     Ok(())
+}
+
+fn main(rt: HostRuntime) -> Result<()> {
+    let (put, taken) = put_and_take(&rt, rt.alloc())?;
+    tell(&rt, "put", put)?;
+    tell(&rt, "taken", taken)
 }

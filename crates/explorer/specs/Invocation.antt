@@ -13,10 +13,12 @@ use Rattle.explorer_scenarios.specs.Line.{line}
 use Rattle.explorer_streams.specs.Writing.{WritesBeginning}
 use Rattle.explorer_scenarios.specs.Told.{IsToldOf, WantsMemory, TellsAll, TellsBeginning}
 use Rattle.explorer_words.specs.declared.invocation.Invocation.{Invocation}
-use Rattle.explorer_words.specs.declared.invocation.Invocation.TheVariants.{Once, OfScenario, Judge, Threads}
+use Rattle.explorer_words.specs.declared.invocation.Invocation.TheVariants.{Once, OfScenario, OfLockProgram}
+use Rattle.explorer_words.specs.declared.invocation.Invocation.TheVariants.{Judge, Threads}
 use Rattle.explorer_words.specs.declared.invocation.Invocation.TheVariants.{Help}
 use Rattle.explorer_words.specs.declared.invocation.Invocation.TheVariants.{Mistake, NoText, NoMemory}
 use Rattle.explorer_words.specs.Invocation.{IsWithinLimits}
+use Rattle.lock_commands.specs.Commands as lock
 use Rattle.explorer.specs.JudgeText.{IsJudgeReplyOf, IsJudgeToldOf}
 use Rattle.explorer.specs.OnceText.{IsOnceAnswer}
 use Rattle.explorer.specs.ThreadsText.{IsThreadsAnswer}
@@ -27,6 +29,8 @@ abbrev pub IsTextFor : Invocation → Option (List ℕ) → Option (List ℕ) �
 IsTextFor Once old new text exit = IsOnceAnswer text exit
 IsTextFor (OfScenario command file answer threads) old new text exit =
     IsToldOf (IsAnswerOf command) old new text exit
+IsTextFor (OfLockProgram command file threads) old new text exit =
+    IsToldOf (lock.RepliesTo command) old new text exit
 IsTextFor (Judge file demands most) old new text exit = IsJudgeToldOf demands most old new text exit
 IsTextFor (Threads workers rounds) old new text exit = IsThreadsAnswer workers rounds text exit
 IsTextFor (Help told) old new text exit = (text ≡ string_bytes told) × (exit ≡ NothingBad)
@@ -39,6 +43,8 @@ abbrev pub IsAnswerTo : Invocation → Option (List ℕ) → Option (List ℕ) �
     → Type 0
 IsAnswerTo (OfScenario command file answer threads) old new aside text exit =
     IsReplyOf command old new aside text exit
+IsAnswerTo (OfLockProgram command file threads) old new aside text exit =
+    lock.IsReplyOf command old new aside text exit
 IsAnswerTo (Judge file demands most) old new aside text exit =
     IsJudgeReplyOf demands most old new aside text exit
 IsAnswerTo asked old new aside text exit = IsTextFor asked old new text exit × (aside ≡ None)
@@ -46,6 +52,7 @@ IsAnswerTo asked old new aside text exit = IsTextFor asked old new text exit × 
 -- the command reads an input
 abbrev pub reads_input : Invocation → Bool
 reads_input (OfScenario command file answer threads) = true
+reads_input (OfLockProgram command file threads) = true
 reads_input (Judge file demands most) = true
 reads_input _ = false
 

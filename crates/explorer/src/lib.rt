@@ -1,5 +1,5 @@
 //! The program's commands, over readers and writers: `once` and `threads`, `judge`, and those that search a
-//! scenario.
+//! scenario or a lock program.
 //!
 //! A command's text is whole before the first byte of it goes out, so that want of memory leaves nothing half
 //! told. It goes out through a [`Sink`], which knows whether a write failed, and the command answers with an
@@ -37,6 +37,7 @@ pub use explorer_words::{
 pub use gate::{Gate, Open};
 pub use journal_judge::Demands;
 pub use judged::judge_io;
+pub use lock_commands::{LockCommand, lock_command_io};
 pub use once::{once_io, once_text};
 pub use program::asked_io;
 pub use sema_table::Closed;

@@ -15,8 +15,8 @@ pub(crate) enum Takes {
     Number(Numbers),
     /// Which change of the step table is made.
     Variant,
-    /// The schedule that is replayed.
-    Schedule,
+    /// The schedule that is told; it may be left out where an argument of that name is given.
+    Schedule { other: Option<&'static str> },
     /// A file; where an argument of that name is given too, it is a mistake.
     File { other: Option<&'static str> },
 }
@@ -41,6 +41,15 @@ pub(crate) struct Argument {
     pub(crate) help: &'static str,
 }
 
+/// A command, by its name and what the help says of it, with its arguments in their order.
+pub(crate) struct Row {
+    pub(crate) name: &'static str,
+    pub(crate) about: &'static str,
+    pub(crate) arguments: &'static [Argument],
+    /// What stands below its help.
+    pub(crate) below: Option<&'static str>,
+}
+
 /// A number from one to another.
 fn number<'a>(named: Arg<'a>, numbers: Numbers) -> Arg<'a> {
     named
@@ -58,12 +67,13 @@ fn variant<'a>(named: Arg<'a>) -> Arg<'a> {
         .hide_possible_values(true)
 }
 
-/// The schedule that is replayed.
-fn schedule<'a>(named: Arg<'a>) -> Result<Arg<'a>, AllocError> {
-    named
-        .value_name("S")
-        .allow_hyphen_values(true)
-        .required_unless_present("schedule-of")
+/// The schedule that is told.
+fn schedule<'a>(named: Arg<'a>, other: Option<&'static str>) -> Result<Arg<'a>, AllocError> {
+    let schedule = named.value_name("S").allow_hyphen_values(true);
+    match other {
+        Some(other) => schedule.required_unless_present(other),
+        None => Ok(schedule.required(true)),
+    }
 }
 
 /// A file.
@@ -81,7 +91,7 @@ fn taking<'a>(named: Arg<'a>, takes: Takes) -> Result<Arg<'a>, AllocError> {
         Takes::Nothing => Ok(named.action(ArgAction::SetTrue)),
         Takes::Number(numbers) => Ok(number(named, numbers)),
         Takes::Variant => Ok(variant(named)),
-        Takes::Schedule => schedule(named),
+        Takes::Schedule { other } => schedule(named, other),
         Takes::File { other } => file(named, other),
     }
 }

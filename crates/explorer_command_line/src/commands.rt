@@ -1,6 +1,10 @@
 //! The program's commands, and the arguments of each, as clap reads them and tells them in its help.
 
-use crate::argument::{Argument, Numbers, Takes, made_argument};
+use crate::argument::{Argument, Numbers, Row, Takes, made_argument};
+use crate::locks::{RETRACE, TRY};
+use crate::shared::{
+    DRAWN, EVERY, FLAG, PROGRESS, SCENARIO_FILE, SEARCHERS, STATS, VARIANT, WORLDS,
+};
 use clap::{ArgAction, Command};
 use std::alloc::{AllocError, Global};
 
@@ -27,81 +31,6 @@ const JUDGE_STATUSES: &str = "\
 Status: 0 lawful, 1 a rule is broken, or a sleeper is left,
         2 refused: words, text, memory, a file or a stream
 Without --lock it is units and queues that are judged, and not who holds a lock";
-
-/// A command, by its name and what the help says of it, with its arguments in their order.
-struct Row {
-    name: &'static str,
-    about: &'static str,
-    arguments: &'static [Argument],
-    /// What stands below its help.
-    below: Option<&'static str>,
-}
-
-const FLAG: Takes = Takes::Nothing;
-
-const SCENARIO_FILE: Argument = Argument {
-    name: "file",
-    is_named: false,
-    takes: Takes::File { other: None },
-    help: "The scenario's file; without it, or with -, the text stands on standard input",
-};
-
-const VARIANT: Argument = Argument {
-    name: "variant",
-    is_named: true,
-    takes: Takes::Variant,
-    help: "Change the step table: no-look, late-count or plain-less",
-};
-
-const EVERY: Argument = Argument {
-    name: "every",
-    is_named: true,
-    takes: FLAG,
-    help: "Ask settled and no-misuse too, beside the property of the text",
-};
-
-const DRAWN: Argument = Argument {
-    name: "table",
-    is_named: true,
-    takes: FLAG,
-    help: "Behind the answer, draw the schedule that was found as a table",
-};
-
-const STATS: Argument = Argument {
-    name: "stats",
-    is_named: true,
-    takes: FLAG,
-    help: "Tell on standard error how far the search came, and how fast",
-};
-
-const PROGRESS: Argument = Argument {
-    name: "progress",
-    is_named: true,
-    takes: FLAG,
-    help: "Tell on standard error, while it runs, how far it has come",
-};
-
-const SEARCHERS: Argument = Argument {
-    name: "threads",
-    is_named: true,
-    takes: Takes::Number(Numbers {
-        letter: "K",
-        least: 1,
-        most: 64,
-        required: false,
-        action: ArgAction::Set,
-    }),
-    help: "How many threads share the search, 1 to 64; without it 1",
-};
-
-/// How many worlds a search keeps.
-const WORLDS: Takes = Takes::Number(Numbers {
-    letter: "N",
-    least: 1,
-    most: 1_000_000_000,
-    required: false,
-    action: ArgAction::Set,
-});
 
 const CHECK_ARGUMENTS: &[Argument] = &[
     EVERY,
@@ -149,7 +78,9 @@ const REPLAY_ARGUMENTS: &[Argument] = &[
     Argument {
         name: "schedule",
         is_named: true,
-        takes: Takes::Schedule,
+        takes: Takes::Schedule {
+            other: Some("schedule-of"),
+        },
         help: "The numbers of the seats that step, one space apart, at most 256",
     },
     Argument {
@@ -246,7 +177,7 @@ const THREADS_ARGUMENTS: &[Argument] = &[
 ];
 
 /// The commands, in the order of the help.
-static COMMANDS: [Row; 7] = [
+static COMMANDS: [Row; 9] = [
     Row {
         name: "once",
         about: "Tell one sleep and its wake-up, step by step",
@@ -271,6 +202,8 @@ static COMMANDS: [Row; 7] = [
         arguments: REPLAY_ARGUMENTS,
         below: Some(REPLAY_STATUSES),
     },
+    TRY,
+    RETRACE,
     Row {
         name: "judge",
         about: "Tell whether a journal of semaphores and notify lists is lawful",

@@ -6,5 +6,7 @@
 
 mod argument;
 mod commands;
+mod locks;
+mod shared;
 
 pub use commands::parklot_command;

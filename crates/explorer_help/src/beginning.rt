@@ -28,8 +28,8 @@ fn printable_length(line: &[u8]) -> usize
     }
 }
 
-/// The beginning of the line that is shown.
-pub(crate) fn shown(line: &[u8]) -> &str
+/// The beginning of the line that is shown: as far as it can be printed, 80 bytes at most.
+pub fn shown(line: &[u8]) -> &str
     ensures { result.now ≡ shown line.now }
 {
     let end = printable_length(line).min(MOST_SHOWN);

@@ -12,5 +12,7 @@ mod journal;
 mod problem;
 mod reading;
 
+pub use beginning::shown;
 pub use journal::{explain_journal, show_line};
 pub use problem::explain;
+pub use reading::ends_in_return;

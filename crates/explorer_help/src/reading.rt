@@ -5,7 +5,7 @@ ghost use Rattle.std.specs.List.{list_any, list_all};
 ghost use Rattle.explorer_help.specs.Explained.{ends_in_return, is_digit, HasDigits};
 
 /// Whether its last byte is a carriage return.
-pub(crate) fn ends_in_return(line: &[u8]) -> bool
+pub fn ends_in_return(line: &[u8]) -> bool
     ensures { result ≡ ends_in_return line.now }
 {
     match line.last() {

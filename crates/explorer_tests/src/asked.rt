@@ -2,6 +2,7 @@
 
 ghost use Rattle.explorer_words.specs.Invocation.{IsWithinLimits};
 
+use crate::assertion::holds_for;
 use crate::devices::{Calls, Giving, SOUND, Taking};
 use explorer::{Flagged, Invocation, NO_MEMORY, StopWatch, asked_io, parklot_io};
 use std::alloc::{AllocError, Global};
@@ -115,6 +116,31 @@ impl Told<'_> {
     }
 }
 
+/// How what the program told is like what it is to tell.
+#[derive(Clone, Copy, Drop, PartialEq)]
+enum Outcome {
+    Fits,
+    /// Memory may have been short.
+    Short,
+}
+
+/// The program tells this over these devices, and ends so, or memory may have been short.
+fn has_told(
+    rt: &impl Host,
+    alloc: Global,
+    words: &[&str],
+    input: &[u8],
+    devices: Devices,
+    told: &Told<'_>,
+) -> Outcome {
+    let (out, err, status) = ask(rt, alloc, words, input, devices);
+    if told.fits(&out, &err, status) {
+        return Outcome::Fits;
+    }
+    holds_for(rt, is_short(&out, status), words);
+    Outcome::Short
+}
+
 /// This is what the program tells over these devices, and it ends so.
 pub(crate) fn tells_over(
     rt: &impl Host,
@@ -124,13 +150,10 @@ pub(crate) fn tells_over(
     devices: Devices,
     told: Told<'_>,
 ) {
-    let (out, err, status) = ask(rt, alloc, words, input, devices);
-    if told.fits(&out, &err, status) {
-        return;
+    if has_told(rt, alloc, words, input, devices, &told) == Outcome::Short {
+        let again = has_told(rt, alloc, words, input, devices, &told);
+        holds_for(rt, again == Outcome::Fits, words);
     }
-    assert!(rt; is_short(&out, status), "{words:?}");
-    let (out, err, status) = ask(rt, alloc, words, input, devices);
-    assert!(rt; told.fits(&out, &err, status), "{words:?}");
 }
 
 /// How what stands beside begins: the help of a refusal, what was asked where nothing bad was found, or a

@@ -7,7 +7,7 @@ use crate::reading::ONE_ACQUIRE;
 
 /// What is found in all schedules, or among so many classes. Four seats that each come to five places make
 /// 625 worlds; where it makes no difference who is where, 70 classes.
-const FOUND: [Row; 10] = [
+static FOUND: [Row; 10] = [
     (
         ONE_ACQUIRE,
         &["check"],

@@ -11,7 +11,7 @@ use std::alloc::Global;
 type Command = (&'static [&'static str], &'static str, u8);
 
 /// They read the input.
-const READING: [Command; 3] = [
+static READING: [Command; 3] = [
     (
         &["explore", "--depth", "32"],
         "bad: stuck\nschedule: 0 0 0 0 0\n",
@@ -30,7 +30,7 @@ const READING: [Command; 3] = [
 ];
 
 /// They read nothing.
-const TELLING: [Command; 2] = [(&["once"], FIVE_LINES, 0), (&TWO_BY_THREE, THREE_LINES, 0)];
+static TELLING: [Command; 2] = [(&["once"], FIVE_LINES, 0), (&TWO_BY_THREE, THREE_LINES, 0)];
 
 const READ_FAILED: &str = "parklot: read failed\n";
 
@@ -50,11 +50,12 @@ fn ends(rt: &impl Host, alloc: Global, words: &[&str], devices: Devices, told: (
 }
 
 /// How many bytes a read gives at most, and how many reads the whole input takes, its end included.
-const READS: [(usize, u32); 4] = [(1, 37), (3, 13), (35, 3), (usize::MAX, 2)];
+static READS: [(usize, u32); 4] = [(1, 37), (3, 13), (35, 3), (usize::MAX, 2)];
 
 fn a_read_fails_of(rt: &impl Host, alloc: Global, command: &Command) {
     let (words, told, status) = *command;
-    for (at_once, reads) in READS {
+    for row in &READS {
+        let (at_once, reads) = *row;
         for left in 0..reads + 1 {
             let devices = Devices {
                 input: Calls { at_once, left },
@@ -111,7 +112,7 @@ const FULL: Calls = Calls {
 };
 
 /// Words, the devices, what goes to the two streams, and the status.
-const BESIDES: [(&[&str], Devices, &str, &str, u8); 7] = [
+static BESIDES: [(&[&str], Devices, &str, &str, u8); 7] = [
     // what reads nothing doesn't fail by its input
     (
         &["once"],

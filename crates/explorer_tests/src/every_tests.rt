@@ -37,7 +37,7 @@ const GOOD_SETTLED: &[u8] = b"counter 1\nseat 0: acquire 0\nsettled\n";
 const GOOD_UNMISUSED: &[u8] = b"counter 1\nseat 0: acquire 0\nno-misuse\n";
 
 /// What a search finds of what is asked.
-const SEARCHES: [Row; 14] = [
+static SEARCHES: [Row; 14] = [
     // a search that finds nothing has no table
     (
         TWO_EACH,
@@ -143,7 +143,7 @@ const SEARCHES: [Row; 14] = [
 ];
 
 /// What a replay tells of a seat that failed, and of what is asked.
-const REPLAYS: [Row; 4] = [
+static REPLAYS: [Row; 4] = [
     (
         BELOW,
         &["replay", "--schedule", "0"],

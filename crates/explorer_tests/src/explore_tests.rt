@@ -17,7 +17,7 @@ pub(crate) const FROM_64_BITS: &[u8] =
 type Row = (&'static [u8], &'static str, &'static str, u8);
 
 /// What the search finds, and how deep it must go for it.
-const FOUND: [Row; 13] = [
+static FOUND: [Row; 13] = [
     (ONE_ACQUIRE, "32", "bad: stuck\nschedule: 0 0 0 0 0\n", 1),
     (ONE_ACQUIRE, "5", "bad: stuck\nschedule: 0 0 0 0 0\n", 1),
     (ONE_ACQUIRE, "4", "none up to depth 4\n", 0),
@@ -67,7 +67,7 @@ const FOUND: [Row; 13] = [
 ];
 
 /// One release of many units for two sleepers.
-const MANY: [Row; 2] = [
+static MANY: [Row; 2] = [
     (
         b"counter 0\nseat 0: acquire 0\nseat 1: acquire 0\nseat 2: release 0 many 2\nsettled\n",
         "32",
@@ -83,7 +83,7 @@ const MANY: [Row; 2] = [
 ];
 
 /// Tickets at the ends of 32 and of 64 bits.
-const WRAPPED: [Row; 2] = [
+static WRAPPED: [Row; 2] = [
     (FROM_32_BITS, "32", "none up to depth 32\n", 0),
     (FROM_64_BITS, "32", "none up to depth 32\n", 0),
 ];
@@ -119,7 +119,7 @@ value 0 7
 ";
 
 /// What is found among few worlds of many schedules.
-const FOUR: [Row; 4] = [
+static FOUR: [Row; 4] = [
     (TWO_EACH, "32", "none up to depth 32\n", 0),
     (
         TWO_EACH_FOR_SEVEN,

@@ -1,6 +1,7 @@
 //! What a search tells beyond what it found: its statistics and the table of the schedule that it found.
 
 use crate::asked::{ALL_SOUND, Host, Told, ask, is_short, run, tells_over};
+use crate::assertion::holds;
 use crate::every_tests::Row;
 use crate::explore_tests::TWO_EACH;
 use crate::reading::ONE_ACQUIRE;
@@ -9,7 +10,7 @@ use std::alloc::Global;
 
 /// Searches whose worlds were counted by hand: 625 within 16 steps, all but one of them within 15, and 70
 /// where it makes no difference who of four stands where. Nobody takes the time.
-const COUNTED: [Row; 5] = [
+static COUNTED: [Row; 5] = [
     (
         TWO_EACH,
         &["check", "--stats"],
@@ -69,7 +70,10 @@ fn is_counted(rt: &impl Host, alloc: Global, row: &Row) -> bool {
 fn statistics_are_told_beside(rt: HostRuntime) {
     let alloc = rt.alloc();
     for row in &COUNTED {
-        assert!(rt; is_counted(&rt, alloc, row) || is_counted(&rt, alloc, row));
+        holds(
+            &rt,
+            is_counted(&rt, alloc, row) || is_counted(&rt, alloc, row),
+        );
     }
 }
 
@@ -109,7 +113,10 @@ seconds 1.250, classes a second 56
 #[test]
 fn who_watches_is_told(rt: HostRuntime) {
     let alloc = rt.alloc();
-    assert!(rt; is_listened_to(&rt, alloc) || is_listened_to(&rt, alloc));
+    holds(
+        &rt,
+        is_listened_to(&rt, alloc) || is_listened_to(&rt, alloc),
+    );
 }
 
 /// What goes to the output for these words, asked once more where memory was short.
@@ -127,7 +134,10 @@ fn draws(rt: &impl Host, alloc: Global, words: &[&str]) {
     let (drawn, status) = output(rt, alloc, words);
     let (table, _) = output(rt, alloc, &["replay", "--table", "--schedule", "0 0 0 0 0"]);
     let answer = b"bad: stuck\nschedule: 0 0 0 0 0\n";
-    assert!(rt; status == 1 && drawn.strip_prefix(answer.as_slice()) == Some(table.as_slice()));
+    holds(
+        rt,
+        status == 1 && drawn.strip_prefix(answer.as_slice()) == Some(table.as_slice()),
+    );
 }
 
 #[test]

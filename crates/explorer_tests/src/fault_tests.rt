@@ -11,7 +11,7 @@ use std::alloc::Global;
 type Row = (&'static [u8], &'static str);
 
 /// What is told of each proper beginning of that text: from which length to which.
-const BEGINNINGS: [(usize, usize, &str); 6] = [
+static BEGINNINGS: [(usize, usize, &str); 6] = [
     (0, 0, "refused: line 1: end\n"),
     (1, 9, "refused: line 1: cut\n"),
     (10, 10, "refused: line 2: end\n"),
@@ -21,7 +21,7 @@ const BEGINNINGS: [(usize, usize, &str); 6] = [
 ];
 
 /// Broken texts, and what is told of them.
-const BROKEN: [Row; 16] = [
+static BROKEN: [Row; 16] = [
     (b"counter 00\n", "refused: line 1: form\n"),
     (b"counter 4294967296\n", "refused: line 1: range\n"),
     (
@@ -50,7 +50,7 @@ const BROKEN: [Row; 16] = [
 ];
 
 /// Numbers past their ends, and past those of any machine type.
-const NUMBERS: [Row; 19] = [
+static NUMBERS: [Row; 19] = [
     (b"roots 0\n", "refused: line 1: range\n"),
     (b"roots 9999999999\n", "refused: line 1: range\n"),
     (b"roots 10000000000\n", "refused: line 1: form\n"),
@@ -97,7 +97,7 @@ const NUMBERS: [Row; 19] = [
 ];
 
 /// Lines with several faults, of which the least is told, and lines after the property.
-const LEAST: [Row; 13] = [
+static LEAST: [Row; 13] = [
     (b"counter \t0", "refused: line 1: cut\n"),
     (b"foo\t\n", "refused: line 1: byte\n"),
     (
@@ -153,8 +153,8 @@ fn is_refused(rt: &impl Host, alloc: Global, text: &[u8], told: &str) {
 
 #[test]
 fn each_beginning_is_refused(rt: HostRuntime) {
-    for (from, to, told) in BEGINNINGS {
-        for length in from..to + 1 {
+    for (from, to, told) in &BEGINNINGS {
+        for length in *from..*to + 1 {
             is_refused(&rt, rt.alloc(), &ONE_ACQUIRE[..length], told);
         }
     }
@@ -217,28 +217,42 @@ seat 15: acquire 0
     }
 }
 
+/// A line, how often it stands, and what is told of it.
+static ALONE: [(&[u8], usize, &str); 6] = [
+    (b"counter 0\n", 17, "refused: line 17: too many\n"),
+    (b"counter 0\n", 16, "refused: line 17: end\n"),
+    (b"list 0\n", 17, "refused: line 17: too many\n"),
+    (b"list 0\n", 16, "refused: line 17: end\n"),
+    (b"group\n", 17, "refused: line 17: too many\n"),
+    (b"group\n", 16, "refused: line 17: end\n"),
+];
+
+/// How many calls stand behind the first, and what is told of them.
+static CALLS: [(usize, &str); 2] = [
+    (32, "refused: line 2: too many\n"),
+    (31, "refused: line 3: end\n"),
+];
+
+/// The line behind sixteen seats, and what is told of it.
+static BEHIND: [Row; 2] = [
+    (b"seat 16: acquire 0\n", "refused: line 18: too many\n"),
+    (b"seat 17: acquire 0\n", "refused: line 18: place\n"),
+];
+
+fn is_repeated_in_vain(rt: &impl Host, alloc: Global, text: &Repeated<'_>, told: &str) {
+    let bytes = bytes_again(rt, alloc, text);
+    is_refused(rt, alloc, &bytes, told);
+}
+
 #[test]
 fn one_too_many_is_refused(rt: HostRuntime) {
-    let rows = [
-        (only(b"counter 0\n", 17), "refused: line 17: too many\n"),
-        (only(b"counter 0\n", 16), "refused: line 17: end\n"),
-        (only(b"list 0\n", 17), "refused: line 17: too many\n"),
-        (only(b"list 0\n", 16), "refused: line 17: end\n"),
-        (only(b"group\n", 17), "refused: line 17: too many\n"),
-        (only(b"group\n", 16), "refused: line 17: end\n"),
-        (and_calls(32), "refused: line 2: too many\n"),
-        (and_calls(31), "refused: line 3: end\n"),
-        (
-            and_seats(b"seat 16: acquire 0\n"),
-            "refused: line 18: too many\n",
-        ),
-        (
-            and_seats(b"seat 17: acquire 0\n"),
-            "refused: line 18: place\n",
-        ),
-    ];
-    for (text, told) in rows {
-        let bytes = bytes_again(&rt, rt.alloc(), &text);
-        is_refused(&rt, rt.alloc(), &bytes, told);
+    for (line, times, told) in &ALONE {
+        is_repeated_in_vain(&rt, rt.alloc(), &only(line, *times), told);
+    }
+    for (times, told) in &CALLS {
+        is_repeated_in_vain(&rt, rt.alloc(), &and_calls(*times), told);
+    }
+    for (line, told) in &BEHIND {
+        is_repeated_in_vain(&rt, rt.alloc(), &and_seats(line), told);
     }
 }

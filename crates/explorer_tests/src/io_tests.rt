@@ -3,6 +3,7 @@
 
 ghost use Rattle.std.specs.Prelude.{◌≡◌, false};
 
+use crate::assertion::holds;
 use crate::devices::{Calls, Giving, SOUND, Taking};
 use crate::reading::ONE_ACQUIRE;
 use explorer::{
@@ -110,7 +111,10 @@ fn ends_so(alloc: Global, row: &Row) -> Option<bool> {
 fn calls_over_a_reader_and_a_writer_end_so(rt: HostRuntime) {
     let alloc = rt.alloc();
     for row in &ENDED {
-        assert!(rt; ends_so(alloc, row).or(ends_so(alloc, row)) == Some(true));
+        holds(
+            &rt,
+            ends_so(alloc, row).or(ends_so(alloc, row)) == Some(true),
+        );
     }
 }
 
@@ -137,18 +141,21 @@ fn steps_to_sleep(alloc: Global, depth: u32, variant: Option<Variant>) -> Option
     }
 }
 
+/// A depth, a change of the table, and how many steps lead to a sleeper then.
+static DEPTHS: [(u32, Option<Variant>, usize); 3] = [
+    (32, None, 5),
+    (32, Some(Variant::NoLook), 4),
+    (3, Some(Variant::NoLook), 0),
+];
+
 #[test]
 fn a_sleeper_is_found(rt: HostRuntime) {
     let alloc = rt.alloc();
-    let rows = [
-        (32, None, 5),
-        (32, Some(Variant::NoLook), 4),
-        (3, Some(Variant::NoLook), 0),
-    ];
-    for (depth, variant, steps) in rows {
+    for row in &DEPTHS {
+        let (depth, variant, steps) = *row;
         let found = steps_to_sleep(alloc, depth, variant);
         let found = found.or(steps_to_sleep(alloc, depth, variant));
-        assert!(rt; found == Some(steps));
+        holds(&rt, found == Some(steps));
     }
 }
 
@@ -161,10 +168,10 @@ fn is_read(alloc: Global) -> Option<bool> {
 #[test]
 fn a_request_shows_what_it_was_read_from(rt: HostRuntime) {
     let alloc = rt.alloc();
-    assert!(rt; is_read(alloc).or(is_read(alloc)) == Some(true));
+    holds(&rt, is_read(alloc).or(is_read(alloc)) == Some(true));
     let fault = ReadFault {
         line: 1,
         cause: Cause::End,
     };
-    assert!(rt; read_scenario(alloc, b"").err() == Some(fault));
+    holds(&rt, read_scenario(alloc, b"").err() == Some(fault));
 }

@@ -8,7 +8,7 @@ use std::alloc::Global;
 type Row = (&'static [u8], &'static str, u8);
 
 /// Journals that are lawful.
-const LAWFUL: [Row; 8] = [
+static LAWFUL: [Row; 8] = [
     (b"", "lawful\n", 0),
     (b"counter 0\n", "lawful\n", 0),
     (b"list 18446744073709551615\n", "lawful\n", 0),
@@ -32,7 +32,7 @@ const LAWFUL: [Row; 8] = [
 ];
 
 /// Journals with a line that no lawful one can have there.
-const UNLAWFUL: [Row; 12] = [
+static UNLAWFUL: [Row; 12] = [
     (b"counter 0\ntake 0 0\n", "unlawful: line 2: no unit\n", 1),
     (
         b"counter 0\nadd 0 7\ntake 0 0\ntake 0 1\n",
@@ -92,7 +92,7 @@ const UNLAWFUL: [Row; 12] = [
 ];
 
 /// Texts that are no journal.
-const REFUSED: [Row; 10] = [
+static REFUSED: [Row; 10] = [
     (
         b"counter 199999999999999999990\n",
         "refused: line 1: form\n",
@@ -119,7 +119,7 @@ const REFUSED: [Row; 10] = [
 ];
 
 /// Journals of a lock, which is counter 0, and all that is told of them.
-const LOCKS: [Row; 8] = [
+static LOCKS: [Row; 8] = [
     (
         b"counter 1\ntake 0 0\nadd 0 0\ntake 0 1\nadd 0 1\n",
         "lawful\n",
@@ -161,7 +161,7 @@ const LOCKS: [Row; 8] = [
 ];
 
 /// Journals, all that is told of who is left asleep in them, and the status.
-const ENDS: [Row; 4] = [
+static ENDS: [Row; 4] = [
     (
         b"counter 0\nqueue 0 0.0\nadd 0 1\n",
         "left asleep: counter 0\n",
@@ -181,7 +181,7 @@ const ENDS: [Row; 4] = [
 ];
 
 /// Of two locks the first that is broken is told.
-const TWO_LOCKS: [Row; 1] = [(
+static TWO_LOCKS: [Row; 1] = [(
     b"counter 1\ncounter 1\ntake 1 0\ntake 0 0\nadd 0 1\nadd 1 1\n",
     "unlawful: line 5: held by another\n",
     1,
@@ -212,7 +212,7 @@ fn locks_are_judged(rt: HostRuntime) {
 
 /// Journals, words, all that is told, what is told beside, and the status: the line that is unlawful, and a
 /// lock that isn't declared.
-const BESIDE: [RowBeside; 2] = [
+static BESIDE: [RowBeside; 2] = [
     (
         b"counter 1\ntake 0 0\ntake 0 1\nadd 0 0\n",
         &["judge"],
@@ -235,7 +235,7 @@ fn the_fault_is_shown_beside(rt: HostRuntime) {
 }
 
 /// The first lines of a journal, how many they are, and all that is told of them.
-const FIRST: [(&str, &[u8], &str, u8); 4] = [
+static FIRST: [(&str, &[u8], &str, u8); 4] = [
     ("1", b"counter 1\ntake 0 0\ntake 0 0\n", "lawful\n", 0),
     ("2", b"counter 1\ntake 0 0\ntake 0 0\n", "lawful\n", 0),
     (

@@ -13,6 +13,8 @@
 #[cfg(test)]
 mod asked;
 #[cfg(test)]
+mod assertion;
+#[cfg(test)]
 mod check_tests;
 #[cfg(test)]
 mod device_tests;

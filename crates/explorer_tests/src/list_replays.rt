@@ -3,7 +3,7 @@
 use crate::replay_tests::Row;
 
 /// They are told beside those without lists.
-pub(crate) const LIST_REPLAYS: [Row; 8] = [
+pub(crate) static LIST_REPLAYS: [Row; 8] = [
     // the ticket is handed out after the grant looked for one
     (
         b"list 0\nseat 0: one 0\nseat 1: add 0; wait 0\nsettled\n",

@@ -1,13 +1,14 @@
 //! Want of memory is told alone, and only where memory was refused.
 
 use crate::asked::{ALL_SOUND, ask};
+use crate::assertion::holds;
 use crate::program_tests::FIVE_LINES;
 use crate::reading::ONE_ACQUIRE;
 use crate::threads_tests::{THREE_LINES, TWO_BY_THREE};
 use explorer::{Cause, NO_MEMORY, ReadFault, read_scenario};
 
 /// Words, an input, all that is told, and the status.
-const ANSWERS: [(&[&str], &[u8], &str, u8); 6] = [
+static ANSWERS: [(&[&str], &[u8], &str, u8); 6] = [
     (
         &["explore", "--depth", "32"],
         ONE_ACQUIRE,
@@ -40,7 +41,7 @@ fn each_answer_is_told_or_short(rt: HostRuntime) {
             && out.as_slice() == told.as_bytes()
             && err.is_empty() != told.starts_with("refused: line ");
         let is_short = ended == 2 && (out.is_empty() || out.as_slice() == NO_MEMORY.as_bytes());
-        assert!(rt; is_told || is_short);
+        holds(&rt, is_told || is_short);
     }
 }
 
@@ -50,5 +51,5 @@ fn a_short_read_names_its_line(rt: HostRuntime) {
         Ok(_) => true,
         Err(ReadFault { line, cause }) => cause == Cause::NoMemory && (1..=3).contains(&line),
     };
-    assert!(rt; is_read_or_short);
+    holds(&rt, is_read_or_short);
 }

@@ -2,6 +2,7 @@
 //!
 //! What answers want of memory is made once more.
 
+use crate::assertion::holds;
 use crate::machine::given::{scenario, seats_again};
 use explorer_replay::{Refused, ReplayTable, table_of, table_text};
 use std::alloc::Global;
@@ -47,5 +48,5 @@ pub(crate) fn tells(rt: &impl Abort, alloc: Global, played: &Played) {
         Ok(told) => told,
         Err(NoMemory) => is_told(alloc, &scenario, &schedule, played).expect(rt, "memory"),
     };
-    assert!(rt; told);
+    holds(rt, told);
 }

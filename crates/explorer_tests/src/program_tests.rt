@@ -3,6 +3,7 @@
 ghost use Rattle.explorer_words.specs.Invocation.{IsWithinLimits};
 
 use crate::asked::{ALL_SOUND, Host, Told, answers, ask, is_a_mistake, run, tells, tells_over};
+use crate::assertion::holds;
 use explorer::{FileFault, Invocation, NO_MEMORY, no_file, no_words, once_text};
 use std::alloc::Global;
 use std::io::{self, ErrorKind};
@@ -38,7 +39,10 @@ fn are_five_lines(rt: &impl Wait, alloc: Global) -> bool {
 #[test]
 fn once_tells_five_lines(rt: HostRuntime) {
     let alloc = rt.alloc();
-    assert!(rt; are_five_lines(&rt, alloc) || are_five_lines(&rt, alloc));
+    holds(
+        &rt,
+        are_five_lines(&rt, alloc) || are_five_lines(&rt, alloc),
+    );
 }
 
 #[test]
@@ -57,7 +61,7 @@ fn some_words_are_answered_whole(rt: HostRuntime) {
 }
 
 /// Words that ask for help, and how it begins.
-const HELPS: [(&[&str], &str); 9] = [
+static HELPS: [(&[&str], &str); 9] = [
     (
         &["--help"],
         "Explore the interleavings of semaphores, notify lists and wait groups\n\nUsage: parklot <COMMAND>\n",
@@ -115,11 +119,11 @@ fn is_form_whole(rt: &impl Host, alloc: Global) -> bool {
 #[test]
 fn the_form_is_told_to_its_end(rt: HostRuntime) {
     let alloc = rt.alloc();
-    assert!(rt; is_form_whole(&rt, alloc) || is_form_whole(&rt, alloc));
+    holds(&rt, is_form_whole(&rt, alloc) || is_form_whole(&rt, alloc));
 }
 
 /// Words that ask for no command, or for a file that is none, and how what is told of them begins.
-const MISTAKES: [(&[&str], &str); 30] = [
+static MISTAKES: [(&[&str], &str); 30] = [
     (
         &["explore", "--depth", "32", "--variant", "plain"],
         "error: invalid value 'plain' for '--variant <",
@@ -255,7 +259,7 @@ fn without_a_command(
 {
     let (out, err, status) = run(rt, alloc, asked, b"", ALL_SOUND, &mut ());
     let is_told = out.as_slice() == told.as_bytes() && err.as_slice() == told_beside.as_bytes();
-    assert!(rt; status == 2 && is_told);
+    holds(rt, status == 2 && is_told);
 }
 
 #[test]
@@ -279,7 +283,7 @@ fn asked_without<'w>(alloc: Global, file: &str, fault: FileFault) -> Invocation<
 }
 
 /// Why a file can't be opened, and what is told.
-const UNOPENED: [(ErrorKind, &str); 5] = [
+static UNOPENED: [(ErrorKind, &str); 5] = [
     (
         ErrorKind::NotFound,
         "parklot: cannot read lost.txt: there is no such file\n",

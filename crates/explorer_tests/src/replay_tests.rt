@@ -6,7 +6,7 @@ use crate::list_replays::LIST_REPLAYS;
 /// A text, a schedule, all that is told, and the status.
 pub(crate) type Row = (&'static [u8], &'static str, &'static str, u8);
 
-const REPLAYS: [Row; 13] = [
+static REPLAYS: [Row; 13] = [
     // the release comes between the two looks of the acquire
     (
         b"counter 0\nseat 0: acquire 0\nseat 1: release 0\nsettled\n",

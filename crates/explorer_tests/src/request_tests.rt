@@ -1,5 +1,6 @@
 //! Texts whose requests are known by hand.
 
+use crate::assertion::holds;
 use explorer_text::read_scenario;
 use std::alloc::Global;
 use std::process::Abort;
@@ -34,7 +35,7 @@ GroupAdd(GroupId(0), -2147483648), GroupAdd(GroupId(0), -1), GroupWait(GroupId(0
 property: Value(CounterId(1), 4294967295) }";
 
 /// Texts, and the requests that they make.
-const REQUESTS: [(&[u8], &str); 3] = [
+static REQUESTS: [(&[u8], &str); 3] = [
     (EVERY_KIND, WITH_EVERY_KIND),
     (
         b"counter 0\nseat 0: acquire 0\nsettled\n",
@@ -61,7 +62,7 @@ fn makes(rt: &impl Abort, alloc: Global, text: &[u8], wanted: &str) {
         Some(found) => Some(found),
         None => request_text(alloc, text),
     };
-    assert!(rt; found.is_some_and(|found| found.as_str() == wanted));
+    holds(rt, found.is_some_and(|found| found.as_str() == wanted));
 }
 
 #[test]

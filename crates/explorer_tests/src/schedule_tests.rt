@@ -4,7 +4,7 @@ use crate::asked::{replays, tells};
 use crate::reading::ONE_ACQUIRE;
 
 /// Words that are no schedule.
-const REFUSED: [&str; 23] = [
+static REFUSED: [&str; 23] = [
     "-",
     "00",
     "01",
@@ -31,7 +31,7 @@ const REFUSED: [&str; 23] = [
 ];
 
 /// Schedules, what is told of them, and the status.
-const TAKEN: [(&str, &str, u8); 4] = [
+static TAKEN: [(&str, &str, u8); 4] = [
     ("", "counter 0: value 0, waiting -\nverdict: not bad\n", 0),
     (
         "0",

@@ -1,6 +1,6 @@
 //! Texts and schedules as long as they may be, and longer by one.
 
-use crate::asked::{ALL_SOUND, Devices, Told, tells, tells_over};
+use crate::asked::{ALL_SOUND, Devices, Host, Told, replays, tells_over};
 use crate::devices::Calls;
 use crate::reading::ONE_ACQUIRE;
 use crate::repeated::{Repeated, bytes_again};
@@ -17,25 +17,27 @@ const fn and_bytes(times: usize) -> Repeated<'static> {
     }
 }
 
+/// By how many bytes the text is longer, a schedule as it is spelled, and what is told of them.
+type Long = (usize, &'static str, &'static str);
+
+static LENGTHS: [Long; 4] = [
+    (65_500, "0", "refused: line 4: cut\n"),
+    (65_501, "0", "refused: too long\n"),
+    (100_000, "0", "refused: too long\n"),
+    (65_501, "x", "refused: too long\n"),
+];
+
+fn is_long(rt: &impl Host, alloc: Global, row: &Long) {
+    let (times, spelled, told) = row;
+    let input = bytes_again(rt, alloc, &and_bytes(*times));
+    replays(rt, alloc, &input, spelled, told, 2);
+}
+
 #[test]
 fn a_text_has_its_greatest_length(rt: HostRuntime) {
     let alloc = rt.alloc();
-    let rows = [
-        (and_bytes(65_500), "0", "refused: line 4: cut\n"),
-        (and_bytes(65_501), "0", "refused: too long\n"),
-        (and_bytes(100_000), "0", "refused: too long\n"),
-        (and_bytes(65_501), "x", "refused: too long\n"),
-    ];
-    for (text, spelled, told) in rows {
-        let input = bytes_again(&rt, alloc, &text);
-        tells(
-            &rt,
-            alloc,
-            &["replay", "--schedule", spelled],
-            &input,
-            told,
-            2,
-        );
+    for row in &LENGTHS {
+        is_long(&rt, alloc, row);
     }
 }
 
@@ -64,13 +66,23 @@ const UNREAD: Told<'static> = Told {
     helped: false,
 };
 
+/// By how many bytes the text is longer, and what is told where only its first read succeeds.
+static ONCE_READ: [(usize, Told<'static>); 3] = [
+    (65_500, UNREAD),
+    (65_501, TOO_LONG),
+    (70_000, TOO_LONG),
+];
+
+fn is_read_once(rt: &impl Host, alloc: Global, times: usize, told: Told<'_>) {
+    let words = ["explore", "--depth", "32"];
+    let input = bytes_again(rt, alloc, &and_bytes(times));
+    tells_over(rt, alloc, &words, &input, ONE_READ, told);
+}
+
 #[test]
 fn a_text_that_is_too_long_is_not_read_on(rt: HostRuntime) {
-    let alloc = rt.alloc();
-    let words = ["explore", "--depth", "32"];
-    for (times, told) in [(65_500, UNREAD), (65_501, TOO_LONG), (70_000, TOO_LONG)] {
-        let input = bytes_again(&rt, alloc, &and_bytes(times));
-        tells_over(&rt, alloc, &words, &input, ONE_READ, told);
+    for (times, told) in &ONCE_READ {
+        is_read_once(&rt, rt.alloc(), *times, *told);
     }
 }
 
@@ -93,25 +105,23 @@ const ASLEEP: &str = "\
 5: refused 4 Asleep
 ";
 
+/// How many numbers the schedule has behind its first, and what is told of it.
+static SCHEDULES: [(usize, &str); 3] = [
+    (255, ASLEEP),
+    (256, "refused: schedule\n"),
+    (70_000, "refused: schedule\n"),
+];
+
+fn is_replayed(rt: &impl Host, alloc: Global, times: usize, told: &str) {
+    let spelled = bytes_again(rt, alloc, &and_zeros(times));
+    let spelled = str::from_utf8(&spelled).expect(rt, "a text");
+    replays(rt, alloc, ONE_ACQUIRE, spelled, told, 2);
+}
+
 #[test]
 fn a_schedule_has_its_greatest_length(rt: HostRuntime) {
-    let alloc = rt.alloc();
-    let rows = [
-        (and_zeros(255), ASLEEP),
-        (and_zeros(256), "refused: schedule\n"),
-        (and_zeros(70_000), "refused: schedule\n"),
-    ];
-    for (schedule, told) in rows {
-        let schedule = bytes_again(&rt, alloc, &schedule);
-        let spelled = str::from_utf8(&schedule).expect(&rt, "a text");
-        tells(
-            &rt,
-            alloc,
-            &["replay", "--schedule", spelled],
-            ONE_ACQUIRE,
-            told,
-            2,
-        );
+    for (times, told) in &SCHEDULES {
+        is_replayed(&rt, rt.alloc(), *times, told);
     }
 }
 
@@ -158,12 +168,5 @@ fn a_schedule_of_256_steps_runs(rt: HostRuntime) {
         Ok(texts) => texts,
         Err(NoMemory) => whole_run(alloc).expect(&rt, "memory"),
     };
-    tells(
-        &rt,
-        alloc,
-        &["replay", "--schedule", &spelled],
-        SIXTEEN,
-        &told,
-        0,
-    );
+    replays(&rt, alloc, SIXTEEN, &spelled, &told, 0);
 }

@@ -3,6 +3,7 @@
 ghost use Rattle.std.specs.Prelude.{◌≡◌, ◌<◌, ◌∷◌, [], length, IfOk};
 
 use crate::asked::tells;
+use crate::assertion::holds;
 use crate::machine::text_tests::is_printed;
 use explorer::{Closed, Gate, IoFault, Open, ThreadsRefused, run_threads};
 use std::alloc::Global;
@@ -49,7 +50,7 @@ impl TwoFlags {
     /// Both have set their flags, and each has seen the other's.
     fn was_passed(&self, rt: &impl Abort) {
         let are_set = self.first.load(SeqCst) && self.second.load(SeqCst);
-        assert!(rt; are_set && !self.has_failed.load(SeqCst));
+        holds(rt, are_set && !self.has_failed.load(SeqCst));
     }
 }
 
@@ -91,7 +92,10 @@ fn counts(rt: &impl Abort, closed: &Closed, units: u64)
     requires { 0 < length closed.now.values }
 {
     let (added, given) = (closed.releases(), closed.acquires());
-    assert!(rt; (added, given, closed.value(CounterId::new(0))) == (units, units, 0));
+    holds(
+        rt,
+        (added, given, closed.value(CounterId::new(0))) == (units, units, 0),
+    );
 }
 
 /// Two workers pass each other's flags, if threads could be made.
@@ -108,7 +112,7 @@ fn pass_flags<R: Abort + Threads + Wait + Sync>(rt: &R, alloc: Global) -> bool {
 #[test]
 fn workers_run_at_once(rt: HostRuntime) {
     let alloc = rt.alloc();
-    assert!(rt; pass_flags(&rt, alloc) || pass_flags(&rt, alloc));
+    holds(&rt, pass_flags(&rt, alloc) || pass_flags(&rt, alloc));
 }
 
 /// Counts how often it is asked.
@@ -134,22 +138,23 @@ fn ask_each_time<R: Threads + Wait + Sync>(rt: &R, alloc: Global) -> bool {
 #[test]
 fn the_gate_is_asked_before_each_round(rt: HostRuntime) {
     let alloc = rt.alloc();
-    assert!(rt; ask_each_time(&rt, alloc) || ask_each_time(&rt, alloc));
+    holds(&rt, ask_each_time(&rt, alloc) || ask_each_time(&rt, alloc));
 }
 
 /// How many workers run how many rounds.
-const RUNS: [(u32, u32); 3] = [(1, 1), (4, 1_000), (64, 2)];
+static RUNS: [(u32, u32); 3] = [(1, 1), (4, 1_000), (64, 2)];
 
 #[test]
 fn workers_lose_no_unit(rt: HostRuntime) {
-    for (workers, rounds) in RUNS {
+    for row in &RUNS {
+        let (workers, rounds) = *row;
         let closed = run_again(&rt, rt.alloc(), workers, rounds).expect(&rt, "threads");
         counts(&rt, &closed, u64::from(workers) * u64::from(rounds));
     }
 }
 
 /// Numbers of workers and rounds that are outside their limits.
-const OUTSIDE: [(u32, u32); 5] = [
+static OUTSIDE: [(u32, u32); 5] = [
     (0, 1),
     (65, 1),
     (1, 0),
@@ -159,9 +164,10 @@ const OUTSIDE: [(u32, u32); 5] = [
 
 #[test]
 fn limits_are_kept(rt: HostRuntime) {
-    for (workers, rounds) in OUTSIDE {
+    for row in &OUTSIDE {
+        let (workers, rounds) = *row;
         let outcome = run_threads(&rt, rt.alloc(), workers, rounds, &Open);
-        assert!(rt; matches!(outcome, Err(ThreadsRefused::OutOfLimits)));
+        holds(&rt, matches!(outcome, Err(ThreadsRefused::OutOfLimits)));
     }
 }
 
@@ -172,7 +178,7 @@ fn refusals_have_their_numbers(rt: HostRuntime) {
         ThreadsRefused::NoMemory as u8,
     );
     let streams = (IoFault::Read as u8, IoFault::Write as u8);
-    assert!(rt; threads == (1, 2) && streams == (1, 2));
+    holds(&rt, threads == (1, 2) && streams == (1, 2));
 }
 
 #[test]

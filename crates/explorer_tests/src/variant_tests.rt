@@ -8,7 +8,7 @@ use crate::reading::ONE_ACQUIRE;
 type Row = (&'static [u8], &'static str, &'static str, &'static str, u8);
 
 /// What goes wrong in each changed table, and what doesn't.
-const VARIANTS: [Row; 13] = [
+static VARIANTS: [Row; 13] = [
     (
         MET,
         "no-look",

@@ -1,6 +1,7 @@
 //! What words ask for, whole: by the `Debug` text of what they ask for, the file that it names, and whether
 //! it is watched.
 
+use crate::assertion::holds_for;
 use explorer::read_words;
 use std::alloc::Global;
 use std::process::Abort;
@@ -16,7 +17,7 @@ type Row = (
 
 /// Searches. A search that isn't told keeps 2,000,000 worlds, or up to a depth 200,000, and is made by one
 /// thread.
-const SEARCHES: [Row; 7] = [
+static SEARCHES: [Row; 7] = [
     (
         &["check"],
         "OfScenario { command: Check { worlds: 2000000, every: false, extras: Extras { drawn: false, counted: false, live: false } }, \
@@ -81,7 +82,7 @@ const SEARCHES: [Row; 7] = [
 ];
 
 /// Words that ask for no search.
-const OTHERS: [Row; 12] = [
+static OTHERS: [Row; 12] = [
     (
         &["replay", "--schedule", "0 1", "--variant", "no-look", "d"],
         "OfScenario { command: Replay { schedule: \"0 1\", table: Some(NoLook), every: false, drawn: false }, \
@@ -175,6 +176,44 @@ const OTHERS: [Row; 12] = [
     (&["once"], "Once", None, false),
 ];
 
+/// Commands that read a lock program.
+const LOCKS: [Row; 4] = [
+    (
+        &["try"],
+        "OfLockProgram { command: Try { worlds: 2000000, drawn: false, counted: false, live: false }, file: None, threads: 1 }",
+        None,
+        false,
+    ),
+    (
+        &[
+            "try",
+            "--worlds",
+            "7",
+            "--table",
+            "--stats",
+            "--progress",
+            "--threads",
+            "3",
+            "a.lock",
+        ],
+        "OfLockProgram { command: Try { worlds: 7, drawn: true, counted: true, live: true }, file: Some(\"a.lock\"), threads: 3 }",
+        Some("a.lock"),
+        true,
+    ),
+    (
+        &["retrace", "--schedule", "", "-"],
+        "OfLockProgram { command: Retrace { schedule: \"\", drawn: false }, file: None, threads: 1 }",
+        None,
+        false,
+    ),
+    (
+        &["retrace", "--table", "--schedule", "-1", "a.lock"],
+        "OfLockProgram { command: Retrace { schedule: \"-1\", drawn: true }, file: Some(\"a.lock\"), threads: 1 }",
+        Some("a.lock"),
+        false,
+    ),
+];
+
 /// Whether the words ask for this, where memory isn't short.
 fn is_asked(alloc: Global, row: &Row) -> bool {
     let (words, text, file, watched) = *row;
@@ -187,12 +226,19 @@ fn is_asked(alloc: Global, row: &Row) -> bool {
 
 /// The words ask for this. They are read once more where memory was refused.
 fn asks(rt: &impl Abort, alloc: Global, row: &Row) {
-    assert!(rt; is_asked(alloc, row) || is_asked(alloc, row), "{:?}", row.0);
+    holds_for(rt, is_asked(alloc, row) || is_asked(alloc, row), row.0);
 }
 
 #[test]
 fn words_ask_for_searches(rt: HostRuntime) {
     for row in &SEARCHES {
+        asks(&rt, rt.alloc(), row);
+    }
+}
+
+#[test]
+fn words_ask_for_lock_programs(rt: HostRuntime) {
+    for row in &LOCKS {
         asks(&rt, rt.alloc(), row);
     }
 }

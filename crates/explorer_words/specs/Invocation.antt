@@ -7,10 +7,13 @@ use Rattle.std.specs.declared.io.Error.{Error}
 use Rattle.std.specs.declared.io.ErrorKind.TheVariants.{OutOfMemory}
 use Rattle.explorer_scenarios.specs.declared.command.Command.{Command}
 use Rattle.explorer_scenarios.specs.declared.command.Command.TheVariants.{Explore, Check, Replay}
+use Rattle.lock_commands.specs.declared.command.LockCommand.{LockCommand}
+use Rattle.lock_commands.specs.declared.command.LockCommand.TheVariants.{Try, Retrace}
 use Rattle.explorer_words.specs.declared.file_fault.FileFault.{FileFault}
 use Rattle.explorer_words.specs.FileFault.{fault_text}
 use Rattle.explorer_words.specs.declared.invocation.Invocation.{Invocation}
-use Rattle.explorer_words.specs.declared.invocation.Invocation.TheVariants.{OfScenario, Judge, Threads}
+use Rattle.explorer_words.specs.declared.invocation.Invocation.TheVariants.{OfScenario, OfLockProgram, Judge}
+use Rattle.explorer_words.specs.declared.invocation.Invocation.TheVariants.{Threads}
 use Rattle.explorer_words.specs.declared.invocation.Invocation.TheVariants.{Mistake, NoText}
 use Rattle.explorer_words.specs.declared.invocation.Invocation.TheVariants.{NoMemory}
 
@@ -29,10 +32,16 @@ IsWithin (Explore bounds table extras) = (bounds.depth ≤ 64) × IsFromOne 1000
 IsWithin (Check worlds every extras) = IsFromOne 1000000000 worlds
 IsWithin (Replay spelled table every drawn) = Unit {0}
 
+-- 1 to 1,000,000,000 worlds
+abbrev pub IsTriedWithin : LockCommand → Type 0
+IsTriedWithin (Try worlds drawn counted live) = IsFromOne 1000000000 worlds
+IsTriedWithin (Retrace spelled drawn) = Unit {0}
+
 -- the numbers are within the limits of their command: 1 to 64 threads share a search, 1 to 1,000,000 lines
 -- are judged
 abbrev pub IsWithinLimits : Invocation → Type 0
 IsWithinLimits (OfScenario command file answer threads) = IsWithin command × IsFromOne 64 threads
+IsWithinLimits (OfLockProgram command file threads) = IsTriedWithin command × IsFromOne 64 threads
 IsWithinLimits (Judge file demands most) = IfSome most (IsFromOne 1000000)
 IsWithinLimits (Threads workers rounds) = AreWithin workers rounds
 IsWithinLimits _ = Unit {0}
@@ -54,6 +63,7 @@ IsWithoutFile name fault _ = ⊥
 -- the name of the file that is read in place of standard input
 abbrev pub file_of : Invocation → Option (List ℕ)
 file_of (OfScenario command file answer threads) = option_map (λ name. name.now) file
+file_of (OfLockProgram command file threads) = option_map (λ name. name.now) file
 file_of (Judge file demands most) = option_map (λ name. name.now) file
 file_of _ = None
 
@@ -82,8 +92,13 @@ with_schedule (OfScenario (Replay spelled table every drawn) file answer threads
     OfScenario (Replay schedule table every drawn) file None threads
 with_schedule asked schedule = asked
 
+abbrev is_tried_watched : LockCommand → Bool
+is_tried_watched (Try worlds drawn counted live) = live
+is_tried_watched (Retrace spelled drawn) = false
+
 -- it is to be told how far a search has come, while it runs
 abbrev pub is_watched : Invocation → Bool
 is_watched (OfScenario (Explore bounds table extras) file answer threads) = extras.live
 is_watched (OfScenario (Check worlds every extras) file answer threads) = extras.live
+is_watched (OfLockProgram command file threads) = is_tried_watched command
 is_watched _ = false

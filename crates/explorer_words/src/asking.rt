@@ -11,6 +11,7 @@ use explorer_scenarios::{
     Bounds, CHECKED_WORLDS, Command, EXPLORED_WORLDS, Extras, MAX_DEPTH, variant_named,
 };
 use journal_judge::Demands;
+use lock_commands::LockCommand;
 use std::alloc::{AllocError, Global};
 use step_core::Variant;
 
@@ -136,6 +137,40 @@ fn replay_asked<'w>(alloc: Global, given: &ArgMatches<'w>) -> Result<Invocation<
     })
 }
 
+/// What `try` is asked for.
+fn try_asked<'w>(given: &ArgMatches<'w>) -> Invocation<'w>
+    ensures limits { IsWithinLimits result }
+    ensures once { ReadsInputOnce result }
+    ensures named { NamesNoInput result }
+{
+    Invocation::OfLockProgram {
+        command: LockCommand::Try {
+            worlds: worlds_of(given, CHECKED_WORLDS),
+            drawn: given.get_flag("table"),
+            counted: given.get_flag("stats"),
+            live: given.get_flag("progress"),
+        },
+        file: file_of(given.get_str("file")),
+        threads: searchers_of(given),
+    }
+}
+
+/// What `retrace` is asked for.
+fn retrace_asked<'w>(given: &ArgMatches<'w>) -> Invocation<'w>
+    ensures limits { IsWithinLimits result }
+    ensures once { ReadsInputOnce result }
+    ensures named { NamesNoInput result }
+{
+    Invocation::OfLockProgram {
+        command: LockCommand::Retrace {
+            schedule: given.get_str("schedule").unwrap_or(""),
+            drawn: given.get_flag("table"),
+        },
+        file: file_of(given.get_str("file")),
+        threads: 1,
+    }
+}
+
 /// The counters that are told to be locks.
 fn locks_of(alloc: Global, given: &ArgMatches<'_>) -> Result<Vec<usize>, AllocError> {
     let mut locks = Vec::new(alloc);
@@ -206,6 +241,8 @@ pub(crate) fn asked_of<'w>(
         "check" => Ok(check_asked(given)),
         "explore" => Ok(explore_asked(given)),
         "replay" => replay_asked(alloc, given),
+        "try" => Ok(try_asked(given)),
+        "retrace" => Ok(retrace_asked(given)),
         "judge" => judge_asked(alloc, given),
         "threads" => Ok(threads_asked(given)),
         "format" => Ok(Invocation::Help(String::from_str(alloc, FORMAT)?)),

@@ -3,6 +3,7 @@ ghost use Rattle.explorer_words.specs.Invocation.{file_of, answer_named, is_watc
 
 use explorer_scenarios::Command;
 use journal_judge::Demands;
+use lock_commands::LockCommand;
 
 /// The most worlds that a search may be asked to keep.
 pub const MAX_WORLDS: u32 = 1_000_000_000;
@@ -27,6 +28,13 @@ pub enum Invocation<'w> {
         command: Command<'w>,
         file: Option<&'w str>,
         answer: Option<&'w str>,
+        threads: u16,
+    },
+    /// A command that reads the text of a lock program, in this file or on standard input. So many threads
+    /// share its search.
+    OfLockProgram {
+        command: LockCommand<'w>,
+        file: Option<&'w str>,
         threads: u16,
     },
     /// The command `judge` of the journal in this file or on standard input, of which this is asked. Where so
@@ -57,7 +65,9 @@ impl<'w> Invocation<'w> {
         ensures { option_map (λ file. file.now) result ≡ file_of self.now }
     {
         match self {
-            Invocation::OfScenario { file, .. } | Invocation::Judge { file, .. } => *file,
+            Invocation::OfScenario { file, .. }
+            | Invocation::OfLockProgram { file, .. }
+            | Invocation::Judge { file, .. } => *file,
             _ => None,
         }
     }
@@ -81,6 +91,10 @@ impl<'w> Invocation<'w> {
                 command: Command::Explore { extras, .. } | Command::Check { extras, .. },
                 ..
             } => extras.live,
+            Invocation::OfLockProgram {
+                command: LockCommand::Try { live, .. },
+                ..
+            } => *live,
             _ => false,
         }
     }

@@ -3,7 +3,8 @@
 //!
 //! `NAME.txt` is a scenario, a journal, or an answer whose schedule is replayed. In `NAME.answers` a line
 //! that begins with `$ parklot ` has the words, and the lines after it are what is written, and `exit` with
-//! the status.
+//! the status. `locks/NAME.lock` is a lock program, and `locks/NAME.answer` what `try` writes of it, what it
+//! tells beside, and `exit` with the status.
 #![tactic(auto)]
 
 use anyhow::Result;
@@ -56,6 +57,29 @@ const NAMES: [&str; 34] = [
     "answer_with_a_table",
 ];
 
+/// The lock programs whose every world is searched within some seconds.
+const LOCKS: [&str; 19] = [
+    "dekker",
+    "dekker_w2",
+    "drepper_2",
+    "drepper_2_w3",
+    "drepper_3",
+    "drepper_3_w1",
+    "go_once",
+    "go_once_w2",
+    "go_rwmutex_w1",
+    "go_waitgroup_w1",
+    "mcs",
+    "mcs_w1",
+    "peterson",
+    "peterson_w1",
+    "seqlock_w1",
+    "tas",
+    "tas_w1",
+    "ticket",
+    "ticket_w1",
+];
+
 /// The words of a command. What stands in quotes is one word.
 fn words_of(alloc: Global, command: &str) -> Result<Vec<String>, AllocError> {
     let mut words = Vec::new(alloc);
@@ -71,25 +95,35 @@ fn words_of(alloc: Global, command: &str) -> Result<Vec<String>, AllocError> {
     Ok(words)
 }
 
-/// What the program writes for this command, and how it ends.
-fn answer<R: Files + Threads + Wait + Clock + Sync>(
-    rt: &R,
+/// What the program writes to a text for these words, what it tells beside, and the status with which it ends.
+#[derive(Drop)]
+struct Ended {
+    text: String,
+    aside: String,
+    status: u8,
+}
+
+/// Runs the program on its words and a text.
+fn run<R: Files + Threads + Wait + Clock + Sync>(
+    team: &R,
     alloc: Global,
-    scenario: &str,
-    command: &str,
-) -> Result<String> {
-    let words = words_of(alloc, command)?;
-    let mut input = Flagged::new(scenario.as_bytes());
+    words: Vec<String>,
+    input: &str,
+) -> Result<Ended> {
+    let mut input = Flagged::new(input.as_bytes());
     let mut out = Flagged::new(Vec::new(alloc));
     let mut err = Flagged::new(Vec::new(alloc));
-    let status = parklot_io(rt, alloc, words, &mut input, &mut out, &mut err);
-    let text = String::from_utf8(out.into_inner())?;
-    Ok(format!(in alloc; "{PROMPT}{command}\n{text}exit {status}\n")?)
+    let status = parklot_io(team, alloc, words, &mut input, &mut out, &mut err);
+    Ok(Ended {
+        text: String::from_utf8(out.into_inner())?,
+        aside: String::from_utf8(err.into_inner())?,
+        status,
+    })
 }
 
 /// The commands that are told, each with what the program answers.
 fn answers<R: Files + Threads + Wait + Clock + Sync>(
-    rt: &R,
+    team: &R,
     alloc: Global,
     scenario: &str,
     told: &str,
@@ -97,24 +131,69 @@ fn answers<R: Files + Threads + Wait + Clock + Sync>(
     let mut answers = String::new(alloc);
     for line in told.lines() {
         if let Some(command) = line.strip_prefix(PROMPT) {
-            let text = answer(rt, alloc, scenario, command)?;
-            answers.push_str(&text)?;
+            let ended = run(team, alloc, words_of(alloc, command)?, scenario)?;
+            let status = ended.status;
+            let text = ended.text;
+            answers.push_str(&format!(in alloc; "{PROMPT}{command}\n{text}exit {status}\n")?)?;
         }
     }
     Ok(answers)
 }
 
-fn main(rt: HostRuntime) -> Result<()> {
+/// What the program answers to a lock program, and what it tells beside.
+fn tried<R: Files + Threads + Wait + Clock + Sync>(
+    team: &R,
+    alloc: Global,
+    program: &str,
+) -> Result<String> {
+    let ended = run(team, alloc, words_of(alloc, "try")?, program)?;
+    let status = ended.status;
+    let (text, aside) = (ended.text, ended.aside);
+    Ok(format!(in alloc; "{text}{aside}exit {status}\n")?)
+}
+
+/// Tells whether the answers are those that are told, and where they aren't, what they are.
+fn tell(rt: &HostRuntime, name: &str, answers: &str, told: &str) -> Result<()> {
+    if answers == told {
+        println!(rt; "{name}: as told")?;
+    } else {
+        print!(rt; "{name}: otherwise\n{answers}")?;
+    }
+    Ok(())
+}
+
+/// Puts a text through the program, with the words that stand beside it.
+fn try_text<R: Files + Threads + Wait + Clock + Sync>(
+    rt: &HostRuntime,
+    team: &R,
+    name: &str,
+) -> Result<()> {
     let alloc = rt.alloc();
+    let scenario = fs::read_to_string(rt, format!(in alloc; "{name}.txt")?)?;
+    let told = fs::read_to_string(rt, format!(in alloc; "{name}.answers")?)?;
+    let answers = answers(team, alloc, &scenario, &told)?;
+    tell(rt, name, &answers, &told)
+}
+
+/// Tries a lock program.
+fn try_lock<R: Files + Threads + Wait + Clock + Sync>(
+    rt: &HostRuntime,
+    team: &R,
+    name: &str,
+) -> Result<()> {
+    let alloc = rt.alloc();
+    let program = fs::read_to_string(rt, format!(in alloc; "locks/{name}.lock")?)?;
+    let told = fs::read_to_string(rt, format!(in alloc; "locks/{name}.answer")?)?;
+    let answer = tried(team, alloc, &program)?;
+    tell(rt, name, &answer, &told)
+}
+
+fn main(rt: HostRuntime) -> Result<()> {
     for name in NAMES {
-        let scenario = fs::read_to_string(&rt, format!(in alloc; "{name}.txt")?)?;
-        let told = fs::read_to_string(&rt, format!(in alloc; "{name}.answers")?)?;
-        let answers = answers(&rt, alloc, &scenario, &told)?;
-        if answers == told {
-            println!(rt; "{name}: as told")?;
-        } else {
-            print!(rt; "{name}: otherwise\n{answers}")?;
-        }
+        try_text(&rt, &rt, name)?;
+    }
+    for name in LOCKS {
+        try_lock(&rt, &rt, name)?;
     }
     Ok(())
 }

@@ -82,7 +82,7 @@ first_held : (seats : ℕ) (hand : List Wait) → ((w : Wait) → 0 < times_on_l
 first_held seats [] each = tt
 first_held seats (w ∷ hand) each = each w (let here = one_here w in omega arith)
 
-module _ (seats i : ℕ) (s : ListWorld) (there : i < seats) (inv : IsWellFormedList 0 seats s) (few : s.words.numbers.handed < 9223372036854775808) where
+module _ (seats i : ℕ) (s : ListWorld) (there : i < seats) (inv : IsWellFormedList 0 seats s) (few : s.words.numbers.handed ≤ 9223372036854775808) where
   list_asks_at : (place : ListPlace) → (s.seats i).place ≡ place → AsksAt seats s.words s.seats (s.seats i) place
   list_asks_at (Waiting t W2) is = let le = inv.words.2 in omega arith
   list_asks_at (Waiting t W4) is = room seats s inv.placed i there (ap (λ p. asleep_on_list p (s.words.grants i)) is)
@@ -101,7 +101,7 @@ module _ (seats i : ℕ) (s : ListWorld) (there : i < seats) (inv : IsWellFormed
     asks = list_asks_at (s.seats i).place refl;
   }
 
-module _ (p : Program) (few : IsFew p) (n : ℕ) (small : n < 2 ^ 63) (h : Machine) (journal : List Entry) (shows : IsLayer p n h journal)
+module _ (p : Program) (few : IsFew p) (n : ℕ) (small : n ≤ 2 ^ 63) (h : Machine) (journal : List Entry) (shows : IsLayer p n h journal)
     (i : ℕ) (there : i < length p.seats) where
   abbrev callers : List Caller
   callers = h.semaphores.callers
@@ -245,7 +245,7 @@ module _ (p : Program) (few : IsFew p) (n : ℕ) (small : n < 2 ^ 63) (h : Machi
   }
 
 -- once seat i, which is at rest, has begun the call of its line
-module _ (p : Program) (few : IsFew p) (n : ℕ) (small : n < 2 ^ 63) (h : Machine) (journal : List Entry) (shows : IsLayer p n h journal)
+module _ (p : Program) (few : IsFew p) (n : ℕ) (small : n ≤ 2 ^ 63) (h : Machine) (journal : List Entry) (shows : IsLayer p n h journal)
     (i : ℕ) (there : i < length p.seats) (rests : each Rest h.standing i ≡ Rest) where
   -- the first row of a call that the layer's seat may begin
   pub may_run_first : (call : Call) → MayCall (layer_of p) (core_of h journal) i call → MayRunFirst h i call

@@ -57,6 +57,7 @@ module _ (p : Program) where
     pub start_is : IsStart p (world_of (record { layer = layer; own = own }) [])
     start_is = record {
       seats = all.started;
+      others = all.others;
       words = ap (each (pos 0)) all.words;
       layer = first;
       sleepers = all.sleepers;
@@ -71,5 +72,6 @@ module _ (p : Program) where
       words = ap length all.words;
       seats = all.count;
       there = all.there;
+      small = omega arith;
       past = record { journal = []; schedule = []; reached = start start_is; count = refl };
     }

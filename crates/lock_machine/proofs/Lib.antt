@@ -6,3 +6,8 @@ pub mod Lines
 pub mod Stepping
 pub mod Past
 pub mod FirstSeats
+pub mod Seeing
+pub mod Telling
+pub mod Properties
+pub mod Passing
+pub mod Judging

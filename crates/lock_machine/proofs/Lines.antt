@@ -191,7 +191,7 @@ module _ (p : Program) (s : Shared) (i : ℕ) (can : CanGoOn p s i) where
 
   -- the row of the layer at which it stands may be run
   pub may_run_here : MayRun s.layer i
-  may_run_here = may_run p can.sound.few can.steps can.small s.layer can.sound.past.journal shows i can.there
+  may_run_here = may_run p can.sound.few can.steps can.sound.small s.layer can.sound.past.journal shows i can.there
 
   -- it stands before this line
   module _ (n : ℕ) (l : Instruction) (before : IsBefore p s i n l) where
@@ -209,7 +209,7 @@ module _ (p : Program) (s : Shared) (i : ℕ) (can : CanGoOn p s i) where
       call_is : (journal : List Entry) → call_of (world_of s journal) i l ≡ found
       call_is journal = call_same s.layer s.own i journal [] l ∙ sym is
 
-      row_then : (journal : List Entry) → row_of p (world_of s journal) i ≡ first_row (layer_of p) (world_of s journal) i n l found
+      pub row_then : (journal : List Entry) → row_of p (world_of s journal) i ≡ first_row (layer_of p) (world_of s journal) i n l found
       row_then journal = row_is journal ∙ ap (first_row (layer_of p) (world_of s journal) i n l) (call_is journal)
 
       -- nothing of the layer: a row on words
@@ -246,23 +246,22 @@ module _ (p : Program) (s : Shared) (i : ℕ) (can : CanGoOn p s i) where
             ((all_keep p (let seats = can.sound.few.seats in omega arith) can.sound.formed can.sound.past.schedule world
             can.sound.past.reached).resting i can.there)
 
+        pub seat_may : MayCall (layer_of p) (core_of s.layer []) i call
+        seat_may = may_same s.layer s.own i can.sound.past.journal [] (layer_of p) call
+            (line_may_call p can.sound.few can.steps can.sound.small s.layer can.sound.past.journal shows i can.there rests world refl
+            (length (code_of p i)) l line_is call begins_here)
+
         pub call_may : HasCall s.layer i call
-        call_may = (
-          layer_of p,
-          machine_is p s.layer can.sound.form,
-          may_same s.layer s.own i can.sound.past.journal [] (layer_of p) call
-              (line_may_call p can.sound.few can.steps can.small s.layer can.sound.past.journal shows i can.there rests world refl
-              (length (code_of p i)) l line_is call begins_here),
-        )
+        call_may = (layer_of p, machine_is p s.layer can.sound.form, seat_may)
 
         pub call_may_begin : MayBegin s.layer i call
         call_may_begin =
-            line_may_begin p can.sound.few can.steps can.small s.layer can.sound.past.journal shows i can.there rests world refl
+            line_may_begin p can.sound.few can.steps can.sound.small s.layer can.sound.past.journal shows i can.there rests world refl
             (length (code_of p i)) l line_is call begins_here
 
         pub call_may_run : MayRunFirst s.layer i call
         call_may_run =
-            line_may_run_first p can.sound.few can.steps can.small s.layer can.sound.past.journal shows i can.there rests world refl
+            line_may_run_first p can.sound.few can.steps can.sound.small s.layer can.sound.past.journal shows i can.there rests world refl
             (length (code_of p i)) l line_is call begins_here
 
         pub call_ran : (k : Machine) (then : Then) → HasLayerRow s.layer i n (with_call i call) k then → AreSameSize s.layer k

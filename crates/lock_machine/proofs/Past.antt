@@ -1,5 +1,5 @@
 -- A machine that was sound before a step is sound after it: the schedule that led there is one step longer.
-use Rattle.std.proofs.Common.{◌≡◌, ℕ, ◌+◌, ◌<◌, [], ◌∷◌, ◌++◌, length, refl, ap, ◌∙◌, subst}
+use Rattle.std.proofs.Common.{◌≡◌, ℕ, ◌+◌, ◌<◌, [], ◌∷◌, ◌++◌, length, refl, ap, ◌∙◌, subst, ◌^◌, arith}
 use Rattle.std.proofs.lemmas.List.{length-append}
 use Rattle.lock_code.specs.declared.program.Program.{Program}
 use Rattle.lock_machine.specs.Layer.{parts_of}
@@ -9,7 +9,7 @@ use Rattle.lock_machine.specs.Sound.{IsSound, HasStepped}
 use Rattle.lock_machine.proofs.Showing.{form_after}
 use Rattle.lock_steps.specs.Steps.{step}
 
-module _ (p : Program) (n : ℕ) (s : Shared) (i : ℕ) (t : Shared) (sound : IsSound p n s) (there : i < length p.seats)
+module _ (p : Program) (n : ℕ) (s : Shared) (i : ℕ) (t : Shared) (sound : IsSound p n s) (few : n < 2 ^ 63) (there : i < length p.seats)
     (stepped : HasStepped p s i t) where
   pub sound_after : IsSound p (n + 1) t
   sound_after = record {
@@ -19,6 +19,7 @@ module _ (p : Program) (n : ℕ) (s : Shared) (i : ℕ) (t : Shared) (sound : Is
     words = stepped.size.own.words ∙ sound.words;
     seats = stepped.size.own.seats ∙ sound.seats;
     there = stepped.size.own.there sound.there;
+    small = omega arith;
     past = record {
       journal = (stepped.step sound.past.journal).0;
       schedule = sound.past.schedule ++ i ∷ [];

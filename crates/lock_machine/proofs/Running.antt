@@ -1,14 +1,16 @@
 -- A row of the layer that the machine has run, or refused, is the layer's row; and the first row of a call can run, but for
 -- that of a wait, which takes its list's lock.
-use Rattle.std.proofs.Common.{◌≡◌, ℕ, Bool, true, false, cond, pos, List, [], Option, Some, None, ◌==◌, ne_eqb, refl}
+use Rattle.std.proofs.Common.{◌≡◌, ℕ, Bool, true, false, cond, pos, List, [], Option, Some, None, ◌==◌, ne_eqb, refl, IsTrue, ◌↔◌}
 use Rattle.std.proofs.Common.{sym, ap, ◌∙◌, subst}
 use Rattle.lock_machine.specs.Beginning.{HasCall, CanBegin}
 use Rattle.lock_machine.specs.LayerRows.{HasLayerRow, HasNoLayerRow, as_it_is, with_call}
 use Rattle.lock_steps.specs.declared.stand.Then.{Then}
-use Rattle.lock_steps.specs.Steps.{after_call, layer_row}
+use Rattle.lock_steps.specs.Steps.{after_row, given_up, is_first, layer_row, settled}
+use Rattle.lock_steps.proofs.GivingUp.{first_of}
+use Rattle.step_table.specs.declared.place.Acquire.{Acquire as Begun}
 use Rattle.lock_steps.specs.World.{LockWorld, new_seat}
 use Rattle.step_core.specs.State.{Machine, IsRefusal, HasRunRow, Becomes, core_of}
-use Rattle.step_core.proofs.Changing.{same_layout}
+use Rattle.step_core.proofs.Changing.{no_change, same_layout}
 use Rattle.step_law_whole.specs.TheCore.{MayCall}
 use Rattle.step_rows.specs.Stored.{each}
 use Rattle.step_table.specs.declared.call.Call.{Call}
@@ -64,32 +66,49 @@ can_some m c i (AtList l) is = unless_none _ _ is
 can_some m c i (AtGroup g row) is = refl
 can_some m c i (Failed misuse) is = absurd cc
 
--- the row ran
-pub row_ran : (h k : Machine) (i n : ℕ) (entry : Option Entry) → HasRunRow i h k entry → IsRefusal h i None
-    → (next : Then) → next ≡ after_call n (each Rest k.standing i) → HasLayerRow h i n as_it_is k next
-row_ran h k i n entry ran can next is m are journal = (
-  (core_turned m c i).journal,
+-- the row ran, and then its seat gave its call up, or it didn't
+pub row_ran : (h mid k : Machine) (i n : ℕ) (entry : Option Entry) → HasRunRow i h mid entry → IsRefusal h i None
+    → Becomes (λ m s. settled i s) mid k → (next : Then) → ((journal : List Entry) → next ≡ after_row n i (core_of mid journal))
+    → HasLayerRow h i n as_it_is k next
+row_ran h mid k i n entry ran can gave next is m are journal = (
+  (settled i (core_of mid told)).journal,
   λ s.
       ap (λ b. cond b (Some (record {
-        world = record s { layer = core_turned m c i };
-        next = after_call n ((core_turned m c i).standing i);
+        world = record s { layer = settled i (core_turned m c i) };
+        next = after_row n i (core_turned m c i);
       })) None) (can_some m c i (c.standing i) (can m are journal))
-      ∙ ap (λ (t : Core). Some (record { world = record s { layer = t }; next = after_call n (t.standing i) })) (sym turned)
-      ∙ ap (λ x. Some (record { world = record s { layer = core_of k (core_turned m c i).journal }; next = x })) (sym is),
+      ∙ ap (λ (t : Core). Some (record { world = record s { layer = settled i t }; next = after_row n i t })) (sym turned)
+      ∙ ap (λ (t : Core). Some (record { world = record s { layer = t }; next = after_row n i (core_of mid told) })) (sym there)
+      ∙ ap (λ x. Some (record { world = record s { layer = core_of k (settled i (core_of mid told)).journal }; next = x })) (sym (is told)),
 )
   where
     c : Core
     c = core_of h journal
 
-    turned : core_of k (core_turned m c i).journal ≡ core_turned m c i
+    told : List Entry
+    told = (core_turned m c i).journal
+
+    turned : core_of mid told ≡ core_turned m c i
     turned = ran.turned.core m are journal
+
+    there : core_of k (settled i (core_of mid told)).journal ≡ settled i (core_of mid told)
+    there = gave.core m (same_layout m h mid ran.turned.alike are) told
+
+-- whether it did is what its place says
+pub is_told : (place : Place) (b : Bool) → (IsTrue b ↔ ((a : Begun) × (place ≡ Acquiring a A1))) → b ≡ is_first place
+is_told place true so = sym (ap is_first (so.0 refl).1)
+is_told place false so = by (is_first place) refl
+  where
+    by : (x : Bool) → is_first place ≡ x → false ≡ is_first place
+    by false e = sym e
+    by true e = so.1 (first_of place e) ∙ sym e
 
 -- it was refused
 pub row_refused : (h : Machine) (i n : ℕ) (cause : StepRefused) → IsRefusal h i (Some cause) → HasNoLayerRow h i n as_it_is
 row_refused h i n cause is m are journal s =
     ap (λ b. cond b (Some (record {
-      world = record s { layer = core_turned m (core_of h journal) i };
-      next = after_call n ((core_turned m (core_of h journal) i).standing i);
+      world = record s { layer = settled i (core_turned m (core_of h journal) i) };
+      next = after_row n i (core_turned m (core_of h journal) i);
     })) None) (can_none m (core_of h journal) i (each Rest h.standing i) cause (is m are journal))
 
 -- a call has begun
@@ -144,7 +163,7 @@ module _ (m : CoreLayout) (c : Core) (i : ℕ) where
       (put_here c.standing i (AtCounter NextCall)) ∙ can
 
   -- a wait of a seat that holds a ticket
-  wait_can : (l : ℕ) (b : Bool) (t : Ticket) → ((c.lists l).seats i).ticket ≡ Some t → ((c.lists l).words.lock == 0) ≡ b
+  pub wait_can : (l : ℕ) (b : Bool) (t : Ticket) → ((c.lists l).seats i).ticket ≡ Some t → ((c.lists l).words.lock == 0) ≡ b
       → can_run m (calls c i (Wait l)) i ((calls c i (Wait l)).standing i) ≡ b
   wait_can l b t held free = on_list l (list.waiting (c.lists l) i) b (ap (λ ticket. list.can_turn
       (record (c.lists l) { seats = put (c.lists l).seats i (list.with_ticket ((c.lists l).seats i) ticket) }) i) held
@@ -179,8 +198,8 @@ module _ (h : Machine) (i : ℕ) (call : Call) where
   pub held_back : (can : Bool) → can ≡ false → CanBegin h call can → HasCall h i call → (n : ℕ) → HasNoLayerRow h i n (with_call i call)
   held_back can is told may n m are journal s =
       ap (λ b. cond b (Some (record {
-        world = record s { layer = core_turned m (calls (core_of h journal) i call) i };
-        next = after_call n ((core_turned m (calls (core_of h journal) i call) i).standing i);
+        world = record s { layer = settled i (core_turned m (calls (core_of h journal) i call) i) };
+        next = after_row n i (core_turned m (calls (core_of h journal) i call) i);
       })) None) (held_can call told may)
     where
       held_can : (q : Call) → CanBegin h q can → HasCall h i q
@@ -211,9 +230,37 @@ module _ (h : Machine) (i : ℕ) (call : Call) where
       let runs : can_run may.0 (calls c i call) i ((calls c i call).standing i) ≡ true
       = first_can may.0 c i call may.2 (free_of can is found) in
       some_none _ (sym (ap (λ b. cond b (Some (record {
-        world = record any_world { layer = core_turned may.0 (calls c i call) i };
-        next = after_call n ((core_turned may.0 (calls c i call) i).standing i);
+        world = record any_world { layer = settled i (core_turned may.0 (calls c i call) i) };
+        next = after_row n i (core_turned may.0 (calls c i call) i);
       })) None) runs) ∙ none may.0 may.1 [] any_world))
     where
       some_none : {A : Type 0} (x : A) → Some x ≡ None → ⊥
       some_none x is = absurd cc
+
+-- what is settled where it gives its call up
+pub settles_up : (h k : Machine) (i : ℕ) → Becomes (λ m s. given_up i s) h k
+    → ((journal : List Entry) → is_first ((core_of h journal).semaphores.seats i).place ≡ true) → Becomes (λ m s. settled i s) h k
+settles_up h k i gave first = record {
+  alike = gave.alike;
+  core = λ m are journal.
+      let same : settled i (core_of h journal) ≡ given_up i (core_of h journal)
+      = ap (λ b. cond b (given_up i (core_of h journal)) (core_of h journal)) (first journal) in
+      subst (λ (c : Core). core_of k c.journal ≡ c) (sym same) (gave.core m are journal);
+}
+
+-- and where it doesn't
+pub settles_not : (h : Machine) (i : ℕ)
+    → ((journal : List Entry) → is_first ((core_of h journal).semaphores.seats i).place ≡ false) → Becomes (λ m s. settled i s) h h
+settles_not h i first = record {
+  alike = record {
+    semaphores = no_change h.semaphores;
+    lists = refl;
+    seats = λ l. refl;
+    groups = refl;
+    standing = refl;
+  };
+  core = λ m are journal.
+      let same : settled i (core_of h journal) ≡ core_of h journal
+      = ap (λ b. cond b (given_up i (core_of h journal)) (core_of h journal)) (first journal) in
+      subst (λ (c : Core). core_of h c.journal ≡ c) (sym same) refl;
+}

@@ -19,7 +19,7 @@ use Rattle.lock_steps.specs.Calls.{call_of}
 use Rattle.lock_steps.specs.Going.{advanced, advanced_from, after_line, after_line_of, endless_from, endless_at, at_line, GoesOn}
 use Rattle.lock_steps.specs.Numbers.{holds}
 use Rattle.lock_steps.specs.Reading.{place_of, value, makes_steps}
-use Rattle.lock_steps.specs.Steps.{Did, row_at, row_before, first_row, row_of_line, layer_row, after_call, on_word, at, IsSeatAfter, StepsTo}
+use Rattle.lock_steps.specs.Steps.{Did, row_at, row_before, first_row, row_of_line, layer_row, after_call, is_first, on_word, at, IsSeatAfter, StepsTo}
 use Rattle.lock_steps.specs.Steps.{Reaches, start, step}
 use Rattle.lock_steps.specs.World.{LockWorld, LockSeat, layer_of, code_of}
 use Rattle.step_table.specs.declared.call.Call.{Call}
@@ -127,9 +127,13 @@ module _ (p : Program) (s : LockWorld) (i : ℕ) where
     after_there (AtGroup g row) = within
     after_there (Failed misuse) = within
 
+    row_there : (b : Bool) (standing : Standing) → LeadsThere (code_of p i) (cond b (Stands (Before n)) (after_call n standing))
+    row_there true standing = tt
+    row_there false standing = after_there standing
+
     layer_kept : (c : Core) (did : Did) → layer_row (layer_of p) s i n c ≡ Some did → Kept did
     layer_kept c did is = if_kept (can_run (layer_of p) c i (c.standing i)) _ did
-        (record { others = λ k ne. refl; there = after_there ((core_turned (layer_of p) c i).standing i) }) is
+        (record { others = λ k ne. refl; there = row_there (is_first ((core_turned (layer_of p) c i).semaphores.seats i).place) ((core_turned (layer_of p) c i).standing i) }) is
 
     first_kept : (l : Instruction) (call : Option (Result Call Cause)) (did : Did)
         → first_row (layer_of p) s i n l call ≡ Some did → Kept did

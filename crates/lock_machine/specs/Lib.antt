@@ -7,3 +7,4 @@ pub mod Sound
 pub mod Prepared
 pub mod Starting
 pub mod Moment
+pub mod Verdict

@@ -1,5 +1,5 @@
 -- What is true of a lock program at each moment, and one row of it.
-use Rattle.std.specs.Prelude.{◌≡◌, ◌<◌, ◌^◌, ℕ, List, Some, None, length, slice_get}
+use Rattle.std.specs.Prelude.{◌≡◌, ◌<◌, ◌≤◌, ◌^◌, ℕ, List, Some, None, length, slice_get}
 use Rattle.lock_code.specs.declared.instruction.Instruction.{Instruction}
 use Rattle.lock_code.specs.declared.program.CodeLine.{CodeLine}
 use Rattle.lock_code.specs.declared.program.Program.{Program}
@@ -22,7 +22,7 @@ pub record HasPast (p : Program) (n : ℕ) (s : Shared) : Type 0 where
   pub reached : Reaches p schedule (world_of s journal)
   pub count : length schedule ≡ n
 
--- what is stored of a program after n steps
+-- what is stored of a program after n steps: there are never more than 2^63
 pub record IsSound (p : Program) (n : ℕ) (s : Shared) : Type 0 where
   pub formed : IsWellFormed p
   pub few : IsFew p
@@ -30,12 +30,12 @@ pub record IsSound (p : Program) (n : ℕ) (s : Shared) : Type 0 where
   pub words : length s.own.words ≡ length p.words
   pub seats : length s.own.seats ≡ length p.seats
   pub there : AreThere s.own
+  pub small : n ≤ 2 ^ 63
   pub past : HasPast p n s
 
--- it can step once more
+-- so it is after some steps, and the seat is one of the program's
 pub record CanGoOn (p : Program) (s : Shared) (i : ℕ) : Type 0 where
   pub steps : ℕ
-  pub small : steps < 2 ^ 63
   pub sound : IsSound p steps s
   pub there : i < length p.seats
 

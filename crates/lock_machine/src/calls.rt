@@ -1,6 +1,7 @@
 //! The call of the layer that a line begins, or why its seat fails.
 
-ghost use Rattle.std.specs.Prelude.{◌≡◌, ◌<◌, ◌+◌, ◌^◌, ◌&&◌, ℕ, pos, nat_lt, int_le, length, cond, Ok, Err, Some, IfSome};
+ghost use Rattle.std.specs.Prelude.{◌≡◌, ◌<◌, ◌+◌, ◌^◌, ◌&&◌, ℕ, pos, nat_lt, int_le, length, cond};
+ghost use Rattle.std.specs.Prelude.{Ok, Err, Some, IfSome};
 ghost use Rattle.lock_machine.specs.Calling.{HasAll, FitsCall};
 ghost use Rattle.lock_machine.specs.Shared.{world_at};
 ghost use Rattle.lock_rows.specs.Fitting.{FitsPlace};

@@ -1,11 +1,12 @@
 //! The sleeping layer below a lock program: the call that a line begins, and its rows.
 
-ghost use Rattle.std.specs.Prelude.{◌≡◌, ◌<◌, ◌^◌, ℕ, ℤ, length, cond, Some, None, Ok, Err, IfSome, IfOk, IfErr};
-ghost use Rattle.std.specs.Prelude.{OnErr};
+ghost use Rattle.std.specs.Prelude.{◌≡◌, ◌<◌, ◌^◌, ℕ, ℤ, List, length, cond};
+ghost use Rattle.std.specs.Prelude.{Some, None, Ok, Err, IfSome, IfOk, IfErr, OnErr};
 ghost use Rattle.lock_machine.specs.Beginning.{CanBegin, HasCall, HasListOf, MayRun, MayRunFirst};
 ghost use Rattle.lock_machine.specs.LayerRows.{HasLayerRow, HasNoLayerRow, as_it_is, with_call};
-ghost use Rattle.lock_steps.specs.Steps.{after_call};
-ghost use Rattle.step_core.specs.State.{HasSeat, MayBegin, AreSameSize};
+ghost use Rattle.lock_steps.specs.Steps.{after_call, after_row, settled};
+ghost use Rattle.step_core.specs.State.{Becomes, HasSeat, MayBegin, AreSameSize, core_of};
+ghost use Rattle.step_table.specs.declared.entry.Entry.{Entry};
 
 use lock_steps::{Stand, Then};
 use step_core::Machine;
@@ -22,6 +23,20 @@ fn after_call(line: usize, standing: Standing) -> Then
     }
 }
 
+/// What comes after a row of the layer at this line: who is to begin an acquire anew, since its exchange was
+/// lost, gives it up and is before its line again.
+fn after_row(layer: &mut Machine, seat: SeatId, line: usize) -> Then
+    requires { HasSeat layer.old seat }
+    ensures settled { Becomes (λ m s. settled seat s) layer.old layer.new }
+    ensures next { (journal : List Entry) → result ≡ after_row line seat (core_of layer.old journal) }
+{
+    if layer.is_to_acquire(seat) {
+        layer.give_up(seat);
+        return Then::Stands(Stand::Before(line));
+    }
+    after_call(line, layer.doing(seat))
+}
+
 /// Runs the row of the layer at which the seat stands, if it can. A refusal changes nothing.
 pub(crate) fn run_row(layer: &mut Machine, seat: SeatId, line: usize) -> Result<Then, StepRefused>
     requires { MayRun layer.old seat }
@@ -31,13 +46,13 @@ pub(crate) fn run_row(layer: &mut Machine, seat: SeatId, line: usize) -> Result<
     ensures why { IfErr result (λ cause. HasNoLayerRow layer.old seat line as_it_is) }
 {
     match layer.step(seat) {
-        Ok(_) => Ok(after_call(line, layer.doing(seat))),
+        Ok(_) => Ok(after_row(layer, seat, line)),
         Err(cause) => Err(cause),
     }
 }
 
 /// Whether the first row of the call can run: that of a wait takes its list's lock, and all others can.
-fn can_begin(layer: &Machine, call: &Call) -> bool
+pub(crate) fn can_begin(layer: &Machine, call: &Call) -> bool
     requires { HasListOf layer.now call.now }
     ensures { CanBegin layer.now call.now result }
 {

@@ -2,11 +2,17 @@
 #![tactic(auto)]
 
 mod calls;
+mod copying;
+mod enabled;
 mod layer;
+mod looking;
 mod machine;
+mod passed;
 mod prepared;
 mod shared;
 mod starting;
+mod verdict;
 
 pub use machine::LockMachine;
 pub use prepared::Prepared;
+pub use starting::layer_parts;

@@ -2,27 +2,34 @@
 
 ghost use Rattle.std.specs.Prelude.{◌≡◌, ◌<◌, pos, length, IfOk, IfErr, OnOk, OnErr};
 ghost use Rattle.lock_machine.specs.Moment.{IsStarted, HasMoved, IsRefusedBy};
+ghost use Rattle.lock_machine.specs.Prepared.{IsPrepared};
+ghost use Rattle.lock_machine.specs.Sound.{IsSound};
 ghost use Rattle.lock_rows.specs.Stored.{seats_of};
+ghost use Rattle.lock_steps.specs.World.{code_of};
 ghost use Rattle.step_rows.specs.Stored.{each};
 
 use crate::prepared::Prepared;
 use crate::shared::Shared;
 use crate::starting::{first_layer, first_state};
+use lock_code::{CodeLine, Program};
+use lock_liveness::InUse;
+use lock_rows::ProgramState;
 use lock_steps::Stand;
 use std::alloc::Global;
 use std::marker::Model;
+use step_core::Machine;
 use step_table::StepRefused;
 use waiters::{NoMemory, SeatId};
 
 /// So many steps a machine makes at most: then its numbers of turns and tickets could run out.
-const MOST_STEPS: u64 = 1 << 63;
+pub(crate) const MOST_STEPS: u64 = 1 << 63;
 
 /// A lock program at one moment.
 #[derive(Drop)]
 pub struct LockMachine<'p> {
-    program: &'p Prepared,
-    shared: Shared,
-    steps: u64,
+    pub(crate) program: &'p Prepared,
+    pub(crate) shared: Box<Shared>,
+    pub(crate) steps: u64,
 }
 
 impl<'p> Model for LockMachine<'p> {
@@ -31,9 +38,9 @@ impl<'p> Model for LockMachine<'p> {
 
     ghost Value = { LockMoment };
 
-    ghost view = { λ m. record { program = m.program.now; shared = m.shared; steps = m.steps } };
+    ghost view = { λ m. record { program = m.program.now; shared = m.shared.value; steps = m.steps } };
 
-    ghost invariant = { λ m. IsSound m.program.now m.steps m.shared };
+    ghost invariant = { λ m. IsSound m.program.now m.steps m.shared.value };
 }
 
 impl<'p> LockMachine<'p> {
@@ -47,9 +54,47 @@ impl<'p> LockMachine<'p> {
         };
         Ok(LockMachine {
             program,
-            shared,
+            shared: shared.boxed(alloc)?,
             steps: 0,
         })
+    }
+
+    /// The program.
+    pub fn program(&self) -> &'p Program
+        ensures { result.now ≡ self.now.program }
+    {
+        self.program.program()
+    }
+
+    /// The lines that the seat runs.
+    pub fn code(&self, seat: SeatId) -> &'p [CodeLine]
+        requires { seat < length self.now.program.seats }
+        ensures { result.now ≡ code_of self.now.program seat }
+    {
+        self.program.code(seat)
+    }
+
+    /// Which registers are in use before each line of each of the programs.
+    pub fn tables(&self) -> &'p [InUse]
+        ensures { IsPrepared self.now.program result.now }
+    {
+        self.program.tables()
+    }
+
+    /// The sleeping layer.
+    pub fn layer(&self) -> &Machine
+        ensures layer { result.now ≡ self.now.shared.layer }
+        ensures sound { IsSound self.now.program self.now.steps self.now.shared }
+    {
+        &self.shared.layer
+    }
+
+    /// The words, who sleeps on them, and the seats.
+    pub fn own(&self) -> &ProgramState
+        ensures own { result.now ≡ self.now.shared.own }
+        ensures sound { IsSound self.now.program self.now.steps self.now.shared }
+    {
+        &self.shared.own
     }
 
     /// How many seats there are.

@@ -3,7 +3,7 @@
 ghost use Rattle.std.specs.Prelude.{◌≡◌, ◌<◌, length, IfOk};
 ghost use Rattle.lock_code.specs.WellFormed.{IsWellFormed, IsFew};
 ghost use Rattle.lock_liveness.specs.Table.{IsTableOf};
-ghost use Rattle.lock_machine.specs.Prepared.{ArePrepared};
+ghost use Rattle.lock_machine.specs.Prepared.{ArePrepared, IsPrepared};
 ghost use Rattle.lock_steps.specs.World.{code_of};
 
 use lock_code::{CodeLine, Program};
@@ -62,6 +62,13 @@ impl Prepared {
     {
         let code = self.program.seats.as_slice()[seat.number() as usize];
         self.program.codes.as_slice()[code].as_slice()
+    }
+
+    /// Which registers are in use before each line of each of the programs.
+    pub(crate) fn tables(&self) -> &[InUse]
+        ensures { IsPrepared self.now result.now }
+    {
+        self.in_use.as_slice()
     }
 
     /// Which registers are in use before the lines that the seat runs.

@@ -36,7 +36,7 @@ fn first_tickets(alloc: Global, lists: usize) -> Result<Vec<u64>, AllocError>
 }
 
 /// The parts of the program's layer.
-fn parts_of(alloc: Global, program: &Program) -> Result<Parts, NoMemory>
+pub fn layer_parts(alloc: Global, program: &Program) -> Result<Parts, NoMemory>
     requires { length program.now.counters < 2 ^ 32 }
     ensures { IfOk result (λ parts. parts ≡ parts_of program.now) }
 {
@@ -57,7 +57,7 @@ pub(crate) fn first_layer(alloc: Global, program: &Prepared) -> Result<Machine, 
     ensures form { IfOk result (HasForm (parts_of program.now)) }
     ensures core { IfOk result (λ layer. core_of layer [] ≡ first_core (layer_of program.now)) }
 {
-    let parts = parts_of(alloc, program.program())?;
+    let parts = layer_parts(alloc, program.program())?;
     Machine::new(alloc, &parts)
 }
 

@@ -176,7 +176,7 @@ static SCENES: [Scene; 17] = [
 ];
 
 /// The program of a text: `None` where it has a fault.
-fn program_of(alloc: Global, text: &'static str) -> Result<Option<Prepared>, NoMemory> {
+pub(crate) fn program_of(alloc: Global, text: &'static str) -> Result<Option<Prepared>, NoMemory> {
     let NamedProgram { program, .. } = match read_program(alloc, text.as_bytes()) {
         Ok(read) => read,
         Err(fault) if fault.cause == Fault::NoMemory => return Err(NoMemory),
@@ -185,13 +185,19 @@ fn program_of(alloc: Global, text: &'static str) -> Result<Option<Prepared>, NoM
     Ok(Some(Prepared::new(alloc, program)?))
 }
 
-/// Whether the seat stands as the scene says, and can step or not.
+/// Whether the seat stands as the scene says, and can step or not, as the machine says beforehand.
 fn is_as_told(machine: &mut LockMachine, scene: &Scene) -> bool {
     let seat = SeatId::new(scene.seat);
     if machine.seats() <= scene.seat as usize || machine.stand(seat) != scene.stand {
         return false;
     }
-    machine.step(seat).err() == scene.refused
+    machine.enabled(seat) == scene.refused.is_none() && machine.step(seat).err() == scene.refused
+}
+
+/// Whether the seat makes a step, as the machine says beforehand.
+fn steps(machine: &mut LockMachine, number: u16) -> bool {
+    let seat = SeatId::new(number);
+    (number as usize) < machine.seats() && machine.enabled(seat) && machine.step(seat).is_ok()
 }
 
 /// Whether the first word is this, where something is told of it.
@@ -202,18 +208,24 @@ fn has_word(machine: &LockMachine, word: Option<i64>) -> bool {
     }
 }
 
-/// Whether the scene goes as it says.
+/// Whether the scene goes as it says, and so it does on a copy of each moment.
 fn goes(alloc: Global, scene: &Scene) -> Result<bool, NoMemory> {
     let Some(program) = program_of(alloc, scene.text)? else {
         return Ok(false);
     };
     let mut machine = LockMachine::new(alloc, &program)?;
+    let mut copy = machine.try_clone(alloc)?;
     for number in scene.schedule {
-        if machine.step(SeatId::new(*number)).is_err() {
+        if !steps(&mut machine, *number) {
             return Ok(false);
         }
+        copy = copy.try_clone_over(alloc, &machine)?;
     }
-    Ok(has_word(&machine, scene.word) && is_as_told(&mut machine, scene))
+    Ok(
+        has_word(&copy, scene.word)
+            && is_as_told(&mut machine, scene)
+            && is_as_told(&mut copy, scene),
+    )
 }
 
 /// The same, twice where memory was short.

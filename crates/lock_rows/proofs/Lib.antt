@@ -1,3 +1,4 @@
+pub mod Writing
 pub mod Coming
 pub mod Storing
 pub mod Waking

@@ -3,3 +3,4 @@ pub mod Stored
 pub mod Rows
 pub mod Settling
 pub mod Starting
+pub mod Key

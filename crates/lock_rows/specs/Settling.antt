@@ -1,25 +1,28 @@
 -- What comes after a row, as it is stored: the seat goes on from the next line, stands there, or fails, and
 -- the registers that aren't in use are 0.
-use Rattle.std.specs.Prelude.{◌≡◌, ◌≢◌, ℕ, ◌+◌, pos, Bool, false, cond, List, Option, Some, None}
+use Rattle.std.specs.Prelude.{◌≡◌, ◌≢◌, ℕ, ◌+◌, pos, Bool, true, false, cond, List}
 use Rattle.lock_code.specs.declared.program.CodeLine.{CodeLine}
 use Rattle.lock_liveness.specs.Table.{tells}
 use Rattle.lock_rows.specs.Stored.{Stored, IsSameSize, seats_of, grants_of}
-use Rattle.lock_steps.specs.declared.stand.Stand.TheVariants.{FailedAt}
+use Rattle.lock_steps.specs.declared.stand.Stand.{Stand}
+use Rattle.lock_steps.specs.declared.stand.Stand.TheVariants.{Before, FailedAt}
 use Rattle.lock_steps.specs.declared.stand.Then.{Then}
 use Rattle.lock_steps.specs.declared.stand.Then.TheVariants.{OnFromNext, Stands, Fails}
-use Rattle.lock_steps.specs.Going.{GoesOn, line_of}
+use Rattle.lock_steps.specs.Going.{GoesOn}
 use Rattle.lock_steps.specs.World.{LockSeat}
 
--- whether a table says of a register that it is in use before this line, if there is one
-abbrev pub kept_by : List (List Bool) → Option ℕ → ℕ → Bool
-kept_by table None r = false
-kept_by table (Some n) r = tells table n r
+-- whether a table says of a register that a seat which stands there keeps it: before a line what is in use,
+-- and all where it has failed
+abbrev pub kept_by : List (List Bool) → Stand → ℕ → Bool
+kept_by table (Before n) r = tells table n r
+kept_by table (FailedAt n why) r = true
+kept_by table _ r = false
 
 -- the seat with those registers alone of which the table says so
 pub record IsClearedBy (table : List (List Bool)) (s t : LockSeat) : Type 0 where
   pub stand : t.stand ≡ s.stand
   pub sections : t.sections ≡ s.sections
-  pub registers : (r : ℕ) → t.registers r ≡ cond (kept_by table (line_of s.stand) r) (s.registers r) (pos 0)
+  pub registers : (r : ℕ) → t.registers r ≡ cond (kept_by table s.stand r) (s.registers r) (pos 0)
 
 -- the seat, which stood at line n of the code, after its row
 abbrev pub IsSeatAfterIn : List CodeLine → ℕ → ℕ → LockSeat → Then → LockSeat → Type 0

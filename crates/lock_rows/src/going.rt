@@ -1,12 +1,13 @@
 //! What comes after a row: the seat goes on from the next line, stands there, or fails.
 
-ghost use Rattle.std.specs.Prelude.{◌≡◌, ◌<◌, ◌≤◌, ◌+◌, ◌^◌, ℕ, pos, length, Some, None};
+ghost use Rattle.std.specs.Prelude.{◌≡◌, ◌<◌, ◌≤◌, ◌+◌, ◌^◌, ℕ, pos, length};
 ghost use Rattle.lock_liveness.specs.Table.{IsTableOf};
 ghost use Rattle.lock_rows.specs.Fitting.{FitsCode};
 ghost use Rattle.lock_rows.specs.Settling.{IsClearedBy, kept_by, HasSettled, HasStarted, IsSeatAfterIn};
 ghost use Rattle.lock_rows.specs.Stored.{seat_of};
-ghost use Rattle.lock_steps.specs.Going.{line_of, GoesOn};
+ghost use Rattle.lock_steps.specs.Going.{GoesOn};
 
+use crate::line_set::LineSet;
 use crate::seat::{MAX_REGISTERS, Seat};
 use crate::state::ProgramState;
 use lock_code::CodeLine;
@@ -14,54 +15,60 @@ use lock_liveness::InUse;
 use lock_steps::{Stand, Then};
 use waiters::SeatId;
 
-/// The line before which a seat stands, or at which it failed.
-fn line_of(stand: Stand) -> Option<usize>
-    ensures { result ≡ line_of stand }
+/// Whether a seat that stands there keeps the register: it is in use there, or the seat has failed.
+fn is_kept(in_use: &InUse, stand: Stand, register: usize) -> bool
+    ensures { result ≡ kept_by in_use.now stand register }
 {
     match stand {
-        Stand::Before(line) | Stand::FailedAt(line, _) => Some(line),
-        _ => None,
-    }
-}
-
-/// Whether the register is in use where the seat stands.
-fn is_kept(in_use: &InUse, line: Option<usize>, register: usize) -> bool
-    ensures { result ≡ kept_by in_use.now line register }
-{
-    match line {
-        Some(line) => in_use.is_in_use(line, register),
-        None => false,
+        Stand::Before(line) => in_use.is_in_use(line, register),
+        Stand::FailedAt(_, _) => true,
+        _ => false,
     }
 }
 
 impl Seat {
-    /// The registers that aren't in use where the seat stands become 0.
+    /// The registers that aren't in use where the seat stands become 0; a seat that has failed keeps all.
     fn clear(&mut self, in_use: &InUse)
         ensures seat { IsClearedBy in_use.now (seat_of self.old) (seat_of self.new) }
         ensures few { (r : ℕ) → 8 ≤ r → (seat_of self.old).registers r ≡ pos 0 }
         ensures grant { self.new.grant ≡ self.old.grant }
     {
-        let line = line_of(self.stand);
+        let stand = self.stand;
         for register in 0..MAX_REGISTERS {
-            if !is_kept(in_use, line, register) {
+            if !is_kept(in_use, stand, register) {
                 self.registers[register] = 0;
             }
         }
     }
 
     /// The seat goes on from the line of this number, and then what isn't in use is 0.
-    fn go_on(&mut self, me: SeatId, code: &[CodeLine], in_use: &InUse, line: usize)
+    fn go_on(
+        &mut self,
+        me: SeatId,
+        code: &[CodeLine],
+        in_use: &InUse,
+        line: usize,
+        passed: &mut LineSet,
+    )
         requires fits { FitsCode code.now }
         requires table { IsTableOf code.now 8 in_use.now }
         ensures seat { GoesOn code.now me (seat_of self.old) line (seat_of self.new) }
         ensures grant { self.new.grant ≡ self.old.grant }
     {
-        self.come_from(me, code, line);
+        self.come_from(me, code, line, passed);
         self.clear(in_use);
     }
 
     /// What comes after the row of a seat at this line.
-    fn settle(&mut self, me: SeatId, code: &[CodeLine], in_use: &InUse, line: usize, then: Then)
+    fn settle(
+        &mut self,
+        me: SeatId,
+        code: &[CodeLine],
+        in_use: &InUse,
+        line: usize,
+        then: Then,
+        passed: &mut LineSet,
+    )
         requires fits { FitsCode code.now }
         requires table { IsTableOf code.now 8 in_use.now }
         requires line { line < length code.now }
@@ -69,11 +76,21 @@ impl Seat {
         ensures grant { self.new.grant ≡ self.old.grant }
     {
         match then {
-            Then::OnFromNext => self.go_on(me, code, in_use, line + 1),
+            Then::OnFromNext => self.go_on(me, code, in_use, line + 1, passed),
             Then::Stands(stand) => self.stand = stand,
             Then::Fails(cause) => self.stand = Stand::FailedAt(line, cause),
         }
     }
+}
+
+/// The lines without a step that the seat runs as it goes on from its first line. Nothing is promised of
+/// them.
+pub fn passed_first(seat: SeatId, code: &[CodeLine]) -> LineSet
+    requires { FitsCode code.now }
+{
+    let mut passed = LineSet::empty();
+    Seat::new().come_from(seat, code, 0, &mut passed);
+    passed
 }
 
 impl ProgramState {
@@ -84,7 +101,9 @@ impl ProgramState {
         requires table { IsTableOf code.now 8 in_use.now }
         ensures { HasStarted code.now seat self.old self.new }
     {
-        self.seats[seat.number() as usize].go_on(seat, code, in_use, 0);
+        self.passed = LineSet::empty();
+        let stored = &mut self.seats[seat.number() as usize];
+        stored.go_on(seat, code, in_use, 0, &mut self.passed);
     }
 
     /// What comes after the row of the seat at this line.
@@ -102,6 +121,8 @@ impl ProgramState {
         requires line { line < length code.now }
         ensures { HasSettled code.now seat line then self.old self.new }
     {
-        self.seats[seat.number() as usize].settle(seat, code, in_use, line, then);
+        self.passed = LineSet::empty();
+        let stored = &mut self.seats[seat.number() as usize];
+        stored.settle(seat, code, in_use, line, then, &mut self.passed);
     }
 }

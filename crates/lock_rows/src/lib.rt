@@ -2,9 +2,14 @@
 #![tactic(auto)]
 
 mod going;
+mod key;
+mod line_set;
+mod looking;
 mod rows;
 mod seat;
 mod state;
 
+pub use going::passed_first;
+pub use line_set::LineSet;
 pub use seat::{MAX_REGISTERS, MAX_SECTIONS};
 pub use state::ProgramState;

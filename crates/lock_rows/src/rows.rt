@@ -49,7 +49,7 @@ impl ProgramState {
     }
 
     /// The word of a place, where its index is within the array.
-    fn word(&self, seat: SeatId, place: &Place) -> Option<usize>
+    pub(crate) fn word(&self, seat: SeatId, place: &Place) -> Option<usize>
         requires seat { seat < length self.now.seats }
         requires place { FitsPlace (length self.now.words) place.now }
         ensures found { result ≡ place_of seat (seats_of self.now.seats seat).registers place.now }
@@ -158,7 +158,8 @@ impl ProgramState {
         requires seat { seat < length self.old.seats }
         requires place { FitsPlace (length self.old.words) place.now }
         requires register { IfSome register (λ r. r < 8) }
-        ensures { (n : ℕ) → Does (row_at seat n (Instruction.Exchange place.now first.now second.now register)) self.old self.new result }
+        ensures { (n : ℕ) →
+            Does (row_at seat n (Instruction.Exchange place.now first.now second.now register)) self.old self.new result }
     {
         let Some(word) = self.word(seat, place) else {
             return NO_MEMBER;

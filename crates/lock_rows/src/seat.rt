@@ -9,6 +9,7 @@ ghost use Rattle.lock_steps.specs.Going.{with_register, with_section, after_line
 ghost use Rattle.lock_rows.specs.Stored.{seat_of};
 ghost use Rattle.lock_rows.specs.Fitting.{HasNumbers, FitsFree, FitsCode};
 
+use crate::line_set::LineSet;
 use lock_code::{CodeLine, Instruction, Operand, Place};
 use lock_steps::{Cause, Stand, compute, is_so};
 use waiters::SeatId;
@@ -159,7 +160,7 @@ impl Seat {
     }
 
     /// From the line of this number the seat runs lines without a step until it comes to one with.
-    pub fn come_from(&mut self, me: SeatId, code: &[CodeLine], line: usize)
+    pub fn come_from(&mut self, me: SeatId, code: &[CodeLine], line: usize, passed: &mut LineSet)
         requires { FitsCode code.now }
         ensures seat { seat_of self.new ≡ come_from code.now me (seat_of self.old) line }
         ensures grant { self.new.grant ≡ self.old.grant }
@@ -175,7 +176,10 @@ impl Seat {
                     return;
                 }
                 Some(next) if makes_steps(&next.instruction) => return,
-                Some(next) => self.advance(me, at, &next.instruction),
+                Some(next) => {
+                    passed.add(at);
+                    self.advance(me, at, &next.instruction);
+                }
             }
         }
         self.end_there(code);

@@ -5,6 +5,7 @@ ghost use Rattle.lock_rows.specs.Starting.{IsFirst};
 ghost use Rattle.lock_rows.specs.Stored.{seats_of, grants_of};
 ghost use Rattle.step_rows.specs.Stored.{each};
 
+use crate::line_set::LineSet;
 use crate::seat::Seat;
 use lock_steps::{Sleeper, Stand};
 use std::alloc::Global;
@@ -18,6 +19,8 @@ pub struct ProgramState {
     pub(crate) words: Vec<i64>,
     pub(crate) sleepers: Vec<Sleeper>,
     pub(crate) seats: Vec<Seat>,
+    /// The lines without a step that a seat ran when it last went on.
+    pub(crate) passed: LineSet,
 }
 
 impl Model for ProgramState {
@@ -41,6 +44,7 @@ impl ProgramState {
             words: words.to_vec(alloc)?,
             sleepers: Vec::with_capacity(alloc, seats)?,
             seats: vec![in alloc; Seat::new(); seats]?,
+            passed: LineSet::empty(),
         })
     }
 
@@ -79,6 +83,18 @@ impl ProgramState {
         self.words[word]
     }
 
+    /// The lines without a step that a seat ran when it last went on. Nothing is promised of them.
+    pub fn passed(&self) -> &LineSet {
+        &self.passed
+    }
+
+    /// Who sleeps on words, and on which, in the order in which they went to sleep.
+    pub fn sleepers(&self) -> &[Sleeper]
+        ensures { result.now ≡ self.now.sleepers }
+    {
+        self.sleepers.as_slice()
+    }
+
     /// The same, with memory of its own.
     pub fn try_clone(&self, alloc: Global) -> Result<ProgramState, NoMemory>
         ensures { IfOk result (λ copy. copy ≡ self.now) }
@@ -87,6 +103,7 @@ impl ProgramState {
             words: self.words.as_slice().to_vec(alloc)?,
             sleepers: self.sleepers.as_slice().to_vec(alloc)?,
             seats: self.seats.as_slice().to_vec(alloc)?,
+            passed: self.passed,
         })
     }
 
@@ -97,6 +114,7 @@ impl ProgramState {
         copy_items(&mut self.words, &other.words)?;
         copy_items(&mut self.sleepers, &other.sleepers)?;
         copy_items(&mut self.seats, &other.seats)?;
+        self.passed = other.passed;
         Ok(())
     }
 }

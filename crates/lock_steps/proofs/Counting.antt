@@ -1,5 +1,5 @@
 -- A step adds at most one to the turns of its seat and to the tickets of a list, and takes no counter above 32 bits.
-use Rattle.std.proofs.Common.{◌≡◌, ◌≢◌, ℕ, ◌+◌, ◌<◌, ◌≤◌, IsTrue, List, [], ◌∷◌, length, refl, sym, ap, ◌∙◌, subst}
+use Rattle.std.proofs.Common.{◌≡◌, cond, Bool, true, false, ◌≢◌, ℕ, ◌+◌, ◌<◌, ◌≤◌, IsTrue, List, [], ◌∷◌, length, refl, sym, ap, ◌∙◌, subst}
 use Rattle.std.proofs.Common.{arith, length-append}
 use Rattle.std.specs.Prelude.{eqb, Option, Some, None, Result, Ok, Err, slice_get, slice_index_or}
 use Rattle.std.proofs.lemmas.Option.{none-some, cond_some}
@@ -13,7 +13,7 @@ use Rattle.lock_steps.specs.declared.stand.Stand.TheVariants.{Before, Within, As
 use Rattle.lock_steps.specs.World.{LockWorld, layer_of, code_of}
 use Rattle.lock_steps.specs.Calls.{call_of}
 use Rattle.lock_steps.specs.Counting.{CountsAtMost}
-use Rattle.lock_steps.specs.Steps.{Did, layer_row, first_row, row_before, row_at, StepsTo, Reaches, start, step}
+use Rattle.lock_steps.specs.Steps.{Did, given_up, is_first, layer_row, first_row, row_before, row_at, StepsTo, Reaches, start, step}
 use Rattle.lock_code.specs.WellFormed.{IsWellFormed, IsLine}
 use Rattle.lock_steps.proofs.Calling.{AllowedIf, may_begin}
 use Rattle.lock_steps.proofs.Fitting.{Fits, FitsIf, fits_line}
@@ -262,11 +262,28 @@ module _ (p : Program) (small : length p.seats ≤ 9223372036854775808) (formed 
     same : (did : Did) → did.world.layer ≡ s.layer → IsFew (n + 1) did.world.layer
     same did is = subst (IsFew (n + 1)) (sym is) later
 
+    -- who gives its call up changes no number
+    settled_few : (t : Core) → IsFew (n + 1) t → (b : Bool) → is_first (t.semaphores.seats i).place ≡ b → IsFew (n + 1) (cond b (given_up i t) t)
+    settled_few t so true first =
+        let seat : SeatState = record (t.semaphores.seats i) { place = Rest } in record {
+          semaphores = record {
+            turns = λ k. put_at (λ k (z : SeatState). z.turn ≤ n + 1) t.semaphores.seats i seat k (so.semaphores.turns i)
+                (λ ne. so.semaphores.turns k);
+            none = λ k. put_at (λ k (z : SeatState). to_add z.place ≡ 0) t.semaphores.seats i seat k refl
+                (λ ne. so.semaphores.none k);
+            numbers = so.semaphores.numbers;
+          };
+          handed = so.handed;
+        }
+    settled_few t so false first = so
+
     layer_few : (k : ℕ) (c : Core) → IsCoreInvariant (layer_of p) c → IsReady n i c
         → (did : Did) → layer_row (layer_of p) s i k c ≡ Some did → IsFew (n + 1) did.world.layer
     layer_few k c inv before did is =
         let so = cond_some (can_run (layer_of p) c i (c.standing i)) _ did is in
-        subst (λ (d : Did). IsFew (n + 1) d.world.layer) so.1 (turned_few (layer_of p) refl n i below c inv before so.0)
+        subst (λ (d : Did). IsFew (n + 1) d.world.layer) so.1
+        (settled_few (core_turned (layer_of p) c i) (turned_few (layer_of p) refl n i below c inv before so.0)
+        (is_first ((core_turned (layer_of p) c i).semaphores.seats i).place) refl)
 
     first_few : (k : ℕ) (l : Instruction) → s.layer.standing i ≡ doing.Rest
         → (call : Option (Result Call Cause)) → AllowedIf p s i call → FitsIf s.layer call

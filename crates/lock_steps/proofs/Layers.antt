@@ -16,6 +16,8 @@ use Rattle.lock_steps.specs.World.{LockWorld, LockSeat, layer_of, code_of}
 use Rattle.lock_steps.specs.Reading.{value, place_of}
 use Rattle.lock_steps.specs.Calls.{call_of}
 use Rattle.lock_steps.specs.Steps.{Then, OnFromNext, Stands, Fails, Did, on_word, row_of_line, after_call, layer_row, first_row}
+use Rattle.lock_steps.specs.Steps.{given_up, is_first}
+use Rattle.lock_steps.proofs.GivingUp.{given_up_kept, given_up_else, given_up_rests}
 use Rattle.lock_steps.specs.Steps.{row_before, row_at, IsSeatAfter, StepsTo, IsStart, Reaches, start, step, at}
 use Rattle.lock_code.specs.WellFormed.{IsWellFormed, IsLine}
 use Rattle.lock_steps.proofs.Standing.{turned_else, calls_else}
@@ -125,16 +127,28 @@ module _ (p : Program) where
     led n world (AtGroup g row) is = tt
     led n world (Failed misuse) is = tt
 
+    -- who is to begin anew has given its call up
+    settles : (n : ℕ) (t : Core) → IsCoreInvariant (layer_of p) t → ((k : ℕ) → k ≢ i → t.standing k ≡ s.layer.standing k)
+        → (b : Bool) → is_first (t.semaphores.seats i).place ≡ b
+        → Fine (record { world = record s { layer = cond b (given_up i t) t }; next = cond b (Stands (Before n)) (after_call n (t.standing i)) })
+    settles n t kept same true first = record {
+      layer = given_up_kept (layer_of p) t i below kept first;
+      others = λ k ne. given_up_else t i k ne ∙ same k ne;
+      after = given_up_rests t i;
+    }
+    settles n t kept same false first = record {
+      layer = kept;
+      others = same;
+      after = led n (record s { layer = t }) (t.standing i) refl;
+    }
+
     layer_fine : (n : ℕ) (c : Core) → IsCoreInvariant (layer_of p) c
         → ((k : ℕ) → k ≢ i → c.standing k ≡ s.layer.standing k)
         → (did : Did) → layer_row (layer_of p) s i n c ≡ Some did → Fine did
     layer_fine n c kept same did is =
         let so = cond_some (can_run (layer_of p) c i (c.standing i)) _ did is in
-        subst Fine so.1 (record {
-          layer = core_kept (layer_of p) c i below few kept so.0;
-          others = λ k ne. turned_else (layer_of p) i k ne c ∙ same k ne;
-          after = led n (record s { layer = core_turned (layer_of p) c i }) ((core_turned (layer_of p) c i).standing i) refl;
-        })
+        subst Fine so.1 (settles n (core_turned (layer_of p) c i) (core_kept (layer_of p) c i below few kept so.0)
+        (λ k ne. turned_else (layer_of p) i k ne c ∙ same k ne) (is_first ((core_turned (layer_of p) c i).semaphores.seats i).place) refl)
 
     first_fine : (n lines : ℕ) (l : Instruction) → IsLine p lines l → s.layer.standing i ≡ Rest
         → (call : Option (Result Call Cause)) → AllowedIf p s i call

@@ -1,5 +1,6 @@
 mod Standing
 pub mod Calling
+pub mod GivingUp
 pub mod Layers
 mod Fitting
 pub mod Counting

@@ -66,16 +66,14 @@ abbrev pub come_from : List CodeLine → ℕ → LockSeat → ℕ → LockSeat
 come_from code me s n =
     let last : LockSeat = advanced code me 256 (at_line s n) in endless_from code last last.stand
 
--- the line before which a seat stands, or at which it failed
-abbrev pub line_of : Stand → Option ℕ
-line_of (Before n) = Some n
-line_of (FailedAt n why) = Some n
-line_of _ = None
+-- the registers of a seat that has come to stand there: what isn't in use is 0, and who has failed keeps all
+abbrev pub AreLeft : List CodeLine → Stand → (ℕ → ℤ) → (ℕ → ℤ) → Type 0
+AreLeft code (Before n) come left = AreCleared code n come left
+AreLeft code (FailedAt n why) come left = (r : ℕ) → left r ≡ come r
+AreLeft code _ come left = (r : ℕ) → left r ≡ pos 0
 
 -- the seat goes on from line n, and then what isn't in use is 0
 pub record GoesOn (code : List CodeLine) (me : ℕ) (s : LockSeat) (n : ℕ) (t : LockSeat) : Type 0 where
   pub stand : t.stand ≡ (come_from code me s n).stand
   pub sections : (k : ℕ) → t.sections k ≡ (come_from code me s n).sections k
-  pub registers : (m : ℕ) → line_of t.stand ≡ Some m
-      → AreCleared code m (come_from code me s n).registers t.registers
-  pub nothing : line_of t.stand ≡ None → (r : ℕ) → t.registers r ≡ pos 0
+  pub registers : AreLeft code t.stand (come_from code me s n).registers t.registers

@@ -9,3 +9,4 @@ pub mod Bad
 pub mod LayerLaw
 pub mod Counting
 pub mod AlikeWorlds
+pub mod KindText

@@ -1,8 +1,8 @@
 -- What a seat does in one step: a line's row, or a row of the layer's call that its line has begun. Then it
 -- goes on, where its line is done.
-use Rattle.std.specs.Prelude.{◌≡◌, ◌≢◌, ℕ, zero, suc, ◌+◌, ℤ, pos, false, cond, eqb, int_le}
+use Rattle.std.specs.Prelude.{◌≡◌, ◌≢◌, ℕ, zero, suc, ◌+◌, ℤ, pos, Bool, true, false, cond, eqb, int_le}
 use Rattle.std.specs.Prelude.{unsigned_abs, List, [], ◌∷◌, ◌++◌, length, slice_get}
-use Rattle.std.specs.Prelude.{Option, Some, None, Result, Ok, Err, ◌<◌}
+use Rattle.std.specs.Prelude.{Option, Some, None, Result, Ok, Err, ◌<◌, ◌≤◌}
 use Rattle.std.specs.Int.{w64, int_wrapping_add}
 use Rattle.lock_code.specs.declared.instruction.Instruction.{Instruction}
 use Rattle.lock_code.specs.declared.instruction.Instruction.TheVariants as line
@@ -25,9 +25,14 @@ use Rattle.lock_steps.specs.Calls.{call_of}
 use Rattle.step_table.specs.declared.call.Call.{Call}
 use Rattle.step_table.specs.declared.standing.Standing.{Standing}
 use Rattle.step_table.specs.declared.standing.Standing.TheVariants.{Rest}
+use Rattle.step_table.specs.declared.place.AcquireRow.TheVariants.{A1}
+use Rattle.step_table.specs.declared.place.Place.{Place}
+use Rattle.step_table.specs.declared.place.Place.TheVariants.{Acquiring}
+use Rattle.step_table.specs.declared.place.Place.TheVariants as on_counter
+use Rattle.step_table.specs.Steps.{moved}
 use Rattle.step_table.specs.World.{put}
 use Rattle.step_table.specs.Core.{CoreLayout, Core}
-use Rattle.step_table.specs.CoreSteps.{calls, can_run, core_turned}
+use Rattle.step_table.specs.CoreSteps.{calls, can_run, core_turned, stands}
 
 -- a world whose seat has yet to go there
 pub record Did : Type 0 where
@@ -127,13 +132,31 @@ abbrev pub after_call : ℕ → Standing → Then
 after_call n Rest = OnFromNext
 after_call n standing = Stands (Within n)
 
+-- whether a seat stands at the first row of an acquire: its exchange was lost to somebody
+abbrev pub is_first : Place → Bool
+is_first (Acquiring a A1) = true
+is_first _ = false
+
+-- the layer where the seat is at rest again
+abbrev pub given_up : ℕ → Core → Core
+given_up i c = stands (record c { semaphores = moved c.semaphores i on_counter.Rest }) i Rest
+
+-- after a row of seat i the layer, and what comes then: who is to begin an acquire anew is before its line
+-- again, as who hasn't begun it
+abbrev pub settled : ℕ → Core → Core
+settled i c = cond (is_first (c.semaphores.seats i).place) (given_up i c) c
+
+abbrev pub after_row : ℕ → ℕ → Core → Then
+after_row n i c =
+    cond (is_first (c.semaphores.seats i).place) (Stands (Before n)) (after_call n (c.standing i))
+
 -- the layer's row of seat i, which stands there in the layer c
 abbrev pub layer_row : CoreLayout → LockWorld → ℕ → ℕ → Core → Option Did
 layer_row m s i n c =
     cond (can_run m c i (c.standing i))
     (Some (record {
-      world = record s { layer = core_turned m c i };
-      next = after_call n ((core_turned m c i).standing i);
+      world = record s { layer = settled i (core_turned m c i) };
+      next = after_row n i (core_turned m c i);
     }))
     None
 
@@ -188,9 +211,10 @@ pub record StepsTo (p : Program) (s : LockWorld) (i : ℕ) (t : LockWorld) : Typ
   pub sleepers : t.sleepers ≡ did.world.sleepers
   pub grants : t.grants ≡ did.world.grants
 
--- each seat has gone on from its first line, and nothing has happened
+-- each seat has gone on from its first line, and nothing has happened; behind the last one there is none
 pub record IsStart (p : Program) (s : LockWorld) : Type 0 where
   pub seats : (i : ℕ) → i < length p.seats → GoesOn (code_of p i) i new_seat 0 (s.seats i)
+  pub others : (i : ℕ) → length p.seats ≤ i → s.seats i ≡ new_seat
   pub words : s.words ≡ (first_world p).words
   pub layer : s.layer ≡ (first_world p).layer
   pub sleepers : s.sleepers ≡ []

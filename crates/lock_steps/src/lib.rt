@@ -3,11 +3,13 @@
 #![tactic(auto)]
 
 mod cause;
+mod kind;
 mod laws;
 mod numbers;
 mod stand;
 
 pub use cause::Cause;
+pub use kind::Kind;
 pub use laws::{law_of_the_alike_worlds, law_of_the_layers, law_of_the_numbers};
 pub use numbers::{compute, is_so};
 pub use stand::{Sleeper, Stand, Then};

@@ -1,8 +1,11 @@
 //! What a seat does between rows: it begins a call, or goes on with what comes after a row.
 
-ghost use Rattle.std.specs.Prelude.{◌≡◌, ◌<◌, ◌+◌, ◌^◌, length};
-ghost use Rattle.step_table.specs.CoreSteps.{calls, goes_on, after_counter, after_list, after_group};
-ghost use Rattle.step_core.specs.State.{Becomes, HasSeat, HasListSeat, MayBegin, MayGoOn};
+ghost use Rattle.std.specs.Prelude.{◌≡◌, ◌↔◌, ◌<◌, ◌+◌, ◌^◌, List, IsTrue, length};
+ghost use Rattle.step_table.specs.declared.entry.Entry.{Entry as Told};
+ghost use Rattle.step_table.specs.declared.place.Acquire.{Acquire as Begun};
+ghost use Rattle.step_table.specs.Steps.{moved};
+ghost use Rattle.step_table.specs.CoreSteps.{calls, goes_on, after_counter, after_list, after_group, stands};
+ghost use Rattle.step_core.specs.State.{Becomes, HasSeat, HasListSeat, MayBegin, MayGoOn, core_of};
 
 use crate::machine::Machine;
 use step_table::{
@@ -46,6 +49,28 @@ impl Machine {
                 self.stand(seat, Standing::AtGroup(group, GroupRow::V1));
             }
         }
+    }
+
+    /// Whether the seat is to run the first row of an acquire.
+    pub fn is_to_acquire(&self, seat: SeatId) -> bool
+        requires { HasSeat self.now seat }
+        ensures { (journal : List Told) → IsTrue result ↔ ((a : Begun)
+            × (((core_of self.now journal).semaphores.seats seat).place ≡ Place.Acquiring a AcquireRow.A1)) }
+    {
+        matches!(
+            self.semaphores.place(seat),
+            Place::Acquiring(_, AcquireRow::A1)
+        )
+    }
+
+    /// The seat gives up its call on a counter, of which it is to run the first row: that is no step.
+    pub fn give_up(&mut self, seat: SeatId)
+        requires { HasSeat self.old seat }
+        ensures { Becomes (λ m s. stands (record s { semaphores = moved s.semaphores seat Place.Rest })
+            seat Standing.Rest) self.old self.new }
+    {
+        self.move_on_counters(seat, Place::Rest);
+        self.stand(seat, Standing::Rest);
     }
 
     /// The seat's call on a counter has ended: what comes after it.

@@ -4,7 +4,7 @@ use super::Row;
 use crate::asked::{ALL_SOUND, Told, tells_over};
 
 /// Faulty texts, and what is told beside of each.
-const HELPED: [Row; 16] = [
+static HELPED: [Row; 16] = [
     (
         b"counter 0\nseat 0: aquire 0\nsettled\n",
         "line 2: no call is spelled \"aquire 0\": acquire C, acquire C lifo, release C, release C handoff, \

@@ -1,5 +1,6 @@
 //! Changed tables: by each a seat sleeps for good, which by the table itself doesn't.
 
+use crate::assertion::holds;
 use crate::machine::again::{changed_again, changed_key, changed_world_again};
 use crate::machine::given::{all_step, scenario, seat};
 use std::alloc::Global;
@@ -57,9 +58,9 @@ fn has_number(moment: &Moment<'_>, number: u64) -> bool {
 fn loses(rt: &impl Abort, alloc: Global, lost: &Lost) {
     let scenario = scenario(rt, alloc, lost.text);
     let mut moment = changed_again(rt, alloc, &scenario, lost.variant);
-    assert!(rt; moment.table() == Some(lost.variant));
-    assert!(rt; all_step(&mut moment, lost.schedule));
-    assert!(rt; has_number(&moment, lost.number) && sleeps(&mut moment));
+    holds(rt, moment.table() == Some(lost.variant));
+    holds(rt, all_step(&mut moment, lost.schedule));
+    holds(rt, has_number(&moment, lost.number) && sleeps(&mut moment));
 }
 
 #[test]
@@ -104,23 +105,39 @@ fn has_unit(world: &ChangedWorld<'_>) -> bool {
 /// the one at rest; that the one is on a counter and the other has ended; how many calls each has begun.
 static KEY: [u64; 13] = [1, 1, 0, 0, 1, 20, 0, 0, 0, 1, 0, 1, 1];
 
+fn has_key(rt: &impl Abort, alloc: Global, world: &ChangedWorld<'_>) {
+    let key = changed_key(rt, alloc, world);
+    holds(rt, key.as_slice() == KEY.as_slice());
+}
+
+/// From its start the world goes by those rows to where the wake-up is lost.
+fn comes_to_lose(rt: &impl Abort, alloc: Global, world: &mut ChangedWorld<'_>) {
+    for row in &ROWS {
+        holds(rt, runs(world, row.0, row.1));
+    }
+    holds(rt, has_lost(world) && has_unit(world));
+    has_key(rt, alloc, world);
+}
+
 #[test]
 fn a_world_of_a_changed_table_answers(rt: HostRuntime) {
     let scenario = scenario(&rt, rt.alloc(), LOST[0].text);
     let mut world = changed_world_again(&rt, rt.alloc(), &scenario, Variant::NoLook);
-    for row in &ROWS {
-        assert!(rt; runs(&mut world, row.0, row.1));
-    }
-    assert!(rt; has_lost(&mut world) && has_unit(&world));
-    let key = changed_key(&rt, rt.alloc(), &world);
-    assert!(rt; key.as_slice() == KEY.as_slice());
+    comes_to_lose(&rt, rt.alloc(), &mut world);
+}
+
+static OTHERS: [Variant; 2] = [Variant::LateCount, Variant::PlainLess];
+
+/// By this change of the table seat 1 takes a step.
+fn has_a_world(rt: &impl Abort, alloc: Global, variant: Variant) {
+    let scenario = scenario(rt, alloc, LOST[0].text);
+    let mut world = changed_world_again(rt, alloc, &scenario, variant);
+    holds(rt, world.step(seat(1)).is_ok());
 }
 
 #[test]
 fn each_changed_table_has_a_world(rt: HostRuntime) {
-    let scenario = scenario(&rt, rt.alloc(), LOST[0].text);
-    for variant in [Variant::LateCount, Variant::PlainLess] {
-        let mut world = changed_world_again(&rt, rt.alloc(), &scenario, variant);
-        assert!(rt; world.step(seat(1)).is_ok());
+    for variant in &OTHERS {
+        has_a_world(&rt, rt.alloc(), *variant);
     }
 }

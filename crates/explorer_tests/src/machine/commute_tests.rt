@@ -1,5 +1,6 @@
 //! Which seats' steps are known to commute.
 
+use crate::assertion::holds;
 use crate::machine::again::{copied_moment, moment_again, moments_key};
 use crate::machine::given::{all_step, scenario, seat};
 use std::alloc::Global;
@@ -136,9 +137,9 @@ fn is_answered(moment: &Moment<'_>, pair: &(u16, u16, bool)) -> bool {
 
 /// Each of the seats makes a step, and then the moment answers so of each pair.
 fn answers(rt: &impl Abort, moment: &mut Moment<'_>, asked: &Asked) {
-    assert!(rt; all_step(moment, asked.0));
+    holds(rt, all_step(moment, asked.0));
     for pair in asked.1 {
-        assert!(rt; is_answered(moment, pair));
+        holds(rt, is_answered(moment, pair));
     }
 }
 
@@ -184,7 +185,7 @@ fn meet(rt: &impl Abort, alloc: Global, moment: &Moment<'_>, early: SeatId, late
     if turned.is_none() {
         return false;
     }
-    assert!(rt; key_after(rt, alloc, moment, early, late) == turned);
+    holds(rt, key_after(rt, alloc, moment, early, late) == turned);
     true
 }
 
@@ -235,5 +236,5 @@ fn steps_that_commute_lead_to_one_key_in_both_orders(rt: HostRuntime) {
     for bits in 0..24 {
         met = met.wrapping_add(walk(&rt, rt.alloc(), &scenario, bits));
     }
-    assert!(rt; met > 1_000);
+    holds(&rt, met > 1_000);
 }

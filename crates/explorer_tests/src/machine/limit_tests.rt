@@ -1,5 +1,6 @@
 //! Parts at the limits of a scenario, and past them.
 
+use crate::assertion::holds;
 use std::alloc::{AllocError, Global};
 use std::process::Abort;
 use step_core::{Call, GroupId, Items, ListId, Parts, Scenario, ScenarioRefused};
@@ -103,7 +104,10 @@ fn call(asked: &Asked) -> Call {
 /// Puts the item so many times at the end. What is refused for want of memory is put once more.
 pub(crate) fn fill<T: Copy + Drop>(rt: &impl Abort, items: &mut Items<T>, item: T, times: usize) {
     for _ in 0..times {
-        assert!(rt; items.push_back(item).is_ok() || items.push_back(item).is_ok());
+        holds(
+            rt,
+            items.push_back(item).is_ok() || items.push_back(item).is_ok(),
+        );
     }
 }
 
@@ -145,7 +149,7 @@ fn sized(rt: &impl Abort, alloc: Global, row: &Row) -> Parts {
 
 fn are_judged(rt: &impl Abort, alloc: Global, rows: &[Row]) {
     for row in rows {
-        assert!(rt; Scenario::of(sized(rt, alloc, row)).err() == row.7);
+        holds(rt, Scenario::of(sized(rt, alloc, row)).err() == row.7);
     }
 }
 

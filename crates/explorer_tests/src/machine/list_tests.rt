@@ -1,5 +1,6 @@
 //! Notify lists: schedules that are known by hand, and how tickets are ordered.
 
+use crate::assertion::holds;
 use crate::machine::story::{Line, Story, plays};
 use step_core::{Phase, Row, less};
 
@@ -63,6 +64,6 @@ static ORDERED: [(u64, u64, bool); 5] = [
 #[test]
 fn tickets_are_ordered_by_their_difference(rt: HostRuntime) {
     for row in &ORDERED {
-        assert!(rt; less(row.0, row.1) == row.2);
+        holds(&rt, less(row.0, row.1) == row.2);
     }
 }

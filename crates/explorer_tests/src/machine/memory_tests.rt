@@ -1,5 +1,6 @@
 //! Where there is memory no call answers want of it, and what a world and its copies then show.
 
+use crate::assertion::holds;
 use crate::machine::again::{
     copied_moment, copy_again, key_again, moments_key, new_again, run_again, steps_again,
 };
@@ -8,7 +9,7 @@ use crate::machine::limit_tests::fill;
 use crate::machine::story::{Line, Story, shows};
 use std::alloc::Global;
 use std::process::Abort;
-use step_core::{Items, Phase, Row, StepRefused, World};
+use step_core::{Items, Phase, Row, Scenario, StepRefused, World};
 
 #[test]
 fn items_grow(rt: HostRuntime) {
@@ -17,7 +18,10 @@ fn items_grow(rt: HostRuntime) {
         fill(&rt, &mut items, item, 1);
     }
     let count = items.len();
-    assert!(rt; count == 3 && items.into_vec().as_slice() == [3, 1, 2].as_slice());
+    holds(
+        &rt,
+        count == 3 && items.into_vec().as_slice() == [3, 1, 2].as_slice(),
+    );
 }
 
 /// Seat 0 sleeps, and this is told of it.
@@ -53,7 +57,21 @@ static KEY: [u64; 15] = [0, 1, 0, 0, 1, 20, 0, 0, 26, 0, 0, 1, 1, 1, 1];
 fn have_key(rt: &impl Abort, alloc: Global, world: &World<'_>) {
     let moment = copied_moment(rt, alloc, world.moment());
     let (first, second) = (key_again(rt, alloc, world), moments_key(rt, alloc, &moment));
-    assert!(rt; first.as_slice() == KEY.as_slice() && second.as_slice() == KEY.as_slice());
+    holds(
+        rt,
+        first.as_slice() == KEY.as_slice() && second.as_slice() == KEY.as_slice(),
+    );
+}
+
+/// From its start the world comes to the sleeper: it and a copy show it.
+fn comes_to_sleep(rt: &impl Abort, alloc: Global, world: &mut World<'_>) {
+    holds(
+        rt,
+        all_step(world, SLEEPER.schedule) && !world.enabled(seat(0)),
+    );
+    shows(rt, alloc, world, &SLEEPER);
+    copy_shows(rt, alloc, world);
+    have_key(rt, alloc, world);
 }
 
 /// Each call of a world that takes memory.
@@ -61,21 +79,25 @@ fn have_key(rt: &impl Abort, alloc: Global, world: &World<'_>) {
 fn a_world_has_its_memory(rt: HostRuntime) {
     let scenario = scenario(&rt, rt.alloc(), SLEEPER.text);
     let mut world = new_again(&rt, rt.alloc(), &scenario);
-    assert!(rt; all_step(&mut world, SLEEPER.schedule) && !world.enabled(seat(0)));
-    shows(&rt, rt.alloc(), &world, &SLEEPER);
-    copy_shows(&rt, rt.alloc(), &world);
-    have_key(&rt, rt.alloc(), &world);
+    comes_to_sleep(&rt, rt.alloc(), &mut world);
+}
+
+fn have_one_key(rt: &impl Abort, alloc: Global, one: &World<'_>, other: &World<'_>) {
+    let (one, other) = (key_again(rt, alloc, one), key_again(rt, alloc, other));
+    holds(rt, one.as_slice() == other.as_slice());
+}
+
+/// The world, which is at its start, refuses a seat that isn't there, and has then the key of a run of no
+/// step.
+fn is_at_its_start(rt: &impl Abort, alloc: Global, scenario: &Scenario, world: &mut World<'_>) {
+    holds(rt, world.step(seat(2)) == Err(StepRefused::NoSuchSeat));
+    let start = run_again(alloc, scenario, &[]).expect(rt, "a run");
+    have_one_key(rt, alloc, world, &start);
 }
 
 #[test]
 fn a_run_of_no_step_is_the_start(rt: HostRuntime) {
     let scenario = scenario(&rt, rt.alloc(), SLEEPER.text);
     let mut world = new_again(&rt, rt.alloc(), &scenario);
-    assert!(rt; world.step(seat(2)) == Err(StepRefused::NoSuchSeat));
-    let start = run_again(rt.alloc(), &scenario, &[]).expect(&rt, "a run");
-    let (one, other) = (
-        key_again(&rt, rt.alloc(), &world),
-        key_again(&rt, rt.alloc(), &start),
-    );
-    assert!(rt; one.as_slice() == other.as_slice());
+    is_at_its_start(&rt, rt.alloc(), &scenario, &mut world);
 }

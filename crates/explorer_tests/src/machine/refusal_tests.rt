@@ -1,5 +1,6 @@
 //! Schedules that are refused, and the numbers of the refusals.
 
+use crate::assertion::holds;
 use crate::machine::again::run_again;
 use crate::machine::given::{scenario, seats_again};
 use std::alloc::Global;
@@ -72,7 +73,10 @@ fn is_refused(rt: &impl Abort, alloc: Global, row: &Row) {
         at: row.2,
         cause: row.3,
     };
-    assert!(rt; run_again(alloc, &scenario, &schedule).err() == Some(refused));
+    holds(
+        rt,
+        run_again(alloc, &scenario, &schedule).err() == Some(refused),
+    );
 }
 
 #[test]
@@ -102,5 +106,8 @@ fn refusals_and_misuses_have_their_numbers(rt: HostRuntime) {
         ScenarioRefused::Undeclared as u8,
         ScenarioRefused::Ticket as u8,
     ];
-    assert!(rt; steps == [1, 2, 3, 4, 5, 6] && misuses == [1, 2, 3] && scenarios == [1, 2, 3]);
+    holds(
+        &rt,
+        steps == [1, 2, 3, 4, 5, 6] && misuses == [1, 2, 3] && scenarios == [1, 2, 3],
+    );
 }

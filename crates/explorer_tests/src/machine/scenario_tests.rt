@@ -1,5 +1,6 @@
 //! What a scenario shows of its parts.
 
+use crate::assertion::holds;
 use crate::machine::given::scenario;
 use step_core::Scenario;
 
@@ -28,7 +29,7 @@ fn shows_parts(scenario: &Scenario) -> bool {
 #[test]
 fn a_scenario_shows_its_parts(rt: HostRuntime) {
     let scenario = scenario(&rt, rt.alloc(), TEXT);
-    assert!(rt; shows_parts(&scenario));
+    holds(&rt, shows_parts(&scenario));
 }
 
 /// Each kind of call, in a turn that keeps its tickets.
@@ -43,5 +44,5 @@ settled
 #[test]
 fn a_seat_may_make_each_call(rt: HostRuntime) {
     let scenario = scenario(&rt, rt.alloc(), EVERY_CALL);
-    assert!(rt; scenario.seats() == 1 && scenario.semaphores() == 2);
+    holds(&rt, scenario.seats() == 1 && scenario.semaphores() == 2);
 }

@@ -1,6 +1,7 @@
 //! A schedule, and what is seen at its end. Which row each step runs is told by replays, and tested with
 //! them.
 
+use crate::assertion::holds;
 use crate::machine::again::{run_again, waiting_again};
 use crate::machine::given::{scenario, seat, seats_again};
 use std::alloc::Global;
@@ -93,18 +94,21 @@ fn has_number(world: &World<'_>, counter: u32, number: u64) -> bool {
 /// The counter has this number, and its list these waits.
 fn counts(rt: &impl Abort, alloc: Global, world: &World<'_>, counter: &(u32, u64, &[(u16, u64)])) {
     let waits = waiting_again(rt, alloc, world, counter.0);
-    assert!(rt; has_number(world, counter.0, counter.1) && are_waits(&waits, counter.2));
+    holds(
+        rt,
+        has_number(world, counter.0, counter.1) && are_waits(&waits, counter.2),
+    );
 }
 
 /// The world shows what is seen at the end of the story.
 pub(crate) fn shows(rt: &impl Abort, alloc: Global, world: &World<'_>, story: &Story) {
     for row in story.seats {
-        assert!(rt; has_come(world, row.0, row.1));
+        holds(rt, has_come(world, row.0, row.1));
     }
     for counter in story.counters {
         counts(rt, alloc, world, counter);
     }
-    assert!(rt; are_told(world.journal(), story.told));
+    holds(rt, are_told(world.journal(), story.told));
 }
 
 /// The schedule runs, and its end is seen.

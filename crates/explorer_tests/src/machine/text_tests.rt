@@ -1,5 +1,6 @@
 //! What is printed. A call that answers want of memory is made once more.
 
+use crate::assertion::holds;
 use std::alloc::Global;
 use std::fmt::Display;
 use std::process::Abort;
@@ -15,7 +16,7 @@ pub(crate) fn is_printed(rt: &impl Abort, alloc: Global, told: &impl Display, te
         Some(printed) => printed,
         None => text_of(alloc, told).expect(rt, "memory"),
     };
-    assert!(rt; printed.as_str() == text);
+    holds(rt, printed.as_str() == text);
 }
 
 static OF_PARTS: [(ScenarioRefused, &str); 3] = [
@@ -57,5 +58,8 @@ fn names_are_printed(rt: HostRuntime) {
 fn numbers_are_tuples(rt: HostRuntime) {
     let (counter, seat) = (CounterId(4_294_967_295), SeatId(65_535));
     let (list, group) = (ListId(1), GroupId(2));
-    assert!(rt; (counter.0, seat.0, list.0, group.0) == (4_294_967_295, 65_535, 1, 2));
+    holds(
+        &rt,
+        (counter.0, seat.0, list.0, group.0) == (4_294_967_295, 65_535, 1, 2),
+    );
 }

@@ -3,13 +3,7 @@
 ghost use Rattle.std.specs.Prelude.{◌≡◌, OnOk};
 
 use explorer_search::Found;
-use std::process::Abort;
 use waiters::{NoMemory, SeatId};
-
-/// An assertion. One that stands in a function of its own is proved once: `assert!` makes each body larger.
-pub(crate) fn holds(rt: &impl Abort, told: bool) {
-    assert!(rt; told);
-}
 
 /// Whether a schedule is of the seats of these numbers, in this order.
 pub(crate) fn goes_by(schedule: &[SeatId], seats: &[u16]) -> bool {

@@ -8,7 +8,8 @@ ghost use Rattle.explorer_search.specs.FoundInAll.{IsRightInAll};
 ghost use Rattle.explorer_tests.specs.Twins.{Pair, rules_of, bounded};
 ghost use Rattle.explorer_tests.specs.declared.search.twin_tests.Twins.{Twins as Both};
 
-use crate::search::given::{holds, write_over};
+use crate::assertion::holds;
+use crate::search::given::write_over;
 use explorer_search::{Extent, FoundInAll, Machine, Searched, search_all};
 use std::alloc::Global;
 use waiters::{NoMemory, SeatId};
@@ -68,12 +69,13 @@ impl Machine for Twins {
         self.first == self.second
     }
 
-    fn step(&mut self, seat: SeatId) {
+    fn step(&mut self, seat: SeatId) -> Result<(), NoMemory> {
         if seat.number() == 0 {
             self.first += 1;
         } else {
             self.second += 1;
         }
+        Ok(())
     }
 
     fn key_into(&mut self, key: &mut Vec<u64>) -> Result<(), NoMemory> {

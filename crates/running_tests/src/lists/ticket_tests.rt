@@ -38,13 +38,13 @@ fn two_tickets<R: Abort + Wait>(
 }
 
 /// A ticket that wraps, and one that goes past 32 bits: the first, the second, and the next after both.
-const TICKETS: [(u64, u64, u64); 2] = [
+static TICKETS: [(u64, u64, u64); 2] = [
     (18_446_744_073_709_551_615, 0, 1),
     (4_294_967_295, 4_294_967_296, 4_294_967_297),
 ];
 
-fn goes_past_an_end<R: Abort + Wait>(rt: &R, alloc: Global, row: (u64, u64, u64)) {
-    let (first, second, next) = row;
+fn goes_past_an_end<R: Abort + Wait>(rt: &R, alloc: Global, row: &(u64, u64, u64)) {
+    let (first, second, next) = *row;
     let (list, mut seats) = made(rt, alloc, first, 3);
     two_tickets(rt, &list, &mut seats, first, second);
     ends_at(rt, list, seats, next);
@@ -52,7 +52,7 @@ fn goes_past_an_end<R: Abort + Wait>(rt: &R, alloc: Global, row: (u64, u64, u64)
 
 #[test]
 fn tickets_go_past_their_ends(rt: HostRuntime) {
-    for row in TICKETS {
+    for row in &TICKETS {
         goes_past_an_end(&rt, rt.alloc(), row);
     }
 }

@@ -13,16 +13,18 @@ fn made(alloc: Global, seats: u32) -> Result<usize, u8> {
     }
 }
 
+/// A number of seats, and how many are made, or the refusal by its number.
+static SEATS: [(u32, Result<usize, u8>); 5] = [
+    (0, Err(2)),
+    (257, Err(ListSetupError::Seats as u8)),
+    (u32::MAX, Err(2)),
+    (1, Ok(1)),
+    (256, Ok(256)),
+];
+
 #[test]
 fn a_condition_variable_has_1_to_256_seats(rt: HostRuntime) {
-    let rows = [
-        (0, Err(2)),
-        (257, Err(ListSetupError::Seats as u8)),
-        (u32::MAX, Err(2)),
-        (1, Ok(1)),
-        (256, Ok(256)),
-    ];
-    for (seats, expected) in rows {
-        holds(&rt, made(rt.alloc(), seats) == expected);
+    for (seats, expected) in &SEATS {
+        holds(&rt, made(rt.alloc(), *seats) == *expected);
     }
 }

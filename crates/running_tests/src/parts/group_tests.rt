@@ -76,11 +76,11 @@ const ADDS_NOTHING: [Row; 6] = [
     (Who::First, Call::Done, Ok(0)),
 ];
 
-const TABLES: [&[Row]; 4] = [&COUNTS_DOWN, &GOES_BELOW_ZERO, &WRAPS, &ADDS_NOTHING];
+static TABLES: [&[Row]; 4] = [&COUNTS_DOWN, &GOES_BELOW_ZERO, &WRAPS, &ADDS_NOTHING];
 
 #[test]
 fn calls_are_answered(rt: HostRuntime) {
-    for rows in TABLES {
+    for rows in &TABLES {
         answers(&rt, rt.alloc(), rows);
     }
 }

@@ -10,7 +10,7 @@ use std::sync::atomic::{AtomicU64, Ordering};
 use std::thread::{Scope, Threads};
 
 /// What each of the workers adds.
-const SHARES: [u64; 3] = [1, 20, 300];
+static SHARES: [u64; 3] = [1, 20, 300];
 
 /// Forks three workers and waits for them: each has added its share then.
 pub(crate) fn forks_and_joins<'s, E, R: Abort + Threads + Wait + Sync>(
@@ -21,8 +21,8 @@ pub(crate) fn forks_and_joins<'s, E, R: Abort + Threads + Wait + Sync>(
     sum: &'s AtomicU64,
 ) {
     first.answers(rt, Call::Add(3), Ok(0));
-    for share in SHARES {
-        begin(rt, scope, team.member(rt), Part::Works(share, sum));
+    for share in &SHARES {
+        begin(rt, scope, team.member(rt), Part::Works(*share, sum));
     }
     first.answers(rt, Call::Wait, Ok(0));
     holds(rt, sum.load(Ordering::SeqCst) == 321);

@@ -158,20 +158,20 @@ fn has_room(rt: &impl Abort, lists: &Lists, waits: usize, more: usize) {
 }
 
 /// Waits come in at both ends.
-const COMES_IN: [Row; 3] = [
+static COMES_IN: [Row; 3] = [
     Row(Call::PushBack(0, 5), None, 1, 2),
     Row(Call::PushBack(1, 7), None, 2, 1),
     Row(Call::PushFront(2, 5), None, 3, 0),
 ];
 
 /// One is taken out by its ticket.
-const TAKES: [Row; 3] = [
+static TAKES: [Row; 3] = [
     Row(Call::TakeTicket(5), Some((2, 5)), 2, 1),
     Row(Call::TakeTicket(9), None, 2, 1),
     Row(Call::First, Some((0, 5)), 2, 1),
 ];
 
-const GIVES: [Row; 4] = [
+static GIVES: [Row; 4] = [
     Row(Call::PopFront, Some((0, 5)), 1, 2),
     Row(Call::PopFront, Some((1, 7)), 0, 3),
     Row(Call::PopFront, None, 0, 3),
@@ -197,7 +197,7 @@ fn answers(rt: &impl Abort, alloc: Global, lists: &mut Lists) {
     has_room(rt, lists, 3, 2);
 }
 
-const OF_A_COPY: [Row; 5] = [
+static OF_A_COPY: [Row; 5] = [
     Row(Call::PushBack(1, 7), None, 2, 1),
     Row(Call::PushBack(2, 7), None, 3, 0),
     Row(Call::PopFront, Some((0, 5)), 2, 1),
@@ -221,7 +221,7 @@ fn is_copied(rt: &impl Abort, lists: &mut Lists) {
     answers_row(rt, lists, key, &Row(Call::First, Some((0, 5)), 1, 2));
 }
 
-const ONE_LEFT: [Row; 3] = [
+static ONE_LEFT: [Row; 3] = [
     Row(Call::PushBack(0, 5), None, 1, 2),
     Row(Call::PushBack(1, 7), None, 2, 1),
     Row(Call::PopFront, Some((0, 5)), 1, 2),
@@ -235,7 +235,7 @@ fn one_list(rt: &impl Abort, lists: &mut Lists) -> ListKey {
 }
 
 /// Empties the list of `one_list` by calls that see each of its waits.
-const EMPTIES: [Row; 3] = [
+static EMPTIES: [Row; 3] = [
     Row(Call::PushFront(2, 5), None, 2, 1),
     Row(Call::TakeTicket(7), Some((1, 7)), 1, 2),
     Row(Call::PopFront, Some((2, 5)), 0, 3),
@@ -298,15 +298,16 @@ fn plays(rt: &impl Abort, alloc: Global, scene: Scene) {
     }
 }
 
+static SCENES: [Scene; 4] = [
+    Scene::Answer,
+    Scene::Copied,
+    Scene::CopiedOverOthers,
+    Scene::CopiedOverSmaller,
+];
+
 #[test]
 fn lists_and_their_copies_answer_as_written(rt: HostRuntime) {
-    let scenes = [
-        Scene::Answer,
-        Scene::Copied,
-        Scene::CopiedOverOthers,
-        Scene::CopiedOverSmaller,
-    ];
-    for scene in scenes {
-        plays(&rt, rt.alloc(), scene);
+    for scene in &SCENES {
+        plays(&rt, rt.alloc(), *scene);
     }
 }

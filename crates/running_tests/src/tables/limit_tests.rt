@@ -31,7 +31,7 @@ fn is_refused(rt: &impl Abort, alloc: Global, row: &Judged) {
     }
 }
 
-const PAST_ONE_LIMIT: [Judged; 8] = [
+static PAST_ONE_LIMIT: [Judged; 8] = [
     Judged(Sized(0, 2, 251, 10), 1),
     Judged(Sized(65_537, 2, 251, 10), 1),
     Judged(Sized(1, 0, 251, 10), 2),
@@ -42,7 +42,7 @@ const PAST_ONE_LIMIT: [Judged; 8] = [
     Judged(Sized(1, 2, 251, MOST_RELEASES + 1), 4),
 ];
 
-const PAST_TWO_LIMITS: [Judged; 12] = [
+static PAST_TWO_LIMITS: [Judged; 12] = [
     Judged(Sized(0, 0, 251, 10), 1),
     Judged(Sized(65_537, 257, 251, 10), 1),
     Judged(Sized(0, 2, 0, 10), 1),

@@ -22,7 +22,7 @@ pub(crate) fn has_text(rt: &impl Abort, alloc: Global, refused: &impl Display, t
     holds(rt, told);
 }
 
-const REFUSALS: [(SetupError, u8, &str); 5] = [
+static REFUSALS: [(SetupError, u8, &str); 5] = [
     (SetupError::Counters, 1, "counters"),
     (SetupError::Seats, 2, "seats"),
     (SetupError::Roots, 3, "roots"),
@@ -32,9 +32,9 @@ const REFUSALS: [(SetupError, u8, &str); 5] = [
 
 #[test]
 fn refusals_have_their_numbers_and_texts(rt: HostRuntime) {
-    for (refused, number, text) in REFUSALS {
-        holds(&rt, (refused as u8) == number);
-        has_text(&rt, rt.alloc(), &refused, text);
+    for (refused, number, text) in &REFUSALS {
+        holds(&rt, (*refused as u8) == *number);
+        has_text(&rt, rt.alloc(), refused, text);
     }
     holds(&rt, (PostRefused::LimitReached as u8) == 1);
 }

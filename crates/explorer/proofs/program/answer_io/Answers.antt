@@ -17,6 +17,12 @@ returns-in-OfScenario-clause-whole g c = rw c.in-OfScenario.is c.command_io.ensu
 pub returns-in-OfScenario-clause-begun : goal.returns-in-OfScenario-clause-begun
 returns-in-OfScenario-clause-begun g c = λ e. rw c.in-OfScenario.is (c.command_io.ensures.begun e)
 
+pub returns-in-OfLockProgram-clause-whole : goal.returns-in-OfLockProgram-clause-whole
+returns-in-OfLockProgram-clause-whole g c = rw c.in-OfLockProgram.is c.lock_command_io.ensures.whole
+
+pub returns-in-OfLockProgram-clause-begun : goal.returns-in-OfLockProgram-clause-begun
+returns-in-OfLockProgram-clause-begun g c = λ e. rw c.in-OfLockProgram.is (c.lock_command_io.ensures.begun e)
+
 pub returns-in-Judge-clause-whole : goal.returns-in-Judge-clause-whole
 returns-in-Judge-clause-whole g c = rw c.in-Judge.is c.judge_io.ensures.whole
 

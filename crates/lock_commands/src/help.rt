@@ -1,0 +1,150 @@
+//! What is said to a person whose lock program is refused: which line is at fault, what stands there, and
+//! what was expected.
+
+use crate::expected::expected;
+use explorer_help::{ends_in_return, shown};
+use explorer_text::line_at;
+use lock_program::{Cause, ReadFault};
+use std::alloc::{AllocError, Global};
+use std::fmt;
+
+/// What is wrong with a line, of which this much is shown.
+#[derive(Clone, Copy)]
+enum Problem<'t> {
+    /// No line feed ends it.
+    NoLineFeed(&'t str),
+    /// A byte behind this can't be printed.
+    Unprintable(&'t str),
+    /// It ends with a carriage return before its line feed.
+    Return(&'t str),
+    /// It begins as these lines and isn't spelled as one of them.
+    Misspelled {
+        line: &'t str,
+        spelled: &'static str,
+    },
+    /// It begins as no line.
+    NoForm(&'t str),
+    /// It may not come here.
+    Misplaced(&'t str),
+    /// A number is outside its range.
+    OutOfRange(&'t str),
+    /// It is one too many, or makes too many.
+    TooMany(&'t str),
+    /// It has a name that isn't declared further up as what it must be.
+    Undeclared(&'t str),
+    /// It declares a name again.
+    Twice(&'t str),
+    /// It indexes what is no array, or an array without an index.
+    Array(&'t str),
+    /// It jumps to no label of its program.
+    Label(&'t str),
+    /// There is no line: no seats stand in the text.
+    NoSeats,
+}
+
+impl fmt::Display for Problem<'_> {
+    fn fmt<W: fmt::Write>(&self, f: &mut fmt::Formatter<W>) -> fmt::Result {
+        match self {
+            Problem::NoLineFeed(line) => {
+                write!(f, "no line feed ends \"{line}\": each line is ended by one")
+            }
+            Problem::Unprintable(line) => write!(
+                f,
+                "a byte behind \"{line}\" can't be printed: lines are of printed ASCII, and no tab stands in them"
+            ),
+            Problem::Return(line) => {
+                write!(f, "\"{line}\" ends in CRLF: a line feed alone ends a line")
+            }
+            Problem::Misspelled { line, spelled } => {
+                write!(f, "no line is spelled \"{line}\": {spelled}")
+            }
+            Problem::NoForm(line) => write!(
+                f,
+                "no line begins as \"{line}\": const, word, counter, list, register, section, program, seats, most, apart, \
+                 finally, a label with a colon, or in a program load, store, swap, add, exchange, await, acquire, release, ticket, \
+                 wait, one, all, park, unpark, in, out, let, if, goto, assert, fail, do, return"
+            ),
+            Problem::Misplaced(line) => write!(
+                f,
+                "\"{line}\" can't stand here: const, word, counter, list, register and section lines come first, then programs \
+                 with their lines, then seats, and most, apart and finally last"
+            ),
+            Problem::OutOfRange(line) => write!(
+                f,
+                "a number is out of range in \"{line}\": words hold -2^63 to 2^63 - 1, a counter starts at 0 to 4294967295, an \
+                 array has 1 to 16 members, seats are 1 or more, most is 0 or more, and finally indexes within its array"
+            ),
+            Problem::TooMany(line) => write!(
+                f,
+                "\"{line}\" is too many, or makes too many: at most 32 constants, 32 words and 16 counters with the members of \
+                 arrays, 4 lists, 8 registers, 8 sections, 16 programs of 128 lines, 255 with those of do, 16 seats and 16 properties"
+            ),
+            Problem::Undeclared(line) => write!(
+                f,
+                "\"{line}\" has a name that isn't declared further up as what it must be here: a word, a counter, a list, a \
+                 register, a section, a program whose lines have ended, or a number's constant"
+            ),
+            Problem::Twice(line) => write!(
+                f,
+                "\"{line}\" declares a name again: a name stands for one thing, whatever its kind, and a label once in its program"
+            ),
+            Problem::Array(line) => write!(
+                f,
+                "\"{line}\" indexes what is no array, or names an array without an index: W[e] with no space"
+            ),
+            Problem::Label(line) => write!(
+                f,
+                "\"{line}\" jumps to no label of its program: labels are a program's own, also where do puts it into another"
+            ),
+            Problem::NoSeats => f.write_str("the text ends: seats K N was expected"),
+        }
+    }
+}
+
+/// What is wrong with a line that has a byte which can't be printed.
+fn unprintable(line: &[u8]) -> Problem<'_> {
+    if ends_in_return(line) {
+        Problem::Return(shown(line))
+    } else {
+        Problem::Unprintable(shown(line))
+    }
+}
+
+/// What is wrong with a line that has no form.
+fn formless(line: &str) -> Problem<'_> {
+    match expected(line) {
+        Some(spelled) => Problem::Misspelled { line, spelled },
+        None => Problem::NoForm(line),
+    }
+}
+
+/// What is wrong with the line for this cause. Want of memory is no fault of a line.
+fn problem_of(line: &[u8], cause: Cause) -> Option<Problem<'_>> {
+    let told = shown(line);
+    Some(match cause {
+        Cause::Cut => Problem::NoLineFeed(told),
+        Cause::Byte => unprintable(line),
+        Cause::Form => formless(told),
+        Cause::Place => Problem::Misplaced(told),
+        Cause::Range => Problem::OutOfRange(told),
+        Cause::TooMany => Problem::TooMany(told),
+        Cause::Undeclared => Problem::Undeclared(told),
+        Cause::Twice => Problem::Twice(told),
+        Cause::Array => Problem::Array(told),
+        Cause::Label => Problem::Label(told),
+        Cause::End => Problem::NoSeats,
+        Cause::NoMemory => return None,
+    })
+}
+
+/// One line that says which line of the text is at fault, shows it, and says what was expected there.
+///
+/// It is an `Err` where memory is short, and for the fault that says so.
+pub(crate) fn explain(alloc: Global, text: &[u8], fault: ReadFault) -> Result<String, AllocError> {
+    let ReadFault { line, cause } = fault;
+    let Some(problem) = problem_of(line_at(text, line), cause) else {
+        return Err(AllocError);
+    };
+    let told = format!(in alloc; "line {line}: {problem}\n")?;
+    Ok(told)
+}

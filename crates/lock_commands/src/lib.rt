@@ -1,0 +1,16 @@
+//! The commands that read the text of a lock program: what each answers to an input, and what it tells
+//! beside.
+//!
+//! An answer is whole before its first byte goes out. Where memory is short, that alone is told.
+#![tactic(auto)]
+
+mod beside;
+mod command;
+mod expected;
+mod help;
+mod reading;
+mod refusal;
+mod retracing;
+mod trying;
+
+pub use command::{LockCommand, lock_command_io};

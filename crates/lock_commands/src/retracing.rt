@@ -1,0 +1,48 @@
+//! The command `retrace`: what a schedule does.
+
+ghost use Rattle.std.specs.Prelude.{◌≡◌, IfOk, string_bytes};
+ghost use Rattle.lock_commands.specs.Commands.{RepliesRetraced, exit_of};
+
+use crate::reading::ReadText;
+use crate::refusal::{Refusal, refused};
+use explorer_scenarios::{Answer, Exit, Reply};
+use explorer_text::read_schedule;
+use lock_retrace::{Ending, retrace};
+use std::alloc::Global;
+use waiters::NoMemory;
+
+/// How the command ends.
+fn exit_of(ending: Ending) -> Exit
+    ensures { result ≡ exit_of ending }
+{
+    match ending {
+        Ending::World(None) => Exit::NothingBad,
+        Ending::World(Some(_)) => Exit::BadFound,
+        Ending::Refused(_) => Exit::Refused,
+    }
+}
+
+/// What `retrace` replies to a lock program, with the text of a schedule.
+///
+/// It is an `Err` where memory is short.
+pub(crate) fn retraced(
+    alloc: Global,
+    read: &ReadText<'_>,
+    schedule: &str,
+    drawn: bool,
+) -> Result<Reply, NoMemory>
+    ensures { IfOk result (λ reply.
+        RepliesRetraced schedule.now read.now.program (string_bytes reply.answer.text) reply.answer.exit) }
+{
+    let Some(seats) = read_schedule(alloc, schedule)? else {
+        return refused(alloc, &[], Refusal::Schedule);
+    };
+    let told = retrace(alloc, read.text, &read.names, &read.program, &seats, drawn)?;
+    Ok(Reply {
+        answer: Answer {
+            text: told.text,
+            exit: exit_of(told.ending),
+        },
+        aside: None,
+    })
+}

@@ -1,0 +1,143 @@
+//! The command `try`: what a search of all schedules found, and what the schedule that it found does.
+
+ghost use Rattle.std.specs.Prelude.{◌≡◌, ◌++◌, [], IfOk, None, string_bytes, option_map};
+ghost use Rattle.explorer_scenarios.specs.CheckText.{found_in_all_schedule};
+ghost use Rattle.lock_commands.specs.Commands.{RepliesTried, tried_text, worlds_of};
+ghost use Rattle.lock_search.specs.Tried.{IsTried};
+
+use crate::beside::beside;
+use crate::reading::ReadText;
+use explorer_scenarios::{Answer, FoundAmong, FoundInAll, Reply, Searched, Stats, StopWatch, Team};
+use lock_retrace::retrace;
+use lock_search::{Ran, try_program};
+use lock_steps::Kind;
+use std::alloc::Global;
+use std::thread::Threads;
+use waiters::{NoMemory, SeatId};
+
+/// What is asked of a search.
+#[derive(Clone, Copy)]
+pub(crate) struct Search {
+    /// How many worlds may be kept at most.
+    pub(crate) worlds: u32,
+    /// The schedule that is found is drawn as a table.
+    pub(crate) drawn: bool,
+    /// It is told how far the search came.
+    pub(crate) counted: bool,
+}
+
+/// What is told behind the answer of a search: what the schedule that it found does, if it found one.
+///
+/// It is an `Err` where memory is short.
+fn behind(
+    alloc: Global,
+    read: &ReadText<'_>,
+    schedule: Option<&[SeatId]>,
+    drawn: bool,
+) -> Result<String, NoMemory>
+    ensures { IfOk result (λ told.
+        option_map (λ seats. seats.now) schedule.entry ≡ None → string_bytes told ≡ []) }
+{
+    match schedule {
+        Some(schedule) => {
+            let told = retrace(
+                alloc,
+                read.text,
+                &read.names,
+                &read.program,
+                schedule,
+                drawn,
+            )?;
+            Ok(told.text)
+        }
+        None => Ok(String::new(alloc)),
+    }
+}
+
+/// How many worlds were reached, where all were.
+fn worlds_of(found: &FoundInAll<Kind>) -> Option<u128>
+    ensures { result ≡ worlds_of found.now }
+{
+    match found {
+        FoundInAll::None { worlds, .. } => Some(*worlds as u128),
+        FoundInAll::Bad { .. } | FoundInAll::GaveUp { .. } => None,
+    }
+}
+
+/// Of lines that never ran those that are told: where nothing bad was found.
+fn told_of<'a>(found: &FoundInAll<Kind>, never_run: &'a [usize]) -> &'a [usize] {
+    match found {
+        FoundInAll::None { .. } => never_run,
+        FoundInAll::Bad { .. } | FoundInAll::GaveUp { .. } => &[],
+    }
+}
+
+/// What was found, and what is told behind it.
+///
+/// It is an `Err` where memory is short.
+#[tactic(auto, using(crate::proofs::FoundTexts::found_texts))]
+fn found_text(alloc: Global, told: FoundAmong<'_, Kind>, behind: &str) -> Result<String, NoMemory>
+    ensures { IfOk result (λ text. string_bytes text
+        ≡ tried_text told.entry.most told.entry.worlds told.entry.found.now ++ behind.now) }
+{
+    Ok(format!(in alloc; "{told}{behind}")?)
+}
+
+/// What `try` replies to a lock program of which it found this, in so many milliseconds. Where nothing bad
+/// was found it tells beside that these lines never ran.
+///
+/// It is an `Err` where memory is short.
+fn found_reply(
+    alloc: Global,
+    read: &ReadText<'_>,
+    search: Search,
+    searched: &Searched<FoundInAll<Kind>>,
+    millis: u64,
+    never_run: &[usize],
+) -> Result<Reply, NoMemory>
+    requires { IsTried read.now.program search.worlds searched.now.found }
+    ensures { IfOk result (λ reply. RepliesTried search.worlds read.now.program
+        (string_bytes reply.answer.text) reply.answer.exit) }
+{
+    let told = FoundAmong {
+        found: &searched.found,
+        most: search.worlds,
+        worlds: worlds_of(&searched.found),
+    };
+    let behind = behind(alloc, read, told.schedule(), search.drawn)?;
+    let stats = Stats::of_found_in_all(searched, search.worlds, millis);
+    let aside = beside(
+        alloc,
+        told_of(&searched.found, never_run),
+        if search.counted { Some(stats) } else { None },
+    )?;
+    let exit = told.exit();
+    Ok(Reply {
+        answer: Answer {
+            text: found_text(alloc, told, &behind)?,
+            exit,
+        },
+        aside,
+    })
+}
+
+/// What `try` replies to a lock program.
+///
+/// It is an `Err` where memory is short.
+pub(crate) fn tried<T: Threads + Sync, V: StopWatch>(
+    team: &Team<T>,
+    alloc: Global,
+    read: &ReadText<'_>,
+    search: Search,
+    watch: &mut V,
+) -> Result<Reply, NoMemory>
+    ensures { IfOk result (λ reply. RepliesTried search.worlds read.now.program
+        (string_bytes reply.answer.text) reply.answer.exit) }
+{
+    let program = read.program.program();
+    let ran = Ran::new(alloc, program)?;
+    let searched = try_program(team, alloc, &read.program, search.worlds, &ran, watch)?;
+    let millis = watch.stop();
+    let never_run = ran.never_run(alloc, program)?;
+    found_reply(alloc, read, search, &searched, millis, &never_run)
+}

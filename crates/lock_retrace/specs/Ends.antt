@@ -1,0 +1,45 @@
+-- How a schedule ends in a program: in a moment to which all its steps lead, and whose verdict is told, or
+-- before a step that can't be run in the moment to which those before it lead.
+use Rattle.std.specs.Prelude.{◌≡◌, ◌≢◌, ℕ, ◌<◌, List, ◌∷◌, ◌++◌, Option, Some, None}
+use Rattle.std.specs.Prelude.{length}
+use Rattle.lock_code.specs.declared.program.Program.{Program}
+use Rattle.lock_machine.specs.Moment.{LockMoment, HasMoved, IsRefusedBy}
+use Rattle.lock_machine.specs.Shared.{world_of}
+use Rattle.lock_machine.specs.Verdict.{IsVerdictOf}
+use Rattle.lock_retrace.specs.declared.retold.Ending.{Ending}
+use Rattle.lock_retrace.specs.declared.retold.Ending.TheVariants.{World, Refused}
+use Rattle.lock_steps.specs.Steps.{Reaches}
+use Rattle.step_table.specs.declared.entry.Entry.{Entry}
+use Rattle.step_table.specs.declared.refusal.StepRefused.{StepRefused}
+use Rattle.step_table.specs.declared.refusal.StepRefused.TheVariants.{NoMemory}
+
+-- the schedule leads to this moment of the program
+pub record LeadsTo (p : Program) (schedule : List ℕ) (m : LockMoment) : Type 0 where
+  pub program : m.program ≡ p
+  pub journal : List Entry
+  pub reached : Reaches p schedule (world_of m.shared journal)
+
+-- seat i, which is there, has made a step, or its step is refused by this
+abbrev pub HasTried : LockMoment → ℕ → LockMoment → Option StepRefused → Type 0
+HasTried m i n None = (i < length m.program.seats) × HasMoved m i n
+HasTried m i n (Some cause) = IsRefusedBy cause m i
+
+-- a step of the schedule is refused by this, in the moment to which those before it lead
+pub record IsRefusedIn (p : Program) (schedule : List ℕ) (cause : StepRefused) : Type 0 where
+  pub before : List ℕ
+  pub seat : ℕ
+  pub rest : List ℕ
+  pub parts : schedule ≡ before ++ seat ∷ rest
+  pub moment : LockMoment
+  pub leads : LeadsTo p before moment
+  pub why : IsRefusedBy cause moment seat
+
+-- the schedule as far as it can be run
+abbrev pub RunsTo : Program → List ℕ → LockMoment → Option StepRefused → Type 0
+RunsTo p schedule m None = LeadsTo p schedule m
+RunsTo p schedule m (Some cause) = IsRefusedIn p schedule cause
+
+-- how it ends; want of memory is no refusal
+abbrev pub EndsBy : Program → List ℕ → Ending → Type 0
+EndsBy p schedule (World verdict) = (m : LockMoment) × LeadsTo p schedule m × IsVerdictOf m verdict
+EndsBy p schedule (Refused cause) = (cause ≢ NoMemory) × IsRefusedIn p schedule cause

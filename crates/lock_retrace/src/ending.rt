@@ -1,0 +1,126 @@
+//! What is told where a schedule ends: where each seat stands, all words, and whether the world is bad.
+
+ghost use Rattle.std.specs.Prelude.{◌<◌, length};
+
+use crate::look::code_line;
+use crate::members::seat_at;
+use crate::names::program_name;
+use crate::parts::all_parts;
+use crate::spelling::cause_name;
+use crate::step::Told;
+use lock_code::CodeLine;
+use lock_machine::LockMachine;
+use lock_steps::{Kind, Stand};
+use std::alloc::{AllocError, Global};
+use std::fmt;
+use step_core::{NoMemory, Phase, Row, SeatId};
+
+/// How a seat is that has neither ended nor failed.
+#[derive(Clone, Copy, Drop)]
+enum Posture {
+    /// It can step.
+    Stands,
+    /// It can't, until a word or a lock is another.
+    Waits,
+    /// It can't, until somebody wakes it.
+    Sleeps,
+}
+
+impl fmt::Display for Posture {
+    fn fmt<W: fmt::Write>(&self, f: &mut fmt::Formatter<W>) -> fmt::Result {
+        f.write_str(match self {
+            Posture::Stands => "stands",
+            Posture::Waits => "waits",
+            Posture::Sleeps => "sleeps",
+        })
+    }
+}
+
+fn posture_of(machine: &LockMachine<'_>, seat: SeatId) -> Posture
+    requires { seat < length machine.now.program.seats }
+{
+    if machine.enabled(seat) {
+        return Posture::Stands;
+    }
+    match machine.stand(seat) {
+        Stand::Asleep(_) => Posture::Sleeps,
+        Stand::Within(_) if machine.phase(seat) == Phase::At(Row::P) => Posture::Sleeps,
+        _ => Posture::Waits,
+    }
+}
+
+/// Writes the `do` lines that led to a line, the outermost first, where there are any.
+fn spell_within(text: &mut String, within: &[usize]) -> Result<(), AllocError> {
+    let Some((first, others)) = within.split_first() else {
+        return Ok(());
+    };
+    write!(text, " (from {first}")?;
+    for line in others {
+        write!(text, " {line}")?;
+    }
+    text.push(')')
+}
+
+/// Writes where the seat is, which stands at this line, if it hasn't ended.
+fn spell_stand(
+    text: &mut String,
+    machine: &LockMachine<'_>,
+    seat: SeatId,
+    code_line: &CodeLine,
+) -> Result<(), AllocError>
+    requires { seat < length machine.now.program.seats }
+{
+    let line = code_line.line;
+    if let Stand::FailedAt(_, cause) = machine.stand(seat) {
+        let cause = cause_name(cause);
+        return write!(text, "failed at line {line}: {cause}");
+    }
+    let posture = posture_of(machine, seat);
+    write!(text, "{posture} at line {line}")?;
+    spell_within(text, code_line.within.as_slice())
+}
+
+/// Tells where the seat is.
+fn tell_seat(
+    text: &mut String,
+    told: &Told<'_>,
+    machine: &LockMachine<'_>,
+    seat: SeatId,
+) -> Result<(), AllocError>
+    requires { seat < length machine.now.program.seats }
+{
+    let name = program_name(machine, told.names, seat);
+    write!(text, "seat {seat} {name}: ")?;
+    match code_line(machine, seat) {
+        Some(code_line) => spell_stand(text, machine, seat, code_line)?,
+        None => text.push_str("ended")?,
+    }
+    text.push('\n')
+}
+
+fn tell_verdict(text: &mut String, verdict: Option<Kind>) -> Result<(), AllocError> {
+    match verdict {
+        Some(kind) => writeln!(text, "verdict: {kind}"),
+        None => writeln!(text, "verdict: not bad"),
+    }
+}
+
+/// Tells where each seat is, all words, and whether the world is bad.
+pub(crate) fn tell_world(
+    alloc: Global,
+    text: &mut String,
+    told: &Told<'_>,
+    machine: &LockMachine<'_>,
+    verdict: Option<Kind>,
+) -> Result<(), NoMemory> {
+    for number in 0..machine.seats() {
+        if let Some(seat) = seat_at(machine, number) {
+            tell_seat(text, told, machine, seat)?;
+        }
+    }
+    let parts = all_parts(alloc, machine, &told.parts)?;
+    text.push_str(parts.as_str())?;
+    text.push('\n')?;
+    tell_verdict(text, verdict)?;
+    Ok(())
+}

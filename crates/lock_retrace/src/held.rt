@@ -1,0 +1,54 @@
+//! What a seat has of its own: its registers, and the sections in which it is.
+
+ghost use Rattle.std.specs.Prelude.{◌<◌, length};
+
+use lock_code::Operand;
+use lock_machine::LockMachine;
+use lock_program::Names;
+use std::alloc::{AllocError, Global};
+use step_core::SeatId;
+
+/// Each of the seat's registers with its number, and for each section whether the seat is in it or out of it.
+pub(crate) fn held_by(
+    alloc: Global,
+    machine: &LockMachine<'_>,
+    names: &Names<'_>,
+    seat: SeatId,
+) -> Result<Vec<String>, AllocError>
+    requires { seat < length machine.now.program.seats }
+{
+    let mut held = Vec::new(alloc);
+    for (register, name) in names.registers.as_slice().iter().enumerate() {
+        let name = name.as_str();
+        let number = machine.value(seat, &Operand::Register(register));
+        held.push(format!(in alloc; "{name} {number}")?)?;
+    }
+    for (section, name) in names.sections.as_slice().iter().enumerate() {
+        let name = name.as_str();
+        let side = if machine.is_inside(seat, section) {
+            "in"
+        } else {
+            "out"
+        };
+        held.push(format!(in alloc; "{side} {name}")?)?;
+    }
+    Ok(held)
+}
+
+/// What of it is other than before, as it is now.
+pub(crate) fn changed_held(
+    alloc: Global,
+    before: &[String],
+    after: &[String],
+) -> Result<String, AllocError> {
+    let mut text = String::new(alloc);
+    for (was, is) in before.iter().zip(after) {
+        if was.as_str() != is.as_str() {
+            if !text.is_empty() {
+                text.push_str(", ")?;
+            }
+            text.push_str(is.as_str())?;
+        }
+    }
+    Ok(text)
+}

@@ -1,0 +1,31 @@
+//! Waits and causes as text.
+
+use lock_steps::Cause;
+use std::alloc::AllocError;
+use step_core::WaitId;
+
+/// Writes the seats of these waits in order, where there are any.
+pub(crate) fn spell_queue(text: &mut String, waits: &[WaitId]) -> Result<(), AllocError> {
+    if waits.is_empty() {
+        return Ok(());
+    }
+    text.push_str(" waiting")?;
+    for wait in waits {
+        let seat = wait.seat;
+        write!(text, " {seat}")?;
+    }
+    Ok(())
+}
+
+/// Why a seat failed.
+pub(crate) fn cause_name(cause: Cause) -> &'static str {
+    match cause {
+        Cause::Assert => "assert",
+        Cause::Fail => "fail",
+        Cause::Endless => "endless",
+        Cause::Index => "index",
+        Cause::Overflow => "overflow",
+        Cause::Many => "many",
+        Cause::Ticket => "ticket",
+    }
+}
