@@ -7,7 +7,7 @@
 //! look, which finds it and calls the kernel. So nobody sleeps at a free lock for good, and where nobody
 //! sleeps the kernel isn't called. A thread that comes meanwhile may take the lock first; who was woken looks
 //! again.
-ghost use Rattle.std.specs.Prelude.{◌≡◌, ◌≢◌, ◌==◌, ◌<◌};
+ghost use Rattle.std.specs.Prelude.{◌≡◌, ◌≢◌, ◌==◌, ◌<◌, MatchBool};
 ghost use mathlib.Core.Option.{none, some};
 ghost use prog.Atomic.{either};
 ghost use Rattle.atomic_table.specs.Table.{step};
@@ -26,6 +26,8 @@ use std::sync::Wait;
 /// How often a seat looks at a held lock before it sleeps: what is done under a lock takes less, unless its
 /// holder lost its processor.
 const LOOKS: u32 = 100;
+/// How often a seat tries for a lock that it leaves where it stays held, with as many looks between two tries.
+const TRIES: u32 = 10;
 
 impl<S, V, T, K, R: Rows<S, V, T, K>> Running<S, View<V, T>, K, OneWorld<R>> {
     /// The row that takes a lock: it is run once the lock is found free, and what finds it held is no stride.
@@ -99,8 +101,82 @@ impl<S, V, T, K, R: Rows<S, V, T, K>> Running<S, View<V, T>, K, OneWorld<R>> {
         unreachable!()
     }
 
-    /// Returns once the lock was free, and perhaps before. Looks are plain loads, since each exchange would
-    /// take the word from its holder's processor.
+    /// The row that takes a lock where it is found free within some tries, and else nothing: whether it was
+    /// taken. It never waits: a caller that has other work leaves a lock that stays held.
+    pub fn try_lock<A: Start<S, V>>(&self, token: &mut Token<S, V, T>, word: usize) -> bool
+        requires own { (token.old.table_id ≡ self.now.table.shared.table_id)
+            × IsSomeones R.family token.old.me.0 }
+        requires word { word < self.now.table.shared.table_id.words }
+        requires owes { Owes R.family (R.family.key self.now.table.shared.key) token.old.me word
+            (λ n. either (n == 0) 1 n)
+            (runs_lock R.family A.at (step self.now.table.shared.table_id.slots word 0 1 none) token.old.me) }
+        ensures own { token.new.table_id ≡ token.old.table_id }
+        ensures took { MatchBool result (Took R.family
+            (A.at (step self.now.table.shared.table_id.slots word 0 1 none)) token.old.me token.new.me)
+            (token.new.me ≡ token.old.me) }
+    {
+        for _ in 0..TRIES {
+            let found = self
+                .table
+                .shared
+                .compare_exchange::<RunsLock<A, R, K>>(token, word, 0, 1);
+            if found == 0 {
+                return true;
+            }
+            self.is_free_soon(token, word);
+        }
+        false
+    }
+
+    /// The same, at the row that is said.
+    pub fn try_lock_for<A: Start<S, V>>(
+        &self,
+        token: &mut Token<S, V, T>,
+        word: usize,
+        said: &S,
+    ) -> bool
+        requires own { (token.old.table_id ≡ self.now.table.shared.table_id)
+            × IsSomeones R.family token.old.me.0 }
+        requires word { word < self.now.table.shared.table_id.words }
+        requires owes { Owes R.family (R.family.key self.now.table.shared.key) token.old.me word
+            (λ n. either (n == 0) 1 n)
+            (runs_lock R.family A.at (step self.now.table.shared.table_id.slots word 0 1 (some said.now))
+            token.old.me) }
+        ensures own { token.new.table_id ≡ token.old.table_id }
+        ensures took { MatchBool result (Took R.family
+            (A.at (step self.now.table.shared.table_id.slots word 0 1
+            (some said.now))) token.old.me token.new.me)
+            (token.new.me ≡ token.old.me) }
+    {
+        for _ in 0..TRIES {
+            if self
+                .table
+                .shared
+                .compare_exchange_with::<RunsLock<A, R, K>>(token, word, 0, 1, said)
+                == 0
+            {
+                return true;
+            }
+            self.is_free_soon(token, word);
+        }
+        false
+    }
+
+    /// Looks at a held lock for a while: whether it was found free. Looks are plain loads, since each
+    /// exchange would take the word from its holder's processor.
+    fn is_free_soon(&self, _token: &Token<S, V, T>, word: usize) -> bool
+        requires { word < self.now.table.shared.table_id.words }
+    {
+        for _ in 0..LOOKS {
+            if self.table.shared.peek(word) == 0 {
+                return true;
+            }
+            hint::spin_loop();
+        }
+        false
+    }
+
+    /// Returns once the lock was free, and perhaps before.
     fn await_lock<W: Wait>(&self, rt: &W, token: &mut Token<S, V, T>, word: usize, sleepers: usize)
         requires own { token.old.table_id ≡ self.now.table.shared.table_id }
         requires words { (word < self.now.table.shared.table_id.words)
@@ -108,13 +184,10 @@ impl<S, V, T, K, R: Rows<S, V, T, K>> Running<S, View<V, T>, K, OneWorld<R>> {
         requires aside { IsAside R.family (R.family.key self.now.table.shared.key) sleepers }
         ensures same { (token.new.table_id ≡ token.old.table_id) × (token.new.me ≡ token.old.me) }
     {
-        let shared = &self.table.shared;
-        for _ in 0..LOOKS {
-            if shared.peek(word) == 0 {
-                return;
-            }
-            hint::spin_loop();
+        if self.is_free_soon(token, word) {
+            return;
         }
+        let shared = &self.table.shared;
         // Counted before `park` looks at the lock: who gives it back after that look finds the count, and
         // wakes.
         shared.fetch_add::<SetsAside>(token, sleepers, 1);
@@ -137,10 +210,35 @@ impl<S, V, T, K, R: Rows<S, V, T, K>> Running<S, View<V, T>, K, OneWorld<R>> {
         ensures went { runs_unlock R.family
             (step self.now.table.shared.table_id.slots word 0 0 none) token.old.me 0 token.new.me }
     {
-        let shared = &self.table.shared;
-        shared.store::<RunsUnlock<R, K>>(token, word, 0);
-        if shared.peek(sleepers) != 0 {
-            shared.wake_one(word);
+        self.return_lock(token, word);
+        self.rouse_at_lock(token, word, sleepers);
+    }
+
+    /// The same row, and nobody is woken: who sleeps at the lock is for another to wake, by
+    /// [`Running::rouse_at_lock`], or there is nobody who ever sleeps there.
+    #[inline]
+    pub fn return_lock(&self, token: &mut Token<S, V, T>, word: usize)
+        requires own { (token.old.table_id ≡ self.now.table.shared.table_id)
+            × IsSomeones R.family token.old.me.0 }
+        requires word { word < self.now.table.shared.table_id.words }
+        requires owes { Owes R.family (R.family.key self.now.table.shared.key) token.old.me word (λ _. 0)
+            (λ _. runs_unlock R.family (step self.now.table.shared.table_id.slots word 0 0 none)
+            token.old.me 0) }
+        ensures own { token.new.table_id ≡ token.old.table_id }
+        ensures went { runs_unlock R.family
+            (step self.now.table.shared.table_id.slots word 0 0 none) token.old.me 0 token.new.me }
+    {
+        self.table.shared.store::<RunsUnlock<R, K>>(token, word, 0);
+    }
+
+    /// Wakes one thread that sleeps at a lock which was given back, where one does.
+    #[inline]
+    pub fn rouse_at_lock(&self, _token: &Token<S, V, T>, word: usize, sleepers: usize)
+        requires { (word < self.now.table.shared.table_id.words)
+            × (sleepers < self.now.table.shared.table_id.words) }
+    {
+        if self.table.shared.peek(sleepers) != 0 {
+            self.table.shared.wake_one(word);
         }
     }
 }

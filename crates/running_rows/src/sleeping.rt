@@ -234,7 +234,8 @@ impl<S, V, T, K, R: Rows<S, V, T, K>> Running<S, View<V, T>, K, OneWorld<R>> {
         self.rouse(token, word, asleep, units);
     }
 
-    /// A row that stores a grant and wakes nobody: its thread is for another to wake, by [`Running::wake`].
+    /// A row that stores a grant and wakes nobody: its thread is for another to wake, by [`Running::rouse`] or
+    /// [`Running::wake`].
     #[inline]
     pub fn store_grant(&self, token: &mut Token<S, V, T>, word: usize, units: u64)
         requires own { (token.old.table_id ≡ self.now.table.shared.table_id)
@@ -246,6 +247,7 @@ impl<S, V, T, K, R: Rows<S, V, T, K>> Running<S, View<V, T>, K, OneWorld<R>> {
         ensures own { token.new.table_id ≡ token.old.table_id }
         ensures went { runs_grant R.family
             (step self.now.table.shared.table_id.slots word units 0 none) token.old.me units token.new.me }
+        ensures stored { StoresLast R.family token.new.me.0.own word units }
     {
         self.table
             .shared
@@ -253,7 +255,8 @@ impl<S, V, T, K, R: Rows<S, V, T, K>> Running<S, View<V, T>, K, OneWorld<R>> {
     }
 
     /// Wakes the thread of the seat that was just granted, where it has gone to sleep.
-    fn rouse(&self, granted: &Token<S, V, T>, word: usize, asleep: usize, _units: u64)
+    #[inline]
+    pub fn rouse(&self, granted: &Token<S, V, T>, word: usize, asleep: usize, _units: u64)
         requires words { (word < self.now.table.shared.table_id.words)
             × (asleep < self.now.table.shared.table_id.words) }
         requires stored { StoresLast R.family granted.now.me.0.own word _units }

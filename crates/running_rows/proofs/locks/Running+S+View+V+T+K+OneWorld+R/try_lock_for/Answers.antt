@@ -1,0 +1,35 @@
+use Rattle.std.proofs.Common.{◌==◌, ◌∙◌, refl, subst}
+use mathlib.Core.Option.{some}
+use prog.Atomic.{either}
+use Rattle.atomic_table.specs.Table.{step}
+use Rattle.running_rows.specs.Strides.{runs_lock, Took}
+use Rattle.running_rows.proofs.Keeping.{allowed_since}
+use Rattle.running_rows.proofs.locks.Running+S+View+V+T+K+OneWorld+R.try_lock_for.Goals as goal
+
+pub compare_exchange_with-requires : goal.compare_exchange_with-requires
+compare_exchange_with-requires g c = let same = c.loop.invariant in (
+  same.0 ∙ c.requires.own.0,
+  c.requires.word,
+  allowed_since g.R.Rows.family _ _ _ _ c.args.token.now.me _ (λ n. either (n == 0) 1 n)
+      (runs_lock g.R.Rows.family g.A.Start.at (step c.args.self.now.table.shared.table_id.slots c.args.word 0 1 (some c.args.said.now)))
+      c.requires.own.1 c.requires.owes same.1,
+)
+
+pub loop-init : goal.loop-init
+loop-init g c = (refl, refl)
+
+pub returns-then-compare_exchange_with-eq0-clause-own : goal.returns-then-compare_exchange_with-eq0-clause-own
+returns-then-compare_exchange_with-eq0-clause-own g c = c.compare_exchange_with.ensures.0 ∙ c.loop.invariant.0
+
+pub returns-then-compare_exchange_with-eq0-clause-took : goal.returns-then-compare_exchange_with-eq0-clause-took
+returns-then-compare_exchange_with-eq0-clause-took g c =
+    subst (λ m. Took g.R.Rows.family
+    (g.A.Start.at (step c.args.self.now.table.shared.table_id.slots c.args.word 0 1 (some c.args.said.now))) m c.compare_exchange_with.new.seat.me)
+    c.loop.invariant.1
+    (c.compare_exchange_with.ensures.2.1 c.if-compare_exchange_with-eq0.true)
+
+pub loop-preserved : goal.loop-preserved
+loop-preserved g c = (
+  c.compare_exchange_with.ensures.0 ∙ c.loop.invariant.0,
+  c.compare_exchange_with.ensures.2.0 c.if-compare_exchange_with-eq0.false ∙ c.loop.invariant.1,
+)
