@@ -24,6 +24,7 @@ use Rattle.sema_table.specs.declared.view.Record.{Record}
 use Rattle.sema_table.specs.declared.view.Record.TheVariants.{Root}
 use Rattle.sema_table.specs.Setting.{root, layout, address, word_at}
 use Rattle.sema_table.specs.Places.{is_free}
+use Rattle.sema_table.specs.Changes.{changes, most_changes}
 use Rattle.sema_table.specs.Rule.{setting_of, sight_by, lists_by, Knows, IsRecord, ShowsWorld}
 
 -- how many units a seat comes by that goes from the one place to the other by this deed
@@ -46,6 +47,7 @@ pub record Beside (k : ℕ) (v : Known) (p : SemaStride) (w : Known) : Type 0 wh
   pub held : (c : ℕ) → holds (root v.setting) (root v.setting c) v.place ≡ 1
       → (plain_before (layout v.setting) p).lists c ≡ lists_by v.setting v.seen c
   pub few : w.turn ≤ 2 ^ 48 + 256
+  pub settles : (c : ℕ) → changes c w.seen ≤ most_changes
   pub there : k < v.setting.seats
 
 -- the stride is a row that stored this number at this address

@@ -6,7 +6,7 @@ ghost use Rattle.step_table.specs.declared.place.ReleaseRow.TheVariants.{R3, R4,
 ghost use Rattle.sema_table.specs.Seats.{IsToken, table_of, seat_of};
 ghost use Rattle.sema_table.specs.Calls.{ComesTo};
 ghost use Rattle.sema_table.specs.Waking.{Wakes, IsWakened};
-ghost use Rattle.sema_table.specs.Walks.{Stands, Holds, Walked, Moves, HasRecord, Granted};
+ghost use Rattle.sema_table.specs.Walks.{Stands, Holds, Walked, Moves, Changed, HasRecord, Granted};
 ghost use Rattle.sema_table.specs.Walks.{moved_to, taken_out, sought, trying, unlocked, granting, taken_for};
 ghost use Rattle.sema_table.specs.Outcomes.{MatchTried};
 ghost use Rattle.sema_table.specs.CallersReleasing.{WakesFirst};
@@ -14,7 +14,7 @@ ghost use Rattle.sema_table.specs.CallersReleasing.{WakesFirst};
 use crate::answers::{Tried, Wake};
 use crate::rows::Token;
 use crate::seat::{Numbers, Owing, Seat};
-use crate::sema_table::{SemaTable, counter_word};
+use crate::sema_table::{MOST_TRIES, SemaTable, counter_word};
 use running_rows::Here;
 use std::sync::Wait;
 use step_table::{Place, Release, ReleaseRow};
@@ -22,7 +22,8 @@ use waiters::{CounterId, WaitId};
 
 impl SemaTable {
     /// The rest of a release: takes the counter's first wait out and grants it; with handoff, together with a
-    /// unit if there is one (Go's `semrelease1` from `lockWithRank` on).
+    /// unit if there is one (Go's `semrelease1` from `lockWithRank` on). It may wait for the root's lock, and
+    /// for nothing else.
     pub fn wake<R: Wait>(&self, rt: &R, owing: Owing, handoff: bool) -> (Seat, Wake)
         requires { owing.table ≡ self.now }
         ensures rows { IsWakened owing handoff result.0 result.1 }
@@ -63,7 +64,7 @@ impl SemaTable {
         let Some(id) = first else {
             return (Seat { token, numbers }, Wake::Nobody);
         };
-        let handed = self.take_for(rt, &mut token, &call, &id);
+        let handed = self.take_for(&mut token, &call, &id);
         self.grant(&mut token, &call, &id, handed);
         if handed {
             return (Seat { token, numbers }, Wake::Handed(id));
@@ -137,7 +138,7 @@ impl SemaTable {
     }
 
     /// R7 and R8 of a release with handoff, and else nothing: whether a unit was taken for the wait in hand.
-    fn take_for<R: Wait>(&self, rt: &R, token: &mut Token, call: &Release, id: &WaitId) -> bool
+    fn take_for(&self, token: &mut Token, call: &Release, id: &WaitId) -> bool
         requires { Stands self.now token.old (trying call.now)
             × (token.old.me.0.own.knows.hand ≡ id.now ∷ []) }
         ensures slots { token.new.me.1 ≡ token.old.me.1 }
@@ -149,13 +150,13 @@ impl SemaTable {
         if !call.handoff {
             return false;
         }
-        self.take_unit(rt, token, call, id)
+        self.take_unit(token, call, id)
     }
 
     /// R7, and R8 where R7 read more than 0, until one of them settles it: whether a unit was taken for the
     /// wait in hand. A unit is looked for, not assumed: a seat that never slept may have taken the one that
-    /// was added.
-    fn take_unit<R: Wait>(&self, rt: &R, token: &mut Token, call: &Release, id: &WaitId) -> bool
+    /// was added. It ends whatever others do.
+    fn take_unit(&self, token: &mut Token, call: &Release, id: &WaitId) -> bool
         requires { Stands self.now token.old (Releasing call.now R7)
             × (token.old.me.0.own.knows.hand ≡ id.now ∷ []) }
         ensures slots { token.new.me.1 ≡ token.old.me.1 }
@@ -164,7 +165,7 @@ impl SemaTable {
             (Take call.now.counter id.now.seat ∷ []) 0)
             (Moves token.old (Releasing call.now R7) token.new (Releasing call.now R10)) }
     {
-        for _ in rt.forever() {
+        for _ in 0..MOST_TRIES {
             match self.try_for(token, call, id) {
                 Tried::Taken => return true,
                 Tried::Zero => return false,
@@ -184,7 +185,8 @@ impl SemaTable {
             (Walked token.old (Releasing call.now R7) token.new (moved_to token.old (Releasing call.now R9))
             (Take call.now.counter id.now.seat ∷ []) 0)
             (Moves token.old (Releasing call.now R7) token.new (Releasing call.now R10))
-            (Moves token.old (Releasing call.now R7) token.new (Releasing call.now R7)) }
+            (Moves token.old (Releasing call.now R7) token.new (Releasing call.now R7)
+            × Changed call.now.counter token.old token.new) }
     {
         let word = counter_word(call.counter.number());
         let found = self.words.load::<Here>(token, word);
