@@ -7,8 +7,8 @@ use Rattle.step_law_semaphores.specs.Balances.{added_on, taken_on}
 abbrev pub changes : ℕ → List Entry → ℕ
 changes c journal = added_on c journal + taken_on c journal
 
--- of a table's counter there are never more: 256 seats add at most 2^40 units each, and what is taken was there
--- at the start or was added
+-- there are never more: 256 seats add at most 2^40 units each, and what is taken was there at the start, which
+-- is below 2^32, or was added
 abbrev pub most_changes : ℕ
 most_changes = 2 ^ 49 + 2 ^ 32
 

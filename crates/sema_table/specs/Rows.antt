@@ -39,7 +39,7 @@ IsHeld v slot y =
     (treap : Treap) × (slot ≡ r) × (y ≡ Root treap) × IsRecord v.setting r treap (lists_by v.setting v.seen)
 
 -- what else a stride tells. What the seat k had seen of a root whose lock it holds was so still. Where it may
--- begin a call, it has come by all units that it has seen taken for it
+-- begin a call, it has come by all units that it has seen taken for it. A counter has changed only so often
 pub record Beside (k : ℕ) (v : Known) (p : SemaStride) (w : Known) : Type 0 where
   pub came : w.taken ≡ v.taken + gains_by p.deed v.place w.place
   pub most : w.taken ≤ 2 ^ 49

@@ -19,9 +19,9 @@
 //! seat adds at most 2^40 units. [`SemaTable::new`] names the first of these limits that isn't kept, or want
 //! of memory, and takes all memory that the table ever takes. After it the one refusal is
 //! [`PostRefused::LimitReached`]. A seat is used by one thread at a time, since it is moved or lent. `enter`,
-//! `retry`, `wake`, `release`, `wake_some` and `release_many` may wait for a root's lock, `sleep` for a grant,
-//! and `acquire` for both; all other calls end. None waits for a counter that others keep changing: a try is
-//! lost only where they have changed it, and a counter changes only so often.
+//! `retry`, `wake`, `release`, `wake_some` and `release_many` may wait for a root's lock, `sleep` for a
+//! grant, and `acquire` for both; all other calls end. None waits for a counter that others keep changing: a
+//! try is lost only where they have changed it, and a counter changes only so often.
 #![tactic(auto)]
 
 mod acquires;
