@@ -36,6 +36,7 @@ pub mod Gathering
 pub mod LookingTogether
 pub mod Lawful
 mod After
+mod Trial
 mod Tellers
 mod Finding
 mod Sighting
@@ -44,6 +45,7 @@ mod CallerPosts
 mod CallerWakes
 mod CallerPolls
 mod CallerEnters
+mod CallerRetries
 mod CallerAcquires
 mod CallerLooksMany
 mod CallerWakesMany

@@ -5,10 +5,10 @@ ghost use Rattle.step_table.specs.declared.place.Place.TheVariants.{Rest, Acquir
 ghost use Rattle.step_table.specs.declared.place.AcquireRow.TheVariants.{A3, A10};
 ghost use Rattle.sema_table.specs.Walks.{Stands, Walked, Moves, moved_to};
 ghost use Rattle.sema_table.specs.Outcomes.{MatchTried};
-ghost use Rattle.sema_table.specs.Waking.{IsPolled, IsRetried};
-ghost use Rattle.sema_table.specs.Callers.{PollsGrant, TriesAgain};
+ghost use Rattle.sema_table.specs.Waking.{IsPolled, IsRetried, TriesWoken};
+ghost use Rattle.sema_table.specs.Callers.{PollsGrant, TriesAgain, TriesOnce};
 
-use crate::answers::{Entered, Polled, Tried};
+use crate::answers::{Entered, Polled, Retried, Tried};
 use crate::rows::Token;
 use crate::seat::{Numbers, Seat, Sleeping, Woken};
 use crate::sema_table::{SemaTable, counter_word};
@@ -67,7 +67,7 @@ impl SemaTable {
             numbers,
             call,
         } = woken;
-        if self.try_again(rt, &mut token, &call) {
+        if self.try_again(&mut token, &call) {
             let numbers = Numbers {
                 taken: numbers.taken + 1,
                 ..numbers
@@ -77,8 +77,29 @@ impl SemaTable {
         self.enter_at_lock(rt, token, numbers, call)
     }
 
+    /// The same up to the lock, to which it doesn't go: so it never waits.
+    pub fn retry_at_once(&self, woken: Woken) -> Retried
+        requires { woken.table ≡ self.now }
+        ensures rows { TriesWoken woken result }
+        ensures caller { TriesOnce woken result }
+    {
+        let Woken {
+            mut token,
+            numbers,
+            call,
+        } = woken;
+        if self.try_again(&mut token, &call) {
+            let numbers = Numbers {
+                taken: numbers.taken + 1,
+                ..numbers
+            };
+            return Retried::Taken(Seat { token, numbers });
+        }
+        Retried::Zero(Seat { token, numbers })
+    }
+
     /// A10, and A11 where A10 read more than 0, until one of them settles it: whether a unit was taken.
-    fn try_again<R: Wait>(&self, rt: &R, token: &mut Token, call: &Acquire) -> bool
+    fn try_again(&self, token: &mut Token, call: &Acquire) -> bool
         requires { Stands self.now token.old (Acquiring call.now A10) }
         ensures slots { token.new.me.1 ≡ token.old.me.1 }
         ensures settled { MatchBool result
@@ -86,7 +107,7 @@ impl SemaTable {
             (Take call.now.counter token.old.me.0.own.number ∷ []) 1)
             (Moves token.old (Acquiring call.now A10) token.new (Acquiring call.now A3)) }
     {
-        for _ in rt.forever() {
+        for _ in 0..1_u64 << 50 {
             match self.try_woken(token, call) {
                 Tried::Taken => return true,
                 Tried::Zero => return false,

@@ -1,10 +1,11 @@
 //! An acquire from its root's lock on.
-ghost use Rattle.std.specs.Prelude.{◌≡◌, ◌+◌, ◌<◌, [], ◌∷◌, length, MatchBool};
+ghost use Rattle.std.specs.Prelude.{◌≡◌, ◌+◌, ◌<◌, [], ◌∷◌, length, MatchBool, MatchResult};
 ghost use Rattle.step_table.specs.declared.entry.Entry.TheVariants.{Take, Queue};
 ghost use Rattle.step_table.specs.declared.place.Place.TheVariants.{Rest, Acquiring};
 ghost use Rattle.step_table.specs.declared.place.AcquireRow.TheVariants.{A3, A4, A5, A7, A8, A9, P};
 ghost use Rattle.sema_table.specs.Places.{Begins};
-ghost use Rattle.sema_table.specs.Seats.{IsToken, table_of, seat_of};
+ghost use Rattle.sema_table.specs.Seats.{Token, IsToken, table_of, seat_of};
+ghost use Rattle.sema_table.specs.AtLock.{HasLocked};
 ghost use Rattle.sema_table.specs.Waking.{acquire_of, IsEntered};
 ghost use Rattle.sema_table.specs.Walks.{Stands, Holds, Walked, Moves, HasRecord, HasRoom, IsLast, moved_to};
 ghost use Rattle.sema_table.specs.Walks.{parked};
@@ -33,6 +34,44 @@ impl SemaTable {
         self.enter_at_lock(rt, token, numbers, Acquire { counter, lifo })
     }
 
+    /// The same where the root's lock is found free within some tries, so it never waits; else the seat comes
+    /// back as it was.
+    pub fn try_enter(&self, seat: Seat, counter: CounterId, lifo: bool) -> Result<Entered, Seat>
+        requires { (seat.table ≡ self.now) × (counter < length self.now.setting.starts) }
+        ensures rows { MatchResult result
+            (λ entered. IsEntered seat (acquire_of counter lifo) (Acquiring (acquire_of counter lifo) A3) entered)
+            (λ refused. refused ≡ seat) }
+        ensures caller { MatchResult result (λ entered. JoinsQueue seat counter lifo entered)
+            (λ refused. refused ≡ seat) }
+    {
+        let entered = self.enter_silently(seat, counter, lifo)?;
+        self.rouse_behind(&entered, counter);
+        Ok(entered)
+    }
+
+    /// The same, and who sleeps at the lock isn't woken: at a table where nobody does.
+    pub(crate) fn enter_silently(
+        &self,
+        seat: Seat,
+        counter: CounterId,
+        lifo: bool,
+    ) -> Result<Entered, Seat>
+        requires { (seat.table ≡ self.now) × (counter < length self.now.setting.starts) }
+        ensures rows { MatchResult result
+            (λ entered. IsEntered seat (acquire_of counter lifo) (Acquiring (acquire_of counter lifo) A3) entered)
+            (λ refused. refused ≡ seat) }
+        ensures caller { MatchResult result (λ entered. JoinsQueue seat counter lifo entered)
+            (λ refused. refused ≡ seat) }
+    {
+        let Seat { mut token, numbers } = seat;
+        let call = Acquire { counter, lifo };
+        let place = Place::Acquiring(call, AcquireRow::A3);
+        if !self.try_lock(&mut token, counter, &place) {
+            return Err(Seat { token, numbers });
+        }
+        Ok(self.enter_locked(token, numbers, &call))
+    }
+
     /// The rows from A3 on.
     #[inline(never)]
     pub(crate) fn enter_at_lock<R: Wait>(
@@ -50,10 +89,23 @@ impl SemaTable {
         let mut token = token;
         let place = Place::Acquiring(call, AcquireRow::A3);
         self.lock(rt, &mut token, call.counter, &place);
-        self.raise(&mut token, &call);
-        if self.look_again(rt, &mut token, &call) {
-            self.lower(&mut token, &call);
-            self.unlock_taken(&mut token, &call);
+        let entered = self.enter_locked(token, numbers, &call);
+        self.rouse_behind(&entered, call.counter);
+        entered
+    }
+
+    /// The rows from A4 on, up to the one that gives the lock back.
+    #[inline]
+    fn enter_locked(&self, token: Token, numbers: Numbers, call: &Acquire) -> Entered
+        requires { (s : Token) × HasLocked self.now s numbers (Acquiring call.now A3) token }
+        ensures { (s : Token) → HasLocked self.now s numbers (Acquiring call.now A3) token
+            → IsEntered (seat_of s numbers) call.now (Acquiring call.now A3) result }
+    {
+        let mut token = token;
+        self.raise(&mut token, call);
+        if self.look_again(&mut token, call) {
+            self.lower(&mut token, call);
+            self.unlock_taken(&mut token, call);
             let numbers = Numbers {
                 taken: numbers.taken + 1,
                 ..numbers
@@ -65,7 +117,7 @@ impl SemaTable {
             seat: numbers.id(),
             turn,
         };
-        self.queue(&mut token, &call, waiters::Wait { id, ticket: 0 });
+        self.queue(&mut token, call, waiters::Wait { id, ticket: 0 });
         let numbers = Numbers {
             turns: turn + 1,
             ..numbers
@@ -73,7 +125,7 @@ impl SemaTable {
         Entered::Asleep(Sleeping {
             token,
             numbers,
-            call,
+            call: *call,
             turn,
         })
     }
@@ -92,7 +144,7 @@ impl SemaTable {
 
     /// A5, and A6 where A5 read more than 0, until one of them settles it: whether a unit was taken. The
     /// second look: a release that came since the first may have found the waiter word at 0 and gone.
-    fn look_again<R: Wait>(&self, rt: &R, token: &mut Token, call: &Acquire) -> bool
+    fn look_again(&self, token: &mut Token, call: &Acquire) -> bool
         requires { Holds self.now token.old (Acquiring call.now A5) }
         ensures record { HasRecord token.new call.now.counter }
         ensures settled { MatchBool result
@@ -100,7 +152,7 @@ impl SemaTable {
             (Take call.now.counter token.old.me.0.own.number ∷ []) 1)
             (Moves token.old (Acquiring call.now A5) token.new (Acquiring call.now A7) × HasRoom token.new call.now.counter) }
     {
-        for _ in rt.forever() {
+        for _ in 0..1_u64 << 50 {
             match self.try_at_lock(token, call) {
                 Tried::Taken => return true,
                 Tried::Zero => return false,
@@ -150,8 +202,7 @@ impl SemaTable {
         ensures { Moves token.old (Acquiring call.now A9) token.new Rest × (token.new.me.1 ≡ []) }
     {
         let word = self.lock_word(call.counter);
-        let sleepers = self.sleepers_word(call.counter);
-        self.words.give_lock(token, word, sleepers);
+        self.words.return_lock(token, word);
     }
 
     /// A7. Queued in the hold of the lock in which 0 was read: a release that saw the waiter word waits for
@@ -169,7 +220,6 @@ impl SemaTable {
     {
         self.insert(token, call, wait);
         let word = self.lock_word(call.counter);
-        let sleepers = self.sleepers_word(call.counter);
-        self.words.give_lock(token, word, sleepers);
+        self.words.return_lock(token, word);
     }
 }

@@ -1,13 +1,15 @@
 //! A release from its root's lock on.
 ghost use Rattle.std.specs.Prelude.{◌≡◌, ◌<◌, true, false, [], ◌∷◌, length, MatchBool, IfSome, IfNone};
+ghost use Rattle.std.specs.Prelude.{MatchResult};
 ghost use Rattle.step_table.specs.declared.entry.Entry.TheVariants.{Leave, Take};
 ghost use Rattle.step_table.specs.declared.place.Place.TheVariants.{Rest, Releasing};
 ghost use Rattle.step_table.specs.declared.place.ReleaseRow.TheVariants.{R3, R4, R5, R6, R7, R9, R10};
-ghost use Rattle.sema_table.specs.Seats.{IsToken, table_of, seat_of};
-ghost use Rattle.sema_table.specs.Calls.{ComesTo};
-ghost use Rattle.sema_table.specs.Waking.{Wakes, IsWakened};
-ghost use Rattle.sema_table.specs.Walks.{Stands, Holds, Walked, Moves, HasRecord, Granted};
-ghost use Rattle.sema_table.specs.Walks.{moved_to, taken_out, sought, trying, unlocked, granting, taken_for};
+ghost use Rattle.sema_table.specs.Seats.{Token, IsToken, table_of, seat_of};
+ghost use Rattle.sema_table.specs.AtLock.{HasLocked, IsGranted};
+ghost use Rattle.sema_table.specs.Waking.{IsWakened, WakesFrom};
+ghost use Rattle.sema_table.specs.Walks.{Stands, Starts, Holds, IsSame, Locked, Walked, Moves, HasRecord, Granted};
+ghost use Rattle.sema_table.specs.Walks.{moved_to, taken_out, sought, trying, unlocked, granting, grant_of};
+ghost use Rattle.sema_table.specs.Walks.{taken_for};
 ghost use Rattle.sema_table.specs.Outcomes.{MatchTried};
 ghost use Rattle.sema_table.specs.CallersReleasing.{WakesFirst};
 
@@ -36,6 +38,61 @@ impl SemaTable {
         self.wake_at_lock(rt, token, numbers, CounterId::new(counter), handoff)
     }
 
+    /// The same where the root's lock is found free within some tries, so it never waits; else the seat comes
+    /// back as it was, and still owes.
+    pub fn try_wake(&self, owing: Owing, handoff: bool) -> Result<(Seat, Wake), Owing>
+        requires { owing.table ≡ self.now }
+        ensures rows { MatchResult result (λ done. IsWakened owing handoff done.0 done.1)
+            (λ refused. refused ≡ owing) }
+        ensures caller { MatchResult result (λ done. WakesFirst owing handoff done.0 done.1)
+            (λ refused. refused ≡ owing) }
+    {
+        let Owing {
+            mut token,
+            numbers,
+            counter,
+        } = owing;
+        let call = Release {
+            counter: CounterId::new(counter),
+            handoff,
+        };
+        if !self.try_lock_released(&mut token, &call) {
+            return Err(Owing {
+                token,
+                numbers,
+                counter,
+            });
+        }
+        Ok(self.wake_locked(token, numbers, &call))
+    }
+
+    /// The same, and no thread is woken that sleeps in the kernel: at a table where none does.
+    pub(crate) fn wake_silently(&self, owing: Owing, handoff: bool) -> Result<(Seat, Wake), Owing>
+        requires { owing.table ≡ self.now }
+        ensures rows { MatchResult result (λ done. IsWakened owing handoff done.0 done.1)
+            (λ refused. refused ≡ owing) }
+        ensures caller { MatchResult result (λ done. WakesFirst owing handoff done.0 done.1)
+            (λ refused. refused ≡ owing) }
+    {
+        let Owing {
+            mut token,
+            numbers,
+            counter,
+        } = owing;
+        let call = Release {
+            counter: CounterId::new(counter),
+            handoff,
+        };
+        if !self.try_lock_released(&mut token, &call) {
+            return Err(Owing {
+                token,
+                numbers,
+                counter,
+            });
+        }
+        Ok(self.wake_locked_silently(token, numbers, &call))
+    }
+
     /// The rows from R3 on.
     #[inline(never)]
     pub(crate) fn wake_at_lock<R: Wait>(
@@ -49,22 +106,67 @@ impl SemaTable {
         requires seat { IsToken token numbers × (table_of token ≡ self.now) }
         requires call { (counter < length self.now.setting.starts)
             × (token.me.0.own.knows.place ≡ Releasing (record { counter = counter; handoff = false }) R3) }
-        ensures { (result.0 ≡ record
-            (seat_of token numbers) { sight = result.0.sight; strides = result.0.strides })
-            × ComesTo (seat_of token numbers) Rest result.0
-            × Wakes (seat_of token numbers) (record { counter = counter; handoff = handoff }) result.0 result.1 }
+        ensures { WakesFrom (seat_of token numbers) (record { counter = counter; handoff = handoff }) result.0
+            result.1 }
     {
         let mut token = token;
         let place = Place::Releasing(Release { counter, handoff }, ReleaseRow::R3);
         self.lock(rt, &mut token, counter, &place);
-        let call = Release { counter, handoff };
-        let first = self.take_first(&mut token, &call);
-        self.unlock_released(&mut token, &call);
+        self.wake_locked(token, numbers, &Release { counter, handoff })
+    }
+
+    /// R3 where the root's lock is found free within some tries, and else nothing.
+    fn try_lock_released(&self, token: &mut Token, call: &Release) -> bool
+        requires { Starts self.now token.old (Releasing call.now R3) }
+        ensures { MatchBool result (Locked token.old (Releasing call.now R3) token.new)
+            (IsSame token.old token.new) }
+    {
+        let place = Place::Releasing(*call, ReleaseRow::R3);
+        self.try_lock(token, call.counter, &place)
+    }
+
+    /// The rows from R4 on.
+    fn wake_locked(&self, token: Token, numbers: Numbers, call: &Release) -> (Seat, Wake)
+        requires { (s : Token) × HasLocked self.now s numbers (Releasing call.now R3) token }
+        ensures { (s : Token) → HasLocked self.now s numbers (Releasing call.now R3) token
+            → WakesFrom (seat_of s numbers) call.now result.0 result.1 }
+    {
+        let mut token = token;
+        let first = self.take_first(&mut token, call);
+        self.unlock_released(&mut token, call);
+        self.rouse_at_lock(&token, call.counter);
         let Some(id) = first else {
             return (Seat { token, numbers }, Wake::Nobody);
         };
-        let handed = self.take_for(rt, &mut token, &call, &id);
-        self.grant(&mut token, &call, &id, handed);
+        let handed = self.take_for(&mut token, call, &id);
+        self.grant(&mut token, call, &id, handed);
+        if handed {
+            self.rouse(&token, id.seat.number(), 2);
+            return (Seat { token, numbers }, Wake::Handed(id));
+        }
+        self.rouse(&token, id.seat.number(), 1);
+        (Seat { token, numbers }, Wake::One(id))
+    }
+
+    /// The same rows, and the kernel isn't called.
+    fn wake_locked_silently(
+        &self,
+        token: Token,
+        numbers: Numbers,
+        call: &Release,
+    ) -> (Seat, Wake)
+        requires { (s : Token) × HasLocked self.now s numbers (Releasing call.now R3) token }
+        ensures { (s : Token) → HasLocked self.now s numbers (Releasing call.now R3) token
+            → WakesFrom (seat_of s numbers) call.now result.0 result.1 }
+    {
+        let mut token = token;
+        let first = self.take_first(&mut token, call);
+        self.unlock_released(&mut token, call);
+        let Some(id) = first else {
+            return (Seat { token, numbers }, Wake::Nobody);
+        };
+        let handed = self.take_for(&mut token, call, &id);
+        self.grant(&mut token, call, &id, handed);
         if handed {
             return (Seat { token, numbers }, Wake::Handed(id));
         }
@@ -132,12 +234,11 @@ impl SemaTable {
             × (token.new.me.1 ≡ []) }
     {
         let word = self.lock_word(call.counter);
-        let sleepers = self.sleepers_word(call.counter);
-        self.words.give_lock(token, word, sleepers);
+        self.words.return_lock(token, word);
     }
 
     /// R7 and R8 of a release with handoff, and else nothing: whether a unit was taken for the wait in hand.
-    fn take_for<R: Wait>(&self, rt: &R, token: &mut Token, call: &Release, id: &WaitId) -> bool
+    fn take_for(&self, token: &mut Token, call: &Release, id: &WaitId) -> bool
         requires { Stands self.now token.old (trying call.now)
             × (token.old.me.0.own.knows.hand ≡ id.now ∷ []) }
         ensures slots { token.new.me.1 ≡ token.old.me.1 }
@@ -149,13 +250,13 @@ impl SemaTable {
         if !call.handoff {
             return false;
         }
-        self.take_unit(rt, token, call, id)
+        self.take_unit(token, call, id)
     }
 
     /// R7, and R8 where R7 read more than 0, until one of them settles it: whether a unit was taken for the
     /// wait in hand. A unit is looked for, not assumed: a seat that never slept may have taken the one that
     /// was added.
-    fn take_unit<R: Wait>(&self, rt: &R, token: &mut Token, call: &Release, id: &WaitId) -> bool
+    fn take_unit(&self, token: &mut Token, call: &Release, id: &WaitId) -> bool
         requires { Stands self.now token.old (Releasing call.now R7)
             × (token.old.me.0.own.knows.hand ≡ id.now ∷ []) }
         ensures slots { token.new.me.1 ≡ token.old.me.1 }
@@ -164,7 +265,7 @@ impl SemaTable {
             (Take call.now.counter id.now.seat ∷ []) 0)
             (Moves token.old (Releasing call.now R7) token.new (Releasing call.now R10)) }
     {
-        for _ in rt.forever() {
+        for _ in 0..1_u64 << 50 {
             match self.try_for(token, call, id) {
                 Tried::Taken => return true,
                 Tried::Zero => return false,
@@ -204,14 +305,14 @@ impl SemaTable {
         requires there { id.now.seat < self.now.setting.seats }
         ensures granted { Granted token.old (granting call.now handed) token.new }
         ensures slots { token.new.me.1 ≡ token.old.me.1 }
+        ensures stored { IsGranted self.now token.new id.now.seat (grant_of handed) }
     {
         let seat = id.seat.number();
         let word = self.grant_word(seat);
-        let asleep = self.asleep_word(seat);
         if handed {
-            self.words.grant(token, word, asleep, 2);
+            self.words.store_grant(token, word, 2);
             return;
         }
-        self.words.grant(token, word, asleep, 1);
+        self.words.store_grant(token, word, 1);
     }
 }

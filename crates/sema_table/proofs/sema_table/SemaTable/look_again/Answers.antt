@@ -7,33 +7,33 @@ use Rattle.sema_table.proofs.Repeating.{then_moved, then_took}
 use Rattle.sema_table.proofs.sema_table.SemaTable.look_again.Goals as goal
 
 pub loop-init : goal.loop-init
-loop-init g c = record { walked = walked_yet c.args.self.now c.args.token.now (Acquiring c.args.call.now A5) refl c.requires.0; kept = c.requires.1 }
+loop-init c = record { walked = walked_yet c.args.self.now c.args.token.now (Acquiring c.args.call.now A5) refl c.requires.0; kept = c.requires.1 }
 
 pub try_at_lock-requires : goal.try_at_lock-requires
-try_at_lock-requires g c = let a = c.args.call.now in let s = c.args.token.now in (
+try_at_lock-requires c = let a = c.args.call.now in let s = c.args.token.now in (
   stands_on c.args.self.now s c.loop.token (Acquiring a A5) (moved_to s (Acquiring a A5)) [] 0 c.requires.0 c.loop.invariant.walked refl refl,
   c.loop.invariant.kept,
 )
 
 pub returns-in-Taken-clause-record : goal.returns-in-Taken-clause-record
-returns-in-Taken-clause-record g c = c.in-Taken.ensures.record
+returns-in-Taken-clause-record c = c.in-Taken.ensures.record
 
 pub returns-in-Taken-clause-settled : goal.returns-in-Taken-clause-settled
-returns-in-Taken-clause-settled g c =
+returns-in-Taken-clause-settled c =
     let a = c.args.call.now in let s = c.args.token.now in
     then_took s c.loop.token c.try_at_lock.new.token (Acquiring a A5) (Acquiring a A8) c.loop.invariant.walked a.counter c.in-Taken.ensures.tried
 
 pub returns-in-Zero-clause-record : goal.returns-in-Zero-clause-record
-returns-in-Zero-clause-record g c = c.in-Zero.ensures.record
+returns-in-Zero-clause-record c = c.in-Zero.ensures.record
 
 pub returns-in-Zero-clause-settled : goal.returns-in-Zero-clause-settled
-returns-in-Zero-clause-settled g c = let a = c.args.call.now in (
+returns-in-Zero-clause-settled c = let a = c.args.call.now in (
   then_moved c.args.token.now c.loop.token c.try_at_lock.new.token (Acquiring a A5) (Acquiring a A7) c.loop.invariant.walked c.in-Zero.ensures.tried.0,
   c.in-Zero.ensures.tried.1,
 )
 
 pub loop-preserved : goal.loop-preserved
-loop-preserved g c = let a = c.args.call.now in record {
+loop-preserved c = let a = c.args.call.now in record {
   walked = then_moved c.args.token.now c.loop.token c.try_at_lock.new.token (Acquiring a A5) (Acquiring a A5) c.loop.invariant.walked c.in-Lost.ensures.tried;
   kept = c.in-Lost.ensures.record;
 }

@@ -5,7 +5,7 @@ use Rattle.sema_table.specs.Walks.{Walked, HasRecord, moved_to}
 use Rattle.sema_table.proofs.sema_table.SemaTable.look_again.Given as goal
 
 abbrev pub invariant-loop : goal.invariant-loop
-invariant-loop g l = record {
+invariant-loop l = record {
   walked : Walked l.initial.token (Acquiring l.fn.call A5) l.token (moved_to l.initial.token (Acquiring l.fn.call A5)) [] 0;
   kept : HasRecord l.token l.fn.call.counter;
 }

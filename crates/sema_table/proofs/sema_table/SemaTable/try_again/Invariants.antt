@@ -5,7 +5,7 @@ use Rattle.sema_table.specs.Walks.{Walked, moved_to}
 use Rattle.sema_table.proofs.sema_table.SemaTable.try_again.Given as goal
 
 abbrev pub invariant-loop : goal.invariant-loop
-invariant-loop g l = record {
+invariant-loop l = record {
   walked : Walked l.initial.token (Acquiring l.fn.call A10) l.token (moved_to l.initial.token (Acquiring l.fn.call A10)) [] 0;
   slots : l.token.me.1 ≡ l.initial.token.me.1;
 }
