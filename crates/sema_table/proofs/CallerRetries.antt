@@ -134,8 +134,9 @@ module _ (m : Layout) (i : ℕ) where
   none_left v w (p ∷ strides) a each path is told at =
       by (tries_on v path.0 p path.1 row none.0 a v.stands.place (ap (λ (z : SeatState). z.place) path.1.stood) is)
     where
+      none : (p.told ≡ []) × (all_told strides ≡ [])
       none = both_nil p.told (all_told strides) told
-
+      row : IsRow p
       row = All-head IsRow p strides each
 
       last : (l : List SemaStride) → All IsRow l → SemaPath m i path.0 l w → all_told l ≡ [] → path.0.stands.place ≡ Acquiring a A3
@@ -185,12 +186,12 @@ module _ (s t : Token) (n : Numbers) (a : Acquire) (seat : IsWoken s n a)
 
 pub tries_once : (s : SeatModel) (answer : Retried) → TriesWoken s answer → TriesOnce s answer
 tries_once s (Taken t) x = retries s (entered.Taken t) x
-tries_once s (Zero t) x = let a = x.1 in let at = ap (λ (z : SeatState). z.place) x.3 in (
+tries_once s (Zero t) x = let y = x.1 in let a = y.0 in let at = ap (λ (z : SeatState). z.place) y.2 in (
   a.counter,
   a.lifo,
-  x.2,
+  y.1,
   (
-    after_call s t (Acquiring a A10) (Acquiring a A3) s.left s.taken x.0 [] x.4 at (λ e. cc) 0 0 (omega arith) (omega arith),
-    x.5,
+    after_call s t (Acquiring a A10) (Acquiring a A3) s.left s.taken x.0 [] y.3 at (λ e. cc) 0 0 (omega arith) (omega arith),
+    y.4,
   ),
 )

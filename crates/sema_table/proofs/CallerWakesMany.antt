@@ -69,6 +69,7 @@ wakes_some s t n x =
 
 -- and the seats of the waits that left
 pub wakes_these : (s t : SeatModel) (seats : List ℕ) → IsWokenSeats s t seats → WakesThese s t seats
+unfolding wakes_some
 wakes_these s t seats x = let w = wakes_some s t (length seats) (x.0, x.1, x.2, x.3, x.4.0) in (w.0, w.1, w.2, (w.3, x.4.1))
 
 -- after units were added

@@ -233,6 +233,7 @@ module _ (s t3 t4 : Token) (n : Numbers) (a : ReleaseMany) (is : IsToken s n)
   -- and the seats of the waits that were in hand
   pub wakes_seats : (seats : List ℕ) → length t3.me.0.own.knows.hand ≡ length seats → seats ≡ map (λ w. w.seat) t3.me.0.own.knows.hand
       → (woken : WakesMany (seat_of s n) a (seat_of t4 n) (length seats)) × (seats ≡ map (λ w. w.seat) woken.waits)
+  unfolding woke
   wakes_seats seats count told =
       subst (λ i. (woken : WakesMany (record (seat_of s n) { number = i }) a (seat_of t4 n) (length seats)) × (seats ≡ map (λ w. w.seat) woken.waits))
       is.number_is (woke (length seats) count, told)

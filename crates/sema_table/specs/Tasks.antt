@@ -47,6 +47,11 @@ because other counter busy limit units Busy = busy
 because other counter busy limit units LimitReached = limit
 because other counter busy limit units Units = units
 
+-- what holds after units were added, by what it came to
+abbrev pub MatchPosted : TaskPosted → Type 0 → Type 0 → Type 0
+MatchPosted Done done owes = done
+MatchPosted Owes done owes = owes
+
 -- there is no such counter
 abbrev pub HasNot : TaskModel → ℕ → Type 0
 HasNot s c = length s.seat.table.setting.starts ≤ c

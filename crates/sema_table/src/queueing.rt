@@ -1,5 +1,5 @@
 //! An acquire from its root's lock on.
-ghost use Rattle.std.specs.Prelude.{◌≡◌, ◌+◌, ◌<◌, [], ◌∷◌, length, MatchBool, MatchResult};
+ghost use Rattle.std.specs.Prelude.{◌≡◌, ◌+◌, ◌<◌, [], ◌∷◌, length, MatchBool};
 ghost use Rattle.step_table.specs.declared.entry.Entry.TheVariants.{Take, Queue};
 ghost use Rattle.step_table.specs.declared.place.Place.TheVariants.{Rest, Acquiring};
 ghost use Rattle.step_table.specs.declared.place.AcquireRow.TheVariants.{A3, A4, A5, A7, A8, A9, P};
@@ -34,44 +34,6 @@ impl SemaTable {
         self.enter_at_lock(rt, token, numbers, Acquire { counter, lifo })
     }
 
-    /// The same where the root's lock is found free within some tries, so it never waits; else the seat comes
-    /// back as it was.
-    pub fn try_enter(&self, seat: Seat, counter: CounterId, lifo: bool) -> Result<Entered, Seat>
-        requires { (seat.table ≡ self.now) × (counter < length self.now.setting.starts) }
-        ensures rows { MatchResult result
-            (λ entered. IsEntered seat (acquire_of counter lifo) (Acquiring (acquire_of counter lifo) A3) entered)
-            (λ refused. refused ≡ seat) }
-        ensures caller { MatchResult result (λ entered. JoinsQueue seat counter lifo entered)
-            (λ refused. refused ≡ seat) }
-    {
-        let entered = self.enter_silently(seat, counter, lifo)?;
-        self.rouse_behind(&entered, counter);
-        Ok(entered)
-    }
-
-    /// The same, and who sleeps at the lock isn't woken: at a table where nobody does.
-    pub(crate) fn enter_silently(
-        &self,
-        seat: Seat,
-        counter: CounterId,
-        lifo: bool,
-    ) -> Result<Entered, Seat>
-        requires { (seat.table ≡ self.now) × (counter < length self.now.setting.starts) }
-        ensures rows { MatchResult result
-            (λ entered. IsEntered seat (acquire_of counter lifo) (Acquiring (acquire_of counter lifo) A3) entered)
-            (λ refused. refused ≡ seat) }
-        ensures caller { MatchResult result (λ entered. JoinsQueue seat counter lifo entered)
-            (λ refused. refused ≡ seat) }
-    {
-        let Seat { mut token, numbers } = seat;
-        let call = Acquire { counter, lifo };
-        let place = Place::Acquiring(call, AcquireRow::A3);
-        if !self.try_lock(&mut token, counter, &place) {
-            return Err(Seat { token, numbers });
-        }
-        Ok(self.enter_locked(token, numbers, &call))
-    }
-
     /// The rows from A3 on.
     #[inline(never)]
     pub(crate) fn enter_at_lock<R: Wait>(
@@ -96,7 +58,7 @@ impl SemaTable {
 
     /// The rows from A4 on, up to the one that gives the lock back.
     #[inline]
-    fn enter_locked(&self, token: Token, numbers: Numbers, call: &Acquire) -> Entered
+    pub(crate) fn enter_locked(&self, token: Token, numbers: Numbers, call: &Acquire) -> Entered
         requires { (s : Token) × HasLocked self.now s numbers (Acquiring call.now A3) token }
         ensures { (s : Token) → HasLocked self.now s numbers (Acquiring call.now A3) token
             → IsEntered (seat_of s numbers) call.now (Acquiring call.now A3) result }

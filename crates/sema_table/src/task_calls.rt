@@ -69,10 +69,19 @@ impl TaskTable {
         requires { seat.seat.table ≡ self.now }
         ensures { PollsByTask seat result.1 result.0 }
     {
-        let Stage::Sleeping(call, turn) = seat.stage else {
+        let TaskSeat {
+            token,
+            numbers,
+            stage,
+        } = seat;
+        let Stage::Sleeping(call, turn) = stage else {
+            let seat = TaskSeat {
+                token,
+                numbers,
+                stage,
+            };
             return (seat, Err(TaskRefused::OtherCall));
         };
-        let TaskSeat { token, numbers, .. } = seat;
         let asleep = Sleeping {
             token,
             numbers,
@@ -91,10 +100,19 @@ impl TaskTable {
         requires { seat.seat.table ≡ self.now }
         ensures { RetriesByTask seat result.1 result.0 }
     {
-        let Stage::Woken(call) = seat.stage else {
+        let TaskSeat {
+            token,
+            numbers,
+            stage,
+        } = seat;
+        let Stage::Woken(call) = stage else {
+            let seat = TaskSeat {
+                token,
+                numbers,
+                stage,
+            };
             return (seat, Err(TaskRefused::OtherCall));
         };
-        let TaskSeat { token, numbers, .. } = seat;
         let woken = Woken {
             token,
             numbers,
@@ -111,10 +129,19 @@ impl TaskTable {
         requires { seat.seat.table ≡ self.now }
         ensures { WakesByTask seat handoff result.1 result.0 }
     {
-        let Stage::Owing(counter) = seat.stage else {
+        let TaskSeat {
+            token,
+            numbers,
+            stage,
+        } = seat;
+        let Stage::Owing(counter) = stage else {
+            let seat = TaskSeat {
+                token,
+                numbers,
+                stage,
+            };
             return (seat, Err(TaskRefused::OtherCall));
         };
-        let TaskSeat { token, numbers, .. } = seat;
         let owing = Owing {
             token,
             numbers,
@@ -131,10 +158,19 @@ impl TaskTable {
         requires { seat.seat.table ≡ self.now }
         ensures { WakesSomeByTask seat result.1 result.0 }
     {
-        let Stage::OwingMany(call) = seat.stage else {
+        let TaskSeat {
+            token,
+            numbers,
+            stage,
+        } = seat;
+        let Stage::OwingMany(call) = stage else {
+            let seat = TaskSeat {
+                token,
+                numbers,
+                stage,
+            };
             return (seat, Err(TaskRefused::OtherCall));
         };
-        let TaskSeat { token, numbers, .. } = seat;
         let owing = OwingMany {
             token,
             numbers,

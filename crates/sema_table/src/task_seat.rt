@@ -1,6 +1,6 @@
 //! A seat of a task, wherever it stands.
 ghost use Rattle.std.specs.Prelude.{◌≡◌};
-ghost use Rattle.sema_table.specs.declared.task_seat.TaskStage.TheVariants.{Resting, Owing, OwingMany, Sleeping, Woken};
+ghost use Rattle.sema_table.specs.declared.task_seat.TaskStage.TheVariants as standing;
 
 use crate::many_seat::OwingMany;
 use crate::rows::Token;
@@ -82,7 +82,7 @@ impl TaskSeat {
     /// A seat between two calls.
     #[inline]
     pub(crate) fn resting(seat: Seat) -> TaskSeat
-        ensures { result ≡ record { seat = seat; stage = Resting } }
+        ensures { result ≡ record { seat = seat; stage = standing.Resting } }
     {
         let Seat { token, numbers } = seat;
         TaskSeat {
@@ -94,7 +94,7 @@ impl TaskSeat {
 
     /// A seat that owes a wake.
     pub(crate) fn owing(seat: Owing) -> TaskSeat
-        ensures { result ≡ record { seat = seat; stage = Owing } }
+        ensures { result ≡ record { seat = seat; stage = standing.Owing } }
     {
         let Owing {
             token,
@@ -110,7 +110,7 @@ impl TaskSeat {
 
     /// A seat that owes wakes.
     pub(crate) fn owing_many(seat: OwingMany) -> TaskSeat
-        ensures { result ≡ record { seat = seat; stage = OwingMany } }
+        ensures { result ≡ record { seat = seat; stage = standing.OwingMany } }
     {
         let OwingMany {
             token,
@@ -126,7 +126,7 @@ impl TaskSeat {
 
     /// A seat whose wait is queued.
     pub(crate) fn sleeping(seat: Sleeping) -> TaskSeat
-        ensures { result ≡ record { seat = seat; stage = Sleeping } }
+        ensures { result ≡ record { seat = seat; stage = standing.Sleeping } }
     {
         let Sleeping {
             token,
@@ -143,7 +143,7 @@ impl TaskSeat {
 
     /// A seat that was woken without a unit.
     pub(crate) fn woken(seat: Woken) -> TaskSeat
-        ensures { result ≡ record { seat = seat; stage = Woken } }
+        ensures { result ≡ record { seat = seat; stage = standing.Woken } }
     {
         let Woken {
             token,

@@ -3,14 +3,16 @@
 //! No thread sleeps in the kernel at it, so none of its calls calls the kernel, and none waits: a task whose
 //! seat sleeps polls again once its seat was named by the answer of a [`TaskTable::wake`] or
 //! [`TaskTable::wake_some`].
-ghost use Rattle.std.specs.Prelude.{◌≡◌, ◌<◌, length, All, IfOk, IfErr, MatchBool, IfSome, IfNone, map, ◌≢◌, ◌≤◌};
+ghost use Rattle.std.specs.Prelude.{◌≡◌, ◌<◌, length, All, Ok, IfOk, IfErr, IfSome, IfNone, map, ◌≢◌, ◌≤◌};
 ghost use Rattle.sema_table.specs.declared.answers.Posted.TheVariants.{Done, Owes};
 ghost use Rattle.sema_table.specs.Seats.{IsSeat, IsOwing, table_of, seat_of};
 ghost use Rattle.sema_table.specs.Tries.{IsValue, IsWaiters, IsTried, IsPosted};
 ghost use Rattle.sema_table.specs.Making.{IsRefused};
 ghost use Rattle.sema_table.specs.declared.task_seat.TaskStage.TheVariants.{Resting};
 ghost use Rattle.sema_table.specs.Tasks.{ReadsByTask, CountsByTask, TriesByTask, PostsByTask, IsMadeForTasks};
-ghost use Rattle.sema_table.specs.Tasks.{Unfit};
+ghost use Rattle.sema_table.specs.Callers.{ReadsNumber, CountsWaits, TriesToAcquire};
+ghost use Rattle.sema_table.specs.CallersReleasing.{PostsUnit};
+ghost use Rattle.sema_table.specs.Tasks.{Unfit, MatchPosted};
 
 use crate::answers::Tried;
 use crate::rows::{AtAdd, AtTry, Token};
@@ -46,7 +48,7 @@ fn resting_seats(alloc: Global, seats: Vec<Seat>) -> Result<Vec<TaskSeat>, Alloc
 {
     let mut made = Vec::with_capacity(alloc, seats.len())?;
     for seat in seats {
-        made.push_reserved(TaskSeat::resting(seat));
+        made.push(TaskSeat::resting(seat))?;
     }
     Ok(made)
 }
@@ -54,10 +56,7 @@ fn resting_seats(alloc: Global, seats: Vec<Seat>) -> Result<Vec<TaskSeat>, Alloc
 impl TaskTable {
     /// A table with these settings, and its seats in the order of their numbers. An error has made nothing:
     /// settings out of their limits, or no memory for what they ask.
-    pub fn new(
-        alloc: Global,
-        settings: Settings,
-    ) -> Result<(TaskTable, Vec<TaskSeat>), SetupError>
+    pub fn new(alloc: Global, settings: Settings) -> Result<(TaskTable, Vec<TaskSeat>), SetupError>
         ensures ok { IfOk result (λ t. IsMadeForTasks settings t.0 t.1.items) }
         ensures own { IfOk result (λ t. All (λ s. s.seat.table ≡ t.0) t.1.items) }
         ensures err { IfErr result (λ refused. IsRefused settings refused) }
@@ -100,20 +99,17 @@ impl TaskTable {
 
     /// As [`SemaTable::try_acquire`].
     #[inline]
-    pub fn try_acquire(
-        &self,
-        seat: &mut TaskSeat,
-        counter: CounterId,
-    ) -> Result<Tried, TaskRefused>
+    pub fn try_acquire(&self, seat: &mut TaskSeat, counter: CounterId) -> Result<Tried, TaskRefused>
         requires { seat.old.seat.table ≡ self.now }
         ensures { TriesByTask seat.old counter result seat.new }
     {
         if let Some(why) = self.refusal(&seat.stage, counter) {
             return Err(why);
         }
-        Ok(self
-            .table
-            .try_in_place(&mut seat.token, &mut seat.numbers, counter))
+        Ok(
+            self.table
+                .try_in_place(&mut seat.token, &mut seat.numbers, counter),
+        )
     }
 
     /// As [`SemaTable::post`].
@@ -128,14 +124,16 @@ impl TaskTable {
         if seat.numbers.left == 0 {
             return Err(TaskRefused::LimitReached);
         }
-        if self
+        match self
             .table
             .post_in_place(&mut seat.token, &mut seat.numbers, counter)
         {
-            return Ok(TaskPosted::Done);
+            TaskPosted::Done => Ok(TaskPosted::Done),
+            TaskPosted::Owes => {
+                seat.stage = Stage::Owing(counter.number());
+                Ok(TaskPosted::Owes)
+            }
         }
-        seat.stage = Stage::Owing(counter.number());
-        Ok(TaskPosted::Owes)
     }
 
     /// As [`SemaTable::value`].
@@ -146,9 +144,10 @@ impl TaskTable {
         if let Some(why) = self.refusal(&seat.stage, counter) {
             return Err(why);
         }
-        Ok(self
-            .table
-            .value_in_place(&mut seat.token, &seat.numbers, counter))
+        Ok(
+            self.table
+                .value_in_place(&mut seat.token, &seat.numbers, counter),
+        )
     }
 
     /// As [`SemaTable::waiters_of_root`].
@@ -163,9 +162,10 @@ impl TaskTable {
         if let Some(why) = self.refusal(&seat.stage, counter) {
             return Err(why);
         }
-        Ok(self
-            .table
-            .waiters_in_place(&mut seat.token, &seat.numbers, counter))
+        Ok(
+            self.table
+                .waiters_in_place(&mut seat.token, &seat.numbers, counter),
+        )
     }
 }
 
@@ -173,16 +173,13 @@ impl TaskTable {
 impl SemaTable {
     /// As `try_acquire`.
     #[inline]
-    fn try_in_place(
-        &self,
-        token: &mut Token,
-        numbers: &mut Numbers,
-        counter: CounterId,
-    ) -> Tried
+    fn try_in_place(&self, token: &mut Token, numbers: &mut Numbers, counter: CounterId) -> Tried
         requires seat { IsSeat token.old numbers.old × (table_of token.old ≡ self.now) }
         requires counter { counter < length self.now.setting.starts }
         ensures seat { IsSeat token.new numbers.new }
         ensures rows { IsTried (seat_of token.old numbers.old) counter result (seat_of token.new numbers.new) }
+        ensures caller { TriesToAcquire (seat_of token.old numbers.old) counter result
+            (seat_of token.new numbers.new) }
     {
         let word = counter_word(counter.number());
         let found = self.words.load::<AtTry>(token, word);
@@ -196,16 +193,25 @@ impl SemaTable {
         Tried::Taken
     }
 
-    /// As `post`: whether there is nobody to wake.
+    /// As `post`.
     #[inline]
-    fn post_in_place(&self, token: &mut Token, numbers: &mut Numbers, counter: CounterId) -> bool
+    fn post_in_place(
+        &self,
+        token: &mut Token,
+        numbers: &mut Numbers,
+        counter: CounterId,
+    ) -> TaskPosted
         requires seat { IsSeat token.old numbers.old × (table_of token.old ≡ self.now) }
         requires counter { counter < length self.now.setting.starts }
         requires some { 0 < numbers.old.left }
-        ensures seat { MatchBool result (IsSeat token.new numbers.new) (IsOwing token.new numbers.new counter) }
-        ensures rows { MatchBool result
+        ensures seat { MatchPosted result (IsSeat token.new numbers.new)
+            (IsOwing token.new numbers.new counter) }
+        ensures rows { MatchPosted result
             (IsPosted (seat_of token.old numbers.old) counter (Done (seat_of token.new numbers.new)))
             (IsPosted (seat_of token.old numbers.old) counter (Owes (seat_of token.new numbers.new))) }
+        ensures caller { MatchPosted result
+            (PostsUnit (seat_of token.old numbers.old) counter (Ok (Done (seat_of token.new numbers.new))))
+            (PostsUnit (seat_of token.old numbers.old) counter (Ok (Owes (seat_of token.new numbers.new)))) }
     {
         // Added before the look: a look that came first could read 0 while an acquire is about to read 0 and
         // sleep.
@@ -213,7 +219,10 @@ impl SemaTable {
             .add::<AtAdd>(token, counter_word(counter.number()), 1);
         numbers.left -= 1;
         let word = self.waiter_word(counter);
-        self.words.load::<Here>(token, word) == 0
+        if self.words.load::<Here>(token, word) == 0 {
+            return TaskPosted::Done;
+        }
+        TaskPosted::Owes
     }
 
     /// As `value`.
@@ -222,6 +231,8 @@ impl SemaTable {
         requires counter { counter < length self.now.setting.starts }
         ensures seat { IsSeat token.new numbers.now }
         ensures rows { IsValue (seat_of token.old numbers.now) counter result (seat_of token.new numbers.now) }
+        ensures caller { ReadsNumber (seat_of token.old numbers.now) counter result
+            (seat_of token.new numbers.now) }
     {
         let word = counter_word(counter.number());
         self.words.look(token, word)
@@ -233,6 +244,8 @@ impl SemaTable {
         requires counter { counter < length self.now.setting.starts }
         ensures seat { IsSeat token.new numbers.now }
         ensures rows { IsWaiters (seat_of token.old numbers.now) counter result (seat_of token.new numbers.now) }
+        ensures caller { CountsWaits (seat_of token.old numbers.now) counter result
+            (seat_of token.new numbers.now) }
     {
         let word = self.waiter_word(counter);
         self.words.look(token, word)

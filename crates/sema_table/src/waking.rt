@@ -1,6 +1,5 @@
 //! A release from its root's lock on.
 ghost use Rattle.std.specs.Prelude.{◌≡◌, ◌<◌, true, false, [], ◌∷◌, length, MatchBool, IfSome, IfNone};
-ghost use Rattle.std.specs.Prelude.{MatchResult};
 ghost use Rattle.step_table.specs.declared.entry.Entry.TheVariants.{Leave, Take};
 ghost use Rattle.step_table.specs.declared.place.Place.TheVariants.{Rest, Releasing};
 ghost use Rattle.step_table.specs.declared.place.ReleaseRow.TheVariants.{R3, R4, R5, R6, R7, R9, R10};
@@ -38,61 +37,6 @@ impl SemaTable {
         self.wake_at_lock(rt, token, numbers, CounterId::new(counter), handoff)
     }
 
-    /// The same where the root's lock is found free within some tries, so it never waits; else the seat comes
-    /// back as it was, and still owes.
-    pub fn try_wake(&self, owing: Owing, handoff: bool) -> Result<(Seat, Wake), Owing>
-        requires { owing.table ≡ self.now }
-        ensures rows { MatchResult result (λ done. IsWakened owing handoff done.0 done.1)
-            (λ refused. refused ≡ owing) }
-        ensures caller { MatchResult result (λ done. WakesFirst owing handoff done.0 done.1)
-            (λ refused. refused ≡ owing) }
-    {
-        let Owing {
-            mut token,
-            numbers,
-            counter,
-        } = owing;
-        let call = Release {
-            counter: CounterId::new(counter),
-            handoff,
-        };
-        if !self.try_lock_released(&mut token, &call) {
-            return Err(Owing {
-                token,
-                numbers,
-                counter,
-            });
-        }
-        Ok(self.wake_locked(token, numbers, &call))
-    }
-
-    /// The same, and no thread is woken that sleeps in the kernel: at a table where none does.
-    pub(crate) fn wake_silently(&self, owing: Owing, handoff: bool) -> Result<(Seat, Wake), Owing>
-        requires { owing.table ≡ self.now }
-        ensures rows { MatchResult result (λ done. IsWakened owing handoff done.0 done.1)
-            (λ refused. refused ≡ owing) }
-        ensures caller { MatchResult result (λ done. WakesFirst owing handoff done.0 done.1)
-            (λ refused. refused ≡ owing) }
-    {
-        let Owing {
-            mut token,
-            numbers,
-            counter,
-        } = owing;
-        let call = Release {
-            counter: CounterId::new(counter),
-            handoff,
-        };
-        if !self.try_lock_released(&mut token, &call) {
-            return Err(Owing {
-                token,
-                numbers,
-                counter,
-            });
-        }
-        Ok(self.wake_locked_silently(token, numbers, &call))
-    }
-
     /// The rows from R3 on.
     #[inline(never)]
     pub(crate) fn wake_at_lock<R: Wait>(
@@ -116,7 +60,7 @@ impl SemaTable {
     }
 
     /// R3 where the root's lock is found free within some tries, and else nothing.
-    fn try_lock_released(&self, token: &mut Token, call: &Release) -> bool
+    pub(crate) fn try_lock_released(&self, token: &mut Token, call: &Release) -> bool
         requires { Starts self.now token.old (Releasing call.now R3) }
         ensures { MatchBool result (Locked token.old (Releasing call.now R3) token.new)
             (IsSame token.old token.new) }
@@ -126,7 +70,7 @@ impl SemaTable {
     }
 
     /// The rows from R4 on.
-    fn wake_locked(&self, token: Token, numbers: Numbers, call: &Release) -> (Seat, Wake)
+    pub(crate) fn wake_locked(&self, token: Token, numbers: Numbers, call: &Release) -> (Seat, Wake)
         requires { (s : Token) × HasLocked self.now s numbers (Releasing call.now R3) token }
         ensures { (s : Token) → HasLocked self.now s numbers (Releasing call.now R3) token
             → WakesFrom (seat_of s numbers) call.now result.0 result.1 }
@@ -148,33 +92,8 @@ impl SemaTable {
         (Seat { token, numbers }, Wake::One(id))
     }
 
-    /// The same rows, and the kernel isn't called.
-    fn wake_locked_silently(
-        &self,
-        token: Token,
-        numbers: Numbers,
-        call: &Release,
-    ) -> (Seat, Wake)
-        requires { (s : Token) × HasLocked self.now s numbers (Releasing call.now R3) token }
-        ensures { (s : Token) → HasLocked self.now s numbers (Releasing call.now R3) token
-            → WakesFrom (seat_of s numbers) call.now result.0 result.1 }
-    {
-        let mut token = token;
-        let first = self.take_first(&mut token, call);
-        self.unlock_released(&mut token, call);
-        let Some(id) = first else {
-            return (Seat { token, numbers }, Wake::Nobody);
-        };
-        let handed = self.take_for(&mut token, call, &id);
-        self.grant(&mut token, call, &id, handed);
-        if handed {
-            return (Seat { token, numbers }, Wake::Handed(id));
-        }
-        (Seat { token, numbers }, Wake::One(id))
-    }
-
     /// R4, and R5 where the counter has a wait.
-    fn take_first(&self, token: &mut Token, call: &Release) -> Option<WaitId>
+    pub(crate) fn take_first(&self, token: &mut Token, call: &Release) -> Option<WaitId>
         requires seat { Stands self.now token.old (Releasing call.now R4)
             × HasRecord token.old call.now.counter
             × (token.old.me.0.own.knows.hand ≡ []) }
@@ -228,7 +147,7 @@ impl SemaTable {
     }
 
     /// R6. Given back before the waiter is told: told earlier, it would run into the lock that is still held.
-    fn unlock_released(&self, token: &mut Token, call: &Release)
+    pub(crate) fn unlock_released(&self, token: &mut Token, call: &Release)
         requires { Holds self.now token.old (Releasing call.now R6) }
         ensures { Moves token.old (Releasing call.now R6) token.new (unlocked token.old call.now)
             × (token.new.me.1 ≡ []) }
@@ -238,7 +157,7 @@ impl SemaTable {
     }
 
     /// R7 and R8 of a release with handoff, and else nothing: whether a unit was taken for the wait in hand.
-    fn take_for(&self, token: &mut Token, call: &Release, id: &WaitId) -> bool
+    pub(crate) fn take_for(&self, token: &mut Token, call: &Release, id: &WaitId) -> bool
         requires { Stands self.now token.old (trying call.now)
             × (token.old.me.0.own.knows.hand ≡ id.now ∷ []) }
         ensures slots { token.new.me.1 ≡ token.old.me.1 }
@@ -299,7 +218,7 @@ impl SemaTable {
     }
 
     /// R9 where a unit was taken for the wait in hand, and else R10: its seat is granted.
-    fn grant(&self, token: &mut Token, call: &Release, id: &WaitId, handed: bool)
+    pub(crate) fn grant(&self, token: &mut Token, call: &Release, id: &WaitId, handed: bool)
         requires seat { Stands self.now token.old (granting call.now handed)
             × (token.old.me.0.own.knows.hand ≡ id.now ∷ []) }
         requires there { id.now.seat < self.now.setting.seats }

@@ -1,6 +1,6 @@
 //! A release of many units from its root's lock on.
 ghost use Rattle.std.specs.Prelude.{◌≡◌, ◌+◌, ◌^◌, ◌<◌, ◌≤◌, [], ◌∷◌, ◌++◌, length, map, All, MatchBool};
-ghost use Rattle.std.specs.Prelude.{IfSome, IfNone, MatchResult};
+ghost use Rattle.std.specs.Prelude.{IfSome, IfNone};
 ghost use Rattle.step_table.specs.declared.entry.Entry.TheVariants.{Leave};
 ghost use Rattle.step_table.specs.declared.place.Place.TheVariants.{Rest, ReleasingMany};
 ghost use Rattle.step_table.specs.declared.place.ManyRow.TheVariants.{M3, M4, M5, M6, M7};
@@ -8,11 +8,11 @@ ghost use Rattle.step_table.specs.Event.{waiter};
 ghost use Rattle.sema_table.specs.Seats.{Token, IsToken, table_of, seat_of};
 ghost use Rattle.sema_table.specs.AtLock.{HasLocked, IsGranted};
 ghost use Rattle.sema_table.specs.ManySeats.{HasUnits};
-ghost use Rattle.sema_table.specs.Many.{leaves, IsWokenMany, WakesCount, WakesSeats, IsWokenSeats};
+ghost use Rattle.sema_table.specs.Many.{leaves, IsWokenMany, WakesCount, WakesSeats};
 ghost use Rattle.sema_table.specs.Walks.{Stands, Starts, Holds, IsSame, Locked, Walked, Moves, HasRecord};
 ghost use Rattle.sema_table.specs.ManyWalks.{sought_many, picking, to_grant, with_hand, MayGrant};
 ghost use Rattle.sema_table.specs.ManyWalks.{GrantedFirst, GrantedSome};
-ghost use Rattle.sema_table.specs.CallersReleasing.{WakesSome, WakesThese};
+ghost use Rattle.sema_table.specs.CallersReleasing.{WakesSome};
 
 use crate::many_seat::OwingMany;
 use crate::rows::Token;
@@ -44,60 +44,6 @@ impl SemaTable {
         self.wake_some_at_lock(rt, token, numbers, &call)
     }
 
-    /// The same where the root's lock is found free within some tries, so it never waits; it answers the
-    /// seats whose waits it granted. Else the seat comes back as it was, and still owes.
-    pub fn try_wake_some(&self, owing: OwingMany) -> Result<(Seat, WokenSeats), OwingMany>
-        requires { owing.table ≡ self.now }
-        ensures rows { MatchResult result (λ done. IsWokenSeats owing done.0 done.1.items)
-            (λ refused. refused ≡ owing) }
-        ensures caller { MatchResult result (λ done. WakesThese owing done.0 done.1.items)
-            (λ refused. refused ≡ owing) }
-    {
-        let OwingMany {
-            mut token,
-            numbers,
-            call,
-        } = owing;
-        if !self.try_lock_many(&mut token, &call) {
-            return Err(OwingMany {
-                token,
-                numbers,
-                call,
-            });
-        }
-        let mut hand = WokenSeats::new();
-        let seat = self.wake_some_locked(token, numbers, &call, &mut hand);
-        Ok((seat, hand))
-    }
-
-    /// The same, and no thread is woken that sleeps in the kernel: at a table where none does.
-    pub(crate) fn wake_some_silently(
-        &self,
-        owing: OwingMany,
-    ) -> Result<(Seat, WokenSeats), OwingMany>
-        requires { owing.table ≡ self.now }
-        ensures rows { MatchResult result (λ done. IsWokenSeats owing done.0 done.1.items)
-            (λ refused. refused ≡ owing) }
-        ensures caller { MatchResult result (λ done. WakesThese owing done.0 done.1.items)
-            (λ refused. refused ≡ owing) }
-    {
-        let OwingMany {
-            mut token,
-            numbers,
-            call,
-        } = owing;
-        if !self.try_lock_many(&mut token, &call) {
-            return Err(OwingMany {
-                token,
-                numbers,
-                call,
-            });
-        }
-        let mut hand = WokenSeats::new();
-        let seat = self.wake_some_locked_silently(token, numbers, &call, &mut hand);
-        Ok((seat, hand))
-    }
-
     /// The rows from M3 on.
     #[inline(never)]
     fn wake_some_at_lock<R: Wait>(
@@ -123,7 +69,7 @@ impl SemaTable {
     }
 
     /// M3 where the root's lock is found free within some tries, and else nothing.
-    fn try_lock_many(&self, token: &mut Token, call: &ReleaseMany) -> bool
+    pub(crate) fn try_lock_many(&self, token: &mut Token, call: &ReleaseMany) -> bool
         requires { Starts self.now token.old (ReleasingMany call.now M3) }
         ensures { MatchBool result (Locked token.old (ReleasingMany call.now M3) token.new)
             (IsSame token.old token.new) }
@@ -133,7 +79,7 @@ impl SemaTable {
     }
 
     /// The rows from M4 on.
-    fn wake_some_locked(
+    pub(crate) fn wake_some_locked(
         &self,
         token: Token,
         numbers: Numbers,
@@ -153,28 +99,8 @@ impl SemaTable {
         Seat { token, numbers }
     }
 
-    /// The same rows, and the kernel isn't called.
-    fn wake_some_locked_silently(
-        &self,
-        token: Token,
-        numbers: Numbers,
-        call: &ReleaseMany,
-        hand: &mut WokenSeats,
-    ) -> Seat
-        requires seat { (s : Token) × HasLocked self.now s numbers (ReleasingMany call.now M3) token }
-        requires hand { (hand.old.items ≡ []) × HasUnits call.now }
-        ensures { (s : Token) → HasLocked self.now s numbers (ReleasingMany call.now M3) token
-            → WakesSeats (seat_of s numbers) call.now result hand.new.items }
-    {
-        let mut token = token;
-        self.take_waits(&mut token, call, hand);
-        self.unlock_many(&mut token, call);
-        self.grant_all_silently(&mut token, call, hand.as_slice());
-        Seat { token, numbers }
-    }
-
     /// M4, and M5 while fewer waits than units are in hand and the counter has one more.
-    fn take_waits(&self, token: &mut Token, call: &ReleaseMany, hand: &mut WokenSeats)
+    pub(crate) fn take_waits(&self, token: &mut Token, call: &ReleaseMany, hand: &mut WokenSeats)
         requires seat { Holds self.now token.old (ReleasingMany call.now M4)
             × (token.old.me.0.own.knows.hand ≡ []) }
         requires hand { (hand.old.items ≡ []) × HasUnits call.now }
@@ -230,7 +156,7 @@ impl SemaTable {
 
     /// M6. Given back before the first waiter is told: told earlier, it would run into the lock that is still
     /// held.
-    fn unlock_many(&self, token: &mut Token, call: &ReleaseMany)
+    pub(crate) fn unlock_many(&self, token: &mut Token, call: &ReleaseMany)
         requires { Holds self.now token.old (ReleasingMany call.now M6) }
         ensures walked { Moves token.old (ReleasingMany call.now M6) token.new
             (to_grant call.now token.old.me.0.own.knows.hand) }
@@ -256,22 +182,8 @@ impl SemaTable {
         }
     }
 
-    /// The same rows, and the kernel isn't called.
-    fn grant_all_silently(&self, token: &mut Token, call: &ReleaseMany, seats: &[u16])
-        requires seat { MayGrant self.now token.old call.now }
-        requires seats { seats.now ≡ map (λ w. w.seat) token.old.me.0.own.knows.hand }
-        requires there { All (λ w. w.seat < self.now.setting.seats) token.old.me.0.own.knows.hand }
-        ensures { GrantedSome token.old
-            (to_grant call.now token.old.me.0.own.knows.hand) call.now token.old.me.0.own.knows.hand token.new
-            (with_hand token.old Rest []) }
-    {
-        for seat in seats {
-            self.grant_one(token, call, *seat);
-        }
-    }
-
     /// M7: the seat of the first wait in hand is granted.
-    fn grant_one(&self, token: &mut Token, call: &ReleaseMany, seat: u16)
+    pub(crate) fn grant_one(&self, token: &mut Token, call: &ReleaseMany, seat: u16)
         requires seat { Stands self.now token.old (ReleasingMany call.now M7)
             × (waiter token.old.me.0.own.number token.old.me.0.own.knows.hand ≡ seat) }
         requires there { seat < self.now.setting.seats }

@@ -18,7 +18,7 @@ store_grant-requires c =
     (λ (y : TableModel). waiter s.me.0.own.number s.me.0.own.knows.hand < y.setting.seats) (sym r.table_is) (let h = c.requires.there in omega arith) in
     let word : address s.me.0.own.knows.setting (Grant (waiter s.me.0.own.number s.me.0.own.knows.hand)) ≡ c.grant_word-word.result
     = (λ i. address (r.table_is i).setting (Grant (first i))) ∙ sym c.grant_word-word.ensures.at in
-    let words = ap (λ (t : TableModel). t.id.words) c.self.view_is in let low = c.grant_word-word.ensures.low in  (
+    let words = ap (λ (t : TableModel). t.id.words) c.self.view_is in let low = c.grant_word-word.ensures.low in (
       omega arith,
       (
         (ap (λ (t : TableModel). t.id) at, someones c.self.inside c.self.invariant s at),
