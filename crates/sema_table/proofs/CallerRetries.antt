@@ -133,6 +133,7 @@ module _ (m : Layout) (i : ℕ) where
   none_left v w [] a each path is told at = absurd (subst (Tries a) (sym (ap (λ (x : SemaSight). x.stands.place) path) ∙ at) is)
   none_left v w (p ∷ strides) a each path is told at =
       by (tries_on v path.0 p path.1 row none.0 a v.stands.place (ap (λ (z : SeatState). z.place) path.1.stood) is)
+      (λ next. none_left path.0 w strides a (All-tail IsRow p strides each) path.2 next none.1 at)
     where
       none : (p.told ≡ []) × (all_told strides ≡ [])
       none = both_nil p.told (all_told strides) told
@@ -149,9 +150,9 @@ module _ (m : Layout) (i : ℕ) where
           (stays_under path.0 rest.0 q rest.1 (All-head IsRow q l rows) both.0 (Acquiring a A3)
           (ap (λ (z : SeatState). z.place) rest.1.stood ∙ here) tt) both.1 a at)
 
-      by : Tried v path.0 p path.1 row none.0 a → NoUnit m a.counter w.seen
-      by (inl (here, zero_is)) = last strides (All-tail IsRow p strides each) path.2 none.1 here zero_is
-      by (inr next) = none_left path.0 w strides a (All-tail IsRow p strides each) path.2 next none.1 at
+      by : Tried v path.0 p path.1 row none.0 a → (Tries a path.0.stands.place → NoUnit m a.counter w.seen) → NoUnit m a.counter w.seen
+      by (inl (here, zero_is)) later = last strides (All-tail IsRow p strides each) path.2 none.1 here zero_is
+      by (inr next) later = later next
 
 -- there was none
 module _ (s t : Token) (n : Numbers) (a : Acquire) (seat : IsWoken s n a)
