@@ -20,9 +20,9 @@ use Rattle.sema_table.specs.Setting.{layout}
 use Rattle.sema_table.specs.Seats.{SeatModel}
 use Rattle.sema_table.specs.Strides.{IsRow}
 use Rattle.sema_table.specs.Calls.{RunsRows}
-use Rattle.sema_table.specs.Many.{release_of, leaves, IsWokenMany, IsReleasedMany}
+use Rattle.sema_table.specs.Many.{release_of, leaves, IsWokenMany, IsWokenSeats, IsReleasedMany}
 use Rattle.sema_table.specs.Callers.{IsSeatAfter}
-use Rattle.sema_table.specs.CallersReleasing.{SeesWaiting, HasWokenSome, WakesSome, ReleasesUnits}
+use Rattle.sema_table.specs.CallersReleasing.{SeesWaiting, HasWokenSome, WakesSome, WakesThese, ReleasesUnits}
 use Rattle.sema_table.proofs.After.{after_call}
 use Rattle.sema_table.proofs.Finding.{fits}
 use Rattle.sema_table.proofs.Sighting.{seat_then, until_then, goes_on}
@@ -66,6 +66,11 @@ wakes_some s t n x =
     hand_bare m i v w (p ∷ strides) r each path ends =
         let fit : HandFits p.stood.place (length p.stood.hand) = fits m i (placed (ReleasingMany r M3) v) path.0 p path.1 in
         ap (λ (z : SeatState). length z.hand) (sym path.1.stood) ∙ subst (λ (z : SeatState). HandFits z.place (length p.stood.hand)) path.1.stood fit
+
+-- and the seats of the waits that left
+pub wakes_these : (s t : SeatModel) (seats : List ℕ) → IsWokenSeats s t seats → WakesThese s t seats
+unfolding wakes_some
+wakes_these s t seats x = let w = wakes_some s t (length seats) (x.0, x.1, x.2, x.3, x.4.0) in (w.0, w.1, w.2, (w.3, x.4.1))
 
 -- after units were added
 woken_some_after : (s u t : SeatModel) (a c units n : ℕ) (told : List Entry) → IsSeatAfter s a 0 told u

@@ -37,6 +37,7 @@ pub mod Gathering
 pub mod LookingTogether
 pub mod Lawful
 mod After
+mod Trial
 mod Tellers
 mod Finding
 mod Sighting
@@ -45,6 +46,7 @@ mod CallerPosts
 mod CallerWakes
 mod CallerPolls
 mod CallerEnters
+mod CallerRetries
 mod CallerAcquires
 mod CallerLooksMany
 mod CallerWakesMany

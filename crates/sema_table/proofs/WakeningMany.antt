@@ -210,8 +210,8 @@ module _ (s t3 t4 : Token) (n : Numbers) (a : ReleaseMany) (is : IsToken s n)
   pub at_rest : ComesTo (seat_of s n) Rest (seat_of t4 n)
   at_rest = whole.stands_is ∙ (λ i. record { place = Rest; turn = turn_is i; hand = sym is.empty i })
 
-  pub wakes_many : (k : ℕ) → length t3.me.0.own.knows.hand ≡ k → WakesMany (seat_of s n) a (seat_of t4 n) k
-  wakes_many k count = subst (λ i. WakesMany (record (seat_of s n) { number = i }) a (seat_of t4 n) k) is.number_is (record {
+  woke : (k : ℕ) → length t3.me.0.own.knows.hand ≡ k → WakesMany (record (seat_of s n) { number = s.me.0.own.number }) a (seat_of t4 n) k
+  woke k count = record {
     waits = t3.me.0.own.knows.hand;
     count = count;
     call = record {
@@ -228,4 +228,12 @@ module _ (s t3 t4 : Token) (n : Numbers) (a : ReleaseMany) (is : IsToken s n)
     strides_are = refl;
     granted = subst (λ (q : TableModel × ℕ). GrantsEach (layout q.0.setting) q.1 a t3.me.0.own.knows.hand y.walked.strides)
         (λ i. (x.table_is i, x.number_is i)) y.granted;
-  })
+  }
+
+  -- and the seats of the waits that were in hand
+  pub wakes_seats : (seats : List ℕ) → length t3.me.0.own.knows.hand ≡ length seats → seats ≡ map (λ w. w.seat) t3.me.0.own.knows.hand
+      → (woken : WakesMany (seat_of s n) a (seat_of t4 n) (length seats)) × (seats ≡ map (λ w. w.seat) woken.waits)
+  unfolding woke
+  wakes_seats seats count told =
+      subst (λ i. (woken : WakesMany (record (seat_of s n) { number = i }) a (seat_of t4 n) (length seats)) × (seats ≡ map (λ w. w.seat) woken.waits))
+      is.number_is (woke (length seats) count, told)

@@ -13,6 +13,8 @@ use Rattle.sema_table.specs.declared.answers.Tried.{Tried}
 use Rattle.sema_table.specs.declared.answers.Tried.TheVariants.{Taken, Zero, Lost}
 use Rattle.sema_table.specs.declared.answers.Entered.{Entered}
 use Rattle.sema_table.specs.declared.answers.Entered.TheVariants as entered
+use Rattle.sema_table.specs.declared.answers.Retried.{Retried}
+use Rattle.sema_table.specs.declared.answers.Retried.TheVariants as retried
 use Rattle.sema_table.specs.declared.answers.Polled.{Polled}
 use Rattle.sema_table.specs.declared.answers.Polled.TheVariants.{Still, Woken, Handed}
 use Rattle.sema_table.specs.declared.answers.Roused.{Roused}
@@ -88,6 +90,11 @@ JoinsQueue s c lifo (entered.Asleep t) =
 -- the seat that was woken tried first, for a unit of the same counter
 abbrev pub TriesAgain : SeatModel → Entered → Type 0
 TriesAgain s entered = (c : ℕ) × (lifo : Bool) × IsWaitingOn s c lifo None × JoinsQueue s c lifo entered
+
+-- the seat that was woken took a unit of the same counter; or there is none after all that is seen now
+abbrev pub TriesOnce : SeatModel → Retried → Type 0
+TriesOnce s (retried.Taken t) = TriesAgain s (entered.Taken t)
+TriesOnce s (retried.Zero t) = (c : ℕ) × (lifo : Bool) × IsWaitingOn s c lifo None × FindsNoUnit s c t
 
 -- the seat sleeps on as before; or it was woken, its wait has left, and it has to try; or it was handed a
 -- unit, which was taken for it after its wait had left

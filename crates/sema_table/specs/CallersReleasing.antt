@@ -78,6 +78,12 @@ pub record HasWokenSome (s : SeatModel) (added : ℕ) (told : List Entry) (c uni
 abbrev pub WakesSome : SeatModel → SeatModel → ℕ → Type 0
 WakesSome s t n = (c : ℕ) × (units : ℕ) × HasToWakeSome s c units × HasWokenSome s 0 [] c units t n
 
+-- the same, and these are the seats of the waits that it let out, in the order in which they left
+abbrev pub WakesThese : SeatModel → SeatModel → List ℕ → Type 0
+WakesThese s t seats =
+    (c : ℕ) × (units : ℕ) × HasToWakeSome s c units
+    × ((woken : HasWokenSome s 0 [] c units t (length seats)) × (seats ≡ map (λ w. w.seat) woken.waits))
+
 -- all units were added at once, and the rest as of one; or the seat may not add so many, and is as it was
 abbrev pub PostsUnits : SeatModel → ℕ → ℕ → Result PostedMany (SeatModel × PostRefused) → Type 0
 PostsUnits s c units (Ok (many.Done t)) =

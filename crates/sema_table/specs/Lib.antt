@@ -11,6 +11,7 @@ pub mod Walks
 pub mod Calls
 pub mod Tries
 pub mod Outcomes
+pub mod AtLock
 pub mod Waking
 pub mod Whole
 pub mod ManySeats
@@ -23,4 +24,6 @@ pub mod Callers
 pub mod CallersReleasing
 pub mod CallersEnding
 pub mod Making
+pub mod TaskSeats
+pub mod Tasks
 pub mod Table

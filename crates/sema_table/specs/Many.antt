@@ -65,13 +65,30 @@ pub record WakesMany (s : SeatModel) (r : ReleaseMany) (t : SeatModel) (n : ℕ)
   pub strides_are : call.strides ≡ before ++ grants
   pub granted : GrantsEach (layout s.table.setting) s.number r waits grants
 
--- the rows of a release of many units from the lock on, by which the seat has come to rest. It took a wait
+-- the rows of this release of many units from the lock on, by which the seat has come to rest. It took a wait
 -- out while one was listed and fewer than its units were in hand: so the rows say
+abbrev pub WakesCount : SeatModel → ReleaseMany → SeatModel → ℕ → Type 0
+WakesCount s r t n =
+    (t ≡ record s { sight = t.sight; strides = t.strides }) × ComesTo s Rest t × WakesMany s r t n
+
+-- the same of the release that the seat is in the middle of
 abbrev pub IsWokenMany : SeatModel → SeatModel → ℕ → Type 0
 IsWokenMany s t n =
     (r : ReleaseMany) × IsAt s (ReleasingMany r M3)
     × (t ≡ record s { sight = t.sight; strides = t.strides }) × ComesTo s Rest t
     × WakesMany s r t n
+
+-- and these are the seats of the waits that were taken out, in the order in which they left
+abbrev pub WakesSeats : SeatModel → ReleaseMany → SeatModel → List ℕ → Type 0
+WakesSeats s r t seats =
+    (t ≡ record s { sight = t.sight; strides = t.strides }) × ComesTo s Rest t
+    × ((woken : WakesMany s r t (length seats)) × (seats ≡ map (λ w. w.seat) woken.waits))
+
+abbrev pub IsWokenSeats : SeatModel → SeatModel → List ℕ → Type 0
+IsWokenSeats s t seats =
+    (r : ReleaseMany) × IsAt s (ReleasingMany r M3)
+    × (t ≡ record s { sight = t.sight; strides = t.strides }) × ComesTo s Rest t
+    × ((woken : WakesMany s r t (length seats)) × (seats ≡ map (λ w. w.seat) woken.waits))
 
 -- all units were added, and nobody waited at the root; or somebody did, and the release went on to wake
 abbrev pub IsReleasedMany : SeatModel → ReleaseMany → SeatModel → ℕ → Type 0

@@ -6,7 +6,7 @@ use Rattle.step_table.specs.declared.entry.Entry.{Entry}
 use Rattle.step_table.specs.declared.entry.Entry.TheVariants.{Take, Queue, Leave}
 use Rattle.step_table.specs.declared.place.Acquire.{Acquire}
 use Rattle.step_table.specs.declared.place.Release.{Release}
-use Rattle.step_table.specs.declared.place.AcquireRow.TheVariants.{A10, P}
+use Rattle.step_table.specs.declared.place.AcquireRow.TheVariants.{A3, A10, P}
 use Rattle.step_table.specs.declared.place.ReleaseRow.TheVariants.{R3, R9, R10}
 use Rattle.step_table.specs.declared.place.Place.{Place}
 use Rattle.step_table.specs.declared.place.Place.TheVariants.{Rest, Acquiring, Releasing}
@@ -20,11 +20,13 @@ use Rattle.sema_table.specs.declared.answers.Entered.{Entered}
 use Rattle.sema_table.specs.declared.answers.Entered.TheVariants.{Taken, Asleep}
 use Rattle.sema_table.specs.declared.answers.Wake.{Wake}
 use Rattle.sema_table.specs.declared.answers.Wake.TheVariants as woken
+use Rattle.sema_table.specs.declared.answers.Retried.{Retried}
+use Rattle.sema_table.specs.declared.answers.Retried.TheVariants as retried
 use Rattle.sema_table.specs.declared.answers.Polled.{Polled}
 use Rattle.sema_table.specs.declared.answers.Polled.TheVariants.{Still, Woken, Handed}
 use Rattle.sema_table.specs.Seats.{SeatModel}
 use Rattle.sema_table.specs.Strides.{IsRow}
-use Rattle.sema_table.specs.Calls.{Calls, RunsRows, IsAt, ComesTo}
+use Rattle.sema_table.specs.Calls.{Calls, RunsRows, plain_seen, IsAt, ComesTo}
 use Rattle.sema_table.specs.Tries.{LooksAt}
 
 abbrev pub acquire_of : ℕ → Bool → Acquire
@@ -100,6 +102,15 @@ IsPolled s (Handed t) =
 abbrev pub IsRetried : SeatModel → Entered → Type 0
 IsRetried s entered = (a : Acquire) × IsAt s (Acquiring a A10) × IsEntered s a (Acquiring a A10) entered
 
+-- up to the lock: a unit was taken, as of a retry; or there was none after all that is seen now, and the seat
+-- may go to the lock
+abbrev pub TriesWoken : SeatModel → Retried → Type 0
+TriesWoken s (retried.Taken t) = IsRetried s (Taken t)
+TriesWoken s (retried.Zero t) =
+    (t ≡ record s { sight = t.sight; strides = t.strides })
+    × ((a : Acquire) × IsAt s (Acquiring a A10) × ComesTo s (Acquiring a A3) t
+    × RunsRows s (Acquiring a A10) t [] × ((plain_seen t).numbers a.counter ≡ 0))
+
 -- a call whose last row stood here, with this wait in hand, and stored n in the grant word of the wait's seat
 pub record CallsGrant (s : SeatModel) (from : Place) (t : SeatModel) (told : List Entry) (place : Place)
     (w : WaitId) (n : ℕ)
@@ -125,7 +136,11 @@ Wakes s r t (woken.Handed w) =
     × CallsGrant s (Releasing r R3) t (Leave r.counter w s.number ∷ Take r.counter w.seat ∷ [])
     (Releasing r R9) w 2
 
--- the rows of a release from the lock on, by which the seat has come to rest
+-- the rows of this release from the lock on, by which the seat has come to rest
+abbrev pub WakesFrom : SeatModel → Release → SeatModel → Wake → Type 0
+WakesFrom s r t wake = (t ≡ record s { sight = t.sight; strides = t.strides }) × ComesTo s Rest t × Wakes s r t wake
+
+-- the same of the release that the seat is in the middle of
 abbrev pub IsWakened : SeatModel → Bool → SeatModel → Wake → Type 0
 IsWakened s handoff t wake =
     (c : ℕ) × IsAt s (Releasing (record { counter = c; handoff = false }) R3)

@@ -40,6 +40,14 @@ pub enum Entered {
     Asleep(Sleeping),
 }
 
+/// What the try of a seat came to that was woken without a unit.
+pub enum Retried {
+    /// A unit was taken.
+    Taken(Seat),
+    /// There was none. The seat may begin a call: to go on it enters, with the same counter and lifo.
+    Zero(Seat),
+}
+
 /// What a look at a grant came to.
 pub enum Polled {
     /// Nothing was granted.

@@ -8,7 +8,10 @@
 //! [`SemaTable::sleep`] waits for that, and [`SemaTable::retry`] tries once it was. [`SemaTable::post`] adds
 //! a unit, and [`SemaTable::wake`] takes the first wait out and grants it. [`SemaTable::release_many`] does
 //! the same for many units, and for as many waits; its parts are [`SemaTable::post_many`] and
-//! [`SemaTable::wake_some`]. [`SemaTable::spin`] looks for a unit for a while, as a lock does before it
+//! [`SemaTable::wake_some`]. A caller that must not wait, as a scheduler, has [`SemaTable::try_enter`],
+//! [`SemaTable::retry_at_once`], [`SemaTable::try_wake`] and [`SemaTable::try_wake_some`], which give the seat
+//! back as it was where a lock stays held. A [`TaskTable`] is for tasks whose threads somebody else parks: none
+//! of its calls waits or calls the kernel, and its seats are of one type wherever they stand. [`SemaTable::spin`] looks for a unit for a while, as a lock does before it
 //! acquires; it takes none, and nothing is promised of it. By [`SemaTable::meet`] two seats come to have seen
 //! one journal. Each atomic step is one row of the step table, in every schedule, and the contract of a call
 //! has a path of such rows and the entries of the journal that they told (`rows`), and says what the call is
@@ -26,6 +29,7 @@
 
 mod acquires;
 mod answers;
+mod attempts;
 mod closed;
 mod closing;
 mod laws;
@@ -45,15 +49,20 @@ mod seat;
 mod sema_table;
 mod settings;
 mod setup_error;
+mod silent;
 mod sleeps;
 mod spins;
 mod stride;
+mod task_answers;
+mod task_calls;
+mod task_seat;
+mod tasks;
 mod tries;
 mod view;
 mod waking;
 mod waking_many;
 
-pub use answers::{Entered, Polled, PostRefused, Posted, Roused, Tried, Wake};
+pub use answers::{Entered, Polled, PostRefused, Posted, Retried, Roused, Tried, Wake};
 pub use closed::Closed;
 pub use laws::law_of_the_table;
 pub use many_seat::{OwingMany, PostedMany};
@@ -61,4 +70,8 @@ pub use seat::{Owing, Seat, Sleeping, Woken};
 pub use sema_table::SemaTable;
 pub use settings::Settings;
 pub use setup_error::SetupError;
+pub use task_answers::{TaskEntered, TaskPolled, TaskPosted, TaskRefused, TaskRetried};
+pub use task_seat::{TaskSeat, TaskStage};
+pub use tasks::TaskTable;
 pub use waiters::CounterId;
+pub use waking_many::WokenSeats;

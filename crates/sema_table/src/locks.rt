@@ -1,8 +1,10 @@
-//! Taking a root's lock.
-ghost use Rattle.std.specs.Prelude.{◌≡◌};
+//! Taking a root's lock, and the calls of the kernel that wake who sleeps.
+ghost use Rattle.std.specs.Prelude.{◌≡◌, ◌<◌, MatchBool};
 ghost use Rattle.step_table.specs.Counting.{counter_at};
-ghost use Rattle.sema_table.specs.Walks.{Starts, Locked};
+ghost use Rattle.sema_table.specs.Walks.{Starts, IsSame, Locked};
+ghost use Rattle.sema_table.specs.AtLock.{IsGranted};
 
+use crate::answers::Entered;
 use crate::rows::{AtSaid, Token};
 use crate::sema_table::SemaTable;
 use crate::view::Record;
@@ -21,5 +23,42 @@ impl SemaTable {
         let begins = Record::Begins(*place);
         self.words
             .take_lock_for::<AtSaid, R>(rt, token, word, sleepers, &begins);
+    }
+
+    /// The same where the lock is found free within some tries, and else nothing: whether it was taken.
+    pub(crate) fn try_lock(&self, token: &mut Token, counter: CounterId, place: &Place) -> bool
+        requires { Starts self.now token.old place.now × (counter_at place.now ≡ counter) }
+        ensures { MatchBool result (Locked token.old place.now token.new) (IsSame token.old token.new) }
+    {
+        let word = self.lock_word(counter);
+        let begins = Record::Begins(*place);
+        self.words.try_lock_for::<AtSaid>(token, word, &begins)
+    }
+
+    /// Wakes one thread that sleeps at the lock of a counter's root, where one does. After the lock was given
+    /// back: woken earlier, the thread would find it held.
+    pub(crate) fn rouse_at_lock(&self, token: &Token, counter: CounterId) {
+        let word = self.lock_word(counter);
+        let sleepers = self.sleepers_word(counter);
+        self.words.rouse_at_lock(token, word, sleepers);
+    }
+
+    /// The same after an acquire from the lock on.
+    pub(crate) fn rouse_behind(&self, entered: &Entered, counter: CounterId) {
+        match entered {
+            Entered::Taken(seat) => self.rouse_at_lock(&seat.token, counter),
+            Entered::Asleep(sleeping) => self.rouse_at_lock(&sleeping.token, counter),
+        }
+    }
+
+    /// Wakes the thread of a seat that was just granted, where it has gone to sleep. After the grant was
+    /// stored: woken earlier, the thread would find nothing, and might sleep on.
+    pub(crate) fn rouse(&self, token: &Token, seat: u16, units: u64)
+        requires there { seat < self.now.setting.seats }
+        requires stored { IsGranted self.now token.now seat units }
+    {
+        let word = self.grant_word(seat);
+        let asleep = self.asleep_word(seat);
+        self.words.rouse(token, word, asleep, units);
     }
 }

@@ -5,10 +5,10 @@ ghost use Rattle.step_table.specs.declared.place.Place.TheVariants.{Rest, Acquir
 ghost use Rattle.step_table.specs.declared.place.AcquireRow.TheVariants.{A3, A10};
 ghost use Rattle.sema_table.specs.Walks.{Stands, Walked, Moves, Changed, moved_to};
 ghost use Rattle.sema_table.specs.Outcomes.{MatchTried};
-ghost use Rattle.sema_table.specs.Waking.{IsPolled, IsRetried};
-ghost use Rattle.sema_table.specs.Callers.{PollsGrant, TriesAgain};
+ghost use Rattle.sema_table.specs.Waking.{IsPolled, IsRetried, TriesWoken};
+ghost use Rattle.sema_table.specs.Callers.{PollsGrant, TriesAgain, TriesOnce};
 
-use crate::answers::{Entered, Polled, Tried};
+use crate::answers::{Entered, Polled, Retried, Tried};
 use crate::rows::Token;
 use crate::seat::{Numbers, Seat, Sleeping, Woken};
 use crate::sema_table::{MOST_TRIES, SemaTable, counter_word};
@@ -76,6 +76,27 @@ impl SemaTable {
             return Entered::Taken(Seat { token, numbers });
         }
         self.enter_at_lock(rt, token, numbers, call)
+    }
+
+    /// The same up to the lock, to which it doesn't go: so it never waits.
+    pub fn retry_at_once(&self, woken: Woken) -> Retried
+        requires { woken.table ≡ self.now }
+        ensures rows { TriesWoken woken result }
+        ensures caller { TriesOnce woken result }
+    {
+        let Woken {
+            mut token,
+            numbers,
+            call,
+        } = woken;
+        if self.try_again(&mut token, &call) {
+            let numbers = Numbers {
+                taken: numbers.taken + 1,
+                ..numbers
+            };
+            return Retried::Taken(Seat { token, numbers });
+        }
+        Retried::Zero(Seat { token, numbers })
     }
 
     /// A10, and A11 where A10 read more than 0, until one of them settles it: whether a unit was taken. It

@@ -4,7 +4,8 @@ ghost use Rattle.step_table.specs.declared.entry.Entry.TheVariants.{Take, Queue}
 ghost use Rattle.step_table.specs.declared.place.Place.TheVariants.{Rest, Acquiring};
 ghost use Rattle.step_table.specs.declared.place.AcquireRow.TheVariants.{A3, A4, A5, A7, A8, A9, P};
 ghost use Rattle.sema_table.specs.Places.{Begins};
-ghost use Rattle.sema_table.specs.Seats.{IsToken, table_of, seat_of};
+ghost use Rattle.sema_table.specs.Seats.{Token, IsToken, table_of, seat_of};
+ghost use Rattle.sema_table.specs.AtLock.{HasLocked};
 ghost use Rattle.sema_table.specs.Waking.{acquire_of, IsEntered};
 ghost use Rattle.sema_table.specs.Walks.{Stands, Holds, Walked, Moves, HasRecord, HasRoom, IsLast, moved_to};
 ghost use Rattle.sema_table.specs.Walks.{parked, Changed};
@@ -51,10 +52,23 @@ impl SemaTable {
         let mut token = token;
         let place = Place::Acquiring(call, AcquireRow::A3);
         self.lock(rt, &mut token, call.counter, &place);
-        self.raise(&mut token, &call);
-        if self.look_again(&mut token, &call) {
-            self.lower(&mut token, &call);
-            self.unlock_taken(&mut token, &call);
+        let entered = self.enter_locked(token, numbers, &call);
+        self.rouse_behind(&entered, call.counter);
+        entered
+    }
+
+    /// The rows from A4 on, up to the one that gives the lock back.
+    #[inline]
+    pub(crate) fn enter_locked(&self, token: Token, numbers: Numbers, call: &Acquire) -> Entered
+        requires { (s : Token) × HasLocked self.now s numbers (Acquiring call.now A3) token }
+        ensures { (s : Token) → HasLocked self.now s numbers (Acquiring call.now A3) token
+            → IsEntered (seat_of s numbers) call.now (Acquiring call.now A3) result }
+    {
+        let mut token = token;
+        self.raise(&mut token, call);
+        if self.look_again(&mut token, call) {
+            self.lower(&mut token, call);
+            self.unlock_taken(&mut token, call);
             let numbers = Numbers {
                 taken: numbers.taken + 1,
                 ..numbers
@@ -66,7 +80,7 @@ impl SemaTable {
             seat: numbers.id(),
             turn,
         };
-        self.queue(&mut token, &call, waiters::Wait { id, ticket: 0 });
+        self.queue(&mut token, call, waiters::Wait { id, ticket: 0 });
         let numbers = Numbers {
             turns: turn + 1,
             ..numbers
@@ -74,7 +88,7 @@ impl SemaTable {
         Entered::Asleep(Sleeping {
             token,
             numbers,
-            call,
+            call: *call,
             turn,
         })
     }
@@ -153,8 +167,7 @@ impl SemaTable {
         ensures { Moves token.old (Acquiring call.now A9) token.new Rest × (token.new.me.1 ≡ []) }
     {
         let word = self.lock_word(call.counter);
-        let sleepers = self.sleepers_word(call.counter);
-        self.words.give_lock(token, word, sleepers);
+        self.words.return_lock(token, word);
     }
 
     /// A7. Queued in the hold of the lock in which 0 was read: a release that saw the waiter word waits for
@@ -172,7 +185,6 @@ impl SemaTable {
     {
         self.insert(token, call, wait);
         let word = self.lock_word(call.counter);
-        let sleepers = self.sleepers_word(call.counter);
-        self.words.give_lock(token, word, sleepers);
+        self.words.return_lock(token, word);
     }
 }

@@ -3,11 +3,12 @@ ghost use Rattle.std.specs.Prelude.{◌≡◌, ◌<◌, true, false, [], ◌∷�
 ghost use Rattle.step_table.specs.declared.entry.Entry.TheVariants.{Leave, Take};
 ghost use Rattle.step_table.specs.declared.place.Place.TheVariants.{Rest, Releasing};
 ghost use Rattle.step_table.specs.declared.place.ReleaseRow.TheVariants.{R3, R4, R5, R6, R7, R9, R10};
-ghost use Rattle.sema_table.specs.Seats.{IsToken, table_of, seat_of};
-ghost use Rattle.sema_table.specs.Calls.{ComesTo};
-ghost use Rattle.sema_table.specs.Waking.{Wakes, IsWakened};
-ghost use Rattle.sema_table.specs.Walks.{Stands, Holds, Walked, Moves, Changed, HasRecord, Granted};
-ghost use Rattle.sema_table.specs.Walks.{moved_to, taken_out, sought, trying, unlocked, granting, taken_for};
+ghost use Rattle.sema_table.specs.Seats.{Token, IsToken, table_of, seat_of};
+ghost use Rattle.sema_table.specs.AtLock.{HasLocked, IsGranted};
+ghost use Rattle.sema_table.specs.Waking.{IsWakened, WakesFrom};
+ghost use Rattle.sema_table.specs.Walks.{Stands, Starts, Holds, IsSame, Locked, Walked, Moves, Changed, HasRecord, Granted};
+ghost use Rattle.sema_table.specs.Walks.{moved_to, taken_out, sought, trying, unlocked, granting, grant_of};
+ghost use Rattle.sema_table.specs.Walks.{taken_for};
 ghost use Rattle.sema_table.specs.Outcomes.{MatchTried};
 ghost use Rattle.sema_table.specs.CallersReleasing.{WakesFirst};
 
@@ -50,30 +51,50 @@ impl SemaTable {
         requires seat { IsToken token numbers × (table_of token ≡ self.now) }
         requires call { (counter < length self.now.setting.starts)
             × (token.me.0.own.knows.place ≡ Releasing (record { counter = counter; handoff = false }) R3) }
-        ensures { (result.0 ≡ record
-            (seat_of token numbers) { sight = result.0.sight; strides = result.0.strides })
-            × ComesTo (seat_of token numbers) Rest result.0
-            × Wakes (seat_of token numbers) (record { counter = counter; handoff = handoff }) result.0 result.1 }
+        ensures { WakesFrom (seat_of token numbers) (record { counter = counter; handoff = handoff }) result.0
+            result.1 }
     {
         let mut token = token;
         let place = Place::Releasing(Release { counter, handoff }, ReleaseRow::R3);
         self.lock(rt, &mut token, counter, &place);
-        let call = Release { counter, handoff };
-        let first = self.take_first(&mut token, &call);
-        self.unlock_released(&mut token, &call);
+        self.wake_locked(token, numbers, &Release { counter, handoff })
+    }
+
+    /// R3 where the root's lock is found free within some tries, and else nothing.
+    pub(crate) fn try_lock_released(&self, token: &mut Token, call: &Release) -> bool
+        requires { Starts self.now token.old (Releasing call.now R3) }
+        ensures { MatchBool result (Locked token.old (Releasing call.now R3) token.new)
+            (IsSame token.old token.new) }
+    {
+        let place = Place::Releasing(*call, ReleaseRow::R3);
+        self.try_lock(token, call.counter, &place)
+    }
+
+    /// The rows from R4 on.
+    pub(crate) fn wake_locked(&self, token: Token, numbers: Numbers, call: &Release) -> (Seat, Wake)
+        requires { (s : Token) × HasLocked self.now s numbers (Releasing call.now R3) token }
+        ensures { (s : Token) → HasLocked self.now s numbers (Releasing call.now R3) token
+            → WakesFrom (seat_of s numbers) call.now result.0 result.1 }
+    {
+        let mut token = token;
+        let first = self.take_first(&mut token, call);
+        self.unlock_released(&mut token, call);
+        self.rouse_at_lock(&token, call.counter);
         let Some(id) = first else {
             return (Seat { token, numbers }, Wake::Nobody);
         };
-        let handed = self.take_for(&mut token, &call, &id);
-        self.grant(&mut token, &call, &id, handed);
+        let handed = self.take_for(&mut token, call, &id);
+        self.grant(&mut token, call, &id, handed);
         if handed {
+            self.rouse(&token, id.seat.number(), 2);
             return (Seat { token, numbers }, Wake::Handed(id));
         }
+        self.rouse(&token, id.seat.number(), 1);
         (Seat { token, numbers }, Wake::One(id))
     }
 
     /// R4, and R5 where the counter has a wait.
-    fn take_first(&self, token: &mut Token, call: &Release) -> Option<WaitId>
+    pub(crate) fn take_first(&self, token: &mut Token, call: &Release) -> Option<WaitId>
         requires seat { Stands self.now token.old (Releasing call.now R4)
             × HasRecord token.old call.now.counter
             × (token.old.me.0.own.knows.hand ≡ []) }
@@ -127,18 +148,17 @@ impl SemaTable {
     }
 
     /// R6. Given back before the waiter is told: told earlier, it would run into the lock that is still held.
-    fn unlock_released(&self, token: &mut Token, call: &Release)
+    pub(crate) fn unlock_released(&self, token: &mut Token, call: &Release)
         requires { Holds self.now token.old (Releasing call.now R6) }
         ensures { Moves token.old (Releasing call.now R6) token.new (unlocked token.old call.now)
             × (token.new.me.1 ≡ []) }
     {
         let word = self.lock_word(call.counter);
-        let sleepers = self.sleepers_word(call.counter);
-        self.words.give_lock(token, word, sleepers);
+        self.words.return_lock(token, word);
     }
 
     /// R7 and R8 of a release with handoff, and else nothing: whether a unit was taken for the wait in hand.
-    fn take_for(&self, token: &mut Token, call: &Release, id: &WaitId) -> bool
+    pub(crate) fn take_for(&self, token: &mut Token, call: &Release, id: &WaitId) -> bool
         requires { Stands self.now token.old (trying call.now)
             × (token.old.me.0.own.knows.hand ≡ id.now ∷ []) }
         ensures slots { token.new.me.1 ≡ token.old.me.1 }
@@ -200,20 +220,20 @@ impl SemaTable {
     }
 
     /// R9 where a unit was taken for the wait in hand, and else R10: its seat is granted.
-    fn grant(&self, token: &mut Token, call: &Release, id: &WaitId, handed: bool)
+    pub(crate) fn grant(&self, token: &mut Token, call: &Release, id: &WaitId, handed: bool)
         requires seat { Stands self.now token.old (granting call.now handed)
             × (token.old.me.0.own.knows.hand ≡ id.now ∷ []) }
         requires there { id.now.seat < self.now.setting.seats }
         ensures granted { Granted token.old (granting call.now handed) token.new }
         ensures slots { token.new.me.1 ≡ token.old.me.1 }
+        ensures stored { IsGranted self.now token.new id.now.seat (grant_of handed) }
     {
         let seat = id.seat.number();
         let word = self.grant_word(seat);
-        let asleep = self.asleep_word(seat);
         if handed {
-            self.words.grant(token, word, asleep, 2);
+            self.words.store_grant(token, word, 2);
             return;
         }
-        self.words.grant(token, word, asleep, 1);
+        self.words.store_grant(token, word, 1);
     }
 }

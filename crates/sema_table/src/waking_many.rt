@@ -5,11 +5,11 @@ ghost use Rattle.step_table.specs.declared.entry.Entry.TheVariants.{Leave};
 ghost use Rattle.step_table.specs.declared.place.Place.TheVariants.{Rest, ReleasingMany};
 ghost use Rattle.step_table.specs.declared.place.ManyRow.TheVariants.{M3, M4, M5, M6, M7};
 ghost use Rattle.step_table.specs.Event.{waiter};
-ghost use Rattle.sema_table.specs.Seats.{IsToken, table_of, seat_of};
+ghost use Rattle.sema_table.specs.Seats.{Token, IsToken, table_of, seat_of};
+ghost use Rattle.sema_table.specs.AtLock.{HasLocked, IsGranted};
 ghost use Rattle.sema_table.specs.ManySeats.{HasUnits};
-ghost use Rattle.sema_table.specs.Calls.{ComesTo};
-ghost use Rattle.sema_table.specs.Many.{leaves, WakesMany, IsWokenMany};
-ghost use Rattle.sema_table.specs.Walks.{Stands, Holds, Walked, Moves, HasRecord};
+ghost use Rattle.sema_table.specs.Many.{leaves, IsWokenMany, WakesCount, WakesSeats};
+ghost use Rattle.sema_table.specs.Walks.{Stands, Starts, Holds, IsSame, Locked, Walked, Moves, HasRecord};
 ghost use Rattle.sema_table.specs.ManyWalks.{sought_many, picking, to_grant, with_hand, MayGrant};
 ghost use Rattle.sema_table.specs.ManyWalks.{GrantedFirst, GrantedSome};
 ghost use Rattle.sema_table.specs.CallersReleasing.{WakesSome};
@@ -24,9 +24,9 @@ use std::sync::Wait;
 use step_table::{ManyRow, Place, ReleaseMany};
 use waiters::WaitId;
 
-/// The seats of the waits that a release of many units has taken out. On the stack: after the table is made
-/// no memory is taken.
-type Hand = ArrayVec<u16, 256>;
+/// The seats of the waits that a release of many units has taken out, in the order in which they left. On
+/// the stack: after the table is made no memory is taken.
+pub type WokenSeats = ArrayVec<u16, 256>;
 
 impl SemaTable {
     /// The rest of a release of many units: takes out the counter's first waits, as many as units were added
@@ -57,24 +57,50 @@ impl SemaTable {
         requires call { (call.now.counter < length self.now.setting.starts)
             × (token.me.0.own.knows.place ≡ ReleasingMany call.now M3) }
         requires units { HasUnits call.now }
-        ensures { (result.0 ≡ record
-            (seat_of token numbers) { sight = result.0.sight; strides = result.0.strides })
-            × ComesTo (seat_of token numbers) Rest result.0
-            × WakesMany (seat_of token numbers) call.now result.0 result.1 }
+        ensures { WakesCount (seat_of token numbers) call.now result.0 result.1 }
     {
         let mut token = token;
         let place = Place::ReleasingMany(*call, ManyRow::M3);
         self.lock(rt, &mut token, call.counter, &place);
-        let mut hand = Hand::new();
-        self.take_waits(&mut token, call, &mut hand);
-        self.unlock_many(&mut token, call);
-        self.grant_all(&mut token, call, hand.as_slice());
+        let mut hand = WokenSeats::new();
+        let seat = self.wake_some_locked(token, numbers, call, &mut hand);
         let woken = hand.len() as u32;
-        (Seat { token, numbers }, woken)
+        (seat, woken)
+    }
+
+    /// M3 where the root's lock is found free within some tries, and else nothing.
+    pub(crate) fn try_lock_many(&self, token: &mut Token, call: &ReleaseMany) -> bool
+        requires { Starts self.now token.old (ReleasingMany call.now M3) }
+        ensures { MatchBool result (Locked token.old (ReleasingMany call.now M3) token.new)
+            (IsSame token.old token.new) }
+    {
+        let place = Place::ReleasingMany(*call, ManyRow::M3);
+        self.try_lock(token, call.counter, &place)
+    }
+
+    /// The rows from M4 on.
+    pub(crate) fn wake_some_locked(
+        &self,
+        token: Token,
+        numbers: Numbers,
+        call: &ReleaseMany,
+        hand: &mut WokenSeats,
+    ) -> Seat
+        requires seat { (s : Token) × HasLocked self.now s numbers (ReleasingMany call.now M3) token }
+        requires hand { (hand.old.items ≡ []) × HasUnits call.now }
+        ensures { (s : Token) → HasLocked self.now s numbers (ReleasingMany call.now M3) token
+            → WakesSeats (seat_of s numbers) call.now result hand.new.items }
+    {
+        let mut token = token;
+        self.take_waits(&mut token, call, hand);
+        self.unlock_many(&mut token, call);
+        self.rouse_at_lock(&token, call.counter);
+        self.grant_all(&mut token, call, hand.as_slice());
+        Seat { token, numbers }
     }
 
     /// M4, and M5 while fewer waits than units are in hand and the counter has one more.
-    fn take_waits(&self, token: &mut Token, call: &ReleaseMany, hand: &mut Hand)
+    pub(crate) fn take_waits(&self, token: &mut Token, call: &ReleaseMany, hand: &mut WokenSeats)
         requires seat { Holds self.now token.old (ReleasingMany call.now M4)
             × (token.old.me.0.own.knows.hand ≡ []) }
         requires hand { (hand.old.items ≡ []) × HasUnits call.now }
@@ -130,7 +156,7 @@ impl SemaTable {
 
     /// M6. Given back before the first waiter is told: told earlier, it would run into the lock that is still
     /// held.
-    fn unlock_many(&self, token: &mut Token, call: &ReleaseMany)
+    pub(crate) fn unlock_many(&self, token: &mut Token, call: &ReleaseMany)
         requires { Holds self.now token.old (ReleasingMany call.now M6) }
         ensures walked { Moves token.old (ReleasingMany call.now M6) token.new
             (to_grant call.now token.old.me.0.own.knows.hand) }
@@ -138,11 +164,10 @@ impl SemaTable {
         ensures there { All (λ w. w.seat < self.now.setting.seats) token.new.me.0.own.knows.hand }
     {
         let word = self.lock_word(call.counter);
-        let sleepers = self.sleepers_word(call.counter);
-        self.words.give_lock(token, word, sleepers);
+        self.words.return_lock(token, word);
     }
 
-    /// M7 for each wait in hand, of which these are the seats.
+    /// M7 for each wait in hand, of which these are the seats, and each seat's thread is woken where it sleeps.
     fn grant_all(&self, token: &mut Token, call: &ReleaseMany, seats: &[u16])
         requires seat { MayGrant self.now token.old call.now }
         requires seats { seats.now ≡ map (λ w. w.seat) token.old.me.0.own.knows.hand }
@@ -153,18 +178,19 @@ impl SemaTable {
     {
         for seat in seats {
             self.grant_one(token, call, *seat);
+            self.rouse(token, *seat, 1);
         }
     }
 
-    /// M7: the seat of the first wait in hand is granted, and its thread woken where that sleeps.
-    fn grant_one(&self, token: &mut Token, call: &ReleaseMany, seat: u16)
+    /// M7: the seat of the first wait in hand is granted.
+    pub(crate) fn grant_one(&self, token: &mut Token, call: &ReleaseMany, seat: u16)
         requires seat { Stands self.now token.old (ReleasingMany call.now M7)
             × (waiter token.old.me.0.own.number token.old.me.0.own.knows.hand ≡ seat) }
         requires there { seat < self.now.setting.seats }
-        ensures { GrantedFirst token.old call.now token.new }
+        ensures granted { GrantedFirst token.old call.now token.new }
+        ensures stored { IsGranted self.now token.new seat 1 }
     {
         let word = self.grant_word(seat);
-        let asleep = self.asleep_word(seat);
-        self.words.grant(token, word, asleep, 1);
+        self.words.store_grant(token, word, 1);
     }
 }

@@ -1,0 +1,9 @@
+use Rattle.std.proofs.Common.{rules}
+use Rattle.sema_table.proofs.CallerWakes.{wakes}
+use Rattle.sema_table.proofs.sema_table.SemaTable.wake_silently.Goals as goal
+
+pub returns-clause-rows : goal.returns-clause-rows
+returns-clause-rows c = search rules
+
+pub returns-clause-caller : goal.returns-clause-caller
+returns-clause-caller c = wakes c.args.owing c.wake_locked_silently.result.0 c.args.handoff c.wake_locked_silently.result.1 (returns-clause-rows c)

@@ -1,0 +1,22 @@
+use Rattle.std.proofs.Common.{◌≡◌, List, [], ◌∷◌, map, sym, ap, ◌∙◌, refl, arith}
+use Rattle.std.proofs.lemmas.Iterator.Adapters.{YieldsList-from_vec}
+use Rattle.std.proofs.lemmas.Iterator.Consumers.{YieldsList-end}
+use Rattle.sema_table.specs.declared.task_seat.TaskStage.TheVariants.{Resting}
+use Rattle.sema_table.specs.Seats.{SeatModel}
+use Rattle.sema_table.specs.TaskSeats.{TaskModel}
+use Rattle.sema_table.proofs.tasks.resting_seats.Goals as goal
+
+-- each seat as a task's
+abbrev as_task : SeatModel → TaskModel
+as_task s = record { seat = s; stage = Resting }
+
+same_seats : (l : List SeatModel) → map (λ s. s) l ≡ l
+same_seats [] = refl
+same_seats (s ∷ l) = ap (λ k. s ∷ k) (same_seats l)
+
+pub returns : goal.returns
+returns c =
+    let gives = c.into_iter-seat-iterator.ensures.into_iter_gives in let count = c.args.seats.ok.0 in
+    let t = YieldsList-end (YieldsList-from_vec c.args.seats.items gives.0 (omega (arith, gives.1, count))) c.loop-seat.yielded _ c.loop-seat.yielded_by _ _
+    c.in-None.is c.next.ensures.steps in
+    c.loop-seat.invariant ∙ ap (map as_task) (sym (same_seats c.loop-seat.yielded) ∙ t.0)

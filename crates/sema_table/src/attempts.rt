@@ -1,0 +1,86 @@
+//! The calls of a caller that has other work: each tries for the root's lock a few times, and where that stays
+//! held does nothing. None waits.
+ghost use Rattle.std.specs.Prelude.{◌≡◌, ◌<◌, length, MatchResult};
+ghost use Rattle.step_table.specs.declared.place.Place.TheVariants.{Acquiring};
+ghost use Rattle.step_table.specs.declared.place.AcquireRow.TheVariants.{A3};
+ghost use Rattle.sema_table.specs.Waking.{acquire_of, IsEntered, IsWakened};
+ghost use Rattle.sema_table.specs.Many.{IsWokenSeats};
+ghost use Rattle.sema_table.specs.Callers.{JoinsQueue};
+ghost use Rattle.sema_table.specs.CallersReleasing.{WakesFirst, WakesThese};
+
+use crate::answers::{Entered, Wake};
+use crate::many_seat::OwingMany;
+use crate::seat::{Owing, Seat};
+use crate::sema_table::SemaTable;
+use crate::waking_many::WokenSeats;
+use step_table::Release;
+use waiters::CounterId;
+
+impl SemaTable {
+    /// As `enter`; where the root's lock stayed held the seat comes back as it was.
+    pub fn try_enter(&self, seat: Seat, counter: CounterId, lifo: bool) -> Result<Entered, Seat>
+        requires { (seat.table ≡ self.now) × (counter < length self.now.setting.starts) }
+        ensures rows { MatchResult result
+            (λ entered. IsEntered seat (acquire_of counter lifo) (Acquiring (acquire_of counter lifo) A3) entered)
+            (λ refused. refused ≡ seat) }
+        ensures caller { MatchResult result (λ entered. JoinsQueue seat counter lifo entered)
+            (λ refused. refused ≡ seat) }
+    {
+        let entered = self.enter_silently(seat, counter, lifo)?;
+        self.rouse_behind(&entered, counter);
+        Ok(entered)
+    }
+
+    /// As `wake`; where the root's lock stayed held the seat comes back as it was, and still owes.
+    pub fn try_wake(&self, owing: Owing, handoff: bool) -> Result<(Seat, Wake), Owing>
+        requires { owing.table ≡ self.now }
+        ensures rows { MatchResult result (λ done. IsWakened owing handoff done.0 done.1)
+            (λ refused. refused ≡ owing) }
+        ensures caller { MatchResult result (λ done. WakesFirst owing handoff done.0 done.1)
+            (λ refused. refused ≡ owing) }
+    {
+        let Owing {
+            mut token,
+            numbers,
+            counter,
+        } = owing;
+        let call = Release {
+            counter: CounterId::new(counter),
+            handoff,
+        };
+        if !self.try_lock_released(&mut token, &call) {
+            return Err(Owing {
+                token,
+                numbers,
+                counter,
+            });
+        }
+        Ok(self.wake_locked(token, numbers, &call))
+    }
+
+    /// As `wake_some`, and answers the seats that it woke; where the root's lock stayed held the seat comes
+    /// back as it was, and still owes.
+    pub fn try_wake_some(&self, owing: OwingMany) -> Result<(Seat, WokenSeats), OwingMany>
+        requires { owing.table ≡ self.now }
+        ensures rows { MatchResult result (λ done. IsWokenSeats owing done.0 done.1.items)
+            (λ refused. refused ≡ owing) }
+        ensures caller { MatchResult result (λ done. WakesThese owing done.0 done.1.items)
+            (λ refused. refused ≡ owing) }
+    {
+        let OwingMany {
+            mut token,
+            numbers,
+            call,
+        } = owing;
+        if !self.try_lock_many(&mut token, &call) {
+            return Err(OwingMany {
+                token,
+                numbers,
+                call,
+            });
+        }
+        let mut hand = WokenSeats::new();
+        let seat = self.wake_some_locked(token, numbers, &call, &mut hand);
+        Ok((seat, hand))
+    }
+}

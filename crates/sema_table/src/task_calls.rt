@@ -1,0 +1,184 @@
+//! The calls of a task that change where its seat stands: they take the seat, and give it back.
+ghost use Rattle.std.specs.Prelude.{◌≡◌};
+ghost use Rattle.sema_table.specs.Tasks.{PostsManyByTask, EntersByTask, PollsByTask, RetriesByTask};
+ghost use Rattle.sema_table.specs.Tasks.{WakesByTask, WakesSomeByTask};
+
+use crate::answers::{Entered, Polled, Retried, Wake};
+use crate::many_seat::{OwingMany, PostedMany};
+use crate::seat::{Owing, Seat, Sleeping, Woken};
+use crate::task_answers::{TaskEntered, TaskPolled, TaskPosted, TaskRefused, TaskRetried};
+use crate::task_seat::{Stage, TaskSeat};
+use crate::tasks::TaskTable;
+use crate::waking_many::WokenSeats;
+use waiters::CounterId;
+
+impl TaskTable {
+    /// As [`SemaTable::post_many`].
+    pub fn post_many(
+        &self,
+        seat: TaskSeat,
+        counter: CounterId,
+        units: u32,
+    ) -> (TaskSeat, Result<TaskPosted, TaskRefused>)
+        requires { seat.seat.table ≡ self.now }
+        ensures { PostsManyByTask seat counter units result.1 result.0 }
+    {
+        if let Some(why) = self.refusal(&seat.stage, counter) {
+            return (seat, Err(why));
+        }
+        if units == 0 || units > 256 {
+            return (seat, Err(TaskRefused::Units));
+        }
+        let TaskSeat { token, numbers, .. } = seat;
+        match self
+            .table
+            .post_many(Seat { token, numbers }, counter, units)
+        {
+            Ok(PostedMany::Done(seat)) => (TaskSeat::resting(seat), Ok(TaskPosted::Done)),
+            Ok(PostedMany::Owes(owing)) => (TaskSeat::owing_many(owing), Ok(TaskPosted::Owes)),
+            Err((seat, _)) => (TaskSeat::resting(seat), Err(TaskRefused::LimitReached)),
+        }
+    }
+
+    /// As [`SemaTable::try_enter`].
+    pub fn enter(
+        &self,
+        seat: TaskSeat,
+        counter: CounterId,
+        lifo: bool,
+    ) -> (TaskSeat, Result<TaskEntered, TaskRefused>)
+        requires { seat.seat.table ≡ self.now }
+        ensures { EntersByTask seat counter lifo result.1 result.0 }
+    {
+        if let Some(why) = self.refusal(&seat.stage, counter) {
+            return (seat, Err(why));
+        }
+        let TaskSeat { token, numbers, .. } = seat;
+        match self
+            .table
+            .enter_silently(Seat { token, numbers }, counter, lifo)
+        {
+            Ok(Entered::Taken(seat)) => (TaskSeat::resting(seat), Ok(TaskEntered::Taken)),
+            Ok(Entered::Asleep(asleep)) => (TaskSeat::sleeping(asleep), Ok(TaskEntered::Asleep)),
+            Err(seat) => (TaskSeat::resting(seat), Err(TaskRefused::Busy)),
+        }
+    }
+
+    /// As [`SemaTable::poll`].
+    pub fn poll(&self, seat: TaskSeat) -> (TaskSeat, Result<TaskPolled, TaskRefused>)
+        requires { seat.seat.table ≡ self.now }
+        ensures { PollsByTask seat result.1 result.0 }
+    {
+        let TaskSeat {
+            token,
+            numbers,
+            stage,
+        } = seat;
+        let Stage::Sleeping(call, turn) = stage else {
+            let seat = TaskSeat {
+                token,
+                numbers,
+                stage,
+            };
+            return (seat, Err(TaskRefused::OtherCall));
+        };
+        let asleep = Sleeping {
+            token,
+            numbers,
+            call,
+            turn,
+        };
+        match self.table.poll(asleep) {
+            Polled::Still(asleep) => (TaskSeat::sleeping(asleep), Ok(TaskPolled::Still)),
+            Polled::Woken(woken) => (TaskSeat::woken(woken), Ok(TaskPolled::Woken)),
+            Polled::Handed(seat) => (TaskSeat::resting(seat), Ok(TaskPolled::Handed)),
+        }
+    }
+
+    /// As [`SemaTable::retry_at_once`].
+    pub fn retry(&self, seat: TaskSeat) -> (TaskSeat, Result<TaskRetried, TaskRefused>)
+        requires { seat.seat.table ≡ self.now }
+        ensures { RetriesByTask seat result.1 result.0 }
+    {
+        let TaskSeat {
+            token,
+            numbers,
+            stage,
+        } = seat;
+        let Stage::Woken(call) = stage else {
+            let seat = TaskSeat {
+                token,
+                numbers,
+                stage,
+            };
+            return (seat, Err(TaskRefused::OtherCall));
+        };
+        let woken = Woken {
+            token,
+            numbers,
+            call,
+        };
+        match self.table.retry_at_once(woken) {
+            Retried::Taken(seat) => (TaskSeat::resting(seat), Ok(TaskRetried::Taken)),
+            Retried::Zero(seat) => (TaskSeat::resting(seat), Ok(TaskRetried::Zero)),
+        }
+    }
+
+    /// As [`SemaTable::try_wake`]. The caller makes the task ready whose seat is named.
+    pub fn wake(&self, seat: TaskSeat, handoff: bool) -> (TaskSeat, Result<Wake, TaskRefused>)
+        requires { seat.seat.table ≡ self.now }
+        ensures { WakesByTask seat handoff result.1 result.0 }
+    {
+        let TaskSeat {
+            token,
+            numbers,
+            stage,
+        } = seat;
+        let Stage::Owing(counter) = stage else {
+            let seat = TaskSeat {
+                token,
+                numbers,
+                stage,
+            };
+            return (seat, Err(TaskRefused::OtherCall));
+        };
+        let owing = Owing {
+            token,
+            numbers,
+            counter,
+        };
+        match self.table.wake_silently(owing, handoff) {
+            Ok((seat, wake)) => (TaskSeat::resting(seat), Ok(wake)),
+            Err(owing) => (TaskSeat::owing(owing), Err(TaskRefused::Busy)),
+        }
+    }
+
+    /// As [`SemaTable::try_wake_some`]. The caller makes the tasks ready whose seats are named.
+    pub fn wake_some(&self, seat: TaskSeat) -> (TaskSeat, Result<WokenSeats, TaskRefused>)
+        requires { seat.seat.table ≡ self.now }
+        ensures { WakesSomeByTask seat result.1 result.0 }
+    {
+        let TaskSeat {
+            token,
+            numbers,
+            stage,
+        } = seat;
+        let Stage::OwingMany(call) = stage else {
+            let seat = TaskSeat {
+                token,
+                numbers,
+                stage,
+            };
+            return (seat, Err(TaskRefused::OtherCall));
+        };
+        let owing = OwingMany {
+            token,
+            numbers,
+            call,
+        };
+        match self.table.wake_some_silently(owing) {
+            Ok((seat, seats)) => (TaskSeat::resting(seat), Ok(seats)),
+            Err(owing) => (TaskSeat::owing_many(owing), Err(TaskRefused::Busy)),
+        }
+    }
+}
