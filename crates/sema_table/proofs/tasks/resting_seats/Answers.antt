@@ -17,6 +17,7 @@ same_seats (s ∷ l) = ap (λ k. s ∷ k) (same_seats l)
 pub returns : goal.returns
 returns c =
     let gives = c.into_iter-seat-iterator.ensures.into_iter_gives in let count = c.args.seats.ok.0 in
-    let t = YieldsList-end (YieldsList-from_vec c.args.seats.items gives.0 (omega (arith, gives.1, count))) c.loop-seat.yielded _ c.loop-seat.yielded_by _ _
-    c.in-None.is c.next.ensures.steps in
+    let all = YieldsList-from_vec {s = c.into_iter-seat-iterator.result} c.args.seats.items gives.0 (omega (arith, gives.1, count)) in
+    let t = YieldsList-end all c.loop-seat.yielded c.loop-seat.seat-iterator c.loop-seat.yielded_by c.next.result c.next.new.self c.in-None.is
+    c.next.ensures.steps in
     c.loop-seat.invariant ∙ ap (map as_task) (sym (same_seats c.loop-seat.yielded) ∙ t.0)
