@@ -65,9 +65,6 @@ changed start c seen now one two on ne =
 module _ (s u w : SemaSeat) (p q : Place) (c n y : ℕ) (first : Ran (begin p) s n u) (then : Ran (begin q) u y w)
     (at_first : (i : ℕ) (x : SeatState) (j : List Entry) → (event_at i x (replay (plain_start (layout s.knows.setting).starts) j).lists p).word ≡ Counter c)
     (at_then : (i : ℕ) (x : SeatState) (j : List Entry) → (event_at i x (replay (plain_start (layout u.knows.setting).starts) j).lists q).word ≡ Counter c) where
-  abbrev m : Setting → Layout
-  m z = layout z
-
   number_first : n ≡ (replay (plain_start (layout s.knows.setting).starts) first.stride.seen).numbers c
   number_first = sym first.read ∙ number_there (layout s.knows.setting) s.number c (sight_by (begin p s.knows)) (sight_by u.knows) first.stride p first.ran
       first.did (ap (λ (x : SeatState). x.place) first.ran.stood) (λ x. at_first s.number x first.stride.seen)
