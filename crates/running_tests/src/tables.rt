@@ -1,5 +1,6 @@
 //! The tests of `sema_table`.
 
+mod attempt_tests;
 mod close_tests;
 mod counter_tests;
 mod crew_tests;

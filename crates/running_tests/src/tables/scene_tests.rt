@@ -4,6 +4,7 @@
 
 ghost use Rattle.std.specs.Prelude.{◌≡◌, All};
 
+use crate::tables::attempt_tests::{loses_and_is_handed, two_are_named};
 use crate::tables::counter_tests::{
     posts_up_to_its_limit, spins_and_takes, spins_and_takes_nothing, takes_two, tries_at_zero,
 };
@@ -60,6 +61,10 @@ enum Scene {
     TwoOfThree,
     /// A release wakes nobody of another counter.
     WakesNobody,
+    /// Calls that leave a held lock: a woken seat loses its unit, and is handed the next.
+    LosesAndIsHanded,
+    /// The same of a release of many: it names whom it woke.
+    TwoAreNamed,
     /// A seat adds up to its limit: the counter's number after the first unit, and after the second.
     AddsToItsLimit(u64, u64),
 }
@@ -102,6 +107,8 @@ impl Scene {
             Scene::ReleasesToItsLimit => releases_all_at_once(rt, table, seats),
             Scene::TwoOfThree => three_sleep(rt, table, seats),
             Scene::WakesNobody => wakes_nobody(rt, table, seats),
+            Scene::LosesAndIsHanded => loses_and_is_handed(rt, table, seats),
+            Scene::TwoAreNamed => two_are_named(rt, table, seats),
             Scene::AddsToItsLimit(one, two) => posts_up_to_its_limit(rt, table, seats, one, two),
         }
     }
@@ -110,7 +117,7 @@ impl Scene {
 /// A scene, the number at which the counter starts, and how many seats there are.
 type Row = (Scene, u32, u32);
 
-static SCENES: [Row; 19] = [
+static SCENES: [Row; 21] = [
     (Scene::TriesAtZero, 0, 2),
     (Scene::SpinsInVain, 0, 1),
     (Scene::SpinsAndTakes, 0, 1),
@@ -128,6 +135,8 @@ static SCENES: [Row; 19] = [
     (Scene::ReleasesToItsLimit, 0, 1),
     (Scene::TwoOfThree, 0, 4),
     (Scene::WakesNobody, 0, 2),
+    (Scene::LosesAndIsHanded, 0, 2),
+    (Scene::TwoAreNamed, 0, 3),
     (Scene::AddsToItsLimit(1, 2), 0, 1),
     // past the highest start
     (
