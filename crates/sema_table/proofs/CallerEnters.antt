@@ -28,7 +28,7 @@ use Rattle.sema_table.specs.Callers.{JoinsQueue, TriesAgain}
 use Rattle.sema_table.proofs.After.{after_call}
 use Rattle.sema_table.proofs.Tellers.{row_tells, row_leads}
 use Rattle.sema_table.proofs.Sighting.{Sighted, at_stride, one_later, seat_then, until_then, since_then}
-use Rattle.sema_table.proofs.CallerTries.{number_there}
+use Rattle.sema_table.proofs.Changing.{number_there}
 
 -- the acquire a looks for a unit, before it has found none
 abbrev Searches : Acquire → Place → Type 0

@@ -34,7 +34,8 @@ use Rattle.sema_table.proofs.After.{after_call}
 use Rattle.sema_table.proofs.Calling.{calls}
 use Rattle.sema_table.proofs.Retrying.{again_token}
 use Rattle.sema_table.proofs.Tellers.{row_tells, row_leads}
-use Rattle.sema_table.proofs.CallerTries.{both_nil, number_there}
+use Rattle.sema_table.proofs.CallerTries.{both_nil}
+use Rattle.sema_table.proofs.Changing.{number_there}
 use Rattle.sema_table.proofs.CallerEnters.{retries}
 
 -- under the lock, before anything was told
@@ -137,6 +138,7 @@ module _ (m : Layout) (i : ℕ) where
     where
       none : (p.told ≡ []) × (all_told strides ≡ [])
       none = both_nil p.told (all_told strides) told
+
       row : IsRow p
       row = All-head IsRow p strides each
 

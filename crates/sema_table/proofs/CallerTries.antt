@@ -9,10 +9,9 @@ use Rattle.step_table.specs.declared.place.Place.{Place}
 use Rattle.step_table.specs.declared.place.Place.TheVariants.{Rest}
 use Rattle.step_table.specs.declared.word.Word.TheVariants.{Counter, Waiters}
 use Rattle.step_table.specs.World.{Layout, SeatState}
-use Rattle.step_table.specs.Table.{event_at}
 use Rattle.step_table.specs.Journal.{plain_start, replay}
-use Rattle.step_table.specs.Path.{runs, all_told}
-use Rattle.step_law_semaphores.specs.SemaPath.{SemaSight, SemaStride, SemaRan, SemaPath, placed, plain_before, word_of_deed}
+use Rattle.step_table.specs.Path.{all_told}
+use Rattle.step_law_semaphores.specs.SemaPath.{SemaSight, SemaStride, SemaPath, placed}
 use Rattle.step_law_semaphores.proofs.SemaPaths.{the_sema_paths}
 use Rattle.sema_table.specs.declared.answers.Tried.{Tried}
 use Rattle.sema_table.specs.declared.answers.Tried.TheVariants.{Taken, Zero, Lost}
@@ -22,6 +21,7 @@ use Rattle.sema_table.specs.Strides.{IsRow}
 use Rattle.sema_table.specs.Calls.{plain_seen, rows_of}
 use Rattle.sema_table.specs.Tries.{IsValue, IsWaiters, IsTried, acquiring}
 use Rattle.sema_table.specs.Callers.{IsSeatAfter, ReadsNumber, CountsWaits, TriesToAcquire}
+use Rattle.sema_table.proofs.Changing.{number_there}
 use Rattle.sema_table.proofs.After.{after_strides, after_call, after_look}
 use Rattle.sema_table.proofs.Sighting.{Sighted, at_stride, seat_then, until_then, since_then}
 
@@ -34,14 +34,6 @@ counts_waits s t c n x = (after_look s t (Waiters (root s.table.setting c)) n x.
 pub both_nil : (a b : List Entry) → a ++ b ≡ [] → (a ≡ []) × (b ≡ [])
 both_nil [] b e = (refl, e)
 both_nil (x ∷ a) b e = absurd cc
-
--- a row on a counter read its number
-pub number_there : (m : Layout) (i c : ℕ) (v w : SemaSight) (p : SemaStride) (place : Place) → SemaRan m i v p w → p.deed ≡ runs
-    → p.stood.place ≡ place
-    → ((z : SeatState) → (event_at i z (plain_before m p).lists place).word ≡ Counter c) → p.read ≡ (plain_before m p).numbers c
-number_there m i c v w p place r ran at word =
-    the_sema_paths.reads m i c v w p r (ap (word_of_deed m i p) ran
-    ∙ ap (λ (z : Place). (event_at i p.stood (plain_before m p).lists z).word) at ∙ word p.stood)
 
 -- a try that was lost: two strides
 module _ (s t : SeatModel) (c left n : ℕ) (same : t ≡ record s { sight = t.sight; strides = t.strides }) (ne : n ≢ left + 1) where

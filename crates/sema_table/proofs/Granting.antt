@@ -36,7 +36,8 @@ use Rattle.sema_table.specs.Starts.{begin}
 use Rattle.sema_table.proofs.Striding.{Ran}
 use Rattle.sema_table.proofs.Allowing.{owes_grant}
 use Rattle.sema_table.specs.Seats.{Token, TableModel}
-use Rattle.sema_table.specs.Walks.{Walked, HasRecord, Granted, moved_to, taken_out, sought, granting, grant_of}
+use Rattle.sema_table.proofs.Changing.{has_changed}
+use Rattle.sema_table.specs.Walks.{Walked, Changed, HasRecord, Granted, moved_to, taken_out, sought, granting, grant_of}
 use Rattle.sema_table.proofs.Words.{listed_agree, same_record}
 use Rattle.sema_table.proofs.Leading.{Goes, next_by, led, load_zero, load_some, won, lost}
 use Rattle.sema_table.proofs.Walking.{walked_row, walked_then, ran_from}
@@ -205,6 +206,9 @@ module _ (s0 s u : Token) (a : Release) (id : WaitId) (n : ℕ) (before : Walked
     pub lost_for : y ≢ n → Walked s0 (Releasing a R7) w (moved_to s0 (Releasing a R7)) [] 0
     lost_for ne = walked_then s0 u w (Releasing a R7) before_it (Releasing a R7) [] [] 0 0 (some_for some)
         (walked_row u w before_it y loses swap (lost y (n - 1 + 1) wins loses swapped (λ e. ne (omega arith))) again)
+
+    pub changed_for : y ≢ n → Changed a.counter s w
+    changed_for = has_changed s.me.0.own u.me.0.own w.me.0.own (Releasing a R7) before_it a.counter n y look_for swap (λ i x j. refl) (λ i x j. refl)
 
 -- the store of a grant leads on
 pub grants_at : (z : Setting) (slots i : ℕ) (m : Me) (a : Release) (handed : Bool) → m.0.own.knows.place ≡ granting a handed

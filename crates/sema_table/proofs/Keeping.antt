@@ -39,7 +39,7 @@ use Rattle.sema_table.proofs.Words.{written_word, inside, lists_unwritten, same_
 use Rattle.sema_table.specs.Places.{Begins}
 use Rattle.sema_table.proofs.Beginning.{begun, begins_holds, begins_carries}
 use Rattle.sema_table.proofs.Adding.{adding, step_adds, own_adds}
-use Rattle.sema_table.proofs.Bounding.{taken_most}
+use Rattle.sema_table.proofs.Bounding.{taken_most, changes_most}
 use Rattle.sema_table.proofs.Resting.{free_counted}
 use Rattle.sema_table.proofs.Striding.{Ran}
 
@@ -269,6 +269,7 @@ module _ (u : SemaSeat) (world : SemaWorld) (words : List ℕ) (homes : Homes) (
           counted = free_counted z id after.knows t reached_after st.there refl refl came;
           held = λ c h. ap (λ y. y.lists c) (sym lawful.journal.0) ∙ sym (knows.held c h);
           few = (the_accounts.unwrapped m t reached_after small_after).turns id st.there;
+          settles = changes_most z t reached_after small_after;
           there = st.there;
         };
         one = refl;

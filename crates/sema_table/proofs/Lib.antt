@@ -5,6 +5,7 @@ pub mod Adding
 pub mod Bounding
 pub mod Resting
 pub mod Striding
+pub mod Changing
 pub mod Keeping
 pub mod Allowing
 pub mod Seeing

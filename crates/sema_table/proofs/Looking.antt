@@ -14,7 +14,8 @@ use Rattle.sema_table.specs.Setting.{root}
 use Rattle.sema_table.specs.Starts.{begin}
 use Rattle.sema_table.proofs.Striding.{Ran}
 use Rattle.sema_table.specs.Seats.{Token}
-use Rattle.sema_table.specs.Walks.{Walked, HasRecord, HasRoom, moved_to}
+use Rattle.sema_table.proofs.Changing.{has_changed}
+use Rattle.sema_table.specs.Walks.{Walked, Changed, HasRecord, HasRoom, moved_to}
 use Rattle.sema_table.proofs.Leading.{Goes, next_by, led, load_zero, load_some, won, lost}
 use Rattle.sema_table.proofs.Walking.{walked_row, walked_then, ran_from}
 use Rattle.sema_table.proofs.Holding.{record_on, has_room}
@@ -89,6 +90,9 @@ module _ (s0 s u : Token) (a : Acquire) (n : ℕ) (before : Walked s0 (Acquiring
     pub lost_walked : y ≢ n → Walked s0 (Acquiring a A5) w (moved_to s0 (Acquiring a A5)) [] 0
     lost_walked ne =
         walked_then s0 u w (Acquiring a A5) before_it (Acquiring a A5) [] [] 0 0 (some_walked some) (walked_row u w before_it y loses swap (lose ne) again)
+
+    pub lost_changed : y ≢ n → Changed a.counter s w
+    lost_changed = has_changed s.me.0.own u.me.0.own w.me.0.own (Acquiring a A5) before_it a.counter n y look swap (λ i x j. refl) (λ i x j. refl)
 
     pub won_record : y ≡ n → HasRecord w a.counter
     won_record e = record_on u w before_it y a.counter wins swap (win e) (walked_row u w before_it y wins swap (win e) again).table_is

@@ -19,7 +19,8 @@ use Rattle.sema_table.specs.Rule.{sight_by}
 use Rattle.sema_table.specs.Starts.{begin}
 use Rattle.sema_table.proofs.Striding.{Ran}
 use Rattle.sema_table.specs.Seats.{Token, seat_of, IsToken, IsSeat, IsWoken}
-use Rattle.sema_table.specs.Walks.{Walked, moved_to}
+use Rattle.sema_table.proofs.Changing.{has_changed}
+use Rattle.sema_table.specs.Walks.{Walked, Changed, moved_to}
 use Rattle.sema_table.specs.Calls.{RunsRows}
 use Rattle.sema_table.specs.Waking.{IsEntered, IsRetried}
 use Rattle.sema_table.proofs.Leading.{Goes, next_by, led, load_zero, load_some, won, lost}
@@ -69,6 +70,9 @@ module _ (s0 s u : Token) (a : Acquire) (n : ℕ) (before : Walked s0 (Acquiring
     pub lost_again : y ≢ n → Walked s0 (Acquiring a A10) w (moved_to s0 (Acquiring a A10)) [] 0
     lost_again ne = walked_then s0 u w (Acquiring a A10) before_it (Acquiring a A10) [] [] 0 0 (some_again some)
         (walked_row u w before_it y loses swap (lost y (n - 1 + 1) wins loses went (λ e. ne (omega arith))) again)
+
+    pub again_changed : y ≢ n → Changed a.counter s w
+    again_changed = has_changed s.me.0.own u.me.0.own w.me.0.own (Acquiring a A10) before_it a.counter n y look swap (λ i x j. refl) (λ i x j. refl)
 
 -- a unit was taken at once
 module _ (s t : Token) (n : Numbers) (a : Acquire) (seat : IsWoken s n a)

@@ -24,7 +24,7 @@ use Rattle.sema_table.specs.Rows.{Me, SemaSeat, semaphore_rows}
 use Rattle.sema_table.specs.Starts.{begin}
 use Rattle.sema_table.proofs.Words.{shown, counter_lies, waiters_lie, grant_lies, root_root}
 use Rattle.sema_table.proofs.Adding.{adding}
-use Rattle.sema_table.proofs.Bounding.{taken_most}
+use Rattle.sema_table.proofs.Bounding.{taken_most, changes_most}
 use Rattle.sema_table.proofs.Resting.{free_counted}
 use Rattle.sema_table.proofs.Striding.{Strode, ran_here}
 use Rattle.running_rows.proofs.Telling.{owes_own, tells_more}
@@ -71,6 +71,7 @@ module _ (u : SemaSeat) (world : SemaWorld) (words : List ℕ) (homes : Homes) (
         counted = free_counted u.knows.setting u.number now.knows world shows.reached st.there refl refl knew.takes;
         held = λ c h. told c ∙ sym (knew.held c h);
         few = (the_accounts.unwrapped m world shows.reached shows.small).turns u.number st.there;
+        settles = changes_most u.knows.setting world shows.reached shows.small;
         there = st.there;
       };
       one = refl;

@@ -37,6 +37,8 @@ use Rattle.sema_table.proofs.Words.{root_root, counter_lies, waiters_lie, grant_
 use Rattle.sema_table.proofs.Leading.{Goes, next_by, led, load_zero, load_some, won, lost}
 use Rattle.sema_table.proofs.Walking.{walked_by, walked_row, walked_on, token_after}
 use Rattle.sema_table.proofs.Calling.{calls_rows, row_is}
+use Rattle.sema_table.specs.Changes.{HasChanged}
+use Rattle.sema_table.proofs.Changing.{has_changed}
 
 -- a look at a counter, and at the waiter word of a counter's root, by where the word lies
 pub counter_look : (v w : SemaSeat) (c i n : ℕ) → c < length v.knows.setting.starts → address v.knows.setting (Counter c) ≡ i
@@ -262,6 +264,9 @@ module _ (s t u : Token) (n : Numbers) (c k found : ℕ) (seat : IsSeat s n) (r 
           (rows ∙ ap (λ j. (acquiring c A1, j) ∷ (before, found) ∷ []) k_is),
     ),
   )
+
+  pub lost_changed : found ≢ k → HasChanged c s.me.0.own.knows.seen u.me.0.own.knows.seen
+  lost_changed = has_changed s.me.0.own t.me.0.own u.me.0.own (acquiring c A1) before c k found r row (λ i x j. refl) (λ i x j. refl)
 
   abbrev counted : Numbers
   counted = record n { taken = n.taken + 1 }

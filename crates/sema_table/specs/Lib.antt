@@ -2,6 +2,7 @@ pub mod Strides
 pub mod Setting
 pub mod Places
 pub mod Rule
+pub mod Changes
 pub mod Rows
 pub mod Starts
 pub mod Seats

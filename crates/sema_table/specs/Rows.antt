@@ -24,6 +24,7 @@ use Rattle.sema_table.specs.declared.view.Record.{Record}
 use Rattle.sema_table.specs.declared.view.Record.TheVariants.{Root}
 use Rattle.sema_table.specs.Setting.{root, layout, address, word_at}
 use Rattle.sema_table.specs.Places.{is_free}
+use Rattle.sema_table.specs.Changes.{changes, most_changes}
 use Rattle.sema_table.specs.Rule.{setting_of, sight_by, lists_by, Knows, IsRecord, ShowsWorld}
 
 -- how many units a seat comes by that goes from the one place to the other by this deed
@@ -38,7 +39,7 @@ IsHeld v slot y =
     (treap : Treap) × (slot ≡ r) × (y ≡ Root treap) × IsRecord v.setting r treap (lists_by v.setting v.seen)
 
 -- what else a stride tells. What the seat k had seen of a root whose lock it holds was so still. Where it may
--- begin a call, it has come by all units that it has seen taken for it
+-- begin a call, it has come by all units that it has seen taken for it. A counter has changed only so often
 pub record Beside (k : ℕ) (v : Known) (p : SemaStride) (w : Known) : Type 0 where
   pub came : w.taken ≡ v.taken + gains_by p.deed v.place w.place
   pub most : w.taken ≤ 2 ^ 49
@@ -46,6 +47,7 @@ pub record Beside (k : ℕ) (v : Known) (p : SemaStride) (w : Known) : Type 0 wh
   pub held : (c : ℕ) → holds (root v.setting) (root v.setting c) v.place ≡ 1
       → (plain_before (layout v.setting) p).lists c ≡ lists_by v.setting v.seen c
   pub few : w.turn ≤ 2 ^ 48 + 256
+  pub settles : (c : ℕ) → changes c w.seen ≤ most_changes
   pub there : k < v.setting.seats
 
 -- the stride is a row that stored this number at this address

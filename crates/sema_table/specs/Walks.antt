@@ -23,6 +23,7 @@ use Rattle.sema_table.specs.declared.view.Record.TheVariants.{Root}
 use Rattle.sema_table.specs.Strides.{IsRow}
 use Rattle.sema_table.specs.Setting.{root, layout}
 use Rattle.sema_table.specs.Places.{Begins, is_free, takes_lock, locked}
+use Rattle.sema_table.specs.Changes.{HasChanged}
 use Rattle.sema_table.specs.Rule.{stands_by, sight_by, lists_by, IsRecord}
 use Rattle.sema_table.specs.Seats.{TableModel, Token, table_of}
 
@@ -79,6 +80,10 @@ moved_to s place = record (stands_by s.me.0.own.knows) { place = place }
 -- the same where nothing was told, nothing was come by, and all but the place is as it was
 abbrev pub Moves : Token → Place → Token → Place → Type 0
 Moves s from t place = Walked s from t (moved_to s place) [] 0
+
+-- and on the way units of c were added or taken
+abbrev pub Changed : ℕ → Token → Token → Type 0
+Changed c s t = HasChanged c s.me.0.own.knows.seen t.me.0.own.knows.seen
 
 -- the seat holds no slot but the record of the root of c, which has the lists that it has seen
 abbrev pub HasRecord : Token → ℕ → Type 0

@@ -7,7 +7,7 @@ ghost use Rattle.sema_table.specs.Callers.{AcquiresUnit};
 
 use crate::answers::{Entered, Roused, Tried};
 use crate::seat::{Seat, Sleeping};
-use crate::sema_table::SemaTable;
+use crate::sema_table::{MOST_TRIES, SemaTable};
 use std::sync::Wait;
 use step_table::{AcquireRow, Place};
 use waiters::CounterId;
@@ -52,7 +52,7 @@ impl SemaTable {
         ensures { IsAcquired seat counter lifo result }
     {
         let mut seat = seat;
-        if self.take_at_once(rt, &mut seat, counter) {
+        if self.take_at_once(&mut seat, counter) {
             return seat;
         }
         self.acquire_at_lock(rt, seat, counter, lifo)
@@ -93,14 +93,14 @@ impl SemaTable {
         }
     }
 
-    /// Tries until a unit is taken or none is found: whether one was taken.
+    /// Tries until a unit is taken or none is found: whether one was taken. It ends whatever others do.
     #[inline]
-    fn take_at_once<R: Wait>(&self, rt: &R, seat: &mut Seat, counter: CounterId) -> bool
+    fn take_at_once(&self, seat: &mut Seat, counter: CounterId) -> bool
         requires { (seat.old.table ≡ self.now) × (counter < length self.now.setting.starts) }
         ensures { MatchBool result (TakesAtOnce seat.old counter seat.new)
             (FindsNone seat.old counter seat.new) }
     {
-        for _ in rt.forever() {
+        for _ in 0..MOST_TRIES {
             match self.try_acquire(seat, counter) {
                 Tried::Taken => return true,
                 Tried::Zero => return false,

@@ -3,7 +3,7 @@ ghost use Rattle.std.specs.Prelude.{◌≡◌, [], ◌∷◌, MatchBool};
 ghost use Rattle.step_table.specs.declared.entry.Entry.TheVariants.{Take};
 ghost use Rattle.step_table.specs.declared.place.Place.TheVariants.{Rest, Acquiring};
 ghost use Rattle.step_table.specs.declared.place.AcquireRow.TheVariants.{A3, A10};
-ghost use Rattle.sema_table.specs.Walks.{Stands, Walked, Moves, moved_to};
+ghost use Rattle.sema_table.specs.Walks.{Stands, Walked, Moves, Changed, moved_to};
 ghost use Rattle.sema_table.specs.Outcomes.{MatchTried};
 ghost use Rattle.sema_table.specs.Waking.{IsPolled, IsRetried, TriesWoken};
 ghost use Rattle.sema_table.specs.Callers.{PollsGrant, TriesAgain, TriesOnce};
@@ -11,7 +11,7 @@ ghost use Rattle.sema_table.specs.Callers.{PollsGrant, TriesAgain, TriesOnce};
 use crate::answers::{Entered, Polled, Retried, Tried};
 use crate::rows::Token;
 use crate::seat::{Numbers, Seat, Sleeping, Woken};
-use crate::sema_table::{SemaTable, counter_word};
+use crate::sema_table::{MOST_TRIES, SemaTable, counter_word};
 use running_rows::Here;
 use std::sync::Wait;
 use step_table::Acquire;
@@ -56,7 +56,8 @@ impl SemaTable {
     }
 
     /// The try of a seat that was woken without a unit, and where it finds none, the way to the lock again,
-    /// with the same counter and lifo (Go's `semacquire1` after `goparkunlock`).
+    /// with the same counter and lifo (Go's `semacquire1` after `goparkunlock`). It may wait for that lock,
+    /// and for nothing else.
     pub fn retry<R: Wait>(&self, rt: &R, woken: Woken) -> Entered
         requires { woken.table ≡ self.now }
         ensures rows { IsRetried woken result }
@@ -98,7 +99,8 @@ impl SemaTable {
         Retried::Zero(Seat { token, numbers })
     }
 
-    /// A10, and A11 where A10 read more than 0, until one of them settles it: whether a unit was taken.
+    /// A10, and A11 where A10 read more than 0, until one of them settles it: whether a unit was taken. It
+    /// ends whatever others do.
     fn try_again(&self, token: &mut Token, call: &Acquire) -> bool
         requires { Stands self.now token.old (Acquiring call.now A10) }
         ensures slots { token.new.me.1 ≡ token.old.me.1 }
@@ -107,7 +109,7 @@ impl SemaTable {
             (Take call.now.counter token.old.me.0.own.number ∷ []) 1)
             (Moves token.old (Acquiring call.now A10) token.new (Acquiring call.now A3)) }
     {
-        for _ in 0..1_u64 << 50 {
+        for _ in 0..MOST_TRIES {
             match self.try_woken(token, call) {
                 Tried::Taken => return true,
                 Tried::Zero => return false,
@@ -126,7 +128,8 @@ impl SemaTable {
             (Walked token.old (Acquiring call.now A10) token.new (moved_to token.old Rest)
             (Take call.now.counter token.old.me.0.own.number ∷ []) 1)
             (Moves token.old (Acquiring call.now A10) token.new (Acquiring call.now A3))
-            (Moves token.old (Acquiring call.now A10) token.new (Acquiring call.now A10)) }
+            (Moves token.old (Acquiring call.now A10) token.new (Acquiring call.now A10)
+            × Changed call.now.counter token.old token.new) }
     {
         let word = counter_word(call.counter.number());
         let found = self.words.load::<Here>(token, word);

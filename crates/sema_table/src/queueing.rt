@@ -8,14 +8,14 @@ ghost use Rattle.sema_table.specs.Seats.{Token, IsToken, table_of, seat_of};
 ghost use Rattle.sema_table.specs.AtLock.{HasLocked};
 ghost use Rattle.sema_table.specs.Waking.{acquire_of, IsEntered};
 ghost use Rattle.sema_table.specs.Walks.{Stands, Holds, Walked, Moves, HasRecord, HasRoom, IsLast, moved_to};
-ghost use Rattle.sema_table.specs.Walks.{parked};
+ghost use Rattle.sema_table.specs.Walks.{parked, Changed};
 ghost use Rattle.sema_table.specs.Outcomes.{MatchTried};
 ghost use Rattle.sema_table.specs.Callers.{JoinsQueue};
 
 use crate::answers::{Entered, Tried};
 use crate::rows::Token;
 use crate::seat::{Numbers, Seat, Sleeping};
-use crate::sema_table::{SemaTable, counter_word};
+use crate::sema_table::{MOST_TRIES, SemaTable, counter_word};
 use running_rows::Here;
 use std::sync::Wait;
 use step_table::{Acquire, AcquireRow, Place};
@@ -23,7 +23,8 @@ use waiters::{CounterId, WaitId};
 
 impl SemaTable {
     /// Goes to the lock of the counter's root, takes a unit that is there when the lock is held, or queues a
-    /// wait (Go's `semacquire1` from `lockWithRank` to `goparkunlock`).
+    /// wait (Go's `semacquire1` from `lockWithRank` to `goparkunlock`). It may wait for that lock, and for
+    /// nothing else.
     pub fn enter<R: Wait>(&self, rt: &R, seat: Seat, counter: CounterId, lifo: bool) -> Entered
         requires { (seat.table ≡ self.now) × (counter < length self.now.setting.starts) }
         ensures rows { IsEntered seat (acquire_of counter lifo)
@@ -105,7 +106,8 @@ impl SemaTable {
     }
 
     /// A5, and A6 where A5 read more than 0, until one of them settles it: whether a unit was taken. The
-    /// second look: a release that came since the first may have found the waiter word at 0 and gone.
+    /// second look: a release that came since the first may have found the waiter word at 0 and gone. It ends
+    /// whatever others do.
     fn look_again(&self, token: &mut Token, call: &Acquire) -> bool
         requires { Holds self.now token.old (Acquiring call.now A5) }
         ensures record { HasRecord token.new call.now.counter }
@@ -114,7 +116,7 @@ impl SemaTable {
             (Take call.now.counter token.old.me.0.own.number ∷ []) 1)
             (Moves token.old (Acquiring call.now A5) token.new (Acquiring call.now A7) × HasRoom token.new call.now.counter) }
     {
-        for _ in 0..1_u64 << 50 {
+        for _ in 0..MOST_TRIES {
             match self.try_at_lock(token, call) {
                 Tried::Taken => return true,
                 Tried::Zero => return false,
@@ -135,7 +137,8 @@ impl SemaTable {
             (Take call.now.counter token.old.me.0.own.number ∷ []) 1)
             (Moves token.old (Acquiring call.now A5) token.new (Acquiring call.now A7)
             × HasRoom token.new call.now.counter)
-            (Moves token.old (Acquiring call.now A5) token.new (Acquiring call.now A5)) }
+            (Moves token.old (Acquiring call.now A5) token.new (Acquiring call.now A5)
+            × Changed call.now.counter token.old token.new) }
     {
         let word = counter_word(call.counter.number());
         let found = self.words.load::<Here>(token, word);

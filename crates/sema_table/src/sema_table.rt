@@ -38,6 +38,11 @@ impl Model for SemaTable {
         t.limit };
 }
 
+/// More than can be lost of the tries on one counter. A try is lost only where units of the counter were added
+/// or taken since it looked; and of these there are fewer, since seats add no more than they may, and nothing
+/// is taken that wasn't there.
+pub(crate) const MOST_TRIES: u64 = 1 << 50;
+
 /// Where the counter of a number lies. Each has a cache line of its own: two in one line would be fetched
 /// together.
 #[inline]

@@ -1,6 +1,8 @@
 //! The calls of a step or two, which take no lock and wait for nobody.
 ghost use Rattle.std.specs.Prelude.{◌≡◌, ◌<◌, length};
 ghost use Rattle.sema_table.specs.Tries.{IsValue, IsWaiters, IsTried};
+ghost use Rattle.sema_table.specs.Outcomes.{IfLost};
+ghost use Rattle.sema_table.specs.Changes.{HasChanged};
 ghost use Rattle.sema_table.specs.Callers.{ReadsNumber, CountsWaits, TriesToAcquire};
 
 use crate::answers::Tried;
@@ -34,12 +36,14 @@ impl SemaTable {
     }
 
     /// Takes a unit if there is one (the fast path of Go's `semacquire1`). `Lost` says that the counter
-    /// changed between the look and the exchange.
+    /// changed between the look and the exchange: so one that tries until it isn't lost comes to an end.
     #[inline]
     pub fn try_acquire(&self, seat: &mut Seat, counter: CounterId) -> Tried
         requires { (seat.old.table ≡ self.now) × (counter < length self.now.setting.starts) }
         ensures rows { IsTried seat.old counter result seat.new }
         ensures caller { TriesToAcquire seat.old counter result seat.new }
+        ensures settles { IfLost result
+            (HasChanged counter seat.old.sight.seen seat.new.sight.seen) }
     {
         let word = counter_word(counter.number());
         let found = self.words.load::<AtTry>(&mut seat.token, word);

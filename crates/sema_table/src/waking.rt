@@ -6,7 +6,7 @@ ghost use Rattle.step_table.specs.declared.place.ReleaseRow.TheVariants.{R3, R4,
 ghost use Rattle.sema_table.specs.Seats.{Token, IsToken, table_of, seat_of};
 ghost use Rattle.sema_table.specs.AtLock.{HasLocked, IsGranted};
 ghost use Rattle.sema_table.specs.Waking.{IsWakened, WakesFrom};
-ghost use Rattle.sema_table.specs.Walks.{Stands, Starts, Holds, IsSame, Locked, Walked, Moves, HasRecord, Granted};
+ghost use Rattle.sema_table.specs.Walks.{Stands, Starts, Holds, IsSame, Locked, Walked, Moves, Changed, HasRecord, Granted};
 ghost use Rattle.sema_table.specs.Walks.{moved_to, taken_out, sought, trying, unlocked, granting, grant_of};
 ghost use Rattle.sema_table.specs.Walks.{taken_for};
 ghost use Rattle.sema_table.specs.Outcomes.{MatchTried};
@@ -15,7 +15,7 @@ ghost use Rattle.sema_table.specs.CallersReleasing.{WakesFirst};
 use crate::answers::{Tried, Wake};
 use crate::rows::Token;
 use crate::seat::{Numbers, Owing, Seat};
-use crate::sema_table::{SemaTable, counter_word};
+use crate::sema_table::{MOST_TRIES, SemaTable, counter_word};
 use running_rows::Here;
 use std::sync::Wait;
 use step_table::{Place, Release, ReleaseRow};
@@ -23,7 +23,8 @@ use waiters::{CounterId, WaitId};
 
 impl SemaTable {
     /// The rest of a release: takes the counter's first wait out and grants it; with handoff, together with a
-    /// unit if there is one (Go's `semrelease1` from `lockWithRank` on).
+    /// unit if there is one (Go's `semrelease1` from `lockWithRank` on). It may wait for the root's lock, and
+    /// for nothing else.
     pub fn wake<R: Wait>(&self, rt: &R, owing: Owing, handoff: bool) -> (Seat, Wake)
         requires { owing.table ≡ self.now }
         ensures rows { IsWakened owing handoff result.0 result.1 }
@@ -174,7 +175,7 @@ impl SemaTable {
 
     /// R7, and R8 where R7 read more than 0, until one of them settles it: whether a unit was taken for the
     /// wait in hand. A unit is looked for, not assumed: a seat that never slept may have taken the one that
-    /// was added.
+    /// was added. It ends whatever others do.
     fn take_unit(&self, token: &mut Token, call: &Release, id: &WaitId) -> bool
         requires { Stands self.now token.old (Releasing call.now R7)
             × (token.old.me.0.own.knows.hand ≡ id.now ∷ []) }
@@ -184,7 +185,7 @@ impl SemaTable {
             (Take call.now.counter id.now.seat ∷ []) 0)
             (Moves token.old (Releasing call.now R7) token.new (Releasing call.now R10)) }
     {
-        for _ in 0..1_u64 << 50 {
+        for _ in 0..MOST_TRIES {
             match self.try_for(token, call, id) {
                 Tried::Taken => return true,
                 Tried::Zero => return false,
@@ -204,7 +205,8 @@ impl SemaTable {
             (Walked token.old (Releasing call.now R7) token.new (moved_to token.old (Releasing call.now R9))
             (Take call.now.counter id.now.seat ∷ []) 0)
             (Moves token.old (Releasing call.now R7) token.new (Releasing call.now R10))
-            (Moves token.old (Releasing call.now R7) token.new (Releasing call.now R7)) }
+            (Moves token.old (Releasing call.now R7) token.new (Releasing call.now R7)
+            × Changed call.now.counter token.old token.new) }
     {
         let word = counter_word(call.counter.number());
         let found = self.words.load::<Here>(token, word);

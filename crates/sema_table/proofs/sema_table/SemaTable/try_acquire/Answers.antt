@@ -5,6 +5,7 @@ use Rattle.step_table.specs.declared.word.Word.TheVariants.{Counter}
 use Rattle.sema_table.specs.declared.answers.Tried.TheVariants.{Taken, Zero, Lost}
 use Rattle.sema_table.specs.Seats.{TableModel, SeatModel, seat_of}
 use Rattle.sema_table.specs.Tries.{acquiring, IsTried}
+use Rattle.sema_table.specs.Changes.{HasChanged}
 use Rattle.sema_table.proofs.Striding.{slots_are}
 use Rattle.sema_table.proofs.Owned.{someones, own, counter_in, word_in}
 use Rattle.sema_table.proofs.Allowing.{owes, owes_here}
@@ -14,7 +15,7 @@ use Rattle.step_table.specs.World.{SeatState}
 use Rattle.sema_table.specs.declared.seat.Numbers.{Numbers}
 use Rattle.sema_table.specs.Walks.{moved_to}
 use Rattle.sema_table.proofs.Walking.{added_few, walked_adds}
-use Rattle.sema_table.proofs.Trying.{walked_some, zero_seat, tried_zero, lost_seat, tried_lost, taken_seat, tried_taken}
+use Rattle.sema_table.proofs.Trying.{walked_some, zero_seat, tried_zero, lost_seat, tried_lost, lost_changed, taken_seat, tried_taken}
 use Rattle.sema_table.proofs.CallerTries.{tries}
 use Rattle.sema_table.proofs.sema_table.SemaTable.try_acquire.Goals as goal
 
@@ -106,6 +107,17 @@ returns-then-exchange-found-clause-rows c =
 pub returns-then-exchange-found-clause-caller : goal.returns-then-exchange-found-clause-caller
 returns-then-exchange-found-clause-caller c =
     tries c.args.seat.now (seat_of c.exchange.new.token c.seat.inside.numbers) c.args.counter Lost (returns-then-exchange-found-clause-rows c)
+
+pub returns-then-exchange-found-clause-settles : goal.returns-then-exchange-found-clause-settles
+returns-then-exchange-found-clause-settles c =
+    let n = c.seat.inside.numbers in let u = c.exchange.new.token in
+    subst (λ (s : SeatModel). HasChanged c.args.counter s.sight.seen u.me.0.own.knows.seen) c.seat.view_is
+    (subst (λ k. HasChanged k c.seat.inside.token.me.0.own.knows.seen u.me.0.own.knows.seen) c.number.ensures
+    (lost_changed c.seat.inside.token c.load-found.new.token u n c.number.result c.load-found.result c.exchange.result c.seat.invariant
+    (run_of (λ k. acquiring k A1) c.counter_word-word.result c.number.result (c.counter_word-word.ensures.at) c.seat.inside.token.me.0.own c.load-found.result
+    c.load-found.new.token.me.0.own c.load-found.ensures.went.0) c.exchange.ensures.went.0
+    c.load-found.ensures.own c.exchange.ensures.own (slots_are c.load-found.ensures.went.1) (slots_are c.exchange.ensures.went.1)
+    (let z = c.if-found-eq0.false in omega (arith, z)) c.if-exchange-found.true))
 
 pub overflow_add-seat : goal.overflow_add-seat
 overflow_add-seat c = let m = c.seat.invariant.token_is.most in omega arith

@@ -11,7 +11,7 @@ use Rattle.sema_table.proofs.Owned.{someones, word_in}
 use Rattle.sema_table.proofs.Allowing.{owes_here}
 use Rattle.sema_table.proofs.Leading.{exchanged}
 use Rattle.sema_table.proofs.Walking.{walked_adds, walked_yet}
-use Rattle.sema_table.proofs.Looking.{zero_walked, zero_record, zero_room, some_walked, won_walked, lost_walked, won_record, lost_record}
+use Rattle.sema_table.proofs.Looking.{zero_walked, zero_record, zero_room, some_walked, won_walked, lost_walked, won_record, lost_record, lost_changed}
 use Rattle.sema_table.proofs.sema_table.SemaTable.try_at_lock.Goals as goal
 
 pub load-found-requires : goal.load-found-requires
@@ -100,13 +100,20 @@ returns-then-exchange-found-clause-record c =
     c.if-exchange-found.true
 
 pub returns-then-exchange-found-clause-tried : goal.returns-then-exchange-found-clause-tried
-returns-then-exchange-found-clause-tried c =
-    lost_walked c.args.token.now c.args.token.now c.load-found.new.token c.args.call.now c.load-found.result
-    (walked_yet c.args.self.now c.args.token.now (Acquiring c.args.call.now A5) refl c.requires.0) c.requires.1 c.load-found.ensures.went.0
-    c.load-found.ensures.own (slots_are c.load-found.ensures.went.1)
-    c.exchange.new.token c.exchange.result (let z = c.if-found-eq0.false in omega (arith, z)) c.exchange.ensures.went.0 c.exchange.ensures.own
-    (slots_are c.exchange.ensures.went.1)
-    c.if-exchange-found.true
+returns-then-exchange-found-clause-tried c = (
+  lost_walked c.args.token.now c.args.token.now c.load-found.new.token c.args.call.now c.load-found.result
+      (walked_yet c.args.self.now c.args.token.now (Acquiring c.args.call.now A5) refl c.requires.0) c.requires.1 c.load-found.ensures.went.0
+      c.load-found.ensures.own (slots_are c.load-found.ensures.went.1)
+      c.exchange.new.token c.exchange.result (let z = c.if-found-eq0.false in omega (arith, z)) c.exchange.ensures.went.0 c.exchange.ensures.own
+      (slots_are c.exchange.ensures.went.1)
+      c.if-exchange-found.true,
+  lost_changed c.args.token.now c.args.token.now c.load-found.new.token c.args.call.now c.load-found.result
+      (walked_yet c.args.self.now c.args.token.now (Acquiring c.args.call.now A5) refl c.requires.0) c.requires.1 c.load-found.ensures.went.0
+      c.load-found.ensures.own (slots_are c.load-found.ensures.went.1)
+      c.exchange.new.token c.exchange.result (let z = c.if-found-eq0.false in omega (arith, z)) c.exchange.ensures.went.0 c.exchange.ensures.own
+      (slots_are c.exchange.ensures.went.1)
+      c.if-exchange-found.true,
+)
 
 pub returns-clause-record : goal.returns-clause-record
 returns-clause-record c =

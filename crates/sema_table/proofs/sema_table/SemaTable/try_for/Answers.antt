@@ -11,7 +11,7 @@ use Rattle.sema_table.proofs.Owned.{someones, word_in}
 use Rattle.sema_table.proofs.Allowing.{owes_here}
 use Rattle.sema_table.proofs.Leading.{exchanged}
 use Rattle.sema_table.proofs.Walking.{walked_adds, walked_yet}
-use Rattle.sema_table.proofs.Granting.{zero_for, some_for, won_for, lost_for}
+use Rattle.sema_table.proofs.Granting.{zero_for, some_for, won_for, lost_for, changed_for}
 use Rattle.sema_table.proofs.sema_table.SemaTable.try_for.Goals as goal
 
 pub load-found-requires : goal.load-found-requires
@@ -90,12 +90,18 @@ returns-then-found-eq0-clause-tried c =
     c.load-found.ensures.own c.if-found-eq0.true
 
 pub returns-then-exchange-found-clause-tried : goal.returns-then-exchange-found-clause-tried
-returns-then-exchange-found-clause-tried c =
-    lost_for c.args.token.now c.args.token.now c.load-found.new.token c.args.call.now c.args.id.now c.load-found.result
-    (walked_yet c.args.self.now c.args.token.now (Releasing c.args.call.now R7) refl c.requires.0) c.requires.1 c.load-found.ensures.went.0
-    c.load-found.ensures.own
-    c.exchange.new.token c.exchange.result (let z = c.if-found-eq0.false in omega (arith, z)) c.exchange.ensures.went.0 c.exchange.ensures.own
-    c.if-exchange-found.true
+returns-then-exchange-found-clause-tried c = (
+  lost_for c.args.token.now c.args.token.now c.load-found.new.token c.args.call.now c.args.id.now c.load-found.result
+      (walked_yet c.args.self.now c.args.token.now (Releasing c.args.call.now R7) refl c.requires.0) c.requires.1 c.load-found.ensures.went.0
+      c.load-found.ensures.own
+      c.exchange.new.token c.exchange.result (let z = c.if-found-eq0.false in omega (arith, z)) c.exchange.ensures.went.0 c.exchange.ensures.own
+      c.if-exchange-found.true,
+  changed_for c.args.token.now c.args.token.now c.load-found.new.token c.args.call.now c.args.id.now c.load-found.result
+      (walked_yet c.args.self.now c.args.token.now (Releasing c.args.call.now R7) refl c.requires.0) c.requires.1 c.load-found.ensures.went.0
+      c.load-found.ensures.own
+      c.exchange.new.token c.exchange.result (let z = c.if-found-eq0.false in omega (arith, z)) c.exchange.ensures.went.0 c.exchange.ensures.own
+      c.if-exchange-found.true,
+)
 
 pub returns-clause-tried : goal.returns-clause-tried
 returns-clause-tried c =

@@ -11,7 +11,7 @@ use Rattle.sema_table.proofs.Owned.{someones, word_in}
 use Rattle.sema_table.proofs.Allowing.{owes_here}
 use Rattle.sema_table.proofs.Leading.{exchanged}
 use Rattle.sema_table.proofs.Walking.{walked_adds, walked_yet}
-use Rattle.sema_table.proofs.Retrying.{zero_again, some_again, won_again, lost_again}
+use Rattle.sema_table.proofs.Retrying.{zero_again, some_again, won_again, lost_again, again_changed}
 use Rattle.sema_table.proofs.sema_table.SemaTable.try_woken.Goals as goal
 
 pub load-found-requires : goal.load-found-requires
@@ -89,12 +89,18 @@ returns-then-found-eq0-clause-tried c =
     c.load-found.ensures.went.0 c.load-found.ensures.own c.if-found-eq0.true
 
 pub returns-then-exchange-found-clause-tried : goal.returns-then-exchange-found-clause-tried
-returns-then-exchange-found-clause-tried c =
-    lost_again c.args.token.now c.args.token.now c.load-found.new.token c.args.call.now c.load-found.result
-    (walked_yet c.args.self.now c.args.token.now (Acquiring c.args.call.now A10) refl c.requires)
-    c.load-found.ensures.went.0 c.load-found.ensures.own
-    c.exchange.new.token c.exchange.result (let z = c.if-found-eq0.false in omega (arith, z)) c.exchange.ensures.went.0 c.exchange.ensures.own
-    c.if-exchange-found.true
+returns-then-exchange-found-clause-tried c = (
+  lost_again c.args.token.now c.args.token.now c.load-found.new.token c.args.call.now c.load-found.result
+      (walked_yet c.args.self.now c.args.token.now (Acquiring c.args.call.now A10) refl c.requires)
+      c.load-found.ensures.went.0 c.load-found.ensures.own
+      c.exchange.new.token c.exchange.result (let z = c.if-found-eq0.false in omega (arith, z)) c.exchange.ensures.went.0 c.exchange.ensures.own
+      c.if-exchange-found.true,
+  again_changed c.args.token.now c.args.token.now c.load-found.new.token c.args.call.now c.load-found.result
+      (walked_yet c.args.self.now c.args.token.now (Acquiring c.args.call.now A10) refl c.requires)
+      c.load-found.ensures.went.0 c.load-found.ensures.own
+      c.exchange.new.token c.exchange.result (let z = c.if-found-eq0.false in omega (arith, z)) c.exchange.ensures.went.0 c.exchange.ensures.own
+      c.if-exchange-found.true,
+)
 
 pub returns-clause-tried : goal.returns-clause-tried
 returns-clause-tried c =
