@@ -34,8 +34,8 @@ use Rattle.sema_table.proofs.After.{after_call}
 use Rattle.sema_table.proofs.Calling.{calls}
 use Rattle.sema_table.proofs.Retrying.{again_token}
 use Rattle.sema_table.proofs.Tellers.{row_tells, row_leads}
-use Rattle.sema_table.proofs.Changing.{number_there}
 use Rattle.sema_table.proofs.CallerTries.{both_nil}
+use Rattle.sema_table.proofs.Changing.{number_there}
 use Rattle.sema_table.proofs.CallerEnters.{retries}
 
 -- under the lock, before anything was told

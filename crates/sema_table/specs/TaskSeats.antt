@@ -1,6 +1,4 @@
 -- What a caller sees of a seat of a task, wherever it stands, and what the seat keeps of its token there.
-use Rattle.step_table.specs.declared.place.Acquire.{Acquire}
-use Rattle.step_table.specs.declared.place.ReleaseMany.{ReleaseMany}
 use Rattle.sema_table.specs.declared.seat.Numbers.{Numbers}
 use Rattle.sema_table.specs.declared.task_seat.Stage.{Stage}
 use Rattle.sema_table.specs.declared.task_seat.Stage.TheVariants as at

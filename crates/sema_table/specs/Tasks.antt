@@ -6,7 +6,6 @@ use Rattle.step_table.specs.declared.place.AcquireRow.TheVariants.{A3}
 use Rattle.step_table.specs.declared.place.Place.TheVariants.{Acquiring}
 use Rattle.sema_table.specs.declared.answers.Entered.TheVariants as entered
 use Rattle.sema_table.specs.declared.answers.Polled.TheVariants as polled
-use Rattle.sema_table.specs.declared.answers.PostRefused.{PostRefused}
 use Rattle.sema_table.specs.declared.answers.Posted.TheVariants as posted
 use Rattle.sema_table.specs.declared.answers.Retried.TheVariants as retried
 use Rattle.sema_table.specs.declared.answers.Tried.{Tried}
@@ -26,6 +25,8 @@ use Rattle.sema_table.specs.declared.task_answers.TaskRetried.TheVariants as ret
 use Rattle.sema_table.specs.declared.task_seat.TaskStage.{TaskStage}
 use Rattle.sema_table.specs.declared.task_seat.TaskStage.TheVariants.{Resting, Owing, OwingMany, Sleeping, Woken}
 use Rattle.sema_table.specs.Seats.{TableModel, SeatModel}
+use Rattle.sema_table.specs.Changes.{HasChanged}
+use Rattle.sema_table.specs.Outcomes.{IfLost}
 use Rattle.sema_table.specs.Making.{IsMade}
 use Rattle.sema_table.specs.Tries.{IsValue, IsWaiters, IsTried, IsPosted}
 use Rattle.sema_table.specs.Waking.{acquire_of, IsEntered, IsPolled, TriesWoken, IsWakened}
@@ -75,6 +76,7 @@ CountsByTask s c (Err why) t = Refuses s t (because (s.stage ≢ Resting) (HasNo
 abbrev pub TriesByTask : TaskModel → ℕ → Result Tried TaskRefused → TaskModel → Type 0
 TriesByTask s c (Ok tried) t =
     Goes s Resting Resting t × IsTried s.seat c tried t.seat × TriesToAcquire s.seat c tried t.seat
+    × IfLost tried (HasChanged c s.seat.sight.seen t.seat.sight.seen)
 TriesByTask s c (Err why) t = Refuses s t (because (s.stage ≢ Resting) (HasNot s c) ⊥ ⊥ ⊥ why)
 
 abbrev pub PostsByTask : TaskModel → ℕ → Result TaskPosted TaskRefused → TaskModel → Type 0

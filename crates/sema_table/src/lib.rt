@@ -9,14 +9,14 @@
 //! a unit, and [`SemaTable::wake`] takes the first wait out and grants it. [`SemaTable::release_many`] does
 //! the same for many units, and for as many waits; its parts are [`SemaTable::post_many`] and
 //! [`SemaTable::wake_some`]. A caller that must not wait, as a scheduler, has [`SemaTable::try_enter`],
-//! [`SemaTable::retry_at_once`], [`SemaTable::try_wake`] and [`SemaTable::try_wake_some`], which give the seat
-//! back as it was where a lock stays held. A [`TaskTable`] is for tasks whose threads somebody else parks: none
-//! of its calls waits or calls the kernel, and its seats are of one type wherever they stand. [`SemaTable::spin`] looks for a unit for a while, as a lock does before it
-//! acquires; it takes none, and nothing is promised of it. By [`SemaTable::meet`] two seats come to have seen
-//! one journal. Each atomic step is one row of the step table, in every schedule, and the contract of a call
-//! has a path of such rows and the entries of the journal that they told (`rows`), and says what the call is
-//! to its caller, without rows (`caller`); [`law_of_the_table`] says that the table is lawful between any two
-//! of them.
+//! [`SemaTable::retry_at_once`], [`SemaTable::try_wake`] and [`SemaTable::try_wake_some`]: where a lock
+//! stays held the seat comes back as it was. A [`TaskTable`] is for tasks whose threads somebody else
+//! parks: none of its calls waits or calls the kernel, and its seats are of one type wherever they stand.
+//! [`SemaTable::spin`] looks for a unit for a while, as a lock does before it acquires; it takes none, and
+//! nothing is promised of it. By [`SemaTable::meet`] two seats come to have seen one journal. Each atomic
+//! step is one row of the step table, in every schedule, and the contract of a call has a path of such rows
+//! and the entries of the journal that they told (`rows`), and says what the call is to its caller, without
+//! rows (`caller`); [`law_of_the_table`] says that the table is lawful between any two of them.
 //!
 //! A table has 1 to 65,536 counters, 1 to 256 seats and 1 to 251 roots; a counter starts below 2^32, and a
 //! seat adds at most 2^40 units. [`SemaTable::new`] names the first of these limits that isn't kept, or want

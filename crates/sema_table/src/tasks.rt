@@ -12,6 +12,8 @@ ghost use Rattle.sema_table.specs.declared.task_seat.TaskStage.TheVariants.{Rest
 ghost use Rattle.sema_table.specs.Tasks.{ReadsByTask, CountsByTask, TriesByTask, PostsByTask, IsMadeForTasks};
 ghost use Rattle.sema_table.specs.Callers.{ReadsNumber, CountsWaits, TriesToAcquire};
 ghost use Rattle.sema_table.specs.CallersReleasing.{PostsUnit};
+ghost use Rattle.sema_table.specs.Outcomes.{IfLost};
+ghost use Rattle.sema_table.specs.Walks.{Changed};
 ghost use Rattle.sema_table.specs.Tasks.{Unfit, MatchPosted};
 
 use crate::answers::Tried;
@@ -180,6 +182,7 @@ impl SemaTable {
         ensures rows { IsTried (seat_of token.old numbers.old) counter result (seat_of token.new numbers.new) }
         ensures caller { TriesToAcquire (seat_of token.old numbers.old) counter result
             (seat_of token.new numbers.new) }
+        ensures settles { IfLost result (Changed counter token.old token.new) }
     {
         let word = counter_word(counter.number());
         let found = self.words.load::<AtTry>(token, word);

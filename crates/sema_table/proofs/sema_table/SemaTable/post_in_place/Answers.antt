@@ -12,7 +12,7 @@ use Rattle.sema_table.specs.Seats.{TableModel, seat_of, IsOwing}
 use Rattle.sema_table.specs.Walks.{moved_to}
 use Rattle.sema_table.specs.Tries.{releasing, IsPosted}
 use Rattle.sema_table.proofs.Striding.{slots_are}
-use Rattle.sema_table.proofs.Owned.{someones, own, counter_in, word_in}
+use Rattle.sema_table.proofs.Owned.{someones, word_in}
 use Rattle.sema_table.proofs.Allowing.{owes, owes_here}
 use Rattle.sema_table.proofs.Apart.{run_of, owes_of}
 use Rattle.sema_table.proofs.Stepping.{counter_up}

@@ -3,10 +3,11 @@ use prog.Atomic.{either}
 use Rattle.step_table.specs.declared.place.AcquireRow.TheVariants.{A1, A2}
 use Rattle.step_table.specs.declared.word.Word.TheVariants.{Counter}
 use Rattle.sema_table.specs.declared.answers.Tried.TheVariants.{Taken, Zero, Lost}
-use Rattle.sema_table.specs.Seats.{TableModel, SeatModel, seat_of}
+use Rattle.sema_table.specs.Seats.{TableModel, seat_of}
 use Rattle.sema_table.specs.Tries.{acquiring, IsTried}
+use Rattle.sema_table.specs.Changes.{HasChanged}
 use Rattle.sema_table.proofs.Striding.{slots_are}
-use Rattle.sema_table.proofs.Owned.{someones, own, counter_in, word_in}
+use Rattle.sema_table.proofs.Owned.{someones, word_in}
 use Rattle.sema_table.proofs.Allowing.{owes, owes_here}
 use Rattle.sema_table.proofs.Apart.{run_of, owes_of}
 use Rattle.sema_table.proofs.Leading.{exchanged}
@@ -14,7 +15,7 @@ use Rattle.step_table.specs.World.{SeatState}
 use Rattle.sema_table.specs.declared.seat.Numbers.{Numbers}
 use Rattle.sema_table.specs.Walks.{moved_to}
 use Rattle.sema_table.proofs.Walking.{added_few, walked_adds}
-use Rattle.sema_table.proofs.Trying.{walked_some, zero_seat, tried_zero, lost_seat, tried_lost, taken_seat, tried_taken}
+use Rattle.sema_table.proofs.Trying.{walked_some, zero_seat, tried_zero, lost_seat, tried_lost, lost_changed, taken_seat, tried_taken}
 use Rattle.sema_table.proofs.CallerTries.{tries}
 use Rattle.sema_table.proofs.sema_table.SemaTable.try_in_place.Goals as goal
 
@@ -104,6 +105,16 @@ returns-then-exchange-found-clause-rows c =
 pub returns-then-exchange-found-clause-caller : goal.returns-then-exchange-found-clause-caller
 returns-then-exchange-found-clause-caller c =
     tries (seat_of c.args.token.now c.args.numbers.now) (seat_of c.exchange.new.token c.args.numbers.now) c.args.counter Lost (returns-then-exchange-found-clause-rows c)
+
+pub returns-then-exchange-found-clause-settles : goal.returns-then-exchange-found-clause-settles
+returns-then-exchange-found-clause-settles c =
+    let s = c.args.token.now in let u = c.exchange.new.token in
+    subst (λ k. HasChanged k s.me.0.own.knows.seen u.me.0.own.knows.seen) c.number.ensures
+    (lost_changed s c.load-found.new.token u c.args.numbers.now c.number.result c.load-found.result c.exchange.result c.requires.seat.0
+    (run_of (λ k. acquiring k A1) c.counter_word-word.result c.number.result (c.counter_word-word.ensures.at) s.me.0.own c.load-found.result
+    c.load-found.new.token.me.0.own c.load-found.ensures.went.0) c.exchange.ensures.went.0
+    c.load-found.ensures.own c.exchange.ensures.own (slots_are c.load-found.ensures.went.1) (slots_are c.exchange.ensures.went.1)
+    (let z = c.if-found-eq0.false in omega (arith, z)) c.if-exchange-found.true)
 
 pub overflow_add-numbers : goal.overflow_add-numbers
 overflow_add-numbers c = let m = c.requires.seat.0.token_is.most in omega arith

@@ -1,9 +1,8 @@
 use Rattle.std.proofs.Common.{ℕ, ◌<◌, length, sym, ap, ◌∙◌, subst, arith}
 use Rattle.step_table.specs.declared.word.Word.TheVariants.{Counter}
-use Rattle.sema_table.specs.Seats.{TableModel, SeatModel, seat_of}
-use Rattle.sema_table.specs.Tries.{IsValue}
+use Rattle.sema_table.specs.Seats.{TableModel, seat_of}
 use Rattle.sema_table.proofs.Striding.{slots_are}
-use Rattle.sema_table.proofs.Owned.{own, counter_in, word_in, someones}
+use Rattle.sema_table.proofs.Owned.{word_in, someones}
 use Rattle.sema_table.proofs.Seeing.{counter_seen}
 use Rattle.sema_table.proofs.Trying.{counter_look, looked_seat, is_value}
 use Rattle.sema_table.proofs.CallerTries.{reads_number}

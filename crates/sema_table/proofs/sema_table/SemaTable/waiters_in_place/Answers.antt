@@ -1,10 +1,9 @@
 use Rattle.std.proofs.Common.{◌≡◌, ℕ, sym, ap, ◌∙◌, subst, arith}
 use Rattle.step_table.specs.declared.word.Word.TheVariants.{Waiters}
 use Rattle.sema_table.specs.Setting.{root, address}
-use Rattle.sema_table.specs.Seats.{TableModel, SeatModel, seat_of}
-use Rattle.sema_table.specs.Tries.{IsWaiters}
+use Rattle.sema_table.specs.Seats.{TableModel, seat_of}
 use Rattle.sema_table.proofs.Striding.{slots_are}
-use Rattle.sema_table.proofs.Owned.{own, word_in, some_root, someones}
+use Rattle.sema_table.proofs.Owned.{word_in, some_root, someones}
 use Rattle.running_rows.specs.Owing.{IsSeen}
 use Rattle.sema_table.specs.Rows.{semaphore_rows}
 use Rattle.sema_table.proofs.Seeing.{waiters_seen}
