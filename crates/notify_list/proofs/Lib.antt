@@ -23,6 +23,7 @@ pub mod Emptying
 pub mod Wakening
 pub mod Broadcasting
 pub mod LookingTogether
+pub mod Parking
 pub mod Reckoning
 pub mod Gathering
 pub mod Answering

@@ -3,7 +3,9 @@
 use Rattle.std.specs.Prelude.{◌≡◌, ◌≢◌, ℕ, zero, suc, ◌+◌, ◌<◌, Bool, true, false, List, [], ◌∷◌, ◌++◌}
 use Rattle.std.specs.Prelude.{Option, Some, None}
 use Rattle.std.specs.List.{filter}
+use Rattle.step_table.specs.declared.list_place.ListPlace.TheVariants.{Waiting}
 use Rattle.step_table.specs.declared.list_place.Ticket.{Ticket}
+use Rattle.step_table.specs.declared.list_place.WaitRow.TheVariants.{P}
 use Rattle.step_table.specs.ListWorld.{ListEntry, Took, Granted}
 use Rattle.step_table.specs.Path.{GoesOn}
 use Rattle.step_table.specs.Wrapping.{word_of, less}
@@ -14,6 +16,10 @@ use Rattle.notify_list.specs.declared.closed.ListClosed.{ListClosed}
 use Rattle.notify_list.specs.declared.view.Setting.{Setting}
 use Rattle.notify_list.specs.declared.waited.Waited.{Waited}
 use Rattle.notify_list.specs.declared.waited.Waited.TheVariants.{AtOnce, Parked}
+use Rattle.notify_list.specs.declared.waited.Entered.{Entered}
+use Rattle.notify_list.specs.declared.waited.Entered.TheVariants as entered
+use Rattle.notify_list.specs.declared.waited.Polled.{Polled}
+use Rattle.notify_list.specs.declared.waited.Polled.TheVariants as polled
 use Rattle.notify_list.specs.Seats.{SeatModel}
 use Rattle.notify_list.specs.Calls.{TellsIn, AllGranted, numbers_seen}
 
@@ -49,6 +55,26 @@ WaitsForGrant s waited t =
     IsSeatAfter s [] t × (t.sight.stands.ticket ≡ None)
     × ((ticket : Ticket) × (s.sight.stands.ticket ≡ Some ticket) × (ticket.number < (numbers_seen t).granted)
     × ((u : SeatModel) × LooksWith s ticket waited u × TellsIn u.sight.seen [] t.sight.seen))
+
+-- the seat is parked: its wait with this ticket is queued
+abbrev pub IsParkedWith : SeatModel → Ticket → Type 0
+IsParkedWith s ticket = s.sight.stands.place ≡ Waiting ticket P
+
+-- the ticket was found granted, under the lock; or it wasn't, and the seat is parked with it
+abbrev pub EntersWait : SeatModel → Entered → Type 0
+EntersWait s (entered.AtOnce t) = WaitsForGrant s AtOnce t
+EntersWait s (entered.Queued t) =
+    IsSeatAfter s [] t
+    × ((ticket : Ticket) × (s.sight.stands.ticket ≡ Some ticket) × IsParkedWith t ticket
+    × ((u : SeatModel) × LooksWith s ticket Parked u × TellsIn u.sight.seen [] t.sight.seen))
+
+-- the seat is parked on, with the same ticket; or its ticket is granted now, and it holds none
+abbrev pub PollsGrant : SeatModel → Polled → Type 0
+PollsGrant s (polled.Still t) =
+    IsSeatAfter s [] t × (t.sight.stands ≡ s.sight.stands) × ((ticket : Ticket) × IsParkedWith s ticket)
+PollsGrant s (polled.Granted t) =
+    IsSeatAfter s [] t × (t.sight.stands.ticket ≡ s.sight.stands.ticket)
+    × ((ticket : Ticket) × IsParkedWith s ticket × (ticket.number < (numbers_seen t).granted))
 
 -- by one entry, as the last that it told, the seat granted the least ticket that wasn't granted, and the
 -- answer is its word; or all tickets are granted of which it knew before

@@ -11,6 +11,7 @@ pub mod Records
 pub mod Calls
 pub mod Tickets
 pub mod Waiting
+pub mod Entering
 pub mod Notifying
 pub mod Granting
 pub mod NotifyingAll

@@ -1,4 +1,4 @@
-//! A seat between two calls, without a ticket and with one.
+//! A seat between two calls: without a ticket, with one, and parked.
 ghost use Rattle.std.specs.Prelude.{◌≡◌};
 
 use crate::rows::Token;
@@ -19,6 +19,12 @@ pub struct Holding {
     pub(crate) ticket: u64,
 }
 
+/// A seat whose wait is queued. It must be spent, by `poll`.
+pub struct Parked {
+    pub(crate) token: Token,
+    pub(crate) number: u16,
+}
+
 impl Model for ListSeat {
     ghost use Rattle.notify_list.specs.Seats.{SeatModel, seat_of, IsSeat};
 
@@ -37,6 +43,16 @@ impl Model for Holding {
     ghost view = { λ s. seat_of s.token s.number };
 
     ghost invariant = { λ s. IsHolding s.token s.number s.ticket };
+}
+
+impl Model for Parked {
+    ghost use Rattle.notify_list.specs.Seats.{SeatModel, seat_of, IsParked};
+
+    ghost Value = { SeatModel };
+
+    ghost view = { λ s. seat_of s.token s.number };
+
+    ghost invariant = { λ s. IsParked s.token s.number };
 }
 
 impl ListSeat {
