@@ -1,5 +1,6 @@
 -- What notifying one and all are to their caller, from what they are in rows.
-use Rattle.std.proofs.Common.{◌≡◌, ◌≢◌, ◌⊎◌, ℕ, zero, suc, ◌+◌, List, [], ◌∷◌, ◌++◌, Option, Some, None, IfSome, IfNone, inl}
+use Rattle.std.proofs.Common.{◌≡◌, ◌≢◌, ◌⊎◌, ℕ, zero, suc, ◌+◌, List, [], ◌∷◌, ◌++◌, Option, Some, None, Result, Ok, Err, IfSome, IfNone, IfOk, MatchResult, inl}
+use Rattle.std.proofs.Common.{false}
 use Rattle.std.proofs.Common.{inr, ⊎_elim, sym, subst, arith}
 use Rattle.waiters.specs.declared.wait.Wait.{Wait}
 use Rattle.step_table.specs.declared.list_place.ListPlace.{ListPlace}
@@ -13,10 +14,11 @@ use Rattle.step_law_lists.specs.ListLawful.{told, Follows}
 use Rattle.notify_list.specs.Places.{at_place}
 use Rattle.notify_list.specs.Seats.{SeatModel}
 use Rattle.notify_list.specs.Calls.{Calls, AllGranted}
-use Rattle.notify_list.specs.Tickets.{looks}
-use Rattle.notify_list.specs.Notifying.{OneFromLock, NotifiesOne, GrantsLeast}
+use Rattle.notify_list.specs.declared.notified.Notified.{Notified}
+use Rattle.notify_list.specs.Tickets.{looks, HasLooked}
+use Rattle.notify_list.specs.Notifying.{OneFromLock, NotifiesOne, GrantsLeast, ticket_of}
 use Rattle.notify_list.specs.NotifyingAll.{looks_all, all_rows, all_entries, NotifiesAll, GrantsSome, GrantsUpTo}
-use Rattle.notify_list.specs.Callers.{IsSeatAfter, NotifiesOneTicket, NotifiesAllTickets}
+use Rattle.notify_list.specs.Callers.{IsSeatAfter, NotifiesOneTicket, NotifiesAllTickets, FindsAllGranted}
 use Rattle.notify_list.proofs.Answering.{seat_after, seen_as, seat_between, seat_since, seat_before, granted_it}
 
 module _ (s t : SeatModel) (lawful : Follows t.sight.seen) where
@@ -86,3 +88,12 @@ module _ (s t : SeatModel) (lawful : Follows t.sight.seen) where
       by zero (inr locked) some granted = (granted, after locked.1.4)
       by (suc n) (inl quiet) some granted = absurd (let e = quiet.0 in omega arith)
       by (suc n) (inr locked) some granted = all_handed n locked.1.2 granted (after locked.1.4) some
+
+-- the same of a call that tried for the lock
+pub tries_one : {E : Type 0} (s u t : SeatModel) → Follows t.sight.seen → FindsAllGranted s false u → (r : Result (Option Notified) E)
+    → MatchResult r (λ o. NotifiesOne s (ticket_of o) t) (λ busy. HasLooked s false t)
+    → MatchResult r (λ o. Unit {0}) (λ busy. t ≡ u)
+    → IfOk r (λ o. IfSome (ticket_of o) (λ word. GrantsLeast s word t)) → IfOk r (λ o. IfNone (ticket_of o) (AllGranted s t))
+    → MatchResult r (λ o. NotifiesOneTicket s (ticket_of o) t) (λ busy. FindsAllGranted s false t)
+tries_one s u t lawful looked (Ok o) rows same some none = notifies_one s t lawful (ticket_of o) rows some none
+tries_one s u t lawful looked (Err busy) rows same some none = subst (λ (q : SeatModel). FindsAllGranted s false q) (sym same) looked

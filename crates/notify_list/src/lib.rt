@@ -20,11 +20,13 @@
 
 mod closed;
 mod closing;
+mod grant_one;
 mod heirs;
 mod laws;
 mod locks;
 mod make;
 mod meeting;
+mod notified;
 mod notify_all;
 mod notify_list;
 mod notify_one;
@@ -41,6 +43,7 @@ mod waits;
 
 pub use closed::ListClosed;
 pub use laws::law_of_the_list;
+pub use notified::{Busy, Notified};
 pub use notify_list::NotifyList;
 pub use seat::{Holding, ListSeat, Parked};
 pub use setup_error::SetupError;

@@ -15,7 +15,7 @@ impl NotifyList {
         ensures rows { IsPolled parked result }
         ensures caller { PollsGrant parked result }
     {
-        match self.take_grant(parked) {
+        match self.poll_silently(parked) {
             Polled::Still(parked) => Polled::Still(parked),
             Polled::Granted(mut seat) => {
                 self.wake_heirs(&mut seat.token, seat.number);
@@ -25,7 +25,7 @@ impl NotifyList {
     }
 
     /// The same, and nobody is woken.
-    pub(crate) fn take_grant(&self, parked: Parked) -> Polled
+    pub(crate) fn poll_silently(&self, parked: Parked) -> Polled
         requires { parked.list ≡ self.now }
         ensures rows { IsPolled parked result }
         ensures caller { PollsGrant parked result }

@@ -58,7 +58,7 @@ impl NotifyList {
         ensures rows { MatchResult result (λ entered. IsEntered holding entered) (λ kept. kept ≡ holding) }
         ensures caller { MatchResult result (λ entered. EntersWait holding entered) (λ kept. kept ≡ holding) }
     {
-        let tried = self.try_enter(holding);
+        let tried = self.wait_silently(holding);
         match &tried {
             Ok(Entered::AtOnce(seat)) => self.rouse_at_lock(&seat.token),
             Ok(Entered::Queued(parked)) => self.rouse_at_lock(&parked.token),
@@ -68,7 +68,7 @@ impl NotifyList {
     }
 
     /// The same, and nobody is woken.
-    pub(crate) fn try_enter(&self, holding: Holding) -> Result<Entered, Holding>
+    pub(crate) fn wait_silently(&self, holding: Holding) -> Result<Entered, Holding>
         requires { holding.list ≡ self.now }
         ensures rows { MatchResult result (λ entered. IsEntered holding entered) (λ kept. kept ≡ holding) }
         ensures caller { MatchResult result (λ entered. EntersWait holding entered) (λ kept. kept ≡ holding) }

@@ -1,7 +1,7 @@
 use Rattle.std.proofs.Common.{ℕ, ap, ◌∙◌}
 use Rattle.notify_list.specs.Seats.{SeatModel}
 use Rattle.notify_list.proofs.Queueing.{may_wait}
-use Rattle.notify_list.proofs.notify_list.NotifyList.try_enter.Goals as goal
+use Rattle.notify_list.proofs.notify_list.NotifyList.wait_silently.Goals as goal
 
 pub try_lock-requires : goal.try_lock-requires
 try_lock-requires c = let s = c.holding.inside.token in let n : ℕ = c.holding.inside.number in
