@@ -31,3 +31,4 @@ pub mod Rereading
 pub mod Callers
 pub mod CallersNotifying
 pub mod CallersEnding
+pub mod Concluding

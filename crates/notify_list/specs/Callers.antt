@@ -1,9 +1,10 @@
 -- What each call is to its caller: the seat before and after, the entries that it told, tickets, and what the
 -- answer means.
-use Rattle.std.specs.Prelude.{◌≡◌, ◌≢◌, ℕ, zero, suc, ◌+◌, ◌<◌, Bool, true, false, List, [], ◌∷◌, ◌++◌}
+use Rattle.std.specs.Prelude.{◌≡◌, ◌≢◌, ℕ, zero, suc, ◌+◌, ◌<◌, ◌≤◌, Bool, true, false, List, [], ◌∷◌, ◌++◌}
 use Rattle.std.specs.Prelude.{Option, Some, None}
 use Rattle.std.specs.List.{filter}
-use Rattle.step_table.specs.declared.list_place.ListPlace.TheVariants.{Waiting}
+use Rattle.step_table.specs.declared.list_place.AllRow.TheVariants.{L3}
+use Rattle.step_table.specs.declared.list_place.ListPlace.TheVariants.{Waiting, NotifyingAll}
 use Rattle.step_table.specs.declared.list_place.Ticket.{Ticket}
 use Rattle.step_table.specs.declared.list_place.WaitRow.TheVariants.{P}
 use Rattle.step_table.specs.ListWorld.{ListEntry, Took, Granted}
@@ -97,6 +98,29 @@ NotifiesAllTickets s (suc n) t =
     × ((numbers_seen u).granted + suc n ≡ (numbers_seen look).handed)
     × IsSeatAfter s (Granted (numbers_seen look).handed s.number ∷ []) t
     × TellsIn (u.sight.seen ++ Granted (numbers_seen look).handed s.number ∷ []) [] t.sight.seen)
+
+-- the seat has to go on with a notification of all, which found h tickets handed out
+abbrev pub IsNotifyingAll : SeatModel → ℕ → Type 0
+IsNotifyingAll s h = s.sight.stands.place ≡ NotifyingAll h L3
+
+-- the seat has to go on: it found no fewer tickets handed out than it knew of
+abbrev pub LooksToNotifyAll : SeatModel → SeatModel → Type 0
+LooksToNotifyAll s t = IsSeatAfter s [] t × ((h : ℕ) × IsNotifyingAll t h × ((numbers_seen s).handed ≤ h))
+
+-- it told nothing; or one entry, by which all n were granted that were handed out when it looked, and weren't
+-- granted yet
+abbrev pub GrantsAllSeen : SeatModel → ℕ → SeatModel → Type 0
+GrantsAllSeen s zero t = IsSeatAfter s [] t
+GrantsAllSeen s (suc n) t =
+    (look u : SeatModel) × IsSeatAfter s [] look × IsSeatAfter look [] u
+    × ((numbers_seen u).granted + suc n ≡ (numbers_seen look).handed)
+    × IsSeatAfter s (Granted (numbers_seen look).handed s.number ∷ []) t
+    × TellsIn (u.sight.seen ++ Granted (numbers_seen look).handed s.number ∷ []) [] t.sight.seen
+
+-- the tickets are granted that the notification found handed out
+abbrev pub EndsNotifyingAll : SeatModel → ℕ → SeatModel → Type 0
+EndsNotifyingAll s n t =
+    ((h : ℕ) × IsNotifyingAll s h × (h ≤ (numbers_seen t).granted)) × GrantsAllSeen s n t
 
 -- all tickets are granted of which the seat knew before; or it saw another number granted than, a look
 -- earlier, handed out

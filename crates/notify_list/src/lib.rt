@@ -43,8 +43,8 @@ mod waits;
 
 pub use closed::ListClosed;
 pub use laws::law_of_the_list;
-pub use notified::{Busy, Notified};
+pub use notified::{Busy, Notified, NotifiedAll};
 pub use notify_list::NotifyList;
-pub use seat::{Holding, ListSeat, Parked};
+pub use seat::{Holding, ListSeat, OwingAll, Parked};
 pub use setup_error::SetupError;
 pub use waited::{Entered, Polled, Waited};

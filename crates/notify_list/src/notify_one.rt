@@ -133,10 +133,12 @@ impl NotifyList {
         requires granted { HasGranted self.now notified.now token.now }
     {
         self.rouse_at_lock(token);
-        if let Some(Notified {
-            ticket: _,
-            seat: Some(seat),
-        }) = notified
+        if let Some(
+            Notified {
+                ticket: _,
+                seat: Some(seat),
+            },
+        ) = notified
         {
             let grant = grant_word(*seat);
             self.words.rouse(token, grant, self.asleep_word(*seat), 1);

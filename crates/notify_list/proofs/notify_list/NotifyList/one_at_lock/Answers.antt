@@ -12,12 +12,17 @@ lock-requires g c = let s = c.seat.inside.token in let n : ℕ = c.seat.inside.n
     (ap (λ (y : SeatModel). y.list) c.seat.view_is ∙ c.requires.seat)
 
 pub grant_least-notified-requires : goal.grant_least-notified-requires
-grant_least-notified-requires g c = (c.seat.inside.token, c.seat.inside.number, c.requires.place.0, record {
-  seat = c.seat.invariant;
-  at = ap (λ (y : SeatModel). y.sight.stands.place) c.seat.view_is ∙ c.requires.place.1;
-  list_is = ap (λ (y : SeatModel). y.list) c.seat.view_is ∙ c.requires.seat;
-  locked = c.lock.ensures;
-})
+grant_least-notified-requires g c = (
+  c.seat.inside.token,
+  c.seat.inside.number,
+  c.requires.place.0,
+  record {
+    seat = c.seat.invariant;
+    at = ap (λ (y : SeatModel). y.sight.stands.place) c.seat.view_is ∙ c.requires.place.1;
+    list_is = ap (λ (y : SeatModel). y.list) c.seat.view_is ∙ c.requires.seat;
+    locked = c.lock.ensures;
+  },
+)
 
 pub invariant_of-seat : goal.invariant_of-seat
 invariant_of-seat g c = (c.grant_least-notified.ensures.rows c.seat.inside.token c.seat.inside.number c.requires.place.0 (record {
