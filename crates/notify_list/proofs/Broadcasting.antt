@@ -1,5 +1,5 @@
 -- A notification of all as a whole.
-use Rattle.std.proofs.Common.{◌≡◌, ℕ, zero, suc, ◌+◌, true, false, List, [], ◌∷◌, ◌++◌, Option, inl, inr, sym, refl, ap, ◌∙◌, subst}
+use Rattle.std.proofs.Common.{◌≡◌, ℕ, zero, suc, ◌+◌, true, false, List, [], ◌∷◌, ◌++◌, Option, inl, sym, refl, ap, ◌∙◌, subst}
 use Rattle.std.proofs.Common.{◌≤◌, arith, append-nil, append_assoc}
 use Rattle.waiters.specs.declared.wait.Wait.{Wait}
 use Rattle.step_table.specs.declared.list_place.AllRow.TheVariants.{L1, L2, L3, L4, L7, L8}

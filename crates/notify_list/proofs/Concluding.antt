@@ -1,9 +1,9 @@
 -- A notification of all as a whole: its two looks, and the rows from the lock on.
-use Rattle.std.proofs.Common.{◌≡◌, ℕ, zero, suc, ◌+◌, ◌≤◌, List, [], ◌∷◌, ◌++◌, Result, Ok, Err, IfOk, MatchResult, inr, sym, refl, ap}
+use Rattle.std.proofs.Common.{◌≡◌, ℕ, zero, suc, ◌+◌, [], ◌∷◌, ◌++◌, Result, Ok, Err, IfOk, MatchResult, inr, sym, ap}
 use Rattle.std.proofs.Common.{◌∙◌, subst, arith, append-nil}
 use Rattle.step_table.specs.declared.list_place.AllRow.TheVariants.{L1, L3}
 use Rattle.step_table.specs.declared.list_place.ListPlace.TheVariants.{Rest, NotifyingAll}
-use Rattle.step_table.specs.ListWorld.{ListSeat, ListEntry, Granted}
+use Rattle.step_table.specs.ListWorld.{ListSeat, Granted}
 use Rattle.step_table.specs.Path.{GoesOn, own_entries}
 use Rattle.step_table.proofs.Paths.{goes_on_more}
 use Rattle.step_law_lists.specs.ListLawful.{told, Follows}

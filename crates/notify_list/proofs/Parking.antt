@@ -24,7 +24,7 @@ use Rattle.notify_list.specs.Places.{at_place, is_free}
 use Rattle.notify_list.specs.Rule.{Homes, Shows}
 use Rattle.notify_list.specs.Rows.{list_rows, word_at}
 use Rattle.notify_list.specs.Plays.{Me}
-use Rattle.notify_list.specs.Seats.{SeatModel, Token, seat_of, IsToken, IsSeat, IsParked, seen_of, setting_of, stands_of}
+use Rattle.notify_list.specs.Seats.{SeatModel, Token, seat_of, IsSeat, IsParked, stands_of}
 use Rattle.notify_list.specs.Walks.{Walked}
 use Rattle.notify_list.specs.Calls.{Calls}
 use Rattle.notify_list.specs.Heirs.{IsSame}

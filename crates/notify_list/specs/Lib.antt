@@ -23,3 +23,5 @@ pub mod List
 pub mod Meeting
 pub mod Closing
 pub mod Callers
+pub mod TaskSeats
+pub mod Tasks

@@ -1,4 +1,4 @@
-use Rattle.std.proofs.Common.{ℕ, ◌++◌, [], ◌∷◌, true, false, refl, sym, ap, ◌∙◌, subst, arith}
+use Rattle.std.proofs.Common.{ℕ, ◌++◌, [], ◌∷◌, true, false, refl, sym, ◌∙◌, arith}
 use Rattle.step_table.specs.ListTable.{wait_for}
 use Rattle.notify_list.specs.Walks.{Edited}
 use Rattle.notify_list.specs.Seats.{queue_of}

@@ -1,4 +1,4 @@
-use Rattle.std.proofs.Common.{◌≡◌, ℕ, List, ap, ◌∙◌, subst, rules}
+use Rattle.std.proofs.Common.{ℕ, List, ap, ◌∙◌, subst}
 use Rattle.notify_list.specs.Seats.{SeatModel, seat_of}
 use Rattle.notify_list.specs.NotifyingAll.{EndsAll, StoresGrants}
 use Rattle.notify_list.proofs.Broadcasting.{may_lock, may_reach, empty_locked, may_wake, locked_seat, ends_all, granted_seats}

@@ -1,4 +1,4 @@
-use Rattle.std.proofs.Common.{Bool, false, subst}
+use Rattle.std.proofs.Common.{false}
 use Rattle.notify_list.specs.Tickets.{HasLooked}
 use Rattle.notify_list.proofs.Signalling.{quiet_one, place_then, tried_rows, tried_some, tried_none, kept_busy}
 use Rattle.notify_list.proofs.CallersNotifying.{tries_one}

@@ -1,5 +1,4 @@
-use Rattle.std.proofs.Common.{ℕ, ◌<◌, sym, ap, refl, ◌∙◌, subst, arith}
-use Rattle.step_table.specs.declared.list_place.ListWord.TheVariants.{Grant}
+use Rattle.std.proofs.Common.{ℕ, ◌<◌, sym, ap, refl, subst, arith}
 use Rattle.notify_list.specs.declared.waited.Polled.TheVariants.{Still, Granted}
 use Rattle.notify_list.specs.Seats.{ListModel, SeatModel, seat_of}
 use Rattle.notify_list.specs.Waiting.{IsPolled}

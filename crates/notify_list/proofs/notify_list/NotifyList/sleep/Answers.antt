@@ -1,4 +1,4 @@
-use Rattle.std.proofs.Common.{ℕ, sym, refl, ap, ◌∙◌, subst, arith}
+use Rattle.std.proofs.Common.{ℕ, refl, ap, ◌∙◌, subst, arith}
 use Rattle.notify_list.specs.Seats.{ListModel, SeatModel, seat_of}
 use Rattle.notify_list.specs.Waiting.{TakesGrant}
 use Rattle.notify_list.proofs.Owned.{own, low_word, grant_low, owned, aside_in}

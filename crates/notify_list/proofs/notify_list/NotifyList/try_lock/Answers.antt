@@ -1,4 +1,4 @@
-use Rattle.std.proofs.Common.{true, false, sym, ◌∙◌, arith}
+use Rattle.std.proofs.Common.{sym, ◌∙◌, arith}
 use Rattle.notify_list.proofs.Owned.{low_word, owned}
 use Rattle.notify_list.proofs.Locking.{lock_owes, has_tried}
 use Rattle.notify_list.proofs.notify_list.NotifyList.try_lock.Goals as goal
