@@ -1,0 +1,3 @@
+mod CellFields
+mod AsBox
+mod Dealing

@@ -1,0 +1,47 @@
+use Rattle.std.proofs.Common.{◌≡◌, ◌∙◌, refl, sym, ap, arith, rules, length, map, reverse, Some, inl, inr}
+use Rattle.std.proofs.lemmas.List.{length-map, length-reverse, reverse-reverse}
+use Rattle.std.proofs.lemmas.List.FromFn.{length-map-range_with_len}
+use Rattle.sema_table.specs.declared.settings.Settings.{Settings}
+use Rattle.sema_table.specs.declared.task_seat.TaskStage.TheVariants.{Resting}
+use Rattle.sema_table.specs.Seats.{SeatModel}
+use Rattle.sema_table.specs.TaskSeats.{TaskModel}
+use Rattle.sema_table.specs.Making.{new_seat}
+use Rattle.parklot_c.proofs.deal.deal.Goals as goal
+
+pub returns-in-Err : goal.returns-in-Err
+returns-in-Err c =
+    let k : Settings = record { starts = c.in-Ok.starts; seats = c.seats_for-seats.result; roots = c.args.roots; seed = c.args.seed; release_limit = c.args.release_limit } in
+    inr (inl (
+      k,
+      c.in-Err.refused,
+      c.of_setup.ensures,
+      record { starts_are = c.in-Ok.ensures; roots_are = refl; seed_is = refl; limit_is = refl; seats_are = c.seats_for-seats.ensures },
+      c.in-Err.ensures.err,
+      refl,
+    ))
+
+pub give-requires : goal.give-requires
+give-requires c =
+    let ok = c.in-Ok-new.ensures.ok in let t = c.in-Ok-new.made.0 in let seats = c.in-Ok-new.made.1.items in
+    let few = ok.1.allowed.seats.1 in
+    let long : length seats ≡ c.seats_for-seats.result = ap length ok.2
+    ∙ length-map ok.0 (λ (s : SeatModel). record { seat = s; stage = Resting })
+    ∙ ap length ok.1.seats_are ∙ length-map-range_with_len (new_seat t) 0 c.seats_for-seats.result in
+    let placed = sym (length-map c.in-Ok-placed_each.places.items (λ b. b.value.seat)) ∙ ap length c.in-Ok-placed_each.ensures
+    ∙ length-reverse (map (λ (s : TaskModel). Some s) seats) ∙ length-map seats (λ (s : TaskModel). Some s) in
+    let asked = c.seats_for-seats.ensures in
+    omega arith
+
+pub returns : goal.returns
+returns c =
+    let k : Settings = record { starts = c.in-Ok.starts; seats = c.seats_for-seats.result; roots = c.args.roots; seed = c.args.seed; release_limit = c.args.release_limit } in
+    let t = c.in-Ok-new.made.0 in let seats = c.in-Ok-new.made.1.items in
+    inl (
+      k,
+      t,
+      seats,
+      refl,
+      record { starts_are = c.in-Ok.ensures; roots_are = refl; seed_is = refl; limit_is = refl; seats_are = c.seats_for-seats.ensures },
+      c.in-Ok-new.ensures.ok,
+      c.give.ensures ∙ ap reverse c.in-Ok-placed_each.ensures ∙ reverse-reverse (map (λ (s : TaskModel). Some s) seats),
+    )

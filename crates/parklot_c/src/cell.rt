@@ -1,0 +1,59 @@
+//! A place on the heap, as C holds it.
+ghost use Rattle.std.specs.Prelude.{◌≡◌, List, [], ◌∷◌, length};
+ghost use Rattle.parklot_c.specs.declared.place.Place.{Place};
+ghost use Rattle.parklot_c.specs.Cells.{places_coded, cell_owns};
+
+use crate::parts::Parts;
+use crate::place::Place;
+use std::alloc::Global;
+use std::marker::Model;
+use std::ptr;
+
+#[repr(C)]
+pub struct Opaque {
+    byte: u8,
+}
+
+/// A place on the heap, or nothing.
+#[repr(C)]
+#[derive(Drop)]
+pub struct Cell {
+    pub(crate) ptr: *mut Opaque,
+    pub ghost places: { List Place } by { places_coded },
+}
+
+impl Model for Cell {
+    ghost also_owns = { λ c. cell_owns c.ptr c.places };
+}
+
+impl Cell {
+    pub fn of(parts: Parts<Place, Global>) -> Cell
+        ensures { result.places ≡ parts.value ∷ [] }
+    {
+        let Parts { ptr, alloc: _ } = parts;
+        Cell {
+            ptr: ptr as *mut Opaque,
+        }
+    }
+
+    pub fn into_parts(self, alloc: Global) -> Parts<Place, Global>
+        requires { length self.places ≡ 1 }
+        ensures { self.places ≡ result.value ∷ [] }
+    {
+        let Cell { ptr } = self;
+        Parts {
+            ptr: ptr as *mut Place,
+            alloc,
+        }
+    }
+
+    pub fn none() -> Cell
+        ensures { result.places ≡ [] }
+    {
+        Cell {
+            ptr: ptr::null_mut(),
+        }
+    }
+}
+
+unsafe impl Send for Cell {}

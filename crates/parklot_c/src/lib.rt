@@ -1,0 +1,197 @@
+//! The semaphore table for programs in C, C++ and Rust: a seat is kept in a cell on the heap, and each call
+//! answers a code.
+#![tactic(auto)]
+
+ghost use Rattle.sema_table.specs.Tasks.{TriesByTask, PostsByTask, ReadsByTask, CountsByTask, PostsManyByTask};
+ghost use Rattle.sema_table.specs.Tasks.{EntersByTask, PollsByTask, RetriesByTask, WakesByTask, WakesSomeByTask};
+ghost use Rattle.std.specs.Prelude.{◌≡◌, ◌⊎◌};
+ghost use Rattle.parklot_c.specs.Places.{seat_of};
+ghost use Rattle.parklot_c.specs.Codes.{tried_code, entered_code, polled_code, retried_code, posted_code, wake_code};
+ghost use Rattle.parklot_c.specs.Codes.{told, done};
+ghost use Rattle.parklot_c.specs.Answers.{Answers, Telling, NamesWoken, NamesEach, LacksRoom, TellsNumber, Frees};
+ghost use Rattle.parklot_c.specs.Deals.{DealsToEmpty};
+
+mod answers;
+mod calls;
+mod cell;
+mod codes;
+mod deal;
+mod handle;
+mod lends;
+mod parts;
+mod place;
+mod some;
+#[cfg(test)]
+mod tests;
+
+use codes::{NO_SEAT, OK};
+pub use handle::SeatHandle;
+use std::alloc::Global;
+use std::mem;
+
+/// Makes a table, and gives each of `seats` one of its seats, in the order of their numbers. Where it
+/// answers anything but OK it has done nothing.
+#[unsafe(no_mangle)]
+pub extern "C" fn parklot_new(
+    alloc: Global,
+    starts: &[u32],
+    roots: u32,
+    seed: u64,
+    release_limit: u64,
+    seats: &mut [SeatHandle],
+) -> u32
+    ensures { DealsToEmpty starts.now roots seed release_limit seats.old result seats.new }
+{
+    deal::deal_to_empty(alloc, starts, roots, seed, release_limit, seats)
+}
+
+/// Frees a seat that rests. The table goes with the last of its seats.
+#[unsafe(no_mangle)]
+pub extern "C" fn parklot_free(alloc: Global, seat: &mut SeatHandle) -> u32
+    ensures { Frees (seat_of seat.old.cell.places) result (seat_of seat.new.cell.places) }
+{
+    if !seat.is_full {
+        return NO_SEAT;
+    }
+    let code = seat.cell.place().may_leave();
+    if code != OK {
+        return code;
+    }
+    let old = mem::replace(seat, SeatHandle::empty());
+    let SeatHandle { is_full: _, cell } = old;
+    drop(cell.into_parts(alloc).into_box());
+    OK
+}
+
+/// Which seat of its table it is.
+#[unsafe(no_mangle)]
+pub extern "C" fn parklot_number(seat: &mut SeatHandle, number: &mut u32) -> u32
+    ensures same { seat_of seat.new.cell.places ≡ seat_of seat.old.cell.places }
+    ensures told { TellsNumber (seat_of seat.old.cell.places) result number.new }
+{
+    if !seat.is_full {
+        return NO_SEAT;
+    }
+    seat.cell.place().number(number)
+}
+
+/// Takes a unit if there is one: TAKEN, ZERO or LOST.
+#[unsafe(no_mangle)]
+pub extern "C" fn parklot_try_acquire(seat: &mut SeatHandle, counter: u32) -> u32
+    ensures { Answers tried_code (λ s. TriesByTask s counter) (seat_of seat.old.cell.places) result (seat_of seat.new.cell.places) }
+{
+    if !seat.is_full {
+        return NO_SEAT;
+    }
+    seat.cell.place().try_acquire(counter)
+}
+
+/// Goes to the lock of the counter's root, and sleeps if there is no unit: TAKEN, ASLEEP or BUSY.
+#[unsafe(no_mangle)]
+pub extern "C" fn parklot_enter(seat: &mut SeatHandle, counter: u32, lifo: bool) -> u32
+    ensures { Answers entered_code (λ s. EntersByTask s counter lifo) (seat_of seat.old.cell.places) result (seat_of seat.new.cell.places) }
+{
+    if !seat.is_full {
+        return NO_SEAT;
+    }
+    seat.cell.place().enter(counter, lifo)
+}
+
+/// Looks whether the wait of a seat that sleeps was granted: ASLEEP, WOKEN or HANDED.
+#[unsafe(no_mangle)]
+pub extern "C" fn parklot_poll(seat: &mut SeatHandle) -> u32
+    ensures { Answers polled_code PollsByTask (seat_of seat.old.cell.places) result (seat_of seat.new.cell.places) }
+{
+    if !seat.is_full {
+        return NO_SEAT;
+    }
+    seat.cell.place().poll()
+}
+
+/// The try of a seat that was woken: TAKEN, or ZERO, and then it enters again.
+#[unsafe(no_mangle)]
+pub extern "C" fn parklot_retry(seat: &mut SeatHandle) -> u32
+    ensures { Answers retried_code RetriesByTask (seat_of seat.old.cell.places) result (seat_of seat.new.cell.places) }
+{
+    if !seat.is_full {
+        return NO_SEAT;
+    }
+    seat.cell.place().retry()
+}
+
+/// Adds a unit: DONE, OWES or LIMIT.
+#[unsafe(no_mangle)]
+pub extern "C" fn parklot_post(seat: &mut SeatHandle, counter: u32) -> u32
+    ensures { Answers posted_code (λ s. PostsByTask s counter) (seat_of seat.old.cell.places) result (seat_of seat.new.cell.places) }
+{
+    if !seat.is_full {
+        return NO_SEAT;
+    }
+    seat.cell.place().post(counter)
+}
+
+/// Adds so many units at once: DONE, OWES, LIMIT or UNITS.
+#[unsafe(no_mangle)]
+pub extern "C" fn parklot_post_many(seat: &mut SeatHandle, counter: u32, units: u32) -> u32
+    ensures { Answers posted_code (λ s. PostsManyByTask s counter units) (seat_of seat.old.cell.places) result (seat_of seat.new.cell.places) }
+{
+    if !seat.is_full {
+        return NO_SEAT;
+    }
+    seat.cell.place().post_many(counter, units)
+}
+
+/// The rest of a release: takes the first wait out and wakes its seat, whose number is told. NOBODY, ONE,
+/// HANDED or BUSY.
+#[unsafe(no_mangle)]
+pub extern "C" fn parklot_wake(seat: &mut SeatHandle, handoff: bool, woken: &mut u32) -> u32
+    ensures { Answers wake_code (Telling (NamesWoken woken.new) (λ s. WakesByTask s handoff)) (seat_of seat.old.cell.places) result (seat_of seat.new.cell.places) }
+{
+    if !seat.is_full {
+        return NO_SEAT;
+    }
+    seat.cell.place().wake(handoff, woken)
+}
+
+/// The rest of a release of many units: takes as many waits out, or fewer if there are no more, and wakes
+/// their seats, whose numbers are told. DONE or BUSY.
+#[unsafe(no_mangle)]
+pub extern "C" fn parklot_wake_some(
+    seat: &mut SeatHandle,
+    woken: &mut [u32],
+    count: &mut u32,
+) -> u32
+    ensures { LacksRoom woken.old (seat_of seat.old.cell.places) result (seat_of seat.new.cell.places)
+        ⊎ Answers done (Telling (NamesEach woken.new count.new) WakesSomeByTask) (seat_of seat.old.cell.places) result (seat_of seat.new.cell.places) }
+{
+    if !seat.is_full {
+        return NO_SEAT;
+    }
+    seat.cell.place().wake_some(woken, count)
+}
+
+/// The number of a counter.
+#[unsafe(no_mangle)]
+pub extern "C" fn parklot_value(seat: &mut SeatHandle, counter: u32, value: &mut u64) -> u32
+    ensures { Answers told (Telling (λ n. value.new ≡ n) (λ s. ReadsByTask s counter)) (seat_of seat.old.cell.places) result (seat_of seat.new.cell.places) }
+{
+    if !seat.is_full {
+        return NO_SEAT;
+    }
+    seat.cell.place().value(counter, value)
+}
+
+/// How many waits are queued at a counter's root.
+#[unsafe(no_mangle)]
+pub extern "C" fn parklot_waiters_of_root(
+    seat: &mut SeatHandle,
+    counter: u32,
+    waits: &mut u64,
+) -> u32
+    ensures { Answers told (Telling (λ n. waits.new ≡ n) (λ s. CountsByTask s counter)) (seat_of seat.old.cell.places) result (seat_of seat.new.cell.places) }
+{
+    if !seat.is_full {
+        return NO_SEAT;
+    }
+    seat.cell.place().waiters_of_root(counter, waits)
+}
