@@ -1,0 +1,278 @@
+/* The calls of POSIX over counters on which threads sleep. */
+
+#include "parklot_sem.h"
+
+#include "threads.h"
+
+#include <errno.h>
+#include <stddef.h>
+
+static bool is_time(const struct timespec *time)
+{
+    return time->tv_nsec >= 0 && time->tv_nsec < 1000000000;
+}
+
+static bool is_clock(clockid_t clock)
+{
+    return clock == CLOCK_REALTIME || clock == CLOCK_MONOTONIC;
+}
+
+/* Semaphores. */
+
+static int failed(int error)
+{
+    errno = error;
+    return -1;
+}
+
+/* What refuses any call: no semaphore, or no seat for this thread. */
+static int refused(const parklot_sem_t *sem)
+{
+    if (sem->counter == 0)
+        return EINVAL;
+    return thread_is_seated() ? 0 : ENOMEM;
+}
+
+int parklot_sem_init(parklot_sem_t *sem, int shared, unsigned int value)
+{
+    sem->counter = 0;
+    if (value > PARKLOT_SEM_VALUE_MAX)
+        return failed(EINVAL);
+    if (shared != 0)
+        return failed(ENOSYS);
+    if (!thread_is_seated())
+        return failed(ENOMEM);
+    sem->counter = counter_take(value);
+    return sem->counter != 0 ? 0 : failed(ENOSPC);
+}
+
+int parklot_sem_destroy(parklot_sem_t *sem)
+{
+    int error = refused(sem);
+    uint32_t counter = sem->counter;
+
+    if (error != 0)
+        return failed(error);
+    sem->counter = 0;
+    counter_give_back(counter);
+    return 0;
+}
+
+int parklot_sem_wait(parklot_sem_t *sem)
+{
+    int error = refused(sem);
+
+    if (error != 0)
+        return failed(error);
+    counter_acquire(sem->counter, NULL);
+    return 0;
+}
+
+int parklot_sem_trywait(parklot_sem_t *sem)
+{
+    int error = refused(sem);
+
+    if (error != 0)
+        return failed(error);
+    return counter_try(sem->counter) ? 0 : failed(EAGAIN);
+}
+
+int parklot_sem_timedwait(parklot_sem_t *sem, const struct timespec *end)
+{
+    return parklot_sem_clockwait(sem, CLOCK_REALTIME, end);
+}
+
+int parklot_sem_clockwait(parklot_sem_t *sem, clockid_t clock, const struct timespec *end)
+{
+    int error = refused(sem);
+
+    if (error != 0)
+        return failed(error);
+    if (!is_clock(clock) || !is_time(end))
+        return failed(EINVAL);
+    return counter_acquire(sem->counter, &(struct deadline){clock, *end}) ? 0 : failed(ETIMEDOUT);
+}
+
+int parklot_sem_post(parklot_sem_t *sem)
+{
+    int error = refused(sem);
+    uint32_t counter = sem->counter;
+
+    if (error != 0)
+        return failed(error);
+    if (counter_value(counter) >= PARKLOT_SEM_VALUE_MAX)
+        return failed(EOVERFLOW);
+    counter_release(counter); /* who takes the unit may free `sem` */
+    return 0;
+}
+
+int parklot_sem_getvalue(parklot_sem_t *sem, int *value)
+{
+    int error = refused(sem);
+    uint64_t units;
+
+    if (error != 0)
+        return failed(error);
+    units = counter_value(sem->counter);
+    *value = (int)(units < PARKLOT_SEM_VALUE_MAX ? units : PARKLOT_SEM_VALUE_MAX);
+    return 0;
+}
+
+/* Condition variables. Each thread waits on a counter of its own, so a unit that was brought for it is taken by no other,
+   and waits for it if it doesn't sleep yet. It is in the queue before it gives its mutex back: no signal is lost. */
+
+struct parklot_waiter {
+    uint32_t counter;
+    bool told; /* taken out of the queue, and a unit is there or coming */
+    struct parklot_waiter *next;
+};
+
+/* The lock of the queue. It isn't in the condition variable: who was told doesn't touch that again, so it may be freed. */
+static uint32_t lock_of(const parklot_cond_t *cond)
+{
+    return 1 + (uint32_t)(((uintptr_t)cond / sizeof *cond) % THREAD_LOCKS);
+}
+
+static void lock(const parklot_cond_t *cond)
+{
+    counter_acquire(lock_of(cond), NULL);
+}
+
+static void unlock(const parklot_cond_t *cond)
+{
+    counter_release(lock_of(cond));
+}
+
+int parklot_cond_init(parklot_cond_t *cond, const pthread_condattr_t *attributes)
+{
+    int shared = PTHREAD_PROCESS_PRIVATE;
+
+    *cond = (parklot_cond_t)PARKLOT_COND_INITIALIZER;
+    if (attributes == NULL)
+        return 0;
+    pthread_condattr_getpshared(attributes, &shared);
+    pthread_condattr_getclock(attributes, &cond->clock);
+    return shared == PTHREAD_PROCESS_PRIVATE ? 0 : ENOTSUP;
+}
+
+int parklot_cond_destroy(parklot_cond_t *cond)
+{
+    cond->first = NULL;
+    return 0;
+}
+
+static void join_queue(parklot_cond_t *cond, struct parklot_waiter *waiter)
+{
+    struct parklot_waiter **end = &cond->first;
+
+    lock(cond);
+    while (*end != NULL)
+        end = &(*end)->next;
+    *end = waiter;
+    unlock(cond);
+}
+
+/* False where it was told before: then it isn't in the queue, and `cond` may be gone. */
+static bool leave_queue(parklot_cond_t *cond, struct parklot_waiter *waiter)
+{
+    bool queued;
+
+    lock(cond);
+    queued = !waiter->told;
+    if (queued) {
+        struct parklot_waiter **link = &cond->first;
+
+        while (*link != waiter)
+            link = &(*link)->next;
+        *link = waiter->next;
+    }
+    unlock(cond);
+    return queued;
+}
+
+static int wait_until(parklot_cond_t *cond, pthread_mutex_t *mutex, const struct deadline *deadline)
+{
+    struct parklot_waiter waiter = {0, false, NULL};
+    bool is_over;
+    int error;
+
+    if (!thread_is_seated())
+        return ENOMEM;
+    waiter.counter = thread_counter();
+    join_queue(cond, &waiter);
+    error = pthread_mutex_unlock(mutex);
+    if (error != 0) {
+        if (!leave_queue(cond, &waiter))
+            counter_acquire(waiter.counter, NULL);
+        return error;
+    }
+    is_over = !counter_acquire(waiter.counter, deadline);
+    if (is_over && !leave_queue(cond, &waiter)) {
+        counter_acquire(waiter.counter, NULL);
+        is_over = false;
+    }
+    error = pthread_mutex_lock(mutex);
+    if (error != 0)
+        return error;
+    return is_over ? ETIMEDOUT : 0;
+}
+
+int parklot_cond_wait(parklot_cond_t *cond, pthread_mutex_t *mutex)
+{
+    return wait_until(cond, mutex, NULL);
+}
+
+int parklot_cond_timedwait(parklot_cond_t *cond, pthread_mutex_t *mutex, const struct timespec *end)
+{
+    return parklot_cond_clockwait(cond, mutex, cond->clock, end);
+}
+
+int parklot_cond_clockwait(parklot_cond_t *cond, pthread_mutex_t *mutex, clockid_t clock, const struct timespec *end)
+{
+    if (!is_clock(clock) || !is_time(end))
+        return EINVAL;
+    return wait_until(cond, mutex, &(struct deadline){clock, *end});
+}
+
+/* Takes the first out of the queue, under its lock: the counter that it waits on, or 0. */
+static uint32_t tell_first(parklot_cond_t *cond)
+{
+    struct parklot_waiter *first = cond->first;
+    uint32_t counter = 0;
+
+    if (first != NULL) {
+        cond->first = first->next;
+        counter = first->counter;
+        first->told = true; /* the last touch: its thread may go on from here */
+    }
+    return counter;
+}
+
+int parklot_cond_signal(parklot_cond_t *cond)
+{
+    uint32_t counter;
+
+    if (!thread_is_seated())
+        return ENOMEM;
+    lock(cond);
+    counter = tell_first(cond);
+    unlock(cond);
+    if (counter != 0)
+        counter_release(counter);
+    return 0;
+}
+
+int parklot_cond_broadcast(parklot_cond_t *cond)
+{
+    uint32_t counters[THREAD_SEATS], count = 0; /* this thread has a seat too, so there is room for a 0 behind all */
+
+    if (!thread_is_seated())
+        return ENOMEM;
+    lock(cond);
+    while ((counters[count] = tell_first(cond)) != 0)
+        count++;
+    unlock(cond);
+    for (uint32_t at = 0; at < count; at++)
+        counter_release(counters[at]);
+    return 0;
+}
