@@ -62,10 +62,9 @@ int parklot_sem_wait(parklot_sem_t *sem)
 {
     int error = refused(sem);
 
-    if (error != 0)
-        return failed(error);
-    counter_acquire(sem->counter, NULL);
-    return 0;
+    if (error == 0)
+        error = counter_acquire_with(sem->counter, &(struct patience){false, true, CLOCK_MONOTONIC, {0, 0}});
+    return error == 0 ? 0 : failed(error);
 }
 
 int parklot_sem_trywait(parklot_sem_t *sem)
@@ -86,11 +85,11 @@ int parklot_sem_clockwait(parklot_sem_t *sem, clockid_t clock, const struct time
 {
     int error = refused(sem);
 
-    if (error != 0)
-        return failed(error);
-    if (!is_clock(clock) || !is_time(end))
-        return failed(EINVAL);
-    return counter_acquire(sem->counter, &(struct deadline){clock, *end}) ? 0 : failed(ETIMEDOUT);
+    if (error == 0 && (!is_clock(clock) || !is_time(end)))
+        error = EINVAL;
+    if (error == 0)
+        error = counter_acquire_with(sem->counter, &(struct patience){true, true, clock, *end});
+    return error == 0 ? 0 : failed(error);
 }
 
 int parklot_sem_post(parklot_sem_t *sem)
@@ -135,7 +134,7 @@ static uint32_t lock_of(const parklot_cond_t *cond)
 
 static void lock(const parklot_cond_t *cond)
 {
-    counter_acquire(lock_of(cond), NULL);
+    counter_acquire(lock_of(cond));
 }
 
 static void unlock(const parklot_cond_t *cond)
@@ -190,36 +189,41 @@ static bool leave_queue(parklot_cond_t *cond, struct parklot_waiter *waiter)
     return queued;
 }
 
-static int wait_until(parklot_cond_t *cond, pthread_mutex_t *mutex, const struct deadline *deadline)
+/* A wait that is over. False where it was told meanwhile: then the unit that was coming is here. */
+static bool withdraws(parklot_cond_t *cond, struct parklot_waiter *waiter)
+{
+    bool leaves = leave_queue(cond, waiter);
+
+    if (!leaves)
+        counter_acquire(waiter->counter);
+    return leaves;
+}
+
+static int wait_with(parklot_cond_t *cond, pthread_mutex_t *mutex, const struct patience *patience)
 {
     struct parklot_waiter waiter = {0, false, NULL};
-    bool is_over;
-    int error;
+    int error, mutex_error;
 
     if (!thread_is_seated())
         return ENOMEM;
     waiter.counter = thread_counter();
     join_queue(cond, &waiter);
-    error = pthread_mutex_unlock(mutex);
-    if (error != 0) {
-        if (!leave_queue(cond, &waiter))
-            counter_acquire(waiter.counter, NULL);
-        return error;
+    mutex_error = pthread_mutex_unlock(mutex);
+    if (mutex_error != 0) {
+        if (!withdraws(cond, &waiter))
+            parklot_cond_signal(cond); /* it was meant for one who waits */
+        return mutex_error;
     }
-    is_over = !counter_acquire(waiter.counter, deadline);
-    if (is_over && !leave_queue(cond, &waiter)) {
-        counter_acquire(waiter.counter, NULL);
-        is_over = false;
-    }
-    error = pthread_mutex_lock(mutex);
-    if (error != 0)
-        return error;
-    return is_over ? ETIMEDOUT : 0;
+    error = counter_acquire_with(waiter.counter, patience);
+    if (error != 0 && !withdraws(cond, &waiter))
+        error = 0;
+    mutex_error = pthread_mutex_lock(mutex);
+    return mutex_error != 0 ? mutex_error : error;
 }
 
 int parklot_cond_wait(parklot_cond_t *cond, pthread_mutex_t *mutex)
 {
-    return wait_until(cond, mutex, NULL);
+    return wait_with(cond, mutex, &(struct patience){false, false, CLOCK_MONOTONIC, {0, 0}});
 }
 
 int parklot_cond_timedwait(parklot_cond_t *cond, pthread_mutex_t *mutex, const struct timespec *end)
@@ -231,7 +235,7 @@ int parklot_cond_clockwait(parklot_cond_t *cond, pthread_mutex_t *mutex, clockid
 {
     if (!is_clock(clock) || !is_time(end))
         return EINVAL;
-    return wait_until(cond, mutex, &(struct deadline){clock, *end});
+    return wait_with(cond, mutex, &(struct patience){true, false, clock, *end});
 }
 
 /* Takes the first out of the queue, under its lock: the counter that it waits on, or 0. */

@@ -4,14 +4,14 @@
    Left out, because it can't be done over a table that lives in one process and whose queues are left by being woken:
 
    - Nothing is shared between processes (ENOSYS, ENOTSUP), and nothing is used in a forked child.
-   - No wait is interrupted by a signal (POSIX lets EINTR out), and none is a cancellation point.
+   - No wait is a cancellation point.
    - parklot_sem_post isn't called from a signal handler. POSIX allows that of sem_post; here the handler's thread may be
      in the middle of a call with its seat.
 
-   A thread gets one of 256 seats at its first call, and gives it back when it ends. A wait that has timed out leaves its
-   seat in the queue, until that is woken or the next who waits there takes it over; it counts as well. Where no seat is
-   free a call answers ENOMEM, and a timed wait that can't leave its seat goes on waiting. There are 16,000 semaphores and
-   threads at most (ENOSPC, ENOMEM). */
+   A thread gets one of 256 seats at its first call, and gives it back when it ends. A wait that ends by its time or a signal
+   leaves its seat in the queue, until that is woken or the next who waits there takes it over; it counts as well. Where no
+   seat is free a call answers ENOMEM, and a wait that can't leave its seat goes on. There are 16,000 semaphores and threads
+   at most (ENOSPC, ENOMEM). */
 
 #ifndef PARKLOT_SEM_H
 #define PARKLOT_SEM_H
@@ -33,9 +33,9 @@ typedef struct {
 
 int parklot_sem_init(parklot_sem_t *sem, int shared, unsigned int value); /* EINVAL, ENOSYS, ENOSPC, ENOMEM */
 int parklot_sem_destroy(parklot_sem_t *sem);                              /* EINVAL, ENOMEM */
-int parklot_sem_wait(parklot_sem_t *sem);                                 /* EINVAL, ENOMEM */
+int parklot_sem_wait(parklot_sem_t *sem);                                 /* EINTR, EINVAL, ENOMEM */
 int parklot_sem_trywait(parklot_sem_t *sem);                              /* EAGAIN, EINVAL, ENOMEM */
-int parklot_sem_timedwait(parklot_sem_t *sem, const struct timespec *end); /* ETIMEDOUT, EINVAL, ENOMEM */
+int parklot_sem_timedwait(parklot_sem_t *sem, const struct timespec *end); /* ETIMEDOUT, EINTR, EINVAL, .. */
 int parklot_sem_clockwait(parklot_sem_t *sem, clockid_t clock, const struct timespec *end);
 
 /* The look for the highest value and the addition are two steps: posts at once may pass it by as many as they are. */

@@ -5,10 +5,11 @@
 #include <errno.h>
 #include <limits.h>
 #include <sched.h>
+#include <signal.h>
 #include <stdbool.h>
 #include <stdio.h>
 #include <stdlib.h>
-#include <string.h>
+#include <sys/time.h>
 
 enum { WORKERS = 4, ROUNDS = 20000 };
 
@@ -33,6 +34,7 @@ static const char *error_name(int error)
     case EOVERFLOW: return "EOVERFLOW";
     case ETIMEDOUT: return "ETIMEDOUT";
     case EPERM: return "EPERM";
+    case EINTR: return "EINTR";
     default: return "another error";
     }
 }
@@ -226,6 +228,27 @@ static void seats_of_the_destroyed(void)
         must(parklot_sem_destroy(&sem) == 0, "destroy");
     }
     printf("400 semaphores with a time that was over\n");
+}
+
+static void nothing(int number)
+{
+    (void)number;
+}
+
+/* A wait ends by a signal, and the unit that is posted afterwards isn't lost to it. */
+static void signals(void)
+{
+    struct sigaction action = {.sa_handler = nothing};
+    struct itimerval soon_once = {{0, 0}, {0, 20000}};
+    parklot_sem_t sem;
+
+    parklot_sem_init(&sem, 0, 0);
+    sigaction(SIGALRM, &action, NULL);
+    setitimer(ITIMER_REAL, &soon_once, NULL);
+    SAY(parklot_sem_wait(&sem));
+    SAY(parklot_sem_post(&sem));
+    SAY(parklot_sem_wait(&sem));
+    SAY(parklot_sem_destroy(&sem));
 }
 
 static parklot_sem_t first, second;
@@ -472,6 +495,7 @@ int main(void)
     times_that_are_over();
     seats_of_the_destroyed();
     all_semaphores();
+    signals();
     many_threads();
     cond_answers();
     turns();

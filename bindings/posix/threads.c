@@ -22,7 +22,7 @@ static const uint64_t RELEASE_LIMIT = (uint64_t)1 << 40;
 /* What a seat's word says while it is queued. */
 enum { STAYS, NAMED, LEFT };
 
-/* A seat and its word. A seat whose thread's time was over is left in the queue, since none leaves it but by being woken:
+/* A seat and its word. A seat whose thread waits no longer is left in the queue, since none leaves it but by being woken:
    `left_at` says on which counter, until it is back with the others. That field is guarded by `pool`. */
 struct place {
     _Alignas(128) atomic_uint word;
@@ -152,19 +152,18 @@ uint32_t thread_counter(void)
 
 /* Sleeping. */
 
-static int futex_wait(atomic_uint *word, const struct deadline *deadline)
+static int futex_wait(atomic_uint *word, const struct patience *patience)
 {
     int call = FUTEX_WAIT_BITSET | FUTEX_PRIVATE_FLAG;
-    struct timespec end;
+    struct timespec end = patience->end;
 
-    if (deadline == NULL)
-        return syscall(SYS_futex, word, call, STAYS, NULL, NULL, FUTEX_BITSET_MATCH_ANY) == 0 ? 0 : errno;
-    if (deadline->clock == CLOCK_REALTIME)
+    if (patience->clock == CLOCK_REALTIME)
         call |= FUTEX_CLOCK_REALTIME;
-    end = deadline->end;
     if (end.tv_sec < 0) /* the kernel takes no time before 1970 */
         end = (struct timespec){0, 0};
-    return syscall(SYS_futex, word, call, STAYS, &end, NULL, FUTEX_BITSET_MATCH_ANY) == 0 ? 0 : errno;
+    if (syscall(SYS_futex, word, call, STAYS, patience->has_end ? &end : NULL, NULL, FUTEX_BITSET_MATCH_ANY) == 0)
+        return 0;
+    return errno;
 }
 
 /* Leaves this thread's seat in the queue, and takes another. False where it was named meanwhile, or none is free: then the
@@ -211,19 +210,21 @@ static bool take_over(uint32_t counter)
     return taken;
 }
 
-/* Sleeps until the seat is named. False where the time was over before, and the seat is left. */
-static bool sleep_until_named(uint32_t counter, const struct deadline *deadline)
+/* Sleeps until the seat is named: 0. Else the wait was ended before, and the seat is left. */
+static int sleep_until_named(uint32_t counter, const struct patience *patience)
 {
     atomic_uint *word = &self.place->word;
 
     while (atomic_load(word) != NAMED) {
-        if (futex_wait(word, deadline) != ETIMEDOUT)
+        int error = futex_wait(word, patience);
+
+        if (error != ETIMEDOUT && !(error == EINTR && patience->ends_by_signal))
             continue;
         if (leave(counter))
-            return false;
+            return error;
         sched_yield();
     }
-    return true;
+    return 0;
 }
 
 static uint32_t enter(uint32_t counter)
@@ -259,22 +260,30 @@ static bool took(struct place *place)
     return answer == PARKLOT_TAKEN;
 }
 
-bool counter_acquire(uint32_t counter, const struct deadline *deadline)
+int counter_acquire_with(uint32_t counter, const struct patience *patience)
 {
     if (counter_try(counter))
-        return true;
+        return 0;
     do {
+        int error;
+
         if (!take_over(counter)) {
             uint32_t answer = enter(counter);
 
             if (answer == PARKLOT_TAKEN)
-                return true;
+                return 0;
             must(answer == PARKLOT_ASLEEP, "an acquire was refused");
         }
-        if (!sleep_until_named(counter, deadline))
-            return false;
+        error = sleep_until_named(counter, patience);
+        if (error != 0)
+            return error;
     } while (!took(self.place));
-    return true;
+    return 0;
+}
+
+void counter_acquire(uint32_t counter)
+{
+    counter_acquire_with(counter, &(struct patience){false, false, CLOCK_MONOTONIC, {0, 0}});
 }
 
 /* Waking. */

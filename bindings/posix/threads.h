@@ -10,8 +10,10 @@
 /* Counters 1 to THREAD_LOCKS begin with one unit: each is a lock. The others are taken and given back. */
 enum { THREAD_SEATS = 256, THREAD_LOCKS = 64 };
 
-/* Until when a wait lasts. */
-struct deadline {
+/* What ends a wait without a unit: a time, or a signal that this thread handles. */
+struct patience {
+    bool has_end;
+    bool ends_by_signal;
     clockid_t clock;
     struct timespec end;
 };
@@ -29,8 +31,11 @@ void counter_give_back(uint32_t counter);
 bool counter_try(uint32_t counter);
 uint64_t counter_value(uint32_t counter);
 
-/* Takes a unit, and sleeps while there is none. False where the time is over; no deadline is null. */
-bool counter_acquire(uint32_t counter, const struct deadline *deadline);
+/* Takes a unit, and sleeps while there is none. 0, or ETIMEDOUT or EINTR. */
+int counter_acquire_with(uint32_t counter, const struct patience *patience);
+
+/* The same, as long as it takes. */
+void counter_acquire(uint32_t counter);
 
 /* Adds a unit, and wakes the first who waits for one. */
 void counter_release(uint32_t counter);
