@@ -62,8 +62,9 @@ int parklot_sem_wait(parklot_sem_t *sem)
 {
     int error = refused(sem);
 
+    pthread_testcancel();
     if (error == 0)
-        error = counter_acquire_with(sem->counter, &(struct patience){false, true, CLOCK_MONOTONIC, {0, 0}});
+        error = counter_acquire_with(sem->counter, &(struct patience){.by_signal = true, .by_cancellation = true});
     return error == 0 ? 0 : failed(error);
 }
 
@@ -85,10 +86,11 @@ int parklot_sem_clockwait(parklot_sem_t *sem, clockid_t clock, const struct time
 {
     int error = refused(sem);
 
+    pthread_testcancel();
     if (error == 0 && (!is_clock(clock) || !is_time(end)))
         error = EINVAL;
     if (error == 0)
-        error = counter_acquire_with(sem->counter, &(struct patience){true, true, clock, *end});
+        error = counter_acquire_with(sem->counter, &(struct patience){true, true, true, clock, *end});
     return error == 0 ? 0 : failed(error);
 }
 
@@ -122,7 +124,8 @@ int parklot_sem_getvalue(parklot_sem_t *sem, int *value)
 
 struct parklot_waiter {
     uint32_t counter;
-    bool told; /* taken out of the queue, and a unit is there or coming */
+    bool told;      /* taken out of the queue, and a unit is there or coming */
+    bool passes_on; /* by a signal, while others waited: if this one waits no longer, it is for them */
     struct parklot_waiter *next;
 };
 
@@ -199,23 +202,47 @@ static bool withdraws(parklot_cond_t *cond, struct parklot_waiter *waiter)
     return leaves;
 }
 
+/* A wait that comes to nothing, and takes no signal with it. */
+static void wait_is_dropped(parklot_cond_t *cond, struct parklot_waiter *waiter)
+{
+    if (!withdraws(cond, waiter) && waiter->passes_on)
+        parklot_cond_signal(cond);
+}
+
+struct waiting {
+    parklot_cond_t *cond;
+    pthread_mutex_t *mutex;
+    struct parklot_waiter waiter;
+};
+
+/* A thread that is cancelled has its mutex again when its own handlers run. */
+static void is_cancelled(void *given)
+{
+    struct waiting *waiting = given;
+
+    wait_is_dropped(waiting->cond, &waiting->waiter);
+    pthread_mutex_lock(waiting->mutex);
+}
+
 static int wait_with(parklot_cond_t *cond, pthread_mutex_t *mutex, const struct patience *patience)
 {
-    struct parklot_waiter waiter = {0, false, NULL};
+    struct waiting waiting = {cond, mutex, {0, false, false, NULL}};
     int error, mutex_error;
 
+    pthread_testcancel();
     if (!thread_is_seated())
         return ENOMEM;
-    waiter.counter = thread_counter();
-    join_queue(cond, &waiter);
+    waiting.waiter.counter = thread_counter();
+    join_queue(cond, &waiting.waiter);
     mutex_error = pthread_mutex_unlock(mutex);
     if (mutex_error != 0) {
-        if (!withdraws(cond, &waiter))
-            parklot_cond_signal(cond); /* it was meant for one who waits */
+        wait_is_dropped(cond, &waiting.waiter);
         return mutex_error;
     }
-    error = counter_acquire_with(waiter.counter, patience);
-    if (error != 0 && !withdraws(cond, &waiter))
+    pthread_cleanup_push(is_cancelled, &waiting);
+    error = counter_acquire_with(waiting.waiter.counter, patience);
+    pthread_cleanup_pop(0);
+    if (error != 0 && !withdraws(cond, &waiting.waiter))
         error = 0;
     mutex_error = pthread_mutex_lock(mutex);
     return mutex_error != 0 ? mutex_error : error;
@@ -223,7 +250,7 @@ static int wait_with(parklot_cond_t *cond, pthread_mutex_t *mutex, const struct 
 
 int parklot_cond_wait(parklot_cond_t *cond, pthread_mutex_t *mutex)
 {
-    return wait_with(cond, mutex, &(struct patience){false, false, CLOCK_MONOTONIC, {0, 0}});
+    return wait_with(cond, mutex, &(struct patience){.by_cancellation = true});
 }
 
 int parklot_cond_timedwait(parklot_cond_t *cond, pthread_mutex_t *mutex, const struct timespec *end)
@@ -235,21 +262,20 @@ int parklot_cond_clockwait(parklot_cond_t *cond, pthread_mutex_t *mutex, clockid
 {
     if (!is_clock(clock) || !is_time(end))
         return EINVAL;
-    return wait_with(cond, mutex, &(struct patience){true, false, clock, *end});
+    return wait_with(cond, mutex, &(struct patience){true, false, true, clock, *end});
 }
 
 /* Takes the first out of the queue, under its lock: the counter that it waits on, or 0. */
-static uint32_t tell_first(parklot_cond_t *cond)
+static uint32_t tell_first(parklot_cond_t *cond, bool is_signal)
 {
     struct parklot_waiter *first = cond->first;
-    uint32_t counter = 0;
 
-    if (first != NULL) {
-        cond->first = first->next;
-        counter = first->counter;
-        first->told = true; /* the last touch: its thread may go on from here */
-    }
-    return counter;
+    if (first == NULL)
+        return 0;
+    cond->first = first->next;
+    first->told = true;
+    first->passes_on = is_signal && cond->first != NULL;
+    return first->counter;
 }
 
 int parklot_cond_signal(parklot_cond_t *cond)
@@ -259,7 +285,7 @@ int parklot_cond_signal(parklot_cond_t *cond)
     if (!thread_is_seated())
         return ENOMEM;
     lock(cond);
-    counter = tell_first(cond);
+    counter = tell_first(cond, true);
     unlock(cond);
     if (counter != 0)
         counter_release(counter);
@@ -273,7 +299,7 @@ int parklot_cond_broadcast(parklot_cond_t *cond)
     if (!thread_is_seated())
         return ENOMEM;
     lock(cond);
-    while ((counters[count] = tell_first(cond)) != 0)
+    while ((counters[count] = tell_first(cond, false)) != 0)
         count++;
     unlock(cond);
     for (uint32_t at = 0; at < count; at++)

@@ -1,12 +1,12 @@
 /* parklot_sem.h: semaphores and condition variables for threads with the calls of POSIX, over one table of parklot.h.
 
    The calls answer as POSIX has it: those of semaphores 0, or -1 and errno; those of condition variables an error number.
-   Left out, because it can't be done over a table that lives in one process and whose queues are left by being woken:
+   The waits are cancellation points. Left out, since a table lives in one process, and a seat makes one call at a time:
 
    - Nothing is shared between processes (ENOSYS, ENOTSUP), and nothing is used in a forked child.
-   - No wait is a cancellation point.
    - parklot_sem_post isn't called from a signal handler. POSIX allows that of sem_post; here the handler's thread may be
-     in the middle of a call with its seat.
+     in the middle of a call with its seat. For the same reason no call is made with asynchronous cancellation.
+   - A condition variable isn't freed while a thread that waits there is being cancelled.
 
    A thread gets one of 256 seats at its first call, and gives it back when it ends. A wait that ends by its time or a signal
    leaves its seat in the queue, until that is woken or the next who waits there takes it over; it counts as well. Where no

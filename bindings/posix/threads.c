@@ -210,15 +210,55 @@ static bool take_over(uint32_t counter)
     return taken;
 }
 
+/* The try of a seat that was named. */
+static bool took(struct place *place)
+{
+    uint32_t answer;
+
+    must(parklot_poll(&place->seat) == PARKLOT_WOKEN, "a seat was named, and isn't woken");
+    answer = parklot_retry(&place->seat);
+    must(answer == PARKLOT_TAKEN || answer == PARKLOT_ZERO, "a woken seat's try was refused");
+    return answer == PARKLOT_TAKEN;
+}
+
+/* What a thread does yet that is cancelled in its sleep: it leaves, or, where it was named, brings the unit to another. */
+static void is_cancelled(void *given)
+{
+    uint32_t counter = *(uint32_t *)given;
+    struct place *place = self.place;
+
+    while (!leave(counter)) {
+        if (atomic_load(&place->word) == NAMED) {
+            if (took(place))
+                counter_release(counter);
+            return;
+        }
+        sched_yield();
+    }
+}
+
+/* Between the two calls of pthread_setcanceltype nothing is done but to sleep: it may end there at any instruction. */
+static int futex_wait_cancellable(uint32_t counter, atomic_uint *word, const struct patience *patience)
+{
+    int error, type;
+
+    pthread_cleanup_push(is_cancelled, &counter);
+    pthread_setcanceltype(PTHREAD_CANCEL_ASYNCHRONOUS, &type);
+    error = futex_wait(word, patience);
+    pthread_setcanceltype(type, NULL);
+    pthread_cleanup_pop(0);
+    return error;
+}
+
 /* Sleeps until the seat is named: 0. Else the wait was ended before, and the seat is left. */
 static int sleep_until_named(uint32_t counter, const struct patience *patience)
 {
     atomic_uint *word = &self.place->word;
 
     while (atomic_load(word) != NAMED) {
-        int error = futex_wait(word, patience);
+        int error = patience->by_cancellation ? futex_wait_cancellable(counter, word, patience) : futex_wait(word, patience);
 
-        if (error != ETIMEDOUT && !(error == EINTR && patience->ends_by_signal))
+        if (error != ETIMEDOUT && !(error == EINTR && patience->by_signal))
             continue;
         if (leave(counter))
             return error;
@@ -249,17 +289,6 @@ bool counter_try(uint32_t counter)
     return answer == PARKLOT_TAKEN;
 }
 
-/* The try of a seat that was named. */
-static bool took(struct place *place)
-{
-    uint32_t answer;
-
-    must(parklot_poll(&place->seat) == PARKLOT_WOKEN, "a seat was named, and isn't woken");
-    answer = parklot_retry(&place->seat);
-    must(answer == PARKLOT_TAKEN || answer == PARKLOT_ZERO, "a woken seat's try was refused");
-    return answer == PARKLOT_TAKEN;
-}
-
 int counter_acquire_with(uint32_t counter, const struct patience *patience)
 {
     if (counter_try(counter))
@@ -283,7 +312,7 @@ int counter_acquire_with(uint32_t counter, const struct patience *patience)
 
 void counter_acquire(uint32_t counter)
 {
-    counter_acquire_with(counter, &(struct patience){false, false, CLOCK_MONOTONIC, {0, 0}});
+    counter_acquire_with(counter, &(struct patience){.has_end = false});
 }
 
 /* Waking. */

@@ -10,10 +10,11 @@
 /* Counters 1 to THREAD_LOCKS begin with one unit: each is a lock. The others are taken and given back. */
 enum { THREAD_SEATS = 256, THREAD_LOCKS = 64 };
 
-/* What ends a wait without a unit: a time, or a signal that this thread handles. */
+/* What ends a wait without a unit: a time, a signal that this thread handles, its cancellation. */
 struct patience {
     bool has_end;
-    bool ends_by_signal;
+    bool by_signal;
+    bool by_cancellation;
     clockid_t clock;
     struct timespec end;
 };
