@@ -69,7 +69,7 @@ enum parklot_answer {
     PARKLOT_LIMIT = 104,      /* the seat may add no more: it has added release_limit units */
     PARKLOT_FULL = 105,       /* parklot_new: a seat isn't empty */
     PARKLOT_UNITS = 106,      /* not 1 to 256 units */
-    PARKLOT_ROOM = 107,       /* less room than may be named */
+    PARKLOT_ROOM = 107,       /* room for fewer numbers than 256 */
     PARKLOT_COUNTERS = 110,   /* not 1 to 65,536 counters */
     PARKLOT_SEATS = 111,      /* not 1 to 256 seats */
     PARKLOT_ROOTS = 112,      /* not 1 to 251 roots */
@@ -88,7 +88,7 @@ enum parklot_answer {
 uint32_t parklot_new(const uint32_t *starts, size_t counters, uint32_t roots, uint64_t seed, uint64_t release_limit,
                      struct parklot_seat *seats, size_t count);
 
-/* The seat's number, by which `woken` names it. OK. */
+/* The seat's number, by which `woken` names it: in the middle of any call too. OK. */
 uint32_t parklot_number(struct parklot_seat *seat, uint32_t *number);
 
 /* Takes a unit, if there is one. TAKEN, ZERO, LOST. */
@@ -116,7 +116,7 @@ uint32_t parklot_post_many(struct parklot_seat *seat, uint32_t counter, uint32_t
 uint32_t parklot_wake(struct parklot_seat *seat, bool handoff, uint32_t *woken);
 
 /* The rest of a parklot_post_many: takes as many out of the queue as there were units, or all where there are fewer, and
-   writes their numbers, *count of them. There has to be room for as many as units were added. DONE, BUSY, ROOM. */
+   writes their numbers, *count of them. There has to be room for 256. DONE, BUSY, ROOM. */
 uint32_t parklot_wake_some(struct parklot_seat *seat, uint32_t *woken, size_t room, uint32_t *count);
 
 /* How many units the counter has: one look, old as soon as it is told. OK. */

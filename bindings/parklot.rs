@@ -61,7 +61,7 @@ pub enum Refused {
     Limit,
     /// Not 1 to 256 units.
     Units,
-    /// Less room than may be named.
+    /// Room for fewer numbers than 256.
     Room,
     /// Not 1 to 65,536 counters.
     Counters,
@@ -215,7 +215,7 @@ fn refusal(answer: u32) -> Refused {
 // copied, and calls by two threads are ordered by what brought it from one to the other. Numbers are written to locals, which
 // aren't null and don't overlap with it. No call keeps a pointer.
 impl Seat {
-    /// Its number, by which others name it. Refused in the middle of a call.
+    /// Its number, by which others name it: in the middle of any call too.
     pub fn number(&mut self) -> Result<u32, Refused> {
         let mut number = 0;
         // SAFETY: see above.
@@ -287,7 +287,7 @@ impl Seat {
         }
     }
 
-    /// Writes whom it woke to the beginning of `woken`.
+    /// Writes whom it woke to the beginning of `woken`, which has room for 256.
     pub fn wake_some(&mut self, woken: &mut [u32]) -> Result<WokeSome, Refused> {
         let mut count = 0;
         // SAFETY: see above; `woken` is a slice with room for as many numbers as it is told, and nothing else is in it.

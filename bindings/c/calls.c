@@ -136,7 +136,6 @@ static void other_calls(bool polls, bool retries, bool wakes, bool wakes_some)
     uint32_t number = 77, count = 77, woken[256];
     uint64_t value = 77;
 
-    SAY(parklot_number(seat, &number));
     SAY(parklot_try_acquire(seat, 0));
     SAY(parklot_enter(seat, 0, false));
     SAY(parklot_post(seat, 0));
@@ -153,6 +152,8 @@ static void other_calls(bool polls, bool retries, bool wakes, bool wakes_some)
     if (!wakes_some)
         SAY(parklot_wake_some(seat, woken, 256, &count));
     must(number == 77 && count == 77 && value == 77, "a refused call wrote", PARKLOT_OK);
+    SAY(parklot_number(seat, &number));
+    tell_number("number", number);
 }
 
 static void sleeps(void)
@@ -214,7 +215,7 @@ static void owes(void)
     heading("seat 1 owes wake-ups");
     SAY(parklot_post_many(&seats[1], 0, 2));
     other_calls(false, false, false, true);
-    SAY(parklot_wake_some(&seats[1], names, 1, &count));
+    SAY(parklot_wake_some(&seats[1], names, 255, &count));
     must(count == 77, "ROOM wrote a number", PARKLOT_ROOM);
     SAY(parklot_wake_some(&seats[1], names, 256, &count));
     tell_number("count", count);

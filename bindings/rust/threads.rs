@@ -161,7 +161,7 @@ fn answers() -> Result<(), Refused> {
     println!("post two: {:?}", two.post_many(1, 2));
     println!("not the call: {:?}", two.wake(false));
     let mut woken = [0; 256];
-    println!("too little room: {:?}", two.wake_some(&mut woken[..1]));
+    println!("too little room: {:?}", two.wake_some(&mut woken[..255]));
     let WokeSome::Done(count) = two.wake_some(&mut woken)? else { panic!("nobody holds the lock") };
     println!("wake some: {:?}", &woken[..count]);
     println!("poll: {:?} {:?}", one.poll(), three.poll());
