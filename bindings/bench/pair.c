@@ -12,7 +12,7 @@
 #include <string.h>
 #include <time.h>
 
-enum { PAIRS = 1000000, ROUNDS = 25, KINDS = 3, ROOTS = 251, LINE = 64 };
+enum { PAIRS = 1000000, ROUNDS = 25, KINDS = 3, LINE = 64 };
 
 static struct parklot_seat seat;
 static struct plain_seat plain;
@@ -92,10 +92,10 @@ static int pin(void)
 static void make(void)
 {
     const uint32_t starts[1] = {0};
-    static struct plain_table table = {NULL, 1, ROOTS};
-    size_t size = (size_t)LINE * (1 + ROOTS);
+    static struct plain_table table = {NULL, 1};
+    size_t size = (size_t)LINE * (1 + PLAIN_ROOTS);
 
-    must(parklot_new(starts, 1, ROOTS, 1, UINT64_C(1) << 40, &seat, 1) == PARKLOT_OK, "parklot_new");
+    must(parklot_new(starts, 1, PLAIN_ROOTS, 1, UINT64_C(1) << 40, &seat, 1) == PARKLOT_OK, "parklot_new");
     table.words = aligned_alloc(LINE, size);
     must(table.words != NULL, "memory");
     memset(table.words, 0, size);

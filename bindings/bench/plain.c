@@ -18,7 +18,7 @@ uint32_t plain_post(struct plain_seat *seat, uint32_t counter)
         return 2;
     __atomic_fetch_add(word(table, counter), 1, __ATOMIC_SEQ_CST);
     seat->left--;
-    return __atomic_load_n(word(table, table->counters + counter % table->roots), __ATOMIC_SEQ_CST) != 0;
+    return __atomic_load_n(word(table, table->counters + counter % PLAIN_ROOTS), __ATOMIC_SEQ_CST) != 0;
 }
 
 uint32_t plain_try_acquire(struct plain_seat *seat, uint32_t counter)

@@ -9,8 +9,9 @@
 struct plain_table {
     uint64_t *words;
     uint32_t counters;
-    uint32_t roots;
 };
+
+enum { PLAIN_ROOTS = 251 };
 
 /* A seat in the caller's memory: its table, and what it may add yet and has taken. */
 struct plain_seat {
