@@ -105,6 +105,7 @@ static void go(void *unused)
     self.place = NULL;
 }
 
+/* Where it isn't made, no seat is free. */
 static void make_table(void)
 {
     static uint32_t starts[COUNTERS];
@@ -112,14 +113,16 @@ static void make_table(void)
 
     for (uint32_t lock = 1; lock <= THREAD_LOCKS; lock++)
         starts[lock] = 1;
-    must(parklot_new(starts, COUNTERS, ROOTS, 1, RELEASE_LIMIT, seats, THREAD_SEATS) == PARKLOT_OK, "no table");
+    if (pthread_key_create(&at_exit, go) != 0)
+        return;
+    if (parklot_new(starts, COUNTERS, ROOTS, 1, RELEASE_LIMIT, seats, THREAD_SEATS) != PARKLOT_OK)
+        return;
     for (uint32_t number = THREAD_SEATS; number-- > 0;) {
         places[number].seat = seats[number];
         seat_given(&places[number]);
     }
     for (uint32_t counter = THREAD_LOCKS + 1; counter < COUNTERS; counter++)
         counter_given(counter);
-    must(pthread_key_create(&at_exit, go) == 0, "no key");
 }
 
 static bool come(void)
