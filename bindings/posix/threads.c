@@ -259,7 +259,8 @@ static int sleep_until_named(uint32_t counter, const struct patience *patience)
     atomic_uint *word = &self.place->word;
 
     while (atomic_load(word) != NAMED) {
-        int error = patience->by_cancellation ? futex_wait_cancellable(counter, word, patience) : futex_wait(word, patience);
+        int error = patience->by_cancellation ? futex_wait_cancellable(counter, word, patience)
+                                              : futex_wait(word, patience);
 
         if (error != ETIMEDOUT && !(error == EINTR && patience->by_signal))
             continue;
