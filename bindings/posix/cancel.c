@@ -26,38 +26,41 @@ static void begin(pthread_t *thread, void *(*work)(void *), void *given)
     must(pthread_create(thread, NULL, work, given) == 0, "a thread began");
 }
 
-static bool is_cancelled(pthread_t thread)
+static void join(pthread_t thread)
 {
-    void *answer;
-
-    must(pthread_join(thread, &answer) == 0, "a thread came back");
-    return answer == PTHREAD_CANCELED;
+    must(pthread_join(thread, NULL) == 0, "a thread came back");
 }
 
-static void *waits(void *sem)
+static parklot_sem_t sem;
+
+/* What pthread_join answers doesn't tell whether a thread was cancelled in its wait or a moment after it. */
+static void *waits(void *has_taken)
 {
-    must(parklot_sem_wait(sem) == 0, "wait");
+    must(parklot_sem_wait(&sem) == 0, "wait");
+    *(bool *)has_taken = true;
     return NULL;
 }
 
 static void cancelled_semaphores(void)
 {
-    parklot_sem_t sem;
     int value;
 
     parklot_sem_init(&sem, 0, 0);
     for (int round = 0; round < ROUNDS; round++) {
+        bool one_took = false, other_took = false;
         pthread_t one, other;
 
-        begin(&one, waits, &sem);
-        begin(&other, waits, &sem);
+        begin(&one, waits, &one_took);
+        begin(&other, waits, &other_took);
         if (round % 2 == 0)
             sched_yield();
         must(parklot_sem_post(&sem) == 0, "post");
         pthread_cancel(one);
-        if (!is_cancelled(one))
-            must(parklot_sem_post(&sem) == 0, "post"); /* the first unit was taken by that one */
-        must(!is_cancelled(other), "the other goes on");
+        join(one);
+        if (one_took)
+            must(parklot_sem_post(&sem) == 0, "post");
+        join(other);
+        must(other_took, "the other goes on");
     }
     must(parklot_sem_getvalue(&sem, &value) == 0, "getvalue");
     printf("cancelled in sem_wait: value %d\n", value);
@@ -70,14 +73,14 @@ static void gives_mutex_back(void *unused)
     pthread_mutex_unlock(&mutex);
 }
 
-static void *takes_a_token(void *unused)
+static void *takes_a_token(void *has_taken)
 {
-    (void)unused;
     pthread_mutex_lock(&mutex);
     pthread_cleanup_push(gives_mutex_back, NULL);
     while (tokens == 0)
         parklot_cond_wait(&cond, &mutex);
     tokens--;
+    *(bool *)has_taken = true;
     pthread_cleanup_pop(1);
     return NULL;
 }
@@ -93,17 +96,20 @@ static void put_token(void)
 static void cancelled_conditions(void)
 {
     for (int round = 0; round < ROUNDS; round++) {
+        bool one_took = false, other_took = false;
         pthread_t one, other;
 
-        begin(&one, takes_a_token, NULL);
-        begin(&other, takes_a_token, NULL);
+        begin(&one, takes_a_token, &one_took);
+        begin(&other, takes_a_token, &other_took);
         if (round % 2 == 0)
             sched_yield();
         put_token();
         pthread_cancel(one);
-        if (!is_cancelled(one))
+        join(one);
+        if (one_took)
             put_token();
-        must(!is_cancelled(other), "the other goes on");
+        join(other);
+        must(other_took, "the other goes on");
     }
     printf("cancelled in cond_wait: tokens left %d\n", tokens);
 }
