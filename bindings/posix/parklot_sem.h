@@ -1,0 +1,67 @@
+/* parklot_sem.h: semaphores and condition variables for threads with the calls of POSIX, over one table of parklot.h.
+
+   The calls answer as POSIX has it: those of semaphores 0, or -1 and errno; those of condition variables an error number.
+   The waits are cancellation points. Left out, since a table lives in one process, and a seat makes one call at a time:
+
+   - Nothing is shared between processes (ENOSYS, ENOTSUP), and nothing is used in a forked child.
+   - parklot_sem_post isn't called from a signal handler. POSIX allows that of sem_post; here the handler's thread may be
+     in the middle of a call with its seat. For the same reason no call is made with asynchronous cancellation.
+   - A condition variable isn't freed while a thread that waits there is being cancelled.
+
+   A thread gets one of 256 seats at its first call, and gives it back when it ends. A wait that ends by its time, a signal
+   or its cancellation leaves its seat in the queue, until that is woken or the next who waits there takes it over; it counts
+   as well. Where no seat is free a call answers ENOMEM, and a wait that can't leave its seat goes on. A post that wakes such
+   a seat takes its unit out of the semaphore and puts it in again, so a parklot_sem_trywait meanwhile may answer EAGAIN.
+   There are 16,000 semaphores and threads at most (ENOSPC, ENOMEM). */
+
+#ifndef PARKLOT_SEM_H
+#define PARKLOT_SEM_H
+
+#include <pthread.h>
+#include <stdint.h>
+#include <time.h>
+
+#ifdef __cplusplus
+extern "C" {
+#endif
+
+/* A semaphore: which counter it is, or 0. */
+typedef struct {
+    uint32_t counter;
+} parklot_sem_t;
+
+#define PARKLOT_SEM_VALUE_MAX 2147483647u
+
+int parklot_sem_init(parklot_sem_t *sem, int shared, unsigned int value); /* EINVAL, ENOSYS, ENOSPC, ENOMEM */
+int parklot_sem_destroy(parklot_sem_t *sem);                              /* EINVAL, ENOMEM */
+int parklot_sem_wait(parklot_sem_t *sem);                                 /* EINTR, EINVAL, ENOMEM */
+int parklot_sem_trywait(parklot_sem_t *sem);                              /* EAGAIN, EINVAL, ENOMEM */
+int parklot_sem_timedwait(parklot_sem_t *sem, const struct timespec *end); /* ETIMEDOUT, EINTR, EINVAL, .. */
+int parklot_sem_clockwait(parklot_sem_t *sem, clockid_t clock, const struct timespec *end);
+
+/* The look for the highest value and the addition are two steps: posts at once may pass it by as many as they are. */
+int parklot_sem_post(parklot_sem_t *sem);                  /* EOVERFLOW, EINVAL, ENOMEM */
+int parklot_sem_getvalue(parklot_sem_t *sem, int *value);  /* EINVAL, ENOMEM */
+
+/* A condition variable: the threads that wait, first come first. Zeros are one too, whose clock is CLOCK_REALTIME. */
+typedef struct {
+    struct parklot_waiter *first;
+    clockid_t clock;
+} parklot_cond_t;
+
+#define PARKLOT_COND_INITIALIZER {NULL, CLOCK_REALTIME}
+
+/* The mutex is a pthread_mutex_t. A wait ends only by a signal, a broadcast or its time: never for nothing. */
+int parklot_cond_init(parklot_cond_t *cond, const pthread_condattr_t *attributes); /* ENOTSUP */
+int parklot_cond_destroy(parklot_cond_t *cond);
+int parklot_cond_wait(parklot_cond_t *cond, pthread_mutex_t *mutex); /* ENOMEM, and what the mutex answers */
+int parklot_cond_timedwait(parklot_cond_t *cond, pthread_mutex_t *mutex, const struct timespec *end); /* ETIMEDOUT, EINVAL */
+int parklot_cond_clockwait(parklot_cond_t *cond, pthread_mutex_t *mutex, clockid_t clock, const struct timespec *end);
+int parklot_cond_signal(parklot_cond_t *cond);    /* ENOMEM */
+int parklot_cond_broadcast(parklot_cond_t *cond); /* ENOMEM */
+
+#ifdef __cplusplus
+}
+#endif
+
+#endif
