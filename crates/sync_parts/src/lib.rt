@@ -54,12 +54,13 @@ pub use laws::{law_of_the_groups, law_of_the_locks};
 pub use locker::Locker;
 pub use locker_call::LockerCall;
 pub use notify_list::{
-    Holding, ListClosed, ListSeat, NotifyList, SetupError as ListSetupError, Waited,
+    Busy as ListBusy, Entered as ListEntered, Holding, ListClosed, ListSeat, Notified, NotifiedAll,
+    NotifyList, OwingAll, Parked, Polled as ListPolled, SetupError as ListSetupError, Waited,
 };
 pub use sema_lock::SemaLock;
 pub use sema_table::{
-    Closed, Entered, Owing, OwingMany, Polled, PostRefused, Posted, PostedMany, Roused, Seat,
-    SemaTable, Settings, SetupError, Sleeping, Tried, Wake, Woken,
+    Closed, Entered, Owing, OwingMany, Polled, PostRefused, Posted, PostedMany, Retried, Roused,
+    Seat, SemaTable, Settings, SetupError, Sleeping, Tried, Wake, Woken, WokenSeats,
 };
 pub use step_table::Misuse;
 pub use waiters::{CounterId, NoMemory};
