@@ -1,5 +1,5 @@
 -- Lists as places come to handles, one after the other.
-use Rattle.std.proofs.Common.{◌≡◌, ◌+◌, ◌<◌, ℕ, List, [], ◌∷◌, ◌++◌, length, map, reverse, refl, sym, ap, ◌∙◌, take, set, arith}
+use Rattle.std.proofs.Common.{◌≡◌, ◌+◌, ◌<◌, ℕ, List, [], ◌∷◌, ◌++◌, length, map, reverse, sym, ap, ◌∙◌, take, set, arith}
 use Rattle.std.proofs.lemmas.List.{map-set, map-append, length-map, take_more_set, reverse-append}
 use mathlib.Core.List.{append_assoc}
 

@@ -9,8 +9,10 @@ use std::alloc::Global;
 use std::marker::Model;
 use std::ptr;
 
+/// What a caller outside Rattle takes a place for: a type that names nothing of the library.
 #[repr(C)]
 pub struct Opaque {
+    /// Never read or written.
     byte: u8,
 }
 
@@ -27,6 +29,7 @@ impl Model for Cell {
 }
 
 impl Cell {
+    /// A cell that owns what the parts own.
     pub fn of(parts: Parts<Place, Global>) -> Cell
         ensures { result.places ≡ parts.value ∷ [] }
     {
@@ -36,6 +39,7 @@ impl Cell {
         }
     }
 
+    /// The parts of the place. The cell is gone then: so a place is freed once.
     pub fn into_parts(self, alloc: Global) -> Parts<Place, Global>
         requires { length self.places ≡ 1 }
         ensures { self.places ≡ result.value ∷ [] }
@@ -47,6 +51,7 @@ impl Cell {
         }
     }
 
+    /// A cell with nothing in it.
     pub fn none() -> Cell
         ensures { result.places ≡ [] }
     {
@@ -56,4 +61,6 @@ impl Cell {
     }
 }
 
+// SAFETY: a cell owns its place and shares it with nobody, and a place may go to another thread: the table is
+// shared behind its `Arc`, and the seat is used by one thread at a time. Proved in `proofs/cell/Cell/TheSendSync`.
 unsafe impl Send for Cell {}

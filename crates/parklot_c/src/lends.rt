@@ -1,4 +1,5 @@
-// A file of its own: the clause names the row of `Cell`, which the file that declares it cannot import.
+//! How a cell lends its place. A file of its own: the clause names the row of `Cell`, which the file that
+//! declares it cannot import.
 ghost use Rattle.std.specs.Prelude.{◌≡◌, [], ◌∷◌, length};
 ghost use types.Logic.{sem};
 ghost use denote.Follow.{follows};
@@ -16,6 +17,8 @@ impl Cell {
         ensures* writes_back { sem 𝓛 (follows cell_type.the_row place_type.the_row self.entry.ghost_name result.ghost_name (with_place self.old)) }
         ensures value { self.old.places ≡ result.now ∷ [] }
     {
+        // SAFETY: a cell with one place owns the whole value at its pointer, and is borrowed for as long as the
+        // place is: nobody else reaches it meanwhile.
         unsafe { &mut *(self.ptr as *mut Place) }
     }
 }

@@ -10,7 +10,7 @@ use denote.RawPtr.{Ptr, block_ptr, null_ptr, lies_at}
 use denote.Struct.Struct.{exits_of}
 use denote.Struct.Owning.{shape, fields, to}
 use denote.Param.Send.{IsSend, AllSend, Quiet, part_keyless, owning_send, struct_send, sendable}
-use Rattle.std.proofs.Crossing.{crosses, frees}
+use Rattle.std.proofs.Crossing.{frees}
 use Rattle.parklot_c.specs.Cells.{cell_owns}
 use Rattle.parklot_c.specs.contracts.place.Place as Place
 use Rattle.parklot_c.proofs.place.Place.TheSendSync.{the_send as place}
