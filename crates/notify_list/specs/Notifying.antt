@@ -95,8 +95,8 @@ pub record GivesLockLast (strides : List ListStride) (ticket : ℕ) : Type 0 whe
   pub h : ℕ
   pub stood : stride.stood.place ≡ NotifyingOne h (O8 ticket)
 
--- of the ticket that was granted, the seat of its wait was granted last, which is one of so many; or nobody was,
--- since its wait wasn't in the list
+-- of the ticket that was granted, the seat of its wait was granted last, which is one of so many; or nobody
+-- was, since its wait wasn't in the list
 abbrev pub GivesLast : ℕ → ℕ → Option ℕ → List ListStride → Type 0
 GivesLast seats ticket None strides = GivesLockLast strides ticket
 GivesLast seats ticket (Some seat) strides = (seat < seats) × StoresGrant strides seat

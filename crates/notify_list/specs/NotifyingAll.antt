@@ -1,5 +1,6 @@
 -- What a notification of all promises.
-use Rattle.std.specs.Prelude.{◌≡◌, ◌≢◌, ◌⊎◌, ℕ, zero, suc, ◌+◌, ◌≤◌, Bool, true, false, List, [], ◌∷◌, ◌++◌, map}
+use Rattle.std.specs.Prelude.{◌≡◌, ◌≢◌, ◌⊎◌, ℕ, zero, suc, ◌+◌, ◌≤◌, Bool, true, false, List, [], ◌∷◌}
+use Rattle.std.specs.Prelude.{◌++◌, map}
 use Rattle.waiters.specs.declared.wait.Wait.{Wait}
 use Rattle.step_table.specs.declared.list_place.AllRow.TheVariants.{L1, L2, L3, L4, L5, L6, L7, L8}
 use Rattle.step_table.specs.declared.list_place.ListPlace.{ListPlace}
@@ -75,8 +76,8 @@ GrantsSome s zero t =
     ≡ own_entries (watched s.list.setting) s.number s.sight.seen
 GrantsSome s (suc n) t = GrantsUpTo s (suc n) t
 
--- the two first looks differed, and the seat goes to the lock. All tickets that it had seen handed out were so
--- at the first look
+-- the two first looks differed, and the seat goes to the lock. All tickets that it had seen handed out were
+-- so at the first look
 pub record LooksForAll (s t : SeatModel) : Type 0 where
   pub h : ℕ
   pub waited : ℕ

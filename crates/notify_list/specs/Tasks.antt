@@ -1,6 +1,7 @@
 -- What each call of a task is, by its answer. What it did is what the list's own call does; where it was
 -- refused nothing was done.
-use Rattle.std.specs.Prelude.{◌≡◌, ◌≢◌, ℕ, Bool, true, false, Option, IfSome, IfNone, Result, Ok, Err, List, map}
+use Rattle.std.specs.Prelude.{◌≡◌, ◌≢◌, ℕ, Bool, true, false, Option, IfSome, IfNone, Result, Ok, Err, List}
+use Rattle.std.specs.Prelude.{map}
 use Rattle.notify_list.specs.declared.notified.Notified.{Notified}
 use Rattle.notify_list.specs.declared.notified.NotifiedAll.{NotifiedAll}
 use Rattle.notify_list.specs.declared.task_answers.TaskRefused.{TaskRefused}
@@ -50,16 +51,19 @@ LooksByTask s (Err why) t = Refuses s t (because (s.stage ≢ Resting) ⊥ why)
 
 abbrev pub EntersByTask : TaskModel → Result TaskEntered TaskRefused → TaskModel → Type 0
 EntersByTask s (Ok enters.AtOnce) t =
-    Goes s Holding Resting t × IsEntered s.seat (entered.AtOnce t.seat) × EntersWait s.seat (entered.AtOnce t.seat)
+    Goes s Holding Resting t × IsEntered s.seat (entered.AtOnce t.seat)
+    × EntersWait s.seat (entered.AtOnce t.seat)
 EntersByTask s (Ok enters.Queued) t =
-    Goes s Holding Parked t × IsEntered s.seat (entered.Queued t.seat) × EntersWait s.seat (entered.Queued t.seat)
+    Goes s Holding Parked t × IsEntered s.seat (entered.Queued t.seat)
+    × EntersWait s.seat (entered.Queued t.seat)
 EntersByTask s (Err why) t = Refuses s t (because (s.stage ≢ Holding) (Unit {0}) why)
 
 abbrev pub PollsByTask : TaskModel → Result TaskPolled TaskRefused → TaskModel → Type 0
 PollsByTask s (Ok polls.Still) t =
     Goes s Parked Parked t × IsPolled s.seat (polled.Still t.seat) × PollsGrant s.seat (polled.Still t.seat)
 PollsByTask s (Ok polls.Granted) t =
-    Goes s Parked Resting t × IsPolled s.seat (polled.Granted t.seat) × PollsGrant s.seat (polled.Granted t.seat)
+    Goes s Parked Resting t × IsPolled s.seat (polled.Granted t.seat)
+    × PollsGrant s.seat (polled.Granted t.seat)
 PollsByTask s (Err why) t = Refuses s t (because (s.stage ≢ Parked) ⊥ why)
 
 -- where the lock stayed held, the seat has looked at the two words, and they differed
@@ -90,7 +94,9 @@ GoesOnByTask s (Ok all) t =
     × EndsNotifyingAll s.seat all.tickets t.seat
 GoesOnByTask s (Err why) t = Refuses s t (because (s.stage ≢ OwingAll) (Unit {0}) why)
 
--- a list for tasks that starts so, and its seats in the order of their numbers, none of which has run anything
+-- a list for tasks that starts so, and its seats in the order of their numbers, none of which has run
+-- anything
 abbrev pub IsMadeForTasks : ℕ → ℕ → ListModel → List TaskModel → Type 0
 IsMadeForTasks first seats l made =
-    (own : List SeatModel) × IsMade first seats l own × (made ≡ map (λ s. record { seat = s; stage = Resting }) own)
+    (own : List SeatModel) × IsMade first seats l own
+    × (made ≡ map (λ s. record { seat = s; stage = Resting }) own)

@@ -1,10 +1,12 @@
 -- What waiting promises.
-use Rattle.std.specs.Prelude.{◌≡◌, ℕ, ◌<◌, true, false, [], ◌∷◌, Some, None}
+use Rattle.std.specs.Prelude.{◌≡◌, ℕ, ◌<◌, true, false, List, [], ◌∷◌, Some, None}
+use Rattle.waiters.specs.declared.wait.Wait.{Wait}
 use Rattle.step_table.specs.declared.list_place.ListPlace.TheVariants.{Rest, Waiting}
 use Rattle.step_table.specs.declared.list_place.Ticket.{Ticket}
 use Rattle.step_table.specs.declared.list_place.WaitRow.TheVariants.{W1, W2, W3, W4, P}
 use Rattle.step_table.specs.declared.list_place.ListWord.TheVariants.{Grant}
 use Rattle.step_table.specs.Wrapping.{less}
+use Rattle.step_table.specs.ListWorld.{ListSeat}
 use Rattle.notify_list.specs.declared.waited.Waited.{Waited}
 use Rattle.notify_list.specs.declared.waited.Waited.TheVariants.{AtOnce, Parked}
 use Rattle.notify_list.specs.declared.waited.Entered.{Entered}
@@ -44,6 +46,10 @@ abbrev pub IsGranted : SeatModel → SeatModel → Type 0
 IsGranted s t =
     (ticket : Ticket) → s.sight.stands.ticket ≡ Some ticket → ticket.number < (numbers_seen t).granted
 
+-- the seat is parked with this ticket
+abbrev pub parked_with : Ticket → List Wait → ℕ → ListSeat
+parked_with ticket hand late = record { place = Waiting ticket P; ticket = None; hand = hand; late = late }
+
 -- the seat went to the lock with the ticket that it held, and read this in the notify word there: the ticket
 -- wasn't granted, and the wait was queued in the same hold of the lock
 pub record IsQueued (s t : SeatModel) : Type 0 where
@@ -53,9 +59,7 @@ pub record IsQueued (s t : SeatModel) : Type 0 where
   pub ungranted : less ticket.word notified ≡ false
   pub call : Calls s (waiting s.sight.stands) t []
       ((Waiting ticket W1, 0) ∷ (Waiting ticket W2, notified) ∷ (Waiting ticket W4, 1) ∷ [])
-  pub comes : ComesTo s
-      (record { place = Waiting ticket P; ticket = None; hand = s.sight.stands.hand; late = t.sight.stands.late })
-      t
+  pub comes : ComesTo s (parked_with ticket s.sight.stands.hand t.sight.stands.late) t
 
 -- the ticket was found granted, and the seat rests without one; or the wait is queued
 abbrev pub IsEntered : SeatModel → Entered → Type 0

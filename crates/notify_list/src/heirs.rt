@@ -9,7 +9,8 @@
 //! heirs have theirs: it takes their names away, then looks whether they are granted, and sleep; who grants
 //! stores a grant, then looks whether its seat is still named. All four are in one order, the same for all
 //! threads: either the seat finds its heir granted, or its name was taken away before the granter's look, and
-//! the granter wakes the heir. So each that was granted is woken.
+//! the granter wakes the heir. So each that was granted is woken. A seat that is parked does its part once it
+//! polls.
 ghost use Rattle.std.specs.Prelude.{◌≡◌, ◌<◌, ◌≤◌};
 ghost use Rattle.notify_list.specs.Seats.{list_of};
 ghost use Rattle.notify_list.specs.Setting.{words_shown};

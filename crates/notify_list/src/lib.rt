@@ -11,6 +11,13 @@
 //! knows no rows: the seat before and after, the entries that it told, and what the answer means.
 //! [`law_of_the_list`] says that the list is lawful between any two of them.
 //!
+//! A caller that must not wait, as a scheduler, has [`NotifyList::try_wait`], [`NotifyList::try_one`] and
+//! [`NotifyList::try_all`], which find the list's lock free or give the seat back, and tell whom they granted.
+//! A seat that is parked looks by [`NotifyList::poll`] whether its ticket is granted, and one that has looked
+//! for a notification of all goes on by [`NotifyList::retry_all`]. A [`TaskList`] is for tasks whose threads
+//! somebody else parks: none of its calls waits or calls the kernel, and its seats are of one type wherever
+//! they stand.
+//!
 //! A list has 1 to 256 seats. Its tickets are words of 64 bits that wrap: the first is what the list starts
 //! at, and a ticket comes before another where it is up to 2^63 behind. [`NotifyList::starting_at`] refuses
 //! any other number of seats, or answers want of memory, and takes all memory that the list ever takes. After

@@ -1,7 +1,7 @@
 //! What the calls of a list for tasks answer.
 
-/// Why a call of a task did nothing, by number. The seat is as it was, but for the two looks of a notification
-/// that found the lock held.
+/// Why a call of a task did nothing, by number. The seat is as it was, but for the two looks of a
+/// notification that found the lock held.
 #[derive(Clone, Copy, Debug, PartialEq, Eq, Drop)]
 pub enum TaskRefused {
     /// The seat stands in the middle of another call, or in the middle of none.
