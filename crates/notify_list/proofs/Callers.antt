@@ -3,6 +3,7 @@ use Rattle.std.proofs.Common.{◌≡◌, ℕ, ◌+◌, Bool, true, false, List, 
 use Rattle.step_table.specs.declared.list_place.ListPlace.{ListPlace}
 use Rattle.step_table.specs.declared.list_place.ListPlace.TheVariants.{Rest, Adding, Waiting, NotifyingOne}
 use Rattle.step_table.specs.declared.list_place.OneRow.TheVariants.{O1, O2}
+use Rattle.step_table.specs.declared.list_place.ListWord.TheVariants.{Grant}
 use Rattle.step_table.specs.declared.list_place.Ticket.{Ticket}
 use Rattle.step_table.specs.declared.list_place.WaitRow.TheVariants.{W1, W2, W3, W4, P}
 use Rattle.step_table.specs.Wrapping.{word_of, less}
@@ -10,15 +11,18 @@ use Rattle.step_table.specs.ListWorld.{Numbers, ListSeat, ListEntry, Took}
 use Rattle.step_law_lists.specs.ListLawful.{told}
 use Rattle.notify_list.specs.declared.waited.Waited.{Waited}
 use Rattle.notify_list.specs.declared.waited.Waited.TheVariants.{AtOnce, Parked}
+use Rattle.notify_list.specs.declared.waited.Entered.TheVariants as entered
+use Rattle.notify_list.specs.declared.waited.Polled.TheVariants as polled
 use Rattle.notify_list.specs.Places.{at_place, waiting}
 use Rattle.notify_list.specs.Seats.{SeatModel}
 use Rattle.notify_list.specs.Calls.{TellsIn, Calls, ComesTo, numbers_seen, AllGranted}
 use Rattle.notify_list.specs.Tickets.{with_held, IsAdded, HasLooked, looks, after_looks}
-use Rattle.notify_list.specs.Waiting.{IsWaited, IsGranted}
-use Rattle.notify_list.specs.Callers.{IsSeatAfter, GetsTicket, WaitsForGrant, FindsAllGranted}
+use Rattle.notify_list.specs.Waiting.{IsWaited, IsGranted, IsQueued, TakesGrant, IsPolled}
+use Rattle.notify_list.specs.Callers.{IsSeatAfter, GetsTicket, WaitsForGrant, FindsAllGranted, EntersWait, PollsGrant}
 use Rattle.notify_list.proofs.Leading.{unequal_is}
 use Rattle.notify_list.proofs.Parting.{told_last}
 use Rattle.notify_list.proofs.Answering.{IsSound, few_then, seat_after, seen_as, seat_between, seat_since}
+use Rattle.notify_list.proofs.CallersEnding.{after_look}
 use Rattle.notify_list.proofs.Rereading.{call_ran, finds_handed, finds_granted}
 
 module _ (s t : SeatModel) (is : IsSound t) where
@@ -58,30 +62,31 @@ module _ (s t : SeatModel) (is : IsSound t) where
                 (handed ∙ ap (word_of s.list.setting.first) (sym same ∙ ap (λ (l : List ListEntry). (told l).granted) (two.last refl)) ∙ sym granted),
           )
 
-  -- the rows of a wait, and the look that it took under the lock
-  abbrev rested : ListSeat
-  rested = record { place = Rest; ticket = None; hand = s.sight.stands.hand; late = t.sight.stands.late }
-
   abbrev waits_by : Ticket → ℕ → List (ListPlace × ℕ) → List (ListPlace × ℕ)
   waits_by ticket notified rest = (Waiting ticket W1, 0) ∷ (Waiting ticket W2, notified) ∷ rest
 
-  after_wait : (ticket : Ticket) (notified : ℕ) (rest : List (ListPlace × ℕ)) → ComesTo s rested t
-      → Calls s (waiting s.sight.stands) t [] (waits_by ticket notified rest) → IsSeatAfter s [] t
-  after_wait ticket notified rest comes call = seat_after s t (waiting s.sight.stands) rested [] (waits_by ticket notified rest) is.lawful comes call
+  -- the rows of a wait, after which the seat stands so, and the look that it took under the lock
+  module _ (stands : ListSeat) where
+    after_wait : (ticket : Ticket) (notified : ℕ) (rest : List (ListPlace × ℕ)) → ComesTo s stands t
+        → Calls s (waiting s.sight.stands) t [] (waits_by ticket notified rest) → IsSeatAfter s [] t
+    after_wait ticket notified rest comes call = seat_after s t (waiting s.sight.stands) stands [] (waits_by ticket notified rest) is.lawful comes call
 
-  looks_with : (ticket : Ticket) (notified : ℕ) (before : Bool) (rest : List (ListPlace × ℕ)) → ComesTo s rested t
-      → less ticket.word notified ≡ before
-      → Calls s (waiting s.sight.stands) t [] (waits_by ticket notified rest)
-      → (u : SeatModel) × (IsSeatAfter s [] u × (less ticket.word (word_of s.list.setting.first (numbers_seen u).granted) ≡ before))
-      × TellsIn u.sight.seen [] t.sight.seen
-  looks_with ticket notified before rest comes found call =
-      let look = call_ran s t (waiting s.sight.stands) ((Waiting ticket W1, 0) ∷ []) rest (Waiting ticket W2) notified call in
-      let after = after_wait ticket notified rest comes call in
-      let granted = finds_granted (few_then s t after.list is) look (λ seat. refl) in (
-        seen_as s look.stride.seen,
-        (seat_between s t look.stride.seen after look.later look.now, ap (less ticket.word) (sym granted) ∙ found),
-        look.now,
-      )
+    looks_with : (ticket : Ticket) (notified : ℕ) (before : Bool) (rest : List (ListPlace × ℕ)) → ComesTo s stands t
+        → less ticket.word notified ≡ before
+        → Calls s (waiting s.sight.stands) t [] (waits_by ticket notified rest)
+        → (u : SeatModel) × (IsSeatAfter s [] u × (less ticket.word (word_of s.list.setting.first (numbers_seen u).granted) ≡ before))
+        × TellsIn u.sight.seen [] t.sight.seen
+    looks_with ticket notified before rest comes found call =
+        let look = call_ran s t (waiting s.sight.stands) ((Waiting ticket W1, 0) ∷ []) rest (Waiting ticket W2) notified call in
+        let after = after_wait ticket notified rest comes call in
+        let granted = finds_granted (few_then s t after.list is) look (λ seat. refl) in (
+          seen_as s look.stride.seen,
+          (seat_between s t look.stride.seen after look.later look.now, ap (less ticket.word) (sym granted) ∙ found),
+          look.now,
+        )
+
+  abbrev rested : ListSeat
+  rested = record { place = Rest; ticket = None; hand = s.sight.stands.hand; late = t.sight.stands.late }
 
   pub waits_for : (waited : Waited) → IsWaited s waited t → IsGranted s t → WaitsForGrant s waited t
   waits_for waited x granted = by waited x
@@ -89,13 +94,40 @@ module _ (s t : SeatModel) (is : IsSound t) where
       by : (waited : Waited) → IsWaited s waited t → WaitsForGrant s waited t
       by AtOnce x =
           let rest = (Waiting x.ticket W3, 1) ∷ [] in (
-            after_wait x.ticket x.notified rest x.comes x.how.1,
+            after_wait rested x.ticket x.notified rest x.comes x.how.1,
             ap (λ (y : ListSeat). y.ticket) x.comes.stands_is,
-            (x.ticket, x.held, granted x.ticket x.held, looks_with x.ticket x.notified true rest x.comes x.how.0 x.how.1),
+            (x.ticket, x.held, granted x.ticket x.held, looks_with rested x.ticket x.notified true rest x.comes x.how.0 x.how.1),
           )
       by Parked x =
           let rest = (Waiting x.ticket W4, 1) ∷ (Waiting x.ticket P, 1) ∷ [] in (
-            after_wait x.ticket x.notified rest x.comes x.how.1,
+            after_wait rested x.ticket x.notified rest x.comes x.how.1,
             ap (λ (y : ListSeat). y.ticket) x.comes.stands_is,
-            (x.ticket, x.held, granted x.ticket x.held, looks_with x.ticket x.notified false rest x.comes x.how.0 x.how.1),
+            (x.ticket, x.held, granted x.ticket x.held, looks_with rested x.ticket x.notified false rest x.comes x.how.0 x.how.1),
           )
+
+  pub enters_at_once : IsWaited s AtOnce t × IsGranted s t → EntersWait s (entered.AtOnce t)
+  enters_at_once x = waits_for AtOnce x.0 x.1
+
+  pub enters_queued : IsQueued s t → EntersWait s (entered.Queued t)
+  enters_queued x =
+      let parked : ListSeat
+      = record { place = Waiting x.ticket P; ticket = None; hand = s.sight.stands.hand; late = t.sight.stands.late } in
+      let rest = (Waiting x.ticket W4, 1) ∷ [] in (
+        after_wait parked x.ticket x.notified rest x.comes x.call,
+        (
+          x.ticket,
+          x.held,
+          ap (λ (y : ListSeat). y.place) x.comes.stands_is,
+          looks_with parked x.ticket x.notified false rest x.comes x.ungranted x.call,
+        ),
+      )
+
+  pub polls_still : IsPolled s (polled.Still t) → PollsGrant s (polled.Still t)
+  polls_still x = (after_look s t (Grant s.number) 0 is.lawful x.1, x.1.stays, x.0)
+
+  pub polls_granted : TakesGrant s t → PollsGrant s (polled.Granted t)
+  polls_granted x = (
+    seat_after s t s.sight.stands (at_place Rest s.sight.stands) [] ((Waiting x.ticket P, 1) ∷ []) is.lawful x.comes x.call,
+    ap (λ (y : ListSeat). y.ticket) x.comes.stands_is,
+    (x.ticket, x.parked, x.granted),
+  )

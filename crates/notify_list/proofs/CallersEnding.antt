@@ -15,7 +15,7 @@ use Rattle.notify_list.specs.Closing.{IsClosed}
 use Rattle.notify_list.specs.Callers.{IsSeatAfter, SeeTheSame, EndsList}
 use Rattle.notify_list.proofs.Parting.{own_of}
 
-after_look : (s t : SeatModel) (word : ListWord) (n : ℕ) → Follows t.sight.seen → LooksAt s word n t → IsSeatAfter s [] t
+pub after_look : (s t : SeatModel) (word : ListWord) (n : ℕ) → Follows t.sight.seen → LooksAt s word n t → IsSeatAfter s [] t
 after_look s t word n lawful x =
     let only : Looked (notify_list s.list.setting.first s.list.setting.seats) x.ran.world s.number word x.stride.read x.stride.told t.sight =
     subst (λ d. Did (notify_list s.list.setting.first s.list.setting.seats) x.ran.world s.number d x.stride.read x.stride.told t.sight) x.did x.ran.did in

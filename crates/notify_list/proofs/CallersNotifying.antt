@@ -1,5 +1,6 @@
 -- What notifying one and all are to their caller, from what they are in rows.
-use Rattle.std.proofs.Common.{◌≡◌, ◌≢◌, ◌⊎◌, ℕ, zero, suc, ◌+◌, List, [], ◌∷◌, ◌++◌, Option, Some, None, IfSome, IfNone, inl}
+use Rattle.std.proofs.Common.{◌≡◌, ◌≢◌, ◌⊎◌, ℕ, zero, suc, ◌+◌, List, [], ◌∷◌, ◌++◌, Option, Some, None, Result, Ok, Err, IfSome, IfNone, IfOk, MatchResult, inl}
+use Rattle.std.proofs.Common.{false}
 use Rattle.std.proofs.Common.{inr, ⊎_elim, sym, subst, arith}
 use Rattle.waiters.specs.declared.wait.Wait.{Wait}
 use Rattle.step_table.specs.declared.list_place.ListPlace.{ListPlace}
@@ -13,10 +14,11 @@ use Rattle.step_law_lists.specs.ListLawful.{told, Follows}
 use Rattle.notify_list.specs.Places.{at_place}
 use Rattle.notify_list.specs.Seats.{SeatModel}
 use Rattle.notify_list.specs.Calls.{Calls, AllGranted}
-use Rattle.notify_list.specs.Tickets.{looks}
-use Rattle.notify_list.specs.Notifying.{OneFromLock, NotifiesOne, GrantsLeast}
-use Rattle.notify_list.specs.NotifyingAll.{looks_all, all_rows, all_entries, NotifiesAll, GrantsSome, GrantsUpTo}
-use Rattle.notify_list.specs.Callers.{IsSeatAfter, NotifiesOneTicket, NotifiesAllTickets}
+use Rattle.notify_list.specs.declared.notified.Notified.{Notified}
+use Rattle.notify_list.specs.Tickets.{looks, HasLooked}
+use Rattle.notify_list.specs.Notifying.{OneFromLock, NotifiesOne, GrantsLeast, ticket_of}
+use Rattle.notify_list.specs.NotifyingAll.{looks_all, all_rows, all_entries, NotifiesAll, GrantsSome, GrantsUpTo, EndsAll}
+use Rattle.notify_list.specs.Callers.{IsSeatAfter, NotifiesOneTicket, NotifiesAllTickets, FindsAllGranted, GrantsAllSeen, EndsNotifyingAll}
 use Rattle.notify_list.proofs.Answering.{seat_after, seen_as, seat_between, seat_since, seat_before, granted_it}
 
 module _ (s t : SeatModel) (lawful : Follows t.sight.seen) where
@@ -50,24 +52,30 @@ module _ (s t : SeatModel) (lawful : Follows t.sight.seen) where
       by (Some word) (inr locked) some none = least word locked.1.1 (⊎_elim after after locked.1.3) some
 
   -- all were granted that were handed out
-  all_handed : (n handed : ℕ) → AllGranted s t → IsSeatAfter s (Granted handed s.number ∷ []) t
-      → GrantsUpTo s (suc n) t → NotifiesAllTickets s (suc n) t
-  all_handed n handed granted after g =
+  all_seen : (n handed : ℕ) → IsSeatAfter s (Granted handed s.number ∷ []) t → GrantsUpTo s (suc n) t → GrantsAllSeen s (suc n) t
+  all_seen n handed after g =
       let now : GoesOn t.sight.seen (g.before ++ Granted (told g.look).handed s.number ∷ [])
       = subst (λ k. GoesOn t.sight.seen (g.before ++ Granted k s.number ∷ [])) (sym g.all) g.seen in
       let later = goes_on_more s.sight.seen g.look g.before g.first g.later in
       let before = seat_before s t g.before handed (told g.look).handed after later now in (
-        granted,
-        (
-          seen_as s g.look,
-          seen_as s g.before,
-          seat_between s (seen_as s g.before) g.look before g.first g.later,
-          seat_since s (seen_as s g.before) g.look before g.first g.later,
-          sym g.all,
-          granted_it s t g.before handed (told g.look).handed after later now,
-          now,
-        ),
+        seen_as s g.look,
+        seen_as s g.before,
+        seat_between s (seen_as s g.before) g.look before g.first g.later,
+        seat_since s (seen_as s g.before) g.look before g.first g.later,
+        sym g.all,
+        granted_it s t g.before handed (told g.look).handed after later now,
+        now,
       )
+
+  pub ends_notifying : (n : ℕ) → EndsAll s n t → EndsNotifyingAll s n t
+  ends_notifying n x = ((x.h, x.begun, x.granted), by n x.call x.count)
+    where
+      by : (n : ℕ) → Calls s s.sight.stands t (all_entries s.number x.handed n) (all_rows x.h x.was x.now x.handed n x.hand)
+          → GrantsSome s n t → GrantsAllSeen s n t
+      by zero call some = seat_after s t s.sight.stands (at_place Rest s.sight.stands) [] (all_rows x.h x.was x.now x.handed 0 x.hand) lawful x.comes call
+      by (suc n) call some = all_seen n x.handed
+          (seat_after s t s.sight.stands (at_place Rest s.sight.stands) (Granted x.handed s.number ∷ [])
+          (all_rows x.h x.was x.now x.handed (suc n) x.hand) lawful x.comes call) some
 
   pub notifies_all : (n : ℕ) → NotifiesAll s n t → GrantsSome s n t → AllGranted s t → NotifiesAllTickets s n t
   notifies_all n x = by n x.rows
@@ -85,4 +93,13 @@ module _ (s t : SeatModel) (lawful : Follows t.sight.seen) where
       by zero (inl quiet) some granted = (granted, after quiet.2)
       by zero (inr locked) some granted = (granted, after locked.1.4)
       by (suc n) (inl quiet) some granted = absurd (let e = quiet.0 in omega arith)
-      by (suc n) (inr locked) some granted = all_handed n locked.1.2 granted (after locked.1.4) some
+      by (suc n) (inr locked) some granted = (granted, all_seen n locked.1.2 (after locked.1.4) some)
+
+-- the same of a call that tried for the lock
+pub tries_one : {E : Type 0} (s u t : SeatModel) → Follows t.sight.seen → FindsAllGranted s false u → (r : Result (Option Notified) E)
+    → MatchResult r (λ o. NotifiesOne s (ticket_of o) t) (λ busy. HasLooked s false t)
+    → MatchResult r (λ o. Unit {0}) (λ busy. t ≡ u)
+    → IfOk r (λ o. IfSome (ticket_of o) (λ word. GrantsLeast s word t)) → IfOk r (λ o. IfNone (ticket_of o) (AllGranted s t))
+    → MatchResult r (λ o. NotifiesOneTicket s (ticket_of o) t) (λ busy. FindsAllGranted s false t)
+tries_one s u t lawful looked (Ok o) rows same some none = notifies_one s t lawful (ticket_of o) rows some none
+tries_one s u t lawful looked (Err busy) rows same some none = subst (λ (q : SeatModel). FindsAllGranted s false q) (sym same) looked

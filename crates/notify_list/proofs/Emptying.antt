@@ -20,7 +20,7 @@ use Rattle.notify_list.specs.Plays.{Me, ListView}
 use Rattle.notify_list.specs.Seats.{ListModel, Token, queue_of, setting_of, stands_of}
 use Rattle.notify_list.specs.Walks.{Walked, HasRecord, Edited}
 use Rattle.notify_list.specs.Records.{HasWaits, FirstOut}
-use Rattle.notify_list.specs.GrantingAll.{MayTake, TakenAll, with_waits}
+use Rattle.notify_list.specs.GrantingAll.{MayReach, ReachedAll, MayTake, TakenAll, with_waits}
 use Rattle.notify_list.proofs.Allowing.{GivesBack}
 use Rattle.notify_list.proofs.Leading.{Ran, Led, led, Gave, gave_from}
 use Rattle.notify_list.proofs.Walking.{walked_row}
@@ -172,3 +172,17 @@ module _ (l : ListModel) (s : Token) (h n : ℕ) (may : MayTake l s h n) where
           (walked_row s u at7 1 (with_waits h (queue_of s) (stands_of s)) [] row7 (same ∙ E.0) stands_after d7.told);
       bare = ap (λ (m : Me). m.1) r.2 ∙ ap (λ (m : Me). rest m.1) E.1.1;
     }
+
+-- all waits may be taken out once all tickets are granted
+pub may_take : (l : ListModel) (s v : Token) (h n : ℕ) → MayReach l s h → (stands_of s).hand ≡ [] → ReachedAll s h n v → MayTake l v h n
+may_take l s v h n may empty R = (
+  record {
+    list_is = R.walked.list_is ∙ may.0.list_is;
+    there = let q = ap (λ (z : ListModel). z.setting.seats) R.walked.list_is in let i = R.walked.number_is in let k = may.0.there in omega arith;
+    few = let q = ap (λ (z : ListModel). z.setting.seats) R.walked.list_is in let k = may.0.few in omega arith;
+    at = ap (λ (z : ListSeat). z.place) R.walked.stands_is;
+    lands = R.walked.lands;
+  },
+  R.record_is,
+  ap (λ (z : ListSeat). z.hand) R.walked.stands_is ∙ empty,
+)

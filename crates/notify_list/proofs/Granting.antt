@@ -24,7 +24,7 @@ use Rattle.notify_list.specs.Plays.{Me}
 use Rattle.notify_list.specs.Seats.{ListModel, Token, list_of, queue_of, seen_of, setting_of, stands_of}
 use Rattle.notify_list.specs.Walks.{Walked, HasRecord}
 use Rattle.notify_list.specs.Records.{IsOut}
-use Rattle.notify_list.specs.Notifying.{grants_it}
+use Rattle.notify_list.specs.Notifying.{grants_it, GivesLockLast}
 use Rattle.notify_list.specs.Granting.{MayGrant, GrantedOne, grant_rows}
 use Rattle.notify_list.proofs.Keeping.{laws_of}
 use Rattle.notify_list.proofs.Allowing.{GivesBack}
@@ -161,6 +161,17 @@ module _ (l : ListModel) (s : Token) (h ticket : ℕ) (may : MayGrant l s h tick
             subst (λ (a : ListSeat). Walked s a z (at_place Rest (stands_of s)) told7 (grant_rows h ticket)
             ⊎ Walked s a z (at_place Rest (stands_of s)) told7 (grant_rows h ticket ++ grants_it h))
             (sym stands7) walked;
+      }
+
+      -- it is the last stride where no wait was found
+      pub gave_last : GivesLockLast u.me.0.own.gone ticket
+      gave_last = record {
+        before = t.me.0.own.gone;
+        stride = row8.stride;
+        last = row8.one;
+        ran = row8.did;
+        h = h;
+        stood = ap (λ (a : ListSeat). a.place) (row8.ran.stood);
       }
 
       pub ended_none : first_with ticket (queue_of t) ≡ None → GrantedOne s h ticket u

@@ -23,6 +23,7 @@ pub mod Emptying
 pub mod Wakening
 pub mod Broadcasting
 pub mod LookingTogether
+pub mod Parking
 pub mod Reckoning
 pub mod Gathering
 pub mod Answering
@@ -30,3 +31,4 @@ pub mod Rereading
 pub mod Callers
 pub mod CallersNotifying
 pub mod CallersEnding
+pub mod Concluding

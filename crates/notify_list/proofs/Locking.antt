@@ -1,5 +1,5 @@
 -- The row that takes the lock, and what comes of it.
-use Rattle.std.proofs.Common.{◌≡◌, ◌≢◌, ℕ, ◌==◌, true, [], ◌∷◌, refl, ap, ◌∙◌}
+use Rattle.std.proofs.Common.{◌≡◌, ◌≢◌, ℕ, ◌==◌, Bool, true, false, MatchBool, [], ◌∷◌, refl, ap, ◌∙◌}
 use prog.Atomic.{either}
 use Rattle.step_table.specs.declared.list_place.AllRow.TheVariants.{L3}
 use Rattle.step_table.specs.declared.list_place.ListPlace.{ListPlace}
@@ -20,6 +20,7 @@ use Rattle.notify_list.specs.Rows.{list_rows}
 use Rattle.notify_list.specs.Plays.{Me, standing, at_wait}
 use Rattle.notify_list.specs.Seats.{ListModel, Token, setting_of, stands_of}
 use Rattle.notify_list.specs.Walks.{MayLock, Locked}
+use Rattle.notify_list.specs.Heirs.{IsSame}
 use Rattle.notify_list.proofs.Keeping.{Fits}
 use Rattle.notify_list.proofs.Allowing.{row_takes}
 use Rattle.notify_list.proofs.Leading.{Ran, Led, led}
@@ -70,3 +71,10 @@ has_locked l s t may T same =
           (d.told ∙ locked_told s.me.0.own.number a d.world.words a.place may.takes);
       record_is = (T.1.1, slots, T.1.3.1);
     }
+
+-- the lock was taken, or stayed held
+pub has_tried : (l : ListModel) (s t : Token) → MayLock l s → (taken : Bool)
+    → MatchBool taken (Took list_rows at_wait s.me t.me) (t.me ≡ s.me) → t.table_id ≡ s.table_id
+    → MatchBool taken (Locked s t) (IsSame s t)
+has_tried l s t may true took same = has_locked l s t may took same
+has_tried l s t may false left same = (same, left)

@@ -1,5 +1,6 @@
 -- Looks at a word, and what two seats have that looked together.
 use Rattle.std.proofs.Common.{◌≡◌, ℕ, zero, suc, List, [], ◌∷◌, ◌++◌, slice_index, sym, refl, ap, ◌∙◌, subst, arith}
+use Rattle.step_table.specs.declared.list_place.ListWord.{ListWord}
 use Rattle.step_table.specs.declared.list_place.ListWord.TheVariants.{Wait}
 use Rattle.step_table.specs.ListWorld.{ListSeat, ListWorld}
 use Rattle.step_table.specs.Path.{looks, Looked, Did, look_in, sight}
@@ -14,7 +15,7 @@ use Rattle.notify_list.specs.Places.{is_free}
 use Rattle.notify_list.specs.Rule.{watched, Lands, Homes}
 use Rattle.notify_list.specs.Rows.{list_rows, word_at}
 use Rattle.notify_list.specs.Plays.{OneSeat}
-use Rattle.notify_list.specs.Seats.{Token, seat_of, IsSeat, seen_of, setting_of, stands_of}
+use Rattle.notify_list.specs.Seats.{Token, seat_of, IsToken, IsSeat, seen_of, setting_of, stands_of}
 use Rattle.notify_list.specs.Meeting.{LooksAt, HasMet}
 
 lies_at : (i : ℕ) → address (word_at i) ≡ i
@@ -23,7 +24,7 @@ lies_at (suc zero) = refl
 lies_at (suc (suc zero)) = refl
 lies_at (suc (suc (suc s))) = omega arith
 
-sees_word : (i : ℕ) (u : OneSeat) (world : ListWorld) (words : List ℕ) (homes : Homes) → IsThere u.knows.setting (word_at i)
+pub sees_word : (i : ℕ) (u : OneSeat) (world : ListWorld) (words : List ℕ) (homes : Homes) → IsThere u.knows.setting (word_at i)
     → Stands list_rows u.knows.setting u world words homes i → Sees list_rows u.knows.setting u world i (slice_index words i)
 sees_word i u world words homes there at = record {
   now = record {
@@ -62,19 +63,19 @@ word_seen k i there world words homes u at = subst (λ (q : Setting). Sees list_
     (subst (λ (q : Setting). Stands list_rows q u world words homes i) (sym at.of_is) at))
 
 -- a look of a token
-module _ (s t : Token) (n q : ℕ) (seat : IsSeat s n) (r : Went list_rows here (looks Wait) s.me.0.own q t.me.0.own)
-    (same : t.table_id ≡ s.table_id) (bare : t.me.1 ≡ []) where
-  only : Looked (watched (setting_of s)) r.ran.world s.me.0.own.number Wait r.stride.read r.stride.told t.me.0.own.knows.sight
+module _ (s t : Token) (n q : ℕ) (word : ListWord) (is : IsToken s n) (r : Went list_rows here (looks word) s.me.0.own q t.me.0.own)
+    (same : t.table_id ≡ s.table_id) where
+  only : Looked (watched (setting_of s)) r.ran.world s.me.0.own.number word r.stride.read r.stride.told t.me.0.own.knows.sight
   only = subst (λ d. Did (watched (setting_of s)) r.ran.world s.me.0.own.number d r.stride.read r.stride.told t.me.0.own.knows.sight) r.did r.ran.did
 
-  stays : stands_of t ≡ stands_of s
-  stays = ap (λ (y : ListSight). y.stands) only.leads ∙ r.ran.meets.stands
+  pub look_stays : stands_of t ≡ stands_of s
+  look_stays = ap (λ (y : ListSight). y.stands) only.leads ∙ r.ran.meets.stands
 
   pub journal_seen : seen_of t ≡ r.ran.world.journal
   journal_seen = ap (λ (y : ListSight). y.seen) only.leads
 
-  pub looks_at : LooksAt (seat_of s n) Wait q (seat_of t n)
-  looks_at = subst (λ i. LooksAt (record (seat_of s n) { number = i }) Wait q (record (seat_of t n) { number = i })) seat.token_is.number_is (record {
+  pub looks_at : LooksAt (seat_of s n) word q (seat_of t n)
+  looks_at = subst (λ i. LooksAt (record (seat_of s n) { number = i }) word q (record (seat_of t n) { number = i })) is.number_is (record {
     same = λ i. record {
       list = record { id = same i; setting = r.same.1 i };
       number = s.me.0.own.number;
@@ -86,32 +87,36 @@ module _ (s t : Token) (n q : ℕ) (seat : IsSeat s n) (r : Went list_rows here 
     did = r.did;
     read = r.read;
     one = r.one;
-    stays = stays;
+    stays = look_stays;
     later = stride_grows (watched (setting_of s)) s.me.0.own.number s.me.0.own.knows.sight t.me.0.own.knows.sight r.stride r.ran;
   })
 
-  pub looked_seat : IsSeat t n
-  looked_seat = record {
-    token_is = record {
-      bare = bare;
-      number_is = r.same.0 ∙ seat.token_is.number_is;
-      there = let e = ap (λ (z : Setting). z.seats) r.same.1 in let h = seat.token_is.there in omega arith;
-      few = let e = ap (λ (z : Setting). z.seats) r.same.1 in let h = seat.token_is.few in omega arith;
-      lands = subst (λ i. Lands i t.me.0.own.knows) (sym r.same.0) r.also.lands;
-    };
-    free = ap (λ (y : ListSeat). is_free y.place) stays ∙ seat.free;
-    holds_none = ap (λ (y : ListSeat). y.ticket) stays ∙ seat.holds_none;
+  pub looked_token : t.me.1 ≡ [] → IsToken t n
+  looked_token bare = record {
+    bare = bare;
+    number_is = r.same.0 ∙ is.number_is;
+    there = let e = ap (λ (z : Setting). z.seats) r.same.1 in let h = is.there in omega arith;
+    few = let e = ap (λ (z : Setting). z.seats) r.same.1 in let h = is.few in omega arith;
+    lands = subst (λ i. Lands i t.me.0.own.knows) (sym r.same.0) r.also.lands;
   }
+
+pub looked_seat : (s t : Token) (n q : ℕ) → IsSeat s n → Went list_rows here (looks Wait) s.me.0.own q t.me.0.own → t.table_id ≡ s.table_id
+    → t.me.1 ≡ [] → IsSeat t n
+looked_seat s t n q seat r same bare = let stays = look_stays s t n q Wait seat.token_is r same in record {
+  token_is = looked_token s t n q Wait seat.token_is r same bare;
+  free = ap (λ (y : ListSeat). is_free y.place) stays ∙ seat.free;
+  holds_none = ap (λ (y : ListSeat). y.ticket) stays ∙ seat.holds_none;
+}
 
 pub have_met : (s o a b : Token) (n k q : ℕ) (seat_s : IsSeat s n) (seat_o : IsSeat o k)
     (m : Met list_rows Wait s.me.0.own o.me.0.own q a.me.0.own b.me.0.own)
-    → a.table_id ≡ s.table_id → b.table_id ≡ o.table_id → a.me.1 ≡ [] → b.me.1 ≡ []
+    → a.table_id ≡ s.table_id → b.table_id ≡ o.table_id
     → HasMet (seat_of s n) (seat_of o k) (seat_of a n) (seat_of b k)
-have_met s o a b n k q seat_s seat_o m same_a same_b bare_a bare_b = record {
+have_met s o a b n k q seat_s seat_o m same_a same_b = record {
   number = q;
-  one_looked = looks_at s a n q seat_s m.one same_a bare_a;
-  other_looked = looks_at o b k q seat_o m.other same_b bare_b;
-  same = journal_seen s a n q seat_s m.one same_a bare_a ∙ ap (λ (w : ListWorld). w.journal) m.together
-      ∙ sym (journal_seen o b k q seat_o m.other same_b bare_b);
+  one_looked = looks_at s a n q Wait seat_s.token_is m.one same_a;
+  other_looked = looks_at o b k q Wait seat_o.token_is m.other same_b;
+  same = journal_seen s a n q Wait seat_s.token_is m.one same_a ∙ ap (λ (w : ListWorld). w.journal) m.together
+      ∙ sym (journal_seen o b k q Wait seat_o.token_is m.other same_b);
   two = λ e. m.two (seat_s.token_is.number_is ∙ e ∙ sym seat_o.token_is.number_is);
 }

@@ -1,6 +1,6 @@
--- A wait from the lock to its end.
+-- A wait at the lock: its ticket is found granted, or it is queued.
 use Rattle.std.proofs.Common.{◌≡◌, ℕ, ◌<◌, ◌≤◌, if◌then◌else◌, Bool, true, false, List, [], ◌∷◌, ◌++◌, length, Option, Some}
-use Rattle.std.proofs.Common.{None, inl, inr, sym, refl, ap, ◌∙◌}
+use Rattle.std.proofs.Common.{None, inl, sym, refl, ap, ◌∙◌}
 use Rattle.std.proofs.Common.{subst, arith}
 use Rattle.running_rows.specs.Table.{rest}
 use Rattle.step_table.specs.declared.list_place.ListPlace.TheVariants.{Rest, Waiting}
@@ -15,20 +15,27 @@ use Rattle.step_law_lists.specs.ListCalls.{Returns}
 use Rattle.step_law_lists.specs.ListWellFormed.{asleep_on_list}
 use Rattle.running_rows.specs.Strides.{RanRow, here}
 use Rattle.notify_list.specs.declared.view.Setting.{Setting}
-use Rattle.notify_list.specs.declared.waited.Waited.TheVariants.{AtOnce, Parked}
+use Rattle.notify_list.specs.declared.waited.Waited.TheVariants.{AtOnce}
 use Rattle.notify_list.specs.Places.{at_place, is_free, waiting, locked, Begins, waits}
 use Rattle.notify_list.specs.Rows.{list_rows}
 use Rattle.notify_list.specs.Plays.{Me}
-use Rattle.notify_list.specs.Seats.{ListModel, Token, list_of, seat_of, IsSeat, IsHolding, queue_of, seen_of, setting_of, stands_of}
+use Rattle.notify_list.specs.Seats.{ListModel, Token, list_of, seat_of, IsSeat, IsHolding, IsParked, queue_of, seen_of, setting_of, stands_of}
 use Rattle.notify_list.specs.Walks.{Walked, MayLock, Locked, HasRecord, Edited}
-use Rattle.notify_list.specs.Waiting.{IsWaited, IsGranted}
-use Rattle.notify_list.specs.Heirs.{IsSame}
+use Rattle.notify_list.specs.Waiting.{IsWaited, IsGranted, IsQueued}
 use Rattle.notify_list.proofs.Keeping.{laws_of}
-use Rattle.notify_list.proofs.Leading.{Ran, Led, led, ran_from, Gave, gave_from, woke_from}
+use Rattle.notify_list.proofs.Leading.{Ran, Led, led, ran_from, Gave, gave_from}
 use Rattle.notify_list.proofs.Walking.{walked_row, walked_on, walked_so, token_after, calls, comes_to}
 use Rattle.notify_list.proofs.Looking.{seen_all}
 use Rattle.notify_list.proofs.Resting.{room_there}
 use Rattle.notify_list.proofs.Recording.{record_kept}
+
+-- a row after which a wait returns finds its ticket granted
+pub granted_by : (ticket : Ticket) (u x : Token) (a : ListSeat) (r : Ran a u.me.0.own 1 x.me.0.own) (d : Led a u.me.0.own 1 x.me.0.own r.stride)
+    → (setting_of u).seats ≤ 256 → r.stride.told ≡ [] → Returns d.world u.me.0.own.number ticket → ticket.number < (told (seen_of x)).granted
+granted_by ticket u x a r d few none returns =
+    let laws = laws_of (setting_of u) d.world few d.met in
+    subst (λ (l : List ListEntry). ticket.number < (told l).granted) (sym (seen_all r d none))
+    (laws.calls.returned u.me.0.own.number ticket r.also.there returns).1
 
 module _ (s : Token) (n word : ℕ) (H : IsHolding s n word) where
   begun_is : waiting (stands_of s) ≡ record { place = Waiting H.ticket W1; ticket = None; hand = (stands_of s).hand; late = (stands_of s).late }
@@ -47,15 +54,6 @@ module _ (s : Token) (n word : ℕ) (H : IsHolding s n word) where
   its_ticket x granted ticket is =
       let both : Some H.ticket ≡ Some ticket = sym H.held ∙ is in
       let same : H.ticket ≡ ticket = cc in subst (λ (k : Ticket). k.number < (told (seen_of x)).granted) same granted
-
-  -- a row after which a wait returns finds its ticket granted
-  granted_by : (u x : Token) (a : ListSeat) (r : Ran a u.me.0.own 1 x.me.0.own) (d : Led a u.me.0.own 1 x.me.0.own r.stride)
-      → u.me.0.own.number ≡ s.me.0.own.number → (setting_of u) ≡ setting_of s
-      → r.stride.told ≡ [] → Returns d.world u.me.0.own.number H.ticket → H.ticket.number < (told (seen_of x)).granted
-  granted_by u x a r d numbers settings none returns =
-      let laws = laws_of (setting_of u) d.world (let e = ap (λ (z : Setting). z.seats) settings in let f = H.token_is.few in omega arith) d.met in
-      subst (λ (l : List ListEntry). H.ticket.number < (told l).granted) (sym (seen_all r d none))
-      (laws.calls.returned u.me.0.own.number H.ticket r.also.there returns).1
 
   -- how the seat stands under the lock, before its look
   abbrev at_look : ListSeat
@@ -173,10 +171,9 @@ module _ (s : Token) (n word : ℕ) (H : IsHolding s n word) where
 
         pub granted_at_once : IsGranted (seat_of s n) (seat_of x n)
         granted_at_once =
-            its_ticket x (granted_by u x (stands_by true) leave left (w2 true found_it).number_is
-            (ap (λ (l : ListModel). l.setting) (w2 true found_it).list_is) left.told (inl (ap (λ (a : ListSeat). a.place) left.stood)))
+            its_ticket x (granted_by H.ticket u x (stands_by true) leave left few_looked left.told (inl (ap (λ (a : ListSeat). a.place) left.stood)))
 
-      -- W4 and P, and the end
+      -- W4
       module _ (y x : Token) (not_found : less word v ≡ false) (E : Edited u ((queue_of u) ++ wait_for u.me.0.own.number H.ticket ∷ []) y) (q : Gave y x)
           (again : x.table_id ≡ y.table_id) where
         queued_row : Ran (stands_by false) u.me.0.own 1 x.me.0.own
@@ -188,65 +185,34 @@ module _ (s : Token) (n word : ℕ) (H : IsHolding s n word) where
         abbrev at_park : ListSeat
         at_park = record { place = Waiting H.ticket P; ticket = None; hand = (stands_of s).hand; late = (stands_of u).late }
 
-        pub w4 : Walked s (waiting (stands_of s)) x (record { place = Waiting H.ticket P; ticket = None; hand = (stands_of s).hand; late = (stands_of u).late })
+        w4 : Walked s (waiting (stands_of s)) x (record { place = Waiting H.ticket P; ticket = None; hand = (stands_of s).hand; late = (stands_of u).late })
             [] ((Waiting H.ticket W1, 0) ∷ (Waiting H.ticket W2, v) ∷ (Waiting H.ticket W4, 1) ∷ [])
         w4 = walked_on s u x (waiting (stands_of s)) (stands_by false) at_park [] [] ((Waiting H.ticket W1, 0) ∷ (Waiting H.ticket W2, v) ∷ [])
             ((Waiting H.ticket W4, 1) ∷ []) (w2 false not_found)
             (walked_row u x (stands_by false) 1 at_park [] queued_row (again ∙ E.0) queued.stands queued.told)
 
-        few_parked : (setting_of x).seats ≤ 256
-        few_parked = let e = ap (λ (z : Setting). z.seats) queued_row.same.1 in let f = few_looked in omega arith
+        pub seat_parked : IsParked x n
+        seat_parked = record {
+          token_is =
+              token_after s x n (waiting (stands_of s)) at_park [] ((Waiting H.ticket W1, 0) ∷ (Waiting H.ticket W2, v) ∷ (Waiting H.ticket W4, 1) ∷ [])
+              H.token_is w4 (ap (λ (m : Me). m.1) q.2 ∙ ap (λ (m : Me). rest m.1) E.1.1);
+          ticket = H.ticket;
+          at = ap (λ (a : ListSeat). a.place) w4.stands_is;
+          holds_none = ap (λ (a : ListSeat). a.ticket) w4.stands_is;
+        }
 
-        module _ (z : Token) (k : ℕ) (some : 0 < k) (p : RanRow list_rows here x.me k z.me) (woken : z.table_id ≡ x.table_id) where
-          woke : Ran at_park x.me.0.own 1 z.me.0.own
-          woke = woke_from x z at_park k H.ticket w4.stands_is refl few_parked some p
-
-          awake : Led at_park x.me.0.own 1 z.me.0.own woke.stride
-          awake = led at_park x.me.0.own z.me.0.own 1 woke
-
-          w5 : Walked s (waiting (stands_of s)) z (record { place = Rest; ticket = None; hand = (stands_of s).hand; late = (stands_of u).late }) []
-              ((Waiting H.ticket W1, 0) ∷ (Waiting H.ticket W2, v) ∷ (Waiting H.ticket W4, 1) ∷ (Waiting H.ticket P, 1) ∷ [])
-          w5 =
-              walked_on s x z (waiting (stands_of s)) at_park (record { place = Rest; ticket = None; hand = (stands_of s).hand; late = (stands_of u).late })
-              [] []
-              ((Waiting H.ticket W1, 0) ∷ (Waiting H.ticket W2, v) ∷ (Waiting H.ticket W4, 1) ∷ []) ((Waiting H.ticket P, 1) ∷ []) w4
-              (walked_row x z at_park 1 (record { place = Rest; ticket = None; hand = (stands_of s).hand; late = (stands_of u).late })
-              [] woke woken awake.stands awake.told)
-
-          bare_woken : z.me.1 ≡ []
-          bare_woken = ap (λ (m : Me). m.1) p.1 ∙ ap (λ (m : Me). m.1) q.2 ∙ ap (λ (m : Me). rest m.1) E.1.1
-
-          pub seat_parked : IsSeat z n
-          seat_parked = record {
-            token_is =
-                token_after s z n (waiting (stands_of s)) (record { place = Rest; ticket = None; hand = (stands_of s).hand; late = (stands_of u).late }) []
-                ((Waiting H.ticket W1, 0) ∷ (Waiting H.ticket W2, v) ∷ (Waiting H.ticket W4, 1) ∷ (Waiting H.ticket P, 1) ∷ [])
-                H.token_is w5 bare_woken;
-            free = ap (λ (a : ListSeat). is_free a.place) w5.stands_is;
-            holds_none = ap (λ (a : ListSeat). a.ticket) w5.stands_is;
-          }
-
-          pub waited_parked : IsWaited (seat_of s n) Parked (seat_of z n)
-          waited_parked = record {
-            ticket = H.ticket;
-            held = H.held;
-            notified = v;
-            how = (
-              ap (λ k. less k v) H.word_is ∙ not_found,
-              calls s z n (waiting (stands_of s)) (record { place = Rest; ticket = None; hand = (stands_of s).hand; late = (stands_of u).late }) []
-                  ((Waiting H.ticket W1, 0) ∷ (Waiting H.ticket W2, v) ∷ (Waiting H.ticket W4, 1) ∷ (Waiting H.ticket P, 1) ∷ []) H.token_is w5,
-            );
-            comes = comes_to s z n (waiting (stands_of s)) (record { place = Rest; ticket = None; hand = (stands_of s).hand; late = (stands_of z).late }) []
-                ((Waiting H.ticket W1, 0) ∷ (Waiting H.ticket W2, v) ∷ (Waiting H.ticket W4, 1) ∷ (Waiting H.ticket P, 1) ∷ [])
-                (subst (λ k. Walked s (waiting (stands_of s)) z (record { place = Rest; ticket = None; hand = (stands_of s).hand; late = k }) []
-                ((Waiting H.ticket W1, 0) ∷ (Waiting H.ticket W2, v) ∷ (Waiting H.ticket W4, 1) ∷ (Waiting H.ticket P, 1) ∷ []))
-                (sym (ap (λ (a : ListSeat). a.late) w5.stands_is)) w5);
-          }
-
-          pub granted_parked : IsGranted (seat_of s n) (seat_of z n)
-          granted_parked = its_ticket z (granted_by x z at_park woke awake w4.number_is (ap (λ (l : ListModel). l.setting) w4.list_is) awake.told
-              (inr (ap (λ (a : ListSeat). a.place) awake.stood, let e = awake.read in omega arith)))
-
--- a row that ran before its seat woke others
-pub ran_same : (s t u : Token) (n : ℕ) → RanRow list_rows here s.me n t.me → IsSame t u → RanRow list_rows here s.me n u.me
-ran_same s t u n row same = subst (λ (m : Me). RanRow list_rows here s.me n m) (sym same.1) row
+        pub queued_it : IsQueued (seat_of s n) (seat_of x n)
+        queued_it = record {
+          ticket = H.ticket;
+          held = H.held;
+          notified = v;
+          ungranted = ap (λ k. less k v) H.word_is ∙ not_found;
+          call =
+              calls s x n (waiting (stands_of s)) at_park [] ((Waiting H.ticket W1, 0) ∷ (Waiting H.ticket W2, v) ∷ (Waiting H.ticket W4, 1) ∷ [])
+              H.token_is w4;
+          comes = comes_to s x n (waiting (stands_of s)) (record { place = Waiting H.ticket P; ticket = None; hand = (stands_of s).hand; late = (stands_of x).late }) []
+              ((Waiting H.ticket W1, 0) ∷ (Waiting H.ticket W2, v) ∷ (Waiting H.ticket W4, 1) ∷ [])
+              (subst (λ k. Walked s (waiting (stands_of s)) x (record { place = Waiting H.ticket P; ticket = None; hand = (stands_of s).hand; late = k }) []
+              ((Waiting H.ticket W1, 0) ∷ (Waiting H.ticket W2, v) ∷ (Waiting H.ticket W4, 1) ∷ []))
+              (sym (ap (λ (a : ListSeat). a.late) w4.stands_is)) w4);
+        }

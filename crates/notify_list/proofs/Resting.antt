@@ -1,7 +1,8 @@
 -- What is known of a seat by the world in which it has seen all.
 use Rattle.std.proofs.Common.{◌≡◌, ℕ, ◌<◌, ◌≤◌, true, List, [], ◌∷◌, length, sym, refl, ap, ◌∙◌, subst, arith}
+use Rattle.step_table.specs.declared.list_place.AllRow.TheVariants.{L3}
 use Rattle.step_table.specs.declared.list_place.ListPlace.{ListPlace}
-use Rattle.step_table.specs.declared.list_place.ListPlace.TheVariants.{Rest, NotifyingOne}
+use Rattle.step_table.specs.declared.list_place.ListPlace.TheVariants.{Rest, NotifyingOne, NotifyingAll}
 use Rattle.step_table.specs.declared.list_place.OneRow.TheVariants.{O3}
 use Rattle.step_table.specs.declared.list_place.ListWord.TheVariants.{Grant}
 use Rattle.step_table.specs.EventOf.{store}
@@ -37,7 +38,16 @@ module _ (u : OneSeat) (L : Lands u.number u.knows) (there : u.number < u.knows.
   fits_there : HandFits u.knows.sight.stands.place (length u.knows.sight.stands.hand)
   fits_there = subst (λ (y : ListSeat). HandFits y.place (length y.hand)) stands_there (laws_there.invariant.seats_known u.number there).fits
 
-  -- a seat that may begin a call has nothing in hand
+  none : {A : Type 0} (l : List A) → length l ≡ 0 → l ≡ []
+  none [] e = refl
+  none (x ∷ l) e = absurd (omega arith)
+
+  -- a seat that goes to the lock for a notification of all has nothing in hand
+  pub empty_notifying : (h : ℕ) → u.knows.sight.stands.place ≡ NotifyingAll h L3 → u.knows.sight.stands.hand ≡ []
+  empty_notifying h at = none u.knows.sight.stands.hand
+      (subst (λ (p : ListPlace). HandFits p (length u.knows.sight.stands.hand)) at fits_there)
+
+  -- nor has one that may begin a call
   pub empty_there : is_free u.knows.sight.stands.place ≡ true → u.knows.sight.stands.hand ≡ []
   empty_there free = none u.knows.sight.stands.hand (by u.knows.sight.stands.place free fits_there)
     where
@@ -45,10 +55,6 @@ module _ (u : OneSeat) (L : Lands u.number u.knows) (there : u.number < u.knows.
       by Rest e f = f
       by (NotifyingOne h O3) e f = f
       by _ e f = absurd (cc)
-
-      none : {A : Type 0} (l : List A) → length l ≡ 0 → l ≡ []
-      none [] e = refl
-      none (x ∷ l) e = absurd (omega arith)
 
 pub there_of : (t : Token) (n : ℕ) → IsToken t n → t.me.0.own.number < (setting_of t).seats
 there_of t n is = let a = is.number_is in let b = is.there in omega arith

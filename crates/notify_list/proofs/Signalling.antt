@@ -1,6 +1,6 @@
 -- A notification of one as a whole: its two looks, and what comes of them.
-use Rattle.std.proofs.Common.{◌≡◌, ℕ, ◌+◌, true, false, List, [], ◌∷◌, ◌++◌, Option, Some, None, IfSome, IfNone, inl, inr, ⊎_elim, sym}
-use Rattle.std.proofs.Common.{refl, ap, ◌∙◌, subst}
+use Rattle.std.proofs.Common.{◌≡◌, ℕ, ◌+◌, true, false, List, [], ◌∷◌, ◌++◌, Option, Some, None, IfSome, IfNone, IfOk, inl, inr, ⊎_elim, sym}
+use Rattle.std.proofs.Common.{refl, ap, ◌∙◌, subst, Result, Ok, Err, MatchResult}
 use Rattle.std.proofs.Common.{arith}
 use Rattle.step_table.specs.declared.list_place.ListPlace.{ListPlace}
 use Rattle.step_table.specs.declared.list_place.ListPlace.TheVariants.{Rest, NotifyingOne}
@@ -11,10 +11,12 @@ use Rattle.step_table.proofs.Paths.{goes_on_more}
 use Rattle.step_law_lists.specs.ListLawful.{told}
 use Rattle.step_law_lists.proofs.ListPaths.{the_list_paths}
 use Rattle.notify_list.specs.Places.{at_place}
-use Rattle.notify_list.specs.Seats.{SeatModel}
+use Rattle.notify_list.specs.declared.notified.Notified.{Notified}
+use Rattle.notify_list.specs.Granting.{GrantsLast, HasGranted}
+use Rattle.notify_list.specs.Seats.{ListModel, SeatModel, Token, list_of, seat_of}
 use Rattle.notify_list.specs.Calls.{Calls, ComesTo, AllGranted}
 use Rattle.notify_list.specs.Tickets.{HasLooked, looks}
-use Rattle.notify_list.specs.Notifying.{finds_none, finds_one, grants_it, OneFromLock, NotifiesOne, GrantsLeast, EndsOne}
+use Rattle.notify_list.specs.Notifying.{finds_none, finds_one, grants_it, OneFromLock, NotifiesOne, GrantsLeast, EndsOne, ticket_of, GrantsItsWait}
 use Rattle.notify_list.proofs.Leading.{equal_is, unequal_is}
 use Rattle.notify_list.proofs.Walking.{calls_then}
 
@@ -96,3 +98,40 @@ module _ (s u : SeatModel) where
     pub none_one : (answer : Option ℕ) → EndsOne u x.h answer t → IfNone answer (AllGranted s t)
     none_one None y = let a = y.2 in let b = x.since in omega arith
     none_one (Some word) y = tt
+
+    -- the lock was tried for: the answer, or the seat after its looks
+    module _ {E : Type 0} where
+      pub tried_rows : (r : Result (Option Notified) E) → MatchResult r (λ o. EndsOne u x.h (ticket_of o) t) (λ busy. t ≡ u)
+          → MatchResult r (λ o. NotifiesOne s (ticket_of o) t) (λ busy. HasLooked s false t)
+      tried_rows (Ok o) y = locked_one (ticket_of o) y
+      tried_rows (Err busy) y = subst (λ (q : SeatModel). HasLooked s false q) (sym y) x
+
+      pub tried_some : (r : Result (Option Notified) E) → MatchResult r (λ o. EndsOne u x.h (ticket_of o) t) (λ busy. t ≡ u)
+          → IfOk r (λ o. IfSome (ticket_of o) (λ word. GrantsLeast s word t))
+      tried_some (Ok o) y = least_one (ticket_of o) y
+      tried_some (Err busy) y = tt
+
+      pub tried_none : (r : Result (Option Notified) E) → MatchResult r (λ o. EndsOne u x.h (ticket_of o) t) (λ busy. t ≡ u)
+          → IfOk r (λ o. IfNone (ticket_of o) (AllGranted s t))
+      tried_none (Ok o) y = none_one (ticket_of o) y
+      tried_none (Err busy) y = tt
+
+-- whether the lock was taken, and else the seat is the same
+pub kept_busy : {E : Type 0} (P : Option Notified → Type 0) (u t : SeatModel) (r : Result (Option Notified) E) → MatchResult r P (λ busy. t ≡ u)
+    → MatchResult r (λ o. Unit {0}) (λ busy. t ≡ u)
+kept_busy P u t (Ok o) y = tt
+kept_busy P u t (Err busy) y = y
+
+-- a grant that was told of a token, told of its seat
+pub granted_wait : (l : ListModel) (t : Token) (n : ℕ) → list_of t ≡ l → (o : Option Notified) → HasGranted l o t
+    → IfSome o (λ x. GrantsItsWait x (seat_of t n))
+granted_wait l t n own None y = tt
+granted_wait l t n own (Some x) y = subst (λ (q : ListModel). GrantsLast q x.ticket x.seat t) (sym own) y
+
+-- and back
+pub has_granted : (l : ListModel) (s : SeatModel) (t : Token) (n : ℕ) → seat_of t n ≡ s → s.list ≡ l → (o : Option Notified)
+    → IfSome o (λ x. GrantsItsWait x s) → HasGranted l o t
+has_granted l s t n is own None y = tt
+has_granted l s t n is own (Some x) y =
+    subst (λ (q : ListModel). GrantsLast q x.ticket x.seat t) (ap (λ (z : SeatModel). z.list) is ∙ own)
+    (subst (λ (z : SeatModel). GrantsItsWait x z) (sym is) y)

@@ -1,5 +1,5 @@
 -- The rows by which a notification of all grants the waits that it took out.
-use Rattle.std.proofs.Common.{◌≡◌, ℕ, ◌+◌, ◌<◌, ◌≤◌, nat_lt, if◌then◌else◌, Bool, List, [], ◌∷◌, length, map, take, drop}
+use Rattle.std.proofs.Common.{◌≡◌, ℕ, ◌+◌, ◌<◌, ◌≤◌, nat_lt, if◌then◌else◌, Bool, List, [], ◌∷◌, ◌++◌, length, map, take, drop}
 use Rattle.std.proofs.Common.{get_or, zero, suc, sym, refl, ap, ◌∙◌}
 use Rattle.std.proofs.Common.{subst, arith, append-nil, lt-ltb}
 use Rattle.std.proofs.lemmas.List.{map-append, drop_more, take_more, take_all, drop_all}
@@ -10,14 +10,16 @@ use Rattle.step_table.specs.declared.list_place.ListEffect.TheVariants.{Gives}
 use Rattle.step_table.specs.declared.list_place.ListPlace.TheVariants.{Rest, NotifyingAll}
 use Rattle.step_table.specs.ListEvent.{if_any}
 use Rattle.step_table.specs.ListWorld.{ListSeat}
+use Rattle.step_table.specs.declared.list_place.ListWord.TheVariants.{Grant}
 use Rattle.step_table.specs.Path.{runs}
 use Rattle.step_law_lists.specs.ListPath.{ListStride}
-use Rattle.running_rows.specs.Strides.{RanRow, here}
-use Rattle.notify_list.specs.Rows.{list_rows}
+use Rattle.running_rows.specs.Strides.{Went, RanRow, here}
+use Rattle.notify_list.specs.Setting.{address}
+use Rattle.notify_list.specs.Rows.{list_rows, HasStored}
 use Rattle.notify_list.specs.Plays.{Me}
 use Rattle.notify_list.specs.Seats.{ListModel, Token, setting_of, stands_of}
 use Rattle.notify_list.specs.Walks.{Walked}
-use Rattle.notify_list.specs.NotifyingAll.{wake_rows}
+use Rattle.notify_list.specs.NotifyingAll.{wake_rows, StoresGrants}
 use Rattle.notify_list.specs.GrantingAll.{MayWake, with_waits, WokenFirst, WokenSome}
 use Rattle.notify_list.specs.Heirs.{IsSame}
 use Rattle.notify_list.specs.Rule.{Lands}
@@ -131,3 +133,40 @@ module _ (l : ListModel) (s t : Token) (h n : ℕ) (may : MayWake l s h) (x : Wo
 pub woken_all : (s t : Token) (h n : ℕ) → length (stands_of s).hand ≤ n → WokenUpTo s h n t → WokenSome s h (stands_of s).hand [] t
 woken_all s t h n all x =
     subst (λ (q : List Wait × List Wait). WokenSome s h q.0 q.1 t) (λ i. (take_all n (stands_of s).hand all i, drop_all n (stands_of s).hand all i)) x
+
+-- one more grant was stored
+pub stores_more : (seats : List ℕ) (before mid now : List ListStride) (seat : ℕ) → StoresGrants seats before mid
+    → StoresGrants (seat ∷ []) mid now → StoresGrants (seats ++ seat ∷ []) before now
+stores_more [] before mid now seat stored one = subst (λ l. StoresGrants (seat ∷ []) l now) stored one
+stores_more (k ∷ seats) before mid now seat stored one = (stored.0, stored.1, stores_more seats (before ++ stored.0 ∷ []) mid now seat stored.2 one)
+
+-- a row that stored a grant
+pub stored_one : (s t : Token) (place seat : ℕ) (n : ℕ) (w : Went list_rows here runs s.me.0.own n t.me.0.own) → HasStored w.stride place 1
+    → place ≡ address (Grant seat) → StoresGrants (seat ∷ []) s.me.0.own.gone t.me.0.own.gone
+stored_one s t place seat n w stored is = (w.stride, subst (λ i. HasStored w.stride i 1) is stored, w.one)
+
+-- and where no row ran before
+pub stored_since : (s t : Token) (seats : List ℕ) (now : List ListStride) → IsSame s t → StoresGrants seats t.me.0.own.gone now
+    → StoresGrants seats s.me.0.own.gone now
+stored_since s t seats now same stored = subst (λ (m : Me). StoresGrants seats m.0.own.gone now) same.1 stored
+
+-- the seat may go on then
+pub may_same : (l : ListModel) (s t : Token) (h : ℕ) → MayWake l s h → IsSame s t → MayWake l t h
+may_same l s t h may same = record {
+  list_is = (λ i. record { id = same.0 i; setting = (same.1 i).0.own.knows.setting }) ∙ may.list_is;
+  there = subst (λ (m : Me). m.0.own.number < m.0.own.knows.setting.seats) (sym same.1) may.there;
+  few = subst (λ (m : Me). m.0.own.knows.setting.seats ≤ 256) (sym same.1) may.few;
+  at = subst (λ (m : Me). m.0.own.knows.sight.stands.place ≡ if_any m.0.own.knows.sight.stands.hand (NotifyingAll h L8) Rest) (sym same.1) may.at;
+  lands = subst (λ (m : Me). Lands m.0.own.number m.0.own.knows) (sym same.1) may.lands;
+}
+
+pub woken_since : (l : ListModel) (s t u : Token) (h : ℕ) → MayWake l s h → IsSame s t → WokenSome t h (stands_of t).hand [] u
+    → WokenSome s h (stands_of s).hand [] u
+woken_since l s t u h may same y =
+    let x = woken_none l s t h may same in
+    let hand : List Wait = (stands_of s).hand in
+    let a : ListSeat = with_waits h hand (stands_of s) in record {
+      walked = walked_on s t u (stands_of s) a (with_waits h [] (stands_of s)) [] [] [] (wake_rows h hand) x.walked
+          (subst (λ (q : ListSeat). Walked t q u (with_waits h [] q) [] (wake_rows h q.hand)) x.walked.stands_is y.walked);
+      slots = y.slots ∙ x.slots;
+    }

@@ -1,9 +1,12 @@
 -- What each call is to its caller: the seat before and after, the entries that it told, tickets, and what the
 -- answer means.
-use Rattle.std.specs.Prelude.{◌≡◌, ◌≢◌, ℕ, zero, suc, ◌+◌, ◌<◌, Bool, true, false, List, [], ◌∷◌, ◌++◌}
+use Rattle.std.specs.Prelude.{◌≡◌, ◌≢◌, ℕ, zero, suc, ◌+◌, ◌<◌, ◌≤◌, Bool, true, false, List, [], ◌∷◌, ◌++◌}
 use Rattle.std.specs.Prelude.{Option, Some, None}
 use Rattle.std.specs.List.{filter}
+use Rattle.step_table.specs.declared.list_place.AllRow.TheVariants.{L3}
+use Rattle.step_table.specs.declared.list_place.ListPlace.TheVariants.{Waiting, NotifyingAll}
 use Rattle.step_table.specs.declared.list_place.Ticket.{Ticket}
+use Rattle.step_table.specs.declared.list_place.WaitRow.TheVariants.{P}
 use Rattle.step_table.specs.ListWorld.{ListEntry, Took, Granted}
 use Rattle.step_table.specs.Path.{GoesOn}
 use Rattle.step_table.specs.Wrapping.{word_of, less}
@@ -14,6 +17,10 @@ use Rattle.notify_list.specs.declared.closed.ListClosed.{ListClosed}
 use Rattle.notify_list.specs.declared.view.Setting.{Setting}
 use Rattle.notify_list.specs.declared.waited.Waited.{Waited}
 use Rattle.notify_list.specs.declared.waited.Waited.TheVariants.{AtOnce, Parked}
+use Rattle.notify_list.specs.declared.waited.Entered.{Entered}
+use Rattle.notify_list.specs.declared.waited.Entered.TheVariants as entered
+use Rattle.notify_list.specs.declared.waited.Polled.{Polled}
+use Rattle.notify_list.specs.declared.waited.Polled.TheVariants as polled
 use Rattle.notify_list.specs.Seats.{SeatModel}
 use Rattle.notify_list.specs.Calls.{TellsIn, AllGranted, numbers_seen}
 
@@ -50,6 +57,26 @@ WaitsForGrant s waited t =
     × ((ticket : Ticket) × (s.sight.stands.ticket ≡ Some ticket) × (ticket.number < (numbers_seen t).granted)
     × ((u : SeatModel) × LooksWith s ticket waited u × TellsIn u.sight.seen [] t.sight.seen))
 
+-- the seat is parked: its wait with this ticket is queued
+abbrev pub IsParkedWith : SeatModel → Ticket → Type 0
+IsParkedWith s ticket = s.sight.stands.place ≡ Waiting ticket P
+
+-- the ticket was found granted, under the lock; or it wasn't, and the seat is parked with it
+abbrev pub EntersWait : SeatModel → Entered → Type 0
+EntersWait s (entered.AtOnce t) = WaitsForGrant s AtOnce t
+EntersWait s (entered.Queued t) =
+    IsSeatAfter s [] t
+    × ((ticket : Ticket) × (s.sight.stands.ticket ≡ Some ticket) × IsParkedWith t ticket
+    × ((u : SeatModel) × LooksWith s ticket Parked u × TellsIn u.sight.seen [] t.sight.seen))
+
+-- the seat is parked on, with the same ticket; or its ticket is granted now, and it holds none
+abbrev pub PollsGrant : SeatModel → Polled → Type 0
+PollsGrant s (polled.Still t) =
+    IsSeatAfter s [] t × (t.sight.stands ≡ s.sight.stands) × ((ticket : Ticket) × IsParkedWith s ticket)
+PollsGrant s (polled.Granted t) =
+    IsSeatAfter s [] t × (t.sight.stands.ticket ≡ s.sight.stands.ticket)
+    × ((ticket : Ticket) × IsParkedWith s ticket × (ticket.number < (numbers_seen t).granted))
+
 -- by one entry, as the last that it told, the seat granted the least ticket that wasn't granted, and the
 -- answer is its word; or all tickets are granted of which it knew before
 abbrev pub NotifiesOneTicket : SeatModel → Option ℕ → SeatModel → Type 0
@@ -71,6 +98,29 @@ NotifiesAllTickets s (suc n) t =
     × ((numbers_seen u).granted + suc n ≡ (numbers_seen look).handed)
     × IsSeatAfter s (Granted (numbers_seen look).handed s.number ∷ []) t
     × TellsIn (u.sight.seen ++ Granted (numbers_seen look).handed s.number ∷ []) [] t.sight.seen)
+
+-- the seat has to go on with a notification of all, which found h tickets handed out
+abbrev pub IsNotifyingAll : SeatModel → ℕ → Type 0
+IsNotifyingAll s h = s.sight.stands.place ≡ NotifyingAll h L3
+
+-- the seat has to go on: it found no fewer tickets handed out than it knew of
+abbrev pub LooksToNotifyAll : SeatModel → SeatModel → Type 0
+LooksToNotifyAll s t = IsSeatAfter s [] t × ((h : ℕ) × IsNotifyingAll t h × ((numbers_seen s).handed ≤ h))
+
+-- it told nothing; or one entry, by which all n were granted that were handed out when it looked, and weren't
+-- granted yet
+abbrev pub GrantsAllSeen : SeatModel → ℕ → SeatModel → Type 0
+GrantsAllSeen s zero t = IsSeatAfter s [] t
+GrantsAllSeen s (suc n) t =
+    (look u : SeatModel) × IsSeatAfter s [] look × IsSeatAfter look [] u
+    × ((numbers_seen u).granted + suc n ≡ (numbers_seen look).handed)
+    × IsSeatAfter s (Granted (numbers_seen look).handed s.number ∷ []) t
+    × TellsIn (u.sight.seen ++ Granted (numbers_seen look).handed s.number ∷ []) [] t.sight.seen
+
+-- the tickets are granted that the notification found handed out
+abbrev pub EndsNotifyingAll : SeatModel → ℕ → SeatModel → Type 0
+EndsNotifyingAll s n t =
+    ((h : ℕ) × IsNotifyingAll s h × (h ≤ (numbers_seen t).granted)) × GrantsAllSeen s n t
 
 -- all tickets are granted of which the seat knew before; or it saw another number granted than, a look
 -- earlier, handed out

@@ -1,16 +1,17 @@
 -- What the rows that grant one ticket do to a token.
-use Rattle.std.specs.Prelude.{◌≡◌, ◌⊎◌, ℕ, ◌+◌, ◌<◌, ◌≤◌, List, [], ◌∷◌, ◌++◌}
+use Rattle.std.specs.Prelude.{◌≡◌, ◌⊎◌, ℕ, ◌+◌, ◌<◌, ◌≤◌, List, [], ◌∷◌, ◌++◌, Option, Some, None}
 use Rattle.step_table.specs.declared.list_place.ListPlace.{ListPlace}
 use Rattle.step_table.specs.declared.list_place.ListPlace.TheVariants.{Rest, NotifyingOne}
-use Rattle.step_table.specs.declared.list_place.OneRow.TheVariants.{O7, O8}
+use Rattle.step_table.specs.declared.list_place.OneRow.TheVariants.{O3, O7, O8}
 use Rattle.step_table.specs.Wrapping.{word_of}
 use Rattle.step_table.specs.ListWorld.{ListEntry, Granted}
 use Rattle.step_table.specs.Path.{GoesOn}
 use Rattle.step_law_lists.specs.ListLawful.{told}
 use Rattle.notify_list.specs.Places.{at_place}
-use Rattle.notify_list.specs.Seats.{ListModel, Token, list_of, seen_of, setting_of, stands_of}
-use Rattle.notify_list.specs.Walks.{Walked, HasRecord}
-use Rattle.notify_list.specs.Notifying.{grants_it}
+use Rattle.notify_list.specs.declared.notified.Notified.{Notified}
+use Rattle.notify_list.specs.Seats.{ListModel, Token, list_of, IsSeat, seen_of, setting_of, stands_of}
+use Rattle.notify_list.specs.Walks.{Walked, Locked, HasRecord}
+use Rattle.notify_list.specs.Notifying.{grants_it, GivesLast}
 
 -- a seat of this list is about to grant this ticket, under the lock
 pub record MayGrant (l : ListModel) (s : Token) (h ticket : ℕ) : Type 0 where
@@ -40,3 +41,18 @@ pub record GrantedOne (s : Token) (h ticket : ℕ) (t : Token) : Type 0 where
       ⊎ Walked s (stands_of s) t (at_place Rest (stands_of s))
       (Granted ((told before).granted + 1) s.me.0.own.number ∷ [])
       (grant_rows h ticket ++ grants_it h)
+
+-- what the last stride of a seat of this list was, which granted the ticket
+abbrev pub GrantsLast : ListModel → ℕ → Option ℕ → Token → Type 0
+GrantsLast l ticket waiter t = GivesLast l.setting.seats ticket waiter t.me.0.own.gone
+
+abbrev pub HasGranted : ListModel → Option Notified → Token → Type 0
+HasGranted l None t = Unit {0}
+HasGranted l (Some n) t = GrantsLast l n.ticket n.seat t
+
+-- the seat s of this list, which had found two different words, has taken the lock
+pub record MayNotify (l : ListModel) (s : Token) (n h : ℕ) (t : Token) : Type 0 where
+  pub seat : IsSeat s n
+  pub at : (stands_of s).place ≡ NotifyingOne h O3
+  pub list_is : list_of s ≡ l
+  pub locked : Locked s t

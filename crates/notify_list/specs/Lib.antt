@@ -11,6 +11,7 @@ pub mod Records
 pub mod Calls
 pub mod Tickets
 pub mod Waiting
+pub mod Entering
 pub mod Notifying
 pub mod Granting
 pub mod NotifyingAll
@@ -22,3 +23,5 @@ pub mod List
 pub mod Meeting
 pub mod Closing
 pub mod Callers
+pub mod TaskSeats
+pub mod Tasks

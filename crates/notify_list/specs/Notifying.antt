@@ -5,8 +5,13 @@ use Rattle.step_table.specs.declared.list_place.ListPlace.TheVariants.{Rest, Not
 use Rattle.step_table.specs.declared.list_place.OneRow.TheVariants.{O1, O3, O4, O5, O6, O7, O8, O9}
 use Rattle.step_table.specs.Wrapping.{word_of}
 use Rattle.step_table.specs.ListWorld.{ListSeat, ListEntry, Granted}
-use Rattle.step_table.specs.Path.{GoesOn}
+use Rattle.step_table.specs.declared.list_place.ListWord.TheVariants.{Grant}
+use Rattle.step_table.specs.Path.{GoesOn, runs}
 use Rattle.step_law_lists.specs.ListLawful.{told}
+use Rattle.step_law_lists.specs.ListPath.{ListStride}
+use Rattle.notify_list.specs.declared.notified.Notified.{Notified}
+use Rattle.notify_list.specs.Setting.{address}
+use Rattle.notify_list.specs.Rows.{HasStored}
 use Rattle.notify_list.specs.Places.{at_place}
 use Rattle.notify_list.specs.Seats.{SeatModel}
 use Rattle.notify_list.specs.Calls.{Calls, ComesTo}
@@ -68,3 +73,33 @@ EndsOne s h None t =
 EndsOne s h (Some word) t =
     ComesTo s (at_place Rest s.sight.stands) t × OneFromLock s s.sight.stands h [] (Some word) t
     × GrantsLeast s word t
+
+-- the ticket of the answer
+abbrev pub ticket_of : Option Notified → Option ℕ
+ticket_of None = None
+ticket_of (Some n) = Some n.ticket
+
+-- the last of these strides stored a 1 in the grant word of this seat
+pub record StoresGrant (strides : List ListStride) (seat : ℕ) : Type 0 where
+  pub before : List ListStride
+  pub stride : ListStride
+  pub last : strides ≡ before ++ stride ∷ []
+  pub stored : HasStored stride (address (Grant seat)) 1
+
+-- the last of them gave the lock back, with no wait taken out
+pub record GivesLockLast (strides : List ListStride) (ticket : ℕ) : Type 0 where
+  pub before : List ListStride
+  pub stride : ListStride
+  pub last : strides ≡ before ++ stride ∷ []
+  pub ran : stride.deed ≡ runs
+  pub h : ℕ
+  pub stood : stride.stood.place ≡ NotifyingOne h (O8 ticket)
+
+-- of the ticket that was granted, the seat of its wait was granted last, which is one of so many; or nobody was,
+-- since its wait wasn't in the list
+abbrev pub GivesLast : ℕ → ℕ → Option ℕ → List ListStride → Type 0
+GivesLast seats ticket None strides = GivesLockLast strides ticket
+GivesLast seats ticket (Some seat) strides = (seat < seats) × StoresGrant strides seat
+
+abbrev pub GrantsItsWait : Notified → SeatModel → Type 0
+GrantsItsWait n t = GivesLast t.list.setting.seats n.ticket n.seat t.strides

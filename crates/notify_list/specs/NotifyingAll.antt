@@ -1,16 +1,20 @@
 -- What a notification of all promises.
-use Rattle.std.specs.Prelude.{◌≡◌, ◌≢◌, ◌⊎◌, ℕ, zero, suc, ◌+◌, List, [], ◌∷◌, ◌++◌, map}
+use Rattle.std.specs.Prelude.{◌≡◌, ◌≢◌, ◌⊎◌, ℕ, zero, suc, ◌+◌, ◌≤◌, Bool, true, false, List, [], ◌∷◌, ◌++◌, map}
 use Rattle.waiters.specs.declared.wait.Wait.{Wait}
 use Rattle.step_table.specs.declared.list_place.AllRow.TheVariants.{L1, L2, L3, L4, L5, L6, L7, L8}
 use Rattle.step_table.specs.declared.list_place.ListPlace.{ListPlace}
 use Rattle.step_table.specs.declared.list_place.ListPlace.TheVariants.{Rest, NotifyingAll}
+use Rattle.step_table.specs.declared.list_place.ListWord.TheVariants.{Grant}
 use Rattle.step_table.specs.ListWorld.{ListEntry, Granted}
+use Rattle.step_law_lists.specs.ListPath.{ListStride}
 use Rattle.step_table.specs.Path.{GoesOn, own_entries}
 use Rattle.step_law_lists.specs.ListLawful.{told}
 use Rattle.notify_list.specs.Places.{at_place}
 use Rattle.notify_list.specs.Rule.{watched}
 use Rattle.notify_list.specs.Seats.{SeatModel}
-use Rattle.notify_list.specs.Calls.{Calls, ComesTo}
+use Rattle.notify_list.specs.Rows.{HasStored}
+use Rattle.notify_list.specs.Setting.{address}
+use Rattle.notify_list.specs.Calls.{Calls, ComesTo, numbers_seen}
 
 -- the two first looks: the wait word was this, then the notify word that; h tickets were handed out at the
 -- first
@@ -70,3 +74,45 @@ GrantsSome s zero t =
     own_entries (watched s.list.setting) s.number t.sight.seen
     ≡ own_entries (watched s.list.setting) s.number s.sight.seen
 GrantsSome s (suc n) t = GrantsUpTo s (suc n) t
+
+-- the two first looks differed, and the seat goes to the lock. All tickets that it had seen handed out were so
+-- at the first look
+pub record LooksForAll (s t : SeatModel) : Type 0 where
+  pub h : ℕ
+  pub waited : ℕ
+  pub notified : ℕ
+  pub unequal : waited ≢ notified
+  pub comes : ComesTo s (at_place (NotifyingAll h L3) s.sight.stands) t
+  pub call : Calls s (at_place (NotifyingAll 0 L1) s.sight.stands) t [] (looks_all h waited notified)
+  pub since : (numbers_seen s).handed ≤ h
+
+-- the rows from the lock on, of a seat whose first look found h tickets handed out: these are granted
+pub record EndsAll (s : SeatModel) (n : ℕ) (t : SeatModel) : Type 0 where
+  pub h : ℕ
+  pub begun : s.sight.stands.place ≡ NotifyingAll h L3
+  pub comes : ComesTo s (at_place Rest s.sight.stands) t
+  pub was : ℕ
+  pub now : ℕ
+  pub handed : ℕ
+  pub hand : List Wait
+  pub call : Calls s s.sight.stands t (all_entries s.number handed n) (all_rows h was now handed n hand)
+  pub count : GrantsSome s n t
+  pub granted : h ≤ (numbers_seen t).granted
+
+-- after the first strides came one for each of these seats, in order, which stored a 1 in its grant word
+abbrev pub StoresGrants : List ℕ → List ListStride → List ListStride → Type 0
+StoresGrants [] before now = now ≡ before
+StoresGrants (seat ∷ seats) before now =
+    (p : ListStride) × HasStored p (address (Grant seat)) 1 × StoresGrants seats (before ++ p ∷ []) now
+
+-- the seat of a wait is granted there
+abbrev pub grants_seat : ListPlace → Bool
+grants_seat (NotifyingAll h L8) = true
+grants_seat _ = false
+
+-- last of all the seat granted these seats, in this order: the stride before granted none
+pub record GrantsSeats (seats : List ℕ) (t : SeatModel) : Type 0 where
+  pub before : List ListStride
+  pub stride : ListStride
+  pub none : grants_seat stride.stood.place ≡ false
+  pub stored : StoresGrants seats (before ++ stride ∷ []) t.strides

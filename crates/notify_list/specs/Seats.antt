@@ -3,8 +3,10 @@ use Rattle.std.specs.Prelude.{◌≡◌, ℕ, ◌<◌, ◌≤◌, true, List, []
 use Rattle.running_rows.specs.Seated.{TableId}
 use Rattle.running_rows.specs.Words as words
 use Rattle.waiters.specs.declared.wait.Wait.{Wait}
-use Rattle.step_table.specs.declared.list_place.ListPlace.TheVariants.{Rest}
+use Rattle.step_table.specs.declared.list_place.AllRow.TheVariants.{L3}
+use Rattle.step_table.specs.declared.list_place.ListPlace.TheVariants.{Rest, Waiting, NotifyingAll}
 use Rattle.step_table.specs.declared.list_place.Ticket.{Ticket}
+use Rattle.step_table.specs.declared.list_place.WaitRow.TheVariants.{P}
 use Rattle.step_table.specs.ListWorld.{ListSeat, ListEntry}
 use Rattle.step_law_lists.specs.ListPath.{ListSight, ListStride}
 use Rattle.notify_list.specs.declared.view.Record.{Record}
@@ -71,3 +73,17 @@ pub record IsHolding (t : Token) (n word : ℕ) : Type 0 where
   pub ticket : Ticket
   pub held : (stands_of t).ticket ≡ Some ticket
   pub word_is : ticket.word ≡ word
+
+-- a seat whose wait with this ticket is queued
+pub record IsParked (t : Token) (n : ℕ) : Type 0 where
+  pub token_is : IsToken t n
+  pub ticket : Ticket
+  pub at : (stands_of t).place ≡ Waiting ticket P
+  pub holds_none : (stands_of t).ticket ≡ None
+
+-- a seat that is about to take the lock for a notification of all
+pub record IsNotifying (t : Token) (n : ℕ) : Type 0 where
+  pub token_is : IsToken t n
+  pub h : ℕ
+  pub at : (stands_of t).place ≡ NotifyingAll h L3
+  pub holds_none : (stands_of t).ticket ≡ None

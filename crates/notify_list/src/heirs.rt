@@ -133,7 +133,8 @@ impl NotifyList {
         }
     }
 
-    fn wake_seat(&self, token: &Token, seat: u16) {
+    /// Wakes a seat that was granted, where its thread sleeps.
+    pub(crate) fn wake_seat(&self, token: &Token, seat: u16) {
         if u32::from(seat) < self.seats {
             self.words
                 .wake(token, grant_word(seat), self.asleep_word(seat));

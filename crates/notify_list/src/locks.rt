@@ -1,5 +1,7 @@
-//! Taking the list's lock.
+//! Taking the list's lock, and waking who sleeps at it.
+ghost use Rattle.std.specs.Prelude.{MatchBool};
 ghost use Rattle.notify_list.specs.Walks.{MayLock, Locked};
+ghost use Rattle.notify_list.specs.Heirs.{IsSame};
 
 use crate::notify_list::{LOCK, NotifyList};
 use crate::rows::{AtWait, Token};
@@ -13,5 +15,18 @@ impl NotifyList {
     {
         self.words
             .take_lock::<AtWait, R>(rt, token, LOCK, self.sleepers_word());
+    }
+
+    /// The same where the lock is found free within some tries, and else nothing: whether it was taken.
+    pub(crate) fn try_lock(&self, token: &mut Token) -> bool
+        requires { MayLock self.now token.old }
+        ensures { MatchBool result (Locked token.old token.new) (IsSame token.old token.new) }
+    {
+        self.words.try_lock::<AtWait>(token, LOCK)
+    }
+
+    /// Wakes one thread that sleeps at the lock, which was given back, where one does.
+    pub(crate) fn rouse_at_lock(&self, token: &Token) {
+        self.words.rouse_at_lock(token, LOCK, self.sleepers_word());
     }
 }

@@ -1,16 +1,18 @@
 //! Notifying all.
-ghost use Rattle.std.specs.Prelude.{◌≡◌, ℕ, ◌<◌, ◌≤◌, map, List, [], ◌∷◌};
+ghost use Rattle.std.specs.Prelude.{◌≡◌, ℕ, ◌<◌, ◌≤◌, map, List, [], ◌∷◌, MatchResult, IfOk};
 ghost use Rattle.waiters.specs.declared.wait.Wait.{Wait as Queued};
-ghost use Rattle.notify_list.specs.Seats.{stands_of};
+ghost use Rattle.step_law_lists.specs.ListPath.{ListStride};
+ghost use Rattle.notify_list.specs.Seats.{Token as Before, stands_of};
 ghost use Rattle.notify_list.specs.Calls.{AllGranted};
-ghost use Rattle.notify_list.specs.NotifyingAll.{NotifiesAll, GrantsSome};
-ghost use Rattle.notify_list.specs.Callers.{NotifiesAllTickets};
+ghost use Rattle.notify_list.specs.NotifyingAll.{NotifiesAll, GrantsSome, LooksForAll, EndsAll, GrantsSeats, StoresGrants};
+ghost use Rattle.notify_list.specs.Callers.{NotifiesAllTickets, LooksToNotifyAll, EndsNotifyingAll};
 ghost use Rattle.notify_list.specs.GrantingAll.{MayLook, LookedForAll, MayReach, ReachedAll};
 ghost use Rattle.notify_list.specs.GrantingAll.{MayTake, TakenAll, MayWake, WokenFirst, WokenSome};
 
+use crate::notified::NotifiedAll;
 use crate::notify_list::{LOCK, NOTIFY, NotifyList, WAIT, grant_word};
 use crate::rows::{AtAll, Token};
-use crate::seat::ListSeat;
+use crate::seat::{ListSeat, OwingAll};
 use arrayvec::ArrayVec;
 use running_rows::Here;
 use std::sync::Wait;
@@ -34,11 +36,90 @@ impl NotifyList {
             return 0;
         }
         self.lock(rt, &mut seat.token);
-        let granted = self.reach_all(&mut seat.token);
         let mut hand = Hand::new();
-        self.take_all(&mut seat.token, &mut hand);
+        let granted = self.grant_tickets(&mut seat.token, &mut hand);
+        self.rouse_at_lock(&seat.token);
         self.wake_all(&mut seat.token, hand.as_slice());
         granted
+    }
+
+    /// The same for a caller that must not wait. Where the list's lock stays held, the seat has looked at the
+    /// two words, they differed, and it has to go on.
+    pub fn try_all(&self, seat: ListSeat) -> Result<(ListSeat, NotifiedAll), OwingAll>
+        requires { seat.list ≡ self.now }
+        ensures rows { MatchResult result (λ all. NotifiesAll seat all.1.tickets all.0)
+            (λ owing. LooksForAll seat owing) }
+        ensures count { IfOk result (λ all. GrantsSome seat all.1.tickets all.0) }
+        ensures granted { IfOk result (λ all. AllGranted seat all.0) }
+        ensures seats { IfOk result (λ all. GrantsSeats all.1.seats.items all.0) }
+        ensures caller { MatchResult result (λ all. NotifiesAllTickets seat all.1.tickets all.0)
+            (λ owing. LooksToNotifyAll seat owing) }
+    {
+        let tried = self.all_silently(seat);
+        if let Ok((seat, all)) = &tried {
+            self.wake_each(&seat.token, all.seats.as_slice());
+        }
+        tried
+    }
+
+    /// Goes on with a notification of all from the lock on.
+    pub fn retry_all(&self, owing: OwingAll) -> Result<(ListSeat, NotifiedAll), OwingAll>
+        requires { owing.list ≡ self.now }
+        ensures rows { MatchResult result (λ all. EndsAll owing all.1.tickets all.0)
+            (λ same. same ≡ owing) }
+        ensures seats { IfOk result (λ all. GrantsSeats all.1.seats.items all.0) }
+        ensures caller { MatchResult result (λ all. EndsNotifyingAll owing all.1.tickets all.0)
+            (λ same. same ≡ owing) }
+    {
+        let tried = self.go_on_silently(owing);
+        if let Ok((seat, all)) = &tried {
+            self.wake_each(&seat.token, all.seats.as_slice());
+        }
+        tried
+    }
+
+    /// As `try_all`, and nobody is woken.
+    pub(crate) fn all_silently(&self, seat: ListSeat) -> Result<(ListSeat, NotifiedAll), OwingAll>
+        requires { seat.list ≡ self.now }
+        ensures rows { MatchResult result (λ all. NotifiesAll seat all.1.tickets all.0)
+            (λ owing. LooksForAll seat owing) }
+        ensures count { IfOk result (λ all. GrantsSome seat all.1.tickets all.0) }
+        ensures granted { IfOk result (λ all. AllGranted seat all.0) }
+        ensures seats { IfOk result (λ all. GrantsSeats all.1.seats.items all.0) }
+        ensures caller { MatchResult result (λ all. NotifiesAllTickets seat all.1.tickets all.0)
+            (λ owing. LooksToNotifyAll seat owing) }
+    {
+        let ListSeat { mut token, number } = seat;
+        if self.look_for_all(&mut token) {
+            let seats = Hand::new();
+            return Ok((
+                ListSeat { token, number },
+                NotifiedAll { tickets: 0, seats },
+            ));
+        }
+        self.go_on_silently(OwingAll { token, number })
+    }
+
+    /// As `retry_all`, and nobody is woken.
+    pub(crate) fn go_on_silently(
+        &self,
+        owing: OwingAll,
+    ) -> Result<(ListSeat, NotifiedAll), OwingAll>
+        requires { owing.list ≡ self.now }
+        ensures rows { MatchResult result (λ all. EndsAll owing all.1.tickets all.0)
+            (λ same. same ≡ owing) }
+        ensures seats { IfOk result (λ all. GrantsSeats all.1.seats.items all.0) }
+        ensures caller { MatchResult result (λ all. EndsNotifyingAll owing all.1.tickets all.0)
+            (λ same. same ≡ owing) }
+    {
+        let OwingAll { mut token, number } = owing;
+        if !self.try_lock(&mut token) {
+            return Err(OwingAll { token, number });
+        }
+        let mut seats = Hand::new();
+        let tickets = self.grant_tickets(&mut token, &mut seats);
+        self.grant_seats(&mut token, seats.as_slice());
+        Ok((ListSeat { token, number }, NotifiedAll { tickets, seats }))
     }
 
     /// L1 and L2: whether the two words were equal.
@@ -48,6 +129,20 @@ impl NotifyList {
     {
         let waited = self.words.load::<AtAll>(token, WAIT);
         waited == self.words.load::<Here>(token, NOTIFY)
+    }
+
+    /// L4 to L7, under the lock, which is given back: all tickets are granted, and all waits taken out. It
+    /// answers how many tickets weren't granted before. Nobody is woken.
+    fn grant_tickets(&self, token: &mut Token, hand: &mut Hand) -> u32
+        requires seat { (h : ℕ) × MayReach self.now token.old h × ((stands_of token.old).hand ≡ []) }
+        requires hand { hand.old.items ≡ [] }
+        ensures taken { (h : ℕ) → MayReach self.now token.old h → (stands_of token.old).hand ≡ []
+            → (v : Before) × ReachedAll token.old h result v × TakenAll v h result token.new }
+        ensures hand { hand.new.items ≡ map (λ w. w.id.seat) (stands_of token.new).hand }
+    {
+        let granted = self.reach_all(token);
+        self.take_all(token, hand);
+        granted
     }
 
     /// L4, L5 and L6: all tickets that are handed out at L5 are granted. It answers how many weren't before.
@@ -74,7 +169,7 @@ impl NotifyList {
         self.remove_all(token, hand);
         // Given back before the first waiter is told: told earlier, it would run into the lock that is still
         // held.
-        self.words.give_lock(token, LOCK, self.sleepers_word());
+        self.words.return_lock(token, LOCK);
     }
 
     /// L8 for each wait in hand, of which these are the seats. The first are woken, and wake the others.
@@ -85,19 +180,39 @@ impl NotifyList {
             → WokenSome token.old h (stands_of token.old).hand [] token.new }
     {
         self.name_heirs(token, seats);
+        self.grant_seats(token, seats);
+        self.wake_first(token, seats);
+    }
+
+    /// L8 for each wait in hand, of which these are the seats. Nobody is woken.
+    fn grant_seats(&self, token: &mut Token, seats: &[u16])
+        requires seat { (h : ℕ) × MayWake self.now token.old h }
+        requires seats { seats.now ≡ map (λ w. w.id.seat) (stands_of token.old).hand }
+        ensures rows { (h : ℕ) → MayWake self.now token.old h
+            → WokenSome token.old h (stands_of token.old).hand [] token.new }
+        ensures stored { StoresGrants seats.now token.old.me.0.own.gone token.new.me.0.own.gone }
+    {
         for seat in seats {
             self.grant_first(token, *seat);
         }
-        self.wake_first(token, seats);
     }
 
     /// L8: the seat of the first wait in hand is granted.
     fn grant_first(&self, token: &mut Token, seat: u16)
         requires { (h : ℕ) × (w : Queued) × (rest : List Queued) × MayWake self.now token.old h
             × ((stands_of token.old).hand ≡ w ∷ rest) × (w.id.seat ≡ seat) }
-        ensures { (h : ℕ) (w : Queued) (rest : List Queued) → MayWake self.now token.old h
+        ensures rows { (h : ℕ) (w : Queued) (rest : List Queued) → MayWake self.now token.old h
             → (stands_of token.old).hand ≡ w ∷ rest → WokenFirst token.old h w rest token.new }
+        ensures stored { StoresGrants (seat ∷ []) token.old.me.0.own.gone token.new.me.0.own.gone }
     {
         self.words.store_grant(token, grant_word(seat), 1);
+    }
+
+    /// Wakes who sleeps at the lock, which was given back, and each of these seats.
+    fn wake_each(&self, token: &Token, seats: &[u16]) {
+        self.rouse_at_lock(token);
+        for seat in seats {
+            self.wake_seat(token, *seat);
+        }
     }
 }

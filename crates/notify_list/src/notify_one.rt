@@ -1,19 +1,21 @@
 //! Notifying one.
-ghost use Rattle.std.specs.Prelude.{◌≡◌, ℕ, IfSome, IfNone};
+ghost use Rattle.std.specs.Prelude.{◌≡◌, ℕ, false, IfSome, IfNone, IfOk, MatchResult};
 ghost use Rattle.step_table.specs.declared.list_place.ListPlace.TheVariants.{NotifyingOne};
-ghost use Rattle.step_table.specs.declared.list_place.OneRow.TheVariants.{O3, O7};
+ghost use Rattle.step_table.specs.declared.list_place.OneRow.TheVariants.{O3};
 ghost use Rattle.step_law_lists.specs.ListLawful.{Follows};
+ghost use Rattle.notify_list.specs.Seats.{Token as Before, list_of, seat_of, IsSeat};
 ghost use Rattle.notify_list.specs.Calls.{AllGranted};
-ghost use Rattle.notify_list.specs.Notifying.{NotifiesOne, GrantsLeast, EndsOne};
-ghost use Rattle.notify_list.specs.Granting.{MayGrant, GrantedOne};
-ghost use Rattle.notify_list.specs.Callers.{NotifiesOneTicket};
+ghost use Rattle.notify_list.specs.Tickets.{HasLooked};
+ghost use Rattle.notify_list.specs.Notifying.{NotifiesOne, GrantsLeast, EndsOne, ticket_of, GrantsItsWait};
+ghost use Rattle.notify_list.specs.Granting.{MayNotify, HasGranted};
+ghost use Rattle.notify_list.specs.Callers.{NotifiesOneTicket, FindsAllGranted};
 
+use crate::notified::{Busy, Notified, ticket_of_answer};
 use crate::notify_list::{LOCK, NOTIFY, NotifyList, WAIT, grant_word};
 use crate::rows::Token;
 use crate::seat::ListSeat;
 use running_rows::Here;
 use std::sync::Wait;
-use step_table::next_word;
 
 impl NotifyList {
     /// Grants the least ticket that isn't granted, if there is one, and wakes its wait (Go's
@@ -41,32 +43,105 @@ impl NotifyList {
         ensures lawful { Follows seat.new.sight.seen }
     {
         self.lock(rt, &mut seat.token);
-        // Read again under the lock: since the first look another may have granted that ticket, and this call
-        // would grant it twice and leave the next one out.
-        let ticket = self.words.load::<Here>(&mut seat.token, NOTIFY);
-        if self.words.load::<Here>(&mut seat.token, WAIT) == ticket {
-            self.words
-                .give_lock(&mut seat.token, LOCK, self.sleepers_word());
-            return None;
-        }
-        self.grant_one(&mut seat.token, ticket);
-        Some(ticket)
+        let notified = self.grant_least(&mut seat.token);
+        self.wake_notified(&seat.token, &notified);
+        ticket_of_answer(&notified)
     }
 
-    /// O7 and O8, and O9 where the ticket's wait is in the list.
-    fn grant_one(&self, token: &mut Token, ticket: u64)
-        requires { (h : ℕ) × MayGrant self.now token.old h ticket }
-        ensures { (h : ℕ) → MayGrant self.now token.old h ticket → GrantedOne token.old h ticket token.new }
+    /// The same for a caller that must not wait: where the list's lock stays held, the seat has looked at the
+    /// two words, and they differed. It tells whose wait was granted.
+    pub fn try_one(&self, seat: &mut ListSeat) -> Result<Option<Notified>, Busy>
+        requires { seat.old.list ≡ self.now }
+        ensures rows { MatchResult result (λ notified. NotifiesOne seat.old (ticket_of notified) seat.new)
+            (λ busy. HasLooked seat.old false seat.new) }
+        ensures some { IfOk result (λ notified.
+            IfSome (ticket_of notified) (λ word. GrantsLeast seat.old word seat.new)) }
+        ensures none { IfOk result (λ notified.
+            IfNone (ticket_of notified) (AllGranted seat.old seat.new)) }
+        ensures wait { IfOk result (λ notified. IfSome notified (λ n. GrantsItsWait n seat.new)) }
+        ensures caller { MatchResult result
+            (λ notified. NotifiesOneTicket seat.old (ticket_of notified) seat.new)
+            (λ busy. FindsAllGranted seat.old false seat.new) }
     {
-        // Granted before the wait is looked for: its seat may not have come to the lock yet, and will find
-        // the grant there.
-        self.words.store::<Here>(token, NOTIFY, next_word(ticket));
-        let waiter = self.remove(token, ticket);
-        // Given back before the waiter is told: told earlier, it would run into the lock that is still held.
-        self.words.give_lock(token, LOCK, self.sleepers_word());
-        if let Some(seat) = waiter {
-            self.words
-                .grant(token, grant_word(seat), self.asleep_word(seat), 1);
+        let tried = self.one_silently(seat);
+        if let Ok(notified) = &tried {
+            self.wake_notified(&seat.token, notified);
+        }
+        tried
+    }
+
+    /// The same, and nobody is woken.
+    pub(crate) fn one_silently(&self, seat: &mut ListSeat) -> Result<Option<Notified>, Busy>
+        requires { seat.old.list ≡ self.now }
+        ensures rows { MatchResult result (λ notified. NotifiesOne seat.old (ticket_of notified) seat.new)
+            (λ busy. HasLooked seat.old false seat.new) }
+        ensures some { IfOk result (λ notified.
+            IfSome (ticket_of notified) (λ word. GrantsLeast seat.old word seat.new)) }
+        ensures none { IfOk result (λ notified.
+            IfNone (ticket_of notified) (AllGranted seat.old seat.new)) }
+        ensures wait { IfOk result (λ notified. IfSome notified (λ n. GrantsItsWait n seat.new)) }
+        ensures caller { MatchResult result
+            (λ notified. NotifiesOneTicket seat.old (ticket_of notified) seat.new)
+            (λ busy. FindsAllGranted seat.old false seat.new) }
+    {
+        let quiet = self.quiet(seat);
+        if quiet {
+            return Ok(None);
+        }
+        self.try_one_at_lock(seat)
+    }
+
+    /// The rows from O3 on, if the lock is found free.
+    #[inline(never)]
+    fn try_one_at_lock(&self, seat: &mut ListSeat) -> Result<Option<Notified>, Busy>
+        requires seat { seat.old.list ≡ self.now }
+        requires place { (h : ℕ) × (seat.old.sight.stands.place ≡ NotifyingOne h O3) }
+        ensures rows { (h : ℕ) → seat.old.sight.stands.place ≡ NotifyingOne h O3
+            → MatchResult result (λ notified. EndsOne seat.old h (ticket_of notified) seat.new)
+            (λ busy. seat.new ≡ seat.old) }
+        ensures wait { IfOk result (λ notified. IfSome notified (λ n. GrantsItsWait n seat.new)) }
+        ensures lawful { Follows seat.new.sight.seen }
+    {
+        if self.try_lock(&mut seat.token) {
+            return Ok(self.grant_least(&mut seat.token));
+        }
+        Err(Busy)
+    }
+
+    /// The rows from O4 on, under the lock, which is given back. Nobody is woken.
+    fn grant_least(&self, token: &mut Token) -> Option<Notified>
+        requires { (s : Before) × (n : ℕ) × (h : ℕ) × MayNotify self.now s n h token.old }
+        ensures rows { (s : Before) (n h : ℕ) → MayNotify self.now s n h token.old
+            → EndsOne (seat_of s n) h (ticket_of result) (seat_of token.new n) × IsSeat token.new n }
+        ensures own { list_of token.new ≡ self.now }
+        ensures wait { HasGranted self.now result token.new }
+    {
+        // Read again under the lock: since the first look another may have granted that ticket, and this call
+        // would grant it twice and leave the next one out.
+        let ticket = self.words.load::<Here>(token, NOTIFY);
+        if self.words.load::<Here>(token, WAIT) == ticket {
+            self.words.return_lock(token, LOCK);
+            return None;
+        }
+        let seat = self.grant_one(token, ticket);
+        Some(Notified { ticket, seat })
+    }
+
+    /// Wakes who sleeps at the lock, which was given back, and the seat that was granted last.
+    fn wake_notified(&self, token: &Token, notified: &Option<Notified>)
+        requires own { list_of token.now ≡ self.now }
+        requires granted { HasGranted self.now notified.now token.now }
+    {
+        self.rouse_at_lock(token);
+        if let Some(
+            Notified {
+                ticket: _,
+                seat: Some(seat),
+            },
+        ) = notified
+        {
+            let grant = grant_word(*seat);
+            self.words.rouse(token, grant, self.asleep_word(*seat), 1);
         }
     }
 }

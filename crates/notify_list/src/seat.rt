@@ -1,4 +1,4 @@
-//! A seat between two calls, without a ticket and with one.
+//! A seat between two calls, without a ticket and with one, and what it is in the middle of one.
 ghost use Rattle.std.specs.Prelude.{◌≡◌};
 
 use crate::rows::Token;
@@ -19,6 +19,18 @@ pub struct Holding {
     pub(crate) ticket: u64,
 }
 
+/// A seat whose wait is queued. It must be spent, by `poll`.
+pub struct Parked {
+    pub(crate) token: Token,
+    pub(crate) number: u16,
+}
+
+/// A seat that has to go on with a notification of all. It must be spent, by `retry_all`.
+pub struct OwingAll {
+    pub(crate) token: Token,
+    pub(crate) number: u16,
+}
+
 impl Model for ListSeat {
     ghost use Rattle.notify_list.specs.Seats.{SeatModel, seat_of, IsSeat};
 
@@ -37,6 +49,26 @@ impl Model for Holding {
     ghost view = { λ s. seat_of s.token s.number };
 
     ghost invariant = { λ s. IsHolding s.token s.number s.ticket };
+}
+
+impl Model for Parked {
+    ghost use Rattle.notify_list.specs.Seats.{SeatModel, seat_of, IsParked};
+
+    ghost Value = { SeatModel };
+
+    ghost view = { λ s. seat_of s.token s.number };
+
+    ghost invariant = { λ s. IsParked s.token s.number };
+}
+
+impl Model for OwingAll {
+    ghost use Rattle.notify_list.specs.Seats.{SeatModel, seat_of, IsNotifying};
+
+    ghost Value = { SeatModel };
+
+    ghost view = { λ s. seat_of s.token s.number };
+
+    ghost invariant = { λ s. IsNotifying s.token s.number };
 }
 
 impl ListSeat {

@@ -1,11 +1,15 @@
 //! Waiting with a ticket.
-ghost use Rattle.std.specs.Prelude.{◌≡◌};
-ghost use Rattle.notify_list.specs.Waiting.{IsWaited, IsGranted};
-ghost use Rattle.notify_list.specs.Callers.{WaitsForGrant};
+ghost use Rattle.std.specs.Prelude.{◌≡◌, MatchResult};
+ghost use Rattle.step_law_lists.specs.ListLawful.{Follows};
+ghost use Rattle.notify_list.specs.Seats.{Token as Before, seat_of};
+ghost use Rattle.notify_list.specs.Entering.{MayEnter};
+ghost use Rattle.notify_list.specs.Waiting.{IsWaited, IsGranted, IsEntered, TakesGrant};
+ghost use Rattle.notify_list.specs.Callers.{WaitsForGrant, EntersWait};
 
 use crate::notify_list::{LOCK, NOTIFY, NotifyList, WAIT, grant_word};
-use crate::seat::{Holding, ListSeat};
-use crate::waited::Waited;
+use crate::rows::Token;
+use crate::seat::{Holding, ListSeat, Parked};
+use crate::waited::{Entered, Waited};
 use running_rows::{GivesWay, Here, Patience};
 use std::sync::Wait;
 use step_table::less;
@@ -35,25 +39,93 @@ impl NotifyList {
             ticket,
         } = holding;
         self.lock(rt, &mut token);
+        match self.enter(token, number, ticket) {
+            Entered::AtOnce(seat) => {
+                self.rouse_at_lock(&seat.token);
+                (seat, Waited::AtOnce)
+            }
+            Entered::Queued(parked) => {
+                self.rouse_at_lock(&parked.token);
+                (self.sleep(rt, parked), Waited::Parked)
+            }
+        }
+    }
+
+    /// The same up to the sleep, for a caller that must not wait: where the list's lock stays held, the seat
+    /// comes back as it was. A seat that is parked then polls for its grant.
+    pub fn try_wait(&self, holding: Holding) -> Result<Entered, Holding>
+        requires { holding.list ≡ self.now }
+        ensures rows { MatchResult result (λ entered. IsEntered holding entered) (λ kept. kept ≡ holding) }
+        ensures caller { MatchResult result (λ entered. EntersWait holding entered) (λ kept. kept ≡ holding) }
+    {
+        let tried = self.wait_silently(holding);
+        match &tried {
+            Ok(Entered::AtOnce(seat)) => self.rouse_at_lock(&seat.token),
+            Ok(Entered::Queued(parked)) => self.rouse_at_lock(&parked.token),
+            Err(_) => {}
+        }
+        tried
+    }
+
+    /// The same, and nobody is woken.
+    pub(crate) fn wait_silently(&self, holding: Holding) -> Result<Entered, Holding>
+        requires { holding.list ≡ self.now }
+        ensures rows { MatchResult result (λ entered. IsEntered holding entered) (λ kept. kept ≡ holding) }
+        ensures caller { MatchResult result (λ entered. EntersWait holding entered) (λ kept. kept ≡ holding) }
+    {
+        let Holding {
+            mut token,
+            number,
+            ticket,
+        } = holding;
+        if self.try_lock(&mut token) {
+            return Ok(self.enter(token, number, ticket));
+        }
+        Err(Holding {
+            token,
+            number,
+            ticket,
+        })
+    }
+
+    /// The rows of a wait from W2 on, under the lock, which is given back. Nobody is woken.
+    fn enter(&self, token: Token, number: u16, ticket: u64) -> Entered
+        requires { (s : Before) × MayEnter self.now s number ticket token }
+        ensures rows { (s : Before) → MayEnter self.now s number ticket token
+            → IsEntered (seat_of s number) result }
+        ensures caller { (s : Before) → MayEnter self.now s number ticket token
+            → EntersWait (seat_of s number) result }
+    {
+        let mut token = token;
         // Looked at under the lock, where alone tickets are granted. Without the look, or with one before the
         // lock, a ticket that was granted in between would sleep for good.
         let notified = self.words.load::<Here>(&mut token, NOTIFY);
         if less(ticket, notified) {
-            self.words.give_lock(&mut token, LOCK, self.sleepers_word());
-            return (ListSeat { token, number }, Waited::AtOnce);
+            self.words.return_lock(&mut token, LOCK);
+            return Entered::AtOnce(ListSeat { token, number });
         }
         let seat = SeatId::new(number);
         let id = WaitId { seat, turn: 0 };
         // Queued in the hold of the lock in which the ticket was found ungranted: who grants it finds the
         // wait.
         self.insert(&mut token, waiters::Wait { id, ticket });
-        self.words.give_lock(&mut token, LOCK, self.sleepers_word());
+        self.words.return_lock(&mut token, LOCK);
+        Entered::Queued(Parked { token, number })
+    }
+
+    /// Waits for the grant of a queued wait, and takes it.
+    fn sleep<R: Wait>(&self, rt: &R, parked: Parked) -> ListSeat
+        requires { parked.list ≡ self.now }
+        ensures took { TakesGrant parked result }
+        ensures lawful { Follows result.sight.seen }
+    {
+        let Parked { mut token, number } = parked;
         let grant = grant_word(number);
         let asleep = self.asleep_word(number);
         let misses = self.misses_word(number);
         self.words
             .take_when_granted(rt, &mut token, grant, asleep, misses, &PATIENCE);
         self.wake_heirs(&mut token, number);
-        (ListSeat { token, number }, Waited::Parked)
+        ListSeat { token, number }
     }
 }

@@ -1,9 +1,10 @@
 use Rattle.std.proofs.Common.{ℕ, ap, ◌∙◌, subst, rules}
 use Rattle.notify_list.specs.Seats.{SeatModel, seat_of}
 use Rattle.notify_list.specs.Calls.{AllGranted}
-use Rattle.notify_list.specs.NotifyingAll.{NotifiesAll, GrantsSome}
-use Rattle.notify_list.proofs.Broadcasting.{quiet_seat, quiet_all, quiet_none, quiet_granted, may_lock, may_reach, may_take, may_wake, locked_seat, locked_all}
-use Rattle.notify_list.proofs.Broadcasting.{locked_some, locked_granted}
+use Rattle.notify_list.specs.NotifyingAll.{NotifiesAll, GrantsSome, LooksForAll}
+use Rattle.notify_list.proofs.Broadcasting.{quiet_seat, quiet_all, quiet_none, quiet_granted, notifying, looks_for_all, may_lock, may_reach}
+use Rattle.notify_list.proofs.Broadcasting.{empty_locked, may_wake, locked_seat, ends_all}
+use Rattle.notify_list.proofs.Concluding.{whole_all, whole_some, whole_granted}
 use Rattle.notify_list.proofs.Answering.{is_sound}
 use Rattle.notify_list.proofs.CallersNotifying.{notifies_all}
 use Rattle.notify_list.proofs.notify_list.NotifyList.all.Goals as goal
@@ -27,57 +28,52 @@ returns-then-look_for_all g c =
     }
 
 pub lock-requires : goal.lock-requires
-lock-requires g c = may_lock c.args.self.now c.seat.inside.token c.look_for_all.new.token c.seat.inside.number c.seat.invariant
-    (ap (λ (y : SeatModel). y.list) c.seat.view_is ∙ c.requires) c.if-look_for_all.ensures
+lock-requires g c =
+    let s = c.seat.inside.token in let t = c.look_for_all.new.token in let n : ℕ = c.seat.inside.number in
+    let own = ap (λ (y : SeatModel). y.list) c.seat.view_is ∙ c.requires in let x = c.if-look_for_all.ensures in
+    may_lock c.args.self.now t n (notifying s t n c.seat.invariant x) (x.walked.list_is ∙ own)
 
-pub reach_all-granted-requires : goal.reach_all-granted-requires
-reach_all-granted-requires g c = let x = c.if-look_for_all.ensures in (
-  x.h,
-  may_reach c.args.self.now c.seat.inside.token c.look_for_all.new.token c.seat.inside.number c.seat.invariant
-      (ap (λ (y : SeatModel). y.list) c.seat.view_is ∙ c.requires) x c.lock.new.token c.lock.ensures,
-)
-
-pub take_all-requires-clause-seat : goal.take_all-requires-clause-seat
-take_all-requires-clause-seat g c =
-    let l = c.args.self.now in let s = c.seat.inside.token in let t = c.look_for_all.new.token in let n : ℕ = c.seat.inside.number in
-    let own = ap (λ (y : SeatModel). y.list) c.seat.view_is ∙ c.requires in
-    let x = c.if-look_for_all.ensures in let u = c.lock.new.token in let k : ℕ = c.reach_all-granted.result in let v = c.reach_all-granted.new.token in
-    let R = c.reach_all-granted.ensures x.h (may_reach l s t n c.seat.invariant own x u c.lock.ensures) in
-    (x.h, k, may_take l s t n c.seat.invariant own x u c.lock.ensures k v R)
+pub grant_tickets-granted-requires-clause-seat : goal.grant_tickets-granted-requires-clause-seat
+grant_tickets-granted-requires-clause-seat g c =
+    let s = c.seat.inside.token in let t = c.look_for_all.new.token in let n : ℕ = c.seat.inside.number in
+    let own = ap (λ (y : SeatModel). y.list) c.seat.view_is ∙ c.requires in let x = c.if-look_for_all.ensures in
+    let N = notifying s t n c.seat.invariant x in (
+      N.h,
+      may_reach c.args.self.now t n N (x.walked.list_is ∙ own) c.lock.new.token c.lock.ensures,
+      empty_locked c.args.self.now t n N (x.walked.list_is ∙ own) c.lock.new.token c.lock.ensures,
+    )
 
 pub wake_all-requires-clause-seat : goal.wake_all-requires-clause-seat
 wake_all-requires-clause-seat g c =
     let l = c.args.self.now in let s = c.seat.inside.token in let t = c.look_for_all.new.token in let n : ℕ = c.seat.inside.number in
-    let own = ap (λ (y : SeatModel). y.list) c.seat.view_is ∙ c.requires in
-    let x = c.if-look_for_all.ensures in let u = c.lock.new.token in let k : ℕ = c.reach_all-granted.result in let v = c.reach_all-granted.new.token in
-    let R = c.reach_all-granted.ensures x.h (may_reach l s t n c.seat.invariant own x u c.lock.ensures) in
-    let T = c.take_all.ensures.taken x.h k (may_take l s t n c.seat.invariant own x u c.lock.ensures k v R) in
-    (x.h, may_wake l s t n c.seat.invariant own x u c.lock.ensures k v R c.take_all.new.token T)
+    let own = ap (λ (y : SeatModel). y.list) c.seat.view_is ∙ c.requires in let x = c.if-look_for_all.ensures in
+    let N = notifying s t n c.seat.invariant x in let at = x.walked.list_is ∙ own in let u = c.lock.new.token in let L = c.lock.ensures in
+    let T = c.grant_tickets-granted.ensures.taken N.h (may_reach l t n N at u L) (empty_locked l t n N at u L) in
+    (N.h, may_wake l t n N at u L c.grant_tickets-granted.result T.0 T.1 c.grant_tickets-granted.new.token T.2)
 
 pub invariant_of-seat-2 : goal.invariant_of-seat-2
 invariant_of-seat-2 g c =
     let l = c.args.self.now in let s = c.seat.inside.token in let t = c.look_for_all.new.token in let n : ℕ = c.seat.inside.number in
-    let own = ap (λ (y : SeatModel). y.list) c.seat.view_is ∙ c.requires in
-    let x = c.if-look_for_all.ensures in let u = c.lock.new.token in let k : ℕ = c.reach_all-granted.result in let v = c.reach_all-granted.new.token in
-    let R = c.reach_all-granted.ensures x.h (may_reach l s t n c.seat.invariant own x u c.lock.ensures) in
-    let T = c.take_all.ensures.taken x.h k (may_take l s t n c.seat.invariant own x u c.lock.ensures k v R) in
-    let W = c.wake_all.ensures x.h (may_wake l s t n c.seat.invariant own x u c.lock.ensures k v R c.take_all.new.token T) in
-    locked_seat l s t n c.seat.invariant own x u c.lock.ensures k v R c.take_all.new.token T c.wake_all.new.token W
+    let own = ap (λ (y : SeatModel). y.list) c.seat.view_is ∙ c.requires in let x = c.if-look_for_all.ensures in
+    let N = notifying s t n c.seat.invariant x in let at = x.walked.list_is ∙ own in let u = c.lock.new.token in let L = c.lock.ensures in
+    let k : ℕ = c.grant_tickets-granted.result in let y = c.grant_tickets-granted.new.token in
+    let T = c.grant_tickets-granted.ensures.taken N.h (may_reach l t n N at u L) (empty_locked l t n N at u L) in
+    let W = c.wake_all.ensures N.h (may_wake l t n N at u L k T.0 T.1 y T.2) in
+    locked_seat l t n N at u L k T.0 T.1 y T.2 c.wake_all.new.token W
 
 pub returns : goal.returns
 returns g c =
     let l = c.args.self.now in let s = c.seat.inside.token in let t = c.look_for_all.new.token in let n : ℕ = c.seat.inside.number in
-    let own = ap (λ (y : SeatModel). y.list) c.seat.view_is ∙ c.requires in
-    let x = c.if-look_for_all.ensures in let u = c.lock.new.token in let k : ℕ = c.reach_all-granted.result in let v = c.reach_all-granted.new.token in
-    let R = c.reach_all-granted.ensures x.h (may_reach l s t n c.seat.invariant own x u c.lock.ensures) in
-    let T = c.take_all.ensures.taken x.h k (may_take l s t n c.seat.invariant own x u c.lock.ensures k v R) in let y = c.take_all.new.token in
-    let W = c.wake_all.ensures x.h (may_wake l s t n c.seat.invariant own x u c.lock.ensures k v R y T) in let z = c.wake_all.new.token in
-    let rows = subst (λ (q : SeatModel). NotifiesAll q k (seat_of z n)) c.seat.view_is
-    (locked_all l s t n c.seat.invariant own x u c.lock.ensures k v R y T z W) in
-    let count = subst (λ (q : SeatModel). GrantsSome q k (seat_of z n)) c.seat.view_is
-    (locked_some l s t n c.seat.invariant own x u c.lock.ensures k v R y T z W) in
-    let granted = subst (λ (q : SeatModel). AllGranted q (seat_of z n)) c.seat.view_is
-    (locked_granted l s t n c.seat.invariant own x u c.lock.ensures k v R y T z W) in record {
+    let own = ap (λ (y : SeatModel). y.list) c.seat.view_is ∙ c.requires in let x = c.if-look_for_all.ensures in
+    let N = notifying s t n c.seat.invariant x in let at = x.walked.list_is ∙ own in let u = c.lock.new.token in let L = c.lock.ensures in
+    let k : ℕ = c.grant_tickets-granted.result in let y = c.grant_tickets-granted.new.token in let z = c.wake_all.new.token in
+    let T = c.grant_tickets-granted.ensures.taken N.h (may_reach l t n N at u L) (empty_locked l t n N at u L) in
+    let W = c.wake_all.ensures N.h (may_wake l t n N at u L k T.0 T.1 y T.2) in
+    let ends = ends_all l t n N at u L k T.0 T.1 y T.2 z W in
+    let looked = subst (λ (q : SeatModel). LooksForAll q (seat_of t n)) c.seat.view_is (looks_for_all s t n c.seat.invariant x) in
+    let rows = whole_all c.args.seat.now (seat_of t n) looked (seat_of z n) k ends in
+    let count = whole_some c.args.seat.now (seat_of t n) looked (seat_of z n) k ends in
+    let granted = whole_granted c.args.seat.now (seat_of t n) looked (seat_of z n) k ends in record {
       rows = rows;
       count = count;
       granted = granted;

@@ -4,7 +4,7 @@ use Rattle.waiters.specs.declared.wait.Wait.{Wait}
 use Rattle.notify_list.specs.Seats.{ListModel}
 use Rattle.notify_list.proofs.Owned.{grant_low, owned}
 use Rattle.notify_list.proofs.Allowing.{grants_at}
-use Rattle.notify_list.proofs.Wakening.{stands8, waiter_there, woken_first}
+use Rattle.notify_list.proofs.Wakening.{stands8, waiter_there, woken_first, stored_one}
 use Rattle.notify_list.proofs.notify_list.NotifyList.grant_first.Goals as goal
 
 pub store_grant-requires : goal.store_grant-requires
@@ -23,6 +23,10 @@ store_grant-requires c =
       ),
     )
 
-pub returns : goal.returns
-returns c h w rest may hand = let E = c.store_grant.ensures in
+pub returns-clause-rows : goal.returns-clause-rows
+returns-clause-rows c h w rest may hand = let E = c.store_grant.ensures in
     woken_first c.args.self.now c.args.token.now h w rest may hand c.store_grant.new.token E.went.0 (E.went.1, E.went.3) E.own
+
+pub returns-clause-stored : goal.returns-clause-stored
+returns-clause-stored c = let E = c.store_grant.ensures in
+    stored_one c.args.token.now c.store_grant.new.token c.grant_word.result c.args.seat E.went.0 E.went.1 E.went.2 c.grant_word.ensures

@@ -34,7 +34,7 @@ returns-clause-rows c = let M = c.meet.ensures in let s = c.one.inside.token in 
     subst (λ (q : SeatModel × SeatModel). HasMet q.0 q.1 (seat_of c.meet.new.one c.one.inside.number) (seat_of c.meet.new.other c.other.inside.number))
     (λ i. (c.one.view_is i, c.other.view_is i))
     (have_met s o c.meet.new.one c.meet.new.other c.one.inside.number c.other.inside.number c.meet.result c.one.invariant c.other.invariant M.met
-    M.own.0 M.own.1 (ap (λ (m : Me). m.1) M.one ∙ c.one.invariant.token_is.bare) (ap (λ (m : Me). m.1) M.other))
+    M.own.0 M.own.1)
 
 pub returns-clause-caller : goal.returns-clause-caller
 returns-clause-caller c = let s = c.one.inside in let o = c.other.inside in

@@ -1,42 +1,19 @@
-use Rattle.std.proofs.Common.{◌≡◌, ℕ, ◌+◌, ◌<◌, ◌≤◌, length, drop, get_or, sym, ap, ◌∙◌, arith}
-use Rattle.std.proofs.lemmas.List.{length-map}
+use Rattle.std.proofs.Common.{map, sym, ap, ◌∙◌}
 use Rattle.waiters.specs.declared.wait.Wait.{Wait}
-use Rattle.notify_list.proofs.Wakening.{a_wait, seat_at, woken_none, may_next, hand_next, woken_more, woken_all}
-use Rattle.notify_list.specs.Seats.{stands_of}
+use Rattle.notify_list.specs.Plays.{Me}
+use Rattle.notify_list.proofs.Wakening.{may_same, woken_since}
 use Rattle.notify_list.proofs.notify_list.NotifyList.wake_all.Goals as goal
-
-pub loop-seat-init : goal.loop-seat-init
-loop-seat-init c = λ h may. woken_none c.args.self.now c.args.token.now c.name_heirs.new.token h may c.name_heirs.ensures
-
-pub grant_first-requires : goal.grant_first-requires
-grant_first-requires c =
-    let s = c.args.token.now in let t = c.loop-seat.token in let n : ℕ = c.loop-seat.seat-index in let h : ℕ = c.requires.seat.0 in
-    let may = c.requires.seat.1 in let x = c.loop-seat.invariant h may in
-    let all : length c.args.seats.now ≡ length (stands_of s).hand = ap length c.requires.seats ∙ length-map (stands_of s).hand (λ (w : Wait). w.id.seat) in
-    let low : n < length (stands_of s).hand = (let k = c.loop-seat-test.true in omega arith) in (
-      h,
-      get_or (stands_of s).hand n a_wait,
-      drop (n + 1) (stands_of s).hand,
-      may_next c.args.self.now s t h n may x,
-      hand_next c.args.self.now s t h n may x low,
-      seat_at (stands_of s).hand n low ∙ ap (λ l. get_or l n 0) (sym c.requires.seats),
-    )
-
-pub loop-seat-preserved : goal.loop-seat-preserved
-loop-seat-preserved c = λ h may.
-    let s = c.args.token.now in let t = c.loop-seat.token in let n : ℕ = c.loop-seat.seat-index in let x = c.loop-seat.invariant h may in
-    let all : length c.args.seats.now ≡ length (stands_of s).hand = ap length c.requires.seats ∙ length-map (stands_of s).hand (λ (w : Wait). w.id.seat) in
-    let low : n < length (stands_of s).hand = (let k = c.loop-seat-test.true in omega arith) in
-    woken_more c.args.self.now s t h n may x c.grant_first.new.token low
-    (c.grant_first.ensures h (get_or (stands_of s).hand n a_wait) (drop (n + 1) (stands_of s).hand) (may_next c.args.self.now s t h n may x)
-    (hand_next c.args.self.now s t h n may x low))
-
-pub returns : goal.returns
-returns c h may =
-    let s = c.args.token.now in let n : ℕ = c.loop-seat.seat-index in
-    let all : length c.args.seats.now ≡ length (stands_of s).hand = ap length c.requires.seats ∙ length-map (stands_of s).hand (λ (w : Wait). w.id.seat) in
-    let most : length (stands_of s).hand ≤ n = (let k = c.loop-seat-test.false in omega arith) in
-    woken_all s c.loop-seat.token h n most (c.loop-seat.invariant h may)
 
 pub name_heirs-requires : goal.name_heirs-requires
 name_heirs-requires c = c.requires.seat.1.list_is
+
+pub grant_seats-requires : goal.grant_seats-requires
+grant_seats-requires c = let same = c.name_heirs.ensures in record {
+  seat = (c.requires.seat.0, may_same c.args.self.now c.args.token.now c.name_heirs.new.token c.requires.seat.0 c.requires.seat.1 same);
+  seats = c.requires.seats ∙ ap (λ (m : Me). map (λ (w : Wait). w.id.seat) m.0.own.knows.sight.stands.hand) (sym same.1);
+}
+
+pub returns : goal.returns
+returns c h may = let same = c.name_heirs.ensures in
+    woken_since c.args.self.now c.args.token.now c.name_heirs.new.token c.grant_seats.new.token h may same
+    (c.grant_seats.ensures.rows h (may_same c.args.self.now c.args.token.now c.name_heirs.new.token h may same))

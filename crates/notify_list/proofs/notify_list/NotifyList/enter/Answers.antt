@@ -1,0 +1,122 @@
+use Rattle.std.proofs.Common.{ℕ, ◌++◌, [], ◌∷◌, true, false, refl, sym, ◌∙◌, arith}
+use Rattle.step_table.specs.ListTable.{wait_for}
+use Rattle.notify_list.specs.Walks.{Edited}
+use Rattle.notify_list.specs.Seats.{queue_of}
+use Rattle.notify_list.proofs.Owned.{low_word, owned}
+use Rattle.notify_list.proofs.Allowing.{goes_at}
+use Rattle.notify_list.proofs.Recording.{list_edited, gives_plain, gives_edited}
+use Rattle.notify_list.proofs.Queueing.{stands_locked, stands_looked, number_looked, record_looked, has_room, seat_at_once, waited_at_once}
+use Rattle.notify_list.proofs.Queueing.{granted_at_once, seat_parked, queued_it}
+use Rattle.notify_list.proofs.Answering.{is_sound}
+use Rattle.notify_list.proofs.Callers.{enters_at_once, enters_queued}
+use Rattle.notify_list.proofs.notify_list.NotifyList.enter.Goals as goal
+
+pub load-notified-requires : goal.load-notified-requires
+load-notified-requires c =
+    let x = c.self.inside in let s = c.requires.0 in let may = c.requires.1 in let n : ℕ = c.args.number in let t = c.args.token in
+    let at = may.locked.walked.list_is ∙ may.list_is ∙ sym c.self.view_is in (
+      omega arith,
+      (
+        owned x c.self.invariant t at,
+        (
+          low_word x c.self.invariant 1 (omega arith),
+          goes_at _ t.me 1 _ (stands_locked s n c.args.ticket may.holding t may.locked) (λ k. k) (λ e. absurd (omega arith))
+              (λ w k known. record { word = refl; there = tt; can = refl; becomes = refl }),
+        ),
+      ),
+    )
+
+pub return_lock-requires : goal.return_lock-requires
+return_lock-requires c =
+    let x = c.self.inside in let s = c.requires.0 in let may = c.requires.1 in let n : ℕ = c.args.number in
+    let word : ℕ = c.args.ticket in let H = may.holding in let t = c.args.token in let L = may.locked in
+    let u = c.load-notified.new.token in let v : ℕ = c.load-notified.result in let E = c.load-notified.ensures in
+    let at = (λ i. record { id = E.own i; setting = E.went.0.same.1 i }) ∙ L.walked.list_is ∙ may.list_is ∙ sym c.self.view_is in
+    let yes_it = sym c.less.ensures.less ∙ c.if-less.true in (
+      omega arith,
+      (
+        owned x c.self.invariant u at,
+        (
+          low_word x c.self.invariant 2 (omega arith),
+          gives_plain _ u _ (stands_looked s n word H t L u v E.went E.own true yes_it) (record_looked s n word H t L u v E.went E.own) refl
+              (λ w. (record { word = refl; there = tt; can = refl; becomes = refl }, refl)),
+        ),
+      ),
+    )
+
+pub invariant_of-result : goal.invariant_of-result
+invariant_of-result c =
+    let s = c.requires.0 in let may = c.requires.1 in let E = c.load-notified.ensures in let F = c.return_lock.ensures in
+    seat_at_once s c.args.number c.args.ticket may.holding c.args.token may.locked c.load-notified.new.token
+    c.load-notified.result E.went E.own c.return_lock.new.token (sym c.less.ensures.less ∙ c.if-less.true) F.went F.own
+
+pub returns-then-less-clause-rows : goal.returns-then-less-clause-rows
+returns-then-less-clause-rows c s may =
+    let E = c.load-notified.ensures in let F = c.return_lock.ensures in let found = sym c.less.ensures.less ∙ c.if-less.true in (
+      waited_at_once s c.args.number c.args.ticket may.holding c.args.token may.locked c.load-notified.new.token
+          c.load-notified.result E.went E.own c.return_lock.new.token found F.went F.own,
+      granted_at_once s c.args.number c.args.ticket may.holding c.args.token may.locked c.load-notified.new.token
+          c.load-notified.result E.went E.own c.return_lock.new.token found F.went F.own,
+    )
+
+pub returns-then-less-clause-caller : goal.returns-then-less-clause-caller
+returns-then-less-clause-caller c s may =
+    enters_at_once _ _ (is_sound c.return_lock.new.token c.args.number (invariant_of-result c).token_is) (returns-then-less-clause-rows c s may)
+
+pub insert-requires : goal.insert-requires
+insert-requires c =
+    let x = c.self.inside in let s = c.requires.0 in let may = c.requires.1 in let n : ℕ = c.args.number in
+    let word : ℕ = c.args.ticket in let H = may.holding in let t = c.args.token in let L = may.locked in
+    let u = c.load-notified.new.token in let v : ℕ = c.load-notified.result in let E = c.load-notified.ensures in
+    let at = (λ i. record { id = E.own i; setting = E.went.0.same.1 i }) ∙ L.walked.list_is ∙ may.list_is in
+    let no_it = sym c.less.ensures.less ∙ c.if-less.false in record {
+      seat = (at, record_looked s n word H t L u v E.went E.own);
+      room = has_room s n word H t L u v E.went E.own no_it;
+    }
+
+pub return_lock-requires-2 : goal.return_lock-requires-2
+return_lock-requires-2 c =
+    let x = c.self.inside in let s = c.requires.0 in let may = c.requires.1 in let n : ℕ = c.args.number in
+    let word : ℕ = c.args.ticket in let H = may.holding in let t = c.args.token in let L = may.locked in
+    let u = c.load-notified.new.token in let v : ℕ = c.load-notified.result in let E = c.load-notified.ensures in
+    let at = (λ i. record { id = E.own i; setting = E.went.0.same.1 i }) ∙ L.walked.list_is ∙ may.list_is ∙ sym c.self.view_is in
+    let no_it = sym c.less.ensures.less ∙ c.if-less.false in
+    let I : Edited u ((queue_of u) ++ wait_for u.me.0.own.number H.ticket ∷ []) c.insert.new.token = c.insert.ensures (wait_for u.me.0.own.number H.ticket)
+    (λ i. record { id = record { seat = (number_looked s n word H t L u v E.went E.own ∙ sym c.new-seat.ensures) i; turn = 0 }; ticket = H.word_is i }) in (
+      omega arith,
+      (
+        owned x c.self.invariant c.insert.new.token (list_edited u c.insert.new.token _ I ∙ at),
+        (
+          low_word x c.self.invariant 2 (omega arith),
+          gives_edited _ u c.insert.new.token _ (stands_looked s n word H t L u v E.went E.own false no_it)
+              ((queue_of u) ++ wait_for u.me.0.own.number H.ticket ∷ []) I refl
+              (λ w same. (record { word = refl; there = tt; can = refl; becomes = refl }, refl)),
+        ),
+      ),
+    )
+
+pub invariant_of-result-2 : goal.invariant_of-result-2
+invariant_of-result-2 c =
+    let s = c.requires.0 in let may = c.requires.1 in let n : ℕ = c.args.number in
+    let word : ℕ = c.args.ticket in let H = may.holding in let t = c.args.token in let L = may.locked in
+    let u = c.load-notified.new.token in let v : ℕ = c.load-notified.result in let E = c.load-notified.ensures in
+    let F = c.return_lock-2.ensures in
+    let no_it = sym c.less.ensures.less ∙ c.if-less.false in
+    let I : Edited u ((queue_of u) ++ wait_for u.me.0.own.number H.ticket ∷ []) c.insert.new.token = c.insert.ensures (wait_for u.me.0.own.number H.ticket)
+    (λ i. record { id = record { seat = (number_looked s n word H t L u v E.went E.own ∙ sym c.new-seat.ensures) i; turn = 0 }; ticket = H.word_is i }) in
+    seat_parked s n word H t L u v E.went E.own c.insert.new.token c.return_lock-2.new.token no_it I F.went F.own
+
+pub returns-clause-rows : goal.returns-clause-rows
+returns-clause-rows c s may =
+    let n : ℕ = c.args.number in
+    let word : ℕ = c.args.ticket in let H = may.holding in let t = c.args.token in let L = may.locked in
+    let u = c.load-notified.new.token in let v : ℕ = c.load-notified.result in let E = c.load-notified.ensures in
+    let F = c.return_lock-2.ensures in
+    let no_it = sym c.less.ensures.less ∙ c.if-less.false in
+    let I : Edited u ((queue_of u) ++ wait_for u.me.0.own.number H.ticket ∷ []) c.insert.new.token = c.insert.ensures (wait_for u.me.0.own.number H.ticket)
+    (λ i. record { id = record { seat = (number_looked s n word H t L u v E.went E.own ∙ sym c.new-seat.ensures) i; turn = 0 }; ticket = H.word_is i }) in
+    queued_it s n word H t L u v E.went E.own c.insert.new.token c.return_lock-2.new.token no_it I F.went F.own
+
+pub returns-clause-caller : goal.returns-clause-caller
+returns-clause-caller c s may =
+    enters_queued _ _ (is_sound c.return_lock-2.new.token c.args.number (invariant_of-result-2 c).token_is) (returns-clause-rows c s may)

@@ -1,0 +1,29 @@
+//! The rows that grant one ticket, under the lock.
+ghost use Rattle.std.specs.Prelude.{ℕ};
+ghost use Rattle.notify_list.specs.Granting.{MayGrant, GrantedOne, GrantsLast};
+
+use crate::notify_list::{LOCK, NOTIFY, NotifyList, grant_word};
+use crate::rows::Token;
+use running_rows::Here;
+use step_table::next_word;
+
+impl NotifyList {
+    /// O7 and O8, and O9 where the ticket's wait is in the list: its seat. Nobody is woken.
+    pub(crate) fn grant_one(&self, token: &mut Token, ticket: u64) -> Option<u16>
+        requires { (h : ℕ) × MayGrant self.now token.old h ticket }
+        ensures rows { (h : ℕ) → MayGrant self.now token.old h ticket
+            → GrantedOne token.old h ticket token.new }
+        ensures wait { GrantsLast self.now ticket result token.new }
+    {
+        // Granted before the wait is looked for: its seat may not have come to the lock yet, and will find
+        // the grant there.
+        self.words.store::<Here>(token, NOTIFY, next_word(ticket));
+        let waiter = self.remove(token, ticket);
+        // Given back before the waiter is told: told earlier, it would run into the lock that is still held.
+        self.words.return_lock(token, LOCK);
+        if let Some(seat) = waiter {
+            self.words.store_grant(token, grant_word(seat), 1);
+        }
+        waiter
+    }
+}

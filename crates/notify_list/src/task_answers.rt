@@ -1,0 +1,29 @@
+//! What the calls of a list for tasks answer.
+
+/// Why a call of a task did nothing, by number. The seat is as it was, but for the two looks of a notification
+/// that found the lock held.
+#[derive(Clone, Copy, Debug, PartialEq, Eq, Drop)]
+pub enum TaskRefused {
+    /// The seat stands in the middle of another call, or in the middle of none.
+    OtherCall = 1,
+    /// The list's lock stayed held.
+    Busy = 3,
+}
+
+/// What going to the lock with a ticket came to.
+#[derive(Clone, Copy, Debug, PartialEq, Eq, Drop)]
+pub enum TaskEntered {
+    /// The ticket was granted before.
+    AtOnce,
+    /// It wasn't, and the seat's wait is queued.
+    Queued,
+}
+
+/// What a look at a grant came to.
+#[derive(Clone, Copy, Debug, PartialEq, Eq, Drop)]
+pub enum TaskPolled {
+    /// Nothing was granted.
+    Still,
+    /// The ticket is granted.
+    Granted,
+}
