@@ -1,10 +1,10 @@
 //! A place on the heap, as C holds it.
 ghost use Rattle.std.specs.Prelude.{◌≡◌, List, [], ◌∷◌, length};
-ghost use Rattle.parklot_c.specs.declared.place.Place.{Place};
+ghost use Rattle.parklot_c.specs.declared.kept.Kept.{Kept};
 ghost use Rattle.parklot_c.specs.Cells.{places_coded, cell_owns};
 
 use crate::parts::Parts;
-use crate::place::Place;
+use crate::kept::Kept;
 use std::alloc::Global;
 use std::marker::Model;
 use std::ptr;
@@ -19,7 +19,7 @@ pub struct Opaque {
 #[derive(Drop)]
 pub struct Cell {
     pub(crate) ptr: *mut Opaque,
-    pub ghost places: { List Place } by { places_coded },
+    pub ghost places: { List Kept } by { places_coded },
 }
 
 impl Model for Cell {
@@ -27,7 +27,7 @@ impl Model for Cell {
 }
 
 impl Cell {
-    pub fn of(parts: Parts<Place, Global>) -> Cell
+    pub fn of(parts: Parts<Kept, Global>) -> Cell
         ensures { result.places ≡ parts.value ∷ [] }
     {
         let Parts { ptr, alloc: _ } = parts;
@@ -36,13 +36,13 @@ impl Cell {
         }
     }
 
-    pub fn into_parts(self, alloc: Global) -> Parts<Place, Global>
+    pub fn into_parts(self, alloc: Global) -> Parts<Kept, Global>
         requires { length self.places ≡ 1 }
         ensures { self.places ≡ result.value ∷ [] }
     {
         let Cell { ptr } = self;
         Parts {
-            ptr: ptr as *mut Place,
+            ptr: ptr as *mut Kept,
             alloc,
         }
     }
