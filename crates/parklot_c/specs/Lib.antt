@@ -7,3 +7,6 @@ pub mod ListPlaces
 pub mod Codes
 pub mod Answers
 pub mod Deals
+pub mod ListCodes
+pub mod ListAnswers
+pub mod ListDeals

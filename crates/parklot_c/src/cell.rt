@@ -3,8 +3,8 @@ ghost use Rattle.std.specs.Prelude.{◌≡◌, List, [], ◌∷◌, length};
 ghost use Rattle.parklot_c.specs.declared.kept.Kept.{Kept};
 ghost use Rattle.parklot_c.specs.Cells.{places_coded, cell_owns};
 
-use crate::parts::Parts;
 use crate::kept::Kept;
+use crate::parts::Parts;
 use std::alloc::Global;
 use std::marker::Model;
 use std::ptr;

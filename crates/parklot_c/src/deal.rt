@@ -101,7 +101,7 @@ pub fn deal_to_empty(
 }
 
 /// How many seats to ask for. What is above the limit must not be cut down to a number below it.
-fn seats_for(handles: usize) -> u32
+pub fn seats_for(handles: usize) -> u32
     ensures { result ≡ min 257 handles }
 {
     if handles > 256 { 257 } else { handles as u32 }

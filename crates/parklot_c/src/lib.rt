@@ -19,7 +19,15 @@ mod deal;
 mod handle;
 mod kept;
 mod lends;
+mod list;
+mod list_all;
+mod list_answers;
+mod list_calls;
+mod list_deal;
+mod list_handle;
 mod list_place;
+#[cfg(test)]
+mod list_tests;
 mod parts;
 mod place;
 mod some;
@@ -29,6 +37,7 @@ mod tests;
 use codes::{NO_SEAT, OK};
 pub use handle::SeatHandle;
 use kept::Kept;
+pub use list_handle::ListSeatHandle;
 use std::alloc::Global;
 use std::mem;
 
