@@ -6,16 +6,16 @@ use Rattle.std.proofs.BoxSteps.Form.{Bx}
 use Rattle.std.below.std_heap.specs.contracts.Global as Heap
 use Rattle.std.below.std_heap.specs.contracts.GlobalAllocator.TheImpl.{ghosts, dict}
 use Rattle.std.below.std_heap.proofs.Global.TheLaws as heap
-use Rattle.parklot_c.specs.contracts.place.Place as Place
-use Rattle.parklot_c.proofs.place.Place.TheLaws as place
+use Rattle.parklot_c.specs.contracts.kept.Kept as Kept
+use Rattle.parklot_c.proofs.kept.Kept.TheLaws as kept
 use Rattle.parklot_c.specs.contracts.parts.Parts as Parts
 use Rattle.parklot_c.specs.contracts.cell.Cell as Cell
 
 abbrev pub E : Bx
-E = record { row = Place.the_row; laws = place.the_row_laws; al = record { row = Heap.the_row; laws = heap.the_row_laws; g = ghosts; d = dict; drops = impl [] tnil dnil } }
+E = record { row = Kept.the_row; laws = kept.the_row_laws; al = record { row = Heap.the_row; laws = heap.the_row_laws; g = ghosts; d = dict; drops = impl [] tnil dnil } }
 
 abbrev pub FromParts : Slot 0
-FromParts = plain (λ _. Parts.the_row Place.the_row Heap.the_row ghosts)
+FromParts = plain (λ _. Parts.the_row Kept.the_row Heap.the_row ghosts)
 
 abbrev pub FromCell : Slot 0
 FromCell = plain (λ _. Cell.the_row)

@@ -1,7 +1,12 @@
 pub mod Cells
 pub mod Lent
 pub mod Seated
+pub mod ListSeated
 pub mod Places
+pub mod ListPlaces
 pub mod Codes
 pub mod Answers
 pub mod Deals
+pub mod ListCodes
+pub mod ListAnswers
+pub mod ListDeals

@@ -1,10 +1,10 @@
 //! A place on the heap, as C holds it.
 ghost use Rattle.std.specs.Prelude.{◌≡◌, List, [], ◌∷◌, length};
-ghost use Rattle.parklot_c.specs.declared.place.Place.{Place};
+ghost use Rattle.parklot_c.specs.declared.kept.Kept.{Kept};
 ghost use Rattle.parklot_c.specs.Cells.{places_coded, cell_owns};
 
+use crate::kept::Kept;
 use crate::parts::Parts;
-use crate::place::Place;
 use std::alloc::Global;
 use std::marker::Model;
 use std::ptr;
@@ -21,7 +21,7 @@ pub struct Opaque {
 #[derive(Drop)]
 pub struct Cell {
     pub(crate) ptr: *mut Opaque,
-    pub ghost places: { List Place } by { places_coded },
+    pub ghost places: { List Kept } by { places_coded },
 }
 
 impl Model for Cell {
@@ -30,7 +30,7 @@ impl Model for Cell {
 
 impl Cell {
     /// A cell that owns what the parts own.
-    pub fn of(parts: Parts<Place, Global>) -> Cell
+    pub fn of(parts: Parts<Kept, Global>) -> Cell
         ensures { result.places ≡ parts.value ∷ [] }
     {
         let Parts { ptr, alloc: _ } = parts;
@@ -40,13 +40,13 @@ impl Cell {
     }
 
     /// The parts of the place. The cell is gone then: so a place is freed once.
-    pub fn into_parts(self, alloc: Global) -> Parts<Place, Global>
+    pub fn into_parts(self, alloc: Global) -> Parts<Kept, Global>
         requires { length self.places ≡ 1 }
         ensures { self.places ≡ result.value ∷ [] }
     {
         let Cell { ptr } = self;
         Parts {
-            ptr: ptr as *mut Place,
+            ptr: ptr as *mut Kept,
             alloc,
         }
     }

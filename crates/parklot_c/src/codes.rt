@@ -22,6 +22,12 @@ pub const NOBODY: u32 = 8;
 pub const ONE: u32 = 9;
 /// A unit was taken for the seat that was woken.
 pub const HANDED: u32 = 10;
+/// Of a list: the ticket was granted before its wait.
+pub const AT_ONCE: u32 = 11;
+/// Of a list: the seat's wait is queued.
+pub const PARKED: u32 = 12;
+/// Of a list: a ticket was granted whose wait isn't queued, so that nobody is woken.
+pub const GRANTED: u32 = 13;
 
 /// The handle has no seat.
 pub const NO_SEAT: u32 = 100;
@@ -29,7 +35,7 @@ pub const NO_SEAT: u32 = 100;
 pub const OTHER_CALL: u32 = 101;
 /// The table has no such counter.
 pub const NO_COUNTER: u32 = 102;
-/// The root's lock stayed held.
+/// The lock stayed held, of the counter's root or of the list.
 pub const BUSY: u32 = 103;
 /// The seat may not add so many units more.
 pub const LIMIT: u32 = 104;

@@ -1,12 +1,13 @@
 //! How a table is made, and its seats dealt to handles.
 ghost use Rattle.std.specs.Prelude.{◌≡◌, All, Any, min, map, reverse, length, Some, IfOk, IsTrue, MatchBool, true, false};
 ghost use Rattle.std.specs.Arc.{arc_value};
-ghost use Rattle.parklot_c.specs.Places.{seat_of};
+ghost use Rattle.parklot_c.specs.Places.{kept_seat, seat_of};
 ghost use Rattle.parklot_c.specs.Deals.{Deals, DealsToEmpty};
 
 use crate::answers;
 use crate::codes::{FULL, NO_MEMORY, OK};
 use crate::handle::SeatHandle;
+use crate::kept::Kept;
 use crate::place::Place;
 use sema_table::{Settings, TaskSeat, TaskTable};
 use std::alloc::{AllocError, Global};
@@ -17,9 +18,9 @@ fn placed(
     alloc: Global,
     table: &Arc<TaskTable, Global>,
     seat: TaskSeat,
-) -> Result<Box<Place, Global>, AllocError>
+) -> Result<Box<Kept, Global>, AllocError>
     requires { seat.seat.table ≡ arc_value table.now }
-    ensures { IfOk result (λ place. place.value.seat ≡ Some seat) }
+    ensures { IfOk result (λ place. kept_seat place.value ≡ Some seat) }
 {
     let table = Arc::try_clone(table)?;
     let place = Place {
@@ -27,7 +28,7 @@ fn placed(
         seat: Some(seat),
         apart: [0; 16],
     };
-    Ok(Box::new(alloc, place)?)
+    Ok(Box::new(alloc, Kept::OfTable(place))?)
 }
 
 /// Each seat in a place, the last one first. Where memory lacks, those that stand already are freed.
@@ -35,9 +36,9 @@ fn placed_each(
     alloc: Global,
     table: &Arc<TaskTable, Global>,
     seats: Vec<TaskSeat>,
-) -> Result<Vec<Box<Place, Global>>, AllocError>
+) -> Result<Vec<Box<Kept, Global>>, AllocError>
     requires { All (λ s. s.seat.table ≡ arc_value table.now) seats.items }
-    ensures { IfOk result (λ places. map (λ b. b.value.seat) places.items ≡ reverse (map Some seats.items)) }
+    ensures { IfOk result (λ places. map (λ b. kept_seat b.value) places.items ≡ reverse (map Some seats.items)) }
 {
     let mut places = Vec::with_capacity(alloc, seats.len())?;
     let mut seats = seats;
@@ -48,9 +49,9 @@ fn placed_each(
 }
 
 /// Gives each handle the place that is last.
-fn give(places: Vec<Box<Place, Global>>, handles: &mut [SeatHandle])
+fn give(places: Vec<Box<Kept, Global>>, handles: &mut [SeatHandle])
     requires { length places.items ≡ length handles.old }
-    ensures { map (λ h. seat_of h.cell.places) handles.new ≡ reverse (map (λ b. b.value.seat) places.items) }
+    ensures { map (λ h. seat_of h.cell.places) handles.new ≡ reverse (map (λ b. kept_seat b.value) places.items) }
 {
     let mut places = places;
     for handle in handles.iter_mut() {
@@ -100,7 +101,7 @@ pub fn deal_to_empty(
 }
 
 /// How many seats to ask for. What is above the limit must not be cut down to a number below it.
-fn seats_for(handles: usize) -> u32
+pub fn seats_for(handles: usize) -> u32
     ensures { result ≡ min 257 handles }
 {
     if handles > 256 { 257 } else { handles as u32 }

@@ -1,11 +1,11 @@
 //! What a caller has of a seat.
 ghost use Rattle.std.specs.Prelude.{◌≡◌, length, None};
 ghost use Rattle.parklot_c.specs.Cells.{count};
-ghost use Rattle.parklot_c.specs.Places.{seat_of};
+ghost use Rattle.parklot_c.specs.Places.{kept_seat, seat_of};
 
 use crate::cell::Cell;
+use crate::kept::Kept;
 use crate::parts::Parts;
-use crate::place::Place;
 use std::alloc::Global;
 
 /// A seat, or none: 16 bytes, which begin as zeros.
@@ -29,8 +29,8 @@ impl SeatHandle {
     }
 
     /// The handle of the seat in this place.
-    pub(crate) fn of(place: Box<Place, Global>) -> SeatHandle
-        ensures { seat_of result.cell.places ≡ place.value.seat }
+    pub(crate) fn of(place: Box<Kept, Global>) -> SeatHandle
+        ensures { seat_of result.cell.places ≡ kept_seat place.value }
     {
         SeatHandle {
             is_full: true,

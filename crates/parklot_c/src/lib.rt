@@ -17,7 +17,17 @@ mod cell;
 mod codes;
 mod deal;
 mod handle;
+mod kept;
 mod lends;
+mod list;
+mod list_all;
+mod list_answers;
+mod list_calls;
+mod list_deal;
+mod list_handle;
+mod list_place;
+#[cfg(test)]
+mod list_tests;
 mod parts;
 mod place;
 mod some;
@@ -26,6 +36,8 @@ mod tests;
 
 use codes::{NO_SEAT, OK};
 pub use handle::SeatHandle;
+use kept::Kept;
+pub use list_handle::ListSeatHandle;
 use std::alloc::Global;
 use std::mem;
 
@@ -53,7 +65,10 @@ pub extern "C" fn parklot_free(alloc: Global, seat: &mut SeatHandle) -> u32
     if !seat.is_full {
         return NO_SEAT;
     }
-    let code = seat.cell.place().may_leave();
+    let Kept::OfTable(place) = seat.cell.place() else {
+        return NO_SEAT;
+    };
+    let code = place.may_leave();
     if code != OK {
         return code;
     }
@@ -72,7 +87,10 @@ pub extern "C" fn parklot_number(seat: &mut SeatHandle, number: &mut u32) -> u32
     if !seat.is_full {
         return NO_SEAT;
     }
-    seat.cell.place().number(number)
+    let Kept::OfTable(place) = seat.cell.place() else {
+        return NO_SEAT;
+    };
+    place.number(number)
 }
 
 /// Takes a unit if there is one: TAKEN, ZERO or LOST.
@@ -83,7 +101,10 @@ pub extern "C" fn parklot_try_acquire(seat: &mut SeatHandle, counter: u32) -> u3
     if !seat.is_full {
         return NO_SEAT;
     }
-    seat.cell.place().try_acquire(counter)
+    let Kept::OfTable(place) = seat.cell.place() else {
+        return NO_SEAT;
+    };
+    place.try_acquire(counter)
 }
 
 /// Goes to the lock of the counter's root, and sleeps if there is no unit: TAKEN, ASLEEP or BUSY.
@@ -94,7 +115,10 @@ pub extern "C" fn parklot_enter(seat: &mut SeatHandle, counter: u32, lifo: bool)
     if !seat.is_full {
         return NO_SEAT;
     }
-    seat.cell.place().enter(counter, lifo)
+    let Kept::OfTable(place) = seat.cell.place() else {
+        return NO_SEAT;
+    };
+    place.enter(counter, lifo)
 }
 
 /// Looks whether the wait of a seat that sleeps was granted: ASLEEP, WOKEN or HANDED.
@@ -105,7 +129,10 @@ pub extern "C" fn parklot_poll(seat: &mut SeatHandle) -> u32
     if !seat.is_full {
         return NO_SEAT;
     }
-    seat.cell.place().poll()
+    let Kept::OfTable(place) = seat.cell.place() else {
+        return NO_SEAT;
+    };
+    place.poll()
 }
 
 /// The try of a seat that was woken: TAKEN, or ZERO, and then it enters again.
@@ -116,7 +143,10 @@ pub extern "C" fn parklot_retry(seat: &mut SeatHandle) -> u32
     if !seat.is_full {
         return NO_SEAT;
     }
-    seat.cell.place().retry()
+    let Kept::OfTable(place) = seat.cell.place() else {
+        return NO_SEAT;
+    };
+    place.retry()
 }
 
 /// Adds a unit: DONE, OWES or LIMIT.
@@ -127,7 +157,10 @@ pub extern "C" fn parklot_post(seat: &mut SeatHandle, counter: u32) -> u32
     if !seat.is_full {
         return NO_SEAT;
     }
-    seat.cell.place().post(counter)
+    let Kept::OfTable(place) = seat.cell.place() else {
+        return NO_SEAT;
+    };
+    place.post(counter)
 }
 
 /// Adds so many units at once: DONE, OWES, LIMIT or UNITS.
@@ -138,7 +171,10 @@ pub extern "C" fn parklot_post_many(seat: &mut SeatHandle, counter: u32, units: 
     if !seat.is_full {
         return NO_SEAT;
     }
-    seat.cell.place().post_many(counter, units)
+    let Kept::OfTable(place) = seat.cell.place() else {
+        return NO_SEAT;
+    };
+    place.post_many(counter, units)
 }
 
 /// The rest of a release: takes the first wait out and wakes its seat, whose number is told. NOBODY, ONE,
@@ -150,7 +186,10 @@ pub extern "C" fn parklot_wake(seat: &mut SeatHandle, handoff: bool, woken: &mut
     if !seat.is_full {
         return NO_SEAT;
     }
-    seat.cell.place().wake(handoff, woken)
+    let Kept::OfTable(place) = seat.cell.place() else {
+        return NO_SEAT;
+    };
+    place.wake(handoff, woken)
 }
 
 /// The rest of a release of many units: takes as many waits out, or fewer if there are no more, and wakes
@@ -167,7 +206,10 @@ pub extern "C" fn parklot_wake_some(
     if !seat.is_full {
         return NO_SEAT;
     }
-    seat.cell.place().wake_some(woken, count)
+    let Kept::OfTable(place) = seat.cell.place() else {
+        return NO_SEAT;
+    };
+    place.wake_some(woken, count)
 }
 
 /// The number of a counter.
@@ -178,7 +220,10 @@ pub extern "C" fn parklot_value(seat: &mut SeatHandle, counter: u32, value: &mut
     if !seat.is_full {
         return NO_SEAT;
     }
-    seat.cell.place().value(counter, value)
+    let Kept::OfTable(place) = seat.cell.place() else {
+        return NO_SEAT;
+    };
+    place.value(counter, value)
 }
 
 /// How many waits are queued at a counter's root.
@@ -193,5 +238,8 @@ pub extern "C" fn parklot_waiters_of_root(
     if !seat.is_full {
         return NO_SEAT;
     }
-    seat.cell.place().waiters_of_root(counter, waits)
+    let Kept::OfTable(place) = seat.cell.place() else {
+        return NO_SEAT;
+    };
+    place.waiters_of_root(counter, waits)
 }

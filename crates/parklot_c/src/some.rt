@@ -13,7 +13,7 @@ use sema_table::{TaskRefused, WokenSeats};
 const MOST_WOKEN: usize = 256;
 
 /// Writes the numbers to the beginning of the room.
-fn write(seats: &[u16], room: &mut [u32])
+pub fn write(seats: &[u16], room: &mut [u32])
     requires { length seats.now ≤ length room.old }
     ensures { take (length seats.now) room.new ≡ seats.now }
 {

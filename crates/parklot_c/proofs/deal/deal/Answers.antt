@@ -6,6 +6,7 @@ use Rattle.sema_table.specs.declared.task_seat.TaskStage.TheVariants.{Resting}
 use Rattle.sema_table.specs.Seats.{SeatModel}
 use Rattle.sema_table.specs.TaskSeats.{TaskModel}
 use Rattle.sema_table.specs.Making.{new_seat}
+use Rattle.parklot_c.specs.Places.{kept_seat}
 use Rattle.parklot_c.proofs.deal.deal.Goals as goal
 
 pub returns-in-Err : goal.returns-in-Err
@@ -27,7 +28,7 @@ give-requires c =
     let long : length seats ≡ c.seats_for-seats.result = ap length ok.2
     ∙ length-map ok.0 (λ (s : SeatModel). record { seat = s; stage = Resting })
     ∙ ap length ok.1.seats_are ∙ length-map-range_with_len (new_seat t) 0 c.seats_for-seats.result in
-    let placed = sym (length-map c.in-Ok-placed_each.places.items (λ b. b.value.seat)) ∙ ap length c.in-Ok-placed_each.ensures
+    let placed = sym (length-map c.in-Ok-placed_each.places.items (λ b. kept_seat b.value)) ∙ ap length c.in-Ok-placed_each.ensures
     ∙ length-reverse (map (λ (s : TaskModel). Some s) seats) ∙ length-map seats (λ (s : TaskModel). Some s) in
     let asked = c.seats_for-seats.ensures in
     omega arith

@@ -12,9 +12,9 @@ use denote.Struct.Owning.{shape, fields, to}
 use denote.Param.Send.{IsSend, AllSend, Quiet, part_keyless, owning_send, struct_send, sendable}
 use Rattle.std.proofs.Crossing.{frees}
 use Rattle.parklot_c.specs.Cells.{cell_owns}
-use Rattle.parklot_c.specs.contracts.place.Place as Place
-use Rattle.parklot_c.proofs.place.Place.TheSendSync.{the_send as place}
-use Rattle.parklot_c.specs.declared.place.Place as declared
+use Rattle.parklot_c.specs.contracts.kept.Kept as Kept
+use Rattle.parklot_c.proofs.kept.Kept.TheSendSync.{the_send as kept}
+use Rattle.parklot_c.specs.declared.kept.Kept as declared
 use Rattle.parklot_c.specs.contracts.cell.Cell.{the_row, the_type}
 
 quiet : {D X : Type 0} (to : D → X) (e : Exit X) → Quiet e → Quiet (hidden (under to e))
@@ -25,9 +25,9 @@ lies : (R : RattleType) → IsSend R → (p : Ptr) (x : R.Denot) → Keyless (li
 lies R s (block_ptr b o) x = part_keyless R s full_share x b o
 lies R s null_ptr x = tt
 
-owned : (p : Ptr) (xs : List declared.Place) → Keyless (cell_owns p xs)
+owned : (p : Ptr) (xs : List declared.Kept) → Keyless (cell_owns p xs)
 owned p [] = tt
-owned p (x ∷ xs) = (lies Place.the_row place p x, frees.frees (record { memory = record { seal = tt } }) (raw (lone Place.the_row.mir)) p)
+owned p (x ∷ xs) = (lies Kept.the_row kept p x, frees.frees (record { memory = record { seal = tt } }) (raw (lone Kept.the_row.mir)) p)
 
 pub send : IsSend the_row
 send =

@@ -1,0 +1,14 @@
+use Rattle.std.proofs.Common.{◌≡◌, ◌++◌, All, List, length, map, reverse, Some}
+use Rattle.std.specs.Arc.{arc_value}
+use Rattle.notify_list.specs.TaskSeats.{TaskModel}
+use Rattle.parklot_c.specs.ListPlaces.{kept_seat}
+use Rattle.parklot_c.proofs.list_deal.placed_each.Given as goal
+
+abbrev pub invariant-loop-seat : goal.invariant-loop-seat
+invariant-loop-seat l =
+    All (λ s. s.seat.list ≡ arc_value l.list) l.seats.items
+    × (map (λ b. kept_seat b.value) l.places.items ++ reverse (map (λ (s : TaskModel). Some s) l.seats.items)
+    ≡ reverse (map (λ (s : TaskModel). Some s) l.fn.seats.items))
+
+abbrev pub decreases-loop-seat : goal.decreases-loop-seat
+decreases-loop-seat l = length l.seats.items

@@ -1,0 +1,104 @@
+//! How a list is made, and its seats dealt to handles.
+ghost use Rattle.std.specs.Prelude.{◌≡◌, All, Any, min, map, reverse, length, Some, IfOk, MatchBool, true, false};
+ghost use Rattle.std.specs.Arc.{arc_value};
+ghost use Rattle.parklot_c.specs.ListPlaces.{kept_seat, seat_of};
+ghost use Rattle.parklot_c.specs.ListDeals.{Deals, DealsToEmpty};
+
+use crate::codes::{FULL, NO_MEMORY, OK};
+use crate::kept::Kept;
+use crate::list_handle::ListSeatHandle;
+use crate::list_place::ListPlace;
+use crate::{deal, list_answers};
+use notify_list::{TaskList, TaskListSeat};
+use std::alloc::{AllocError, Global};
+use std::sync::Arc;
+
+/// A seat in a place of its own on the heap.
+fn placed(
+    alloc: Global,
+    list: &Arc<TaskList, Global>,
+    seat: TaskListSeat,
+) -> Result<Box<Kept, Global>, AllocError>
+    requires { seat.seat.list ≡ arc_value list.now }
+    ensures { IfOk result (λ place. kept_seat place.value ≡ Some seat) }
+{
+    let list = Arc::try_clone(list)?;
+    let place = ListPlace {
+        list,
+        seat: Some(seat),
+        apart: [0; 16],
+    };
+    Ok(Box::new(alloc, Kept::OfList(place))?)
+}
+
+/// Each seat in a place, the last one first. Where memory lacks, those that stand already are freed.
+fn placed_each(
+    alloc: Global,
+    list: &Arc<TaskList, Global>,
+    seats: Vec<TaskListSeat>,
+) -> Result<Vec<Box<Kept, Global>>, AllocError>
+    requires { All (λ s. s.seat.list ≡ arc_value list.now) seats.items }
+    ensures { IfOk result (λ places. map (λ b. kept_seat b.value) places.items ≡ reverse (map Some seats.items)) }
+{
+    let mut places = Vec::with_capacity(alloc, seats.len())?;
+    let mut seats = seats;
+    while let Some(seat) = seats.pop() {
+        places.push(placed(alloc, list, seat)?)?;
+    }
+    Ok(places)
+}
+
+/// Gives each handle the place that is last.
+fn give(places: Vec<Box<Kept, Global>>, handles: &mut [ListSeatHandle])
+    requires { length places.items ≡ length handles.old }
+    ensures { map (λ h. seat_of h.cell.places) handles.new ≡ reverse (map (λ b. kept_seat b.value) places.items) }
+{
+    let mut places = places;
+    for handle in handles.iter_mut() {
+        let Some(place) = places.pop() else {
+            unreachable!()
+        };
+        *handle = ListSeatHandle::of(place);
+    }
+}
+
+/// Whether no handle has a seat.
+fn are_empty(handles: &[ListSeatHandle]) -> bool
+    ensures { MatchBool result (All (λ h. h.is_full ≡ false) handles.now) (Any (λ h. h.is_full ≡ true) handles.now) }
+{
+    for handle in handles {
+        if handle.is_full {
+            return false;
+        }
+    }
+    true
+}
+
+/// Makes a list, and gives each of `handles` one of its seats, in their order, where none has one yet.
+pub fn deal_to_empty(alloc: Global, first: u64, handles: &mut [ListSeatHandle]) -> u32
+    ensures { DealsToEmpty first handles.old result handles.new }
+{
+    if !are_empty(handles) {
+        return FULL;
+    }
+    deal(alloc, first, handles)
+}
+
+/// Makes a list, and gives each of `handles` one of its seats, in their order.
+fn deal(alloc: Global, first: u64, handles: &mut [ListSeatHandle]) -> u32
+    ensures { Deals first handles.old result handles.new }
+{
+    let seats = deal::seats_for(handles.len());
+    let (list, seats) = match TaskList::starting_at(alloc, first, seats) {
+        Ok(made) => made,
+        Err(refused) => return list_answers::of_setup(refused),
+    };
+    let Ok(list) = Arc::new(alloc, list) else {
+        return NO_MEMORY;
+    };
+    let Ok(places) = placed_each(alloc, &list, seats) else {
+        return NO_MEMORY;
+    };
+    give(places, handles);
+    OK
+}

@@ -1,0 +1,40 @@
+//! What a caller has of a list's seat.
+ghost use Rattle.std.specs.Prelude.{◌≡◌, length, None};
+ghost use Rattle.parklot_c.specs.Cells.{count};
+ghost use Rattle.parklot_c.specs.ListPlaces.{kept_seat, seat_of};
+
+use crate::cell::Cell;
+use crate::kept::Kept;
+use crate::parts::Parts;
+use std::alloc::Global;
+
+/// A seat at a list, or none: 16 bytes, which begin as zeros.
+#[repr(C)]
+#[derive(Drop)]
+pub struct ListSeatHandle {
+    pub(crate) is_full: bool,
+    pub(crate) cell: Cell,
+    pub ghost tied: { length cell.places ≡ count is_full },
+}
+
+impl ListSeatHandle {
+    /// A handle with no seat, as it begins.
+    pub(crate) fn empty() -> ListSeatHandle
+        ensures { seat_of result.cell.places ≡ None }
+    {
+        ListSeatHandle {
+            is_full: false,
+            cell: Cell::none(),
+        }
+    }
+
+    /// The handle of the seat in this place.
+    pub(crate) fn of(place: Box<Kept, Global>) -> ListSeatHandle
+        ensures { seat_of result.cell.places ≡ kept_seat place.value }
+    {
+        ListSeatHandle {
+            is_full: true,
+            cell: Cell::of(Parts::of(place)),
+        }
+    }
+}
