@@ -43,8 +43,8 @@ uint32_t parklot_list_poll(struct parklot_list_seat *seat);
    was parked, *woken says which seat. NOBODY, GRANTED, ONE, BUSY. */
 uint32_t parklot_list_one(struct parklot_list_seat *seat, uint32_t *woken);
 
-/* Grants all tickets, and writes the numbers of those that were parked, *count of them. There has to be room for as many
-   as the list has seats. DONE, BUSY, ROOM. */
+/* Grants all tickets, and writes the numbers of those that were parked, *count of them. There has to be room for 256. BUSY:
+   the seat has begun, and can't do anything else: call it again, and it goes on. DONE, BUSY, ROOM. */
 uint32_t parklot_list_all(struct parklot_list_seat *seat, uint32_t *woken, size_t room, uint32_t *count);
 
 /* Whether all tickets are granted: one look. OK. */

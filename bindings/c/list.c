@@ -140,9 +140,9 @@ static void wait_for_a_grant(uint32_t me)
 
 static void tell_all(uint32_t me)
 {
-    uint32_t answer, count, woken[SEATS];
+    uint32_t answer, count, woken[256];
 
-    while ((answer = parklot_list_all(&seats[me], woken, SEATS, &count)) == PARKLOT_BUSY)
+    while ((answer = parklot_list_all(&seats[me], woken, 256, &count)) == PARKLOT_BUSY)
         sched_yield();
     must(answer == PARKLOT_DONE, "parklot_list_all", answer);
     for (uint32_t at = 0; at < count; at++)
