@@ -25,6 +25,11 @@ fn is(rt: &impl Abort, code: u32, wanted: u32) {
     assert!(rt; code == wanted);
 }
 
+/// What a caller's other thread gets.
+fn crosses<T: Send>(handle: T) -> T {
+    handle
+}
+
 /// Frees a seat that rests.
 fn free(rt: &impl Abort, alloc: Global, seat: &mut SeatHandle) {
     is(rt, parklot_free(alloc, seat), OK);
@@ -39,6 +44,7 @@ fn unit_is_taken_and_brought(rt: HostRuntime) {
     is(&rt, parklot_try_acquire(&mut one, 0), TAKEN);
     is(&rt, parklot_try_acquire(&mut two, 0), ZERO);
     is(&rt, parklot_post(&mut one, 0), DONE);
+    let mut two = crosses(two);
     let mut value = 9;
     is(&rt, parklot_value(&mut two, 0, &mut value), OK);
     assert!(&rt; value == 1);
