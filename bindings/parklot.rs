@@ -1,4 +1,4 @@
-//! The table of counters for Rust programs: `parklot.h` with types. One file; take it in by `#[path = ".."] mod parklot;`, and
+//! The table of counters, and the notify list, for Rust programs: `parklot.h` and `parklot_list.h` with types. One file; take it in by `#[path = ".."] mod parklot;`, and
 //! link libparklot_c.a and heap.c.
 //!
 //! A seat in the middle of a call is the same `Seat`, and a call that it isn't in is refused while the program runs:
@@ -48,6 +48,15 @@ unsafe extern "C" {
     fn parklot_value(seat: *mut Raw, counter: u32, value: *mut u64) -> u32;
     fn parklot_waiters_of_root(seat: *mut Raw, counter: u32, waits: *mut u64) -> u32;
     fn parklot_free(seat: *mut Raw) -> u32;
+    fn parklot_list_new(first: u64, seats: *mut Raw, count: usize) -> u32;
+    fn parklot_list_number(seat: *mut Raw, number: *mut u32) -> u32;
+    fn parklot_list_add(seat: *mut Raw, ticket: *mut u64) -> u32;
+    fn parklot_list_try_wait(seat: *mut Raw) -> u32;
+    fn parklot_list_poll(seat: *mut Raw) -> u32;
+    fn parklot_list_one(seat: *mut Raw, woken: *mut u32) -> u32;
+    fn parklot_list_all(seat: *mut Raw, woken: *mut u32, room: usize, count: *mut u32) -> u32;
+    fn parklot_list_quiet(seat: *mut Raw, quiet: *mut bool) -> u32;
+    fn parklot_list_free(seat: *mut Raw) -> u32;
 }
 
 /// Why nothing was done.
@@ -332,5 +341,146 @@ impl Drop for Seat {
         // SAFETY: `&mut self` as above. A seat that parklot_new refused to fill, or one that is in the middle of a call, is
         // refused here with nothing done: then nothing is freed that anybody may still reach.
         unsafe { parklot_free(&mut self.raw) };
+    }
+}
+
+/// What `try_wait` did.
+#[derive(Clone, Copy, Debug, PartialEq, Eq)]
+pub enum Waited {
+    /// The ticket was granted before.
+    AtOnce,
+    /// The seat is queued: its task sleeps until it is named, and then polls.
+    Parked,
+    /// Nothing was done, and the seat holds its ticket still: again, a little later.
+    Busy,
+}
+
+/// What `poll` of a list saw.
+#[derive(Clone, Copy, Debug, PartialEq, Eq)]
+pub enum Granted {
+    NotYet,
+    /// The ticket is granted.
+    Now,
+}
+
+/// What `one` did.
+#[derive(Clone, Copy, Debug, PartialEq, Eq)]
+#[must_use = "whom it names has to be made ready to run"]
+pub enum Notified {
+    /// All tickets are granted.
+    Nobody,
+    /// The least ticket was granted, whose owner isn't parked yet.
+    Early,
+    /// It was granted, and this seat is parked with it.
+    One(u32),
+    /// Nothing was done: again, a little later.
+    Busy,
+}
+
+/// All seats of a new list whose first ticket is this one, in the order of their numbers. The list lives in them, and ends with
+/// the last.
+pub fn list_seats(first: u64, count: usize) -> Result<Vec<ListSeat>, Refused> {
+    if count > 256 {
+        return Err(Refused::Seats);
+    }
+    let mut seats: Vec<ListSeat> = (0..count).map(|_| ListSeat { raw: Raw::EMPTY }).collect();
+    // SAFETY: `ListSeat` is transparent, so a Vec of them is an array of `count` structs that are zeros, and it is new.
+    match unsafe { parklot_list_new(first, seats.as_mut_ptr().cast::<Raw>(), count) } {
+        0 => Ok(seats),
+        other => Err(refusal(other)),
+    }
+}
+
+/// One task's place at a notify list.
+#[repr(transparent)]
+pub struct ListSeat {
+    raw: Raw,
+}
+
+// SAFETY: as of `Seat`.
+unsafe impl Send for ListSeat {}
+
+// SAFETY of all calls below: as of `Seat`'s, for a full seat of `parklot_list_new`.
+impl ListSeat {
+    /// Its number, by which others name it.
+    pub fn number(&mut self) -> Result<u32, Refused> {
+        let mut number = 0;
+        // SAFETY: see above.
+        match unsafe { parklot_list_number(&mut self.raw, &mut number) } {
+            0 => Ok(number),
+            other => Err(refusal(other)),
+        }
+    }
+
+    /// Takes the next ticket; `try_wait` is the seat's next call.
+    pub fn add(&mut self) -> Result<u64, Refused> {
+        let mut ticket = 0;
+        // SAFETY: see above.
+        match unsafe { parklot_list_add(&mut self.raw, &mut ticket) } {
+            0 => Ok(ticket),
+            other => Err(refusal(other)),
+        }
+    }
+
+    /// Waits with the ticket. Another thread may name the seat before this has returned.
+    pub fn try_wait(&mut self) -> Result<Waited, Refused> {
+        // SAFETY: see above.
+        match unsafe { parklot_list_try_wait(&mut self.raw) } {
+            11 => Ok(Waited::AtOnce),
+            12 => Ok(Waited::Parked),
+            103 => Ok(Waited::Busy),
+            other => Err(refusal(other)),
+        }
+    }
+
+    pub fn poll(&mut self) -> Result<Granted, Refused> {
+        // SAFETY: see above.
+        match unsafe { parklot_list_poll(&mut self.raw) } {
+            6 => Ok(Granted::NotYet),
+            7 => Ok(Granted::Now),
+            other => Err(refusal(other)),
+        }
+    }
+
+    /// Grants the least ticket that isn't granted.
+    pub fn one(&mut self) -> Result<Notified, Refused> {
+        let mut woken = 0;
+        // SAFETY: see above.
+        match unsafe { parklot_list_one(&mut self.raw, &mut woken) } {
+            8 => Ok(Notified::Nobody),
+            13 => Ok(Notified::Early),
+            9 => Ok(Notified::One(woken)),
+            103 => Ok(Notified::Busy),
+            other => Err(refusal(other)),
+        }
+    }
+
+    /// Grants all tickets, and writes who was parked to the beginning of `woken`, which has room for 256. A seat that was busy
+    /// calls this again, and goes on.
+    pub fn all(&mut self, woken: &mut [u32]) -> Result<WokeSome, Refused> {
+        let mut count = 0;
+        // SAFETY: see above; `woken` is a slice with room for as many numbers as it is told, and nothing else is in it.
+        match unsafe { parklot_list_all(&mut self.raw, woken.as_mut_ptr(), woken.len(), &mut count) } {
+            4 => Ok(WokeSome::Done(count as usize)),
+            103 => Ok(WokeSome::Busy),
+            other => Err(refusal(other)),
+        }
+    }
+
+    /// Whether all tickets are granted: one look.
+    pub fn quiet(&mut self) -> Result<bool, Refused> {
+        let mut quiet = false;
+        // SAFETY: see above.
+        match unsafe { parklot_list_quiet(&mut self.raw, &mut quiet) } {
+            0 => Ok(quiet),
+            other => Err(refusal(other)),
+        }
+    }
+}
+
+impl Drop for ListSeat {
+    fn drop(&mut self) {
+        // SAFETY: as of `Seat`.
+        unsafe { parklot_list_free(&mut self.raw) };
     }
 }

@@ -3,7 +3,7 @@
 #[path = "../parklot.rs"]
 mod parklot;
 
-use parklot::{Entered, Polled, Posted, Refused, Retried, Seat, Table, Tried, Woke, WokeSome};
+use parklot::{Entered, Polled, Posted, Refused, Retried, Seat, Table, Tried, Woke, WokeSome, list_seats};
 use std::sync::atomic::{AtomicBool, AtomicU64, Ordering::SeqCst};
 use std::sync::{Arc, OnceLock};
 use std::thread::{self, Thread};
@@ -176,8 +176,30 @@ fn answers() -> Result<(), Refused> {
     Ok(())
 }
 
+/// Tickets of a list, from its first one on.
+fn list_answers() -> Result<(), Refused> {
+    let mut seats = list_seats(7, 3)?;
+    let [one, two, three] = &mut seats[..] else { panic!("three seats") };
+    println!("list: tickets {:?} {:?}, quiet {:?}", one.add(), two.add(), three.quiet());
+    println!("wait: {:?}, then {:?}", one.try_wait(), one.poll());
+    println!("one: {:?}, poll: {:?}", three.one(), one.poll());
+    println!("one: {:?}, wait: {:?}", three.one(), two.try_wait());
+    println!("one: {:?}, quiet {:?}", three.one(), three.quiet());
+    println!("not the call: {:?} {:?}", one.poll(), one.try_wait());
+    println!("tickets {:?} {:?}", one.add(), two.add());
+    println!("wait: {:?} {:?}", two.try_wait(), one.try_wait());
+    let mut woken = [0; 256];
+    println!("too little room: {:?}", three.all(&mut woken[..255]));
+    let WokeSome::Done(count) = three.all(&mut woken)? else { panic!("nobody holds the lock") };
+    println!("all: {:?}, poll: {:?} {:?}", &woken[..count], one.poll(), two.poll());
+    println!("numbers: {:?} {:?} {:?}", one.number(), two.number(), three.number());
+    println!("no list: {:?} {:?}", list_seats(0, 0).err(), list_seats(0, 257).err());
+    Ok(())
+}
+
 fn main() -> Result<(), Refused> {
     answers()?;
+    list_answers()?;
     lock()?;
     ping_pong()
 }
