@@ -61,6 +61,7 @@ impl Cell {
     }
 }
 
-// SAFETY: a cell owns its place and shares it with nobody, and a place may go to another thread: the table is
-// shared behind its `Arc`, and the seat is used by one thread at a time. Proved in `proofs/cell/Cell/TheSendSync`.
+// SAFETY: a cell owns its place and shares it with nobody, and a place may go to another thread: the table or
+// list is shared behind its `Arc`, and the seat is used by one thread at a time. Proved in
+// `proofs/cell/Cell/TheSendSync`.
 unsafe impl Send for Cell {}

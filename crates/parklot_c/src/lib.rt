@@ -1,5 +1,5 @@
-//! The semaphore table for programs in C, C++ and Rust: a seat is kept in a cell on the heap, and each call
-//! answers a code.
+//! The semaphore table and the notify list for programs in C, C++ and Rust: a seat is kept in a cell on the
+//! heap, and each call answers a code.
 #![tactic(auto)]
 
 ghost use Rattle.sema_table.specs.Tasks.{TriesByTask, PostsByTask, ReadsByTask, CountsByTask, PostsManyByTask};

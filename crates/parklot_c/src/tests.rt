@@ -25,7 +25,8 @@ fn is(rt: &impl Abort, code: u32, wanted: u32) {
     assert!(rt; code == wanted);
 }
 
-/// What a caller's other thread gets.
+/// What a caller's other thread gets. A library's check proves of itself that handles are `Send`; that of the
+/// tests only where one asks for it, as here, and without it the proof of `Cell`'s has nothing to stand on.
 fn crosses<T: Send>(handle: T) -> T {
     handle
 }

@@ -1,4 +1,4 @@
-use Rattle.std.proofs.Common.{◌≡◌, ◌+◌, arith, rules, ◌∙◌, length}
+use Rattle.std.proofs.Common.{arith, rules}
 use Rattle.parklot_c.specs.Places.{kept_seat, seat_of}
 use Rattle.parklot_c.proofs.Dealing.{one_given}
 use Rattle.parklot_c.proofs.deal.give.Goals as goal

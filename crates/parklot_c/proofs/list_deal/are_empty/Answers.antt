@@ -1,4 +1,4 @@
-use Rattle.std.proofs.Common.{◌≡◌, ◌<◌, ℕ, false, arith, sym, ap, refl, ◌∙◌, get_or, below_more, length}
+use Rattle.std.proofs.Common.{◌≡◌, false, arith, sym, ap, refl, ◌∙◌, get_or, below_more, length}
 use Rattle.std.proofs.lemmas.List.{get_or_read_under}
 use Rattle.parklot_c.specs.declared.list_handle.ListSeatHandle.{ListSeatHandle}
 use Rattle.parklot_c.proofs.list_deal.are_empty.Goals as goal

@@ -1,4 +1,4 @@
-use Rattle.std.proofs.Common.{◌≡◌, ◌++◌, All, List, length, map, reverse, Some}
+use Rattle.std.proofs.Common.{◌≡◌, ◌++◌, All, length, map, reverse, Some}
 use Rattle.std.specs.Arc.{arc_value}
 use Rattle.notify_list.specs.TaskSeats.{TaskModel}
 use Rattle.parklot_c.specs.ListPlaces.{kept_seat}
