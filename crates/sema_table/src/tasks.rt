@@ -216,13 +216,12 @@ impl SemaTable {
             (PostsUnit (seat_of token.old numbers.old) counter (Ok (Done (seat_of token.new numbers.new))))
             (PostsUnit (seat_of token.old numbers.old) counter (Ok (Owes (seat_of token.new numbers.new)))) }
     {
-        // Found before the add, behind which no load is begun until that is done.
-        let word = self.waiter_word(counter);
         // Added before the look: a look that came first could read 0 while an acquire is about to read 0 and
         // sleep.
         self.words
             .add::<AtAdd>(token, counter_word(counter.number()), 1);
         numbers.left -= 1;
+        let word = self.waiter_word(counter);
         if self.words.load::<Here>(token, word) == 0 {
             return TaskPosted::Done;
         }
