@@ -65,7 +65,7 @@ enum parklot_answer {
     PARKLOT_NO_SEAT = 100,    /* the seat is empty */
     PARKLOT_OTHER_CALL = 101, /* the seat stands in the middle of another call, or (poll, retry, wake) of none */
     PARKLOT_NO_COUNTER = 102, /* the table has no such counter */
-    PARKLOT_BUSY = 103,       /* others hold the lock of the counter's root: call again a little later */
+    PARKLOT_BUSY = 103,       /* others hold the lock of the counter's root, or the list's: call again a little later */
     PARKLOT_LIMIT = 104,      /* the seat may add no more: it has added release_limit units */
     PARKLOT_FULL = 105,       /* parklot_new: a seat isn't empty */
     PARKLOT_UNITS = 106,      /* not 1 to 256 units */
