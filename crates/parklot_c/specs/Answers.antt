@@ -17,7 +17,8 @@ Call X = TaskModel → Result X TaskRefused → TaskModel → Type 0
 -- the handle has the seat as it stands after the call
 abbrev pub Answers : {X : Type 0} → (X → ℕ) → Call X → Option TaskModel → ℕ → Option TaskModel → Type 0
 Answers code call None n now = (n ≡ 100) × (now ≡ None)
-Answers {X} code call (Some s) n now = (a : Result X TaskRefused) × (t : TaskModel) × (n ≡ code_of code a) × (now ≡ Some t) × call s a t
+Answers {X} code call (Some s) n now =
+    (a : Result X TaskRefused) × (t : TaskModel) × (n ≡ code_of code a) × (now ≡ Some t) × call s a t
 
 -- the call, whose answer is told beside its code where it is done
 abbrev pub Telling : {X : Type 0} → (X → Type 0) → Call X → Call X

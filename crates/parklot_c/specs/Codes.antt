@@ -13,7 +13,8 @@ use Rattle.sema_table.specs.declared.task_answers.TaskPolled.TheVariants as poll
 use Rattle.sema_table.specs.declared.task_answers.TaskPosted.{TaskPosted}
 use Rattle.sema_table.specs.declared.task_answers.TaskPosted.TheVariants as posts
 use Rattle.sema_table.specs.declared.task_answers.TaskRefused.{TaskRefused}
-use Rattle.sema_table.specs.declared.task_answers.TaskRefused.TheVariants.{OtherCall, NoCounter, Busy, LimitReached, Units}
+use Rattle.sema_table.specs.declared.task_answers.TaskRefused.TheVariants.{OtherCall, NoCounter}
+use Rattle.sema_table.specs.declared.task_answers.TaskRefused.TheVariants.{Busy, LimitReached, Units}
 use Rattle.sema_table.specs.declared.task_answers.TaskRetried.{TaskRetried}
 use Rattle.sema_table.specs.declared.task_answers.TaskRetried.TheVariants as retries
 

@@ -1,8 +1,11 @@
 //! The calls of a seat in its place.
 ghost use Rattle.std.specs.Prelude.{◌≡◌, IfOk};
-ghost use Rattle.sema_table.specs.Tasks.{TriesByTask, PostsByTask, ReadsByTask, CountsByTask, PostsManyByTask};
-ghost use Rattle.sema_table.specs.Tasks.{EntersByTask, PollsByTask, RetriesByTask, WakesByTask, WakesSomeByTask};
-ghost use Rattle.parklot_c.specs.Codes.{tried_code, entered_code, polled_code, retried_code, posted_code, wake_code};
+ghost use Rattle.sema_table.specs.Tasks.{TriesByTask, PostsByTask};
+ghost use Rattle.sema_table.specs.Tasks.{ReadsByTask, CountsByTask, PostsManyByTask};
+ghost use Rattle.sema_table.specs.Tasks.{EntersByTask, PollsByTask};
+ghost use Rattle.sema_table.specs.Tasks.{RetriesByTask, WakesByTask, WakesSomeByTask};
+ghost use Rattle.parklot_c.specs.Codes.{tried_code, entered_code, polled_code};
+ghost use Rattle.parklot_c.specs.Codes.{retried_code, posted_code, wake_code};
 ghost use Rattle.parklot_c.specs.Codes.{told, code_of};
 ghost use Rattle.parklot_c.specs.Answers.{Answers, Telling, NamesWoken, TellsNumber, MayLeave};
 
@@ -117,7 +120,8 @@ impl Place {
 
     /// Adds so many units at once.
     pub fn post_many(&mut self, counter: u32, units: u32) -> u32
-        ensures { Answers posted_code (λ s. PostsManyByTask s counter units) self.old.seat result self.new.seat }
+        ensures { Answers posted_code (λ s. PostsManyByTask s counter units)
+            self.old.seat result self.new.seat }
     {
         let Some(seat) = self.seat.take() else {
             return NO_SEAT;
@@ -142,7 +146,8 @@ impl Place {
 
     /// The number of a counter.
     pub fn value(&mut self, counter: u32, value: &mut u64) -> u32
-        ensures { Answers told (Telling (λ n. value.new ≡ n) (λ s. ReadsByTask s counter)) self.old.seat result self.new.seat }
+        ensures { Answers told (Telling (λ n. value.new ≡ n) (λ s. ReadsByTask s counter))
+            self.old.seat result self.new.seat }
     {
         let Some(seat) = &mut self.seat else {
             return NO_SEAT;
@@ -158,7 +163,8 @@ impl Place {
 
     /// How many waits are queued at a counter's root.
     pub fn waiters_of_root(&mut self, counter: u32, waits: &mut u64) -> u32
-        ensures { Answers told (Telling (λ n. waits.new ≡ n) (λ s. CountsByTask s counter)) self.old.seat result self.new.seat }
+        ensures { Answers told (Telling (λ n. waits.new ≡ n) (λ s. CountsByTask s counter))
+            self.old.seat result self.new.seat }
     {
         let Some(seat) = &mut self.seat else {
             return NO_SEAT;

@@ -14,7 +14,9 @@ impl Cell {
     /// The place. When the borrow ends, the cell has what was written through it.
     pub fn place(&mut self) -> &mut Kept
         requires { length self.old.places ≡ 1 }
-        ensures* writes_back { sem 𝓛 (follows cell_type.the_row kept_type.the_row self.entry.ghost_name result.ghost_name (with_place self.old)) }
+        ensures* writes_back { sem 𝓛
+            (follows cell_type.the_row kept_type.the_row self.entry.ghost_name result.ghost_name
+            (with_place self.old)) }
         ensures value { self.old.places ≡ result.now ∷ [] }
     {
         // SAFETY: a cell with one place owns the whole value at its pointer, and is borrowed for as long as the

@@ -2,13 +2,17 @@
 //! heap, and each call answers a code.
 #![tactic(auto)]
 
-ghost use Rattle.sema_table.specs.Tasks.{TriesByTask, PostsByTask, ReadsByTask, CountsByTask, PostsManyByTask};
-ghost use Rattle.sema_table.specs.Tasks.{EntersByTask, PollsByTask, RetriesByTask, WakesByTask, WakesSomeByTask};
+ghost use Rattle.sema_table.specs.Tasks.{TriesByTask, PostsByTask};
+ghost use Rattle.sema_table.specs.Tasks.{ReadsByTask, CountsByTask, PostsManyByTask};
+ghost use Rattle.sema_table.specs.Tasks.{EntersByTask, PollsByTask};
+ghost use Rattle.sema_table.specs.Tasks.{RetriesByTask, WakesByTask, WakesSomeByTask};
 ghost use Rattle.std.specs.Prelude.{◌≡◌, ◌⊎◌};
 ghost use Rattle.parklot_c.specs.Places.{seat_of};
-ghost use Rattle.parklot_c.specs.Codes.{tried_code, entered_code, polled_code, retried_code, posted_code, wake_code};
+ghost use Rattle.parklot_c.specs.Codes.{tried_code, entered_code, polled_code};
+ghost use Rattle.parklot_c.specs.Codes.{retried_code, posted_code, wake_code};
 ghost use Rattle.parklot_c.specs.Codes.{told, done};
-ghost use Rattle.parklot_c.specs.Answers.{Answers, Telling, NamesWoken, NamesEach, LacksRoom, TellsNumber, Frees};
+ghost use Rattle.parklot_c.specs.Answers.{Answers, Telling, NamesWoken};
+ghost use Rattle.parklot_c.specs.Answers.{NamesEach, LacksRoom, TellsNumber, Frees};
 ghost use Rattle.parklot_c.specs.Deals.{DealsToEmpty};
 
 mod answers;
@@ -96,7 +100,8 @@ pub extern "C" fn parklot_number(seat: &mut SeatHandle, number: &mut u32) -> u32
 /// Takes a unit if there is one: TAKEN, ZERO or LOST.
 #[unsafe(no_mangle)]
 pub extern "C" fn parklot_try_acquire(seat: &mut SeatHandle, counter: u32) -> u32
-    ensures { Answers tried_code (λ s. TriesByTask s counter) (seat_of seat.old.cell.places) result (seat_of seat.new.cell.places) }
+    ensures { Answers tried_code (λ s. TriesByTask s counter)
+        (seat_of seat.old.cell.places) result (seat_of seat.new.cell.places) }
 {
     if !seat.is_full {
         return NO_SEAT;
@@ -110,7 +115,8 @@ pub extern "C" fn parklot_try_acquire(seat: &mut SeatHandle, counter: u32) -> u3
 /// Goes to the lock of the counter's root, and sleeps if there is no unit: TAKEN, ASLEEP or BUSY.
 #[unsafe(no_mangle)]
 pub extern "C" fn parklot_enter(seat: &mut SeatHandle, counter: u32, lifo: bool) -> u32
-    ensures { Answers entered_code (λ s. EntersByTask s counter lifo) (seat_of seat.old.cell.places) result (seat_of seat.new.cell.places) }
+    ensures { Answers entered_code (λ s. EntersByTask s counter lifo)
+        (seat_of seat.old.cell.places) result (seat_of seat.new.cell.places) }
 {
     if !seat.is_full {
         return NO_SEAT;
@@ -124,7 +130,8 @@ pub extern "C" fn parklot_enter(seat: &mut SeatHandle, counter: u32, lifo: bool)
 /// Looks whether the wait of a seat that sleeps was granted: ASLEEP, WOKEN or HANDED.
 #[unsafe(no_mangle)]
 pub extern "C" fn parklot_poll(seat: &mut SeatHandle) -> u32
-    ensures { Answers polled_code PollsByTask (seat_of seat.old.cell.places) result (seat_of seat.new.cell.places) }
+    ensures { Answers polled_code PollsByTask
+        (seat_of seat.old.cell.places) result (seat_of seat.new.cell.places) }
 {
     if !seat.is_full {
         return NO_SEAT;
@@ -138,7 +145,8 @@ pub extern "C" fn parklot_poll(seat: &mut SeatHandle) -> u32
 /// The try of a seat that was woken: TAKEN, or ZERO, and then it enters again.
 #[unsafe(no_mangle)]
 pub extern "C" fn parklot_retry(seat: &mut SeatHandle) -> u32
-    ensures { Answers retried_code RetriesByTask (seat_of seat.old.cell.places) result (seat_of seat.new.cell.places) }
+    ensures { Answers retried_code RetriesByTask
+        (seat_of seat.old.cell.places) result (seat_of seat.new.cell.places) }
 {
     if !seat.is_full {
         return NO_SEAT;
@@ -152,7 +160,8 @@ pub extern "C" fn parklot_retry(seat: &mut SeatHandle) -> u32
 /// Adds a unit: DONE, OWES or LIMIT.
 #[unsafe(no_mangle)]
 pub extern "C" fn parklot_post(seat: &mut SeatHandle, counter: u32) -> u32
-    ensures { Answers posted_code (λ s. PostsByTask s counter) (seat_of seat.old.cell.places) result (seat_of seat.new.cell.places) }
+    ensures { Answers posted_code (λ s. PostsByTask s counter)
+        (seat_of seat.old.cell.places) result (seat_of seat.new.cell.places) }
 {
     if !seat.is_full {
         return NO_SEAT;
@@ -166,7 +175,8 @@ pub extern "C" fn parklot_post(seat: &mut SeatHandle, counter: u32) -> u32
 /// Adds so many units at once: DONE, OWES, LIMIT or UNITS.
 #[unsafe(no_mangle)]
 pub extern "C" fn parklot_post_many(seat: &mut SeatHandle, counter: u32, units: u32) -> u32
-    ensures { Answers posted_code (λ s. PostsManyByTask s counter units) (seat_of seat.old.cell.places) result (seat_of seat.new.cell.places) }
+    ensures { Answers posted_code (λ s. PostsManyByTask s counter units)
+        (seat_of seat.old.cell.places) result (seat_of seat.new.cell.places) }
 {
     if !seat.is_full {
         return NO_SEAT;
@@ -181,7 +191,8 @@ pub extern "C" fn parklot_post_many(seat: &mut SeatHandle, counter: u32, units: 
 /// HANDED or BUSY.
 #[unsafe(no_mangle)]
 pub extern "C" fn parklot_wake(seat: &mut SeatHandle, handoff: bool, woken: &mut u32) -> u32
-    ensures { Answers wake_code (Telling (NamesWoken woken.new) (λ s. WakesByTask s handoff)) (seat_of seat.old.cell.places) result (seat_of seat.new.cell.places) }
+    ensures { Answers wake_code (Telling (NamesWoken woken.new) (λ s. WakesByTask s handoff))
+        (seat_of seat.old.cell.places) result (seat_of seat.new.cell.places) }
 {
     if !seat.is_full {
         return NO_SEAT;
@@ -201,7 +212,8 @@ pub extern "C" fn parklot_wake_some(
     count: &mut u32,
 ) -> u32
     ensures { LacksRoom woken.old (seat_of seat.old.cell.places) result (seat_of seat.new.cell.places)
-        ⊎ Answers done (Telling (NamesEach woken.new count.new) WakesSomeByTask) (seat_of seat.old.cell.places) result (seat_of seat.new.cell.places) }
+        ⊎ Answers done (Telling (NamesEach woken.new count.new) WakesSomeByTask)
+        (seat_of seat.old.cell.places) result (seat_of seat.new.cell.places) }
 {
     if !seat.is_full {
         return NO_SEAT;
@@ -215,7 +227,8 @@ pub extern "C" fn parklot_wake_some(
 /// The number of a counter.
 #[unsafe(no_mangle)]
 pub extern "C" fn parklot_value(seat: &mut SeatHandle, counter: u32, value: &mut u64) -> u32
-    ensures { Answers told (Telling (λ n. value.new ≡ n) (λ s. ReadsByTask s counter)) (seat_of seat.old.cell.places) result (seat_of seat.new.cell.places) }
+    ensures { Answers told (Telling (λ n. value.new ≡ n) (λ s. ReadsByTask s counter))
+        (seat_of seat.old.cell.places) result (seat_of seat.new.cell.places) }
 {
     if !seat.is_full {
         return NO_SEAT;
@@ -233,7 +246,8 @@ pub extern "C" fn parklot_waiters_of_root(
     counter: u32,
     waits: &mut u64,
 ) -> u32
-    ensures { Answers told (Telling (λ n. waits.new ≡ n) (λ s. CountsByTask s counter)) (seat_of seat.old.cell.places) result (seat_of seat.new.cell.places) }
+    ensures { Answers told (Telling (λ n. waits.new ≡ n) (λ s. CountsByTask s counter))
+        (seat_of seat.old.cell.places) result (seat_of seat.new.cell.places) }
 {
     if !seat.is_full {
         return NO_SEAT;

@@ -1,9 +1,11 @@
 //! The exports of a list: tickets on which tasks wait, and which they grant.
 ghost use Rattle.std.specs.Prelude.{◌≡◌, ◌⊎◌};
-ghost use Rattle.notify_list.specs.Tasks.{AddsByTask, LooksByTask, EntersByTask, PollsByTask, NotifiesOneByTask};
+ghost use Rattle.notify_list.specs.Tasks.{AddsByTask, LooksByTask};
+ghost use Rattle.notify_list.specs.Tasks.{EntersByTask, PollsByTask, NotifiesOneByTask};
 ghost use Rattle.parklot_c.specs.Codes.{told, done};
 ghost use Rattle.parklot_c.specs.ListCodes.{entered_code, polled_code, one_code};
-ghost use Rattle.parklot_c.specs.ListAnswers.{Answers, Telling, NotifiesOrGoesOn, NamesGranted, NamesAll, LacksRoom};
+ghost use Rattle.parklot_c.specs.ListAnswers.{Answers, Telling, NotifiesOrGoesOn};
+ghost use Rattle.parklot_c.specs.ListAnswers.{NamesGranted, NamesAll, LacksRoom};
 ghost use Rattle.parklot_c.specs.ListAnswers.{TellsNumber, Frees};
 ghost use Rattle.parklot_c.specs.ListDeals.{DealsToEmpty};
 ghost use Rattle.parklot_c.specs.ListPlaces.{seat_of};
@@ -63,7 +65,8 @@ pub extern "C" fn parklot_list_number(seat: &mut ListSeatHandle, number: &mut u3
 /// Takes the next ticket, which is told: the seat's next call is `parklot_list_try_wait`.
 #[unsafe(no_mangle)]
 pub extern "C" fn parklot_list_add(seat: &mut ListSeatHandle, ticket: &mut u64) -> u32
-    ensures { Answers told (Telling (λ word. ticket.new ≡ word) AddsByTask) (seat_of seat.old.cell.places) result (seat_of seat.new.cell.places) }
+    ensures { Answers told (Telling (λ word. ticket.new ≡ word) AddsByTask)
+        (seat_of seat.old.cell.places) result (seat_of seat.new.cell.places) }
 {
     if !seat.is_full {
         return NO_SEAT;
@@ -77,7 +80,8 @@ pub extern "C" fn parklot_list_add(seat: &mut ListSeatHandle, ticket: &mut u64) 
 /// Waits with the ticket: AT_ONCE, PARKED or BUSY, and then the seat has its ticket still.
 #[unsafe(no_mangle)]
 pub extern "C" fn parklot_list_try_wait(seat: &mut ListSeatHandle) -> u32
-    ensures { Answers entered_code EntersByTask (seat_of seat.old.cell.places) result (seat_of seat.new.cell.places) }
+    ensures { Answers entered_code EntersByTask
+        (seat_of seat.old.cell.places) result (seat_of seat.new.cell.places) }
 {
     if !seat.is_full {
         return NO_SEAT;
@@ -91,7 +95,8 @@ pub extern "C" fn parklot_list_try_wait(seat: &mut ListSeatHandle) -> u32
 /// Looks whether the wait of a seat that is parked was granted: ASLEEP or WOKEN.
 #[unsafe(no_mangle)]
 pub extern "C" fn parklot_list_poll(seat: &mut ListSeatHandle) -> u32
-    ensures { Answers polled_code PollsByTask (seat_of seat.old.cell.places) result (seat_of seat.new.cell.places) }
+    ensures { Answers polled_code PollsByTask
+        (seat_of seat.old.cell.places) result (seat_of seat.new.cell.places) }
 {
     if !seat.is_full {
         return NO_SEAT;
@@ -106,7 +111,8 @@ pub extern "C" fn parklot_list_poll(seat: &mut ListSeatHandle) -> u32
 /// number told. NOBODY, GRANTED, ONE or BUSY.
 #[unsafe(no_mangle)]
 pub extern "C" fn parklot_list_one(seat: &mut ListSeatHandle, woken: &mut u32) -> u32
-    ensures { Answers one_code (Telling (NamesGranted woken.new) NotifiesOneByTask) (seat_of seat.old.cell.places) result (seat_of seat.new.cell.places) }
+    ensures { Answers one_code (Telling (NamesGranted woken.new) NotifiesOneByTask)
+        (seat_of seat.old.cell.places) result (seat_of seat.new.cell.places) }
 {
     if !seat.is_full {
         return NO_SEAT;
@@ -126,7 +132,8 @@ pub extern "C" fn parklot_list_all(
     count: &mut u32,
 ) -> u32
     ensures { LacksRoom woken.old (seat_of seat.old.cell.places) result (seat_of seat.new.cell.places)
-        ⊎ Answers done (Telling (NamesAll woken.new count.new) NotifiesOrGoesOn) (seat_of seat.old.cell.places) result (seat_of seat.new.cell.places) }
+        ⊎ Answers done (Telling (NamesAll woken.new count.new) NotifiesOrGoesOn)
+        (seat_of seat.old.cell.places) result (seat_of seat.new.cell.places) }
 {
     if !seat.is_full {
         return NO_SEAT;
@@ -140,7 +147,8 @@ pub extern "C" fn parklot_list_all(
 /// Looks whether all tickets are granted.
 #[unsafe(no_mangle)]
 pub extern "C" fn parklot_list_quiet(seat: &mut ListSeatHandle, quiet: &mut bool) -> u32
-    ensures { Answers told (Telling (λ equal. quiet.new ≡ equal) LooksByTask) (seat_of seat.old.cell.places) result (seat_of seat.new.cell.places) }
+    ensures { Answers told (Telling (λ equal. quiet.new ≡ equal) LooksByTask)
+        (seat_of seat.old.cell.places) result (seat_of seat.new.cell.places) }
 {
     if !seat.is_full {
         return NO_SEAT;

@@ -32,7 +32,8 @@ impl ListPlace {
     /// Grants all tickets, and tells the numbers of the seats that waited with them.
     pub fn all(&mut self, woken: &mut [u32], count: &mut u32) -> u32
         ensures { LacksRoom woken.old self.old.seat result self.new.seat
-            ⊎ Answers done (Telling (NamesAll woken.new count.new) NotifiesOrGoesOn) self.old.seat result self.new.seat }
+            ⊎ Answers done (Telling (NamesAll woken.new count.new) NotifiesOrGoesOn)
+            self.old.seat result self.new.seat }
     {
         // Looked at before anything is done: a seat that was woken and isn't named is never made ready.
         if woken.len() < MOST_WOKEN {
@@ -44,7 +45,8 @@ impl ListPlace {
     /// The same, where there is room.
     fn all_into(&mut self, woken: &mut [u32], count: &mut u32) -> u32
         requires { 256 ≤ length woken.old }
-        ensures { Answers done (Telling (NamesAll woken.new count.new) NotifiesOrGoesOn) self.old.seat result self.new.seat }
+        ensures { Answers done (Telling (NamesAll woken.new count.new) NotifiesOrGoesOn)
+            self.old.seat result self.new.seat }
     {
         let Some(seat) = self.seat.take() else {
             return NO_SEAT;

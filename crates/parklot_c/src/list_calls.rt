@@ -1,9 +1,11 @@
 //! The calls of a list's seat in its place.
 ghost use Rattle.std.specs.Prelude.{◌≡◌, IfOk};
-ghost use Rattle.notify_list.specs.Tasks.{AddsByTask, LooksByTask, EntersByTask, PollsByTask, NotifiesOneByTask};
+ghost use Rattle.notify_list.specs.Tasks.{AddsByTask, LooksByTask};
+ghost use Rattle.notify_list.specs.Tasks.{EntersByTask, PollsByTask, NotifiesOneByTask};
 ghost use Rattle.parklot_c.specs.Codes.{told};
 ghost use Rattle.parklot_c.specs.ListCodes.{entered_code, polled_code, one_code, granted_code, code_of};
-ghost use Rattle.parklot_c.specs.ListAnswers.{Answers, Telling, NamesGranted, IsNumberOf, TellsNumber, MayLeave};
+ghost use Rattle.parklot_c.specs.ListAnswers.{Answers, Telling, NamesGranted};
+ghost use Rattle.parklot_c.specs.ListAnswers.{IsNumberOf, TellsNumber, MayLeave};
 
 use crate::codes::{GRANTED, NO_SEAT, NOBODY, OK, ONE, OTHER_CALL};
 use crate::list_answers;
@@ -65,7 +67,8 @@ impl ListPlace {
 
     /// Takes the next ticket, which is told.
     pub fn add(&mut self, ticket: &mut u64) -> u32
-        ensures { Answers told (Telling (λ word. ticket.new ≡ word) AddsByTask) self.old.seat result self.new.seat }
+        ensures { Answers told (Telling (λ word. ticket.new ≡ word) AddsByTask)
+            self.old.seat result self.new.seat }
     {
         let Some(seat) = self.seat.take() else {
             return NO_SEAT;
@@ -120,7 +123,8 @@ impl ListPlace {
 
     /// Looks whether all tickets are granted.
     pub fn quiet(&mut self, quiet: &mut bool) -> u32
-        ensures { Answers told (Telling (λ equal. quiet.new ≡ equal) LooksByTask) self.old.seat result self.new.seat }
+        ensures { Answers told (Telling (λ equal. quiet.new ≡ equal) LooksByTask)
+            self.old.seat result self.new.seat }
     {
         let Some(seat) = self.seat.take() else {
             return NO_SEAT;

@@ -1,5 +1,6 @@
 //! How a list is made, and its seats dealt to handles.
-ghost use Rattle.std.specs.Prelude.{◌≡◌, All, Any, min, map, reverse, length, Some, IfOk, MatchBool, true, false};
+ghost use Rattle.std.specs.Prelude.{◌≡◌, All, Any, min, map, reverse};
+ghost use Rattle.std.specs.Prelude.{length, Some, IfOk, MatchBool, true, false};
 ghost use Rattle.std.specs.Arc.{arc_value};
 ghost use Rattle.parklot_c.specs.ListPlaces.{kept_seat, seat_of};
 ghost use Rattle.parklot_c.specs.ListDeals.{Deals, DealsToEmpty};

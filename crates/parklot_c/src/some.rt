@@ -43,7 +43,8 @@ impl Place {
     /// seats, whose numbers are told.
     pub fn wake_some(&mut self, woken: &mut [u32], count: &mut u32) -> u32
         ensures { LacksRoom woken.old self.old.seat result self.new.seat
-            ⊎ Answers done (Telling (NamesEach woken.new count.new) WakesSomeByTask) self.old.seat result self.new.seat }
+            ⊎ Answers done (Telling (NamesEach woken.new count.new) WakesSomeByTask)
+            self.old.seat result self.new.seat }
     {
         // Looked at before anything is done: a seat that was woken and isn't named is never made ready.
         if woken.len() < MOST_WOKEN {
@@ -55,7 +56,8 @@ impl Place {
     /// The same, where there is room.
     fn wake_some_into(&mut self, woken: &mut [u32], count: &mut u32) -> u32
         requires { 256 ≤ length woken.old }
-        ensures { Answers done (Telling (NamesEach woken.new count.new) WakesSomeByTask) self.old.seat result self.new.seat }
+        ensures { Answers done (Telling (NamesEach woken.new count.new) WakesSomeByTask)
+            self.old.seat result self.new.seat }
     {
         let Some(seat) = self.seat.take() else {
             return NO_SEAT;
