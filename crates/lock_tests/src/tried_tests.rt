@@ -1,6 +1,6 @@
 //! What `try` finds of short programs, worked out by hand.
 
-use crate::commands::{exit_of, told_twice};
+use crate::answers::{exit_of, told_twice};
 use explorer_scenarios::Exit;
 use lock_commands::LockCommand;
 

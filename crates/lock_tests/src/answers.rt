@@ -21,7 +21,7 @@ fn told<R: Threads + Sync>(
 }
 
 /// The same, once more where memory was short.
-pub fn told_twice<R: Threads + Sync>(
+pub(crate) fn told_twice<R: Threads + Sync>(
     rt: &R,
     alloc: Global,
     text: &[u8],
@@ -35,7 +35,7 @@ pub fn told_twice<R: Threads + Sync>(
 }
 
 /// How the command ended, if it did.
-pub fn exit_of(ended: &Option<Outcome>) -> Option<Exit> {
+pub(crate) fn exit_of(ended: &Option<Outcome>) -> Option<Exit> {
     match ended {
         Some(outcome) => Some(outcome.exit),
         None => None,

@@ -1,6 +1,6 @@
 //! What is refused, and what is said of it to a person.
 
-use crate::commands::told_twice;
+use crate::answers::told_twice;
 use explorer_scenarios::{Exit, Outcome};
 use lock_commands::LockCommand;
 use std::alloc::{AllocError, Global};
@@ -107,6 +107,59 @@ static REFUSED: [Refused; 15] = [
     },
 ];
 
+/// Other texts, and what is written of them.
+static FAULTY: [(&str, &str); 46] = [
+    ("word w 0\n\tload w r", "refused: line 2: cut\n"),
+    ("word w 0\n\tload w r\n", "refused: line 2: byte\n"),
+    ("word w 0 # \u{e9}\n", "refused: line 1: byte\n"),
+    ("word w 00\n", "refused: line 1: form\n"),
+    ("word w -0\n", "refused: line 1: form\n"),
+    ("word w 100000000000000000000\n", "refused: line 1: form\n"),
+    ("word me 0\n", "refused: line 1: form\n"),
+    ("word w me\n", "refused: line 1: form\n"),
+    ("word w[k] 0\n", "refused: line 1: form\n"),
+    ("register\n", "refused: line 1: form\n"),
+    ("load w [r] x\n", "refused: line 1: form\n"),
+    ("again :\n", "refused: line 1: form\n"),
+    ("", "refused: line 1: end\n"),
+    ("program p\nfail\n", "refused: line 3: end\n"),
+    ("program p\ngoto a\n", "refused: line 2: label\n"),
+    ("program p\nseats 1 p", "refused: line 2: cut\n"),
+    ("program p\n\tfail\n", "refused: line 2: byte\n"),
+    ("seats 1 p\n", "refused: line 1: place\n"),
+    ("program p\nmost s 1\n", "refused: line 2: place\n"),
+    ("program p\nseats 1 p\nfail\n", "refused: line 3: place\n"),
+    ("program p\nword w 0\n", "refused: line 2: place\n"),
+    ("section s\nprogram p\nseats 1 p\nmost s 1\nseats 1 p\n", "refused: line 5: place\n"),
+    ("word w 9223372036854775808\n", "refused: line 1: range\n"),
+    ("word w -9223372036854775809\n", "refused: line 1: range\n"),
+    ("word w[17] 0\n", "refused: line 1: range\n"),
+    ("word w[0] 0\n", "refused: line 1: range\n"),
+    ("counter c 4294967296\n", "refused: line 1: range\n"),
+    ("const k -1\ncounter c k\n", "refused: line 2: range\n"),
+    ("program p\nseats 0 p\n", "refused: line 2: range\n"),
+    ("section s\nprogram p\nseats 1 p\nmost s -1\n", "refused: line 4: range\n"),
+    ("word w[2] 0\nprogram p\nseats 1 p\nfinally w[2] == 0\n", "refused: line 4: range\n"),
+    ("word w[16] 0\nword x[16] 0\nword y 0\n", "refused: line 3: too many\n"),
+    ("counter c[16] 0\ncounter d 0\n", "refused: line 2: too many\n"),
+    ("list a\nlist b\nlist c\nlist d\nlist e\n", "refused: line 5: too many\n"),
+    ("register a b c d e f g h i\n", "refused: line 1: too many\n"),
+    ("program p\nseats 16 p\nseats 1 q\n", "refused: line 3: too many\n"),
+    ("word w v\n", "refused: line 1: undeclared\n"),
+    ("word w 0\nprogram p\nload w r\n", "refused: line 3: undeclared\n"),
+    ("counter c 0\nregister r\nprogram p\nload c r\n", "refused: line 4: undeclared\n"),
+    (
+        "word w 0\nregister r\nprogram p\nseats 1 p\nfinally w == r\n",
+        "refused: line 5: undeclared\n",
+    ),
+    ("word w[2] 0\nprogram p\nstore w r\n", "refused: line 3: undeclared\n"),
+    ("program p\na:\na:\n", "refused: line 3: twice\n"),
+    ("register r r\n", "refused: line 1: twice\n"),
+    ("const a 1\nregister b a\n", "refused: line 2: twice\n"),
+    ("word w 0\nprogram p\nstore w[0] 1\n", "refused: line 3: array\n"),
+    ("program p\na:\nprogram q\ngoto a\nseats 1 q\n", "refused: line 4: label\n"),
+];
+
 /// The command that tells a schedule.
 fn retrace(schedule: &str) -> LockCommand<'_> {
     LockCommand::Retrace {
@@ -132,6 +185,10 @@ fn what_is_refused_is_told(rt: HostRuntime) {
     for row in &REFUSED {
         let written = told_twice(&rt, rt.alloc(), row.text.as_bytes(), retrace(row.schedule));
         assert!(rt; is_refused(&written, row.told, row.beside));
+    }
+    for (text, told) in &FAULTY {
+        let written = told_twice(&rt, rt.alloc(), text.as_bytes(), retrace(""));
+        assert!(rt; is_refused(&written, told, ""), "{text}");
     }
 }
 

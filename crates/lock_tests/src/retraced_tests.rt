@@ -1,6 +1,15 @@
-//! Short programs, whose schedules were worked out by hand.
+//! What a schedule does in short programs, worked out by hand.
 
-use crate::scene::Scene;
+use crate::answers::told_twice;
+use lock_commands::LockCommand;
+
+/// A program, a schedule, and what is written of it.
+struct Scene {
+    text: &'static str,
+    schedule: &'static str,
+    drawn: bool,
+    told: &'static str,
+}
 
 const STORES_ONCE: &str = "word w 0\nprogram p\nstore w 1\nseats 1 p\n";
 
@@ -25,32 +34,32 @@ seats 2 user
 most held 1
 ";
 
-pub(crate) static SMALL_SCENES: [Scene; 17] = [
+static SCENES: [Scene; 17] = [
     // nothing has happened
     Scene {
         text: STORES_ONCE,
-        schedule: &[],
+        schedule: "",
         drawn: false,
         told: "seat 0 p: stands at line 3\nw 0\nverdict: not bad\n",
     },
     // a seat that has ended
     Scene {
         text: STORES_ONCE,
-        schedule: &[0, 0],
+        schedule: "0 0",
         drawn: false,
         told: "0: seat 0 p:3 store w 1: found 0 -> w 1\n1: refused 2 SeatEnded\n",
     },
     // a seat that there isn't
     Scene {
         text: STORES_ONCE,
-        schedule: &[1],
+        schedule: "1",
         drawn: false,
         told: "0: refused 1 NoSuchSeat\n",
     },
     // a lock that is held
     Scene {
         text: "list l\nprogram p\nticket l\nwait l\nseats 2 p\n",
-        schedule: &[0, 1, 0, 1],
+        schedule: "0 1 0 1",
         drawn: false,
         told: "\
 0: seat 0 p:3 ticket l, N1: found 0 -> l 1/0
@@ -62,21 +71,21 @@ pub(crate) static SMALL_SCENES: [Scene; 17] = [
     // a condition that doesn't hold
     Scene {
         text: "word w 0\nprogram p\nawait w == 1\nseats 1 p\n",
-        schedule: &[0],
+        schedule: "0",
         drawn: false,
         told: "0: refused 4 Asleep\n",
     },
     // a seat that has failed
     Scene {
         text: "word w 0\nprogram p\nstore w 1\na:\ngoto a\nseats 1 p\n",
-        schedule: &[0, 0],
+        schedule: "0 0",
         drawn: false,
         told: "0: seat 0 p:3 store w 1: found 0 -> w 1\n1: refused 5 SeatFailed\n",
     },
     // lines without end
     Scene {
         text: "word w 0\nprogram p\nstore w 1\na:\ngoto a\nseats 1 p\n",
-        schedule: &[0],
+        schedule: "0",
         drawn: false,
         told: "\
 0: seat 0 p:3 store w 1: found 0 -> w 1
@@ -88,7 +97,7 @@ verdict: failed, line 5
     // a seat fails in place of its row, and then no row is told
     Scene {
         text: "word w[2] 0\nprogram p\nstore w[me] 1\nseats 3 p\n",
-        schedule: &[2],
+        schedule: "2",
         drawn: false,
         told: "\
 0: seat 2 p:3 store w[me] 1
@@ -102,7 +111,7 @@ verdict: failed, line 3
     // a release of so many units fails
     Scene {
         text: "counter c 4294967295\nprogram p\nrelease c\nseats 1 p\n",
-        schedule: &[0],
+        schedule: "0",
         drawn: false,
         told: "\
 0: seat 0 p:3 release c
@@ -114,14 +123,14 @@ verdict: failed, line 3
     // no words at all
     Scene {
         text: "section s\nprogram p\nin s\nout s\nseats 2 p\nmost s 1\n",
-        schedule: &[],
+        schedule: "",
         drawn: false,
         told: "seat 0 p: stands at line 4\nseat 1 p: stands at line 4\n\nverdict: crowded, line 6\n",
     },
     // a sleeper is woken, and then nobody sleeps
     Scene {
         text: SLEEPS,
-        schedule: &[0, 1, 0],
+        schedule: "0 1 0",
         drawn: false,
         told: "\
 0: seat 0 p:3 park w 0: found 0 -> parked 0@w
@@ -136,7 +145,7 @@ verdict: not bad
     // a sleeper that is woken can step
     Scene {
         text: SLEEPS,
-        schedule: &[0, 1],
+        schedule: "0 1",
         drawn: false,
         told: "\
 0: seat 0 p:3 park w 0: found 0 -> parked 0@w
@@ -150,7 +159,7 @@ verdict: not bad
     // an exchange of the layer that is lost, and spaces and comments that are left out
     Scene {
         text: "counter c 1\nprogram p\n   acquire   c  # one of them\nseats 2 p\n",
-        schedule: &[0, 1, 0, 1],
+        schedule: "0 1 0 1",
         drawn: false,
         told: "\
 0: seat 0 p:3 acquire c, A1: found 1
@@ -166,7 +175,7 @@ verdict: not bad
     // units are released at once, behind two `do` lines
     Scene {
         text: "counter c 0\nprogram a\nrelease c many 2\nprogram b\ndo a\nprogram p\ndo b\nseats 1 p\nfinally c == 1\n",
-        schedule: &[0, 0],
+        schedule: "0 0",
         drawn: false,
         told: "\
 0: seat 0 p:3 release c many 2, M1: found 0 -> c 2
@@ -179,14 +188,14 @@ verdict: final, line 9
     // two `do` lines lead there
     Scene {
         text: "word w 0\nprogram a\nawait w == 1\nprogram b\ndo a\nprogram p\ndo b\nseats 1 p\n",
-        schedule: &[],
+        schedule: "",
         drawn: false,
         told: "seat 0 p: waits at line 3 (from 7 5)\nw 0\nverdict: stuck\n",
     },
     // a table of all that is shared
     Scene {
         text: TEST_AND_SET,
-        schedule: &[0, 1, 0, 1],
+        schedule: "0 1 0 1",
         drawn: true,
         told: "\
 step  seat 0 user                          seat 1 user                          taken
@@ -203,7 +212,7 @@ verdict: crowded, line 15
     // a table up to a step that is refused
     Scene {
         text: SLEEPS,
-        schedule: &[0, 0],
+        schedule: "0 0",
         drawn: true,
         told: "\
 step  seat 0 p             seat 1 q  parked
@@ -212,3 +221,15 @@ step  seat 0 p             seat 1 q  parked
 ",
     },
 ];
+
+#[test]
+fn schedules_are_told(rt: HostRuntime) {
+    for scene in &SCENES {
+        let command = LockCommand::Retrace {
+            schedule: scene.schedule,
+            drawn: scene.drawn,
+        };
+        let (out, _ended) = told_twice(&rt, rt.alloc(), scene.text.as_bytes(), command);
+        assert!(rt; out.as_slice() == scene.told.as_bytes());
+    }
+}
