@@ -6,8 +6,9 @@
 //! or its word was set before the granter's look, which finds it and calls the kernel. So no grant is missed,
 //! and where nobody sleeps the kernel isn't called.
 //!
-//! Who grants may leave it to another to wake ([`Running::store_grant`]): that one looks at the word after
-//! the grant was stored ([`Running::wake`]), and the same holds.
+//! To grant and to wake are two calls ([`Running::store_grant`], and [`Running::rouse`] or
+//! [`Running::wake`] behind it): who wakes looks at the word after the grant was stored, by whomever, and the
+//! same holds.
 ghost use Rattle.std.specs.Prelude.{◌≡◌, ◌<◌, [], ◌∷◌, ◌++◌};
 ghost use mathlib.Core.Option.{none};
 ghost use Rattle.atomic_table.specs.Table.{step};
@@ -216,26 +217,7 @@ impl<S, V, T, K, R: Rows<S, V, T, K>> Running<S, View<V, T>, K, OneWorld<R>> {
         unreachable!()
     }
 
-    /// A row that stores a grant, and wakes the thread that sleeps at it, if one does.
-    #[inline]
-    pub fn grant(&self, token: &mut Token<S, V, T>, word: usize, asleep: usize, units: u64)
-        requires own { (token.old.table_id ≡ self.now.table.shared.table_id)
-            × IsSomeones R.family token.old.me.0 }
-        requires words { (word < self.now.table.shared.table_id.words)
-            × (asleep < self.now.table.shared.table_id.words) }
-        requires owes { Owes R.family (R.family.key self.now.table.shared.key) token.old.me word (λ _. units)
-            (λ _. runs_grant R.family (step self.now.table.shared.table_id.slots word units 0 none)
-            token.old.me units) }
-        ensures own { token.new.table_id ≡ token.old.table_id }
-        ensures went { runs_grant R.family
-            (step self.now.table.shared.table_id.slots word units 0 none) token.old.me units token.new.me }
-    {
-        self.store_grant(token, word, units);
-        self.rouse(token, word, asleep, units);
-    }
-
-    /// A row that stores a grant and wakes nobody: its thread is for another to wake, by [`Running::rouse`] or
-    /// [`Running::wake`].
+    /// A row that stores a grant. It wakes nobody: that is for [`Running::rouse`] or [`Running::wake`].
     #[inline]
     pub fn store_grant(&self, token: &mut Token<S, V, T>, word: usize, units: u64)
         requires own { (token.old.table_id ≡ self.now.table.shared.table_id)

@@ -211,11 +211,14 @@ module _ (s0 s u : Token) (a : Release) (id : WaitId) (n : ℕ) (before : Walked
     changed_for = has_changed s.me.0.own u.me.0.own w.me.0.own (Releasing a R7) before_it a.counter n y look_for swap (λ i x j. refl) (λ i x j. refl)
 
 -- the store of a grant leads on
-pub grants_at : (z : Setting) (slots i : ℕ) (m : Me) (a : Release) (handed : Bool) → m.0.own.knows.place ≡ granting a handed
-    → added_by m.0.own.number m.0.own.knows.seen ≤ 2 ^ 40 → address m.0.own.knows.setting (Grant (waiter m.0.own.number m.0.own.knows.hand)) ≡ i
-    → waiter m.0.own.number m.0.own.knows.hand < m.0.own.knows.setting.seats
-    → Owes semaphore_rows z m i (λ _. grant_of handed) (λ _ t. runs_grant semaphore_rows (step slots i (grant_of handed) 0 none) m (grant_of handed) t)
-grants_at z slots i m a true at few word there = owes_grant z i m (Releasing a R9) at (omega arith) slots 2
-    (λ w n known. record { fits = record { word = word; there = there; can = refl; becomes = refl }; apart = refl })
-grants_at z slots i m a false at few word there = owes_grant z i m (Releasing a R10) at (omega arith) slots 1
-    (λ w n known. record { fits = record { word = word; there = there; can = refl; becomes = refl }; apart = refl })
+module _ (z : Setting) (slots i : ℕ) (m : Me) (a : Release) where
+  abbrev Stores : ℕ → Type 0
+  Stores units = Owes semaphore_rows z m i (λ _. units) (λ _ t. runs_grant semaphore_rows (step slots i units 0 none) m units t)
+
+  pub grants_at : (handed : Bool) (units : ℕ) → units ≡ grant_of handed → m.0.own.knows.place ≡ granting a handed
+      → added_by m.0.own.number m.0.own.knows.seen ≤ 2 ^ 40 → address m.0.own.knows.setting (Grant (waiter m.0.own.number m.0.own.knows.hand)) ≡ i
+      → waiter m.0.own.number m.0.own.knows.hand < m.0.own.knows.setting.seats → Stores units
+  grants_at true units is at few word there = subst Stores (sym is) (owes_grant z i m (Releasing a R9) at (omega arith) slots 2
+      (λ w n known. record { fits = record { word = word; there = there; can = refl; becomes = refl }; apart = refl }))
+  grants_at false units is at few word there = subst Stores (sym is) (owes_grant z i m (Releasing a R10) at (omega arith) slots 1
+      (λ w n known. record { fits = record { word = word; there = there; can = refl; becomes = refl }; apart = refl }))

@@ -1,8 +1,10 @@
 //! The calls of a caller that has other work: each tries for the root's lock a few times, and where that stays
-//! held does nothing. None waits.
-ghost use Rattle.std.specs.Prelude.{◌≡◌, ◌<◌, length, MatchResult};
+//! held does nothing. None waits. Those that wake nobody are for a table where no thread ever sleeps in the
+//! kernel: they never call it.
+ghost use Rattle.std.specs.Prelude.{◌≡◌, ◌<◌, length, All, IfOk, MatchResult};
 ghost use Rattle.step_table.specs.declared.place.Place.TheVariants.{Acquiring};
 ghost use Rattle.step_table.specs.declared.place.AcquireRow.TheVariants.{A3};
+ghost use Rattle.sema_table.specs.AtLock.{HasGranted};
 ghost use Rattle.sema_table.specs.Waking.{acquire_of, IsEntered, IsWakened};
 ghost use Rattle.sema_table.specs.Many.{IsWokenSeats};
 ghost use Rattle.sema_table.specs.Callers.{JoinsQueue};
@@ -13,7 +15,7 @@ use crate::many_seat::OwingMany;
 use crate::seat::{Owing, Seat};
 use crate::sema_table::SemaTable;
 use crate::waking_many::WokenSeats;
-use step_table::Release;
+use step_table::{Acquire, AcquireRow, Place, Release};
 use waiters::CounterId;
 
 impl SemaTable {
@@ -31,6 +33,29 @@ impl SemaTable {
         Ok(entered)
     }
 
+    /// As `try_enter`, and nobody is woken.
+    pub(crate) fn enter_silently(
+        &self,
+        seat: Seat,
+        counter: CounterId,
+        lifo: bool,
+    ) -> Result<Entered, Seat>
+        requires { (seat.table ≡ self.now) × (counter < length self.now.setting.starts) }
+        ensures rows { MatchResult result
+            (λ entered. IsEntered seat (acquire_of counter lifo) (Acquiring (acquire_of counter lifo) A3) entered)
+            (λ refused. refused ≡ seat) }
+        ensures caller { MatchResult result (λ entered. JoinsQueue seat counter lifo entered)
+            (λ refused. refused ≡ seat) }
+    {
+        let Seat { mut token, numbers } = seat;
+        let call = Acquire { counter, lifo };
+        let place = Place::Acquiring(call, AcquireRow::A3);
+        if !self.try_lock(&mut token, counter, &place) {
+            return Err(Seat { token, numbers });
+        }
+        Ok(self.enter_locked(token, numbers, &call))
+    }
+
     /// As `wake`; where the root's lock stayed held the seat comes back as it was, and still owes.
     pub fn try_wake(&self, owing: Owing, handoff: bool) -> Result<(Seat, Wake), Owing>
         requires { owing.table ≡ self.now }
@@ -38,6 +63,23 @@ impl SemaTable {
             (λ refused. refused ≡ owing) }
         ensures caller { MatchResult result (λ done. WakesFirst owing handoff done.0 done.1)
             (λ refused. refused ≡ owing) }
+    {
+        let counter = CounterId::new(owing.counter);
+        let tried = self.wake_silently(owing, handoff);
+        if let Ok((seat, wake)) = &tried {
+            self.rouse_woken(seat, counter, wake);
+        }
+        tried
+    }
+
+    /// As `try_wake`, and nobody is woken.
+    pub(crate) fn wake_silently(&self, owing: Owing, handoff: bool) -> Result<(Seat, Wake), Owing>
+        requires { owing.table ≡ self.now }
+        ensures rows { MatchResult result (λ done. IsWakened owing handoff done.0 done.1)
+            (λ refused. refused ≡ owing) }
+        ensures caller { MatchResult result (λ done. WakesFirst owing handoff done.0 done.1)
+            (λ refused. refused ≡ owing) }
+        ensures stored { IfOk result (λ done. HasGranted self.now done.0 done.1) }
     {
         let Owing {
             mut token,
@@ -66,6 +108,26 @@ impl SemaTable {
             (λ refused. refused ≡ owing) }
         ensures caller { MatchResult result (λ done. WakesThese owing done.0 done.1.items)
             (λ refused. refused ≡ owing) }
+    {
+        let call = owing.call;
+        let tried = self.wake_some_silently(owing);
+        if let Ok((seat, woken)) = &tried {
+            self.rouse_each(seat, call.counter, woken.as_slice());
+        }
+        tried
+    }
+
+    /// As `try_wake_some`, and nobody is woken.
+    pub(crate) fn wake_some_silently(
+        &self,
+        owing: OwingMany,
+    ) -> Result<(Seat, WokenSeats), OwingMany>
+        requires { owing.table ≡ self.now }
+        ensures rows { MatchResult result (λ done. IsWokenSeats owing done.0 done.1.items)
+            (λ refused. refused ≡ owing) }
+        ensures caller { MatchResult result (λ done. WakesThese owing done.0 done.1.items)
+            (λ refused. refused ≡ owing) }
+        ensures there { IfOk result (λ done. All (λ k. k < self.now.setting.seats) done.1.items) }
     {
         let OwingMany {
             mut token,

@@ -49,7 +49,6 @@ mod seat;
 mod sema_table;
 mod settings;
 mod setup_error;
-mod silent;
 mod sleeps;
 mod spins;
 mod stride;

@@ -1,11 +1,14 @@
 //! Taking a root's lock, and the calls of the kernel that wake who sleeps.
-ghost use Rattle.std.specs.Prelude.{◌≡◌, ◌<◌, MatchBool};
+ghost use Rattle.std.specs.Prelude.{◌≡◌, ◌<◌, All, MatchBool};
 ghost use Rattle.step_table.specs.Counting.{counter_at};
 ghost use Rattle.sema_table.specs.Walks.{Starts, IsSame, Locked};
-ghost use Rattle.sema_table.specs.AtLock.{IsGranted};
+ghost use Rattle.sema_table.specs.Seats.{SeatModel};
+ghost use Rattle.sema_table.specs.AtLock.{IsGranted, HasGranted};
+ghost use Rattle.sema_table.specs.Many.{IsWokenSeats};
 
-use crate::answers::Entered;
+use crate::answers::{Entered, Wake};
 use crate::rows::{AtSaid, Token};
+use crate::seat::Seat;
 use crate::sema_table::SemaTable;
 use crate::view::Record;
 use std::sync::Wait;
@@ -48,6 +51,31 @@ impl SemaTable {
         match entered {
             Entered::Taken(seat) => self.rouse_at_lock(&seat.token, counter),
             Entered::Asleep(sleeping) => self.rouse_at_lock(&sleeping.token, counter),
+        }
+    }
+
+    /// The same after a release, and then wakes whom it granted.
+    pub(crate) fn rouse_woken(&self, seat: &Seat, counter: CounterId, wake: &Wake)
+        requires { HasGranted self.now seat.now wake.now }
+    {
+        self.rouse_at_lock(&seat.token, counter);
+        match wake {
+            Wake::Nobody => {}
+            Wake::One(id) => self.rouse(&seat.token, id.seat.number(), 1),
+            Wake::Handed(id) => self.rouse(&seat.token, id.seat.number(), 2),
+        }
+    }
+
+    /// The same after a release of many units, which granted these seats.
+    pub(crate) fn rouse_each(&self, seat: &Seat, counter: CounterId, seats: &[u16])
+        requires there { All (λ k. k < self.now.setting.seats) seats.now }
+        requires stored { (s : SeatModel) × IsWokenSeats s seat.now seats.now }
+    {
+        self.rouse_at_lock(&seat.token, counter);
+        for granted in seats {
+            let word = self.grant_word(*granted);
+            self.words
+                .wake(&seat.token, word, self.asleep_word(*granted));
         }
     }
 

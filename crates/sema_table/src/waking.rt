@@ -4,7 +4,7 @@ ghost use Rattle.step_table.specs.declared.entry.Entry.TheVariants.{Leave, Take}
 ghost use Rattle.step_table.specs.declared.place.Place.TheVariants.{Rest, Releasing};
 ghost use Rattle.step_table.specs.declared.place.ReleaseRow.TheVariants.{R3, R4, R5, R6, R7, R9, R10};
 ghost use Rattle.sema_table.specs.Seats.{Token, IsToken, table_of, seat_of};
-ghost use Rattle.sema_table.specs.AtLock.{HasLocked, IsGranted};
+ghost use Rattle.sema_table.specs.AtLock.{HasLocked, HasGranted, IsGranted};
 ghost use Rattle.sema_table.specs.Waking.{IsWakened, WakesFrom};
 ghost use Rattle.sema_table.specs.Walks.{Stands, Starts, Holds, IsSame, Locked, Walked, Moves, Changed, HasRecord, Granted};
 ghost use Rattle.sema_table.specs.Walks.{moved_to, taken_out, sought, trying, unlocked, granting, grant_of};
@@ -57,7 +57,9 @@ impl SemaTable {
         let mut token = token;
         let place = Place::Releasing(Release { counter, handoff }, ReleaseRow::R3);
         self.lock(rt, &mut token, counter, &place);
-        self.wake_locked(token, numbers, &Release { counter, handoff })
+        let (seat, wake) = self.wake_locked(token, numbers, &Release { counter, handoff });
+        self.rouse_woken(&seat, counter, &wake);
+        (seat, wake)
     }
 
     /// R3 where the root's lock is found free within some tries, and else nothing.
@@ -70,31 +72,30 @@ impl SemaTable {
         self.try_lock(token, call.counter, &place)
     }
 
-    /// The rows from R4 on.
+    /// The rows from R4 on. The kernel is not called: who sleeps there is for another to wake, if anybody
+    /// ever does.
     pub(crate) fn wake_locked(&self, token: Token, numbers: Numbers, call: &Release) -> (Seat, Wake)
         requires { (s : Token) × HasLocked self.now s numbers (Releasing call.now R3) token }
-        ensures { (s : Token) → HasLocked self.now s numbers (Releasing call.now R3) token
+        ensures wakes { (s : Token) → HasLocked self.now s numbers (Releasing call.now R3) token
             → WakesFrom (seat_of s numbers) call.now result.0 result.1 }
+        ensures stored { HasGranted self.now result.0 result.1 }
     {
         let mut token = token;
         let first = self.take_first(&mut token, call);
         self.unlock_released(&mut token, call);
-        self.rouse_at_lock(&token, call.counter);
         let Some(id) = first else {
             return (Seat { token, numbers }, Wake::Nobody);
         };
         let handed = self.take_for(&mut token, call, &id);
         self.grant(&mut token, call, &id, handed);
         if handed {
-            self.rouse(&token, id.seat.number(), 2);
             return (Seat { token, numbers }, Wake::Handed(id));
         }
-        self.rouse(&token, id.seat.number(), 1);
         (Seat { token, numbers }, Wake::One(id))
     }
 
     /// R4, and R5 where the counter has a wait.
-    pub(crate) fn take_first(&self, token: &mut Token, call: &Release) -> Option<WaitId>
+    fn take_first(&self, token: &mut Token, call: &Release) -> Option<WaitId>
         requires seat { Stands self.now token.old (Releasing call.now R4)
             × HasRecord token.old call.now.counter
             × (token.old.me.0.own.knows.hand ≡ []) }
@@ -148,7 +149,7 @@ impl SemaTable {
     }
 
     /// R6. Given back before the waiter is told: told earlier, it would run into the lock that is still held.
-    pub(crate) fn unlock_released(&self, token: &mut Token, call: &Release)
+    fn unlock_released(&self, token: &mut Token, call: &Release)
         requires { Holds self.now token.old (Releasing call.now R6) }
         ensures { Moves token.old (Releasing call.now R6) token.new (unlocked token.old call.now)
             × (token.new.me.1 ≡ []) }
@@ -158,7 +159,7 @@ impl SemaTable {
     }
 
     /// R7 and R8 of a release with handoff, and else nothing: whether a unit was taken for the wait in hand.
-    pub(crate) fn take_for(&self, token: &mut Token, call: &Release, id: &WaitId) -> bool
+    fn take_for(&self, token: &mut Token, call: &Release, id: &WaitId) -> bool
         requires { Stands self.now token.old (trying call.now)
             × (token.old.me.0.own.knows.hand ≡ id.now ∷ []) }
         ensures slots { token.new.me.1 ≡ token.old.me.1 }
@@ -220,7 +221,7 @@ impl SemaTable {
     }
 
     /// R9 where a unit was taken for the wait in hand, and else R10: its seat is granted.
-    pub(crate) fn grant(&self, token: &mut Token, call: &Release, id: &WaitId, handed: bool)
+    fn grant(&self, token: &mut Token, call: &Release, id: &WaitId, handed: bool)
         requires seat { Stands self.now token.old (granting call.now handed)
             × (token.old.me.0.own.knows.hand ≡ id.now ∷ []) }
         requires there { id.now.seat < self.now.setting.seats }
@@ -228,12 +229,17 @@ impl SemaTable {
         ensures slots { token.new.me.1 ≡ token.old.me.1 }
         ensures stored { IsGranted self.now token.new id.now.seat (grant_of handed) }
     {
-        let seat = id.seat.number();
-        let word = self.grant_word(seat);
-        if handed {
-            self.words.store_grant(token, word, 2);
-            return;
-        }
-        self.words.store_grant(token, word, 1);
+        let word = self.grant_word(id.seat.number());
+        self.words.store_grant(token, word, granted_units(handed));
     }
+}
+
+/// What is stored as a grant: 1, or 2 where a unit comes with it.
+fn granted_units(handed: bool) -> u64
+    ensures { result ≡ grant_of handed }
+{
+    if handed {
+        return 2;
+    }
+    1
 }

@@ -6,7 +6,7 @@ ghost use Rattle.step_table.specs.declared.place.Place.TheVariants.{Rest, Releas
 ghost use Rattle.step_table.specs.declared.place.ManyRow.TheVariants.{M3, M4, M5, M6, M7};
 ghost use Rattle.step_table.specs.Event.{waiter};
 ghost use Rattle.sema_table.specs.Seats.{Token, IsToken, table_of, seat_of};
-ghost use Rattle.sema_table.specs.AtLock.{HasLocked, IsGranted};
+ghost use Rattle.sema_table.specs.AtLock.{HasLocked};
 ghost use Rattle.sema_table.specs.ManySeats.{HasUnits};
 ghost use Rattle.sema_table.specs.Many.{leaves, IsWokenMany, WakesCount, WakesSeats};
 ghost use Rattle.sema_table.specs.Walks.{Stands, Starts, Holds, IsSame, Locked, Walked, Moves, HasRecord};
@@ -64,6 +64,7 @@ impl SemaTable {
         self.lock(rt, &mut token, call.counter, &place);
         let mut hand = WokenSeats::new();
         let seat = self.wake_some_locked(token, numbers, call, &mut hand);
+        self.rouse_each(&seat, call.counter, hand.as_slice());
         let woken = hand.len() as u32;
         (seat, woken)
     }
@@ -78,7 +79,7 @@ impl SemaTable {
         self.try_lock(token, call.counter, &place)
     }
 
-    /// The rows from M4 on.
+    /// The rows from M4 on. The kernel is not called, as by `wake_locked`.
     pub(crate) fn wake_some_locked(
         &self,
         token: Token,
@@ -88,19 +89,19 @@ impl SemaTable {
     ) -> Seat
         requires seat { (s : Token) × HasLocked self.now s numbers (ReleasingMany call.now M3) token }
         requires hand { (hand.old.items ≡ []) × HasUnits call.now }
-        ensures { (s : Token) → HasLocked self.now s numbers (ReleasingMany call.now M3) token
+        ensures wakes { (s : Token) → HasLocked self.now s numbers (ReleasingMany call.now M3) token
             → WakesSeats (seat_of s numbers) call.now result hand.new.items }
+        ensures there { All (λ k. k < self.now.setting.seats) hand.new.items }
     {
         let mut token = token;
         self.take_waits(&mut token, call, hand);
         self.unlock_many(&mut token, call);
-        self.rouse_at_lock(&token, call.counter);
         self.grant_all(&mut token, call, hand.as_slice());
         Seat { token, numbers }
     }
 
     /// M4, and M5 while fewer waits than units are in hand and the counter has one more.
-    pub(crate) fn take_waits(&self, token: &mut Token, call: &ReleaseMany, hand: &mut WokenSeats)
+    fn take_waits(&self, token: &mut Token, call: &ReleaseMany, hand: &mut WokenSeats)
         requires seat { Holds self.now token.old (ReleasingMany call.now M4)
             × (token.old.me.0.own.knows.hand ≡ []) }
         requires hand { (hand.old.items ≡ []) × HasUnits call.now }
@@ -156,7 +157,7 @@ impl SemaTable {
 
     /// M6. Given back before the first waiter is told: told earlier, it would run into the lock that is still
     /// held.
-    pub(crate) fn unlock_many(&self, token: &mut Token, call: &ReleaseMany)
+    fn unlock_many(&self, token: &mut Token, call: &ReleaseMany)
         requires { Holds self.now token.old (ReleasingMany call.now M6) }
         ensures walked { Moves token.old (ReleasingMany call.now M6) token.new
             (to_grant call.now token.old.me.0.own.knows.hand) }
@@ -167,7 +168,7 @@ impl SemaTable {
         self.words.return_lock(token, word);
     }
 
-    /// M7 for each wait in hand, of which these are the seats, and each seat's thread is woken where it sleeps.
+    /// M7 for each wait in hand, of which these are the seats.
     fn grant_all(&self, token: &mut Token, call: &ReleaseMany, seats: &[u16])
         requires seat { MayGrant self.now token.old call.now }
         requires seats { seats.now ≡ map (λ w. w.seat) token.old.me.0.own.knows.hand }
@@ -178,17 +179,15 @@ impl SemaTable {
     {
         for seat in seats {
             self.grant_one(token, call, *seat);
-            self.rouse(token, *seat, 1);
         }
     }
 
     /// M7: the seat of the first wait in hand is granted.
-    pub(crate) fn grant_one(&self, token: &mut Token, call: &ReleaseMany, seat: u16)
+    fn grant_one(&self, token: &mut Token, call: &ReleaseMany, seat: u16)
         requires seat { Stands self.now token.old (ReleasingMany call.now M7)
             × (waiter token.old.me.0.own.number token.old.me.0.own.knows.hand ≡ seat) }
         requires there { seat < self.now.setting.seats }
-        ensures granted { GrantedFirst token.old call.now token.new }
-        ensures stored { IsGranted self.now token.new seat 1 }
+        ensures { GrantedFirst token.old call.now token.new }
     {
         let word = self.grant_word(seat);
         self.words.store_grant(token, word, 1);

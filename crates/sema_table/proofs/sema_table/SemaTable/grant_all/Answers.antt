@@ -28,22 +28,13 @@ grant_one-requires-clause-there c =
     subst (λ k. k < c.args.self.now.setting.seats) (sym (seat_at s.me.0.own.knows.hand n) ∙ ap (λ l. get_or l n 0) (sym c.requires.seats))
     (c.requires.there n (wait 0 0) low)
 
-pub rouse-requires-clause-there : goal.rouse-requires-clause-there
-rouse-requires-clause-there c =
-    let s = c.args.token.now in let n : ℕ = c.loop-seat.seat-index in
-    let all : length c.args.seats.now ≡ length s.me.0.own.knows.hand = ap length c.requires.seats
-    ∙ length-map s.me.0.own.knows.hand (λ (w : WaitId). w.seat) in
-    let low : n < length s.me.0.own.knows.hand = (let h = c.loop-seat-test.true in omega arith) in
-    subst (λ k. k < c.args.self.now.setting.seats) (sym (seat_at s.me.0.own.knows.hand n) ∙ ap (λ l. get_or l n 0) (sym c.requires.seats))
-    (c.requires.there n (wait 0 0) low)
-
 pub loop-seat-preserved : goal.loop-seat-preserved
 loop-seat-preserved c =
     let s = c.args.token.now in let n : ℕ = c.loop-seat.seat-index in
     let all : length c.args.seats.now ≡ length s.me.0.own.knows.hand = ap length c.requires.seats
     ∙ length-map s.me.0.own.knows.hand (λ (w : WaitId). w.seat) in
     let low : n < length s.me.0.own.knows.hand = (let h = c.loop-seat-test.true in omega arith) in
-    granted_more s c.loop-seat.token c.args.call.now n c.loop-seat.invariant low c.grant_one.new.token c.grant_one.ensures.granted
+    granted_more s c.loop-seat.token c.args.call.now n c.loop-seat.invariant low c.grant_one.new.token c.grant_one.ensures
 
 pub returns : goal.returns
 returns c =

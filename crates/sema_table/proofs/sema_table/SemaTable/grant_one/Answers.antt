@@ -1,9 +1,7 @@
 use Rattle.std.proofs.Common.{◌≡◌, ◌<◌, sym, ap, ◌∙◌, subst, arith}
 use Rattle.step_table.specs.declared.word.Word.TheVariants.{Grant}
 use Rattle.step_table.specs.Event.{waiter}
-use Rattle.running_rows.specs.Sleeping.{StoresLast}
 use Rattle.sema_table.specs.Setting.{address}
-use Rattle.sema_table.specs.Rows.{semaphore_rows}
 use Rattle.sema_table.specs.Seats.{TableModel}
 use Rattle.sema_table.proofs.Owned.{someones}
 use Rattle.sema_table.proofs.Striding.{slots_are}
@@ -29,9 +27,6 @@ store_grant-requires c =
       ),
     )
 
-pub returns-clause-granted : goal.returns-clause-granted
-returns-clause-granted c = let T = c.store_grant.ensures.went in
+pub returns : goal.returns
+returns c = let T = c.store_grant.ensures.went in
     granted_first c.args.token.now c.store_grant.new.token c.args.call.now T.0 c.requires.seat.0.place_is T.1 c.store_grant.ensures.own (slots_are T.3)
-
-pub returns-clause-stored : goal.returns-clause-stored
-returns-clause-stored c = subst (λ i. StoresLast semaphore_rows c.store_grant.new.token.me.0.own i 1) c.grant_word-word.ensures.at c.store_grant.ensures.stored

@@ -6,4 +6,4 @@ pub returns-clause-rows : goal.returns-clause-rows
 returns-clause-rows c = search rules
 
 pub returns-clause-caller : goal.returns-clause-caller
-returns-clause-caller c = wakes c.args.owing c.wake_locked_silently.result.0 c.args.handoff c.wake_locked_silently.result.1 (returns-clause-rows c)
+returns-clause-caller c = wakes c.args.owing c.wake_locked.result.0 c.args.handoff c.wake_locked.result.1 (returns-clause-rows c)

@@ -7,13 +7,13 @@ use Rattle.sema_table.proofs.sema_table.SemaTable.wake_some_silently.Goals as go
 pub returns-clause-rows : goal.returns-clause-rows
 returns-clause-rows c =
     let s = c.owing.inside.token in let is = c.owing.invariant in let own = ap (λ (x : SeatModel). x.table) c.owing.view_is ∙ c.requires in
-    let o = c.wake_some_locked_silently-seat.ensures s (record {
+    let o = c.wake_some_locked-seat.ensures.wakes s (record {
       token_is = is.midway.token_is;
       table_is = own;
       inside = subst (λ (y : TableModel). c.owing.inside.call.counter < length y.setting.starts) own is.midway.inside;
       locked = c.if-not-try_lock_many.ensures;
     }) in
-    subst (λ (x : SeatModel). IsWokenSeats x c.wake_some_locked_silently-seat.result c.wake_some_locked_silently-seat.new.hand.items) c.owing.view_is (
+    subst (λ (x : SeatModel). IsWokenSeats x c.wake_some_locked-seat.result c.wake_some_locked-seat.new.hand.items) c.owing.view_is (
       c.owing.inside.call,
       is.midway.at,
       o.0,
@@ -22,4 +22,4 @@ returns-clause-rows c =
     )
 
 pub returns-clause-caller : goal.returns-clause-caller
-returns-clause-caller c = wakes_these c.args.owing c.wake_some_locked_silently-seat.result c.wake_some_locked_silently-seat.new.hand.items (returns-clause-rows c)
+returns-clause-caller c = wakes_these c.args.owing c.wake_some_locked-seat.result c.wake_some_locked-seat.new.hand.items (returns-clause-rows c)

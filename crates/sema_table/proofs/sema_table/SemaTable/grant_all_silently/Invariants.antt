@@ -1,5 +1,0 @@
-use Rattle.sema_table.proofs.WakeningMany.{GrantedUpTo}
-use Rattle.sema_table.proofs.sema_table.SemaTable.grant_all_silently.Given as goal
-
-abbrev pub invariant-loop-seat : goal.invariant-loop-seat
-invariant-loop-seat l = GrantedUpTo l.initial.token l.fn.call l.seat-index l.token

@@ -1,9 +1,0 @@
-use Rattle.std.proofs.Common.{rules}
-use Rattle.sema_table.proofs.CallerWakes.{wakes}
-use Rattle.sema_table.proofs.sema_table.SemaTable.try_wake.Goals as goal
-
-pub returns-clause-rows : goal.returns-clause-rows
-returns-clause-rows c = search rules
-
-pub returns-clause-caller : goal.returns-clause-caller
-returns-clause-caller c = wakes c.args.owing c.wake_locked.result.0 c.args.handoff c.wake_locked.result.1 (returns-clause-rows c)
