@@ -1,12 +1,6 @@
-pub mod AccessLines
-pub mod ConditionLines
-pub mod DeclarationLines
-pub mod FlowLines
+pub mod Forms
 pub mod Judging
-pub mod LayerLines
-pub mod ListLines
 pub mod Parts
-pub mod PropertyLines
 pub mod Shaping
 pub mod Spelling
 pub mod Texts

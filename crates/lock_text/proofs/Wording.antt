@@ -8,14 +8,14 @@ use Rattle.explorer_text.specs.Phrases.{ReadsAs}
 use Rattle.explorer_text.proofs.Parts.{nothing, one as one_of, found, only, none, same}
 use Rattle.lock_lines.specs.declared.relation.Relation.{Relation}
 use Rattle.lock_text.specs.declared.reader.verb.Verb.{Verb}
-use Rattle.lock_text.specs.declared.reader.verb.Verb.TheVariants as verb
 use Rattle.lock_text.specs.declared.words.Operand.{Operand}
 use Rattle.lock_text.specs.declared.lines.Line.{Line}
-use Rattle.lock_text.specs.declared.lines.Line.TheVariants.{Blank, Registers, Label, If}
+use Rattle.lock_text.specs.declared.lines.Line.TheVariants.{Blank, Registers, Label}
 use Rattle.lock_text.specs.Words.{texts, IsName, IsOperand, IsRelation, operand_text, relation_text}
 use Rattle.lock_text.specs.Verb.{verb_text, IsVerb}
 use Rattle.lock_text.specs.Lines.{verb_of, arguments_of, behind, line_words, AreWordsOf, AreArgumentsOf, IsLabel}
 use Rattle.lock_text.specs.Shapes.{AreThree, AreNames}
+use Rattle.lock_text.proofs.Forms.{AreJump}
 use Rattle.lock_text.proofs.Parts.{texts_length}
 use Rattle.lock_text.proofs.Verbs.{no_register, no_colon}
 
@@ -147,68 +147,57 @@ no_verb words rest word e other unlabelled h = nothing (AreWordsOf words) (λ l 
 abbrev Compared : List (List ℕ) → Operand × Relation × Operand → Type 0
 Compared words x = AreThree IsOperand IsRelation IsOperand words x
 
-if_parts : (a b c d e : Bor (List ℕ)) (l : Line) → AreArgumentsOf verb.If (texts (a ∷ b ∷ c ∷ d ∷ e ∷ [])) l
-    → (x : Operand × Relation × Operand) × (label : List ℕ) × (l ≡ If x.0 x.1 x.2 label) × Compared (texts (a ∷ b ∷ c
-    ∷ [])) x × (d.now ≡ codes "goto") × IsName e.now label
-if_parts a b c d e (If p r q label) h =
+jump_parts : (a b c d e : Bor (List ℕ)) (x : Operand × Relation × Operand × List ℕ) → AreJump (texts (a ∷ b ∷ c ∷ d ∷ e ∷ [])) x
+    → Compared (texts (a ∷ b ∷ c ∷ [])) (x.0, x.1, x.2) × (d.now ≡ codes "goto") × IsName e.now x.3
+jump_parts a b c d e x h =
     let s = h.spelled in (
-      (p, r, q),
-      label,
-      refl,
       record {
-        u = operand_text p;
-        v = relation_text r;
-        w = operand_text q;
+        u = operand_text x.0;
+        v = relation_text x.1;
+        w = operand_text x.2;
         words_are = ap (take 3) s;
-        first = record { form = h.form.0; spelled = refl };
+        first = record { form = h.first; spelled = refl };
         second = refl;
-        third = record { form = h.form.1; spelled = refl };
+        third = record { form = h.second; spelled = refl };
       },
       cc,
-      record { form = h.form.2; spelled = cc },
+      record { form = h.label; spelled = cc },
     )
-if_parts a b c d e l h = let k = h.verb_is in absurd cc
 
 pub jump : (ws : List (Bor (List ℕ))) (x y : Bor (List ℕ)) (p : Operand) (r : Relation) (q : Operand) (label : List ℕ) → length ws ≡ 5
     → (get_or ws 3 x).now ≡ codes "goto"
     → (let z : Operand × Relation × Operand = (p, r, q) in ReadsAs (Compared (texts (take 3 ws))) (Some z))
-    → ReadsAs (IsName (get_or ws 4 y).now) (Some label) → ReadsAs (AreArgumentsOf verb.If (texts ws)) (Some (If p r q label))
+    → ReadsAs (IsName (get_or ws 4 y).now) (Some label) → ReadsAs (AreJump (texts ws)) (Some (p, r, q, label))
 jump (a ∷ b ∷ c ∷ d ∷ e ∷ []) x y p r q label len goto h n =
     let z : Operand × Relation × Operand = (p, r, q) in
     let f = found (Compared (texts (a ∷ b ∷ c ∷ []))) z h in
     let g = found (IsName e.now) label n in
     let front : texts (a ∷ b ∷ c ∷ []) ≡ operand_text p ∷ relation_text r ∷ operand_text q ∷ [] = f.words_are
     ∙ (λ i. f.first.spelled i ∷ f.second i ∷ f.third.spelled i ∷ []) in
-    one_of (AreArgumentsOf verb.If (texts (a ∷ b ∷ c ∷ d ∷ e ∷ []))) (If p r q label)
-    (record { verb_is = refl; form = (f.first.form, f.third.form, g.form); spelled = (λ i. front i ++ (goto i ∷ g.spelled i ∷ [])) })
-    (λ l k. let m = if_parts a b c d e l k in
-    let one_is : m.0 ≡ z = only (Compared (texts (a ∷ b ∷ c ∷ []))) z m.0 h m.3 in
-    let two_is : m.1 ≡ label = only (IsName e.now) label m.1 n m.5 in
-    m.2 ∙ (λ i. If (one_is i).0 (one_is i).1 (one_is i).2 (two_is i)))
+    one_of (AreJump (texts (a ∷ b ∷ c ∷ d ∷ e ∷ []))) (p, r, q, label)
+    (record { first = f.first.form; second = f.third.form; label = g.form; spelled = (λ i. front i ++ (goto i ∷ g.spelled i ∷ [])) })
+    (λ k j. let m = jump_parts a b c d e k j in
+    let y : Operand × Relation × Operand = (k.0, k.1, k.2) in
+    let one_is : y ≡ z = only (Compared (texts (a ∷ b ∷ c ∷ []))) z y h m.0 in
+    let two_is : k.3 ≡ label = only (IsName e.now) label k.3 n m.2 in
+    (λ i. ((one_is i).0, (one_is i).1, (one_is i).2, two_is i)))
 jump ws x y p r q label len goto h n = absurd (omega arith)
 
-pub no_jump_length : (ws : List (Bor (List ℕ))) → (length ws ≡ 5 → ⊥) → ReadsAs (AreArgumentsOf verb.If (texts ws)) None
-no_jump_length ws h = nothing (AreArgumentsOf verb.If (texts ws)) is
-  where
-    is : (l : Line) → AreArgumentsOf verb.If (texts ws) l → ⊥
-    is (If p r q target) k = h (sym (texts_length ws) ∙ ap (λ (x : List (List ℕ)). length x) k.spelled)
-    is l k = let e = k.verb_is in absurd cc
+pub no_jump_length : (ws : List (Bor (List ℕ))) → (length ws ≡ 5 → ⊥) → ReadsAs (AreJump (texts ws)) None
+no_jump_length ws h = nothing (AreJump (texts ws)) (λ x k. h (sym (texts_length ws) ∙ ap (λ (x : List (List ℕ)). length x) k.spelled))
 
 pub no_jump_goto : (ws : List (Bor (List ℕ))) (x : Bor (List ℕ)) → length ws ≡ 5 → ((get_or ws 3 x).now ≡ codes "goto" → ⊥)
-    → ReadsAs (AreArgumentsOf verb.If (texts ws)) None
-no_jump_goto (a ∷ b ∷ c ∷ d ∷ e ∷ []) x len h =
-    nothing (AreArgumentsOf verb.If (texts (a ∷ b ∷ c ∷ d ∷ e ∷ []))) (λ l k. h ((if_parts a b c d e l k).4))
+    → ReadsAs (AreJump (texts ws)) None
+no_jump_goto (a ∷ b ∷ c ∷ d ∷ e ∷ []) x len h = nothing (AreJump (texts (a ∷ b ∷ c ∷ d ∷ e ∷ []))) (λ k j. h ((jump_parts a b c d e k j).1))
 no_jump_goto ws x len h = absurd (omega arith)
 
-pub no_jump_test : (ws : List (Bor (List ℕ))) → length ws ≡ 5 → ReadsAs (Compared (texts (take 3 ws))) None
-    → ReadsAs (AreArgumentsOf verb.If (texts ws)) None
-no_jump_test (a ∷ b ∷ c ∷ d ∷ e ∷ []) len h =
-    nothing (AreArgumentsOf verb.If (texts (a ∷ b ∷ c ∷ d ∷ e ∷ []))) (λ l k. let m = if_parts a b c d e l k in
-    none (Compared (texts (a ∷ b ∷ c ∷ []))) m.0 h m.3)
+pub no_jump_test : (ws : List (Bor (List ℕ))) → length ws ≡ 5 → ReadsAs (Compared (texts (take 3 ws))) None → ReadsAs (AreJump (texts ws)) None
+no_jump_test (a ∷ b ∷ c ∷ d ∷ e ∷ []) len h = nothing (AreJump (texts (a ∷ b ∷ c ∷ d ∷ e ∷ []))) (λ k j.
+    none (Compared (texts (a ∷ b ∷ c ∷ []))) (k.0, k.1, k.2) h (jump_parts a b c d e k j).0)
 no_jump_test ws len h = absurd (omega arith)
 
 pub no_jump_label : (ws : List (Bor (List ℕ))) (y : Bor (List ℕ)) → length ws ≡ 5 → ReadsAs (IsName (get_or ws 4 y).now) None
-    → ReadsAs (AreArgumentsOf verb.If (texts ws)) None
-no_jump_label (a ∷ b ∷ c ∷ d ∷ e ∷ []) y len h = nothing (AreArgumentsOf verb.If (texts (a ∷ b ∷ c ∷ d ∷ e
-    ∷ []))) (λ l k. let m = if_parts a b c d e l k in none (IsName e.now) m.1 h m.5)
+    → ReadsAs (AreJump (texts ws)) None
+no_jump_label (a ∷ b ∷ c ∷ d ∷ e ∷ []) y len h = nothing (AreJump (texts (a ∷ b ∷ c ∷ d ∷ e ∷ []))) (λ k j.
+    none (IsName e.now) k.3 h (jump_parts a b c d e k j).2)
 no_jump_label ws y len h = absurd (omega arith)

@@ -1,9 +1,11 @@
+use Rattle.std.proofs.Common.{Some, None}
+use Rattle.lock_text.specs.declared.reader.verb.Verb.TheVariants as verb
 use Rattle.lock_text.specs.Words.{texts}
-use Rattle.lock_text.proofs.AccessLines.{load_reads, no_load}
+use Rattle.lock_text.proofs.Forms.{read}
 use Rattle.lock_text.proofs.reader.access.read_load.Goals as goal
 
 pub returns-in_default : goal.returns-in_default
-returns-in_default c = no_load (texts c.args.words.now) c.in_default.ensures
+returns-in_default c = read verb.Load (texts c.args.words.now) None c.in_default.ensures
 
 pub returns : goal.returns
-returns c = load_reads (texts c.args.words.now) c.in-Some.place c.in-Some.register c.in-Some.ensures
+returns c = read verb.Load (texts c.args.words.now) (Some (c.in-Some.place, c.in-Some.register)) c.in-Some.ensures

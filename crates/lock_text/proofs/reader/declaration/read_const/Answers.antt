@@ -1,9 +1,11 @@
+use Rattle.std.proofs.Common.{Some, None}
+use Rattle.lock_text.specs.declared.reader.verb.Verb.TheVariants as verb
 use Rattle.lock_text.specs.Words.{texts}
-use Rattle.lock_text.proofs.DeclarationLines.{const_reads, no_const}
+use Rattle.lock_text.proofs.Forms.{read}
 use Rattle.lock_text.proofs.reader.declaration.read_const.Goals as goal
 
 pub returns-in_default : goal.returns-in_default
-returns-in_default c = no_const (texts c.args.words.now) c.in_default.ensures
+returns-in_default c = read verb.Const (texts c.args.words.now) None c.in_default.ensures
 
 pub returns : goal.returns
-returns c = const_reads (texts c.args.words.now) c.in-Some.name c.in-Some.value c.in-Some.ensures
+returns c = read verb.Const (texts c.args.words.now) (Some (c.in-Some.name, c.in-Some.value)) c.in-Some.ensures

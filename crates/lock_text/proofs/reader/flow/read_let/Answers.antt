@@ -1,12 +1,22 @@
-use Rattle.lock_text.specs.Words.{texts}
-use Rattle.lock_text.proofs.FlowLines.{let_four, let_two, no_let}
+use Rattle.std.proofs.Common.{Some, None, inl, inr}
+use Rattle.lock_text.specs.declared.reader.verb.Verb.TheVariants as verb
+use Rattle.lock_text.specs.Words.{IsName, IsOperand, IsOperator, texts}
+use Rattle.lock_text.specs.Shapes.{AreTwo, AreFour}
+use Rattle.lock_text.proofs.Forms.{first, second, read}
 use Rattle.lock_text.proofs.reader.flow.read_let.Goals as goal
 
 pub returns-in-Some : goal.returns-in-Some
-returns-in-Some c = let_four (texts c.args.words.now) c.in-Some.register c.in-Some.first c.in-Some.operator c.in-Some.second c.in-Some.ensures
+returns-in-Some c = read verb.Let (texts c.args.words.now) (Some (inl (c.in-Some.register, c.in-Some.first, c.in-Some.operator, c.in-Some.second)))
+    (first (AreFour IsName IsOperand IsOperator IsOperand) (AreTwo IsName IsOperand) (texts c.args.words.now)
+    (c.in-Some.register, c.in-Some.first, c.in-Some.operator, c.in-Some.second)
+    (λ x r s. let e = r.words_are in let f = s.words_are in absurd cc) c.in-Some.ensures)
 
 pub returns-in_default-two : goal.returns-in_default-two
-returns-in_default-two c = no_let (texts c.args.words.now) c.in_default.ensures c.in_default-two.ensures
+returns-in_default-two c = read verb.Let (texts c.args.words.now) None
+    (second (AreFour IsName IsOperand IsOperator IsOperand) (AreTwo IsName IsOperand) (texts c.args.words.now) None
+    c.in_default.ensures c.in_default-two.ensures)
 
 pub returns : goal.returns
-returns c = let_two (texts c.args.words.now) c.in-Some-two.register c.in-Some-two.operand c.in_default.ensures c.in-Some-two.ensures
+returns c = read verb.Let (texts c.args.words.now) (Some (inr (c.in-Some-two.register, c.in-Some-two.operand)))
+    (second (AreFour IsName IsOperand IsOperator IsOperand) (AreTwo IsName IsOperand) (texts c.args.words.now)
+    (Some (c.in-Some-two.register, c.in-Some-two.operand)) c.in_default.ensures c.in-Some-two.ensures)

@@ -1,11 +1,13 @@
-use Rattle.std.proofs.Common.{arith}
+use Rattle.std.proofs.Common.{Some, None, arith}
+use Rattle.lock_text.specs.declared.reader.verb.Verb.TheVariants as verb
 use Rattle.lock_text.specs.Words.{texts}
-use Rattle.lock_text.proofs.FlowLines.{return_reads, no_return}
+use Rattle.lock_text.proofs.Forms.{nil, not_nil, read}
 use Rattle.lock_text.proofs.Parts.{texts_none, texts_some}
 use Rattle.lock_text.proofs.reader.flow.read_return.Goals as goal
 
 pub returns-then-not-is_empty : goal.returns-then-not-is_empty
-returns-then-not-is_empty c = no_return (texts c.args.words.now) (texts_some c.args.words.now (grind arith))
+returns-then-not-is_empty c = read verb.Return (texts c.args.words.now) None
+    (not_nil (texts c.args.words.now) (texts_some c.args.words.now (grind arith)))
 
 pub returns : goal.returns
-returns c = return_reads (texts c.args.words.now) (texts_none c.args.words.now (grind arith))
+returns c = read verb.Return (texts c.args.words.now) (Some tt) (nil (texts c.args.words.now) (texts_none c.args.words.now (grind arith)))
