@@ -1,49 +1,43 @@
-//! The semaphore table and the notify list for programs in C, C++ and Rust: a seat is kept in a cell on the
-//! heap, and each call answers a code.
+//! The semaphore table and the notify list for programs in C, C++ and Rust: each call of `c_calls` as an
+//! export.
 #![tactic(auto)]
 
 ghost use Rattle.sema_table.specs.Tasks.{TriesByTask, PostsByTask};
 ghost use Rattle.sema_table.specs.Tasks.{ReadsByTask, CountsByTask, PostsManyByTask};
 ghost use Rattle.sema_table.specs.Tasks.{EntersByTask, PollsByTask};
 ghost use Rattle.sema_table.specs.Tasks.{RetriesByTask, WakesByTask, WakesSomeByTask};
+ghost use Rattle.sema_table.specs.declared.task_seat.TaskStage.TheVariants.{Resting};
 ghost use Rattle.std.specs.Prelude.{◌≡◌, ◌⊎◌};
-ghost use Rattle.parklot_c.specs.Places.{seat_of};
-ghost use Rattle.parklot_c.specs.Codes.{tried_code, entered_code, polled_code};
-ghost use Rattle.parklot_c.specs.Codes.{retried_code, posted_code, wake_code};
-ghost use Rattle.parklot_c.specs.Codes.{told, done};
-ghost use Rattle.parklot_c.specs.Answers.{Answers, Telling, NamesWoken};
-ghost use Rattle.parklot_c.specs.Answers.{NamesEach, LacksRoom, TellsNumber, Frees};
-ghost use Rattle.parklot_c.specs.Deals.{DealsToEmpty};
+ghost use Rattle.c_calls.specs.Handles.{table_seat};
+ghost use Rattle.c_calls.specs.Codes.{refused_code, tried_code, entered_code, polled_code};
+ghost use Rattle.c_calls.specs.Codes.{retried_code, posted_code, wake_code};
+ghost use Rattle.c_calls.specs.Codes.{told, done};
+ghost use Rattle.c_calls.specs.Answers.{Answers, Telling, NamesWoken};
+ghost use Rattle.c_calls.specs.Answers.{NamesEach, LacksRoom, TellsNumber, Frees};
+ghost use Rattle.c_calls.specs.Deals.{DealsToEmpty};
 
-mod answers;
-mod calls;
-mod cell;
-mod codes;
-mod deal;
-mod handle;
-mod kept;
-mod lends;
+use c_calls::codes::{NO_SEAT, OK};
+use c_calls::{Kept, SeatHandle, deal};
+use std::alloc::Global;
+
+/// The place of a handle's seat. An export answers NO_SEAT where it has none of this kind.
+macro_rules! place {
+    ($kind:ident of $seat:ident) => {{
+        if !$seat.is_full {
+            return NO_SEAT;
+        }
+        let Kept::$kind(place) = $seat.cell.place() else {
+            return NO_SEAT;
+        };
+        place
+    }};
+}
+
 mod list;
-mod list_all;
-mod list_answers;
-mod list_calls;
-mod list_deal;
-mod list_handle;
-mod list_place;
 #[cfg(test)]
 mod list_tests;
-mod parts;
-mod place;
-mod some;
 #[cfg(test)]
 mod tests;
-
-use codes::{NO_SEAT, OK};
-pub use handle::SeatHandle;
-use kept::Kept;
-pub use list_handle::ListSeatHandle;
-use std::alloc::Global;
-use std::mem;
 
 /// Makes a table, and gives each of `seats` one of its seats, in the order of their numbers. Where it
 /// answers anything but OK it has done nothing.
@@ -64,143 +58,87 @@ pub extern "C" fn parklot_new(
 /// Frees a seat that rests. The table goes with the last of its seats.
 #[unsafe(no_mangle)]
 pub extern "C" fn parklot_free(alloc: Global, seat: &mut SeatHandle) -> u32
-    ensures { Frees (seat_of seat.old.cell.places) result (seat_of seat.new.cell.places) }
+    ensures { Frees (λ s. s.stage) Resting (table_seat seat.old) result (table_seat seat.new) }
 {
-    if !seat.is_full {
-        return NO_SEAT;
+    let code = place!(OfTable of seat).may_leave();
+    if code == OK {
+        seat.clear(alloc);
     }
-    let Kept::OfTable(place) = seat.cell.place() else {
-        return NO_SEAT;
-    };
-    let code = place.may_leave();
-    if code != OK {
-        return code;
-    }
-    let old = mem::replace(seat, SeatHandle::empty());
-    let SeatHandle { is_full: _, cell } = old;
-    drop(cell.into_parts(alloc).into_box());
-    OK
+    code
 }
 
 /// Which seat of its table it is.
 #[unsafe(no_mangle)]
 pub extern "C" fn parklot_number(seat: &mut SeatHandle, number: &mut u32) -> u32
-    ensures same { seat_of seat.new.cell.places ≡ seat_of seat.old.cell.places }
-    ensures told { TellsNumber (seat_of seat.old.cell.places) result number.new }
+    ensures same { table_seat seat.new ≡ table_seat seat.old }
+    ensures told { TellsNumber (λ s. s.seat.number) (table_seat seat.old) result number.new }
 {
-    if !seat.is_full {
-        return NO_SEAT;
-    }
-    let Kept::OfTable(place) = seat.cell.place() else {
-        return NO_SEAT;
-    };
-    place.number(number)
+    place!(OfTable of seat).number(number)
 }
 
 /// Takes a unit if there is one: TAKEN, ZERO or LOST.
 #[unsafe(no_mangle)]
 pub extern "C" fn parklot_try_acquire(seat: &mut SeatHandle, counter: u32) -> u32
-    ensures { Answers tried_code (λ s. TriesByTask s counter)
-        (seat_of seat.old.cell.places) result (seat_of seat.new.cell.places) }
+    ensures { Answers refused_code tried_code (λ s. TriesByTask s counter)
+        (table_seat seat.old) result (table_seat seat.new) }
 {
-    if !seat.is_full {
-        return NO_SEAT;
-    }
-    let Kept::OfTable(place) = seat.cell.place() else {
-        return NO_SEAT;
-    };
-    place.try_acquire(counter)
+    place!(OfTable of seat).try_acquire(counter)
 }
 
 /// Goes to the lock of the counter's root, and sleeps if there is no unit: TAKEN, ASLEEP or BUSY.
 #[unsafe(no_mangle)]
 pub extern "C" fn parklot_enter(seat: &mut SeatHandle, counter: u32, lifo: bool) -> u32
-    ensures { Answers entered_code (λ s. EntersByTask s counter lifo)
-        (seat_of seat.old.cell.places) result (seat_of seat.new.cell.places) }
+    ensures { Answers refused_code entered_code (λ s. EntersByTask s counter lifo)
+        (table_seat seat.old) result (table_seat seat.new) }
 {
-    if !seat.is_full {
-        return NO_SEAT;
-    }
-    let Kept::OfTable(place) = seat.cell.place() else {
-        return NO_SEAT;
-    };
-    place.enter(counter, lifo)
+    place!(OfTable of seat).enter(counter, lifo)
 }
 
 /// Looks whether the wait of a seat that sleeps was granted: ASLEEP, WOKEN or HANDED.
 #[unsafe(no_mangle)]
 pub extern "C" fn parklot_poll(seat: &mut SeatHandle) -> u32
-    ensures { Answers polled_code PollsByTask
-        (seat_of seat.old.cell.places) result (seat_of seat.new.cell.places) }
+    ensures { Answers refused_code polled_code PollsByTask
+        (table_seat seat.old) result (table_seat seat.new) }
 {
-    if !seat.is_full {
-        return NO_SEAT;
-    }
-    let Kept::OfTable(place) = seat.cell.place() else {
-        return NO_SEAT;
-    };
-    place.poll()
+    place!(OfTable of seat).poll()
 }
 
 /// The try of a seat that was woken: TAKEN, or ZERO, and then it enters again.
 #[unsafe(no_mangle)]
 pub extern "C" fn parklot_retry(seat: &mut SeatHandle) -> u32
-    ensures { Answers retried_code RetriesByTask
-        (seat_of seat.old.cell.places) result (seat_of seat.new.cell.places) }
+    ensures { Answers refused_code retried_code RetriesByTask
+        (table_seat seat.old) result (table_seat seat.new) }
 {
-    if !seat.is_full {
-        return NO_SEAT;
-    }
-    let Kept::OfTable(place) = seat.cell.place() else {
-        return NO_SEAT;
-    };
-    place.retry()
+    place!(OfTable of seat).retry()
 }
 
 /// Adds a unit: DONE, OWES or LIMIT.
 #[unsafe(no_mangle)]
 pub extern "C" fn parklot_post(seat: &mut SeatHandle, counter: u32) -> u32
-    ensures { Answers posted_code (λ s. PostsByTask s counter)
-        (seat_of seat.old.cell.places) result (seat_of seat.new.cell.places) }
+    ensures { Answers refused_code posted_code (λ s. PostsByTask s counter)
+        (table_seat seat.old) result (table_seat seat.new) }
 {
-    if !seat.is_full {
-        return NO_SEAT;
-    }
-    let Kept::OfTable(place) = seat.cell.place() else {
-        return NO_SEAT;
-    };
-    place.post(counter)
+    place!(OfTable of seat).post(counter)
 }
 
 /// Adds so many units at once: DONE, OWES, LIMIT or UNITS.
 #[unsafe(no_mangle)]
 pub extern "C" fn parklot_post_many(seat: &mut SeatHandle, counter: u32, units: u32) -> u32
-    ensures { Answers posted_code (λ s. PostsManyByTask s counter units)
-        (seat_of seat.old.cell.places) result (seat_of seat.new.cell.places) }
+    ensures { Answers refused_code posted_code (λ s. PostsManyByTask s counter units)
+        (table_seat seat.old) result (table_seat seat.new) }
 {
-    if !seat.is_full {
-        return NO_SEAT;
-    }
-    let Kept::OfTable(place) = seat.cell.place() else {
-        return NO_SEAT;
-    };
-    place.post_many(counter, units)
+    place!(OfTable of seat).post_many(counter, units)
 }
 
 /// The rest of a release: takes the first wait out and wakes its seat, whose number is told. NOBODY, ONE,
 /// HANDED or BUSY.
 #[unsafe(no_mangle)]
 pub extern "C" fn parklot_wake(seat: &mut SeatHandle, handoff: bool, woken: &mut u32) -> u32
-    ensures { Answers wake_code (Telling (NamesWoken woken.new) (λ s. WakesByTask s handoff))
-        (seat_of seat.old.cell.places) result (seat_of seat.new.cell.places) }
+    ensures { Answers refused_code wake_code
+        (Telling (NamesWoken woken.new) (λ s. WakesByTask s handoff))
+        (table_seat seat.old) result (table_seat seat.new) }
 {
-    if !seat.is_full {
-        return NO_SEAT;
-    }
-    let Kept::OfTable(place) = seat.cell.place() else {
-        return NO_SEAT;
-    };
-    place.wake(handoff, woken)
+    place!(OfTable of seat).wake(handoff, woken)
 }
 
 /// The rest of a release of many units: takes as many waits out, or fewer if there are no more, and wakes
@@ -211,32 +149,20 @@ pub extern "C" fn parklot_wake_some(
     woken: &mut [u32],
     count: &mut u32,
 ) -> u32
-    ensures { LacksRoom woken.old (seat_of seat.old.cell.places) result (seat_of seat.new.cell.places)
-        ⊎ Answers done (Telling (NamesEach woken.new count.new) WakesSomeByTask)
-        (seat_of seat.old.cell.places) result (seat_of seat.new.cell.places) }
+    ensures { LacksRoom woken.old (table_seat seat.old) result (table_seat seat.new)
+        ⊎ Answers refused_code done (Telling (NamesEach woken.new count.new) WakesSomeByTask)
+        (table_seat seat.old) result (table_seat seat.new) }
 {
-    if !seat.is_full {
-        return NO_SEAT;
-    }
-    let Kept::OfTable(place) = seat.cell.place() else {
-        return NO_SEAT;
-    };
-    place.wake_some(woken, count)
+    place!(OfTable of seat).wake_some(woken, count)
 }
 
 /// The number of a counter.
 #[unsafe(no_mangle)]
 pub extern "C" fn parklot_value(seat: &mut SeatHandle, counter: u32, value: &mut u64) -> u32
-    ensures { Answers told (Telling (λ n. value.new ≡ n) (λ s. ReadsByTask s counter))
-        (seat_of seat.old.cell.places) result (seat_of seat.new.cell.places) }
+    ensures { Answers refused_code told (Telling (λ n. value.new ≡ n) (λ s. ReadsByTask s counter))
+        (table_seat seat.old) result (table_seat seat.new) }
 {
-    if !seat.is_full {
-        return NO_SEAT;
-    }
-    let Kept::OfTable(place) = seat.cell.place() else {
-        return NO_SEAT;
-    };
-    place.value(counter, value)
+    place!(OfTable of seat).value(counter, value)
 }
 
 /// How many waits are queued at a counter's root.
@@ -246,14 +172,8 @@ pub extern "C" fn parklot_waiters_of_root(
     counter: u32,
     waits: &mut u64,
 ) -> u32
-    ensures { Answers told (Telling (λ n. waits.new ≡ n) (λ s. CountsByTask s counter))
-        (seat_of seat.old.cell.places) result (seat_of seat.new.cell.places) }
+    ensures { Answers refused_code told (Telling (λ n. waits.new ≡ n) (λ s. CountsByTask s counter))
+        (table_seat seat.old) result (table_seat seat.new) }
 {
-    if !seat.is_full {
-        return NO_SEAT;
-    }
-    let Kept::OfTable(place) = seat.cell.place() else {
-        return NO_SEAT;
-    };
-    place.waiters_of_root(counter, waits)
+    place!(OfTable of seat).waiters_of_root(counter, waits)
 }

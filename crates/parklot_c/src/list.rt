@@ -2,25 +2,22 @@
 ghost use Rattle.std.specs.Prelude.{◌≡◌, ◌⊎◌};
 ghost use Rattle.notify_list.specs.Tasks.{AddsByTask, LooksByTask};
 ghost use Rattle.notify_list.specs.Tasks.{EntersByTask, PollsByTask, NotifiesOneByTask};
-ghost use Rattle.parklot_c.specs.Codes.{told, done};
-ghost use Rattle.parklot_c.specs.ListCodes.{entered_code, polled_code, one_code};
-ghost use Rattle.parklot_c.specs.ListAnswers.{Answers, Telling, NotifiesOrGoesOn};
-ghost use Rattle.parklot_c.specs.ListAnswers.{NamesGranted, NamesAll, LacksRoom};
-ghost use Rattle.parklot_c.specs.ListAnswers.{TellsNumber, Frees};
-ghost use Rattle.parklot_c.specs.ListDeals.{DealsToEmpty};
-ghost use Rattle.parklot_c.specs.ListPlaces.{seat_of};
+ghost use Rattle.notify_list.specs.declared.task_seat.TaskStage.TheVariants.{Resting};
+ghost use Rattle.c_calls.specs.Handles.{list_seat};
+ghost use Rattle.c_calls.specs.Codes.{told, done};
+ghost use Rattle.c_calls.specs.ListCodes.{refused_code, entered_code, polled_code, one_code};
+ghost use Rattle.c_calls.specs.Answers.{Answers, Telling, LacksRoom, TellsNumber, Frees};
+ghost use Rattle.c_calls.specs.ListAnswers.{NotifiesOrGoesOn, NamesGranted, NamesAll};
+ghost use Rattle.c_calls.specs.ListDeals.{DealsToEmpty};
 
-use crate::codes::{NO_SEAT, OK};
-use crate::kept::Kept;
-use crate::list_deal;
-use crate::list_handle::ListSeatHandle;
+use c_calls::codes::{NO_SEAT, OK};
+use c_calls::{Kept, SeatHandle, list_deal};
 use std::alloc::Global;
-use std::mem;
 
 /// Makes a list whose first ticket is this one, and gives each of `seats` one of its seats, in the order of
 /// their numbers. Where it answers anything but OK it has done nothing.
 #[unsafe(no_mangle)]
-pub extern "C" fn parklot_list_new(alloc: Global, first: u64, seats: &mut [ListSeatHandle]) -> u32
+pub extern "C" fn parklot_list_new(alloc: Global, first: u64, seats: &mut [SeatHandle]) -> u32
     ensures { DealsToEmpty first seats.old result seats.new }
 {
     list_deal::deal_to_empty(alloc, first, seats)
@@ -28,133 +25,78 @@ pub extern "C" fn parklot_list_new(alloc: Global, first: u64, seats: &mut [ListS
 
 /// Frees a seat that rests. The list goes with the last of its seats.
 #[unsafe(no_mangle)]
-pub extern "C" fn parklot_list_free(alloc: Global, seat: &mut ListSeatHandle) -> u32
-    ensures { Frees (seat_of seat.old.cell.places) result (seat_of seat.new.cell.places) }
+pub extern "C" fn parklot_list_free(alloc: Global, seat: &mut SeatHandle) -> u32
+    ensures { Frees (λ s. s.stage) Resting (list_seat seat.old) result (list_seat seat.new) }
 {
-    if !seat.is_full {
-        return NO_SEAT;
+    let code = place!(OfList of seat).may_leave();
+    if code == OK {
+        seat.clear(alloc);
     }
-    let Kept::OfList(place) = seat.cell.place() else {
-        return NO_SEAT;
-    };
-    let code = place.may_leave();
-    if code != OK {
-        return code;
-    }
-    let old = mem::replace(seat, ListSeatHandle::empty());
-    let ListSeatHandle { is_full: _, cell } = old;
-    drop(cell.into_parts(alloc).into_box());
-    OK
+    code
 }
 
 /// Which seat of its list it is.
 #[unsafe(no_mangle)]
-pub extern "C" fn parklot_list_number(seat: &mut ListSeatHandle, number: &mut u32) -> u32
-    ensures same { seat_of seat.new.cell.places ≡ seat_of seat.old.cell.places }
-    ensures told { TellsNumber (seat_of seat.old.cell.places) result number.new }
+pub extern "C" fn parklot_list_number(seat: &mut SeatHandle, number: &mut u32) -> u32
+    ensures same { list_seat seat.new ≡ list_seat seat.old }
+    ensures told { TellsNumber (λ s. s.seat.number) (list_seat seat.old) result number.new }
 {
-    if !seat.is_full {
-        return NO_SEAT;
-    }
-    let Kept::OfList(place) = seat.cell.place() else {
-        return NO_SEAT;
-    };
-    place.number(number)
+    place!(OfList of seat).number(number)
 }
 
 /// Takes the next ticket, which is told: the seat's next call is `parklot_list_try_wait`.
 #[unsafe(no_mangle)]
-pub extern "C" fn parklot_list_add(seat: &mut ListSeatHandle, ticket: &mut u64) -> u32
-    ensures { Answers told (Telling (λ word. ticket.new ≡ word) AddsByTask)
-        (seat_of seat.old.cell.places) result (seat_of seat.new.cell.places) }
+pub extern "C" fn parklot_list_add(seat: &mut SeatHandle, ticket: &mut u64) -> u32
+    ensures { Answers refused_code told (Telling (λ word. ticket.new ≡ word) AddsByTask)
+        (list_seat seat.old) result (list_seat seat.new) }
 {
-    if !seat.is_full {
-        return NO_SEAT;
-    }
-    let Kept::OfList(place) = seat.cell.place() else {
-        return NO_SEAT;
-    };
-    place.add(ticket)
+    place!(OfList of seat).add(ticket)
 }
 
 /// Waits with the ticket: AT_ONCE, PARKED or BUSY, and then the seat has its ticket still.
 #[unsafe(no_mangle)]
-pub extern "C" fn parklot_list_try_wait(seat: &mut ListSeatHandle) -> u32
-    ensures { Answers entered_code EntersByTask
-        (seat_of seat.old.cell.places) result (seat_of seat.new.cell.places) }
+pub extern "C" fn parklot_list_try_wait(seat: &mut SeatHandle) -> u32
+    ensures { Answers refused_code entered_code EntersByTask
+        (list_seat seat.old) result (list_seat seat.new) }
 {
-    if !seat.is_full {
-        return NO_SEAT;
-    }
-    let Kept::OfList(place) = seat.cell.place() else {
-        return NO_SEAT;
-    };
-    place.try_wait()
+    place!(OfList of seat).try_wait()
 }
 
 /// Looks whether the wait of a seat that is parked was granted: ASLEEP or WOKEN.
 #[unsafe(no_mangle)]
-pub extern "C" fn parklot_list_poll(seat: &mut ListSeatHandle) -> u32
-    ensures { Answers polled_code PollsByTask
-        (seat_of seat.old.cell.places) result (seat_of seat.new.cell.places) }
+pub extern "C" fn parklot_list_poll(seat: &mut SeatHandle) -> u32
+    ensures { Answers refused_code polled_code PollsByTask
+        (list_seat seat.old) result (list_seat seat.new) }
 {
-    if !seat.is_full {
-        return NO_SEAT;
-    }
-    let Kept::OfList(place) = seat.cell.place() else {
-        return NO_SEAT;
-    };
-    place.poll()
+    place!(OfList of seat).poll()
 }
 
 /// Grants the least ticket that isn't granted. Where a seat is parked with it, that one is woken, and its
 /// number told. NOBODY, GRANTED, ONE or BUSY.
 #[unsafe(no_mangle)]
-pub extern "C" fn parklot_list_one(seat: &mut ListSeatHandle, woken: &mut u32) -> u32
-    ensures { Answers one_code (Telling (NamesGranted woken.new) NotifiesOneByTask)
-        (seat_of seat.old.cell.places) result (seat_of seat.new.cell.places) }
+pub extern "C" fn parklot_list_one(seat: &mut SeatHandle, woken: &mut u32) -> u32
+    ensures { Answers refused_code one_code (Telling (NamesGranted woken.new) NotifiesOneByTask)
+        (list_seat seat.old) result (list_seat seat.new) }
 {
-    if !seat.is_full {
-        return NO_SEAT;
-    }
-    let Kept::OfList(place) = seat.cell.place() else {
-        return NO_SEAT;
-    };
-    place.one(woken)
+    place!(OfList of seat).one(woken)
 }
 
 /// Grants all tickets, and tells the numbers of the seats that were parked with them, which are woken. DONE or
 /// BUSY: then it is called again, and goes on.
 #[unsafe(no_mangle)]
-pub extern "C" fn parklot_list_all(
-    seat: &mut ListSeatHandle,
-    woken: &mut [u32],
-    count: &mut u32,
-) -> u32
-    ensures { LacksRoom woken.old (seat_of seat.old.cell.places) result (seat_of seat.new.cell.places)
-        ⊎ Answers done (Telling (NamesAll woken.new count.new) NotifiesOrGoesOn)
-        (seat_of seat.old.cell.places) result (seat_of seat.new.cell.places) }
+pub extern "C" fn parklot_list_all(seat: &mut SeatHandle, woken: &mut [u32], count: &mut u32) -> u32
+    ensures { LacksRoom woken.old (list_seat seat.old) result (list_seat seat.new)
+        ⊎ Answers refused_code done (Telling (NamesAll woken.new count.new) NotifiesOrGoesOn)
+        (list_seat seat.old) result (list_seat seat.new) }
 {
-    if !seat.is_full {
-        return NO_SEAT;
-    }
-    let Kept::OfList(place) = seat.cell.place() else {
-        return NO_SEAT;
-    };
-    place.all(woken, count)
+    place!(OfList of seat).all(woken, count)
 }
 
 /// Looks whether all tickets are granted.
 #[unsafe(no_mangle)]
-pub extern "C" fn parklot_list_quiet(seat: &mut ListSeatHandle, quiet: &mut bool) -> u32
-    ensures { Answers told (Telling (λ equal. quiet.new ≡ equal) LooksByTask)
-        (seat_of seat.old.cell.places) result (seat_of seat.new.cell.places) }
+pub extern "C" fn parklot_list_quiet(seat: &mut SeatHandle, quiet: &mut bool) -> u32
+    ensures { Answers refused_code told (Telling (λ equal. quiet.new ≡ equal) LooksByTask)
+        (list_seat seat.old) result (list_seat seat.new) }
 {
-    if !seat.is_full {
-        return NO_SEAT;
-    }
-    let Kept::OfList(place) = seat.cell.place() else {
-        return NO_SEAT;
-    };
-    place.quiet(quiet)
+    place!(OfList of seat).quiet(quiet)
 }

@@ -1,16 +1,16 @@
 //! Each export of a list, by the codes that it answers, as in `tests.rt`.
 
-use crate::codes::*;
-use crate::handle::SeatHandle;
 use crate::list::*;
-use crate::list_handle::ListSeatHandle;
 use crate::parklot_number;
+use crate::tests::{is, is_refused};
+use c_calls::SeatHandle;
+use c_calls::codes::*;
 use std::alloc::Global;
 use std::process::Abort;
 
 /// Two seats at a list.
-fn pair(rt: &impl Abort, alloc: Global) -> Option<[ListSeatHandle; 2]> {
-    let mut seats = [ListSeatHandle::empty(), ListSeatHandle::empty()];
+fn pair(rt: &impl Abort, alloc: Global) -> Option<[SeatHandle; 2]> {
+    let mut seats = [SeatHandle::empty(), SeatHandle::empty()];
     let code = parklot_list_new(alloc, 5, &mut seats);
     if code == NO_MEMORY {
         is(rt, parklot_list_poll(&mut seats[0]), NO_SEAT);
@@ -21,27 +21,22 @@ fn pair(rt: &impl Abort, alloc: Global) -> Option<[ListSeatHandle; 2]> {
     Some(seats)
 }
 
-/// Ends the test where the code is another one.
-fn is(rt: &impl Abort, code: u32, wanted: u32) {
-    assert!(rt; code == wanted);
-}
-
 /// Takes a ticket.
-fn add(rt: &impl Abort, seat: &mut ListSeatHandle, wanted: u64) {
+fn add(rt: &impl Abort, seat: &mut SeatHandle, wanted: u64) {
     let mut ticket = 0;
     is(rt, parklot_list_add(seat, &mut ticket), OK);
     assert!(rt; ticket == wanted);
 }
 
 /// Looks whether all tickets are granted.
-fn is_quiet(rt: &impl Abort, seat: &mut ListSeatHandle, wanted: bool) {
+fn is_quiet(rt: &impl Abort, seat: &mut SeatHandle, wanted: bool) {
     let mut quiet = !wanted;
     is(rt, parklot_list_quiet(seat, &mut quiet), OK);
     assert!(rt; quiet == wanted);
 }
 
 /// Frees a seat that rests.
-fn free(rt: &impl Abort, alloc: Global, seat: &mut ListSeatHandle) {
+fn free(rt: &impl Abort, alloc: Global, seat: &mut SeatHandle) {
     is(rt, parklot_list_free(alloc, seat), OK);
     is(rt, parklot_list_free(alloc, seat), NO_SEAT);
 }
@@ -117,9 +112,8 @@ fn call_that_is_not_next_is_refused(rt: HostRuntime) {
 #[test]
 fn numbers_of_seats_are_judged(rt: HostRuntime) {
     let alloc = rt.alloc();
-    let code = parklot_list_new(alloc, 0, &mut []);
-    assert!(&rt; code == SEATS || code == NO_MEMORY);
-    let mut seats = [ListSeatHandle::empty()];
+    is_refused(&rt, parklot_list_new(alloc, 0, &mut []), SEATS);
+    let mut seats = [SeatHandle::empty()];
     if parklot_list_new(alloc, 0, &mut seats) == OK {
         is(&rt, parklot_list_new(alloc, 0, &mut seats), FULL);
         let [mut seat] = seats;
@@ -130,15 +124,11 @@ fn numbers_of_seats_are_judged(rt: HostRuntime) {
 /// The two kinds of handles look alike in C. One of the other kind has no seat.
 #[test]
 fn handle_of_a_list_has_no_seat_at_a_table(rt: HostRuntime) {
-    let Some([one, mut two]) = pair(&rt, rt.alloc()) else {
+    let Some([mut one, mut two]) = pair(&rt, rt.alloc()) else {
         return;
     };
-    let ListSeatHandle { is_full, cell } = one;
-    let mut other = SeatHandle { is_full, cell };
     let mut number = 9;
-    is(&rt, parklot_number(&mut other, &mut number), NO_SEAT);
-    let SeatHandle { is_full, cell } = other;
-    let mut one = ListSeatHandle { is_full, cell };
+    is(&rt, parklot_number(&mut one, &mut number), NO_SEAT);
     free(&rt, rt.alloc(), &mut one);
     free(&rt, rt.alloc(), &mut two);
 }

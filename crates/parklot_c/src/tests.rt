@@ -1,9 +1,9 @@
 //! Each export, by the codes that it answers. Where memory is refused a test ends: so each passes whichever
 //! single allocation fails.
 
-use crate::codes::*;
-use crate::handle::SeatHandle;
 use crate::*;
+use c_calls::SeatHandle;
+use c_calls::codes::*;
 use std::alloc::Global;
 use std::process::Abort;
 
@@ -21,12 +21,12 @@ fn pair(rt: &impl Abort, alloc: Global, start: u32) -> Option<[SeatHandle; 2]> {
 }
 
 /// Ends the test where the code is another one.
-fn is(rt: &impl Abort, code: u32, wanted: u32) {
+pub fn is(rt: &impl Abort, code: u32, wanted: u32) {
     assert!(rt; code == wanted);
 }
 
-/// What a caller's other thread gets. A library's check proves of itself that handles are `Send`; that of the
-/// tests only where one asks for it, as here, and without it the proof of `Cell`'s has nothing to stand on.
+/// What a caller's other thread gets. The check of the tests proves that a handle is `Send` only where one asks
+/// for it, as here.
 fn crosses<T: Send>(handle: T) -> T {
     handle
 }
@@ -151,7 +151,7 @@ fn sleeper_is_not_freed(rt: HostRuntime) {
 }
 
 /// Settings that make no table, unless memory lacks before they are looked at.
-fn is_refused(rt: &impl Abort, code: u32, wanted: u32) {
+pub fn is_refused(rt: &impl Abort, code: u32, wanted: u32) {
     assert!(rt; code == wanted || code == NO_MEMORY);
 }
 

@@ -1,0 +1,11 @@
+pub mod Cells
+pub mod Lent
+pub mod Seated
+pub mod Places
+pub mod Handles
+pub mod Codes
+pub mod Answers
+pub mod Deals
+pub mod ListCodes
+pub mod ListAnswers
+pub mod ListDeals
