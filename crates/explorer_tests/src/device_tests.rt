@@ -43,7 +43,6 @@ fn ends(rt: &impl Host, alloc: Global, words: &[&str], devices: Devices, told: (
         out,
         err: err.as_bytes(),
         status,
-        whole: true,
         helped: false,
     };
     tells_over(rt, alloc, words, ONE_ACQUIRE, devices, told);
@@ -112,7 +111,18 @@ const FULL: Calls = Calls {
 };
 
 /// Words, the devices, what goes to the two streams, and the status.
-static BESIDES: [(&[&str], Devices, &str, &str, u8); 7] = [
+static BESIDES: [(&[&str], Devices, &str, &str, u8); 8] = [
+    // the answer can't be read, and the scenario isn't there
+    (
+        &["replay", "--schedule-of", "-", "--scenario", "no_such.txt"],
+        Devices {
+            input: BROKEN,
+            ..ALL_SOUND
+        },
+        "",
+        READ_FAILED,
+        2,
+    ),
     // what reads nothing doesn't fail by its input
     (
         &["once"],
