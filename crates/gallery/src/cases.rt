@@ -10,14 +10,29 @@ use std::sync::Wait;
 use std::thread::Threads;
 use std::time::Clock;
 
-/// How a line with words begins that the program is run with.
-const RUN: &str = "$ parklot";
+/// What a line with words asks for.
+#[derive(Clone, Copy, Drop)]
+enum Prompt {
+    /// What the program answers.
+    Run,
+    /// What the words ask for.
+    Asked,
+    /// What the scenario asks for that is the input.
+    Request,
+}
 
-/// How a line with words begins of which is told what they ask for.
-const ASKED: &str = "$ asked";
+const PROMPTS: [Prompt; 3] = [Prompt::Run, Prompt::Asked, Prompt::Request];
 
-/// A line of which is told what the scenario asks for that is the input.
-const REQUEST: &str = "$ request";
+impl Prompt {
+    /// How such a line begins.
+    fn text(self) -> &'static str {
+        match self {
+            Prompt::Run => "$ parklot",
+            Prompt::Asked => "$ asked",
+            Prompt::Request => "$ request",
+        }
+    }
+}
 
 /// How a line of the input begins.
 const INPUT: &str = "< ";
@@ -57,8 +72,8 @@ fn is_told(text: &str, told: &str) -> bool {
 #[derive(Drop)]
 struct Case {
     input: String,
-    /// How the line with the words began; nothing while the input is read.
-    prompt: &'static str,
+    /// None while the input is read.
+    prompt: Option<Prompt>,
     command: String,
     text: String,
     aside: String,
@@ -68,7 +83,7 @@ impl Case {
     fn new(alloc: Global) -> Case {
         Case {
             input: String::new(alloc),
-            prompt: "",
+            prompt: None,
             command: String::new(alloc),
             text: String::new(alloc),
             aside: String::new(alloc),
@@ -76,13 +91,8 @@ impl Case {
     }
 
     /// The words of the case.
-    fn begin(
-        &mut self,
-        alloc: Global,
-        prompt: &'static str,
-        command: &str,
-    ) -> Result<(), AllocError> {
-        self.prompt = prompt;
+    fn begin(&mut self, alloc: Global, prompt: Prompt, command: &str) -> Result<(), AllocError> {
+        self.prompt = Some(prompt);
         self.command = String::from_str(alloc, command)?;
         self.text.clear();
         self.aside.clear();
@@ -91,8 +101,7 @@ impl Case {
 
     /// A line of the input. The first one behind a case begins a new input.
     fn give(&mut self, alloc: Global, line: &str) -> Result<(), AllocError> {
-        if !self.prompt.is_empty() {
-            self.prompt = "";
+        if self.prompt.take().is_some() {
             self.input.clear();
         }
         self.input
@@ -101,13 +110,12 @@ impl Case {
 
     /// Takes in any line but that of the status.
     fn read(&mut self, alloc: Global, line: &str) -> Result<(), AllocError> {
-        if let Some(command) = line.strip_prefix(RUN) {
-            self.begin(alloc, RUN, command)
-        } else if let Some(command) = line.strip_prefix(ASKED) {
-            self.begin(alloc, ASKED, command)
-        } else if let Some(command) = line.strip_prefix(REQUEST) {
-            self.begin(alloc, REQUEST, command)
-        } else if let Some(given) = line.strip_prefix(INPUT) {
+        for prompt in PROMPTS {
+            if let Some(command) = line.strip_prefix(prompt.text()) {
+                return self.begin(alloc, prompt, command);
+            }
+        }
+        if let Some(given) = line.strip_prefix(INPUT) {
             self.give(alloc, given)
         } else if let Some(aside) = line.strip_prefix(BESIDE) {
             self.aside
@@ -128,8 +136,8 @@ impl Case {
     ) -> Result<Ended> {
         let words = words_of(alloc, &spelled(alloc, &self.command)?)?;
         match self.prompt {
-            ASKED => Ok(asked(alloc, &words)?),
-            REQUEST => Ok(request(alloc, &self.input)?),
+            Some(Prompt::Asked) => Ok(asked(alloc, &words)?),
+            Some(Prompt::Request) => Ok(request(alloc, &self.input)?),
             _ => run(team, alloc, words, &self.input),
         }
     }
@@ -183,9 +191,9 @@ pub(crate) fn answers<R: Files + Threads + Wait + Clock + Sync>(
         count = count.saturating_add(1);
         let ended = case.ended(team, alloc)?;
         if !case.fits(&ended, status) {
-            let (prompt, command) = (case.prompt, &case.command);
-            let (text, aside, status) = (&ended.text, &ended.aside, ended.status);
-            let answer = format!(in alloc; "{prompt}{command}\n{text}{aside}{STATUS}{status}\n")?;
+            let (command, status) = (&case.command, ended.status);
+            let (text, aside) = (&ended.text, &ended.aside);
+            let answer = format!(in alloc; "${command}\n{text}{aside}{STATUS}{status}\n")?;
             otherwise.push_str(&answer)?;
         }
     }
