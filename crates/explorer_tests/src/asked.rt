@@ -91,28 +91,20 @@ pub(crate) fn is_short(out: &[u8], status: u8) -> bool {
     status == 2 && NO_MEMORY.as_bytes().starts_with(out)
 }
 
-/// What goes to the two streams, and the status. The streams have these texts, or texts that begin so.
+/// What goes to the two streams, and the status.
 #[derive(Clone, Copy, Drop)]
 pub(crate) struct Told<'t> {
     pub(crate) out: &'t [u8],
     pub(crate) err: &'t [u8],
     pub(crate) status: u8,
-    pub(crate) whole: bool,
     /// Of what is told beside only the beginning is given.
     pub(crate) helped: bool,
 }
 
-/// Whether the stream has this text, or where it isn't whole, one that begins so. No text stands for nothing
-/// else.
-fn has(stream: &[u8], text: &[u8], whole: bool) -> bool {
-    stream == text || !whole && !text.is_empty() && stream.starts_with(text)
-}
-
 impl Told<'_> {
     pub(crate) fn fits(&self, out: &[u8], err: &[u8], status: u8) -> bool {
-        status == self.status
-            && has(out, self.out, self.whole)
-            && has(err, self.err, self.whole && !self.helped)
+        (status, out) == (self.status, self.out)
+            && (err == self.err || self.helped && err.starts_with(self.err))
     }
 }
 
@@ -154,75 +146,4 @@ pub(crate) fn tells_over(
         let again = has_told(rt, alloc, words, input, devices, &told);
         holds_for(rt, again == Outcome::Fits, words);
     }
-}
-
-/// How what stands beside begins: the help of a refusal, what was asked where nothing bad was found, or a
-/// seat that failed.
-fn beginning_beside(told: &str) -> &'static [u8] {
-    match told {
-        "refused: too long\n" => b"the text has more than 65536 bytes\n",
-        "refused: schedule\n" => b"a schedule is 0 to 256 numbers of seats",
-        _ if told.starts_with("refused: line ") || told.starts_with("unlawful: line ") => b"line ",
-        _ if told.starts_with("none") => b"asked: ",
-        _ if told.ends_with("verdict: misuse\n") => b"seat ",
-        _ => b"",
-    }
-}
-
-/// This is all that the program tells, on its output, and it ends so. Beside it stands what stands beside
-/// such an answer.
-pub(crate) fn tells(
-    rt: &impl Host,
-    alloc: Global,
-    words: &[&str],
-    input: &[u8],
-    told: &str,
-    status: u8,
-) {
-    let err = beginning_beside(told);
-    let told = Told {
-        out: told.as_bytes(),
-        err,
-        status,
-        whole: true,
-        helped: !err.is_empty(),
-    };
-    tells_over(rt, alloc, words, input, ALL_SOUND, told);
-}
-
-/// A replay of this schedule tells this of the input, and no more, and ends so.
-pub(crate) fn replays(
-    rt: &impl Host,
-    alloc: Global,
-    input: &[u8],
-    spelled: &str,
-    told: &str,
-    status: u8,
-) {
-    let words = ["replay", "--schedule", spelled];
-    tells(rt, alloc, &words, input, told, status);
-}
-
-/// The program ends well. Its output begins with this text, and it tells nothing else.
-pub(crate) fn answers(rt: &impl Host, alloc: Global, words: &[&str], text: &str) {
-    let told = Told {
-        out: text.as_bytes(),
-        err: b"",
-        status: 0,
-        whole: false,
-        helped: false,
-    };
-    tells_over(rt, alloc, words, b"", ALL_SOUND, told);
-}
-
-/// These words are a mistake: what is told begins with this text, and nothing goes to the output.
-pub(crate) fn is_a_mistake(rt: &impl Host, alloc: Global, words: &[&str], text: &str) {
-    let told = Told {
-        out: b"",
-        err: text.as_bytes(),
-        status: 2,
-        whole: false,
-        helped: false,
-    };
-    tells_over(rt, alloc, words, b"", ALL_SOUND, told);
 }

@@ -43,7 +43,6 @@ fn ends(rt: &impl Host, alloc: Global, words: &[&str], devices: Devices, told: (
         out,
         err: err.as_bytes(),
         status,
-        whole: true,
         helped: false,
     };
     tells_over(rt, alloc, words, ONE_ACQUIRE, devices, told);
@@ -111,83 +110,56 @@ const FULL: Calls = Calls {
     left: u32::MAX,
 };
 
+const UNREAD: Devices = Devices {
+    input: BROKEN,
+    ..ALL_SOUND
+};
+
+const UNWRITTEN: Devices = Devices {
+    out: FULL,
+    ..ALL_SOUND
+};
+
+/// Nothing can be told beside.
+const UNTOLD: Devices = Devices {
+    err: BROKEN,
+    ..ALL_SOUND
+};
+
+const UNREAD_AND_UNTOLD: Devices = Devices {
+    input: BROKEN,
+    ..UNTOLD
+};
+
+const UNWRITTEN_AND_UNTOLD: Devices = Devices {
+    out: BROKEN,
+    ..UNTOLD
+};
+
+/// The answer stands on standard input, and the scenario isn't there.
+const ANSWER_ALONE: &[&str] = &["replay", "--schedule-of", "-", "--scenario", "no_such.txt"];
+
+const TO_FOUR: &[&str] = &["explore", "--depth", "4"];
+
 /// Words, the devices, what goes to the two streams, and the status.
-static BESIDES: [(&[&str], Devices, &str, &str, u8); 7] = [
+static BESIDES: [(&[&str], Devices, &str, &str, u8); 8] = [
+    (ANSWER_ALONE, UNREAD, "", READ_FAILED, 2),
     // what reads nothing doesn't fail by its input
-    (
-        &["once"],
-        Devices {
-            input: BROKEN,
-            ..ALL_SOUND
-        },
-        FIVE_LINES,
-        "",
-        0,
-    ),
+    (&["once"], UNREAD, FIVE_LINES, "", 0),
     // a write that takes nothing is a fault
-    (
-        &["once"],
-        Devices {
-            out: FULL,
-            ..ALL_SOUND
-        },
-        "",
-        WRITE_FAILED,
-        2,
-    ),
+    (&["once"], UNWRITTEN, "", WRITE_FAILED, 2),
     (
         &["explore", "--depth", "32"],
-        Devices {
-            out: FULL,
-            ..ALL_SOUND
-        },
+        UNWRITTEN,
         "",
         WRITE_FAILED,
         2,
     ),
     // what can't be told beside changes nothing
-    (
-        &["explore", "--depth", "4"],
-        Devices {
-            err: BROKEN,
-            ..ALL_SOUND
-        },
-        "none up to depth 4\n",
-        "",
-        0,
-    ),
-    (
-        &["explore"],
-        Devices {
-            err: BROKEN,
-            ..ALL_SOUND
-        },
-        "",
-        "",
-        2,
-    ),
-    (
-        &["explore", "--depth", "4"],
-        Devices {
-            input: BROKEN,
-            err: BROKEN,
-            ..ALL_SOUND
-        },
-        "",
-        "",
-        2,
-    ),
-    (
-        &["explore", "--depth", "4"],
-        Devices {
-            out: BROKEN,
-            err: BROKEN,
-            ..ALL_SOUND
-        },
-        "",
-        "",
-        2,
-    ),
+    (TO_FOUR, UNTOLD, "none up to depth 4\n", "", 0),
+    (&["explore"], UNTOLD, "", "", 2),
+    (TO_FOUR, UNREAD_AND_UNTOLD, "", "", 2),
+    (TO_FOUR, UNWRITTEN_AND_UNTOLD, "", "", 2),
 ];
 
 #[test]

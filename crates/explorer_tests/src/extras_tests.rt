@@ -1,12 +1,29 @@
-//! What a search tells beyond what it found: its statistics and the table of the schedule that it found.
+//! What a search tells beside what it found: its statistics.
 
-use crate::asked::{ALL_SOUND, Host, Told, ask, is_short, run, tells_over};
+use crate::asked::{ALL_SOUND, Host, run};
 use crate::assertion::holds;
-use crate::every_tests::Row;
-use crate::explore_tests::TWO_EACH;
 use crate::reading::ONE_ACQUIRE;
 use explorer::{Extent, StopWatch, Watch, read_words};
 use std::alloc::Global;
+
+/// Four seats with two releases each: 625 worlds, and more than 63,000,000 schedules.
+const TWO_EACH: &[u8] = b"\
+counter 0
+seat 0: release 0; release 0
+seat 1: release 0; release 0
+seat 2: release 0; release 0
+seat 3: release 0; release 0
+settled
+";
+
+/// A scenario, words, what is told, what is told beside, and the status.
+type Row = (
+    &'static [u8],
+    &'static [&'static str],
+    &'static str,
+    &'static str,
+    u8,
+);
 
 /// Searches whose worlds were counted by hand: 625 within 16 steps, all but one of them within 15, and 70
 /// where it makes no difference who of four stands where. Nobody takes the time.
@@ -116,51 +133,5 @@ fn who_watches_is_told(rt: HostRuntime) {
     holds(
         &rt,
         is_listened_to(&rt, alloc) || is_listened_to(&rt, alloc),
-    );
-}
-
-/// What goes to the output for these words, asked once more where memory was short.
-fn output(rt: &impl Host, alloc: Global, words: &[&str]) -> (Vec<u8>, u8) {
-    let (out, _, status) = ask(rt, alloc, words, ONE_ACQUIRE, ALL_SOUND);
-    if !is_short(&out, status) {
-        return (out, status);
-    }
-    let (out, _, status) = ask(rt, alloc, words, ONE_ACQUIRE, ALL_SOUND);
-    (out, status)
-}
-
-/// Behind the answer to these words stands the table of the schedule that is found.
-fn draws(rt: &impl Host, alloc: Global, words: &[&str]) {
-    let (drawn, status) = output(rt, alloc, words);
-    let (table, _) = output(rt, alloc, &["replay", "--table", "--schedule", "0 0 0 0 0"]);
-    let answer = b"bad: stuck\nschedule: 0 0 0 0 0\n";
-    holds(
-        rt,
-        status == 1 && drawn.strip_prefix(answer.as_slice()) == Some(table.as_slice()),
-    );
-}
-
-#[test]
-fn what_is_found_is_drawn(rt: HostRuntime) {
-    draws(&rt, rt.alloc(), &["check", "--table"]);
-    draws(&rt, rt.alloc(), &["explore", "--table", "--depth", "9"]);
-}
-
-#[test]
-fn a_faulty_journal_is_shown(rt: HostRuntime) {
-    let told = Told {
-        out: b"refused: line 2: form\n",
-        err: b"line 2: no line is spelled \"takee 0 1\" here: counter N and list F come first",
-        status: 2,
-        whole: true,
-        helped: true,
-    };
-    tells_over(
-        &rt,
-        rt.alloc(),
-        &["judge"],
-        b"counter 1\ntakee 0 1\n",
-        ALL_SOUND,
-        told,
     );
 }

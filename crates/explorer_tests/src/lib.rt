@@ -1,6 +1,7 @@
 //! The tests of the program and of what it stands on, which use each crate from outside, as one above it does:
-//! `machine` those of `step_core`, `search` those of `explorer_search`, `table_tests` that of `explorer_replay`,
-//! and the others those of `explorer`.
+//! `machine` those of `step_core`, `search` those of `explorer_search`, and the others those of `explorer`. What
+//! the program answers to a text and words is no test: it stands in `crates/gallery/data/cases`, which the
+//! gallery tries.
 //!
 //! A crate with tests is proved with them and without: so they stand here, together, since what they stand on
 //! is read for each crate anew.
@@ -15,31 +16,17 @@ mod asked;
 #[cfg(test)]
 mod assertion;
 #[cfg(test)]
-mod check_tests;
-#[cfg(test)]
 mod device_tests;
 #[cfg(test)]
 mod devices;
 #[cfg(test)]
-mod every_tests;
-#[cfg(test)]
-mod explore_tests;
-#[cfg(test)]
 mod extras_tests;
 #[cfg(test)]
-mod fault_tests;
-#[cfg(test)]
 mod io_tests;
-#[cfg(test)]
-mod judge_tests;
-#[cfg(test)]
-mod list_replays;
 #[cfg(test)]
 mod machine;
 #[cfg(test)]
 mod memory_tests;
-#[cfg(test)]
-mod played;
 #[cfg(test)]
 mod program_tests;
 #[cfg(test)]
@@ -47,22 +34,8 @@ mod reading;
 #[cfg(test)]
 mod repeated;
 #[cfg(test)]
-mod replay_tests;
-#[cfg(test)]
-mod request_tests;
-#[cfg(test)]
-mod schedule_tests;
-#[cfg(test)]
-mod scheduled_tests;
-#[cfg(test)]
 mod search;
 #[cfg(test)]
 mod size_tests;
 #[cfg(test)]
-mod table_tests;
-#[cfg(test)]
 mod threads_tests;
-#[cfg(test)]
-mod variant_tests;
-#[cfg(test)]
-mod words_tests;

@@ -2,7 +2,6 @@
 
 ghost use Rattle.std.specs.Prelude.{◌≡◌, ◌<◌, ◌∷◌, [], length, IfOk};
 
-use crate::asked::tells;
 use crate::assertion::holds;
 use crate::machine::text_tests::is_printed;
 use explorer::{Closed, Gate, IoFault, Open, ThreadsRefused, run_threads};
@@ -20,11 +19,6 @@ pub(crate) const TWO_BY_THREE: [&str; 5] = ["threads", "--workers", "2", "--roun
 
 /// What is told of them: two times three, and nothing is left.
 pub(crate) const THREE_LINES: &str = "releases 6\nacquires 6\nvalue 0\n";
-
-#[test]
-fn two_workers_of_three_rounds_are_told(rt: HostRuntime) {
-    tells(&rt, rt.alloc(), &TWO_BY_THREE, b"", THREE_LINES, 0);
-}
 
 /// How often one looks for the other's flag.
 const TURNS: u32 = 10_000_000;

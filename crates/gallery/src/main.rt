@@ -4,8 +4,10 @@
 //! `NAME.txt` is a scenario, a journal, or an answer whose schedule is replayed. In `NAME.answers` a line
 //! that begins with `$ parklot ` has the words, and the lines after it are what is written, and `exit` with
 //! the status. `locks/NAME.lock` is a lock program, and `locks/NAME.answer` what `try` writes of it, what it
-//! tells beside, and `exit` with the status.
+//! tells beside, and `exit` with the status. `cases/NAME.cases` has many small inputs, with words and answers.
 #![tactic(auto)]
+
+mod cases;
 
 use anyhow::Result;
 use explorer::{Flagged, parklot_io};
@@ -96,6 +98,22 @@ const LOCKS: [&str; 37] = [
     "tas_w1",
     "ticket",
     "ticket_w1",
+];
+
+/// The files of cases.
+const CASES: [&str; 12] = [
+    "replays",
+    "replays_of_lists",
+    "searches",
+    "changed_tables",
+    "asked_of_worlds",
+    "tables",
+    "journals",
+    "faults",
+    "faults_explained",
+    "schedules",
+    "words",
+    "requests",
 ];
 
 /// The words of a command. What stands in quotes is one word.
@@ -193,6 +211,23 @@ fn try_text<R: Files + Threads + Wait + Clock + Sync>(
     tell(rt, name, &answers, &told)
 }
 
+/// Tries the cases of a file.
+fn try_cases<R: Files + Threads + Wait + Clock + Sync>(
+    rt: &HostRuntime,
+    team: &R,
+    name: &str,
+) -> Result<()> {
+    let alloc = rt.alloc();
+    let told = fs::read_to_string(rt, format!(in alloc; "cases/{name}.cases")?)?;
+    let (count, otherwise) = cases::answers(team, alloc, &told)?;
+    if otherwise.is_empty() {
+        println!(rt; "{name}: {count} cases as told")?;
+    } else {
+        print!(rt; "{name}: otherwise\n{otherwise}")?;
+    }
+    Ok(())
+}
+
 /// Tries a lock program.
 fn try_lock<R: Files + Threads + Wait + Clock + Sync>(
     rt: &HostRuntime,
@@ -209,6 +244,9 @@ fn try_lock<R: Files + Threads + Wait + Clock + Sync>(
 fn main(rt: HostRuntime) -> Result<()> {
     for name in NAMES {
         try_text(&rt, &rt, name)?;
+    }
+    for name in CASES {
+        try_cases(&rt, &rt, name)?;
     }
     for name in LOCKS {
         try_lock(&rt, &rt, name)?;

@@ -59,20 +59,7 @@ pub(crate) fn moment_again<'s>(
     }
 }
 
-/// The start of the scenario by the changed table, asked for once more where memory was refused.
-pub(crate) fn changed_again<'s>(
-    rt: &impl Abort,
-    alloc: Global,
-    scenario: &'s Scenario,
-    variant: Variant,
-) -> Moment<'s> {
-    match Moment::new_by(alloc, scenario, Some(variant)) {
-        Ok(moment) => moment,
-        Err(NoMemory) => Moment::new_by(alloc, scenario, Some(variant)).expect(rt, "a moment"),
-    }
-}
-
-/// The world at that start, asked for once more where memory was refused.
+/// The world at the start by the changed table, asked for once more where memory was refused.
 pub(crate) fn changed_world_again<'s>(
     rt: &impl Abort,
     alloc: Global,

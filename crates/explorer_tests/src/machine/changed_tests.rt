@@ -1,74 +1,16 @@
-//! Changed tables: by each a seat sleeps for good, which by the table itself doesn't.
+//! Worlds of changed tables: by one a seat sleeps for good, which by the table itself doesn't. What replays
+//! tell of all three stands in the gallery's cases.
 
 use crate::assertion::holds;
-use crate::machine::again::{changed_again, changed_key, changed_world_again};
-use crate::machine::given::{all_step, scenario, seat};
+use crate::machine::again::{changed_key, changed_world_again};
+use crate::machine::given::{scenario, seat};
 use std::alloc::Global;
 use std::process::Abort;
-use step_core::{ChangedWorld, Moment, Phase, Row, StepRefused, Variant};
+use step_core::{ChangedWorld, Phase, Row, StepRefused, Variant};
 use waiters::CounterId;
 
-/// A scenario, a change of the table, the seats that step, and then the number of the counter beside which
-/// seat 0 sleeps.
-struct Lost {
-    text: &'static str,
-    variant: Variant,
-    schedule: &'static [u16],
-    number: u64,
-}
-
-static LOST: [Lost; 3] = [
-    // without the second look the release comes between the two looks, and finds nobody
-    Lost {
-        text: "roots 1\ncounter 0\nseat 0: acquire 0\nseat 1: release 0\nsettled\n",
-        variant: Variant::NoLook,
-        schedule: &[0, 0, 1, 1, 0, 0],
-        number: 1,
-    },
-    // with a late count it comes between the second look and the count, and finds nobody
-    Lost {
-        text: "roots 1\ncounter 0\nseat 0: acquire 0\nseat 1: release 0\nsettled\n",
-        variant: Variant::LateCount,
-        schedule: &[0, 0, 0, 1, 1, 0, 0],
-        number: 1,
-    },
-    // the granted ticket is the last word, and the notify word has wrapped: by the plain comparison its wait
-    // parks
-    Lost {
-        text: "roots 1\ncounter 0\nlist 18446744073709551615\nseat 0: add 0; one 0; wait 0\nsettled\n",
-        variant: Variant::PlainLess,
-        schedule: &[0; 11],
-        number: 0,
-    },
-];
-
-/// Seat 0 sleeps, and can't step.
-fn sleeps(moment: &mut Moment<'_>) -> bool {
-    0 < moment.scenario().seats()
-        && moment.phase(seat(0)) == Phase::At(Row::P)
-        && !moment.enabled(seat(0))
-        && moment.step(seat(0)) == Err(StepRefused::Asleep)
-}
-
-fn has_number(moment: &Moment<'_>, number: u64) -> bool {
-    0 < moment.scenario().semaphores() && moment.value(CounterId::new(0)) == number
-}
-
-/// From the start of the scenario the changed table leads seat 0 to sleep beside this number.
-fn loses(rt: &impl Abort, alloc: Global, lost: &Lost) {
-    let scenario = scenario(rt, alloc, lost.text);
-    let mut moment = changed_again(rt, alloc, &scenario, lost.variant);
-    holds(rt, moment.table() == Some(lost.variant));
-    holds(rt, all_step(&mut moment, lost.schedule));
-    holds(rt, has_number(&moment, lost.number) && sleeps(&mut moment));
-}
-
-#[test]
-fn by_a_changed_table_a_wake_up_is_lost(rt: HostRuntime) {
-    for lost in &LOST {
-        loses(&rt, rt.alloc(), lost);
-    }
-}
+/// Without the second look the release comes between the two looks, and finds nobody.
+const MET: &str = "roots 1\ncounter 0\nseat 0: acquire 0\nseat 1: release 0\nsettled\n";
 
 /// Whose row runs, and which it is: seat 0 looks once, counts itself and queues its wait at once.
 static ROWS: [(u16, Row); 6] = [
@@ -121,7 +63,7 @@ fn comes_to_lose(rt: &impl Abort, alloc: Global, world: &mut ChangedWorld<'_>) {
 
 #[test]
 fn a_world_of_a_changed_table_answers(rt: HostRuntime) {
-    let scenario = scenario(&rt, rt.alloc(), LOST[0].text);
+    let scenario = scenario(&rt, rt.alloc(), MET);
     let mut world = changed_world_again(&rt, rt.alloc(), &scenario, Variant::NoLook);
     comes_to_lose(&rt, rt.alloc(), &mut world);
 }
@@ -130,7 +72,7 @@ static OTHERS: [Variant; 2] = [Variant::LateCount, Variant::PlainLess];
 
 /// By this change of the table seat 1 takes a step.
 fn has_a_world(rt: &impl Abort, alloc: Global, variant: Variant) {
-    let scenario = scenario(rt, alloc, LOST[0].text);
+    let scenario = scenario(rt, alloc, MET);
     let mut world = changed_world_again(rt, alloc, &scenario, variant);
     holds(rt, world.step(seat(1)).is_ok());
 }

@@ -1,4 +1,4 @@
-//! Schedules that are refused, and the numbers of the refusals.
+//! Schedules that are refused, of which more stand in the gallery's cases, and the numbers of the refusals.
 
 use crate::assertion::holds;
 use crate::machine::again::run_again;
@@ -10,40 +10,12 @@ use step_core::{Misuse, RunRefused, ScenarioRefused, StepRefused};
 /// A scenario, a schedule, at which step it is refused, and why.
 type Row = (&'static str, &'static [u16], usize, StepRefused);
 
-const HANDED_OVER: &str =
-    "roots 1\ncounter 0\nseat 0: acquire 0\nseat 1: acquire 0\nseat 2: release 0 handoff\nsettled\n";
-
-static REFUSED: [Row; 7] = [
+static REFUSED: [Row; 3] = [
     (
         "counter 0\nseat 0: acquire 0\nsettled\n",
         &[0, 0, 0, 0, 0, 0],
         5,
         StepRefused::Asleep,
-    ),
-    // a unit is handed over to seat 0, and then another seat steps too
-    (
-        HANDED_OVER,
-        &[
-            0, 0, 0, 0, 0, 1, 1, 1, 1, 1, 2, 2, 2, 2, 2, 2, 2, 2, 2, 0, 1,
-        ],
-        20,
-        StepRefused::Asleep,
-    ),
-    (
-        HANDED_OVER,
-        &[
-            0, 0, 0, 0, 0, 1, 1, 1, 1, 1, 2, 2, 2, 2, 2, 2, 2, 2, 2, 0, 2,
-        ],
-        20,
-        StepRefused::SeatEnded,
-    ),
-    (
-        HANDED_OVER,
-        &[
-            0, 0, 0, 0, 0, 1, 1, 1, 1, 1, 2, 2, 2, 2, 2, 2, 2, 2, 2, 0, 3,
-        ],
-        20,
-        StepRefused::NoSuchSeat,
     ),
     (
         "roots 1\ncounter 0\nseat 0: acquire 0\nseat 1: release 0\nsettled\n",
@@ -56,13 +28,6 @@ static REFUSED: [Row; 7] = [
         &[0, 0],
         1,
         StepRefused::SeatFailed,
-    ),
-    // ticket 0 is granted, and the seat that sleeps with ticket 1 steps too
-    (
-        "roots 1\nlist 0\nseat 0: add 0; wait 0\nseat 1: add 0; wait 0\nseat 2: one 0\nsettled\n",
-        &[0, 1, 1, 1, 1, 2, 2, 2, 2, 2, 2, 2, 0, 0, 0, 1],
-        15,
-        StepRefused::Asleep,
     ),
 ];
 
