@@ -130,7 +130,10 @@ static FAULTY: [(&str, &str); 46] = [
     ("program p\nmost s 1\n", "refused: line 2: place\n"),
     ("program p\nseats 1 p\nfail\n", "refused: line 3: place\n"),
     ("program p\nword w 0\n", "refused: line 2: place\n"),
-    ("section s\nprogram p\nseats 1 p\nmost s 1\nseats 1 p\n", "refused: line 5: place\n"),
+    (
+        "section s\nprogram p\nseats 1 p\nmost s 1\nseats 1 p\n",
+        "refused: line 5: place\n",
+    ),
     ("word w 9223372036854775808\n", "refused: line 1: range\n"),
     ("word w -9223372036854775809\n", "refused: line 1: range\n"),
     ("word w[17] 0\n", "refused: line 1: range\n"),
@@ -138,26 +141,62 @@ static FAULTY: [(&str, &str); 46] = [
     ("counter c 4294967296\n", "refused: line 1: range\n"),
     ("const k -1\ncounter c k\n", "refused: line 2: range\n"),
     ("program p\nseats 0 p\n", "refused: line 2: range\n"),
-    ("section s\nprogram p\nseats 1 p\nmost s -1\n", "refused: line 4: range\n"),
-    ("word w[2] 0\nprogram p\nseats 1 p\nfinally w[2] == 0\n", "refused: line 4: range\n"),
-    ("word w[16] 0\nword x[16] 0\nword y 0\n", "refused: line 3: too many\n"),
-    ("counter c[16] 0\ncounter d 0\n", "refused: line 2: too many\n"),
-    ("list a\nlist b\nlist c\nlist d\nlist e\n", "refused: line 5: too many\n"),
-    ("register a b c d e f g h i\n", "refused: line 1: too many\n"),
-    ("program p\nseats 16 p\nseats 1 q\n", "refused: line 3: too many\n"),
+    (
+        "section s\nprogram p\nseats 1 p\nmost s -1\n",
+        "refused: line 4: range\n",
+    ),
+    (
+        "word w[2] 0\nprogram p\nseats 1 p\nfinally w[2] == 0\n",
+        "refused: line 4: range\n",
+    ),
+    (
+        "word w[16] 0\nword x[16] 0\nword y 0\n",
+        "refused: line 3: too many\n",
+    ),
+    (
+        "counter c[16] 0\ncounter d 0\n",
+        "refused: line 2: too many\n",
+    ),
+    (
+        "list a\nlist b\nlist c\nlist d\nlist e\n",
+        "refused: line 5: too many\n",
+    ),
+    (
+        "register a b c d e f g h i\n",
+        "refused: line 1: too many\n",
+    ),
+    (
+        "program p\nseats 16 p\nseats 1 q\n",
+        "refused: line 3: too many\n",
+    ),
     ("word w v\n", "refused: line 1: undeclared\n"),
-    ("word w 0\nprogram p\nload w r\n", "refused: line 3: undeclared\n"),
-    ("counter c 0\nregister r\nprogram p\nload c r\n", "refused: line 4: undeclared\n"),
+    (
+        "word w 0\nprogram p\nload w r\n",
+        "refused: line 3: undeclared\n",
+    ),
+    (
+        "counter c 0\nregister r\nprogram p\nload c r\n",
+        "refused: line 4: undeclared\n",
+    ),
     (
         "word w 0\nregister r\nprogram p\nseats 1 p\nfinally w == r\n",
         "refused: line 5: undeclared\n",
     ),
-    ("word w[2] 0\nprogram p\nstore w r\n", "refused: line 3: undeclared\n"),
+    (
+        "word w[2] 0\nprogram p\nstore w r\n",
+        "refused: line 3: undeclared\n",
+    ),
     ("program p\na:\na:\n", "refused: line 3: twice\n"),
     ("register r r\n", "refused: line 1: twice\n"),
     ("const a 1\nregister b a\n", "refused: line 2: twice\n"),
-    ("word w 0\nprogram p\nstore w[0] 1\n", "refused: line 3: array\n"),
-    ("program p\na:\nprogram q\ngoto a\nseats 1 q\n", "refused: line 4: label\n"),
+    (
+        "word w 0\nprogram p\nstore w[0] 1\n",
+        "refused: line 3: array\n",
+    ),
+    (
+        "program p\na:\nprogram q\ngoto a\nseats 1 q\n",
+        "refused: line 4: label\n",
+    ),
 ];
 
 /// The command that tells a schedule.
