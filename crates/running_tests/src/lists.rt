@@ -3,6 +3,5 @@
 mod crew;
 mod given;
 mod order_tests;
-mod text_tests;
 mod thread_tests;
 mod ticket_tests;

@@ -1,6 +1,7 @@
 //! Each call once, in one thread.
 ghost use Rattle.std.specs.Prelude.{◌≡◌, All};
 
+use std::alloc::Global;
 use std::process::Abort;
 use std::sync::Wait;
 use std::test::Fail;
@@ -19,8 +20,9 @@ pub(crate) fn last_seat<T: Drop>(
     seats.pop().expect(rt, "a seat")
 }
 
-/// Locks twice, one after the other, and adds each time: what was there before each.
-fn takes_twice<R: Wait>(
+/// Locks twice, one after the other, and adds each time: what was there before each. It holds the value
+/// between its calls.
+fn takes_twice<R: Abort + Wait>(
     rt: &R,
     guarded: &Guarded<u32>,
     seat: GuardSeat<u32>,
@@ -29,13 +31,16 @@ fn takes_twice<R: Wait>(
     ensures { result.2.guarded ≡ guarded.now }
 {
     let mut guard = Guard::over(guarded, seat);
+    assert!(rt; !guard.held());
     guard.acquire(rt);
+    assert!(rt; guard.held());
     let first = guard.lend(|value| {
         let was = *value;
         *value = was.wrapping_add(1);
         was
     });
     guard.release();
+    assert!(rt; !guard.held());
     let second = guard.hold(rt, |value| {
         let was = *value;
         *value = was.wrapping_add(10);
@@ -56,48 +61,22 @@ fn one_thread_takes_the_value_twice(rt: HostRuntime) -> Result<(), Fail> {
     Ok(())
 }
 
-/// Whether it is held, before it locks, between, and after it has unlocked.
-fn is_held_between<R: Wait>(
-    rt: &R,
-    guarded: &Guarded<u32>,
-    seat: GuardSeat<u32>,
-) -> (bool, bool, bool)
-    requires { seat.guarded ≡ guarded.now }
-{
-    let mut guard = Guard::over(guarded, seat);
-    let before = guard.held();
-    guard.acquire(rt);
-    let between = guard.held();
-    guard.release();
-    (before, between, guard.held())
-}
-
-#[test]
-fn a_guard_holds_between_its_calls(rt: HostRuntime) -> Result<(), Fail> {
-    let Ok((guarded, mut seats)) = Guarded::with_seats(rt.alloc(), 1, 0u32) else {
-        panic!(&rt; "no memory")
-    };
-    let seat = last_seat(&rt, &guarded, &mut seats);
-    assert!(rt; is_held_between(&rt, &guarded, seat) == (false, true, false));
-    Ok(())
-}
-
-#[test]
-fn a_number_of_seats_that_is_not_allowed_gives_the_value_back(rt: HostRuntime) -> Result<(), Fail> {
-    for seats in [0u32, 257] {
-        match Guarded::with_seats(rt.alloc(), seats, 5u32) {
-            Ok(_) => panic!(&rt; "it was made"),
-            Err(refused) => assert!(rt; refused.value == 5 && refused.why == SetupError::Seats),
-        }
+/// How many seats are made, or the value that comes back.
+fn made(alloc: Global, seats: u32) -> Result<usize, (u32, SetupError)> {
+    match Guarded::with_seats(alloc, seats, 5u32) {
+        Ok((_guarded, seats)) => Ok(seats.len()),
+        Err(refused) => Err((refused.value, refused.why)),
     }
-    Ok(())
 }
 
 #[test]
-fn the_most_seats_are_made(rt: HostRuntime) -> Result<(), Fail> {
-    match Guarded::with_seats(rt.alloc(), 256, 5u32) {
-        Ok((_guarded, seats)) => assert!(rt; seats.len() == 256),
-        Err(refused) => assert!(rt; refused.why == SetupError::NoMemory),
-    }
-    Ok(())
+fn a_value_has_1_to_256_seats(rt: HostRuntime) {
+    assert!(rt; made(rt.alloc(), 0) == Err((5, SetupError::Seats)));
+    assert!(rt; made(rt.alloc(), 257) == Err((5, SetupError::Seats)));
+    assert!(rt;
+        matches!(
+            made(rt.alloc(), 256),
+            Ok(256) | Err((5, SetupError::NoMemory))
+        )
+    );
 }

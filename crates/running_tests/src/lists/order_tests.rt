@@ -4,7 +4,9 @@
 ghost use Rattle.std.specs.Prelude.{◌≡◌, All};
 
 use crate::lists::given::{adds, grants, holds, last_seat, made};
+use crate::parts::actor::reaches;
 use notify_list::{ListSeat, NotifyList};
+use sema_table_crew::Start;
 use std::process::Abort;
 use std::sync::Wait;
 use std::sync::atomic::AtomicU64;
@@ -16,38 +18,21 @@ use std::thread::{Scope, Threads};
 /// then.
 const YIELDS: u32 = 1_000;
 
-/// Not all threads are made yet.
-const NOT_YET: u64 = 4;
-/// A thread couldn't be made, so none begins.
-const GIVE_UP: u64 = 5;
-
-/// How many have taken a ticket, how many have gone to wait, and how many have come back.
+/// When they begin; how many have taken a ticket, how many have gone to wait, and how many have come back.
 #[derive(Drop)]
 struct Turns {
+    start: Start,
     taken: AtomicU64,
     gone: AtomicU64,
     back: AtomicU64,
 }
 
-/// Returns once the number is this: whether the threads don't give up.
-fn comes<R: Wait>(rt: &R, number: &AtomicU64, wanted: u64) -> bool {
-    for _ in rt.forever() {
-        let found = number.load(SeqCst);
-        if found == GIVE_UP || found == wanted {
-            return found == wanted;
-        }
-        thread::yield_now();
-    }
-    false
-}
-
-/// The same, a while after it.
-fn awaits<R: Wait>(rt: &R, number: &AtomicU64, wanted: u64) -> bool {
-    let told = comes(rt, number, wanted);
+/// Returns a while after the number is this.
+fn awaits<R: Wait>(rt: &R, number: &AtomicU64, wanted: u64) {
+    reaches(rt, number, wanted);
     for _ in 0..YIELDS {
         thread::yield_now();
     }
-    told
 }
 
 /// Takes this ticket, of three, after those before it, goes to wait with it after those behind it, and comes
@@ -61,10 +46,11 @@ fn waits_in_turn<R: Abort + Wait>(
 )
     requires { seat.list ≡ list.now }
 {
-    if awaits(rt, &turns.taken, ticket) {
+    if turns.start.wait(rt) {
+        awaits(rt, &turns.taken, ticket);
         let holding = adds(rt, list, seat, ticket);
         turns.taken.store(ticket.wrapping_add(1), SeqCst);
-        let _ = awaits(rt, &turns.gone, 2_u64.wrapping_sub(ticket));
+        awaits(rt, &turns.gone, 2_u64.wrapping_sub(ticket));
         turns.gone.store(3_u64.wrapping_sub(ticket), SeqCst);
         let _ = list.wait(rt, holding);
         holds(
@@ -79,13 +65,13 @@ fn notifies_in_turn<R: Abort + Wait>(rt: &R, list: &NotifyList, seat: ListSeat, 
     requires { seat.list ≡ list.now }
 {
     let mut seat = seat;
-    let _ = awaits(rt, &turns.gone, 3);
+    awaits(rt, &turns.gone, 3);
     grants(rt, list, &mut seat, Some(0));
-    let _ = awaits(rt, &turns.back, 1);
+    awaits(rt, &turns.back, 1);
     grants(rt, list, &mut seat, Some(1));
-    let _ = awaits(rt, &turns.back, 2);
+    awaits(rt, &turns.back, 2);
     grants(rt, list, &mut seat, Some(2));
-    let _ = awaits(rt, &turns.back, 3);
+    awaits(rt, &turns.back, 3);
     grants(rt, list, &mut seat, None);
 }
 
@@ -116,7 +102,8 @@ fn three_tickets<R: Abort + Threads + Wait + Sync>(
     ensures { All (λ s. s.list ≡ list.now) seats.new.items }
 {
     let turns = Turns {
-        taken: AtomicU64::new(NOT_YET),
+        start: Start::new(),
+        taken: AtomicU64::new(0),
         gone: AtomicU64::new(0),
         back: AtomicU64::new(0),
     };
@@ -136,7 +123,7 @@ fn three_tickets<R: Abort + Threads + Wait + Sync>(
             let two = hire(scope, rt, list, second, turns, 1);
             let three = hire(scope, rt, list, third, turns, 2);
             let all = one && two && three;
-            turns.taken.store(if all { 0 } else { GIVE_UP }, SeqCst);
+            turns.start.tell(all);
             if all {
                 notifies_in_turn(rt, list, fourth, turns);
             }

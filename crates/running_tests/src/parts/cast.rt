@@ -1,12 +1,13 @@
 //! One thread for each part of a play.
 
-ghost use Rattle.std.specs.Prelude.{◌≡◌, All};
+ghost use Rattle.std.specs.Prelude.{◌≡◌, ◌<◌, length, All};
 
-use crate::parts::actor::{Actor, Marks, RELEASE_LIMIT, Stage, reaches};
+use crate::parts::actor::{Actor, Marks, RELEASE_LIMIT};
 use crate::parts::cond_given;
 use crate::parts::play::Play;
 use crate::tables::given::{Sizes, made, one_counter};
 use sema_table::{Seat, SemaTable};
+use sema_table_crew::Start;
 use std::alloc::Global;
 use std::process::Abort;
 use std::sync::Wait;
@@ -16,43 +17,39 @@ use std::thread::{Scope, Threads};
 use sync_parts::{Cond, ListSeat};
 use waiters::NoMemory;
 
-/// All threads are there.
-const BEGIN: u64 = 1;
-/// One couldn't be made, so nobody plays: one who waits for another that isn't there would wait for good.
-const GIVE_UP: u64 = 2;
-
 /// How often all have locked, and how often unlocked.
 pub(crate) type Sums = (u64, u64);
 
-/// Those who have no thread yet.
+/// What all parts share, and the seats of those who have no thread yet.
 #[derive(Drop)]
 struct Cast<'t> {
-    stage: &'t Stage<'t>,
+    table: &'t SemaTable,
+    cond: &'t Cond,
+    marks: &'t Marks,
+    start: &'t Start,
     seats: Vec<Seat>,
     owns: Vec<ListSeat>,
-    ghost table: { All (λ s. s.table ≡ stage.now.table.now) seats.items },
-    ghost cond: { All (λ s. s.list ≡ stage.now.cond.now) owns.items },
+    ghost locks: { 0 < length table.now.setting.starts },
+    ghost own: { All (λ s. s.table ≡ table.now) seats.items },
+    ghost others: { All (λ s. s.list ≡ cond.now) owns.items },
 }
 
 impl<'t> Cast<'t> {
     /// The next one, and the number of its part.
     fn next(&mut self, rt: &impl Abort) -> (Actor<'t>, u16) {
         let seat = self.seats.pop().expect(rt, "a seat");
-        let own = self
-            .owns
-            .pop()
-            .expect(rt, "a seat of the condition variable");
+        let own = self.owns.pop().expect(rt, "a seat to wait with");
         let part = seat.id().number();
-        (Actor::new(self.stage, seat, own), part)
+        let actor = Actor::new(self.table, self.cond, self.marks, seat, own);
+        (actor, part)
     }
 }
 
-/// A part of the play, once all threads are there.
-fn acts<R: Abort + Wait>(rt: &R, play: Play, actor: Actor<'_>, part: u16) {
+/// A part of the play, once all threads are there. Where one can't be made nobody plays: who waits for another
+/// that isn't there would wait for good.
+fn acts<R: Abort + Wait>(rt: &R, play: Play, start: &Start, actor: Actor<'_>, part: u16) {
     let mut actor = actor;
-    let marks = actor.marks;
-    reaches(rt, &marks.curtain, BEGIN);
-    if marks.curtain.load(SeqCst) == BEGIN {
+    if start.wait(rt) {
         play.plays(rt, &mut actor, part);
         actor.leaves(rt);
     }
@@ -66,9 +63,11 @@ fn hire_all<'s, E, R: Abort + Threads + Wait + Sync>(
     cast: Cast<'s>,
 ) -> bool {
     let mut cast = cast;
+    let start = cast.start;
     for _ in 0..play.parts() {
         let (actor, part) = cast.next(rt);
-        if scope.spawn(move || acts(rt, play, actor, part)).is_err() {
+        let made = scope.spawn(move || acts(rt, play, start, actor, part));
+        if made.is_err() {
             return false;
         }
     }
@@ -76,12 +75,11 @@ fn hire_all<'s, E, R: Abort + Threads + Wait + Sync>(
 }
 
 /// All parts, each in a thread of its own: whether they were played.
-fn act_all<R: Abort + Threads + Wait + Sync>(rt: &R, cast: Cast<'_>) -> bool {
-    let stage = cast.stage;
+fn act_all<R: Abort + Threads + Wait + Sync>(rt: &R, play: Play, cast: Cast<'_>) -> bool {
+    let start = cast.start;
     thread::scope(thread::scope_env(), rt, move |scope| {
-        let all = hire_all(rt, scope, stage.play, cast);
-        let told = if all { BEGIN } else { GIVE_UP };
-        stage.marks.curtain.store(told, SeqCst);
+        let all = hire_all(rt, scope, play, cast);
+        start.tell(all);
         all
     })
 }
@@ -99,14 +97,16 @@ fn perform_on<R: Abort + Threads + Wait + Sync>(
     requires cond { All (λ s. s.list ≡ cond.now) owns.items }
 {
     assert!(rt; 0 < table.counters());
-    let marks = &Marks::new();
-    let stage = &Stage {
+    let (marks, start) = (&Marks::new(), &Start::new());
+    let cast = Cast {
         table,
         cond,
         marks,
-        play,
+        start,
+        seats,
+        owns,
     };
-    if act_all(rt, Cast { stage, seats, owns }) {
+    if act_all(rt, play, cast) {
         Ok((marks.locked.load(SeqCst), marks.unlocked.load(SeqCst)))
     } else {
         Err(NoMemory)

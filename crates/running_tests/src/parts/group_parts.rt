@@ -4,11 +4,7 @@ use crate::parts::group_given::{Answer, Call, Member};
 use std::process::Abort;
 use std::sync::Wait;
 use std::sync::atomic::{AtomicU64, Ordering};
-use std::thread;
 use std::thread::{JoinHandle, Scope};
-
-/// How often a thread looks for a flag.
-const TURNS: u32 = 10_000_000;
 
 /// What a thread does.
 #[derive(Clone, Copy, Drop)]
@@ -18,8 +14,6 @@ pub(crate) enum Part<'s> {
     Adds,
     /// Adds its share to a sum, and is done.
     Works(u64, &'s AtomicU64),
-    /// Sets the first flag, sees the second, and is done.
-    Signals(&'s AtomicU64, &'s AtomicU64),
 }
 
 /// What a thread comes back with.
@@ -32,17 +26,6 @@ pub(crate) struct Back<'g> {
     pub(crate) last: Answer,
 }
 
-/// Whether the flag is seen within the turns.
-fn sees(flag: &AtomicU64) -> bool {
-    for _ in 0..TURNS {
-        if flag.load(Ordering::SeqCst) == 1 {
-            return true;
-        }
-        thread::yield_now();
-    }
-    false
-}
-
 /// What comes before the last call of a part, and the answer to its first call.
 fn begins<R: Abort + Wait>(rt: &R, member: &mut Member<'_>, part: Part<'_>) -> Answer {
     match part {
@@ -50,11 +33,6 @@ fn begins<R: Abort + Wait>(rt: &R, member: &mut Member<'_>, part: Part<'_>) -> A
         Part::Adds => member.calls(rt, Call::Add(1)),
         Part::Works(share, sum) => {
             sum.fetch_add(share, Ordering::SeqCst);
-            Ok(0)
-        }
-        Part::Signals(mine, other) => {
-            mine.store(1, Ordering::SeqCst);
-            assert!(rt; sees(other));
             Ok(0)
         }
     }
@@ -65,7 +43,7 @@ fn ends<R: Abort + Wait>(rt: &R, member: &mut Member<'_>, part: Part<'_>, first:
     match part {
         Part::Waits => first,
         Part::Adds => member.calls(rt, Call::Done),
-        _ => Ok(member.finishes(rt)),
+        Part::Works(..) => Ok(member.finishes(rt)),
     }
 }
 

@@ -1,12 +1,13 @@
 //! What is played around a wait group by threads.
 
-use crate::parts::group_given::{Team, made};
+use crate::parts::group_given::{Call, Member, Team, made};
+use crate::parts::group_parts::{Part, begin};
 use crate::parts::group_races::{begins_anew, races};
-use crate::parts::group_threads::{flags_are_seen, forks_and_joins};
+use crate::tables::given::holds;
 use std::alloc::Global;
 use std::process::Abort;
 use std::sync::Wait;
-use std::sync::atomic::AtomicU64;
+use std::sync::atomic::{AtomicU64, Ordering};
 use std::thread;
 use std::thread::{Scope, Threads};
 
@@ -18,23 +19,32 @@ enum Scene {
     Anew,
     /// Three workers are waited for.
     Fork,
-    /// Each of two threads waits for what the other does.
-    Flags,
 }
 
-/// What threads tell one another.
-#[derive(Drop)]
-pub(crate) struct Flags {
-    /// In the fork, the sum of all shares.
-    pub(crate) left: AtomicU64,
-    pub(crate) right: AtomicU64,
+/// What each of the workers adds.
+static SHARES: [u64; 3] = [1, 20, 300];
+
+/// Forks three workers and waits for them: each has added its share then.
+fn forks_and_joins<'s, E, R: Abort + Threads + Wait + Sync>(
+    rt: &'s R,
+    scope: &'s Scope<'s, E>,
+    first: &mut Member<'s>,
+    team: &mut Team<'s>,
+    sum: &'s AtomicU64,
+) {
+    first.answers(rt, Call::Add(3), Ok(0));
+    for share in &SHARES {
+        begin(rt, scope, team.member(rt), Part::Works(*share, sum));
+    }
+    first.answers(rt, Call::Wait, Ok(0));
+    holds(rt, sum.load(Ordering::SeqCst) == 321);
 }
 
 impl Scene {
     fn seats(self) -> u32 {
         match self {
             Scene::Anew => 2,
-            Scene::Race | Scene::Flags => 3,
+            Scene::Race => 3,
             Scene::Fork => 4,
         }
     }
@@ -44,43 +54,39 @@ impl Scene {
         rt: &'s R,
         scope: &'s Scope<'s, E>,
         team: Team<'s>,
-        flags: &'s Flags,
+        sum: &'s AtomicU64,
     ) {
         let mut team = team;
         let mut first = team.member(rt);
         match self {
             Scene::Race => races(rt, scope, &mut first, &mut team),
             Scene::Anew => begins_anew(rt, scope, &mut first, &mut team),
-            Scene::Fork => forks_and_joins(rt, scope, &mut first, &mut team, &flags.left),
-            Scene::Flags => flags_are_seen(rt, scope, &mut first, &mut team, flags),
+            Scene::Fork => forks_and_joins(rt, scope, &mut first, &mut team, sum),
         }
     }
 }
 
-fn in_scope<R: Abort + Threads + Wait + Sync>(rt: &R, scene: Scene, team: Team<'_>, flags: &Flags) {
+fn in_scope<R: Abort + Threads + Wait + Sync>(
+    rt: &R,
+    scene: Scene,
+    team: Team<'_>,
+    sum: &AtomicU64,
+) {
     thread::scope(
         thread::scope_env(),
         rt,
-        move |scope| scene.plays(rt, scope, team, flags),
+        move |scope| scene.plays(rt, scope, team, sum),
     );
 }
 
 /// Scenes, and how often each is played.
-static SCENES: [(Scene, u32); 4] = [
-    (Scene::Race, 500),
-    (Scene::Anew, 500),
-    (Scene::Fork, 200),
-    (Scene::Flags, 1),
-];
+static SCENES: [(Scene, u32); 3] = [(Scene::Race, 500), (Scene::Anew, 500), (Scene::Fork, 200)];
 
 /// The scene in a new group.
 fn play<R: Abort + Threads + Wait + Sync>(rt: &R, alloc: Global, scene: Scene) {
     let (group, seats) = made(rt, alloc, scene.seats());
-    let flags = Flags {
-        left: AtomicU64::new(0),
-        right: AtomicU64::new(0),
-    };
-    in_scope(rt, scene, Team::new(&group, seats), &flags);
+    let sum = AtomicU64::new(0);
+    in_scope(rt, scene, Team::new(&group, seats), &sum);
 }
 
 /// One round of all scenes.

@@ -64,10 +64,6 @@ fn has_counters(rt: &impl Abort, root: &TreapRoot, counters: &[u32]) {
     holds(rt, met == Some(counters.len()));
 }
 
-fn is_on_top(rt: &impl Abort, root: &TreapRoot, top: Option<CounterId>) {
-    holds(rt, root.top() == top);
-}
-
 /// The root has this counter alone, at an odd ticket.
 fn stands_alone(root: &TreapRoot, at: CounterId) -> bool {
     match root.place(at) {
@@ -94,17 +90,9 @@ static COMES_AND_GOES: [Row; 6] = [
     (Call::Dequeue(9, Some(2)), &[5]),
 ];
 
-fn comes_and_goes(rt: &impl Abort, root: &mut TreapRoot) {
-    for row in &COMES_AND_GOES {
-        make_call(rt, root, &row.0);
-        has_counters(rt, root, row.1);
-        holds(rt, root.place(counter(7)) == None);
-    }
-}
-
 /// A wait comes in at an empty treap, whose counter stands alone then.
 fn comes_first(rt: &impl Abort, root: &mut TreapRoot, number: u32, seat: u16) {
-    is_on_top(rt, root, None);
+    holds(rt, root.top() == None);
     queue(root, number, seat, false);
     holds(rt, stands_alone(root, counter(number)));
 }
@@ -112,25 +100,19 @@ fn comes_first(rt: &impl Abort, root: &mut TreapRoot, number: u32, seat: u16) {
 fn places(rt: &impl Abort, root: &mut TreapRoot) {
     comes_first(rt, root, 5, 0);
     has_counters(rt, root, &[5]);
-    comes_and_goes(rt, root);
+    for row in &COMES_AND_GOES {
+        make_call(rt, root, &row.0);
+        has_counters(rt, root, row.1);
+        holds(rt, root.place(counter(7)) == None);
+    }
     make_call(rt, root, &Call::Dequeue(5, Some(0)));
     comes_first(rt, root, 7, 2);
-}
-
-/// A wait comes in at both roots, on one counter, whose places are then the same.
-fn queue_both(rt: &impl Abort, root: &mut TreapRoot, copy: &mut TreapRoot, number: u32, seat: u16) {
-    queue(root, number, seat, false);
-    queue(copy, number, seat, false);
-    holds(
-        rt,
-        copy.place(counter(number)) == root.place(counter(number)),
-    );
 }
 
 /// A counter, and how many waits there are once one came in there.
 type Counted = (u32, usize);
 
-/// Waits of one seat come in at both roots, which are then full.
+/// Waits of one seat come in at both roots, whose places are the same then; at the end they are full.
 fn queue_all(
     rt: &impl Abort,
     root: &mut TreapRoot,
@@ -139,11 +121,14 @@ fn queue_all(
     seat: u16,
 ) {
     for row in rows {
-        queue_both(rt, root, copy, row.0, seat);
+        queue(root, row.0, seat, false);
+        queue(copy, row.0, seat, false);
+        let at = counter(row.0);
+        holds(rt, copy.place(at) == root.place(at));
         holds(rt, copy.count() == row.1);
     }
     holds(rt, copy.is_full());
-    is_on_top(rt, copy, root.top());
+    holds(rt, copy.top() == root.top());
 }
 
 fn copy_answers(rt: &impl Abort, root: &mut TreapRoot, copy: &mut TreapRoot) {

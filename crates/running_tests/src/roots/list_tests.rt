@@ -51,36 +51,30 @@ enum Call {
 /// A call, the seat and ticket of the wait that it answers, and the length of the list and the room after it.
 struct Row(Call, Option<(u16, u64)>, usize, usize);
 
-fn push(rt: &impl Abort, lists: &mut Lists, key: ListKey, wait: Wait, front: bool) -> Option<Wait> {
-    assert!(rt; lists.is_open(key) && lists.room() > 0);
-    if front {
-        lists.push_front(key, wait);
-    } else {
-        lists.push_back(key, wait);
-    }
-    None
-}
-
 fn answer(rt: &impl Abort, lists: &mut Lists, key: ListKey, call: &Call) -> Option<Wait> {
     assert!(rt; lists.is_open(key));
     match *call {
-        Call::PushBack(seat, ticket) => push(rt, lists, key, wait(seat, ticket), false),
-        Call::PushFront(seat, ticket) => push(rt, lists, key, wait(seat, ticket), true),
+        Call::PushBack(seat, ticket) => {
+            assert!(rt; lists.room() > 0);
+            lists.push_back(key, wait(seat, ticket));
+            None
+        }
+        Call::PushFront(seat, ticket) => {
+            assert!(rt; lists.room() > 0);
+            lists.push_front(key, wait(seat, ticket));
+            None
+        }
         Call::First => lists.first(key),
         Call::PopFront => lists.pop_front(key),
         Call::TakeTicket(ticket) => lists.take_ticket(key, ticket),
     }
 }
 
-fn has_len(lists: &Lists, key: ListKey, len: usize) -> bool {
-    lists.is_open(key) && lists.len(key) == len
-}
-
 fn answers_row(rt: &impl Abort, lists: &mut Lists, key: ListKey, row: &Row) {
     let answered = answer(rt, lists, key, &row.0);
     holds(rt, answered == wait_of(row.1));
-    holds(rt, has_len(lists, key, row.2));
-    holds(rt, lists.room() == row.3);
+    assert!(rt; lists.is_open(key));
+    holds(rt, (lists.len(key), lists.room()) == (row.2, row.3));
 }
 
 fn answers_as_written(rt: &impl Abort, lists: &mut Lists, key: ListKey, rows: &[Row]) {
@@ -89,20 +83,14 @@ fn answers_as_written(rt: &impl Abort, lists: &mut Lists, key: ListKey, rows: &[
     }
 }
 
-/// How many seats are copied into a buffer of one, and the seat that is then there.
-fn first_seat(lists: &Lists, key: ListKey) -> (usize, SeatId) {
-    let mut seats = [SeatId::new(9)];
-    if !lists.is_open(key) {
-        return (0, seats[0]);
-    }
-    let copied = lists.copy_into(key, seats.as_mut_slice());
-    (copied, seats[0])
-}
-
-/// These two seats are copied into a buffer of two.
-fn has_seats(lists: &Lists, key: ListKey, expected: [SeatId; 2]) -> bool {
+/// The seats are copied into a buffer of so many of two places: how many, and what stands there then.
+fn has_seats(lists: &Lists, key: ListKey, room: usize, copied: usize, expected: [u16; 2]) -> bool {
     let mut seats = [SeatId::new(9); 2];
-    lists.is_open(key) && lists.copy_into(key, seats.as_mut_slice()) == 2 && seats == expected
+    if !lists.is_open(key) || room > 2 {
+        return false;
+    }
+    let told = lists.copy_into(key, &mut seats[..room]);
+    told == copied && seats == [SeatId::new(expected[0]), SeatId::new(expected[1])]
 }
 
 fn has_ids(
@@ -185,10 +173,10 @@ fn answers(rt: &impl Abort, alloc: Global, lists: &mut Lists) {
     holds(rt, lists.is_open(key));
     has_room(rt, lists, 3, 1);
     answers_as_written(rt, lists, key, &COMES_IN);
-    holds(rt, has_seats(lists, key, [SeatId::new(2), SeatId::new(0)]));
+    holds(rt, has_seats(lists, key, 2, 2, [2, 0]));
     answers_as_written(rt, lists, key, &TAKES);
-    holds(rt, first_seat(lists, key) == (1, SeatId::new(0)));
-    holds(rt, has_seats(lists, key, [SeatId::new(0), SeatId::new(1)]));
+    holds(rt, has_seats(lists, key, 1, 1, [0, 9]));
+    holds(rt, has_seats(lists, key, 2, 2, [0, 1]));
     let ids = [wait(0, 5).id, wait(1, 7).id];
     holds(rt, has_ids_again(alloc, lists, key, ids.as_slice()));
     answers_as_written(rt, lists, key, &GIVES);

@@ -2,12 +2,10 @@
 
 ghost use Rattle.std.specs.Prelude.{◌≡◌, All};
 
-use crate::tables::given::{Sizes, closes, gives_back, holds, last_seat, made, one_counter, wait};
-use crate::tables::many_tests::{posts_many, releases_many};
-use crate::tables::seats::{
-    FIFO, LIFO, PLAIN, acquires, is_woken, posts, releases, retries, sleeps, tries,
+use crate::tables::given::{
+    Sizes, adds, counter, counts, gives_back, holds, last_seat, made, value,
 };
-use sema_table::{Closed, Seat, SemaTable, Tried, Wake};
+use sema_table::{Closed, Seat, SemaTable};
 use std::alloc::Global;
 use std::process::Abort;
 use std::sync::Wait;
@@ -21,118 +19,128 @@ fn ends_at(rt: &impl Abort, closed: &Closed, number: u32, value: u64) {
 
 /// How many units were added in all and how many given, and the last numbers of these counters.
 pub(crate) fn adds_up(rt: &impl Abort, closed: &Closed, counts: (u64, u64), ends: &[(u32, u64)]) {
-    holds(rt, closed.releases() == counts.0);
-    holds(rt, closed.acquires() == counts.1);
+    holds(rt, (closed.releases(), closed.acquires()) == counts);
     for end in ends {
         ends_at(rt, closed, end.0, end.1);
     }
 }
 
-/// A unit is taken from counter 0, and two are added to counter 1.
-fn takes_one_and_adds_two<R: Abort + Wait>(rt: &R, table: &SemaTable, seats: &mut Vec<Seat>)
-    requires { All (λ s. s.table ≡ table.now) seats.old.items }
-    ensures { All (λ s. s.table ≡ table.now) seats.new.items }
-{
-    let mut second = last_seat(rt, table, seats);
-    tries(rt, table, &mut second, 0, Tried::Taken);
-    let first = last_seat(rt, table, seats);
-    let first = posts(rt, table, first, 1);
-    let first = posts(rt, table, first, 1);
-    gives_back(rt, table, seats, second);
-    gives_back(rt, table, seats, first);
+/// What the last seat does, where nobody waits.
+#[derive(Clone, Copy, Drop)]
+pub(crate) enum Act {
+    /// Takes a unit from a counter.
+    Takes(u32),
+    /// Adds units to a counter.
+    Adds(u32, u32),
+    /// Has so many left to add, and was given so many.
+    Counts(u64, u64),
+    /// Meets the one before it, which is the last one then. Both see the same number of counter 0.
+    Meets,
 }
 
-/// A seat sleeps, is woken by a release, and takes the unit.
-fn sleeps_and_takes<R: Abort + Wait>(rt: &R, table: &SemaTable, seats: &mut Vec<Seat>)
-    requires { All (λ s. s.table ≡ table.now) seats.old.items }
-    ensures { All (λ s. s.table ≡ table.now) seats.new.items }
+fn meets(rt: &impl Abort, table: &SemaTable, seats: &mut Vec<Seat>, seat: Seat) -> Seat
+    requires { (seat.table ≡ table.now) × All (λ s. s.table ≡ table.now) seats.old.items }
+    ensures own { result.table ≡ table.now }
+    ensures rest { All (λ s. s.table ≡ table.now) seats.new.items }
 {
-    let second = last_seat(rt, table, seats);
-    let first = last_seat(rt, table, seats);
-    let sleeping = sleeps(rt, table, first, 0, FIFO, wait(0, 0));
-    let second = releases(rt, table, second, 0, PLAIN, Wake::One(wait(0, 0)));
-    let woken = is_woken(rt, table, sleeping);
-    let first = retries(rt, table, woken);
-    let second = releases(rt, table, second, 0, PLAIN, Wake::Nobody);
-    let second = acquires(rt, table, second, 0, FIFO);
-    gives_back(rt, table, seats, first);
-    gives_back(rt, table, seats, second);
+    let (mut one, mut other) = (seat, last_seat(rt, table, seats));
+    table.meet(&mut one, &mut other);
+    let told = value(rt, table, &mut one, 0);
+    holds(rt, value(rt, table, &mut other, 0) == told);
+    gives_back(rt, table, seats, one);
+    other
 }
 
-/// Five units are added by two calls, of which one is taken.
-fn adds_at_once<R: Abort + Wait>(rt: &R, table: &SemaTable, seats: &mut Vec<Seat>)
+/// The act in a table that has the counters.
+pub(crate) fn acts<R: Abort + Wait>(rt: &R, table: &SemaTable, seats: &mut Vec<Seat>, act: Act)
     requires { All (λ s. s.table ≡ table.now) seats.old.items }
     ensures { All (λ s. s.table ≡ table.now) seats.new.items }
 {
     let seat = last_seat(rt, table, seats);
-    let seat = posts_many(rt, table, seat, 2);
-    let seat = releases_many(rt, table, seat, 3, 0);
-    let seat = acquires(rt, table, seat, 0, LIFO);
+    let seat = match act {
+        Act::Takes(number) => table.acquire(rt, seat, counter(rt, table, number), false),
+        Act::Adds(number, units) => adds(rt, table, seat, number, units),
+        Act::Counts(left, taken) => {
+            counts(rt, &seat, left, taken);
+            seat
+        }
+        Act::Meets => meets(rt, table, seats, seat),
+    };
     gives_back(rt, table, seats, seat);
 }
 
-/// What the seats of a table do before it is closed.
-#[derive(Clone, Copy, Drop)]
-enum Scene {
-    Nothing,
-    TakesOneAndAddsTwo,
-    /// Nobody waits when it is closed.
-    SleepsAndTakes,
-    AddsAtOnce,
-}
-
-impl Scene {
-    fn plays<R: Abort + Wait>(self, rt: &R, table: &SemaTable, seats: &mut Vec<Seat>)
-        requires { All (λ s. s.table ≡ table.now) seats.old.items }
-        ensures { All (λ s. s.table ≡ table.now) seats.new.items }
-    {
-        match self {
-            Scene::Nothing => {}
-            Scene::TakesOneAndAddsTwo => takes_one_and_adds_two(rt, table, seats),
-            Scene::SleepsAndTakes => sleeps_and_takes(rt, table, seats),
-            Scene::AddsAtOnce => adds_at_once(rt, table, seats),
-        }
+pub(crate) fn act_all<R: Abort + Wait>(
+    rt: &R,
+    table: &SemaTable,
+    seats: &mut Vec<Seat>,
+    all: &[Act],
+)
+    requires { All (λ s. s.table ≡ table.now) seats.old.items }
+    ensures { All (λ s. s.table ≡ table.now) seats.new.items }
+{
+    for act in all {
+        acts(rt, table, seats, *act);
     }
 }
 
-/// A scene, how many counters start at which number, and how many seats there are; then how many units are
-/// added and how many given, and the last numbers of the counters.
-type Row = (Scene, (usize, u32, u32), (u64, u64), &'static [(u32, u64)]);
+/// Two seats that met go on.
+const MEET: &[Act] = &[
+    Act::Adds(0, 1),
+    Act::Counts(9, 0),
+    Act::Meets,
+    Act::Takes(0),
+    Act::Counts(10, 1),
+    Act::Meets,
+    Act::Counts(9, 0),
+];
 
-static SCENES: [Row; 4] = [
-    (Scene::Nothing, (2, 7, 3), (0, 0), &[(0, 7), (1, 7)]),
+/// How many counters start at which number, and how many seats there are; what these do; then how many units
+/// are added and how many given, and the last numbers of the counters.
+type Row = (
+    (usize, u32, u32),
+    &'static [Act],
+    (u64, u64),
+    &'static [(u32, u64)],
+);
+
+static ROWS: [Row; 4] = [
+    ((2, 7, 3), &[], (0, 0), &[(0, 7), (1, 7)]),
     (
-        Scene::TakesOneAndAddsTwo,
         (2, 3, 2),
+        &[Act::Takes(0), Act::Adds(1, 2)],
         (2, 1),
         &[(0, 2), (1, 5)],
     ),
-    (Scene::SleepsAndTakes, (1, 0, 2), (2, 2), &[(0, 0)]),
-    (Scene::AddsAtOnce, (1, 0, 2), (5, 1), &[(0, 4)]),
+    (
+        (1, 0, 2),
+        &[Act::Adds(0, 2), Act::Adds(0, 3), Act::Takes(0)],
+        (5, 1),
+        &[(0, 4)],
+    ),
+    ((1, 0, 2), MEET, (1, 1), &[(0, 0)]),
 ];
 
-/// The scene in a new table, which is closed then.
-fn plays_and_closes<R: Abort + Wait>(
-    rt: &R,
-    alloc: Global,
-    scene: Scene,
-    sizes: (usize, u32, u32),
-) -> Closed {
-    let (counters, start, count) = sizes;
+/// The table of a row, closed after all.
+fn closes<R: Abort + Wait>(rt: &R, alloc: Global, row: &Row) -> Closed {
+    let (counters, start, count) = row.0;
     let sizes = Sizes {
         counters,
-        ..one_counter(start, count)
+        start,
+        seats: count,
+        roots: 251,
+        release_limit: 10,
     };
     let (table, mut seats) = made(rt, alloc, &sizes);
-    scene.plays(rt, &table, &mut seats);
-    closes(rt, table, seats)
+    act_all(rt, &table, &mut seats, row.1);
+    assert!(rt; seats.len() == table.seats() as usize);
+    table.close(seats)
 }
 
 #[test]
 fn closed_tables_add_up(rt: HostRuntime) {
-    for (scene, sizes, counts, ends) in &SCENES {
-        let closed = plays_and_closes(&rt, rt.alloc(), *scene, *sizes);
-        holds(&rt, closed.counters() as usize == sizes.0);
-        adds_up(&rt, &closed, *counts, ends);
+    for row in &ROWS {
+        let closed = closes(&rt, rt.alloc(), row);
+        holds(&rt, closed.counters() as usize == row.0.0);
+        adds_up(&rt, &closed, row.2, row.3);
     }
 }

@@ -1,12 +1,9 @@
 //! Threads that share a table, one for each seat. The table is closed with them: nobody is lost, and no unit
 //! is.
 
-ghost use Rattle.std.specs.Prelude.{◌≡◌, All};
-
-use crate::tables::close_tests::adds_up;
-use crate::tables::given::{Sizes, gives_back, last_seat, made};
-use crate::tables::seats::posts;
-use sema_table::{Closed, Seat, SemaTable};
+use crate::tables::close_tests::{Act, act_all, adds_up};
+use crate::tables::given::{Sizes, made};
+use sema_table::Closed;
 use sema_table_crew::{Way, Work, run};
 use std::alloc::Global;
 use std::process::Abort;
@@ -14,36 +11,9 @@ use std::sync::Wait;
 use std::thread::Threads;
 use waiters::NoMemory;
 
-/// What seats do, each in a thread of its own, after so many units were added to counter 0.
+/// What the last seat begins with; then what the seats do, each in a thread of its own, and how often.
 #[derive(Drop)]
-struct Plan {
-    sizes: Sizes,
-    units: u32,
-    work: Work,
-    turns: u32,
-}
-
-/// The seat adds so many units to counter 0, one by one.
-fn posts_one_by_one(rt: &impl Abort, table: &SemaTable, seat: Seat, units: u32) -> Seat
-    requires { seat.table ≡ table.now }
-    ensures { result.table ≡ table.now }
-{
-    let mut seat = seat;
-    for _ in 0..units {
-        seat = posts(rt, table, seat, 0);
-    }
-    seat
-}
-
-/// The last seat adds units to counter 0.
-fn begins(rt: &impl Abort, table: &SemaTable, seats: &mut Vec<Seat>, units: u32)
-    requires { All (λ s. s.table ≡ table.now) seats.old.items }
-    ensures { All (λ s. s.table ≡ table.now) seats.new.items }
-{
-    let seat = last_seat(rt, table, seats);
-    let seat = posts_one_by_one(rt, table, seat, units);
-    gives_back(rt, table, seats, seat);
-}
+struct Plan(Sizes, &'static [Act], Work, u32);
 
 /// All seats work, and the table is closed with them.
 fn works<R: Abort + Threads + Wait + Sync>(
@@ -51,10 +21,10 @@ fn works<R: Abort + Threads + Wait + Sync>(
     alloc: Global,
     plan: &Plan,
 ) -> Result<Closed, NoMemory> {
-    let (table, mut seats) = made(rt, alloc, &plan.sizes);
-    begins(rt, &table, &mut seats, plan.units);
+    let (table, mut seats) = made(rt, alloc, &plan.0);
+    act_all(rt, &table, &mut seats, plan.1);
     assert!(rt; 0 < table.counters());
-    run(rt, alloc, table, seats, plan.work, plan.turns)
+    run(rt, alloc, table, seats, plan.2, plan.3)
 }
 
 /// The same, once more where memory was refused.
@@ -74,107 +44,92 @@ const TWO_HANDS: Sizes = Sizes {
     release_limit: 20_002,
 };
 
+/// Four threads that lock three counters.
+const FOUR_LOCKERS: Sizes = Sizes {
+    counters: 3,
+    start: 1,
+    seats: 4,
+    roots: 1,
+    release_limit: 5_000,
+};
+
+/// Two threads that add to one counter.
+const TWO_ADD: Sizes = Sizes {
+    counters: 1,
+    start: 0,
+    seats: 2,
+    roots: 251,
+    release_limit: 1_000,
+};
+
+/// Ten threads that lock one.
+const TEN_LOCKERS: Sizes = Sizes {
+    counters: 1,
+    start: 1,
+    seats: 10,
+    roots: 251,
+    release_limit: 1_000,
+};
+
+const ONE_UNIT: &[Act] = &[Act::Adds(0, 1)];
+
+const TWO_UNITS: &[Act] = &[Act::Adds(0, 2)];
+
+const IN_ORDER: Work = Work::Hands(Way {
+    lifo: false,
+    handoff: false,
+});
+
+const IN_FRONT: Work = Work::Hands(Way {
+    lifo: true,
+    handoff: false,
+});
+
+const HANDED: Work = Work::Hands(Way {
+    lifo: false,
+    handoff: true,
+});
+
 /// What is done, how many units are added and how many given, and the last numbers of these counters.
-static PLANS: [(Plan, (u64, u64), &[(u32, u64)]); 7] = [
-    // a unit goes back and forth over two counters of one root: in order, with lifo and with handoff
+type Row = (Plan, (u64, u64), &'static [(u32, u64)]);
+
+static PLANS: [Row; 7] = [
+    // a unit goes back and forth over two counters of one root
     (
-        Plan {
-            sizes: TWO_HANDS,
-            units: 1,
-            work: Work::Hands(Way {
-                lifo: false,
-                handoff: false,
-            }),
-            turns: 10_000,
-        },
+        Plan(TWO_HANDS, ONE_UNIT, IN_ORDER, 10_000),
         (20_001, 20_000),
         &[(0, 1), (1, 0)],
     ),
     (
-        Plan {
-            sizes: TWO_HANDS,
-            units: 1,
-            work: Work::Hands(Way {
-                lifo: true,
-                handoff: false,
-            }),
-            turns: 10_000,
-        },
+        Plan(TWO_HANDS, ONE_UNIT, IN_FRONT, 10_000),
         (20_001, 20_000),
         &[(0, 1), (1, 0)],
     ),
     (
-        Plan {
-            sizes: TWO_HANDS,
-            units: 1,
-            work: Work::Hands(Way {
-                lifo: false,
-                handoff: true,
-            }),
-            turns: 10_000,
-        },
+        Plan(TWO_HANDS, ONE_UNIT, HANDED, 10_000),
         (20_001, 20_000),
         &[(0, 1), (1, 0)],
     ),
     // two units by one add
     (
-        Plan {
-            sizes: TWO_HANDS,
-            units: 2,
-            work: Work::HandsTwo,
-            turns: 10_000,
-        },
+        Plan(TWO_HANDS, TWO_UNITS, Work::HandsTwo, 10_000),
         (40_002, 40_000),
         &[(0, 2), (1, 0)],
     ),
-    // four threads lock three counters: nobody is lost
+    // nobody is lost
     (
-        Plan {
-            sizes: Sizes {
-                counters: 3,
-                start: 1,
-                seats: 4,
-                roots: 1,
-                release_limit: 5_000,
-            },
-            units: 0,
-            work: Work::Locks,
-            turns: 5_000,
-        },
+        Plan(FOUR_LOCKERS, &[], Work::Locks, 5_000),
         (20_000, 20_000),
         &[(0, 1), (1, 1), (2, 1)],
     ),
-    // two threads add, and no unit is lost
+    // no unit is lost
     (
-        Plan {
-            sizes: Sizes {
-                counters: 1,
-                start: 0,
-                seats: 2,
-                roots: 251,
-                release_limit: 1_000,
-            },
-            units: 0,
-            work: Work::Adds,
-            turns: 1_000,
-        },
+        Plan(TWO_ADD, &[], Work::Adds, 1_000),
         (2_000, 0),
         &[(0, 2_000)],
     ),
-    // ten lock one
     (
-        Plan {
-            sizes: Sizes {
-                counters: 1,
-                start: 1,
-                seats: 10,
-                roots: 251,
-                release_limit: 1_000,
-            },
-            units: 0,
-            work: Work::Locks,
-            turns: 1_000,
-        },
+        Plan(TEN_LOCKERS, &[], Work::Locks, 1_000),
         (10_000, 10_000),
         &[(0, 1)],
     ),

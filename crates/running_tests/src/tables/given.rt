@@ -4,10 +4,11 @@
 
 ghost use Rattle.std.specs.Prelude.{◌≡◌, ◌<◌, length, All, IfOk};
 
-use sema_table::{Closed, Seat, SemaTable, Settings, SetupError};
-use std::alloc::{AllocError, Global};
+use sema_table::{Seat, SemaTable, Settings, SetupError, Tried};
+use std::alloc::Global;
 use std::process::Abort;
-use waiters::{CounterId, SeatId, WaitId};
+use std::sync::Wait;
+use waiters::CounterId;
 
 /// An assertion. One that stands in a function of its own is proved once: `assert!` makes each body larger.
 pub(crate) fn holds(rt: &impl Abort, told: bool) {
@@ -35,21 +36,18 @@ pub(crate) fn one_counter(start: u32, seats: u32) -> Sizes {
     }
 }
 
-fn settings(alloc: Global, sizes: &Sizes) -> Result<Settings, AllocError> {
-    Ok(Settings {
-        starts: vec![in alloc; sizes.start; sizes.counters]?,
+fn new_table(alloc: Global, sizes: &Sizes) -> Result<(SemaTable, Vec<Seat>), SetupError>
+    ensures { IfOk result (λ t. All (λ s. s.table ≡ t.0) t.1.items) }
+{
+    let Ok(starts) = vec![in alloc; sizes.start; sizes.counters] else {
+        return Err(SetupError::NoMemory);
+    };
+    let settings = Settings {
+        starts,
         seats: sizes.seats,
         roots: sizes.roots,
         seed: 1,
         release_limit: sizes.release_limit,
-    })
-}
-
-fn new_table(alloc: Global, sizes: &Sizes) -> Result<(SemaTable, Vec<Seat>), SetupError>
-    ensures { IfOk result (λ t. All (λ s. s.table ≡ t.0) t.1.items) }
-{
-    let Ok(settings) = settings(alloc, sizes) else {
-        return Err(SetupError::NoMemory);
     };
     SemaTable::new(alloc, settings)
 }
@@ -90,25 +88,6 @@ pub(crate) fn gives_back(rt: &impl Abort, table: &SemaTable, seats: &mut Vec<Sea
         .expect(rt, "the room of a seat that was there");
 }
 
-/// The seats where there are two, in their order.
-pub(crate) fn two_seats(rt: &impl Abort, table: &SemaTable, seats: Vec<Seat>) -> (Seat, Seat)
-    requires { All (λ s. s.table ≡ table.now) seats.items }
-    ensures first { result.0.table ≡ table.now }
-    ensures second { result.1.table ≡ table.now }
-{
-    let mut seats = seats;
-    let second = last_seat(rt, table, &mut seats);
-    (last_seat(rt, table, &mut seats), second)
-}
-
-/// Ends the table, with all its seats.
-pub(crate) fn closes(rt: &impl Abort, table: SemaTable, seats: Vec<Seat>) -> Closed
-    requires { All (λ s. s.table ≡ table) seats.items }
-{
-    assert!(rt; seats.len() == table.seats() as usize);
-    table.close(seats)
-}
-
 /// The counter of this number, which the table has.
 pub(crate) fn counter(rt: &impl Abort, table: &SemaTable, number: u32) -> CounterId
     ensures { result < length table.now.setting.starts }
@@ -117,9 +96,51 @@ pub(crate) fn counter(rt: &impl Abort, table: &SemaTable, number: u32) -> Counte
     CounterId::new(number)
 }
 
-pub(crate) fn wait(seat: u16, turn: u64) -> WaitId {
-    WaitId {
-        seat: SeatId::new(seat),
-        turn,
+pub(crate) fn value(rt: &impl Abort, table: &SemaTable, seat: &mut Seat, number: u32) -> u64
+    requires { seat.old.table ≡ table.now }
+    ensures { seat.new.table ≡ table.now }
+{
+    let at = counter(rt, table, number);
+    table.value(seat, at)
+}
+
+/// How many wait at the counter's root.
+pub(crate) fn waiters(rt: &impl Abort, table: &SemaTable, seat: &mut Seat, number: u32) -> u64
+    requires { seat.old.table ≡ table.now }
+    ensures { seat.new.table ≡ table.now }
+{
+    let at = counter(rt, table, number);
+    table.waiters_of_root(seat, at)
+}
+
+pub(crate) fn tried(rt: &impl Abort, table: &SemaTable, seat: &mut Seat, number: u32) -> Tried
+    requires { seat.old.table ≡ table.now }
+    ensures { seat.new.table ≡ table.now }
+{
+    let at = counter(rt, table, number);
+    table.try_acquire(seat, at)
+}
+
+/// The seat adds units by one add, which it may, and wakes whom it can.
+pub(crate) fn adds<R: Abort + Wait>(
+    rt: &R,
+    table: &SemaTable,
+    seat: Seat,
+    number: u32,
+    units: u32,
+) -> Seat
+    requires { seat.table ≡ table.now }
+    ensures { result.table ≡ table.now }
+{
+    assert!(rt; 1 <= units && units <= 256);
+    let at = counter(rt, table, number);
+    match table.release_many(rt, seat, at, units) {
+        Ok((seat, _woken)) => seat,
+        Err(_refused) => panic!(rt; "no units were added"),
     }
+}
+
+/// How many units the seat may add, and how many it was given.
+pub(crate) fn counts(rt: &impl Abort, seat: &Seat, left: u64, taken: u64) {
+    holds(rt, seat.left() == left && seat.taken() == taken);
 }

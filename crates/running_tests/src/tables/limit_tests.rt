@@ -1,7 +1,6 @@
 //! Settings at the limits of a table, and past them.
 
-use crate::tables::given::{Sizes, holds, made, new_again};
-use crate::tables::seats::counts;
+use crate::tables::given::{Sizes, counts, holds, made, new_again};
 use sema_table::{Seat, SemaTable};
 use std::alloc::Global;
 use std::process::Abort;
@@ -31,7 +30,7 @@ fn is_refused(rt: &impl Abort, alloc: Global, row: &Judged) {
     }
 }
 
-static PAST_ONE_LIMIT: [Judged; 8] = [
+static PAST_A_LIMIT: [Judged; 20] = [
     Judged(Sized(0, 2, 251, 10), 1),
     Judged(Sized(65_537, 2, 251, 10), 1),
     Judged(Sized(1, 0, 251, 10), 2),
@@ -40,9 +39,7 @@ static PAST_ONE_LIMIT: [Judged; 8] = [
     Judged(Sized(1, 2, 252, 10), 3),
     Judged(Sized(1, 2, 251, 0), 4),
     Judged(Sized(1, 2, 251, MOST_RELEASES + 1), 4),
-];
-
-static PAST_TWO_LIMITS: [Judged; 12] = [
+    // past two limits the lower number is told
     Judged(Sized(0, 0, 251, 10), 1),
     Judged(Sized(65_537, 257, 251, 10), 1),
     Judged(Sized(0, 2, 0, 10), 1),
@@ -59,14 +56,7 @@ static PAST_TWO_LIMITS: [Judged; 12] = [
 
 #[test]
 fn settings_past_a_limit_are_refused(rt: HostRuntime) {
-    for row in &PAST_ONE_LIMIT {
-        is_refused(&rt, rt.alloc(), row);
-    }
-}
-
-#[test]
-fn the_lower_number_is_told(rt: HostRuntime) {
-    for row in &PAST_TWO_LIMITS {
+    for row in &PAST_A_LIMIT {
         is_refused(&rt, rt.alloc(), row);
     }
 }

@@ -3,11 +3,9 @@
 //! There are more of them than processors, and the units come once all have slept for a while: who is granted
 //! a unit and isn't roused then sleeps for good, and the test with it.
 
-ghost use Rattle.std.specs.Prelude.{◌≡◌, ◌<◌, ◌≤◌, length, All, IfOk};
+ghost use Rattle.std.specs.Prelude.{◌≡◌, ◌<◌, length, All, IfOk};
 
-use crate::tables::given::{holds, last_seat, made, one_counter};
-use crate::tables::many_tests::owes_many;
-use crate::tables::seats::{has_value, has_waiters};
+use crate::tables::given::{adds, holds, last_seat, made, one_counter, value, waiters};
 use sema_table::{Seat, SemaTable};
 use sema_table_crew::Start;
 use std::alloc::Global;
@@ -72,16 +70,6 @@ fn lets_all_sleep<R: Abort + Clock + Wait>(rt: &R, table: &SemaTable, seat: &mut
     thread::sleep(rt, Duration::from_millis(WHILE));
 }
 
-/// Adds units by one add, and wakes whom it can.
-fn adds_many<R: Abort + Wait>(rt: &R, table: &SemaTable, seat: Seat, units: u32) -> Seat
-    requires table { (seat.table ≡ table.now) × (0 < length table.now.setting.starts) }
-    requires units { (1 ≤ units) × (units ≤ 256) }
-    ensures { result.table ≡ table.now }
-{
-    let owing = owes_many(rt, table, seat, units);
-    table.wake_some(rt, owing).0
-}
-
 /// Units for four of the sleepers, and then for the others, once all sleep.
 fn wakes_all<R: Abort + Clock + Wait>(rt: &R, table: &SemaTable, seat: Seat) -> Seat
     requires { (seat.table ≡ table.now) × (0 < length table.now.setting.starts) }
@@ -89,8 +77,8 @@ fn wakes_all<R: Abort + Clock + Wait>(rt: &R, table: &SemaTable, seat: Seat) -> 
 {
     let mut seat = seat;
     lets_all_sleep(rt, table, &mut seat);
-    let seat = adds_many(rt, table, seat, 4);
-    adds_many(rt, table, seat, SLEEPERS - 4)
+    let seat = adds(rt, table, seat, 0, 4);
+    adds(rt, table, seat, 0, SLEEPERS - 4)
 }
 
 /// Sleepers at these seats, who are woken by another, and have ended.
@@ -140,8 +128,8 @@ fn all_come_back<R: Abort + Clock + Threads + Wait + Sync>(
     let Ok(mut waker) = sleep_and_wake(rt, table, seats, waker) else {
         return false;
     };
-    has_value(rt, table, &mut waker, 0, 0);
-    has_waiters(rt, table, &mut waker, 0, 0);
+    holds(rt, value(rt, table, &mut waker, 0) == 0);
+    holds(rt, waiters(rt, table, &mut waker, 0) == 0);
     true
 }
 

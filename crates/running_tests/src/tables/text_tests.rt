@@ -1,6 +1,7 @@
 //! What the refusals print, and their numbers. A call that answers want of memory is made once more.
 
 use crate::tables::given::holds;
+use notify_list::SetupError as ListSetupError;
 use sema_table::{PostRefused, SetupError};
 use std::alloc::Global;
 use std::fmt::Display;
@@ -30,6 +31,11 @@ static REFUSALS: [(SetupError, u8, &str); 5] = [
     (SetupError::NoMemory, 5, "no memory"),
 ];
 
+static REFUSALS_OF_A_LIST: [(ListSetupError, u8, &str); 2] = [
+    (ListSetupError::Seats, 2, "seats"),
+    (ListSetupError::NoMemory, 5, "no memory"),
+];
+
 #[test]
 fn refusals_have_their_numbers_and_texts(rt: HostRuntime) {
     for (refused, number, text) in &REFUSALS {
@@ -37,4 +43,8 @@ fn refusals_have_their_numbers_and_texts(rt: HostRuntime) {
         has_text(&rt, rt.alloc(), refused, text);
     }
     holds(&rt, (PostRefused::LimitReached as u8) == 1);
+    for (refused, number, text) in &REFUSALS_OF_A_LIST {
+        holds(&rt, (*refused as u8) == *number);
+        has_text(&rt, rt.alloc(), refused, text);
+    }
 }

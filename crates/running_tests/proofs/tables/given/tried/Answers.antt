@@ -3,7 +3,7 @@ use Rattle.sema_table.specs.declared.answers.Tried.{Tried}
 use Rattle.sema_table.specs.declared.answers.Tried.TheVariants.{Taken, Zero, Lost}
 use Rattle.sema_table.specs.Seats.{SeatModel}
 use Rattle.sema_table.specs.Tries.{IsTried}
-use Rattle.running_tests.proofs.tables.seats.tries.Goals as goal
+use Rattle.running_tests.proofs.tables.given.tried.Goals as goal
 
 same_table : (s : SeatModel) (c : ℕ) (tried : Tried) (t : SeatModel) → IsTried s c tried t → t.table ≡ s.table
 same_table s c Taken t h = ap (λ (x : SeatModel). x.table) h.0
