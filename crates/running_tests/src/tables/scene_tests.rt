@@ -298,16 +298,37 @@ static SCENES: [Scene; 20] = [
     (4_294_967_295, 1, 1, 2, ADDS_PAST_THE_HIGHEST_START),
 ];
 
-const SEATS: usize = 5;
+const SEATS: u32 = 5;
+
+/// The seats of a table, by their numbers.
+struct Players<'t> {
+    first: Player<'t>,
+    second: Player<'t>,
+    third: Player<'t>,
+    fourth: Player<'t>,
+    fifth: Player<'t>,
+}
+
+impl<'t> Players<'t> {
+    fn player(&mut self, rt: &impl Abort, who: usize) -> &mut Player<'t> {
+        match who {
+            0 => &mut self.first,
+            1 => &mut self.second,
+            2 => &mut self.third,
+            3 => &mut self.fourth,
+            4 => &mut self.fifth,
+            _ => panic!(rt; "no such seat"),
+        }
+    }
+}
 
 /// The seat of the row makes its call.
-fn makes<R: Abort + Wait>(rt: &R, players: &mut [Player<'_>; SEATS], row: &Row) {
+fn makes<R: Abort + Wait>(rt: &R, players: &mut Players<'_>, row: &Row) {
     let (who, number, call, told) = *row;
-    assert!(rt; who < SEATS);
-    let player = mem::replace(&mut players[who], Player::Away);
+    let player = mem::replace(players.player(rt, who), Player::Away);
     let (player, answer) = player.calls(rt, number, call);
     holds(rt, answer == told);
-    match mem::replace(&mut players[who], player) {
+    match mem::replace(players.player(rt, who), player) {
         Player::Away => {}
         _other => panic!(rt; "another seat is there"),
     }
@@ -323,11 +344,23 @@ fn play<R: Abort + Wait>(rt: &R, table: &SemaTable, seats: Vec<Seat>, rows: &[Ro
     let third = Player::of(rt, table, &mut seats);
     let second = Player::of(rt, table, &mut seats);
     let first = Player::of(rt, table, &mut seats);
-    let mut players = [first, second, third, fourth, fifth];
+    let mut players = Players {
+        first,
+        second,
+        third,
+        fourth,
+        fifth,
+    };
     for row in rows {
         makes(rt, &mut players, row);
     }
-    let [first, second, third, fourth, fifth] = players;
+    let Players {
+        first,
+        second,
+        third,
+        fourth,
+        fifth,
+    } = players;
     first.ends(rt);
     second.ends(rt);
     third.ends(rt);
@@ -341,7 +374,7 @@ fn play_in_a_table<R: Abort + Wait>(rt: &R, alloc: Global, scene: &Scene) {
     let sizes = Sizes {
         counters,
         start,
-        seats: SEATS as u32,
+        seats: SEATS,
         roots,
         release_limit,
     };
