@@ -1,5 +1,5 @@
-//! The semaphore table and the notify list for programs in C, C++ and Rust: each call of `c_calls` as an
-//! export.
+//! The semaphore table and the notify list for programs in C, C++ and Rust: a seat is kept in a cell on the
+//! heap, and each call answers a code.
 #![tactic(auto)]
 
 ghost use Rattle.sema_table.specs.Tasks.{TriesByTask, PostsByTask};
@@ -8,16 +8,17 @@ ghost use Rattle.sema_table.specs.Tasks.{EntersByTask, PollsByTask};
 ghost use Rattle.sema_table.specs.Tasks.{RetriesByTask, WakesByTask, WakesSomeByTask};
 ghost use Rattle.sema_table.specs.declared.task_seat.TaskStage.TheVariants.{Resting};
 ghost use Rattle.std.specs.Prelude.{◌≡◌, ◌⊎◌};
-ghost use Rattle.c_calls.specs.Handles.{table_seat};
-ghost use Rattle.c_calls.specs.Codes.{refused_code, tried_code, entered_code, polled_code};
-ghost use Rattle.c_calls.specs.Codes.{retried_code, posted_code, wake_code};
-ghost use Rattle.c_calls.specs.Codes.{told, done};
-ghost use Rattle.c_calls.specs.Answers.{Answers, Telling, NamesWoken};
-ghost use Rattle.c_calls.specs.Answers.{NamesEach, LacksRoom, TellsNumber, Frees};
-ghost use Rattle.c_calls.specs.Deals.{DealsToEmpty};
+ghost use Rattle.parklot_c.specs.Handles.{table_seat};
+ghost use Rattle.parklot_c.specs.Codes.{refused_code, tried_code, entered_code, polled_code};
+ghost use Rattle.parklot_c.specs.Codes.{retried_code, posted_code, wake_code};
+ghost use Rattle.parklot_c.specs.Codes.{told, done};
+ghost use Rattle.parklot_c.specs.Answers.{Answers, Telling, NamesWoken};
+ghost use Rattle.parklot_c.specs.Answers.{NamesEach, LacksRoom, TellsNumber, Frees};
+ghost use Rattle.parklot_c.specs.Deals.{DealsToEmpty};
 
-use c_calls::codes::{NO_SEAT, OK};
-use c_calls::{Kept, SeatHandle, deal};
+use codes::{NO_SEAT, OK};
+pub use handle::SeatHandle;
+use kept::Kept;
 use std::alloc::Global;
 
 /// The place of a handle's seat. An export answers NO_SEAT where it has none of this kind.
@@ -33,9 +34,25 @@ macro_rules! place {
     }};
 }
 
+mod answers;
+mod calls;
+mod cell;
+mod codes;
+mod deal;
+mod handle;
+mod kept;
+mod lends;
 mod list;
+mod list_all;
+mod list_answers;
+mod list_calls;
+mod list_deal;
+mod list_place;
 #[cfg(test)]
 mod list_tests;
+mod parts;
+mod place;
+mod some;
 #[cfg(test)]
 mod tests;
 

@@ -3,15 +3,16 @@ ghost use Rattle.std.specs.Prelude.{◌≡◌, ◌⊎◌};
 ghost use Rattle.notify_list.specs.Tasks.{AddsByTask, LooksByTask};
 ghost use Rattle.notify_list.specs.Tasks.{EntersByTask, PollsByTask, NotifiesOneByTask};
 ghost use Rattle.notify_list.specs.declared.task_seat.TaskStage.TheVariants.{Resting};
-ghost use Rattle.c_calls.specs.Handles.{list_seat};
-ghost use Rattle.c_calls.specs.Codes.{told, done};
-ghost use Rattle.c_calls.specs.ListCodes.{refused_code, entered_code, polled_code, one_code};
-ghost use Rattle.c_calls.specs.Answers.{Answers, Telling, LacksRoom, TellsNumber, Frees};
-ghost use Rattle.c_calls.specs.ListAnswers.{NotifiesOrGoesOn, NamesGranted, NamesAll};
-ghost use Rattle.c_calls.specs.ListDeals.{DealsToEmpty};
+ghost use Rattle.parklot_c.specs.Handles.{list_seat};
+ghost use Rattle.parklot_c.specs.Codes.{told, done};
+ghost use Rattle.parklot_c.specs.ListCodes.{refused_code, entered_code, polled_code, one_code};
+ghost use Rattle.parklot_c.specs.Answers.{Answers, Telling, LacksRoom, TellsNumber, Frees};
+ghost use Rattle.parklot_c.specs.ListAnswers.{NotifiesOrGoesOn, NamesGranted, NamesAll};
+ghost use Rattle.parklot_c.specs.ListDeals.{DealsToEmpty};
 
-use c_calls::codes::{NO_SEAT, OK};
-use c_calls::{Kept, SeatHandle, list_deal};
+use crate::codes::{NO_SEAT, OK};
+use crate::kept::Kept;
+use crate::{SeatHandle, list_deal};
 use std::alloc::Global;
 
 /// Makes a list whose first ticket is this one, and gives each of `seats` one of its seats, in the order of
