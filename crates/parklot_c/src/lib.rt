@@ -1,5 +1,5 @@
-//! The semaphore table and the notify list for programs in C, C++ and Rust: a seat is kept in a cell on the
-//! heap, and each call answers a code.
+//! The semaphore table and the notify list for programs in C, C++ and Rust: each call of `c_calls` as an
+//! export.
 #![tactic(auto)]
 
 ghost use Rattle.sema_table.specs.Tasks.{TriesByTask, PostsByTask};
@@ -8,51 +8,21 @@ ghost use Rattle.sema_table.specs.Tasks.{EntersByTask, PollsByTask};
 ghost use Rattle.sema_table.specs.Tasks.{RetriesByTask, WakesByTask, WakesSomeByTask};
 ghost use Rattle.sema_table.specs.declared.task_seat.TaskStage.TheVariants.{Resting};
 ghost use Rattle.std.specs.Prelude.{◌≡◌, ◌⊎◌};
-ghost use Rattle.parklot_c.specs.Handles.{table_seat};
-ghost use Rattle.parklot_c.specs.Codes.{refused_code, tried_code, entered_code, polled_code};
-ghost use Rattle.parklot_c.specs.Codes.{retried_code, posted_code, wake_code};
-ghost use Rattle.parklot_c.specs.Codes.{told, done};
-ghost use Rattle.parklot_c.specs.Answers.{Answers, Telling, NamesWoken};
-ghost use Rattle.parklot_c.specs.Answers.{NamesEach, LacksRoom, TellsNumber, Frees};
-ghost use Rattle.parklot_c.specs.Deals.{DealsToEmpty};
+ghost use Rattle.c_calls.specs.Handles.{table_seat};
+ghost use Rattle.c_calls.specs.Codes.{refused_code, tried_code, entered_code, polled_code};
+ghost use Rattle.c_calls.specs.Codes.{retried_code, posted_code, wake_code};
+ghost use Rattle.c_calls.specs.Codes.{told, done};
+ghost use Rattle.c_calls.specs.Answers.{Answers, Telling, NamesWoken};
+ghost use Rattle.c_calls.specs.Answers.{NamesEach, LacksRoom, TellsNumber, Frees};
+ghost use Rattle.c_calls.specs.Deals.{DealsToEmpty};
 
-use codes::{NO_SEAT, OK};
-pub use handle::SeatHandle;
-use kept::Kept;
+use c_calls::codes::{NO_SEAT, OK};
+use c_calls::{Kept, SeatHandle, deal};
 use std::alloc::Global;
 
-/// The place of a handle's seat. An export answers NO_SEAT where it has none of this kind.
-macro_rules! place {
-    ($kind:ident of $seat:ident) => {{
-        if !$seat.is_full {
-            return NO_SEAT;
-        }
-        let Kept::$kind(place) = $seat.cell.place() else {
-            return NO_SEAT;
-        };
-        place
-    }};
-}
-
-mod answers;
-mod calls;
-mod cell;
-mod codes;
-mod deal;
-mod handle;
-mod kept;
-mod lends;
 mod list;
-mod list_all;
-mod list_answers;
-mod list_calls;
-mod list_deal;
-mod list_place;
 #[cfg(test)]
 mod list_tests;
-mod parts;
-mod place;
-mod some;
 #[cfg(test)]
 mod tests;
 
@@ -77,7 +47,13 @@ pub extern "C" fn parklot_new(
 pub extern "C" fn parklot_free(alloc: Global, seat: &mut SeatHandle) -> u32
     ensures { Frees (λ s. s.stage) Resting (table_seat seat.old) result (table_seat seat.new) }
 {
-    let code = place!(OfTable of seat).may_leave();
+    if !seat.is_full {
+        return NO_SEAT;
+    }
+    let Kept::OfTable(place) = seat.cell.place() else {
+        return NO_SEAT;
+    };
+    let code = place.may_leave();
     if code == OK {
         seat.clear(alloc);
     }
@@ -90,7 +66,13 @@ pub extern "C" fn parklot_number(seat: &mut SeatHandle, number: &mut u32) -> u32
     ensures same { table_seat seat.new ≡ table_seat seat.old }
     ensures told { TellsNumber (λ s. s.seat.number) (table_seat seat.old) result number.new }
 {
-    place!(OfTable of seat).number(number)
+    if !seat.is_full {
+        return NO_SEAT;
+    }
+    let Kept::OfTable(place) = seat.cell.place() else {
+        return NO_SEAT;
+    };
+    place.number(number)
 }
 
 /// Takes a unit if there is one: TAKEN, ZERO or LOST.
@@ -99,7 +81,13 @@ pub extern "C" fn parklot_try_acquire(seat: &mut SeatHandle, counter: u32) -> u3
     ensures { Answers refused_code tried_code (λ s. TriesByTask s counter)
         (table_seat seat.old) result (table_seat seat.new) }
 {
-    place!(OfTable of seat).try_acquire(counter)
+    if !seat.is_full {
+        return NO_SEAT;
+    }
+    let Kept::OfTable(place) = seat.cell.place() else {
+        return NO_SEAT;
+    };
+    place.try_acquire(counter)
 }
 
 /// Goes to the lock of the counter's root, and sleeps if there is no unit: TAKEN, ASLEEP or BUSY.
@@ -108,7 +96,13 @@ pub extern "C" fn parklot_enter(seat: &mut SeatHandle, counter: u32, lifo: bool)
     ensures { Answers refused_code entered_code (λ s. EntersByTask s counter lifo)
         (table_seat seat.old) result (table_seat seat.new) }
 {
-    place!(OfTable of seat).enter(counter, lifo)
+    if !seat.is_full {
+        return NO_SEAT;
+    }
+    let Kept::OfTable(place) = seat.cell.place() else {
+        return NO_SEAT;
+    };
+    place.enter(counter, lifo)
 }
 
 /// Looks whether the wait of a seat that sleeps was granted: ASLEEP, WOKEN or HANDED.
@@ -117,7 +111,13 @@ pub extern "C" fn parklot_poll(seat: &mut SeatHandle) -> u32
     ensures { Answers refused_code polled_code PollsByTask
         (table_seat seat.old) result (table_seat seat.new) }
 {
-    place!(OfTable of seat).poll()
+    if !seat.is_full {
+        return NO_SEAT;
+    }
+    let Kept::OfTable(place) = seat.cell.place() else {
+        return NO_SEAT;
+    };
+    place.poll()
 }
 
 /// The try of a seat that was woken: TAKEN, or ZERO, and then it enters again.
@@ -126,7 +126,13 @@ pub extern "C" fn parklot_retry(seat: &mut SeatHandle) -> u32
     ensures { Answers refused_code retried_code RetriesByTask
         (table_seat seat.old) result (table_seat seat.new) }
 {
-    place!(OfTable of seat).retry()
+    if !seat.is_full {
+        return NO_SEAT;
+    }
+    let Kept::OfTable(place) = seat.cell.place() else {
+        return NO_SEAT;
+    };
+    place.retry()
 }
 
 /// Adds a unit: DONE, OWES or LIMIT.
@@ -135,7 +141,13 @@ pub extern "C" fn parklot_post(seat: &mut SeatHandle, counter: u32) -> u32
     ensures { Answers refused_code posted_code (λ s. PostsByTask s counter)
         (table_seat seat.old) result (table_seat seat.new) }
 {
-    place!(OfTable of seat).post(counter)
+    if !seat.is_full {
+        return NO_SEAT;
+    }
+    let Kept::OfTable(place) = seat.cell.place() else {
+        return NO_SEAT;
+    };
+    place.post(counter)
 }
 
 /// Adds so many units at once: DONE, OWES, LIMIT or UNITS.
@@ -144,7 +156,13 @@ pub extern "C" fn parklot_post_many(seat: &mut SeatHandle, counter: u32, units: 
     ensures { Answers refused_code posted_code (λ s. PostsManyByTask s counter units)
         (table_seat seat.old) result (table_seat seat.new) }
 {
-    place!(OfTable of seat).post_many(counter, units)
+    if !seat.is_full {
+        return NO_SEAT;
+    }
+    let Kept::OfTable(place) = seat.cell.place() else {
+        return NO_SEAT;
+    };
+    place.post_many(counter, units)
 }
 
 /// The rest of a release: takes the first wait out and wakes its seat, whose number is told. NOBODY, ONE,
@@ -155,7 +173,13 @@ pub extern "C" fn parklot_wake(seat: &mut SeatHandle, handoff: bool, woken: &mut
         (Telling (NamesWoken woken.new) (λ s. WakesByTask s handoff))
         (table_seat seat.old) result (table_seat seat.new) }
 {
-    place!(OfTable of seat).wake(handoff, woken)
+    if !seat.is_full {
+        return NO_SEAT;
+    }
+    let Kept::OfTable(place) = seat.cell.place() else {
+        return NO_SEAT;
+    };
+    place.wake(handoff, woken)
 }
 
 /// The rest of a release of many units: takes as many waits out, or fewer if there are no more, and wakes
@@ -170,7 +194,13 @@ pub extern "C" fn parklot_wake_some(
         ⊎ Answers refused_code done (Telling (NamesEach woken.new count.new) WakesSomeByTask)
         (table_seat seat.old) result (table_seat seat.new) }
 {
-    place!(OfTable of seat).wake_some(woken, count)
+    if !seat.is_full {
+        return NO_SEAT;
+    }
+    let Kept::OfTable(place) = seat.cell.place() else {
+        return NO_SEAT;
+    };
+    place.wake_some(woken, count)
 }
 
 /// The number of a counter.
@@ -179,7 +209,13 @@ pub extern "C" fn parklot_value(seat: &mut SeatHandle, counter: u32, value: &mut
     ensures { Answers refused_code told (Telling (λ n. value.new ≡ n) (λ s. ReadsByTask s counter))
         (table_seat seat.old) result (table_seat seat.new) }
 {
-    place!(OfTable of seat).value(counter, value)
+    if !seat.is_full {
+        return NO_SEAT;
+    }
+    let Kept::OfTable(place) = seat.cell.place() else {
+        return NO_SEAT;
+    };
+    place.value(counter, value)
 }
 
 /// How many waits are queued at a counter's root.
@@ -192,5 +228,11 @@ pub extern "C" fn parklot_waiters_of_root(
     ensures { Answers refused_code told (Telling (λ n. waits.new ≡ n) (λ s. CountsByTask s counter))
         (table_seat seat.old) result (table_seat seat.new) }
 {
-    place!(OfTable of seat).waiters_of_root(counter, waits)
+    if !seat.is_full {
+        return NO_SEAT;
+    }
+    let Kept::OfTable(place) = seat.cell.place() else {
+        return NO_SEAT;
+    };
+    place.waiters_of_root(counter, waits)
 }

@@ -3,16 +3,15 @@ ghost use Rattle.std.specs.Prelude.{◌≡◌, ◌⊎◌};
 ghost use Rattle.notify_list.specs.Tasks.{AddsByTask, LooksByTask};
 ghost use Rattle.notify_list.specs.Tasks.{EntersByTask, PollsByTask, NotifiesOneByTask};
 ghost use Rattle.notify_list.specs.declared.task_seat.TaskStage.TheVariants.{Resting};
-ghost use Rattle.parklot_c.specs.Handles.{list_seat};
-ghost use Rattle.parklot_c.specs.Codes.{told, done};
-ghost use Rattle.parklot_c.specs.ListCodes.{refused_code, entered_code, polled_code, one_code};
-ghost use Rattle.parklot_c.specs.Answers.{Answers, Telling, LacksRoom, TellsNumber, Frees};
-ghost use Rattle.parklot_c.specs.ListAnswers.{NotifiesOrGoesOn, NamesGranted, NamesAll};
-ghost use Rattle.parklot_c.specs.ListDeals.{DealsToEmpty};
+ghost use Rattle.c_calls.specs.Handles.{list_seat};
+ghost use Rattle.c_calls.specs.Codes.{told, done};
+ghost use Rattle.c_calls.specs.ListCodes.{refused_code, entered_code, polled_code, one_code};
+ghost use Rattle.c_calls.specs.Answers.{Answers, Telling, LacksRoom, TellsNumber, Frees};
+ghost use Rattle.c_calls.specs.ListAnswers.{NotifiesOrGoesOn, NamesGranted, NamesAll};
+ghost use Rattle.c_calls.specs.ListDeals.{DealsToEmpty};
 
-use crate::codes::{NO_SEAT, OK};
-use crate::kept::Kept;
-use crate::{SeatHandle, list_deal};
+use c_calls::codes::{NO_SEAT, OK};
+use c_calls::{Kept, SeatHandle, list_deal};
 use std::alloc::Global;
 
 /// Makes a list whose first ticket is this one, and gives each of `seats` one of its seats, in the order of
@@ -29,7 +28,13 @@ pub extern "C" fn parklot_list_new(alloc: Global, first: u64, seats: &mut [SeatH
 pub extern "C" fn parklot_list_free(alloc: Global, seat: &mut SeatHandle) -> u32
     ensures { Frees (λ s. s.stage) Resting (list_seat seat.old) result (list_seat seat.new) }
 {
-    let code = place!(OfList of seat).may_leave();
+    if !seat.is_full {
+        return NO_SEAT;
+    }
+    let Kept::OfList(place) = seat.cell.place() else {
+        return NO_SEAT;
+    };
+    let code = place.may_leave();
     if code == OK {
         seat.clear(alloc);
     }
@@ -42,7 +47,13 @@ pub extern "C" fn parklot_list_number(seat: &mut SeatHandle, number: &mut u32) -
     ensures same { list_seat seat.new ≡ list_seat seat.old }
     ensures told { TellsNumber (λ s. s.seat.number) (list_seat seat.old) result number.new }
 {
-    place!(OfList of seat).number(number)
+    if !seat.is_full {
+        return NO_SEAT;
+    }
+    let Kept::OfList(place) = seat.cell.place() else {
+        return NO_SEAT;
+    };
+    place.number(number)
 }
 
 /// Takes the next ticket, which is told: the seat's next call is `parklot_list_try_wait`.
@@ -51,7 +62,13 @@ pub extern "C" fn parklot_list_add(seat: &mut SeatHandle, ticket: &mut u64) -> u
     ensures { Answers refused_code told (Telling (λ word. ticket.new ≡ word) AddsByTask)
         (list_seat seat.old) result (list_seat seat.new) }
 {
-    place!(OfList of seat).add(ticket)
+    if !seat.is_full {
+        return NO_SEAT;
+    }
+    let Kept::OfList(place) = seat.cell.place() else {
+        return NO_SEAT;
+    };
+    place.add(ticket)
 }
 
 /// Waits with the ticket: AT_ONCE, PARKED or BUSY, and then the seat has its ticket still.
@@ -60,7 +77,13 @@ pub extern "C" fn parklot_list_try_wait(seat: &mut SeatHandle) -> u32
     ensures { Answers refused_code entered_code EntersByTask
         (list_seat seat.old) result (list_seat seat.new) }
 {
-    place!(OfList of seat).try_wait()
+    if !seat.is_full {
+        return NO_SEAT;
+    }
+    let Kept::OfList(place) = seat.cell.place() else {
+        return NO_SEAT;
+    };
+    place.try_wait()
 }
 
 /// Looks whether the wait of a seat that is parked was granted: ASLEEP or WOKEN.
@@ -69,7 +92,13 @@ pub extern "C" fn parklot_list_poll(seat: &mut SeatHandle) -> u32
     ensures { Answers refused_code polled_code PollsByTask
         (list_seat seat.old) result (list_seat seat.new) }
 {
-    place!(OfList of seat).poll()
+    if !seat.is_full {
+        return NO_SEAT;
+    }
+    let Kept::OfList(place) = seat.cell.place() else {
+        return NO_SEAT;
+    };
+    place.poll()
 }
 
 /// Grants the least ticket that isn't granted. Where a seat is parked with it, that one is woken, and its
@@ -79,7 +108,13 @@ pub extern "C" fn parklot_list_one(seat: &mut SeatHandle, woken: &mut u32) -> u3
     ensures { Answers refused_code one_code (Telling (NamesGranted woken.new) NotifiesOneByTask)
         (list_seat seat.old) result (list_seat seat.new) }
 {
-    place!(OfList of seat).one(woken)
+    if !seat.is_full {
+        return NO_SEAT;
+    }
+    let Kept::OfList(place) = seat.cell.place() else {
+        return NO_SEAT;
+    };
+    place.one(woken)
 }
 
 /// Grants all tickets, and tells the numbers of the seats that were parked with them, which are woken. DONE or
@@ -90,7 +125,13 @@ pub extern "C" fn parklot_list_all(seat: &mut SeatHandle, woken: &mut [u32], cou
         ⊎ Answers refused_code done (Telling (NamesAll woken.new count.new) NotifiesOrGoesOn)
         (list_seat seat.old) result (list_seat seat.new) }
 {
-    place!(OfList of seat).all(woken, count)
+    if !seat.is_full {
+        return NO_SEAT;
+    }
+    let Kept::OfList(place) = seat.cell.place() else {
+        return NO_SEAT;
+    };
+    place.all(woken, count)
 }
 
 /// Looks whether all tickets are granted.
@@ -99,5 +140,11 @@ pub extern "C" fn parklot_list_quiet(seat: &mut SeatHandle, quiet: &mut bool) ->
     ensures { Answers refused_code told (Telling (λ equal. quiet.new ≡ equal) LooksByTask)
         (list_seat seat.old) result (list_seat seat.new) }
 {
-    place!(OfList of seat).quiet(quiet)
+    if !seat.is_full {
+        return NO_SEAT;
+    }
+    let Kept::OfList(place) = seat.cell.place() else {
+        return NO_SEAT;
+    };
+    place.quiet(quiet)
 }

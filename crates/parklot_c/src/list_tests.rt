@@ -1,9 +1,10 @@
 //! Each export of a list, by the codes that it answers, as in `tests.rt`.
 
-use crate::codes::*;
 use crate::list::*;
+use crate::parklot_number;
 use crate::tests::{is, is_refused};
-use crate::{SeatHandle, parklot_number};
+use c_calls::SeatHandle;
+use c_calls::codes::*;
 use std::alloc::Global;
 use std::process::Abort;
 

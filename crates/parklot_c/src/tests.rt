@@ -1,8 +1,9 @@
 //! Each export, by the codes that it answers. Where memory is refused a test ends: so each passes whichever
 //! single allocation fails.
 
-use crate::codes::*;
 use crate::*;
+use c_calls::SeatHandle;
+use c_calls::codes::*;
 use std::alloc::Global;
 use std::process::Abort;
 

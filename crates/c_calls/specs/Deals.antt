@@ -1,0 +1,55 @@
+-- What it is to make a table for a caller, and to deal its seats. A list is made, and its seats dealt, in the same
+-- form.
+use Rattle.std.specs.Prelude.{◌≡◌, ℕ, ◌⊎◌, min, true, false, Option, Some, List, map, length}
+use Rattle.std.specs.List.{All, Any}
+use Rattle.sema_table.specs.declared.settings.Settings.{Settings}
+use Rattle.sema_table.specs.Seats.{TableModel}
+use Rattle.sema_table.specs.Making.{IsRefused}
+use Rattle.sema_table.specs.Tasks.{IsMadeForTasks}
+use Rattle.c_calls.specs.declared.handle.SeatHandle.{SeatHandle}
+use Rattle.c_calls.specs.declared.kept.Kept.{Kept}
+use Rattle.c_calls.specs.Codes.{setup_code}
+use Rattle.c_calls.specs.Places.{seat_of, at_table}
+
+-- each handle has one of these seats, in their order
+abbrev pub HandlesHold : {S : Type 0} → (Kept → Option S) → List S → List SeatHandle → Type 0
+HandlesHold seat seats handles = map (λ h. seat_of seat h.cell.places) handles ≡ map Some seats
+
+-- some seats were made, as is said of them, and dealt; or nothing was done, and the code tells why it is refused,
+-- or that memory lacks
+abbrev pub Deals : {S E : Type 0} → (Kept → Option S) → (List S → Type 0) → (E → ℕ) → (E → Type 0)
+    → List SeatHandle → ℕ → List SeatHandle → Type 0
+Deals {S} {E} seat IsMade setup IsRefused handles code now =
+    ((seats : List S) × (code ≡ 0) × IsMade seats × HandlesHold seat seats now)
+    ⊎ ((e : E) × (code ≡ setup e) × IsRefused e × (now ≡ handles))
+    ⊎ ((code ≡ 114) × (now ≡ handles))
+
+-- the same, where no handle had a seat; or one had, and nothing was done
+abbrev pub ToEmpty : Type 0 → List SeatHandle → ℕ → List SeatHandle → Type 0
+ToEmpty Dealt handles code now =
+    (All (λ h. h.is_full ≡ false) handles × Dealt)
+    ⊎ (Any (λ h. h.is_full ≡ true) handles × (code ≡ 105) × (now ≡ handles))
+
+-- these settings were asked for. Of more seats than a table may have it only counts that they are more
+pub record Asks (starts : List ℕ) (roots seed limit seats : ℕ) (k : Settings) : Type 0 where
+  pub starts_are : k.starts.items ≡ starts
+  pub roots_are : k.roots ≡ roots
+  pub seed_is : k.seed ≡ seed
+  pub limit_is : k.release_limit ≡ limit
+  pub seats_are : k.seats ≡ min 257 seats
+
+-- a table was made as asked, and its seats dealt, none of which has run or seen anything; or nothing was done,
+-- and the code tells the first limit that isn't kept, or that memory lacks
+abbrev pub DealsTable : List ℕ → ℕ → ℕ → ℕ → List SeatHandle → ℕ → List SeatHandle → Type 0
+DealsTable starts roots seed limit handles =
+    Deals at_table
+    (λ seats. (k : Settings) × (t : TableModel)
+    × Asks starts roots seed limit (length handles) k × IsMadeForTasks k t seats)
+    setup_code
+    (λ e. (k : Settings) × Asks starts roots seed limit (length handles) k × IsRefused k e)
+    handles
+
+-- the same, where no handle had a seat; or one had, and nothing was done
+abbrev pub DealsToEmpty : List ℕ → ℕ → ℕ → ℕ → List SeatHandle → ℕ → List SeatHandle → Type 0
+DealsToEmpty starts roots seed limit handles code now =
+    ToEmpty (DealsTable starts roots seed limit handles code now) handles code now

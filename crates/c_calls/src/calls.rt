@@ -1,0 +1,193 @@
+//! The calls of a seat in its place.
+ghost use Rattle.std.specs.Prelude.{◌≡◌, IfOk};
+ghost use Rattle.sema_table.specs.Tasks.{TriesByTask, PostsByTask};
+ghost use Rattle.sema_table.specs.Tasks.{ReadsByTask, CountsByTask, PostsManyByTask};
+ghost use Rattle.sema_table.specs.Tasks.{EntersByTask, PollsByTask};
+ghost use Rattle.sema_table.specs.Tasks.{RetriesByTask, WakesByTask, WakesSomeByTask};
+ghost use Rattle.sema_table.specs.declared.task_seat.TaskStage.TheVariants.{Resting};
+ghost use Rattle.c_calls.specs.Codes.{tried_code, entered_code, polled_code};
+ghost use Rattle.c_calls.specs.Codes.{retried_code, posted_code, wake_code};
+ghost use Rattle.c_calls.specs.Codes.{told, code_of, refused_code};
+ghost use Rattle.c_calls.specs.Answers.{Answers, Telling, NamesWoken, TellsNumber, MayLeave};
+
+use crate::answers;
+use crate::codes::{HANDED, NO_SEAT, NOBODY, OK, ONE, OTHER_CALL};
+use crate::place::Place;
+use sema_table::{CounterId, TaskRefused, TaskStage, Wake};
+
+/// The code of a wake; the number of the seat that was woken is told.
+fn tell_wake(answer: Result<Wake, TaskRefused>, woken: &mut u32) -> u32
+    ensures code { result ≡ code_of refused_code wake_code answer }
+    ensures told { IfOk answer (NamesWoken woken.new) }
+{
+    match answer {
+        Ok(Wake::Nobody) => NOBODY,
+        Ok(Wake::One(wait)) => {
+            *woken = u32::from(wait.seat.number());
+            ONE
+        }
+        Ok(Wake::Handed(wait)) => {
+            *woken = u32::from(wait.seat.number());
+            HANDED
+        }
+        Err(why) => answers::of_refusal(why),
+    }
+}
+
+/// The code of a look at a number, which is told.
+fn tell_number(answer: Result<u64, TaskRefused>, number: &mut u64) -> u32
+    ensures code { result ≡ code_of refused_code told answer }
+    ensures told { IfOk answer (λ n. number.new ≡ n) }
+{
+    match answer {
+        Ok(found) => {
+            *number = found;
+            OK
+        }
+        Err(why) => answers::of_refusal(why),
+    }
+}
+
+impl Place {
+    /// Which seat of its table it is.
+    pub fn number(&mut self, number: &mut u32) -> u32
+        ensures same { self.new.seat ≡ self.old.seat }
+        ensures told { TellsNumber (λ s. s.seat.number) self.old.seat result number.new }
+    {
+        let Some(seat) = &self.seat else {
+            return NO_SEAT;
+        };
+        *number = u32::from(seat.number().number());
+        OK
+    }
+
+    /// Whether the seat may be freed: OK, or why not.
+    pub fn may_leave(&mut self) -> u32
+        ensures same { self.new.seat ≡ self.old.seat }
+        ensures why { MayLeave (λ s. s.stage) Resting self.old.seat result }
+    {
+        let Some(seat) = &self.seat else {
+            return NO_SEAT;
+        };
+        match seat.stage() {
+            TaskStage::Resting => OK,
+            _ => OTHER_CALL,
+        }
+    }
+
+    /// Takes a unit if there is one.
+    #[inline]
+    pub fn try_acquire(&mut self, counter: u32) -> u32
+        ensures { Answers refused_code tried_code (λ s. TriesByTask s counter)
+            self.old.seat result self.new.seat }
+    {
+        let Some(seat) = &mut self.seat else {
+            return NO_SEAT;
+        };
+        answers::of_try(self.table.try_acquire(seat, CounterId::new(counter)))
+    }
+
+    /// Goes to the lock of the counter's root, and sleeps if there is no unit.
+    pub fn enter(&mut self, counter: u32, lifo: bool) -> u32
+        ensures { Answers refused_code entered_code (λ s. EntersByTask s counter lifo)
+            self.old.seat result self.new.seat }
+    {
+        let Some(seat) = self.seat.take() else {
+            return NO_SEAT;
+        };
+        let (seat, answer) = self.table.enter(seat, CounterId::new(counter), lifo);
+        self.seat = Some(seat);
+        answers::of_enter(answer)
+    }
+
+    /// Looks whether the wait of a seat that sleeps was granted.
+    pub fn poll(&mut self) -> u32
+        ensures { Answers refused_code polled_code PollsByTask self.old.seat result self.new.seat }
+    {
+        let Some(seat) = self.seat.take() else {
+            return NO_SEAT;
+        };
+        let (seat, answer) = self.table.poll(seat);
+        self.seat = Some(seat);
+        answers::of_poll(answer)
+    }
+
+    /// The try of a seat that was woken.
+    pub fn retry(&mut self) -> u32
+        ensures { Answers refused_code retried_code RetriesByTask
+            self.old.seat result self.new.seat }
+    {
+        let Some(seat) = self.seat.take() else {
+            return NO_SEAT;
+        };
+        let (seat, answer) = self.table.retry(seat);
+        self.seat = Some(seat);
+        answers::of_retry(answer)
+    }
+
+    /// Adds a unit.
+    #[inline]
+    pub fn post(&mut self, counter: u32) -> u32
+        ensures { Answers refused_code posted_code (λ s. PostsByTask s counter)
+            self.old.seat result self.new.seat }
+    {
+        let Some(seat) = &mut self.seat else {
+            return NO_SEAT;
+        };
+        answers::of_post(self.table.post(seat, CounterId::new(counter)))
+    }
+
+    /// Adds so many units at once.
+    pub fn post_many(&mut self, counter: u32, units: u32) -> u32
+        ensures { Answers refused_code posted_code (λ s. PostsManyByTask s counter units)
+            self.old.seat result self.new.seat }
+    {
+        let Some(seat) = self.seat.take() else {
+            return NO_SEAT;
+        };
+        let (seat, answer) = self.table.post_many(seat, CounterId::new(counter), units);
+        self.seat = Some(seat);
+        answers::of_post(answer)
+    }
+
+    /// The rest of a release: takes the first wait out and wakes its seat, whose number is told.
+    pub fn wake(&mut self, handoff: bool, woken: &mut u32) -> u32
+        ensures { Answers refused_code wake_code
+            (Telling (NamesWoken woken.new) (λ s. WakesByTask s handoff))
+            self.old.seat result self.new.seat }
+    {
+        let Some(seat) = self.seat.take() else {
+            return NO_SEAT;
+        };
+        let (seat, answer) = self.table.wake(seat, handoff);
+        self.seat = Some(seat);
+        tell_wake(answer, woken)
+    }
+
+    /// The number of a counter.
+    pub fn value(&mut self, counter: u32, value: &mut u64) -> u32
+        ensures { Answers refused_code told
+            (Telling (λ n. value.new ≡ n) (λ s. ReadsByTask s counter))
+            self.old.seat result self.new.seat }
+    {
+        let Some(seat) = &mut self.seat else {
+            return NO_SEAT;
+        };
+        tell_number(self.table.value(seat, CounterId::new(counter)), value)
+    }
+
+    /// How many waits are queued at a counter's root.
+    pub fn waiters_of_root(&mut self, counter: u32, waits: &mut u64) -> u32
+        ensures { Answers refused_code told
+            (Telling (λ n. waits.new ≡ n) (λ s. CountsByTask s counter))
+            self.old.seat result self.new.seat }
+    {
+        let Some(seat) = &mut self.seat else {
+            return NO_SEAT;
+        };
+        tell_number(
+            self.table.waiters_of_root(seat, CounterId::new(counter)),
+            waits,
+        )
+    }
+}

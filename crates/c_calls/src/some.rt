@@ -1,0 +1,70 @@
+//! The rest of a release of many units.
+ghost use Rattle.std.specs.Prelude.{◌≡◌, ◌⊎◌, ◌≤◌, length, take, IfOk};
+ghost use Rattle.sema_table.specs.Tasks.{WakesSomeByTask};
+ghost use Rattle.c_calls.specs.Codes.{done, code_of, refused_code};
+ghost use Rattle.c_calls.specs.Answers.{Answers, Telling, NamesEach, LacksRoom};
+
+use crate::answers;
+use crate::codes::{DONE, NO_SEAT, ROOM};
+use crate::place::Place;
+use sema_table::{TaskRefused, WokenSeats};
+
+/// How many seats a release of many units wakes at most, which is as many units as it may add.
+const MOST_WOKEN: usize = 256;
+
+/// Writes the numbers to the beginning of the room.
+pub fn write(seats: &[u16], room: &mut [u32])
+    requires { length seats.now ≤ length room.old }
+    ensures { take (length seats.now) room.new ≡ seats.now }
+{
+    for at in 0..seats.len() {
+        room[at] = u32::from(seats[at]);
+    }
+}
+
+/// The code of a wake of many; the numbers of the seats that were woken are told.
+fn tell_some(answer: Result<WokenSeats, TaskRefused>, woken: &mut [u32], count: &mut u32) -> u32
+    requires { 256 ≤ length woken.old }
+    ensures code { result ≡ code_of refused_code done answer }
+    ensures told { IfOk answer (NamesEach woken.new count.new) }
+{
+    match answer {
+        Ok(seats) => {
+            write(seats.as_slice(), woken);
+            *count = seats.len() as u32;
+            DONE
+        }
+        Err(why) => answers::of_refusal(why),
+    }
+}
+
+impl Place {
+    /// Takes the first waits out, as many as units were added or fewer if there are no more, and wakes their
+    /// seats, whose numbers are told.
+    pub fn wake_some(&mut self, woken: &mut [u32], count: &mut u32) -> u32
+        ensures { LacksRoom woken.old self.old.seat result self.new.seat
+            ⊎ Answers refused_code done (Telling (NamesEach woken.new count.new) WakesSomeByTask)
+            self.old.seat result self.new.seat }
+    {
+        // Looked at before anything is done: a seat that was woken and isn't named is never made ready.
+        if woken.len() < MOST_WOKEN {
+            return ROOM;
+        }
+        self.wake_some_into(woken, count)
+    }
+
+    /// The same, where there is room.
+    fn wake_some_into(&mut self, woken: &mut [u32], count: &mut u32) -> u32
+        requires { 256 ≤ length woken.old }
+        ensures { Answers refused_code done
+            (Telling (NamesEach woken.new count.new) WakesSomeByTask)
+            self.old.seat result self.new.seat }
+    {
+        let Some(seat) = self.seat.take() else {
+            return NO_SEAT;
+        };
+        let (seat, answer) = self.table.wake_some(seat);
+        self.seat = Some(seat);
+        tell_some(answer, woken, count)
+    }
+}

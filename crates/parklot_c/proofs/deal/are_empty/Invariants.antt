@@ -1,6 +1,0 @@
-use Rattle.std.proofs.Common.{◌≡◌, ◌<◌, ℕ, false, get_or}
-use Rattle.parklot_c.specs.declared.handle.SeatHandle.{SeatHandle}
-use Rattle.parklot_c.proofs.deal.are_empty.Given as goal
-
-abbrev pub invariant-loop-handle : goal.invariant-loop-handle
-invariant-loop-handle l = (k : ℕ) → k < l.handle-index → (d : SeatHandle) → (get_or l.handles k d).is_full ≡ false
