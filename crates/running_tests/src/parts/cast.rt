@@ -85,11 +85,11 @@ fn act_all<R: Abort + Threads + Wait + Sync>(rt: &R, play: Play, cast: Cast<'_>)
 }
 
 /// The play, over a table for its lock, and a condition variable.
-fn perform_on<R: Abort + Threads + Wait + Sync>(
+fn perform_on<'t, R: Abort + Threads + Wait + Sync>(
     rt: &R,
     play: Play,
-    table: &SemaTable,
-    cond: &Cond,
+    table: &'t SemaTable,
+    cond: &'t Cond,
     seats: Vec<Seat>,
     owns: Vec<ListSeat>,
 ) -> Result<Sums, NoMemory>
