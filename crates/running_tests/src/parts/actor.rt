@@ -3,6 +3,7 @@
 ghost use Rattle.std.specs.Prelude.{◌≡◌, ◌<◌, length};
 ghost use Rattle.std.specs.Option.{ForSome};
 
+use crate::parts::play::Play;
 use sema_table::{Seat, SemaTable};
 use std::process::Abort;
 use std::sync::Wait;
@@ -18,6 +19,8 @@ pub(crate) const RELEASE_LIMIT: u64 = 1_000;
 /// How far all have come.
 #[derive(Drop)]
 pub(crate) struct Marks {
+    /// Whether all threads are there, or one couldn't be made.
+    pub(crate) curtain: AtomicU64,
     /// How often somebody has begun to wait.
     pub(crate) came: AtomicU64,
     /// How often somebody has come back.
@@ -35,6 +38,7 @@ pub(crate) struct Marks {
 impl Marks {
     pub(crate) fn new() -> Marks {
         Marks {
+            curtain: AtomicU64::new(0),
             came: AtomicU64::new(0),
             woke: AtomicU64::new(0),
             first: AtomicU64::new(0),
@@ -43,6 +47,16 @@ impl Marks {
             unlocked: AtomicU64::new(0),
         }
     }
+}
+
+/// What all parts share.
+#[derive(Drop)]
+pub(crate) struct Stage<'t> {
+    pub(crate) table: &'t SemaTable,
+    pub(crate) cond: &'t Cond,
+    pub(crate) marks: &'t Marks,
+    pub(crate) play: Play,
+    pub(crate) ghost locks: { 0 < length table.now.setting.starts },
 }
 
 /// A lock, and a seat of the condition variable.
@@ -69,20 +83,14 @@ pub(crate) fn reaches<R: Wait>(rt: &R, mark: &AtomicU64, least: u64) {
 
 impl<'t> Actor<'t> {
     /// One who hasn't locked.
-    pub(crate) fn new(
-        table: &'t SemaTable,
-        cond: &'t Cond,
-        marks: &'t Marks,
-        seat: Seat,
-        own: ListSeat,
-    ) -> Actor<'t>
-        requires table { (seat.table ≡ table.now) × (0 < length table.now.setting.starts) }
-        requires cond { own.list ≡ cond.now }
+    pub(crate) fn new(stage: &Stage<'t>, seat: Seat, own: ListSeat) -> Actor<'t>
+        requires table { seat.table ≡ stage.now.table.now }
+        requires cond { own.list ≡ stage.now.cond.now }
     {
         Actor {
-            cond,
-            marks,
-            lock: SemaLock::over(table, seat, CounterId::new(0)),
+            cond: stage.cond,
+            marks: stage.marks,
+            lock: SemaLock::over(stage.table, seat, CounterId::new(0)),
             own: Some(own),
         }
     }

@@ -1,13 +1,12 @@
 //! One thread for each part of a play.
 
-ghost use Rattle.std.specs.Prelude.{◌≡◌, ◌<◌, length, All};
+ghost use Rattle.std.specs.Prelude.{◌≡◌, All};
 
-use crate::parts::actor::{Actor, Marks, RELEASE_LIMIT};
+use crate::parts::actor::{Actor, Marks, RELEASE_LIMIT, Stage, reaches};
 use crate::parts::cond_given;
 use crate::parts::play::Play;
 use crate::tables::given::{Sizes, made, one_counter};
 use sema_table::{Seat, SemaTable};
-use sema_table_crew::Start;
 use std::alloc::Global;
 use std::process::Abort;
 use std::sync::Wait;
@@ -17,39 +16,43 @@ use std::thread::{Scope, Threads};
 use sync_parts::{Cond, ListSeat};
 use waiters::NoMemory;
 
+/// All threads are there.
+const BEGIN: u64 = 1;
+/// One couldn't be made, so nobody plays: one who waits for another that isn't there would wait for good.
+const GIVE_UP: u64 = 2;
+
 /// How often all have locked, and how often unlocked.
 pub(crate) type Sums = (u64, u64);
 
-/// What all parts share, and the seats of those who have no thread yet.
+/// Those who have no thread yet.
 #[derive(Drop)]
 struct Cast<'t> {
-    table: &'t SemaTable,
-    cond: &'t Cond,
-    marks: &'t Marks,
-    start: &'t Start,
+    stage: &'t Stage<'t>,
     seats: Vec<Seat>,
     owns: Vec<ListSeat>,
-    ghost locks: { 0 < length table.now.setting.starts },
-    ghost own: { All (λ s. s.table ≡ table.now) seats.items },
-    ghost others: { All (λ s. s.list ≡ cond.now) owns.items },
+    ghost table: { All (λ s. s.table ≡ stage.now.table.now) seats.items },
+    ghost cond: { All (λ s. s.list ≡ stage.now.cond.now) owns.items },
 }
 
 impl<'t> Cast<'t> {
     /// The next one, and the number of its part.
     fn next(&mut self, rt: &impl Abort) -> (Actor<'t>, u16) {
         let seat = self.seats.pop().expect(rt, "a seat");
-        let own = self.owns.pop().expect(rt, "a seat to wait with");
+        let own = self
+            .owns
+            .pop()
+            .expect(rt, "a seat of the condition variable");
         let part = seat.id().number();
-        let actor = Actor::new(self.table, self.cond, self.marks, seat, own);
-        (actor, part)
+        (Actor::new(self.stage, seat, own), part)
     }
 }
 
-/// A part of the play, once all threads are there. Where one can't be made nobody plays: who waits for another
-/// that isn't there would wait for good.
-fn acts<R: Abort + Wait>(rt: &R, play: Play, start: &Start, actor: Actor<'_>, part: u16) {
+/// A part of the play, once all threads are there.
+fn acts<R: Abort + Wait>(rt: &R, play: Play, actor: Actor<'_>, part: u16) {
     let mut actor = actor;
-    if start.wait(rt) {
+    let marks = actor.marks;
+    reaches(rt, &marks.curtain, BEGIN);
+    if marks.curtain.load(SeqCst) == BEGIN {
         play.plays(rt, &mut actor, part);
         actor.leaves(rt);
     }
@@ -63,11 +66,9 @@ fn hire_all<'s, E, R: Abort + Threads + Wait + Sync>(
     cast: Cast<'s>,
 ) -> bool {
     let mut cast = cast;
-    let start = cast.start;
     for _ in 0..play.parts() {
         let (actor, part) = cast.next(rt);
-        let made = scope.spawn(move || acts(rt, play, start, actor, part));
-        if made.is_err() {
+        if scope.spawn(move || acts(rt, play, actor, part)).is_err() {
             return false;
         }
     }
@@ -75,21 +76,22 @@ fn hire_all<'s, E, R: Abort + Threads + Wait + Sync>(
 }
 
 /// All parts, each in a thread of its own: whether they were played.
-fn act_all<R: Abort + Threads + Wait + Sync>(rt: &R, play: Play, cast: Cast<'_>) -> bool {
-    let start = cast.start;
+fn act_all<R: Abort + Threads + Wait + Sync>(rt: &R, cast: Cast<'_>) -> bool {
+    let stage = cast.stage;
     thread::scope(thread::scope_env(), rt, move |scope| {
-        let all = hire_all(rt, scope, play, cast);
-        start.tell(all);
+        let all = hire_all(rt, scope, stage.play, cast);
+        let told = if all { BEGIN } else { GIVE_UP };
+        stage.marks.curtain.store(told, SeqCst);
         all
     })
 }
 
 /// The play, over a table for its lock, and a condition variable.
-fn perform_on<'t, R: Abort + Threads + Wait + Sync>(
+fn perform_on<R: Abort + Threads + Wait + Sync>(
     rt: &R,
     play: Play,
-    table: &'t SemaTable,
-    cond: &'t Cond,
+    table: &SemaTable,
+    cond: &Cond,
     seats: Vec<Seat>,
     owns: Vec<ListSeat>,
 ) -> Result<Sums, NoMemory>
@@ -97,16 +99,14 @@ fn perform_on<'t, R: Abort + Threads + Wait + Sync>(
     requires cond { All (λ s. s.list ≡ cond.now) owns.items }
 {
     assert!(rt; 0 < table.counters());
-    let (marks, start) = (&Marks::new(), &Start::new());
-    let cast = Cast {
+    let marks = &Marks::new();
+    let stage = &Stage {
         table,
         cond,
         marks,
-        start,
-        seats,
-        owns,
+        play,
     };
-    if act_all(rt, play, cast) {
+    if act_all(rt, Cast { stage, seats, owns }) {
         Ok((marks.locked.load(SeqCst), marks.unlocked.load(SeqCst)))
     } else {
         Err(NoMemory)

@@ -1,11 +1,10 @@
 //! What is played around a condition variable, a thread for each part.
 
 use crate::parts::actor::Actor;
-use crate::parts::sleepers::{MAY_COME, sleeps, sleeps_after, sleeps_until_done};
+use crate::parts::sleepers::{sleeps, sleeps_after, sleeps_first, sleeps_late, sleeps_until_done};
 use crate::parts::wakers::{Wakes, broadcasts, ends, signals, signals_in_turn, wakes_the_first};
 use std::process::Abort;
 use std::sync::Wait;
-use std::sync::atomic::Ordering::SeqCst;
 
 /// Each has one who wakes, of number 0, and others who wait.
 #[derive(Clone, Copy, Drop)]
@@ -43,13 +42,10 @@ impl Play {
             (Play::Together, 0) => broadcasts(rt, actor, 8, 5),
             (Play::Together, _) => sleeps(rt, actor, 5),
             (Play::BesideALateOne(wakes), 0) => wakes_the_first(rt, actor, wakes),
-            (Play::BesideALateOne(_), 1) => {
-                sleeps(rt, actor, 1);
-                actor.marks.first.store(1, SeqCst);
-            }
-            (Play::BesideALateOne(_), _) => sleeps_until_done(rt, actor, MAY_COME),
+            (Play::BesideALateOne(_), 1) => sleeps_first(rt, actor),
+            (Play::BesideALateOne(_), _) => sleeps_late(rt, actor),
             (Play::UntilDone, 0) => ends(rt, actor),
-            (Play::UntilDone, _) => sleeps_until_done(rt, actor, 0),
+            (Play::UntilDone, _) => sleeps_until_done(rt, actor),
         }
     }
 }

@@ -29,9 +29,20 @@ pub(crate) fn sleeps_after<R: Abort + Wait>(rt: &R, actor: &mut Actor<'_>, befor
     actor.unlocks(rt);
 }
 
-/// Begins to wait once so much was told, and waits until all is done.
-pub(crate) fn sleeps_until_done<R: Abort + Wait>(rt: &R, actor: &mut Actor<'_>, told: u64) {
-    reaches(rt, &actor.marks.told, told);
+/// Waits once, and tells when it is back.
+pub(crate) fn sleeps_first<R: Abort + Wait>(rt: &R, actor: &mut Actor<'_>) {
+    sleeps(rt, actor, 1);
+    actor.marks.first.store(1, SeqCst);
+}
+
+/// Begins to wait once it may, and waits until all is done.
+pub(crate) fn sleeps_late<R: Abort + Wait>(rt: &R, actor: &mut Actor<'_>) {
+    reaches(rt, &actor.marks.told, MAY_COME);
+    sleeps_until_done(rt, actor);
+}
+
+/// Waits until all is done.
+pub(crate) fn sleeps_until_done<R: Abort + Wait>(rt: &R, actor: &mut Actor<'_>) {
     actor.locks(rt);
     for _ in rt.forever() {
         if actor.marks.told.load(SeqCst) == ALL_DONE {

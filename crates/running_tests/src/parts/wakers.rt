@@ -60,19 +60,23 @@ pub(crate) enum Wakes {
     All,
 }
 
-/// Wakes who waits first while another begins to wait: that one is woken in any case, and at most one more.
-/// Then nobody is to wait any more.
+/// Whether who came first is woken, and at most one more.
+fn is_woken<R: Abort + Wait>(rt: &R, actor: &mut Actor<'_>, wakes: Wakes) -> bool {
+    match wakes {
+        Wakes::One => actor.signals(rt) == Some(0),
+        Wakes::All => matches!(actor.broadcasts(rt), 1 | 2),
+    }
+}
+
+/// Wakes who waits first while another begins to wait: that one is woken in any case. Then nobody is to wait
+/// any more.
 pub(crate) fn wakes_the_first<R: Abort + Wait>(rt: &R, actor: &mut Actor<'_>, way: Wakes) {
     reaches(rt, &actor.marks.came, 1);
     // Locked once: who came first sleeps then, or is about to, with the first ticket.
     actor.locks(rt);
     actor.unlocks(rt);
     actor.marks.told.store(MAY_COME, SeqCst);
-    let woken = match way {
-        Wakes::One => actor.signals(rt) == Some(0),
-        Wakes::All => matches!(actor.broadcasts(rt), 1 | 2),
-    };
-    holds(rt, woken);
+    holds(rt, is_woken(rt, actor, way));
     reaches(rt, &actor.marks.first, 1);
     ends(rt, actor);
 }
