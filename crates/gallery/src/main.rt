@@ -101,7 +101,7 @@ const LOCKS: [&str; 37] = [
 ];
 
 /// The files of cases.
-const CASES: [&str; 12] = [
+const CASES: [&str; 15] = [
     "replays",
     "replays_of_lists",
     "searches",
@@ -114,6 +114,9 @@ const CASES: [&str; 12] = [
     "schedules",
     "words",
     "requests",
+    "lock_faults",
+    "lock_schedules",
+    "lock_searches",
 ];
 
 /// The words of a command. What stands in quotes is one word.

@@ -2,7 +2,7 @@
 
 use crate::scene_tests::program_of;
 use lock_keys::write_key;
-use lock_machine::{LockMachine, layer_parts};
+use lock_machine::{LockMachine, Prepared, layer_parts};
 use std::alloc::Global;
 use waiters::{NoMemory, SeatId};
 
@@ -71,19 +71,32 @@ fn key_of(alloc: Global, machine: &LockMachine<'_>) -> Result<Option<Vec<u64>>, 
     Ok(Some(key))
 }
 
-/// Whether the world to which the schedule leads has that key.
-fn has_key(alloc: Global, known: &Known) -> Result<bool, NoMemory> {
-    let Some(program) = program_of(alloc, known.text)? else {
-        return Ok(false);
-    };
-    let mut machine = LockMachine::new(alloc, &program)?;
-    for number in known.schedule {
+/// Whether the machine goes on by the schedule.
+fn goes_on(machine: &mut LockMachine<'_>, schedule: &[u16]) -> bool {
+    for number in schedule {
         if machine.step(SeatId::new(*number)).is_err() {
-            return Ok(false);
+            return false;
         }
+    }
+    true
+}
+
+/// Whether the world to which the schedule leads has that key.
+fn leads_to(alloc: Global, program: &Prepared, known: &Known) -> Result<bool, NoMemory> {
+    let mut machine = LockMachine::new(alloc, program)?;
+    if !goes_on(&mut machine, known.schedule) {
+        return Ok(false);
     }
     match key_of(alloc, &machine)? {
         Some(key) => Ok(key.as_slice() == known.key),
+        None => Ok(false),
+    }
+}
+
+/// The same of the program that its text says.
+fn has_key(alloc: Global, known: &Known) -> Result<bool, NoMemory> {
+    match program_of(alloc, known.text)? {
+        Some(program) => leads_to(alloc, &program, known),
         None => Ok(false),
     }
 }

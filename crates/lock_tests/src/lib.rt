@@ -6,7 +6,7 @@
 #![tactic(auto)]
 
 #[cfg(test)]
-mod answers;
+mod answer_tests;
 #[cfg(test)]
 mod key_tests;
 #[cfg(test)]
@@ -14,10 +14,4 @@ mod line_tests;
 #[cfg(test)]
 mod passed_tests;
 #[cfg(test)]
-mod refused_tests;
-#[cfg(test)]
-mod retraced_tests;
-#[cfg(test)]
 mod scene_tests;
-#[cfg(test)]
-mod tried_tests;

@@ -1,7 +1,7 @@
 //! The lines without a step that a seat ran.
 
 use crate::scene_tests::program_of;
-use lock_machine::LockMachine;
+use lock_machine::{LockMachine, Prepared};
 use lock_rows::LineSet;
 use std::alloc::Global;
 use waiters::{NoMemory, SeatId};
@@ -15,24 +15,34 @@ fn holds(lines: &LineSet, told: [bool; 5]) -> bool {
     (0..5).all(|line| lines.has(line) == told[line])
 }
 
-/// Whether the lines are told that a seat passes at its start and after a step.
-fn tells(alloc: Global) -> Result<bool, NoMemory> {
-    let Some(program) = program_of(alloc, TEXT)? else {
-        return Ok(false);
-    };
-    let mut machine = LockMachine::new(alloc, &program)?;
+/// Whether the lines are told that the first seat passes at its start and after a step.
+fn passes(machine: &mut LockMachine<'_>) -> bool {
     if machine.seats() == 0 {
-        return Ok(false);
+        return false;
     }
     let seat = SeatId::new(0);
     let mut all = machine.passed_first(seat);
     let first = holds(&all, [true, false, false, false, false]);
     if machine.step(seat).is_err() {
-        return Ok(false);
+        return false;
     }
     let next = holds(machine.passed(), [false, false, true, false, false]);
     all.add_all(machine.passed());
-    Ok(first && next && holds(&all, [true, false, true, false, false]))
+    first && next && holds(&all, [true, false, true, false, false])
+}
+
+/// The same of a machine that runs the program.
+fn is_passed(alloc: Global, program: &Prepared) -> Result<bool, NoMemory> {
+    let mut machine = LockMachine::new(alloc, program)?;
+    Ok(passes(&mut machine))
+}
+
+/// The same of the program that the text says.
+fn tells(alloc: Global) -> Result<bool, NoMemory> {
+    match program_of(alloc, TEXT)? {
+        Some(program) => is_passed(alloc, &program),
+        None => Ok(false),
+    }
 }
 
 #[test]

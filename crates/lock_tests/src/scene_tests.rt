@@ -208,24 +208,42 @@ fn has_word(machine: &LockMachine, word: Option<i64>) -> bool {
     }
 }
 
-/// Whether the scene goes as it says, and so it does on a copy of each moment.
-fn goes(alloc: Global, scene: &Scene) -> Result<bool, NoMemory> {
-    let Some(program) = program_of(alloc, scene.text)? else {
-        return Ok(false);
-    };
-    let mut machine = LockMachine::new(alloc, &program)?;
+/// A copy of the machine behind the schedule, made over one of each moment before: none where a seat can't make
+/// its step.
+fn copy_behind<'p>(
+    alloc: Global,
+    machine: &mut LockMachine<'p>,
+    schedule: &[u16],
+) -> Result<Option<LockMachine<'p>>, NoMemory> {
     let mut copy = machine.try_clone(alloc)?;
-    for number in scene.schedule {
-        if !steps(&mut machine, *number) {
-            return Ok(false);
+    for number in schedule {
+        if !steps(machine, *number) {
+            return Ok(None);
         }
-        copy = copy.try_clone_over(alloc, &machine)?;
+        copy = copy.try_clone_over(alloc, machine)?;
     }
-    Ok(
-        has_word(&copy, scene.word)
-            && is_as_told(&mut machine, scene)
-            && is_as_told(&mut copy, scene),
-    )
+    Ok(Some(copy))
+}
+
+/// Whether the scene goes as it says, and so it does on a copy.
+fn goes_by(alloc: Global, program: &Prepared, scene: &Scene) -> Result<bool, NoMemory> {
+    let mut machine = LockMachine::new(alloc, program)?;
+    match copy_behind(alloc, &mut machine, scene.schedule)? {
+        Some(mut copy) => Ok(
+            has_word(&copy, scene.word)
+                && is_as_told(&mut machine, scene)
+                && is_as_told(&mut copy, scene),
+        ),
+        None => Ok(false),
+    }
+}
+
+/// The same of the program that its text says.
+fn goes(alloc: Global, scene: &Scene) -> Result<bool, NoMemory> {
+    match program_of(alloc, scene.text)? {
+        Some(program) => goes_by(alloc, &program, scene),
+        None => Ok(false),
+    }
 }
 
 /// The same, twice where memory was short.
