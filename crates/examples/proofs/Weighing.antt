@@ -26,9 +26,6 @@ sum_snoc : (f : Moves → ℕ) (views : List Moves) (w : Moves) → sum_of f (vi
 sum_snoc f [] w = omega arith
 sum_snoc f (u ∷ views) w = let rest = sum_snoc f views w in omega arith
 
-sum_at : (f : Moves → ℕ) (views : List Moves) (k : ℕ) (v : Moves) → get_elem? views k ≡ some v → sum_of f (set views k v) ≡ sum_of f views
-sum_at f views k v at = let change = sum_set f views k v v at in omega arith
-
 idle_set : (views : List Moves) (k : ℕ) (w : Moves) → (w.parts ≡ 0 → (w.put ≡ []) × (w.taken ≡ [])) → IdleIsEmpty views
     → IdleIsEmpty (set views k w)
 idle_set views k w mine others j u at none =
@@ -40,14 +37,6 @@ idle_snoc views idle j u at none =
     ⊎_elim (λ (there : get_elem? views j ≡ some u). idle j u there none)
     (λ (new : moves 1 [] [] ≡ u). let part : 1 ≡ u.parts = ap (λ (y : Moves). y.parts) new in absurd (omega arith))
     (at_snoc views (moves 1 [] []) u j at)
-
-pub begins : Balanced [] (moves all_parts [] [] ∷ [])
-begins = (refl, λ h. refl, alone)
-  where
-    alone : IdleIsEmpty (moves all_parts [] [] ∷ [])
-    alone zero v at none = let parts : all_parts ≡ v.parts = ap (λ (y : Moves). y.parts) (some-injective
-        (moves all_parts [] []) v at) in absurd (omega arith)
-    alone (suc k) v at none = absurd (some-ne-none v (sym at))
 
 pub puts : (n k : ℕ) (v : Moves) (x : ℕ) → 0 < v.parts → Pushes Balanced n k v x (λ w. w ≡ with_put v x)
 puts n k v x some_part items views room b at =

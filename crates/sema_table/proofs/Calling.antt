@@ -14,7 +14,7 @@ use Rattle.sema_table.specs.Rows.{SemaSeat}
 use Rattle.sema_table.specs.declared.seat.Numbers.{Numbers}
 use Rattle.sema_table.specs.Starts.{begin}
 use Rattle.sema_table.proofs.Striding.{Ran}
-use Rattle.sema_table.specs.Seats.{SeatModel, TableModel, Token, table_of, seat_of, IsToken}
+use Rattle.sema_table.specs.Seats.{SeatModel, TableModel, Token, seat_of, IsToken}
 use Rattle.step_law_semaphores.proofs.SemaPaths.{the_sema_paths}
 use Rattle.sema_table.specs.Setting.{layout}
 use Rattle.sema_table.specs.Rule.{stands_by, sight_by}
@@ -76,9 +76,6 @@ calls_rows s t n k from a told j rows is x at =
 pub row_is : (v w : SemaSeat) (from : Place) (n : ℕ) (r : Ran (begin from) v n w)
     → ◌≡◌ {A = Place × ℕ} (r.stride.stood.place, r.stride.read) (from, n)
 row_is v w from n r = λ i. ((r.ran.stood i).place, r.read i)
-
-pub same_table : (s t : Token) (from : Place) (a : SeatState) (told : List Entry) (j : ℕ) → Walked s from t a told j → table_of t ≡ table_of s
-same_table s t from a told j x = x.table_is
 
 -- a call that went on after rows that told nothing
 pub calls_after : (s t : Token) (n : Numbers) (u : SeatModel) (from p : Place) (told : List Entry) (j : ℕ) → IsToken s n

@@ -11,7 +11,7 @@ use Rattle.sema_table.specs.Rows.{SemaSeat}
 use Rattle.sema_table.specs.declared.seat.Numbers.{Numbers}
 use Rattle.sema_table.specs.Rows.{Me}
 use Rattle.sema_table.specs.Seats.{TableModel, SeatModel, Token, table_of, seat_of, IsSeat}
-use Rattle.sema_table.specs.Closing.{sum_by, has_added, was_given, IsOfSeat, AreOfSeats, IsGathered}
+use Rattle.sema_table.specs.Closing.{sum_by, has_added, was_given, IsOfSeat, AreOfSeats}
 use Rattle.sema_table.proofs.Reckoning.{seat_is}
 
 -- of these seats those behind `now` sit with the token's own seat: with its counts, they have added and were given so many units
@@ -67,21 +67,6 @@ one_gathered t items own_seat now rest token after added_first given_first relea
       few_added = let a = x.few_added in omega arith;
       few_given = let a = x.few_given in let m = is.token_is.most in omega arith;
     }
-
-pub all_gathered : (t : TableModel) (items : List SeatModel) (token : Token) (releases acquires limit : ℕ) (seat : SeatModel) (s : Token) (n : Numbers)
-    → seat_of s n ≡ seat → IsSeat s n → table_of s ≡ t → limit ≡ t.setting.limit
-    → Gathered t items s.me.0.own [] token (limit - n.left) n.taken releases acquires → IsGathered t (seat ∷ items) token releases acquires
-all_gathered t items token releases acquires limit seat s n seen is own limited x = record {
-  own = x.own;
-  all = (
-    of_table t s n seat token.me.0.own seen is own (sym x.view),
-    subst (λ (l : List SeatModel). AreOfSeats t.setting token.me.0.guests l) (sym x.parts) x.are,
-  );
-  releases_are = let a = x.added in let l = ap (λ (y : SeatModel). y.left) seen in
-      let p = ap (λ (l : List SeatModel). sum_by (has_added t.setting.limit) l) x.parts in omega (arith, limited);
-  acquires_are =
-      let a = x.given in let l = ap (λ (y : SeatModel). y.taken) seen in let p = ap (λ (l : List SeatModel). sum_by was_given l) x.parts in omega arith;
-}
 
 -- the first of a row, and the rest
 pub first_and_rest : (items rest : List SeatModel) (first : SeatModel) → 0 < length items → first ≡ slice_index_or items 0 first

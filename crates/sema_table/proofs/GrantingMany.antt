@@ -99,10 +99,6 @@ pub neither : (b : Bool) (a : ReleaseMany) → (if b && false then ReleasingMany
 neither true a = refl
 neither false a = refl
 
-pub picking_none : (s : Token) (a : ReleaseMany) → lists_of s a.counter ≡ [] → picking s a ≡ ReleasingMany a M6
-picking_none s a e =
-    ap (λ (l : List WaitId). picks a (length s.me.0.own.knows.hand) (length l)) e ∙ neither (nat_lt (length s.me.0.own.knows.hand) a.units) a
-
 pub picking_more : (s : Token) (a : ReleaseMany) (w : WaitId) (tail : List WaitId) → lists_of s a.counter ≡ w ∷ tail
     → length s.me.0.own.knows.hand < a.units → picking s a ≡ ReleasingMany a M5
 picking_more s a w tail e few = ap (λ (l : List WaitId). picks a (length s.me.0.own.knows.hand) (length l)) e

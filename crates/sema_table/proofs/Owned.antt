@@ -36,11 +36,6 @@ module _ (x : Inside) (s : Token) (made : IsMade x) (own : table_of s ≡ table_
   pub some_root : 0 < s.me.0.own.knows.setting.roots
   some_root = subst (λ (y : TableModel). 0 < y.setting.roots) (sym own) (let r = made.rooted in let a = made.some in omega arith)
 
--- the same of the table itself
-pub word_low : (x : Inside) (made : IsMade x) (t : TableModel) (w : Word) → table_by x ≡ t → IsThere t.setting w → address t.setting w < t.id.words
-word_low x made t w is there = subst (λ (y : TableModel). IsThere y.setting w → address y.setting w < y.id.words) is
-    (λ h. let i = inside (table_by x).setting (let r = made.rooted in let a = made.some in omega arith) w h in let e = made.words in omega arith) there
-
 -- a table has a word
 pub has_word : (x : Inside) → IsMade x → 0 < x.words.table.shared.table_id.words
 has_word x made = let a = made.any in let c = made.counted in let w = made.words in omega arith

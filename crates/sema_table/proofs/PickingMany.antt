@@ -112,14 +112,6 @@ stands_picking z s t a stands x = stands_on z s t (picking s a) (with_hand s (pi
     (leaves s.me.0.own.number a t.me.0.own.knows.hand) 0 stands x (leaves_add s.me.0.own.number s.me.0.own.number a t.me.0.own.knows.hand)
     (picking_counter t a ∙ sym (picking_counter s a))
 
--- nobody waits at the root
-pub none_taken : (s t : Token) (a : ReleaseMany) → s.me.0.own.knows.hand ≡ [] → Walked s (ReleasingMany a M4) t (moved_to s (ReleasingMany a M6)) [] 0
-    → Walked s (ReleasingMany a M4) t (with_hand s (ReleasingMany a M6) t.me.0.own.knows.hand) (leaves s.me.0.own.number a t.me.0.own.knows.hand) 0
-none_taken s t a empty x =
-    let h = ap (λ (q : SeatState). q.hand) x.stands_is in
-    subst (λ (q : List WaitId × List WaitId). Walked s (ReleasingMany a M4) t (with_hand s (ReleasingMany a M6) q.0) (leaves s.me.0.own.number a q.1) 0)
-    (λ i. (sym h i, sym (h ∙ empty) i)) x
-
 -- all were taken out that can be
 pub all_taken : (s0 s t : Token) (a : ReleaseMany) → s0.me.0.own.knows.hand ≡ [] → 1 ≤ a.units
     → Walked s0 (ReleasingMany a M4) s (moved_to s0 (sought_many s a)) [] 0

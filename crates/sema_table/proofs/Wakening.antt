@@ -1,12 +1,12 @@
 -- A release from its root's lock on, to its end.
-use Rattle.std.proofs.Common.{◌≡◌, ℕ, ◌+◌, ◌^◌, ◌<◌, ◌≤◌, if◌then◌else◌, MatchBool, Bool, true, false, List, [], ◌∷◌, ◌++◌}
+use Rattle.std.proofs.Common.{◌≡◌, ℕ, ◌+◌, ◌^◌, ◌<◌, ◌≤◌, if◌then◌else◌, Bool, true, false, List, [], ◌∷◌, ◌++◌}
 use Rattle.std.proofs.Common.{drop, Option, Some, None, IfSome}
 use Rattle.std.proofs.Common.{IfNone, sym, refl, ap, ◌∙◌, subst, arith, append-nil}
 use Rattle.waiters.specs.declared.wait.WaitId.{WaitId}
 use Rattle.step_table.specs.declared.entry.Entry.{Entry}
-use Rattle.step_table.specs.declared.entry.Entry.TheVariants.{Take, Leave}
+use Rattle.step_table.specs.declared.entry.Entry.TheVariants.{Leave}
 use Rattle.step_table.specs.declared.place.Release.{Release}
-use Rattle.step_table.specs.declared.place.ReleaseRow.TheVariants.{R3, R4, R5, R6, R7, R9, R10}
+use Rattle.step_table.specs.declared.place.ReleaseRow.TheVariants.{R3, R4, R5, R6, R7, R10}
 use Rattle.step_table.specs.declared.place.Place.{Place}
 use Rattle.step_table.specs.declared.place.Place.TheVariants.{Rest, Releasing}
 use Rattle.step_table.specs.declared.word.Word.TheVariants.{Grant}
@@ -26,34 +26,9 @@ use Rattle.sema_table.specs.AtLock.{IsGranted, GrantsLast}
 use Rattle.sema_table.specs.Walks.{Stands, Walked, Granted, moved_to, taken_out, sought, trying, unlocked, granting, grant_of, taken_for}
 use Rattle.sema_table.specs.Calls.{ComesTo}
 use Rattle.sema_table.specs.Waking.{CallsGrant, Wakes}
-use Rattle.sema_table.proofs.Walking.{walked_on, walked_via, walked_then, walked_yet, stands_on, token_after}
+use Rattle.sema_table.proofs.Walking.{walked_on, walked_via, walked_then, stands_on, token_after}
 use Rattle.sema_table.proofs.Resting.{not_both}
 use Rattle.sema_table.proofs.Calling.{calls, calls_grant}
-
-pub not_trying : (r : Release) → r.handoff ≡ false → trying r ≡ Releasing r R10
-not_trying r e = ap (λ b. if b then Releasing r R7 else Releasing r R10) e
-
-pub is_trying : (r : Release) → r.handoff ≡ true → trying r ≡ Releasing r R7
-is_trying r e = ap (λ b. if b then Releasing r R7 else Releasing r R10) e
-
-trying_busy : (r : Release) → is_free (trying r) ≡ false
-trying_busy r = by r.handoff
-  where
-    by : (b : Bool) → is_free (if b then Releasing r R7 else Releasing r R10) ≡ false
-    by true = refl
-    by false = refl
-
--- without handoff no row runs
-pub no_unit : (z : TableModel) (s : Token) (r : Release) (w : WaitId) → Stands z s (trying r) → r.handoff ≡ false
-    → Walked s (trying r) s (moved_to s (granting r false)) (taken_for r w false) 0
-no_unit z s r w stands e = subst (λ q. Walked s (trying r) s (moved_to s q) [] 0) (not_trying r e) (walked_yet z s (trying r) (trying_busy r) stands)
-
-pub tried_unit : (s t : Token) (r : Release) (w : WaitId) (b : Bool) → r.handoff ≡ true
-    → MatchBool b (Walked s (Releasing r R7) t (moved_to s (Releasing r R9)) (Take r.counter w.seat ∷ []) 0)
-    (Walked s (Releasing r R7) t (moved_to s (Releasing r R10)) [] 0)
-    → Walked s (trying r) t (moved_to s (granting r b)) (taken_for r w b) 0
-tried_unit s t r w true e x = subst (λ q. Walked s q t (moved_to s (Releasing r R9)) (Take r.counter w.seat ∷ []) 0) (sym (is_trying r e)) x
-tried_unit s t r w false e x = subst (λ q. Walked s q t (moved_to s (Releasing r R10)) [] 0) (sym (is_trying r e)) x
 
 -- nobody waits
 module _ (s t1 t2 t3 : Token) (n : Numbers) (a : Release) (is : IsToken s n) (x1 : Walked s (Releasing a R3) t1 (moved_to s (Releasing a R4)) [] 0)

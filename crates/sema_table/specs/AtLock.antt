@@ -1,6 +1,5 @@
 -- What follows once a root's lock was taken, and what a wake asks for.
 use Rattle.std.specs.Prelude.{◌≡◌, ℕ, ◌<◌, List, [], ◌∷◌, ◌++◌, length}
-use Rattle.waiters.specs.declared.wait.WaitId.{WaitId}
 use Rattle.running_rows.specs.Sleeping.{StoresLast}
 use Rattle.step_table.specs.declared.word.Word.TheVariants.{Grant}
 use Rattle.step_table.specs.declared.place.Place.{Place}

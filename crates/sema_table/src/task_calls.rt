@@ -1,4 +1,5 @@
-//! The calls of a task that change where its seat stands: they take the seat, and give it back.
+//! The calls of a task that may change where its seat stands: they take the seat, and give it back. (`post`, which
+//! is a step or two, changes it where it lies.)
 ghost use Rattle.std.specs.Prelude.{◌≡◌};
 ghost use Rattle.sema_table.specs.Tasks.{PostsManyByTask, EntersByTask, PollsByTask, RetriesByTask};
 ghost use Rattle.sema_table.specs.Tasks.{WakesByTask, WakesSomeByTask};
@@ -69,19 +70,11 @@ impl TaskTable {
         requires { seat.seat.table ≡ self.now }
         ensures { PollsByTask seat result.1 result.0 }
     {
-        let TaskSeat {
-            token,
-            numbers,
-            stage,
-        } = seat;
+        let stage = seat.stage;
         let Stage::Sleeping(call, turn) = stage else {
-            let seat = TaskSeat {
-                token,
-                numbers,
-                stage,
-            };
             return (seat, Err(TaskRefused::OtherCall));
         };
+        let TaskSeat { token, numbers, .. } = seat;
         let asleep = Sleeping {
             token,
             numbers,
@@ -100,19 +93,11 @@ impl TaskTable {
         requires { seat.seat.table ≡ self.now }
         ensures { RetriesByTask seat result.1 result.0 }
     {
-        let TaskSeat {
-            token,
-            numbers,
-            stage,
-        } = seat;
+        let stage = seat.stage;
         let Stage::Woken(call) = stage else {
-            let seat = TaskSeat {
-                token,
-                numbers,
-                stage,
-            };
             return (seat, Err(TaskRefused::OtherCall));
         };
+        let TaskSeat { token, numbers, .. } = seat;
         let woken = Woken {
             token,
             numbers,
@@ -129,19 +114,10 @@ impl TaskTable {
         requires { seat.seat.table ≡ self.now }
         ensures { WakesByTask seat handoff result.1 result.0 }
     {
-        let TaskSeat {
-            token,
-            numbers,
-            stage,
-        } = seat;
-        let Stage::Owing(counter) = stage else {
-            let seat = TaskSeat {
-                token,
-                numbers,
-                stage,
-            };
+        let Stage::Owing(counter) = seat.stage else {
             return (seat, Err(TaskRefused::OtherCall));
         };
+        let TaskSeat { token, numbers, .. } = seat;
         let owing = Owing {
             token,
             numbers,
@@ -158,19 +134,11 @@ impl TaskTable {
         requires { seat.seat.table ≡ self.now }
         ensures { WakesSomeByTask seat result.1 result.0 }
     {
-        let TaskSeat {
-            token,
-            numbers,
-            stage,
-        } = seat;
+        let stage = seat.stage;
         let Stage::OwingMany(call) = stage else {
-            let seat = TaskSeat {
-                token,
-                numbers,
-                stage,
-            };
             return (seat, Err(TaskRefused::OtherCall));
         };
+        let TaskSeat { token, numbers, .. } = seat;
         let owing = OwingMany {
             token,
             numbers,

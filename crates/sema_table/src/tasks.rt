@@ -4,27 +4,18 @@
 //! seat sleeps polls again once its seat was named by the answer of a [`TaskTable::wake`] or
 //! [`TaskTable::wake_some`].
 ghost use Rattle.std.specs.Prelude.{◌≡◌, ◌<◌, length, All, Ok, IfOk, IfErr, IfSome, IfNone, map, ◌≢◌, ◌≤◌};
-ghost use Rattle.sema_table.specs.declared.answers.Posted.TheVariants.{Done, Owes};
-ghost use Rattle.sema_table.specs.Seats.{IsSeat, IsOwing, table_of, seat_of};
-ghost use Rattle.sema_table.specs.Tries.{IsValue, IsWaiters, IsTried, IsPosted};
 ghost use Rattle.sema_table.specs.Making.{IsRefused};
 ghost use Rattle.sema_table.specs.declared.task_seat.TaskStage.TheVariants.{Resting};
 ghost use Rattle.sema_table.specs.Tasks.{ReadsByTask, CountsByTask, TriesByTask, PostsByTask, IsMadeForTasks};
-ghost use Rattle.sema_table.specs.Callers.{ReadsNumber, CountsWaits, TriesToAcquire};
-ghost use Rattle.sema_table.specs.CallersReleasing.{PostsUnit};
-ghost use Rattle.sema_table.specs.Outcomes.{IfLost};
-ghost use Rattle.sema_table.specs.Walks.{Changed};
-ghost use Rattle.sema_table.specs.Tasks.{Unfit, MatchPosted};
+ghost use Rattle.sema_table.specs.Tasks.{Unfit};
 
 use crate::answers::Tried;
-use crate::rows::{AtAdd, AtTry, Token};
-use crate::seat::{Numbers, Seat};
-use crate::sema_table::{SemaTable, counter_word};
+use crate::seat::Seat;
+use crate::sema_table::SemaTable;
 use crate::settings::Settings;
 use crate::setup_error::SetupError;
 use crate::task_answers::{TaskPosted, TaskRefused};
 use crate::task_seat::{Stage, TaskSeat};
-use running_rows::Here;
 use std::alloc::{AllocError, Global};
 use std::marker::Model;
 use waiters::CounterId;
@@ -168,89 +159,5 @@ impl TaskTable {
             self.table
                 .waiters_in_place(&mut seat.token, &seat.numbers, counter),
         )
-    }
-}
-
-/// The calls of a step or two on the parts of a seat, so that it changes where it lies.
-impl SemaTable {
-    /// As `try_acquire`.
-    #[inline]
-    fn try_in_place(&self, token: &mut Token, numbers: &mut Numbers, counter: CounterId) -> Tried
-        requires seat { IsSeat token.old numbers.old × (table_of token.old ≡ self.now) }
-        requires counter { counter < length self.now.setting.starts }
-        ensures seat { IsSeat token.new numbers.new }
-        ensures rows { IsTried (seat_of token.old numbers.old) counter result (seat_of token.new numbers.new) }
-        ensures caller { TriesToAcquire (seat_of token.old numbers.old) counter result
-            (seat_of token.new numbers.new) }
-        ensures settles { IfLost result (Changed counter token.old token.new) }
-    {
-        let word = counter_word(counter.number());
-        let found = self.words.load::<AtTry>(token, word);
-        if found == 0 {
-            return Tried::Zero;
-        }
-        if self.words.exchange::<Here>(token, word, found, found - 1) != found {
-            return Tried::Lost;
-        }
-        numbers.taken += 1;
-        Tried::Taken
-    }
-
-    /// As `post`.
-    #[inline]
-    fn post_in_place(
-        &self,
-        token: &mut Token,
-        numbers: &mut Numbers,
-        counter: CounterId,
-    ) -> TaskPosted
-        requires seat { IsSeat token.old numbers.old × (table_of token.old ≡ self.now) }
-        requires counter { counter < length self.now.setting.starts }
-        requires some { 0 < numbers.old.left }
-        ensures seat { MatchPosted result (IsSeat token.new numbers.new)
-            (IsOwing token.new numbers.new counter) }
-        ensures rows { MatchPosted result
-            (IsPosted (seat_of token.old numbers.old) counter (Done (seat_of token.new numbers.new)))
-            (IsPosted (seat_of token.old numbers.old) counter (Owes (seat_of token.new numbers.new))) }
-        ensures caller { MatchPosted result
-            (PostsUnit (seat_of token.old numbers.old) counter (Ok (Done (seat_of token.new numbers.new))))
-            (PostsUnit (seat_of token.old numbers.old) counter (Ok (Owes (seat_of token.new numbers.new)))) }
-    {
-        // Added before the look: a look that came first could read 0 while an acquire is about to read 0 and
-        // sleep.
-        self.words
-            .add::<AtAdd>(token, counter_word(counter.number()), 1);
-        numbers.left -= 1;
-        let word = self.waiter_word(counter);
-        if self.words.load::<Here>(token, word) == 0 {
-            return TaskPosted::Done;
-        }
-        TaskPosted::Owes
-    }
-
-    /// As `value`.
-    fn value_in_place(&self, token: &mut Token, numbers: &Numbers, counter: CounterId) -> u64
-        requires seat { IsSeat token.old numbers.now × (table_of token.old ≡ self.now) }
-        requires counter { counter < length self.now.setting.starts }
-        ensures seat { IsSeat token.new numbers.now }
-        ensures rows { IsValue (seat_of token.old numbers.now) counter result (seat_of token.new numbers.now) }
-        ensures caller { ReadsNumber (seat_of token.old numbers.now) counter result
-            (seat_of token.new numbers.now) }
-    {
-        let word = counter_word(counter.number());
-        self.words.look(token, word)
-    }
-
-    /// As `waiters_of_root`.
-    fn waiters_in_place(&self, token: &mut Token, numbers: &Numbers, counter: CounterId) -> u64
-        requires seat { IsSeat token.old numbers.now × (table_of token.old ≡ self.now) }
-        requires counter { counter < length self.now.setting.starts }
-        ensures seat { IsSeat token.new numbers.now }
-        ensures rows { IsWaiters (seat_of token.old numbers.now) counter result (seat_of token.new numbers.now) }
-        ensures caller { CountsWaits (seat_of token.old numbers.now) counter result
-            (seat_of token.new numbers.now) }
-    {
-        let word = self.waiter_word(counter);
-        self.words.look(token, word)
     }
 }
