@@ -9,7 +9,7 @@ use lib.ListN.{get_elem?}
 use Rattle.running_rows.specs.Sitting.{sitting}
 use Rattle.notify_list.specs.Plays.{Me, OneSeat}
 use Rattle.notify_list.specs.Seats.{ListModel, SeatModel, Token, list_of, seat_of, IsSeat}
-use Rattle.notify_list.specs.Closing.{IsSeatOf, AreSeatsOf, IsGathered}
+use Rattle.notify_list.specs.Closing.{IsSeatOf, AreSeatsOf}
 
 -- of these seats those behind `now` sit with the token's own seat
 pub record Gathered (l : ListModel) (items : List SeatModel) (first : OneSeat) (now : List SeatModel) (token : Token) : Type 0 where
@@ -48,13 +48,6 @@ one_gathered l items first now rest token after seat s o n x last seen is alike 
   parts = x.parts ∙ ap (λ k. k ++ x.gone) last ∙ append_assoc rest (seat ∷ []) x.gone;
   are = subst (λ (gs : List OneSeat). AreSeatsOf gs (seat ∷ x.gone)) (sym (ap (λ (m : Me). m.0.guests) joined))
       (seat_at s n seat o.me.0.own seen is (sym alike), x.are);
-}
-
-pub all_gathered : (l : ListModel) (items : List SeatModel) (token : Token) (seat : SeatModel) (s : Token) (n : ℕ)
-    → seat_of s n ≡ seat → IsSeat s n → Gathered l items s.me.0.own [] token → IsGathered l (seat ∷ items) token
-all_gathered l items token seat s n seen is x = record {
-  own = x.own;
-  all = (seat_at s n seat token.me.0.own seen is (sym x.view), subst (λ (k : List SeatModel). AreSeatsOf token.me.0.guests k) (sym x.parts) x.are);
 }
 
 -- the first of a row, and the rest

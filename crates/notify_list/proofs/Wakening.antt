@@ -145,11 +145,6 @@ pub stored_one : (s t : Token) (place seat : ℕ) (n : ℕ) (w : Went list_rows 
     → place ≡ address (Grant seat) → StoresGrants (seat ∷ []) s.me.0.own.gone t.me.0.own.gone
 stored_one s t place seat n w stored is = (w.stride, subst (λ i. HasStored w.stride i 1) is stored, w.one)
 
--- and where no row ran before
-pub stored_since : (s t : Token) (seats : List ℕ) (now : List ListStride) → IsSame s t → StoresGrants seats t.me.0.own.gone now
-    → StoresGrants seats s.me.0.own.gone now
-stored_since s t seats now same stored = subst (λ (m : Me). StoresGrants seats m.0.own.gone now) same.1 stored
-
 -- the seat may go on then
 pub may_same : (l : ListModel) (s t : Token) (h : ℕ) → MayWake l s h → IsSame s t → MayWake l t h
 may_same l s t h may same = record {

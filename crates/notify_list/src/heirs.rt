@@ -11,10 +11,12 @@
 //! threads: either the seat finds its heir granted, or its name was taken away before the granter's look, and
 //! the granter wakes the heir. So each that was granted is woken. A seat that is parked does its part once it
 //! polls.
-ghost use Rattle.std.specs.Prelude.{◌≡◌, ◌<◌, ◌≤◌};
+ghost use Rattle.std.specs.Prelude.{◌≡◌, ◌<◌, ◌≤◌, List};
+ghost use Rattle.step_law_lists.specs.ListPath.{ListStride};
 ghost use Rattle.notify_list.specs.Seats.{list_of};
 ghost use Rattle.notify_list.specs.Setting.{words_shown};
 ghost use Rattle.notify_list.specs.Heirs.{IsSame};
+ghost use Rattle.notify_list.specs.NotifyingAll.{StoresGrants};
 
 use crate::notify_list::{NotifyList, grant_word};
 use crate::rows::Token;
@@ -74,7 +76,9 @@ impl NotifyList {
     }
 
     /// Wakes the first of these seats, which are all granted, and those whose names are taken away.
-    pub(crate) fn wake_first(&self, token: &Token, seats: &[u16]) {
+    pub(crate) fn wake_first(&self, token: &Token, seats: &[u16])
+        requires { (gone : List ListStride) × StoresGrants seats.now gone token.now.me.0.own.gone }
+    {
         for place in FIRST..seats.len() {
             self.wake_unnamed(token, seats, place - FIRST);
         }

@@ -58,7 +58,7 @@ impl NotifyList {
     {
         let tried = self.all_silently(seat);
         if let Ok((seat, all)) = &tried {
-            self.wake_each(&seat.token, all.seats.as_slice());
+            self.wake_each(seat, all.seats.as_slice());
         }
         tried
     }
@@ -74,7 +74,7 @@ impl NotifyList {
     {
         let tried = self.go_on_silently(owing);
         if let Ok((seat, all)) = &tried {
-            self.wake_each(&seat.token, all.seats.as_slice());
+            self.wake_each(seat, all.seats.as_slice());
         }
         tried
     }
@@ -209,11 +209,13 @@ impl NotifyList {
         self.words.store_grant(token, grant_word(seat), 1);
     }
 
-    /// Wakes who sleeps at the lock, which was given back, and each of these seats.
-    fn wake_each(&self, token: &Token, seats: &[u16]) {
-        self.rouse_at_lock(token);
-        for seat in seats {
-            self.wake_seat(token, *seat);
+    /// Wakes who sleeps at the lock, which was given back, and each of these seats, which are all granted.
+    fn wake_each(&self, seat: &ListSeat, granted: &[u16])
+        requires { GrantsSeats granted.now seat.now }
+    {
+        self.rouse_at_lock(&seat.token);
+        for number in granted {
+            self.wake_seat(&seat.token, *number);
         }
     }
 }

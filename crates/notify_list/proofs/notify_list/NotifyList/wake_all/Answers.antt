@@ -13,6 +13,9 @@ grant_seats-requires c = let same = c.name_heirs.ensures in record {
   seats = c.requires.seats ∙ ap (λ (m : Me). map (λ (w : Wait). w.id.seat) m.0.own.knows.sight.stands.hand) (sym same.1);
 }
 
+pub wake_first-requires : goal.wake_first-requires
+wake_first-requires c = (c.name_heirs.new.token.me.0.own.gone, c.grant_seats.ensures.stored)
+
 pub returns : goal.returns
 returns c h may = let same = c.name_heirs.ensures in
     woken_since c.args.self.now c.args.token.now c.name_heirs.new.token c.grant_seats.new.token h may same
