@@ -61,8 +61,8 @@ enum parklot_answer {
     PARKLOT_PARKED = 12,  /* the seat is queued: its task sleeps until it is named */
     PARKLOT_GRANTED = 13, /* one is granted that isn't parked yet, and won't be: nobody is to be woken */
 
-    /* Refusals: nothing was done. */
-    PARKLOT_NO_SEAT = 100,    /* the seat is empty */
+    /* Refusals: nothing was done, but by BUSY of parklot_list_one and parklot_list_all (parklot_list.h). */
+    PARKLOT_NO_SEAT = 100,    /* the seat is empty, or one of a list (parklot_list.h: of a table), which stays as it was */
     PARKLOT_OTHER_CALL = 101, /* the seat stands in the middle of another call, or (poll, retry, wake) of none */
     PARKLOT_NO_COUNTER = 102, /* the table has no such counter */
     PARKLOT_BUSY = 103,       /* others hold the lock of the counter's root, or the list's: call again a little later */
@@ -77,8 +77,8 @@ enum parklot_answer {
     PARKLOT_NO_MEMORY = 114
 };
 
-/* Any call with a seat but parklot_new may answer NO_SEAT and OTHER_CALL, and any with a counter NO_COUNTER. What else
-   it answers stands behind it. */
+/* Any call with a seat but those that make one may answer NO_SEAT, any of these but those that tell a seat's number
+   OTHER_CALL, and any with a counter NO_COUNTER. What else it answers stands behind it. */
 
 /* Makes a table and all its seats; seats[n] has number n. starts[c] is the number of units that counter c begins with.
    Counter c is at root c modulo roots: counters of one root wait for one another's lock, and one root is enough for a

@@ -21,20 +21,6 @@ one_given f g hs i h bs rest b all lt is same sum =
     ∙ ap (λ xs. take i (map f hs) ++ xs) (sym backward)
     ∙ sum
 
--- the last seat comes to a place
-pub one_placed : {A B S : Type 0} (f : A → S) (g : B → S) (ss rest : List A) (s : A) (bs : List B) (b : B) (all : List S)
-    → ss ≡ rest ++ s ∷ [] → g b ≡ f s
-    → map g bs ++ reverse (map f ss) ≡ all
-    → map g (bs ++ b ∷ []) ++ reverse (map f rest) ≡ all
-one_placed f g ss rest s bs b all is same sum =
-    let backward : reverse (map f ss) ≡ f s ∷ reverse (map f rest) =
-    ap (λ xs. reverse (map f xs)) is ∙ ap reverse (map-append f rest (s ∷ [])) ∙ reverse-append (map f rest) (f s ∷ []) in
-    ap (λ xs. xs ++ reverse (map f rest)) (map-append g bs (b ∷ []))
-    ∙ append_assoc (map g bs) (g b ∷ []) (reverse (map f rest))
-    ∙ ap (λ x. map g bs ++ (x ∷ reverse (map f rest))) same
-    ∙ ap (λ xs. map g bs ++ xs) (sym backward)
-    ∙ sum
-
 map_reverse : {A B : Type 0} (f : A → B) (xs : List A) → map f (reverse xs) ≡ reverse (map f xs)
 map_reverse f [] = refl
 map_reverse f (x ∷ xs) =

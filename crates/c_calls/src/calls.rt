@@ -3,7 +3,7 @@ ghost use Rattle.std.specs.Prelude.{◌≡◌, IfOk};
 ghost use Rattle.sema_table.specs.Tasks.{TriesByTask, PostsByTask};
 ghost use Rattle.sema_table.specs.Tasks.{ReadsByTask, CountsByTask, PostsManyByTask};
 ghost use Rattle.sema_table.specs.Tasks.{EntersByTask, PollsByTask};
-ghost use Rattle.sema_table.specs.Tasks.{RetriesByTask, WakesByTask, WakesSomeByTask};
+ghost use Rattle.sema_table.specs.Tasks.{RetriesByTask, WakesByTask};
 ghost use Rattle.sema_table.specs.declared.task_seat.TaskStage.TheVariants.{Resting};
 ghost use Rattle.c_calls.specs.Codes.{tried_code, entered_code, polled_code};
 ghost use Rattle.c_calls.specs.Codes.{retried_code, posted_code, wake_code};
@@ -50,9 +50,8 @@ fn tell_number(answer: Result<u64, TaskRefused>, number: &mut u64) -> u32
 
 impl Place {
     /// Which seat of its table it is.
-    pub fn number(&mut self, number: &mut u32) -> u32
-        ensures same { self.new.seat ≡ self.old.seat }
-        ensures told { TellsNumber (λ s. s.seat.number) self.old.seat result number.new }
+    pub fn number(&self, number: &mut u32) -> u32
+        ensures { TellsNumber (λ s. s.seat.number) self.now.seat result number.new }
     {
         let Some(seat) = &self.seat else {
             return NO_SEAT;
@@ -62,9 +61,8 @@ impl Place {
     }
 
     /// Whether the seat may be freed: OK, or why not.
-    pub fn may_leave(&mut self) -> u32
-        ensures same { self.new.seat ≡ self.old.seat }
-        ensures why { MayLeave (λ s. s.stage) Resting self.old.seat result }
+    pub fn may_leave(&self) -> u32
+        ensures { MayLeave (λ s. s.stage) Resting self.now.seat result }
     {
         let Some(seat) = &self.seat else {
             return NO_SEAT;

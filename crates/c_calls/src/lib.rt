@@ -1,5 +1,11 @@
-//! The calls of a seat at a semaphore table or a notify list for callers outside Rattle: the seat is kept in a
-//! cell on the heap, and each call answers a code. `parklot_c` exports them.
+//! The calls of a seat at a semaphore table or a notify list for callers outside Rattle, after `TaskTable` of
+//! `sema_table` and `TaskList` of `notify_list`, whose calls have Go's functions' rows. `parklot_c` exports them.
+//!
+//! The seat is kept in a cell on the heap, with its share of the table or list, and a caller has a handle of 16
+//! bytes. Each call answers a code ([`codes`]): that of the table's or list's answer, that of its refusal, or
+//! `NO_SEAT` where the handle has none. Making a table or list takes all memory that is ever taken: 1 to 256
+//! seats, for one handle each; `NO_MEMORY`, or the code of the limit that isn't kept, and no handle is touched.
+//! A call that wakes many asks for room for 256 numbers (`ROOM`). No call waits.
 #![tactic(auto)]
 
 mod answers;
@@ -15,9 +21,10 @@ mod list_answers;
 mod list_calls;
 pub mod list_deal;
 mod list_place;
+mod numbers;
 mod parts;
 mod place;
-mod some;
+mod wake_some;
 
 pub use cell::Cell;
 pub use handle::SeatHandle;

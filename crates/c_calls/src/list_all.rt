@@ -7,11 +7,9 @@ ghost use Rattle.c_calls.specs.ListAnswers.{NotifiesOrGoesOn, NamesAll};
 
 use crate::codes::{DONE, NO_SEAT, ROOM};
 use crate::list_place::ListPlace;
-use crate::{list_answers, some};
+use crate::numbers::MOST_WOKEN;
+use crate::{list_answers, numbers};
 use notify_list::{NotifiedAll, TaskRefused, TaskStage};
-
-/// How many seats wait at a list at most.
-const MOST_WOKEN: usize = 256;
 
 /// The code of a notification of all; the numbers of the seats that were woken are told.
 fn tell_all(answer: Result<NotifiedAll, TaskRefused>, woken: &mut [u32], count: &mut u32) -> u32
@@ -21,7 +19,7 @@ fn tell_all(answer: Result<NotifiedAll, TaskRefused>, woken: &mut [u32], count: 
 {
     match answer {
         Ok(all) => {
-            some::write(all.seats.as_slice(), woken);
+            numbers::write(all.seats.as_slice(), woken);
             *count = all.seats.len() as u32;
             DONE
         }

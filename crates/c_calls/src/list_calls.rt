@@ -42,9 +42,8 @@ fn tell_one(answer: Result<Option<Notified>, TaskRefused>, woken: &mut u32) -> u
 
 impl ListPlace {
     /// Which seat of its list it is.
-    pub fn number(&mut self, number: &mut u32) -> u32
-        ensures same { self.new.seat ≡ self.old.seat }
-        ensures told { TellsNumber (λ s. s.seat.number) self.old.seat result number.new }
+    pub fn number(&self, number: &mut u32) -> u32
+        ensures { TellsNumber (λ s. s.seat.number) self.now.seat result number.new }
     {
         let Some(seat) = &self.seat else {
             return NO_SEAT;
@@ -54,9 +53,8 @@ impl ListPlace {
     }
 
     /// Whether the seat may be freed: OK, or why not.
-    pub fn may_leave(&mut self) -> u32
-        ensures same { self.new.seat ≡ self.old.seat }
-        ensures why { MayLeave (λ s. s.stage) Resting self.old.seat result }
+    pub fn may_leave(&self) -> u32
+        ensures { MayLeave (λ s. s.stage) Resting self.now.seat result }
     {
         let Some(seat) = &self.seat else {
             return NO_SEAT;

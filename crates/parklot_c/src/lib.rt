@@ -1,5 +1,11 @@
 //! The semaphore table and the notify list for programs in C, C++ and Rust: each call of `c_calls` as an
-//! export.
+//! export, `parklot_` of a table and `parklot_list_` of a list. `bindings/parklot.h` and `parklot_list.h`
+//! declare them, and say what a caller keeps.
+//!
+//! No export has a `requires`: a handle without a seat, or with one of the other kind, a counter that isn't
+//! there and a call out of turn have a code (`NO_SEAT`, `NO_COUNTER`, `OTHER_CALL`), and nothing is done.
+//! Limits are those of the table and the list: 1 to 65,536 counters, 1 to 256 seats, 1 to 251 roots, 1 to 2^40
+//! units that a seat may add. No call waits, and none calls the kernel.
 #![tactic(auto)]
 
 ghost use Rattle.sema_table.specs.Tasks.{TriesByTask, PostsByTask};
@@ -8,7 +14,7 @@ ghost use Rattle.sema_table.specs.Tasks.{EntersByTask, PollsByTask};
 ghost use Rattle.sema_table.specs.Tasks.{RetriesByTask, WakesByTask, WakesSomeByTask};
 ghost use Rattle.sema_table.specs.declared.task_seat.TaskStage.TheVariants.{Resting};
 ghost use Rattle.std.specs.Prelude.{◌≡◌, ◌⊎◌};
-ghost use Rattle.c_calls.specs.Handles.{table_seat};
+ghost use Rattle.c_calls.specs.Handles.{table_seat, list_seat};
 ghost use Rattle.c_calls.specs.Codes.{refused_code, tried_code, entered_code, polled_code};
 ghost use Rattle.c_calls.specs.Codes.{retried_code, posted_code, wake_code};
 ghost use Rattle.c_calls.specs.Codes.{told, done};
@@ -45,12 +51,14 @@ pub extern "C" fn parklot_new(
 /// Frees a seat that rests. The table goes with the last of its seats.
 #[unsafe(no_mangle)]
 pub extern "C" fn parklot_free(alloc: Global, seat: &mut SeatHandle) -> u32
-    ensures { Frees (λ s. s.stage) Resting (table_seat seat.old) result (table_seat seat.new) }
+    ensures other { list_seat seat.new ≡ list_seat seat.old }
+    ensures answer { Frees (λ s. s.stage) Resting (table_seat seat.old) result (table_seat seat.new) }
 {
     if !seat.is_full {
         return NO_SEAT;
     }
     let Kept::OfTable(place) = seat.cell.place() else {
+        // A list's seat stays: that is for `parklot_list_free`.
         return NO_SEAT;
     };
     let code = place.may_leave();
@@ -63,6 +71,7 @@ pub extern "C" fn parklot_free(alloc: Global, seat: &mut SeatHandle) -> u32
 /// Which seat of its table it is.
 #[unsafe(no_mangle)]
 pub extern "C" fn parklot_number(seat: &mut SeatHandle, number: &mut u32) -> u32
+    ensures other { list_seat seat.new ≡ list_seat seat.old }
     ensures same { table_seat seat.new ≡ table_seat seat.old }
     ensures told { TellsNumber (λ s. s.seat.number) (table_seat seat.old) result number.new }
 {
@@ -78,7 +87,8 @@ pub extern "C" fn parklot_number(seat: &mut SeatHandle, number: &mut u32) -> u32
 /// Takes a unit if there is one: TAKEN, ZERO or LOST.
 #[unsafe(no_mangle)]
 pub extern "C" fn parklot_try_acquire(seat: &mut SeatHandle, counter: u32) -> u32
-    ensures { Answers refused_code tried_code (λ s. TriesByTask s counter)
+    ensures other { list_seat seat.new ≡ list_seat seat.old }
+    ensures answer { Answers refused_code tried_code (λ s. TriesByTask s counter)
         (table_seat seat.old) result (table_seat seat.new) }
 {
     if !seat.is_full {
@@ -93,7 +103,8 @@ pub extern "C" fn parklot_try_acquire(seat: &mut SeatHandle, counter: u32) -> u3
 /// Goes to the lock of the counter's root, and sleeps if there is no unit: TAKEN, ASLEEP or BUSY.
 #[unsafe(no_mangle)]
 pub extern "C" fn parklot_enter(seat: &mut SeatHandle, counter: u32, lifo: bool) -> u32
-    ensures { Answers refused_code entered_code (λ s. EntersByTask s counter lifo)
+    ensures other { list_seat seat.new ≡ list_seat seat.old }
+    ensures answer { Answers refused_code entered_code (λ s. EntersByTask s counter lifo)
         (table_seat seat.old) result (table_seat seat.new) }
 {
     if !seat.is_full {
@@ -108,7 +119,8 @@ pub extern "C" fn parklot_enter(seat: &mut SeatHandle, counter: u32, lifo: bool)
 /// Looks whether the wait of a seat that sleeps was granted: ASLEEP, WOKEN or HANDED.
 #[unsafe(no_mangle)]
 pub extern "C" fn parklot_poll(seat: &mut SeatHandle) -> u32
-    ensures { Answers refused_code polled_code PollsByTask
+    ensures other { list_seat seat.new ≡ list_seat seat.old }
+    ensures answer { Answers refused_code polled_code PollsByTask
         (table_seat seat.old) result (table_seat seat.new) }
 {
     if !seat.is_full {
@@ -123,7 +135,8 @@ pub extern "C" fn parklot_poll(seat: &mut SeatHandle) -> u32
 /// The try of a seat that was woken: TAKEN, or ZERO, and then it enters again.
 #[unsafe(no_mangle)]
 pub extern "C" fn parklot_retry(seat: &mut SeatHandle) -> u32
-    ensures { Answers refused_code retried_code RetriesByTask
+    ensures other { list_seat seat.new ≡ list_seat seat.old }
+    ensures answer { Answers refused_code retried_code RetriesByTask
         (table_seat seat.old) result (table_seat seat.new) }
 {
     if !seat.is_full {
@@ -138,7 +151,8 @@ pub extern "C" fn parklot_retry(seat: &mut SeatHandle) -> u32
 /// Adds a unit: DONE, OWES or LIMIT.
 #[unsafe(no_mangle)]
 pub extern "C" fn parklot_post(seat: &mut SeatHandle, counter: u32) -> u32
-    ensures { Answers refused_code posted_code (λ s. PostsByTask s counter)
+    ensures other { list_seat seat.new ≡ list_seat seat.old }
+    ensures answer { Answers refused_code posted_code (λ s. PostsByTask s counter)
         (table_seat seat.old) result (table_seat seat.new) }
 {
     if !seat.is_full {
@@ -153,7 +167,8 @@ pub extern "C" fn parklot_post(seat: &mut SeatHandle, counter: u32) -> u32
 /// Adds so many units at once: DONE, OWES, LIMIT or UNITS.
 #[unsafe(no_mangle)]
 pub extern "C" fn parklot_post_many(seat: &mut SeatHandle, counter: u32, units: u32) -> u32
-    ensures { Answers refused_code posted_code (λ s. PostsManyByTask s counter units)
+    ensures other { list_seat seat.new ≡ list_seat seat.old }
+    ensures answer { Answers refused_code posted_code (λ s. PostsManyByTask s counter units)
         (table_seat seat.old) result (table_seat seat.new) }
 {
     if !seat.is_full {
@@ -169,7 +184,8 @@ pub extern "C" fn parklot_post_many(seat: &mut SeatHandle, counter: u32, units: 
 /// HANDED or BUSY.
 #[unsafe(no_mangle)]
 pub extern "C" fn parklot_wake(seat: &mut SeatHandle, handoff: bool, woken: &mut u32) -> u32
-    ensures { Answers refused_code wake_code
+    ensures other { list_seat seat.new ≡ list_seat seat.old }
+    ensures answer { Answers refused_code wake_code
         (Telling (NamesWoken woken.new) (λ s. WakesByTask s handoff))
         (table_seat seat.old) result (table_seat seat.new) }
 {
@@ -190,7 +206,8 @@ pub extern "C" fn parklot_wake_some(
     woken: &mut [u32],
     count: &mut u32,
 ) -> u32
-    ensures { LacksRoom woken.old (table_seat seat.old) result (table_seat seat.new)
+    ensures other { list_seat seat.new ≡ list_seat seat.old }
+    ensures answer { LacksRoom woken.old (table_seat seat.old) result (table_seat seat.new)
         ⊎ Answers refused_code done (Telling (NamesEach woken.new count.new) WakesSomeByTask)
         (table_seat seat.old) result (table_seat seat.new) }
 {
@@ -206,7 +223,8 @@ pub extern "C" fn parklot_wake_some(
 /// The number of a counter.
 #[unsafe(no_mangle)]
 pub extern "C" fn parklot_value(seat: &mut SeatHandle, counter: u32, value: &mut u64) -> u32
-    ensures { Answers refused_code told (Telling (λ n. value.new ≡ n) (λ s. ReadsByTask s counter))
+    ensures other { list_seat seat.new ≡ list_seat seat.old }
+    ensures answer { Answers refused_code told (Telling (λ n. value.new ≡ n) (λ s. ReadsByTask s counter))
         (table_seat seat.old) result (table_seat seat.new) }
 {
     if !seat.is_full {
@@ -225,7 +243,8 @@ pub extern "C" fn parklot_waiters_of_root(
     counter: u32,
     waits: &mut u64,
 ) -> u32
-    ensures { Answers refused_code told (Telling (λ n. waits.new ≡ n) (λ s. CountsByTask s counter))
+    ensures other { list_seat seat.new ≡ list_seat seat.old }
+    ensures answer { Answers refused_code told (Telling (λ n. waits.new ≡ n) (λ s. CountsByTask s counter))
         (table_seat seat.old) result (table_seat seat.new) }
 {
     if !seat.is_full {

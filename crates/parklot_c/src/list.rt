@@ -3,7 +3,7 @@ ghost use Rattle.std.specs.Prelude.{◌≡◌, ◌⊎◌};
 ghost use Rattle.notify_list.specs.Tasks.{AddsByTask, LooksByTask};
 ghost use Rattle.notify_list.specs.Tasks.{EntersByTask, PollsByTask, NotifiesOneByTask};
 ghost use Rattle.notify_list.specs.declared.task_seat.TaskStage.TheVariants.{Resting};
-ghost use Rattle.c_calls.specs.Handles.{list_seat};
+ghost use Rattle.c_calls.specs.Handles.{table_seat, list_seat};
 ghost use Rattle.c_calls.specs.Codes.{told, done};
 ghost use Rattle.c_calls.specs.ListCodes.{refused_code, entered_code, polled_code, one_code};
 ghost use Rattle.c_calls.specs.Answers.{Answers, Telling, LacksRoom, TellsNumber, Frees};
@@ -26,7 +26,8 @@ pub extern "C" fn parklot_list_new(alloc: Global, first: u64, seats: &mut [SeatH
 /// Frees a seat that rests. The list goes with the last of its seats.
 #[unsafe(no_mangle)]
 pub extern "C" fn parklot_list_free(alloc: Global, seat: &mut SeatHandle) -> u32
-    ensures { Frees (λ s. s.stage) Resting (list_seat seat.old) result (list_seat seat.new) }
+    ensures other { table_seat seat.new ≡ table_seat seat.old }
+    ensures answer { Frees (λ s. s.stage) Resting (list_seat seat.old) result (list_seat seat.new) }
 {
     if !seat.is_full {
         return NO_SEAT;
@@ -44,6 +45,7 @@ pub extern "C" fn parklot_list_free(alloc: Global, seat: &mut SeatHandle) -> u32
 /// Which seat of its list it is.
 #[unsafe(no_mangle)]
 pub extern "C" fn parklot_list_number(seat: &mut SeatHandle, number: &mut u32) -> u32
+    ensures other { table_seat seat.new ≡ table_seat seat.old }
     ensures same { list_seat seat.new ≡ list_seat seat.old }
     ensures told { TellsNumber (λ s. s.seat.number) (list_seat seat.old) result number.new }
 {
@@ -59,7 +61,8 @@ pub extern "C" fn parklot_list_number(seat: &mut SeatHandle, number: &mut u32) -
 /// Takes the next ticket, which is told: the seat's next call is `parklot_list_try_wait`.
 #[unsafe(no_mangle)]
 pub extern "C" fn parklot_list_add(seat: &mut SeatHandle, ticket: &mut u64) -> u32
-    ensures { Answers refused_code told (Telling (λ word. ticket.new ≡ word) AddsByTask)
+    ensures other { table_seat seat.new ≡ table_seat seat.old }
+    ensures answer { Answers refused_code told (Telling (λ word. ticket.new ≡ word) AddsByTask)
         (list_seat seat.old) result (list_seat seat.new) }
 {
     if !seat.is_full {
@@ -74,7 +77,8 @@ pub extern "C" fn parklot_list_add(seat: &mut SeatHandle, ticket: &mut u64) -> u
 /// Waits with the ticket: AT_ONCE, PARKED or BUSY, and then the seat has its ticket still.
 #[unsafe(no_mangle)]
 pub extern "C" fn parklot_list_try_wait(seat: &mut SeatHandle) -> u32
-    ensures { Answers refused_code entered_code EntersByTask
+    ensures other { table_seat seat.new ≡ table_seat seat.old }
+    ensures answer { Answers refused_code entered_code EntersByTask
         (list_seat seat.old) result (list_seat seat.new) }
 {
     if !seat.is_full {
@@ -89,7 +93,8 @@ pub extern "C" fn parklot_list_try_wait(seat: &mut SeatHandle) -> u32
 /// Looks whether the wait of a seat that is parked was granted: ASLEEP or WOKEN.
 #[unsafe(no_mangle)]
 pub extern "C" fn parklot_list_poll(seat: &mut SeatHandle) -> u32
-    ensures { Answers refused_code polled_code PollsByTask
+    ensures other { table_seat seat.new ≡ table_seat seat.old }
+    ensures answer { Answers refused_code polled_code PollsByTask
         (list_seat seat.old) result (list_seat seat.new) }
 {
     if !seat.is_full {
@@ -105,7 +110,8 @@ pub extern "C" fn parklot_list_poll(seat: &mut SeatHandle) -> u32
 /// number told. NOBODY, GRANTED, ONE or BUSY.
 #[unsafe(no_mangle)]
 pub extern "C" fn parklot_list_one(seat: &mut SeatHandle, woken: &mut u32) -> u32
-    ensures { Answers refused_code one_code (Telling (NamesGranted woken.new) NotifiesOneByTask)
+    ensures other { table_seat seat.new ≡ table_seat seat.old }
+    ensures answer { Answers refused_code one_code (Telling (NamesGranted woken.new) NotifiesOneByTask)
         (list_seat seat.old) result (list_seat seat.new) }
 {
     if !seat.is_full {
@@ -121,7 +127,8 @@ pub extern "C" fn parklot_list_one(seat: &mut SeatHandle, woken: &mut u32) -> u3
 /// BUSY: then it is called again, and goes on.
 #[unsafe(no_mangle)]
 pub extern "C" fn parklot_list_all(seat: &mut SeatHandle, woken: &mut [u32], count: &mut u32) -> u32
-    ensures { LacksRoom woken.old (list_seat seat.old) result (list_seat seat.new)
+    ensures other { table_seat seat.new ≡ table_seat seat.old }
+    ensures answer { LacksRoom woken.old (list_seat seat.old) result (list_seat seat.new)
         ⊎ Answers refused_code done (Telling (NamesAll woken.new count.new) NotifiesOrGoesOn)
         (list_seat seat.old) result (list_seat seat.new) }
 {
@@ -137,7 +144,8 @@ pub extern "C" fn parklot_list_all(seat: &mut SeatHandle, woken: &mut [u32], cou
 /// Looks whether all tickets are granted.
 #[unsafe(no_mangle)]
 pub extern "C" fn parklot_list_quiet(seat: &mut SeatHandle, quiet: &mut bool) -> u32
-    ensures { Answers refused_code told (Telling (λ equal. quiet.new ≡ equal) LooksByTask)
+    ensures other { table_seat seat.new ≡ table_seat seat.old }
+    ensures answer { Answers refused_code told (Telling (λ equal. quiet.new ≡ equal) LooksByTask)
         (list_seat seat.old) result (list_seat seat.new) }
 {
     if !seat.is_full {

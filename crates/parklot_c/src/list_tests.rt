@@ -1,8 +1,8 @@
 //! Each export of a list, by the codes that it answers, as in `tests.rt`.
 
 use crate::list::*;
-use crate::parklot_number;
 use crate::tests::{is, is_refused};
+use crate::{parklot_free, parklot_number};
 use c_calls::SeatHandle;
 use c_calls::codes::*;
 use std::alloc::Global;
@@ -129,6 +129,7 @@ fn handle_of_a_list_has_no_seat_at_a_table(rt: HostRuntime) {
     };
     let mut number = 9;
     is(&rt, parklot_number(&mut one, &mut number), NO_SEAT);
+    is(&rt, parklot_free(rt.alloc(), &mut one), NO_SEAT);
     free(&rt, rt.alloc(), &mut one);
     free(&rt, rt.alloc(), &mut two);
 }

@@ -1,26 +1,14 @@
 //! The rest of a release of many units.
-ghost use Rattle.std.specs.Prelude.{◌≡◌, ◌⊎◌, ◌≤◌, length, take, IfOk};
+ghost use Rattle.std.specs.Prelude.{◌≡◌, ◌⊎◌, ◌≤◌, length, IfOk};
 ghost use Rattle.sema_table.specs.Tasks.{WakesSomeByTask};
 ghost use Rattle.c_calls.specs.Codes.{done, code_of, refused_code};
 ghost use Rattle.c_calls.specs.Answers.{Answers, Telling, NamesEach, LacksRoom};
 
-use crate::answers;
 use crate::codes::{DONE, NO_SEAT, ROOM};
+use crate::numbers::MOST_WOKEN;
 use crate::place::Place;
+use crate::{answers, numbers};
 use sema_table::{TaskRefused, WokenSeats};
-
-/// How many seats a release of many units wakes at most, which is as many units as it may add.
-const MOST_WOKEN: usize = 256;
-
-/// Writes the numbers to the beginning of the room.
-pub fn write(seats: &[u16], room: &mut [u32])
-    requires { length seats.now ≤ length room.old }
-    ensures { take (length seats.now) room.new ≡ seats.now }
-{
-    for at in 0..seats.len() {
-        room[at] = u32::from(seats[at]);
-    }
-}
 
 /// The code of a wake of many; the numbers of the seats that were woken are told.
 fn tell_some(answer: Result<WokenSeats, TaskRefused>, woken: &mut [u32], count: &mut u32) -> u32
@@ -30,7 +18,7 @@ fn tell_some(answer: Result<WokenSeats, TaskRefused>, woken: &mut [u32], count: 
 {
     match answer {
         Ok(seats) => {
-            write(seats.as_slice(), woken);
+            numbers::write(seats.as_slice(), woken);
             *count = seats.len() as u32;
             DONE
         }
