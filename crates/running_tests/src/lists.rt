@@ -1,5 +1,6 @@
 //! The tests of `notify_list`.
 
+mod attempt_tests;
 mod crew;
 mod given;
 mod order_tests;

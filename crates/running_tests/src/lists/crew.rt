@@ -1,9 +1,10 @@
-//! Threads that wait on a list again and again, one for each seat but the last, which notifies.
+//! Threads that wait on a list again and again, one for each seat but the last, which notifies. Those of even
+//! numbers poll, and the others sleep.
 
 ghost use Rattle.std.specs.Prelude.{◌≡◌, All, IfSome};
 
 use crate::lists::given::last_seat;
-use notify_list::{ListSeat, NotifyList};
+use notify_list::{Entered, Holding, ListSeat, NotifyList, OwingAll, Parked, Polled};
 use std::alloc::Global;
 use std::process::Abort;
 use std::sync::Wait;
@@ -18,6 +19,9 @@ pub(crate) const ROUNDS: u64 = 10_000;
 pub(crate) enum Way {
     OneByOne,
     All,
+    /// The same by the calls that don't wait for the list's lock.
+    TryOne,
+    TryAll,
 }
 
 /// What a thread hands back: a seat of this list.
@@ -33,6 +37,39 @@ impl<'l> Promise<ListSeat> for Back<'l> {
 /// A thread that waits for a seat.
 type Waiter<'l> = PromisedHandle<ListSeat, Back<'l>>;
 
+/// Looks for the grant of a queued wait until it is there.
+fn polls_on<R: Wait>(rt: &R, list: &NotifyList, parked: Parked) -> ListSeat
+    requires { parked.list ≡ list.now }
+    ensures { result.list ≡ list.now }
+{
+    let mut parked = parked;
+    for _ in rt.forever() {
+        match list.poll(parked) {
+            Polled::Granted(seat) => return seat,
+            Polled::Still(still) => parked = still,
+        }
+        thread::yield_now();
+    }
+    unreachable!()
+}
+
+/// Waits with the ticket, and never sleeps.
+fn waits_awake<R: Wait>(rt: &R, list: &NotifyList, holding: Holding) -> ListSeat
+    requires { holding.list ≡ list.now }
+    ensures { result.list ≡ list.now }
+{
+    let mut holding = holding;
+    for _ in rt.forever() {
+        match list.try_wait(holding) {
+            Ok(Entered::AtOnce(seat)) => return seat,
+            Ok(Entered::Queued(parked)) => return polls_on(rt, list, parked),
+            Err(kept) => holding = kept,
+        }
+        thread::yield_now();
+    }
+    unreachable!()
+}
+
 /// Takes a ticket and waits with it, so many times.
 fn waits_on<R: Wait>(rt: &R, list: &NotifyList, seat: ListSeat) -> ListSeat
     requires { seat.list ≡ list.now }
@@ -40,21 +77,53 @@ fn waits_on<R: Wait>(rt: &R, list: &NotifyList, seat: ListSeat) -> ListSeat
 {
     let mut seat = seat;
     for _ in 0..ROUNDS {
+        let polls = seat.id().number() % 2 == 0;
         let holding = list.add(seat);
-        (seat, _) = list.wait(rt, holding);
+        seat = if polls {
+            waits_awake(rt, list, holding)
+        } else {
+            list.wait(rt, holding).0
+        };
     }
     seat
 }
 
-/// How many tickets one call grants.
-fn granted<R: Wait>(rt: &R, list: &NotifyList, seat: &mut ListSeat, way: Way) -> u64
-    requires { seat.old.list ≡ list.now }
-    ensures { seat.new.list ≡ list.now }
+/// Goes on with a notification of all to its end: how many tickets it granted.
+fn ends_all<R: Wait>(rt: &R, list: &NotifyList, owing: OwingAll) -> (ListSeat, u64)
+    requires { owing.list ≡ list.now }
+    ensures { result.0.list ≡ list.now }
 {
-    match way {
-        Way::OneByOne => u64::from(list.one(rt, seat).is_some()),
-        Way::All => u64::from(list.all(rt, seat)),
+    let mut owing = owing;
+    for _ in rt.forever() {
+        match list.retry_all(owing) {
+            Ok((seat, all)) => return (seat, u64::from(all.tickets)),
+            Err(kept) => owing = kept,
+        }
     }
+    unreachable!()
+}
+
+/// How many tickets one call grants.
+fn granted<R: Wait>(rt: &R, list: &NotifyList, seat: ListSeat, way: Way) -> (ListSeat, u64)
+    requires { seat.list ≡ list.now }
+    ensures { result.0.list ≡ list.now }
+{
+    let mut seat = seat;
+    let tickets = match way {
+        Way::OneByOne => u64::from(list.one(rt, &mut seat).is_some()),
+        Way::All => u64::from(list.all(rt, &mut seat)),
+        Way::TryOne => match list.try_one(&mut seat) {
+            Ok(notified) => u64::from(notified.is_some()),
+            Err(_busy) => 0,
+        },
+        Way::TryAll => {
+            return match list.try_all(seat) {
+                Ok((seat, all)) => (seat, u64::from(all.tickets)),
+                Err(owing) => ends_all(rt, list, owing),
+            };
+        }
+    };
+    (seat, tickets)
 }
 
 /// Notifies until so many tickets were granted.
@@ -74,7 +143,9 @@ fn notifies_on<R: Wait>(
         if left == 0 {
             break;
         }
-        left = left.saturating_sub(granted(rt, list, &mut seat, way));
+        let (back, tickets) = granted(rt, list, seat, way);
+        seat = back;
+        left = left.saturating_sub(tickets);
     }
     seat
 }

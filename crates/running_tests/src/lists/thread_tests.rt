@@ -115,7 +115,7 @@ fn all_come_back_again<R: Abort + Threads + Wait + Sync>(rt: &R, alloc: Global, 
 
 #[test]
 fn all_come_back_that_are_notified_one_by_one_or_together(rt: HostRuntime) {
-    for way in [Way::OneByOne, Way::All] {
+    for way in [Way::OneByOne, Way::All, Way::TryOne, Way::TryAll] {
         all_come_back_again(&rt, rt.alloc(), way);
     }
 }

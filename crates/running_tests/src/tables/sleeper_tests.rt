@@ -1,4 +1,5 @@
-//! Threads that sleep on one counter, until units are added to it many at once.
+//! Threads that sleep on one counter, until units are added to it, one by one and many at once, by calls that
+//! wait for the root's lock and by such that don't.
 //!
 //! There are more of them than processors, and the units come once all have slept for a while: who is granted
 //! a unit and isn't roused then sleeps for good, and the test with it.
@@ -6,7 +7,7 @@
 ghost use Rattle.std.specs.Prelude.{◌≡◌, ◌<◌, length, All, IfOk};
 
 use crate::tables::given::{adds, holds, last_seat, made, one_counter, value, waiters};
-use sema_table::{Seat, SemaTable};
+use sema_table::{Owing, OwingMany, Posted, PostedMany, Seat, SemaTable};
 use sema_table_crew::Start;
 use std::alloc::Global;
 use std::process::Abort;
@@ -70,15 +71,74 @@ fn lets_all_sleep<R: Abort + Clock + Wait>(rt: &R, table: &SemaTable, seat: &mut
     thread::sleep(rt, Duration::from_millis(WHILE));
 }
 
-/// Units for four of the sleepers, and then for the others, once all sleep.
+/// The rest of a release, tried until the lock is free.
+fn wakes_one<R: Wait>(rt: &R, table: &SemaTable, owing: Owing, handoff: bool) -> Seat
+    requires { owing.table ≡ table.now }
+    ensures { result.table ≡ table.now }
+{
+    let mut owing = owing;
+    for _ in rt.forever() {
+        match table.try_wake(owing, handoff) {
+            Ok((seat, _wake)) => return seat,
+            Err(kept) => owing = kept,
+        }
+        thread::yield_now();
+    }
+    unreachable!()
+}
+
+/// The rest of a release of many units, tried until the lock is free.
+fn wakes_some<R: Wait>(rt: &R, table: &SemaTable, owing: OwingMany) -> Seat
+    requires { owing.table ≡ table.now }
+    ensures { result.table ≡ table.now }
+{
+    let mut owing = owing;
+    for _ in rt.forever() {
+        match table.try_wake_some(owing) {
+            Ok((seat, _woken)) => return seat,
+            Err(kept) => owing = kept,
+        }
+        thread::yield_now();
+    }
+    unreachable!()
+}
+
+/// One unit for a sleeper.
+fn adds_one<R: Abort + Wait>(rt: &R, table: &SemaTable, seat: Seat, handoff: bool) -> Seat
+    requires { (seat.table ≡ table.now) × (0 < length table.now.setting.starts) }
+    ensures { result.table ≡ table.now }
+{
+    match table.post(seat, CounterId::new(0)) {
+        Ok(Posted::Owes(owing)) => wakes_one(rt, table, owing, handoff),
+        Ok(Posted::Done(_seat)) => panic!(rt; "nobody sleeps"),
+        Err(_refused) => panic!(rt; "no unit was added"),
+    }
+}
+
+/// Three units at once.
+fn adds_three<R: Abort + Wait>(rt: &R, table: &SemaTable, seat: Seat) -> Seat
+    requires { (seat.table ≡ table.now) × (0 < length table.now.setting.starts) }
+    ensures { result.table ≡ table.now }
+{
+    match table.post_many(seat, CounterId::new(0), 3) {
+        Ok(PostedMany::Owes(owing)) => wakes_some(rt, table, owing),
+        Ok(PostedMany::Done(_seat)) => panic!(rt; "nobody sleeps"),
+        Err(_refused) => panic!(rt; "no units were added"),
+    }
+}
+
+/// A unit for each of the sleepers, once all sleep: for five of them by calls that don't wait, and for the others
+/// at once.
 fn wakes_all<R: Abort + Clock + Wait>(rt: &R, table: &SemaTable, seat: Seat) -> Seat
     requires { (seat.table ≡ table.now) × (0 < length table.now.setting.starts) }
     ensures { result.table ≡ table.now }
 {
     let mut seat = seat;
     lets_all_sleep(rt, table, &mut seat);
-    let seat = adds(rt, table, seat, 0, 4);
-    adds(rt, table, seat, 0, SLEEPERS - 4)
+    let seat = adds_one(rt, table, seat, false);
+    let seat = adds_one(rt, table, seat, true);
+    let seat = adds_three(rt, table, seat);
+    adds(rt, table, seat, 0, SLEEPERS - 5)
 }
 
 /// Sleepers at these seats, who are woken by another, and have ended.
