@@ -51,13 +51,6 @@ free_look (Fails misuse) e = (refl, tt)
 free_look Acquires e = absurd (cc)
 free_look (Releases n) e = (refl, tt)
 
-pub free_adds : (next : GroupNext) (d : ℤ) → is_free next ≡ true → Follows next (G1 d)
-free_adds Ends d e = tt
-free_adds (Goes row) d e = absurd (cc)
-free_adds (Fails misuse) d e = tt
-free_adds Acquires d e = absurd (cc)
-free_adds (Releases n) d e = tt
-
 -- a wait is to look, after exchanges that were lost
 pub record LooksOn (s : Token) (first : GroupRow) (t : Token) : Type 0 where
   pub before : List GroupStep
@@ -82,9 +75,6 @@ leads_on word some = by (int_eq word.counter (pos 0)) refl
     by : (b : Bool) → int_eq word.counter (pos 0) ≡ b → (if b then Ends else Goes (V2 word)) ≡ Goes (V2 word)
     by true e = absurd (some ((Decides-int_eq word.counter (pos 0)).0 e))
     by false e = refl
-
-pub lost_follows : (next : GroupNext) → next ≡ Goes V1 → Follows next (load_row next)
-lost_follows next at = subst (λ (k : GroupNext). Follows k (load_row k)) (sym at) refl
 
 -- a further look
 module _ (s : Token) (first : GroupRow) (t u : Token) (x : LooksOn s first t) (word : GroupWord) (y : Steps t (load_row t.me.0.own.knows.next) word u) where
@@ -182,10 +172,6 @@ zero_at_once s free word zero t y = finds_zero s V1 s t
 pub first_look : (s : Token) → is_free s.me.0.own.knows.next ≡ true → (word : GroupWord) → (t : Token)
     → Steps s (load_row s.me.0.own.knows.next) word t → Steps s V1 word t
 first_look s free word t y = subst (λ (row : GroupRow). Steps s row word t) (free_look s.me.0.own.knows.next free).0 y
-
-pub goes_to_count : (s : Token) (word : GroupWord) (t : Token) → word.counter ≢ pos 0 → Steps s V1 word t
-    → t.me.0.own.knows.next ≡ Goes (V2 word)
-goes_to_count s word t some y = ap (λ (m : Me). m.0.own.knows.next) y.me_is ∙ leads_on word some
 
 -- a wait that found 0 was never counted
 pub uncounted : (s t : Token) (a : SeatModel) → FindsZero s V1 t → IsUncounted (group_seat_of s a) (group_seat_of t a)

@@ -2,9 +2,9 @@
 //! over a counter, a condition variable, and a wait group.
 //!
 //! A [`SemaLock`] locks by an acquire of one unit and unlocks by a release of one (`semacquire1` and
-//! `semrelease1` of Go's `runtime/sema.go`). While it is held it spins for some microseconds before it
-//! sleeps, as Go's `sync.Mutex` does, and lets other threads run meanwhile. Its counter is to start at 1 and
-//! to be used by such locks alone: then of two locks that meet at most one is held.
+//! `semrelease1` of Go's `runtime/sema.go`). Where another holds it, it looks for some two hundred
+//! microseconds at most before it sleeps, as Go's `sync.Mutex` spins, and doesn't give its processor away. Its
+//! counter is to start at 1 and to be used by such locks alone: then of two locks that meet at most one is held.
 //!
 //! A lock keeps a seat of the table, so there are as many locks as seats, 256 at most, and each unlocks as
 //! often as its seat may release, 2^40 times at most: [`SemaLock::left`] tells how often yet. One that is
