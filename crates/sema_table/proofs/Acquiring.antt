@@ -209,11 +209,6 @@ module _ (s t : SeatModel) (a : Acquire) (turn : ℕ) (parks : ParksLast s a tur
         (ap (λ (q : SeatModel). q.number) e.0) at_woken woke.1.1.call
         (sleepless t.number w u (Acquiring a A10) more y))
 
-    stands_woken : (place : Place) (k : ℕ) → record w.sight.stands { place = place; turn = w.sight.stands.turn + k }
-        ≡ record s.sight.stands { place = place; turn = s.sight.stands.turn + x.times + k }
-    stands_woken place k = ap (λ (q : SeatState). record q { place = place; turn = q.turn + k })
-        (woke.0 ∙ ap (λ (q : SeatState). record q { place = Acquiring a A10 }) x.stands)
-
     turn_woken : w.sight.stands.turn ≡ s.sight.stands.turn + x.times
     turn_woken = ap (λ (q : SeatState). q.turn) (woke.0 ∙ ap (λ (q : SeatState). record q { place = Acquiring a A10 }) x.stands)
 

@@ -64,7 +64,7 @@ impl SemaTable {
         ensures caller { MatchResult result (λ done. WakesFirst owing handoff done.0 done.1)
             (λ refused. refused ≡ owing) }
     {
-        let counter = CounterId::new(owing.counter);
+        let counter = owing.counter;
         let tried = self.wake_silently(owing, handoff);
         if let Ok((seat, wake)) = &tried {
             self.rouse_woken(seat, counter, wake);
@@ -86,10 +86,7 @@ impl SemaTable {
             numbers,
             counter,
         } = owing;
-        let call = Release {
-            counter: CounterId::new(counter),
-            handoff,
-        };
+        let call = Release { counter, handoff };
         if !self.try_lock_released(&mut token, &call) {
             return Err(Owing {
                 token,

@@ -37,7 +37,7 @@ impl SemaTable {
             TaskPosted::Owes => Ok(Posted::Owes(Owing {
                 token,
                 numbers,
-                counter: counter.number(),
+                counter,
             })),
         }
     }

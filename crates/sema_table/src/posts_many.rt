@@ -34,15 +34,13 @@ impl SemaTable {
             return Err((seat, PostRefused::LimitReached));
         }
         let Seat { mut token, numbers } = seat;
-        let counter = counter.number();
         // By one add: by many, others would see only some of the units in between.
         self.words
-            .add::<AtAddMany>(&mut token, counter_word(counter), added);
+            .add::<AtAddMany>(&mut token, counter_word(counter.number()), added);
         let numbers = Numbers {
             left: numbers.left - added,
             ..numbers
         };
-        let counter = CounterId::new(counter);
         let word = self.waiter_word(counter);
         if self.words.load::<Here>(&mut token, word) == 0 {
             return Ok(PostedMany::Done(Seat { token, numbers }));

@@ -7,7 +7,7 @@ ghost use Rattle.sema_table.specs.Seats.{IsWaitOf};
 use crate::rows::Token;
 use std::marker::Model;
 use step_table::Acquire;
-use waiters::{SeatId, WaitId};
+use waiters::{CounterId, SeatId, WaitId};
 
 /// A seat between two calls.
 #[derive(Drop)]
@@ -45,7 +45,7 @@ impl Numbers {
 pub struct Owing {
     pub(crate) token: Token,
     pub(crate) numbers: Numbers,
-    pub(crate) counter: u32,
+    pub(crate) counter: CounterId,
 }
 
 /// A seat whose wait is queued. It must be spent, by `poll`.

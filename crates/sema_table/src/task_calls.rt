@@ -114,7 +114,8 @@ impl TaskTable {
         requires { seat.seat.table ≡ self.now }
         ensures { WakesByTask seat handoff result.1 result.0 }
     {
-        let Stage::Owing(counter) = seat.stage else {
+        let stage = seat.stage;
+        let Stage::Owing(counter) = stage else {
             return (seat, Err(TaskRefused::OtherCall));
         };
         let TaskSeat { token, numbers, .. } = seat;

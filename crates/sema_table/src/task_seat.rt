@@ -7,7 +7,7 @@ use crate::rows::Token;
 use crate::seat::{Numbers, Owing, Seat, Sleeping, Woken};
 use std::marker::Model;
 use step_table::{Acquire, ReleaseMany};
-use waiters::SeatId;
+use waiters::{CounterId, SeatId};
 
 /// A seat between two calls, or in the middle of one: one type for all, for a caller that keeps its seats
 /// in places of one type. One that is let go in the middle of a call leaves that call half done: units stay
@@ -24,7 +24,7 @@ pub struct TaskSeat {
 pub(crate) enum Stage {
     Resting,
     /// It has added a unit to this counter, and has yet to look for a wait.
-    Owing(u32),
+    Owing(CounterId),
     /// It has added many, and has yet to look for waits.
     OwingMany(ReleaseMany),
     /// Its wait of this turn is queued.

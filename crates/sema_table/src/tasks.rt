@@ -123,7 +123,7 @@ impl TaskTable {
         {
             TaskPosted::Done => Ok(TaskPosted::Done),
             TaskPosted::Owes => {
-                seat.stage = Stage::Owing(counter.number());
+                seat.stage = Stage::Owing(counter);
                 Ok(TaskPosted::Owes)
             }
         }

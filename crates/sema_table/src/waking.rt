@@ -35,7 +35,7 @@ impl SemaTable {
             numbers,
             counter,
         } = owing;
-        self.wake_at_lock(rt, token, numbers, CounterId::new(counter), handoff)
+        self.wake_at_lock(rt, token, numbers, counter, handoff)
     }
 
     /// The rows from R3 on.
