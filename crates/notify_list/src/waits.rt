@@ -15,7 +15,7 @@ use std::sync::Wait;
 use step_table::less;
 use waiters::{SeatId, WaitId};
 
-/// How long a seat looks for its grant. Where more than one ticket isn't granted it doesn't look.
+/// How long a seat looks for its grant. Where more than two tickets aren't granted it doesn't look.
 const PATIENCE: Patience = Patience {
     rounds: 10,
     looks: 100,

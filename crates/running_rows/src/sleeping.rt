@@ -41,8 +41,9 @@ pub struct Patience {
 pub enum GivesWay {
     /// It looks each time.
     Never,
-    /// Where the number of the first word is above that of the second by more than 1: many that look would
-    /// keep those that they wait for off the processors.
+    /// Where the number of the first word is above that of the second by more than 2: many that look would
+    /// keep those that they wait for off the processors. By 2 it is for a moment where two wait for each
+    /// other in turn.
     Crowded { ahead: usize, behind: usize },
 }
 
@@ -59,6 +60,8 @@ enum Looked {
 const PROBE: u64 = 256;
 /// So often halved, the looks are few.
 const HALVINGS: u64 = 8;
+/// So many waits are no crowd.
+const FEW: u64 = 2;
 
 impl Patience {
     /// How many looks a round has after so many waits in vain.
@@ -92,13 +95,13 @@ impl<S, V, T, K, R: Rows<S, V, T, K>> Running<S, View<V, T>, K, OneWorld<R>> {
         false
     }
 
-    /// Whether the numbers of two words, which go round, are more than 1 apart.
+    /// Whether the numbers of two words, which go round, are more than [`FEW`] apart.
     fn is_crowded(&self, _token: &Token<S, V, T>, ahead: usize, behind: usize) -> bool
         requires { (ahead < self.now.table.shared.table_id.words)
             × (behind < self.now.table.shared.table_id.words) }
     {
         let last = self.table.shared.peek(behind);
-        self.table.shared.peek(ahead).wrapping_sub(last) > 1
+        self.table.shared.peek(ahead).wrapping_sub(last) > FEW
     }
 
     /// Looks at a grant for as long as the thread has patience after so many waits in vain.
