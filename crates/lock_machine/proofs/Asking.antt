@@ -1,8 +1,7 @@
 -- What rows of the sleeping layer ask for holds in the machine of each reached world: no sum wraps, each word and list is
 -- stored, and what a seat's call is on is there. And so it does once a seat has begun the call of its line.
-use Rattle.std.proofs.Common.{◌≡◌, ℕ, ◌+◌, ◌^◌, ◌<◌, ◌≤◌, List, [], ◌∷◌, IfSome, Some, Ok, length, max, slice_get}
+use Rattle.std.proofs.Common.{◌≡◌, ℕ, ◌+◌, ◌^◌, ◌<◌, ◌≤◌, List, [], Some, Ok, length, max, slice_get}
 use Rattle.std.proofs.Common.{refl, sym, ap, ◌∙◌, subst, arith}
-use Rattle.waiters.specs.declared.wait.Wait.{Wait}
 use Rattle.waiters.specs.declared.wait.WaitId.{WaitId}
 use Rattle.lock_code.specs.declared.instruction.Instruction.{Instruction}
 use Rattle.lock_code.specs.declared.program.Program.{Program}
@@ -15,17 +14,18 @@ use Rattle.lock_steps.specs.World.{LockWorld, layer_of}
 use Rattle.lock_steps.proofs.Calling.{AllowedIf, may_begin}
 use Rattle.step_core.specs.State.{Machine, no_list, core_of, IsMachineFor, HasSeatOn}
 use Rattle.step_core.specs.State.{MayBegin, MayGoOn, MayGo, AsksFor}
+use Rattle.step_core.proofs.ListRanges.{nothing_held, first_held}
+use Rattle.step_core.proofs.Ranges.{grant_most, total_fewer, first_in_hand}
 use Rattle.step_law_alike.proofs.ChangedLists.{well_formed_list}
 use Rattle.step_law_lists.specs.ListInvariant.{HandFits}
 use Rattle.step_law_lists.specs.ListLawful.{times as times_on_list}
 use Rattle.step_law_lists.specs.ListWellFormed.{asleep_on_list, IsWellFormedList}
-use Rattle.step_law_lists.proofs.ListPlacing.{one_here, waiter_of}
+use Rattle.step_law_lists.proofs.ListPlacing.{waiter_of}
 use Rattle.step_law_lists.proofs.ListSleeping.{room}
 use Rattle.step_law_semaphores.specs.Invariant.{IsInvariant, Finds, asleep}
-use Rattle.step_law_semaphores.specs.Lawful.{IsGrantOf, AllBounded}
+use Rattle.step_law_semaphores.specs.Lawful.{AllBounded}
 use Rattle.step_law_semaphores.proofs.Bounding.{bounded}
 use Rattle.step_law_semaphores.proofs.Parking.{in_a_hand}
-use Rattle.step_law_semaphores.proofs.Placing.{same_here}
 use Rattle.step_law_semaphores.proofs.Resting.{asleep_most}
 use Rattle.step_law_whole.specs.CoreLaw.{IsCallBefore, IsStanding}
 use Rattle.step_law_whole.specs.TheCore.{MayCall}
@@ -40,7 +40,7 @@ use Rattle.step_table.specs.declared.list_place.AllRow.TheVariants.{L7}
 use Rattle.step_table.specs.declared.list_place.ListPlace.{ListPlace}
 use Rattle.step_table.specs.declared.list_place.ListPlace.TheVariants.{Waiting, NotifyingAll}
 use Rattle.step_table.specs.declared.list_place.WaitRow.TheVariants.{W2, W4}
-use Rattle.step_table.specs.declared.place.AcquireRow.TheVariants.{A7, P}
+use Rattle.step_table.specs.declared.place.AcquireRow.TheVariants.{A7}
 use Rattle.step_table.specs.declared.place.ManyRow.TheVariants.{M5}
 use Rattle.step_table.specs.declared.place.Place.{Place}
 use Rattle.step_table.specs.declared.place.Place.TheVariants.{Acquiring, Releasing, ReleasingMany}
@@ -52,36 +52,13 @@ use Rattle.step_table.specs.declared.standing.Standing.TheVariants.{Rest, AtCoun
 use Rattle.step_table.specs.declared.word.Word.{Word}
 use Rattle.step_table.specs.declared.word.Word.TheVariants.{Counter, Lock, Waiters, Grant}
 use Rattle.step_table.specs.Core.{Core, counters_of}
-use Rattle.step_table.specs.Counting.{total, times, IsWithin}
+use Rattle.step_table.specs.Counting.{total, IsWithin}
 use Rattle.step_table.specs.ListWorld.{ListWorld}
 use Rattle.step_table.specs.World.{Layout, SemaWorld, found, root_number}
-use Rattle.step_table.proofs.Sums.{total_rest, total_has}
+use Rattle.step_table.proofs.Sums.{total_has}
 use Rattle.step_table.proofs.SumsOfSums.{total_most}
 
--- the semaphores: a grant is at most 2, and fewer are asleep than there are seats where one isn't
-grant_most : (p : Place) (g : ℕ) → IsGrantOf p g → g ≤ 2
-grant_most (Acquiring a (P turn)) g h = h
-grant_most _ g h = omega arith
-
-total_fewer : (n : ℕ) (f : ℕ → ℕ) (i : ℕ) → i < n → ((k : ℕ) → f k ≤ 1) → f i ≡ 0 → total n f < n
-total_fewer n f i h most none =
-    let rest = total_rest n f (λ k. 1) i h most in let all = total_most n 1 (λ k. 1) (λ k h. omega arith) in omega arith
-
-first_in_hand : (hand : List WaitId) (seats : ℕ) → ((w : WaitId) → 0 < times w hand → w.seat < seats)
-    → IfSome (slice_get hand 0) (λ w. w.seat < seats)
-first_in_hand [] seats all = tt
-first_in_hand (w ∷ hand) seats all = all w (let here = same_here w in omega arith)
-
 -- the lists
-nothing_held : (l : List Wait) → length l ≡ 0 → l ≡ []
-nothing_held [] empty = refl
-nothing_held (w ∷ l) empty = absurd (omega arith)
-
-first_held : (seats : ℕ) (hand : List Wait) → ((w : Wait) → 0 < times_on_list w hand → w.id.seat < seats)
-    → IfSome (slice_get hand 0) (λ w. w.id.seat < seats)
-first_held seats [] each = tt
-first_held seats (w ∷ hand) each = each w (let here = one_here w in omega arith)
-
 module _ (seats i : ℕ) (s : ListWorld) (there : i < seats) (inv : IsWellFormedList 0 seats s) (few : s.words.numbers.handed ≤ 9223372036854775808) where
   list_asks_at : (place : ListPlace) → (s.seats i).place ≡ place → AsksAt seats s.words s.seats (s.seats i) place
   list_asks_at (Waiting t W2) is = let le = inv.words.2 in omega arith

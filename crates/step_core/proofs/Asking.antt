@@ -1,5 +1,5 @@
 -- What is asked for of a seat of a moment, whichever table it steps by, and what the machine answers for it.
-use Rattle.std.proofs.Common.{◌≡◌, ℕ, ◌+◌, ◌^◌, ◌<◌, [], Option, Some, None, Result, Ok, Err, IfOk, IfErr, OnOk, cond, length, refl, ap}
+use Rattle.std.proofs.Common.{◌≡◌, ℕ, ◌<◌, [], Option, Some, None, cond, length, refl, ap}
 use Rattle.std.proofs.Common.{sym, ◌∙◌, subst, arith}
 use Rattle.std.proofs.Common.{IsTrue, ◌↔◌, Bool, true, false}
 use Rattle.std.proofs.lemmas.Bool.{lt-ltb}
@@ -11,16 +11,15 @@ use Rattle.step_table.specs.declared.standing.After.{After}
 use Rattle.step_table.specs.declared.standing.After.TheVariants.{NextCall, LooksAgain, Releases}
 use Rattle.step_table.specs.declared.standing.Standing.{Standing}
 use Rattle.step_table.specs.declared.standing.Standing.TheVariants.{Rest, AtCounter, AtList, AtGroup, Failed}
-use Rattle.step_core.specs.declared.turn.Turn.{Turn}
 use Rattle.step_rows.specs.Stored.{each}
 use Rattle.step_law_whole.specs.CoreLaw.{IsCallBefore, IsStanding}
 use Rattle.step_table.specs.Core.{CoreLayout, Core}
 use Rattle.step_table.specs.CoreSteps.{can_run}
 use Rattle.step_table.specs.Run.{layout, unless, refusal_of, refusal}
 use Rattle.step_core.specs.WellFormed.{IsWellFormed, HasPast}
-use Rattle.step_core.specs.State.{Moment, State, HasSeat, HasSeatOn, HasSeatAt, HasGroup, MayGoOn, MayGo, AsksFor, IsMachineFor, IsRefusal, core_of, run_of}
+use Rattle.step_core.specs.State.{Moment, State, HasSeat, HasSeatOn, HasGroup, MayGoOn, AsksFor, IsMachineFor, IsRefusal, core_of, run_of}
 use Rattle.step_core.specs.State.{run_at, telling}
-use Rattle.step_core.proofs.Ranges.{asks_for, begun_small, change_in, well_formed_by}
+use Rattle.step_core.proofs.Ranges.{asks_for, change_in, well_formed_by}
 
 -- a cause is told exactly where the row can't run
 unless_none : (b : Bool) (cause : StepRefused) → IsTrue b ↔ (unless b cause ≡ None)
@@ -55,9 +54,6 @@ module _ (m : Moment) (past : HasPast m) (i : ℕ) (there : i < length m.parts.c
   )
   seat_on _ is = tt
 
-  pub has_seat_at : HasSeatAt m.machine i
-  has_seat_at = (has_seat, seat_on (each Rest m.machine.standing i) (law.run.core.standing i))
-
   has_group : (g : ℕ) → g < m.parts.groups → HasGroup m.machine g
   has_group g within =
       let own = law.stored.own_is in
@@ -69,17 +65,6 @@ module _ (m : Moment) (past : HasPast m) (i : ℕ) (there : i < length m.parts.c
   may_go_on (LooksAgain g) place is = tt
   may_go_on (Releases g more) (Releasing r row) is = has_group g is.2
   may_go_on (Releases g more) _ is = absurd is
-
-  may_go_at : (doing : Standing) → IsStanding (layout m.parts) (run_of behind).core i doing → MayGo m.machine doing
-  may_go_at (AtCounter after) is = may_go_on after ((run_of behind).core.semaphores.seats i).place is.0
-  may_go_at (AtGroup g row) is = has_group g is.1
-  may_go_at _ is = tt
-
-  pub may_go : MayGo m.machine (each Rest m.machine.standing i)
-  may_go = may_go_at (each Rest m.machine.standing i) (law.run.core.standing i)
-
-  pub room_next : each 0 m.begun i + 1 < 2 ^ 64
-  room_next = begun_small (change_in m.table) behind law i
 
   here : refusal m.parts (run_at m) i ≡ refusal_of (layout m.parts) (run_at m).core i ((run_at m).core.standing i)
   here =
@@ -93,16 +78,6 @@ module _ (m : Moment) (past : HasPast m) (i : ℕ) (there : i < length m.parts.c
   module _ (shows : Moment) (same : m ≡ shows) where
     pub said : (cause : Option StepRefused) → IsRefusal m.machine i cause → refusal shows.parts (run_at shows) i ≡ cause
     said cause is = subst (λ (n : Moment). refusal n.parts (run_at n) i ≡ cause) same (says cause is)
-
-    pub enabled_answer : (answer : Result Turn StepRefused) → IfOk answer (λ turn. IsRefusal m.machine i None)
-        → OnOk answer (refusal shows.parts (run_at shows) i ≡ None)
-    enabled_answer (Ok turn) is = said None is
-    enabled_answer (Err cause) is = tt
-
-    pub refused_answer : (answer : Result Turn StepRefused) → IfErr answer (λ cause. IsRefusal m.machine i (Some cause))
-        → IfErr answer (λ cause. refusal shows.parts (run_at shows) i ≡ Some cause)
-    refused_answer (Ok turn) is = tt
-    refused_answer (Err cause) is = said (Some cause) is
 
     pub whether_enabled : (answer : Bool)
         → ((l : CoreLayout) → IsMachineFor l m.machine

@@ -1,6 +1,6 @@
 pub mod Changing
 pub mod Settling
-mod ListRanges
+pub mod ListRanges
 pub mod Ranges
 mod Asking
 pub mod NextCalls
@@ -12,6 +12,7 @@ pub mod Beginning
 pub mod Worlds
 pub mod KeyErasing
 pub mod KeyExact
+pub mod Alone
 pub mod KeyNames
 pub mod KeyForms
 pub mod KeySpares

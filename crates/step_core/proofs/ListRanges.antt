@@ -16,11 +16,11 @@ use Rattle.step_table.proofs.Sums.{total_has}
 use Rattle.step_law_lists.proofs.ListPlacing.{one_here, waiter_of}
 use Rattle.step_law_lists.proofs.ListSleeping.{room}
 
-nothing_held : (l : List Wait) → length l ≡ 0 → l ≡ []
+pub nothing_held : (l : List Wait) → length l ≡ 0 → l ≡ []
 nothing_held [] empty = refl
 nothing_held (w ∷ l) empty = absurd (omega arith)
 
-first_held : (seats : ℕ) (hand : List Wait) → ((w : Wait) → 0 < times w hand → w.id.seat < seats)
+pub first_held : (seats : ℕ) (hand : List Wait) → ((w : Wait) → 0 < times w hand → w.id.seat < seats)
     → IfSome (slice_get hand 0) (λ w. w.id.seat < seats)
 first_held seats [] each = tt
 first_held seats (w ∷ hand) each = each w (let here = one_here w in omega arith)

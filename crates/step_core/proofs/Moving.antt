@@ -1,8 +1,7 @@
 -- A step of a moment is a step of the run that it shows, with each journal behind it.
-use Rattle.std.proofs.Common.{◌≡◌, ◌≢◌, ℕ, zero, suc, ◌<◌, ◌≤◌, Bool, true, false, List, [], Some, None, Option, nat_lt, cond, length}
+use Rattle.std.proofs.Common.{◌≡◌, ◌≢◌, ℕ, zero, suc, ◌<◌, Bool, true, false, List, [], Some, None, Option, nat_lt, cond, length}
 use Rattle.std.proofs.Common.{refl, sym, ap, ◌∙◌}
 use Rattle.std.proofs.Common.{subst, ltb-true}
-use Rattle.std.proofs.lemmas.Bool.{le-ltb}
 use Rattle.step_table.specs.declared.entry.Entry.{Entry}
 use Rattle.step_table.specs.declared.list_place.ListEffect.{ListEffect}
 use Rattle.step_table.specs.declared.list_place.ListEffect.TheVariants.{HandsOut, Grants as GrantsUpTo}
@@ -11,7 +10,6 @@ use Rattle.step_table.specs.declared.list_place.ListPlace.TheVariants as on_list
 use Rattle.step_table.specs.declared.effect.Effect.{Effect}
 use Rattle.step_table.specs.declared.effect.Effect.TheVariants.{Nothing, Tells, Wakes}
 use Rattle.step_table.specs.declared.place.Place.{Place}
-use Rattle.step_table.specs.declared.place.Place.TheVariants.{Releasing}
 use Rattle.step_table.specs.declared.place.Place.TheVariants as on_counter
 use Rattle.step_table.specs.declared.refusal.StepRefused.TheVariants.{NoSuchSeat}
 use Rattle.step_table.specs.declared.parts.Parts.{Parts}
@@ -25,10 +23,10 @@ use Rattle.step_core.specs.declared.turn.Turn.{Turn}
 use Rattle.step_core.specs.declared.turn.Turn.TheVariants.{OnCounter, OnList, OnGroup}
 use Rattle.step_table.specs.World.{SeatState, journal_after}
 use Rattle.step_table.specs.Steps.{event_of, finds}
-use Rattle.step_rows.specs.Stored.{each, idle, seat_of, IsStoredFor}
+use Rattle.step_rows.specs.Stored.{each, idle, seat_of}
 use Rattle.step_rows.specs.Stored as sema
 use Rattle.step_table.specs.Core.{CoreLayout, Core, journal_after_list}
-use Rattle.step_table.specs.CoreSteps.{can_run, releases, goes_on, after_counter, after_list, after_group, row_of_standing, core_turned}
+use Rattle.step_table.specs.CoreSteps.{releases, goes_on, after_counter, after_list, after_group, row_of_standing, core_turned}
 use Rattle.step_table.specs.Run.{Run, layout, continued, refusal_of, refusal}
 use Rattle.step_table.specs.Core.{counters_of}
 use Rattle.step_law_whole.specs.RunInvariant.{IsSoundRun, IsSoundRunOf}
@@ -69,10 +67,6 @@ seat_free parts run i free = by (nat_lt i (length parts.calls)) refl free
         → cond b (refusal_of (layout parts) run.core i (run.core.standing i)) (Some NoSuchSeat) ≡ None → i < length parts.calls
     by true less e = ltb-true i (length parts.calls) less
     by false less e = absurd cc
-
-pub no_such_seat : (parts : Parts) (run : Run) (i : ℕ) → length parts.calls ≤ i → refusal parts run i ≡ Some NoSuchSeat
-no_such_seat parts run i past =
-    ap (λ b. cond b (refusal_of (layout parts) run.core i (run.core.standing i)) (Some NoSuchSeat)) (le-ltb i (length parts.calls) past)
 
 -- what comes after a row tells nothing
 released_journal : (m : CoreLayout) (s : Core) (i g n : ℕ) → (releases m s i g n).journal ≡ s.journal

@@ -11,14 +11,14 @@ use Rattle.step_table.specs.Core.{Core, first_core, counters_of}
 use Rattle.step_table.specs.CoreSteps.{calls}
 use Rattle.step_table.specs.Scenario.{IsCallOn}
 use Rattle.step_table.specs.Run.{Run, layout, call_of, begun, all_begun}
-use Rattle.step_law_whole.specs.RunInvariant.{IsSoundRun, IsScenario, calls_of}
+use Rattle.step_law_whole.specs.RunInvariant.{IsSoundRun, IsScenario}
 use Rattle.step_law_alike.specs.declared.variant.Variant.{Variant}
 use Rattle.step_law_alike.specs.ChangedInvariant.{WaitersRaisedIn}
 use Rattle.step_law_alike.proofs.ChangedRaising.{raised_first}
 use Rattle.step_core.specs.State.{Machine, State, IsMachineFor, Becomes, HasBegun, MayBegin, IsSound, IsStarted, core_of, run_with}
 use Rattle.step_core.specs.WellFormed.{IsSoundBy}
 use Rattle.step_table.proofs.Sums.{put_else}
-use Rattle.step_rows.proofs.Storing.{each_set, get_here, copies}
+use Rattle.step_rows.proofs.Storing.{each_set, copies}
 use Rattle.step_core.proofs.Changing.{same_layout}
 use Rattle.step_core.proofs.Ranges.{well_formed_state}
 use Rattle.step_law_whole.proofs.RunSound.{is_started}
@@ -39,32 +39,6 @@ module _ (parts : Parts) (i : ℕ) (h : Machine) (counts : List ℕ) (is : IsMac
     (n : ℕ) (counted : n ≡ each 0 counts number) where
   count_is : n ≡ each 0 counts i
   count_is = counted ∙ ap (each 0 counts) at
-
-  -- where it has no more calls, nothing changes
-  pub begins_none : call_of parts number n ≡ None → HasBegun parts i h counts h counts
-  begins_none none = record {
-    alike = record {
-      semaphores = record {
-        own = refl;
-        roots = refl;
-        numbers = refl;
-        locks = refl;
-        waiters = refl;
-        grants = refl;
-        lists = refl;
-        hands = refl;
-        callers = refl;
-      };
-      lists = refl;
-      seats = λ l. refl;
-      groups = refl;
-      standing = refl;
-    };
-    count = refl;
-    run = λ journal.
-        (λ j. begun (run_with h counts journal) i (sym none j))
-        ∙ (λ j. begun (run_with h counts journal) i (call_of parts (at j) (count_is j)));
-  }
 
   pub begins_one : (call : Call) (k : Machine) → call_of parts number n ≡ Some call → i < length counts
       → Becomes (λ m s. calls s i call) h k → HasBegun parts i h counts k (set counts number (n + 1))
@@ -87,13 +61,6 @@ module _ (parts : Parts) (i : ℕ) (h : Machine) (counts : List ℕ) (is : IsMac
   may_begin (One l) there on = (let a = is.lists in omega arith, let a = is.seats l on in omega arith)
   may_begin (NotifyAll l) there on = (let a = is.lists in omega arith, let a = is.seats l on in omega arith)
   may_begin _ there on = tt
-
-  pub may_begin_next : IsScenario parts → i < length parts.calls → (call : Call) → call_of parts number n ≡ Some call
-      → MayBegin h i call
-  may_begin_next scenario there call one =
-      let next : call_of parts i (each 0 counts i) ≡ Some call = (λ j. call_of parts (sym at j) (sym count_is j)) ∙ one in
-      let found = get_here call (calls_of parts i) (each 0 counts i) call next in
-      may_begin call there (subst (IsCallOn parts) found.1 (scenario.declared i [] there (each 0 counts i) call found.0))
 
 -- words are stored for a scenario, and still are in a machine that is alike
 pub still_stored : (own groups roots seats : ℕ) (h k : Machine) → IsSameSize h.semaphores k.semaphores

@@ -30,7 +30,7 @@ use Rattle.step_law_semaphores.specs.WellFormed.{IsWellFormedWorld}
 use Rattle.step_core.specs.WellFormed.{IsWellFormed, IsSoundBy}
 use Rattle.step_core.specs.State.{State, IsSound, AsksFor, no_list, run_of}
 use Rattle.step_table.proofs.Sums.{total_rest, total_has}
-use Rattle.step_law_whole.proofs.RunEarly.{begun_few, all_begun_few, handed_few}
+use Rattle.step_law_whole.proofs.RunEarly.{all_begun_few, handed_few}
 use Rattle.step_law_semaphores.proofs.Placing.{same_here}
 use Rattle.step_rows.proofs.Rooting.{root_within}
 use Rattle.step_law_semaphores.proofs.Bounding.{well_formed}
@@ -41,16 +41,16 @@ use Rattle.step_core.proofs.ListRanges.{has_list_row}
 use Rattle.step_table.proofs.SumsOfSums.{total_most}
 use Rattle.step_law_semaphores.proofs.Resting.{asleep_most}
 
-grant_most : (p : Place) (g : ℕ) → IsGrantOf p g → g ≤ 2
+pub grant_most : (p : Place) (g : ℕ) → IsGrantOf p g → g ≤ 2
 grant_most (Acquiring a (P turn)) g h = h
 grant_most _ g h = omega arith
 
 -- where each term is at most 1 and one is 0, the sum is less than the number of terms
-total_fewer : (n : ℕ) (f : ℕ → ℕ) (i : ℕ) → i < n → ((k : ℕ) → f k ≤ 1) → f i ≡ 0 → total n f < n
+pub total_fewer : (n : ℕ) (f : ℕ → ℕ) (i : ℕ) → i < n → ((k : ℕ) → f k ≤ 1) → f i ≡ 0 → total n f < n
 total_fewer n f i h most none =
     let rest = total_rest n f (λ k. 1) i h most in let all = total_most n 1 (λ k. 1) (λ k h. omega arith) in omega arith
 
-first_in_hand : (hand : List WaitId) (seats : ℕ) → ((w : WaitId) → 0 < times w hand → w.seat < seats)
+pub first_in_hand : (hand : List WaitId) (seats : ℕ) → ((w : WaitId) → 0 < times w hand → w.seat < seats)
     → IfSome (slice_get hand 0) (λ w. w.seat < seats)
 first_in_hand [] seats all = tt
 first_in_hand (w ∷ hand) seats all = all w (let here = same_here w in omega arith)
@@ -76,9 +76,6 @@ module _ (v : Variant) (m : State) (sound : IsWellFormed v m) where
 
   few_words : AllBounded rows_of world
   few_words = changed_bounded v rows_of world law sound.waiters
-
-  pub begun_small : (k : ℕ) → each 0 m.begun k + 1 < 2 ^ 64
-  begun_small k = let few = begun_few m.parts sound.scenario (run_of m) sound.run k in omega arith
 
   -- all seats together have begun few calls, and so units are few
   pub few_units : added world.journal ≤ 2199023255552
