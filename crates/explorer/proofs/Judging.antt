@@ -1,23 +1,17 @@
 -- What went out of a journal's verdict, and what it tells.
-use Rattle.std.proofs.Common.{◌≡◌, ℕ, List, Option, None, Result, Ok, Err, IfOk, inl, inr, refl, sym, subst}
+use Rattle.std.proofs.Common.{◌≡◌, ℕ, List, Option, Result, Ok, Err, IfOk, inl, inr, refl, sym, subst}
 use Rattle.std.specs.Prelude.{string_bytes, option_map}
 use Rattle.waiters.specs.declared.no_memory.NoMemory.{NoMemory}
 use Rattle.explorer_scenarios.specs.declared.exit.Exit.{Exit}
 use Rattle.explorer_scenarios.specs.declared.command.Reply.{Reply}
 use Rattle.explorer_scenarios.specs.Commands.{answer_of, aside_of}
 use Rattle.journal_judge.specs.declared.judgement.Demands.{Demands}
-use Rattle.journal_judge.specs.declared.judgement.Judgement.{Judgement}
-use Rattle.journal_judge.specs.Judged.{IsJudgementOf}
-use Rattle.journal_judge.specs.Texts.{judgement_text}
-use Rattle.journal_text.specs.declared.journal.Journal.{Journal}
-use Rattle.journal_text.specs.JournalText.{IsJournalOf}
-use Rattle.explorer_scenarios.specs.Line.{line}
 use Rattle.journal_text.specs.declared.journal_fault.JournalFault.{JournalFault}
 use Rattle.journal_text.specs.declared.journal_fault.JournalFault.TheVariants.{Form, NoMemory as Short}
 use Rattle.journal_text.specs.Reader.{IsFault}
 use Rattle.explorer_scenarios.specs.Told.{IsTextOf}
-use Rattle.explorer.specs.JudgeText.{judgement_exit, DeclaresLocks, IsUndeclared, IsJudgeInput, IsJudgeReplyOf, IsJudgeToldOf}
-use Rattle.explorer.specs.JudgeText.{RefusesFault, RefusesLock, RepliesJudgement, line_beside}
+use Rattle.explorer.specs.JudgeText.{IsJudgeInput, IsJudgeReplyOf, IsJudgeToldOf}
+use Rattle.explorer.specs.JudgeText.{RefusesFault, RepliesJudgement}
 
 -- it was replied to an input
 abbrev IsReplyTo : Demands → List ℕ → Reply → Type 0
@@ -52,19 +46,3 @@ pub refuses_well : (demands : Demands) (input : List ℕ) (fault : JournalFault)
 refuses_well demands input (Form n) (Ok a) told h = inl (n, (told.0 n).1 refl, h)
 refuses_well demands input Short (Ok a) told h = absurd h
 refuses_well demands input fault (Err e) told h = tt
-
--- a refusal of a lock that the journal doesn't declare is a reply too
-pub refuses_lock_well : (demands : Demands) (input : List ℕ) (journal : Journal) → IsJournalOf input journal → (lock : ℕ)
-    → IsUndeclared journal demands.locks.items lock → (r : Result Reply NoMemory)
-    → IfOk r (λ reply. RefusesLock lock (string_bytes reply.answer.text) reply.answer.exit (option_map string_bytes reply.aside))
-    → IfOk r (IsReplyTo demands input)
-refuses_lock_well demands input journal spelled lock undeclared (Ok a) told = inr (inl (journal, spelled, lock, undeclared, told))
-refuses_lock_well demands input journal spelled lock undeclared (Err e) told = tt
-
--- and so is a judgement
-pub judges_well : (demands : Demands) (input : List ℕ) (journal : Journal) → IsJournalOf input journal → DeclaresLocks journal demands.locks.items
-    → (judgement : Judgement) → IsJudgementOf journal demands judgement → (text : List ℕ) (exit : Exit)
-    → text ≡ line (judgement_text judgement) → exit ≡ judgement_exit judgement → (aside : Option (List ℕ))
-    → aside ≡ line_beside input judgement → RepliesJudgement demands input text exit aside
-judges_well demands input journal spelled declares judgement is text exit told ended aside shown =
-    inr (inr (journal, spelled, declares, judgement, is, told, ended, shown))

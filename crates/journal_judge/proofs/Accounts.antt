@@ -24,10 +24,6 @@ pub is_same_own : (w x : WaitId) → w ≡ x → is_same w x ≡ true
 is_same_own w x e = and_from (eqb w.seat x.seat) (eqb w.turn x.turn) (eq-eqb w.seat x.seat (ap (λ (v : WaitId). v.seat) e))
     (eq-eqb w.turn x.turn (ap (λ (v : WaitId). v.turn) e))
 
-false_is : (b : Bool) → (b ≡ true → ⊥) → b ≡ false
-false_is true h = absurd (h refl)
-false_is false h = refl
-
 -- ---- one entry more
 
 -- that a wait was queued, after a count has grown

@@ -8,11 +8,10 @@ use Rattle.journal_text.specs.declared.entry.Entry as journal
 use Rattle.journal_text.specs.declared.journal.Journal.{Journal}
 use Rattle.journal_judge.specs.declared.lock.Breach.{Breach}
 use Rattle.journal_judge.specs.declared.lock.LockUse.{LockUse}
-use Rattle.journal_judge.specs.declared.lock.LockUse.TheVariants.{Takes}
 use Rattle.journal_judge.specs.declared.lock_rule.LockRule.{LockRule}
 use Rattle.journal_judge.specs.declared.lock_rule.LockRule.TheVariants.{NotHeld, HeldByAnother}
 use Rattle.journal_judge.specs.LawfulJournal.{entry_of, entries_of}
-use Rattle.journal_judge.specs.Locks.{use_of, user_of, holder_after, holder_from, holder_of, BreaksLock, KeepsLock, IsBreachAt, IsToldOfUse, IsLockVerdict}
+use Rattle.journal_judge.specs.Locks.{use_of, holder_after, holder_from, holder_of, BreaksLock, KeepsLock, IsBreachAt, IsToldOfUse, IsLockVerdict}
 use Rattle.journal_judge.specs.Locks.{IsKeptBefore, IsFirstOf, earlier}
 use Rattle.journal_judge.proofs.Entries.{stands_more}
 use Rattle.journal_judge.proofs.Verdicts.{next, split, front_length}
@@ -24,14 +23,6 @@ unused None NotHeld b = b
 unused None HeldByAnother b = b
 unused (Some h) NotHeld b = b
 unused (Some h) HeldByAnother b = b
-
-pub free_takes : (s : ℕ) → (let free : Option ℕ = None in let silent : Option LockRule = None in IsToldOfUse free (Some (Takes s)) silent)
-free_takes s NotHeld b = b
-free_takes s HeldByAnother b = b
-
-pub own_use : (h : ℕ) (used : LockUse) → h ≡ user_of used → (let silent : Option LockRule = None in IsToldOfUse (Some h) (Some used) silent)
-own_use h used e NotHeld b = b
-own_use h used e HeldByAnother b = b e
 
 -- ---- the holder
 

@@ -1,5 +1,5 @@
 -- What a ledger shows after a change.
-use Rattle.std.proofs.Common.{Result, Ok, Err, ◌≡◌, ℕ, zero, suc, ◌-◌, ◌<◌, ◌⊎◌, List, [], ◌∷◌, ◌++◌, Bool, true, false, cond}
+use Rattle.std.proofs.Common.{Result, Ok, Err, ◌≡◌, ℕ, ◌-◌, ◌<◌, ◌⊎◌, List, [], ◌∷◌, ◌++◌, Bool, true, false, cond}
 use Rattle.std.proofs.Common.{eqb, ◌||◌, map, length, get_or}
 use Rattle.std.proofs.Common.{set, Option, Some, refl, sym, ap, subst, ◌∙◌, inl, inr, eq-eqb, ne_eqb, arith}
 use Rattle.std.proofs.lemmas.List.{map_push, get_or-set_same, get_or-set_other}
@@ -107,13 +107,6 @@ unfolding spent
 add_one a c s = refl
 
 -- ---- before the first entry
-
--- elements that are all one, and one more
-pub all_one : {A : Type 0} (d : A) (xs : List A) (x : A) → ((k : ℕ) → get_or xs k d ≡ d) → x ≡ d → (k : ℕ) → get_or (xs ++ x ∷ []) k d ≡ d
-all_one d [] x h e zero = e
-all_one d [] x h e (suc k) = refl
-all_one d (y ∷ ys) x h e zero = h 0
-all_one d (y ∷ ys) x h e (suc k) = all_one d ys x (λ m. h (suc m)) e k
 
 -- ---- where a call succeeded
 

@@ -1,5 +1,5 @@
 -- Which line a text spells behind a journal.
-use Rattle.std.proofs.Common.{◌≡◌, ℕ, ◌<◌, ◌≤◌, List, [], length, Option, Some, None, sym, ap, ◌∙◌, arith, ◌⊎◌, inl, inr}
+use Rattle.std.proofs.Common.{◌≡◌, ℕ, ◌≤◌, List, [], length, Option, Some, None, sym, ap, ◌∙◌, arith, ◌⊎◌, inl, inr}
 use Rattle.std.specs.Prelude.{codes}
 use Rattle.std.proofs.lemmas.List.{length-append}
 use Rattle.journal_text.specs.declared.entry.Entry.{Entry}
@@ -10,7 +10,7 @@ use Rattle.journal_text.specs.declared.line.Line.TheVariants.{Counter, List as N
 use Rattle.journal_text.specs.JournalLine.{entry_text, line_text}
 use Rattle.journal_text.specs.JournalText.{Spells}
 use Rattle.journal_text.specs.Reading.{ReadsAs, IsEntryOf, IsHeadOf}
-use Rattle.journal_text.proofs.Parts.{nothing, one, found, only, none}
+use Rattle.journal_text.proofs.Parts.{one, found, only, none}
 use Rattle.journal_text.proofs.Forms.{key}
 
 -- no entry begins as a head line does
@@ -43,14 +43,6 @@ module _ (before : Journal) (text : List ℕ) where
       is (NotifyList m) q =
           let f = found (IsEntryOf (length before.starts) before.lists text) entry h in absurd (entry_key entry m (inr (ap key (sym f.1 ∙ q.spelled))))
       is (Tells other) q = ap Tells (only (IsEntryOf (length before.starts) before.lists text) entry other h (q.follows, q.spelled))
-
-  pub late_line : ReadsAs (IsEntryOf (length before.starts) before.lists text) None → 0 < length before.entries → ReadsAs (Spells before text) None
-  late_line h some = nothing (Spells before text) is
-    where
-      is : (a : Line) → Spells before text a → ⊥
-      is (Counter m) q = omega (arith, ap length q.follows.1)
-      is (NotifyList m) q = omega (arith, ap length q.follows.1)
-      is (Tells other) q = none (IsEntryOf (length before.starts) before.lists text) other h (q.follows, q.spelled)
 
   pub head_line : (o : Option Line) → ReadsAs (IsEntryOf (length before.starts) before.lists text) None → before.entries ≡ []
       → ReadsAs (IsHeadOf text) o → ReadsAs (Spells before text) o

@@ -1,6 +1,6 @@
 -- The row of the line before which a seat stands: what it asks for is there, and what it has made is the definition's row.
 use Rattle.std.proofs.Common.{◌≡◌, ℕ, ◌<◌, List, [], Option, Some, None, Result, Ok, Err, IfOk, IfErr, OnOk}
-use Rattle.std.proofs.Common.{IfSome, length, refl, sym, ap, ◌∙◌, subst, arith}
+use Rattle.std.proofs.Common.{length, refl, sym, ap, ◌∙◌, subst, arith}
 use Rattle.std.specs.Prelude.{slice_index_or}
 use Rattle.lock_code.specs.declared.instruction.Instruction.{Instruction}
 use Rattle.lock_code.specs.declared.instruction.Instruction.TheVariants as line
@@ -8,15 +8,15 @@ use Rattle.lock_code.specs.declared.operand.Place.{Place}
 use Rattle.lock_code.specs.declared.operand.Place.TheVariants.{Single, Member}
 use Rattle.lock_code.specs.declared.operand.Share.TheVariants as share
 use Rattle.lock_code.specs.declared.program.Program.{Program}
-use Rattle.lock_code.specs.WellFormed.{IsFew, IsLine, IsPlace, IsRegister}
+use Rattle.lock_code.specs.WellFormed.{IsFew, IsLine, IsPlace}
 use Rattle.lock_machine.specs.Beginning.{HasCall, MayRun, MayRunFirst}
-use Rattle.lock_machine.specs.Calling.{HasAll, FitsCall}
+use Rattle.lock_machine.specs.Calling.{FitsCall}
 use Rattle.lock_machine.specs.LayerRows.{HasLayerRow, HasNoLayerRow, with_call}
 use Rattle.lock_machine.specs.Shared.{Shared, world_of, world_at}
 use Rattle.lock_machine.specs.Sound.{IsSound, CanGoOn, IsBefore, IsAsLarge, HasRun, HasNoRow}
 use Rattle.lock_machine.proofs.Asking.{line_may_call, line_may_begin, line_may_run_first, may_run}
-use Rattle.lock_machine.proofs.Showing.{IsLayer, layer_reached, machine_is, stored_is, has_seat, has_list_seat}
-use Rattle.lock_rows.specs.Fitting.{FitsPlace, FitsRegister, FitsWords}
+use Rattle.lock_machine.proofs.Showing.{IsLayer, layer_reached, machine_is}
+use Rattle.lock_rows.specs.Fitting.{FitsPlace}
 use Rattle.lock_rows.specs.Rows.{Does, row_at as row_of_words}
 use Rattle.lock_rows.specs.Stored.{Stored, world_over}
 use Rattle.lock_rows.proofs.Storing.{same_size}
@@ -24,17 +24,17 @@ use Rattle.lock_steps.specs.declared.cause.Cause.{Cause}
 use Rattle.lock_steps.specs.declared.stand.Then.{Then}
 use Rattle.lock_steps.specs.declared.stand.Then.TheVariants.{Fails}
 use Rattle.lock_steps.specs.Calls.{call_of}
-use Rattle.lock_steps.specs.Steps.{row_of, row_at, row_before, first_row, row_of_line}
+use Rattle.lock_steps.specs.Steps.{row_of, row_at, row_before, first_row}
 use Rattle.lock_steps.specs.World.{LockWorld, layer_of, code_of}
 use Rattle.lock_steps.proofs.Layers.{all_keep, IsAtRest}
-use Rattle.step_core.specs.State.{Machine, AreSameSize, HasSeat, MayBegin, core_of}
+use Rattle.step_core.specs.State.{Machine, AreSameSize, MayBegin, core_of}
 use Rattle.step_law_whole.specs.TheCore.{MayCall}
 use Rattle.step_rows.specs.Stored.{each}
 use Rattle.step_table.specs.declared.call.Call.{Call}
 use Rattle.step_table.specs.declared.call.Call.TheVariants.{Acquire, Release, ReleaseMany, Add, Wait, One, All, GroupAdd, GroupWait}
 use Rattle.step_table.specs.declared.entry.Entry.{Entry}
 use Rattle.step_table.specs.declared.standing.Standing.TheVariants.{Rest}
-use Rattle.step_table.specs.Core.{CoreLayout, Core}
+use Rattle.step_table.specs.Core.{CoreLayout}
 
 pub alike_self : (h : Machine) → AreSameSize h h
 alike_self h = record {
@@ -103,38 +103,6 @@ module _ (p : Program) (few : IsFew p) (lines : ℕ) where
   fits_place n (Single w) is = is
   fits_place n (Member first many e) is = is.0
 
-  fits_register : (r : ℕ) → r < p.registers → FitsRegister r
-  fits_register r below = let most = few.registers in omega arith
-
-  fits_named : (r : Option ℕ) → IsRegister p r → IfSome r FitsRegister
-  fits_named None is = tt
-  fits_named (Some r) is = fits_register r is
-
-  pub fits_words : (n : ℕ) → length p.words ≡ n → (l : Instruction) → IsLine p lines l → FitsWords n l
-  fits_words n same (line.Load w r) is = (subst (λ k. FitsPlace k w) same (fits_place (length p.words) w is.0), fits_register r is.1)
-  fits_words n same (line.Store w e) is = subst (λ k. FitsPlace k w) same (fits_place (length p.words) w is.0)
-  fits_words n same (line.Swap w e r) is = (subst (λ k. FitsPlace k w) same (fits_place (length p.words) w is.0), fits_named r is.2)
-  fits_words n same (line.Add w e r) is = (subst (λ k. FitsPlace k w) same (fits_place (length p.words) w is.0), fits_named r is.2)
-  fits_words n same (line.Exchange w e f r) is =
-      (subst (λ k. FitsPlace k w) same (fits_place (length p.words) w is.0), fits_named r is.3)
-  fits_words n same (line.Await w rel e r) is = (subst (λ k. FitsPlace k w) same (fits_place (length p.words) w is.0), fits_named r is.2)
-  fits_words n same (line.Park w e) is = subst (λ k. FitsPlace k w) same (fits_place (length p.words) w is.0)
-  fits_words n same (line.Unpark w e) is = subst (λ k. FitsPlace k w) same (fits_place (length p.words) w is.0)
-  fits_words n same (line.Out k) is = let most = few.sections in omega arith
-  fits_words n same (line.Acquire c lifo) is = tt
-  fits_words n same (line.Release c units) is = tt
-  fits_words n same (line.Ticket l) is = tt
-  fits_words n same (line.Wait l) is = tt
-  fits_words n same (line.One l) is = tt
-  fits_words n same (line.All l) is = tt
-  fits_words n same (line.Let r e) is = tt
-  fits_words n same (line.Compute r e op f) is = tt
-  fits_words n same (line.If e rel f to) is = tt
-  fits_words n same (line.Goto to) is = tt
-  fits_words n same (line.In k) is = tt
-  fits_words n same (line.Assert e rel f) is = tt
-  fits_words n same line.Fail is = tt
-
   pub fits_call : (counters lists : ℕ) → length p.counters ≡ counters → p.lists ≡ lists → (l : Instruction) → IsLine p lines l
       → FitsCall counters lists l
   fits_call n q same all (line.Acquire c lifo) is = subst (λ k. FitsPlace k c) same (fits_place (length p.counters) c is)
@@ -174,21 +142,6 @@ module _ (p : Program) (s : Shared) (i : ℕ) (can : CanGoOn p s i) where
       (layer_reached p can.sound.few can.sound.formed can.sound.few.starts can.sound.past.schedule world can.sound.past.reached s.layer
       can.sound.past.journal can.sound.form refl)
 
-  pub own_there : i < length s.own.seats
-  own_there = let same = can.sound.seats in let h = can.there in omega arith
-
-  pub layer_there : HasSeat s.layer i
-  layer_there = has_seat p s.layer can.sound.form i can.there
-
-  pub has_all : HasAll s.layer s.own i
-  has_all = record {
-    seat = own_there;
-    counters = let so = (stored_is p s.layer can.sound.form).numbers in let most = can.sound.few.counters in omega arith;
-    lists = let so = (machine_is p s.layer can.sound.form).lists in let most = can.sound.few.lists in omega arith;
-    list_seat = λ l below. has_list_seat p s.layer can.sound.form l i
-        (let so = (machine_is p s.layer can.sound.form).lists in omega arith) can.there;
-  }
-
   -- the row of the layer at which it stands may be run
   pub may_run_here : MayRun s.layer i
   may_run_here = may_run p can.sound.few can.steps can.sound.small s.layer can.sound.past.journal shows i can.there
@@ -223,11 +176,6 @@ module _ (p : Program) (s : Shared) (i : ℕ) (can : CanGoOn p s i) where
         );
         size = record { layer = alike_self s.layer; own = does.size };
       }
-
-      pub own_refused : found ≡ None
-          → ((layer : Core) → row_of_line (world_over layer s.own) i n l ≡ None) → HasNoRow p s i
-      own_refused none can_not journal = row_then journal ∙ ap (first_row (layer_of p) (world_of s journal) i n l) none
-          ∙ can_not (core_of s.layer journal)
 
       -- its seat fails
       pub line_fails : (why : Cause) → found ≡ Some (Err why) → HasRun p s i s (Fails why)

@@ -84,14 +84,6 @@ pub record ArePartsFew (parts : Parts) : Type 0 where
   pub roots : parts.roots + parts.groups < 2 ^ 32
   pub seats : length parts.calls < 2 ^ 16
 
-pub parts_few : (p : Program) → IsFew p → ArePartsFew (parts_of p)
-parts_few p few = record {
-  some_root = omega arith;
-  counters = let most = few.counters in omega arith;
-  roots = let most = few.counters in omega arith;
-  seats = let most = few.seats in let same = length-replicate {A = List Call} (length p.seats) [] in omega arith;
-}
-
 -- the machine has each seat and each list
 module _ (p : Program) (h : Machine) (form : HasForm (parts_of p) h) where
   abbrev stored : Stored

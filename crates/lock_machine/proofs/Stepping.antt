@@ -1,5 +1,5 @@
 -- Rows of a seat that stands in a call of the layer or sleeps on a word; and a row with what comes after it is a step.
-use Rattle.std.proofs.Common.{◌≡◌, ℕ, ◌+◌, ◌<◌, List, None}
+use Rattle.std.proofs.Common.{◌≡◌, ℕ, ◌+◌, ◌<◌, List}
 use Rattle.std.proofs.Common.{length, pos, refl, ap, ◌∙◌, subst}
 use Rattle.lock_code.specs.declared.program.Program.{Program}
 use Rattle.lock_machine.specs.LayerRows.{HasLayerRow, HasNoLayerRow, as_it_is}
@@ -11,7 +11,7 @@ use Rattle.lock_code.specs.declared.program.CodeLine.{CodeLine}
 use Rattle.lock_steps.specs.Going.{GoesOn}
 use Rattle.lock_machine.proofs.Showing.{machine_is}
 use Rattle.lock_rows.specs.Rows.{Does, wakes_at}
-use Rattle.lock_rows.specs.Stored.{Stored, world_over, seats_of}
+use Rattle.lock_rows.specs.Stored.{Stored, seats_of}
 use Rattle.lock_rows.proofs.Storing.{same_size}
 use Rattle.lock_steps.specs.declared.stand.Stand.TheVariants.{Within, Asleep, FailedAt}
 use Rattle.lock_steps.specs.declared.stand.Then.{Then}
@@ -21,7 +21,6 @@ use Rattle.lock_steps.specs.World.{LockWorld, LockSeat, layer_of, code_of}
 use Rattle.step_core.specs.State.{Machine, AreSameSize, core_of}
 use Rattle.step_rows.specs.Stored.{each}
 use Rattle.step_table.specs.declared.entry.Entry.{Entry}
-use Rattle.step_table.specs.Core.{Core}
 use Rattle.lock_machine.proofs.Lines.{alike_self}
 
 -- seat i of what is stored, which can go on
@@ -56,9 +55,6 @@ module _ (p : Program) (s : Shared) (i : ℕ) (can : CanGoOn p s i) where
       row = λ journal. (journal, ap (row_at p (world_of s journal) i) asleep ∙ does.did (core_of s.layer journal));
       size = record { layer = alike_self s.layer; own = does.size };
     }
-
-    pub asleep_refused : ((layer : Core) → wakes_at i (world_over layer s.own) ≡ None) → HasNoRow p s i
-    asleep_refused can_not journal = ap (row_at p (world_of s journal) i) asleep ∙ can_not (core_of s.layer journal)
 
   -- a row and what comes after it are a step
   module _ (mid : Shared) (then : Then) (ran : HasRun p s i mid then) (code : List CodeLine) (code_is : code ≡ code_of p i) (n : ℕ)

@@ -1,6 +1,6 @@
 -- The reader's own numbers stay small, whatever the lines are.
 use Rattle.std.proofs.Common.{◌≡◌, ℕ, ◌+◌, ◌≤◌, List, [], ◌∷◌, ◌++◌, length, Result, Ok, Err, sym, subst, arith, length-append}
-use Rattle.std.specs.Prelude.{replicate, IfOk, OnOk}
+use Rattle.std.specs.Prelude.{replicate, IfOk}
 use Rattle.std.specs.Option.{unwrap_or}
 use Rattle.std.proofs.lemmas.List.{length-replicate}
 use Rattle.std.proofs.lemmas.List.Elements.{All-nil, All-push}
@@ -153,8 +153,3 @@ fits_stage d behind k = record {
 pub fits_result : {E : Type 0} (d : Draft) (r : Result Draft E) → IsFitting d → IfOk r (λ e. e ≡ closed d) → IfOk r IsFitting
 fits_result d (Ok e) k h = subst IsFitting (sym h) (fits_closed d k)
 fits_result d (Err c) k h = tt
-
-pub fits_meant : {U E : Type 0} (d e : Draft) (line : ℕ) (m : Meant) (r : Result U E) → IsFitting d → FitsMeant d m
-    → OnOk r (e ≡ with_meant d line m) → OnOk r (IsFitting e)
-fits_meant d e line m (Ok u) k h is = subst IsFitting (sym is) (fits_with d line m k h)
-fits_meant d e line m (Err c) k h is = tt

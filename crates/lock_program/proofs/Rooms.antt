@@ -39,9 +39,6 @@ use Rattle.lock_program.specs.Fitting.{FitsMeant}
 
 -- ---- answers that are none but one
 
-ok_is : {A : Type 0} (a b : A) (x y : Result A Cause) → x ≡ Ok a → y ≡ Ok b → x ≡ y → a ≡ b
-ok_is a b x y e f g = cc
-
 pub too_none : {A : Type 0} (b : Bool) (c : Cause) (r : Result A Cause) (a : A) → too_if b c r ≡ Ok a → (b ≡ false) × (r ≡ Ok a)
 too_none true c (Ok x) a e = absurd cc
 too_none true c (Err d) a e = absurd cc

@@ -14,20 +14,6 @@ texts_one [] d e = absurd (omega arith)
 texts_one (w ∷ []) d e = refl
 texts_one (w ∷ x ∷ ws) d e = absurd (omega arith)
 
-pub texts_two : (ws : List (Bor (List ℕ))) (a b : Bor (List ℕ)) → length ws ≡ 2 → texts ws ≡ (get_or ws 0 a).now ∷ (get_or ws 1 b).now ∷ []
-texts_two [] a b e = absurd (omega arith)
-texts_two (v ∷ []) a b e = absurd (omega arith)
-texts_two (v ∷ w ∷ []) a b e = refl
-texts_two (v ∷ w ∷ x ∷ ws) a b e = absurd (omega arith)
-
-pub texts_three : (ws : List (Bor (List ℕ))) (a b c : Bor (List ℕ)) → length ws ≡ 3
-    → texts ws ≡ (get_or ws 0 a).now ∷ (get_or ws 1 b).now ∷ (get_or ws 2 c).now ∷ []
-texts_three [] a b c e = absurd (omega arith)
-texts_three (u ∷ []) a b c e = absurd (omega arith)
-texts_three (u ∷ v ∷ []) a b c e = absurd (omega arith)
-texts_three (u ∷ v ∷ w ∷ []) a b c e = refl
-texts_three (u ∷ v ∷ w ∷ x ∷ ws) a b c e = absurd (omega arith)
-
 pub texts_four : (ws : List (Bor (List ℕ))) (a b c d : Bor (List ℕ)) → length ws ≡ 4
     → texts ws ≡ (get_or ws 0 a).now ∷ (get_or ws 1 b).now ∷ (get_or ws 2 c).now ∷ (get_or ws 3 d).now ∷ []
 texts_four [] a b c d e = absurd (omega arith)

@@ -139,16 +139,3 @@ names_bad ws i d lt r =
     nothing (AreNames (texts ws)) (λ ns q.
     let all : AllByRecursion IsNameText (texts ws) = subst (AllByRecursion IsNameText) (sym q.spelled) q.form in
     none (IsName (get_or ws i d).now) (get_or ws i d).now r (record { form = all_at ws i d all lt; spelled = refl }))
-
-pub names_none : (ws : List (Bor (List ℕ))) → length ws ≡ 0 → ReadsAs (AreNames (texts ws)) None
-names_none [] e = nothing (AreNames []) (λ ns q. q.some (sym q.spelled))
-names_none (w ∷ ws) e = absurd (omega arith)
-
-pub names_read : (ws : List (Bor (List ℕ))) (ns : List (List ℕ)) → (length ws ≡ 0 → ⊥) → ns ≡ texts ws → AllByRecursion IsNameText ns
-    → ReadsAs (AreNames (texts ws)) (Some ns)
-names_read [] ns some e h = absurd (some refl)
-names_read (w ∷ ws) ns some e h = one_of (AreNames (texts (w ∷ ws))) ns (record {
-  some = λ k. let f : texts (w ∷ ws) ≡ [] = sym e ∙ k in absurd cc;
-  form = h;
-  spelled = sym e;
-}) (λ ms q. sym q.spelled ∙ sym e)

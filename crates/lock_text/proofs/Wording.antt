@@ -106,11 +106,6 @@ registers words rest names e unlabelled h =
     (record { form = (f.some, f.form); spelled = e ∙ ap (λ (x : List (List ℕ)). codes "register" ∷ x) f.spelled })
     (λ l q. let k = register_line words rest e l q unlabelled (verb_of l) refl in k.1 ∙ ap Registers (only (AreNames rest) names k.0 h k.2))
 
-pub no_registers : (words rest : List (List ℕ)) → words ≡ codes "register" ∷ rest → ReadsAs (IsLabel words) None → ReadsAs (AreNames rest) None
-    → ReadsAs (AreWordsOf words) None
-no_registers words rest e unlabelled h = nothing (AreWordsOf words) (λ l q. let k = register_line words rest e l q unlabelled (verb_of l) refl in
-    none (AreNames rest) k.0 h k.2)
-
 -- ---- other lines
 
 verb_line : (words rest : List (List ℕ)) (word : List ℕ) → words ≡ word ∷ rest

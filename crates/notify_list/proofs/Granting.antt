@@ -22,7 +22,7 @@ use Rattle.notify_list.specs.Places.{at_place}
 use Rattle.notify_list.specs.Rows.{list_rows}
 use Rattle.notify_list.specs.Plays.{Me}
 use Rattle.notify_list.specs.Seats.{ListModel, Token, list_of, queue_of, seen_of, setting_of, stands_of}
-use Rattle.notify_list.specs.Walks.{Walked, HasRecord}
+use Rattle.notify_list.specs.Walks.{Walked}
 use Rattle.notify_list.specs.Records.{IsOut}
 use Rattle.notify_list.specs.Notifying.{grants_it, GivesLockLast}
 use Rattle.notify_list.specs.Granting.{MayGrant, GrantedOne, grant_rows}
@@ -30,7 +30,7 @@ use Rattle.notify_list.proofs.Keeping.{laws_of}
 use Rattle.notify_list.proofs.Allowing.{GivesBack}
 use Rattle.notify_list.proofs.Leading.{Ran, Led, led, ran_from, Gave, gave_from}
 use Rattle.notify_list.proofs.Walking.{walked_row, walked_on, walked_later}
-use Rattle.notify_list.proofs.Recording.{list_edited, gives_edited, record_kept}
+use Rattle.notify_list.proofs.Recording.{list_edited, gives_edited}
 use Rattle.notify_list.proofs.Resting.{stands_there, grants_in}
 
 -- where O8 leads, by what it finds
@@ -103,9 +103,6 @@ module _ (l : ListModel) (s : Token) (h ticket : ℕ) (may : MayGrant l s h tick
 
     pub stands8 : stands_of t ≡ at_place (NotifyingOne h (O8 ticket)) (stands_of t)
     stands8 = λ i. record (stands_of t) { place = ap (λ (a : ListSeat). a.place) w7.stands_is i }
-
-    pub record7 : HasRecord t
-    record7 = record_kept s t may.record_is (ap (λ (m : Me). m.1) r.1) (ap (λ (z : Setting). z.seats) row7.same.1) (d7.queue ∙ sym (d7.held refl))
 
     few8 : (setting_of t).seats ≤ 256
     few8 = let e = ap (λ (z : Setting). z.seats) row7.same.1 in let k = may.few in omega arith

@@ -2,11 +2,9 @@
 use Rattle.std.proofs.Common.{◌≡◌, ◌==◌, ℕ, Bool, true, false, ltb, List, [], ◌∷◌, map, Some, if◌then◌else◌, option_map}
 use Rattle.std.proofs.Common.{refl, sym, ap, ◌∙◌, subst}
 use Rattle.std.proofs.lemmas.List.{map-append}
-use Rattle.std.specs.List.{AllByRecursion}
 use Rattle.sema_root.specs.Entries.{entry_of, AllAbove, AreRising}
-use Rattle.sema_root.specs.Tree.{Tree, leaf, fork, entries, size, top_counter, sought, top_place}
+use Rattle.sema_root.specs.Tree.{Tree, leaf, fork, entries, top_counter, sought, top_place}
 use Rattle.sema_root.specs.Tree.{IsAtMost, IsHeaped, IsTreap, mapped}
-use Rattle.sema_root.proofs.Rising.{All-append_left, All-append_right}
 use Rattle.sema_root.proofs.Seeking.{entry}
 
 module _ {A B : Type 0} (change : A → B) where
@@ -41,11 +39,6 @@ module _ {V W : Type 0} (change : V → W) where
   mapped-entries leaf = refl
   mapped-entries (fork left node right) =
       rw (mapped-entries left, mapped-entries right) (sym (map-append _ (entries left) (entry node ∷ entries right)))
-
-  -- as many nodes
-  pub mapped-size : (tree : Tree V) → size (mapped change tree) ≡ size tree
-  mapped-size leaf = refl
-  mapped-size (fork left node right) = rw (mapped-size left, mapped-size right)
 
   -- the same counter on top
   pub mapped-top_counter : (tree : Tree V) → top_counter (mapped change tree) ≡ top_counter tree
@@ -104,24 +97,3 @@ module _ {V W : Type 0} (change : V → W) where
       → entry_of c (entries (mapped change tree)) ≡ option_map (λ held. (held.0, change held.1)) (entry_of c (entries tree))
   mapped-entry_of c tree =
       ap (entry_of c) (mapped-entries tree) ∙ changed-entry_of (λ held. (held.0, change held.1)) c (entries tree)
-
-  -- two functions that agree on each value of a tree map it alike
-  pub mapped-same : (other : V → W) (tree : Tree V) → AllByRecursion (λ entry. change entry.1.1 ≡ other entry.1.1) (entries tree)
-      → mapped change tree ≡ mapped other tree
-  mapped-same other leaf agree = refl
-  mapped-same other (fork left node right) agree =
-      let on_left = mapped-same other left (All-append_left _ (entries left) (entry node ∷ entries right) agree) in
-      let here = All-append_right _ (entries left) (entry node ∷ entries right) agree in
-      let on_right = mapped-same other right here.1 in
-      rw (on_left, on_right, here.0)
-
--- a tree mapped by the function that changes nothing is itself
-pub mapped-id : {V : Type 0} (tree : Tree V) → mapped (λ value. value) tree ≡ tree
-mapped-id leaf = refl
-mapped-id (fork left node right) = rw (mapped-id left, mapped-id right)
-
--- mapped twice it is mapped by the two functions one behind the other
-pub mapped-mapped : {U V W : Type 0} (second : V → W) (first : U → V) (tree : Tree U)
-    → mapped second (mapped first tree) ≡ mapped (λ value. second (first value)) tree
-mapped-mapped second first leaf = refl
-mapped-mapped second first (fork left node right) = rw (mapped-mapped second first left, mapped-mapped second first right)

@@ -5,7 +5,7 @@ use Rattle.std.proofs.lemmas.Bool.{cases_order}
 use Rattle.sema_root.specs.Entries.{entry_of, AreRising, Removes}
 use Rattle.sema_root.specs.Tree.{Sprig, Tree, leaf, fork, entries, size, IsAtMost, IsHeaped, IsTreap}
 use Rattle.sema_root.specs.Reshaping.{merged, pruned}
-use Rattle.sema_root.proofs.Entering.{Removes-rising, Removes-was, Removes-length, Removes-append_left, Removes-append_right}
+use Rattle.sema_root.proofs.Entering.{Removes-rising, Removes-length, Removes-append_left, Removes-append_right}
 use Rattle.sema_root.proofs.Seeking.{held, entry, entries-length, searched-left, searched-right}
 use Rattle.sema_root.proofs.Seeking.{found-left, found-right}
 use Rattle.sema_root.proofs.Merging.{merged-entries, merged-at_most, merged-heaped, IsAtMost-lower}
@@ -53,11 +53,6 @@ module _ {V : Type 0} (counter : ℕ) where
       let has_right = sym (found-right left node right rising counter more) ∙ has in
       let removes = is (searched-right left node right rising) value has_right in
       Removes-append_left (Removes-append_left removes (entry node ∷ [])) (entries left))
-
-  -- and the entry is the one that it had
-  pub pruned-value : (old : Tree V) (rising : AreRising (entries old)) (value : ℕ × V) (has : entry_of counter (entries old) ≡ Some value)
-      → (pruned-removes old rising value has).value ≡ value
-  pruned-value old rising value has = let was = Removes-was (pruned-removes old rising value has) rising in cc
 
   -- it is one node less
   pub pruned-size : (old : Tree V) → AreRising (entries old) → (value : ℕ × V) → entry_of counter (entries old) ≡ Some value

@@ -1,8 +1,7 @@
 -- What a rising list has for a counter, and what stands before and behind an entry of it.
-use Rattle.std.proofs.Common.{◌≡◌, ◌≢◌, ◌==◌, ℕ, ◌<◌, Bool, true, false, ◌⊎◌, inl, inr, List, [], ◌∷◌, ◌++◌, Some, None}
+use Rattle.std.proofs.Common.{◌≡◌, ◌≢◌, ◌==◌, ℕ, ◌<◌, Bool, true, false, List, [], ◌∷◌, ◌++◌, Some, None}
 use Rattle.std.proofs.Common.{if◌then◌else◌}
-use Rattle.std.proofs.Common.{refl, sym, ap, ◌∙◌, subst₂, arith, eq-eqb, ne_eqb}
-use Rattle.std.proofs.lemmas.Bool.{cases_eq}
+use Rattle.std.proofs.Common.{refl, sym, ap, ◌∙◌, arith, eq-eqb, ne_eqb}
 use Rattle.std.specs.List.{AllByRecursion}
 use Rattle.sema_root.specs.Entries.{entry_of, AllBelow, AllAbove, AreRising}
 
@@ -48,17 +47,6 @@ module _ {A : Type 0} where
           → (if here then Some x.1 else entry_of c xs) ≡ None → (if here then Some x.1 else entry_of c (xs ++ ys)) ≡ entry_of c ys
       by true further none = cc
       by false further none = further none
-
-  -- what the first list has stays
-  pub entry_of-append_left : (c : ℕ) (value : A) (xs ys : List (ℕ × A)) → entry_of c xs ≡ Some value
-      → entry_of c (xs ++ ys) ≡ Some value
-  entry_of-append_left c value [] ys has = cc
-  entry_of-append_left c value (x ∷ xs) ys has = by (x.0 == c) (entry_of-append_left c value xs ys) has
-    where
-      by : (here : Bool) → (entry_of c xs ≡ Some value → entry_of c (xs ++ ys) ≡ Some value)
-          → (if here then Some x.1 else entry_of c xs) ≡ Some value → (if here then Some x.1 else entry_of c (xs ++ ys)) ≡ Some value
-      by true further some = some
-      by false further some = further some
 
   -- a list all below a counter lacks it
   pub entry_of-below : (c : ℕ) (xs : List (ℕ × A)) → AllBelow c xs → entry_of c xs ≡ None
@@ -139,19 +127,3 @@ module _ {A : Type 0} where
       let apart : c ≢ d = omega arith in
       entry_of-append d xs ((c, value) ∷ ys) (entry_of-below d xs (Below-higher c d more xs (Rising-below c value xs ys rising)))
       ∙ rw (ne_eqb c d apart)
-
-  -- a counter that a list above another one has is not that one
-  entry_of-apart : (low c : ℕ) (value : A) (xs : List (ℕ × A)) → AllAbove low xs → entry_of c xs ≡ Some value → low ≢ c
-  entry_of-apart low c value xs above has same = let lacks = rw same at (entry_of-above low xs above) in cc
-
-  -- what holds of each entry holds of what the list has for a counter
-  pub All-entry : (P : ℕ × A → Type 0) (xs : List (ℕ × A)) → AllByRecursion P xs
-      → (c : ℕ) (value : A) → entry_of c xs ≡ Some value → P (c, value)
-  All-entry P [] all c value has = cc
-  All-entry P (x ∷ xs) all c value has = by (cases_eq x.0 c) (All-entry P xs all.1 c value)
-    where
-      by : (x.0 ≡ c) ⊎ (x.0 ≢ c) → (entry_of c xs ≡ Some value → P (c, value)) → P (c, value)
-      by (inl same) further =
-          let here : x.1 ≡ value = (let found = rw (eq-eqb x.0 c same) at has in cc) in
-          subst₂ (λ d v. P (d, v)) same here all.0
-      by (inr apart) further = further (rw (ne_eqb x.0 c apart) at has)

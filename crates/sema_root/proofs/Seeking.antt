@@ -1,9 +1,9 @@
 -- Down a search tree, what is sought is found: at the counter's node, or nowhere.
-use Rattle.std.proofs.Common.{◌≡◌, ◌≢◌, ◌==◌, ℕ, ◌<◌, ltb, ◌⊎◌, inl, inr, ◌∷◌, Option, Some, None, length, option_map}
+use Rattle.std.proofs.Common.{◌≡◌, ◌≢◌, ℕ, ◌<◌, ◌⊎◌, inl, inr, ◌∷◌, Option, Some, None, length, option_map}
 use Rattle.std.proofs.Common.{refl, sym, ap, ◌∙◌, arith, eq-eqb, ne_eqb, lt-ltb, le-ltb, le_of_lt, length-append}
-use Rattle.std.proofs.lemmas.Bool.{cases_order, cond_both}
+use Rattle.std.proofs.lemmas.Bool.{cases_order}
 use Rattle.sema_root.specs.Entries.{entry_of, AllBelow, AllAbove, AreRising}
-use Rattle.sema_root.specs.Tree.{Sprig, Tree, leaf, fork, entries, size, sought, top_value, IsTreap}
+use Rattle.sema_root.specs.Tree.{Sprig, Tree, leaf, fork, entries, size, sought, top_value}
 use Rattle.sema_root.proofs.Rising.{Rising-append_left, Rising-append_right, Rising-below, Rising-above}
 use Rattle.sema_root.proofs.Rising.{Rising-here, Rising-left, Rising-right}
 
@@ -77,20 +77,6 @@ module _ {V : Type 0} where
     sought-right more = let apart : counter ≢ node.counter = omega arith in
         rw (ne_eqb counter node.counter apart, le-ltb counter node.counter (le_of_lt more))
 
-  -- the node that the search ends at has the counter
-  pub sought-counter : (counter : ℕ) (tree : Tree V) {left : Tree V} {node : Sprig V} {right : Tree V}
-      → sought counter tree ≡ fork left node right → node.counter ≡ counter
-  sought-counter counter leaf found = cc
-  sought-counter counter (fork l n r) {left = left} {node = node} {right = right} found =
-      by (sought-counter counter l) (sought-counter counter r) (cases_order counter n.counter)
-    where
-      by : (sought counter l ≡ fork left node right → node.counter ≡ counter)
-          → (sought counter r ≡ fork left node right → node.counter ≡ counter)
-          → (counter ≡ n.counter) ⊎ ((counter < n.counter) ⊎ (n.counter < counter)) → node.counter ≡ counter
-      by down_left down_right (inl same) = cc (sought-here counter l n r same)
-      by down_left down_right (inr (inl less)) = down_left (sym (sought-left counter l n r less) ∙ found)
-      by down_left down_right (inr (inr more)) = down_right (sym (sought-right counter l n r more) ∙ found)
-
   -- the search ends at what the entries have for the counter
   pub sought-entry : (counter : ℕ) (tree : Tree V) → AreRising (entries tree)
       → top_held (sought counter tree) ≡ entry_of counter (entries tree)
@@ -119,20 +105,3 @@ module _ {V : Type 0} where
       → top_value (sought counter tree) ≡ option_map (λ pair. pair.1) (entry_of counter (entries tree))
   sought-value counter tree rising =
       top_held-value (sought counter tree) ∙ ap (option_map (λ pair. pair.1)) (sought-entry counter tree rising)
-
-  -- the two subtrees of a treap are treaps: the left one
-  pub treap-left : (left : Tree V) (node : Sprig V) (right : Tree V) → IsTreap (fork left node right) → IsTreap left
-  treap-left left node right treap = record { searched = searched-left left node right treap.searched; heaped = treap.heaped.2 }
-
-  -- and the right one
-  pub treap-right : (left : Tree V) (node : Sprig V) (right : Tree V) → IsTreap (fork left node right) → IsTreap right
-  treap-right left node right treap = record { searched = searched-right left node right treap.searched; heaped = treap.heaped.3 }
-
-  -- and so is the subtree that a search ends at
-  pub sought-treap : (counter : ℕ) (tree : Tree V) → IsTreap tree → IsTreap (sought counter tree)
-  sought-treap counter leaf treap = treap
-  sought-treap counter (fork left node right) treap =
-      cond_both (counter == node.counter) _ _ IsTreap (λ here. treap)
-      (λ apart. cond_both (ltb counter node.counter) _ _ IsTreap
-      (λ less. sought-treap counter left (treap-left left node right treap))
-      (λ more. sought-treap counter right (treap-right left node right treap)))

@@ -11,7 +11,7 @@ use Rattle.step_table.specs.Counting.{total}
 use Rattle.step_table.specs.ListWorld.{ListSeat, ListWorld}
 use Rattle.step_table.specs.ListSteps as list
 use Rattle.step_table.specs.Core.{Core, counters_of}
-use Rattle.step_table.specs.Run.{Run, layout, start, stepped, refusal_of, refusal}
+use Rattle.step_table.specs.Run.{Run, layout, stepped, refusal_of, refusal}
 use Rattle.step_law_whole.specs.RunInvariant.{may_add, to_take, holds, more_to_add, IsSoundRunOf, IsScenario}
 use Rattle.step_law_alike.specs.Changed.{changed_place, changed_list_place, changed, changed_stepped}
 use Rattle.step_law_alike.specs.ChangedInvariant.{IsWellFormedCore, WaitersRaisedIn}
@@ -19,7 +19,6 @@ use Rattle.step_table.proofs.Sums.{put_at, total_same}
 use Rattle.step_law_whole.proofs.CoreCalling as calling
 use Rattle.step_law_whole.proofs.CoreKeeping as keeping
 use Rattle.step_law_whole.proofs.RunBeginning.{KeepsRuns}
-use Rattle.step_law_whole.proofs.RunStarting.{starts_so}
 use Rattle.step_law_whole.proofs.RunStepping.{is_there, can_run_at, steps_so}
 use Rattle.step_law_alike.proofs.ChangedPlaces.{IsAsGood, IsAsGoodOnList, as_good, as_good_on_list, changes, list_changes}
 use Rattle.step_law_alike.proofs.ChangedRaising.{waiters_stepped}
@@ -33,9 +32,6 @@ well_formed_runs parts = record {
   called = calling.called (layout parts) (well_formed_keep (layout parts));
   kept = keeping.kept (layout parts) (well_formed_keep (layout parts));
 }
-
-pub well_formed_start : (parts : Parts) → IsScenario parts → IsSoundRunOf (IsWellFormedCore (layout parts)) parts (start parts)
-well_formed_start parts scenario = starts_so parts (well_formed_runs parts) scenario
 
 pub well_formed_stepped : (parts : Parts) (run : Run) (i : ℕ) → IsScenario parts → IsSoundRunOf (IsWellFormedCore (layout parts)) parts run
     → refusal parts run i ≡ None → IsSoundRunOf (IsWellFormedCore (layout parts)) parts (stepped parts run i)

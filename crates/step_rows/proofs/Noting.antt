@@ -7,7 +7,7 @@ use Rattle.std.proofs.lemmas.List.{length-map, length_push}
 use Rattle.std.proofs.lemmas.Option.{slice_get-get_or}
 use Rattle.std.specs.Vec.{with_item}
 use Rattle.waiters.specs.declared.wait.Wait.{Wait}
-use Rattle.waiters.specs.Lists.{Lists, IsOpen, waits_at, Changes, first_with, without_first}
+use Rattle.waiters.specs.Lists.{Lists, waits_at, Changes, first_with, without_first}
 use Rattle.step_table.specs.declared.list_place.ListEffect.{ListEffect}
 use Rattle.step_table.specs.declared.list_place.ListEffect.TheVariants.{Nothing, HandsOut, Grants, Queues, TakesOut, TakesAll, Gives}
 use Rattle.step_table.specs.declared.list_place.ListPlace.{ListPlace}
@@ -159,9 +159,6 @@ module _ (h : Inside) (l : StoredList) (i n : ℕ) (s : SeatRecord) (reads : Rea
     count = length-set h.seats.items n (record s { ticket = Some t }) j;
   }
 
-  pub hand_open : IsOpen h.waits s.hand
-  hand_open = reads.are.open_hand n s at
-
   -- its first wait left its hand
   module _ (later : Lists) (ch : Changes h.waits later s.hand (Some (drop 1 (waits_at h.waits s.hand)))) where
     pub given : told (record h { waits = later }) ≡ made (told h) n Gives
@@ -218,16 +215,10 @@ module _ (h : Inside) (l : StoredList) (i n : ℕ) (s : SeatRecord) (reads : Rea
           hand = (ap (λ o. (seats_in h.waits h.seats.items n).hand ++ one_or_none o) none ∙ append-nil (seats_in h.waits h.seats.items n).hand) j;
         }
 
-    pub none_out_kept : later ≡ h.waits → AreLists later h.queue h.seats.items
-    none_out_kept same = subst (λ z. AreLists z h.queue h.seats.items) (sym same) reads.are
-
     -- the wait w has it, and went into its hand
     module _ (w : Wait) (first : first_with t (waits_at h.waits h.queue) ≡ Some w) (room : later.room ≡ h.waits.room + 1) where
       pub middle : AreLists later h.queue h.seats.items
       middle = are_queue h.waits h.queue h.seats.items reads.are later _ ch (let a = shorter t w (waits_at h.waits h.queue) first in omega arith)
-
-      pub hand_still_open : IsOpen later s.hand
-      hand_still_open = middle.open_hand n s at
 
       module _ (last : Lists) (put_in : Changes later last s.hand (Some (waits_at later s.hand ++ w ∷ []))) (less_room : last.room + 1 ≡ later.room) where
         pub one_out_kept : AreLists last h.queue h.seats.items

@@ -174,9 +174,6 @@ module _ (s t : Token) (a : SeatModel) (d : ℤ) (found left : GroupWord) (left_
       on_same : (group_row (G2 left) seen).1 ≡ Goes (G3 left)
       on_same = ap (λ (c : Bool). if c then Goes (G3 left) else Fails AddWithWait) same
 
-      pub goes_to_empty : u.me.0.own.knows.next ≡ Goes (G3 left)
-      goes_to_empty = ap (λ (m : Me). m.0.own.knows.next) again.me_is ∙ on_same
-
       module _ (v : Token) (was : GroupWord) (e : Steps u (G3 left) was v) where
         pub emptied : v.me.0.own.knows.next ≡ Releases left.waits
         emptied = ap (λ (m : Me). m.0.own.knows.next) e.me_is

@@ -63,18 +63,6 @@ module _ (z : TableModel) (s t : SeatModel) (c : ℕ) (held : Bool) (is : IsLock
         let stays = stays_released s t c wake released in
         ap (λ i. takes i t.sight.seen) (sym stays.number) ∙ counted ∙ stays.taken_is ∙ sym (kept z s c held is)
 
-    pub unlocked_keeps : IsLock z (Some t) c false
-    unlocked_keeps =
-        let stays = stays_released s t c wake released in
-        record {
-          mine = t;
-          seat_is = refl;
-          own = stays.table ∙ own_table z s c held is;
-          inside = is.inside;
-          counted = counted;
-          took = λ e. absurd (cc e);
-        }
-
     pub unlocked : 0 < s.left → HasUnlocked (lock_of z (Some s) c held) (lock_of z (Some t) c false)
     unlocked some =
         let stays = stays_released s t c wake released in
