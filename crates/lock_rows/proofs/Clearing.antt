@@ -22,19 +22,6 @@ pub record ClearedUpTo (table : List (List Bool)) (at : Stand) (s t : Seat) (k :
   pub done : (r : ℕ) → r < k → each (pos 0) t.registers r ≡ cond (kept_by table at r) (each (pos 0) s.registers r) (pos 0)
   pub rest : (r : ℕ) → k ≤ r → each (pos 0) t.registers r ≡ each (pos 0) s.registers r
 
-module _ (table : List (List Bool)) (at : Stand) (s : Seat) where
-  pub none_yet : ClearedUpTo table at s s 0
-  none_yet = record {
-    stand = refl;
-    sections = refl;
-    grant = refl;
-    count = refl;
-    done = λ r below. absurd (omega arith);
-    rest = λ r from. refl;
-  }
-
-  module _ (t : Seat) (k : ℕ) (so : ClearedUpTo table at s t k) where
-
 -- a seat that has come to its line and was cleared there has gone on
 module _ (code : List CodeLine) (me : ℕ) (table : List (List Bool)) (is : IsTableOf code 8 table) (first : LockSeat) (n : ℕ)
     (come t : LockSeat) (there : come ≡ come_from code me first n) (small : (r : ℕ) → 8 ≤ r → come.registers r ≡ pos 0)
