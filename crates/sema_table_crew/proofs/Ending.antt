@@ -7,7 +7,7 @@ use Rattle.sema_table.specs.declared.answers.Wake.TheVariants.{Nobody, One, Hand
 use Rattle.sema_table.specs.Seats.{SeatModel}
 use Rattle.sema_table.specs.Callers.{IsSeatAfter, TriesToAcquire, AcquiresUnit}
 use Rattle.sema_table.specs.CallersReleasing.{ReleasesUnit}
-use Rattle.sema_table_crew.specs.Turns.{Releases, Takes}
+use Rattle.sema_table_crew.specs.Turns.{Releases, Takes, is_odd}
 
 -- the same seat of the same table, which has added so many units
 pub record Keeps (s : SeatModel) (added : ℕ) (t : SeatModel) : Type 0 where
@@ -47,3 +47,14 @@ pub left_falls : (s : SeatModel) (c : ℕ) (handoff : Bool) (u : SeatModel) (lif
 left_falls s c handoff u lifo t some (inl (wake, released)) takes =
     let e = (released_keeps s u c handoff wake released).left in let f = (takes_keeps u t c lifo takes).left in omega (arith, e, f, some)
 left_falls s c handoff u lifo t some (inr (none, same)) takes = omega (arith, none, some)
+
+-- so a release before it took one of what is left behind a try
+pub left_before : (s : SeatModel) (c : ℕ) (handoff : Bool) (u : SeatModel) (tried : Tried) (v : SeatModel) → 0 < s.left
+    → Releases s c handoff u → TriesToAcquire u c tried v → v.left + 1 ≡ s.left
+left_before s c handoff u tried v some (inl (wake, released)) x =
+    let e = (released_keeps s u c handoff wake released).left in let f = (tried_keeps u v c tried x).left in omega (arith, e, f, some)
+left_before s c handoff u tried v some (inr (none, same)) x = absurd (omega (arith, none, some))
+
+-- an acquire by what was left then, told by what is left now
+pub as_odd : (s t : SeatModel) (c n m : ℕ) → n + 1 ≡ m → AcquiresUnit s c (is_odd (n + 1)) t → AcquiresUnit s c (is_odd m) t
+as_odd s t c n m e = subst (λ k. AcquiresUnit s c (is_odd k) t) e

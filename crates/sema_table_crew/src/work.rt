@@ -140,7 +140,12 @@ fn rounds<R: Wait>(rt: &R, table: &SemaTable, seat: Seat) -> Seat
         seat = release(rt, table, seat, first, is_odd);
         match table.try_acquire(&mut seat, first) {
             Tried::Taken => {}
-            Tried::Zero | Tried::Lost => seat = table.acquire(rt, seat, first, is_odd),
+            Tried::Zero | Tried::Lost => {
+                // Asked anew: a number that the loop keeps for here would be one more move between an
+                // exchange and the next add.
+                let was_odd = (seat.left() + 1) % 2 == 1;
+                seat = table.acquire(rt, seat, first, was_odd);
+            }
         }
     }
     seat
