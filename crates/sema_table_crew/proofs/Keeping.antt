@@ -1,13 +1,11 @@
 -- What a thread of a crew has kept, of which its promise is known; and one turn more.
-use Rattle.std.proofs.Common.{◌≡◌, ◌⊎◌, inl, inr, Bool, ℕ, ◌+◌, length, add-one, refl, sym, subst}
-use Rattle.sema_table.specs.declared.answers.Tried.{Tried}
-use Rattle.sema_table.specs.declared.answers.Tried.TheVariants.{Taken, Zero, Lost}
+use Rattle.std.proofs.Common.{◌≡◌, true, false, ℕ, ◌+◌, ◌%◌, ◌==◌, length, add-one, sym, ap, subst}
 use Rattle.sema_table.specs.Seats.{TableModel, SeatModel}
-use Rattle.sema_table.specs.Callers.{TriesToAcquire, AcquiresUnit}
+use Rattle.sema_table_crew.specs.declared.work.Way.{Way}
 use Rattle.sema_table_crew.specs.declared.work.Work.{Work}
 use Rattle.sema_table_crew.specs.declared.crew.Plan.{Plan}
 use Rattle.sema_table_crew.specs.declared.work.Work.TheVariants.{Rounds}
-use Rattle.sema_table_crew.specs.Turns.{Releases, Follows, Takes, is_odd, IsTurn, HasRun, HasWorked}
+use Rattle.sema_table_crew.specs.Turns.{GoesRound, plain, way_of, IsTurn, HasRun, HasWorked}
 use Rattle.sema_table_crew.specs.Crew.{Worker, IsWorker}
 
 pub kept : (t : TableModel) (plan : Plan) (w : Worker) (s : SeatModel) → IsWorker t plan w
@@ -20,20 +18,14 @@ pub one_more : (work : Work) (first : SeatModel) (n : ℕ) (s t : SeatModel) →
     → IsTurn work (length first.table.setting.starts) first.number n s t → HasRun work first (n + 1) t
 one_more work first n s t ran turn = subst (λ (k : ℕ). HasRun work first k t) (sym (add-one n)) (s, ran, turn)
 
--- a unit is taken by the try that took it, and by the acquire after one that took none
-module _ (s : SeatModel) (c : ℕ) (lifo : Bool) (tried : Tried) (u : SeatModel) (first : TriesToAcquire s c tried u) where
-  pub by_try : tried ≡ Taken → Takes s c lifo u
-  by_try is = (tried, u, first, subst (λ (x : Tried). Follows x u c lifo u) (sym is) refl)
+-- one round more, of a counter that is 0: the even ones are plain, and the others have handoff and lifo
+pub one_round : (first : SeatModel) (m : ℕ) (s : SeatModel) (k : ℕ) (way : Way) (t : SeatModel) → HasRun Rounds first m s → k ≡ 0
+    → way ≡ way_of m → GoesRound s k way t → HasRun Rounds first (m + 1) t
+one_round first m s k way t ran zero is went =
+    one_more Rounds first m s t ran (subst (λ n. GoesRound s n (way_of m) t) zero (subst (λ w. GoesRound s k w t) is went))
 
-  pub by_acquire : (t : SeatModel) → (tried ≡ Zero) ⊎ (tried ≡ Lost) → AcquiresUnit u c lifo t → Takes s c lifo t
-  by_acquire t (inl zero) acquired = (tried, u, first, subst (λ (x : Tried). Follows x u c lifo t) (sym zero) acquired)
-  by_acquire t (inr lost) acquired = (tried, u, first, subst (λ (x : Tried). Follows x u c lifo t) (sym lost) acquired)
+pub plain_way : (m : ℕ) → m % 2 ≡ 0 → plain ≡ way_of m
+plain_way m even = let is : false ≡ (m % 2 == 1) = sym (ap (λ n. n == 1) even) in λ i. record { lifo = is i; handoff = is i }
 
--- one round more, of a counter that is 0, with handoff and lifo as the number of the units says that were left
-pub one_round : (first : SeatModel) (m : ℕ) (s : SeatModel) (k left : ℕ) (u t : SeatModel) → HasRun Rounds first m s → k ≡ 0
-    → left ≡ s.left → Releases s k (is_odd left) u → Takes u k (is_odd left) t → HasRun Rounds first (m + 1) t
-one_round first m s k left u t ran zero is released takes = one_more Rounds first m s t ran (
-  u,
-  subst (λ (n : ℕ). Releases s 0 (is_odd n) u) is (subst (λ (n : ℕ). Releases s n (is_odd left) u) zero released),
-  subst (λ (n : ℕ). Takes u 0 (is_odd n) t) is (subst (λ (n : ℕ). Takes u n (is_odd left) t) zero takes),
-)
+pub odd_way : (m : ℕ) → m % 2 ≡ 1 → record { lifo = true; handoff = true } ≡ way_of m
+odd_way m odd = let is : true ≡ (m % 2 == 1) = sym (ap (λ n. n == 1) odd) in λ i. record { lifo = is i; handoff = is i }

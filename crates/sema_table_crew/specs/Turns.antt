@@ -10,6 +10,7 @@ use Rattle.sema_table.specs.Callers.{TriesToAcquire, AcquiresUnit}
 use Rattle.sema_table.specs.CallersReleasing.{ReleasesUnit, PostsUnits, WakesSome}
 use Rattle.sema_table.specs.CallersEnding.{EndsTable}
 use Rattle.sema_table.specs.Closing.{ClosedModel, AreAll}
+use Rattle.sema_table_crew.specs.declared.work.Way.{Way}
 use Rattle.sema_table_crew.specs.declared.work.Work.{Work}
 use Rattle.sema_table_crew.specs.declared.work.Work.TheVariants.{Adds, Hands, HandsTwo, Rounds, Spread, Locks}
 
@@ -34,8 +35,16 @@ Follows Lost s c lifo t = AcquiresUnit s c lifo t
 abbrev pub Takes : SeatModel → ℕ → Bool → SeatModel → Type 0
 Takes s c lifo t = (tried : Tried) × (u : SeatModel) × TriesToAcquire s c tried u × Follows tried u c lifo t
 
-abbrev pub is_odd : ℕ → Bool
-is_odd turn = turn % 2 == 1
+-- a release, and then a unit taken
+abbrev pub GoesRound : SeatModel → ℕ → Way → SeatModel → Type 0
+GoesRound s c way t = (u : SeatModel) × Releases s c way.handoff u × Takes u c way.lifo t
+
+abbrev pub plain : Way
+plain = record { lifo = false; handoff = false }
+
+-- that of rounds: each second one has handoff and lifo
+abbrev pub way_of : ℕ → Way
+way_of turn = let is_odd = turn % 2 == 1 in record { lifo = is_odd; handoff = is_odd }
 
 -- the turn of this number, by a seat of this number, of so many counters: what `Work` says. A spread is of
 -- some counter
@@ -46,9 +55,8 @@ IsTurn (Hands way) many own turn s t =
 IsTurn HandsTwo many own turn s t =
     (u v : SeatModel) × AcquiresUnit s (own % many) false u × AcquiresUnit u (own % many) false v
     × ReleasesTwo v ((own + 1) % many) t
-IsTurn Rounds many own turn s t =
-    (u : SeatModel) × Releases s 0 (is_odd s.left) u × Takes u 0 (is_odd s.left) t
-IsTurn Spread many own turn s t = (c : ℕ) × (u : SeatModel) × Releases s c false u × Takes u c false t
+IsTurn Rounds many own turn s t = GoesRound s 0 (way_of turn) t
+IsTurn Spread many own turn s t = (c : ℕ) × GoesRound s c plain t
 IsTurn Locks many own turn s t =
     let c = (own + turn) % 2 ^ 32 % many in (u : SeatModel) × AcquiresUnit s c false u × Releases u c false t
 

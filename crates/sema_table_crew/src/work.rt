@@ -2,7 +2,7 @@
 //! the table would be measured with them.
 
 ghost use Rattle.std.specs.Prelude.{◌≡◌, ◌%◌, ◌<◌, length};
-ghost use Rattle.sema_table_crew.specs.Turns.{Releases, ReleasesTwo, HasRun, HasRunOut, HasDone};
+ghost use Rattle.sema_table_crew.specs.Turns.{Releases, ReleasesTwo, GoesRound, HasRun, HasRunOut, HasDone};
 
 use sema_table::{PostedMany, Seat, SemaTable, Tried};
 use std::sync::Wait;
@@ -18,6 +18,18 @@ pub struct Way {
     pub handoff: bool,
 }
 
+const PLAIN: Way = Way {
+    lifo: false,
+    handoff: false,
+};
+
+/// That of each second round. Rounds go by twos, since one that asked which way it goes would keep a number
+/// for it, which is one move more between an exchange and the next add.
+const ODD: Way = Way {
+    lifo: true,
+    handoff: true,
+};
+
 /// What each seat of a table does in a turn. Counters are taken modulo how many there are. `Rounds` and
 /// `Spread` are measured beside others: a unit that is there is taken by a try, and the release limit ends
 /// them, so that no look of a second loop counter, nor one whether a call that may wait came back, stands
@@ -31,7 +43,7 @@ pub enum Work {
     /// Takes two units from the counter of its own number, and gives two to the next by one add.
     HandsTwo,
     /// Releases counter 0, and then takes a unit of it, until it may release no more; with handoff and with
-    /// lifo where it may do so an odd number of times yet.
+    /// lifo in each second turn.
     Rounds,
     /// Releases a counter and takes a unit of it, which changes with each turn and seat, until it may release
     /// no more; without handoff and lifo.
@@ -128,6 +140,21 @@ fn hands_two<R: Wait>(rt: &R, table: &SemaTable, seat: Seat, turns: u32) -> Seat
     seat
 }
 
+/// A release, and then a unit taken: by a try, and by an acquire where that took nothing.
+#[inline(always)]
+fn round<R: Wait>(rt: &R, table: &SemaTable, seat: Seat, counter: CounterId, way: Way) -> Seat
+    requires { (seat.table ≡ table.now) × (counter < length table.now.setting.starts) }
+    ensures same { (result.table ≡ seat.table) × (result.number ≡ seat.number) }
+    ensures went { GoesRound seat counter way result }
+    ensures fewer { 0 < seat.left → result.left < seat.left }
+{
+    let mut seat = release(rt, table, seat, counter, way.handoff);
+    match table.try_acquire(&mut seat, counter) {
+        Tried::Taken => seat,
+        Tried::Zero | Tried::Lost => table.acquire(rt, seat, counter, way.lifo),
+    }
+}
+
 fn rounds<R: Wait>(rt: &R, table: &SemaTable, seat: Seat) -> Seat
     requires { (seat.table ≡ table.now) × (0 < length table.now.setting.starts) }
     ensures same { (result.table ≡ seat.table) × (result.number ≡ seat.number) }
@@ -136,17 +163,11 @@ fn rounds<R: Wait>(rt: &R, table: &SemaTable, seat: Seat) -> Seat
     let first = CounterId::new(0);
     let mut seat = seat;
     while seat.left() > 0 {
-        let is_odd = seat.left() % 2 == 1;
-        seat = release(rt, table, seat, first, is_odd);
-        match table.try_acquire(&mut seat, first) {
-            Tried::Taken => {}
-            Tried::Zero | Tried::Lost => {
-                // Asked anew: a number that the loop keeps for here would be one more move between an
-                // exchange and the next add.
-                let was_odd = (seat.left() + 1) % 2 == 1;
-                seat = table.acquire(rt, seat, first, was_odd);
-            }
+        seat = round(rt, table, seat, first, PLAIN);
+        if seat.left() == 0 {
+            return seat;
         }
+        seat = round(rt, table, seat, first, ODD);
     }
     seat
 }
@@ -178,11 +199,7 @@ fn spread<R: Wait>(rt: &R, table: &SemaTable, seat: Seat) -> Seat
     while seat.left() > 0 {
         drawn = draw(drawn);
         let counter = CounterId::new(one_of(drawn, many));
-        seat = release(rt, table, seat, counter, false);
-        match table.try_acquire(&mut seat, counter) {
-            Tried::Taken => {}
-            Tried::Zero | Tried::Lost => seat = table.acquire(rt, seat, counter, false),
-        }
+        seat = round(rt, table, seat, counter, PLAIN);
     }
     seat
 }
