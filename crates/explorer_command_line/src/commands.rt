@@ -5,7 +5,7 @@ use crate::locks::{RETRACE, TRY};
 use crate::shared::{
     DRAWN, EVERY, FLAG, PROGRESS, SCENARIO_FILE, SEARCHERS, STATS, VARIANT, WORLDS,
 };
-use clap::{ArgAction, Command};
+use clap::{Arg, ArgAction, Command};
 use std::alloc::{AllocError, Global};
 
 /// What the exit statuses mean.
@@ -224,16 +224,32 @@ static COMMANDS: [Row; 9] = [
     },
 ];
 
+/// A command's arguments, in their order.
+fn arguments_of<'a>(alloc: Global, row: &Row) -> Result<Vec<Arg<'a>>, AllocError> {
+    let mut arguments = Vec::new(alloc);
+    for one in row.arguments {
+        arguments.push(made_argument(alloc, one)?)?;
+    }
+    Ok(arguments)
+}
+
 /// A command with its arguments and its help.
 fn command_of<'a>(alloc: Global, row: &Row) -> Result<Command<'a>, AllocError> {
-    let mut command = Command::new(alloc, row.name).about(row.about);
-    for one in row.arguments {
-        command = command.arg(made_argument(alloc, one)?)?;
-    }
-    Ok(match row.below {
+    let command = Command::new(alloc, row.name).about(row.about);
+    let command = match row.below {
         Some(below) => command.after_help(below),
         None => command,
-    })
+    };
+    command.args(arguments_of(alloc, row)?)
+}
+
+/// All commands, in the order of the help.
+fn all_commands<'a>(alloc: Global) -> Result<Vec<Command<'a>>, AllocError> {
+    let mut commands = Vec::new(alloc);
+    for row in &COMMANDS {
+        commands.push(command_of(alloc, row)?)?;
+    }
+    Ok(commands)
 }
 
 /// A program that is asked for by one of its commands. The words begin after its own name.
@@ -254,9 +270,5 @@ fn named_command<'a>(alloc: Global) -> Result<Command<'a>, AllocError> {
 
 /// The commands and their help.
 pub fn parklot_command<'a>(alloc: Global) -> Result<Command<'a>, AllocError> {
-    let mut program = named_command(alloc)?;
-    for row in &COMMANDS {
-        program = program.subcommand(command_of(alloc, row)?)?;
-    }
-    Ok(program)
+    named_command(alloc)?.subcommands(all_commands(alloc)?)
 }
