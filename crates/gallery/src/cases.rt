@@ -174,6 +174,23 @@ fn request(alloc: Global, scenario: &str) -> Result<Ended, AllocError> {
     Ok(ended_well(alloc, format!(in alloc; "{request:?}\n")?))
 }
 
+/// Adds what is answered to a case whose status is told to be this, where that isn't what is told.
+fn add_otherwise<R: Files + Threads + Wait + Clock + Sync>(
+    team: &R,
+    alloc: Global,
+    otherwise: &mut String,
+    case: &Case,
+    status: &str,
+) -> Result<()> {
+    let ended = case.ended(team, alloc)?;
+    if case.fits(&ended, status) {
+        return Ok(());
+    }
+    let (command, status) = (&case.command, ended.status);
+    let (text, aside) = (&ended.text, &ended.aside);
+    Ok(write!(otherwise, "${command}\n{text}{aside}{STATUS}{status}\n")?)
+}
+
 /// How many cases there are, and what is answered where that isn't what is told.
 pub(crate) fn answers<R: Files + Threads + Wait + Clock + Sync>(
     team: &R,
@@ -184,17 +201,11 @@ pub(crate) fn answers<R: Files + Threads + Wait + Clock + Sync>(
     let mut otherwise = String::new(alloc);
     let mut count = 0_usize;
     for line in cases.lines() {
-        let Some(status) = line.strip_prefix(STATUS) else {
+        if let Some(status) = line.strip_prefix(STATUS) {
+            count = count.saturating_add(1);
+            add_otherwise(team, alloc, &mut otherwise, &case, status)?;
+        } else {
             case.read(alloc, line)?;
-            continue;
-        };
-        count = count.saturating_add(1);
-        let ended = case.ended(team, alloc)?;
-        if !case.fits(&ended, status) {
-            let (command, status) = (&case.command, ended.status);
-            let (text, aside) = (&ended.text, &ended.aside);
-            let answer = format!(in alloc; "${command}\n{text}{aside}{STATUS}{status}\n")?;
-            otherwise.push_str(&answer)?;
         }
     }
     Ok((count, otherwise))

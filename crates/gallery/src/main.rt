@@ -119,9 +119,8 @@ const CASES: [&str; 15] = [
     "lock_searches",
 ];
 
-/// The words of a command. What stands in quotes is one word.
-fn words_of(alloc: Global, command: &str) -> Result<Vec<String>, AllocError> {
-    let mut words = Vec::new(alloc);
+/// Adds the words of a command. What stands in quotes is one word.
+fn add_words(alloc: Global, words: &mut Vec<String>, command: &str) -> Result<(), AllocError> {
     for (i, part) in command.split('"').enumerate() {
         if i % 2 == 1 {
             words.push(String::from_str(alloc, part)?)?;
@@ -131,6 +130,13 @@ fn words_of(alloc: Global, command: &str) -> Result<Vec<String>, AllocError> {
             }
         }
     }
+    Ok(())
+}
+
+/// The words of a command.
+fn words_of(alloc: Global, command: &str) -> Result<Vec<String>, AllocError> {
+    let mut words = Vec::new(alloc);
+    add_words(alloc, &mut words, command)?;
     Ok(words)
 }
 
@@ -160,6 +166,19 @@ fn run<R: Files + Threads + Wait + Clock + Sync>(
     })
 }
 
+/// Adds what the program answers to a command.
+fn add_answer<R: Files + Threads + Wait + Clock + Sync>(
+    team: &R,
+    alloc: Global,
+    answers: &mut String,
+    command: &str,
+    scenario: &str,
+) -> Result<()> {
+    let ended = run(team, alloc, words_of(alloc, command)?, scenario)?;
+    let (text, status) = (&ended.text, ended.status);
+    Ok(write!(answers, "{PROMPT}{command}\n{text}exit {status}\n")?)
+}
+
 /// The commands that are told, each with what the program answers.
 fn answers<R: Files + Threads + Wait + Clock + Sync>(
     team: &R,
@@ -170,10 +189,7 @@ fn answers<R: Files + Threads + Wait + Clock + Sync>(
     let mut answers = String::new(alloc);
     for line in told.lines() {
         if let Some(command) = line.strip_prefix(PROMPT) {
-            let ended = run(team, alloc, words_of(alloc, command)?, scenario)?;
-            let status = ended.status;
-            let text = ended.text;
-            answers.push_str(&format!(in alloc; "{PROMPT}{command}\n{text}exit {status}\n")?)?;
+            add_answer(team, alloc, &mut answers, command, scenario)?;
         }
     }
     Ok(answers)
@@ -186,8 +202,7 @@ fn tried<R: Files + Threads + Wait + Clock + Sync>(
     program: &str,
 ) -> Result<String> {
     let ended = run(team, alloc, words_of(alloc, "try")?, program)?;
-    let status = ended.status;
-    let (text, aside) = (ended.text, ended.aside);
+    let (text, aside, status) = (&ended.text, &ended.aside, ended.status);
     Ok(format!(in alloc; "{text}{aside}exit {status}\n")?)
 }
 
@@ -201,17 +216,26 @@ fn tell(rt: &HostRuntime, name: &str, answers: &str, told: &str) -> Result<()> {
     Ok(())
 }
 
+/// The text of a file.
+fn text_of(rt: &HostRuntime, folder: &str, name: &str, ending: &str) -> Result<String> {
+    let path = format!(in rt.alloc(); "{folder}{name}{ending}")?;
+    Ok(fs::read_to_string(rt, path)?)
+}
+
 /// Puts a text through the program, with the words that stand beside it.
 fn try_text<R: Files + Threads + Wait + Clock + Sync>(
     rt: &HostRuntime,
     team: &R,
     name: &str,
 ) -> Result<()> {
-    let alloc = rt.alloc();
-    let scenario = fs::read_to_string(rt, format!(in alloc; "{name}.txt")?)?;
-    let told = fs::read_to_string(rt, format!(in alloc; "{name}.answers")?)?;
-    let answers = answers(team, alloc, &scenario, &told)?;
-    tell(rt, name, &answers, &told)
+    let scenario = text_of(rt, "", name, ".txt")?;
+    let told = text_of(rt, "", name, ".answers")?;
+    tell(
+        rt,
+        name,
+        &answers(team, rt.alloc(), &scenario, &told)?,
+        &told,
+    )
 }
 
 /// Tries the cases of a file.
@@ -220,9 +244,8 @@ fn try_cases<R: Files + Threads + Wait + Clock + Sync>(
     team: &R,
     name: &str,
 ) -> Result<()> {
-    let alloc = rt.alloc();
-    let told = fs::read_to_string(rt, format!(in alloc; "cases/{name}.cases")?)?;
-    let (count, otherwise) = cases::answers(team, alloc, &told)?;
+    let told = text_of(rt, "cases/", name, ".cases")?;
+    let (count, otherwise) = cases::answers(team, rt.alloc(), &told)?;
     if otherwise.is_empty() {
         println!(rt; "{name}: {count} cases as told")?;
     } else {
@@ -237,11 +260,9 @@ fn try_lock<R: Files + Threads + Wait + Clock + Sync>(
     team: &R,
     name: &str,
 ) -> Result<()> {
-    let alloc = rt.alloc();
-    let program = fs::read_to_string(rt, format!(in alloc; "locks/{name}.lock")?)?;
-    let told = fs::read_to_string(rt, format!(in alloc; "locks/{name}.answer")?)?;
-    let answer = tried(team, alloc, &program)?;
-    tell(rt, name, &answer, &told)
+    let program = text_of(rt, "locks/", name, ".lock")?;
+    let told = text_of(rt, "locks/", name, ".answer")?;
+    tell(rt, name, &tried(team, rt.alloc(), &program)?, &told)
 }
 
 fn main(rt: HostRuntime) -> Result<()> {
