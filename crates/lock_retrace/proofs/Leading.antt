@@ -4,8 +4,9 @@ use Rattle.std.proofs.lemmas.List.{append_assoc, take-append-drop}
 use Rattle.lock_code.specs.declared.program.Program.{Program}
 use Rattle.lock_machine.specs.Moment.{LockMoment, IsStarted}
 use Rattle.lock_machine.specs.Shared.{world_of}
-use Rattle.lock_retrace.specs.Ends.{LeadsTo, HasTried, IsRefusedIn}
+use Rattle.lock_retrace.specs.Ends.{LeadsTo, IsRefusedIn}
 use Rattle.lock_steps.specs.Steps.{start, step, StepsTo}
+use Rattle.lock_telling.specs.Tried.{HasTried}
 use Rattle.step_table.specs.declared.refusal.StepRefused.{StepRefused}
 
 -- where one more is taken, the rest stands behind it

@@ -1,9 +1,8 @@
 -- How a schedule ends in a program: in a moment to which all its steps lead, and whose verdict is told, or
 -- before a step that can't be run in the moment to which those before it lead.
-use Rattle.std.specs.Prelude.{◌≡◌, ◌≢◌, ℕ, ◌<◌, List, ◌∷◌, ◌++◌, Option, Some, None}
-use Rattle.std.specs.Prelude.{length}
+use Rattle.std.specs.Prelude.{◌≡◌, ◌≢◌, ℕ, List, ◌∷◌, ◌++◌, Option, Some, None}
 use Rattle.lock_code.specs.declared.program.Program.{Program}
-use Rattle.lock_machine.specs.Moment.{LockMoment, HasMoved, IsRefusedBy}
+use Rattle.lock_machine.specs.Moment.{LockMoment, IsRefusedBy}
 use Rattle.lock_machine.specs.Shared.{world_of}
 use Rattle.lock_machine.specs.Verdict.{IsVerdictOf}
 use Rattle.lock_retrace.specs.declared.retold.Ending.{Ending}
@@ -18,11 +17,6 @@ pub record LeadsTo (p : Program) (schedule : List ℕ) (m : LockMoment) : Type 0
   pub program : m.program ≡ p
   pub journal : List Entry
   pub reached : Reaches p schedule (world_of m.shared journal)
-
--- seat i, which is there, has made a step, or its step is refused by this
-abbrev pub HasTried : LockMoment → ℕ → LockMoment → Option StepRefused → Type 0
-HasTried m i n None = (i < length m.program.seats) × HasMoved m i n
-HasTried m i n (Some cause) = IsRefusedBy cause m i
 
 -- a step of the schedule is refused by this, in the moment to which those before it lead
 pub record IsRefusedIn (p : Program) (schedule : List ℕ) (cause : StepRefused) : Type 0 where

@@ -1,10 +1,13 @@
 //! Steps drawn as a table: a line of heads, and then a line a step, in columns two spaces apart. A column a
 //! seat has what it ran, and one for each part of the world that changes has what it is after the step.
 
+use crate::changes::changed_at;
 use crate::members::seat_at;
 use crate::names::program_name;
 use crate::parts::Part;
-use crate::step::{Step, Told};
+use crate::step::Step;
+use crate::steps::Steps;
+use crate::told::Told;
 use lock_machine::LockMachine;
 use std::alloc::{AllocError, Global};
 use step_core::SeatId;
@@ -40,12 +43,31 @@ impl Column {
     }
 }
 
-fn number_column(alloc: Global, steps: &[Step]) -> Result<Column, AllocError> {
+fn number_column(alloc: Global, many: usize) -> Result<Column, AllocError> {
     let mut column = Column::new(alloc, "step".to_string(alloc)?)?;
-    for at in 0..steps.len() {
+    for at in 0..many {
         column.push(format!(in alloc; "{at}")?)?;
     }
     Ok(column)
+}
+
+fn seat_head(
+    alloc: Global,
+    told: &Told<'_>,
+    machine: &LockMachine<'_>,
+    seat: SeatId,
+) -> Result<String, AllocError> {
+    let name = program_name(machine, told.names, seat);
+    format!(in alloc; "seat {seat} {name}")
+}
+
+/// What the seat ran in this step, if it was its own.
+fn seat_cell(alloc: Global, step: &Step, seat: SeatId) -> Result<String, AllocError> {
+    let mut cell = String::new(alloc);
+    if step.seat == seat {
+        step.spell_own(&mut cell)?;
+    }
+    Ok(cell)
 }
 
 fn seat_column(
@@ -56,28 +78,27 @@ fn seat_column(
 ) -> Result<Column, AllocError> {
     let mut column = Column::new(alloc, head)?;
     for step in steps {
-        let mut cell = String::new(alloc);
-        if step.seat == seat {
-            step.spell_own(&mut cell)?;
-        }
-        column.push(cell)?;
+        column.push(seat_cell(alloc, step, seat)?)?;
     }
     Ok(column)
 }
 
 /// Whether the part of this number is ever other than at the start.
-fn is_changed(start: &[String], steps: &[Step], number: usize) -> bool {
-    let Some(first) = start.get(number) else {
-        return false;
-    };
-    for step in steps {
-        if let Some(cell) = step.after.as_slice().get(number) {
-            if cell.as_str() != first.as_str() {
-                return true;
-            }
+fn is_changed(steps: &Steps, number: usize) -> bool {
+    for step in &steps.steps {
+        if changed_at(&steps.start, &step.after, number).is_some() {
+            return true;
         }
     }
     false
+}
+
+/// What the world has of the part of this number after the step.
+fn part_cell(alloc: Global, step: &Step, number: usize) -> Result<String, AllocError> {
+    match step.after.as_slice().get(number) {
+        Some(cell) => cell.as_str().to_string(alloc),
+        None => Ok(String::new(alloc)),
+    }
 }
 
 fn part_column(
@@ -88,37 +109,53 @@ fn part_column(
 ) -> Result<Column, AllocError> {
     let mut column = Column::new(alloc, part.name.as_str().to_string(alloc)?)?;
     for step in steps {
-        let cell = match step.after.as_slice().get(number) {
-            Some(cell) => cell.as_str().to_string(alloc)?,
-            None => String::new(alloc),
-        };
-        column.push(cell)?;
+        column.push(part_cell(alloc, step, number)?)?;
     }
     Ok(column)
 }
 
-fn columns_of(
+/// Adds a column for each seat.
+fn add_seats(
     alloc: Global,
+    columns: &mut Vec<Column>,
     told: &Told<'_>,
     machine: &LockMachine<'_>,
-    start: &[String],
     steps: &[Step],
-) -> Result<Vec<Column>, AllocError> {
-    let mut columns = Vec::new(alloc);
-    columns.push(number_column(alloc, steps)?)?;
+) -> Result<(), AllocError> {
     for number in 0..machine.seats() {
         if let Some(seat) = seat_at(machine, number) {
-            let name = program_name(machine, told.names, seat);
-            let head = format!(in alloc; "seat {seat} {name}")?;
+            let head = seat_head(alloc, told, machine, seat)?;
             columns.push(seat_column(alloc, head, steps, seat)?)?;
         }
     }
+    Ok(())
+}
+
+/// Adds a column for each part of the world that changes.
+fn add_parts(
+    alloc: Global,
+    columns: &mut Vec<Column>,
+    told: &Told<'_>,
+    steps: &Steps,
+) -> Result<(), AllocError> {
     for (number, part) in told.parts.iter().enumerate() {
-        if is_changed(start, steps, number) {
-            columns.push(part_column(alloc, part, steps, number)?)?;
+        if is_changed(steps, number) {
+            columns.push(part_column(alloc, part, &steps.steps, number)?)?;
         }
     }
-    Ok(columns)
+    Ok(())
+}
+
+fn add_columns(
+    alloc: Global,
+    columns: &mut Vec<Column>,
+    told: &Told<'_>,
+    machine: &LockMachine<'_>,
+    steps: &Steps,
+) -> Result<(), AllocError> {
+    columns.push(number_column(alloc, steps.len())?)?;
+    add_seats(alloc, columns, told, machine, &steps.steps)?;
+    add_parts(alloc, columns, told, steps)
 }
 
 /// Writes a line of the table, without spaces at its end.
@@ -139,19 +176,24 @@ fn spell_row(text: &mut String, columns: &[Column], line: usize) -> Result<(), A
     text.push('\n')
 }
 
+/// Writes the heads, and then so many lines.
+fn spell_rows(text: &mut String, columns: &[Column], many: usize) -> Result<(), AllocError> {
+    spell_row(text, columns, 0)?;
+    for line in 0..many {
+        spell_row(text, columns, line + 1)?;
+    }
+    Ok(())
+}
+
 /// Draws the steps.
 pub(crate) fn draw_steps(
     alloc: Global,
     text: &mut String,
     told: &Told<'_>,
     machine: &LockMachine<'_>,
-    start: &[String],
-    steps: &[Step],
+    steps: &Steps,
 ) -> Result<(), AllocError> {
-    let columns = columns_of(alloc, told, machine, start, steps)?;
-    spell_row(text, &columns, 0)?;
-    for line in 0..steps.len() {
-        spell_row(text, &columns, line + 1)?;
-    }
-    Ok(())
+    let mut columns = Vec::new(alloc);
+    add_columns(alloc, &mut columns, told, machine, steps)?;
+    spell_rows(text, &columns, steps.len())
 }

@@ -1,5 +1,6 @@
 //! What a world shows: its words, counters, lists, and who sleeps, each with a name, and as text.
 
+use crate::changes::{changed_at, set_apart};
 use crate::members::{counter_at, list_at};
 use crate::names::names_of_cells;
 use crate::spelling::spell_queue;
@@ -146,27 +147,24 @@ pub(crate) fn cells_of(
     Ok(cells)
 }
 
-/// The parts that are other than before, as they are now.
-pub(crate) fn changed_parts(
-    alloc: Global,
+/// Writes the parts that are other than before, as they are now.
+pub(crate) fn spell_changed_parts(
+    text: &mut String,
     parts: &[Part],
     before: &[String],
     after: &[String],
-) -> Result<String, AllocError> {
-    let mut text = String::new(alloc);
-    for (part, (was, is)) in parts.iter().zip(before.iter().zip(after)) {
-        if was.as_str() != is.as_str() {
-            spell_part(&mut text, part.name.as_str(), is.as_str())?;
+) -> Result<(), AllocError> {
+    for (place, part) in parts.iter().enumerate() {
+        if let Some(is) = changed_at(before, after, place) {
+            spell_part(text, part.name.as_str(), is)?;
         }
     }
-    Ok(text)
+    Ok(())
 }
 
 /// Writes a part behind those that stand there.
 fn spell_part(text: &mut String, name: &str, cell: &str) -> Result<(), AllocError> {
-    if !text.is_empty() {
-        text.push_str(", ")?;
-    }
+    set_apart(text)?;
     write!(text, "{name} {cell}")
 }
 

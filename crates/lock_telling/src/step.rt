@@ -1,26 +1,16 @@
 //! One step: the line that it ran, its row, what that found, and what is other after it.
 
-ghost use Rattle.std.specs.Prelude.{◌<◌, length, IfOk};
-ghost use Rattle.std.specs.Result.{result_err};
-ghost use Rattle.lock_retrace.specs.Ends.{HasTried};
+ghost use Rattle.std.specs.Prelude.{◌<◌, length};
 
-use crate::held::{changed_held, held_by};
+use crate::held::{held_by, spell_changed_held};
 use crate::look::{Look, NO_LOOK, code_line, look_of};
-use crate::parts::{Part, cells_of, changed_parts};
+use crate::parts::spell_changed_parts;
+use crate::told::Told;
 use crate::words::words_of_line;
 use lock_machine::LockMachine;
-use lock_program::Names;
 use lock_steps::{Cause, Stand};
 use std::alloc::{AllocError, Global};
-use step_core::{NoMemory, SeatId, StepRefused};
-
-/// The text of a program, its names, and the parts of its worlds.
-#[derive(Drop)]
-pub(crate) struct Told<'t> {
-    pub text: &'t [u8],
-    pub names: &'t Names<'t>,
-    pub parts: Vec<Part>,
-}
+use step_core::{NoMemory, SeatId};
 
 /// One step of a schedule.
 #[derive(Drop)]
@@ -95,7 +85,7 @@ fn has_failed_at_row(stand: Stand) -> bool {
 
 /// What is seen of a seat before its step.
 #[derive(Drop)]
-struct Seen {
+pub(crate) struct Seen {
     line: usize,
     words: String,
     look: Look,
@@ -103,7 +93,7 @@ struct Seen {
 }
 
 /// What is seen of the seat: no line, where it has ended.
-fn see(
+pub(crate) fn see(
     alloc: Global,
     told: &Told<'_>,
     machine: &LockMachine<'_>,
@@ -127,8 +117,36 @@ fn see(
     })
 }
 
+/// What is other of what the seat has, of which it had this before.
+fn own_changes(
+    alloc: Global,
+    told: &Told<'_>,
+    machine: &LockMachine<'_>,
+    seat: SeatId,
+    before: &[String],
+) -> Result<String, AllocError>
+    requires { seat < length machine.now.program.seats }
+{
+    let after = held_by(alloc, machine, told.names, seat)?;
+    let mut text = String::new(alloc);
+    spell_changed_held(&mut text, before, &after)?;
+    Ok(text)
+}
+
+/// What is other of the world.
+fn world_changes(
+    alloc: Global,
+    told: &Told<'_>,
+    before: &[String],
+    after: &[String],
+) -> Result<String, AllocError> {
+    let mut text = String::new(alloc);
+    spell_changed_parts(&mut text, &told.parts, before, after)?;
+    Ok(text)
+}
+
 /// What is told of the step of a seat, of which that was seen before it.
-fn told_step(
+pub(crate) fn told_step(
     alloc: Global,
     told: &Told<'_>,
     machine: &LockMachine<'_>,
@@ -138,44 +156,17 @@ fn told_step(
 ) -> Result<Step, NoMemory>
     requires { seat < length machine.now.program.seats }
 {
-    let Seen {
-        line,
-        words,
-        look,
-        held,
-    } = seen;
+    let own = own_changes(alloc, told, machine, seat, &seen.held)?;
+    let after = told.cells(alloc, machine)?;
+    let changed = world_changes(alloc, told, before, &after)?;
     let failed = has_failed_at_row(machine.stand(seat));
-    let after = cells_of(alloc, machine, &told.parts)?;
-    let now_held = held_by(alloc, machine, told.names, seat)?;
     Ok(Step {
         seat,
-        line,
-        words,
-        look: if failed { NO_LOOK } else { look },
-        changed: changed_parts(alloc, &told.parts, before, &after)?,
-        own: changed_held(alloc, &held, &now_held)?,
+        line: seen.line,
+        words: seen.words,
+        look: if failed { NO_LOOK } else { seen.look },
+        changed,
+        own,
         after,
     })
-}
-
-/// Runs the step of the seat and tells it, or why it can't be run. What the world had of each part before is
-/// given.
-pub(crate) fn tell_step(
-    alloc: Global,
-    told: &Told<'_>,
-    machine: &mut LockMachine<'_>,
-    before: &[String],
-    seat: SeatId,
-) -> Result<Result<Step, StepRefused>, NoMemory>
-    ensures { IfOk result (λ tried. HasTried machine.old seat machine.new (result_err tried)) }
-{
-    if machine.seats() <= seat.number() as usize {
-        return Ok(Err(StepRefused::NoSuchSeat));
-    }
-    let seen = see(alloc, told, machine, seat)?;
-    if let Err(cause) = machine.step(seat) {
-        return Ok(Err(cause));
-    }
-    let step = told_step(alloc, told, machine, before, seat, seen)?;
-    Ok(Ok(step))
 }

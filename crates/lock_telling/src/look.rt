@@ -73,11 +73,8 @@ fn line_of(stand: Stand) -> Option<usize> {
 pub(crate) fn code_line<'p>(machine: &LockMachine<'p>, seat: SeatId) -> Option<&'p CodeLine>
     requires { seat < length machine.now.program.seats }
 {
-    let program = machine.program();
     let line = line_of(machine.stand(seat))?;
-    let number = program.seats.as_slice()[seat.number() as usize];
-    let code = program.codes.as_slice().get(number)?;
-    code.as_slice().get(line)
+    machine.code(seat).get(line)
 }
 
 /// The number of the one, or of the array's member that is meant.

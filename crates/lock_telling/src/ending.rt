@@ -7,7 +7,7 @@ use crate::members::seat_at;
 use crate::names::program_name;
 use crate::parts::all_parts;
 use crate::spelling::cause_name;
-use crate::step::Told;
+use crate::told::Told;
 use lock_code::CodeLine;
 use lock_machine::LockMachine;
 use lock_steps::{Kind, Stand};
@@ -106,7 +106,9 @@ fn tell_verdict(text: &mut String, verdict: Option<Kind>) -> Result<(), AllocErr
 }
 
 /// Tells where each seat is, all words, and whether the world is bad.
-pub(crate) fn tell_world(
+///
+/// It is an `Err` where memory is short.
+pub fn tell_world(
     alloc: Global,
     text: &mut String,
     told: &Told<'_>,

@@ -2,6 +2,7 @@
 
 ghost use Rattle.std.specs.Prelude.{◌<◌, length};
 
+use crate::changes::{changed_at, set_apart};
 use lock_code::Operand;
 use lock_machine::LockMachine;
 use lock_program::Names;
@@ -35,20 +36,17 @@ pub(crate) fn held_by(
     Ok(held)
 }
 
-/// What of it is other than before, as it is now.
-pub(crate) fn changed_held(
-    alloc: Global,
+/// Writes what of it is other than before, as it is now.
+pub(crate) fn spell_changed_held(
+    text: &mut String,
     before: &[String],
     after: &[String],
-) -> Result<String, AllocError> {
-    let mut text = String::new(alloc);
-    for (was, is) in before.iter().zip(after) {
-        if was.as_str() != is.as_str() {
-            if !text.is_empty() {
-                text.push_str(", ")?;
-            }
-            text.push_str(is.as_str())?;
+) -> Result<(), AllocError> {
+    for place in 0..after.len() {
+        if let Some(is) = changed_at(before, after, place) {
+            set_apart(text)?;
+            text.push_str(is)?;
         }
     }
-    Ok(text)
+    Ok(())
 }
