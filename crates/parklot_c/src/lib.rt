@@ -30,6 +30,8 @@ mod list;
 #[cfg(test)]
 mod list_tests;
 #[cfg(test)]
+mod script;
+#[cfg(test)]
 mod tests;
 
 /// Makes a table, and gives each of `seats` one of its seats, in the order of their numbers. Where it
