@@ -13,6 +13,7 @@ mod calls;
 mod cell;
 pub mod codes;
 pub mod deal;
+mod frees;
 mod handle;
 mod kept;
 mod lends;

@@ -22,13 +22,15 @@ ghost use Rattle.c_calls.specs.Answers.{Answers, Telling, NamesWoken};
 ghost use Rattle.c_calls.specs.Answers.{NamesEach, LacksRoom, TellsNumber, Frees};
 ghost use Rattle.c_calls.specs.Deals.{DealsToEmpty};
 
-use c_calls::codes::{NO_SEAT, OK};
+use c_calls::codes::NO_SEAT;
 use c_calls::{Kept, SeatHandle, deal};
 use std::alloc::Global;
 
 mod list;
 #[cfg(test)]
 mod list_tests;
+#[cfg(test)]
+mod script;
 #[cfg(test)]
 mod tests;
 
@@ -54,18 +56,7 @@ pub extern "C" fn parklot_free(alloc: Global, seat: &mut SeatHandle) -> u32
     ensures other { list_seat seat.new ≡ list_seat seat.old }
     ensures answer { Frees (λ s. s.stage) Resting (table_seat seat.old) result (table_seat seat.new) }
 {
-    if !seat.is_full {
-        return NO_SEAT;
-    }
-    let Kept::OfTable(place) = seat.cell.place() else {
-        // A list's seat stays: that is for `parklot_list_free`.
-        return NO_SEAT;
-    };
-    let code = place.may_leave();
-    if code == OK {
-        seat.clear(alloc);
-    }
-    code
+    seat.free_table_seat(alloc)
 }
 
 /// Which seat of its table it is.

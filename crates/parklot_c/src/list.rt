@@ -10,7 +10,7 @@ ghost use Rattle.c_calls.specs.Answers.{Answers, Telling, LacksRoom, TellsNumber
 ghost use Rattle.c_calls.specs.ListAnswers.{NotifiesOrGoesOn, NamesGranted, NamesAll};
 ghost use Rattle.c_calls.specs.ListDeals.{DealsToEmpty};
 
-use c_calls::codes::{NO_SEAT, OK};
+use c_calls::codes::NO_SEAT;
 use c_calls::{Kept, SeatHandle, list_deal};
 use std::alloc::Global;
 
@@ -29,17 +29,7 @@ pub extern "C" fn parklot_list_free(alloc: Global, seat: &mut SeatHandle) -> u32
     ensures other { table_seat seat.new ≡ table_seat seat.old }
     ensures answer { Frees (λ s. s.stage) Resting (list_seat seat.old) result (list_seat seat.new) }
 {
-    if !seat.is_full {
-        return NO_SEAT;
-    }
-    let Kept::OfList(place) = seat.cell.place() else {
-        return NO_SEAT;
-    };
-    let code = place.may_leave();
-    if code == OK {
-        seat.clear(alloc);
-    }
-    code
+    seat.free_list_seat(alloc)
 }
 
 /// Which seat of its list it is.

@@ -1,8 +1,7 @@
 //! Each export of a list, by the codes that it answers, as in `tests.rt`.
 
 use crate::list::*;
-use crate::tests::{is, is_refused};
-use crate::{parklot_free, parklot_number};
+use crate::script::{Call, Line, UNTOLD, is, is_refused, play};
 use c_calls::SeatHandle;
 use c_calls::codes::*;
 use std::alloc::Global;
@@ -21,93 +20,82 @@ fn pair(rt: &impl Abort, alloc: Global) -> Option<[SeatHandle; 2]> {
     Some(seats)
 }
 
-/// Takes a ticket.
-fn add(rt: &impl Abort, seat: &mut SeatHandle, wanted: u64) {
-    let mut ticket = 0;
-    is(rt, parklot_list_add(seat, &mut ticket), OK);
-    assert!(rt; ticket == wanted);
+/// The calls of two seats at a list, which rest behind them, and are freed.
+fn at_list(rt: &impl Abort, alloc: Global, lines: &[Line]) {
+    let Some(mut seats) = pair(rt, alloc) else {
+        return;
+    };
+    play(rt, alloc, &mut seats, lines);
+    play(rt, alloc, &mut seats, &FREED);
 }
 
-/// Looks whether all tickets are granted.
-fn is_quiet(rt: &impl Abort, seat: &mut SeatHandle, wanted: bool) {
-    let mut quiet = !wanted;
-    is(rt, parklot_list_quiet(seat, &mut quiet), OK);
-    assert!(rt; quiet == wanted);
-}
+static FREED: [Line; 4] = [
+    (0, Call::ListFree, OK, UNTOLD),
+    (0, Call::ListFree, NO_SEAT, UNTOLD),
+    (1, Call::ListFree, OK, UNTOLD),
+    (1, Call::ListFree, NO_SEAT, UNTOLD),
+];
 
-/// Frees a seat that rests.
-fn free(rt: &impl Abort, alloc: Global, seat: &mut SeatHandle) {
-    is(rt, parklot_list_free(alloc, seat), OK);
-    is(rt, parklot_list_free(alloc, seat), NO_SEAT);
-}
+static WOKEN_BY_ONE: [Line; 9] = [
+    (1, Call::ListQuiet(false), OK, 1),
+    (1, Call::ListNumber, OK, 1),
+    (0, Call::ListAdd, OK, 5),
+    (0, Call::ListTryWait, PARKED, UNTOLD),
+    (0, Call::ListPoll, ASLEEP, UNTOLD),
+    (1, Call::ListQuiet(true), OK, 0),
+    (1, Call::ListOne, ONE, 0),
+    (0, Call::ListPoll, WOKEN, UNTOLD),
+    (1, Call::ListOne, NOBODY, UNTOLD),
+];
 
 #[test]
 fn one_wakes_a_parked_seat(rt: HostRuntime) {
-    let Some([mut one, mut two]) = pair(&rt, rt.alloc()) else {
-        return;
-    };
-    let (mut woken, mut number) = (9, 9);
-    is_quiet(&rt, &mut two, true);
-    is(&rt, parklot_list_number(&mut two, &mut number), OK);
-    assert!(&rt; number == 1);
-    add(&rt, &mut one, 5);
-    is(&rt, parklot_list_try_wait(&mut one), PARKED);
-    is(&rt, parklot_list_poll(&mut one), ASLEEP);
-    is_quiet(&rt, &mut two, false);
-    is(&rt, parklot_list_one(&mut two, &mut woken), ONE);
-    assert!(&rt; woken == 0);
-    is(&rt, parklot_list_poll(&mut one), WOKEN);
-    is(&rt, parklot_list_one(&mut two, &mut woken), NOBODY);
-    free(&rt, rt.alloc(), &mut one);
-    free(&rt, rt.alloc(), &mut two);
+    at_list(&rt, rt.alloc(), &WOKEN_BY_ONE);
 }
+
+static GRANTED_BEFORE: [Line; 3] = [
+    (0, Call::ListAdd, OK, 5),
+    (1, Call::ListOne, GRANTED, UNTOLD),
+    (0, Call::ListTryWait, AT_ONCE, UNTOLD),
+];
 
 #[test]
 fn ticket_is_granted_before_its_wait(rt: HostRuntime) {
-    let Some([mut one, mut two]) = pair(&rt, rt.alloc()) else {
-        return;
-    };
-    let mut woken = 9;
-    add(&rt, &mut one, 5);
-    is(&rt, parklot_list_one(&mut two, &mut woken), GRANTED);
-    assert!(&rt; woken == 9);
-    is(&rt, parklot_list_try_wait(&mut one), AT_ONCE);
-    free(&rt, rt.alloc(), &mut one);
-    free(&rt, rt.alloc(), &mut two);
+    at_list(&rt, rt.alloc(), &GRANTED_BEFORE);
 }
+
+static WOKEN_BY_ALL: [Line; 5] = [
+    (0, Call::ListAdd, OK, 5),
+    (0, Call::ListTryWait, PARKED, UNTOLD),
+    (1, Call::ListAllWithoutRoom, ROOM, UNTOLD),
+    (1, Call::ListAll, DONE, 0),
+    (0, Call::ListPoll, WOKEN, UNTOLD),
+];
 
 #[test]
 fn all_names_those_that_are_parked(rt: HostRuntime) {
-    let Some([mut one, mut two]) = pair(&rt, rt.alloc()) else {
-        return;
-    };
-    let (mut room, mut count) = ([9u32; 256], 9);
-    add(&rt, &mut one, 5);
-    is(&rt, parklot_list_try_wait(&mut one), PARKED);
-    is(&rt, parklot_list_all(&mut two, &mut [], &mut count), ROOM);
-    is(&rt, parklot_list_all(&mut two, &mut room, &mut count), DONE);
-    assert!(&rt; count == 1 && room[0] == 0 && room[1] == 9);
-    is(&rt, parklot_list_poll(&mut one), WOKEN);
-    free(&rt, rt.alloc(), &mut one);
-    free(&rt, rt.alloc(), &mut two);
+    at_list(&rt, rt.alloc(), &WOKEN_BY_ALL);
 }
+
+static NOT_NEXT: [Line; 7] = [
+    (0, Call::ListPoll, OTHER_CALL, UNTOLD),
+    (0, Call::ListTryWait, OTHER_CALL, UNTOLD),
+    (0, Call::ListAdd, OK, 5),
+    (0, Call::ListOne, OTHER_CALL, UNTOLD),
+    (0, Call::ListFree, OTHER_CALL, UNTOLD),
+    (1, Call::ListOne, GRANTED, UNTOLD),
+    (0, Call::ListTryWait, AT_ONCE, UNTOLD),
+];
 
 #[test]
 fn call_that_is_not_next_is_refused(rt: HostRuntime) {
-    let Some([mut one, mut two]) = pair(&rt, rt.alloc()) else {
-        return;
-    };
-    let mut woken = 9;
-    is(&rt, parklot_list_poll(&mut one), OTHER_CALL);
-    is(&rt, parklot_list_try_wait(&mut one), OTHER_CALL);
-    add(&rt, &mut one, 5);
-    is(&rt, parklot_list_one(&mut one, &mut woken), OTHER_CALL);
-    is(&rt, parklot_list_free(rt.alloc(), &mut one), OTHER_CALL);
-    is(&rt, parklot_list_one(&mut two, &mut woken), GRANTED);
-    is(&rt, parklot_list_try_wait(&mut one), AT_ONCE);
-    free(&rt, rt.alloc(), &mut one);
-    free(&rt, rt.alloc(), &mut two);
+    at_list(&rt, rt.alloc(), &NOT_NEXT);
 }
+
+static FREED_ALONE: [Line; 2] = [
+    (0, Call::ListFree, OK, UNTOLD),
+    (0, Call::ListFree, NO_SEAT, UNTOLD),
+];
 
 #[test]
 fn numbers_of_seats_are_judged(rt: HostRuntime) {
@@ -116,20 +104,17 @@ fn numbers_of_seats_are_judged(rt: HostRuntime) {
     let mut seats = [SeatHandle::empty()];
     if parklot_list_new(alloc, 0, &mut seats) == OK {
         is(&rt, parklot_list_new(alloc, 0, &mut seats), FULL);
-        let [mut seat] = seats;
-        free(&rt, alloc, &mut seat);
+        play(&rt, alloc, &mut seats, &FREED_ALONE);
     }
 }
 
 /// The two kinds of handles look alike in C. One of the other kind has no seat.
+static OF_THE_OTHER_KIND: [Line; 2] = [
+    (0, Call::Number, NO_SEAT, UNTOLD),
+    (0, Call::Free, NO_SEAT, UNTOLD),
+];
+
 #[test]
 fn handle_of_a_list_has_no_seat_at_a_table(rt: HostRuntime) {
-    let Some([mut one, mut two]) = pair(&rt, rt.alloc()) else {
-        return;
-    };
-    let mut number = 9;
-    is(&rt, parklot_number(&mut one, &mut number), NO_SEAT);
-    is(&rt, parklot_free(rt.alloc(), &mut one), NO_SEAT);
-    free(&rt, rt.alloc(), &mut one);
-    free(&rt, rt.alloc(), &mut two);
+    at_list(&rt, rt.alloc(), &OF_THE_OTHER_KIND);
 }

@@ -1,6 +1,7 @@
-//! Each export, by the codes that it answers. Where memory is refused a test ends: so each passes whichever
-//! single allocation fails.
+//! Each export of a table, by the codes that it answers. Where memory is refused a test ends: so each passes
+//! whichever single allocation fails.
 
+use crate::script::{Call, Line, UNTOLD, is, is_refused, play};
 use crate::*;
 use c_calls::SeatHandle;
 use c_calls::codes::*;
@@ -20,9 +21,13 @@ fn pair(rt: &impl Abort, alloc: Global, start: u32) -> Option<[SeatHandle; 2]> {
     Some(seats)
 }
 
-/// Ends the test where the code is another one.
-pub fn is(rt: &impl Abort, code: u32, wanted: u32) {
-    assert!(rt; code == wanted);
+/// The calls of two seats at such a table, which rest behind them, and are freed.
+fn at_table(rt: &impl Abort, alloc: Global, start: u32, lines: &[Line]) {
+    let Some(mut seats) = pair(rt, alloc, start) else {
+        return;
+    };
+    play(rt, alloc, &mut seats, lines);
+    play(rt, alloc, &mut seats, &FREED);
 }
 
 /// What a caller's other thread gets. The check of the tests proves that a handle is `Send` only where one asks
@@ -31,145 +36,140 @@ fn crosses<T: Send>(handle: T) -> T {
     handle
 }
 
-/// Frees a seat that rests.
-fn free(rt: &impl Abort, alloc: Global, seat: &mut SeatHandle) {
-    is(rt, parklot_free(alloc, seat), OK);
-    is(rt, parklot_free(alloc, seat), NO_SEAT);
-}
+static FREED: [Line; 4] = [
+    (0, Call::Free, OK, UNTOLD),
+    (0, Call::Free, NO_SEAT, UNTOLD),
+    (1, Call::Free, OK, UNTOLD),
+    (1, Call::Free, NO_SEAT, UNTOLD),
+];
+
+static TAKEN_HERE: [Line; 3] = [
+    (0, Call::TryAcquire(0), TAKEN, UNTOLD),
+    (1, Call::TryAcquire(0), ZERO, UNTOLD),
+    (0, Call::Post(0), DONE, UNTOLD),
+];
+
+static BROUGHT_THERE: [Line; 3] = [
+    (1, Call::Value(0), OK, 1),
+    (1, Call::Number, OK, 1),
+    (1, Call::Enter(0, false), TAKEN, UNTOLD),
+];
 
 #[test]
 fn unit_is_taken_and_brought(rt: HostRuntime) {
-    let Some([mut one, mut two]) = pair(&rt, rt.alloc(), 1) else {
+    let Some(mut seats) = pair(&rt, rt.alloc(), 1) else {
         return;
     };
-    is(&rt, parklot_try_acquire(&mut one, 0), TAKEN);
-    is(&rt, parklot_try_acquire(&mut two, 0), ZERO);
-    is(&rt, parklot_post(&mut one, 0), DONE);
-    let mut two = crosses(two);
-    let mut value = 9;
-    is(&rt, parklot_value(&mut two, 0, &mut value), OK);
-    assert!(&rt; value == 1);
-    let mut number = 9;
-    is(&rt, parklot_number(&mut two, &mut number), OK);
-    assert!(&rt; number == 1);
-    is(&rt, parklot_enter(&mut two, 0, false), TAKEN);
-    free(&rt, rt.alloc(), &mut one);
-    free(&rt, rt.alloc(), &mut two);
+    play(&rt, rt.alloc(), &mut seats, &TAKEN_HERE);
+    let [one, two] = seats;
+    let mut seats = [one, crosses(two)];
+    play(&rt, rt.alloc(), &mut seats, &BROUGHT_THERE);
+    play(&rt, rt.alloc(), &mut seats, &FREED);
 }
+
+static WOKEN_SLEEPER: [Line; 7] = [
+    (0, Call::Enter(0, false), ASLEEP, UNTOLD),
+    (0, Call::Poll, ASLEEP, UNTOLD),
+    (1, Call::WaitersOfRoot(0), OK, 1),
+    (1, Call::Post(0), OWES, UNTOLD),
+    (1, Call::Wake(false), ONE, 0),
+    (0, Call::Poll, WOKEN, UNTOLD),
+    (0, Call::Retry, TAKEN, UNTOLD),
+];
 
 #[test]
 fn sleeper_is_woken(rt: HostRuntime) {
-    let Some([mut one, mut two]) = pair(&rt, rt.alloc(), 0) else {
-        return;
-    };
-    let (mut woken, mut waits) = (9, 9);
-    is(&rt, parklot_enter(&mut one, 0, false), ASLEEP);
-    is(&rt, parklot_poll(&mut one), ASLEEP);
-    is(&rt, parklot_waiters_of_root(&mut two, 0, &mut waits), OK);
-    assert!(&rt; waits == 1);
-    is(&rt, parklot_post(&mut two, 0), OWES);
-    is(&rt, parklot_wake(&mut two, false, &mut woken), ONE);
-    assert!(&rt; woken == 0);
-    is(&rt, parklot_poll(&mut one), WOKEN);
-    is(&rt, parklot_retry(&mut one), TAKEN);
-    free(&rt, rt.alloc(), &mut one);
-    free(&rt, rt.alloc(), &mut two);
+    at_table(&rt, rt.alloc(), 0, &WOKEN_SLEEPER);
 }
+
+static HANDED_UNIT: [Line; 4] = [
+    (1, Call::Enter(0, true), ASLEEP, UNTOLD),
+    (0, Call::Post(0), OWES, UNTOLD),
+    (0, Call::Wake(true), HANDED, 1),
+    (1, Call::Poll, HANDED, UNTOLD),
+];
 
 #[test]
 fn sleeper_is_handed_a_unit(rt: HostRuntime) {
-    let Some([mut one, mut two]) = pair(&rt, rt.alloc(), 0) else {
-        return;
-    };
-    let mut woken = 9;
-    is(&rt, parklot_enter(&mut two, 0, true), ASLEEP);
-    is(&rt, parklot_post(&mut one, 0), OWES);
-    is(&rt, parklot_wake(&mut one, true, &mut woken), HANDED);
-    assert!(&rt; woken == 1);
-    is(&rt, parklot_poll(&mut two), HANDED);
-    free(&rt, rt.alloc(), &mut one);
-    free(&rt, rt.alloc(), &mut two);
+    at_table(&rt, rt.alloc(), 0, &HANDED_UNIT);
 }
+
+static GONE_UNIT: [Line; 9] = [
+    (0, Call::Enter(0, false), ASLEEP, UNTOLD),
+    (1, Call::PostMany(0, 2), OWES, UNTOLD),
+    (1, Call::Wake(false), OTHER_CALL, UNTOLD),
+    (1, Call::WakeSomeWithoutRoom, ROOM, UNTOLD),
+    (1, Call::WakeSome, DONE, 0),
+    (0, Call::Poll, WOKEN, UNTOLD),
+    (1, Call::TryAcquire(0), TAKEN, UNTOLD),
+    (1, Call::TryAcquire(0), TAKEN, UNTOLD),
+    (0, Call::Retry, ZERO, UNTOLD),
+];
 
 #[test]
 fn unit_is_gone_when_the_woken_comes(rt: HostRuntime) {
-    let Some([mut one, mut two]) = pair(&rt, rt.alloc(), 0) else {
-        return;
-    };
-    let (mut woken, mut room, mut count) = (9, [0u32; 256], 9);
-    is(&rt, parklot_enter(&mut one, 0, false), ASLEEP);
-    is(&rt, parklot_post_many(&mut two, 0, 2), OWES);
-    is(&rt, parklot_wake(&mut two, false, &mut woken), OTHER_CALL);
-    is(&rt, parklot_wake_some(&mut two, &mut [], &mut count), ROOM);
-    is(
-        &rt,
-        parklot_wake_some(&mut two, &mut room, &mut count),
-        DONE,
-    );
-    assert!(&rt; count == 1 && room[0] == 0);
-    is(&rt, parklot_poll(&mut one), WOKEN);
-    is(&rt, parklot_try_acquire(&mut two, 0), TAKEN);
-    is(&rt, parklot_try_acquire(&mut two, 0), TAKEN);
-    is(&rt, parklot_retry(&mut one), ZERO);
-    free(&rt, rt.alloc(), &mut one);
-    free(&rt, rt.alloc(), &mut two);
+    at_table(&rt, rt.alloc(), 0, &GONE_UNIT);
 }
+
+static NOT_NEXT: [Line; 13] = [
+    (0, Call::Poll, OTHER_CALL, UNTOLD),
+    (0, Call::Retry, OTHER_CALL, UNTOLD),
+    (0, Call::TryAcquire(1), NO_COUNTER, UNTOLD),
+    (0, Call::PostMany(0, 257), UNITS, UNTOLD),
+    (0, Call::PostMany(0, 256), DONE, UNTOLD),
+    (0, Call::PostMany(0, 45), LIMIT, UNTOLD),
+    (1, Call::PostMany(0, 1), DONE, UNTOLD),
+    (1, Call::Enter(1, false), NO_COUNTER, UNTOLD),
+    (0, Call::Free, OK, UNTOLD),
+    (0, Call::Free, NO_SEAT, UNTOLD),
+    (0, Call::TryAcquire(0), NO_SEAT, UNTOLD),
+    (1, Call::Free, OK, UNTOLD),
+    (1, Call::Free, NO_SEAT, UNTOLD),
+];
 
 #[test]
 fn call_that_is_not_next_is_refused(rt: HostRuntime) {
-    let Some([mut one, mut two]) = pair(&rt, rt.alloc(), 0) else {
+    let Some(mut seats) = pair(&rt, rt.alloc(), 0) else {
         return;
     };
-    is(&rt, parklot_poll(&mut one), OTHER_CALL);
-    is(&rt, parklot_retry(&mut one), OTHER_CALL);
-    is(&rt, parklot_try_acquire(&mut one, 1), NO_COUNTER);
-    is(&rt, parklot_post_many(&mut one, 0, 257), UNITS);
-    is(&rt, parklot_post_many(&mut one, 0, 256), DONE);
-    is(&rt, parklot_post_many(&mut one, 0, 45), LIMIT);
-    is(&rt, parklot_post_many(&mut two, 0, 1), DONE);
-    is(&rt, parklot_enter(&mut two, 1, false), NO_COUNTER);
-    free(&rt, rt.alloc(), &mut one);
-    is(&rt, parklot_try_acquire(&mut one, 0), NO_SEAT);
-    free(&rt, rt.alloc(), &mut two);
+    play(&rt, rt.alloc(), &mut seats, &NOT_NEXT);
 }
+
+static KEPT_SLEEPER: [Line; 7] = [
+    (0, Call::Enter(0, false), ASLEEP, UNTOLD),
+    (0, Call::Free, OTHER_CALL, UNTOLD),
+    (0, Call::Post(0), OTHER_CALL, UNTOLD),
+    (1, Call::Post(0), OWES, UNTOLD),
+    (1, Call::Free, OTHER_CALL, UNTOLD),
+    (1, Call::Wake(true), HANDED, 0),
+    (0, Call::Poll, HANDED, UNTOLD),
+];
 
 #[test]
 fn sleeper_is_not_freed(rt: HostRuntime) {
-    let Some([mut one, mut two]) = pair(&rt, rt.alloc(), 0) else {
-        return;
-    };
-    let mut woken = 9;
-    is(&rt, parklot_enter(&mut one, 0, false), ASLEEP);
-    is(&rt, parklot_free(rt.alloc(), &mut one), OTHER_CALL);
-    is(&rt, parklot_post(&mut one, 0), OTHER_CALL);
-    is(&rt, parklot_post(&mut two, 0), OWES);
-    is(&rt, parklot_free(rt.alloc(), &mut two), OTHER_CALL);
-    is(&rt, parklot_wake(&mut two, true, &mut woken), HANDED);
-    is(&rt, parklot_poll(&mut one), HANDED);
-    free(&rt, rt.alloc(), &mut one);
-    free(&rt, rt.alloc(), &mut two);
+    at_table(&rt, rt.alloc(), 0, &KEPT_SLEEPER);
 }
 
-/// Settings that make no table, unless memory lacks before they are looked at.
-pub fn is_refused(rt: &impl Abort, code: u32, wanted: u32) {
-    assert!(rt; code == wanted || code == NO_MEMORY);
+static FREED_ALONE: [Line; 2] = [
+    (0, Call::Free, OK, UNTOLD),
+    (0, Call::Free, NO_SEAT, UNTOLD),
+];
+
+/// Settings that make no table, each limit by itself.
+fn refuses(rt: &impl Abort, alloc: Global, seats: &mut [SeatHandle]) {
+    is_refused(rt, parklot_new(alloc, &[], 1, 7, 9, seats), COUNTERS);
+    is_refused(rt, parklot_new(alloc, &[0], 1, 7, 9, &mut []), SEATS);
+    is_refused(rt, parklot_new(alloc, &[0], 0, 7, 9, seats), ROOTS);
+    is_refused(rt, parklot_new(alloc, &[0], 1, 7, 0, seats), RELEASE_LIMIT);
 }
 
 #[test]
 fn settings_are_judged(rt: HostRuntime) {
     let alloc = rt.alloc();
     let mut seats = [SeatHandle::empty()];
-    is_refused(&rt, parklot_new(alloc, &[], 1, 7, 9, &mut seats), COUNTERS);
-    is_refused(&rt, parklot_new(alloc, &[0], 1, 7, 9, &mut []), SEATS);
-    is_refused(&rt, parklot_new(alloc, &[0], 0, 7, 9, &mut seats), ROOTS);
-    is_refused(
-        &rt,
-        parklot_new(alloc, &[0], 1, 7, 0, &mut seats),
-        RELEASE_LIMIT,
-    );
+    refuses(&rt, alloc, &mut seats);
     if parklot_new(alloc, &[0], 1, 7, 9, &mut seats) == OK {
         is(&rt, parklot_new(alloc, &[0], 1, 7, 9, &mut seats), FULL);
-        let [mut seat] = seats;
-        free(&rt, alloc, &mut seat);
+        play(&rt, alloc, &mut seats, &FREED_ALONE);
     }
 }
