@@ -1,7 +1,7 @@
 //! The cell of a step: the call that begins, the row, what it found, and why the seat fails.
 
-use crate::line::Line;
 use crate::spelling::{misuse_name, spell_call, spell_found, spell_group};
+use explorer_step_line::Line;
 use std::alloc::{AllocError, Global};
 use step_core::{Call, GroupId, Phase, Picture, SeatId};
 
