@@ -34,9 +34,7 @@ impl fmt::Display for Counted {
             acquires,
             value,
         } = *self;
-        writeln!(f, "releases {releases}")?;
-        writeln!(f, "acquires {acquires}")?;
-        writeln!(f, "value {value}")
+        write!(f, "releases {releases}\nacquires {acquires}\nvalue {value}\n")
     }
 }
 
