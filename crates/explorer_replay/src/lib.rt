@@ -11,6 +11,6 @@ mod seat_cell;
 mod spelling;
 mod table;
 
-pub use layout::table_text;
 pub use explorer_step_line::Line;
+pub use layout::table_text;
 pub use table::{Refused, ReplayTable, table_of};

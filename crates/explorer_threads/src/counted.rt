@@ -34,7 +34,10 @@ impl fmt::Display for Counted {
             acquires,
             value,
         } = *self;
-        write!(f, "releases {releases}\nacquires {acquires}\nvalue {value}\n")
+        write!(
+            f,
+            "releases {releases}\nacquires {acquires}\nvalue {value}\n"
+        )
     }
 }
 
