@@ -10,6 +10,7 @@ use clap::ArgMatches;
 use explorer_scenarios::{
     Bounds, CHECKED_WORLDS, Command, EXPLORED_WORLDS, Extras, MAX_DEPTH, variant_named,
 };
+use explorer_threads::{MAX_ROUNDS, MAX_WORKERS};
 use journal_judge::Demands;
 use lock_commands::LockCommand;
 use std::alloc::{AllocError, Global};
