@@ -19,9 +19,9 @@ use Rattle.explorer_words.specs.declared.invocation.Invocation.TheVariants.{Help
 use Rattle.explorer_words.specs.declared.invocation.Invocation.TheVariants.{Mistake, NoText, NoMemory}
 use Rattle.explorer_words.specs.Invocation.{IsWithinLimits}
 use Rattle.lock_commands.specs.Commands as lock
-use Rattle.explorer.specs.JudgeText.{IsJudgeReplyOf, IsJudgeToldOf}
-use Rattle.explorer.specs.OnceText.{IsOnceAnswer}
-use Rattle.explorer.specs.ThreadsText.{IsThreadsAnswer}
+use Rattle.explorer_judge.specs.JudgeText.{IsJudgeReplyOf, IsJudgeToldOf}
+use Rattle.explorer_once.specs.OnceText.{IsOnceAnswer}
+use Rattle.explorer_threads.specs.ThreadsText.{IsThreadsAnswer}
 
 -- the text and the exit answer what is asked, of a source with these bytes before and after. A mistake in the
 -- words has no answer

@@ -71,22 +71,44 @@ fn group_text(alloc: Global, picture: &Picture<'_>, group: GroupId) -> Result<St
     Ok(text)
 }
 
+/// The waits of a counter.
+fn counter_waits(
+    alloc: Global,
+    picture: &Picture<'_>,
+    counter: CounterId,
+) -> Result<String, NoMemory>
+    requires { IsColumnOf picture.now.parts (Shown.Waits counter) }
+{
+    let waits = picture.waiting(alloc, counter)?;
+    Ok(waits_text(alloc, &waits)?)
+}
+
+/// The waits of a list.
+fn list_waits(alloc: Global, picture: &Picture<'_>, list: ListId) -> Result<String, NoMemory>
+    requires { IsColumnOf picture.now.parts (Shown.Queue list) }
+{
+    let waits = picture.queued(alloc, list)?;
+    Ok(waits_text(alloc, &waits)?)
+}
+
 fn list_head(alloc: Global, list: ListId, word: &ListWord) -> Result<String, AllocError> {
-    match *word {
-        ListWord::Wait => format!(in alloc; "list {list} wait"),
-        ListWord::Notify => format!(in alloc; "list {list} notify"),
-        ListWord::Lock => format!(in alloc; "list {list} lock"),
-        ListWord::Grant(seat) => format!(in alloc; "list {list} grant of {seat}"),
-    }
+    let name = match *word {
+        ListWord::Wait => "wait",
+        ListWord::Notify => "notify",
+        ListWord::Lock => "lock",
+        ListWord::Grant(seat) => return format!(in alloc; "list {list} grant of {seat}"),
+    };
+    format!(in alloc; "list {list} {name}")
 }
 
 fn head_of(alloc: Global, word: &Word) -> Result<String, AllocError> {
-    match *word {
-        Word::Counter(counter) => format!(in alloc; "counter {counter}"),
-        Word::Lock(counter) => format!(in alloc; "lock {counter}"),
-        Word::Waiters(counter) => format!(in alloc; "waiters {counter}"),
-        Word::Grant(seat) => format!(in alloc; "grant {seat}"),
-    }
+    let (name, counter) = match *word {
+        Word::Counter(counter) => ("counter", counter),
+        Word::Lock(counter) => ("lock", counter),
+        Word::Waiters(counter) => ("waiters", counter),
+        Word::Grant(seat) => return format!(in alloc; "grant {seat}"),
+    };
+    format!(in alloc; "{name} {counter}")
 }
 
 impl Shown {
@@ -141,18 +163,12 @@ impl Shown {
                 let number = picture.number(word);
                 Ok(format!(in alloc; "{number}")?)
             }
-            Shown::Waits(counter) => {
-                let waits = picture.waiting(alloc, *counter)?;
-                Ok(waits_text(alloc, &waits)?)
-            }
+            Shown::Waits(counter) => counter_waits(alloc, picture, *counter),
             Shown::OnList(list, word) => {
                 let number = picture.list_number(*list, word);
                 Ok(format!(in alloc; "{number}")?)
             }
-            Shown::Queue(list) => {
-                let waits = picture.queued(alloc, *list)?;
-                Ok(waits_text(alloc, &waits)?)
-            }
+            Shown::Queue(list) => list_waits(alloc, picture, *list),
             Shown::Ticket(list, seat) => Ok(ticket_text(alloc, picture, *list, *seat)?),
             Shown::Group(group) => Ok(group_text(alloc, picture, *group)?),
         }

@@ -3,6 +3,7 @@
 use crate::columns::Shown;
 use crate::seat_cell::seat_cell;
 use crate::table::ReplayTable;
+use explorer_step_line::Line;
 use std::alloc::{AllocError, Global};
 use step_core::{CounterId, GroupId, ListId, ListWord, NoMemory, Scenario, SeatId, Word};
 
@@ -14,6 +15,24 @@ struct Column {
 }
 
 impl Column {
+    /// A column of no steps yet.
+    fn new(alloc: Global, head: String) -> Column {
+        Column {
+            head,
+            cells: Vec::new(alloc),
+        }
+    }
+
+    /// Whether a cell isn't the first.
+    fn changes(&self, first: &str) -> bool {
+        for cell in &self.cells {
+            if cell.as_str() != first {
+                return true;
+            }
+        }
+        false
+    }
+
     /// The length of its longest text.
     fn width(&self) -> usize {
         let mut width = self.head.len();
@@ -69,66 +88,81 @@ fn write_cells(text: &mut String, columns: &[Column], at: usize) -> Result<(), A
     row.text.push('\n')
 }
 
-fn numbers_column(alloc: Global, table: &ReplayTable<'_>) -> Result<Column, AllocError> {
-    let mut cells = Vec::new(alloc);
-    for at in 0..table.lines.len() {
-        cells.push(format!(in alloc; "{at}")?)?;
+/// Adds the numbers of so many steps.
+fn add_numbers(alloc: Global, cells: &mut Vec<String>, steps: usize) -> Result<(), AllocError> {
+    for at in 0..steps {
+        cells.reserve(1)?;
+        cells.push_reserved(format!(in alloc; "{at}")?);
     }
-    Ok(Column {
-        head: format!(in alloc; "step")?,
-        cells,
-    })
+    Ok(())
+}
+
+fn numbers_column(alloc: Global, table: &ReplayTable<'_>) -> Result<Column, AllocError> {
+    let mut column = Column::new(alloc, format!(in alloc; "step")?);
+    add_numbers(alloc, &mut column.cells, table.lines.len())?;
+    Ok(column)
+}
+
+/// What the line has in the column of a seat: nothing, where another steps.
+fn cell_at(alloc: Global, line: &Line<'_>, seat: SeatId) -> Result<String, AllocError> {
+    if line.seat == seat {
+        return seat_cell(alloc, line);
+    }
+    Ok(String::new(alloc))
+}
+
+/// Adds what the lines have in the column of a seat.
+fn add_steps(
+    alloc: Global,
+    cells: &mut Vec<String>,
+    lines: &[Line<'_>],
+    seat: SeatId,
+) -> Result<(), AllocError> {
+    for line in lines {
+        cells.reserve(1)?;
+        cells.push_reserved(cell_at(alloc, line, seat)?);
+    }
+    Ok(())
 }
 
 fn seat_column(alloc: Global, table: &ReplayTable<'_>, seat: SeatId) -> Result<Column, AllocError> {
-    let mut cells = Vec::new(alloc);
-    for line in &table.lines {
-        let cell = if line.seat == seat {
-            seat_cell(alloc, line)?
-        } else {
-            String::new(alloc)
-        };
-        cells.push(cell)?;
-    }
-    Ok(Column {
-        head: format!(in alloc; "seat {seat}")?,
-        cells,
-    })
+    let mut column = Column::new(alloc, format!(in alloc; "seat {seat}")?);
+    add_steps(alloc, &mut column.cells, &table.lines, seat)?;
+    Ok(column)
 }
 
-/// The column of a word, if it is always shown, or isn't the same from the start on.
-fn word_column(
+/// Adds what a column of words has behind each step.
+fn add_cells(
     alloc: Global,
-    table: &ReplayTable<'_>,
+    cells: &mut Vec<String>,
+    lines: &[Line<'_>],
     shown: &Shown,
-) -> Result<Option<Column>, NoMemory> {
-    let first = shown.cell(alloc, &table.start)?;
-    let mut needed = shown.is_always_shown(table.start.scenario());
-    let mut cells = Vec::new(alloc);
-    for line in &table.lines {
-        let cell = shown.cell(alloc, &line.after)?;
-        needed = needed || cell.as_str() != first.as_str();
+) -> Result<(), NoMemory> {
+    for line in lines {
         cells.reserve(1)?;
-        cells.push_reserved(cell);
+        cells.push_reserved(shown.cell(alloc, &line.after)?);
     }
-    if !needed {
-        return Ok(None);
-    }
-    Ok(Some(Column {
-        head: shown.head(alloc)?,
-        cells,
-    }))
+    Ok(())
 }
 
-/// Adds the column of a word, if it is needed.
+/// The column of a word.
+fn word_column(alloc: Global, table: &ReplayTable<'_>, shown: &Shown) -> Result<Column, NoMemory> {
+    let mut column = Column::new(alloc, shown.head(alloc)?);
+    add_cells(alloc, &mut column.cells, &table.lines, shown)?;
+    Ok(column)
+}
+
+/// Adds the column of a word, if it is always shown, or isn't the same from the start on.
 fn add_word(
     alloc: Global,
     table: &ReplayTable<'_>,
     columns: &mut Vec<Column>,
     shown: &Shown,
 ) -> Result<(), NoMemory> {
-    if let Some(column) = word_column(alloc, table, shown)? {
-        columns.reserve(1)?;
+    columns.reserve(1)?;
+    let first = shown.cell(alloc, &table.start)?;
+    let column = word_column(alloc, table, shown)?;
+    if shown.is_always_shown(table.start.scenario()) || column.changes(&first) {
         columns.push_reserved(column);
     }
     Ok(())
@@ -222,19 +256,39 @@ fn seat_columns(
     Ok(columns)
 }
 
-fn columns(alloc: Global, table: &ReplayTable<'_>) -> Result<Vec<Column>, NoMemory> {
+/// Adds the columns of words that are needed.
+fn add_words(
+    alloc: Global,
+    table: &ReplayTable<'_>,
+    columns: &mut Vec<Column>,
+    seats: u16,
+) -> Result<(), NoMemory> {
     let parts = table.start.scenario().parts();
-    let seats = parts.calls.len() as u16;
-    let mut columns = seat_columns(alloc, table, seats)?;
-    add_counters(alloc, table, &mut columns)?;
-    add_grants(alloc, table, &mut columns, seats)?;
+    add_counters(alloc, table, columns)?;
+    add_grants(alloc, table, columns, seats)?;
     for l in 0..parts.firsts.len() as u32 {
-        add_list(alloc, table, &mut columns, ListId::new(l), seats)?;
+        add_list(alloc, table, columns, ListId::new(l), seats)?;
     }
     for g in 0..parts.groups {
-        add_word(alloc, table, &mut columns, &Shown::Group(GroupId::new(g)))?;
+        add_word(alloc, table, columns, &Shown::Group(GroupId::new(g)))?;
     }
+    Ok(())
+}
+
+fn columns(alloc: Global, table: &ReplayTable<'_>) -> Result<Vec<Column>, NoMemory> {
+    let seats = table.start.scenario().parts().calls.len() as u16;
+    let mut columns = seat_columns(alloc, table, seats)?;
+    add_words(alloc, table, &mut columns, seats)?;
     Ok(columns)
+}
+
+/// Writes the line of the heads, and those of so many steps.
+fn write_lines(text: &mut String, columns: &[Column], steps: usize) -> Result<(), AllocError> {
+    write_heads(text, columns)?;
+    for at in 0..steps {
+        write_cells(text, columns, at)?;
+    }
+    Ok(())
 }
 
 /// The table as text: a column for each seat, then one for each counter and each group, and for each other
@@ -242,9 +296,6 @@ fn columns(alloc: Global, table: &ReplayTable<'_>) -> Result<Vec<Column>, NoMemo
 pub fn table_text(alloc: Global, table: &ReplayTable<'_>) -> Result<String, NoMemory> {
     let columns = columns(alloc, table)?;
     let mut text = String::new(alloc);
-    write_heads(&mut text, &columns)?;
-    for at in 0..table.lines.len() {
-        write_cells(&mut text, &columns, at)?;
-    }
+    write_lines(&mut text, &columns, table.lines.len())?;
     Ok(text)
 }

@@ -7,11 +7,10 @@
 
 mod columns;
 mod layout;
-mod line;
 mod seat_cell;
 mod spelling;
 mod table;
 
+pub use explorer_step_line::Line;
 pub use layout::table_text;
-pub use line::Line;
 pub use table::{Refused, ReplayTable, table_of};

@@ -1,7 +1,7 @@
 //! The cell of a step: the call that begins, the row, what it found, and why the seat fails.
 
-use crate::line::Line;
 use crate::spelling::{misuse_name, spell_call, spell_found, spell_group};
+use explorer_step_line::Line;
 use std::alloc::{AllocError, Global};
 use step_core::{Call, GroupId, Phase, Picture, SeatId};
 
@@ -44,16 +44,21 @@ fn write_failure(text: &mut String, line: &Line<'_>) -> Result<(), AllocError> {
     }
 }
 
-/// The cell of the seat that steps.
-pub(crate) fn seat_cell(alloc: Global, line: &Line<'_>) -> Result<String, AllocError> {
-    let mut text = String::new(alloc);
+/// Writes the cell of the seat that steps.
+fn write_seat(text: &mut String, line: &Line<'_>) -> Result<(), AllocError> {
     if let Some(call) = line.call {
-        spell_call(&mut text, &call)?;
+        spell_call(text, &call)?;
         text.push_str(": ")?;
     }
     let row = line.row;
     write!(text, "{row} ")?;
-    spell_found(&mut text, &line.found)?;
-    write_failure(&mut text, line)?;
+    spell_found(text, &line.found)?;
+    write_failure(text, line)
+}
+
+/// The cell of the seat that steps.
+pub(crate) fn seat_cell(alloc: Global, line: &Line<'_>) -> Result<String, AllocError> {
+    let mut text = String::new(alloc);
+    write_seat(&mut text, line)?;
     Ok(text)
 }

@@ -3,7 +3,7 @@
 ghost use Rattle.std.specs.Prelude.{◌≡◌, IfOk, replicate};
 ghost use Rattle.explorer_replay.specs.Lines.{IsTableOf};
 
-use crate::line::{Line, step_line};
+use explorer_step_line::{Line, step_line};
 use std::alloc::{AllocError, Global};
 use step_core::{Moment, NoMemory, Picture, Scenario, SeatId, StepRefused, Variant};
 

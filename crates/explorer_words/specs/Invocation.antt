@@ -7,6 +7,7 @@ use Rattle.std.specs.declared.io.Error.{Error}
 use Rattle.std.specs.declared.io.ErrorKind.TheVariants.{OutOfMemory}
 use Rattle.explorer_scenarios.specs.declared.command.Command.{Command}
 use Rattle.explorer_scenarios.specs.declared.command.Command.TheVariants.{Explore, Check, Replay}
+pub use Rattle.explorer_threads.specs.Threads.{AreWithin}
 use Rattle.lock_commands.specs.declared.command.LockCommand.{LockCommand}
 use Rattle.lock_commands.specs.declared.command.LockCommand.TheVariants.{Try, Retrace}
 use Rattle.explorer_words.specs.declared.file_fault.FileFault.{FileFault}
@@ -20,11 +21,6 @@ use Rattle.explorer_words.specs.declared.invocation.Invocation.TheVariants.{NoMe
 -- 1 to so many
 abbrev pub IsFromOne : ℕ → ℕ → Type 0
 IsFromOne most n = (1 ≤ n) × (n ≤ most)
-
--- 1 to 64 workers, and 1 to 1,000,000 rounds
-pub record AreWithin (workers rounds : ℕ) : Type 0 where
-  pub workers_are : IsFromOne 64 workers
-  pub rounds_are : IsFromOne 1000000 rounds
 
 -- at most 64 steps, and 1 to 1,000,000,000 worlds
 abbrev pub IsWithin : Command → Type 0

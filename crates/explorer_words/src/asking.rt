@@ -5,11 +5,12 @@ ghost use Rattle.explorer_words.specs.Invocation.{IsFileNamed, IsFromOne, IsWith
 ghost use Rattle.explorer_words.specs.Invocation.{ReadsInputOnce};
 
 use crate::format::FORMAT;
-use crate::invocation::{Invocation, MAX_LINES, MAX_ROUNDS, MAX_THREADS, MAX_WORKERS, MAX_WORLDS};
+use crate::invocation::{Invocation, MAX_LINES, MAX_THREADS, MAX_WORLDS};
 use clap::ArgMatches;
 use explorer_scenarios::{
     Bounds, CHECKED_WORLDS, Command, EXPLORED_WORLDS, Extras, MAX_DEPTH, variant_named,
 };
+use explorer_threads::{MAX_ROUNDS, MAX_WORKERS};
 use journal_judge::Demands;
 use lock_commands::LockCommand;
 use std::alloc::{AllocError, Global};

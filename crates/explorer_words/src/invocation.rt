@@ -7,10 +7,6 @@ use lock_commands::LockCommand;
 
 /// The most worlds that a search may be asked to keep.
 pub const MAX_WORLDS: u32 = 1_000_000_000;
-/// The most workers of the command `threads`.
-pub const MAX_WORKERS: u32 = 64;
-/// The most rounds of each.
-pub const MAX_ROUNDS: u32 = 1_000_000;
 /// The most lines of a journal of which a number is told.
 pub const MAX_LINES: u32 = 1_000_000;
 /// The most threads that share a search.

@@ -11,6 +11,7 @@ mod format;
 mod invocation;
 mod words;
 
+pub use explorer_threads::{MAX_ROUNDS, MAX_WORKERS};
 pub use file_fault::FileFault;
-pub use invocation::{Invocation, MAX_LINES, MAX_ROUNDS, MAX_THREADS, MAX_WORKERS, MAX_WORLDS};
+pub use invocation::{Invocation, MAX_LINES, MAX_THREADS, MAX_WORLDS};
 pub use words::{no_file, no_words, read_words};

@@ -1,9 +1,10 @@
 use Rattle.std.proofs.Common.{◌≡◌, ℕ, ◌+◌, List, [], ◌∷◌, ◌++◌, Result, length, replicate, take, sym, ap, ◌∙◌, subst, arith}
 use Rattle.std.proofs.lemmas.List.{take_more}
 use Rattle.step_table.specs.declared.refusal.StepRefused.{StepRefused}
-use Rattle.explorer_replay.specs.declared.line.Line.{Line}
+use Rattle.explorer_step_line.specs.declared.line.Line.{Line}
+use Rattle.explorer_step_line.specs.StepLine.{TellsStep}
 use Rattle.step_core.specs.State.{Moment}
-use Rattle.explorer_replay.specs.Lines.{past_of, Shows, TellsStep}
+use Rattle.explorer_replay.specs.Lines.{past_of, Shows}
 use Rattle.explorer_replay.proofs.Telling.{TableSoFar, no_line, line_more, ends_here, stands_at}
 use Rattle.explorer_replay.proofs.table.table_of.Goals as goal
 
