@@ -18,8 +18,8 @@ use Rattle.lock_commands.specs.declared.reading.Unread.{Unread}
 use Rattle.lock_commands.specs.declared.reading.Unread.TheVariants as unread
 use Rattle.lock_commands.specs.declared.refusal.Refusal.{Refusal}
 use Rattle.lock_commands.specs.declared.refusal.Refusal.TheVariants.{TooLong, Faulty, Schedule}
-use Rattle.lock_program.specs.declared.fault.Cause.{Cause}
-use Rattle.lock_program.specs.declared.fault.Cause.TheVariants.{NoMemory as MemoryCause}
+use Rattle.lock_statements.specs.declared.cause.Cause.{Cause}
+use Rattle.lock_statements.specs.declared.cause.Cause.TheVariants.{NoMemory as MemoryCause}
 use Rattle.lock_program.specs.declared.fault.ReadFault.{ReadFault}
 use Rattle.lock_program.specs.declared.named_program.NamedProgram.{NamedProgram}
 use Rattle.lock_program.specs.FaultTexts.{read_fault_text}

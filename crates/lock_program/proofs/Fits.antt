@@ -5,7 +5,7 @@ use Rattle.std.specs.Option.{unwrap_or}
 use Rattle.std.proofs.lemmas.List.{length-replicate}
 use Rattle.std.proofs.lemmas.List.Elements.{All-nil, All-push}
 use Rattle.std.proofs.lemmas.List.Sums.{sum_by-append}
-use Rattle.lock_program.specs.declared.statement.Written.{Written}
+use Rattle.lock_statements.specs.declared.statement.Written.{Written}
 use Rattle.lock_program.specs.declared.stage.Stage.{Stage}
 use Rattle.lock_program.specs.declared.stage.Stage.TheVariants as stage
 use Rattle.lock_program.specs.declared.stage.LineKind.{LineKind}
@@ -13,11 +13,11 @@ use Rattle.lock_program.specs.declared.stage.LineKind.TheVariants as kind
 use Rattle.lock_program.specs.declared.meant.Meant.{Meant}
 use Rattle.lock_program.specs.declared.meant.Meant.TheVariants as meant
 use Rattle.lock_program.specs.declared.draft.Draft.{Draft}
-use Rattle.lock_program.specs.Bounds.{IsNear}
-use Rattle.lock_program.specs.Codes.{IsClosed, JumpsByLabel, code_of, width}
+use Rattle.lock_statements.specs.Bounds.{IsNear}
+use Rattle.lock_statements.specs.Codes.{IsClosed, JumpsByLabel, code_of, width}
 use Rattle.lock_program.specs.Drafts.{no_lines, closed, closed_by, one_cells, with_meant, at_stage}
 use Rattle.lock_program.specs.Fitting.{IsFitting, FitsMeant}
-use Rattle.lock_program.proofs.Closing.{closed_code}
+use Rattle.lock_statements.proofs.Closing.{closed_code}
 
 pub fits_none : IsFitting no_lines
 fits_none = record {

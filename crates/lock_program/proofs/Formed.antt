@@ -22,7 +22,7 @@ use Rattle.lock_program.specs.declared.fault.ReadFault.{ReadFault}
 use Rattle.lock_program.specs.declared.named_program.NamedProgram.{NamedProgram}
 use Rattle.lock_program.specs.declared.stage.LineKind.TheVariants as kind
 use Rattle.lock_program.specs.declared.draft.Draft.{Draft}
-use Rattle.lock_program.specs.Codes.{code_at}
+use Rattle.lock_statements.specs.Codes.{code_at}
 use Rattle.lock_program.specs.Drafts.{no_lines, closed_by, program_said, end_of}
 use Rattle.lock_program.specs.Fitting.{IsFitting}
 use Rattle.lock_program.specs.Text.{IsProgramOf}

@@ -5,16 +5,16 @@ use Rattle.std.specs.Prelude.{⊤}
 use Rattle.std.proofs.lemmas.List.{length-replicate}
 use Rattle.std.proofs.lemmas.List.Elements.{All-nil, All-same, All-push, All-append, All-replicate, All-weaker}
 use Rattle.lock_code.specs.declared.program.CodeLine.{CodeLine}
-use Rattle.lock_program.specs.declared.names.Cells.{Cells}
+use Rattle.lock_statements.specs.declared.names.Cells.{Cells}
 use Rattle.lock_program.specs.declared.stage.Stage.{Stage}
 use Rattle.lock_program.specs.declared.stage.Stage.TheVariants as stage
 use Rattle.lock_program.specs.declared.stage.LineKind.{LineKind}
 use Rattle.lock_program.specs.declared.stage.LineKind.TheVariants as kind
-use Rattle.lock_program.specs.declared.statement.Written.{Written}
+use Rattle.lock_statements.specs.declared.statement.Written.{Written}
 use Rattle.lock_program.specs.declared.meant.Meant.{Meant}
 use Rattle.lock_program.specs.declared.meant.Meant.TheVariants as meant
 use Rattle.lock_program.specs.declared.draft.Draft.{Draft}
-use Rattle.lock_program.specs.Codes.{code_of}
+use Rattle.lock_statements.specs.Codes.{code_of}
 use Rattle.lock_program.specs.Drafts.{no_lines, closed, closed_by, one_cells, with_meant, at_stage}
 use Rattle.lock_program.proofs.Naming.{sizes, Below, IsWithin, AreWithin, HasCells, IsStatement}
 use Rattle.lock_program.proofs.Lining.{IsLined, lined_code}

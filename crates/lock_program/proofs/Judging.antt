@@ -1,10 +1,10 @@
 -- What is wrong with one line behind those before it.
 use Rattle.std.proofs.Common.{ℕ, Result, Ok, Err, inr, sym}
 use Rattle.explorer_text.specs.Pieces.{Piece}
-use Rattle.lock_text.specs.declared.lines.Line.{Line}
+use Rattle.lock_forms.specs.declared.lines.Line.{Line}
 use Rattle.lock_text.specs.Answers as alone
-use Rattle.lock_program.specs.declared.fault.Cause.{Cause}
-use Rattle.lock_program.specs.declared.fault.Cause.TheVariants.{NoMemory}
+use Rattle.lock_statements.specs.declared.cause.Cause.{Cause}
+use Rattle.lock_statements.specs.declared.cause.Cause.TheVariants.{NoMemory}
 use Rattle.lock_program.specs.declared.draft.Draft.{Draft}
 use Rattle.lock_program.specs.Drafts.{next}
 use Rattle.lock_program.specs.Answers.{AnswersTo, Judges}

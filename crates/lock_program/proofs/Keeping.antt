@@ -1,11 +1,11 @@
 -- A line more keeps what a draft declares and says there, and few.
 use Rattle.std.proofs.Common.{◌≡◌, ℕ, ◌+◌, Bool, true, false, cond, List, [], ◌∷◌, length, Result, Ok, Err, refl, subst}
-use Rattle.lock_text.specs.declared.lines.Line.{Line}
-use Rattle.lock_program.specs.declared.fault.Cause.{Cause}
-use Rattle.lock_program.specs.declared.fault.Cause.TheVariants.{Place as Misplaced, TooMany, Twice}
+use Rattle.lock_forms.specs.declared.lines.Line.{Line}
+use Rattle.lock_statements.specs.declared.cause.Cause.{Cause}
+use Rattle.lock_statements.specs.declared.cause.Cause.TheVariants.{Place as Misplaced, TooMany, Twice}
 use Rattle.lock_program.specs.declared.meant.Meant.{Meant}
 use Rattle.lock_program.specs.declared.draft.Draft.{Draft}
-use Rattle.lock_program.specs.Causes.{map_ok, too_if}
+use Rattle.lock_statements.specs.Causes.{map_ok, too_if}
 use Rattle.lock_program.specs.Places.{kind_of, may_stand, stage_after}
 use Rattle.lock_program.specs.Limits.{is_too_many, is_again}
 use Rattle.lock_program.specs.Meanings.{meant_of}

@@ -1,4 +1,3 @@
-mod Closing
 mod Falling
 mod Fits
 mod Formed

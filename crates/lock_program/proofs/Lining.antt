@@ -11,11 +11,11 @@ use Rattle.lock_code.specs.declared.instruction.Instruction.TheVariants as code
 use Rattle.lock_code.specs.declared.program.CodeLine.{CodeLine}
 use Rattle.lock_code.specs.declared.program.Program.{Program}
 use Rattle.lock_code.specs.WellFormed.{IsLine}
-use Rattle.lock_program.specs.declared.statement.Statement.{Statement}
-use Rattle.lock_program.specs.declared.statement.Statement.TheVariants as says
-use Rattle.lock_program.specs.declared.statement.Written.{Written}
-use Rattle.lock_program.specs.Codes.{code_at, width, size_of, target_of, moved, put_in, lines_of, code_of}
-use Rattle.lock_program.proofs.Closing.{line_length, after_one, target_within}
+use Rattle.lock_statements.specs.declared.statement.Statement.{Statement}
+use Rattle.lock_statements.specs.declared.statement.Statement.TheVariants as says
+use Rattle.lock_statements.specs.declared.statement.Written.{Written}
+use Rattle.lock_statements.specs.Codes.{code_at, width, size_of, target_of, moved, put_in, lines_of, code_of}
+use Rattle.lock_statements.proofs.Closing.{line_length, after_one, target_within}
 use Rattle.lock_program.proofs.Naming.{IsStatement}
 
 -- lines of a program of so many lines

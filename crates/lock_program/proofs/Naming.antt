@@ -4,14 +4,14 @@ use Rattle.std.proofs.Common.{IfSome}
 use Rattle.std.proofs.Common.{All, unwrap_or, bytes_eq, arith}
 use Rattle.std.specs.Prelude.{⊤}
 use Rattle.std.proofs.lemmas.List.Elements.{All-head, All-tail}
-use Rattle.lock_text.specs.declared.words.Operand.{Operand}
-use Rattle.lock_text.specs.declared.words.Operand.TheVariants as text
-use Rattle.lock_text.specs.declared.words.Place.{Place}
-use Rattle.lock_text.specs.declared.lines.Share.{Share}
-use Rattle.lock_text.specs.declared.lines.Share.TheVariants as share
-use Rattle.lock_text.specs.declared.lines.Line.{Line}
-use Rattle.lock_text.specs.declared.lines.Line.TheVariants.{Load, Store, Swap, Add, Exchange, Await, Acquire, Release, Ticket, Wait, One, All as NotifyAll}
-use Rattle.lock_text.specs.declared.lines.Line.TheVariants.{Park, Unpark, Out, Let, Compute, If, Goto, Label, In, Assert, Fail, Do, Return}
+use Rattle.lock_forms.specs.declared.words.Operand.{Operand}
+use Rattle.lock_forms.specs.declared.words.Operand.TheVariants as text
+use Rattle.lock_forms.specs.declared.words.Place.{Place}
+use Rattle.lock_forms.specs.declared.lines.Share.{Share}
+use Rattle.lock_forms.specs.declared.lines.Share.TheVariants as share
+use Rattle.lock_forms.specs.declared.lines.Line.{Line}
+use Rattle.lock_forms.specs.declared.lines.Line.TheVariants.{Load, Store, Swap, Add, Exchange, Await, Acquire, Release, Ticket, Wait, One, All as NotifyAll}
+use Rattle.lock_forms.specs.declared.lines.Line.TheVariants.{Park, Unpark, Out, Let, Compute, If, Goto, Label, In, Assert, Fail, Do, Return}
 use Rattle.lock_code.specs.declared.instruction.Instruction.{Instruction}
 use Rattle.lock_code.specs.declared.instruction.Instruction.TheVariants as code
 use Rattle.lock_code.specs.declared.operand.Operand.{Operand as CodeOperand}
@@ -21,17 +21,17 @@ use Rattle.lock_code.specs.declared.operand.Share.{Share as CodeShare}
 use Rattle.lock_code.specs.declared.operand.Share.TheVariants as shared
 use Rattle.lock_code.specs.declared.program.Program.{Program as CodeProgram}
 use Rattle.lock_code.specs.WellFormed.{IsOperand, IsPlace, IsWord, IsCounter, IsShare, IsRegister, IsLine}
-use Rattle.lock_program.specs.declared.fault.Cause.{Cause}
-use Rattle.lock_program.specs.declared.names.Cells.{Cells}
-use Rattle.lock_program.specs.declared.names.Extent.{Extent}
+use Rattle.lock_statements.specs.declared.cause.Cause.{Cause}
+use Rattle.lock_statements.specs.declared.names.Cells.{Cells}
+use Rattle.lock_statements.specs.declared.names.Extent.{Extent}
 use Rattle.lock_program.specs.declared.draft.Draft.{Draft}
-use Rattle.lock_program.specs.declared.statement.Statement.{Statement}
-use Rattle.lock_program.specs.declared.statement.Statement.TheVariants as says
-use Rattle.lock_program.specs.Causes.{both}
-use Rattle.lock_program.specs.Names.{declared, number_of_name, value_of, extent_of}
-use Rattle.lock_program.specs.Parts.{number_of, list_of, register_of, section_of, result_of, constant_or, operand_of, single_of, member_of, place_of}
-use Rattle.lock_program.specs.Parts.{word_of, counter_of, share_of}
-use Rattle.lock_program.specs.Statements.{done_of, access_of, place_and_operand, two_of, seat_line, layer_line, access_line, statement_of}
+use Rattle.lock_statements.specs.declared.statement.Statement.{Statement}
+use Rattle.lock_statements.specs.declared.statement.Statement.TheVariants as says
+use Rattle.lock_statements.specs.Causes.{both}
+use Rattle.lock_statements.specs.Names.{declared, number_of_name, value_of, extent_of}
+use Rattle.lock_statements.specs.Parts.{number_of, list_of, register_of, section_of, result_of, constant_or, operand_of, single_of, member_of, place_of}
+use Rattle.lock_statements.specs.Parts.{word_of, counter_of, share_of}
+use Rattle.lock_statements.specs.Statements.{done_of, access_of, place_and_operand, two_of, seat_line, layer_line, access_line, statement_of}
 use Rattle.lock_program.proofs.Oks.{oks_any, oks_map, oks_both, oks_then, oks_declared, position_within}
 
 -- a program that has what the draft declares, and no lines

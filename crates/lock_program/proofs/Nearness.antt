@@ -1,27 +1,16 @@
 -- The words and counters of a name have small numbers.
-use Rattle.std.proofs.Common.{◌≡◌, ℕ, ◌≤◌, Bool, true, false, List, [], ◌∷◌, Option, Some, None, Result, Ok, Err, All, IfSome, subst}
+use Rattle.std.proofs.Common.{ℕ, ◌≤◌, Bool, true, false, List, [], ◌∷◌, Option, Some, None, All, IfSome}
 use Rattle.std.specs.Prelude.{cond}
 use Rattle.std.specs.Option.{ok_or}
 use Rattle.std.specs.Str.{bytes_eq}
 use Rattle.std.proofs.lemmas.List.Elements.{All-head, All-tail}
-use Rattle.lock_program.specs.declared.fault.Cause.{Cause}
-use Rattle.lock_program.specs.declared.fault.Cause.TheVariants.{Undeclared}
-use Rattle.lock_program.specs.declared.names.Cells.{Cells}
-use Rattle.lock_program.specs.declared.names.Extent.{Extent}
-use Rattle.lock_program.specs.declared.names.Names.{Names}
-use Rattle.lock_program.specs.Bounds.{IsNear, AreNear, IsNearWhere}
-use Rattle.lock_program.specs.Causes.{both}
+use Rattle.lock_statements.specs.declared.cause.Cause.TheVariants.{Undeclared}
+use Rattle.lock_statements.specs.declared.names.Cells.{Cells}
+use Rattle.lock_statements.specs.declared.names.Extent.{Extent}
+use Rattle.lock_statements.specs.declared.names.Names.{Names}
+use Rattle.lock_statements.specs.Bounds.{IsNear, AreNear, IsNearWhere}
 use Rattle.lock_program.specs.Meanings.{word_or, shared_of}
-use Rattle.lock_program.specs.Names.{extent_of}
-
-pub near_of_both : {B : Type 0} (r : Result Extent Cause) (s : Result B Cause) (x : Extent × B) → IsNearWhere r → both r s ≡ Ok x → x.0.first ≤ 32
-near_of_both {B} (Ok a) (Ok b) x h e =
-    let y : Extent × B = (a, b) in
-    let is : y ≡ x = cc in
-    subst (λ (z : Extent × B). z.0.first ≤ 32) is h
-near_of_both (Ok a) (Err d) x h e = absurd cc
-near_of_both (Err c) (Ok b) x h e = absurd cc
-near_of_both (Err c) (Err d) x h e = absurd cc
+use Rattle.lock_statements.specs.Names.{extent_of}
 
 abbrev Near : Option Extent → Type 0
 Near o = IfSome o (λ e. e.first ≤ 32)

@@ -1,9 +1,9 @@
 -- What holds of an answer's value, where one there is.
 use Rattle.std.proofs.Common.{◌≡◌, ℕ, ◌<◌, Bool, List, length, position, Option, Some, None, Result, Ok, Err, IfOk, IfSome, refl, subst, []}
 use Rattle.std.proofs.lemmas.List.Quantifiers.{position-Some}
-use Rattle.lock_program.specs.declared.fault.Cause.{Cause}
-use Rattle.lock_program.specs.Causes.{both, map_ok, and_then}
-use Rattle.lock_program.specs.Names.{declared}
+use Rattle.lock_statements.specs.declared.cause.Cause.{Cause}
+use Rattle.lock_statements.specs.Causes.{both, map_ok, and_then}
+use Rattle.lock_statements.specs.Names.{declared}
 
 pub oks_any : {A : Type 0} (P : A → Type 0) (r : Result A Cause) → ((a : A) → P a) → IfOk r P
 oks_any P (Ok a) h = h a

@@ -4,30 +4,30 @@ use Rattle.std.proofs.Common.{arith}
 use Rattle.std.specs.Prelude.{nat_lt, cond, ◌==◌, ◌||◌}
 use Rattle.std.specs.Option.{unwrap_or}
 use Rattle.std.proofs.lemmas.Bool.{ltb-false}
-use Rattle.lock_text.specs.declared.words.Number.TheVariants.{Plus, Minus}
-use Rattle.lock_text.specs.declared.words.Operand.{Operand}
-use Rattle.lock_text.specs.declared.words.Operand.TheVariants as text
-use Rattle.lock_text.specs.declared.lines.Line.{Line}
-use Rattle.lock_text.specs.declared.lines.Line.TheVariants.{Blank, Const, Word, Counter, List as NotifyList, Registers, Section, Program, Seats, Most, Apart}
-use Rattle.lock_text.specs.declared.lines.Line.TheVariants.{Finally, Load, Store, Swap, Add, Exchange, Await, Acquire, Release, Ticket, Wait, One}
-use Rattle.lock_text.specs.declared.lines.Line.TheVariants.{All as NotifyAll}
-use Rattle.lock_text.specs.declared.lines.Line.TheVariants.{Park, Unpark, Out, Let, Compute, If, Goto, Label, In, Assert, Fail, Do, Return}
+use Rattle.lock_forms.specs.declared.words.Number.TheVariants.{Plus, Minus}
+use Rattle.lock_forms.specs.declared.words.Operand.{Operand}
+use Rattle.lock_forms.specs.declared.words.Operand.TheVariants as text
+use Rattle.lock_forms.specs.declared.lines.Line.{Line}
+use Rattle.lock_forms.specs.declared.lines.Line.TheVariants.{Blank, Const, Word, Counter, List as NotifyList, Registers, Section, Program, Seats, Most, Apart}
+use Rattle.lock_forms.specs.declared.lines.Line.TheVariants.{Finally, Load, Store, Swap, Add, Exchange, Await, Acquire, Release, Ticket, Wait, One}
+use Rattle.lock_forms.specs.declared.lines.Line.TheVariants.{All as NotifyAll}
+use Rattle.lock_forms.specs.declared.lines.Line.TheVariants.{Park, Unpark, Out, Let, Compute, If, Goto, Label, In, Assert, Fail, Do, Return}
 use Rattle.lock_code.specs.declared.instruction.Instruction.{Instruction}
 use Rattle.lock_code.specs.declared.instruction.Instruction.TheVariants as code
-use Rattle.lock_program.specs.declared.fault.Cause.{Cause}
-use Rattle.lock_program.specs.declared.fault.Cause.TheVariants.{Undeclared}
-use Rattle.lock_program.specs.declared.names.Names.{Names}
-use Rattle.lock_program.specs.declared.statement.Statement.{Statement}
-use Rattle.lock_program.specs.declared.statement.Statement.TheVariants as says
+use Rattle.lock_statements.specs.declared.cause.Cause.{Cause}
+use Rattle.lock_statements.specs.declared.cause.Cause.TheVariants.{Undeclared}
+use Rattle.lock_statements.specs.declared.names.Names.{Names}
+use Rattle.lock_statements.specs.declared.statement.Statement.{Statement}
+use Rattle.lock_statements.specs.declared.statement.Statement.TheVariants as says
 use Rattle.lock_program.specs.declared.meant.Meant.{Meant}
 use Rattle.lock_program.specs.declared.meant.Meant.TheVariants as meant
 use Rattle.lock_program.specs.declared.draft.Draft.{Draft}
-use Rattle.lock_program.specs.Causes.{both, map_ok, and_then, too_if}
-use Rattle.lock_program.specs.Parts.{number_of, some_of, length_of, fixed_of, start_of, list_of, register_of, section_of, program_of, operand_of, word_of}
-use Rattle.lock_program.specs.Parts.{counter_of, share_of}
-use Rattle.lock_program.specs.Statements.{ended_of, done_of, access_of, place_and_operand, two_of, seat_line, layer_line, access_line, statement_of}
+use Rattle.lock_statements.specs.Causes.{both, map_ok, and_then, too_if}
+use Rattle.lock_statements.specs.Parts.{number_of, some_of, length_of, fixed_of, start_of, list_of, register_of, section_of, program_of, operand_of, word_of}
+use Rattle.lock_statements.specs.Parts.{counter_of, share_of}
+use Rattle.lock_statements.specs.Statements.{ended_of, done_of, access_of, place_and_operand, two_of, seat_line, layer_line, access_line, statement_of}
 use Rattle.lock_program.specs.Meanings.{property_of, meant_of}
-use Rattle.lock_program.specs.Codes.{width, size_of, IsTargetWithin, JumpsByLabel}
+use Rattle.lock_statements.specs.Codes.{width, size_of, IsTargetWithin, JumpsByLabel}
 use Rattle.lock_program.specs.Limits.{cells_asked, lines_at, lines_asked, is_too_many}
 use Rattle.lock_program.specs.declared.stage.Stage.{Stage}
 use Rattle.lock_program.specs.declared.stage.Stage.TheVariants as stage

@@ -3,15 +3,15 @@ use Rattle.std.proofs.Common.{◌≡◌, ℕ, ◌+◌, ◌-◌, ◌^◌, ◌<◌
 use Rattle.std.proofs.Common.{◌++◌, length}
 use Rattle.std.proofs.Common.{Result, Ok, Err, IfOk, refl, sym, ap, subst, arith, length-append, nat_lt, ◌==◌, ◌||◌, ltb-true}
 use Rattle.std.specs.Prelude.{⊤}
-use Rattle.lock_text.specs.declared.words.Number.{Number}
-use Rattle.lock_text.specs.declared.words.Number.TheVariants.{Plus, Minus}
-use Rattle.lock_text.specs.declared.words.Operand.{Operand}
-use Rattle.lock_text.specs.declared.lines.Line.{Line}
-use Rattle.lock_text.specs.declared.lines.Line.TheVariants.{Blank, Const, Word, Counter, List as NotifyList, Registers, Section, Program, Seats, Most, Apart}
-use Rattle.lock_text.specs.declared.lines.Line.TheVariants.{Finally}
-use Rattle.lock_program.specs.declared.fault.Cause.{Cause}
-use Rattle.lock_program.specs.declared.fault.Cause.TheVariants.{Range}
-use Rattle.lock_program.specs.declared.names.Names.{Names}
+use Rattle.lock_forms.specs.declared.words.Number.{Number}
+use Rattle.lock_forms.specs.declared.words.Number.TheVariants.{Plus, Minus}
+use Rattle.lock_forms.specs.declared.words.Operand.{Operand}
+use Rattle.lock_forms.specs.declared.lines.Line.{Line}
+use Rattle.lock_forms.specs.declared.lines.Line.TheVariants.{Blank, Const, Word, Counter, List as NotifyList, Registers, Section, Program, Seats, Most, Apart}
+use Rattle.lock_forms.specs.declared.lines.Line.TheVariants.{Finally}
+use Rattle.lock_statements.specs.declared.cause.Cause.{Cause}
+use Rattle.lock_statements.specs.declared.cause.Cause.TheVariants.{Range}
+use Rattle.lock_statements.specs.declared.names.Names.{Names}
 use Rattle.lock_program.specs.declared.stage.Stage.{Stage}
 use Rattle.lock_program.specs.declared.stage.Stage.TheVariants as stage
 use Rattle.lock_program.specs.declared.stage.LineKind.{LineKind}
@@ -19,13 +19,13 @@ use Rattle.lock_program.specs.declared.stage.LineKind.TheVariants as kind
 use Rattle.lock_program.specs.declared.meant.Meant.{Meant}
 use Rattle.lock_program.specs.declared.meant.Meant.TheVariants as meant
 use Rattle.lock_program.specs.declared.draft.Draft.{Draft}
-use Rattle.lock_program.specs.Causes.{both, map_ok}
-use Rattle.lock_program.specs.Codes.{code_of}
-use Rattle.lock_program.specs.Parts.{number_of, length_of, fixed_of, as_start, start_of, some_of, program_of}
+use Rattle.lock_statements.specs.Causes.{both, map_ok}
+use Rattle.lock_statements.specs.Codes.{code_of}
+use Rattle.lock_statements.specs.Parts.{number_of, length_of, fixed_of, as_start, start_of, some_of, program_of}
 use Rattle.lock_program.specs.Places.{kind_of, may_stand, stage_after}
 use Rattle.lock_program.specs.Limits.{seats_asked, is_over, is_too_many}
 use Rattle.lock_program.specs.Meanings.{property_of, meant_of}
-use Rattle.lock_program.specs.Statements.{statement_of}
+use Rattle.lock_statements.specs.Statements.{statement_of}
 use Rattle.lock_program.specs.Drafts.{closed_by, with_meant}
 use Rattle.lock_program.proofs.Oks.{oks_any, oks_map, oks_both, oks_then}
 use Rattle.lock_program.proofs.Naming.{sizes, Below, number_within, IsStatement, statement_in}

@@ -1,11 +1,11 @@
 -- What a line makes of a draft.
 use Rattle.std.proofs.Common.{◌≡◌, ℕ, Bool, length, Result, Ok, ap, ◌∙◌}
-use Rattle.lock_text.specs.declared.lines.Line.{Line}
-use Rattle.lock_program.specs.declared.fault.Cause.{Cause}
-use Rattle.lock_program.specs.declared.fault.Cause.TheVariants.{TooMany, Twice}
+use Rattle.lock_forms.specs.declared.lines.Line.{Line}
+use Rattle.lock_statements.specs.declared.cause.Cause.{Cause}
+use Rattle.lock_statements.specs.declared.cause.Cause.TheVariants.{TooMany, Twice}
 use Rattle.lock_program.specs.declared.meant.Meant.{Meant}
 use Rattle.lock_program.specs.declared.draft.Draft.{Draft}
-use Rattle.lock_program.specs.Causes.{too_if}
+use Rattle.lock_statements.specs.Causes.{too_if}
 use Rattle.lock_program.specs.Places.{kind_of}
 use Rattle.lock_program.specs.Limits.{is_too_many, is_again}
 use Rattle.lock_program.specs.Meanings.{meant_of}

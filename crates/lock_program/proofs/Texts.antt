@@ -4,16 +4,16 @@ use Rattle.std.specs.Prelude.{◌↔◌, IfOk, IfErr}
 use Rattle.explorer_text.specs.Pieces.{Piece, pieces}
 use Rattle.explorer_text.specs.Reader.{IsOnly, IsNone}
 use Rattle.lock_text.specs.declared.fault.Cause.{Cause as TextCause}
-use Rattle.lock_text.specs.declared.lines.Line.{Line}
+use Rattle.lock_forms.specs.declared.lines.Line.{Line}
 use Rattle.lock_text.specs.Causes as alone
 use Rattle.lock_text.specs.Answers.{IsOnlyRight as IsOnlyRightAlone}
 use Rattle.lock_text.specs.Text.{AreRight}
-use Rattle.lock_program.specs.declared.fault.Cause.{Cause}
-use Rattle.lock_program.specs.declared.fault.Cause.TheVariants.{NoMemory}
+use Rattle.lock_statements.specs.declared.cause.Cause.{Cause}
+use Rattle.lock_statements.specs.declared.cause.Cause.TheVariants.{NoMemory}
 use Rattle.lock_program.specs.declared.fault.ReadFault.{ReadFault}
 use Rattle.lock_program.specs.declared.draft.Draft.{Draft}
 use Rattle.lock_program.specs.declared.named_program.NamedProgram.{NamedProgram}
-use Rattle.lock_program.specs.Causes.{and_then, of_text}
+use Rattle.lock_statements.specs.Causes.{and_then, of_text}
 use Rattle.lock_program.specs.Drafts.{no_lines, next, finished}
 use Rattle.lock_program.specs.Text.{with_lines, IsProgramOf, IsRight, IsFault, IsFirstFault, IsFaultOf, IsReached}
 use Rattle.lock_program.specs.Answers.{IsOnlyRight, IsOnlyFault, Judges, FinishesBy, Finishes, IsReadFaultBy, IsReadFault}

@@ -3,15 +3,15 @@ use Rattle.std.specs.Prelude.{⊤, ◌≡◌, ℕ, List, ◌⊎◌, Result, Ok, 
 use Rattle.explorer_text.specs.Pieces.{Piece, pieces}
 use Rattle.explorer_text.specs.Reader.{IsOnly, IsNone}
 use Rattle.lock_text.specs.declared.fault.Cause.{Cause as TextCause}
-use Rattle.lock_text.specs.declared.lines.Line.{Line}
+use Rattle.lock_forms.specs.declared.lines.Line.{Line}
 use Rattle.lock_text.specs.Answers as alone
 use Rattle.lock_text.specs.Causes.{IsFault as IsFaultAlone}
-use Rattle.lock_program.specs.declared.fault.Cause.{Cause}
-use Rattle.lock_program.specs.declared.fault.Cause.TheVariants.{NoMemory}
+use Rattle.lock_statements.specs.declared.cause.Cause.{Cause}
+use Rattle.lock_statements.specs.declared.cause.Cause.TheVariants.{NoMemory}
 use Rattle.lock_program.specs.declared.fault.ReadFault.{ReadFault}
 use Rattle.lock_program.specs.declared.draft.Draft.{Draft}
 use Rattle.lock_program.specs.declared.named_program.NamedProgram.{NamedProgram}
-use Rattle.lock_program.specs.Causes.{of_text}
+use Rattle.lock_statements.specs.Causes.{of_text}
 use Rattle.lock_program.specs.Drafts.{no_lines, next, finished}
 use Rattle.lock_program.specs.Text.{IsReadable, IsProgramOf, IsFaultOf, IsReached}
 

@@ -2,14 +2,14 @@
 use Rattle.std.specs.Prelude.{ℕ, cond, List, [], ◌∷◌, ◌++◌, length, replicate, Option, Some, None, Result, Ok}
 use Rattle.std.specs.Prelude.{Err}
 use Rattle.std.specs.Option.{unwrap_or}
-use Rattle.lock_text.specs.declared.lines.Line.{Line}
-use Rattle.lock_program.specs.declared.fault.Cause.{Cause}
-use Rattle.lock_program.specs.declared.fault.Cause.TheVariants.{Place as Misplaced, TooMany, Twice}
-use Rattle.lock_program.specs.declared.fault.Cause.TheVariants.{Label as Unlabelled, End}
+use Rattle.lock_forms.specs.declared.lines.Line.{Line}
+use Rattle.lock_statements.specs.declared.cause.Cause.{Cause}
+use Rattle.lock_statements.specs.declared.cause.Cause.TheVariants.{Place as Misplaced, TooMany, Twice}
+use Rattle.lock_statements.specs.declared.cause.Cause.TheVariants.{Label as Unlabelled, End}
 use Rattle.lock_program.specs.declared.fault.ReadFault.{ReadFault}
 use Rattle.lock_program.specs.declared.named_program.NamedProgram.{NamedProgram}
-use Rattle.lock_program.specs.declared.names.Cells.{Cells}
-use Rattle.lock_program.specs.declared.names.Names.{Names}
+use Rattle.lock_statements.specs.declared.names.Cells.{Cells}
+use Rattle.lock_statements.specs.declared.names.Names.{Names}
 use Rattle.lock_program.specs.declared.stage.Stage.{Stage}
 use Rattle.lock_program.specs.declared.stage.Stage.TheVariants as stage
 use Rattle.lock_program.specs.declared.stage.LineKind.{LineKind}
@@ -17,8 +17,8 @@ use Rattle.lock_program.specs.declared.stage.LineKind.TheVariants as kind
 use Rattle.lock_program.specs.declared.meant.Meant.{Meant}
 use Rattle.lock_program.specs.declared.meant.Meant.TheVariants as meant
 use Rattle.lock_program.specs.declared.draft.Draft.{Draft}
-use Rattle.lock_program.specs.Causes.{map_ok, too_if}
-use Rattle.lock_program.specs.Codes.{first_lost, code_of}
+use Rattle.lock_statements.specs.Causes.{map_ok, too_if}
+use Rattle.lock_statements.specs.Codes.{first_lost, code_of}
 use Rattle.lock_program.specs.Places.{kind_of, may_stand, stage_after}
 use Rattle.lock_program.specs.Limits.{is_too_many, is_again}
 use Rattle.lock_program.specs.Meanings.{meant_of}

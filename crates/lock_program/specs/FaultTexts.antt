@@ -1,25 +1,8 @@
 -- What the faults of a lock program print.
 use Rattle.std.specs.Prelude.{ℕ, List, ◌++◌, codes}
 use Rattle.std.specs.Fmt.{decimal}
-use Rattle.lock_program.specs.declared.fault.Cause.{Cause}
-use Rattle.lock_program.specs.declared.fault.Cause.TheVariants.{Cut, Byte, Form, Place, Range, TooMany}
-use Rattle.lock_program.specs.declared.fault.Cause.TheVariants.{Undeclared, Twice, Array, Label, End}
-use Rattle.lock_program.specs.declared.fault.Cause.TheVariants.{NoMemory}
+use Rattle.lock_statements.specs.CauseTexts.{cause_text}
 use Rattle.lock_program.specs.declared.fault.ReadFault.{ReadFault}
-
-abbrev pub cause_text : Cause → List ℕ
-cause_text Cut = codes "cut"
-cause_text Byte = codes "byte"
-cause_text Form = codes "form"
-cause_text Place = codes "place"
-cause_text Range = codes "range"
-cause_text TooMany = codes "too many"
-cause_text Undeclared = codes "undeclared"
-cause_text Twice = codes "twice"
-cause_text Array = codes "array"
-cause_text Label = codes "label"
-cause_text End = codes "end"
-cause_text NoMemory = codes "no memory"
 
 -- the line's number and the cause
 abbrev pub read_fault_text : ReadFault → List ℕ

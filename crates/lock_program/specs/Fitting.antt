@@ -3,11 +3,11 @@ use Rattle.std.specs.Prelude.{⊤, ◌+◌, ◌≤◌, length}
 use Rattle.std.specs.Option.{unwrap_or}
 use Rattle.std.specs.List.{All}
 use Rattle.lock_program.specs.declared.draft.Draft.{Draft}
-use Rattle.lock_program.specs.declared.statement.Written.{Written}
+use Rattle.lock_statements.specs.declared.statement.Written.{Written}
 use Rattle.lock_program.specs.declared.meant.Meant.{Meant}
 use Rattle.lock_program.specs.declared.meant.Meant.TheVariants as meant
-use Rattle.lock_program.specs.Bounds.{AreNear}
-use Rattle.lock_program.specs.Codes.{IsClosed, JumpsByLabel, size_of, width}
+use Rattle.lock_statements.specs.Bounds.{AreNear}
+use Rattle.lock_statements.specs.Codes.{IsClosed, JumpsByLabel, size_of, width}
 
 pub record IsFitting (d : Draft) : Type 0 where
   pub near : AreNear d.names

@@ -1,14 +1,8 @@
 pub mod Answers
-pub mod Bounds
-pub mod Causes
-pub mod Codes
 pub mod Drafts
 pub mod FaultTexts
 pub mod Fitting
 pub mod Limits
 pub mod Meanings
-pub mod Names
-pub mod Parts
 pub mod Places
-pub mod Statements
 pub mod Text

@@ -1,19 +1,19 @@
 -- What there is too much of, and what is declared again.
 use Rattle.std.specs.Prelude.{ℕ, ◌-◌, nat_lt, Bool, false, ◌||◌, List, length, Option, Some, Result, Ok, Err}
-use Rattle.lock_text.specs.declared.words.Number.TheVariants.{Plus}
-use Rattle.lock_text.specs.declared.words.Number.{Number}
-use Rattle.lock_text.specs.declared.words.Operand.{Operand}
-use Rattle.lock_text.specs.declared.words.Operand.TheVariants as text
-use Rattle.lock_text.specs.declared.lines.Line.{Line}
-use Rattle.lock_text.specs.declared.lines.Line.TheVariants.{Blank, Const, Word, Counter, List as NotifyList}
-use Rattle.lock_text.specs.declared.lines.Line.TheVariants.{Registers, Section, Program, Seats, Most, Apart}
-use Rattle.lock_text.specs.declared.lines.Line.TheVariants.{Finally, Label, Do}
+use Rattle.lock_forms.specs.declared.words.Number.TheVariants.{Plus}
+use Rattle.lock_forms.specs.declared.words.Number.{Number}
+use Rattle.lock_forms.specs.declared.words.Operand.{Operand}
+use Rattle.lock_forms.specs.declared.words.Operand.TheVariants as text
+use Rattle.lock_forms.specs.declared.lines.Line.{Line}
+use Rattle.lock_forms.specs.declared.lines.Line.TheVariants.{Blank, Const, Word, Counter, List as NotifyList}
+use Rattle.lock_forms.specs.declared.lines.Line.TheVariants.{Registers, Section, Program, Seats, Most, Apart}
+use Rattle.lock_forms.specs.declared.lines.Line.TheVariants.{Finally, Label, Do}
 use Rattle.lock_code.specs.declared.program.CodeLine.{CodeLine}
-use Rattle.lock_program.specs.declared.fault.Cause.{Cause}
+use Rattle.lock_statements.specs.declared.cause.Cause.{Cause}
 use Rattle.lock_program.specs.declared.draft.Draft.{Draft}
-use Rattle.lock_program.specs.Names.{is_declared, is_any_again}
-use Rattle.lock_program.specs.Parts.{program_of}
-use Rattle.lock_program.specs.Codes.{code_at, size_of, has_label}
+use Rattle.lock_statements.specs.Names.{is_declared, is_any_again}
+use Rattle.lock_statements.specs.Parts.{program_of}
+use Rattle.lock_statements.specs.Codes.{code_at, size_of, has_label}
 
 -- ---- 6: one too many, or too many
 

@@ -1,26 +1,26 @@
 -- What a line means, or which of the causes 5, 7 and 9 is the least that holds of its parts.
 use Rattle.std.specs.Prelude.{ℕ, ℤ, List}
 use Rattle.std.specs.Prelude.{Option, Some, None, Result, Ok, Err}
-use Rattle.lock_text.specs.declared.words.Operand.{Operand}
-use Rattle.lock_text.specs.declared.words.Place.{Place}
-use Rattle.lock_text.specs.declared.lines.Line.{Line}
-use Rattle.lock_text.specs.declared.lines.Line.TheVariants.{Blank, Const, Word, Counter, List as NotifyList}
-use Rattle.lock_text.specs.declared.lines.Line.TheVariants.{Registers, Section, Program, Seats, Most, Apart}
-use Rattle.lock_text.specs.declared.lines.Line.TheVariants.{Finally}
+use Rattle.lock_forms.specs.declared.words.Operand.{Operand}
+use Rattle.lock_forms.specs.declared.words.Place.{Place}
+use Rattle.lock_forms.specs.declared.lines.Line.{Line}
+use Rattle.lock_forms.specs.declared.lines.Line.TheVariants.{Blank, Const, Word, Counter, List as NotifyList}
+use Rattle.lock_forms.specs.declared.lines.Line.TheVariants.{Registers, Section, Program, Seats, Most, Apart}
+use Rattle.lock_forms.specs.declared.lines.Line.TheVariants.{Finally}
 use Rattle.lock_code.specs.declared.program.Property.{Property}
 use Rattle.lock_code.specs.declared.program.Property.TheVariants as property
 use Rattle.lock_lines.specs.declared.relation.Relation.{Relation}
-use Rattle.lock_program.specs.declared.fault.Cause.{Cause}
-use Rattle.lock_program.specs.declared.fault.Cause.TheVariants.{Place as Misplaced}
-use Rattle.lock_program.specs.declared.names.Extent.{Extent}
-use Rattle.lock_program.specs.declared.names.Names.{Names}
+use Rattle.lock_statements.specs.declared.cause.Cause.{Cause}
+use Rattle.lock_statements.specs.declared.cause.Cause.TheVariants.{Place as Misplaced}
+use Rattle.lock_statements.specs.declared.names.Extent.{Extent}
+use Rattle.lock_statements.specs.declared.names.Names.{Names}
 use Rattle.lock_program.specs.declared.meant.Meant.{Meant}
 use Rattle.lock_program.specs.declared.meant.Meant.TheVariants as meant
-use Rattle.lock_program.specs.Causes.{both, map_ok}
-use Rattle.lock_program.specs.Names.{declared, extent_of}
-use Rattle.lock_program.specs.Parts.{number_of, count_of, some_of, length_of, fixed_of, start_of, section_of}
-use Rattle.lock_program.specs.Parts.{program_of, fixed_place}
-use Rattle.lock_program.specs.Statements.{statement_of}
+use Rattle.lock_statements.specs.Causes.{both, map_ok}
+use Rattle.lock_statements.specs.Names.{declared, extent_of}
+use Rattle.lock_statements.specs.Parts.{number_of, count_of, some_of, length_of, fixed_of, start_of, section_of}
+use Rattle.lock_statements.specs.Parts.{program_of, fixed_place}
+use Rattle.lock_statements.specs.Statements.{statement_of}
 
 -- what a property may speak of: a word or a counter
 abbrev pub word_or : Option Extent → Result Extent Cause → Result Extent Cause

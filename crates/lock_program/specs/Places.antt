@@ -1,9 +1,9 @@
 -- Where a line may stand.
 use Rattle.std.specs.Prelude.{Bool, true, false}
-use Rattle.lock_text.specs.declared.lines.Line.{Line}
-use Rattle.lock_text.specs.declared.lines.Line.TheVariants.{Blank, Const, Word, Counter, List as NotifyList}
-use Rattle.lock_text.specs.declared.lines.Line.TheVariants.{Registers, Section, Program, Seats, Most, Apart}
-use Rattle.lock_text.specs.declared.lines.Line.TheVariants.{Finally}
+use Rattle.lock_forms.specs.declared.lines.Line.{Line}
+use Rattle.lock_forms.specs.declared.lines.Line.TheVariants.{Blank, Const, Word, Counter, List as NotifyList}
+use Rattle.lock_forms.specs.declared.lines.Line.TheVariants.{Registers, Section, Program, Seats, Most, Apart}
+use Rattle.lock_forms.specs.declared.lines.Line.TheVariants.{Finally}
 use Rattle.lock_program.specs.declared.stage.Stage.{Stage}
 use Rattle.lock_program.specs.declared.stage.Stage.TheVariants as stage
 use Rattle.lock_program.specs.declared.stage.LineKind.{LineKind}

@@ -2,14 +2,14 @@
 use Rattle.std.specs.Prelude.{◌≡◌, ℕ, ◌+◌, List, [], ◌∷◌, length, ◌⊎◌, Result, Ok, Err}
 use Rattle.explorer_text.specs.Pieces.{Piece, pieces}
 use Rattle.lock_text.specs.declared.fault.Cause.{Cause as TextCause}
-use Rattle.lock_text.specs.declared.lines.Line.{Line}
+use Rattle.lock_forms.specs.declared.lines.Line.{Line}
 use Rattle.lock_text.specs.Causes as alone
 use Rattle.lock_text.specs.Text.{AreLinesOf}
-use Rattle.lock_program.specs.declared.fault.Cause.{Cause}
+use Rattle.lock_statements.specs.declared.cause.Cause.{Cause}
 use Rattle.lock_program.specs.declared.fault.ReadFault.{ReadFault}
 use Rattle.lock_program.specs.declared.draft.Draft.{Draft}
 use Rattle.lock_program.specs.declared.named_program.NamedProgram.{NamedProgram}
-use Rattle.lock_program.specs.Causes.{and_then, of_text}
+use Rattle.lock_statements.specs.Causes.{and_then, of_text}
 use Rattle.lock_program.specs.Drafts.{no_lines, next, finished}
 
 -- ---- a text that is well formed

@@ -5,17 +5,16 @@ ghost use Rattle.lock_program.specs.Drafts as drafts;
 ghost use Rattle.lock_program.specs.Answers.{AnswersTo, Finishes};
 ghost use Rattle.lock_program.specs.Fitting.{IsFitting, FitsMeant};
 
-use crate::codes::{code_of, first_lost};
-use crate::fault::{Cause, ReadFault};
+use crate::fault::ReadFault;
 use crate::limits::{is_again, is_too_many};
 use crate::meanings::meant_of;
 use crate::meant::Meant;
 use crate::named_program::NamedProgram;
-use crate::names::{Cells, Constant, Extent, Names};
-use crate::results::too_if;
 use crate::stage::{LineKind, Stage};
-use crate::statement::Written;
 use lock_code::{Asked, CodeLine, Program};
+use lock_statements::{
+    Cause, Cells, Constant, Extent, Names, Written, code_of, first_lost, too_if,
+};
 use lock_text::{Line, Name};
 use std::alloc::{AllocError, Global};
 use step_table::Items;

@@ -1,11 +1,11 @@
 //! What there is too much of, and what is declared again.
 
 ghost use Rattle.std.specs.Prelude.{◌≡◌, ◌<◌, ◌^◌};
-ghost use Rattle.lock_program.specs.Codes as coding;
+ghost use Rattle.lock_statements.specs.Codes as coding;
 ghost use Rattle.lock_program.specs.Limits as limits;
 
-use crate::codes::{code_at, has_label, size_of};
 use crate::draft::Draft;
+use lock_statements::{code_at, has_label, size_of};
 use lock_text::{Line, Name, Number, Operand as TextOperand};
 
 /// How many constants a text has at most.

@@ -2,16 +2,15 @@
 
 ghost use Rattle.std.specs.Prelude.{◌≡◌};
 ghost use Rattle.lock_program.specs.Meanings as meanings;
-ghost use Rattle.lock_program.specs.Bounds.{AreNear};
+ghost use Rattle.lock_statements.specs.Bounds.{AreNear};
 
-use crate::fault::Cause;
 use crate::meant::Meant;
-use crate::names::{Extent, Names};
-use crate::parts::{count_of, fixed_of, fixed_place, length_of, number_of, some_of, start_of};
-use crate::results::both;
-use crate::statements::statement_of;
 use lock_code::Property;
 use lock_lines::Relation;
+use lock_statements::{
+    Cause, Extent, Names, both, count_of, fixed_of, fixed_place, length_of, number_of, some_of,
+    start_of, statement_of,
+};
 use lock_text::{Line, Name, Operand as TextOperand, Place as TextPlace};
 
 /// The word or the counter of this name.

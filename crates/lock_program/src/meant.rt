@@ -1,7 +1,7 @@
 //! What a line means behind those before it.
 
-use crate::statement::Statement;
 use lock_code::Property;
+use lock_statements::Statement;
 use lock_text::Name;
 use step_table::Items;
 

@@ -1,7 +1,7 @@
 //! What a text says.
 
-use crate::names::Names;
 use lock_code::Program;
+use lock_statements::Names;
 
 /// A lock program and the names of its parts.
 #[derive(Debug, Drop)]

@@ -8,8 +8,9 @@ ghost use Rattle.lock_program.specs.Fitting.{IsFitting};
 ghost use Rattle.lock_program.specs.Text.{IsFaultOf, IsProgramOf};
 
 use crate::draft::Draft;
-use crate::fault::{Cause, ReadFault};
+use crate::fault::ReadFault;
 use crate::named_program::NamedProgram;
+use lock_statements::Cause;
 use lock_text::{first_line, judge};
 use std::alloc::Global;
 

@@ -5,7 +5,7 @@ use Rattle.std.proofs.lemmas.List.{append-nil}
 use Rattle.lock_text.specs.declared.fault.Cause.{Cause}
 use Rattle.lock_text.specs.declared.fault.Cause.TheVariants.{NoMemory}
 use Rattle.lock_text.specs.declared.fault.ReadFault.{ReadFault}
-use Rattle.lock_text.specs.declared.lines.Line.{Line}
+use Rattle.lock_forms.specs.declared.lines.Line.{Line}
 use Rattle.explorer_text.specs.Pieces.{Piece, pieces}
 use Rattle.lock_text.specs.Causes.{Holds, IsFirst, HoldsNone, IsFault, IsReadable, causes}
 use Rattle.lock_text.specs.Text.{AreRight, AreLinesOf, IsFirstFault, IsFaultOf, IsReached}

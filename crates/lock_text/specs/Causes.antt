@@ -5,8 +5,8 @@ use Rattle.explorer_text.specs.Causes.{is_printable}
 use Rattle.explorer_text.specs.Pieces.{Piece}
 use Rattle.lock_text.specs.declared.fault.Cause.{Cause}
 use Rattle.lock_text.specs.declared.fault.Cause.TheVariants.{Cut, Byte, Form, NoMemory}
-use Rattle.lock_text.specs.declared.lines.Line.{Line}
-use Rattle.lock_text.specs.Lines.{Says}
+use Rattle.lock_forms.specs.declared.lines.Line.{Line}
+use Rattle.lock_forms.specs.Lines.{Says}
 
 -- 3 holds where no line is spelled so; want of memory is no cause of a line
 abbrev pub Holds : Piece → Cause → Type 0

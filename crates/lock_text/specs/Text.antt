@@ -2,7 +2,7 @@
 use Rattle.std.specs.Prelude.{⊤, ◌≡◌, ℕ, ◌+◌, List, [], ◌∷◌, ◌++◌, length, ◌⊎◌}
 use Rattle.explorer_text.specs.Pieces.{Piece, pieces}
 use Rattle.lock_text.specs.declared.fault.ReadFault.{ReadFault}
-use Rattle.lock_text.specs.declared.lines.Line.{Line}
+use Rattle.lock_forms.specs.declared.lines.Line.{Line}
 use Rattle.lock_text.specs.Causes.{IsFault, IsReadable, IsRight}
 
 -- nothing is wrong with any line, and this is what they say

@@ -1,34 +1,36 @@
 //! The reader of a lock program's text, line by line.
 
-ghost use Rattle.std.specs.Prelude.{IfOk, IfErr};
+ghost use Rattle.std.specs.Prelude.{IfOk, IfErr, OnOk, Err};
 ghost use Rattle.explorer_text.specs.Reader.{IsOnly, IsNone};
 ghost use Rattle.lock_text.specs.Text.{AreLinesOf, IsFaultOf};
-ghost use Rattle.lock_text.specs.Answers.{IsReadFault};
+ghost use Rattle.lock_text.specs.Answers.{IsReadFault, IsWithLine, Judges};
 
-mod access;
-mod declaration;
-mod flow;
-mod form;
 pub(crate) mod judge;
-mod keyword;
-mod layer;
-mod line;
-mod name;
-mod number;
-mod operand;
-mod part;
 pub(crate) mod pieces;
-mod property;
-mod shape;
-mod split;
-mod symbol;
-mod verb;
 
 use crate::fault::{Cause, ReadFault};
-use crate::lines::Line;
 use crate::reader::judge::judge;
 use crate::reader::pieces::first_line;
+use lock_forms::Line;
 use std::alloc::Global;
+
+/// Puts what one line says behind the lines, or tells what is wrong with it.
+fn push_line<'t>(
+    alloc: Global,
+    lines: &mut Vec<Line<'t>>,
+    bytes: &'t [u8],
+    ended: bool,
+) -> Result<(), Cause>
+    ensures put { OnOk result
+        (IsWithLine (record { text = bytes.now; ended = ended }) lines.old.items lines.new.items) }
+    ensures fault { IfErr result (λ cause. Judges (record { text = bytes.now; ended = ended }) (Err cause)) }
+{
+    let line = judge(alloc, bytes, ended)?;
+    let Ok(()) = lines.push(line) else {
+        return Err(Cause::NoMemory);
+    };
+    Ok(())
+}
 
 /// What the lines of the text say, in order, or the first line that is faulty.
 ///
@@ -43,18 +45,11 @@ pub fn read_lines<'t>(alloc: Global, text: &'t [u8]) -> Result<Vec<Line<'t>>, Re
     while !rest.is_empty() {
         let (bytes, after, ended) = first_line(rest);
         let number = lines.len() + 1;
-        let line = match judge(alloc, bytes, ended) {
-            Ok(line) => line,
+        match push_line(alloc, &mut lines, bytes, ended) {
+            Ok(()) => rest = after,
             Err(cause) => return Err(ReadFault {
                 line: number,
                 cause,
-            }),
-        };
-        match lines.push(line) {
-            Ok(()) => rest = after,
-            Err(_) => return Err(ReadFault {
-                line: number,
-                cause: Cause::NoMemory,
             }),
         }
     }

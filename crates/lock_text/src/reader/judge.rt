@@ -3,9 +3,8 @@
 ghost use Rattle.lock_text.specs.Answers.{Judges};
 
 use crate::fault::Cause;
-use crate::lines::Line;
-use crate::reader::line::read_line;
 use explorer_text::printable;
+use lock_forms::{Line, read_line};
 use std::alloc::Global;
 
 /// What the bytes of one line say, or what is wrong with them.

@@ -1,5 +1,5 @@
 use Rattle.std.proofs.Common.{sym, subst}
-use Rattle.lock_program.specs.Bounds.{IsNearWhere}
+use Rattle.lock_statements.specs.Bounds.{IsNearWhere}
 use Rattle.lock_program.proofs.Nearness.{near_shared}
 use Rattle.lock_program.proofs.meanings.finally_of.Goals as goal
 

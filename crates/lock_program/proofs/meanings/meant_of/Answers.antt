@@ -1,6 +1,6 @@
 use Rattle.std.proofs.Common.{sym, ap, ◌∙◌}
 use Rattle.lock_program.specs.declared.meant.Meant.TheVariants as meant
-use Rattle.lock_program.specs.Causes.{map_ok}
+use Rattle.lock_statements.specs.Causes.{map_ok}
 use Rattle.lock_program.proofs.Falling.{statement_is}
 use Rattle.lock_program.proofs.meanings.meant_of.Goals as goal
 

@@ -1,7 +1,7 @@
 use Rattle.std.proofs.Common.{◌+◌, List, sym, subst, arith}
 use Rattle.std.proofs.lemmas.List.{nil_from_length}
 use Rattle.explorer_text.specs.Pieces.{Piece}
-use Rattle.lock_text.specs.declared.lines.Line.{Line}
+use Rattle.lock_forms.specs.declared.lines.Line.{Line}
 use Rattle.lock_text.proofs.Texts.{SoFar, begins, turn, failed, lines_are, faultless}
 use Rattle.lock_text.proofs.reader.read_lines.Goals as goal
 
@@ -12,14 +12,15 @@ pub returns-in-Err-clause-fault : goal.returns-in-Err-clause-fault
 returns-in-Err-clause-fault c =
     let p : Piece = record { text = c.first_line-ended.result.0.now; ended = c.first_line-ended.result.2 } in
     failed c.args.text.now c.loop-rest.rest.now c.first_line-ended.result.1.now c.loop-rest.lines.items p (c.len-number.result + 1) c.in-Err.cause
-    (grind arith) c.loop-rest.invariant c.first_line-ended.ensures.line c.in-Err.ensures
+    (grind arith) c.loop-rest.invariant c.first_line-ended.ensures.line c.in-Err.ensures.fault
 
 pub loop-rest-preserved : goal.loop-rest-preserved
 loop-rest-preserved c =
     let p : Piece = record { text = c.first_line-ended.result.0.now; ended = c.first_line-ended.result.2 } in
-    subst (λ (ls : List Line). SoFar c.args.text.now c.first_line-ended.result.1.now ls) (sym c.in-Ok-push.ensures.items)
-    (turn c.args.text.now c.loop-rest.rest.now c.first_line-ended.result.1.now c.loop-rest.lines.items p c.in-Ok.line c.loop-rest.invariant
-    c.first_line-ended.ensures.line c.in-Ok.ensures)
+    let put = c.in-Ok.ensures.put in
+    subst (λ (ls : List Line). SoFar c.args.text.now c.first_line-ended.result.1.now ls) (sym put.1)
+    (turn c.args.text.now c.loop-rest.rest.now c.first_line-ended.result.1.now c.loop-rest.lines.items p put.0 c.loop-rest.invariant
+    c.first_line-ended.ensures.line put.2)
 
 pub returns-clause-lines : goal.returns-clause-lines
 returns-clause-lines c = lines_are c.args.text.now c.loop-rest.rest.now c.loop-rest.lines.items c.loop-rest.invariant

@@ -1,0 +1,6 @@
+pub mod Forms
+pub mod Parts
+pub mod Shaping
+pub mod Spelling
+pub mod Verbs
+pub mod Wording

@@ -1,0 +1,3 @@
+pub mod Closing
+mod Falling
+mod Nearness
