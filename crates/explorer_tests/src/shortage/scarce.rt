@@ -9,8 +9,8 @@
 //! `rt try` runs tests over a heap that keeps room of its own for small blocks, which can't be filled. There,
 //! and wherever else some memory is left, a round says so.
 
-use crate::blocks::Blocks;
-use crate::stack;
+use crate::shortage::blocks::Blocks;
+use crate::shortage::stack;
 use std::alloc::{AllocError, Global};
 
 /// What a round holds again of the block that it gives back. So that block is none of those that the C

@@ -1,6 +1,6 @@
 //! Schedules, journals and streams, and what is said of faulty texts.
 
-use crate::rounds::{Attempt, Call, FINE, Rounds, answered, is_refused_then_answers};
+use crate::shortage::rounds::{Attempt, Call, FINE, Rounds, answered, is_refused_then_answers};
 use explorer_help::{explain, explain_journal};
 use explorer_streams::{Flagged, IoFault, read_all, read_at_most};
 use explorer_text::{Cause, ReadFault, read_schedule};

@@ -2,7 +2,7 @@
 
 ghost use Rattle.std.specs.Prelude.{◌≡◌, All};
 
-use crate::rounds::{Attempt, Call, FINE, answered, is_refused_then_answers};
+use crate::shortage::rounds::{Attempt, Call, FINE, answered, is_refused_then_answers};
 use notify_list::{ListClosed, ListSeat, NotifyList};
 use sema_table::{Seat, SemaTable, Settings, SetupError};
 use std::alloc::Global;

@@ -1,6 +1,6 @@
 //! The keys of worlds to which schedules lead.
 
-use crate::scene_tests::program_of;
+use crate::locks::scene_tests::program_of;
 use lock_keys::write_key;
 use lock_machine::{LockMachine, Prepared, layer_parts};
 use std::alloc::Global;

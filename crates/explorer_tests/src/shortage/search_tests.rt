@@ -1,7 +1,7 @@
 //! Searches of a scenario.
 
-use crate::rounds::{Attempt, Call, FINE, answered, is_refused_then_answers};
-use crate::world_tests::FIVE_STEPS;
+use crate::shortage::rounds::{Attempt, Call, FINE, answered, is_refused_then_answers};
+use crate::shortage::world_tests::FIVE_STEPS;
 use explorer_scenarios::{Found, Kind, Request, explore, explore_variant, read_scenario};
 use std::alloc::Global;
 use std::process::Abort;

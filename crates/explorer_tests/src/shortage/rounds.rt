@@ -1,6 +1,6 @@
 //! A call in rounds.
 
-use crate::scarce::ScarceMemory;
+use crate::shortage::scarce::ScarceMemory;
 use std::alloc::{AllocError, Global};
 use std::process::Abort;
 

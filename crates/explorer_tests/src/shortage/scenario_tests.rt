@@ -1,6 +1,6 @@
 //! The text of a scenario, and what is asked of it.
 
-use crate::rounds::{Attempt, Call as Asked, FINE, answered, is_refused_then_answers};
+use crate::shortage::rounds::{Attempt, Call as Asked, FINE, answered, is_refused_then_answers};
 use explorer_text::{Cause, Property, ReadFault, Request, read_scenario};
 use std::alloc::Global;
 use step_table::{Call, GroupId, ListId, Parts};

@@ -2,7 +2,7 @@
 
 ghost use Rattle.waiters.specs.Lists.{IsOpen};
 
-use crate::rounds::{Attempt, Call, FINE, answered, is_refused_then_answers};
+use crate::shortage::rounds::{Attempt, Call, FINE, answered, is_refused_then_answers};
 use sema_root::{RootStore, SortedRoot, TreapRoot};
 use std::alloc::Global;
 use std::process::Abort;

@@ -1,6 +1,6 @@
 //! The lines without a step that a seat ran.
 
-use crate::scene_tests::program_of;
+use crate::locks::scene_tests::program_of;
 use lock_machine::{LockMachine, Prepared};
 use lock_rows::LineSet;
 use std::alloc::Global;

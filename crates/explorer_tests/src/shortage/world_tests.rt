@@ -1,6 +1,6 @@
 //! Worlds of a scenario: how they are reached, and what they are asked.
 
-use crate::rounds::{Attempt, Call, FINE, answered, is_refused_then_answers};
+use crate::shortage::rounds::{Attempt, Call, FINE, answered, is_refused_then_answers};
 use explorer_text::read_scenario;
 use std::alloc::Global;
 use std::process::Abort;
