@@ -3,7 +3,7 @@ use Rattle.std.proofs.Common.{◌≡◌, Result, Ok, Err, IfOk, Bool, false, tru
 use Rattle.std.specs.Prelude.{IsTrue, ◌↔◌}
 use Rattle.explorer_streams.specs.declared.fault.IoFault.{IoFault}
 use Rattle.explorer_streams.specs.declared.fault.IoFault.TheVariants.{Read, Write}
-use Rattle.explorer_scenarios.specs.declared.command.Outcome.{Outcome}
+use Rattle.explorer_answers.specs.declared.reply.Outcome.{Outcome}
 
 false_true : false ≡ true → ⊥
 false_true e = absurd cc

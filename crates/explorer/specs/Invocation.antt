@@ -2,16 +2,16 @@
 use Rattle.std.specs.Prelude.{◌≡◌, ℕ, ◌⊎◌, Bool, true, false, IsTrue, List, [], string_bytes, codes}
 use Rattle.std.specs.Prelude.{Option, Some, None, Result, Ok, Err, option_map}
 use Rattle.std.specs.Io.KnownBytes.{Appends}
-use Rattle.explorer_scenarios.specs.declared.exit.Exit.{Exit}
-use Rattle.explorer_scenarios.specs.declared.exit.Exit.TheVariants.{NothingBad, Refused}
+use Rattle.explorer_answers.specs.declared.exit.Exit.{Exit}
+use Rattle.explorer_answers.specs.declared.exit.Exit.TheVariants.{NothingBad, Refused}
 use Rattle.explorer_streams.specs.declared.fault.IoFault.{IoFault}
 use Rattle.explorer_streams.specs.declared.fault.IoFault.TheVariants.{Read, Write}
-use Rattle.explorer_scenarios.specs.declared.command.Outcome.{Outcome}
-use Rattle.explorer_scenarios.specs.Exit.{status_of}
+use Rattle.explorer_answers.specs.declared.reply.Outcome.{Outcome}
+use Rattle.explorer_answers.specs.Exit.{status_of}
 use Rattle.explorer_scenarios.specs.Commands.{IsAnswerOf, IsReplyOf}
-use Rattle.explorer_scenarios.specs.Line.{line}
+use Rattle.explorer_answers.specs.Line.{line}
 use Rattle.explorer_streams.specs.Writing.{WritesBeginning}
-use Rattle.explorer_scenarios.specs.Told.{IsToldOf, WantsMemory, TellsAll, TellsBeginning}
+use Rattle.explorer_answers.specs.Told.{IsToldOf, WantsMemory, TellsAll, TellsBeginning}
 use Rattle.explorer_words.specs.declared.invocation.Invocation.{Invocation}
 use Rattle.explorer_words.specs.declared.invocation.Invocation.TheVariants.{Once, OfScenario, OfLockProgram}
 use Rattle.explorer_words.specs.declared.invocation.Invocation.TheVariants.{Judge, Threads}

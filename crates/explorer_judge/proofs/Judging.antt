@@ -2,14 +2,14 @@
 use Rattle.std.proofs.Common.{◌≡◌, ℕ, List, Option, Result, Ok, Err, IfOk, inl, inr, refl, sym, subst}
 use Rattle.std.specs.Prelude.{string_bytes, option_map}
 use Rattle.waiters.specs.declared.no_memory.NoMemory.{NoMemory}
-use Rattle.explorer_scenarios.specs.declared.exit.Exit.{Exit}
-use Rattle.explorer_scenarios.specs.declared.command.Reply.{Reply}
-use Rattle.explorer_scenarios.specs.Commands.{answer_of, aside_of}
+use Rattle.explorer_answers.specs.declared.exit.Exit.{Exit}
+use Rattle.explorer_answers.specs.declared.reply.Reply.{Reply}
+use Rattle.explorer_answers.specs.Reply.{answer_of, aside_of}
 use Rattle.journal_judge.specs.declared.judgement.Demands.{Demands}
 use Rattle.journal_text.specs.declared.journal_fault.JournalFault.{JournalFault}
 use Rattle.journal_text.specs.declared.journal_fault.JournalFault.TheVariants.{Form, NoMemory as Short}
 use Rattle.journal_text.specs.Reader.{IsFault}
-use Rattle.explorer_scenarios.specs.Told.{IsTextOf}
+use Rattle.explorer_answers.specs.Told.{IsTextOf}
 use Rattle.explorer_judge.specs.JudgeText.{IsJudgeInput, IsJudgeReplyOf, IsJudgeToldOf}
 use Rattle.explorer_judge.specs.JudgeText.{RefusesFault, RepliesJudgement}
 

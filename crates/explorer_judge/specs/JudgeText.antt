@@ -2,10 +2,10 @@
 use Rattle.std.specs.Prelude.{◌≡◌, ℕ, ◌*◌, ◌<◌, ◌≤◌, List, ◌++◌, ◌⊎◌, Option, Some, None, length, slice_index}
 use Rattle.std.specs.Prelude.{codes}
 use Rattle.std.specs.Fmt.{decimal}
-use Rattle.explorer_scenarios.specs.declared.exit.Exit.{Exit}
-use Rattle.explorer_scenarios.specs.declared.exit.Exit.TheVariants.{NothingBad, BadFound, Refused}
-use Rattle.explorer_scenarios.specs.Line.{line}
-use Rattle.explorer_scenarios.specs.Told.{WantsMemory}
+use Rattle.explorer_answers.specs.declared.exit.Exit.{Exit}
+use Rattle.explorer_answers.specs.declared.exit.Exit.TheVariants.{NothingBad, BadFound, Refused}
+use Rattle.explorer_answers.specs.Line.{line}
+use Rattle.explorer_answers.specs.Told.{WantsMemory}
 use Rattle.explorer_streams.specs.Reading.{Reads, ReadsAll}
 use Rattle.journal_text.specs.declared.journal.Journal.{Journal}
 use Rattle.journal_text.specs.Cutting.{first_lines}

@@ -1,7 +1,7 @@
 -- The lines of `parklot once`.
 use Rattle.std.specs.Prelude.{ℕ, List, [], ◌++◌, Option, Some, None, codes}
 use Rattle.sema_table.specs.Texts.{tried_text, wake_text}
-use Rattle.explorer_scenarios.specs.Line.{line}
+use Rattle.explorer_answers.specs.Line.{line}
 use Rattle.explorer_once.specs.declared.answer.Released.{Released}
 use Rattle.explorer_once.specs.declared.answer.Released.TheVariants.{Done, Owed}
 use Rattle.explorer_once.specs.declared.answer.Retried.{Retried}

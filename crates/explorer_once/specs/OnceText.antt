@@ -1,8 +1,8 @@
 -- What `once` answers.
 use Rattle.std.specs.Prelude.{◌≡◌, ◌⊎◌, ℕ, List}
-use Rattle.explorer_scenarios.specs.declared.exit.Exit.{Exit}
-use Rattle.explorer_scenarios.specs.declared.exit.Exit.TheVariants.{NothingBad}
-use Rattle.explorer_scenarios.specs.Told.{WantsMemory}
+use Rattle.explorer_answers.specs.declared.exit.Exit.{Exit}
+use Rattle.explorer_answers.specs.declared.exit.Exit.TheVariants.{NothingBad}
+use Rattle.explorer_answers.specs.Told.{WantsMemory}
 use Rattle.sema_table.specs.Seats.{TableModel, SeatModel}
 use Rattle.explorer_once.specs.declared.answer.OnceAnswers.{OnceAnswers}
 use Rattle.explorer_once.specs.Answer.{once_lines}

@@ -2,13 +2,14 @@
 
 ghost use Rattle.std.specs.Prelude.{◌≡◌, ◌<◌, length, ◌↔◌, false, IsTrue, IfOk, IfErr, OnErr, IfSome, IsErr};
 ghost use Rattle.std.specs.Prelude.{string_bytes};
-ghost use Rattle.explorer_scenarios.specs.Told.{TellsAll, TellsBeginning};
+ghost use Rattle.explorer_answers.specs.Told.{TellsAll, TellsBeginning};
 ghost use Rattle.explorer_once.specs.Once.{AreOnceSettings, IsOnceTable, IsOnceRun, IsReleased, IsGranted};
 ghost use Rattle.explorer_once.specs.Once.{IsAwakened};
 ghost use Rattle.explorer_once.specs.OnceText.{IsOnceText, IsOnceAnswer};
 
 use crate::answer::{OnceAnswers, Released, Retried};
-use explorer_scenarios::{Answer, Exit, IoFault, Sink, tell};
+use explorer_answers::{Answer, Exit, tell};
+use explorer_streams::{IoFault, Sink};
 use sema_table::{
     Entered, Polled, Posted, Seat, SemaTable, Settings, SetupError, Sleeping, Tried, Woken,
 };

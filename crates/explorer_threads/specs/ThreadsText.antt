@@ -1,10 +1,10 @@
 -- What the refusals of `run_threads` print, and what `threads` answers.
 use Rattle.std.specs.Prelude.{◌≡◌, ◌⊎◌, ℕ, List, ◌*◌, ◌++◌, slice_index, codes}
 use Rattle.std.specs.Fmt.{decimal}
-use Rattle.explorer_scenarios.specs.declared.exit.Exit.{Exit}
-use Rattle.explorer_scenarios.specs.declared.exit.Exit.TheVariants.{NothingBad}
-use Rattle.explorer_scenarios.specs.Line.{line}
-use Rattle.explorer_scenarios.specs.Told.{WantsMemory}
+use Rattle.explorer_answers.specs.declared.exit.Exit.{Exit}
+use Rattle.explorer_answers.specs.declared.exit.Exit.TheVariants.{NothingBad}
+use Rattle.explorer_answers.specs.Line.{line}
+use Rattle.explorer_answers.specs.Told.{WantsMemory}
 use Rattle.sema_table.specs.Closing.{ClosedModel}
 use Rattle.explorer_threads.specs.Threads.{IsThreadsRun}
 use Rattle.explorer_threads.specs.declared.threads.ThreadsRefused.{ThreadsRefused}

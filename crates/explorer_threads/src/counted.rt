@@ -2,13 +2,14 @@
 
 ghost use Rattle.std.specs.Prelude.{◌≡◌, ◌↔◌, ◌<◌, false, length, slice_index, Some, string_bytes};
 ghost use Rattle.std.specs.Prelude.{IsTrue, IsErr, IfOk, IfErr, OnErr};
-ghost use Rattle.explorer_scenarios.specs.Told.{TellsAll, TellsBeginning};
+ghost use Rattle.explorer_answers.specs.Told.{TellsAll, TellsBeginning};
 ghost use Rattle.explorer_threads.specs.Threads.{AreWithin};
 ghost use Rattle.explorer_threads.specs.ThreadsText.{threads_lines, IsThreadsAnswer};
 
 use crate::gate::Open;
 use crate::threads::run_threads;
-use explorer_scenarios::{Answer, Exit, IoFault, Sink, tell};
+use explorer_answers::{Answer, Exit, tell};
+use explorer_streams::{IoFault, Sink};
 use sema_table::Closed;
 use std::alloc::Global;
 use std::fmt;

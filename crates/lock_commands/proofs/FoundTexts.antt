@@ -2,7 +2,7 @@
 use Rattle.std.proofs.Common.{◌≡◌, ℕ, Option, Some, refl}
 use Rattle.explorer_search.specs.declared.found_in_all.FoundInAll.{FoundInAll}
 use Rattle.explorer_search.specs.declared.found_in_all.FoundInAll.TheVariants as finds
-use Rattle.explorer_scenarios.specs.CheckText.{found_among_text}
+use Rattle.explorer_answers.specs.CheckText.{found_among_text}
 use Rattle.lock_commands.specs.Commands.{tried_text}
 use Rattle.lock_steps.specs.declared.kind.Kind.{Kind}
 use Rattle.lock_steps.specs.KindText.{kind_text}

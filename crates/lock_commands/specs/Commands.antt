@@ -3,14 +3,14 @@ use Rattle.std.specs.Prelude.{⊤, ◌≡◌, ℕ, ◌<◌, ◌≤◌, ◌⊎◌
 use Rattle.explorer_search.specs.declared.found_in_all.FoundInAll.{FoundInAll}
 use Rattle.explorer_search.specs.declared.found_in_all.FoundInAll.TheVariants as finds
 use Rattle.explorer_text.specs.ScheduleText.{IsSchedule}
-use Rattle.explorer_scenarios.specs.declared.exit.Exit.{Exit}
-use Rattle.explorer_scenarios.specs.declared.exit.Exit.TheVariants.{NothingBad, BadFound}
-use Rattle.explorer_scenarios.specs.declared.exit.Exit.TheVariants as exits
-use Rattle.explorer_scenarios.specs.CheckText.{none_text, gave_up_text}
-use Rattle.explorer_scenarios.specs.CheckText.{found_in_all_exit, found_in_all_schedule}
-use Rattle.explorer_scenarios.specs.ExploreText.{seats_text}
-use Rattle.explorer_scenarios.specs.InputText.{IsInput, Refuses}
-use Rattle.explorer_scenarios.specs.Told.{WantsMemory}
+use Rattle.explorer_answers.specs.declared.exit.Exit.{Exit}
+use Rattle.explorer_answers.specs.declared.exit.Exit.TheVariants.{NothingBad, BadFound}
+use Rattle.explorer_answers.specs.declared.exit.Exit.TheVariants as exits
+use Rattle.explorer_answers.specs.CheckText.{none_text, gave_up_text}
+use Rattle.explorer_answers.specs.CheckText.{found_in_all_exit, found_in_all_schedule}
+use Rattle.explorer_answers.specs.FoundText.{seats_text}
+use Rattle.explorer_answers.specs.InputText.{IsInput, Refuses}
+use Rattle.explorer_answers.specs.Told.{WantsMemory}
 use Rattle.lock_code.specs.declared.program.Program.{Program}
 use Rattle.lock_commands.specs.declared.command.LockCommand.{LockCommand}
 use Rattle.lock_commands.specs.declared.command.LockCommand.TheVariants.{Try, Retrace}

@@ -1,6 +1,6 @@
 //! What is told beside the answer of a search.
 
-use explorer_scenarios::Stats;
+use explorer_answers::Stats;
 use std::alloc::Global;
 use std::fmt;
 use waiters::NoMemory;

@@ -4,7 +4,7 @@ ghost use Rattle.std.specs.Prelude.{◌≡◌, ◌≤◌, length, IfOk, IfErr};
 ghost use Rattle.lock_commands.specs.Commands.{IsRead, IsUnread};
 
 use crate::refusal::Refusal;
-use explorer_scenarios::MAX_TEXT;
+use explorer_answers::MAX_TEXT;
 use lock_machine::Prepared;
 use lock_program::{Cause, NamedProgram, Names, ReadFault, read_program};
 use std::alloc::Global;

@@ -1,11 +1,11 @@
 //! Why a command doesn't do what its input and its words ask for.
 
 ghost use Rattle.std.specs.Prelude.{IfOk, Some, string_bytes};
-ghost use Rattle.explorer_scenarios.specs.InputText.{Refuses};
+ghost use Rattle.explorer_answers.specs.InputText.{Refuses};
 ghost use Rattle.lock_commands.specs.Commands.{refusal_text};
 
 use crate::help::explain;
-use explorer_scenarios::{Answer, Exit, NO_SCHEDULE, Reply, TOO_LONG};
+use explorer_answers::{Answer, Exit, NO_SCHEDULE, Reply, TOO_LONG};
 use lock_program::ReadFault;
 use std::alloc::{AllocError, Global};
 use std::fmt;

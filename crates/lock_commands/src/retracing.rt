@@ -5,7 +5,7 @@ ghost use Rattle.lock_commands.specs.Commands.{RepliesRetraced, exit_of};
 
 use crate::reading::ReadText;
 use crate::refusal::{Refusal, refused};
-use explorer_scenarios::{Answer, Exit, Reply};
+use explorer_answers::{Answer, Exit, Reply};
 use explorer_text::read_schedule;
 use lock_retrace::{Ending, retrace};
 use std::alloc::Global;

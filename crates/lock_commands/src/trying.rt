@@ -1,13 +1,14 @@
 //! The command `try`: what a search of all schedules found, and what the schedule that it found does.
 
 ghost use Rattle.std.specs.Prelude.{◌≡◌, ◌++◌, [], IfOk, None, string_bytes, option_map};
-ghost use Rattle.explorer_scenarios.specs.CheckText.{found_in_all_schedule};
+ghost use Rattle.explorer_answers.specs.CheckText.{found_in_all_schedule};
 ghost use Rattle.lock_commands.specs.Commands.{RepliesTried, tried_text, worlds_of};
 ghost use Rattle.lock_search.specs.Tried.{IsTried};
 
 use crate::beside::beside;
 use crate::reading::ReadText;
-use explorer_scenarios::{Answer, FoundAmong, FoundInAll, Reply, Searched, Stats, StopWatch, Team};
+use explorer_answers::{Answer, FoundAmong, Reply, Stats, StopWatch};
+use explorer_search::{FoundInAll, Searched, Team};
 use lock_retrace::retrace;
 use lock_search::{Ran, try_program};
 use lock_steps::Kind;

@@ -1,7 +1,9 @@
 //! What a command writes for a text, and how it ends, whichever single allocation is refused. What is answered
 //! of many more programs is compared by `gallery`.
 
-use explorer_scenarios::{Exit, Flagged, NO_MEMORY, Outcome, Team};
+use explorer_answers::{Exit, NO_MEMORY, Outcome};
+use explorer_search::Team;
+use explorer_streams::Flagged;
 use lock_commands::{LockCommand, lock_command_io};
 use std::alloc::{AllocError, Global};
 use std::num::NonZeroU16;

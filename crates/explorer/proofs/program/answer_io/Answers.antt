@@ -1,6 +1,6 @@
 use Rattle.std.proofs.Common.{refl}
-use Rattle.explorer_scenarios.specs.declared.exit.Exit.TheVariants.{NothingBad, Refused}
-use Rattle.explorer_scenarios.specs.Output.{no_memory}
+use Rattle.explorer_answers.specs.declared.exit.Exit.TheVariants.{NothingBad, Refused}
+use Rattle.explorer_answers.specs.Output.{no_memory}
 use Rattle.explorer.proofs.program.answer_io.Goals as goal
 
 pub returns-in_err-write_all-in-Help-clause-begun : goal.returns-in_err-write_all-in-Help-clause-begun

@@ -1,7 +1,6 @@
 use Rattle.std.proofs.Common.{rules}
 use Rattle.explorer_judge.specs.JudgeText.{IsJudgeInput}
-use Rattle.explorer_scenarios.proofs.Replying.{all_reply}
-use Rattle.explorer_scenarios.proofs.Telling.{beginning_tells}
+use Rattle.explorer_answers.proofs.Telling.{all_reply, beginning_tells}
 use Rattle.explorer_judge.proofs.Judging.{replies_judgement, tells_judgement}
 use Rattle.explorer_judge.proofs.judged.judge_io.Goals as goal
 

@@ -1,5 +1,5 @@
 use Rattle.std.proofs.Common.{inr}
-use Rattle.explorer_scenarios.proofs.Telling.{all_tell, answers, begun_tells}
+use Rattle.explorer_answers.proofs.Telling.{all_tell, answers, begun_tells}
 use Rattle.explorer_threads.specs.ThreadsText.{IsThreadsAnswer}
 use Rattle.explorer_threads.proofs.counted.threads_io.Goals as goal
 

@@ -1,6 +1,7 @@
 use Rattle.std.proofs.Common.{rules}
-use Rattle.explorer_scenarios.specs.InputText.{IsInput}
-use Rattle.lock_commands.proofs.Replying.{all_reply, beginning_tells, replies, tells}
+use Rattle.explorer_answers.specs.InputText.{IsInput}
+use Rattle.explorer_answers.proofs.Telling.{all_reply, beginning_tells}
+use Rattle.lock_commands.proofs.Replying.{replies, tells}
 use Rattle.lock_commands.proofs.command.lock_command_io.Goals as goal
 
 pub returns-clause-whole : goal.returns-clause-whole

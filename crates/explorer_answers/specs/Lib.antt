@@ -1,0 +1,13 @@
+pub mod Line
+pub mod Exit
+pub mod Output
+pub mod AskedText
+pub mod FoundText
+pub mod CheckText
+pub mod StatsText
+pub mod LineTexts
+pub mod Aside
+pub mod InputText
+pub mod Refusal
+pub mod Told
+pub mod Reply
