@@ -1,6 +1,6 @@
 -- The reader's own numbers stay small, whatever the lines are.
 use Rattle.std.proofs.Common.{◌≡◌, ℕ, ◌+◌, ◌≤◌, List, [], ◌∷◌, ◌++◌, length, Result, Ok, Err, sym, subst, arith, length-append}
-use Rattle.std.specs.Prelude.{replicate, IfOk}
+use Rattle.std.specs.Prelude.{replicate, OnOk}
 use Rattle.std.specs.Option.{unwrap_or}
 use Rattle.std.proofs.lemmas.List.{length-replicate}
 use Rattle.std.proofs.lemmas.List.Elements.{All-nil, All-push}
@@ -150,6 +150,6 @@ fits_stage d behind k = record {
   closed = k.closed;
 }
 
-pub fits_result : {E : Type 0} (d : Draft) (r : Result Draft E) → IsFitting d → IfOk r (λ e. e ≡ closed d) → IfOk r IsFitting
-fits_result d (Ok e) k h = subst IsFitting (sym h) (fits_closed d k)
-fits_result d (Err c) k h = tt
+pub fits_result : {A E : Type 0} (d e : Draft) (r : Result A E) → IsFitting d → OnOk r (e ≡ closed d) → OnOk r (IsFitting e)
+fits_result d e (Ok a) k h = subst IsFitting (sym h) (fits_closed d k)
+fits_result d e (Err c) k h = tt

@@ -1,9 +1,10 @@
 //! What the lines that were read so far declare and say.
 
-ghost use Rattle.std.specs.Prelude.{◌≡◌, [], ◌++◌, replicate, IfOk, OnOk};
+ghost use Rattle.std.specs.Prelude.{◌≡◌, [], ◌++◌, replicate, OnOk};
 ghost use Rattle.lock_program.specs.Drafts as drafts;
 ghost use Rattle.lock_program.specs.Answers.{AnswersTo, Finishes};
 ghost use Rattle.lock_program.specs.Fitting.{IsFitting, FitsMeant};
+ghost use Rattle.lock_statements.specs.Causes.{map_ok};
 
 use crate::fault::ReadFault;
 use crate::limits::{is_again, is_too_many};
@@ -17,6 +18,7 @@ use lock_statements::{
 };
 use lock_text::{Line, Name};
 use std::alloc::{AllocError, Global};
+use std::mem;
 use step_table::Items;
 
 /// A program of which lines may still be missing.
@@ -109,45 +111,26 @@ impl<'t> Draft<'t> {
     }
 
     /// The lines of the program that is open have ended.
-    fn closed(self, alloc: Global) -> Result<Self, AllocError>
-        requires { IsFitting self }
-        ensures { IfOk result (λ d. d ≡ drafts.closed self.entry) }
+    fn close(&mut self, alloc: Global) -> Result<(), AllocError>
+        requires { IsFitting self.old }
+        ensures { OnOk result (self.new ≡ drafts.closed self.old) }
     {
-        let Draft {
-            stage,
-            names,
-            words,
-            counters,
-            mut codes,
-            body,
-            lost,
-            seats,
-            properties,
-        } = self;
-        let code = code_of(alloc, codes.as_slice(), body.as_slice())?;
-        codes.push_back(code)?;
-        Ok(Draft {
-            stage,
-            names,
-            words,
-            counters,
-            codes,
-            body: Items::empty(alloc),
-            lost: first_of(lost, first_lost(body.as_slice())),
-            seats,
-            properties,
-        })
+        let code = code_of(alloc, self.codes.as_slice(), self.body.as_slice())?;
+        self.codes.push_back(code)?;
+        let body = mem::replace(&mut self.body, Items::empty(alloc));
+        self.lost = first_of(self.lost, first_lost(body.as_slice()));
+        Ok(())
     }
 
     /// Behind a program's lines the next program, or seats, end it.
-    fn closed_by(self, alloc: Global, kind: LineKind) -> Result<Self, AllocError>
-        requires { IsFitting self }
-        ensures closed { IfOk result (λ d. d ≡ drafts.closed_by self.entry.stage kind self.entry) }
-        ensures fitting { IfOk result IsFitting }
+    fn close_by(&mut self, alloc: Global, kind: LineKind) -> Result<(), AllocError>
+        requires { IsFitting self.old }
+        ensures closed { OnOk result (self.new ≡ drafts.closed_by self.old.stage kind self.old) }
+        ensures fitting { OnOk result (IsFitting self.new) }
     {
         match (self.stage, kind) {
-            (Stage::Programs, LineKind::Program | LineKind::Seats) => self.closed(alloc),
-            _ => Ok(self),
+            (Stage::Programs, LineKind::Program | LineKind::Seats) => self.close(alloc),
+            _ => Ok(()),
         }
     }
 
@@ -184,56 +167,56 @@ impl<'t> Draft<'t> {
         Ok(())
     }
 
-    /// With the line of this number more, or the least of what is wrong with the line.
-    pub(crate) fn next(self, alloc: Global, number: usize, line: Line<'t>) -> Result<Self, Cause>
-        requires { IsFitting self }
-        ensures answer { AnswersTo (drafts.next self.entry number line.entry) result }
-        ensures fitting { IfOk result IsFitting }
+    /// Takes the line of this number, or tells the least of what is wrong with it.
+    pub(crate) fn take(&mut self, alloc: Global, number: usize, line: Line<'t>) -> Result<(), Cause>
+        requires { IsFitting self.old }
+        ensures answer { AnswersTo (drafts.next self.old number line.entry)
+            (map_ok (λ _. self.new) result) }
+        ensures fitting { OnOk result (IsFitting self.new) }
     {
         let kind = LineKind::of(&line);
         let stage = self.stage;
         if !kind.may_stand(stage) {
             return Err(Cause::Place);
         }
-        let over = is_too_many(&self, &line);
-        let again = is_again(&self, &line);
+        let over = is_too_many(self, &line);
+        let again = is_again(self, &line);
         let meant = meant_of(&self.names, self.codes.len(), line);
         let meant = too_if(over, Cause::TooMany, too_if(again, Cause::Twice, meant))?;
-        let mut draft = self.closed_by(alloc, kind)?;
-        draft.add(number, meant)?;
-        draft.stage = kind.stage_after(stage);
-        Ok(draft)
+        self.close_by(alloc, kind)?;
+        self.add(number, meant)?;
+        self.stage = kind.stage_after(stage);
+        Ok(())
     }
 
     /// What the lines say together, behind the last of which the line of this number would be.
     pub(crate) fn finished(
-        self,
+        mut self,
         alloc: Global,
         number: usize,
     ) -> Result<NamedProgram<'t>, ReadFault>
         requires { IsFitting self }
         ensures { Finishes self.entry number result }
     {
-        let draft = match self.closed_by(alloc, LineKind::Seats) {
-            Ok(draft) => draft,
-            Err(_) => return Err(ReadFault {
+        if self.close_by(alloc, LineKind::Seats).is_err() {
+            return Err(ReadFault {
                 line: number,
                 cause: Cause::NoMemory,
-            }),
-        };
-        if let Some(line) = draft.lost {
+            });
+        }
+        if let Some(line) = self.lost {
             return Err(ReadFault {
                 line,
                 cause: Cause::Label,
             });
         }
-        if draft.seats.len() == 0 {
+        if self.seats.len() == 0 {
             return Err(ReadFault {
                 line: number,
                 cause: Cause::End,
             });
         }
-        Ok(draft.said())
+        Ok(self.said())
     }
 
     /// What the lines say together.

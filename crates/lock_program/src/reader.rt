@@ -1,9 +1,10 @@
 //! The reader of a lock program's text.
 
-ghost use Rattle.std.specs.Prelude.{IfOk, IfErr};
+ghost use Rattle.std.specs.Prelude.{IfOk, IfErr, OnOk};
 ghost use Rattle.explorer_text.specs.Reader.{IsOnly, IsNone};
 ghost use Rattle.lock_code.specs.WellFormed.{IsFew, IsWellFormed};
 ghost use Rattle.lock_program.specs.Answers.{IsReadFault, Judges};
+ghost use Rattle.lock_statements.specs.Causes.{map_ok};
 ghost use Rattle.lock_program.specs.Fitting.{IsFitting};
 ghost use Rattle.lock_program.specs.Text.{IsFaultOf, IsProgramOf};
 
@@ -14,20 +15,21 @@ use lock_statements::Cause;
 use lock_text::{first_line, judge};
 use std::alloc::Global;
 
-/// The draft with the line of these bytes more, or what is wrong with them.
+/// Has the draft take the line of these bytes, or tells what is wrong with them.
 fn read_line<'t>(
     alloc: Global,
-    draft: Draft<'t>,
+    draft: &mut Draft<'t>,
     number: usize,
     bytes: &'t [u8],
     ended: bool,
-) -> Result<Draft<'t>, Cause>
-    requires { IsFitting draft }
-    ensures judged { Judges draft.entry number (record { text = bytes.now; ended = ended }) result }
-    ensures fitting { IfOk result IsFitting }
+) -> Result<(), Cause>
+    requires { IsFitting draft.old }
+    ensures judged { Judges draft.old number (record { text = bytes.now; ended = ended })
+        (map_ok (λ _. draft.new) result) }
+    ensures fitting { OnOk result (IsFitting draft.new) }
 {
     let line = judge(alloc, bytes, ended)?;
-    draft.next(alloc, number, line)
+    draft.take(alloc, number, line)
 }
 
 /// The program that the text says, or the first line that is faulty.
@@ -46,13 +48,12 @@ pub fn read_program<'t>(alloc: Global, text: &'t [u8]) -> Result<NamedProgram<'t
     let mut rest = text;
     while !rest.is_empty() {
         let (bytes, after, ended) = first_line(rest);
-        draft = match read_line(alloc, draft, number, bytes, ended) {
-            Ok(draft) => draft,
-            Err(cause) => return Err(ReadFault {
+        if let Err(cause) = read_line(alloc, &mut draft, number, bytes, ended) {
+            return Err(ReadFault {
                 line: number,
                 cause,
-            }),
-        };
+            });
+        }
         rest = after;
         number += 1;
     }

@@ -1,8 +1,9 @@
 use Rattle.explorer_text.specs.Pieces.{Piece}
+use Rattle.lock_statements.specs.Causes.{map_ok}
 use Rattle.lock_program.proofs.Judging.{judged}
 use Rattle.lock_program.proofs.reader.read_line.Goals as goal
 
 pub returns-clause-judged : goal.returns-clause-judged
 returns-clause-judged c =
     let p : Piece = record { text = c.args.bytes.now; ended = c.args.ended } in
-    judged c.args.draft c.args.number p c.in_ok-line.line c.next.result c.in_ok-line.ensures c.next.ensures.answer
+    judged c.args.draft.now c.args.number p c.in_ok-line.line (map_ok (λ _. c.take.new.self) c.take.result) c.in_ok-line.ensures c.take.ensures.answer

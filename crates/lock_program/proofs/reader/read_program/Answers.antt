@@ -25,9 +25,9 @@ pub loop-rest-preserved : goal.loop-rest-preserved
 loop-rest-preserved c =
     let p : Piece = record { text = c.first_line-ended.result.0.now; ended = c.first_line-ended.result.2 } in
     record {
-      so = turn c.args.text.now c.loop-rest.rest.now c.first_line-ended.result.1.now c.loop-rest.draft c.in-Ok.draft c.loop-rest.number p
-          c.loop-rest.invariant.so c.first_line-ended.ensures.line c.in-Ok.ensures.judged;
-      fitting = c.in-Ok.ensures.fitting;
+      so = turn c.args.text.now c.loop-rest.rest.now c.first_line-ended.result.1.now c.loop-rest.draft c.read_line.new.draft c.loop-rest.number p
+          c.loop-rest.invariant.so c.first_line-ended.ensures.line c.in_default.ensures.judged;
+      fitting = c.in_default.ensures.fitting;
       number = omega arith;
     }
 
