@@ -22,7 +22,7 @@ use std::time::Clock;
 const PROMPT: &str = "$ parklot ";
 
 /// The scenarios, from the simple to the odd, the journals, and the answers.
-const NAMES: [&str; 34] = [
+static NAMES: [&str; 34] = [
     "lonely_sleeper",
     "lost_wake_up",
     "newest_first",
@@ -60,7 +60,7 @@ const NAMES: [&str; 34] = [
 ];
 
 /// The lock programs each of which is searched in about a second or less.
-const LOCKS: [&str; 37] = [
+static LOCKS: [&str; 37] = [
     "barrier",
     "barrier_w1",
     "buffer_w1",
@@ -101,7 +101,7 @@ const LOCKS: [&str; 37] = [
 ];
 
 /// The files of cases.
-const CASES: [&str; 15] = [
+static CASES: [&str; 15] = [
     "replays",
     "replays_of_lists",
     "searches",
@@ -266,13 +266,13 @@ fn try_lock<R: Files + Threads + Wait + Clock + Sync>(
 }
 
 fn main(rt: HostRuntime) -> Result<()> {
-    for name in NAMES {
+    for name in &NAMES {
         try_text(&rt, &rt, name)?;
     }
-    for name in CASES {
+    for name in &CASES {
         try_cases(&rt, &rt, name)?;
     }
-    for name in LOCKS {
+    for name in &LOCKS {
         try_lock(&rt, &rt, name)?;
     }
     Ok(())

@@ -1,7 +1,8 @@
 //! How worlds and moments are made and copied, and pictures of them.
 
+use crate::machine::given::scenario;
 use crate::shortage::rounds::{Attempt, Call, FINE, answered, is_refused_then_answers};
-use crate::shortage::world_tests::{FIVE_STEPS, KEY, SLEEPER, WAIT, is_asleep, scenario};
+use crate::shortage::world_tests::{FIVE_STEPS, KEY, SLEEPER, WAIT, is_asleep};
 use std::alloc::Global;
 use std::process::Abort;
 use step_core::{

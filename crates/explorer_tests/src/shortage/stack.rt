@@ -5,7 +5,12 @@ const DEPTH: usize = 1 << 20;
 
 #[inline(never)]
 fn is_clear(room: &[u8]) -> bool {
-    room.iter().all(|byte| *byte == 0)
+    for byte in room {
+        if *byte != 0 {
+            return false;
+        }
+    }
+    true
 }
 
 /// Goes down the stack once, and finds it as it should be. Its pages are the process's from then on: where no

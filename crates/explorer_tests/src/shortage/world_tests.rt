@@ -1,18 +1,12 @@
 //! Worlds of a scenario: how they are reached, and what they are asked.
 
+use crate::machine::given::scenario;
 use crate::shortage::rounds::{Attempt, Call, FINE, answered, is_refused_then_answers};
-use explorer_text::read_scenario;
 use std::alloc::Global;
-use std::process::Abort;
 use step_core::{
     CounterId, Entry, NoMemory, Phase, Row, RunRefused, Scenario, SeatId, StepRefused, WaitId,
     World, run,
 };
-
-pub(crate) fn scenario(rt: &impl Abort, alloc: Global, text: &str) -> Scenario {
-    let request = read_scenario(alloc, text.as_bytes()).expect(rt, "a scenario's text");
-    Scenario::of(request.parts).expect(rt, "a scenario")
-}
 
 /// Seat 0 sleeps.
 pub(crate) const SLEEPER: &str =
