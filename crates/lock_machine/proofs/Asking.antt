@@ -31,9 +31,9 @@ use Rattle.step_law_whole.specs.CoreLaw.{IsCallBefore, IsStanding}
 use Rattle.step_law_whole.specs.TheCore.{MayCall}
 use Rattle.step_rows.specs.declared.caller.Caller.{Caller}
 use Rattle.step_rows.specs.ListStored.{AsksAt, HasListRow, CanStep}
-use Rattle.step_rows.specs.Roots.{queued}
+use Rattle.step_queues.specs.Roots.{queued}
 use Rattle.step_rows.specs.Stored.{Stored, IsStoredFor, HasRow, HasRowsOf, HasHand, MayMove, each, idle, words_of, root_of, row_event}
-use Rattle.step_rows.proofs.Rooting.{root_within}
+use Rattle.step_queues.proofs.Rooting.{root_within}
 use Rattle.step_table.specs.declared.call.Call.{Call}
 use Rattle.step_table.specs.declared.entry.Entry.{Entry}
 use Rattle.step_table.specs.declared.list_place.AllRow.TheVariants.{L7}

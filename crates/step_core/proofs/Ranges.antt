@@ -20,7 +20,7 @@ use Rattle.step_law_semaphores.specs.Invariant.{Finds, asleep}
 use Rattle.step_rows.specs.Stored.{Stored, HasRow, HasRowsOf, HasHand, MayMove, each, idle, words_of, root_of, row_finds, row_event}
 use Rattle.step_table.specs.ListWorld.{ListWorld}
 use Rattle.step_rows.specs.ListStored.{HasListRow, CanStep}
-use Rattle.step_rows.specs.Roots.{queued}
+use Rattle.step_queues.specs.Roots.{queued}
 use Rattle.step_table.specs.Core.{counters_of}
 use Rattle.step_law_whole.specs.CoreLaw.{IsStanding}
 use Rattle.step_table.specs.Run.{layout}
@@ -32,7 +32,7 @@ use Rattle.step_core.specs.State.{State, IsSound, AsksFor, no_list, run_of}
 use Rattle.step_table.proofs.Sums.{total_rest, total_has}
 use Rattle.step_law_whole.proofs.RunEarly.{all_begun_few, handed_few}
 use Rattle.step_law_semaphores.proofs.Placing.{same_here}
-use Rattle.step_rows.proofs.Rooting.{root_within}
+use Rattle.step_queues.proofs.Rooting.{root_within}
 use Rattle.step_law_semaphores.proofs.Bounding.{well_formed}
 use Rattle.step_law_alike.proofs.ChangedBounding.{changed_bounded}
 use Rattle.step_law_semaphores.proofs.Parking.{in_a_hand}

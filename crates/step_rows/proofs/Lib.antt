@@ -1,7 +1,6 @@
 pub mod Storing
 pub mod RootWords
 pub mod WordParts
-pub mod Rooting
 pub mod Passing
 pub mod Holding
 pub mod Seating
@@ -11,8 +10,6 @@ pub mod Handing
 pub mod Noting
 pub mod Opening
 pub mod Turning
-pub mod KeySeats
 pub mod KeyWriting
 pub mod KeyWhole
 pub mod KeyRenaming
-pub mod Replacing

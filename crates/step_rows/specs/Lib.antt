@@ -1,4 +1,3 @@
-pub mod Roots
 pub mod Seats
 pub mod Stored
 pub mod ListStored

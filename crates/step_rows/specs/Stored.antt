@@ -26,7 +26,7 @@ use Rattle.step_table.specs.Event.{Event}
 use Rattle.step_table.specs.Table.{event_at}
 use Rattle.step_table.specs.Steps.{words_after, event_of, finds, turned, moved}
 use Rattle.step_table.specs.Counting.{IsWithin}
-use Rattle.step_rows.specs.Roots.{queued}
+use Rattle.step_queues.specs.Roots.{queued}
 use Rattle.step_outcomes.specs.Outcomes.{IsOutcome, HasRoom}
 
 -- the elements of a list by their places, and d past its end

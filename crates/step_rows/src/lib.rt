@@ -14,7 +14,6 @@ mod begun;
 mod caller;
 mod copying;
 mod list_machine;
-mod queues;
 mod ready;
 mod seats;
 mod sema_store;

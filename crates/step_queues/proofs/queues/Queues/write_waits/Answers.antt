@@ -1,8 +1,8 @@
 use Rattle.std.proofs.Common.{◌≡◌, ◌++◌, ℕ, List, subst, arith}
 use Rattle.std.specs.Result.{OnOk}
-use Rattle.step_rows.proofs.Rooting.{root_there, ids_looked}
-use Rattle.step_rows.proofs.KeySeats.{seats_of_ids}
-use Rattle.step_rows.proofs.queues.Queues.write_waits.Goals as goal
+use Rattle.step_queues.proofs.Rooting.{root_there, ids_looked}
+use Rattle.step_queues.proofs.SeatsOf.{seats_of_ids}
+use Rattle.step_queues.proofs.queues.Queues.write_waits.Goals as goal
 
 pub root_of-requires-clause-fits : goal.root_of-requires-clause-fits
 root_of-requires-clause-fits c = let there = root_there c.self.invariant.1 c.self.view_is c.requires in omega arith

@@ -8,7 +8,7 @@
 ghost use Rattle.std.specs.Prelude.{◌≡◌, ◌<◌, ◌+◌, ◌-◌, ◌%◌, ◌^◌, ◌++◌, cond, map, nat_lt, IfOk, OnErr, OnOk};
 ghost use Rattle.std.specs.Prelude.{[], drop, length, replicate, set, slice_get, slice_index_or};
 ghost use Rattle.step_table.specs.World.{insert_wait, root_number};
-ghost use Rattle.step_rows.specs.Roots.{AreEmpty, queued};
+ghost use Rattle.step_queues.specs.Roots.{AreEmpty, queued};
 
 use sema_root::{RootStore, TreapRoot};
 use std::alloc::Global;
@@ -29,7 +29,7 @@ pub struct Queues {
 impl Model for Queues {
     ghost use Rattle.std.specs.Prelude.{◌<◌};
     ghost use Rattle.step_table.specs.World.{root_number};
-    ghost use Rattle.step_rows.specs.Roots.{Queues as Lists, lists_in, AreRoots};
+    ghost use Rattle.step_queues.specs.Roots.{Queues as Lists, lists_in, AreRoots};
 
     ghost Value = { Lists };
 
@@ -64,6 +64,7 @@ fn empty_roots(alloc: Global, own: u32, groups: u32, seats: u16) -> Result<Vec<T
 }
 
 /// The root of a counter, where so many counters are no group's and have so many roots.
+#[inline]
 pub fn root_of(counter: CounterId, own: usize, roots: usize) -> usize
     requires some_root { 0 < own → 0 < roots }
     requires fits { root_number own roots counter < 2 ^ 64 }
@@ -79,7 +80,7 @@ pub fn root_of(counter: CounterId, own: usize, roots: usize) -> usize
 /// What is left of a number where it is divided. Numbers that are less aren't divided, which would take
 /// longer than all else that a row does.
 #[inline]
-pub(crate) fn remainder(number: usize, divisor: usize) -> usize
+pub fn remainder(number: usize, divisor: usize) -> usize
     requires { 0 < divisor }
     ensures { result ≡ number % divisor }
 {

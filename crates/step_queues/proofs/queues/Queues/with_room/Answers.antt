@@ -1,8 +1,8 @@
 use Rattle.std.proofs.Common.{◌≡◌, ℕ, ◌+◌, ◌<◌, min, arith, subst, sym}
 use Rattle.step_table.specs.World.{root_number}
-use Rattle.step_rows.specs.Roots.{AreRoots}
-use Rattle.step_rows.proofs.Rooting.{root_within, lists_first, roots_first}
-use Rattle.step_rows.proofs.queues.Queues.with_room.Goals as goal
+use Rattle.step_queues.specs.Roots.{AreRoots}
+use Rattle.step_queues.proofs.Rooting.{root_within, lists_first, roots_first}
+use Rattle.step_queues.proofs.queues.Queues.with_room.Goals as goal
 
 some_own : (own roots held : ℕ) → 0 < roots → held ≡ min own roots → 0 < own → 0 < held
 some_own own roots held some least any = omega arith

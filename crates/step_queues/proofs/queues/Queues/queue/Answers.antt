@@ -1,6 +1,6 @@
 use Rattle.std.proofs.Common.{arith}
-use Rattle.step_rows.proofs.Rooting.{root_there, fits_looked, roots_queued, lists_queued}
-use Rattle.step_rows.proofs.queues.Queues.queue.Goals as goal
+use Rattle.step_queues.proofs.Rooting.{root_there, fits_looked, roots_queued, lists_queued}
+use Rattle.step_queues.proofs.queues.Queues.queue.Goals as goal
 
 pub root_of-at-requires-clause-fits : goal.root_of-at-requires-clause-fits
 root_of-at-requires-clause-fits c = let there = root_there c.self.invariant.1 c.self.view_is c.requires.there in omega arith

@@ -1,6 +1,6 @@
 use Rattle.std.proofs.Common.{arith}
-use Rattle.step_rows.proofs.Rooting.{root_there, roots_left, lists_left}
-use Rattle.step_rows.proofs.queues.Queues.leave.Goals as goal
+use Rattle.step_queues.proofs.Rooting.{root_there, roots_left, lists_left}
+use Rattle.step_queues.proofs.queues.Queues.leave.Goals as goal
 
 pub root_of-at-requires-clause-fits : goal.root_of-at-requires-clause-fits
 root_of-at-requires-clause-fits c = let there = root_there c.self.invariant.1 c.self.view_is c.requires in omega arith

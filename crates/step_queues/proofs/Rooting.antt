@@ -17,7 +17,7 @@ use Rattle.sema_root.specs.Tree.{leaf}
 use Rattle.sema_root.specs.Treap.{Treap, queues_of}
 use Rattle.step_table.specs.World.{root_number, insert_wait}
 use Rattle.step_table.specs.Counting.{total}
-use Rattle.step_rows.specs.Roots.{Queues, queued, no_root, root_at, ids_in, ids_at, lists_in, held_in, AreRoots, AreEmpty}
+use Rattle.step_queues.specs.Roots.{Queues, queued, no_root, root_at, ids_in, ids_at, lists_in, held_in, AreRoots, AreEmpty}
 use Rattle.step_table.proofs.Sums.{total_same, total_change, total_has, nothing}
 
 -- the root of a counter is one of those of its kind

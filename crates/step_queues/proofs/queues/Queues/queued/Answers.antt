@@ -1,6 +1,6 @@
 use Rattle.std.proofs.Common.{◌∙◌, arith}
-use Rattle.step_rows.proofs.Rooting.{root_there, length_looked}
-use Rattle.step_rows.proofs.queues.Queues.queued.Goals as goal
+use Rattle.step_queues.proofs.Rooting.{root_there, length_looked}
+use Rattle.step_queues.proofs.queues.Queues.queued.Goals as goal
 
 pub root_of-requires-clause-fits : goal.root_of-requires-clause-fits
 root_of-requires-clause-fits c = let there = root_there c.self.invariant.1 c.self.view_is c.requires in omega arith

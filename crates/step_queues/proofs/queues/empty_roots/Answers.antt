@@ -1,6 +1,6 @@
 use Rattle.std.proofs.Common.{arith}
-use Rattle.step_rows.proofs.Rooting.{one_more}
-use Rattle.step_rows.proofs.queues.empty_roots.Goals as goal
+use Rattle.step_queues.proofs.Rooting.{one_more}
+use Rattle.step_queues.proofs.queues.empty_roots.Goals as goal
 
 pub loop-root-preserved : goal.loop-root-preserved
 loop-root-preserved c = (

@@ -1,6 +1,6 @@
 use Rattle.std.proofs.Common.{refl}
-use Rattle.step_rows.proofs.Replacing.{AreCopied-next, AreCopied-done}
-use Rattle.step_rows.proofs.queues.copy_roots.Goals as goal
+use Rattle.step_queues.proofs.Replacing.{AreCopied-next, AreCopied-done}
+use Rattle.step_queues.proofs.queues.copy_roots.Goals as goal
 
 pub loop-at-init : goal.loop-at-init
 loop-at-init c = record { counted = c.requires; same = refl }

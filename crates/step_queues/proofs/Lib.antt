@@ -1,0 +1,3 @@
+pub mod SeatsOf
+pub mod Rooting
+pub mod Replacing
