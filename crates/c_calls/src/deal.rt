@@ -45,7 +45,7 @@ fn placed_each(
     let mut places = Vec::with_capacity(alloc, seats.len())?;
     let mut seats = seats;
     while let Some(seat) = seats.pop() {
-        places.push(placed(alloc, table, seat)?)?;
+        places.push_reserved(placed(alloc, table, seat)?);
     }
     Ok(places)
 }

@@ -44,7 +44,7 @@ fn placed_each(
     let mut places = Vec::with_capacity(alloc, seats.len())?;
     let mut seats = seats;
     while let Some(seat) = seats.pop() {
-        places.push(placed(alloc, list, seat)?)?;
+        places.push_reserved(placed(alloc, list, seat)?);
     }
     Ok(places)
 }
