@@ -21,6 +21,22 @@ one_given f g hs i h bs rest b all lt is same sum =
     ∙ ap (λ xs. take i (map f hs) ++ xs) (sym backward)
     ∙ sum
 
+-- the last seat comes into the next place
+pub one_placed : {B S : Type 0} (f : B → Option S) (more bs : List B) (b : B) (seats rest : List S) (s : S) (all : List (Option S))
+    → more ≡ bs ++ b ∷ [] → seats ≡ rest ++ s ∷ [] → f b ≡ Some s
+    → map f bs ++ reverse (map (λ (s : S). Some s) seats) ≡ all
+    → map f more ++ reverse (map (λ (s : S). Some s) rest) ≡ all
+one_placed {S} f more bs b seats rest s all longer is same sum =
+    let some : List S → List (Option S) = map (λ (s : S). Some s) in
+    let backward : reverse (some seats) ≡ Some s ∷ reverse (some rest) =
+    ap (λ xs. reverse (some xs)) is ∙ ap reverse (map-append (λ (s : S). Some s) rest (s ∷ []))
+    ∙ reverse-append (some rest) (Some s ∷ []) in
+    ap (λ xs. xs ++ reverse (some rest)) (ap (map f) longer ∙ map-append f bs (b ∷ []))
+    ∙ append_assoc (map f bs) (f b ∷ []) (reverse (some rest))
+    ∙ ap (λ x. map f bs ++ (x ∷ reverse (some rest))) same
+    ∙ ap (λ xs. map f bs ++ xs) (sym backward)
+    ∙ sum
+
 map_reverse : {A B : Type 0} (f : A → B) (xs : List A) → map f (reverse xs) ≡ reverse (map f xs)
 map_reverse f [] = refl
 map_reverse f (x ∷ xs) =
