@@ -5,7 +5,7 @@ use std::fmt;
 use std::marker::Model;
 
 /// A counter, by its number from 0.
-#[derive(Clone, Copy, Debug, PartialEq, Eq, PartialOrd, Drop)]
+#[derive(Clone, Copy, Debug, PartialEq, Eq, PartialOrd, Ord, Hash, Drop)]
 pub struct CounterId(pub u32);
 
 impl Model for CounterId {

@@ -5,7 +5,7 @@ use std::fmt;
 use std::marker::Model;
 
 /// A seat, by its number from 0.
-#[derive(Clone, Copy, Debug, PartialEq, Eq, Drop)]
+#[derive(Clone, Copy, Debug, PartialEq, Eq, PartialOrd, Ord, Hash, Drop)]
 pub struct SeatId(pub u16);
 
 impl Model for SeatId {
