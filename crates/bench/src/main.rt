@@ -30,6 +30,19 @@ use std::sync::Wait;
 use std::thread::Threads;
 use std::time::Clock;
 
+/// Measures a case of the running table, or of what stands above it.
+fn time<R: Clock + Print + Threads + Wait + Sync>(
+    rt: &R,
+    kind: &str,
+    plan: &Plan<'_>,
+) -> Result<()> {
+    match kind {
+        "table" => tables::time(rt, plan),
+        "sync" => sync::time(rt, plan),
+        _ => bail!("nothing is measured as {kind}"),
+    }
+}
+
 /// Measures what these words ask for.
 fn measure<R: AllocGlobal + Clock + Files + Print + Threads + Wait + Sync>(
     rt: &R,
@@ -40,9 +53,7 @@ fn measure<R: AllocGlobal + Clock + Files + Print + Threads + Wait + Sync>(
     match kind {
         "treap" | "sorted" => roots::time_all(rt, alloc, kind, words),
         "explore" => searches::time_all(rt, alloc, words),
-        "table" => tables::time(rt, &Plan::read(alloc, words)?),
-        "sync" => sync::time(rt, &Plan::read(alloc, words)?),
-        _ => bail!("nothing is measured as {kind}"),
+        _ => time(rt, kind, &Plan::read(alloc, words)?),
     }
 }
 

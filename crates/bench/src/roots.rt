@@ -6,7 +6,6 @@ use rand_core::{Rng, SeedableRng};
 use rand_xoshiro::Xoshiro256PlusPlus;
 use sema_root::{RootStore, SortedRoot, TreapRoot};
 use std::alloc::Global;
-use std::io;
 use std::num::NonZeroU16;
 use std::time::{Clock, Instant};
 use waiters::{CounterId, SeatId, Wait, WaitId};
@@ -55,7 +54,7 @@ fn queue_again<R: RootStore>(root: &mut R, counter: CounterId) {
 
 /// What a turn costs, in nanoseconds: a wait is taken out at a counter drawn at random, and queued there
 /// again. Each of the counters has one wait.
-fn turn<R: RootStore>(clock: &impl Clock, root: &mut R, counters: u16) -> io::Result<u128>
+fn turn<R: RootStore>(clock: &impl Clock, root: &mut R, counters: u16) -> Result<u128>
     requires { 0 < counters }
 {
     fill(root, counters);
@@ -72,11 +71,17 @@ fn cost(clock: &impl Clock, alloc: Global, case: &str, counters: u16) -> Result<
     requires { 0 < counters }
 {
     if case == "treap" {
-        let mut root = TreapRoot::with_room(alloc, counters, 1)?;
-        return Ok(turn(clock, &mut root, counters)?);
+        return turn(
+            clock,
+            &mut TreapRoot::with_room(alloc, counters, 1)?,
+            counters,
+        );
     }
-    let mut root = SortedRoot::with_room(alloc, counters)?;
-    Ok(turn(clock, &mut root, counters)?)
+    turn(
+        clock,
+        &mut SortedRoot::with_room(alloc, counters)?,
+        counters,
+    )
 }
 
 /// Tells what a turn costs in this case, with so many counters each time.

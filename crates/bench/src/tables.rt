@@ -106,6 +106,10 @@ fn time_crew<R: Clock + Print + Threads + Wait + Sync>(
     work: Work,
 ) -> Result<()> {
     let (counters, units) = start_of(work);
+    // Only two hand over: one alone would wait for good.
+    if counters == 2 && plan.workers != 2 {
+        bail!("two hand over")
+    }
     let limit = work.adds().wrapping_mul(u64::from(plan.turns));
     let (table, seats) = new_table(plan.alloc, counters, units, u32::from(plan.workers), limit)?;
     let start = Instant::now(rt)?;
@@ -115,6 +119,19 @@ fn time_crew<R: Clock + Print + Threads + Wait + Sync>(
     let operations = if counters == 2 { turns / 2 } else { turns };
     tell(rt, plan.case, &start, operations)?;
     tell_sums(rt, work, turns, &closed)
+}
+
+/// What the workers of a case do.
+fn work_of(case: &str) -> Result<Work> {
+    match case {
+        "threads" => Ok(Work::Rounds),
+        "spread" => Ok(Work::Spread),
+        "hands" => Ok(hands(false, false)),
+        "lifo" => Ok(hands(true, false)),
+        "handoff" => Ok(hands(false, true)),
+        "two" => Ok(Work::HandsTwo),
+        _ => bail!("no such case"),
+    }
 }
 
 /// A unit that goes to and fro.
@@ -136,15 +153,9 @@ const fn hands(lifo: bool, handoff: bool) -> Work {
 /// over two counters, each waiting for the other, in order, with lifo and with handoff, and in `two` two
 /// units by one add: an operation is the way there and back.
 pub fn time<R: Clock + Print + Threads + Wait + Sync>(rt: &R, plan: &Plan<'_>) -> Result<()> {
-    match (plan.case, plan.workers) {
-        ("pair" | "cycle", 1) => time_alone(rt, plan),
-        ("pair-words" | "cycle-words" | "cycle-root", 1) => words::time(rt, plan),
-        ("threads", _) => time_crew(rt, plan, Work::Rounds),
-        ("spread", _) => time_crew(rt, plan, Work::Spread),
-        ("hands", 2) => time_crew(rt, plan, hands(false, false)),
-        ("lifo", 2) => time_crew(rt, plan, hands(true, false)),
-        ("handoff", 2) => time_crew(rt, plan, hands(false, true)),
-        ("two", 2) => time_crew(rt, plan, Work::HandsTwo),
-        _ => bail!("no such case of so many workers"),
+    match plan.case {
+        "pair" | "cycle" => time_alone(rt, plan),
+        "pair-words" | "cycle-words" | "cycle-root" => words::time(rt, plan),
+        case => time_crew(rt, plan, work_of(case)?),
     }
 }

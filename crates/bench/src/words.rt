@@ -122,16 +122,20 @@ impl Words {
 }
 
 /// Touches the words of a case, and tells what was seen there.
-pub fn time(rt: &(impl Clock + Print), plan: &Plan<'_>) -> Result<()> {
-    let mut root = SortedRoot::with_room(plan.alloc, 2)?;
+fn time_at(rt: &(impl Clock + Print), plan: &Plan<'_>, root: &mut SortedRoot) -> Result<()> {
     let words = Words::new();
     let start = Instant::now(rt)?;
     let seen = match plan.case {
         "pair-words" => words.pairs(plan.turns),
         "cycle-words" => words.cycles(plan.turns),
-        _ => words.cycles_at(&mut root, plan.turns),
+        _ => words.cycles_at(root, plan.turns),
     };
     tell(rt, plan.case, &start, u64::from(plan.turns))?;
     println!(rt; "seen {seen}")?;
     Ok(())
+}
+
+/// Times a case of plain words.
+pub fn time(rt: &(impl Clock + Print), plan: &Plan<'_>) -> Result<()> {
+    time_at(rt, plan, &mut SortedRoot::with_room(plan.alloc, 2)?)
 }
