@@ -121,15 +121,20 @@ impl Words {
     }
 }
 
-/// Touches the words of a case, and tells what was seen there.
-fn time_at(rt: &(impl Clock + Print), plan: &Plan<'_>, root: &mut SortedRoot) -> Result<()> {
+/// Touches the words of a case, and answers what was seen there.
+fn touch(root: &mut SortedRoot, case: &str, turns: u32) -> u64 {
     let words = Words::new();
+    match case {
+        "pair-words" => words.pairs(turns),
+        "cycle-words" => words.cycles(turns),
+        _ => words.cycles_at(root, turns),
+    }
+}
+
+/// Times how a case touches its words, and tells what was seen.
+fn time_at(rt: &(impl Clock + Print), plan: &Plan<'_>, root: &mut SortedRoot) -> Result<()> {
     let start = Instant::now(rt)?;
-    let seen = match plan.case {
-        "pair-words" => words.pairs(plan.turns),
-        "cycle-words" => words.cycles(plan.turns),
-        _ => words.cycles_at(root, plan.turns),
-    };
+    let seen = touch(root, plan.case, plan.turns);
     tell(rt, plan.case, &start, u64::from(plan.turns))?;
     println!(rt; "seen {seen}")?;
     Ok(())
