@@ -5,7 +5,8 @@
 //! numbers are how many counters have a wait, from 1 to 65535. `explore` searches scenarios of the folder
 //! `data`, where it is to be run, and tells what a world costs.
 //!
-//! The other cases are those of [`tables::time`] and [`sync::time`]. Where a case has threads, each worker is one.
+//! The other cases are those of [`tables::time`] and [`sync::time`]. Where a case has threads, each worker is
+//! one.
 #![tactic(auto)]
 
 mod crew;
