@@ -47,8 +47,8 @@ fn hire_all<'s, E, R: Threads + Wait + Sync, J: Job + Send + Drop + 's, S: Seats
     true
 }
 
-/// Each of so many jobs does so many turns, in a thread of its own. Where a thread can't be made, none begins,
-/// and the answer is false.
+/// Each of so many jobs does so many turns, in a thread of its own. Where a thread can't be made, none
+/// begins, and the answer is false.
 fn run<'j, R: Threads + Wait + Sync, J: Job + Send + Drop + 'j, S: Seats<J>>(
     rt: &'j R,
     seats: &mut S,

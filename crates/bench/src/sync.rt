@@ -11,8 +11,8 @@ use std::time::Clock;
 /// Times a case.
 ///
 /// `ticket` takes a ticket, grants it and waits with it, and `group` adds 1 to a wait group, takes it off and
-/// waits, each in one thread. In `signals` two threads wait for each other on a notify list, and in `hands` on
-/// a condition variable, for a word that says whose turn it is: an operation is the way there and back. In
+/// waits, each in one thread. In `signals` two threads wait for each other on a notify list, and in `hands`
+/// on a condition variable, for a word that says whose turn it is: an operation is the way there and back. In
 /// `broadcast` one wakes the workers by a condition variable, each time that all of them wait; in `mutex` the
 /// workers take one lock, and in `guarded` they add to one guarded number; in `fork` one lets the workers
 /// begin, each by a counter of its own, and waits by a wait group until all are done.
