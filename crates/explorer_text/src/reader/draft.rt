@@ -61,7 +61,7 @@ fn calls_of(alloc: Global, spelled: &[SpelledCall]) -> Result<Items<Call>, Alloc
 {
     let mut calls = Vec::with_capacity(alloc, spelled.len())?;
     for call in spelled {
-        calls.push(call_of(call))?;
+        calls.push_reserved(call_of(call));
     }
     Ok(Items::new(calls))
 }
