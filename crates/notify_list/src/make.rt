@@ -75,7 +75,7 @@ fn make(alloc: Global, setting: Setting) -> Result<(NotifyList, Vec<ListSeat>), 
         made.push_reserved(new_seat(token, number));
     }
     let Ok(()) = made.insert(0, new_seat(first, 0)) else {
-        return Err(NoMemory);
+        unreachable!()
     };
     let list = NotifyList {
         words,

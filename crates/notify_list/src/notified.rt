@@ -5,7 +5,7 @@ ghost use Rattle.notify_list.specs.Notifying.{ticket_of};
 use arrayvec::ArrayVec;
 
 /// A ticket that was granted.
-#[derive(Clone, Copy, Debug, PartialEq, Eq, Drop)]
+#[derive(Clone, Copy, PartialEq, Eq, Drop)]
 pub struct Notified {
     pub ticket: u64,
     /// The seat of its wait, which was granted too; none where the wait wasn't queued yet.

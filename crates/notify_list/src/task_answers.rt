@@ -2,7 +2,7 @@
 
 /// Why a call of a task did nothing, by number. The seat is as it was, but for the two looks of a
 /// notification that found the lock held.
-#[derive(Clone, Copy, Debug, PartialEq, Eq, Drop)]
+#[derive(Clone, Copy, Debug, Drop)]
 pub enum TaskRefused {
     /// The seat stands in the middle of another call, or in the middle of none.
     OtherCall = 1,
@@ -11,7 +11,7 @@ pub enum TaskRefused {
 }
 
 /// What going to the lock with a ticket came to.
-#[derive(Clone, Copy, Debug, PartialEq, Eq, Drop)]
+#[derive(Clone, Copy, Drop)]
 pub enum TaskEntered {
     /// The ticket was granted before.
     AtOnce,
@@ -20,7 +20,7 @@ pub enum TaskEntered {
 }
 
 /// What a look at a grant came to.
-#[derive(Clone, Copy, Debug, PartialEq, Eq, Drop)]
+#[derive(Clone, Copy, Drop)]
 pub enum TaskPolled {
     /// Nothing was granted.
     Still,

@@ -30,7 +30,7 @@ pub(crate) enum Stage {
 }
 
 /// Where a seat stands, as its caller sees it.
-#[derive(Clone, Copy, Debug, PartialEq, Eq, Drop)]
+#[derive(Clone, Copy, Drop)]
 pub enum TaskStage {
     /// Between two calls, without a ticket.
     Resting,

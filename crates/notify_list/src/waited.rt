@@ -2,7 +2,7 @@
 use crate::seat::{ListSeat, Parked};
 
 /// How a wait ended.
-#[derive(Clone, Copy, Debug, PartialEq, Eq, Drop)]
+#[derive(Clone, Copy, PartialEq, Eq, Drop)]
 pub enum Waited {
     /// The ticket was granted before the seat came to the lock: it never slept.
     AtOnce,

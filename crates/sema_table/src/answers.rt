@@ -7,7 +7,7 @@ use std::fmt;
 use waiters::WaitId;
 
 /// What a try came to.
-#[derive(Clone, Copy, Debug, PartialEq, Eq, Drop)]
+#[derive(Clone, Copy, PartialEq, Eq, Drop)]
 pub enum Tried {
     /// A unit was taken.
     Taken,
@@ -26,7 +26,7 @@ pub enum Posted {
 }
 
 /// Why a unit wasn't added, by number.
-#[derive(Clone, Copy, Debug, PartialEq, Eq, Drop)]
+#[derive(Clone, Copy, Debug, Drop)]
 pub enum PostRefused {
     /// The seat may add no more: `left` is 0.
     LimitReached = 1,
@@ -67,7 +67,7 @@ pub enum Roused {
 }
 
 /// Whom a release woke.
-#[derive(Clone, Copy, Debug, PartialEq, Eq, Drop)]
+#[derive(Clone, Copy, Drop)]
 pub enum Wake {
     /// Nobody waits on the counter.
     Nobody,

@@ -108,16 +108,16 @@ fn empty_roots(alloc: Global, seats: u16, roots: u32, seed: u64) -> Result<Vec<R
 }
 
 /// A table and its seats, in the order of their numbers.
-fn make(alloc: Global, settings: Settings) -> Result<(SemaTable, Vec<Seat>), NoMemory>
-    requires { AreAllowed settings }
-    ensures { IfOk result (λ t. IsMade settings t.0 t.1.items) }
+fn make(alloc: Global, settings: &Settings) -> Result<(SemaTable, Vec<Seat>), NoMemory>
+    requires { AreAllowed settings.now }
+    ensures { IfOk result (λ t. IsMade settings.now t.0 t.1.items) }
 {
     let seats = settings.seats as u16;
     let limit = settings.release_limit;
-    let numbers = first_words(alloc, &settings)?;
+    let numbers = first_words(alloc, settings)?;
     let slots = empty_roots(alloc, seats, settings.roots, settings.seed)?;
     let mut made = Vec::with_capacity(alloc, usize::from(seats))?;
-    let Ok((words, mut first)) = Running::new(alloc, numbers.as_slice(), slots, &settings) else {
+    let Ok((words, mut first)) = Running::new(alloc, numbers.as_slice(), slots, settings) else {
         return Err(NoMemory);
     };
     for number in 1..seats {
@@ -125,7 +125,7 @@ fn make(alloc: Global, settings: Settings) -> Result<(SemaTable, Vec<Seat>), NoM
         made.push_reserved(new_seat(token, number, limit));
     }
     let Ok(()) = made.insert(0, new_seat(first, 0, limit)) else {
-        return Err(NoMemory);
+        unreachable!()
     };
     let table = SemaTable {
         words,
@@ -146,7 +146,7 @@ impl SemaTable {
         ensures err { IfErr result (λ refused. IsRefused settings refused) }
     {
         check(&settings)?;
-        match make(alloc, settings) {
+        match make(alloc, &settings) {
             Ok(made) => Ok(made),
             Err(NoMemory) => Err(SetupError::NoMemory),
         }

@@ -1,9 +1,11 @@
 //! Sleeping until a grant.
-ghost use Rattle.std.specs.Prelude.{◌≡◌};
+ghost use Rattle.std.specs.Prelude.{◌≡◌, ◌<◌};
 ghost use Rattle.sema_table.specs.Whole.{IsRoused};
 ghost use Rattle.sema_table.specs.Callers.{SleepsUntilRoused};
+ghost use Rattle.sema_table.specs.Walks.{IsSame};
 
 use crate::answers::{Polled, Roused};
+use crate::rows::Token;
 use crate::seat::Sleeping;
 use crate::sema_table::SemaTable;
 use running_rows::{GivesWay, Patience};
@@ -32,12 +34,7 @@ impl SemaTable {
                 call,
                 turn,
             } = sleeping;
-            let seat = numbers.id().number();
-            let word = self.grant_word(seat);
-            let asleep = self.asleep_word(seat);
-            let misses = self.misses_word(seat);
-            self.words
-                .await_grant(rt, &mut token, word, asleep, misses, &PATIENCE);
+            self.await_grant(rt, &mut token, numbers.id().number());
             let awake = Sleeping {
                 token,
                 numbers,
@@ -51,5 +48,19 @@ impl SemaTable {
             }
         }
         unreachable!()
+    }
+
+    /// Returns once something is granted to the seat, and perhaps before.
+    #[tactic(auto, using(crate::proofs::Owned::aside_in))]
+    fn await_grant<R: Wait>(&self, rt: &R, token: &mut Token, seat: u16)
+        requires own { token.old.table_id ≡ self.now.id }
+        requires there { seat < self.now.setting.seats }
+        ensures { IsSame token.old token.new }
+    {
+        let word = self.grant_word(seat);
+        let asleep = self.asleep_word(seat);
+        let misses = self.misses_word(seat);
+        self.words
+            .await_grant(rt, token, word, asleep, misses, &PATIENCE);
     }
 }

@@ -1,7 +1,7 @@
 //! What the calls of a table for tasks answer.
 
 /// Why a call of a task did nothing, by number. The seat is as it was.
-#[derive(Clone, Copy, Debug, PartialEq, Eq, Drop)]
+#[derive(Clone, Copy, Debug, Drop)]
 pub enum TaskRefused {
     /// The seat stands in the middle of another call, or in the middle of none.
     OtherCall = 1,
@@ -16,7 +16,7 @@ pub enum TaskRefused {
 }
 
 /// What adding units came to.
-#[derive(Clone, Copy, Debug, PartialEq, Eq, Drop)]
+#[derive(Clone, Copy, Drop)]
 pub enum TaskPosted {
     /// The waiter word of the counter's root read 0: there is nobody to wake.
     Done,
@@ -25,7 +25,7 @@ pub enum TaskPosted {
 }
 
 /// What an acquire came to that went to the lock.
-#[derive(Clone, Copy, Debug, PartialEq, Eq, Drop)]
+#[derive(Clone, Copy, Drop)]
 pub enum TaskEntered {
     /// A unit was taken under the lock.
     Taken,
@@ -34,7 +34,7 @@ pub enum TaskEntered {
 }
 
 /// What a look at a grant came to.
-#[derive(Clone, Copy, Debug, PartialEq, Eq, Drop)]
+#[derive(Clone, Copy, Drop)]
 pub enum TaskPolled {
     /// Nothing was granted.
     Still,
@@ -45,7 +45,7 @@ pub enum TaskPolled {
 }
 
 /// What the try of a seat came to that was woken.
-#[derive(Clone, Copy, Debug, PartialEq, Eq, Drop)]
+#[derive(Clone, Copy, Drop)]
 pub enum TaskRetried {
     /// A unit was taken.
     Taken,

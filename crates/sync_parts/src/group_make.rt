@@ -93,7 +93,7 @@ fn seat_all(
         sema: own,
     };
     let Ok(()) = made.insert(0, seat) else {
-        return Err(AllocError);
+        unreachable!()
     };
     Ok(made)
 }

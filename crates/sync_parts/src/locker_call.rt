@@ -1,7 +1,7 @@
 //! The calls of a locker.
 
 /// A call that was made of a [`Locker`](crate::Locker).
-#[derive(Clone, Copy, Debug, PartialEq, Eq, Drop)]
+#[derive(Clone, Copy, PartialEq, Eq, Drop)]
 pub enum LockerCall {
     /// It was locked.
     Locked,

@@ -1,38 +1,27 @@
-use Rattle.std.proofs.Common.{arith, ap, ◌∙◌, subst}
+use Rattle.std.proofs.Common.{ap, ◌∙◌, subst}
 use Rattle.sema_table.specs.declared.answers.Polled.TheVariants.{Still, Woken, Handed}
 use Rattle.sema_table.specs.Seats.{TableModel, SeatModel}
 use Rattle.sema_table.specs.Waking.{IsPolled}
-use Rattle.sema_table.proofs.Owned.{own, aside_in}
 use Rattle.sema_table.proofs.Rousing.{look_more, roused_woken, roused_handed, same_seat}
 use Rattle.sema_table.specs.declared.answers.Roused.TheVariants as roused
 use Rattle.sema_table.proofs.CallerPolls.{sleeps}
 use Rattle.sema_table.proofs.sema_table.SemaTable.sleep.Goals as goal
 
-pub await_grant-requires : goal.await_grant-requires
-await_grant-requires g c =
-    let s = c.sleeping.inside.token in let n = c.sleeping.inside.numbers in let seat = c.sleeping.invariant in
-    let words = ap (λ (t : TableModel). t.id.words) c.self.view_is in let low = c.grant_word-word.ensures.low in
-    let asleep = aside_in c.self.inside _ c.self.view_is c.asleep_word-asleep.ensures.at c.asleep_word-asleep.ensures.low in
-    let misses = aside_in c.self.inside _ c.self.view_is c.misses_word-misses.ensures.at c.misses_word-misses.ensures.low in (
-      omega arith,
-      (
-        ap (λ (t : TableModel). t.id) (own c.self.inside s n c.self.view_is c.sleeping.view_is
-            (ap (λ (q : SeatModel). q.table) c.loop.invariant.same ∙ c.requires)),
-        ((omega arith, asleep.0, misses.0), (tt, (asleep.1, misses.1))),
-      ),
-    )
+pub await_grant-requires-clause-own : goal.await_grant-requires-clause-own
+await_grant-requires-clause-own g c =
+    ap (λ (q : SeatModel). q.table.id) (c.sleeping.view_is ∙ c.loop.invariant.same) ∙ ap (λ (t : TableModel). t.id) c.requires
 
 pub loop-preserved : goal.loop-preserved
 loop-preserved g c =
     let awake = same_seat c.sleeping.inside.token c.await_grant.new.token c.sleeping.inside.numbers
-    (c.await_grant.ensures.same.0, c.await_grant.ensures.same.1) ∙ c.sleeping.view_is in
+    c.await_grant.ensures ∙ c.sleeping.view_is in
     look_more c.args.sleeping c.loop.sleeping c.in-Still.still c.loop.invariant
     (subst (λ (q : SeatModel). IsPolled q (Still c.in-Still.still)) awake c.in-Still.ensures.rows)
 
 pub returns-in-Woken-clause-rows : goal.returns-in-Woken-clause-rows
 returns-in-Woken-clause-rows g c =
     let awake = same_seat c.sleeping.inside.token c.await_grant.new.token c.sleeping.inside.numbers
-    (c.await_grant.ensures.same.0, c.await_grant.ensures.same.1) ∙ c.sleeping.view_is in
+    c.await_grant.ensures ∙ c.sleeping.view_is in
     roused_woken c.args.sleeping c.loop.sleeping c.in-Woken.woken c.loop.invariant
     (subst (λ (q : SeatModel). IsPolled q (Woken c.in-Woken.woken)) awake c.in-Woken.ensures.rows)
 
@@ -42,7 +31,7 @@ returns-in-Woken-clause-caller g c = sleeps c.args.sleeping (roused.Woken c.in-W
 pub returns-in-Handed-clause-rows : goal.returns-in-Handed-clause-rows
 returns-in-Handed-clause-rows g c =
     let awake = same_seat c.sleeping.inside.token c.await_grant.new.token c.sleeping.inside.numbers
-    (c.await_grant.ensures.same.0, c.await_grant.ensures.same.1) ∙ c.sleeping.view_is in
+    c.await_grant.ensures ∙ c.sleeping.view_is in
     roused_handed c.args.sleeping c.loop.sleeping c.in-Handed.seat c.loop.invariant
     (subst (λ (q : SeatModel). IsPolled q (Handed c.in-Handed.seat)) awake c.in-Handed.ensures.rows)
 
