@@ -28,7 +28,7 @@ _parklot_options() {
 _parklot() {
     local word=${COMP_WORDS[COMP_CWORD]} before=${COMP_WORDS[COMP_CWORD - 1]} words
     if [ "$COMP_CWORD" -eq 1 ]; then
-        words="check explore replay try retrace judge once threads format help --help --version"
+        words="check explore replay try retrace judge once threads format help --help --version prove unproved released"
     elif [[ $before == --schedule-of || $before == --scenario ]]; then
         words=
     else

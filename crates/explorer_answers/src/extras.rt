@@ -1,5 +1,5 @@
 /// What a search tells beyond what it found.
-#[derive(Clone, Copy, Debug, PartialEq, Eq)]
+#[derive(Clone, Copy, Debug)]
 pub struct Extras {
     /// Behind the answer, the replay of the schedule that it found, drawn as a table.
     pub drawn: bool,

@@ -13,7 +13,7 @@ const DIGITS: usize = 10;
 const TICKET_DIGITS: usize = 20;
 
 /// What is wrong with a line or a call that has no form, of which this much is shown.
-#[derive(Clone, Copy, Debug)]
+#[derive(Clone, Copy)]
 pub(crate) enum Formless<'t> {
     /// No line is spelled so.
     NoLine(&'t str),

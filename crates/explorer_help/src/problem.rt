@@ -11,7 +11,7 @@ use std::alloc::{AllocError, Global};
 use std::fmt;
 
 /// What is wrong with a line, of which this much is shown.
-#[derive(Clone, Copy, Debug)]
+#[derive(Clone, Copy)]
 pub(crate) enum Problem<'t> {
     /// No line feed ends it.
     NoLineFeed(&'t str),

@@ -7,7 +7,7 @@ use sema_table::{Tried, Wake};
 use std::fmt;
 
 /// What seat 1's release answered, made while seat 0 slept.
-#[derive(Clone, Copy, Debug, PartialEq, Eq, Drop)]
+#[derive(Clone, Copy, Drop)]
 pub enum Released {
     /// The post found nobody who waits, and the release has ended.
     Done,
@@ -16,7 +16,7 @@ pub enum Released {
 }
 
 /// What seat 0's retry answered, made once its wait was woken.
-#[derive(Clone, Copy, Debug, PartialEq, Eq, Drop)]
+#[derive(Clone, Copy, Drop)]
 pub enum Retried {
     /// The seat has its unit.
     Taken,
@@ -25,7 +25,7 @@ pub enum Retried {
 }
 
 /// What the calls of `parklot once` answered, up to the one after which there was nothing more to call.
-#[derive(Clone, Copy, Debug, PartialEq, Eq, Drop)]
+#[derive(Clone, Copy, Drop)]
 pub enum OnceAnswers {
     /// Seat 0's try didn't find 0, and answered this.
     Tried(Tried),

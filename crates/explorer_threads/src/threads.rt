@@ -21,7 +21,7 @@ pub const MAX_WORKERS: u32 = 64;
 pub const MAX_ROUNDS: u32 = 1_000_000;
 
 /// Why `run_threads` has closed no table, by number.
-#[derive(Clone, Copy, Debug, PartialEq, Eq, Drop)]
+#[derive(Clone, Copy, Debug, Drop)]
 pub enum ThreadsRefused {
     /// There are not 1 to 64 workers and 1 to 1,000,000 rounds. Nothing was begun.
     OutOfLimits = 1,

@@ -7,7 +7,7 @@ use std::fmt;
 use std::io::{self, ErrorKind};
 
 /// Why a file can't be read.
-#[derive(Clone, Copy, Debug, PartialEq, Eq, Drop)]
+#[derive(Clone, Copy, Debug, Drop)]
 pub enum FileFault {
     /// There is none of this name.
     Missing,

@@ -17,7 +17,7 @@ pub struct Demands {
 }
 
 /// What is said of a journal, by what is asked of it.
-#[derive(Clone, Copy, Debug, PartialEq, Eq, Drop)]
+#[derive(Clone, Copy, Drop)]
 pub enum Judgement {
     /// It is all that is asked.
     Lawful,

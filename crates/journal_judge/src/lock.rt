@@ -28,7 +28,7 @@ impl LockUse {
 }
 
 /// The first line that breaks a rule of a lock, and the rule.
-#[derive(Clone, Copy, Debug, PartialEq, Eq, Drop)]
+#[derive(Clone, Copy, Drop)]
 pub struct Breach {
     /// The line's number, head lines counted.
     pub line: usize,

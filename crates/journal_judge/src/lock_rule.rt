@@ -5,7 +5,7 @@ use std::fmt;
 
 /// What an entry of a lock may break: of a counter whose unit one seat takes and brings back, and then the
 /// next.
-#[derive(Clone, Copy, Debug, PartialEq, Eq, Drop)]
+#[derive(Clone, Copy, Drop)]
 pub enum LockRule {
     /// A unit is added, and no seat holds the lock.
     NotHeld,

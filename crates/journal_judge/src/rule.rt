@@ -4,7 +4,7 @@ ghost use Rattle.journal_judge.specs.Texts.{rule_text};
 use std::fmt;
 
 /// What an entry may break, in the order in which it is told.
-#[derive(Clone, Copy, Debug, PartialEq, Eq, Drop)]
+#[derive(Clone, Copy, Drop)]
 pub enum Rule {
     /// A unit is taken where there is none.
     NoUnit,

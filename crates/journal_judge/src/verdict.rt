@@ -5,7 +5,7 @@ use crate::rule::Rule;
 use std::fmt;
 
 /// What is said of a journal.
-#[derive(Clone, Copy, Debug, PartialEq, Eq, Drop)]
+#[derive(Clone, Copy, Drop)]
 pub enum Verdict {
     /// It is lawful.
     Lawful,

@@ -42,15 +42,15 @@ impl Journal {
     {
         match line {
             Line::Counter { start } => {
-                self.starts.push_back(start)?;
                 self.heads += 1;
+                self.starts.push_back(start)
             }
             Line::List { .. } => {
                 self.lists += 1;
                 self.heads += 1;
+                Ok(())
             }
-            Line::Entry(entry) => self.entries.push_back(entry)?,
+            Line::Entry(entry) => self.entries.push_back(entry),
         }
-        Ok(())
     }
 }

@@ -6,7 +6,7 @@ use std::error::Error;
 use std::fmt;
 
 /// Why a text makes no journal.
-#[derive(Clone, Copy, Debug, PartialEq, Eq, Drop)]
+#[derive(Clone, Copy, Debug, Drop)]
 pub enum JournalFault {
     /// The first line, counted from 1, that is spelled as no line, names what isn't declared, or is a head
     /// line behind an entry.

@@ -4,7 +4,7 @@ use crate::operand::{Operand, Place, Share};
 use lock_lines::{Operator, Relation};
 
 /// What one line does: registers, lists, sections and the lines that are jumped to are numbers.
-#[derive(Clone, Copy, Debug, Drop)]
+#[derive(Clone, Copy, Drop)]
 pub enum Instruction {
     /// The register is the word.
     Load(Place, usize),

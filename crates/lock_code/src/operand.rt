@@ -1,7 +1,7 @@
 //! What instructions read and write.
 
 /// What stands for a number while a seat runs.
-#[derive(Clone, Copy, Debug, PartialEq, Eq, Drop)]
+#[derive(Clone, Copy, Drop)]
 pub enum Operand {
     /// The number itself.
     Number(i64),
@@ -12,7 +12,7 @@ pub enum Operand {
 }
 
 /// A word or a counter.
-#[derive(Clone, Copy, Debug, PartialEq, Eq, Drop)]
+#[derive(Clone, Copy, Drop)]
 pub enum Place {
     /// The one of this number.
     Single(usize),
@@ -21,7 +21,7 @@ pub enum Place {
 }
 
 /// How many units a release adds, and whether it hands its unit over.
-#[derive(Clone, Copy, Debug, PartialEq, Eq, Drop)]
+#[derive(Clone, Copy, Drop)]
 pub enum Share {
     /// One unit is released.
     One,

@@ -5,7 +5,7 @@ use lock_lines::Relation;
 use step_table::Items;
 
 /// A line of a program, and where the text has it.
-#[derive(Debug, Drop)]
+#[derive(Drop)]
 pub struct CodeLine {
     /// The number of its line in the text, from 1 on.
     pub line: usize,
@@ -16,7 +16,7 @@ pub struct CodeLine {
 }
 
 /// What must hold.
-#[derive(Clone, Copy, Debug, PartialEq, Eq, Drop)]
+#[derive(Clone, Copy, Drop)]
 pub enum Property {
     /// At most so many seats are in the section.
     Most(usize, u64),
@@ -29,7 +29,7 @@ pub enum Property {
 }
 
 /// What must hold, and where the text asks for it.
-#[derive(Clone, Copy, Debug, PartialEq, Eq, Drop)]
+#[derive(Clone, Copy, Drop)]
 pub struct Asked {
     /// The number of its line in the text, from 1 on.
     pub line: usize,
@@ -38,7 +38,7 @@ pub struct Asked {
 }
 
 /// What seats share, what they run, and what must hold.
-#[derive(Debug, Drop)]
+#[derive(Drop)]
 pub struct Program {
     /// What each word starts at.
     pub words: Items<i64>,

@@ -5,7 +5,7 @@ use lock_lines::{Operator, Relation};
 use step_table::Items;
 
 /// How many units a release adds, and whether it hands its unit over.
-#[derive(Debug, Drop)]
+#[derive(Drop)]
 pub enum Share<'t> {
     /// One unit is released.
     One,
@@ -16,7 +16,7 @@ pub enum Share<'t> {
 }
 
 /// A line.
-#[derive(Debug, Drop)]
+#[derive(Drop)]
 pub enum Line<'t> {
     /// It says nothing.
     Blank,

@@ -5,7 +5,7 @@ ghost use Rattle.std.specs.Prelude.{◌≡◌, ℕ, List};
 use std::marker::Model;
 
 /// A name, as the text has it.
-#[derive(Debug, Drop)]
+#[derive(Drop)]
 pub struct Name<'t> {
     text: &'t str,
 }
@@ -33,7 +33,7 @@ impl<'t> Name<'t> {
 }
 
 /// A number, as the text spells it: it may be outside its range.
-#[derive(Clone, Copy, Debug, PartialEq, Eq, Drop)]
+#[derive(Clone, Copy, Drop)]
 pub enum Number {
     /// A number from 0 on.
     Plus(u128),
@@ -42,7 +42,7 @@ pub enum Number {
 }
 
 /// What stands for a number.
-#[derive(Debug, Drop)]
+#[derive(Drop)]
 pub enum Operand<'t> {
     /// The number itself.
     Number(Number),
@@ -53,7 +53,7 @@ pub enum Operand<'t> {
 }
 
 /// What is read and written: a word, a counter, or one of an array.
-#[derive(Debug, Drop)]
+#[derive(Drop)]
 pub struct Place<'t> {
     /// Its name.
     pub name: Name<'t>,

@@ -1,5 +1,5 @@
 /// How a number is made of two, modulo 2^64.
-#[derive(Clone, Copy, Debug, PartialEq, Eq, Drop)]
+#[derive(Clone, Copy, Drop)]
 pub enum Operator {
     /// The sum.
     Plus,

@@ -1,5 +1,5 @@
 /// How two signed numbers are compared.
-#[derive(Clone, Copy, Debug, PartialEq, Eq, Drop)]
+#[derive(Clone, Copy, Drop)]
 pub enum Relation {
     /// The numbers are equal.
     Equal,

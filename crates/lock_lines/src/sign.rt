@@ -9,51 +9,29 @@ use crate::relation::Relation;
 pub fn read_relation(word: &str) -> Option<Relation>
     ensures { IsRelationRead word.now result }
 {
-    if word == "==" {
-        return Some(Relation::Equal);
+    match word {
+        "==" => Some(Relation::Equal),
+        "!=" => Some(Relation::Unequal),
+        "<" => Some(Relation::Less),
+        "<=" => Some(Relation::AtMost),
+        ">" => Some(Relation::Greater),
+        ">=" => Some(Relation::AtLeast),
+        _ => None,
     }
-    if word == "!=" {
-        return Some(Relation::Unequal);
-    }
-    if word == "<" {
-        return Some(Relation::Less);
-    }
-    if word == "<=" {
-        return Some(Relation::AtMost);
-    }
-    if word == ">" {
-        return Some(Relation::Greater);
-    }
-    if word == ">=" {
-        return Some(Relation::AtLeast);
-    }
-    None
 }
 
 /// The operator whose sign the word is.
 pub fn read_operator(word: &str) -> Option<Operator>
     ensures { IsOperatorRead word.now result }
 {
-    if word == "+" {
-        return Some(Operator::Plus);
+    match word {
+        "+" => Some(Operator::Plus),
+        "-" => Some(Operator::Minus),
+        "&" => Some(Operator::And),
+        "|" => Some(Operator::Or),
+        "^" => Some(Operator::ExclusiveOr),
+        "<<" => Some(Operator::ShiftLeft),
+        ">>" => Some(Operator::ShiftRight),
+        _ => None,
     }
-    if word == "-" {
-        return Some(Operator::Minus);
-    }
-    if word == "&" {
-        return Some(Operator::And);
-    }
-    if word == "|" {
-        return Some(Operator::Or);
-    }
-    if word == "^" {
-        return Some(Operator::ExclusiveOr);
-    }
-    if word == "<<" {
-        return Some(Operator::ShiftLeft);
-    }
-    if word == ">>" {
-        return Some(Operator::ShiftRight);
-    }
-    None
 }

@@ -5,6 +5,7 @@ use Rattle.std.specs.Option.{unwrap_or}
 use Rattle.std.proofs.lemmas.List.{length-replicate}
 use Rattle.std.proofs.lemmas.List.Elements.{All-nil, All-push}
 use Rattle.std.proofs.lemmas.List.Sums.{sum_by-append}
+use Rattle.lock_statements.specs.declared.statement.Statement.{Statement}
 use Rattle.lock_statements.specs.declared.statement.Written.{Written}
 use Rattle.lock_program.specs.declared.stage.Stage.{Stage}
 use Rattle.lock_program.specs.declared.stage.Stage.TheVariants as stage
@@ -153,3 +154,10 @@ fits_stage d behind k = record {
 pub fits_result : {A E : Type 0} (d e : Draft) (r : Result A E) → IsFitting d → OnOk r (e ≡ closed d) → OnOk r (IsFitting e)
 fits_result d e (Ok a) k h = subst IsFitting (sym h) (fits_closed d k)
 fits_result d e (Err c) k h = tt
+
+pub fits_stated : {A E : Type 0} (d : Draft) (line : ℕ) (s : Statement) (body : List Written) (r : Result A E) → IsFitting d
+    → FitsMeant d (meant.Statement s) → OnOk r (body ≡ d.body ++ (record { line = line; statement = s } ∷ []))
+    → OnOk r (IsFitting (record d { body = body }))
+fits_stated d line s body (Ok a) k h e =
+    subst (λ (b : List Written). IsFitting (record d { body = b })) (sym e) (fits_with d line (meant.Statement s) k h)
+fits_stated d line s body (Err c) k h e = tt

@@ -6,6 +6,7 @@ use Rattle.lock_statements.specs.declared.cause.Cause.TheVariants.{Place, TooMan
 use Rattle.lock_program.specs.declared.meant.Meant.{Meant}
 use Rattle.lock_program.specs.declared.draft.Draft.{Draft}
 use Rattle.lock_program.specs.declared.stage.Stage.{Stage}
+use Rattle.lock_program.specs.declared.stage.LineKind.{LineKind}
 use Rattle.lock_statements.specs.Causes.{map_ok, too_if}
 use Rattle.lock_program.specs.Places.{kind_of, may_stand, stage_after}
 use Rattle.lock_program.specs.Limits.{is_too_many, is_again}
@@ -32,13 +33,17 @@ told_room d line m k e =
     let again = too_none (is_again d line) Twice (meant_of d.names (length d.codes) line) m over.1 in
     room_closed d.stage d line m k.few_words k.few_counters k.short over.0 again.1
 
-pub taken : (d e f : Draft) (n : ℕ) (line : Line) (m : Meant) (behind : Stage)
-    → may_stand d.stage (kind_of line) ≡ true → told d line ≡ Ok m
-    → e ≡ closed_by d.stage (kind_of line) d → f ≡ with_meant e n m → behind ≡ stage_after d.stage (kind_of line)
-    → Ok (at_stage f behind) ≡ next d n line
-taken d e f n line m behind stands means closing adding after =
-    let added : f ≡ with_meant (closed_by d.stage (kind_of line) d) n m = adding ∙ ap (λ (g : Draft). with_meant g n m) closing in
-    let made : at_stage f behind ≡ made_of d n (kind_of line) m = (λ i. at_stage (added i) (after i)) in
+pub made : (d e f : Draft) (n : ℕ) (k : LineKind) (m : Meant) (behind : Stage)
+    → e ≡ closed_by d.stage k d → f ≡ with_meant e n m → behind ≡ stage_after d.stage k
+    → at_stage f behind ≡ made_of d n k m
+made d e f n k m behind closing adding after =
+    let added : f ≡ with_meant (closed_by d.stage k d) n m = adding ∙ ap (λ (g : Draft). with_meant g n m) closing in
+    (λ i. at_stage (added i) (after i))
+
+pub taken : (d f : Draft) (n : ℕ) (line : Line) (m : Meant)
+    → may_stand d.stage (kind_of line) ≡ true → told d line ≡ Ok m → f ≡ made_of d n (kind_of line) m
+    → Ok f ≡ next d n line
+taken d f n line m stands means making =
     let by : Result Meant Cause → Result Draft Cause = map_ok (λ (k : Meant). made_of d n (kind_of line) k) in
-    let mapped : Ok (at_stage f behind) ≡ by (told d line) = (λ i. Ok (made i)) ∙ sym (ap by means) in
+    let mapped : Ok f ≡ by (told d line) = (λ i. Ok (making i)) ∙ sym (ap by means) in
     mapped ∙ sym (ap (λ (b : Bool). cond b (by (told d line)) (Err Place)) stands)

@@ -1,10 +1,12 @@
 //! What the lines that were read so far declare and say.
 
-ghost use Rattle.std.specs.Prelude.{◌≡◌, [], ◌++◌, replicate, OnOk};
+ghost use Rattle.std.specs.Prelude.{◌≡◌, [], ◌++◌, replicate, length, Ok, Err, IfErr, OnOk};
 ghost use Rattle.lock_program.specs.Drafts as drafts;
 ghost use Rattle.lock_program.specs.Answers.{AnswersTo, Finishes};
 ghost use Rattle.lock_program.specs.Fitting.{IsFitting, FitsMeant};
-ghost use Rattle.lock_statements.specs.Causes.{map_ok};
+ghost use Rattle.lock_program.specs.Limits as limits;
+ghost use Rattle.lock_program.specs.Meanings as meanings;
+ghost use Rattle.lock_statements.specs.Causes.{map_ok, too_if};
 
 use crate::fault::ReadFault;
 use crate::limits::{is_again, is_too_many};
@@ -142,28 +144,61 @@ impl<'t> Draft<'t> {
         ensures fitting { OnOk result (IsFitting self.new) }
     {
         match meant {
-            Meant::Nothing => {}
-            Meant::Constant(name, value) => {
-                self.names.constants.push_back(Constant { name, value })?;
-            }
+            Meant::Nothing => Ok(()),
+            Meant::Constant(name, value) => self
+                .names
+                .constants
+                .push_back(Constant { name, value }),
             Meant::Words(name, length, start) => {
                 let cells = cells(name, self.words.len(), length);
                 self.names.words.push_back(cells)?;
-                push_times(&mut self.words, length.unwrap_or(1), start)?;
+                push_times(&mut self.words, length.unwrap_or(1), start)
             }
             Meant::Counters(name, length, start) => {
                 let cells = cells(name, self.counters.len(), length);
                 self.names.counters.push_back(cells)?;
-                push_times(&mut self.counters, length.unwrap_or(1), start)?;
+                push_times(&mut self.counters, length.unwrap_or(1), start)
             }
-            Meant::List(name) => self.names.lists.push_back(name)?,
-            Meant::Registers(names) => push_names(&mut self.names.registers, names)?,
-            Meant::Section(name) => self.names.sections.push_back(name)?,
-            Meant::Program(name) => self.names.programs.push_back(name)?,
-            Meant::Seats(count, program) => push_times(&mut self.seats, count, program)?,
-            Meant::Property(property) => self.properties.push_back(Asked { line, property })?,
-            Meant::Statement(statement) => self.body.push_back(Written { line, statement })?,
+            Meant::List(name) => self.names.lists.push_back(name),
+            Meant::Registers(names) => push_names(&mut self.names.registers, names),
+            Meant::Section(name) => self.names.sections.push_back(name),
+            Meant::Program(name) => self.names.programs.push_back(name),
+            Meant::Seats(count, program) => push_times(&mut self.seats, count, program),
+            Meant::Property(property) => self.properties.push_back(Asked { line, property }),
+            Meant::Statement(statement) => self.body.push_back(Written { line, statement }),
         }
+    }
+
+    /// What the line means, or the least of what is wrong with it where it may stand.
+    fn meaning(&self, line: Line<'t>) -> Result<Meant<'t>, Cause>
+        requires { IsFitting self.now }
+        ensures { result ≡ too_if (limits.is_too_many self.now line.entry) Cause.TooMany
+            (too_if (limits.is_again self.now line.entry) Cause.Twice
+            (meanings.meant_of self.now.names (length self.now.codes) line.entry)) }
+    {
+        let over = is_too_many(self, &line);
+        let again = is_again(self, &line);
+        let meant = meant_of(&self.names, self.codes.len(), line);
+        too_if(over, Cause::TooMany, too_if(again, Cause::Twice, meant))
+    }
+
+    /// Takes what the line of this number and kind means.
+    fn take_meant(
+        &mut self,
+        alloc: Global,
+        number: usize,
+        kind: LineKind,
+        meant: Meant<'t>,
+    ) -> Result<(), AllocError>
+        requires fitting { IsFitting self.old }
+        requires room { FitsMeant (drafts.closed_by self.old.stage kind self.old) meant }
+        ensures made { OnOk result (self.new ≡ drafts.made_of self.old number kind meant.entry) }
+        ensures fitting { OnOk result (IsFitting self.new) }
+    {
+        let stage = self.stage;
+        self.close_by(alloc, kind)?;
+        self.add(number, meant)?;
+        self.stage = kind.stage_after(stage);
         Ok(())
     }
 
@@ -175,28 +210,20 @@ impl<'t> Draft<'t> {
         ensures fitting { OnOk result (IsFitting self.new) }
     {
         let kind = LineKind::of(&line);
-        let stage = self.stage;
-        if !kind.may_stand(stage) {
+        if !kind.may_stand(self.stage) {
             return Err(Cause::Place);
         }
-        let over = is_too_many(self, &line);
-        let again = is_again(self, &line);
-        let meant = meant_of(&self.names, self.codes.len(), line);
-        let meant = too_if(over, Cause::TooMany, too_if(again, Cause::Twice, meant))?;
-        self.close_by(alloc, kind)?;
-        self.add(number, meant)?;
-        self.stage = kind.stage_after(stage);
+        let meant = self.meaning(line)?;
+        self.take_meant(alloc, number, kind, meant)?;
         Ok(())
     }
 
-    /// What the lines say together, behind the last of which the line of this number would be.
-    pub(crate) fn finished(
-        mut self,
-        alloc: Global,
-        number: usize,
-    ) -> Result<NamedProgram<'t>, ReadFault>
-        requires { IsFitting self }
-        ensures { Finishes self.entry number result }
+    /// The lines have ended, behind the last of which the line of this number would be. Tells what is wrong
+    /// with them together.
+    fn end(&mut self, alloc: Global, number: usize) -> Result<(), ReadFault>
+        requires { IsFitting self.old }
+        ensures said { OnOk result (drafts.finished self.old number ≡ Ok (drafts.program_said self.new)) }
+        ensures fault { IfErr result (λ fault. Finishes self.old number (Err fault)) }
     {
         if self.close_by(alloc, LineKind::Seats).is_err() {
             return Err(ReadFault {
@@ -216,7 +243,22 @@ impl<'t> Draft<'t> {
                 cause: Cause::End,
             });
         }
-        Ok(self.said())
+        Ok(())
+    }
+
+    /// What the lines say together, behind the last of which the line of this number would be.
+    pub(crate) fn finished(
+        mut self,
+        alloc: Global,
+        number: usize,
+    ) -> Result<NamedProgram<'t>, ReadFault>
+        requires { IsFitting self }
+        ensures { Finishes self.entry number result }
+    {
+        match self.end(alloc, number) {
+            Ok(()) => Ok(self.said()),
+            Err(fault) => Err(fault),
+        }
     }
 
     /// What the lines say together.

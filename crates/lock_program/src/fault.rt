@@ -8,7 +8,7 @@ use std::error::Error;
 use std::fmt;
 
 /// The first faulty line, counted from 1, and what is wrong with it.
-#[derive(Clone, Copy, Debug, PartialEq, Eq, Drop)]
+#[derive(Clone, Copy, Debug, Drop)]
 pub struct ReadFault {
     /// The line's number. Behind the last line it is the number of lines and 1.
     pub line: usize,

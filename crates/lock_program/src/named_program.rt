@@ -4,7 +4,7 @@ use lock_code::Program;
 use lock_statements::Names;
 
 /// A lock program and the names of its parts.
-#[derive(Debug, Drop)]
+#[derive(Drop)]
 pub struct NamedProgram<'t> {
     /// The names.
     pub names: Names<'t>,

@@ -10,7 +10,7 @@ use lock_text::Name;
 use step_table::Items;
 
 /// A constant.
-#[derive(Debug, Drop)]
+#[derive(Drop)]
 pub struct Constant<'t> {
     /// Its name.
     pub name: Name<'t>,
@@ -19,7 +19,7 @@ pub struct Constant<'t> {
 }
 
 /// Which words or counters one name stands for.
-#[derive(Clone, Copy, Debug, PartialEq, Eq, Drop)]
+#[derive(Clone, Copy, Drop)]
 pub struct Extent {
     /// The number of the one, or of an array's first member.
     pub first: usize,
@@ -28,7 +28,7 @@ pub struct Extent {
 }
 
 /// A word or a counter, or an array of them.
-#[derive(Debug, Drop)]
+#[derive(Drop)]
 pub struct Cells<'t> {
     /// Its name.
     pub name: Name<'t>,
@@ -37,7 +37,7 @@ pub struct Cells<'t> {
 }
 
 /// All names but labels. Those of one kind are numbered in the order in which they are declared.
-#[derive(Debug, Drop)]
+#[derive(Drop)]
 pub struct Names<'t> {
     /// The constants.
     pub constants: Items<Constant<'t>>,

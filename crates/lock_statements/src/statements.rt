@@ -1,6 +1,7 @@
 //! What the lines of a program say.
 
 ghost use Rattle.std.specs.Prelude.{◌≡◌};
+ghost use Rattle.lock_statements.specs.Causes.{map_ok};
 ghost use Rattle.lock_statements.specs.Statements as statements;
 
 use crate::cause::Cause;
@@ -9,6 +10,7 @@ use crate::parts::{counter_of, operand_of, result_of, share_of, word_of};
 use crate::results::both;
 use crate::statement::Statement;
 use lock_code::{Instruction, Operand, Place};
+use lock_lines::Relation;
 use lock_text::{Line, Name, Operand as TextOperand, Place as TextPlace};
 
 /// A place and an operand, and a register that may be left out.
@@ -151,6 +153,21 @@ fn seat_line<'t>(names: &Names<'t>, line: &Line<'t>) -> Result<Instruction, Caus
     }
 }
 
+/// A jump to the label, if this holds.
+fn jump_of<'t>(
+    names: &Names<'t>,
+    first: &TextOperand<'t>,
+    relation: Relation,
+    second: &TextOperand<'t>,
+    label: Name<'t>,
+) -> Result<Statement<'t>, Cause>
+    ensures { result ≡ map_ok (λ x. Statement.If x.0 relation x.1 label.entry)
+        (statements.two_of names.now first.now second.now) }
+{
+    let (first, second) = two_of(names, first, second)?;
+    Ok(Statement::If(first, relation, second, label))
+}
+
 /// What a line of a program says, where so many programs have ended.
 pub fn statement_of<'t>(
     names: &Names<'t>,
@@ -161,15 +178,14 @@ pub fn statement_of<'t>(
 {
     match line {
         Line::If(first, relation, second, label) => {
-            let (first, second) = two_of(names, &first, &second)?;
-            Ok(Statement::If(first, relation, second, label))
+            jump_of(names, &first, relation, &second, label)
         }
         Line::Goto(label) => Ok(Statement::Goto(label)),
         Line::Label(label) => Ok(Statement::Label(label)),
-        Line::Do(program) => {
-            let program = done_of(names, ended, &program)?;
-            Ok(Statement::Do(program))
-        }
+        Line::Do(program) => match done_of(names, ended, &program) {
+            Ok(number) => Ok(Statement::Do(number)),
+            Err(cause) => Err(cause),
+        },
         Line::Return => Ok(Statement::Return),
         line => match access_line(names, &line) {
             Ok(instruction) => Ok(Statement::Plain(instruction)),

@@ -4,7 +4,7 @@ ghost use Rattle.lock_steps.specs.KindText.{kind_text};
 use std::fmt;
 
 /// How a world is bad: the numbers are those of lines of the text, from 1 on.
-#[derive(Clone, Copy, Debug, PartialEq, Eq, Drop)]
+#[derive(Clone, Copy, Drop)]
 pub enum Kind {
     /// A seat has failed at this line.
     Failed(usize),

@@ -17,7 +17,7 @@ pub enum Stand {
 }
 
 /// Who sleeps, and on which word.
-#[derive(Clone, Copy, PartialEq, Eq, Drop)]
+#[derive(Clone, Copy, Drop)]
 pub struct Sleeper {
     /// The seat.
     pub seat: SeatId,
@@ -26,7 +26,7 @@ pub struct Sleeper {
 }
 
 /// What comes after a row.
-#[derive(Clone, Copy, PartialEq, Eq, Drop)]
+#[derive(Clone, Copy, Drop)]
 pub enum Then {
     /// The seat goes on from the next line.
     OnFromNext,

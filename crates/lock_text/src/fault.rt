@@ -7,7 +7,7 @@ use std::error::Error;
 use std::fmt;
 
 /// What is wrong with a line, by number: the least that holds of the line is answered.
-#[derive(Clone, Copy, Debug, PartialEq, Eq, Drop)]
+#[derive(Clone, Copy, Debug, Drop)]
 pub enum Cause {
     /// No line feed ends it.
     Cut = 1,
@@ -33,7 +33,7 @@ impl fmt::Display for Cause {
 }
 
 /// The first faulty line, counted from 1, and what is wrong with it.
-#[derive(Clone, Copy, Debug, PartialEq, Eq, Drop)]
+#[derive(Clone, Copy, Debug, Drop)]
 pub struct ReadFault {
     /// The line's number.
     pub line: usize,

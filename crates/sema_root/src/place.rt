@@ -1,7 +1,7 @@
 use waiters::CounterId;
 
 /// Where the node of a counter stands in a treap: its ticket, and the two counters right below it.
-#[derive(Clone, Copy, Debug, PartialEq, Eq, Drop)]
+#[derive(Clone, Copy, Drop)]
 pub struct Place {
     pub ticket: u32,
     pub left: Option<CounterId>,

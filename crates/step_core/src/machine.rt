@@ -224,7 +224,6 @@ impl Machine {
         self.semaphores.write_key(parts.groups, key)?;
         self.write_lists(key)?;
         self.write_groups(key)?;
-        self.write_all_standing(key)?;
-        Ok(())
+        self.write_all_standing(key)
     }
 }

@@ -5,7 +5,7 @@ ghost use Rattle.step_law_alike.specs.Changed.{changed_list_place};
 use step_table::{AcquireRow, ListPlace, Place, WaitRow};
 
 /// A change of the step table, whose runs show what that row is for.
-#[derive(Clone, Copy, Debug, PartialEq, Eq, Drop)]
+#[derive(Clone, Copy, Debug, Drop)]
 pub enum Variant {
     /// An acquire that has raised the waiter word queues its wait without a second look at the counter.
     NoLook,

@@ -2,7 +2,7 @@ use crate::list_id::ListId;
 use waiters::{CounterId, SeatId, WaitId};
 
 /// What a step did to the counters and lists, as the journal tells it.
-#[derive(Clone, Copy, Debug, PartialEq, Eq, Drop)]
+#[derive(Clone, Copy, PartialEq, Eq, Drop)]
 pub enum Entry {
     /// A release by the seat added one unit.
     Add(CounterId, SeatId),

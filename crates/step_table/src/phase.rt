@@ -6,7 +6,7 @@ use crate::row::Row;
 use std::fmt;
 
 /// How far a seat has come.
-#[derive(Clone, Copy, Debug, PartialEq, Eq, Drop)]
+#[derive(Clone, Copy, PartialEq, Eq, Drop)]
 pub enum Phase {
     /// It stands before this row.
     At(Row),

@@ -4,7 +4,7 @@ ghost use Rattle.step_table.specs.RowTexts.{row_text};
 use std::fmt;
 
 /// A row of the step table, by its name.
-#[derive(Clone, Copy, Debug, PartialEq, Eq, Drop)]
+#[derive(Clone, Copy, PartialEq, Eq, Drop)]
 pub enum Row {
     A1,
     A2,

@@ -61,7 +61,7 @@ fn calls_of(alloc: Global, spelled: &[SpelledCall]) -> Result<Items<Call>, Alloc
 {
     let mut calls = Vec::with_capacity(alloc, spelled.len())?;
     for call in spelled {
-        calls.push(call_of(call))?;
+        calls.push_reserved(call_of(call));
     }
     Ok(Items::new(calls))
 }
@@ -97,10 +97,10 @@ impl Draft {
     {
         match line {
             Line::Roots(roots) => self.parts.roots = *roots as u32,
-            Line::Counter(start) => self.parts.starts.push_back(*start as u32)?,
-            Line::NotifyList(first) => self.parts.firsts.push_back(*first as u64)?,
+            Line::Counter(start) => return self.parts.starts.push_back(*start as u32),
+            Line::NotifyList(first) => return self.parts.firsts.push_back(*first as u64),
             Line::Group => self.parts.groups += 1,
-            Line::Seat(_, spelled) => self.parts.calls.push_back(calls_of(alloc, spelled)?)?,
+            Line::Seat(_, spelled) => return self.parts.calls.push_back(calls_of(alloc, spelled)?),
             Line::Settled => self.property = Some(Property::Settled),
             Line::Value(counter, number) => {
                 let counter = CounterId::new(*counter as u32);

@@ -20,8 +20,7 @@ pub fn judge<'t>(alloc: Global, bytes: &'t [u8], ended: bool) -> Result<Line<'t>
         return Err(Cause::Byte);
     };
     match read_line(alloc, text) {
+        Ok(read) => read.ok_or(Cause::Form),
         Err(_) => Err(Cause::NoMemory),
-        Ok(None) => Err(Cause::Form),
-        Ok(Some(line)) => Ok(line),
     }
 }

@@ -4,12 +4,12 @@ use Rattle.lock_statements.specs.Causes.{map_ok}
 use Rattle.lock_statements.proofs.Falling.{plain_is}
 use Rattle.lock_statements.proofs.statements.statement_of.Goals as goal
 
-pub returns-in-Ok : goal.returns-in-Ok
-returns-in-Ok c =
+pub returns-in-Ok-access_line : goal.returns-in-Ok-access_line
+returns-in-Ok-access_line c =
     let d = c.in_default in
-    ap (map_ok says.Plain) c.in-Ok.ensures ∙ plain_is c.args.names.now c.args.ended c.args.line d.not-If d.not-Goto d.not-Label d.not-Do d.not-Return
+    ap (map_ok says.Plain) c.in-Ok-access_line.ensures ∙ plain_is c.args.names.now c.args.ended c.args.line d.not-If d.not-Goto d.not-Label d.not-Do d.not-Return
 
 pub returns : goal.returns
 returns c =
     let d = c.in_default in
-    ap (map_ok says.Plain) c.in-Err.ensures ∙ plain_is c.args.names.now c.args.ended c.args.line d.not-If d.not-Goto d.not-Label d.not-Do d.not-Return
+    ap (map_ok says.Plain) c.in-Err-access_line.ensures ∙ plain_is c.args.names.now c.args.ended c.args.line d.not-If d.not-Goto d.not-Label d.not-Do d.not-Return

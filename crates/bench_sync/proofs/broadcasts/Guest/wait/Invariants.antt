@@ -1,5 +1,0 @@
-use Rattle.std.proofs.Common.{◌≡◌, false}
-use Rattle.bench_sync.proofs.broadcasts.Guest.wait.Given as goal
-
-abbrev pub invariant-loop-turn : goal.invariant-loop-turn
-invariant-loop-turn g l = (l.lock.held ≡ false) × (l.waits.list ≡ l.hall.called) × (l.tells.list ≡ l.hall.full)
