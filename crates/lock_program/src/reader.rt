@@ -28,8 +28,10 @@ fn read_line<'t>(
         (map_ok (λ _. draft.new) result) }
     ensures fitting { OnOk result (IsFitting draft.new) }
 {
-    let line = judge(alloc, bytes, ended)?;
-    draft.take(alloc, number, line)
+    match judge(alloc, bytes, ended) {
+        Ok(line) => draft.take(alloc, number, line),
+        Err(cause) => Err(Cause::from(cause)),
+    }
 }
 
 /// The program that the text says, or the first line that is faulty.
