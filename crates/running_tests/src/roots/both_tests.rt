@@ -103,7 +103,7 @@ fn places(rt: &impl Abort, root: &mut TreapRoot) {
     for row in &COMES_AND_GOES {
         make_call(rt, root, &row.0);
         has_counters(rt, root, row.1);
-        holds(rt, root.place(counter(7)) == None);
+        holds(rt, root.place(counter(7)).is_none());
     }
     make_call(rt, root, &Call::Dequeue(5, Some(0)));
     comes_first(rt, root, 7, 2);
@@ -111,6 +111,17 @@ fn places(rt: &impl Abort, root: &mut TreapRoot) {
 
 /// A counter, and how many waits there are once one came in there.
 type Counted = (u32, usize);
+
+/// Whether a counter stands in two treaps alike, or in neither.
+fn are_alike(one: Option<Place>, other: Option<Place>) -> bool {
+    match (one, other) {
+        (Some(one), Some(other)) => {
+            one.ticket == other.ticket && one.left == other.left && one.right == other.right
+        }
+        (None, None) => true,
+        _ => false,
+    }
+}
 
 /// Waits of one seat come in at both roots, whose places are the same then; at the end they are full.
 fn queue_all(
@@ -124,7 +135,7 @@ fn queue_all(
         queue(root, row.0, seat, false);
         queue(copy, row.0, seat, false);
         let at = counter(row.0);
-        holds(rt, copy.place(at) == root.place(at));
+        holds(rt, are_alike(copy.place(at), root.place(at)));
         holds(rt, copy.count() == row.1);
     }
     holds(rt, copy.is_full());

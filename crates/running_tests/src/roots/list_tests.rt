@@ -197,7 +197,8 @@ static OF_A_COPY: [Row; 5] = [
 fn copy_answers(rt: &impl Abort, copy: &mut Lists, key: ListKey) {
     has_room(rt, copy, 2, 1);
     answers_as_written(rt, copy, key, &OF_A_COPY);
-    holds(rt, open(rt, copy) != key);
+    let another = open(rt, copy);
+    answers_row(rt, copy, another, &Row(Call::First, None, 0, 2));
     answers_row(rt, copy, key, &Row(Call::First, Some((2, 7)), 1, 2));
 }
 
