@@ -42,7 +42,7 @@ struct NewMoment<'s>(&'s Scenario);
 impl Call for NewMoment<'_> {
     fn attempt(&mut self, alloc: Global) -> Attempt {
         match Moment::new(alloc, self.0) {
-            Ok(moment) => answered(is_at_the_start(&moment) && moment.table() == None),
+            Ok(moment) => answered(is_at_the_start(&moment) && moment.table().is_none()),
             Err(NoMemory) => Attempt::Refused,
         }
     }
@@ -53,9 +53,10 @@ struct NewMomentBy<'s>(&'s Scenario);
 
 impl Call for NewMomentBy<'_> {
     fn attempt(&mut self, alloc: Global) -> Attempt {
-        let table = Some(Variant::NoLook);
-        match Moment::new_by(alloc, self.0, table) {
-            Ok(moment) => answered(is_at_the_start(&moment) && moment.table() == table),
+        match Moment::new_by(alloc, self.0, Some(Variant::NoLook)) {
+            Ok(moment) => answered(
+                is_at_the_start(&moment) && matches!(moment.table(), Some(Variant::NoLook)),
+            ),
             Err(NoMemory) => Attempt::Refused,
         }
     }
