@@ -47,7 +47,7 @@ uint32_t parklot_list_one(struct parklot_list_seat *seat, uint32_t *woken);
    the seat has begun, and can't do anything else: call it again, and it goes on. DONE, BUSY, ROOM. */
 uint32_t parklot_list_all(struct parklot_list_seat *seat, uint32_t *woken, size_t room, uint32_t *count);
 
-/* Whether all tickets are granted: one look. OK. */
+/* Whether all tickets are granted: a look at each of the two words. OK. */
 uint32_t parklot_list_quiet(struct parklot_list_seat *seat, bool *quiet);
 
 /* Gives a seat back that rests. OK. */
