@@ -64,7 +64,7 @@ _parklot() {
 }
 
 # Fish asks for the words alone.
-if [ "${1-}" = words ]; then
+if [ "${BASH_SOURCE[0]-}" = "$0" ] && [ "${1-}" = words ]; then
     shift
     _parklot_words "$@" | tr ' ' '\n'
     exit
