@@ -2,7 +2,7 @@
 //!
 //! What a caller could do wrong and no type can refuse, a call asks in a `requires`: a seat of this very
 //! table, list or group, a counter that is there, 1 to 256 units, a lock that is held or isn't, releases
-//! enough. Here each of these is kept, and in `must-fail` each is broken once, and refused. That a seat amid
+//! enough. Here each of these is kept, and in `mutants` each is broken once, and refused. That a seat amid
 //! a call, or a ticket, can't be let go is a matter of types, and shown in [`spent`](crate::spent).
 //!
 //! The answers in `proofs` name the fact that carries each `requires`. The prover would find it, but where a

@@ -9,7 +9,7 @@
 //! item goes into the ring after its place was claimed and before it is told of: the ring and the counters
 //! have a rule each, and nothing orders their steps.
 //!
-//! Beside them stand calls of the running parts, made as they have to be ([`calls`]); in `must-fail` each of
+//! Beside them stand calls of the running parts, made as they have to be ([`calls`]); in `mutants` each of
 //! these is made wrongly once, and refused.
 #![tactic(auto)]
 

@@ -1,6 +1,6 @@
 //! What has to be spent can't be let go: a seat in the middle of a call, and a ticket.
 //!
-//! The compiler refuses a caller who lets one go, before anything is proved: so no edit in `must-fail` shows
+//! The compiler refuses a caller who lets one go, before anything is proved: so no edit in `mutants` shows
 //! it. In place of edits stands code that compiles only while it is so.
 
 use sync_parts::{Holding, Owing, OwingMany, Sleeping, Woken};

@@ -4,6 +4,7 @@ use crate::parts::group_given::{Answer, Call, Member};
 use std::process::Abort;
 use std::sync::Wait;
 use std::sync::atomic::{AtomicU64, Ordering};
+use std::thread;
 use std::thread::{JoinHandle, Scope};
 
 /// What a thread does.
@@ -14,6 +15,8 @@ pub(crate) enum Part<'s> {
     Adds,
     /// Adds its share to a sum, and is done.
     Works(u64, &'s AtomicU64),
+    /// Sets the first flag, sees the second one, and is done.
+    Signals(&'s AtomicU64, &'s AtomicU64),
 }
 
 /// What a thread comes back with.
@@ -26,6 +29,17 @@ pub(crate) struct Back<'g> {
     pub(crate) last: Answer,
 }
 
+/// Whether the flag is set before many looks.
+fn sees(flag: &AtomicU64) -> bool {
+    for _ in 0..10_000_000 {
+        if flag.load(Ordering::SeqCst) == 1 {
+            return true;
+        }
+        thread::yield_now();
+    }
+    false
+}
+
 /// What comes before the last call of a part, and the answer to its first call.
 fn begins<R: Abort + Wait>(rt: &R, member: &mut Member<'_>, part: Part<'_>) -> Answer {
     match part {
@@ -33,6 +47,11 @@ fn begins<R: Abort + Wait>(rt: &R, member: &mut Member<'_>, part: Part<'_>) -> A
         Part::Adds => member.calls(rt, Call::Add(1)),
         Part::Works(share, sum) => {
             sum.fetch_add(share, Ordering::SeqCst);
+            Ok(0)
+        }
+        Part::Signals(mine, other) => {
+            mine.store(1, Ordering::SeqCst);
+            assert!(rt; sees(other));
             Ok(0)
         }
     }
@@ -43,7 +62,7 @@ fn ends<R: Abort + Wait>(rt: &R, member: &mut Member<'_>, part: Part<'_>, first:
     match part {
         Part::Waits => first,
         Part::Adds => member.calls(rt, Call::Done),
-        Part::Works(..) => Ok(member.finishes(rt)),
+        Part::Works(..) | Part::Signals(..) => Ok(member.finishes(rt)),
     }
 }
 

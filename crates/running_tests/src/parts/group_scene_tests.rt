@@ -19,6 +19,26 @@ enum Scene {
     Anew,
     /// Three workers are waited for.
     Fork,
+    /// Two are waited for that set a flag each, and see the other's.
+    Flags,
+}
+
+/// What the threads of a scene share beside the group.
+#[derive(Drop)]
+struct Words {
+    sum: AtomicU64,
+    left: AtomicU64,
+    right: AtomicU64,
+}
+
+impl Words {
+    fn new() -> Words {
+        Words {
+            sum: AtomicU64::new(0),
+            left: AtomicU64::new(0),
+            right: AtomicU64::new(0),
+        }
+    }
 }
 
 /// What each of the workers adds.
@@ -40,11 +60,39 @@ fn forks_and_joins<'s, E, R: Abort + Threads + Wait + Sync>(
     holds(rt, sum.load(Ordering::SeqCst) == 321);
 }
 
+/// Waits for two who can't end one after the other: each is done once it sees the flag of the other.
+fn sets_two_flags<'s, E, R: Abort + Threads + Wait + Sync>(
+    rt: &'s R,
+    scope: &'s Scope<'s, E>,
+    first: &mut Member<'s>,
+    team: &mut Team<'s>,
+    words: &'s Words,
+) {
+    first.answers(rt, Call::Add(2), Ok(0));
+    begin(
+        rt,
+        scope,
+        team.member(rt),
+        Part::Signals(&words.left, &words.right),
+    );
+    begin(
+        rt,
+        scope,
+        team.member(rt),
+        Part::Signals(&words.right, &words.left),
+    );
+    first.answers(rt, Call::Wait, Ok(0));
+    holds(
+        rt,
+        words.left.load(Ordering::SeqCst) == 1 && words.right.load(Ordering::SeqCst) == 1,
+    );
+}
+
 impl Scene {
     fn seats(self) -> u32 {
         match self {
             Scene::Anew => 2,
-            Scene::Race => 3,
+            Scene::Race | Scene::Flags => 3,
             Scene::Fork => 4,
         }
     }
@@ -54,39 +102,40 @@ impl Scene {
         rt: &'s R,
         scope: &'s Scope<'s, E>,
         team: Team<'s>,
-        sum: &'s AtomicU64,
+        words: &'s Words,
     ) {
         let mut team = team;
         let mut first = team.member(rt);
         match self {
             Scene::Race => races(rt, scope, &mut first, &mut team),
             Scene::Anew => begins_anew(rt, scope, &mut first, &mut team),
-            Scene::Fork => forks_and_joins(rt, scope, &mut first, &mut team, sum),
+            Scene::Fork => forks_and_joins(rt, scope, &mut first, &mut team, &words.sum),
+            Scene::Flags => sets_two_flags(rt, scope, &mut first, &mut team, words),
         }
     }
 }
 
-fn in_scope<R: Abort + Threads + Wait + Sync>(
-    rt: &R,
-    scene: Scene,
-    team: Team<'_>,
-    sum: &AtomicU64,
-) {
+fn in_scope<R: Abort + Threads + Wait + Sync>(rt: &R, scene: Scene, team: Team<'_>, words: &Words) {
     thread::scope(
         thread::scope_env(),
         rt,
-        move |scope| scene.plays(rt, scope, team, sum),
+        move |scope| scene.plays(rt, scope, team, words),
     );
 }
 
 /// Scenes, and how often each is played.
-static SCENES: [(Scene, u32); 3] = [(Scene::Race, 500), (Scene::Anew, 500), (Scene::Fork, 200)];
+static SCENES: [(Scene, u32); 4] = [
+    (Scene::Race, 500),
+    (Scene::Anew, 500),
+    (Scene::Fork, 200),
+    (Scene::Flags, 1),
+];
 
 /// The scene in a new group.
 fn play<R: Abort + Threads + Wait + Sync>(rt: &R, alloc: Global, scene: Scene) {
     let (group, seats) = made(rt, alloc, scene.seats());
-    let sum = AtomicU64::new(0);
-    in_scope(rt, scene, Team::new(&group, seats), &sum);
+    let words = Words::new();
+    in_scope(rt, scene, Team::new(&group, seats), &words);
 }
 
 /// One round of all scenes.
