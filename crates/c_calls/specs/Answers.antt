@@ -21,6 +21,10 @@ Answers {S} {R} {X} refused code call (Some s) n now =
 abbrev pub Telling : {S R X : Type 0} → (X → Type 0) → Call S R X → Call S R X
 Telling Told call s a t = call s a t × IfOk a Told
 
+-- what a call tells beside its code it writes with such a code only: with another it stays as it was
+abbrev pub WritesOnlyWith : {X : Type 0} → (ℕ → Type 0) → ℕ → X → X → Type 0
+WritesOnlyWith Tells code before now = Tells code ⊎ (now ≡ before)
+
 -- n is the number of the seat that was woken, if one was
 abbrev pub NamesWoken : ℕ → Wake → Type 0
 NamesWoken n Nobody = Unit {0}

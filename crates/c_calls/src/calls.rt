@@ -1,5 +1,5 @@
 //! The calls of a seat in its place.
-ghost use Rattle.std.specs.Prelude.{◌≡◌, IfOk};
+ghost use Rattle.std.specs.Prelude.{◌≡◌, ◌⊎◌, IfOk};
 ghost use Rattle.sema_table.specs.Tasks.{TriesByTask, PostsByTask};
 ghost use Rattle.sema_table.specs.Tasks.{ReadsByTask, CountsByTask, PostsManyByTask};
 ghost use Rattle.sema_table.specs.Tasks.{EntersByTask, PollsByTask};
@@ -9,6 +9,7 @@ ghost use Rattle.c_calls.specs.Codes.{tried_code, entered_code, polled_code};
 ghost use Rattle.c_calls.specs.Codes.{retried_code, posted_code, wake_code};
 ghost use Rattle.c_calls.specs.Codes.{told, code_of, refused_code};
 ghost use Rattle.c_calls.specs.Answers.{Answers, Telling, NamesWoken, TellsNumber, MayLeave};
+ghost use Rattle.c_calls.specs.Answers.{WritesOnlyWith};
 
 use crate::answers;
 use crate::codes::{HANDED, NO_SEAT, NOBODY, OK, ONE, OTHER_CALL};
@@ -19,6 +20,7 @@ use sema_table::{CounterId, TaskRefused, TaskStage, Wake};
 fn tell_wake(answer: Result<Wake, TaskRefused>, woken: &mut u32) -> u32
     ensures code { result ≡ code_of refused_code wake_code answer }
     ensures told { IfOk answer (NamesWoken woken.new) }
+    ensures kept { WritesOnlyWith (λ n. (n ≡ 9) ⊎ (n ≡ 10)) result woken.old woken.new }
 {
     match answer {
         Ok(Wake::Nobody) => NOBODY,
@@ -38,6 +40,7 @@ fn tell_wake(answer: Result<Wake, TaskRefused>, woken: &mut u32) -> u32
 fn tell_number(answer: Result<u64, TaskRefused>, number: &mut u64) -> u32
     ensures code { result ≡ code_of refused_code told answer }
     ensures told { IfOk answer (λ n. number.new ≡ n) }
+    ensures kept { WritesOnlyWith (λ n. n ≡ 0) result number.old number.new }
 {
     match answer {
         Ok(found) => {
@@ -51,7 +54,8 @@ fn tell_number(answer: Result<u64, TaskRefused>, number: &mut u64) -> u32
 impl Place {
     /// Which seat of its table it is.
     pub fn number(&self, number: &mut u32) -> u32
-        ensures { TellsNumber (λ s. s.seat.number) self.now.seat result number.new }
+        ensures told { TellsNumber (λ s. s.seat.number) self.now.seat result number.new }
+        ensures kept { WritesOnlyWith (λ n. n ≡ 0) result number.old number.new }
     {
         let Some(seat) = &self.seat else {
             return NO_SEAT;
@@ -150,9 +154,10 @@ impl Place {
 
     /// The rest of a release: takes the first wait out and wakes its seat, whose number is told.
     pub fn wake(&mut self, handoff: bool, woken: &mut u32) -> u32
-        ensures { Answers refused_code wake_code
+        ensures answer { Answers refused_code wake_code
             (Telling (NamesWoken woken.new) (λ s. WakesByTask s handoff))
             self.old.seat result self.new.seat }
+        ensures kept { WritesOnlyWith (λ n. (n ≡ 9) ⊎ (n ≡ 10)) result woken.old woken.new }
     {
         let Some(seat) = self.seat.take() else {
             return NO_SEAT;
@@ -164,9 +169,10 @@ impl Place {
 
     /// The number of a counter.
     pub fn value(&mut self, counter: u32, value: &mut u64) -> u32
-        ensures { Answers refused_code told
+        ensures answer { Answers refused_code told
             (Telling (λ n. value.new ≡ n) (λ s. ReadsByTask s counter))
             self.old.seat result self.new.seat }
+        ensures kept { WritesOnlyWith (λ n. n ≡ 0) result value.old value.new }
     {
         let Some(seat) = &mut self.seat else {
             return NO_SEAT;
@@ -176,9 +182,10 @@ impl Place {
 
     /// How many waits are queued at a counter's root.
     pub fn waiters_of_root(&mut self, counter: u32, waits: &mut u64) -> u32
-        ensures { Answers refused_code told
+        ensures answer { Answers refused_code told
             (Telling (λ n. waits.new ≡ n) (λ s. CountsByTask s counter))
             self.old.seat result self.new.seat }
+        ensures kept { WritesOnlyWith (λ n. n ≡ 0) result waits.old waits.new }
     {
         let Some(seat) = &mut self.seat else {
             return NO_SEAT;

@@ -2,7 +2,7 @@
 ghost use Rattle.std.specs.Prelude.{◌≡◌, ◌⊎◌, ◌≤◌, length, IfOk};
 ghost use Rattle.c_calls.specs.Codes.{done, code_of};
 ghost use Rattle.c_calls.specs.ListCodes.{refused_code};
-ghost use Rattle.c_calls.specs.Answers.{Answers, Telling, LacksRoom};
+ghost use Rattle.c_calls.specs.Answers.{Answers, Telling, LacksRoom, WritesOnlyWith};
 ghost use Rattle.c_calls.specs.ListAnswers.{NotifiesOrGoesOn, NamesAll};
 
 use crate::codes::{DONE, NO_SEAT, ROOM};
@@ -16,6 +16,8 @@ fn tell_all(answer: Result<NotifiedAll, TaskRefused>, woken: &mut [u32], count: 
     requires { 256 ≤ length woken.old }
     ensures code { result ≡ code_of refused_code done answer }
     ensures told { IfOk answer (NamesAll woken.new count.new) }
+    ensures kept { WritesOnlyWith (λ n. n ≡ 4) result woken.old woken.new
+        × WritesOnlyWith (λ n. n ≡ 4) result count.old count.new }
 {
     match answer {
         Ok(all) => {
@@ -30,9 +32,11 @@ fn tell_all(answer: Result<NotifiedAll, TaskRefused>, woken: &mut [u32], count: 
 impl ListPlace {
     /// Grants all tickets, and tells the numbers of the seats that waited with them.
     pub fn all(&mut self, woken: &mut [u32], count: &mut u32) -> u32
-        ensures { LacksRoom woken.old self.old.seat result self.new.seat
+        ensures answer { LacksRoom woken.old self.old.seat result self.new.seat
             ⊎ Answers refused_code done (Telling (NamesAll woken.new count.new) NotifiesOrGoesOn)
             self.old.seat result self.new.seat }
+        ensures kept { WritesOnlyWith (λ n. n ≡ 4) result woken.old woken.new
+            × WritesOnlyWith (λ n. n ≡ 4) result count.old count.new }
     {
         // Looked at before anything is done: a seat that was woken and isn't named is never made ready.
         if woken.len() < MOST_WOKEN {
@@ -44,9 +48,11 @@ impl ListPlace {
     /// The same, where there is room.
     fn all_into(&mut self, woken: &mut [u32], count: &mut u32) -> u32
         requires { 256 ≤ length woken.old }
-        ensures { Answers refused_code done
+        ensures answer { Answers refused_code done
             (Telling (NamesAll woken.new count.new) NotifiesOrGoesOn)
             self.old.seat result self.new.seat }
+        ensures kept { WritesOnlyWith (λ n. n ≡ 4) result woken.old woken.new
+            × WritesOnlyWith (λ n. n ≡ 4) result count.old count.new }
     {
         let Some(seat) = self.seat.take() else {
             return NO_SEAT;

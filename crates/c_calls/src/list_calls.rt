@@ -6,7 +6,7 @@ ghost use Rattle.notify_list.specs.declared.task_seat.TaskStage.TheVariants.{Res
 ghost use Rattle.c_calls.specs.Codes.{told, code_of};
 ghost use Rattle.c_calls.specs.ListCodes.{refused_code, entered_code, polled_code};
 ghost use Rattle.c_calls.specs.ListCodes.{one_code, granted_code};
-ghost use Rattle.c_calls.specs.Answers.{Answers, Telling, TellsNumber, MayLeave};
+ghost use Rattle.c_calls.specs.Answers.{Answers, Telling, TellsNumber, MayLeave, WritesOnlyWith};
 ghost use Rattle.c_calls.specs.ListAnswers.{NamesGranted, IsNumberOf};
 
 use crate::codes::{GRANTED, NO_SEAT, NOBODY, OK, ONE, OTHER_CALL};
@@ -18,6 +18,7 @@ use notify_list::{Notified, TaskRefused, TaskStage};
 fn tell_granted(seat: Option<u16>, woken: &mut u32) -> u32
     ensures code { result ≡ granted_code seat }
     ensures told { IsNumberOf woken.new seat }
+    ensures kept { WritesOnlyWith (λ n. n ≡ 9) result woken.old woken.new }
 {
     match seat {
         Some(seat) => {
@@ -32,6 +33,7 @@ fn tell_granted(seat: Option<u16>, woken: &mut u32) -> u32
 fn tell_one(answer: Result<Option<Notified>, TaskRefused>, woken: &mut u32) -> u32
     ensures code { result ≡ code_of refused_code one_code answer }
     ensures told { IfOk answer (NamesGranted woken.new) }
+    ensures kept { WritesOnlyWith (λ n. n ≡ 9) result woken.old woken.new }
 {
     match answer {
         Ok(Some(notified)) => tell_granted(notified.seat, woken),
@@ -43,7 +45,8 @@ fn tell_one(answer: Result<Option<Notified>, TaskRefused>, woken: &mut u32) -> u
 impl ListPlace {
     /// Which seat of its list it is.
     pub fn number(&self, number: &mut u32) -> u32
-        ensures { TellsNumber (λ s. s.seat.number) self.now.seat result number.new }
+        ensures told { TellsNumber (λ s. s.seat.number) self.now.seat result number.new }
+        ensures kept { WritesOnlyWith (λ n. n ≡ 0) result number.old number.new }
     {
         let Some(seat) = &self.seat else {
             return NO_SEAT;
@@ -67,8 +70,9 @@ impl ListPlace {
 
     /// Takes the next ticket, which is told.
     pub fn add(&mut self, ticket: &mut u64) -> u32
-        ensures { Answers refused_code told (Telling (λ word. ticket.new ≡ word) AddsByTask)
+        ensures answer { Answers refused_code told (Telling (λ word. ticket.new ≡ word) AddsByTask)
             self.old.seat result self.new.seat }
+        ensures kept { WritesOnlyWith (λ n. n ≡ 0) result ticket.old ticket.new }
     {
         let Some(seat) = self.seat.take() else {
             return NO_SEAT;
@@ -112,8 +116,9 @@ impl ListPlace {
     /// Grants the least ticket that isn't granted. The seat that waits with it is woken, and its number
     /// told.
     pub fn one(&mut self, woken: &mut u32) -> u32
-        ensures { Answers refused_code one_code (Telling (NamesGranted woken.new) NotifiesOneByTask)
+        ensures answer { Answers refused_code one_code (Telling (NamesGranted woken.new) NotifiesOneByTask)
             self.old.seat result self.new.seat }
+        ensures kept { WritesOnlyWith (λ n. n ≡ 9) result woken.old woken.new }
     {
         let Some(seat) = self.seat.take() else {
             return NO_SEAT;
@@ -125,8 +130,9 @@ impl ListPlace {
 
     /// Looks whether all tickets are granted.
     pub fn quiet(&mut self, quiet: &mut bool) -> u32
-        ensures { Answers refused_code told (Telling (λ equal. quiet.new ≡ equal) LooksByTask)
+        ensures answer { Answers refused_code told (Telling (λ equal. quiet.new ≡ equal) LooksByTask)
             self.old.seat result self.new.seat }
+        ensures kept { WritesOnlyWith (λ n. n ≡ 0) result quiet.old quiet.new }
     {
         let Some(seat) = self.seat.take() else {
             return NO_SEAT;

@@ -2,7 +2,7 @@
 ghost use Rattle.std.specs.Prelude.{◌≡◌, ◌⊎◌, ◌≤◌, length, IfOk};
 ghost use Rattle.sema_table.specs.Tasks.{WakesSomeByTask};
 ghost use Rattle.c_calls.specs.Codes.{done, code_of, refused_code};
-ghost use Rattle.c_calls.specs.Answers.{Answers, Telling, NamesEach, LacksRoom};
+ghost use Rattle.c_calls.specs.Answers.{Answers, Telling, NamesEach, LacksRoom, WritesOnlyWith};
 
 use crate::codes::{DONE, NO_SEAT, ROOM};
 use crate::numbers::MOST_WOKEN;
@@ -15,6 +15,8 @@ fn tell_some(answer: Result<WokenSeats, TaskRefused>, woken: &mut [u32], count: 
     requires { 256 ≤ length woken.old }
     ensures code { result ≡ code_of refused_code done answer }
     ensures told { IfOk answer (NamesEach woken.new count.new) }
+    ensures kept { WritesOnlyWith (λ n. n ≡ 4) result woken.old woken.new
+        × WritesOnlyWith (λ n. n ≡ 4) result count.old count.new }
 {
     match answer {
         Ok(seats) => {
@@ -30,9 +32,11 @@ impl Place {
     /// Takes the first waits out, as many as units were added or fewer if there are no more, and wakes their
     /// seats, whose numbers are told.
     pub fn wake_some(&mut self, woken: &mut [u32], count: &mut u32) -> u32
-        ensures { LacksRoom woken.old self.old.seat result self.new.seat
+        ensures answer { LacksRoom woken.old self.old.seat result self.new.seat
             ⊎ Answers refused_code done (Telling (NamesEach woken.new count.new) WakesSomeByTask)
             self.old.seat result self.new.seat }
+        ensures kept { WritesOnlyWith (λ n. n ≡ 4) result woken.old woken.new
+            × WritesOnlyWith (λ n. n ≡ 4) result count.old count.new }
     {
         // Looked at before anything is done: a seat that was woken and isn't named is never made ready.
         if woken.len() < MOST_WOKEN {
@@ -44,9 +48,11 @@ impl Place {
     /// The same, where there is room.
     fn wake_some_into(&mut self, woken: &mut [u32], count: &mut u32) -> u32
         requires { 256 ≤ length woken.old }
-        ensures { Answers refused_code done
+        ensures answer { Answers refused_code done
             (Telling (NamesEach woken.new count.new) WakesSomeByTask)
             self.old.seat result self.new.seat }
+        ensures kept { WritesOnlyWith (λ n. n ≡ 4) result woken.old woken.new
+            × WritesOnlyWith (λ n. n ≡ 4) result count.old count.new }
     {
         let Some(seat) = self.seat.take() else {
             return NO_SEAT;

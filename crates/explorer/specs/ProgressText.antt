@@ -1,7 +1,12 @@
 -- What is told of a search while it runs.
 use Rattle.std.specs.Prelude.{ℕ, List, ◌++◌, codes}
 use Rattle.std.specs.Fmt.{decimal}
+use Rattle.explorer.specs.declared.ticker.Progress.{Progress}
 
--- how many classes of worlds it has kept, and the most steps of schedules that all had their turn
-abbrev pub progress_text : ℕ → ℕ → List ℕ
-progress_text kept depth = codes "kept " ++ decimal kept ++ codes ", depth " ++ decimal depth
+-- how many classes of worlds it has kept, and how many it may keep, the most steps of schedules that all had
+-- their turn, how long it took, and how many a second that is
+abbrev pub progress_text : Progress → List ℕ
+progress_text p =
+    codes "kept " ++ (decimal p.kept ++ (codes " of at most " ++ (decimal p.most
+    ++ (codes ", depth " ++ (decimal p.depth ++ (codes ", " ++ (decimal p.seconds
+    ++ (codes " s, " ++ (decimal p.rate ++ codes " worlds a second")))))))))

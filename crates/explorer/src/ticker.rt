@@ -16,19 +16,43 @@ const BETWEEN: u64 = 100;
 /// How far a search has come, as it is told while it runs.
 #[derive(Clone, Copy, Drop)]
 struct Progress {
-    extent: Extent,
+    kept: usize,
+    /// How many may be kept.
+    most: u32,
+    depth: u32,
+    seconds: u64,
+    /// How many were kept in a second.
+    rate: u128,
+}
+
+impl Progress {
+    /// A search that may keep so many worlds came so far in so many milliseconds.
+    fn of(extent: Extent, most: u32, millis: u64) -> Progress {
+        Progress {
+            kept: extent.worlds,
+            most,
+            depth: extent.depth,
+            seconds: millis / 1000,
+            rate: extent.worlds as u128 * 1000 / u128::from(millis.max(1)),
+        }
+    }
 }
 
 impl fmt::Display for Progress {
-    ghost output = { λ progress. Some (progress_text progress.extent.worlds progress.extent.depth) };
+    ghost output = { λ progress. Some (progress_text progress) };
 
     fn fmt<W: fmt::Write>(&self, f: &mut fmt::Formatter<W>) -> fmt::Result {
-        let Extent {
-            worlds: kept,
+        let Progress {
+            kept,
+            most,
             depth,
-            ..
-        } = self.extent;
-        write!(f, "kept {kept}, depth {depth}")
+            seconds,
+            rate,
+        } = self;
+        write!(
+            f,
+            "kept {kept} of at most {most}, depth {depth}, {seconds} s, {rate} worlds a second"
+        )
     }
 }
 
@@ -39,7 +63,8 @@ pub struct Ticker<'r, T, E> {
     clock: &'r T,
     alloc: Global,
     err: &'r mut E,
-    told: bool,
+    /// How many worlds the search may keep, where it is told how far it has come.
+    told: Option<u32>,
     began: Option<Instant>,
     /// From when on a line may be told.
     next: u64,
@@ -48,8 +73,9 @@ pub struct Ticker<'r, T, E> {
 }
 
 impl<'r, T: Clock, E: Sink> Ticker<'r, T, E> {
-    /// The time begins with the search. Where `told` is false the line is left out.
-    pub fn new(clock: &'r T, alloc: Global, err: &'r mut E, told: bool) -> Ticker<'r, T, E> {
+    /// The time begins with the search. It is told how far it has come of so many worlds at most, or the line is
+    /// left out.
+    pub fn new(clock: &'r T, alloc: Global, err: &'r mut E, told: Option<u32>) -> Ticker<'r, T, E> {
         Ticker {
             clock,
             alloc,
@@ -75,8 +101,7 @@ impl<'r, T: Clock, E: Sink> Ticker<'r, T, E> {
     }
 
     /// Puts this in place of the line.
-    fn tell(&mut self, extent: Extent) {
-        let progress = Progress { extent };
+    fn tell(&mut self, progress: Progress) {
         if let Ok(line) = format!(in self.alloc; "\r\x1b[K{progress}") {
             self.stands = write_all(self.err, line.as_bytes()).is_ok();
         }
@@ -86,9 +111,11 @@ impl<'r, T: Clock, E: Sink> Ticker<'r, T, E> {
 impl<T: Clock, E: Sink> Watch for Ticker<'_, T, E> {
     fn pass(&mut self, extent: Extent) {
         let elapsed = self.elapsed();
-        if self.told && elapsed >= self.next {
-            self.next = elapsed.saturating_add(BETWEEN);
-            self.tell(extent);
+        if let Some(most) = self.told {
+            if elapsed >= self.next {
+                self.next = elapsed.saturating_add(BETWEEN);
+                self.tell(Progress::of(extent, most, elapsed));
+            }
         }
     }
 }

@@ -7,8 +7,9 @@ ghost use Rattle.explorer.specs.Invocation.{HasDone, HasDoneSome};
 use crate::answered::scheduled_by;
 use crate::program::{answer_io, beside, fault_text, status_after, tell_beside};
 use crate::ticker::Ticker;
-use explorer_scenarios::{Exit, Flagged, IoFault, Sink, Source};
+use explorer_scenarios::{Command, Exit, Flagged, IoFault, Sink, Source};
 use explorer_words::{FileFault, Invocation, no_file, read_words};
+use lock_commands::LockCommand;
 use std::alloc::Global;
 use std::fs;
 use std::rt::Files;
@@ -54,6 +55,25 @@ fn scheduled<'w, T: Files, R: Source>(
     }
 }
 
+/// How many worlds the search that is asked for may keep, where it is to be told how far it has come.
+fn bound_told(asked: &Invocation<'_>) -> Option<u32> {
+    if !asked.is_watched() {
+        return None;
+    }
+    match asked {
+        Invocation::OfScenario { command, .. } => match command {
+            Command::Explore { bounds, .. } => Some(bounds.worlds),
+            Command::Check { worlds, .. } => Some(*worlds),
+            Command::Replay { .. } => None,
+        },
+        Invocation::OfLockProgram { command, .. } => match command {
+            LockCommand::Try { worlds, .. } => Some(*worlds),
+            LockCommand::Retrace { .. } => None,
+        },
+        _ => None,
+    }
+}
+
 /// Does what is asked, and tells on `err` how far a search has come, where that is asked for, and what is
 /// told beside.
 fn shown_io<T: Threads + Wait + Clock + Sync, R: Source, O: Sink, E: Sink>(
@@ -71,7 +91,7 @@ fn shown_io<T: Threads + Wait + Clock + Sync, R: Source, O: Sink, E: Sink>(
         (O.contents out.old) (O.contents out.new) (O.has_failed out.new) result }
 {
     let outcome = {
-        let mut watch = Ticker::new(rt, alloc, err, asked.is_watched());
+        let mut watch = Ticker::new(rt, alloc, err, bound_told(asked));
         answer_io(rt, alloc, asked, reader, out, &mut watch)
     };
     tell_beside(beside(asked, &outcome), err);

@@ -20,7 +20,7 @@ pub struct CodeLine {
 pub enum Property {
     /// At most so many seats are in the section.
     Most(usize, u64),
-    /// No seats are in both sections.
+    /// No seat is in the one section while another is in the other.
     Apart(usize, usize),
     /// So the word is where each seat has ended.
     FinallyWord(usize, Relation, i64),

@@ -1,5 +1,7 @@
 //! How the lines of a lock program are spelled, by their first words.
 
+use crate::culprit::said;
+
 /// The lines that begin with a word, and how they are spelled.
 struct Form {
     /// Their first word.
@@ -149,16 +151,8 @@ static FORMS: [Form; 34] = [
 ];
 
 /// The first word of a line; nothing stands before it but spaces, and a comment is none.
-fn first_word(line: &str) -> &str {
-    let said = match line.split_once('#') {
-        Some((said, _)) => said,
-        None => line,
-    };
-    let said = said.trim_start();
-    match said.split_once(' ') {
-        Some((word, _)) => word,
-        None => said,
-    }
+pub(crate) fn first_word(line: &str) -> &str {
+    said(line).split_whitespace().next().unwrap_or("")
 }
 
 /// How a line is spelled that begins as this one, if any is.

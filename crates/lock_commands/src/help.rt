@@ -1,7 +1,9 @@
 //! What is said to a person whose lock program is refused: which line is at fault, what stands there, and
 //! what was expected.
 
-use crate::expected::expected;
+use crate::culprit::Culprit;
+use crate::expected::{expected, first_word};
+use crate::limits::{most_of, range_of};
 use explorer_help::{ends_in_return, shown};
 use explorer_text::line_at;
 use lock_program::{Cause, ReadFault};
@@ -24,14 +26,19 @@ enum Problem<'t> {
     },
     /// It begins as no line.
     NoForm(&'t str),
+    /// It is a line of a scenario.
+    Scenario(&'t str),
     /// It may not come here.
     Misplaced(&'t str),
     /// A number is outside its range.
     OutOfRange(&'t str),
     /// It is one too many, or makes too many.
     TooMany(&'t str),
-    /// It has a name that isn't declared further up as what it must be.
-    Undeclared(&'t str),
+    /// This name on it isn't declared further up as what it must be.
+    Undeclared {
+        line: &'t str,
+        culprit: Option<Culprit<'t>>,
+    },
     /// It declares a name again.
     Twice(&'t str),
     /// It indexes what is no array, or an array without an index.
@@ -64,6 +71,10 @@ impl fmt::Display for Problem<'_> {
                  finally, a label with a colon, or in a program load, store, swap, add, exchange, await, acquire, release, ticket, \
                  wait, one, all, park, unpark, in, out, let, if, goto, assert, fail, do, return"
             ),
+            Problem::Scenario(line) => write!(
+                f,
+                "\"{line}\" is a line of a scenario: check, explore and replay take one, try and retrace a lock program"
+            ),
             Problem::Misplaced(line) => write!(
                 f,
                 "\"{line}\" can't stand here: const, word, counter, list, register and section lines come first, then programs \
@@ -71,19 +82,21 @@ impl fmt::Display for Problem<'_> {
             ),
             Problem::OutOfRange(line) => write!(
                 f,
-                "a number is out of range in \"{line}\": words hold -2^63 to 2^63 - 1, a counter starts at 0 to 4294967295, an \
-                 array has 1 to 16 members, seats are 1 or more, most is 0 or more, and finally indexes within its array"
+                "a number is out of range in \"{line}\": {}",
+                range_of(first_word(line))
             ),
             Problem::TooMany(line) => write!(
                 f,
-                "\"{line}\" is too many, or makes too many: at most 32 constants, 32 words and 16 counters with the members of \
-                 arrays, 4 lists, 8 registers, 8 sections, 16 programs of 128 lines, 255 with those of do, 16 seats and 16 properties"
+                "\"{line}\" is too many, or makes too many: {}",
+                most_of(first_word(line))
             ),
-            Problem::Undeclared(line) => write!(
-                f,
-                "\"{line}\" has a name that isn't declared further up as what it must be here: a word, a counter, a list, a \
-                 register, a section, a program whose lines have ended, or a number's constant"
-            ),
+            Problem::Undeclared { line, culprit } => match culprit {
+                Some(culprit) => write!(f, "in \"{line}\" {culprit}"),
+                None => write!(
+                    f,
+                    "\"{line}\" has a name that isn't declared further up as what it must be here"
+                ),
+            },
             Problem::Twice(line) => write!(
                 f,
                 "\"{line}\" declares a name again: a name stands for one thing, whatever its kind, and a label once in its program"
@@ -110,16 +123,30 @@ fn unprintable(line: &[u8]) -> Problem<'_> {
     }
 }
 
+/// Whether a line that has no form is one of a scenario.
+fn is_of_scenario(line: &str) -> bool {
+    let mut words = line.split_whitespace();
+    match words.next() {
+        Some("roots" | "seat" | "group" | "settled" | "value" | "no-misuse") => true,
+        Some("counter" | "list") => words.all(|word| word.parse::<u64>().is_ok()),
+        _ => false,
+    }
+}
+
 /// What is wrong with a line that has no form.
 fn formless(line: &str) -> Problem<'_> {
+    if is_of_scenario(line) {
+        return Problem::Scenario(line);
+    }
     match expected(line) {
         Some(spelled) => Problem::Misspelled { line, spelled },
         None => Problem::NoForm(line),
     }
 }
 
-/// What is wrong with the line for this cause. Want of memory is no fault of a line.
-fn problem_of(line: &[u8], cause: Cause) -> Option<Problem<'_>> {
+/// What is wrong with the line of this number for this cause. Want of memory is no fault of a line.
+fn problem_of(text: &[u8], number: usize, cause: Cause) -> Option<Problem<'_>> {
+    let line = line_at(text, number);
     let told = shown(line);
     Some(match cause {
         Cause::Cut => Problem::NoLineFeed(told),
@@ -128,7 +155,10 @@ fn problem_of(line: &[u8], cause: Cause) -> Option<Problem<'_>> {
         Cause::Place => Problem::Misplaced(told),
         Cause::Range => Problem::OutOfRange(told),
         Cause::TooMany => Problem::TooMany(told),
-        Cause::Undeclared => Problem::Undeclared(told),
+        Cause::Undeclared => Problem::Undeclared {
+            line: told,
+            culprit: Culprit::on_line(text, number),
+        },
         Cause::Twice => Problem::Twice(told),
         Cause::Array => Problem::Array(told),
         Cause::Label => Problem::Label(told),
@@ -142,7 +172,7 @@ fn problem_of(line: &[u8], cause: Cause) -> Option<Problem<'_>> {
 /// It is an `Err` where memory is short, and for the fault that says so.
 pub(crate) fn explain(alloc: Global, text: &[u8], fault: ReadFault) -> Result<String, AllocError> {
     let ReadFault { line, cause } = fault;
-    let Some(problem) = problem_of(line_at(text, line), cause) else {
+    let Some(problem) = problem_of(text, line, cause) else {
         return Err(AllocError);
     };
     let told = format!(in alloc; "line {line}: {problem}\n")?;

@@ -6,8 +6,10 @@
 
 mod beside;
 mod command;
+mod culprit;
 mod expected;
 mod help;
+mod limits;
 mod reading;
 mod refusal;
 mod retracing;

@@ -5,7 +5,7 @@ ghost use Rattle.explorer_answers.specs.CheckText.{found_in_all_schedule};
 ghost use Rattle.lock_commands.specs.Commands.{RepliesTried, tried_text, worlds_of};
 ghost use Rattle.lock_search.specs.Tried.{IsTried};
 
-use crate::beside::beside;
+use crate::beside::{NeverMet, beside};
 use crate::reading::ReadText;
 use explorer_answers::{Answer, FoundAmong, Reply, Stats, StopWatch};
 use explorer_search::{FoundInAll, Searched, Team};
@@ -65,11 +65,14 @@ fn worlds_of(found: &FoundInAll<Kind>) -> Option<u128>
     }
 }
 
-/// Of lines that never ran those that are told: where nothing bad was found.
-fn told_of<'a>(found: &FoundInAll<Kind>, never_run: &'a [usize]) -> &'a [usize] {
+/// What the search has never come to, where that is told: where nothing bad was found.
+fn told_of<'a, 'n>(
+    found: &FoundInAll<Kind>,
+    never_met: &'a NeverMet<'n>,
+) -> Option<&'a NeverMet<'n>> {
     match found {
-        FoundInAll::None { .. } => never_run,
-        FoundInAll::Bad { .. } | FoundInAll::GaveUp { .. } => &[],
+        FoundInAll::None { .. } => Some(never_met),
+        FoundInAll::Bad { .. } | FoundInAll::GaveUp { .. } => None,
     }
 }
 
@@ -85,7 +88,7 @@ fn found_text(alloc: Global, told: FoundAmong<'_, Kind>, behind: &str) -> Result
 }
 
 /// What `try` replies to a lock program of which it found this, in so many milliseconds. Where nothing bad
-/// was found it tells beside that these lines never ran.
+/// was found it tells beside what it has never come to.
 ///
 /// It is an `Err` where memory is short.
 fn found_reply(
@@ -94,7 +97,7 @@ fn found_reply(
     search: Search,
     searched: &Searched<FoundInAll<Kind>>,
     millis: u64,
-    never_run: &[usize],
+    never_met: &NeverMet<'_>,
 ) -> Result<Reply, NoMemory>
     requires { IsTried read.now.program search.worlds searched.now.found }
     ensures { IfOk result (λ reply. RepliesTried search.worlds read.now.program
@@ -109,8 +112,8 @@ fn found_reply(
     let stats = Stats::of_found_in_all(searched, search.worlds, millis);
     let aside = beside(
         alloc,
-        told_of(&searched.found, never_run),
-        if search.counted { Some(stats) } else { None },
+        told_of(&searched.found, never_met),
+        if search.counted { Some(&stats) } else { None },
     )?;
     let exit = told.exit();
     Ok(Reply {
@@ -139,6 +142,6 @@ pub(crate) fn tried<T: Threads + Sync, V: StopWatch>(
     let ran = Ran::new(alloc, program)?;
     let searched = try_program(team, alloc, &read.program, search.worlds, &ran, watch)?;
     let millis = watch.stop();
-    let never_run = ran.never_run(alloc, program)?;
-    found_reply(alloc, read, search, &searched, millis, &never_run)
+    let never_met = NeverMet::of(alloc, &ran, program, &read.names)?;
+    found_reply(alloc, read, search, &searched, millis, &never_met)
 }

@@ -1,4 +1,4 @@
-//! The rows of a lock program's own lines: each looks at one word, as one step, and then its seat goes on.
+//! The rows of a lock program's own lines: each but `out` looks at one word, as one step, and then its seat goes on.
 #![tactic(auto)]
 
 mod going;

@@ -9,8 +9,8 @@
 //! heirs have theirs: it takes their names away, then looks whether they are granted, and sleep; who grants
 //! stores a grant, then looks whether its seat is still named. All four are in one order, the same for all
 //! threads: either the seat finds its heir granted, or its name was taken away before the granter's look, and
-//! the granter wakes the heir. So each that was granted is woken. A seat that is parked does its part once it
-//! polls.
+//! the granter wakes the heir. So each that was granted is woken. A seat gets heirs only where its thread
+//! sleeps, in a wait: if it polled, they would sleep until its caller comes to that.
 ghost use Rattle.std.specs.Prelude.{◌≡◌, ◌<◌, ◌≤◌, List};
 ghost use Rattle.step_law_lists.specs.ListPath.{ListStride};
 ghost use Rattle.notify_list.specs.Seats.{list_of};
@@ -39,7 +39,8 @@ fn heir(seats: &[u16], place: usize, behind: usize) -> Option<u16> {
 }
 
 impl NotifyList {
-    /// Names the heirs of these seats: those of the first are the two behind the first three, and so on.
+    /// Names the heirs of those of these seats whose threads sleep: of the first seat the two behind the first
+    /// three, and so on.
     pub(crate) fn name_heirs(&self, token: &mut Token, seats: &[u16])
         requires { list_of token.old ≡ self.now }
         ensures { IsSame token.old token.new }
@@ -53,11 +54,12 @@ impl NotifyList {
         }
     }
 
+    /// Names the heirs of a seat, where its thread sleeps.
     fn name_both(&self, token: &mut Token, seat: u16, one: Option<u16>, other: Option<u16>)
         requires { list_of token.old ≡ self.now }
         ensures { IsSame token.old token.new }
     {
-        if u32::from(seat) < self.seats {
+        if u32::from(seat) < self.seats && self.words.aside(token, self.asleep_word(seat)) != 0 {
             self.name(token, self.heir_word(seat), one);
             self.name(token, self.other_heir_word(seat), other);
         }

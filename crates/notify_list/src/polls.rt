@@ -15,21 +15,6 @@ impl NotifyList {
         ensures rows { IsPolled parked result }
         ensures caller { PollsGrant parked result }
     {
-        match self.poll_silently(parked) {
-            Polled::Still(parked) => Polled::Still(parked),
-            Polled::Granted(mut seat) => {
-                self.wake_heirs(&mut seat.token, seat.number);
-                Polled::Granted(seat)
-            }
-        }
-    }
-
-    /// The same, and nobody is woken.
-    pub(crate) fn poll_silently(&self, parked: Parked) -> Polled
-        requires { parked.list ≡ self.now }
-        ensures rows { IsPolled parked result }
-        ensures caller { PollsGrant parked result }
-    {
         let Parked { mut token, number } = parked;
         // Taken in the same step: a grant that stayed would wake the seat's next wait too.
         let found = self.words.take_grant(&mut token, grant_word(number));

@@ -131,7 +131,7 @@ impl TaskList {
             return (seat, Err(TaskRefused::OtherCall));
         };
         let TaskListSeat { token, number, .. } = seat;
-        match self.list.poll_silently(Parked { token, number }) {
+        match self.list.poll(Parked { token, number }) {
             Polled::Still(parked) => (TaskListSeat::parked(parked), Ok(TaskPolled::Still)),
             Polled::Granted(seat) => (TaskListSeat::resting(seat), Ok(TaskPolled::Granted)),
         }

@@ -5,12 +5,15 @@
 //! like is one atomic step of one word, and one stride more in the view, which read what the step found.
 //! Words, tokens' views and what a step tells are private to this crate: a crate above can neither make a
 //! step that is no stride nor count a stride that no step made, but for what is named here: looks at a lock
-//! that is held, at a grant before a sleep, and at a word for a while ([`Running::is_above_zero_soon`]); and
-//! words set aside ([`Running::set_aside`]), of which the world knows nothing.
+//! that is held, at a grant before a sleep, and at a word for a while ([`Running::is_above_zero_soon`]); the
+//! loads by which tokens are parted and joined ([`Running::make_seat`], [`Running::seat_alone`],
+//! [`Running::seat_with`], and beside its look [`Running::meet`]); and words set aside
+//! ([`Running::set_aside`]), of which the world knows nothing.
 //!
 //! [`Rows`] says what the family is; [`OneWorld`] is the rule that the words keep.
 #![tactic(auto)]
 
+mod breaks;
 mod closing;
 mod families;
 mod joins;
@@ -26,6 +29,7 @@ mod steps;
 mod view;
 
 pub use atomic_table::{Closed, Refused, TableRule};
+pub use breaks::{BREAKS_END, FIRST_BREAK, make_break};
 pub use families::{Here, Rows, Start};
 pub use rule::OneWorld;
 pub use running::Running;

@@ -15,6 +15,7 @@ ghost use Rattle.running_rows.specs.Strides.{runs_lock, Took, runs_unlock};
 ghost use Rattle.running_rows.specs.Rule.{IsSomeones};
 ghost use Rattle.running_rows.specs.Owing.{Owes, IsAside};
 
+use crate::breaks::{BREAKS_END, FIRST_BREAK, make_break};
 use crate::families::{Rows, Start};
 use crate::plays::{RunsLock, RunsUnlock, SetsAside};
 use crate::rule::OneWorld;
@@ -99,6 +100,58 @@ impl<S, V, T, K, R: Rows<S, V, T, K>> Running<S, View<V, T>, K, OneWorld<R>> {
             self.await_lock(rt, token, word, sleepers);
         }
         unreachable!()
+    }
+
+    /// The same where the lock is held for as long as its holders like: who finds it held makes breaks, and
+    /// sleeps only after some of them.
+    #[inline]
+    pub fn take_lock_patiently<A: Start<S, V>, W: Wait>(
+        &self,
+        rt: &W,
+        token: &mut Token<S, V, T>,
+        word: usize,
+        sleepers: usize,
+    )
+        requires own { (token.old.table_id ≡ self.now.table.shared.table_id)
+            × IsSomeones R.family token.old.me.0 }
+        requires words { (word < self.now.table.shared.table_id.words)
+            × (sleepers < self.now.table.shared.table_id.words) }
+        requires aside { IsAside R.family (R.family.key self.now.table.shared.key) sleepers }
+        requires owes { Owes R.family (R.family.key self.now.table.shared.key) token.old.me word
+            (λ n. either (n == 0) 1 n)
+            (runs_lock R.family A.at (step self.now.table.shared.table_id.slots word 0 1 none) token.old.me) }
+        ensures own { token.new.table_id ≡ token.old.table_id }
+        ensures took { Took R.family
+            (A.at (step self.now.table.shared.table_id.slots word 0 1 none)) token.old.me token.new.me }
+    {
+        for turn in FIRST_BREAK..BREAKS_END {
+            if self.take_lock_at_sight::<A>(token, word) {
+                return;
+            }
+            make_break(turn);
+        }
+        self.take_lock::<A, W>(rt, token, word, sleepers);
+    }
+
+    /// The same row where a look finds the lock free, and else nothing: whether it was taken.
+    #[inline]
+    fn take_lock_at_sight<A: Start<S, V>>(&self, token: &mut Token<S, V, T>, word: usize) -> bool
+        requires own { (token.old.table_id ≡ self.now.table.shared.table_id)
+            × IsSomeones R.family token.old.me.0 }
+        requires word { word < self.now.table.shared.table_id.words }
+        requires owes { Owes R.family (R.family.key self.now.table.shared.key) token.old.me word
+            (λ n. either (n == 0) 1 n)
+            (runs_lock R.family A.at (step self.now.table.shared.table_id.slots word 0 1 none) token.old.me) }
+        ensures own { token.new.table_id ≡ token.old.table_id }
+        ensures took { MatchBool result (Took R.family
+            (A.at (step self.now.table.shared.table_id.slots word 0 1 none)) token.old.me token.new.me)
+            (token.new.me ≡ token.old.me) }
+    {
+        let shared = &self.table.shared;
+        if shared.peek(word) != 0 {
+            return false;
+        }
+        shared.compare_exchange::<RunsLock<A, R, K>>(token, word, 0, 1) == 0
     }
 
     /// The row that takes a lock where it is found free within some tries, and else nothing: whether it was

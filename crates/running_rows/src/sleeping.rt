@@ -9,13 +9,13 @@
 //! To grant and to wake are two calls ([`Running::store_grant`], and [`Running::rouse`] or
 //! [`Running::wake`] behind it): who wakes looks at the word after the grant was stored, by whomever, and the
 //! same holds.
-ghost use Rattle.std.specs.Prelude.{◌≡◌, ◌<◌, [], ◌∷◌, ◌++◌};
+ghost use Rattle.std.specs.Prelude.{◌≡◌, ◌<◌, ◌≤◌, ◌^◌, [], ◌∷◌, ◌++◌};
 ghost use mathlib.Core.Option.{none};
 ghost use Rattle.atomic_table.specs.Table.{step};
 ghost use Rattle.running_rows.specs.Strides.{runs_grant, runs_take_or_nothing, RanRow, here};
 ghost use Rattle.running_rows.specs.Rule.{IsSomeones};
 ghost use Rattle.running_rows.specs.Owing.{Owes, IsAside};
-ghost use Rattle.running_rows.specs.Sleeping.{AreThere, StoresLast};
+ghost use Rattle.running_rows.specs.Sleeping.{AreThere, IsShort, StoresLast};
 
 use crate::families::Rows;
 use crate::plays::{RunsGrant, RunsTakeOrNothing, SetsAside};
@@ -30,8 +30,9 @@ use std::sync::Wait;
 /// kernel. After waits in which it looked in vain it looks the less, and from time to time as long as at
 /// first: on a busy machine who grants may be off its processor for longer than anybody should look.
 pub struct Patience {
+    /// At most 16.
     pub rounds: u32,
-    /// How many looks a round has.
+    /// How many looks a round has, at most 4,096.
     pub looks: u64,
     /// When the thread sleeps at once.
     pub gives_way: GivesWay,
@@ -65,7 +66,9 @@ const FEW: u64 = 2;
 
 impl Patience {
     /// How many looks a round has after so many waits in vain.
-    fn looks_after(&self, missed: u64) -> u64 {
+    fn looks_after(&self, missed: u64) -> u64
+        ensures { result ≤ self.now.looks }
+    {
         if missed % PROBE == 0 {
             self.looks
         } else {
@@ -75,7 +78,7 @@ impl Patience {
 }
 
 impl<S, V, T, K, R: Rows<S, V, T, K>> Running<S, View<V, T>, K, OneWorld<R>> {
-    /// Looks at a word at most so often: whether it is above 0. The first argument has no bytes: it names the
+    /// Looks at a word at most so often, 4,096 times: whether it is above 0. The first argument has no bytes: it names the
     /// type of views, for whose size a caller answers.
     #[inline]
     pub fn is_above_zero_soon(
@@ -84,7 +87,8 @@ impl<S, V, T, K, R: Rows<S, V, T, K>> Running<S, View<V, T>, K, OneWorld<R>> {
         word: usize,
         looks: u64,
     ) -> bool
-        requires { word < self.now.table.shared.table_id.words }
+        requires word { word < self.now.table.shared.table_id.words }
+        requires few { looks ≤ 2 ^ 12 }
     {
         for _ in 0..looks {
             if self.table.shared.peek(word) != 0 {
@@ -112,8 +116,9 @@ impl<S, V, T, K, R: Rows<S, V, T, K>> Running<S, View<V, T>, K, OneWorld<R>> {
         patience: &Patience,
         missed: u64,
     ) -> Looked
-        requires { (word < self.now.table.shared.table_id.words)
+        requires there { (word < self.now.table.shared.table_id.words)
             × AreThere self.now.table.shared.table_id.words patience.now.gives_way }
+        requires short { IsShort patience.now }
     {
         let looks = patience.looks_after(missed);
         for _ in 0..patience.rounds {
@@ -148,6 +153,7 @@ impl<S, V, T, K, R: Rows<S, V, T, K>> Running<S, View<V, T>, K, OneWorld<R>> {
             × (asleep < self.now.table.shared.table_id.words)
             × (misses < self.now.table.shared.table_id.words) }
         requires there { AreThere self.now.table.shared.table_id.words patience.now.gives_way }
+        requires short { IsShort patience.now }
         requires aside { IsAside R.family (R.family.key self.now.table.shared.key) asleep
             × IsAside R.family (R.family.key self.now.table.shared.key) misses }
         ensures same { (token.new.table_id ≡ token.old.table_id) × (token.new.me ≡ token.old.me) }
@@ -197,6 +203,7 @@ impl<S, V, T, K, R: Rows<S, V, T, K>> Running<S, View<V, T>, K, OneWorld<R>> {
             × (asleep < self.now.table.shared.table_id.words)
             × (misses < self.now.table.shared.table_id.words) }
         requires there { AreThere self.now.table.shared.table_id.words patience.now.gives_way }
+        requires short { IsShort patience.now }
         requires aside { IsAside R.family (R.family.key self.now.table.shared.key) asleep
             × IsAside R.family (R.family.key self.now.table.shared.key) misses }
         requires owes { Owes R.family (R.family.key self.now.table.shared.key) token.old.me word (λ _. 0)

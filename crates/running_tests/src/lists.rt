@@ -4,5 +4,6 @@ mod attempt_tests;
 mod crew;
 mod given;
 mod order_tests;
+mod poller_tests;
 mod thread_tests;
 mod ticket_tests;

@@ -7,28 +7,13 @@ ghost use Rattle.sema_table.specs.Callers.{AcquiresUnit};
 use crate::answers::Tried;
 use crate::seat::Seat;
 use crate::sema_table::{SemaTable, counter_word};
-use std::hint;
+use running_rows::{BREAKS_END, FIRST_BREAK, make_break};
 use std::marker::PhantomData;
 use std::sync::Wait;
 use waiters::CounterId;
 
 /// How often `spin` looks: what is done under a lock takes less, unless its holder lost its processor.
 const LOOKS: u64 = 100;
-/// The first break of an acquire that spins is of 2 to this power pauses. In a shorter one, who has the unit
-/// gives it back and takes it again a few times only, and the word goes from processor to processor for each.
-const FIRST_BREAK: u32 = 7;
-/// Its last break, before it queues a wait, is of half as many as 2 to this power.
-const BREAKS_END: u32 = 12;
-
-/// A break before the next look: twice as long each time, so that those who want one unit don't keep its
-/// cache line from who gives it back.
-fn make_break(turn: u32)
-    requires { turn < 32 }
-{
-    for _ in 0..1_u32 << turn {
-        hint::spin_loop();
-    }
-}
 
 impl SemaTable {
     /// Looks for a while whether the counter has a unit. Who acquires what another gives back in a moment may

@@ -22,7 +22,7 @@ mod turn;
 mod words;
 mod world;
 
-pub use changed::ChangedWorld;
+pub use changed::{ChangedWorld, ChangedWorld as BentWorld};
 pub use found::Found;
 pub use laws::{law_of_one_key, law_of_the_keys};
 pub use machine::Machine;
@@ -31,8 +31,8 @@ pub use picture::Picture;
 pub use schedule::run;
 pub use step_law_alike::{Variant, law_of_the_alike, law_of_the_changed, law_of_the_commuting};
 pub use step_law_ends::{
-    law_of_the_core_ends, law_of_the_endless_tables, law_of_the_lists_ends, law_of_the_runs_ends,
-    law_of_the_semaphores_ends,
+    law_of_the_core_ends, law_of_the_endless_tables, law_of_the_ends, law_of_the_lists_ends,
+    law_of_the_runs_ends, law_of_the_semaphores_ends,
 };
 pub use step_law_lists::{law_of_the_list_accounts, law_of_the_lists};
 pub use step_law_semaphores::{law_of_the_accounts, law_of_the_rows};

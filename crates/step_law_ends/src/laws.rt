@@ -33,6 +33,19 @@ pub fn law_of_the_runs_ends()
     ensures { TheRunEnds }
 {}
 
+/// All four: of semaphores, of one list, of the whole, and of a scenario's runs.
+pub fn law_of_the_ends()
+    ensures semaphores { TheSemaEnds }
+    ensures lists { TheListEnds }
+    ensures core { TheCoreEnds }
+    ensures runs { TheRunEnds }
+{
+    law_of_the_semaphores_ends();
+    law_of_the_lists_ends();
+    law_of_the_core_ends();
+    law_of_the_runs_ends();
+}
+
 /// Three tables, each the step table but for one row, have no weight at all: a retry that reads 0 and looks
 /// again, a try that loses for no reason, and a release that finds nobody and looks again. So no bound as
 /// those above is true of them.

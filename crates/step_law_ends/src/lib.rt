@@ -8,6 +8,6 @@
 mod laws;
 
 pub use laws::{
-    law_of_the_core_ends, law_of_the_endless_tables, law_of_the_lists_ends, law_of_the_runs_ends,
-    law_of_the_semaphores_ends,
+    law_of_the_core_ends, law_of_the_endless_tables, law_of_the_ends, law_of_the_lists_ends,
+    law_of_the_runs_ends, law_of_the_semaphores_ends,
 };

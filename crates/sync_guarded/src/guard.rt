@@ -56,6 +56,17 @@ impl<'g, T> Guard<'g, T> {
         ensures { HasLocked self.old self.new }
     {
         let guarded = self.guarded;
+        guarded.lock_patiently(rt, &mut self.token);
+        self.held = true;
+    }
+
+    /// The same by one whom a wait brings back beside others: breaks of all of them would keep the processors
+    /// from the lock's holder.
+    fn acquire_after_wait<R: Wait>(&mut self, rt: &R)
+        requires { is_held self.old ≡ false }
+        ensures { HasLocked self.old self.new }
+    {
+        let guarded = self.guarded;
         guarded.lock(rt, &mut self.token);
         self.held = true;
     }
@@ -129,6 +140,6 @@ impl<'g, T> Locker for Guard<'g, T> {
     }
 
     fn lock<R: Wait>(&mut self, rt: &R, _seat: &ListSeat) {
-        Guard::acquire(self, rt);
+        Guard::acquire_after_wait(self, rt);
     }
 }

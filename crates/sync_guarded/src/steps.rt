@@ -10,7 +10,17 @@ use running_rows::{Here, Running};
 use std::sync::Wait;
 
 impl<T> Guarded<T> {
-    /// Takes the lock, and the value out of its slot.
+    /// Takes the lock, and the value out of its slot. While another has it, it makes breaks before it sleeps.
+    pub(crate) fn lock_patiently<R: Wait>(&self, rt: &R, token: &mut GuardToken<T>)
+        requires { IsGuard self.now token.old false }
+        ensures own { IsGuard self.now token.new true }
+        ensures locked { HasLocked (guard_of token.old) (guard_of token.new) }
+    {
+        self.words
+            .take_lock_patiently::<Here, R>(rt, token, LOCK, SLEEPERS);
+    }
+
+    /// The same, with a few looks in place of the breaks.
     pub(crate) fn lock<R: Wait>(&self, rt: &R, token: &mut GuardToken<T>)
         requires { IsGuard self.now token.old false }
         ensures own { IsGuard self.now token.new true }

@@ -3,7 +3,7 @@
 use crate::machine::given::seat;
 use std::alloc::Global;
 use std::process::Abort;
-use step_core::{ChangedWorld, Moment, RunRefused, Scenario, StepRefused, Variant, World, run};
+use step_core::{BentWorld, Moment, RunRefused, Scenario, StepRefused, Variant, World, run};
 use waiters::{CounterId, NoMemory, SeatId, WaitId};
 
 /// Runs the schedule, once more where memory was refused.
@@ -65,10 +65,10 @@ pub(crate) fn changed_world_again<'s>(
     alloc: Global,
     scenario: &'s Scenario,
     variant: Variant,
-) -> ChangedWorld<'s> {
-    match ChangedWorld::new(alloc, scenario, variant) {
+) -> BentWorld<'s> {
+    match BentWorld::new(alloc, scenario, variant) {
         Ok(world) => world,
-        Err(NoMemory) => ChangedWorld::new(alloc, scenario, variant).expect(rt, "a world"),
+        Err(NoMemory) => BentWorld::new(alloc, scenario, variant).expect(rt, "a world"),
     }
 }
 
@@ -113,7 +113,7 @@ pub(crate) fn moments_key(rt: &impl Abort, alloc: Global, moment: &Moment<'_>) -
 }
 
 /// The key of the world of a changed table, asked for once more where memory was refused.
-pub(crate) fn changed_key(rt: &impl Abort, alloc: Global, world: &ChangedWorld<'_>) -> Vec<u64> {
+pub(crate) fn changed_key(rt: &impl Abort, alloc: Global, world: &BentWorld<'_>) -> Vec<u64> {
     match world.key(alloc) {
         Ok(key) => key,
         Err(NoMemory) => world.key(alloc).expect(rt, "a key"),

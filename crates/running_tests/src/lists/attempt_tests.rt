@@ -7,7 +7,7 @@ use notify_list::{Entered, ListSeat, Notified, NotifyList, Parked, Polled};
 use std::process::Abort;
 
 /// Takes the next ticket, which is this one, and queues its wait.
-fn parks(rt: &impl Abort, list: &NotifyList, seat: ListSeat, ticket: u64) -> Parked
+pub(crate) fn parks(rt: &impl Abort, list: &NotifyList, seat: ListSeat, ticket: u64) -> Parked
     requires { seat.list ≡ list.now }
     ensures { result.list ≡ list.now }
 {
@@ -30,7 +30,7 @@ fn stays(rt: &impl Abort, list: &NotifyList, parked: Parked) -> Parked
 }
 
 /// Its wait is granted.
-fn leaves(rt: &impl Abort, list: &NotifyList, parked: Parked) -> ListSeat
+pub(crate) fn leaves(rt: &impl Abort, list: &NotifyList, parked: Parked) -> ListSeat
     requires { parked.list ≡ list.now }
     ensures { result.list ≡ list.now }
 {

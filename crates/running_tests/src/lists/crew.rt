@@ -26,8 +26,8 @@ pub(crate) enum Way {
 
 /// What a thread hands back: a seat of this list.
 #[derive(Clone, Copy, Drop)]
-struct Back<'l> {
-    list: &'l NotifyList,
+pub(crate) struct Back<'l> {
+    pub(crate) list: &'l NotifyList,
 }
 
 impl<'l> Promise<ListSeat> for Back<'l> {
@@ -35,7 +35,7 @@ impl<'l> Promise<ListSeat> for Back<'l> {
 }
 
 /// A thread that waits for a seat.
-type Waiter<'l> = PromisedHandle<ListSeat, Back<'l>>;
+pub(crate) type Waiter<'l> = PromisedHandle<ListSeat, Back<'l>>;
 
 /// Looks for the grant of a queued wait until it is there.
 fn polls_on<R: Wait>(rt: &R, list: &NotifyList, parked: Parked) -> ListSeat
@@ -191,7 +191,7 @@ fn hire_all<'s, E, R: Threads + Wait + Sync>(
 }
 
 /// This seat, and those of all threads once they have ended. Where memory is short there are fewer.
-fn join_all<'s, R: Threads>(
+pub(crate) fn join_all<'s, R: Threads>(
     rt: &R,
     alloc: Global,
     list: &'s NotifyList,

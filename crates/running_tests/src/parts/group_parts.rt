@@ -1,10 +1,10 @@
 //! What threads do with the members of a wait group.
 
 use crate::parts::group_given::{Answer, Call, Member};
+use crate::tables::given::{holds, is_reached};
 use std::process::Abort;
 use std::sync::Wait;
 use std::sync::atomic::{AtomicU64, Ordering};
-use std::thread;
 use std::thread::{JoinHandle, Scope};
 
 /// What a thread does.
@@ -29,17 +29,6 @@ pub(crate) struct Back<'g> {
     pub(crate) last: Answer,
 }
 
-/// Whether the flag is set before many looks.
-fn sees(flag: &AtomicU64) -> bool {
-    for _ in 0..10_000_000 {
-        if flag.load(Ordering::SeqCst) == 1 {
-            return true;
-        }
-        thread::yield_now();
-    }
-    false
-}
-
 /// What comes before the last call of a part, and the answer to its first call.
 fn begins<R: Abort + Wait>(rt: &R, member: &mut Member<'_>, part: Part<'_>) -> Answer {
     match part {
@@ -51,7 +40,7 @@ fn begins<R: Abort + Wait>(rt: &R, member: &mut Member<'_>, part: Part<'_>) -> A
         }
         Part::Signals(mine, other) => {
             mine.store(1, Ordering::SeqCst);
-            assert!(rt; sees(other));
+            holds(rt, is_reached(other, 1));
             Ok(0)
         }
     }

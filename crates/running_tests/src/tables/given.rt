@@ -8,6 +8,8 @@ use sema_table::{Seat, SemaTable, Settings, SetupError, Tried};
 use std::alloc::Global;
 use std::process::Abort;
 use std::sync::Wait;
+use std::sync::atomic::{AtomicU64, Ordering};
+use std::thread;
 use waiters::CounterId;
 
 /// An assertion. One that stands in a function of its own is proved once: `assert!` makes each body larger.
@@ -143,4 +145,15 @@ pub(crate) fn adds<R: Abort + Wait>(
 /// How many units the seat may add, and how many it was given.
 pub(crate) fn counts(rt: &impl Abort, seat: &Seat, left: u64, taken: u64) {
     holds(rt, seat.left() == left && seat.taken() == taken);
+}
+
+/// Whether the mark is at least this before many looks.
+pub(crate) fn is_reached(mark: &AtomicU64, least: u64) -> bool {
+    for _ in 0..10_000_000 {
+        if mark.load(Ordering::SeqCst) >= least {
+            return true;
+        }
+        thread::yield_now();
+    }
+    false
 }

@@ -23,8 +23,11 @@ take_when_granted-requires g c =
           (
             (low_word x c.self.invariant 0 (omega arith), low_word x c.self.invariant 1 (omega arith)),
             (
-              (asleep.1, misses.1),
-              takes_at _ s.me _ _ (stands_parked s n K) K.ticket refl (let j = K.token_is.number_is in omega (arith, grant, j)),
+              (omega arith, omega arith),
+              (
+                (asleep.1, misses.1),
+                takes_at _ s.me _ _ (stands_parked s n K) K.ticket refl (let j = K.token_is.number_is in omega (arith, grant, j)),
+              ),
             ),
           ),
         ),

@@ -6,7 +6,7 @@ use Rattle.notify_list.proofs.Owned.{own, grant_low, owned}
 use Rattle.notify_list.proofs.Parking.{receives_at, stands_parked, seat_still, polled_still, seat_woken, takes_grant}
 use Rattle.notify_list.proofs.Answering.{is_sound}
 use Rattle.notify_list.proofs.Callers.{polls_still, polls_granted}
-use Rattle.notify_list.proofs.notify_list.NotifyList.poll_silently.Goals as goal
+use Rattle.notify_list.proofs.notify_list.NotifyList.poll.Goals as goal
 
 pub take_grant-found-requires : goal.take_grant-found-requires
 take_grant-found-requires c =
