@@ -19,8 +19,8 @@ _parklot_options() {
     check) echo "$search --every --help" ;;
     explore) echo "$search --depth --variant --help" ;;
     replay) echo "--schedule --schedule-of --variant --every --table --columns --scenario --help" ;;
-    try) echo "$search --help" ;;
-    retrace) echo "--schedule --table --columns --help" ;;
+    try) echo "$search --rows --help" ;;
+    retrace) echo "--schedule --rows --table --columns --help" ;;
     judge) echo "--lock --settled --most --help" ;;
     threads) echo "--workers --rounds --help" ;;
     *) echo "--help" ;;

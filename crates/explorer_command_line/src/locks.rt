@@ -15,6 +15,14 @@ Status: 0 not bad, 1 the schedule ends in a bad world,
         2 refused: words, text, schedule, one of its steps, memory, a file or a stream
 A lock program has words and branches of its own: docs/LOCKS.md";
 
+/// Whether each row of a call is told.
+const ROWS: Argument = Argument {
+    name: "rows",
+    is_named: true,
+    takes: FLAG,
+    help: "Tell each row of a call in a line of its own",
+};
+
 const TRY_ARGUMENTS: &[Argument] = &[
     Argument {
         name: "worlds",
@@ -28,6 +36,7 @@ const TRY_ARGUMENTS: &[Argument] = &[
         takes: FLAG,
         help: "Draw the schedule that was found as a table, in place of its lines",
     },
+    ROWS,
     STATS,
     PROGRESS,
     SEARCHERS,
@@ -47,6 +56,7 @@ const RETRACE_ARGUMENTS: &[Argument] = &[
         takes: FLAG,
         help: "Draw the steps as a table: a column a seat, and one for each word that changes",
     },
+    ROWS,
     PROGRAM_FILE,
 ];
 

@@ -30,8 +30,8 @@ IsWithin (Replay spelled table every drawn) = Unit {0}
 
 -- 1 to 1,000,000,000 worlds
 abbrev pub IsTriedWithin : LockCommand → Type 0
-IsTriedWithin (Try worlds drawn counted live) = IsFromOne 1000000000 worlds
-IsTriedWithin (Retrace spelled drawn) = Unit {0}
+IsTriedWithin (Try worlds layout counted live) = IsFromOne 1000000000 worlds
+IsTriedWithin (Retrace spelled layout) = Unit {0}
 
 -- the numbers are within the limits of their command: 1 to 64 threads share a search, 1 to 1,000,000 lines
 -- are judged
@@ -89,8 +89,8 @@ with_schedule (OfScenario (Replay spelled table every drawn) file answer threads
 with_schedule asked schedule = asked
 
 abbrev is_tried_watched : LockCommand → Bool
-is_tried_watched (Try worlds drawn counted live) = live
-is_tried_watched (Retrace spelled drawn) = false
+is_tried_watched (Try worlds layout counted live) = live
+is_tried_watched (Retrace spelled layout) = false
 
 -- it is to be told how far a search has come, while it runs
 abbrev pub is_watched : Invocation → Bool

@@ -12,7 +12,7 @@ use explorer_scenarios::{
 };
 use explorer_threads::{MAX_ROUNDS, MAX_WORKERS};
 use journal_judge::Demands;
-use lock_commands::LockCommand;
+use lock_commands::{Layout, LockCommand};
 use std::alloc::{AllocError, Global};
 use step_core::Variant;
 
@@ -138,6 +138,17 @@ fn replay_asked<'w>(alloc: Global, given: &ArgMatches<'w>) -> Result<Invocation<
     })
 }
 
+/// How the steps of a lock program are told; beside a table rows have lines of their own anyway.
+fn layout_of(given: &ArgMatches<'_>) -> Layout {
+    if given.get_flag("table") {
+        Layout::Table
+    } else if given.get_flag("rows") {
+        Layout::Rows
+    } else {
+        Layout::Lines
+    }
+}
+
 /// What `try` is asked for.
 fn try_asked<'w>(given: &ArgMatches<'w>) -> Invocation<'w>
     ensures limits { IsWithinLimits result }
@@ -147,7 +158,7 @@ fn try_asked<'w>(given: &ArgMatches<'w>) -> Invocation<'w>
     Invocation::OfLockProgram {
         command: LockCommand::Try {
             worlds: worlds_of(given, CHECKED_WORLDS),
-            drawn: given.get_flag("table"),
+            layout: layout_of(given),
             counted: given.get_flag("stats"),
             live: given.get_flag("progress"),
         },
@@ -165,7 +176,7 @@ fn retrace_asked<'w>(given: &ArgMatches<'w>) -> Invocation<'w>
     Invocation::OfLockProgram {
         command: LockCommand::Retrace {
             schedule: given.get_str("schedule").unwrap_or(""),
-            drawn: given.get_flag("table"),
+            layout: layout_of(given),
         },
         file: file_of(given.get_str("file")),
         threads: 1,

@@ -113,8 +113,8 @@ RepliesRetraced spelled program text exit =
 
 -- what the command replies to a program
 abbrev pub Replies : LockCommand → Program → List ℕ → Exit → Type 0
-Replies (Try worlds drawn counted live) program text exit = RepliesTried worlds program text exit
-Replies (Retrace spelled drawn) program text exit = RepliesRetraced spelled.now program text exit
+Replies (Try worlds layout counted live) program text exit = RepliesTried worlds program text exit
+Replies (Retrace spelled layout) program text exit = RepliesRetraced spelled.now program text exit
 
 -- what it replies to a text: its fault, or what it replies to its program
 abbrev pub RepliesToText : LockCommand → List ℕ → List ℕ → Exit → Type 0

@@ -7,7 +7,7 @@ use crate::reading::ReadText;
 use crate::refusal::{Refusal, refused};
 use explorer_answers::{Answer, Exit, Reply};
 use explorer_text::read_schedule;
-use lock_retrace::{Ending, retrace};
+use lock_retrace::{Ending, Layout, retrace};
 use std::alloc::Global;
 use waiters::NoMemory;
 
@@ -29,7 +29,7 @@ pub(crate) fn retraced(
     alloc: Global,
     read: &ReadText<'_>,
     schedule: &str,
-    drawn: bool,
+    layout: Layout,
 ) -> Result<Reply, NoMemory>
     ensures { IfOk result (λ reply.
         RepliesRetraced schedule.now read.now.program (string_bytes reply.answer.text) reply.answer.exit) }
@@ -37,7 +37,7 @@ pub(crate) fn retraced(
     let Some(seats) = read_schedule(alloc, schedule)? else {
         return refused(alloc, &[], Refusal::Schedule);
     };
-    let told = retrace(alloc, read.text, &read.names, &read.program, &seats, drawn)?;
+    let told = retrace(alloc, read.text, &read.names, &read.program, &seats, layout)?;
     Ok(Reply {
         answer: Answer {
             text: told.text,
