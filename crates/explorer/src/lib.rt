@@ -26,7 +26,7 @@ pub use explorer_threads::{
     Closed, Gate, MAX_ROUNDS, MAX_WORKERS, Open, ThreadsRefused, run_threads, threads_io,
 };
 pub use explorer_words::{FileFault, Invocation, no_file, no_words, read_words};
-pub use lock_commands::{LockCommand, lock_command_io};
+pub use lock_commands::{Layout, LockCommand, lock_command_io};
 pub use program::asked_io;
 pub use ticker::Ticker;
 pub use whole::parklot_io;

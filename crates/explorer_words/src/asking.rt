@@ -138,7 +138,7 @@ fn replay_asked<'w>(alloc: Global, given: &ArgMatches<'w>) -> Result<Invocation<
     })
 }
 
-/// How the steps of a lock program are told; beside a table rows have lines of their own anyway.
+/// How the steps of a lock program are told; a table has a line for each row anyway.
 fn layout_of(given: &ArgMatches<'_>) -> Layout {
     if given.get_flag("table") {
         Layout::Table
