@@ -18,10 +18,7 @@ const fn and_bytes(times: usize) -> Repeated<'static> {
 
 /// Only the first read succeeds, and it gives all.
 const ONE_READ: Devices = Devices {
-    input: Calls {
-        at_once: usize::MAX,
-        left: 1,
-    },
+    input: Calls { left: 1, ..SOUND },
     ..ALL_SOUND
 };
 
