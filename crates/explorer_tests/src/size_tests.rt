@@ -1,7 +1,7 @@
 //! Texts and schedules as long as they may be, and longer by one.
 
 use crate::asked::{ALL_SOUND, Devices, Host, Told, tells_over};
-use crate::devices::Calls;
+use crate::devices::{Calls, SOUND};
 use crate::reading::ONE_ACQUIRE;
 use crate::repeated::{Repeated, bytes_again};
 use std::alloc::Global;
