@@ -29,7 +29,7 @@ abbrev pub IsTextFor : Invocation → Option (List ℕ) → Option (List ℕ) �
 IsTextFor Once old new text exit = IsOnceAnswer text exit
 IsTextFor (OfScenario command file answer threads) old new text exit =
     IsToldOf (IsAnswerOf command) old new text exit
-IsTextFor (OfLockProgram command file threads) old new text exit =
+IsTextFor (OfLockProgram command file answer threads) old new text exit =
     IsToldOf (lock.RepliesTo command) old new text exit
 IsTextFor (Judge file demands most) old new text exit = IsJudgeToldOf demands most old new text exit
 IsTextFor (Threads workers rounds) old new text exit = IsThreadsAnswer workers rounds text exit
@@ -43,7 +43,7 @@ abbrev pub IsAnswerTo : Invocation → Option (List ℕ) → Option (List ℕ) �
     → Type 0
 IsAnswerTo (OfScenario command file answer threads) old new aside text exit =
     IsReplyOf command old new aside text exit
-IsAnswerTo (OfLockProgram command file threads) old new aside text exit =
+IsAnswerTo (OfLockProgram command file answer threads) old new aside text exit =
     lock.IsReplyOf command old new aside text exit
 IsAnswerTo (Judge file demands most) old new aside text exit =
     IsJudgeReplyOf demands most old new aside text exit
@@ -52,7 +52,7 @@ IsAnswerTo asked old new aside text exit = IsTextFor asked old new text exit × 
 -- the command reads an input
 abbrev pub reads_input : Invocation → Bool
 reads_input (OfScenario command file answer threads) = true
-reads_input (OfLockProgram command file threads) = true
+reads_input (OfLockProgram command file answer threads) = true
 reads_input (Judge file demands most) = true
 reads_input _ = false
 
@@ -73,9 +73,15 @@ abbrev pub fault_text : IoFault → List ℕ
 fault_text Read = line (codes "parklot: read failed")
 fault_text Write = line (codes "parklot: write failed")
 
-abbrev pub beside : Invocation → Result Outcome IoFault → Option (List ℕ)
-beside asked (Ok told) = or_mistake (option_map string_bytes told.aside) asked
-beside asked (Err fault) = Some (fault_text fault)
+-- of a write that failed nothing is said where it found that nobody reads what goes out
+abbrev pub unless_closed : Bool → Option (List ℕ)
+unless_closed true = None
+unless_closed false = Some (fault_text Write)
+
+abbrev pub beside : Invocation → Result Outcome IoFault → Bool → Option (List ℕ)
+beside asked (Ok told) closed = or_mistake (option_map string_bytes told.aside) asked
+beside asked (Err Read) closed = Some (fault_text Read)
+beside asked (Err Write) closed = unless_closed closed
 
 -- the status after a command that ended so, or in which a read or a write failed
 abbrev pub status_after : Result Outcome IoFault → ℕ

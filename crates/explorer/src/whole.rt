@@ -94,7 +94,7 @@ fn shown_io<T: Threads + Wait + Clock + Sync, R: Source, O: Sink, E: Sink>(
         let mut watch = Ticker::new(rt, alloc, err, bound_told(asked));
         answer_io(rt, alloc, asked, reader, out, &mut watch)
     };
-    tell_beside(beside(asked, &outcome), err);
+    tell_beside(beside(asked, &outcome, out.is_closed()), err);
     status_after(&outcome)
 }
 

@@ -12,7 +12,7 @@ use std::alloc::{AllocError, Global};
 static STATUSES: &str = "\
 Status: 0 nothing bad, 1 something bad was found, 3 gave up,
         2 refused: words, text, schedule, memory, a file or a stream
-The form of a scenario's text: parklot format";
+The form of a scenario's text: parklot format; of a lock program's: parklot format lock";
 
 /// The same, below a command that searches.
 const SEARCH_STATUSES: &str = "\
@@ -79,7 +79,7 @@ const REPLAY_ARGUMENTS: &[Argument] = &[
         name: "schedule",
         is_named: true,
         takes: Takes::Schedule {
-            other: Some("schedule-of"),
+            other: "schedule-of",
         },
         help: "The numbers of the seats that step, one space apart, at most 256",
     },
@@ -176,6 +176,13 @@ const THREADS_ARGUMENTS: &[Argument] = &[
     },
 ];
 
+const FORMAT_ARGUMENTS: &[Argument] = &[Argument {
+    name: "kind",
+    is_named: false,
+    takes: Takes::Kind,
+    help: "Of which text: scenario or lock; without it scenario",
+}];
+
 /// The commands, in the order of the help.
 static COMMANDS: [Row; 9] = [
     Row {
@@ -218,8 +225,8 @@ static COMMANDS: [Row; 9] = [
     },
     Row {
         name: "format",
-        about: "Tell the form of a scenario's text",
-        arguments: &[],
+        about: "Tell the form of a scenario's text, or of a lock program's",
+        arguments: FORMAT_ARGUMENTS,
         below: None,
     },
 ];

@@ -7,13 +7,13 @@ use crate::shared::{FLAG, PROGRAM_FILE, PROGRESS, SEARCHERS, STATS, WORLDS};
 const TRY_STATUSES: &str = "\
 Status: 0 nothing bad, 1 a bad world was found, 3 gave up,
         2 refused: words, text, memory, a file or a stream
-A lock program has words and branches of its own: docs/LOCKS.md";
+A lock program has words and branches of its own: parklot format lock";
 
 /// The same of `retrace`.
 const RETRACE_STATUSES: &str = "\
 Status: 0 not bad, 1 the schedule ends in a bad world,
         2 refused: words, text, schedule, one of its steps, memory, a file or a stream
-A lock program has words and branches of its own: docs/LOCKS.md";
+A lock program has words and branches of its own: parklot format lock";
 
 /// Whether each row of a call is told.
 const ROWS: Argument = Argument {
@@ -47,8 +47,18 @@ const RETRACE_ARGUMENTS: &[Argument] = &[
     Argument {
         name: "schedule",
         is_named: true,
-        takes: Takes::Schedule { other: None },
-        help: "The numbers of the seats that step, one space apart, at most 256",
+        takes: Takes::Schedule {
+            other: "schedule-of",
+        },
+        help: "The numbers of the seats that step, one space apart",
+    },
+    Argument {
+        name: "schedule-of",
+        is_named: true,
+        takes: Takes::File {
+            other: Some("schedule"),
+        },
+        help: "The answer of try whose schedule is told; - for standard input",
     },
     Argument {
         name: "table",

@@ -6,7 +6,7 @@ ghost use Rattle.lock_commands.specs.Commands.{RepliesRetraced, exit_of};
 use crate::reading::ReadText;
 use crate::refusal::{Refusal, refused};
 use explorer_answers::{Answer, Exit, Reply};
-use explorer_text::read_schedule;
+use explorer_text::read_seats;
 use lock_retrace::{Ending, Layout, retrace};
 use std::alloc::Global;
 use waiters::NoMemory;
@@ -22,7 +22,7 @@ fn exit_of(ending: Ending) -> Exit
     }
 }
 
-/// What `retrace` replies to a lock program, with the text of a schedule.
+/// What `retrace` replies to a lock program, with the text of a schedule, however long.
 ///
 /// It is an `Err` where memory is short.
 pub(crate) fn retraced(
@@ -34,7 +34,7 @@ pub(crate) fn retraced(
     ensures { IfOk result (λ reply.
         RepliesRetraced schedule.now read.now.program (string_bytes reply.answer.text) reply.answer.exit) }
 {
-    let Some(seats) = read_schedule(alloc, schedule)? else {
+    let Some(seats) = read_seats(alloc, schedule)? else {
         return refused(alloc, &[], Refusal::Schedule);
     };
     let told = retrace(alloc, read.text, &read.names, &read.program, &seats, layout)?;
