@@ -1,7 +1,7 @@
 //! The commands that read the text of a lock program.
 
 use crate::argument::{Argument, Row, Takes};
-use crate::shared::{FLAG, PROGRAM_FILE, PROGRESS, SEARCHERS, STATS, WORLDS};
+use crate::shared::{COLUMNS, FLAG, PROGRAM_FILE, PROGRESS, SEARCHERS, STATS, WORLDS};
 
 /// What the exit statuses of `try` mean, and what a lock program is.
 const TRY_STATUSES: &str = "\
@@ -28,6 +28,7 @@ const TRY_ARGUMENTS: &[Argument] = &[
         takes: FLAG,
         help: "Draw the schedule that was found as a table, in place of its lines",
     },
+    COLUMNS,
     STATS,
     PROGRESS,
     SEARCHERS,
@@ -47,6 +48,7 @@ const RETRACE_ARGUMENTS: &[Argument] = &[
         takes: FLAG,
         help: "Draw the steps as a table: a column a seat, and one for each word that changes",
     },
+    COLUMNS,
     PROGRAM_FILE,
 ];
 
