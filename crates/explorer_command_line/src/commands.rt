@@ -3,7 +3,7 @@
 use crate::argument::{Argument, Numbers, Row, Takes, made_argument};
 use crate::locks::{RETRACE, TRY};
 use crate::shared::{
-    DRAWN, EVERY, FLAG, PROGRESS, SCENARIO_FILE, SEARCHERS, STATS, VARIANT, WORLDS,
+    COLUMNS, DRAWN, EVERY, FLAG, PROGRESS, SCENARIO_FILE, SEARCHERS, STATS, VARIANT, WORLDS,
 };
 use clap::{Arg, ArgAction, Command};
 use std::alloc::{AllocError, Global};
@@ -41,6 +41,7 @@ const CHECK_ARGUMENTS: &[Argument] = &[
         help: "The most worlds, 1 to 1,000,000,000; without it 2,000,000",
     },
     DRAWN,
+    COLUMNS,
     STATS,
     PROGRESS,
     SEARCHERS,
@@ -68,6 +69,7 @@ const EXPLORE_ARGUMENTS: &[Argument] = &[
         help: "The most worlds, 1 to 1,000,000,000; without it 200,000",
     },
     DRAWN,
+    COLUMNS,
     STATS,
     PROGRESS,
     SEARCHERS,
@@ -99,6 +101,7 @@ const REPLAY_ARGUMENTS: &[Argument] = &[
         takes: FLAG,
         help: "Draw the steps as a table: a column a seat, and one for each word",
     },
+    COLUMNS,
     Argument {
         name: "scenario",
         is_named: true,

@@ -1,7 +1,7 @@
 //! The commands that read the text of a lock program.
 
 use crate::argument::{Argument, Row, Takes};
-use crate::shared::{FLAG, PROGRAM_FILE, PROGRESS, SEARCHERS, STATS, WORLDS};
+use crate::shared::{COLUMNS, FLAG, PROGRAM_FILE, PROGRESS, SEARCHERS, STATS, WORLDS};
 
 /// What the exit statuses of `try` mean, and what a lock program is.
 const TRY_STATUSES: &str = "\
@@ -37,6 +37,7 @@ const TRY_ARGUMENTS: &[Argument] = &[
         help: "Draw the schedule that was found as a table, in place of its lines",
     },
     ROWS,
+    COLUMNS,
     STATS,
     PROGRESS,
     SEARCHERS,
@@ -67,6 +68,7 @@ const RETRACE_ARGUMENTS: &[Argument] = &[
         help: "Draw the steps as a table: a column a seat, and one for each word that changes",
     },
     ROWS,
+    COLUMNS,
     PROGRAM_FILE,
 ];
 
