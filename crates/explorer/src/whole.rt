@@ -79,7 +79,7 @@ fn bound_told(asked: &Invocation<'_>, is_seen: bool) -> Option<u32> {
 
 /// How what is asked is shown.
 #[derive(Clone, Copy, Drop)]
-struct View {
+struct Showing {
     /// Its tables have so many columns at most, where that is told.
     columns: Option<u16>,
     /// Somebody sees what is told beside.
@@ -92,7 +92,7 @@ fn shown_io<T: Threads + Wait + Clock + Sync, R: Source, O: Sink, E: Sink>(
     rt: &T,
     alloc: Global,
     asked: &Invocation<'_>,
-    view: View,
+    view: Showing,
     reader: &mut R,
     out: &mut O,
     err: &mut E,
@@ -103,7 +103,7 @@ fn shown_io<T: Threads + Wait + Clock + Sync, R: Source, O: Sink, E: Sink>(
     ensures { HasDone asked.now view.columns (R.contents reader.old) (R.contents reader.new) (R.has_failed reader.new)
         (O.contents out.old) (O.contents out.new) (O.has_failed out.new) result }
 {
-    let View { columns, is_seen } = view;
+    let Showing { columns, is_seen } = view;
     let mut without = Vec::new(alloc);
     let outcome = {
         let mut watch = Ticker::new(rt, alloc, err, bound_told(asked, is_seen));
@@ -119,7 +119,7 @@ fn opened_io<T: Files + Threads + Wait + Clock + Sync, R: Source, O: Sink, E: Si
     rt: &T,
     alloc: Global,
     asked: &Invocation<'_>,
-    view: View,
+    view: Showing,
     reader: &mut R,
     out: &mut O,
     err: &mut E,
@@ -187,7 +187,7 @@ pub fn parklot_io<T: Files + Threads + Wait + Clock + Sync, R: Source, O: Sink, 
     let mut room = Vec::new(alloc);
     let line = read_line(alloc, words.as_slice());
     tell_before(alloc, &line, surroundings, err);
-    let view = View {
+    let view = Showing {
         columns: line.columns,
         is_seen: surroundings.is_seen,
     };
