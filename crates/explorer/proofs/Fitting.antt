@@ -11,7 +11,6 @@ use Rattle.explorer.specs.Columns.{Line, IsCut, IsFitted, whole_line, told_line,
 true_false : true ≡ false → ⊥
 true_false e = absurd cc
 
-
 no_feed_by : (t : Bool) (x : ℕ) (xs : List ℕ) (n : ℕ) → (x == 10) ≡ t
     → AllByRecursion (λ byte. byte ≢ 10) (take n xs) → AllByRecursion (λ byte. byte ≢ 10) (take (cond (not t) (1 + n) 0) (x ∷ xs))
 no_feed_by true x xs n e all = tt
@@ -105,12 +104,14 @@ goes_on most text rest told line end behind kept (lines, all, whole, so_far) par
       ended = ended_of left end P Q ends cut;
       cut = cut_of left end (IsTrue (may_be_row (kept ++ left))) Q
           (subst (λ (xs : List ℕ). (left ≡ []) ⊎ ((end ≢ []) × IsTrue (may_be_row xs) × (length kept ≤ max most 4))) of cut);
-    } in
-    (lines ++ l ∷ [], all_more most lines l all is,
-    whole ∙ ap (λ (xs : List ℕ). flat_map whole_line lines ++ xs) (parts ∙ ap (λ (xs : List ℕ). (xs ++ end) ++ behind) of)
-    ∙ sym (append_assoc (flat_map whole_line lines) ((kept ++ left) ++ end) behind)
-    ∙ ap (λ (xs : List ℕ). xs ++ behind) (flat_map_more whole_line [] lines l),
-    append_assoc told kept end ∙ ap (λ (xs : List ℕ). xs ++ (kept ++ end)) so_far ∙ flat_map_more told_line [] lines l)
+    } in (
+      lines ++ l ∷ [],
+      all_more most lines l all is,
+      whole ∙ ap (λ (xs : List ℕ). flat_map whole_line lines ++ xs) (parts ∙ ap (λ (xs : List ℕ). (xs ++ end) ++ behind) of)
+          ∙ sym (append_assoc (flat_map whole_line lines) ((kept ++ left) ++ end) behind)
+          ∙ ap (λ (xs : List ℕ). xs ++ behind) (flat_map_more whole_line [] lines l),
+      append_assoc told kept end ∙ ap (λ (xs : List ℕ). xs ++ (kept ++ end)) so_far ∙ flat_map_more told_line [] lines l,
+    )
 
 pub ends : (most : ℕ) (text rest told : List ℕ) → StandsAt most text rest told → length rest ≡ 0 → IsFitted most text told
 ends most text rest told (lines, all, whole, so_far) none =
@@ -120,6 +121,8 @@ ends most text rest told (lines, all, whole, so_far) none =
 pub cut_short : (line end kept : List ℕ) (at most : ℕ) → ((x : List ℕ) × (take at line ≡ kept ++ x)) → length kept ≤ at
     → at ≤ max most 4 → end ≢ [] → IsTrue (may_be_row line)
     → (left : List ℕ) × (line ≡ kept ++ left) × ((left ≡ []) ⊎ ((end ≢ []) × IsTrue (may_be_row line) × (length kept ≤ max most 4)))
-cut_short line end kept at most (x, is) short within some row =
-    (x ++ drop at line, sym (take-append-drop at line) ∙ ap (λ (xs : List ℕ). xs ++ drop at line) is ∙ append_assoc kept x (drop at line),
-    inr (some, row, omega (arith, short, within)))
+cut_short line end kept at most (x, is) short within some row = (
+  x ++ drop at line,
+  sym (take-append-drop at line) ∙ ap (λ (xs : List ℕ). xs ++ drop at line) is ∙ append_assoc kept x (drop at line),
+  inr (some, row, omega (arith, short, within)),
+)

@@ -112,7 +112,11 @@ fn first_left_out(text: &[u8], head: &[u8], most: usize) -> Option<usize>
         }
         column = next;
     }
-    if width(text) > most { Some(column) } else { None }
+    if width(text) > most {
+        Some(column)
+    } else {
+        None
+    }
 }
 
 /// The line without the spaces at its end.

@@ -4,10 +4,9 @@ ghost use Rattle.std.specs.Prelude.{◌≡◌, ◌<◌, ◌*◌, ◌/◌, Option
 ghost use Rattle.explorer.specs.Surroundings.{memory_text};
 
 use explorer_words::Invocation;
-use std::fmt;
-use std::fs;
 use std::io::Read;
 use std::rt::Files;
+use std::{fmt, fs};
 
 /// How many bytes a class of worlds takes at least.
 const BYTES_OF_A_CLASS: u64 = 110;

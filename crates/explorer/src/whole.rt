@@ -107,7 +107,16 @@ fn shown_io<T: Threads + Wait + Clock + Sync, R: Source, O: Sink, E: Sink>(
     let mut without = Vec::new(alloc);
     let outcome = {
         let mut watch = Ticker::new(rt, alloc, err, bound_told(asked, is_seen));
-        shown_answer_io(rt, alloc, asked, columns, reader, out, &mut watch, &mut without)
+        shown_answer_io(
+            rt,
+            alloc,
+            asked,
+            columns,
+            reader,
+            out,
+            &mut watch,
+            &mut without,
+        )
     };
     tell_beside(beside(asked, &outcome, out.is_closed()), err);
     let _ = write_all(err, &without);
@@ -138,7 +147,15 @@ fn opened_io<T: Files + Threads + Wait + Clock + Sync, R: Source, O: Sink, E: Si
     };
     match open_file(rt, name) {
         Ok(file) => shown_io(rt, alloc, asked, view, &mut Flagged::new(file), out, err),
-        Err(fault) => shown_io(rt, alloc, &no_file(alloc, name, fault), view, reader, out, err),
+        Err(fault) => shown_io(
+            rt,
+            alloc,
+            &no_file(alloc, name, fault),
+            view,
+            reader,
+            out,
+            err,
+        ),
     }
 }
 

@@ -15,7 +15,7 @@ use Rattle.notify_list.specs.Places.{at_place}
 use Rattle.notify_list.specs.Seats.{SeatModel}
 use Rattle.notify_list.specs.Calls.{Calls, AllGranted}
 use Rattle.notify_list.specs.declared.notified.Notified.{Notified}
-use Rattle.notify_list.specs.Tickets.{looks, HasLooked, FindsHeldAfterLooks}
+use Rattle.notify_list.specs.Tickets.{looks, FindsHeldAfterLooks}
 use Rattle.notify_list.specs.Meeting.{FindsHeld}
 use Rattle.notify_list.specs.Notifying.{OneFromLock, NotifiesOne, GrantsLeast, ticket_of}
 use Rattle.notify_list.specs.NotifyingAll.{looks_all, all_rows, all_entries, NotifiesAll, GrantsSome, GrantsUpTo, EndsAll}

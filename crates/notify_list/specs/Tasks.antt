@@ -1,6 +1,6 @@
 -- What each call of a task is, by its answer. What it did is what the list's own call does; where it was
 -- refused nothing was done.
-use Rattle.std.specs.Prelude.{◌≡◌, ◌≢◌, ℕ, Bool, true, false, Option, IfSome, IfNone, Result, Ok, Err, List}
+use Rattle.std.specs.Prelude.{◌≡◌, ◌≢◌, ℕ, Bool, true, Option, IfSome, IfNone, Result, Ok, Err, List}
 use Rattle.std.specs.Prelude.{map}
 use Rattle.notify_list.specs.declared.notified.Notified.{Notified}
 use Rattle.notify_list.specs.declared.notified.NotifiedAll.{NotifiedAll}

@@ -21,7 +21,15 @@ fn main(rt: HostRuntime) -> ExitCode {
         .collect(alloc)
         .map_err(io::Error::from));
     ExitCode::from(match words {
-        Ok(words) => parklot_io(&rt, alloc, words, surroundings, &mut input, &mut out, &mut err),
+        Ok(words) => parklot_io(
+            &rt,
+            alloc,
+            words,
+            surroundings,
+            &mut input,
+            &mut out,
+            &mut err,
+        ),
         Err(error) => {
             let asked = no_words(&error);
             asked_io(&rt, alloc, &asked, &mut input, &mut out, &mut err, &mut ())

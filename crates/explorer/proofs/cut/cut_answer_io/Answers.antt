@@ -17,7 +17,7 @@ pub returns-in_err-write_all-in-Ok-fit_tables-clause-begun : goal.returns-in_err
 returns-in_err-write_all-in-Ok-fit_tables-clause-begun g c = λ e.
     let aside = option_map string_bytes c.in-Ok.told.aside in
     let is : IsAnswerWithin c.args.columns c.args.asked.now (g.R.Source.contents c.args.reader.now)
-        (g.R.Source.contents c.answer_io.new.reader) aside c.in-Ok-fit_tables.fitted.text.items c.in-Ok.told.exit = search rules in
+    (g.R.Source.contents c.answer_io.new.reader) aside c.in-Ok-fit_tables.fitted.text.items c.in-Ok.told.exit = search rules in
     let begun : WritesBeginning (g.O.Sink.contents c.args.out.now) (g.O.Sink.contents c.write_all.new.out)
-        c.in-Ok-fit_tables.fitted.text.items = search rules in
+    c.in-Ok-fit_tables.fitted.text.items = search rules in
     (c.in-Ok-fit_tables.fitted.text.items, c.in-Ok.told.exit, (aside, is), begun)

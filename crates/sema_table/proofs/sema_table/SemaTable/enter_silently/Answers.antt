@@ -19,7 +19,7 @@ invariant_of-result c = held_seat c.seat.inside.token c.try_lock.new.token c.sea
 pub returns-then-not-try_lock-clause-rows : goal.returns-then-not-try_lock-clause-rows
 returns-then-not-try_lock-clause-rows c =
     subst (λ (x : SeatModel). FindsHeld x c.args.counter (seat_of c.try_lock.new.token c.seat.inside.numbers)) c.seat.view_is
-        (finds_held c.seat.inside.token c.try_lock.new.token c.seat.inside.numbers c.args.counter c.if-not-try_lock.ensures c.seat.invariant.token_is)
+    (finds_held c.seat.inside.token c.try_lock.new.token c.seat.inside.numbers c.args.counter c.if-not-try_lock.ensures c.seat.invariant.token_is)
 
 pub returns-then-not-try_lock-clause-caller : goal.returns-then-not-try_lock-clause-caller
 returns-then-not-try_lock-clause-caller c = stands_on c.args.seat (seat_of c.try_lock.new.token c.seat.inside.numbers) c.args.counter

@@ -17,7 +17,7 @@ returns-clause-caller c = wakes c.args.owing c.wake_locked.result.0 c.args.hando
 pub invariant_of-result : goal.invariant_of-result
 invariant_of-result c =
     held_midway c.owing.inside.token c.try_lock_released.new.token c.owing.inside.numbers c.owing.inside.counter c.if-not-try_lock_released.ensures
-        c.owing.invariant.token_is c.owing.inside.counter (releasing c.owing.inside.counter R3) c.owing.invariant
+    c.owing.invariant.token_is c.owing.inside.counter (releasing c.owing.inside.counter R3) c.owing.invariant
 
 pub returns-then-not-try_lock_released-clause-rows : goal.returns-then-not-try_lock_released-clause-rows
 returns-then-not-try_lock_released-clause-rows c =
