@@ -4,7 +4,7 @@ use Rattle.std.specs.Prelude.{◌≡◌, ◌≢◌, ℕ, ◌⊎◌, ◌<◌, Opt
 use Rattle.arrayvec.specs.ArrayVec.{ArrayVec}
 use Rattle.sema_table.specs.declared.answers.Wake.{Wake}
 use Rattle.sema_table.specs.declared.answers.Wake.TheVariants.{Nobody, One, Handed}
-use Rattle.c_calls.specs.Codes.{code_of}
+use Rattle.c_calls.specs.Codes.{code_of, IsDone}
 
 -- what a call is, by the seat before it, its answer, and the seat after it
 abbrev pub Call : Type 0 → Type 0 → Type 0 → Type 1
@@ -24,6 +24,10 @@ Telling Told call s a t = call s a t × IfOk a Told
 -- what a call tells beside its code it writes with such a code only: with another it stays as it was
 abbrev pub WritesOnlyWith : {X : Type 0} → (ℕ → Type 0) → ℕ → X → X → Type 0
 WritesOnlyWith Tells code before now = Tells code ⊎ (now ≡ before)
+
+-- the numbers of seats and how many they are it writes where all were woken
+abbrev pub WritesSeats : ℕ → List ℕ → List ℕ → ℕ → ℕ → Type 0
+WritesSeats code before now count counted = WritesOnlyWith IsDone code before now × WritesOnlyWith IsDone code count counted
 
 -- n is the number of the seat that was woken, if one was
 abbrev pub NamesWoken : ℕ → Wake → Type 0

@@ -1,5 +1,5 @@
 -- The code of each answer of a table, and what the codes of a table and of a list share.
-use Rattle.std.specs.Prelude.{ℕ, Result, Ok, Err}
+use Rattle.std.specs.Prelude.{◌≡◌, ◌⊎◌, ℕ, Result, Ok, Err}
 use Rattle.sema_table.specs.declared.answers.Tried.{Tried}
 use Rattle.sema_table.specs.declared.answers.Tried.TheVariants as tries
 use Rattle.sema_table.specs.declared.answers.Wake.{Wake}
@@ -66,6 +66,19 @@ told x = 0
 -- of waits that were all woken
 abbrev pub done : {X : Type 0} → X → ℕ
 done x = 4
+
+-- which codes say that something was told, that one seat was woken, with a unit or without, and that all were
+abbrev pub IsOk : ℕ → Type 0
+IsOk n = n ≡ 0
+
+abbrev pub IsOne : ℕ → Type 0
+IsOne n = n ≡ 9
+
+abbrev pub IsOneOrHanded : ℕ → Type 0
+IsOneOrHanded n = (n ≡ 9) ⊎ (n ≡ 10)
+
+abbrev pub IsDone : ℕ → Type 0
+IsDone n = n ≡ 4
 
 -- of a call that is done, or was refused
 abbrev pub code_of : {X R : Type 0} → (R → ℕ) → (X → ℕ) → Result X R → ℕ

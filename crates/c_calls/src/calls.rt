@@ -7,7 +7,7 @@ ghost use Rattle.sema_table.specs.Tasks.{RetriesByTask, WakesByTask};
 ghost use Rattle.sema_table.specs.declared.task_seat.TaskStage.TheVariants.{Resting};
 ghost use Rattle.c_calls.specs.Codes.{tried_code, entered_code, polled_code};
 ghost use Rattle.c_calls.specs.Codes.{retried_code, posted_code, wake_code};
-ghost use Rattle.c_calls.specs.Codes.{told, code_of, refused_code};
+ghost use Rattle.c_calls.specs.Codes.{told, code_of, refused_code, IsOk, IsOneOrHanded};
 ghost use Rattle.c_calls.specs.Answers.{Answers, Telling, NamesWoken, TellsNumber, MayLeave};
 ghost use Rattle.c_calls.specs.Answers.{WritesOnlyWith};
 
@@ -20,7 +20,7 @@ use sema_table::{CounterId, TaskRefused, TaskStage, Wake};
 fn tell_wake(answer: Result<Wake, TaskRefused>, woken: &mut u32) -> u32
     ensures code { result ≡ code_of refused_code wake_code answer }
     ensures told { IfOk answer (NamesWoken woken.new) }
-    ensures kept { WritesOnlyWith (λ n. (n ≡ 9) ⊎ (n ≡ 10)) result woken.old woken.new }
+    ensures kept { WritesOnlyWith IsOneOrHanded result woken.old woken.new }
 {
     match answer {
         Ok(Wake::Nobody) => NOBODY,
@@ -40,7 +40,7 @@ fn tell_wake(answer: Result<Wake, TaskRefused>, woken: &mut u32) -> u32
 fn tell_number(answer: Result<u64, TaskRefused>, number: &mut u64) -> u32
     ensures code { result ≡ code_of refused_code told answer }
     ensures told { IfOk answer (λ n. number.new ≡ n) }
-    ensures kept { WritesOnlyWith (λ n. n ≡ 0) result number.old number.new }
+    ensures kept { WritesOnlyWith IsOk result number.old number.new }
 {
     match answer {
         Ok(found) => {
@@ -55,7 +55,7 @@ impl Place {
     /// Which seat of its table it is.
     pub fn number(&self, number: &mut u32) -> u32
         ensures told { TellsNumber (λ s. s.seat.number) self.now.seat result number.new }
-        ensures kept { WritesOnlyWith (λ n. n ≡ 0) result number.old number.new }
+        ensures kept { WritesOnlyWith IsOk result number.old number.new }
     {
         let Some(seat) = &self.seat else {
             return NO_SEAT;
@@ -157,7 +157,7 @@ impl Place {
         ensures answer { Answers refused_code wake_code
             (Telling (NamesWoken woken.new) (λ s. WakesByTask s handoff))
             self.old.seat result self.new.seat }
-        ensures kept { WritesOnlyWith (λ n. (n ≡ 9) ⊎ (n ≡ 10)) result woken.old woken.new }
+        ensures kept { WritesOnlyWith IsOneOrHanded result woken.old woken.new }
     {
         let Some(seat) = self.seat.take() else {
             return NO_SEAT;
@@ -172,7 +172,7 @@ impl Place {
         ensures answer { Answers refused_code told
             (Telling (λ n. value.new ≡ n) (λ s. ReadsByTask s counter))
             self.old.seat result self.new.seat }
-        ensures kept { WritesOnlyWith (λ n. n ≡ 0) result value.old value.new }
+        ensures kept { WritesOnlyWith IsOk result value.old value.new }
     {
         let Some(seat) = &mut self.seat else {
             return NO_SEAT;
@@ -185,7 +185,7 @@ impl Place {
         ensures answer { Answers refused_code told
             (Telling (λ n. waits.new ≡ n) (λ s. CountsByTask s counter))
             self.old.seat result self.new.seat }
-        ensures kept { WritesOnlyWith (λ n. n ≡ 0) result waits.old waits.new }
+        ensures kept { WritesOnlyWith IsOk result waits.old waits.new }
     {
         let Some(seat) = &mut self.seat else {
             return NO_SEAT;

@@ -2,7 +2,7 @@
 ghost use Rattle.std.specs.Prelude.{◌≡◌, ◌⊎◌, ◌≤◌, length, IfOk};
 ghost use Rattle.c_calls.specs.Codes.{done, code_of};
 ghost use Rattle.c_calls.specs.ListCodes.{refused_code};
-ghost use Rattle.c_calls.specs.Answers.{Answers, Telling, LacksRoom, WritesOnlyWith};
+ghost use Rattle.c_calls.specs.Answers.{Answers, Telling, LacksRoom, WritesSeats};
 ghost use Rattle.c_calls.specs.ListAnswers.{NotifiesOrGoesOn, NamesAll};
 
 use crate::codes::{DONE, NO_SEAT, ROOM};
@@ -16,8 +16,7 @@ fn tell_all(answer: Result<NotifiedAll, TaskRefused>, woken: &mut [u32], count: 
     requires { 256 ≤ length woken.old }
     ensures code { result ≡ code_of refused_code done answer }
     ensures told { IfOk answer (NamesAll woken.new count.new) }
-    ensures kept { WritesOnlyWith (λ n. n ≡ 4) result woken.old woken.new
-        × WritesOnlyWith (λ n. n ≡ 4) result count.old count.new }
+    ensures kept { WritesSeats result woken.old woken.new count.old count.new }
 {
     match answer {
         Ok(all) => {
@@ -35,8 +34,7 @@ impl ListPlace {
         ensures answer { LacksRoom woken.old self.old.seat result self.new.seat
             ⊎ Answers refused_code done (Telling (NamesAll woken.new count.new) NotifiesOrGoesOn)
             self.old.seat result self.new.seat }
-        ensures kept { WritesOnlyWith (λ n. n ≡ 4) result woken.old woken.new
-            × WritesOnlyWith (λ n. n ≡ 4) result count.old count.new }
+        ensures kept { WritesSeats result woken.old woken.new count.old count.new }
     {
         // Looked at before anything is done: a seat that was woken and isn't named is never made ready.
         if woken.len() < MOST_WOKEN {
@@ -51,8 +49,7 @@ impl ListPlace {
         ensures answer { Answers refused_code done
             (Telling (NamesAll woken.new count.new) NotifiesOrGoesOn)
             self.old.seat result self.new.seat }
-        ensures kept { WritesOnlyWith (λ n. n ≡ 4) result woken.old woken.new
-            × WritesOnlyWith (λ n. n ≡ 4) result count.old count.new }
+        ensures kept { WritesSeats result woken.old woken.new count.old count.new }
     {
         let Some(seat) = self.seat.take() else {
             return NO_SEAT;

@@ -3,7 +3,7 @@ ghost use Rattle.std.specs.Prelude.{◌≡◌, IfOk};
 ghost use Rattle.notify_list.specs.Tasks.{AddsByTask, LooksByTask};
 ghost use Rattle.notify_list.specs.Tasks.{EntersByTask, PollsByTask, NotifiesOneByTask};
 ghost use Rattle.notify_list.specs.declared.task_seat.TaskStage.TheVariants.{Resting};
-ghost use Rattle.c_calls.specs.Codes.{told, code_of};
+ghost use Rattle.c_calls.specs.Codes.{told, code_of, IsOk, IsOne};
 ghost use Rattle.c_calls.specs.ListCodes.{refused_code, entered_code, polled_code};
 ghost use Rattle.c_calls.specs.ListCodes.{one_code, granted_code};
 ghost use Rattle.c_calls.specs.Answers.{Answers, Telling, TellsNumber, MayLeave, WritesOnlyWith};
@@ -18,7 +18,7 @@ use notify_list::{Notified, TaskRefused, TaskStage};
 fn tell_granted(seat: Option<u16>, woken: &mut u32) -> u32
     ensures code { result ≡ granted_code seat }
     ensures told { IsNumberOf woken.new seat }
-    ensures kept { WritesOnlyWith (λ n. n ≡ 9) result woken.old woken.new }
+    ensures kept { WritesOnlyWith IsOne result woken.old woken.new }
 {
     match seat {
         Some(seat) => {
@@ -33,7 +33,7 @@ fn tell_granted(seat: Option<u16>, woken: &mut u32) -> u32
 fn tell_one(answer: Result<Option<Notified>, TaskRefused>, woken: &mut u32) -> u32
     ensures code { result ≡ code_of refused_code one_code answer }
     ensures told { IfOk answer (NamesGranted woken.new) }
-    ensures kept { WritesOnlyWith (λ n. n ≡ 9) result woken.old woken.new }
+    ensures kept { WritesOnlyWith IsOne result woken.old woken.new }
 {
     match answer {
         Ok(Some(notified)) => tell_granted(notified.seat, woken),
@@ -46,7 +46,7 @@ impl ListPlace {
     /// Which seat of its list it is.
     pub fn number(&self, number: &mut u32) -> u32
         ensures told { TellsNumber (λ s. s.seat.number) self.now.seat result number.new }
-        ensures kept { WritesOnlyWith (λ n. n ≡ 0) result number.old number.new }
+        ensures kept { WritesOnlyWith IsOk result number.old number.new }
     {
         let Some(seat) = &self.seat else {
             return NO_SEAT;
@@ -72,7 +72,7 @@ impl ListPlace {
     pub fn add(&mut self, ticket: &mut u64) -> u32
         ensures answer { Answers refused_code told (Telling (λ word. ticket.new ≡ word) AddsByTask)
             self.old.seat result self.new.seat }
-        ensures kept { WritesOnlyWith (λ n. n ≡ 0) result ticket.old ticket.new }
+        ensures kept { WritesOnlyWith IsOk result ticket.old ticket.new }
     {
         let Some(seat) = self.seat.take() else {
             return NO_SEAT;
@@ -118,7 +118,7 @@ impl ListPlace {
     pub fn one(&mut self, woken: &mut u32) -> u32
         ensures answer { Answers refused_code one_code (Telling (NamesGranted woken.new) NotifiesOneByTask)
             self.old.seat result self.new.seat }
-        ensures kept { WritesOnlyWith (λ n. n ≡ 9) result woken.old woken.new }
+        ensures kept { WritesOnlyWith IsOne result woken.old woken.new }
     {
         let Some(seat) = self.seat.take() else {
             return NO_SEAT;
@@ -132,7 +132,7 @@ impl ListPlace {
     pub fn quiet(&mut self, quiet: &mut bool) -> u32
         ensures answer { Answers refused_code told (Telling (λ equal. quiet.new ≡ equal) LooksByTask)
             self.old.seat result self.new.seat }
-        ensures kept { WritesOnlyWith (λ n. n ≡ 0) result quiet.old quiet.new }
+        ensures kept { WritesOnlyWith IsOk result quiet.old quiet.new }
     {
         let Some(seat) = self.seat.take() else {
             return NO_SEAT;

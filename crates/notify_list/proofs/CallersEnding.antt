@@ -1,7 +1,7 @@
--- What two seats are to their callers that met, and what the end of a list is, from what they are in rows.
+-- What looks are to their callers, and what the end of a list is, from what they are in rows.
 use Rattle.std.proofs.Common.{ℕ, [], sym, ap, ◌∙◌, subst, append-nil}
 use Rattle.step_table.specs.declared.list_place.ListWord.{ListWord}
-use Rattle.step_table.specs.declared.list_place.ListWord.TheVariants.{Wait}
+use Rattle.step_table.specs.declared.list_place.ListWord.TheVariants.{Wait, Lock}
 use Rattle.step_table.specs.Path.{Looked, Did}
 use Rattle.std.proofs.Common.{List}
 use Rattle.step_table.specs.Wrapping.{word_of}
@@ -10,9 +10,9 @@ use Rattle.step_law_lists.specs.ListPath.{ListSight, notify_list}
 use Rattle.notify_list.specs.declared.closed.ListClosed.{ListClosed}
 use Rattle.notify_list.specs.declared.view.Setting.{Setting}
 use Rattle.notify_list.specs.Seats.{SeatModel}
-use Rattle.notify_list.specs.Meeting.{LooksAt, HasMet}
+use Rattle.notify_list.specs.Meeting.{LooksAt, FindsHeld, HasMet}
 use Rattle.notify_list.specs.Closing.{IsClosed}
-use Rattle.notify_list.specs.Callers.{IsSeatAfter, SeeTheSame, EndsList}
+use Rattle.notify_list.specs.Callers.{IsSeatAfter, StandsOn, SeeTheSame, EndsList}
 use Rattle.notify_list.proofs.Parting.{own_of}
 
 pub after_look : (s t : SeatModel) (word : ListWord) (n : ℕ) → Follows t.sight.seen → LooksAt s word n t → IsSeatAfter s [] t
@@ -26,6 +26,9 @@ after_look s t word n lawful x =
       own = ap (λ (v : ListSight). own_of s.number v.seen) only.leads ∙ x.ran.meets.quiet ∙ ap (own_of s.number) (sym (append-nil s.sight.seen));
       lawful = lawful;
     }
+
+pub stands_on : (s t : SeatModel) → Follows t.sight.seen → FindsHeld s t → StandsOn s t
+stands_on s t lawful (n, held, looked) = (after_look s t Lock n lawful looked, looked.stays)
 
 pub see_the_same : (one other one_now other_now : SeatModel) → Follows one_now.sight.seen → Follows other_now.sight.seen
     → HasMet one other one_now other_now → SeeTheSame one other one_now other_now

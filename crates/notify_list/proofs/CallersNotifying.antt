@@ -15,10 +15,12 @@ use Rattle.notify_list.specs.Places.{at_place}
 use Rattle.notify_list.specs.Seats.{SeatModel}
 use Rattle.notify_list.specs.Calls.{Calls, AllGranted}
 use Rattle.notify_list.specs.declared.notified.Notified.{Notified}
-use Rattle.notify_list.specs.Tickets.{looks, HasLooked}
+use Rattle.notify_list.specs.Tickets.{looks, HasLooked, FindsHeldAfterLooks}
+use Rattle.notify_list.specs.Meeting.{FindsHeld}
 use Rattle.notify_list.specs.Notifying.{OneFromLock, NotifiesOne, GrantsLeast, ticket_of}
 use Rattle.notify_list.specs.NotifyingAll.{looks_all, all_rows, all_entries, NotifiesAll, GrantsSome, GrantsUpTo, EndsAll}
-use Rattle.notify_list.specs.Callers.{IsSeatAfter, NotifiesOneTicket, NotifiesAllTickets, FindsAllGranted, GrantsAllSeen, EndsNotifyingAll}
+use Rattle.notify_list.specs.Callers.{IsSeatAfter, NotifiesOneTicket, NotifiesAllTickets, FindsAllGranted, LeavesOne, GrantsAllSeen, EndsNotifyingAll}
+use Rattle.notify_list.proofs.CallersEnding.{stands_on}
 use Rattle.notify_list.proofs.Answering.{seat_after, seen_as, seat_between, seat_since, seat_before, granted_it}
 
 module _ (s t : SeatModel) (lawful : Follows t.sight.seen) where
@@ -97,9 +99,9 @@ module _ (s t : SeatModel) (lawful : Follows t.sight.seen) where
 
 -- the same of a call that tried for the lock
 pub tries_one : {E : Type 0} (s u t : SeatModel) → Follows t.sight.seen → FindsAllGranted s false u → (r : Result (Option Notified) E)
-    → MatchResult r (λ o. NotifiesOne s (ticket_of o) t) (λ busy. HasLooked s false t)
-    → MatchResult r (λ o. Unit {0}) (λ busy. t ≡ u)
+    → MatchResult r (λ o. NotifiesOne s (ticket_of o) t) (λ busy. FindsHeldAfterLooks s t)
+    → MatchResult r (λ o. Unit {0}) (λ busy. FindsHeld u t)
     → IfOk r (λ o. IfSome (ticket_of o) (λ word. GrantsLeast s word t)) → IfOk r (λ o. IfNone (ticket_of o) (AllGranted s t))
-    → MatchResult r (λ o. NotifiesOneTicket s (ticket_of o) t) (λ busy. FindsAllGranted s false t)
+    → MatchResult r (λ o. NotifiesOneTicket s (ticket_of o) t) (λ busy. LeavesOne s t)
 tries_one s u t lawful looked (Ok o) rows same some none = notifies_one s t lawful (ticket_of o) rows some none
-tries_one s u t lawful looked (Err busy) rows same some none = subst (λ (q : SeatModel). FindsAllGranted s false q) (sym same) looked
+tries_one s u t lawful looked (Err busy) rows same some none = (u, looked, stands_on u t lawful same)

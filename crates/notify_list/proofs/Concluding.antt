@@ -13,8 +13,9 @@ use Rattle.notify_list.specs.Places.{at_place}
 use Rattle.notify_list.specs.Rule.{watched}
 use Rattle.notify_list.specs.Seats.{SeatModel}
 use Rattle.notify_list.specs.Calls.{Calls, ComesTo, AllGranted}
-use Rattle.notify_list.specs.NotifyingAll.{looks_all, all_rows, all_entries, NotifiesAll, GrantsSome, LooksForAll, EndsAll}
-use Rattle.notify_list.specs.Callers.{NotifiesAllTickets, LooksToNotifyAll, EndsNotifyingAll}
+use Rattle.notify_list.specs.NotifyingAll.{looks_all, all_rows, all_entries, NotifiesAll, GrantsSome, LooksForAll, FindsHeldForAll, EndsAll}
+use Rattle.notify_list.specs.Callers.{NotifiesAllTickets, LooksToNotifyAll, EndsNotifyingAll, StandsOn, LeavesAll}
+use Rattle.notify_list.specs.Meeting.{FindsHeld}
 use Rattle.notify_list.proofs.Walking.{calls_then}
 use Rattle.notify_list.proofs.Signalling.{call_later}
 use Rattle.notify_list.proofs.Answering.{seat_after}
@@ -88,17 +89,17 @@ module _ (s u : SeatModel) (x : LooksForAll s u) where
     whole_granted = let b = x.since in let g = y.granted in let e = h_is in omega arith
 
   -- the same of a call that tried for the lock
-  pub tried_all : (r : Result (SeatModel × NotifiedAll) SeatModel) → MatchResult r (λ p. EndsAll u p.1.tickets p.0) (λ q. q ≡ u)
-      → MatchResult r (λ p. NotifiesAll s p.1.tickets p.0) (λ q. LooksForAll s q)
+  pub tried_all : (r : Result (SeatModel × NotifiedAll) SeatModel) → MatchResult r (λ p. EndsAll u p.1.tickets p.0) (λ q. FindsHeld u q)
+      → MatchResult r (λ p. NotifiesAll s p.1.tickets p.0) (λ q. FindsHeldForAll s q)
   tried_all (Ok p) y = whole_all p.0 p.1.tickets y
-  tried_all (Err q) y = subst (LooksForAll s) (sym y) x
+  tried_all (Err q) y = (u, x, y)
 
-  pub tried_some : (r : Result (SeatModel × NotifiedAll) SeatModel) → MatchResult r (λ p. EndsAll u p.1.tickets p.0) (λ q. q ≡ u)
+  pub tried_some : (r : Result (SeatModel × NotifiedAll) SeatModel) → MatchResult r (λ p. EndsAll u p.1.tickets p.0) (λ q. FindsHeld u q)
       → IfOk r (λ p. GrantsSome s p.1.tickets p.0)
   tried_some (Ok p) y = whole_some p.0 p.1.tickets y
   tried_some (Err q) y = tt
 
-  pub tried_granted : (r : Result (SeatModel × NotifiedAll) SeatModel) → MatchResult r (λ p. EndsAll u p.1.tickets p.0) (λ q. q ≡ u)
+  pub tried_granted : (r : Result (SeatModel × NotifiedAll) SeatModel) → MatchResult r (λ p. EndsAll u p.1.tickets p.0) (λ q. FindsHeld u q)
       → IfOk r (λ p. AllGranted s p.0)
   tried_granted (Ok p) y = whole_granted p.0 p.1.tickets y
   tried_granted (Err q) y = tt
@@ -108,9 +109,9 @@ module _ (s u : SeatModel) (x : LooksForAll s u) where
   lawful_then t (suc n) e = e.1.5.lawful
 
   pub tried_caller : Follows u.sight.seen → (r : Result (SeatModel × NotifiedAll) SeatModel)
-      → MatchResult r (λ p. EndsAll u p.1.tickets p.0) (λ q. q ≡ u)
-      → MatchResult r (λ p. EndsNotifyingAll u p.1.tickets p.0) (λ q. q ≡ u)
-      → MatchResult r (λ p. NotifiesAllTickets s p.1.tickets p.0) (λ q. LooksToNotifyAll s q)
+      → MatchResult r (λ p. EndsAll u p.1.tickets p.0) (λ q. FindsHeld u q)
+      → MatchResult r (λ p. EndsNotifyingAll u p.1.tickets p.0) (λ q. StandsOn u q)
+      → MatchResult r (λ p. NotifiesAllTickets s p.1.tickets p.0) (λ q. LeavesAll s q)
   tried_caller lawful (Ok p) y e = notifies_all s p.0 (lawful_then p.0 p.1.tickets e) p.1.tickets (whole_all p.0 p.1.tickets y)
       (whole_some p.0 p.1.tickets y) (whole_granted p.0 p.1.tickets y)
-  tried_caller lawful (Err q) y e = subst (LooksToNotifyAll s) (sym y) (looks_to_notify lawful)
+  tried_caller lawful (Err q) y e = (u, looks_to_notify lawful, e)

@@ -13,14 +13,13 @@ use Rattle.step_law_lists.specs.ListLawful.{holds}
 use Rattle.step_law_lists.specs.ListPath.{entries_of}
 use Rattle.notify_list.specs.declared.view.Setting.{Setting}
 use Rattle.notify_list.specs.Places.{at_place, waiting, takes_lock, locked}
-use Rattle.running_rows.specs.Strides.{Took}
+use Rattle.running_rows.specs.Strides.{Took, FoundHeld}
 use Rattle.running_rows.specs.Owing.{Owes}
 use Rattle.running_rows.proofs.Telling.{went_from}
 use Rattle.notify_list.specs.Rows.{list_rows}
 use Rattle.notify_list.specs.Plays.{Me, standing, at_wait}
 use Rattle.notify_list.specs.Seats.{ListModel, Token, setting_of, stands_of}
-use Rattle.notify_list.specs.Walks.{MayLock, Locked}
-use Rattle.notify_list.specs.Heirs.{IsSame}
+use Rattle.notify_list.specs.Walks.{MayLock, Locked, SawHeld}
 use Rattle.notify_list.proofs.Keeping.{Fits}
 use Rattle.notify_list.proofs.Allowing.{row_takes}
 use Rattle.notify_list.proofs.Leading.{Ran, Led, led}
@@ -72,9 +71,10 @@ has_locked l s t may T same =
       record_is = (T.1.1, slots, T.1.3.1);
     }
 
--- the lock was taken, or stayed held
+-- the lock was taken, or found held
 pub has_tried : (l : ListModel) (s t : Token) → MayLock l s → (taken : Bool)
-    → MatchBool taken (Took list_rows at_wait s.me t.me) (t.me ≡ s.me) → t.table_id ≡ s.table_id
-    → MatchBool taken (Locked s t) (IsSame s t)
+    → MatchBool taken (Took list_rows at_wait s.me t.me) (FoundHeld list_rows 2 s.me t.me) → t.table_id ≡ s.table_id
+    → MatchBool taken (Locked s t) (SawHeld s t)
 has_tried l s t may true took same = has_locked l s t may took same
-has_tried l s t may false left same = (same, left)
+has_tried l s t may false (n, ne, (went, left)) same =
+    record { table_id = same; slots = ap (λ (m : Me). m.1) left; found = n; held = ne; looked = went }

@@ -1,7 +1,7 @@
 -- Looks at a word, and what two seats have that looked together.
 use Rattle.std.proofs.Common.{◌≡◌, ℕ, zero, suc, List, [], ◌∷◌, ◌++◌, slice_index, sym, refl, ap, ◌∙◌, subst, arith}
 use Rattle.step_table.specs.declared.list_place.ListWord.{ListWord}
-use Rattle.step_table.specs.declared.list_place.ListWord.TheVariants.{Wait}
+use Rattle.step_table.specs.declared.list_place.ListWord.TheVariants.{Wait, Lock}
 use Rattle.step_table.specs.ListWorld.{ListSeat, ListWorld}
 use Rattle.step_table.specs.Path.{looks, Looked, Did, look_in, sight}
 use Rattle.step_table.proofs.Paths.{meets_sight, stride_grows}
@@ -15,8 +15,9 @@ use Rattle.notify_list.specs.Places.{is_free}
 use Rattle.notify_list.specs.Rule.{watched, Lands, Homes}
 use Rattle.notify_list.specs.Rows.{list_rows, word_at}
 use Rattle.notify_list.specs.Plays.{OneSeat}
-use Rattle.notify_list.specs.Seats.{Token, seat_of, IsToken, IsSeat, seen_of, setting_of, stands_of}
-use Rattle.notify_list.specs.Meeting.{LooksAt, HasMet}
+use Rattle.notify_list.specs.Seats.{Token, seat_of, IsToken, IsSeat, IsHolding, IsNotifying, seen_of, setting_of, stands_of}
+use Rattle.notify_list.specs.Meeting.{LooksAt, FindsHeld, HasMet}
+use Rattle.notify_list.specs.Walks.{SawHeld}
 
 lies_at : (i : ℕ) → address (word_at i) ≡ i
 lies_at zero = refl
@@ -107,6 +108,41 @@ looked_seat s t n q seat r same bare = let stays = look_stays s t n q Wait seat.
   free = ap (λ (y : ListSeat). is_free y.place) stays ∙ seat.free;
   holds_none = ap (λ (y : ListSeat). y.ticket) stays ∙ seat.holds_none;
 }
+
+-- a look that found the lock held
+module _ (s t : Token) (n : ℕ) (saw : SawHeld s t) where
+  held_stays : IsToken s n → stands_of t ≡ stands_of s
+  held_stays is = look_stays s t n saw.found Lock is saw.looked saw.table_id
+
+  held_token : IsToken s n → IsToken t n
+  held_token is = looked_token s t n saw.found Lock is saw.looked saw.table_id (saw.slots ∙ is.bare)
+
+  pub held_seat : IsSeat s n → IsSeat t n
+  held_seat seat = record {
+    token_is = held_token seat.token_is;
+    free = ap (λ (y : ListSeat). is_free y.place) (held_stays seat.token_is) ∙ seat.free;
+    holds_none = ap (λ (y : ListSeat). y.ticket) (held_stays seat.token_is) ∙ seat.holds_none;
+  }
+
+  pub held_holding : (word : ℕ) → IsHolding s n word → IsHolding t n word
+  held_holding word holding = record {
+    token_is = held_token holding.token_is;
+    rests = ap (λ (y : ListSeat). y.place) (held_stays holding.token_is) ∙ holding.rests;
+    ticket = holding.ticket;
+    held = ap (λ (y : ListSeat). y.ticket) (held_stays holding.token_is) ∙ holding.held;
+    word_is = holding.word_is;
+  }
+
+  pub held_notifying : IsNotifying s n → IsNotifying t n
+  held_notifying owing = record {
+    token_is = held_token owing.token_is;
+    h = owing.h;
+    at = ap (λ (y : ListSeat). y.place) (held_stays owing.token_is) ∙ owing.at;
+    holds_none = ap (λ (y : ListSeat). y.ticket) (held_stays owing.token_is) ∙ owing.holds_none;
+  }
+
+  pub finds_held : IsToken s n → FindsHeld (seat_of s n) (seat_of t n)
+  finds_held is = (saw.found, saw.held, looks_at s t n saw.found Lock is saw.looked saw.table_id)
 
 pub have_met : (s o a b : Token) (n k q : ℕ) (seat_s : IsSeat s n) (seat_o : IsSeat o k)
     (m : Met list_rows Wait s.me.0.own o.me.0.own q a.me.0.own b.me.0.own)

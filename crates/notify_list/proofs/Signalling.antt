@@ -15,7 +15,8 @@ use Rattle.notify_list.specs.declared.notified.Notified.{Notified}
 use Rattle.notify_list.specs.Granting.{GrantsLast, HasGranted}
 use Rattle.notify_list.specs.Seats.{ListModel, SeatModel, Token, list_of, seat_of}
 use Rattle.notify_list.specs.Calls.{Calls, ComesTo, AllGranted}
-use Rattle.notify_list.specs.Tickets.{HasLooked, looks}
+use Rattle.notify_list.specs.Tickets.{HasLooked, FindsHeldAfterLooks, looks}
+use Rattle.notify_list.specs.Meeting.{FindsHeld}
 use Rattle.notify_list.specs.Notifying.{finds_none, finds_one, grants_it, OneFromLock, NotifiesOne, GrantsLeast, EndsOne, ticket_of, GrantsItsWait}
 use Rattle.notify_list.proofs.Leading.{equal_is, unequal_is}
 use Rattle.notify_list.proofs.Walking.{calls_then}
@@ -101,24 +102,24 @@ module _ (s u : SeatModel) where
 
     -- the lock was tried for: the answer, or the seat after its looks
     module _ {E : Type 0} where
-      pub tried_rows : (r : Result (Option Notified) E) → MatchResult r (λ o. EndsOne u x.h (ticket_of o) t) (λ busy. t ≡ u)
-          → MatchResult r (λ o. NotifiesOne s (ticket_of o) t) (λ busy. HasLooked s false t)
+      pub tried_rows : (r : Result (Option Notified) E) → MatchResult r (λ o. EndsOne u x.h (ticket_of o) t) (λ busy. FindsHeld u t)
+          → MatchResult r (λ o. NotifiesOne s (ticket_of o) t) (λ busy. FindsHeldAfterLooks s t)
       tried_rows (Ok o) y = locked_one (ticket_of o) y
-      tried_rows (Err busy) y = subst (λ (q : SeatModel). HasLooked s false q) (sym y) x
+      tried_rows (Err busy) y = (u, x, y)
 
-      pub tried_some : (r : Result (Option Notified) E) → MatchResult r (λ o. EndsOne u x.h (ticket_of o) t) (λ busy. t ≡ u)
+      pub tried_some : (r : Result (Option Notified) E) → MatchResult r (λ o. EndsOne u x.h (ticket_of o) t) (λ busy. FindsHeld u t)
           → IfOk r (λ o. IfSome (ticket_of o) (λ word. GrantsLeast s word t))
       tried_some (Ok o) y = least_one (ticket_of o) y
       tried_some (Err busy) y = tt
 
-      pub tried_none : (r : Result (Option Notified) E) → MatchResult r (λ o. EndsOne u x.h (ticket_of o) t) (λ busy. t ≡ u)
+      pub tried_none : (r : Result (Option Notified) E) → MatchResult r (λ o. EndsOne u x.h (ticket_of o) t) (λ busy. FindsHeld u t)
           → IfOk r (λ o. IfNone (ticket_of o) (AllGranted s t))
       tried_none (Ok o) y = none_one (ticket_of o) y
       tried_none (Err busy) y = tt
 
--- whether the lock was taken, and else the seat is the same
-pub kept_busy : {E : Type 0} (P : Option Notified → Type 0) (u t : SeatModel) (r : Result (Option Notified) E) → MatchResult r P (λ busy. t ≡ u)
-    → MatchResult r (λ o. Unit {0}) (λ busy. t ≡ u)
+-- whether the lock was taken, and else it was found held
+pub kept_busy : {E : Type 0} (P : Option Notified → Type 0) (u t : SeatModel) (r : Result (Option Notified) E) → MatchResult r P (λ busy. FindsHeld u t)
+    → MatchResult r (λ o. Unit {0}) (λ busy. FindsHeld u t)
 kept_busy P u t (Ok o) y = tt
 kept_busy P u t (Err busy) y = y
 

@@ -33,6 +33,10 @@ pub record IsSeatAfter (s : SeatModel) (entries : List ListEntry) (t : SeatModel
   pub own : filter (is_own s.number) t.sight.seen ≡ filter (is_own s.number) (s.sight.seen ++ entries)
   pub lawful : Follows t.sight.seen
 
+-- nothing was done: the seat stands as it stood, and has seen more of what others told
+abbrev pub StandsOn : SeatModel → SeatModel → Type 0
+StandsOn s t = IsSeatAfter s [] t × (t.sight.stands ≡ s.sight.stands)
+
 -- the seat took the ticket that is the last handed out in what it has seen, and holds it; the ticket has the
 -- word of its number
 abbrev pub GetsTicket : SeatModel → SeatModel → Type 0
@@ -129,6 +133,14 @@ FindsAllGranted s true t = IsSeatAfter s [] t × AllGranted s t
 FindsAllGranted s false t =
     (u : SeatModel) × IsSeatAfter s [] u × IsSeatAfter u [] t
     × ((numbers_seen t).granted ≢ (numbers_seen u).handed)
+
+-- a notification of one is left, after its looks, at a lock that is held
+abbrev pub LeavesOne : SeatModel → SeatModel → Type 0
+LeavesOne s t = (u : SeatModel) × FindsAllGranted s false u × StandsOn u t
+
+-- and so is one of all, with which the seat has to go on
+abbrev pub LeavesAll : SeatModel → SeatModel → Type 0
+LeavesAll s t = (u : SeatModel) × LooksToNotifyAll s u × StandsOn u t
 
 -- two seats have seen one journal now, and nothing else of them has changed
 pub record SeeTheSame (one other one_now other_now : SeatModel) : Type 0 where

@@ -1,7 +1,7 @@
 -- What two seats have that met.
 use Rattle.std.specs.Prelude.{◌≡◌, ◌≢◌, ℕ, [], ◌∷◌, ◌++◌}
 use Rattle.step_table.specs.declared.list_place.ListWord.{ListWord}
-use Rattle.step_table.specs.declared.list_place.ListWord.TheVariants.{Wait}
+use Rattle.step_table.specs.declared.list_place.ListWord.TheVariants.{Wait, Lock}
 use Rattle.step_table.specs.Path.{GoesOn, looks}
 use Rattle.step_law_lists.specs.ListPath.{ListStride, ListRan}
 use Rattle.notify_list.specs.Seats.{SeatModel}
@@ -17,6 +17,10 @@ pub record LooksAt (s : SeatModel) (w : ListWord) (n : ℕ) (t : SeatModel) : Ty
   pub one : t.strides ≡ s.strides ++ stride ∷ []
   pub stays : t.sight.stands ≡ s.sight.stands
   pub later : GoesOn t.sight.seen s.sight.seen
+
+-- nothing but a look, which found the list's lock held
+abbrev pub FindsHeld : SeatModel → SeatModel → Type 0
+FindsHeld s t = (n : ℕ) × (n ≢ 0) × LooksAt s Lock n t
 
 -- each of both seats looked at the wait word once, and found this number. They have seen one journal then,
 -- and are two seats

@@ -16,6 +16,7 @@ use Rattle.notify_list.specs.Seats.{SeatModel}
 use Rattle.notify_list.specs.Rows.{HasStored}
 use Rattle.notify_list.specs.Setting.{address}
 use Rattle.notify_list.specs.Calls.{Calls, ComesTo, numbers_seen}
+use Rattle.notify_list.specs.Meeting.{FindsHeld}
 
 -- the two first looks: the wait word was this, then the notify word that; h tickets were handed out at the
 -- first
@@ -86,6 +87,10 @@ pub record LooksForAll (s t : SeatModel) : Type 0 where
   pub comes : ComesTo s (at_place (NotifyingAll h L3) s.sight.stands) t
   pub call : Calls s (at_place (NotifyingAll 0 L1) s.sight.stands) t [] (looks_all h waited notified)
   pub since : (numbers_seen s).handed ≤ h
+
+-- and there it found the lock held
+abbrev pub FindsHeldForAll : SeatModel → SeatModel → Type 0
+FindsHeldForAll s t = (u : SeatModel) × LooksForAll s u × FindsHeld u t
 
 -- the rows from the lock on, of a seat whose first look found h tickets handed out: these are granted
 pub record EndsAll (s : SeatModel) (n : ℕ) (t : SeatModel) : Type 0 where

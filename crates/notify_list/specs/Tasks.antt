@@ -16,13 +16,14 @@ use Rattle.notify_list.specs.declared.waited.Entered.TheVariants as entered
 use Rattle.notify_list.specs.declared.waited.Polled.TheVariants as polled
 use Rattle.notify_list.specs.Seats.{ListModel, SeatModel}
 use Rattle.notify_list.specs.Calls.{AllGranted}
-use Rattle.notify_list.specs.Tickets.{IsAdded, HasTicket, HasLooked}
+use Rattle.notify_list.specs.Tickets.{IsAdded, HasTicket, HasLooked, FindsHeldAfterLooks}
 use Rattle.notify_list.specs.Waiting.{IsEntered, IsPolled}
 use Rattle.notify_list.specs.Notifying.{NotifiesOne, GrantsLeast, ticket_of, GrantsItsWait}
-use Rattle.notify_list.specs.NotifyingAll.{NotifiesAll, GrantsSome, LooksForAll, EndsAll, GrantsSeats}
+use Rattle.notify_list.specs.NotifyingAll.{NotifiesAll, GrantsSome, FindsHeldForAll, EndsAll, GrantsSeats}
 use Rattle.notify_list.specs.Making.{IsMade}
 use Rattle.notify_list.specs.Callers.{GetsTicket, FindsAllGranted, EntersWait, PollsGrant, NotifiesOneTicket}
-use Rattle.notify_list.specs.Callers.{NotifiesAllTickets, LooksToNotifyAll, EndsNotifyingAll}
+use Rattle.notify_list.specs.Callers.{NotifiesAllTickets, EndsNotifyingAll, StandsOn, LeavesOne, LeavesAll}
+use Rattle.notify_list.specs.Meeting.{FindsHeld}
 use Rattle.notify_list.specs.TaskSeats.{TaskModel}
 
 -- the seat stood here, and stands there
@@ -37,6 +38,10 @@ because other busy Busy = busy
 -- nothing was done: the seat is as it was
 abbrev pub Refuses : TaskModel → TaskModel → Type 0 → Type 0
 Refuses s t why = (t ≡ s) × why
+
+-- the same by another stage; or it found the lock held, and this is so
+abbrev pub RefusesOrFinds : TaskModel → TaskModel → Type 0 → Type 0 → TaskRefused → Type 0
+RefusesOrFinds s t other busy why = because ((t ≡ s) × other) busy why
 
 abbrev pub AddsByTask : TaskModel → Result ℕ TaskRefused → TaskModel → Type 0
 AddsByTask s (Ok word) t =
@@ -56,7 +61,9 @@ EntersByTask s (Ok enters.AtOnce) t =
 EntersByTask s (Ok enters.Queued) t =
     Goes s Holding Parked t × IsEntered s.seat (entered.Queued t.seat)
     × EntersWait s.seat (entered.Queued t.seat)
-EntersByTask s (Err why) t = Refuses s t (because (s.stage ≢ Holding) (Unit {0}) why)
+EntersByTask s (Err why) t =
+    RefusesOrFinds s t (s.stage ≢ Holding)
+    (Goes s Holding Holding t × FindsHeld s.seat t.seat × StandsOn s.seat t.seat) why
 
 abbrev pub PollsByTask : TaskModel → Result TaskPolled TaskRefused → TaskModel → Type 0
 PollsByTask s (Ok polls.Still) t =
@@ -75,7 +82,7 @@ NotifiesOneByTask s (Ok notified) t =
     × IfSome notified (λ n. GrantsItsWait n t.seat)
     × NotifiesOneTicket s.seat (ticket_of notified) t.seat
 NotifiesOneByTask s (Err Busy) t =
-    Goes s Resting Resting t × HasLooked s.seat false t.seat × FindsAllGranted s.seat false t.seat
+    Goes s Resting Resting t × FindsHeldAfterLooks s.seat t.seat × LeavesOne s.seat t.seat
 NotifiesOneByTask s (Err OtherCall) t = Refuses s t (s.stage ≢ Resting)
 
 -- where the lock stayed held, the seat has looked at the two words, they differed, and it has to go on
@@ -85,14 +92,16 @@ NotifiesAllByTask s (Ok all) t =
     × AllGranted s.seat t.seat × GrantsSeats all.seats.items t.seat
     × NotifiesAllTickets s.seat all.tickets t.seat
 NotifiesAllByTask s (Err Busy) t =
-    Goes s Resting OwingAll t × LooksForAll s.seat t.seat × LooksToNotifyAll s.seat t.seat
+    Goes s Resting OwingAll t × FindsHeldForAll s.seat t.seat × LeavesAll s.seat t.seat
 NotifiesAllByTask s (Err OtherCall) t = Refuses s t (s.stage ≢ Resting)
 
 abbrev pub GoesOnByTask : TaskModel → Result NotifiedAll TaskRefused → TaskModel → Type 0
 GoesOnByTask s (Ok all) t =
     Goes s OwingAll Resting t × EndsAll s.seat all.tickets t.seat × GrantsSeats all.seats.items t.seat
     × EndsNotifyingAll s.seat all.tickets t.seat
-GoesOnByTask s (Err why) t = Refuses s t (because (s.stage ≢ OwingAll) (Unit {0}) why)
+GoesOnByTask s (Err why) t =
+    RefusesOrFinds s t (s.stage ≢ OwingAll)
+    (Goes s OwingAll OwingAll t × FindsHeld s.seat t.seat × StandsOn s.seat t.seat) why
 
 -- a list for tasks that starts so, and its seats in the order of their numbers, none of which has run
 -- anything

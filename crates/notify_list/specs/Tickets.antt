@@ -1,5 +1,5 @@
 -- What taking a ticket promises, and looking whether all are granted.
-use Rattle.std.specs.Prelude.{◌≡◌, ℕ, ◌<◌, ◌≤◌, ◌==◌, if◌then◌else◌, Bool, List, [], ◌∷◌, ◌++◌, Some}
+use Rattle.std.specs.Prelude.{◌≡◌, ℕ, ◌<◌, ◌≤◌, ◌==◌, if◌then◌else◌, Bool, false, List, [], ◌∷◌, ◌++◌, Some}
 use Rattle.step_table.specs.declared.list_place.ListPlace.{ListPlace}
 use Rattle.step_table.specs.declared.list_place.ListPlace.TheVariants.{Rest, Adding, NotifyingOne}
 use Rattle.step_table.specs.declared.list_place.OneRow.TheVariants.{O1, O2, O3}
@@ -10,6 +10,7 @@ use Rattle.step_law_lists.specs.ListLawful.{told}
 use Rattle.notify_list.specs.Places.{at_place}
 use Rattle.notify_list.specs.Seats.{SeatModel}
 use Rattle.notify_list.specs.Calls.{Calls, ComesTo, numbers_seen}
+use Rattle.notify_list.specs.Meeting.{FindsHeld}
 
 -- the seat at rest, with this ticket
 abbrev pub with_held : Ticket → ListSeat → ListSeat
@@ -57,3 +58,7 @@ pub record HasLooked (s : SeatModel) (equal : Bool) (t : SeatModel) : Type 0 whe
   pub comes : ComesTo s (at_place (after_looks h equal) s.sight.stands) t
   pub call : Calls s (at_place (NotifyingOne 0 O1) s.sight.stands) t [] (looks h waited notified)
   pub since : (numbers_seen s).handed ≤ h
+
+-- they differed, and then the seat found the lock held
+abbrev pub FindsHeldAfterLooks : SeatModel → SeatModel → Type 0
+FindsHeldAfterLooks s t = (u : SeatModel) × HasLooked s false u × FindsHeld u t

@@ -1,11 +1,14 @@
 -- What rows of one seat do to its token.
-use Rattle.std.specs.Prelude.{◌≡◌, ℕ, true, List, [], ◌∷◌, ◌++◌}
+use Rattle.std.specs.Prelude.{◌≡◌, ◌≢◌, ℕ, true, List, [], ◌∷◌, ◌++◌}
 use Rattle.waiters.specs.declared.wait.Wait.{Wait}
 use Rattle.step_table.specs.declared.list_place.ListPlace.{ListPlace}
+use Rattle.step_table.specs.declared.list_place.ListWord.TheVariants.{Lock}
 use Rattle.step_table.specs.ListWorld.{ListSeat, ListEntry}
-use Rattle.step_table.specs.Path.{all_told}
+use Rattle.step_table.specs.Path.{looks, all_told}
 use Rattle.step_law_lists.specs.ListPath.{ListStride, ListPath}
 use Rattle.notify_list.specs.declared.view.Record.{Record}
+use Rattle.running_rows.specs.Strides.{Went, here}
+use Rattle.notify_list.specs.Rows.{list_rows}
 use Rattle.notify_list.specs.Places.{Begins, at_place, waiting, takes_lock, locked}
 use Rattle.notify_list.specs.Rule.{Lands, IsRecord}
 use Rattle.notify_list.specs.Seats.{ListModel, Token, list_of, setting_of, stands_of, seen_of, queue_of}
@@ -43,6 +46,14 @@ pub record Locked (s t : Token) : Type 0 where
       (at_place (locked (waiting (stands_of s)).place) (waiting (stands_of s))) []
       (((waiting (stands_of s)).place, 0) ∷ [])
   pub record_is : HasRecord t
+
+-- a look found the lock held, and is a stride
+pub record SawHeld (s t : Token) : Type 0 where
+  pub table_id : t.table_id ≡ s.table_id
+  pub slots : t.me.1 ≡ s.me.1
+  pub found : ℕ
+  pub held : found ≢ 0
+  pub looked : Went list_rows here (looks Lock) s.me.0.own found t.me.0.own
 
 -- the record that the seat holds has these waits now; nothing else has changed
 abbrev pub Edited : Token → List Wait → Token → Type 0

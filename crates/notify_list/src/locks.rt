@@ -1,7 +1,6 @@
 //! Taking the list's lock, and waking who sleeps at it.
 ghost use Rattle.std.specs.Prelude.{MatchBool};
-ghost use Rattle.notify_list.specs.Walks.{MayLock, Locked};
-ghost use Rattle.notify_list.specs.Heirs.{IsSame};
+ghost use Rattle.notify_list.specs.Walks.{MayLock, Locked, SawHeld};
 
 use crate::notify_list::{LOCK, NotifyList};
 use crate::rows::{AtWait, Token};
@@ -17,10 +16,11 @@ impl NotifyList {
             .take_lock::<AtWait, R>(rt, token, LOCK, self.sleepers_word());
     }
 
-    /// The same where the lock is found free within some tries, and else nothing: whether it was taken.
+    /// The same where the lock is found free within some tries, and else a look that found it held: whether
+    /// it was taken.
     pub(crate) fn try_lock(&self, token: &mut Token) -> bool
         requires { MayLock self.now token.old }
-        ensures { MatchBool result (Locked token.old token.new) (IsSame token.old token.new) }
+        ensures { MatchBool result (Locked token.old token.new) (SawHeld token.old token.new) }
     {
         self.words.try_lock::<AtWait>(token, LOCK)
     }

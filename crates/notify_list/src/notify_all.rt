@@ -4,9 +4,10 @@ ghost use Rattle.waiters.specs.declared.wait.Wait.{Wait as Queued};
 ghost use Rattle.step_law_lists.specs.ListPath.{ListStride};
 ghost use Rattle.notify_list.specs.Seats.{Token as Before, stands_of};
 ghost use Rattle.notify_list.specs.Calls.{AllGranted};
-ghost use Rattle.notify_list.specs.NotifyingAll.{NotifiesAll, GrantsSome, LooksForAll, EndsAll};
+ghost use Rattle.notify_list.specs.NotifyingAll.{NotifiesAll, GrantsSome, FindsHeldForAll, EndsAll};
 ghost use Rattle.notify_list.specs.NotifyingAll.{GrantsSeats, StoresGrants};
-ghost use Rattle.notify_list.specs.Callers.{NotifiesAllTickets, LooksToNotifyAll, EndsNotifyingAll};
+ghost use Rattle.notify_list.specs.Callers.{NotifiesAllTickets, EndsNotifyingAll, StandsOn, LeavesAll};
+ghost use Rattle.notify_list.specs.Meeting.{FindsHeld};
 ghost use Rattle.notify_list.specs.GrantingAll.{MayLook, LookedForAll, MayReach, ReachedAll};
 ghost use Rattle.notify_list.specs.GrantingAll.{MayTake, TakenAll, MayWake, WokenFirst, WokenSome};
 
@@ -49,12 +50,12 @@ impl NotifyList {
     pub fn try_all(&self, seat: ListSeat) -> Result<(ListSeat, NotifiedAll), OwingAll>
         requires { seat.list ≡ self.now }
         ensures rows { MatchResult result (λ all. NotifiesAll seat all.1.tickets all.0)
-            (λ owing. LooksForAll seat owing) }
+            (λ owing. FindsHeldForAll seat owing) }
         ensures count { IfOk result (λ all. GrantsSome seat all.1.tickets all.0) }
         ensures granted { IfOk result (λ all. AllGranted seat all.0) }
         ensures seats { IfOk result (λ all. GrantsSeats all.1.seats.items all.0) }
         ensures caller { MatchResult result (λ all. NotifiesAllTickets seat all.1.tickets all.0)
-            (λ owing. LooksToNotifyAll seat owing) }
+            (λ owing. LeavesAll seat owing) }
     {
         let tried = self.all_silently(seat);
         if let Ok((seat, all)) = &tried {
@@ -67,10 +68,10 @@ impl NotifyList {
     pub fn retry_all(&self, owing: OwingAll) -> Result<(ListSeat, NotifiedAll), OwingAll>
         requires { owing.list ≡ self.now }
         ensures rows { MatchResult result (λ all. EndsAll owing all.1.tickets all.0)
-            (λ same. same ≡ owing) }
+            (λ still. FindsHeld owing still) }
         ensures seats { IfOk result (λ all. GrantsSeats all.1.seats.items all.0) }
         ensures caller { MatchResult result (λ all. EndsNotifyingAll owing all.1.tickets all.0)
-            (λ same. same ≡ owing) }
+            (λ still. StandsOn owing still) }
     {
         let tried = self.go_on_silently(owing);
         if let Ok((seat, all)) = &tried {
@@ -83,12 +84,12 @@ impl NotifyList {
     pub(crate) fn all_silently(&self, seat: ListSeat) -> Result<(ListSeat, NotifiedAll), OwingAll>
         requires { seat.list ≡ self.now }
         ensures rows { MatchResult result (λ all. NotifiesAll seat all.1.tickets all.0)
-            (λ owing. LooksForAll seat owing) }
+            (λ owing. FindsHeldForAll seat owing) }
         ensures count { IfOk result (λ all. GrantsSome seat all.1.tickets all.0) }
         ensures granted { IfOk result (λ all. AllGranted seat all.0) }
         ensures seats { IfOk result (λ all. GrantsSeats all.1.seats.items all.0) }
         ensures caller { MatchResult result (λ all. NotifiesAllTickets seat all.1.tickets all.0)
-            (λ owing. LooksToNotifyAll seat owing) }
+            (λ owing. LeavesAll seat owing) }
     {
         let ListSeat { mut token, number } = seat;
         if self.look_for_all(&mut token) {
@@ -108,10 +109,10 @@ impl NotifyList {
     ) -> Result<(ListSeat, NotifiedAll), OwingAll>
         requires { owing.list ≡ self.now }
         ensures rows { MatchResult result (λ all. EndsAll owing all.1.tickets all.0)
-            (λ same. same ≡ owing) }
+            (λ still. FindsHeld owing still) }
         ensures seats { IfOk result (λ all. GrantsSeats all.1.seats.items all.0) }
         ensures caller { MatchResult result (λ all. EndsNotifyingAll owing all.1.tickets all.0)
-            (λ same. same ≡ owing) }
+            (λ still. StandsOn owing still) }
     {
         let OwingAll { mut token, number } = owing;
         if !self.try_lock(&mut token) {

@@ -1,14 +1,15 @@
 //! Notifying one.
-ghost use Rattle.std.specs.Prelude.{◌≡◌, ℕ, false, IfSome, IfNone, IfOk, MatchResult};
+ghost use Rattle.std.specs.Prelude.{◌≡◌, ℕ, IfSome, IfNone, IfOk, MatchResult};
 ghost use Rattle.step_table.specs.declared.list_place.ListPlace.TheVariants.{NotifyingOne};
 ghost use Rattle.step_table.specs.declared.list_place.OneRow.TheVariants.{O3};
 ghost use Rattle.step_law_lists.specs.ListLawful.{Follows};
 ghost use Rattle.notify_list.specs.Seats.{Token as Before, list_of, seat_of, IsSeat};
 ghost use Rattle.notify_list.specs.Calls.{AllGranted};
-ghost use Rattle.notify_list.specs.Tickets.{HasLooked};
+ghost use Rattle.notify_list.specs.Tickets.{FindsHeldAfterLooks};
+ghost use Rattle.notify_list.specs.Meeting.{FindsHeld};
 ghost use Rattle.notify_list.specs.Notifying.{NotifiesOne, GrantsLeast, EndsOne, ticket_of, GrantsItsWait};
 ghost use Rattle.notify_list.specs.Granting.{MayNotify, HasGranted};
-ghost use Rattle.notify_list.specs.Callers.{NotifiesOneTicket, FindsAllGranted};
+ghost use Rattle.notify_list.specs.Callers.{NotifiesOneTicket, LeavesOne};
 
 use crate::notified::{Busy, Notified, ticket_of_answer};
 use crate::notify_list::{LOCK, NOTIFY, NotifyList, WAIT, grant_word};
@@ -53,7 +54,7 @@ impl NotifyList {
     pub fn try_one(&self, seat: &mut ListSeat) -> Result<Option<Notified>, Busy>
         requires { seat.old.list ≡ self.now }
         ensures rows { MatchResult result (λ notified. NotifiesOne seat.old (ticket_of notified) seat.new)
-            (λ busy. HasLooked seat.old false seat.new) }
+            (λ busy. FindsHeldAfterLooks seat.old seat.new) }
         ensures some { IfOk result (λ notified.
             IfSome (ticket_of notified) (λ word. GrantsLeast seat.old word seat.new)) }
         ensures none { IfOk result (λ notified.
@@ -61,7 +62,7 @@ impl NotifyList {
         ensures wait { IfOk result (λ notified. IfSome notified (λ n. GrantsItsWait n seat.new)) }
         ensures caller { MatchResult result
             (λ notified. NotifiesOneTicket seat.old (ticket_of notified) seat.new)
-            (λ busy. FindsAllGranted seat.old false seat.new) }
+            (λ busy. LeavesOne seat.old seat.new) }
     {
         let tried = self.one_silently(seat);
         if let Ok(notified) = &tried {
@@ -74,7 +75,7 @@ impl NotifyList {
     pub(crate) fn one_silently(&self, seat: &mut ListSeat) -> Result<Option<Notified>, Busy>
         requires { seat.old.list ≡ self.now }
         ensures rows { MatchResult result (λ notified. NotifiesOne seat.old (ticket_of notified) seat.new)
-            (λ busy. HasLooked seat.old false seat.new) }
+            (λ busy. FindsHeldAfterLooks seat.old seat.new) }
         ensures some { IfOk result (λ notified.
             IfSome (ticket_of notified) (λ word. GrantsLeast seat.old word seat.new)) }
         ensures none { IfOk result (λ notified.
@@ -82,7 +83,7 @@ impl NotifyList {
         ensures wait { IfOk result (λ notified. IfSome notified (λ n. GrantsItsWait n seat.new)) }
         ensures caller { MatchResult result
             (λ notified. NotifiesOneTicket seat.old (ticket_of notified) seat.new)
-            (λ busy. FindsAllGranted seat.old false seat.new) }
+            (λ busy. LeavesOne seat.old seat.new) }
     {
         let quiet = self.quiet(seat);
         if quiet {
@@ -98,7 +99,7 @@ impl NotifyList {
         requires place { (h : ℕ) × (seat.old.sight.stands.place ≡ NotifyingOne h O3) }
         ensures rows { (h : ℕ) → seat.old.sight.stands.place ≡ NotifyingOne h O3
             → MatchResult result (λ notified. EndsOne seat.old h (ticket_of notified) seat.new)
-            (λ busy. seat.new ≡ seat.old) }
+            (λ busy. FindsHeld seat.old seat.new) }
         ensures wait { IfOk result (λ notified. IfSome notified (λ n. GrantsItsWait n seat.new)) }
         ensures lawful { Follows seat.new.sight.seen }
     {

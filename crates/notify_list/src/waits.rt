@@ -4,7 +4,8 @@ ghost use Rattle.step_law_lists.specs.ListLawful.{Follows};
 ghost use Rattle.notify_list.specs.Seats.{Token as Before, seat_of};
 ghost use Rattle.notify_list.specs.Entering.{MayEnter};
 ghost use Rattle.notify_list.specs.Waiting.{IsWaited, IsGranted, IsEntered, TakesGrant};
-ghost use Rattle.notify_list.specs.Callers.{WaitsForGrant, EntersWait};
+ghost use Rattle.notify_list.specs.Callers.{WaitsForGrant, EntersWait, StandsOn};
+ghost use Rattle.notify_list.specs.Meeting.{FindsHeld};
 
 use crate::notify_list::{LOCK, NOTIFY, NotifyList, WAIT, grant_word};
 use crate::rows::Token;
@@ -52,11 +53,11 @@ impl NotifyList {
     }
 
     /// The same up to the sleep, for a caller that must not wait: where the list's lock stays held, the seat
-    /// comes back as it was. A seat that is parked then polls for its grant.
+    /// comes back as it stood. A seat that is parked then polls for its grant.
     pub fn try_wait(&self, holding: Holding) -> Result<Entered, Holding>
         requires { holding.list ≡ self.now }
-        ensures rows { MatchResult result (λ entered. IsEntered holding entered) (λ kept. kept ≡ holding) }
-        ensures caller { MatchResult result (λ entered. EntersWait holding entered) (λ kept. kept ≡ holding) }
+        ensures rows { MatchResult result (λ entered. IsEntered holding entered) (λ kept. FindsHeld holding kept) }
+        ensures caller { MatchResult result (λ entered. EntersWait holding entered) (λ kept. StandsOn holding kept) }
     {
         let tried = self.wait_silently(holding);
         match &tried {
@@ -70,8 +71,8 @@ impl NotifyList {
     /// The same, and nobody is woken.
     pub(crate) fn wait_silently(&self, holding: Holding) -> Result<Entered, Holding>
         requires { holding.list ≡ self.now }
-        ensures rows { MatchResult result (λ entered. IsEntered holding entered) (λ kept. kept ≡ holding) }
-        ensures caller { MatchResult result (λ entered. EntersWait holding entered) (λ kept. kept ≡ holding) }
+        ensures rows { MatchResult result (λ entered. IsEntered holding entered) (λ kept. FindsHeld holding kept) }
+        ensures caller { MatchResult result (λ entered. EntersWait holding entered) (λ kept. StandsOn holding kept) }
     {
         let Holding {
             mut token,

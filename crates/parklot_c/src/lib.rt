@@ -17,9 +17,10 @@ ghost use Rattle.std.specs.Prelude.{◌≡◌, ◌⊎◌};
 ghost use Rattle.c_calls.specs.Handles.{table_seat, list_seat};
 ghost use Rattle.c_calls.specs.Codes.{refused_code, tried_code, entered_code, polled_code};
 ghost use Rattle.c_calls.specs.Codes.{retried_code, posted_code, wake_code};
-ghost use Rattle.c_calls.specs.Codes.{told, done};
+ghost use Rattle.c_calls.specs.Codes.{told, done, IsOk, IsOneOrHanded};
 ghost use Rattle.c_calls.specs.Answers.{Answers, Telling, NamesWoken};
-ghost use Rattle.c_calls.specs.Answers.{NamesEach, LacksRoom, TellsNumber, Frees, WritesOnlyWith};
+ghost use Rattle.c_calls.specs.Answers.{NamesEach, LacksRoom, TellsNumber, Frees};
+ghost use Rattle.c_calls.specs.Answers.{WritesOnlyWith, WritesSeats};
 ghost use Rattle.c_calls.specs.Deals.{DealsToEmpty};
 
 use c_calls::codes::NO_SEAT;
@@ -65,7 +66,7 @@ pub extern "C" fn parklot_number(seat: &mut SeatHandle, number: &mut u32) -> u32
     ensures other { list_seat seat.new ≡ list_seat seat.old }
     ensures same { table_seat seat.new ≡ table_seat seat.old }
     ensures told { TellsNumber (λ s. s.seat.number) (table_seat seat.old) result number.new }
-    ensures kept { WritesOnlyWith (λ n. n ≡ 0) result number.old number.new }
+    ensures kept { WritesOnlyWith IsOk result number.old number.new }
 {
     if !seat.is_full {
         return NO_SEAT;
@@ -180,7 +181,7 @@ pub extern "C" fn parklot_wake(seat: &mut SeatHandle, handoff: bool, woken: &mut
     ensures answer { Answers refused_code wake_code
         (Telling (NamesWoken woken.new) (λ s. WakesByTask s handoff))
         (table_seat seat.old) result (table_seat seat.new) }
-    ensures kept { WritesOnlyWith (λ n. (n ≡ 9) ⊎ (n ≡ 10)) result woken.old woken.new }
+    ensures kept { WritesOnlyWith IsOneOrHanded result woken.old woken.new }
 {
     if !seat.is_full {
         return NO_SEAT;
@@ -203,8 +204,7 @@ pub extern "C" fn parklot_wake_some(
     ensures answer { LacksRoom woken.old (table_seat seat.old) result (table_seat seat.new)
         ⊎ Answers refused_code done (Telling (NamesEach woken.new count.new) WakesSomeByTask)
         (table_seat seat.old) result (table_seat seat.new) }
-    ensures kept { WritesOnlyWith (λ n. n ≡ 4) result woken.old woken.new
-        × WritesOnlyWith (λ n. n ≡ 4) result count.old count.new }
+    ensures kept { WritesSeats result woken.old woken.new count.old count.new }
 {
     if !seat.is_full {
         return NO_SEAT;
@@ -221,7 +221,7 @@ pub extern "C" fn parklot_value(seat: &mut SeatHandle, counter: u32, value: &mut
     ensures other { list_seat seat.new ≡ list_seat seat.old }
     ensures answer { Answers refused_code told (Telling (λ n. value.new ≡ n) (λ s. ReadsByTask s counter))
         (table_seat seat.old) result (table_seat seat.new) }
-    ensures kept { WritesOnlyWith (λ n. n ≡ 0) result value.old value.new }
+    ensures kept { WritesOnlyWith IsOk result value.old value.new }
 {
     if !seat.is_full {
         return NO_SEAT;
@@ -242,7 +242,7 @@ pub extern "C" fn parklot_waiters_of_root(
     ensures other { list_seat seat.new ≡ list_seat seat.old }
     ensures answer { Answers refused_code told (Telling (λ n. waits.new ≡ n) (λ s. CountsByTask s counter))
         (table_seat seat.old) result (table_seat seat.new) }
-    ensures kept { WritesOnlyWith (λ n. n ≡ 0) result waits.old waits.new }
+    ensures kept { WritesOnlyWith IsOk result waits.old waits.new }
 {
     if !seat.is_full {
         return NO_SEAT;

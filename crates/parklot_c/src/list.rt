@@ -4,9 +4,10 @@ ghost use Rattle.notify_list.specs.Tasks.{AddsByTask, LooksByTask};
 ghost use Rattle.notify_list.specs.Tasks.{EntersByTask, PollsByTask, NotifiesOneByTask};
 ghost use Rattle.notify_list.specs.declared.task_seat.TaskStage.TheVariants.{Resting};
 ghost use Rattle.c_calls.specs.Handles.{table_seat, list_seat};
-ghost use Rattle.c_calls.specs.Codes.{told, done};
+ghost use Rattle.c_calls.specs.Codes.{told, done, IsOk, IsOne};
 ghost use Rattle.c_calls.specs.ListCodes.{refused_code, entered_code, polled_code, one_code};
-ghost use Rattle.c_calls.specs.Answers.{Answers, Telling, LacksRoom, TellsNumber, Frees, WritesOnlyWith};
+ghost use Rattle.c_calls.specs.Answers.{Answers, Telling, LacksRoom, TellsNumber, Frees};
+ghost use Rattle.c_calls.specs.Answers.{WritesOnlyWith, WritesSeats};
 ghost use Rattle.c_calls.specs.ListAnswers.{NotifiesOrGoesOn, NamesGranted, NamesAll};
 ghost use Rattle.c_calls.specs.ListDeals.{DealsToEmpty};
 
@@ -38,7 +39,7 @@ pub extern "C" fn parklot_list_number(seat: &mut SeatHandle, number: &mut u32) -
     ensures other { table_seat seat.new ≡ table_seat seat.old }
     ensures same { list_seat seat.new ≡ list_seat seat.old }
     ensures told { TellsNumber (λ s. s.seat.number) (list_seat seat.old) result number.new }
-    ensures kept { WritesOnlyWith (λ n. n ≡ 0) result number.old number.new }
+    ensures kept { WritesOnlyWith IsOk result number.old number.new }
 {
     if !seat.is_full {
         return NO_SEAT;
@@ -55,7 +56,7 @@ pub extern "C" fn parklot_list_add(seat: &mut SeatHandle, ticket: &mut u64) -> u
     ensures other { table_seat seat.new ≡ table_seat seat.old }
     ensures answer { Answers refused_code told (Telling (λ word. ticket.new ≡ word) AddsByTask)
         (list_seat seat.old) result (list_seat seat.new) }
-    ensures kept { WritesOnlyWith (λ n. n ≡ 0) result ticket.old ticket.new }
+    ensures kept { WritesOnlyWith IsOk result ticket.old ticket.new }
 {
     if !seat.is_full {
         return NO_SEAT;
@@ -105,7 +106,7 @@ pub extern "C" fn parklot_list_one(seat: &mut SeatHandle, woken: &mut u32) -> u3
     ensures other { table_seat seat.new ≡ table_seat seat.old }
     ensures answer { Answers refused_code one_code (Telling (NamesGranted woken.new) NotifiesOneByTask)
         (list_seat seat.old) result (list_seat seat.new) }
-    ensures kept { WritesOnlyWith (λ n. n ≡ 9) result woken.old woken.new }
+    ensures kept { WritesOnlyWith IsOne result woken.old woken.new }
 {
     if !seat.is_full {
         return NO_SEAT;
@@ -124,8 +125,7 @@ pub extern "C" fn parklot_list_all(seat: &mut SeatHandle, woken: &mut [u32], cou
     ensures answer { LacksRoom woken.old (list_seat seat.old) result (list_seat seat.new)
         ⊎ Answers refused_code done (Telling (NamesAll woken.new count.new) NotifiesOrGoesOn)
         (list_seat seat.old) result (list_seat seat.new) }
-    ensures kept { WritesOnlyWith (λ n. n ≡ 4) result woken.old woken.new
-        × WritesOnlyWith (λ n. n ≡ 4) result count.old count.new }
+    ensures kept { WritesSeats result woken.old woken.new count.old count.new }
 {
     if !seat.is_full {
         return NO_SEAT;
@@ -142,7 +142,7 @@ pub extern "C" fn parklot_list_quiet(seat: &mut SeatHandle, quiet: &mut bool) ->
     ensures other { table_seat seat.new ≡ table_seat seat.old }
     ensures answer { Answers refused_code told (Telling (λ equal. quiet.new ≡ equal) LooksByTask)
         (list_seat seat.old) result (list_seat seat.new) }
-    ensures kept { WritesOnlyWith (λ n. n ≡ 0) result quiet.old quiet.new }
+    ensures kept { WritesOnlyWith IsOk result quiet.old quiet.new }
 {
     if !seat.is_full {
         return NO_SEAT;

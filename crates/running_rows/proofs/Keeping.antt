@@ -1,20 +1,24 @@
 -- A step that leads on keeps the rule, and so does a store of which the world knows nothing.
-use Rattle.std.proofs.Common.{◌≡◌, ◌≢◌, ℕ, ◌<◌, ◌^◌, List, slice_index, set, sym, refl, ap, ◌∙◌, subst, ⊎_elim, inl, inr, arith}
+use Rattle.std.proofs.Common.{◌≡◌, ◌≢◌, ℕ, ◌==◌, ◌<◌, ◌^◌, Bool, List, slice_index, set, sym, refl, ap, ◌∙◌, subst, ⊎_elim, inl, inr, arith}
+use Rattle.std.proofs.Common.{ne_eqb}
+use native.Mathlib.Decide.{ℕ_discrete}
+use prog.Atomic.{either}
 use Rattle.std.proofs.lemmas.List.{set-get_or}
 use mathlib.Core.Option.{Option, some}
 use lib.ListN.{get_elem?}
-use Rattle.atomic_table.specs.Table.{State, Me, keeps, stepped, Allows}
+use Rattle.atomic_table.specs.Table.{State, Me, Step, keeps, stepped, Allows}
 use Rattle.atomic_table.proofs.Lists.{at_set, set_again}
 use Rattle.running_rows.specs.declared.view.View.{View}
 use Rattle.running_rows.specs.declared.view.Seated.{Seated}
 use Rattle.running_rows.specs.Family.{Family}
 use Rattle.step_table.specs.Path.{looks}
-use Rattle.running_rows.specs.Strides.{Went, here, Looked}
+use Rattle.running_rows.specs.Strides.{Went, here, Looked, runs_lock, runs_lock_or_look}
 use Rattle.running_rows.specs.Rule.{In, IsSomeones, fresh_seat, Sits, HasSeats, IsKept}
 use Rattle.running_rows.specs.History.{strides_of}
 use Rattle.running_rows.proofs.Places.{replaced}
 use Rattle.running_rows.proofs.History.{HasGoneOn, gone_on, looked_on}
 use Rattle.running_rows.specs.Owing.{Stands, Leads, Owes, IsSeen, IsAside}
+use Rattle.running_rows.proofs.Telling.{tells_more}
 
 module _ {S V T K : Type 0} (f : Family S V T K) (k : f.Key) (s : State S (View V T)) (r : IsKept f k s) (id : ℕ) (m : Me S (View V T))
     (at : get_elem? s.views id ≡ some m.0) (someones : IsSomeones f m.0) where
@@ -125,26 +129,46 @@ module _ {S V T K : Type 0} (f : Family S V T K) (k : f.Key) where
       subst (λ q. Allows (IsKept f k) slots id q i g (then q)) (sym same) (allowed slots id i m g (then m) someones owes)
 
   -- a look changes no word, and is told as that of the word at the address
+  leads_looked : (i : ℕ) (m : Me S (View V T)) → IsSeen f k i → (world : f.World) (words : List ℕ) (homes : List (Option S))
+      → Stands f k m.0.own world words homes i
+      → Leads f k m world words homes i (slice_index words i) (λ t. Looked f i m (slice_index words i) t)
+  leads_looked i m seen world words homes at = let o = seen world words homes m.0.own at in record {
+    next = world;
+    own = o.now;
+    act = keeps;
+    valid = tt;
+    shows = subst (λ ws. f.Shows k world ws homes) (sym (set-get_or words i 0)) at.shows;
+    same = o.went.same.0;
+    of_is = o.went.same.1 ∙ at.of_is;
+    knows = o.knows;
+    on = looked_on f k world m.0.own i (slice_index words i) at.of_is o;
+    others = λ u ne low known. known;
+    tells = (subst (λ q. Went f here (looks (f.word_at q i)) m.0.own (slice_index words i) o.now) (sym at.of_is) o.went, refl);
+  }
+
   pub allowed_look : (slots id i : ℕ) (m : Me S (View V T)) → IsSomeones f m.0 → IsSeen f k i
       → Allows (IsKept f k) slots id m i (λ n. n) (λ n t. Looked f i m n t)
   allowed_look slots id i m someones seen =
-      allowed slots id i m (λ n. n) (λ n t. Looked f i m n t) someones (λ world words homes at. looked world words homes at)
+      allowed slots id i m (λ n. n) (λ n t. Looked f i m n t) someones (λ world words homes at. leads_looked i m seen world words homes at)
+
+  -- who may look at a lock and take it may take it, or look where it is held
+  pub owes_lock_or_look : (at : Step S → V → V) (st : Step S) (m : Me S (View V T)) → IsSeen f k st.word
+      → Owes f k m st.word (λ n. either (n == 0) 1 n) (runs_lock f at st m)
+      → Owes f k m st.word (λ n. either (n == 0) 1 n) (runs_lock_or_look f at st m)
+  owes_lock_or_look at st m seen owes world words homes stood = by (ℕ_discrete (slice_index words st.word) 0)
     where
-      looked : (world : f.World) (words : List ℕ) (homes : List (Option S)) → Stands f k m.0.own world words homes i
-          → Leads f k m world words homes i (slice_index words i) (λ t. Looked f i m (slice_index words i) t)
-      looked world words homes at = let o = seen world words homes m.0.own at in record {
-        next = world;
-        own = o.now;
-        act = keeps;
-        valid = tt;
-        shows = subst (λ ws. f.Shows k world ws homes) (sym (set-get_or words i 0)) at.shows;
-        same = o.went.same.0;
-        of_is = o.went.same.1 ∙ at.of_is;
-        knows = o.knows;
-        on = looked_on f k world m.0.own i (slice_index words i) at.of_is o;
-        others = λ u ne low known. known;
-        tells = (subst (λ q. Went f here (looks (f.word_at q i)) m.0.own (slice_index words i) o.now) (sym at.of_is) o.went, refl);
-      }
+      by : Dec (slice_index words st.word ≡ 0)
+          → Leads f k m world words homes st.word (either (slice_index words st.word == 0) 1 (slice_index words st.word))
+          (runs_lock_or_look f at st m (slice_index words st.word))
+      by (yes e) = tells_more f k m st.word world words homes (either (slice_index words st.word == 0) 1 (slice_index words st.word))
+          (runs_lock f at st m (slice_index words st.word)) (runs_lock_or_look f at st m (slice_index words st.word))
+          (λ t told. ((λ ne. absurd (ne e)), told.1)) (owes world words homes stood)
+      by (no ne) = tells_more f k m st.word world words homes (either (slice_index words st.word == 0) 1 (slice_index words st.word))
+          (λ t. Looked f st.word m (slice_index words st.word) t) (runs_lock_or_look f at st m (slice_index words st.word))
+          (λ t told. ((λ _. told), (λ e. absurd (ne e))))
+          (subst (λ x. Leads f k m world words homes st.word x (λ t. Looked f st.word m (slice_index words st.word) t))
+          (sym (ap (λ (b : Bool). either b 1 (slice_index words st.word)) (ne_eqb (slice_index words st.word) 0 ne)))
+          (leads_looked st.word m seen world words homes stood))
 
   -- a word of which the world knows nothing may be written
   pub allowed_aside_by : (slots id i : ℕ) (m : Me S (View V T)) (g : ℕ → ℕ) → IsAside f k i → Allows (IsKept f k) slots id m i g (λ _ t. t ≡ m)

@@ -57,6 +57,14 @@ module _ {S V T K : Type 0} (f : Family S V T K) where
   abbrev pub runs_lock : (Step S → V → V) → Step S → Me S (View V T) → ℕ → Me S (View V T) → Type 0
   runs_lock at st m n t = (n ≢ 0 → t ≡ m) × (n ≡ 0 → Took (at st) m t)
 
+  -- a look found the lock held, and is a stride
+  abbrev pub FoundHeld : ℕ → Me S (View V T) → Me S (View V T) → Type 0
+  FoundHeld i m t = (n : ℕ) × (n ≢ 0) × Looked i m n t
+
+  -- the same, where it was looked at by what would have taken it
+  abbrev pub runs_lock_or_look : (Step S → V → V) → Step S → Me S (View V T) → ℕ → Me S (View V T) → Type 0
+  runs_lock_or_look at st m n t = (n ≢ 0 → Looked st.word m n t) × (n ≡ 0 → Took (at st) m t)
+
   -- a row that gives a lock back ran, and the record is at home
   abbrev pub runs_unlock : Step S → Me S (View V T) → ℕ → Me S (View V T) → Type 0
   runs_unlock st m x t = (n : ℕ) × Went here runs m.0.own n t.0.own × Changed m (rest m.1) t

@@ -11,13 +11,13 @@ ghost use Rattle.std.specs.Prelude.{◌≡◌, ◌≢◌, ◌==◌, ◌<◌, Mat
 ghost use mathlib.Core.Option.{none, some};
 ghost use prog.Atomic.{either};
 ghost use Rattle.atomic_table.specs.Table.{step};
-ghost use Rattle.running_rows.specs.Strides.{runs_lock, Took, runs_unlock};
+ghost use Rattle.running_rows.specs.Strides.{runs_lock, runs_lock_or_look, Took, FoundHeld, runs_unlock};
 ghost use Rattle.running_rows.specs.Rule.{IsSomeones};
-ghost use Rattle.running_rows.specs.Owing.{Owes, IsAside};
+ghost use Rattle.running_rows.specs.Owing.{Owes, IsAside, IsSeen};
 
 use crate::breaks::{BREAKS_END, FIRST_BREAK, make_break};
 use crate::families::{Rows, Start};
-use crate::plays::{RunsLock, RunsUnlock, SetsAside};
+use crate::plays::{RunsLock, RunsLockOrLook, RunsUnlock, SetsAside};
 use crate::rule::OneWorld;
 use crate::running::Running;
 use crate::view::{Token, View};
@@ -154,21 +154,22 @@ impl<S, V, T, K, R: Rows<S, V, T, K>> Running<S, View<V, T>, K, OneWorld<R>> {
         shared.compare_exchange::<RunsLock<A, R, K>>(token, word, 0, 1) == 0
     }
 
-    /// The row that takes a lock where it is found free within some tries, and else nothing: whether it was
-    /// taken. It never waits: a caller that has other work leaves a lock that stays held.
+    /// The row that takes a lock where it is found free within some tries, and else a look that found it held:
+    /// whether it was taken. It never waits: a caller that has other work leaves a lock that stays held.
     pub fn try_lock<A: Start<S, V>>(&self, token: &mut Token<S, V, T>, word: usize) -> bool
         requires own { (token.old.table_id ≡ self.now.table.shared.table_id)
             × IsSomeones R.family token.old.me.0 }
         requires word { word < self.now.table.shared.table_id.words }
+        requires seen { IsSeen R.family (R.family.key self.now.table.shared.key) word }
         requires owes { Owes R.family (R.family.key self.now.table.shared.key) token.old.me word
             (λ n. either (n == 0) 1 n)
             (runs_lock R.family A.at (step self.now.table.shared.table_id.slots word 0 1 none) token.old.me) }
         ensures own { token.new.table_id ≡ token.old.table_id }
         ensures took { MatchBool result (Took R.family
             (A.at (step self.now.table.shared.table_id.slots word 0 1 none)) token.old.me token.new.me)
-            (token.new.me ≡ token.old.me) }
+            (FoundHeld R.family word token.old.me token.new.me) }
     {
-        for _ in 0..TRIES {
+        for _ in 1..TRIES {
             let found = self
                 .table
                 .shared
@@ -178,7 +179,11 @@ impl<S, V, T, K, R: Rows<S, V, T, K>> Running<S, View<V, T>, K, OneWorld<R>> {
             }
             self.is_free_soon(token, word);
         }
-        false
+        let found = self
+            .table
+            .shared
+            .compare_exchange::<RunsLockOrLook<A, R, K>>(token, word, 0, 1);
+        found == 0
     }
 
     /// The same, at the row that is said.
@@ -191,6 +196,7 @@ impl<S, V, T, K, R: Rows<S, V, T, K>> Running<S, View<V, T>, K, OneWorld<R>> {
         requires own { (token.old.table_id ≡ self.now.table.shared.table_id)
             × IsSomeones R.family token.old.me.0 }
         requires word { word < self.now.table.shared.table_id.words }
+        requires seen { IsSeen R.family (R.family.key self.now.table.shared.key) word }
         requires owes { Owes R.family (R.family.key self.now.table.shared.key) token.old.me word
             (λ n. either (n == 0) 1 n)
             (runs_lock R.family A.at (step self.now.table.shared.table_id.slots word 0 1 (some said.now))
@@ -199,9 +205,9 @@ impl<S, V, T, K, R: Rows<S, V, T, K>> Running<S, View<V, T>, K, OneWorld<R>> {
         ensures took { MatchBool result (Took R.family
             (A.at (step self.now.table.shared.table_id.slots word 0 1
             (some said.now))) token.old.me token.new.me)
-            (token.new.me ≡ token.old.me) }
+            (FoundHeld R.family word token.old.me token.new.me) }
     {
-        for _ in 0..TRIES {
+        for _ in 1..TRIES {
             if self
                 .table
                 .shared
@@ -212,7 +218,10 @@ impl<S, V, T, K, R: Rows<S, V, T, K>> Running<S, View<V, T>, K, OneWorld<R>> {
             }
             self.is_free_soon(token, word);
         }
-        false
+        self.table
+            .shared
+            .compare_exchange_with::<RunsLockOrLook<A, R, K>>(token, word, 0, 1, said)
+            == 0
     }
 
     /// Looks at a held lock for a while: whether it was found free. Looks are plain loads, since each

@@ -1,5 +1,6 @@
 //! What each kind of step tells its seat.
 ghost use Rattle.running_rows.specs.Strides.{looks_at, runs_access, runs_store, runs_lock, runs_unlock};
+ghost use Rattle.running_rows.specs.Strides.{runs_lock_or_look};
 ghost use Rattle.running_rows.specs.Strides.{runs_grant, runs_take_or_look, runs_take_or_nothing};
 ghost use Rattle.running_rows.specs.Strides.{sets_aside};
 
@@ -42,6 +43,16 @@ pub(crate) struct RunsLock<A, R, K> {
 
 impl<S, V, T, K, A: Start<S, V>, R: Rows<S, V, T, K>> Play<S, View<V, T>> for RunsLock<A, R, K> {
     ghost then = { runs_lock R.family A.at };
+}
+
+/// A row that takes a lock, or a look that finds it held.
+pub(crate) struct RunsLockOrLook<A, R, K> {
+    rows: PhantomData<(A, R, K)>,
+}
+
+impl<S, V, T, K, A: Start<S, V>, R: Rows<S, V, T, K>> Play<S, View<V, T>>
+    for RunsLockOrLook<A, R, K> {
+    ghost then = { runs_lock_or_look R.family A.at };
 }
 
 /// A row that gives a lock back.

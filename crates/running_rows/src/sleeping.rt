@@ -78,7 +78,7 @@ impl Patience {
 }
 
 impl<S, V, T, K, R: Rows<S, V, T, K>> Running<S, View<V, T>, K, OneWorld<R>> {
-    /// Looks at a word at most so often, 4,096 times: whether it is above 0. The first argument has no bytes: it names the
+    /// Whether the word is above 0 at one of so many looks, 4,096 at most. The first argument has no bytes: it names the
     /// type of views, for whose size a caller answers.
     #[inline]
     pub fn is_above_zero_soon(

@@ -7,7 +7,7 @@ use Rattle.step_table.specs.declared.entry.Entry.TheVariants.{Take}
 use Rattle.step_table.specs.declared.place.AcquireRow.TheVariants.{A1, A2, A3}
 use Rattle.step_table.specs.declared.place.Place.{Place}
 use Rattle.step_table.specs.declared.place.Place.TheVariants.{Rest}
-use Rattle.step_table.specs.declared.word.Word.TheVariants.{Counter, Waiters}
+use Rattle.step_table.specs.declared.word.Word.TheVariants.{Counter, Lock, Waiters}
 use Rattle.step_table.specs.World.{Layout, SeatState}
 use Rattle.step_table.specs.Journal.{plain_start, replay}
 use Rattle.step_table.specs.Path.{all_told}
@@ -19,14 +19,17 @@ use Rattle.sema_table.specs.Setting.{root, layout}
 use Rattle.sema_table.specs.Seats.{SeatModel}
 use Rattle.sema_table.specs.Strides.{IsRow}
 use Rattle.sema_table.specs.Calls.{plain_seen, rows_of}
-use Rattle.sema_table.specs.Tries.{IsValue, IsWaiters, IsTried, acquiring}
-use Rattle.sema_table.specs.Callers.{IsSeatAfter, ReadsNumber, CountsWaits, TriesToAcquire}
+use Rattle.sema_table.specs.Tries.{FindsHeld, IsValue, IsWaiters, IsTried, acquiring}
+use Rattle.sema_table.specs.Callers.{IsSeatAfter, StandsOn, ReadsNumber, CountsWaits, TriesToAcquire}
 use Rattle.sema_table.proofs.Changing.{number_there}
 use Rattle.sema_table.proofs.After.{after_strides, after_call, after_look}
 use Rattle.sema_table.proofs.Sighting.{Sighted, at_stride, seat_then, until_then, since_then}
 
 pub reads_number : (s t : SeatModel) (c n : ℕ) → IsValue s c n t → ReadsNumber s c n t
 reads_number s t c n x = (after_look s t (Counter c) n x.looked, x.number)
+
+pub stands_on : (s t : SeatModel) (c : ℕ) → FindsHeld s c t → StandsOn s t
+stands_on s t c (n, held, looked) = (after_look s t (Lock (root s.table.setting c)) n looked, looked.stays)
 
 pub counts_waits : (s t : SeatModel) (c n : ℕ) → IsWaiters s c n t → CountsWaits s c n t
 counts_waits s t c n x = (after_look s t (Waiters (root s.table.setting c)) n x.looked, x.near)

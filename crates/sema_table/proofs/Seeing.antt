@@ -7,7 +7,7 @@ use native.Mathlib.Decide.{ℕ_discrete}
 use Rattle.running_rows.specs.Table.{keeps}
 use Rattle.step_table.specs.declared.place.Place.{Place}
 use Rattle.step_table.specs.declared.word.Word.{Word}
-use Rattle.step_table.specs.declared.word.Word.TheVariants.{Counter, Waiters, Grant}
+use Rattle.step_table.specs.declared.word.Word.TheVariants.{Counter, Lock, Waiters, Grant}
 use Rattle.step_table.specs.World.{Layout, SemaWorld}
 use Rattle.step_table.specs.Path.{sight, looks, look_in}
 use Rattle.step_table.proofs.Paths.{meets_sight}
@@ -22,7 +22,7 @@ use Rattle.sema_table.specs.Setting.{root, layout, address, word_at, words_shown
 use Rattle.sema_table.specs.Rule.{seeing, lists_by, Knows, Homes, ShowsWorld}
 use Rattle.sema_table.specs.Rows.{Me, SemaSeat, semaphore_rows}
 use Rattle.sema_table.specs.Starts.{begin}
-use Rattle.sema_table.proofs.Words.{shown, counter_lies, waiters_lie, grant_lies, root_root}
+use Rattle.sema_table.proofs.Words.{shown, counter_lies, lock_lies, waiters_lie, grant_lies, root_root}
 use Rattle.sema_table.proofs.Adding.{adding}
 use Rattle.sema_table.proofs.Bounding.{taken_most, changes_most}
 use Rattle.sema_table.proofs.Resting.{free_counted}
@@ -100,6 +100,9 @@ module _ (z : Setting) (i : ℕ) where
 
   pub waiters_seen : (c : ℕ) → 0 < z.roots → address z (Waiters c) ≡ i → IsSeen semaphore_rows z i
   waiters_seen c some at = is_seen (Waiters (root z c)) (waiters_lie z c i some at) tt (let e = root_root z c in omega arith)
+
+  pub lock_seen : (c : ℕ) → 0 < z.roots → address z (Lock c) ≡ i → IsSeen semaphore_rows z i
+  lock_seen c some at = is_seen (Lock (root z c)) (lock_lies z c i some at) tt (let e = root_root z c in omega arith)
 
   -- the world knows nothing of what lies behind its words
   pub is_aside : words_shown z ≤ i → IsAside semaphore_rows z i

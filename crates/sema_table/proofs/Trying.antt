@@ -9,7 +9,7 @@ use Rattle.step_table.specs.declared.place.AcquireRow.TheVariants.{A1, A2, A3}
 use Rattle.step_table.specs.declared.place.Place.{Place}
 use Rattle.step_table.specs.declared.place.Place.TheVariants.{Rest}
 use Rattle.step_table.specs.declared.word.Word.{Word}
-use Rattle.step_table.specs.declared.word.Word.TheVariants.{Counter, Waiters, Grant}
+use Rattle.step_table.specs.declared.word.Word.TheVariants.{Counter, Lock, Waiters, Grant}
 use Rattle.step_table.specs.World.{SeatState}
 use Rattle.step_table.specs.Event.{Next}
 use Rattle.step_table.specs.Counting.{total, on}
@@ -29,10 +29,10 @@ use Rattle.sema_table.specs.Places.{is_free}
 use Rattle.sema_table.specs.Rule.{stands_by, sight_by}
 use Rattle.sema_table.specs.Starts.{begin}
 use Rattle.sema_table.proofs.Striding.{Strode, Ran, ran_at, strode_at}
-use Rattle.sema_table.specs.Seats.{Token, TableModel, seat_of, table_of, IsToken, IsSeat}
-use Rattle.sema_table.specs.Walks.{Went, Walked, moved_to}
+use Rattle.sema_table.specs.Seats.{Token, TableModel, seat_of, table_of, IsToken, IsSeat, IsMidway}
+use Rattle.sema_table.specs.Walks.{Went, Walked, SawHeld, moved_to}
 use Rattle.sema_table.specs.Calls.{CallsRows, rows_of, plain_seen}
-use Rattle.sema_table.specs.Tries.{acquiring, LooksAt, IsValue, IsWaiters, waits_seen, IsTried}
+use Rattle.sema_table.specs.Tries.{acquiring, LooksAt, FindsHeld, IsValue, IsWaiters, waits_seen, IsTried}
 use Rattle.sema_table.proofs.Words.{root_root, counter_lies, waiters_lie, grant_lies}
 use Rattle.sema_table.proofs.Leading.{Goes, next_by, led, load_zero, load_some, won, lost}
 use Rattle.sema_table.proofs.Walking.{walked_by, walked_row, walked_on, token_after}
@@ -110,6 +110,28 @@ looked_seat s t n w k seat r same bare = record {
   free = ap (λ (q : SeatState). is_free q.place) (looked_stays s t n w k seat.token_is r same bare) ∙ seat.free;
   counted = (walked s t n w k seat.token_is r same bare).counted seat.free;
 }
+
+-- a look that found a lock held
+module _ (s t : Token) (n : Numbers) (c : ℕ) (saw : SawHeld s c t) where
+  pub held_seat : IsSeat s n → IsSeat t n
+  held_seat seat = looked_seat s t n (Lock (root s.me.0.own.knows.setting c)) saw.found seat saw.looked saw.table_id saw.slots
+
+  module _ (token : IsToken s n) where
+    pub held_midway : (d : ℕ) (place : Place) → IsMidway s n d place → IsMidway t n d place
+    held_midway d place at = record {
+      token_is = looked_token s t n (Lock (root s.me.0.own.knows.setting c)) saw.found token saw.looked saw.table_id saw.slots;
+      inside = subst (λ (y : TableModel). d < length y.setting.starts)
+          (sym (looked_table s t n (Lock (root s.me.0.own.knows.setting c)) saw.found token saw.looked saw.table_id saw.slots)) at.inside;
+      at = ap (λ (q : SeatState). q.place)
+          (looked_stays s t n (Lock (root s.me.0.own.knows.setting c)) saw.found token saw.looked saw.table_id saw.slots) ∙ at.at;
+    }
+
+    pub finds_held : FindsHeld (seat_of s n) c (seat_of t n)
+    finds_held = (
+      saw.found,
+      saw.held,
+      looks_at s t n (Lock (root s.me.0.own.knows.setting c)) saw.found token saw.looked saw.table_id saw.slots,
+    )
 
 pub is_value : (s t : Token) (n : Numbers) (c k : ℕ) → IsSeat s n → Strode here (looks (Counter c)) s.me.0.own k t.me.0.own
     → t.table_id ≡ s.table_id → t.me.1 ≡ s.me.1

@@ -33,6 +33,11 @@ waiters_lie z c i some e =
     let low = low_root z c some in let all : ℕ = 8 * length z.starts in
     rw (le-ltb i all (omega arith), le-ltb i (all + z.roots) (omega arith), lt-ltb i (all + z.roots + z.roots) (omega arith)) (ap Waiters (omega arith))
 
+pub lock_lies : (z : Setting) (c i : ℕ) → 0 < z.roots → address z (Lock c) ≡ i → word_at z i ≡ Lock (root z c)
+lock_lies z c i some e =
+    let low = low_root z c some in let all : ℕ = 8 * length z.starts in
+    rw (le-ltb i all (omega arith), lt-ltb i (all + z.roots) (omega arith)) (ap Lock (omega arith))
+
 pub grant_lies : (z : Setting) (k i : ℕ) → address z (Grant k) ≡ i → word_at z i ≡ Grant k
 grant_lies z k i e =
     let all : ℕ = 8 * length z.starts in

@@ -36,6 +36,10 @@ pub record IsSeatAfter (s : SeatModel) (added given : ℕ) (told : List Entry) (
   pub own : filter (is_own s.number) t.sight.seen ≡ filter (is_own s.number) (s.sight.seen ++ told)
   pub lawful : IsLawful (plain_start (layout s.table.setting).starts) t.sight.seen
 
+-- nothing was done: the seat stands as it stood, and has seen more of what others told
+abbrev pub StandsOn : SeatModel → SeatModel → Type 0
+StandsOn s t = IsSeatAfter s 0 0 [] t × (t.sight.stands ≡ s.sight.stands)
+
 -- n is the number of the counter after all that is seen now
 abbrev pub ReadsNumber : SeatModel → ℕ → ℕ → SeatModel → Type 0
 ReadsNumber s c n t = IsSeatAfter s 0 0 [] t × (n ≡ (plain_seen t).numbers c)
@@ -99,7 +103,7 @@ TriesOnce s (retried.Zero t) = (c : ℕ) × (lifo : Bool) × IsWaitingOn s c lif
 -- the seat sleeps on as before; or it was woken, its wait has left, and it has to try; or it was handed a
 -- unit, which was taken for it after its wait had left
 abbrev pub PollsGrant : SeatModel → Polled → Type 0
-PollsGrant s (Still t) = IsSeatAfter s 0 0 [] t × (t.sight.stands ≡ s.sight.stands)
+PollsGrant s (Still t) = StandsOn s t
 PollsGrant s (Woken t) =
     (c : ℕ) × (lifo : Bool) × (w : WaitId) × IsWaitingOn s c lifo (Some w)
     × IsSeatAfter s 0 0 [] t × IsWaitingOn t c lifo None × HasLeft c w t.sight.seen

@@ -14,6 +14,7 @@ use Rattle.sema_table.specs.declared.many_seat.PostedMany.{PostedMany}
 use Rattle.sema_table.specs.declared.many_seat.PostedMany.TheVariants.{Done, Owes}
 use Rattle.sema_table.specs.Setting.{layout}
 use Rattle.sema_table.specs.Seats.{SeatModel}
+use Rattle.sema_table.specs.Tries.{FindsHeld}
 use Rattle.sema_table.specs.Calls.{RunsRows, CallsRows, IsAt, ComesTo}
 
 -- a release of so many units to c
@@ -89,6 +90,10 @@ IsWokenSeats s t seats =
     (r : ReleaseMany) × IsAt s (ReleasingMany r M3)
     × (t ≡ record s { sight = t.sight; strides = t.strides }) × ComesTo s Rest t
     × ((woken : WakesMany s r t (length seats)) × (seats ≡ map (λ w. w.seat) woken.waits))
+
+-- the seat still owes wakes: it found the lock held that it has to take
+abbrev pub StillOwesMany : SeatModel → SeatModel → Type 0
+StillOwesMany s t = (r : ReleaseMany) × IsAt s (ReleasingMany r M3) × FindsHeld s r.counter t
 
 -- all units were added, and nobody waited at the root; or somebody did, and the release went on to wake
 abbrev pub IsReleasedMany : SeatModel → ReleaseMany → SeatModel → ℕ → Type 0

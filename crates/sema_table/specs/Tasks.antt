@@ -28,10 +28,10 @@ use Rattle.sema_table.specs.Seats.{TableModel, SeatModel}
 use Rattle.sema_table.specs.Changes.{HasChanged}
 use Rattle.sema_table.specs.Outcomes.{IfLost}
 use Rattle.sema_table.specs.Making.{IsMade}
-use Rattle.sema_table.specs.Tries.{IsValue, IsWaiters, IsTried, IsPosted}
-use Rattle.sema_table.specs.Waking.{acquire_of, IsEntered, IsPolled, TriesWoken, IsWakened}
-use Rattle.sema_table.specs.Many.{release_of, IsPostedMany, IsWokenSeats}
-use Rattle.sema_table.specs.Callers.{ReadsNumber, CountsWaits, TriesToAcquire, JoinsQueue, PollsGrant, TriesOnce}
+use Rattle.sema_table.specs.Tries.{IsValue, IsWaiters, IsTried, IsPosted, FindsHeld}
+use Rattle.sema_table.specs.Waking.{acquire_of, IsEntered, IsPolled, TriesWoken, IsWakened, StillOwes}
+use Rattle.sema_table.specs.Many.{release_of, IsPostedMany, IsWokenSeats, StillOwesMany}
+use Rattle.sema_table.specs.Callers.{StandsOn, ReadsNumber, CountsWaits, TriesToAcquire, JoinsQueue, PollsGrant, TriesOnce}
 use Rattle.sema_table.specs.CallersReleasing.{PostsUnit, PostsUnits, WakesFirst, WakesThese}
 use Rattle.sema_table.specs.declared.task_seat.Stage.{Stage}
 use Rattle.sema_table.specs.TaskSeats.{TaskModel, stage_of}
@@ -64,6 +64,10 @@ Unfit table stage c = because (stage_of stage ≢ Resting) (length table.setting
 -- nothing was done: the seat is as it was
 abbrev pub Refuses : TaskModel → TaskModel → Type 0 → Type 0
 Refuses s t why = (t ≡ s) × why
+
+-- the same by another stage or counter; or it found a lock held, and this is so
+abbrev pub RefusesOrFinds : TaskModel → TaskModel → Type 0 → Type 0 → Type 0 → TaskRefused → Type 0
+RefusesOrFinds s t other counter busy why = because ((t ≡ s) × other) ((t ≡ s) × counter) busy ⊥ ⊥ why
 
 abbrev pub ReadsByTask : TaskModel → ℕ → Result ℕ TaskRefused → TaskModel → Type 0
 ReadsByTask s c (Ok n) t = Goes s Resting Resting t × IsValue s.seat c n t.seat × ReadsNumber s.seat c n t.seat
@@ -110,7 +114,8 @@ EntersByTask s c lifo (Ok enters.Asleep) t =
     × IsEntered s.seat (acquire_of c lifo) (Acquiring (acquire_of c lifo) A3) (entered.Asleep t.seat)
     × JoinsQueue s.seat c lifo (entered.Asleep t.seat)
 EntersByTask s c lifo (Err why) t =
-    Refuses s t (because (s.stage ≢ Resting) (HasNot s c) (Unit {0}) ⊥ ⊥ why)
+    RefusesOrFinds s t (s.stage ≢ Resting) (HasNot s c)
+    (Goes s Resting Resting t × FindsHeld s.seat c t.seat × StandsOn s.seat t.seat) why
 
 abbrev pub PollsByTask : TaskModel → Result TaskPolled TaskRefused → TaskModel → Type 0
 PollsByTask s (Ok polls.Still) t =
@@ -131,12 +136,16 @@ RetriesByTask s (Err why) t = Refuses s t (because (s.stage ≢ Woken) ⊥ ⊥ �
 abbrev pub WakesByTask : TaskModel → Bool → Result Wake TaskRefused → TaskModel → Type 0
 WakesByTask s handoff (Ok wake) t =
     Goes s Owing Resting t × IsWakened s.seat handoff t.seat wake × WakesFirst s.seat handoff t.seat wake
-WakesByTask s handoff (Err why) t = Refuses s t (because (s.stage ≢ Owing) ⊥ (Unit {0}) ⊥ ⊥ why)
+WakesByTask s handoff (Err why) t =
+    RefusesOrFinds s t (s.stage ≢ Owing) ⊥
+    (Goes s Owing Owing t × StillOwes s.seat t.seat × StandsOn s.seat t.seat) why
 
 abbrev pub WakesSomeByTask : TaskModel → Result (ArrayVec ℕ) TaskRefused → TaskModel → Type 0
 WakesSomeByTask s (Ok seats) t =
     Goes s OwingMany Resting t × IsWokenSeats s.seat t.seat seats.items × WakesThese s.seat t.seat seats.items
-WakesSomeByTask s (Err why) t = Refuses s t (because (s.stage ≢ OwingMany) ⊥ (Unit {0}) ⊥ ⊥ why)
+WakesSomeByTask s (Err why) t =
+    RefusesOrFinds s t (s.stage ≢ OwingMany) ⊥
+    (Goes s OwingMany OwingMany t × StillOwesMany s.seat t.seat × StandsOn s.seat t.seat) why
 
 -- a table for tasks with these settings, and its seats in the order of their numbers, none of which has run
 -- anything

@@ -8,7 +8,7 @@ use Rattle.step_table.specs.declared.place.ReleaseRow.TheVariants.{R1, R2, R3}
 use Rattle.step_table.specs.declared.place.Place.{Place}
 use Rattle.step_table.specs.declared.place.Place.TheVariants.{Rest, Acquiring, Releasing}
 use Rattle.step_table.specs.declared.word.Word.{Word}
-use Rattle.step_table.specs.declared.word.Word.TheVariants.{Counter, Waiters}
+use Rattle.step_table.specs.declared.word.Word.TheVariants.{Counter, Lock, Waiters}
 use Rattle.step_table.specs.Path.{GoesOn, looks}
 use Rattle.step_table.specs.Counting.{total, on}
 use Rattle.step_law_semaphores.specs.SemaPath.{SemaStride, SemaRan}
@@ -38,6 +38,10 @@ pub record LooksAt (s : SeatModel) (w : Word) (n : ℕ) (t : SeatModel) : Type 0
   pub one : t.strides ≡ s.strides ++ stride ∷ []
   pub stays : t.sight.stands ≡ s.sight.stands
   pub later : GoesOn t.sight.seen s.sight.seen
+
+-- nothing but a look, which found the lock of c's root held
+abbrev pub FindsHeld : SeatModel → ℕ → SeatModel → Type 0
+FindsHeld s c t = (n : ℕ) × (n ≢ 0) × LooksAt s (Lock (root s.table.setting c)) n t
 
 -- n is the number of the counter after all that is seen now
 pub record IsValue (s : SeatModel) (c n : ℕ) (t : SeatModel) : Type 0 where

@@ -27,7 +27,7 @@ use Rattle.sema_table.specs.declared.answers.Polled.TheVariants.{Still, Woken, H
 use Rattle.sema_table.specs.Seats.{SeatModel}
 use Rattle.sema_table.specs.Strides.{IsRow}
 use Rattle.sema_table.specs.Calls.{Calls, RunsRows, plain_seen, IsAt, ComesTo}
-use Rattle.sema_table.specs.Tries.{LooksAt}
+use Rattle.sema_table.specs.Tries.{releasing, LooksAt, FindsHeld}
 
 abbrev pub acquire_of : ℕ → Bool → Acquire
 acquire_of c lifo = record { counter = c; lifo = lifo }
@@ -49,6 +49,10 @@ IsEntered s a from (Asleep t) =
     × RunsRows s from t (Queue a.counter (wait s.number s.sight.stands.turn) a.lifo ∷ [])
     × ((before : List Entry)
     × (t.sight.seen ≡ before ++ Queue a.counter (wait s.number s.sight.stands.turn) a.lifo ∷ []))
+
+-- the seat still owes a wake: it found the lock held that it has to take
+abbrev pub StillOwes : SeatModel → SeatModel → Type 0
+StillOwes s t = (c : ℕ) × IsAt s (releasing c R3) × FindsHeld s c t
 
 -- the seat, which was parked, looked at its own grant word, and found nothing
 pub record FindsNoGrant (i : ℕ) (p : SemaStride) : Type 0 where

@@ -1,5 +1,5 @@
 -- What rows of one seat do to its token.
-use Rattle.std.specs.Prelude.{◌≡◌, ℕ, Bool, true, false, drop, if◌then◌else◌, ◌+◌, ◌^◌, ◌<◌, ◌≤◌, List, []}
+use Rattle.std.specs.Prelude.{◌≡◌, ◌≢◌, ℕ, Bool, true, false, drop, if◌then◌else◌, ◌+◌, ◌^◌, ◌<◌, ◌≤◌, List, []}
 use Rattle.std.specs.Prelude.{◌∷◌, ◌++◌, length}
 use Rattle.std.specs.List.{All}
 use Rattle.waiters.specs.declared.wait.WaitId.{WaitId}
@@ -10,12 +10,13 @@ use Rattle.step_table.specs.declared.place.AcquireRow.TheVariants.{P}
 use Rattle.step_table.specs.declared.place.Release.{Release}
 use Rattle.step_table.specs.declared.place.ReleaseRow.TheVariants.{R5, R6, R7, R9, R10}
 use Rattle.step_table.specs.declared.place.Place.{Place}
+use Rattle.step_table.specs.declared.word.Word.TheVariants.{Lock}
 use Rattle.step_table.specs.declared.place.Place.TheVariants.{Rest, Acquiring, Releasing}
 use Rattle.step_table.specs.Event.{by_first}
 use Rattle.step_table.specs.World.{SeatState}
 use Rattle.step_table.specs.Counting.{total, on, counter_at}
 use Rattle.step_table.specs.Journal.{takes}
-use Rattle.step_table.specs.Path.{runs, all_told}
+use Rattle.step_table.specs.Path.{runs, looks, all_told}
 use Rattle.step_law_semaphores.specs.Balances.{added_by}
 use Rattle.step_law_semaphores.specs.SemaPath.{SemaStride, SemaPath, placed}
 use Rattle.sema_root.specs.Treap.{Treap}
@@ -25,6 +26,8 @@ use Rattle.sema_table.specs.Setting.{root, layout}
 use Rattle.sema_table.specs.Places.{Begins, is_free, takes_lock, locked}
 use Rattle.sema_table.specs.Changes.{HasChanged}
 use Rattle.sema_table.specs.Rule.{stands_by, sight_by, lists_by, IsRecord}
+use Rattle.running_rows.specs.Strides.{here, Went as Strode}
+use Rattle.sema_table.specs.Rows.{semaphore_rows}
 use Rattle.sema_table.specs.Seats.{TableModel, Token, table_of}
 
 -- a seat of this table stands at this place, on a counter of the table
@@ -106,6 +109,14 @@ Edited s c lists t =
 -- the row ran that takes the lock, and the record came with it
 abbrev pub Locked : Token → Place → Token → Type 0
 Locked s place t = Walked s place t (moved_to s (locked place)) [] 0 × HasRecord t (counter_at place)
+
+-- a look found the lock of the root of c held, and is a stride
+pub record SawHeld (s : Token) (c : ℕ) (t : Token) : Type 0 where
+  pub table_id : t.table_id ≡ s.table_id
+  pub slots : t.me.1 ≡ s.me.1
+  pub found : ℕ
+  pub held : found ≢ 0
+  pub looked : Strode semaphore_rows here (looks (Lock (root s.me.0.own.knows.setting c))) s.me.0.own found t.me.0.own
 
 -- it stands here, and holds the record of the root of its call's counter
 abbrev pub Holds : TableModel → Token → Place → Type 0

@@ -1,13 +1,14 @@
 //! The calls of a caller that has other work: each tries for the root's lock a few times, and where that stays
-//! held does nothing. None waits. Those that wake nobody are for a table where no thread ever sleeps in the
+//! held leaves it at a look that found it so. None waits. Those that wake nobody are for a table where no thread ever sleeps in the
 //! kernel: they never call it.
 ghost use Rattle.std.specs.Prelude.{◌≡◌, ◌<◌, length, All, IfOk, MatchResult};
 ghost use Rattle.step_table.specs.declared.place.Place.TheVariants.{Acquiring};
 ghost use Rattle.step_table.specs.declared.place.AcquireRow.TheVariants.{A3};
 ghost use Rattle.sema_table.specs.AtLock.{HasGranted};
-ghost use Rattle.sema_table.specs.Waking.{acquire_of, IsEntered, IsWakened};
-ghost use Rattle.sema_table.specs.Many.{IsWokenSeats};
-ghost use Rattle.sema_table.specs.Callers.{JoinsQueue};
+ghost use Rattle.sema_table.specs.Waking.{acquire_of, IsEntered, IsWakened, StillOwes};
+ghost use Rattle.sema_table.specs.Many.{IsWokenSeats, StillOwesMany};
+ghost use Rattle.sema_table.specs.Tries.{FindsHeld};
+ghost use Rattle.sema_table.specs.Callers.{JoinsQueue, StandsOn};
 ghost use Rattle.sema_table.specs.CallersReleasing.{WakesFirst, WakesThese};
 
 use crate::answers::{Entered, Wake};
@@ -19,14 +20,14 @@ use step_table::{Acquire, AcquireRow, Place, Release};
 use waiters::CounterId;
 
 impl SemaTable {
-    /// As `enter`; where the root's lock stayed held the seat comes back as it was.
+    /// As `enter`; where the root's lock stayed held the seat comes back as it stood.
     pub fn try_enter(&self, seat: Seat, counter: CounterId, lifo: bool) -> Result<Entered, Seat>
         requires { (seat.table ≡ self.now) × (counter < length self.now.setting.starts) }
         ensures rows { MatchResult result
             (λ entered. IsEntered seat (acquire_of counter lifo) (Acquiring (acquire_of counter lifo) A3) entered)
-            (λ refused. refused ≡ seat) }
+            (λ refused. FindsHeld seat counter refused) }
         ensures caller { MatchResult result (λ entered. JoinsQueue seat counter lifo entered)
-            (λ refused. refused ≡ seat) }
+            (λ refused. StandsOn seat refused) }
     {
         let entered = self.enter_silently(seat, counter, lifo)?;
         self.rouse_behind(&entered, counter);
@@ -43,9 +44,9 @@ impl SemaTable {
         requires { (seat.table ≡ self.now) × (counter < length self.now.setting.starts) }
         ensures rows { MatchResult result
             (λ entered. IsEntered seat (acquire_of counter lifo) (Acquiring (acquire_of counter lifo) A3) entered)
-            (λ refused. refused ≡ seat) }
+            (λ refused. FindsHeld seat counter refused) }
         ensures caller { MatchResult result (λ entered. JoinsQueue seat counter lifo entered)
-            (λ refused. refused ≡ seat) }
+            (λ refused. StandsOn seat refused) }
     {
         let Seat { mut token, numbers } = seat;
         let call = Acquire { counter, lifo };
@@ -56,13 +57,13 @@ impl SemaTable {
         Ok(self.enter_locked(token, numbers, &call))
     }
 
-    /// As `wake`; where the root's lock stayed held the seat comes back as it was, and still owes.
+    /// As `wake`; where the root's lock stayed held the seat comes back as it stood, and still owes.
     pub fn try_wake(&self, owing: Owing, handoff: bool) -> Result<(Seat, Wake), Owing>
         requires { owing.table ≡ self.now }
         ensures rows { MatchResult result (λ done. IsWakened owing handoff done.0 done.1)
-            (λ refused. refused ≡ owing) }
+            (λ refused. StillOwes owing refused) }
         ensures caller { MatchResult result (λ done. WakesFirst owing handoff done.0 done.1)
-            (λ refused. refused ≡ owing) }
+            (λ refused. StandsOn owing refused) }
     {
         let counter = owing.counter;
         let tried = self.wake_silently(owing, handoff);
@@ -76,9 +77,9 @@ impl SemaTable {
     pub(crate) fn wake_silently(&self, owing: Owing, handoff: bool) -> Result<(Seat, Wake), Owing>
         requires { owing.table ≡ self.now }
         ensures rows { MatchResult result (λ done. IsWakened owing handoff done.0 done.1)
-            (λ refused. refused ≡ owing) }
+            (λ refused. StillOwes owing refused) }
         ensures caller { MatchResult result (λ done. WakesFirst owing handoff done.0 done.1)
-            (λ refused. refused ≡ owing) }
+            (λ refused. StandsOn owing refused) }
         ensures stored { IfOk result (λ done. HasGranted self.now done.0 done.1) }
     {
         let Owing {
@@ -98,13 +99,13 @@ impl SemaTable {
     }
 
     /// As `wake_some`, and answers the seats that it woke; where the root's lock stayed held the seat comes
-    /// back as it was, and still owes.
+    /// back as it stood, and still owes.
     pub fn try_wake_some(&self, owing: OwingMany) -> Result<(Seat, WokenSeats), OwingMany>
         requires { owing.table ≡ self.now }
         ensures rows { MatchResult result (λ done. IsWokenSeats owing done.0 done.1.items)
-            (λ refused. refused ≡ owing) }
+            (λ refused. StillOwesMany owing refused) }
         ensures caller { MatchResult result (λ done. WakesThese owing done.0 done.1.items)
-            (λ refused. refused ≡ owing) }
+            (λ refused. StandsOn owing refused) }
     {
         let call = owing.call;
         let tried = self.wake_some_silently(owing);
@@ -121,9 +122,9 @@ impl SemaTable {
     ) -> Result<(Seat, WokenSeats), OwingMany>
         requires { owing.table ≡ self.now }
         ensures rows { MatchResult result (λ done. IsWokenSeats owing done.0 done.1.items)
-            (λ refused. refused ≡ owing) }
+            (λ refused. StillOwesMany owing refused) }
         ensures caller { MatchResult result (λ done. WakesThese owing done.0 done.1.items)
-            (λ refused. refused ≡ owing) }
+            (λ refused. StandsOn owing refused) }
         ensures there { IfOk result (λ done. All (λ k. k < self.now.setting.seats) done.1.items) }
     {
         let OwingMany {

@@ -1,7 +1,7 @@
 //! Taking a root's lock, and the calls of the kernel that wake who sleeps.
 ghost use Rattle.std.specs.Prelude.{◌≡◌, ◌<◌, All, MatchBool};
 ghost use Rattle.step_table.specs.Counting.{counter_at};
-ghost use Rattle.sema_table.specs.Walks.{Starts, IsSame, Locked};
+ghost use Rattle.sema_table.specs.Walks.{Starts, SawHeld, Locked};
 ghost use Rattle.sema_table.specs.Seats.{SeatModel};
 ghost use Rattle.sema_table.specs.AtLock.{IsGranted, HasGranted};
 ghost use Rattle.sema_table.specs.Many.{IsWokenSeats};
@@ -28,10 +28,11 @@ impl SemaTable {
             .take_lock_for::<AtSaid, R>(rt, token, word, sleepers, &begins);
     }
 
-    /// The same where the lock is found free within some tries, and else nothing: whether it was taken.
+    /// The same where the lock is found free within some tries, and else a look that found it held: whether it
+    /// was taken.
     pub(crate) fn try_lock(&self, token: &mut Token, counter: CounterId, place: &Place) -> bool
         requires { Starts self.now token.old place.now × (counter_at place.now ≡ counter) }
-        ensures { MatchBool result (Locked token.old place.now token.new) (IsSame token.old token.new) }
+        ensures { MatchBool result (Locked token.old place.now token.new) (SawHeld token.old counter token.new) }
     {
         let word = self.lock_word(counter);
         let begins = Record::Begins(*place);

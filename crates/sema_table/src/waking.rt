@@ -6,7 +6,7 @@ ghost use Rattle.step_table.specs.declared.place.ReleaseRow.TheVariants.{R3, R4,
 ghost use Rattle.sema_table.specs.Seats.{Token, IsToken, table_of, seat_of};
 ghost use Rattle.sema_table.specs.AtLock.{HasLocked, HasGranted, IsGranted};
 ghost use Rattle.sema_table.specs.Waking.{IsWakened, WakesFrom};
-ghost use Rattle.sema_table.specs.Walks.{Stands, Starts, Holds, IsSame, Locked, Walked, Moves, Changed, HasRecord, Granted};
+ghost use Rattle.sema_table.specs.Walks.{Stands, Starts, Holds, SawHeld, Locked, Walked, Moves, Changed, HasRecord, Granted};
 ghost use Rattle.sema_table.specs.Walks.{moved_to, taken_out, sought, trying, unlocked, granting, grant_of};
 ghost use Rattle.sema_table.specs.Walks.{taken_for};
 ghost use Rattle.sema_table.specs.Outcomes.{MatchTried};
@@ -62,11 +62,11 @@ impl SemaTable {
         (seat, wake)
     }
 
-    /// R3 where the root's lock is found free within some tries, and else nothing.
+    /// R3 where the root's lock is found free within some tries, and else a look that found it held.
     pub(crate) fn try_lock_released(&self, token: &mut Token, call: &Release) -> bool
         requires { Starts self.now token.old (Releasing call.now R3) }
         ensures { MatchBool result (Locked token.old (Releasing call.now R3) token.new)
-            (IsSame token.old token.new) }
+            (SawHeld token.old call.now.counter token.new) }
     {
         let place = Place::Releasing(*call, ReleaseRow::R3);
         self.try_lock(token, call.counter, &place)

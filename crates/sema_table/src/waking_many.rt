@@ -9,7 +9,7 @@ ghost use Rattle.sema_table.specs.Seats.{Token, IsToken, table_of, seat_of};
 ghost use Rattle.sema_table.specs.AtLock.{HasLocked};
 ghost use Rattle.sema_table.specs.ManySeats.{HasUnits};
 ghost use Rattle.sema_table.specs.Many.{leaves, IsWokenMany, WakesCount, WakesSeats};
-ghost use Rattle.sema_table.specs.Walks.{Stands, Starts, Holds, IsSame, Locked, Walked, Moves, HasRecord};
+ghost use Rattle.sema_table.specs.Walks.{Stands, Starts, Holds, SawHeld, Locked, Walked, Moves, HasRecord};
 ghost use Rattle.sema_table.specs.ManyWalks.{sought_many, picking, to_grant, with_hand, MayGrant};
 ghost use Rattle.sema_table.specs.ManyWalks.{GrantedFirst, GrantedSome};
 ghost use Rattle.sema_table.specs.CallersReleasing.{WakesSome};
@@ -69,11 +69,11 @@ impl SemaTable {
         (seat, woken)
     }
 
-    /// M3 where the root's lock is found free within some tries, and else nothing.
+    /// M3 where the root's lock is found free within some tries, and else a look that found it held.
     pub(crate) fn try_lock_many(&self, token: &mut Token, call: &ReleaseMany) -> bool
         requires { Starts self.now token.old (ReleasingMany call.now M3) }
         ensures { MatchBool result (Locked token.old (ReleasingMany call.now M3) token.new)
-            (IsSame token.old token.new) }
+            (SawHeld token.old call.now.counter token.new) }
     {
         let place = Place::ReleasingMany(*call, ManyRow::M3);
         self.try_lock(token, call.counter, &place)

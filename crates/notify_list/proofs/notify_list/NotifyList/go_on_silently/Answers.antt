@@ -2,6 +2,9 @@ use Rattle.std.proofs.Common.{ℕ, List, ap, ◌∙◌, subst}
 use Rattle.notify_list.specs.Seats.{SeatModel, seat_of}
 use Rattle.notify_list.specs.NotifyingAll.{EndsAll, StoresGrants}
 use Rattle.notify_list.proofs.Broadcasting.{may_lock, may_reach, empty_locked, may_wake, locked_seat, ends_all, granted_seats}
+use Rattle.notify_list.specs.Meeting.{FindsHeld}
+use Rattle.notify_list.proofs.LookingTogether.{held_notifying, finds_held}
+use Rattle.notify_list.proofs.CallersEnding.{stands_on}
 use Rattle.notify_list.proofs.Answering.{is_sound}
 use Rattle.notify_list.proofs.CallersNotifying.{ends_notifying}
 use Rattle.notify_list.proofs.notify_list.NotifyList.go_on_silently.Goals as goal
@@ -60,3 +63,15 @@ returns-clause-caller c =
     ends_notifying c.args.owing (seat_of c.grant_seats.new.token c.owing.inside.number)
     (is_sound c.grant_seats.new.token c.owing.inside.number (invariant_of-result-2 c).token_is).lawful c.grant_tickets-tickets.result
     (returns-clause-rows c)
+
+pub invariant_of-result : goal.invariant_of-result
+invariant_of-result c = held_notifying c.owing.inside.token c.try_lock.new.token c.owing.inside.number c.if-not-try_lock.ensures c.owing.invariant
+
+pub returns-then-not-try_lock-clause-rows : goal.returns-then-not-try_lock-clause-rows
+returns-then-not-try_lock-clause-rows c =
+    subst (λ (q : SeatModel). FindsHeld q (seat_of c.try_lock.new.token c.owing.inside.number)) c.owing.view_is
+    (finds_held c.owing.inside.token c.try_lock.new.token c.owing.inside.number c.if-not-try_lock.ensures c.owing.invariant.token_is)
+
+pub returns-then-not-try_lock-clause-caller : goal.returns-then-not-try_lock-clause-caller
+returns-then-not-try_lock-clause-caller c = let t = c.try_lock.new.token in let n : ℕ = c.owing.inside.number in
+    stands_on c.args.owing (seat_of t n) (is_sound t n (invariant_of-result c).token_is).lawful (returns-then-not-try_lock-clause-rows c)

@@ -1,11 +1,11 @@
-use Rattle.std.proofs.Common.{ℕ, sym, ap, ◌∙◌, subst}
-use Rattle.step_law_lists.specs.ListLawful.{Follows}
-use Rattle.notify_list.specs.Plays.{Me}
+use Rattle.std.proofs.Common.{ℕ, ap, ◌∙◌, subst}
 use Rattle.notify_list.specs.Seats.{SeatModel, seat_of}
 use Rattle.notify_list.specs.Notifying.{EndsOne, ticket_of}
 use Rattle.notify_list.specs.Granting.{MayNotify}
 use Rattle.notify_list.proofs.Notifying.{may_lock}
 use Rattle.notify_list.proofs.Signalling.{granted_wait}
+use Rattle.notify_list.specs.Meeting.{FindsHeld}
+use Rattle.notify_list.proofs.LookingTogether.{held_seat, finds_held}
 use Rattle.notify_list.proofs.Answering.{is_sound}
 use Rattle.notify_list.proofs.notify_list.NotifyList.try_one_at_lock.Goals as goal
 
@@ -40,6 +40,13 @@ returns-then-try_lock-clause-wait c = granted_wait c.args.self.now c.grant_least
 pub returns-then-try_lock-clause-lawful : goal.returns-then-try_lock-clause-lawful
 returns-then-try_lock-clause-lawful c = (is_sound c.grant_least.new.token c.seat.inside.number (invariant_of-seat c).token_is).lawful
 
+pub invariant_of-seat-2 : goal.invariant_of-seat-2
+invariant_of-seat-2 c = held_seat c.seat.inside.token c.try_lock.new.token c.seat.inside.number c.if-try_lock.ensures c.seat.invariant
+
+pub returns-clause-rows : goal.returns-clause-rows
+returns-clause-rows c h at =
+    subst (λ (q : SeatModel). FindsHeld q (seat_of c.try_lock.new.token c.seat.inside.number)) c.seat.view_is
+    (finds_held c.seat.inside.token c.try_lock.new.token c.seat.inside.number c.if-try_lock.ensures c.seat.invariant.token_is)
+
 pub returns-clause-lawful : goal.returns-clause-lawful
-returns-clause-lawful c = subst (λ (m : Me). Follows m.0.own.knows.sight.seen) (sym c.if-try_lock.ensures.1)
-    (is_sound c.seat.inside.token c.seat.inside.number c.seat.invariant.token_is).lawful
+returns-clause-lawful c = (is_sound c.try_lock.new.token c.seat.inside.number (invariant_of-seat-2 c).token_is).lawful

@@ -2,8 +2,8 @@ use Rattle.std.proofs.Common.{◌==◌, ◌∙◌, refl, subst}
 use mathlib.Core.Option.{some}
 use prog.Atomic.{either}
 use Rattle.atomic_table.specs.Table.{step}
-use Rattle.running_rows.specs.Strides.{runs_lock, Took}
-use Rattle.running_rows.proofs.Keeping.{allowed_since}
+use Rattle.running_rows.specs.Strides.{runs_lock, runs_lock_or_look, Took}
+use Rattle.running_rows.proofs.Keeping.{allowed_since, owes_lock_or_look}
 use Rattle.running_rows.proofs.locks.Running+S+View+V+T+K+OneWorld+R.try_lock_for.Goals as goal
 
 pub compare_exchange_with-requires : goal.compare_exchange_with-requires
@@ -32,4 +32,14 @@ pub loop-preserved : goal.loop-preserved
 loop-preserved g c = (
   c.compare_exchange_with.ensures.0 ∙ c.loop.invariant.0,
   c.compare_exchange_with.ensures.2.0 c.if-compare_exchange_with-eq0.false ∙ c.loop.invariant.1,
+)
+
+pub compare_exchange_with-requires-2 : goal.compare_exchange_with-requires-2
+compare_exchange_with-requires-2 g c = let same = c.loop.invariant in (
+  same.0 ∙ c.requires.own.0,
+  c.requires.word,
+  allowed_since g.R.Rows.family _ _ _ _ c.args.token.now.me _ (λ n. either (n == 0) 1 n)
+      (runs_lock_or_look g.R.Rows.family g.A.Start.at (step c.args.self.now.table.shared.table_id.slots c.args.word 0 1 (some c.args.said.now)))
+      c.requires.own.1
+      (owes_lock_or_look g.R.Rows.family _ g.A.Start.at (step c.args.self.now.table.shared.table_id.slots c.args.word 0 1 (some c.args.said.now)) c.args.token.now.me c.requires.seen c.requires.owes) same.1,
 )
