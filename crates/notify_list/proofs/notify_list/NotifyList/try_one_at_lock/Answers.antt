@@ -40,8 +40,8 @@ returns-then-try_lock-clause-wait c = granted_wait c.args.self.now c.grant_least
 pub returns-then-try_lock-clause-lawful : goal.returns-then-try_lock-clause-lawful
 returns-then-try_lock-clause-lawful c = (is_sound c.grant_least.new.token c.seat.inside.number (invariant_of-seat c).token_is).lawful
 
-pub invariant_of-seat-2 : goal.invariant_of-seat-2
-invariant_of-seat-2 c = held_seat c.seat.inside.token c.try_lock.new.token c.seat.inside.number c.if-try_lock.ensures c.seat.invariant
+pub invariant_of-seat-else-try_lock : goal.invariant_of-seat-else-try_lock
+invariant_of-seat-else-try_lock c = held_seat c.seat.inside.token c.try_lock.new.token c.seat.inside.number c.if-try_lock.ensures c.seat.invariant
 
 pub returns-clause-rows : goal.returns-clause-rows
 returns-clause-rows c h at =
@@ -49,4 +49,4 @@ returns-clause-rows c h at =
     (finds_held c.seat.inside.token c.try_lock.new.token c.seat.inside.number c.if-try_lock.ensures c.seat.invariant.token_is)
 
 pub returns-clause-lawful : goal.returns-clause-lawful
-returns-clause-lawful c = (is_sound c.try_lock.new.token c.seat.inside.number (invariant_of-seat-2 c).token_is).lawful
+returns-clause-lawful c = (is_sound c.try_lock.new.token c.seat.inside.number (invariant_of-seat-else-try_lock c).token_is).lawful
