@@ -136,9 +136,9 @@ module _ (d : ℤ) (left : GroupWord) where
   tells_by Negative (inr (is, _)) = absurd (cc)
   tells_by AddWithWait (inl (is, _)) = absurd (cc)
   tells_by AddWithWait (inr (_, all)) =
-      let one = both_true (not (left.waits == 0)) (int_lt (pos 0) d && int_eq left.counter d) all in
-      let two = both_true (int_lt (pos 0) d) (int_eq left.counter d) one.1 in
-      (some_wait left.waits (not_true (left.waits == 0) one.0), inl (two.0, (Decides-int_eq left.counter d).0 two.1))
+      let one = both_true (not (left.waits == 0) && int_lt (pos 0) d) (int_eq left.counter d) all in
+      let two = both_true (not (left.waits == 0)) (int_lt (pos 0) d) one.0 in
+      (some_wait left.waits (not_true (left.waits == 0) two.0), inl (two.1, (Decides-int_eq left.counter d).0 one.1))
   tells_by Reused (inl (is, _)) = absurd (cc)
   tells_by Reused (inr (is, _)) = absurd (cc)
 
@@ -198,6 +198,7 @@ module _ (s t : Token) (a : SeatModel) (d : ℤ) (found left : GroupWord) (left_
   }
 
   pub added_fails : (misuse : Misuse) → after_add d left ≡ Fails misuse → Added t a (Err misuse)
+  unfolding rows_fail
   added_fails misuse leads = with_caller t a (Err misuse) (rows_fail misuse leads) refl (tells_fails d left misuse leads)
 
   -- where the counter isn't 0, or nobody waits, there is nobody to wake
@@ -219,6 +220,7 @@ module _ (s t : Token) (a : SeatModel) (d : ℤ) (found left : GroupWord) (left_
   }
 
   pub added_ends : after_add d left ≡ Ends → Added t a (Ok 0)
+  unfolding rows_end
   added_ends leads = with_caller t a (Ok 0) (rows_end leads) refl (tells_ends d left leads, sym (none_wait leads))
 
   -- it looked again
@@ -246,6 +248,7 @@ module _ (s t : Token) (a : SeatModel) (d : ℤ) (found left : GroupWord) (left_
     }
 
     pub added_beside : same_word left seen ≡ false → Added u a (Err AddWithWait)
+    unfolding rows_beside
     added_beside other = with_caller u a (Err AddWithWait) (rows_beside other) refl (tells_beside d left leads)
 
     module _ (same : same_word left seen ≡ true) where
@@ -278,5 +281,6 @@ module _ (s t : Token) (a : SeatModel) (d : ℤ) (found left : GroupWord) (left_
         }
 
         pub added_all : (b : SeatModel) → left.waits ≤ a.left → HasReleased left.waits a b → Added v b (Ok left.waits)
+        unfolding rows_all
         added_all b few released = with_caller v b (Ok left.waits) (rows_all b few released) refl
             (tells_goes d left leads, all_wait)

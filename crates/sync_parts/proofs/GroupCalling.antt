@@ -99,7 +99,7 @@ waits_by s t (Ok done) (inr is) = record {
   tells = (refl, inr (refl, refl));
   after = after_counted s t empty_word Ends is;
 }
-waits_by s t (Err misuse) (reused, word, other, is) = record {
+waits_by s t (Err misuse) (reused, (word, other, is)) = record {
   before = is.before;
   last = step V3 word;
   looked = is.ran.steps_are;
