@@ -1,5 +1,5 @@
 -- What a turn under a lock does to the counts of its seat.
-use Rattle.std.proofs.Common.{◌≡◌, ℕ, ◌+◌, ◌∙◌}
+use Rattle.std.proofs.Common.{◌≡◌, ◌+◌, ◌∙◌}
 use Rattle.sync_parts.specs.Lock.{LockModel}
 use Rattle.examples.specs.Mutex.{HasHeld}
 
