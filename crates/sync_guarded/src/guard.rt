@@ -126,6 +126,10 @@ impl<'g, T> Locker for Guard<'g, T> {
 
     ghost locks = { λ g h. HasLocked g h };
 
+    ghost unlock_rows = { λ g h. Unit {0} };
+
+    ghost lock_rows = { λ g h. Unit {0} };
+
     fn held(&self) -> bool {
         Guard::held(self)
     }

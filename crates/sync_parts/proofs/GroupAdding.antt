@@ -2,14 +2,14 @@
 use Rattle.std.proofs.Common.{◌≡◌, ℕ, zero, suc, ◌+◌, ◌-◌, ◌≤◌, ◌==◌, ◌&&◌, ◌||◌, not, if◌then◌else◌, Bool, true, false}
 use Rattle.std.proofs.Common.{List, [], ◌∷◌, ◌++◌, ℤ, pos, sym, refl}
 use Rattle.std.proofs.Common.{ap, ◌∙◌, subst, append_assoc, inl, inr, arith, eqb-true}
-use Rattle.std.specs.Prelude.{Ok, Err, int_lt}
+use Rattle.std.specs.Prelude.{◌⊎◌, ◌<◌, Result, Ok, Err, int_lt}
 use Rattle.std.specs.Ordering.{int_eq}
 use Rattle.std.proofs.lemmas.Bool.Decides.{same_from_decides, Decides-int_eq}
 use Rattle.std.proofs.lemmas.Int.{ints}
 use Rattle.step_table.proofs.GroupBits.{same_is, same_itself}
 use Rattle.step_table.specs.declared.group_word.GroupWord.{GroupWord}
 use Rattle.step_table.specs.declared.misuse.Misuse.{Misuse}
-use Rattle.step_table.specs.declared.misuse.Misuse.TheVariants.{Negative, AddWithWait}
+use Rattle.step_table.specs.declared.misuse.Misuse.TheVariants.{Negative, AddWithWait, Reused}
 use Rattle.step_table.specs.declared.standing.GroupRow.{GroupRow}
 use Rattle.step_table.specs.declared.standing.GroupRow.TheVariants.{G1, G2, G3}
 use Rattle.step_table.specs.declared.standing.GroupNext.{GroupNext}
@@ -21,7 +21,9 @@ use Rattle.sema_table.specs.Whole.{IsReleased}
 use Rattle.sync_parts.specs.declared.group_view.GroupStep.{GroupStep}
 use Rattle.sync_parts.specs.GroupPlays.{Me, Token, Steps, step, load_row}
 use Rattle.sync_parts.specs.GroupSeats.{group_seat_of}
-use Rattle.sync_parts.specs.GroupCalls.{Walks, HasReleased, waits_at_zero, IsAdded}
+use Rattle.sync_parts.specs.GroupCallers.{waits_at_zero, TellsOfAdd, AddsToGroup}
+use Rattle.sync_parts.specs.GroupCalls.{Walks, HasReleased, IsAdded}
+use Rattle.sync_parts.proofs.GroupCalling.{adds_by}
 use Rattle.sync_parts.proofs.GroupWaiting.{walks_more, walks_first}
 
 -- a release keeps the seat's table and number, and takes one off what is left
@@ -65,12 +67,25 @@ ends_by w false false false true false waits none_is not_zero e = refl
 ends_by w false false false false at_0 waits none_is not_zero e = absurd (cc)
 
 goes_by : (w : GroupWord) (neg beside positive nobody : Bool) → leads_by w neg beside positive nobody ≡ Goes (G2 w)
-    → (neg ≡ false) × (positive ≡ false)
+    → (neg ≡ false) × (positive ≡ false) × (nobody ≡ false)
 goes_by w true beside positive nobody e = absurd (cc)
 goes_by w false true positive nobody e = absurd (cc)
 goes_by w false false true nobody e = absurd (cc)
 goes_by w false false false true e = absurd (cc)
-goes_by w false false false false e = (refl, refl)
+goes_by w false false false false e = (refl, refl, refl)
+
+not_below : (w : GroupWord) (neg beside positive nobody : Bool) → leads_by w neg beside positive nobody ≡ Ends → neg ≡ false
+not_below w true beside positive nobody e = absurd (cc)
+not_below w false beside positive nobody e = refl
+
+fails_by : (w : GroupWord) (neg beside positive nobody : Bool) (misuse : Misuse)
+    → leads_by w neg beside positive nobody ≡ Fails misuse
+    → ((misuse ≡ Negative) × (neg ≡ true)) ⊎ ((misuse ≡ AddWithWait) × (beside ≡ true))
+fails_by w true beside positive nobody misuse e = let is : misuse ≡ Negative = cc in inl (is, refl)
+fails_by w false true positive nobody misuse e = let is : misuse ≡ AddWithWait = cc in inr (is, refl)
+fails_by w false false true nobody misuse e = absurd (cc)
+fails_by w false false false true misuse e = absurd (cc)
+fails_by w false false false false misuse e = absurd (cc)
 
 -- a counter above 0 isn't 0, and one neither below nor above is
 above_zero : (c : ℤ) → int_lt (pos 0) c ≡ true → int_eq c (pos 0) ≡ false
@@ -99,6 +114,48 @@ not_false : (b : Bool) → not b ≡ false → b ≡ true
 not_false true e = refl
 not_false false e = absurd (cc)
 
+-- what an add answers, by what it led to
+both_true : (a b : Bool) → (a && b) ≡ true → (a ≡ true) × (b ≡ true)
+both_true true b e = (refl, e)
+both_true false b e = absurd (cc)
+
+some_wait : (n : ℕ) → (n == 0) ≡ false → 0 < n
+some_wait zero e = absurd (cc)
+some_wait (suc n) e = omega arith
+
+module _ (d : ℤ) (left : GroupWord) where
+  abbrev neg : Bool
+  neg = int_lt left.counter (pos 0)
+
+  abbrev beside : Bool
+  beside = not (left.waits == 0) && int_lt (pos 0) d && int_eq left.counter d
+
+  tells_by : (misuse : Misuse) → ((misuse ≡ Negative) × (neg ≡ true)) ⊎ ((misuse ≡ AddWithWait) × (beside ≡ true))
+      → TellsOfAdd d left (Err misuse)
+  tells_by Negative (inl (is, below)) = below
+  tells_by Negative (inr (is, _)) = absurd (cc)
+  tells_by AddWithWait (inl (is, _)) = absurd (cc)
+  tells_by AddWithWait (inr (_, all)) =
+      let one = both_true (not (left.waits == 0) && int_lt (pos 0) d) (int_eq left.counter d) all in
+      let two = both_true (not (left.waits == 0)) (int_lt (pos 0) d) one.0 in
+      (some_wait left.waits (not_true (left.waits == 0) two.0), inl (two.1, (Decides-int_eq left.counter d).0 one.1))
+  tells_by Reused (inl (is, _)) = absurd (cc)
+  tells_by Reused (inr (is, _)) = absurd (cc)
+
+  tells_fails : (misuse : Misuse) → after_add d left ≡ Fails misuse → TellsOfAdd d left (Err misuse)
+  tells_fails misuse leads = tells_by misuse (fails_by left neg beside (int_lt (pos 0) left.counter) (left.waits == 0) misuse leads)
+
+  tells_ends : after_add d left ≡ Ends → neg ≡ false
+  tells_ends leads = not_below left neg beside (int_lt (pos 0) left.counter) (left.waits == 0) leads
+
+  tells_goes : after_add d left ≡ Goes (G2 left) → neg ≡ false
+  tells_goes leads = (goes_by left neg beside (int_lt (pos 0) left.counter) (left.waits == 0) leads).0
+
+  tells_beside : after_add d left ≡ Goes (G2 left) → TellsOfAdd d left (Err AddWithWait)
+  tells_beside leads =
+      let n = goes_by left neg beside (int_lt (pos 0) left.counter) (left.waits == 0) leads in
+      (some_wait left.waits n.2, inr ((Decides-int_eq left.counter (pos 0)).0 (at_zero left.counter n.0 n.1)))
+
 pub is_other : (a b : GroupWord) → not (same_word b a) ≡ true → same_word a b ≡ false
 is_other a b e = flipped a b ∙ not_true (same_word b a) e
 
@@ -117,8 +174,20 @@ module _ (s t : Token) (a : SeatModel) (d : ℤ) (found left : GroupWord) (left_
   pub next_first : (next : GroupNext) → after_add d left ≡ next → t.me.0.own.knows.next ≡ next
   next_first next leads = ap (λ (m : Me). m.0.own.knows.next) y.me_is ∙ ap (after_add d) (sym left_is) ∙ leads
 
-  pub added_fails : (misuse : Misuse) → after_add d left ≡ Fails misuse → IsAdded (group_seat_of s a) d (group_seat_of t a) (Err misuse)
-  added_fails misuse leads = record {
+  -- its rows, and what they are to its caller
+  abbrev Added : Token → SeatModel → Result ℕ Misuse → Type 0
+  Added u b answer = IsAdded (group_seat_of s a) d (group_seat_of u b) answer × AddsToGroup (group_seat_of s a) d (group_seat_of u b) answer
+
+  with_caller : (u : Token) (b : SeatModel) (answer : Result ℕ Misuse) (is : IsAdded (group_seat_of s a) d (group_seat_of u b) answer)
+      → is.found ≡ found → TellsOfAdd d left answer → Added u b answer
+  with_caller u b answer is same tells = (
+    is,
+    adds_by (group_seat_of s a) (group_seat_of u b) d answer is
+        (subst (λ (w : GroupWord). TellsOfAdd d w answer) (left_is ∙ ap (λ (w : GroupWord). plus w d) (sym same)) tells),
+  )
+
+  rows_fail : (misuse : Misuse) → after_add d left ≡ Fails misuse → IsAdded (group_seat_of s a) d (group_seat_of t a) (Err misuse)
+  rows_fail misuse leads = record {
     found = found;
     after = [];
     next = Fails misuse;
@@ -128,6 +197,10 @@ module _ (s t : Token) (a : SeatModel) (d : ℤ) (found left : GroupWord) (left_
     made = tt;
   }
 
+  pub added_fails : (misuse : Misuse) → after_add d left ≡ Fails misuse → Added t a (Err misuse)
+  unfolding rows_fail
+  added_fails misuse leads = with_caller t a (Err misuse) (rows_fail misuse leads) refl (tells_fails d left misuse leads)
+
   -- where the counter isn't 0, or nobody waits, there is nobody to wake
   none_wait : after_add d left ≡ Ends → waits_at_zero left ≡ 0
   none_wait leads =
@@ -135,8 +208,8 @@ module _ (s t : Token) (a : SeatModel) (d : ℤ) (found left : GroupWord) (left_
       (int_lt (pos 0) left.counter) (left.waits == 0)
       (int_eq left.counter (pos 0)) left.waits (eqb-true left.waits 0) (above_zero left.counter) leads
 
-  pub added_ends : after_add d left ≡ Ends → IsAdded (group_seat_of s a) d (group_seat_of t a) (Ok 0)
-  added_ends leads = record {
+  rows_end : after_add d left ≡ Ends → IsAdded (group_seat_of s a) d (group_seat_of t a) (Ok 0)
+  rows_end leads = record {
     found = found;
     after = [];
     next = Ends;
@@ -145,6 +218,10 @@ module _ (s t : Token) (a : SeatModel) (d : ℤ) (found left : GroupWord) (left_
     answers = (refl, refl);
     made = (sym (none_wait leads) ∙ ap waits_at_zero left_is, omega arith);
   }
+
+  pub added_ends : after_add d left ≡ Ends → Added t a (Ok 0)
+  unfolding rows_end
+  added_ends leads = with_caller t a (Ok 0) (rows_end leads) refl (tells_ends d left leads, sym (none_wait leads))
 
   -- it looked again
   module _ (leads : after_add d left ≡ Goes (G2 left)) (u : Token) (seen : GroupWord) (z : Steps t (load_row t.me.0.own.knows.next) seen u) where
@@ -159,8 +236,8 @@ module _ (s t : Token) (a : SeatModel) (d : ℤ) (found left : GroupWord) (left_
     both_steps = ap (λ (m : Me). m.0.own.gone) again.me_is ∙ ap (λ (m : Me). m.0.own.gone ++ step (G2 left) seen ∷ []) y.me_is
         ∙ append_assoc s.me.0.own.gone first (step (G2 left) seen ∷ [])
 
-    pub added_beside : same_word left seen ≡ false → IsAdded (group_seat_of s a) d (group_seat_of u a) (Err AddWithWait)
-    added_beside other = let on = ap (λ (c : Bool). if c then Goes (G3 left) else Fails AddWithWait) other in record {
+    rows_beside : same_word left seen ≡ false → IsAdded (group_seat_of s a) d (group_seat_of u a) (Err AddWithWait)
+    rows_beside other = let on = ap (λ (c : Bool). if c then Goes (G3 left) else Fails AddWithWait) other in record {
       found = found;
       after = step (G2 left) seen ∷ [];
       next = Fails AddWithWait;
@@ -169,6 +246,10 @@ module _ (s t : Token) (a : SeatModel) (d : ℤ) (found left : GroupWord) (left_
       answers = (refl, refl);
       made = tt;
     }
+
+    pub added_beside : same_word left seen ≡ false → Added u a (Err AddWithWait)
+    unfolding rows_beside
+    added_beside other = with_caller u a (Err AddWithWait) (rows_beside other) refl (tells_beside d left leads)
 
     module _ (same : same_word left seen ≡ true) where
       on_same : (group_row (G2 left) seen).1 ≡ Goes (G3 left)
@@ -183,9 +264,9 @@ module _ (s t : Token) (a : SeatModel) (d : ℤ) (found left : GroupWord) (left_
             (not (left.waits == 0) && int_lt (pos 0) d && int_eq left.counter d) (int_lt (pos 0) left.counter) (left.waits == 0) leads in
             ap (λ (b : Bool). if b then left.waits else 0) (sym (at_zero left.counter n.0 n.1))
 
-        pub added_all : (b : SeatModel) → left.waits ≤ a.left → HasReleased left.waits a b
+        rows_all : (b : SeatModel) → left.waits ≤ a.left → HasReleased left.waits a b
             → IsAdded (group_seat_of s a) d (group_seat_of v b) (Ok left.waits)
-        added_all b few released = record {
+        rows_all b few released = record {
           found = found;
           after = step (G2 left) seen ∷ step (G3 left) was ∷ [];
           next = Releases left.waits;
@@ -198,3 +279,8 @@ module _ (s t : Token) (a : SeatModel) (d : ℤ) (found left : GroupWord) (left_
           answers = (refl, released);
           made = (all_wait ∙ ap waits_at_zero left_is, less_left left.waits a b few released);
         }
+
+        pub added_all : (b : SeatModel) → left.waits ≤ a.left → HasReleased left.waits a b → Added v b (Ok left.waits)
+        unfolding rows_all
+        added_all b few released = with_caller v b (Ok left.waits) (rows_all b few released) refl
+            (tells_goes d left leads, all_wait)

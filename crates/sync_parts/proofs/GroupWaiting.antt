@@ -10,7 +10,7 @@ use Rattle.std.proofs.lemmas.Int.{to_z-of_z}
 use Rattle.std.proofs.lemmas.Bool.Decides.{Decides-int_eq}
 use Rattle.step_table.specs.declared.group_word.GroupWord.{GroupWord}
 use Rattle.step_table.specs.declared.standing.GroupRow.{GroupRow}
-use Rattle.step_table.specs.declared.standing.GroupRow.TheVariants.{G1, V1, V2, V3}
+use Rattle.step_table.specs.declared.standing.GroupRow.TheVariants.{V1, V2, V3}
 use Rattle.step_table.specs.declared.standing.GroupNext.{GroupNext}
 use Rattle.step_table.specs.declared.standing.GroupNext.TheVariants.{Ends, Goes, Fails, Acquires, Releases}
 use Rattle.step_table.specs.Group.{empty_word, group_row, same_word}

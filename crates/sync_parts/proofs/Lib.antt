@@ -7,5 +7,6 @@ pub mod GroupKeeping
 pub mod GroupStepping
 pub mod GroupStarting
 pub mod GroupLaw
+pub mod GroupCalling
 pub mod GroupWaiting
 pub mod GroupAdding

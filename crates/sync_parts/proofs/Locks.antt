@@ -45,7 +45,6 @@ module _ (z : TableModel) (s t : SeatModel) (c : ℕ) (held : Bool) (is : IsLock
     locked =
         let stays = stays_acquired s t c acquired in
         record {
-          acquired = acquired;
           called = record {
             table = stays.table;
             number = stays.number;
@@ -54,6 +53,7 @@ module _ (z : TableModel) (s t : SeatModel) (c : ℕ) (held : Bool) (is : IsLock
             calls = calls;
           };
           left = stays.left_is;
+          taken = stays.taken_is;
           held = refl;
         }
 
@@ -68,8 +68,6 @@ module _ (z : TableModel) (s t : SeatModel) (c : ℕ) (held : Bool) (is : IsLock
         let stays = stays_released s t c wake released in
         let fewer = stays.left_is in
         record {
-          wake = wake;
-          released = released;
           called = record {
             table = stays.table;
             number = stays.number;
@@ -78,5 +76,6 @@ module _ (z : TableModel) (s t : SeatModel) (c : ℕ) (held : Bool) (is : IsLock
             calls = ap (λ i. uses c i t.sight.seen) stays.number ∙ uses_released s t c wake same_taken released;
           };
           left = omega arith;
+          taken = stays.taken_is;
           held = refl;
         }

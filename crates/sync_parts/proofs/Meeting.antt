@@ -9,7 +9,7 @@ use Rattle.sema_table.specs.Seats.{TableModel, SeatModel}
 use Rattle.sema_table.specs.Tries.{LooksAt}
 use Rattle.sema_table.specs.Meeting.{HasMet}
 use Rattle.sync_parts.specs.Lock.{uses, lock_of, IsLock}
-use Rattle.sync_parts.specs.Exclusion.{OnlyLocks, HaveMet}
+use Rattle.sync_parts.specs.Exclusion.{OnlyLocks, HasLooked, HaveMet}
 use Rattle.sync_parts.proofs.Calling.{uses_looked, lawful_look}
 use Rattle.sync_parts.proofs.Locks.{kept, own_table}
 use Rattle.sync_parts.proofs.Turns.{the_locks}
@@ -36,6 +36,17 @@ module _ (z : TableModel) (s t : SeatModel) (w : Word) (n c : ℕ) (held : Bool)
     took = λ e. let last = is.took e in (last.0, uses_same ∙ last.1 ∙ ap (λ i. last.0 ++ Take c i ∷ []) (sym number_is));
   }
 
+  pub looked : HasLooked (lock_of z (Some s) c held) (lock_of z (Some t) c held)
+  looked = record {
+    table = ap (λ (x : SeatModel). x.table) look.same;
+    number = number_is;
+    left = ap (λ (x : SeatModel). x.left) look.same;
+    taken = ap (λ (x : SeatModel). x.taken) look.same;
+    is = refl;
+    later = look.later;
+    calls = uses_same;
+  }
+
 module _ (z y : TableModel) (s o t u : SeatModel) (c d : ℕ) (held theirs : Bool) (is : IsLock z (Some s) c held) (its : IsLock y
     (Some o) d theirs)
     (counted : takes t.number t.sight.seen ≡ t.taken) (its_counted : takes u.number u.sight.seen ≡ u.taken) (same : d ≡ c)
@@ -52,10 +63,9 @@ module _ (z y : TableModel) (s o t u : SeatModel) (c d : ℕ) (held theirs : Boo
   pub have_met : HaveMet (lock_of z (Some s) c held) (lock_of y (Some o) d theirs) (lock_of z (Some t) c held) (lock_of y
       (Some u) d theirs)
   have_met = record {
-    met = met;
-    one_is = refl;
-    other_is = refl;
-    one_calls = uses_same z s t (Counter 0) met.number c held is counted met.one_looked;
-    other_calls = uses_same y o u (Counter 0) met.number d theirs its its_counted met.other_looked;
+    one_looked = looked z s t (Counter 0) met.number c held is counted met.one_looked;
+    other_looked = looked y o u (Counter 0) met.number d theirs its its_counted met.other_looked;
+    two = met.two;
+    same = met.same;
     one_holder = not_both;
   }

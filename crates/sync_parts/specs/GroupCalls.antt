@@ -1,8 +1,7 @@
--- What the calls of a wait group promise: the rows that they ran on the state word, the semaphore's left out,
--- and what they did on the semaphore.
-use Rattle.std.specs.Prelude.{◌≡◌, ◌≢◌, ◌⊎◌, ℕ, zero, suc, ◌+◌, if◌then◌else◌, false, List, [], ◌∷◌, ◌++◌}
+-- The rows that the calls of a wait group ran: on the state word, the semaphore's left out, and on the
+-- semaphore.
+use Rattle.std.specs.Prelude.{◌≡◌, ◌≢◌, ◌⊎◌, ℕ, zero, suc, ◌+◌, false, List, [], ◌∷◌, ◌++◌}
 use Rattle.std.specs.Prelude.{map, ℤ, pos, MatchResult, Result, Ok, Err, IfOk}
-use Rattle.std.specs.Ordering.{int_eq}
 use Rattle.step_table.specs.declared.group_word.GroupWord.{GroupWord}
 use Rattle.step_table.specs.declared.misuse.Misuse.{Misuse}
 use Rattle.step_table.specs.declared.misuse.Misuse.TheVariants.{Reused}
@@ -19,6 +18,7 @@ use Rattle.sync_parts.specs.declared.group_view.GroupStep.{GroupStep}
 use Rattle.sync_parts.specs.GroupRule.{stride_of}
 use Rattle.sync_parts.specs.GroupPlays.{step}
 use Rattle.sync_parts.specs.GroupSeats.{GroupSeatModel}
+use Rattle.sync_parts.specs.GroupCallers.{waits_at_zero}
 
 -- these rows are one path of the step table from this row on, and led here
 abbrev pub Walks : ℕ → GroupRow → List GroupStep → GroupNext → Type 0
@@ -67,10 +67,6 @@ Answers Ends s t answer = (answer ≡ Ok 0) × (t ≡ s)
 Answers (Releases n) s t answer = (answer ≡ Ok n) × HasReleased n s t
 Answers (Fails misuse) s t answer = (answer ≡ Err misuse) × (t ≡ s)
 Answers _ s t answer = ⊥
-
--- how many wait in a word whose counter is 0
-abbrev pub waits_at_zero : GroupWord → ℕ
-waits_at_zero w = if int_eq w.counter (pos 0) then w.waits else 0
 
 -- G1 found this word, and what followed led here, and to this answer. It is a number of releases exactly
 -- where that is what is left to wake in the word that G1 left

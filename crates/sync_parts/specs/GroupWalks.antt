@@ -11,6 +11,7 @@ use Rattle.sema_table.specs.Seats.{SeatModel}
 use Rattle.sync_parts.specs.declared.group_view.GroupStep.{GroupStep}
 use Rattle.sync_parts.specs.GroupPlays.{Token, Steps, step}
 use Rattle.sync_parts.specs.GroupSeats.{GroupSeatModel, group_seat_of}
+use Rattle.sync_parts.specs.GroupCallers.{AddsToGroup}
 use Rattle.sync_parts.specs.GroupCalls.{Walks, IsAdded, IsWaited}
 
 -- these rows ran, one path from this row on, whichever number the seat has, and led here
@@ -42,4 +43,4 @@ Waits t sema word u answer =
 abbrev pub Settles : Token → SeatModel → ℤ → GroupWord → GroupSeatModel → Result ℕ Misuse → Type 0
 Settles t sema d left u answer =
     (s : Token) → (found : GroupWord) → left ≡ plus found d → Steps s (G1 d) found t
-    → IsAdded (group_seat_of s sema) d u answer
+    → IsAdded (group_seat_of s sema) d u answer × AddsToGroup (group_seat_of s sema) d u answer

@@ -1,11 +1,13 @@
 pub mod Lock
 pub mod Locking
+pub mod LockRows
 pub mod Exclusion
 pub mod GroupRule
 pub mod GroupLaw
 pub mod GroupPlays
 pub mod GroupSeats
 pub mod GroupMaking
+pub mod GroupCallers
 pub mod GroupCalls
 pub mod GroupWalks
 pub mod Cond

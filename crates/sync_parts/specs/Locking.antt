@@ -1,11 +1,9 @@
--- What the calls of a lock promise.
+-- What the calls of a lock are to its caller.
 use Rattle.std.specs.Prelude.{◌≡◌, ℕ, ◌+◌, true, false, [], ◌∷◌, ◌++◌}
 use Rattle.step_table.specs.declared.entry.Entry.{Entry}
 use Rattle.step_table.specs.declared.entry.Entry.TheVariants.{Add, Take}
 use Rattle.step_table.specs.Path.{GoesOn}
-use Rattle.sema_table.specs.declared.answers.Wake.{Wake}
 use Rattle.sema_table.specs.Seats.{SeatModel}
-use Rattle.sema_table.specs.Whole.{IsAcquired, IsReleased}
 use Rattle.sync_parts.specs.Lock.{LockModel, lock_calls}
 
 -- a lock over this counter that isn't held
@@ -20,17 +18,16 @@ pub record HasCalled (l : LockModel) (call : Entry) (m : LockModel) : Type 0 whe
   pub later : GoesOn m.seat.sight.seen l.seat.sight.seen
   pub calls : lock_calls m ≡ lock_calls l ++ call ∷ []
 
--- the seat has acquired the counter without lifo: one unit was taken for it, and the lock is held
+-- one unit was taken for the seat, and the lock is held. The seat may release as often as before
 pub record HasLocked (l m : LockModel) : Type 0 where
-  pub acquired : IsAcquired l.seat l.counter false m.seat
   pub called : HasCalled l (Take l.counter l.seat.number) m
   pub left : m.seat.left ≡ l.seat.left
+  pub taken : m.seat.taken ≡ l.seat.taken + 1
   pub held : m.held ≡ true
 
--- the seat has released the counter without handoff: it added one unit, and the lock isn't held
+-- the seat added one unit, and the lock isn't held. The seat may release once less
 pub record HasUnlocked (l m : LockModel) : Type 0 where
-  pub wake : Wake
-  pub released : IsReleased l.seat l.counter false m.seat wake
   pub called : HasCalled l (Add l.counter l.seat.number) m
   pub left : m.seat.left + 1 ≡ l.seat.left
+  pub taken : m.seat.taken ≡ l.seat.taken
   pub held : m.held ≡ false

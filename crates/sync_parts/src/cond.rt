@@ -49,7 +49,8 @@ impl Cond {
         requires own { seat.list ≡ self.now }
         requires held { L.is_held locker.old ≡ true }
         requires left { 0 < L.may_unlock locker.old }
-        ensures waited { HasWaited L.unlocks L.locks seat locker.old result.1 result.0 locker.new }
+        ensures rows { HasWaited (λ l holding m. L.unlocks l holding m × L.unlock_rows l m)
+            (λ l m. L.locks l m × L.lock_rows l m) seat locker.old result.1 result.0 locker.new }
         ensures caller { WaitsForSignal L.unlocks L.locks seat locker.old result.1 result.0 locker.new }
         ensures held { L.is_held locker.new ≡ true }
         ensures calls { L.calls locker.new ≡ L.calls locker.old ++ call.Unlocked ∷ call.Locked ∷ [] }

@@ -6,6 +6,7 @@ ghost use Rattle.step_table.specs.Group.{after_add};
 ghost use Rattle.sema_table.specs.declared.answers.Wake.{Wake};
 ghost use Rattle.sema_table.specs.Whole.{IsReleased};
 ghost use Rattle.sync_parts.specs.GroupCalls.{HasReleased, IsAdded};
+ghost use Rattle.sync_parts.specs.GroupCallers.{AddsToGroup};
 ghost use Rattle.sync_parts.specs.GroupWalks.{Settles};
 
 use crate::group::{GroupSeat, WaitGroup};
@@ -50,7 +51,8 @@ impl WaitGroup {
     pub fn add<R: Wait>(&self, rt: &R, seat: GroupSeat, d: i32) -> (GroupSeat, Result<u32, Misuse>)
         requires own { seat.group ≡ self.now }
         requires left { 2 ^ 32 - 1 ≤ seat.sema.left }
-        ensures { IsAdded seat d result.0 result.1 }
+        ensures rows { IsAdded seat d result.0 result.1 }
+        ensures caller { AddsToGroup seat d result.0 result.1 }
     {
         let mut seat = seat;
         let word = self.word.add(&mut seat.token, d);
@@ -120,7 +122,8 @@ impl WaitGroup {
     pub fn done<R: Wait>(&self, rt: &R, seat: GroupSeat) -> (GroupSeat, Result<u32, Misuse>)
         requires own { seat.group ≡ self.now }
         requires left { 2 ^ 32 - 1 ≤ seat.sema.left }
-        ensures { IsAdded seat (negsuc 0) result.0 result.1 }
+        ensures rows { IsAdded seat (negsuc 0) result.0 result.1 }
+        ensures caller { AddsToGroup seat (negsuc 0) result.0 result.1 }
     {
         self.add(rt, seat, -1)
     }

@@ -4,6 +4,7 @@ ghost use Rattle.step_table.specs.declared.standing.GroupNext.TheVariants.{Acqui
 ghost use Rattle.step_table.specs.declared.standing.GroupRow.TheVariants.{V2};
 ghost use Rattle.step_table.specs.GroupBits.{IsGroupWord};
 ghost use Rattle.sync_parts.specs.GroupCalls.{IsWaited};
+ghost use Rattle.sync_parts.specs.GroupCallers.{WaitsForZero};
 ghost use Rattle.sync_parts.specs.GroupWalks.{FindsZero, GetsCounted, Waits};
 
 use crate::group::{GroupSeat, WaitGroup};
@@ -53,7 +54,8 @@ impl WaitGroup {
     #[inline]
     pub fn wait<R: Wait>(&self, rt: &R, seat: GroupSeat) -> (GroupSeat, Result<(), Misuse>)
         requires { seat.group ≡ self.now }
-        ensures { IsWaited seat result.0 result.1 }
+        ensures rows { IsWaited seat result.0 result.1 }
+        ensures caller { WaitsForZero seat result.0 result.1 }
     {
         let mut seat = seat;
         let word = self.word.load(&mut seat.token);

@@ -22,7 +22,7 @@
 //! counter is 0, and sleeps until then. One word of 64 bits has the counter, of 32 bits with a sign, in its
 //! high half and the number of waits in its low half; the waits sleep on a semaphore of the group's own, and
 //! the add that leads to 0 releases each of them. Each atomic step on the word is one row of the step table,
-//! in every schedule, and the contract of a call is the rows that it ran, each with the word that it found,
+//! in every schedule, and a call's clause `rows` has the rows that it ran, each with the word that it found,
 //! and what it did on the semaphore: a wait that was counted one acquire, an add that leads to 0 one release
 //! for each wait, and any other call nothing. Nobody but the seats that `with_seats` handed out runs a row on
 //! the word.

@@ -24,6 +24,12 @@ pub trait Locker {
     /// What it is after a lock.
     ghost locks: { Self → Self → Type 0 };
 
+    /// Which rows an unlock ran.
+    ghost unlock_rows: { Self → Self → Type 0 };
+
+    /// Which rows a lock ran.
+    ghost lock_rows: { Self → Self → Type 0 };
+
     /// Whether it is held.
     fn held(&self) -> bool
         ensures { result ≡ is_held self.now };
@@ -38,12 +44,14 @@ pub trait Locker {
         requires left { 0 < may_unlock self.old }
         ensures held { is_held self.new ≡ false }
         ensures calls { calls self.new ≡ calls self.old ++ LockerCall.Unlocked ∷ [] }
-        ensures unlocked { unlocks self.old holding.now self.new };
+        ensures rows { unlock_rows self.old self.new }
+        ensures caller { unlocks self.old holding.now self.new };
 
     /// Locks it, for a caller who has waited.
     fn lock<R: Wait>(&mut self, rt: &R, seat: &ListSeat)
         requires { is_held self.old ≡ false }
         ensures held { is_held self.new ≡ true }
         ensures calls { calls self.new ≡ calls self.old ++ LockerCall.Locked ∷ [] }
-        ensures locked { locks self.old self.new };
+        ensures rows { lock_rows self.old self.new }
+        ensures caller { locks self.old self.new };
 }

@@ -4,6 +4,7 @@ ghost use Rattle.std.specs.Option.{ForSome};
 ghost use Rattle.sema_table.specs.Whole.{IsAcquired};
 ghost use Rattle.sync_parts.specs.Lock.{TookLast};
 ghost use Rattle.sync_parts.specs.Locking.{new_lock, HasLocked, HasUnlocked};
+ghost use Rattle.sync_parts.specs.LockRows.{RunsAcquire, RunsRelease, RunsMeet};
 ghost use Rattle.sync_parts.specs.Exclusion.{HaveMet};
 
 use crate::locker::Locker;
@@ -97,7 +98,8 @@ impl<'t> SemaLock<'t> {
     /// without lifo).
     pub fn acquire<R: Wait>(&mut self, rt: &R)
         requires { self.old.held ≡ false }
-        ensures { HasLocked self.old self.new }
+        ensures rows { RunsAcquire self.old self.new }
+        ensures caller { HasLocked self.old self.new }
     {
         self.lock_for(rt, false);
     }
@@ -106,7 +108,8 @@ impl<'t> SemaLock<'t> {
     #[inline]
     fn lock_for<R: Wait>(&mut self, rt: &R, was_woken: bool)
         requires { self.old.held ≡ false }
-        ensures { HasLocked self.old self.new }
+        ensures rows { RunsAcquire self.old self.new }
+        ensures caller { HasLocked self.old self.new }
     {
         acquire_for(rt, self.table, &mut self.seat, self.counter, was_woken);
         let Some(seat) = &self.seat else {
@@ -120,7 +123,8 @@ impl<'t> SemaLock<'t> {
     pub fn release<R: Wait>(&mut self, rt: &R)
         requires held { self.old.held ≡ true }
         requires left { 0 < self.old.seat.left }
-        ensures { HasUnlocked self.old self.new }
+        ensures rows { RunsRelease self.old self.new }
+        ensures caller { HasUnlocked self.old self.new }
     {
         let Some(seat) = self.seat.take() else {
             unreachable!()
@@ -137,7 +141,8 @@ impl<'t> SemaLock<'t> {
     /// locks used the counter.
     pub fn meet(&mut self, other: &mut SemaLock<'_>)
         requires { (other.old.seat.table ≡ self.old.seat.table) × (other.old.counter ≡ self.old.counter) }
-        ensures { HaveMet self.old other.old self.new other.new }
+        ensures rows { RunsMeet self.old other.old self.new other.new }
+        ensures caller { HaveMet self.old other.old self.new other.new }
     {
         let (Some(mut mine), Some(mut theirs)) = (self.seat.take(), other.seat.take()) else {
             unreachable!()
@@ -173,6 +178,10 @@ impl<'t> Locker for SemaLock<'t> {
     ghost unlocks = { λ l holding m. HasUnlocked l m };
 
     ghost locks = { λ l m. HasLocked l m };
+
+    ghost unlock_rows = { λ l m. RunsRelease l m };
+
+    ghost lock_rows = { λ l m. RunsAcquire l m };
 
     fn held(&self) -> bool {
         SemaLock::held(self)

@@ -36,6 +36,10 @@ impl<'c, Q: Abort> Locker for Signaller<'c, Q> {
 
     ghost locks = { λ l m. m.granted ≡ l.granted };
 
+    ghost unlock_rows = { λ l m. Unit {0} };
+
+    ghost lock_rows = { λ l m. Unit {0} };
+
     fn held(&self) -> bool {
         self.held
     }

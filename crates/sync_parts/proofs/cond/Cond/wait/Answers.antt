@@ -1,8 +1,8 @@
 use Rattle.std.proofs.Common.{rules}
 use Rattle.sync_parts.proofs.cond.Cond.wait.Goals as goal
 
-pub returns-clause-waited : goal.returns-clause-waited
-returns-clause-waited g c = search rules
+pub returns-clause-rows : goal.returns-clause-rows
+returns-clause-rows g c = search rules
 
 pub returns-clause-caller : goal.returns-clause-caller
 returns-clause-caller g c = search rules

@@ -5,5 +5,8 @@ use Rattle.sync_parts.proofs.sema_lock.SemaLockLocker.unlock.Goals as goal
 pub returns-clause-calls : goal.returns-clause-calls
 returns-clause-calls g c = grind (arith, common_steps)
 
-pub returns-clause-unlocked : goal.returns-clause-unlocked
-returns-clause-unlocked g c = search rules
+pub returns-clause-rows : goal.returns-clause-rows
+returns-clause-rows g c = search rules
+
+pub returns-clause-caller : goal.returns-clause-caller
+returns-clause-caller g c = search rules
