@@ -1,4 +1,2 @@
 pub mod Invocation
 pub mod ProgressText
-pub mod Columns
-pub mod Surroundings

@@ -16,4 +16,3 @@ mod retracing;
 mod trying;
 
 pub use command::{LockCommand, lock_command_io};
-pub use lock_retrace::Layout;

@@ -4,5 +4,4 @@
 
 mod retold;
 
-pub use lock_telling::Layout;
 pub use retold::{Ending, Retold, retrace};
