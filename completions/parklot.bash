@@ -19,8 +19,8 @@ _parklot_options() {
     check) echo "$search --every --help" ;;
     explore) echo "$search --depth --variant --help" ;;
     replay) echo "--schedule --schedule-of --variant --every --table --columns --scenario --help" ;;
-    try) echo "$search --help" ;;
-    retrace) echo "--schedule --table --columns --help" ;;
+    try) echo "$search --rows --help" ;;
+    retrace) echo "--schedule --schedule-of --rows --table --columns --help" ;;
     judge) echo "--lock --settled --most --help" ;;
     threads) echo "--workers --rounds --help" ;;
     *) echo "--help" ;;
@@ -42,6 +42,10 @@ _parklot_words() {
         echo "$_parklot_commands"
         return
     fi
+    case $#$1$begun in
+    1format-*) ;;
+    1format*) echo "scenario lock" && return ;;
+    esac
     for last in "$@"; do :; done
     case $last in
     --schedule-of | --scenario) return ;;

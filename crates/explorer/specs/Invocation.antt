@@ -1,6 +1,6 @@
 -- What the program answers to what its words ask for, and what it tells beside.
 use Rattle.std.specs.Prelude.{◌≡◌, ℕ, ◌⊎◌, Bool, true, false, IsTrue, List, [], string_bytes, codes}
-use Rattle.std.specs.Prelude.{Option, Some, None, Result, Ok, Err, option_map}
+use Rattle.std.specs.Prelude.{Option, Some, None, IfSome, Result, Ok, Err, option_map}
 use Rattle.std.specs.Io.KnownBytes.{Appends}
 use Rattle.explorer_answers.specs.declared.exit.Exit.{Exit}
 use Rattle.explorer_answers.specs.declared.exit.Exit.TheVariants.{NothingBad, Refused}
@@ -17,7 +17,8 @@ use Rattle.explorer_words.specs.declared.invocation.Invocation.TheVariants.{Once
 use Rattle.explorer_words.specs.declared.invocation.Invocation.TheVariants.{Judge, Threads}
 use Rattle.explorer_words.specs.declared.invocation.Invocation.TheVariants.{Help}
 use Rattle.explorer_words.specs.declared.invocation.Invocation.TheVariants.{Mistake, NoText, NoMemory}
-use Rattle.explorer_words.specs.Invocation.{IsWithinLimits}
+use Rattle.explorer_words.specs.Invocation.{IsFromOne, IsWithinLimits}
+use Rattle.explorer.specs.Columns.{IsFitted}
 use Rattle.lock_commands.specs.Commands as lock
 use Rattle.explorer_judge.specs.JudgeText.{IsJudgeReplyOf, IsJudgeToldOf}
 use Rattle.explorer_once.specs.OnceText.{IsOnceAnswer}
@@ -29,7 +30,7 @@ abbrev pub IsTextFor : Invocation → Option (List ℕ) → Option (List ℕ) �
 IsTextFor Once old new text exit = IsOnceAnswer text exit
 IsTextFor (OfScenario command file answer threads) old new text exit =
     IsToldOf (IsAnswerOf command) old new text exit
-IsTextFor (OfLockProgram command file threads) old new text exit =
+IsTextFor (OfLockProgram command file answer threads) old new text exit =
     IsToldOf (lock.RepliesTo command) old new text exit
 IsTextFor (Judge file demands most) old new text exit = IsJudgeToldOf demands most old new text exit
 IsTextFor (Threads workers rounds) old new text exit = IsThreadsAnswer workers rounds text exit
@@ -43,16 +44,38 @@ abbrev pub IsAnswerTo : Invocation → Option (List ℕ) → Option (List ℕ) �
     → Type 0
 IsAnswerTo (OfScenario command file answer threads) old new aside text exit =
     IsReplyOf command old new aside text exit
-IsAnswerTo (OfLockProgram command file threads) old new aside text exit =
+IsAnswerTo (OfLockProgram command file answer threads) old new aside text exit =
     lock.IsReplyOf command old new aside text exit
 IsAnswerTo (Judge file demands most) old new aside text exit =
     IsJudgeReplyOf demands most old new aside text exit
 IsAnswerTo asked old new aside text exit = IsTextFor asked old new text exit × (aside ≡ None)
 
+-- a text and an exit answer what is asked, and this is told beside. Where so many columns are told, the text's
+-- tables are cut to these; or there was no memory to cut them, which is told alone
+abbrev pub IsAnswerWithin : ℕ → Invocation → Option (List ℕ) → Option (List ℕ) → Option (List ℕ) → List ℕ → Exit
+    → Type 0
+IsAnswerWithin most asked old new aside text exit =
+    ((whole : List ℕ) × IsAnswerTo asked old new aside whole exit × IsFitted most whole text)
+    ⊎ WantsMemory text exit
+
+abbrev pub IsShownAnswer : Option ℕ → Invocation → Option (List ℕ) → Option (List ℕ) → Option (List ℕ) → List ℕ
+    → Exit → Type 0
+IsShownAnswer None asked old new aside text exit = IsAnswerTo asked old new aside text exit
+IsShownAnswer (Some most) asked old new aside text exit = IsAnswerWithin most asked old new aside text exit
+
+-- the same of the text alone
+abbrev pub IsTextWithin : ℕ → Invocation → Option (List ℕ) → Option (List ℕ) → List ℕ → Exit → Type 0
+IsTextWithin most asked old new text exit =
+    (aside : Option (List ℕ)) × IsAnswerWithin most asked old new aside text exit
+
+abbrev pub IsShownText : Option ℕ → Invocation → Option (List ℕ) → Option (List ℕ) → List ℕ → Exit → Type 0
+IsShownText None asked old new text exit = IsTextFor asked old new text exit
+IsShownText (Some most) asked old new text exit = IsTextWithin most asked old new text exit
+
 -- the command reads an input
 abbrev pub reads_input : Invocation → Bool
 reads_input (OfScenario command file answer threads) = true
-reads_input (OfLockProgram command file threads) = true
+reads_input (OfLockProgram command file answer threads) = true
 reads_input (Judge file demands most) = true
 reads_input _ = false
 
@@ -73,9 +96,15 @@ abbrev pub fault_text : IoFault → List ℕ
 fault_text Read = line (codes "parklot: read failed")
 fault_text Write = line (codes "parklot: write failed")
 
-abbrev pub beside : Invocation → Result Outcome IoFault → Option (List ℕ)
-beside asked (Ok told) = or_mistake (option_map string_bytes told.aside) asked
-beside asked (Err fault) = Some (fault_text fault)
+-- of a write that failed nothing is said where it found that nobody reads what goes out
+abbrev pub unless_closed : Bool → Option (List ℕ)
+unless_closed true = None
+unless_closed false = Some (fault_text Write)
+
+abbrev pub beside : Invocation → Result Outcome IoFault → Bool → Option (List ℕ)
+beside asked (Ok told) closed = or_mistake (option_map string_bytes told.aside) asked
+beside asked (Err Read) closed = Some (fault_text Read)
+beside asked (Err Write) closed = unless_closed closed
 
 -- the status after a command that ended so, or in which a read or a write failed
 abbrev pub status_after : Result Outcome IoFault → ℕ
@@ -86,15 +115,15 @@ status_after (Err fault) = 2
 abbrev pub WritesAsFar : Option (List ℕ) → Option (List ℕ) → Bool → List ℕ → Type 0
 WritesAsFar old new failed text = Appends old new text ⊎ (IsTrue failed × WritesBeginning old new text)
 
--- the program did what is asked, on a source with these bytes before and after, which failed or not; and so
--- with its output
-pub record HasDone (asked : Invocation) (read unread : Option (List ℕ)) (broken : Bool)
+-- the program did what is asked, in so many columns where these are told, on a source with these bytes before
+-- and after, which failed or not; and so with its output
+pub record HasDone (asked : Invocation) (columns : Option ℕ) (read unread : Option (List ℕ)) (broken : Bool)
     (old new : Option (List ℕ)) (cut : Bool)
     (status : ℕ) : Type 0 where
   pub whole : broken ≡ false → cut ≡ false
       → (exit : Exit) × (aside : Option (List ℕ)) × (status ≡ status_of exit)
-      × TellsAll (IsAnswerTo asked read unread aside) old new exit
-  pub begun : IsTrue cut → (status ≡ 2) × TellsBeginning (IsTextFor asked read unread) old new
+      × TellsAll (IsShownAnswer columns asked read unread aside) old new exit
+  pub begun : IsTrue cut → (status ≡ 2) × TellsBeginning (IsShownText columns asked read unread) old new
   pub unwritten : IsTrue broken → (status ≡ 2) × (new ≡ old)
 
 -- whatever its words, it did something that words may ask for, within its limits, on some source; or it ended
@@ -102,6 +131,7 @@ pub record HasDone (asked : Invocation) (read unread : Option (List ℕ)) (broke
 abbrev pub HasDoneSome : Option (List ℕ) → Option (List ℕ) → Bool → ℕ → Type 0
 HasDoneSome old new cut status =
     ((status ≡ 2) × (new ≡ old))
-    ⊎ ((asked : Invocation) × IsWithinLimits asked × (read : Option (List ℕ)) × (unread : Option (List ℕ))
+    ⊎ ((asked : Invocation) × IsWithinLimits asked × (columns : Option ℕ) × IfSome columns (IsFromOne 9999)
+    × (read : Option (List ℕ)) × (unread : Option (List ℕ))
     × (broken : Bool)
-    × HasDone asked read unread broken old new cut status)
+    × HasDone asked columns read unread broken old new cut status)

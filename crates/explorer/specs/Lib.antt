@@ -1,2 +1,4 @@
 pub mod Invocation
 pub mod ProgressText
+pub mod Columns
+pub mod Surroundings

@@ -10,7 +10,10 @@
 #![tactic(auto)]
 
 mod answered;
+mod columns;
+mod cut;
 mod program;
+mod surroundings;
 mod ticker;
 mod whole;
 
@@ -25,8 +28,11 @@ pub use explorer_scenarios::{
 pub use explorer_threads::{
     Closed, Gate, MAX_ROUNDS, MAX_WORKERS, Open, ThreadsRefused, run_threads, threads_io,
 };
-pub use explorer_words::{FileFault, Invocation, no_file, no_words, read_words};
-pub use lock_commands::{LockCommand, lock_command_io};
+pub use explorer_words::{
+    CommandLine, FileFault, Invocation, no_file, no_words, read_line, read_words,
+};
+pub use lock_commands::{Layout, LockCommand, lock_command_io};
 pub use program::asked_io;
+pub use surroundings::{Surroundings, UNKNOWN, free_memory};
 pub use ticker::Ticker;
 pub use whole::parklot_io;

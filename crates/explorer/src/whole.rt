@@ -1,14 +1,16 @@
 //! The whole program, on its words. The files that they name are opened through the runtime.
 
-ghost use Rattle.std.specs.Prelude.{◌≡◌, IfOk, IsTrue, false};
-ghost use Rattle.explorer_words.specs.Invocation.{IsWithinLimits};
+ghost use Rattle.std.specs.Prelude.{◌≡◌, IfOk, IfSome, IsTrue, false};
+ghost use Rattle.explorer_words.specs.Invocation.{IsFromOne, IsWithinLimits};
 ghost use Rattle.explorer.specs.Invocation.{HasDone, HasDoneSome};
 
 use crate::answered::scheduled_by;
-use crate::program::{answer_io, beside, fault_text, status_after, tell_beside};
+use crate::cut::shown_answer_io;
+use crate::program::{beside, fault_text, status_after, tell_beside};
+use crate::surroundings::{HINT, Surroundings};
 use crate::ticker::Ticker;
-use explorer_scenarios::{Command, Exit, Flagged, IoFault, Sink, Source};
-use explorer_words::{FileFault, Invocation, no_file, read_words};
+use explorer_scenarios::{Command, Exit, Flagged, IoFault, Sink, Source, write_all};
+use explorer_words::{CommandLine, FileFault, Invocation, no_file, read_line};
 use lock_commands::LockCommand;
 use std::alloc::Global;
 use std::fs;
@@ -55,9 +57,10 @@ fn scheduled<'w, T: Files, R: Source>(
     }
 }
 
-/// How many worlds the search that is asked for may keep, where it is to be told how far it has come.
-fn bound_told(asked: &Invocation<'_>) -> Option<u32> {
-    if !asked.is_watched() {
+/// How many worlds the search that is asked for may keep, where it is to be told how far it has come: where
+/// that is asked for, or somebody sees it.
+fn bound_told(asked: &Invocation<'_>, is_seen: bool) -> Option<u32> {
+    if !is_seen && !asked.is_watched() {
         return None;
     }
     match asked {
@@ -74,12 +77,22 @@ fn bound_told(asked: &Invocation<'_>) -> Option<u32> {
     }
 }
 
+/// How what is asked is shown.
+#[derive(Clone, Copy, Drop)]
+struct Showing {
+    /// Its tables have so many columns at most, where that is told.
+    columns: Option<u16>,
+    /// Somebody sees what is told beside.
+    is_seen: bool,
+}
+
 /// Does what is asked, and tells on `err` how far a search has come, where that is asked for, and what is
 /// told beside.
 fn shown_io<T: Threads + Wait + Clock + Sync, R: Source, O: Sink, E: Sink>(
     rt: &T,
     alloc: Global,
     asked: &Invocation<'_>,
+    view: Showing,
     reader: &mut R,
     out: &mut O,
     err: &mut E,
@@ -87,14 +100,26 @@ fn shown_io<T: Threads + Wait + Clock + Sync, R: Source, O: Sink, E: Sink>(
     requires limits { IsWithinLimits asked.now }
     requires readable { R.has_failed reader.old ≡ false }
     requires writable { O.has_failed out.old ≡ false }
-    ensures { HasDone asked.now (R.contents reader.old) (R.contents reader.new) (R.has_failed reader.new)
+    ensures { HasDone asked.now view.columns (R.contents reader.old) (R.contents reader.new) (R.has_failed reader.new)
         (O.contents out.old) (O.contents out.new) (O.has_failed out.new) result }
 {
+    let Showing { columns, is_seen } = view;
+    let mut without = Vec::new(alloc);
     let outcome = {
-        let mut watch = Ticker::new(rt, alloc, err, bound_told(asked));
-        answer_io(rt, alloc, asked, reader, out, &mut watch)
+        let mut watch = Ticker::new(rt, alloc, err, bound_told(asked, is_seen));
+        shown_answer_io(
+            rt,
+            alloc,
+            asked,
+            columns,
+            reader,
+            out,
+            &mut watch,
+            &mut without,
+        )
     };
-    tell_beside(beside(asked, &outcome), err);
+    tell_beside(beside(asked, &outcome, out.is_closed()), err);
+    let _ = write_all(err, &without);
     status_after(&outcome)
 }
 
@@ -103,11 +128,13 @@ fn opened_io<T: Files + Threads + Wait + Clock + Sync, R: Source, O: Sink, E: Si
     rt: &T,
     alloc: Global,
     asked: &Invocation<'_>,
+    view: Showing,
     reader: &mut R,
     out: &mut O,
     err: &mut E,
 ) -> u8
     requires limits { IsWithinLimits asked.now }
+    requires columns { IfSome view.columns (IsFromOne 9999) }
     requires readable { R.has_failed reader.old ≡ false }
     requires writable { O.has_failed out.old ≡ false }
     ensures done { HasDoneSome (O.contents out.old) (O.contents out.new) (O.has_failed out.new) result }
@@ -116,17 +143,44 @@ fn opened_io<T: Files + Threads + Wait + Clock + Sync, R: Source, O: Sink, E: Si
     ensures cut { IsTrue (O.has_failed out.new) → result ≡ 2 }
 {
     let Some(name) = asked.file() else {
-        return shown_io(rt, alloc, asked, reader, out, err);
+        return shown_io(rt, alloc, asked, view, reader, out, err);
     };
     match open_file(rt, name) {
-        Ok(file) => shown_io(rt, alloc, asked, &mut Flagged::new(file), out, err),
-        Err(fault) => shown_io(rt, alloc, &no_file(alloc, name, fault), reader, out, err),
+        Ok(file) => shown_io(rt, alloc, asked, view, &mut Flagged::new(file), out, err),
+        Err(fault) => shown_io(
+            rt,
+            alloc,
+            &no_file(alloc, name, fault),
+            view,
+            reader,
+            out,
+            err,
+        ),
+    }
+}
+
+/// Tells on `err` what is to be known before anything is done: that standard input is read, where it is typed
+/// there, and that the machine lacks the memory for as many worlds as are asked for. The search goes on all the
+/// same: it may reach fewer.
+fn tell_before<E: Sink>(
+    alloc: Global,
+    line: &CommandLine<'_>,
+    surroundings: Surroundings,
+    err: &mut E,
+) {
+    if let Some(shortage) = surroundings.shortage(line.worlds) {
+        if let Ok(text) = format!(in alloc; "{shortage}") {
+            let _ = write_all(err, text.as_bytes());
+        }
+    }
+    if surroundings.is_hint_wanted(&line.asked) {
+        let _ = write_all(err, HINT.as_bytes());
     }
 }
 
 /// Runs the program on its words, without its own name: reads what they ask for, opens the files that they
-/// name, writes the answer to `out`, and tells on `err`, as far as that takes it, what is told beside. The
-/// result is the status to end with.
+/// name, writes the answer to `out`, and tells on `err`, as far as that takes it, what is told beside and what
+/// its surroundings give cause to say. The result is the status to end with.
 ///
 /// It is 2 where the words ask for no command, where the input, the schedule or one of its steps is refused,
 /// where memory is short, where a file can't be opened, and where a read or a write to `out` fails; 1 where
@@ -135,6 +189,7 @@ pub fn parklot_io<T: Files + Threads + Wait + Clock + Sync, R: Source, O: Sink, 
     rt: &T,
     alloc: Global,
     words: Vec<String>,
+    surroundings: Surroundings,
     reader: &mut R,
     out: &mut O,
     err: &mut E,
@@ -147,9 +202,14 @@ pub fn parklot_io<T: Files + Threads + Wait + Clock + Sync, R: Source, O: Sink, 
     ensures cut { IsTrue (O.has_failed out.new) → result ≡ 2 }
 {
     let mut room = Vec::new(alloc);
-    let asked = read_words(alloc, words.as_slice());
-    match scheduled(rt, alloc, asked, reader, &mut room) {
-        Ok(asked) => opened_io(rt, alloc, &asked, reader, out, err),
+    let line = read_line(alloc, words.as_slice());
+    tell_before(alloc, &line, surroundings, err);
+    let view = Showing {
+        columns: line.columns,
+        is_seen: surroundings.is_seen,
+    };
+    match scheduled(rt, alloc, line.asked, reader, &mut room) {
+        Ok(asked) => opened_io(rt, alloc, &asked, view, reader, out, err),
         Err(fault) => {
             tell_beside(Some(fault_text(fault)), err);
             Exit::Refused.status()

@@ -6,6 +6,9 @@ use std::alloc::{AllocError, Global};
 /// The names of the changes of the step table.
 static VARIANT_NAMES: [&str; 3] = ["no-look", "late-count", "plain-less"];
 
+/// The kinds of texts whose form is told.
+static KIND_NAMES: [&str; 2] = ["scenario", "lock"];
+
 /// What an argument takes.
 #[derive(Clone, Copy)]
 pub(crate) enum Takes {
@@ -15,8 +18,10 @@ pub(crate) enum Takes {
     Number(Numbers),
     /// Which change of the step table is made.
     Variant,
+    /// The kind of text whose form is told.
+    Kind,
     /// The schedule that is told; it may be left out where an argument of that name is given.
-    Schedule { other: Option<&'static str> },
+    Schedule { other: &'static str },
     /// A file; where an argument of that name is given too, it is a mistake.
     File { other: Option<&'static str> },
 }
@@ -59,21 +64,20 @@ fn number<'a>(named: Arg<'a>, numbers: Numbers) -> Arg<'a> {
         .action(numbers.action)
 }
 
-/// Which change of the step table is made.
-fn variant<'a>(named: Arg<'a>) -> Arg<'a> {
+/// One of these names, which the help of the argument tells.
+fn one_of<'a>(named: Arg<'a>, letter: &'static str, names: &'a [&'static str]) -> Arg<'a> {
     named
-        .value_name("V")
-        .value_parser(VARIANT_NAMES.as_slice())
+        .value_name(letter)
+        .value_parser(names)
         .hide_possible_values(true)
 }
 
 /// The schedule that is told.
-fn schedule<'a>(named: Arg<'a>, other: Option<&'static str>) -> Result<Arg<'a>, AllocError> {
-    let schedule = named.value_name("S").allow_hyphen_values(true);
-    match other {
-        Some(other) => schedule.required_unless_present(other),
-        None => Ok(schedule.required(true)),
-    }
+fn schedule<'a>(named: Arg<'a>, other: &'static str) -> Result<Arg<'a>, AllocError> {
+    named
+        .value_name("S")
+        .allow_hyphen_values(true)
+        .required_unless_present(other)
 }
 
 /// A file.
@@ -90,7 +94,8 @@ fn taking<'a>(named: Arg<'a>, takes: Takes) -> Result<Arg<'a>, AllocError> {
     match takes {
         Takes::Nothing => Ok(named.action(ArgAction::SetTrue)),
         Takes::Number(numbers) => Ok(number(named, numbers)),
-        Takes::Variant => Ok(variant(named)),
+        Takes::Variant => Ok(one_of(named, "V", VARIANT_NAMES.as_slice())),
+        Takes::Kind => Ok(one_of(named, "KIND", KIND_NAMES.as_slice())),
         Takes::Schedule { other } => schedule(named, other),
         Takes::File { other } => file(named, other),
     }

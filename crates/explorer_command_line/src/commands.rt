@@ -3,7 +3,7 @@
 use crate::argument::{Argument, Numbers, Row, Takes, made_argument};
 use crate::locks::{RETRACE, TRY};
 use crate::shared::{
-    DRAWN, EVERY, FLAG, PROGRESS, SCENARIO_FILE, SEARCHERS, STATS, VARIANT, WORLDS,
+    COLUMNS, DRAWN, EVERY, FLAG, PROGRESS, SCENARIO_FILE, SEARCHERS, STATS, VARIANT, WORLDS,
 };
 use clap::{Arg, ArgAction, Command};
 use std::alloc::{AllocError, Global};
@@ -12,7 +12,7 @@ use std::alloc::{AllocError, Global};
 static STATUSES: &str = "\
 Status: 0 nothing bad, 1 something bad was found, 3 gave up,
         2 refused: words, text, schedule, memory, a file or a stream
-The form of a scenario's text: parklot format";
+The form of a scenario's text: parklot format; of a lock program's: parklot format lock";
 
 /// The same, below a command that searches.
 const SEARCH_STATUSES: &str = "\
@@ -41,6 +41,7 @@ const CHECK_ARGUMENTS: &[Argument] = &[
         help: "The most worlds, 1 to 1,000,000,000; without it 2,000,000",
     },
     DRAWN,
+    COLUMNS,
     STATS,
     PROGRESS,
     SEARCHERS,
@@ -68,6 +69,7 @@ const EXPLORE_ARGUMENTS: &[Argument] = &[
         help: "The most worlds, 1 to 1,000,000,000; without it 200,000",
     },
     DRAWN,
+    COLUMNS,
     STATS,
     PROGRESS,
     SEARCHERS,
@@ -79,7 +81,7 @@ const REPLAY_ARGUMENTS: &[Argument] = &[
         name: "schedule",
         is_named: true,
         takes: Takes::Schedule {
-            other: Some("schedule-of"),
+            other: "schedule-of",
         },
         help: "The numbers of the seats that step, one space apart, at most 256",
     },
@@ -99,6 +101,7 @@ const REPLAY_ARGUMENTS: &[Argument] = &[
         takes: FLAG,
         help: "Draw the steps as a table: a column a seat, and one for each word",
     },
+    COLUMNS,
     Argument {
         name: "scenario",
         is_named: true,
@@ -176,6 +179,13 @@ const THREADS_ARGUMENTS: &[Argument] = &[
     },
 ];
 
+const FORMAT_ARGUMENTS: &[Argument] = &[Argument {
+    name: "kind",
+    is_named: false,
+    takes: Takes::Kind,
+    help: "Of which text: scenario or lock; without it scenario",
+}];
+
 /// The commands, in the order of the help.
 static COMMANDS: [Row; 9] = [
     Row {
@@ -218,8 +228,8 @@ static COMMANDS: [Row; 9] = [
     },
     Row {
         name: "format",
-        about: "Tell the form of a scenario's text",
-        arguments: &[],
+        about: "Tell the form of a scenario's text, or of a lock program's",
+        arguments: FORMAT_ARGUMENTS,
         below: None,
     },
 ];

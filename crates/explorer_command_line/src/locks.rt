@@ -1,19 +1,27 @@
 //! The commands that read the text of a lock program.
 
 use crate::argument::{Argument, Row, Takes};
-use crate::shared::{FLAG, PROGRAM_FILE, PROGRESS, SEARCHERS, STATS, WORLDS};
+use crate::shared::{COLUMNS, FLAG, PROGRAM_FILE, PROGRESS, SEARCHERS, STATS, WORLDS};
 
 /// What the exit statuses of `try` mean, and what a lock program is.
 const TRY_STATUSES: &str = "\
 Status: 0 nothing bad, 1 a bad world was found, 3 gave up,
         2 refused: words, text, memory, a file or a stream
-A lock program has words and branches of its own: docs/LOCKS.md";
+A lock program has words and branches of its own: parklot format lock";
 
 /// The same of `retrace`.
 const RETRACE_STATUSES: &str = "\
 Status: 0 not bad, 1 the schedule ends in a bad world,
         2 refused: words, text, schedule, one of its steps, memory, a file or a stream
-A lock program has words and branches of its own: docs/LOCKS.md";
+A lock program has words and branches of its own: parklot format lock";
+
+/// Whether each row of a call is told.
+const ROWS: Argument = Argument {
+    name: "rows",
+    is_named: true,
+    takes: FLAG,
+    help: "Tell each row of a call in a line of its own",
+};
 
 const TRY_ARGUMENTS: &[Argument] = &[
     Argument {
@@ -28,6 +36,8 @@ const TRY_ARGUMENTS: &[Argument] = &[
         takes: FLAG,
         help: "Draw the schedule that was found as a table, in place of its lines",
     },
+    ROWS,
+    COLUMNS,
     STATS,
     PROGRESS,
     SEARCHERS,
@@ -38,8 +48,18 @@ const RETRACE_ARGUMENTS: &[Argument] = &[
     Argument {
         name: "schedule",
         is_named: true,
-        takes: Takes::Schedule { other: None },
-        help: "The numbers of the seats that step, one space apart, at most 256",
+        takes: Takes::Schedule {
+            other: "schedule-of",
+        },
+        help: "The numbers of the seats that step, one space apart",
+    },
+    Argument {
+        name: "schedule-of",
+        is_named: true,
+        takes: Takes::File {
+            other: Some("schedule"),
+        },
+        help: "The answer of try whose schedule is told; - for standard input",
     },
     Argument {
         name: "table",
@@ -47,6 +67,8 @@ const RETRACE_ARGUMENTS: &[Argument] = &[
         takes: FLAG,
         help: "Draw the steps as a table: a column a seat, and one for each word that changes",
     },
+    ROWS,
+    COLUMNS,
     PROGRAM_FILE,
 ];
 

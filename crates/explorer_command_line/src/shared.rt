@@ -76,6 +76,20 @@ pub(crate) const SEARCHERS: Argument = Argument {
     help: "How many threads share the search, 1 to 64; without it 1",
 };
 
+/// How many columns of characters a table may have.
+pub(crate) const COLUMNS: Argument = Argument {
+    name: "columns",
+    is_named: true,
+    takes: Takes::Number(Numbers {
+        letter: "N",
+        least: 1,
+        most: 9999,
+        required: false,
+        action: ArgAction::Set,
+    }),
+    help: "Of a table, tell the first columns alone, as many as fit into N characters, 1 to 9999",
+};
+
 /// How many worlds a search keeps.
 pub(crate) const WORLDS: Takes = Takes::Number(Numbers {
     letter: "N",

@@ -1,9 +1,10 @@
 -- What is said of a faulty line: what is wrong with it, the line as far as it can be printed, and what was
 -- expected.
-use Rattle.std.specs.Prelude.{◌≡◌, ◌≢◌, ◌⊎◌, ℕ, ◌+◌, ◌-◌, ◌≤◌, ◌==◌, ◌&&◌, Bool, true, nat_lt, not, ◌∷◌, []}
+use Rattle.std.specs.Prelude.{◌≡◌, ◌≢◌, ◌⊎◌, ℕ, ◌+◌, ◌-◌, ◌≤◌, ◌==◌, ◌&&◌, ◌||◌, Bool, true, false, nat_lt, nat_eq, not}
+use Rattle.std.specs.Prelude.{◌∷◌, []}
 use Rattle.std.specs.Prelude.{◌++◌, List, length}
 use Rattle.std.specs.Prelude.{take, drop, min, slice_index, codes}
-use Rattle.std.specs.List.{position_or_len, list_all, list_any, AllByRecursion}
+use Rattle.std.specs.List.{position_or_len, list_all, list_any, starts_with, AllByRecursion}
 use Rattle.std.specs.Fmt.{decimal}
 use Rattle.explorer_text.specs.declared.read_fault.Cause.{Cause}
 use Rattle.explorer_text.specs.declared.read_fault.Cause.TheVariants as cause
@@ -12,7 +13,7 @@ use Rattle.explorer_text.specs.Causes.{is_printable}
 use Rattle.explorer_text.specs.Phrases.{IsSomeCall}
 use Rattle.explorer_text.specs.Pieces.{pieces, text_at}
 use Rattle.explorer_help.specs.declared.formless.Formless.{Formless}
-use Rattle.explorer_help.specs.declared.formless.Formless.TheVariants.{NoLine, NoCall, NotParted, ManyDigits}
+use Rattle.explorer_help.specs.declared.formless.Formless.TheVariants.{NoLine, OfLock, NoCall, NotParted, ManyDigits}
 use Rattle.explorer_help.specs.declared.problem.Problem.{Problem}
 use Rattle.explorer_help.specs.declared.problem.Problem.TheVariants.{NoLineFeed, Unprintable, Return, NoForm}
 use Rattle.explorer_help.specs.declared.problem.Problem.TheVariants.{Misplaced, OutOfRange, TooMany}
@@ -70,10 +71,21 @@ IsNoCall call (NotParted told) = (list_any (λ byte. byte == 59) call ≡ true) 
 IsNoCall call (ManyDigits told most) = HasDigits (most + 1) call × (told.now ≡ shown call)
 IsNoCall call formless = ⊥
 
+abbrev begins : List ℕ → List ℕ → Bool
+begins line word = starts_with nat_eq line word
+
+-- the line begins as lines of lock programs do, and those of scenarios don't
+abbrev pub is_of_lock : List ℕ → Bool
+is_of_lock line =
+    begins line (codes "#") || begins line (codes "const ") || begins line (codes "word ")
+    || begins line (codes "register ") || begins line (codes "section ") || begins line (codes "program ")
+
 -- what is wrong with a line that is spelled as none, its calls aside
 abbrev pub IsNoLine : List ℕ → Formless → Type 0
-IsNoLine line (NoLine told) = told.now ≡ shown line
-IsNoLine line (ManyDigits told most) = HasDigits (most + 1) line × (told.now ≡ shown line)
+IsNoLine line (OfLock told) = (is_of_lock line ≡ true) × (told.now ≡ shown line)
+IsNoLine line (NoLine told) = (is_of_lock line ≡ false) × (told.now ≡ shown line)
+IsNoLine line (ManyDigits told most) =
+    (is_of_lock line ≡ false) × HasDigits (most + 1) line × (told.now ≡ shown line)
 IsNoLine line formless = ⊥
 
 -- what is wrong with the line for this cause, and what is shown of it
@@ -95,6 +107,9 @@ abbrev pub formless_text : Formless → List ℕ
 formless_text (NoLine line) =
     codes "no line is spelled \"" ++ line.now
     ++ codes "\": roots N, counter S, list F, group, seat K: CALLS, settled, value C N, no-misuse"
+formless_text (OfLock line) =
+    codes "\"" ++ line.now
+    ++ codes "\" is a line of a lock program: try and retrace take one, check, explore and replay a scenario"
 formless_text (NoCall call) =
     codes "no call is spelled \"" ++ call.now
     ++ codes "\": acquire C, acquire C lifo, release C, release C handoff, release C many N, add L, wait L, one L, all L, gadd G D, gwait G"

@@ -4,7 +4,7 @@ ghost use Rattle.std.specs.Prelude.{◌≡◌, Some};
 ghost use Rattle.explorer_help.specs.Explained.{formless_text, IsNoCall, IsNoLine};
 
 use crate::beginning::shown;
-use crate::reading::{has_digits, has_semicolon};
+use crate::reading::{has_digits, has_semicolon, is_of_lock};
 use std::fmt;
 
 /// How many digits a number has at most.
@@ -17,6 +17,8 @@ const TICKET_DIGITS: usize = 20;
 pub(crate) enum Formless<'t> {
     /// No line is spelled so.
     NoLine(&'t str),
+    /// It is a line of a lock program.
+    OfLock(&'t str),
     /// No call is spelled so.
     NoCall(&'t str),
     /// Nor so, and a semicolon stands in it.
@@ -34,6 +36,10 @@ impl fmt::Display for Formless<'_> {
                 f,
                 "no line is spelled \"{line}\": roots N, counter S, list F, group, seat K: CALLS, \
                  settled, value C N, no-misuse"
+            ),
+            Formless::OfLock(line) => write!(
+                f,
+                "\"{line}\" is a line of a lock program: try and retrace take one, check, explore and replay a scenario"
             ),
             Formless::NoCall(call) => write!(
                 f,
@@ -72,6 +78,9 @@ pub(crate) fn no_line(line: &[u8]) -> Formless<'_>
     ensures { IsNoLine line.now result }
 {
     let text = shown(line);
+    if is_of_lock(line) {
+        return Formless::OfLock(text);
+    }
     let most = if line.starts_with(b"list ") {
         TICKET_DIGITS
     } else {

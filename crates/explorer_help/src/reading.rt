@@ -2,7 +2,7 @@
 
 ghost use Rattle.std.specs.Prelude.{◌≡◌, ◌==◌, IsTrue};
 ghost use Rattle.std.specs.List.{list_any, list_all};
-ghost use Rattle.explorer_help.specs.Explained.{ends_in_return, is_digit, HasDigits};
+ghost use Rattle.explorer_help.specs.Explained.{ends_in_return, is_digit, is_of_lock, HasDigits};
 
 /// Whether its last byte is a carriage return.
 pub fn ends_in_return(line: &[u8]) -> bool
@@ -19,6 +19,18 @@ pub(crate) fn has_semicolon(text: &[u8]) -> bool
     ensures { result ≡ list_any (λ byte. byte == 59) text.now }
 {
     text.iter().any(|byte| *byte == b';')
+}
+
+/// Whether it begins as lines of lock programs do, and those of scenarios don't.
+pub(crate) fn is_of_lock(line: &[u8]) -> bool
+    ensures { result ≡ is_of_lock line.now }
+{
+    line.starts_with(b"#")
+        || line.starts_with(b"const ")
+        || line.starts_with(b"word ")
+        || line.starts_with(b"register ")
+        || line.starts_with(b"section ")
+        || line.starts_with(b"program ")
 }
 
 /// Whether it is of digits alone.

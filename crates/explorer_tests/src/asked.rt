@@ -4,7 +4,7 @@ ghost use Rattle.explorer_words.specs.Invocation.{IsWithinLimits};
 
 use crate::assertion::holds_for;
 use crate::devices::{Calls, Giving, SOUND, Taking};
-use explorer::{Flagged, Invocation, NO_MEMORY, StopWatch, asked_io, parklot_io};
+use explorer::{Flagged, Invocation, NO_MEMORY, StopWatch, UNKNOWN, asked_io, parklot_io};
 use std::alloc::{AllocError, Global};
 use std::process::Abort;
 use std::rt::Files;
@@ -75,7 +75,7 @@ pub(crate) fn ask(
     let mut out = Flagged::new(Taking::new(alloc, devices.out));
     let mut err = Flagged::new(Taking::new(alloc, devices.err));
     let status = match owned(alloc, words) {
-        Ok(words) => parklot_io(rt, alloc, words, &mut reader, &mut out, &mut err),
+        Ok(words) => parklot_io(rt, alloc, words, UNKNOWN, &mut reader, &mut out, &mut err),
         // where memory is short nothing is told
         Err(_) => 2,
     };

@@ -1,7 +1,7 @@
 //! Devices that fail at each of their calls.
 
 use crate::asked::{ALL_SOUND, Devices, Host, Told, tells_over};
-use crate::devices::{BROKEN, Calls};
+use crate::devices::{BROKEN, CLOSED, Calls, SOUND};
 use crate::program_tests::FIVE_LINES;
 use crate::reading::ONE_ACQUIRE;
 use crate::threads_tests::{THREE_LINES, TWO_BY_THREE};
@@ -57,7 +57,11 @@ fn a_read_fails_of(rt: &impl Host, alloc: Global, command: &Command) {
         let (at_once, reads) = *row;
         for left in 0..reads + 1 {
             let devices = Devices {
-                input: Calls { at_once, left },
+                input: Calls {
+                    at_once,
+                    left,
+                    ..SOUND
+                },
                 ..ALL_SOUND
             };
             let told = if left < reads {
@@ -82,7 +86,11 @@ fn a_write_fails_of(rt: &impl Host, alloc: Global, command: &Command, at_once: u
     let told = told.as_bytes();
     for left in 0..u32::MAX {
         let devices = Devices {
-            out: Calls { at_once, left },
+            out: Calls {
+                at_once,
+                left,
+                ..SOUND
+            },
             ..ALL_SOUND
         };
         let sent = at_once.saturating_mul(left as usize).min(told.len());
@@ -107,7 +115,7 @@ fn each_write_can_fail(rt: HostRuntime) {
 /// A sink that takes nothing.
 const FULL: Calls = Calls {
     at_once: 0,
-    left: u32::MAX,
+    ..SOUND
 };
 
 const UNREAD: Devices = Devices {
@@ -117,6 +125,12 @@ const UNREAD: Devices = Devices {
 
 const UNWRITTEN: Devices = Devices {
     out: FULL,
+    ..ALL_SOUND
+};
+
+/// Nobody reads the output.
+const CLOSED_OUTPUT: Devices = Devices {
+    out: CLOSED,
     ..ALL_SOUND
 };
 
@@ -142,7 +156,7 @@ const ANSWER_ALONE: &[&str] = &["replay", "--schedule-of", "-", "--scenario", "n
 const TO_FOUR: &[&str] = &["explore", "--depth", "4"];
 
 /// Words, the devices, what goes to the two streams, and the status.
-static BESIDES: [(&[&str], Devices, &str, &str, u8); 8] = [
+static BESIDES: [(&[&str], Devices, &str, &str, u8); 10] = [
     (ANSWER_ALONE, UNREAD, "", READ_FAILED, 2),
     // what reads nothing doesn't fail by its input
     (&["once"], UNREAD, FIVE_LINES, "", 0),
@@ -155,6 +169,9 @@ static BESIDES: [(&[&str], Devices, &str, &str, u8); 8] = [
         WRITE_FAILED,
         2,
     ),
+    // of a pipe that is closed nothing is told
+    (&["once"], CLOSED_OUTPUT, "", "", 2),
+    (TO_FOUR, CLOSED_OUTPUT, "", "", 2),
     // what can't be told beside changes nothing
     (TO_FOUR, UNTOLD, "none up to depth 4\n", "", 0),
     (&["explore"], UNTOLD, "", "", 2),

@@ -3,23 +3,28 @@
 use std::alloc::Global;
 use std::io::{self, ErrorKind, Read, Write};
 
-/// How many bytes a call moves at most, and how many calls don't fail.
+/// How many bytes a call moves at most, how many calls don't fail, and why those behind do.
 #[derive(Clone, Copy, Drop)]
 pub(crate) struct Calls {
     pub(crate) at_once: usize,
     pub(crate) left: u32,
+    pub(crate) failing: ErrorKind,
 }
 
 /// No call fails, and each moves as much as it can.
 pub(crate) const SOUND: Calls = Calls {
     at_once: usize::MAX,
     left: u32::MAX,
+    failing: ErrorKind::Other,
 };
 
 /// Each call fails.
-pub(crate) const BROKEN: Calls = Calls {
-    at_once: usize::MAX,
-    left: 0,
+pub(crate) const BROKEN: Calls = Calls { left: 0, ..SOUND };
+
+/// Each call finds that nobody is at the other end.
+pub(crate) const CLOSED: Calls = Calls {
+    failing: ErrorKind::BrokenPipe,
+    ..BROKEN
 };
 
 /// A reader of these bytes.
@@ -38,7 +43,7 @@ impl<'t> Giving<'t> {
 impl Read for Giving<'_> {
     fn read(&mut self, buffer: &mut [u8]) -> io::Result<usize> {
         if self.calls.left == 0 {
-            return Err(io::Error::from(ErrorKind::BrokenPipe));
+            return Err(io::Error::from(self.calls.failing));
         }
         self.calls.left -= 1;
         let count = self.calls.at_once.min(buffer.len());
@@ -74,7 +79,7 @@ impl Taking {
 impl Write for Taking {
     fn write(&mut self, bytes: &[u8]) -> io::Result<usize> {
         if self.calls.left == 0 {
-            return Err(io::Error::from(ErrorKind::BrokenPipe));
+            return Err(io::Error::from(self.calls.failing));
         }
         self.calls.left -= 1;
         let count = self.calls.at_once.min(bytes.len());

@@ -28,6 +28,7 @@ type Row = (Asked, Calls, &'static str, Result<Exit, IoFault>);
 const FOUR_BYTES: Calls = Calls {
     at_once: 4,
     left: 1,
+    ..SOUND
 };
 
 static ENDED: [Row; 7] = [

@@ -1,7 +1,7 @@
 //! Texts and schedules as long as they may be, and longer by one.
 
 use crate::asked::{ALL_SOUND, Devices, Host, Told, tells_over};
-use crate::devices::Calls;
+use crate::devices::{Calls, SOUND};
 use crate::reading::ONE_ACQUIRE;
 use crate::repeated::{Repeated, bytes_again};
 use std::alloc::Global;
@@ -18,10 +18,7 @@ const fn and_bytes(times: usize) -> Repeated<'static> {
 
 /// Only the first read succeeds, and it gives all.
 const ONE_READ: Devices = Devices {
-    input: Calls {
-        at_once: usize::MAX,
-        left: 1,
-    },
+    input: Calls { left: 1, ..SOUND },
     ..ALL_SOUND
 };
 

@@ -6,7 +6,7 @@ use Rattle.std.specs.Fmt.{decimal}
 use Rattle.std.proofs.lemmas.List.{length-append}
 use Rattle.std.proofs.lemmas.Str.Pattern.{IsSplitOnceResult, split_after, split_parts}
 use Rattle.explorer_text.specs.Phrases.{ReadsAs, IsNumber}
-use Rattle.explorer_text.specs.ScheduleText.{IsSchedule, IsShortNumber, schedule_text}
+use Rattle.explorer_text.specs.ScheduleText.{IsSchedule, SpellsSeats, IsShortNumber, schedule_text}
 use Rattle.explorer_text.proofs.Numbers.{first_decimal}
 use Rattle.explorer_text.proofs.Parts.{nothing, one, found, only, none, lacks}
 use Rattle.explorer_text.proofs.Joined.{has, has_in, number_has}
@@ -81,22 +81,22 @@ turn text rest after front x c so h reads e = record {
 
 -- ---- what is answered
 
-no_schedule : (text : List ℕ) → 0 < length text → ((seats : List ℕ) → AreSeats text seats → ⊥) → ReadsAs (IsSchedule text) None
-no_schedule text some other = nothing (IsSchedule text) (λ seats p. refuse seats p)
+no_seats : (text : List ℕ) → 0 < length text → ((seats : List ℕ) → AreSeats text seats → ⊥) → ReadsAs (SpellsSeats text) None
+no_seats text some other = nothing (SpellsSeats text) (λ seats p. refuse seats p)
   where
-    refuse : (seats : List ℕ) → IsSchedule text seats → ⊥
+    refuse : (seats : List ℕ) → SpellsSeats text seats → ⊥
     refuse [] p = omega (arith, ap length p.spelled)
     refuse (c ∷ cs) p = other (c ∷ cs) (record { some = omega arith; short = p.short; spelled = p.spelled })
 
 pub no_first : (text rest front : List ℕ) (x : Bor (List ℕ) × Bor (List ℕ)) → 0 < length text → SoFar text rest front
-    → IsSplitOnceResult 32 rest (Some x) → ReadsAs (IsNumber 2 x.0.now) None → ReadsAs (IsSchedule text) None
+    → IsSplitOnceResult 32 rest (Some x) → ReadsAs (IsNumber 2 x.0.now) None → ReadsAs (SpellsSeats text) None
 no_first text rest front x some so h reads =
-    no_schedule text some (λ seats p. let g = so.from seats p in let f = first_seat rest x h g.0 g.2 in none (IsNumber 2 x.0.now) f.0 reads f.3)
+    no_seats text some (λ seats p. let g = so.from seats p in let f = first_seat rest x h g.0 g.2 in none (IsNumber 2 x.0.now) f.0 reads f.3)
 
 pub no_last : (text rest front : List ℕ) → 0 < length text → SoFar text rest front → IsSplitOnceResult 32 rest None
-    → ReadsAs (IsNumber 2 rest) None → ReadsAs (IsSchedule text) None
+    → ReadsAs (IsNumber 2 rest) None → ReadsAs (SpellsSeats text) None
 no_last text rest front some so h reads =
-    no_schedule text some (λ seats p. let g = so.from seats p in let l = last_seat rest h g.0 g.2 in none (IsNumber 2 rest) l.0 reads l.2)
+    no_seats text some (λ seats p. let g = so.from seats p in let l = last_seat rest h g.0 g.2 in none (IsNumber 2 rest) l.0 reads l.2)
 
 -- the seats are these and no others
 only_seats : (text rest front : List ℕ) (c : ℕ) → SoFar text rest front → IsSplitOnceResult 32 rest None → ReadsAs (IsNumber 2 rest) (Some c)
@@ -106,22 +106,16 @@ only_seats text rest front c so h reads seats p =
     let l = last_seat rest h g.0 g.2 in
     g.1 ∙ ap (λ (y : List ℕ). front ++ y) (l.1 ∙ ap (λ (y : ℕ). y ∷ []) (only (IsNumber 2 rest) c l.0 reads l.2))
 
-with_some : (text seats : List ℕ) → 0 < length text → IsSchedule text seats → AreSeats text seats
+with_some : (text seats : List ℕ) → 0 < length text → SpellsSeats text seats → AreSeats text seats
 with_some text [] some p = absurd (omega (arith, ap length p.spelled))
 with_some text (c ∷ cs) some p = record { some = omega arith; short = p.short; spelled = p.spelled }
 
-pub too_long : (text rest front : List ℕ) (c : ℕ) → 0 < length text → SoFar text rest front → IsSplitOnceResult 32 rest None
-    → ReadsAs (IsNumber 2 rest) (Some c) → 256 < length (front ++ (c ∷ [])) → ReadsAs (IsSchedule text) None
-too_long text rest front c some so h reads long =
-    nothing (IsSchedule text) (λ seats p. let e = only_seats text rest front c so h reads seats (with_some text seats some p) in
-    omega (arith, p.few, ap length e))
-
 pub whole : (text rest front : List ℕ) (c : ℕ) → 0 < length text → SoFar text rest front → IsSplitOnceResult 32 rest None
-    → ReadsAs (IsNumber 2 rest) (Some c) → length (front ++ (c ∷ [])) ≤ 256 → ReadsAs (IsSchedule text) (Some (front ++ (c ∷ [])))
-whole text rest front c some so h reads few =
+    → ReadsAs (IsNumber 2 rest) (Some c) → ReadsAs (SpellsSeats text) (Some (front ++ (c ∷ [])))
+whole text rest front c some so h reads =
     let f = found (IsNumber 2 rest) c reads in
     let all = so.to (c ∷ []) (record { some = omega arith; short = (f.0, tt); spelled = f.1 }) in
-    one (IsSchedule text) (front ++ (c ∷ [])) (record { few = few; short = all.short; spelled = all.spelled })
+    one (SpellsSeats text) (front ++ (c ∷ [])) (record { short = all.short; spelled = all.spelled })
     (λ seats p. only_seats text rest front c so h reads seats (with_some text seats some p))
 
 -- no seat is spelled by nothing
@@ -130,10 +124,29 @@ longer [] short some = absurd (omega arith)
 longer (c ∷ []) short some = (first_decimal c (omega (arith, short))).0
 longer (c ∷ d ∷ ds) short some = omega (arith, length-append (decimal c) (32 ∷ schedule_text (d ∷ ds)))
 
-pub empty : (text : List ℕ) → length text ≡ 0 → ReadsAs (IsSchedule text) (Some [])
-empty [] e = one (IsSchedule []) [] (record { few = omega arith; short = tt; spelled = refl }) others
+pub empty : (text : List ℕ) → length text ≡ 0 → ReadsAs (SpellsSeats text) (Some [])
+empty [] e = one (SpellsSeats []) [] (record { short = tt; spelled = refl }) others
   where
-    others : (seats : List ℕ) → IsSchedule [] seats → seats ≡ []
+    others : (seats : List ℕ) → SpellsSeats [] seats → seats ≡ []
     others [] p = refl
     others (c ∷ cs) p = absurd (omega (arith, longer (c ∷ cs) p.short (omega arith), ap length p.spelled))
 empty (x ∷ xs) e = absurd (omega arith)
+
+-- ---- 256 at most
+
+seats_of : (text seats : List ℕ) → IsSchedule text seats → SpellsSeats text seats
+seats_of text seats p = record { short = p.short; spelled = p.spelled }
+
+pub few : (text seats : List ℕ) → ReadsAs (SpellsSeats text) (Some seats) → length seats ≤ 256 → ReadsAs (IsSchedule text) (Some seats)
+few text seats reads within =
+    let f = found (SpellsSeats text) seats reads in
+    one (IsSchedule text) seats (record { few = within; short = f.short; spelled = f.spelled })
+    (λ others p. only (SpellsSeats text) seats others reads (seats_of text others p))
+
+pub too_long : (text seats : List ℕ) → ReadsAs (SpellsSeats text) (Some seats) → 256 < length seats → ReadsAs (IsSchedule text) None
+too_long text seats reads long =
+    nothing (IsSchedule text) (λ others p. let e = only (SpellsSeats text) seats others reads (seats_of text others p) in
+    omega (arith, p.few, ap length e))
+
+pub not_spelled : (text : List ℕ) → ReadsAs (SpellsSeats text) None → ReadsAs (IsSchedule text) None
+not_spelled text reads = nothing (IsSchedule text) (λ others p. none (SpellsSeats text) others reads (seats_of text others p))

@@ -12,6 +12,11 @@ schedule_text (seat ∷ next ∷ more) = decimal seat ++ (32 ∷ schedule_text (
 abbrev pub IsShortNumber : ℕ → Type 0
 IsShortNumber seat = seat < 100
 
+-- seats with numbers of one or two digits, however many, and the text is theirs
+pub record SpellsSeats (text seats : List ℕ) : Type 0 where
+  pub short : AllByRecursion IsShortNumber seats
+  pub spelled : text ≡ schedule_text seats
+
 -- at most 256 seats with numbers of one or two digits, and the text is theirs
 pub record IsSchedule (text schedule : List ℕ) : Type 0 where
   pub few : length schedule ≤ 256

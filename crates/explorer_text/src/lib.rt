@@ -12,5 +12,5 @@ mod reader;
 mod request;
 
 pub use read_fault::{Cause, ReadFault};
-pub use reader::{is_call, line_at, printable, read_scenario, read_schedule};
+pub use reader::{is_call, line_at, printable, read_scenario, read_schedule, read_seats};
 pub use request::{Property, Request};

@@ -30,14 +30,14 @@ IsWithin (Replay spelled table every drawn) = Unit {0}
 
 -- 1 to 1,000,000,000 worlds
 abbrev pub IsTriedWithin : LockCommand → Type 0
-IsTriedWithin (Try worlds drawn counted live) = IsFromOne 1000000000 worlds
-IsTriedWithin (Retrace spelled drawn) = Unit {0}
+IsTriedWithin (Try worlds layout counted live) = IsFromOne 1000000000 worlds
+IsTriedWithin (Retrace spelled layout) = Unit {0}
 
 -- the numbers are within the limits of their command: 1 to 64 threads share a search, 1 to 1,000,000 lines
 -- are judged
 abbrev pub IsWithinLimits : Invocation → Type 0
 IsWithinLimits (OfScenario command file answer threads) = IsWithin command × IsFromOne 64 threads
-IsWithinLimits (OfLockProgram command file threads) = IsTriedWithin command × IsFromOne 64 threads
+IsWithinLimits (OfLockProgram command file answer threads) = IsTriedWithin command × IsFromOne 64 threads
 IsWithinLimits (Judge file demands most) = IfSome most (IsFromOne 1000000)
 IsWithinLimits (Threads workers rounds) = AreWithin workers rounds
 IsWithinLimits _ = Unit {0}
@@ -59,7 +59,7 @@ IsWithoutFile name fault _ = ⊥
 -- the name of the file that is read in place of standard input
 abbrev pub file_of : Invocation → Option (List ℕ)
 file_of (OfScenario command file answer threads) = option_map (λ name. name.now) file
-file_of (OfLockProgram command file threads) = option_map (λ name. name.now) file
+file_of (OfLockProgram command file answer threads) = option_map (λ name. name.now) file
 file_of (Judge file demands most) = option_map (λ name. name.now) file
 file_of _ = None
 
@@ -73,28 +73,31 @@ IsFileNamed name file =
     (option_map (λ text. text.now) file ≢ Some (codes "-"))
     × ((file ≡ name) ⊎ (option_map (λ text. text.now) name ≡ Some (codes "-")))
 
--- the name of the answer whose schedule is replayed
+-- the name of the answer whose schedule is replayed or retraced
 abbrev pub answer_named : Invocation → Option (List ℕ)
 answer_named (OfScenario command file answer threads) = option_map (λ name. name.now) answer
+answer_named (OfLockProgram command file answer threads) = option_map (λ name. name.now) answer
 answer_named _ = None
 
--- standard input has one text at most: where it has the answer, the scenario stands in a file
+-- standard input has one text at most: where it has the answer, the scenario or lock program stands in a file
 abbrev pub ReadsInputOnce : Invocation → Type 0
 ReadsInputOnce asked = answer_named asked ≡ Some (codes "-") → IsSome (file_of asked)
 
--- the same with the schedule that its answer has told, where a replay is asked for
+-- the same with the schedule that its answer has told, where a replay or a retrace is asked for
 abbrev pub with_schedule : Invocation → Bor (List ℕ) → Invocation
 with_schedule (OfScenario (Replay spelled table every drawn) file answer threads) schedule =
     OfScenario (Replay schedule table every drawn) file None threads
+with_schedule (OfLockProgram (Retrace spelled layout) file answer threads) schedule =
+    OfLockProgram (Retrace schedule layout) file None threads
 with_schedule asked schedule = asked
 
 abbrev is_tried_watched : LockCommand → Bool
-is_tried_watched (Try worlds drawn counted live) = live
-is_tried_watched (Retrace spelled drawn) = false
+is_tried_watched (Try worlds layout counted live) = live
+is_tried_watched (Retrace spelled layout) = false
 
 -- it is to be told how far a search has come, while it runs
 abbrev pub is_watched : Invocation → Bool
 is_watched (OfScenario (Explore bounds table extras) file answer threads) = extras.live
 is_watched (OfScenario (Check worlds every extras) file answer threads) = extras.live
-is_watched (OfLockProgram command file threads) = is_tried_watched command
+is_watched (OfLockProgram command file answer threads) = is_tried_watched command
 is_watched _ = false

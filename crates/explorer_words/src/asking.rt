@@ -4,7 +4,7 @@ ghost use Rattle.std.specs.Prelude.{◌≡◌, ◌↔◌, IfOk, IfSome, IsTrue, 
 ghost use Rattle.explorer_words.specs.Invocation.{IsFileNamed, IsFromOne, IsWithinLimits, NamesNoInput};
 ghost use Rattle.explorer_words.specs.Invocation.{ReadsInputOnce};
 
-use crate::format::FORMAT;
+use crate::format::{FORMAT, LOCK_FORMAT};
 use crate::invocation::{Invocation, MAX_LINES, MAX_THREADS, MAX_WORLDS};
 use clap::ArgMatches;
 use explorer_scenarios::{
@@ -12,13 +12,18 @@ use explorer_scenarios::{
 };
 use explorer_threads::{MAX_ROUNDS, MAX_WORKERS};
 use journal_judge::Demands;
-use lock_commands::LockCommand;
+use lock_commands::{Layout, LockCommand};
 use std::alloc::{AllocError, Global};
 use step_core::Variant;
 
 /// What is wrong with a replay that reads both its texts from standard input.
 static NO_SCENARIO: &str = "\
 error: with --schedule-of - standard input has the answer: name the scenario by --scenario FILE
+";
+
+/// And with such a retrace.
+static NO_PROGRAM: &str = "\
+error: with --schedule-of - standard input has the answer: name the lock program's file
 ";
 
 /// How many worlds a search may keep that keeps so many where it isn't told.
@@ -138,6 +143,17 @@ fn replay_asked<'w>(alloc: Global, given: &ArgMatches<'w>) -> Result<Invocation<
     })
 }
 
+/// How the steps of a lock program are told; a table has a line for each row anyway.
+fn layout_of(given: &ArgMatches<'_>) -> Layout {
+    if given.get_flag("table") {
+        Layout::Table
+    } else if given.get_flag("rows") {
+        Layout::Rows
+    } else {
+        Layout::Lines
+    }
+}
+
 /// What `try` is asked for.
 fn try_asked<'w>(given: &ArgMatches<'w>) -> Invocation<'w>
     ensures limits { IsWithinLimits result }
@@ -147,29 +163,39 @@ fn try_asked<'w>(given: &ArgMatches<'w>) -> Invocation<'w>
     Invocation::OfLockProgram {
         command: LockCommand::Try {
             worlds: worlds_of(given, CHECKED_WORLDS),
-            drawn: given.get_flag("table"),
+            layout: layout_of(given),
             counted: given.get_flag("stats"),
             live: given.get_flag("progress"),
         },
         file: file_of(given.get_str("file")),
+        answer: None,
         threads: searchers_of(given),
     }
 }
 
-/// What `retrace` is asked for.
-fn retrace_asked<'w>(given: &ArgMatches<'w>) -> Invocation<'w>
-    ensures limits { IsWithinLimits result }
-    ensures once { ReadsInputOnce result }
-    ensures named { NamesNoInput result }
+/// What `retrace` is asked for. An answer on standard input leaves no room there for the lock program.
+///
+/// It is an `Err` where memory is short.
+fn retrace_asked<'w>(alloc: Global, given: &ArgMatches<'w>) -> Result<Invocation<'w>, AllocError>
+    ensures limits { IfOk result IsWithinLimits }
+    ensures once { IfOk result ReadsInputOnce }
+    ensures named { IfOk result NamesNoInput }
 {
-    Invocation::OfLockProgram {
-        command: LockCommand::Retrace {
-            schedule: given.get_str("schedule").unwrap_or(""),
-            drawn: given.get_flag("table"),
-        },
-        file: file_of(given.get_str("file")),
-        threads: 1,
+    let answer = given.get_str("schedule-of");
+    let file = file_of(given.get_str("file"));
+    if file.is_none() && is_standard_input(answer) {
+        return Ok(Invocation::Mistake(String::from_str(alloc, NO_PROGRAM)?));
     }
+    Ok(Invocation::OfLockProgram {
+        command: LockCommand::Retrace {
+            // that of an answer takes the place of none
+            schedule: given.get_str("schedule").unwrap_or(""),
+            layout: layout_of(given),
+        },
+        file,
+        answer,
+        threads: 1,
+    })
 }
 
 /// The counters that are told to be locks.
@@ -212,6 +238,14 @@ fn judge_asked<'w>(alloc: Global, given: &ArgMatches<'w>) -> Result<Invocation<'
     })
 }
 
+/// The form of which kind of text is to be told: a scenario's where that isn't said.
+fn format_of(given: &ArgMatches<'_>) -> &'static str {
+    match given.get_str("kind") {
+        Some("lock") => LOCK_FORMAT,
+        _ => FORMAT,
+    }
+}
+
 /// What `threads` is asked for.
 fn threads_asked<'w>(given: &ArgMatches<'w>) -> Invocation<'w>
     ensures limits { IsWithinLimits result }
@@ -243,10 +277,10 @@ pub(crate) fn asked_of<'w>(
         "explore" => Ok(explore_asked(given)),
         "replay" => replay_asked(alloc, given),
         "try" => Ok(try_asked(given)),
-        "retrace" => Ok(retrace_asked(given)),
+        "retrace" => retrace_asked(alloc, given),
         "judge" => judge_asked(alloc, given),
         "threads" => Ok(threads_asked(given)),
-        "format" => Ok(Invocation::Help(String::from_str(alloc, FORMAT)?)),
+        "format" => Ok(Invocation::Help(String::from_str(alloc, format_of(given))?)),
         _ => Ok(Invocation::Once),
     }
 }

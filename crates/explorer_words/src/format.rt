@@ -26,4 +26,40 @@ CALLS are 1 to 32 calls, with a semicolon and a space between them:
   gwait G               wait until the number of G is 0
 
 Counters, lists and groups are named by their numbers, 0 to 15, each kind for itself. A number has no leading zero.
+The form of a lock program's text: parklot format lock
+";
+
+/// The form of a lock program's text, as `format lock` tells it.
+pub(crate) static LOCK_FORMAT: &str =
+    "A lock program is lines of words, each ended by a line feed, in this order, the first six kinds in any:
+
+  const N V             at most 32: N stands for the number V
+  word N V              at most 32: a word, which starts at V; word N[K] V: an array of K, 1 to 16
+  counter N V           at most 16: the same of counters, which start at 0 to 4294967295
+  list N, section N     at most 4 notify lists, and 8 sections
+  register N ..         at most 8: each seat has its own, 0 at the start
+  program N             1 to 16: its lines follow, at most 128, or 255 without labels, but with those of do
+  seats K N             1 to 16 in all: the next K seats run program N
+  most S N              the properties, at most 16: at most N seats are in section S;
+  apart S T                 or: no seat is in S while another is in T;
+  finally W REL V           or: where all seats have ended, word or counter W REL V
+
+The lines of a program, and labels, A:. What stands in [ ] may be left out; those below out are no step:
+
+  load W r, store W e   r becomes W; W becomes e
+  swap W e [r]          W becomes e, and r the old W; add W e [r]: W becomes W + e, and r the old W
+  exchange W e f [r]    if W is e, it becomes f; r becomes the old W
+  await W REL e [r]     wait until W REL e; then r becomes W
+  acquire C [lifo]      as in a scenario; so release C [handoff], release C many e, one L, all L
+  ticket L, wait L      take a ticket of list L, and wait with it
+  park W e, unpark W e  sleep if W is e; wake the first e seats that sleep on W
+  out S                 leave section S
+  in S, do N            enter section S; insert the lines of program N, which stands further up
+  let r e [OP f]        r becomes e, or e OP f; OP is + - & | ^ << >>
+  if e REL f goto A     go to A if e REL f; goto A: in any case; return: go to the program's end
+  assert e REL f        the seat fails unless e REL f; fail: in any case
+
+A name is a letter and up to 23 letters, digits and _, but not me. e, f: a number, a constant, a register, or me, the
+seat's number. V: a number or a constant, of const a number. W[e]: in an array. REL: == != < <= > >=. # begins a comment.
+The form of a scenario's text: parklot format
 ";

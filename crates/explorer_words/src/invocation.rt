@@ -27,10 +27,11 @@ pub enum Invocation<'w> {
         threads: u16,
     },
     /// A command that reads the text of a lock program, in this file or on standard input. So many threads
-    /// share its search.
+    /// share its search. Where an answer is named its schedule is retraced, as that of a scenario is replayed.
     OfLockProgram {
         command: LockCommand<'w>,
         file: Option<&'w str>,
+        answer: Option<&'w str>,
         threads: u16,
     },
     /// The command `judge` of the journal in this file or on standard input, of which this is asked. Where so
@@ -68,12 +69,13 @@ impl<'w> Invocation<'w> {
         }
     }
 
-    /// The answer whose schedule is replayed, if one is named: its file, or `-` for standard input.
+    /// The answer whose schedule is replayed or retraced, if one is named: its file, or `-` for standard input.
     pub fn answer(&self) -> Option<&'w str>
         ensures { option_map (λ answer. answer.now) result ≡ answer_named self.now }
     {
         match self {
             Invocation::OfScenario { answer, .. } => *answer,
+            Invocation::OfLockProgram { answer, .. } => *answer,
             _ => None,
         }
     }
@@ -95,7 +97,7 @@ impl<'w> Invocation<'w> {
         }
     }
 
-    /// The same with this schedule, which its answer has told, where a replay is asked for.
+    /// The same with this schedule, which its answer has told, where `replay` or `retrace` is asked for.
     pub fn with_schedule(self, schedule: &'w str) -> Invocation<'w>
         ensures { result ≡ with_schedule self.entry schedule.entry }
     {
@@ -117,6 +119,17 @@ impl<'w> Invocation<'w> {
                     every,
                     drawn,
                 },
+                file,
+                answer: None,
+                threads,
+            },
+            Invocation::OfLockProgram {
+                command: LockCommand::Retrace { layout, .. },
+                file,
+                threads,
+                ..
+            } => Invocation::OfLockProgram {
+                command: LockCommand::Retrace { schedule, layout },
                 file,
                 answer: None,
                 threads,

@@ -6,12 +6,14 @@
 #![tactic(auto)]
 
 mod asking;
+mod command_line;
 mod file_fault;
 mod format;
 mod invocation;
 mod words;
 
+pub use command_line::{CommandLine, MAX_COLUMNS};
 pub use explorer_threads::{MAX_ROUNDS, MAX_WORKERS};
 pub use file_fault::FileFault;
 pub use invocation::{Invocation, MAX_LINES, MAX_THREADS, MAX_WORLDS};
-pub use words::{no_file, no_words, read_words};
+pub use words::{no_file, no_words, read_line, read_words};

@@ -10,7 +10,7 @@
 mod cases;
 
 use anyhow::Result;
-use explorer::{Flagged, parklot_io};
+use explorer::{Flagged, UNKNOWN, parklot_io};
 use std::alloc::{AllocError, Global};
 use std::fs;
 use std::rt::Files;
@@ -158,7 +158,7 @@ fn run<R: Files + Threads + Wait + Clock + Sync>(
     let mut input = Flagged::new(input.as_bytes());
     let mut out = Flagged::new(Vec::new(alloc));
     let mut err = Flagged::new(Vec::new(alloc));
-    let status = parklot_io(team, alloc, words, &mut input, &mut out, &mut err);
+    let status = parklot_io(team, alloc, words, UNKNOWN, &mut input, &mut out, &mut err);
     Ok(Ended {
         text: String::from_utf8(out.into_inner())?,
         aside: String::from_utf8(err.into_inner())?,

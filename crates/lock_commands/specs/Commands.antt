@@ -2,7 +2,7 @@
 use Rattle.std.specs.Prelude.{⊤, ◌≡◌, ℕ, ◌<◌, ◌≤◌, ◌⊎◌, List, [], ◌++◌, Option, Some, None, length, codes}
 use Rattle.explorer_search.specs.declared.found_in_all.FoundInAll.{FoundInAll}
 use Rattle.explorer_search.specs.declared.found_in_all.FoundInAll.TheVariants as finds
-use Rattle.explorer_text.specs.ScheduleText.{IsSchedule}
+use Rattle.explorer_text.specs.ScheduleText.{SpellsSeats}
 use Rattle.explorer_answers.specs.declared.exit.Exit.{Exit}
 use Rattle.explorer_answers.specs.declared.exit.Exit.TheVariants.{NothingBad, BadFound}
 use Rattle.explorer_answers.specs.declared.exit.Exit.TheVariants as exits
@@ -101,20 +101,20 @@ abbrev pub exit_of : Ending → Exit
 exit_of (World verdict) = exit_of_verdict verdict
 exit_of (Refused cause) = exits.Refused
 
--- what is replied to a program and the text of a schedule: that it is none, or how it ends; of the text that
--- tells what it does nothing is said
+-- what is replied to a program and the text of a schedule, of however many steps: that it is none, or how it
+-- ends; of the text that tells what it does nothing is said
 abbrev pub RepliesRetraced : List ℕ → Program → List ℕ → Exit → Type 0
 RepliesRetraced spelled program text exit =
-    (((schedule : List ℕ) → IsSchedule spelled schedule → ⊥) × Refuses (codes "schedule") text exit)
-    ⊎ ((schedule : List ℕ) × IsSchedule spelled schedule
+    (((schedule : List ℕ) → SpellsSeats spelled schedule → ⊥) × Refuses (codes "schedule") text exit)
+    ⊎ ((schedule : List ℕ) × SpellsSeats spelled schedule
     × (ending : Ending) × EndsBy program schedule ending × (exit ≡ exit_of ending))
 
 -- ---- the whole
 
 -- what the command replies to a program
 abbrev pub Replies : LockCommand → Program → List ℕ → Exit → Type 0
-Replies (Try worlds drawn counted live) program text exit = RepliesTried worlds program text exit
-Replies (Retrace spelled drawn) program text exit = RepliesRetraced spelled.now program text exit
+Replies (Try worlds layout counted live) program text exit = RepliesTried worlds program text exit
+Replies (Retrace spelled layout) program text exit = RepliesRetraced spelled.now program text exit
 
 -- what it replies to a text: its fault, or what it replies to its program
 abbrev pub RepliesToText : LockCommand → List ℕ → List ℕ → Exit → Type 0

@@ -16,3 +16,4 @@ mod retracing;
 mod trying;
 
 pub use command::{LockCommand, lock_command_io};
+pub use lock_retrace::Layout;

@@ -5,11 +5,14 @@ ghost use Rattle.explorer_answers.specs.InputText.{Refuses};
 ghost use Rattle.lock_commands.specs.Commands.{refusal_text};
 
 use crate::help::explain;
-use explorer_answers::{Answer, Exit, NO_SCHEDULE, Reply, TOO_LONG};
+use explorer_answers::{Answer, Exit, Reply, TOO_LONG};
 use lock_program::ReadFault;
 use std::alloc::{AllocError, Global};
 use std::fmt;
 use waiters::NoMemory;
+
+/// What was expected in place of a text that is no schedule.
+const NO_SCHEDULE: &str = "a schedule is numbers of seats, 0 to 99, one space apart\n";
 
 /// Why a command doesn't do what its input and its words ask for.
 #[derive(Clone, Copy, Drop)]

@@ -6,8 +6,8 @@ ghost use Rattle.lock_commands.specs.Commands.{RepliesRetraced, exit_of};
 use crate::reading::ReadText;
 use crate::refusal::{Refusal, refused};
 use explorer_answers::{Answer, Exit, Reply};
-use explorer_text::read_schedule;
-use lock_retrace::{Ending, retrace};
+use explorer_text::read_seats;
+use lock_retrace::{Ending, Layout, retrace};
 use std::alloc::Global;
 use waiters::NoMemory;
 
@@ -22,22 +22,22 @@ fn exit_of(ending: Ending) -> Exit
     }
 }
 
-/// What `retrace` replies to a lock program, with the text of a schedule.
+/// What `retrace` replies to a lock program, with the text of a schedule, however long.
 ///
 /// It is an `Err` where memory is short.
 pub(crate) fn retraced(
     alloc: Global,
     read: &ReadText<'_>,
     schedule: &str,
-    drawn: bool,
+    layout: Layout,
 ) -> Result<Reply, NoMemory>
     ensures { IfOk result (λ reply.
         RepliesRetraced schedule.now read.now.program (string_bytes reply.answer.text) reply.answer.exit) }
 {
-    let Some(seats) = read_schedule(alloc, schedule)? else {
+    let Some(seats) = read_seats(alloc, schedule)? else {
         return refused(alloc, &[], Refusal::Schedule);
     };
-    let told = retrace(alloc, read.text, &read.names, &read.program, &seats, drawn)?;
+    let told = retrace(alloc, read.text, &read.names, &read.program, &seats, layout)?;
     Ok(Reply {
         answer: Answer {
             text: told.text,

@@ -9,7 +9,7 @@ use crate::beside::{NeverMet, beside};
 use crate::reading::ReadText;
 use explorer_answers::{Answer, FoundAmong, Reply, Stats, StopWatch};
 use explorer_search::{FoundInAll, Searched, Team};
-use lock_retrace::retrace;
+use lock_retrace::{Layout, retrace};
 use lock_search::{Ran, try_program};
 use lock_steps::Kind;
 use std::alloc::Global;
@@ -21,8 +21,8 @@ use waiters::{NoMemory, SeatId};
 pub(crate) struct Search {
     /// How many worlds may be kept at most.
     pub(crate) worlds: u32,
-    /// The schedule that is found is drawn as a table.
-    pub(crate) drawn: bool,
+    /// How the schedule that is found is told.
+    pub(crate) layout: Layout,
     /// It is told how far the search came.
     pub(crate) counted: bool,
 }
@@ -34,7 +34,7 @@ fn behind(
     alloc: Global,
     read: &ReadText<'_>,
     schedule: Option<&[SeatId]>,
-    drawn: bool,
+    layout: Layout,
 ) -> Result<String, NoMemory>
     ensures { IfOk result (λ told.
         option_map (λ seats. seats.now) schedule.entry ≡ None → string_bytes told ≡ []) }
@@ -47,7 +47,7 @@ fn behind(
                 &read.names,
                 &read.program,
                 schedule,
-                drawn,
+                layout,
             )?;
             Ok(told.text)
         }
@@ -108,7 +108,7 @@ fn found_reply(
         most: search.worlds,
         worlds: worlds_of(&searched.found),
     };
-    let behind = behind(alloc, read, told.schedule(), search.drawn)?;
+    let behind = behind(alloc, read, told.schedule(), search.layout)?;
     let stats = Stats::of_found_in_all(searched, search.worlds, millis);
     let aside = beside(
         alloc,

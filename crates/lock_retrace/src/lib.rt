@@ -4,4 +4,5 @@
 
 mod retold;
 
+pub use lock_telling::Layout;
 pub use retold::{Ending, Retold, retrace};

@@ -2,11 +2,13 @@
 
 ghost use Rattle.std.specs.Prelude.{◌<◌, length};
 
+use crate::failure::spell_failure;
+use crate::held::spell_held;
 use crate::look::code_line;
 use crate::members::seat_at;
 use crate::names::program_name;
 use crate::parts::all_parts;
-use crate::spelling::cause_name;
+use crate::spelling::spell_within;
 use crate::told::Told;
 use lock_code::CodeLine;
 use lock_machine::LockMachine;
@@ -49,21 +51,11 @@ fn posture_of(machine: &LockMachine<'_>, seat: SeatId) -> Posture
     }
 }
 
-/// Writes the `do` lines that led to a line, the outermost first, where there are any.
-fn spell_within(text: &mut String, within: &[usize]) -> Result<(), AllocError> {
-    let Some((first, others)) = within.split_first() else {
-        return Ok(());
-    };
-    write!(text, " (from {first}")?;
-    for line in others {
-        write!(text, " {line}")?;
-    }
-    text.push(')')
-}
-
-/// Writes where the seat is, which stands at this line, if it hasn't ended.
+/// Writes how the seat is, and the line at which it stands, with the `do` lines that led there.
 fn spell_stand(
+    alloc: Global,
     text: &mut String,
+    told: &Told<'_>,
     machine: &LockMachine<'_>,
     seat: SeatId,
     code_line: &CodeLine,
@@ -72,16 +64,19 @@ fn spell_stand(
 {
     let line = code_line.line;
     if let Stand::FailedAt(_, cause) = machine.stand(seat) {
-        let cause = cause_name(cause);
-        return write!(text, "failed at line {line}: {cause}");
+        write!(text, "failed at line {line}")?;
+        spell_within(text, code_line.within.as_slice())?;
+        text.push_str(": ")?;
+        return spell_failure(alloc, text, told, machine, seat, code_line, cause);
     }
     let posture = posture_of(machine, seat);
     write!(text, "{posture} at line {line}")?;
     spell_within(text, code_line.within.as_slice())
 }
 
-/// Tells where the seat is.
+/// Tells where the seat is, and what it has of its own.
 fn tell_seat(
+    alloc: Global,
     text: &mut String,
     told: &Told<'_>,
     machine: &LockMachine<'_>,
@@ -92,8 +87,13 @@ fn tell_seat(
     let name = program_name(machine, told.names, seat);
     write!(text, "seat {seat} {name}: ")?;
     match code_line(machine, seat) {
-        Some(code_line) => spell_stand(text, machine, seat, code_line)?,
+        Some(code_line) => spell_stand(alloc, text, told, machine, seat, code_line)?,
         None => text.push_str("ended")?,
+    }
+    let mut held = String::new(alloc);
+    spell_held(&mut held, machine, told.names, seat)?;
+    if !held.is_empty() {
+        write!(text, "; {held}")?;
     }
     text.push('\n')
 }
@@ -117,7 +117,7 @@ pub fn tell_world(
 ) -> Result<(), NoMemory> {
     for number in 0..machine.seats() {
         if let Some(seat) = seat_at(machine, number) {
-            tell_seat(text, told, machine, seat)?;
+            tell_seat(alloc, text, told, machine, seat)?;
         }
     }
     let parts = all_parts(alloc, machine, &told.parts)?;

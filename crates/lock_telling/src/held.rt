@@ -50,3 +50,30 @@ pub(crate) fn spell_changed_held(
     }
     Ok(())
 }
+
+/// Writes the registers of the seat that aren't 0, and the sections in which it is.
+pub(crate) fn spell_held(
+    text: &mut String,
+    machine: &LockMachine<'_>,
+    names: &Names<'_>,
+    seat: SeatId,
+) -> Result<(), AllocError>
+    requires { seat < length machine.now.program.seats }
+{
+    for (register, name) in names.registers.as_slice().iter().enumerate() {
+        let name = name.as_str();
+        let number = machine.value(seat, &Operand::Register(register));
+        if number != 0 {
+            set_apart(text)?;
+            write!(text, "{name} {number}")?;
+        }
+    }
+    for (section, name) in names.sections.as_slice().iter().enumerate() {
+        if machine.is_inside(seat, section) {
+            let name = name.as_str();
+            set_apart(text)?;
+            write!(text, "in {name}")?;
+        }
+    }
+    Ok(())
+}

@@ -1,4 +1,4 @@
-//! Waits and causes as text.
+//! Waits, `do` lines and causes as text.
 
 use lock_steps::Cause;
 use std::alloc::AllocError;
@@ -15,6 +15,18 @@ pub(crate) fn spell_queue(text: &mut String, waits: &[WaitId]) -> Result<(), All
         write!(text, " {seat}")?;
     }
     Ok(())
+}
+
+/// Writes the `do` lines that led to a line, the innermost first, where there are any.
+pub(crate) fn spell_within(text: &mut String, within: &[usize]) -> Result<(), AllocError> {
+    if within.is_empty() {
+        return Ok(());
+    }
+    text.push_str(" (from")?;
+    for line in within.iter().rev() {
+        write!(text, " {line}")?;
+    }
+    text.push(')')
 }
 
 /// Why a seat failed.

@@ -3,7 +3,8 @@
 ghost use Rattle.std.specs.Prelude.{IfOk};
 ghost use Rattle.lock_telling.specs.Tried.{HasTried};
 
-use crate::names::program_name;
+use crate::layout::Layout;
+use crate::lines::tell_lines;
 use crate::step::{Step, see, told_step};
 use crate::table::draw_steps;
 use crate::told::Told;
@@ -42,14 +43,6 @@ impl Steps {
         self.steps.push(step)?;
         Ok(())
     }
-
-    /// What the world has of each part after them.
-    fn after(&self) -> &[String] {
-        match self.steps.last() {
-            Some(step) => step.after.as_slice(),
-            None => &self.start,
-        }
-    }
 }
 
 /// Runs the step of the seat and keeps it behind the others, or answers why it can't be run.
@@ -71,30 +64,12 @@ pub fn tell_step(
     if let Err(cause) = machine.step(seat) {
         return Ok(Some(cause));
     }
-    let step = told_step(alloc, told, machine, steps.after(), seat, seen)?;
+    let step = told_step(alloc, told, machine, seat, seen)?;
     steps.push(step)?;
     Ok(None)
 }
 
-/// Tells the steps, a line each.
-fn tell_lines(
-    text: &mut String,
-    told: &Told<'_>,
-    machine: &LockMachine<'_>,
-    steps: &[Step],
-) -> Result<(), AllocError> {
-    for (at, step) in steps.iter().enumerate() {
-        let seat = step.seat;
-        let line = step.line;
-        let name = program_name(machine, told.names, seat);
-        write!(text, "{at}: seat {seat} {name}:{line} ")?;
-        step.spell(text)?;
-        text.push('\n')?;
-    }
-    Ok(())
-}
-
-/// Tells the steps, a line each, or draws them as a table.
+/// Tells the steps in this layout.
 ///
 /// It is an `Err` where memory is short.
 pub fn tell_steps(
@@ -103,11 +78,11 @@ pub fn tell_steps(
     told: &Told<'_>,
     machine: &LockMachine<'_>,
     steps: &Steps,
-    drawn: bool,
+    layout: Layout,
 ) -> Result<(), AllocError> {
-    if drawn {
-        draw_steps(alloc, text, told, machine, steps)
-    } else {
-        tell_lines(text, told, machine, &steps.steps)
+    match layout {
+        Layout::Table => draw_steps(alloc, text, told, machine, steps),
+        Layout::Rows => tell_lines(alloc, text, told, machine, steps, false),
+        Layout::Lines => tell_lines(alloc, text, told, machine, steps, true),
     }
 }

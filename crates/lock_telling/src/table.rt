@@ -65,7 +65,7 @@ fn seat_head(
 fn seat_cell(alloc: Global, step: &Step, seat: SeatId) -> Result<String, AllocError> {
     let mut cell = String::new(alloc);
     if step.seat == seat {
-        step.spell_own(&mut cell)?;
+        step.spell_own(alloc, &mut cell)?;
     }
     Ok(cell)
 }

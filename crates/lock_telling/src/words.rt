@@ -41,3 +41,29 @@ pub(crate) fn words_of_line(
     }
     Ok(words)
 }
+
+/// Writes the words of a line that is about an array, with this for the index of its member.
+fn spell_indexed(text: &mut String, words: &str, index: i64) -> Result<(), AllocError> {
+    match words.split_once("[") {
+        Some((name, behind)) => {
+            write!(text, "{name}[{index}]")?;
+            match behind.split_once("]") {
+                Some((_, rest)) => text.push_str(rest),
+                None => Ok(()),
+            }
+        }
+        None => text.push_str(words),
+    }
+}
+
+/// Writes the words of a line, with the number of the member where it is about an array's.
+pub(crate) fn spell_words(
+    text: &mut String,
+    words: &str,
+    index: Option<i64>,
+) -> Result<(), AllocError> {
+    match index {
+        Some(index) => spell_indexed(text, words, index),
+        None => text.push_str(words),
+    }
+}

@@ -4,7 +4,7 @@
 use explorer_answers::{Exit, NO_MEMORY, Outcome};
 use explorer_search::Team;
 use explorer_streams::Flagged;
-use lock_commands::{LockCommand, lock_command_io};
+use lock_commands::{Layout, LockCommand, lock_command_io};
 use std::alloc::{AllocError, Global};
 use std::num::NonZeroU16;
 use std::thread::Threads;
@@ -38,14 +38,14 @@ most held 1
 
 const TRY: LockCommand<'static> = LockCommand::Try {
     worlds: 2_000_000,
-    drawn: false,
+    layout: Layout::Lines,
     counted: false,
     live: false,
 };
 
 const RETRACE: LockCommand<'static> = LockCommand::Retrace {
     schedule: "0 1 0 1",
-    drawn: true,
+    layout: Layout::Table,
 };
 
 static ANSWERED: [Answered; 3] = [
@@ -58,8 +58,8 @@ step  seat 0 user                          seat 1 user                          
 1                                          7 load taken was: found 0            0
 2     9 store taken 1: found 0 -> in held                                       1
 3                                          9 store taken 1: found 1 -> in held  1
-seat 0 user: stands at line 11
-seat 1 user: stands at line 11
+seat 0 user: stands at line 11; in held
+seat 1 user: stands at line 11; in held
 taken 1
 verdict: crowded, line 15
 ",
@@ -79,7 +79,7 @@ verdict: crowded, line 15
         out: "\
 bad: stuck
 schedule: 0 0 0 0 0
-0: seat 0 p:3 acquire c, A1: found 0
+0-4: seat 0 p:3 acquire c, A1 A3 A4 A5 A7: found 0 0 0 0 1 -> c 0 waiting 0
 ",
         exit: Exit::BadFound,
     },

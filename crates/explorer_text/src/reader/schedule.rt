@@ -3,7 +3,7 @@
 ghost use Rattle.std.specs.Prelude.{◌≡◌, ◌<◌, IfOk};
 ghost use Rattle.std.specs.Option.{option_map};
 ghost use Rattle.explorer_text.specs.Phrases.{ReadsAs, IsNumber};
-ghost use Rattle.explorer_text.specs.ScheduleText.{IsSchedule};
+ghost use Rattle.explorer_text.specs.ScheduleText.{IsSchedule, SpellsSeats};
 
 use crate::reader::number::number;
 use std::alloc::{AllocError, Global};
@@ -22,28 +22,38 @@ fn read_seat(text: &str) -> Option<SeatId>
     Some(SeatId::new(seat as u16))
 }
 
-/// The seats of a schedule's text, in order, or that it is no schedule.
-pub fn read_schedule(alloc: Global, text: &str) -> Result<Option<Vec<SeatId>>, AllocError>
-    ensures { IfOk result (λ o. ReadsAs (IsSchedule text.now) (option_map (λ v. v.items) o)) }
+/// The seats of a schedule's text, in order and however many, or that it is no schedule.
+pub fn read_seats(alloc: Global, text: &str) -> Result<Option<Vec<SeatId>>, AllocError>
+    ensures { IfOk result (λ o. ReadsAs (SpellsSeats text.now) (option_map (λ v. v.items) o)) }
 {
-    let mut schedule = Vec::new(alloc);
+    let mut seats = Vec::new(alloc);
     if text.is_empty() {
-        return Ok(Some(schedule));
+        return Ok(Some(seats));
     }
     let mut rest = text;
     while let Some((first, others)) = rest.split_once(' ') {
         let Some(seat) = read_seat(first) else {
             return Ok(None);
         };
-        schedule.push(seat)?;
+        seats.push(seat)?;
         rest = others;
     }
     let Some(last) = read_seat(rest) else {
         return Ok(None);
     };
-    schedule.push(last)?;
-    if schedule.len() > MAX_STEPS {
+    seats.push(last)?;
+    Ok(Some(seats))
+}
+
+/// The same of a schedule of 256 steps at most.
+pub fn read_schedule(alloc: Global, text: &str) -> Result<Option<Vec<SeatId>>, AllocError>
+    ensures { IfOk result (λ o. ReadsAs (IsSchedule text.now) (option_map (λ v. v.items) o)) }
+{
+    let Some(seats) = read_seats(alloc, text)? else {
+        return Ok(None);
+    };
+    if seats.len() > MAX_STEPS {
         return Ok(None);
     }
-    Ok(Some(schedule))
+    Ok(Some(seats))
 }

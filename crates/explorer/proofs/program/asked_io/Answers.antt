@@ -1,6 +1,6 @@
 use Rattle.std.proofs.Common.{◌≡◌, ℕ, List, Option, MatchOption, ◌∙◌, ap, subst}
 use Rattle.std.specs.Prelude.{string_bytes, option_map}
-use Rattle.explorer.specs.Invocation.{status_after, beside, WritesAsFar}
+use Rattle.explorer.specs.Invocation.{status_after, beside, unless_closed, WritesAsFar}
 use Rattle.explorer.proofs.Outcomes.{ended}
 use Rattle.explorer.proofs.program.asked_io.Goals as goal
 
@@ -14,7 +14,7 @@ returns-clause-whole g c = λ read write.
       option_map string_bytes done.0.aside,
       c.status_after.ensures ∙ ap status_after done.1,
       done.2,
-      subst P (c.beside.ensures ∙ ap (beside c.args.asked.now) done.1) c.tell_beside.ensures,
+      subst P (c.beside.ensures ∙ ap (λ outcome. beside c.args.asked.now outcome c.is_closed.result) done.1) c.tell_beside.ensures,
     ))
 
 pub returns-clause-begun : goal.returns-clause-begun
@@ -24,7 +24,8 @@ returns-clause-begun g c = λ failed.
     (WritesAsFar (g.E.Sink.contents c.args.err.now) (g.E.Sink.contents c.tell_beside.new.err) (g.E.Sink.has_failed c.tell_beside.new.err)) in (
       c.status_after.ensures ∙ ap status_after e,
       c.answer_io-outcome.ensures.begun e,
-      subst P (c.beside.ensures ∙ ap (beside c.args.asked.now) e) c.tell_beside.ensures,
+      subst P (c.beside.ensures ∙ ap (λ outcome. beside c.args.asked.now outcome c.is_closed.result) e ∙ ap unless_closed c.is_closed.ensures)
+          c.tell_beside.ensures,
     ))
 
 pub returns-clause-unwritten : goal.returns-clause-unwritten
@@ -34,5 +35,5 @@ returns-clause-unwritten g c = λ failed.
     (WritesAsFar (g.E.Sink.contents c.args.err.now) (g.E.Sink.contents c.tell_beside.new.err) (g.E.Sink.has_failed c.tell_beside.new.err)) in (
       c.status_after.ensures ∙ ap status_after e,
       c.answer_io-outcome.ensures.unwritten e,
-      subst P (c.beside.ensures ∙ ap (beside c.args.asked.now) e) c.tell_beside.ensures,
+      subst P (c.beside.ensures ∙ ap (λ outcome. beside c.args.asked.now outcome c.is_closed.result) e) c.tell_beside.ensures,
     ))
