@@ -51,7 +51,7 @@ impl fmt::Display for Progress {
         } = self;
         write!(
             f,
-            "kept {kept} of at most {most}, depth {depth}, {seconds} s, {rate} worlds a second"
+            "none up to depth {depth}, {kept} worlds of at most {most}, {seconds} s, {rate} a second"
         )
     }
 }
