@@ -4,7 +4,9 @@ ghost use Rattle.explorer_words.specs.Invocation.{IsWithinLimits};
 
 use crate::assertion::holds_for;
 use crate::devices::{Calls, Giving, SOUND, Taking};
-use explorer::{Flagged, Invocation, NO_MEMORY, StopWatch, UNKNOWN, asked_io, parklot_io};
+use explorer::{
+    Flagged, Invocation, NO_MEMORY, StopWatch, Surroundings, UNKNOWN, asked_io, parklot_io,
+};
 use std::alloc::{AllocError, Global};
 use std::process::Abort;
 use std::rt::Files;
@@ -71,11 +73,31 @@ pub(crate) fn ask(
     input: &[u8],
     devices: Devices,
 ) -> (Vec<u8>, Vec<u8>, u8) {
+    ask_within(rt, alloc, words, UNKNOWN, input, devices)
+}
+
+/// The same in these surroundings.
+pub(crate) fn ask_within(
+    rt: &impl Host,
+    alloc: Global,
+    words: &[&str],
+    surroundings: Surroundings,
+    input: &[u8],
+    devices: Devices,
+) -> (Vec<u8>, Vec<u8>, u8) {
     let mut reader = Flagged::new(Giving::new(input, devices.input));
     let mut out = Flagged::new(Taking::new(alloc, devices.out));
     let mut err = Flagged::new(Taking::new(alloc, devices.err));
     let status = match owned(alloc, words) {
-        Ok(words) => parklot_io(rt, alloc, words, UNKNOWN, &mut reader, &mut out, &mut err),
+        Ok(words) => parklot_io(
+            rt,
+            alloc,
+            words,
+            surroundings,
+            &mut reader,
+            &mut out,
+            &mut err,
+        ),
         // where memory is short nothing is told
         Err(_) => 2,
     };

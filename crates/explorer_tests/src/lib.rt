@@ -42,4 +42,6 @@ mod shortage;
 #[cfg(test)]
 mod size_tests;
 #[cfg(test)]
+mod surroundings_tests;
+#[cfg(test)]
 mod threads_tests;
