@@ -223,6 +223,7 @@ module _ (k : Setting) (m : Me) (a : ListSeat) (is : m.0.own.knows.sight.stands 
         slice_index words 2,
         went_from list_rows (standing a) here m.0.own (after with_it world words homes 2 at a ok 0 fits) _ (λ j. standing (sym is j) m.0.own.knows)
             (went with_it world words homes 2 at a ok 0 fits),
+        tt,
         refl,
       )
 

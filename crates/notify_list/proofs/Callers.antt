@@ -123,7 +123,7 @@ module _ (s t : SeatModel) (is : IsSound t) where
       )
 
   pub polls_still : IsPolled s (polled.Still t) → PollsGrant s (polled.Still t)
-  polls_still x = (after_look s t (Grant s.number) 0 is.lawful x.1, x.1.stays, x.0)
+  polls_still x = ((after_look s t (Grant s.number) 0 is.lawful x.1, x.1.stays), x.0)
 
   pub polls_granted : TakesGrant s t → PollsGrant s (polled.Granted t)
   polls_granted x = (

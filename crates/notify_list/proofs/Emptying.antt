@@ -170,7 +170,7 @@ module _ (l : ListModel) (s : Token) (h n : ℕ) (may : MayTake l s h n) where
       walked = subst (λ (y : ListSeat × List Wait). Walked s y.0 u (with_waits h y.1 (stands_of s)) [] ((NotifyingAll h (L7 n), 1) ∷ []))
           (λ i. (sym stands7 i, sym hand_after i))
           (walked_row s u at7 1 (with_waits h (queue_of s) (stands_of s)) [] row7 (same ∙ E.0) stands_after d7.told);
-      bare = ap (λ (m : Me). m.1) r.2 ∙ ap (λ (m : Me). rest m.1) E.1.1;
+      bare = ap (λ (m : Me). m.1) r.3 ∙ ap (λ (m : Me). rest m.1) E.1.1;
     }
 
 -- all waits may be taken out once all tickets are granted

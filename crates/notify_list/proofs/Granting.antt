@@ -116,7 +116,7 @@ module _ (l : ListModel) (s : Token) (h ticket : ℕ) (may : MayGrant l s h tick
       d8 = led at8 t.me.0.own u.me.0.own 1 row8
 
       bare8 : u.me.1 ≡ []
-      bare8 = ap (λ (m : Me). m.1) q.2 ∙ (edited_by t y ticket found_it out).2
+      bare8 = ap (λ (m : Me). m.1) q.3 ∙ (edited_by t y ticket found_it out).2
 
       -- how the seat stands, by the wait that was found
       abbrev found8 : Option Wait → ListSeat

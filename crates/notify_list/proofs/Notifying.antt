@@ -129,7 +129,7 @@ module _ (s : Token) (n h : ℕ) (seat : IsSeat s n) (at : (stands_of s).place �
 
           pub seat_none : IsSeat z n
           seat_none = record {
-            token_is = token_after s z n (stands_of s) (a Rest) [] (finds_none h ticket) seat.token_is w6 (ap (λ (m : Me). m.1) p.2 ∙ ap rest record5.1);
+            token_is = token_after s z n (stands_of s) (a Rest) [] (finds_none h ticket) seat.token_is w6 (ap (λ (m : Me). m.1) p.3 ∙ ap rest record5.1);
             free = ap (λ (y : ListSeat). is_free y.place) w6.stands_is;
             holds_none = ap (λ (y : ListSeat). y.ticket) w6.stands_is ∙ seat.holds_none;
           }

@@ -142,7 +142,7 @@ module _ (s : Token) (n word : ℕ) (H : IsHolding s n word) where
             [] leave again left.stands left.told)
 
         bare_left : x.me.1 ≡ []
-        bare_left = ap (λ (m : Me). m.1) q.2 ∙ ap rest record_looked.1
+        bare_left = ap (λ (m : Me). m.1) q.3 ∙ ap rest record_looked.1
 
         pub seat_at_once : IsSeat x n
         seat_at_once = record {
@@ -195,7 +195,7 @@ module _ (s : Token) (n word : ℕ) (H : IsHolding s n word) where
         seat_parked = record {
           token_is =
               token_after s x n (waiting (stands_of s)) at_park [] ((Waiting H.ticket W1, 0) ∷ (Waiting H.ticket W2, v) ∷ (Waiting H.ticket W4, 1) ∷ [])
-              H.token_is w4 (ap (λ (m : Me). m.1) q.2 ∙ ap (λ (m : Me). rest m.1) E.1.1);
+              H.token_is w4 (ap (λ (m : Me). m.1) q.3 ∙ ap (λ (m : Me). rest m.1) E.1.1);
           ticket = H.ticket;
           at = ap (λ (a : ListSeat). a.place) w4.stands_is;
           holds_none = ap (λ (a : ListSeat). a.ticket) w4.stands_is;

@@ -75,8 +75,7 @@ EntersWait s (entered.Queued t) =
 
 -- the seat is parked on, with the same ticket; or its ticket is granted now, and it holds none
 abbrev pub PollsGrant : SeatModel → Polled → Type 0
-PollsGrant s (polled.Still t) =
-    IsSeatAfter s [] t × (t.sight.stands ≡ s.sight.stands) × ((ticket : Ticket) × IsParkedWith s ticket)
+PollsGrant s (polled.Still t) = StandsOn s t × ((ticket : Ticket) × IsParkedWith s ticket)
 PollsGrant s (polled.Granted t) =
     IsSeatAfter s [] t × (t.sight.stands.ticket ≡ s.sight.stands.ticket)
     × ((ticket : Ticket) × IsParkedWith s ticket × (ticket.number < (numbers_seen t).granted))

@@ -76,6 +76,7 @@ list_rows = record {
   IsHeld = λ v slot y. (slot ≡ 0) × IsRecord v.setting.seats y v.queue;
   Also = Beside;
   HasStored = λ z. HasStored;
+  HasGiven = λ p slots. Unit {0};
   fresh_is = λ z. refl;
   nobody_is = refl;
 }

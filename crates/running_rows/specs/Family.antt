@@ -38,5 +38,7 @@ pub record Family (S V T K : Type 0) : Type 1 where
   pub Also : World → ℕ → V → T → V → Type 0
   -- the stride is a row that stored this number at this address
   pub HasStored : Key → T → ℕ → ℕ → Type 0
+  -- the stride gave back the record that was taken last: the first of these slots, which the seat held
+  pub HasGiven : T → List (ℕ × S) → Type 0
   pub fresh_is : (k : Key) → of (fresh k) ≡ k
   pub nobody_is : seats (of nobody) ≡ 0

@@ -67,7 +67,8 @@ module _ {S V T K : Type 0} (f : Family S V T K) where
 
   -- a row that gives a lock back ran, and the record is at home
   abbrev pub runs_unlock : Step S → Me S (View V T) → ℕ → Me S (View V T) → Type 0
-  runs_unlock st m x t = (n : ℕ) × Went here runs m.0.own n t.0.own × Changed m (rest m.1) t
+  runs_unlock st m x t =
+      (n : ℕ) × (w : Went here runs m.0.own n t.0.own) × f.HasGiven w.stride m.1 × Changed m (rest m.1) t
 
   -- a row ran that stored x at the word
   abbrev pub runs_grant : Step S → Me S (View V T) → ℕ → Me S (View V T) → Type 0

@@ -22,7 +22,7 @@ use Rattle.step_table.proofs.Sums.{put_here, put_else}
 use Rattle.step_law_semaphores.specs.Lawful.{holds}
 use Rattle.step_law_semaphores.specs.Balances.{added_by}
 use Rattle.sema_root.specs.Treap.{Treap}
-use Rattle.running_rows.specs.Strides.{here, becomes, RanRow, Changed, runs_grant}
+use Rattle.running_rows.specs.Strides.{here, becomes, RanRow, Changed, runs_grant, runs_unlock}
 use Rattle.running_rows.specs.Owing.{Stands, Leads, Owes}
 use Rattle.sema_table.specs.declared.view.Known.{Known}
 use Rattle.sema_table.specs.declared.view.Setting.{Setting}
@@ -294,8 +294,8 @@ module _ (z : Setting) (i : ℕ) (m : Me) (p : Place) (at : m.0.own.knows.place 
   pub owes_give : (treap : Treap) (x : ℕ) → m.1 ≡ (root m.0.own.knows.setting (counter_at p), Root treap) ∷ []
       → ((w : SemaWorld) (n : ℕ) → Ready m.0.own.number (begin p m.0.own.knows) w i n
       → Gives m.0.own.knows.setting (counter_at p) treap (event_by m.0.own.number (begin p m.0.own.knows) w) (begin p m.0.own.knows) i n x)
-      → Owes semaphore_rows z m i (λ _. x) (λ _ s. (n : ℕ) × Ran here m.0.own n s.0.own × Changed semaphore_rows m (rest m.1) s)
+      → Owes semaphore_rows z m i (λ _. x) (λ _ s. runs_unlock semaphore_rows (step 0 i x 0 none) m x s)
   owes_give treap x carried ready world words homes st = let k : ℕ = slice_index words i in
       tells_more semaphore_rows z m i world words homes x (λ s. Ran (begin p) m.0.own k s.0.own × Changed semaphore_rows m (rest m.1) s)
-      (λ s. (n : ℕ) × Ran here m.0.own n s.0.own × Changed semaphore_rows m (rest m.1) s)
-      (λ s r. (k, ran_here m.0.own s.0.own p k at r.0, r.1)) (owes_unlock i m p (inl at) bound z treap x carried ready world words homes st)
+      (λ s. runs_unlock semaphore_rows (step 0 i x 0 none) m x s)
+      (λ s r. (k, ran_here m.0.own s.0.own p k at r.0, tt, r.1)) (owes_unlock i m p (inl at) bound z treap x carried ready world words homes st)

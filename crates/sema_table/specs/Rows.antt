@@ -88,6 +88,7 @@ semaphore_rows = record {
   IsHeld = IsHeld;
   Also = λ s. Beside;
   HasStored = HasStored;
+  HasGiven = λ p slots. Unit {0};
   fresh_is = λ z. refl;
   nobody_is = refl;
 }

@@ -1,6 +1,6 @@
 //! The calls of a caller that has other work: each tries for the root's lock a few times, and where that stays
-//! held leaves it at a look that found it so. None waits. Those that wake nobody are for a table where no thread ever sleeps in the
-//! kernel: they never call it.
+//! held leaves it at a look that found it so. None waits. Those that wake nobody are for a table where no
+//! thread ever sleeps in the kernel: they never call it.
 ghost use Rattle.std.specs.Prelude.{◌≡◌, ◌<◌, length, All, IfOk, MatchResult};
 ghost use Rattle.step_table.specs.declared.place.Place.TheVariants.{Acquiring};
 ghost use Rattle.step_table.specs.declared.place.AcquireRow.TheVariants.{A3};

@@ -1,5 +1,5 @@
 -- What the steps of a guarded value owe.
-use Rattle.std.proofs.Common.{◌≡◌, ◌≢◌, ℕ, ◌<◌, ◌==◌, Bool, true, false, List, [], ◌∷◌, ◌++◌}
+use Rattle.std.proofs.Common.{◌≡◌, ◌≢◌, ℕ, ◌<◌, ◌==◌, Bool, true, false, Option, Some, None, List, [], ◌∷◌, ◌++◌}
 use Rattle.std.proofs.Common.{slice_index, slice_set, sym, refl, ap, ◌∙◌, subst, ⊎_elim, inr, arith, length-set, get_or-set_other, get_or-set_same}
 use mathlib.Core.Option as slot
 use lib.ListN.{get_elem?}
@@ -16,153 +16,168 @@ use Rattle.running_rows.specs.Strides.{Went, Took, here, runs_lock, runs_unlock}
 use Rattle.running_rows.specs.Owing.{Stands, Leads, Owes, IsAside}
 use Rattle.running_rows.proofs.History.{in_more, strides_here, strides_else}
 use Rattle.running_rows.proofs.Telling.{stays_so, tells_more}
-use Rattle.sync_parts.specs.declared.locker_call.LockerCall.{LockerCall}
-use Rattle.sync_parts.specs.declared.locker_call.LockerCall.TheVariants.{Locked, Unlocked}
 use Rattle.sync_guarded.specs.declared.view.GuardKnown.{GuardKnown}
-use Rattle.sync_guarded.specs.Rule.{Place, home, lent, InTurns, holds_after, LiesAt, GuardLife}
-use Rattle.sync_guarded.specs.Rule.{living_guard, ShowsGuard, HasCalled, call_by, turned, sight_of, stride_of, guard_rows}
+use Rattle.sync_guarded.specs.declared.view.GuardCall.{GuardCall}
+use Rattle.sync_guarded.specs.declared.view.GuardCall.TheVariants.{Locked, Unlocked}
+use Rattle.sync_guarded.specs.Rule.{Place, home, lent, InTurns, is_some, holds_after, LiesAt, GuardLife, living_guard, ShowsGuard}
+use Rattle.sync_guarded.specs.Rule.{HasCalled, IsTurn, HasGiven, sight_of, stride_of, guard_rows}
 use Rattle.sync_guarded.proofs.Turns.{turns_more, holds_is, holds_last, lent_to}
 
 abbrev pub Me : Type 0 → Type 0
-Me T = atomic.Me T (View GuardKnown LockerCall)
+Me T = atomic.Me T (View (GuardKnown T) (GuardCall T))
 
--- the seat made this call
-abbrev pub after : Seated GuardKnown LockerCall → LockerCall → Bool → Seated GuardKnown LockerCall
-after u call holds = record { number = u.number; knows = record u.knows { holds = holds }; gone = u.gone ++ call ∷ [] }
+module _ {T : Type 0} where
+  -- the seat made this call
+  abbrev pub after : Seated (GuardKnown T) (GuardCall T) → GuardCall T → Option T → Seated (GuardKnown T) (GuardCall T)
+  after u call holds = record { number = u.number; knows = record u.knows { holds = holds }; gone = u.gone ++ call ∷ [] }
 
-ran_lock : (i : ℕ) → Ran living_guard i (sight_of false) (stride_of Locked) (sight_of true)
-ran_lock i = record {
-  world = record { word = 0; holds = λ k. false; at = home; history = [] };
-  meets = record { met = tt; stands = refl; later = goes_on_here []; quiet = refl };
-  stood = refl;
-  seen = refl;
-  did = record { can = search; read_is = refl; told_is = refl; leads = λ j. record { stands = sym (put_here (λ k. false) i true) j; seen = [] } };
-}
+  ran_lock : (i : ℕ) (x : T) → Ran living_guard i (sight_of false) (stride_of (Locked x)) (sight_of true)
+  ran_lock i x = record {
+    world = record { word = 0; holds = λ k. false; first = x; at = home x; history = [] };
+    meets = record { met = tt; stands = refl; later = goes_on_here []; quiet = refl };
+    stood = refl;
+    seen = refl;
+    did = record { can = search; read_is = refl; told_is = refl; leads = λ j. record { stands = sym (put_here (λ k. false) i true) j; seen = [] } };
+  }
 
-ran_unlock : (i : ℕ) → Ran living_guard i (sight_of true) (stride_of Unlocked) (sight_of false)
-ran_unlock i = record {
-  world = record { word = 1; holds = λ k. true; at = home; history = [] };
-  meets = record { met = tt; stands = refl; later = goes_on_here []; quiet = refl };
-  stood = refl;
-  seen = refl;
-  did = record { can = search; read_is = refl; told_is = refl; leads = λ j. record { stands = sym (put_here (λ k. true) i false) j; seen = [] } };
-}
+  ran_unlock : (i : ℕ) (x : T) → Ran living_guard i (sight_of true) (stride_of (Unlocked x)) (sight_of false)
+  ran_unlock i x = record {
+    world = record { word = 1; holds = λ k. true; first = x; at = home x; history = [] };
+    meets = record { met = tt; stands = refl; later = goes_on_here []; quiet = refl };
+    stood = refl;
+    seen = refl;
+    did = record { can = search; read_is = refl; told_is = refl; leads = λ j. record { stands = sym (put_here (λ k. true) i false) j; seen = [] } };
+  }
 
-went_lock : {T : Type 0} (u : Seated GuardKnown LockerCall) → u.knows.holds ≡ false → Went (guard_rows {T = T}) here runs u 0 (after u Locked true)
-went_lock u e = record {
-  stride = Locked;
-  ran = subst (λ (b : Bool). Ran living_guard u.number (sight_of b) (stride_of Locked) (sight_of true)) (sym e) (ran_lock u.number);
-  did = refl;
-  read = refl;
-  also = record { call_is = ap call_by (sym e); holds_is = ap turned (sym e) };
-  one = refl;
-  same = (refl, refl);
-}
+  turn_lock : (was : Option T) (x : T) → is_some was ≡ false → IsTurn was (Locked x) (Some x)
+  turn_lock None x free = refl
+  turn_lock (Some y) x free = absurd (cc)
 
-went_unlock : {T : Type 0} (u : Seated GuardKnown LockerCall) → u.knows.holds ≡ true → Went (guard_rows {T = T}) here runs u 1 (after u Unlocked false)
-went_unlock u e = record {
-  stride = Unlocked;
-  ran = subst (λ (b : Bool). Ran living_guard u.number (sight_of b) (stride_of Unlocked) (sight_of false)) (sym e) (ran_unlock u.number);
-  did = refl;
-  read = refl;
-  also = record { call_is = ap call_by (sym e); holds_is = ap turned (sym e) };
-  one = refl;
-  same = (refl, refl);
-}
+  turn_unlock : (was : Option T) (x : T) → is_some was ≡ true → IsTurn was (Unlocked x) None
+  turn_unlock None x held = absurd (cc)
+  turn_unlock (Some y) x held = refl
 
-module _ {T : Type 0} (seats : ℕ) (m : Me T) (s : GuardLife) (words : List ℕ) (homes : List (slot.Option T))
+  went_lock : (u : Seated (GuardKnown T) (GuardCall T)) (x : T) → is_some u.knows.holds ≡ false
+      → Went guard_rows here runs u 0 (after u (Locked x) (Some x))
+  went_lock u x free = record {
+    stride = Locked x;
+    ran = subst (λ (b : Bool). Ran living_guard u.number (sight_of b) (stride_of (Locked x)) (sight_of true)) (sym free) (ran_lock u.number x);
+    did = refl;
+    read = refl;
+    also = turn_lock u.knows.holds x free;
+    one = refl;
+    same = (refl, refl);
+  }
+
+  went_unlock : (u : Seated (GuardKnown T) (GuardCall T)) (x : T) → is_some u.knows.holds ≡ true
+      → Went guard_rows here runs u 1 (after u (Unlocked x) None)
+  went_unlock u x held = record {
+    stride = Unlocked x;
+    ran = subst (λ (b : Bool). Ran living_guard u.number (sight_of b) (stride_of (Unlocked x)) (sight_of false)) (sym held) (ran_unlock u.number x);
+    did = refl;
+    read = refl;
+    also = turn_unlock u.knows.holds x held;
+    one = refl;
+    same = (refl, refl);
+  }
+
+module _ {T : Type 0} (seats : ℕ) (m : Me T) (s : GuardLife T) (words : List ℕ) (homes : List (slot.Option T))
     (at : Stands guard_rows seats m.0.own s words homes 0) where
-  abbrev moment : LockerCall → SeatStride LockerCall
+  abbrev moment : GuardCall T → SeatStride (GuardCall T)
   moment call = record { seat = m.0.own.number; stride = call }
 
   -- the world after this call
-  abbrev next : LockerCall → ℕ → Place → GuardLife
+  abbrev next : GuardCall T → ℕ → Place T → GuardLife T
   next call word place = record s { word = word; at = place; history = s.history ++ moment call ∷ [] }
 
-  shows : (call : LockerCall) (word : ℕ) (place : Place) (out : List (slot.Option T)) → LiesAt place word out → InTurns s.at (moment call ∷ []) place
+  shows : (call : GuardCall T) (word : ℕ) (place : Place T) (out : List (slot.Option T)) → LiesAt place word out
+      → InTurns s.at (moment call ∷ []) place
       → ShowsGuard seats (next call word place) (slice_set words 0 word) out
   shows call word place out lies turn = record {
     word_is = get_or-set_same words 0 word 0 (let w = at.shows.wide in omega arith);
     wide = length-set words 0 word ∙ at.shows.wide;
     lies = lies;
-    in_turns = turns_more home s.at place s.history (moment call) at.shows.in_turns turn;
+    in_turns = turns_more (home s.first) s.at place s.history (moment call) at.shows.in_turns turn;
     there =
         λ a h. ⊎_elim (λ q. at.shows.there a q)
-        (λ q. subst (λ (b : SeatStride LockerCall). b.seat < seats) q at.there) (in_more a (moment call) s.history h);
+        (λ q. subst (λ (b : SeatStride (GuardCall T)). b.seat < seats) q at.there) (in_more a (moment call) s.history h);
   }
 
-  own_calls : (call : LockerCall) (word : ℕ) (place : Place) (holds : Bool) → holds ≡ holds_after false (call ∷ [])
+  own_calls : (call : GuardCall T) (word : ℕ) (place : Place T) (holds : Option T) → is_some holds ≡ holds_after false (call ∷ [])
       → HasCalled (after m.0.own call holds) (next call word place)
   own_calls call word place holds e = record {
     own = strides_here m.0.own.number s.history (moment call) refl ∙ ap (λ l. l ++ call ∷ []) at.knows.own;
     holds = e ∙ sym (holds_last false m.0.own.gone call);
   }
 
-  others : (call : LockerCall) (word : ℕ) (place : Place) (u : Seated GuardKnown LockerCall) → u.number ≢ m.0.own.number → HasCalled u s
+  others : (call : GuardCall T) (word : ℕ) (place : Place T) (u : Seated (GuardKnown T) (GuardCall T)) → u.number ≢ m.0.own.number → HasCalled u s
       → HasCalled u (next call word place)
   others call word place u ne o = record { own = strides_else u.number s.history (moment call) (λ q. ne (sym q)) ∙ o.own; holds = o.holds }
 
   -- the word is 0, and the lock is taken, with the value
-  takes_it : m.0.own.knows.holds ≡ false → s.at ≡ home → Leads guard_rows seats m s words homes 0 1 (Took guard_rows here m)
-  takes_it free is_home =
-      let lies : LiesAt home s.word homes = subst (λ (p : Place). LiesAt p s.word homes) is_home at.shows.lies in record {
-        next = next Locked 1 (lent m.0.own.number);
-        own = after m.0.own Locked true;
-        act = atomic.takes 0 lies.1.0;
-        valid = ap (λ (h : List (slot.Option T)). get_elem? h 0) lies.1.1;
-        shows = shows Locked 1 (lent m.0.own.number) (slice_set homes 0 slot.none) (refl, ap (λ (h : List (slot.Option T)). slice_set h 0 slot.none) lies.1.1)
-            (subst (λ (p : Place). InTurns p (moment Locked ∷ []) (lent m.0.own.number)) (sym is_home) (refl, refl));
+  takes_it : is_some m.0.own.knows.holds ≡ false → (x : T) → s.at ≡ home x → Leads guard_rows seats m s words homes 0 1 (Took guard_rows here m)
+  takes_it free x is_home =
+      let lies : LiesAt (home x) s.word homes = subst (λ (p : Place T). LiesAt p s.word homes) is_home at.shows.lies in record {
+        next = next (Locked x) 1 (lent m.0.own.number);
+        own = after m.0.own (Locked x) (Some x);
+        act = atomic.takes 0 x;
+        valid = ap (λ (h : List (slot.Option T)). get_elem? h 0) lies.1;
+        shows = shows (Locked x) 1 (lent m.0.own.number) (slice_set homes 0 slot.none)
+            (refl, ap (λ (h : List (slot.Option T)). slice_set h 0 slot.none) lies.1)
+            (subst (λ (p : Place T). InTurns p (moment (Locked x) ∷ []) (lent m.0.own.number)) (sym is_home) (refl, refl));
         same = refl;
         of_is = at.of_is;
-        knows = own_calls Locked 1 (lent m.0.own.number) true refl;
-        on = inr (Locked, refl, refl, refl);
-        others = λ u ne low o. others Locked 1 (lent m.0.own.number) u ne o;
-        tells = (went_lock {T = T} m.0.own free, (0, lies.1.0, refl, refl));
+        knows = own_calls (Locked x) 1 (lent m.0.own.number) (Some x) refl;
+        on = inr (Locked x, refl, refl, refl);
+        others = λ u ne low o. others (Locked x) 1 (lent m.0.own.number) u ne o;
+        tells = (went_lock m.0.own x free, (0, x, refl, (refl, refl)));
       }
 
   -- where the word is, by where the value is
-  free_is : slice_index words 0 ≡ 0 → s.at ≡ home
+  free_is : slice_index words 0 ≡ 0 → (x : T) × (s.at ≡ home x)
   free_is zero = by s.at at.shows.lies
     where
-      by : (p : Place) → LiesAt p s.word homes → p ≡ home
-      by home lies = refl
+      by : (p : Place T) → LiesAt p s.word homes → (x : T) × (p ≡ home x)
+      by (home x) lies = (x, refl)
       by (lent i) lies = let e = at.shows.word_is in let o : s.word ≡ 1 = lies.0 in absurd (omega arith)
 
   -- the seat holds the lock: the value is with it, and goes home
-  gives_it : m.0.own.knows.holds ≡ true → (y : T) → m.1 ≡ (0, y) ∷ []
+  gives_it : is_some m.0.own.knows.holds ≡ true → (y : T) → m.1 ≡ (0, y) ∷ []
       → Leads guard_rows seats m s words homes 0 0 (λ t. runs_unlock guard_rows (atomic.step 1 0 0 0 slot.none) m 0 t)
   gives_it holds y out =
-      let is_mine : s.at ≡ lent m.0.own.number = lent_to m.0.own.number s.at (sym (holds_is m.0.own.number home s.at s.history at.shows.in_turns)
+      let is_mine : s.at ≡ lent m.0.own.number = lent_to m.0.own.number s.at
+      (sym (holds_is m.0.own.number (home s.first) s.at s.history at.shows.in_turns)
       ∙ ap (holds_after false) at.knows.own ∙ sym at.knows.holds ∙ holds) in
-      let lies : LiesAt (lent m.0.own.number) s.word homes = subst (λ (p : Place). LiesAt p s.word homes) is_mine at.shows.lies in record {
-        next = next Unlocked 0 home;
-        own = after m.0.own Unlocked false;
+      let lies : LiesAt (lent m.0.own.number) s.word homes = subst (λ (p : Place T). LiesAt p s.word homes) is_mine at.shows.lies in record {
+        next = next (Unlocked y) 0 (home y);
+        own = after m.0.own (Unlocked y) None;
         act = atomic.gives;
         valid = tt;
-        shows = shows Unlocked 0 home (atomic.put_back homes m.1)
-            (refl, (y, (λ j. atomic.put_back (lies.1 j) (out j))))
-            (subst (λ (p : Place). InTurns p (moment Unlocked ∷ []) home) (sym is_mine) (refl, refl, refl));
+        shows = shows (Unlocked y) 0 (home y) (atomic.put_back homes m.1)
+            (refl, (λ j. atomic.put_back (lies.1 j) (out j)))
+            (subst (λ (p : Place T). InTurns p (moment (Unlocked y) ∷ []) (home y)) (sym is_mine) (y, refl, refl, refl));
         same = refl;
         of_is = at.of_is;
-        knows = own_calls Unlocked 0 home false refl;
-        on = inr (Unlocked, refl, refl, refl);
-        others = λ u ne low o. others Unlocked 0 home u ne o;
-        tells = (1, went_unlock {T = T} m.0.own holds, refl);
+        knows = own_calls (Unlocked y) 0 (home y) None refl;
+        on = inr (Unlocked y, refl, refl, refl);
+        others = λ u ne low o. others (Unlocked y) 0 (home y) u ne o;
+        tells = (1, went_unlock m.0.own y holds, subst (HasGiven (Unlocked y)) (sym out) refl, refl);
       }
 
 -- an exchange of 0 for 1 by a seat that doesn't hold the lock
-pub lock_owes : {T : Type 0} (seats slots : ℕ) (m : Me T) → m.0.own.knows.holds ≡ false
+pub lock_owes : {T : Type 0} (seats slots : ℕ) (m : Me T) → is_some m.0.own.knows.holds ≡ false
     → Owes guard_rows seats m 0 (λ n. either (n == 0) 1 n) (runs_lock guard_rows (λ st. here) (atomic.step slots 0 0 1 slot.none) m)
 lock_owes {T} seats slots m free s words homes at =
     let n : ℕ = slice_index words 0 in
     let told : Me T → Type 0 = λ t. (n ≢ 0 → t ≡ m) × (n ≡ 0 → Took guard_rows here m t) in
     exchanged n 0 1 (λ x. Leads guard_rows seats m s words homes 0 x told)
-    (λ zero. tells_more guard_rows seats m 0 s words homes 1 (Took guard_rows here m) told (λ t o. ((λ held. absurd (held zero)), (λ e. o)))
-    (takes_it seats m s words homes at free (free_is seats m s words homes at zero)))
+    (λ zero. let o = free_is seats m s words homes at zero in
+    tells_more guard_rows seats m 0 s words homes 1 (Took guard_rows here m) told (λ t o. ((λ held. absurd (held zero)), (λ e. o)))
+    (takes_it seats m s words homes at free o.0 o.1))
     (λ held. stays_so guard_rows seats m 0 s words homes told at ((λ e. refl), (λ zero. absurd (held zero))))
 
 -- a store of 0 by the seat that holds it
-pub unlock_owes : {T : Type 0} (seats slots : ℕ) (m : Me T) → m.0.own.knows.holds ≡ true → (y : T) → m.1 ≡ (0, y) ∷ []
+pub unlock_owes : {T : Type 0} (seats slots : ℕ) (m : Me T) → is_some m.0.own.knows.holds ≡ true → (y : T) → m.1 ≡ (0, y) ∷ []
     → Owes guard_rows seats m 0 (λ _. 0) (λ _. runs_unlock guard_rows (atomic.step slots 0 0 0 slot.none) m 0)
 unlock_owes seats slots m holds y out s words homes at = gives_it seats m s words homes at holds y out
 

@@ -1,4 +1,4 @@
--- No two seats have a guarded value at once.
+-- No two seats have a guarded value at once, and who locks takes what was given back last.
 use Rattle.std.proofs.Common.{◌≡◌, ℕ, ◌<◌, ◌≤◌, ◌==◌, if◌then◌else◌, Bool, true, false, List, []}
 use Rattle.std.proofs.Common.{◌∷◌, refl, sym, ap, ◌∙◌, subst, ⊎_elim, inl, inr, eq-eqb, lt_of_not-le}
 use mathlib.Core.Logic.{dite}
@@ -6,43 +6,43 @@ use native.Mathlib.Decide.{dec_le}
 use Rattle.running_rows.specs.declared.view.Seated.{Seated}
 use Rattle.running_rows.specs.History.{SeatStride, strides_of}
 use Rattle.running_rows.specs.Rule.{In, IsSeated, Sits, IsKept}
-use Rattle.sync_parts.specs.declared.locker_call.LockerCall.{LockerCall}
 use Rattle.sync_guarded.specs.declared.view.GuardKnown.{GuardKnown}
+use Rattle.sync_guarded.specs.declared.view.GuardCall.{GuardCall}
 use Rattle.sync_guarded.specs.Rule.{Place, home, lent, is_with, holds_after, LiesAt, guard_rows}
 use Rattle.sync_guarded.specs.Law.{WordState, IsSeatAt, IsOfASeat, TheGuard}
 use Rattle.sync_guarded.proofs.Turns.{holds_is, lent_to}
 
 -- a call in the history is one of those of its seat
-in_strides : (m : SeatStride LockerCall) (history : List (SeatStride LockerCall)) → In m history → In m.stride (strides_of m.seat history)
+in_strides : {T : Type 0} (m : SeatStride (GuardCall T)) (history : List (SeatStride (GuardCall T))) → In m history → In m.stride (strides_of m.seat history)
 in_strides m [] h = absurd h
-in_strides m (n ∷ history) h = by (in_strides m history) (n.seat == m.seat) refl h
+in_strides {T} m (n ∷ history) h = by (in_strides m history) (n.seat == m.seat) refl h
   where
     by : (In m history → In m.stride (strides_of m.seat history)) → (b : Bool) → (n.seat == m.seat) ≡ b → In m (n ∷ history)
         → In m.stride (if b then n.stride ∷ strides_of m.seat history else strides_of m.seat history)
-    by later true e (inl q) = inl (ap (λ (k : SeatStride LockerCall). k.stride) q)
+    by later true e (inl q) = inl (ap (λ (k : SeatStride (GuardCall T)). k.stride) q)
     by later true e (inr q) = inr (later q)
-    by later false e (inl q) = let yes = eq-eqb n.seat m.seat (ap (λ (k : SeatStride LockerCall). k.seat) q) in absurd (cc)
+    by later false e (inl q) = let yes = eq-eqb n.seat m.seat (ap (λ (k : SeatStride (GuardCall T)). k.seat) q) in absurd (cc)
     by later false e (inr q) = later q
 
-abbrev lent_is : Place → ℕ
-lent_is home = 0
+abbrev lent_is : {T : Type 0} → Place T → ℕ
+lent_is (home x) = 0
 lent_is (lent i) = i
 
 module _ {T : Type 0} (seats : ℕ) (s : WordState T) (r : IsKept guard_rows seats s) where
   -- a seat at this place sits there by the rule
-  sits : (place : ℕ) (u : Seated GuardKnown LockerCall) → IsSeatAt s place u → Sits (guard_rows {T = T}) seats r.world r.history r.spot r.made place u
+  sits : (place : ℕ) (u : Seated (GuardKnown T) (GuardCall T)) → IsSeatAt s place u → Sits (guard_rows {T = T}) seats r.world r.history r.spot r.made place u
   sits place u o = let all = r.views place o.view o.at o.someones in
-      ⊎_elim (λ e. subst (λ (w : Seated GuardKnown LockerCall). Sits (guard_rows {T = T}) seats r.world r.history r.spot r.made place w) e all.own)
+      ⊎_elim (λ e. subst (λ (w : Seated (GuardKnown T) (GuardCall T)). Sits (guard_rows {T = T}) seats r.world r.history r.spot r.made place w) e all.own)
       (λ g. all.guests u g) o.sits
 
   -- it holds the lock by its calls just where the value is with it
-  has_it : (place : ℕ) (u : Seated GuardKnown LockerCall) → IsSeatAt s place u → holds_after false u.gone ≡ is_with u.number r.world.at
-  has_it place u o = ap (holds_after false) (sym (sits place u o).knows.own) ∙ holds_is u.number home r.world.at r.world.history r.shows.in_turns
+  has_it : (place : ℕ) (u : Seated (GuardKnown T) (GuardCall T)) → IsSeatAt s place u → holds_after false u.gone ≡ is_with u.number r.world.at
+  has_it place u o = ap (holds_after false) (sym (sits place u o).knows.own) ∙ holds_is u.number (home r.world.first) r.world.at r.world.history r.shows.in_turns
 
   one_has_it : (i k : ℕ) → is_with i r.world.at ≡ true → is_with k r.world.at ≡ true → i ≡ k
   one_has_it i k e d = ap lent_is (sym (lent_to i r.world.at e) ∙ lent_to k r.world.at d)
 
-  module _ (m : SeatStride LockerCall) (h : In m r.world.history) where
+  module _ (m : SeatStride (GuardCall T)) (h : In m r.world.history) where
     made_it : In m.stride (strides_of m.seat r.world.history)
     made_it = in_strides m r.world.history h
 
@@ -53,7 +53,7 @@ module _ {T : Type 0} (seats : ℕ) (s : WordState T) (r : IsKept guard_rows sea
     seated : m.seat < r.made → IsOfASeat s m
     seated low =
         let o : IsSeated (guard_rows {T = T}) s.views (r.spot m.seat) m.seat = r.seated m.seat low in
-        let of : (u : Seated GuardKnown LockerCall) → IsSeatAt s (r.spot m.seat) u → u.number ≡ m.seat → IsOfASeat s m
+        let of : (u : Seated (GuardKnown T) (GuardCall T)) → IsSeatAt s (r.spot m.seat) u → u.number ≡ m.seat → IsOfASeat s m
         = λ u at e. record {
           place = r.spot m.seat;
           seat = u;
@@ -70,6 +70,7 @@ module _ {T : Type 0} (seats : ℕ) (s : WordState T) (r : IsKept guard_rows sea
 
 pub the_guard : {T : Type 0} → TheGuard {T = T} (IsKept guard_rows)
 the_guard seats s r = record {
+  first = r.world.first;
   at = r.world.at;
   history = r.world.history;
   in_turns = r.shows.in_turns;

@@ -12,8 +12,8 @@ use Rattle.sync_guarded.specs.Making.{new_seat}
 
 pub opens : {T : Type 0} (seats : ℕ) (x : T) → 0 < seats → Opens guard_rows seats (0 ∷ 0 ∷ []) (slot.some x ∷ [])
 opens seats x some_seats = record {
-  world = record { word = 0; holds = λ k. false; at = home; history = [] };
-  shows = record { word_is = refl; wide = refl; lies = (refl, (x, refl)); in_turns = refl; there = λ m h. absurd h };
+  world = record { word = 0; holds = λ k. false; first = x; at = home x; history = [] };
+  shows = record { word_is = refl; wide = refl; lies = (refl, refl); in_turns = refl; there = λ m h. absurd h };
   unwritten = refl;
   unmade = λ n low. record { own = refl; holds = refl };
   some_seats = some_seats;
@@ -25,26 +25,26 @@ range_more from zero = let e : from + 0 ≡ from = omega arith in ap (λ (k : �
 range_more from (suc n) = ap (λ l. from ∷ l) (ap (λ (k : ℕ). range_with_len (from + 1) n ++ k ∷ []) (omega arith) ∙ range_more (from + 1) n)
 
 -- the seats are of this value
-pub seats_own : (seats : ℕ) (g : GuardedModel) (made : List SeatModel)
+pub seats_own : {T : Type 0} (seats : ℕ) (g : GuardedModel) (made : List (SeatModel T))
     → made ≡ map (new_seat g) (range_with_len 0 seats) → All (λ s. s.guarded ≡ g) made
 seats_own seats g made is = subst (All (λ s. s.guarded ≡ g)) (sym is)
     (All-map (λ s. s.guarded ≡ g) (new_seat g) (range_with_len 0 seats) (λ i n low. refl))
 
 -- one seat more, after those from 1 on
-pub seats_more : (g : GuardedModel) (made : List SeatModel) (s : SeatModel) → made ≡ map (new_seat g) (range_with_len 1 (length made))
+pub seats_more : {T : Type 0} (g : GuardedModel) (made : List (SeatModel T)) (s : SeatModel T) → made ≡ map (new_seat g) (range_with_len 1 (length made))
     → s ≡ new_seat g (length made + 1) → made ++ s ∷ [] ≡ map (new_seat g) (range_with_len 1 (length (made ++ s ∷ [])))
-seats_more g made s are is = let n : ℕ = length made in let before = range_with_len 1 n in
+seats_more {T} g made s are is = let n : ℕ = length made in let before = range_with_len 1 n in
     let next : n + 1 ≡ 1 + n = omega arith in let longer : suc n ≡ length (made ++ s ∷ []) = let l = length-append made (s ∷ []) in omega arith in
-    ap (λ (l : List SeatModel). l ++ s ∷ []) are
-    ∙ ap (λ (x : SeatModel). map (new_seat g) before ++ x ∷ []) is
+    ap (λ (l : List (SeatModel T)). l ++ s ∷ []) are
+    ∙ ap (λ (x : SeatModel T). map (new_seat g) before ++ x ∷ []) is
     ∙ sym (map-append (new_seat g) before ((n + 1) ∷ []))
     ∙ ap (λ (k : ℕ). map (new_seat g) (before ++ k ∷ [])) next
     ∙ ap (map (new_seat g)) (range_more 1 n)
     ∙ ap (λ (k : ℕ). map (new_seat g) (range_with_len 1 k)) longer
 
 -- and the seat 0 before them
-pub seats_all : (g : GuardedModel) (seats : ℕ) (made : List SeatModel) (s : SeatModel) → made ≡ map (new_seat g) (range_with_len 1 (length made))
+pub seats_all : {T : Type 0} (g : GuardedModel) (seats : ℕ) (made : List (SeatModel T)) (s : SeatModel T) → made ≡ map (new_seat g) (range_with_len 1 (length made))
     → s ≡ new_seat g 0 → length made + 1 ≡ seats → s ∷ made ≡ map (new_seat g) (range_with_len 0 seats)
-seats_all g seats made s are is count = let all : suc (length made) ≡ seats = omega arith in
-    ap (λ (x : SeatModel). x ∷ made) is ∙ ap (λ (l : List SeatModel). new_seat g 0 ∷ l) are
+seats_all {T} g seats made s are is count = let all : suc (length made) ≡ seats = omega arith in
+    ap (λ (x : SeatModel T). x ∷ made) is ∙ ap (λ (l : List (SeatModel T)). new_seat g 0 ∷ l) are
     ∙ ap (λ (k : ℕ). map (new_seat g) (range_with_len 0 k)) all

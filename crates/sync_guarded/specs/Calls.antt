@@ -1,27 +1,36 @@
 -- What the calls of a guard promise.
 use Rattle.std.specs.Prelude.{◌≡◌, Some, None, List, [], ◌∷◌, ◌++◌}
 use Rattle.sync_parts.specs.declared.locker_call.LockerCall.{LockerCall}
-use Rattle.sync_parts.specs.declared.locker_call.LockerCall.TheVariants.{Locked, Unlocked}
+use Rattle.sync_parts.specs.declared.locker_call.LockerCall.TheVariants as locker
+use Rattle.sync_guarded.specs.declared.view.GuardCall.{GuardCall}
+use Rattle.sync_guarded.specs.declared.view.GuardCall.TheVariants.{Locked, Unlocked}
 use Rattle.sync_guarded.specs.Seats.{SeatModel, GuardModel}
 
--- the seat after these calls
-abbrev pub having_called : SeatModel → List LockerCall → SeatModel
-having_called s calls = record s { calls = s.calls ++ calls }
-
--- a guard that holds nothing
-abbrev pub new_guard : {T : Type 0} → SeatModel → GuardModel T
-new_guard s = record { seat = s; lent = None }
-
 module _ {T : Type 0} where
-  -- it locked, and the value is lent to it
+  -- a call without its value, as a locker has it
+  abbrev pub kind_of : GuardCall T → LockerCall
+  kind_of (Locked x) = locker.Locked
+  kind_of (Unlocked x) = locker.Unlocked
+
+  -- the seat after these calls
+  abbrev pub having_called : SeatModel T → List (GuardCall T) → SeatModel T
+  having_called s calls = record s { calls = s.calls ++ calls }
+
+  -- a guard that holds nothing
+  abbrev pub new_guard : SeatModel T → GuardModel T
+  new_guard s = record { seat = s; lent = None }
+
+  -- it locked, and took a value, which is lent to it
   pub record HasLocked (g h : GuardModel T) : Type 0 where
-    pub seat : h.seat ≡ having_called g.seat (Locked ∷ [])
     pub value : T
+    pub seat : h.seat ≡ having_called g.seat (Locked value ∷ [])
     pub lent : h.lent ≡ Some value
 
-  -- it unlocked, and the value went home as it was
+  -- it unlocked, and gave back the value that was lent to it
   pub record HasUnlocked (g h : GuardModel T) : Type 0 where
-    pub seat : h.seat ≡ having_called g.seat (Unlocked ∷ [])
+    pub value : T
+    pub held : g.lent ≡ Some value
+    pub seat : h.seat ≡ having_called g.seat (Unlocked value ∷ [])
     pub lent : h.lent ≡ None
 
   -- the value that it holds was lent for the length of one call, which answered so: nothing else has changed
@@ -33,11 +42,11 @@ module _ {T : Type 0} where
     pub ran_so : ran was answer now
     pub after : h ≡ record g { lent = Some now }
 
-  -- it locked, the value was lent for the length of one call, and it unlocked
+  -- it locked, the value that it took was lent for the length of one call, and it gave back what that left
   pub record HasHeld {A : Type 0} (ran : T → A → T → Type 0) (g : GuardModel T) (answer : A)
       (h : GuardModel T) : Type 0 where
-    pub seat : h.seat ≡ having_called g.seat (Locked ∷ Unlocked ∷ [])
     pub was : T
     pub now : T
+    pub seat : h.seat ≡ having_called g.seat (Locked was ∷ Unlocked now ∷ [])
     pub ran_so : ran was answer now
     pub lent : h.lent ≡ None

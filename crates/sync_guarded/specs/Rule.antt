@@ -1,7 +1,8 @@
 -- The rule of a guarded value: it is at home where its lock is free, and with the seat that holds the lock
--- where it isn't. There is one history of what was locked and unlocked, in turn, and each seat has made its
--- own calls of it.
-use Rattle.std.specs.Prelude.{◌≡◌, ℕ, ◌<◌, ◌==◌, Bool, true, false, refl, List, [], ◌∷◌, length, slice_index}
+-- where it isn't. There is one history of what was locked and unlocked, in turn: who locks takes the value
+-- that was given back last. Each seat has made its own calls of it.
+use Rattle.std.specs.Prelude.{◌≡◌, ℕ, ◌<◌, ◌==◌, Bool, true, false, Option, Some, None, refl}
+use Rattle.std.specs.Prelude.{List, [], ◌∷◌, length, slice_index}
 use mathlib.Core.Option as slot
 use Rattle.running_rows.specs.Words as words
 use Rattle.running_rows.specs.declared.view.Seated.{Seated}
@@ -11,50 +12,58 @@ use Rattle.running_rows.specs.Rule.{In}
 use Rattle.step_table.specs.EventOf.{EventOf, take_lock, give_lock}
 use Rattle.step_table.specs.Path.{Watched, Sight, Stride, ran_at}
 use Rattle.step_table.specs.World.{put}
-use Rattle.sync_parts.specs.declared.locker_call.LockerCall.{LockerCall}
-use Rattle.sync_parts.specs.declared.locker_call.LockerCall.TheVariants.{Locked, Unlocked}
 use Rattle.sync_guarded.specs.declared.view.GuardKnown.{GuardKnown}
+use Rattle.sync_guarded.specs.declared.view.GuardCall.{GuardCall}
+use Rattle.sync_guarded.specs.declared.view.GuardCall.TheVariants.{Locked, Unlocked}
 
--- where the value is: at home, or with the seat of this number
-pub data Place : Type 0 where
-  home : Place
-  lent : ℕ → Place
+-- where the value is: at home, where it is this one, or with the seat of this number
+pub data Place (T : Type 0) : Type 0 where
+  home : T → Place T
+  lent : ℕ → Place T
 
--- it is locked where it is at home, and unlocked by the seat that it was lent to
-abbrev pub InTurns : Place → List (SeatStride LockerCall) → Place → Type 0
+-- it is locked where the value is at home, which is taken as it is there, and unlocked by the seat that it
+-- was lent to, with whatever that gives back
+abbrev pub InTurns : {T : Type 0} → Place T → List (SeatStride (GuardCall T)) → Place T → Type 0
 InTurns at [] last = last ≡ at
-InTurns home (m ∷ history) last = (m.stride ≡ Locked) × InTurns (lent m.seat) history last
-InTurns (lent i) (m ∷ history) last = (m.stride ≡ Unlocked) × (m.seat ≡ i) × InTurns home history last
+InTurns (home x) (m ∷ history) last = (m.stride ≡ Locked x) × InTurns (lent m.seat) history last
+InTurns {T} (lent i) (m ∷ history) last =
+    (y : T) × (m.stride ≡ Unlocked y) × (m.seat ≡ i) × InTurns (home y) history last
 
 -- whether it is with the seat i
-abbrev pub is_with : ℕ → Place → Bool
-is_with i home = false
+abbrev pub is_with : {T : Type 0} → ℕ → Place T → Bool
+is_with i (home x) = false
 is_with i (lent j) = j == i
 
+abbrev pub is_some : {T : Type 0} → Option T → Bool
+is_some None = false
+is_some (Some x) = true
+
 -- whether a seat holds the lock that held it so and then made these calls
-abbrev pub holds_after : Bool → List LockerCall → Bool
+abbrev pub holds_after : {T : Type 0} → Bool → List (GuardCall T) → Bool
 holds_after holds [] = holds
-holds_after holds (Locked ∷ calls) = holds_after true calls
-holds_after holds (Unlocked ∷ calls) = holds_after false calls
+holds_after holds (Locked x ∷ calls) = holds_after true calls
+holds_after holds (Unlocked x ∷ calls) = holds_after false calls
 
 -- the lock's word is 0 and the value lies in its slot; or the word is 1, and the value is out
-abbrev pub LiesAt : {T : Type 0} → Place → ℕ → List (slot.Option T) → Type 0
-LiesAt {T} home word homes = (word ≡ 0) × ((x : T) × (homes ≡ slot.some x ∷ []))
+abbrev pub LiesAt : {T : Type 0} → Place T → ℕ → List (slot.Option T) → Type 0
+LiesAt (home x) word homes = (word ≡ 0) × (homes ≡ slot.some x ∷ [])
 LiesAt (lent i) word homes = (word ≡ 1) × (homes ≡ slot.none ∷ [])
 
--- the lock's word, which seats hold the lock, where the value is, and all that was locked and unlocked
-pub record GuardLife : Type 0 where
+-- the lock's word, which seats hold the lock, the first value, where the value is, and all that was locked
+-- and unlocked
+pub record GuardLife (T : Type 0) : Type 0 where
   pub word : ℕ
   pub holds : ℕ → Bool
-  pub at : Place
-  pub history : List (SeatStride LockerCall)
+  pub first : T
+  pub at : Place T
+  pub history : List (SeatStride (GuardCall T))
 
 -- what a seat does next: who holds the lock unlocks
 abbrev pub next_event : Bool → EventOf (Unit {0}) ℕ Bool
 next_event false = take_lock tt true
 next_event true = give_lock tt false
 
-abbrev pub living_guard : Watched GuardLife (Unit {0}) ℕ Bool Bool ⊥
+abbrev pub living_guard : {T : Type 0} → Watched (GuardLife T) (Unit {0}) ℕ Bool Bool ⊥
 living_guard = record {
   rules = record {
     event_of = λ s i. next_event (s.holds i);
@@ -69,47 +78,48 @@ living_guard = record {
 
 -- words and slot are as the world has them, which its history led to, and all its calls are those of seats
 -- that are there
-pub record ShowsGuard {T : Type 0} (seats : ℕ) (s : GuardLife) (words : List ℕ)
+pub record ShowsGuard {T : Type 0} (seats : ℕ) (s : GuardLife T) (words : List ℕ)
     (homes : List (slot.Option T)) : Type 0 where
   pub word_is : slice_index words 0 ≡ s.word
   pub wide : length words ≡ 2
   pub lies : LiesAt s.at s.word homes
-  pub in_turns : InTurns home s.history s.at
-  pub there : (m : SeatStride LockerCall) → In m s.history → m.seat < seats
+  pub in_turns : InTurns (home s.first) s.history s.at
+  pub there : (m : SeatStride (GuardCall T)) → In m s.history → m.seat < seats
 
 -- the seat's calls are those that it has made, and it holds the lock where the last of them locked
-pub record HasCalled (u : Seated GuardKnown LockerCall) (s : GuardLife) : Type 0 where
+pub record HasCalled {T : Type 0} (u : Seated (GuardKnown T) (GuardCall T)) (s : GuardLife T)
+    : Type 0 where
   pub own : strides_of u.number s.history ≡ u.gone
-  pub holds : u.knows.holds ≡ holds_after false u.gone
+  pub holds : is_some u.knows.holds ≡ holds_after false u.gone
 
--- the call that a seat makes next, and whether it holds the lock then
-abbrev pub call_by : Bool → LockerCall
-call_by false = Locked
-call_by true = Unlocked
+-- a seat that held this makes this call, and holds that then: who holds nothing locks, and holds what it took
+abbrev pub IsTurn : {T : Type 0} → Option T → GuardCall T → Option T → Type 0
+IsTurn None (Locked x) then = then ≡ Some x
+IsTurn None (Unlocked x) then = ⊥
+IsTurn (Some was) (Locked x) then = ⊥
+IsTurn (Some was) (Unlocked x) then = then ≡ None
 
-abbrev pub turned : Bool → Bool
-turned false = true
-turned true = false
+-- the call unlocked, and gave back the value of the first of these slots
+abbrev pub HasGiven : {T : Type 0} → GuardCall T → List (ℕ × T) → Type 0
+HasGiven (Locked x) slots = ⊥
+HasGiven (Unlocked x) [] = ⊥
+HasGiven (Unlocked x) (taken ∷ slots) = taken ≡ (0, x)
 
-pub record LedOn (v : GuardKnown) (call : LockerCall) (w : GuardKnown) : Type 0 where
-  pub call_is : call ≡ call_by v.holds
-  pub holds_is : w.holds ≡ turned v.holds
-
-abbrev pub idle : ℕ → GuardKnown
-idle seats = record { seats = seats; holds = false }
+abbrev pub idle : {T : Type 0} → ℕ → GuardKnown T
+idle seats = record { seats = seats; holds = None }
 
 abbrev pub sight_of : Bool → Sight Bool ⊥
 sight_of holds = record { stands = holds; seen = [] }
 
 -- a call as a stride of the step table: who locks finds 0, and who unlocks 1
-abbrev pub stride_of : LockerCall → Stride (Unit {0}) ℕ Bool ⊥
-stride_of Locked = ran_at false 0 [] []
-stride_of Unlocked = ran_at true 1 [] []
+abbrev pub stride_of : {T : Type 0} → GuardCall T → Stride (Unit {0}) ℕ Bool ⊥
+stride_of (Locked x) = ran_at false 0 [] []
+stride_of (Unlocked x) = ran_at true 1 [] []
 
-abbrev pub guard_rows : {T : Type 0} → Family T GuardKnown LockerCall ℕ
-guard_rows = record {
+abbrev pub guard_rows : {T : Type 0} → Family T (GuardKnown T) (GuardCall T) ℕ
+guard_rows {T} = record {
   Key = ℕ;
-  World = GuardLife;
+  World = GuardLife T;
   Word = Unit {0};
   Value = ℕ;
   Next = Bool;
@@ -119,7 +129,7 @@ guard_rows = record {
   seats = λ seats. seats;
   of = λ v. v.seats;
   watched = λ seats. living_guard;
-  sight = λ v. sight_of v.holds;
+  sight = λ v. sight_of (is_some v.holds);
   stride = stride_of;
   value = λ n. n;
   word_at = λ seats i. tt;
@@ -127,13 +137,14 @@ guard_rows = record {
   nobody = idle 0;
   Shows = ShowsGuard;
   Knows = λ seats. HasCalled;
-  IsHeld = λ v slot y. slot ≡ 0;
-  Also = λ s i. LedOn;
+  IsHeld = λ v slot y. (slot ≡ 0) × (v.holds ≡ Some y);
+  Also = λ s i v call w. IsTurn v.holds call w.holds;
   HasStored = λ seats call i x. ⊥;
+  HasGiven = HasGiven;
   fresh_is = λ seats. refl;
   nobody_is = refl;
 }
 
 -- a seat's token, as the crate below has it
 abbrev pub Token : Type 0 → Type 0
-Token T = words.Token T GuardKnown LockerCall
+Token T = words.Token T (GuardKnown T) (GuardCall T)

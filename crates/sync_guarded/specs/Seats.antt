@@ -1,8 +1,8 @@
 -- What a caller sees of a guarded value, of its seats, and of a guard.
 use Rattle.std.specs.Prelude.{◌≡◌, ℕ, ◌<◌, Bool, true, false, Option, Some, None, List, [], ◌∷◌}
 use Rattle.running_rows.specs.Seated.{TableId}
-use Rattle.sync_parts.specs.declared.locker_call.LockerCall.{LockerCall}
-use Rattle.sync_guarded.specs.Rule.{Token}
+use Rattle.sync_guarded.specs.declared.view.GuardCall.{GuardCall}
+use Rattle.sync_guarded.specs.Rule.{Token, is_some}
 
 -- a guarded value: its words, and how many seats it has
 pub record GuardedModel : Type 0 where
@@ -15,27 +15,23 @@ pub record IsLaid (id : TableId) (seats : ℕ) : Type 0 where
   pub slots : id.slots ≡ 1
   pub some : 0 < seats
 
--- a seat of a guarded value: its number, and all that it has locked and unlocked
-pub record SeatModel : Type 0 where
+-- a seat of a guarded value: its number, and all that it has locked and unlocked, with the value of each call
+pub record SeatModel (T : Type 0) : Type 0 where
   pub guarded : GuardedModel
   pub number : ℕ
-  pub calls : List LockerCall
+  pub calls : List (GuardCall T)
 
 -- a guard: its seat, and the value that is lent to it while it holds the lock
 pub record GuardModel (T : Type 0) : Type 0 where
-  pub seat : SeatModel
+  pub seat : SeatModel T
   pub lent : Option T
 
 module _ {T : Type 0} where
-  abbrev pub is_some : Option T → Bool
-  is_some None = false
-  is_some (Some x) = true
-
   -- it holds the lock
   abbrev pub is_held : GuardModel T → Bool
   is_held g = is_some g.lent
 
-  abbrev pub seat_of : Token T → SeatModel
+  abbrev pub seat_of : Token T → SeatModel T
   seat_of t = record {
     guarded = record { id = t.table_id; seats = t.me.0.own.knows.seats };
     number = t.me.0.own.number;
@@ -52,7 +48,7 @@ module _ {T : Type 0} where
   -- a seat of a guarded value, which holds nothing
   pub record IsSeat (t : Token T) : Type 0 where
     pub some : 0 < t.me.0.own.knows.seats
-    pub free : t.me.0.own.knows.holds ≡ false
+    pub free : is_some t.me.0.own.knows.holds ≡ false
     pub bare : t.me.1 ≡ []
 
   -- just the value of the slot is with the seat where it holds the lock, and else nothing
@@ -64,5 +60,5 @@ module _ {T : Type 0} where
   pub record IsGuard (g : GuardedModel) (t : Token T) (held : Bool) : Type 0 where
     pub own : (seat_of t).guarded ≡ g
     pub some : 0 < t.me.0.own.knows.seats
-    pub holds : t.me.0.own.knows.holds ≡ held
+    pub holds : is_some t.me.0.own.knows.holds ≡ held
     pub out : IsOut held t.me.1

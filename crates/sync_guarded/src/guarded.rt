@@ -1,10 +1,9 @@
 //! A guarded value, and a seat of it.
 
 use crate::rows::{GuardRows, GuardToken};
-use crate::view::GuardKnown;
+use crate::view::{GuardCall, GuardKnown};
 use running_rows::{OneWorld, Running, View};
 use std::marker::Model;
-use sync_parts::LockerCall;
 
 /// Where the lock's word lies.
 pub(crate) const LOCK: usize = 0;
@@ -17,7 +16,7 @@ pub(crate) const VALUE: usize = 0;
 /// step. Threads share it by reference, or in an `Arc`.
 #[derive(Drop)]
 pub struct Guarded<T> {
-    pub(crate) words: Running<T, View<GuardKnown, LockerCall>, u32, OneWorld<GuardRows>>,
+    pub(crate) words: Running<T, View<GuardKnown<T>, GuardCall<T>>, u32, OneWorld<GuardRows>>,
 }
 
 /// A seat of a guarded value, for one guard at a time.
@@ -39,7 +38,7 @@ impl<T> Model for Guarded<T> {
 impl<T> Model for GuardSeat<T> {
     ghost use Rattle.sync_guarded.specs.Seats.{SeatModel, seat_of, IsSeat};
 
-    ghost Value = { SeatModel };
+    ghost Value = { SeatModel T };
 
     ghost view = { λ s. seat_of s.token };
 

@@ -1,9 +1,8 @@
 //! The calls of a guarded value as rows.
 ghost use Rattle.sync_guarded.specs.Rule.{guard_rows};
 
-use crate::view::GuardKnown;
+use crate::view::{GuardCall, GuardKnown};
 use running_rows::Rows;
-use sync_parts::LockerCall;
 
 /// The rows of a guarded value, which was made with how many seats there are: who locks takes the value out
 /// of its slot by the step that takes the lock, and who unlocks puts it back by the step that gives the lock
@@ -11,8 +10,8 @@ use sync_parts::LockerCall;
 pub struct GuardRows;
 
 /// A seat of the words. The slot has the value.
-pub type GuardToken<T> = running_rows::Token<T, GuardKnown, LockerCall>;
+pub type GuardToken<T> = running_rows::Token<T, GuardKnown<T>, GuardCall<T>>;
 
-impl<T> Rows<T, GuardKnown, LockerCall, u32> for GuardRows {
+impl<T> Rows<T, GuardKnown<T>, GuardCall<T>, u32> for GuardRows {
     ghost family = { guard_rows };
 }

@@ -112,6 +112,7 @@ group_rows = record {
   IsHeld = λ v slot y. ⊥;
   Also = λ s i. LedOn;
   HasStored = λ seats p i x. ⊥;
+  HasGiven = λ p slots. ⊥;
   fresh_is = λ seats. refl;
   nobody_is = refl;
 }

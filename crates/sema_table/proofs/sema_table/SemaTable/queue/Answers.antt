@@ -18,11 +18,12 @@ use Rattle.sema_table.proofs.Owned.{word_in, someones}
 use Rattle.sema_table.proofs.Striding.{slots_are}
 use Rattle.sema_table.proofs.Leading.{led}
 use Rattle.sema_table.proofs.Walking.{walked_row, ran_from}
-use Rattle.running_rows.specs.Table.{rest}
+use Rattle.running_rows.specs.Table.{step, rest}
 use Rattle.waiters.specs.declared.wait.WaitId.{WaitId}
+use mathlib.Core.Option.{none}
 use Rattle.step_table.specs.World.{put, insert_wait}
 use Rattle.sema_root.specs.Treap.{Treap}
-use Rattle.running_rows.specs.Strides.{Changed, here}
+use Rattle.running_rows.specs.Strides.{runs_unlock, here}
 use Rattle.running_rows.specs.Owing.{Owes}
 use Rattle.running_rows.specs.Rule.{IsSomeones}
 use Rattle.sema_table.specs.Rule.{lists_by, IsRecord, setting_of}
@@ -57,7 +58,7 @@ return_lock-requires c =
         (
           omega arith,
           subst (λ (x : Me). Owes semaphore_rows key x c.lock_word-word.result (λ _. 0)
-              (λ _ u. (n : ℕ) × Ran here x.0.own n u.0.own × Changed semaphore_rows x (rest x.1) u)) (sym E.1.1)
+              (λ _ u. runs_unlock semaphore_rows (step 0 0 0 0 none) x 0 u)) (sym E.1.1)
               (owes_give key c.lock_word-word.result m (Acquiring a A7) r.place_is (let b = r.limited in omega arith) q 0 refl
               (λ b n known. record {
                 fits = record { word = word; there = tt; can = refl; becomes = refl };
@@ -82,7 +83,7 @@ returns c =
     row g (c.return_lock.ensures.own ∙ E.0) in
     record {
       walked = subst (λ w. Walked s (Acquiring a A7) u (parked s a) (Queue a.counter w a.lifo ∷ []) 0) (sym c.requires.wait) x;
-      bare = slots_are X.2 ∙ ap (λ (x : Me). rest x.1) is;
+      bare = slots_are X.3 ∙ ap (λ (x : Me). rest x.1) is;
       last = subst (λ w. IsLast u (Queue a.counter w a.lifo)) (sym c.requires.wait) (
         row.stride.seen,
         stride_told (semaphores (layout z)) s.me.0.own.number (sight_by (begin (Acquiring a A7) v)) (sight_by u.me.0.own.knows)

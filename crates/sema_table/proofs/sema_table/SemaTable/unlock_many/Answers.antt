@@ -49,7 +49,7 @@ returns-clause-walked c =
     walked_row s u (ReleasingMany a M6) n (to_grant a s.me.0.own.knows.hand, Nothing) row g c.return_lock.ensures.own
 
 pub returns-clause-bare : goal.returns-clause-bare
-returns-clause-bare c = slots_are c.return_lock.ensures.went.2 ∙ ap rest c.requires.1.1
+returns-clause-bare c = slots_are c.return_lock.ensures.went.3 ∙ ap rest c.requires.1.1
 
 pub returns-clause-there : goal.returns-clause-there
 returns-clause-there c =

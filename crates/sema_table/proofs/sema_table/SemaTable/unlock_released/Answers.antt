@@ -44,4 +44,4 @@ returns c =
     let X = c.return_lock.ensures.went in let n : ℕ = X.0 in
     let row = ran_from s u (Releasing a R6) n r.place_is X.1 in
     let g = led s.me.0.own u.me.0.own (Releasing a R6) n row in
-    (walked_row s u (Releasing a R6) n (unlocked s a, Nothing) row g c.return_lock.ensures.own, slots_are X.2 ∙ ap rest c.requires.1.1)
+    (walked_row s u (Releasing a R6) n (unlocked s a, Nothing) row g c.return_lock.ensures.own, slots_are X.3 ∙ ap rest c.requires.1.1)

@@ -1,6 +1,7 @@
 use Rattle.std.proofs.Common.{◌≡◌, ℕ, ◌+◌, ◌<◌, List, [], length, map, sym, ap, ◌∙◌, subst, rules, arith, length-append}
 use Rattle.std.specs.List.{range_with_len}
 use Rattle.running_rows.specs.Rule.{making}
+use Rattle.sync_guarded.specs.Rule.{is_some}
 use Rattle.sync_guarded.specs.Seats.{SeatModel, seat_of}
 use Rattle.sync_guarded.specs.Making.{has_made, new_seat}
 use Rattle.sync_guarded.proofs.Keeping.{Me}
@@ -30,7 +31,7 @@ loop-number-preserved g c =
       makes = c.next_seat-seat.ensures.first.1 ∙ ap (λ (m : Me g.row.T.Denot). (making m.0, m.1)) i.makes
           ∙ ap (λ (n : ℕ). (has_made c.args.seats (n + 1), [])) (sym longer);
       seated = items ∙ seats_more self made seat i.seated seat_is
-          ∙ ap (λ (l : List SeatModel). map (new_seat self) (range_with_len 1 (length l))) (sym items);
+          ∙ ap (λ (l : List (SeatModel g.row.T.Denot)). map (new_seat self) (range_with_len 1 (length l))) (sym items);
       count = omega arith;
       room = search rules;
       upto = omega arith;
@@ -39,7 +40,7 @@ loop-number-preserved g c =
 pub invariant_of-insert : goal.invariant_of-insert
 invariant_of-insert g c = let makes = c.loop-number.invariant.makes in record {
   some = subst (λ (m : Me g.row.T.Denot). 0 < m.0.own.knows.seats) (sym makes) c.requires.seats.1;
-  free = ap (λ (m : Me g.row.T.Denot). m.0.own.knows.holds) makes;
+  free = ap (λ (m : Me g.row.T.Denot). is_some m.0.own.knows.holds) makes;
   bare = ap (λ (m : Me g.row.T.Denot). m.1) makes;
 }
 

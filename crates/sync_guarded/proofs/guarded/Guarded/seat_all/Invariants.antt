@@ -8,7 +8,7 @@ abbrev pub invariant-loop-number : goal.invariant-loop-number
 invariant-loop-number g l = record {
   first : l.first.table_id ≡ l.self.id;
   makes : l.first.me ≡ (has_made l.fn.seats (length l.made.items + 1), []);
-  seated : ◌≡◌ {A = List SeatModel} l.made.items (map (new_seat l.self) (range_with_len 1 (length l.made.items)));
+  seated : ◌≡◌ {A = List (SeatModel g.row.T.Denot)} l.made.items (map (new_seat l.self) (range_with_len 1 (length l.made.items)));
   count : length l.made.items + 1 ≡ l._number;
   room : l.fn.seats ≤ l.made.cap;
   upto : l._number ≤ l.fn.seats;
