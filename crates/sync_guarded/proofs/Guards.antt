@@ -1,15 +1,21 @@
 -- What a token is after each step of a guarded value.
-use Rattle.std.proofs.Common.{◌≡◌, ◌<◌, true, false, Option, Some, [], ◌∷◌, ◌++◌, sym, ap, ◌∙◌, subst}
+use Rattle.std.proofs.Common.{◌≡◌, ◌<◌, true, false, Some, [], ◌∷◌, ◌++◌, map, sym, ap, ◌∙◌, subst}
+use Rattle.std.proofs.lemmas.List.{map-append}
 use Rattle.running_rows.specs.Strides.{Took, here, runs_unlock}
 use Rattle.running_rows.specs.Table as atomic
 use mathlib.Core.Option as slot
 use Rattle.sync_guarded.specs.declared.view.GuardCall.{GuardCall}
-use Rattle.sync_guarded.specs.declared.view.GuardCall.TheVariants.{Locked, Unlocked}
 use Rattle.sync_guarded.specs.Rule.{Token, is_some, guard_rows}
+use Rattle.sync_guarded.specs.Rule as rule
 use Rattle.sync_guarded.specs.Seats.{GuardedModel, SeatModel, seat_of, lent_of, guard_of, IsGuard}
 use Rattle.sync_guarded.specs.Calls.{having_called, HasLocked, HasUnlocked}
-use Rattle.sync_guarded.proofs.Turns.{turn_locked, turn_holds, given_is}
+use Rattle.sync_guarded.proofs.Turns.{turn_locked, turn_unlocked, given_is}
 use Rattle.sync_guarded.proofs.Keeping.{Me}
+
+-- as a locker has its calls, there is this one more
+pub calls_more : {T : Type 0} (s t : SeatModel T) (c : GuardCall T) → t ≡ having_called s (c ∷ [])
+    → map (λ (d : GuardCall T). d.call) t.calls ≡ map (λ (d : GuardCall T). d.call) s.calls ++ c.call ∷ []
+calls_more {T} s t c is = ap (λ (u : SeatModel T). map (λ (d : GuardCall T). d.call) u.calls) is ∙ map-append (λ (d : GuardCall T). d.call) s.calls (c ∷ [])
 
 module _ {T : Type 0} (g : GuardedModel) (s t : Token T) where
   -- the token of a seat that made this call
@@ -30,7 +36,7 @@ module _ {T : Type 0} (g : GuardedModel) (s t : Token T) where
     holds_it : t.me.0.own.knows.holds ≡ Some taken
     holds_it = took.1.3.1
 
-    call_is : took.0.stride ≡ Locked taken
+    call_is : took.0.stride ≡ rule.locked taken
     call_is = turn_locked s.me.0.own.knows.holds took.0.stride t.me.0.own.knows.holds taken is.holds took.0.also holds_it
 
     out_is : t.me.1 ≡ (0, taken) ∷ []
@@ -39,7 +45,7 @@ module _ {T : Type 0} (g : GuardedModel) (s t : Token T) where
     pub locked : HasLocked (guard_of s) (guard_of t)
     locked = record {
       value = taken;
-      seat = seat_after (Locked taken) table took.0.same.0 took.0.same.1 (took.0.one ∙ ap (λ c. s.me.0.own.gone ++ c ∷ []) call_is);
+      seat = seat_after (rule.locked taken) table took.0.same.0 took.0.same.1 (took.0.one ∙ ap (λ c. s.me.0.own.gone ++ c ∷ []) call_is);
       lent = ap lent_of out_is;
     }
 
@@ -57,7 +63,7 @@ module _ {T : Type 0} (g : GuardedModel) (s t : Token T) where
     abbrev given : T
     given = is.out.0
 
-    unlock_is : gave.1.stride ≡ Unlocked given
+    unlock_is : gave.1.stride ≡ rule.unlocked given
     unlock_is = given_is gave.1.stride s.me.1 given gave.2 is.out.1
 
     home_is : t.me.1 ≡ []
@@ -67,7 +73,7 @@ module _ {T : Type 0} (g : GuardedModel) (s t : Token T) where
     unlocked = record {
       value = given;
       held = ap lent_of is.out.1;
-      seat = seat_after (Unlocked given) table gave.1.same.0 gave.1.same.1 (gave.1.one ∙ ap (λ c. s.me.0.own.gone ++ c ∷ []) unlock_is);
+      seat = seat_after (rule.unlocked given) table gave.1.same.0 gave.1.same.1 (gave.1.one ∙ ap (λ c. s.me.0.own.gone ++ c ∷ []) unlock_is);
       lent = ap lent_of home_is;
     }
 
@@ -75,6 +81,6 @@ module _ {T : Type 0} (g : GuardedModel) (s t : Token T) where
     is_unlocked = record {
       own = ap (λ (x : SeatModel T). x.guarded) unlocked.seat ∙ is.own;
       some = subst (λ n. 0 < n) (sym gave.1.same.1) is.some;
-      holds = turn_holds s.me.0.own.knows.holds gave.1.stride t.me.0.own.knows.holds is.holds gave.1.also;
+      holds = turn_unlocked s.me.0.own.knows.holds gave.1.stride t.me.0.own.knows.holds is.holds gave.1.also;
       out = home_is;
     }

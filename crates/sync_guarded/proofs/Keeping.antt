@@ -18,8 +18,8 @@ use Rattle.running_rows.proofs.History.{in_more, strides_here, strides_else}
 use Rattle.running_rows.proofs.Telling.{stays_so, tells_more}
 use Rattle.sync_guarded.specs.declared.view.GuardKnown.{GuardKnown}
 use Rattle.sync_guarded.specs.declared.view.GuardCall.{GuardCall}
-use Rattle.sync_guarded.specs.declared.view.GuardCall.TheVariants.{Locked, Unlocked}
-use Rattle.sync_guarded.specs.Rule.{Place, home, lent, InTurns, is_some, holds_after, LiesAt, GuardLife, living_guard, ShowsGuard}
+use Rattle.sync_parts.specs.declared.locker_call.LockerCall.TheVariants.{Locked, Unlocked}
+use Rattle.sync_guarded.specs.Rule.{locked, unlocked, Place, home, lent, InTurns, is_some, is_lock, holds_after, LiesAt, GuardLife, living_guard, ShowsGuard}
 use Rattle.sync_guarded.specs.Rule.{HasCalled, IsTurn, HasGiven, sight_of, stride_of, guard_rows}
 use Rattle.sync_guarded.proofs.Turns.{turns_more, holds_is, holds_last, lent_to}
 
@@ -31,7 +31,7 @@ module _ {T : Type 0} where
   abbrev pub after : Seated (GuardKnown T) (GuardCall T) → GuardCall T → Option T → Seated (GuardKnown T) (GuardCall T)
   after u call holds = record { number = u.number; knows = record u.knows { holds = holds }; gone = u.gone ++ call ∷ [] }
 
-  ran_lock : (i : ℕ) (x : T) → Ran living_guard i (sight_of false) (stride_of (Locked x)) (sight_of true)
+  ran_lock : (i : ℕ) (x : T) → Ran (living_guard {T = T}) i (sight_of false) (stride_of Locked) (sight_of true)
   ran_lock i x = record {
     world = record { word = 0; holds = λ k. false; first = x; at = home x; history = [] };
     meets = record { met = tt; stands = refl; later = goes_on_here []; quiet = refl };
@@ -40,7 +40,7 @@ module _ {T : Type 0} where
     did = record { can = search; read_is = refl; told_is = refl; leads = λ j. record { stands = sym (put_here (λ k. false) i true) j; seen = [] } };
   }
 
-  ran_unlock : (i : ℕ) (x : T) → Ran living_guard i (sight_of true) (stride_of (Unlocked x)) (sight_of false)
+  ran_unlock : (i : ℕ) (x : T) → Ran (living_guard {T = T}) i (sight_of true) (stride_of Unlocked) (sight_of false)
   ran_unlock i x = record {
     world = record { word = 1; holds = λ k. true; first = x; at = home x; history = [] };
     meets = record { met = tt; stands = refl; later = goes_on_here []; quiet = refl };
@@ -49,19 +49,19 @@ module _ {T : Type 0} where
     did = record { can = search; read_is = refl; told_is = refl; leads = λ j. record { stands = sym (put_here (λ k. true) i false) j; seen = [] } };
   }
 
-  turn_lock : (was : Option T) (x : T) → is_some was ≡ false → IsTurn was (Locked x) (Some x)
-  turn_lock None x free = refl
+  turn_lock : (was : Option T) (x : T) → is_some was ≡ false → IsTurn was (locked x) (Some x)
+  turn_lock None x free = (x, refl, refl)
   turn_lock (Some y) x free = absurd (cc)
 
-  turn_unlock : (was : Option T) (x : T) → is_some was ≡ true → IsTurn was (Unlocked x) None
+  turn_unlock : (was : Option T) (x : T) → is_some was ≡ true → IsTurn was (unlocked x) None
   turn_unlock None x held = absurd (cc)
-  turn_unlock (Some y) x held = refl
+  turn_unlock (Some y) x held = (refl, refl)
 
-  went_lock : (u : Seated (GuardKnown T) (GuardCall T)) (x : T) → is_some u.knows.holds ≡ false
-      → Went guard_rows here runs u 0 (after u (Locked x) (Some x))
+  abbrev went_lock : (u : Seated (GuardKnown T) (GuardCall T)) (x : T) → is_some u.knows.holds ≡ false
+      → Went guard_rows here runs u 0 (after u (locked x) (Some x))
   went_lock u x free = record {
-    stride = Locked x;
-    ran = subst (λ (b : Bool). Ran living_guard u.number (sight_of b) (stride_of (Locked x)) (sight_of true)) (sym free) (ran_lock u.number x);
+    stride = locked x;
+    ran = subst (λ (b : Bool). Ran (living_guard {T = T}) u.number (sight_of b) (stride_of Locked) (sight_of true)) (sym free) (ran_lock u.number x);
     did = refl;
     read = refl;
     also = turn_lock u.knows.holds x free;
@@ -69,11 +69,11 @@ module _ {T : Type 0} where
     same = (refl, refl);
   }
 
-  went_unlock : (u : Seated (GuardKnown T) (GuardCall T)) (x : T) → is_some u.knows.holds ≡ true
-      → Went guard_rows here runs u 1 (after u (Unlocked x) None)
+  abbrev went_unlock : (u : Seated (GuardKnown T) (GuardCall T)) (x : T) → is_some u.knows.holds ≡ true
+      → Went guard_rows here runs u 1 (after u (unlocked x) None)
   went_unlock u x held = record {
-    stride = Unlocked x;
-    ran = subst (λ (b : Bool). Ran living_guard u.number (sight_of b) (stride_of (Unlocked x)) (sight_of false)) (sym held) (ran_unlock u.number x);
+    stride = unlocked x;
+    ran = subst (λ (b : Bool). Ran (living_guard {T = T}) u.number (sight_of b) (stride_of Unlocked) (sight_of false)) (sym held) (ran_unlock u.number x);
     did = refl;
     read = refl;
     also = turn_unlock u.knows.holds x held;
@@ -103,7 +103,7 @@ module _ {T : Type 0} (seats : ℕ) (m : Me T) (s : GuardLife T) (words : List �
         (λ q. subst (λ (b : SeatStride (GuardCall T)). b.seat < seats) q at.there) (in_more a (moment call) s.history h);
   }
 
-  own_calls : (call : GuardCall T) (word : ℕ) (place : Place T) (holds : Option T) → is_some holds ≡ holds_after false (call ∷ [])
+  own_calls : (call : GuardCall T) (word : ℕ) (place : Place T) (holds : Option T) → is_some holds ≡ is_lock call.call
       → HasCalled (after m.0.own call holds) (next call word place)
   own_calls call word place holds e = record {
     own = strides_here m.0.own.number s.history (moment call) refl ∙ ap (λ l. l ++ call ∷ []) at.knows.own;
@@ -118,18 +118,18 @@ module _ {T : Type 0} (seats : ℕ) (m : Me T) (s : GuardLife T) (words : List �
   takes_it : is_some m.0.own.knows.holds ≡ false → (x : T) → s.at ≡ home x → Leads guard_rows seats m s words homes 0 1 (Took guard_rows here m)
   takes_it free x is_home =
       let lies : LiesAt (home x) s.word homes = subst (λ (p : Place T). LiesAt p s.word homes) is_home at.shows.lies in record {
-        next = next (Locked x) 1 (lent m.0.own.number);
-        own = after m.0.own (Locked x) (Some x);
+        next = next (locked x) 1 (lent m.0.own.number);
+        own = after m.0.own (locked x) (Some x);
         act = atomic.takes 0 x;
         valid = ap (λ (h : List (slot.Option T)). get_elem? h 0) lies.1;
-        shows = shows (Locked x) 1 (lent m.0.own.number) (slice_set homes 0 slot.none)
+        shows = shows (locked x) 1 (lent m.0.own.number) (slice_set homes 0 slot.none)
             (refl, ap (λ (h : List (slot.Option T)). slice_set h 0 slot.none) lies.1)
-            (subst (λ (p : Place T). InTurns p (moment (Locked x) ∷ []) (lent m.0.own.number)) (sym is_home) (refl, refl));
+            (subst (λ (p : Place T). InTurns p (moment (locked x) ∷ []) (lent m.0.own.number)) (sym is_home) (refl, refl));
         same = refl;
         of_is = at.of_is;
-        knows = own_calls (Locked x) 1 (lent m.0.own.number) (Some x) refl;
-        on = inr (Locked x, refl, refl, refl);
-        others = λ u ne low o. others (Locked x) 1 (lent m.0.own.number) u ne o;
+        knows = own_calls (locked x) 1 (lent m.0.own.number) (Some x) refl;
+        on = inr (locked x, refl, refl, refl);
+        others = λ u ne low o. others (locked x) 1 (lent m.0.own.number) u ne o;
         tells = (went_lock m.0.own x free, (0, x, refl, (refl, refl)));
       }
 
@@ -149,19 +149,19 @@ module _ {T : Type 0} (seats : ℕ) (m : Me T) (s : GuardLife T) (words : List �
       (sym (holds_is m.0.own.number (home s.first) s.at s.history at.shows.in_turns)
       ∙ ap (holds_after false) at.knows.own ∙ sym at.knows.holds ∙ holds) in
       let lies : LiesAt (lent m.0.own.number) s.word homes = subst (λ (p : Place T). LiesAt p s.word homes) is_mine at.shows.lies in record {
-        next = next (Unlocked y) 0 (home y);
-        own = after m.0.own (Unlocked y) None;
+        next = next (unlocked y) 0 (home y);
+        own = after m.0.own (unlocked y) None;
         act = atomic.gives;
         valid = tt;
-        shows = shows (Unlocked y) 0 (home y) (atomic.put_back homes m.1)
+        shows = shows (unlocked y) 0 (home y) (atomic.put_back homes m.1)
             (refl, (λ j. atomic.put_back (lies.1 j) (out j)))
-            (subst (λ (p : Place T). InTurns p (moment (Unlocked y) ∷ []) (home y)) (sym is_mine) (y, refl, refl, refl));
+            (subst (λ (p : Place T). InTurns p (moment (unlocked y) ∷ []) (home y)) (sym is_mine) (y, refl, refl, refl));
         same = refl;
         of_is = at.of_is;
-        knows = own_calls (Unlocked y) 0 (home y) None refl;
-        on = inr (Unlocked y, refl, refl, refl);
-        others = λ u ne low o. others (Unlocked y) 0 (home y) u ne o;
-        tells = (1, went_unlock m.0.own y holds, subst (HasGiven (Unlocked y)) (sym out) refl, refl);
+        knows = own_calls (unlocked y) 0 (home y) None refl;
+        on = inr (unlocked y, refl, refl, refl);
+        others = λ u ne low o. others (unlocked y) 0 (home y) u ne o;
+        tells = (1, went_unlock m.0.own y holds, subst (HasGiven (unlocked y)) (sym out) refl, refl);
       }
 
 -- an exchange of 0 for 1 by a seat that doesn't hold the lock

@@ -3,8 +3,7 @@ use Rattle.std.proofs.Common.{◌≡◌, ℕ, ◌==◌, if◌then◌else◌, Boo
 use Rattle.std.proofs.Common.{sym, refl, ap, ◌∙◌, subst, eqb-true}
 use Rattle.running_rows.specs.History.{SeatStride, strides_of}
 use Rattle.sync_guarded.specs.declared.view.GuardCall.{GuardCall}
-use Rattle.sync_guarded.specs.declared.view.GuardCall.TheVariants.{Locked, Unlocked}
-use Rattle.sync_guarded.specs.Rule.{Place, home, lent, InTurns, is_with, is_some, holds_after, IsTurn, HasGiven}
+use Rattle.sync_guarded.specs.Rule.{locked, unlocked, Place, home, lent, InTurns, is_with, is_some, is_lock, holds_after, IsTurn, HasGiven}
 
 module _ {T : Type 0} where
   -- what was locked and unlocked in turn, and one call more
@@ -34,11 +33,9 @@ module _ {T : Type 0} where
       by false e rest = ap (λ (b : Bool). holds_after b (strides_of i history)) (sym e) ∙ rest
 
   -- the last call tells it
-  pub holds_last : (b : Bool) (calls : List (GuardCall T)) (c : GuardCall T) → holds_after b (calls ++ c ∷ []) ≡ holds_after false (c ∷ [])
-  holds_last b [] (Locked x) = refl
-  holds_last b [] (Unlocked x) = refl
-  holds_last b (Locked x ∷ calls) c = holds_last true calls c
-  holds_last b (Unlocked x ∷ calls) c = holds_last false calls c
+  pub holds_last : (b : Bool) (calls : List (GuardCall T)) (c : GuardCall T) → holds_after b (calls ++ c ∷ []) ≡ is_lock c.call
+  holds_last b [] c = refl
+  holds_last b (d ∷ calls) c = holds_last (is_lock d.call) calls c
 
   -- where it is with the seat
   pub lent_to : (i : ℕ) (at : Place T) → is_with i at ≡ true → at ≡ lent i
@@ -47,27 +44,19 @@ module _ {T : Type 0} where
 
   -- who held nothing locked, and holds what it took
   pub turn_locked : (was : Option T) (call : GuardCall T) (now : Option T) (x : T) → is_some was ≡ false → IsTurn was call now → now ≡ Some x
-      → call ≡ Locked x
-  turn_locked None (Locked y) now x free turn is = ap of (sym turn ∙ is)
+      → call ≡ locked x
+  turn_locked None call now x free turn is = turn.1 ∙ ap of (sym turn.2 ∙ is)
     where
       of : Option T → GuardCall T
-      of None = Locked y
-      of (Some z) = Locked z
-  turn_locked None (Unlocked y) now x free turn is = absurd turn
+      of None = call
+      of (Some z) = locked z
   turn_locked (Some z) call now x free turn is = absurd (cc)
 
-  -- it holds something then
-  pub turn_holds : (was : Option T) (call : GuardCall T) (now : Option T) → is_some was ≡ true → IsTurn was call now → is_some now ≡ false
-  turn_holds (Some z) (Unlocked y) now held turn = ap is_some turn
-  turn_holds (Some z) (Locked y) now held turn = absurd turn
-  turn_holds None call now held turn = absurd (cc)
+  -- who held something holds nothing then
+  pub turn_unlocked : (was : Option T) (call : GuardCall T) (now : Option T) → is_some was ≡ true → IsTurn was call now → is_some now ≡ false
+  turn_unlocked (Some z) call now held turn = ap is_some turn.1
+  turn_unlocked None call now held turn = absurd (cc)
 
   -- what was given back is what the slot's value was
-  pub given_is : (call : GuardCall T) (slots : List (ℕ × T)) (x : T) → HasGiven call slots → slots ≡ (0, x) ∷ [] → call ≡ Unlocked x
-  given_is (Locked y) slots x given out = absurd given
-  given_is (Unlocked y) [] x given out = absurd given
-  given_is (Unlocked y) (taken ∷ slots) x given out = ap (λ (p : ℕ × T). Unlocked p.1) (sym given ∙ ap first out)
-    where
-      first : List (ℕ × T) → ℕ × T
-      first [] = taken
-      first (p ∷ rest) = p
+  pub given_is : (call : GuardCall T) (slots : List (ℕ × T)) (x : T) → HasGiven call slots → slots ≡ (0, x) ∷ [] → call ≡ unlocked x
+  given_is call slots x given out = subst (HasGiven call) out given

@@ -1,17 +1,10 @@
 -- What the calls of a guard promise.
 use Rattle.std.specs.Prelude.{◌≡◌, Some, None, List, [], ◌∷◌, ◌++◌}
-use Rattle.sync_parts.specs.declared.locker_call.LockerCall.{LockerCall}
-use Rattle.sync_parts.specs.declared.locker_call.LockerCall.TheVariants as locker
 use Rattle.sync_guarded.specs.declared.view.GuardCall.{GuardCall}
-use Rattle.sync_guarded.specs.declared.view.GuardCall.TheVariants.{Locked, Unlocked}
+use Rattle.sync_guarded.specs.Rule.{locked, unlocked}
 use Rattle.sync_guarded.specs.Seats.{SeatModel, GuardModel}
 
 module _ {T : Type 0} where
-  -- a call without its value, as a locker has it
-  abbrev pub kind_of : GuardCall T → LockerCall
-  kind_of (Locked x) = locker.Locked
-  kind_of (Unlocked x) = locker.Unlocked
-
   -- the seat after these calls
   abbrev pub having_called : SeatModel T → List (GuardCall T) → SeatModel T
   having_called s calls = record s { calls = s.calls ++ calls }
@@ -23,14 +16,14 @@ module _ {T : Type 0} where
   -- it locked, and took a value, which is lent to it
   pub record HasLocked (g h : GuardModel T) : Type 0 where
     pub value : T
-    pub seat : h.seat ≡ having_called g.seat (Locked value ∷ [])
+    pub seat : h.seat ≡ having_called g.seat (locked value ∷ [])
     pub lent : h.lent ≡ Some value
 
   -- it unlocked, and gave back the value that was lent to it
   pub record HasUnlocked (g h : GuardModel T) : Type 0 where
     pub value : T
     pub held : g.lent ≡ Some value
-    pub seat : h.seat ≡ having_called g.seat (Unlocked value ∷ [])
+    pub seat : h.seat ≡ having_called g.seat (unlocked value ∷ [])
     pub lent : h.lent ≡ None
 
   -- the value that it holds was lent for the length of one call, which answered so: nothing else has changed
@@ -47,6 +40,6 @@ module _ {T : Type 0} where
       (h : GuardModel T) : Type 0 where
     pub was : T
     pub now : T
-    pub seat : h.seat ≡ having_called g.seat (Locked was ∷ Unlocked now ∷ [])
+    pub seat : h.seat ≡ having_called g.seat (locked was ∷ unlocked now ∷ [])
     pub ran_so : ran was answer now
     pub lent : h.lent ≡ None

@@ -12,9 +12,17 @@ use Rattle.running_rows.specs.Rule.{In}
 use Rattle.step_table.specs.EventOf.{EventOf, take_lock, give_lock}
 use Rattle.step_table.specs.Path.{Watched, Sight, Stride, ran_at}
 use Rattle.step_table.specs.World.{put}
+use Rattle.sync_parts.specs.declared.locker_call.LockerCall.{LockerCall}
+use Rattle.sync_parts.specs.declared.locker_call.LockerCall.TheVariants.{Locked, Unlocked}
 use Rattle.sync_guarded.specs.declared.view.GuardKnown.{GuardKnown}
 use Rattle.sync_guarded.specs.declared.view.GuardCall.{GuardCall}
-use Rattle.sync_guarded.specs.declared.view.GuardCall.TheVariants.{Locked, Unlocked}
+
+-- a call that took this value, and one that gave it back
+abbrev pub locked : {T : Type 0} → T → GuardCall T
+locked x = record { call = Locked; marker = record {}; value = x }
+
+abbrev pub unlocked : {T : Type 0} → T → GuardCall T
+unlocked x = record { call = Unlocked; marker = record {}; value = x }
 
 -- where the value is: at home, where it is this one, or with the seat of this number
 pub data Place (T : Type 0) : Type 0 where
@@ -25,9 +33,9 @@ pub data Place (T : Type 0) : Type 0 where
 -- was lent to, with whatever that gives back
 abbrev pub InTurns : {T : Type 0} → Place T → List (SeatStride (GuardCall T)) → Place T → Type 0
 InTurns at [] last = last ≡ at
-InTurns (home x) (m ∷ history) last = (m.stride ≡ Locked x) × InTurns (lent m.seat) history last
+InTurns (home x) (m ∷ history) last = (m.stride ≡ locked x) × InTurns (lent m.seat) history last
 InTurns {T} (lent i) (m ∷ history) last =
-    (y : T) × (m.stride ≡ Unlocked y) × (m.seat ≡ i) × InTurns (home y) history last
+    (y : T) × (m.stride ≡ unlocked y) × (m.seat ≡ i) × InTurns (home y) history last
 
 -- whether it is with the seat i
 abbrev pub is_with : {T : Type 0} → ℕ → Place T → Bool
@@ -38,11 +46,15 @@ abbrev pub is_some : {T : Type 0} → Option T → Bool
 is_some None = false
 is_some (Some x) = true
 
+-- whether it is the call of who holds the lock then
+abbrev pub is_lock : LockerCall → Bool
+is_lock Locked = true
+is_lock Unlocked = false
+
 -- whether a seat holds the lock that held it so and then made these calls
 abbrev pub holds_after : {T : Type 0} → Bool → List (GuardCall T) → Bool
 holds_after holds [] = holds
-holds_after holds (Locked x ∷ calls) = holds_after true calls
-holds_after holds (Unlocked x ∷ calls) = holds_after false calls
+holds_after holds (c ∷ calls) = holds_after (is_lock c.call) calls
 
 -- the lock's word is 0 and the value lies in its slot; or the word is 1, and the value is out
 abbrev pub LiesAt : {T : Type 0} → Place T → ℕ → List (slot.Option T) → Type 0
@@ -92,29 +104,27 @@ pub record HasCalled {T : Type 0} (u : Seated (GuardKnown T) (GuardCall T)) (s :
   pub own : strides_of u.number s.history ≡ u.gone
   pub holds : is_some u.knows.holds ≡ holds_after false u.gone
 
--- a seat that held this makes this call, and holds that then: who holds nothing locks, and holds what it took
+-- a seat that held this makes this call, and holds that then: who holds nothing locks, and holds what it
+-- took; who holds something unlocks
 abbrev pub IsTurn : {T : Type 0} → Option T → GuardCall T → Option T → Type 0
-IsTurn None (Locked x) then = then ≡ Some x
-IsTurn None (Unlocked x) then = ⊥
-IsTurn (Some was) (Locked x) then = ⊥
-IsTurn (Some was) (Unlocked x) then = then ≡ None
+IsTurn {T} None c then = (x : T) × (c ≡ locked x) × (then ≡ Some x)
+IsTurn (Some was) c then = (c.call ≡ Unlocked) × (then ≡ None)
 
 -- the call unlocked, and gave back the value of the first of these slots
 abbrev pub HasGiven : {T : Type 0} → GuardCall T → List (ℕ × T) → Type 0
-HasGiven (Locked x) slots = ⊥
-HasGiven (Unlocked x) [] = ⊥
-HasGiven (Unlocked x) (taken ∷ slots) = taken ≡ (0, x)
+HasGiven c [] = ⊥
+HasGiven c (taken ∷ slots) = c ≡ unlocked taken.1
 
 abbrev pub idle : {T : Type 0} → ℕ → GuardKnown T
-idle seats = record { seats = seats; holds = None }
+idle seats = record { seats = seats; marker = record {}; holds = None }
 
 abbrev pub sight_of : Bool → Sight Bool ⊥
 sight_of holds = record { stands = holds; seen = [] }
 
 -- a call as a stride of the step table: who locks finds 0, and who unlocks 1
-abbrev pub stride_of : {T : Type 0} → GuardCall T → Stride (Unit {0}) ℕ Bool ⊥
-stride_of (Locked x) = ran_at false 0 [] []
-stride_of (Unlocked x) = ran_at true 1 [] []
+abbrev pub stride_of : LockerCall → Stride (Unit {0}) ℕ Bool ⊥
+stride_of Locked = ran_at false 0 [] []
+stride_of Unlocked = ran_at true 1 [] []
 
 abbrev pub guard_rows : {T : Type 0} → Family T (GuardKnown T) (GuardCall T) ℕ
 guard_rows {T} = record {
@@ -130,7 +140,7 @@ guard_rows {T} = record {
   of = λ v. v.seats;
   watched = λ seats. living_guard;
   sight = λ v. sight_of (is_some v.holds);
-  stride = stride_of;
+  stride = λ c. stride_of c.call;
   value = λ n. n;
   word_at = λ seats i. tt;
   fresh = idle;

@@ -115,9 +115,8 @@ impl<'g, T> Guard<'g, T> {
 
 impl<'g, T> Locker for Guard<'g, T> {
     ghost use Rattle.std.specs.Prelude.{◌-◌, ◌^◌, map};
-    ghost use Rattle.sync_guarded.specs.Calls.{kind_of};
 
-    ghost calls = { λ g. map kind_of g.seat.calls };
+    ghost calls = { λ g. map (λ c. c.call) g.seat.calls };
 
     ghost is_held = { λ g. is_held g };
 
