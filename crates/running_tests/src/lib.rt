@@ -8,6 +8,8 @@
 #![tactic(auto)]
 
 #[cfg(test)]
+mod codes;
+#[cfg(test)]
 mod copies;
 #[cfg(test)]
 mod guards;
