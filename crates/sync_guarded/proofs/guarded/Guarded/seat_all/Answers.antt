@@ -31,8 +31,9 @@ loop-number-preserved g c =
     let seat_is : seat ≡ new_seat self (length made + 1) = c.next_seat-seat.ensures.made ∙ ap (λ (m : Me g.row.T.Denot). new_seat self m.0.made) i.makes in
     let longer : length c.push_reserved.new.self.items ≡ length made + 1 = ap length items ∙ length-append made _ in record {
       first = c.next_seat-seat.ensures.first.0;
-      makes = c.next_seat-seat.ensures.first.1 ∙ ap (λ (m : Me g.row.T.Denot). (making m.0, m.1)) i.makes
-          ∙ ap (λ (n : ℕ). (has_made c.args.seats (n + 1), [])) (sym longer);
+      makes = ◌∙◌ {A = Me g.row.T.Denot} c.next_seat-seat.ensures.first.1
+          (◌∙◌ {A = Me g.row.T.Denot} (ap (λ (m : Me g.row.T.Denot). (making m.0, m.1)) i.makes)
+          (ap (λ (n : ℕ). (has_made c.args.seats (n + 1), [])) (sym longer)));
       seated = items ∙ seats_more self made seat i.seated seat_is
           ∙ ap (λ (l : List (SeatModel g.row.T.Denot)). map (new_seat self) (range_with_len 1 (length l))) (sym items);
       count = omega arith;
