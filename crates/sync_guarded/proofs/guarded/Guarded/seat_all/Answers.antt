@@ -8,15 +8,18 @@ use Rattle.sync_guarded.proofs.Keeping.{Me}
 use Rattle.sync_guarded.proofs.Starting.{seats_more, seats_all}
 use Rattle.sync_guarded.proofs.guarded.Guarded.seat_all.Goals as goal
 
-pub next_seat-seat-requires-clause-own : goal.next_seat-seat-requires-clause-own
-next_seat-seat-requires-clause-own g c = c.loop-number.invariant.first
-
-pub next_seat-seat-requires-clause-makes : goal.next_seat-seat-requires-clause-makes
-next_seat-seat-requires-clause-makes g c = let i = c.loop-number.invariant in let count = i.count in let more = c.loop-number-test.true in
-    subst (λ (m : Me g.row.T.Denot). (0 < m.0.made) × (m.0.made < m.0.own.knows.seats)) (sym i.makes) (omega arith, omega arith)
-
-pub next_seat-seat-requires-clause-same : goal.next_seat-seat-requires-clause-same
-next_seat-seat-requires-clause-same g c = ap (λ (m : Me g.row.T.Denot). m.0.own.knows.seats) c.loop-number.invariant.makes ∙ sym c.requires.seats.0
+pub next_seat-seat-requires : goal.next_seat-seat-requires
+next_seat-seat-requires g c =
+    let i = c.loop-number.invariant in let count = i.count in let more = c.loop-number-test.true in (
+      omega arith,
+      (
+        i.first,
+        (
+          subst (λ (m : Me g.row.T.Denot). (0 < m.0.made) × (m.0.made < m.0.own.knows.seats)) (sym i.makes) (omega arith, omega arith),
+          ap (λ (m : Me g.row.T.Denot). m.0.own.knows.seats) i.makes ∙ sym c.requires.seats.0,
+        ),
+      ),
+    )
 
 pub push_reserved-requires : goal.push_reserved-requires
 push_reserved-requires g c = let i = c.loop-number.invariant in let count = i.count in let room = i.room in let more = c.loop-number-test.true in omega arith
@@ -28,8 +31,9 @@ loop-number-preserved g c =
     let seat_is : seat ≡ new_seat self (length made + 1) = c.next_seat-seat.ensures.made ∙ ap (λ (m : Me g.row.T.Denot). new_seat self m.0.made) i.makes in
     let longer : length c.push_reserved.new.self.items ≡ length made + 1 = ap length items ∙ length-append made _ in record {
       first = c.next_seat-seat.ensures.first.0;
-      makes = c.next_seat-seat.ensures.first.1 ∙ ap (λ (m : Me g.row.T.Denot). (making m.0, m.1)) i.makes
-          ∙ ap (λ (n : ℕ). (has_made c.args.seats (n + 1), [])) (sym longer);
+      makes = ◌∙◌ {A = Me g.row.T.Denot} c.next_seat-seat.ensures.first.1
+          (◌∙◌ {A = Me g.row.T.Denot} (ap (λ (m : Me g.row.T.Denot). (making m.0, m.1)) i.makes)
+          (ap (λ (n : ℕ). (has_made c.args.seats (n + 1), [])) (sym longer)));
       seated = items ∙ seats_more self made seat i.seated seat_is
           ∙ ap (λ (l : List (SeatModel g.row.T.Denot)). map (new_seat self) (range_with_len 1 (length l))) (sym items);
       count = omega arith;
