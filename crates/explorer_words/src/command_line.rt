@@ -19,7 +19,7 @@ pub struct CommandLine<'w> {
 impl<'w> CommandLine<'w> {
     /// This is asked for, and nothing said of how it is to be told.
     pub(crate) fn plain(asked: Invocation<'w>) -> CommandLine<'w>
-        ensures asked { result.asked ≡ asked }
+        ensures asked { result.asked ≡ asked.entry }
         ensures columns { result.columns ≡ Option.None }
     {
         CommandLine {
