@@ -1,6 +1,6 @@
 //! What the program knows of where it runs, and what it says of that before it begins.
 
-ghost use Rattle.std.specs.Prelude.{◌≡◌, ◌<◌, ◌*◌, ◌/◌, Option, Some, IfSome, MatchOption};
+ghost use Rattle.std.specs.Prelude.{◌≡◌, ◌<◌, ◌≤◌, ◌*◌, ◌/◌, Option, Some, MatchOption};
 ghost use Rattle.explorer.specs.Surroundings.{memory_text};
 
 use explorer_words::Invocation;
@@ -86,7 +86,7 @@ impl fmt::Display for Shortage {
         let worlds = self.worlds;
         let needed = u64::from(worlds) * BYTES_OF_A_CLASS / 1_000_000;
         let free = u128::from(self.free) * 1024 / 1_000_000;
-        writeln!(
+        write!(
             f,
             "parklot: {worlds} worlds take {needed} MB and more, and the machine has {free} MB: where it \
              reaches as many, the search ends for want of memory"

@@ -169,7 +169,7 @@ fn tell_before<E: Sink>(
     err: &mut E,
 ) {
     if let Some(shortage) = surroundings.shortage(line.worlds) {
-        if let Ok(text) = format!(in alloc; "{shortage}") {
+        if let Ok(text) = format!(in alloc; "{shortage}\n") {
             let _ = write_all(err, text.as_bytes());
         }
     }
