@@ -4,8 +4,8 @@ use Rattle.std.proofs.Common.{sym, ap, ◌∙◌, subst, inl, inr}
 use Rattle.std.proofs.Common.{arith, below_more}
 use Rattle.std.proofs.Math.Nat.{suc-mul}
 use Rattle.std.specs.List.{All}
-use Rattle.std.proofs.lemmas.List.{get_or_append_left, get_or-append-add}
-use Rattle.std.proofs.lemmas.List.Elements.{All-from_get_or, All-head, All-tail}
+use Rattle.std.proofs.lemmas.List.{get_or_append_left, get_or-append-add, get_or_default}
+use Rattle.std.proofs.lemmas.List.Elements.{All-from_get_or, All-head, All-tail, All-weaker}
 use Rattle.std.proofs.lemmas.List.FromFn.{length-map-range_with_len, get_or-map-range_with_len}
 use Rattle.step_table.specs.Counting.{total}
 use Rattle.step_table.proofs.Sums.{total_zero, total_suc}
@@ -15,7 +15,7 @@ use Rattle.sema_table.specs.Seats.{TableModel, SeatModel}
 use Rattle.sema_table.specs.Making.{new_seat, new_seats}
 use Rattle.sema_table.specs.Whole.{IsReleased, IsAcquired}
 use Rattle.sema_table.specs.Closing.{ClosedModel, AreAll, sum_by, has_added, was_given}
-use Rattle.explorer_threads.specs.Threads.{HasRun, HasWorked, Worker, IsWorker, HaveWorked, IsThreadsRun}
+use Rattle.explorer_threads.specs.Threads.{HasRun, HasWorked, Worker, IsWorker, HaveWorked, HasStopped, AreHome, IsThreadsRun}
 
 -- the same seat of the same table, with these two counts
 record Counts (s t : SeatModel) (left taken : ℕ) : Type 0 where
@@ -97,23 +97,34 @@ module _ (t : TableModel) (n : ℕ) (seats : List SeatModel) (all : seats ≡ ne
 pub by_number : (t : TableModel) (k : ℕ) (s : SeatModel) → s ≡ new_seat t k → s ≡ new_seat t s.number
 by_number t k s e = e ∙ ap (new_seat t) (sym (ap (λ (x : SeatModel). x.number) e))
 
-abbrev Starts : TableModel → ℕ → ℕ → List Worker → Type 0
-Starts t rounds n ws = (k : ℕ) (d : Worker) → k < n → IsWorker t k rounds (get_or ws k d)
+-- one more at the end of a list, of whose elements each is as its place says
+module _ {A : Type 0} (P : ℕ → A → Type 0) (n : ℕ) (xs all : List A) (x : A) (is : all ≡ xs ++ x ∷ []) (long : length xs ≡ n) where
+  before : (i : ℕ) (d : A) → i < n → get_or (xs ++ x ∷ []) i d ≡ get_or xs i d
+  before i d b = get_or_append_left xs (x ∷ []) d i (omega (arith, b, long))
 
--- one worker more has started
-module _ (t : TableModel) (rounds n : ℕ) (ws all : List Worker) (w : Worker) (is : all ≡ ws ++ w ∷ []) (long : length ws ≡ n) where
-  before : (i : ℕ) (d : Worker) → i < n → get_or (ws ++ w ∷ []) i d ≡ get_or ws i d
-  before i d b = get_or_append_left ws (w ∷ []) d i (omega (arith, b, long))
+  last : (d : A) → get_or (xs ++ x ∷ []) n d ≡ x
+  last d = ap (λ (j : ℕ). get_or (xs ++ x ∷ []) j d) (omega (arith, long)) ∙ get_or-append-add xs (x ∷ []) 0 d
 
-  last : (d : Worker) → get_or (ws ++ w ∷ []) n d ≡ w
-  last d = ap (λ (j : ℕ). get_or (ws ++ w ∷ []) j d) (omega (arith, long)) ∙ get_or-append-add ws (w ∷ []) 0 d
-
-  pub one_more : Starts t rounds n ws → IsWorker t n rounds w → Starts t rounds (n + 1) all
+  pub one_more : ((k : ℕ) (d : A) → k < n → P k (get_or xs k d)) → P n x
+      → (k : ℕ) (d : A) → k < n + 1 → P k (get_or all k d)
   one_more was here k d low =
-      subst (λ (xs : List Worker). IsWorker t k rounds (get_or xs k d)) (sym is)
-      (below_more (λ (i : ℕ). IsWorker t i rounds (get_or (ws ++ w ∷ []) i d)) n
-      (λ i b. subst (λ (x : Worker). IsWorker t i rounds x) (sym (before i d b)) (was i d b))
-      (subst (λ (x : Worker). IsWorker t n rounds x) (sym (last d)) here) k low)
+      subst (λ (ys : List A). P k (get_or ys k d)) (sym is)
+      (below_more (λ (i : ℕ). P i (get_or (xs ++ x ∷ []) i d)) n
+      (λ i b. subst (P i) (sym (before i d b)) (was i d b))
+      (subst (P n) (sym (last d)) here) k low)
+
+-- the first of those that are left is taken, and the others stand where they stood
+pub shifted : {A : Type 0} (all rest first : List A) (x : A) (n m left : ℕ) → all ≡ x ∷ rest → m ≡ n + 1
+    → ((k : ℕ) (d : A) → k < left + 1 → get_or all k d ≡ get_or first (n + k) d)
+    → (k : ℕ) (d : A) → k < left → get_or rest k d ≡ get_or first (m + k) d
+shifted {A} all rest first x n m left is more was k d low =
+    let here : get_or all (1 + k) d ≡ get_or rest k d =
+    ap (λ (xs : List A). get_or xs (1 + k) d) is ∙ get_or-append-add (x ∷ []) rest k d in
+    sym here ∙ was (1 + k) d (omega (arith, low)) ∙ ap (λ (j : ℕ). get_or first j d) (omega (arith, more))
+
+-- a seat that came back from its rounds has stopped
+pub has_stopped : (t : TableModel) (number rounds : ℕ) (s : SeatModel) → HasWorked t number rounds s → HasStopped t rounds s
+has_stopped t number rounds s w = inl (subst (λ (i : ℕ). HasWorked t i rounds s) (sym w.number_is) w)
 
 -- what a worker's thread has kept
 pub kept : (t : TableModel) (i rounds : ℕ) (w : Worker) (s : SeatModel)
@@ -137,6 +148,29 @@ are_all t workers rounds seats same h = let d = new_seat t 0 in let count = h.co
   own = All-from_get_or (λ s. s.table ≡ t) seats d (λ i low. (h.each i d (omega (arith, low, count))).own);
   count = h.count ∙ sym same;
 }
+
+-- seats that have stopped are all seats of the table too
+stopped_own : (t : TableModel) (rounds : ℕ) (s : SeatModel) → HasStopped t rounds s → s.table ≡ t
+stopped_own t rounds s (inl w) = w.own
+stopped_own t rounds s (inr e) = ap (λ (x : SeatModel). x.table) e
+
+pub home_are_all : (t : TableModel) (workers rounds : ℕ) (seats : List SeatModel)
+    → t.setting.seats ≡ workers → AreHome t workers rounds seats → AreAll t seats
+home_are_all t workers rounds seats same h = record {
+  own = All-weaker (HasStopped t rounds) (λ s. s.table ≡ t) (stopped_own t rounds) seats h.each;
+  count = h.count ∙ sym same;
+}
+
+-- seats that have worked have stopped
+pub worked_stopped : (t : TableModel) (rounds n : ℕ) (seats : List SeatModel) → length seats ≡ n
+    → ((k : ℕ) (d : SeatModel) → k < n → HasWorked t k rounds (get_or seats k d)) → All (HasStopped t rounds) seats
+worked_stopped t rounds n seats long each k d low = has_stopped t k rounds (get_or seats k d) (each k d (omega (arith, low, long)))
+
+-- and so have new seats
+pub new_stopped : (t : TableModel) (rounds : ℕ) (seats : List SeatModel) → seats ≡ new_seats t 0 (length seats)
+    → All (HasStopped t rounds) seats
+new_stopped t rounds seats is k d low = let s = get_or seats k d in
+    inr (by_number t k s (is_next t (length seats) seats is k s low (get_or_default seats k d s low)))
 
 -- a sum over one counter
 one_counter : (f : ℕ → ℕ) (n : ℕ) → n ≡ 1 → total n f ≡ f 0

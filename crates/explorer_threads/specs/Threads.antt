@@ -1,7 +1,8 @@
 -- What `run_threads` does: the rounds of its workers, each of which holds one seat, and the table that it
 -- closes.
-use Rattle.std.specs.Prelude.{◌≡◌, ◌⊎◌, ◌%◌, ◌<◌, ◌≤◌, ◌==◌, ℕ, zero, suc, Bool, [], ◌∷◌, List, length}
+use Rattle.std.specs.Prelude.{◌≡◌, ◌⊎◌, ◌+◌, ◌%◌, ◌<◌, ◌≤◌, ◌==◌, ℕ, zero, suc, Bool, [], ◌∷◌, List, length}
 use Rattle.std.specs.Prelude.{slice_index_or}
+use Rattle.std.specs.List.{All}
 use Rattle.std.specs.declared.thread.PromisedHandle.{PromisedHandle}
 use Rattle.sema_table.specs.declared.answers.Wake.{Wake}
 use Rattle.sema_table.specs.declared.settings.Settings.{Settings}
@@ -65,15 +66,26 @@ pub record IsWorker (t : TableModel) (number rounds : ℕ) (worker : Worker) : T
   pub number_is : worker.promise.number ≡ number
   pub rounds_are : worker.promise.rounds ≡ rounds
 
--- so many were started, in the order of the seats' numbers
-pub record HaveStarted (t : TableModel) (workers rounds : ℕ) (started : List Worker) : Type 0 where
-  pub count : length started ≡ workers
-  pub each : (i : ℕ) (d : Worker) → i < workers → IsWorker t i rounds (slice_index_or started i d)
+-- the seat has run all its rounds, or nothing: no thread has it
+abbrev pub HasStopped : TableModel → ℕ → SeatModel → Type 0
+HasStopped t rounds s = HasWorked t s.number rounds s ⊎ (s ≡ new_seat t s.number)
+
+-- of so many seats the first are with threads, in the order of their numbers, and the others are back
+pub record HaveBegun (t : TableModel) (workers rounds : ℕ) (started : List Worker) (back : List SeatModel)
+    : Type 0 where
+  pub count : length started + length back ≡ workers
+  pub each : (i : ℕ) (d : Worker) → i < length started → IsWorker t i rounds (slice_index_or started i d)
+  pub others : All (HasStopped t rounds) back
 
 -- so many seats have, and stand in the order of their numbers
 pub record HaveWorked (t : TableModel) (workers rounds : ℕ) (seats : List SeatModel) : Type 0 where
   pub count : length seats ≡ workers
   pub each : (i : ℕ) (d : SeatModel) → i < workers → HasWorked t i rounds (slice_index_or seats i d)
+
+-- so many seats are back, and none is with a thread
+pub record AreHome (t : TableModel) (workers rounds : ℕ) (seats : List SeatModel) : Type 0 where
+  pub count : length seats ≡ workers
+  pub each : All (HasStopped t rounds) seats
 
 -- a table of this kind was closed with all its seats, each of which had run its rounds
 pub record IsThreadsRun (workers rounds : ℕ) (c : ClosedModel) : Type 0 where
@@ -81,4 +93,12 @@ pub record IsThreadsRun (workers rounds : ℕ) (c : ClosedModel) : Type 0 where
   pub seats : List SeatModel
   pub made : IsThreadsTable workers rounds table
   pub worked : HaveWorked table workers rounds seats
+  pub closed : IsClosed table.setting seats c
+
+-- a table of this kind was closed with all its seats, each of which had run its rounds, or nothing
+pub record IsThreadsEnd (workers rounds : ℕ) (c : ClosedModel) : Type 0 where
+  pub table : TableModel
+  pub seats : List SeatModel
+  pub made : IsThreadsTable workers rounds table
+  pub home : AreHome table workers rounds seats
   pub closed : IsClosed table.setting seats c

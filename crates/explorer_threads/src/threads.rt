@@ -1,9 +1,10 @@
 //! Threads that share a table, each of which releases and acquires its counter so many times.
 
-ghost use Rattle.std.specs.Prelude.{◌≡◌, ◌*◌, ◌<◌, ◌∷◌, [], ◌↔◌, length, Err, Some, IfOk};
+ghost use Rattle.std.specs.Prelude.{◌≡◌, ◌*◌, ◌<◌, ◌≤◌, ◌∷◌, [], ◌↔◌, length, Err, Some, IfOk, IfErr};
 ghost use Rattle.sema_table.specs.Making.{new_seat, new_seats};
 ghost use Rattle.explorer_threads.specs.Threads.{AreOutside, AreWithin, AreThreadsSettings, IsThreadsTable};
-ghost use Rattle.explorer_threads.specs.Threads.{IsThreadsRun, IsRound, HasWorked, IsWorker, HaveStarted, HaveWorked};
+ghost use Rattle.explorer_threads.specs.Threads.{IsThreadsRun, IsRound, HasWorked, IsWorker, HaveWorked};
+ghost use Rattle.explorer_threads.specs.Threads.{HaveBegun, AreHome, IsThreadsEnd};
 ghost use Rattle.explorer_threads.specs.ThreadsText.{threads_refused_text};
 
 use crate::gate::Gate;
@@ -120,16 +121,9 @@ fn work<R: Wait, G: Gate>(rt: &R, table: &SemaTable, seat: Seat, rounds: u32, ga
     seat
 }
 
-/// Waits for the end of workers whose seats aren't needed any more.
-fn end_all<R: Threads>(rt: &R, started: Vec<Worker<'_>>) {
-    for worker in started {
-        drop(worker.join(rt));
-    }
-}
-
 /// Starts a worker, in a thread of its own.
 ///
-/// It is an `Err` where a thread can't be made.
+/// Where no thread can be made its rounds run here, and its seat comes back: only the worker has it.
 fn start<'s, E, R: Wait + Sync, G: Gate + Sync>(
     scope: &'s Scope<'s, E>,
     rt: &'s R,
@@ -137,10 +131,11 @@ fn start<'s, E, R: Wait + Sync, G: Gate + Sync>(
     seat: Seat,
     rounds: u32,
     gate: &'s G,
-) -> Result<Worker<'s>, NoMemory>
+) -> Result<Worker<'s>, Seat>
     requires seat { seat ≡ new_seat table.now seat.number }
     requires table { (0 < length table.now.setting.starts) × (table.now.setting.limit ≡ rounds) }
-    ensures { IfOk result (IsWorker table.now seat.number rounds) }
+    ensures started { IfOk result (IsWorker table.now seat.number rounds) }
+    ensures worked { IfErr result (HasWorked table.now seat.number rounds) }
 {
     let promise = Worked {
         table,
@@ -149,44 +144,45 @@ fn start<'s, E, R: Wait + Sync, G: Gate + Sync>(
     };
     match scope.spawn_with(promise, move || work(rt, table, seat, rounds, gate)) {
         Ok(worker) => Ok(worker),
-        Err(_) => Err(NoMemory),
+        Err(refused) => Err((refused.value)()),
     }
 }
 
-/// Starts a worker for each seat.
-///
-/// It is an `Err` where memory is short or a thread can't be made: the workers that had started have ended
-/// then.
-fn start_all<'s, E, R: Threads + Wait + Sync, G: Gate + Sync>(
+/// Starts a worker for each seat, until a thread can't be made: that seat and those behind it come back.
+fn start_all<'s, E, R: Wait + Sync, G: Gate + Sync>(
     scope: &'s Scope<'s, E>,
     rt: &'s R,
-    alloc: Global,
     table: &'s SemaTable,
     seats: Vec<Seat>,
     rounds: u32,
     gate: &'s G,
-) -> Result<Vec<Worker<'s>>, NoMemory>
+    started: &mut Vec<Worker<'s>>,
+    back: &mut Vec<Seat>,
+)
     requires seats { seats.items ≡ new_seats table.now 0 (length seats.items) }
     requires table { (0 < length table.now.setting.starts) × (table.now.setting.limit ≡ rounds) }
-    ensures { IfOk result (λ started. HaveStarted table.now (length seats.items) rounds started.items) }
+    requires none { (started.old.items ≡ []) × (back.old.items ≡ []) }
+    requires room { (length seats.items ≤ started.old.cap) × (length seats.items ≤ back.old.cap) }
+    ensures begun { HaveBegun table.now (length seats.items) rounds started.new.items back.new.items }
+    ensures room { length seats.items ≤ back.new.cap }
 {
-    let mut started = Vec::with_capacity(alloc, seats.len())?;
     for seat in seats {
+        if !back.is_empty() {
+            back.push_reserved(seat);
+            continue;
+        }
         match start(scope, rt, table, seat, rounds, gate) {
             Ok(worker) => started.push_reserved(worker),
-            Err(NoMemory) => {
-                end_all(rt, started);
-                return Err(NoMemory);
-            }
+            Err(seat) => back.push_reserved(seat),
         }
     }
-    Ok(started)
 }
 
-/// Starts a worker for each seat, and waits for their ends: the seats, in the order of their numbers.
+/// Starts a worker for each seat, and waits for the ends of all that have started: the seats, in the order of
+/// their numbers.
 ///
-/// It is an `Err` where memory is short or a thread can't be made: the workers that had started have ended
-/// then.
+/// It is an `Err` where memory is short or a thread can't be made. All seats are back then too: so no worker
+/// runs that could use the table.
 fn work_in<'s, E, R: Threads + Wait + Sync, G: Gate + Sync>(
     scope: &'s Scope<'s, E>,
     rt: &'s R,
@@ -195,19 +191,34 @@ fn work_in<'s, E, R: Threads + Wait + Sync, G: Gate + Sync>(
     seats: Vec<Seat>,
     rounds: u32,
     gate: &'s G,
-) -> Result<Vec<Seat>, NoMemory>
+) -> Result<Vec<Seat>, Vec<Seat>>
     requires seats { seats.items ≡ new_seats table.now 0 (length seats.items) }
     requires table { (0 < length table.now.setting.starts) × (table.now.setting.limit ≡ rounds) }
-    ensures { IfOk result (λ back. HaveWorked table.now (length seats.items) rounds back.items) }
+    ensures worked { IfOk result (λ back. HaveWorked table.now (length seats.items) rounds back.items) }
+    ensures home { IfErr result (λ back. AreHome table.now (length seats.items) rounds back.items) }
 {
-    let started = start_all(scope, rt, alloc, table, seats, rounds, gate)?;
-    match thread::join_promised(rt, started) {
-        Ok(back) => Ok(back),
-        Err(refused) => {
-            end_all(rt, refused.value);
-            Err(NoMemory)
-        }
+    // All memory is taken before the first thread is started: behind it nothing fails but a thread.
+    let Ok(mut started) = Vec::with_capacity(alloc, seats.len()) else {
+        return Err(seats);
+    };
+    let Ok(mut back) = Vec::with_capacity(alloc, seats.len()) else {
+        return Err(seats);
+    };
+    start_all(
+        scope,
+        rt,
+        table,
+        seats,
+        rounds,
+        gate,
+        &mut started,
+        &mut back,
+    );
+    let has_all = back.is_empty();
+    for worker in started {
+        back.push_reserved(worker.join(rt));
     }
+    if has_all { Ok(back) } else { Err(back) }
 }
 
 /// As `work_in`, in a scope of its own.
@@ -218,21 +229,48 @@ fn work_all<R: Threads + Wait + Sync, G: Gate + Sync>(
     seats: Vec<Seat>,
     rounds: u32,
     gate: &G,
-) -> Result<Vec<Seat>, NoMemory>
+) -> Result<Vec<Seat>, Vec<Seat>>
     requires seats { seats.items ≡ new_seats table.now 0 (length seats.items) }
     requires table { (0 < length table.now.setting.starts) × (table.now.setting.limit ≡ rounds) }
-    ensures { IfOk result (λ back. HaveWorked table.now (length seats.items) rounds back.items) }
+    ensures worked { IfOk result (λ back. HaveWorked table.now (length seats.items) rounds back.items) }
+    ensures home { IfErr result (λ back. AreHome table.now (length seats.items) rounds back.items) }
 {
     thread::scope(
         thread::scope_env(),
         rt,
-        move |scope| -> Result<Vec<Seat>, NoMemory>
+        move |scope| -> Result<Vec<Seat>, Vec<Seat>>
             requires seats { seats.items ≡ new_seats table.now 0 (length seats.items) }
             requires table { (0 < length table.now.setting.starts) × (table.now.setting.limit ≡ rounds) }
-            ensures { IfOk result
+            ensures worked { IfOk result
                 (λ back. HaveWorked table.entry.now (length seats.items) rounds back.items) }
+            ensures home { IfErr result
+                (λ back. AreHome table.entry.now (length seats.items) rounds back.items) }
         { work_in(scope, rt, alloc, table, seats, rounds, gate) },
     )
+}
+
+/// Lets the workers of all seats of this table run, and closes it.
+///
+/// It is an `Err` where memory is short or a thread can't be made. The table is closed then too, with all its
+/// seats: none of them is with a thread.
+fn run_at<R: Threads + Wait + Sync, G: Gate + Sync>(
+    rt: &R,
+    alloc: Global,
+    table: SemaTable,
+    seats: Vec<Seat>,
+    workers: u32,
+    rounds: u32,
+    gate: &G,
+) -> Result<Closed, Closed>
+    requires table { IsThreadsTable workers rounds table }
+    requires seats { seats.items ≡ new_seats table 0 workers }
+    ensures run { IfOk result (IsThreadsRun workers rounds) }
+    ensures ended { IfErr result (IsThreadsEnd workers rounds) }
+{
+    match work_all(rt, alloc, &table, seats, rounds, gate) {
+        Ok(seats) => Ok(table.close(seats)),
+        Err(seats) => Err(table.close(seats)),
+    }
 }
 
 /// As `run_threads`, within the limits.
@@ -250,8 +288,10 @@ fn run_within<R: Threads + Wait + Sync, G: Gate + Sync>(
     ensures { IfOk result (IsThreadsRun workers rounds) }
 {
     let (table, seats) = threads_table(alloc, workers, rounds)?;
-    let seats = work_all(rt, alloc, &table, seats, rounds, gate)?;
-    Ok(table.close(seats))
+    match run_at(rt, alloc, table, seats, workers, rounds, gate) {
+        Ok(closed) => Ok(closed),
+        Err(_ended) => Err(NoMemory),
+    }
 }
 
 /// Lets so many workers share a table, each in a thread of its own. Each runs so many rounds, in which it
