@@ -64,7 +64,7 @@ fn handles(rt: &impl Abort, alloc: Global) -> Vec<SeatHandle> {
         Err(_) => Vec::with_capacity(alloc, CREW + 1).expect(rt, "memory"),
     };
     for _ in 0..=CREW {
-        seats.push_reserved(SeatHandle::empty());
+        seats.push(SeatHandle::empty()).expect(rt, "memory");
     }
     seats
 }
