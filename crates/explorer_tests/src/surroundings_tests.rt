@@ -13,13 +13,22 @@ const TYPED: Surroundings = Surroundings {
     ..UNKNOWN
 };
 
-/// So many KiB of memory are left.
-const fn left(free: u64) -> Surroundings {
-    Surroundings {
-        free: Some(free),
-        ..UNKNOWN
-    }
-}
+/// A GiB of memory is left.
+const A_GIBIBYTE: Surroundings = Surroundings {
+    free: Some(1_048_576),
+    ..UNKNOWN
+};
+
+/// Just the memory that a million worlds take is left, in KiB.
+const ENOUGH: Surroundings = Surroundings {
+    free: Some(107_421),
+    ..UNKNOWN
+};
+
+const TOO_LITTLE: Surroundings = Surroundings {
+    free: Some(107_420),
+    ..UNKNOWN
+};
 
 /// Where the program runs, its words, and what it tells beside.
 type Row = (Surroundings, &'static [&'static str], &'static str);
@@ -59,19 +68,19 @@ static ROWS: [Row; 10] = [
         "",
     ),
     (
-        left(1_048_576),
+        A_GIBIBYTE,
         &["check", "--worlds", "1000000000"],
         "parklot: 1000000000 worlds take 110000 MB and more, and the machine has 1073 MB: where it reaches as \
          many, the search ends for want of memory\n",
     ),
     (
-        left(107_420),
+        TOO_LITTLE,
         &["check", "--worlds", "1000000"],
         "parklot: 1000000 worlds take 110 MB and more, and the machine has 109 MB: where it reaches as many, \
          the search ends for want of memory\n",
     ),
-    (left(107_421), &["check", "--worlds", "1000000"], ""),
-    (left(1), &["check"], ""),
+    (ENOUGH, &["check", "--worlds", "1000000"], ""),
+    (TOO_LITTLE, &["check"], ""),
 ];
 
 /// Whether that is told beside.
