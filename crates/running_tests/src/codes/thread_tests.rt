@@ -15,7 +15,7 @@ use std::thread::Threads;
 /// others some hundred times, many of them inside a call. So one has seen the code long before.
 const MOST_ROUNDS: u32 = 1_000_000;
 
-/// How many seats have threads: more than most machines have processors. On a machine with more of them the
+/// How many threads there are: more than most machines have processors. On a machine with more of them the
 /// threads hinder one another, which shows both codes at once. One seat more sleeps, where the lock is to be
 /// taken.
 const CREW: usize = 16;
@@ -125,25 +125,41 @@ fn frees(rt: &impl Abort, alloc: Global, seats: &mut [SeatHandle]) {
     }
 }
 
-/// Threads are asked for once more too.
+/// One seat brings the unit for which the other sleeps, and wakes it.
+fn wakes(rt: &impl Abort, waker: &mut SeatHandle, sleeper: &mut SeatHandle) {
+    answers(rt, waker, &Call::Post(1), OWES);
+    answers(rt, waker, &Call::Wake, ONE);
+    answers(rt, sleeper, &Call::Poll, WOKEN);
+    answers(rt, sleeper, &Call::Retry, TAKEN);
+}
+
+/// Whether one of the crew finds the lock busy, while the last seat sleeps at its root: so each unit that is
+/// brought to the other counter owes a look. Threads are asked for once more.
+fn find_busy<R: Abort + Threads + Sync>(rt: &R, seats: &mut [SeatHandle]) -> bool {
+    let Some((sleeper, crew)) = seats.split_last_mut() else {
+        return false;
+    };
+    answers(rt, sleeper, &Call::Enter(1), ASLEEP);
+    let was_seen = see(rt, crew, true) || see(rt, crew, true);
+    match crew.first_mut() {
+        Some(waker) => wakes(rt, waker, sleeper),
+        None => return false,
+    }
+    was_seen
+}
+
 #[test]
 fn one_loses_its_try_to_another(rt: HostRuntime) {
     let mut seats = dealt(&rt, rt.alloc());
-    let crew = &mut seats[..CREW];
-    assert!(&rt; see(&rt, crew, false) || see(&rt, crew, false));
+    let was_seen = see(&rt, &mut seats, false) || see(&rt, &mut seats, false);
+    assert!(&rt; was_seen);
     frees(&rt, rt.alloc(), &mut seats);
 }
 
-/// One sleeps at the root throughout: so each unit that is brought to the other counter owes a look.
 #[test]
 fn one_finds_the_lock_busy(rt: HostRuntime) {
     let mut seats = dealt(&rt, rt.alloc());
-    answers(&rt, &mut seats[CREW], &Call::Enter(1), ASLEEP);
-    let crew = &mut seats[..CREW];
-    assert!(&rt; see(&rt, crew, true) || see(&rt, crew, true));
-    answers(&rt, &mut seats[0], &Call::Post(1), OWES);
-    answers(&rt, &mut seats[0], &Call::Wake, ONE);
-    answers(&rt, &mut seats[CREW], &Call::Poll, WOKEN);
-    answers(&rt, &mut seats[CREW], &Call::Retry, TAKEN);
+    let was_seen = find_busy(&rt, &mut seats);
+    assert!(&rt; was_seen);
     frees(&rt, rt.alloc(), &mut seats);
 }
