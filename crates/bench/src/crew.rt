@@ -2,7 +2,7 @@
 
 use crate::plan::Plan;
 use anyhow::{Result, bail};
-use sema_table_crew::{Start, tell};
+use sema_table_crew::{CrewStart, tell};
 use std::sync::Wait;
 use std::thread;
 use std::thread::{Scope, Threads};
@@ -21,7 +21,7 @@ pub trait Seats<J> {
 }
 
 /// A thread's job, from the start on.
-fn work<R: Wait, J: Job + Drop>(rt: &R, job: J, turns: u32, start: &Start) {
+fn work<R: Wait, J: Job + Drop>(rt: &R, job: J, turns: u32, start: &CrewStart) {
     if start.wait(rt) {
         job.turns(rt, turns);
     }
@@ -34,7 +34,7 @@ fn hire_all<'s, E, R: Threads + Wait + Sync, J: Job + Send + Drop + 's, S: Seats
     seats: &mut S,
     count: u32,
     turns: u32,
-    start: &'s Start,
+    start: &'s CrewStart,
 ) -> bool {
     for number in 0..count {
         let Some(job) = seats.job(number) else {
@@ -55,7 +55,7 @@ fn run<'j, R: Threads + Wait + Sync, J: Job + Send + Drop + 'j, S: Seats<J>>(
     count: u32,
     turns: u32,
 ) -> bool {
-    let start = Start::new();
+    let start = CrewStart::new();
     let begin = &start;
     thread::scope(thread::scope_env(), rt, move |scope| {
         let all = hire_all(scope, rt, seats, count, turns, begin);

@@ -1,7 +1,7 @@
 //! Searches of all schedules: what a world costs.
 
 use anyhow::{Result, bail};
-use explorer_scenarios::{Found, explore, read_scenario};
+use scenario_search::{Found, explore, read_scenario};
 use std::alloc::Global;
 use std::fs;
 use std::rt::Files;

@@ -6,9 +6,9 @@ use Rattle.std.proofs.BoxSteps.Form.{Bx}
 use Rattle.std.below.std_heap.specs.contracts.Global as Heap
 use Rattle.std.below.std_heap.specs.contracts.GlobalAllocator.TheImpl.{ghosts, dict}
 use Rattle.std.below.std_heap.proofs.Global.TheLaws as heap
-use Rattle.c_calls.specs.contracts.kept.Kept as Kept
-use Rattle.c_calls.proofs.kept.Kept.TheLaws as kept
-use Rattle.c_calls.specs.contracts.parts.Parts as Parts
+use Rattle.c_calls.specs.contracts.kept_seat.KeptSeat as Kept
+use Rattle.c_calls.proofs.kept_seat.KeptSeat.TheLaws as kept
+use Rattle.c_calls.specs.contracts.box_parts.BoxParts as Parts
 use Rattle.c_calls.specs.contracts.cell.Cell as Cell
 
 abbrev pub E : Bx

@@ -3,7 +3,7 @@ use Rattle.std.proofs.Common.{◌≡◌, ◌+◌, ◌<◌, ℕ, List, [], ◌∷
 use Rattle.std.proofs.lemmas.List.{map-set, map-append, length-map, length-reverse, take_more_set, reverse-append, reverse-reverse}
 use Rattle.std.proofs.lemmas.Simd.{map-map}
 use mathlib.Core.List.{append_assoc}
-use Rattle.c_calls.specs.declared.kept.Kept.{Kept}
+use Rattle.c_calls.specs.declared.kept_seat.KeptSeat.{KeptSeat}
 use Rattle.c_calls.specs.Places.{seat_of}
 
 -- the last place goes to the next handle
@@ -50,7 +50,7 @@ as_many {S} seats bs g placed =
     sym (length-map bs g) ∙ ap length placed ∙ length-reverse (map (λ (s : S). Some s) seats) ∙ length-map seats (λ (s : S). Some s)
 
 -- the places were filled with the last seat first, and given away with the last place first
-pub dealt : {H B S : Type 0} (seats : List S) (bs : List B) (hs : List H) (seat : Kept → Option S) (cells : H → List Kept) (value : B → Kept)
+pub dealt : {H B S : Type 0} (seats : List S) (bs : List B) (hs : List H) (seat : KeptSeat → Option S) (cells : H → List KeptSeat) (value : B → KeptSeat)
     → map cells hs ≡ reverse (map (λ b. value b ∷ []) bs) → map (λ b. seat (value b)) bs ≡ reverse (map (λ (s : S). Some s) seats)
     → map (λ h. seat_of seat (cells h)) hs ≡ map (λ (s : S). Some s) seats
 dealt {S} seats bs hs seat cells value given placed =

@@ -1,4 +1,4 @@
--- What a cell owns: the same as a `Box<Kept>`, or nothing where nothing is kept.
+-- What a cell owns: the same as a `Box<KeptSeat>`, or nothing where nothing is kept.
 use Rattle.std.specs.Prelude.{ℕ, Bool, true, false, List, [], ◌∷◌}
 use base.Fml.{Fml, ftrue}
 use base.Stored.{Coded, coded_list}
@@ -6,7 +6,7 @@ use denote.RawPtr.{Ptr}
 use Rattle.std.below.std_heap.specs.contracts.GlobalAllocator.TheImpl.{ghosts}
 use mir.Syntax.{Ty}
 use Rattle.std.specs.Box.Ownership.{box_owns}
-use Rattle.c_calls.specs.contracts.kept.Kept.{the_row}
+use Rattle.c_calls.specs.contracts.kept_seat.KeptSeat.{the_row}
 
 -- the right to free a block of the heap, which has one handle
 abbrev pub heap_block : Ty → Ptr → Fml

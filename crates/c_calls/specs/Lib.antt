@@ -5,7 +5,6 @@ pub mod Places
 pub mod Handles
 pub mod Codes
 pub mod Answers
-pub mod Deals
 pub mod ListCodes
 pub mod ListAnswers
-pub mod ListDeals
+pub mod Deals

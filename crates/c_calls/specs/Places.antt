@@ -2,20 +2,20 @@
 use Rattle.std.specs.Prelude.{Option, None, List, [], ◌∷◌}
 use Rattle.sema_table.specs.TaskSeats as table
 use Rattle.notify_list.specs.TaskSeats as list
-use Rattle.c_calls.specs.declared.kept.Kept.{Kept}
-use Rattle.c_calls.specs.declared.kept.Kept.TheVariants.{OfTable, OfList}
+use Rattle.c_calls.specs.declared.kept_seat.KeptSeat.{KeptSeat}
+use Rattle.c_calls.specs.declared.kept_seat.KeptSeat.TheVariants.{OfTable, OfList}
 
 -- a table's seat. A list's is none there
-abbrev pub at_table : Kept → Option table.TaskModel
+abbrev pub at_table : KeptSeat → Option table.TaskModel
 at_table (OfTable p) = p.seat
 at_table (OfList p) = None
 
 -- a list's seat. A table's is none there
-abbrev pub at_list : Kept → Option list.TaskModel
+abbrev pub at_list : KeptSeat → Option list.TaskModel
 at_list (OfTable p) = None
 at_list (OfList p) = p.seat
 
 -- of what a handle keeps, which is one or nothing
-abbrev pub seat_of : {S : Type 0} → (Kept → Option S) → List Kept → Option S
+abbrev pub seat_of : {S : Type 0} → (KeptSeat → Option S) → List KeptSeat → Option S
 seat_of seat [] = None
 seat_of seat (k ∷ _) = seat k

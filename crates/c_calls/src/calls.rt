@@ -13,7 +13,7 @@ ghost use Rattle.c_calls.specs.Answers.{WritesOnlyWith};
 
 use crate::answers;
 use crate::codes::{HANDED, NO_SEAT, NOBODY, OK, ONE, OTHER_CALL};
-use crate::place::Place;
+use crate::seat_place::TableSeatPlace;
 use sema_table::{CounterId, TaskRefused, TaskStage, Wake};
 
 /// The code of a wake; the number of the seat that was woken is told.
@@ -51,7 +51,7 @@ fn tell_number(answer: Result<u64, TaskRefused>, number: &mut u64) -> u32
     }
 }
 
-impl Place {
+impl TableSeatPlace {
     /// Which seat of its table it is.
     pub fn number(&self, number: &mut u32) -> u32
         ensures told { TellsNumber (λ s. s.seat.number) self.now.seat result number.new }
@@ -86,7 +86,7 @@ impl Place {
         let Some(seat) = &mut self.seat else {
             return NO_SEAT;
         };
-        answers::of_try(self.table.try_acquire(seat, CounterId::new(counter)))
+        answers::of_try(self.home.try_acquire(seat, CounterId::new(counter)))
     }
 
     /// Goes to the lock of the counter's root, and sleeps if there is no unit.
@@ -97,7 +97,7 @@ impl Place {
         let Some(seat) = self.seat.take() else {
             return NO_SEAT;
         };
-        let (seat, answer) = self.table.enter(seat, CounterId::new(counter), lifo);
+        let (seat, answer) = self.home.enter(seat, CounterId::new(counter), lifo);
         self.seat = Some(seat);
         answers::of_enter(answer)
     }
@@ -109,7 +109,7 @@ impl Place {
         let Some(seat) = self.seat.take() else {
             return NO_SEAT;
         };
-        let (seat, answer) = self.table.poll(seat);
+        let (seat, answer) = self.home.poll(seat);
         self.seat = Some(seat);
         answers::of_poll(answer)
     }
@@ -122,7 +122,7 @@ impl Place {
         let Some(seat) = self.seat.take() else {
             return NO_SEAT;
         };
-        let (seat, answer) = self.table.retry(seat);
+        let (seat, answer) = self.home.retry(seat);
         self.seat = Some(seat);
         answers::of_retry(answer)
     }
@@ -136,7 +136,7 @@ impl Place {
         let Some(seat) = &mut self.seat else {
             return NO_SEAT;
         };
-        answers::of_post(self.table.post(seat, CounterId::new(counter)))
+        answers::of_post(self.home.post(seat, CounterId::new(counter)))
     }
 
     /// Adds so many units at once.
@@ -147,7 +147,7 @@ impl Place {
         let Some(seat) = self.seat.take() else {
             return NO_SEAT;
         };
-        let (seat, answer) = self.table.post_many(seat, CounterId::new(counter), units);
+        let (seat, answer) = self.home.post_many(seat, CounterId::new(counter), units);
         self.seat = Some(seat);
         answers::of_post(answer)
     }
@@ -162,7 +162,7 @@ impl Place {
         let Some(seat) = self.seat.take() else {
             return NO_SEAT;
         };
-        let (seat, answer) = self.table.wake(seat, handoff);
+        let (seat, answer) = self.home.wake(seat, handoff);
         self.seat = Some(seat);
         tell_wake(answer, woken)
     }
@@ -177,7 +177,7 @@ impl Place {
         let Some(seat) = &mut self.seat else {
             return NO_SEAT;
         };
-        tell_number(self.table.value(seat, CounterId::new(counter)), value)
+        tell_number(self.home.value(seat, CounterId::new(counter)), value)
     }
 
     /// How many waits are queued at a counter's root.
@@ -191,7 +191,7 @@ impl Place {
             return NO_SEAT;
         };
         tell_number(
-            self.table.waiters_of_root(seat, CounterId::new(counter)),
+            self.home.waiters_of_root(seat, CounterId::new(counter)),
             waits,
         )
     }

@@ -1,10 +1,10 @@
 //! A place on the heap, as C holds it.
 ghost use Rattle.std.specs.Prelude.{◌≡◌, List, [], ◌∷◌, length};
-ghost use Rattle.c_calls.specs.declared.kept.Kept.{Kept};
+ghost use Rattle.c_calls.specs.declared.kept_seat.KeptSeat.{KeptSeat};
 ghost use Rattle.c_calls.specs.Cells.{places_coded, cell_owns};
 
-use crate::kept::Kept;
-use crate::parts::Parts;
+use crate::box_parts::BoxParts;
+use crate::kept_seat::KeptSeat;
 use std::alloc::Global;
 use std::marker::Model;
 use std::ptr;
@@ -21,7 +21,7 @@ pub struct Opaque {
 #[derive(Drop)]
 pub struct Cell {
     pub(crate) ptr: *mut Opaque,
-    pub ghost places: { List Kept } by { places_coded },
+    pub ghost places: { List KeptSeat } by { places_coded },
 }
 
 impl Model for Cell {
@@ -30,23 +30,23 @@ impl Model for Cell {
 
 impl Cell {
     /// A cell that owns what the parts own.
-    pub fn of(parts: Parts<Kept, Global>) -> Cell
+    pub fn of(parts: BoxParts<KeptSeat, Global>) -> Cell
         ensures { result.places ≡ parts.value ∷ [] }
     {
-        let Parts { ptr, alloc: _ } = parts;
+        let BoxParts { ptr, alloc: _ } = parts;
         Cell {
             ptr: ptr as *mut Opaque,
         }
     }
 
     /// The parts of the place. The cell is gone then: so a place is freed once.
-    pub fn into_parts(self, alloc: Global) -> Parts<Kept, Global>
+    pub fn into_parts(self, alloc: Global) -> BoxParts<KeptSeat, Global>
         requires { length self.places ≡ 1 }
         ensures { self.places ≡ result.value ∷ [] }
     {
         let Cell { ptr } = self;
-        Parts {
-            ptr: ptr as *mut Kept,
+        BoxParts {
+            ptr: ptr as *mut KeptSeat,
             alloc,
         }
     }

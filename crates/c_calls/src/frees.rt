@@ -7,7 +7,7 @@ ghost use Rattle.c_calls.specs.Answers.{Frees};
 
 use crate::codes::{NO_SEAT, OK};
 use crate::handle::SeatHandle;
-use crate::kept::Kept;
+use crate::kept_seat::KeptSeat;
 use std::alloc::Global;
 
 impl SeatHandle {
@@ -20,7 +20,7 @@ impl SeatHandle {
         if !self.is_full {
             return NO_SEAT;
         }
-        let Kept::OfTable(place) = self.cell.place() else {
+        let KeptSeat::OfTable(place) = self.cell.place() else {
             // A list's seat stays: that is for `free_list_seat`.
             return NO_SEAT;
         };
@@ -40,7 +40,7 @@ impl SeatHandle {
         if !self.is_full {
             return NO_SEAT;
         }
-        let Kept::OfList(place) = self.cell.place() else {
+        let KeptSeat::OfList(place) = self.cell.place() else {
             return NO_SEAT;
         };
         let code = place.may_leave();

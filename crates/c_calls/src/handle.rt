@@ -2,9 +2,9 @@
 ghost use Rattle.std.specs.Prelude.{◌≡◌, length, [], ◌∷◌, true};
 ghost use Rattle.c_calls.specs.Cells.{count};
 
+use crate::box_parts::BoxParts;
 use crate::cell::Cell;
-use crate::kept::Kept;
-use crate::parts::Parts;
+use crate::kept_seat::KeptSeat;
 use std::alloc::Global;
 use std::mem;
 
@@ -31,12 +31,12 @@ impl SeatHandle {
     }
 
     /// The handle of the seat in this place.
-    pub(crate) fn of(place: Box<Kept, Global>) -> SeatHandle
+    pub(crate) fn of(place: Box<KeptSeat, Global>) -> SeatHandle
         ensures { result.cell.places ≡ place.value ∷ [] }
     {
         SeatHandle {
             is_full: true,
-            cell: Cell::of(Parts::of(place)),
+            cell: Cell::of(BoxParts::of(place)),
         }
     }
 

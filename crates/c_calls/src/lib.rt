@@ -9,26 +9,27 @@
 #![tactic(auto)]
 
 mod answers;
+mod box_parts;
 mod calls;
 mod cell;
 pub mod codes;
 pub mod deal;
 mod frees;
 mod handle;
-mod kept;
+mod keeping;
+mod kept_seat;
 mod lends;
 mod list_all;
 mod list_answers;
 mod list_calls;
-pub mod list_deal;
-mod list_place;
 mod numbers;
-mod parts;
-mod place;
+mod places;
+mod seat_of;
+mod seat_place;
 mod wake_some;
 
 pub use cell::Cell;
 pub use handle::SeatHandle;
-pub use kept::Kept;
-pub use list_place::ListPlace;
-pub use place::Place;
+pub use kept_seat::KeptSeat;
+pub use seat_of::SeatOf;
+pub use seat_place::{ListSeatPlace, SeatPlace, TableSeatPlace};

@@ -6,8 +6,8 @@ ghost use Rattle.c_calls.specs.Answers.{Answers, Telling, LacksRoom, WritesSeats
 ghost use Rattle.c_calls.specs.ListAnswers.{NotifiesOrGoesOn, NamesAll};
 
 use crate::codes::{DONE, NO_SEAT, ROOM};
-use crate::list_place::ListPlace;
 use crate::numbers::MOST_WOKEN;
+use crate::seat_place::ListSeatPlace;
 use crate::{list_answers, numbers};
 use notify_list::{NotifiedAll, TaskRefused, TaskStage};
 
@@ -28,7 +28,7 @@ fn tell_all(answer: Result<NotifiedAll, TaskRefused>, woken: &mut [u32], count: 
     }
 }
 
-impl ListPlace {
+impl ListSeatPlace {
     /// Grants all tickets, and tells the numbers of the seats that waited with them.
     pub fn all(&mut self, woken: &mut [u32], count: &mut u32) -> u32
         ensures answer { LacksRoom woken.old self.old.seat result self.new.seat
@@ -56,8 +56,8 @@ impl ListPlace {
         };
         // A seat that was busy with it has looked already, and goes on at the lock.
         let (seat, answer) = match seat.stage() {
-            TaskStage::OwingAll => self.list.retry_all(seat),
-            _ => self.list.all(seat),
+            TaskStage::OwingAll => self.home.retry_all(seat),
+            _ => self.home.all(seat),
         };
         self.seat = Some(seat);
         tell_all(answer, woken, count)

@@ -11,7 +11,7 @@ ghost use Rattle.c_calls.specs.ListAnswers.{NamesGranted, IsNumberOf};
 
 use crate::codes::{GRANTED, NO_SEAT, NOBODY, OK, ONE, OTHER_CALL};
 use crate::list_answers;
-use crate::list_place::ListPlace;
+use crate::seat_place::ListSeatPlace;
 use notify_list::{Notified, TaskRefused, TaskStage};
 
 /// The code of a ticket that was granted; the number of the seat that waits with it is told.
@@ -42,7 +42,7 @@ fn tell_one(answer: Result<Option<Notified>, TaskRefused>, woken: &mut u32) -> u
     }
 }
 
-impl ListPlace {
+impl ListSeatPlace {
     /// Which seat of its list it is.
     pub fn number(&self, number: &mut u32) -> u32
         ensures told { TellsNumber (λ s. s.seat.number) self.now.seat result number.new }
@@ -77,7 +77,7 @@ impl ListPlace {
         let Some(seat) = self.seat.take() else {
             return NO_SEAT;
         };
-        let (seat, answer) = self.list.add(seat);
+        let (seat, answer) = self.home.add(seat);
         self.seat = Some(seat);
         match answer {
             Ok(taken) => {
@@ -96,7 +96,7 @@ impl ListPlace {
         let Some(seat) = self.seat.take() else {
             return NO_SEAT;
         };
-        let (seat, answer) = self.list.try_wait(seat);
+        let (seat, answer) = self.home.try_wait(seat);
         self.seat = Some(seat);
         list_answers::of_wait(answer)
     }
@@ -108,7 +108,7 @@ impl ListPlace {
         let Some(seat) = self.seat.take() else {
             return NO_SEAT;
         };
-        let (seat, answer) = self.list.poll(seat);
+        let (seat, answer) = self.home.poll(seat);
         self.seat = Some(seat);
         list_answers::of_poll(answer)
     }
@@ -123,7 +123,7 @@ impl ListPlace {
         let Some(seat) = self.seat.take() else {
             return NO_SEAT;
         };
-        let (seat, answer) = self.list.one(seat);
+        let (seat, answer) = self.home.one(seat);
         self.seat = Some(seat);
         tell_one(answer, woken)
     }
@@ -137,7 +137,7 @@ impl ListPlace {
         let Some(seat) = self.seat.take() else {
             return NO_SEAT;
         };
-        let (seat, answer) = self.list.quiet(seat);
+        let (seat, answer) = self.home.quiet(seat);
         self.seat = Some(seat);
         match answer {
             Ok(equal) => {

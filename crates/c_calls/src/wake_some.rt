@@ -6,7 +6,7 @@ ghost use Rattle.c_calls.specs.Answers.{Answers, Telling, NamesEach, LacksRoom, 
 
 use crate::codes::{DONE, NO_SEAT, ROOM};
 use crate::numbers::MOST_WOKEN;
-use crate::place::Place;
+use crate::seat_place::TableSeatPlace;
 use crate::{answers, numbers};
 use sema_table::{TaskRefused, WokenSeats};
 
@@ -27,7 +27,7 @@ fn tell_some(answer: Result<WokenSeats, TaskRefused>, woken: &mut [u32], count: 
     }
 }
 
-impl Place {
+impl TableSeatPlace {
     /// Takes the first waits out, as many as units were added or fewer if there are no more, and wakes their
     /// seats, whose numbers are told.
     pub fn wake_some(&mut self, woken: &mut [u32], count: &mut u32) -> u32
@@ -54,7 +54,7 @@ impl Place {
         let Some(seat) = self.seat.take() else {
             return NO_SEAT;
         };
-        let (seat, answer) = self.table.wake_some(seat);
+        let (seat, answer) = self.home.wake_some(seat);
         self.seat = Some(seat);
         tell_some(answer, woken, count)
     }

@@ -4,34 +4,31 @@ use Rattle.std.specs.Prelude.{Option, Some, None, IfSome, Result, Ok, Err, optio
 use Rattle.std.specs.Io.KnownBytes.{Appends}
 use Rattle.explorer_answers.specs.declared.exit.Exit.{Exit}
 use Rattle.explorer_answers.specs.declared.exit.Exit.TheVariants.{NothingBad, Refused}
-use Rattle.explorer_streams.specs.declared.fault.IoFault.{IoFault}
-use Rattle.explorer_streams.specs.declared.fault.IoFault.TheVariants.{Read, Write}
-use Rattle.explorer_answers.specs.declared.reply.Outcome.{Outcome}
+use Rattle.explorer_answers.specs.declared.fault.IoFault.{IoFault}
+use Rattle.explorer_answers.specs.declared.fault.IoFault.TheVariants.{Read, Write}
+use Rattle.explorer_answers.specs.declared.reply.Answered.{Answered}
 use Rattle.explorer_answers.specs.Exit.{status_of}
-use Rattle.explorer_scenarios.specs.Commands.{IsAnswerOf, IsReplyOf}
+use Rattle.explorer_commands.specs.Commands.{IsAnswerOf, IsReplyOf}
 use Rattle.explorer_answers.specs.Line.{line}
-use Rattle.explorer_streams.specs.Writing.{WritesBeginning}
+use Rattle.explorer_answers.specs.Writing.{WritesBeginning}
 use Rattle.explorer_answers.specs.Told.{IsToldOf, WantsMemory, TellsAll, TellsBeginning}
-use Rattle.explorer_words.specs.declared.invocation.Invocation.{Invocation}
-use Rattle.explorer_words.specs.declared.invocation.Invocation.TheVariants.{Once, OfScenario, OfLockProgram}
-use Rattle.explorer_words.specs.declared.invocation.Invocation.TheVariants.{Judge, Threads}
-use Rattle.explorer_words.specs.declared.invocation.Invocation.TheVariants.{Help}
-use Rattle.explorer_words.specs.declared.invocation.Invocation.TheVariants.{Mistake, NoText, NoMemory}
-use Rattle.explorer_words.specs.Invocation.{IsFromOne, IsWithinLimits}
+use Rattle.explorer.specs.declared.invocation.Invocation.{Invocation}
+use Rattle.explorer.specs.declared.invocation.Invocation.TheVariants.{Once, OfText}
+use Rattle.explorer.specs.declared.invocation.Invocation.TheVariants.{Judge, Threads}
+use Rattle.explorer.specs.declared.invocation.Invocation.TheVariants.{Help}
+use Rattle.explorer.specs.declared.invocation.Invocation.TheVariants.{Mistake, NoText, NoMemory}
+use Rattle.explorer.specs.Asked.{IsFromOne, IsWithinLimits}
 use Rattle.explorer.specs.Columns.{IsFitted}
-use Rattle.lock_commands.specs.Commands as lock
-use Rattle.explorer_judge.specs.JudgeText.{IsJudgeReplyOf, IsJudgeToldOf}
-use Rattle.explorer_once.specs.OnceText.{IsOnceAnswer}
-use Rattle.explorer_threads.specs.ThreadsText.{IsThreadsAnswer}
+use Rattle.explorer_commands.specs.JudgeText.{IsJudgeReplyOf, IsJudgeToldOf}
+use Rattle.explorer_commands.specs.OnceText.{IsOnceAnswer}
+use Rattle.explorer_commands.specs.ThreadsText.{IsThreadsAnswer}
 
 -- the text and the exit answer what is asked, of a source with these bytes before and after. A mistake in the
 -- words has no answer
 abbrev pub IsTextFor : Invocation → Option (List ℕ) → Option (List ℕ) → List ℕ → Exit → Type 0
 IsTextFor Once old new text exit = IsOnceAnswer text exit
-IsTextFor (OfScenario command file answer threads) old new text exit =
+IsTextFor (OfText command file answer threads) old new text exit =
     IsToldOf (IsAnswerOf command) old new text exit
-IsTextFor (OfLockProgram command file answer threads) old new text exit =
-    IsToldOf (lock.RepliesTo command) old new text exit
 IsTextFor (Judge file demands most) old new text exit = IsJudgeToldOf demands most old new text exit
 IsTextFor (Threads workers rounds) old new text exit = IsThreadsAnswer workers rounds text exit
 IsTextFor (Help told) old new text exit = (text ≡ string_bytes told) × (exit ≡ NothingBad)
@@ -42,10 +39,8 @@ IsTextFor NoMemory old new text exit = WantsMemory text exit
 -- and this is told beside: only a command that reads a text tells anything there
 abbrev pub IsAnswerTo : Invocation → Option (List ℕ) → Option (List ℕ) → Option (List ℕ) → List ℕ → Exit
     → Type 0
-IsAnswerTo (OfScenario command file answer threads) old new aside text exit =
+IsAnswerTo (OfText command file answer threads) old new aside text exit =
     IsReplyOf command old new aside text exit
-IsAnswerTo (OfLockProgram command file answer threads) old new aside text exit =
-    lock.IsReplyOf command old new aside text exit
 IsAnswerTo (Judge file demands most) old new aside text exit =
     IsJudgeReplyOf demands most old new aside text exit
 IsAnswerTo asked old new aside text exit = IsTextFor asked old new text exit × (aside ≡ None)
@@ -74,8 +69,7 @@ IsShownText (Some most) asked old new text exit = IsTextWithin most asked old ne
 
 -- the command reads an input
 abbrev pub reads_input : Invocation → Bool
-reads_input (OfScenario command file answer threads) = true
-reads_input (OfLockProgram command file answer threads) = true
+reads_input (OfText command file answer threads) = true
 reads_input (Judge file demands most) = true
 reads_input _ = false
 
@@ -101,13 +95,13 @@ abbrev pub unless_closed : Bool → Option (List ℕ)
 unless_closed true = None
 unless_closed false = Some (fault_text Write)
 
-abbrev pub beside : Invocation → Result Outcome IoFault → Bool → Option (List ℕ)
+abbrev pub beside : Invocation → Result Answered IoFault → Bool → Option (List ℕ)
 beside asked (Ok told) closed = or_mistake (option_map string_bytes told.aside) asked
 beside asked (Err Read) closed = Some (fault_text Read)
 beside asked (Err Write) closed = unless_closed closed
 
 -- the status after a command that ended so, or in which a read or a write failed
-abbrev pub status_after : Result Outcome IoFault → ℕ
+abbrev pub status_after : Result Answered IoFault → ℕ
 status_after (Ok told) = status_of told.exit
 status_after (Err fault) = 2
 

@@ -1,3 +1,5 @@
+pub mod Asked
+pub mod FileFault
 pub mod Invocation
 pub mod ProgressText
 pub mod Columns

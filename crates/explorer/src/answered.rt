@@ -1,11 +1,11 @@
 //! The schedule that stands in an answer, as `explore`, `check` and `try` tell it.
 
 ghost use Rattle.std.specs.Prelude.{◌≡◌, ◌↔◌, IfOk, IsErr, IsTrue, false};
-ghost use Rattle.explorer_words.specs.Invocation.{IsWithinLimits};
+ghost use Rattle.explorer.specs.Asked.{IsWithinLimits};
 
-use explorer_scenarios::{IoFault, MAX_TEXT, Source};
-use explorer_streams::{read_all, read_at_most};
-use explorer_words::Invocation;
+use crate::invocation::Invocation;
+use explorer_answers::{IoFault, MAX_TEXT, Source, read_all, read_at_most};
+use explorer_commands::Command;
 use std::alloc::{AllocError, Global};
 
 /// An answer that tells no schedule is replayed as this, which is none.
@@ -31,7 +31,10 @@ fn read_answer<R: Source>(
     ensures { IsErr result ↔ IsTrue (R.has_failed reader.new) }
 {
     match asked {
-        Invocation::OfLockProgram { .. } => read_all(alloc, reader),
+        Invocation::OfText {
+            command: Command::OnProgram(_),
+            ..
+        } => read_all(alloc, reader),
         _ => read_at_most(alloc, reader, MAX_TEXT),
     }
 }

@@ -2,14 +2,13 @@
 
 ghost use Rattle.std.specs.Prelude.{◌≡◌, ◌↔◌, false, Err, option_map, string_bytes, IsTrue, IfOk};
 ghost use Rattle.explorer_answers.specs.Told.{TellsAll, TellsBeginning};
-ghost use Rattle.explorer_words.specs.Invocation.{IsWithinLimits};
+ghost use Rattle.explorer.specs.Asked.{IsWithinLimits};
 ghost use Rattle.explorer.specs.Invocation.{IsShownAnswer, IsShownText, IsAnswerWithin, IsTextWithin};
 
 use crate::columns::fit_tables;
-use crate::program::answer_io;
-use explorer_answers::refuse_io;
-use explorer_scenarios::{Flagged, IoFault, Outcome, Sink, Source, StopWatch, write_all};
-use explorer_words::Invocation;
+use crate::invocation::Invocation;
+use crate::streams::answer_io;
+use explorer_answers::{Answered, Flagged, IoFault, Sink, Source, StopWatch, refuse_io, write_all};
 use std::alloc::Global;
 use std::sync::Wait;
 use std::thread::Threads;
@@ -27,7 +26,7 @@ fn cut_answer_io<T: Threads + Wait + Sync, R: Source, O: Sink, V: StopWatch>(
     out: &mut O,
     watch: &mut V,
     without: &mut Vec<u8>,
-) -> Result<Outcome, IoFault>
+) -> Result<Answered, IoFault>
     requires limits { IsWithinLimits asked.now }
     requires readable { R.has_failed reader.old ≡ false }
     requires writable { O.has_failed out.old ≡ false }
@@ -47,7 +46,7 @@ fn cut_answer_io<T: Threads + Wait + Sync, R: Source, O: Sink, V: StopWatch>(
         Err(IoFault::Read) => return Err(IoFault::Read),
         // memory was short
         Err(IoFault::Write) => {
-            return Ok(Outcome {
+            return Ok(Answered {
                 exit: refuse_io(out)?,
                 aside: None,
             });
@@ -59,7 +58,7 @@ fn cut_answer_io<T: Threads + Wait + Sync, R: Source, O: Sink, V: StopWatch>(
             *without = fitted.without;
             Ok(told)
         }
-        Err(_) => Ok(Outcome {
+        Err(_) => Ok(Answered {
             exit: refuse_io(out)?,
             aside: None,
         }),
@@ -79,7 +78,7 @@ pub(crate) fn shown_answer_io<T: Threads + Wait + Sync, R: Source, O: Sink, V: S
     out: &mut O,
     watch: &mut V,
     without: &mut Vec<u8>,
-) -> Result<Outcome, IoFault>
+) -> Result<Answered, IoFault>
     requires limits { IsWithinLimits asked.now }
     requires readable { R.has_failed reader.old ≡ false }
     requires writable { O.has_failed out.old ≡ false }

@@ -1,38 +1,51 @@
-//! The program's commands, over readers and writers: `once` and `threads`, `judge`, and those that search a
-//! scenario or a lock program.
+//! The program over readers and writers: it does what its words ask for, and writes its answer and what is
+//! told beside. [`parklot_io`] is the whole program on its words. [`read_words`] tells what they ask for: a
+//! command with its numbers, each within its limits, and its file, or help, or what is wrong. [`asked_io`]
+//! does just that, by the commands of `explorer_commands`.
 //!
-//! A command's text is whole before the first byte of it goes out, so that want of memory leaves nothing half
-//! told. It goes out through a [`Sink`], which knows whether a write failed, and the command answers with an
-//! [`Exit`]. [`parklot_io`] is the whole program on its words; [`read_words`] tells what they ask for (crate
-//! `explorer_words`), and [`asked_io`] does just that. `once` makes the calls of the running table, some of
-//! which may wait, and `threads` makes them in threads of its own: so the program asks for a runtime. Each
-//! command is in a crate below, and here is which of them is asked for, and what is told beside its answer.
+//! [`parklot_command`] is the command line as clap takes it: the commands, the arguments of each with their
+//! limits, and the help. `once` makes the calls of the running table, some of which may wait, and `threads`
+//! makes them in threads of its own: so the program asks for a runtime. Output goes out through a [`Sink`],
+//! and ends with an [`Exit`].
 #![tactic(auto)]
 
 mod answered;
+mod argument;
+mod asking;
 mod columns;
+mod command_line;
+mod commands;
 mod cut;
-mod program;
+mod file_fault;
+mod format;
+mod invocation;
+mod program_commands;
+mod shared_arguments;
+mod streams;
 mod surroundings;
 mod ticker;
 mod whole;
+mod words;
 
-pub use explorer_judge::{Demands, judge_io};
-pub use explorer_once::{OnceAnswers, Released, Retried, once_io, once_text};
-pub use explorer_scenarios::{
-    Bounds, Cause, Command, Exit, Extent, Extras, Flagged, Found, FoundInAll, IoFault, Kind,
-    MAX_DEPTH, MAX_TEXT, NO_MEMORY, Outcome, Property, ReadFault, Request, Searched, Sink, Source,
-    StopWatch, Team, Watch, check, check_asked, command_io, explore, explore_by, explore_io,
-    explore_variant, explore_variant_io, read_scenario, replay_io, verdict,
+pub use command_line::{CommandLine, MAX_COLUMNS};
+pub use commands::parklot_command;
+pub use explorer_answers::{
+    Answered, Exit, Extras, Flagged, IoFault, MAX_TEXT, NO_MEMORY, Sink, Source, StopWatch,
 };
-pub use explorer_threads::{
-    Closed, Gate, MAX_ROUNDS, MAX_WORKERS, Open, ThreadsRefused, run_threads, threads_io,
+pub use explorer_commands::{
+    Closed, Command, Demands, Gate, Layout, MAX_ROUNDS, MAX_WORKERS, OnceAnswers, OnceRetried,
+    Open, ProgramCommand, Released, ScenarioCommand, ThreadsRefused, command_io, explore_io,
+    explore_variant_io, judge_io, once_io, once_text, replay_io, run_threads, threads_io,
 };
-pub use explorer_words::{
-    CommandLine, FileFault, Invocation, no_file, no_words, read_line, read_words,
+pub use file_fault::FileFault;
+pub use invocation::{Invocation, MAX_LINES, MAX_THREADS, MAX_WORLDS};
+pub use scenario_search::{
+    Bounds, Cause, Extent, Found, FoundInAll, Kind, MAX_DEPTH, Property, ReadFault, Request,
+    Searched, Team, Watch, check, check_asked, explore, explore_by, explore_variant, read_scenario,
+    verdict,
 };
-pub use lock_commands::{Layout, LockCommand, lock_command_io};
-pub use program::asked_io;
+pub use streams::asked_io;
 pub use surroundings::{Surroundings, UNKNOWN, free_memory};
 pub use ticker::Ticker;
 pub use whole::parklot_io;
+pub use words::{no_file, no_words, read_line, read_words};

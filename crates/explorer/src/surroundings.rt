@@ -3,7 +3,7 @@
 ghost use Rattle.std.specs.Prelude.{◌≡◌, ◌<◌, ◌≤◌, ◌*◌, ◌/◌, Option, Some, MatchOption};
 ghost use Rattle.explorer.specs.Surroundings.{memory_text};
 
-use explorer_words::Invocation;
+use crate::invocation::Invocation;
 use std::io::Read;
 use std::rt::Files;
 use std::{fmt, fs};
@@ -39,8 +39,8 @@ pub const UNKNOWN: Surroundings = Surroundings {
 /// Whether a command reads standard input: its text, where it names no file, or the answer that it replays.
 fn reads_input(asked: &Invocation<'_>) -> bool {
     match asked {
-        Invocation::OfScenario { file, answer, .. } => file.is_none() || *answer == Some("-"),
-        Invocation::OfLockProgram { file, .. } | Invocation::Judge { file, .. } => file.is_none(),
+        Invocation::OfText { file, answer, .. } => file.is_none() || *answer == Some("-"),
+        Invocation::Judge { file, .. } => file.is_none(),
         _ => false,
     }
 }

@@ -3,7 +3,8 @@
 ghost use Rattle.std.specs.Prelude.{Some};
 ghost use Rattle.explorer.specs.ProgressText.{progress_text};
 
-use explorer_scenarios::{Extent, Sink, StopWatch, Watch, write_all};
+use explorer_answers::{Sink, StopWatch, write_all};
+use scenario_search::{Extent, Watch};
 use std::alloc::Global;
 use std::fmt;
 use std::time::{Clock, Instant};

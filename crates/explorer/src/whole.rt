@@ -1,17 +1,19 @@
 //! The whole program, on its words. The files that they name are opened through the runtime.
 
 ghost use Rattle.std.specs.Prelude.{◌≡◌, IfOk, IfSome, IsTrue, false};
-ghost use Rattle.explorer_words.specs.Invocation.{IsFromOne, IsWithinLimits};
+ghost use Rattle.explorer.specs.Asked.{IsFromOne, IsWithinLimits};
 ghost use Rattle.explorer.specs.Invocation.{HasDone, HasDoneSome};
 
 use crate::answered::scheduled_by;
+use crate::command_line::CommandLine;
 use crate::cut::shown_answer_io;
-use crate::program::{beside, fault_text, status_after, tell_beside};
+use crate::file_fault::FileFault;
+use crate::invocation::Invocation;
+use crate::streams::{beside, fault_text, status_after, tell_beside};
 use crate::surroundings::{HINT, Surroundings};
 use crate::ticker::Ticker;
-use explorer_scenarios::{Command, Exit, Flagged, IoFault, Sink, Source, write_all};
-use explorer_words::{CommandLine, FileFault, Invocation, no_file, read_line};
-use lock_commands::LockCommand;
+use crate::words::{no_file, read_line};
+use explorer_answers::{Exit, Flagged, IoFault, Sink, Source, write_all};
 use std::alloc::Global;
 use std::fs;
 use std::rt::Files;
@@ -64,15 +66,7 @@ fn bound_told(asked: &Invocation<'_>, is_seen: bool) -> Option<u32> {
         return None;
     }
     match asked {
-        Invocation::OfScenario { command, .. } => match command {
-            Command::Explore { bounds, .. } => Some(bounds.worlds),
-            Command::Check { worlds, .. } => Some(*worlds),
-            Command::Replay { .. } => None,
-        },
-        Invocation::OfLockProgram { command, .. } => match command {
-            LockCommand::Try { worlds, .. } => Some(*worlds),
-            LockCommand::Retrace { .. } => None,
-        },
+        Invocation::OfText { command, .. } => command.worlds(),
         _ => None,
     }
 }

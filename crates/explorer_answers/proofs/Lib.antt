@@ -1,1 +1,4 @@
+pub mod Filling
+pub mod Beginnings
+pub mod SeatCalls
 pub mod Telling

@@ -1,7 +1,10 @@
+pub mod Reading
+pub mod Writing
+pub mod Explained
+pub mod JournalHelp
 pub mod Line
 pub mod Exit
 pub mod Output
-pub mod AskedText
 pub mod FoundText
 pub mod CheckText
 pub mod StatsText

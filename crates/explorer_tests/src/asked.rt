@@ -1,6 +1,6 @@
 //! The program over memory. It is asked once more where memory was refused.
 
-ghost use Rattle.explorer_words.specs.Invocation.{IsWithinLimits};
+ghost use Rattle.explorer.specs.Asked.{IsWithinLimits};
 
 use crate::assertion::holds_for;
 use crate::devices::{Calls, Giving, SOUND, Taking};

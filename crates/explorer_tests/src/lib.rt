@@ -1,5 +1,5 @@
 //! The tests of the program and of what it stands on, which use each crate from outside, as one above it does:
-//! `machine` those of `step_core`, `search` those of `explorer_search`, `locks` those of lock programs,
+//! `machine` those of `step_core`, `searches` those of `search`, `locks` those of lock programs,
 //! `shortage` those of calls whose memory is really short, and the others those of `explorer`. What the program
 //! answers to a text and words is no test: it stands in `crates/gallery/data/cases`, which the gallery tries.
 //!
@@ -36,7 +36,7 @@ mod reading;
 #[cfg(test)]
 mod repeated;
 #[cfg(test)]
-mod search;
+mod searches;
 #[cfg(test)]
 mod shortage;
 #[cfg(test)]

@@ -1,5 +1,5 @@
-//! The tests of lock programs: what their lines say (`lock_text`), where schedules lead them and with which keys
-//! (`lock_machine`, `lock_keys`), and what is written of them (`lock_commands`).
+//! The tests of lock programs: what their lines say (`program_text`), where schedules lead them and with which keys
+//! (`program_machine`), and what is written of them (`explorer_commands`).
 
 mod answer_tests;
 mod key_tests;

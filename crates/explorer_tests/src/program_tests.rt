@@ -1,6 +1,6 @@
 //! The program where no command could be read, or no file opened.
 
-ghost use Rattle.explorer_words.specs.Invocation.{IsWithinLimits};
+ghost use Rattle.explorer.specs.Asked.{IsWithinLimits};
 
 use crate::asked::{ALL_SOUND, Host, run};
 use crate::assertion::holds;

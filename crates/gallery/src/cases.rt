@@ -3,7 +3,7 @@
 use crate::{Ended, run, words_of};
 use anyhow::Result;
 use explorer::read_words;
-use explorer_text::read_scenario;
+use scenario_text::read_scenario;
 use std::alloc::{AllocError, Global};
 use std::rt::Files;
 use std::sync::Wait;

@@ -21,10 +21,10 @@ ghost use Rattle.c_calls.specs.Codes.{told, done, IsOk, IsOneOrHanded};
 ghost use Rattle.c_calls.specs.Answers.{Answers, Telling, NamesWoken};
 ghost use Rattle.c_calls.specs.Answers.{NamesEach, LacksRoom, TellsNumber, Frees};
 ghost use Rattle.c_calls.specs.Answers.{WritesOnlyWith, WritesSeats};
-ghost use Rattle.c_calls.specs.Deals.{DealsToEmpty};
+ghost use Rattle.c_calls.specs.Deals.{DealsTable, DealsToEmpty};
 
 use c_calls::codes::NO_SEAT;
-use c_calls::{Kept, SeatHandle, deal};
+use c_calls::{KeptSeat, SeatHandle, deal};
 use std::alloc::Global;
 
 mod list;
@@ -46,9 +46,9 @@ pub extern "C" fn parklot_new(
     release_limit: u64,
     seats: &mut [SeatHandle],
 ) -> u32
-    ensures { DealsToEmpty starts.now roots seed release_limit seats.old result seats.new }
+    ensures { DealsToEmpty (DealsTable starts.now roots seed release_limit) seats.old result seats.new }
 {
-    deal::deal_to_empty(alloc, starts, roots, seed, release_limit, seats)
+    deal::deal_table(alloc, starts, roots, seed, release_limit, seats)
 }
 
 /// Frees a seat that rests. The table goes with the last of its seats.
@@ -71,7 +71,7 @@ pub extern "C" fn parklot_number(seat: &mut SeatHandle, number: &mut u32) -> u32
     if !seat.is_full {
         return NO_SEAT;
     }
-    let Kept::OfTable(place) = seat.cell.place() else {
+    let KeptSeat::OfTable(place) = seat.cell.place() else {
         return NO_SEAT;
     };
     place.number(number)
@@ -87,7 +87,7 @@ pub extern "C" fn parklot_try_acquire(seat: &mut SeatHandle, counter: u32) -> u3
     if !seat.is_full {
         return NO_SEAT;
     }
-    let Kept::OfTable(place) = seat.cell.place() else {
+    let KeptSeat::OfTable(place) = seat.cell.place() else {
         return NO_SEAT;
     };
     place.try_acquire(counter)
@@ -103,7 +103,7 @@ pub extern "C" fn parklot_enter(seat: &mut SeatHandle, counter: u32, lifo: bool)
     if !seat.is_full {
         return NO_SEAT;
     }
-    let Kept::OfTable(place) = seat.cell.place() else {
+    let KeptSeat::OfTable(place) = seat.cell.place() else {
         return NO_SEAT;
     };
     place.enter(counter, lifo)
@@ -119,7 +119,7 @@ pub extern "C" fn parklot_poll(seat: &mut SeatHandle) -> u32
     if !seat.is_full {
         return NO_SEAT;
     }
-    let Kept::OfTable(place) = seat.cell.place() else {
+    let KeptSeat::OfTable(place) = seat.cell.place() else {
         return NO_SEAT;
     };
     place.poll()
@@ -135,7 +135,7 @@ pub extern "C" fn parklot_retry(seat: &mut SeatHandle) -> u32
     if !seat.is_full {
         return NO_SEAT;
     }
-    let Kept::OfTable(place) = seat.cell.place() else {
+    let KeptSeat::OfTable(place) = seat.cell.place() else {
         return NO_SEAT;
     };
     place.retry()
@@ -151,7 +151,7 @@ pub extern "C" fn parklot_post(seat: &mut SeatHandle, counter: u32) -> u32
     if !seat.is_full {
         return NO_SEAT;
     }
-    let Kept::OfTable(place) = seat.cell.place() else {
+    let KeptSeat::OfTable(place) = seat.cell.place() else {
         return NO_SEAT;
     };
     place.post(counter)
@@ -167,7 +167,7 @@ pub extern "C" fn parklot_post_many(seat: &mut SeatHandle, counter: u32, units: 
     if !seat.is_full {
         return NO_SEAT;
     }
-    let Kept::OfTable(place) = seat.cell.place() else {
+    let KeptSeat::OfTable(place) = seat.cell.place() else {
         return NO_SEAT;
     };
     place.post_many(counter, units)
@@ -186,7 +186,7 @@ pub extern "C" fn parklot_wake(seat: &mut SeatHandle, handoff: bool, woken: &mut
     if !seat.is_full {
         return NO_SEAT;
     }
-    let Kept::OfTable(place) = seat.cell.place() else {
+    let KeptSeat::OfTable(place) = seat.cell.place() else {
         return NO_SEAT;
     };
     place.wake(handoff, woken)
@@ -209,7 +209,7 @@ pub extern "C" fn parklot_wake_some(
     if !seat.is_full {
         return NO_SEAT;
     }
-    let Kept::OfTable(place) = seat.cell.place() else {
+    let KeptSeat::OfTable(place) = seat.cell.place() else {
         return NO_SEAT;
     };
     place.wake_some(woken, count)
@@ -226,7 +226,7 @@ pub extern "C" fn parklot_value(seat: &mut SeatHandle, counter: u32, value: &mut
     if !seat.is_full {
         return NO_SEAT;
     }
-    let Kept::OfTable(place) = seat.cell.place() else {
+    let KeptSeat::OfTable(place) = seat.cell.place() else {
         return NO_SEAT;
     };
     place.value(counter, value)
@@ -247,7 +247,7 @@ pub extern "C" fn parklot_waiters_of_root(
     if !seat.is_full {
         return NO_SEAT;
     }
-    let Kept::OfTable(place) = seat.cell.place() else {
+    let KeptSeat::OfTable(place) = seat.cell.place() else {
         return NO_SEAT;
     };
     place.waiters_of_root(counter, waits)

@@ -9,19 +9,19 @@ ghost use Rattle.c_calls.specs.ListCodes.{refused_code, entered_code, polled_cod
 ghost use Rattle.c_calls.specs.Answers.{Answers, Telling, LacksRoom, TellsNumber, Frees};
 ghost use Rattle.c_calls.specs.Answers.{WritesOnlyWith, WritesSeats};
 ghost use Rattle.c_calls.specs.ListAnswers.{NotifiesOrGoesOn, NamesGranted, NamesAll};
-ghost use Rattle.c_calls.specs.ListDeals.{DealsToEmpty};
+ghost use Rattle.c_calls.specs.Deals.{DealsList, DealsToEmpty};
 
 use c_calls::codes::NO_SEAT;
-use c_calls::{Kept, SeatHandle, list_deal};
+use c_calls::{KeptSeat, SeatHandle, deal};
 use std::alloc::Global;
 
 /// Makes a list whose first ticket is this one, and gives each of `seats` one of its seats, in the order of
 /// their numbers. Where it answers anything but OK it has done nothing.
 #[unsafe(no_mangle)]
 pub extern "C" fn parklot_list_new(alloc: Global, first: u64, seats: &mut [SeatHandle]) -> u32
-    ensures { DealsToEmpty first seats.old result seats.new }
+    ensures { DealsToEmpty (DealsList first) seats.old result seats.new }
 {
-    list_deal::deal_to_empty(alloc, first, seats)
+    deal::deal_list(alloc, first, seats)
 }
 
 /// Frees a seat that rests. The list goes with the last of its seats.
@@ -44,7 +44,7 @@ pub extern "C" fn parklot_list_number(seat: &mut SeatHandle, number: &mut u32) -
     if !seat.is_full {
         return NO_SEAT;
     }
-    let Kept::OfList(place) = seat.cell.place() else {
+    let KeptSeat::OfList(place) = seat.cell.place() else {
         return NO_SEAT;
     };
     place.number(number)
@@ -61,7 +61,7 @@ pub extern "C" fn parklot_list_add(seat: &mut SeatHandle, ticket: &mut u64) -> u
     if !seat.is_full {
         return NO_SEAT;
     }
-    let Kept::OfList(place) = seat.cell.place() else {
+    let KeptSeat::OfList(place) = seat.cell.place() else {
         return NO_SEAT;
     };
     place.add(ticket)
@@ -77,7 +77,7 @@ pub extern "C" fn parklot_list_try_wait(seat: &mut SeatHandle) -> u32
     if !seat.is_full {
         return NO_SEAT;
     }
-    let Kept::OfList(place) = seat.cell.place() else {
+    let KeptSeat::OfList(place) = seat.cell.place() else {
         return NO_SEAT;
     };
     place.try_wait()
@@ -93,7 +93,7 @@ pub extern "C" fn parklot_list_poll(seat: &mut SeatHandle) -> u32
     if !seat.is_full {
         return NO_SEAT;
     }
-    let Kept::OfList(place) = seat.cell.place() else {
+    let KeptSeat::OfList(place) = seat.cell.place() else {
         return NO_SEAT;
     };
     place.poll()
@@ -111,7 +111,7 @@ pub extern "C" fn parklot_list_one(seat: &mut SeatHandle, woken: &mut u32) -> u3
     if !seat.is_full {
         return NO_SEAT;
     }
-    let Kept::OfList(place) = seat.cell.place() else {
+    let KeptSeat::OfList(place) = seat.cell.place() else {
         return NO_SEAT;
     };
     place.one(woken)
@@ -130,7 +130,7 @@ pub extern "C" fn parklot_list_all(seat: &mut SeatHandle, woken: &mut [u32], cou
     if !seat.is_full {
         return NO_SEAT;
     }
-    let Kept::OfList(place) = seat.cell.place() else {
+    let KeptSeat::OfList(place) = seat.cell.place() else {
         return NO_SEAT;
     };
     place.all(woken, count)
@@ -147,7 +147,7 @@ pub extern "C" fn parklot_list_quiet(seat: &mut SeatHandle, quiet: &mut bool) ->
     if !seat.is_full {
         return NO_SEAT;
     }
-    let Kept::OfList(place) = seat.cell.place() else {
+    let KeptSeat::OfList(place) = seat.cell.place() else {
         return NO_SEAT;
     };
     place.quiet(quiet)

@@ -1,7 +1,7 @@
 -- What a treap is: a search tree by counters that is a heap by tickets, whatever it holds for each counter.
 use Rattle.std.specs.Prelude.{◌==◌, ◌≤◌, ◌+◌, ℕ, List, [], ◌∷◌, ◌++◌, Option, Some, None, ⊤, ltb}
 use Rattle.std.specs.Prelude.{if◌then◌else◌}
-use Rattle.sema_root.specs.declared.place.Place.{Place}
+use Rattle.sema_root.specs.declared.place.TreapPlace.{TreapPlace}
 use Rattle.sema_root.specs.Entries.{AreRising}
 
 -- a counter with its ticket, and what the tree holds for it
@@ -44,7 +44,7 @@ module _ {V : Type 0} where
   top_value (fork _ node _) = Some node.value
 
   -- where the topmost node stands: its ticket, and the two counters right below it
-  abbrev pub top_place : Tree V → Option Place
+  abbrev pub top_place : Tree V → Option TreapPlace
   top_place leaf = None
   top_place (fork left node right) =
       Some (record { ticket = node.ticket; left = top_counter left; right = top_counter right })

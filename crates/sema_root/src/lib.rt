@@ -21,7 +21,7 @@ mod tickets;
 mod treap;
 mod treap_root;
 
-pub use place::Place;
+pub use place::TreapPlace;
 pub use sorted_root::SortedRoot;
 pub use store::RootStore;
 pub use treap_root::TreapRoot;

@@ -9,7 +9,7 @@ ghost use Rattle.sema_root.specs.declared.nodes.Node.{Node};
 ghost use Rattle.sema_root.specs.Tree.{sought, top_counter, top_place, top_value};
 ghost use Rattle.sema_root.specs.Linked.{tree_at, AreMergeable, Holds, IsSearchable, Merges, Splits};
 
-use crate::place::Place;
+use crate::place::TreapPlace;
 use slab::Slab;
 use waiters::{CounterId, ListKey};
 
@@ -68,7 +68,11 @@ pub(crate) fn counter_at(nodes: &Slab<Node>, top: Option<usize>) -> Option<Count
 }
 
 /// Where the node of a counter stands, if it is in the tree below `top`.
-pub(crate) fn place_of(nodes: &Slab<Node>, top: Option<usize>, counter: CounterId) -> Option<Place>
+pub(crate) fn place_of(
+    nodes: &Slab<Node>,
+    top: Option<usize>,
+    counter: CounterId,
+) -> Option<TreapPlace>
     requires { Holds nodes.now top (tree_at nodes.now top) }
     ensures { result ≡ top_place (sought counter (tree_at nodes.now top)) }
 {
@@ -76,7 +80,7 @@ pub(crate) fn place_of(nodes: &Slab<Node>, top: Option<usize>, counter: CounterI
         return None;
     };
     let node = &nodes[at];
-    Some(Place {
+    Some(TreapPlace {
         ticket: node.ticket,
         left: counter_at(nodes, node.left),
         right: counter_at(nodes, node.right),

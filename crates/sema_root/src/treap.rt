@@ -7,7 +7,7 @@ ghost use Rattle.sema_root.specs.Planted.{Enters, IsFound, Leaves};
 use crate::branches::{Branches, leave, list_for};
 use crate::listed::Listed;
 use crate::nodes::{counter_at, list_of, place_of};
-use crate::place::Place;
+use crate::place::TreapPlace;
 use slab::Slab;
 use std::alloc::{AllocError, Global};
 use std::marker::Model;
@@ -88,7 +88,7 @@ impl Treap {
     }
 
     /// Where the node of a counter stands, if it is in.
-    pub(crate) fn place(&self, counter: CounterId) -> Option<Place>
+    pub(crate) fn place(&self, counter: CounterId) -> Option<TreapPlace>
         ensures place { result ≡ top_place (sought counter self.now.tree) }
         ensures treap { IsTreap self.now.tree }
     {

@@ -11,7 +11,7 @@ ghost use Rattle.sema_root.specs.Rooted.{Comes, IsIn};
 ghost use Rattle.sema_root.specs.Tree.{leaf, top_counter, top_place, top_value, sought, IsTreap};
 ghost use Rattle.sema_root.specs.Treap.{queues_of, KeepsTickets, Draws, tickets_from};
 
-use crate::place::Place;
+use crate::place::TreapPlace;
 use crate::push::push;
 use crate::store::RootStore;
 use crate::tickets::Tickets;
@@ -68,7 +68,7 @@ impl TreapRoot {
     }
 
     /// The node of a counter, `None` where nobody waits on it.
-    pub fn place(&self, counter: CounterId) -> Option<Place>
+    pub fn place(&self, counter: CounterId) -> Option<TreapPlace>
         ensures place { result ≡ top_place (sought counter self.now.tree) }
         ensures treap { IsTreap self.now.tree }
     {

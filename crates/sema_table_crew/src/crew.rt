@@ -4,7 +4,7 @@ ghost use Rattle.std.specs.Prelude.{◌≡◌, ◌<◌, All, length, IfOk, IfSom
 ghost use Rattle.sema_table_crew.specs.Turns.{HasWorked, IsCrewRun};
 ghost use Rattle.sema_table_crew.specs.Crew.{IsWorker};
 
-use crate::start::Start;
+use crate::start::CrewStart;
 use crate::work::Work;
 use sema_table::{Closed, Seat, SemaTable};
 use std::alloc::Global;
@@ -35,7 +35,13 @@ impl<'t> Promise<Option<Seat>> for Back<'t> {
 type Worker<'t> = PromisedHandle<Option<Seat>, Back<'t>>;
 
 /// A seat's part of the plan, from the start on.
-fn work<R: Wait>(rt: &R, table: &SemaTable, seat: Seat, plan: Plan, start: &Start) -> Option<Seat>
+fn work<R: Wait>(
+    rt: &R,
+    table: &SemaTable,
+    seat: Seat,
+    plan: Plan,
+    start: &CrewStart,
+) -> Option<Seat>
     requires { (seat.table ≡ table.now) × (0 < length table.now.setting.starts) }
     ensures { IfSome result (HasWorked table.now plan.work plan.turns) }
 {
@@ -54,7 +60,7 @@ fn hire_all<'s, E, R: Threads + Wait + Sync>(
     table: &'s SemaTable,
     seats: Vec<Seat>,
     plan: Plan,
-    start: &'s Start,
+    start: &'s CrewStart,
 ) -> (Vec<Worker<'s>>, bool)
     requires table { 0 < length table.now.setting.starts }
     requires seats { All (λ s. s.table ≡ table.now) seats.items }
@@ -110,7 +116,7 @@ fn work_all<R: Threads + Wait + Sync>(
     table: &SemaTable,
     seats: Vec<Seat>,
     plan: Plan,
-    start: &Start,
+    start: &CrewStart,
 ) -> Result<Vec<Seat>, NoMemory>
     requires table { 0 < length table.now.setting.starts }
     requires seats { All (λ s. s.table ≡ table.now) seats.items }
@@ -149,7 +155,7 @@ pub fn run<R: Threads + Wait + Sync>(
     ensures { IfOk result (IsCrewRun table work turns) }
 {
     let plan = Plan { work, turns };
-    let seats = work_all(rt, alloc, &table, seats, plan, &Start::new())?;
+    let seats = work_all(rt, alloc, &table, seats, plan, &CrewStart::new())?;
     if seats.len() != table.seats() as usize {
         return Err(NoMemory);
     }

@@ -9,6 +9,6 @@ mod told;
 mod work;
 
 pub use crew::run;
-pub use start::Start;
+pub use start::CrewStart;
 pub use told::tell;
 pub use work::{Way, Work};

@@ -14,14 +14,14 @@ const GIVE_UP: u64 = 2;
 /// Threads begin together, once all are made: one that waits for another that isn't there would wait for
 /// good.
 #[derive(Drop)]
-pub struct Start {
+pub struct CrewStart {
     told: AtomicU64,
 }
 
-impl Start {
+impl CrewStart {
     /// Nobody begins yet.
-    pub fn new() -> Start {
-        Start {
+    pub fn new() -> CrewStart {
+        CrewStart {
             told: AtomicU64::new(NOT_YET),
         }
     }

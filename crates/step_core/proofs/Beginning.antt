@@ -10,7 +10,7 @@ use Rattle.waiters.specs.declared.wait.WaitId.{WaitId}
 use Rattle.step_table.specs.declared.parts.Parts.{Parts}
 use Rattle.step_table.specs.declared.standing.Standing.TheVariants.{Rest}
 use Rattle.step_table.specs.World.{SemaWorld, first_world}
-use Rattle.step_rows.specs.Stored.{Semaphores, Stored, IsStoredFor, each, idle, first_stored, seat_of}
+use Rattle.step_rows.specs.Stored.{SemaMachine, Stored, IsStoredFor, each, idle, first_stored, seat_of}
 use Rattle.step_rows.specs.Stored as sema
 use Rattle.step_table.specs.ListWorld.{first_list}
 use Rattle.step_rows.specs.ListStored.{StoredList, moment_of, first_moment, world_at, world_of, ListMoment}
@@ -18,7 +18,7 @@ use Rattle.step_table.specs.Wrapping.{word_of}
 use Rattle.step_table.specs.Group.{empty_word}
 use Rattle.step_table.specs.Core.{first_core}
 use Rattle.step_table.specs.Run.{layout}
-use Rattle.step_core.specs.State.{Machine, AreFirst, IsMachineFor, core_of, list_of, no_list}
+use Rattle.step_core.specs.State.{WholeMachine, AreFirst, IsMachineFor, core_of, list_of, no_list}
 use Rattle.step_rows.proofs.Storing.{copies}
 
 -- one more list at its first ticket
@@ -40,14 +40,14 @@ pub all_same : {A : Type 0} (x : A) (n k : ℕ) → get_or (map (λ i. x) (range
 all_same x n k = get_or-map (λ i. x) (range_with_len 0 n) k 0
 
 -- what is made of these parts
-pub record IsMadeOf (parts : Parts) (h : Machine) : Type 0 where
+pub record IsMadeOf (parts : Parts) (h : WholeMachine) : Type 0 where
   pub stored : h.semaphores.stored ≡ first_stored parts.starts parts.groups parts.roots (length parts.calls)
   pub callers : h.semaphores.callers ≡ map (λ k. idle) (range_with_len 0 (length parts.calls))
   pub lists : AreFirst parts.firsts (length parts.firsts) (length parts.calls) h.lists
   pub groups : h.groups ≡ map (λ g. empty_word) (range_with_len 0 parts.groups)
   pub standing : h.standing ≡ map (λ k. Rest) (range_with_len 0 (length parts.calls))
 
-module _ (parts : Parts) (h : Machine) (made : IsMadeOf parts h) where
+module _ (parts : Parts) (h : WholeMachine) (made : IsMadeOf parts h) where
   pub stored_first : IsStoredFor (length parts.starts) parts.groups parts.roots (length parts.calls) h.semaphores.stored
   stored_first = rw made.stored (record {
     own_is = refl;

@@ -12,7 +12,7 @@ use Rattle.step_table.specs.declared.standing.Standing.{Standing}
 use Rattle.step_table.specs.declared.standing.Standing.TheVariants.{Rest}
 use Rattle.step_table.specs.World.{SemaWorld, put, journal_after}
 use Rattle.step_table.specs.Steps.{event_of, finds, turned, moved}
-use Rattle.step_rows.specs.Stored.{Semaphores, HasTurned, HasMoved, IsSameSize, each}
+use Rattle.step_rows.specs.Stored.{SemaMachine, HasTurned, HasMoved, IsSameSize, each}
 use Rattle.step_rows.specs.Stored as sema
 use Rattle.step_table.specs.ListWorld.{ListEntry, ListWorld}
 use Rattle.step_table.specs.ListSteps as list
@@ -21,13 +21,13 @@ use Rattle.step_rows.specs.ListStored as stored_list
 use Rattle.step_table.specs.Group.{empty_word}
 use Rattle.step_table.specs.Core.{CoreLayout, Core, journal_after_list, sema_entries, list_entries}
 use Rattle.step_table.specs.CoreSteps.{stands, counter_row, list_row}
-use Rattle.step_core.specs.State.{Machine, core_of, list_of, no_list, IsMachineFor, AreSameSize, Becomes, HasSeat}
+use Rattle.step_core.specs.State.{WholeMachine, core_of, list_of, no_list, IsMachineFor, AreSameSize, Becomes, HasSeat}
 use Rattle.step_table.proofs.Sums.{put_here, put_else}
 use Rattle.step_rows.proofs.Storing.{each_set}
 use Rattle.step_law_whole.proofs.CoreJournals.{sema_after, list_unchanged, sema_unchanged, list_after, other_unchanged}
 use Rattle.step_law_whole.proofs.CoreRows.{leads_on}
 
-pub no_change : (m : Semaphores) → IsSameSize m m
+pub no_change : (m : SemaMachine) → IsSameSize m m
 no_change m = record {
   own = refl;
   roots = refl;
@@ -40,7 +40,7 @@ no_change m = record {
   callers = refl;
 }
 
-then_alike : (h k l : Semaphores) → IsSameSize h k → IsSameSize k l → IsSameSize h l
+then_alike : (h k l : SemaMachine) → IsSameSize h k → IsSameSize k l → IsSameSize h l
 then_alike h k l a b = record {
   own = b.own ∙ a.own;
   roots = b.roots ∙ a.roots;
@@ -54,7 +54,7 @@ then_alike h k l a b = record {
 }
 
 -- a machine that has changed has the same layout
-pub same_layout : (m : CoreLayout) (h k : Machine) → AreSameSize h k → IsMachineFor m h → IsMachineFor m k
+pub same_layout : (m : CoreLayout) (h k : WholeMachine) → AreSameSize h k → IsMachineFor m h → IsMachineFor m k
 same_layout m h k alike is = record {
   root = (λ j. Rattle.step_table.specs.World.root_number (alike.semaphores.own j) (alike.semaphores.roots j)) ∙ is.root;
   counters = alike.semaphores.own ∙ is.counters;
@@ -66,7 +66,7 @@ same_layout m h k alike is = record {
 }
 
 -- as many of everything after two changes
-pub then_all : (h k l : Machine) → AreSameSize h k → AreSameSize k l → AreSameSize h l
+pub then_all : (h k l : WholeMachine) → AreSameSize h k → AreSameSize k l → AreSameSize h l
 then_all h k l one two = record {
   semaphores = then_alike h.semaphores k.semaphores l.semaphores one.semaphores two.semaphores;
   lists = two.lists ∙ one.lists;
@@ -76,7 +76,7 @@ then_all h k l one two = record {
 }
 
 -- one change after another
-pub and_then : {f g : CoreLayout → Core → Core} {h k l : Machine} → Becomes f h k → Becomes g k l → Becomes (λ m s. g m (f m s)) h l
+pub and_then : {f g : CoreLayout → Core → Core} {h k l : WholeMachine} → Becomes f h k → Becomes g k l → Becomes (λ m s. g m (f m s)) h l
 and_then {f = f} {g = g} {h = h} {k = k} {l = l} one two = record {
   alike = then_all h k l one.alike two.alike;
   core = λ m is journal.
@@ -85,7 +85,7 @@ and_then {f = f} {g = g} {h = h} {k = k} {l = l} one two = record {
 }
 
 -- what a seat does
-pub standing_set : (h : Machine) (i : ℕ) (x : Standing) → i < length h.standing
+pub standing_set : (h : WholeMachine) (i : ℕ) (x : Standing) → i < length h.standing
     → Becomes (λ m s. stands s i x) h (record h { standing = set h.standing i x })
 standing_set h i x here = record {
   alike = record {
@@ -99,7 +99,7 @@ standing_set h i x here = record {
 }
 
 -- the word of a group
-pub group_set : (h : Machine) (g : ℕ) (x : GroupWord) → g < length h.groups
+pub group_set : (h : WholeMachine) (g : ℕ) (x : GroupWord) → g < length h.groups
     → Becomes (λ m s. record s { groups = put s.groups g x }) h (record h { groups = set h.groups g x })
 group_set h g x here = record {
   alike = record {
@@ -113,7 +113,7 @@ group_set h g x here = record {
 }
 
 -- where a seat stands on the semaphores
-pub counters_moved : (h : Machine) (i : ℕ) (place : Place) (n : Semaphores) → HasMoved h.semaphores i place n
+pub counters_moved : (h : WholeMachine) (i : ℕ) (place : Place) (n : SemaMachine) → HasMoved h.semaphores i place n
     → Becomes (λ m s. record s { semaphores = moved s.semaphores i place }) h (record h { semaphores = n })
 counters_moved h i place n is = record {
   alike = record {
@@ -127,7 +127,7 @@ counters_moved h i place n is = record {
 }
 
 -- a row on the semaphores
-pub counters_turned : (h : Machine) (i : ℕ) (effect : Effect) (n : Semaphores) → HasTurned h.semaphores i effect n
+pub counters_turned : (h : WholeMachine) (i : ℕ) (effect : Effect) (n : SemaMachine) → HasTurned h.semaphores i effect n
     → Becomes (λ m s. counter_row m s i) h (record h { semaphores = n })
 counters_turned h i effect n is = record {
   alike = record {
@@ -160,7 +160,7 @@ counters_turned h i effect n is = record {
         }
 
 -- the lists, of which one has changed and the others have their entries as before
-module _ (h : Machine) (l : ℕ) (here : l < length h.lists) (x : StoredList) where
+module _ (h : WholeMachine) (l : ℕ) (here : l < length h.lists) (x : StoredList) where
   lists_now : (journal told : List Entry) (w : ListWorld) → stored_list.world_of x (list_entries l told) ≡ w
       → ((k : ℕ) → l ≢ k → list_entries k told ≡ list_entries k journal)
       → list_of (set h.lists l x) told ≡ put (list_of h.lists journal) l w
@@ -228,28 +228,28 @@ module _ (h : Machine) (l : ℕ) (here : l < length h.lists) (x : StoredList) wh
           }
 
 -- the same, as the code has it: the machine that is shown, and the number of the place that was written
-module _ (h shows : Machine) (same : h ≡ shows) where
-  pub shown : {f : CoreLayout → Core → Core} {k : Machine} → Becomes f h k → Becomes f shows k
+module _ (h shows : WholeMachine) (same : h ≡ shows) where
+  pub shown : {f : CoreLayout → Core → Core} {k : WholeMachine} → Becomes f h k → Becomes f shows k
   shown {f = f} {k = k} is = subst (λ z. Becomes f z k) same is
 
   pub stands_at : (i n : ℕ) → n ≡ i → HasSeat shows i → (x : Standing)
       → Becomes (λ m s. stands s i x) shows (record h { standing = set h.standing n x })
   stands_at i n number there x =
-      let here : i < length h.standing = subst (λ (z : Machine). i < length z.standing) (sym same) there.1 in
+      let here : i < length h.standing = subst (λ (z : WholeMachine). i < length z.standing) (sym same) there.1 in
       subst (λ k. Becomes (λ m s. stands s i x) shows (record h { standing = set h.standing k x })) (sym number) (shown (standing_set h i x here))
 
   pub group_at : (g n : ℕ) → n ≡ g → g < length shows.groups → (x : GroupWord)
       → Becomes (λ m s. record s { groups = put s.groups g x }) shows (record h { groups = set h.groups n x })
   group_at g n number there x =
-      let here : g < length h.groups = subst (λ (z : Machine). g < length z.groups) (sym same) there in
+      let here : g < length h.groups = subst (λ (z : WholeMachine). g < length z.groups) (sym same) there in
       subst (λ k. Becomes (λ m s. record s { groups = put s.groups g x }) shows (record h { groups = set h.groups k x })) (sym number)
       (shown (group_set h g x here))
 
-  pub moves_at : (i : ℕ) (place : Place) (n : Semaphores) → HasMoved h.semaphores i place n
+  pub moves_at : (i : ℕ) (place : Place) (n : SemaMachine) → HasMoved h.semaphores i place n
       → Becomes (λ m s. record s { semaphores = moved s.semaphores i place }) shows (record h { semaphores = n })
   moves_at i place n is = shown (counters_moved h i place n is)
 
-  pub turns_at : (i : ℕ) (effect : Effect) (n : Semaphores) → HasTurned h.semaphores i effect n
+  pub turns_at : (i : ℕ) (effect : Effect) (n : SemaMachine) → HasTurned h.semaphores i effect n
       → Becomes (λ m s. counter_row m s i) shows (record h { semaphores = n })
   turns_at i effect n is = shown (counters_turned h i effect n is)
 
@@ -257,7 +257,7 @@ module _ (h shows : Machine) (same : h ≡ shows) where
   pub is_list : (l n : ℕ) → n ≡ l → l < length shows.lists → (was : StoredList) → was ≡ get_or h.lists n was
       → (l < length h.lists) × (was ≡ each no_list h.lists l)
   is_list l n number there was at =
-      let here : l < length h.lists = subst (λ (z : Machine). l < length z.lists) (sym same) there in
+      let here : l < length h.lists = subst (λ (z : WholeMachine). l < length z.lists) (sym same) there in
       (here, at ∙ ap (λ k. get_or h.lists k was) number ∙ get_or_default h.lists l was no_list here)
 
   pub list_changes_at : (l n : ℕ) → n ≡ l → l < length shows.lists → (was : StoredList) → was ≡ get_or h.lists n was → (x : StoredList)
@@ -280,7 +280,7 @@ module _ (h shows : Machine) (same : h ≡ shows) where
       (shown (list_turned h l is.0 x i effect (subst (λ z. IsListTurned z i effect x) is.1 turned)))
 
 -- a change that two functions tell alike of machines of this shape
-pub told_as : {f g : CoreLayout → Core → Core} {h k : Machine}
+pub told_as : {f g : CoreLayout → Core → Core} {h k : WholeMachine}
     → ((m : CoreLayout) → IsMachineFor m h → (journal : List Entry) → f m (core_of h journal) ≡ g m (core_of h journal)) → Becomes f h k
     → Becomes g h k
 told_as {h = h} {k = k} same is = record {

@@ -5,19 +5,19 @@ use Rattle.step_table.specs.declared.entry.Entry.{Entry}
 use Rattle.step_table.specs.declared.standing.After.{After}
 use Rattle.step_table.specs.declared.standing.Standing.TheVariants.{Rest, AtCounter}
 use Rattle.step_rows.specs.declared.ready.Ready.{Ready}
-use Rattle.step_core.specs.declared.found.Found.{Found}
+use Rattle.step_core.specs.declared.found.WordFound.{WordFound}
 use Rattle.step_core.specs.declared.turn.Turn.TheVariants.{OnCounter}
 use Rattle.step_table.specs.World.{found}
 use Rattle.step_table.specs.Core.{CoreLayout}
-use Rattle.step_rows.specs.Stored.{IsReadyFor, each, idle, root_of, words_of, hands_of, row_event}
+use Rattle.step_rows.specs.Stored.{IsReadyFor, each, idle, root_of, stored_words, hands_of, row_event}
 use Rattle.step_core.specs.Finding.{found_on_counter, found_doing}
-use Rattle.step_core.specs.State.{Machine, IsMachineFor, IsReadyAt, core_of}
+use Rattle.step_core.specs.State.{WholeMachine, IsMachineFor, IsReadyAt, core_of}
 use Rattle.step_core.proofs.RunningRows.{on_counter_is}
 
-module _ (h shows : Machine) (same : h ≡ shows) (i : ℕ) (after : After) (ready : Ready)
+module _ (h shows : WholeMachine) (same : h ≡ shows) (i : ℕ) (after : After) (ready : Ready)
     (is : IsReadyAt shows i (each Rest shows.standing i) (OnCounter after ready)) where
-  pub counter_finds : (number : ℕ) → number ≡ found (root_of h.semaphores.stored) (words_of h.semaphores.stored) ready.word
-      → (f : Found) → f ≡ found_on_counter ready.caller.place number
+  pub counter_finds : (number : ℕ) → number ≡ found (root_of h.semaphores.stored) (stored_words h.semaphores.stored) ready.word
+      → (f : WordFound) → f ≡ found_on_counter ready.caller.place number
       → (m : CoreLayout) → IsMachineFor m shows → (journal : List Entry)
       → found_doing m (core_of shows journal) i (each Rest shows.standing i) ≡ Some f
   counter_finds number reads f says m shape journal =
@@ -29,8 +29,8 @@ module _ (h shows : Machine) (same : h ≡ shows) (i : ℕ) (after : After) (rea
       (λ j. found_doing m (core_of shows journal) i (at.0 j))
       ∙ ap Some
       ((λ j. found_on_counter (here j).place
-      (found (sym shape.root j) (words_of stored) (row_event i (here j) stored (hands_of stored i)).word))
-      ∙ ap (λ w. found_on_counter ready.caller.place (found (root_of stored) (words_of stored) w)) (sym at.1.row.word)
+      (found (sym shape.root j) (stored_words stored) (row_event i (here j) stored (hands_of stored i)).word))
+      ∙ ap (λ w. found_on_counter ready.caller.place (found (root_of stored) (stored_words stored) w)) (sym at.1.row.word)
       ∙ ap (found_on_counter ready.caller.place)
-      (sym (reads ∙ ap (λ (z : Machine). found (root_of z.semaphores.stored) (words_of z.semaphores.stored) ready.word) same))
+      (sym (reads ∙ ap (λ (z : WholeMachine). found (root_of z.semaphores.stored) (stored_words z.semaphores.stored) ready.word) same))
       ∙ sym says)

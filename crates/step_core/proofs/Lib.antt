@@ -1,3 +1,4 @@
+pub mod Costs
 pub mod Changing
 pub mod Settling
 pub mod ListRanges

@@ -36,7 +36,7 @@ use Rattle.step_law_alike.specs.Changed.{changed_stepped}
 use Rattle.step_law_alike.proofs.ChangedRuns.{changed_kept}
 use Rattle.step_core.specs.Stepping.{HasStepped, Steps}
 use Rattle.step_core.specs.WellFormed.{HasPast, IsSoundBy}
-use Rattle.step_core.specs.State.{Machine, AreSameSize, Moment, IsMachineFor, HasRunRow, HasBegun, GoesOn, IsRefusal, IsReady, IsReadyAt, core_of, run_with}
+use Rattle.step_core.specs.State.{WholeMachine, AreSameSize, Moment, IsMachineFor, HasRunRow, HasBegun, GoesOn, IsRefusal, IsReady, IsReadyAt, core_of, run_with}
 use Rattle.step_core.specs.State.{run_of, run_at, telling, entry_of, list_entry, and_then}
 use Rattle.step_rows.proofs.Storing.{get_here}
 use Rattle.step_core.proofs.Changing.{same_layout, then_all}
@@ -46,7 +46,7 @@ use Rattle.step_law_whole.proofs.RunSound.{is_stepped}
 use Rattle.step_core.proofs.NextCalls.{still_stored}
 
 -- no row reads the journal, and so it refuses no step
-same_refusal_of : (m : CoreLayout) (h : Machine) (journal : List Entry) (i : ℕ) (doing : Standing)
+same_refusal_of : (m : CoreLayout) (h : WholeMachine) (journal : List Entry) (i : ℕ) (doing : Standing)
     → refusal_of m (core_of h journal) i doing ≡ refusal_of m (core_of h []) i doing
 same_refusal_of m h journal i Rest = refl
 same_refusal_of m h journal i (AtCounter after) = refl
@@ -105,15 +105,15 @@ list_effect_entry l i (GrantsUpTo upto) journal = refl
 list_effect_entry l i _ journal = refl
 
 -- a row that is ready tells its entry, and nothing else
-row_tells : (m : CoreLayout) (h : Machine) (i : ℕ) → IsMachineFor m h → (doing : Standing) (turn : Turn) → IsReadyAt h i doing turn
+row_tells : (m : CoreLayout) (h : WholeMachine) (i : ℕ) → IsMachineFor m h → (doing : Standing) (turn : Turn) → IsReadyAt h i doing turn
     → (journal : List Entry) → (row_of_standing m (core_of h journal) i doing).journal ≡ and_then journal (entry_of i turn)
 row_tells m h i is (AtCounter after) (OnCounter next ready) can journal =
     let s : Core = core_of h journal in
     let found = get_here idle h.semaphores.callers i ready.caller can.1.there in
     let effect_at : SeatState → (ℕ → ℕ) → Effect
     = λ z root.
-    let e = Rattle.step_table.specs.Table.event_at i z (sema.words_of h.semaphores.stored).lists z.place in
-    (e.leads (Rattle.step_table.specs.World.found root (sema.words_of h.semaphores.stored) e.word)).1 in
+    let e = Rattle.step_table.specs.Table.event_at i z (sema.stored_words h.semaphores.stored).lists z.place in
+    (e.leads (Rattle.step_table.specs.World.found root (sema.stored_words h.semaphores.stored) e.word)).1 in
     let effect : ready.outcome.effect ≡ ((event_of s.semaphores i).leads (finds m.root s.semaphores i)).1
     = can.1.row.does.effect
     ∙ (λ j. effect_at (seat_of (sym found.1 j) (each [] h.semaphores.stored.hands i)) (is.root j)) in
@@ -129,11 +129,11 @@ row_tells m h i is (AtList l) (OnList k ready) can journal =
 row_tells m h i is (AtGroup g row) (OnGroup k now) can journal = group_journal m _ i g _
 row_tells m h i is _ _ can journal = absurd can
 
-pub turn_tells : (m : CoreLayout) (h : Machine) (i : ℕ) → IsMachineFor m h → (turn : Turn) → IsReady h i turn
+pub turn_tells : (m : CoreLayout) (h : WholeMachine) (i : ℕ) → IsMachineFor m h → (turn : Turn) → IsReady h i turn
     → (journal : List Entry) → (core_turned m (core_of h journal) i).journal ≡ and_then journal (entry_of i turn)
 turn_tells m h i is turn can journal = row_tells m h i is (each Rest h.standing i) turn can journal
 
-module _ (parts : Parts) (i : ℕ) (h : Machine) (counts : List ℕ) where
+module _ (parts : Parts) (i : ℕ) (h : WholeMachine) (counts : List ℕ) where
   pub stays : (doing : Standing) → doing ≢ Rest → GoesOn parts i h counts h counts doing
   stays Rest awake = absurd (awake refl)
   stays (AtCounter after) awake = (refl, refl)
@@ -141,11 +141,11 @@ module _ (parts : Parts) (i : ℕ) (h : Machine) (counts : List ℕ) where
   stays (AtGroup g row) awake = (refl, refl)
   stays (Failed misuse) awake = (refl, refl)
 
-  pub begins : (doing : Standing) → doing ≡ Rest → (k : Machine) (now : List ℕ)
+  pub begins : (doing : Standing) → doing ≡ Rest → (k : WholeMachine) (now : List ℕ)
       → HasBegun parts i h counts k now → GoesOn parts i h counts k now doing
   begins doing rest k now is = subst (GoesOn parts i h counts k now) (sym rest) is
 
-  module _ (k : Machine) (now : List ℕ) where
+  module _ (k : WholeMachine) (now : List ℕ) where
     shown : (doing : Standing) → GoesOn parts i h counts k now doing → (journal : List Entry)
         → run_with k now journal ≡ continued parts (run_with h counts journal) i doing
     shown Rest is journal = is.run journal
@@ -155,7 +155,7 @@ module _ (parts : Parts) (i : ℕ) (h : Machine) (counts : List ℕ) where
     shown (Failed misuse) is journal = λ j. run_with (is.0 j) (is.1 j) journal
 
     -- what is kept of the machine and the numbers, either way
-    keeps : (P : Machine → Type 0) → (doing : Standing) → GoesOn parts i h counts k now doing
+    keeps : (P : WholeMachine → Type 0) → (doing : Standing) → GoesOn parts i h counts k now doing
         → (HasBegun parts i h counts k now → P h → P k) → P h → P k
     keeps P Rest is by was = by is was
     keeps P (AtCounter after) is by was = subst P (sym is.0) was
@@ -171,7 +171,7 @@ module _ (parts : Parts) (i : ℕ) (h : Machine) (counts : List ℕ) where
     count_kept (Failed misuse) is = ap length is.1
 
 -- the row has run
-module _ (parts : Parts) (h : Machine) (counts : List ℕ) (i : ℕ) (is : IsMachineFor (layout parts) h) (k : Machine) (entry : Option Entry)
+module _ (parts : Parts) (h : WholeMachine) (counts : List ℕ) (i : ℕ) (is : IsMachineFor (layout parts) h) (k : WholeMachine) (entry : Option Entry)
     (ran : HasRunRow i h k entry) where
   pub machine_ran : IsMachineFor (layout parts) k
   machine_ran = same_layout (layout parts) h k ran.turned.alike is
@@ -184,7 +184,7 @@ module _ (parts : Parts) (h : Machine) (counts : List ℕ) (i : ℕ) (is : IsMac
       (λ j. core_of k (sym (ran.told (layout parts) is journal) j)) ∙ ran.turned.core (layout parts) is journal
 
   -- and the next call has begun, where it ended one
-  pub has_stepped : (n : Machine) (now : List ℕ) → GoesOn parts i k counts n now (each Rest k.standing i)
+  pub has_stepped : (n : WholeMachine) (now : List ℕ) → GoesOn parts i k counts n now (each Rest k.standing i)
       → HasStepped None parts i h counts n now entry
   has_stepped n now goes = record {
     alike = keeps parts i k counts n now (AreSameSize h) (each Rest k.standing i) goes (λ is before. then_all h k n before is.alike) ran.turned.alike;
@@ -195,7 +195,7 @@ module _ (parts : Parts) (h : Machine) (counts : List ℕ) (i : ℕ) (is : IsMac
   }
 
 -- a step keeps what is true of the run, by each table
-module _ (m : Moment) (i : ℕ) (entry : Option Entry) (free : refusal m.parts (run_at m) i ≡ None) (n : Machine) (now : List ℕ) where
+module _ (m : Moment) (i : ℕ) (entry : Option Entry) (free : refusal m.parts (run_at m) i ≡ None) (n : WholeMachine) (now : List ℕ) where
   abbrev after_it : Moment
   after_it = record { parts = m.parts; machine = n; begun = now; table = m.table }
 
@@ -228,7 +228,7 @@ module _ (m : Moment) (i : ℕ) (entry : Option Entry) (free : refusal m.parts (
           changed_kept v m.parts (run_of (telling m journal)) i before.scenario before.run before.waiters (same_refusal m journal i ∙ free)
 
 -- the moment has stepped
-module _ (m : Moment) (past : HasPast m) (i : ℕ) (entry : Option Entry) (free : refusal m.parts (run_at m) i ≡ None) (n : Machine) (now : List ℕ)
+module _ (m : Moment) (past : HasPast m) (i : ℕ) (entry : Option Entry) (free : refusal m.parts (run_at m) i ≡ None) (n : WholeMachine) (now : List ℕ)
     (is : HasStepped m.table m.parts i m.machine m.begun n now entry) where
   pub past_ran : HasPast (after_it m i entry free n now)
   past_ran = (and_then past.0 entry, sound_ran m i entry free n now m.table is past.0 past.1)
@@ -243,19 +243,19 @@ module _ (m : Moment) (past : HasPast m) (i : ℕ) (entry : Option Entry) (free 
       })
 
 -- the machine has run the row of a seat that can, and gone on: so the moment has stepped by the step table
-module _ (m : Moment) (past : HasPast m) (table : m.table ≡ None) (i : ℕ) (there : i < length m.parts.calls) (was : Machine)
-    (at : was ≡ m.machine) (can : IsRefusal was i None) (k : Machine) (entry : Option Entry) (ran : HasRunRow i was k entry)
-    (between : Machine) (same : between ≡ k) (n : Machine) (now : List ℕ)
+module _ (m : Moment) (past : HasPast m) (table : m.table ≡ None) (i : ℕ) (there : i < length m.parts.calls) (was : WholeMachine)
+    (at : was ≡ m.machine) (can : IsRefusal was i None) (k : WholeMachine) (entry : Option Entry) (ran : HasRunRow i was k entry)
+    (between : WholeMachine) (same : between ≡ k) (n : WholeMachine) (now : List ℕ)
     (goes : GoesOn m.parts i between m.begun n now (each Rest between.standing i)) where
   free_at_once : refusal m.parts (run_at m) i ≡ None
-  free_at_once = said m past i there m refl None (subst (λ (z : Machine). IsRefusal z i None) at can)
+  free_at_once = said m past i there m refl None (subst (λ (z : WholeMachine). IsRefusal z i None) at can)
 
   stepped_at_once : HasStepped m.table m.parts i m.machine m.begun n now entry
   stepped_at_once =
       subst (λ t. HasStepped t m.parts i m.machine m.begun n now entry) (sym table)
       (has_stepped m.parts m.machine m.begun i (well_formed_by m.table (telling m past.0) past.1).machine k entry
-      (subst (λ (z : Machine). HasRunRow i z k entry) at ran) n now
-      (subst (λ (z : Machine). GoesOn m.parts i z m.begun n now (each Rest z.standing i)) same goes))
+      (subst (λ (z : WholeMachine). HasRunRow i z k entry) at ran) n now
+      (subst (λ (z : WholeMachine). GoesOn m.parts i z m.begun n now (each Rest z.standing i)) same goes))
 
   pub past_at_once : HasPast (record { parts = m.parts; machine = n; begun = now; table = m.table })
   past_at_once = past_ran m past i entry free_at_once n now stepped_at_once

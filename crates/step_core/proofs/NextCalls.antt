@@ -15,7 +15,7 @@ use Rattle.step_law_whole.specs.RunInvariant.{IsSoundRun, IsScenario}
 use Rattle.step_law_alike.specs.declared.variant.Variant.{Variant}
 use Rattle.step_law_alike.specs.ChangedInvariant.{WaitersRaisedIn}
 use Rattle.step_law_alike.proofs.ChangedRaising.{raised_first}
-use Rattle.step_core.specs.State.{Machine, State, IsMachineFor, Becomes, HasBegun, MayBegin, IsSound, IsStarted, core_of, run_with}
+use Rattle.step_core.specs.State.{WholeMachine, State, IsMachineFor, Becomes, HasBegun, MayBegin, IsSound, IsStarted, core_of, run_with}
 use Rattle.step_core.specs.WellFormed.{IsSoundBy}
 use Rattle.step_table.proofs.Sums.{put_else}
 use Rattle.step_rows.proofs.Storing.{each_set, copies}
@@ -35,12 +35,12 @@ call_journal s i (NotifyAll l) = refl
 call_journal s i (GroupAdd g d) = refl
 call_journal s i (GroupWait g) = refl
 
-module _ (parts : Parts) (i : ℕ) (h : Machine) (counts : List ℕ) (is : IsMachineFor (layout parts) h) (number : ℕ) (at : number ≡ i)
+module _ (parts : Parts) (i : ℕ) (h : WholeMachine) (counts : List ℕ) (is : IsMachineFor (layout parts) h) (number : ℕ) (at : number ≡ i)
     (n : ℕ) (counted : n ≡ each 0 counts number) where
   count_is : n ≡ each 0 counts i
   count_is = counted ∙ ap (each 0 counts) at
 
-  pub begins_one : (call : Call) (k : Machine) → call_of parts number n ≡ Some call → i < length counts
+  pub begins_one : (call : Call) (k : WholeMachine) → call_of parts number n ≡ Some call → i < length counts
       → Becomes (λ m s. calls s i call) h k → HasBegun parts i h counts k (set counts number (n + 1))
   begins_one call k one here becomes = record {
     alike = becomes.alike;
@@ -63,7 +63,7 @@ module _ (parts : Parts) (i : ℕ) (h : Machine) (counts : List ℕ) (is : IsMac
   may_begin _ there on = tt
 
 -- words are stored for a scenario, and still are in a machine that is alike
-pub still_stored : (own groups roots seats : ℕ) (h k : Machine) → IsSameSize h.semaphores k.semaphores
+pub still_stored : (own groups roots seats : ℕ) (h k : WholeMachine) → IsSameSize h.semaphores k.semaphores
     → IsStoredFor own groups roots seats h.semaphores.stored → IsStoredFor own groups roots seats k.semaphores.stored
 still_stored own groups roots seats h k alike is = record {
   own_is = alike.own ∙ is.own_is;
@@ -77,7 +77,7 @@ still_stored own groups roots seats h k alike is = record {
 }
 
 -- each of the first n seats has begun its first call
-pub record HaveBegun (parts : Parts) (n : ℕ) (h : Machine) (counts : List ℕ) : Type 0 where
+pub record HaveBegun (parts : Parts) (n : ℕ) (h : WholeMachine) (counts : List ℕ) : Type 0 where
   pub stored : IsStoredFor (length parts.starts) parts.groups parts.roots (length parts.calls) h.semaphores.stored
   pub machine : IsMachineFor (layout parts) h
   pub count : length counts ≡ length parts.calls
@@ -88,7 +88,7 @@ module _ (parts : Parts) where
   idle_run = record { core = first_core (layout parts); begun = λ s. 0 }
 
   -- nobody has
-  pub none_has : (h : Machine) (counts : List ℕ)
+  pub none_has : (h : WholeMachine) (counts : List ℕ)
       → IsStoredFor (length parts.starts) parts.groups parts.roots (length parts.calls) h.semaphores.stored → IsMachineFor (layout parts) h
       → core_of h [] ≡ first_core (layout parts) → counts ≡ replicate (length parts.calls) 0 → HaveBegun parts 0 h counts
   none_has h counts stored is core none = record {
@@ -107,14 +107,14 @@ module _ (parts : Parts) where
   not_yet (suc n) k h =
       begun_else (all_begun parts idle_run n) n (call_of parts n 0) k (omega arith) ∙ not_yet n k (omega arith)
 
-  module _ (n : ℕ) (h : Machine) (counts : List ℕ) (before : HaveBegun parts n h counts) where
+  module _ (n : ℕ) (h : WholeMachine) (counts : List ℕ) (before : HaveBegun parts n h counts) where
     none_yet : each 0 counts n ≡ 0
     none_yet = ap (λ (run : Run). run.begun n) before.run ∙ not_yet n n (omega arith)
 
     pub room_yet : each 0 counts n + 1 < 2 ^ 64
     room_yet = let none = none_yet in omega arith
 
-    one_more : (k : Machine) (now : List ℕ) → HasBegun parts n h counts k now → HaveBegun parts (suc n) k now
+    one_more : (k : WholeMachine) (now : List ℕ) → HasBegun parts n h counts k now → HaveBegun parts (suc n) k now
     one_more k now is = record {
       stored = still_stored (length parts.starts) parts.groups parts.roots (length parts.calls) h k is.alike.semaphores before.stored;
       machine = same_layout (layout parts) h k is.alike before.machine;
@@ -122,12 +122,12 @@ module _ (parts : Parts) where
       run = is.run [] ∙ (λ j. begun (before.run j) n (call_of parts n (none_yet j)));
     }
 
-    pub one_more_seat : (k : Machine) (now : List ℕ) → HasBegun parts n h counts k now → HaveBegun parts (n + 1) k now
+    pub one_more_seat : (k : WholeMachine) (now : List ℕ) → HasBegun parts n h counts k now → HaveBegun parts (n + 1) k now
     one_more_seat k now is =
         let next : suc n ≡ n + 1 = omega arith in subst (λ n. HaveBegun parts n k now) next (one_more k now is)
 
   -- the start is sound
-  module _ (h : Machine) (counts : List ℕ) (all : HaveBegun parts (length parts.calls) h counts) where
+  module _ (h : WholeMachine) (counts : List ℕ) (all : HaveBegun parts (length parts.calls) h counts) where
     abbrev first : State
     first = record { parts = parts; machine = h; begun = counts; journal = [] }
 

@@ -17,10 +17,10 @@ use Rattle.step_table.specs.World.{Layout, SemaWorld, found, root_number}
 use Rattle.step_law_semaphores.specs.Lawful.{added, IsGrantOf, AllBounded}
 use Rattle.step_table.specs.Counting.{total, times, IsWithin}
 use Rattle.step_law_semaphores.specs.Invariant.{Finds, asleep}
-use Rattle.step_rows.specs.Stored.{Stored, HasRow, HasRowsOf, HasHand, MayMove, each, idle, words_of, root_of, row_finds, row_event}
+use Rattle.step_rows.specs.Stored.{Stored, HasRow, HasRowsOf, HasHand, MayMove, each, idle, stored_words, root_of, row_finds, row_event}
 use Rattle.step_table.specs.ListWorld.{ListWorld}
 use Rattle.step_rows.specs.ListStored.{HasListRow, CanStep}
-use Rattle.step_queues.specs.Roots.{queued}
+use Rattle.step_rows.specs.Roots.{queued}
 use Rattle.step_table.specs.Core.{counters_of}
 use Rattle.step_law_whole.specs.CoreLaw.{IsStanding}
 use Rattle.step_table.specs.Run.{layout}
@@ -32,7 +32,7 @@ use Rattle.step_core.specs.State.{State, IsSound, AsksFor, no_list, run_of}
 use Rattle.step_table.proofs.Sums.{total_rest, total_has}
 use Rattle.step_law_whole.proofs.RunEarly.{all_begun_few, handed_few}
 use Rattle.step_law_semaphores.proofs.Placing.{same_here}
-use Rattle.step_queues.proofs.Rooting.{root_within}
+use Rattle.step_rows.proofs.Rooting.{root_within}
 use Rattle.step_law_semaphores.proofs.Bounding.{well_formed}
 use Rattle.step_law_alike.proofs.ChangedBounding.{changed_bounded}
 use Rattle.step_law_semaphores.proofs.Parking.{in_a_hand}
@@ -82,7 +82,7 @@ module _ (v : Variant) (m : State) (sound : IsWellFormed v m) where
   few_units = let begun = all_begun_few m.parts sound.scenario (run_of m) sound.run in let units = sound.run.units in omega arith
 
   -- no number in a word is near the end of its 64 bits
-  word_small : (w : Word) → found (root_of h) (words_of h) w + 2 ^ 32 < 2 ^ 64
+  word_small : (w : Word) → found (root_of h) (stored_words h) w + 2 ^ 32 < 2 ^ 64
   word_small (Counter c) = let most = few_words.0 c in let start = sound.starts c in let units = few_units in omega arith
   word_small (Lock c) = let most = (few_words.1 (root_of h c)).0 in omega arith
   word_small (Waiters c) =

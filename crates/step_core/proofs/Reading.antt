@@ -7,7 +7,7 @@ use Rattle.step_table.specs.Core.{sema_entries}
 use Rattle.step_table.specs.Run.{layout}
 use Rattle.step_core.specs.State.{State, IsSound, ShowsLawful, RestsAtEnd, TellsLeast, HasFewSteps, run_of, told}
 use Rattle.step_law_whole.proofs.RunEarly.{lawful_run, run_ends}
-use Rattle.step_law_ends.proofs.RunEnding.{the_run_ends}
+use Rattle.step_law_whole.proofs.RunEnding.{the_run_ends}
 
 -- entries of lists change no counter
 replays_all : (x : Plain) (journal : List Entry) → replay x (sema_entries journal) ≡ replay x journal

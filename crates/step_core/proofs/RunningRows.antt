@@ -19,18 +19,18 @@ use Rattle.step_table.specs.declared.standing.Standing.TheVariants.{Rest, AtCoun
 use Rattle.step_core.specs.declared.turn.Turn.TheVariants.{OnCounter, OnList, OnGroup}
 use Rattle.step_table.specs.World.{put, journal_after}
 use Rattle.step_table.specs.Steps.{finds}
-use Rattle.step_rows.specs.Stored.{Semaphores, IsReadyFor, HasTurned, each, world_of, finds_in, event_in}
+use Rattle.step_rows.specs.Stored.{SemaMachine, IsReadyFor, HasTurned, each, world_of, finds_in, event_in}
 use Rattle.step_rows.specs.Stored as sema
 use Rattle.step_rows.specs.ListStored.{IsListReady}
 use Rattle.step_table.specs.Group.{empty_word, group_row}
 use Rattle.step_table.specs.Core.{CoreLayout, Core}
 use Rattle.step_table.specs.CoreSteps.{releases, goes_on, after_counter, after_group, counter_row, row_of_standing, core_turned}
-use Rattle.step_core.specs.State.{Machine, Becomes, IsMachineFor, HasRunRow, IsReadyAt, core_of, no_list, and_then}
+use Rattle.step_core.specs.State.{WholeMachine, Becomes, IsMachineFor, HasRunRow, IsReadyAt, core_of, no_list, and_then}
 use Rattle.step_core.proofs.Changing.{turns_at}
 use Rattle.step_core.proofs.Changing as changing
 
 -- the row of a seat that does this
-pub at_standing : (h k : Machine) (i : ℕ) (x : Standing) → each Rest h.standing i ≡ x
+pub at_standing : (h k : WholeMachine) (i : ℕ) (x : Standing) → each Rest h.standing i ≡ x
     → Becomes (λ m s. row_of_standing m s i x) h k → Becomes (λ m s. core_turned m s i) h k
 at_standing h k i x at becomes = record {
   alike = becomes.alike;
@@ -40,7 +40,7 @@ at_standing h k i x at becomes = record {
 }
 
 -- the row of a group, of which the code has computed what it leaves and what follows
-pub of_group : (h k : Machine) (i g : ℕ) (row : GroupRow) (next : GroupWord × GroupNext) → next ≡ group_row row (each empty_word h.groups g)
+pub of_group : (h k : WholeMachine) (i g : ℕ) (row : GroupRow) (next : GroupWord × GroupNext) → next ≡ group_row row (each empty_word h.groups g)
     → Becomes (λ m s. after_group m (record s { groups = put s.groups g next.0 }) i g next.1) h k
     → Becomes (λ m s. row_of_standing m s i (AtGroup g row)) h k
 of_group h k i g row next at becomes = record {
@@ -52,15 +52,15 @@ of_group h k i g row next at becomes = record {
     with m journal n = let s : Core = core_of h journal in after_group m (record s { groups = put s.groups g n.0 }) i g n.1
 
 -- the word that the code reads
-pub group_word : (h shows : Machine) → h ≡ shows → (g n : ℕ) → n ≡ g → g < length shows.groups → (x : GroupWord) → x ≡ get_or h.groups n x
+pub group_word : (h shows : WholeMachine) → h ≡ shows → (g n : ℕ) → n ≡ g → g < length shows.groups → (x : GroupWord) → x ≡ get_or h.groups n x
     → x ≡ each empty_word shows.groups g
 group_word h shows same g n number there x at =
     let here : n < length h.groups =
-    subst (λ k. k < length h.groups) (sym number) (subst (λ (z : Machine). g < length z.groups) (sym same) there) in
+    subst (λ k. k < length h.groups) (sym number) (subst (λ (z : WholeMachine). g < length z.groups) (sym same) there) in
     at ∙ sym (get_or_default h.groups n empty_word x here) ∙ (λ j. each empty_word (same j).groups (number j))
 
 -- the standing of a seat whose row is this, and that it can run
-module _ (h : Machine) (i : ℕ) where
+module _ (h : WholeMachine) (i : ℕ) where
   pub on_counter_is : (x : Standing) (after : After) (ready : Ready) → IsReadyAt h i x (OnCounter after ready)
       → (x ≡ AtCounter after) × IsReadyFor h.semaphores i ready
   on_counter_is (AtCounter now) after ready is = ((λ j. AtCounter (sym is.0 j)), is.1)
@@ -108,7 +108,7 @@ counter_tells (Tells e) journal = refl
 counter_tells _ journal = refl
 
 -- a row on a counter tells its effect
-module _ (h : Machine) (i : ℕ) (after : After) (at : each Rest h.standing i ≡ AtCounter after)
+module _ (h : WholeMachine) (i : ℕ) (after : After) (at : each Rest h.standing i ≡ AtCounter after)
     (effect : Effect) (is : effect ≡ ((event_in h.semaphores i).leads (finds_in h.semaphores i)).1) where
   effect_told : (m : CoreLayout) → IsMachineFor m h → (journal : List Entry)
       → (core_turned m (core_of h journal) i).journal ≡ and_then journal (sema.entry_of effect)
@@ -121,9 +121,9 @@ module _ (h : Machine) (i : ℕ) (after : After) (at : each Rest h.standing i �
       ∙ counter_tells effect journal
 
 -- a row on a counter that was run at once, and then what comes after it
-pub ran_on_counter : (h shows : Machine) → h ≡ shows → (i : ℕ) (after : After) → each Rest shows.standing i ≡ AtCounter after
-    → (effect : Effect) (n : Semaphores) → HasTurned h.semaphores i effect n
-    → (k : Machine) → Becomes (λ m s. after_counter m s i after (s.semaphores.seats i).place) (record h { semaphores = n }) k
+pub ran_on_counter : (h shows : WholeMachine) → h ≡ shows → (i : ℕ) (after : After) → each Rest shows.standing i ≡ AtCounter after
+    → (effect : Effect) (n : SemaMachine) → HasTurned h.semaphores i effect n
+    → (k : WholeMachine) → Becomes (λ m s. after_counter m s i after (s.semaphores.seats i).place) (record h { semaphores = n }) k
     → (entry : Option Entry) → entry ≡ sema.entry_of effect → HasRunRow i shows k entry
 ran_on_counter h shows same i after at effect n turned k settled entry is =
     let effect_is : effect ≡ ((event_in shows.semaphores i).leads (finds_in shows.semaphores i)).1

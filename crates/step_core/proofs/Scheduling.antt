@@ -7,8 +7,8 @@ use Rattle.step_core.specs.Stepping.{IsStepped}
 use Rattle.step_law_whole.specs.RunInvariant.{IsScenario}
 use Rattle.step_law_whole.specs.Misused.{AllFairFrom, IsUnmisused}
 use Rattle.step_law_whole.specs.RunGrants.{EachStepGrantsLeast}
-use Rattle.step_law_ends.specs.RunWeight.{most_steps}
-use Rattle.step_law_ends.proofs.RunEnding.{the_run_ends}
+use Rattle.step_law_whole.specs.RunWeight.{most_steps}
+use Rattle.step_law_whole.proofs.RunEnding.{the_run_ends}
 use Rattle.step_law_whole.proofs.RunSound.{is_started, is_stepped}
 use Rattle.step_law_whole.proofs.RunReading.{after_one_more, each_step_grants}
 use Rattle.step_law_whole.proofs.GroupRuns as groups

@@ -16,11 +16,11 @@ use Rattle.step_rows.specs.ListStored.{StoredList}
 use Rattle.step_rows.specs.ListStored as stored_list
 use Rattle.step_table.specs.Core.{CoreLayout, semaphore, Core}
 use Rattle.step_table.specs.CoreSteps.{stands, at_counter, releases, goes_on, after_counter, after_list, after_group}
-use Rattle.step_core.specs.State.{Machine, core_of, no_list, IsMachineFor, AreSameSize, Becomes}
+use Rattle.step_core.specs.State.{WholeMachine, core_of, no_list, IsMachineFor, AreSameSize, Becomes}
 use Rattle.step_core.proofs.Changing.{no_change, is_list, told_as}
 
 -- releases on the semaphore of a group, and an acquire there
-module _ (h k : Machine) (i g : ℕ) where
+module _ (h k : WholeMachine) (i g : ℕ) where
   one_less : (n : ℕ) → suc n - 1 ≡ n
   one_less n = omega arith
 
@@ -40,7 +40,7 @@ module _ (h k : Machine) (i g : ℕ) where
       ap (λ d. at_counter (core_of h journal) i (Acquiring (record { counter = d; lifo = false }) A1) (LooksAgain g)) (at m shape)) is
 
 -- nothing changes
-pub no_change_of : (h : Machine) → AreSameSize h h
+pub no_change_of : (h : WholeMachine) → AreSameSize h h
 no_change_of h = record {
   semaphores = no_change h.semaphores;
   lists = refl;
@@ -50,16 +50,16 @@ no_change_of h = record {
 }
 
 -- after a row on a counter the seat goes on where its call has ended, and else it stays
-module _ (h shows : Machine) (same : h ≡ shows) (i : ℕ) (after : After) where
+module _ (h shows : WholeMachine) (same : h ≡ shows) (i : ℕ) (after : After) where
   abbrev place : Place
   place = (each idle h.semaphores.callers i).place
 
-  pub settles_now : (k : Machine) → place ≡ on_counter.Rest → Becomes (λ m s. goes_on m s i after) shows k
+  pub settles_now : (k : WholeMachine) → place ≡ on_counter.Rest → Becomes (λ m s. goes_on m s i after) shows k
       → Becomes (λ m s. after_counter m s i after (s.semaphores.seats i).place) shows k
   settles_now k ended is =
       told_as (λ m shape journal.
       ap (λ p. after_counter m (core_of shows journal) i after p)
-      (sym (subst (λ (z : Machine). (each idle z.semaphores.callers i).place ≡ on_counter.Rest) same ended))) is
+      (sym (subst (λ (z : WholeMachine). (each idle z.semaphores.callers i).place ≡ on_counter.Rest) same ended))) is
 
   stays : (m : CoreLayout) (s : Core) (p : Place) → p ≢ on_counter.Rest → after_counter m s i after p ≡ s
   stays m s on_counter.Rest awake = absurd (awake refl)
@@ -69,22 +69,22 @@ module _ (h shows : Machine) (same : h ≡ shows) (i : ℕ) (after : After) wher
 
   pub settles_on : place ≢ on_counter.Rest → Becomes (λ m s. after_counter m s i after (s.semaphores.seats i).place) shows shows
   settles_on awake =
-      let still = subst (λ (z : Machine). (each idle z.semaphores.callers i).place ≢ on_counter.Rest) same awake in
+      let still = subst (λ (z : WholeMachine). (each idle z.semaphores.callers i).place ≢ on_counter.Rest) same awake in
       record {
         alike = no_change_of shows;
         core = λ m shape journal. subst (λ (s : Core). core_of shows s.journal ≡ s) (sym (stays m (core_of shows journal) _ still)) refl;
       }
 
 -- the same after a row on a list
-module _ (h shows : Machine) (same : h ≡ shows) (i l n : ℕ) (number : n ≡ l) (there : l < length shows.lists) (was : StoredList)
+module _ (h shows : WholeMachine) (same : h ≡ shows) (i l n : ℕ) (number : n ≡ l) (there : l < length shows.lists) (was : StoredList)
     (at : was ≡ get_or h.lists n was) where
   abbrev place_there : StoredList → ListPlace
   place_there z = (stored_list.seat_of (slice_get z.seats i)).place
 
   pub place_shown : place_there was ≡ place_there (each no_list shows.lists l)
-  place_shown = ap place_there ((is_list h shows same l n number there was at).1 ∙ ap (λ (z : Machine). each no_list z.lists l) same)
+  place_shown = ap place_there ((is_list h shows same l n number there was at).1 ∙ ap (λ (z : WholeMachine). each no_list z.lists l) same)
 
-  pub ends_on_list : (k : Machine) → place_there was ≡ on_list.Rest → Becomes (λ m s. stands s i Rest) shows k
+  pub ends_on_list : (k : WholeMachine) → place_there was ≡ on_list.Rest → Becomes (λ m s. stands s i Rest) shows k
       → Becomes (λ m s. after_list s i ((s.lists l).seats i).place) shows k
   ends_on_list k ended is =
       told_as (λ m shape journal. ap (λ p. after_list (core_of shows journal) i p) (sym (sym place_shown ∙ ended))) is

@@ -17,7 +17,7 @@ use Rattle.step_table.specs.declared.standing.After.TheVariants.{Releases}
 use Rattle.step_table.specs.declared.standing.Standing.{Standing}
 use Rattle.step_table.specs.declared.standing.Standing.TheVariants.{Rest, AtCounter, AtList, AtGroup}
 use Rattle.step_table.specs.Journal.{Plain, plain_start, replay}
-use Rattle.step_rows.specs.Stored.{Semaphores, IsStoredFor, IsSameSize, HasRow, IsReadyFor, each, root_of}
+use Rattle.step_rows.specs.Stored.{SemaMachine, IsStoredFor, IsSameSize, HasRow, IsReadyFor, each, root_of}
 use Rattle.step_rows.specs.Stored.{event_in, finds_in}
 use Rattle.step_rows.specs.Stored as sema
 use Rattle.step_table.specs.ListWorld.{ListWorld}
@@ -32,11 +32,11 @@ use Rattle.step_law_whole.specs.RunPromises.{IsLawfulRun}
 use Rattle.step_table.specs.Run.{Run, layout, call_of, begun, start, refusal_of, reached, AllRun}
 use Rattle.step_law_alike.specs.declared.variant.Variant.{Variant}
 use Rattle.step_law_whole.specs.RunInvariant.{IsSoundRun, IsScenario}
-use Rattle.step_law_ends.specs.RunWeight.{most_steps}
+use Rattle.step_law_whole.specs.RunWeight.{most_steps}
 
 -- the semaphores, the lists, the words of the groups, and what each seat is doing
-pub record Machine : Type 0 where
-  pub semaphores : Semaphores
+pub record WholeMachine : Type 0 where
+  pub semaphores : SemaMachine
   pub lists : List StoredList
   pub groups : List GroupWord
   pub standing : List Standing
@@ -56,7 +56,7 @@ pub record AreFirst (firsts : List ℕ) (number seats : ℕ) (lists : List Store
       → list.moment_of (each no_list lists l) ≡ list.first_moment (slice_index_or firsts l 0) seats
 
 -- the whole machine, with this journal
-abbrev pub core_of : Machine → List Entry → Core
+abbrev pub core_of : WholeMachine → List Entry → Core
 core_of h journal =
     record {
       semaphores = sema.world_of h.semaphores (sema_entries journal);
@@ -67,7 +67,7 @@ core_of h journal =
     }
 
 -- the machine has this layout
-pub record IsMachineFor (m : CoreLayout) (h : Machine) : Type 0 where
+pub record IsMachineFor (m : CoreLayout) (h : WholeMachine) : Type 0 where
   pub root : root_of h.semaphores.stored ≡ m.root
   pub counters : h.semaphores.stored.own ≡ m.counters
   pub callers : length h.semaphores.callers ≡ m.seats
@@ -77,7 +77,7 @@ pub record IsMachineFor (m : CoreLayout) (h : Machine) : Type 0 where
   pub standing : length h.standing ≡ m.seats
 
 -- as many of everything
-pub record AreSameSize (h k : Machine) : Type 0 where
+pub record AreSameSize (h k : WholeMachine) : Type 0 where
   pub semaphores : IsSameSize h.semaphores k.semaphores
   pub lists : length k.lists ≡ length h.lists
   pub seats : (l : ℕ) → length (each no_list k.lists l).seats ≡ length (each no_list h.lists l).seats
@@ -85,62 +85,62 @@ pub record AreSameSize (h k : Machine) : Type 0 where
   pub standing : length k.standing ≡ length h.standing
 
 -- the machine has changed to what `f` makes of it, with each journal
-pub record Becomes (f : CoreLayout → Core → Core) (h k : Machine) : Type 0 where
+pub record Becomes (f : CoreLayout → Core → Core) (h k : WholeMachine) : Type 0 where
   pub alike : AreSameSize h k
   pub core : (m : CoreLayout) → IsMachineFor m h → (journal : List Entry)
       → core_of k (f m (core_of h journal)).journal ≡ f m (core_of h journal)
 
 -- the seat is one of the machine's
-abbrev pub HasSeat : Machine → ℕ → Type 0
+abbrev pub HasSeat : WholeMachine → ℕ → Type 0
 HasSeat h i = (i < length h.semaphores.callers) × (i < length h.standing)
 
-abbrev pub HasListSeat : Machine → ℕ → ℕ → Type 0
+abbrev pub HasListSeat : WholeMachine → ℕ → ℕ → Type 0
 HasListSeat h l i = (l < length h.lists) × (i < length (each no_list h.lists l).seats)
 
 -- and it is one of the list that its call is on
-abbrev pub HasSeatOn : Machine → ℕ → Standing → Type 0
+abbrev pub HasSeatOn : WholeMachine → ℕ → Standing → Type 0
 HasSeatOn h i (AtList l) = HasListSeat h l i
 HasSeatOn h i _ = Unit {0}
 
-abbrev pub HasSeatAt : Machine → ℕ → Type 0
+abbrev pub HasSeatAt : WholeMachine → ℕ → Type 0
 HasSeatAt h i = HasSeat h i × HasSeatOn h i (each Rest h.standing i)
 
 -- a group has a counter
-abbrev pub HasGroup : Machine → ℕ → Type 0
+abbrev pub HasGroup : WholeMachine → ℕ → Type 0
 HasGroup h g = h.semaphores.stored.own + g < 2 ^ 32
 
 -- a seat may begin this call, and may go on with what comes after a call on a counter, or after a row
-abbrev pub MayBegin : Machine → ℕ → Call → Type 0
+abbrev pub MayBegin : WholeMachine → ℕ → Call → Type 0
 MayBegin h i (Add l) = HasListSeat h l i
 MayBegin h i (Wait l) = HasListSeat h l i
 MayBegin h i (One l) = HasListSeat h l i
 MayBegin h i (All l) = HasListSeat h l i
 MayBegin h i _ = Unit {0}
 
-abbrev pub MayGoOn : Machine → After → Type 0
+abbrev pub MayGoOn : WholeMachine → After → Type 0
 MayGoOn h (Releases g more) = HasGroup h g
 MayGoOn h _ = Unit {0}
 
-abbrev pub MayGo : Machine → Standing → Type 0
+abbrev pub MayGo : WholeMachine → Standing → Type 0
 MayGo h (AtCounter after) = MayGoOn h after
 MayGo h (AtGroup g row) = HasGroup h g
 MayGo h _ = Unit {0}
 
 -- why the seat can't step, or that it can
-abbrev pub IsRefusal : Machine → ℕ → Option StepRefused → Type 0
+abbrev pub IsRefusal : WholeMachine → ℕ → Option StepRefused → Type 0
 IsRefusal h i cause =
     (m : CoreLayout) → IsMachineFor m h → (journal : List Entry)
     → refusal_of m (core_of h journal) i (each Rest h.standing i) ≡ cause
 
 -- what the row asks for of a seat that does this
-abbrev pub AsksFor : Machine → ℕ → Standing → Type 0
+abbrev pub AsksFor : WholeMachine → ℕ → Standing → Type 0
 AsksFor h i (AtCounter after) = HasRow h.semaphores i
 AsksFor h i (AtList l) = (l < length h.lists) × CanStep (each no_list h.lists l) i
 AsksFor h i (AtGroup g row) = g < length h.groups
 AsksFor h i _ = Unit {0}
 
 -- this is the row of a seat that does this, and it can run
-abbrev pub IsReadyAt : Machine → ℕ → Standing → Turn → Type 0
+abbrev pub IsReadyAt : WholeMachine → ℕ → Standing → Turn → Type 0
 IsReadyAt h i (AtCounter after) (turn.OnCounter next ready) =
     (next ≡ after) × IsReadyFor h.semaphores i ready
     × IsTrue ((event_in h.semaphores i).can (finds_in h.semaphores i))
@@ -149,7 +149,7 @@ IsReadyAt h i (AtList l) (turn.OnList k ready) =
 IsReadyAt h i (AtGroup g row) (turn.OnGroup k now) = (k ≡ g) × (now ≡ row) × (g < length h.groups)
 IsReadyAt h i _ _ = ⊥
 
-abbrev pub IsReady : Machine → ℕ → Turn → Type 0
+abbrev pub IsReady : WholeMachine → ℕ → Turn → Type 0
 IsReady h i ready = IsReadyAt h i (each Rest h.standing i) ready
 
 -- what the journal tells of a row of seat s on the list l
@@ -164,17 +164,17 @@ and_then journal None = journal
 and_then journal (Some e) = journal ++ e ∷ []
 
 -- the seat has run its row, which told this
-pub record HasRunRow (i : ℕ) (h k : Machine) (entry : Option Entry) : Type 0 where
+pub record HasRunRow (i : ℕ) (h k : WholeMachine) (entry : Option Entry) : Type 0 where
   pub turned : Becomes (λ m s. core_turned m s i) h k
   pub told : (m : CoreLayout) → IsMachineFor m h → (journal : List Entry)
       → (core_turned m (core_of h journal) i).journal ≡ and_then journal entry
 
 -- the run of the machine, with how many calls each seat has begun
-abbrev pub run_with : Machine → List ℕ → List Entry → Run
+abbrev pub run_with : WholeMachine → List ℕ → List Entry → Run
 run_with h counts journal = record { core = core_of h journal; begun = each 0 counts }
 
 -- the seat has begun its next call, if it has one: with each journal, its run is the one in which it has
-pub record HasBegun (parts : Parts) (i : ℕ) (h : Machine) (counts : List ℕ) (k : Machine) (now : List ℕ)
+pub record HasBegun (parts : Parts) (i : ℕ) (h : WholeMachine) (counts : List ℕ) (k : WholeMachine) (now : List ℕ)
     : Type 0 where
   pub alike : AreSameSize h k
   pub count : length now ≡ length counts
@@ -182,7 +182,7 @@ pub record HasBegun (parts : Parts) (i : ℕ) (h : Machine) (counts : List ℕ) 
       → run_with k now journal ≡ begun (run_with h counts journal) i (call_of parts i (each 0 counts i))
 
 -- where the seat's call has ended, it has begun the next; else nothing has changed
-abbrev pub GoesOn : Parts → ℕ → Machine → List ℕ → Machine → List ℕ → Standing → Type 0
+abbrev pub GoesOn : Parts → ℕ → WholeMachine → List ℕ → WholeMachine → List ℕ → Standing → Type 0
 GoesOn parts i h counts k now Rest = HasBegun parts i h counts k now
 GoesOn parts i h counts k now _ = (k ≡ h) × (now ≡ counts)
 
@@ -190,14 +190,14 @@ GoesOn parts i h counts k now _ = (k ≡ h) × (now ≡ counts)
 -- there is one
 pub record Moment : Type 0 where
   pub parts : Parts
-  pub machine : Machine
+  pub machine : WholeMachine
   pub begun : List ℕ
   pub table : Option Variant
 
 -- how a run stands, with its journal
 pub record State : Type 0 where
   pub parts : Parts
-  pub machine : Machine
+  pub machine : WholeMachine
   pub begun : List ℕ
   pub journal : List Entry
 

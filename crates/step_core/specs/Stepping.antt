@@ -5,7 +5,7 @@ use Rattle.step_table.specs.declared.parts.Parts.{Parts}
 use Rattle.step_law_alike.specs.declared.variant.Variant.{Variant}
 use Rattle.step_law_alike.specs.Changed.{changed_stepped}
 use Rattle.step_table.specs.Run.{Run, stepped}
-use Rattle.step_core.specs.State.{Machine, Moment, State, AreSameSize, and_then, run_with, run_of, telling}
+use Rattle.step_core.specs.State.{WholeMachine, Moment, State, AreSameSize, and_then, run_with, run_of, telling}
 use Rattle.step_core.specs.WellFormed.{IsSoundBy}
 
 -- the run after a step of seat i
@@ -15,8 +15,8 @@ stepped_by (Some v) parts run i = changed_stepped v parts run i
 
 -- the seat has run its row, which told this, and has begun its next call where that ended one: with each
 -- journal, its run is the one after a step of the seat
-pub record HasStepped (table : Option Variant) (parts : Parts) (i : ℕ) (h : Machine) (counts : List ℕ)
-    (k : Machine)
+pub record HasStepped (table : Option Variant) (parts : Parts) (i : ℕ) (h : WholeMachine) (counts : List ℕ)
+    (k : WholeMachine)
     (now : List ℕ) (entry : Option Entry) : Type 0 where
   pub alike : AreSameSize h k
   pub count : length now ≡ length counts

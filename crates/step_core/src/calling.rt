@@ -7,14 +7,14 @@ ghost use Rattle.step_table.specs.Steps.{moved};
 ghost use Rattle.step_table.specs.CoreSteps.{calls, goes_on, after_counter, after_list, after_group, stands};
 ghost use Rattle.step_core.specs.State.{Becomes, HasSeat, HasListSeat, MayBegin, MayGoOn, core_of};
 
-use crate::machine::Machine;
+use crate::machine::WholeMachine;
 use step_table::{
     Acquire, AcquireRow, After, AllRow, Call, GroupId, GroupNext, GroupRow, ListId, ListPlace,
     ManyRow, OneRow, Place, Release, ReleaseMany, ReleaseRow, Standing,
 };
 use waiters::SeatId;
 
-impl Machine {
+impl WholeMachine {
     /// The seat begins this call: that is no step.
     pub fn call(&mut self, seat: SeatId, call: Call)
         requires seat { HasSeat self.old seat }

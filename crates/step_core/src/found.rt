@@ -7,14 +7,14 @@ ghost use Rattle.step_core.specs.Finding.{exchanged, found_on_counter, found_on_
 ghost use Rattle.step_core.specs.State.{core_of, AsksFor, HasSeat, IsMachineFor, IsReady, IsRefusal};
 ghost use Rattle.step_rows.specs.Stored.{each};
 
-use crate::machine::Machine;
+use crate::machine::WholeMachine;
 use crate::turn::Turn;
 use step_table::{AcquireRow, GroupRow, GroupWord, Place, ReleaseRow, Standing, StepRefused};
 use waiters::SeatId;
 
 /// What a row finds in its word; of an exchange, whether it is won.
 #[derive(Clone, Copy, Drop)]
-pub enum Found {
+pub enum WordFound {
     /// This number.
     Number(u64),
     /// This state word of a wait group.
@@ -26,41 +26,41 @@ pub enum Found {
 }
 
 /// What an exchange finds that would leave this of the number.
-fn exchanged(left: u64, number: u64) -> Found
+fn exchanged(left: u64, number: u64) -> WordFound
     ensures { result ≡ exchanged left number }
 {
     match number.checked_sub(1) {
-        Some(less) if less == left => Found::Won,
-        _ => Found::Lost,
+        Some(less) if less == left => WordFound::Won,
+        _ => WordFound::Lost,
     }
 }
 
 /// What the row at this place finds, where this is the number in its word.
-fn on_counter(place: Place, number: u64) -> Found
+fn on_counter(place: Place, number: u64) -> WordFound
     ensures { result ≡ found_on_counter place number }
 {
     match place {
         Place::Acquiring(_, AcquireRow::A2(left) | AcquireRow::A6(left) | AcquireRow::A11(left)) =>
             exchanged(left, number),
         Place::Releasing(_, ReleaseRow::R8(left)) => exchanged(left, number),
-        _ => Found::Number(number),
+        _ => WordFound::Number(number),
     }
 }
 
 /// What a row of a wait group finds, where this is the group's word.
-fn on_group(row: GroupRow, word: GroupWord) -> Found
+fn on_group(row: GroupRow, word: GroupWord) -> WordFound
     ensures { result ≡ found_on_group row word }
 {
     match row {
-        GroupRow::V2(seen) if seen == word => Found::Won,
-        GroupRow::V2(_) => Found::Lost,
-        _ => Found::State(word),
+        GroupRow::V2(seen) if seen == word => WordFound::Won,
+        GroupRow::V2(_) => WordFound::Lost,
+        _ => WordFound::State(word),
     }
 }
 
-impl Machine {
+impl WholeMachine {
     /// What the row finds at which the seat stands, if it can run, or why it can't.
-    pub fn look(&self, seat: SeatId) -> Result<Found, StepRefused>
+    pub fn look(&self, seat: SeatId) -> Result<WordFound, StepRefused>
         requires seat { HasSeat self.now seat }
         requires asks { AsksFor self.now seat (each Standing.Rest self.now.standing seat) }
         ensures can { IfOk result (λ found. IsRefusal self.now seat None) }
@@ -76,7 +76,7 @@ impl Machine {
     }
 
     /// What the row of the seat finds, which can run.
-    pub(crate) fn found(&self, seat: SeatId, turn: &Turn) -> Found
+    pub(crate) fn found(&self, seat: SeatId, turn: &Turn) -> WordFound
         requires seat { HasSeat self.now seat }
         requires ready { IsReady self.now seat turn.now }
         ensures { (m : CoreLayout) → IsMachineFor m self.now → (journal : List Told)
@@ -87,7 +87,7 @@ impl Machine {
                 on_counter(ready.caller.place, self.semaphores.read(&ready.word))
             }
             Turn::OnList(list, ready) => {
-                Found::Number(self.lists[list.number() as usize].read(&ready.word))
+                WordFound::Number(self.lists[list.number() as usize].read(&ready.word))
             }
             Turn::OnGroup(group, row) => on_group(*row, self.groups[group.number() as usize]),
         }

@@ -22,7 +22,7 @@ mod renaming;
 
 use std::marker::Model;
 use step_keys::{write_group, write_standing};
-use step_rows::{ListMachine, ListReady, Ready, Semaphores};
+use step_rows::{ListMachine, ListReady, Ready, SemaMachine};
 use step_table::{
     After, GroupId, GroupWord, ListId, ListPlace, Parts, Place, Release, ReleaseRow, Standing,
 };
@@ -30,15 +30,15 @@ use waiters::{CounterId, NoMemory, SeatId};
 
 /// All that rows read and write, and what each seat is doing.
 #[derive(Drop)]
-pub struct Machine {
-    pub(crate) semaphores: Semaphores,
+pub struct WholeMachine {
+    pub(crate) semaphores: SemaMachine,
     pub(crate) lists: Vec<ListMachine>,
     pub(crate) groups: Vec<GroupWord>,
     pub(crate) standing: Vec<Standing>,
 }
 
-impl Model for Machine {
-    ghost use Rattle.step_core.specs.State.{Machine as Shown};
+impl Model for WholeMachine {
+    ghost use Rattle.step_core.specs.State.{WholeMachine as Shown};
 
     ghost Value = { Shown };
 
@@ -50,7 +50,7 @@ impl Model for Machine {
     } };
 }
 
-impl Machine {
+impl WholeMachine {
     /// What the seat does now.
     pub fn doing(&self, seat: SeatId) -> Standing
         requires { seat < length self.now.standing }

@@ -4,12 +4,12 @@ ghost use Rattle.std.specs.Prelude.{◌≡◌, ◌≤◌, IfOk, IfErr, OnOk, len
 ghost use Rattle.step_table.specs.Run.{AllRun, start, reached, IsRefusedRun};
 ghost use Rattle.step_law_whole.specs.Misused.{AllFairFrom, IsUnmisused};
 ghost use Rattle.step_law_whole.specs.RunGrants.{EachStepGrantsLeast};
-ghost use Rattle.step_law_ends.specs.RunWeight.{most_steps};
+ghost use Rattle.step_law_whole.specs.RunWeight.{most_steps};
 ghost use Rattle.step_core.specs.State.{run_of, ShowsLawful, RestsAtEnd};
 
+use crate::scenario::Scenario;
 use crate::world::World;
 use std::alloc::Global;
-use step_scenario::Scenario;
 use step_table::{RunRefused, StepRefused};
 use waiters::SeatId;
 

@@ -11,9 +11,9 @@ ghost use Rattle.step_core.specs.State.{core_of, AreFirst};
 ghost use Rattle.step_table.specs.declared.standing.Standing.TheVariants.{Rest};
 
 use crate::group::EMPTY;
-use crate::machine::Machine;
+use crate::machine::WholeMachine;
 use std::alloc::{AllocError, Global};
-use step_rows::{ListMachine, Semaphores, copy_items};
+use step_rows::{ListMachine, SemaMachine, copy_items};
 use step_table::{GroupWord, Parts, Standing};
 use waiters::NoMemory;
 
@@ -65,15 +65,15 @@ fn copy_lists(lists: &mut [ListMachine], others: &[ListMachine]) -> Result<(), N
 }
 
 /// The machine in a box, which is moved without it.
-pub(crate) fn boxed(alloc: Global, machine: Machine) -> Result<Box<Machine>, AllocError>
+pub(crate) fn boxed(alloc: Global, machine: WholeMachine) -> Result<Box<WholeMachine>, AllocError>
     ensures { IfOk result (λ boxed. boxed.value ≡ machine) }
 {
     Ok(Box::new(alloc, machine)?)
 }
 
-impl Machine {
+impl WholeMachine {
     /// The machine before any call has begun. All memory of a run is taken here.
-    pub fn new(alloc: Global, parts: &Parts) -> Result<Machine, NoMemory>
+    pub fn new(alloc: Global, parts: &Parts) -> Result<WholeMachine, NoMemory>
         requires some_root { 0 < parts.now.roots }
         requires few_counters { length parts.now.starts + parts.now.groups < 2 ^ 32 }
         requires few_seats { length parts.now.calls < 2 ^ 16 }
@@ -82,8 +82,8 @@ impl Machine {
     {
         let seats = parts.calls.len();
         let starts = parts.starts.as_slice();
-        Ok(Machine {
-            semaphores: Semaphores::new(alloc, starts, parts.groups, parts.roots, seats)?,
+        Ok(WholeMachine {
+            semaphores: SemaMachine::new(alloc, starts, parts.groups, parts.roots, seats)?,
             lists: first_lists(alloc, parts.firsts.as_slice(), seats as u16)?,
             groups: first_words(alloc, parts.groups as usize)?,
             standing: all_at_rest(alloc, seats)?,
@@ -91,10 +91,10 @@ impl Machine {
     }
 
     /// The same, with memory of its own for the rest of the run.
-    pub fn try_clone(&self, alloc: Global) -> Result<Machine, NoMemory>
+    pub fn try_clone(&self, alloc: Global) -> Result<WholeMachine, NoMemory>
         ensures { IfOk result (λ other. other ≡ self.now) }
     {
-        Ok(Machine {
+        Ok(WholeMachine {
             semaphores: self.semaphores.try_clone(alloc)?,
             lists: copied(alloc, self.lists.as_slice())?,
             groups: self.groups.as_slice().to_vec(alloc)?,
@@ -104,7 +104,7 @@ impl Machine {
 
     /// Becomes as the other is, in the memory that it has. Memory is taken where that has other lists, roots
     /// or seats.
-    pub fn copy_from(&mut self, alloc: Global, other: &Machine) -> Result<(), NoMemory>
+    pub fn copy_from(&mut self, alloc: Global, other: &WholeMachine) -> Result<(), NoMemory>
         ensures { OnOk result (self.new ≡ other.now) }
     {
         if self.lists.len() != other.lists.len() {
@@ -119,7 +119,7 @@ impl Machine {
     /// Becomes as the other is, in memory of its own.
     // A body of its own: what it has on the stack would else be cleared at each copy.
     #[inline(never)]
-    fn become_copy(&mut self, alloc: Global, other: &Machine) -> Result<(), NoMemory>
+    fn become_copy(&mut self, alloc: Global, other: &WholeMachine) -> Result<(), NoMemory>
         ensures { OnOk result (self.new ≡ other.now) }
     {
         *self = other.try_clone(alloc)?;

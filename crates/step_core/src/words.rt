@@ -9,12 +9,12 @@ ghost use Rattle.step_core.specs.Picture.{ticket_of};
 ghost use Rattle.step_core.specs.State.{core_of, no_list, HasListSeat};
 ghost use Rattle.step_rows.specs.Stored.{each};
 
-use crate::machine::Machine;
+use crate::machine::WholeMachine;
 use std::alloc::Global;
 use step_table::{GroupId, GroupWord, ListId, ListPlace, ListWord, Ticket};
 use waiters::{CounterId, NoMemory, SeatId, WaitId};
 
-impl Machine {
+impl WholeMachine {
     /// The number of the counter.
     pub fn number(&self, counter: CounterId) -> u64
         requires { counter < length self.now.semaphores.stored.numbers }

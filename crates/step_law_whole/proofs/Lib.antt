@@ -29,3 +29,17 @@ pub mod Naming
 pub mod RunEarly
 pub mod RunGranting
 pub mod RunReading
+pub mod Courses
+pub mod SeatSums
+pub mod SemaRows
+pub mod SemaWeights
+pub mod SemaEnding
+pub mod ListWeights
+pub mod ListEnding
+pub mod CoreWeights
+pub mod CoreFalling
+pub mod WaitsCounting
+pub mod CoreAtEnd
+pub mod RunBounding
+pub mod RunEnding
+pub mod Endless

@@ -6,3 +6,13 @@ pub mod Naming
 pub mod RunGrants
 pub mod RunLaw
 pub mod RunPromises
+pub mod Course
+pub mod SemaWeight
+pub mod SemaEnds
+pub mod ListWeight
+pub mod ListEnds
+pub mod CoreWeight
+pub mod CoreEnds
+pub mod RunWeight
+pub mod RunEnds
+pub mod Endless

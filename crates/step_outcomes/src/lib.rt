@@ -18,4 +18,4 @@ mod sight;
 
 pub use list_outcome::{ListOutcome, ListSight};
 pub use outcome::Outcome;
-pub use sight::Sight;
+pub use sight::RowSight;

@@ -10,12 +10,12 @@ ghost use Rattle.step_table.specs.Release.{release_event};
 ghost use Rattle.step_outcomes.specs.Outcomes.{IsWordWithin, HasRoom, Does};
 
 use crate::outcome::{Outcome, exchange, goes, grants, tells};
-use crate::sight::{Sight, waiter};
+use crate::sight::{RowSight, waiter};
 use step_table::{Entry, Place, Release, ReleaseRow, Word};
 use waiters::SeatId;
 
 /// The word of the row's event.
-pub fn word_of(seat: SeatId, sight: &Sight, release: Release, row: ReleaseRow) -> Word
+pub fn word_of(seat: SeatId, sight: &RowSight, release: Release, row: ReleaseRow) -> Word
     ensures word { (hand list : List WaitId) → slice_get hand 0 ≡ sight.now.in_hand
         → result ≡ (release_event seat hand list release row).word }
     ensures within { (counters seats : ℕ) → release.counter < counters → seat < seats
@@ -33,7 +33,7 @@ pub fn word_of(seat: SeatId, sight: &Sight, release: Release, row: ReleaseRow) -
 /// What the row does where its word is `found`; `None` where its condition doesn't hold.
 pub fn outcome_of(
     seat: SeatId,
-    sight: &Sight,
+    sight: &RowSight,
     release: Release,
     row: ReleaseRow,
     found: u64,

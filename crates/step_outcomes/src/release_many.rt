@@ -10,12 +10,12 @@ ghost use Rattle.step_table.specs.ReleaseMany.{release_many_event, after_leave};
 ghost use Rattle.step_outcomes.specs.Outcomes.{IsWordWithin, HasRoom, Does};
 
 use crate::outcome::{Outcome, goes, grants, tells};
-use crate::sight::{Sight, waiter};
+use crate::sight::{RowSight, waiter};
 use step_table::{Entry, ManyRow, Place, ReleaseMany, Word};
 use waiters::SeatId;
 
 /// The word of the row's event.
-pub fn word_of(seat: SeatId, sight: &Sight, release: ReleaseMany, row: ManyRow) -> Word
+pub fn word_of(seat: SeatId, sight: &RowSight, release: ReleaseMany, row: ManyRow) -> Word
     ensures word { (hand list : List WaitId) → slice_get hand 0 ≡ sight.now.in_hand
         → result ≡ (release_many_event seat hand list release row).word }
     ensures within { (counters seats : ℕ) → release.counter < counters → seat < seats
@@ -31,7 +31,7 @@ pub fn word_of(seat: SeatId, sight: &Sight, release: ReleaseMany, row: ManyRow) 
 }
 
 /// Where it goes that takes one more wait out; `owed` counts the unit of that wait too.
-fn after_leave(sight: &Sight, release: ReleaseMany) -> Place
+fn after_leave(sight: &RowSight, release: ReleaseMany) -> Place
     ensures { result ≡ after_leave release sight.now.held sight.now.queued }
 {
     let owed = (release.units as usize).saturating_sub(sight.held);
@@ -45,7 +45,7 @@ fn after_leave(sight: &Sight, release: ReleaseMany) -> Place
 /// What the row does where its word is `found`; `None` where its condition doesn't hold.
 pub fn outcome_of(
     seat: SeatId,
-    sight: &Sight,
+    sight: &RowSight,
     release: ReleaseMany,
     row: ManyRow,
     found: u64,

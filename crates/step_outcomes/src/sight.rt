@@ -9,19 +9,19 @@ use waiters::{SeatId, WaitId};
 /// The first wait of its counter's list and of its hand, how many the hand has, and, for a release of many,
 /// how many the list has. To a row that doesn't look there they are empty.
 #[derive(Clone, Copy, Drop)]
-pub struct Sight {
+pub struct RowSight {
     pub listed: Option<WaitId>,
     pub queued: usize,
     pub in_hand: Option<WaitId>,
     pub held: usize,
 }
 
-impl Sight {
+impl RowSight {
     /// To a row that looks at nothing, the list and the hand are empty.
-    pub fn nothing() -> Sight
+    pub fn nothing() -> RowSight
         ensures { result ≡ record { listed = None; queued = 0; in_hand = None; held = 0 } }
     {
-        Sight {
+        RowSight {
             listed: None,
             queued: 0,
             in_hand: None,
@@ -30,24 +30,24 @@ impl Sight {
     }
 
     /// What a row sees that looks at the list alone.
-    pub fn of_list(listed: Option<WaitId>, queued: usize) -> Sight
+    pub fn of_list(listed: Option<WaitId>, queued: usize) -> RowSight
         ensures { result ≡ record { listed = listed; queued = queued; in_hand = None; held = 0 } }
     {
-        Sight {
+        RowSight {
             listed,
             queued,
-            ..Sight::nothing()
+            ..RowSight::nothing()
         }
     }
 
     /// What a row sees that looks at the hand alone.
-    pub fn of_hand(in_hand: Option<WaitId>, held: usize) -> Sight
+    pub fn of_hand(in_hand: Option<WaitId>, held: usize) -> RowSight
         ensures { result ≡ record { listed = None; queued = 0; in_hand = in_hand; held = held } }
     {
-        Sight {
+        RowSight {
             in_hand,
             held,
-            ..Sight::nothing()
+            ..RowSight::nothing()
         }
     }
 }

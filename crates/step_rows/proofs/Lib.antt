@@ -1,3 +1,6 @@
+pub mod SeatsOf
+pub mod Rooting
+pub mod Replacing
 pub mod Storing
 pub mod RootWords
 pub mod WordParts

@@ -12,7 +12,7 @@ use Rattle.step_table.specs.declared.effect.Effect.TheVariants.{Tells}
 use Rattle.step_table.specs.declared.word.Word.{Word}
 use Rattle.step_table.specs.declared.word.Word.TheVariants.{Counter, Lock, Waiters, Grant}
 use Rattle.step_table.specs.World.{Words, put, written}
-use Rattle.step_rows.specs.Stored.{Stored, Becomes, WordsBecome, ListsBecome, HandBecomes, Makes, each, words_of, hands_of, root_of}
+use Rattle.step_rows.specs.Stored.{Stored, Becomes, WordsBecome, ListsBecome, HandBecomes, Makes, each, stored_words, hands_of, root_of}
 use Rattle.step_table.proofs.Sums.{put_here, put_else, put_same}
 
 -- a list of copies
@@ -33,10 +33,10 @@ each_set d l i x h = fun_ext (λ k. by k (ℕ_discrete k i))
 -- h is what a value shows, and g what a clause calls it
 module _ (h g : Stored) (same : h ≡ g) where
   abbrev Wrote : Word → ℕ → Stored → Type 0
-  Wrote w x k = WordsBecome g (written (root_of g) (words_of g) w x) k
+  Wrote w x k = WordsBecome g (written (root_of g) (stored_words g) w x) k
 
   abbrev Kept : Word → ℕ → Stored → Stored → Type 0
-  Kept w x k f = WordsBecome f (written (root_of f) (words_of f) w x) k
+  Kept w x k f = WordsBecome f (written (root_of f) (stored_words f) w x) k
 
   pub number_stored : (w : Word) (c i x : ℕ) → Counter c ≡ w → c ≡ i → i < length h.numbers → Wrote w x (record h { numbers = set h.numbers i x })
   number_stored w c i x is at within =
@@ -52,7 +52,7 @@ module _ (h g : Stored) (same : h ≡ g) where
         lists = refl;
         seats = refl;
         hands = refl;
-        words = λ j. record (words_of h) { numbers = each_set 0 h.numbers i x within j };
+        words = λ j. record (stored_words h) { numbers = each_set 0 h.numbers i x within j };
       }))
 
   pub lock_stored : (w : Word) (c i x : ℕ) → Lock c ≡ w → root_of h c ≡ i → i < length h.locks → Wrote w x (record h { locks = set h.locks i x })
@@ -69,8 +69,8 @@ module _ (h g : Stored) (same : h ≡ g) where
         lists = refl;
         seats = refl;
         hands = refl;
-        words = subst (λ r. words_of (record h { locks = set h.locks i x }) ≡ record (words_of h) { locks = put (each 0 h.locks) r x }) (sym at)
-            (λ j. record (words_of h) { locks = each_set 0 h.locks i x within j });
+        words = subst (λ r. stored_words (record h { locks = set h.locks i x }) ≡ record (stored_words h) { locks = put (each 0 h.locks) r x }) (sym at)
+            (λ j. record (stored_words h) { locks = each_set 0 h.locks i x within j });
       }))
 
   pub waiters_stored : (w : Word) (c i x : ℕ) → Waiters c ≡ w → root_of h c ≡ i → i < length h.waiters
@@ -88,8 +88,8 @@ module _ (h g : Stored) (same : h ≡ g) where
         lists = refl;
         seats = refl;
         hands = refl;
-        words = subst (λ r. words_of (record h { waiters = set h.waiters i x }) ≡ record (words_of h) { waiters = put (each 0 h.waiters) r x }) (sym at)
-            (λ j. record (words_of h) { waiters = each_set 0 h.waiters i x within j });
+        words = subst (λ r. stored_words (record h { waiters = set h.waiters i x }) ≡ record (stored_words h) { waiters = put (each 0 h.waiters) r x }) (sym at)
+            (λ j. record (stored_words h) { waiters = each_set 0 h.waiters i x within j });
       }))
 
   pub grant_stored : (w : Word) (s x : ℕ) (grants : List ℕ) (hands : List (List WaitId)) → Grant s ≡ w → s < length h.grants
@@ -106,7 +106,7 @@ module _ (h g : Stored) (same : h ≡ g) where
         grants = ap length new ∙ length-set h.grants s x;
         lists = refl;
         seats = ap length kept;
-        words = λ j. record (words_of h) { grants = (ap (each 0) new ∙ each_set 0 h.grants s x within) j };
+        words = λ j. record (stored_words h) { grants = (ap (each 0) new ∙ each_set 0 h.grants s x within) j };
         hands = ap (each []) kept;
       }))
 
@@ -126,7 +126,7 @@ module _ (h g : Stored) (same : h ≡ g) where
         lists = ap length new ∙ length-set h.lists c (change (each [] h.lists c));
         seats = refl;
         hands = refl;
-        words = λ j. record (words_of h) { lists = (ap (each []) new ∙ each_set [] h.lists c (change (each [] h.lists c)) within) j };
+        words = λ j. record (stored_words h) { lists = (ap (each []) new ∙ each_set [] h.lists c (change (each [] h.lists c)) within) j };
       })
 
   -- the hand of the seat s has changed
@@ -144,12 +144,12 @@ module _ (h g : Stored) (same : h ≡ g) where
         grants = ap length kept;
         lists = refl;
         seats = ap length new ∙ length-set h.hands s (change (each [] h.hands s));
-        words = λ j. record (words_of h) { grants = each 0 (kept j) };
+        words = λ j. record (stored_words h) { grants = each 0 (kept j) };
         hands = ap (each []) new ∙ each_set [] h.hands s (change (each [] h.hands s)) within;
       })
 
 -- an effect that moves no wait
-pub moves_nothing : (h : Stored) (s : ℕ) → Becomes h (words_of h) (put (hands_of h) s (hands_of h s)) h
+pub moves_nothing : (h : Stored) (s : ℕ) → Becomes h (stored_words h) (put (hands_of h) s (hands_of h s)) h
 moves_nothing h s = record {
   own = refl;
   roots = refl;
@@ -165,8 +165,8 @@ moves_nothing h s = record {
 
 -- the hand has changed and then the lists, or the lists alone
 pub then_lists : (h k n : Stored) (hands : ℕ → List WaitId) (lists : (ℕ → List WaitId) → ℕ → List WaitId)
-    → Becomes h (words_of h) hands k → ListsBecome k (lists (words_of k).lists) n
-    → Becomes h (record (words_of h) { lists = lists (words_of h).lists }) hands n
+    → Becomes h (stored_words h) hands k → ListsBecome k (lists (stored_words k).lists) n
+    → Becomes h (record (stored_words h) { lists = lists (stored_words h).lists }) hands n
 then_lists h k n hands lists first second = record {
   own = second.own ∙ first.own;
   roots = second.roots ∙ first.roots;
@@ -181,7 +181,7 @@ then_lists h k n hands lists first second = record {
 }
 
 pub lists_alone : (h n : Stored) (s : ℕ) (lists : ℕ → List WaitId) → ListsBecome h lists n
-    → Becomes h (record (words_of h) { lists = lists }) (put (hands_of h) s (hands_of h s)) n
+    → Becomes h (record (stored_words h) { lists = lists }) (put (hands_of h) s (hands_of h s)) n
 lists_alone h n s lists is = record {
   own = is.own;
   roots = is.roots;

@@ -1,3 +1,4 @@
+pub mod Roots
 pub mod Seats
 pub mod Stored
 pub mod ListStored

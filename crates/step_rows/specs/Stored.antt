@@ -4,8 +4,8 @@ use Rattle.std.specs.Prelude.{slice_index_or, IfSome, IsTrue, replicate}
 use Rattle.std.specs.Prelude.{Bool, true, false, cond, ◌==◌, nat_lt}
 use Rattle.waiters.specs.declared.wait.WaitId.{WaitId}
 use Rattle.step_rows.specs.declared.caller.Caller.{Caller}
-use Rattle.step_rows.specs.declared.caller.Guard.{Guard}
-use Rattle.step_rows.specs.declared.caller.Guard.TheVariants.{Shut, Open, Unlocked, Granted}
+use Rattle.step_rows.specs.declared.caller.RowGuard.{RowGuard}
+use Rattle.step_rows.specs.declared.caller.RowGuard.TheVariants.{Shut, Open, Unlocked, Granted}
 use Rattle.step_table.specs.declared.entry.Entry.{Entry}
 use Rattle.step_table.specs.declared.entry.Entry.TheVariants.{Queue, Leave}
 use Rattle.step_table.specs.declared.effect.Effect.{Effect}
@@ -26,7 +26,7 @@ use Rattle.step_table.specs.Event.{Event}
 use Rattle.step_table.specs.Table.{event_at}
 use Rattle.step_table.specs.Steps.{words_after, event_of, finds, turned, moved}
 use Rattle.step_table.specs.Counting.{IsWithin}
-use Rattle.step_queues.specs.Roots.{queued}
+use Rattle.step_rows.specs.Roots.{queued}
 use Rattle.step_outcomes.specs.Outcomes.{IsOutcome, HasRoom}
 
 -- the elements of a list by their places, and d past its end
@@ -45,8 +45,8 @@ pub record Stored : Type 0 where
   pub lists : List (List WaitId)
   pub hands : List (List WaitId)
 
-abbrev pub words_of : Stored → Words
-words_of h =
+abbrev pub stored_words : Stored → Words
+stored_words h =
     record {
       numbers = each 0 h.numbers;
       locks = each 0 h.locks;
@@ -87,23 +87,23 @@ pub record Becomes (h : Stored) (g : Words) (in_hand : ℕ → List WaitId) (k :
   pub grants : length k.grants ≡ length h.grants
   pub lists : length k.lists ≡ length h.lists
   pub seats : length k.hands ≡ length h.hands
-  pub words : words_of k ≡ g
+  pub words : stored_words k ≡ g
   pub hands : hands_of k ≡ in_hand
 
 abbrev pub WordsBecome : Stored → Words → Stored → Type 0
 WordsBecome h g k = Becomes h g (hands_of h) k
 
 abbrev pub ListsBecome : Stored → (ℕ → List WaitId) → Stored → Type 0
-ListsBecome h lists k = WordsBecome h (record (words_of h) { lists = lists }) k
+ListsBecome h lists k = WordsBecome h (record (stored_words h) { lists = lists }) k
 
 -- the hand of the seat has become this
 abbrev pub HandBecomes : Stored → ℕ → List WaitId → Stored → Type 0
-HandBecomes h s hand k = Becomes h (words_of h) (put (hands_of h) s hand) k
+HandBecomes h s hand k = Becomes h (stored_words h) (put (hands_of h) s hand) k
 
 -- lists and the hand of the seat have changed as the effect says
 abbrev pub Makes : Effect → ℕ → Stored → Stored → Type 0
 Makes e s h k =
-    Becomes h (record (words_of h) { lists = lists_after e (words_of h).lists })
+    Becomes h (record (stored_words h) { lists = lists_after e (stored_words h).lists })
     (put (hands_of h) s (hand_after e (hands_of h s))) k
 
 -- a seat that has queued nothing
@@ -118,14 +118,14 @@ abbrev pub seats_of : List Caller → List (List WaitId) → ℕ → SeatState
 seats_of callers hands s = seat_of (slice_index_or callers s idle) (each [] hands s)
 
 -- the words, lists and hands, and where each seat stands
-pub record Semaphores : Type 0 where
+pub record SemaMachine : Type 0 where
   pub stored : Stored
   pub callers : List Caller
 
 -- their world, with this journal
-abbrev pub world_of : Semaphores → List Entry → SemaWorld
+abbrev pub world_of : SemaMachine → List Entry → SemaWorld
 world_of m journal =
-    record { words = words_of m.stored; seats = seats_of m.callers m.stored.hands; journal = journal }
+    record { words = stored_words m.stored; seats = seats_of m.callers m.stored.hands; journal = journal }
 
 -- the words are those of so many counters, with one for each group, roots, with one for each group, and seats
 pub record IsStoredFor (own groups roots seats : ℕ) (h : Stored) : Type 0 where
@@ -208,20 +208,20 @@ refused_by _ = Asleep
 
 -- the event of a seat, and what it finds
 abbrev pub row_event : ℕ → Caller → Stored → List WaitId → Event
-row_event s caller h hand = event_at s (seat_of caller hand) (words_of h).lists caller.place
+row_event s caller h hand = event_at s (seat_of caller hand) (stored_words h).lists caller.place
 
 abbrev pub row_finds : ℕ → Caller → Stored → List WaitId → ℕ
-row_finds s caller h hand = found (root_of h) (words_of h) (row_event s caller h hand).word
+row_finds s caller h hand = found (root_of h) (stored_words h) (row_event s caller h hand).word
 
 -- a seat s behind this guard can run its row
-abbrev pub lets_through : Stored → ℕ → Guard → Bool
+abbrev pub lets_through : Stored → ℕ → RowGuard → Bool
 lets_through h s Shut = false
 lets_through h s Open = true
-lets_through h s (Unlocked c) = (words_of h).locks (root_of h c) == 0
-lets_through h s Granted = nat_lt 0 ((words_of h).grants s)
+lets_through h s (Unlocked c) = (stored_words h).locks (root_of h c) == 0
+lets_through h s Granted = nat_lt 0 ((stored_words h).grants s)
 
 -- its counter is one of so many
-abbrev pub HasGuard : ℕ → Guard → Type 0
+abbrev pub HasGuard : ℕ → RowGuard → Type 0
 HasGuard counters (Unlocked c) = c < counters
 HasGuard counters _ = Unit {0}
 
@@ -256,7 +256,7 @@ pub record HasRun
   pub turn : next.turn ≡ turn_after effect caller.turn
   pub effect_is : effect ≡ ((row_event s caller h hand).leads (row_finds s caller h hand)).1
   pub stored :
-      Becomes h (words_after (root_of h) (words_of h) (row_event s caller h hand) (row_finds s caller h hand))
+      Becomes h (words_after (root_of h) (stored_words h) (row_event s caller h hand) (row_finds s caller h hand))
       (put (hands_of h) s (hand_after effect hand)) k
 
 -- the row is refused by this: its condition doesn't hold
@@ -266,20 +266,20 @@ IsRowRefusedBy cause s caller h hand =
     × (cause ≡ refused_by (row_event s caller h hand).word)
 
 -- the seat, and all that its row asks for
-pub record HasRow (m : Semaphores) (s : ℕ) : Type 0 where
+pub record HasRow (m : SemaMachine) (s : ℕ) : Type 0 where
   pub there : s < length m.callers
   pub rows : HasRowsOf m.stored s (slice_index_or m.callers s idle).place (slice_get (hands_of m.stored s) 0)
   pub fits : row_finds s (slice_index_or m.callers s idle) m.stored (hands_of m.stored s) + 2 ^ 32 < 2 ^ 64
   pub turn : (slice_index_or m.callers s idle).turn + 1 < 2 ^ 64
 
 -- the row of the seat can run
-pub record IsReadyFor (m : Semaphores) (s : ℕ) (ready : Ready) : Type 0 where
+pub record IsReadyFor (m : SemaMachine) (s : ℕ) (ready : Ready) : Type 0 where
   pub there : slice_get m.callers s ≡ Some ready.caller
   pub turn : ready.caller.turn + 1 < 2 ^ 64
   pub row : IsReady m.stored s ready
 
 -- as many of everything, and the same roots
-pub record IsSameSize (m n : Semaphores) : Type 0 where
+pub record IsSameSize (m n : SemaMachine) : Type 0 where
   pub own : n.stored.own ≡ m.stored.own
   pub roots : n.stored.roots ≡ m.stored.roots
   pub numbers : length n.stored.numbers ≡ length m.stored.numbers
@@ -291,21 +291,21 @@ pub record IsSameSize (m n : Semaphores) : Type 0 where
   pub callers : length n.callers ≡ length m.callers
 
 -- the event of seat s, and what it finds
-abbrev pub event_in : Semaphores → ℕ → Event
+abbrev pub event_in : SemaMachine → ℕ → Event
 event_in m s = event_of (world_of m []) s
 
-abbrev pub finds_in : Semaphores → ℕ → ℕ
+abbrev pub finds_in : SemaMachine → ℕ → ℕ
 finds_in m s = finds (root_of m.stored) (world_of m []) s
 
 -- seat s has run its row, which had this effect: with each journal its world has turned
-pub record HasTurned (m : Semaphores) (s : ℕ) (effect : Effect) (n : Semaphores) : Type 0 where
+pub record HasTurned (m : SemaMachine) (s : ℕ) (effect : Effect) (n : SemaMachine) : Type 0 where
   pub effect_is : effect ≡ ((event_in m s).leads (finds_in m s)).1
   pub world : (journal : List Entry)
       → world_of n (journal_after effect journal) ≡ turned (root_of m.stored) (world_of m journal) s
   pub alike : IsSameSize m n
 
 -- seat s stands at another place
-pub record HasMoved (m : Semaphores) (s : ℕ) (place : Place) (n : Semaphores) : Type 0 where
+pub record HasMoved (m : SemaMachine) (s : ℕ) (place : Place) (n : SemaMachine) : Type 0 where
   pub world : (journal : List Entry) → world_of n journal ≡ moved (world_of m journal) s place
   pub alike : IsSameSize m n
 

@@ -7,7 +7,7 @@ ghost use Rattle.waiters.specs.declared.wait.WaitId.{WaitId};
 ghost use Rattle.step_table.specs.World.{turn_after};
 ghost use Rattle.step_table.specs.Table.{event_at};
 ghost use Rattle.step_outcomes.specs.Outcomes.{HasRoom, Does};
-ghost use Rattle.step_rows.specs.Stored.{Stored, HasRowsOf, HasWord, IsListed, IsQueue, seat_of, words_of};
+ghost use Rattle.step_rows.specs.Stored.{Stored, HasRowsOf, HasWord, IsListed, IsQueue, seat_of, stored_words};
 ghost use Rattle.step_rows.specs.Stored.{idle};
 ghost use Rattle.step_rows.specs.Stored.{row_event, row_finds, lets_through, hands_of, hand_seen, lists_seen};
 ghost use Rattle.step_rows.specs.Stored.{HasGuard};
@@ -15,7 +15,7 @@ ghost use Rattle.step_table.specs.Counting.{IsWithin};
 
 use crate::sema_store::SemaStore;
 use std::alloc::{AllocError, Global};
-use step_outcomes::{Outcome, Sight, acquire, release, release_many};
+use step_outcomes::{Outcome, RowSight, acquire, release, release_many};
 use step_table::{AcquireRow, Effect, Entry, ManyRow, Place, ReleaseRow, Word};
 use waiters::{CounterId, SeatId, WaitId};
 
@@ -28,7 +28,7 @@ pub struct Caller {
 
 /// What a row has to find before it can run.
 #[derive(Clone, Copy, Drop)]
-pub enum Guard {
+pub enum RowGuard {
     /// No row is there.
     Shut,
     /// Whatever it finds, it runs.
@@ -41,31 +41,31 @@ pub enum Guard {
 
 impl Caller {
     /// What the row at which the seat stands has to find. It is told by the place alone.
-    pub fn guard(&self) -> Guard
+    pub fn guard(&self) -> RowGuard
         ensures within { (counters : ℕ) → IsWithin counters self.now.place → HasGuard counters result }
         ensures guard { (seat : ℕ) (h : Stored) (hand : List WaitId)
             → (row_event seat self.now h hand).can (row_finds seat self.now h hand) ≡ lets_through h seat result }
     {
         match self.place {
-            Place::Rest => Guard::Shut,
+            Place::Rest => RowGuard::Shut,
             Place::Acquiring(acquire, row) => match row {
-                AcquireRow::A3 => Guard::Unlocked(acquire.counter),
-                AcquireRow::P(_) => Guard::Granted,
-                _ => Guard::Open,
+                AcquireRow::A3 => RowGuard::Unlocked(acquire.counter),
+                AcquireRow::P(_) => RowGuard::Granted,
+                _ => RowGuard::Open,
             },
             Place::Releasing(release, row) => match row {
-                ReleaseRow::R3 => Guard::Unlocked(release.counter),
-                _ => Guard::Open,
+                ReleaseRow::R3 => RowGuard::Unlocked(release.counter),
+                _ => RowGuard::Open,
             },
             Place::ReleasingMany(release, row) => match row {
-                ManyRow::M3 => Guard::Unlocked(release.counter),
-                _ => Guard::Open,
+                ManyRow::M3 => RowGuard::Unlocked(release.counter),
+                _ => RowGuard::Open,
             },
         }
     }
 
     /// The word of the row at which the seat stands.
-    pub fn word(&self, seat: SeatId, sight: &Sight) -> Word
+    pub fn word(&self, seat: SeatId, sight: &RowSight) -> Word
         ensures stored { (h : Stored) → HasRowsOf h seat self.now.place sight.now.in_hand → HasWord h result }
         ensures word { (hand : List WaitId) (lists : ℕ → List WaitId) → slice_get hand 0 ≡ sight.now.in_hand
             → result ≡ (event_at seat (seat_of self.now hand) lists self.now.place).word }
@@ -82,46 +82,49 @@ impl Caller {
 
     /// What the row at which the seat stands sees. The list and the hand are looked up where that row looks
     /// at them alone, and are empty to it elsewhere.
-    pub fn sight(&self, seat: SeatId, shared: &SemaStore) -> Sight
+    pub fn sight(&self, seat: SeatId, shared: &SemaStore) -> RowSight
         requires within { IsWithin (length shared.now.lists) self.now.place }
         requires hand { seat < length shared.now.hands }
         ensures listed { IsListed
-            (lists_seen self.now.place (words_of shared.now).lists) self.now.place result.listed }
+            (lists_seen self.now.place (stored_words shared.now).lists) self.now.place result.listed }
         ensures queued { IsQueue
-            (lists_seen self.now.place (words_of shared.now).lists) self.now.place result.queued }
+            (lists_seen self.now.place (stored_words shared.now).lists) self.now.place result.queued }
         ensures in_hand { slice_get (hand_seen self.now.place (hands_of shared.now seat)) 0 ≡ result.in_hand }
         ensures held { length (hand_seen self.now.place (hands_of shared.now seat)) ≡ result.held }
     {
         match self.place {
             Place::Releasing(release, row) => match row {
-                ReleaseRow::R4 | ReleaseRow::R5 => Sight::of_list(shared.first(release.counter), 0),
+                ReleaseRow::R4 | ReleaseRow::R5 => RowSight::of_list(
+                    shared.first(release.counter),
+                    0,
+                ),
                 ReleaseRow::R6 | ReleaseRow::R8(_) | ReleaseRow::R9 | ReleaseRow::R10 => {
-                    Sight::of_hand(shared.in_hand(seat), shared.held(seat))
+                    RowSight::of_hand(shared.in_hand(seat), shared.held(seat))
                 }
-                _ => Sight::nothing(),
+                _ => RowSight::nothing(),
             },
             Place::ReleasingMany(release, row) => match row {
                 ManyRow::M4 => {
                     let counter = release.counter;
-                    Sight::of_list(shared.first(counter), shared.queued(counter))
+                    RowSight::of_list(shared.first(counter), shared.queued(counter))
                 }
-                ManyRow::M5 => Sight {
+                ManyRow::M5 => RowSight {
                     listed: shared.first(release.counter),
                     queued: shared.queued(release.counter),
                     in_hand: shared.in_hand(seat),
                     held: shared.held(seat),
                 },
                 ManyRow::M6 | ManyRow::M7 => {
-                    Sight::of_hand(shared.in_hand(seat), shared.held(seat))
+                    RowSight::of_hand(shared.in_hand(seat), shared.held(seat))
                 }
-                _ => Sight::nothing(),
+                _ => RowSight::nothing(),
             },
-            _ => Sight::nothing(),
+            _ => RowSight::nothing(),
         }
     }
 
     /// What that row does where its word is `found`; `None` where its condition doesn't hold.
-    pub fn outcome(&self, seat: SeatId, sight: &Sight, found: u64) -> Option<Outcome>
+    pub fn outcome(&self, seat: SeatId, sight: &RowSight, found: u64) -> Option<Outcome>
         requires { found + 2 ^ 32 < 2 ^ 64 }
         ensures room { (counters : ℕ) → IsWithin counters self.now.place
             → IfSome result (λ outcome. HasRoom counters outcome.effect) }

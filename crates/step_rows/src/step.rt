@@ -7,7 +7,7 @@ ghost use Rattle.step_rows.specs.Stored.{hands_of, HasWord, HasSeat, Makes};
 ghost use Rattle.step_rows.specs.Stored.{HasRowsOf, row_event, row_finds, IsReady, HasRun, IsRowRefusedBy};
 ghost use Rattle.step_rows.specs.Stored.{refused_by};
 
-use crate::caller::{Caller, Guard};
+use crate::caller::{Caller, RowGuard};
 use crate::ready::Ready;
 use crate::sema_store::SemaStore;
 use step_outcomes::Outcome;
@@ -104,10 +104,10 @@ pub fn can_run(shared: &SemaStore, seat: SeatId, caller: &Caller) -> bool
         (row_finds seat caller.now shared.now (hands_of shared.now seat))) }
 {
     match caller.guard() {
-        Guard::Shut => false,
-        Guard::Open => true,
-        Guard::Unlocked(counter) => shared.read(&Word::Lock(counter)) == 0,
-        Guard::Granted => shared.grant(seat) != 0,
+        RowGuard::Shut => false,
+        RowGuard::Open => true,
+        RowGuard::Unlocked(counter) => shared.read(&Word::Lock(counter)) == 0,
+        RowGuard::Granted => shared.grant(seat) != 0,
     }
 }
 

@@ -1,18 +1,17 @@
 //! What a command writes for a text, and how it ends, whichever single allocation is refused. What is answered
 //! of many more programs is compared by `gallery`.
 
-use explorer_answers::{Exit, NO_MEMORY, Outcome};
-use explorer_search::Team;
-use explorer_streams::Flagged;
-use lock_commands::{Layout, LockCommand, lock_command_io};
+use explorer_answers::{Answered, Exit, Flagged, NO_MEMORY};
+use explorer_commands::{Command, Layout, ProgramCommand, command_io};
+use search::Team;
 use std::alloc::{AllocError, Global};
 use std::num::NonZeroU16;
 use std::thread::Threads;
 
 /// A program, a command, and its answer.
-struct Answered {
+struct AnsweredText {
     text: &'static str,
-    command: LockCommand<'static>,
+    command: ProgramCommand<'static>,
     out: &'static str,
     exit: Exit,
 }
@@ -36,20 +35,20 @@ seats 2 user
 most held 1
 ";
 
-const TRY: LockCommand<'static> = LockCommand::Try {
+const TRY: ProgramCommand<'static> = ProgramCommand::Try {
     worlds: 2_000_000,
     layout: Layout::Lines,
     counted: false,
     live: false,
 };
 
-const RETRACE: LockCommand<'static> = LockCommand::Retrace {
+const RETRACE: ProgramCommand<'static> = ProgramCommand::Retrace {
     schedule: "0 1 0 1",
     layout: Layout::Table,
 };
 
-static ANSWERED: [Answered; 3] = [
-    Answered {
+static ANSWERED: [AnsweredText; 3] = [
+    AnsweredText {
         text: TEST_AND_SET,
         command: RETRACE,
         out: "\
@@ -66,14 +65,14 @@ verdict: crowded, line 15
         exit: Exit::BadFound,
     },
     // loops come back to worlds that were met
-    Answered {
+    AnsweredText {
         text: "word w 0\nprogram p\na:\nstore w 1\nstore w 0\ngoto a\nseats 2 p\n",
         command: TRY,
         out: "none\nworlds 6, deepest 3\n",
         exit: Exit::NothingBad,
     },
     // a counter that nobody adds to
-    Answered {
+    AnsweredText {
         text: "counter c 0\nprogram p\nacquire c\nseats 1 p\n",
         command: TRY,
         out: "\
@@ -90,12 +89,19 @@ fn told<R: Threads + Sync>(
     rt: &R,
     alloc: Global,
     text: &[u8],
-    command: LockCommand<'_>,
-) -> (Vec<u8>, Option<Outcome>) {
+    command: ProgramCommand<'_>,
+) -> (Vec<u8>, Option<Answered>) {
     let team = Team::new(rt, NonZeroU16::MIN);
     let mut reader = Flagged::new(text);
     let mut writer = Flagged::new(Vec::new(alloc));
-    let ended = lock_command_io(&team, alloc, &mut reader, &mut writer, &command, &mut ());
+    let ended = command_io(
+        &team,
+        alloc,
+        &mut reader,
+        &mut writer,
+        &Command::OnProgram(command),
+        &mut (),
+    );
     (writer.into_inner(), ended.ok())
 }
 
@@ -104,8 +110,8 @@ fn told_twice<R: Threads + Sync>(
     rt: &R,
     alloc: Global,
     text: &[u8],
-    command: LockCommand<'_>,
-) -> (Vec<u8>, Option<Outcome>) {
+    command: ProgramCommand<'_>,
+) -> (Vec<u8>, Option<Answered>) {
     let (out, ended) = told(rt, alloc, text, command);
     if ended.is_some() && out.as_slice() != NO_MEMORY.as_bytes() {
         return (out, ended);
@@ -114,7 +120,7 @@ fn told_twice<R: Threads + Sync>(
 }
 
 /// Whether the answer begins so, and the command ended so.
-fn begins(answer: &(Vec<u8>, Option<Outcome>), out: &str, exit: Exit) -> bool {
+fn begins(answer: &(Vec<u8>, Option<Answered>), out: &str, exit: Exit) -> bool {
     let (written, ended) = answer;
     match ended {
         Some(outcome) => written.starts_with(out.as_bytes()) && outcome.exit == exit,

@@ -1,8 +1,7 @@
 //! The keys of worlds to which schedules lead.
 
 use crate::locks::scene_tests::program_of;
-use lock_keys::write_key;
-use lock_machine::{LockMachine, Prepared, layer_parts};
+use program_machine::{Prepared, ProgramMachine, layer_parts, write_key};
 use std::alloc::Global;
 use waiters::{NoMemory, SeatId};
 
@@ -60,7 +59,7 @@ static KEYS: [Known; 6] = [
 ];
 
 /// The key of the machine's world, in place of what a buffer had.
-fn key_of(alloc: Global, machine: &LockMachine<'_>) -> Result<Option<Vec<u64>>, NoMemory> {
+fn key_of(alloc: Global, machine: &ProgramMachine<'_>) -> Result<Option<Vec<u64>>, NoMemory> {
     let program = machine.program();
     if program.counters.len() > MOST_COUNTERS {
         return Ok(None);
@@ -72,7 +71,7 @@ fn key_of(alloc: Global, machine: &LockMachine<'_>) -> Result<Option<Vec<u64>>, 
 }
 
 /// Whether the machine goes on by the schedule.
-fn goes_on(machine: &mut LockMachine<'_>, schedule: &[u16]) -> bool {
+fn goes_on(machine: &mut ProgramMachine<'_>, schedule: &[u16]) -> bool {
     for number in schedule {
         if machine.step(SeatId::new(*number)).is_err() {
             return false;
@@ -83,7 +82,7 @@ fn goes_on(machine: &mut LockMachine<'_>, schedule: &[u16]) -> bool {
 
 /// Whether the world to which the schedule leads has that key.
 fn leads_to(alloc: Global, program: &Prepared, known: &Known) -> Result<bool, NoMemory> {
-    let mut machine = LockMachine::new(alloc, program)?;
+    let mut machine = ProgramMachine::new(alloc, program)?;
     if !goes_on(&mut machine, known.schedule) {
         return Ok(false);
     }

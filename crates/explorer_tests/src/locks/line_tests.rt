@@ -1,7 +1,7 @@
 //! What lines say.
 
-use lock_lines::Relation;
-use lock_text::{Cause, Line, Number, Operand, ReadFault, read_lines};
+use program_code::Relation;
+use program_text::{Number, ProgramCause, ProgramFault, SpelledLine, SpelledOperand, read_lines};
 use std::alloc::Global;
 
 /// A lock, and how many lines its text has.
@@ -68,11 +68,11 @@ apart held held
 finally w[0] == max
 ";
 
-fn read_twice<'t>(alloc: Global, text: &'t [u8]) -> Result<Vec<Line<'t>>, ReadFault> {
+fn read_twice<'t>(alloc: Global, text: &'t [u8]) -> Result<Vec<SpelledLine<'t>>, ProgramFault> {
     match read_lines(alloc, text) {
         Err(
-            ReadFault {
-                cause: Cause::NoMemory,
+            ProgramFault {
+                cause: ProgramCause::NoMemory,
                 ..
             },
         ) => read_lines(alloc, text),
@@ -88,19 +88,22 @@ fn texts_have_lines(rt: HostRuntime) {
     assert_eq!(rt; each.len(), 42);
 }
 
-fn is_me(index: &Option<Operand<'_>>) -> bool {
+fn is_me(index: &Option<SpelledOperand<'_>>) -> bool {
     match index {
-        Some(Operand::Me) => true,
+        Some(SpelledOperand::Me) => true,
         _ => false,
     }
 }
 
 /// The line waits until `w[me]` is at most something, which the register `was` keeps.
-fn awaits(line: &Line<'_>) -> bool {
+fn awaits(line: &SpelledLine<'_>) -> bool {
     match line {
-        Line::Await(place, Relation::AtMost, Operand::Number(Number::Minus(_)), Some(register)) => {
-            place.name.as_str() == "w" && is_me(&place.index) && register.as_str() == "was"
-        }
+        SpelledLine::Await(
+            place,
+            Relation::AtMost,
+            SpelledOperand::Number(Number::Minus(_)),
+            Some(register),
+        ) => place.name.as_str() == "w" && is_me(&place.index) && register.as_str() == "was",
         _ => false,
     }
 }

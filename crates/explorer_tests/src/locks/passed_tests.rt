@@ -1,8 +1,8 @@
 //! The lines without a step that a seat ran.
 
 use crate::locks::scene_tests::program_of;
-use lock_machine::{LockMachine, Prepared};
-use lock_rows::LineSet;
+use program_machine::{Prepared, ProgramMachine};
+use program_rows::LineSet;
 use std::alloc::Global;
 use waiters::{NoMemory, SeatId};
 
@@ -16,7 +16,7 @@ fn holds(lines: &LineSet, told: [bool; 5]) -> bool {
 }
 
 /// Whether the lines are told that the first seat passes at its start and after a step.
-fn passes(machine: &mut LockMachine<'_>) -> bool {
+fn passes(machine: &mut ProgramMachine<'_>) -> bool {
     if machine.seats() == 0 {
         return false;
     }
@@ -33,7 +33,7 @@ fn passes(machine: &mut LockMachine<'_>) -> bool {
 
 /// The same of a machine that runs the program.
 fn is_passed(alloc: Global, program: &Prepared) -> Result<bool, NoMemory> {
-    let mut machine = LockMachine::new(alloc, program)?;
+    let mut machine = ProgramMachine::new(alloc, program)?;
     Ok(passes(&mut machine))
 }
 

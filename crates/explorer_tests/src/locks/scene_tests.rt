@@ -1,8 +1,8 @@
 //! Where a schedule leads a program's seat, and whether it can step there.
 
-use lock_machine::{LockMachine, Prepared};
-use lock_program::{Cause as Fault, NamedProgram, read_program};
-use lock_steps::{Cause, Stand};
+use program::{NamedProgram, ProgramCause, read_program};
+use program_machine::{Prepared, ProgramMachine};
+use program_steps::{Failure, Stand};
 use std::alloc::Global;
 use step_table::StepRefused;
 use waiters::{NoMemory, SeatId};
@@ -70,7 +70,7 @@ static SCENES: [Scene; 17] = [
         text: "word w 0\nregister r\nprogram p\nexchange w 0 1 r\nassert r == 0\nseats 2 p\n",
         schedule: &[0, 1],
         seat: 1,
-        stand: Stand::FailedAt(1, Cause::Assert),
+        stand: Stand::FailedAt(1, Failure::Assert),
         refused: Some(StepRefused::SeatFailed),
         word: Some(1),
     },
@@ -106,7 +106,7 @@ static SCENES: [Scene; 17] = [
         text: "word w 0\nprogram p\nstore w 1\na:\ngoto a\nseats 1 p\n",
         schedule: &[0],
         seat: 0,
-        stand: Stand::FailedAt(1, Cause::Endless),
+        stand: Stand::FailedAt(1, Failure::Endless),
         refused: Some(StepRefused::SeatFailed),
         word: Some(1),
     },
@@ -115,7 +115,7 @@ static SCENES: [Scene; 17] = [
         text: "word w[2] 0\nprogram p\nstore w[me] 1\nseats 3 p\n",
         schedule: &[2],
         seat: 2,
-        stand: Stand::FailedAt(0, Cause::Index),
+        stand: Stand::FailedAt(0, Failure::Index),
         refused: Some(StepRefused::SeatFailed),
         word: Some(0),
     },
@@ -133,7 +133,7 @@ static SCENES: [Scene; 17] = [
         text: "list l\nprogram p\nwait l\nseats 1 p\n",
         schedule: &[0],
         seat: 0,
-        stand: Stand::FailedAt(0, Cause::Ticket),
+        stand: Stand::FailedAt(0, Failure::Ticket),
         refused: Some(StepRefused::SeatFailed),
         word: None,
     },
@@ -142,7 +142,7 @@ static SCENES: [Scene; 17] = [
         text: "counter c 0\nprogram p\nrelease c many 0\nseats 1 p\n",
         schedule: &[0],
         seat: 0,
-        stand: Stand::FailedAt(0, Cause::Many),
+        stand: Stand::FailedAt(0, Failure::Many),
         refused: Some(StepRefused::SeatFailed),
         word: None,
     },
@@ -151,7 +151,7 @@ static SCENES: [Scene; 17] = [
         text: "counter c 4294967295\nprogram p\nrelease c\nseats 1 p\n",
         schedule: &[0],
         seat: 0,
-        stand: Stand::FailedAt(0, Cause::Overflow),
+        stand: Stand::FailedAt(0, Failure::Overflow),
         refused: Some(StepRefused::SeatFailed),
         word: None,
     },
@@ -179,14 +179,14 @@ static SCENES: [Scene; 17] = [
 pub(crate) fn program_of(alloc: Global, text: &'static str) -> Result<Option<Prepared>, NoMemory> {
     let NamedProgram { program, .. } = match read_program(alloc, text.as_bytes()) {
         Ok(read) => read,
-        Err(fault) if fault.cause == Fault::NoMemory => return Err(NoMemory),
+        Err(fault) if fault.cause == ProgramCause::NoMemory => return Err(NoMemory),
         Err(_) => return Ok(None),
     };
     Ok(Some(Prepared::new(alloc, program)?))
 }
 
 /// Whether the seat stands as the scene says, and can step or not, as the machine says beforehand.
-fn is_as_told(machine: &mut LockMachine, scene: &Scene) -> bool {
+fn is_as_told(machine: &mut ProgramMachine, scene: &Scene) -> bool {
     let seat = SeatId::new(scene.seat);
     if machine.seats() <= scene.seat as usize || machine.stand(seat) != scene.stand {
         return false;
@@ -195,13 +195,13 @@ fn is_as_told(machine: &mut LockMachine, scene: &Scene) -> bool {
 }
 
 /// Whether the seat makes a step, as the machine says beforehand.
-fn steps(machine: &mut LockMachine, number: u16) -> bool {
+fn steps(machine: &mut ProgramMachine, number: u16) -> bool {
     let seat = SeatId::new(number);
     (number as usize) < machine.seats() && machine.enabled(seat) && machine.step(seat).is_ok()
 }
 
 /// Whether the first word is this, where something is told of it.
-fn has_word(machine: &LockMachine, word: Option<i64>) -> bool {
+fn has_word(machine: &ProgramMachine, word: Option<i64>) -> bool {
     match word {
         None => true,
         Some(number) => 0 < machine.words() && machine.number(0) == number,
@@ -212,9 +212,9 @@ fn has_word(machine: &LockMachine, word: Option<i64>) -> bool {
 /// its step.
 fn copy_behind<'p>(
     alloc: Global,
-    machine: &mut LockMachine<'p>,
+    machine: &mut ProgramMachine<'p>,
     schedule: &[u16],
-) -> Result<Option<LockMachine<'p>>, NoMemory> {
+) -> Result<Option<ProgramMachine<'p>>, NoMemory> {
     let mut copy = machine.try_clone(alloc)?;
     for number in schedule {
         if !steps(machine, *number) {
@@ -227,7 +227,7 @@ fn copy_behind<'p>(
 
 /// Whether the scene goes as it says, and so it does on a copy.
 fn goes_by(alloc: Global, program: &Prepared, scene: &Scene) -> Result<bool, NoMemory> {
-    let mut machine = LockMachine::new(alloc, program)?;
+    let mut machine = ProgramMachine::new(alloc, program)?;
     match copy_behind(alloc, &mut machine, scene.schedule)? {
         Some(mut copy) => Ok(
             has_word(&copy, scene.word)

@@ -4,7 +4,7 @@
 
 ghost use Rattle.std.specs.Prelude.{◌≡◌};
 
-use explorer_text::{Request, read_scenario};
+use scenario_text::{SpelledRequest, read_scenario};
 use std::alloc::{AllocError, Global};
 use std::process::Abort;
 use step_core::{Moment, Scenario};
@@ -16,7 +16,7 @@ pub(crate) fn seat(number: u16) -> SeatId
     SeatId::new(number)
 }
 
-fn request(rt: &impl Abort, alloc: Global, text: &str) -> Request {
+fn request(rt: &impl Abort, alloc: Global, text: &str) -> SpelledRequest {
     match read_scenario(alloc, text.as_bytes()) {
         Ok(request) => request,
         Err(_) => read_scenario(alloc, text.as_bytes()).expect(rt, "a scenario's text"),

@@ -1,7 +1,7 @@
 //! The text of a scenario, and what is asked of it.
 
 use crate::shortage::rounds::{Attempt, Call as Asked, FINE, answered, is_refused_then_answers};
-use explorer_text::{Cause, Property, ReadFault, Request, read_scenario};
+use scenario_text::{Cause, Property, ReadFault, SpelledRequest, read_scenario};
 use std::alloc::Global;
 use step_table::{Call, GroupId, ListId, Parts};
 use waiters::CounterId;
@@ -9,7 +9,7 @@ use waiters::CounterId;
 /// Of three lines, so that nothing that was read grows.
 const SHORT: &str = "counter 0\nseat 0: acquire 0\nsettled\n";
 
-fn is_the_short(request: &Request) -> bool {
+fn is_the_short(request: &SpelledRequest) -> bool {
     let parts = &request.parts;
     let calls = parts.calls.as_slice();
     parts.roots == 251
@@ -40,7 +40,7 @@ fn has_calls(parts: &Parts) -> bool {
         && calls[1].as_slice() == [Call::Release(CounterId(0), false)].as_slice()
 }
 
-fn is_the_long(request: &Request) -> bool {
+fn is_the_long(request: &SpelledRequest) -> bool {
     let parts = &request.parts;
     parts.roots == 3
         && parts.starts.as_slice() == [4].as_slice()

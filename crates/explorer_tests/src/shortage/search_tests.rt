@@ -2,7 +2,7 @@
 
 use crate::shortage::rounds::{Attempt, Call, FINE, answered, is_refused_then_answers};
 use crate::shortage::world_tests::FIVE_STEPS;
-use explorer_scenarios::{Found, Kind, Request, explore, explore_variant, read_scenario};
+use scenario_search::{Found, Kind, Request, explore, explore_variant, read_scenario};
 use std::alloc::Global;
 use std::process::Abort;
 use step_core::{NoMemory, SeatId, Variant};

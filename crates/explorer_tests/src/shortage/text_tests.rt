@@ -1,11 +1,9 @@
 //! Schedules, journals and streams, and what is said of faulty texts.
 
 use crate::shortage::rounds::{Attempt, Call, FINE, Rounds, answered, is_refused_then_answers};
-use explorer_help::{explain, explain_journal};
-use explorer_streams::{Flagged, IoFault, read_all, read_at_most};
-use explorer_text::{Cause, ReadFault, read_schedule};
-use journal_judge::{Verdict, judge};
-use journal_text::{Entry, Journal, JournalFault, read_journal};
+use explorer_answers::{Flagged, IoFault, explain, explain_journal, read_all, read_at_most};
+use journal::{Journal, JournalEntry, JournalFault, Verdict, judge, read_journal};
+use scenario_text::{Cause, ReadFault, read_schedule};
 use std::alloc::{AllocError, Global};
 use waiters::SeatId;
 
@@ -82,11 +80,11 @@ const JOURNAL: &[u8] = b"counter 1\nlist 9\ntake 0 0\ntake 0 1\n";
 
 fn is_the_journal(journal: &Journal) -> bool {
     let [
-        Entry::Take {
+        JournalEntry::Take {
             counter: 0,
             seat: 0,
         },
-        Entry::Take {
+        JournalEntry::Take {
             counter: 0,
             seat: 1,
         },

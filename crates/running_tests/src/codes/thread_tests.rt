@@ -2,8 +2,8 @@
 //! so, and each makes so many at most.
 
 use c_calls::codes::*;
-use c_calls::deal::deal_to_empty;
-use c_calls::{Kept, SeatHandle};
+use c_calls::deal::deal_table;
+use c_calls::{KeptSeat, SeatHandle};
 use std::alloc::Global;
 use std::process::Abort;
 use std::sync::atomic::AtomicBool;
@@ -34,7 +34,7 @@ fn asked(seat: &mut SeatHandle, call: &Call) -> u32 {
     if !seat.is_full {
         return NO_SEAT;
     }
-    let Kept::OfTable(place) = seat.cell.place() else {
+    let KeptSeat::OfTable(place) = seat.cell.place() else {
         return NO_SEAT;
     };
     match call {
@@ -72,9 +72,9 @@ fn handles(rt: &impl Abort, alloc: Global) -> Vec<SeatHandle> {
 /// Seats at a table of two counters, which start at 0, and one root. Memory is asked for once more.
 fn dealt(rt: &impl Abort, alloc: Global) -> Vec<SeatHandle> {
     let mut seats = handles(rt, alloc);
-    let mut code = deal_to_empty(alloc, &[0, 0], 1, 7, 1 << 40, &mut seats);
+    let mut code = deal_table(alloc, &[0, 0], 1, 7, 1 << 40, &mut seats);
     if code == NO_MEMORY {
-        code = deal_to_empty(alloc, &[0, 0], 1, 7, 1 << 40, &mut seats);
+        code = deal_table(alloc, &[0, 0], 1, 7, 1 << 40, &mut seats);
     }
     is(rt, code, OK);
     seats

@@ -6,7 +6,7 @@ ghost use Rattle.std.specs.Prelude.{◌≡◌, All};
 use crate::lists::given::{adds, grants, holds, last_seat, made};
 use crate::parts::actor::reaches;
 use notify_list::{ListSeat, NotifyList};
-use sema_table_crew::Start;
+use sema_table_crew::CrewStart;
 use std::process::Abort;
 use std::sync::Wait;
 use std::sync::atomic::AtomicU64;
@@ -21,7 +21,7 @@ const YIELDS: u32 = 1_000;
 /// When they begin; how many have taken a ticket, how many have gone to wait, and how many have come back.
 #[derive(Drop)]
 struct Turns {
-    start: Start,
+    start: CrewStart,
     taken: AtomicU64,
     gone: AtomicU64,
     back: AtomicU64,
@@ -102,7 +102,7 @@ fn three_tickets<R: Abort + Threads + Wait + Sync>(
     ensures { All (λ s. s.list ≡ list.now) seats.new.items }
 {
     let turns = Turns {
-        start: Start::new(),
+        start: CrewStart::new(),
         taken: AtomicU64::new(0),
         gone: AtomicU64::new(0),
         back: AtomicU64::new(0),

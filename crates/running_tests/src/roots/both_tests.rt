@@ -7,7 +7,7 @@ use crate::roots::calls::{
     COMES_IN, COMES_OUT, Call, counter, has, has_ids_again, make_call, make_calls, queue, wait,
 };
 use crate::roots::given::{holds, sorted, treap};
-use sema_root::{Place, RootStore, TreapRoot};
+use sema_root::{RootStore, TreapPlace, TreapRoot};
 use std::alloc::Global;
 use std::process::Abort;
 use waiters::{CounterId, NoMemory, SeatId, Wait, WaitId};
@@ -68,7 +68,7 @@ fn has_counters(rt: &impl Abort, root: &TreapRoot, counters: &[u32]) {
 fn stands_alone(root: &TreapRoot, at: CounterId) -> bool {
     match root.place(at) {
         Some(
-            Place {
+            TreapPlace {
                 ticket,
                 left: None,
                 right: None,
@@ -113,7 +113,7 @@ fn places(rt: &impl Abort, root: &mut TreapRoot) {
 type Counted = (u32, usize);
 
 /// Whether a counter stands in two treaps alike, or in neither.
-fn are_alike(one: Option<Place>, other: Option<Place>) -> bool {
+fn are_alike(one: Option<TreapPlace>, other: Option<TreapPlace>) -> bool {
     match (one, other) {
         (Some(one), Some(other)) => {
             one.ticket == other.ticket && one.left == other.left && one.right == other.right

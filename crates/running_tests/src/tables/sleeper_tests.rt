@@ -8,7 +8,7 @@ ghost use Rattle.std.specs.Prelude.{◌≡◌, ◌<◌, length, All, IfOk};
 
 use crate::tables::given::{adds, holds, last_seat, made, one_counter, value, waiters};
 use sema_table::{Owing, OwingMany, Posted, PostedMany, Seat, SemaTable};
-use sema_table_crew::Start;
+use sema_table_crew::CrewStart;
 use std::alloc::Global;
 use std::process::Abort;
 use std::sync::Wait;
@@ -24,7 +24,7 @@ const SLEEPERS: u32 = 10;
 const WHILE: u64 = 20;
 
 /// Takes a unit, once all threads are there.
-fn takes_one<R: Wait>(rt: &R, table: &SemaTable, seat: Seat, start: &Start)
+fn takes_one<R: Wait>(rt: &R, table: &SemaTable, seat: Seat, start: &CrewStart)
     requires { (seat.table ≡ table.now) × (0 < length table.now.setting.starts) }
 {
     if start.wait(rt) {
@@ -38,7 +38,7 @@ fn hire_all<'s, E, R: Threads + Wait + Sync>(
     rt: &'s R,
     table: &'s SemaTable,
     seats: Vec<Seat>,
-    start: &'s Start,
+    start: &'s CrewStart,
 ) -> bool
     requires table { 0 < length table.now.setting.starts }
     requires seats { All (λ s. s.table ≡ table.now) seats.items }
@@ -154,7 +154,7 @@ fn sleep_and_wake<R: Abort + Clock + Threads + Wait + Sync>(
     requires seats { All (λ s. s.table ≡ table.now) seats.items }
     ensures { IfOk result (λ seat. seat.table ≡ table.now) }
 {
-    let start = Start::new();
+    let start = CrewStart::new();
     let start = &start;
     thread::scope(
         thread::scope_env(),

@@ -1,7 +1,7 @@
 use Rattle.std.proofs.Common.{rules, refl, inr, Option, None, option_map, string_bytes}
 use Rattle.explorer_answers.specs.declared.exit.Exit.TheVariants.{Refused}
 use Rattle.explorer_answers.specs.Output.{no_memory}
-use Rattle.explorer_streams.specs.Writing.{WritesBeginning}
+use Rattle.explorer_answers.specs.Writing.{WritesBeginning}
 use Rattle.explorer.specs.Invocation.{IsAnswerWithin}
 use Rattle.explorer.proofs.cut.cut_answer_io.Goals as goal
 

@@ -1,5 +1,5 @@
 use Rattle.std.proofs.Common.{refl}
-use Rattle.step_queues.proofs.Replacing.{AreCopied-next, AreCopied-done}
+use Rattle.step_rows.proofs.Replacing.{AreCopied-next, AreCopied-done}
 use Rattle.step_core.proofs.starting.copy_lists.Goals as goal
 
 pub loop-at-init : goal.loop-at-init

@@ -1,4 +1,4 @@
-use Rattle.step_queues.proofs.Replacing.{AreCopied}
+use Rattle.step_rows.proofs.Replacing.{AreCopied}
 use Rattle.step_core.proofs.starting.copy_lists.Given as goal
 
 abbrev pub invariant-loop-at : goal.invariant-loop-at

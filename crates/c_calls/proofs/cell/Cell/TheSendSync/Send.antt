@@ -12,9 +12,9 @@ use denote.Struct.Owning.{shape, fields, to}
 use denote.Param.Send.{IsSend, AllSend, Quiet, part_keyless, owning_send, struct_send, sendable}
 use Rattle.std.proofs.Crossing.{frees}
 use Rattle.c_calls.specs.Cells.{cell_owns}
-use Rattle.c_calls.specs.contracts.kept.Kept as Kept
-use Rattle.c_calls.proofs.kept.Kept.TheSendSync.{the_send as kept}
-use Rattle.c_calls.specs.declared.kept.Kept as declared
+use Rattle.c_calls.specs.contracts.kept_seat.KeptSeat as Kept
+use Rattle.c_calls.proofs.kept_seat.KeptSeat.TheSendSync.{the_send as kept}
+use Rattle.c_calls.specs.declared.kept_seat.KeptSeat as declared
 use Rattle.c_calls.specs.contracts.cell.Cell.{the_row, the_type}
 
 quiet : {D X : Type 0} (to : D → X) (e : Exit X) → Quiet e → Quiet (hidden (under to e))
@@ -25,7 +25,7 @@ lies : (R : RattleType) → IsSend R → (p : Ptr) (x : R.Denot) → Keyless (li
 lies R s (block_ptr b o) x = part_keyless R s full_share x b o
 lies R s null_ptr x = tt
 
-owned : (p : Ptr) (xs : List declared.Kept) → Keyless (cell_owns p xs)
+owned : (p : Ptr) (xs : List declared.KeptSeat) → Keyless (cell_owns p xs)
 owned p [] = tt
 owned p (x ∷ xs) = (lies Kept.the_row kept p x, frees.frees (record { memory = record { seal = tt } }) (raw (lone Kept.the_row.mir)) p)
 

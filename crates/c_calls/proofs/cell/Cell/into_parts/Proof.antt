@@ -10,7 +10,7 @@ use Rattle.std.proofs.BoxSteps.Form.{D, R, τ, word, box_typed}
 use Rattle.std.proofs.BoxSteps.Steps.{box_in}
 use Rattle.std.below.std_heap.specs.contracts.Global as Heap
 use Rattle.atomic_table.proofs.Walks.{proved_at, leaves}
-use Rattle.c_calls.specs.declared.kept.Kept.{Kept}
+use Rattle.c_calls.specs.declared.kept_seat.KeptSeat.{KeptSeat}
 use Rattle.c_calls.specs.Cells.{cell_owns}
 use Rattle.c_calls.proofs.AsBox.{E, FromCell}
 use Rattle.c_calls.proofs.CellFields.{cell_of, cell_good, told, one_of}
@@ -28,7 +28,7 @@ into_parts_spec 𝓤 𝓛 𝓜 𝓡 wired =
     let d = z.0.3.0 in let a = z.0.3.1.0 in let p = d.ptr in let vss = z.0.4 in let To = type_at (signature).result tt in
     qed 𝓛 ((raw (alive 𝓛 (ended).signature z.0.0 z.0.1) ⊛ ‵ (owns (types_at (ended).signature.params z.0.0) z.0.3 vss)) ∷ raw (fact 𝓤 (length d.places ≡ 1)) ∷ []) ∵
     move ! (1 ∷ []) $ heard ! (length d.places ≡ 1) (λ one. let asked = one_of d.places one in let x = asked.0 in split ! $ move ! (1 ∷ []) $ fsplit ! $ fsplit ! $ keep ! (1 ∷ 2 ∷ 3 ∷ []) $
-    rewrite ! 0 (λ (xs : List Kept). ‵ (cell_owns p xs)) asked.1 refl $
+    rewrite ! 0 (λ (xs : List KeptSeat). ‵ (cell_owns p xs)) asked.1 refl $
     in_a_block ! p (λ π. box_owns (token E.al a) (R E) π x) (fst∗ 𝓤 (never 𝓤) (sem 𝓛 (token E.al a (bare (τ E)) null_ptr))) (λ b o e.
     fsplit ! $ move ! (2 ∷ []) $ fsplit ! $ handle_tells E.al ! a vss.1.0 (λ hv eh fa.
     let v : D E = record { ptr = p; alloc = a; value = x } in let w = word E hv b o in let made : To.Denot = record { ptr = p; alloc = a; value = x } in

@@ -24,12 +24,12 @@ use denote.Triple.Walked.{says, walked}
 use Rattle.std.proofs.VecSteps.Shapes.{after}
 use Rattle.std.specs.Box.Ownership.{box_owns}
 use Rattle.c_calls.specs.declared.cell.Cell.{Cell as CellValue}
-use Rattle.c_calls.specs.declared.kept.Kept.{Kept}
+use Rattle.c_calls.specs.declared.kept_seat.KeptSeat.{KeptSeat}
 use Rattle.c_calls.specs.Cells.{cell_owns, heap_block}
 use Rattle.c_calls.specs.Lent.{with_place}
 use Rattle.c_calls.proofs.CellFields.{cell_of, Data, told, made, one_of}
 use Rattle.c_calls.specs.contracts.cell.Cell as C
-use Rattle.c_calls.specs.contracts.kept.Kept as P
+use Rattle.c_calls.specs.contracts.kept_seat.KeptSeat as P
 use Rattle.c_calls.specs.contracts.cell.Cell.place as F
 use Rattle.c_calls.specs.contracts.cell.Cell.place.Key.{name as #self}
 use Rattle.c_calls.proofs.cell.Cell.place.Statement as stated
@@ -59,7 +59,7 @@ module _ {M : Type 1} {𝓤 : Ura M} (𝓛 : Logic 𝓤) (at_mem : Memory → SP
       abbrev Rest : Fml
       Rest = fsep (heap_block (bare (denote.Memory.lone R.mir)) (block_ptr b o)) (cell_at full_share B.mir (cell_of (block_ptr b o) ∷ []) rb ro)
 
-      back : h.ptr ≡ block_ptr b o → (w : Kept) → ent 𝓤 (sep 𝓤 (sem 𝓛 ((mem R).own_at w b o)) (sem 𝓛 Rest)) (sem 𝓛 ((mem B).own_at (with_place h w) rb ro))
+      back : h.ptr ≡ block_ptr b o → (w : KeptSeat) → ent 𝓤 (sep 𝓤 (sem 𝓛 ((mem R).own_at w b o)) (sem 𝓛 Rest)) (sem 𝓛 ((mem B).own_at (with_place h w) rb ro))
       unfolding part_of
       back e w =
           qed 𝓛 (‵ (part_at R full_share w b o) ∷ ‵ Rest ∷ []) ∵ move ! (1 ∷ []) $ fsplit ! $ move ! (2 ∷ 0 ∷ []) $ fjoin ! $
@@ -68,7 +68,7 @@ module _ {M : Type 1} {𝓤 : Ura M} (𝓛 : Logic 𝓤) (at_mem : Memory → SP
           move ! (1 ∷ 0 ∷ []) $ fjoin ! $
           fpack ! (List Val) (λ us. fsep (cell_at full_share B.mir us rb ro) (B.own_val (with_place h w) us)) (cell_of (block_ptr b o) ∷ []) $ done !
 
-      exits : (x : Kept) → h.places ≡ x ∷ [] → (γ' : GName)
+      exits : (x : KeptSeat) → h.places ≡ x ∷ [] → (γ' : GName)
           → ent 𝓤 (sep 𝓤 (sem 𝓛 ((MutRef (named 0) κ R).own_val (record { ref_ptr = (b, o); ghost_name = γ'; now = x }) (vptr b o ∷ []))) (sep 𝓤 (A.lft κ q) (sem 𝓛 (follows B R γ γ' (with_place h))))) (Post (vptr b o))
       exits x is γ' =
           qed 𝓛 (‵ ((MutRef (named 0) κ R).own_val (record { ref_ptr = (b, o); ghost_name = γ'; now = x }) (vptr b o ∷ [])) ∷ ‵ (flft κ q) ∷ ‵ (follows B R γ γ' (with_place h)) ∷ []) ∵
@@ -87,7 +87,7 @@ module _ {M : Type 1} {𝓤 : Ura M} (𝓛 : Logic 𝓤) (at_mem : Memory → SP
           move ! (1 ∷ []) $ fsplit ! $ fsplit3 ! $ drop ! $ move ! (3 ∷ []) $ split ! $ move ! (2 ∷ 3 ∷ 0 ∷ []) $
           opens ! tt B {h = h} rb ro (λ vs. move ! (1 ∷ []) $
           peeks ! B (Is B) (shows 𝓛 B) h vs (λ is. fsplit ! $ move ! (1 ∷ []) $
-          rewrite ! 0 (λ (xs : List Kept). ‵ (cell_owns h.ptr xs)) asked.1 refl $
+          rewrite ! 0 (λ (xs : List KeptSeat). ‵ (cell_owns h.ptr xs)) asked.1 refl $
           in_a_block ! h.ptr (λ π. box_owns heap_block R π x) (fst∗ 𝓤 (never 𝓤) (sem 𝓛 (heap_block (bare (denote.Memory.lone R.mir)) null_ptr))) (λ b o e. fsplit ! $ move ! (2 ∷ []) $ drop ! $
           let es : vs ≡ cell_of (block_ptr b o) ∷ [] = told h.ptr vs is.0 ∙ ap (λ (π : Ptr). cell_of π ∷ []) e in rewrite ! 2 (λ (us : List Val). ‵ (cell_at full_share B.mir us rb ro)) es refl $
           -- [the place; the right to free it; the cell; the open borrow, in three entries]

@@ -1,0 +1,5 @@
+use Rattle.std.proofs.Common.{rules}
+use Rattle.explorer.proofs.asking.replay_asked.Goals as goal
+
+pub returns-clause-once : goal.returns-clause-once
+returns-clause-once c = search rules

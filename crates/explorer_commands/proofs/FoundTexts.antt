@@ -1,0 +1,14 @@
+-- What a search of a lock program found has a text, since each kind of bad world has.
+use Rattle.std.proofs.Common.{◌≡◌, ℕ, Option, Some, refl}
+use Rattle.search.specs.declared.found_in_all.FoundInAll.{FoundInAll}
+use Rattle.search.specs.declared.found_in_all.FoundInAll.TheVariants as finds
+use Rattle.explorer_answers.specs.CheckText.{found_among_text}
+use Rattle.explorer_commands.specs.ProgramCommands.{tried_text}
+use Rattle.program_steps.specs.declared.bad_kind.BadKind.{BadKind}
+use Rattle.program_steps.specs.KindText.{kind_text}
+
+pub found_texts : (most : ℕ) (worlds : Option ℕ) (found : FoundInAll BadKind)
+    → found_among_text (λ kind. Some (kind_text kind)) most worlds found ≡ Some (tried_text most worlds found)
+found_texts most worlds (finds.Bad schedule kind) = refl
+found_texts most worlds (finds.None all deepest) = refl
+found_texts most worlds (finds.GaveUp complete) = refl

@@ -1,0 +1,9 @@
+pub mod Lines
+pub mod Failing
+pub mod Replaying
+pub mod Replying
+pub mod Spelling
+pub mod Replays
+pub mod FoundTexts
+pub mod Judging
+pub mod Working

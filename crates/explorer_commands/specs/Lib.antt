@@ -1,0 +1,15 @@
+pub mod Plain
+pub mod ScenarioCommands
+pub mod ReplayText
+pub mod ReplayLines
+pub mod FailedText
+pub mod ExploreText
+pub mod Replays
+pub mod ProgramCommands
+pub mod Commands
+pub mod JudgeText
+pub mod Answer
+pub mod Once
+pub mod OnceText
+pub mod Threads
+pub mod ThreadsText

@@ -1,2 +1,0 @@
-pub mod Explained
-pub mod JournalHelp

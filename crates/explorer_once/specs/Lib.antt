@@ -1,3 +1,0 @@
-pub mod Answer
-pub mod Once
-pub mod OnceText

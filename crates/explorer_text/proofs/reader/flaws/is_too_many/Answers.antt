@@ -1,5 +1,0 @@
-use Rattle.std.proofs.Common.{rules}
-use Rattle.explorer_text.proofs.reader.flaws.is_too_many.Goals as goal
-
-pub returns-in-Counter : goal.returns-in-Counter
-returns-in-Counter c = search rules

@@ -1,9 +1,0 @@
-use Rattle.std.proofs.Common.{◌≡◌, ◌-◌}
-use Rattle.explorer_text.specs.Pieces.{pieces, text_at}
-use Rattle.explorer_text.proofs.reader.pieces.line_at.Given as goal
-
-abbrev pub invariant-loop-left : goal.invariant-loop-left
-invariant-loop-left l = text_at (l.left - 1) (pieces l.rest) ≡ text_at (l.number - 1) (pieces l.text)
-
-abbrev pub decreases-loop-left : goal.decreases-loop-left
-decreases-loop-left l = l.left

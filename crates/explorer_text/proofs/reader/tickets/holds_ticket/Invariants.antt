@@ -1,6 +1,0 @@
-use Rattle.std.proofs.Common.{◌≡◌, take}
-use Rattle.explorer_text.specs.Causes.{has_ticket}
-use Rattle.explorer_text.proofs.reader.tickets.holds_ticket.Given as goal
-
-abbrev pub invariant-loop-call : goal.invariant-loop-call
-invariant-loop-call l = l.held ≡ has_ticket l.list (take l.call-index l.calls)

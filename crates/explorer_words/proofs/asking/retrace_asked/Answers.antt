@@ -1,5 +1,0 @@
-use Rattle.std.proofs.Common.{rules}
-use Rattle.explorer_words.proofs.asking.retrace_asked.Goals as goal
-
-pub returns-clause-once : goal.returns-clause-once
-returns-clause-once c = search rules

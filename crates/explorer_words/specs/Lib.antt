@@ -1,2 +1,0 @@
-pub mod Invocation
-pub mod FileFault

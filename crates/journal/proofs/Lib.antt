@@ -1,0 +1,15 @@
+pub mod Cutting
+pub mod Forms
+pub mod Numbers
+pub mod Parts
+pub mod Spelling
+pub mod Texts
+pub mod Accounts
+pub mod Bounds
+pub mod Entries
+pub mod FirstRules
+pub mod Placing
+pub mod Rules
+pub mod Shown
+pub mod Verdicts
+pub mod Locks

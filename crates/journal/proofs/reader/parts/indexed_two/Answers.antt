@@ -1,0 +1,24 @@
+use Rattle.std.proofs.Common.{◌++◌}
+use Rattle.std.specs.Fmt.{decimal}
+use Rattle.journal.specs.JournalLine.{IsOneOf}
+use Rattle.journal.specs.Reading.{IsIndexedTwo, AreTwo, last_text, two_text}
+use Rattle.journal.proofs.Parts.{failed, none_after, more_none, more_made, parts}
+use Rattle.journal.proofs.reader.parts.indexed_two.Goals as goal
+
+pub returns-in_err-index : goal.returns-in_err-index
+returns-in_err-index c = failed (IsIndexedTwo c.args.count c.args.keyword.now c.args.first.now c.args.second.now c.args.end.now c.args.text.now)
+    c.from_residual.result c.from_residual.ensures
+    (none_after (IsOneOf c.args.count) AreTwo (two_text c.args.first.now c.args.second.now c.args.end.now) c.args.keyword.now c.args.text.now
+    (λ a. parts c.args.first.now (decimal a.0 ++ last_text c.args.second.now c.args.end.now a.1) c.requires.first) c.in_err-index.ensures)
+
+pub returns-in_err-more : goal.returns-in_err-more
+returns-in_err-more c = failed (IsIndexedTwo c.args.count c.args.keyword.now c.args.first.now c.args.second.now c.args.end.now c.args.text.now)
+    c.from_residual-in_err-more.result c.from_residual-in_err-more.ensures
+    (more_none (IsOneOf c.args.count) AreTwo (two_text c.args.first.now c.args.second.now c.args.end.now) c.args.keyword.now c.args.text.now
+    c.in_ok-index.rest.now c.in_ok-index.index
+    (λ a. parts c.args.first.now (decimal a.0 ++ last_text c.args.second.now c.args.end.now a.1) c.requires.first) c.in_ok-index.ensures c.in_err-more.ensures)
+
+pub returns : goal.returns
+returns c = more_made (IsOneOf c.args.count) AreTwo (two_text c.args.first.now c.args.second.now c.args.end.now) c.args.keyword.now c.args.text.now
+    c.in_ok-index.rest.now c.in_ok-index.index c.in_ok-more.more
+    (λ a. parts c.args.first.now (decimal a.0 ++ last_text c.args.second.now c.args.end.now a.1) c.requires.first) c.in_ok-index.ensures c.in_ok-more.ensures

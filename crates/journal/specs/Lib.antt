@@ -1,0 +1,13 @@
+pub mod Cutting
+pub mod FaultTexts
+pub mod JournalLine
+pub mod JournalText
+pub mod Reader
+pub mod Reading
+pub mod Account
+pub mod Judged
+pub mod LawfulJournal
+pub mod Locks
+pub mod Rules
+pub mod Shown
+pub mod Texts

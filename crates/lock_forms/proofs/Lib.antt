@@ -1,6 +1,0 @@
-pub mod Forms
-pub mod Parts
-pub mod Shaping
-pub mod Spelling
-pub mod Verbs
-pub mod Wording

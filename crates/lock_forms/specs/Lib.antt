@@ -1,4 +1,0 @@
-pub mod Lines
-pub mod Shapes
-pub mod Verb
-pub mod Words

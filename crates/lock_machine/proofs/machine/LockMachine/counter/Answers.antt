@@ -1,7 +1,0 @@
-use Rattle.std.proofs.Common.{◌≡◌, [], subst}
-use Rattle.step_core.specs.State.{Machine}
-use Rattle.step_rows.specs.Stored.{each}
-use Rattle.lock_machine.proofs.machine.LockMachine.counter.Goals as goal
-
-pub returns : goal.returns
-returns c = subst (λ (h : Machine). c.number.result ≡ each 0 h.semaphores.stored.numbers c.args.counter) c.layer.ensures.layer (c.number.ensures [])

@@ -1,7 +1,0 @@
-use Rattle.std.proofs.Common.{◌≡◌, [], subst}
-use Rattle.step_core.specs.State.{Machine, no_list}
-use Rattle.step_rows.specs.Stored.{each}
-use Rattle.lock_machine.proofs.machine.LockMachine.handed_out.Goals as goal
-
-pub returns : goal.returns
-returns c = subst (λ (h : Machine). c.handed_out.result ≡ (each no_list h.lists c.args.list).handed) c.layer.ensures.layer (c.handed_out.ensures [])

@@ -1,7 +1,0 @@
-use Rattle.std.proofs.Common.{sym, subst}
-use Rattle.lock_statements.specs.Bounds.{IsNearWhere}
-use Rattle.lock_program.proofs.Nearness.{near_shared}
-use Rattle.lock_program.proofs.meanings.finally_of.Goals as goal
-
-pub fixed_place-requires : goal.fixed_place-requires
-fixed_place-requires c = subst IsNearWhere (sym c.shared_of.ensures) (near_shared c.args.names.now c.args.place.now.name c.requires)

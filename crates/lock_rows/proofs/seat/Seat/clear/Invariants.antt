@@ -1,5 +1,0 @@
-use Rattle.lock_rows.proofs.Clearing.{ClearedUpTo}
-use Rattle.lock_rows.proofs.seat.Seat.clear.Given as goal
-
-abbrev pub invariant-loop-register : goal.invariant-loop-register
-invariant-loop-register l = ClearedUpTo l.in_use l.stand l.fn.self l.self l.register

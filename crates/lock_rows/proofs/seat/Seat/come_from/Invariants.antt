@@ -1,5 +1,0 @@
-use Rattle.lock_rows.proofs.Coming.{HasCome}
-use Rattle.lock_rows.proofs.seat.Seat.come_from.Given as goal
-
-abbrev pub invariant-loop : goal.invariant-loop
-invariant-loop l = HasCome l.code l.me l.fn.self l.line l.counter l.self

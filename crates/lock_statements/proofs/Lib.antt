@@ -1,3 +1,0 @@
-pub mod Closing
-mod Falling
-mod Nearness

@@ -1,6 +1,0 @@
-use Rattle.std.proofs.Common.{◌≡◌, ◌++◌, map, take}
-use Rattle.lock_statements.specs.Codes.{put_in}
-use Rattle.lock_statements.proofs.codes.push_done.Given as goal
-
-abbrev pub invariant-loop-one : goal.invariant-loop-one
-invariant-loop-one l = l.lines.items ≡ l.initial.lines.items ++ map (put_in l.at l.line) (take l.one-index l.done)

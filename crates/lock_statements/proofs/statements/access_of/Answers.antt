@@ -1,4 +1,0 @@
-use Rattle.lock_statements.proofs.statements.access_of.Goals as goal
-
-pub returns : goal.returns
-returns c = cc

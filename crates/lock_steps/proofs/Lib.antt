@@ -1,7 +1,0 @@
-mod Standing
-pub mod Calling
-pub mod GivingUp
-pub mod Layers
-mod Fitting
-pub mod Counting
-pub mod Alike

@@ -1,5 +1,0 @@
-use Rattle.lock_steps.proofs.Alike.{alike_behave}
-use Rattle.lock_steps.proofs.laws.law_of_the_alike_worlds.Goals as goal
-
-pub returns : goal.returns
-returns c = λ p s t e. alike_behave p s t e

@@ -1,5 +1,0 @@
-use Rattle.lock_steps.proofs.Counting.{counts_at_most}
-use Rattle.lock_steps.proofs.laws.law_of_the_numbers.Goals as goal
-
-pub returns : goal.returns
-returns c = λ p formed few starts schedule s reached. counts_at_most p few formed starts schedule s reached

@@ -1,4 +1,0 @@
-pub mod Answers
-pub mod Causes
-pub mod FaultTexts
-pub mod Text

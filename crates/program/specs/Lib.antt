@@ -1,0 +1,13 @@
+pub mod Bounds
+pub mod Causes
+pub mod Codes
+pub mod Names
+pub mod Parts
+pub mod Statements
+pub mod Answers
+pub mod Drafts
+pub mod Fitting
+pub mod Limits
+pub mod Meanings
+pub mod Places
+pub mod Text

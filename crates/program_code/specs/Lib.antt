@@ -1,0 +1,2 @@
+pub mod Signs
+pub mod WellFormed

@@ -1,0 +1,7 @@
+use Rattle.std.proofs.Common.{◌≡◌, [], subst}
+use Rattle.step_core.specs.State.{WholeMachine, no_list}
+use Rattle.step_rows.specs.Stored.{each}
+use Rattle.program_machine.proofs.machine.ProgramMachine.handed_out.Goals as goal
+
+pub returns : goal.returns
+returns c = subst (λ (h : WholeMachine). c.handed_out.result ≡ (each no_list h.lists c.args.list).handed) c.layer.ensures.layer (c.handed_out.ensures [])

@@ -1,0 +1,12 @@
+pub mod Layer
+pub mod Beginning
+pub mod LayerRows
+pub mod Shared
+pub mod Calling
+pub mod Sound
+pub mod Prepared
+pub mod Starting
+pub mod Moment
+pub mod Verdict
+pub mod Key
+pub mod KeyLaw

@@ -1,0 +1,34 @@
+use Rattle.std.proofs.Common.{rules, FitsSigned, w64, ◌≡◌, ℕ, ℤ, ◌+ℤ◌, true, false, Option, Some, None, cond, refl, sym, ap, ◌∙◌}
+use Rattle.std.specs.Int.{int_wrapping_add}
+use Rattle.std.specs.Ordering.{int_eq}
+use Rattle.std.proofs.lemmas.Int.{to_z-of_z}
+use Rattle.program_code.specs.declared.instruction.Instruction.TheVariants as line
+use Rattle.program_steps.specs.Numbers.{holds}
+use Rattle.program_steps.specs.Reading.{value}
+use Rattle.program_steps.specs.Steps.{Did, reading}
+use Rattle.program_steps.specs.World.{ProgramWorld}
+use Rattle.program_rows.specs.Rows.{row_at}
+use Rattle.program_rows.specs.Stored.{seats_of}
+use Rattle.program_rows.proofs.Storing.{fails, found, on_place, reads_there, word_read, same_size}
+use Rattle.program_rows.proofs.state.ProgramState.swap.Goals as goal
+
+pub returns-in_default : goal.returns-in_default
+returns-in_default c =
+    λ n. fails (row_at c.args.seat n (line.Swap c.args.place.now c.args.operand.now c.args.register)) c.args.self.now c.word.result
+    (λ (world : ProgramWorld) (w : ℕ). Some (reading world c.args.seat c.args.register w
+    (value c.args.seat (world.seats c.args.seat).registers c.args.operand.now)))
+    (on_place c.args.self.now c.args.seat c.args.place.now c.word.result c.word.ensures.found
+    (λ (world : ProgramWorld) (w : ℕ). Some (reading world c.args.seat c.args.register w
+    (value c.args.seat (world.seats c.args.seat).registers c.args.operand.now)))) c.in_default.not-Some
+
+pub returns : goal.returns
+returns c =
+    let fits : FitsSigned w64 c.value-number.result = search rules in
+    λ n. reads_there (row_at c.args.seat n (line.Swap c.args.place.now c.args.operand.now c.args.register)) c.args.self.now c.word.result
+    (λ (world : ProgramWorld) (w : ℕ). Some (reading world c.args.seat c.args.register w
+    (value c.args.seat (world.seats c.args.seat).registers c.args.operand.now)))
+    (on_place c.args.self.now c.args.seat c.args.place.now c.word.result c.word.ensures.found
+    (λ (world : ProgramWorld) (w : ℕ). Some (reading world c.args.seat c.args.register w
+    (value c.args.seat (world.seats c.args.seat).registers c.args.operand.now)))) c.in-Some.word c.in-Some.is c.args.seat c.args.register
+    _ _ _ _ c.read.ensures (λ layer. refl)
+    (sym c.value-number.ensures ∙ sym (to_z-of_z w64 c.value-number.result fits))

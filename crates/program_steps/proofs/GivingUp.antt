@@ -1,0 +1,81 @@
+-- A seat that gives up an acquire before its first row leaves the layer as lawful as it was.
+use Rattle.std.proofs.Common.{◌≡◌, ◌≢◌, ℕ, ◌+◌, ◌<◌, true, refl, sym, ap, ◌∙◌, subst}
+use Rattle.std.proofs.lemmas.Bool.{false≢true}
+use Rattle.program_steps.specs.Steps.{given_up, is_first}
+use Rattle.step_law_semaphores.specs.Invariant.{IsInvariant}
+use Rattle.step_law_whole.specs.CoreLaw.{IsCoreInvariant, IsOffList, IsStanding}
+use Rattle.step_law_whole.proofs.CoreStanding.{between, counters_changed, stands_now}
+use Rattle.step_law_whole.proofs.Naming.{and_named, kept_of}
+use Rattle.step_law_semaphores.proofs.Promises.{kept}
+use Rattle.step_table.specs.declared.place.Acquire.{Acquire}
+use Rattle.step_table.specs.declared.place.AcquireRow.TheVariants.{A1, A2, A3, A4, A5, A6, A7, A8, A9, P, A10, A11}
+use Rattle.step_table.specs.declared.place.Place.{Place}
+use Rattle.step_table.specs.declared.place.Place.TheVariants as on_counter
+use Rattle.step_table.specs.declared.place.Place.TheVariants.{Acquiring, Releasing, ReleasingMany}
+use Rattle.step_table.specs.declared.standing.Standing.{Standing}
+use Rattle.step_table.specs.declared.standing.Standing.TheVariants.{Rest, AtCounter, AtList, AtGroup, Failed}
+use Rattle.step_table.specs.Core.{Core, CoreLayout, counters_of}
+use Rattle.step_table.specs.Steps.{Choice, choose, give_up, moved}
+use Rattle.step_table.specs.World.{SeatState, SemaWorld}
+use Rattle.step_table.proofs.Sums.{put_else, put_here}
+
+-- who stands at the first row of an acquire
+pub first_of : (place : Place) → is_first place ≡ true → (a : Acquire) × (place ≡ Acquiring a A1)
+first_of (Acquiring a A1) e = (a, refl)
+first_of (Acquiring a (A2 v)) e = absurd (false≢true e)
+first_of (Acquiring a A3) e = absurd (false≢true e)
+first_of (Acquiring a A4) e = absurd (false≢true e)
+first_of (Acquiring a A5) e = absurd (false≢true e)
+first_of (Acquiring a (A6 v)) e = absurd (false≢true e)
+first_of (Acquiring a A7) e = absurd (false≢true e)
+first_of (Acquiring a A8) e = absurd (false≢true e)
+first_of (Acquiring a A9) e = absurd (false≢true e)
+first_of (Acquiring a (P turn)) e = absurd (false≢true e)
+first_of (Acquiring a A10) e = absurd (false≢true e)
+first_of (Acquiring a (A11 v)) e = absurd (false≢true e)
+first_of (Releasing r row) e = absurd (false≢true e)
+first_of (ReleasingMany r row) e = absurd (false≢true e)
+first_of on_counter.Rest e = absurd (false≢true e)
+
+module _ (m : CoreLayout) (c : Core) (i : ℕ) (below : i < m.seats) (inv : IsCoreInvariant m c)
+    (first : is_first (c.semaphores.seats i).place ≡ true) where
+  at_first : (a : Acquire) × ((c.semaphores.seats i).place ≡ Acquiring a A1)
+  at_first = first_of (c.semaphores.seats i).place first
+
+  -- it is in no call of a list
+  busy : (c.semaphores.seats i).place ≡ on_counter.Rest → ⊥
+  busy rest = false≢true (sym (ap is_first rest) ∙ first)
+
+  off : (standing : Standing) → IsStanding m c i standing → (l : ℕ) → IsOffList c i l
+  off Rest is = is.1
+  off (AtCounter after) is = is.1
+  off (AtList l) is = absurd (busy is.0)
+  off (AtGroup g row) is = is.2
+  off (Failed misuse) is = is.1
+
+  pub given_up_kept : IsCoreInvariant m (given_up i c)
+  given_up_kept = and_named m (given_up i c)
+      (stands_now m i (record c { semaphores = w })
+      (counters_changed m i c (between m i c (kept_of m c inv)) w c.journal changed places inv.journals.semaphores (λ l. refl)) Rest
+      (here, off (c.standing i) (inv.standing i)))
+      inv.named
+    where
+      w : SemaWorld
+      w = moved c.semaphores i on_counter.Rest
+
+      here : (w.seats i).place ≡ on_counter.Rest
+      here = ap (λ (z : SeatState). z.place) (put_here c.semaphores.seats i (record (c.semaphores.seats i) { place = on_counter.Rest }))
+
+      places : (k : ℕ) → k ≢ i → (w.seats k).place ≡ (c.semaphores.seats k).place
+      places k ne = ap (λ (z : SeatState). z.place) (put_else c.semaphores.seats i (record (c.semaphores.seats i) { place = on_counter.Rest }) k ne)
+
+      changed : IsInvariant (counters_of m) w
+      changed = kept (counters_of m) c.semaphores w i below inv.semaphores
+          (choose (subst (λ p. Choice (m.counters + m.groups) p on_counter.Rest) (sym at_first.1) (give_up at_first.0)))
+
+-- and the others stand where they stood
+pub given_up_else : (c : Core) (i k : ℕ) → k ≢ i → (given_up i c).standing k ≡ c.standing k
+given_up_else c i k ne = put_else c.standing i Rest k ne
+
+pub given_up_rests : (c : Core) (i : ℕ) → (given_up i c).standing i ≡ Rest
+given_up_rests c i = put_here c.standing i Rest

@@ -1,0 +1,8 @@
+mod Standing
+pub mod Calling
+pub mod GivingUp
+pub mod Layers
+mod Fitting
+pub mod Counting
+pub mod Alike
+mod Marking

@@ -1,0 +1,14 @@
+pub mod Numbers
+pub mod World
+pub mod Reading
+pub mod InUse
+pub mod Going
+pub mod Calls
+pub mod Steps
+pub mod Bad
+pub mod LayerLaw
+pub mod Counting
+pub mod AlikeWorlds
+pub mod KindText
+pub mod Marks
+pub mod Table

@@ -1,0 +1,9 @@
+pub mod Lines
+pub mod Shapes
+pub mod Verb
+pub mod Words
+pub mod Answers
+pub mod CauseOrder
+pub mod Causes
+pub mod FaultTexts
+pub mod Text

@@ -1,0 +1,2 @@
+mod LineTelling
+mod Telling

@@ -1,0 +1,3 @@
+pub mod StepLine
+pub mod Lines
+pub mod Columns

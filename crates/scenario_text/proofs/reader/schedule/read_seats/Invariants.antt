@@ -1,0 +1,11 @@
+use Rattle.std.proofs.Common.{length}
+use denote.Text.{Utf8}
+use denote.Shadow.{shadow}
+use Rattle.scenario_text.proofs.Schedules.{SoFar}
+use Rattle.scenario_text.proofs.reader.schedule.read_seats.Given as goal
+
+abbrev pub invariant-loop-first : goal.invariant-loop-first
+invariant-loop-first l = shadow (Utf8 l.rest) × SoFar l.text l.rest l.seats.items
+
+abbrev pub decreases-loop-first : goal.decreases-loop-first
+decreases-loop-first l = length l.rest

@@ -1,0 +1,95 @@
+-- The lines of a scenario's text, and the one spelling of each. Numbers are unbounded here.
+use Rattle.std.specs.Prelude.{⊤, ◌≡◌, ℕ, ◌<◌, ◌^◌, List, [], ◌∷◌, ◌++◌, length, codes}
+use Rattle.std.specs.List.{AllByRecursion}
+use Rattle.std.specs.Fmt.{decimal}
+use Rattle.scenario_text.specs.declared.reader.call.Change.{Change}
+use Rattle.scenario_text.specs.declared.reader.call.Change.TheVariants.{Up, Down}
+use Rattle.scenario_text.specs.declared.reader.call.SpelledCall.{SpelledCall}
+use Rattle.scenario_text.specs.declared.reader.call.SpelledCall.TheVariants.{Acquire, AcquireLifo, Release}
+use Rattle.scenario_text.specs.declared.reader.call.SpelledCall.TheVariants.{ReleaseHandoff, ReleaseMany, Add}
+use Rattle.scenario_text.specs.declared.reader.call.SpelledCall.TheVariants.{Wait, One, All, GroupAdd}
+use Rattle.scenario_text.specs.declared.reader.call.SpelledCall.TheVariants.{GroupWait}
+
+-- ---- calls
+
+-- a number, or a minus and a number
+abbrev pub change_text : Change → List ℕ
+change_text (Up n) = decimal n
+change_text (Down n) = codes "-" ++ decimal n
+
+abbrev pub call_text : SpelledCall → List ℕ
+call_text (Acquire c) = codes "acquire " ++ decimal c
+call_text (AcquireLifo c) = codes "acquire " ++ (decimal c ++ codes " lifo")
+call_text (Release c) = codes "release " ++ decimal c
+call_text (ReleaseHandoff c) = codes "release " ++ (decimal c ++ codes " handoff")
+call_text (ReleaseMany c n) = codes "release " ++ (decimal c ++ (codes " many " ++ decimal n))
+call_text (Add l) = codes "add " ++ decimal l
+call_text (Wait l) = codes "wait " ++ decimal l
+call_text (One l) = codes "one " ++ decimal l
+call_text (All l) = codes "all " ++ decimal l
+call_text (GroupAdd g d) = codes "gadd " ++ (decimal g ++ (codes " " ++ change_text d))
+call_text (GroupWait g) = codes "gwait " ++ decimal g
+
+-- calls, a semicolon and a space apart
+abbrev pub calls_text : List SpelledCall → List ℕ
+calls_text [] = []
+calls_text (c ∷ []) = call_text c
+calls_text (c ∷ d ∷ cs) = call_text c ++ (codes "; " ++ calls_text (d ∷ cs))
+
+-- at most ten digits, and no `-0`
+abbrev pub IsShortChange : Change → Type 0
+IsShortChange (Up n) = n < 10 ^ 10
+IsShortChange (Down n) = (0 < n) × (n < 10 ^ 10)
+
+-- each of its numbers has at most ten digits
+abbrev pub IsShort : SpelledCall → Type 0
+IsShort (Acquire c) = c < 10 ^ 10
+IsShort (AcquireLifo c) = c < 10 ^ 10
+IsShort (Release c) = c < 10 ^ 10
+IsShort (ReleaseHandoff c) = c < 10 ^ 10
+IsShort (ReleaseMany c n) = (c < 10 ^ 10) × (n < 10 ^ 10)
+IsShort (Add l) = l < 10 ^ 10
+IsShort (Wait l) = l < 10 ^ 10
+IsShort (One l) = l < 10 ^ 10
+IsShort (All l) = l < 10 ^ 10
+IsShort (GroupAdd g d) = (g < 10 ^ 10) × IsShortChange d
+IsShort (GroupWait g) = g < 10 ^ 10
+
+-- ---- lines
+
+pub data Line : Type 0 where
+  Roots : (n : ℕ) → Line
+  Counter : (start : ℕ) → Line
+  NotifyList : (first : ℕ) → Line
+  Group : Line
+  Seat : (k : ℕ) (calls : List SpelledCall) → Line
+  Settled : Line
+  Value : (c n : ℕ) → Line
+  NoMisuse : Line
+
+-- how a line is spelled
+abbrev pub line_text : Line → List ℕ
+line_text (Roots n) = codes "roots " ++ decimal n
+line_text (Counter start) = codes "counter " ++ decimal start
+line_text (NotifyList first) = codes "list " ++ decimal first
+line_text Group = codes "group"
+line_text (Seat k calls) = codes "seat " ++ (decimal k ++ (codes ": " ++ calls_text calls))
+line_text Settled = codes "settled"
+line_text (Value c n) = codes "value " ++ (decimal c ++ (codes " " ++ decimal n))
+line_text NoMisuse = codes "no-misuse"
+
+-- its numbers have at most ten digits, that of a list at most twenty; a seat has a call
+abbrev pub HasForm : Line → Type 0
+HasForm (Roots n) = n < 10 ^ 10
+HasForm (Counter start) = start < 10 ^ 10
+HasForm (NotifyList first) = first < 10 ^ 20
+HasForm Group = ⊤
+HasForm (Seat k calls) = (k < 10 ^ 10) × (0 < length calls) × AllByRecursion IsShort calls
+HasForm Settled = ⊤
+HasForm (Value c n) = (c < 10 ^ 10) × (n < 10 ^ 10)
+HasForm NoMisuse = ⊤
+
+-- the text is a line's spelling
+pub record Spells (text : List ℕ) (line : Line) : Type 0 where
+  pub form : HasForm line
+  pub spelled : text ≡ line_text line

@@ -1,5 +1,0 @@
-use Rattle.step_core.proofs.Changing.{stands_at}
-use Rattle.step_core.proofs.machine.Machine.stand.Goals as goal
-
-pub returns : goal.returns
-returns c = stands_at _ _ c.self.view_is c.args.seat _ c.number.ensures c.requires c.args.standing

@@ -1,5 +1,0 @@
-use Rattle.step_law_ends.proofs.Endless.{none_has_weight}
-use Rattle.step_law_ends.proofs.laws.law_of_the_endless_tables.Goals as goal
-
-pub returns : goal.returns
-returns c = none_has_weight

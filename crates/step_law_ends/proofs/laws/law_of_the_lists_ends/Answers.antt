@@ -1,5 +1,0 @@
-use Rattle.step_law_ends.proofs.ListEnding.{the_list_ends}
-use Rattle.step_law_ends.proofs.laws.law_of_the_lists_ends.Goals as goal
-
-pub returns : goal.returns
-returns c = the_list_ends

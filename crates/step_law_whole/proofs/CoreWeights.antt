@@ -1,0 +1,101 @@
+-- The weight of the whole where one seat goes elsewhere, and where it begins a call.
+use Rattle.std.proofs.Common.{◌≡◌, ℕ, zero, suc, ◌+◌, ◌*◌, ◌<◌, ◌≤◌, false, length, refl, ap, suc-mul, arith}
+use Rattle.step_table.specs.declared.call.Call.{Call}
+use Rattle.step_table.specs.declared.call.Call.TheVariants.{Acquire, Release, ReleaseMany, Add, Wait, One, All, GroupAdd, GroupWait}
+use Rattle.step_table.specs.declared.group_word.GroupWord.{GroupWord}
+use Rattle.step_table.specs.declared.list_place.AllRow.TheVariants.{L1}
+use Rattle.step_table.specs.declared.list_place.ListPlace.TheVariants.{Adding, NotifyingOne, NotifyingAll}
+use Rattle.step_table.specs.declared.list_place.OneRow.TheVariants.{O1}
+use Rattle.step_table.specs.declared.place.Place.{Place}
+use Rattle.step_table.specs.declared.place.Place.TheVariants as on_counter
+use Rattle.step_table.specs.declared.place.Place.TheVariants.{Acquiring, Releasing, ReleasingMany}
+use Rattle.step_table.specs.declared.place.AcquireRow.TheVariants.{A1}
+use Rattle.step_table.specs.declared.place.ReleaseRow.TheVariants.{R1}
+use Rattle.step_table.specs.declared.place.ManyRow.TheVariants.{M1}
+use Rattle.step_table.specs.declared.standing.After.{After}
+use Rattle.step_table.specs.declared.standing.After.TheVariants.{NextCall, LooksAgain, Releases}
+use Rattle.step_table.specs.declared.standing.GroupRow.TheVariants.{G1, V1, V3}
+use Rattle.step_table.specs.declared.standing.Standing.{Standing}
+use Rattle.step_table.specs.declared.standing.Standing.TheVariants.{Rest, AtCounter, AtList, AtGroup}
+use Rattle.step_table.specs.World.{SemaWorld, put}
+use Rattle.step_table.specs.ListWorld.{ListSeat, ListWorld}
+use Rattle.step_table.specs.ListSteps.{with_ticket}
+use Rattle.step_table.specs.Core.{CoreLayout, semaphore, Core}
+use Rattle.step_table.specs.CoreSteps.{stands, at_counter, releases, goes_on, calls}
+use Rattle.step_table.proofs.Sums.{owned}
+use Rattle.step_law_whole.specs.SemaWeight.{place_weight, stale}
+use Rattle.step_law_whole.specs.ListWeight.{list_weight}
+use Rattle.step_law_whole.specs.CoreWeight.{releases_weight, after_weight, standing_weight, stale_word, core_weight, call_cost}
+use Rattle.step_law_whole.proofs.SeatSums.{put_change, put_most}
+use Rattle.step_law_whole.proofs.SemaWeights.{handing_cost}
+use Rattle.step_law_whole.proofs.ListWeights.{list_weighs, with_its}
+
+module _ (m : CoreLayout) (i : ℕ) (in_range : i < m.seats) where
+  -- what a seat that does this weighs while the groups' words are these
+  abbrev pub stands_at : (ℕ → GroupWord) → Standing → ℕ
+  stands_at groups standing = standing_weight m.seats standing + stale_word groups standing
+
+  pub stands_weight : (s : Core) (standing : Standing)
+      → core_weight m (stands s i standing) + stands_at s.groups (s.standing i) ≡ core_weight m s + stands_at s.groups standing
+  stands_weight s standing = let all = put_change m.seats (stands_at s.groups) s.standing i standing in_range in omega arith
+
+  -- what seat i weighs on counters at this place
+  abbrev pub on_counters : SemaWorld → Place → ℕ
+  on_counters s place = place_weight m.seats place (length (s.seats i).hand) (s.words.grants i) + stale s.words.numbers place
+
+  pub at_counter_weight : (s : Core) (place : Place) (after : After)
+      → core_weight m (at_counter s i place after) + on_counters s.semaphores (s.semaphores.seats i).place + stands_at s.groups (s.standing i)
+      ≡ core_weight m s + on_counters s.semaphores place + after_weight m.seats after
+  at_counter_weight s place after =
+      let t : SemaWorld = s.semaphores in
+      let seats = owned (λ k seat grant. place_weight m.seats seat.place (length seat.hand) grant + stale t.words.numbers seat.place) m.seats t.seats
+      t.words.grants t.words.grants i (record (t.seats i) { place = place }) in_range (λ k ne. refl) in
+      let all = put_change m.seats (stands_at s.groups) s.standing i (AtCounter after) in_range in omega arith
+
+  pub releases_weigh : (s : Core) (g count : ℕ) → (s.semaphores.seats i).place ≡ on_counter.Rest
+      → core_weight m (releases m s i g count) + stands_at s.groups (s.standing i) ≡ core_weight m s + releases_weight m.seats count
+  releases_weigh s g zero rests = let all = stands_weight s Rest in omega arith
+  releases_weigh s g (suc more) rests =
+      let all = at_counter_weight s (Releasing (record { counter = semaphore m g; handoff = false }) R1) (Releases g more) in
+      let none = ap (on_counters s.semaphores) rests in
+      let one_more : suc more * (2 * m.seats + 11) ≡ more * (2 * m.seats + 11) + (2 * m.seats + 11) = suc-mul more (2 * m.seats + 11) in omega arith
+
+  -- what comes after a call on a counter was weighed before
+  pub goes_on_weight : (s : Core) (after : After) → s.standing i ≡ AtCounter after → (s.semaphores.seats i).place ≡ on_counter.Rest
+      → core_weight m (goes_on m s i after) ≡ core_weight m s
+  goes_on_weight s NextCall at rests =
+      let all = stands_weight s Rest in let before = ap (stands_at s.groups) at in omega arith
+  goes_on_weight s (LooksAgain g) at rests =
+      let all = stands_weight s (AtGroup g V3) in let before = ap (stands_at s.groups) at in omega arith
+  goes_on_weight s (Releases g more) at rests =
+      let all = releases_weigh s g more rests in let before = ap (stands_at s.groups) at in omega arith
+
+  -- a call on the list l
+  on_list : (s : Core) (l : ℕ) (seat : ListSeat) (cost : ℕ)
+      → list_weighs seat ((s.lists l).words.grants i) ≤ list_weighs ((s.lists l).seats i) ((s.lists l).words.grants i) + cost
+      → let t : ListWorld = record (s.lists l) { seats = put (s.lists l).seats i seat } in
+      core_weight m (stands (record s { lists = put s.lists l t }) i (AtList l)) ≤ core_weight m s + cost
+  on_list s l seat cost most =
+      let w : ListWorld = s.lists l in
+      let t : ListWorld = record w { seats = put w.seats i seat } in
+      let one = owned (λ k seat grant. list_weighs seat grant) m.seats w.seats w.words.grants w.words.grants i seat in_range (λ k ne. refl) in
+      let lists = put_most m.lists (list_weight m.seats) s.lists l t cost (omega arith) in
+      let all = stands_weight (record s { lists = put s.lists l t }) (AtList l) in omega arith
+
+  -- a call raises the weight by its cost at most
+  pub calls_raise : (s : Core) (call : Call) → core_weight m (calls s i call) ≤ core_weight m s + call_cost m.seats call
+  calls_raise s (Acquire c lifo) =
+      let all = at_counter_weight s (Acquiring (record { counter = c; lifo = lifo }) A1) NextCall in omega arith
+  calls_raise s (Release c handoff) =
+      let all = at_counter_weight s (Releasing (record { counter = c; handoff = handoff }) R1) NextCall in
+      let same = handing_cost m.seats handoff (omega arith) in omega arith
+  calls_raise s (ReleaseMany c n) =
+      let all = at_counter_weight s (ReleasingMany (record { counter = c; units = n }) M1) NextCall in omega arith
+  calls_raise s (Add l) = on_list s l (record ((s.lists l).seats i) { place = Adding }) 1 (omega arith)
+  calls_raise s (Wait l) =
+      on_list s l (with_ticket ((s.lists l).seats i) ((s.lists l).seats i).ticket) 5
+      (with_its ((s.lists l).seats i) ((s.lists l).seats i).ticket ((s.lists l).words.grants i))
+  calls_raise s (One l) = on_list s l (record ((s.lists l).seats i) { place = NotifyingOne 0 O1 }) 7 (omega arith)
+  calls_raise s (All l) = on_list s l (record ((s.lists l).seats i) { place = NotifyingAll 0 L1 }) 7 (omega arith)
+  calls_raise s (GroupAdd g d) = let all = stands_weight s (AtGroup g (G1 d)) in omega arith
+  calls_raise s (GroupWait g) = let all = stands_weight s (AtGroup g V1) in omega arith

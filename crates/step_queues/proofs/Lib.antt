@@ -1,3 +1,0 @@
-pub mod SeatsOf
-pub mod Rooting
-pub mod Replacing
