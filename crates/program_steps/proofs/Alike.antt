@@ -17,7 +17,8 @@ use Rattle.program_steps.specs.Reading.{value, place_of}
 use Rattle.program_steps.specs.Calls.{call_of}
 use Rattle.program_steps.specs.Steps.{Then, OnFromNext, Stands, Fails, Did, on_word, row_of_line, after_call, layer_row, first_row}
 use Rattle.program_steps.specs.Steps.{after_row, given_up, is_first, settled}
-use Rattle.step_table.specs.declared.place.AcquireRow.TheVariants.{A1, A2, A3, A4, A5, A6, A7, A8, A9, P, A10, A11}
+use Rattle.step_table.specs.declared.place.AcquireRow.TheVariants.{A1, A2, A3, A4, A5, A6, A7, A8, A9, Parked, A10, A11}
+use Rattle.step_table.specs.declared.place.ParkedRow.TheVariants.{P}
 use Rattle.step_table.specs.declared.place.Place.{Place}
 use Rattle.step_table.specs.declared.place.Place.TheVariants.{Acquiring, Releasing, ReleasingMany}
 use Rattle.step_table.specs.declared.place.Place.TheVariants as on_counter
@@ -124,7 +125,7 @@ first_of_erased (Acquiring a (A6 v)) = refl
 first_of_erased (Acquiring a A7) = refl
 first_of_erased (Acquiring a A8) = refl
 first_of_erased (Acquiring a A9) = refl
-first_of_erased (Acquiring a (P turn)) = refl
+first_of_erased (Acquiring a (Parked turn P)) = refl
 first_of_erased (Acquiring a A10) = refl
 first_of_erased (Acquiring a (A11 v)) = refl
 first_of_erased (Releasing r row) = refl

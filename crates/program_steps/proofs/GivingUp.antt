@@ -8,7 +8,8 @@ use Rattle.step_law_whole.proofs.CoreStanding.{between, counters_changed, stands
 use Rattle.step_law_whole.proofs.Naming.{and_named, kept_of}
 use Rattle.step_law_semaphores.proofs.Promises.{kept}
 use Rattle.step_table.specs.declared.place.Acquire.{Acquire}
-use Rattle.step_table.specs.declared.place.AcquireRow.TheVariants.{A1, A2, A3, A4, A5, A6, A7, A8, A9, P, A10, A11}
+use Rattle.step_table.specs.declared.place.AcquireRow.TheVariants.{A1, A2, A3, A4, A5, A6, A7, A8, A9, Parked, A10, A11}
+use Rattle.step_table.specs.declared.place.ParkedRow.TheVariants.{P}
 use Rattle.step_table.specs.declared.place.Place.{Place}
 use Rattle.step_table.specs.declared.place.Place.TheVariants as on_counter
 use Rattle.step_table.specs.declared.place.Place.TheVariants.{Acquiring, Releasing, ReleasingMany}
@@ -30,7 +31,7 @@ first_of (Acquiring a (A6 v)) e = absurd (false≢true e)
 first_of (Acquiring a A7) e = absurd (false≢true e)
 first_of (Acquiring a A8) e = absurd (false≢true e)
 first_of (Acquiring a A9) e = absurd (false≢true e)
-first_of (Acquiring a (P turn)) e = absurd (false≢true e)
+first_of (Acquiring a (Parked turn P)) e = absurd (false≢true e)
 first_of (Acquiring a A10) e = absurd (false≢true e)
 first_of (Acquiring a (A11 v)) e = absurd (false≢true e)
 first_of (Releasing r row) e = absurd (false≢true e)

@@ -1,7 +1,8 @@
 -- What a look at a grant, and a sleep, are to their caller.
 use Rattle.std.proofs.Common.{◌≡◌, ℕ, ◌+◌, List, [], ◌∷◌, ◌++◌, refl, sym, ap, ◌∙◌, subst, arith, append-nil}
 use Rattle.step_table.specs.declared.place.Acquire.{Acquire}
-use Rattle.step_table.specs.declared.place.AcquireRow.TheVariants.{A10, P}
+use Rattle.step_table.specs.declared.place.AcquireRow.TheVariants.{A10, Parked}
+use Rattle.step_table.specs.declared.place.ParkedRow.TheVariants.{P}
 use Rattle.step_table.specs.declared.place.Place.TheVariants.{Rest, Acquiring}
 use Rattle.step_table.specs.declared.word.Word.TheVariants.{Grant}
 use Rattle.step_table.specs.World.{SeatState}
@@ -23,11 +24,11 @@ use Rattle.sema_table.proofs.After.{after_call, after_look}
 use Rattle.sema_table.proofs.Tellers.{row_tells}
 use Rattle.sema_table.proofs.Finding.{left_there}
 
-module _ (s t : SeatModel) (a : Acquire) (turn : ℕ) (at : IsAt s (Acquiring a (P turn))) (looked : List SemaStride) where
+module _ (s t : SeatModel) (a : Acquire) (turn : ℕ) (at : IsAt s (Acquiring a (Parked turn P))) (looked : List SemaStride) where
   woken_by : t ≡ record s { sight = t.sight; strides = t.strides } → ComesTo s (Acquiring a A10) t
-      → CallsGranted s (Acquiring a (P turn)) t looked 1 → PollsGrant s (Woken t)
+      → CallsGranted s (Acquiring a (Parked turn P)) t looked 1 → PollsGrant s (Woken t)
   woken_by same comes x =
-      let m = layout s.table.setting in let from = Acquiring a (P turn) in let v = placed from s.sight in
+      let m = layout s.table.setting in let from = Acquiring a (Parked turn P) in let v = placed from s.sight in
       let path : SemaPath m s.number v (looked ++ x.last ∷ []) t.sight = subst (λ l. SemaPath m s.number v l t.sight) x.strides_are x.call.path in
       let parts = (the_sema_paths.paths m).parted s.number v t.sight looked (x.last ∷ []) path in
       let quiet = row_tells m s.number parts.0 parts.2.0 x.last parts.2.1 from x.did x.row in
@@ -43,14 +44,14 @@ module _ (s t : SeatModel) (a : Acquire) (turn : ℕ) (at : IsAt s (Acquiring a 
       )
 
   handed_by : t ≡ record s { taken = s.taken + 1; sight = t.sight; strides = t.strides } → ComesTo s Rest t
-      → CallsGranted s (Acquiring a (P turn)) t looked 2 → HasItsUnit a.counter (wait s.number turn) t.sight.seen
+      → CallsGranted s (Acquiring a (Parked turn P)) t looked 2 → HasItsUnit a.counter (wait s.number turn) t.sight.seen
       → PollsGrant s (Handed t)
   handed_by same comes x unit = (
     a.counter,
     a.lifo,
     wait s.number turn,
     (refl, at),
-    after_call s t (Acquiring a (P turn)) Rest s.left (s.taken + 1) same [] x.call (ap (λ (z : SeatState). z.place) comes) (λ e. cc) 0 1 (omega arith) refl,
+    after_call s t (Acquiring a (Parked turn P)) Rest s.left (s.taken + 1) same [] x.call (ap (λ (z : SeatState). z.place) comes) (λ e. cc) 0 1 (omega arith) refl,
     unit,
   )
 

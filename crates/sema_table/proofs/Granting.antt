@@ -28,7 +28,7 @@ use Rattle.sema_table.specs.declared.view.Record.TheVariants.{Root}
 use Rattle.sema_table.specs.Setting.{root, layout, address}
 use Rattle.running_rows.specs.Owing.{Owes}
 use Rattle.sema_table.specs.Rule.{sight_by, lists_by, IsRecord}
-use Rattle.step_law_semaphores.specs.Balances.{added_by}
+use Rattle.sema_table.specs.Changes.{spent_by}
 use Rattle.step_table.specs.declared.word.Word.TheVariants.{Grant}
 use Rattle.sema_table.specs.declared.view.Setting.{Setting}
 use Rattle.sema_table.specs.Rows.{Me, semaphore_rows}
@@ -216,7 +216,7 @@ module _ (z : Setting) (slots i : ℕ) (m : Me) (a : Release) where
   Stores units = Owes semaphore_rows z m i (λ _. units) (λ _ t. runs_grant semaphore_rows (step slots i units 0 none) m units t)
 
   pub grants_at : (handed : Bool) (units : ℕ) → units ≡ grant_of handed → m.0.own.knows.place ≡ granting a handed
-      → added_by m.0.own.number m.0.own.knows.seen ≤ 2 ^ 40 → address m.0.own.knows.setting (Grant (waiter m.0.own.number m.0.own.knows.hand)) ≡ i
+      → spent_by m.0.own.number m.0.own.knows.seen ≤ 2 ^ 40 → address m.0.own.knows.setting (Grant (waiter m.0.own.number m.0.own.knows.hand)) ≡ i
       → waiter m.0.own.number m.0.own.knows.hand < m.0.own.knows.setting.seats → Stores units
   grants_at true units is at few word there = subst Stores (sym is) (owes_grant z i m (Releasing a R9) at (omega arith) slots 2
       (λ w n known. record { fits = record { word = word; there = there; can = refl; becomes = refl }; apart = refl }))

@@ -20,7 +20,7 @@ use Rattle.step_table.proofs.Paths.{meets_sight}
 use Rattle.step_table.proofs.Sums.{put_here, put_at, on_here, on_else, total_has, total_same}
 use Rattle.step_law_semaphores.specs.Lawful.{holds, IsLawfulWorld}
 use Rattle.step_law_semaphores.specs.Invariant.{IsInvariant}
-use Rattle.step_law_semaphores.specs.Balances.{added_by}
+use Rattle.sema_table.specs.Changes.{spent_by}
 use Rattle.step_law_semaphores.specs.Bounds.{IsSmall}
 use Rattle.step_law_semaphores.specs.Served.{carries, served, gains}
 use Rattle.step_law_semaphores.specs.SemaPath.{SemaSight, semaphores, row_stride, plain_before}
@@ -38,7 +38,7 @@ use Rattle.sema_table.specs.Starts.{begin}
 use Rattle.sema_table.proofs.Words.{written_word, inside, lists_unwritten, same_record}
 use Rattle.sema_table.specs.Places.{Begins}
 use Rattle.sema_table.proofs.Beginning.{begun, begins_holds, begins_carries}
-use Rattle.sema_table.proofs.Adding.{adding, step_adds, own_adds}
+use Rattle.sema_table.proofs.Spending.{spending, spent_own, own_seen, step_spends}
 use Rattle.sema_table.proofs.Bounding.{taken_most, changes_most}
 use Rattle.sema_table.proofs.Resting.{free_counted}
 use Rattle.sema_table.proofs.Striding.{Ran}
@@ -61,7 +61,7 @@ pub record Ready (k : ℕ) (v : Known) (b : SemaWorld) (i n : ℕ) : Type 0 wher
   pub rooted : 0 < v.setting.roots
 
 module _ (u : SemaSeat) (world : SemaWorld) (words : List ℕ) (homes : Homes) (i : ℕ) (st : Stands semaphore_rows u.knows.setting u world words homes i)
-    (p : Place) (ok : Begins (length u.knows.setting.starts) u.knows.place p) (bound : added_by u.number u.knows.seen + adding p ≤ 2 ^ 40) where
+    (p : Place) (ok : Begins (length u.knows.setting.starts) u.knows.place p) (bound : spent_by u.number u.knows.seen + spending p ≤ 2 ^ 40) where
   abbrev v : Known
   v = u.knows
 
@@ -162,18 +162,18 @@ module _ (u : SemaSeat) (world : SemaWorld) (words : List ℕ) (homes : Homes) (
     here_is : (b.seats id).place ≡ p
     here_is = ap (λ (y : SeatState). y.place) (put_here world.seats id (record (world.seats id) { place = p }))
 
-    adds : (added_by id t.journal ≤ added_by id b.journal + adding (b.seats id).place)
-        × ((k : ℕ) → k ≢ id → added_by k t.journal ≡ added_by k b.journal)
-    adds = step_adds m b t id st.there invariant step
+    spends : (spent_by id t.journal ≤ spent_by id b.journal + spending (b.seats id).place)
+        × ((k : ℕ) → k ≢ id → spent_by k t.journal ≡ spent_by k b.journal)
+    spends = step_spends m b t id st.there invariant step
 
     small_after : IsSmall m t
     small_after = record {
       seats = shown.small.seats;
       starts = shown.small.starts;
       few = λ k h. dite (ℕ_discrete k id)
-          (λ q. subst (λ y. added_by y t.journal ≤ 2 ^ 40) (sym q) (let a = adds.0 in let c = ap adding here_is in
-          let o = own_adds m world id (sight_by v) viewed.meets in omega arith))
-          (λ ne. let a = adds.1 k ne in let c = shown.small.few k h in omega arith);
+          (λ q. subst (λ y. spent_by y t.journal ≤ 2 ^ 40) (sym q) (let a = spends.0 in let c = ap spending here_is in
+          let o = own_seen spent_by spent_own m world id (sight_by v) viewed.meets in omega arith))
+          (λ ne. let a = spends.1 k ne in let c = shown.small.few k h in omega arith);
     }
 
     -- the lists of a root whose lock this seat doesn't hold stay

@@ -1,7 +1,7 @@
 pub mod Words
 pub mod Owned
 pub mod Beginning
-pub mod Adding
+pub mod Spending
 pub mod Bounding
 pub mod Resting
 pub mod Striding

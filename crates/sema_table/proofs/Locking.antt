@@ -21,25 +21,25 @@ use Rattle.sema_table.specs.Places.{Begins, takes_lock, locked}
 use Rattle.sema_table.specs.Rule.{stands_by, lists_by, IsRecord}
 use Rattle.running_rows.specs.Strides.{Took, Changed}
 use Rattle.running_rows.specs.Owing.{Owes}
-use Rattle.step_law_semaphores.specs.Balances.{added_by}
+use Rattle.sema_table.specs.Changes.{spent_by}
 use Rattle.sema_root.specs.Treap.{Treap}
 use Rattle.sema_table.specs.Rows.{Me, semaphore_rows}
 use Rattle.sema_table.specs.Starts.{begin}
 use Rattle.sema_table.proofs.Striding.{Ran}
 use Rattle.sema_table.specs.Seats.{Token, TableModel}
 use Rattle.sema_table.specs.Walks.{Starts, Walked, Locked, moved_to}
-use Rattle.sema_table.proofs.Adding.{adding}
+use Rattle.sema_table.proofs.Spending.{spending}
 use Rattle.running_rows.proofs.Telling.{tells_more}
 use Rattle.sema_table.proofs.Allowing.{Takes, owes_lock}
 use Rattle.sema_table.proofs.Leading.{Goes, led}
 use Rattle.sema_table.proofs.Walking.{walked_row}
 
--- such a row adds nothing
-pub locking_adds : (p : Place) → takes_lock p ≡ true → adding p ≡ 0
-locking_adds (Acquiring a A3) e = refl
-locking_adds (Releasing r R3) e = refl
-locking_adds (ReleasingMany r M3) e = refl
-locking_adds _ e = absurd (cc)
+-- such a row spends nothing
+pub locking_spends : (p : Place) → takes_lock p ≡ true → spending p ≡ 0
+locking_spends (Acquiring a A3) e = refl
+locking_spends (Releasing r R3) e = refl
+locking_spends (ReleasingMany r M3) e = refl
+locking_spends _ e = absurd (cc)
 
 -- its event takes the lock of its call's counter
 pub locking_event : (z : Setting) (s : ℕ) (seat : SeatState) (lists : ℕ → List WaitId) (p : Place) (i n : ℕ) → takes_lock p ≡ true
@@ -95,14 +95,14 @@ has_locked t s u p starts T same =
 
 -- what a lock owes by its row
 pub takes_lock_by : (z : Setting) (i : ℕ) (s : Token) (p : Place) → takes_lock p ≡ true
-    → Begins (length s.me.0.own.knows.setting.starts) s.me.0.own.knows.place p → added_by s.me.0.own.number s.me.0.own.knows.seen ≤ 2 ^ 40
+    → Begins (length s.me.0.own.knows.setting.starts) s.me.0.own.knows.place p → spent_by s.me.0.own.number s.me.0.own.knows.seen ≤ 2 ^ 40
     → address s.me.0.own.knows.setting (Lock (counter_at p)) ≡ i
     → Owes semaphore_rows z s.me i (λ n. either (n == 0) 1 n) (λ n t. (n ≢ 0 → t ≡ s.me) × (n ≡ 0 → Took semaphore_rows (begin p) s.me t))
 takes_lock_by z i s p takes begins few word world words homes st = let k : ℕ = slice_index words i in
     tells_more semaphore_rows z s.me i world words homes (either (k == 0) 1 k)
     _ (λ t. (k ≢ 0 → t ≡ s.me) × (k ≡ 0 → Took semaphore_rows (begin p) s.me t))
     (λ t told. (told.0, (λ free. got t (told.1 free))))
-    (owes_lock i s.me p begins (let a = locking_adds p takes in omega arith) z
+    (owes_lock i s.me p begins (let a = locking_spends p takes in omega arith) z
     (λ b n known free. locking_event s.me.0.own.knows.setting s.me.0.own.number (stands_by (begin p s.me.0.own.knows)) b.words.lists p i n takes word free)
     world words homes st)
   where

@@ -1,5 +1,5 @@
 -- Where one view has every seat of the table, and all may begin a call, the counts add up and nothing is left.
-use Rattle.std.proofs.Common.{◌≡◌, ◌≢◌, ◌⊎◌, ℕ, zero, suc, true, ◌+◌, ◌*◌, ◌-◌, ◌<◌, ◌≤◌, List, [], ◌∷◌, length}
+use Rattle.std.proofs.Common.{◌≡◌, ◌≢◌, ℕ, zero, suc, true, ◌+◌, ◌*◌, ◌-◌, ◌<◌, ◌≤◌, List, [], ◌∷◌, length}
 use Rattle.std.proofs.Common.{slice_index, sym, refl, ap, ◌∙◌, subst, inl}
 use Rattle.std.proofs.Common.{inr, arith}
 use mathlib.Core.Logic.{dite}
@@ -36,8 +36,9 @@ use Rattle.sema_table.specs.Places.{is_free}
 use Rattle.sema_table.specs.Rule.{sight_by}
 use Rattle.sema_table.specs.Seats.{Token, SeatModel, seat_of, IsSeat}
 use Rattle.sema_table.specs.Closing.{sum_by, has_added, was_given, IsOfSeat, AreOfSeats, IsClosed}
-use Rattle.sema_table.proofs.Adding.{own_adds}
+use Rattle.sema_table.proofs.Spending.{added_own, own_seen}
 use Rattle.sema_table.proofs.Beginning.{begun}
+use Rattle.sema_table.proofs.Resting.{not_both}
 
 abbrev sum_over : (ℕ → ℕ) → List SemaSeat → ℕ
 sum_over f [] = 0
@@ -164,13 +165,7 @@ all_rest m was reached free (suc n) low =
     }
 
 free_unparked : (p : Place) (k c turn : ℕ) (w : SemaWorld) → (w.seats k).place ≡ p → is_free p ≡ true → IsParked w k c turn → ⊥
-free_unparked p k c turn w at free parked = not_free (sym parked.2 ∙ at) free
-  where
-    not_free : {q : Place} → Acquiring parked.0 (Rattle.step_table.specs.declared.place.AcquireRow.TheVariants.P turn) ≡ q → is_free q ≡ true → ⊥
-    not_free e f = absurd (clash (ap is_free e ∙ f))
-      where
-        clash : Rattle.std.proofs.Common.false ≡ true → ⊥
-        clash e = cc
+free_unparked p k c turn w at free parked = not_both (is_free p) (ap is_free (sym at ∙ parked.3)) free
 
 module _ (z : Setting) (s : State Record SemaView) (r : IsKept semaphore_rows z s) (id : ℕ) (v : SemaView) (someones : IsSomeones semaphore_rows v)
     (at : get_elem? s.views id ≡ some v) (seats : List SeatModel) (are : AreOfSeats z (v.own ∷ v.guests) seats) (full : length seats ≡ z.seats) where
@@ -230,7 +225,7 @@ module _ (z : Setting) (s : State Record SemaView) (r : IsKept semaphore_rows z 
   added_all : sum_by (has_added z.limit) seats ≡ added r.world.journal
   added_all =
       sym (sum_is z (λ k. added_by k r.world.journal) (has_added z.limit) all seats are
-      (λ g t e is. let o = own_adds m r.world g.number (sight_by g.knows) (sits g e).knows.meets in let l = is.left in omega arith))
+      (λ g t e is. let o = own_seen added_by added_own m r.world g.number (sight_by g.knows) (sits g e).knows.meets in let l = is.left in omega arith))
       ∙ sum_all z.seats all apart low count (λ k. added_by k r.world.journal) ∙ sym (the_accounts.added m r.world r.shows.reached)
 
   lawful : IsLawfulWorld m r.world

@@ -15,7 +15,7 @@ use Rattle.step_table.specs.Event.{by_first}
 use Rattle.step_table.specs.Counting.{counter_at}
 use Rattle.sema_table.specs.Rows.{HasStored, SemaView}
 use Rattle.sema_table.specs.Setting.{address, layout}
-use Rattle.step_law_semaphores.specs.Balances.{added_by}
+use Rattle.sema_table.specs.Changes.{spent_by}
 use Rattle.step_law_semaphores.specs.SemaPath.{SemaPath, placed}
 use Rattle.sema_table.specs.declared.seat.Numbers.{Numbers}
 use Rattle.sema_table.specs.declared.answers.Wake.TheVariants.{Nobody, One, Handed}
@@ -45,7 +45,7 @@ module _ (s t1 t2 t3 : Token) (n : Numbers) (a : Release) (is : IsToken s n) (x1
 
   pub nobody_seat : IsSeat t3 n
   nobody_seat = record {
-    token_is = token_after s t3 (Releasing a R3) (moved_to s Rest) [] 0 n n is ended bare is.empty is.turns_are (omega arith) refl (omega arith);
+    token_is = token_after s t3 (Releasing a R3) (moved_to s Rest) [] 0 n n is ended bare is.empty is.turns_are (omega arith) refl refl (omega arith);
     free = ap (λ (q : SeatState). is_free q.place) ended.stands_is;
     counted = ended.counted refl;
   }
@@ -100,9 +100,9 @@ module _ (s t1 t3 t4 t5 : Token) (n : Numbers) (a : Release) (w : WaitId) (hande
   settled = walked_via s t3 t4 (Releasing a R3) (carrying s (trying a) w) (λ y. record y { place = granting a handed })
       (Leave a.counter w t1.me.0.own.number ∷ []) (taken_for a w handed) 0 0 x3 x4
 
-  pub none_added : (b : Bool) → added_by s.me.0.own.number (Leave a.counter w t1.me.0.own.number ∷ taken_for a w b) ≡ 0
-  none_added true = refl
-  none_added false = refl
+  pub none_spent : (b : Bool) → spent_by s.me.0.own.number (Leave a.counter w t1.me.0.own.number ∷ taken_for a w b) ≡ 0
+  none_spent true = refl
+  none_spent false = refl
 
   module _ (x5 : Granted t4 (granting a handed) t5) (bare : t5.me.1 ≡ []) where
     abbrev all_ended : Walked s (Releasing a R3) t5 (record { place = Rest; turn = t4.me.0.own.knows.turn; hand = drop 1 t4.me.0.own.knows.hand }) (told ++ [])
@@ -114,14 +114,15 @@ module _ (s t1 t3 t4 t5 : Token) (n : Numbers) (a : Release) (w : WaitId) (hande
     hand_is : t4.me.0.own.knows.hand ≡ w ∷ []
     hand_is = ap (λ (y : SeatState). y.hand) settled.stands_is
 
-    nothing_added : added_by s.me.0.own.number (told ++ []) ≡ 0
-    nothing_added = ap (added_by s.me.0.own.number) (append-nil told) ∙ none_added handed
+    nothing_spent : spent_by s.me.0.own.number (told ++ []) ≡ 0
+    nothing_spent = ap (spent_by s.me.0.own.number) (append-nil told) ∙ none_spent handed
 
     pub granted_seat : IsSeat t5 n
     granted_seat = record {
       token_is = token_after s t5 (Releasing a R3) (record { place = Rest; turn = t4.me.0.own.knows.turn; hand = drop 1 t4.me.0.own.knows.hand }) (told ++ [])
           0 n n is all_ended bare (ap (drop 1) hand_is)
-          (ap (λ (y : SeatState). y.turn) settled.stands_is ∙ is.turns_are) (let q = nothing_added in omega arith) refl (omega arith);
+          (ap (λ (y : SeatState). y.turn) settled.stands_is ∙ is.turns_are) (let q = nothing_spent in omega arith)
+          (let q = nothing_spent in omega arith) refl (omega arith);
       free = ap (λ (q : SeatState). is_free q.place) all_ended.stands_is;
       counted = all_ended.counted refl;
     }

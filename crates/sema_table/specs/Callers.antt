@@ -5,7 +5,8 @@ use Rattle.std.specs.List.{All, filter}
 use Rattle.waiters.specs.declared.wait.WaitId.{WaitId}
 use Rattle.step_table.specs.declared.entry.Entry.{Entry}
 use Rattle.step_table.specs.declared.entry.Entry.TheVariants.{Take, Queue}
-use Rattle.step_table.specs.declared.place.AcquireRow.TheVariants.{P, A10}
+use Rattle.step_table.specs.declared.place.AcquireRow.TheVariants.{Parked, A10}
+use Rattle.step_table.specs.declared.place.ParkedRow.TheVariants.{P}
 use Rattle.step_table.specs.declared.place.Place.TheVariants.{Acquiring}
 use Rattle.step_table.specs.Journal.{plain_start, IsLawful, HasLeft, HasItsUnit}
 use Rattle.step_law_semaphores.specs.SemaPath.{is_own}
@@ -80,7 +81,7 @@ AcquiresUnit s c lifo t =
 -- the seat waits for a unit of c: it sleeps with this wait, or it was woken and has to try
 abbrev pub IsWaitingOn : SeatModel → ℕ → Bool → Option WaitId → Type 0
 IsWaitingOn s c lifo (Some w) =
-    (w.seat ≡ s.number) × (s.sight.stands.place ≡ Acquiring (record { counter = c; lifo = lifo }) (P w.turn))
+    (w.seat ≡ s.number) × (s.sight.stands.place ≡ Acquiring (record { counter = c; lifo = lifo }) (Parked w.turn P))
 IsWaitingOn s c lifo None = s.sight.stands.place ≡ Acquiring (record { counter = c; lifo = lifo }) A10
 
 -- a unit was taken; or there was none, and the seat sleeps, its wait the last that it has seen

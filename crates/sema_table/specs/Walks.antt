@@ -6,7 +6,8 @@ use Rattle.waiters.specs.declared.wait.WaitId.{WaitId}
 use Rattle.step_table.specs.declared.entry.Entry.{Entry}
 use Rattle.step_table.specs.declared.entry.Entry.TheVariants.{Take}
 use Rattle.step_table.specs.declared.place.Acquire.{Acquire}
-use Rattle.step_table.specs.declared.place.AcquireRow.TheVariants.{P}
+use Rattle.step_table.specs.declared.place.AcquireRow.TheVariants.{Parked}
+use Rattle.step_table.specs.declared.place.ParkedRow.TheVariants.{P}
 use Rattle.step_table.specs.declared.place.Release.{Release}
 use Rattle.step_table.specs.declared.place.ReleaseRow.TheVariants.{R5, R6, R7, R9, R10}
 use Rattle.step_table.specs.declared.place.Place.{Place}
@@ -17,14 +18,13 @@ use Rattle.step_table.specs.World.{SeatState}
 use Rattle.step_table.specs.Counting.{total, on, counter_at}
 use Rattle.step_table.specs.Journal.{takes}
 use Rattle.step_table.specs.Path.{runs, looks, all_told}
-use Rattle.step_law_semaphores.specs.Balances.{added_by}
 use Rattle.step_law_semaphores.specs.SemaPath.{SemaStride, SemaPath, placed}
 use Rattle.sema_root.specs.Treap.{Treap}
 use Rattle.sema_table.specs.declared.view.Record.TheVariants.{Root}
 use Rattle.sema_table.specs.Strides.{IsRow}
 use Rattle.sema_table.specs.Setting.{root, layout}
 use Rattle.sema_table.specs.Places.{Begins, is_free, takes_lock, locked}
-use Rattle.sema_table.specs.Changes.{HasChanged}
+use Rattle.sema_table.specs.Changes.{HasChanged, spent_by}
 use Rattle.sema_table.specs.Rule.{stands_by, sight_by, lists_by, IsRecord}
 use Rattle.running_rows.specs.Strides.{here, Went as Strode}
 use Rattle.sema_table.specs.Rows.{semaphore_rows}
@@ -35,7 +35,7 @@ pub record Stands (t : TableModel) (s : Token) (place : Place) : Type 0 where
   pub table_is : table_of s ≡ t
   pub inside : counter_at place < length t.setting.starts
   pub place_is : s.me.0.own.knows.place ≡ place
-  pub limited : added_by s.me.0.own.number s.me.0.own.knows.seen ≤ 2 ^ 40
+  pub limited : spent_by s.me.0.own.number s.me.0.own.knows.seen ≤ 2 ^ 40
   pub few : s.me.0.own.knows.turn ≤ 2 ^ 48 + 256
   pub most : s.me.0.own.knows.taken ≤ 2 ^ 49
 
@@ -48,7 +48,7 @@ pub record Starts (t : TableModel) (s : Token) (place : Place) : Type 0 where
   pub table_is : table_of s ≡ t
   pub inside : counter_at place < length t.setting.starts
   pub begins : Begins (length t.setting.starts) s.me.0.own.knows.place place
-  pub limited : added_by s.me.0.own.number s.me.0.own.knows.seen ≤ 2 ^ 40
+  pub limited : spent_by s.me.0.own.number s.me.0.own.knows.seen ≤ 2 ^ 40
   pub bare : s.me.1 ≡ []
   pub takes : takes_lock place ≡ true
 
@@ -145,7 +145,7 @@ unlocked s r = by_first s.me.0.own.knows.hand Rest (λ w. trying r)
 -- how a seat stands whose wait was queued
 abbrev pub parked : Token → Acquire → SeatState
 parked s a = record {
-  place = Acquiring a (P s.me.0.own.knows.turn);
+  place = Acquiring a (Parked s.me.0.own.knows.turn P);
   turn = s.me.0.own.knows.turn + 1;
   hand = s.me.0.own.knows.hand;
 }

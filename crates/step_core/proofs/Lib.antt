@@ -26,6 +26,7 @@ pub mod Naming
 pub mod NamedFacts
 pub mod NamedKeys
 pub mod Often
+pub mod Skips
 pub mod StandingOnce
 pub mod WaitingOnce
 pub mod NamedLaw

@@ -4,7 +4,8 @@ use Rattle.std.proofs.Common.{◌≡◌, ℕ, ◌+◌, ◌^◌, ◌<◌, ◌≤�
 use Rattle.std.proofs.Common.{sym, ap, ◌∙◌, subst, arith}
 use Rattle.waiters.specs.declared.wait.WaitId.{WaitId}
 use Rattle.step_rows.specs.declared.caller.Caller.{Caller}
-use Rattle.step_table.specs.declared.place.AcquireRow.TheVariants.{A7, P}
+use Rattle.step_table.specs.declared.place.AcquireRow.TheVariants.{A7, Parked}
+use Rattle.step_table.specs.declared.place.ParkedRow.TheVariants.{D3}
 use Rattle.step_table.specs.declared.place.Place.{Place}
 use Rattle.step_table.specs.declared.place.ReleaseRow.TheVariants.{R5}
 use Rattle.step_table.specs.declared.place.ManyRow.TheVariants.{M5}
@@ -42,7 +43,8 @@ use Rattle.step_table.proofs.SumsOfSums.{total_most}
 use Rattle.step_law_semaphores.proofs.Resting.{asleep_most}
 
 pub grant_most : (p : Place) (g : ℕ) → IsGrantOf p g → g ≤ 2
-grant_most (Acquiring a (P turn)) g h = h
+grant_most (Acquiring a (Parked turn D3)) g h = omega (arith, h)
+grant_most (Acquiring a (Parked turn row)) g h = h
 grant_most _ g h = omega arith
 
 -- where each term is at most 1 and one is 0, the sum is less than the number of terms
@@ -118,8 +120,8 @@ module _ (v : Variant) (m : State) (sound : IsWellFormed v m) where
     within_at : (p : Place) → caller.place ≡ p → IsWithin rows_of.counters p
     within_at p is = subst (IsWithin rows_of.counters) is (law.seats i).within
 
-    finds_at : (p : Place) → caller.place ≡ p → Finds (each [] h.lists) p
-    finds_at p is = subst (Finds (each [] h.lists)) is (law.finds i here)
+    finds_at : (p : Place) → caller.place ≡ p → Finds i (each [] h.lists) p
+    finds_at p is = subst (Finds i (each [] h.lists)) is (law.finds i here)
 
     may_move : (p : Place) → caller.place ≡ p → MayMove h p
     may_move (Acquiring a A7) is =
@@ -152,7 +154,7 @@ module _ (v : Variant) (m : State) (sound : IsWellFormed v m) where
           seat = omega arith;
           hand = let hands = s.hands in omega arith;
           waiter = first_in_hand hand (length h.grants)
-              (λ w in_it. let parked = (in_a_hand rows_of world law.placed i w there in_it).4 in omega arith);
+              (λ w in_it. let parked = (in_a_hand rows_of world law.placed i w there in_it).5 in omega arith);
           moves = may_move caller.place refl;
         }
 
@@ -186,8 +188,8 @@ module _ (v : Variant) (m : State) (sound : IsWellFormed v m) where
 
     asks_at : (doing : Standing) → each Rest m.machine.standing i ≡ doing → AsksFor m.machine i doing
     asks_at (AtCounter after) is = has_row
-    asks_at (AtList l) is =
-        let there = (stands (AtList l) is).2 in (let are = sound.machine.lists in omega arith, can_step l there)
+    asks_at (AtList l ending) is =
+        let there = (stands (AtList l ending) is).2 in (let are = sound.machine.lists in omega arith, can_step l there)
     asks_at (AtGroup g row) is =
         let there = (stands (AtGroup g row) is).1 in let are = sound.machine.groups in omega arith
     asks_at _ is = tt

@@ -37,7 +37,7 @@ found_on_group row w = State w
 abbrev pub found_doing : CoreLayout → Core → ℕ → Standing → Option WordFound
 found_doing m s i (AtCounter after) =
     Some (found_on_counter (s.semaphores.seats i).place (finds m.root s.semaphores i))
-found_doing m s i (AtList l) = Some (Number (list.finds (s.lists l) i))
+found_doing m s i (AtList l ending) = Some (Number (list.finds (s.lists l) i))
 found_doing m s i (AtGroup g row) = Some (found_on_group row (s.groups g))
 found_doing m s i standing = None
 

@@ -86,7 +86,8 @@ impl WholeMachine {
             Turn::OnCounter(_, ready) => {
                 on_counter(ready.caller.place, self.semaphores.read(&ready.word))
             }
-            Turn::OnList(list, ready) => {
+            Turn::GivesUp(_) | Turn::GivesUpOnList(_, _) => WordFound::Number(0),
+            Turn::OnList(list, _, ready) => {
                 WordFound::Number(self.lists[list.number() as usize].read(&ready.word))
             }
             Turn::OnGroup(group, row) => on_group(*row, self.groups[group.number() as usize]),

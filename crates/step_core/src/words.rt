@@ -89,7 +89,7 @@ impl WholeMachine {
         ensures { (journal : List Told)
             → result ≡ ((core_of self.now journal).lists list).words.numbers.granted }
     {
-        self.lists[list.number() as usize].granted()
+        self.lists[list.number() as usize].passed()
     }
 
     /// The state word of the group.

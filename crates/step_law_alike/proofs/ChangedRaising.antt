@@ -1,29 +1,36 @@
 -- A waiter word counts its waits, and the seats that have raised it, along the steps of a machine with a changed table.
-use Rattle.std.proofs.Common.{◌≡◌, ℕ, zero, suc, ◌<◌, length, Option, Some, None, refl, sym, ap, IsTrue, arith}
+use Rattle.std.proofs.Common.{◌≡◌, ℕ, zero, suc, ◌<◌, length, Option, Some, None, refl, sym, ap, IsTrue, arith, Bool, true, false, ◌&&◌, ◌||◌, if◌then◌else◌}
 use Rattle.step_table.specs.declared.call.Call.{Call}
-use Rattle.step_table.specs.declared.call.Call.TheVariants.{Acquire, Release, ReleaseMany, Add, Wait, One, All, GroupAdd, GroupWait}
+use Rattle.step_table.specs.declared.call.Late.{Late}
+use Rattle.step_table.specs.declared.call.GivingUp.{GivingUp}
+use Rattle.step_table.specs.declared.call.Call.TheVariants.{Acquire, Release, ReleaseMany, Add, Wait, One, All, GroupAdd, GroupWait, AcquireOrLeave, WaitOrLeave}
 use Rattle.step_table.specs.declared.list_place.ListPlace.{ListPlace}
 use Rattle.step_table.specs.declared.list_place.ListPlace.TheVariants as on_list
+use Rattle.step_table.specs.declared.list_place.WaitRow.TheVariants.{E4}
 use Rattle.step_table.specs.declared.place.Place.{Place}
-use Rattle.step_table.specs.declared.place.Place.TheVariants.{Rest, Acquiring, Releasing, ReleasingMany}
+use Rattle.step_table.specs.declared.place.Place.TheVariants.{Rest, Acquiring}
 use Rattle.step_table.specs.declared.parts.Parts.{Parts}
 use Rattle.step_table.specs.declared.standing.After.{After}
-use Rattle.step_table.specs.declared.standing.After.TheVariants.{NextCall, LooksAgain, Releases}
+use Rattle.step_table.specs.declared.standing.After.TheVariants.{Closes, LooksAgain, Releases}
+use Rattle.step_table.specs.declared.standing.Ending.{Ending}
+use Rattle.step_table.specs.declared.standing.Ending.TheVariants.{NextCall, MayGiveUp, GaveUp, GivesBack}
 use Rattle.step_table.specs.declared.standing.GroupNext.{GroupNext}
 use Rattle.step_table.specs.declared.standing.GroupNext.TheVariants as group
 use Rattle.step_table.specs.declared.standing.Standing.{Standing}
-use Rattle.step_table.specs.declared.standing.Standing.TheVariants.{AtCounter, AtList, AtGroup}
+use Rattle.step_table.specs.declared.standing.Standing.TheVariants.{AtCounter, AtList, AtGroup, Left}
 use Rattle.step_table.specs.declared.standing.Standing.TheVariants as doing
 use Rattle.step_law_alike.specs.declared.variant.Variant.{Variant}
 use Rattle.step_table.specs.World.{Layout, Words, SeatState, SemaWorld, put, first_world}
-use Rattle.step_table.specs.Steps.{moved}
+use Rattle.step_table.specs.Steps.{moved, can_turn}
 use Rattle.step_law_semaphores.specs.Lawful.{waits_of}
 use Rattle.step_table.specs.Core.{CoreLayout, Core, counters_of, first_core}
 use Rattle.step_table.specs.CoreSteps.{at_counter, releases, calls, goes_on, after_counter, after_list, after_group, counter_row, list_row, row_of_standing}
-use Rattle.step_table.specs.CoreSteps.{core_turned, can_run}
+use Rattle.step_table.specs.CoreSteps.{core_turned, can_run, comes_late, ends_given_up, may_give_up, gives_up, is_asleep, leaving, on_counter_row}
+use Rattle.step_table.specs.CoreSteps.{comes_late_on_list, closes_on_list, may_give_up_on_list, gives_up_on_list, on_list_row}
 use Rattle.step_law_whole.specs.CoreLaw.{IsOffCounters, IsStanding}
 use Rattle.step_table.specs.Group.{group_row}
-use Rattle.step_table.specs.Run.{Run, layout, call_of, begun, all_begun, start, continued, stepped}
+use Rattle.step_table.specs.Run.{Run, layout, call_of, begun, all_begun, start, continued, stepped, left_out}
+use Rattle.step_table.specs.Counting.{counter_at}
 use Rattle.step_law_alike.specs.Changed.{changed_place, changed, changed_stepped}
 use Rattle.step_law_alike.specs.ChangedInvariant.{IsWellFormedCore, raises_in, WaitersRaisedIn}
 use Rattle.step_table.proofs.Sums.{put_here, put_else, put_at, nothing}
@@ -31,6 +38,10 @@ use Rattle.step_law_semaphores.proofs.Promises.{at_first}
 use Rattle.step_law_whole.proofs.CoreKeeping as keeping
 use Rattle.step_law_alike.proofs.ChangedCore.{well_formed_keep}
 use Rattle.step_law_alike.proofs.ChangedWaiters.{Starts, at_rest, acquires, release, releases_many, raised_none, IsHalfway, not_yet, begins, halfway, led}
+use Rattle.step_law_alike.proofs.ChangedWaiters.{at_lock, parked}
+use Rattle.step_table.specs.declared.call.Late.TheVariants.{Kept, GivenBack}
+use Rattle.step_table.specs.declared.place.AcquireRow.TheVariants.{A3, D4, Parked}
+use Rattle.step_table.specs.declared.place.ParkedRow.TheVariants.{P}
 
 -- the same of the machine: what comes after a row
 module _ (v : Variant) (m : CoreLayout) (i : ℕ) (s : SemaWorld) where
@@ -38,26 +49,48 @@ module _ (v : Variant) (m : CoreLayout) (i : ℕ) (s : SemaWorld) where
   Half c = IsHalfway v (counters_of m) i s c.semaphores
 
   starts_at : (c : Core) → Half c → IsOffCounters c i → (place : Place) (after : After) → Starts place → Half (at_counter c i place after)
-  starts_at c half rests place after starts = begins v (counters_of m) i s c.semaphores half rests place starts
+  starts_at c half rests place after starts = begins v (counters_of m) i s c.semaphores half rests at_rest place starts
 
   after_releases : (c : Core) → Half c → IsOffCounters c i → (g n : ℕ) → Half (releases m c i g n)
   after_releases c half rests g zero = half
   after_releases c half rests g (suc n) = starts_at c half rests _ (Releases g n) release
 
-  goes : (c : Core) → Half c → IsOffCounters c i → (after : After) → Half (goes_on m c i after)
-  goes c half rests NextCall = half
-  goes c half rests (LooksAgain g) = half
-  goes c half rests (Releases g n) = after_releases c half rests g n
+  late : (c : Core) → Half c → IsOffCounters c i → (d skips : ℕ) (late : Late) → Half (comes_late c i d skips late)
+  late c half rests d skips Kept = half
+  late c half rests d skips GivenBack = starts_at c half rests _ (Closes (GivesBack skips)) release
 
-  settles : (c : Core) → Half c → (after : After) (place : Place) → (c.semaphores.seats i).place ≡ place → Half (after_counter m c i after place)
-  settles c half after Rest here = goes c half here after
-  settles c half after (Acquiring a row) here = half
-  settles c half after (Releasing q row) here = half
-  settles c half after (ReleasingMany q row) here = half
+  ends : (c : Core) → Half c → IsOffCounters c i → (how : GivingUp) (before : Place) → Half (ends_given_up c i how before)
+  ends c half rests how (Acquiring a D4) = half
+  ends c half rests how before = late c half rests (counter_at before) how.skips how.late
 
-  settles_on_list : (c : Core) → Half c → (place : ListPlace) → Half (after_list c i place)
-  settles_on_list c half on_list.Rest = half
-  settles_on_list c half _ = half
+  goes : (c : Core) → Half c → IsOffCounters c i → (after : After) (before : Place) → Half (goes_on m c i after before)
+  goes c half rests (Closes NextCall) before = half
+  goes c half rests (Closes (MayGiveUp how)) before = half
+  goes c half rests (Closes (GaveUp how)) before = ends c half rests how before
+  goes c half rests (Closes (GivesBack skips)) before = half
+  goes c half rests (LooksAgain g) before = half
+  goes c half rests (Releases g n) before = after_releases c half rests g n
+
+  settles : (c : Core) → Half c → (after : After) (before place : Place) → (c.semaphores.seats i).place ≡ place
+      → Half (after_counter m c i after before place)
+  settles c half after before Rest here = goes c half here after before
+  settles c half (Closes (GaveUp how)) before (Acquiring a A3) here = begins v (counters_of m) i s c.semaphores half here at_lock Rest at_rest
+  settles c half after before place here = half
+
+  late_on_list : (c : Core) → Half c → (l skips : ℕ) (late : Late) → Half (comes_late_on_list c i l skips late)
+  late_on_list c half l skips Kept = half
+  late_on_list c half l skips GivenBack = half
+
+  closes_so : (c : Core) → Half c → (l : ℕ) (ending : Ending) (before : ListPlace) → Half (closes_on_list c i l ending before)
+  closes_so c half l NextCall before = half
+  closes_so c half l (MayGiveUp how) before = half
+  closes_so c half l (GaveUp how) (on_list.Waiting t E4) = half
+  closes_so c half l (GaveUp how) before = late_on_list c half l how.skips how.late
+  closes_so c half l (GivesBack skips) before = half
+
+  settles_on_list : (c : Core) → Half c → (l : ℕ) (ending : Ending) (before place : ListPlace) → Half (after_list c i l ending before place)
+  settles_on_list c half l ending before on_list.Rest = closes_so c half l ending before
+  settles_on_list c half l ending before _ = half
 
   settles_on_group : (c : Core) → Half c → IsOffCounters c i → (g : ℕ) (next : GroupNext) → Half (after_group m c i g next)
   settles_on_group c half rests g group.Ends = half
@@ -67,11 +100,13 @@ module _ (v : Variant) (m : CoreLayout) (i : ℕ) (s : SemaWorld) where
   settles_on_group c half rests g (group.Releases n) = after_releases c half rests g n
 
   called : (c : Core) → Half c → IsOffCounters c i → (call : Call) → Half (calls c i call)
-  called c half rests (Acquire d lifo) = starts_at c half rests _ NextCall acquires
-  called c half rests (Release d handoff) = starts_at c half rests _ NextCall release
-  called c half rests (ReleaseMany d n) = starts_at c half rests _ NextCall releases_many
+  called c half rests (Acquire d lifo) = starts_at c half rests _ (Closes NextCall) acquires
+  called c half rests (AcquireOrLeave d lifo how) = starts_at c half rests _ (Closes (MayGiveUp how)) acquires
+  called c half rests (Release d handoff) = starts_at c half rests _ (Closes NextCall) release
+  called c half rests (ReleaseMany d n) = starts_at c half rests _ (Closes NextCall) releases_many
   called c half rests (Add l) = half
   called c half rests (Wait l) = half
+  called c half rests (WaitOrLeave l how) = half
   called c half rests (One l) = half
   called c half rests (All l) = half
   called c half rests (GroupAdd g d) = half
@@ -84,6 +119,8 @@ module _ (v : Variant) (m : CoreLayout) (i : ℕ) (s : SemaWorld) where
   goes_on_so : (parts : Parts) (run : Run) → Half run.core → (standing : Standing) → IsStanding m run.core i standing
       → Half (continued parts run i standing).core
   goes_on_so parts run half doing.Rest is = next_begun run half is.0 (call_of parts i (run.begun i))
+  goes_on_so parts run half (doing.Left skips) is =
+      let next : Run = left_out parts run i skips in next_begun next half is.0 (call_of parts i (next.begun i))
   goes_on_so parts run half _ is = half
 
 -- a step by a changed table keeps the count
@@ -91,12 +128,36 @@ module _ (v : Variant) (m : CoreLayout) (s : Core) (i : ℕ) (in_range : i < m.s
     (waiters : WaitersRaisedIn v (counters_of m) s.semaphores) where
   row_halfway : (standing : Standing) → s.standing i ≡ standing → IsStanding m s i standing → IsTrue (can_run m s i standing)
       → IsHalfway v (counters_of m) i s.semaphores (row_of_standing m s i standing).semaphores
-  row_halfway (AtCounter after) at is can =
-      let t : Core = counter_row m s i in
-      settles v m i s.semaphores t (halfway v (counters_of m) i s.semaphores in_range inv.semaphores waiters can) after (t.semaphores.seats i).place refl
-  row_halfway (AtList l) at is can =
-      let t : Core = list_row s i l in
-      settles_on_list v m i s.semaphores t (not_yet v (counters_of m) i s.semaphores) ((t.lists l).seats i).place
+  row_halfway (AtCounter after) at is can = by (may_give_up s.semaphores i after) refl can
+    where
+      asleep : (p : Place) (b : Bool) → is_asleep p && b ≡ true → Starts p × Starts (leaving p)
+      asleep (Acquiring a (Parked u P)) b may = (parked, parked)
+      asleep p b may = absurd cc
+
+      gives : (after : After) → may_give_up s.semaphores i after ≡ true
+          → IsHalfway v (counters_of m) i s.semaphores (gives_up s i after).semaphores
+      gives (Closes (MayGiveUp how)) may =
+          let p = (s.semaphores.seats i).place in
+          let starts = asleep p _ may in
+          begins v (counters_of m) i s.semaphores s.semaphores (not_yet v (counters_of m) i s.semaphores) refl starts.0 (leaving p) starts.1
+      gives _ may = absurd cc
+
+      by : (b : Bool) → may_give_up s.semaphores i after ≡ b → IsTrue (b || can_turn m.root s.semaphores i)
+          → IsHalfway v (counters_of m) i s.semaphores (if b then gives_up s i after else on_counter_row m s i after).semaphores
+      by true may can = gives after may
+      by false may can =
+          let t : Core = counter_row m s i in
+          settles v m i s.semaphores t (halfway v (counters_of m) i s.semaphores in_range inv.semaphores waiters can) after
+          (s.semaphores.seats i).place (t.semaphores.seats i).place refl
+  row_halfway (AtList l ending) at is can = by (may_give_up_on_list (s.lists l) i ending)
+    where
+      by : (b : Bool)
+          → IsHalfway v (counters_of m) i s.semaphores (if b then gives_up_on_list s i l ending else on_list_row s i l ending).semaphores
+      by true = not_yet v (counters_of m) i s.semaphores
+      by false =
+          let t : Core = list_row s i l in
+          settles_on_list v m i s.semaphores t (not_yet v (counters_of m) i s.semaphores) l ending ((s.lists l).seats i).place
+          ((t.lists l).seats i).place
   row_halfway (AtGroup g row) at is can =
       let t : Core = record s { groups = put s.groups g (group_row row (s.groups g)).0 } in
       settles_on_group v m i s.semaphores t (not_yet v (counters_of m) i s.semaphores) is.0 g (group_row row (s.groups g)).1
@@ -111,7 +172,7 @@ module _ (v : Variant) (m : CoreLayout) (s : Core) (i : ℕ) (in_range : i < m.s
         led v (counters_of m) i s.semaphores in_range inv.semaphores waiters t.semaphores (moved t.semaphores i place) half refl
         (λ k ne. ap (λ (z : SeatState). z.place) (put_else t.semaphores.seats i seat k ne))
         (λ r. ap (λ (z : SeatState). raises_in v m.root r z.place) (put_here t.semaphores.seats i seat))
-    changed_raised (AtList l) is can = unled is.0
+    changed_raised (AtList l ending) is can = unled is.0
       where
         unled : IsOffCounters s i → WaitersRaisedIn v (counters_of m) t.semaphores
         unled rests =
@@ -156,11 +217,13 @@ seated m run i place after starts has = record {
 
 starts_now : (m : CoreLayout) (run : Run) (i : ℕ) (call : Call) → HasStarted m run
     → HasStarted m (record { core = calls run.core i call; begun = run.begun })
-starts_now m run i (Acquire d lifo) has = seated m run i _ NextCall acquires has
-starts_now m run i (Release d handoff) has = seated m run i _ NextCall release has
-starts_now m run i (ReleaseMany d n) has = seated m run i _ NextCall releases_many has
+starts_now m run i (Acquire d lifo) has = seated m run i _ (Closes NextCall) acquires has
+starts_now m run i (AcquireOrLeave d lifo how) has = seated m run i _ (Closes (MayGiveUp how)) acquires has
+starts_now m run i (Release d handoff) has = seated m run i _ (Closes NextCall) release has
+starts_now m run i (ReleaseMany d n) has = seated m run i _ (Closes NextCall) releases_many has
 starts_now m run i (Add l) has = record { words = has.words; seats = has.seats }
 starts_now m run i (Wait l) has = record { words = has.words; seats = has.seats }
+starts_now m run i (WaitOrLeave l how) has = record { words = has.words; seats = has.seats }
 starts_now m run i (One l) has = record { words = has.words; seats = has.seats }
 starts_now m run i (All l) has = record { words = has.words; seats = has.seats }
 starts_now m run i (GroupAdd g d) has = record { words = has.words; seats = has.seats }

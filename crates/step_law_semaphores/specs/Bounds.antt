@@ -3,7 +3,7 @@ use Rattle.std.specs.Prelude.{◌≡◌, ℕ, ◌+◌, ◌^◌, ◌<◌, ◌≤�
 use Rattle.step_table.specs.declared.place.Place.TheVariants.{Rest}
 use Rattle.step_table.specs.World.{Layout, SemaWorld}
 use Rattle.step_table.specs.Counting.{total}
-use Rattle.step_law_semaphores.specs.Balances.{added_by}
+use Rattle.step_law_semaphores.specs.Balances.{added_by, withdrawn_by}
 
 -- each seat is at rest
 abbrev pub AllRest : Layout → SemaWorld → Type 0
@@ -17,11 +17,12 @@ pub record IsCleared (m : Layout) (s : SemaWorld) : Type 0 where
   pub grants : (k : ℕ) → k < m.seats → s.words.grants k ≡ 0
   pub hands : (k : ℕ) → k < m.seats → (s.seats k).hand ≡ []
 
--- there are at most 256 seats, starts are below 2^32, and each seat has added at most 2^40 units
+-- there are at most 256 seats, starts are below 2^32, and the units that each seat has added and the waits that
+-- it has withdrawn are together at most 2^40
 pub record IsSmall (m : Layout) (s : SemaWorld) : Type 0 where
   pub seats : m.seats ≤ 256
   pub starts : (c : ℕ) → m.starts c < 2 ^ 32
-  pub few : (k : ℕ) → k < m.seats → added_by k s.journal ≤ 2 ^ 40
+  pub few : (k : ℕ) → k < m.seats → added_by k s.journal + withdrawn_by k s.journal ≤ 2 ^ 40
 
 -- all numbers and turns are far below 2^63, and so are all turns together
 pub record IsUnwrapped (m : Layout) (s : SemaWorld) : Type 0 where

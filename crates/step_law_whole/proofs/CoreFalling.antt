@@ -6,36 +6,43 @@ use Rattle.std.proofs.Math.Nat.{mul-le-mul_right}
 use Rattle.step_table.specs.declared.group_word.GroupWord.{GroupWord}
 use Rattle.step_table.specs.declared.list_place.ListPlace.{ListPlace}
 use Rattle.step_table.specs.declared.list_place.ListPlace.TheVariants as on_list
+use Rattle.step_table.specs.declared.list_place.ListParkedRow.TheVariants as parked
+use Rattle.step_table.specs.declared.list_place.WaitRow.TheVariants as wait_row
 use Rattle.step_table.specs.declared.place.Place.{Place}
 use Rattle.step_table.specs.declared.place.Place.TheVariants as on_counter
 use Rattle.step_table.specs.declared.place.Place.TheVariants.{Acquiring}
-use Rattle.step_table.specs.declared.place.AcquireRow.TheVariants.{A1}
+use Rattle.step_table.specs.declared.place.AcquireRow.TheVariants.{A1, A3, Parked}
 use Rattle.step_table.specs.declared.standing.After.{After}
-use Rattle.step_table.specs.declared.standing.After.TheVariants.{LooksAgain}
+use Rattle.step_table.specs.declared.standing.After.TheVariants.{Closes, LooksAgain}
+use Rattle.step_table.specs.declared.standing.Ending.{Ending}
+use Rattle.step_table.specs.declared.standing.Ending.TheVariants.{MayGiveUp, GaveUp}
 use Rattle.step_table.specs.declared.standing.GroupNext.{GroupNext}
 use Rattle.step_table.specs.declared.standing.GroupNext.TheVariants as group
 use Rattle.step_table.specs.declared.standing.GroupRow.{GroupRow}
 use Rattle.step_table.specs.declared.standing.GroupRow.TheVariants.{G1, G2, G3, V1, V2, V3}
 use Rattle.step_table.specs.declared.standing.Standing.{Standing}
-use Rattle.step_table.specs.declared.standing.Standing.TheVariants.{Rest, AtCounter, AtList, AtGroup, Failed}
+use Rattle.step_table.specs.declared.standing.Standing.TheVariants.{Rest, AtCounter, AtList, AtGroup, Failed, Left}
 use Rattle.step_table.specs.World.{put}
-use Rattle.step_table.specs.Steps.{can_turn, turned}
+use Rattle.step_table.specs.Steps.{can_turn, turned, moved}
 use Rattle.step_table.specs.Counting.{total}
 use Rattle.step_table.specs.ListSteps as list
 use Rattle.step_table.specs.Group.{empty_word, same_word, plus, one_more, after_add, group_row}
 use Rattle.step_table.specs.Core.{CoreLayout, semaphore, counters_of, Core}
 use Rattle.step_table.specs.CoreSteps.{after_counter, after_list, after_group, counter_row, list_row, row_of_standing, core_turned, can_run}
+use Rattle.step_table.specs.CoreSteps.{may_give_up, gives_up, on_counter_row, is_asleep, leaving}
+use Rattle.step_table.specs.CoreSteps.{may_give_up_on_list, gives_up_on_list, on_list_row, is_asleep_on_list, leaving_list}
 use Rattle.step_table.proofs.Sums.{put_same, on_most}
 use Rattle.step_table.proofs.SumsOfSums.{total_add}
 use Rattle.step_table.proofs.GroupBits.{same_itself}
-use Rattle.step_law_whole.specs.CoreLaw.{IsStanding, IsCoreInvariant}
+use Rattle.step_law_whole.specs.CoreLaw.{IsStanding, IsCoreInvariant, AllInReach}
 use Rattle.step_law_lists.proofs.ListKeeping.{list_reached}
-use Rattle.step_law_whole.specs.ListWeight.{list_weight}
+use Rattle.step_law_whole.specs.ListWeight.{list_weight, list_place_weight}
 use Rattle.step_law_whole.specs.CoreWeight.{releases_weight, group_weight, standing_weight, stale_word, core_weight, counts_on, WaitsCounted}
 use Rattle.step_law_whole.proofs.SeatSums.{all_but, put_change}
 use Rattle.step_law_whole.proofs.SemaWeights as semaphores
 use Rattle.step_law_whole.proofs.ListWeights as lists
-use Rattle.step_law_whole.proofs.CoreWeights.{stands_at, stands_weight, on_counters, at_counter_weight, releases_weigh, goes_on_weight}
+use Rattle.step_law_whole.proofs.CoreWeights.{stands_at, stands_weight, on_counters, at_counter_weight, releases_weigh, goes_on_weight, moved_weight, on_list, closes_weight}
+use Rattle.step_table.specs.declared.place.ParkedRow.TheVariants.{P}
 
 -- what a seat that a row of a group leads there weighs, while the groups' words are these
 abbrev lands : ℕ → ℕ → (ℕ → GroupWord) → GroupNext → ℕ
@@ -116,7 +123,7 @@ module _ (m : CoreLayout) (i : ℕ) (in_range : i < m.seats) where
       let none = ap (on_counters m i in_range s.semaphores) rests in omega arith
   led s g (group.Releases count) rests = releases_weigh m i in_range s g count rests
 
-  module _ (s : Core) (inv : IsCoreInvariant m s) (small : m.seats ≤ 9223372036854775808) (counted : WaitsCounted m s) where
+  module _ (s : Core) (inv : IsCoreInvariant m s) (reach : AllInReach s) (counted : WaitsCounted m s) where
     -- what all seats weigh beside what they weigh on counters and lists, and what is stale of it
     abbrev plain : ℕ
     plain = total m.seats (λ k. standing_weight m.seats (s.standing k))
@@ -147,8 +154,8 @@ module _ (m : CoreLayout) (i : ℕ) (in_range : i < m.seats) where
 
     -- a row on a counter
     counter_turned : (after : After) → s.standing i ≡ AtCounter after → IsTrue (can_turn m.root s.semaphores i)
-        → let t : Core = counter_row m s i in core_weight m (after_counter m t i after (t.semaphores.seats i).place) < core_weight m s
-    counter_turned after at can = by (t.semaphores.seats i).place refl
+        → core_weight m (on_counter_row m s i after) < core_weight m s
+    counter_turned after at can = by after at (s.semaphores.seats i).place (t.semaphores.seats i).place refl
       where
         t : Core
         t = counter_row m s i
@@ -158,16 +165,35 @@ module _ (m : CoreLayout) (i : ℕ) (in_range : i < m.seats) where
             let falls = semaphores.lowered (counters_of m) s.semaphores (turned m.root s.semaphores i) i in_range inv.semaphores
             (record { can = can; is = refl }) in omega arith
 
-        by : (p : Place) → (t.semaphores.seats i).place ≡ p → core_weight m (after_counter m t i after p) < core_weight m s
-        by on_counter.Rest here = let same = goes_on_weight m i in_range t after at here in let l = less in omega arith
-        by (on_counter.Acquiring a row) here = less
-        by (on_counter.Releasing r row) here = less
-        by (on_counter.ReleasingMany r row) here = less
+        by : (after : After) → s.standing i ≡ AtCounter after → (before p : Place) → (t.semaphores.seats i).place ≡ p
+            → core_weight m (after_counter m t i after before p) < core_weight m s
+        by after at before on_counter.Rest here = let same = goes_on_weight m i in_range t after before at here in let l = less in omega arith
+        by (Closes (GaveUp how)) at before (on_counter.Acquiring a A3) here =
+            let moves = moved_weight m i in_range t on_counter.Rest in
+            let all = stands_weight m i in_range (record t { semaphores = moved t.semaphores i on_counter.Rest }) (Left how.skips) in
+            let l = less in omega arith
+        by after at before p here = less
+
+    -- the seat gives up
+    given_up_weighs : (after : After) → s.standing i ≡ AtCounter after → may_give_up s.semaphores i after ≡ true
+        → core_weight m (gives_up s i after) < core_weight m s
+    given_up_weighs (Closes (MayGiveUp how)) at may =
+        let p = (s.semaphores.seats i).place in
+        let moves = moved_weight m i in_range s (leaving p) in
+        let all = stands_weight m i in_range (record s { semaphores = moved s.semaphores i (leaving p) }) (AtCounter (Closes (GaveUp how))) in
+        let before = ap (stands_at m i in_range s.groups) at in
+        let more = leaves_more p _ may in omega arith
+      where
+        leaves_more : (p : Place) (b : Bool) → is_asleep p && b ≡ true
+            → on_counters m i in_range s.semaphores (leaving p) ≡ on_counters m i in_range s.semaphores p + 2
+        leaves_more (on_counter.Acquiring a (Parked t P)) b may = omega arith
+        leaves_more p b may = absurd cc
+    given_up_weighs _ at may = absurd cc
 
     -- a row on a list
-    list_turned : (l : ℕ) → s.standing i ≡ AtList l → l < m.lists → IsTrue (list.can_turn (s.lists l) i)
-        → let t : Core = list_row s i l in core_weight m (after_list t i ((t.lists l).seats i).place) < core_weight m s
-    list_turned l at there can = by ((t.lists l).seats i).place
+    list_turned : (l : ℕ) (ending : Ending) → s.standing i ≡ AtList l ending → l < m.lists → IsTrue (list.can_turn (s.lists l) i)
+        → core_weight m (on_list_row s i l ending) < core_weight m s
+    list_turned l ending at there can = by ((s.lists l).seats i).place ((t.lists l).seats i).place refl
       where
         t : Core
         t = list_row s i l
@@ -175,18 +201,42 @@ module _ (m : CoreLayout) (i : ℕ) (in_range : i < m.seats) where
         less : core_weight m t < core_weight m s
         less =
             let falls = lists.lowered (m.firsts l) m.seats (s.lists l) (list.turned (s.lists l) i) i in_range
-            (list_reached (m.firsts l) m.seats (s.lists l) small (inv.lists l)) (record { can = can; is = refl }) in
+            (list_reached (m.firsts l) m.seats (s.lists l) (reach l) (inv.lists l)) (record { can = can; is = refl }) in
             let all = put_change m.lists (list_weight m.seats) s.lists l (list.turned (s.lists l) i) there in omega arith
 
-        by : (p : ListPlace) → core_weight m (after_list t i p) < core_weight m s
-        by on_list.Rest =
-            let all = stands_weight m i in_range t Rest in let before = ap (stands_at m i in_range t.groups) at in let l = less in omega arith
-        by p = less
+        by : (before p : ListPlace) → ((t.lists l).seats i).place ≡ p → core_weight m (after_list t i l ending before p) < core_weight m s
+        by before on_list.Rest here = let same = closes_weight m i in_range t l ending before at here in let falls = less in omega arith
+        by before p here = less
+
+    -- the seat gives up
+    given_up_on_list : (l : ℕ) (ending : Ending) → s.standing i ≡ AtList l ending → may_give_up_on_list (s.lists l) i ending ≡ true
+        → core_weight m (gives_up_on_list s i l ending) < core_weight m s
+    given_up_on_list l (MayGiveUp how) at may =
+        let p : ListPlace = ((s.lists l).seats i).place in
+        let more = leaves_more p ((s.lists l).words.grants i) _ may in
+        let all = on_list m i in_range s l (GaveUp how) (record ((s.lists l).seats i) { place = leaving_list p }) 2 (omega arith) in
+        let before = ap (stands_at m i in_range s.groups) at in omega arith
+      where
+        leaves_more : (p : ListPlace) (grant : ℕ) (b : Bool) → is_asleep_on_list p && b ≡ true
+            → list_place_weight (leaving_list p) grant ≡ list_place_weight p grant + 2
+        leaves_more (on_list.Waiting t (wait_row.Parked parked.P)) grant b may = omega arith
+        leaves_more p grant b may = absurd cc
+    given_up_on_list l _ at may = absurd cc
 
     row_lowers : (standing : Standing) → s.standing i ≡ standing → IsStanding m s i standing → IsTrue (can_run m s i standing)
         → core_weight m (row_of_standing m s i standing) < core_weight m s
-    row_lowers (AtCounter after) at is can = counter_turned after at can
-    row_lowers (AtList l) at is can = list_turned l at is.2 can
+    row_lowers (AtCounter after) at is can = by (may_give_up s.semaphores i after) refl can
+      where
+        by : (b : Bool) → may_give_up s.semaphores i after ≡ b → IsTrue (b || can_turn m.root s.semaphores i)
+            → core_weight m (if b then gives_up s i after else on_counter_row m s i after) < core_weight m s
+        by true may can = given_up_weighs after at may
+        by false may can = counter_turned after at can
+    row_lowers (AtList l ending) at is can = by (may_give_up_on_list (s.lists l) i ending) refl can
+      where
+        by : (b : Bool) → may_give_up_on_list (s.lists l) i ending ≡ b → IsTrue (b || list.can_turn (s.lists l) i)
+            → core_weight m (if b then gives_up_on_list s i l ending else on_list_row s i l ending) < core_weight m s
+        by true may can = given_up_on_list l ending at may
+        by false may can = list_turned l ending at is.2 can
     row_lowers (AtGroup g row) at is can =
         let all = all_but m.seats 1 (λ k. counts_on g (s.standing k)) i in_range (λ k h. counts_one g (s.standing k)) in
         let own = ap (counts_on g) at in
@@ -195,6 +245,6 @@ module _ (m : CoreLayout) (i : ℕ) (in_range : i < m.seats) where
         (group_falls m.seats g s.groups (omega arith) row (omega arith))
     row_lowers _ at is can = absurd cc
 
-pub core_lowered : (m : CoreLayout) (s : Core) (i : ℕ) → i < m.seats → m.seats ≤ 9223372036854775808 → IsCoreInvariant m s → WaitsCounted m s
+pub core_lowered : (m : CoreLayout) (s : Core) (i : ℕ) → i < m.seats → AllInReach s → IsCoreInvariant m s → WaitsCounted m s
     → IsTrue (can_run m s i (s.standing i)) → core_weight m (core_turned m s i) < core_weight m s
-core_lowered m s i in_range small inv counted can = row_lowers m i in_range s inv small counted (s.standing i) refl (inv.standing i) can
+core_lowered m s i in_range reach inv counted can = row_lowers m i in_range s inv reach counted (s.standing i) refl (inv.standing i) can

@@ -1,34 +1,44 @@
 -- The weight of the whole where one seat goes elsewhere, and where it begins a call.
 use Rattle.std.proofs.Common.{◌≡◌, ℕ, zero, suc, ◌+◌, ◌*◌, ◌<◌, ◌≤◌, false, length, refl, ap, suc-mul, arith}
 use Rattle.step_table.specs.declared.call.Call.{Call}
-use Rattle.step_table.specs.declared.call.Call.TheVariants.{Acquire, Release, ReleaseMany, Add, Wait, One, All, GroupAdd, GroupWait}
+use Rattle.step_table.specs.declared.call.Late.{Late}
+use Rattle.step_table.specs.declared.call.GivingUp.{GivingUp}
+use Rattle.step_table.specs.declared.call.Call.TheVariants.{Acquire, Release, ReleaseMany, Add, Wait, One, All, GroupAdd, GroupWait, AcquireOrLeave, WaitOrLeave}
 use Rattle.step_table.specs.declared.group_word.GroupWord.{GroupWord}
 use Rattle.step_table.specs.declared.list_place.AllRow.TheVariants.{L1}
-use Rattle.step_table.specs.declared.list_place.ListPlace.TheVariants.{Adding, NotifyingOne, NotifyingAll}
+use Rattle.step_table.specs.declared.list_place.ListPlace.{ListPlace}
+use Rattle.step_table.specs.declared.list_place.ListPlace.TheVariants.{Adding, Waiting, NotifyingOne, NotifyingAll}
+use Rattle.step_table.specs.declared.list_place.ListPlace.TheVariants as on_list_place
+use Rattle.step_table.specs.declared.list_place.WaitRow.TheVariants.{E4}
 use Rattle.step_table.specs.declared.list_place.OneRow.TheVariants.{O1}
 use Rattle.step_table.specs.declared.place.Place.{Place}
 use Rattle.step_table.specs.declared.place.Place.TheVariants as on_counter
 use Rattle.step_table.specs.declared.place.Place.TheVariants.{Acquiring, Releasing, ReleasingMany}
-use Rattle.step_table.specs.declared.place.AcquireRow.TheVariants.{A1}
+use Rattle.step_table.specs.declared.place.AcquireRow.TheVariants.{A1, D4}
 use Rattle.step_table.specs.declared.place.ReleaseRow.TheVariants.{R1}
 use Rattle.step_table.specs.declared.place.ManyRow.TheVariants.{M1}
 use Rattle.step_table.specs.declared.standing.After.{After}
-use Rattle.step_table.specs.declared.standing.After.TheVariants.{NextCall, LooksAgain, Releases}
+use Rattle.step_table.specs.declared.standing.After.TheVariants.{Closes, LooksAgain, Releases}
+use Rattle.step_table.specs.declared.standing.Ending.{Ending}
+use Rattle.step_table.specs.declared.standing.Ending.TheVariants.{NextCall, MayGiveUp, GaveUp, GivesBack}
 use Rattle.step_table.specs.declared.standing.GroupRow.TheVariants.{G1, V1, V3}
 use Rattle.step_table.specs.declared.standing.Standing.{Standing}
-use Rattle.step_table.specs.declared.standing.Standing.TheVariants.{Rest, AtCounter, AtList, AtGroup}
+use Rattle.step_table.specs.declared.standing.Standing.TheVariants.{Rest, AtCounter, AtList, AtGroup, Left}
 use Rattle.step_table.specs.World.{SemaWorld, put}
 use Rattle.step_table.specs.ListWorld.{ListSeat, ListWorld}
 use Rattle.step_table.specs.ListSteps.{with_ticket}
 use Rattle.step_table.specs.Core.{CoreLayout, semaphore, Core}
-use Rattle.step_table.specs.CoreSteps.{stands, at_counter, releases, goes_on, calls}
+use Rattle.step_table.specs.CoreSteps.{stands, at_counter, releases, goes_on, calls, comes_late, ends_given_up, comes_late_on_list, closes_on_list}
+use Rattle.step_table.specs.Counting.{counter_at}
+use Rattle.step_table.specs.Steps.{moved}
 use Rattle.step_table.proofs.Sums.{owned}
 use Rattle.step_law_whole.specs.SemaWeight.{place_weight, stale}
 use Rattle.step_law_whole.specs.ListWeight.{list_weight}
-use Rattle.step_law_whole.specs.CoreWeight.{releases_weight, after_weight, standing_weight, stale_word, core_weight, call_cost}
+use Rattle.step_law_whole.specs.CoreWeight.{releases_weight, after_weight, standing_weight, stale_word, core_weight, call_cost, late_weight, ending_on_list_weight, late_on_list_weight}
 use Rattle.step_law_whole.proofs.SeatSums.{put_change, put_most}
 use Rattle.step_law_whole.proofs.SemaWeights.{handing_cost}
 use Rattle.step_law_whole.proofs.ListWeights.{list_weighs, with_its}
+use Rattle.step_table.specs.declared.call.Late.TheVariants.{Kept, GivenBack}
 
 module _ (m : CoreLayout) (i : ℕ) (in_range : i < m.seats) where
   -- what a seat that does this weighs while the groups' words are these
@@ -60,42 +70,91 @@ module _ (m : CoreLayout) (i : ℕ) (in_range : i < m.seats) where
       let none = ap (on_counters s.semaphores) rests in
       let one_more : suc more * (2 * m.seats + 11) ≡ more * (2 * m.seats + 11) + (2 * m.seats + 11) = suc-mul more (2 * m.seats + 11) in omega arith
 
+  -- a choice on counters, which seat i makes
+  pub moved_weight : (s : Core) (place : Place)
+      → core_weight m (record s { semaphores = moved s.semaphores i place }) + on_counters s.semaphores (s.semaphores.seats i).place
+      ≡ core_weight m s + on_counters s.semaphores place
+  moved_weight s place =
+      let t : SemaWorld = s.semaphores in
+      let seats = owned (λ k seat grant. place_weight m.seats seat.place (length seat.hand) grant + stale t.words.numbers seat.place) m.seats t.seats
+      t.words.grants t.words.grants i (record (t.seats i) { place = place }) in_range (λ k ne. refl) in omega arith
+
+  -- a unit that comes late was weighed before, if it is given back
+  late_weighs : (s : Core) (c skips : ℕ) (late : Late) → stands_at s.groups (s.standing i) ≡ late_weight m.seats late
+      → (s.semaphores.seats i).place ≡ on_counter.Rest → core_weight m (comes_late s i c skips late) ≤ core_weight m s
+  late_weighs s c skips Kept before rests = let all = stands_weight s Rest in omega arith
+  late_weighs s c skips GivenBack before rests =
+      let all = at_counter_weight s (Releasing (record { counter = c; handoff = false }) R1) (Closes (GivesBack skips)) in
+      let none = ap (on_counters s.semaphores) rests in omega arith
+
+  ends_weight : (s : Core) (how : GivingUp) (before : Place) → s.standing i ≡ AtCounter (Closes (GaveUp how))
+      → (s.semaphores.seats i).place ≡ on_counter.Rest → core_weight m (ends_given_up s i how before) ≤ core_weight m s
+  ends_weight s how (Acquiring a D4) at rests = let all = stands_weight s (Left how.skips) in omega arith
+  ends_weight s how before at rests =
+      late_weighs s (counter_at before) how.skips how.late (let weighed = ap (stands_at s.groups) at in omega arith) rests
+
   -- what comes after a call on a counter was weighed before
-  pub goes_on_weight : (s : Core) (after : After) → s.standing i ≡ AtCounter after → (s.semaphores.seats i).place ≡ on_counter.Rest
-      → core_weight m (goes_on m s i after) ≡ core_weight m s
-  goes_on_weight s NextCall at rests =
+  pub goes_on_weight : (s : Core) (after : After) (before : Place) → s.standing i ≡ AtCounter after
+      → (s.semaphores.seats i).place ≡ on_counter.Rest → core_weight m (goes_on m s i after before) ≤ core_weight m s
+  goes_on_weight s (Closes (MayGiveUp how)) p at rests = let all = stands_weight s Rest in omega arith
+  goes_on_weight s (Closes (GaveUp how)) p at rests = ends_weight s how p at rests
+  goes_on_weight s (Closes (GivesBack skips)) p at rests = let all = stands_weight s (Left skips) in omega arith
+  goes_on_weight s (Closes NextCall) p at rests =
       let all = stands_weight s Rest in let before = ap (stands_at s.groups) at in omega arith
-  goes_on_weight s (LooksAgain g) at rests =
+  goes_on_weight s (LooksAgain g) p at rests =
       let all = stands_weight s (AtGroup g V3) in let before = ap (stands_at s.groups) at in omega arith
-  goes_on_weight s (Releases g more) at rests =
+  goes_on_weight s (Releases g more) p at rests =
       let all = releases_weigh s g more rests in let before = ap (stands_at s.groups) at in omega arith
 
-  -- a call on the list l
-  on_list : (s : Core) (l : ℕ) (seat : ListSeat) (cost : ℕ)
+  -- a call on the list l, at a rest or in another call on it
+  pub on_list : (s : Core) (l : ℕ) (ending : Ending) (seat : ListSeat) (cost : ℕ)
       → list_weighs seat ((s.lists l).words.grants i) ≤ list_weighs ((s.lists l).seats i) ((s.lists l).words.grants i) + cost
       → let t : ListWorld = record (s.lists l) { seats = put (s.lists l).seats i seat } in
-      core_weight m (stands (record s { lists = put s.lists l t }) i (AtList l)) ≤ core_weight m s + cost
-  on_list s l seat cost most =
+      core_weight m (stands (record s { lists = put s.lists l t }) i (AtList l ending)) + stands_at s.groups (s.standing i)
+      ≤ core_weight m s + cost + ending_on_list_weight ending
+  on_list s l ending seat cost most =
       let w : ListWorld = s.lists l in
       let t : ListWorld = record w { seats = put w.seats i seat } in
       let one = owned (λ k seat grant. list_weighs seat grant) m.seats w.seats w.words.grants w.words.grants i seat in_range (λ k ne. refl) in
       let lists = put_most m.lists (list_weight m.seats) s.lists l t cost (omega arith) in
-      let all = stands_weight (record s { lists = put s.lists l t }) (AtList l) in omega arith
+      let all = stands_weight (record s { lists = put s.lists l t }) (AtList l ending) in omega arith
+
+  -- a grant that comes late was weighed before, if it is given back
+  late_on_list_weighs : (s : Core) (l skips : ℕ) (late : Late) → stands_at s.groups (s.standing i) ≡ late_on_list_weight late
+      → ((s.lists l).seats i).place ≡ on_list_place.Rest → core_weight m (comes_late_on_list s i l skips late) ≤ core_weight m s
+  late_on_list_weighs s l skips Kept before rests = let all = stands_weight s Rest in omega arith
+  late_on_list_weighs s l skips GivenBack before rests =
+      let all = on_list s l (GivesBack skips) (record ((s.lists l).seats i) { place = NotifyingOne 0 O1 }) 7 (omega arith) in omega arith
+
+  -- what comes after a call on a list was weighed before
+  pub closes_weight : (s : Core) (l : ℕ) (ending : Ending) (before : ListPlace) → s.standing i ≡ AtList l ending
+      → ((s.lists l).seats i).place ≡ on_list_place.Rest → core_weight m (closes_on_list s i l ending before) ≤ core_weight m s
+  closes_weight s l NextCall p at rests = let all = stands_weight s Rest in let before = ap (stands_at s.groups) at in omega arith
+  closes_weight s l (MayGiveUp how) p at rests = let all = stands_weight s Rest in omega arith
+  closes_weight s l (GaveUp how) (Waiting t E4) at rests = let all = stands_weight s (Left how.skips) in omega arith
+  closes_weight s l (GaveUp how) p at rests =
+      late_on_list_weighs s l how.skips how.late (let weighed = ap (stands_at s.groups) at in omega arith) rests
+  closes_weight s l (GivesBack skips) p at rests = let all = stands_weight s (Left skips) in omega arith
 
   -- a call raises the weight by its cost at most
   pub calls_raise : (s : Core) (call : Call) → core_weight m (calls s i call) ≤ core_weight m s + call_cost m.seats call
   calls_raise s (Acquire c lifo) =
-      let all = at_counter_weight s (Acquiring (record { counter = c; lifo = lifo }) A1) NextCall in omega arith
+      let all = at_counter_weight s (Acquiring (record { counter = c; lifo = lifo }) A1) (Closes NextCall) in omega arith
+  calls_raise s (AcquireOrLeave c lifo how) =
+      let all = at_counter_weight s (Acquiring (record { counter = c; lifo = lifo }) A1) (Closes (MayGiveUp how)) in omega arith
   calls_raise s (Release c handoff) =
-      let all = at_counter_weight s (Releasing (record { counter = c; handoff = handoff }) R1) NextCall in
+      let all = at_counter_weight s (Releasing (record { counter = c; handoff = handoff }) R1) (Closes NextCall) in
       let same = handing_cost m.seats handoff (omega arith) in omega arith
   calls_raise s (ReleaseMany c n) =
-      let all = at_counter_weight s (ReleasingMany (record { counter = c; units = n }) M1) NextCall in omega arith
-  calls_raise s (Add l) = on_list s l (record ((s.lists l).seats i) { place = Adding }) 1 (omega arith)
+      let all = at_counter_weight s (ReleasingMany (record { counter = c; units = n }) M1) (Closes NextCall) in omega arith
+  calls_raise s (Add l) = let all = on_list s l NextCall (record ((s.lists l).seats i) { place = Adding }) 1 (omega arith) in omega arith
   calls_raise s (Wait l) =
-      on_list s l (with_ticket ((s.lists l).seats i) ((s.lists l).seats i).ticket) 5
-      (with_its ((s.lists l).seats i) ((s.lists l).seats i).ticket ((s.lists l).words.grants i))
-  calls_raise s (One l) = on_list s l (record ((s.lists l).seats i) { place = NotifyingOne 0 O1 }) 7 (omega arith)
-  calls_raise s (All l) = on_list s l (record ((s.lists l).seats i) { place = NotifyingAll 0 L1 }) 7 (omega arith)
+      let all = on_list s l NextCall (with_ticket ((s.lists l).seats i) ((s.lists l).seats i).ticket) 5
+      (with_its ((s.lists l).seats i) ((s.lists l).seats i).ticket ((s.lists l).words.grants i)) in omega arith
+  calls_raise s (WaitOrLeave l how) =
+      let all = on_list s l (MayGiveUp how) (with_ticket ((s.lists l).seats i) ((s.lists l).seats i).ticket) 5
+      (with_its ((s.lists l).seats i) ((s.lists l).seats i).ticket ((s.lists l).words.grants i)) in omega arith
+  calls_raise s (One l) = let all = on_list s l NextCall (record ((s.lists l).seats i) { place = NotifyingOne 0 O1 }) 7 (omega arith) in omega arith
+  calls_raise s (All l) = let all = on_list s l NextCall (record ((s.lists l).seats i) { place = NotifyingAll 0 L1 }) 7 (omega arith) in omega arith
   calls_raise s (GroupAdd g d) = let all = stands_weight s (AtGroup g (G1 d)) in omega arith
   calls_raise s (GroupWait g) = let all = stands_weight s (AtGroup g V1) in omega arith

@@ -1,5 +1,6 @@
 pub mod CoreJournals
 pub mod CoreRows
+pub mod ListLeads
 pub mod CoreStanding
 pub mod CoreCalling
 pub mod CoreKeeping
@@ -9,6 +10,7 @@ pub mod RunUnits
 pub mod RunTickets
 pub mod RunGroups
 pub mod RunRows
+pub mod ListReach
 pub mod RunCalls
 pub mod RunBeginning
 pub mod RunStarting

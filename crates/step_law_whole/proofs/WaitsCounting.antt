@@ -4,30 +4,39 @@ use Rattle.std.proofs.Common.{pos, refl, sym, ap, subst, inl, inr, arith}
 use native.Mathlib.Decide.{ℕ_discrete}
 use Rattle.std.specs.Int.{int_wrapping_add, w32}
 use Rattle.step_table.specs.declared.call.Call.{Call}
-use Rattle.step_table.specs.declared.call.Call.TheVariants.{Acquire, Release, ReleaseMany, Add, Wait, One, All, GroupAdd, GroupWait}
+use Rattle.step_table.specs.declared.call.Late.{Late}
+use Rattle.step_table.specs.declared.call.GivingUp.{GivingUp}
+use Rattle.step_table.specs.declared.call.Call.TheVariants.{Acquire, Release, ReleaseMany, Add, Wait, One, All, GroupAdd, GroupWait, AcquireOrLeave, WaitOrLeave}
 use Rattle.step_table.specs.declared.group_word.GroupWord.{GroupWord}
 use Rattle.step_table.specs.declared.misuse.Misuse.TheVariants.{Reused}
 use Rattle.step_table.specs.declared.list_place.ListPlace.{ListPlace}
 use Rattle.step_table.specs.declared.list_place.ListPlace.TheVariants as on_list
+use Rattle.step_table.specs.declared.list_place.WaitRow.TheVariants.{E4}
 use Rattle.step_table.specs.declared.place.Place.{Place}
 use Rattle.step_table.specs.declared.place.Place.TheVariants as on_counter
 use Rattle.step_table.specs.declared.standing.After.{After}
-use Rattle.step_table.specs.declared.standing.After.TheVariants.{NextCall, LooksAgain, Releases}
+use Rattle.step_table.specs.declared.standing.After.TheVariants.{Closes, LooksAgain, Releases}
+use Rattle.step_table.specs.declared.standing.Ending.{Ending}
+use Rattle.step_table.specs.declared.standing.Ending.TheVariants.{NextCall, MayGiveUp, GaveUp, GivesBack}
 use Rattle.step_table.specs.declared.standing.GroupNext.{GroupNext}
 use Rattle.step_table.specs.declared.standing.GroupNext.TheVariants as group
 use Rattle.step_table.specs.declared.standing.GroupRow.{GroupRow}
 use Rattle.step_table.specs.declared.standing.GroupRow.TheVariants.{G1, G2, G3, V1, V2, V3}
 use Rattle.step_table.specs.declared.standing.Standing.{Standing}
-use Rattle.step_table.specs.declared.standing.Standing.TheVariants.{Rest, AtCounter, AtList, AtGroup, Failed}
+use Rattle.step_table.specs.declared.standing.Standing.TheVariants.{Rest, AtCounter, AtList, AtGroup, Failed, Left}
 use Rattle.step_table.specs.World.{put}
-use Rattle.step_table.specs.Counting.{on, total}
+use Rattle.step_table.specs.Counting.{on, total, counter_at}
 use Rattle.step_table.specs.Group.{empty_word, same_word, one_more, group_row}
 use Rattle.step_table.specs.Core.{CoreLayout, Core, first_core}
 use Rattle.step_table.specs.CoreSteps.{calls, goes_on, after_counter, after_list, after_group, counter_row, list_row, row_of_standing, core_turned}
+use Rattle.step_table.specs.CoreSteps.{comes_late_on_list, closes_on_list, may_give_up_on_list, gives_up_on_list, on_list_row}
+use Rattle.step_table.specs.CoreSteps.{comes_late, ends_given_up, may_give_up, gives_up, given_up, given_up_after, on_counter_row, stands}
 use Rattle.step_table.proofs.Sums.{put_here, put_else, on_here, on_else}
 use Rattle.step_table.proofs.GroupBits.{same_is}
 use Rattle.step_law_whole.specs.CoreWeight.{counts_on, WaitsCounted}
 use Rattle.step_law_whole.proofs.SeatSums.{put_change}
+use Rattle.step_table.specs.declared.call.Late.TheVariants.{Kept, GivenBack}
+use Rattle.step_table.specs.declared.place.AcquireRow.TheVariants.{A3, D4}
 
 -- a seat goes from the one standing to the other, and a word of the group g that counted so many waits counts so many now: none,
 -- or one more only for that seat
@@ -102,23 +111,56 @@ module _ (m : CoreLayout) (i : ℕ) (in_range : i < m.seats) where
       → (g : ℕ) → (s.groups g).waits ≤ total m.seats (λ k. counts_on g (put s.standing i after k))
   stays s after counted most = goes s s.groups after counted (λ g. inr (let x = most g in omega arith))
 
-  goes_on_counted : (s : Core) (after : After) → s.standing i ≡ AtCounter after → WaitsCounted m s → WaitsCounted m (goes_on m s i after)
-  goes_on_counted s NextCall at counted = stays s Rest counted (λ g. let none = ap (counts_on g) at in omega arith)
-  goes_on_counted s (LooksAgain h) at counted = stays s (AtGroup h V3) counted (λ g. let same = ap (counts_on g) at in omega arith)
-  goes_on_counted s (Releases h zero) at counted = stays s Rest counted (λ g. let none = ap (counts_on g) at in omega arith)
-  goes_on_counted s (Releases h (suc more)) at counted =
+  late_counted : (s : Core) (c skips : ℕ) (late : Late) → ((g : ℕ) → counts_on g (s.standing i) ≡ 0) → WaitsCounted m s
+      → WaitsCounted m (comes_late s i c skips late)
+  late_counted s c skips Kept none counted = stays s Rest counted (λ g. let before = none g in omega arith)
+  late_counted s c skips GivenBack none counted = stays s (AtCounter (Closes (GivesBack skips))) counted (λ g. let before = none g in omega arith)
+
+  ends_counted : (s : Core) (how : GivingUp) (before : Place) → s.standing i ≡ AtCounter (Closes (GaveUp how)) → WaitsCounted m s
+      → WaitsCounted m (ends_given_up s i how before)
+  ends_counted s how (on_counter.Acquiring a D4) at counted = stays s (Left how.skips) counted (λ g. let none = ap (counts_on g) at in omega arith)
+  ends_counted s how before at counted = late_counted s (counter_at before) how.skips how.late (λ g. ap (counts_on g) at) counted
+
+  goes_on_counted : (s : Core) (after : After) (before : Place) → s.standing i ≡ AtCounter after → WaitsCounted m s
+      → WaitsCounted m (goes_on m s i after before)
+  goes_on_counted s (Closes (MayGiveUp how)) p at counted = stays s Rest counted (λ g. let none = ap (counts_on g) at in omega arith)
+  goes_on_counted s (Closes (GaveUp how)) p at counted = ends_counted s how p at counted
+  goes_on_counted s (Closes (GivesBack skips)) p at counted = stays s (Left skips) counted (λ g. let none = ap (counts_on g) at in omega arith)
+  goes_on_counted s (Closes NextCall) p at counted = stays s Rest counted (λ g. let none = ap (counts_on g) at in omega arith)
+  goes_on_counted s (LooksAgain h) p at counted = stays s (AtGroup h V3) counted (λ g. let same = ap (counts_on g) at in omega arith)
+  goes_on_counted s (Releases h zero) p at counted = stays s Rest counted (λ g. let none = ap (counts_on g) at in omega arith)
+  goes_on_counted s (Releases h (suc more)) p at counted =
       stays s (AtCounter (Releases h more)) counted (λ g. let none = ap (counts_on g) at in omega arith)
 
-  after_counter_counted : (s : Core) (after : After) (p : Place) → s.standing i ≡ AtCounter after → WaitsCounted m s
-      → WaitsCounted m (after_counter m s i after p)
-  after_counter_counted s after on_counter.Rest at counted = goes_on_counted s after at counted
-  after_counter_counted s after (on_counter.Acquiring a row) at counted = counted
-  after_counter_counted s after (on_counter.Releasing r row) at counted = counted
-  after_counter_counted s after (on_counter.ReleasingMany r row) at counted = counted
+  after_counter_counted : (s : Core) (after : After) (before p : Place) → s.standing i ≡ AtCounter after → WaitsCounted m s
+      → WaitsCounted m (after_counter m s i after before p)
+  after_counter_counted s after before on_counter.Rest at counted = goes_on_counted s after before at counted
+  after_counter_counted s (Closes (GaveUp how)) before (on_counter.Acquiring a A3) at counted =
+      stays s (Left how.skips) counted (λ g. let none = ap (counts_on g) at in omega arith)
+  after_counter_counted s after before p at counted = counted
 
-  after_list_counted : (s : Core) (l : ℕ) (p : ListPlace) → s.standing i ≡ AtList l → WaitsCounted m s → WaitsCounted m (after_list s i p)
-  after_list_counted s l on_list.Rest at counted = stays s Rest counted (λ g. let none = ap (counts_on g) at in omega arith)
-  after_list_counted s l p at counted = counted
+  -- who was on a list counts on no group
+  off_groups : (s : Core) (l : ℕ) (ending : Ending) (standing : Standing) → s.standing i ≡ AtList l ending → WaitsCounted m s
+      → (g : ℕ) → (s.groups g).waits ≤ total m.seats (λ k. counts_on g (put s.standing i standing k))
+  off_groups s l ending standing at counted = stays s standing counted (λ g. let none = ap (counts_on g) at in omega arith)
+
+  late_on_list_counted : (s : Core) (l : ℕ) (ending : Ending) (skips : ℕ) (late : Late) → s.standing i ≡ AtList l ending
+      → WaitsCounted m s → WaitsCounted m (comes_late_on_list s i l skips late)
+  late_on_list_counted s l ending skips Kept at counted = off_groups s l ending Rest at counted
+  late_on_list_counted s l ending skips GivenBack at counted = off_groups s l ending (AtList l (GivesBack skips)) at counted
+
+  closes_counted : (s : Core) (l : ℕ) (ending : Ending) (before : ListPlace) → s.standing i ≡ AtList l ending → WaitsCounted m s
+      → WaitsCounted m (closes_on_list s i l ending before)
+  closes_counted s l NextCall p at counted = off_groups s l NextCall Rest at counted
+  closes_counted s l (MayGiveUp how) p at counted = off_groups s l (MayGiveUp how) Rest at counted
+  closes_counted s l (GaveUp how) (on_list.Waiting t E4) at counted = off_groups s l (GaveUp how) (Left how.skips) at counted
+  closes_counted s l (GaveUp how) p at counted = late_on_list_counted s l (GaveUp how) how.skips how.late at counted
+  closes_counted s l (GivesBack skips) p at counted = off_groups s l (GivesBack skips) (Left skips) at counted
+
+  after_list_counted : (s : Core) (l : ℕ) (ending : Ending) (before p : ListPlace) → s.standing i ≡ AtList l ending → WaitsCounted m s
+      → WaitsCounted m (after_list s i l ending before p)
+  after_list_counted s l ending before on_list.Rest at counted = closes_counted s l ending before at counted
+  after_list_counted s l ending before p at counted = counted
 
   -- a row of a group leads there
   lands_at : (s : Core) (g : ℕ) (next : GroupNext) → (after_group m s i g next).standing ≡ put s.standing i (landing g next)
@@ -161,10 +203,24 @@ module _ (m : CoreLayout) (i : ℕ) (in_range : i < m.seats) where
 
   row_counted : (s : Core) (standing : Standing) → s.standing i ≡ standing → WaitsCounted m s → WaitsCounted m (row_of_standing m s i standing)
   row_counted s Rest at counted = counted
-  row_counted s (AtCounter after) at counted =
-      after_counter_counted (counter_row m s i) after ((counter_row m s i).semaphores.seats i).place at counted
-  row_counted s (AtList l) at counted = after_list_counted (list_row s i l) l (((list_row s i l).lists l).seats i).place at counted
+  row_counted s (AtCounter after) at counted = by (may_give_up s.semaphores i after)
+    where
+      given : (after : After) (g : ℕ) → counts_on g (AtCounter after) ≤ counts_on g (AtCounter (given_up_after after))
+      given (LooksAgain h) g = omega arith
+      given _ g = omega arith
+
+      by : (b : Bool) → WaitsCounted m (if b then gives_up s i after else on_counter_row m s i after)
+      by true = stays s (AtCounter (given_up_after after)) counted (λ g. let before = ap (counts_on g) at in let same = given after g in omega arith)
+      by false =
+          after_counter_counted (counter_row m s i) after (s.semaphores.seats i).place ((counter_row m s i).semaphores.seats i).place at counted
+  row_counted s (AtList l ending) at counted = by (may_give_up_on_list (s.lists l) i ending)
+    where
+      by : (b : Bool) → WaitsCounted m (if b then gives_up_on_list s i l ending else on_list_row s i l ending)
+      by true = off_groups s l ending (AtList l (given_up ending)) at counted
+      by false =
+          after_list_counted (list_row s i l) l ending ((s.lists l).seats i).place (((list_row s i l).lists l).seats i).place at counted
   row_counted s (AtGroup g row) at counted = group_counted s g row at counted
+  row_counted s (Left skips) at counted = counted
   row_counted s (Failed misuse) at counted = counted
 
   -- and so does a call that the seat begins at rest
@@ -175,15 +231,21 @@ module _ (m : CoreLayout) (i : ℕ) (in_range : i < m.seats) where
       from_rest after = stays s after counted (λ g. let none = ap (counts_on g) rests in omega arith)
 
       by : (call : Call) → WaitsCounted m (calls s i call)
-      by (Acquire c lifo) = from_rest (AtCounter NextCall)
-      by (Release c handoff) = from_rest (AtCounter NextCall)
-      by (ReleaseMany c n) = from_rest (AtCounter NextCall)
-      by (Add l) = from_rest (AtList l)
-      by (Wait l) = from_rest (AtList l)
-      by (One l) = from_rest (AtList l)
-      by (All l) = from_rest (AtList l)
+      by (Acquire c lifo) = from_rest (AtCounter (Closes NextCall))
+      by (AcquireOrLeave c lifo how) = from_rest (AtCounter (Closes (MayGiveUp how)))
+      by (Release c handoff) = from_rest (AtCounter (Closes NextCall))
+      by (ReleaseMany c n) = from_rest (AtCounter (Closes NextCall))
+      by (Add l) = from_rest (AtList l NextCall)
+      by (Wait l) = from_rest (AtList l NextCall)
+      by (WaitOrLeave l how) = from_rest (AtList l (MayGiveUp how))
+      by (One l) = from_rest (AtList l NextCall)
+      by (All l) = from_rest (AtList l NextCall)
       by (GroupAdd g d) = from_rest (AtGroup g (G1 d))
       by (GroupWait g) = from_rest (AtGroup g V1)
+
+pub left_counted : (m : CoreLayout) (i : ℕ) → i < m.seats → (s : Core) (skips : ℕ) → s.standing i ≡ Left skips → WaitsCounted m s
+    → WaitsCounted m (stands s i Rest)
+left_counted m i in_range s skips at counted = stays m i in_range s Rest counted (λ g. let none = ap (counts_on g) at in omega arith)
 
 pub rows_counted : (m : CoreLayout) (s : Core) (i : ℕ) → i < m.seats → WaitsCounted m s → WaitsCounted m (core_turned m s i)
 rows_counted m s i in_range counted = row_counted m i in_range s (s.standing i) refl counted

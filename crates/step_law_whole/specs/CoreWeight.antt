@@ -2,16 +2,19 @@
 -- before them.
 use Rattle.std.specs.Prelude.{◌≡◌, ℕ, ◌+◌, ◌-◌, ◌*◌, ◌≤◌, min, if◌then◌else◌}
 use Rattle.step_table.specs.declared.call.Call.{Call}
+use Rattle.step_table.specs.declared.call.Late.{Late}
 use Rattle.step_table.specs.declared.call.Call.TheVariants.{Acquire, Release, ReleaseMany, Add, Wait, One}
 use Rattle.step_table.specs.declared.call.Call.TheVariants.{All}
-use Rattle.step_table.specs.declared.call.Call.TheVariants.{GroupAdd, GroupWait}
+use Rattle.step_table.specs.declared.call.Call.TheVariants.{GroupAdd, GroupWait, AcquireOrLeave, WaitOrLeave}
 use Rattle.step_table.specs.declared.group_word.GroupWord.{GroupWord}
 use Rattle.step_table.specs.declared.standing.After.{After}
-use Rattle.step_table.specs.declared.standing.After.TheVariants.{NextCall, LooksAgain, Releases}
+use Rattle.step_table.specs.declared.standing.After.TheVariants.{Closes, LooksAgain, Releases}
+use Rattle.step_table.specs.declared.standing.Ending.{Ending}
+use Rattle.step_table.specs.declared.standing.Ending.TheVariants.{NextCall, MayGiveUp, GaveUp, GivesBack}
 use Rattle.step_table.specs.declared.standing.GroupRow.{GroupRow}
 use Rattle.step_table.specs.declared.standing.GroupRow.TheVariants.{G1, G2, G3, V1, V2, V3}
 use Rattle.step_table.specs.declared.standing.Standing.{Standing}
-use Rattle.step_table.specs.declared.standing.Standing.TheVariants.{Rest, AtCounter, AtGroup, Failed}
+use Rattle.step_table.specs.declared.standing.Standing.TheVariants.{Rest, AtCounter, AtList, AtGroup, Failed}
 use Rattle.step_table.specs.Counting.{on, total}
 use Rattle.step_table.specs.Group.{same_word}
 use Rattle.step_table.specs.Core.{CoreLayout, counters_of, Core}
@@ -19,6 +22,7 @@ use Rattle.step_table.specs.CoreSteps.{calls}
 use Rattle.step_law_whole.specs.TheCore.{MayCall}
 use Rattle.step_law_whole.specs.SemaWeight.{release_cost, weight}
 use Rattle.step_law_whole.specs.ListWeight.{list_weight}
+use Rattle.step_table.specs.declared.call.Late.TheVariants.{Kept, GivenBack}
 
 -- of n seats: what so many releases on a group's semaphore weigh
 abbrev pub releases_weight : ℕ → ℕ → ℕ
@@ -34,15 +38,36 @@ group_weight n V1 = 4 * n + 6
 group_weight n (V2 seen) = 4 * n + 5
 group_weight n V3 = 1
 
--- what comes after its call on a counter
+-- what it costs to give a late unit back: a release
+abbrev pub late_weight : ℕ → Late → ℕ
+late_weight n Kept = 0
+late_weight n GivenBack = 2 * n + 11
+
+-- what comes after its call on a counter, and what it costs to give up: three rows, and the giving back
 abbrev pub after_weight : ℕ → After → ℕ
-after_weight n NextCall = 0
+after_weight n (Closes NextCall) = 0
+after_weight n (Closes (MayGiveUp how)) = 3 + late_weight n how.late
+after_weight n (Closes (GaveUp how)) = late_weight n how.late
+after_weight n (Closes (GivesBack skips)) = 0
 after_weight n (LooksAgain g) = 1
 after_weight n (Releases g more) = releases_weight n more
+
+-- the same of a call on a list: what comes too late is given back by a notification of one, and to give up costs
+-- three rows more than to be woken
+abbrev pub late_on_list_weight : Late → ℕ
+late_on_list_weight Kept = 0
+late_on_list_weight GivenBack = 7
+
+abbrev pub ending_on_list_weight : Ending → ℕ
+ending_on_list_weight NextCall = 0
+ending_on_list_weight (MayGiveUp how) = 3 + late_on_list_weight how.late
+ending_on_list_weight (GaveUp how) = late_on_list_weight how.late
+ending_on_list_weight (GivesBack skips) = 0
 
 -- what a seat that does this weighs beside what it weighs on counters and lists
 abbrev pub standing_weight : ℕ → Standing → ℕ
 standing_weight n (AtCounter after) = after_weight n after
+standing_weight n (AtList l ending) = ending_on_list_weight ending
 standing_weight n (AtGroup g row) = group_weight n row
 standing_weight n _ = 0
 
@@ -59,10 +84,12 @@ core_weight m s =
 -- of n seats: what a call costs
 abbrev pub call_cost : ℕ → Call → ℕ
 call_cost n (Acquire c lifo) = 2 * n + 5
+call_cost n (AcquireOrLeave c lifo how) = 2 * n + 8 + late_weight n how.late
 call_cost n (Release c handoff) = release_cost n handoff
 call_cost n (ReleaseMany c units) = 2 * n + 8 * min units (n - 1) + 3
 call_cost n (Add l) = 1
 call_cost n (Wait l) = 5
+call_cost n (WaitOrLeave l how) = 8 + late_on_list_weight how.late
 call_cost n (One l) = 7
 call_cost n (All l) = 7
 call_cost n (GroupAdd g d) = 4 * n - 1 + releases_weight n (n - 1)

@@ -1,6 +1,7 @@
 ghost use Rattle.std.specs.Prelude.{◌≡◌};
 ghost use Rattle.step_table.specs.Row.{group_row_name};
 
+use crate::call::GivingUp;
 use crate::group_id::GroupId;
 use crate::group_word::GroupWord;
 use crate::list_id::ListId;
@@ -34,11 +35,24 @@ pub enum GroupNext {
     Releases(u32),
 }
 
+/// What comes when a call of a seat ends.
+#[derive(Clone, Copy, Drop)]
+pub enum Ending {
+    /// Its next call.
+    NextCall,
+    /// The same, after a call that may give up so while its seat sleeps.
+    MayGiveUp(GivingUp),
+    /// The same, after one that has given up so.
+    GaveUp(GivingUp),
+    /// A call that has given up has given back what came too late: so many next calls are left out.
+    GivesBack(u32),
+}
+
 /// What comes when a call on a counter ends.
 #[derive(Clone, Copy, Drop)]
 pub enum After {
-    /// The seat's next call.
-    NextCall,
+    /// The seat's own call has ended.
+    Closes(Ending),
     /// The last look of a wait of this group.
     LooksAgain(GroupId),
     /// So many more releases on this group's semaphore.
@@ -53,9 +67,11 @@ pub enum Standing {
     /// A call on a counter, or on the semaphore of a group.
     AtCounter(After),
     /// A call on a notify list.
-    AtList(ListId),
+    AtList(ListId, Ending),
     /// A row of a wait group.
     AtGroup(GroupId, GroupRow),
+    /// Nothing: it has given up its call, and so many of its next calls are left out.
+    Left(u32),
     /// It stopped at a misuse of a wait group.
     Failed(Misuse),
 }

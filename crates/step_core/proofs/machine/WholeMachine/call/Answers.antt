@@ -9,6 +9,9 @@ use Rattle.step_core.proofs.machine.WholeMachine.call.Goals as goal
 pub returns-in-Acquire : goal.returns-in-Acquire
 returns-in-Acquire c = rw c.in-Acquire.is c.at_counter.ensures
 
+pub returns-in-AcquireOrLeave : goal.returns-in-AcquireOrLeave
+returns-in-AcquireOrLeave c = rw c.in-AcquireOrLeave.is c.at_counter-in-AcquireOrLeave.ensures
+
 pub returns-in-Release : goal.returns-in-Release
 returns-in-Release c = rw c.in-Release.is c.at_counter-in-Release.ensures
 
@@ -20,6 +23,9 @@ returns-in-Add c = rw c.in-Add.is c.at_list.ensures
 
 pub returns-in-Wait : goal.returns-in-Wait
 returns-in-Wait c = rw c.in-Wait.is c.wait_on_list.ensures
+
+pub returns-in-WaitOrLeave : goal.returns-in-WaitOrLeave
+returns-in-WaitOrLeave c = rw c.in-WaitOrLeave.is c.wait_on_list-in-WaitOrLeave.ensures
 
 pub returns-in-One : goal.returns-in-One
 returns-in-One c = rw c.in-One.is c.at_list-in-One.ensures
