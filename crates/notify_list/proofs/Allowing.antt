@@ -11,7 +11,8 @@ use Rattle.waiters.specs.declared.wait.Wait.{Wait}
 use Rattle.step_table.specs.declared.list_place.ListPlace.{ListPlace}
 use Rattle.step_table.specs.declared.list_place.ListPlace.TheVariants.{Waiting}
 use Rattle.step_table.specs.declared.list_place.Ticket.{Ticket}
-use Rattle.step_table.specs.declared.list_place.WaitRow.TheVariants.{P}
+use Rattle.step_table.specs.declared.list_place.WaitRow.TheVariants.{Parked}
+use Rattle.step_table.specs.declared.list_place.ListParkedRow.TheVariants.{P}
 use Rattle.step_table.specs.declared.list_place.ListWord.{ListWord}
 use Rattle.step_table.specs.declared.list_place.ListWord.TheVariants.{Lock, Grant}
 use Rattle.step_table.specs.ListWorld.{ListSeat, ListWorld, ListWords, queue_after}
@@ -164,7 +165,7 @@ module _ (k : Setting) (m : Me) (i : ℕ) (a : ListSeat) (is : m.0.own.knows.sig
       ))
 
   -- a grant that is taken, or nothing where there is none
-  pub takes_at : (ticket : Ticket) → a.place ≡ Waiting ticket P → address (Grant m.0.own.number) ≡ i
+  pub takes_at : (ticket : Ticket) → a.place ≡ Waiting ticket (Parked P) → address (Grant m.0.own.number) ≡ i
       → Owes list_rows k m i (λ n. 0) (λ n t. (n ≡ 0 → t ≡ m) × (0 < n → RanRow list_rows here m n t))
   takes_at ticket parked word = owes_own list_rows k m i (λ n. 0) (λ n t. (n ≡ 0 → t ≡ m) × (0 < n → RanRow list_rows here m n t))
       (λ world words homes at. by world words homes at (ℕ_discrete (slice_index words i) 0))

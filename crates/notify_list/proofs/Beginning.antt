@@ -1,5 +1,5 @@
 -- Where a seat may begin a row: what its steps keep holds there.
-use Rattle.std.proofs.Common.{◌≡◌, ℕ, true, Option, Some, sym, refl, ap, ◌∙◌, subst, arith}
+use Rattle.std.proofs.Common.{◌≡◌, ℕ, true, false, Option, Some, sym, refl, ap, ◌∙◌, subst, arith}
 use mathlib.Core.Path.{fun_ext}
 use native.Mathlib.Decide.{ℕ_discrete}
 use Rattle.step_table.specs.declared.list_place.AllRow.TheVariants.{L1}
@@ -12,7 +12,7 @@ use Rattle.step_table.specs.ListWorld.{ListSeat, ListWorld}
 use Rattle.step_table.specs.ListSteps.{ListStep, ListChoice, notify_one, notify_all, end_looks, choose, add, wait, with_ticket}
 use Rattle.step_table.proofs.Sums.{put_here, put_else, put_same}
 use Rattle.step_law_lists.specs.ListLawful.{holds}
-use Rattle.notify_list.specs.Places.{is_free, at_place, waiting, Begins, stands, adds, ones, alls, waits}
+use Rattle.notify_list.specs.Places.{is_free, is_leaving, at_place, waiting, Begins, stands, adds, ones, alls, waits}
 
 put_put : {A : Type 0} (f : ℕ → A) (i : ℕ) (x y : A) → put (put f i x) i y ≡ put f i y
 put_put f i x y = fun_ext (λ k. by k (ℕ_discrete k i))
@@ -72,3 +72,11 @@ begins_holds a b (ones free) h = absurd (omega arith)
 begins_holds a b (alls free) h = absurd (omega arith)
 begins_holds a b (waits {t = t} rest some) h =
     let e : holds (with_ticket a (Some t)).place ≡ 1 = ap (λ (k : Option Ticket). holds (with_ticket a k).place) (sym some) ∙ h in absurd (omega arith)
+
+-- nor does it leave
+pub begins_stays : (a b : ListSeat) → Begins a b → is_leaving a.place ≡ false → is_leaving b.place ≡ false
+begins_stays a b stands home = home
+begins_stays a b (adds free none) home = refl
+begins_stays a b (ones free) home = refl
+begins_stays a b (alls free) home = refl
+begins_stays a b (waits {t = t} rest some) home = ap (λ (k : Option Ticket). is_leaving (with_ticket a k).place) some

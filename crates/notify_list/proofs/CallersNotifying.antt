@@ -26,7 +26,7 @@ use Rattle.notify_list.proofs.Answering.{seat_after, seen_as, seat_between, seat
 module _ (s t : SeatModel) (lawful : Follows t.sight.seen) where
   -- the least ticket was granted
   least : (word upto : ℕ) → IsSeatAfter s (Granted upto s.number ∷ []) t → GrantsLeast s word t → NotifiesOneTicket s (Some word) t
-  least word upto after g = let granted = (told g.before).granted + 1 in (
+  least word upto after g = let granted = (told g.before).passed + 1 in (
     seen_as s g.before,
     seat_before s t g.before upto granted after g.later g.seen,
     g.handed,

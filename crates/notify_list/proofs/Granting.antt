@@ -81,7 +81,7 @@ module _ (l : ListModel) (s : Token) (h ticket : ℕ) (may : MayGrant l s h tick
     laws7 : ReachedList (setting_of s).first (setting_of s).seats d7.world
     laws7 = laws_of (setting_of s) d7.world may.few d7.met
 
-    knows7 : (ticket ≡ d7.world.words.notify) × (h ≤ d7.world.words.numbers.handed) × (d7.world.words.numbers.granted < d7.world.words.numbers.handed)
+    knows7 : (ticket ≡ d7.world.words.notify) × (h ≤ d7.world.words.numbers.handed) × (d7.world.words.numbers.passed < d7.world.words.numbers.handed)
     knows7 = subst (λ (a : ListSeat). Knows (setting_of s).first d7.world.words s.me.0.own.number a.place a.late) d7.stood
         (laws7.invariant.seats_known s.me.0.own.number may.there).knows
 
@@ -92,14 +92,14 @@ module _ (l : ListModel) (s : Token) (h ticket : ℕ) (may : MayGrant l s h tick
     at8 = at_place (NotifyingOne h (O8 ticket)) (stands_of s)
 
     abbrev told7 : List ListEntry
-    told7 = Granted ((told row7.stride.seen).granted + 1) s.me.0.own.number ∷ []
+    told7 = Granted ((told row7.stride.seen).passed + 1) s.me.0.own.number ∷ []
 
-    w7 : Walked s at7 t at8 (Granted ((told row7.stride.seen).granted + 1) s.me.0.own.number ∷ []) ((NotifyingOne h (O7 ticket), ticket) ∷ [])
+    w7 : Walked s at7 t at8 (Granted ((told row7.stride.seen).passed + 1) s.me.0.own.number ∷ []) ((NotifyingOne h (O7 ticket), ticket) ∷ [])
     w7 =
-        subst (λ (k : ℕ). Walked s at7 t at8 (Granted ((told row7.stride.seen).granted + 1) s.me.0.own.number ∷ [])
+        subst (λ (k : ℕ). Walked s at7 t at8 (Granted ((told row7.stride.seen).passed + 1) s.me.0.own.number ∷ [])
         ((NotifyingOne h (O7 ticket), k) ∷ [])) (d7.read ∙ sym knows7.0)
-        (walked_row s t at7 n at8 (Granted ((told row7.stride.seen).granted + 1) s.me.0.own.number ∷ []) row7 same d7.stands
-        (d7.told ∙ ap (λ (x : Numbers). Granted (x.granted + 1) s.me.0.own.number ∷ []) numbers7))
+        (walked_row s t at7 n at8 (Granted ((told row7.stride.seen).passed + 1) s.me.0.own.number ∷ []) row7 same d7.stands
+        (d7.told ∙ ap (λ (x : Numbers). Granted (x.passed + 1) s.me.0.own.number ∷ []) numbers7))
 
     pub stands8 : stands_of t ≡ at_place (NotifyingOne h (O8 ticket)) (stands_of t)
     stands8 = λ i. record (stands_of t) { place = ap (λ (a : ListSeat). a.place) w7.stands_is i }
@@ -136,7 +136,7 @@ module _ (l : ListModel) (s : Token) (h ticket : ℕ) (may : MayGrant l s h tick
           (d8.stands ∙ ap found8 (first8 o e) ∙ is) (d8.told ∙ told_none t.me.0.own.number h ticket (first_with ticket d8.world.words.queue))
 
       w8 : (o : Option Wait) → first_with ticket (queue_of t) ≡ o → (b : ListSeat) → found8 o ≡ b
-          → Walked s at7 u b (Granted ((told row7.stride.seen).granted + 1) s.me.0.own.number ∷ []) (grant_rows h ticket)
+          → Walked s at7 u b (Granted ((told row7.stride.seen).passed + 1) s.me.0.own.number ∷ []) (grant_rows h ticket)
       w8 o e b is =
           walked_on s t u at7 at8 b told7 [] ((NotifyingOne h (O7 ticket), ticket) ∷ []) ((NotifyingOne h (O8 ticket), 1) ∷ []) w7 (only8 o e b is)
 
@@ -150,9 +150,9 @@ module _ (l : ListModel) (s : Token) (h ticket : ℕ) (may : MayGrant l s h tick
         later = d7.later;
         seen =
             subst (λ l. GoesOn (seen_of z) l) (d7.seen ∙ ap (λ l. row7.stride.seen ++ l)
-            (d7.told ∙ ap (λ (x : Numbers). Granted (x.granted + 1) s.me.0.own.number ∷ []) numbers7)) more;
-        handed = subst (λ (x : Numbers). x.granted < x.handed) numbers7 knows7.2;
-        word_is = knows7.0 ∙ laws7.invariant.words.1 ∙ ap (λ (x : Numbers). word_of (setting_of s).first x.granted) numbers7;
+            (d7.told ∙ ap (λ (x : Numbers). Granted (x.passed + 1) s.me.0.own.number ∷ []) numbers7)) more;
+        handed = subst (λ (x : Numbers). x.passed < x.handed) numbers7 knows7.2;
+        word_is = knows7.0 ∙ laws7.invariant.words.1 ∙ ap (λ (x : Numbers). word_of (setting_of s).first x.passed) numbers7;
         bare = bare;
         walked =
             subst (λ (a : ListSeat). Walked s a z (at_place Rest (stands_of s)) told7 (grant_rows h ticket)
@@ -190,7 +190,7 @@ module _ (l : ListModel) (s : Token) (h ticket : ℕ) (may : MayGrant l s h tick
 
         pub to9 : Walked s (at_place (NotifyingOne h (O7 ticket)) (stands_of s)) u
             (record { place = NotifyingOne h O9; ticket = (stands_of s).ticket; hand = w ∷ []; late = (stands_of s).late })
-            (Granted ((told row7.stride.seen).granted + 1) s.me.0.own.number ∷ []) (grant_rows h ticket)
+            (Granted ((told row7.stride.seen).passed + 1) s.me.0.own.number ∷ []) (grant_rows h ticket)
         to9 = w8 (Some w) first at9 is9
 
         setting9 : setting_of u ≡ setting_of s

@@ -9,7 +9,7 @@ use Rattle.step_table.specs.declared.list_place.ListWord.{ListWord}
 use Rattle.step_table.specs.declared.list_place.ListWord.TheVariants.{Lock}
 use Rattle.step_table.specs.ListWorld.{ListSeat, ListWorld, found}
 use Rattle.step_table.specs.ListEvent.{ListEvent}
-use Rattle.step_table.specs.ListSteps.{event_of, effect_of, finds, turned, ListTurn, ListStep, turn, more}
+use Rattle.step_table.specs.ListSteps.{event_of, effect_of, finds, turned, seat_after, ListTurn, ListStep, turn, more, IsListReached}
 use Rattle.step_table.specs.Path.{Meets, sight, runs}
 use Rattle.step_table.proofs.Paths.{meets_sight}
 use Rattle.step_table.proofs.Sums.{put_here, total_has}
@@ -24,12 +24,13 @@ use Rattle.notify_list.specs.declared.view.Known.{Known}
 use Rattle.notify_list.specs.declared.view.Setting.{Setting}
 use Rattle.notify_list.specs.declared.view.Record.{Record}
 use Rattle.notify_list.specs.Setting.{address, IsThere}
-use Rattle.notify_list.specs.Places.{Begins}
+use Rattle.notify_list.specs.Places.{Begins, is_leaving}
 use Rattle.notify_list.specs.Rule.{watched, IsMet, Knows, Homes, AtHome}
 use Rattle.notify_list.specs.Rows.{list_rows}
 use Rattle.notify_list.specs.Plays.{Me, OneSeat, standing}
 use Rattle.notify_list.proofs.Words.{written_word, inside}
-use Rattle.notify_list.proofs.Beginning.{with_seat, begun, begins_holds}
+use Rattle.notify_list.proofs.Beginning.{with_seat, begun, begins_holds, begins_stays}
+use Rattle.notify_list.proofs.Staying.{Stays, row_stays, leaves_stay, in_reach}
 
 -- what the code's atomic step has to be: the event of the table
 pub record Fits (z : Setting) (e : ListEvent) (i n x : ℕ) : Type 0 where
@@ -49,7 +50,7 @@ pub record RunsIn (k : ℕ) (v : Known) (b : ListWorld) (i n : ℕ) : Type 0 whe
 
 -- all that is known of a world that is met
 pub laws_of : (z : Setting) (s : ListWorld) → z.seats ≤ 256 → IsMet z s → ReachedList z.first z.seats s
-laws_of z s few met = the_list_accounts.reached z.first z.seats s (omega arith) met
+laws_of z s few met = the_list_accounts.reached z.first z.seats s (in_reach z.first z.seats s few met.reached met.stayed) met.reached
 
 module _ (m : Me) (world : ListWorld) (words : List ℕ) (homes : Homes) (i : ℕ) (at : Stands list_rows m.0.own.knows.setting m.0.own world words homes i)
     (a : ListSeat) (ok : Begins m.0.own.knows.sight.stands a) where
@@ -69,16 +70,23 @@ module _ (m : Me) (world : ListWorld) (words : List ℕ) (homes : Homes) (i : �
   opens = subst (λ (y : ListSeat). Begins y a) (sym at.knows.meets.stands) ok
 
   met : IsMet z b
-  met = begun id (IsMet z) (λ s t step q. more id at.there q step) world a opens at.shows.met
+  met = record {
+    reached = begun id (IsListReached z.first z.seats) (λ s t step q. more id at.there q step) world a opens at.shows.met.reached;
+    stayed = at.shows.met.stayed;
+  }
 
   laws : ReachedList z.first z.seats b
   laws = laws_of z b at.shows.few met
 
   meets : Meets (watched z) b id v.sight
-  meets = record { met = met; stands = put_here world.seats id a; later = at.knows.meets.later; quiet = at.knows.meets.quiet }
+  meets = record { met = met.reached; stands = put_here world.seats id a; later = at.knows.meets.later; quiet = at.knows.meets.quiet }
 
   knows : Knows z id v b
-  knows = record { meets = meets; held = λ h. at.knows.held (begins_holds m.0.own.knows.sight.stands a ok h) }
+  knows = record {
+    meets = meets;
+    stays = begins_stays m.0.own.knows.sight.stands a ok at.knows.stays;
+    held = λ h. at.knows.held (begins_holds m.0.own.knows.sight.stands a ok h);
+  }
 
   pub known : RunsIn id v b i (slice_index words i)
   known = record {
@@ -110,8 +118,16 @@ module _ (m : Me) (world : ListWorld) (words : List ℕ) (homes : Homes) (i : �
     step : ListStep b id t
     step = turn runs_here
 
+    -- no ticket goes by it
+    stays : Stays (e.leads (finds b id))
+    stays = row_stays id (b.seats id) b.words (b.seats id).place (finds b id)
+        (ap (λ (y : ListSeat). is_leaving y.place) (put_here world.seats id a) ∙ knows.stays)
+
     met_after : IsMet z t
-    met_after = more id at.there met step
+    met_after = record {
+      reached = more id at.there met.reached step;
+      stayed = leaves_stay id (effect_of b id) b.journal stays.0 ∙ met.stayed;
+    }
 
     -- the list of waits stays while this seat doesn't hold the lock
     pub queue_stays : holds a.place ≡ 0 → t.words.queue ≡ world.words.queue
@@ -128,6 +144,7 @@ module _ (m : Me) (world : ListWorld) (words : List ℕ) (homes : Homes) (i : �
     knows_else : (u : OneSeat) → u.number ≢ id → u.number < z.seats → Knows z u.number u.knows world → Knows z u.number u.knows t
     knows_else u ne low o = record {
       meets = the_list_paths.others z.first z.seats b t id u.number u.knows.sight at.there ne step met_before;
+      stays = o.stays;
       held = λ one. o.held one
           ∙ sym (the_list_accounts.left b t id step (((the_list_accounts.alone z.first z.seats b laws.invariant u.number low).0
           (ap (λ (y : ListSeat). holds y.place) met_before.stands ∙ one)).alone id at.there (λ q. ne (sym q)))).queue;
@@ -138,7 +155,8 @@ module _ (m : Me) (world : ListWorld) (words : List ℕ) (homes : Homes) (i : �
 
     word_after : (w : ListWord) → IsThere z w → slice_index (set words i x) (address w) ≡ found t.words w
     word_after w h =
-        let k : ℕ = finds b id in let o = written_word b.words t.words.numbers t.words.queue e.word w (e.becomes k) in let l = inside z e.word fits.there in
+        let k : ℕ = finds b id in let o = written_word b.words t.words.numbers t.words.queue t.words.gone e.word w (e.becomes k) in
+        let l = inside z e.word fits.there in
         dite (ℕ_discrete (address w) i)
         (λ q. ap (λ y. get_or (set words i x) y 0) q ∙ get_or-set_same words i x 0 (let y = at.shows.wide in let f = fits.word in omega arith)
         ∙ fits.becomes ∙ ap e.becomes read_is ∙ sym (o.0 (q ∙ sym fits.word)))
@@ -170,7 +188,13 @@ module _ (m : Me) (world : ListWorld) (words : List ℕ) (homes : Homes) (i : �
       };
       did = refl;
       read = sym read_is;
-      also = record { held = knows.held; left = refl; lands = record { world = t; met = met_after; sees = refl; queue = refl }; there = at.there };
+      also = record {
+        held = knows.held;
+        left = refl;
+        stayed = met.stayed;
+        lands = record { world = t; met = met_after; sees = refl; queue = refl };
+        there = at.there;
+      };
       one = refl;
       same = (refl, refl);
     }
@@ -193,7 +217,11 @@ module _ (m : Me) (world : ListWorld) (words : List ℕ) (homes : Homes) (i : �
       };
       same = refl;
       of_is = refl;
-      knows = record { meets = meets_sight (watched z) t id met_after; held = λ h. refl };
+      knows = record {
+        meets = meets_sight (watched z) t id met_after.reached;
+        stays = ap (λ (y : ListSeat). is_leaving y.place) (put_here b.seats id (seat_after b.words (e.leads (finds b id)) (b.seats id))) ∙ stays.1;
+        held = λ h. refl;
+      };
       on = inr (row_stride z.first z.seats b id, refl, refl, journal_told id (effect_of b id) b.journal);
       others = knows_else;
       tells = tells;

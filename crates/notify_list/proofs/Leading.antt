@@ -9,7 +9,8 @@ use Rattle.step_table.specs.declared.list_place.ListPlace.{ListPlace}
 use Rattle.step_table.specs.declared.list_place.ListPlace.TheVariants.{Waiting}
 use Rattle.step_table.specs.declared.list_place.ListWord.TheVariants.{Lock}
 use Rattle.step_table.specs.declared.list_place.Ticket.{Ticket}
-use Rattle.step_table.specs.declared.list_place.WaitRow.TheVariants.{P}
+use Rattle.step_table.specs.declared.list_place.WaitRow.TheVariants.{Parked}
+use Rattle.step_table.specs.declared.list_place.ListParkedRow.TheVariants.{P}
 use Rattle.step_table.specs.ListWorld.{ListWords, ListSeat, ListWorld, found, queue_after}
 use Rattle.step_table.specs.ListEvent.{ListEvent, ListNext}
 use Rattle.step_table.specs.ListTable.{list_table, list_event_at}
@@ -65,7 +66,7 @@ led a u w n r =
     let next : (event_of s i).leads (finds s i) ≡ next_in a i s n = λ k. (same k).leads (is k) in
     record {
       world = s;
-      met = r.ran.meets.met;
+      met = record { reached = r.ran.meets.met; stayed = r.also.stayed };
       stood = r.ran.meets.stands;
       seen_is = r.ran.seen;
       later = stride_later (watched u.knows.setting) i before w.knows.sight p r.ran;
@@ -103,7 +104,7 @@ gave_from s e t a same is holding few word given =
     subst (λ n. Ran a s.me.0.own n t.me.0.own) (d.read ∙ ap (found d.world.words) (word d.world.words) ∙ lock) r
 
 -- a grant that was taken was one
-pub woke_from : (s t : Token) (a : ListSeat) (n : ℕ) (ticket : Ticket) → stands_of s ≡ a → a.place ≡ Waiting ticket P
+pub woke_from : (s t : Token) (a : ListSeat) (n : ℕ) (ticket : Ticket) → stands_of s ≡ a → a.place ≡ Waiting ticket (Parked P)
     → (setting_of s).seats ≤ 256 → 0 < n
     → RanRow list_rows here s.me n t.me → Ran a s.me.0.own 1 t.me.0.own
 woke_from s t a n ticket is parked few some row =
@@ -111,7 +112,7 @@ woke_from s t a n ticket is parked few some row =
     let r : Ran a s.me.0.own n t.me.0.own = row_from s t a n is row.0 in
     let d : Led a s.me.0.own n t.me.0.own r.stride = led a s.me.0.own t.me.0.own n r in
     let laws : ReachedList (setting_of s).first (setting_of s).seats d.world = laws_of (setting_of s) d.world few d.met in
-    let most : IsGrantOf (Waiting ticket P) (d.world.words.grants k)
+    let most : IsGrantOf (Waiting ticket (Parked P)) (d.world.words.grants k)
     = subst (λ (p : ListPlace). IsGrantOf p (d.world.words.grants k)) (ap (λ (y : ListSeat). y.place) d.stood ∙ parked) (laws.lawful.grants k) in
     let found_is : n ≡ d.world.words.grants k = d.read ∙ ap (λ (p : ListPlace). found d.world.words (list_event_at k a d.world.words p).word) parked in
     subst (λ (q : ℕ). Ran a s.me.0.own q t.me.0.own) (omega arith) r

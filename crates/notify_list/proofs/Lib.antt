@@ -1,6 +1,7 @@
 pub mod Words
 pub mod Owned
 pub mod Beginning
+pub mod Staying
 pub mod Keeping
 pub mod Allowing
 pub mod Leading

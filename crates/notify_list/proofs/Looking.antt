@@ -116,5 +116,5 @@ module _ (s t u : Token) (n waited notified : ℕ) (seat : IsSeat s n) (x : RanR
       let at : (second.world.seats t.me.0.own.number).place ≡ place = ap (λ (y : ListSeat). y.place) second.stood in
       let ends = laws.calls.notified t.me.0.own.number h look.also.there
       (subst (λ (p : ListPlace). Concludes second.world p h) (sym at) (one_equal h waited (e ∙ second.read))) in
-      let seen = ap (λ (l : List ListEntry). (told l).granted) (seen_all look second second.told) in
+      let seen = ap (λ (l : List ListEntry). (told l).passed) (seen_all look second second.told) in
       let since = handed_first in omega arith

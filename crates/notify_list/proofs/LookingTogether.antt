@@ -5,13 +5,14 @@ use Rattle.step_table.specs.declared.list_place.ListWord.TheVariants.{Wait, Lock
 use Rattle.step_table.specs.ListWorld.{ListSeat, ListWorld}
 use Rattle.step_table.specs.Path.{looks, Looked, Did, look_in, sight}
 use Rattle.step_table.proofs.Paths.{meets_sight, stride_grows}
+use Rattle.step_law_lists.specs.ListLawful.{leaves}
 use Rattle.step_law_lists.specs.ListPath.{ListSight}
 use Rattle.running_rows.specs.Strides.{Went, here}
 use Rattle.running_rows.specs.Owing.{Stands, Sees, IsSeen}
 use Rattle.running_rows.specs.Sitting.{Met}
 use Rattle.notify_list.specs.declared.view.Setting.{Setting}
 use Rattle.notify_list.specs.Setting.{address, IsThere}
-use Rattle.notify_list.specs.Places.{is_free}
+use Rattle.notify_list.specs.Places.{is_free, is_leaving}
 use Rattle.notify_list.specs.Rule.{watched, Lands, Homes}
 use Rattle.notify_list.specs.Rows.{list_rows, word_at}
 use Rattle.notify_list.specs.Plays.{OneSeat}
@@ -47,6 +48,7 @@ sees_word i u world words homes there at = record {
     also = record {
       held = at.knows.held;
       left = refl;
+      stayed = at.shows.met.stayed;
       lands = record { world = world; met = at.shows.met; sees = refl; queue = refl };
       there = at.there;
     };
@@ -54,7 +56,11 @@ sees_word i u world words homes there at = record {
     same = (refl, refl);
   };
   world_is = refl;
-  knows = record { meets = meets_sight (watched u.knows.setting) world u.number at.shows.met; held = λ h. refl };
+  knows = record {
+    meets = meets_sight (watched u.knows.setting) world u.number at.shows.met.reached;
+    stays = ap (λ (y : ListSeat). is_leaving y.place) at.knows.meets.stands ∙ at.knows.stays;
+    held = λ h. refl;
+  };
 }
 
 -- each seat may look at a word that is there
@@ -90,6 +96,7 @@ module _ (s t : Token) (n q : ℕ) (word : ListWord) (is : IsToken s n) (r : Wen
     one = r.one;
     stays = look_stays;
     later = stride_grows (watched (setting_of s)) s.me.0.own.number s.me.0.own.knows.sight t.me.0.own.knows.sight r.stride r.ran;
+    stayed = ap leaves journal_seen ∙ r.also.stayed;
   })
 
   pub looked_token : t.me.1 ≡ [] → IsToken t n

@@ -62,7 +62,7 @@ in_front t u n seats xs x same all before is =
 
 -- a seat that was just made may meet the first world, which is its own
 pub lands_fresh : (z : Setting) (k : ℕ) → Lands k (fresh z)
-lands_fresh z k = record { world = first_list z.first; met = none; sees = refl; queue = refl }
+lands_fresh z k = record { world = first_list z.first; met = record { reached = none; stayed = refl }; sees = refl; queue = refl }
 
 -- words and record of a list as it is made show the first world
 pub opens : (z : Setting) (y : Record) → z.first < 2 ^ 64 → AreAllowed z.seats → IsRecord z.seats y []
@@ -70,7 +70,7 @@ pub opens : (z : Setting) (y : Record) → z.first < 2 ^ 64 → AreAllowed z.sea
 opens z y fits seats empty = record {
   world = first_list z.first;
   shows = record {
-    met = none;
+    met = record { reached = none; stayed = refl };
     words = first_words z fits;
     home = λ free. (y, refl, empty);
     wide = words_long z;
@@ -80,6 +80,7 @@ opens z y fits seats empty = record {
   unwritten = refl;
   unmade = λ n low. record {
     meets = record { met = none; stands = refl; later = goes_on_here []; quiet = refl };
+    stays = refl;
     held = λ h. refl;
   };
   some_seats = (let k = seats.0 in omega arith);

@@ -1,16 +1,16 @@
 -- A wait at the lock: its ticket is found granted, or it is queued.
-use Rattle.std.proofs.Common.{◌≡◌, ℕ, ◌<◌, ◌≤◌, if◌then◌else◌, Bool, true, false, List, [], ◌∷◌, ◌++◌, length, Option, Some}
+use Rattle.std.proofs.Common.{◌≡◌, ℕ, ◌<◌, ◌≤◌, if◌then◌else◌, Bool, true, false, [], ◌∷◌, ◌++◌, length, Option, Some}
 use Rattle.std.proofs.Common.{None, inl, sym, refl, ap, ◌∙◌}
 use Rattle.std.proofs.Common.{subst, arith}
 use Rattle.running_rows.specs.Table.{rest}
 use Rattle.step_table.specs.declared.list_place.ListPlace.TheVariants.{Rest, Waiting}
 use Rattle.step_table.specs.declared.list_place.Ticket.{Ticket}
-use Rattle.step_table.specs.declared.list_place.WaitRow.TheVariants.{W1, W2, W3, W4, P}
+use Rattle.step_table.specs.declared.list_place.WaitRow.TheVariants.{W1, W2, W3, W4}
 use Rattle.step_table.specs.Wrapping.{less}
-use Rattle.step_table.specs.ListWorld.{ListSeat, ListEntry, late_after}
+use Rattle.step_table.specs.ListWorld.{ListSeat, late_after}
 use Rattle.step_table.specs.ListTable.{wait_for}
 use Rattle.step_table.specs.ListSteps.{with_ticket}
-use Rattle.step_law_lists.specs.ListLawful.{told}
+use Rattle.step_law_lists.specs.ListLawful.{IsGranted as IsTicketGranted}
 use Rattle.step_law_lists.specs.ListCalls.{Returns}
 use Rattle.step_law_lists.specs.ListWellFormed.{asleep_on_list}
 use Rattle.running_rows.specs.Strides.{RanRow, here}
@@ -21,7 +21,7 @@ use Rattle.notify_list.specs.Rows.{list_rows}
 use Rattle.notify_list.specs.Plays.{Me}
 use Rattle.notify_list.specs.Seats.{ListModel, Token, list_of, seat_of, IsSeat, IsHolding, IsParked, queue_of, seen_of, setting_of, stands_of}
 use Rattle.notify_list.specs.Walks.{Walked, MayLock, Locked, HasRecord, Edited}
-use Rattle.notify_list.specs.Waiting.{IsWaited, IsGranted, IsQueued}
+use Rattle.notify_list.specs.Waiting.{IsWaited, IsGranted, IsQueued, parked_with}
 use Rattle.notify_list.proofs.Keeping.{laws_of}
 use Rattle.notify_list.proofs.Leading.{Ran, Led, led, ran_from, Gave, gave_from}
 use Rattle.notify_list.proofs.Walking.{walked_row, walked_on, walked_so, token_after, calls, comes_to}
@@ -31,11 +31,11 @@ use Rattle.notify_list.proofs.Recording.{record_kept}
 
 -- a row after which a wait returns finds its ticket granted
 pub granted_by : (ticket : Ticket) (u x : Token) (a : ListSeat) (r : Ran a u.me.0.own 1 x.me.0.own) (d : Led a u.me.0.own 1 x.me.0.own r.stride)
-    → (setting_of u).seats ≤ 256 → r.stride.told ≡ [] → Returns d.world u.me.0.own.number ticket → ticket.number < (told (seen_of x)).granted
+    → (setting_of u).seats ≤ 256 → r.stride.told ≡ [] → Returns d.world u.me.0.own.number ticket → IsTicketGranted ticket.number (seen_of x)
 granted_by ticket u x a r d few none returns =
     let laws = laws_of (setting_of u) d.world few d.met in
-    subst (λ (l : List ListEntry). ticket.number < (told l).granted) (sym (seen_all r d none))
-    (laws.calls.returned u.me.0.own.number ticket r.also.there returns).1
+    let granted = laws.calls.returned u.me.0.own.number ticket r.also.there returns in
+    subst (IsTicketGranted ticket.number) (sym (seen_all r d none)) (granted.1, granted.2)
 
 module _ (s : Token) (n word : ℕ) (H : IsHolding s n word) where
   begun_is : waiting (stands_of s) ≡ record { place = Waiting H.ticket W1; ticket = None; hand = (stands_of s).hand; late = (stands_of s).late }
@@ -50,10 +50,10 @@ module _ (s : Token) (n word : ℕ) (H : IsHolding s n word) where
   }
 
   -- the ticket that the seat held is that with which it waits
-  its_ticket : (x : Token) → H.ticket.number < (told (seen_of x)).granted → IsGranted (seat_of s n) (seat_of x n)
+  its_ticket : (x : Token) → IsTicketGranted H.ticket.number (seen_of x) → IsGranted (seat_of s n) (seat_of x n)
   its_ticket x granted ticket is =
       let both : Some H.ticket ≡ Some ticket = sym H.held ∙ is in
-      let same : H.ticket ≡ ticket = cc in subst (λ (k : Ticket). k.number < (told (seen_of x)).granted) same granted
+      let same : H.ticket ≡ ticket = cc in subst (λ (k : Ticket). IsTicketGranted k.number (seen_of x)) same granted
 
   -- how the seat stands under the lock, before its look
   abbrev at_look : ListSeat
@@ -86,7 +86,7 @@ module _ (s : Token) (n word : ℕ) (H : IsHolding s n word) where
             ticket = None;
             hand =
                 (stands_of s).hand;
-            late = late_after (Waiting H.ticket W2) looked.world.words.numbers.granted (stands_of s).late;
+            late = late_after (Waiting H.ticket W2) looked.world.words.numbers.passed (stands_of s).late;
           } in
           walked_so s u (waiting (stands_of s)) a (stands_by b) [] ((Waiting H.ticket W1, 0) ∷ (Waiting H.ticket W2, v) ∷ [])
           (walked_on s t u (waiting (stands_of s)) at_look a [] [] ((Waiting H.ticket W1, 0) ∷ []) ((Waiting H.ticket W2, v) ∷ []) w1
@@ -183,9 +183,9 @@ module _ (s : Token) (n word : ℕ) (H : IsHolding s n word) where
         queued = led (stands_by false) u.me.0.own x.me.0.own 1 queued_row
 
         abbrev at_park : ListSeat
-        at_park = record { place = Waiting H.ticket P; ticket = None; hand = (stands_of s).hand; late = (stands_of u).late }
+        at_park = parked_with H.ticket (stands_of s).hand (stands_of u).late
 
-        w4 : Walked s (waiting (stands_of s)) x (record { place = Waiting H.ticket P; ticket = None; hand = (stands_of s).hand; late = (stands_of u).late })
+        w4 : Walked s (waiting (stands_of s)) x (parked_with H.ticket (stands_of s).hand (stands_of u).late)
             [] ((Waiting H.ticket W1, 0) ∷ (Waiting H.ticket W2, v) ∷ (Waiting H.ticket W4, 1) ∷ [])
         w4 = walked_on s u x (waiting (stands_of s)) (stands_by false) at_park [] [] ((Waiting H.ticket W1, 0) ∷ (Waiting H.ticket W2, v) ∷ [])
             ((Waiting H.ticket W4, 1) ∷ []) (w2 false not_found)
@@ -210,9 +210,9 @@ module _ (s : Token) (n word : ℕ) (H : IsHolding s n word) where
           call =
               calls s x n (waiting (stands_of s)) at_park [] ((Waiting H.ticket W1, 0) ∷ (Waiting H.ticket W2, v) ∷ (Waiting H.ticket W4, 1) ∷ [])
               H.token_is w4;
-          comes = comes_to s x n (waiting (stands_of s)) (record { place = Waiting H.ticket P; ticket = None; hand = (stands_of s).hand; late = (stands_of x).late }) []
+          comes = comes_to s x n (waiting (stands_of s)) (parked_with H.ticket (stands_of s).hand (stands_of x).late) []
               ((Waiting H.ticket W1, 0) ∷ (Waiting H.ticket W2, v) ∷ (Waiting H.ticket W4, 1) ∷ [])
-              (subst (λ k. Walked s (waiting (stands_of s)) x (record { place = Waiting H.ticket P; ticket = None; hand = (stands_of s).hand; late = k }) []
+              (subst (λ k. Walked s (waiting (stands_of s)) x (parked_with H.ticket (stands_of s).hand k) []
               ((Waiting H.ticket W1, 0) ∷ (Waiting H.ticket W2, v) ∷ (Waiting H.ticket W4, 1) ∷ []))
               (sym (ap (λ (a : ListSeat). a.late) w4.stands_is)) w4);
         }

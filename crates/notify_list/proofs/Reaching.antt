@@ -1,6 +1,6 @@
 -- The rows by which a notification of all grants.
-use Rattle.std.proofs.Common.{◌≡◌, ◌≢◌, ℕ, zero, suc, ◌+◌, ◌≤◌, ◌==◌, if◌then◌else◌, Bool, true, false, List, [], ◌∷◌}
-use Rattle.std.proofs.Common.{◌++◌, sym, refl, ap, ◌∙◌, subst, arith}
+use Rattle.std.proofs.Common.{◌≡◌, ◌≢◌, ℕ, zero, suc, ◌+◌, ◌-◌, ◌≤◌, ◌==◌, if◌then◌else◌, Bool, true, false, List, [], ◌∷◌}
+use Rattle.std.proofs.Common.{◌++◌, length, sym, refl, ap, ◌∙◌, subst, arith}
 use Rattle.std.proofs.Common.{append-nil}
 use native.Mathlib.Decide.{ℕ_discrete}
 use Rattle.waiters.specs.declared.wait.Wait.{Wait}
@@ -29,6 +29,7 @@ use Rattle.notify_list.specs.Walks.{Walked, HasRecord}
 use Rattle.notify_list.specs.NotifyingAll.{reach_rows, all_entries}
 use Rattle.notify_list.specs.GrantingAll.{MayReach, ReachedAll}
 use Rattle.notify_list.proofs.Keeping.{laws_of}
+use Rattle.notify_list.proofs.Staying.{none_gone, no_words_gone}
 use Rattle.notify_list.proofs.Leading.{Ran, Led, led, ran_from, if_equal, if_unequal}
 use Rattle.notify_list.proofs.Walking.{walked_row, walked_on, walked_later}
 use Rattle.notify_list.proofs.Recording.{record_kept}
@@ -132,17 +133,24 @@ module _ (l : ListModel) (s : Token) (h : ℕ) (may : MayReach l s h) where
         numbers6 = ap told (sym d6.seen_is)
 
         pub few_granted : minus waited notified ≤ 256
-        few_granted = let r = reaches6 in let f = laws6.calls.few in let k = few6 in omega arith
+        few_granted = let r = reaches6 in let f = laws6.calls.few in let k = few6 in
+            let none : length (told d6.world.journal).gone ≡ 0 = ap length (none_gone d6.world.journal d6.met.stayed) in omega arith
+
+        -- each ticket that is passed is granted
+        all_granted : minus waited notified - length d6.world.words.gone ≡ minus waited notified
+        all_granted =
+            let none : length d6.world.words.gone ≡ 0
+            = ap length (no_words_gone (setting_of u).first (setting_of u).seats d6.world laws6 d6.met.stayed) in omega arith
 
         told6 : row6.stride.told ≡ all_entries s.me.0.own.number d5.world.words.numbers.handed (minus waited notified)
         told6 =
-            d6.told ∙ l6_told u.me.0.own.number (setting_of u).first (told d6.world.journal).granted
+            d6.told ∙ l6_told u.me.0.own.number (setting_of u).first (told d6.world.journal).passed
             d5.world.words.numbers.handed notified waited (minus waited notified)
             reaches6.0 reaches6.1 reaches6.2 few_granted
             ∙ ap (λ i. all_entries i d5.world.words.numbers.handed (minus waited notified)) w5.number_is
 
         read6 : n6 ≡ notified
-        read6 = d6.read ∙ laws6.invariant.words.1 ∙ ap (λ (y : Numbers). word_of (setting_of u).first y.granted) laws6.invariant.numbers ∙ sym reaches6.1
+        read6 = d6.read ∙ laws6.invariant.words.1 ∙ ap (λ (y : Numbers). word_of (setting_of u).first y.passed) laws6.invariant.numbers ∙ sym reaches6.1
 
         w6 : Walked s (a (NotifyingAll h L4)) x (a (NotifyingAll h (L7 (minus waited notified))))
             (all_entries s.me.0.own.number d5.world.words.numbers.handed (minus waited notified))
@@ -155,7 +163,8 @@ module _ (l : ListModel) (s : Token) (h : ℕ) (may : MayReach l s h) where
             (walked_row u x (a (NotifyingAll h (L6 reach))) n6 (a (NotifyingAll h (L7 (minus waited notified))))
             (all_entries s.me.0.own.number d5.world.words.numbers.handed (minus waited notified)) row6 last
             (d6.stands ∙ l6_seat (notified == waited) h d5.world.words.numbers.handed reach d6.world.words
-            (NotifyingAll h (L7 (minus waited notified))) (stands_of s)) told6))
+            (NotifyingAll h (L7 (minus waited notified - length d6.world.words.gone))) (stands_of s)
+            ∙ ap (λ n. a (NotifyingAll h (L7 n))) all_granted) told6))
 
         seen5 : seen_of u ≡ row5.stride.seen
         seen5 = d5.seen ∙ ap (λ l. row5.stride.seen ++ l) d5.told ∙ append-nil row5.stride.seen
@@ -180,7 +189,7 @@ module _ (l : ListModel) (s : Token) (h : ℕ) (may : MayReach l s h) where
           later = subst (λ l. GoesOn row6.stride.seen l) seen5 d6.later;
           seen = d6.seen ∙ ap (λ l. row6.stride.seen ++ l) told6;
           reaches = reaches6.4;
-          counted = let r = reaches6.0 in let e = ap (λ (y : Numbers). y.granted) numbers6 in omega arith;
+          counted = let r = reaches6.0 in let e = ap (λ (y : Numbers). y.passed) numbers6 in omega arith;
           all =
               let laws5 = laws_of (setting_of t) d5.world few5 d5.met in ap (λ (y : Numbers). y.handed) (laws5.invariant.numbers ∙ ap told (sym d5.seen_is));
         }

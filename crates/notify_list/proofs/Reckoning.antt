@@ -15,7 +15,7 @@ use Rattle.step_table.specs.declared.list_place.ListPlace.TheVariants.{Rest}
 use Rattle.step_table.specs.declared.list_place.ListWord.TheVariants.{Wait, Notify}
 use Rattle.step_table.specs.World.{put}
 use Rattle.step_table.specs.ListWorld.{ListSeat, ListEntry, ListWorld}
-use Rattle.step_table.specs.ListSteps.{more}
+use Rattle.step_table.specs.ListSteps.{more, IsListReached}
 use Rattle.step_table.specs.Path.{GoesOn, own_entries}
 use Rattle.step_table.proofs.Sums.{put_here, put_else}
 use Rattle.step_law_lists.proofs.ListAccounts.{the_list_accounts}
@@ -133,7 +133,10 @@ all_rest z was met free (suc n) low =
     let o = all_rest z was met free n (omega arith) in let at = ap (λ (y : ListSeat). is_free y.place) (o.others n (omega arith)) in
     let a : ListSeat = at_place Rest (o.world.seats n) in record {
       world = with_seat o.world n a;
-      met = comes_to_rest n (IsMet z) (λ s t step q. more n (omega arith) q step) o.world (at ∙ free n (omega arith)) o.met;
+      met = record {
+        reached = comes_to_rest n (IsListReached z.first z.seats) (λ s t step q. more n (omega arith) q step) o.world (at ∙ free n (omega arith)) o.met.reached;
+        stayed = o.met.stayed;
+      };
       words = o.words;
       journal = o.journal;
       rest = λ k h. dite (ℕ_discrete k n)
@@ -196,7 +199,7 @@ module _ (z : Setting) (s : State Record ListView) (r : IsKept list_rows z s) (i
         rest = rested.rest;
         holds_none = holds_none;
         cleared = the_list_accounts.cleared z.first z.seats rested.world laws.invariant rested.rest;
-        named = the_list_accounts.named z.first z.seats rested.world rested.met;
+        named = the_list_accounts.named z.first z.seats rested.world rested.met.reached;
         each = λ k h. (let o = guest_there k h in let q = seat_for all seats are o.0 o.1 in (q.0, q.1, sym q.2.number_is ∙ o.2));
         begins = λ t e. subst (λ j. GoesOn j t.sight.seen) (sym rested.journal) (has_seen t e).0;
         own = λ t e. subst (λ j. own_entries (watched z) t.number j ≡ own_entries (watched z) t.number t.sight.seen) (sym rested.journal) (has_seen t e).1;

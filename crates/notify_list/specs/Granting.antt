@@ -30,16 +30,16 @@ grant_rows h ticket = (NotifyingOne h (O7 ticket), ticket) ∷ (NotifyingOne h (
 pub record GrantedOne (s : Token) (h ticket : ℕ) (t : Token) : Type 0 where
   pub before : List ListEntry
   pub later : GoesOn before (seen_of s)
-  pub seen : GoesOn (seen_of t) (before ++ Granted ((told before).granted + 1) s.me.0.own.number ∷ [])
-  pub handed : (told before).granted < (told before).handed
-  pub word_is : ticket ≡ word_of (setting_of s).first (told before).granted
+  pub seen : GoesOn (seen_of t) (before ++ Granted ((told before).passed + 1) s.me.0.own.number ∷ [])
+  pub handed : (told before).passed < (told before).handed
+  pub word_is : ticket ≡ word_of (setting_of s).first (told before).passed
   pub bare : t.me.1 ≡ []
   pub walked :
       Walked s (stands_of s) t (at_place Rest (stands_of s))
-      (Granted ((told before).granted + 1) s.me.0.own.number ∷ [])
+      (Granted ((told before).passed + 1) s.me.0.own.number ∷ [])
       (grant_rows h ticket)
       ⊎ Walked s (stands_of s) t (at_place Rest (stands_of s))
-      (Granted ((told before).granted + 1) s.me.0.own.number ∷ [])
+      (Granted ((told before).passed + 1) s.me.0.own.number ∷ [])
       (grant_rows h ticket ++ grants_it h)
 
 -- what the last stride of a seat of this list was, which granted the ticket

@@ -28,7 +28,7 @@ pub record LookedForAll (s : Token) (equal : Bool) (t : Token) : Type 0 where
       (at_place (if equal then Rest else NotifyingAll h L3) (stands_of s)) [] (looks_all h waited notified)
   pub slots : t.me.1 ≡ s.me.1
   pub since : (told (seen_of s)).handed ≤ h
-  pub quiet : equal ≡ true → h ≤ (told (seen_of t)).granted
+  pub quiet : equal ≡ true → h ≤ (told (seen_of t)).passed
 
 -- a seat of this list stands here
 pub record IsAt (l : ListModel) (s : Token) (place : ListPlace) : Type 0 where
@@ -56,7 +56,7 @@ pub record ReachedAll (s : Token) (h n : ℕ) (t : Token) : Type 0 where
   pub later : GoesOn before look
   pub seen : seen_of t ≡ before ++ all_entries s.me.0.own.number handed n
   pub reaches : h ≤ handed
-  pub counted : handed ≡ (told before).granted + n
+  pub counted : handed ≡ (told before).passed + n
   pub all : handed ≡ (told look).handed
 
 abbrev pub MayTake : ListModel → Token → ℕ → ℕ → Type 0

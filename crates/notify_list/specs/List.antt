@@ -1,6 +1,7 @@
 -- What the rule says of a list between any two steps of its threads.
+use Rattle.std.specs.Prelude.{◌≡◌}
 use Rattle.running_rows.specs.Table.{State}
-use Rattle.step_law_lists.specs.ListLawful.{IsLawfulList}
+use Rattle.step_law_lists.specs.ListLawful.{IsLawfulList, leaves}
 use Rattle.step_law_lists.specs.ListEntries.{EntriesNamed}
 use Rattle.step_law_lists.specs.ListGrants.{EachGrantsLeast}
 use Rattle.running_rows.specs.Rule.{IsKept}
@@ -11,12 +12,13 @@ use Rattle.notify_list.specs.Rows.{list_rows}
 
 -- words, the record at home and views are those of a world that the steps of the list's seats lead to, and
 -- this world is lawful. Its journal names seats that are there, and each of its grants is of the least
--- ungranted ticket, or of all that were handed out when the wait word was read
+-- ungranted ticket, or of all that were handed out when the wait word was read. No ticket has gone
 pub record IsLawfulShown (z : Setting) (s : State Record ListView) : Type 0 where
   pub kept : IsKept list_rows z s
   pub lawful : IsLawfulList z.first z.seats kept.world
   pub named : EntriesNamed z.seats kept.world
   pub least : EachGrantsLeast z.first z.seats kept.world.journal
+  pub stayed : leaves kept.world.journal ≡ 0
 
 -- whatever a rule holds of is lawful
 abbrev pub TheList : (Setting → State Record ListView → Type 0) → Type 0

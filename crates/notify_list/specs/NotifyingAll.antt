@@ -67,8 +67,8 @@ pub record GrantsUpTo (s : SeatModel) (n : ℕ) (t : SeatModel) : Type 0 where
   pub look : List ListEntry
   pub first : GoesOn look s.sight.seen
   pub later : GoesOn before look
-  pub seen : GoesOn t.sight.seen (before ++ Granted ((told before).granted + n) s.number ∷ [])
-  pub all : (told look).handed ≡ (told before).granted + n
+  pub seen : GoesOn t.sight.seen (before ++ Granted ((told before).passed + n) s.number ∷ [])
+  pub all : (told look).handed ≡ (told before).passed + n
 
 -- the seat granted so many: none, and told nothing; or by one entry
 abbrev pub GrantsSome : SeatModel → ℕ → SeatModel → Type 0
@@ -103,7 +103,7 @@ pub record EndsAll (s : SeatModel) (n : ℕ) (t : SeatModel) : Type 0 where
   pub hand : List Wait
   pub call : Calls s s.sight.stands t (all_entries s.number handed n) (all_rows h was now handed n hand)
   pub count : GrantsSome s n t
-  pub granted : h ≤ (numbers_seen t).granted
+  pub granted : h ≤ (numbers_seen t).passed
 
 -- after the first strides came one for each of these seats, in order, which stored a 1 in its grant word
 abbrev pub StoresGrants : List ℕ → List ListStride → List ListStride → Type 0

@@ -6,7 +6,8 @@ use Rattle.step_table.specs.declared.list_place.ListPlace.TheVariants.{Rest, Add
 use Rattle.step_table.specs.declared.list_place.ListPlace.TheVariants.{NotifyingAll}
 use Rattle.step_table.specs.declared.list_place.OneRow.TheVariants.{O1, O3, O4}
 use Rattle.step_table.specs.declared.list_place.Ticket.{Ticket}
-use Rattle.step_table.specs.declared.list_place.WaitRow.TheVariants.{W1, W2}
+use Rattle.step_table.specs.declared.list_place.WaitRow.TheVariants.{W1, W2, E4, Parked}
+use Rattle.step_table.specs.declared.list_place.ListParkedRow.TheVariants.{P}
 use Rattle.step_table.specs.ListWorld.{ListSeat}
 use Rattle.step_table.specs.ListSteps.{with_ticket}
 
@@ -15,6 +16,13 @@ abbrev pub is_free : ListPlace → Bool
 is_free Rest = true
 is_free (NotifyingOne h O3) = true
 is_free _ = false
+
+-- the seat gives up its sleep, or has left: no call of a running list does
+abbrev pub is_leaving : ListPlace → Bool
+is_leaving (Waiting t E4) = true
+is_leaving (Waiting t (Parked P)) = false
+is_leaving (Waiting t (Parked row)) = true
+is_leaving _ = false
 
 -- the seat stands at another place
 abbrev pub at_place : ListPlace → ListSeat → ListSeat

@@ -9,7 +9,7 @@ use Rattle.step_table.specs.ListTable.{list_table}
 use Rattle.step_table.specs.ListWorld.{ListWords, ListSeat, ListEntry, ListWorld}
 use Rattle.step_table.specs.ListSteps.{turned}
 use Rattle.step_table.specs.Path.{Deed, runs, looks}
-use Rattle.step_law_lists.specs.ListLawful.{holds}
+use Rattle.step_law_lists.specs.ListLawful.{holds, leaves}
 use Rattle.step_law_lists.specs.ListPath.{ListStride}
 use Rattle.running_rows.specs.Family.{Family}
 use Rattle.notify_list.specs.declared.view.Known.{Known}
@@ -30,11 +30,12 @@ abbrev pub queue_left : ListWorld → ℕ → Deed ListWord → List waiters.Wai
 queue_left s i runs = (turned s i).words.queue
 queue_left s i (looks w) = s.words.queue
 
--- what the seat i knew of the list of waits, whose lock it held, was so still in this world, and it knows
--- what became of it
+-- what the seat i knew of the list of waits, whose lock it held, was so still in this world, in which no
+-- ticket has gone, and it knows what became of it
 pub record Beside (s : ListWorld) (i : ℕ) (v : Known) (p : ListStride) (w : Known) : Type 0 where
   pub held : holds v.sight.stands.place ≡ 1 → v.queue ≡ s.words.queue
   pub left : w.queue ≡ queue_left s i p.deed
+  pub stayed : leaves s.journal ≡ 0
   pub lands : Lands i w
   pub there : i < v.setting.seats
 

@@ -1,6 +1,6 @@
 -- What the words and the record of a running notify list show, and what a seat knows: a reached world of the
 -- step table.
-use Rattle.std.specs.Prelude.{◌≡◌, ℕ, ◌+◌, ◌≤◌, List, [], length, slice_index, None}
+use Rattle.std.specs.Prelude.{◌≡◌, ℕ, ◌+◌, ◌≤◌, false, List, [], length, slice_index, None}
 use mathlib.Core.Option.{Option, some}
 use lib.ListN.{get_elem?}
 use Rattle.waiters.specs.declared.wait.Wait.{Wait}
@@ -12,24 +12,29 @@ use Rattle.step_table.specs.ListWorld.{ListWords, ListSeat, ListEntry, ListWorld
 use Rattle.step_table.specs.ListEvent.{ListNext}
 use Rattle.step_table.specs.ListSteps.{IsListReached}
 use Rattle.step_table.specs.Path.{Watched, Meets, sight}
-use Rattle.step_law_lists.specs.ListLawful.{holds}
+use Rattle.step_law_lists.specs.ListLawful.{holds, leaves}
 use Rattle.step_law_lists.specs.ListPath.{notify_list}
 use Rattle.notify_list.specs.declared.view.Known.{Known}
 use Rattle.notify_list.specs.declared.view.Setting.{Setting}
 use Rattle.notify_list.specs.declared.view.Record.{Record}
 use Rattle.notify_list.specs.Setting.{address, words_in, IsThere}
+use Rattle.notify_list.specs.Places.{is_leaving}
 
 -- a list made so, as the law of its paths has it
 abbrev pub watched : Setting → Watched ListWorld ListWord ℕ ListNext ListSeat ListEntry
 watched z = notify_list z.first z.seats
 
--- the worlds to which the steps of its seats lead
-abbrev pub IsMet : Setting → ListWorld → Type 0
-IsMet z s = IsListReached z.first z.seats s
+-- the worlds to which the steps of its seats lead, and in which no ticket has gone: no call of a running list
+-- leaves
+pub record IsMet (z : Setting) (s : ListWorld) : Type 0 where
+  pub reached : IsListReached z.first z.seats s
+  pub stayed : leaves s.journal ≡ 0
 
--- the seat i of a list made so may meet this world. While it holds the lock it knows the list of waits
+-- the seat i of a list made so may meet this world, and doesn't leave. While it holds the lock it knows the
+-- list of waits
 pub record Knows (z : Setting) (i : ℕ) (v : Known) (s : ListWorld) : Type 0 where
   pub meets : Meets (watched z) s i v.sight
+  pub stays : is_leaving v.sight.stands.place ≡ false
   pub held : holds v.sight.stands.place ≡ 1 → v.queue ≡ s.words.queue
 
 -- this is what the seat i knows in a world that is met

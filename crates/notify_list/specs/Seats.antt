@@ -6,7 +6,8 @@ use Rattle.waiters.specs.declared.wait.Wait.{Wait}
 use Rattle.step_table.specs.declared.list_place.AllRow.TheVariants.{L3}
 use Rattle.step_table.specs.declared.list_place.ListPlace.TheVariants.{Rest, Waiting, NotifyingAll}
 use Rattle.step_table.specs.declared.list_place.Ticket.{Ticket}
-use Rattle.step_table.specs.declared.list_place.WaitRow.TheVariants.{P}
+use Rattle.step_table.specs.declared.list_place.WaitRow.TheVariants.{Parked}
+use Rattle.step_table.specs.declared.list_place.ListParkedRow.TheVariants.{P}
 use Rattle.step_table.specs.ListWorld.{ListSeat, ListEntry}
 use Rattle.step_law_lists.specs.ListPath.{ListSight, ListStride}
 use Rattle.notify_list.specs.declared.view.Record.{Record}
@@ -78,7 +79,7 @@ pub record IsHolding (t : Token) (n word : ℕ) : Type 0 where
 pub record IsParked (t : Token) (n : ℕ) : Type 0 where
   pub token_is : IsToken t n
   pub ticket : Ticket
-  pub at : (stands_of t).place ≡ Waiting ticket P
+  pub at : (stands_of t).place ≡ Waiting ticket (Parked P)
   pub holds_none : (stands_of t).ticket ≡ None
 
 -- a seat that is about to take the lock for a notification of all

@@ -10,10 +10,11 @@ pub struct Setting {
     pub seats: u32,
 }
 
-/// An entry of the list's journal: the seat took a ticket, or it granted tickets, so that this many are. No
-/// value of it is made.
+/// An entry of the list's journal: the seat took a ticket, or it granted tickets up to this many, or it left
+/// with the ticket of this number. No value of it is made.
 pub struct Told {
     upto: Option<u64>,
+    gone: Option<u64>,
     seat: u64,
 }
 
@@ -47,7 +48,7 @@ impl Model for Told {
 
     ghost Value = { ListEntry };
 
-    ghost view = { λ told. entry_of told.upto told.seat };
+    ghost view = { λ told. entry_of told.upto told.gone told.seat };
 }
 
 impl Model for Sight {

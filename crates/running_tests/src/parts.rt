@@ -14,4 +14,5 @@ mod limit_tests;
 mod locker_tests;
 mod play;
 mod sleepers;
+mod timed_lock_tests;
 mod wakers;

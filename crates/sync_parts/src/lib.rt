@@ -8,8 +8,10 @@
 //!
 //! A lock keeps a seat of the table, so there are as many locks as seats, 256 at most, and each unlocks as
 //! often as its seat may release, 2^40 times at most: [`SemaLock::left`] tells how often yet. One that is
-//! dropped while it is held stays locked. No call takes memory, and none answers an error. `acquire` may wait
-//! for another lock's release, and `release` for a root's lock; all other calls end.
+//! dropped while it is held stays locked. [`SemaLock::try_lock_until`] and [`SemaLock::try_lock_for`] give up
+//! once a time is over, and the lock may then unlock once less. No call takes memory, and none answers an
+//! error. `acquire` may wait for another lock's release, those two for a while and for a root's lock, and
+//! `release` for a root's lock; all other calls end.
 //!
 //! A [`Cond`] is a notify list, after Go's `sync.Cond`. [`Cond::wait`] takes a ticket, unlocks a [`Locker`],
 //! waits with the ticket, and locks it again; [`Cond::signal`] grants the least ticket that isn't granted,

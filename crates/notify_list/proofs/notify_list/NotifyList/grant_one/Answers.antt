@@ -4,12 +4,14 @@ use Rattle.step_table.specs.declared.list_place.OneRow.TheVariants.{O7}
 use Rattle.notify_list.specs.Places.{at_place}
 use Rattle.step_table.specs.declared.list_place.ListWord.TheVariants.{Grant}
 use Rattle.waiters.specs.declared.wait.Wait.{Wait}
-use Rattle.notify_list.specs.Seats.{ListModel, list_of, stands_of}
+use Rattle.step_table.specs.Wrapping.{next_word}
+use Rattle.notify_list.specs.Seats.{ListModel, list_of, setting_of, stands_of}
 use Rattle.notify_list.specs.Shared.{list_by}
 use Rattle.notify_list.specs.Rows.{HasStored}
 use Rattle.notify_list.specs.Granting.{GrantsLast}
 use Rattle.notify_list.proofs.Owned.{low_word, grant_low, owned}
 use Rattle.notify_list.proofs.Allowing.{stores_at, grants_at}
+use Rattle.notify_list.proofs.Staying.{no_words_gone, first_left_is}
 use Rattle.notify_list.proofs.Granting.{gives_out, edited_by, stands7, stands8, ended_none, to9, seat_there, ended_some, gave_last}
 use Rattle.notify_list.proofs.notify_list.NotifyList.grant_one.Goals as goal
 
@@ -23,7 +25,13 @@ store-requires c =
           low_word x c.self.invariant 1 (omega arith),
           stores_at _ s.me 1 (at_place (NotifyingOne c.requires.0 (O7 c.args.ticket)) (stands_of s)) (stands7 c.args.self.now s c.requires.0 c.args.ticket may)
               c.next_word.result (λ e. absurd (omega arith))
-              (λ w n known. record { word = refl; there = tt; can = refl; becomes = c.next_word.ensures }),
+              (λ w n known. record {
+                word = refl;
+                there = tt;
+                can = refl;
+                becomes = c.next_word.ensures ∙ sym (first_left_is next_word w.words.gone (next_word c.args.ticket)
+                    (no_words_gone (setting_of s).first (setting_of s).seats w known.laws known.met.stayed));
+              }),
         ),
       ),
     )
