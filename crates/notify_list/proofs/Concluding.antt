@@ -81,7 +81,7 @@ module _ (s u : SeatModel) (x : LooksForAll s u) where
           look = g.look;
           first = goes_on_more s.sight.seen u.sight.seen g.look (call_later s u a [] (looks_all x.h x.waited x.notified) x.call) g.first;
           later = g.later;
-          seen = subst (λ i. GoesOn t.sight.seen (g.before ++ Granted ((told g.before).passed + suc m) i ∷ [])) number_is g.seen;
+          seen = subst (λ i. GoesOn t.sight.seen (g.before ++ Granted (told g.look).handed i ∷ [])) number_is g.seen;
           all = g.all;
         }
 

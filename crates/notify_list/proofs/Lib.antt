@@ -1,7 +1,10 @@
 pub mod Words
 pub mod Owned
 pub mod Beginning
-pub mod Staying
+pub mod Early
+pub mod LiveTickets
+pub mod Passing
+pub mod Going
 pub mod Keeping
 pub mod Allowing
 pub mod Leading

@@ -5,14 +5,14 @@ use Rattle.step_table.specs.declared.list_place.ListWord.TheVariants.{Wait, Lock
 use Rattle.step_table.specs.ListWorld.{ListSeat, ListWorld}
 use Rattle.step_table.specs.Path.{looks, Looked, Did, look_in, sight}
 use Rattle.step_table.proofs.Paths.{meets_sight, stride_grows}
-use Rattle.step_law_lists.specs.ListLawful.{leaves}
+use Rattle.step_law_lists.specs.ListLawful.{IsInReach}
 use Rattle.step_law_lists.specs.ListPath.{ListSight}
 use Rattle.running_rows.specs.Strides.{Went, here}
 use Rattle.running_rows.specs.Owing.{Stands, Sees, IsSeen}
 use Rattle.running_rows.specs.Sitting.{Met}
 use Rattle.notify_list.specs.declared.view.Setting.{Setting}
 use Rattle.notify_list.specs.Setting.{address, IsThere}
-use Rattle.notify_list.specs.Places.{is_free, is_leaving}
+use Rattle.notify_list.specs.Places.{is_free}
 use Rattle.notify_list.specs.Rule.{watched, Lands, Homes}
 use Rattle.notify_list.specs.Rows.{list_rows, word_at}
 use Rattle.notify_list.specs.Plays.{OneSeat}
@@ -31,7 +31,7 @@ pub sees_word : (i : ℕ) (u : OneSeat) (world : ListWorld) (words : List ℕ) (
 sees_word i u world words homes there at = record {
   now = record {
     number = u.number;
-    knows = record u.knows { sight = sight (watched u.knows.setting) world u.number; queue = world.words.queue };
+    knows = record u.knows { sight = sight (watched u.knows.setting) world u.number; queue = world.words.queue; passed = world.words.numbers.passed; gone = world.words.numbers.gone };
     gone = u.gone ++ look_in (watched u.knows.setting) world u.number (word_at i) ∷ [];
   };
   went = record {
@@ -48,8 +48,8 @@ sees_word i u world words homes there at = record {
     also = record {
       held = at.knows.held;
       left = refl;
-      stayed = at.shows.met.stayed;
-      lands = record { world = world; met = at.shows.met; sees = refl; queue = refl };
+      met = at.shows.met;
+      lands = record { world = world; met = at.shows.met; sees = refl; guarded = refl };
       there = at.there;
     };
     one = refl;
@@ -58,7 +58,6 @@ sees_word i u world words homes there at = record {
   world_is = refl;
   knows = record {
     meets = meets_sight (watched u.knows.setting) world u.number at.shows.met.reached;
-    stays = ap (λ (y : ListSeat). is_leaving y.place) at.knows.meets.stands ∙ at.knows.stays;
     held = λ h. refl;
   };
 }
@@ -96,7 +95,7 @@ module _ (s t : Token) (n q : ℕ) (word : ListWord) (is : IsToken s n) (r : Wen
     one = r.one;
     stays = look_stays;
     later = stride_grows (watched (setting_of s)) s.me.0.own.number s.me.0.own.knows.sight t.me.0.own.knows.sight r.stride r.ran;
-    stayed = ap leaves journal_seen ∙ r.also.stayed;
+    reach = subst IsInReach (sym journal_seen) r.also.met.reach;
   })
 
   pub looked_token : t.me.1 ≡ [] → IsToken t n

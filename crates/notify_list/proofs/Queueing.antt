@@ -33,7 +33,7 @@ use Rattle.notify_list.proofs.Recording.{record_kept}
 pub granted_by : (ticket : Ticket) (u x : Token) (a : ListSeat) (r : Ran a u.me.0.own 1 x.me.0.own) (d : Led a u.me.0.own 1 x.me.0.own r.stride)
     → (setting_of u).seats ≤ 256 → r.stride.told ≡ [] → Returns d.world u.me.0.own.number ticket → IsTicketGranted ticket.number (seen_of x)
 granted_by ticket u x a r d few none returns =
-    let laws = laws_of (setting_of u) d.world few d.met in
+    let laws = laws_of (setting_of u) d.world d.met in
     let granted = laws.calls.returned u.me.0.own.number ticket r.also.there returns in
     subst (IsTicketGranted ticket.number) (sym (seen_all r d none)) (granted.1, granted.2)
 
@@ -109,7 +109,7 @@ module _ (s : Token) (n word : ℕ) (H : IsHolding s n word) where
 
       pub record_looked : HasRecord u
       record_looked =
-          record_kept t u L.record_is (ap (λ (m : Me). m.1) r.1) (ap (λ (z : Setting). z.seats) look.same.1) (looked.queue ∙ sym (looked.held refl))
+          record_kept t u L.record_is (ap (λ (m : Me). m.1) r.1) look.same.1 (looked.guarded ∙ sym (looked.held refl))
 
       pub number_looked : u.me.0.own.number ≡ n
       number_looked = look.same.0 ∙ w1.number_is ∙ H.token_is.number_is

@@ -1,5 +1,5 @@
 //! A guard: a seat at a guarded value, which locks, is lent the value, and unlocks.
-ghost use Rattle.std.specs.Prelude.{◌≡◌, true, false};
+ghost use Rattle.std.specs.Prelude.{◌≡◌, true, false, MatchBool};
 ghost use Rattle.std.specs.Fn.{FnOnceReturnsAtMut};
 ghost use Rattle.sync_guarded.specs.Seats.{is_held};
 ghost use Rattle.sync_guarded.specs.Calls.{new_guard, HasLocked, HasUnlocked, HasLent, HasHeld};
@@ -9,6 +9,7 @@ use crate::rows::GuardToken;
 use notify_list::{Holding, ListSeat};
 use std::marker::Model;
 use std::sync::Wait;
+use std::time::{Clock, Duration, Instant};
 use sync_parts::Locker;
 
 /// Who locks a guarded value. While it holds the lock, the value is lent to it, and to nobody else.
@@ -58,6 +59,40 @@ impl<'g, T> Guard<'g, T> {
         let guarded = self.guarded;
         guarded.lock_patiently(rt, &mut self.token);
         self.held = true;
+    }
+
+    /// Locks so until the deadline: whether it did. A deadline that has passed tries once.
+    pub fn try_lock_until<R: Wait + Clock>(&mut self, rt: &R, deadline: Instant) -> bool
+        requires { is_held self.old ≡ false }
+        ensures { MatchBool result (HasLocked self.old self.new) (self.new ≡ self.old) }
+    {
+        self.try_lock_in_time(rt, Some(deadline))
+    }
+
+    /// The same for so long.
+    pub fn try_lock_for<R: Wait + Clock>(&mut self, rt: &R, longest: Duration) -> bool
+        requires { is_held self.old ≡ false }
+        ensures { MatchBool result (HasLocked self.old self.new) (self.new ≡ self.old) }
+    {
+        let Ok(now) = Instant::now(rt) else {
+            return self.try_lock_in_time(rt, None);
+        };
+        let Some(deadline) = now.checked_add(longest) else {
+            // No clock reads so late a time.
+            self.acquire(rt);
+            return true;
+        };
+        self.try_lock_in_time(rt, Some(deadline))
+    }
+
+    fn try_lock_in_time<R: Wait + Clock>(&mut self, rt: &R, deadline: Option<Instant>) -> bool
+        requires { is_held self.old ≡ false }
+        ensures { MatchBool result (HasLocked self.old self.new) (self.new ≡ self.old) }
+    {
+        let guarded = self.guarded;
+        let took = guarded.lock_until(rt, &mut self.token, deadline);
+        self.held = took;
+        took
     }
 
     /// The same by one whom a wait brings back beside others: breaks of all of them would keep the processors

@@ -1,5 +1,5 @@
 //! The steps of a guarded value.
-ghost use Rattle.std.specs.Prelude.{true, false};
+ghost use Rattle.std.specs.Prelude.{◌≡◌, true, false, MatchBool};
 ghost use Rattle.std.specs.Fn.{FnOnceReturnsAtMut};
 ghost use Rattle.sync_guarded.specs.Seats.{guard_of, IsGuard};
 ghost use Rattle.sync_guarded.specs.Calls.{HasLocked, HasUnlocked, HasLent};
@@ -8,6 +8,7 @@ use crate::guarded::{Guarded, LOCK, SLEEPERS, VALUE};
 use crate::rows::GuardToken;
 use running_rows::{Here, Running};
 use std::sync::Wait;
+use std::time::{Clock, Instant};
 
 impl<T> Guarded<T> {
     /// Takes the lock, and the value out of its slot. While another has it, it makes breaks before it sleeps.
@@ -27,6 +28,22 @@ impl<T> Guarded<T> {
         ensures locked { HasLocked (guard_of token.old) (guard_of token.new) }
     {
         self.words.take_lock::<Here, R>(rt, token, LOCK, SLEEPERS);
+    }
+
+    /// The same until the deadline, or where there is none at once: whether it was taken.
+    pub(crate) fn lock_until<R: Wait + Clock>(
+        &self,
+        rt: &R,
+        token: &mut GuardToken<T>,
+        deadline: Option<Instant>,
+    ) -> bool
+        requires { IsGuard self.now token.old false }
+        ensures own { IsGuard self.now token.new result }
+        ensures locked { MatchBool result (HasLocked (guard_of token.old) (guard_of token.new))
+            (guard_of token.new ≡ guard_of token.old) }
+    {
+        self.words
+            .take_lock_until::<Here, R>(rt, token, LOCK, SLEEPERS, deadline)
     }
 
     /// Gives the lock back, and the value with it.

@@ -5,6 +5,7 @@ use std::alloc::Global;
 use std::process::Abort;
 use std::sync::Wait;
 use std::test::Fail;
+use std::time::{Clock, Duration, Instant};
 use sync_guarded::{Guard, GuardSeat, Guarded};
 use sync_parts::SetupError;
 
@@ -59,6 +60,36 @@ fn one_thread_takes_the_value_twice(rt: HostRuntime) -> Result<(), Fail> {
     assert!(rt; (first, second) == (7, 8));
     assert!(rt; guarded.into_value(seat) == 18);
     Ok(())
+}
+
+/// Whether it is locked by now, and in a moment.
+fn locks_in_time<R: Abort + Clock + Wait>(rt: &R, guard: &mut Guard<'_, u32>) -> (bool, bool) {
+    assert!(rt; !guard.held());
+    let past = Instant::now(rt).expect(rt, "a clock");
+    let by_now = guard.try_lock_until(rt, past);
+    if guard.held() {
+        guard.release();
+    }
+    assert!(rt; !guard.held());
+    let in_a_moment = guard.try_lock_for(rt, Duration::from_millis(2));
+    if guard.held() {
+        guard.release();
+    }
+    (by_now, in_a_moment)
+}
+
+#[test]
+fn a_lock_is_tried_until_a_time(rt: HostRuntime) {
+    let Ok((guarded, mut seats)) = Guarded::with_seats(rt.alloc(), 2, 7u32) else {
+        panic!(&rt; "no memory")
+    };
+    let mut one = Guard::over(&guarded, last_seat(&rt, &guarded, &mut seats));
+    let mut other = Guard::over(&guarded, last_seat(&rt, &guarded, &mut seats));
+    assert!(rt; locks_in_time(&rt, &mut one) == (true, true));
+    assert!(rt; !one.held());
+    one.acquire(&rt);
+    assert!(rt; locks_in_time(&rt, &mut other) == (false, false));
+    assert!(rt; one.held());
 }
 
 /// How many seats are made, or the value that comes back.
