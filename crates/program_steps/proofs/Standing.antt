@@ -56,7 +56,7 @@ module _ (m : CoreLayout) (i k : ℕ) (ne : k ≢ i) where
 
   looks_again_else : (s : Core) (g : ℕ) (ending : Ending) (before : Place) → (looks_again s i g ending before).standing k ≡ s.standing k
   looks_again_else s g (GaveUp how) (on_counter.Acquiring a D4) = stands_else s (Left how.skips)
-  looks_again_else s g ending before = stands_else s (AtGroup g V3)
+  looks_again_else s g ending before = stands_else s (AtGroup g (V3 ending))
 
   goes_on_else : (s : Core) (after : After) (before : Place) → (goes_on m s i after before).standing k ≡ s.standing k
   goes_on_else s (Closes ending) before = closes_else s ending before

@@ -1,6 +1,6 @@
 -- Which call a text spells: one for each form, and none where no form fits.
 use Rattle.std.proofs.Common.{◌≡◌, ◌≢◌, ℕ, suc, ◌+◌, ◌*◌, ◌^◌, ◌<◌, Bool, true, false, List, [], ◌∷◌, ◌++◌, length, get_or}
-use Rattle.std.proofs.Common.{Option, Some, None, IfSome}
+use Rattle.std.proofs.Common.{Option, Some, None}
 use Rattle.std.proofs.Common.{refl, sym, ap, subst, ◌∙◌, arith, inr}
 use Rattle.std.specs.Prelude.{codes}
 use Rattle.std.specs.Fmt.{decimal}
@@ -13,9 +13,9 @@ use Rattle.scenario_text.specs.declared.reader.call.SpelledCall.TheVariants.{Gro
 use Rattle.scenario_text.specs.declared.reader.call.SpelledGivingUp.{SpelledGivingUp}
 use Rattle.step_table.specs.declared.call.Late.{Late}
 use Rattle.step_table.specs.declared.call.Late.TheVariants.{Kept, GivenBack}
-use Rattle.scenario_text.specs.Line.{call_text, late_text, skips_text, giving_up_text, flag_text, IsShortGivingUp, keeping}
+use Rattle.scenario_text.specs.Line.{call_text, late_text, skips_text, giving_up_text, flag_text, IsShortSkips, IsShortGivingUp, keeping}
 use Rattle.scenario_text.specs.Phrases.{ReadsAs, IsNumber, IsKeyed, IsFlagged, IsNumbered, IsPair, IsChange, IsGroupAdd, IsGivingUp, IsOrLeave, IsCall}
-use Rattle.scenario_text.specs.Phrases.{IsCallOrLeave, IsGroupLeave}
+use Rattle.scenario_text.specs.Phrases.{IsKeyedSome, IsCallOrLeave, IsGroupLeave}
 use Rattle.scenario_text.proofs.Numbers.{decimal_one}
 use Rattle.scenario_text.proofs.Parts.{same, one, found, only, none, lacks}
 
@@ -89,12 +89,16 @@ late_is GivenBack GivenBack x y e = (refl, append_cancel_left (codes "quit") x y
 late_is Kept GivenBack x y e = absurd (omega (arith, ap key e))
 late_is GivenBack Kept x y e = absurd (omega (arith, ap key e))
 
-skips_is : (a b : Option ℕ) → IfSome a (λ n. n < 10 ^ 10) → IfSome b (λ n. n < 10 ^ 10) → skips_text a ≡ skips_text b → a ≡ b
+pub keyed_some : (word text : List ℕ) (n : ℕ) → ReadsAs (IsKeyed 10 word text) (Some n) → (n ≡ 0 → ⊥) → ReadsAs (IsKeyedSome word text) (Some n)
+keyed_some word text n h some =
+    one (IsKeyedSome word text) n (omega arith, found (IsKeyed 10 word text) n h) (λ a q. only (IsKeyed 10 word text) n a h q.1)
+
+skips_is : (a b : Option ℕ) → IsShortSkips a → IsShortSkips b → skips_text a ≡ skips_text b → a ≡ b
 skips_is None None p q e = refl
 skips_is None (Some m) p q e = absurd (omega (arith, ap length e))
 skips_is (Some n) None p q e = absurd (omega (arith, ap length e))
 skips_is (Some n) (Some m) p q e =
-    ap Some (decimal_one n m (omega arith) (omega arith) (append_cancel_left (codes " ") (decimal n) (decimal m) e))
+    ap Some (decimal_one n m (omega (arith, p.1)) (omega (arith, q.1)) (append_cancel_left (codes " ") (decimal n) (decimal m) e))
 
 way_is : (a b : SpelledGivingUp) → IsShortGivingUp a → IsShortGivingUp b → giving_up_text a ≡ giving_up_text b → a ≡ b
 way_is a b p q e =
@@ -105,15 +109,15 @@ way_is a b p q e =
 pub way_reads : (text : List ℕ) (how : SpelledGivingUp) → IsGivingUp text how → ReadsAs (IsGivingUp text) (Some how)
 way_reads text how p = one (IsGivingUp text) how p (λ a q. way_is a how q.0 p.0 (sym q.1 ∙ p.1))
 
-pub no_way : (text : List ℕ) → text ≢ codes "leave" → text ≢ codes "quit" → ReadsAs (IsKeyed 10 (codes "leave ") text) None
-    → ReadsAs (IsKeyed 10 (codes "quit ") text) None → (how : SpelledGivingUp) → IsGivingUp text how → ⊥
+pub no_way : (text : List ℕ) → text ≢ codes "leave" → text ≢ codes "quit" → ReadsAs (IsKeyedSome (codes "leave ") text) None
+    → ReadsAs (IsKeyedSome (codes "quit ") text) None → (how : SpelledGivingUp) → IsGivingUp text how → ⊥
 no_way text leave quit leaves quits how p = is how.late how.skips p.0 p.1
   where
-    is : (l : Late) (o : Option ℕ) → IfSome o (λ n. n < 10 ^ 10) → text ≡ late_text l ++ skips_text o → ⊥
+    is : (l : Late) (o : Option ℕ) → IsShortSkips o → text ≡ late_text l ++ skips_text o → ⊥
     is Kept None q e = leave e
     is GivenBack None q e = quit e
-    is Kept (Some n) q e = none (IsKeyed 10 (codes "leave ") text) n leaves (q, e)
-    is GivenBack (Some n) q e = none (IsKeyed 10 (codes "quit ") text) n quits (q, e)
+    is Kept (Some n) q e = none (IsKeyedSome (codes "leave ") text) n leaves (q.0, (q.1, e))
+    is GivenBack (Some n) q e = none (IsKeyedSome (codes "quit ") text) n quits (q.0, (q.1, e))
 
 -- it doesn't begin as the flag does
 no_flag : (how : SpelledGivingUp) (more : List ℕ) → giving_up_text how ≡ 108 ∷ 105 ∷ more → ⊥

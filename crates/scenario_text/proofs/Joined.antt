@@ -1,6 +1,6 @@
 -- Calls with a semicolon and a space between them.
 use Rattle.std.proofs.Common.{◌≡◌, ◌≢◌, ℕ, zero, suc, ◌^◌, ◌<◌, Bool, true, false, cond, eqb, List, [], ◌∷◌, ◌++◌, length}
-use Rattle.std.proofs.Common.{get_or, Option, Some, None, IfSome, Bor, refl, sym}
+use Rattle.std.proofs.Common.{get_or, Option, Some, None, Bor, refl, sym}
 use Rattle.std.proofs.Common.{ap, subst, ◌∙◌, append_assoc, eq-eqb, arith, inl, ◌⊎◌}
 use Rattle.std.specs.Prelude.{codes}
 use Rattle.std.specs.Fmt.{decimal}
@@ -15,7 +15,7 @@ use Rattle.scenario_text.specs.declared.reader.call.SpelledGivingUp.{SpelledGivi
 use Rattle.step_table.specs.declared.call.Late.{Late}
 use Rattle.step_table.specs.declared.call.Late.TheVariants.{Kept, GivenBack}
 use Rattle.scenario_text.specs.Line.{IsShort, call_text, calls_text, change_text, IsShortChange}
-use Rattle.scenario_text.specs.Line.{late_text, skips_text, giving_up_text, flag_text, IsShortGivingUp, keeping}
+use Rattle.scenario_text.specs.Line.{late_text, skips_text, giving_up_text, flag_text, IsShortSkips, IsShortGivingUp, keeping}
 use Rattle.scenario_text.specs.Phrases.{ReadsAs, IsCall, AreCalls}
 use Rattle.scenario_text.proofs.Parts.{nothing, one, found, only, none, lacks}
 
@@ -69,9 +69,9 @@ late_has : (l : Late) → has 59 (late_text l) ≡ false
 late_has Kept = refl
 late_has GivenBack = refl
 
-skips_has : (o : Option ℕ) → IfSome o (λ n. n < 10 ^ 10) → has 59 (skips_text o) ≡ false
+skips_has : (o : Option ℕ) → IsShortSkips o → has 59 (skips_text o) ≡ false
 skips_has None h = refl
-skips_has (Some n) h = number_has 59 n h (inl (omega arith))
+skips_has (Some n) h = number_has 59 n h.1 (inl (omega arith))
 
 way_has : (how : SpelledGivingUp) → IsShortGivingUp how → has 59 (giving_up_text how) ≡ false
 way_has how h = has_append 59 (late_text how.late) (skips_text how.skips) (late_has how.late) (skips_has how.skips h)

@@ -86,7 +86,7 @@ all_here P t u to (x ∷ xs) e f =
 
 skips_few : (o : Option ℕ) → is_wide_skip o ≡ false → unwrap_or o 0 ≤ 31
 skips_few None e = omega arith
-skips_few (Some n) e = at_most 31 n (right (n == 0) (nat_lt 31 n) e)
+skips_few (Some n) e = at_most 31 n e
 
 pub few_units : (c : SpelledCall) → is_wide c ≡ false → IsOfFewUnits (call_of c)
 few_units (ReleaseMany c n) e = (nat_some n (left (n == 0) (nat_lt 256 n) e), at_most 256 n (right (n == 0) (nat_lt 256 n) e))

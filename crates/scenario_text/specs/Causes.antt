@@ -78,7 +78,7 @@ is_misplaced lines line = nat_lt 0 (count_later (kind line) lines) || is_out_of_
 -- 1 to 31 calls left out, where the text says how many
 abbrev pub is_wide_skip : Option ℕ → Bool
 is_wide_skip None = false
-is_wide_skip (Some n) = n == 0 || nat_lt 31 n
+is_wide_skip (Some n) = nat_lt 31 n
 
 -- units from 1 to 256, changes from -2 ^ 31 to 2 ^ 31 - 1
 abbrev pub is_wide : SpelledCall → Bool

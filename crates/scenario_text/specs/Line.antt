@@ -73,8 +73,12 @@ abbrev pub IsShortChange : Change → Type 0
 IsShortChange (Up n) = n < 10 ^ 10
 IsShortChange (Down n) = (0 < n) × (n < 10 ^ 10)
 
+-- at most ten digits, and no 0: where none is left out, nothing is written
+abbrev pub IsShortSkips : Option ℕ → Type 0
+IsShortSkips skips = IfSome skips (λ n. (0 < n) × (n < 10 ^ 10))
+
 abbrev pub IsShortGivingUp : SpelledGivingUp → Type 0
-IsShortGivingUp how = IfSome how.skips (λ n. n < 10 ^ 10)
+IsShortGivingUp how = IsShortSkips how.skips
 
 -- each of its numbers has at most ten digits
 abbrev pub IsShort : SpelledCall → Type 0

@@ -22,6 +22,10 @@ IsNumber most text n = (n < 10 ^ most) × (text ≡ decimal n)
 abbrev pub IsKeyed : ℕ → List ℕ → List ℕ → ℕ → Type 0
 IsKeyed most keyword text n = (n < 10 ^ most) × (text ≡ keyword ++ decimal n)
 
+-- a number behind a word that isn't 0
+abbrev pub IsKeyedSome : List ℕ → List ℕ → ℕ → Type 0
+IsKeyedSome keyword text n = (0 < n) × IsKeyed 10 keyword text n
+
 -- a number between two words
 abbrev pub IsFlagged : List ℕ → List ℕ → List ℕ → ℕ → Type 0
 IsFlagged keyword flag text n = (n < 10 ^ 10) × (text ≡ keyword ++ (decimal n ++ flag))

@@ -171,7 +171,7 @@ module _ (i : ℕ) (how : GivingUp) where
 -- and so does a wait on a group
 module _ (i g : ℕ) where
   looks_on : (s : Core) (ending : Ending) (p : Place) → ((how : GivingUp) (a : AcquireCall) → ending ≡ GaveUp how → p ≡ Acquiring a D4 → ⊥)
-      → stands s i (AtGroup g V3) ≡ looks_again s i g ending p
+      → stands s i (AtGroup g (V3 ending)) ≡ looks_again s i g ending p
   looks_on s (GaveUp how) (Acquiring a D4) other = absurd (other how a refl refl)
   looks_on s (GaveUp how) (Acquiring a row) other = refl
   looks_on s (GaveUp how) on_counter.Rest other = refl
@@ -183,7 +183,7 @@ module _ (i g : ℕ) where
 
   pub looks_again_now : (h k : WholeMachine) (ending : Ending) (p : Place)
       → ((how : GivingUp) (a : AcquireCall) → ending ≡ GaveUp how → p ≡ Acquiring a D4 → ⊥)
-      → Becomes (λ m s. stands s i (AtGroup g V3)) h k → Becomes (λ m s. looks_again s i g ending p) h k
+      → Becomes (λ m s. stands s i (AtGroup g (V3 ending))) h k → Becomes (λ m s. looks_again s i g ending p) h k
   looks_again_now h k ending p other = told_as (λ m shape journal. looks_on (core_of h journal) ending p other)
 
   pub has_left_group : (h k : WholeMachine) (ending : Ending) (p : Place) (how : GivingUp) (a : AcquireCall) → ending ≡ GaveUp how

@@ -294,13 +294,13 @@ module _ (s : Core) (i : ℕ) where
 
   looks_again_keeps : (g : ℕ) (ending : Ending) (before : Place) → Keeps s (looks_again s i g ending before) i 0
   looks_again_keeps g (GaveUp how) (Acquiring a D4) = stops (Left how.skips) refl
-  looks_again_keeps g (GaveUp how) (Acquiring a row) = stops (AtGroup g V3) refl
-  looks_again_keeps g (GaveUp how) on_counter.Rest = stops (AtGroup g V3) refl
-  looks_again_keeps g (GaveUp how) (Releasing r row) = stops (AtGroup g V3) refl
-  looks_again_keeps g (GaveUp how) (ReleasingMany r row) = stops (AtGroup g V3) refl
-  looks_again_keeps g NextCall before = stops (AtGroup g V3) refl
-  looks_again_keeps g (MayGiveUp how) before = stops (AtGroup g V3) refl
-  looks_again_keeps g (GivesBack skips) before = stops (AtGroup g V3) refl
+  looks_again_keeps g (GaveUp how) (Acquiring a row) = stops (AtGroup g (V3 (GaveUp how))) refl
+  looks_again_keeps g (GaveUp how) on_counter.Rest = stops (AtGroup g (V3 (GaveUp how))) refl
+  looks_again_keeps g (GaveUp how) (Releasing r row) = stops (AtGroup g (V3 (GaveUp how))) refl
+  looks_again_keeps g (GaveUp how) (ReleasingMany r row) = stops (AtGroup g (V3 (GaveUp how))) refl
+  looks_again_keeps g NextCall before = stops (AtGroup g (V3 NextCall)) refl
+  looks_again_keeps g (MayGiveUp how) before = stops (AtGroup g (V3 (MayGiveUp how))) refl
+  looks_again_keeps g (GivesBack skips) before = stops (AtGroup g (V3 (GivesBack skips))) refl
 
   goes_on_keeps : (m : CoreLayout) (after : After) (before : Place) → Keeps s (goes_on m s i after before) i 0
   goes_on_keeps m (Closes ending) before = closes_keeps ending before
@@ -368,7 +368,7 @@ module _ (s : Core) (i : ℕ) where
         (placed s i 0 (Acquiring (record { counter = semaphore m g; lifo = false }) A1) (AtCounter (LooksAgain g ending))
         (let was = ap may_sleep at in omega arith))
         (waits ending (AtGroup g (V1 ending)) (ap may_sleep at) refl refl)
-    group_keeps V3 w at = next_by (same_word w empty_word) group.Ends (group.Fails Reused) (stops Rest refl) (stops (Failed Reused) refl)
+    group_keeps (V3 ending) w at = next_by (same_word w empty_word) group.Ends (group.Fails Reused) (stops Rest refl) (stops (Failed Reused) refl)
     group_keeps (V4 how) w at =
         next_by (int_eq w.counter (pos 0) || (w.waits == 0)) (group.SleepsOn how) (group.Goes (V5 how w))
         (placed s i 0 (staying (s.semaphores.seats i).place) (AtCounter (LooksAgain g (GaveUp how)))

@@ -259,7 +259,7 @@ impl WholeMachine {
             Ending::GaveUp(how) if has_withdrawn(before) => {
                 self.stand(seat, Standing::Left(how.skips));
             }
-            _ => self.stand(seat, Standing::AtGroup(group, GroupRow::V3)),
+            _ => self.stand(seat, Standing::AtGroup(group, GroupRow::V3(ending))),
         }
     }
 

@@ -118,7 +118,7 @@ module _ (m : CoreLayout) (i : ℕ) (in_range : i < m.seats) where
       → (s.semaphores.seats i).place ≡ on_counter.Rest → core_weight m (looks_again s i g ending before) ≤ core_weight m s
   looks_weight s g (GaveUp how) (Acquiring a D4) at rests = let all = stands_weight s (Left how.skips) in omega arith
   looks_weight s g ending p at rests =
-      let all = stands_weight s (AtGroup g V3) in let before = ap (λ st. stands_at s.groups st (s.semaphores.seats i).place) at in omega arith
+      let all = stands_weight s (AtGroup g (V3 ending)) in let before = ap (λ st. stands_at s.groups st (s.semaphores.seats i).place) at in omega arith
 
   -- what comes after a call on a counter was weighed before
   pub goes_on_weight : (s : Core) (after : After) (before : Place) → s.standing i ≡ AtCounter after

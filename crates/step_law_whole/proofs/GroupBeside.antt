@@ -42,7 +42,7 @@ leads_beside m g (G2 seen) w p off = of_either (λ next. IsBesideNext m g next p
 leads_beside m g (G3 seen) w p off = off
 leads_beside m g (V1 ending) w p beside = of_either (λ next. IsBesideNext m g next p) (int_eq w.counter (pos 0)) _ _ beside.0 beside
 leads_beside m g (V2 ending seen) w p beside = of_either (λ next. IsBesideNext m g next p) (same_word seen w) _ _ beside beside
-leads_beside m g V3 w p off = of_either (λ next. IsBesideNext m g next p) (same_word w empty_word) _ _ off off
+leads_beside m g (V3 ending) w p off = of_either (λ next. IsBesideNext m g next p) (same_word w empty_word) _ _ off off
 leads_beside m g (V4 how) w p queued =
     of_either (λ next. IsBesideNext m g next p) (int_eq w.counter (pos 0) || (w.waits == 0)) _ _ queued queued
 leads_beside m g (V5 how seen) w p queued = of_either (λ next. IsBesideNext m g next p) (same_word seen w) _ _ queued queued

@@ -58,7 +58,7 @@ stale_word_most groups _ = omega arith
 
 pub counts_one : (g : ℕ) (standing : Standing) (place : Place) → counts_on g standing place ≤ 1
 counts_one g (AtCounter (LooksAgain h ending)) place = let a = counts_most g h ending place in let b = on_most h g 1 in omega arith
-counts_one g (AtGroup h V3) place = on_most h g 1
+counts_one g (AtGroup h (V3 ending)) place = on_most h g 1
 counts_one g (AtGroup h (V4 how)) place = on_most h g 1
 counts_one g (AtGroup h (V5 how seen)) place = on_most h g 1
 counts_one g (Failed misuse) place = omega arith
@@ -116,8 +116,8 @@ module _ (n g : ℕ) (groups : ℕ → GroupWord) (some : 0 < n) where
           (if b then group.Acquires ending else group.Goes (V1 ending))
       by true e = pays (omega arith)
       by false e = alone refl (let lost : stale_word groups (AtGroup g (V2 ending seen)) ≡ 2 = ap (λ b. cond {A = ℕ} b 0 2) e in omega arith)
-  group_falls V3 place few =
-      either (GroupFalls n g groups V3 (groups g)) (same_word (groups g) empty_word) _ _ (alone refl (omega arith)) (alone refl (omega arith))
+  group_falls (V3 ending) place few =
+      either (GroupFalls n g groups (V3 ending) (groups g)) (same_word (groups g) empty_word) _ _ (alone refl (omega arith)) (alone refl (omega arith))
 
 module _ (m : CoreLayout) (i : ℕ) (in_range : i < m.seats) where
   -- who sleeps on weighs so much more on counters

@@ -220,8 +220,8 @@ module _ (m : CoreLayout) (i : ℕ) (in_range : i < m.seats) where
       at_most : (g : ℕ) → count_of g s i ≤ on h g 1
       at_most g = let same = was g (s.semaphores.seats i).place refl in let most = counts_most g h ending (s.semaphores.seats i).place in omega arith
 
-      looks_again : WaitsCounted m (stands row i (AtGroup h V3))
-      looks_again = then_stands (AtGroup h V3) at_most
+      looks_again : WaitsCounted m (stands row i (AtGroup h (V3 ending)))
+      looks_again = then_stands (AtGroup h (V3 ending)) at_most
 
       still_counts : (q : Place) → (row.semaphores.seats i).place ≡ q → has_left ending q ≡ false → WaitsCounted m row
       still_counts q at stays =

@@ -71,9 +71,9 @@ module _ (m : CoreLayout) (g : ℕ) (w : GroupWord) (p : Place) where
       by : (b : Bool) → RowFits (V2 ending seen) (if b then one_more w else w, if b then group.Acquires ending else group.Goes (V1 ending))
       by true = counted
       by false = inr (omega arith)
-  row_fits V3 beside = by (same_word w empty_word) refl
+  row_fits (V3 ending) beside = by (same_word w empty_word) refl
     where
-      by : (b : Bool) → same_word w empty_word ≡ b → RowFits V3 (w, if b then group.Ends else group.Fails Reused)
+      by : (b : Bool) → same_word w empty_word ≡ b → RowFits (V3 ending) (w, if b then group.Ends else group.Fails Reused)
       by true e = inl (ap (λ (x : GroupWord). x.waits) (same_is w empty_word e))
       by false e = inr (let one = on_here g 1 in omega arith)
   row_fits (V4 how) queued = by (int_eq w.counter (pos 0) || (w.waits == 0))
@@ -97,7 +97,7 @@ module _ (m : CoreLayout) (g : ℕ) (w : GroupWord) (p : Place) where
 
   -- of another group nothing is counted
   pub elsewhere : (h : ℕ) (row : GroupRow) (after : ℕ) → h ≢ g → counts_on h (AtGroup g row) p ≤ after
-  elsewhere h V3 after ne = let none = on_else g h 1 (λ e. ne (sym e)) in omega arith
+  elsewhere h (V3 ending) after ne = let none = on_else g h 1 (λ e. ne (sym e)) in omega arith
   elsewhere h (V4 how) after ne = let none = on_else g h 1 (λ e. ne (sym e)) in omega arith
   elsewhere h (V5 how seen) after ne = let none = on_else g h 1 (λ e. ne (sym e)) in omega arith
   elsewhere h row after ne = omega arith

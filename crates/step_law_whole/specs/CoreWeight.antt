@@ -46,7 +46,7 @@ group_weight n (G2 seen) = 2 * n + releases_weight n seen.waits
 group_weight n (G3 seen) = 2 * n - 1 + releases_weight n seen.waits
 group_weight n (V1 ending) = 4 * n + 6 + wait_weight ending
 group_weight n (V2 ending seen) = 4 * n + 5 + wait_weight ending
-group_weight n V3 = 1
+group_weight n (V3 ending) = 1
 group_weight n (V4 how) = 2 * n + 1
 group_weight n (V5 how seen) = 2 * n
 

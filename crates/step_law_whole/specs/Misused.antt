@@ -26,7 +26,7 @@ has_left _ _ = false
 -- the seat's wait on the group g was counted, and has neither left nor ended
 abbrev pub IsCounted : ℕ → Standing → Place → Type 0
 IsCounted g (AtCounter (LooksAgain h ending)) place = (h ≡ g) × (has_left ending place ≡ false)
-IsCounted g (AtGroup h V3) place = h ≡ g
+IsCounted g (AtGroup h (V3 ending)) place = h ≡ g
 IsCounted g (AtGroup h (V4 how)) place = h ≡ g
 IsCounted g (AtGroup h (V5 how w)) place = h ≡ g
 IsCounted g _ place = ⊥
@@ -34,7 +34,7 @@ IsCounted g _ place = ⊥
 -- 1 where it is
 abbrev pub counted_at : ℕ → Standing → Place → ℕ
 counted_at g (AtCounter (LooksAgain h ending)) place = if has_left ending place then 0 else on h g 1
-counted_at g (AtGroup h V3) place = on h g 1
+counted_at g (AtGroup h (V3 ending)) place = on h g 1
 counted_at g (AtGroup h (V4 how)) place = on h g 1
 counted_at g (AtGroup h (V5 how w)) place = on h g 1
 counted_at g _ place = 0

@@ -135,7 +135,7 @@ kept w (V2 ending seen) is = by (same_word seen w) (w.waits == 4294967295) refl
     by true true e = (fits, omega arith)
     by true false e = (is.0, room e)
     by false full e = is
-kept w V3 is = is
+kept w (V3 ending) is = is
 kept w (V4 how) is = is
 kept w (V5 how seen) is = by (same_word seen w)
   where
@@ -158,7 +158,7 @@ rows w (V2 ending seen) is compares =
     by : (b : Bool) → bits_of (if b then one_more w else w) ≡ (if b then (bits_of w + 1) % 18446744073709551616 else bits_of w)
     by true = waits w is
     by false = refl
-rows w V3 is compares = refl
+rows w (V3 ending) is compares = refl
 rows w (V4 how) is compares = refl
 rows w (V5 how seen) is compares = by (same_word seen w) refl
   where

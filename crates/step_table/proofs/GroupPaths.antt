@@ -22,7 +22,7 @@ row_can (G2 seen) w = search
 row_can (G3 seen) w = search
 row_can (V1 ending) w = search
 row_can (V2 ending seen) w = search
-row_can V3 w = search
+row_can (V3 ending) w = search
 row_can (V4 how) w = search
 row_can (V5 how seen) w = search
 

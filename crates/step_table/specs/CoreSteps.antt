@@ -104,7 +104,7 @@ closes s i (GivesBack skips) before = stands s i (Left skips)
 -- a wait on the group g has ended so, after a row at this place: it has withdrawn, or looks again
 abbrev pub looks_again : Core → ℕ → ℕ → Ending → Place → Core
 looks_again s i g (GaveUp how) (Acquiring a D4) = stands s i (Left how.skips)
-looks_again s i g ending before = stands s i (AtGroup g V3)
+looks_again s i g ending before = stands s i (AtGroup g (V3 ending))
 
 abbrev pub goes_on : CoreLayout → Core → ℕ → After → Place → Core
 goes_on m s i (Closes ending) before = closes s i ending before

@@ -53,7 +53,7 @@ group_event g (V1 ending) = load g (λ w. if int_eq w.counter (pos 0) then Ends 
 -- counted before it sleeps, and only in the word that V1 read: an add that leads to 0 releases the waits that
 -- are counted. One that isn't, or that counts itself after that add, would sleep for good
 group_event g (V2 ending seen) = exchange_if g (same_word seen) one_more (Acquires ending) (Goes (V1 ending))
-group_event g V3 = load g (λ w. if same_word w empty_word then Ends else Fails Reused)
+group_event g (V3 ending) = load g (λ w. if same_word w empty_word then Ends else Fails Reused)
 -- looked at under the semaphore's lock, where the wait is queued. At 0 an add stands between G1 and G3, and
 -- allows no change of the word: the wait is counted, and a unit of its own is on the way
 group_event g (V4 how) =

@@ -30,7 +30,7 @@ bits_after (G2 seen) n = n
 bits_after (G3 seen) n = 0
 bits_after (V1 ending) n = n
 bits_after (V2 ending seen) n = if n == bits_of seen then (n + 1) % 2 ^ 64 else n
-bits_after V3 n = n
+bits_after (V3 ending) n = n
 bits_after (V4 how) n = n
 bits_after (V5 how seen) n = if n == bits_of seen then n - 1 else n
 

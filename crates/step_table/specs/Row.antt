@@ -123,7 +123,7 @@ group_row_name (G2 w) = name.G2
 group_row_name (G3 w) = name.G3
 group_row_name (V1 ending) = name.V1
 group_row_name (V2 ending w) = name.V2
-group_row_name V3 = name.V3
+group_row_name (V3 ending) = name.V3
 group_row_name (V4 how) = name.V4
 group_row_name (V5 how w) = name.V5
 

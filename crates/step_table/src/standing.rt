@@ -17,7 +17,7 @@ pub enum GroupRow {
     G3(GroupWord),
     V1(Ending),
     V2(Ending, GroupWord),
-    V3,
+    V3(Ending),
     /// It has given up, and holds the lock: its wait is queued.
     V4(GivingUp),
     V5(GivingUp, GroupWord),
@@ -94,7 +94,7 @@ impl GroupRow {
             GroupRow::G3(_) => Row::G3,
             GroupRow::V1(_) => Row::V1,
             GroupRow::V2(_, _) => Row::V2,
-            GroupRow::V3 => Row::V3,
+            GroupRow::V3(_) => Row::V3,
             GroupRow::V4(_) => Row::V4,
             GroupRow::V5(_, _) => Row::V5,
         }

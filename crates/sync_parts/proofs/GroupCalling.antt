@@ -100,7 +100,7 @@ waits_by s t (Ok done) (inl is) =
     }
 waits_by s t (Ok done) (inr is) = record {
   before = is.before;
-  last = step V3 empty_word;
+  last = step (V3 NextCall) empty_word;
   looked = is.ran.steps_are;
   woken = 1;
   tells = (refl, inr (refl, refl));
@@ -108,7 +108,7 @@ waits_by s t (Ok done) (inr is) = record {
 }
 waits_by s t (Err misuse) (reused, (word, other, is)) = record {
   before = is.before;
-  last = step V3 word;
+  last = step (V3 NextCall) word;
   looked = is.ran.steps_are;
   woken = 1;
   tells = (reused, refl, other);

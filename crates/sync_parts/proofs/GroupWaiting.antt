@@ -203,20 +203,20 @@ acquired_number a b (inr x) = ap (λ (q : SeatModel). q.number) x.2.0 ∙ ap (λ
 -- a wait that was counted, acquired, and looked again
 module _ (s u v : Token) (a b : SeatModel) (counted : GetsCounted s (V1 NextCall) u) (acquired : IsAcquired a 0 false b) (word : GroupWord)
     (y : Steps u (load_row u.me.0.own.knows.next) word v) where
-  again : Steps u V3 word v
+  again : Steps u (V3 NextCall) word v
   again = subst (λ (row : GroupRow). Steps u row word v) (ap load_row counted.1.next_is) y
 
-  is_counted : (next : GroupNext) → (group_row V3 word).1 ≡ next → IsCounted (group_seat_of s a) word next (group_seat_of v b)
+  is_counted : (next : GroupNext) → (group_row (V3 NextCall) word).1 ≡ next → IsCounted (group_seat_of s a) word next (group_seat_of v b)
   is_counted next leads = let w = counted.1 in record {
     before = counted.0;
     ran = record {
       group = λ i. record { word = (again.table_is ∙ w.table_is) i; sema = same_table a b acquired i };
-      steps_are = ap (λ (m : Me). m.0.own.gone) again.me_is ∙ ap (λ (l : List GroupStep). l ++ step V3 word ∷ []) w.steps_are
-          ∙ append_assoc s.me.0.own.gone counted.0 (step V3 word ∷ []);
+      steps_are = ap (λ (m : Me). m.0.own.gone) again.me_is ∙ ap (λ (l : List GroupStep). l ++ step (V3 NextCall) word ∷ []) w.steps_are
+          ∙ append_assoc s.me.0.own.gone counted.0 (step (V3 NextCall) word ∷ []);
     };
     path = w.path a.number;
     acquired = acquired;
-    looked = subst (λ (k : GroupNext). Walks a.number V3 (step V3 word ∷ []) k) leads (walks_first a.number V3 word again.word);
+    looked = subst (λ (k : GroupNext). Walks a.number (V3 NextCall) (step (V3 NextCall) word ∷ []) k) leads (walks_first a.number (V3 NextCall) word again.word);
   }
 
   pub waited : same_word word empty_word ≡ true → IsCounted (group_seat_of s a) empty_word Ends (group_seat_of v b)

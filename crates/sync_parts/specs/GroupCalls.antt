@@ -43,10 +43,10 @@ pub record IsUncounted (s t : GroupSeatModel) : Type 0 where
 pub record IsCounted (s : GroupSeatModel) (word : GroupWord) (next : GroupNext) (t : GroupSeatModel)
     : Type 0 where
   pub before : List GroupStep
-  pub ran : RanSteps s (before ++ step V3 word ∷ []) t
+  pub ran : RanSteps s (before ++ step (V3 NextCall) word ∷ []) t
   pub path : Walks s.sema.number (V1 NextCall) before (Acquires NextCall)
   pub acquired : IsAcquired s.sema 0 false t.sema
-  pub looked : Walks s.sema.number V3 (step V3 word ∷ []) next
+  pub looked : Walks s.sema.number (V3 NextCall) (step (V3 NextCall) word ∷ []) next
 
 -- a wait comes back where it found counter 0, uncounted, or counted and then with nobody counted or waiting;
 -- or else the group was used again

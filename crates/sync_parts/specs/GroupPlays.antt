@@ -39,7 +39,7 @@ stepped row found v = record v {
 -- the row that a load is, by what the last row led to
 abbrev pub load_row : GroupNext → GroupRow
 load_row (Goes (G2 seen)) = G2 seen
-load_row (Acquires ending) = V3
+load_row (Acquires ending) = V3 ending
 load_row _ = V1 NextCall
 
 -- the seat goes to this row, by its caller's choice or because it stands there

@@ -30,7 +30,7 @@ IsFirst _ = ⊥
 -- call is under way the first of another
 abbrev pub Follows : GroupNext → GroupRow → Type 0
 Follows (Goes next) row = row ≡ next
-Follows (Acquires ending) row = row ≡ V3
+Follows (Acquires ending) row = row ≡ V3 ending
 Follows (SleepsOn how) row = ⊥
 Follows (Withdraws how) row = ⊥
 Follows _ row = IsFirst row

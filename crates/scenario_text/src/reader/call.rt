@@ -7,7 +7,7 @@
 ghost use Rattle.std.specs.Prelude.{◌≡◌, IsTrue, IfOk, false};
 ghost use Rattle.std.specs.Option.{option_map};
 ghost use Rattle.scenario_text.specs.Line.{skips};
-ghost use Rattle.scenario_text.specs.Phrases.{ReadsAs, IsChange, IsGroupAdd, IsGivingUp, IsOrLeave};
+ghost use Rattle.scenario_text.specs.Phrases.{ReadsAs, IsKeyedSome, IsChange, IsGroupAdd, IsGivingUp, IsOrLeave};
 ghost use Rattle.scenario_text.specs.Phrases.{IsGroupLeave, IsCall, IsCallOrLeave, IsSomeCall, AreCalls};
 
 use crate::reader::number::{DIGITS, flagged, keyed, numbered, pair, short_number};
@@ -80,6 +80,17 @@ fn read_group_add(text: &str) -> Option<(u128, Change)>
     Some((group, size))
 }
 
+/// How many of the next calls are left out, behind a word: where none is, nothing is written.
+fn read_skips(text: &str, word: &str) -> Option<u128>
+    ensures { ReadsAs (IsKeyedSome word.now text.now) result }
+{
+    let skips = keyed(text, word, DIGITS)?;
+    if skips == 0 {
+        return None;
+    }
+    Some(skips)
+}
+
 /// How a call may give up: a word, and a number that may follow it.
 fn read_giving_up(text: &str) -> Option<SpelledGivingUp>
     ensures { ReadsAs (IsGivingUp text.now) result }
@@ -96,13 +107,13 @@ fn read_giving_up(text: &str) -> Option<SpelledGivingUp>
             skips: None,
         });
     }
-    if let Some(skips) = keyed(text, "leave ", DIGITS) {
+    if let Some(skips) = read_skips(text, "leave ") {
         return Some(SpelledGivingUp {
             late: Late::Kept,
             skips: Some(skips),
         });
     }
-    let skips = keyed(text, "quit ", DIGITS)?;
+    let skips = read_skips(text, "quit ")?;
     Some(SpelledGivingUp {
         late: Late::GivenBack,
         skips: Some(skips),

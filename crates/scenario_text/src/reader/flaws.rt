@@ -67,7 +67,7 @@ fn is_wide_skip(skips: Option<u128>) -> bool
     ensures { result ≡ causes.is_wide_skip skips }
 {
     match skips {
-        Some(skips) => skips == 0 || skips > MAX_SKIPS as u128,
+        Some(skips) => skips > MAX_SKIPS as u128,
         None => false,
     }
 }
