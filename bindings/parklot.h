@@ -71,9 +71,9 @@ enum parklot_answer {
     PARKLOT_UNITS = 106,      /* not 1 to 256 units */
     PARKLOT_ROOM = 107,       /* room for fewer numbers than 256 */
     PARKLOT_COUNTERS = 110,   /* not 1 to 65,536 counters */
-    PARKLOT_SEATS = 111,      /* not 1 to 256 seats */
+    PARKLOT_SEATS = 111,      /* not 1 to 65536 seats, of a list 256 */
     PARKLOT_ROOTS = 112,      /* not 1 to 251 roots */
-    PARKLOT_RELEASE_LIMIT = 113, /* not 1 to 2^40 units */
+    PARKLOT_RELEASE_LIMIT = 113, /* not 1 to 2^54 units, or above 2^62 for all seats */
     PARKLOT_NO_MEMORY = 114
 };
 

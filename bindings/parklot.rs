@@ -74,11 +74,11 @@ pub enum Refused {
     Room,
     /// Not 1 to 65,536 counters.
     Counters,
-    /// Not 1 to 256 seats.
+    /// Not 1 to 65,536 seats, of a list 1 to 256.
     Seats,
     /// Not 1 to 251 roots.
     Roots,
-    /// Not 1 to 2^40 units that a seat may add.
+    /// Not 1 to 2^54 units that a seat may add, or more than 2^62 for all seats together.
     ReleaseLimit,
     NoMemory,
 }
@@ -172,7 +172,7 @@ impl<'a> Table<'a> {
     /// All its seats, in the order of their numbers. The table lives in them, and ends with the last.
     pub fn seats(&self, count: usize) -> Result<Vec<Seat>, Refused> {
         // The library tells so too; here no room is taken for what it would refuse.
-        if count > 256 {
+        if count > 65_536 {
             return Err(Refused::Seats);
         }
         let mut seats: Vec<Seat> = (0..count).map(|_| Seat { raw: Raw::EMPTY }).collect();

@@ -35,7 +35,7 @@ static bool is_empty(const struct parklot_seat *seat)
 
 static void make_refused(void)
 {
-    static struct parklot_seat many[257];
+    static struct parklot_seat many[65537];
     static uint32_t too_many[65537];
 
     heading("settings that don't fit");
@@ -46,7 +46,7 @@ static void make_refused(void)
     SAY(parklot_new(starts, COUNTERS, 1, 1, 0, seats, SEATS));
     SAY(parklot_new(starts, COUNTERS, 1, 1, (UINT64_C(1) << 40) + 1, seats, SEATS));
     SAY(parklot_new(starts, COUNTERS, 1, 1, LIMIT, seats, 0));
-    SAY(parklot_new(starts, COUNTERS, 1, 1, LIMIT, many, 257));
+    SAY(parklot_new(starts, COUNTERS, 1, 1, LIMIT, many, 65537));
     for (int at = 0; at < SEATS; at++)
         must(is_empty(&seats[at]), "a refused parklot_new wrote a seat", PARKLOT_OK);
 }

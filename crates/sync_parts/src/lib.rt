@@ -6,8 +6,8 @@
 //! microseconds at most before it sleeps, as Go's `sync.Mutex` spins, and doesn't give its processor away. Its
 //! counter is to start at 1 and to be used by such locks alone: then of two locks that meet at most one is held.
 //!
-//! A lock keeps a seat of the table, so there are as many locks as seats, 256 at most, and each unlocks as
-//! often as its seat may release, 2^40 times at most: [`SemaLock::left`] tells how often yet. One that is
+//! A lock keeps a seat of the table, so there are as many locks as seats, 65,536 at most, and each unlocks as
+//! often as its seat may release, 2^54 times at most: [`SemaLock::left`] tells how often yet. One that is
 //! dropped while it is held stays locked. [`SemaLock::try_lock_until`] and [`SemaLock::try_lock_for`] give up
 //! once a time is over, and the lock may then unlock once less. No call takes memory, and none answers an
 //! error. `acquire` may wait for another lock's release, those two for a while and for a root's lock, and
