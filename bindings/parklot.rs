@@ -40,6 +40,7 @@ unsafe extern "C" {
     fn parklot_try_acquire(seat: *mut Raw, counter: u32) -> u32;
     fn parklot_enter(seat: *mut Raw, counter: u32, lifo: bool) -> u32;
     fn parklot_poll(seat: *mut Raw) -> u32;
+    fn parklot_leave(seat: *mut Raw) -> u32;
     fn parklot_retry(seat: *mut Raw) -> u32;
     fn parklot_post(seat: *mut Raw, counter: u32) -> u32;
     fn parklot_post_many(seat: *mut Raw, counter: u32, units: u32) -> u32;
@@ -110,6 +111,21 @@ pub enum Polled {
     Woken,
     /// Woken with a unit.
     Handed,
+}
+
+/// What `leave` did.
+#[derive(Clone, Copy, Debug, PartialEq, Eq)]
+pub enum GaveUp {
+    /// The seat is queued no more, and rests.
+    Left,
+    /// A release has taken the seat out, and will name it: its task sleeps on, without a time, and then polls.
+    Coming,
+    /// Woken before, without a unit: `retry`.
+    Woken,
+    /// Woken before, with a unit.
+    Handed,
+    /// Nothing was done: again, a little later.
+    Busy,
 }
 
 /// What `retry` found.
@@ -261,6 +277,19 @@ impl Seat {
             6 => Ok(Polled::Asleep),
             7 => Ok(Polled::Woken),
             10 => Ok(Polled::Handed),
+            other => Err(refusal(other)),
+        }
+    }
+
+    /// Gives up the wait of a seat that is asleep.
+    pub fn leave(&mut self) -> Result<GaveUp, Refused> {
+        // SAFETY: see above.
+        match unsafe { parklot_leave(&mut self.raw) } {
+            14 => Ok(GaveUp::Left),
+            15 => Ok(GaveUp::Coming),
+            7 => Ok(GaveUp::Woken),
+            10 => Ok(GaveUp::Handed),
+            103 => Ok(GaveUp::Busy),
             other => Err(refusal(other)),
         }
     }

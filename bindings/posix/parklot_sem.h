@@ -8,11 +8,10 @@
      in the middle of a call with its seat. For the same reason no call is made with asynchronous cancellation.
    - A condition variable isn't freed while a thread that waits there is being cancelled.
 
-   A thread gets one of 256 seats at its first call, and gives it back when it ends. A wait that ends by its time, a signal
-   or its cancellation leaves its seat in the queue, until that is woken or the next who waits there takes it over; it counts
-   as well. Where no seat is free a call answers ENOMEM, and a wait that can't leave its seat goes on. A post that wakes such
-   a seat takes its unit out of the semaphore and puts it in again, so a parklot_sem_trywait meanwhile may answer EAGAIN.
-   There are 16,000 semaphores and threads at most (ENOSPC, ENOMEM). */
+   A thread gets one of 256 seats at its first call, and gives it back when it ends; where none is free a call answers
+   ENOMEM. A wait that ends by its time, a signal or its cancellation takes its seat out of the queue (parklot_leave). One
+   that a post was about to wake waits for that, and may end with the unit after all. There are 16,000 semaphores and threads
+   at most (ENOSPC, ENOMEM). */
 
 #ifndef PARKLOT_SEM_H
 #define PARKLOT_SEM_H

@@ -215,19 +215,19 @@ static void times_that_are_over(void)
     SAY(parklot_sem_destroy(&sem));
 }
 
-/* Semaphores by the hundred, each with a wait whose time was over: destroy takes the seats back. */
-static void seats_of_the_destroyed(void)
+/* More semaphores than there are seats, each with a wait whose time was over: none of them keeps a seat. */
+static void times_that_are_over_everywhere(void)
 {
+    static parklot_sem_t sems[400];
     struct timespec past = {0, 0};
 
-    for (int round = 0; round < 400; round++) {
-        parklot_sem_t sem;
-
-        must(parklot_sem_init(&sem, 0, 0) == 0, "init");
-        must(parklot_sem_timedwait(&sem, &past) == -1 && errno == ETIMEDOUT, "a time is over");
-        must(parklot_sem_destroy(&sem) == 0, "destroy");
+    for (int at = 0; at < 400; at++) {
+        must(parklot_sem_init(&sems[at], 0, 0) == 0, "init");
+        must(parklot_sem_timedwait(&sems[at], &past) == -1 && errno == ETIMEDOUT, "a time is over");
     }
-    printf("400 semaphores with a time that was over\n");
+    for (int at = 0; at < 400; at++)
+        must(parklot_sem_destroy(&sems[at]) == 0, "destroy");
+    printf("400 semaphores at once with a time that was over\n");
 }
 
 static void nothing(int number)
@@ -493,7 +493,7 @@ int main(void)
     answers();
     queue_of_semaphores();
     times_that_are_over();
-    seats_of_the_destroyed();
+    times_that_are_over_everywhere();
     all_semaphores();
     signals();
     many_threads();

@@ -15,23 +15,20 @@
 #include <sys/syscall.h>
 #include <unistd.h>
 
-enum { COUNTERS = 16384, ROOTS = 251, MANY = 256, NOWHERE = 0, NONE = THREAD_SEATS };
+enum { COUNTERS = 16384, ROOTS = 251, MANY = 256 };
 
-static const uint64_t RELEASE_LIMIT = (uint64_t)1 << 40;
+static const uint64_t RELEASE_LIMIT = (uint64_t)1 << 54;
 
 /* What a seat's word says while it is queued. */
-enum { STAYS, NAMED, LEFT };
+enum { STAYS, NAMED };
 
-/* A seat and its word. A seat whose thread waits no longer is left in the queue, since none leaves it but by being woken:
-   `left_at` says on which counter, until it is back with the others. That field is guarded by `pool`. */
+/* A seat and its word. */
 struct place {
     _Alignas(128) atomic_uint word;
-    uint32_t left_at;
     struct parklot_seat seat;
 };
 
 static struct place places[THREAD_SEATS];
-static atomic_uint left_behind; /* how many words are LEFT: so that who finds 0 needn't look for one */
 
 /* Which seats and counters are nobody's. Counters go round, the one that was given back first is taken first. */
 static pthread_mutex_t pool = PTHREAD_MUTEX_INITIALIZER;
@@ -64,8 +61,6 @@ static struct place *seat_taken(void)
 
 static void seat_given(struct place *place)
 {
-    atomic_store(&place->word, STAYS);
-    place->left_at = NOWHERE;
     free_seats[free_seats_count++] = (uint32_t)(place - places);
 }
 
@@ -169,75 +164,44 @@ static int futex_wait(atomic_uint *word, const struct patience *patience)
     return errno;
 }
 
-/* Leaves this thread's seat in the queue, and takes another. False where it was named meanwhile, or none is free: then the
-   thread has to go on with this one. */
-static bool leave(uint32_t counter)
+/* The try of a seat that was woken. */
+static bool took(void)
 {
-    unsigned int stays = STAYS;
-    struct place *place = self.place;
-    bool left = false;
+    uint32_t answer = parklot_retry(&self.place->seat);
 
-    pthread_mutex_lock(&pool);
-    if (free_seats_count > 0 && atomic_compare_exchange_strong(&place->word, &stays, LEFT)) {
-        place->left_at = counter;
-        atomic_fetch_add(&left_behind, 1);
-        self.place = seat_taken();
-        left = true;
-    }
-    pthread_mutex_unlock(&pool);
-    return left;
-}
-
-/* Takes over a seat that was left in this counter's queue, instead of queueing another: so waits that time out again and
-   again need no more seats than wait at once. It stands as far in front as if this thread had waited all the time. */
-static bool take_over(uint32_t counter)
-{
-    bool taken = false;
-
-    if (atomic_load(&left_behind) == 0)
-        return false;
-    pthread_mutex_lock(&pool);
-    for (uint32_t number = 0; number < THREAD_SEATS && !taken; number++) {
-        struct place *place = &places[number];
-        unsigned int left = LEFT;
-
-        if (place->left_at != counter || !atomic_compare_exchange_strong(&place->word, &left, STAYS))
-            continue;
-        atomic_fetch_sub(&left_behind, 1);
-        place->left_at = NOWHERE;
-        seat_given(self.place);
-        self.place = place;
-        taken = true;
-    }
-    pthread_mutex_unlock(&pool);
-    return taken;
-}
-
-/* The try of a seat that was named. */
-static bool took(struct place *place)
-{
-    uint32_t answer;
-
-    must(parklot_poll(&place->seat) == PARKLOT_WOKEN, "a seat was named, and isn't woken");
-    answer = parklot_retry(&place->seat);
     must(answer == PARKLOT_TAKEN || answer == PARKLOT_ZERO, "a woken seat's try was refused");
     return answer == PARKLOT_TAKEN;
 }
 
-/* What a thread does yet that is cancelled in its sleep: it leaves, or, where it was named, brings the unit to another. */
+/* The try of a seat that was named. */
+static bool took_when_named(void)
+{
+    must(parklot_poll(&self.place->seat) == PARKLOT_WOKEN, "a seat was named, and isn't woken");
+    return took();
+}
+
+/* Gives the wait up: whether there was a unit after all. Where a release has the seat it will name it, and that name is
+   waited for, since it would end the seat's next wait. */
+static bool leave(void)
+{
+    atomic_uint *word = &self.place->word;
+    uint32_t answer;
+
+    while ((answer = parklot_leave(&self.place->seat)) == PARKLOT_BUSY)
+        sched_yield();
+    if (answer == PARKLOT_LEFT)
+        return false;
+    must(answer == PARKLOT_COMING || answer == PARKLOT_WOKEN, "a wait can't be given up");
+    while (atomic_load(word) != NAMED)
+        futex_wait(word, &(struct patience){.has_end = false});
+    return answer == PARKLOT_WOKEN ? took() : took_when_named();
+}
+
+/* What a thread does yet that is cancelled in its sleep: a unit that came for it goes to another. */
 static void is_cancelled(void *given)
 {
-    uint32_t counter = *(uint32_t *)given;
-    struct place *place = self.place;
-
-    while (!leave(counter)) {
-        if (atomic_load(&place->word) == NAMED) {
-            if (took(place))
-                counter_release(counter);
-            return;
-        }
-        sched_yield();
-    }
+    if (leave())
+        counter_release(*(uint32_t *)given);
 }
 
 /* Between the two calls of pthread_setcanceltype nothing is done but to sleep: it may end there at any instruction. */
@@ -253,7 +217,7 @@ static int futex_wait_cancellable(uint32_t counter, atomic_uint *word, const str
     return error;
 }
 
-/* Sleeps until the seat is named: 0. Else the wait was ended before, and the seat is left. */
+/* Sleeps until the seat is named: 0; or until the wait is to end before. */
 static int sleep_until_named(uint32_t counter, const struct patience *patience)
 {
     atomic_uint *word = &self.place->word;
@@ -262,11 +226,8 @@ static int sleep_until_named(uint32_t counter, const struct patience *patience)
         int error = patience->by_cancellation ? futex_wait_cancellable(counter, word, patience)
                                               : futex_wait(word, patience);
 
-        if (error != ETIMEDOUT && !(error == EINTR && patience->by_signal))
-            continue;
-        if (leave(counter))
+        if (error == ETIMEDOUT || (error == EINTR && patience->by_signal))
             return error;
-        sched_yield();
     }
     return 0;
 }
@@ -298,19 +259,16 @@ int counter_acquire_with(uint32_t counter, const struct patience *patience)
     if (counter_try(counter))
         return 0;
     do {
+        uint32_t answer = enter(counter);
         int error;
 
-        if (!take_over(counter)) {
-            uint32_t answer = enter(counter);
-
-            if (answer == PARKLOT_TAKEN)
-                return 0;
-            must(answer == PARKLOT_ASLEEP, "an acquire was refused");
-        }
+        if (answer == PARKLOT_TAKEN)
+            return 0;
+        must(answer == PARKLOT_ASLEEP, "an acquire was refused");
         error = sleep_until_named(counter, patience);
         if (error != 0)
-            return error;
-    } while (!took(self.place));
+            return leave() ? 0 : error;
+    } while (!took_when_named());
     return 0;
 }
 
@@ -321,14 +279,13 @@ void counter_acquire(uint32_t counter)
 
 /* Waking. */
 
-/* Another seat for one that has added all its units, which isn't given back: 2^40 are thirteen days at a million each
-   second. */
+/* Another seat for one that has used up all its units, which isn't given back: 2^54 are 570 years at a million each second. */
 static void change_seats(void)
 {
     pthread_mutex_lock(&pool);
     self.place = seat_taken();
     pthread_mutex_unlock(&pool);
-    must(self.place != NULL, "the seats have added all their units");
+    must(self.place != NULL, "the seats have used up all their units");
 }
 
 static uint32_t post(uint32_t counter)
@@ -340,73 +297,26 @@ static uint32_t post(uint32_t counter)
     return answer;
 }
 
-/* Adds a unit, and wakes the first. Where that one's thread has left, it says which it is, and the caller has to go on for
-   it. */
-static uint32_t bring(uint32_t counter)
+void counter_release(uint32_t counter)
 {
     uint32_t number, answer = post(counter);
 
     if (answer == PARKLOT_DONE)
-        return NONE;
+        return;
     must(answer == PARKLOT_OWES, "a release was refused");
     while ((answer = parklot_wake(&self.place->seat, false, &number)) == PARKLOT_BUSY)
         sched_yield();
     if (answer == PARKLOT_NOBODY)
-        return NONE;
+        return;
     must(answer == PARKLOT_ONE, "a wake-up was refused");
-    if (atomic_exchange(&places[number].word, NAMED) == LEFT) {
-        atomic_fetch_sub(&left_behind, 1);
-        return number;
-    }
+    atomic_store(&places[number].word, NAMED);
     syscall(SYS_futex, &places[number].word, FUTEX_WAKE | FUTEX_PRIVATE_FLAG, 1, NULL, NULL, 0);
-    return NONE;
-}
-
-/* A seat that was left takes the unit, if nobody was faster, and the unit is brought again: so the next is woken. The seat
-   goes back only then, so that counter_give_back sees that a unit may still come. */
-void counter_release(uint32_t counter)
-{
-    uint32_t number = bring(counter);
-
-    while (number != NONE) {
-        struct place *left = &places[number];
-
-        number = took(left) ? bring(counter) : NONE;
-        seat_give_back(left);
-    }
 }
 
 /* Counters of nobody's. */
 
-/* A seat that was left in this counter's queue, woken or not, or none. */
-static struct place *left_at(uint32_t counter)
-{
-    struct place *found = NULL;
-
-    pthread_mutex_lock(&pool);
-    for (uint32_t number = 0; number < THREAD_SEATS && found == NULL; number++)
-        if (places[number].left_at == counter)
-            found = &places[number];
-    pthread_mutex_unlock(&pool);
-    return found;
-}
-
-/* Nobody waits here any more but seats that were left: each is brought a unit, which it takes away. A seat that another is
-   waking just now is waited for. */
 void counter_give_back(uint32_t counter)
 {
-    struct place *left;
-
-    while ((left = left_at(counter)) != NULL) {
-        uint32_t number = atomic_load(&left->word) == LEFT ? bring(counter) : NONE;
-
-        if (number == NONE) {
-            sched_yield();
-            continue;
-        }
-        took(&places[number]);
-        seat_give_back(&places[number]);
-    }
     pthread_mutex_lock(&pool);
     counter_given(counter);
     pthread_mutex_unlock(&pool);

@@ -28,6 +28,10 @@ pub const AT_ONCE: u32 = 11;
 pub const PARKED: u32 = 12;
 /// Of a list: a ticket was granted whose wait isn't queued, so that nobody is woken.
 pub const GRANTED: u32 = 13;
+/// The seat gave up: its wait was taken out, and it rests.
+pub const LEFT: u32 = 14;
+/// The seat gave up where a release has its wait: its grant is on the way, and it sleeps on.
+pub const COMING: u32 = 15;
 
 /// The handle has no seat.
 pub const NO_SEAT: u32 = 100;
