@@ -29,7 +29,7 @@
 //! for each wait, and any other call nothing. Nobody but the seats that `with_seats` handed out runs a row on
 //! the word.
 //!
-//! A group has 1 to 256 seats, and a seat makes at most 2^40 releases. [`WaitGroup::with_seats`] takes all
+//! A group has 1 to 65,536 seats, and a seat makes at most 2^40 releases. [`WaitGroup::with_seats`] takes all
 //! memory that the group ever takes. A misuse is answered where the step table says: [`Misuse::Negative`]
 //! where an add led below 0, [`Misuse::AddWithWait`] where an add ran beside a wait from 0 up,
 //! [`Misuse::Reused`] where the group was used again before a wait had come back. The word stays as the
