@@ -255,11 +255,12 @@ impl WholeMachine {
         requires { HasSeat self.old seat }
         ensures { Becomes (λ m s. looks_again s seat group ending before.now) self.old self.new }
     {
+        let last = Standing::AtGroup(group, GroupRow::V3(ending));
         match ending {
             Ending::GaveUp(how) if has_withdrawn(before) => {
                 self.stand(seat, Standing::Left(how.skips));
             }
-            _ => self.stand(seat, Standing::AtGroup(group, GroupRow::V3(ending))),
+            _ => self.stand(seat, last),
         }
     }
 
