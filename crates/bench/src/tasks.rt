@@ -304,6 +304,7 @@ pub fn time<R: Clock + Print + Threads + Wait + Sync>(rt: &R, plan: &Plan<'_>) -
     let Some(last) = seats.pop() else {
         bail!("no seats")
     };
+    let workers = u32::from(plan.workers);
     let totals = Totals {
         taken: AtomicU64::new(0),
         left: AtomicU64::new(0),
@@ -313,10 +314,10 @@ pub fn time<R: Clock + Print + Threads + Wait + Sync>(rt: &R, plan: &Plan<'_>) -
         table: &table,
         totals: &totals,
         seats,
-        each: TASKS / u32::from(plan.workers),
+        each: TASKS.checked_div(workers).unwrap_or(0),
     };
     let operations = u64::from(TASKS) * u64::from(plan.turns);
-    crew::time(rt, plan, seats, u32::from(plan.workers), operations)?;
+    crew::time(rt, plan, seats, workers, operations)?;
     if !is_whole(&table, last) {
         bail!("units were lost")
     }

@@ -2,4 +2,4 @@ use Rattle.std.proofs.Common.{◌≡◌}
 use Rattle.bench.proofs.tasks.is_whole.Given as goal
 
 abbrev pub invariant-loop-number : goal.invariant-loop-number
-invariant-loop-number g l = l.seat.seat.table ≡ l.fn.table
+invariant-loop-number l = l.seat.seat.table ≡ l.table
