@@ -13,7 +13,7 @@ use Rattle.notify_list.specs.Seats.{ListModel, SeatModel, Token, seat_of, IsToke
 use Rattle.notify_list.specs.Calls.{Calls, ComesTo}
 use Rattle.notify_list.specs.Callers.{IsSeatAfter}
 use Rattle.notify_list.proofs.Parting.{own_of, follows_first, own_between, own_before}
-use Rattle.notify_list.proofs.Staying.{stayed_before, in_reach}
+use Rattle.notify_list.proofs.Early.{reach_then}
 
 -- a seat of a list of few, which has seen what is lawful
 pub record IsSound (s : SeatModel) : Type 0 where
@@ -25,8 +25,7 @@ pub is_sound : (t : Token) (n : ℕ) → IsToken t n → IsSound (seat_of t n)
 is_sound t n is = record {
   few = is.few;
   lawful = subst (λ (v : ListSight). Follows v.seen) (sym is.lands.sees)
-      (the_list_law.reached (setting_of t).first (setting_of t).seats is.lands.world
-      (in_reach (setting_of t).first (setting_of t).seats is.lands.world is.few is.lands.met.reached is.lands.met.stayed) is.lands.met.reached).journal.0;
+      (the_list_law.reached (setting_of t).first (setting_of t).seats is.lands.world is.lands.met.reach is.lands.met.reached).journal.0;
 }
 
 -- the list of a seat has few seats, where another seat of it is so
@@ -47,7 +46,7 @@ seat_after s t begun stands entries rows lawful comes call =
           ∙ ap (λ l. own_of s.number s.sight.seen ++ own_of s.number l) call.told_is
           ∙ sym (filter-append (is_own s.number) s.sight.seen entries);
       lawful = lawful;
-      stayed = call.stayed;
+      reach = call.reach;
     }
 
 -- the seat as it had seen this journal
@@ -63,7 +62,7 @@ module _ (s t : SeatModel) (journal : List ListEntry) (x : IsSeatAfter s [] t) (
     tells = later;
     own = own_between s.number s.sight.seen journal t.sight.seen later now x.own ∙ ap (own_of s.number) (sym (append-nil s.sight.seen));
     lawful = follows_first t.sight.seen journal now x.lawful;
-    stayed = stayed_before t.sight.seen journal now x.stayed;
+    reach = reach_then t.sight.seen journal now x.reach;
   }
 
   pub seat_since : IsSeatAfter (seen_as s journal) [] t
@@ -74,7 +73,7 @@ module _ (s t : SeatModel) (journal : List ListEntry) (x : IsSeatAfter s [] t) (
     own = x.own ∙ ap (own_of s.number) (append-nil s.sight.seen) ∙ sym (own_between s.number s.sight.seen journal t.sight.seen later now x.own)
         ∙ ap (own_of s.number) (sym (append-nil journal));
     lawful = x.lawful;
-    stayed = x.stayed;
+    reach = x.reach;
   }
 
 -- where it granted by one entry, the seat as it had seen the journal up to that entry
@@ -95,7 +94,7 @@ module _ (s t : SeatModel) (journal : List ListEntry) (upto granted : ℕ)
     tells = later;
     own = parts.0 ∙ ap (own_of s.number) (sym (append-nil s.sight.seen));
     lawful = follows_first t.sight.seen journal goes_on x.lawful;
-    stayed = stayed_before t.sight.seen journal goes_on x.stayed;
+    reach = reach_then t.sight.seen journal goes_on x.reach;
   }
 
   pub granted_it : IsSeatAfter s (Granted granted s.number ∷ []) t

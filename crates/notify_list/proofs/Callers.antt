@@ -22,7 +22,7 @@ use Rattle.notify_list.specs.Waiting.{IsWaited, IsGranted, IsQueued, TakesGrant,
 use Rattle.notify_list.specs.Callers.{IsSeatAfter, GetsTicket, WaitsForGrant, FindsAllGranted, EntersWait, PollsGrant}
 use Rattle.notify_list.proofs.Leading.{unequal_is}
 use Rattle.step_law_lists.proofs.ListJournals.{told_more}
-use Rattle.notify_list.proofs.Answering.{IsSound, few_then, seat_after, seen_as, seat_between, seat_since}
+use Rattle.notify_list.proofs.Answering.{IsSound, seat_after, seen_as, seat_between, seat_since}
 use Rattle.notify_list.proofs.CallersEnding.{after_look}
 use Rattle.notify_list.proofs.Rereading.{call_ran, finds_handed, finds_granted}
 
@@ -53,9 +53,8 @@ module _ (s t : SeatModel) (is : IsSound t) where
           let begun : ListSeat = at_place (NotifyingOne 0 O1) s.sight.stands in
           let one = call_ran s t begun [] ((NotifyingOne x.h (O2 x.waited), x.notified) ∷ []) (NotifyingOne 0 O1) x.waited x.call in
           let two = call_ran s t begun ((NotifyingOne 0 O1, x.waited) ∷ []) [] (NotifyingOne x.h (O2 x.waited)) x.notified x.call in
-          let few = few_then s t (after false x).list is in
-          let handed = finds_handed few x.call.stayed one (λ seat. refl) in
-          let granted = finds_granted few x.call.stayed two (λ seat. refl) in (
+          let handed = finds_handed x.call.reach one (λ seat. refl) in
+          let granted = finds_granted x.call.reach two (λ seat. refl) in (
             seen_as s one.stride.seen,
             seat_between s t one.stride.seen (after false x) one.later one.now,
             seat_since s t one.stride.seen (after false x) one.later one.now,
@@ -80,7 +79,7 @@ module _ (s t : SeatModel) (is : IsSound t) where
     looks_with ticket notified before rest comes found call =
         let look = call_ran s t (waiting s.sight.stands) ((Waiting ticket W1, 0) ∷ []) rest (Waiting ticket W2) notified call in
         let after = after_wait ticket notified rest comes call in
-        let granted = finds_granted (few_then s t after.list is) call.stayed look (λ seat. refl) in (
+        let granted = finds_granted call.reach look (λ seat. refl) in (
           seen_as s look.stride.seen,
           (seat_between s t look.stride.seen after look.later look.now, ap (less ticket.word) (sym granted) ∙ found),
           look.now,

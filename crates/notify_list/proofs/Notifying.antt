@@ -71,7 +71,7 @@ module _ (s : Token) (n h : ℕ) (seat : IsSeat s n) (at : (stands_of s).place �
           (walked_row t u (a (NotifyingOne h O4)) ticket (a (NotifyingOne h (O5 ticket))) [] row4 same d4.stands d4.told)
 
       record4 : HasRecord u
-      record4 = record_kept t u L.record_is (ap (λ (m : Me). m.1) r.1) (ap (λ (z : Setting). z.seats) row4.same.1) (d4.queue ∙ sym (d4.held refl))
+      record4 = record_kept t u L.record_is (ap (λ (m : Me). m.1) r.1) row4.same.1 (d4.guarded ∙ sym (d4.held refl))
 
       -- O5
       module _ (x : Token) (waited : ℕ) (q : RanRow list_rows here u.me waited x.me) (again : x.table_id ≡ u.table_id) where
@@ -91,7 +91,7 @@ module _ (s : Token) (n h : ℕ) (seat : IsSeat s n) (at : (stands_of s).place �
             (walked_row u x (a (NotifyingOne h (O5 ticket))) waited (a p) [] row5 again (d5.stands ∙ ap a e) d5.told)
 
         pub record5 : HasRecord x
-        record5 = record_kept u x record4 (ap (λ (m : Me). m.1) q.1) (ap (λ (z : Setting). z.seats) row5.same.1) (d5.queue ∙ sym (d5.held refl))
+        record5 = record_kept u x record4 (ap (λ (m : Me). m.1) q.1) row5.same.1 (d5.guarded ∙ sym (d5.held refl))
 
         equal5 : waited ≡ ticket → (if waited == ticket then NotifyingOne h O6 else NotifyingOne h (O7 ticket)) ≡ NotifyingOne h O6
         equal5 e = if_equal waited ticket (NotifyingOne h O6) (NotifyingOne h (O7 ticket)) e
@@ -138,7 +138,7 @@ module _ (s : Token) (n h : ℕ) (seat : IsSeat s n) (at : (stands_of s).place �
           ends_none = (
             comes_to s z n (stands_of s) (a Rest) [] (finds_none h ticket) w6,
             (ticket, calls s z n (stands_of s) (a Rest) [] (finds_none h ticket) seat.token_is w6),
-            (let laws = laws_of (setting_of x) d6.world few5 d6.met in
+            (let laws = laws_of (setting_of x) d6.world d6.met in
                 let c = laws.calls.notified x.me.0.own.number h row6.also.there
                 (subst (λ (y : ListPlace). Concludes d6.world y h) (sym (ap (λ (y : ListSeat). y.place) d6.stood)) (one_locked h)) in
                 subst (λ (l : List ListEntry). h ≤ (told l).passed) (sym (seen_all row6 d6 d6.told)) c),
@@ -157,6 +157,7 @@ module _ (s : Token) (n h : ℕ) (seat : IsSeat s n) (at : (stands_of s).place �
             empty = ap (λ (y : ListSeat). y.hand) w7.stands_is ∙ empty_there s.me.0.own seat.token_is.lands
                 (there_of s n seat.token_is) seat.token_is.few seat.free;
             at = ap (λ (y : ListSeat). y.place) w7.stands_is;
+            lands = w7.lands;
             record_is = record5;
           }
 

@@ -1,5 +1,5 @@
 -- A seat that is parked: its looks at its grant, and the row that takes it.
-use Rattle.std.proofs.Common.{◌≡◌, ℕ, zero, suc, ◌<◌, List, [], ◌∷◌, slice_index, inr, refl, sym, ap, ◌∙◌, subst, arith}
+use Rattle.std.proofs.Common.{◌≡◌, ℕ, zero, suc, ◌<◌, Bool, List, [], ◌∷◌, slice_index, inr, refl, sym, ap, ◌∙◌, subst, arith}
 use Rattle.std.proofs.Common.{Some, None}
 use lib.Seq.{set-get_or}
 use native.Mathlib.Decide.{ℕ_discrete}
@@ -35,7 +35,7 @@ use Rattle.notify_list.proofs.Allowing.{takes_at}
 use Rattle.notify_list.proofs.Leading.{Ran, Led, led, woke_from}
 use Rattle.notify_list.proofs.Walking.{walked_row, token_after, calls, comes_to, calls_then}
 use Rattle.notify_list.proofs.Queueing.{granted_by}
-use Rattle.notify_list.proofs.LookingTogether.{sees_word, looks_at, look_stays, looked_token}
+use Rattle.notify_list.proofs.LookingTogether.{sees_word, looks_at, look_stays, looked_token, parked_later}
 
 -- at the address of a grant word lies that word
 pub grant_lies : (i k : ℕ) → address (Grant k) ≡ i → word_at i ≡ Grant k
@@ -82,7 +82,7 @@ module _ (k : Setting) (m : Me) (i : ℕ) (a : ListSeat) (is : m.0.own.knows.sig
           (Received (slice_index words i)) (λ t o. ((λ e. absurd (ne e)), o.1))
           (takes_at m.0.own.knows.setting m i a is ticket parked lies world words homes st)
 
-module _ (x : Token) (n : ℕ) (K : IsParked x n) where
+module _ (x : Token) (n : ℕ) {may_leave : Bool} (K : IsParked x n may_leave) where
   pub stands_parked : stands_of x ≡ record { place = Waiting K.ticket (Asleep P); ticket = None; hand = (stands_of x).hand; late = (stands_of x).late }
   stands_parked = λ i. record { place = K.at i; ticket = K.holds_none i; hand = (stands_of x).hand; late = (stands_of x).late }
 
@@ -94,13 +94,9 @@ module _ (x : Token) (n : ℕ) (K : IsParked x n) where
     look : Went list_rows here (looks (Grant n)) x.me.0.own 0 z.me.0.own
     look = subst (λ (w : ListWord). Went list_rows here (looks w) x.me.0.own 0 z.me.0.own) (grant_lies i n lies) r.0
 
-    pub seat_still : IsParked z n
-    seat_still = let stays = look_stays x z n 0 (Grant n) K.token_is look same in record {
-      token_is = looked_token x z n 0 (Grant n) K.token_is look same (ap (λ (m : Me). m.1) r.1 ∙ K.token_is.bare);
-      ticket = K.ticket;
-      at = ap (λ (a : ListSeat). a.place) stays ∙ K.at;
-      holds_none = ap (λ (a : ListSeat). a.ticket) stays ∙ K.holds_none;
-    }
+    pub seat_still : IsParked z n may_leave
+    seat_still = parked_later x z n may_leave K (looked_token x z n 0 (Grant n) K.token_is look same (ap (λ (m : Me). m.1) r.1 ∙ K.token_is.bare))
+        (look_stays x z n 0 (Grant n) K.token_is look same) (looks_at x z n 0 (Grant n) K.token_is look same).later
 
     pub polled_still : IsPolled (seat_of x n) (polled.Still (seat_of z n))
     polled_still = ((K.ticket, K.at), looks_at x z n 0 (Grant n) K.token_is look same)

@@ -1,6 +1,6 @@
 -- What each call is to its caller: the seat before and after, the entries that it told, tickets, and what the
 -- answer means.
-use Rattle.std.specs.Prelude.{◌≡◌, ◌≢◌, ℕ, zero, suc, ◌+◌, ◌<◌, ◌≤◌, Bool, true, false, List, [], ◌∷◌, ◌++◌}
+use Rattle.std.specs.Prelude.{◌≡◌, ◌≢◌, ℕ, zero, suc, ◌+◌, ◌<◌, ◌≤◌, ◌^◌, Bool, true, false, List, [], ◌∷◌, ◌++◌, length}
 use Rattle.std.specs.Prelude.{Option, Some, None}
 use Rattle.std.specs.List.{filter}
 use Rattle.step_table.specs.declared.list_place.AllRow.TheVariants.{L3}
@@ -8,10 +8,10 @@ use Rattle.step_table.specs.declared.list_place.ListPlace.TheVariants.{Waiting, 
 use Rattle.step_table.specs.declared.list_place.Ticket.{Ticket}
 use Rattle.step_table.specs.declared.list_place.WaitRow.TheVariants.{Parked as Asleep}
 use Rattle.step_table.specs.declared.list_place.ListParkedRow.TheVariants.{P}
-use Rattle.step_table.specs.ListWorld.{ListEntry, Took, Granted}
+use Rattle.step_table.specs.ListWorld.{ListEntry, Took, Granted, Forgone}
 use Rattle.step_table.specs.Path.{GoesOn}
 use Rattle.step_table.specs.Wrapping.{word_of, less}
-use Rattle.step_law_lists.specs.ListLawful.{told, Follows, leaves, IsGranted as IsTicketGranted}
+use Rattle.step_law_lists.specs.ListLawful.{told, Follows, IsInReach, IsGranted as IsTicketGranted}
 use Rattle.step_law_lists.specs.ListPath.{is_own}
 use Rattle.running_rows.specs.Rule.{In}
 use Rattle.notify_list.specs.declared.closed.ListClosed.{ListClosed}
@@ -22,18 +22,21 @@ use Rattle.notify_list.specs.declared.waited.Entered.{Entered}
 use Rattle.notify_list.specs.declared.waited.Entered.TheVariants as entered
 use Rattle.notify_list.specs.declared.waited.Polled.{Polled}
 use Rattle.notify_list.specs.declared.waited.Polled.TheVariants as polled
+use Rattle.notify_list.specs.declared.waited.GaveUp.{GaveUp}
+use Rattle.notify_list.specs.declared.waited.GaveUp.TheVariants as gave
 use Rattle.notify_list.specs.Seats.{SeatModel}
+use Rattle.notify_list.specs.Leaving.{HasLeft}
 use Rattle.notify_list.specs.Calls.{TellsIn, AllGranted, numbers_seen}
 
 -- t is the seat s of the same list, after it has told these entries, in this order, among what others told,
--- and nothing else; and what it has seen is lawful, and no ticket has gone
+-- and nothing else; and what it has seen is lawful, a journal of which the laws speak
 pub record IsSeatAfter (s : SeatModel) (entries : List ListEntry) (t : SeatModel) : Type 0 where
   pub list : t.list ≡ s.list
   pub number : t.number ≡ s.number
   pub tells : TellsIn s.sight.seen entries t.sight.seen
   pub own : filter (is_own s.number) t.sight.seen ≡ filter (is_own s.number) (s.sight.seen ++ entries)
   pub lawful : Follows t.sight.seen
-  pub stayed : leaves t.sight.seen ≡ 0
+  pub reach : IsInReach t.sight.seen
 
 -- nothing was done: the seat stands as it stood, and has seen more of what others told
 abbrev pub StandsOn : SeatModel → SeatModel → Type 0
@@ -82,6 +85,18 @@ PollsGrant s (polled.Granted t) =
     IsSeatAfter s [] t × (t.sight.stands.ticket ≡ s.sight.stands.ticket)
     × ((ticket : Ticket) × IsParkedWith s ticket × IsTicketGranted ticket.number t.sight.seen)
 
+-- the seat's ticket is gone, and it told that: it is never granted. Or it told nothing, and is parked on: its
+-- ticket was granted; or 2^60 tickets were handed out. Or its ticket is granted now, and it holds none
+abbrev pub GivesUp : SeatModel → GaveUp → Type 0
+GivesUp s (gave.Left t) =
+    (ticket : Ticket) × IsParkedWith s ticket × IsSeatAfter s (Forgone ticket.number s.number ∷ []) t
+    × (t.sight.stands.ticket ≡ s.sight.stands.ticket) × HasLeft ticket.number t.sight.seen
+GivesUp s (gave.Coming t) =
+    StandsOn s t × ((ticket : Ticket) × IsParkedWith s ticket × IsTicketGranted ticket.number t.sight.seen)
+GivesUp s (gave.Granted t) = PollsGrant s (polled.Granted t)
+GivesUp s (gave.LimitReached t) =
+    StandsOn s t × ((ticket : Ticket) × IsParkedWith s ticket) × (2 ^ 60 ≤ (numbers_seen t).handed)
+
 -- by one entry, as the last that it told, the seat granted the least ticket that wasn't granted, and the
 -- answer is its word; or all tickets are granted of which it knew before
 abbrev pub NotifiesOneTicket : SeatModel → Option ℕ → SeatModel → Type 0
@@ -93,14 +108,14 @@ NotifiesOneTicket s (Some word) t =
     × TellsIn (u.sight.seen ++ Granted ((numbers_seen u).passed + 1) s.number ∷ []) [] t.sight.seen
 NotifiesOneTicket s None t = IsSeatAfter s [] t × AllGranted s t
 
--- all tickets are granted of which the seat knew before. It told nothing; or one entry, by which all n were
--- granted that were handed out when it looked, and weren't granted yet
+-- all tickets are granted of which the seat knew before, or their seats have left. It told nothing; or one
+-- entry, by which all n were granted that were handed out when it looked, and were neither granted nor gone
 abbrev pub NotifiesAllTickets : SeatModel → ℕ → SeatModel → Type 0
 NotifiesAllTickets s zero t = AllGranted s t × IsSeatAfter s [] t
 NotifiesAllTickets s (suc n) t =
     AllGranted s t
     × ((look u : SeatModel) × IsSeatAfter s [] look × IsSeatAfter look [] u
-    × ((numbers_seen u).passed + suc n ≡ (numbers_seen look).handed)
+    × ((numbers_seen u).passed + suc n + length (numbers_seen u).gone ≡ (numbers_seen look).handed)
     × IsSeatAfter s (Granted (numbers_seen look).handed s.number ∷ []) t
     × TellsIn (u.sight.seen ++ Granted (numbers_seen look).handed s.number ∷ []) [] t.sight.seen)
 
@@ -112,13 +127,13 @@ IsNotifyingAll s h = s.sight.stands.place ≡ NotifyingAll h L3
 abbrev pub LooksToNotifyAll : SeatModel → SeatModel → Type 0
 LooksToNotifyAll s t = IsSeatAfter s [] t × ((h : ℕ) × IsNotifyingAll t h × ((numbers_seen s).handed ≤ h))
 
--- it told nothing; or one entry, by which all n were granted that were handed out when it looked, and weren't
--- granted yet
+-- it told nothing; or one entry, by which all n were granted that were handed out when it looked, and were
+-- neither granted nor gone
 abbrev pub GrantsAllSeen : SeatModel → ℕ → SeatModel → Type 0
 GrantsAllSeen s zero t = IsSeatAfter s [] t
 GrantsAllSeen s (suc n) t =
     (look u : SeatModel) × IsSeatAfter s [] look × IsSeatAfter look [] u
-    × ((numbers_seen u).passed + suc n ≡ (numbers_seen look).handed)
+    × ((numbers_seen u).passed + suc n + length (numbers_seen u).gone ≡ (numbers_seen look).handed)
     × IsSeatAfter s (Granted (numbers_seen look).handed s.number ∷ []) t
     × TellsIn (u.sight.seen ++ Granted (numbers_seen look).handed s.number ∷ []) [] t.sight.seen
 
@@ -156,7 +171,7 @@ pub record SeeTheSame (one other one_now other_now : SeatModel) : Type 0 where
 pub record EndsList (z : Setting) (seats : List SeatModel) (c : ListClosed) : Type 0 where
   pub journal : List ListEntry
   pub lawful : Follows journal
-  pub stayed : leaves journal ≡ 0
+  pub reach : IsInReach journal
   pub begins : (s : SeatModel) → In s seats → GoesOn journal s.sight.seen
   pub each : (k : ℕ) → k < z.seats → (s : SeatModel) × In s seats × (s.number ≡ k)
   pub own : (s : SeatModel) → In s seats

@@ -1,5 +1,5 @@
 -- What the rows of a notification of all do to a token.
-use Rattle.std.specs.Prelude.{◌≡◌, ℕ, ◌+◌, ◌<◌, ◌≤◌, ◌==◌, if◌then◌else◌, Bool, true, List, [], ◌∷◌, ◌++◌}
+use Rattle.std.specs.Prelude.{◌≡◌, ℕ, ◌+◌, ◌<◌, ◌≤◌, ◌==◌, if◌then◌else◌, Bool, true, List, [], ◌∷◌, ◌++◌, length}
 use Rattle.waiters.specs.declared.wait.Wait.{Wait}
 use Rattle.step_table.specs.declared.list_place.AllRow.TheVariants.{L1, L3, L4, L7, L8}
 use Rattle.step_table.specs.declared.list_place.ListPlace.{ListPlace}
@@ -56,8 +56,9 @@ pub record ReachedAll (s : Token) (h n : ℕ) (t : Token) : Type 0 where
   pub later : GoesOn before look
   pub seen : seen_of t ≡ before ++ all_entries s.me.0.own.number handed n
   pub reaches : h ≤ handed
-  pub counted : handed ≡ (told before).passed + n
+  pub counted : handed ≡ (told before).passed + n + length (told before).gone
   pub all : handed ≡ (told look).handed
+  pub passed : (told (seen_of t)).passed ≡ handed
 
 abbrev pub MayTake : ListModel → Token → ℕ → ℕ → Type 0
 MayTake l s h n = IsAt l s (NotifyingAll h (L7 n)) × HasRecord s × ((stands_of s).hand ≡ [])

@@ -1,6 +1,7 @@
 pub mod Sights
 pub mod Setting
 pub mod Places
+pub mod LiveTickets
 pub mod Rule
 pub mod Rows
 pub mod Plays
@@ -11,7 +12,9 @@ pub mod Records
 pub mod Calls
 pub mod Tickets
 pub mod Waiting
+pub mod Leaving
 pub mod Entering
+pub mod LeavingRows
 pub mod Notifying
 pub mod Granting
 pub mod NotifyingAll

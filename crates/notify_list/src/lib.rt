@@ -13,8 +13,9 @@
 //!
 //! A caller that must not wait, as a scheduler, has [`NotifyList::try_wait`], [`NotifyList::try_one`] and
 //! [`NotifyList::try_all`], which find the list's lock free or give the seat back, and tell whom they granted.
-//! A seat that is parked looks by [`NotifyList::poll`] whether its ticket is granted, and one that has looked
-//! for a notification of all goes on by [`NotifyList::retry_all`]. A [`TaskList`] is for tasks whose threads
+//! A seat that is parked looks by [`NotifyList::poll`] whether its ticket is granted, and gives up by
+//! [`NotifyList::leave`] or [`NotifyList::try_leave`]; one that has looked for a notification of all goes on by
+//! [`NotifyList::retry_all`]. A [`TaskList`] is for tasks whose threads
 //! somebody else parks: none of its calls waits or calls the kernel, and its seats are of one type wherever
 //! they stand.
 //!
@@ -30,6 +31,8 @@ mod closing;
 mod grant_one;
 mod heirs;
 mod laws;
+mod leaves;
+mod live;
 mod locks;
 mod make;
 mod meeting;
@@ -57,7 +60,7 @@ pub use notified::{Busy, Notified, NotifiedAll};
 pub use notify_list::NotifyList;
 pub use seat::{Holding, ListSeat, OwingAll, Parked};
 pub use setup_error::SetupError;
-pub use task_answers::{TaskEntered, TaskPolled, TaskRefused};
+pub use task_answers::{TaskEntered, TaskGaveUp, TaskPolled, TaskRefused};
 pub use task_seat::{TaskListSeat, TaskStage};
 pub use tasks::TaskList;
-pub use waited::{Entered, Polled, Waited};
+pub use waited::{Entered, GaveUp, Polled, Waited};

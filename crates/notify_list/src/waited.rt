@@ -18,6 +18,18 @@ pub enum Entered {
     Queued(Parked),
 }
 
+/// What giving up a sleep came to.
+pub enum GaveUp {
+    /// The seat's wait was queued, and its ticket is gone: it is never granted.
+    Left(ListSeat),
+    /// The wait wasn't queued: the ticket is granted, and the seat sleeps until the grant is stored.
+    Coming(Parked),
+    /// The ticket is granted.
+    Granted(ListSeat),
+    /// Nothing was granted, and no ticket goes any more: 2^60 were handed out. The seat sleeps on.
+    LimitReached(Parked),
+}
+
 /// What a look at a grant came to.
 pub enum Polled {
     /// Nothing was granted.

@@ -109,9 +109,14 @@ impl NotifyList {
         let id = WaitId { seat, turn: 0 };
         // Queued in the hold of the lock in which the ticket was found ungranted: who grants it finds the
         // wait.
+        let may_leave = self.may_leave(&mut token, ticket);
         self.insert(&mut token, waiters::Wait { id, ticket });
         self.words.return_lock(&mut token, LOCK);
-        Entered::Queued(Parked { token, number })
+        Entered::Queued(Parked {
+            token,
+            number,
+            may_leave,
+        })
     }
 
     /// Waits for the grant of a queued wait, and takes it.
@@ -120,7 +125,11 @@ impl NotifyList {
         ensures took { TakesGrant parked result }
         ensures lawful { Follows result.sight.seen }
     {
-        let Parked { mut token, number } = parked;
+        let Parked {
+            mut token,
+            number,
+            may_leave: _,
+        } = parked;
         let grant = grant_word(number);
         let asleep = self.asleep_word(number);
         let misses = self.misses_word(number);

@@ -3,6 +3,7 @@
 mod attempt_tests;
 mod crew;
 mod given;
+mod leave_tests;
 mod order_tests;
 mod poller_tests;
 mod thread_tests;
