@@ -54,6 +54,7 @@ unsafe extern "C" {
     fn parklot_list_add(seat: *mut Raw, ticket: *mut u64) -> u32;
     fn parklot_list_try_wait(seat: *mut Raw) -> u32;
     fn parklot_list_poll(seat: *mut Raw) -> u32;
+    fn parklot_list_leave(seat: *mut Raw) -> u32;
     fn parklot_list_one(seat: *mut Raw, woken: *mut u32) -> u32;
     fn parklot_list_all(seat: *mut Raw, woken: *mut u32, room: usize, count: *mut u32) -> u32;
     fn parklot_list_quiet(seat: *mut Raw, quiet: *mut bool) -> u32;
@@ -120,7 +121,7 @@ pub enum GaveUp {
     Left,
     /// A release has taken the seat out, and will name it: its task sleeps on, without a time, and then polls.
     Coming,
-    /// Woken before, without a unit: `retry`.
+    /// Woken before, of a table without a unit: `retry`.
     Woken,
     /// Woken before, with a unit.
     Handed,
@@ -467,6 +468,18 @@ impl ListSeat {
         match unsafe { parklot_list_poll(&mut self.raw) } {
             6 => Ok(Granted::NotYet),
             7 => Ok(Granted::Now),
+            other => Err(refusal(other)),
+        }
+    }
+
+    /// Gives up the wait of a seat that is parked.
+    pub fn leave(&mut self) -> Result<GaveUp, Refused> {
+        // SAFETY: see above.
+        match unsafe { parklot_list_leave(&mut self.raw) } {
+            14 => Ok(GaveUp::Left),
+            15 => Ok(GaveUp::Coming),
+            7 => Ok(GaveUp::Woken),
+            103 => Ok(GaveUp::Busy),
             other => Err(refusal(other)),
         }
     }
