@@ -21,7 +21,7 @@ use Rattle.notify_list.proofs.Parting.{own_of}
 use Rattle.notify_list.proofs.Walking.{tells_later}
 
 -- a seat that told nothing, and then these entries
-after_then : (s u t : SeatModel) (entries : List ListEntry) → IsSeatAfter s [] u → IsSeatAfter u entries t → IsSeatAfter s entries t
+pub after_then : (s u t : SeatModel) (entries : List ListEntry) → IsSeatAfter s [] u → IsSeatAfter u entries t → IsSeatAfter s entries t
 after_then s u t entries x y = record {
   list = y.list ∙ x.list;
   number = y.number ∙ x.number;

@@ -40,4 +40,5 @@ pub mod Callers
 pub mod CallersNotifying
 pub mod CallersEnding
 pub mod CallersLeaving
+pub mod CallersTimed
 pub mod Concluding

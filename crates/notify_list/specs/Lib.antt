@@ -26,5 +26,6 @@ pub mod List
 pub mod Meeting
 pub mod Closing
 pub mod Callers
+pub mod CallersTimed
 pub mod TaskSeats
 pub mod Tasks

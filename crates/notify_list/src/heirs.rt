@@ -20,6 +20,7 @@ ghost use Rattle.notify_list.specs.NotifyingAll.{StoresGrants};
 
 use crate::notify_list::{NotifyList, grant_word};
 use crate::rows::Token;
+use crate::seat::ListSeat;
 
 /// How many who grants wakes itself: more would meet at the caller's lock.
 const FIRST: usize = 3;
@@ -117,6 +118,16 @@ impl NotifyList {
     {
         self.wake_heir(token, self.heir_word(seat));
         self.wake_heir(token, self.other_heir_word(seat));
+    }
+
+    /// The same of a seat that took its grant by a poll.
+    pub(crate) fn with_heirs_awake(&self, seat: ListSeat) -> ListSeat
+        requires { seat.list ≡ self.now }
+        ensures { result ≡ seat }
+    {
+        let ListSeat { mut token, number } = seat;
+        self.wake_heirs(&mut token, number);
+        ListSeat { token, number }
     }
 
     /// Wakes whom the word names, and names nobody there.

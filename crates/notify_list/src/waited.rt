@@ -10,6 +10,17 @@ pub enum Waited {
     Parked,
 }
 
+/// How a wait with a time ended.
+#[derive(Clone, Copy, PartialEq, Eq, Drop)]
+pub enum WaitedUntil {
+    /// The ticket was granted before the seat came to the lock: it never slept.
+    AtOnce,
+    /// The wait was queued, and granted.
+    Parked,
+    /// The wait was queued, and the time was over first: the ticket is gone, and is never granted.
+    TimedOut,
+}
+
 /// What going to the lock with a ticket came to.
 pub enum Entered {
     /// The ticket was granted before the seat came to the lock.
