@@ -10,7 +10,8 @@
 //! stores a grant, then looks whether its seat is still named. All four are in one order, the same for all
 //! threads: either the seat finds its heir granted, or its name was taken away before the granter's look, and
 //! the granter wakes the heir. So each that was granted is woken. A seat gets heirs only where its thread
-//! sleeps, in a wait: if it polled, they would sleep until its caller comes to that.
+//! sleeps, in a wait: if it polled, they would sleep until its caller comes to that. A wait whose time ends
+//! just then was taken out of the list before, so its seat can't leave: it comes by its grant, and wakes them.
 ghost use Rattle.std.specs.Prelude.{◌≡◌, ◌<◌, ◌≤◌, List};
 ghost use Rattle.step_law_lists.specs.ListPath.{ListStride};
 ghost use Rattle.notify_list.specs.Seats.{list_of};

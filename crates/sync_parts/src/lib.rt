@@ -14,10 +14,10 @@
 //! `release` for a root's lock; all other calls end.
 //!
 //! A [`Cond`] is a notify list, after Go's `sync.Cond`. [`Cond::wait`] takes a ticket, unlocks a [`Locker`],
-//! waits with the ticket, and locks it again; [`Cond::signal`] grants the least ticket that isn't granted,
-//! and [`Cond::broadcast`] all. A `Cond` has 1 to 256 seats, and [`Cond::with_seats`] takes all memory that
-//! it ever takes. All its other calls may wait for its list's lock, and `wait` for a grant and for the locker
-//! too.
+//! waits with the ticket, and locks it again; [`Cond::wait_until`] and [`Cond::wait_for`] do so too, and give
+//! the ticket up once a time is over. [`Cond::signal`] grants the least ticket that isn't granted, and
+//! [`Cond::broadcast`] all. A `Cond` has 1 to 256 seats, and [`Cond::with_seats`] takes all memory that it ever
+//! takes. All its other calls may wait for its list's lock, and the waits for a grant and for the locker too.
 //!
 //! A [`WaitGroup`] counts what is still to be done, after Go's `sync.WaitGroup`. [`WaitGroup::add`] adds to
 //! the counter, below 0 too, [`WaitGroup::done`] takes 1 off, and [`WaitGroup::wait`] comes back where the
@@ -38,6 +38,7 @@
 #![tactic(auto)]
 
 mod cond;
+mod cond_timed;
 mod group;
 mod group_adds;
 mod group_make;
@@ -45,6 +46,7 @@ mod group_rows;
 mod group_view;
 mod group_waits;
 mod laws;
+mod limit;
 mod locker;
 mod locker_call;
 mod sema_lock;
@@ -58,6 +60,7 @@ pub use locker_call::LockerCall;
 pub use notify_list::{
     Busy as ListBusy, Entered as ListEntered, Holding, ListClosed, ListSeat, Notified, NotifiedAll,
     NotifyList, OwingAll, Parked, Polled as ListPolled, SetupError as ListSetupError, Waited,
+    WaitedUntil,
 };
 pub use sema_lock::SemaLock;
 pub use sema_table::{

@@ -9,6 +9,7 @@ ghost use Rattle.sync_parts.specs.Locking.{new_lock, HasLocked, HasUnlocked, Has
 ghost use Rattle.sync_parts.specs.LockRows.{RunsAcquire, RunsRelease, RunsMeet};
 ghost use Rattle.sync_parts.specs.Exclusion.{HaveMet};
 
+use crate::limit::Limit;
 use crate::locker::Locker;
 use notify_list::{Holding, ListSeat};
 use sema_table::{Acquired, Seat, SemaTable};
@@ -41,12 +42,6 @@ fn acquire_for<R: Wait>(
     };
     table.spin(counter);
     *place = Some(table.acquire(rt, seat, counter, false));
-}
-
-/// When an acquire is to end.
-enum Limit {
-    At(Instant),
-    After(Duration),
 }
 
 /// An acquire without lifo until then.
