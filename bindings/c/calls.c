@@ -44,7 +44,7 @@ static void make_refused(void)
     SAY(parklot_new(starts, COUNTERS, 0, 1, LIMIT, seats, SEATS));
     SAY(parklot_new(starts, COUNTERS, 252, 1, LIMIT, seats, SEATS));
     SAY(parklot_new(starts, COUNTERS, 1, 1, 0, seats, SEATS));
-    SAY(parklot_new(starts, COUNTERS, 1, 1, (UINT64_C(1) << 40) + 1, seats, SEATS));
+    SAY(parklot_new(starts, COUNTERS, 1, 1, (UINT64_C(1) << 54) + 1, seats, SEATS));
     SAY(parklot_new(starts, COUNTERS, 1, 1, LIMIT, seats, 0));
     SAY(parklot_new(starts, COUNTERS, 1, 1, LIMIT, many, 65537));
     for (int at = 0; at < SEATS; at++)
