@@ -11,7 +11,7 @@ pub loop-waiter-preserved : goal.loop-waiter-preserved
 loop-waiter-preserved g c =
     let here = c.loop-waiter.invariant in
     let popped = All-pop (λ w. w.promise.list.now ≡ c.args.list.now) c.loop-waiter.waiters.items c.pop.new.self.items (Some c.in-Some.waiter)
-        c.in-Some.ensures.items here.0 in (
+    c.in-Some.ensures.items here.0 in (
       popped.0,
       kept (λ s. s.list ≡ c.args.list.now) c.loop-waiter.seats.items _ c.join.result (is_ok c.push-in-Some.result) c.push-in-Some.ensures.items here.1
           (c.join.ensures ∙ popped.1),
