@@ -15,9 +15,13 @@
 #include <sys/syscall.h>
 #include <unistd.h>
 
-enum { COUNTERS = 16384, ROOTS = 251, MANY = 256 };
+enum { COUNTERS = 16384, ROOTS = 251 };
 
-static const uint64_t RELEASE_LIMIT = (uint64_t)1 << 54;
+/* Seats that no thread has: for posts by threads without one, and by signal handlers. */
+enum { KEPT = 32, KEPT_TRIES = 1000 };
+
+/* What each seat may spend of the 2^62 units of a table. */
+static const uint64_t RELEASE_LIMIT = ((uint64_t)1 << 62) / (THREAD_SEATS + KEPT < 256 ? 256 : THREAD_SEATS + KEPT);
 
 /* What a seat's word says while it is queued. */
 enum { STAYS, NAMED };
@@ -28,7 +32,8 @@ struct place {
     struct parklot_seat seat;
 };
 
-static struct place places[THREAD_SEATS];
+static struct place places[THREAD_SEATS + KEPT];
+static atomic_bool kept_in_use[KEPT];
 
 /* Which seats and counters are nobody's. Counters go round, the one that was given back first is taken first. */
 static pthread_mutex_t pool = PTHREAD_MUTEX_INITIALIZER;
@@ -38,10 +43,12 @@ static uint32_t free_counters[COUNTERS], free_counters_count, free_counters_firs
 static pthread_once_t once = PTHREAD_ONCE_INIT;
 static pthread_key_t at_exit;
 
-/* This thread. */
+/* This thread. A signal handler may find it anywhere: so it is told when its seat is in use, when it is inside of a call that
+   may hold a root's lock, and which kept seats have to look for a wait once it comes out of that. */
 static _Thread_local struct {
     struct place *place;
     uint32_t counter;
+    atomic_uint uses, inside, owing;
 } self;
 
 static void must(bool holds, const char *what)
@@ -104,17 +111,18 @@ static void go(void *unused)
 static void make_table(void)
 {
     static uint32_t starts[COUNTERS];
-    static struct parklot_seat seats[THREAD_SEATS];
+    static struct parklot_seat seats[THREAD_SEATS + KEPT];
 
     for (uint32_t lock = 1; lock <= THREAD_LOCKS; lock++)
         starts[lock] = 1;
     if (pthread_key_create(&at_exit, go) != 0)
         return;
-    if (parklot_new(starts, COUNTERS, ROOTS, 1, RELEASE_LIMIT, seats, THREAD_SEATS) != PARKLOT_OK)
+    if (parklot_new(starts, COUNTERS, ROOTS, 1, RELEASE_LIMIT, seats, THREAD_SEATS + KEPT) != PARKLOT_OK)
         return;
-    for (uint32_t number = THREAD_SEATS; number-- > 0;) {
+    for (uint32_t number = THREAD_SEATS + KEPT; number-- > 0;) {
         places[number].seat = seats[number];
-        seat_given(&places[number]);
+        if (number < THREAD_SEATS)
+            seat_given(&places[number]);
     }
     for (uint32_t counter = THREAD_LOCKS + 1; counter < COUNTERS; counter++)
         counter_given(counter);
@@ -146,6 +154,29 @@ bool thread_is_seated(void)
 uint32_t thread_counter(void)
 {
     return self.counter;
+}
+
+/* Calls that may hold a root's lock. A wake-up that a signal handler began meanwhile ends behind them. */
+
+static void wake_first(struct place *place);
+
+static void come_in(void)
+{
+    atomic_fetch_add(&self.inside, 1);
+}
+
+static void come_out(void)
+{
+    unsigned owing;
+
+    if (atomic_fetch_sub(&self.inside, 1) != 1)
+        return;
+    while ((owing = atomic_exchange(&self.owing, 0)) != 0)
+        for (uint32_t at = 0; at < KEPT; at++)
+            if (owing >> at & 1) {
+                wake_first(&places[THREAD_SEATS + at]);
+                atomic_store(&kept_in_use[at], false);
+            }
 }
 
 /* Sleeping. */
@@ -187,8 +218,11 @@ static bool leave(void)
     atomic_uint *word = &self.place->word;
     uint32_t answer;
 
-    while ((answer = parklot_leave(&self.place->seat)) == PARKLOT_BUSY)
-        sched_yield();
+    do {
+        come_in();
+        answer = parklot_leave(&self.place->seat);
+        come_out();
+    } while (answer == PARKLOT_BUSY && sched_yield() == 0);
     if (answer == PARKLOT_LEFT)
         return false;
     must(answer == PARKLOT_COMING || answer == PARKLOT_WOKEN, "a wait can't be given up");
@@ -238,12 +272,15 @@ static uint32_t enter(uint32_t counter)
 
     /* Before the call: the seat may be named before the call is back. */
     atomic_store(&self.place->word, STAYS);
-    while ((answer = parklot_enter(&self.place->seat, counter, false)) == PARKLOT_BUSY)
-        sched_yield();
+    do {
+        come_in();
+        answer = parklot_enter(&self.place->seat, counter, false);
+        come_out();
+    } while (answer == PARKLOT_BUSY && sched_yield() == 0);
     return answer;
 }
 
-bool counter_try(uint32_t counter)
+static bool tries(uint32_t counter)
 {
     uint32_t answer;
 
@@ -254,9 +291,19 @@ bool counter_try(uint32_t counter)
     return answer == PARKLOT_TAKEN;
 }
 
-int counter_acquire_with(uint32_t counter, const struct patience *patience)
+bool counter_try(uint32_t counter)
 {
-    if (counter_try(counter))
+    bool taken;
+
+    atomic_fetch_add(&self.uses, 1);
+    taken = tries(counter);
+    atomic_fetch_sub(&self.uses, 1);
+    return taken;
+}
+
+static int acquires(uint32_t counter, const struct patience *patience)
+{
+    if (tries(counter))
         return 0;
     do {
         uint32_t answer = enter(counter);
@@ -272,6 +319,16 @@ int counter_acquire_with(uint32_t counter, const struct patience *patience)
     return 0;
 }
 
+int counter_acquire_with(uint32_t counter, const struct patience *patience)
+{
+    int error;
+
+    atomic_fetch_add(&self.uses, 1);
+    error = acquires(counter, patience);
+    atomic_fetch_sub(&self.uses, 1);
+    return error;
+}
+
 void counter_acquire(uint32_t counter)
 {
     counter_acquire_with(counter, &(struct patience){.has_end = false});
@@ -279,7 +336,7 @@ void counter_acquire(uint32_t counter)
 
 /* Waking. */
 
-/* Another seat for one that has used up all its units, which isn't given back: 2^54 are 570 years at a million each second. */
+/* Another seat for one that has used up all its units, which isn't given back: they are 35 years at a million each second. */
 static void change_seats(void)
 {
     pthread_mutex_lock(&pool);
@@ -288,29 +345,89 @@ static void change_seats(void)
     must(self.place != NULL, "the seats have used up all their units");
 }
 
-static uint32_t post(uint32_t counter)
+/* The rest of a release. */
+static void wake_first(struct place *place)
 {
-    uint32_t answer;
+    uint32_t number, answer;
 
-    while ((answer = parklot_post(&self.place->seat, counter)) == PARKLOT_LIMIT)
-        change_seats();
-    return answer;
-}
-
-void counter_release(uint32_t counter)
-{
-    uint32_t number, answer = post(counter);
-
-    if (answer == PARKLOT_DONE)
-        return;
-    must(answer == PARKLOT_OWES, "a release was refused");
-    while ((answer = parklot_wake(&self.place->seat, false, &number)) == PARKLOT_BUSY)
-        sched_yield();
+    do {
+        come_in();
+        answer = parklot_wake(&place->seat, false, &number);
+        come_out();
+    } while (answer == PARKLOT_BUSY && sched_yield() == 0);
     if (answer == PARKLOT_NOBODY)
         return;
     must(answer == PARKLOT_ONE, "a wake-up was refused");
     atomic_store(&places[number].word, NAMED);
     syscall(SYS_futex, &places[number].word, FUTEX_WAKE | FUTEX_PRIVATE_FLAG, 1, NULL, NULL, 0);
+}
+
+void counter_release(uint32_t counter)
+{
+    uint32_t answer;
+
+    atomic_fetch_add(&self.uses, 1);
+    while ((answer = parklot_post(&self.place->seat, counter)) == PARKLOT_LIMIT)
+        change_seats();
+    must(answer == PARKLOT_DONE || answer == PARKLOT_OWES, "a release was refused");
+    if (answer == PARKLOT_OWES)
+        wake_first(self.place);
+    atomic_fetch_sub(&self.uses, 1);
+}
+
+static uint64_t value_by(struct place *place, uint32_t counter)
+{
+    uint64_t value = 0;
+
+    must(parklot_value(&place->seat, counter, &value) == PARKLOT_OK, "a look was refused");
+    return value;
+}
+
+/* One of the kept seats; KEPT where all are in use. */
+static uint32_t kept_taken(void)
+{
+    for (uint32_t tries = 0; tries < KEPT_TRIES; tries++) {
+        for (uint32_t at = 0; at < KEPT; at++)
+            if (!atomic_exchange(&kept_in_use[at], true))
+                return at;
+        sched_yield();
+    }
+    return KEPT;
+}
+
+static int post_by_kept(uint32_t at, uint32_t counter, uint64_t most)
+{
+    struct place *place = &places[THREAD_SEATS + at];
+    uint32_t answer;
+    int error = value_by(place, counter) >= most ? EOVERFLOW : 0;
+
+    if (error == 0) {
+        answer = parklot_post(&place->seat, counter);
+        must(answer == PARKLOT_DONE || answer == PARKLOT_OWES, "a post was refused");
+        if (answer == PARKLOT_OWES && atomic_load(&self.inside) != 0) {
+            /* this handler's thread may hold the root's lock: it goes on with the wake-up */
+            atomic_fetch_or(&self.owing, 1u << at);
+            return 0;
+        }
+        if (answer == PARKLOT_OWES)
+            wake_first(place);
+    }
+    atomic_store(&kept_in_use[at], false);
+    return error;
+}
+
+int counter_post(uint32_t counter, uint64_t most)
+{
+    uint32_t at;
+
+    if (self.place != NULL && atomic_load(&self.uses) == 0) {
+        if (counter_value(counter) >= most)
+            return EOVERFLOW;
+        counter_release(counter);
+        return 0;
+    }
+    at = kept_taken();
+    return at == KEPT ? EAGAIN : post_by_kept(at, counter, most);
 }
 
 /* Counters of nobody's. */
@@ -322,38 +439,23 @@ void counter_give_back(uint32_t counter)
     pthread_mutex_unlock(&pool);
 }
 
-/* Others may wait at this counter's root, so the answer may be that somebody has to be looked for: nobody is there. */
-static void add(uint32_t counter, uint32_t units)
-{
-    uint32_t answer, count, woken[MANY];
-
-    while ((answer = parklot_post_many(&self.place->seat, counter, units)) == PARKLOT_LIMIT)
-        change_seats();
-    if (answer == PARKLOT_OWES)
-        while ((answer = parklot_wake_some(&self.place->seat, woken, MANY, &count)) == PARKLOT_BUSY)
-            sched_yield();
-    must(answer == PARKLOT_DONE, "a release of many was refused");
-}
-
-/* It begins with what was left there. */
+/* What was left there is taken out, but for so many. */
 uint32_t counter_take(uint64_t units)
 {
     uint32_t counter = counter_taken();
-    uint64_t value;
 
-    if (counter == 0)
-        return 0;
-    while ((value = counter_value(counter)) > units)
-        counter_try(counter);
-    for (; value < units; value = counter_value(counter))
-        add(counter, units - value < MANY ? (uint32_t)(units - value) : MANY);
+    if (counter != 0)
+        while (counter_value(counter) > units)
+            counter_try(counter);
     return counter;
 }
 
 uint64_t counter_value(uint32_t counter)
 {
-    uint64_t value = 0;
+    uint64_t value;
 
-    must(parklot_value(&self.place->seat, counter, &value) == PARKLOT_OK, "a look was refused");
+    atomic_fetch_add(&self.uses, 1);
+    value = value_by(self.place, counter);
+    atomic_fetch_sub(&self.uses, 1);
     return value;
 }
