@@ -56,6 +56,9 @@ enum parklot_answer {
     PARKLOT_ONE = 9,    /* one was woken, *woken says which; the seat rests */
     PARKLOT_HANDED = 10, /* parklot_wake: one was woken and given the unit; parklot_poll: this seat has that unit */
 
+    PARKLOT_LEFT = 14,   /* the seat gave up: it is queued no more, and rests */
+    PARKLOT_COMING = 15, /* the seat gave up too late: it will be named, and sleeps on until then */
+
     /* Answers of a list alone (parklot_list.h). */
     PARKLOT_AT_ONCE = 11, /* the ticket was granted already; the seat rests */
     PARKLOT_PARKED = 12,  /* the seat is queued: its task sleeps until it is named */
@@ -66,14 +69,14 @@ enum parklot_answer {
     PARKLOT_OTHER_CALL = 101, /* the seat stands in the middle of another call, or (poll, retry, wake) of none */
     PARKLOT_NO_COUNTER = 102, /* the table has no such counter */
     PARKLOT_BUSY = 103,       /* others hold the lock of the counter's root, or the list's: call again a little later */
-    PARKLOT_LIMIT = 104,      /* the seat may add no more: it has added release_limit units */
+    PARKLOT_LIMIT = 104,      /* the seat may spend no more: it has used up release_limit units */
     PARKLOT_FULL = 105,       /* parklot_new: a seat isn't empty */
     PARKLOT_UNITS = 106,      /* not 1 to 256 units */
     PARKLOT_ROOM = 107,       /* room for fewer numbers than 256 */
     PARKLOT_COUNTERS = 110,   /* not 1 to 65,536 counters */
-    PARKLOT_SEATS = 111,      /* not 1 to 256 seats */
+    PARKLOT_SEATS = 111,      /* not 1 to 65536 seats, of a list 256 */
     PARKLOT_ROOTS = 112,      /* not 1 to 251 roots */
-    PARKLOT_RELEASE_LIMIT = 113, /* not 1 to 2^40 units */
+    PARKLOT_RELEASE_LIMIT = 113, /* not 1 to 2^54 units, or above 2^62 for all seats */
     PARKLOT_NO_MEMORY = 114
 };
 
@@ -83,7 +86,7 @@ enum parklot_answer {
 /* Makes a table and all its seats; seats[n] has number n. starts[c] is the number of units that counter c begins with.
    Counter c is at root c modulo roots: counters of one root wait for one another's lock, and one root is enough for a
    few counters (Go has 251). seed shapes the trees in which a root finds its counters, and nothing that a caller sees.
-   Each seat may add release_limit units in its life. Memory is taken here and nowhere else, and goes with the last seat.
+   Each seat may add release_limit units in its life; a wait that it gives up counts as one. Memory is taken here and nowhere else, and goes with the last seat.
    OK, COUNTERS, SEATS, ROOTS, RELEASE_LIMIT, FULL, NO_MEMORY. */
 uint32_t parklot_new(const uint32_t *starts, size_t counters, uint32_t roots, uint64_t seed, uint64_t release_limit,
                      struct parklot_seat *seats, size_t count);
@@ -100,6 +103,12 @@ uint32_t parklot_enter(struct parklot_seat *seat, uint32_t counter, bool lifo);
 
 /* Whether a seat that is asleep was woken. Once it was named, never ASLEEP. ASLEEP, WOKEN, HANDED. */
 uint32_t parklot_poll(struct parklot_seat *seat);
+
+/* Gives up the wait of a seat that is asleep: its task's time is over, or it is cancelled. LEFT: nobody will name it, and
+   it has used up one of its release_limit units. COMING: a release has taken it out already, and will name it: the task
+   sleeps on, without a time, and then polls. WOKEN, HANDED: it was woken before, as parklot_poll tells. BUSY, LIMIT: it is
+   asleep as before. */
+uint32_t parklot_leave(struct parklot_seat *seat);
 
 /* The try of a seat that was woken. Where it answers ZERO, another took the unit: parklot_enter again, with the same
    counter and lifo. TAKEN, ZERO. */

@@ -40,6 +40,7 @@ unsafe extern "C" {
     fn parklot_try_acquire(seat: *mut Raw, counter: u32) -> u32;
     fn parklot_enter(seat: *mut Raw, counter: u32, lifo: bool) -> u32;
     fn parklot_poll(seat: *mut Raw) -> u32;
+    fn parklot_leave(seat: *mut Raw) -> u32;
     fn parklot_retry(seat: *mut Raw) -> u32;
     fn parklot_post(seat: *mut Raw, counter: u32) -> u32;
     fn parklot_post_many(seat: *mut Raw, counter: u32, units: u32) -> u32;
@@ -53,6 +54,7 @@ unsafe extern "C" {
     fn parklot_list_add(seat: *mut Raw, ticket: *mut u64) -> u32;
     fn parklot_list_try_wait(seat: *mut Raw) -> u32;
     fn parklot_list_poll(seat: *mut Raw) -> u32;
+    fn parklot_list_leave(seat: *mut Raw) -> u32;
     fn parklot_list_one(seat: *mut Raw, woken: *mut u32) -> u32;
     fn parklot_list_all(seat: *mut Raw, woken: *mut u32, room: usize, count: *mut u32) -> u32;
     fn parklot_list_quiet(seat: *mut Raw, quiet: *mut bool) -> u32;
@@ -74,11 +76,11 @@ pub enum Refused {
     Room,
     /// Not 1 to 65,536 counters.
     Counters,
-    /// Not 1 to 256 seats.
+    /// Not 1 to 65,536 seats, of a list 1 to 256.
     Seats,
     /// Not 1 to 251 roots.
     Roots,
-    /// Not 1 to 2^40 units that a seat may add.
+    /// Not 1 to 2^54 units that a seat may add, or more than 2^62 for all seats together.
     ReleaseLimit,
     NoMemory,
 }
@@ -110,6 +112,21 @@ pub enum Polled {
     Woken,
     /// Woken with a unit.
     Handed,
+}
+
+/// What `leave` did.
+#[derive(Clone, Copy, Debug, PartialEq, Eq)]
+pub enum GaveUp {
+    /// The seat is queued no more, and rests.
+    Left,
+    /// A release has taken the seat out, and will name it: its task sleeps on, without a time, and then polls.
+    Coming,
+    /// Woken before, of a table without a unit: `retry`.
+    Woken,
+    /// Woken before, with a unit.
+    Handed,
+    /// Nothing was done: again, a little later.
+    Busy,
 }
 
 /// What `retry` found.
@@ -172,7 +189,7 @@ impl<'a> Table<'a> {
     /// All its seats, in the order of their numbers. The table lives in them, and ends with the last.
     pub fn seats(&self, count: usize) -> Result<Vec<Seat>, Refused> {
         // The library tells so too; here no room is taken for what it would refuse.
-        if count > 256 {
+        if count > 65_536 {
             return Err(Refused::Seats);
         }
         let mut seats: Vec<Seat> = (0..count).map(|_| Seat { raw: Raw::EMPTY }).collect();
@@ -261,6 +278,19 @@ impl Seat {
             6 => Ok(Polled::Asleep),
             7 => Ok(Polled::Woken),
             10 => Ok(Polled::Handed),
+            other => Err(refusal(other)),
+        }
+    }
+
+    /// Gives up the wait of a seat that is asleep.
+    pub fn leave(&mut self) -> Result<GaveUp, Refused> {
+        // SAFETY: see above.
+        match unsafe { parklot_leave(&mut self.raw) } {
+            14 => Ok(GaveUp::Left),
+            15 => Ok(GaveUp::Coming),
+            7 => Ok(GaveUp::Woken),
+            10 => Ok(GaveUp::Handed),
+            103 => Ok(GaveUp::Busy),
             other => Err(refusal(other)),
         }
     }
@@ -438,6 +468,18 @@ impl ListSeat {
         match unsafe { parklot_list_poll(&mut self.raw) } {
             6 => Ok(Granted::NotYet),
             7 => Ok(Granted::Now),
+            other => Err(refusal(other)),
+        }
+    }
+
+    /// Gives up the wait of a seat that is parked.
+    pub fn leave(&mut self) -> Result<GaveUp, Refused> {
+        // SAFETY: see above.
+        match unsafe { parklot_list_leave(&mut self.raw) } {
+            14 => Ok(GaveUp::Left),
+            15 => Ok(GaveUp::Coming),
+            7 => Ok(GaveUp::Woken),
+            103 => Ok(GaveUp::Busy),
             other => Err(refusal(other)),
         }
     }

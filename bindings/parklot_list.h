@@ -39,7 +39,12 @@ uint32_t parklot_list_try_wait(struct parklot_list_seat *seat);
 /* Whether a seat that is parked was woken. Once it was named, never ASLEEP. ASLEEP, WOKEN. */
 uint32_t parklot_list_poll(struct parklot_list_seat *seat);
 
-/* Grants the least ticket that isn't granted. NOBODY: there is none. GRANTED: its owner isn't parked yet. ONE: its owner
+/* Gives up the wait of a seat that is parked. LEFT: nobody will name it, and its ticket is never granted. COMING: its ticket
+   is granted, and it will be named: the task sleeps on, without a time, and then polls. WOKEN: it was granted before. BUSY,
+   LIMIT: it is parked as before; LIMIT is for tickets from 2^60 on. */
+uint32_t parklot_list_leave(struct parklot_list_seat *seat);
+
+/* Grants the least ticket that is neither granted nor left. NOBODY: there is none. GRANTED: its owner isn't parked yet. ONE: its owner
    was parked, *woken says which seat. NOBODY, GRANTED, ONE, BUSY. */
 uint32_t parklot_list_one(struct parklot_list_seat *seat, uint32_t *woken);
 

@@ -25,6 +25,8 @@ static inline const char *answer_name(uint32_t answer)
     case PARKLOT_AT_ONCE: return "AT_ONCE";
     case PARKLOT_PARKED: return "PARKED";
     case PARKLOT_GRANTED: return "GRANTED";
+    case PARKLOT_LEFT: return "LEFT";
+    case PARKLOT_COMING: return "COMING";
     case PARKLOT_NO_SEAT: return "NO_SEAT";
     case PARKLOT_OTHER_CALL: return "OTHER_CALL";
     case PARKLOT_NO_COUNTER: return "NO_COUNTER";

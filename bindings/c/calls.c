@@ -35,7 +35,7 @@ static bool is_empty(const struct parklot_seat *seat)
 
 static void make_refused(void)
 {
-    static struct parklot_seat many[257];
+    static struct parklot_seat many[65537];
     static uint32_t too_many[65537];
 
     heading("settings that don't fit");
@@ -44,9 +44,9 @@ static void make_refused(void)
     SAY(parklot_new(starts, COUNTERS, 0, 1, LIMIT, seats, SEATS));
     SAY(parklot_new(starts, COUNTERS, 252, 1, LIMIT, seats, SEATS));
     SAY(parklot_new(starts, COUNTERS, 1, 1, 0, seats, SEATS));
-    SAY(parklot_new(starts, COUNTERS, 1, 1, (UINT64_C(1) << 40) + 1, seats, SEATS));
+    SAY(parklot_new(starts, COUNTERS, 1, 1, (UINT64_C(1) << 54) + 1, seats, SEATS));
     SAY(parklot_new(starts, COUNTERS, 1, 1, LIMIT, seats, 0));
-    SAY(parklot_new(starts, COUNTERS, 1, 1, LIMIT, many, 257));
+    SAY(parklot_new(starts, COUNTERS, 1, 1, LIMIT, many, 65537));
     for (int at = 0; at < SEATS; at++)
         must(is_empty(&seats[at]), "a refused parklot_new wrote a seat", PARKLOT_OK);
 }
@@ -62,6 +62,7 @@ static void empty_seats(void)
     SAY(parklot_try_acquire(seat, 0));
     SAY(parklot_enter(seat, 0, false));
     SAY(parklot_poll(seat));
+    SAY(parklot_leave(seat));
     SAY(parklot_retry(seat));
     SAY(parklot_post(seat, 0));
     SAY(parklot_post_many(seat, 0, 1));
@@ -285,6 +286,34 @@ static void limit(void)
     SAY(parklot_post_many(&seats[1], 2, 256));
 }
 
+static void gives_up(void)
+{
+    uint32_t number;
+
+    heading("a sleeper that gives up");
+    SAY(parklot_leave(&seats[3]));
+    SAY(parklot_enter(&seats[3], 1, false));
+    SAY(parklot_leave(&seats[3]));
+    counts(1);
+    SAY(parklot_post(&seats[0], 1));
+    SAY(parklot_try_acquire(&seats[3], 1));
+    heading("one that was woken, one that was handed a unit, and one that may spend no more");
+    SAY(parklot_enter(&seats[3], 1, false));
+    SAY(parklot_post(&seats[0], 1));
+    SAY(parklot_wake(&seats[0], false, &number));
+    SAY(parklot_leave(&seats[3]));
+    SAY(parklot_retry(&seats[3]));
+    SAY(parklot_enter(&seats[3], 1, false));
+    SAY(parklot_post(&seats[0], 1));
+    SAY(parklot_wake(&seats[0], true, &number));
+    SAY(parklot_leave(&seats[3]));
+    SAY(parklot_enter(&seats[2], 1, false));
+    SAY(parklot_leave(&seats[2]));
+    SAY(parklot_post(&seats[0], 1));
+    SAY(parklot_wake(&seats[0], true, &number));
+    SAY(parklot_poll(&seats[2]));
+}
+
 static void end(void)
 {
     struct parklot_seat moved;
@@ -315,6 +344,7 @@ int main(void)
     order(true);
     many();
     limit();
+    gives_up();
     end();
     return 0;
 }

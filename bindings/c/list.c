@@ -39,6 +39,7 @@ static void refusals(void)
     SAY(parklot_list_add(&seats[0], &ticket));
     SAY(parklot_list_try_wait(&seats[0]));
     SAY(parklot_list_poll(&seats[0]));
+    SAY(parklot_list_leave(&seats[0]));
     SAY(parklot_list_one(&seats[0], &number));
     SAY(parklot_list_all(&seats[0], woken, 256, &count));
     SAY(parklot_list_quiet(&seats[0], &quiet));
@@ -108,6 +109,18 @@ static void tickets(void)
     SAY(parklot_list_poll(&seats[0]));
     SAY(parklot_list_poll(&seats[1]));
     SAY(parklot_list_try_wait(&seats[2]));
+    is_quiet();
+
+    heading("one that leaves, and one that is granted before");
+    add(1);
+    add(0);
+    SAY(parklot_list_try_wait(&seats[0]));
+    SAY(parklot_list_try_wait(&seats[1]));
+    SAY(parklot_list_leave(&seats[1]));
+    SAY(parklot_list_leave(&seats[1]));
+    SAY(parklot_list_one(&seats[3], &woken));
+    printf("  woken %u\n", (unsigned)woken);
+    SAY(parklot_list_leave(&seats[0]));
     is_quiet();
     for (int at = 0; at < SEATS; at++)
         SAY(parklot_list_free(&seats[at]));

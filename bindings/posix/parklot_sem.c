@@ -43,7 +43,10 @@ int parklot_sem_init(parklot_sem_t *sem, int shared, unsigned int value)
     if (!thread_is_seated())
         return failed(ENOMEM);
     sem->counter = counter_take(value);
-    return sem->counter != 0 ? 0 : failed(ENOSPC);
+    if (sem->counter == 0)
+        return failed(ENOSPC);
+    sem->rest = value - (uint32_t)counter_value(sem->counter);
+    return 0;
 }
 
 int parklot_sem_destroy(parklot_sem_t *sem)
@@ -58,12 +61,23 @@ int parklot_sem_destroy(parklot_sem_t *sem)
     return 0;
 }
 
+/* Takes a unit of those with which the semaphore began. There are never more of these: who finds none goes to the counter. */
+static bool took_of_rest(parklot_sem_t *sem)
+{
+    uint32_t rest = __atomic_load_n(&sem->rest, __ATOMIC_SEQ_CST);
+
+    while (rest != 0)
+        if (__atomic_compare_exchange_n(&sem->rest, &rest, rest - 1, true, __ATOMIC_SEQ_CST, __ATOMIC_SEQ_CST))
+            return true;
+    return false;
+}
+
 int parklot_sem_wait(parklot_sem_t *sem)
 {
     int error = refused(sem);
 
     pthread_testcancel();
-    if (error == 0)
+    if (error == 0 && !took_of_rest(sem))
         error = counter_acquire_with(sem->counter, &(struct patience){.by_signal = true, .by_cancellation = true});
     return error == 0 ? 0 : failed(error);
 }
@@ -74,7 +88,7 @@ int parklot_sem_trywait(parklot_sem_t *sem)
 
     if (error != 0)
         return failed(error);
-    return counter_try(sem->counter) ? 0 : failed(EAGAIN);
+    return took_of_rest(sem) || counter_try(sem->counter) ? 0 : failed(EAGAIN);
 }
 
 int parklot_sem_timedwait(parklot_sem_t *sem, const struct timespec *end)
@@ -89,22 +103,19 @@ int parklot_sem_clockwait(parklot_sem_t *sem, clockid_t clock, const struct time
     pthread_testcancel();
     if (error == 0 && (!is_clock(clock) || !is_time(end)))
         error = EINVAL;
-    if (error == 0)
+    if (error == 0 && !took_of_rest(sem))
         error = counter_acquire_with(sem->counter, &(struct patience){true, true, true, clock, *end});
     return error == 0 ? 0 : failed(error);
 }
 
 int parklot_sem_post(parklot_sem_t *sem)
 {
-    int error = refused(sem);
-    uint32_t counter = sem->counter;
+    int before = errno, error = EINVAL;
 
-    if (error != 0)
-        return failed(error);
-    if (counter_value(counter) >= PARKLOT_SEM_VALUE_MAX)
-        return failed(EOVERFLOW);
-    counter_release(counter); /* who takes the unit may free `sem` */
-    return 0;
+    if (sem->counter != 0) /* who takes the unit may free `sem` */
+        error = counter_post(sem->counter, PARKLOT_SEM_VALUE_MAX - __atomic_load_n(&sem->rest, __ATOMIC_SEQ_CST));
+    errno = before;
+    return error == 0 ? 0 : failed(error);
 }
 
 int parklot_sem_getvalue(parklot_sem_t *sem, int *value)
@@ -114,7 +125,7 @@ int parklot_sem_getvalue(parklot_sem_t *sem, int *value)
 
     if (error != 0)
         return failed(error);
-    units = counter_value(sem->counter);
+    units = __atomic_load_n(&sem->rest, __ATOMIC_SEQ_CST) + counter_value(sem->counter);
     *value = (int)(units < PARKLOT_SEM_VALUE_MAX ? units : PARKLOT_SEM_VALUE_MAX);
     return 0;
 }
@@ -292,17 +303,42 @@ int parklot_cond_signal(parklot_cond_t *cond)
     return 0;
 }
 
-int parklot_cond_broadcast(parklot_cond_t *cond)
+/* Tells the first who wait, so many at most, and adds their units once the lock is given back: how many. */
+static uint32_t tell_some(parklot_cond_t *cond, uint32_t most)
 {
-    uint32_t counters[THREAD_SEATS], count = 0; /* this thread has a seat too, so there is room for a 0 behind all */
+    uint32_t counters[64], count = 0;
 
-    if (!thread_is_seated())
-        return ENOMEM;
+    if (most > sizeof counters / sizeof *counters)
+        most = sizeof counters / sizeof *counters;
     lock(cond);
-    while ((counters[count] = tell_first(cond, false)) != 0)
+    while (count < most && (counters[count] = tell_first(cond, false)) != 0)
         count++;
     unlock(cond);
     for (uint32_t at = 0; at < count; at++)
         counter_release(counters[at]);
+    return count;
+}
+
+static uint32_t count_waiters(parklot_cond_t *cond)
+{
+    uint32_t count = 0;
+
+    lock(cond);
+    for (struct parklot_waiter *at = cond->first; at != NULL; at = at->next)
+        count++;
+    unlock(cond);
+    return count;
+}
+
+/* Those who come later stand behind those who wait now, so as many are told as there are now. */
+int parklot_cond_broadcast(parklot_cond_t *cond)
+{
+    uint32_t left, told;
+
+    if (!thread_is_seated())
+        return ENOMEM;
+    left = count_waiters(cond);
+    while (left != 0 && (told = tell_some(cond, left)) != 0)
+        left -= told;
     return 0;
 }

@@ -4,15 +4,15 @@
    The waits are cancellation points. Left out, since a table lives in one process, and a seat makes one call at a time:
 
    - Nothing is shared between processes (ENOSYS, ENOTSUP), and nothing is used in a forked child.
-   - parklot_sem_post isn't called from a signal handler. POSIX allows that of sem_post; here the handler's thread may be
-     in the middle of a call with its seat. For the same reason no call is made with asynchronous cancellation.
+   - Of these calls a signal handler makes parklot_sem_post alone, as POSIX has it. No call is made with asynchronous
+     cancellation, since a thread may be in the middle of a call with its seat.
    - A condition variable isn't freed while a thread that waits there is being cancelled.
 
-   A thread gets one of 256 seats at its first call, and gives it back when it ends. A wait that ends by its time, a signal
-   or its cancellation leaves its seat in the queue, until that is woken or the next who waits there takes it over; it counts
-   as well. Where no seat is free a call answers ENOMEM, and a wait that can't leave its seat goes on. A post that wakes such
-   a seat takes its unit out of the semaphore and puts it in again, so a parklot_sem_trywait meanwhile may answer EAGAIN.
-   There are 16,000 semaphores and threads at most (ENOSPC, ENOMEM). */
+   A thread gets one of 4,096 seats (PARKLOT_THREAD_SEATS) at its first call, and gives it back when it ends; where none is
+   free a call answers ENOMEM. A post needs none: 32 seats are kept for threads without one and for signal handlers, and if
+   all of these stay in use it answers EAGAIN. A wait that ends by its time, a signal or its cancellation takes its seat out
+   of the queue (parklot_leave). One that a post was about to wake waits for that, and may end with the unit after all. There
+   are 16,000 semaphores and threads at most (ENOSPC, ENOMEM). */
 
 #ifndef PARKLOT_SEM_H
 #define PARKLOT_SEM_H
@@ -25,9 +25,10 @@
 extern "C" {
 #endif
 
-/* A semaphore: which counter it is, or 0. */
+/* A semaphore: which counter it is, or 0, and how many units are left beside it of those that it began with. */
 typedef struct {
     uint32_t counter;
+    uint32_t rest;
 } parklot_sem_t;
 
 #define PARKLOT_SEM_VALUE_MAX 2147483647u
@@ -40,7 +41,7 @@ int parklot_sem_timedwait(parklot_sem_t *sem, const struct timespec *end); /* ET
 int parklot_sem_clockwait(parklot_sem_t *sem, clockid_t clock, const struct timespec *end);
 
 /* The look for the highest value and the addition are two steps: posts at once may pass it by as many as they are. */
-int parklot_sem_post(parklot_sem_t *sem);                  /* EOVERFLOW, EINVAL, ENOMEM */
+int parklot_sem_post(parklot_sem_t *sem);                  /* EOVERFLOW, EINVAL, EAGAIN */
 int parklot_sem_getvalue(parklot_sem_t *sem, int *value);  /* EINVAL, ENOMEM */
 
 /* A condition variable: the threads that wait, first come first. Zeros are one too, whose clock is CLOCK_REALTIME. */

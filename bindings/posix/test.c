@@ -122,8 +122,10 @@ static void all_semaphores(void)
     while (parklot_sem_init(&sems[made], 0, 1) == 0)
         made++;
     printf("semaphores at once: %s, and then %s\n", made > 16000 ? "more than 16,000" : "few", error_name(errno));
-    for (int at = 0; at < made; at++)
+    for (int at = 0; at < made; at++) {
+        must(parklot_sem_post(&sems[at]) == 0, "post");
         must(parklot_sem_destroy(&sems[at]) == 0, "destroy");
+    }
     SAY(parklot_sem_init(&sems[0], 0, 0));
     printf("value %d\n", value_of(&sems[0]));
     SAY(parklot_sem_destroy(&sems[0]));
@@ -215,19 +217,19 @@ static void times_that_are_over(void)
     SAY(parklot_sem_destroy(&sem));
 }
 
-/* Semaphores by the hundred, each with a wait whose time was over: destroy takes the seats back. */
-static void seats_of_the_destroyed(void)
+/* More semaphores than there are seats, each with a wait whose time was over: none of them keeps a seat. */
+static void times_that_are_over_everywhere(void)
 {
+    static parklot_sem_t sems[400];
     struct timespec past = {0, 0};
 
-    for (int round = 0; round < 400; round++) {
-        parklot_sem_t sem;
-
-        must(parklot_sem_init(&sem, 0, 0) == 0, "init");
-        must(parklot_sem_timedwait(&sem, &past) == -1 && errno == ETIMEDOUT, "a time is over");
-        must(parklot_sem_destroy(&sem) == 0, "destroy");
+    for (int at = 0; at < 400; at++) {
+        must(parklot_sem_init(&sems[at], 0, 0) == 0, "init");
+        must(parklot_sem_timedwait(&sems[at], &past) == -1 && errno == ETIMEDOUT, "a time is over");
     }
-    printf("400 semaphores with a time that was over\n");
+    for (int at = 0; at < 400; at++)
+        must(parklot_sem_destroy(&sems[at]) == 0, "destroy");
+    printf("400 semaphores at once with a time that was over\n");
 }
 
 static void nothing(int number)
@@ -251,14 +253,64 @@ static void signals(void)
     SAY(parklot_sem_destroy(&sem));
 }
 
+/* A signal handler's posts, while its thread is in the middle of calls at the same root, which hold that root's lock. */
+enum { BROUGHT = 1000, SAME_ROOT = 251 };
+
+static parklot_sem_t brought[SAME_ROOT + 1];
+static volatile sig_atomic_t handled, refused_posts;
+
+static void brings(int number)
+{
+    (void)number;
+    if (handled == BROUGHT)
+        return;
+    if (parklot_sem_post(&brought[0]) != 0)
+        refused_posts = refused_posts + 1;
+    handled = handled + 1;
+}
+
+static void *takes_what_is_brought(void *unused)
+{
+    (void)unused;
+    for (int at = 0; at < BROUGHT; at++)
+        must(parklot_sem_wait(&brought[0]) == 0, "wait");
+    return NULL;
+}
+
+static void posts_by_handlers(void)
+{
+    struct sigaction action = {.sa_handler = brings};
+    struct itimerval often = {{0, 200}, {0, 200}}, never = {{0, 0}, {0, 0}};
+    struct timespec past = {1, 0};
+    sigset_t alarm;
+    pthread_t taker;
+
+    for (int at = 0; at <= SAME_ROOT; at++)
+        must(parklot_sem_init(&brought[at], 0, 0) == 0, "init");
+    sigemptyset(&alarm);
+    sigaddset(&alarm, SIGALRM);
+    sigaction(SIGALRM, &action, NULL);
+    pthread_sigmask(SIG_BLOCK, &alarm, NULL);
+    begin(&taker, takes_what_is_brought, NULL);
+    pthread_sigmask(SIG_UNBLOCK, &alarm, NULL);
+    setitimer(ITIMER_REAL, &often, NULL);
+    while (handled < BROUGHT)
+        must(parklot_sem_timedwait(&brought[SAME_ROOT], &past) == -1, "nothing is brought there");
+    setitimer(ITIMER_REAL, &never, NULL);
+    join(taker);
+    printf("%d posts by a signal handler, %d refused: value %d\n", handled, refused_posts, value_of(&brought[0]));
+    for (int at = 0; at <= SAME_ROOT; at++)
+        must(parklot_sem_destroy(&brought[at]) == 0, "destroy");
+}
+
 static parklot_sem_t first, second;
 
 static void *meets(void *unused)
 {
     (void)unused;
-    if (parklot_sem_post(&first) != 0)
-        return "no seat";
-    must(parklot_sem_wait(&second) == 0, "wait");
+    must(parklot_sem_post(&first) == 0, "post");
+    if (parklot_sem_wait(&second) != 0)
+        return errno == ENOMEM ? "no seat" : "another error";
     return NULL;
 }
 
@@ -288,6 +340,7 @@ static void many_threads(void)
         void *answer;
 
         must(pthread_create(&threads[at], &small, meets, NULL) == 0, "a thread began");
+        must(parklot_sem_wait(&first) == 0, "wait");
         pthread_join(threads[at], &answer);
         refused += answer != NULL;
     }
@@ -493,9 +546,10 @@ int main(void)
     answers();
     queue_of_semaphores();
     times_that_are_over();
-    seats_of_the_destroyed();
+    times_that_are_over_everywhere();
     all_semaphores();
     signals();
+    posts_by_handlers();
     many_threads();
     cond_answers();
     turns();

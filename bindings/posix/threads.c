@@ -15,23 +15,25 @@
 #include <sys/syscall.h>
 #include <unistd.h>
 
-enum { COUNTERS = 16384, ROOTS = 251, MANY = 256, NOWHERE = 0, NONE = THREAD_SEATS };
+enum { COUNTERS = 16384, ROOTS = 251 };
 
-static const uint64_t RELEASE_LIMIT = (uint64_t)1 << 40;
+/* Seats that no thread has: for posts by threads without one, and by signal handlers. */
+enum { KEPT = 32, KEPT_TRIES = 1000 };
+
+/* What each seat may spend of the 2^62 units of a table. */
+static const uint64_t RELEASE_LIMIT = ((uint64_t)1 << 62) / (THREAD_SEATS + KEPT < 256 ? 256 : THREAD_SEATS + KEPT);
 
 /* What a seat's word says while it is queued. */
-enum { STAYS, NAMED, LEFT };
+enum { STAYS, NAMED };
 
-/* A seat and its word. A seat whose thread waits no longer is left in the queue, since none leaves it but by being woken:
-   `left_at` says on which counter, until it is back with the others. That field is guarded by `pool`. */
+/* A seat and its word. */
 struct place {
     _Alignas(128) atomic_uint word;
-    uint32_t left_at;
     struct parklot_seat seat;
 };
 
-static struct place places[THREAD_SEATS];
-static atomic_uint left_behind; /* how many words are LEFT: so that who finds 0 needn't look for one */
+static struct place places[THREAD_SEATS + KEPT];
+static atomic_bool kept_in_use[KEPT];
 
 /* Which seats and counters are nobody's. Counters go round, the one that was given back first is taken first. */
 static pthread_mutex_t pool = PTHREAD_MUTEX_INITIALIZER;
@@ -41,10 +43,12 @@ static uint32_t free_counters[COUNTERS], free_counters_count, free_counters_firs
 static pthread_once_t once = PTHREAD_ONCE_INIT;
 static pthread_key_t at_exit;
 
-/* This thread. */
+/* This thread. A signal handler may find it anywhere: so it is told when its seat is in use, when it is inside of a call that
+   may hold a root's lock, and which kept seats have to look for a wait once it comes out of that. */
 static _Thread_local struct {
     struct place *place;
     uint32_t counter;
+    atomic_uint uses, inside, owing;
 } self;
 
 static void must(bool holds, const char *what)
@@ -64,8 +68,6 @@ static struct place *seat_taken(void)
 
 static void seat_given(struct place *place)
 {
-    atomic_store(&place->word, STAYS);
-    place->left_at = NOWHERE;
     free_seats[free_seats_count++] = (uint32_t)(place - places);
 }
 
@@ -109,17 +111,18 @@ static void go(void *unused)
 static void make_table(void)
 {
     static uint32_t starts[COUNTERS];
-    static struct parklot_seat seats[THREAD_SEATS];
+    static struct parklot_seat seats[THREAD_SEATS + KEPT];
 
     for (uint32_t lock = 1; lock <= THREAD_LOCKS; lock++)
         starts[lock] = 1;
     if (pthread_key_create(&at_exit, go) != 0)
         return;
-    if (parklot_new(starts, COUNTERS, ROOTS, 1, RELEASE_LIMIT, seats, THREAD_SEATS) != PARKLOT_OK)
+    if (parklot_new(starts, COUNTERS, ROOTS, 1, RELEASE_LIMIT, seats, THREAD_SEATS + KEPT) != PARKLOT_OK)
         return;
-    for (uint32_t number = THREAD_SEATS; number-- > 0;) {
+    for (uint32_t number = THREAD_SEATS + KEPT; number-- > 0;) {
         places[number].seat = seats[number];
-        seat_given(&places[number]);
+        if (number < THREAD_SEATS)
+            seat_given(&places[number]);
     }
     for (uint32_t counter = THREAD_LOCKS + 1; counter < COUNTERS; counter++)
         counter_given(counter);
@@ -153,6 +156,29 @@ uint32_t thread_counter(void)
     return self.counter;
 }
 
+/* Calls that may hold a root's lock. A wake-up that a signal handler began meanwhile ends behind them. */
+
+static void wake_first(struct place *place);
+
+static void come_in(void)
+{
+    atomic_fetch_add(&self.inside, 1);
+}
+
+static void come_out(void)
+{
+    unsigned owing;
+
+    if (atomic_fetch_sub(&self.inside, 1) != 1)
+        return;
+    while ((owing = atomic_exchange(&self.owing, 0)) != 0)
+        for (uint32_t at = 0; at < KEPT; at++)
+            if (owing >> at & 1) {
+                wake_first(&places[THREAD_SEATS + at]);
+                atomic_store(&kept_in_use[at], false);
+            }
+}
+
 /* Sleeping. */
 
 static int futex_wait(atomic_uint *word, const struct patience *patience)
@@ -169,75 +195,47 @@ static int futex_wait(atomic_uint *word, const struct patience *patience)
     return errno;
 }
 
-/* Leaves this thread's seat in the queue, and takes another. False where it was named meanwhile, or none is free: then the
-   thread has to go on with this one. */
-static bool leave(uint32_t counter)
+/* The try of a seat that was woken. */
+static bool took(void)
 {
-    unsigned int stays = STAYS;
-    struct place *place = self.place;
-    bool left = false;
+    uint32_t answer = parklot_retry(&self.place->seat);
 
-    pthread_mutex_lock(&pool);
-    if (free_seats_count > 0 && atomic_compare_exchange_strong(&place->word, &stays, LEFT)) {
-        place->left_at = counter;
-        atomic_fetch_add(&left_behind, 1);
-        self.place = seat_taken();
-        left = true;
-    }
-    pthread_mutex_unlock(&pool);
-    return left;
-}
-
-/* Takes over a seat that was left in this counter's queue, instead of queueing another: so waits that time out again and
-   again need no more seats than wait at once. It stands as far in front as if this thread had waited all the time. */
-static bool take_over(uint32_t counter)
-{
-    bool taken = false;
-
-    if (atomic_load(&left_behind) == 0)
-        return false;
-    pthread_mutex_lock(&pool);
-    for (uint32_t number = 0; number < THREAD_SEATS && !taken; number++) {
-        struct place *place = &places[number];
-        unsigned int left = LEFT;
-
-        if (place->left_at != counter || !atomic_compare_exchange_strong(&place->word, &left, STAYS))
-            continue;
-        atomic_fetch_sub(&left_behind, 1);
-        place->left_at = NOWHERE;
-        seat_given(self.place);
-        self.place = place;
-        taken = true;
-    }
-    pthread_mutex_unlock(&pool);
-    return taken;
-}
-
-/* The try of a seat that was named. */
-static bool took(struct place *place)
-{
-    uint32_t answer;
-
-    must(parklot_poll(&place->seat) == PARKLOT_WOKEN, "a seat was named, and isn't woken");
-    answer = parklot_retry(&place->seat);
     must(answer == PARKLOT_TAKEN || answer == PARKLOT_ZERO, "a woken seat's try was refused");
     return answer == PARKLOT_TAKEN;
 }
 
-/* What a thread does yet that is cancelled in its sleep: it leaves, or, where it was named, brings the unit to another. */
+/* The try of a seat that was named. */
+static bool took_when_named(void)
+{
+    must(parklot_poll(&self.place->seat) == PARKLOT_WOKEN, "a seat was named, and isn't woken");
+    return took();
+}
+
+/* Gives the wait up: whether there was a unit after all. Where a release has the seat it will name it, and that name is
+   waited for, since it would end the seat's next wait. */
+static bool leave(void)
+{
+    atomic_uint *word = &self.place->word;
+    uint32_t answer;
+
+    do {
+        come_in();
+        answer = parklot_leave(&self.place->seat);
+        come_out();
+    } while (answer == PARKLOT_BUSY && sched_yield() == 0);
+    if (answer == PARKLOT_LEFT)
+        return false;
+    must(answer == PARKLOT_COMING || answer == PARKLOT_WOKEN, "a wait can't be given up");
+    while (atomic_load(word) != NAMED)
+        futex_wait(word, &(struct patience){.has_end = false});
+    return answer == PARKLOT_WOKEN ? took() : took_when_named();
+}
+
+/* What a thread does yet that is cancelled in its sleep: a unit that came for it goes to another. */
 static void is_cancelled(void *given)
 {
-    uint32_t counter = *(uint32_t *)given;
-    struct place *place = self.place;
-
-    while (!leave(counter)) {
-        if (atomic_load(&place->word) == NAMED) {
-            if (took(place))
-                counter_release(counter);
-            return;
-        }
-        sched_yield();
-    }
+    if (leave())
+        counter_release(*(uint32_t *)given);
 }
 
 /* Between the two calls of pthread_setcanceltype nothing is done but to sleep: it may end there at any instruction. */
@@ -253,7 +251,7 @@ static int futex_wait_cancellable(uint32_t counter, atomic_uint *word, const str
     return error;
 }
 
-/* Sleeps until the seat is named: 0. Else the wait was ended before, and the seat is left. */
+/* Sleeps until the seat is named: 0; or until the wait is to end before. */
 static int sleep_until_named(uint32_t counter, const struct patience *patience)
 {
     atomic_uint *word = &self.place->word;
@@ -262,11 +260,8 @@ static int sleep_until_named(uint32_t counter, const struct patience *patience)
         int error = patience->by_cancellation ? futex_wait_cancellable(counter, word, patience)
                                               : futex_wait(word, patience);
 
-        if (error != ETIMEDOUT && !(error == EINTR && patience->by_signal))
-            continue;
-        if (leave(counter))
+        if (error == ETIMEDOUT || (error == EINTR && patience->by_signal))
             return error;
-        sched_yield();
     }
     return 0;
 }
@@ -277,12 +272,15 @@ static uint32_t enter(uint32_t counter)
 
     /* Before the call: the seat may be named before the call is back. */
     atomic_store(&self.place->word, STAYS);
-    while ((answer = parklot_enter(&self.place->seat, counter, false)) == PARKLOT_BUSY)
-        sched_yield();
+    do {
+        come_in();
+        answer = parklot_enter(&self.place->seat, counter, false);
+        come_out();
+    } while (answer == PARKLOT_BUSY && sched_yield() == 0);
     return answer;
 }
 
-bool counter_try(uint32_t counter)
+static bool tries(uint32_t counter)
 {
     uint32_t answer;
 
@@ -293,25 +291,42 @@ bool counter_try(uint32_t counter)
     return answer == PARKLOT_TAKEN;
 }
 
-int counter_acquire_with(uint32_t counter, const struct patience *patience)
+bool counter_try(uint32_t counter)
 {
-    if (counter_try(counter))
+    bool taken;
+
+    atomic_fetch_add(&self.uses, 1);
+    taken = tries(counter);
+    atomic_fetch_sub(&self.uses, 1);
+    return taken;
+}
+
+static int acquires(uint32_t counter, const struct patience *patience)
+{
+    if (tries(counter))
         return 0;
     do {
+        uint32_t answer = enter(counter);
         int error;
 
-        if (!take_over(counter)) {
-            uint32_t answer = enter(counter);
-
-            if (answer == PARKLOT_TAKEN)
-                return 0;
-            must(answer == PARKLOT_ASLEEP, "an acquire was refused");
-        }
+        if (answer == PARKLOT_TAKEN)
+            return 0;
+        must(answer == PARKLOT_ASLEEP, "an acquire was refused");
         error = sleep_until_named(counter, patience);
         if (error != 0)
-            return error;
-    } while (!took(self.place));
+            return leave() ? 0 : error;
+    } while (!took_when_named());
     return 0;
+}
+
+int counter_acquire_with(uint32_t counter, const struct patience *patience)
+{
+    int error;
+
+    atomic_fetch_add(&self.uses, 1);
+    error = acquires(counter, patience);
+    atomic_fetch_sub(&self.uses, 1);
+    return error;
 }
 
 void counter_acquire(uint32_t counter)
@@ -321,129 +336,126 @@ void counter_acquire(uint32_t counter)
 
 /* Waking. */
 
-/* Another seat for one that has added all its units, which isn't given back: 2^40 are thirteen days at a million each
-   second. */
+/* Another seat for one that has used up all its units, which isn't given back: they are 35 years at a million each second. */
 static void change_seats(void)
 {
     pthread_mutex_lock(&pool);
     self.place = seat_taken();
     pthread_mutex_unlock(&pool);
-    must(self.place != NULL, "the seats have added all their units");
+    must(self.place != NULL, "the seats have used up all their units");
 }
 
-static uint32_t post(uint32_t counter)
+/* The rest of a release. */
+static void wake_first(struct place *place)
+{
+    uint32_t number, answer;
+
+    do {
+        come_in();
+        answer = parklot_wake(&place->seat, false, &number);
+        come_out();
+    } while (answer == PARKLOT_BUSY && sched_yield() == 0);
+    if (answer == PARKLOT_NOBODY)
+        return;
+    must(answer == PARKLOT_ONE, "a wake-up was refused");
+    atomic_store(&places[number].word, NAMED);
+    syscall(SYS_futex, &places[number].word, FUTEX_WAKE | FUTEX_PRIVATE_FLAG, 1, NULL, NULL, 0);
+}
+
+void counter_release(uint32_t counter)
 {
     uint32_t answer;
 
+    atomic_fetch_add(&self.uses, 1);
     while ((answer = parklot_post(&self.place->seat, counter)) == PARKLOT_LIMIT)
         change_seats();
-    return answer;
+    must(answer == PARKLOT_DONE || answer == PARKLOT_OWES, "a release was refused");
+    if (answer == PARKLOT_OWES)
+        wake_first(self.place);
+    atomic_fetch_sub(&self.uses, 1);
 }
 
-/* Adds a unit, and wakes the first. Where that one's thread has left, it says which it is, and the caller has to go on for
-   it. */
-static uint32_t bring(uint32_t counter)
+static uint64_t value_by(struct place *place, uint32_t counter)
 {
-    uint32_t number, answer = post(counter);
+    uint64_t value = 0;
 
-    if (answer == PARKLOT_DONE)
-        return NONE;
-    must(answer == PARKLOT_OWES, "a release was refused");
-    while ((answer = parklot_wake(&self.place->seat, false, &number)) == PARKLOT_BUSY)
+    must(parklot_value(&place->seat, counter, &value) == PARKLOT_OK, "a look was refused");
+    return value;
+}
+
+/* One of the kept seats; KEPT where all are in use. */
+static uint32_t kept_taken(void)
+{
+    for (uint32_t tries = 0; tries < KEPT_TRIES; tries++) {
+        for (uint32_t at = 0; at < KEPT; at++)
+            if (!atomic_exchange(&kept_in_use[at], true))
+                return at;
         sched_yield();
-    if (answer == PARKLOT_NOBODY)
-        return NONE;
-    must(answer == PARKLOT_ONE, "a wake-up was refused");
-    if (atomic_exchange(&places[number].word, NAMED) == LEFT) {
-        atomic_fetch_sub(&left_behind, 1);
-        return number;
     }
-    syscall(SYS_futex, &places[number].word, FUTEX_WAKE | FUTEX_PRIVATE_FLAG, 1, NULL, NULL, 0);
-    return NONE;
+    return KEPT;
 }
 
-/* A seat that was left takes the unit, if nobody was faster, and the unit is brought again: so the next is woken. The seat
-   goes back only then, so that counter_give_back sees that a unit may still come. */
-void counter_release(uint32_t counter)
+static int post_by_kept(uint32_t at, uint32_t counter, uint64_t most)
 {
-    uint32_t number = bring(counter);
+    struct place *place = &places[THREAD_SEATS + at];
+    uint32_t answer;
+    int error = value_by(place, counter) >= most ? EOVERFLOW : 0;
 
-    while (number != NONE) {
-        struct place *left = &places[number];
-
-        number = took(left) ? bring(counter) : NONE;
-        seat_give_back(left);
+    if (error == 0) {
+        answer = parklot_post(&place->seat, counter);
+        must(answer == PARKLOT_DONE || answer == PARKLOT_OWES, "a post was refused");
+        if (answer == PARKLOT_OWES && atomic_load(&self.inside) != 0) {
+            /* this handler's thread may hold the root's lock: it goes on with the wake-up */
+            atomic_fetch_or(&self.owing, 1u << at);
+            return 0;
+        }
+        if (answer == PARKLOT_OWES)
+            wake_first(place);
     }
+    atomic_store(&kept_in_use[at], false);
+    return error;
+}
+
+int counter_post(uint32_t counter, uint64_t most)
+{
+    uint32_t at;
+
+    if (self.place != NULL && atomic_load(&self.uses) == 0) {
+        if (counter_value(counter) >= most)
+            return EOVERFLOW;
+        counter_release(counter);
+        return 0;
+    }
+    at = kept_taken();
+    return at == KEPT ? EAGAIN : post_by_kept(at, counter, most);
 }
 
 /* Counters of nobody's. */
 
-/* A seat that was left in this counter's queue, woken or not, or none. */
-static struct place *left_at(uint32_t counter)
-{
-    struct place *found = NULL;
-
-    pthread_mutex_lock(&pool);
-    for (uint32_t number = 0; number < THREAD_SEATS && found == NULL; number++)
-        if (places[number].left_at == counter)
-            found = &places[number];
-    pthread_mutex_unlock(&pool);
-    return found;
-}
-
-/* Nobody waits here any more but seats that were left: each is brought a unit, which it takes away. A seat that another is
-   waking just now is waited for. */
 void counter_give_back(uint32_t counter)
 {
-    struct place *left;
-
-    while ((left = left_at(counter)) != NULL) {
-        uint32_t number = atomic_load(&left->word) == LEFT ? bring(counter) : NONE;
-
-        if (number == NONE) {
-            sched_yield();
-            continue;
-        }
-        took(&places[number]);
-        seat_give_back(&places[number]);
-    }
     pthread_mutex_lock(&pool);
     counter_given(counter);
     pthread_mutex_unlock(&pool);
 }
 
-/* Others may wait at this counter's root, so the answer may be that somebody has to be looked for: nobody is there. */
-static void add(uint32_t counter, uint32_t units)
-{
-    uint32_t answer, count, woken[MANY];
-
-    while ((answer = parklot_post_many(&self.place->seat, counter, units)) == PARKLOT_LIMIT)
-        change_seats();
-    if (answer == PARKLOT_OWES)
-        while ((answer = parklot_wake_some(&self.place->seat, woken, MANY, &count)) == PARKLOT_BUSY)
-            sched_yield();
-    must(answer == PARKLOT_DONE, "a release of many was refused");
-}
-
-/* It begins with what was left there. */
+/* What was left there is taken out, but for so many. */
 uint32_t counter_take(uint64_t units)
 {
     uint32_t counter = counter_taken();
-    uint64_t value;
 
-    if (counter == 0)
-        return 0;
-    while ((value = counter_value(counter)) > units)
-        counter_try(counter);
-    for (; value < units; value = counter_value(counter))
-        add(counter, units - value < MANY ? (uint32_t)(units - value) : MANY);
+    if (counter != 0)
+        while (counter_value(counter) > units)
+            counter_try(counter);
     return counter;
 }
 
 uint64_t counter_value(uint32_t counter)
 {
-    uint64_t value = 0;
+    uint64_t value;
 
-    must(parklot_value(&self.place->seat, counter, &value) == PARKLOT_OK, "a look was refused");
+    atomic_fetch_add(&self.uses, 1);
+    value = value_by(self.place, counter);
+    atomic_fetch_sub(&self.uses, 1);
     return value;
 }

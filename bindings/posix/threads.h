@@ -7,8 +7,13 @@
 #include <stdint.h>
 #include <time.h>
 
+/* How many threads may have a seat at once. */
+#ifndef PARKLOT_THREAD_SEATS
+#define PARKLOT_THREAD_SEATS 4096
+#endif
+
 /* Counters 1 to THREAD_LOCKS begin with one unit: each is a lock. The others are taken and given back. */
-enum { THREAD_SEATS = 256, THREAD_LOCKS = 64 };
+enum { THREAD_SEATS = PARKLOT_THREAD_SEATS, THREAD_LOCKS = 64 };
 
 /* What ends a wait without a unit: a time, a signal that this thread handles, its cancellation. */
 struct patience {
@@ -25,7 +30,7 @@ bool thread_is_seated(void);
 /* The counter on which this thread alone waits. */
 uint32_t thread_counter(void);
 
-/* A counter of nobody's, with so many units; 0 where there is none. */
+/* A counter of nobody's, with this many units at most; 0 where there is none. */
 uint32_t counter_take(uint64_t units);
 void counter_give_back(uint32_t counter);
 
@@ -40,5 +45,9 @@ void counter_acquire(uint32_t counter);
 
 /* Adds a unit, and wakes the first who waits for one. */
 void counter_release(uint32_t counter);
+
+/* The same by a thread with or without a seat, or by a signal handler, where the counter has fewer units than this: 0. Else
+   EOVERFLOW; or EAGAIN, where all seats that are kept for this are in use. */
+int counter_post(uint32_t counter, uint64_t most);
 
 #endif

@@ -170,7 +170,7 @@ fn answers() -> Result<(), Refused> {
     println!("limit: {:?} {:?}", two.post(0), two.post(0));
     println!("no counter: {:?}", two.try_acquire(2));
     println!("value: {:?}", two.value(0));
-    println!("no table: {:?} {:?}", Table::new(&[]).seats(1).err(), Table::new(&[0]).seats(257).err());
+    println!("no table: {:?} {:?}", Table::new(&[]).seats(1).err(), Table::new(&[0]).seats(65_537).err());
     let none = |roots, release_limit| Table { starts: &[0], roots, seed: 1, release_limit }.seats(1).err();
     println!("no table: {:?} {:?} {:?}", none(0, 1), none(1, 0), Table::new(&[0]).seats(0).err());
     Ok(())

@@ -20,6 +20,7 @@ mod signals;
 mod steps;
 mod sync;
 mod tables;
+mod tasks;
 mod words;
 
 use crate::plan::Plan;

@@ -2,7 +2,7 @@
 ghost use Rattle.std.specs.Prelude.{◌≡◌, ◌<◌, All, IfOk, length};
 
 use crate::plan::Plan;
-use crate::{steps, words};
+use crate::{steps, tasks, words};
 use anyhow::{Result, bail};
 use sema_table::{Closed, Seat, SemaTable, Settings};
 use sema_table_crew::{Way, Work, run, tell};
@@ -151,11 +151,13 @@ const fn hands(lifo: bool, handoff: bool) -> Work {
 /// and lifo; in `spread` one of 1,000 counters over 251 roots, drawn anew in each turn. Both try before they
 /// acquire, and end by their release limit. In `hands`, `lifo` and `handoff` two hand a unit back and forth
 /// over two counters, each waiting for the other, in order, with lifo and with handoff, and in `two` two
-/// units by one add: an operation is the way there and back.
+/// units by one add: an operation is the way there and back. In `tasks` ten thousand tasks share 64 units, each worker
+/// runs its part of them in turn, and a task that has slept for thirty turns gives up; an operation is a task's turn.
 pub fn time<R: Clock + Print + Threads + Wait + Sync>(rt: &R, plan: &Plan<'_>) -> Result<()> {
     match plan.case {
         "pair" | "cycle" => time_alone(rt, plan),
         "pair-words" | "cycle-words" | "cycle-root" => words::time(rt, plan),
+        "tasks" => tasks::time(rt, plan),
         case => time_crew(rt, plan, work_of(case)?),
     }
 }

@@ -8,6 +8,8 @@ use Rattle.sema_table.specs.declared.setup_error.SetupError.{SetupError}
 use Rattle.sema_table.specs.declared.setup_error.SetupError.TheVariants as setup
 use Rattle.sema_table.specs.declared.task_answers.TaskEntered.{TaskEntered}
 use Rattle.sema_table.specs.declared.task_answers.TaskEntered.TheVariants as enters
+use Rattle.sema_table.specs.declared.task_answers.TaskGaveUp.{TaskGaveUp}
+use Rattle.sema_table.specs.declared.task_answers.TaskGaveUp.TheVariants as gives
 use Rattle.sema_table.specs.declared.task_answers.TaskPolled.{TaskPolled}
 use Rattle.sema_table.specs.declared.task_answers.TaskPolled.TheVariants as polls
 use Rattle.sema_table.specs.declared.task_answers.TaskPosted.{TaskPosted}
@@ -31,6 +33,12 @@ abbrev pub polled_code : TaskPolled → ℕ
 polled_code polls.Still = 6
 polled_code polls.Woken = 7
 polled_code polls.Handed = 10
+
+abbrev pub gave_up_code : TaskGaveUp → ℕ
+gave_up_code gives.Left = 14
+gave_up_code gives.Coming = 15
+gave_up_code gives.Woken = 7
+gave_up_code gives.Handed = 10
 
 abbrev pub retried_code : TaskRetried → ℕ
 retried_code retries.Taken = 1

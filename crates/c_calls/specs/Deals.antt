@@ -39,7 +39,7 @@ pub record Asks (starts : List ℕ) (roots seed limit seats : ℕ) (k : Settings
   pub roots_are : k.roots ≡ roots
   pub seed_is : k.seed ≡ seed
   pub limit_is : k.release_limit ≡ limit
-  pub seats_are : k.seats ≡ min 257 seats
+  pub seats_are : k.seats ≡ min 65537 seats
 
 -- a table was made as asked, and its seats dealt, none of which has run or seen anything; or nothing was done,
 -- and the code tells the first limit that isn't kept, or that memory lacks
@@ -58,9 +58,9 @@ DealsTable starts roots seed limit handles =
 abbrev pub DealsList : ℕ → List SeatHandle → ℕ → List SeatHandle → Type 0
 DealsList first handles =
     Deals at_list
-    (λ seats. (l : ListModel) × list_tasks.IsMadeForTasks first (min 257 (length handles)) l seats)
+    (λ seats. (l : ListModel) × list_tasks.IsMadeForTasks first (min 65537 (length handles)) l seats)
     list_codes.setup_code
-    (λ e. list_making.IsRefused (min 257 (length handles)) e)
+    (λ e. list_making.IsRefused (min 65537 (length handles)) e)
     handles
 
 -- seats are dealt so, where no handle had one; or a handle had one, and nothing was done

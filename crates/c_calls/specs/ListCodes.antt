@@ -5,6 +5,8 @@ use Rattle.notify_list.specs.declared.setup_error.SetupError.{SetupError}
 use Rattle.notify_list.specs.declared.setup_error.SetupError.TheVariants as setup
 use Rattle.notify_list.specs.declared.task_answers.TaskEntered.{TaskEntered}
 use Rattle.notify_list.specs.declared.task_answers.TaskEntered.TheVariants as enters
+use Rattle.notify_list.specs.declared.task_answers.TaskGaveUp.{TaskGaveUp}
+use Rattle.notify_list.specs.declared.task_answers.TaskGaveUp.TheVariants as gives
 use Rattle.notify_list.specs.declared.task_answers.TaskPolled.{TaskPolled}
 use Rattle.notify_list.specs.declared.task_answers.TaskPolled.TheVariants as polls
 use Rattle.notify_list.specs.declared.task_answers.TaskRefused.{TaskRefused}
@@ -17,6 +19,12 @@ entered_code enters.Queued = 12
 abbrev pub polled_code : TaskPolled → ℕ
 polled_code polls.Still = 6
 polled_code polls.Granted = 7
+
+abbrev pub gave_up_code : TaskGaveUp → ℕ
+gave_up_code gives.Left = 14
+gave_up_code gives.Coming = 15
+gave_up_code gives.Granted = 7
+gave_up_code gives.LimitReached = 104
 
 -- a ticket was granted, and a seat woken if one waited with it
 abbrev pub granted_code : Option ℕ → ℕ

@@ -2,11 +2,11 @@
 ghost use Rattle.std.specs.Prelude.{◌≡◌};
 ghost use Rattle.c_calls.specs.Codes.{code_of, refused_code, setup_code};
 ghost use Rattle.c_calls.specs.Codes.{tried_code, entered_code, polled_code};
-ghost use Rattle.c_calls.specs.Codes.{retried_code, posted_code};
+ghost use Rattle.c_calls.specs.Codes.{gave_up_code, retried_code, posted_code};
 
 use crate::codes::*;
 use sema_table::{
-    SetupError, TaskEntered, TaskPolled, TaskPosted, TaskRefused, TaskRetried, Tried,
+    SetupError, TaskEntered, TaskGaveUp, TaskPolled, TaskPosted, TaskRefused, TaskRetried, Tried,
 };
 
 /// Of a call that was refused.
@@ -55,6 +55,19 @@ pub fn of_poll(answer: Result<TaskPolled, TaskRefused>) -> u32
         Ok(TaskPolled::Still) => ASLEEP,
         Ok(TaskPolled::Woken) => WOKEN,
         Ok(TaskPolled::Handed) => HANDED,
+        Err(why) => of_refusal(why),
+    }
+}
+
+/// Of a seat that gave up.
+pub fn of_leave(answer: Result<TaskGaveUp, TaskRefused>) -> u32
+    ensures { result ≡ code_of refused_code gave_up_code answer }
+{
+    match answer {
+        Ok(TaskGaveUp::Left) => LEFT,
+        Ok(TaskGaveUp::Coming) => COMING,
+        Ok(TaskGaveUp::Woken) => WOKEN,
+        Ok(TaskGaveUp::Handed) => HANDED,
         Err(why) => of_refusal(why),
     }
 }

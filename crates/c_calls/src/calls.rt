@@ -2,11 +2,11 @@
 ghost use Rattle.std.specs.Prelude.{◌≡◌, IfOk};
 ghost use Rattle.sema_table.specs.Tasks.{TriesByTask, PostsByTask};
 ghost use Rattle.sema_table.specs.Tasks.{ReadsByTask, CountsByTask, PostsManyByTask};
-ghost use Rattle.sema_table.specs.Tasks.{EntersByTask, PollsByTask};
+ghost use Rattle.sema_table.specs.Tasks.{EntersByTask, PollsByTask, LeavesByTask};
 ghost use Rattle.sema_table.specs.Tasks.{RetriesByTask, WakesByTask};
 ghost use Rattle.sema_table.specs.declared.task_seat.TaskStage.TheVariants.{Resting};
 ghost use Rattle.c_calls.specs.Codes.{tried_code, entered_code, polled_code};
-ghost use Rattle.c_calls.specs.Codes.{retried_code, posted_code, wake_code};
+ghost use Rattle.c_calls.specs.Codes.{gave_up_code, retried_code, posted_code, wake_code};
 ghost use Rattle.c_calls.specs.Codes.{told, code_of, refused_code, IsOk, IsOneOrHanded};
 ghost use Rattle.c_calls.specs.Answers.{Answers, Telling, NamesWoken, TellsNumber, MayLeave};
 ghost use Rattle.c_calls.specs.Answers.{WritesOnlyWith};
@@ -112,6 +112,18 @@ impl TableSeatPlace {
         let (seat, answer) = self.home.poll(seat);
         self.seat = Some(seat);
         answers::of_poll(answer)
+    }
+
+    /// Gives up the wait of a seat that sleeps, or finds that a release has it.
+    pub fn leave(&mut self) -> u32
+        ensures { Answers refused_code gave_up_code LeavesByTask self.old.seat result self.new.seat }
+    {
+        let Some(seat) = self.seat.take() else {
+            return NO_SEAT;
+        };
+        let (seat, answer) = self.home.leave(seat);
+        self.seat = Some(seat);
+        answers::of_leave(answer)
     }
 
     /// The try of a seat that was woken.

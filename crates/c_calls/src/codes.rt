@@ -28,6 +28,10 @@ pub const AT_ONCE: u32 = 11;
 pub const PARKED: u32 = 12;
 /// Of a list: a ticket was granted whose wait isn't queued, so that nobody is woken.
 pub const GRANTED: u32 = 13;
+/// The seat gave up: its wait was taken out, and it rests.
+pub const LEFT: u32 = 14;
+/// The seat gave up where a release has its wait: its grant is on the way, and it sleeps on.
+pub const COMING: u32 = 15;
 
 /// The handle has no seat.
 pub const NO_SEAT: u32 = 100;
@@ -47,11 +51,11 @@ pub const UNITS: u32 = 106;
 pub const ROOM: u32 = 107;
 /// Not 1 to 65,536 counters.
 pub const COUNTERS: u32 = 110;
-/// Not 1 to 256 seats.
+/// Not 1 to 65,536 seats of a table, or not 1 to 256 of a list.
 pub const SEATS: u32 = 111;
 /// Not 1 to 251 roots.
 pub const ROOTS: u32 = 112;
-/// Not 1 to 2^40 units that a seat may add.
+/// Not 1 to 2^54 units that a seat may spend, or more than 2^62 for all seats together.
 pub const RELEASE_LIMIT: u32 = 113;
 /// There was no memory.
 pub const NO_MEMORY: u32 = 114;

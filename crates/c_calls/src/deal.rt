@@ -34,9 +34,13 @@ fn are_empty(handles: &[SeatHandle]) -> bool
 
 /// How many seats to ask for. What is above the limit must not be cut down to a number below it.
 fn seats_for(handles: usize) -> u32
-    ensures { result ≡ min 257 handles }
+    ensures { result ≡ min 65537 handles }
 {
-    if handles > 256 { 257 } else { handles as u32 }
+    if handles > 65_536 {
+        65_537
+    } else {
+        handles as u32
+    }
 }
 
 /// Makes a table, and gives each of `handles` one of its seats, in their order, where none has one yet.

@@ -1,10 +1,10 @@
 //! The code of each answer of a list.
 ghost use Rattle.std.specs.Prelude.{◌≡◌};
 ghost use Rattle.c_calls.specs.Codes.{code_of};
-ghost use Rattle.c_calls.specs.ListCodes.{refused_code, setup_code, entered_code, polled_code};
+ghost use Rattle.c_calls.specs.ListCodes.{refused_code, setup_code, entered_code, polled_code, gave_up_code};
 
 use crate::codes::*;
-use notify_list::{SetupError, TaskEntered, TaskPolled, TaskRefused};
+use notify_list::{SetupError, TaskEntered, TaskGaveUp, TaskPolled, TaskRefused};
 
 /// Of a call that was refused.
 pub fn of_refusal(why: TaskRefused) -> u32
@@ -34,6 +34,19 @@ pub fn of_poll(answer: Result<TaskPolled, TaskRefused>) -> u32
     match answer {
         Ok(TaskPolled::Still) => ASLEEP,
         Ok(TaskPolled::Granted) => WOKEN,
+        Err(why) => of_refusal(why),
+    }
+}
+
+/// Of a seat that gave up.
+pub fn of_leave(answer: Result<TaskGaveUp, TaskRefused>) -> u32
+    ensures { result ≡ code_of refused_code gave_up_code answer }
+{
+    match answer {
+        Ok(TaskGaveUp::Left) => LEFT,
+        Ok(TaskGaveUp::Coming) => COMING,
+        Ok(TaskGaveUp::Granted) => WOKEN,
+        Ok(TaskGaveUp::LimitReached) => LIMIT,
         Err(why) => of_refusal(why),
     }
 }

@@ -1,10 +1,10 @@
 //! The calls of a list's seat in its place.
 ghost use Rattle.std.specs.Prelude.{◌≡◌, IfOk};
 ghost use Rattle.notify_list.specs.Tasks.{AddsByTask, LooksByTask};
-ghost use Rattle.notify_list.specs.Tasks.{EntersByTask, PollsByTask, NotifiesOneByTask};
+ghost use Rattle.notify_list.specs.Tasks.{EntersByTask, PollsByTask, LeavesByTask, NotifiesOneByTask};
 ghost use Rattle.notify_list.specs.declared.task_seat.TaskStage.TheVariants.{Resting};
 ghost use Rattle.c_calls.specs.Codes.{told, code_of, IsOk, IsOne};
-ghost use Rattle.c_calls.specs.ListCodes.{refused_code, entered_code, polled_code};
+ghost use Rattle.c_calls.specs.ListCodes.{refused_code, entered_code, polled_code, gave_up_code};
 ghost use Rattle.c_calls.specs.ListCodes.{one_code, granted_code};
 ghost use Rattle.c_calls.specs.Answers.{Answers, Telling, TellsNumber, MayLeave, WritesOnlyWith};
 ghost use Rattle.c_calls.specs.ListAnswers.{NamesGranted, IsNumberOf};
@@ -111,6 +111,18 @@ impl ListSeatPlace {
         let (seat, answer) = self.home.poll(seat);
         self.seat = Some(seat);
         list_answers::of_poll(answer)
+    }
+
+    /// Gives up the wait of a seat that is parked, or finds its ticket granted.
+    pub fn leave(&mut self) -> u32
+        ensures { Answers refused_code gave_up_code LeavesByTask self.old.seat result self.new.seat }
+    {
+        let Some(seat) = self.seat.take() else {
+            return NO_SEAT;
+        };
+        let (seat, answer) = self.home.leave(seat);
+        self.seat = Some(seat);
+        list_answers::of_leave(answer)
     }
 
     /// Grants the least ticket that isn't granted. The seat that waits with it is woken, and its number

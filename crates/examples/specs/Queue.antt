@@ -8,7 +8,7 @@ use Rattle.sync_parts.specs.Wake.{Wake}
 use Rattle.sync_parts.specs.SetupError.{SetupError}
 use Rattle.sync_parts.specs.SetupError.TheVariants.{Seats, NoMemory}
 use Rattle.sync_parts.specs.TableSeats.{SeatModel}
-use Rattle.sync_parts.specs.TableMaking.{IsFromOne, IsOutside, most_seats, new_seats}
+use Rattle.sync_parts.specs.TableMaking.{IsFromOne, IsOutside, new_seats}
 use Rattle.sync_parts.specs.TableCallers.{AcquiresUnit}
 use Rattle.sync_parts.specs.CallersReleasing.{ReleasesUnit}
 use Rattle.examples.specs.Moves.{moves, all_parts, times, with_put, with_taken, together}
@@ -21,6 +21,10 @@ free = 0
 abbrev pub full : ℕ
 full = 1
 
+-- far fewer than the tally has parts
+abbrev pub most_workers : ℕ
+most_workers = 256
+
 -- an empty queue of so many places, with a new seat for each worker, which may put and take 2^40 times, and
 -- no other seat. The tally has all parts, and nobody has put or taken
 pub record IsNew (places workers : ℕ) (q : QueueModel) (seats : List SeatModel) (t : TallyModel)
@@ -28,7 +32,7 @@ pub record IsNew (places workers : ℕ) (q : QueueModel) (seats : List SeatModel
   pub places_are : q.places ≡ places
   pub starts : q.table.setting.starts ≡ places ∷ 0 ∷ []
   pub own : All (λ s. s.table ≡ q.table) seats
-  pub allowed : IsFromOne most_seats workers
+  pub allowed : IsFromOne most_workers workers
   pub workers_are : q.table.setting.seats ≡ workers
   pub seats_are : seats ≡ new_seats q.table 0 workers
   pub limit : q.table.setting.limit ≡ 2 ^ 40
@@ -36,8 +40,8 @@ pub record IsNew (places workers : ℕ) (q : QueueModel) (seats : List SeatModel
 
 -- there are not 1 to 256 workers; and there is no memory for a queue only where there are
 abbrev pub IsRefused : ℕ → SetupError → Type 0
-IsRefused workers Seats = IsOutside most_seats workers
-IsRefused workers NoMemory = IsFromOne most_seats workers
+IsRefused workers Seats = IsOutside most_workers workers
+IsRefused workers NoMemory = IsFromOne most_workers workers
 IsRefused workers _ = ⊥
 
 abbrev pub new_worker : SeatModel → TableId → WorkerModel

@@ -8,7 +8,8 @@
 //! The answers in `proofs` name the fact that carries each `requires`. The prover would find it, but where a
 //! call is broken it would search for long before it gave up.
 ghost use Rattle.std.specs.Prelude.{◌≡◌, ◌<◌, true, false, [], length, All, IfSome, IfNone};
-ghost use Rattle.sync_parts.specs.ListCalls.{AllGranted, numbers_seen};
+ghost use Rattle.step_law_lists.specs.ListLawful.{IsGranted};
+ghost use Rattle.sync_parts.specs.ListCalls.{AllGranted};
 ghost use Rattle.sync_parts.specs.ListCallers.{IsSeatAfter};
 
 use std::sync::Wait;
@@ -51,7 +52,7 @@ pub fn passes_on<R: Wait>(
 ) -> (ListSeat, Option<u64>)
     requires { (holding.list ≡ list.now) × (notifier.old.list ≡ next.now) }
     ensures waited { IfSome holding.sight.stands.ticket
-        (λ ticket. ticket.number < (numbers_seen result.0).granted) }
+        (λ ticket. IsGranted ticket.number result.0.sight.seen) }
     ensures told { IfNone result.1 (IsSeatAfter notifier.old [] notifier.new) }
     ensures granted { IfNone result.1 (AllGranted notifier.old notifier.new) }
 {

@@ -9,22 +9,29 @@ pub(crate) static FORMAT: &str =
   seat K: CALLS         1 to 16 times: the next seat; K is 0, then 1, and so on, to 15
   settled               the property, once: where no seat can run, none sleeps;
   value C N                 or: where each seat has ended, counter C is at N;
-  no-misuse                 or: no seat fails
+  no-misuse                 or: no seat fails;
+  no-lost                   or: where seats can do no more than give up, none sleeps whose wake-up was due
 
 CALLS are 1 to 32 calls, with a semicolon and a space between them:
 
   acquire C             take one unit of counter C, or sleep until there is one
   acquire C lifo        the same, and a wait stands first in the list
+  acquire C [lifo] leave    the same, and while the seat sleeps it may give up; a unit that comes late is kept
+  acquire C [lifo] quit     or is given back
   release C             add one unit to C and wake the first wait
   release C handoff     the same, and the unit is tried for that wait
   release C many N      add N units at once, 1 to 256, and wake as many waits at most
   add L                 take a ticket of list L; the seat holds none of L
   wait L                wait until the ticket of L is granted; the seat holds one
+  wait L leave          the same, and while it sleeps the seat may give up
+  wait L quit           and a grant that comes late is passed on by a notification of one
   one L                 grant the least ticket that isn't granted
   all L                 grant all tickets that were handed out
   gadd G D              add D to the number of group G, from -2147483648 to 2147483647
   gwait G               wait until the number of G is 0
+  gwait G leave         the same, and while it sleeps the seat may give up
 
+Behind leave and quit may stand N, 1 to 31: a seat that gave up without a unit or a grant leaves out its next N calls.
 Counters, lists and groups are named by their numbers, 0 to 15, each kind for itself. A number has no leading zero.
 The form of a lock program's text: parklot format lock
 ";

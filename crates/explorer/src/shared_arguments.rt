@@ -37,7 +37,7 @@ pub(crate) const EVERY: Argument = Argument {
     name: "every",
     is_named: true,
     takes: FLAG,
-    help: "Ask settled and no-misuse too, beside the property of the text",
+    help: "Ask settled, no-misuse and no-lost too, beside the property of the text",
 };
 
 /// Whether what is found is drawn.

@@ -106,13 +106,14 @@ IsProblem cause line problem = ⊥
 abbrev pub formless_text : Formless → List ℕ
 formless_text (NoLine line) =
     codes "no line is spelled \"" ++ line.now
-    ++ codes "\": roots N, counter S, list F, group, seat K: CALLS, settled, value C N, no-misuse"
+    ++ codes "\": roots N, counter S, list F, group, seat K: CALLS, settled, value C N, no-misuse, no-lost"
 formless_text (OfLock line) =
     codes "\"" ++ line.now
     ++ codes "\" is a line of a lock program: try and retrace take one, check, explore and replay a scenario"
 formless_text (NoCall call) =
     codes "no call is spelled \"" ++ call.now
-    ++ codes "\": acquire C, acquire C lifo, release C, release C handoff, release C many N, add L, wait L, one L, all L, gadd G D, gwait G"
+    ++ codes "\": acquire C [lifo], release C [handoff], release C many N, add L, wait L, one L, all L, gadd G D, gwait G; "
+    ++ codes "behind acquire and wait leave [N] or quit [N], behind gwait leave [N]"
 formless_text (NotParted call) =
     codes "no call is spelled \"" ++ call.now
     ++ codes "\": a semicolon and one space part a call from the next"
@@ -132,7 +133,7 @@ problem_text (Misplaced line) =
     ++ codes "\" can't stand here: roots, counters, lists, groups, seats from 0 on and one property come in this order"
 problem_text (OutOfRange line) =
     codes "a number is out of range in \"" ++ line.now
-    ++ codes "\": roots 1 to 251, units 1 to 256, tickets below 2^64, a group's change -2^31 to 2^31 - 1, others below 2^32"
+    ++ codes "\": roots 1 to 251, units 1 to 256, calls left out 1 to 31, tickets below 2^64, a group's change -2^31 to 2^31 - 1, others below 2^32"
 problem_text (TooMany line) =
     codes "\"" ++ line.now
     ++ codes "\" is too many: at most 16 counters, lists, groups and seats, and 32 calls of a seat"
@@ -141,8 +142,8 @@ problem_text (Undeclared line) =
     ++ codes "\" names what isn't declared: counter, list and group lines come before seats, and count from 0, each kind for itself"
 problem_text (Ticket line) =
     codes "\"" ++ line.now
-    ++ codes "\" misuses a ticket: add L takes one where the seat holds none of L, and wait L spends it"
-problem_text NoProperty = codes "the text ends: settled, value C N or no-misuse was expected"
+    ++ codes "\" misuses a ticket: add L takes one where the seat holds none of L, wait L spends it, and calls left out take and spend none"
+problem_text NoProperty = codes "the text ends: settled, value C N, no-misuse or no-lost was expected"
 
 -- the line's number, and what is wrong with it
 abbrev pub explained : ℕ → Problem → List ℕ

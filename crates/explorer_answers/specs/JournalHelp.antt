@@ -11,8 +11,8 @@ unfoldable pub form_text : List ℕ → List ℕ
 form_text line =
     codes "no line is spelled \"" ++ line
     ++ (codes "\" here: counter N and list F come first, and then add C S, add C S many N, take C S, queue C S.T, "
-    ++ (codes "queue C S.T lifo, leave C S.T R, ticket L S, grant L UPTO S, each of a counter or list that is declared; "
-    ++ codes "a line feed ends each line"))
+    ++ (codes "queue C S.T lifo, leave C S.T R, withdraw C S.T, ticket L S, grant L UPTO S, forgo L N S, "
+    ++ codes "each of a counter or list that is declared; a line feed ends each line"))
 
 -- where it ends with a carriage return, that alone
 abbrev pub return_text : List ℕ → List ℕ

@@ -35,7 +35,7 @@ impl fmt::Display for Formless<'_> {
             Formless::NoLine(line) => write!(
                 f,
                 "no line is spelled \"{line}\": roots N, counter S, list F, group, seat K: CALLS, \
-                 settled, value C N, no-misuse"
+                 settled, value C N, no-misuse, no-lost"
             ),
             Formless::OfLock(line) => write!(
                 f,
@@ -43,8 +43,8 @@ impl fmt::Display for Formless<'_> {
             ),
             Formless::NoCall(call) => write!(
                 f,
-                "no call is spelled \"{call}\": acquire C, acquire C lifo, release C, release C handoff, \
-                 release C many N, add L, wait L, one L, all L, gadd G D, gwait G"
+                "no call is spelled \"{call}\": acquire C [lifo], release C [handoff], release C many N, add L, \
+                 wait L, one L, all L, gadd G D, gwait G; behind acquire and wait leave [N] or quit [N], behind gwait leave [N]"
             ),
             Formless::NotParted(call) => write!(
                 f,

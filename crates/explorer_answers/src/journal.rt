@@ -30,8 +30,8 @@ impl fmt::Display for Wrong<'_> {
             Wrong::NoForm(line) => write!(
                 f,
                 "no line is spelled \"{line}\" here: counter N and list F come first, and then add C S, add C S many N, \
-                 take C S, queue C S.T, queue C S.T lifo, leave C S.T R, ticket L S, grant L UPTO S, each of a counter or \
-                 list that is declared; a line feed ends each line"
+                 take C S, queue C S.T, queue C S.T lifo, leave C S.T R, withdraw C S.T, ticket L S, grant L UPTO S, \
+                 forgo L N S, each of a counter or list that is declared; a line feed ends each line"
             ),
         }
     }

@@ -45,7 +45,7 @@ pub use problem::explain;
 pub use reading::{read_all, read_at_most};
 pub use refusal::{NO_MEMORY, NO_SCHEDULE, Refusal, TOO_LONG, refuse_io};
 pub use replay_lines::{
-    tell_failed, tell_refusal, tell_step, tell_verdict, tell_waits, verdict_exit,
+    tell_failed, tell_left, tell_refusal, tell_step, tell_verdict, tell_waits, verdict_exit,
 };
 pub use reply::{Answered, Reply, refused, tell_reply};
 pub use scenario_search::{

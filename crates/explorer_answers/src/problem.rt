@@ -60,8 +60,8 @@ impl fmt::Display for Problem<'_> {
             ),
             Problem::OutOfRange(line) => write!(
                 f,
-                "a number is out of range in \"{line}\": roots 1 to 251, units 1 to 256, tickets below 2^64, a group's \
-                 change -2^31 to 2^31 - 1, others below 2^32"
+                "a number is out of range in \"{line}\": roots 1 to 251, units 1 to 256, calls left out 1 to 31, \
+                 tickets below 2^64, a group's change -2^31 to 2^31 - 1, others below 2^32"
             ),
             Problem::TooMany(line) => write!(
                 f,
@@ -74,10 +74,11 @@ impl fmt::Display for Problem<'_> {
             ),
             Problem::Ticket(line) => write!(
                 f,
-                "\"{line}\" misuses a ticket: add L takes one where the seat holds none of L, and wait L spends it"
+                "\"{line}\" misuses a ticket: add L takes one where the seat holds none of L, wait L spends it, \
+                 and calls left out take and spend none"
             ),
             Problem::NoProperty => f.write_str(
-                "the text ends: settled, value C N or no-misuse was expected",
+                "the text ends: settled, value C N, no-misuse or no-lost was expected",
             ),
         }
     }

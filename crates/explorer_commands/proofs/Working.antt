@@ -1,5 +1,5 @@
 -- What rounds come to: each takes a unit off what the seat may still add, and gives it one.
-use Rattle.std.proofs.Common.{◌≡◌, ℕ, zero, suc, ◌+◌, ◌-◌, ◌*◌, ◌<◌, Bool, List, [], ◌∷◌, ◌++◌, length, get_or, slice_index}
+use Rattle.std.proofs.Common.{◌≡◌, ℕ, zero, suc, ◌+◌, ◌-◌, ◌*◌, ◌<◌, ◌≤◌, Bool, List, [], ◌∷◌, ◌++◌, length, get_or, slice_index}
 use Rattle.std.proofs.Common.{sym, ap, ◌∙◌, subst, inl, inr}
 use Rattle.std.proofs.Common.{arith, below_more}
 use Rattle.std.proofs.Math.Nat.{suc-mul}
@@ -73,11 +73,13 @@ module _ (t : TableModel) (number n : ℕ) (s : SeatModel) (ran : HasRun (new_se
   pub may_go_on : n < t.setting.limit → (s.table ≡ t) × (0 < s.left)
   may_go_on low = let p = run_counts (new_seat t number) n s ran in (p.table_is, (let h = p.left_is in omega arith))
 
-  pub has_worked : t.setting.limit ≡ n → HasWorked t number n s
-  has_worked limit = let p = run_counts (new_seat t number) n s ran in record {
+  pub has_worked : t.setting.limit ≡ n → (left withdrawn : ℕ)
+      → left + has_added s + withdrawn ≡ s.table.setting.limit → HasWorked t number n s
+  has_worked limit left withdrawn spent = let p = run_counts (new_seat t number) n s ran in record {
     own = p.table_is;
     number_is = p.number_is;
     left = (let h = p.left_is in omega (arith, limit));
+    added = (let h = ap (λ (x : TableModel). x.setting.limit) p.table_is in omega (arith, spent, h, limit));
     taken = (let h = p.taken_is in omega (arith, h));
     ran = ran;
   }
@@ -141,6 +143,12 @@ sum_of f k (s ∷ seats) each =
     let r = sum_of f k seats (All-tail (λ x. f x ≡ k) s seats each) in let h = All-head (λ x. f x ≡ k) s seats each in
     let m = suc-mul (length seats) k in omega (arith, r, h, m)
 
+sum_most : (f : SeatModel → ℕ) (k : ℕ) (seats : List SeatModel) → All (λ s. f s ≤ k) seats → sum_by f seats ≤ length seats * k
+sum_most f k [] each = omega arith
+sum_most f k (s ∷ seats) each =
+    let r = sum_most f k seats (All-tail (λ x. f x ≤ k) s seats each) in let h = All-head (λ x. f x ≤ k) s seats each in
+    let m = suc-mul (length seats) k in omega (arith, r, h, m)
+
 -- all of them are all seats of the table
 pub are_all : (t : TableModel) (workers rounds : ℕ) (seats : List SeatModel)
     → t.setting.seats ≡ workers → HaveWorked t workers rounds seats → AreAll t seats
@@ -182,14 +190,12 @@ only (x ∷ []) e h = ap (λ k. k ∷ []) h
 only (x ∷ y ∷ xs) e h = absurd (omega (arith, e))
 
 module _ (workers rounds : ℕ) (c : ClosedModel) (run : IsThreadsRun workers rounds c) where
-  pub releases_are : c.releases ≡ workers * rounds
-  releases_are =
-      let d = new_seat run.table 0 in let count = run.worked.count in let limit = run.made.limit in
-      run.closed.released
-      ∙ sum_of (has_added run.table.setting.limit) rounds run.seats
-      (All-from_get_or (λ s. has_added run.table.setting.limit s ≡ rounds) run.seats d
-      (λ i low. let h = (run.worked.each i d (omega (arith, low, count))).left in omega (arith, h, limit)))
-      ∙ ap (λ n. n * rounds) count
+  few_added : c.releases ≤ workers * rounds
+  few_added =
+      let d = new_seat run.table 0 in let count = run.worked.count in let released = run.closed.released in
+      let most = sum_most has_added rounds run.seats
+      (All-from_get_or (λ s. has_added s ≤ rounds) run.seats d (λ i low. (run.worked.each i d (omega (arith, low, count))).added)) in
+      let same = ap (λ n. n * rounds) count in omega (arith, released, most, same)
 
   pub acquires_are : c.acquires ≡ workers * rounds
   acquires_are =
@@ -199,7 +205,16 @@ module _ (workers rounds : ℕ) (c : ClosedModel) (run : IsThreadsRun workers ro
       (All-from_get_or (λ s. was_given s ≡ rounds) run.seats d (λ i low. (run.worked.each i d (omega (arith, low, count))).taken))
       ∙ ap (λ n. n * rounds) count
 
-  -- the counter began at 0, and as many were taken as were added
+  -- the counter began at 0, so as many were added as were taken, or more
+  pub releases_are : c.releases ≡ workers * rounds
+  releases_are =
+      let z = run.table.setting in let one : length z.starts ≡ 1 = ap length run.made.starts in
+      let start : (layout z).starts 0 ≡ 0 = ap (λ xs. get_or xs 0 0) run.made.starts in
+      let before = one_counter (layout z).starts (length z.starts) one in
+      let balanced = run.closed.balanced in let few = few_added in let taken = acquires_are in
+      omega (arith, start, before, balanced, few, taken)
+
+  -- as many were taken as were added
   pub values_are : c.values ≡ 0 ∷ []
   values_are =
       let z = run.table.setting in let one : length z.starts ≡ 1 = ap length run.made.starts in

@@ -9,7 +9,7 @@ use Rattle.sema_table.specs.declared.settings.Settings.{Settings}
 use Rattle.sema_table.specs.Seats.{TableModel, SeatModel}
 use Rattle.sema_table.specs.Making.{new_seat, IsOutside}
 use Rattle.sema_table.specs.Whole.{IsReleased, IsAcquired}
-use Rattle.sema_table.specs.Closing.{ClosedModel, IsClosed}
+use Rattle.sema_table.specs.Closing.{ClosedModel, IsClosed, has_added}
 use Rattle.explorer_commands.specs.declared.threads.Worked.{Worked}
 
 -- 1 to 64 workers, and 1 to 1,000,000 rounds
@@ -53,6 +53,7 @@ pub record HasWorked (t : TableModel) (number rounds : ℕ) (s : SeatModel) : Ty
   pub own : s.table ≡ t
   pub number_is : s.number ≡ number
   pub left : s.left ≡ 0
+  pub added : has_added s ≤ rounds
   pub taken : s.taken ≡ rounds
   pub ran : HasRun (new_seat t number) rounds s
 

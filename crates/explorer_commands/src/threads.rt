@@ -118,6 +118,8 @@ fn work<R: Wait, G: Gate>(rt: &R, table: &SemaTable, seat: Seat, rounds: u32, ga
         gate.pass(seat.id(), round);
         seat = run_round(rt, table, seat, round);
     }
+    // what it has left tells how much it has added at most
+    let _left = seat.left();
     seat
 }
 

@@ -32,7 +32,7 @@ static COUNTED: [Row; 5] = [
         TWO_EACH,
         &["check", "--stats"],
         "none\nworlds 625, deepest 16\n",
-        "asked: settled. not asked: value C N, no-misuse\nworlds 625, classes 70, depth 16, complete\n\
+        "asked: settled. not asked: value C N, no-misuse, no-lost\nworlds 625, classes 70, depth 16, complete\n\
          seconds 0.000, classes a second 70000\n",
         0,
     ),
@@ -47,7 +47,7 @@ static COUNTED: [Row; 5] = [
         TWO_EACH,
         &["explore", "--depth", "15", "--stats"],
         "none up to depth 15\n",
-        "asked: settled. not asked: value C N, no-misuse\nworlds 624, classes 69, depth 15, cut at depth\n\
+        "asked: settled. not asked: value C N, no-misuse, no-lost\nworlds 624, classes 69, depth 15, cut at depth\n\
          seconds 0.000, classes a second 69000\n",
         0,
     ),
@@ -55,7 +55,7 @@ static COUNTED: [Row; 5] = [
         TWO_EACH,
         &["explore", "--stats", "--depth", "64"],
         "none up to depth 64\n",
-        "asked: settled. not asked: value C N, no-misuse\nworlds 625, classes 70, depth 16, complete\n\
+        "asked: settled. not asked: value C N, no-misuse, no-lost\nworlds 625, classes 70, depth 16, complete\n\
          seconds 0.000, classes a second 70000\n",
         0,
     ),
@@ -120,7 +120,7 @@ fn is_listened_to(rt: &impl Host, alloc: Global) -> bool {
     let mut watch = Listening { told: 0 };
     let (_, beside, _) = run(rt, alloc, &asked, TWO_EACH, ALL_SOUND, &mut watch);
     let stats = b"\
-asked: settled. not asked: value C N, no-misuse
+asked: settled. not asked: value C N, no-misuse, no-lost
 worlds 625, classes 70, depth 16, complete
 seconds 1.250, classes a second 56
 ";

@@ -17,7 +17,7 @@ For more information, try '--help'.
 ";
 
 /// What stands beside the whole of a search that finds nothing.
-const GOOD_BESIDE: &str = "asked: settled, value 0 1, no-misuse\n";
+const GOOD_BESIDE: &str = "asked: settled, value 0 1, no-misuse, no-lost\n";
 
 /// Words, an input, all that is told, how what is told beside begins, and the status.
 type Row = (

@@ -101,10 +101,12 @@ static LOCKS: [&str; 37] = [
 ];
 
 /// The files of cases.
-static CASES: [&str; 15] = [
+static CASES: [&str; 17] = [
     "replays",
     "replays_of_lists",
+    "replays_of_leaves",
     "searches",
+    "leaves",
     "changed_tables",
     "asked_of_worlds",
     "tables",

@@ -5,14 +5,15 @@ use Rattle.std.proofs.Common.{arith}
 use Rattle.std.proofs.lemmas.Bool.{cases_lt, eqb-true, and_parts, and_from, lt-ltb}
 use Rattle.waiters.specs.declared.wait.WaitId.{WaitId}
 use Rattle.step_table.specs.declared.entry.Entry.{Entry}
-use Rattle.step_table.specs.declared.entry.Entry.TheVariants.{Add, AddMany, Take, Queue, Leave, Ticket, Grant}
+use Rattle.step_table.specs.declared.entry.Entry.TheVariants.{Add, AddMany, Take, Queue, Leave, Withdraw, Ticket, Grant, Forgo}
 use Rattle.step_table.specs.Core.{sema_entries, list_entries}
 use Rattle.step_table.specs.Counting.{same}
-use Rattle.step_table.specs.Journal.{Plain, Budget, replay, effect_of, spent, budget, budget_from, queued}
+use Rattle.step_table.specs.Journal.{Plain, Budget, replay, effect_of, spent, budget, budget_from, queued, is_same}
 use Rattle.step_law_lists.specs.ListLawful as list
+use Rattle.step_law_lists.proofs.ListJournals.{replay_append as list_replay_append}
 use Rattle.journal.specs.LawfulJournal.{start_of, plain_after, told_after}
-use Rattle.journal.specs.Account.{account, after, is_same, queues}
-use Rattle.journal.proofs.Entries.{sema_append, list_append, replay_append, list_replay_append, budget_append, queued_append, same_own, same_some}
+use Rattle.journal.specs.Account.{account, after, queues}
+use Rattle.journal.proofs.Entries.{sema_append, list_append, replay_append, budget_append, queued_append, same_own, same_some}
 
 -- ---- waits
 
@@ -46,6 +47,8 @@ queued_more w (Take c s) = ((λ h. absurd cc), (λ h. refl))
 queued_more w (Leave c x s) = ((λ h. absurd cc), (λ h. refl))
 queued_more w (Ticket l s) = ((λ h. absurd cc), (λ h. refl))
 queued_more w (Grant l u s) = ((λ h. absurd cc), (λ h. refl))
+queued_more w (Withdraw c x) = ((λ h. absurd cc), (λ h. refl))
+queued_more w (Forgo l n s) = ((λ h. absurd cc), (λ h. refl))
 
 -- of the entries of counters
 plain_last : (starts : List ℕ) (before : List Entry) (e : Entry) → plain_after starts (before ++ e ∷ [])
@@ -54,7 +57,7 @@ plain_last starts before e =
     ap (replay (start_of starts)) (sema_append before (e ∷ [])) ∙ replay_append (start_of starts) (sema_entries before) (sema_entries (e ∷ []))
 
 told_last : (before : List Entry) (e : Entry) (l : ℕ) → told_after (before ++ e ∷ []) l ≡ list.replay (told_after before l) (list_entries l (e ∷ []))
-told_last before e l = ap list.told (list_append l before (e ∷ [])) ∙ list_replay_append (record { handed = 0; granted = 0 })
+told_last before e l = ap list.told (list_append l before (e ∷ [])) ∙ list_replay_append list.none_told
     (list_entries l before) (list_entries l (e ∷ []))
 
 budget_last : (before : List Entry) (e : Entry) (s : ℕ) → budget s (sema_entries (before ++ e ∷ []))
@@ -66,17 +69,20 @@ budget_last before e s =
 one_plain : (x : Plain) (e : Entry) → replay x (sema_entries (e ∷ [])) ≡ effect_of e x
 one_plain x (Ticket l s) = refl
 one_plain x (Grant l u s) = refl
+one_plain x (Forgo l n s) = refl
 one_plain x e = refl
 
 one_budget : (b : Budget) (s : ℕ) (e : Entry) → budget_from b s (sema_entries (e ∷ [])) ≡ spent s e b
 unfolding spent
 one_budget b s (Ticket l t) = refl
 one_budget b s (Grant l u t) = refl
+one_budget b s (Forgo l n t) = refl
 one_budget b s e = refl
 
 one_queued : (w : WaitId) (e : Entry) → queued w (sema_entries (e ∷ [])) ≡ queued w (e ∷ [])
 one_queued w (Ticket l s) = refl
 one_queued w (Grant l u s) = refl
+one_queued w (Forgo l n s) = refl
 one_queued w e = refl
 
 pub account_last : (starts : List ℕ) (before : List Entry) (e : Entry) → account starts (before ++ e ∷ []) ≡ after (account starts before) e

@@ -3,13 +3,12 @@ use Rattle.std.proofs.Common.{◌≡◌, ℕ, ◌+◌, ◌<◌, ◌≤◌, ◌�
 use Rattle.std.proofs.Common.{◌∙◌, append_assoc, inl, inr, arith}
 use Rattle.waiters.specs.declared.wait.WaitId.{WaitId}
 use Rattle.step_table.specs.declared.entry.Entry.{Entry}
-use Rattle.step_table.specs.declared.entry.Entry.TheVariants.{Queue, Leave, Ticket, Grant}
+use Rattle.step_table.specs.declared.entry.Entry.TheVariants.{Queue, Leave, Withdraw, Ticket, Grant, Forgo}
 use Rattle.step_table.specs.Core.{sema_entries, list_entries}
 use Rattle.step_table.specs.Counting.{on, same}
-use Rattle.step_table.specs.Journal.{Plain, Budget, effect_of, replay, spent, budget_from, queued, left}
-use Rattle.step_table.specs.ListWorld.{Numbers, ListEntry, Took, Granted}
+use Rattle.step_table.specs.Journal.{Plain, Budget, effect_of, replay, spent, budget_from, queued, left, withdrawn}
+use Rattle.step_table.specs.ListWorld.{ListEntry, Took, Granted, Forgone}
 use Rattle.step_table.proofs.Sums.{on_here, on_some, on_most}
-use Rattle.step_law_lists.specs.ListLawful as list
 
 -- ---- the parts
 
@@ -17,6 +16,7 @@ pub sema_append : (xs ys : List Entry) → sema_entries (xs ++ ys) ≡ sema_entr
 sema_append [] ys = refl
 sema_append (Ticket l s ∷ xs) ys = sema_append xs ys
 sema_append (Grant l u s ∷ xs) ys = sema_append xs ys
+sema_append (Forgo l n s ∷ xs) ys = sema_append xs ys
 sema_append (e ∷ xs) ys = ap (λ z. e ∷ z) (sema_append xs ys)
 
 chosen : (b : Bool) (x : ListEntry) (u v w : List ListEntry) → w ≡ u ++ v → cond b (x ∷ w) w ≡ cond b (x ∷ u) u ++ v
@@ -27,6 +27,7 @@ pub list_append : (l : ℕ) (xs ys : List Entry) → list_entries l (xs ++ ys) �
 list_append l [] ys = refl
 list_append l (Ticket m s ∷ xs) ys = chosen (eqb m l) (Took s) (list_entries l xs) (list_entries l ys) (list_entries l (xs ++ ys)) (list_append l xs ys)
 list_append l (Grant m u s ∷ xs) ys = chosen (eqb m l) (Granted u s) (list_entries l xs) (list_entries l ys) (list_entries l (xs ++ ys)) (list_append l xs ys)
+list_append l (Forgo m n s ∷ xs) ys = chosen (eqb m l) (Forgone n s) (list_entries l xs) (list_entries l ys) (list_entries l (xs ++ ys)) (list_append l xs ys)
 list_append l (e ∷ xs) ys = list_append l xs ys
 
 -- ---- replays and counts
@@ -34,10 +35,6 @@ list_append l (e ∷ xs) ys = list_append l xs ys
 pub replay_append : (x : Plain) (xs ys : List Entry) → replay x (xs ++ ys) ≡ replay (replay x xs) ys
 replay_append x [] ys = refl
 replay_append x (e ∷ xs) ys = replay_append (effect_of e x) xs ys
-
-pub list_replay_append : (n : Numbers) (xs ys : List ListEntry) → list.replay n (xs ++ ys) ≡ list.replay (list.replay n xs) ys
-list_replay_append n [] ys = refl
-list_replay_append n (e ∷ xs) ys = list_replay_append (list.counted e n) xs ys
 
 pub budget_append : (b : Budget) (s : ℕ) (xs ys : List Entry) → budget_from b s (xs ++ ys) ≡ budget_from (budget_from b s xs) s ys
 budget_append b s [] ys = refl
@@ -52,6 +49,11 @@ pub left_append : (w : WaitId) (xs ys : List Entry) → left w (xs ++ ys) ≡ le
 left_append w [] ys = omega arith
 left_append w (Leave c x s ∷ xs) ys = omega (arith, left_append w xs ys)
 left_append w (e ∷ xs) ys = left_append w xs ys
+
+pub withdrawn_append : (w : WaitId) (xs ys : List Entry) → withdrawn w (xs ++ ys) ≡ withdrawn w xs + withdrawn w ys
+withdrawn_append w [] ys = omega arith
+withdrawn_append w (Withdraw c x ∷ xs) ys = omega (arith, withdrawn_append w xs ys)
+withdrawn_append w (e ∷ xs) ys = withdrawn_append w xs ys
 
 -- ---- waits
 

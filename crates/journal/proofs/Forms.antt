@@ -4,7 +4,7 @@ use Rattle.std.specs.Prelude.{codes}
 use Rattle.std.specs.Fmt.{decimal}
 use Rattle.std.proofs.lemmas.List.{append_cancel_left}
 use Rattle.journal.specs.declared.entry.JournalEntry.{JournalEntry}
-use Rattle.journal.specs.declared.entry.JournalEntry.TheVariants.{Add, AddMany, Take, Queue, Leave, Ticket, Grant}
+use Rattle.journal.specs.declared.entry.JournalEntry.TheVariants.{Add, AddMany, Take, Queue, Leave, Withdraw, Ticket, Grant, Forgo}
 use Rattle.journal.specs.declared.line.JournalLine.{JournalLine}
 use Rattle.journal.specs.declared.line.JournalLine.TheVariants.{Counter, List as NotifyList, Entry as Tells}
 use Rattle.journal.specs.JournalLine.{IsShort, entry_text, line_text, line_feed, queue_end}
@@ -119,6 +119,29 @@ module _ (counters lists : ℕ) (text : List ℕ) where
       is a q = let f = found (IsIndexedTwo lists (codes "grant ") (codes " ") (codes " ") (codes "\n") text) (l, (u, s)) h in
           let e : text ≡ entry_text (Grant l u s) = f.1 in absurd (omega (arith, ap key (sym e ∙ q.1)))
 
+  pub forgo_reads : (l n s : ℕ) → ReadsAs (IsIndexedTwo lists (codes "forgo ") (codes " ") (codes " ") (codes "\n") text) (Some (l, (n, s)))
+      → ReadsAs (IsEntryOf counters lists text) (Some (Forgo l n s))
+  forgo_reads l n s h = let f = found (IsIndexedTwo lists (codes "forgo ") (codes " ") (codes " ") (codes "\n") text) (l, (n, s)) h in
+      one (IsEntryOf counters lists text) (Forgo l n s) f is
+    where
+      is : (a : JournalEntry) → IsEntryOf counters lists text a → a ≡ Forgo l n s
+      is (Forgo m k j) q =
+          ap (λ (x : ℕ × (ℕ × ℕ)). Forgo x.0 x.1.0 x.1.1)
+          (only (IsIndexedTwo lists (codes "forgo ") (codes " ") (codes " ") (codes "\n") text) (l, (n, s)) (m, (k, j)) h q)
+      is a q = let f = found (IsIndexedTwo lists (codes "forgo ") (codes " ") (codes " ") (codes "\n") text) (l, (n, s)) h in
+          let e : text ≡ entry_text (Forgo l n s) = f.1 in absurd (omega (arith, ap key (sym e ∙ q.1)))
+
+  pub withdraw_reads : (c s t : ℕ) → ReadsAs (IsIndexedTwo counters (codes "withdraw ") (codes " ") (codes ".") (codes "\n") text) (Some (c, (s, t)))
+      → ReadsAs (IsEntryOf counters lists text) (Some (Withdraw c (record { seat = s; turn = t })))
+  withdraw_reads c s t h = let f = found (IsIndexedTwo counters (codes "withdraw ") (codes " ") (codes ".") (codes "\n") text) (c, (s, t)) h in
+      one (IsEntryOf counters lists text) (Withdraw c (record { seat = s; turn = t })) f is
+    where
+      is : (a : JournalEntry) → IsEntryOf counters lists text a → a ≡ Withdraw c (record { seat = s; turn = t })
+      is (Withdraw m w) q = ap (λ (x : ℕ × (ℕ × ℕ)). Withdraw x.0 (record { seat = x.1.0; turn = x.1.1 }))
+          (only (IsIndexedTwo counters (codes "withdraw ") (codes " ") (codes ".") (codes "\n") text) (c, (s, t)) (m, (w.seat, w.turn)) h q)
+      is a q = let f = found (IsIndexedTwo counters (codes "withdraw ") (codes " ") (codes ".") (codes "\n") text) (c, (s, t)) h in
+          let e : text ≡ entry_text (Withdraw c (record { seat = s; turn = t })) = f.1 in absurd (omega (arith, ap key (sym e ∙ q.1)))
+
   pub queue_reads : (c s t : ℕ) → ReadsAs (IsIndexedTwo counters (codes "queue ") (codes " ") (codes ".") (codes "\n") text) (Some (c, (s, t)))
       → ReadsAs (IsEntryOf counters lists text) (Some (Queue c (record { seat = s; turn = t }) false))
   queue_reads c s t h = let f = found (IsIndexedTwo counters (codes "queue ") (codes " ") (codes ".") (codes "\n") text) (c, (s, t)) h in
@@ -162,12 +185,14 @@ module _ (counters lists : ℕ) (text : List ℕ) where
       → ReadsAs (IsIndexed counters (codes "take ") (codes " ") (codes "\n") text) None
       → ReadsAs (IsIndexedTwo counters (codes "queue ") (codes " ") (codes ".") (codes "\n") text) None
       → ReadsAs (IsIndexedThree counters (codes "leave ") (codes " ") (codes ".") (codes " ") (codes "\n") text) None
+      → ReadsAs (IsIndexedTwo counters (codes "withdraw ") (codes " ") (codes ".") (codes "\n") text) None
       → ReadsAs (IsIndexed lists (codes "ticket ") (codes " ") (codes "\n") text) None
       → ReadsAs (IsIndexedTwo lists (codes "grant ") (codes " ") (codes " ") (codes "\n") text) None
+      → ReadsAs (IsIndexedTwo lists (codes "forgo ") (codes " ") (codes " ") (codes "\n") text) None
       → ReadsAs (IsIndexedTwo counters (codes "queue ") (codes " ") (codes ".") (codes " lifo\n") text) None
       → ReadsAs (IsIndexedTwo counters (codes "add ") (codes " ") (codes " many ") (codes "\n") text) None
       → ReadsAs (IsEntryOf counters lists text) None
-  no_entry add take queue leave ticket grant lifo many = nothing (IsEntryOf counters lists text) is
+  no_entry add take queue leave withdraw ticket grant forgo lifo many = nothing (IsEntryOf counters lists text) is
     where
       is : (a : JournalEntry) → IsEntryOf counters lists text a → ⊥
       is (Add m k) q = none (IsIndexed counters (codes "add ") (codes " ") (codes "\n") text) (m, k) add q
@@ -177,6 +202,9 @@ module _ (counters lists : ℕ) (text : List ℕ) where
       is (Queue m w true) q = none (IsIndexedTwo counters (codes "queue ") (codes " ") (codes ".") (codes " lifo\n") text) (m, (w.seat, w.turn)) lifo q
       is (Leave m w k) q =
           none (IsIndexedThree counters (codes "leave ") (codes " ") (codes ".") (codes " ") (codes "\n") text) (m, (w.seat, (w.turn, k))) leave q
+      is (Withdraw m w) q =
+          none (IsIndexedTwo counters (codes "withdraw ") (codes " ") (codes ".") (codes "\n") text) (m, (w.seat, w.turn)) withdraw q
+      is (Forgo m k j) q = none (IsIndexedTwo lists (codes "forgo ") (codes " ") (codes " ") (codes "\n") text) (m, (k, j)) forgo q
       is (Ticket m k) q = none (IsIndexed lists (codes "ticket ") (codes " ") (codes "\n") text) (m, k) ticket q
       is (Grant m k j) q = none (IsIndexedTwo lists (codes "grant ") (codes " ") (codes " ") (codes "\n") text) (m, (k, j)) grant q
 

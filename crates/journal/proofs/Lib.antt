@@ -13,3 +13,4 @@ pub mod Rules
 pub mod Shown
 pub mod Verdicts
 pub mod Locks
+pub mod Gone

@@ -6,16 +6,17 @@ use Rattle.std.proofs.lemmas.List.{append-nil}
 use Rattle.std.proofs.lemmas.Bool.{cases_eq, cases_lt, eqb-true}
 use Rattle.waiters.specs.declared.wait.WaitId.{WaitId}
 use Rattle.step_table.specs.declared.entry.Entry.{Entry}
-use Rattle.step_table.specs.declared.entry.Entry.TheVariants.{Add, AddMany, Take, Queue, Leave, Ticket, Grant}
+use Rattle.step_table.specs.declared.entry.Entry.TheVariants.{Add, AddMany, Take, Queue, Leave, Withdraw, Ticket, Grant, Forgo}
 use Rattle.step_table.specs.Core.{sema_entries, list_entries}
-use Rattle.step_table.specs.Counting.{same}
-use Rattle.step_table.specs.Journal.{Plain, replay, IsDefined, IsOwned, IsLawful, Owes, budget, queued, left}
-use Rattle.step_table.specs.ListWorld.{ListEntry, Took, Granted}
+use Rattle.step_table.specs.Counting.{same, times, among}
+use Rattle.step_table.specs.Journal.{Plain, replay, IsDefined, IsOwned, IsLawful, Owes, budget, queued, left, withdrawn}
+use Rattle.step_table.specs.ListWorld.{ListEntry, Took, Granted, Forgone}
 use Rattle.step_law_lists.specs.ListLawful as list
-use Rattle.journal.specs.declared.rule.Rule.TheVariants.{NoUnit, NotFirst, GrantedBefore, NotHandedOut, QueuedTwice, LeftTwice, NoRelease}
+use Rattle.journal.specs.declared.rule.Rule.TheVariants.{NoUnit, NotFirst, NotQueued, GrantedBefore, PassedBefore, GoneBefore}
+use Rattle.journal.specs.declared.rule.Rule.TheVariants.{NotHandedOut, QueuedTwice, LeftTwice, NoRelease}
 use Rattle.journal.specs.LawfulJournal.{start_of, IsLawfulJournal, plain_after, told_after}
 use Rattle.journal.specs.Rules.{BreaksNone, TheRules}
-use Rattle.journal.proofs.Entries.{sema_append, list_append, queued_append, left_append, same_own, same_some, same_most, stands_more, stands_front}
+use Rattle.journal.proofs.Entries.{sema_append, list_append, queued_append, left_append, withdrawn_append, same_own, same_some, same_most, stands_more, stands_front}
 use Rattle.journal.proofs.Entries.{stands_last}
 
 -- an entry stands where it may
@@ -34,7 +35,7 @@ lawful_front starts xs ys h =
         stands_front (Stands (start_of starts)) (sema_entries xs) (sema_entries ys) whole.0,
         (λ w. (
           omega (arith, (whole.1 w).0, queued_append w (sema_entries xs) (sema_entries ys)),
-          omega (arith, (whole.1 w).1, left_append w (sema_entries xs) (sema_entries ys)),
+          omega (arith, (whole.1 w).1, left_append w (sema_entries xs) (sema_entries ys), withdrawn_append w (sema_entries xs) (sema_entries ys)),
         )),
       ),
       (λ l. stands_front ListStands (list_entries l xs) (list_entries l ys) (subst list.Follows (list_append l xs ys) (h.1 l))),
@@ -54,7 +55,7 @@ IsOfList e m x = (sema_entries (e ∷ []) ≡ []) × ((l : ℕ) → list_entries
 pub record Met (starts : List ℕ) (before : List Entry) (e : Entry) : Type 0 where
   pub stands : Stands (start_of starts) e (sema_entries before)
   pub queued_once : (w : WaitId) → queued w (sema_entries before) + queued w (e ∷ []) ≤ 1
-  pub left_once : (w : WaitId) → left w (sema_entries before) + left w (e ∷ []) ≤ 1
+  pub left_once : (w : WaitId) → left w (sema_entries before) + withdrawn w (sema_entries before) + (left w (e ∷ []) + withdrawn w (e ∷ [])) ≤ 1
 
 counter_met : (starts : List ℕ) (before : List Entry) (e : Entry) → IsOfCounter e → IsLawfulJournal starts (before ++ e ∷ []) → Met starts before e
 counter_met starts before e is h =
@@ -64,7 +65,7 @@ counter_met starts before e is h =
     record {
       stands = stands_last (Stands (start_of starts)) (sema_entries before) e whole.0;
       queued_once = λ w. omega (arith, (whole.1 w).0, queued_append w (sema_entries before) (e ∷ []));
-      left_once = λ w. omega (arith, (whole.1 w).1, left_append w (sema_entries before) (e ∷ []));
+      left_once = λ w. omega (arith, (whole.1 w).1, left_append w (sema_entries before) (e ∷ []), withdrawn_append w (sema_entries before) (e ∷ []));
     }
 
 counter_more : (starts : List ℕ) (before : List Entry) (e : Entry) → IsOfCounter e → IsLawfulJournal starts before → Met starts before e
@@ -76,7 +77,7 @@ counter_more starts before e is h m =
         stands_more (Stands (start_of starts)) (sema_entries before) e h.0.0 m.stands,
         (λ w. (
           omega (arith, m.queued_once w, queued_append w (sema_entries before) (e ∷ [])),
-          omega (arith, m.left_once w, left_append w (sema_entries before) (e ∷ [])),
+          omega (arith, m.left_once w, left_append w (sema_entries before) (e ∷ []), withdrawn_append w (sema_entries before) (e ∷ [])),
         )),
       ),
       (λ l. subst list.Follows
@@ -118,12 +119,22 @@ lawful_breaks_none starts before (Leave c w s) h NotFirst b =
 lawful_breaks_none starts before (Leave c w s) h NoRelease b = let m = counter_met starts before (Leave c w s) (refl, λ l. refl) h in b m.stands.1
 lawful_breaks_none starts before (Leave c w s) h LeftTwice b =
     let m = counter_met starts before (Leave c w s) (refl, λ l. refl) h in omega (arith, b, m.left_once w, same_own w)
+lawful_breaks_none starts before (Withdraw c w) h NotQueued b =
+    let m = counter_met starts before (Withdraw c w) (refl, λ l. refl) h in omega (arith, b, m.stands.0)
+lawful_breaks_none starts before (Withdraw c w) h LeftTwice b =
+    let m = counter_met starts before (Withdraw c w) (refl, λ l. refl) h in omega (arith, b, m.left_once w, same_own w)
 lawful_breaks_none starts before (Queue c w lifo) h QueuedTwice b = let m = counter_met starts before (Queue c w lifo) (refl, λ l. refl) h in
     omega (arith, b, m.queued_once w, same_own w)
 lawful_breaks_none starts before (Grant l u s) h GrantedBefore b =
     let d = list_met starts before (Grant l u s) l (Granted u s) (refl, λ k. refl) h in omega (arith, b, d.0)
 lawful_breaks_none starts before (Grant l u s) h NotHandedOut b =
     let d = list_met starts before (Grant l u s) l (Granted u s) (refl, λ k. refl) h in omega (arith, b, d.1)
+lawful_breaks_none starts before (Forgo l n s) h PassedBefore b =
+    let d = list_met starts before (Forgo l n s) l (Forgone n s) (refl, λ k. refl) h in omega (arith, b, d.0)
+lawful_breaks_none starts before (Forgo l n s) h GoneBefore b =
+    let d = list_met starts before (Forgo l n s) l (Forgone n s) (refl, λ k. refl) h in omega (arith, b, d.2)
+lawful_breaks_none starts before (Forgo l n s) h NotHandedOut b =
+    let d = list_met starts before (Forgo l n s) l (Forgone n s) (refl, λ k. refl) h in omega (arith, b, d.1)
 lawful_breaks_none starts before (Add c s) h NoUnit b = b
 lawful_breaks_none starts before (AddMany c k s) h NoUnit b = b
 lawful_breaks_none starts before (Ticket l s) h NoUnit b = b
@@ -180,7 +191,8 @@ breaks_none_lawful starts before (Leave c w s) h n =
     counter_more starts before (Leave c w s) (refl, λ l. refl) h (record {
       stands = (first (first_or w ((plain_after starts before).lists c)), owed (owes_or s c (sema_entries before)));
       queued_once = λ x. omega (arith, (h.0.1 x).0);
-      left_once = λ x. once (λ y. left y (sema_entries before)) w x (none_one (left w (sema_entries before)) (n LeftTwice)) (h.0.1 x).1;
+      left_once = λ x. let o = once (λ y. left y (sema_entries before) + withdrawn y (sema_entries before)) w x
+          (none_one (left w (sema_entries before) + withdrawn w (sema_entries before)) (n LeftTwice)) (h.0.1 x).1 in omega (arith, o);
     })
   where
     first : (let l = (plain_after starts before).lists c in ((m : List WaitId) × (l ≡ w ∷ m)) ⊎ ((m : List WaitId) → l ≢ w ∷ m))
@@ -191,11 +203,24 @@ breaks_none_lawful starts before (Leave c w s) h n =
     owed : Owes s c 1 (sema_entries before) ⊎ (Owes s c 1 (sema_entries before) → ⊥) → Owes s c 1 (sema_entries before)
     owed (inl o) = o
     owed (inr none) = absurd (n NoRelease none)
+breaks_none_lawful starts before (Withdraw c w) h n =
+    let there : times w ((plain_after starts before).lists c) ≡ 0 → ⊥ = n NotQueued in
+    counter_more starts before (Withdraw c w) (refl, λ l. refl) h (record {
+      stands = (omega arith, tt);
+      queued_once = λ x. omega (arith, (h.0.1 x).0);
+      left_once = λ x. let o = once (λ y. left y (sema_entries before) + withdrawn y (sema_entries before)) w x
+          (none_one (left w (sema_entries before) + withdrawn w (sema_entries before)) (n LeftTwice)) (h.0.1 x).1 in omega (arith, o);
+    })
 breaks_none_lawful starts before (Ticket l s) h n = list_more starts before (Ticket l s) l (Took s) (refl, λ k. refl) h tt
 breaks_none_lawful starts before (Grant l u s) h n =
-    let more : u ≤ (told_after before l).granted → ⊥ = n GrantedBefore in
+    let more : u ≤ (told_after before l).passed → ⊥ = n GrantedBefore in
     let out : (told_after before l).handed < u → ⊥ = n NotHandedOut in
     list_more starts before (Grant l u s) l (Granted u s) (refl, λ k. refl) h (omega arith, omega arith)
+breaks_none_lawful starts before (Forgo l m s) h n =
+    let left_over : m < (told_after before l).passed → ⊥ = n PassedBefore in
+    let out : (told_after before l).handed ≤ m → ⊥ = n NotHandedOut in
+    let there : 0 < among m (told_after before l).gone → ⊥ = n GoneBefore in
+    list_more starts before (Forgo l m s) l (Forgone m s) (refl, λ k. refl) h (omega arith, omega arith, omega arith)
 
 pub the_rules : TheRules
 the_rules starts before entry h = (lawful_breaks_none starts before entry, breaks_none_lawful starts before entry h)

@@ -8,16 +8,15 @@ use Rattle.std.proofs.lemmas.Bool.{cases_eq}
 use Rattle.waiters.specs.declared.wait.WaitId.{WaitId}
 use Rattle.step_table.specs.declared.entry.Entry.TheVariants.{Add, AddMany, Leave}
 use Rattle.step_table.specs.Journal.{spent}
-use Rattle.step_table.specs.ListWorld.{ListEntry}
+use Rattle.step_table.specs.ListWorld.{Numbers, ListEntry}
 use Rattle.step_table.specs.World.{put, insert_wait}
 use Rattle.step_table.proofs.Sums.{put_here, put_else}
 use Rattle.step_law_lists.specs.ListLawful as list
 use Rattle.journal.specs.declared.entry.JournalWait.{JournalWait}
 use Rattle.journal.specs.declared.budget.Budget.{Budget}
-use Rattle.journal.specs.declared.tickets.Tickets.{Tickets}
 use Rattle.journal.specs.LawfulJournal.{wait_of}
 use Rattle.journal.specs.Account.{Account, after}
-use Rattle.journal.specs.Shown.{numbers_of, budget_of}
+use Rattle.journal.specs.Shown.{budget_of}
 
 -- ---- a queue
 
@@ -47,19 +46,19 @@ at_put {A} xs i n x d lt e c = by (cases_eq c i)
 
 -- ---- the tickets of a list
 
-pub tickets_put : (ts : List Tickets) (i n : ℕ) (t d : Tickets) (x : ListEntry) → i < n → n ≡ length ts
-    → numbers_of t ≡ list.counted x (numbers_of (get_or ts i d))
-    → (k : ℕ) → numbers_of (get_or (set ts i t) k d) ≡ list.replay (numbers_of (get_or ts k d)) (cond (eqb i k) (x ∷ []) [])
+pub tickets_put : (ts : List Numbers) (i n : ℕ) (t d : Numbers) (x : ListEntry) → i < n → n ≡ length ts
+    → t ≡ list.counted x (get_or ts i d)
+    → (k : ℕ) → get_or (set ts i t) k d ≡ list.replay (get_or ts k d) (cond (eqb i k) (x ∷ []) [])
 tickets_put ts i n t d x lt e is k = by (cases_eq i k)
   where
-    by : (i ≡ k) ⊎ (i ≡ k → ⊥) → numbers_of (get_or (set ts i t) k d) ≡ list.replay (numbers_of (get_or ts k d)) (cond (eqb i k) (x ∷ []) [])
+    by : (i ≡ k) ⊎ (i ≡ k → ⊥) → get_or (set ts i t) k d ≡ list.replay (get_or ts k d) (cond (eqb i k) (x ∷ []) [])
     by (inl q) =
-        subst (λ (m : ℕ). numbers_of (get_or (set ts i t) m d) ≡ list.replay (numbers_of (get_or ts m d)) (cond (eqb i m) (x ∷ []) [])) q
-        (ap numbers_of (get_or-set_same ts i t d (omega arith)) ∙ is
-        ∙ ap (λ (b : Bool). list.replay (numbers_of (get_or ts i d)) (cond b (x ∷ []) [])) (sym (eq-eqb i i refl)))
+        subst (λ (m : ℕ). get_or (set ts i t) m d ≡ list.replay (get_or ts m d) (cond (eqb i m) (x ∷ []) [])) q
+        (get_or-set_same ts i t d (omega arith) ∙ is
+        ∙ ap (λ (b : Bool). list.replay (get_or ts i d) (cond b (x ∷ []) [])) (sym (eq-eqb i i refl)))
     by (inr ne) =
-        ap numbers_of (get_or-set_other ts i k t d (λ q. ne (sym q)))
-        ∙ ap (λ (b : Bool). list.replay (numbers_of (get_or ts k d)) (cond b (x ∷ []) [])) (sym (ne_eqb i k ne))
+        get_or-set_other ts i k t d (λ q. ne (sym q))
+        ∙ ap (λ (b : Bool). list.replay (get_or ts k d) (cond b (x ∷ []) [])) (sym (ne_eqb i k ne))
 
 -- ---- what a seat may let out
 

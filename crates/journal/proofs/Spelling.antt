@@ -3,7 +3,7 @@ use Rattle.std.proofs.Common.{◌≡◌, ℕ, ◌≤◌, List, [], length, Optio
 use Rattle.std.specs.Prelude.{codes}
 use Rattle.std.proofs.lemmas.List.{length-append}
 use Rattle.journal.specs.declared.entry.JournalEntry.{JournalEntry}
-use Rattle.journal.specs.declared.entry.JournalEntry.TheVariants.{Add, AddMany, Take, Queue, Leave, Ticket, Grant}
+use Rattle.journal.specs.declared.entry.JournalEntry.TheVariants.{Add, AddMany, Take, Queue, Leave, Withdraw, Ticket, Grant, Forgo}
 use Rattle.journal.specs.declared.journal.Journal.{Journal}
 use Rattle.journal.specs.declared.line.JournalLine.{JournalLine}
 use Rattle.journal.specs.declared.line.JournalLine.TheVariants.{Counter, List as NotifyList, Entry as Tells}
@@ -25,6 +25,10 @@ entry_key (Queue c w lifo) n (inl h) = omega arith
 entry_key (Queue c w lifo) n (inr h) = omega arith
 entry_key (Leave c w s) n (inl h) = omega arith
 entry_key (Leave c w s) n (inr h) = omega arith
+entry_key (Withdraw c w) n (inl h) = omega arith
+entry_key (Withdraw c w) n (inr h) = omega arith
+entry_key (Forgo l k s) n (inl h) = omega arith
+entry_key (Forgo l k s) n (inr h) = omega arith
 entry_key (Ticket l s) n (inl h) = omega arith
 entry_key (Ticket l s) n (inr h) = omega arith
 entry_key (Grant l u s) n (inl h) = omega arith
@@ -65,6 +69,8 @@ entry_long (AddMany c s k) = omega (arith, length-append {A = ℕ})
 entry_long (Take c s) = omega (arith, length-append {A = ℕ})
 entry_long (Queue c w lifo) = omega (arith, length-append {A = ℕ})
 entry_long (Leave c w s) = omega (arith, length-append {A = ℕ})
+entry_long (Withdraw c w) = omega (arith, length-append {A = ℕ})
+entry_long (Forgo l n s) = omega (arith, length-append {A = ℕ})
 entry_long (Ticket l s) = omega (arith, length-append {A = ℕ})
 entry_long (Grant l u s) = omega (arith, length-append {A = ℕ})
 

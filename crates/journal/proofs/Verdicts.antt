@@ -7,9 +7,11 @@ use Rattle.journal.specs.declared.entry.JournalEntry as journal
 use Rattle.journal.specs.declared.journal.Journal.{Journal}
 use Rattle.journal.specs.declared.rule.Rule.{Rule}
 use Rattle.journal.specs.declared.verdict.Verdict.TheVariants.{Unlawful}
-use Rattle.journal.specs.LawfulJournal.{entry_of, entries_of, IsLawfulJournal}
+use Rattle.journal.specs.LawfulJournal.{entry_of, entries_of, IsLawfulJournal, told_after}
 use Rattle.journal.specs.Rules.{BreaksNone, BreaksFirst, IsUnlawfulAt, IsVerdictOf}
-use Rattle.journal.specs.Account.{account, after, first_broken}
+use Rattle.journal.specs.Account.{Account, account, after, first_broken}
+use Rattle.step_table.specs.Core.{list_entries}
+use Rattle.step_law_lists.proofs.ListJournals.{each_once}
 use Rattle.journal.proofs.Accounts.{account_last}
 use Rattle.journal.proofs.FirstRules.{Judged, judged}
 use Rattle.journal.proofs.Rules.{lawful_front, lawful_breaks_none, breaks_none_lawful}
@@ -89,6 +91,15 @@ module _ (j : Journal) (i : ℕ) (e : journal.JournalEntry) (lt : i < length j.e
           (append_assoc (entries_of (take i j.entries)) (entry_of e ∷ []) (entries_of (drop (suc i) j.entries)))) all in
           lawful_breaks_none j.starts (entries_of (take i j.entries)) (entry_of e)
           (lawful_front j.starts (entries_of (take i j.entries) ++ (entry_of e ∷ [])) (entries_of (drop (suc i) j.entries)) parted) rule breaks.broken
+
+-- ---- no more tickets are passed than were handed out
+
+pub told_in_order : (starts : List ℕ) (entries : List Entry) → IsLawfulJournal starts entries
+    → (k : ℕ) → (told_after entries k).passed ≤ (told_after entries k).handed
+told_in_order starts entries h k = (each_once (list_entries k entries) (h.1 k)).order
+
+pub in_order : (a b : Account) → a ≡ b → ((k : ℕ) → (b.told k).passed ≤ (b.told k).handed) → (k : ℕ) → (a.told k).passed ≤ (a.told k).handed
+in_order a b e h = subst (λ (x : Account). (k : ℕ) → (x.told k).passed ≤ (x.told k).handed) (sym e) h
 
 -- ---- before the first entry, and behind the last
 

@@ -4,7 +4,7 @@ use Rattle.std.specs.Fmt.{decimal}
 use Rattle.journal.specs.declared.entry.JournalWait.{JournalWait}
 use Rattle.journal.specs.declared.entry.JournalEntry.{JournalEntry}
 use Rattle.journal.specs.declared.entry.JournalEntry.TheVariants.{Add, AddMany, Take, Queue, Leave, Ticket}
-use Rattle.journal.specs.declared.entry.JournalEntry.TheVariants.{Grant}
+use Rattle.journal.specs.declared.entry.JournalEntry.TheVariants.{Withdraw, Grant, Forgo}
 use Rattle.journal.specs.declared.line.JournalLine.{JournalLine}
 use Rattle.journal.specs.declared.line.JournalLine.TheVariants.{Counter, List as NotifyList, Entry as Tells}
 
@@ -30,9 +30,12 @@ entry_text (Take c s) = codes "take " ++ (decimal c ++ (codes " " ++ (decimal s 
 entry_text (Queue c w lifo) = codes "queue " ++ (decimal c ++ (codes " " ++ wait_text w (queue_end lifo)))
 entry_text (Leave c w s) =
     codes "leave " ++ (decimal c ++ (codes " " ++ wait_text w (codes " " ++ (decimal s ++ line_feed))))
+entry_text (Withdraw c w) = codes "withdraw " ++ (decimal c ++ (codes " " ++ wait_text w line_feed))
 entry_text (Ticket l s) = codes "ticket " ++ (decimal l ++ (codes " " ++ (decimal s ++ line_feed)))
 entry_text (Grant l upto s) =
     codes "grant " ++ (decimal l ++ (codes " " ++ (decimal upto ++ (codes " " ++ (decimal s ++ line_feed)))))
+entry_text (Forgo l n s) =
+    codes "forgo " ++ (decimal l ++ (codes " " ++ (decimal n ++ (codes " " ++ (decimal s ++ line_feed)))))
 
 -- how a line is spelled
 abbrev pub line_text : JournalLine → List ℕ
@@ -55,5 +58,7 @@ HasForm counters lists (AddMany c s n) = IsOneOf counters c × (IsShort s × IsS
 HasForm counters lists (Take c s) = IsOneOf counters c × IsShort s
 HasForm counters lists (Queue c w lifo) = IsOneOf counters c × (IsShort w.seat × IsShort w.turn)
 HasForm counters lists (Leave c w s) = IsOneOf counters c × (IsShort w.seat × (IsShort w.turn × IsShort s))
+HasForm counters lists (Withdraw c w) = IsOneOf counters c × (IsShort w.seat × IsShort w.turn)
 HasForm counters lists (Ticket l s) = IsOneOf lists l × IsShort s
 HasForm counters lists (Grant l upto s) = IsOneOf lists l × (IsShort upto × IsShort s)
+HasForm counters lists (Forgo l n s) = IsOneOf lists l × (IsShort n × IsShort s)

@@ -2,7 +2,7 @@
 use Rattle.std.specs.Prelude.{ℕ, List, map, slice_index}
 use Rattle.waiters.specs.declared.wait.WaitId.{WaitId}
 use Rattle.step_table.specs.declared.entry.Entry.{Entry}
-use Rattle.step_table.specs.declared.entry.Entry.TheVariants.{Add, AddMany, Take, Queue, Leave, Ticket, Grant}
+use Rattle.step_table.specs.declared.entry.Entry.TheVariants.{Add, AddMany, Take, Queue, Leave, Withdraw, Ticket, Grant, Forgo}
 use Rattle.step_table.specs.Core.{sema_entries, list_entries}
 use Rattle.step_table.specs.Journal.{Plain, plain_start, replay, IsLawful}
 use Rattle.step_table.specs.ListWorld.{Numbers}
@@ -22,8 +22,10 @@ entry_of (text.AddMany c s n) = AddMany c n s
 entry_of (text.Take c s) = Take c s
 entry_of (text.Queue c w lifo) = Queue c (wait_of w) lifo
 entry_of (text.Leave c w s) = Leave c (wait_of w) s
+entry_of (text.Withdraw c w) = Withdraw c (wait_of w)
 entry_of (text.Ticket l s) = Ticket l s
 entry_of (text.Grant l upto s) = Grant l upto s
+entry_of (text.Forgo l n s) = Forgo l n s
 
 -- all entries
 abbrev pub entries_of : List journal.JournalEntry → List Entry
@@ -42,6 +44,6 @@ IsLawfulJournal starts entries =
 abbrev pub plain_after : List ℕ → List Entry → Plain
 plain_after starts entries = replay (start_of starts) (sema_entries entries)
 
--- how many tickets of the list l are handed out and granted behind them
+-- the tickets of the list l behind them: how many were handed out, which are passed, and which are gone
 abbrev pub told_after : List Entry → ℕ → Numbers
 told_after entries l = told (list_entries l entries)

@@ -2,27 +2,38 @@
 use Rattle.std.specs.Prelude.{◌≡◌, ◌≢◌, ℕ, ◌+◌, ◌<◌, ◌≤◌, List, [], ◌∷◌, ◌++◌, length, ◌↔◌}
 use Rattle.waiters.specs.declared.wait.WaitId.{WaitId}
 use Rattle.step_table.specs.declared.entry.Entry.{Entry}
-use Rattle.step_table.specs.declared.entry.Entry.TheVariants.{Take, Queue, Leave, Grant}
+use Rattle.step_table.specs.declared.entry.Entry.TheVariants.{Take, Queue, Leave, Withdraw, Grant, Forgo}
 use Rattle.step_table.specs.Core.{sema_entries}
-use Rattle.step_table.specs.Journal.{Owes, queued, left}
+use Rattle.step_table.specs.Journal.{Owes, queued, left, withdrawn}
+use Rattle.step_table.specs.Counting.{times, among}
 use Rattle.journal.specs.declared.journal.Journal.{Journal}
 use Rattle.journal.specs.declared.rule.Rule.{Rule}
-use Rattle.journal.specs.declared.rule.Rule.TheVariants.{NoUnit, NotFirst, GrantedBefore, NotHandedOut}
+use Rattle.journal.specs.declared.rule.Rule.TheVariants.{NoUnit, NotFirst, NotQueued, GrantedBefore}
+use Rattle.journal.specs.declared.rule.Rule.TheVariants.{PassedBefore, GoneBefore, NotHandedOut}
 use Rattle.journal.specs.declared.rule.Rule.TheVariants.{QueuedTwice, LeftTwice, NoRelease}
 use Rattle.journal.specs.declared.verdict.Verdict.{Verdict}
 use Rattle.journal.specs.declared.verdict.Verdict.TheVariants.{Lawful, Unlawful}
 use Rattle.journal.specs.LawfulJournal.{entries_of, IsLawfulJournal, plain_after, told_after}
 
 -- the entry breaks the rule behind those before it: a unit is taken where there is none; the wait that leaves
--- isn't the first of its counter; no more is granted than was, or more than was handed out; the wait was
--- queued before, or has left; the seat's last release wasn't of this counter, or none of its units is left
+-- isn't the first of its counter, or one that is withdrawn isn't in its list; no ticket is granted that wasn't
+-- passed, or one that wasn't handed out; a ticket that goes was passed, has gone, or wasn't handed out; the wait
+-- was queued before, or has left or was withdrawn; the seat's last release wasn't of this counter, or none of its
+-- units is left
 abbrev pub Breaks : Rule → List ℕ → List Entry → Entry → Type 0
 Breaks NoUnit starts before (Take c s) = (plain_after starts before).numbers c ≡ 0
 Breaks NotFirst starts before (Leave c w s) = (l : List WaitId) → (plain_after starts before).lists c ≢ w ∷ l
-Breaks GrantedBefore starts before (Grant l upto s) = upto ≤ (told_after before l).granted
+Breaks NotQueued starts before (Withdraw c w) = times w ((plain_after starts before).lists c) ≡ 0
+Breaks GrantedBefore starts before (Grant l upto s) = upto ≤ (told_after before l).passed
+Breaks PassedBefore starts before (Forgo l n s) = n < (told_after before l).passed
+Breaks GoneBefore starts before (Forgo l n s) = 0 < among n (told_after before l).gone
 Breaks NotHandedOut starts before (Grant l upto s) = (told_after before l).handed < upto
+Breaks NotHandedOut starts before (Forgo l n s) = (told_after before l).handed ≤ n
 Breaks QueuedTwice starts before (Queue c w lifo) = 0 < queued w (sema_entries before)
-Breaks LeftTwice starts before (Leave c w s) = 0 < left w (sema_entries before)
+Breaks LeftTwice starts before (Leave c w s) =
+    0 < left w (sema_entries before) + withdrawn w (sema_entries before)
+Breaks LeftTwice starts before (Withdraw c w) =
+    0 < left w (sema_entries before) + withdrawn w (sema_entries before)
 Breaks NoRelease starts before (Leave c w s) = Owes s c 1 (sema_entries before) → ⊥
 Breaks rule starts before entry = ⊥
 
@@ -30,11 +41,14 @@ Breaks rule starts before entry = ⊥
 abbrev pub rank : Rule → ℕ
 rank NoUnit = 0
 rank NotFirst = 1
-rank GrantedBefore = 2
-rank NotHandedOut = 3
-rank QueuedTwice = 4
-rank LeftTwice = 5
-rank NoRelease = 6
+rank NotQueued = 2
+rank GrantedBefore = 3
+rank PassedBefore = 4
+rank GoneBefore = 5
+rank NotHandedOut = 6
+rank QueuedTwice = 7
+rank LeftTwice = 8
+rank NoRelease = 9
 
 -- it breaks none
 abbrev pub BreaksNone : List ℕ → List Entry → Entry → Type 0

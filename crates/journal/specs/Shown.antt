@@ -3,28 +3,20 @@ use Rattle.std.specs.Prelude.{◌≡◌, Bool, [], slice_index, slice_index_or, 
 use Rattle.std.specs.HashMap as hash
 use Rattle.std.specs.HashSet as bag
 use Rattle.step_table.specs.Journal as law
-use Rattle.step_table.specs.ListWorld.{Numbers}
+use Rattle.step_table.specs.Journal.{is_same}
+use Rattle.step_law_lists.specs.ListLawful.{none_told}
 use Rattle.journal.specs.declared.entry.JournalEntry.{JournalEntry}
 use Rattle.journal.specs.declared.entry.JournalWait.{JournalWait}
 use Rattle.journal.specs.JournalLine.{HasForm}
 use Rattle.journal.specs.declared.budget.Budget.{Budget}
 use Rattle.journal.specs.declared.ledger.Ledger.{Ledger}
-use Rattle.journal.specs.declared.tickets.Tickets.{Tickets}
 use Rattle.journal.specs.LawfulJournal.{wait_of}
-use Rattle.journal.specs.Account.{Account, is_same}
-
--- the tickets of a list as the laws have them
-abbrev pub numbers_of : Tickets → Numbers
-numbers_of t = record { handed = t.handed; granted = t.granted }
+use Rattle.journal.specs.Account.{Account}
 
 -- what a seat may still let out as the laws have it: nothing of a seat that released nothing
 abbrev pub budget_of : Option Budget → law.Budget
 budget_of None = record { counter = 0; units = 0 }
 budget_of (Some b) = record { counter = b.counter; units = b.units }
-
--- the tickets of a list before the first entry
-abbrev pub none_told : Tickets
-none_told = record { handed = 0; granted = 0 }
 
 -- one wait by the numbers of both
 abbrev pub are_same : JournalWait → JournalWait → Bool
@@ -35,7 +27,7 @@ abbrev pub shown : Ledger → Account
 shown l = record {
   numbers = λ c. slice_index l.numbers.items c;
   lists = λ c. slice_index_or l.queues.items c [];
-  told = λ k. numbers_of (slice_index_or l.tickets.items k none_told);
+  told = λ k. slice_index_or l.tickets.items k none_told;
   budgets = λ s. budget_of (hash.get nat_eq l.budgets s);
   queued = λ w. bag.contains are_same l.queued (record { seat = w.seat; turn = w.turn });
 }

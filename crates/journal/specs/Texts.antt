@@ -6,7 +6,8 @@ use Rattle.journal.specs.declared.judgement.Judgement.TheVariants as judged
 use Rattle.journal.specs.declared.lock_rule.LockRule.{LockRule}
 use Rattle.journal.specs.declared.lock_rule.LockRule.TheVariants.{NotHeld, HeldByAnother}
 use Rattle.journal.specs.declared.rule.Rule.{Rule}
-use Rattle.journal.specs.declared.rule.Rule.TheVariants.{NoUnit, NotFirst, GrantedBefore, NotHandedOut}
+use Rattle.journal.specs.declared.rule.Rule.TheVariants.{NoUnit, NotFirst, NotQueued, GrantedBefore}
+use Rattle.journal.specs.declared.rule.Rule.TheVariants.{PassedBefore, GoneBefore, NotHandedOut}
 use Rattle.journal.specs.declared.rule.Rule.TheVariants.{QueuedTwice, LeftTwice, NoRelease}
 use Rattle.journal.specs.declared.verdict.Verdict.{Verdict}
 use Rattle.journal.specs.declared.verdict.Verdict.TheVariants.{Lawful, Unlawful}
@@ -15,7 +16,10 @@ use Rattle.journal.specs.declared.verdict.Verdict.TheVariants.{Lawful, Unlawful}
 abbrev pub rule_text : Rule → List ℕ
 rule_text NoUnit = codes "no unit"
 rule_text NotFirst = codes "not first"
+rule_text NotQueued = codes "not queued"
 rule_text GrantedBefore = codes "granted before"
+rule_text PassedBefore = codes "passed before"
+rule_text GoneBefore = codes "gone before"
 rule_text NotHandedOut = codes "not handed out"
 rule_text QueuedTwice = codes "queued twice"
 rule_text LeftTwice = codes "left twice"

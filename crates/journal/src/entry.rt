@@ -40,15 +40,26 @@ pub enum JournalEntry {
         wait: JournalWait,
         seat: u128,
     },
+    /// The wait, wherever it stood in the list, was taken out: its seat gave up.
+    Withdraw {
+        counter: usize,
+        wait: JournalWait,
+    },
     /// The seat took the next ticket of the list.
     Ticket {
         list: usize,
         seat: u128,
     },
-    /// The seat granted the first tickets of the list, so many that this many are granted.
+    /// The seat granted the first tickets of the list, up to this many, but for those that are gone.
     Grant {
         list: usize,
         upto: u128,
+        seat: u128,
+    },
+    /// The ticket of this number is gone: its seat gave up.
+    Forgo {
+        list: usize,
+        number: u128,
         seat: u128,
     },
 }

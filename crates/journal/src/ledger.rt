@@ -4,10 +4,11 @@ ghost use Rattle.std.specs.Prelude.{◌≡◌, ◌<◌, ◌+◌, ◌^◌, ℕ, B
 ghost use Rattle.std.specs.Prelude.{slice_index, slice_index_or, vec_len};
 ghost use Rattle.waiters.specs.declared.wait.WaitId.{WaitId};
 ghost use Rattle.step_table.specs.declared.entry.Entry.TheVariants as law;
+ghost use Rattle.step_law_lists.specs.ListLawful.{none_told};
 ghost use Rattle.journal.specs.LawfulJournal.{entry_of, wait_of};
 ghost use Rattle.journal.specs.Account.{HasRoom, IsAsleepBeside, account, after, first_broken};
 ghost use Rattle.journal.specs.Account.{has_unit};
-ghost use Rattle.journal.specs.Shown.{HasSizesOf, IsReady, none_told, shown};
+ghost use Rattle.journal.specs.Shown.{HasSizesOf, IsReady, shown};
 
 use crate::budget::Budget;
 use crate::entry::{JournalEntry, JournalWait};
@@ -47,10 +48,7 @@ fn no_tickets(alloc: Global, count: usize) -> Result<Vec<Tickets>, AllocError>
 {
     let mut tickets = Vec::with_capacity(alloc, count)?;
     for _ in 0..count {
-        tickets.push(Tickets {
-            handed: 0,
-            granted: 0,
-        })?;
+        tickets.push(Tickets::new(alloc))?;
     }
     Ok(tickets)
 }
@@ -150,6 +148,15 @@ impl Ledger {
         Ok(())
     }
 
+    /// The wait was taken out, wherever it stood.
+    fn withdraw(&mut self, counter: usize, wait: JournalWait)
+        requires { counter < vec_len self.old.queues }
+        ensures shown { shown self.new ≡ after (shown self.old) (law.Withdraw counter (wait_of wait)) }
+        ensures sizes { HasSizesOf self.old self.new }
+    {
+        self.queues[counter].remove(wait);
+    }
+
     /// The seat took a ticket.
     fn hand_out(&mut self, list: usize)
         requires list { list < vec_len self.old.tickets }
@@ -157,16 +164,28 @@ impl Ledger {
         ensures shown { (seat : ℕ) → shown self.new ≡ after (shown self.old) (law.Ticket list seat) }
         ensures sizes { HasSizesOf self.old self.new }
     {
-        self.tickets[list].handed += 1;
+        self.tickets[list].hand_out();
     }
 
-    /// So many tickets are granted.
+    /// The tickets below this one are granted, but for those that are gone.
     fn grant(&mut self, list: usize, upto: u128)
-        requires { list < vec_len self.old.tickets }
+        requires list { list < vec_len self.old.tickets }
+        requires room { upto + 2 ^ 64 < 2 ^ 128 }
         ensures shown { (seat : ℕ) → shown self.new ≡ after (shown self.old) (law.Grant list upto seat) }
         ensures sizes { HasSizesOf self.old self.new }
     {
-        self.tickets[list].granted = upto;
+        self.tickets[list].grant(upto);
+    }
+
+    /// The ticket of this number is gone.
+    fn forgo(&mut self, list: usize, number: u128) -> Result<(), AllocError>
+        requires list { list < vec_len self.old.tickets }
+        requires room { ((shown self.old).told list).passed + 2 ^ 64 < 2 ^ 128 }
+        ensures shown { OnOk result ((seat : ℕ)
+            → shown self.new ≡ after (shown self.old) (law.Forgo list number seat)) }
+        ensures sizes { HasSizesOf self.old self.new }
+    {
+        self.tickets[list].forgo(number)
     }
 
     /// The first rule that the grant breaks.
@@ -174,13 +193,30 @@ impl Ledger {
         requires { list < vec_len self.now.tickets }
         ensures { (seat : ℕ) → result ≡ first_broken (shown self.now) (law.Grant list upto seat) }
     {
-        let tickets = self.tickets[list];
-        if tickets.granted >= upto {
+        let tickets = &self.tickets[list];
+        if tickets.passed() >= upto {
             Some(Rule::GrantedBefore)
-        } else if tickets.handed < upto {
+        } else if tickets.handed() < upto {
             Some(Rule::NotHandedOut)
         } else {
             None
+        }
+    }
+
+    /// The first rule that the going of the ticket breaks.
+    fn broken_by_forgo(&self, list: usize, number: u128) -> Option<Rule>
+        requires { list < vec_len self.now.tickets }
+        ensures { (seat : ℕ) → result ≡ first_broken (shown self.now) (law.Forgo list number seat) }
+    {
+        let tickets = &self.tickets[list];
+        if number < tickets.passed() {
+            Some(Rule::PassedBefore)
+        } else if tickets.has_gone(number) {
+            Some(Rule::GoneBefore)
+        } else if number < tickets.handed() {
+            None
+        } else {
+            Some(Rule::NotHandedOut)
         }
     }
 
@@ -195,6 +231,18 @@ impl Ledger {
             None
         } else {
             Some(Rule::NoRelease)
+        }
+    }
+
+    /// The first rule that the withdrawal of the wait breaks.
+    fn broken_by_withdraw(&self, counter: usize, wait: JournalWait) -> Option<Rule>
+        requires { counter < vec_len self.now.queues }
+        ensures { result ≡ first_broken (shown self.now) (law.Withdraw counter (wait_of wait)) }
+    {
+        if self.queues[counter].contains(wait) {
+            None
+        } else {
+            Some(Rule::NotQueued)
         }
     }
 
@@ -235,7 +283,9 @@ impl Ledger {
                 wait,
                 seat,
             } => self.broken_by_leave(counter, wait, seat),
+            JournalEntry::Withdraw { counter, wait } => self.broken_by_withdraw(counter, wait),
             JournalEntry::Grant { list, upto, .. } => self.broken_by_grant(list, upto),
+            JournalEntry::Forgo { list, number, .. } => self.broken_by_forgo(list, number),
             JournalEntry::Add { .. } | JournalEntry::AddMany { .. } | JournalEntry::Ticket { .. } =>
                 None,
         }
@@ -261,8 +311,13 @@ impl Ledger {
                 lifo,
             } => self.queue(counter, wait, lifo),
             JournalEntry::Leave { counter, seat, .. } => self.leave(counter, seat),
+            JournalEntry::Forgo { list, number, .. } => self.forgo(list, number),
             JournalEntry::Take { counter, .. } => {
                 self.take(counter);
+                Ok(())
+            }
+            JournalEntry::Withdraw { counter, wait } => {
+                self.withdraw(counter, wait);
                 Ok(())
             }
             JournalEntry::Ticket { list, .. } => {

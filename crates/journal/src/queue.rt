@@ -1,4 +1,7 @@
 ghost use Rattle.std.specs.Prelude.{◌≡◌, ◌≢◌, false, [], OnOk, IsTrue, drop};
+ghost use Rattle.std.specs.Prelude.{map, nat_lt};
+ghost use Rattle.step_table.specs.Counting.{times};
+ghost use Rattle.step_table.specs.Journal.{without_wait};
 ghost use Rattle.step_table.specs.World.{insert_wait};
 ghost use Rattle.journal.specs.LawfulJournal.{wait_of};
 ghost use Rattle.journal.specs.Account.{begins as begins_with};
@@ -7,6 +10,18 @@ use crate::entry::JournalWait;
 use std::alloc::{AllocError, Global};
 use std::collections::VecDeque;
 use std::marker::Model;
+
+/// Takes out the first of these that is the wait.
+fn remove_wait(waits: &mut VecDeque<JournalWait>, wait: JournalWait)
+    ensures { map wait_of waits.new.items ≡ without_wait (wait_of wait) (map wait_of waits.old.items) }
+{
+    for place in 0..waits.len() {
+        if waits[place] == wait {
+            let _ = waits.remove(place);
+            return;
+        }
+    }
+}
 
 /// The waits of a counter, in order.
 #[derive(Drop)]
@@ -73,5 +88,19 @@ impl Queue {
         ensures { self.new ≡ drop 1 self.old }
     {
         let _ = self.waits.pop_front();
+    }
+
+    /// Whether the wait is in the list.
+    pub(crate) fn contains(&self, wait: JournalWait) -> bool
+        ensures { result ≡ nat_lt 0 (times (wait_of wait) self.now) }
+    {
+        self.waits.contains(&wait)
+    }
+
+    /// Takes out the wait, wherever it stands, if it is in the list.
+    pub(crate) fn remove(&mut self, wait: JournalWait)
+        ensures { self.new ≡ without_wait (wait_of wait) self.old }
+    {
+        remove_wait(&mut self.waits, wait);
     }
 }

@@ -10,13 +10,19 @@ pub enum Rule {
     NoUnit,
     /// The wait that leaves isn't the first of its counter's list.
     NotFirst,
-    /// No more tickets are granted than were granted before.
+    /// The wait that is withdrawn isn't in its counter's list.
+    NotQueued,
+    /// No ticket is granted that wasn't passed before.
     GrantedBefore,
-    /// A ticket is granted that wasn't handed out.
+    /// The ticket that goes was passed before.
+    PassedBefore,
+    /// The ticket that goes has gone before.
+    GoneBefore,
+    /// A ticket is granted, or goes, that wasn't handed out.
     NotHandedOut,
     /// The wait was queued before.
     QueuedTwice,
-    /// The wait has left before.
+    /// The wait has left before, or was withdrawn.
     LeftTwice,
     /// No unit of the seat's own last release, on this counter, is left for the wait that leaves.
     NoRelease,
@@ -29,7 +35,10 @@ impl fmt::Display for Rule {
         f.write_str(match self {
             Rule::NoUnit => "no unit",
             Rule::NotFirst => "not first",
+            Rule::NotQueued => "not queued",
             Rule::GrantedBefore => "granted before",
+            Rule::PassedBefore => "passed before",
+            Rule::GoneBefore => "gone before",
             Rule::NotHandedOut => "not handed out",
             Rule::QueuedTwice => "queued twice",
             Rule::LeftTwice => "left twice",

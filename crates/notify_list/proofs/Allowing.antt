@@ -7,14 +7,14 @@ use native.Mathlib.Decide.{ℕ_discrete}
 use prog.Atomic.{either}
 use Rattle.running_rows.specs.Table.{keeps, takes, gives, step}
 use Rattle.running_rows.proofs.Lists.{set_here, exchanged}
-use Rattle.waiters.specs.declared.wait.Wait.{Wait}
 use Rattle.step_table.specs.declared.list_place.ListPlace.{ListPlace}
 use Rattle.step_table.specs.declared.list_place.ListPlace.TheVariants.{Waiting}
 use Rattle.step_table.specs.declared.list_place.Ticket.{Ticket}
-use Rattle.step_table.specs.declared.list_place.WaitRow.TheVariants.{P}
+use Rattle.step_table.specs.declared.list_place.WaitRow.TheVariants.{Parked}
+use Rattle.step_table.specs.declared.list_place.ListParkedRow.TheVariants.{P}
 use Rattle.step_table.specs.declared.list_place.ListWord.{ListWord}
 use Rattle.step_table.specs.declared.list_place.ListWord.TheVariants.{Lock, Grant}
-use Rattle.step_table.specs.ListWorld.{ListSeat, ListWorld, ListWords, queue_after}
+use Rattle.step_table.specs.ListWorld.{ListSeat, ListWorld, ListWords}
 use Rattle.step_table.specs.EventOf.{store}
 use Rattle.step_table.specs.ListEvent.{ListEvent, ListNext}
 use Rattle.step_table.specs.ListTable.{list_table, list_event_at}
@@ -31,10 +31,10 @@ use Rattle.notify_list.specs.declared.view.Setting.{Setting}
 use Rattle.notify_list.specs.declared.view.Record.{Record}
 use Rattle.notify_list.specs.Setting.{address, IsThere}
 use Rattle.notify_list.specs.Places.{Begins, stands}
-use Rattle.notify_list.specs.Rule.{IsRecord, Homes}
+use Rattle.notify_list.specs.Rule.{guarded_in, guarded_by, guarded_after, IsRecord, Homes}
 use Rattle.notify_list.specs.Rows.{list_rows}
 use Rattle.notify_list.specs.Plays.{Me, standing}
-use Rattle.notify_list.proofs.Keeping.{Fits, RunsIn, known, b, t, after, went, leads, read_is, lock_is, queue_stays, home_stays}
+use Rattle.notify_list.proofs.Keeping.{Fits, RunsIn, known, b, t, after, went, leads, read_is, lock_is, guarded_stays, home_stays}
 
 -- a row that takes the lock
 pub record Takes (z : Setting) (e : ListEvent) (a : ListSeat) (n : ℕ) : Type 0 where
@@ -42,9 +42,9 @@ pub record Takes (z : Setting) (e : ListEvent) (a : ListSeat) (n : ℕ) : Type 0
   pub free : holds a.place ≡ 0
 
 -- a row that gives the lock back, with this record
-pub record Gives (z : Setting) (y : Record) (e : ListEvent) (queue : List Wait) : Type 0 where
+pub record Gives (z : Setting) (y : Record) (e : ListEvent) (g : ListWords) : Type 0 where
   pub fits : Fits z e 2 1 0
-  pub is_record : IsRecord z.seats y (queue_after (e.leads 1).1 queue)
+  pub is_record : IsRecord z y (guarded_after (e.leads 1).1 g)
 
 module _ (m : Me) (a : ListSeat) (ok : Begins m.0.own.knows.sight.stands a) where
   -- the event of the row that begins so
@@ -109,7 +109,7 @@ module _ (m : Me) (a : ListSeat) (ok : Begins m.0.own.knows.sight.stands a) wher
             subst (λ n. Went list_rows begin runs m.0.own n (after m world words homes 2 at a ok 1 fits)) free_is
                 (went_from list_rows (standing a) begin m.0.own (after m world words homes 2 at a ok 1 fits) _ begins
                 (went m world words homes 2 at a ok 1 fits)),
-            (0, home.0, refl, (refl, subst (IsRecord setting.seats home.0) (sym (queue_stays m world words homes 2 at a ok 1 fits (ready w).free)) home.2)),
+            (0, home.0, refl, (refl, subst (IsRecord setting home.0) (sym (guarded_stays m world words homes 2 at a ok 1 fits (ready w).free)) home.2)),
           )
 
       pub row_takes : (k : Setting) → Owes list_rows k m 2 (λ n. either (n == 0) 1 n)
@@ -164,7 +164,7 @@ module _ (k : Setting) (m : Me) (i : ℕ) (a : ListSeat) (is : m.0.own.knows.sig
       ))
 
   -- a grant that is taken, or nothing where there is none
-  pub takes_at : (ticket : Ticket) → a.place ≡ Waiting ticket P → address (Grant m.0.own.number) ≡ i
+  pub takes_at : (ticket : Ticket) → a.place ≡ Waiting ticket (Parked P) → address (Grant m.0.own.number) ≡ i
       → Owes list_rows k m i (λ n. 0) (λ n t. (n ≡ 0 → t ≡ m) × (0 < n → RanRow list_rows here m n t))
   takes_at ticket parked word = owes_own list_rows k m i (λ n. 0) (λ n t. (n ≡ 0 → t ≡ m) × (0 < n → RanRow list_rows here m n t))
       (λ world words homes at. by world words homes at (ℕ_discrete (slice_index words i) 0))
@@ -195,8 +195,8 @@ GivesBack k m = Owes list_rows k m 2 (λ n. 0) (λ n t. strides.runs_unlock list
 -- a store of 0 on the lock word, which the seat holds
 module _ (k : Setting) (m : Me) (a : ListSeat) (is : m.0.own.knows.sight.stands ≡ a) (y : Record)
     (carried : m.1 ≡ (0, y) ∷ []) (holding : holds a.place ≡ 1)
-    (ready : (w : ListWorld) → m.0.own.knows.queue ≡ w.words.queue
-    → Gives m.0.own.knows.setting y (list_table m.0.own.number a w.words) m.0.own.knows.queue) where
+    (ready : (w : ListWorld) → guarded_by m.0.own.knows ≡ guarded_in w.words
+    → Gives m.0.own.knows.setting y (list_table m.0.own.number a w.words) w.words) where
   abbrev with_it : Me
   with_it = (m.0, (0, y) ∷ [])
 
@@ -206,7 +206,7 @@ module _ (k : Setting) (m : Me) (a : ListSeat) (is : m.0.own.knows.sight.stands 
       let ok : Begins m.0.own.knows.sight.stands a = subst (Begins m.0.own.knows.sight.stands) is stands in
       let w : ListWorld = b with_it world words homes 2 at a ok in
       let o = known with_it world words homes 2 at a ok in
-      let G = in_world with_it a ok world words homes 2 at (λ e. Gives m.0.own.knows.setting y e m.0.own.knows.queue) (ready w (o.knows.held holding)) in
+      let G = in_world with_it a ok world words homes 2 at (λ e. Gives m.0.own.knows.setting y e w.words) (ready w (o.knows.held holding)) in
       let lock = ((the_list_accounts.alone m.0.own.knows.setting.first m.0.own.knows.setting.seats w o.laws.invariant m.0.own.number o.there).0
       (ap (λ (q : ListSeat). holds q.place) o.knows.meets.stands ∙ holding)).lock in
       let one : slice_index words 2 ≡ 1 = at.shows.words Lock tt ∙ lock in
@@ -217,8 +217,7 @@ module _ (k : Setting) (m : Me) (a : ListSeat) (is : m.0.own.knows.sight.stands 
       (λ free. (
         y,
         set_here homes 0 (some y) (let d = at.shows.deep in omega arith),
-        subst (λ (q : ℕ × List Wait). IsRecord m.0.own.knows.setting.seats y (queue_after ((event_of w m.0.own.number).leads q.0).1 q.1))
-            (λ j. (sym found_is j, o.knows.held holding j)) G.is_record,
+        subst (λ (q : ℕ). IsRecord m.0.own.knows.setting y (guarded_after ((event_of w m.0.own.number).leads q).1 w.words)) (sym found_is) G.is_record,
       )) (
         slice_index words 2,
         went_from list_rows (standing a) here m.0.own (after with_it world words homes 2 at a ok 0 fits) _ (λ j. standing (sym is j) m.0.own.knows)

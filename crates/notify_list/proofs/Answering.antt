@@ -13,6 +13,7 @@ use Rattle.notify_list.specs.Seats.{ListModel, SeatModel, Token, seat_of, IsToke
 use Rattle.notify_list.specs.Calls.{Calls, ComesTo}
 use Rattle.notify_list.specs.Callers.{IsSeatAfter}
 use Rattle.notify_list.proofs.Parting.{own_of, follows_first, own_between, own_before}
+use Rattle.notify_list.proofs.Early.{reach_then}
 
 -- a seat of a list of few, which has seen what is lawful
 pub record IsSound (s : SeatModel) : Type 0 where
@@ -24,7 +25,7 @@ pub is_sound : (t : Token) (n : ℕ) → IsToken t n → IsSound (seat_of t n)
 is_sound t n is = record {
   few = is.few;
   lawful = subst (λ (v : ListSight). Follows v.seen) (sym is.lands.sees)
-      (the_list_law.reached (setting_of t).first (setting_of t).seats is.lands.world (let few = is.few in omega arith) is.lands.met).journal.0;
+      (the_list_law.reached (setting_of t).first (setting_of t).seats is.lands.world is.lands.met.reach is.lands.met.reached).journal.0;
 }
 
 -- the list of a seat has few seats, where another seat of it is so
@@ -45,6 +46,7 @@ seat_after s t begun stands entries rows lawful comes call =
           ∙ ap (λ l. own_of s.number s.sight.seen ++ own_of s.number l) call.told_is
           ∙ sym (filter-append (is_own s.number) s.sight.seen entries);
       lawful = lawful;
+      reach = call.reach;
     }
 
 -- the seat as it had seen this journal
@@ -60,6 +62,7 @@ module _ (s t : SeatModel) (journal : List ListEntry) (x : IsSeatAfter s [] t) (
     tells = later;
     own = own_between s.number s.sight.seen journal t.sight.seen later now x.own ∙ ap (own_of s.number) (sym (append-nil s.sight.seen));
     lawful = follows_first t.sight.seen journal now x.lawful;
+    reach = reach_then t.sight.seen journal now x.reach;
   }
 
   pub seat_since : IsSeatAfter (seen_as s journal) [] t
@@ -70,6 +73,7 @@ module _ (s t : SeatModel) (journal : List ListEntry) (x : IsSeatAfter s [] t) (
     own = x.own ∙ ap (own_of s.number) (append-nil s.sight.seen) ∙ sym (own_between s.number s.sight.seen journal t.sight.seen later now x.own)
         ∙ ap (own_of s.number) (sym (append-nil journal));
     lawful = x.lawful;
+    reach = x.reach;
   }
 
 -- where it granted by one entry, the seat as it had seen the journal up to that entry
@@ -80,15 +84,17 @@ module _ (s t : SeatModel) (journal : List ListEntry) (upto granted : ℕ)
   parts = own_before s.number s.sight.seen journal t.sight.seen (Granted upto s.number) (Granted granted s.number) later now x.own
       (eq-eqb s.number s.number refl) (eq-eqb s.number s.number refl)
 
+  goes_on : GoesOn t.sight.seen journal
+  goes_on = record { more = Granted granted s.number ∷ now.more; is = now.is ∙ append_assoc journal (Granted granted s.number ∷ []) now.more }
+
   pub seat_before : IsSeatAfter s [] (seen_as s journal)
   seat_before = record {
     list = refl;
     number = refl;
     tells = later;
     own = parts.0 ∙ ap (own_of s.number) (sym (append-nil s.sight.seen));
-    lawful =
-        follows_first t.sight.seen journal
-        (record { more = Granted granted s.number ∷ now.more; is = now.is ∙ append_assoc journal (Granted granted s.number ∷ []) now.more }) x.lawful;
+    lawful = follows_first t.sight.seen journal goes_on x.lawful;
+    reach = reach_then t.sight.seen journal goes_on x.reach;
   }
 
   pub granted_it : IsSeatAfter s (Granted granted s.number ∷ []) t

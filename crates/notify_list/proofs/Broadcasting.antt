@@ -1,5 +1,5 @@
 -- A notification of all as a whole.
-use Rattle.std.proofs.Common.{◌≡◌, ℕ, zero, suc, ◌+◌, true, false, List, [], ◌∷◌, ◌++◌, Option, inl, sym, refl, ap, ◌∙◌, subst}
+use Rattle.std.proofs.Common.{◌≡◌, ℕ, zero, suc, ◌+◌, true, false, List, [], ◌∷◌, ◌++◌, Option, inl, sym, refl, ap, ◌∙◌, subst, length}
 use Rattle.std.proofs.Common.{◌≤◌, arith, append-nil, append_assoc}
 use Rattle.waiters.specs.declared.wait.Wait.{Wait}
 use Rattle.step_table.specs.declared.list_place.AllRow.TheVariants.{L1, L2, L3, L4, L7, L8}
@@ -7,7 +7,7 @@ use Rattle.step_table.specs.declared.list_place.ListPlace.{ListPlace}
 use Rattle.step_table.specs.declared.list_place.ListPlace.TheVariants.{Rest, NotifyingAll}
 use Rattle.step_table.specs.declared.list_place.Ticket.{Ticket}
 use Rattle.step_table.specs.ListEvent.{if_any}
-use Rattle.step_table.specs.ListWorld.{Numbers, ListSeat, ListEntry, Granted}
+use Rattle.step_table.specs.ListWorld.{ListSeat, ListEntry, Granted}
 use Rattle.step_table.specs.ListSteps.{with_ticket}
 use Rattle.step_table.specs.Path.{GoesOn, own_entries}
 use Rattle.step_table.proofs.Paths.{goes_on_more}
@@ -23,7 +23,6 @@ use Rattle.notify_list.specs.Calls.{Calls, AllGranted, rows_of}
 use Rattle.notify_list.specs.NotifyingAll.{looks_all, reach_rows, wake_rows, all_rows, all_entries, NotifiesAll, GrantsSome}
 use Rattle.notify_list.specs.NotifyingAll.{LooksForAll, EndsAll, StoresGrants, GrantsSeats, grants_seat}
 use Rattle.notify_list.specs.GrantingAll.{LookedForAll, IsAt, MayReach, ReachedAll, TakenAll, MayWake, with_waits, WokenSome}
-use Rattle.notify_list.proofs.Parting.{told_last}
 use Rattle.notify_list.proofs.Leading.{equal_is, unequal_is}
 use Rattle.notify_list.proofs.Walking.{walked_on, walked_so, walked_later, token_after, calls, comes_to}
 use Rattle.notify_list.proofs.Resting.{empty_notifying, there_of, laws_there}
@@ -38,11 +37,6 @@ own_none s t n from a entries rows x none is =
     (record { stands = from; seen = seen_of s }) t.me.0.own.knows.sight x.strides x.path
     ∙ ap (λ l. own_entries (watched (setting_of s)) s.me.0.own.number (seen_of s) ++ own_entries (watched (setting_of s)) s.me.0.own.number l)
     (x.told_is ∙ none) ∙ append-nil _)
-
-granted_then : (before : List ListEntry) (i handed n : ℕ) → handed ≡ (told before).granted + n
-    → (told (before ++ all_entries i handed n)).granted ≡ handed
-granted_then before i handed zero e = ap (λ l. (told l).granted) (append-nil before) ∙ omega arith
-granted_then before i handed (suc n) e = ap (λ (x : Numbers). x.granted) (told_last before (Granted handed i))
 
 -- strides of one row, and of two
 one_stride : (strides : List ListStride) (place : ListPlace) (n : ℕ) → rows_of strides ≡ (place, n) ∷ []
@@ -253,20 +247,20 @@ module _ (l : ListModel) (t : Token) (n : ℕ) (N : IsNotifying t n) (own : list
                     ((NotifyingAll N.h L3, 0) ∷ []) w12) R.first;
                 later = R.later;
                 seen = subst (λ (q : List ListEntry). GoesOn (seen_of z) q) (R.seen ∙ ap (λ j. R.before ++ all_entries u.me.0.own.number R.handed j) e
-                    ∙ (λ i. R.before ++ Granted ((R.counted ∙ ap (λ j. (told R.before).granted + j) e) i)
+                    ∙ (λ i. R.before ++ Granted (R.all i)
                     ((w12.number_is ∙ N.token_is.number_is) i) ∷ [])) seen_on;
-                all = sym R.all ∙ R.counted ∙ ap (λ j. (told R.before).granted + j) e;
+                all = sym R.all ∙ R.counted ∙ ap (λ j. (told R.before).passed + j + length (told R.before).gone) e;
               }
 
-          locked_granted : N.h ≤ (told (seen_of z)).granted
+          locked_granted : N.h ≤ (told (seen_of z)).passed
           locked_granted =
-              let at = ap (λ (q : List ListEntry). (told q).granted) R.seen ∙ granted_then R.before u.me.0.own.number R.handed k R.counted in
+              let at = R.passed in
               let token = token_after t z n (a (NotifyingAll N.h L3)) (a Rest) entries rows N.token_is w15 (W.slots ∙ T.bare) in
               let laws = laws_there z.me.0.own token.lands (there_of z n token) token.few in
               let journal = ap (λ (q : ListSight). q.seen) token.lands.sees in
               let stays = (the_list_accounts.stays (setting_of z).first (setting_of z).seats token.lands.world laws.invariant (seen_of v) seen_on.more
-              (sym journal ∙ seen_on.is)).granted in
-              let j = ap (λ (q : List ListEntry). (told q).granted) journal in
+              (sym journal ∙ seen_on.is)).passed in
+              let j = ap (λ (q : List ListEntry). (told q).passed) journal in
               let d = R.reaches in omega arith
 
           pub ends_all : EndsAll (seat_of t n) k (seat_of z n)

@@ -5,7 +5,8 @@ use Rattle.step_table.specs.declared.list_place.ListPlace.TheVariants.{Rest, Add
 use Rattle.step_table.specs.declared.list_place.OneRow.TheVariants.{O1, O2}
 use Rattle.step_table.specs.declared.list_place.ListWord.TheVariants.{Grant}
 use Rattle.step_table.specs.declared.list_place.Ticket.{Ticket}
-use Rattle.step_table.specs.declared.list_place.WaitRow.TheVariants.{W1, W2, W3, W4, P}
+use Rattle.step_table.specs.declared.list_place.WaitRow.TheVariants.{W1, W2, W3, W4, Parked as Asleep}
+use Rattle.step_table.specs.declared.list_place.ListParkedRow.TheVariants.{P}
 use Rattle.step_table.specs.Wrapping.{word_of, less}
 use Rattle.step_table.specs.ListWorld.{Numbers, ListSeat, ListEntry, Took}
 use Rattle.step_law_lists.specs.ListLawful.{told}
@@ -20,8 +21,8 @@ use Rattle.notify_list.specs.Tickets.{with_held, IsAdded, HasLooked, looks, afte
 use Rattle.notify_list.specs.Waiting.{IsWaited, IsGranted, IsQueued, TakesGrant, IsPolled}
 use Rattle.notify_list.specs.Callers.{IsSeatAfter, GetsTicket, WaitsForGrant, FindsAllGranted, EntersWait, PollsGrant}
 use Rattle.notify_list.proofs.Leading.{unequal_is}
-use Rattle.notify_list.proofs.Parting.{told_last}
-use Rattle.notify_list.proofs.Answering.{IsSound, few_then, seat_after, seen_as, seat_between, seat_since}
+use Rattle.step_law_lists.proofs.ListJournals.{told_more}
+use Rattle.notify_list.proofs.Answering.{IsSound, seat_after, seen_as, seat_between, seat_since}
 use Rattle.notify_list.proofs.CallersEnding.{after_look}
 use Rattle.notify_list.proofs.Rereading.{call_ran, finds_handed, finds_granted}
 
@@ -33,7 +34,7 @@ module _ (s t : SeatModel) (is : IsSound t) where
     (
       x.ticket,
       ap (λ (y : ListSeat). y.ticket) x.comes.stands_is,
-      ap (λ (l : List ListEntry). (told l).handed) x.next.seen_is ∙ ap (λ (n : Numbers). n.handed) (told_last x.next.before (Took s.number))
+      ap (λ (l : List ListEntry). (told l).handed) x.next.seen_is ∙ ap (λ (n : Numbers). n.handed) (told_more x.next.before (Took s.number))
           ∙ ap (λ n. n + 1) (sym x.next.number_is),
       x.next.word_is,
     ),
@@ -52,14 +53,13 @@ module _ (s t : SeatModel) (is : IsSound t) where
           let begun : ListSeat = at_place (NotifyingOne 0 O1) s.sight.stands in
           let one = call_ran s t begun [] ((NotifyingOne x.h (O2 x.waited), x.notified) ∷ []) (NotifyingOne 0 O1) x.waited x.call in
           let two = call_ran s t begun ((NotifyingOne 0 O1, x.waited) ∷ []) [] (NotifyingOne x.h (O2 x.waited)) x.notified x.call in
-          let few = few_then s t (after false x).list is in
-          let handed = finds_handed few one (λ seat. refl) in
-          let granted = finds_granted few two (λ seat. refl) in (
+          let handed = finds_handed x.call.reach one (λ seat. refl) in
+          let granted = finds_granted x.call.reach two (λ seat. refl) in (
             seen_as s one.stride.seen,
             seat_between s t one.stride.seen (after false x) one.later one.now,
             seat_since s t one.stride.seen (after false x) one.later one.now,
             λ same. unequal_is x.waited x.notified (sym x.answer)
-                (handed ∙ ap (word_of s.list.setting.first) (sym same ∙ ap (λ (l : List ListEntry). (told l).granted) (two.last refl)) ∙ sym granted),
+                (handed ∙ ap (word_of s.list.setting.first) (sym same ∙ ap (λ (l : List ListEntry). (told l).passed) (two.last refl)) ∙ sym granted),
           )
 
   abbrev waits_by : Ticket → ℕ → List (ListPlace × ℕ) → List (ListPlace × ℕ)
@@ -74,12 +74,12 @@ module _ (s t : SeatModel) (is : IsSound t) where
     looks_with : (ticket : Ticket) (notified : ℕ) (before : Bool) (rest : List (ListPlace × ℕ)) → ComesTo s stands t
         → less ticket.word notified ≡ before
         → Calls s (waiting s.sight.stands) t [] (waits_by ticket notified rest)
-        → (u : SeatModel) × (IsSeatAfter s [] u × (less ticket.word (word_of s.list.setting.first (numbers_seen u).granted) ≡ before))
+        → (u : SeatModel) × (IsSeatAfter s [] u × (less ticket.word (word_of s.list.setting.first (numbers_seen u).passed) ≡ before))
         × TellsIn u.sight.seen [] t.sight.seen
     looks_with ticket notified before rest comes found call =
         let look = call_ran s t (waiting s.sight.stands) ((Waiting ticket W1, 0) ∷ []) rest (Waiting ticket W2) notified call in
         let after = after_wait ticket notified rest comes call in
-        let granted = finds_granted (few_then s t after.list is) look (λ seat. refl) in (
+        let granted = finds_granted call.reach look (λ seat. refl) in (
           seen_as s look.stride.seen,
           (seat_between s t look.stride.seen after look.later look.now, ap (less ticket.word) (sym granted) ∙ found),
           look.now,
@@ -99,7 +99,7 @@ module _ (s t : SeatModel) (is : IsSound t) where
             (x.ticket, x.held, granted x.ticket x.held, looks_with rested x.ticket x.notified true rest x.comes x.how.0 x.how.1),
           )
       by Parked x =
-          let rest = (Waiting x.ticket W4, 1) ∷ (Waiting x.ticket P, 1) ∷ [] in (
+          let rest = (Waiting x.ticket W4, 1) ∷ (Waiting x.ticket (Asleep P), 1) ∷ [] in (
             after_wait rested x.ticket x.notified rest x.comes x.how.1,
             ap (λ (y : ListSeat). y.ticket) x.comes.stands_is,
             (x.ticket, x.held, granted x.ticket x.held, looks_with rested x.ticket x.notified false rest x.comes x.how.0 x.how.1),
@@ -111,7 +111,7 @@ module _ (s t : SeatModel) (is : IsSound t) where
   pub enters_queued : IsQueued s t → EntersWait s (entered.Queued t)
   enters_queued x =
       let parked : ListSeat
-      = record { place = Waiting x.ticket P; ticket = None; hand = s.sight.stands.hand; late = t.sight.stands.late } in
+      = record { place = Waiting x.ticket (Asleep P); ticket = None; hand = s.sight.stands.hand; late = t.sight.stands.late } in
       let rest = (Waiting x.ticket W4, 1) ∷ [] in (
         after_wait parked x.ticket x.notified rest x.comes x.call,
         (
@@ -127,7 +127,7 @@ module _ (s t : SeatModel) (is : IsSound t) where
 
   pub polls_granted : TakesGrant s t → PollsGrant s (polled.Granted t)
   polls_granted x = (
-    seat_after s t s.sight.stands (at_place Rest s.sight.stands) [] ((Waiting x.ticket P, 1) ∷ []) is.lawful x.comes x.call,
+    seat_after s t s.sight.stands (at_place Rest s.sight.stands) [] ((Waiting x.ticket (Asleep P), 1) ∷ []) is.lawful x.comes x.call,
     ap (λ (y : ListSeat). y.ticket) x.comes.stands_is,
     (x.ticket, x.parked, x.granted),
   )

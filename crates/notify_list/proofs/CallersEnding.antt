@@ -25,6 +25,7 @@ after_look s t word n lawful x =
       tells = x.later;
       own = ap (λ (v : ListSight). own_of s.number v.seen) only.leads ∙ x.ran.meets.quiet ∙ ap (own_of s.number) (sym (append-nil s.sight.seen));
       lawful = lawful;
+      reach = x.reach;
     }
 
 pub stands_on : (s t : SeatModel) → Follows t.sight.seen → FindsHeld s t → StandsOn s t
@@ -43,6 +44,7 @@ pub ends_list : (z : Setting) (seats : List SeatModel) (c : ListClosed) → IsCl
 ends_list z seats c x = record {
   journal = x.world.journal;
   lawful = x.lawful.journal.0;
+  reach = x.met.reach;
   begins = x.begins;
   each = x.each;
   own = x.own;

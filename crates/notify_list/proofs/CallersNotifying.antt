@@ -1,7 +1,7 @@
 -- What notifying one and all are to their caller, from what they are in rows.
 use Rattle.std.proofs.Common.{◌≡◌, ◌≢◌, ◌⊎◌, ℕ, zero, suc, ◌+◌, List, [], ◌∷◌, ◌++◌, Option, Some, None, Result, Ok, Err, IfSome, IfNone, IfOk, MatchResult, inl}
 use Rattle.std.proofs.Common.{false}
-use Rattle.std.proofs.Common.{inr, ⊎_elim, sym, subst, arith}
+use Rattle.std.proofs.Common.{inr, ⊎_elim, sym, arith}
 use Rattle.waiters.specs.declared.wait.Wait.{Wait}
 use Rattle.step_table.specs.declared.list_place.ListPlace.{ListPlace}
 use Rattle.step_table.specs.declared.list_place.ListPlace.TheVariants.{Rest, NotifyingOne, NotifyingAll}
@@ -26,7 +26,7 @@ use Rattle.notify_list.proofs.Answering.{seat_after, seen_as, seat_between, seat
 module _ (s t : SeatModel) (lawful : Follows t.sight.seen) where
   -- the least ticket was granted
   least : (word upto : ℕ) → IsSeatAfter s (Granted upto s.number ∷ []) t → GrantsLeast s word t → NotifiesOneTicket s (Some word) t
-  least word upto after g = let granted = (told g.before).granted + 1 in (
+  least word upto after g = let granted = (told g.before).passed + 1 in (
     seen_as s g.before,
     seat_before s t g.before upto granted after g.later g.seen,
     g.handed,
@@ -56,8 +56,7 @@ module _ (s t : SeatModel) (lawful : Follows t.sight.seen) where
   -- all were granted that were handed out
   all_seen : (n handed : ℕ) → IsSeatAfter s (Granted handed s.number ∷ []) t → GrantsUpTo s (suc n) t → GrantsAllSeen s (suc n) t
   all_seen n handed after g =
-      let now : GoesOn t.sight.seen (g.before ++ Granted (told g.look).handed s.number ∷ [])
-      = subst (λ k. GoesOn t.sight.seen (g.before ++ Granted k s.number ∷ [])) (sym g.all) g.seen in
+      let now : GoesOn t.sight.seen (g.before ++ Granted (told g.look).handed s.number ∷ []) = g.seen in
       let later = goes_on_more s.sight.seen g.look g.before g.first g.later in
       let before = seat_before s t g.before handed (told g.look).handed after later now in (
         seen_as s g.look,

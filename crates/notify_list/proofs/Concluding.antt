@@ -1,5 +1,5 @@
 -- A notification of all as a whole: its two looks, and the rows from the lock on.
-use Rattle.std.proofs.Common.{◌≡◌, ℕ, zero, suc, ◌+◌, [], ◌∷◌, ◌++◌, Result, Ok, Err, IfOk, MatchResult, inr, sym, ap}
+use Rattle.std.proofs.Common.{◌≡◌, ℕ, zero, suc, [], ◌∷◌, ◌++◌, Result, Ok, Err, IfOk, MatchResult, inr, sym, ap}
 use Rattle.std.proofs.Common.{◌∙◌, subst, arith, append-nil}
 use Rattle.step_table.specs.declared.list_place.AllRow.TheVariants.{L1, L3}
 use Rattle.step_table.specs.declared.list_place.ListPlace.TheVariants.{Rest, NotifyingAll}
@@ -81,7 +81,7 @@ module _ (s u : SeatModel) (x : LooksForAll s u) where
           look = g.look;
           first = goes_on_more s.sight.seen u.sight.seen g.look (call_later s u a [] (looks_all x.h x.waited x.notified) x.call) g.first;
           later = g.later;
-          seen = subst (λ i. GoesOn t.sight.seen (g.before ++ Granted ((told g.before).granted + suc m) i ∷ [])) number_is g.seen;
+          seen = subst (λ i. GoesOn t.sight.seen (g.before ++ Granted (told g.look).handed i ∷ [])) number_is g.seen;
           all = g.all;
         }
 

@@ -15,11 +15,11 @@ use Rattle.step_table.specs.ListWorld.{ListSeat}
 use Rattle.notify_list.specs.declared.view.Setting.{Setting}
 use Rattle.notify_list.specs.declared.view.Record.{Record}
 use Rattle.notify_list.specs.Places.{at_place}
-use Rattle.notify_list.specs.Rule.{IsRecord}
+use Rattle.notify_list.specs.Rule.{Guarded, IsRecord}
 use Rattle.notify_list.specs.Plays.{Me, ListView}
-use Rattle.notify_list.specs.Seats.{ListModel, Token, queue_of, setting_of, stands_of}
+use Rattle.notify_list.specs.Seats.{ListModel, Token, guarded_of, queue_of, with_queue, setting_of, stands_of}
 use Rattle.notify_list.specs.Walks.{Walked, HasRecord, Edited}
-use Rattle.notify_list.specs.Records.{HasWaits, FirstOut}
+use Rattle.notify_list.specs.Records.{HasGuarded, FirstOut}
 use Rattle.notify_list.specs.GrantingAll.{MayReach, ReachedAll, MayTake, TakenAll, with_waits}
 use Rattle.notify_list.proofs.Allowing.{GivesBack}
 use Rattle.notify_list.proofs.Leading.{Ran, Led, led, Gave, gave_from}
@@ -27,50 +27,56 @@ use Rattle.notify_list.proofs.Walking.{walked_row}
 use Rattle.notify_list.proofs.Recording.{changed_open, gives_edited}
 
 -- what is lent is the record
-pub lent_waits : (s : Token) (lent : Record) (queue : List Wait) → HasWaits s queue → s.me.1 ≡ (0, lent) ∷ rest s.me.1
-    → IsRecord (setting_of s).seats lent queue
-lent_waits s lent queue h value = subst (λ (y : Record). IsRecord (setting_of s).seats y queue) (ap (first_of h.0) (sym h.1 ∙ value)) h.2
+pub lent_waits : (s : Token) (lent : Record) (g : Guarded) → HasGuarded s g → s.me.1 ≡ (0, lent) ∷ rest s.me.1
+    → IsRecord (setting_of s) lent g
+lent_waits s lent g h value = subst (λ (y : Record). IsRecord (setting_of s) y g) (ap (first_of h.0) (sym h.1 ∙ value)) h.2
   where
     first_of : Record → List (ℕ × Record) → Record
     first_of y [] = y
     first_of y (x ∷ l) = x.1
 
-written_back : (s : Token) (y : Record) (queue left : List Wait) → HasWaits s queue
-    → IsRecord (setting_of s).seats y left → Edited s left (seat_with s 0 y)
-written_back s y queue left h made = (refl, (y, (λ i. (s.me.0, (0, y) ∷ rest (h.1 i))), made))
+pub written_back : (s : Token) (y : Record) (g left : Guarded) → HasGuarded s g
+    → IsRecord (setting_of s) y left → Edited s left (seat_with s 0 y)
+written_back s y g left h made = (refl, (y, (λ i. (s.me.0, (0, y) ∷ rest (h.1 i))), made))
 
 -- no wait is left
-pub first_none : (s : Token) (y : Record) (lists : Lists) (queue : List Wait) → HasWaits s queue → IsRecord (setting_of s).seats y queue
+pub first_none : (s : Token) (y : Record) (lists : Lists) (g : Guarded) → HasGuarded s g → IsRecord (setting_of s) y g
     → None ≡ slice_get (waits_at y.lists y.key) 0 → lists ≡ y.lists
-    → FirstOut s queue None (seat_with s 0 (record y { lists = lists }))
-first_none s y lists queue h is first same = by queue is h (first ∙ ap (λ l. slice_get l 0) is.waits)
+    → FirstOut s g None (seat_with s 0 (record y { lists = lists }))
+first_none s y lists g h is first same = (
+  by g.queue (first ∙ ap (λ l. slice_get l 0) is.waits),
+  written_back s (record y { lists = lists }) g g h (subst (λ (l : Lists). IsRecord (setting_of s) (record y { lists = l }) g) (sym same) is),
+)
   where
-    by : (q : List Wait) → IsRecord (setting_of s).seats y q → HasWaits s q → None ≡ slice_get (erased_waits q) 0
-        → FirstOut s q None (seat_with s 0 (record y { lists = lists }))
-    by [] r k e = (
-      refl,
-      written_back s (record y { lists = lists }) [] [] k (subst (λ (l : Lists). IsRecord (setting_of s).seats (record y { lists = l }) []) (sym same) r),
-    )
-    by (w ∷ q) r k e = absurd cc
+    by : (q : List Wait) → None ≡ slice_get (erased_waits q) 0 → q ≡ []
+    by [] e = refl
+    by (w ∷ q) e = absurd cc
 
-pub first_some : (s : Token) (y : Record) (lists : Lists) (queue : List Wait) (wait : Wait) (seat : ℕ) → HasWaits s queue
-    → IsRecord (setting_of s).seats y queue → Some wait ≡ slice_get (waits_at y.lists y.key) 0
+pub first_some : (s : Token) (y : Record) (lists : Lists) (g : Guarded) (wait : Wait) (seat : ℕ) → HasGuarded s g
+    → IsRecord (setting_of s) y g → Some wait ≡ slice_get (waits_at y.lists y.key) 0
     → Changes y.lists lists y.key (Some (drop 1 (waits_at y.lists y.key))) → lists.room ≡ y.lists.room + 1 → seat ≡ wait.id.seat
-    → FirstOut s queue (Some seat) (seat_with s 0 (record y { lists = lists }))
-first_some s y lists queue wait seat h is first change room same = by queue is h (first ∙ ap (λ l. slice_get l 0) is.waits)
+    → FirstOut s g (Some seat) (seat_with s 0 (record y { lists = lists }))
+first_some s y lists g wait seat h is first change room same = by g.queue refl (first ∙ ap (λ l. slice_get l 0) is.waits)
   where
-    by : (q : List Wait) → IsRecord (setting_of s).seats y q → HasWaits s q → Some wait ≡ slice_get (erased_waits q) 0
-        → FirstOut s q (Some seat) (seat_with s 0 (record y { lists = lists }))
-    by [] r k e = absurd cc
-    by (w ∷ q) r k e =
+    by : (q : List Wait) → g.queue ≡ q → Some wait ≡ slice_get (erased_waits q) 0
+        → FirstOut s g (Some seat) (seat_with s 0 (record y { lists = lists }))
+    by [] r e = absurd cc
+    by (w ∷ q) r e =
         let is_it : wait ≡ erased_wait w = cc in
         let c = changed_open y.lists lists y.key (drop 1 (waits_at y.lists y.key)) change in (
           w,
           q,
-          refl,
+          r,
           ap (λ (x : Wait). x.id.seat) (sym is_it) ∙ sym same,
-          written_back s (record y { lists = lists }) (w ∷ q) q k
-              (record { opened = c.0; waits = c.1 ∙ ap (drop 1) r.waits; room = let a = r.room in omega (arith, room) }),
+          written_back s (record y { lists = lists }) g (with_queue q g) h
+              (record {
+                opened = c.0;
+                waits = c.1 ∙ ap (drop 1) (is.waits ∙ ap erased_waits r);
+                room = let a = is.room in let b = ap length r in omega (arith, room);
+                live = is.live;
+                fits = is.fits;
+                early = is.early;
+              }),
         )
 
 -- of the waits of the list so many were taken out, and their seats are in the hand
@@ -80,7 +86,7 @@ pub record Emptied (s : Token) (t : Token) (seats : List ℕ) : Type 0 where
   pub parts : queue_of s ≡ gone ++ left
   pub table : t.table_id ≡ s.table_id
   pub view : t.me.0 ≡ s.me.0
-  pub has : HasWaits t left
+  pub has : HasGuarded t (with_queue left (guarded_of s))
   pub items : seats ≡ map (λ (w : Wait). w.id.seat) gone
   pub few : length (queue_of s) ≤ 256
 
@@ -96,7 +102,7 @@ none_emptied s seats h few none = record {
   few = let r = h.2.room in omega arith;
 }
 
-pub emptied_few : (s t : Token) (seats : List ℕ) (seat : ℕ) (u : Token) (x : Emptied s t seats) → FirstOut t x.left (Some seat) u → length seats < 256
+pub emptied_few : (s t : Token) (seats : List ℕ) (seat : ℕ) (u : Token) (x : Emptied s t seats) → FirstOut t (with_queue x.left (guarded_of s)) (Some seat) u → length seats < 256
 emptied_few s t seats seat u x out =
     let a = ap length x.parts in let b = length-append x.gone x.left in let c = ap length out.2 in let d = ap length x.items in
     let e = length_map x.gone in let f = x.few in omega arith
@@ -105,7 +111,7 @@ emptied_few s t seats seat u x out =
     length_map [] = refl
     length_map (w ∷ l) = ap Rattle.std.proofs.Common.suc (length_map l)
 
-pub one_emptied : (s t : Token) (seats more : List ℕ) (seat : ℕ) (u : Token) (x : Emptied s t seats) → FirstOut t x.left (Some seat) u
+pub one_emptied : (s t : Token) (seats more : List ℕ) (seat : ℕ) (u : Token) (x : Emptied s t seats) → FirstOut t (with_queue x.left (guarded_of s)) (Some seat) u
     → more ≡ seats ++ seat ∷ [] → Emptied s u more
 one_emptied s t seats more seat u x out added = record {
   gone = x.gone ++ out.0 ∷ [];
@@ -116,23 +122,24 @@ one_emptied s t seats more seat u x out added = record {
   has = (
     out.4.1.0,
     ap (λ (m : Me). m.1) out.4.1.1,
-    subst (λ (v : ListView). IsRecord v.own.knows.setting.seats out.4.1.0 out.1) (sym (ap (λ (m : Me). m.0) out.4.1.1)) out.4.1.2,
+    subst (λ (v : ListView). IsRecord v.own.knows.setting out.4.1.0 (with_queue out.1 (guarded_of s))) (sym (ap (λ (m : Me). m.0) out.4.1.1)) out.4.1.2,
   );
   items = added ∙ (λ i. x.items i ++ sym out.3 i ∷ []) ∙ sym (map-append (λ (w : Wait). w.id.seat) x.gone (out.0 ∷ []));
   few = x.few;
 }
 
-pub all_emptied : (s t : Token) (seats : List ℕ) (u : Token) (x : Emptied s t seats) → FirstOut t x.left None u → Edited s [] u
+pub all_emptied : (s t : Token) (seats : List ℕ) (u : Token) (x : Emptied s t seats) → FirstOut t (with_queue x.left (guarded_of s)) None u → Edited s (with_queue [] (guarded_of s)) u
 all_emptied s t seats u x out = (
   out.1.0 ∙ x.table,
   (
     out.1.1.0,
     out.1.1.1 ∙ (λ i. (x.view i, (0, out.1.1.0) ∷ [])),
-    subst (λ (v : ListView). IsRecord v.own.knows.setting.seats out.1.1.0 []) x.view out.1.1.2,
+    subst (λ (v : ListView). IsRecord v.own.knows.setting out.1.1.0 (with_queue [] (guarded_of s))) x.view
+        (subst (λ l. IsRecord (setting_of t) out.1.1.0 (with_queue l (guarded_of s))) out.0 out.1.1.2),
   ),
 )
 
-pub all_seats : (s t : Token) (seats : List ℕ) (u : Token) (x : Emptied s t seats) → FirstOut t x.left None u
+pub all_seats : (s t : Token) (seats : List ℕ) (u : Token) (x : Emptied s t seats) → FirstOut t (with_queue x.left (guarded_of s)) None u
     → seats ≡ map (λ (w : Wait). w.id.seat) (queue_of s)
 all_seats s t seats u x out = x.items ∙ ap (map (λ (w : Wait). w.id.seat)) (sym (append-nil x.gone) ∙ ap (λ l. x.gone ++ l) (sym out.0) ∙ sym x.parts)
 
@@ -144,10 +151,11 @@ module _ (l : ListModel) (s : Token) (h n : ℕ) (may : MayTake l s h n) where
   stands7 : stands_of s ≡ at7
   stands7 = λ i. record (stands_of s) { place = may.0.at i }
 
-  pub gives_all : (k : Setting) (t : Token) → Edited s [] t → GivesBack k t.me
-  gives_all k t E = gives_edited k s t at7 stands7 [] E refl (λ w e. (record { word = refl; there = tt; can = refl; becomes = refl }, refl))
+  pub gives_all : (k : Setting) (t : Token) → Edited s (with_queue [] (guarded_of s)) t → GivesBack k t.me
+  gives_all k t E = gives_edited k s t at7 stands7 (with_queue [] (guarded_of s)) E refl
+      (λ w e. (record { word = refl; there = tt; can = refl; becomes = refl }, ap (with_queue []) (sym e)))
 
-  module _ (t u : Token) (E : Edited s [] t) (r : Gave t u) (same : u.table_id ≡ t.table_id) where
+  module _ (t u : Token) (E : Edited s (with_queue [] (guarded_of s)) t) (r : Gave t u) (same : u.table_id ≡ t.table_id) where
     row7 : Ran at7 s.me.0.own 1 u.me.0.own
     row7 = gave_from s t u at7 (ap (λ (m : Me). m.0.own) E.1.1) stands7 refl may.0.few (λ g. refl) r
 
@@ -156,9 +164,9 @@ module _ (l : ListModel) (s : Token) (h n : ℕ) (may : MayTake l s h n) where
 
     stands_after : stands_of u ≡ with_waits h (queue_of s) (stands_of s)
     stands_after = d7.stands ∙ (λ i. record {
-      place = if_any (sym (d7.held refl) i) (NotifyingAll h L8) Rest;
+      place = if_any (sym (d7.held refl) i).queue (NotifyingAll h L8) Rest;
       ticket = (stands_of s).ticket;
-      hand = may.2 i ++ sym (d7.held refl) i;
+      hand = may.2 i ++ (sym (d7.held refl) i).queue;
       late = (stands_of s).late;
     })
 

@@ -8,7 +8,7 @@ use Rattle.step_table.specs.declared.list_place.ListEffect.TheVariants.{Nothing,
 use Rattle.step_table.specs.declared.list_place.ListPlace.TheVariants.{Rest, NotifyingOne}
 use Rattle.step_table.specs.declared.list_place.OneRow.TheVariants.{O7, O8, O9}
 use Rattle.step_table.specs.Wrapping.{word_of}
-use Rattle.step_table.specs.ListWorld.{Numbers, ListSeat, ListEntry, Granted, queue_after, hand_after, ticket_after, one_or_none}
+use Rattle.step_table.specs.ListWorld.{Numbers, ListSeat, ListEntry, Granted, hand_after, ticket_after, one_or_none}
 use Rattle.step_table.specs.ListEvent.{ListNext, by_found}
 use Rattle.step_table.specs.Path.{GoesOn}
 use Rattle.step_table.proofs.Paths.{goes_on_more}
@@ -16,16 +16,24 @@ use Rattle.step_law_lists.specs.ListLawful.{told}
 use Rattle.step_law_lists.specs.ListInvariant.{Knows}
 use Rattle.step_law_lists.specs.ListPlaces.{ReachedList}
 use Rattle.step_law_lists.specs.ListPath.{entries_of}
+use Rattle.step_table.specs.ListWorld.{ListWorld, first_left}
+use Rattle.step_table.specs.Wrapping.{next_word}
+use Rattle.step_table.proofs.Wrapping.{word_next}
+use Rattle.step_law_lists.specs.ListLawful.{IsInReach}
+use Rattle.step_law_lists.proofs.ListKeeping.{within_of, near_of}
+use Rattle.step_law_lists.proofs.ListLawfulness.{known_at}
+use Rattle.step_law_lists.proofs.ListWriting.{passing_words}
 use Rattle.running_rows.specs.Strides.{RanRow, here}
 use Rattle.notify_list.specs.declared.view.Setting.{Setting}
 use Rattle.notify_list.specs.Places.{at_place}
 use Rattle.notify_list.specs.Rows.{list_rows}
+use Rattle.notify_list.specs.Rule.{Guarded, guarded_in, guarded_after, IsRecord}
 use Rattle.notify_list.specs.Plays.{Me}
-use Rattle.notify_list.specs.Seats.{ListModel, Token, list_of, queue_of, seen_of, setting_of, stands_of}
-use Rattle.notify_list.specs.Walks.{Walked}
+use Rattle.notify_list.specs.Seats.{ListModel, Token, guarded_of, with_queue, list_of, queue_of, seen_of, setting_of, stands_of}
+use Rattle.notify_list.specs.Walks.{Walked, HasRecord}
 use Rattle.notify_list.specs.Records.{IsOut}
 use Rattle.notify_list.specs.Notifying.{grants_it, GivesLockLast}
-use Rattle.notify_list.specs.Granting.{MayGrant, GrantedOne, grant_rows}
+use Rattle.notify_list.specs.Granting.{MayStore, GrantedOne, grant_rows, one_granted}
 use Rattle.notify_list.proofs.Keeping.{laws_of}
 use Rattle.notify_list.proofs.Allowing.{GivesBack}
 use Rattle.notify_list.proofs.Leading.{Ran, Led, led, ran_from, Gave, gave_from}
@@ -42,16 +50,17 @@ pub gives_out : (k : Setting) (s t : Token) (h ticket : ℕ) (found_it : Option 
     → stands_of s ≡ at_place (NotifyingOne h (O8 ticket)) (stands_of s) → IsOut s ticket found_it t
     → GivesBack k t.me
 gives_out k s t h ticket None is out =
-    gives_edited k s t (at_place (NotifyingOne h (O8 ticket)) (stands_of s)) is (queue_of s) out.1 refl
+    gives_edited k s t (at_place (NotifyingOne h (O8 ticket)) (stands_of s)) is (guarded_of s) out.1 refl
     (λ w e. (
       record { word = refl; there = tt; can = refl; becomes = refl },
-      ap (λ o. queue_after (by_wait h ticket o).1 (queue_of s)) (ap (first_with ticket) (sym e) ∙ out.0),
+      ap (λ o. guarded_after (by_wait h ticket o).1 w.words) (ap (λ (g : Guarded). first_with ticket g.queue) (sym e) ∙ out.0) ∙ sym e,
     ))
 gives_out k s t h ticket (Some seat) is out =
-    gives_edited k s t (at_place (NotifyingOne h (O8 ticket)) (stands_of s)) is (without_first ticket (queue_of s)) out.3 refl
+    gives_edited k s t (at_place (NotifyingOne h (O8 ticket)) (stands_of s)) is (with_queue (without_first ticket (queue_of s)) (guarded_of s)) out.3 refl
     (λ w e. (
       record { word = refl; there = tt; can = refl; becomes = refl },
-      ap (λ o. queue_after (by_wait h ticket o).1 (queue_of s)) (ap (first_with ticket) (sym e) ∙ out.1),
+      ap (λ o. guarded_after (by_wait h ticket o).1 w.words) (ap (λ (g : Guarded). first_with ticket g.queue) (sym e) ∙ out.1)
+          ∙ ap (λ (g : Guarded). with_queue (without_first ticket g.queue) g) (sym e),
     ))
 
 -- the token after the list was edited
@@ -64,7 +73,23 @@ told_none : (i h ticket : ℕ) (o : Option Wait) → entries_of i (by_wait h tic
 told_none i h ticket None = refl
 told_none i h ticket (Some w) = refl
 
-module _ (l : ListModel) (s : Token) (h ticket : ℕ) (may : MayGrant l s h ticket) where
+-- in a world that the seat meets at O7, this is the word that is stored
+pub stores_next : (s : Token) (h ticket next : ℕ) (w : ListWorld) → next ≡ word_of (setting_of s).first (one_granted (guarded_of s)).passed
+    → ReachedList (setting_of s).first (setting_of s).seats w → IsInReach w.journal → s.me.0.own.number < (setting_of s).seats
+    → (w.seats s.me.0.own.number).place ≡ NotifyingOne h (O7 ticket) → guarded_of s ≡ guarded_in w.words
+    → next ≡ first_left next_word w.words.gone (next_word ticket)
+stores_next s h ticket next w next_is laws reach there at held =
+    let first : ℕ = (setting_of s).first in
+    let inv = laws.invariant in
+    let knows = known_at first (setting_of s).seats w s.me.0.own.number inv there (NotifyingOne h (O7 ticket)) at in
+    let from : next_word ticket ≡ word_of first (w.words.numbers.passed + 1)
+    = ap next_word (knows.0 ∙ inv.words.1) ∙ word_next first w.words.numbers.passed in
+    next_is ∙ ap (λ (g : Guarded). word_of first (one_granted g).passed) held
+    ∙ sym ((passing_words first w.words.numbers.handed w.words.numbers.passed (w.words.numbers.passed + 1) w.words.numbers.gone
+    (within_of first (setting_of s).seats w inv) (near_of first (setting_of s).seats w reach inv) (omega arith) (let less = knows.2 in omega arith)).0)
+    ∙ (λ i. first_left next_word (sym inv.words.3 i) (sym from i))
+
+module _ (l : ListModel) (s : Token) (h ticket next : ℕ) (may : MayStore l s h ticket next) where
   abbrev at7 : ListSeat
   at7 = at_place (NotifyingOne h (O7 ticket)) (stands_of s)
 
@@ -79,27 +104,38 @@ module _ (l : ListModel) (s : Token) (h ticket : ℕ) (may : MayGrant l s h tick
     d7 = led at7 s.me.0.own t.me.0.own n row7
 
     laws7 : ReachedList (setting_of s).first (setting_of s).seats d7.world
-    laws7 = laws_of (setting_of s) d7.world may.few d7.met
+    laws7 = laws_of (setting_of s) d7.world d7.met
 
-    knows7 : (ticket ≡ d7.world.words.notify) × (h ≤ d7.world.words.numbers.handed) × (d7.world.words.numbers.granted < d7.world.words.numbers.handed)
+    knows7 : (ticket ≡ d7.world.words.notify) × (h ≤ d7.world.words.numbers.handed) × (d7.world.words.numbers.passed < d7.world.words.numbers.handed)
     knows7 = subst (λ (a : ListSeat). Knows (setting_of s).first d7.world.words s.me.0.own.number a.place a.late) d7.stood
         (laws7.invariant.seats_known s.me.0.own.number may.there).knows
 
     numbers7 : d7.world.words.numbers ≡ told row7.stride.seen
     numbers7 = laws7.invariant.numbers ∙ ap told (sym d7.seen_is)
 
+    -- the record tells what lies under the lock then
+    pub record8 : t.me.1 ≡ s.me.1 → HasRecord t
+    record8 slots = (
+      may.has.0,
+      slots ∙ may.has.1,
+      subst (λ (q : Setting × Guarded). IsRecord q.0 may.has.0 q.1) (λ i. (sym row7.same.1 i, guarded8 i)) may.has.2,
+    )
+      where
+        guarded8 : one_granted (guarded_of s) ≡ guarded_of t
+        guarded8 = ap one_granted (d7.held refl) ∙ sym d7.guarded
+
     abbrev at8 : ListSeat
     at8 = at_place (NotifyingOne h (O8 ticket)) (stands_of s)
 
     abbrev told7 : List ListEntry
-    told7 = Granted ((told row7.stride.seen).granted + 1) s.me.0.own.number ∷ []
+    told7 = Granted ((told row7.stride.seen).passed + 1) s.me.0.own.number ∷ []
 
-    w7 : Walked s at7 t at8 (Granted ((told row7.stride.seen).granted + 1) s.me.0.own.number ∷ []) ((NotifyingOne h (O7 ticket), ticket) ∷ [])
+    w7 : Walked s at7 t at8 (Granted ((told row7.stride.seen).passed + 1) s.me.0.own.number ∷ []) ((NotifyingOne h (O7 ticket), ticket) ∷ [])
     w7 =
-        subst (λ (k : ℕ). Walked s at7 t at8 (Granted ((told row7.stride.seen).granted + 1) s.me.0.own.number ∷ [])
+        subst (λ (k : ℕ). Walked s at7 t at8 (Granted ((told row7.stride.seen).passed + 1) s.me.0.own.number ∷ [])
         ((NotifyingOne h (O7 ticket), k) ∷ [])) (d7.read ∙ sym knows7.0)
-        (walked_row s t at7 n at8 (Granted ((told row7.stride.seen).granted + 1) s.me.0.own.number ∷ []) row7 same d7.stands
-        (d7.told ∙ ap (λ (x : Numbers). Granted (x.granted + 1) s.me.0.own.number ∷ []) numbers7))
+        (walked_row s t at7 n at8 (Granted ((told row7.stride.seen).passed + 1) s.me.0.own.number ∷ []) row7 same d7.stands
+        (d7.told ∙ ap (λ (x : Numbers). Granted (x.passed + 1) s.me.0.own.number ∷ []) numbers7))
 
     pub stands8 : stands_of t ≡ at_place (NotifyingOne h (O8 ticket)) (stands_of t)
     stands8 = λ i. record (stands_of t) { place = ap (λ (a : ListSeat). a.place) w7.stands_is i }
@@ -128,7 +164,7 @@ module _ (l : ListModel) (s : Token) (h ticket : ℕ) (may : MayGrant l s h tick
       }
 
       first8 : (o : Option Wait) → first_with ticket (queue_of t) ≡ o → first_with ticket d8.world.words.queue ≡ o
-      first8 o e = ap (first_with ticket) (sym (d8.held refl)) ∙ e
+      first8 o e = ap (λ (g : Guarded). first_with ticket g.queue) (sym (d8.held refl)) ∙ e
 
       only8 : (o : Option Wait) → first_with ticket (queue_of t) ≡ o → (b : ListSeat) → found8 o ≡ b
           → Walked t at8 u b [] ((NotifyingOne h (O8 ticket), 1) ∷ [])
@@ -136,7 +172,7 @@ module _ (l : ListModel) (s : Token) (h ticket : ℕ) (may : MayGrant l s h tick
           (d8.stands ∙ ap found8 (first8 o e) ∙ is) (d8.told ∙ told_none t.me.0.own.number h ticket (first_with ticket d8.world.words.queue))
 
       w8 : (o : Option Wait) → first_with ticket (queue_of t) ≡ o → (b : ListSeat) → found8 o ≡ b
-          → Walked s at7 u b (Granted ((told row7.stride.seen).granted + 1) s.me.0.own.number ∷ []) (grant_rows h ticket)
+          → Walked s at7 u b (Granted ((told row7.stride.seen).passed + 1) s.me.0.own.number ∷ []) (grant_rows h ticket)
       w8 o e b is =
           walked_on s t u at7 at8 b told7 [] ((NotifyingOne h (O7 ticket), ticket) ∷ []) ((NotifyingOne h (O8 ticket), 1) ∷ []) w7 (only8 o e b is)
 
@@ -150,9 +186,9 @@ module _ (l : ListModel) (s : Token) (h ticket : ℕ) (may : MayGrant l s h tick
         later = d7.later;
         seen =
             subst (λ l. GoesOn (seen_of z) l) (d7.seen ∙ ap (λ l. row7.stride.seen ++ l)
-            (d7.told ∙ ap (λ (x : Numbers). Granted (x.granted + 1) s.me.0.own.number ∷ []) numbers7)) more;
-        handed = subst (λ (x : Numbers). x.granted < x.handed) numbers7 knows7.2;
-        word_is = knows7.0 ∙ laws7.invariant.words.1 ∙ ap (λ (x : Numbers). word_of (setting_of s).first x.granted) numbers7;
+            (d7.told ∙ ap (λ (x : Numbers). Granted (x.passed + 1) s.me.0.own.number ∷ []) numbers7)) more;
+        handed = subst (λ (x : Numbers). x.passed < x.handed) numbers7 knows7.2;
+        word_is = knows7.0 ∙ laws7.invariant.words.1 ∙ ap (λ (x : Numbers). word_of (setting_of s).first x.passed) numbers7;
         bare = bare;
         walked =
             subst (λ (a : ListSeat). Walked s a z (at_place Rest (stands_of s)) told7 (grant_rows h ticket)
@@ -190,7 +226,7 @@ module _ (l : ListModel) (s : Token) (h ticket : ℕ) (may : MayGrant l s h tick
 
         pub to9 : Walked s (at_place (NotifyingOne h (O7 ticket)) (stands_of s)) u
             (record { place = NotifyingOne h O9; ticket = (stands_of s).ticket; hand = w ∷ []; late = (stands_of s).late })
-            (Granted ((told row7.stride.seen).granted + 1) s.me.0.own.number ∷ []) (grant_rows h ticket)
+            (Granted ((told row7.stride.seen).passed + 1) s.me.0.own.number ∷ []) (grant_rows h ticket)
         to9 = w8 (Some w) first at9 is9
 
         setting9 : setting_of u ≡ setting_of s

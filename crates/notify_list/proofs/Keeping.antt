@@ -9,7 +9,7 @@ use Rattle.step_table.specs.declared.list_place.ListWord.{ListWord}
 use Rattle.step_table.specs.declared.list_place.ListWord.TheVariants.{Lock}
 use Rattle.step_table.specs.ListWorld.{ListSeat, ListWorld, found}
 use Rattle.step_table.specs.ListEvent.{ListEvent}
-use Rattle.step_table.specs.ListSteps.{event_of, effect_of, finds, turned, ListTurn, ListStep, turn, more}
+use Rattle.step_table.specs.ListSteps.{event_of, effect_of, finds, turned, seat_after, ListTurn, ListStep, turn}
 use Rattle.step_table.specs.Path.{Meets, sight, runs}
 use Rattle.step_table.proofs.Paths.{meets_sight}
 use Rattle.step_table.proofs.Sums.{put_here, total_has}
@@ -24,12 +24,14 @@ use Rattle.notify_list.specs.declared.view.Known.{Known}
 use Rattle.notify_list.specs.declared.view.Setting.{Setting}
 use Rattle.notify_list.specs.declared.view.Record.{Record}
 use Rattle.notify_list.specs.Setting.{address, IsThere}
-use Rattle.notify_list.specs.Places.{Begins}
-use Rattle.notify_list.specs.Rule.{watched, IsMet, Knows, Homes, AtHome}
+use Rattle.notify_list.specs.Places.{Begins, GoesEarly}
+use Rattle.notify_list.specs.Rule.{watched, guarded_in, IsMet, Knows, IsRecord, Homes, AtHome}
 use Rattle.notify_list.specs.Rows.{list_rows}
 use Rattle.notify_list.specs.Plays.{Me, OneSeat, standing}
 use Rattle.notify_list.proofs.Words.{written_word, inside}
 use Rattle.notify_list.proofs.Beginning.{with_seat, begun, begins_holds}
+use Rattle.notify_list.proofs.Early.{row_early}
+use Rattle.notify_list.proofs.Going.{met_step, guarded_left}
 
 -- what the code's atomic step has to be: the event of the table
 pub record Fits (z : Setting) (e : ListEvent) (i n x : ℕ) : Type 0 where
@@ -48,8 +50,8 @@ pub record RunsIn (k : ℕ) (v : Known) (b : ListWorld) (i n : ℕ) : Type 0 whe
   pub few : v.setting.seats ≤ 256
 
 -- all that is known of a world that is met
-pub laws_of : (z : Setting) (s : ListWorld) → z.seats ≤ 256 → IsMet z s → ReachedList z.first z.seats s
-laws_of z s few met = the_list_accounts.reached z.first z.seats s (omega arith) met
+pub laws_of : (z : Setting) (s : ListWorld) → IsMet z s → ReachedList z.first z.seats s
+laws_of z s met = the_list_accounts.reached z.first z.seats s met.reach met.reached
 
 module _ (m : Me) (world : ListWorld) (words : List ℕ) (homes : Homes) (i : ℕ) (at : Stands list_rows m.0.own.knows.setting m.0.own world words homes i)
     (a : ListSeat) (ok : Begins m.0.own.knows.sight.stands a) where
@@ -69,16 +71,19 @@ module _ (m : Me) (world : ListWorld) (words : List ℕ) (homes : Homes) (i : �
   opens = subst (λ (y : ListSeat). Begins y a) (sym at.knows.meets.stands) ok
 
   met : IsMet z b
-  met = begun id (IsMet z) (λ s t step q. more id at.there q step) world a opens at.shows.met
+  met = begun id (IsMet z) (λ s t step early q. met_step z s t id at.shows.few at.there q step early) world a opens at.shows.met
 
   laws : ReachedList z.first z.seats b
-  laws = laws_of z b at.shows.few met
+  laws = laws_of z b met
 
   meets : Meets (watched z) b id v.sight
-  meets = record { met = met; stands = put_here world.seats id a; later = at.knows.meets.later; quiet = at.knows.meets.quiet }
+  meets = record { met = met.reached; stands = put_here world.seats id a; later = at.knows.meets.later; quiet = at.knows.meets.quiet }
 
   knows : Knows z id v b
-  knows = record { meets = meets; held = λ h. at.knows.held (begins_holds m.0.own.knows.sight.stands a ok h) }
+  knows = record {
+    meets = meets;
+    held = λ h. at.knows.held (begins_holds m.0.own.knows.sight.stands a ok h);
+  }
 
   pub known : RunsIn id v b i (slice_index words i)
   known = record {
@@ -92,7 +97,7 @@ module _ (m : Me) (world : ListWorld) (words : List ℕ) (homes : Homes) (i : �
 
   -- another seat may meet the world in which the row begins
   met_else : (j : ℕ) (u : ListSight) → j ≢ id → Meets (watched z) world j u → Meets (watched z) b j u
-  met_else j u ne = begun id (λ s. Meets (watched z) s j u) (λ s t step q. the_list_paths.others z.first z.seats s t id j u at.there ne step q) world a opens
+  met_else j u ne = begun id (λ s. Meets (watched z) s j u) (λ s t step early q. the_list_paths.others z.first z.seats s t id j u at.there ne step q) world a opens
 
   module _ (x : ℕ) (fits : Fits m.0.own.knows.setting (event_of (with_seat world m.0.own.number a) m.0.own.number) i (slice_index words i) x) where
     abbrev pub t : ListWorld
@@ -110,27 +115,32 @@ module _ (m : Me) (world : ListWorld) (words : List ℕ) (homes : Homes) (i : �
     step : ListStep b id t
     step = turn runs_here
 
-    met_after : IsMet z t
-    met_after = more id at.there met step
+    -- a seat that gives up may do so still
+    early : GoesEarly (t.seats id).place (t.seats id).late
+    early = subst (λ (y : ListSeat). GoesEarly y.place y.late) (sym (put_here b.seats id (seat_after b.words (e.leads (finds b id)) (b.seats id))))
+        (row_early id (b.seats id) b.words (b.seats id).place (finds b id) b.words.numbers.passed (b.seats id).late (met.going id at.there))
 
-    -- the list of waits stays while this seat doesn't hold the lock
-    pub queue_stays : holds a.place ≡ 0 → t.words.queue ≡ world.words.queue
-    queue_stays free = (the_list_accounts.left b t id step (ap (λ (y : ListSeat). holds y.place) (put_here world.seats id a) ∙ free)).queue
+    met_after : IsMet z t
+    met_after = met_step z b t id at.shows.few at.there met step early
+
+    -- what lies under the lock stays while this seat doesn't hold it
+    pub guarded_stays : holds a.place ≡ 0 → guarded_in t.words ≡ guarded_in world.words
+    guarded_stays free = guarded_left z b t id at.there met step (ap (λ (y : ListSeat). holds y.place) (put_here world.seats id a) ∙ free)
 
     -- and while the lock is free the record is as it was
     pub home_stays : world.words.lock ≡ 0 → AtHome z t.words homes
     home_stays free =
         let mine : holds a.place ≡ 0 = (let l = laws.lawful.lock in let one = total_has z.seats (λ j. holds (b.seats j).place) id at.there in
         let here = ap (λ (y : ListSeat). holds y.place) (put_here world.seats id a) in omega arith) in
-        subst (λ q. AtHome z (record t.words { queue = q }) homes) (sym (queue_stays mine)) (at.shows.home free)
+        let home = at.shows.home free in (home.0, home.1, subst (IsRecord z home.0) (sym (guarded_stays mine)) home.2)
 
     -- what another seat knows
     knows_else : (u : OneSeat) → u.number ≢ id → u.number < z.seats → Knows z u.number u.knows world → Knows z u.number u.knows t
     knows_else u ne low o = record {
       meets = the_list_paths.others z.first z.seats b t id u.number u.knows.sight at.there ne step met_before;
       held = λ one. o.held one
-          ∙ sym (the_list_accounts.left b t id step (((the_list_accounts.alone z.first z.seats b laws.invariant u.number low).0
-          (ap (λ (y : ListSeat). holds y.place) met_before.stands ∙ one)).alone id at.there (λ q. ne (sym q)))).queue;
+          ∙ sym (guarded_left z b t id at.there met step (((the_list_accounts.alone z.first z.seats b laws.invariant u.number low).0
+          (ap (λ (y : ListSeat). holds y.place) met_before.stands ∙ one)).alone id at.there (λ q. ne (sym q))));
     }
       where
         met_before : Meets (watched z) b u.number u.knows.sight
@@ -138,7 +148,8 @@ module _ (m : Me) (world : ListWorld) (words : List ℕ) (homes : Homes) (i : �
 
     word_after : (w : ListWord) → IsThere z w → slice_index (set words i x) (address w) ≡ found t.words w
     word_after w h =
-        let k : ℕ = finds b id in let o = written_word b.words t.words.numbers t.words.queue e.word w (e.becomes k) in let l = inside z e.word fits.there in
+        let k : ℕ = finds b id in let o = written_word b.words t.words.numbers t.words.queue t.words.gone e.word w (e.becomes k) in
+        let l = inside z e.word fits.there in
         dite (ℕ_discrete (address w) i)
         (λ q. ap (λ y. get_or (set words i x) y 0) q ∙ get_or-set_same words i x 0 (let y = at.shows.wide in let f = fits.word in omega arith)
         ∙ fits.becomes ∙ ap e.becomes read_is ∙ sym (o.0 (q ∙ sym fits.word)))
@@ -154,6 +165,8 @@ module _ (m : Me) (world : ListWorld) (words : List ℕ) (homes : Homes) (i : �
       knows = record m.0.own.knows {
         sight = sight (watched m.0.own.knows.setting) (turned (with_seat world m.0.own.number a) m.0.own.number) m.0.own.number;
         queue = (turned (with_seat world m.0.own.number a) m.0.own.number).words.queue;
+        passed = (turned (with_seat world m.0.own.number a) m.0.own.number).words.numbers.passed;
+        gone = (turned (with_seat world m.0.own.number a) m.0.own.number).words.numbers.gone;
       };
       gone = m.0.own.gone ++ row_stride m.0.own.knows.setting.first m.0.own.knows.setting.seats (with_seat world m.0.own.number a) m.0.own.number ∷ [];
     }
@@ -170,7 +183,13 @@ module _ (m : Me) (world : ListWorld) (words : List ℕ) (homes : Homes) (i : �
       };
       did = refl;
       read = sym read_is;
-      also = record { held = knows.held; left = refl; lands = record { world = t; met = met_after; sees = refl; queue = refl }; there = at.there };
+      also = record {
+        held = knows.held;
+        left = refl;
+        met = met;
+        lands = record { world = t; met = met_after; sees = refl; guarded = refl };
+        there = at.there;
+      };
       one = refl;
       same = (refl, refl);
     }
@@ -193,7 +212,10 @@ module _ (m : Me) (world : ListWorld) (words : List ℕ) (homes : Homes) (i : �
       };
       same = refl;
       of_is = refl;
-      knows = record { meets = meets_sight (watched z) t id met_after; held = λ h. refl };
+      knows = record {
+        meets = meets_sight (watched z) t id met_after.reached;
+        held = λ h. refl;
+      };
       on = inr (row_stride z.first z.seats b id, refl, refl, journal_told id (effect_of b id) b.journal);
       others = knows_else;
       tells = tells;

@@ -1,5 +1,4 @@
 -- The rule gives the lawful list.
-use Rattle.std.proofs.Common.{arith}
 use Rattle.step_law_lists.proofs.ListAccounts.{the_list_accounts}
 use Rattle.step_law_lists.proofs.ListPromises.{the_list_law}
 use Rattle.running_rows.specs.Rule.{IsKept}
@@ -7,9 +6,11 @@ use Rattle.notify_list.specs.Rows.{list_rows}
 use Rattle.notify_list.specs.List.{TheList}
 
 pub the_list : TheList (IsKept list_rows)
-the_list z s kept = let small = kept.shows.few in let met = kept.shows.met in record {
+the_list z s kept = let met = kept.shows.met in record {
   kept = kept;
-  lawful = the_list_law.reached z.first z.seats kept.world (omega arith) met;
-  named = the_list_accounts.named z.first z.seats kept.world met;
-  least = (the_list_law.granted z.first z.seats kept.world (omega arith) met).0;
+  lawful = the_list_law.reached z.first z.seats kept.world met.reach met.reached;
+  named = the_list_accounts.named z.first z.seats kept.world met.reached;
+  least = (the_list_law.granted z.first z.seats kept.world met.reach met.reached).0;
+  reach = met.reach;
+  goes = (the_list_law.gone z.first z.seats kept.world met.reach met.reached).0;
 }

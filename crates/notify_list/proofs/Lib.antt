@@ -1,6 +1,11 @@
 pub mod Words
 pub mod Owned
 pub mod Beginning
+pub mod Early
+pub mod LiveTickets
+pub mod LiveTaking
+pub mod Passing
+pub mod Going
 pub mod Keeping
 pub mod Allowing
 pub mod Leading
@@ -20,6 +25,8 @@ pub mod Parting
 pub mod LookingAll
 pub mod Reaching
 pub mod Emptying
+pub mod Withdrawing
+pub mod Forgoing
 pub mod Wakening
 pub mod Broadcasting
 pub mod LookingTogether
@@ -27,8 +34,11 @@ pub mod Parking
 pub mod Reckoning
 pub mod Gathering
 pub mod Answering
+pub mod Leaving
 pub mod Rereading
 pub mod Callers
 pub mod CallersNotifying
 pub mod CallersEnding
+pub mod CallersLeaving
+pub mod CallersTimed
 pub mod Concluding

@@ -68,7 +68,7 @@ module _ (s t u : Token) (n waited notified : ℕ) (seat : IsSeat s n) (x : RanR
   -- all that the seat had seen handed out was so at the first look
   pub handed_first : (told (seen_of s)).handed ≤ h
   handed_first =
-      let laws = laws_of (setting_of s) one.world seat.token_is.few one.met in
+      let laws = laws_of (setting_of s) one.world one.met in
       let since = handed_since (setting_of s).first (setting_of s).seats one.world (seen_of s) laws
       (subst (λ l. GoesOn l (seen_of s)) one.seen_is one.later) in
       let e = ap (λ (x : Numbers). x.handed) laws.invariant.numbers in omega arith
@@ -76,13 +76,13 @@ module _ (s t u : Token) (n waited notified : ℕ) (seat : IsSeat s n) (x : RanR
   few : (setting_of t).seats ≤ 256
   few = let e = ap (λ (z : Setting). z.seats) r.same.1 in let f = seat.token_is.few in omega arith
 
-  pub quiet : waited ≡ notified → h ≤ (told (seen_of u)).granted
+  pub quiet : waited ≡ notified → h ≤ (told (seen_of u)).passed
   quiet e =
-      let laws = laws_of (setting_of t) second.world few second.met in
+      let laws = laws_of (setting_of t) second.world second.met in
       let at : (second.world.seats t.me.0.own.number).place ≡ place = ap (λ (y : ListSeat). y.place) second.stood in
       let ends = laws.calls.notified t.me.0.own.number h look.also.there
       (subst (λ (p : ListPlace). Concludes second.world p h) (sym at) (all_equal h waited (e ∙ second.read))) in
-      subst (λ (l : List ListEntry). h ≤ (told l).granted) (sym (seen_all look second second.told)) ends
+      subst (λ (l : List ListEntry). h ≤ (told l).passed) (sym (seen_all look second second.told)) ends
 
   pub looked_for_all : LookedForAll s (waited == notified) u
   looked_for_all = record {

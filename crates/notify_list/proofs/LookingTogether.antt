@@ -1,10 +1,11 @@
 -- Looks at a word, and what two seats have that looked together.
-use Rattle.std.proofs.Common.{◌≡◌, ℕ, zero, suc, List, [], ◌∷◌, ◌++◌, slice_index, sym, refl, ap, ◌∙◌, subst, arith}
+use Rattle.std.proofs.Common.{◌≡◌, ℕ, zero, suc, ◌≤◌, Bool, List, [], ◌∷◌, ◌++◌, slice_index, sym, refl, ap, ◌∙◌, subst, arith}
 use Rattle.step_table.specs.declared.list_place.ListWord.{ListWord}
 use Rattle.step_table.specs.declared.list_place.ListWord.TheVariants.{Wait, Lock}
-use Rattle.step_table.specs.ListWorld.{ListSeat, ListWorld}
-use Rattle.step_table.specs.Path.{looks, Looked, Did, look_in, sight}
+use Rattle.step_table.specs.ListWorld.{ListSeat, ListEntry, ListWorld}
+use Rattle.step_table.specs.Path.{GoesOn, looks, Looked, Did, look_in, sight}
 use Rattle.step_table.proofs.Paths.{meets_sight, stride_grows}
+use Rattle.step_law_lists.specs.ListLawful.{told, IsInReach}
 use Rattle.step_law_lists.specs.ListPath.{ListSight}
 use Rattle.running_rows.specs.Strides.{Went, here}
 use Rattle.running_rows.specs.Owing.{Stands, Sees, IsSeen}
@@ -15,9 +16,11 @@ use Rattle.notify_list.specs.Places.{is_free}
 use Rattle.notify_list.specs.Rule.{watched, Lands, Homes}
 use Rattle.notify_list.specs.Rows.{list_rows, word_at}
 use Rattle.notify_list.specs.Plays.{OneSeat}
-use Rattle.notify_list.specs.Seats.{Token, seat_of, IsToken, IsSeat, IsHolding, IsNotifying, seen_of, setting_of, stands_of}
+use Rattle.notify_list.specs.Seats.{Token, seat_of, IsToken, IsSeat, IsHolding, IsParked, IsNotifying, seen_of, setting_of, stands_of}
 use Rattle.notify_list.specs.Meeting.{LooksAt, FindsHeld, HasMet}
 use Rattle.notify_list.specs.Walks.{SawHeld}
+use Rattle.notify_list.proofs.Keeping.{laws_of}
+use Rattle.notify_list.proofs.Looking.{handed_since}
 
 lies_at : (i : ℕ) → address (word_at i) ≡ i
 lies_at zero = refl
@@ -30,7 +33,7 @@ pub sees_word : (i : ℕ) (u : OneSeat) (world : ListWorld) (words : List ℕ) (
 sees_word i u world words homes there at = record {
   now = record {
     number = u.number;
-    knows = record u.knows { sight = sight (watched u.knows.setting) world u.number; queue = world.words.queue };
+    knows = record u.knows { sight = sight (watched u.knows.setting) world u.number; queue = world.words.queue; passed = world.words.numbers.passed; gone = world.words.numbers.gone };
     gone = u.gone ++ look_in (watched u.knows.setting) world u.number (word_at i) ∷ [];
   };
   went = record {
@@ -47,14 +50,18 @@ sees_word i u world words homes there at = record {
     also = record {
       held = at.knows.held;
       left = refl;
-      lands = record { world = world; met = at.shows.met; sees = refl; queue = refl };
+      met = at.shows.met;
+      lands = record { world = world; met = at.shows.met; sees = refl; guarded = refl };
       there = at.there;
     };
     one = refl;
     same = (refl, refl);
   };
   world_is = refl;
-  knows = record { meets = meets_sight (watched u.knows.setting) world u.number at.shows.met; held = λ h. refl };
+  knows = record {
+    meets = meets_sight (watched u.knows.setting) world u.number at.shows.met.reached;
+    held = λ h. refl;
+  };
 }
 
 -- each seat may look at a word that is there
@@ -90,6 +97,7 @@ module _ (s t : Token) (n q : ℕ) (word : ListWord) (is : IsToken s n) (r : Wen
     one = r.one;
     stays = look_stays;
     later = stride_grows (watched (setting_of s)) s.me.0.own.number s.me.0.own.knows.sight t.me.0.own.knows.sight r.stride r.ran;
+    reach = subst IsInReach (sym journal_seen) r.also.met.reach;
   })
 
   pub looked_token : t.me.1 ≡ [] → IsToken t n
@@ -107,6 +115,27 @@ looked_seat s t n q seat r same bare = let stays = look_stays s t n q Wait seat.
   token_is = looked_token s t n q Wait seat.token_is r same bare;
   free = ap (λ (y : ListSeat). is_free y.place) stays ∙ seat.free;
   holds_none = ap (λ (y : ListSeat). y.ticket) stays ∙ seat.holds_none;
+}
+
+-- no ticket was taken back since
+pub handed_later : (t : Token) (n : ℕ) (before : List ListEntry) → IsToken t n → GoesOn (seen_of t) before
+    → (told before).handed ≤ (told (seen_of t)).handed
+handed_later t n before is later =
+    let L = is.lands in
+    let since = handed_since (setting_of t).first (setting_of t).seats L.world before (laws_of (setting_of t) L.world L.met)
+    (subst (λ (v : ListSight). GoesOn v.seen before) L.sees later) in
+    let same = ap (λ (v : ListSight). (told v.seen).handed) L.sees in omega arith
+
+-- a parked seat stays one that may leave, or that may not
+pub parked_later : (s t : Token) (n : ℕ) (may_leave : Bool) → IsParked s n may_leave → IsToken t n → stands_of t ≡ stands_of s
+    → GoesOn (seen_of t) (seen_of s) → IsParked t n may_leave
+parked_later s t n may_leave parked is stays later = record {
+  token_is = is;
+  ticket = parked.ticket;
+  at = ap (λ (y : ListSeat). y.place) stays ∙ parked.at;
+  holds_none = ap (λ (y : ListSeat). y.ticket) stays ∙ parked.holds_none;
+  early = λ e. ((parked.early e).0, ap (λ (y : ListSeat). y.late) stays ∙ (parked.early e).1);
+  late = λ e. (let many = parked.late e in let since = handed_later t n (seen_of s) is later in omega arith);
 }
 
 -- a look that found the lock held
@@ -140,6 +169,10 @@ module _ (s t : Token) (n : ℕ) (saw : SawHeld s t) where
     at = ap (λ (y : ListSeat). y.place) (held_stays owing.token_is) ∙ owing.at;
     holds_none = ap (λ (y : ListSeat). y.ticket) (held_stays owing.token_is) ∙ owing.holds_none;
   }
+
+  pub held_parked : (may_leave : Bool) → IsParked s n may_leave → IsParked t n may_leave
+  held_parked may_leave parked = parked_later s t n may_leave parked (held_token parked.token_is) (held_stays parked.token_is)
+      (looks_at s t n saw.found Lock parked.token_is saw.looked saw.table_id).later
 
   pub finds_held : IsToken s n → FindsHeld (seat_of s n) (seat_of t n)
   finds_held is = (saw.found, saw.held, looks_at s t n saw.found Lock is saw.looked saw.table_id)

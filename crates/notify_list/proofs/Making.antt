@@ -14,11 +14,12 @@ use Rattle.step_table.specs.Wrapping.{word_of}
 use Rattle.step_table.specs.ListWorld.{found, first_list}
 use Rattle.step_table.specs.ListSteps.{none}
 use Rattle.step_table.proofs.Paths.{goes_on_here}
+use Rattle.step_law_lists.proofs.ListPromises.{the_list_law}
 use Rattle.running_rows.specs.Rule.{Opens, fresh_seat}
 use Rattle.notify_list.specs.declared.view.Record.{Record}
 use Rattle.notify_list.specs.declared.view.Setting.{Setting}
 use Rattle.notify_list.specs.Setting.{address, words_in, IsThere}
-use Rattle.notify_list.specs.Rule.{Lands, IsRecord, fresh}
+use Rattle.notify_list.specs.Rule.{nothing_guarded, IsMet, Lands, IsRecord, fresh}
 use Rattle.notify_list.specs.Rows.{list_rows}
 use Rattle.notify_list.specs.Making.{IsMade, AreAllowed, new_seat, new_seats}
 use Rattle.notify_list.specs.Places.{is_free}
@@ -60,17 +61,27 @@ pub in_front : (t u : ListModel) (n seats : ℕ) (xs : List SeatModel) (x : Seat
 in_front t u n seats xs x same all before is =
     let e : suc n ≡ seats = omega (arith, all) in (λ i. is i ∷ before i) ∙ ap (new_seats t 0) e ∙ ap (λ (y : ListModel). new_seats y 0 seats) same
 
+-- the first world is met
+first_met : (z : Setting) → IsMet z (first_list z.first)
+first_met z = record {
+  reached = none;
+  reach = (the_list_law.early z.first z.seats (first_list z.first) none (omega arith)).1;
+  early = λ n late. refl;
+  going = λ k there. tt;
+  parked = λ k t row there at early fresh some. absurd cc;
+}
+
 -- a seat that was just made may meet the first world, which is its own
 pub lands_fresh : (z : Setting) (k : ℕ) → Lands k (fresh z)
-lands_fresh z k = record { world = first_list z.first; met = none; sees = refl; queue = refl }
+lands_fresh z k = record { world = first_list z.first; met = first_met z; sees = refl; guarded = refl }
 
 -- words and record of a list as it is made show the first world
-pub opens : (z : Setting) (y : Record) → z.first < 2 ^ 64 → AreAllowed z.seats → IsRecord z.seats y []
+pub opens : (z : Setting) (y : Record) → z.first < 2 ^ 64 → AreAllowed z.seats → IsRecord z y nothing_guarded
     → Opens list_rows z (words_of z) (map some (y ∷ []))
 opens z y fits seats empty = record {
   world = first_list z.first;
   shows = record {
-    met = none;
+    met = first_met z;
     words = first_words z fits;
     home = λ free. (y, refl, empty);
     wide = words_long z;

@@ -71,7 +71,7 @@ module _ (s : Token) (n h : ℕ) (seat : IsSeat s n) (at : (stands_of s).place �
           (walked_row t u (a (NotifyingOne h O4)) ticket (a (NotifyingOne h (O5 ticket))) [] row4 same d4.stands d4.told)
 
       record4 : HasRecord u
-      record4 = record_kept t u L.record_is (ap (λ (m : Me). m.1) r.1) (ap (λ (z : Setting). z.seats) row4.same.1) (d4.queue ∙ sym (d4.held refl))
+      record4 = record_kept t u L.record_is (ap (λ (m : Me). m.1) r.1) row4.same.1 (d4.guarded ∙ sym (d4.held refl))
 
       -- O5
       module _ (x : Token) (waited : ℕ) (q : RanRow list_rows here u.me waited x.me) (again : x.table_id ≡ u.table_id) where
@@ -91,7 +91,7 @@ module _ (s : Token) (n h : ℕ) (seat : IsSeat s n) (at : (stands_of s).place �
             (walked_row u x (a (NotifyingOne h (O5 ticket))) waited (a p) [] row5 again (d5.stands ∙ ap a e) d5.told)
 
         pub record5 : HasRecord x
-        record5 = record_kept u x record4 (ap (λ (m : Me). m.1) q.1) (ap (λ (z : Setting). z.seats) row5.same.1) (d5.queue ∙ sym (d5.held refl))
+        record5 = record_kept u x record4 (ap (λ (m : Me). m.1) q.1) row5.same.1 (d5.guarded ∙ sym (d5.held refl))
 
         equal5 : waited ≡ ticket → (if waited == ticket then NotifyingOne h O6 else NotifyingOne h (O7 ticket)) ≡ NotifyingOne h O6
         equal5 e = if_equal waited ticket (NotifyingOne h O6) (NotifyingOne h (O7 ticket)) e
@@ -138,10 +138,10 @@ module _ (s : Token) (n h : ℕ) (seat : IsSeat s n) (at : (stands_of s).place �
           ends_none = (
             comes_to s z n (stands_of s) (a Rest) [] (finds_none h ticket) w6,
             (ticket, calls s z n (stands_of s) (a Rest) [] (finds_none h ticket) seat.token_is w6),
-            (let laws = laws_of (setting_of x) d6.world few5 d6.met in
+            (let laws = laws_of (setting_of x) d6.world d6.met in
                 let c = laws.calls.notified x.me.0.own.number h row6.also.there
                 (subst (λ (y : ListPlace). Concludes d6.world y h) (sym (ap (λ (y : ListSeat). y.place) d6.stood)) (one_locked h)) in
-                subst (λ (l : List ListEntry). h ≤ (told l).granted) (sym (seen_all row6 d6 d6.told)) c),
+                subst (λ (l : List ListEntry). h ≤ (told l).passed) (sym (seen_all row6 d6 d6.told)) c),
           )
 
         -- the rows that grant, and the end
@@ -157,20 +157,21 @@ module _ (s : Token) (n h : ℕ) (seat : IsSeat s n) (at : (stands_of s).place �
             empty = ap (λ (y : ListSeat). y.hand) w7.stands_is ∙ empty_there s.me.0.own seat.token_is.lands
                 (there_of s n seat.token_is) seat.token_is.few seat.free;
             at = ap (λ (y : ListSeat). y.place) w7.stands_is;
+            lands = w7.lands;
             record_is = record5;
           }
 
           module _ (z : Token) (G : GrantedOne x h ticket z) where
             abbrev told9 : List ListEntry
-            told9 = Granted ((told G.before).granted + 1) s.me.0.own.number ∷ []
+            told9 = Granted ((told G.before).passed + 1) s.me.0.own.number ∷ []
 
             -- the rows before and those that granted
             whole : (rows : List (ListPlace × ℕ))
-                → Walked x (stands_of x) z (at_place Rest (stands_of x)) (Granted ((told G.before).granted + 1) x.me.0.own.number ∷ []) rows
+                → Walked x (stands_of x) z (at_place Rest (stands_of x)) (Granted ((told G.before).passed + 1) x.me.0.own.number ∷ []) rows
                 → Walked s (stands_of s) z (a Rest) told9 (rows5 ++ rows)
             whole rows y = subst (λ (b : ListSeat). Walked s b z (a Rest) told9 (rows5 ++ rows)) (λ i. record (stands_of s) { place = sym at i })
                 (walked_on s x z (a (NotifyingOne h O3)) (a (NotifyingOne h (O7 ticket))) (a Rest) [] told9 rows5 rows w7
-                (subst (λ (b : ListSeat × ℕ). Walked x b.0 z (at_place Rest b.0) (Granted ((told G.before).granted + 1) b.1 ∷ []) rows)
+                (subst (λ (b : ListSeat × ℕ). Walked x b.0 z (at_place Rest b.0) (Granted ((told G.before).passed + 1) b.1 ∷ []) rows)
                 (λ i. (w7.stands_is i, number5 i)) y))
 
             either : (Walked s (stands_of s) z (a Rest) told9 (rows5 ++ grant_rows h ticket))
@@ -210,10 +211,10 @@ module _ (s : Token) (n h : ℕ) (seat : IsSeat s n) (at : (stands_of s).place �
               ends.2,
               (
                 waited,
-                (told G.before).granted + 1,
+                (told G.before).passed + 1,
                 unequal,
-                subst (λ i. Calls (seat_of s n) (stands_of s) (seat_of z n) (Granted ((told G.before).granted + 1) i ∷ []) (finds_one h ticket waited)
-                    ⊎ Calls (seat_of s n) (stands_of s) (seat_of z n) (Granted ((told G.before).granted + 1) i ∷ [])
+                subst (λ i. Calls (seat_of s n) (stands_of s) (seat_of z n) (Granted ((told G.before).passed + 1) i ∷ []) (finds_one h ticket waited)
+                    ⊎ Calls (seat_of s n) (stands_of s) (seat_of z n) (Granted ((told G.before).passed + 1) i ∷ [])
                     (finds_one h ticket waited ++ grants_it h))
                     seat.token_is.number_is ends.3,
               ),
@@ -223,8 +224,8 @@ module _ (s : Token) (n h : ℕ) (seat : IsSeat s n) (at : (stands_of s).place �
                     goes_on_more (seen_of s) (seen_of x) G.before
                     (walked_later s x (a (NotifyingOne h O3)) (a (NotifyingOne h (O7 ticket))) [] rows5 w7) G.later;
                 seen =
-                    subst (λ i. GoesOn (seen_of z) (G.before ++ Granted ((told G.before).granted + 1) i ∷ [])) (number5 ∙ seat.token_is.number_is) G.seen;
+                    subst (λ i. GoesOn (seen_of z) (G.before ++ Granted ((told G.before).passed + 1) i ∷ [])) (number5 ∙ seat.token_is.number_is) G.seen;
                 handed = G.handed;
-                word_is = G.word_is ∙ ap (λ (z : Setting). Rattle.step_table.specs.Wrapping.word_of z.first (told G.before).granted) setting5;
+                word_is = G.word_is ∙ ap (λ (z : Setting). Rattle.step_table.specs.Wrapping.word_of z.first (told G.before).passed) setting5;
               },
             )

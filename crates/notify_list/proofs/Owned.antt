@@ -10,7 +10,7 @@ use Rattle.notify_list.proofs.Words.{wakes_aside}
 use Rattle.notify_list.specs.Rows.{list_rows}
 
 abbrev pub Made : Inside → Type 0
-Made x = IsList (list_by x).id (list_by x).setting x.seats
+Made x = IsList (list_by x).id (list_by x).setting x.seats x.first
 
 -- the seat's list is this one
 pub own : (x : Inside) (s : Token) (n : ℕ) {l : ListModel} {seat : SeatModel} → list_by x ≡ l → seat_of s n ≡ seat

@@ -1,5 +1,5 @@
 -- A seat that is parked: its looks at its grant, and the row that takes it.
-use Rattle.std.proofs.Common.{◌≡◌, ℕ, zero, suc, ◌<◌, List, [], ◌∷◌, slice_index, inr, refl, sym, ap, ◌∙◌, subst, arith}
+use Rattle.std.proofs.Common.{◌≡◌, ℕ, zero, suc, ◌<◌, Bool, List, [], ◌∷◌, slice_index, inr, refl, sym, ap, ◌∙◌, subst, arith}
 use Rattle.std.proofs.Common.{Some, None}
 use lib.Seq.{set-get_or}
 use native.Mathlib.Decide.{ℕ_discrete}
@@ -8,10 +8,11 @@ use Rattle.step_table.specs.declared.list_place.ListPlace.TheVariants.{Rest, Wai
 use Rattle.step_table.specs.declared.list_place.ListWord.{ListWord}
 use Rattle.step_table.specs.declared.list_place.ListWord.TheVariants.{Grant}
 use Rattle.step_table.specs.declared.list_place.Ticket.{Ticket}
-use Rattle.step_table.specs.declared.list_place.WaitRow.TheVariants.{W1, W2, W4, P}
+use Rattle.step_table.specs.declared.list_place.WaitRow.TheVariants.{W1, W2, W4, Parked as Asleep}
+use Rattle.step_table.specs.declared.list_place.ListParkedRow.TheVariants.{P}
 use Rattle.step_table.specs.ListWorld.{ListSeat, ListWorld}
 use Rattle.step_table.specs.Path.{looks}
-use Rattle.step_law_lists.specs.ListLawful.{told}
+use Rattle.step_law_lists.specs.ListLawful.{IsGranted as IsTicketGranted}
 use Rattle.running_rows.specs.Strides.{Went, Looked, RanRow, here}
 use Rattle.running_rows.specs.Owing.{Stands, Leads, Owes}
 use Rattle.running_rows.proofs.Telling.{owes_own, tells_more}
@@ -34,7 +35,7 @@ use Rattle.notify_list.proofs.Allowing.{takes_at}
 use Rattle.notify_list.proofs.Leading.{Ran, Led, led, woke_from}
 use Rattle.notify_list.proofs.Walking.{walked_row, token_after, calls, comes_to, calls_then}
 use Rattle.notify_list.proofs.Queueing.{granted_by}
-use Rattle.notify_list.proofs.LookingTogether.{sees_word, looks_at, look_stays, looked_token}
+use Rattle.notify_list.proofs.LookingTogether.{sees_word, looks_at, look_stays, looked_token, parked_later}
 
 -- at the address of a grant word lies that word
 pub grant_lies : (i k : ℕ) → address (Grant k) ≡ i → word_at i ≡ Grant k
@@ -44,7 +45,7 @@ grant_lies (suc (suc zero)) k e = absurd (omega arith)
 grant_lies (suc (suc (suc s))) k e = ap Grant (omega arith)
 
 -- a grant that is taken, or a look where there is none
-module _ (k : Setting) (m : Me) (i : ℕ) (a : ListSeat) (is : m.0.own.knows.sight.stands ≡ a) (ticket : Ticket) (parked : a.place ≡ Waiting ticket P)
+module _ (k : Setting) (m : Me) (i : ℕ) (a : ListSeat) (is : m.0.own.knows.sight.stands ≡ a) (ticket : Ticket) (parked : a.place ≡ Waiting ticket (Asleep P))
     (lies : address (Grant m.0.own.number) ≡ i) where
   abbrev Received : ℕ → Me → Type 0
   Received n t = (n ≡ 0 → Looked list_rows i m 0 t) × (0 < n → RanRow list_rows here m n t)
@@ -81,25 +82,21 @@ module _ (k : Setting) (m : Me) (i : ℕ) (a : ListSeat) (is : m.0.own.knows.sig
           (Received (slice_index words i)) (λ t o. ((λ e. absurd (ne e)), o.1))
           (takes_at m.0.own.knows.setting m i a is ticket parked lies world words homes st)
 
-module _ (x : Token) (n : ℕ) (K : IsParked x n) where
-  pub stands_parked : stands_of x ≡ record { place = Waiting K.ticket P; ticket = None; hand = (stands_of x).hand; late = (stands_of x).late }
+module _ (x : Token) (n : ℕ) {may_leave : Bool} (K : IsParked x n may_leave) where
+  pub stands_parked : stands_of x ≡ record { place = Waiting K.ticket (Asleep P); ticket = None; hand = (stands_of x).hand; late = (stands_of x).late }
   stands_parked = λ i. record { place = K.at i; ticket = K.holds_none i; hand = (stands_of x).hand; late = (stands_of x).late }
 
   abbrev at_park : ListSeat
-  at_park = record { place = Waiting K.ticket P; ticket = None; hand = (stands_of x).hand; late = (stands_of x).late }
+  at_park = record { place = Waiting K.ticket (Asleep P); ticket = None; hand = (stands_of x).hand; late = (stands_of x).late }
 
   -- it found nothing
   module _ (z : Token) (i : ℕ) (lies : address (Grant n) ≡ i) (r : Looked list_rows i x.me 0 z.me) (same : z.table_id ≡ x.table_id) where
     look : Went list_rows here (looks (Grant n)) x.me.0.own 0 z.me.0.own
     look = subst (λ (w : ListWord). Went list_rows here (looks w) x.me.0.own 0 z.me.0.own) (grant_lies i n lies) r.0
 
-    pub seat_still : IsParked z n
-    seat_still = let stays = look_stays x z n 0 (Grant n) K.token_is look same in record {
-      token_is = looked_token x z n 0 (Grant n) K.token_is look same (ap (λ (m : Me). m.1) r.1 ∙ K.token_is.bare);
-      ticket = K.ticket;
-      at = ap (λ (a : ListSeat). a.place) stays ∙ K.at;
-      holds_none = ap (λ (a : ListSeat). a.ticket) stays ∙ K.holds_none;
-    }
+    pub seat_still : IsParked z n may_leave
+    seat_still = parked_later x z n may_leave K (looked_token x z n 0 (Grant n) K.token_is look same (ap (λ (m : Me). m.1) r.1 ∙ K.token_is.bare))
+        (look_stays x z n 0 (Grant n) K.token_is look same) (looks_at x z n 0 (Grant n) K.token_is look same).later
 
     pub polled_still : IsPolled (seat_of x n) (polled.Still (seat_of z n))
     polled_still = ((K.ticket, K.at), looks_at x z n 0 (Grant n) K.token_is look same)
@@ -112,13 +109,13 @@ module _ (x : Token) (n : ℕ) (K : IsParked x n) where
     awake : Led at_park x.me.0.own 1 z.me.0.own woke.stride
     awake = led at_park x.me.0.own z.me.0.own 1 woke
 
-    w5 : Walked x (stands_of x) z (at_place Rest (stands_of x)) [] ((Waiting K.ticket P, 1) ∷ [])
-    w5 = subst (λ (a : ListSeat). Walked x a z (at_place Rest a) [] ((Waiting K.ticket P, 1) ∷ [])) (sym stands_parked)
+    w5 : Walked x (stands_of x) z (at_place Rest (stands_of x)) [] ((Waiting K.ticket (Asleep P), 1) ∷ [])
+    w5 = subst (λ (a : ListSeat). Walked x a z (at_place Rest a) [] ((Waiting K.ticket (Asleep P), 1) ∷ [])) (sym stands_parked)
         (walked_row x z at_park 1 (at_place Rest at_park) [] woke same awake.stands awake.told)
 
     pub seat_woken : IsSeat z n
     seat_woken = record {
-      token_is = token_after x z n (stands_of x) (at_place Rest (stands_of x)) [] ((Waiting K.ticket P, 1) ∷ []) K.token_is w5
+      token_is = token_after x z n (stands_of x) (at_place Rest (stands_of x)) [] ((Waiting K.ticket (Asleep P), 1) ∷ []) K.token_is w5
           (ap (λ (m : Me). m.1) p.1 ∙ K.token_is.bare);
       free = ap (λ (a : ListSeat). is_free a.place) w5.stands_is;
       holds_none = ap (λ (a : ListSeat). a.ticket) w5.stands_is ∙ K.holds_none;
@@ -128,8 +125,8 @@ module _ (x : Token) (n : ℕ) (K : IsParked x n) where
     takes_grant = record {
       ticket = K.ticket;
       parked = K.at;
-      call = calls x z n (stands_of x) (at_place Rest (stands_of x)) [] ((Waiting K.ticket P, 1) ∷ []) K.token_is w5;
-      comes = comes_to x z n (stands_of x) (at_place Rest (stands_of x)) [] ((Waiting K.ticket P, 1) ∷ []) w5;
+      call = calls x z n (stands_of x) (at_place Rest (stands_of x)) [] ((Waiting K.ticket (Asleep P), 1) ∷ []) K.token_is w5;
+      comes = comes_to x z n (stands_of x) (at_place Rest (stands_of x)) [] ((Waiting K.ticket (Asleep P), 1) ∷ []) w5;
       granted = granted_by K.ticket x z at_park woke awake K.token_is.few awake.told
           (inr (ap (λ (a : ListSeat). a.place) awake.stood, let e = awake.read in omega arith));
     }
@@ -141,10 +138,10 @@ ran_same s t u n row same = subst (λ (m : Me). RanRow list_rows here s.me n m) 
 -- a wait that was queued and took its grant
 module _ (s u t : SeatModel) (q : IsQueued s u) (g : TakesGrant u t) where
   same_ticket : g.ticket ≡ q.ticket
-  same_ticket = let both : Waiting g.ticket P ≡ Waiting q.ticket P = sym g.parked ∙ ap (λ (a : ListSeat). a.place) q.comes.stands_is in cc
+  same_ticket = let both : Waiting g.ticket (Asleep P) ≡ Waiting q.ticket (Asleep P) = sym g.parked ∙ ap (λ (a : ListSeat). a.place) q.comes.stands_is in cc
 
-  row : Calls u u.sight.stands t [] ((Waiting q.ticket P, 1) ∷ [])
-  row = subst (λ (k : Ticket). Calls u u.sight.stands t [] ((Waiting k P, 1) ∷ [])) same_ticket g.call
+  row : Calls u u.sight.stands t [] ((Waiting q.ticket (Asleep P), 1) ∷ [])
+  row = subst (λ (k : Ticket). Calls u u.sight.stands t [] ((Waiting k (Asleep P), 1) ∷ [])) same_ticket g.call
 
   rests : t.sight.stands ≡ record { place = Rest; ticket = None; hand = s.sight.stands.hand; late = u.sight.stands.late }
   rests = g.comes.stands_is ∙ ap (λ (a : ListSeat). at_place Rest a) q.comes.stands_is
@@ -157,7 +154,8 @@ module _ (s u t : SeatModel) (q : IsQueued s u) (g : TakesGrant u t) where
     how = (
       q.ungranted,
       calls_then s u t (waiting s.sight.stands) [] []
-          ((Waiting q.ticket W1, 0) ∷ (Waiting q.ticket W2, q.notified) ∷ (Waiting q.ticket W4, 1) ∷ []) ((Waiting q.ticket P, 1) ∷ []) q.comes.same q.call row,
+          ((Waiting q.ticket W1, 0) ∷ (Waiting q.ticket W2, q.notified) ∷ (Waiting q.ticket W4, 1) ∷ []) ((Waiting q.ticket (Asleep P), 1) ∷ [])
+          q.comes.same q.call row,
     );
     comes = record {
       same = g.comes.same ∙ (λ i. record (q.comes.same i) { sight = t.sight; strides = t.strides });
@@ -170,4 +168,4 @@ module _ (s u t : SeatModel) (q : IsQueued s u) (g : TakesGrant u t) where
   granted_parked ticket held =
       let both : Some q.ticket ≡ Some ticket = sym q.held ∙ held in
       let same : q.ticket ≡ ticket = cc in
-      subst (λ (k : Ticket). k.number < (told t.sight.seen).granted) (same_ticket ∙ same) g.granted
+      subst (λ (k : Ticket). IsTicketGranted k.number t.sight.seen) (same_ticket ∙ same) g.granted

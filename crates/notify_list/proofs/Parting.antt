@@ -5,13 +5,8 @@ use Rattle.std.proofs.lemmas.List.{append_cancel_left}
 use Rattle.std.proofs.lemmas.List.Elements.{filter-append}
 use Rattle.step_table.specs.ListWorld.{ListEntry}
 use Rattle.step_table.specs.Path.{GoesOn}
-use Rattle.step_law_lists.specs.ListLawful.{told, counted, Follows}
+use Rattle.step_law_lists.specs.ListLawful.{Follows}
 use Rattle.step_law_lists.specs.ListPath.{is_own}
-use Rattle.step_law_lists.proofs.ListWriting.{replay_append}
-
--- the numbers after one more entry
-pub told_last : (journal : List ListEntry) (e : ListEntry) → told (journal ++ e ∷ []) ≡ counted e (told journal)
-told_last journal e = replay_append (record { handed = 0; granted = 0 }) journal (e ∷ [])
 
 -- a beginning of a lawful journal is lawful
 pub follows_first : (journal seen : List ListEntry) → GoesOn journal seen → Follows journal → Follows seen

@@ -15,7 +15,6 @@ use Rattle.step_table.specs.declared.list_place.ListPlace.TheVariants.{Rest}
 use Rattle.step_table.specs.declared.list_place.ListWord.TheVariants.{Wait, Notify}
 use Rattle.step_table.specs.World.{put}
 use Rattle.step_table.specs.ListWorld.{ListSeat, ListEntry, ListWorld}
-use Rattle.step_table.specs.ListSteps.{more}
 use Rattle.step_table.specs.Path.{GoesOn, own_entries}
 use Rattle.step_table.proofs.Sums.{put_here, put_else}
 use Rattle.step_law_lists.proofs.ListAccounts.{the_list_accounts}
@@ -33,6 +32,7 @@ use Rattle.notify_list.specs.Plays.{OneSeat, ListView}
 use Rattle.notify_list.specs.Seats.{SeatModel}
 use Rattle.notify_list.specs.Closing.{IsSeatOf, AreSeatsOf, IsClosed}
 use Rattle.notify_list.proofs.Beginning.{with_seat, comes_to_rest}
+use Rattle.notify_list.proofs.Going.{met_step}
 use Rattle.notify_list.proofs.Keeping.{laws_of}
 
 abbrev numbers : List OneSeat → List ℕ
@@ -125,15 +125,15 @@ record Rested (z : Setting) (was : ListWorld) (n : ℕ) : Type 0 where
   pub tickets : (k : ℕ) → (world.seats k).ticket ≡ (was.seats k).ticket
   pub others : (k : ℕ) → n ≤ k → world.seats k ≡ was.seats k
 
-all_rest : (z : Setting) (was : ListWorld) → IsMet z was → ((k : ℕ) → k < z.seats → is_free (was.seats k).place ≡ true) → (n : ℕ)
+all_rest : (z : Setting) (was : ListWorld) → z.seats ≤ 256 → IsMet z was → ((k : ℕ) → k < z.seats → is_free (was.seats k).place ≡ true) → (n : ℕ)
     → n ≤ z.seats → Rested z was n
-all_rest z was met free zero low =
+all_rest z was few met free zero low =
     record { world = was; met = met; words = refl; journal = refl; rest = λ k h. absurd (omega arith); tickets = λ k. refl; others = λ k h. refl }
-all_rest z was met free (suc n) low =
-    let o = all_rest z was met free n (omega arith) in let at = ap (λ (y : ListSeat). is_free y.place) (o.others n (omega arith)) in
+all_rest z was few met free (suc n) low =
+    let o = all_rest z was few met free n (omega arith) in let at = ap (λ (y : ListSeat). is_free y.place) (o.others n (omega arith)) in
     let a : ListSeat = at_place Rest (o.world.seats n) in record {
       world = with_seat o.world n a;
-      met = comes_to_rest n (IsMet z) (λ s t step q. more n (omega arith) q step) o.world (at ∙ free n (omega arith)) o.met;
+      met = comes_to_rest n (IsMet z) (λ s t step early q. met_step z s t n few (omega arith) q step early) o.world (at ∙ free n (omega arith)) o.met;
       words = o.words;
       journal = o.journal;
       rest = λ k h. dite (ℕ_discrete k n)
@@ -170,10 +170,10 @@ module _ (z : Setting) (s : State Record ListView) (r : IsKept list_rows z s) (i
       (ap (λ (y : ListSeat). is_free y.place) e ∙ q.2.free, ap (λ (y : ListSeat). y.ticket) e ∙ q.2.holds_none)
 
   rested : Rested z r.world z.seats
-  rested = all_rest z r.world r.shows.met (λ k h. (stands k h).0) z.seats (omega arith)
+  rested = all_rest z r.world r.shows.few r.shows.met (λ k h. (stands k h).0) z.seats (omega arith)
 
   laws : ReachedList z.first z.seats rested.world
-  laws = laws_of z rested.world r.shows.few rested.met
+  laws = laws_of z rested.world rested.met
 
   holds_none : (k : ℕ) → k < z.seats → (rested.world.seats k).ticket ≡ None
   holds_none k h = rested.tickets k ∙ (stands k h).1
@@ -196,7 +196,7 @@ module _ (z : Setting) (s : State Record ListView) (r : IsKept list_rows z s) (i
         rest = rested.rest;
         holds_none = holds_none;
         cleared = the_list_accounts.cleared z.first z.seats rested.world laws.invariant rested.rest;
-        named = the_list_accounts.named z.first z.seats rested.world rested.met;
+        named = the_list_accounts.named z.first z.seats rested.world rested.met.reached;
         each = λ k h. (let o = guest_there k h in let q = seat_for all seats are o.0 o.1 in (q.0, q.1, sym q.2.number_is ∙ o.2));
         begins = λ t e. subst (λ j. GoesOn j t.sight.seen) (sym rested.journal) (has_seen t e).0;
         own = λ t e. subst (λ j. own_entries (watched z) t.number j ≡ own_entries (watched z) t.number t.sight.seen) (sym rested.journal) (has_seen t e).1;

@@ -1,5 +1,5 @@
 -- What a row of a call that told nothing found in the wait word or the notify word, by what was seen then.
-use Rattle.std.proofs.Common.{◌≡◌, ℕ, ◌≤◌, List, [], ◌∷◌, ◌++◌, sym, ap, ◌∙◌, arith, append-nil}
+use Rattle.std.proofs.Common.{◌≡◌, ℕ, List, [], ◌∷◌, ◌++◌, sym, ap, ◌∙◌, append-nil}
 use Rattle.std.proofs.lemmas.List.Elements.{All-head, All-tail}
 use Rattle.step_table.specs.declared.list_place.ListPlace.{ListPlace}
 use Rattle.step_table.specs.declared.list_place.ListWord.{ListWord}
@@ -9,12 +9,13 @@ use Rattle.step_table.specs.ListWorld.{ListSeat, first_list}
 use Rattle.step_table.specs.ListTable.{list_event_at}
 use Rattle.step_table.specs.Path.{GoesOn, runs, all_told}
 use Rattle.step_table.proofs.Paths.{goes_on_more, goes_on_by, stride_told, stride_later, stride_grows}
-use Rattle.step_law_lists.specs.ListLawful.{told}
+use Rattle.step_law_lists.specs.ListLawful.{told, IsInReach}
 use Rattle.step_law_lists.specs.ListPath.{ListSight, ListStride, ListPath, ListRan, notify_list, word_of_deed, word_of_stride}
 use Rattle.step_law_lists.proofs.ListPaths.{the_list_paths}
 use Rattle.notify_list.specs.Seats.{SeatModel}
 use Rattle.notify_list.specs.Calls.{Calls, AreRows, rows_of}
 use Rattle.notify_list.proofs.Parting.{none_first, none_rest}
+use Rattle.notify_list.proofs.Early.{reach_then}
 
 -- a path that told nothing has this row, before these
 pub record HasRun (first seats i : ℕ) (from to : ListSight) (place : ListPlace) (read : ℕ) (rest : List (ListPlace × ℕ)) : Type 0 where
@@ -81,16 +82,19 @@ call_ran s t begun earlier rest place read call =
     has_run s.list.setting.first s.list.setting.seats s.number (record { stands = begun; seen = s.sight.seen }) t.sight call.strides earlier rest place
     read call.path call.ran call.told_is call.rows_are
 
-module _ {first seats i : ℕ} {from to : ListSight} {place : ListPlace} {read : ℕ} {rest : List (ListPlace × ℕ)} (few : seats ≤ 256)
-    (x : HasRun first seats i from to place read rest) where
+module _ {first seats i : ℕ} {from to : ListSight} {place : ListPlace} {read : ℕ} {rest : List (ListPlace × ℕ)}
+    (reach_now : IsInReach to.seen) (x : HasRun first seats i from to place read rest) where
+  reach : IsInReach x.stride.seen
+  reach = reach_then to.seen x.stride.seen x.now reach_now
+
   -- the row's word
   on : (word : ListWord) → ((seat : ListSeat) → (list_event_at i seat (first_list 0).words place).word ≡ word) → word_of_stride i x.stride ≡ word
   on word is = ap (word_of_deed i x.stride) x.did ∙ ap (λ q. (list_event_at i x.stride.stood (first_list 0).words q).word) x.stood ∙ is x.stride.stood
 
   pub finds_handed : ((seat : ListSeat) → (list_event_at i seat (first_list 0).words place).word ≡ Wait)
       → read ≡ word_of first (told x.stride.seen).handed
-  finds_handed is = sym x.read_is ∙ the_list_paths.reads_wait first seats i x.before x.after x.stride (omega arith) x.ran (on Wait is)
+  finds_handed is = sym x.read_is ∙ the_list_paths.reads_wait first seats i x.before x.after x.stride reach x.ran (on Wait is)
 
   pub finds_granted : ((seat : ListSeat) → (list_event_at i seat (first_list 0).words place).word ≡ Notify)
-      → read ≡ word_of first (told x.stride.seen).granted
-  finds_granted is = sym x.read_is ∙ the_list_paths.reads_notify first seats i x.before x.after x.stride (omega arith) x.ran (on Notify is)
+      → read ≡ word_of first (told x.stride.seen).passed
+  finds_granted is = sym x.read_is ∙ the_list_paths.reads_notify first seats i x.before x.after x.stride reach x.ran (on Notify is)

@@ -16,14 +16,14 @@ use Rattle.step_law_lists.specs.ListPlaces.{ReachedList, GrantsParked}
 use Rattle.step_law_lists.proofs.ListAccounts.{the_list_accounts}
 use Rattle.notify_list.specs.Places.{is_free}
 use Rattle.notify_list.specs.declared.view.Setting.{Setting}
-use Rattle.notify_list.specs.Rule.{IsMet, Lands}
+use Rattle.notify_list.specs.Rule.{Guarded, IsMet, Lands}
 use Rattle.notify_list.specs.Plays.{OneSeat}
 use Rattle.notify_list.specs.Seats.{Token, IsToken, setting_of}
 use Rattle.notify_list.proofs.Keeping.{laws_of}
 
 module _ (u : OneSeat) (L : Lands u.number u.knows) (there : u.number < u.knows.setting.seats) (few : u.knows.setting.seats ≤ 256) where
   pub laws_there : ReachedList u.knows.setting.first u.knows.setting.seats L.world
-  laws_there = laws_of u.knows.setting L.world few L.met
+  laws_there = laws_of u.knows.setting L.world L.met
 
   pub stands_there : L.world.seats u.number ≡ u.knows.sight.stands
   stands_there = ap (λ (y : ListSight). y.stands) (sym L.sees)
@@ -33,7 +33,7 @@ module _ (u : OneSeat) (L : Lands u.number u.knows) (there : u.number < u.knows.
   room_there awake =
       let r = the_list_accounts.room u.knows.setting.first u.knows.setting.seats L.world laws_there.invariant u.number there
       (ap (λ (y : ListSeat). asleep_on_list y.place (L.world.words.grants u.number)) stands_there ∙ awake (L.world.words.grants u.number)) in
-      let q = ap length L.queue in omega arith
+      let q = ap (λ (g : Guarded). length g.queue) L.guarded in omega arith
 
   fits_there : HandFits u.knows.sight.stands.place (length u.knows.sight.stands.hand)
   fits_there = subst (λ (y : ListSeat). HandFits y.place (length y.hand)) stands_there (laws_there.invariant.seats_known u.number there).fits
@@ -64,5 +64,5 @@ pub grants_in : (z : Setting) (s : ListWorld) (i : ℕ) (a : ListSeat) (k : ℕ)
     → IsMet z s → i < z.seats → s.seats i ≡ a
     → ((g : ListWords) → list_table i a g ≡ store (Grant k) 1 next) → GrantsParked z.seats i k s
 grants_in z s i a k next few met there is e =
-    (the_list_accounts.granted z.first z.seats i k 1 s there (laws_of z s few met).invariant
+    (the_list_accounts.granted z.first z.seats i k 1 s there (laws_of z s met).invariant
     (next, ap (λ (y : ListSeat). list_table i y s.words) is ∙ e s.words)).1

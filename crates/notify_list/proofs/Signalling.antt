@@ -91,9 +91,9 @@ module _ (s u : SeatModel) where
     least_one (Some word) y = let g = y.2 in record {
       before = g.before;
       later = goes_on_more s.sight.seen u.sight.seen g.before (call_later s u a [] (looks x.h x.waited x.notified) x.call) g.later;
-      seen = subst (λ i. GoesOn t.sight.seen (g.before ++ Granted ((told g.before).granted + 1) i ∷ [])) number_is g.seen;
+      seen = subst (λ i. GoesOn t.sight.seen (g.before ++ Granted ((told g.before).passed + 1) i ∷ [])) number_is g.seen;
       handed = g.handed;
-      word_is = g.word_is ∙ ap (λ (q : SeatModel). Rattle.step_table.specs.Wrapping.word_of q.list.setting.first (told g.before).granted) x.comes.same;
+      word_is = g.word_is ∙ ap (λ (q : SeatModel). Rattle.step_table.specs.Wrapping.word_of q.list.setting.first (told g.before).passed) x.comes.same;
     }
 
     pub none_one : (answer : Option ℕ) → EndsOne u x.h answer t → IfNone answer (AllGranted s t)

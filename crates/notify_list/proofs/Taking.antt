@@ -38,7 +38,7 @@ module _ (s t : Token) (n word : ℕ) (seat : IsSeat s n) (x : RanRow list_rows 
   walked = walked_row s t (at_place Adding (stands_of s)) word (with_held ticket (stands_of s)) (Took s.me.0.own.number ∷ []) r same d.stands d.told
 
   laws : ReachedList (setting_of s).first (setting_of s).seats d.world
-  laws = laws_of (setting_of s) d.world (seat.token_is.few) d.met
+  laws = laws_of (setting_of s) d.world d.met
 
   pub added : IsAdded (seat_of s n) (seat_of t n)
   added = subst (λ k. IsAdded (record (seat_of s n) { number = k }) (record (seat_of t n) { number = k })) seat.token_is.number_is (record {
@@ -75,7 +75,7 @@ module _ (s t : Token) (n word : ℕ) (seat : IsSeat s n) (x : RanRow list_rows 
 pub has_ticket : (t : Token) (n word : ℕ) → IsHolding t n word → HasTicket (seat_of t n) word
 has_ticket t n word x =
     let L = x.token_is.lands in
-    let laws = laws_of (setting_of t) L.world x.token_is.few L.met in
+    let laws = laws_of (setting_of t) L.world L.met in
     let there : t.me.0.own.number < (setting_of t).seats = (let a = x.token_is.number_is in let b = x.token_is.there in omega arith) in
     let held : (L.world.seats t.me.0.own.number).ticket ≡ Some x.ticket = ap (λ (v : ListSight). v.stands.ticket) (sym L.sees) ∙ x.held in
     let H = laws.lawful.held t.me.0.own.number x.ticket there held in record {

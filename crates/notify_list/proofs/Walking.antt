@@ -8,6 +8,8 @@ use Rattle.step_table.specs.Path.{GoesOn, runs, all_told}
 use Rattle.step_table.proofs.Paths.{goes_on_more, goes_on_here, stride_told, stride_later}
 use Rattle.step_law_lists.specs.ListPath.{ListSight, ListStride, ListPath, notify_list}
 use Rattle.step_law_lists.proofs.ListPaths.{the_list_paths}
+use Rattle.step_law_lists.specs.ListLawful.{IsInReach}
+use Rattle.notify_list.specs.declared.view.Known.{Known}
 use Rattle.notify_list.specs.declared.view.Setting.{Setting}
 use Rattle.notify_list.specs.Rule.{Lands}
 use Rattle.notify_list.specs.Seats.{ListModel, SeatModel, Token, seat_of, IsToken, seen_of, setting_of, stands_of}
@@ -79,7 +81,7 @@ token_after s t n from a told rows is x bare = record {
   lands = x.lands;
 }
 
-tells_later : (a b told now : List ListEntry) → GoesOn b a → TellsIn b told now → TellsIn a told now
+pub tells_later : (a b told now : List ListEntry) → GoesOn b a → TellsIn b told now → TellsIn a told now
 tells_later a b [] now later tells = goes_on_more a b now later tells
 tells_later a b (e ∷ told) now later tells =
     (later.more ++ tells.0, subst (λ l. TellsIn (l ++ e ∷ []) told now) (ap (λ l. l ++ tells.0) later.is ∙ append_assoc a later.more tells.0) tells.1)
@@ -101,6 +103,10 @@ path_tells first seats i v w (p ∷ strides) path =
     (subst (λ l. TellsIn l (all_told strides) w.seen) (stride_told (notify_list first seats) i v path.0 p path.1)
     (path_tells first seats i path.0 w strides path.2)))
 
+-- of what a seat has seen the laws speak
+pub reach_there : (i : ℕ) (v : Known) → Lands i v → IsInReach v.sight.seen
+reach_there i v L = subst (λ (y : ListSight). IsInReach y.seen) (sym L.sees) L.met.reach
+
 -- what a caller reads of the rows
 pub calls : (s t : Token) (n : ℕ) (from a : ListSeat) (told : List ListEntry) (rows : List (ListPlace × ℕ)) → IsToken s n → Walked s from t a told rows
     → Calls (seat_of s n) from (seat_of t n) told rows
@@ -114,6 +120,7 @@ calls s t n from a told rows is x = subst (λ i. Calls (record (seat_of s n) { n
   seen = subst (λ l. TellsIn (seen_of s) l (seen_of t)) x.told_is
       (path_tells (setting_of s).first (setting_of s).seats s.me.0.own.number (record { stands = from; seen = seen_of s })
       t.me.0.own.knows.sight x.strides x.path);
+  reach = reach_there t.me.0.own.number t.me.0.own.knows x.lands;
 })
 
 pub comes_to : (s t : Token) (n : ℕ) (from a : ListSeat) (told : List ListEntry) (rows : List (ListPlace × ℕ)) → Walked s from t a told rows
@@ -147,4 +154,5 @@ calls_then s u t begun told more rows others same x y =
       all = y.all ∙ ap (λ l. l ++ y.strides) x.all ∙ append_assoc s.strides x.strides y.strides;
       seen = subst (λ l. TellsIn s.sight.seen l t.sight.seen) (told_append x.strides y.strides ∙ (λ i. x.told_is i ++ y.told_is i))
           (path_tells first seats s.number (record { stands = begun; seen = s.sight.seen }) t.sight (x.strides ++ y.strides) path);
+      reach = y.reach;
     }

@@ -63,6 +63,6 @@ pub record IsClosed (z : Setting) (seats : List SeatModel) (c : ListClosed) : Ty
   pub writes : Writes list_rows [] history world.journal
   pub by_seats : (m : SeatStride ListStride) → In m history → m.seat < z.seats
   pub went : (s : SeatModel) → In s seats → strides_of s.number history ≡ s.strides
-  pub granted : (told world.journal).granted ≡ (told world.journal).handed
+  pub granted : (told world.journal).passed ≡ (told world.journal).handed
   pub next : c.next ≡ word_of z.first (told world.journal).handed
-  pub notified : c.notified ≡ word_of z.first (told world.journal).granted
+  pub notified : c.notified ≡ word_of z.first (told world.journal).passed

@@ -1,5 +1,5 @@
 -- What the rows of a notification of all do to a token.
-use Rattle.std.specs.Prelude.{◌≡◌, ℕ, ◌+◌, ◌<◌, ◌≤◌, ◌==◌, if◌then◌else◌, Bool, true, List, [], ◌∷◌, ◌++◌}
+use Rattle.std.specs.Prelude.{◌≡◌, ℕ, ◌+◌, ◌<◌, ◌≤◌, ◌==◌, if◌then◌else◌, Bool, true, List, [], ◌∷◌, ◌++◌, length}
 use Rattle.waiters.specs.declared.wait.Wait.{Wait}
 use Rattle.step_table.specs.declared.list_place.AllRow.TheVariants.{L1, L3, L4, L7, L8}
 use Rattle.step_table.specs.declared.list_place.ListPlace.{ListPlace}
@@ -28,7 +28,7 @@ pub record LookedForAll (s : Token) (equal : Bool) (t : Token) : Type 0 where
       (at_place (if equal then Rest else NotifyingAll h L3) (stands_of s)) [] (looks_all h waited notified)
   pub slots : t.me.1 ≡ s.me.1
   pub since : (told (seen_of s)).handed ≤ h
-  pub quiet : equal ≡ true → h ≤ (told (seen_of t)).granted
+  pub quiet : equal ≡ true → h ≤ (told (seen_of t)).passed
 
 -- a seat of this list stands here
 pub record IsAt (l : ListModel) (s : Token) (place : ListPlace) : Type 0 where
@@ -56,8 +56,9 @@ pub record ReachedAll (s : Token) (h n : ℕ) (t : Token) : Type 0 where
   pub later : GoesOn before look
   pub seen : seen_of t ≡ before ++ all_entries s.me.0.own.number handed n
   pub reaches : h ≤ handed
-  pub counted : handed ≡ (told before).granted + n
+  pub counted : handed ≡ (told before).passed + n + length (told before).gone
   pub all : handed ≡ (told look).handed
+  pub passed : (told (seen_of t)).passed ≡ handed
 
 abbrev pub MayTake : ListModel → Token → ℕ → ℕ → Type 0
 MayTake l s h n = IsAt l s (NotifyingAll h (L7 n)) × HasRecord s × ((stands_of s).hand ≡ [])

@@ -1,6 +1,7 @@
 pub mod Sights
 pub mod Setting
 pub mod Places
+pub mod LiveTickets
 pub mod Rule
 pub mod Rows
 pub mod Plays
@@ -11,7 +12,9 @@ pub mod Records
 pub mod Calls
 pub mod Tickets
 pub mod Waiting
+pub mod Leaving
 pub mod Entering
+pub mod LeavingRows
 pub mod Notifying
 pub mod Granting
 pub mod NotifyingAll
@@ -23,5 +26,6 @@ pub mod List
 pub mod Meeting
 pub mod Closing
 pub mod Callers
+pub mod CallersTimed
 pub mod TaskSeats
 pub mod Tasks

@@ -1,8 +1,8 @@
 -- What the rule says of a list between any two steps of its threads.
 use Rattle.running_rows.specs.Table.{State}
-use Rattle.step_law_lists.specs.ListLawful.{IsLawfulList}
+use Rattle.step_law_lists.specs.ListLawful.{IsLawfulList, IsInReach}
 use Rattle.step_law_lists.specs.ListEntries.{EntriesNamed}
-use Rattle.step_law_lists.specs.ListGrants.{EachGrantsLeast}
+use Rattle.step_law_lists.specs.ListGrants.{EachGrantsLeast, EachGoes}
 use Rattle.running_rows.specs.Rule.{IsKept}
 use Rattle.notify_list.specs.declared.view.Record.{Record}
 use Rattle.notify_list.specs.declared.view.Setting.{Setting}
@@ -10,13 +10,16 @@ use Rattle.notify_list.specs.Plays.{ListView}
 use Rattle.notify_list.specs.Rows.{list_rows}
 
 -- words, the record at home and views are those of a world that the steps of the list's seats lead to, and
--- this world is lawful. Its journal names seats that are there, and each of its grants is of the least
--- ungranted ticket, or of all that were handed out when the wait word was read
+-- this world is lawful. Its journal names seats that are there. Each of its grants is of the least ticket that
+-- is neither granted nor gone, or of all such that were handed out when the wait word was read, and each ticket
+-- that has gone is that of a seat whose wait was queued
 pub record IsLawfulShown (z : Setting) (s : State Record ListView) : Type 0 where
   pub kept : IsKept list_rows z s
   pub lawful : IsLawfulList z.first z.seats kept.world
   pub named : EntriesNamed z.seats kept.world
   pub least : EachGrantsLeast z.first z.seats kept.world.journal
+  pub reach : IsInReach kept.world.journal
+  pub goes : EachGoes z.first z.seats kept.world.journal
 
 -- whatever a rule holds of is lawful
 abbrev pub TheList : (Setting → State Record ListView → Type 0) → Type 0

@@ -3,11 +3,12 @@ use Rattle.std.specs.Prelude.{◌≡◌, ◌≢◌, ℕ, [], ◌∷◌, ◌++◌
 use Rattle.step_table.specs.declared.list_place.ListWord.{ListWord}
 use Rattle.step_table.specs.declared.list_place.ListWord.TheVariants.{Wait, Lock}
 use Rattle.step_table.specs.Path.{GoesOn, looks}
+use Rattle.step_law_lists.specs.ListLawful.{IsInReach}
 use Rattle.step_law_lists.specs.ListPath.{ListStride, ListRan}
 use Rattle.notify_list.specs.Seats.{SeatModel}
 
 -- nothing but a look: the seat stands as it stood, and has seen all that was told up to the look, which read
--- n
+-- n. That is a journal of which the laws speak
 pub record LooksAt (s : SeatModel) (w : ListWord) (n : ℕ) (t : SeatModel) : Type 0 where
   pub same : t ≡ record s { sight = t.sight; strides = t.strides }
   pub stride : ListStride
@@ -17,6 +18,7 @@ pub record LooksAt (s : SeatModel) (w : ListWord) (n : ℕ) (t : SeatModel) : Ty
   pub one : t.strides ≡ s.strides ++ stride ∷ []
   pub stays : t.sight.stands ≡ s.sight.stands
   pub later : GoesOn t.sight.seen s.sight.seen
+  pub reach : IsInReach t.sight.seen
 
 -- nothing but a look, which found the list's lock held
 abbrev pub FindsHeld : SeatModel → SeatModel → Type 0

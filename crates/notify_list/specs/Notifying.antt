@@ -60,16 +60,16 @@ pub record NotifiesOne (s : SeatModel) (answer : Option ℕ) (t : SeatModel) : T
 pub record GrantsLeast (s : SeatModel) (word : ℕ) (t : SeatModel) : Type 0 where
   pub before : List ListEntry
   pub later : GoesOn before s.sight.seen
-  pub seen : GoesOn t.sight.seen (before ++ Granted ((told before).granted + 1) s.number ∷ [])
-  pub handed : (told before).granted < (told before).handed
-  pub word_is : word ≡ word_of s.list.setting.first (told before).granted
+  pub seen : GoesOn t.sight.seen (before ++ Granted ((told before).passed + 1) s.number ∷ [])
+  pub handed : (told before).passed < (told before).handed
+  pub word_is : word ≡ word_of s.list.setting.first (told before).passed
 
 -- the rows of a notification from O3 on, whose first look found h tickets handed out. Where it answers none,
 -- these are granted
 abbrev pub EndsOne : SeatModel → ℕ → Option ℕ → SeatModel → Type 0
 EndsOne s h None t =
     ComesTo s (at_place Rest s.sight.stands) t × OneFromLock s s.sight.stands h [] None t
-    × (h ≤ (told t.sight.seen).granted)
+    × (h ≤ (told t.sight.seen).passed)
 EndsOne s h (Some word) t =
     ComesTo s (at_place Rest s.sight.stands) t × OneFromLock s s.sight.stands h [] (Some word) t
     × GrantsLeast s word t

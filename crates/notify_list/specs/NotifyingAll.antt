@@ -1,6 +1,6 @@
 -- What a notification of all promises.
 use Rattle.std.specs.Prelude.{◌≡◌, ◌≢◌, ◌⊎◌, ℕ, zero, suc, ◌+◌, ◌≤◌, Bool, true, false, List, [], ◌∷◌}
-use Rattle.std.specs.Prelude.{◌++◌, map}
+use Rattle.std.specs.Prelude.{◌++◌, length, map}
 use Rattle.waiters.specs.declared.wait.Wait.{Wait}
 use Rattle.step_table.specs.declared.list_place.AllRow.TheVariants.{L1, L2, L3, L4, L5, L6, L7, L8}
 use Rattle.step_table.specs.declared.list_place.ListPlace.{ListPlace}
@@ -61,14 +61,14 @@ pub record NotifiesAll (s : SeatModel) (n : ℕ) (t : SeatModel) : Type 0 where
       (looks_all h waited notified ++ all_rows h was now handed n hand)))
 
 -- n tickets were granted, by one entry of the seat which stands after all that it had seen before: all that
--- were handed out when it read the wait word and weren't granted
+-- were handed out when it read the wait word and were neither granted nor gone
 pub record GrantsUpTo (s : SeatModel) (n : ℕ) (t : SeatModel) : Type 0 where
   pub before : List ListEntry
   pub look : List ListEntry
   pub first : GoesOn look s.sight.seen
   pub later : GoesOn before look
-  pub seen : GoesOn t.sight.seen (before ++ Granted ((told before).granted + n) s.number ∷ [])
-  pub all : (told look).handed ≡ (told before).granted + n
+  pub seen : GoesOn t.sight.seen (before ++ Granted (told look).handed s.number ∷ [])
+  pub all : (told look).handed ≡ (told before).passed + n + length (told before).gone
 
 -- the seat granted so many: none, and told nothing; or by one entry
 abbrev pub GrantsSome : SeatModel → ℕ → SeatModel → Type 0
@@ -103,7 +103,7 @@ pub record EndsAll (s : SeatModel) (n : ℕ) (t : SeatModel) : Type 0 where
   pub hand : List Wait
   pub call : Calls s s.sight.stands t (all_entries s.number handed n) (all_rows h was now handed n hand)
   pub count : GrantsSome s n t
-  pub granted : h ≤ (numbers_seen t).granted
+  pub granted : h ≤ (numbers_seen t).passed
 
 -- after the first strides came one for each of these seats, in order, which stored a 1 in its grant word
 abbrev pub StoresGrants : List ℕ → List ListStride → List ListStride → Type 0

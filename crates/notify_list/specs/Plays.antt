@@ -9,7 +9,7 @@ use Rattle.running_rows.specs.declared.view.View.{View}
 use Rattle.running_rows.specs.declared.view.Seated.{Seated}
 use Rattle.notify_list.specs.declared.view.Known.{Known}
 use Rattle.notify_list.specs.declared.view.Record.{Record}
-use Rattle.notify_list.specs.Places.{at_place, waiting}
+use Rattle.notify_list.specs.Places.{at_place, waiting, giving_up}
 
 -- one seat of a list, the view of its token, and what the token holds
 abbrev pub OneSeat : Type 0
@@ -36,6 +36,10 @@ at_one v = standing (at_place (NotifyingOne 0 O1) v.sight.stands) v
 -- L1
 abbrev pub at_all : Known → Known
 at_all v = standing (at_place (NotifyingAll 0 L1) v.sight.stands) v
+
+-- E1
+abbrev pub at_leave : Known → Known
+at_leave v = standing (giving_up v.sight.stands) v
 
 -- the row at which it stands; W1 of a seat that holds a ticket
 abbrev pub at_wait : Known → Known

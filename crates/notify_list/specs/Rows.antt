@@ -1,6 +1,5 @@
 -- The rows of a running notify list.
-use Rattle.std.specs.Prelude.{◌≡◌, ℕ, zero, suc, ◌<◌, List, refl}
-use Rattle.waiters.specs.declared.wait.Wait as waiters
+use Rattle.std.specs.Prelude.{◌≡◌, ℕ, zero, suc, ◌<◌, refl}
 use Rattle.step_table.specs.declared.list_place.ListWord.{ListWord}
 use Rattle.step_table.specs.declared.list_place.ListWord.TheVariants.{Wait, Notify, Lock, Grant}
 use Rattle.step_table.specs.EventOf.{store}
@@ -16,7 +15,7 @@ use Rattle.notify_list.specs.declared.view.Known.{Known}
 use Rattle.notify_list.specs.declared.view.Setting.{Setting}
 use Rattle.notify_list.specs.declared.view.Record.{Record}
 use Rattle.notify_list.specs.Setting.{address}
-use Rattle.notify_list.specs.Rule.{watched, Knows, Lands, IsRecord, Shows, fresh}
+use Rattle.notify_list.specs.Rule.{watched, Guarded, guarded_in, guarded_by, IsMet, Knows, Lands, IsRecord, Shows, fresh}
 
 -- the word at this address
 abbrev pub word_at : ℕ → ListWord
@@ -25,16 +24,17 @@ word_at (suc zero) = Notify
 word_at (suc (suc zero)) = Lock
 word_at (suc (suc (suc s))) = Grant s
 
--- the list of waits after the deed of the seat i in this world
-abbrev pub queue_left : ListWorld → ℕ → Deed ListWord → List waiters.Wait
-queue_left s i runs = (turned s i).words.queue
-queue_left s i (looks w) = s.words.queue
+-- what lies under the lock after the deed of the seat i in this world
+abbrev pub guarded_left : ListWorld → ℕ → Deed ListWord → Guarded
+guarded_left s i runs = guarded_in (turned s i).words
+guarded_left s i (looks w) = guarded_in s.words
 
--- what the seat i knew of the list of waits, whose lock it held, was so still in this world, and it knows
--- what became of it
+-- what the seat i knew of what lies under the lock, which it held, was so still in this world, which is met, and
+-- it knows what became of it
 pub record Beside (s : ListWorld) (i : ℕ) (v : Known) (p : ListStride) (w : Known) : Type 0 where
-  pub held : holds v.sight.stands.place ≡ 1 → v.queue ≡ s.words.queue
-  pub left : w.queue ≡ queue_left s i p.deed
+  pub held : holds v.sight.stands.place ≡ 1 → guarded_by v ≡ guarded_in s.words
+  pub left : guarded_by w ≡ guarded_left s i p.deed
+  pub met : IsMet v.setting s
   pub lands : Lands i w
   pub there : i < v.setting.seats
 
@@ -73,7 +73,7 @@ list_rows = record {
   nobody = fresh no_list;
   Shows = Shows;
   Knows = λ z u. Knows z u.number u.knows;
-  IsHeld = λ v slot y. (slot ≡ 0) × IsRecord v.setting.seats y v.queue;
+  IsHeld = λ v slot y. (slot ≡ 0) × IsRecord v.setting y (guarded_by v);
   Also = Beside;
   HasStored = λ z. HasStored;
   HasGiven = λ p slots. Unit {0};

@@ -4,14 +4,16 @@ use Rattle.waiters.specs.declared.wait.Wait.{Wait}
 use Rattle.step_table.specs.declared.list_place.ListPlace.{ListPlace}
 use Rattle.step_table.specs.declared.list_place.ListWord.{ListWord}
 use Rattle.step_table.specs.declared.list_place.Ticket.{Ticket}
-use Rattle.step_table.specs.ListWorld.{ListEntry, Took, Granted}
+use Rattle.step_table.specs.ListWorld.{ListEntry, Took, Granted, Forgone}
 use Rattle.step_table.specs.Path.{Deed, runs, looks}
 use Rattle.step_law_lists.specs.ListPath.{ListSight, ListStride}
 
--- a ticket was taken by the seat, or it granted tickets, so that so many are
-abbrev pub entry_of : Option ℕ → ℕ → ListEntry
-entry_of None seat = Took seat
-entry_of (Some upto) seat = Granted upto seat
+-- a ticket was taken by the seat; or it granted tickets up to so many; or it left with the ticket of this
+-- number
+abbrev pub entry_of : Option ℕ → Option ℕ → ℕ → ListEntry
+entry_of None None seat = Took seat
+entry_of (Some upto) _ seat = Granted upto seat
+entry_of None (Some number) seat = Forgone number seat
 
 abbrev pub sight_of : ListPlace → Option Ticket → List Wait → ℕ → List ListEntry → ListSight
 sight_of place ticket hand late seen =

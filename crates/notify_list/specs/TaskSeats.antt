@@ -14,7 +14,7 @@ pub record TaskModel : Type 0 where
 abbrev pub stage_of : Stage → TaskStage
 stage_of at.Resting = Resting
 stage_of (at.Holding word) = Holding
-stage_of at.Parked = Parked
+stage_of (at.Parked may_leave) = Parked
 stage_of at.OwingAll = OwingAll
 
 abbrev pub task_of : Token → ℕ → Stage → TaskModel
@@ -24,5 +24,5 @@ task_of t n stage = record { seat = seat_of t n; stage = stage_of stage }
 abbrev pub IsTaskSeat : Token → ℕ → Stage → Type 0
 IsTaskSeat t n at.Resting = IsSeat t n
 IsTaskSeat t n (at.Holding word) = IsHolding t n word
-IsTaskSeat t n at.Parked = IsParked t n
+IsTaskSeat t n (at.Parked may_leave) = IsParked t n may_leave
 IsTaskSeat t n at.OwingAll = IsNotifying t n

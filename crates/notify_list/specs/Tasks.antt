@@ -10,10 +10,14 @@ use Rattle.notify_list.specs.declared.task_answers.TaskEntered.{TaskEntered}
 use Rattle.notify_list.specs.declared.task_answers.TaskEntered.TheVariants as enters
 use Rattle.notify_list.specs.declared.task_answers.TaskPolled.{TaskPolled}
 use Rattle.notify_list.specs.declared.task_answers.TaskPolled.TheVariants as polls
+use Rattle.notify_list.specs.declared.task_answers.TaskGaveUp.{TaskGaveUp}
+use Rattle.notify_list.specs.declared.task_answers.TaskGaveUp.TheVariants as gives
 use Rattle.notify_list.specs.declared.task_seat.TaskStage.{TaskStage}
 use Rattle.notify_list.specs.declared.task_seat.TaskStage.TheVariants.{Resting, Holding, Parked, OwingAll}
 use Rattle.notify_list.specs.declared.waited.Entered.TheVariants as entered
 use Rattle.notify_list.specs.declared.waited.Polled.TheVariants as polled
+use Rattle.notify_list.specs.declared.waited.GaveUp.TheVariants as gave
+use Rattle.notify_list.specs.Leaving.{Leaves, StillParked}
 use Rattle.notify_list.specs.Seats.{ListModel, SeatModel}
 use Rattle.notify_list.specs.Calls.{AllGranted}
 use Rattle.notify_list.specs.Tickets.{IsAdded, HasTicket, HasLooked, FindsHeldAfterLooks}
@@ -21,7 +25,7 @@ use Rattle.notify_list.specs.Waiting.{IsEntered, IsPolled}
 use Rattle.notify_list.specs.Notifying.{NotifiesOne, GrantsLeast, ticket_of, GrantsItsWait}
 use Rattle.notify_list.specs.NotifyingAll.{NotifiesAll, GrantsSome, FindsHeldForAll, EndsAll, GrantsSeats}
 use Rattle.notify_list.specs.Making.{IsMade}
-use Rattle.notify_list.specs.Callers.{GetsTicket, FindsAllGranted, EntersWait, PollsGrant, NotifiesOneTicket}
+use Rattle.notify_list.specs.Callers.{GetsTicket, FindsAllGranted, EntersWait, PollsGrant, GivesUp, NotifiesOneTicket}
 use Rattle.notify_list.specs.Callers.{NotifiesAllTickets, EndsNotifyingAll, StandsOn, LeavesOne, LeavesAll}
 use Rattle.notify_list.specs.Meeting.{FindsHeld}
 use Rattle.notify_list.specs.TaskSeats.{TaskModel}
@@ -72,6 +76,23 @@ PollsByTask s (Ok polls.Granted) t =
     Goes s Parked Resting t × IsPolled s.seat (polled.Granted t.seat)
     × PollsGrant s.seat (polled.Granted t.seat)
 PollsByTask s (Err why) t = Refuses s t (because (s.stage ≢ Parked) ⊥ why)
+
+-- the answer of a task for that of the list's own call, and where the seat stands then
+abbrev pub GaveUpBy : TaskModel → TaskGaveUp → TaskModel → Type 0
+GaveUpBy s gives.Left t =
+    Goes s Parked Resting t × Leaves s.seat (gave.Left t.seat) × GivesUp s.seat (gave.Left t.seat)
+GaveUpBy s gives.Coming t =
+    Goes s Parked Parked t × Leaves s.seat (gave.Coming t.seat) × GivesUp s.seat (gave.Coming t.seat)
+GaveUpBy s gives.Granted t =
+    Goes s Parked Resting t × Leaves s.seat (gave.Granted t.seat) × GivesUp s.seat (gave.Granted t.seat)
+GaveUpBy s gives.LimitReached t =
+    Goes s Parked Parked t × Leaves s.seat (gave.LimitReached t.seat) × GivesUp s.seat (gave.LimitReached t.seat)
+
+abbrev pub LeavesByTask : TaskModel → Result TaskGaveUp TaskRefused → TaskModel → Type 0
+LeavesByTask s (Ok gave_up) t = GaveUpBy s gave_up t
+LeavesByTask s (Err why) t =
+    RefusesOrFinds s t (s.stage ≢ Parked)
+    (Goes s Parked Parked t × StillParked s.seat t.seat × StandsOn s.seat t.seat) why
 
 -- where the lock stayed held, the seat has looked at the two words, and they differed
 abbrev pub NotifiesOneByTask : TaskModel → Result (Option Notified) TaskRefused → TaskModel → Type 0

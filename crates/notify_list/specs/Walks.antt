@@ -1,6 +1,5 @@
 -- What rows of one seat do to its token.
 use Rattle.std.specs.Prelude.{◌≡◌, ◌≢◌, ℕ, true, List, [], ◌∷◌, ◌++◌}
-use Rattle.waiters.specs.declared.wait.Wait.{Wait}
 use Rattle.step_table.specs.declared.list_place.ListPlace.{ListPlace}
 use Rattle.step_table.specs.declared.list_place.ListWord.TheVariants.{Lock}
 use Rattle.step_table.specs.ListWorld.{ListSeat, ListEntry}
@@ -10,8 +9,8 @@ use Rattle.notify_list.specs.declared.view.Record.{Record}
 use Rattle.running_rows.specs.Strides.{Went, here}
 use Rattle.notify_list.specs.Rows.{list_rows}
 use Rattle.notify_list.specs.Places.{Begins, at_place, waiting, takes_lock, locked}
-use Rattle.notify_list.specs.Rule.{Lands, IsRecord}
-use Rattle.notify_list.specs.Seats.{ListModel, Token, list_of, setting_of, stands_of, seen_of, queue_of}
+use Rattle.notify_list.specs.Rule.{Guarded, Lands, IsRecord}
+use Rattle.notify_list.specs.Seats.{ListModel, Token, list_of, setting_of, stands_of, seen_of, guarded_of}
 use Rattle.notify_list.specs.Calls.{AreRows, rows_of}
 
 -- the seat, standing so at first, ran these rows, which told these entries, and stands so now
@@ -29,9 +28,9 @@ pub record Walked (s : Token) (from : ListSeat) (t : Token) (stands : ListSeat) 
   pub told_is : all_told strides ≡ entries
   pub all : t.me.0.own.gone ≡ s.me.0.own.gone ++ strides
 
--- the seat holds the slot, whose record has the waits that it knows
+-- the seat holds the slot, whose record is as it knows
 abbrev pub HasRecord : Token → Type 0
-HasRecord s = (y : Record) × (s.me.1 ≡ (0, y) ∷ []) × IsRecord (setting_of s).seats y (queue_of s)
+HasRecord s = (y : Record) × (s.me.1 ≡ (0, y) ∷ []) × IsRecord (setting_of s) y (guarded_of s)
 
 -- a seat of this list may run a row that takes the lock: that at which it stands, or the first row of a wait
 pub record MayLock (l : ListModel) (s : Token) : Type 0 where
@@ -55,8 +54,8 @@ pub record SawHeld (s t : Token) : Type 0 where
   pub held : found ≢ 0
   pub looked : Went list_rows here (looks Lock) s.me.0.own found t.me.0.own
 
--- the record that the seat holds has these waits now; nothing else has changed
-abbrev pub Edited : Token → List Wait → Token → Type 0
-Edited s queue t =
+-- the record that the seat holds is this now; nothing else has changed
+abbrev pub Edited : Token → Guarded → Token → Type 0
+Edited s g t =
     (t.table_id ≡ s.table_id)
-    × ((y : Record) × (t.me ≡ (s.me.0, (0, y) ∷ [])) × IsRecord (setting_of s).seats y queue)
+    × ((y : Record) × (t.me ≡ (s.me.0, (0, y) ∷ [])) × IsRecord (setting_of s) y g)

@@ -1,11 +1,10 @@
 //! The rows that grant one ticket, under the lock.
 ghost use Rattle.std.specs.Prelude.{ℕ};
-ghost use Rattle.notify_list.specs.Granting.{MayGrant, GrantedOne, GrantsLast};
+ghost use Rattle.notify_list.specs.Granting.{MayGrant, MayStore, GrantedOne, GrantsLast};
 
 use crate::notify_list::{LOCK, NOTIFY, NotifyList, grant_word};
 use crate::rows::Token;
 use running_rows::Here;
-use step_table::next_word;
 
 impl NotifyList {
     /// O7 and O8, and O9 where the ticket's wait is in the list: its seat. Nobody is woken.
@@ -15,9 +14,20 @@ impl NotifyList {
             → GrantedOne token.old h ticket token.new }
         ensures wait { GrantsLast self.now ticket result token.new }
     {
+        let next = self.pass(token, ticket);
+        self.grant_passed(token, ticket, next)
+    }
+
+    /// The same, where the record tells that the ticket is passed and this the next one.
+    fn grant_passed(&self, token: &mut Token, ticket: u64, next: u64) -> Option<u16>
+        requires { (h : ℕ) × MayStore self.now token.old h ticket next }
+        ensures rows { (h : ℕ) → MayStore self.now token.old h ticket next
+            → GrantedOne token.old h ticket token.new }
+        ensures wait { GrantsLast self.now ticket result token.new }
+    {
         // Granted before the wait is looked for: its seat may not have come to the lock yet, and will find
         // the grant there.
-        self.words.store::<Here>(token, NOTIFY, next_word(ticket));
+        self.words.store::<Here>(token, NOTIFY, next);
         let waiter = self.remove(token, ticket);
         // Given back before the waiter is told: told earlier, it would run into the lock that is still held.
         self.words.return_lock(token, LOCK);

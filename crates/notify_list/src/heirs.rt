@@ -10,7 +10,8 @@
 //! stores a grant, then looks whether its seat is still named. All four are in one order, the same for all
 //! threads: either the seat finds its heir granted, or its name was taken away before the granter's look, and
 //! the granter wakes the heir. So each that was granted is woken. A seat gets heirs only where its thread
-//! sleeps, in a wait: if it polled, they would sleep until its caller comes to that.
+//! sleeps, in a wait: if it polled, they would sleep until its caller comes to that. A wait whose time ends
+//! just then was taken out of the list before, so its seat can't leave: it comes by its grant, and wakes them.
 ghost use Rattle.std.specs.Prelude.{◌≡◌, ◌<◌, ◌≤◌, List};
 ghost use Rattle.step_law_lists.specs.ListPath.{ListStride};
 ghost use Rattle.notify_list.specs.Seats.{list_of};
@@ -20,6 +21,7 @@ ghost use Rattle.notify_list.specs.NotifyingAll.{StoresGrants};
 
 use crate::notify_list::{NotifyList, grant_word};
 use crate::rows::Token;
+use crate::seat::ListSeat;
 
 /// How many who grants wakes itself: more would meet at the caller's lock.
 const FIRST: usize = 3;
@@ -117,6 +119,16 @@ impl NotifyList {
     {
         self.wake_heir(token, self.heir_word(seat));
         self.wake_heir(token, self.other_heir_word(seat));
+    }
+
+    /// The same of a seat that took its grant by a poll.
+    pub(crate) fn with_heirs_awake(&self, seat: ListSeat) -> ListSeat
+        requires { seat.list ≡ self.now }
+        ensures { result ≡ seat }
+    {
+        let ListSeat { mut token, number } = seat;
+        self.wake_heirs(&mut token, number);
+        ListSeat { token, number }
     }
 
     /// Wakes whom the word names, and names nobody there.

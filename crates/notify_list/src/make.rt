@@ -3,12 +3,13 @@ ghost use Rattle.std.specs.Prelude.{◌≡◌, ℕ, ◌+◌, ◌^◌, ◌<◌, [
 ghost use Rattle.notify_list.specs.declared.view.Setting.{Setting as Made};
 ghost use Rattle.notify_list.specs.declared.view.Record.{Record as Emptied};
 ghost use Rattle.running_rows.specs.Rule.{fresh_seat};
-ghost use Rattle.notify_list.specs.Rule.{IsRecord};
+ghost use Rattle.notify_list.specs.Rule.{IsRecord, nothing_guarded};
 ghost use Rattle.notify_list.specs.Rows.{list_rows};
 ghost use Rattle.notify_list.specs.Seats.{list_of};
 ghost use Rattle.notify_list.specs.Making.{AreAllowed, IsRefused, IsMade};
 ghost use Rattle.notify_list.specs.Making as making;
 
+use crate::live::Live;
 use crate::notify_list::NotifyList;
 use crate::rows::Token;
 use crate::seat::ListSeat;
@@ -47,14 +48,21 @@ fn first_words(alloc: Global, setting: Setting) -> Result<Vec<u64>, AllocError>
     Ok(words)
 }
 
-/// The one slot: a record in which nobody waits, with room for a wait of each seat.
-fn first_slots(alloc: Global, seats: u32) -> Result<Vec<Record>, NoMemory>
-    ensures { IfOk result (λ slots. (y : Emptied) × (slots.items ≡ y ∷ []) × IsRecord seats y []) }
+/// The one slot: a record in which nobody waits and no ticket is gone, with room for a wait of each seat.
+fn first_slots(alloc: Global, setting: Setting) -> Result<Vec<Record>, NoMemory>
+    requires { setting.first < 2 ^ 64 }
+    ensures { IfOk result (λ slots. (y : Emptied) × (slots.items ≡ y ∷ []) × IsRecord setting y nothing_guarded) }
 {
     let mut slots = Vec::with_capacity(alloc, 1)?;
-    let mut lists = Lists::with_room(alloc, seats as usize, 1)?;
+    let mut lists = Lists::with_room(alloc, setting.seats as usize, 1)?;
     let key = lists.open();
-    slots.push_reserved(Record { lists, key });
+    let live = Live::with_room(alloc, setting.first, setting.seats as usize)?;
+    slots.push_reserved(Record {
+        lists,
+        key,
+        live,
+        early: true,
+    });
     Ok(slots)
 }
 
@@ -65,7 +73,7 @@ fn make(alloc: Global, setting: Setting) -> Result<(NotifyList, Vec<ListSeat>), 
 {
     let seats = setting.seats as u16;
     let starts = first_words(alloc, setting)?;
-    let slots = first_slots(alloc, setting.seats)?;
+    let slots = first_slots(alloc, setting)?;
     let mut made = Vec::with_capacity(alloc, usize::from(seats))?;
     let Ok((words, mut first)) = Running::new(alloc, starts.as_slice(), slots, &setting) else {
         return Err(NoMemory);
@@ -80,6 +88,7 @@ fn make(alloc: Global, setting: Setting) -> Result<(NotifyList, Vec<ListSeat>), 
     let list = NotifyList {
         words,
         seats: setting.seats,
+        first: setting.first,
     };
     Ok((list, made))
 }

@@ -18,7 +18,6 @@ use crate::seat::{ListSeat, OwingAll};
 use arrayvec::ArrayVec;
 use running_rows::Here;
 use std::sync::Wait;
-use step_table::minus;
 
 /// The seats of the waits that a notification of all has taken out. On the stack: after the list is made no
 /// memory is taken.
@@ -152,13 +151,12 @@ impl NotifyList {
         requires { (h : ℕ) × MayReach self.now token.old h }
         ensures { (h : ℕ) → MayReach self.now token.old h → ReachedAll token.old h result token.new }
     {
-        // Read under the lock for the answer: what was read before it may be behind, and would count what
-        // another has granted since.
-        let notified = self.words.load::<Here>(token, NOTIFY);
+        self.words.load::<Here>(token, NOTIFY);
         // Read again under the lock: the word of the first look may be behind what is granted by now.
         let waited = self.words.load::<Here>(token, WAIT);
+        let granted = self.pass_all(token, waited);
         self.words.store::<Here>(token, NOTIFY, waited);
-        minus(waited, notified) as u32
+        granted as u32
     }
 
     /// L7: all waits are taken out, and the lock is given back.

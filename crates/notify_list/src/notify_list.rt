@@ -27,6 +27,7 @@ pub(crate) const RECORD: usize = 0;
 pub struct NotifyList {
     pub(crate) words: Running<Record, View<Known, Stride>, Setting, OneWorld<ListRows>>,
     pub(crate) seats: u32,
+    pub(crate) first: u64,
 }
 
 impl Model for NotifyList {
@@ -37,7 +38,7 @@ impl Model for NotifyList {
 
     ghost view = { λ t. record { id = t.words.table.shared.table_id; setting = t.words.table.shared.key } };
 
-    ghost invariant = { λ t. IsList t.words.table.shared.table_id t.words.table.shared.key t.seats };
+    ghost invariant = { λ t. IsList t.words.table.shared.table_id t.words.table.shared.key t.seats t.first };
 }
 
 /// Where the grant word of a seat lies.

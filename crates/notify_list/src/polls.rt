@@ -15,11 +15,19 @@ impl NotifyList {
         ensures rows { IsPolled parked result }
         ensures caller { PollsGrant parked result }
     {
-        let Parked { mut token, number } = parked;
+        let Parked {
+            mut token,
+            number,
+            may_leave,
+        } = parked;
         // Taken in the same step: a grant that stayed would wake the seat's next wait too.
         let found = self.words.take_grant(&mut token, grant_word(number));
         if found == 0 {
-            return Polled::Still(Parked { token, number });
+            return Polled::Still(Parked {
+                token,
+                number,
+                may_leave,
+            });
         }
         Polled::Granted(ListSeat { token, number })
     }

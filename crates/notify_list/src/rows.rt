@@ -1,6 +1,6 @@
 //! The rows of the list, and where each begins.
 ghost use Rattle.notify_list.specs.Rows.{list_rows};
-ghost use Rattle.notify_list.specs.Plays.{at_ticket, at_one, at_all, at_wait};
+ghost use Rattle.notify_list.specs.Plays.{at_ticket, at_one, at_all, at_leave, at_wait};
 
 use crate::stride::Stride;
 use crate::view::{Known, Record, Setting};
@@ -35,6 +35,13 @@ pub struct AtAll;
 
 impl Start<Record, Known> for AtAll {
     ghost at = { λ st. at_all };
+}
+
+/// E1, of a parked seat.
+pub struct AtLeave;
+
+impl Start<Record, Known> for AtLeave {
+    ghost at = { λ st. at_leave };
 }
 
 /// The row at which the seat stands, or W1 of a seat that holds a ticket.

@@ -19,10 +19,11 @@ pub struct Holding {
     pub(crate) ticket: u64,
 }
 
-/// A seat whose wait is queued. It must be spent, by `poll`.
+/// A seat whose wait is queued. It must be spent, by `poll` or `leave`.
 pub struct Parked {
     pub(crate) token: Token,
     pub(crate) number: u16,
+    pub(crate) may_leave: bool,
 }
 
 /// A seat that has to go on with a notification of all. It must be spent, by `retry_all`.
@@ -58,7 +59,7 @@ impl Model for Parked {
 
     ghost view = { λ s. seat_of s.token s.number };
 
-    ghost invariant = { λ s. IsParked s.token s.number };
+    ghost invariant = { λ s. IsParked s.token s.number s.may_leave };
 }
 
 impl Model for OwingAll {

@@ -19,6 +19,19 @@ pub enum TaskEntered {
     Queued,
 }
 
+/// What giving up a sleep came to.
+#[derive(Clone, Copy, Drop)]
+pub enum TaskGaveUp {
+    /// The ticket is gone: it is never granted.
+    Left,
+    /// The ticket is granted, and the task sleeps until the grant is stored.
+    Coming,
+    /// The ticket is granted.
+    Granted,
+    /// No ticket goes any more: the task sleeps on.
+    LimitReached,
+}
+
 /// What a look at a grant came to.
 #[derive(Clone, Copy, Drop)]
 pub enum TaskPolled {

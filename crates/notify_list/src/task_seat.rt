@@ -23,8 +23,8 @@ pub(crate) enum Stage {
     Resting,
     /// It holds the ticket with this word.
     Holding(u64),
-    /// Its wait is queued.
-    Parked,
+    /// Its wait is queued, and whether it may leave.
+    Parked(bool),
     /// It has to go on with a notification of all.
     OwingAll,
 }
@@ -36,7 +36,7 @@ pub enum TaskStage {
     Resting,
     /// It owes a `try_wait`.
     Holding,
-    /// It owes a `poll`.
+    /// It owes a `poll`, or leaves.
     Parked,
     /// It owes a `retry_all`.
     OwingAll,
@@ -67,7 +67,7 @@ impl TaskListSeat {
         match self.stage {
             Stage::Resting => TaskStage::Resting,
             Stage::Holding(_) => TaskStage::Holding,
-            Stage::Parked => TaskStage::Parked,
+            Stage::Parked(_) => TaskStage::Parked,
             Stage::OwingAll => TaskStage::OwingAll,
         }
     }
@@ -104,11 +104,15 @@ impl TaskListSeat {
     pub(crate) fn parked(seat: Parked) -> TaskListSeat
         ensures { result ≡ record { seat = seat; stage = stands.Parked } }
     {
-        let Parked { token, number } = seat;
+        let Parked {
+            token,
+            number,
+            may_leave,
+        } = seat;
         TaskListSeat {
             token,
             number,
-            stage: Stage::Parked,
+            stage: Stage::Parked(may_leave),
         }
     }
 

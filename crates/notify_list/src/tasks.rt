@@ -7,15 +7,16 @@ ghost use Rattle.std.specs.Prelude.{◌≡◌, All, IfOk, IfErr, map};
 ghost use Rattle.notify_list.specs.declared.task_seat.TaskStage.TheVariants.{Resting};
 ghost use Rattle.notify_list.specs.Making.{IsRefused};
 ghost use Rattle.notify_list.specs.Tasks.{IsMadeForTasks, AddsByTask, LooksByTask, EntersByTask, PollsByTask};
+ghost use Rattle.notify_list.specs.Tasks.{LeavesByTask};
 ghost use Rattle.notify_list.specs.Tasks.{NotifiesOneByTask, NotifiesAllByTask, GoesOnByTask};
 
 use crate::notified::{Notified, NotifiedAll};
 use crate::notify_list::NotifyList;
 use crate::seat::{Holding, ListSeat, OwingAll, Parked};
 use crate::setup_error::SetupError;
-use crate::task_answers::{TaskEntered, TaskPolled, TaskRefused};
+use crate::task_answers::{TaskEntered, TaskGaveUp, TaskPolled, TaskRefused};
 use crate::task_seat::{Stage, TaskListSeat};
-use crate::waited::{Entered, Polled};
+use crate::waited::{Entered, GaveUp, Polled};
 use std::alloc::{AllocError, Global};
 use std::marker::Model;
 
@@ -127,13 +128,43 @@ impl TaskList {
         requires { seat.seat.list ≡ self.now }
         ensures { PollsByTask seat result.1 result.0 }
     {
-        let Stage::Parked = seat.stage else {
+        let Stage::Parked(may_leave) = seat.stage else {
             return (seat, Err(TaskRefused::OtherCall));
         };
         let TaskListSeat { token, number, .. } = seat;
-        match self.list.poll(Parked { token, number }) {
+        let parked = Parked {
+            token,
+            number,
+            may_leave,
+        };
+        match self.list.poll(parked) {
             Polled::Still(parked) => (TaskListSeat::parked(parked), Ok(TaskPolled::Still)),
             Polled::Granted(seat) => (TaskListSeat::resting(seat), Ok(TaskPolled::Granted)),
+        }
+    }
+
+    /// As [`NotifyList::try_leave`].
+    pub fn leave(&self, seat: TaskListSeat) -> (TaskListSeat, Result<TaskGaveUp, TaskRefused>)
+        requires { seat.seat.list ≡ self.now }
+        ensures { LeavesByTask seat result.1 result.0 }
+    {
+        let Stage::Parked(may_leave) = seat.stage else {
+            return (seat, Err(TaskRefused::OtherCall));
+        };
+        let TaskListSeat { token, number, .. } = seat;
+        let parked = Parked {
+            token,
+            number,
+            may_leave,
+        };
+        match self.list.leave_silently(parked) {
+            Ok(GaveUp::Left(seat)) => (TaskListSeat::resting(seat), Ok(TaskGaveUp::Left)),
+            Ok(GaveUp::Coming(parked)) => (TaskListSeat::parked(parked), Ok(TaskGaveUp::Coming)),
+            Ok(GaveUp::Granted(seat)) => (TaskListSeat::resting(seat), Ok(TaskGaveUp::Granted)),
+            Ok(GaveUp::LimitReached(parked)) => {
+                (TaskListSeat::parked(parked), Ok(TaskGaveUp::LimitReached))
+            }
+            Err(parked) => (TaskListSeat::parked(parked), Err(TaskRefused::Busy)),
         }
     }
 

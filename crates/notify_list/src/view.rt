@@ -1,4 +1,5 @@
 //! What a seat knows, and what lies in the slot. A clause reads an array as a list, of any length.
+use crate::live::Live;
 use std::marker::Model;
 use step_table::{ListPlace, Ticket};
 use waiters::{ListKey, Lists, Wait};
@@ -10,10 +11,11 @@ pub struct Setting {
     pub seats: u32,
 }
 
-/// An entry of the list's journal: the seat took a ticket, or it granted tickets, so that this many are. No
-/// value of it is made.
+/// An entry of the list's journal: the seat took a ticket, or it granted tickets up to this many, or it left
+/// with the ticket of this number. No value of it is made.
 pub struct Told {
     upto: Option<u64>,
+    gone: Option<u64>,
     seat: u64,
 }
 
@@ -30,15 +32,20 @@ pub struct Sight {
 pub struct Known {
     pub setting: Setting,
     pub sight: Sight,
-    /// The list of waits after the seat's last stride.
+    /// What lay under the lock after the seat's last stride: the list of waits, the number of the first ticket
+    /// that is neither granted nor gone, and the numbers of the gone ones after it.
     pub queue: [Wait; 0],
+    pub passed: u64,
+    pub gone: [u64; 0],
 }
 
-/// The record under the lock: the list of waits.
+/// The record under the lock: the list of waits, which tickets are gone, and whether few are passed.
 #[derive(Drop)]
 pub struct Record {
     pub lists: Lists,
     pub key: ListKey,
+    pub live: Live,
+    pub early: bool,
 }
 
 impl Model for Told {
@@ -47,7 +54,7 @@ impl Model for Told {
 
     ghost Value = { ListEntry };
 
-    ghost view = { λ told. entry_of told.upto told.seat };
+    ghost view = { λ told. entry_of told.upto told.gone told.seat };
 }
 
 impl Model for Sight {

@@ -1,10 +1,10 @@
 //! Waiting with a ticket.
 ghost use Rattle.std.specs.Prelude.{◌≡◌, MatchResult};
-ghost use Rattle.step_law_lists.specs.ListLawful.{Follows};
+ghost use Rattle.notify_list.specs.declared.waited.Polled.TheVariants.{Granted};
 ghost use Rattle.notify_list.specs.Seats.{Token as Before, seat_of};
 ghost use Rattle.notify_list.specs.Entering.{MayEnter};
 ghost use Rattle.notify_list.specs.Waiting.{IsWaited, IsGranted, IsEntered, TakesGrant};
-ghost use Rattle.notify_list.specs.Callers.{WaitsForGrant, EntersWait, StandsOn};
+ghost use Rattle.notify_list.specs.Callers.{WaitsForGrant, EntersWait, PollsGrant, StandsOn};
 ghost use Rattle.notify_list.specs.Meeting.{FindsHeld};
 
 use crate::notify_list::{LOCK, NOTIFY, NotifyList, WAIT, grant_word};
@@ -17,7 +17,7 @@ use step_table::less;
 use waiters::{SeatId, WaitId};
 
 /// How long a seat looks for its grant. Where more than two tickets aren't granted it doesn't look.
-const PATIENCE: Patience = Patience {
+pub(crate) const PATIENCE: Patience = Patience {
     rounds: 10,
     looks: 100,
     gives_way: GivesWay::Crowded {
@@ -34,25 +34,30 @@ impl NotifyList {
         ensures granted { IsGranted holding result.0 }
         ensures caller { WaitsForGrant holding result.1 result.0 }
     {
+        match self.queue(rt, holding) {
+            Entered::AtOnce(seat) => (seat, Waited::AtOnce),
+            Entered::Queued(parked) => (self.sleep(rt, parked), Waited::Parked),
+        }
+    }
+
+    /// The same up to the sleep.
+    pub(crate) fn queue<R: Wait>(&self, rt: &R, holding: Holding) -> Entered
+        requires { holding.list ≡ self.now }
+        ensures rows { IsEntered holding result }
+        ensures caller { EntersWait holding result }
+    {
         let Holding {
             mut token,
             number,
             ticket,
         } = holding;
         self.lock(rt, &mut token);
-        match self.enter(token, number, ticket) {
-            Entered::AtOnce(seat) => {
-                self.rouse_at_lock(&seat.token);
-                (seat, Waited::AtOnce)
-            }
-            Entered::Queued(parked) => {
-                self.rouse_at_lock(&parked.token);
-                (self.sleep(rt, parked), Waited::Parked)
-            }
-        }
+        let entered = self.enter(token, number, ticket);
+        self.rouse_after_entering(&entered);
+        entered
     }
 
-    /// The same up to the sleep, for a caller that must not wait: where the list's lock stays held, the seat
+    /// The same for a caller that must not wait: where the list's lock stays held, the seat
     /// comes back as it stood. A seat that is parked then polls for its grant.
     pub fn try_wait(&self, holding: Holding) -> Result<Entered, Holding>
         requires { holding.list ≡ self.now }
@@ -60,12 +65,18 @@ impl NotifyList {
         ensures caller { MatchResult result (λ entered. EntersWait holding entered) (λ kept. StandsOn holding kept) }
     {
         let tried = self.wait_silently(holding);
-        match &tried {
-            Ok(Entered::AtOnce(seat)) => self.rouse_at_lock(&seat.token),
-            Ok(Entered::Queued(parked)) => self.rouse_at_lock(&parked.token),
-            Err(_) => {}
+        if let Ok(entered) = &tried {
+            self.rouse_after_entering(entered);
         }
         tried
+    }
+
+    /// Wakes one thread that sleeps at the lock, which was given back.
+    fn rouse_after_entering(&self, entered: &Entered) {
+        match entered {
+            Entered::AtOnce(seat) => self.rouse_at_lock(&seat.token),
+            Entered::Queued(parked) => self.rouse_at_lock(&parked.token),
+        }
     }
 
     /// The same, and nobody is woken.
@@ -109,18 +120,27 @@ impl NotifyList {
         let id = WaitId { seat, turn: 0 };
         // Queued in the hold of the lock in which the ticket was found ungranted: who grants it finds the
         // wait.
+        let may_leave = self.may_leave(&mut token, ticket);
         self.insert(&mut token, waiters::Wait { id, ticket });
         self.words.return_lock(&mut token, LOCK);
-        Entered::Queued(Parked { token, number })
+        Entered::Queued(Parked {
+            token,
+            number,
+            may_leave,
+        })
     }
 
     /// Waits for the grant of a queued wait, and takes it.
-    fn sleep<R: Wait>(&self, rt: &R, parked: Parked) -> ListSeat
+    pub(crate) fn sleep<R: Wait>(&self, rt: &R, parked: Parked) -> ListSeat
         requires { parked.list ≡ self.now }
         ensures took { TakesGrant parked result }
-        ensures lawful { Follows result.sight.seen }
+        ensures caller { PollsGrant parked (Granted result) }
     {
-        let Parked { mut token, number } = parked;
+        let Parked {
+            mut token,
+            number,
+            may_leave: _,
+        } = parked;
         let grant = grant_word(number);
         let asleep = self.asleep_word(number);
         let misses = self.misses_word(number);

@@ -4,19 +4,19 @@
 //!
 //! No export has a `requires`: a handle without a seat, or with one of the other kind, a counter that isn't
 //! there and a call out of turn have a code (`NO_SEAT`, `NO_COUNTER`, `OTHER_CALL`), and nothing is done.
-//! Limits are those of the table and the list: 1 to 65,536 counters, 1 to 256 seats, 1 to 251 roots, 1 to 2^40
-//! units that a seat may add. No call waits, and none calls the kernel.
+//! Limits are those of the table and the list: 1 to 65,536 counters, 1 to 65,536 seats (of a list 256), 1 to 251
+//! roots, 1 to 2^54 units that a seat may spend, 2^62 that all may. No call waits, and none calls the kernel.
 #![tactic(auto)]
 
 ghost use Rattle.sema_table.specs.Tasks.{TriesByTask, PostsByTask};
 ghost use Rattle.sema_table.specs.Tasks.{ReadsByTask, CountsByTask, PostsManyByTask};
 ghost use Rattle.sema_table.specs.Tasks.{EntersByTask, PollsByTask};
-ghost use Rattle.sema_table.specs.Tasks.{RetriesByTask, WakesByTask, WakesSomeByTask};
+ghost use Rattle.sema_table.specs.Tasks.{LeavesByTask, RetriesByTask, WakesByTask, WakesSomeByTask};
 ghost use Rattle.sema_table.specs.declared.task_seat.TaskStage.TheVariants.{Resting};
 ghost use Rattle.std.specs.Prelude.{◌≡◌, ◌⊎◌};
 ghost use Rattle.c_calls.specs.Handles.{table_seat, list_seat};
 ghost use Rattle.c_calls.specs.Codes.{refused_code, tried_code, entered_code, polled_code};
-ghost use Rattle.c_calls.specs.Codes.{retried_code, posted_code, wake_code};
+ghost use Rattle.c_calls.specs.Codes.{gave_up_code, retried_code, posted_code, wake_code};
 ghost use Rattle.c_calls.specs.Codes.{told, done, IsOk, IsOneOrHanded};
 ghost use Rattle.c_calls.specs.Answers.{Answers, Telling, NamesWoken};
 ghost use Rattle.c_calls.specs.Answers.{NamesEach, LacksRoom, TellsNumber, Frees};
@@ -123,6 +123,22 @@ pub extern "C" fn parklot_poll(seat: &mut SeatHandle) -> u32
         return NO_SEAT;
     };
     place.poll()
+}
+
+/// Gives up the wait of a seat that sleeps: LEFT or COMING; where it was granted WOKEN or HANDED; or BUSY or LIMIT.
+#[unsafe(no_mangle)]
+pub extern "C" fn parklot_leave(seat: &mut SeatHandle) -> u32
+    ensures other { list_seat seat.new ≡ list_seat seat.old }
+    ensures answer { Answers refused_code gave_up_code LeavesByTask
+        (table_seat seat.old) result (table_seat seat.new) }
+{
+    if !seat.is_full {
+        return NO_SEAT;
+    }
+    let KeptSeat::OfTable(place) = seat.cell.place() else {
+        return NO_SEAT;
+    };
+    place.leave()
 }
 
 /// The try of a seat that was woken: TAKEN, or ZERO, and then it enters again.

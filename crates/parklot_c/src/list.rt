@@ -1,11 +1,11 @@
 //! The exports of a list: tickets on which tasks wait, and which they grant.
 ghost use Rattle.std.specs.Prelude.{◌≡◌, ◌⊎◌};
 ghost use Rattle.notify_list.specs.Tasks.{AddsByTask, LooksByTask};
-ghost use Rattle.notify_list.specs.Tasks.{EntersByTask, PollsByTask, NotifiesOneByTask};
+ghost use Rattle.notify_list.specs.Tasks.{EntersByTask, PollsByTask, LeavesByTask, NotifiesOneByTask};
 ghost use Rattle.notify_list.specs.declared.task_seat.TaskStage.TheVariants.{Resting};
 ghost use Rattle.c_calls.specs.Handles.{table_seat, list_seat};
 ghost use Rattle.c_calls.specs.Codes.{told, done, IsOk, IsOne};
-ghost use Rattle.c_calls.specs.ListCodes.{refused_code, entered_code, polled_code, one_code};
+ghost use Rattle.c_calls.specs.ListCodes.{refused_code, entered_code, polled_code, gave_up_code, one_code};
 ghost use Rattle.c_calls.specs.Answers.{Answers, Telling, LacksRoom, TellsNumber, Frees};
 ghost use Rattle.c_calls.specs.Answers.{WritesOnlyWith, WritesSeats};
 ghost use Rattle.c_calls.specs.ListAnswers.{NotifiesOrGoesOn, NamesGranted, NamesAll};
@@ -97,6 +97,22 @@ pub extern "C" fn parklot_list_poll(seat: &mut SeatHandle) -> u32
         return NO_SEAT;
     };
     place.poll()
+}
+
+/// Gives up the wait of a seat that is parked: LEFT or COMING; where its ticket was granted WOKEN; or BUSY or LIMIT.
+#[unsafe(no_mangle)]
+pub extern "C" fn parklot_list_leave(seat: &mut SeatHandle) -> u32
+    ensures other { table_seat seat.new ≡ table_seat seat.old }
+    ensures answer { Answers refused_code gave_up_code LeavesByTask
+        (list_seat seat.old) result (list_seat seat.new) }
+{
+    if !seat.is_full {
+        return NO_SEAT;
+    }
+    let KeptSeat::OfList(place) = seat.cell.place() else {
+        return NO_SEAT;
+    };
+    place.leave()
 }
 
 /// Grants the least ticket that isn't granted. Where a seat is parked with it, that one is woken, and its

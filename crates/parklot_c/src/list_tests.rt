@@ -77,8 +77,28 @@ fn all_names_those_that_are_parked(rt: HostRuntime) {
     at_list(&rt, rt.alloc(), &WOKEN_BY_ALL);
 }
 
-static NOT_NEXT: [Line; 7] = [
+static LEFT_THEN_GRANTED: [Line; 11] = [
+    (0, Call::ListAdd, OK, 5),
+    (0, Call::ListTryWait, PARKED, UNTOLD),
+    (0, Call::ListLeave, LEFT, UNTOLD),
+    (1, Call::ListQuiet(false), OK, 1),
+    (1, Call::ListOne, NOBODY, UNTOLD),
+    (0, Call::ListAdd, OK, 6),
+    (0, Call::ListTryWait, PARKED, UNTOLD),
+    (1, Call::ListOne, ONE, 0),
+    (0, Call::ListLeave, WOKEN, UNTOLD),
+    (0, Call::ListLeave, OTHER_CALL, UNTOLD),
+    (1, Call::ListQuiet(false), OK, 1),
+];
+
+#[test]
+fn parked_seat_leaves(rt: HostRuntime) {
+    at_list(&rt, rt.alloc(), &LEFT_THEN_GRANTED);
+}
+
+static NOT_NEXT: [Line; 8] = [
     (0, Call::ListPoll, OTHER_CALL, UNTOLD),
+    (0, Call::ListLeave, OTHER_CALL, UNTOLD),
     (0, Call::ListTryWait, OTHER_CALL, UNTOLD),
     (0, Call::ListAdd, OK, 5),
     (0, Call::ListOne, OTHER_CALL, UNTOLD),

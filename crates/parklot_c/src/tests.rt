@@ -111,8 +111,45 @@ fn unit_is_gone_when_the_woken_comes(rt: HostRuntime) {
     at_table(&rt, rt.alloc(), 0, &GONE_UNIT);
 }
 
-static NOT_NEXT: [Line; 13] = [
+static LEFT_SLEEPER: [Line; 5] = [
+    (0, Call::Enter(0, false), ASLEEP, UNTOLD),
+    (0, Call::Leave, LEFT, UNTOLD),
+    (1, Call::WaitersOfRoot(0), OK, 0),
+    (1, Call::Post(0), DONE, UNTOLD),
+    (0, Call::TryAcquire(0), TAKEN, UNTOLD),
+];
+
+#[test]
+fn sleeper_leaves(rt: HostRuntime) {
+    at_table(&rt, rt.alloc(), 0, &LEFT_SLEEPER);
+}
+
+static GRANTED_BEFORE: [Line; 8] = [
+    (0, Call::Enter(0, false), ASLEEP, UNTOLD),
+    (1, Call::Post(0), OWES, UNTOLD),
+    (1, Call::Wake(false), ONE, 0),
+    (0, Call::Leave, WOKEN, UNTOLD),
+    (0, Call::Retry, TAKEN, UNTOLD),
+    (1, Call::Enter(0, true), ASLEEP, UNTOLD),
+    (0, Call::Post(0), OWES, UNTOLD),
+    (0, Call::Wake(true), HANDED, 1),
+];
+
+static FOUND_HANDED: [Line; 1] = [(1, Call::Leave, HANDED, UNTOLD)];
+
+#[test]
+fn grant_is_found_by_who_leaves(rt: HostRuntime) {
+    let Some(mut seats) = pair(&rt, rt.alloc(), 0) else {
+        return;
+    };
+    play(&rt, rt.alloc(), &mut seats, &GRANTED_BEFORE);
+    play(&rt, rt.alloc(), &mut seats, &FOUND_HANDED);
+    play(&rt, rt.alloc(), &mut seats, &FREED);
+}
+
+static NOT_NEXT: [Line; 14] = [
     (0, Call::Poll, OTHER_CALL, UNTOLD),
+    (0, Call::Leave, OTHER_CALL, UNTOLD),
     (0, Call::Retry, OTHER_CALL, UNTOLD),
     (0, Call::TryAcquire(1), NO_COUNTER, UNTOLD),
     (0, Call::PostMany(0, 257), UNITS, UNTOLD),

@@ -12,6 +12,7 @@ use Rattle.program_steps.specs.Calls.{call_of}
 use Rattle.program_code.specs.WellFormed.{IsLine}
 use Rattle.program_steps.specs.World.{ProgramWorld, layer_of}
 use Rattle.program_steps.proofs.Calling.{AllowedIf, may_begin}
+use Rattle.program_steps.proofs.Staying.{StaysAt, IsStaying}
 use Rattle.step_core.specs.State.{WholeMachine, no_list, core_of, IsMachineFor, HasSeatOn}
 use Rattle.step_core.specs.State.{MayBegin, MayGoOn, MayGo, AsksFor}
 use Rattle.step_core.proofs.ListRanges.{nothing_held, first_held}
@@ -19,7 +20,7 @@ use Rattle.step_core.proofs.Ranges.{grant_most, total_fewer, first_in_hand}
 use Rattle.step_law_alike.proofs.ChangedLists.{well_formed_list}
 use Rattle.step_law_lists.specs.ListInvariant.{HandFits}
 use Rattle.step_law_lists.specs.ListLawful.{times as times_on_list}
-use Rattle.step_law_lists.specs.ListWellFormed.{asleep_on_list, IsWellFormedList}
+use Rattle.step_law_lists.specs.ListWellFormed.{asleep_on_list, IsWellFormedList, StillReads}
 use Rattle.step_law_lists.proofs.ListPlacing.{waiter_of}
 use Rattle.step_law_lists.proofs.ListSleeping.{room}
 use Rattle.step_law_semaphores.specs.Invariant.{IsInvariant, Finds, asleep}
@@ -36,17 +37,18 @@ use Rattle.step_rows.specs.Stored.{Stored, IsStoredFor, HasRow, HasRowsOf, HasHa
 use Rattle.step_rows.proofs.Rooting.{root_within}
 use Rattle.step_table.specs.declared.call.Call.{Call}
 use Rattle.step_table.specs.declared.entry.Entry.{Entry}
-use Rattle.step_table.specs.declared.list_place.AllRow.TheVariants.{L7}
+use Rattle.step_table.specs.declared.list_place.AllRow.TheVariants.{L6, L7}
 use Rattle.step_table.specs.declared.list_place.ListPlace.{ListPlace}
 use Rattle.step_table.specs.declared.list_place.ListPlace.TheVariants.{Waiting, NotifyingAll}
-use Rattle.step_table.specs.declared.list_place.WaitRow.TheVariants.{W2, W4}
+use Rattle.step_table.specs.declared.list_place.WaitRow.TheVariants.{W2, W4, Parked}
+use Rattle.step_table.specs.declared.list_place.ListParkedRow.TheVariants.{E3}
 use Rattle.step_table.specs.declared.place.AcquireRow.TheVariants.{A7}
 use Rattle.step_table.specs.declared.place.ManyRow.TheVariants.{M5}
 use Rattle.step_table.specs.declared.place.Place.{Place}
 use Rattle.step_table.specs.declared.place.Place.TheVariants.{Acquiring, Releasing, ReleasingMany}
 use Rattle.step_table.specs.declared.place.ReleaseRow.TheVariants.{R5}
 use Rattle.step_table.specs.declared.standing.After.{After}
-use Rattle.step_table.specs.declared.standing.After.TheVariants.{NextCall, LooksAgain, Releases}
+use Rattle.step_table.specs.declared.standing.After.TheVariants.{Closes, LooksAgain, Releases}
 use Rattle.step_table.specs.declared.standing.Standing.{Standing}
 use Rattle.step_table.specs.declared.standing.Standing.TheVariants.{Rest, AtCounter, AtList, AtGroup}
 use Rattle.step_table.specs.declared.word.Word.{Word}
@@ -59,10 +61,18 @@ use Rattle.step_table.proofs.Sums.{total_has}
 use Rattle.step_table.proofs.SumsOfSums.{total_most}
 
 -- the lists
-module _ (seats i : ℕ) (s : ListWorld) (there : i < seats) (inv : IsWellFormedList 0 seats s) (few : s.words.numbers.handed ≤ 9223372036854775808) where
+module _ (seats i : ℕ) (s : ListWorld) (there : i < seats) (inv : IsWellFormedList 0 seats s) (few : s.words.numbers.handed ≤ 9223372036854775808)
+    (none : s.words.numbers.gone ≡ []) (stays : StaysAt (s.seats i).place) where
+  none_gone : length s.words.numbers.gone ≡ 0
+  none_gone = ap (λ l. length l) none
+
   list_asks_at : (place : ListPlace) → (s.seats i).place ≡ place → AsksAt seats s.words s.seats (s.seats i) place
   list_asks_at (Waiting t W2) is = let le = inv.words.2 in omega arith
   list_asks_at (Waiting t W4) is = room seats s inv.placed i there (ap (λ p. asleep_on_list p (s.words.grants i)) is)
+  list_asks_at (Waiting t (Parked (E3 v))) is = absurd (subst StaysAt is stays)
+  list_asks_at (NotifyingAll h (L6 r)) is =
+      let reads = subst (StillReads 0 s.words) is (inv.seats_known i there).reads in
+      let most = reads.2 in let gone = none_gone in omega arith
   list_asks_at (NotifyingAll h (L7 n)) is =
       nothing_held (s.seats i).hand (subst (λ p. HandFits p (length (s.seats i).hand)) is (inv.seats_known i there).fits)
   list_asks_at _ is = tt
@@ -72,7 +82,7 @@ module _ (seats i : ℕ) (s : ListWorld) (there : i < seats) (inv : IsWellFormed
   has_list_row = record {
     seat = there;
     handed = omega arith;
-    granted = let le = inv.words.2 in omega arith;
+    passed = let le = inv.words.2 in let gone = none_gone in omega arith;
     waiter = first_held seats (s.seats i).hand
         (λ w some. let held = total_has seats (λ k. times_on_list w (s.seats k).hand) i there in (waiter_of seats s w inv.placed (omega arith)).2);
     asks = list_asks_at (s.seats i).place refl;
@@ -140,8 +150,8 @@ module _ (p : Program) (few : IsFew p) (n : ℕ) (small : n ≤ 2 ^ 63) (h : Who
   within_at : (place : Place) → caller.place ≡ place → IsWithin rows_of.counters place
   within_at place is = subst (IsWithin rows_of.counters) is (law.seats i).within
 
-  finds_at : (place : Place) → caller.place ≡ place → Finds (each [] words.lists) place
-  finds_at place is = subst (Finds (each [] words.lists)) is (law.finds i there)
+  finds_at : (place : Place) → caller.place ≡ place → Finds i (each [] words.lists) place
+  finds_at place is = subst (Finds i (each [] words.lists)) is (law.finds i there)
 
   -- a seat that is about to queue a wait isn't asleep, and one that is about to take one out has one to take
   may_move : (place : Place) → caller.place ≡ place → MayMove words place
@@ -174,7 +184,7 @@ module _ (p : Program) (few : IsFew p) (n : ℕ) (small : n ≤ 2 ^ 63) (h : Who
         seat = omega arith;
         hand = let hands = so.hands in omega arith;
         waiter = first_in_hand hand (length words.grants)
-            (λ w in_it. let parked = (in_a_hand rows_of world law.placed i w there in_it).4 in omega arith);
+            (λ w in_it. let parked = (in_a_hand rows_of world law.placed i w there in_it).5 in omega arith);
         moves = may_move caller.place refl;
       }
 
@@ -189,23 +199,24 @@ module _ (p : Program) (few : IsFew p) (n : ℕ) (small : n ≤ 2 ^ 63) (h : Who
   can_step : (l : ℕ) → l < p.lists → CanStep (each no_list h.lists l) i
   can_step l within =
       let list : ListWorld = layer.lists l in
+      let handed : list.words.numbers.handed ≤ 9223372036854775808 = let few = shows.counts.handed l in omega arith in
       subst (λ n. HasListRow n list.words list.seats i) (sym (are.seats l within))
-      (has_list_row (length p.seats) i list there (well_formed_list 0 (length p.seats) list (shows.invariant.lists l))
-      (let handed = shows.counts.handed l in omega arith))
+      (has_list_row (length p.seats) i list there (well_formed_list 0 (length p.seats) list (shows.invariant.lists l) handed) handed
+      (shows.counts.gone l) (shows.stay.places l i))
 
   asks_at : (doing : Standing) → IsStanding (layer_of p) layer i doing → AsksFor h i doing
   asks_at (AtCounter after) is = has_row
-  asks_at (AtList l) is = (let within = is.2 in let all = are.lists in omega arith, can_step l is.2)
+  asks_at (AtList l ending) is = (let within = is.2 in let all = are.lists in omega arith, can_step l is.2)
   asks_at (AtGroup g row) is = absurd (let within = is.1 in omega arith)
   asks_at _ is = tt
 
   on_at : (doing : Standing) → IsStanding (layer_of p) layer i doing → HasSeatOn h i doing
-  on_at (AtList l) is = has_list_seat p h shows.form l i is.2 there
+  on_at (AtList l ending) is = has_list_seat p h shows.form l i is.2 there
   on_at _ is = tt
 
   go_on_at : (after : After) (place : Place) → IsCallBefore (layer_of p) after place → MayGoOn h after
-  go_on_at NextCall place is = tt
-  go_on_at (LooksAgain g) place is = tt
+  go_on_at (Closes ending) place is = tt
+  go_on_at (LooksAgain g ending) place is = tt
   go_on_at (Releases g more) (Releasing r row) is = absurd (let within = is.2 in omega arith)
   go_on_at (Releases g more) _ is = absurd is
 
@@ -225,17 +236,21 @@ module _ (p : Program) (few : IsFew p) (n : ℕ) (small : n ≤ 2 ^ 63) (h : Who
 module _ (p : Program) (few : IsFew p) (n : ℕ) (small : n ≤ 2 ^ 63) (h : WholeMachine) (journal : List Entry) (shows : IsLayer p n h journal)
     (i : ℕ) (there : i < length p.seats) (rests : each Rest h.standing i ≡ Rest) where
   -- the first row of a call that the layer's seat may begin
-  pub may_run_first : (call : Call) → MayCall (layer_of p) (core_of h journal) i call → MayRunFirst h i call
-  may_run_first call may k is = may_run p few n small k journal (layer_called p few n h journal shows i there rests call may k is) i there
+  pub may_run_first : (call : Call) → MayCall (layer_of p) (core_of h journal) i call → IsStaying call → MayRunFirst h i call
+  may_run_first call may staying k is =
+      may_run p few n small k journal (layer_called p few n h journal shows i there rests call may staying k is) i there
 
   -- and of the call of a line of the program
   module _ (s : ProgramWorld) (same : s.layer ≡ core_of h journal) (lines : ℕ) (l : Instruction) (is : IsLine p lines l) (call : Call)
       (begins : call_of s i l ≡ Some (Ok call)) where
+    allowed : AllowedIf p s i (Some (Ok call))
+    allowed = subst (AllowedIf p s i) begins (may_begin p s i lines l is)
+
     pub line_may_call : MayCall (layer_of p) (core_of h journal) i call
-    line_may_call = subst (λ (c : Core). MayCall (layer_of p) c i call) same (subst (AllowedIf p s i) begins (may_begin p s i lines l is))
+    line_may_call = subst (λ (c : Core). MayCall (layer_of p) c i call) same allowed.0
 
     pub line_may_begin : MayBegin h i call
     line_may_begin = may_call p h shows.form (core_of h journal) i there call line_may_call
 
     pub line_may_run_first : MayRunFirst h i call
-    line_may_run_first = may_run_first call line_may_call
+    line_may_run_first = may_run_first call line_may_call allowed.1

@@ -1,6 +1,6 @@
 -- The row of the line before which a seat stands: what it asks for is there, and what it has made is the definition's row.
 use Rattle.std.proofs.Common.{◌≡◌, ℕ, ◌<◌, List, [], Option, Some, None, Result, Ok, Err, IfOk, IfErr, OnOk}
-use Rattle.std.proofs.Common.{length, refl, sym, ap, ◌∙◌, subst, arith}
+use Rattle.std.proofs.Common.{length, refl, sym, ap, ◌∙◌, subst}
 use Rattle.std.specs.Prelude.{slice_index_or}
 use Rattle.program_code.specs.declared.instruction.Instruction.{Instruction}
 use Rattle.program_code.specs.declared.instruction.Instruction.TheVariants as line
@@ -31,7 +31,8 @@ use Rattle.step_core.specs.State.{WholeMachine, AreSameSize, MayBegin, core_of}
 use Rattle.step_law_whole.specs.TheCore.{MayCall}
 use Rattle.step_rows.specs.Stored.{each}
 use Rattle.step_table.specs.declared.call.Call.{Call}
-use Rattle.step_table.specs.declared.call.Call.TheVariants.{Acquire, Release, ReleaseMany, Add, Wait, One, All, GroupAdd, GroupWait}
+use Rattle.step_table.specs.declared.call.Call.TheVariants.{Acquire, AcquireOrLeave, Release, ReleaseMany, Add, Wait, WaitOrLeave}
+use Rattle.step_table.specs.declared.call.Call.TheVariants.{One, All, GroupAdd, GroupWait, GroupWaitOrLeave}
 use Rattle.step_table.specs.declared.entry.Entry.{Entry}
 use Rattle.step_table.specs.declared.standing.Standing.TheVariants.{Rest}
 use Rattle.step_table.specs.Core.{CoreLayout}
@@ -88,14 +89,17 @@ module _ (h : WholeMachine) (own : Stored) (i : ℕ) (j k : List Entry) where
 
   may_same : (m : CoreLayout) (call : Call) → MayCall m (core_of h j) i call → MayCall m (core_of h k) i call
   may_same m (Acquire c lifo) may = may
+  may_same m (AcquireOrLeave c lifo how) may = may
   may_same m (Release c handoff) may = may
   may_same m (ReleaseMany c n) may = may
   may_same m (Add l) may = may
   may_same m (Wait l) may = may
+  may_same m (WaitOrLeave l how) may = may
   may_same m (One l) may = may
   may_same m (All l) may = may
   may_same m (GroupAdd g d) may = may
   may_same m (GroupWait g) may = may
+  may_same m (GroupWaitOrLeave g skips) may = may
 
 -- what a line of a well formed program asks for
 module _ (p : Program) (few : IsFew p) (lines : ℕ) where
@@ -191,8 +195,7 @@ module _ (p : Program) (s : Shared) (i : ℕ) (can : CanGoOn p s i) where
 
         rests : each Rest s.layer.standing i ≡ Rest
         rests = subst (IsAtRest world i) before.stand
-            ((all_keep p (let seats = can.sound.few.seats in omega arith) can.sound.formed can.sound.past.schedule world
-            can.sound.past.reached).resting i can.there)
+            ((all_keep p can.sound.formed can.sound.past.schedule world can.sound.past.reached).resting i can.there)
 
         pub seat_may : MayCall (layer_of p) (core_of s.layer []) i call
         seat_may = may_same s.layer s.own i can.sound.past.journal [] (layer_of p) call

@@ -5,7 +5,7 @@ use Rattle.program_code.specs.declared.program.Program.{Program}
 use Rattle.program_machine.specs.Shared.{Shared, world_of}
 use Rattle.program_machine.specs.Sound.{IsSound}
 use Rattle.program_machine.proofs.Asking.{may_run}
-use Rattle.program_machine.proofs.Showing.{IsLayer, layer_reached, has_seat, has_list_seat}
+use Rattle.program_machine.proofs.Showing.{IsLayer, layer_reached, stored_is, has_seat, has_list_seat}
 use Rattle.step_core.specs.State.{HasSeatOn, HasSeatAt, AsksFor}
 use Rattle.step_law_whole.specs.CoreLaw.{IsStanding}
 use Rattle.step_rows.specs.Stored.{each}
@@ -20,11 +20,14 @@ module _ (p : Program) (n : ℕ) (s : Shared) (sound : IsSound p n s) (i : ℕ) 
       s.layer sound.past.journal sound.form refl
 
   on_at : (doing : Standing) → IsStanding (layer_of p) (core_of s.layer sound.past.journal) i doing → HasSeatOn s.layer i doing
-  on_at (AtList l) is = has_list_seat p s.layer sound.form l i is.2 there
+  on_at (AtList l ending) is = has_list_seat p s.layer sound.form l i is.2 there
   on_at _ is = tt
 
   pub seat_at : HasSeatAt s.layer i
   seat_at = (has_seat p s.layer sound.form i there, on_at (each Rest s.layer.standing i) (shows.invariant.standing i))
+
+  pub grant_there : i < length s.layer.semaphores.stored.grants
+  grant_there = let same = (stored_is p s.layer sound.form).grants in omega (arith, same, there)
 
   pub asks_at : n < 2 ^ 63 → AsksFor s.layer i (each Rest s.layer.standing i)
   asks_at small = (may_run p sound.few (length sound.past.schedule) (let same = sound.past.count in omega arith) s.layer sound.past.journal shows

@@ -12,6 +12,7 @@ use Rattle.program_code.specs.WellFormed.{IsWellFormed, IsFew}
 use Rattle.program_steps.specs.World.{ProgramWorld, layer_of}
 use Rattle.program_steps.proofs.Counting.{counts_at_most}
 use Rattle.program_steps.proofs.Layers.{all_keep}
+use Rattle.program_steps.proofs.Staying.{AllStay, IsStaying, calls_stay}
 use Rattle.step_core.specs.Key.{HasForm}
 use Rattle.step_core.specs.State.{WholeMachine, core_of, IsMachineFor, AreSameSize, Becomes, HasSeat, HasListSeat}
 use Rattle.step_core.specs.State.{MayBegin}
@@ -19,15 +20,18 @@ use Rattle.step_core.proofs.Changing.{same_layout}
 use Rattle.step_core.proofs.NextCalls.{still_stored}
 use Rattle.step_law_whole.specs.CoreLaw.{IsCoreInvariant}
 use Rattle.step_law_whole.specs.TheCore.{MayCall}
-use Rattle.step_law_whole.proofs.CoreCalling.{core_called}
+use Rattle.step_law_whole.proofs.CoreCalling.{calls_keep}
 use Rattle.step_rows.specs.Stored.{Stored, IsStoredFor, each}
 use Rattle.step_rows.proofs.Storing.{copies}
 use Rattle.step_table.specs.declared.call.Call.{Call}
-use Rattle.step_table.specs.declared.call.Call.TheVariants.{Acquire, Release, ReleaseMany, Add, Wait as WaitCall, One, All, GroupAdd, GroupWait}
+use Rattle.step_table.specs.declared.call.Call.TheVariants.{Acquire, AcquireOrLeave, Release, ReleaseMany, Add, Wait as WaitCall}
+use Rattle.step_table.specs.declared.call.Call.TheVariants.{WaitOrLeave, One, All, GroupAdd, GroupWait, GroupWaitOrLeave}
+use Rattle.step_table.specs.declared.standing.Ending.{Ending}
 use Rattle.step_table.specs.declared.entry.Entry.{Entry}
 use Rattle.step_table.specs.declared.parts.Parts.{Parts}
 use Rattle.step_table.specs.declared.place.Place.{Place}
 use Rattle.step_table.specs.declared.standing.After.{After}
+use Rattle.step_table.specs.declared.standing.Standing.{Standing}
 use Rattle.step_table.specs.declared.standing.Standing.TheVariants.{Rest, AtList}
 use Rattle.step_table.specs.Core.{Core, first_core}
 use Rattle.step_table.specs.CoreSteps.{at_counter, stands, calls}
@@ -59,6 +63,7 @@ form_after parts h k alike form = record {
 pub record IsLayer (p : Program) (n : ℕ) (h : WholeMachine) (journal : List Entry) : Type 0 where
   pub form : HasForm (parts_of p) h
   pub invariant : IsCoreInvariant (layer_of p) (core_of h journal)
+  pub stay : AllStay (core_of h journal)
   pub counts : CountsAtMost n (core_of h journal)
 
 -- so does that of each reached world
@@ -67,10 +72,12 @@ pub layer_reached : (p : Program) → IsFew p → IsWellFormed p → ((c : ℕ) 
     → (h : WholeMachine) (journal : List Entry) → HasForm (parts_of p) h → core_of h journal ≡ s.layer → IsLayer p (length schedule) h journal
 layer_reached p few formed starts schedule s reached h journal form same =
     let small : length p.seats ≤ 9223372036854775808 = let seats = few.seats in omega arith in
+    let keeps = all_keep p formed schedule s reached in
     record {
       form = form;
-      invariant = subst (IsCoreInvariant (layer_of p)) (sym same) (all_keep p small formed schedule s reached).layer;
-      counts = subst (CountsAtMost (length schedule)) (sym same) (counts_at_most p small formed starts schedule s reached);
+      invariant = subst (IsCoreInvariant (layer_of p)) (sym same) keeps.layer;
+      stay = subst AllStay (sym same) keeps.stay;
+      counts = subst (CountsAtMost (length schedule)) (sym same) (counts_at_most p formed starts small schedule s reached);
     }
 
 -- and the first layer is that of the machine's start
@@ -106,25 +113,31 @@ module _ (p : Program) (h : WholeMachine) (form : HasForm (parts_of p) h) where
   pub may_call : (s : Core) (i : ℕ) → i < length p.seats → (call : Call) → MayCall (layer_of p) s i call → MayBegin h i call
   may_call s i there (Add l) may = has_list_seat l i may.0 there
   may_call s i there (WaitCall l) may = has_list_seat l i may.0 there
+  may_call s i there (WaitOrLeave l how) may = has_list_seat l i may.0 there
   may_call s i there (One l) may = has_list_seat l i may there
   may_call s i there (All l) may = has_list_seat l i may there
   may_call s i there (Acquire c lifo) may = tt
+  may_call s i there (AcquireOrLeave c lifo how) may = tt
   may_call s i there (Release c handoff) may = tt
   may_call s i there (ReleaseMany c n) may = tt
   may_call s i there (GroupAdd g d) may = tt
   may_call s i there (GroupWait g) may = tt
+  may_call s i there (GroupWaitOrLeave g skips) may = tt
 
 -- a call that begins tells nothing, and counts nothing
 calls_told : (s : Core) (i : ℕ) (call : Call) → (calls s i call).journal ≡ s.journal
 calls_told s i (Acquire c lifo) = refl
+calls_told s i (AcquireOrLeave c lifo how) = refl
 calls_told s i (Release c handoff) = refl
 calls_told s i (ReleaseMany c n) = refl
 calls_told s i (Add l) = refl
 calls_told s i (WaitCall l) = refl
+calls_told s i (WaitOrLeave l how) = refl
 calls_told s i (One l) = refl
 calls_told s i (All l) = refl
 calls_told s i (GroupAdd g d) = refl
 calls_told s i (GroupWait g) = refl
+calls_told s i (GroupWaitOrLeave g skips) = refl
 
 module _ (n : ℕ) (s : Core) (i : ℕ) (counts : CountsAtMost n s) where
   counter_counts : (place : Place) (after : After) → CountsAtMost n (at_counter s i place after)
@@ -132,44 +145,59 @@ module _ (n : ℕ) (s : Core) (i : ℕ) (counts : CountsAtMost n s) where
     turns = λ k. put_at (λ k (z : SeatState). z.turn ≤ n) s.semaphores.seats i (record (s.semaphores.seats i) { place = place }) k
         (counts.turns i) (λ ne. counts.turns k);
     handed = counts.handed;
-    granted = counts.granted;
+    passed = counts.passed;
+    gone = counts.gone;
     numbers = counts.numbers;
   }
 
-  list_counts : (l : ℕ) (w : ListWorld) → w.words.numbers ≡ (s.lists l).words.numbers
-      → CountsAtMost n (stands (record s { lists = put s.lists l w }) i (AtList l))
-  list_counts l w same = record {
+  list_counts : (l : ℕ) (w : ListWorld) (ending : Ending) → w.words.numbers ≡ (s.lists l).words.numbers
+      → CountsAtMost n (stands (record s { lists = put s.lists l w }) i (AtList l ending))
+  list_counts l w ending same = record {
     turns = counts.turns;
     handed = λ k. put_at (λ k (w : ListWorld). w.words.numbers.handed ≤ n) s.lists l w k
         (subst (λ (x : Numbers). x.handed ≤ n) (sym same) (counts.handed l)) (λ ne. counts.handed k);
-    granted = λ k. put_at (λ k (w : ListWorld). w.words.numbers.granted ≤ w.words.numbers.handed) s.lists l w k
-        (subst (λ (x : Numbers). x.granted ≤ x.handed) (sym same) (counts.granted l)) (λ ne. counts.granted k);
+    passed = λ k. put_at (λ k (w : ListWorld). w.words.numbers.passed ≤ w.words.numbers.handed) s.lists l w k
+        (subst (λ (x : Numbers). x.passed ≤ x.handed) (sym same) (counts.passed l)) (λ ne. counts.passed k);
+    gone = λ k. put_at (λ k (w : ListWorld). w.words.numbers.gone ≡ []) s.lists l w k
+        (subst (λ (x : Numbers). x.gone ≡ []) (sym same) (counts.gone l)) (λ ne. counts.gone k);
+    numbers = counts.numbers;
+  }
+
+  group_counts : (standing : Standing) → CountsAtMost n (stands s i standing)
+  group_counts standing = record {
+    turns = counts.turns;
+    handed = counts.handed;
+    passed = counts.passed;
+    gone = counts.gone;
     numbers = counts.numbers;
   }
 
   calls_count : (call : Call) → CountsAtMost n (calls s i call)
   calls_count (Acquire c lifo) = counter_counts _ _
+  calls_count (AcquireOrLeave c lifo how) = counter_counts _ _
   calls_count (Release c handoff) = counter_counts _ _
   calls_count (ReleaseMany c m) = counter_counts _ _
-  calls_count (Add l) = list_counts l _ refl
-  calls_count (WaitCall l) = list_counts l _ refl
-  calls_count (One l) = list_counts l _ refl
-  calls_count (All l) = list_counts l _ refl
-  calls_count (GroupAdd g d) = record { turns = counts.turns; handed = counts.handed; granted = counts.granted; numbers = counts.numbers }
-  calls_count (GroupWait g) = record { turns = counts.turns; handed = counts.handed; granted = counts.granted; numbers = counts.numbers }
+  calls_count (Add l) = list_counts l _ _ refl
+  calls_count (WaitCall l) = list_counts l _ _ refl
+  calls_count (WaitOrLeave l how) = list_counts l _ _ refl
+  calls_count (One l) = list_counts l _ _ refl
+  calls_count (All l) = list_counts l _ _ refl
+  calls_count (GroupAdd g d) = group_counts _
+  calls_count (GroupWait g) = group_counts _
+  calls_count (GroupWaitOrLeave g skips) = group_counts _
 
--- once a seat at rest has begun a call, the machine shows the layer in which it has
+-- once a seat at rest has begun a call that it doesn't give up, the machine shows the layer in which it has
 pub layer_called : (p : Program) → IsFew p → (n : ℕ) (h : WholeMachine) (journal : List Entry) → IsLayer p n h journal
-    → (i : ℕ) → i < length p.seats → each Rest h.standing i ≡ Rest → (call : Call) → MayCall (layer_of p) (core_of h journal) i call
+    → (i : ℕ) → i < length p.seats → each Rest h.standing i ≡ Rest → (call : Call) → MayCall (layer_of p) (core_of h journal) i call → IsStaying call
     → (k : WholeMachine) → Becomes (λ m s. calls s i call) h k → IsLayer p n k journal
-layer_called p few n h journal shows i there rests call may k is =
-    let seats : length p.seats ≤ 9223372036854775808 = let most = few.seats in omega arith in
+layer_called p few n h journal shows i there rests call may staying k is =
     let same : core_of k journal ≡ calls (core_of h journal) i call
     = subst (λ told. core_of k told ≡ calls (core_of h journal) i call) (calls_told (core_of h journal) i call)
     (is.core (layer_of p) (machine_is p h shows.form) journal) in
     record {
       form = form_after (parts_of p) h k is.alike shows.form;
       invariant = subst (IsCoreInvariant (layer_of p)) (sym same)
-          (core_called (layer_of p) (core_of h journal) i call there seats shows.invariant rests may);
+          (calls_keep (layer_of p) (core_of h journal) i call there shows.invariant rests may);
+      stay = subst AllStay (sym same) (calls_stay (core_of h journal) i shows.stay call staying);
       counts = subst (CountsAtMost n) (sym same) (calls_count n (core_of h journal) i shows.counts call);
     }

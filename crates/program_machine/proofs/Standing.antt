@@ -24,7 +24,7 @@ use Rattle.program_steps.specs.Steps.{Reaches, start, step}
 use Rattle.program_steps.specs.World.{ProgramWorld, ProgramSeat, layer_of, code_of}
 use Rattle.step_table.specs.declared.call.Call.{Call}
 use Rattle.step_table.specs.declared.standing.Standing.{Standing}
-use Rattle.step_table.specs.declared.standing.Standing.TheVariants.{Rest, AtCounter, AtList, AtGroup, Failed}
+use Rattle.step_table.specs.declared.standing.Standing.TheVariants.{Rest, AtCounter, AtList, AtGroup, Left, Failed}
 use Rattle.step_table.specs.Core.{Core}
 use Rattle.step_table.specs.CoreSteps.{calls, can_run, core_turned}
 use Rattle.step_table.specs.World.{put}
@@ -123,8 +123,9 @@ module _ (p : Program) (s : ProgramWorld) (i : ℕ) where
     after_there : (standing : Standing) → LeadsThere (code_of p i) (after_call n standing)
     after_there Rest = tt
     after_there (AtCounter after) = within
-    after_there (AtList l) = within
+    after_there (AtList l ending) = within
     after_there (AtGroup g row) = within
+    after_there (Left skips) = within
     after_there (Failed misuse) = within
 
     row_there : (b : Bool) (standing : Standing) → LeadsThere (code_of p i) (cond b (Stands (Before n)) (after_call n standing))

@@ -61,7 +61,9 @@ pub(crate) fn can_begin(layer: &WholeMachine, call: &Call) -> bool
     ensures { CanBegin layer.now call.now result }
 {
     match call {
-        Call::Wait(list) => layer.list_number(*list, &ListWord::Lock) == 0,
+        Call::Wait(list) | Call::WaitOrLeave(list, _) => {
+            layer.list_number(*list, &ListWord::Lock) == 0
+        }
         _ => true,
     }
 }

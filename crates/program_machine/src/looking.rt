@@ -64,7 +64,7 @@ impl<'p> ProgramMachine<'p> {
     /// How many tickets of the list are granted.
     pub fn granted(&self, list: ListId) -> u64
         requires { list < self.now.program.lists }
-        ensures { result ≡ ((core_of self.now.shared.layer []).lists list).words.numbers.granted }
+        ensures { result ≡ ((core_of self.now.shared.layer []).lists list).words.numbers.passed }
     {
         self.layer().granted(list)
     }

@@ -1,5 +1,5 @@
 -- Registers that aren't in use are set to 0 one by one, and then the seat has gone on as the definition says.
-use Rattle.std.proofs.Common.{◌≡◌, ℕ, pos, ◌<◌, ◌≤◌, Bool, true, false, cond, List, length, set}
+use Rattle.std.proofs.Common.{◌≡◌, ℕ, pos, ◌<◌, ◌≤◌, Bool, true, false, cond, List, length}
 use Rattle.std.proofs.Common.{IsTrue, refl, sym, ap, ◌∙◌, subst, arith}
 use native.Mathlib.Decide.{dec_lt}
 use Rattle.program_code.specs.declared.program.CodeLine.{CodeLine}

@@ -1,7 +1,7 @@
 -- A seat that goes on line by line comes to where the definition says: the lines that are still to be run
 -- lead there.
-use Rattle.std.proofs.Common.{◌≡◌, ℕ, zero, suc, ◌+◌, ◌-◌, ◌<◌, ◌≤◌, true, false, cond, List, Option, Some, None, slice_get, refl}
-use Rattle.std.proofs.Common.{sym, ap, ◌∙◌, subst, arith}
+use Rattle.std.proofs.Common.{◌≡◌, ℕ, zero, suc, ◌+◌, ◌-◌, ◌<◌, ◌≤◌, true, cond, List, Option, Some, None, slice_get, refl}
+use Rattle.std.proofs.Common.{sym, ap, ◌∙◌, arith}
 use Rattle.program_code.specs.declared.instruction.Instruction.{Instruction}
 use Rattle.program_code.specs.declared.instruction.Instruction.TheVariants as line
 use Rattle.program_code.specs.declared.program.CodeLine.{CodeLine}

@@ -1,11 +1,11 @@
 -- A seat or a word that is stored anew shows the world with that one changed.
-use Rattle.std.proofs.Common.{◌≡◌, ◌≢◌, ℕ, ℤ, ◌<◌, pos, List, All, length, get_or, set, Option, Some, None, refl, sym, ap, ◌∙◌}
-use Rattle.std.proofs.Common.{get_or-set_same, get_or-set_other, length-set, subst}
+use Rattle.std.proofs.Common.{◌≡◌, ℕ, ℤ, ◌<◌, pos, List, All, length, get_or, set, Option, Some, None, refl, sym, ap, ◌∙◌}
+use Rattle.std.proofs.Common.{length-set, subst}
 use Rattle.std.proofs.lemmas.Option.{slice_get_read, get_or_from_slice_get}
 use native.Mathlib.Decide.{ℕ_discrete}
 use mathlib.Core.Path.{fun_ext}
 use Rattle.program_rows.specs.declared.seat.Seat.{Seat}
-use Rattle.program_rows.specs.Stored.{Stored, world_over, seat_of, seats_of, grants_of, no_seat, AreThere, IsSameSize}
+use Rattle.program_rows.specs.Stored.{Stored, world_over, seat_of, seats_of, grants_of, no_seat, IsSameSize}
 use Rattle.program_rows.specs.Rows.{Does, reads_at}
 use Rattle.program_steps.specs.declared.stand.Sleeper.{Sleeper}
 use Rattle.program_steps.specs.declared.stand.Then.{Then}

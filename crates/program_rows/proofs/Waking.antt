@@ -1,22 +1,21 @@
 -- The first so many sleepers on a word are woken one by one: what is still to be done of it is what the
 -- definition does from there on.
-use Rattle.std.proofs.Common.{◌≡◌, ℕ, zero, suc, ◌+◌, ◌-◌, ◌<◌, ◌≤◌, min, pos, List, [], ◌∷◌, ◌++◌, All, length, get_or}
+use Rattle.std.proofs.Common.{◌≡◌, ℕ, suc, ◌+◌, ◌-◌, ◌<◌, ◌≤◌, pos, List, [], ◌∷◌, ◌++◌, All, length, get_or}
 use Rattle.std.proofs.Common.{set, take, drop, eqb, cond, true, false, refl, sym, ap, ◌∙◌, subst, arith}
 use Rattle.std.proofs.Common.{length-set, append_assoc}
 use Rattle.std.proofs.Math.Nat.{min-eq_left}
 use Rattle.std.proofs.Math.Seq.{drop-cons, take-suc, take-append_seam, drop-append_seam}
-use Rattle.std.proofs.lemmas.List.{length-take, take-append-drop, drop_all, take_all}
+use Rattle.std.proofs.lemmas.List.{length-take, take-append-drop, drop_all}
 use Rattle.std.proofs.lemmas.List.Edits.{length-remove}
 use Rattle.std.proofs.lemmas.List.Elements.{All-take, All-drop, All-append, All-get_or}
 use Rattle.std.specs.List.{remove}
 use Rattle.program_rows.specs.declared.seat.Seat.{Seat}
-use Rattle.program_rows.specs.Stored.{Stored, world_over, seats_of, grants_of, seat_of, no_seat, AreThere, IsSameSize}
+use Rattle.program_rows.specs.Stored.{Stored, world_over, seats_of, grants_of, seat_of, no_seat, AreThere}
 use Rattle.step_rows.specs.Stored.{each}
 use Rattle.program_rows.specs.Rows.{HasWoken}
-use Rattle.program_rows.proofs.Storing.{seats_kept, grants_show, stored_is, read_at}
+use Rattle.program_rows.proofs.Storing.{seats_kept, grants_show, read_at}
 use Rattle.program_steps.specs.declared.stand.Sleeper.{Sleeper}
-use Rattle.program_steps.specs.Steps.{left, woken, granted, unparked}
-use Rattle.step_table.specs.Core.{Core}
+use Rattle.program_steps.specs.Steps.{left, woken, granted}
 use Rattle.step_table.specs.World.{put}
 
 -- t is s of which the first sleepers were looked at; so many may still be woken of those from `at` on

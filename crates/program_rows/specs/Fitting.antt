@@ -1,6 +1,6 @@
 -- Which lines the machine can run: those that name words, counters, lists, registers and sections that it
 -- stores.
-use Rattle.std.specs.Prelude.{◌≡◌, ℕ, ◌+◌, ◌<◌, ◌≤◌, ◌^◌, List, slice_get, length, Some, IfSome, ⊤}
+use Rattle.std.specs.Prelude.{◌≡◌, ℕ, ◌+◌, ◌<◌, ◌≤◌, ◌^◌, List, slice_get, Some, IfSome, ⊤}
 use Rattle.program_code.specs.declared.instruction.Instruction.{Instruction}
 use Rattle.program_code.specs.declared.instruction.Instruction.TheVariants as line
 use Rattle.program_code.specs.declared.operand.CodePlace.{CodePlace}

@@ -1,6 +1,6 @@
 -- Alike worlds behave alike: a row of a seat does the same where the layer is without what none of its rows looks at.
 use Rattle.std.proofs.Common.{◌≡◌, ℕ, Bool, true, false, refl, sym, ap, ap₂, ◌∙◌, subst}
-use Rattle.std.specs.Prelude.{cond, eqb, Option, Some, None, Result, Ok, Err, option_map, slice_get, is_some}
+use Rattle.std.specs.Prelude.{cond, eqb, ◌||◌, Option, Some, None, Result, Ok, Err, option_map, slice_get, is_some}
 use Rattle.std.proofs.lemmas.Option.{none-some, same_Some}
 use Rattle.program_code.specs.declared.instruction.Instruction.{Instruction}
 use Rattle.program_code.specs.declared.instruction.Instruction.TheVariants as line
@@ -17,9 +17,9 @@ use Rattle.program_steps.specs.Reading.{value, place_of}
 use Rattle.program_steps.specs.Calls.{call_of}
 use Rattle.program_steps.specs.Steps.{Then, OnFromNext, Stands, Fails, Did, on_word, row_of_line, after_call, layer_row, first_row}
 use Rattle.program_steps.specs.Steps.{after_row, given_up, is_first, settled}
-use Rattle.step_table.specs.declared.place.AcquireRow.TheVariants.{A1, A2, A3, A4, A5, A6, A7, A8, A9, P, A10, A11}
+use Rattle.step_table.specs.declared.place.AcquireRow.TheVariants.{Parked}
 use Rattle.step_table.specs.declared.place.Place.{Place}
-use Rattle.step_table.specs.declared.place.Place.TheVariants.{Acquiring, Releasing, ReleasingMany}
+use Rattle.step_table.specs.declared.place.Place.TheVariants.{Acquiring}
 use Rattle.step_table.specs.declared.place.Place.TheVariants as on_counter
 use Rattle.step_table.specs.Erased.{erased_place}
 use Rattle.program_steps.specs.Steps.{row_before, row_at, row_of, at, IsSeatAfter, StepsTo}
@@ -33,7 +33,7 @@ use Rattle.program_code.specs.declared.program.ProgramProperty.TheVariants.{Most
 use Rattle.program_steps.specs.AlikeWorlds.{erased, AreAlike, BehaveAlike}
 use Rattle.step_law_alike.specs.Alike.{erased_core}
 use Rattle.step_law_alike.proofs.AlikeRows.{moved_erased, turn_can}
-use Rattle.step_law_alike.proofs.AlikeCore.{erased_core_twice, erased_list_twice, calls_erased, row_seen}
+use Rattle.step_law_alike.proofs.AlikeCore.{erased_core_twice, erased_list_twice, calls_erased, row_seen, may_erased, may_on_list_erased}
 use Rattle.step_law_lists.proofs.ListBlindness.{rows_are_blind}
 use Rattle.step_law_lists.specs.ListBlind.{erased_list}
 use Rattle.step_table.specs.declared.call.Call.{Call}
@@ -115,30 +115,19 @@ module _ (s : ProgramWorld) (i n : ℕ) where
 
 -- turns aside a place is the first row of an acquire as it is
 first_of_erased : (place : Place) → is_first place ≡ is_first (erased_place place)
-first_of_erased (Acquiring a A1) = refl
-first_of_erased (Acquiring a (A2 v)) = refl
-first_of_erased (Acquiring a A3) = refl
-first_of_erased (Acquiring a A4) = refl
-first_of_erased (Acquiring a A5) = refl
-first_of_erased (Acquiring a (A6 v)) = refl
-first_of_erased (Acquiring a A7) = refl
-first_of_erased (Acquiring a A8) = refl
-first_of_erased (Acquiring a A9) = refl
-first_of_erased (Acquiring a (P turn)) = refl
-first_of_erased (Acquiring a A10) = refl
-first_of_erased (Acquiring a (A11 v)) = refl
-first_of_erased (Releasing r row) = refl
-first_of_erased (ReleasingMany r row) = refl
-first_of_erased on_counter.Rest = refl
+first_of_erased (Acquiring a (Parked turn row)) = refl
+first_of_erased _ = refl
 
 -- the rows of the layer
 module _ (m : CoreLayout) (i : ℕ) where
   can_seen : (c : Core) (standing : Standing) → can_run m c i standing ≡ can_run m (erased_core c) i standing
   can_seen c Rest = refl
-  can_seen c (AtCounter after) = turn_can m.root c.semaphores i
-  can_seen c (AtList l) =
+  can_seen c (AtCounter after) = ap₂ (λ a b. a || b) (may_erased c.semaphores i after) (turn_can m.root c.semaphores i)
+  can_seen c (AtList l ending) =
+      ap₂ (λ a b. a || b) (may_on_list_erased (c.lists l) i ending)
       (rows_are_blind (c.lists l) (erased_list (c.lists l)) i (sym (erased_list_twice (c.lists l)))).0
   can_seen c (AtGroup g row) = refl
+  can_seen c (doing.Left skips) = refl
   can_seen c (doing.Failed misuse) = refl
 
   module _ (c d : Core) (e : erased_core c ≡ erased_core d) where

@@ -17,6 +17,7 @@ use Rattle.program_steps.specs.World.{ProgramWorld, layer_of}
 use Rattle.program_steps.specs.Reading.{value, member, place_of}
 use Rattle.program_steps.specs.Calls.{unless_over, many_of, release_of, on_counter, call_of}
 use Rattle.program_code.specs.WellFormed.{IsLine, IsCounter}
+use Rattle.program_steps.proofs.Staying.{IsStaying}
 use Rattle.step_law_whole.specs.TheCore.{MayCall}
 use Rattle.step_table.specs.declared.call.Call.{Call}
 use Rattle.step_table.specs.declared.call.Call.TheVariants.{Acquire, Release, ReleaseMany, Add, Wait}
@@ -40,9 +41,9 @@ module _ (p : Program) (s : ProgramWorld) (i : ℕ) where
   place_below (Member first many e) c below is =
       member_below first many (length p.counters) c (value i registers e) below.0 is
 
-  -- the call may begin, if this is one
+  -- the call may begin, if this is one, and its seat gives up no sleep
   abbrev pub Allowed : Result Call Failure → Type 0
-  Allowed (Ok call) = MayCall (layer_of p) s.layer i call
+  Allowed (Ok call) = MayCall (layer_of p) s.layer i call × IsStaying call
   Allowed (Err why) = ⊤
 
   abbrev pub AllowedIf : Option (Result Call Failure) → Type 0
@@ -57,7 +58,7 @@ module _ (p : Program) (s : ProgramWorld) (i : ℕ) where
   at_counter None call each = tt
   at_counter (Some c) call each = each c refl
 
-  over_may : (c n : ℕ) (call : Call) → MayCall (layer_of p) s.layer i call → Allowed (unless_over s c n call)
+  over_may : (c n : ℕ) (call : Call) → Allowed (Ok call) → Allowed (unless_over s c n call)
   over_may c n call may =
       where_so (nat_lt (s.layer.semaphores.words.numbers c + n) (2 ^ 32)) _ _ (λ e. may) (λ e. tt)
 
@@ -65,36 +66,36 @@ module _ (p : Program) (s : ProgramWorld) (i : ℕ) where
   many_may c (pos k) below =
       where_so (nat_le 1 k && nat_le k 256) _ _
       (λ e. let both : (nat_le 1 k ≡ true) × (nat_le k 256 ≡ true) = and_parts (nat_le 1 k) (nat_le k 256) e in
-      over_may c k (ReleaseMany c k) (below, leb-true 1 k both.0, leb-true k 256 both.1))
+      over_may c k (ReleaseMany c k) ((below, leb-true 1 k both.0, leb-true k 256 both.1), tt))
       (λ e. tt)
   many_may c (negsuc k) below = tt
 
   release_may : (c : ℕ) (units : Share) → c < length p.counters → Allowed (release_of s i registers c units)
-  release_may c share.One below = over_may c 1 (Release c false) below
-  release_may c share.Handoff below = over_may c 1 (Release c true) below
+  release_may c share.One below = over_may c 1 (Release c false) (below, tt)
+  release_may c share.Handoff below = over_may c 1 (Release c true) (below, tt)
   release_may c (share.Many e) below = many_may c (value i registers e) below
 
   ticket_may : (l : ℕ) (o : Option Ticket) → ((s.layer.lists l).seats i).ticket ≡ o → l < p.lists
       → Allowed (cond (is_some o) (Err TicketFailure) (Ok (Add l)))
-  ticket_may l None is below = (below, is)
+  ticket_may l None is below = ((below, is), tt)
   ticket_may l (Some t) is below = tt
 
   wait_may : (l : ℕ) (o : Option Ticket) → ((s.layer.lists l).seats i).ticket ≡ o → l < p.lists
       → Allowed (cond (is_some o) (Ok (Wait l)) (Err TicketFailure))
   wait_may l None is below = tt
-  wait_may l (Some t) is below = (below, t, is)
+  wait_may l (Some t) is below = ((below, t, is), tt)
 
   -- what a line of the program begins
   pub may_begin : (lines : ℕ) (l : Instruction) → IsLine p lines l → AllowedIf (call_of s i l)
   may_begin lines (line.Acquire c lifo) is =
-      at_counter (place_of i registers c) (λ c. Ok (Acquire c lifo)) (λ k e. place_below c k is e)
+      at_counter (place_of i registers c) (λ c. Ok (Acquire c lifo)) (λ k e. (place_below c k is e, tt))
   may_begin lines (line.Release c units) is =
       at_counter (place_of i registers c) (λ c. release_of s i registers c units)
       (λ k e. release_may k units (place_below c k is.0 e))
   may_begin lines (line.Ticket l) is = ticket_may l ((s.layer.lists l).seats i).ticket refl is
   may_begin lines (line.Wait l) is = wait_may l ((s.layer.lists l).seats i).ticket refl is
-  may_begin lines (line.One l) is = is
-  may_begin lines (line.All l) is = is
+  may_begin lines (line.One l) is = (is, tt)
+  may_begin lines (line.All l) is = (is, tt)
   may_begin lines (line.Load w r) is = tt
   may_begin lines (line.Store w e) is = tt
   may_begin lines (line.Swap w e r) is = tt

@@ -17,19 +17,21 @@ use Rattle.program_steps.specs.Steps.{Did, given_up, is_first, layer_row, first_
 use Rattle.program_code.specs.WellFormed.{IsWellFormed, IsLine}
 use Rattle.program_steps.proofs.Calling.{AllowedIf, may_begin}
 use Rattle.program_steps.proofs.Fitting.{Fits, FitsIf, fits_line}
-use Rattle.program_steps.proofs.Layers.{IsAtRest, Keeps, told, line_same, awoken_same, all_keep}
-use Rattle.step_law_alike.proofs.ChangedLists.{well_formed_list}
+use Rattle.program_steps.proofs.Layers.{IsAtRest, Keeps, told, line_same, awoken_same, all_keep, all_in_reach}
+use Rattle.program_steps.proofs.Staying.{StaysIn, AllStay, IsStaying, calls_stay}
+use Rattle.step_law_lists.specs.ListInvariant.{IsListInvariant}
+use Rattle.step_law_lists.specs.ListLawful.{told as told_by, leaves}
+use Rattle.step_law_lists.proofs.ListJournals.{few_gone}
+use Rattle.step_law_lists.proofs.ListKeeping.{list_reached}
 use Rattle.step_law_semaphores.proofs.Cases.{step_of}
 use Rattle.step_law_semaphores.proofs.Lines.{Line, begin_acquire, begin_enter, begin_release, begin_many, a2_won, a6_won, a11_won, r1, r8_won, m1}
 use Rattle.step_law_semaphores.proofs.Lines.{Post, r9, r10, m7_last, m7_more, Step, own, post}
 use Rattle.step_law_whole.specs.CoreLaw.{IsCallBefore, IsStanding, IsCoreInvariant}
 use Rattle.step_law_whole.specs.RunInvariant.{to_add}
-use Rattle.step_law_whole.proofs.CoreCalling.{core_called}
+use Rattle.step_law_whole.proofs.CoreCalling.{calls_keep}
 use Rattle.step_law_whole.proofs.RunChanges.{at_each}
-use Rattle.step_law_whole.proofs.RunTickets.{after_list_lists}
-use Rattle.step_law_whole.proofs.RunRows.{after_counter_lists}
 use Rattle.step_table.specs.declared.call.Call.{Call}
-use Rattle.step_table.specs.declared.call.Call.TheVariants.{Acquire, Release, ReleaseMany, Add, Wait, One, All, GroupAdd, GroupWait}
+use Rattle.step_table.specs.declared.call.Call.TheVariants.{Acquire, Release, ReleaseMany, Add, Wait, One, All}
 use Rattle.step_table.specs.declared.effect.Effect.{Effect}
 use Rattle.step_table.specs.declared.list_place.ListEffect.{ListEffect}
 use Rattle.step_table.specs.declared.list_place.ListEffect.TheVariants.{HandsOut}
@@ -41,7 +43,8 @@ use Rattle.step_table.specs.declared.place.Place.{Place}
 use Rattle.step_table.specs.declared.place.Place.TheVariants.{Rest, Acquiring, Releasing, ReleasingMany}
 use Rattle.step_table.specs.declared.place.ReleaseRow.TheVariants.{R1}
 use Rattle.step_table.specs.declared.standing.After.{After}
-use Rattle.step_table.specs.declared.standing.After.TheVariants.{NextCall, LooksAgain, Releases}
+use Rattle.step_table.specs.declared.standing.After.TheVariants.{Closes}
+use Rattle.step_table.specs.declared.standing.Ending.TheVariants.{NextCall}
 use Rattle.step_table.specs.declared.standing.Standing.{Standing}
 use Rattle.step_table.specs.declared.standing.Standing.TheVariants as doing
 use Rattle.step_table.specs.World.{Layout, Words, SeatState, SemaWorld, put}
@@ -52,6 +55,7 @@ use Rattle.step_table.specs.Steps.{can_turn, turned, moved}
 use Rattle.step_table.specs.Steps as steps
 use Rattle.step_table.specs.Core.{CoreLayout, Core, counters_of, first_core}
 use Rattle.step_table.specs.CoreSteps.{stands, at_counter, calls, can_run, core_turned, row_of_standing, counter_row, list_row, after_counter, after_list}
+use Rattle.step_table.specs.CoreSteps.{on_counter_row, on_list_row}
 use Rattle.step_table.proofs.Sums.{put_at, put_here, put_else, on_here, on_else, on_zero, up_by}
 
 -- what a row does to the turn of its seat, to its place, and to the numbers
@@ -141,68 +145,61 @@ record IsReady (n i : ℕ) (s : Core) : Type 0 where
   semaphores : AreReady n i s.semaphores
   handed : (l : ℕ) → (s.lists l).words.numbers.handed ≤ n
 
-module _ (m : CoreLayout) (none : m.groups ≡ 0) (n i : ℕ) (below : i < m.seats) where
-  not_at_rest : (after : After) → IsCallBefore m after Rest → ⊥
-  not_at_rest NextCall before = before.0 refl
-  not_at_rest (LooksAgain g) before = before
-  not_at_rest (Releases g more) before = before
+module _ (m : CoreLayout) (n i : ℕ) (below : i < m.seats) where
+  -- no call begins in one of its rows
+  same_counters : (s : Core) (before place : Place) → (after_counter m s i (Closes NextCall) before place).semaphores ≡ s.semaphores
+  same_counters s before Rest = refl
+  same_counters s before _ = refl
 
-  -- no call of a group is on a counter, and so none begins after one
-  same_counters : (s : Core) (after : After) (old place : Place) → IsCallBefore m after old → (after_counter m s i after place).semaphores ≡ s.semaphores
-  same_counters s NextCall old Rest before = refl
-  same_counters s (LooksAgain g) old Rest before = refl
-  same_counters s (Releases g more) (Releasing r row) Rest before = absurd (let g_below = before.2 in omega arith)
-  same_counters s (Releases g more) Rest Rest before = absurd before
-  same_counters s (Releases g more) (Acquiring a row) Rest before = absurd before
-  same_counters s (Releases g more) (ReleasingMany r row) Rest before = absurd before
-  same_counters s after old (Acquiring a row) before = refl
-  same_counters s after old (Releasing r row) before = refl
-  same_counters s after old (ReleasingMany r row) before = refl
+  same_lists : (s : Core) (before place : Place) → (after_counter m s i (Closes NextCall) before place).lists ≡ s.lists
+  same_lists s before Rest = refl
+  same_lists s before _ = refl
 
-  same_after_list : (s : Core) (place : ListPlace) → (after_list s i place).semaphores ≡ s.semaphores
-  same_after_list s on_list.Rest = refl
-  same_after_list s _ = refl
+  list_ends : (s : Core) (l : ℕ) (before place : ListPlace)
+      → ((after_list s i l NextCall before place).semaphores ≡ s.semaphores) × ((after_list s i l NextCall before place).lists ≡ s.lists)
+  list_ends s l before on_list.Rest = (refl, refl)
+  list_ends s l before _ = (refl, refl)
 
   module _ (s : Core) (inv : IsCoreInvariant m s) (before : IsReady n i s) where
-    counter_few : (after : After) → IsCallBefore m after (s.semaphores.seats i).place → IsTrue (can_turn m.root s.semaphores i)
-        → IsFew (n + 1) (after_counter m (counter_row m s i) i after ((counter_row m s i).semaphores.seats i).place)
-    counter_few after call can =
+    counter_few : IsCallBefore m (Closes NextCall) (s.semaphores.seats i).place → IsTrue (can_turn m.root s.semaphores i)
+        → IsFew (n + 1) (on_counter_row m s i (Closes NextCall))
+    counter_few call can =
         let t : SemaWorld = turned m.root s.semaphores i in
+        let p : Place = (s.semaphores.seats i).place in
         let turn : steps.Step (counters_of m) s.semaphores i t = steps.turn (record { can = can; is = refl }) in
-        let awake : (s.semaphores.seats i).place ≢ Rest = λ e. not_at_rest after (subst (IsCallBefore m after) e call) in
-        let few = step_few n i before.semaphores awake
+        let few = step_few n i before.semaphores call.0
         (step_of (counters_of m) s.semaphores t i (inv.semaphores.seats i) (inv.semaphores.finds i below) turn) in
         record {
-          semaphores = subst (AreFew (n + 1)) (sym (same_counters (counter_row m s i) after (s.semaphores.seats i).place (t.seats i).place call)) few;
-          handed = λ l. rw (after_counter_lists m (counter_row m s i) i after (t.seats i).place) (let h = before.handed l in omega arith);
+          semaphores = subst (AreFew (n + 1)) (sym (same_counters (counter_row m s i) p (t.seats i).place)) few;
+          handed = λ l. rw (same_lists (counter_row m s i) p (t.seats i).place) (let h = before.handed l in omega arith);
         }
 
-    list_few : (l : ℕ) → (s.semaphores.seats i).place ≡ Rest
-        → IsFew (n + 1) (after_list (list_row s i l) i (((list_row s i l).lists l).seats i).place)
+    list_few : (l : ℕ) → (s.semaphores.seats i).place ≡ Rest → IsFew (n + 1) (on_list_row s i l NextCall)
     list_few l off =
         let t : ListWorld = list.turned (s.lists l) i in
-        let place : ListPlace = (((list_row s i l).lists l).seats i).place in
+        let p : ListPlace = ((s.lists l).seats i).place in
+        let q : ListPlace = (((list_row s i l).lists l).seats i).place in
         record {
-          semaphores = subst (AreFew (n + 1)) (sym (same_after_list (list_row s i l) place)) (record {
+          semaphores = subst (AreFew (n + 1)) (sym (list_ends (list_row s i l) l p q).0) (record {
             turns = λ k. let h = before.semaphores.turns k in omega arith;
             none = at_each (λ k. to_add (s.semaphores.seats k).place ≡ 0) i (ap to_add off) (λ k ne. before.semaphores.none k ne);
             numbers = λ c. let h = before.semaphores.fits c in omega arith;
           });
-          handed = λ k. rw (after_list_lists (list_row s i l) i place)
+          handed = λ k. rw (list_ends (list_row s i l) l p q).1
               (put_at (λ k (w : ListWorld). w.words.numbers.handed ≤ n + 1) s.lists l t k
               (let a = hands_one (list.effect_of (s.lists l) i) (s.lists l).words.numbers in let b = before.handed l in omega arith)
               (λ ne. let b = before.handed k in omega arith));
         }
 
-    row_few : (standing : Standing) → IsStanding m s i standing → IsTrue (can_run m s i standing) → IsFew (n + 1) (row_of_standing m s i standing)
-    row_few doing.Rest is can = cc
-    row_few (doing.AtCounter after) is can = counter_few after is.0 can
-    row_few (doing.AtList l) is can = list_few l is.0
-    row_few (doing.AtGroup g row) is can = absurd (let h = is.1 in omega arith)
-    row_few (doing.Failed misuse) is can = cc
+    row_few : (standing : Standing) → StaysIn standing → IsStanding m s i standing → IsTrue (can_run m s i standing)
+        → IsFew (n + 1) (row_of_standing m s i standing)
+    row_few doing.Rest stays is can = cc
+    row_few (doing.AtCounter (Closes NextCall)) stays is can = counter_few is.0 can
+    row_few (doing.AtList l NextCall) stays is can = list_few l is.0
+    row_few _ stays is can = absurd stays
 
-    turned_few : IsTrue (can_run m s i (s.standing i)) → IsFew (n + 1) (core_turned m s i)
-    turned_few can = row_few (s.standing i) (inv.standing i) can
+    turned_few : StaysIn (s.standing i) → IsTrue (can_run m s i (s.standing i)) → IsFew (n + 1) (core_turned m s i)
+    turned_few stays can = row_few (s.standing i) stays (inv.standing i) can
 
 -- a call that seat i begins
 added_fits : (f : ℕ → ℕ) (d m : ℕ) → ((c : ℕ) → f c < 4294967296) → f d + m < 4294967296 → (c : ℕ) → f c + on d c m < 4294967296
@@ -226,7 +223,7 @@ module _ (n i : ℕ) (s : Core) (few : IsFew n s) where
   on_counter place fits after = record { semaphores = moved_ready place fits; handed = few.handed }
 
   on_list_ready : (l : ℕ) (w : ListWorld) → w.words.numbers.handed ≡ (s.lists l).words.numbers.handed
-      → IsReady n i (stands (record s { lists = put s.lists l w }) i (doing.AtList l))
+      → IsReady n i (stands (record s { lists = put s.lists l w }) i (doing.AtList l NextCall))
   on_list_ready l w same = record {
     semaphores = ready n i s.semaphores few.semaphores;
     handed = λ k. put_at (λ k (w : ListWorld). w.words.numbers.handed ≤ n) s.lists l w k
@@ -236,18 +233,17 @@ module _ (n i : ℕ) (s : Core) (few : IsFew n s) where
   as_it_is : IsReady n i s
   as_it_is = record { semaphores = ready n i s.semaphores few.semaphores; handed = few.handed }
 
-  called_ready : (call : Call) → Fits s call → IsReady n i (calls s i call)
-  called_ready (Acquire c lifo) fits = on_counter (Acquiring _ A1) (λ d. let none = on_zero c d in let less = few.semaphores.numbers d in omega arith) NextCall
-  called_ready (Release c handoff) fits = on_counter (Releasing _ R1) (added_fits s.semaphores.words.numbers c 1 few.semaphores.numbers fits) NextCall
-  called_ready (ReleaseMany c m) fits = on_counter (ReleasingMany _ M1) (added_fits s.semaphores.words.numbers c m few.semaphores.numbers fits) NextCall
-  called_ready (Add l) fits = on_list_ready l _ refl
-  called_ready (Wait l) fits = on_list_ready l _ refl
-  called_ready (One l) fits = on_list_ready l _ refl
-  called_ready (All l) fits = on_list_ready l _ refl
-  called_ready (GroupAdd g d) fits = record { semaphores = as_it_is.semaphores; handed = few.handed }
-  called_ready (GroupWait g) fits = record { semaphores = as_it_is.semaphores; handed = few.handed }
+  called_ready : (call : Call) → IsStaying call → Fits s call → IsReady n i (calls s i call)
+  called_ready (Acquire c lifo) is fits = on_counter (Acquiring _ A1) (λ d. let none = on_zero c d in let less = few.semaphores.numbers d in omega arith) (Closes NextCall)
+  called_ready (Release c handoff) is fits = on_counter (Releasing _ R1) (added_fits s.semaphores.words.numbers c 1 few.semaphores.numbers fits) (Closes NextCall)
+  called_ready (ReleaseMany c m) is fits = on_counter (ReleasingMany _ M1) (added_fits s.semaphores.words.numbers c m few.semaphores.numbers fits) (Closes NextCall)
+  called_ready (Add l) is fits = on_list_ready l _ refl
+  called_ready (Wait l) is fits = on_list_ready l _ refl
+  called_ready (One l) is fits = on_list_ready l _ refl
+  called_ready (All l) is fits = on_list_ready l _ refl
+  called_ready _ is fits = absurd is
 
-module _ (p : Program) (small : length p.seats ≤ 9223372036854775808) (formed : IsWellFormed p) where
+module _ (p : Program) (formed : IsWellFormed p) where
   module _ (s : ProgramWorld) (i : ℕ) (below : i < length p.seats) (keeps : Keeps p s) (n : ℕ) (few : IsFew n s.layer) where
     later : IsFew (n + 1) s.layer
     later = record {
@@ -277,22 +273,22 @@ module _ (p : Program) (small : length p.seats ≤ 9223372036854775808) (formed 
         }
     settled_few t so false first = so
 
-    layer_few : (k : ℕ) (c : Core) → IsCoreInvariant (layer_of p) c → IsReady n i c
+    layer_few : (k : ℕ) (c : Core) → IsCoreInvariant (layer_of p) c → AllStay c → IsReady n i c
         → (did : Did) → layer_row (layer_of p) s i k c ≡ Some did → IsFew (n + 1) did.world.layer
-    layer_few k c inv before did is =
+    layer_few k c inv stay before did is =
         let so = cond_some (can_run (layer_of p) c i (c.standing i)) _ did is in
         subst (λ (d : Did). IsFew (n + 1) d.world.layer) so.1
-        (settled_few (core_turned (layer_of p) c i) (turned_few (layer_of p) refl n i below c inv before so.0)
+        (settled_few (core_turned (layer_of p) c i) (turned_few (layer_of p) n i below c inv before (stay.standing i) so.0)
         (is_first ((core_turned (layer_of p) c i).semaphores.seats i).place) refl)
 
     first_few : (k : ℕ) (l : Instruction) → s.layer.standing i ≡ doing.Rest
         → (call : Option (Result Call Failure)) → AllowedIf p s i call → FitsIf s.layer call
         → (did : Did) → first_row (layer_of p) s i k l call ≡ Some did → IsFew (n + 1) did.world.layer
-    first_few k l rest None may fits did e = same did (line_same p small formed s i below keeps.layer k l did e)
+    first_few k l rest None may fits did e = same did (line_same s i k l did e)
     first_few k l rest (Some (Ok call)) may fits did e =
-        layer_few k (calls s.layer i call) (core_called (layer_of p) s.layer i call below small keeps.layer rest may)
-        (called_ready n i s.layer few call fits) did e
-    first_few k l rest (Some (Err why)) may fits did e = same did (told p small formed s i below keeps.layer _ did refl e)
+        layer_few k (calls s.layer i call) (calls_keep (layer_of p) s.layer i call below keeps.layer rest may.0)
+        (calls_stay s.layer i keeps.stay call may.1) (called_ready n i s.layer few call may.1 fits) did e
+    first_few k l rest (Some (Err why)) may fits did e = same did (told s i _ did refl e)
 
     before_few : (k : ℕ) (line : Option CodeLine) → slice_get (code_of p i) k ≡ line → s.layer.standing i ≡ doing.Rest
         → (did : Did) → row_before (layer_of p) s i k line ≡ Some did → IsFew (n + 1) did.world.layer
@@ -305,8 +301,8 @@ module _ (p : Program) (small : length p.seats ≤ 9223372036854775808) (formed 
 
     stand_few : (stand : Stand) → IsAtRest s i stand → (did : Did) → row_at p s i stand ≡ Some did → IsFew (n + 1) did.world.layer
     stand_few (Before k) rest did e = before_few k (slice_get (code_of p i) k) refl rest did e
-    stand_few (Within k) rest did e = layer_few k s.layer keeps.layer (as_it_is n i s.layer few) did e
-    stand_few (Asleep k) rest did e = same did (awoken_same p small formed s i below keeps.layer (eqb (s.grants i) 0) _ did refl e)
+    stand_few (Within k) rest did e = layer_few k s.layer keeps.layer keeps.stay (as_it_is n i s.layer few) did e
+    stand_few (Asleep k) rest did e = same did (awoken_same s i (eqb (s.grants i) 0) _ did refl e)
     stand_few Ended rest did e = absurd (none-some did e)
     stand_few (FailedAt k why) rest did e = absurd (none-some did e)
 
@@ -324,16 +320,29 @@ module _ (p : Program) (small : length p.seats ≤ 9223372036854775808) (formed 
     all_few schedule s (start is) = subst (IsFew 0) (sym is.layer) first_few_counts
     all_few schedule s (step {past = past} {s = r} i below reached to) =
         subst (λ n. IsFew n s.layer) (sym (length-append past (i ∷ [])))
-        (steps_few r i below (all_keep p small formed past r reached) (length past) (all_few past r reached) s to)
+        (steps_few r i below (all_keep p formed past r reached) (length past) (all_few past r reached) s to)
 
     -- the numbers of each reached world
-    pub counts_at_most : (schedule : List ℕ) (s : ProgramWorld) → Reaches p schedule s → CountsAtMost (length schedule) s.layer
-    counts_at_most schedule s reached =
-        let few = all_few schedule s reached in
-        let keeps = all_keep p small formed schedule s reached in
-        record {
-          turns = few.semaphores.turns;
-          handed = few.handed;
-          granted = λ l. (well_formed_list 0 (length p.seats) (s.layer.lists l) (keeps.layer.lists l)).words.2;
-          numbers = few.semaphores.numbers;
-        }
+    module _ (small : length p.seats ≤ 9223372036854775808) (schedule : List ℕ) (s : ProgramWorld) (reached : Reaches p schedule s) where
+      keeps : Keeps p s
+      keeps = all_keep p formed schedule s reached
+
+      kept_list : (l : ℕ) → IsListInvariant 0 (length p.seats) (s.layer.lists l)
+      kept_list l = list_reached 0 (length p.seats) (s.layer.lists l) (all_in_reach p formed small s keeps l) (keeps.layer.lists l)
+
+      none_gone : (l : ℕ) (gone : List ℕ) → length gone ≤ leaves (s.layer.lists l).journal → gone ≡ []
+      none_gone l [] few = refl
+      none_gone l (n ∷ gone) few = absurd (let none = keeps.stay.journals l in omega arith)
+
+      pub counts_at_most : CountsAtMost (length schedule) s.layer
+      counts_at_most =
+          let few = all_few schedule s reached in
+          record {
+            turns = few.semaphores.turns;
+            handed = few.handed;
+            passed = λ l. (kept_list l).words.2;
+            gone = λ l.
+                ap (λ (n : Numbers). n.gone) (kept_list l).numbers
+                ∙ none_gone l (told_by (s.layer.lists l).journal).gone (few_gone (s.layer.lists l).journal);
+            numbers = few.semaphores.numbers;
+          }

@@ -2,18 +2,19 @@
 use Rattle.std.proofs.Common.{◌≡◌, ◌≢◌, ℕ, ◌+◌, ◌<◌, true, refl, sym, ap, ◌∙◌, subst}
 use Rattle.std.proofs.lemmas.Bool.{false≢true}
 use Rattle.program_steps.specs.Steps.{given_up, is_first}
+use Rattle.program_steps.proofs.Staying.{AllStay, rested}
 use Rattle.step_law_semaphores.specs.Invariant.{IsInvariant}
 use Rattle.step_law_whole.specs.CoreLaw.{IsCoreInvariant, IsOffList, IsStanding}
 use Rattle.step_law_whole.proofs.CoreStanding.{between, counters_changed, stands_now}
 use Rattle.step_law_whole.proofs.Naming.{and_named, kept_of}
 use Rattle.step_law_semaphores.proofs.Promises.{kept}
 use Rattle.step_table.specs.declared.place.Acquire.{Acquire}
-use Rattle.step_table.specs.declared.place.AcquireRow.TheVariants.{A1, A2, A3, A4, A5, A6, A7, A8, A9, P, A10, A11}
+use Rattle.step_table.specs.declared.place.AcquireRow.TheVariants.{A1}
 use Rattle.step_table.specs.declared.place.Place.{Place}
 use Rattle.step_table.specs.declared.place.Place.TheVariants as on_counter
-use Rattle.step_table.specs.declared.place.Place.TheVariants.{Acquiring, Releasing, ReleasingMany}
+use Rattle.step_table.specs.declared.place.Place.TheVariants.{Acquiring}
 use Rattle.step_table.specs.declared.standing.Standing.{Standing}
-use Rattle.step_table.specs.declared.standing.Standing.TheVariants.{Rest, AtCounter, AtList, AtGroup, Failed}
+use Rattle.step_table.specs.declared.standing.Standing.TheVariants.{Rest, AtCounter, AtList, AtGroup, Left, Failed}
 use Rattle.step_table.specs.Core.{Core, CoreLayout, counters_of}
 use Rattle.step_table.specs.Steps.{Choice, choose, give_up, moved}
 use Rattle.step_table.specs.World.{SeatState, SemaWorld}
@@ -22,20 +23,7 @@ use Rattle.step_table.proofs.Sums.{put_else, put_here}
 -- who stands at the first row of an acquire
 pub first_of : (place : Place) → is_first place ≡ true → (a : Acquire) × (place ≡ Acquiring a A1)
 first_of (Acquiring a A1) e = (a, refl)
-first_of (Acquiring a (A2 v)) e = absurd (false≢true e)
-first_of (Acquiring a A3) e = absurd (false≢true e)
-first_of (Acquiring a A4) e = absurd (false≢true e)
-first_of (Acquiring a A5) e = absurd (false≢true e)
-first_of (Acquiring a (A6 v)) e = absurd (false≢true e)
-first_of (Acquiring a A7) e = absurd (false≢true e)
-first_of (Acquiring a A8) e = absurd (false≢true e)
-first_of (Acquiring a A9) e = absurd (false≢true e)
-first_of (Acquiring a (P turn)) e = absurd (false≢true e)
-first_of (Acquiring a A10) e = absurd (false≢true e)
-first_of (Acquiring a (A11 v)) e = absurd (false≢true e)
-first_of (Releasing r row) e = absurd (false≢true e)
-first_of (ReleasingMany r row) e = absurd (false≢true e)
-first_of on_counter.Rest e = absurd (false≢true e)
+first_of _ e = absurd (false≢true e)
 
 module _ (m : CoreLayout) (c : Core) (i : ℕ) (below : i < m.seats) (inv : IsCoreInvariant m c)
     (first : is_first (c.semaphores.seats i).place ≡ true) where
@@ -49,8 +37,9 @@ module _ (m : CoreLayout) (c : Core) (i : ℕ) (below : i < m.seats) (inv : IsCo
   off : (standing : Standing) → IsStanding m c i standing → (l : ℕ) → IsOffList c i l
   off Rest is = is.1
   off (AtCounter after) is = is.1
-  off (AtList l) is = absurd (busy is.0)
+  off (AtList l ending) is = absurd (busy is.0)
   off (AtGroup g row) is = is.2
+  off (Left skips) is = is.1
   off (Failed misuse) is = is.1
 
   pub given_up_kept : IsCoreInvariant m (given_up i c)
@@ -79,3 +68,9 @@ given_up_else c i k ne = put_else c.standing i Rest k ne
 
 pub given_up_rests : (c : Core) (i : ℕ) → (given_up i c).standing i ≡ Rest
 given_up_rests c i = put_here c.standing i Rest
+
+-- and all go on to stay
+pub given_up_stays : (m : CoreLayout) (c : Core) (i : ℕ) → AllStay c → AllStay (given_up i c)
+given_up_stays m c i stay =
+    let at_rest = rested m c i stay in
+    record { standing = at_rest.standing; places = at_rest.places; journals = at_rest.journals }

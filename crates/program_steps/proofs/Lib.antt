@@ -1,4 +1,5 @@
 mod Standing
+pub mod Staying
 pub mod Calling
 pub mod GivingUp
 pub mod Layers

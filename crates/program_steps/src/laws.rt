@@ -12,7 +12,8 @@ pub fn law_of_the_layers()
 {}
 
 /// In a world that so many steps have led to, no seat has queued more waits on counters than that, no list has
-/// handed out more tickets or granted one that it didn't hand out, and each counter's number has 32 bits.
+/// handed out more tickets or passed one that it didn't hand out, no ticket has gone, and each counter's number
+/// has 32 bits.
 pub fn law_of_the_numbers()
     ensures { NumbersGrowByOne }
 {}

@@ -25,6 +25,7 @@ use crate::view::{Token, View};
 use std::hint;
 use std::marker::PhantomData;
 use std::sync::Wait;
+use std::time::Duration;
 
 /// How long a thread looks for its grant before it sleeps: a grant that comes meanwhile costs no call of the
 /// kernel. After waits in which it looked in vain it looks the less, and from time to time as long as at
@@ -137,8 +138,8 @@ impl<S, V, T, K, R: Rows<S, V, T, K>> Running<S, View<V, T>, K, OneWorld<R>> {
         Looked::InVain
     }
 
-    /// Returns once the grant is above 0, and perhaps before. Nobody but the seat takes what is granted, so
-    /// it looks with no row.
+    /// Returns once the grant is above 0, and perhaps before; where a longest time is given, once that is over
+    /// too. Nobody but the seat takes what is granted, so it looks with no row.
     pub fn await_grant<W: Wait>(
         &self,
         rt: &W,
@@ -147,6 +148,7 @@ impl<S, V, T, K, R: Rows<S, V, T, K>> Running<S, View<V, T>, K, OneWorld<R>> {
         asleep: usize,
         misses: usize,
         patience: &Patience,
+        longest: Option<Duration>,
     )
         requires own { token.old.table_id ≡ self.now.table.shared.table_id }
         requires words { (word < self.now.table.shared.table_id.words)
@@ -166,7 +168,10 @@ impl<S, V, T, K, R: Rows<S, V, T, K>> Running<S, View<V, T>, K, OneWorld<R>> {
         }
         // Set before `park` looks at the grant: who grants after that look finds it, and wakes.
         self.set_aside(token, asleep, 1);
-        self.table.shared.park(rt, word, 0);
+        match longest {
+            None => self.table.shared.park(rt, word, 0),
+            Some(longest) => self.table.shared.park_timeout(rt, word, 0, longest),
+        }
         self.set_aside(token, asleep, 0);
     }
 
@@ -214,7 +219,7 @@ impl<S, V, T, K, R: Rows<S, V, T, K>> Running<S, View<V, T>, K, OneWorld<R>> {
         ensures went { RanRow R.family here token.old.me result token.new.me }
     {
         for _ in rt.forever() {
-            self.await_grant(rt, token, word, asleep, misses, patience);
+            self.await_grant(rt, token, word, asleep, misses, patience, None);
             // Taken in the same step: a grant that stayed would wake the seat's next wait too.
             let found = self
                 .table

@@ -14,4 +14,6 @@ mod limit_tests;
 mod locker_tests;
 mod play;
 mod sleepers;
+mod timed_cond_tests;
+mod timed_lock_tests;
 mod wakers;

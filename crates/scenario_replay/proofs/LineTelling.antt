@@ -30,13 +30,13 @@ module _ (r s : Moment) (told : List ℕ) (i n was begun : ℕ) (before after : 
   pub has_told : found_by before.parts (run_at before) i ≡ Some found → row ≡ phase_in (run_at before).core i
       → begun ≡ (run_at before).begun i → scenario ≡ before.parts → was ≡ get_or told n was → call ≡ call_begun scenario i was begun
       → (entry : Option Entry) → Steps r i s entry → after ≡ s
-      → HasTold r told i s (set told n begun) (record { seat = i; row = row; found = found; call = call; after = after })
+      → HasTold r told i s (set told n begun) (record { seat = i; row = row; found = found; call = call; entry = entry; after = after })
   has_told finds stands has of_it reads begins entry steps shows =
       let begun_is : begun ≡ (run_at r).begun i = has ∙ ap (λ (m : Moment). (run_at m).begun i) at in
       let was_is : was ≡ each 0 told i
       = reads ∙ sym (get_or_default told n 0 was seat_there) ∙ ap (λ k. get_or told k 0) number in
       record {
-        steps = (entry, steps);
+        steps = steps;
         count = length-set told n begun;
         told_now = each_set 0 told n begun seat_there ∙ (λ j. put (each 0 told) (number j) (begun_is j));
         seat = refl;

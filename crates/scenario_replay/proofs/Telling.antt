@@ -8,7 +8,7 @@ use Rattle.std.proofs.lemmas.Option.{slice_get-get_or}
 use Rattle.step_table.specs.declared.entry.Entry.{Entry}
 use Rattle.step_table.specs.declared.parts.Parts.{Parts}
 use Rattle.step_table.specs.declared.standing.Standing.{Standing}
-use Rattle.step_table.specs.declared.standing.Standing.TheVariants.{Rest, AtCounter, AtList, AtGroup, Failed}
+use Rattle.step_table.specs.declared.standing.Standing.TheVariants.{Rest, AtCounter, AtList, AtGroup, Left, Failed}
 use Rattle.step_table.specs.declared.refusal.StepRefused.{StepRefused}
 use Rattle.step_law_alike.specs.declared.variant.Variant.{Variant}
 use Rattle.step_table.specs.World.{put}
@@ -28,16 +28,18 @@ use Rattle.scenario_replay.specs.Lines.{Past, past_with, past_from, past_of, Sho
 phase_of : (h : WholeMachine) (journal : List Entry) (i : ℕ) (x : Standing) → phase_doing (core_of h []) i x ≡ phase_doing (core_of h journal) i x
 phase_of h journal i Rest = refl
 phase_of h journal i (AtCounter after) = refl
-phase_of h journal i (AtList l) = refl
+phase_of h journal i (AtList l ending) = refl
 phase_of h journal i (AtGroup g row) = refl
+phase_of h journal i (Left skips) = refl
 phase_of h journal i (Failed misuse) = refl
 
 found_of : (m : CoreLayout) (h : WholeMachine) (journal : List Entry) (i : ℕ) (x : Standing)
     → found_doing m (core_of h journal) i x ≡ found_doing m (core_of h []) i x
 found_of m h journal i Rest = refl
 found_of m h journal i (AtCounter after) = refl
-found_of m h journal i (AtList l) = refl
+found_of m h journal i (AtList l ending) = refl
 found_of m h journal i (AtGroup g row) = refl
+found_of m h journal i (Left skips) = refl
 found_of m h journal i (Failed misuse) = refl
 
 past_more : (change : Option Variant) (parts : Parts) (from : Past) (past : List ℕ) (i : ℕ)
@@ -45,11 +47,12 @@ past_more : (change : Option Variant) (parts : Parts) (from : Past) (past : List
 past_more change parts from [] i = refl
 past_more change parts from (k ∷ past) i = past_more change parts (past_with change parts from k) past i
 
--- how a run stands to which these steps led, and how many calls each seat had begun before its last one
-pub record SoFar (change : Option Variant) (parts : Parts) (past : List ℕ) (r : Moment) (told : List ℕ) : Type 0 where
+-- how a run stands to which these steps led, which told this, and how many calls each seat had begun before its
+-- last one
+pub record SoFar (change : Option Variant) (parts : Parts) (past : List ℕ) (r : Moment) (told : List ℕ) (journal : List Entry) : Type 0 where
   pub parts_are : r.parts ≡ parts
   pub table_is : r.table ≡ change
-  pub run : (journal : List Entry) × (run_of (telling r journal) ≡ (past_of change parts past).run)
+  pub run : run_of (telling r journal) ≡ (past_of change parts past).run
   pub count : length told ≡ length parts.calls
   pub told_is : each 0 told ≡ (past_of change parts past).told
 
@@ -59,16 +62,17 @@ none_told (suc n) zero = refl
 none_told (suc n) (suc k) = none_told n k
 
 pub at_start : (change : Option Variant) (parts : Parts) (r : Moment) (told : List ℕ) → IsStarted parts (telling r []) → r.table ≡ change
-    → told ≡ replicate (length parts.calls) 0 → SoFar change parts [] r told
+    → told ≡ replicate (length parts.calls) 0 → SoFar change parts [] r told []
 at_start change parts r told started table none = record {
   parts_are = started.parts;
   table_is = table;
-  run = ([], started.run);
+  run = started.run;
   count = ap (λ (l : List ℕ). length l) none ∙ length-replicate (length parts.calls) 0;
   told_is = ap (each 0) none ∙ fun_ext (λ k. none_told (length parts.calls) k);
 }
 
-module _ (change : Option Variant) (parts : Parts) (past : List ℕ) (r : Moment) (told : List ℕ) (before : SoFar change parts past r told) where
+module _ (change : Option Variant) (parts : Parts) (past : List ℕ) (r : Moment) (told : List ℕ) (journal : List Entry)
+    (before : SoFar change parts past r told journal) where
   abbrev was : Moment
   was = r
 
@@ -78,29 +82,29 @@ module _ (change : Option Variant) (parts : Parts) (past : List ℕ) (r : Moment
   -- what the run answers of a seat's refusal is what the moment answers
   refused_here : (i : ℕ) (cause : Option StepRefused) → refusal was.parts (run_at was) i ≡ cause → refusal parts run i ≡ cause
   refused_here i cause is =
-      (λ j. refusal (sym before.parts_are j) (sym before.run.1 j) i) ∙ same_refusal was before.run.0 i ∙ is
+      (λ j. refusal (sym before.parts_are j) (sym before.run j) i) ∙ same_refusal was journal i ∙ is
 
   module _ (i : ℕ) (s : Moment) (now : List ℕ) (line : StepLine) (is : HasTold r told i s now line) where
     stays : s.parts ≡ r.parts
-    stays = (is.steps.1.steps []).parts
+    stays = (is.steps.steps []).parts
 
-    stepped_so : (told_then : List Entry) × (run_of (telling s told_then) ≡ stepped_by change parts run i)
-    stepped_so = (
-      and_then before.run.0 is.steps.0,
-      (is.steps.1.steps before.run.0).run ∙ (λ j. stepped_by (before.table_is j) (before.parts_are j) (before.run.1 j) i),
-    )
+    abbrev now_told : List Entry
+    now_told = and_then journal line.entry
+
+    stepped_so : run_of (telling s now_told) ≡ stepped_by change parts run i
+    stepped_so = (is.steps.steps journal).run ∙ (λ j. stepped_by (before.table_is j) (before.parts_are j) (before.run j) i)
 
     more : past_of change parts (past ++ i ∷ []) ≡ past_with change parts (past_of change parts past) i
     more = past_more change parts _ past i
 
-    pub one_more : SoFar change parts (past ++ i ∷ []) s now
+    pub one_more : SoFar change parts (past ++ i ∷ []) s now (and_then journal line.entry)
     one_more = record {
       parts_are = stays ∙ before.parts_are;
-      table_is = is.steps.1.table ∙ before.table_is;
-      run = (stepped_so.0, stepped_so.1 ∙ sym (ap (λ (p : Past). p.run) more));
+      table_is = is.steps.table ∙ before.table_is;
+      run = stepped_so ∙ sym (ap (λ (p : Past). p.run) more);
       count = is.count ∙ before.count;
       told_is =
-          is.told_now ∙ (λ j. put (before.told_is j) i ((before.run.1 j).begun i)) ∙ sym (ap (λ (p : Past). p.told) more);
+          is.told_now ∙ (λ j. put (before.told_is j) i ((before.run j).begun i)) ∙ sym (ap (λ (p : Past). p.told) more);
     }
 
     pub tells : TellsStepOf change parts (past_of change parts past) i line
@@ -108,16 +112,17 @@ module _ (change : Option Variant) (parts : Parts) (past : List ℕ) (r : Moment
       seat = is.seat;
       enabled = refused_here i None is.enabled;
       row =
-          is.row ∙ phase_of was.machine before.run.0 i (each Rest was.machine.standing i)
-          ∙ (λ j. phase_in (before.run.1 j).core i);
+          is.row ∙ phase_of was.machine journal i (each Rest was.machine.standing i)
+          ∙ (λ j. phase_in (before.run j).core i);
       found =
-          (λ j. found_by (sym before.parts_are j) (sym before.run.1 j) i)
-          ∙ found_of (layout was.parts) was.machine before.run.0 i (each Rest was.machine.standing i) ∙ is.found;
-      call = is.call ∙ (λ j. call_begun (before.parts_are j) i (before.told_is j i) ((before.run.1 j).begun i));
+          (λ j. found_by (sym before.parts_are j) (sym before.run j) i)
+          ∙ found_of (layout was.parts) was.machine journal i (each Rest was.machine.standing i) ∙ is.found;
+      call = is.call ∙ (λ j. call_begun (before.parts_are j) i (before.told_is j i) ((before.run j).begun i));
+      entry = ap (λ (x : Run). x.core.journal) (sym stepped_so) ∙ ap (λ (x : Run). and_then x.core.journal line.entry) before.run;
       after = record {
-        table_is = ap (λ (m : Moment). m.table) is.after ∙ is.steps.1.table ∙ before.table_is;
+        table_is = ap (λ (m : Moment). m.table) is.after ∙ is.steps.table ∙ before.table_is;
         parts_are = ap (λ (m : Moment). m.parts) is.after ∙ stays ∙ before.parts_are;
-        run_is = (stepped_so.0, ap (λ (m : Moment). run_of (telling m stepped_so.0)) is.after ∙ stepped_so.1);
+        run_is = (now_told, ap (λ (m : Moment). run_of (telling m now_told)) is.after ∙ stepped_so);
       };
     }
 
@@ -132,15 +137,15 @@ lines_more P (y ∷ l) x all here (suc k) = lines_more (λ n. P (suc n)) l x (λ
 
 -- the table of the first so many steps of a schedule, and how the run stands then
 pub record TableSoFar (change : Option Variant) (parts : Parts) (schedule : List ℕ) (first : Moment) (at : ℕ) (r : Moment)
-    (told : List ℕ) (lines : List StepLine) : Type 0 where
+    (told : List ℕ) (lines : List StepLine) (journal : List Entry) : Type 0 where
   pub begins : Shows change first parts (start parts)
-  pub so_far : SoFar change parts (take at schedule) r told
+  pub so_far : SoFar change parts (take at schedule) r told journal
   pub count : length lines ≡ at
   pub each_line : (k : ℕ) → IfSome (slice_get lines k) (IsLine change parts schedule k)
 
 pub no_line : (change : Option Variant) (parts : Parts) (schedule : List ℕ) (first : Moment) (r : Moment) (told : List ℕ)
     → IsStarted parts (telling r []) → r.table ≡ change → first ≡ r → told ≡ replicate (length parts.calls) 0
-    → TableSoFar change parts schedule first 0 r told []
+    → TableSoFar change parts schedule first 0 r told [] []
 no_line change parts schedule first r told started table shows none = record {
   begins = record {
     table_is = ap (λ (m : Moment). m.table) shows ∙ table;
@@ -153,22 +158,23 @@ no_line change parts schedule first r told started table shows none = record {
 }
 
 module _ (change : Option Variant) (parts : Parts) (schedule : List ℕ) (first : Moment) (at i : ℕ) (r : Moment) (told : List ℕ)
-    (lines : List StepLine) (before : TableSoFar change parts schedule first at r told lines) (there : at < length schedule)
+    (lines : List StepLine) (journal : List Entry) (before : TableSoFar change parts schedule first at r told lines journal) (there : at < length schedule)
     (is_seat : i ≡ get_or schedule at i) where
   step_is : slice_get schedule at ≡ Some i
   step_is = slice_get-get_or schedule at i there ∙ ap Some (sym is_seat)
 
   pub line_more : take (at + 1) schedule ≡ take at schedule ++ i ∷ [] → (s : Moment) (now : List ℕ) (line : StepLine) → HasTold r told i s now line
-      → TableSoFar change parts schedule first (at + 1) s now (lines ++ line ∷ [])
+      → TableSoFar change parts schedule first (at + 1) s now (lines ++ line ∷ []) (and_then journal line.entry)
   line_more taken s now line is = record {
     begins = before.begins;
-    so_far = subst (λ past. SoFar change parts past s now) (sym taken) (one_more change parts (take at schedule) r told before.so_far i s now line is);
+    so_far = subst (λ past. SoFar change parts past s now (and_then journal line.entry)) (sym taken)
+        (one_more change parts (take at schedule) r told journal before.so_far i s now line is);
     count = longer lines ∙ ap (λ n. n + 1) before.count;
     each_line = lines_more (IsLine change parts schedule) lines line before.each_line
         (subst (λ n. IsLine change parts schedule n line) (sym before.count) (record {
           step = step_is ∙ ap Some (sym is.seat);
           tells = subst (λ k. TellsStepOf change parts (past_of change parts (take at schedule)) k line) (sym is.seat)
-              (tells change parts (take at schedule) r told before.so_far i s now line is);
+              (tells change parts (take at schedule) r told journal before.so_far i s now line is);
         }));
   }
     where
@@ -180,15 +186,17 @@ module _ (change : Option Variant) (parts : Parts) (schedule : List ℕ) (first 
       → EndsBy change parts schedule (length lines) (Some (record { at = at; cause = cause }))
   ends_here cause is =
       subst (λ n. EndsBy change parts schedule n (Some (record { at = at; cause = cause }))) (sym before.count)
-      (refl, i, step_is, refused_here change parts (take at schedule) r told before.so_far i (Some cause) is)
+      (refl, i, step_is, refused_here change parts (take at schedule) r told journal before.so_far i (Some cause) is)
 
--- the run so far stands where its lines lead
-pub stands_at : (change : Option Variant) (parts : Parts) (schedule : List ℕ) (first : Moment) (at : ℕ) (r : Moment) (told : List ℕ)
-    (lines : List StepLine) → TableSoFar change parts schedule first at r told lines
-    → Shows change r parts (past_of change parts (take (length lines) schedule)).run
-stands_at change parts schedule first at r told lines before = record {
-  table_is = before.so_far.table_is;
-  parts_are = before.so_far.parts_are;
-  run_is =
-      (before.so_far.run.0, before.so_far.run.1 ∙ ap (λ n. (past_of change parts (take n schedule)).run) (sym before.count));
-}
+-- the run so far stands where its lines lead, and has this journal
+module _ (change : Option Variant) (parts : Parts) (schedule : List ℕ) (first : Moment) (at : ℕ) (r : Moment) (told : List ℕ)
+    (lines : List StepLine) (journal : List Entry) (before : TableSoFar change parts schedule first at r told lines journal) where
+  pub tells_so : run_of (telling r journal) ≡ (past_of change parts (take (length lines) schedule)).run
+  tells_so = before.so_far.run ∙ ap (λ n. (past_of change parts (take n schedule)).run) (sym before.count)
+
+  pub stands_at : Shows change r parts (past_of change parts (take (length lines) schedule)).run
+  stands_at = record {
+    table_is = before.so_far.table_is;
+    parts_are = before.so_far.parts_are;
+    run_is = (journal, tells_so);
+  }

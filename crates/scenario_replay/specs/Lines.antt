@@ -7,7 +7,7 @@ use Rattle.step_table.specs.World.{put}
 use Rattle.step_table.specs.Row.{phase_in}
 use Rattle.step_table.specs.Run.{Run, start, refusal}
 use Rattle.step_core.specs.Finding.{found_by}
-use Rattle.step_core.specs.State.{Moment, run_of, telling}
+use Rattle.step_core.specs.State.{Moment, and_then, run_of, telling}
 use Rattle.step_core.specs.Stepping.{stepped_by}
 use Rattle.scenario_replay.specs.declared.line.StepLine.{StepLine}
 use Rattle.scenario_replay.specs.StepLine.{call_begun}
@@ -43,7 +43,7 @@ pub record Shows (change : Option Variant) (picture : Moment) (parts : Parts) (r
   pub run_is : (journal : List Entry) × (run_of (telling picture journal) ≡ run)
 
 -- the line tells a step of this seat in this past, which can be run: the row before which it stands, what
--- that finds, the call that begins, and all words after the step
+-- that finds, the call that begins, what the row tells, and all words after the step
 pub record TellsStepOf (change : Option Variant) (parts : Parts) (past : Past) (i : ℕ) (line : StepLine)
     : Type 0 where
   pub seat : line.seat ≡ i
@@ -51,6 +51,7 @@ pub record TellsStepOf (change : Option Variant) (parts : Parts) (past : Past) (
   pub row : line.row ≡ phase_in past.run.core i
   pub found : found_by parts past.run i ≡ Some line.found
   pub call : line.call ≡ call_begun parts i (past.told i) (past.run.begun i)
+  pub entry : (stepped_by change parts past.run i).core.journal ≡ and_then past.run.core.journal line.entry
   pub after : Shows change line.after parts (stepped_by change parts past.run i)
 
 -- the line of step `at`
@@ -66,7 +67,8 @@ EndsBy change parts schedule count (Some refused) =
     (refused.at ≡ count) × (i : ℕ) × (slice_get schedule count ≡ Some i)
     × (refusal parts (past_of change parts (take count schedule)).run i ≡ Some refused.cause)
 
--- the table of a schedule, by the step table or by this change of it
+-- the table of a schedule, by the step table or by this change of it. Its journal is that of the run where it
+-- ends
 pub record IsTableOf (change : Option Variant) (parts : Parts) (schedule : List ℕ) (table : ReplayTable)
     : Type 0 where
   pub begins : Shows change table.start parts (start parts)
@@ -74,3 +76,5 @@ pub record IsTableOf (change : Option Variant) (parts : Parts) (schedule : List 
   pub ends : EndsBy change parts schedule (length table.lines.items) table.refused
   pub ends_at : Shows change table.end parts
       (past_of change parts (take (length table.lines.items) schedule)).run
+  pub tells : run_of (telling table.end table.journal.items)
+      ≡ (past_of change parts (take (length table.lines.items) schedule)).run

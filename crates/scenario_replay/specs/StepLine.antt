@@ -2,7 +2,6 @@
 use Rattle.std.specs.Prelude.{◌≡◌, ℕ, ◌-◌, ◌==◌, if◌then◌else◌, List, Option, Some, None, Result, Ok, Err}
 use Rattle.std.specs.Prelude.{length}
 use Rattle.step_table.specs.declared.call.Call.{Call}
-use Rattle.step_table.specs.declared.entry.Entry.{Entry}
 use Rattle.step_table.specs.declared.parts.Parts.{Parts}
 use Rattle.step_table.specs.declared.refusal.StepRefused.{StepRefused}
 use Rattle.step_table.specs.World.{put}
@@ -21,7 +20,7 @@ call_begun parts i told begun = if told == begun then None else call_of parts i 
 -- the step was run, and this is its line
 pub record HasTold (r : Moment) (told : List ℕ) (i : ℕ) (s : Moment) (now : List ℕ) (line : StepLine)
     : Type 0 where
-  pub steps : (entry : Option Entry) × Steps r i s entry
+  pub steps : Steps r i s line.entry
   pub count : length now ≡ length told
   pub told_now : each 0 now ≡ put (each 0 told) i ((run_at r).begun i)
   pub seat : line.seat ≡ i

@@ -4,7 +4,9 @@ ghost use Rattle.std.specs.Prelude.{◌≡◌, ◌<◌, length, IfOk};
 ghost use Rattle.scenario_replay.specs.StepLine.{call_begun, TellsStep};
 
 use std::alloc::Global;
-use step_core::{Call, Moment, NoMemory, Phase, Picture, Scenario, SeatId, StepRefused, WordFound};
+use step_core::{
+    Call, Entry, Moment, NoMemory, Phase, Picture, Scenario, SeatId, StepRefused, WordFound,
+};
 
 /// One step of a schedule.
 #[derive(Drop)]
@@ -17,6 +19,8 @@ pub struct StepLine<'s> {
     pub found: WordFound,
     /// The call that begins here, where this is its first step.
     pub call: Option<Call>,
+    /// What the row told, where it told something.
+    pub entry: Option<Entry>,
     /// All words after the step.
     pub after: Picture<'s>,
 }
@@ -52,15 +56,17 @@ pub fn step_line<'s>(
     let row = before.phase(seat);
     let begun = before.begun(seat);
     let call = call_begun(before.scenario(), seat, told[i], begun);
-    if let Err(cause) = running.step(seat) {
-        return Ok(Err(cause));
-    }
+    let entry = match running.step(seat) {
+        Ok(entry) => entry,
+        Err(cause) => return Ok(Err(cause)),
+    };
     told[i] = begun;
     Ok(Ok(StepLine {
         seat,
         row,
         found,
         call,
+        entry,
         after: running.picture(alloc)?,
     }))
 }

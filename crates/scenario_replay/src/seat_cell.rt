@@ -8,7 +8,9 @@ use step_core::{Call, GroupId, Phase, Picture, SeatId};
 /// The group that a call is on.
 fn group_of(call: &Call) -> Option<GroupId> {
     match *call {
-        Call::GroupAdd(group, _) | Call::GroupWait(group) => Some(group),
+        Call::GroupAdd(group, _) | Call::GroupWait(group) | Call::GroupWaitOrLeave(group, _) => {
+            Some(group)
+        }
         _ => None,
     }
 }

@@ -1,5 +1,5 @@
 -- The text of the line behind so many lines.
-use Rattle.std.proofs.Common.{◌≡◌, ℕ, zero, suc, List, [], ◌∷◌, refl, sym, subst, ◌∙◌, ap}
+use Rattle.std.proofs.Common.{◌≡◌, ℕ, zero, suc, List, [], ◌∷◌, refl, sym, subst, ◌∙◌}
 use Rattle.scenario_text.specs.Pieces.{Piece, pieces, text_at}
 
 at_next : (n : ℕ) (p : Piece) (ps : List Piece) → text_at (suc n) (p ∷ ps) ≡ text_at n ps

@@ -9,7 +9,7 @@ use Rattle.std.proofs.lemmas.Str.Pattern.{IsSplitOnceResult, split_after, split_
 use Rattle.std.specs.Str.{bytes_eq}
 use Rattle.std.proofs.lemmas.Slice.Eq.{bytes_eq-Decides}
 use Rattle.scenario_text.specs.declared.reader.call.SpelledCall.{SpelledCall}
-use Rattle.scenario_text.specs.Line.{calls_text, Line, Roots, Counter, NotifyList, Group, Seat, Settled, Value, NoMisuse, line_text, Spells}
+use Rattle.scenario_text.specs.Line.{calls_text, Line, Roots, Counter, NotifyList, Group, Seat, Settled, Value, NoMisuse, NoLost, line_text, Spells}
 use Rattle.scenario_text.specs.Phrases.{ReadsAs, IsNumber, IsKeyed, IsPair, AreCalls, IsSeat}
 use Rattle.scenario_text.proofs.Parts.{nothing, one, found, only, none, lacks}
 
@@ -99,8 +99,8 @@ seat_line text n cs h = let f = found (IsSeat text) (n, cs) h in one (Spells tex
 
 pub no_line : (text : List ℕ) → ReadsAs (IsKeyed 10 (codes "roots ") text) None → ReadsAs (IsKeyed 10 (codes "counter ") text) None
     → ReadsAs (IsKeyed 20 (codes "list ") text) None → ReadsAs (IsPair (codes "value ") [] text) None
-    → ReadsAs (IsSeat text) None → (text ≢ codes "group") → (text ≢ codes "settled") → (text ≢ codes "no-misuse") → ReadsAs (Spells text) None
-no_line text roots counter list value seat group settled misuse = nothing (Spells text) is
+    → ReadsAs (IsSeat text) None → (text ≢ codes "group") → (text ≢ codes "settled") → (text ≢ codes "no-misuse") → (text ≢ codes "no-lost") → ReadsAs (Spells text) None
+no_line text roots counter list value seat group settled misuse lost = nothing (Spells text) is
   where
     is : (a : Line) → Spells text a → ⊥
     is (Roots n) q = none (IsKeyed 10 (codes "roots ") text) n roots (q.form, q.spelled)
@@ -111,6 +111,7 @@ no_line text roots counter list value seat group settled misuse = nothing (Spell
     is Settled q = settled q.spelled
     is (Value c n) q = none (IsPair (codes "value ") [] text) (c, n) value (q.form.0, q.form.1, q.spelled)
     is NoMisuse q = misuse q.spelled
+    is NoLost q = lost q.spelled
 
 pub differs : (r : Bool) (xs ys : List ℕ) → r ≡ bytes_eq xs ys → r ≡ false → xs ≢ ys
 differs r xs ys e f g = let t = (bytes_eq-Decides xs ys).1 g in cc

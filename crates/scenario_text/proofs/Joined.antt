@@ -1,6 +1,6 @@
 -- Calls with a semicolon and a space between them.
 use Rattle.std.proofs.Common.{◌≡◌, ◌≢◌, ℕ, zero, suc, ◌^◌, ◌<◌, Bool, true, false, cond, eqb, List, [], ◌∷◌, ◌++◌, length}
-use Rattle.std.proofs.Common.{get_or, Some, None, Bor, refl, sym}
+use Rattle.std.proofs.Common.{get_or, Option, Some, None, Bor, refl, sym}
 use Rattle.std.proofs.Common.{ap, subst, ◌∙◌, append_assoc, eq-eqb, arith, inl, ◌⊎◌}
 use Rattle.std.specs.Prelude.{codes}
 use Rattle.std.specs.Fmt.{decimal}
@@ -9,9 +9,13 @@ use Rattle.std.proofs.lemmas.Str.Pattern.{IsSplitOnceResult, split_after, split_
 use Rattle.scenario_text.specs.declared.reader.call.Change.{Change}
 use Rattle.scenario_text.specs.declared.reader.call.Change.TheVariants.{Up, Down}
 use Rattle.scenario_text.specs.declared.reader.call.SpelledCall.{SpelledCall}
-use Rattle.scenario_text.specs.declared.reader.call.SpelledCall.TheVariants.{Acquire, AcquireLifo, Release, ReleaseHandoff, ReleaseMany, Add, Wait, One, All}
-use Rattle.scenario_text.specs.declared.reader.call.SpelledCall.TheVariants.{GroupAdd, GroupWait}
+use Rattle.scenario_text.specs.declared.reader.call.SpelledCall.TheVariants.{Acquire, AcquireLifo, AcquireOrLeave, WaitOrLeave, Release, ReleaseHandoff, ReleaseMany, Add, Wait, One, All}
+use Rattle.scenario_text.specs.declared.reader.call.SpelledCall.TheVariants.{GroupAdd, GroupWait, GroupWaitOrLeave}
+use Rattle.scenario_text.specs.declared.reader.call.SpelledGivingUp.{SpelledGivingUp}
+use Rattle.step_table.specs.declared.call.Late.{Late}
+use Rattle.step_table.specs.declared.call.Late.TheVariants.{Kept, GivenBack}
 use Rattle.scenario_text.specs.Line.{IsShort, call_text, calls_text, change_text, IsShortChange}
+use Rattle.scenario_text.specs.Line.{late_text, skips_text, giving_up_text, flag_text, IsShortSkips, IsShortGivingUp, keeping}
 use Rattle.scenario_text.specs.Phrases.{ReadsAs, IsCall, AreCalls}
 use Rattle.scenario_text.proofs.Parts.{nothing, one, found, only, none, lacks}
 
@@ -61,19 +65,40 @@ change_has : (d : Change) → IsShortChange d → has 59 (change_text d) ≡ fal
 change_has (Up n) h = number_has 59 n h (inl (omega arith))
 change_has (Down n) h = number_has 59 n h.1 (inl (omega arith))
 
+late_has : (l : Late) → has 59 (late_text l) ≡ false
+late_has Kept = refl
+late_has GivenBack = refl
+
+skips_has : (o : Option ℕ) → IsShortSkips o → has 59 (skips_text o) ≡ false
+skips_has None h = refl
+skips_has (Some n) h = number_has 59 n h.1 (inl (omega arith))
+
+way_has : (how : SpelledGivingUp) → IsShortGivingUp how → has 59 (giving_up_text how) ≡ false
+way_has how h = has_append 59 (late_text how.late) (skips_text how.skips) (late_has how.late) (skips_has how.skips h)
+
+flagged_has : (lifo : Bool) (how : SpelledGivingUp) → IsShortGivingUp how → has 59 (flag_text lifo ++ giving_up_text how) ≡ false
+flagged_has true how h = way_has how h
+flagged_has false how h = way_has how h
+
 call_has : (c : SpelledCall) → IsShort c → has 59 (call_text c) ≡ false
 call_has (Acquire n) h = number_has 59 n h (inl (omega arith))
 call_has (AcquireLifo n) h = has_append 59 (decimal n) (codes " lifo") (number_has 59 n h (inl (omega arith))) refl
+call_has (AcquireOrLeave n lifo how) h =
+    has_append 59 (decimal n) (32 ∷ (flag_text lifo ++ giving_up_text how)) (number_has 59 n h.0 (inl (omega arith))) (flagged_has lifo how h.1)
 call_has (Release n) h = number_has 59 n h (inl (omega arith))
 call_has (ReleaseHandoff n) h = has_append 59 (decimal n) (codes " handoff") (number_has 59 n h (inl (omega arith))) refl
 call_has (ReleaseMany n k) h =
     has_append 59 (decimal n) (codes " many " ++ decimal k) (number_has 59 n h.0 (inl (omega arith))) (number_has 59 k h.1 (inl (omega arith)))
 call_has (Add n) h = number_has 59 n h (inl (omega arith))
 call_has (Wait n) h = number_has 59 n h (inl (omega arith))
+call_has (WaitOrLeave n how) h =
+    has_append 59 (decimal n) (32 ∷ giving_up_text how) (number_has 59 n h.0 (inl (omega arith))) (way_has how h.1)
 call_has (One n) h = number_has 59 n h (inl (omega arith))
 call_has (All n) h = number_has 59 n h (inl (omega arith))
 call_has (GroupAdd n d) h = has_append 59 (decimal n) (32 ∷ change_text d) (number_has 59 n h.0 (inl (omega arith))) (change_has d h.1)
 call_has (GroupWait n) h = number_has 59 n h (inl (omega arith))
+call_has (GroupWaitOrLeave n skips) h =
+    has_append 59 (decimal n) (32 ∷ giving_up_text (keeping skips)) (number_has 59 n h.0 (inl (omega arith))) (way_has (keeping skips) h.1)
 
 call_lacks : (c : SpelledCall) → IsShort c → (i : ℕ) → i < length (call_text c) → get_or (call_text c) i 0 ≢ 59
 call_lacks c h = has_none 59 (call_text c) (call_has c h)

@@ -17,7 +17,7 @@ use Rattle.scenario_text.specs.declared.reader.kind.LineKind.{LineKind}
 use Rattle.scenario_text.specs.declared.reader.kind.LineKind.TheVariants.{Counter as CounterKind, NotifyList as ListKind, Group as GroupKind, Seat as SeatKind}
 use Rattle.scenario_text.specs.declared.reader.kind.LineKind.TheVariants.{Property as PropertyKind}
 use Rattle.scenario_text.specs.Request.{IsAbout}
-use Rattle.scenario_text.specs.Line.{Line, Roots, Counter, NotifyList, Group, Seat, Settled, Value, NoMisuse}
+use Rattle.scenario_text.specs.Line.{Line, Roots, Counter, NotifyList, Group, Seat, Settled, Value, NoMisuse, NoLost}
 use Rattle.scenario_text.specs.Pieces.{Piece, pieces}
 use Rattle.scenario_text.specs.Causes.{kind, rank, count_of, is_wide, names_missing, is_early_property, count_later}
 use Rattle.scenario_text.specs.Reader.{AreLinesOf}
@@ -32,6 +32,8 @@ use Rattle.scenario_text.proofs.Passing.{tickets_kept}
 call_on_more : (p q : Parts) → length p.starts ≤ length q.starts → length p.firsts ≤ length q.firsts → p.groups ≤ q.groups
     → (c : Call) → IsCallOn p c → IsCallOn q c
 call_on_more p q starts firsts groups (core.Acquire c lifo) h = omega arith
+call_on_more p q starts firsts groups (core.AcquireOrLeave c lifo how) h = omega arith
+call_on_more p q starts firsts groups (core.WaitOrLeave l how) h = omega arith
 call_on_more p q starts firsts groups (core.Release c handoff) h = omega arith
 call_on_more p q starts firsts groups (core.ReleaseMany c n) h = omega arith
 call_on_more p q starts firsts groups (core.Add l) h = omega arith
@@ -40,6 +42,7 @@ call_on_more p q starts firsts groups (core.One l) h = omega arith
 call_on_more p q starts firsts groups (core.All l) h = omega arith
 call_on_more p q starts firsts groups (core.GroupAdd g d) h = omega arith
 call_on_more p q starts firsts groups (core.GroupWait g) h = omega arith
+call_on_more p q starts firsts groups (core.GroupWaitOrLeave g skips) h = omega arith
 
 declared_more : (p q : Parts) → length p.starts ≤ length q.starts → length p.firsts ≤ length q.firsts → p.groups ≤ q.groups
     → p.calls ≡ q.calls → IsDeclared p → IsDeclared q
@@ -114,6 +117,7 @@ about_more p q more None h = tt
 about_more p q more (Some property.Settled) h = tt
 about_more p q more (Some (property.Value c n)) h = omega arith
 about_more p q more (Some property.NoMisuse) h = tt
+about_more p q more (Some property.NoLost) h = tt
 
 -- a line that changes the property alone
 stays : (lines : List Line) (o : Option Property) → Kept lines → 0 < count_of SeatKind lines → IfSome o (IsAbout (parts_of lines))
@@ -241,6 +245,7 @@ next lines Settled k h = stays lines (Some property.Settled) k (behind_seat line
 next lines (Value c n) k h = stays lines (Some (property.Value c n)) k (behind_seat lines (Value c n) h.place)
     (omega (arith, k.declares, there c (count_of CounterKind lines) h.declared))
 next lines NoMisuse k h = stays lines (Some property.NoMisuse) k (behind_seat lines NoMisuse h.place) tt
+next lines NoLost k h = stays lines (Some property.NoLost) k (behind_seat lines NoLost h.place) tt
 
 counted : (kinds : LineKind) (lines : List Line) (l : Line) → count_of kinds (lines ++ (l ∷ []))
     ≡ count_of kinds lines + cond (rank (kind l) == rank kinds) 1 0
@@ -268,6 +273,7 @@ fits lines (Seat n calls) k h =
 fits lines Settled k h = tt
 fits lines (Value c n) k h = (omega (arith, k.counters_few, there c (count_of CounterKind lines) h.declared), omega (arith, at_most 4294967295 n h.range))
 fits lines NoMisuse k h = tt
+fits lines NoLost k h = tt
 
 -- ---- a text's lines
 

@@ -10,3 +10,4 @@ pub mod Behind
 pub mod Texts
 pub mod Passing
 pub mod Keeping
+pub mod Leaving

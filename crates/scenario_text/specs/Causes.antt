@@ -1,13 +1,13 @@
 -- What may be wrong with a line, as facts of the whole line and of the lines before it.
 use Rattle.std.specs.Prelude.{⊤, ◌≡◌, ℕ, ◌==◌, Bool, true, false, nat_lt, not, ◌||◌, ◌&&◌, List, [], ◌∷◌}
-use Rattle.std.specs.Prelude.{◌++◌, length, count_by, fold, ◌⊎◌, ◌^◌, ◌-◌}
+use Rattle.std.specs.Prelude.{◌++◌, length, take, count_by, fold, cond, Option, Some, None, ◌⊎◌, ◌^◌, ◌-◌}
 use Rattle.std.specs.List.{list_any, list_all}
 use Rattle.scenario_text.specs.declared.reader.call.Change.TheVariants.{Up, Down}
 use Rattle.scenario_text.specs.declared.reader.call.SpelledCall.{SpelledCall}
-use Rattle.scenario_text.specs.declared.reader.call.SpelledCall.TheVariants.{Acquire, AcquireLifo, Release}
+use Rattle.scenario_text.specs.declared.reader.call.SpelledCall.TheVariants.{Acquire, AcquireLifo, AcquireOrLeave, Release}
 use Rattle.scenario_text.specs.declared.reader.call.SpelledCall.TheVariants.{ReleaseHandoff, ReleaseMany, Add}
-use Rattle.scenario_text.specs.declared.reader.call.SpelledCall.TheVariants.{Wait, One, All, GroupAdd}
-use Rattle.scenario_text.specs.declared.reader.call.SpelledCall.TheVariants.{GroupWait}
+use Rattle.scenario_text.specs.declared.reader.call.SpelledCall.TheVariants.{Wait, WaitOrLeave, One, All, GroupAdd}
+use Rattle.scenario_text.specs.declared.reader.call.SpelledCall.TheVariants.{GroupWait, GroupWaitOrLeave}
 use Rattle.scenario_text.specs.declared.read_fault.Cause.{Cause}
 use Rattle.scenario_text.specs.declared.read_fault.Cause.TheVariants.{Cut, Byte, Form, Place, Range, TooMany}
 use Rattle.scenario_text.specs.declared.read_fault.Cause.TheVariants.{Undeclared, Ticket, End, NoMemory}
@@ -18,8 +18,8 @@ use Rattle.scenario_text.specs.declared.reader.kind.LineKind.TheVariants.{Notify
 use Rattle.scenario_text.specs.declared.reader.kind.LineKind.TheVariants.{Group as GroupKind}
 use Rattle.scenario_text.specs.declared.reader.kind.LineKind.TheVariants.{Seat as SeatKind}
 use Rattle.scenario_text.specs.declared.reader.kind.LineKind.TheVariants.{Property as PropertyKind}
-use Rattle.scenario_text.specs.Line.{Line, Roots, Counter, NotifyList, Group, Seat, Settled, Value, NoMisuse}
-use Rattle.scenario_text.specs.Line.{Spells}
+use Rattle.scenario_text.specs.Line.{Line, Roots, Counter, NotifyList, Group, Seat, Settled, Value, NoMisuse, NoLost}
+use Rattle.scenario_text.specs.Line.{Spells, skips, keeping}
 use Rattle.scenario_text.specs.Pieces.{Piece}
 
 -- ---- 2: a byte that can't be printed
@@ -38,6 +38,7 @@ kind (Seat k calls) = SeatKind
 kind Settled = PropertyKind
 kind (Value c n) = PropertyKind
 kind NoMisuse = PropertyKind
+kind NoLost = PropertyKind
 
 -- the order in which the kinds come
 abbrev pub rank : LineKind → ℕ
@@ -66,6 +67,7 @@ is_out_of_turn lines (Seat k calls) = not (k == count_of SeatKind lines)
 is_out_of_turn lines Settled = is_early_property lines
 is_out_of_turn lines (Value c n) = is_early_property lines
 is_out_of_turn lines NoMisuse = is_early_property lines
+is_out_of_turn lines NoLost = is_early_property lines
 is_out_of_turn lines line = false
 
 abbrev pub is_misplaced : List Line → Line → Bool
@@ -73,8 +75,16 @@ is_misplaced lines line = nat_lt 0 (count_later (kind line) lines) || is_out_of_
 
 -- ---- 5: a number outside its range
 
+-- 1 to 31 calls left out, where the text says how many
+abbrev pub is_wide_skip : Option ℕ → Bool
+is_wide_skip None = false
+is_wide_skip (Some n) = nat_lt 31 n
+
 -- units from 1 to 256, changes from -2 ^ 31 to 2 ^ 31 - 1
 abbrev pub is_wide : SpelledCall → Bool
+is_wide (AcquireOrLeave c lifo how) = is_wide_skip how.skips
+is_wide (WaitOrLeave l how) = is_wide_skip how.skips
+is_wide (GroupWaitOrLeave g skips) = is_wide_skip skips
 is_wide (ReleaseMany c n) = n == 0 || nat_lt 256 n
 is_wide (GroupAdd g (Up n)) = nat_lt (2 ^ 31 - 1) n
 is_wide (GroupAdd g (Down n)) = nat_lt (2 ^ 31) n
@@ -106,27 +116,31 @@ is_missing lines k n = not (nat_lt n (count_of k lines))
 abbrev pub names_missing : List Line → SpelledCall → Bool
 names_missing lines (Acquire c) = is_missing lines CounterKind c
 names_missing lines (AcquireLifo c) = is_missing lines CounterKind c
+names_missing lines (AcquireOrLeave c lifo how) = is_missing lines CounterKind c
 names_missing lines (Release c) = is_missing lines CounterKind c
 names_missing lines (ReleaseHandoff c) = is_missing lines CounterKind c
 names_missing lines (ReleaseMany c n) = is_missing lines CounterKind c
 names_missing lines (Add l) = is_missing lines ListKind l
 names_missing lines (Wait l) = is_missing lines ListKind l
+names_missing lines (WaitOrLeave l how) = is_missing lines ListKind l
 names_missing lines (One l) = is_missing lines ListKind l
 names_missing lines (All l) = is_missing lines ListKind l
 names_missing lines (GroupAdd g d) = is_missing lines GroupKind g
 names_missing lines (GroupWait g) = is_missing lines GroupKind g
+names_missing lines (GroupWaitOrLeave g skips) = is_missing lines GroupKind g
 
 abbrev pub is_undeclared : List Line → Line → Bool
 is_undeclared lines (Seat k calls) = list_any (names_missing lines) calls
 is_undeclared lines (Value c n) = is_missing lines CounterKind c
 is_undeclared lines line = false
 
--- ---- 8: a ticket that is held already, or a wait without one
+-- ---- 8: a ticket that is held already, or a wait without one, or other tickets where calls are left out
 
 -- whether the seat holds a ticket of the list l after one call more, and after calls
 abbrev pub held_after : ℕ → Bool → SpelledCall → Bool
 held_after l held (Add m) = held || m == l
 held_after l held (Wait m) = held && not (m == l)
+held_after l held (WaitOrLeave m how) = held && not (m == l)
 held_after l held call = held
 
 abbrev pub has_ticket : ℕ → List SpelledCall → Bool
@@ -135,12 +149,36 @@ has_ticket l calls = fold (held_after l) false calls
 abbrev pub is_wrong_after : List SpelledCall → SpelledCall → Bool
 is_wrong_after calls (Add l) = has_ticket l calls
 is_wrong_after calls (Wait l) = not (has_ticket l calls)
+is_wrong_after calls (WaitOrLeave l how) = not (has_ticket l calls)
 is_wrong_after calls call = false
+
+-- how many of the next calls are left out where the call is given up
+abbrev pub skips_of : SpelledCall → ℕ
+skips_of (AcquireOrLeave c lifo how) = skips how
+skips_of (WaitOrLeave l how) = skips how
+skips_of (GroupWaitOrLeave g n) = skips (keeping n)
+skips_of call = 0
+
+-- of the list l the seat holds a ticket before or after, and not both
+abbrev pub differs_on : ℕ → List SpelledCall → List SpelledCall → Bool
+differs_on l before after = cond (has_ticket l before) (not (has_ticket l after)) (has_ticket l after)
+
+abbrev pub is_changed : List SpelledCall → List SpelledCall → SpelledCall → Bool
+is_changed before after (Add l) = differs_on l before after
+is_changed before after (Wait l) = differs_on l before after
+is_changed before after (WaitOrLeave l how) = differs_on l before after
+is_changed before after call = false
+
+-- after these calls more the seat holds other tickets: of a list that one of them names
+abbrev pub changes_tickets : List SpelledCall → List SpelledCall → Bool
+changes_tickets before more = list_any (is_changed before (before ++ more)) more
 
 -- one of the calls is wrong, these having been made before
 abbrev pub misuses_ticket : List SpelledCall → List SpelledCall → Bool
 misuses_ticket before [] = false
-misuses_ticket before (c ∷ calls) = is_wrong_after before c || misuses_ticket (before ++ (c ∷ [])) calls
+misuses_ticket before (c ∷ calls) =
+    (is_wrong_after before c || changes_tickets (before ++ (c ∷ [])) (take (skips_of c) calls))
+    || misuses_ticket (before ++ (c ∷ [])) calls
 
 abbrev pub has_wrong_ticket : Line → Bool
 has_wrong_ticket (Seat k calls) = misuses_ticket [] calls

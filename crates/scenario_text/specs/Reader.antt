@@ -1,5 +1,5 @@
 -- What the reader of a scenario's text answers.
-use Rattle.std.specs.Prelude.{⊤, ◌≡◌, ◌↔◌, ℕ, cond, List, Option, Some, None, Result, Ok, Err, []}
+use Rattle.std.specs.Prelude.{◌≡◌, ◌↔◌, ℕ, cond, List, Option, Some, None, Result, Ok, Err, []}
 use Rattle.scenario_text.specs.declared.read_fault.Cause.{Cause}
 use Rattle.scenario_text.specs.declared.read_fault.Cause.TheVariants.{Place, Range, TooMany, Undeclared}
 use Rattle.scenario_text.specs.declared.read_fault.Cause.TheVariants.{Ticket, NoMemory}

@@ -3,20 +3,22 @@ use Rattle.std.specs.Prelude.{⊤, ◌≡◌, ℕ, ◌+◌, true, false, ℤ, po
 use Rattle.std.specs.Prelude.{fold, ◌⊎◌, Option, Some, None}
 use Rattle.step_table.specs.declared.call.Call.{Call}
 use Rattle.step_table.specs.declared.call.Call.TheVariants as core
+use Rattle.step_table.specs.declared.call.GivingUp.{GivingUp}
 use Rattle.step_table.specs.declared.parts.Parts.{Parts}
 use Rattle.scenario_text.specs.declared.reader.call.Change.{Change}
 use Rattle.scenario_text.specs.declared.reader.call.Change.TheVariants.{Up, Down}
 use Rattle.scenario_text.specs.declared.reader.call.SpelledCall.{SpelledCall}
-use Rattle.scenario_text.specs.declared.reader.call.SpelledCall.TheVariants.{Acquire, AcquireLifo, Release}
+use Rattle.scenario_text.specs.declared.reader.call.SpelledCall.TheVariants.{Acquire, AcquireLifo, AcquireOrLeave, Release}
 use Rattle.scenario_text.specs.declared.reader.call.SpelledCall.TheVariants.{ReleaseHandoff, ReleaseMany, Add}
-use Rattle.scenario_text.specs.declared.reader.call.SpelledCall.TheVariants.{Wait, One, All, GroupAdd}
-use Rattle.scenario_text.specs.declared.reader.call.SpelledCall.TheVariants.{GroupWait}
+use Rattle.scenario_text.specs.declared.reader.call.SpelledCall.TheVariants.{Wait, WaitOrLeave, One, All, GroupAdd}
+use Rattle.scenario_text.specs.declared.reader.call.SpelledCall.TheVariants.{GroupWait, GroupWaitOrLeave}
+use Rattle.scenario_text.specs.declared.reader.call.SpelledGivingUp.{SpelledGivingUp}
 use Rattle.scenario_text.specs.declared.read_fault.Cause.TheVariants.{End}
 use Rattle.scenario_text.specs.declared.read_fault.ReadFault.{ReadFault}
 use Rattle.scenario_text.specs.declared.request.Property.{Property}
 use Rattle.scenario_text.specs.declared.request.Property.TheVariants as property
 use Rattle.scenario_text.specs.declared.request.SpelledRequest.{SpelledRequest}
-use Rattle.scenario_text.specs.Line.{Line, Roots, Counter, NotifyList, Group, Seat, Settled, Value, NoMisuse}
+use Rattle.scenario_text.specs.Line.{Line, Roots, Counter, NotifyList, Group, Seat, Settled, Value, NoMisuse, NoLost, skips, keeping}
 use Rattle.scenario_text.specs.Pieces.{Piece, pieces}
 use Rattle.scenario_text.specs.Causes.{IsFault, IsReadable, IsRight}
 
@@ -26,18 +28,24 @@ abbrev pub change_of : Change → ℤ
 change_of (Up n) = pos n
 change_of (Down n) = neg_ℤ (pos n)
 
+abbrev pub giving_up_of : SpelledGivingUp → GivingUp
+giving_up_of how = record { late = how.late; skips = skips how }
+
 abbrev pub call_of : SpelledCall → Call
 call_of (Acquire c) = core.Acquire c false
 call_of (AcquireLifo c) = core.Acquire c true
+call_of (AcquireOrLeave c lifo how) = core.AcquireOrLeave c lifo (giving_up_of how)
 call_of (Release c) = core.Release c false
 call_of (ReleaseHandoff c) = core.Release c true
 call_of (ReleaseMany c n) = core.ReleaseMany c n
 call_of (Add l) = core.Add l
 call_of (Wait l) = core.Wait l
+call_of (WaitOrLeave l how) = core.WaitOrLeave l (giving_up_of how)
 call_of (One l) = core.One l
 call_of (All l) = core.All l
 call_of (GroupAdd g d) = core.GroupAdd g (change_of d)
 call_of (GroupWait g) = core.GroupWait g
+call_of (GroupWaitOrLeave g n) = core.GroupWaitOrLeave g (skips (keeping n))
 
 -- what a line adds to the parts
 abbrev pub with_line : Parts → Line → Parts
@@ -60,6 +68,7 @@ abbrev pub with_property : Option Property → Line → Option Property
 with_property before Settled = Some property.Settled
 with_property before (Value c n) = Some (property.Value c n)
 with_property before NoMisuse = Some property.NoMisuse
+with_property before NoLost = Some property.NoLost
 with_property before line = before
 
 abbrev pub property_of : List Line → Option Property

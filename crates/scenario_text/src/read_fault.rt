@@ -23,7 +23,8 @@ pub enum Cause {
     TooMany = 6,
     /// It names what isn't declared.
     Undeclared = 7,
-    /// A call takes a ticket while the seat holds one, or waits without one.
+    /// A call takes a ticket while the seat holds one, waits without one, or leaves out calls that change which
+    /// tickets the seat holds.
     Ticket = 8,
     /// The text ends before a property.
     End = 9,

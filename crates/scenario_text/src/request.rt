@@ -10,6 +10,8 @@ pub enum Property {
     Value(CounterId, u32),
     /// No seat fails.
     NoMisuse,
+    /// No wake-up is lost.
+    NoLost,
 }
 
 /// What a scenario's text asks for.

@@ -1,23 +1,25 @@
--- What `queue` and `dequeue` come to on a root whose entries a treap keeps.
-use Rattle.std.proofs.Common.{◌≡◌, ℕ, ◌+◌, ◌<◌, Bool, [], Option, Some, None, is_some, IsSome, OnSome, MatchOption, slice_get, drop, length}
+-- What it comes to on a root whose entries a treap keeps that a wait is queued or taken out.
+use Rattle.std.proofs.Common.{◌≡◌, ℕ, ◌+◌, ◌<◌, Bool, List, [], Option, Some, None, is_some, IsSome, MatchOption, length}
 use Rattle.std.proofs.Common.{option_map}
-use Rattle.std.proofs.Common.{refl, sym, ap, ◌∙◌, subst, arith, length-drop}
+use Rattle.std.proofs.Common.{refl, sym, ap, ◌∙◌, subst, arith}
 use Rattle.std.proofs.lemmas.List.{length-map}
 use Rattle.waiters.specs.declared.wait.Wait.{Wait}
 use Rattle.waiters.specs.Lists.{Lists, IsOpen, waits_at, Changes as ListChanges}
+use Rattle.sema_root.specs.declared.which.Which.{Which}
 use Rattle.sema_root.specs.Entries.{entry_of}
 use Rattle.sema_root.specs.Joined.{queues_in}
 use Rattle.sema_root.specs.Planted.{Planted, Leaves}
 use Rattle.sema_root.specs.Queues.{waits_on, total, AreQueues, joined_by, Changes}
 use Rattle.sema_root.specs.Reshaping.{grafted, pruned}
 use Rattle.sema_root.specs.Rooted.{listed, shown, IsRooted, Comes, IsIn}
+use Rattle.sema_root.specs.Takes.{taken_by, Takes, TakesOut}
 use Rattle.sema_root.specs.Treap.{Tickets, queues_of, KeepsTickets, Draws}
-use Rattle.sema_root.specs.Tree.{Sprig, entries, size, sought, top_value, mapped, IsTreap}
+use Rattle.sema_root.specs.Tree.{Tree, Sprig, entries, size, sought, top_value, mapped, IsTreap}
 use Rattle.sema_root.proofs.Grafting.{grafted-size, grafted-treap}
 use Rattle.sema_root.proofs.Joining.{joined-fits, joined-list_room, joined-open, joined-queues, joined-room, joined-waited, pending}
 use Rattle.sema_root.proofs.Entries.{waits_on-absent, waits_on-entry}
 use Rattle.sema_root.proofs.Pruning.{pruned-size, pruned-treap}
-use Rattle.sema_root.proofs.Queueing.{Queued, queued_beside, queued_first, Dequeued, dequeued_beside, dequeued_last}
+use Rattle.sema_root.proofs.Queueing.{Queued, queued_beside, queued_first, Taken, left_by-length, taken_beside, taken_last}
 use Rattle.sema_root.proofs.Rooting.{grafted-listed, grafted-ticket, holding, keeps-grafted, keeps-pruned, keeps-same, lacking, pruned-listed, shown-queues}
 use Rattle.sema_root.proofs.Rooting.{shown-ticket, sought-listed, ticket_in, ticketed}
 use Rattle.sema_root.proofs.Seeking.{entries-length}
@@ -153,60 +155,64 @@ module _ (old : Planted) (old_tickets : Tickets) (old_lists : Lists) (seats : �
     ap (λ l. l.room) found.same_lists,
   )
 
--- what `dequeue` promises of a counter that is in, and what the root keeps
-pub record DequeuedOn (old new : Planted) (old_lists new_lists : Lists) (seats counter : ℕ) (taken : Option Wait) : Type 0 where
+-- what a wait that is taken out of the queue of a counter that is in comes to, and what the root keeps
+pub record TakenOn (old new : Planted) (old_lists new_lists : Lists) (seats counter : ℕ) (which : Which) (taken : Option Wait) : Type 0 where
   pub rooted : IsRooted new new_lists seats
-  pub first : taken ≡ slice_get (waits_on (queues_of (mapped (waits_at old_lists) old.tree)) counter) 0
   pub some : IsSome taken
-  pub rest : Changes (queues_of (mapped (waits_at old_lists) old.tree)) (queues_of (mapped (waits_at new_lists) new.tree)) counter
-      (drop 1 (waits_on (queues_of (mapped (waits_at old_lists) old.tree)) counter))
-  pub count : total (queues_of (mapped (waits_at new_lists) new.tree)) + 1 ≡ total (queues_of (mapped (waits_at old_lists) old.tree))
+  pub out : TakesOut (queues_of (mapped (waits_at old_lists) old.tree)) (queues_of (mapped (waits_at new_lists) new.tree)) counter which taken
   pub kept : KeepsTickets (mapped (waits_at old_lists) old.tree) (mapped (waits_at new_lists) new.tree)
 
 module _ (old : Planted) (old_lists : Lists) (seats : ℕ) (rooted : IsRooted old old_lists seats) (counter key : ℕ)
-    (is : Some key ≡ top_value (sought counter old.tree)) (taken : Option Wait) where
+    (is : Some key ≡ top_value (sought counter old.tree)) (which : Which)
+    {tree : Tree (List Wait)} (shows : mapped (waits_at old_lists) old.tree ≡ tree)
+    (meant : 0 < length (waits_on (queues_of tree) counter) → IsSome (taken_by which (waits_on (queues_of tree) counter)))
+    (taken : Option Wait) (new : Planted) (leaves : Leaves old new counter old_lists key)
+    (popped : Lists) (takes : Takes old_lists popped key which taken) where
   has : entry_of counter (listed old.tree) ≡ Some key
   has = sym (sought-listed counter old.tree rooted.treap) ∙ sym is
 
+  -- a wait is meant, since somebody waits
+  is_taken : IsSome (taken_by which (waits_at old_lists key))
+  is_taken =
+      let waits : waits_on (queues_of tree) counter ≡ waits_at old_lists key =
+      ap (λ tree. waits_on (queues_of tree) counter) (sym shows) ∙ rooted-waits rooted counter key (sym is) in
+      subst (λ waits. IsSome (taken_by which waits)) waits
+      (meant (subst (λ waits. 0 < length waits) (sym waits) (joined-waited rooted.joined counter key has)))
+
+  one_less : length (waits_at popped key) + 1 ≡ length (waits_at old_lists key)
+  one_less = omega (arith, ap length (pending takes.rest), left_by-length which (waits_at old_lists key) is_taken)
+
   -- from the queues of the entries to those that are shown
-  dequeued_to : (new : Planted) (new_lists : Lists) → IsTreap new.tree → new.room + size new.tree ≡ seats
-      → KeepsTickets (mapped (waits_at old_lists) old.tree) (mapped (waits_at new_lists) new.tree)
-      → Dequeued old_lists new_lists (listed old.tree) (listed new.tree) seats counter taken
-      → DequeuedOn old new old_lists new_lists seats counter taken
-  dequeued_to new new_lists treap room kept done = record {
+  taken_to : (after : Planted) (new_lists : Lists) → IsTreap after.tree → after.room + size after.tree ≡ seats
+      → KeepsTickets (mapped (waits_at old_lists) old.tree) (mapped (waits_at new_lists) after.tree)
+      → Taken old_lists new_lists (listed old.tree) (listed after.tree) seats counter which taken
+      → TakenOn old after old_lists new_lists seats counter which taken
+  taken_to after new_lists treap room kept done = record {
     rooted = record { joined = done.joined; treap = treap; room = room };
-    first = rw (shown-queues old_lists old.tree) done.first;
-    some = done.some;
-    rest = rw (shown-queues old_lists old.tree, shown-queues new_lists new.tree) done.rest;
-    count = rw (shown-queues old_lists old.tree, shown-queues new_lists new.tree) done.count;
+    some = subst IsSome (sym takes.first) is_taken;
+    out = rw (shown-queues old_lists old.tree, shown-queues new_lists after.tree) done.out;
     kept = kept;
   }
 
-  module _ (first : taken ≡ slice_get (waits_at old_lists key) 0) (new : Planted) (leaves : Leaves old new counter old_lists key)
-      (popped : Lists) (rest : ListChanges old_lists popped key (Some (drop 1 (waits_at old_lists key))))
-      (room : OnSome taken (popped.room ≡ old_lists.room + 1)) (list_room : popped.list_room ≡ old_lists.list_room) where
-    one_less : length (waits_at popped key) + 1 ≡ length (waits_at old_lists key)
-    one_less = omega (arith, ap length (pending rest), length-drop 1 (waits_at old_lists key), joined-waited rooted.joined counter key has)
+  -- somebody still waits on the counter
+  pub taken_among : 0 < length (waits_at popped key) → TakenOn old new old_lists popped seats counter which taken
+  taken_among left =
+      subst (λ (n : Planted). TakenOn old n old_lists popped seats counter which taken)
+      (sym (leaves.others (λ one. absurd (omega (arith, one, one_less, left)))))
+      (taken_to old popped rooted.treap rooted.room (keeps-same old_lists popped old.tree)
+      (taken_beside rooted.joined which taken has takes left))
 
-    -- somebody still waits on the counter
-    pub dequeued_among : 0 < length (waits_at popped key) → DequeuedOn old new old_lists popped seats counter taken
-    dequeued_among left =
-        subst (λ (n : Planted). DequeuedOn old n old_lists popped seats counter taken)
-        (sym (leaves.others (λ one. absurd (omega (arith, one, one_less, left)))))
-        (dequeued_to old popped rooted.treap rooted.room (keeps-same old_lists popped old.tree)
-        (dequeued_beside rooted.joined taken has first rest room list_room left))
-
-    -- nobody does, and the counter goes
-    pub dequeued_alone : length (waits_at popped key) ≡ 0 → (closed : Lists)
-        → ListChanges popped closed key None → closed.room ≡ popped.room → closed.list_room ≡ popped.list_room + 1
-        → DequeuedOn old new old_lists closed seats counter taken
-    dequeued_alone left closed closes room_after list_room_after =
-        let prunes = leaves.last (omega (arith, left, one_less)) in
-        let held = holding old.tree rooted.treap counter key has in
-        subst (λ tree. DequeuedOn old (record new { tree = tree }) old_lists closed seats counter taken) (sym prunes.tree)
-        (dequeued_to (record new { tree = pruned counter old.tree }) closed
-        (pruned-treap counter old.tree rooted.treap (held.0, key) held.1)
-        (omega (arith, pruned-size counter old.tree rooted.treap.searched (held.0, key) held.1, prunes.room, rooted.room))
-        (keeps-pruned old_lists closed old.tree rooted.treap counter key has)
-        (dequeued_last rooted.joined taken (pruned-listed old.tree rooted.treap counter key has) has first rest room list_room left
-        closes room_after list_room_after))
+  -- nobody does, and the counter goes
+  pub taken_alone : length (waits_at popped key) ≡ 0 → (closed : Lists)
+      → ListChanges popped closed key None → closed.room ≡ popped.room → closed.list_room ≡ popped.list_room + 1
+      → TakenOn old new old_lists closed seats counter which taken
+  taken_alone left closed closes room_after list_room_after =
+      let prunes = leaves.last (omega (arith, left, one_less)) in
+      let held = holding old.tree rooted.treap counter key has in
+      subst (λ tree. TakenOn old (record new { tree = tree }) old_lists closed seats counter which taken) (sym prunes.tree)
+      (taken_to (record new { tree = pruned counter old.tree }) closed
+      (pruned-treap counter old.tree rooted.treap (held.0, key) held.1)
+      (omega (arith, pruned-size counter old.tree rooted.treap.searched (held.0, key) held.1, prunes.room, rooted.room))
+      (keeps-pruned old_lists closed old.tree rooted.treap counter key has)
+      (taken_last rooted.joined which taken (pruned-listed old.tree rooted.treap counter key has) has takes left
+      closes room_after list_room_after))

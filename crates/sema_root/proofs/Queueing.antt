@@ -1,14 +1,19 @@
--- What a wait that is queued, and one that is taken, comes to on the queues, whatever keeps the entries.
+-- What a wait that is queued, and one that is taken out, comes to on the queues, whatever keeps the entries.
 use Rattle.std.proofs.Common.{◌≡◌, ℕ, ◌+◌, ◌<◌, Bool, true, false, List, [], ◌∷◌, Option, Some, None, is_some, IsSome, IfNone, OnSome}
-use Rattle.std.proofs.Common.{slice_get, drop, length}
+use Rattle.std.proofs.Common.{length}
 use Rattle.std.proofs.Common.{refl, sym, ap, ◌∙◌, subst, arith, length-append, length-drop}
+use Rattle.waiters.specs.declared.sought.Sought.TheVariants.{Seat}
 use Rattle.waiters.specs.declared.wait.Wait.{Wait}
-use Rattle.waiters.specs.Lists.{Lists, list_at, waits_at, Changes as ListChanges}
+use Rattle.waiters.specs.Lists.{Lists, list_at, waits_at, is_sought, Changes as ListChanges}
+use Rattle.waiters.proofs.SoughtLemmas.{without-none, without-length}
+use Rattle.sema_root.specs.declared.which.Which.{Which}
+use Rattle.sema_root.specs.declared.which.Which.TheVariants.{First, OfSeat}
 use Rattle.sema_root.specs.Entries.{entry_of, Adds, Removes}
-use Rattle.sema_root.specs.Queues.{waits_on, total, joined_by, Changes}
+use Rattle.sema_root.specs.Queues.{waits_on, total, AreQueues, joined_by, Changes}
+use Rattle.sema_root.specs.Takes.{taken_by, left_by, Takes, TakesOut}
 use Rattle.sema_root.specs.Joined.{queues_in, AreJoined}
 use Rattle.sema_root.proofs.Entering.{Adds-was}
-use Rattle.sema_root.proofs.Joining.{Replaces, comes_in, goes, stays, joined-waited, pending, ListChanges-then}
+use Rattle.sema_root.proofs.Joining.{Replaces, comes_in, goes, stays, joined-queues, pending, ListChanges-then}
 use Rattle.sema_root.proofs.Entries.{waits_on-entry, waits_on-absent}
 
 -- a wait that joins a queue makes it longer by one
@@ -59,81 +64,105 @@ module _ {old : Lists} {entries : List (ℕ × ℕ)} {seats c : ℕ} (joined : A
       queued_from lifo wait (subst (λ waits. Replaces old new entries more seats c (joined_by lifo wait waits))
       (sym (waits_on-absent old c entries (Adds-was adds))) replaces)
 
--- what `dequeue` promises of a counter that is in, and what a root keeps
-pub record Dequeued (old new : Lists) (entries fewer : List (ℕ × ℕ)) (seats c : ℕ) (taken : Option Wait) : Type 0 where
-  pub joined : AreJoined new fewer seats
-  pub first : taken ≡ slice_get (waits_on (queues_in old entries) c) 0
-  pub some : IsSome taken
-  pub rest : Changes (queues_in old entries) (queues_in new fewer) c (drop 1 (waits_on (queues_in old entries) c))
-  pub count : total (queues_in new fewer) + 1 ≡ total (queues_in old entries)
+-- nobody is meant where nobody waits
+taken_by-nobody : (which : Which) → taken_by which [] ≡ None
+taken_by-nobody First = refl
+taken_by-nobody (OfSeat seat) = refl
 
--- a list with somebody in it has a first
-pub first_of : (taken : Option Wait) (waits : List Wait) → 0 < length waits → taken ≡ slice_get waits 0 → IsSome taken
-first_of taken [] waited is = absurd (omega arith)
-first_of taken (wait ∷ rest) waited is = ap is_some is
+-- the wait that is meant leaves all others: the whole list where there is none
+pub left_by-none : (which : Which) (waits : List Wait) → taken_by which waits ≡ None → left_by which waits ≡ waits
+left_by-none First [] none = refl
+left_by-none First (wait ∷ rest) none = absurd (cc)
+left_by-none (OfSeat seat) waits none = without-none (is_sought (Seat seat)) waits none
 
--- so what is said of a taken wait holds
-pub holds_of : {P : Type 0} (taken : Option Wait) → IsSome taken → OnSome taken P → P
-holds_of (Some wait) some said = said
-holds_of None some said = cc
+-- and else one wait less
+pub left_by-length : (which : Which) (waits : List Wait) → IsSome (taken_by which waits) → length (left_by which waits) + 1 ≡ length waits
+left_by-length First [] some = absurd (cc)
+left_by-length First (wait ∷ rest) some = omega (arith, length-drop 1 (wait ∷ rest))
+left_by-length (OfSeat seat) waits some = without-length (is_sought (Seat seat)) waits some
 
--- what holds anyway holds of a taken wait
-pub on_some_from : {P : Type 0} (taken : Option Wait) → P → OnSome taken P
-on_some_from (Some wait) holds = holds
-on_some_from None holds = tt
+-- so a list gives as much room as it gets shorter
+Takes-room : {old new : Lists} {key : ℕ} {which : Which} {taken : Option Wait} → Takes old new key which taken
+    → new.room + length (left_by which (waits_at old key)) ≡ old.room + length (waits_at old key)
+Takes-room {old} {new} {key} {which} {taken} takes = by taken takes.first takes.room takes.none
+  where
+    by : (some : Option Wait) → some ≡ taken_by which (waits_at old key) → OnSome some (new.room ≡ old.room + 1) → IfNone some (new ≡ old)
+        → new.room + length (left_by which (waits_at old key)) ≡ old.room + length (waits_at old key)
+    by (Some wait) first room none = omega (arith, left_by-length which (waits_at old key) (ap is_some (sym first)))
+    by None first room none = omega (arith, ap (λ lists. lists.room) none, ap length (left_by-none which (waits_at old key) (sym first)))
 
--- and where one is taken, nothing has to hold of none
+-- where a list gets shorter, one is taken
+pub Takes-some : {old new : Lists} {key : ℕ} {which : Which} {taken : Option Wait} → Takes old new key which taken
+    → length (waits_at new key) < length (waits_at old key) → IsSome taken
+Takes-some {old} {new} {key} {which} {taken} takes shorter = by taken takes.first
+  where
+    by : (some : Option Wait) → some ≡ taken_by which (waits_at old key) → IsSome some
+    by (Some wait) first = refl
+    by None first = absurd (omega (arith, shorter, ap length (pending takes.rest), ap length (left_by-none which (waits_at old key) (sym first))))
+
+-- where one is taken, nothing has to hold of none
 pub if_none_from : (P : Type 0) (taken : Option Wait) → IsSome taken → IfNone taken P
 if_none_from P (Some wait) some = tt
 if_none_from P None some = cc
 
-pub dequeued_from : {old new : Lists} {entries fewer : List (ℕ × ℕ)} {seats c : ℕ} (taken : Option Wait) (waits : List Wait)
-    → waits_on (queues_in old entries) c ≡ waits → 0 < length waits → taken ≡ slice_get waits 0
-    → Replaces old new entries fewer seats c (drop 1 waits)
-    → Dequeued old new entries fewer seats c taken
-dequeued_from {old} {new} {entries} {fewer} {seats} {c} taken waits are waited first replaces = record {
-  joined = replaces.joined;
-  first = first ∙ ap (λ waits. slice_get waits 0) (sym are);
-  some = first_of taken waits waited first;
-  rest = subst (λ waits. Changes (queues_in old entries) (queues_in new fewer) c (drop 1 waits)) (sym are) replaces.changes;
-  count = omega (arith, replaces.total, length-drop 1 waits, ap length are);
-}
+-- what a wait that is taken out of the queue of a counter that is in comes to, and what a root keeps
+pub record Taken (old new : Lists) (entries fewer : List (ℕ × ℕ)) (seats c : ℕ) (which : Which) (taken : Option Wait) : Type 0 where
+  pub joined : AreJoined new fewer seats
+  pub out : TakesOut (queues_in old entries) (queues_in new fewer) c which taken
 
-module _ {old : Lists} {entries : List (ℕ × ℕ)} {seats c : ℕ} (joined : AreJoined old entries seats) (taken : Option Wait) where
+taken_from : {old new : Lists} {entries fewer : List (ℕ × ℕ)} {seats c : ℕ} (which : Which) (taken : Option Wait) (waits : List Wait)
+    → waits_on (queues_in old entries) c ≡ waits → taken ≡ taken_by which waits
+    → Replaces old new entries fewer seats c (left_by which waits)
+    → Taken old new entries fewer seats c which taken
+taken_from {old} {new} {entries} {fewer} {seats} {c} which taken waits are first replaces = record {
+  joined = replaces.joined;
+  out = record {
+    first = first ∙ ap (taken_by which) (sym are);
+    rest = subst (λ waits. Changes (queues_in old entries) (queues_in new fewer) c (left_by which waits)) (sym are) replaces.changes;
+    count = by taken first;
+    queues = joined-queues replaces.joined;
+  };
+}
+  where
+    by : (some : Option Wait) → some ≡ taken_by which waits → OnSome some (total (queues_in new fewer) + 1 ≡ total (queues_in old entries))
+    by (Some wait) first = omega (arith, replaces.total, left_by-length which waits (ap is_some (sym first)), ap length are)
+    by None first = tt
+
+module _ {old : Lists} {entries : List (ℕ × ℕ)} {seats c : ℕ} (joined : AreJoined old entries seats) (which : Which) (taken : Option Wait) where
   -- somebody still waits on the counter
-  pub dequeued_beside : {new : Lists} {k : ℕ} → entry_of c entries ≡ Some k
-      → taken ≡ slice_get (waits_at old k) 0 → ListChanges old new k (Some (drop 1 (waits_at old k)))
-      → OnSome taken (new.room ≡ old.room + 1) → new.list_room ≡ old.list_room → 0 < length (waits_at new k)
-      → Dequeued old new entries entries seats c taken
-  dequeued_beside {new} {k} has first changed room list_room left =
-      let waited : 0 < length (waits_at old k) = joined-waited joined c k has in
-      let freed : new.room ≡ old.room + 1 = holds_of taken (first_of taken _ waited first) room in
-      let shorter = length-drop 1 (waits_at old k) in
-      let still : 0 < length (drop 1 (waits_at old k)) = subst (λ waits. 0 < length waits) (pending changed) left in
-      dequeued_from taken (waits_at old k) (waits_on-entry old c k entries has) waited first
-      (stays joined has changed still (omega arith) list_room)
+  pub taken_beside : {new : Lists} {k : ℕ} → entry_of c entries ≡ Some k → Takes old new k which taken → 0 < length (waits_at new k)
+      → Taken old new entries entries seats c which taken
+  taken_beside {new} {k} has takes left =
+      taken_from which taken (waits_at old k) (waits_on-entry old c k entries has) takes.first
+      (stays joined has takes.rest (subst (λ waits. 0 < length waits) (pending takes.rest) left) (Takes-room takes) takes.list_room)
 
   -- nobody does: the counter goes, and its list is closed
-  pub dequeued_last : {popped new : Lists} {fewer : List (ℕ × ℕ)} {k : ℕ} → Removes entries fewer c → entry_of c entries ≡ Some k
-      → taken ≡ slice_get (waits_at old k) 0 → ListChanges old popped k (Some (drop 1 (waits_at old k)))
-      → OnSome taken (popped.room ≡ old.room + 1) → popped.list_room ≡ old.list_room → length (waits_at popped k) ≡ 0
+  pub taken_last : {popped new : Lists} {fewer : List (ℕ × ℕ)} {k : ℕ} → Removes entries fewer c → entry_of c entries ≡ Some k
+      → Takes old popped k which taken → length (waits_at popped k) ≡ 0
       → ListChanges popped new k None → new.room ≡ popped.room → new.list_room ≡ popped.list_room + 1
-      → Dequeued old new entries fewer seats c taken
-  dequeued_last {popped} {new} {fewer} {k} removes has first changed room list_room left closes room_after list_room_after =
-      let waited : 0 < length (waits_at old k) = joined-waited joined c k has in
-      let freed : popped.room ≡ old.room + 1 = holds_of taken (first_of taken _ waited first) room in
-      let shorter = length-drop 1 (waits_at old k) in
-      let none : length (drop 1 (waits_at old k)) ≡ 0 = sym (ap length (pending changed)) ∙ left in
+      → Taken old new entries fewer seats c which taken
+  taken_last {popped} {new} {fewer} {k} removes has takes left closes room_after list_room_after =
+      let none : length (left_by which (waits_at old k)) ≡ 0 = sym (ap length (pending takes.rest)) ∙ left in
       let replaces : Replaces old new entries fewer seats c [] =
-      goes joined removes has (ListChanges-then changed closes) (omega arith) (omega arith) in
-      dequeued_from taken (waits_at old k) (waits_on-entry old c k entries has) waited first
+      goes joined removes has (ListChanges-then takes.rest closes) (omega (arith, Takes-room takes)) (omega (arith, takes.list_room)) in
+      taken_from which taken (waits_at old k) (waits_on-entry old c k entries has) takes.first
       (subst (Replaces old new entries fewer seats c) (sym (empty _ none)) replaces)
     where
       empty : (waits : List Wait) → length waits ≡ 0 → waits ≡ []
       empty [] none = refl
       empty (wait ∷ rest) none = absurd (omega arith)
 
--- nobody waits on a counter that isn't in, so nothing is taken
-pub nothing_taken : (queues : List (ℕ × List Wait)) (c : ℕ) → waits_on queues c ≡ []
-    → Changes queues queues c (drop 1 (waits_on queues c))
-nothing_taken queues c none = record { there = none ∙ ap (drop 1) (sym none); elsewhere = λ other differs. refl }
+-- where no wait is meant, none is taken
+pub none_taken : (which : Which) (queues : List (ℕ × List Wait)) (c : ℕ) → AreQueues queues → taken_by which (waits_on queues c) ≡ None
+    → TakesOut queues queues c which None
+none_taken which queues c are none = record {
+  first = sym none;
+  rest = record { there = sym (left_by-none which (waits_on queues c) none); elsewhere = λ other differs. refl };
+  count = tt;
+  queues = are;
+}
+
+-- so none is where nobody waits
+pub nobody_taken : (which : Which) (queues : List (ℕ × List Wait)) (c : ℕ) → AreQueues queues → waits_on queues c ≡ []
+    → TakesOut queues queues c which None
+nobody_taken which queues c are nobody = none_taken which queues c are (ap (taken_by which) nobody ∙ taken_by-nobody which)

@@ -1,6 +1,7 @@
 pub mod Entries
 pub mod Queues
 pub mod Joined
+pub mod Takes
 pub mod Root
 pub mod Search
 pub mod Sorted

@@ -20,6 +20,7 @@ mod store;
 mod tickets;
 mod treap;
 mod treap_root;
+mod which;
 
 pub use place::TreapPlace;
 pub use sorted_root::SortedRoot;

@@ -1,14 +1,16 @@
 //! A root as a sorted vector: the reference for [`TreapRoot`](crate::TreapRoot), and faster while few
 //! counters have waits. A search takes logarithmic time; a counter that comes in or goes moves the tail.
-ghost use Rattle.std.specs.Prelude.{◌≡◌, ◌<◌, [], IfOk, IfErr};
+ghost use Rattle.std.specs.Prelude.{◌≡◌, ◌<◌, [], IfOk, IfErr, IfNone};
 ghost use Rattle.sema_root.specs.Entries.{AreRising};
 ghost use Rattle.sema_root.specs.Search.{pairs, IsAt, IsGapFor};
+ghost use Rattle.sema_root.specs.Takes.{TakesOut};
 
 use crate::push::push;
 use crate::store::RootStore;
+use crate::which::{Which, take};
 use std::alloc::Global;
 use std::marker::Model;
-use waiters::{CounterId, ListKey, Lists, NoMemory, Wait, WaitId};
+use waiters::{CounterId, ListKey, Lists, NoMemory, SeatId, Sought, Wait, WaitId};
 
 /// A root as a vector of counters in rising order, each with its queue.
 #[derive(Drop)]
@@ -50,6 +52,24 @@ impl SortedRoot {
             seats,
         })
     }
+
+    // Takes the wait that is meant out of its counter's queue, if it is in.
+    fn take(&mut self, counter: CounterId, which: Which) -> Option<Wait>
+        ensures out { TakesOut self.old.queues self.new.queues counter which result }
+        ensures none { IfNone result (self.new ≡ self.old) }
+        ensures seats { self.new.seats ≡ self.old.seats }
+    {
+        let Ok(at) = search(&self.entries, counter) else {
+            return None;
+        };
+        let list = self.entries[at].list;
+        let wait = take(&mut self.lists, list, which);
+        if self.lists.len(list) == 0 {
+            self.entries.remove(at);
+            self.lists.close(list);
+        }
+        wait
+    }
 }
 
 impl RootStore for SortedRoot {
@@ -74,16 +94,21 @@ impl RootStore for SortedRoot {
     }
 
     fn dequeue(&mut self, counter: CounterId) -> Option<Wait> {
-        let Ok(at) = search(&self.entries, counter) else {
-            return None;
-        };
-        let list = self.entries[at].list;
-        let wait = self.lists.pop_front(list);
-        if self.lists.len(list) == 0 {
-            self.entries.remove(at);
-            self.lists.close(list);
+        self.take(counter, Which::First)
+    }
+
+    fn withdraw(&mut self, counter: CounterId, seat: SeatId) -> Option<Wait> {
+        self.take(counter, Which::OfSeat(seat))
+    }
+
+    fn holds(&self, counter: CounterId, seat: SeatId) -> bool {
+        match search(&self.entries, counter) {
+            Ok(at) => {
+                let list = self.entries[at].list;
+                self.lists.first_with(list, Sought::Seat(seat)).is_some()
+            }
+            Err(_) => false,
         }
-        wait
     }
 
     fn count(&self) -> usize {

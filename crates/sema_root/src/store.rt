@@ -1,10 +1,12 @@
 ghost use Rattle.std.specs.Prelude.{◌≡◌, ◌<◌, ◌≤◌, ◌+◌, ℕ, List, drop, length, map, slice_get, IfOk, OnSome};
-ghost use Rattle.std.specs.Prelude.{IfNone, IsTrue, ◌↔◌};
+ghost use Rattle.std.specs.Prelude.{IfNone, IsTrue, ◌↔◌, is_some};
+ghost use Rattle.waiters.specs.Lists.{is_sought, first_sought, without_sought};
+ghost use Rattle.waiters.specs.declared.sought.Sought.TheVariants.{Seat};
 ghost use Rattle.waiters.specs.declared.wait.Wait.{Wait};
 ghost use Rattle.sema_root.specs.Queues.{waits_on, total, AreQueues, joined_by, Changes};
 
 use std::alloc::Global;
-use waiters::{CounterId, NoMemory, Wait, WaitId};
+use waiters::{CounterId, NoMemory, SeatId, Wait, WaitId};
 
 /// A root: the counters that have waits, each with its queue. No call takes memory but `ids`, for its answer.
 pub trait RootStore {
@@ -32,6 +34,21 @@ pub trait RootStore {
         ensures none { IfNone result (self.new ≡ self.old) }
         ensures map { AreQueues (queues self.new) }
         ensures seats { seats self.new ≡ seats self.old };
+
+    /// Takes the wait of a seat out of its counter's queue, if it is in. The others stay in order.
+    fn withdraw(&mut self, counter: CounterId, seat: SeatId) -> Option<Wait>
+        ensures first { result ≡ first_sought (is_sought (Seat seat)) (waits_on (queues self.old) counter) }
+        ensures rest { Changes (queues self.old) (queues self.new) counter
+            (without_sought (is_sought (Seat seat)) (waits_on (queues self.old) counter)) }
+        ensures count { OnSome result (total (queues self.new) + 1 ≡ total (queues self.old)) }
+        ensures none { IfNone result (self.new ≡ self.old) }
+        ensures map { AreQueues (queues self.new) }
+        ensures seats { seats self.new ≡ seats self.old };
+
+    /// Whether a wait of the seat is in the counter's queue.
+    fn holds(&self, counter: CounterId, seat: SeatId) -> bool
+        ensures { result ≡ is_some
+            (first_sought (is_sought (Seat seat)) (waits_on (queues self.now) counter)) };
 
     /// How many waits are in, on all counters together.
     fn count(&self) -> usize

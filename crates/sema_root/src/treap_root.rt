@@ -4,10 +4,12 @@
 //! starts as `seed_from_u64(seed)`, and a word is used for each node and for nothing else. A counter keeps
 //! its node, and so its ticket, while it has waits.
 ghost use Rattle.std.specs.Prelude.{◌≡◌, ◌<◌, ◌+◌, ◌++◌, MatchOption, IfOk, OnOk, OnErr, IfNone, OnSome};
-ghost use Rattle.std.specs.Prelude.{drop, slice_get};
-ghost use Rattle.waiters.specs.Lists.{seats_of};
+ghost use Rattle.std.specs.Prelude.{drop, length, slice_get, is_some, IsSome};
+ghost use Rattle.waiters.specs.Lists.{seats_of, is_sought, first_sought, without_sought};
+ghost use Rattle.waiters.specs.declared.sought.Sought.TheVariants.{Seat};
 ghost use Rattle.sema_root.specs.Queues.{waits_on, total, AreQueues, joined_by, Changes};
 ghost use Rattle.sema_root.specs.Rooted.{Comes, IsIn};
+ghost use Rattle.sema_root.specs.Takes.{taken_by, TakesOut};
 ghost use Rattle.sema_root.specs.Tree.{leaf, top_counter, top_place, top_value, sought, IsTreap};
 ghost use Rattle.sema_root.specs.Treap.{queues_of, KeepsTickets, Draws, tickets_from};
 
@@ -16,9 +18,10 @@ use crate::push::push;
 use crate::store::RootStore;
 use crate::tickets::Tickets;
 use crate::treap::Treap;
+use crate::which::{Which, take};
 use std::alloc::{AllocError, Global};
 use std::marker::Model;
-use waiters::{CounterId, ListKey, Lists, NoMemory, Wait, WaitId};
+use waiters::{CounterId, ListKey, Lists, NoMemory, SeatId, Sought, Wait, WaitId};
 
 /// A root as a treap of counters, each with its queue.
 #[derive(Drop)]
@@ -26,7 +29,7 @@ pub struct TreapRoot {
     treap: Treap,
     lists: Lists,
     tickets: Tickets,
-    seats: u16,
+    seats: u32,
 }
 
 impl Model for TreapRoot {
@@ -50,7 +53,16 @@ impl TreapRoot {
         ensures seats { IfOk result (λ made. made.seats ≡ seats) }
         ensures tickets { IfOk result (λ made. made.tickets ≡ tickets_from seed) }
     {
-        let room = usize::from(seats);
+        TreapRoot::with_room_for(alloc, u32::from(seats), seed)
+    }
+
+    /// The same for any number of seats.
+    pub fn with_room_for(alloc: Global, seats: u32, seed: u64) -> Result<TreapRoot, NoMemory>
+        ensures empty { IfOk result (λ made. made.tree ≡ leaf) }
+        ensures seats { IfOk result (λ made. made.seats ≡ seats) }
+        ensures tickets { IfOk result (λ made. made.tickets ≡ tickets_from seed) }
+    {
+        let room = seats as usize;
         Ok(TreapRoot {
             treap: Treap::with_room(alloc, room)?,
             lists: Lists::with_room(alloc, room, room)?,
@@ -103,6 +115,26 @@ impl TreapRoot {
             None => Ok(()),
         }
     }
+
+    // Takes the wait that is meant out of its counter's queue. Where anybody waits, one has to be meant.
+    fn take(&mut self, counter: CounterId, which: Which) -> Option<Wait>
+        requires { 0 < length (waits_on (queues_of self.old.tree) counter)
+            → IsSome (taken_by which (waits_on (queues_of self.old.tree) counter)) }
+        ensures out { TakesOut (queues_of self.old.tree) (queues_of self.new.tree) counter which result }
+        ensures none { IfNone result (self.new ≡ self.old) }
+        ensures seats { self.new.seats ≡ self.old.seats }
+        ensures kept { KeepsTickets self.old.tree self.new.tree }
+        ensures undrawn { self.new.tickets ≡ self.old.tickets }
+    {
+        let Some(list) = self.treap.leave(counter, &self.lists) else {
+            return None;
+        };
+        let wait = take(&mut self.lists, list, which);
+        if self.lists.len(list) == 0 {
+            self.lists.close(list);
+        }
+        wait
+    }
 }
 
 impl RootStore for TreapRoot {
@@ -136,18 +168,41 @@ impl RootStore for TreapRoot {
         ensures kept { KeepsTickets self.old.tree self.new.tree }
         ensures undrawn { self.new.tickets ≡ self.old.tickets }
     {
-        let Some(list) = self.treap.leave(counter, &self.lists) else {
+        self.take(counter, Which::First)
+    }
+
+    fn withdraw(&mut self, counter: CounterId, seat: SeatId) -> Option<Wait>
+        ensures first { result
+            ≡ first_sought (is_sought (Seat seat)) (waits_on (queues_of self.old.tree) counter) }
+        ensures rest { Changes (queues_of self.old.tree) (queues_of self.new.tree) counter
+            (without_sought (is_sought (Seat seat)) (waits_on (queues_of self.old.tree) counter)) }
+        ensures count { OnSome result
+            (total (queues_of self.new.tree) + 1 ≡ total (queues_of self.old.tree)) }
+        ensures none { IfNone result (self.new ≡ self.old) }
+        ensures map { AreQueues (queues_of self.new.tree) }
+        ensures seats { self.new.seats ≡ self.old.seats }
+        ensures kept { KeepsTickets self.old.tree self.new.tree }
+        ensures undrawn { self.new.tickets ≡ self.old.tickets }
+    {
+        if !self.holds(counter, seat) {
             return None;
-        };
-        let wait = self.lists.pop_front(list);
-        if self.lists.len(list) == 0 {
-            self.lists.close(list);
         }
-        wait
+        self.take(counter, Which::OfSeat(seat))
+    }
+
+    fn holds(&self, counter: CounterId, seat: SeatId) -> bool
+        ensures is_in { result
+            ≡ is_some (first_sought (is_sought (Seat seat)) (waits_on (queues_of self.now.tree) counter)) }
+        ensures map { AreQueues (queues_of self.now.tree) }
+    {
+        match self.treap.find(counter) {
+            Some(list) => self.lists.first_with(list, Sought::Seat(seat)).is_some(),
+            None => false,
+        }
     }
 
     fn count(&self) -> usize {
-        usize::from(self.seats) - self.lists.room()
+        self.seats as usize - self.lists.room()
     }
 
     fn waiting(&self, counter: CounterId) -> usize {

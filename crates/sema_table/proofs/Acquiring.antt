@@ -5,7 +5,8 @@ use Rattle.std.proofs.lemmas.List.Elements.{All-nil}
 use Rattle.step_table.specs.declared.entry.Entry.{Entry}
 use Rattle.step_table.specs.declared.entry.Entry.TheVariants.{Take, Queue}
 use Rattle.step_table.specs.declared.place.Acquire.{Acquire}
-use Rattle.step_table.specs.declared.place.AcquireRow.TheVariants.{A1, A3, A10, P}
+use Rattle.step_table.specs.declared.place.AcquireRow.TheVariants.{A1, A3, A10, Parked}
+use Rattle.step_table.specs.declared.place.ParkedRow.TheVariants.{P}
 use Rattle.step_table.specs.declared.place.Place.{Place}
 use Rattle.step_table.specs.declared.place.Place.TheVariants.{Rest, Acquiring}
 use Rattle.step_table.specs.World.{SeatState}
@@ -104,24 +105,24 @@ acquire_in d (Acquiring a row) = a
 acquire_in d _ = d
 
 abbrev turn_in : Place → ℕ
-turn_in (Acquiring a (P turn)) = turn
+turn_in (Acquiring a (Parked turn P)) = turn
 turn_in _ = 0
 
 -- a seat that is parked stands at no other place
-module _ (t : SeatModel) (a : Acquire) (turn : ℕ) (at : t.sight.stands.place ≡ Acquiring a (P turn)) where
-  same_wait : (b : Acquire) (k : ℕ) → t.sight.stands.place ≡ Acquiring b (P k) → ◌≡◌ {A = Acquire × ℕ} (b, k) (a, turn)
+module _ (t : SeatModel) (a : Acquire) (turn : ℕ) (at : t.sight.stands.place ≡ Acquiring a (Parked turn P)) where
+  same_wait : (b : Acquire) (k : ℕ) → t.sight.stands.place ≡ Acquiring b (Parked k P) → ◌≡◌ {A = Acquire × ℕ} (b, k) (a, turn)
   same_wait b k e = λ i. (acquire_in b ((sym e ∙ at) i), turn_in ((sym e ∙ at) i))
 
   woken_by : (w : SeatModel) → IsRoused t (Woken w) → ComesTo t (Acquiring a A10) w
-      × ((looked : List SemaStride) × CallsGranted t (Acquiring a (P turn)) w looked 1)
+      × ((looked : List SemaStride) × CallsGranted t (Acquiring a (Parked turn P)) w looked 1)
   woken_by w e =
-      subst (λ (q : Acquire × ℕ). ComesTo t (Acquiring q.0 A10) w × ((looked : List SemaStride) × CallsGranted t (Acquiring q.0 (P q.1)) w looked 1))
+      subst (λ (q : Acquire × ℕ). ComesTo t (Acquiring q.0 A10) w × ((looked : List SemaStride) × CallsGranted t (Acquiring q.0 (Parked q.1 P)) w looked 1))
       (same_wait e.1.0 e.1.1 e.1.2) (e.1.3, e.1.4)
 
-  handed_by : (v : SeatModel) → IsRoused t (Handed v) → ((looked : List SemaStride) × CallsGranted t (Acquiring a (P turn)) v looked 2)
+  handed_by : (v : SeatModel) → IsRoused t (Handed v) → ((looked : List SemaStride) × CallsGranted t (Acquiring a (Parked turn P)) v looked 2)
       × HasItsUnit a.counter (wait t.number turn) v.sight.seen
   handed_by v e =
-      subst (λ (q : Acquire × ℕ). ((looked : List SemaStride) × CallsGranted t (Acquiring q.0 (P q.1)) v looked 2)
+      subst (λ (q : Acquire × ℕ). ((looked : List SemaStride) × CallsGranted t (Acquiring q.0 (Parked q.1 P)) v looked 2)
       × HasItsUnit q.0.counter (wait t.number q.1) v.sight.seen) (same_wait e.2.0 e.2.1 e.2.2) (e.2.3, e.2.4)
 
 woken_acquire : (w : SeatModel) (a b : Acquire) → w.sight.stands.place ≡ Acquiring a A10 → w.sight.stands.place ≡ Acquiring b A10 → b ≡ a
@@ -131,8 +132,8 @@ woken_acquire w a b at e = λ i. acquire_in b ((sym e ∙ at) i)
 pub record SleptOn (s : SeatModel) (a : Acquire) (turn : ℕ) (t : SeatModel) : Type 0 where
   pub same : t ≡ record s { sight = t.sight; strides = t.strides }
   pub times : ℕ
-  pub stands : t.sight.stands ≡ record s.sight.stands { place = Acquiring a (P (turn + times)); turn = s.sight.stands.turn + times }
-  pub call : RunsAndSleeps s (Acquiring a (P turn)) t (queued s.number a s.sight.stands.turn times)
+  pub stands : t.sight.stands ≡ record s.sight.stands { place = Acquiring a (Parked (turn + times) P); turn = s.sight.stands.turn + times }
+  pub call : RunsAndSleeps s (Acquiring a (Parked turn P)) t (queued s.number a s.sight.stands.turn times)
 
 abbrev pub SleepsOn : SeatModel → SeatModel → Type 0
 SleepsOn s t = (a : Acquire) (turn : ℕ) → ParksLast s a turn → SleptOn s a turn t
@@ -142,10 +143,10 @@ sleeps_first s a turn parks = record {
   same = refl;
   times = 0;
   stands = (λ i. record s.sight.stands { place = (parks i).place })
-      ∙ (λ i. record s.sight.stands { place = Acquiring a (P (none_more turn i)); turn = none_more s.sight.stands.turn i });
+      ∙ (λ i. record s.sight.stands { place = Acquiring a (Parked (none_more turn i) P); turn = none_more s.sight.stands.turn i });
   call =
-      call_of s s (Acquiring a (P turn)) [] [] (All-nil (RunsOrWaits s.number))
-      (sym (placed_at (Acquiring a (P turn)) s.sight (ap (λ (q : SeatState). q.place) parks))) (sym (append-nil s.strides)) refl;
+      call_of s s (Acquiring a (Parked turn P)) [] [] (All-nil (RunsOrWaits s.number))
+      (sym (placed_at (Acquiring a (Parked turn P)) s.sight (ap (λ (q : SeatState). q.place) parks))) (sym (append-nil s.strides)) refl;
 }
   where
     none_more : (k : ℕ) → k ≡ k + 0
@@ -154,7 +155,7 @@ sleeps_first s a turn parks = record {
 -- from a moment at which it is parked
 module _ (s t : SeatModel) (a : Acquire) (turn : ℕ) (parks : ParksLast s a turn) (x : SleptOn s a turn t) where
   abbrev from : Place
-  from = Acquiring a (P turn)
+  from = Acquiring a (Parked turn P)
 
   abbrev T : ℕ
   T = s.sight.stands.turn
@@ -168,31 +169,31 @@ module _ (s t : SeatModel) (a : Acquire) (turn : ℕ) (parks : ParksLast s a tur
   numbers : t.number ≡ s.number
   numbers = ap (λ (q : SeatModel). q.number) x.same
 
-  at : t.sight.stands.place ≡ Acquiring a (P (turn + x.times))
+  at : t.sight.stands.place ≡ Acquiring a (Parked (turn + x.times) P)
   at = ap (λ (q : SeatState). q.place) x.stands
 
   -- rows that follow
-  then_calls : (u : SeatModel) (more : List Entry) → RunsAndSleeps t (Acquiring a (P (turn + x.times))) u more
-      → RunsAndSleeps s (Acquiring a (P turn)) u (queued s.number a s.sight.stands.turn x.times ++ more)
+  then_calls : (u : SeatModel) (more : List Entry) → RunsAndSleeps t (Acquiring a (Parked (turn + x.times) P)) u more
+      → RunsAndSleeps s (Acquiring a (Parked turn P)) u (queued s.number a s.sight.stands.turn x.times ++ more)
   then_calls u more y =
-      calls_then s t u (Acquiring a (P turn)) (Acquiring a (P (turn + x.times))) (queued s.number a s.sight.stands.turn x.times) more tables numbers at x.call
-      (subst (λ i. Calls (RunsOrWaits i) t (Acquiring a (P (turn + x.times))) u more) numbers y)
+      calls_then s t u (Acquiring a (Parked turn P)) (Acquiring a (Parked (turn + x.times) P)) (queued s.number a s.sight.stands.turn x.times) more tables numbers at x.call
+      (subst (λ i. Calls (RunsOrWaits i) t (Acquiring a (Parked (turn + x.times) P)) u more) numbers y)
 
-  pub handed_on : (v : SeatModel) → IsRoused t (Handed v) → TakesFrom s (Acquiring a (P turn)) a v
+  pub handed_on : (v : SeatModel) → IsRoused t (Handed v) → TakesFrom s (Acquiring a (Parked turn P)) a v
   handed_on v e = let h = handed_by t a (turn + x.times) at v e in (
     e.0 ∙ ap (λ (q : SeatModel). record q { taken = q.taken + 1; sight = v.sight; strides = v.strides }) x.same,
     (
       x.times,
       e.1 ∙ ap (λ (q : SeatState). record q { place = Rest }) x.stands,
       inr (
-        subst (λ l. RunsAndSleeps s (Acquiring a (P turn)) v l) (append-nil (queued s.number a s.sight.stands.turn x.times)) (then_calls v [] h.0.1.call),
+        subst (λ l. RunsAndSleeps s (Acquiring a (Parked turn P)) v l) (append-nil (queued s.number a s.sight.stands.turn x.times)) (then_calls v [] h.0.1.call),
         (turn + x.times, (let k = next_turn in omega arith), subst (λ i. HasItsUnit a.counter (wait i (turn + x.times)) v.sight.seen) numbers h.1),
       ),
     ),
   )
 
   module _ (w : SeatModel) (e : IsRoused t (Woken w)) where
-    woke : ComesTo t (Acquiring a A10) w × ((looked : List SemaStride) × CallsGranted t (Acquiring a (P (turn + x.times))) w looked 1)
+    woke : ComesTo t (Acquiring a A10) w × ((looked : List SemaStride) × CallsGranted t (Acquiring a (Parked (turn + x.times) P)) w looked 1)
     woke = woken_by t a (turn + x.times) at w e
 
     same_woken : w ≡ record s { sight = w.sight; strides = w.strides }
@@ -203,9 +204,9 @@ module _ (s t : SeatModel) (a : Acquire) (turn : ℕ) (parks : ParksLast s a tur
 
     -- the rows of a retry
     retry_calls : (u : SeatModel) (more : List Entry) → RunsRows w (Acquiring a A10) u more
-        → RunsAndSleeps s (Acquiring a (P turn)) u (queued s.number a s.sight.stands.turn x.times ++ more)
+        → RunsAndSleeps s (Acquiring a (Parked turn P)) u (queued s.number a s.sight.stands.turn x.times ++ more)
     retry_calls u more y = then_calls u more
-        (calls_then t w u (Acquiring a (P (turn + x.times))) (Acquiring a A10) [] more (ap (λ (q : SeatModel). q.table) e.0)
+        (calls_then t w u (Acquiring a (Parked (turn + x.times) P)) (Acquiring a A10) [] more (ap (λ (q : SeatModel). q.table) e.0)
         (ap (λ (q : SeatModel). q.number) e.0) at_woken woke.1.1.call
         (sleepless t.number w u (Acquiring a A10) more y))
 
@@ -219,13 +220,13 @@ module _ (s t : SeatModel) (a : Acquire) (turn : ℕ) (parks : ParksLast s a tur
     retried : {R : Acquire → Type 0} → ((b : Acquire) × (w.sight.stands.place ≡ Acquiring b A10) × R b) → R a
     retried {R} r = subst R (woken_acquire w a r.0 at_woken r.1) r.2
 
-    pub taken_on : (u : SeatModel) → IsRetried w (Taken u) → TakesFrom s (Acquiring a (P turn)) a u
+    pub taken_on : (u : SeatModel) → IsRetried w (Taken u) → TakesFrom s (Acquiring a (Parked turn P)) a u
     taken_on u r = let y : IsEntered w a (Acquiring a A10) (Taken u) = retried {R = λ b. IsEntered w b (Acquiring b A10) (Taken u)} r in (
       y.0 ∙ ap (λ (q : SeatModel). record q { taken = q.taken + 1; sight = u.sight; strides = u.strides }) same_woken,
       (
         x.times,
         y.1 ∙ ap (λ (q : SeatState). record q { place = Rest }) (woke.0 ∙ ap (λ (q : SeatState). record q { place = Acquiring a A10 }) x.stands),
-        inl (subst (λ i. RunsAndSleeps s (Acquiring a (P turn)) u (queued s.number a s.sight.stands.turn x.times ++ Take a.counter i ∷ [])) number_woken
+        inl (subst (λ i. RunsAndSleeps s (Acquiring a (Parked turn P)) u (queued s.number a s.sight.stands.turn x.times ++ Take a.counter i ∷ [])) number_woken
             (retry_calls u (Take a.counter w.number ∷ []) y.2)),
       ),
     )
@@ -234,11 +235,11 @@ module _ (s t : SeatModel) (a : Acquire) (turn : ℕ) (parks : ParksLast s a tur
     asleep_on u r = let y : IsEntered w a (Acquiring a A10) (Asleep u) = retried {R = λ b. IsEntered w b (Acquiring b A10) (Asleep u)} r in record {
       same = y.0 ∙ ap (λ (q : SeatModel). record q { sight = u.sight; strides = u.strides }) same_woken;
       times = suc x.times;
-      stands = y.1 ∙ ap (λ (q : SeatState). record { place = Acquiring a (P q.turn); turn = q.turn + 1; hand = q.hand })
+      stands = y.1 ∙ ap (λ (q : SeatState). record { place = Acquiring a (Parked q.turn P); turn = q.turn + 1; hand = q.hand })
           (woke.0 ∙ ap (λ (q : SeatState). record q { place = Acquiring a A10 }) x.stands)
-          ∙ (λ i. record s.sight.stands { place = Acquiring a (P (later i)); turn = one_more i });
-      call = subst (λ l. RunsAndSleeps s (Acquiring a (P turn)) u l) (queued_more s.number a s.sight.stands.turn x.times)
-          (subst (λ (q : ℕ × ℕ). RunsAndSleeps s (Acquiring a (P turn)) u
+          ∙ (λ i. record s.sight.stands { place = Acquiring a (Parked (later i) P); turn = one_more i });
+      call = subst (λ l. RunsAndSleeps s (Acquiring a (Parked turn P)) u l) (queued_more s.number a s.sight.stands.turn x.times)
+          (subst (λ (q : ℕ × ℕ). RunsAndSleeps s (Acquiring a (Parked turn P)) u
           (queued s.number a s.sight.stands.turn x.times ++ Queue a.counter (wait q.0 q.1) a.lifo ∷ [])) (λ i. (number_woken i, turn_woken i))
           (retry_calls u (Queue a.counter (wait w.number w.sight.stands.turn) a.lifo ∷ []) y.2));
     }
@@ -274,11 +275,11 @@ module _ (u w : SeatModel) (a : Acquire) (e : IsEntered u a (Acquiring a A3) (As
       suc x.1.0,
       x.1.1 ∙ (λ i. record { place = Rest; turn = (turns x.1.0) i; hand = (e.1 i).hand }),
       ⊎_elim (λ own. inl (first_then x.1.0 (Take a.counter u.number ∷ [])
-          (subst (λ i. RunsAndSleeps w (Acquiring a (P u.sight.stands.turn)) t (queued w.number a w.sight.stands.turn x.1.0 ++ Take a.counter i ∷ []))
+          (subst (λ i. RunsAndSleeps w (Acquiring a (Parked u.sight.stands.turn P)) t (queued w.number a w.sight.stands.turn x.1.0 ++ Take a.counter i ∷ []))
           numbers own)))
           (λ handed. inr (
             subst (λ l. RunsAndSleeps u (Acquiring a A3) t l) (append-nil (queued u.number a u.sight.stands.turn (suc x.1.0)))
-                (first_then x.1.0 [] (subst (λ l. RunsAndSleeps w (Acquiring a (P u.sight.stands.turn)) t l)
+                (first_then x.1.0 [] (subst (λ l. RunsAndSleeps w (Acquiring a (Parked u.sight.stands.turn P)) t l)
                 (sym (append-nil (queued w.number a w.sight.stands.turn x.1.0))) handed.0)),
             (
               handed.1.0,
@@ -297,11 +298,11 @@ module _ (u w : SeatModel) (a : Acquire) (e : IsEntered u a (Acquiring a A3) (As
       turns n = let k = ap (λ (q : SeatState). q.turn) e.1 in omega arith
 
       -- the first wait, and what followed
-      first_then : (n : ℕ) (more : List Entry) → RunsAndSleeps w (Acquiring a (P u.sight.stands.turn)) t (queued w.number a w.sight.stands.turn n ++ more)
+      first_then : (n : ℕ) (more : List Entry) → RunsAndSleeps w (Acquiring a (Parked u.sight.stands.turn P)) t (queued w.number a w.sight.stands.turn n ++ more)
           → RunsAndSleeps u (Acquiring a A3) t (queued u.number a u.sight.stands.turn (suc n) ++ more)
-      first_then n more y = calls_then u w t (Acquiring a A3) (Acquiring a (P u.sight.stands.turn))
+      first_then n more y = calls_then u w t (Acquiring a A3) (Acquiring a (Parked u.sight.stands.turn P))
           (Queue a.counter (wait u.number u.sight.stands.turn) a.lifo ∷ []) (queued u.number a (u.sight.stands.turn + 1) n ++ more)
           (ap (λ (q : SeatModel). q.table) e.0) numbers (ap (λ (q : SeatState). q.place) e.1)
           (sleepless u.number u w (Acquiring a A3) (Queue a.counter (wait u.number u.sight.stands.turn) a.lifo ∷ []) e.2)
-          (subst (λ (q : ℕ × ℕ). Calls (RunsOrWaits q.0) w (Acquiring a (P u.sight.stands.turn)) t (queued q.0 a q.1 n ++ more))
+          (subst (λ (q : ℕ × ℕ). Calls (RunsOrWaits q.0) w (Acquiring a (Parked u.sight.stands.turn P)) t (queued q.0 a q.1 n ++ more))
           (λ i. (numbers i, (e.1 i).turn)) y)

@@ -20,7 +20,7 @@ use Rattle.step_table.specs.Steps.{event_of, finds}
 use Rattle.step_table.specs.Counting.{counter_at}
 use Rattle.step_table.proofs.Sums.{put_here, put_else}
 use Rattle.step_law_semaphores.specs.Lawful.{holds}
-use Rattle.step_law_semaphores.specs.Balances.{added_by}
+use Rattle.sema_table.specs.Changes.{spent_by}
 use Rattle.sema_root.specs.Treap.{Treap}
 use Rattle.running_rows.specs.Strides.{here, becomes, RanRow, Changed, runs_grant, runs_unlock}
 use Rattle.running_rows.specs.Owing.{Stands, Leads, Owes}
@@ -34,7 +34,7 @@ use Rattle.sema_table.specs.Rule.{stands_by, lists_by, IsRecord, Homes, AtHome, 
 use Rattle.sema_table.specs.Rows.{Me, SemaSeat, HasStored, semaphore_rows}
 use Rattle.sema_table.specs.Starts.{begin}
 use Rattle.sema_table.proofs.Words.{low_root, is_lock, locks_unwritten, listed_agree, same_record}
-use Rattle.sema_table.proofs.Adding.{adding}
+use Rattle.sema_table.proofs.Spending.{spending}
 use Rattle.sema_table.proofs.Striding.{Ran, ran_here}
 use Rattle.running_rows.proofs.Telling.{owes_own, tells_more, stays_so}
 use Rattle.sema_table.proofs.Keeping.{Fits, Ready, ready, b, t, after, others, knows_after, shows_after, went, home_stays, lists_are, lists_told, read_is}
@@ -67,7 +67,7 @@ abbrev pub Stored : (Known → Known) → Me → ℕ → ℕ → ℕ → Me → 
 Stored at m i x n t = (r : Ran at m.0.own n t.0.own) × HasStored m.0.own.knows.setting r.stride i x × Changed semaphore_rows m m.1 t
 
 module _ (i : ℕ) (m : Me) (p : Place) (ok : Begins (length m.0.own.knows.setting.starts) m.0.own.knows.place p)
-    (bound : added_by m.0.own.number m.0.own.knows.seen + adding p ≤ 2 ^ 40) where
+    (bound : spent_by m.0.own.number m.0.own.knows.seen + spending p ≤ m.0.own.knows.setting.limit) where
   abbrev u : SemaSeat
   u = m.0.own
 
@@ -275,7 +275,7 @@ module _ (i : ℕ) (m : Me) (p : Place) (ok : Begins (length m.0.own.knows.setti
 
 -- the same of the row at which the seat stands
 module _ (z : Setting) (i : ℕ) (m : Me) (p : Place) (at : m.0.own.knows.place ≡ p)
-    (bound : added_by m.0.own.number m.0.own.knows.seen + adding p ≤ 2 ^ 40) where
+    (bound : spent_by m.0.own.number m.0.own.knows.seen + spending p ≤ m.0.own.knows.setting.limit) where
   pub owes_here : (g : ℕ → ℕ) → ((w : SemaWorld) (n : ℕ) → Ready m.0.own.number (begin p m.0.own.knows) w i n
       → Stays m.0.own.knows.setting (event_by m.0.own.number (begin p m.0.own.knows) w) i n (g n))
       → Owes semaphore_rows z m i g (λ n s. RanRow semaphore_rows here m n s)

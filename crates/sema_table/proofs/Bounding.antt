@@ -1,5 +1,5 @@
 -- How many units a seat can come by, and how often a counter can change.
-use Rattle.std.proofs.Common.{◌≡◌, ℕ, ◌*◌, ◌^◌, ◌<◌, ◌≤◌, List, [], ◌∷◌, length, arith, mul-le-mul_right}
+use Rattle.std.proofs.Common.{◌≡◌, ℕ, ◌+◌, ◌*◌, ◌^◌, ◌<◌, ◌≤◌, List, [], ◌∷◌, length, arith, mul-le-mul_right}
 use Rattle.step_table.specs.declared.entry.Entry.{Entry}
 use Rattle.step_table.specs.declared.entry.Entry.TheVariants.{Add, AddMany}
 use Rattle.step_table.specs.World.{SemaWorld}
@@ -18,18 +18,25 @@ use Rattle.sema_table.specs.Setting.{layout}
 use Rattle.sema_table.specs.Changes.{changes, most_changes}
 
 -- what is taken was there at the start or was added
-pub taken_most : (z : Setting) (k : ℕ) (s : SemaWorld) → IsReached (layout z) s → IsSmall (layout z) s → length z.starts ≤ 65536
-    → k < z.seats → takes k s.journal ≤ 2 ^ 49
-taken_most z k s reached small counted there =
-    let all : taken s.journal ≡ total z.seats (λ i. takes i s.journal) = the_accounts.taken (layout z) s reached in
-    let one = total_has z.seats (λ i. takes i s.journal) k there in
+pub all_taken_most : (z : Setting) (s : SemaWorld) → IsReached (layout z) s → IsSmall (layout z) z.limit s → length z.starts ≤ 65536
+    → taken s.journal ≤ 2 ^ 62 + 2 ^ 48
+all_taken_most z s reached small counted =
     let sum = the_accounts.balanced_in_all (layout z) s reached in
     let units : added s.journal ≡ total z.seats (λ i. added_by i s.journal) = the_accounts.added (layout z) s reached in
-    let few : total z.seats (λ i. added_by i s.journal) ≤ z.seats * (2 ^ 40) = total_most z.seats (2 ^ 40) (λ i. added_by i s.journal) small.few in
-    let seats : z.seats * (2 ^ 40) ≤ 256 * (2 ^ 40) = mul-le-mul_right (2 ^ 40) small.seats in
+    let few : total z.seats (λ i. added_by i s.journal) ≤ z.seats * z.limit = total_most z.seats z.limit (λ i. added_by i s.journal)
+    (λ i h. let q = small.few i h in omega arith) in
+    let shares = small.shares in
     let starts : total (length z.starts) (layout z).starts ≤ length z.starts * (2 ^ 32) = total_most (length z.starts) (2 ^ 32) (layout z).starts
     (λ c h. let q = small.starts c in omega arith) in
     let counters : length z.starts * (2 ^ 32) ≤ 65536 * (2 ^ 32) = mul-le-mul_right (2 ^ 32) counted in
+    omega arith
+
+pub taken_most : (z : Setting) (k : ℕ) (s : SemaWorld) → IsReached (layout z) s → IsSmall (layout z) z.limit s → length z.starts ≤ 65536
+    → k < z.seats → takes k s.journal ≤ 2 ^ 62 + 2 ^ 48
+taken_most z k s reached small counted there =
+    let all : taken s.journal ≡ total z.seats (λ i. takes i s.journal) = the_accounts.taken (layout z) s reached in
+    let one = total_has z.seats (λ i. takes i s.journal) k there in
+    let most = all_taken_most z s reached small counted in
     omega arith
 
 -- what is added to one counter is added
@@ -40,11 +47,12 @@ added_most c (AddMany d n s ∷ j) = let rest : added_on c j ≤ added j = added
 added_most c (e ∷ j) = added_most c j
 
 -- what is taken from it was there at the start or was added to it
-pub changes_most : (z : Setting) (s : SemaWorld) → IsReached (layout z) s → IsSmall (layout z) s → (c : ℕ) → changes c s.journal ≤ most_changes
+pub changes_most : (z : Setting) (s : SemaWorld) → IsReached (layout z) s → IsSmall (layout z) z.limit s → (c : ℕ) → changes c s.journal ≤ most_changes
 changes_most z s reached small c =
     let units : added s.journal ≡ total z.seats (λ i. added_by i s.journal) = the_accounts.added (layout z) s reached in
-    let few : total z.seats (λ i. added_by i s.journal) ≤ z.seats * (2 ^ 40) = total_most z.seats (2 ^ 40) (λ i. added_by i s.journal) small.few in
-    let seats : z.seats * (2 ^ 40) ≤ 256 * (2 ^ 40) = mul-le-mul_right (2 ^ 40) small.seats in
+    let few : total z.seats (λ i. added_by i s.journal) ≤ z.seats * z.limit = total_most z.seats z.limit (λ i. added_by i s.journal)
+    (λ i h. let q = small.few i h in omega arith) in
+    let shares = small.shares in
     let most = added_most c s.journal in
     let sum = the_accounts.balanced (layout z) s (the_law.invariant (layout z) s reached) c in
     let start = small.starts c in

@@ -16,8 +16,8 @@ use Rattle.sema_table.specs.Setting.{layout}
 use Rattle.sema_table.specs.Seats.{SeatModel}
 use Rattle.sema_table.specs.Tries.{acquiring}
 use Rattle.sema_table.specs.Waking.{acquire_of, RunsOrWaits, RunsAndSleeps}
-use Rattle.sema_table.specs.Whole.{queued, TakesUnit, IsAcquired}
-use Rattle.sema_table.specs.Callers.{IsSeatAfter, WaitsForUnit, AcquiresUnit}
+use Rattle.sema_table.specs.Whole.{queued, TakesUnit, TakesAtOnce, FindsNone, IsAcquired}
+use Rattle.sema_table.specs.Callers.{IsSeatAfter, FindsNoUnit, WaitsForUnit, AcquiresUnit}
 use Rattle.sema_table.proofs.After.{after_call}
 use Rattle.sema_table.proofs.CallerTries.{both_nil}
 use Rattle.sema_table.proofs.CallerEnters.{Wants, Stepped, stepped}
@@ -84,16 +84,22 @@ module _ (u t : SeatModel) (a : Acquire) (same : t ≡ record u { taken = u.take
     ),
   )
 
+-- tries of which the last took a unit, or found none
+pub takes_at_once : (s t : SeatModel) (c : ℕ) → TakesAtOnce s c t → IsSeatAfter s 0 1 (Take c s.number ∷ []) t
+takes_at_once s t c x = after_call s t (acquiring c A1) Rest s.left (s.taken + 1) x.0 (Take c s.number ∷ []) x.2
+    (ap (λ (z : SeatState). z.place) x.1) (λ e. cc) 0 1 (omega arith) refl
+
+pub finds_none : (s u : SeatModel) (c : ℕ) → FindsNone s c u → FindsNoUnit s c u
+finds_none s u c none = (
+  after_call s u (acquiring c A1) (acquiring c A3) s.left s.taken none.0 [] none.2 (ap (λ (z : SeatState). z.place) none.1) (λ e. cc)
+      0 0 (omega arith) (omega arith),
+  none.3,
+)
+
 pub acquires : (s t : SeatModel) (c : ℕ) (lifo : Bool) → IsAcquired s c lifo t → AcquiresUnit s c lifo t
-acquires s t c lifo (inl x) =
-    inl (after_call s t (acquiring c A1) Rest s.left (s.taken + 1) x.0 (Take c s.number ∷ []) x.2
-    (ap (λ (z : SeatState). z.place) x.1) (λ e. cc) 0 1 (omega arith) refl)
+acquires s t c lifo (inl x) = inl (takes_at_once s t c x)
 acquires s t c lifo (inr (u, none, takes)) = inr (
   u,
-  (
-    after_call s u (acquiring c A1) (acquiring c A3) s.left s.taken none.0 [] none.2 (ap (λ (z : SeatState). z.place) none.1) (λ e. cc)
-        0 0 (omega arith) (omega arith),
-    none.3,
-  ),
+  finds_none s u c none,
   waits u t (acquire_of c lifo) takes.0 (ap (λ (z : SeatState). z.place) takes.1.1) takes.1.0 takes.1.2,
 )

@@ -9,7 +9,8 @@ use Rattle.step_table.specs.declared.effect.Effect.TheVariants.{Nothing, Tells}
 use Rattle.step_table.specs.declared.entry.Entry.{Entry}
 use Rattle.step_table.specs.declared.entry.Entry.TheVariants.{Take, Queue}
 use Rattle.step_table.specs.declared.place.Acquire.{Acquire}
-use Rattle.step_table.specs.declared.place.AcquireRow.TheVariants.{A3, A4, A5, A6, A7, A8, A10, A11, P}
+use Rattle.step_table.specs.declared.place.AcquireRow.TheVariants.{A3, A4, A5, A6, A7, A8, A10, A11, Parked}
+use Rattle.step_table.specs.declared.place.ParkedRow.TheVariants.{P}
 use Rattle.step_table.specs.declared.place.Place.{Place}
 use Rattle.step_table.specs.declared.place.Place.TheVariants.{Rest, Acquiring}
 use Rattle.step_table.specs.World.{Layout, SeatState}
@@ -135,7 +136,7 @@ finds_none m i v w (p ∷ strides) a c x lifo each path on told =
         let first : e ≡ Queue c x lifo = cc in subst IsTake first takes)
 
 enters_from : (s : SeatModel) (a : Acquire) (from : Place) → Searches a from → (from ≡ Rest → ⊥)
-    → ((turn : ℕ) → from ≡ Acquiring a (P turn) → ⊥) → (answer : Entered) → IsEntered s a from answer
+    → ((turn : ℕ) → from ≡ Acquiring a (Parked turn P) → ⊥) → (answer : Entered) → IsEntered s a from answer
     → JoinsQueue s a.counter a.lifo answer
 enters_from s a from on busy awake (Taken t) x =
     after_call s t from Rest s.left (s.taken + 1) x.0 (Take a.counter s.number ∷ []) x.2 (ap (λ (z : SeatState). z.place) x.1) busy 0 1 (omega arith) refl
@@ -143,7 +144,7 @@ enters_from s a from on busy awake (Asleep t) x =
     let m = layout s.table.setting in let v = placed from s.sight in let turn = s.sight.stands.turn in let w = wait s.number turn in
     let told = Queue a.counter w a.lifo ∷ [] in
     let at = ap (λ (z : SeatState). z.place) x.1 in
-    let whole = after_call s t from (Acquiring a (P turn)) s.left s.taken x.0 told x.2 at (awake turn) 0 0 (omega arith) (omega arith) in
+    let whole = after_call s t from (Acquiring a (Parked turn P)) s.left s.taken x.0 told x.2 at (awake turn) 0 0 (omega arith) (omega arith) in
     let seen = finds_none m s.number v t.sight x.2.strides a a.counter w a.lifo x.2.each x.2.path on x.2.told_is in (
       seat_then s t from [] told (NoUnit m a.counter) seen,
       (until_then s t from [] told (NoUnit m a.counter) seen, seen.holds),

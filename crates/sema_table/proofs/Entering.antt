@@ -1,15 +1,16 @@
 -- An acquire from its root's lock on, row by row.
-use Rattle.std.proofs.Common.{◌≡◌, ℕ, ◌+◌, ◌<◌, List, [], ◌∷◌, length, sym, refl, ap, ◌∙◌, subst, arith}
+use Rattle.std.proofs.Common.{◌≡◌, ℕ, ◌+◌, ◌<◌, ◌≤◌, List, [], ◌∷◌, length, sym, refl, ap, ◌∙◌, subst, arith}
 use Rattle.waiters.specs.declared.wait.WaitId.{WaitId}
 use Rattle.step_table.specs.declared.entry.Entry.{Entry}
 use Rattle.step_table.specs.declared.entry.Entry.TheVariants.{Take, Queue}
 use Rattle.step_table.specs.declared.place.Acquire.{Acquire}
-use Rattle.step_table.specs.declared.place.AcquireRow.TheVariants.{A3, A4, A5, A7, A8, A9, P}
+use Rattle.step_table.specs.declared.place.AcquireRow.TheVariants.{A3, A4, A5, A7, A8, A9, Parked}
+use Rattle.step_table.specs.declared.place.ParkedRow.TheVariants.{P}
 use Rattle.step_table.specs.declared.place.Place.{Place}
 use Rattle.step_table.specs.declared.place.Place.TheVariants.{Rest, Acquiring}
 use Rattle.step_table.specs.World.{SeatState}
 use Rattle.step_table.specs.Counting.{counter_at, wait}
-use Rattle.step_law_semaphores.specs.Balances.{added_by}
+use Rattle.sema_table.specs.Changes.{spent_by}
 use Rattle.sema_table.specs.declared.seat.Numbers.{Numbers}
 use Rattle.sema_table.specs.declared.answers.Entered.TheVariants.{Taken, Asleep}
 use Rattle.sema_table.specs.Places.{is_free}
@@ -18,25 +19,31 @@ use Rattle.sema_table.specs.Seats.{Token, TableModel, table_of, seat_of, IsToken
 use Rattle.sema_table.specs.Walks.{Stands, Walked, IsLast, moved_to, parked}
 use Rattle.sema_table.specs.Calls.{RunsRows}
 use Rattle.sema_table.specs.Waking.{IsEntered}
-use Rattle.sema_table.proofs.Walking.{walked_on, walked_then, walked_adds, token_after, added_few}
+use Rattle.sema_table.proofs.Walking.{walked_on, walked_then, walked_spends, token_after, spent_few}
 use Rattle.sema_table.proofs.Calling.{calls}
 
--- a seat after rows that added nothing stands where they led
-pub stands_at : (z : TableModel) (s t : Token) (n : Numbers) (from : Place) (a : SeatState) (told : List Entry) (j : ℕ) → IsToken s n → table_of s ≡ z
-    → counter_at a.place < length z.setting.starts → Walked s from t a told j
-    → added_by s.me.0.own.number told ≡ 0 → Stands z t a.place
-stands_at z s t n from a told j is of inside x none = record {
+-- a seat after rows that spent no more than it might stands where they led
+pub stands_spending : (z : TableModel) (s t : Token) (n : Numbers) (from : Place) (a : SeatState) (told : List Entry) (j : ℕ) → IsToken s n
+    → table_of s ≡ z → counter_at a.place < length z.setting.starts → Walked s from t a told j
+    → spent_by s.me.0.own.number told ≤ n.left → Stands z t a.place
+stands_spending z s t n from a told j is of inside x fits = record {
   table_is = x.table_is ∙ of;
   inside = inside;
   place_is = ap (λ (y : SeatState). y.place) x.stands_is;
-  limited = let b = walked_adds s t from a told j x in let c = added_few s n 0 is (omega arith) in omega arith;
+  limited = let b = walked_spends s t from a told j x in let c = spent_few s n (spent_by s.me.0.own.number told) is fits in omega arith;
   few = x.few;
   most = x.most;
 }
 
+-- and so after rows that spent nothing
+pub stands_at : (z : TableModel) (s t : Token) (n : Numbers) (from : Place) (a : SeatState) (told : List Entry) (j : ℕ) → IsToken s n → table_of s ≡ z
+    → counter_at a.place < length z.setting.starts → Walked s from t a told j
+    → spent_by s.me.0.own.number told ≡ 0 → Stands z t a.place
+stands_at z s t n from a told j is of inside x none = stands_spending z s t n from a told j is of inside x (omega arith)
+
 pub stands_after : (z : TableModel) (s t : Token) (n : Numbers) (from q : Place) (told : List Entry) (j : ℕ) → IsToken s n → table_of s ≡ z
     → counter_at q < length z.setting.starts → Walked s from t (moved_to s q) told j
-    → added_by s.me.0.own.number told ≡ 0 → Stands z t q
+    → spent_by s.me.0.own.number told ≡ 0 → Stands z t q
 stands_after z s t n from q = stands_at z s t n from (moved_to s q)
 
 module _ (s t1 t2 t3 : Token) (a : Acquire) where
@@ -78,7 +85,7 @@ module _ (s t2 t3 t4 t5 : Token) (n : Numbers) (a : Acquire) (is : IsToken s n) 
 
     pub entered_seat : IsSeat t5 counted
     entered_seat = record {
-      token_is = token_after s t5 (Acquiring a A3) (moved_to s Rest) took 1 n counted is ended bare is.empty is.turns_are (omega arith) refl refl;
+      token_is = token_after s t5 (Acquiring a A3) (moved_to s Rest) took 1 n counted is ended bare is.empty is.turns_are (omega arith) (omega arith) refl refl;
       free = ap (λ (q : SeatState). is_free q.place) ended.stands_is;
       counted = ended.counted refl;
     }
@@ -107,20 +114,20 @@ module _ (s t3 t4 : Token) (n : Numbers) (a : Acquire) (w : WaitId) (is : IsToke
 
   slept : Walked s (Acquiring a A3) t4 (parked s a) queues 0
   slept =
-      subst (λ (q : SeatState). Walked s (Acquiring a A3) t4 (record { place = Acquiring a (P q.turn); turn = q.turn + 1; hand = q.hand }) queues 0)
+      subst (λ (q : SeatState). Walked s (Acquiring a A3) t4 (record { place = Acquiring a (Parked q.turn P); turn = q.turn + 1; hand = q.hand }) queues 0)
       committed.stands_is
       (walked_on s t3 t4 (Acquiring a A3) (moved_to s (Acquiring a A7)) (parked t3 a) [] queues 0 0 committed y)
 
   abbrev later : Numbers
   later = record n { turns = n.turns + 1 }
 
-  at : t4.me.0.own.knows.place ≡ Acquiring a (P n.turns)
-  at = ap (λ (q : SeatState). q.place) slept.stands_is ∙ ap (λ k. Acquiring a (P k)) is.turns_are
+  at : t4.me.0.own.knows.place ≡ Acquiring a (Parked n.turns P)
+  at = ap (λ (q : SeatState). q.place) slept.stands_is ∙ ap (λ k. Acquiring a (Parked k P)) is.turns_are
 
   pub asleep_seat : a.counter < length s.me.0.own.knows.setting.starts → IsSleeping t4 later a n.turns
   asleep_seat inside = record {
     token_is =
-        token_after s t4 (Acquiring a A3) (parked s a) queues 0 n later is slept bare is.empty (ap (λ k. k + 1) is.turns_are) (omega arith) refl (omega arith);
+        token_after s t4 (Acquiring a A3) (parked s a) queues 0 n later is slept bare is.empty (ap (λ k. k + 1) is.turns_are) (omega arith) (omega arith) refl (omega arith);
     inside = subst (λ (z : TableModel). a.counter < length z.setting.starts) (sym slept.table_is) inside;
     at = at;
   }

@@ -2,7 +2,8 @@
 use Rattle.std.proofs.Common.{◌≡◌, ℕ, ◌<◌, List, [], ◌∷◌, length, sym, ap, ◌∙◌, subst, refl, arith}
 use Rattle.waiters.specs.declared.wait.WaitId.{WaitId}
 use Rattle.step_table.specs.declared.place.Acquire.{Acquire}
-use Rattle.step_table.specs.declared.place.AcquireRow.TheVariants.{P}
+use Rattle.step_table.specs.declared.place.AcquireRow.TheVariants.{Parked}
+use Rattle.step_table.specs.declared.place.ParkedRow.TheVariants.{P}
 use Rattle.step_table.specs.declared.place.Place.{Place}
 use Rattle.step_table.specs.declared.place.Place.TheVariants.{Acquiring}
 use Rattle.step_table.specs.declared.word.Word.{Word}
@@ -60,12 +61,12 @@ module _ (m : Layout) (i : ℕ) (v w : SemaSight) (p : SemaStride) (r : SemaRan 
       ap (λ (x : Plain). x.lists c) (plain_there m i v w p r) ∙ none_long (lists c) (omega arith)
 
   -- where a grant of 1 is there the wait has left
-  pub left_there : (a : Acquire) (turn : ℕ) → p.deed ≡ runs → p.stood.place ≡ Acquiring a (P turn) → p.read ≡ 1
+  pub left_there : (a : Acquire) (turn : ℕ) → p.deed ≡ runs → p.stood.place ≡ Acquiring a (Parked turn P) → p.read ≡ 1
       → HasLeft a.counter (wait i turn) p.seen
   left_there a turn ran at one =
       let granted : r.world.words.grants i ≡ 1
       = sym (found_there (Grant i) ran (ap (λ (z : Place). (event_at i p.stood (plain_before m p).lists z).word) at)) ∙ one in
-      let place : (r.world.seats i).place ≡ Acquiring a (P turn) = ap (λ (z : SeatState). z.place) (sym (stood_there m i v w p r)) ∙ at in
+      let place : (r.world.seats i).place ≡ Acquiring a (Parked turn P) = ap (λ (z : SeatState). z.place) (sym (stood_there m i v w p r)) ∙ at in
       subst (λ l. HasLeft a.counter (wait i turn) l) (sym r.seen)
       (subst (λ (z : Place × ℕ). Story i z.0 (r.world.seats i).hand z.1 r.world.journal) (λ j. (place j, granted j))
       (invariant.stories i (there m i v w p r ran)))

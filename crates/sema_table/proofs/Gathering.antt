@@ -1,5 +1,5 @@
 -- Seats that are gathered into one view, one after the other from the end of a row.
-use Rattle.std.proofs.Common.{◌≡◌, ℕ, ◌+◌, ◌-◌, ◌*◌, ◌<◌, ◌≤◌, List, [], ◌∷◌, ◌++◌, length, slice_index, slice_index_or}
+use Rattle.std.proofs.Common.{◌≡◌, ℕ, ◌+◌, ◌-◌, ◌*◌, ◌^◌, ◌<◌, ◌≤◌, List, [], ◌∷◌, ◌++◌, length, slice_index, slice_index_or}
 use Rattle.std.proofs.Common.{length-append, zero, suc, sym, refl}
 use Rattle.std.proofs.Common.{ap, ◌∙◌, subst, arith, append-nil, append_assoc}
 use Rattle.std.proofs.lemmas.List.{get_or-append-add}
@@ -12,6 +12,7 @@ use Rattle.sema_table.specs.declared.seat.Numbers.{Numbers}
 use Rattle.sema_table.specs.Rows.{Me}
 use Rattle.sema_table.specs.Seats.{TableModel, SeatModel, Token, table_of, seat_of, IsSeat}
 use Rattle.sema_table.specs.Closing.{sum_by, has_added, was_given, IsOfSeat, AreOfSeats}
+use Rattle.step_law_semaphores.specs.Balances.{added_by}
 use Rattle.sema_table.proofs.Reckoning.{seat_is}
 
 -- of these seats those behind `now` sit with the token's own seat: with its counts, they have added and were given so many units
@@ -22,13 +23,13 @@ pub record Gathered (t : TableModel) (items : List SeatModel) (own_seat : SemaSe
   pub gone : List SeatModel
   pub parts : items ≡ now ++ gone
   pub are : AreOfSeats t.setting token.me.0.guests gone
-  pub added : releases ≡ added_first + sum_by (has_added t.setting.limit) gone
+  pub added : releases ≡ added_first + sum_by has_added gone
   pub given : acquires ≡ given_first + sum_by was_given gone
-  pub few_added : releases ≤ (length gone + 1) * 1099511627776
-  pub few_given : acquires ≤ (length gone + 1) * 562949953421312
+  pub few_added : releases ≤ (length gone + 1) * t.setting.limit
+  pub few_given : acquires ≤ (length gone + 1) * (2 ^ 62 + 2 ^ 48)
 
 pub none_gathered : (t : TableModel) (items : List SeatModel) (token : Token) (added given : ℕ) → table_of token ≡ t → token.me.0.guests ≡ []
-    → added ≤ 1099511627776 → given ≤ 562949953421312
+    → added ≤ t.setting.limit → given ≤ 2 ^ 62 + 2 ^ 48
     → Gathered t items token.me.0.own items token added given added given
 none_gathered t items token added given own alone few most = record {
   own = own;
@@ -48,13 +49,21 @@ of_table : (t : TableModel) (s : Token) (n : Numbers) (seat : SeatModel) (g : Se
 of_table t s n seat g seen is own at =
     subst (λ (q : TableModel × (SemaSeat × SeatModel)). IsOfSeat q.0.setting q.1.0 q.1.1) (λ i. (own i, (at i, seen i))) (seat_is s n is)
 
+-- what it has added
+pub added_is : (t : TableModel) (s : Token) (n : Numbers) (seat : SeatModel) (limit : ℕ) → seat_of s n ≡ seat → IsSeat s n → table_of s ≡ t
+    → limit ≡ t.setting.limit → limit - n.left - n.withdrawn ≡ has_added seat
+added_is t s n seat limit seen is own limited =
+    let l = is.token_is.left_is in let w = is.token_is.withdrawn_is in let z = ap (λ (y : TableModel). y.setting.limit) own in
+    let k : added_by s.me.0.own.number s.me.0.own.knows.seen ≡ has_added seat = ap (λ i. added_by i s.me.0.own.knows.seen) is.token_is.number_is ∙ ap has_added seen in
+    omega (arith, limited, k)
+
 pub one_gathered : (t : TableModel) (items : List SeatModel) (own_seat : SemaSeat) (now rest : List SeatModel) (token after : Token)
     (added_first given_first releases acquires limit : ℕ) (seat : SeatModel) (s : Token) (n : Numbers)
     → Gathered t items own_seat now token added_first given_first releases acquires → now ≡ rest ++ seat ∷ [] → seat_of s n ≡ seat → IsSeat s n
-    → table_of s ≡ t → limit ≡ t.setting.limit → limit ≤ 1099511627776
+    → table_of s ≡ t → limit ≡ t.setting.limit
     → after.table_id ≡ token.table_id → after.me ≡ (sitting token.me.0 s.me.0, token.me.1)
-    → Gathered t items own_seat rest after added_first given_first (releases + (limit - n.left)) (acquires + n.taken)
-one_gathered t items own_seat now rest token after added_first given_first releases acquires limit seat s n x last seen is own limited low same joined =
+    → Gathered t items own_seat rest after added_first given_first (releases + (limit - n.left - n.withdrawn)) (acquires + n.taken)
+one_gathered t items own_seat now rest token after added_first given_first releases acquires limit seat s n x last seen is own limited same joined =
     record {
       own = (λ i. record { id = same i; setting = (joined i).0.own.knows.setting }) ∙ x.own;
       view = ap (λ (m : Me). m.0.own) joined ∙ x.view;
@@ -62,7 +71,7 @@ one_gathered t items own_seat now rest token after added_first given_first relea
       parts = x.parts ∙ ap (λ l. l ++ x.gone) last ∙ append_assoc rest (seat ∷ []) x.gone;
       are = subst (λ (l : List SemaSeat). AreOfSeats t.setting l (seat ∷ x.gone)) (sym (ap (λ (m : Me). m.0.guests) joined))
           (of_table t s n seat s.me.0.own seen is own refl, x.are);
-      added = let a = x.added in let l = ap (λ (y : SeatModel). y.left) seen in omega (arith, limited);
+      added = let a = x.added in let h = added_is t s n seat limit seen is own limited in omega arith;
       given = let a = x.given in let l = ap (λ (y : SeatModel). y.taken) seen in omega arith;
       few_added = let a = x.few_added in omega arith;
       few_given = let a = x.few_given in let m = is.token_is.most in omega arith;

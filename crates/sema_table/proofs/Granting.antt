@@ -28,7 +28,7 @@ use Rattle.sema_table.specs.declared.view.Record.TheVariants.{Root}
 use Rattle.sema_table.specs.Setting.{root, layout, address}
 use Rattle.running_rows.specs.Owing.{Owes}
 use Rattle.sema_table.specs.Rule.{sight_by, lists_by, IsRecord}
-use Rattle.step_law_semaphores.specs.Balances.{added_by}
+use Rattle.sema_table.specs.Changes.{spent_by}
 use Rattle.step_table.specs.declared.word.Word.TheVariants.{Grant}
 use Rattle.sema_table.specs.declared.view.Setting.{Setting}
 use Rattle.sema_table.specs.Rows.{Me, semaphore_rows}
@@ -38,10 +38,9 @@ use Rattle.sema_table.proofs.Allowing.{owes_grant}
 use Rattle.sema_table.specs.Seats.{Token, TableModel}
 use Rattle.sema_table.proofs.Changing.{has_changed}
 use Rattle.sema_table.specs.Walks.{Walked, Changed, HasRecord, Granted, moved_to, taken_out, sought, granting, grant_of}
-use Rattle.sema_table.proofs.Words.{listed_agree, same_record}
 use Rattle.sema_table.proofs.Leading.{Goes, next_by, led, load_zero, load_some, won, lost}
 use Rattle.sema_table.proofs.Walking.{walked_row, walked_then, ran_from}
-use Rattle.sema_table.proofs.Holding.{record_on}
+use Rattle.sema_table.proofs.Holding.{record_on, record_after}
 
 -- R4
 module _ (s u : Token) (a : Release) (n : ℕ) (at : s.me.0.own.knows.place ≡ Releasing a R4) (r : Ran here s.me.0.own n u.me.0.own)
@@ -128,17 +127,7 @@ module _ (s u : Token) (a : Release) (n : ℕ) (w : WaitId) (tail : List WaitId)
       → IsRecord s.me.0.own.knows.setting (root s.me.0.own.knows.setting a.counter) treap
       (put (lists_by s.me.0.own.knows.setting s.me.0.own.knows.seen) a.counter (drop 1 (lists_by s.me.0.own.knows.setting s.me.0.own.knows.seen a.counter)))
       → HasRecord u a.counter
-  out_record treap slots is = (
-    treap,
-    slots ∙ (λ i. (root (sym out_walk.table_is i).setting a.counter, Root treap) ∷ []),
-    subst (λ (y : TableModel). IsRecord y.setting (root y.setting a.counter) treap (lists_by y.setting u.me.0.own.knows.seen)) (sym out_walk.table_is)
-        (same_record s.me.0.own.knows.setting (root s.me.0.own.knows.setting a.counter) treap
-        (put (lists_by s.me.0.own.knows.setting s.me.0.own.knows.seen) a.counter (drop 1 (lists_by s.me.0.own.knows.setting s.me.0.own.knows.seen a.counter)))
-        (lists_by s.me.0.own.knows.setting u.me.0.own.knows.seen)
-        (λ d e. went.lists d ∙ listed_agree (Tells (Leave a.counter w s.me.0.own.number))
-        ((plain_before (layout s.me.0.own.knows.setting) lowers.stride).lists) (lists_by s.me.0.own.knows.setting s.me.0.own.knows.seen) d (held_lists d e))
-        is),
-  )
+  out_record = record_after s u (Releasing a R5) n a.counter leaves lowers went out_walk.table_is (on_here (root s.me.0.own.knows.setting a.counter) 1)
 
 -- R9 or R10
 module _ (s u : Token) (a : Release) (id : WaitId) (n : ℕ) (r : Ran here s.me.0.own n u.me.0.own) (same : u.table_id ≡ s.table_id) where
@@ -216,7 +205,7 @@ module _ (z : Setting) (slots i : ℕ) (m : Me) (a : Release) where
   Stores units = Owes semaphore_rows z m i (λ _. units) (λ _ t. runs_grant semaphore_rows (step slots i units 0 none) m units t)
 
   pub grants_at : (handed : Bool) (units : ℕ) → units ≡ grant_of handed → m.0.own.knows.place ≡ granting a handed
-      → added_by m.0.own.number m.0.own.knows.seen ≤ 2 ^ 40 → address m.0.own.knows.setting (Grant (waiter m.0.own.number m.0.own.knows.hand)) ≡ i
+      → spent_by m.0.own.number m.0.own.knows.seen ≤ m.0.own.knows.setting.limit → address m.0.own.knows.setting (Grant (waiter m.0.own.number m.0.own.knows.hand)) ≡ i
       → waiter m.0.own.number m.0.own.knows.hand < m.0.own.knows.setting.seats → Stores units
   grants_at true units is at few word there = subst Stores (sym is) (owes_grant z i m (Releasing a R9) at (omega arith) slots 2
       (λ w n known. record { fits = record { word = word; there = there; can = refl; becomes = refl }; apart = refl }))

@@ -20,7 +20,7 @@ use Rattle.step_table.specs.ReleaseMany.{after_leave}
 use Rattle.step_table.specs.Counting.{times}
 use Rattle.step_table.proofs.Sums.{on_here, put_here}
 use Rattle.step_law_semaphores.specs.Lawful.{holds}
-use Rattle.step_law_semaphores.specs.Balances.{added_by}
+use Rattle.sema_table.specs.Changes.{spent_by}
 use Rattle.step_law_semaphores.specs.SemaPath.{SemaSight, plain_before}
 use Rattle.step_law_semaphores.proofs.Promises.{the_law}
 use Rattle.step_law_semaphores.proofs.SemaPaths.{the_sema_paths}
@@ -206,7 +206,7 @@ granted_first s u a n at r same slots = let row = ran_from s u (ReleasingMany a 
 
 -- the store of 1 leads on
 pub grants_first : (z : Setting) (slots i : ℕ) (m : Me) (a : ReleaseMany) → m.0.own.knows.place ≡ ReleasingMany a M7
-    → added_by m.0.own.number m.0.own.knows.seen ≤ 2 ^ 40 → address m.0.own.knows.setting (Grant (waiter m.0.own.number m.0.own.knows.hand)) ≡ i
+    → spent_by m.0.own.number m.0.own.knows.seen ≤ m.0.own.knows.setting.limit → address m.0.own.knows.setting (Grant (waiter m.0.own.number m.0.own.knows.hand)) ≡ i
     → waiter m.0.own.number m.0.own.knows.hand < m.0.own.knows.setting.seats
     → Owes semaphore_rows z m i (λ _. 1) (λ _ t. runs_grant semaphore_rows (step slots i 1 0 none) m 1 t)
 grants_first z slots i m a at few word there = owes_grant z i m (ReleasingMany a M7) at (omega arith) slots 1

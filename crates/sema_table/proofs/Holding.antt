@@ -1,6 +1,6 @@
 -- The record of a root while a seat holds the root's lock.
 use Rattle.std.proofs.Common.{◌≡◌, ℕ, ◌+◌, ◌<◌, Bool, true, false, List, [], ◌∷◌, length, get_or, map, drop, slice_get, Option, Some}
-use Rattle.std.proofs.Common.{None, IsSome, suc, sym}
+use Rattle.std.proofs.Common.{None, IsSome, IsTrue, is_some, if◌then◌else◌, ◌||◌, eqb, suc, sym}
 use Rattle.std.proofs.Common.{refl, ap, ◌∙◌, subst, arith}
 use Rattle.std.proofs.lemmas.List.{map-append}
 use native.Mathlib.Decide.{ℕ_discrete}
@@ -8,16 +8,19 @@ use Rattle.running_rows.specs.Table.{rest}
 use Rattle.running_rows.specs.Lent.{seat_with}
 use Rattle.waiters.specs.declared.wait.Wait.{Wait}
 use Rattle.waiters.specs.declared.wait.WaitId.{WaitId}
+use Rattle.waiters.specs.declared.sought.Sought.TheVariants.{Seat}
+use Rattle.waiters.specs.Lists.{is_sought, first_sought, without_sought}
 use Rattle.step_table.specs.declared.place.Acquire.{Acquire}
 use Rattle.step_table.specs.declared.place.AcquireRow.TheVariants.{A7}
 use Rattle.step_table.specs.declared.place.Place.{Place}
 use Rattle.step_table.specs.declared.place.Place.TheVariants.{Acquiring}
-use Rattle.step_table.specs.World.{SemaWorld, put, insert_wait, lists_after}
+use Rattle.step_table.specs.World.{SemaWorld, put, insert_wait, lists_after, wait_of, stands_in, without}
+use Rattle.step_table.proofs.Withdrawing.{stands_has, length_without}
 use Rattle.step_table.specs.Event.{Next}
 use Rattle.step_table.specs.Counting.{total, on}
 use Rattle.step_table.proofs.Sums.{put_here, put_else, on_here, total_same, total_change, length_insert}
 use Rattle.step_law_semaphores.specs.Lawful.{holds, raises}
-use Rattle.step_law_semaphores.specs.SemaPath.{SemaSight}
+use Rattle.step_law_semaphores.specs.SemaPath.{SemaSight, plain_before}
 use Rattle.step_law_semaphores.proofs.Promises.{the_law}
 use Rattle.step_law_semaphores.proofs.SemaPaths.{the_sema_paths}
 use Rattle.step_law_semaphores.proofs.Raising.{waits_up}
@@ -33,7 +36,7 @@ use Rattle.sema_table.specs.Starts.{begin}
 use Rattle.sema_table.proofs.Striding.{Ran}
 use Rattle.sema_table.specs.Seats.{Token, TableModel, table_of}
 use Rattle.sema_table.specs.Walks.{HasRecord, HasRoom, Edited, lists_of}
-use Rattle.sema_table.proofs.Words.{same_record}
+use Rattle.sema_table.proofs.Words.{listed_agree, same_record}
 use Rattle.sema_table.proofs.Leading.{Goes}
 
 -- a row that leaves the lists leaves the record of a lock that the seat holds
@@ -48,6 +51,22 @@ record_on s t from n c next r g same held still slots h = (
       (same_record s.me.0.own.knows.setting (root s.me.0.own.knows.setting c) h.0 (lists_by s.me.0.own.knows.setting s.me.0.own.knows.seen)
       (lists_by s.me.0.own.knows.setting t.me.0.own.knows.seen)
       (λ q e. g.lists q ∙ still _ q ∙ r.also.held q (ap (λ k. holds (root s.me.0.own.knows.setting) k from) e ∙ held)) h.2),
+)
+
+-- a row that changes the lists leaves a record that was changed so
+pub record_after : (s t : Token) (from : Place) (n c : ℕ) (next : Next) (r : Ran (begin from) s.me.0.own n t.me.0.own)
+    → Goes s.me.0.own r.stride next t.me.0.own → table_of t ≡ table_of s
+    → holds (root s.me.0.own.knows.setting) (root s.me.0.own.knows.setting c) from ≡ 1
+    → (treap : Treap) → t.me.1 ≡ (root s.me.0.own.knows.setting c, Root treap) ∷ []
+    → IsRecord s.me.0.own.knows.setting (root s.me.0.own.knows.setting c) treap (lists_after next.1 (lists_of s)) → HasRecord t c
+record_after s t from n c next r g same held treap slots is = (
+  treap,
+  slots ∙ (λ i. (root (sym same i).setting c, Root treap) ∷ []),
+  subst (λ (y : TableModel). IsRecord y.setting (root y.setting c) treap (lists_by y.setting t.me.0.own.knows.seen)) (sym same)
+      (same_record s.me.0.own.knows.setting (root s.me.0.own.knows.setting c) treap (lists_after next.1 (lists_of s))
+      (lists_by s.me.0.own.knows.setting t.me.0.own.knows.seen)
+      (λ q e. g.lists q ∙ listed_agree next.1 ((plain_before (layout s.me.0.own.knows.setting) r.stride).lists) (lists_of s) q
+      (r.also.held q (ap (λ k. holds (root s.me.0.own.knows.setting) k from) e ∙ held))) is),
 )
 
 -- a committed seat has room
@@ -108,21 +127,14 @@ module _ (z : Setting) (r c : ℕ) (y t : Treap) (l : ℕ → List WaitId) where
           ∙ ap (put l c (insert_wait lifo w.id (l c))) (sym here)
       by q e (no ne) = ap (map (λ (x : Wait). x.id)) (change.elsewhere q ne) ∙ is.waits q e ∙ sym (put_else l c (insert_wait lifo w.id (l c)) q ne)
 
--- the record after its first wait was taken out
-module _ (z : Setting) (r c : ℕ) (y t : Treap) (l : ℕ → List WaitId) where
-  map_rest : (ws : List Wait) → map (λ (x : Wait). x.id) (drop 1 ws) ≡ drop 1 (map (λ (x : Wait). x.id) ws)
-  map_rest [] = refl
-  map_rest (w ∷ ws) = refl
-
-  pub dequeued_record : (w : WaitId) (ws : List WaitId) → l c ≡ w ∷ ws → IsRecord z r y l → root z c ≡ r → c < length z.starts
-      → Changes (queues_of y.tree) (queues_of t.tree) c (drop 1 (waits_on (queues_of y.tree) c))
-      → queues.total (queues_of t.tree) + 1 ≡ queues.total (queues_of y.tree) → t.seats ≡ y.seats → t.tickets ≡ y.tickets
-      → IsRecord z r t (put l c (drop 1 (l c)))
-  dequeued_record w ws first is at inside change count seats undrawn = record {
+-- the record after a wait was taken out
+module _ (z : Setting) (r c : ℕ) (y t : Treap) (l : ℕ → List WaitId) (is : IsRecord z r y l) (at : root z c ≡ r) (inside : c < length z.starts)
+    (count : queues.total (queues_of t.tree) + 1 ≡ queues.total (queues_of y.tree)) (seats : t.seats ≡ y.seats) (undrawn : t.tickets ≡ y.tickets) where
+  shorter_record : (ws : List Wait) (x : List WaitId) → length x + 1 ≡ length (l c) → map (λ (w : Wait). w.id) ws ≡ x
+      → Changes (queues_of y.tree) (queues_of t.tree) c ws → IsRecord z r t (put l c x)
+  shorter_record ws x shorter names change = record {
     waits = λ q e. by q e (ℕ_discrete q c);
-    count = let x : List WaitId = drop 1 (l c) in let shorter : length x + 1 ≡ length (l c) = ap (λ (k : List WaitId). length (drop 1 k) + 1) first
-        ∙ (omega arith) ∙ ap length (sym first) in
-        let changed = total_change (length z.starts) (λ d. on (root z d) r (length (l d))) (λ d. on (root z d) r (length (put l c x d))) c inside
+    count = let changed = total_change (length z.starts) (λ d. on (root z d) r (length (l d))) (λ d. on (root z d) r (length (put l c x d))) c inside
         (λ k ne. ap (λ (y : List WaitId). on (root z k) r (length y)) (put_else l c x k ne)) in
         let here = ap (λ (y : List WaitId). on (root z c) r (length y)) (put_here l c x) in
         let one : on (root z c) r (length x) ≡ length x = ap (λ k. on (root z c) k (length x)) (sym at) ∙ on_here (root z c) (length x) in
@@ -132,11 +144,51 @@ module _ (z : Setting) (r c : ℕ) (y t : Treap) (l : ℕ → List WaitId) where
     drawn = (is.drawn.0, undrawn ∙ is.drawn.1);
   }
     where
-      by : (q : ℕ) → root z q ≡ r → Dec (q ≡ c) → map (λ (x : Wait). x.id) (waits_on (queues_of t.tree) q) ≡ put l c (drop 1 (l c)) q
-      by q e (yes here) = ap (λ k. map (λ (x : Wait). x.id) (waits_on (queues_of t.tree) k)) here ∙ ap (map (λ (x : Wait). x.id)) change.there
-          ∙ map_rest (waits_on (queues_of y.tree) c)
-          ∙ ap (drop 1) (is.waits c at) ∙ sym (put_here l c (drop 1 (l c))) ∙ ap (put l c (drop 1 (l c))) (sym here)
-      by q e (no ne) = ap (map (λ (x : Wait). x.id)) (change.elsewhere q ne) ∙ is.waits q e ∙ sym (put_else l c (drop 1 (l c)) q ne)
+      by : (q : ℕ) → root z q ≡ r → Dec (q ≡ c) → map (λ (w : Wait). w.id) (waits_on (queues_of t.tree) q) ≡ put l c x q
+      by q e (yes here) = ap (λ k. map (λ (w : Wait). w.id) (waits_on (queues_of t.tree) k)) here ∙ ap (map (λ (w : Wait). w.id)) change.there
+          ∙ names ∙ sym (put_here l c x) ∙ ap (put l c x) (sym here)
+      by q e (no ne) = ap (map (λ (w : Wait). w.id)) (change.elsewhere q ne) ∙ is.waits q e ∙ sym (put_else l c x q ne)
+
+  map_rest : (ws : List Wait) → map (λ (x : Wait). x.id) (drop 1 ws) ≡ drop 1 (map (λ (x : Wait). x.id) ws)
+  map_rest [] = refl
+  map_rest (w ∷ ws) = refl
+
+  -- the first
+  pub dequeued_record : (w : WaitId) (ws : List WaitId) → l c ≡ w ∷ ws
+      → Changes (queues_of y.tree) (queues_of t.tree) c (drop 1 (waits_on (queues_of y.tree) c))
+      → IsRecord z r t (put l c (drop 1 (l c)))
+  dequeued_record w ws first = shorter_record (drop 1 (waits_on (queues_of y.tree) c)) (drop 1 (l c))
+      (ap (λ (k : List WaitId). length (drop 1 k) + 1) first ∙ (omega arith) ∙ ap length (sym first))
+      (map_rest (waits_on (queues_of y.tree) c) ∙ ap (drop 1) (is.waits c at))
+
+  map_without : (k : ℕ) (ws : List Wait) → map (λ (x : Wait). x.id) (without_sought (is_sought (Seat k)) ws) ≡ without k (map (λ (x : Wait). x.id) ws)
+  map_without k [] = refl
+  map_without k (w ∷ ws) = by (eqb w.id.seat k) (map_without k ws)
+    where
+      by : (b : Bool) → map (λ (x : Wait). x.id) (without_sought (is_sought (Seat k)) ws) ≡ without k (map (λ (x : Wait). x.id) ws)
+          → map (λ (x : Wait). x.id) (if b then ws else w ∷ without_sought (is_sought (Seat k)) ws)
+          ≡ (if b then map (λ (x : Wait). x.id) ws else w.id ∷ without k (map (λ (x : Wait). x.id) ws))
+      by true rest = refl
+      by false rest = ap (λ (j : List WaitId). w.id ∷ j) rest
+
+  -- that of a seat
+  pub withdrawn_record : (k : ℕ) → IsTrue (stands_in k (l c))
+      → Changes (queues_of y.tree) (queues_of t.tree) c (without_sought (is_sought (Seat k)) (waits_on (queues_of y.tree) c))
+      → IsRecord z r t (put l c (without k (l c)))
+  withdrawn_record k stands = shorter_record (without_sought (is_sought (Seat k)) (waits_on (queues_of y.tree) c)) (without k (l c))
+      (let o = stands_has k (l c) stands in subst (λ i. length (without i (l c)) + 1 ≡ length (l c)) o.2
+      (length_without o.0 (l c) (subst (λ i. wait_of i (l c) ≡ Some o.0) (sym o.2) o.1)))
+      (map_without k (waits_on (queues_of y.tree) c) ∙ ap (without k) (is.waits c at))
+
+-- a wait of the seat is sought in a list of waits, and in that of their names
+pub found_stands : (k : ℕ) (ws : List Wait) → is_some (first_sought (is_sought (Seat k)) ws) ≡ stands_in k (map (λ (x : Wait). x.id) ws)
+found_stands k [] = refl
+found_stands k (w ∷ ws) = by (eqb w.id.seat k) (found_stands k ws)
+  where
+    by : (b : Bool) → is_some (first_sought (is_sought (Seat k)) ws) ≡ stands_in k (map (λ (x : Wait). x.id) ws)
+        → is_some (if b then Some w else first_sought (is_sought (Seat k)) ws) ≡ (b || stands_in k (map (λ (x : Wait). x.id) ws))
+    by true rest = refl
+    by false rest = rest
 
 pub first_is : (ws : List Wait) (w : Wait) → slice_get ws 0 ≡ Some w → ws ≡ w ∷ drop 1 ws
 first_is [] w e = absurd (cc)

@@ -20,7 +20,7 @@ use Rattle.step_table.proofs.Paths.{meets_sight}
 use Rattle.step_table.proofs.Sums.{put_here, put_at, on_here, on_else, total_has, total_same}
 use Rattle.step_law_semaphores.specs.Lawful.{holds, IsLawfulWorld}
 use Rattle.step_law_semaphores.specs.Invariant.{IsInvariant}
-use Rattle.step_law_semaphores.specs.Balances.{added_by}
+use Rattle.sema_table.specs.Changes.{spent_by}
 use Rattle.step_law_semaphores.specs.Bounds.{IsSmall}
 use Rattle.step_law_semaphores.specs.Served.{carries, served, gains}
 use Rattle.step_law_semaphores.specs.SemaPath.{SemaSight, semaphores, row_stride, plain_before}
@@ -38,7 +38,7 @@ use Rattle.sema_table.specs.Starts.{begin}
 use Rattle.sema_table.proofs.Words.{written_word, inside, lists_unwritten, same_record}
 use Rattle.sema_table.specs.Places.{Begins}
 use Rattle.sema_table.proofs.Beginning.{begun, begins_holds, begins_carries}
-use Rattle.sema_table.proofs.Adding.{adding, step_adds, own_adds}
+use Rattle.sema_table.proofs.Spending.{spending, spent_own, own_seen, step_spends}
 use Rattle.sema_table.proofs.Bounding.{taken_most, changes_most}
 use Rattle.sema_table.proofs.Resting.{free_counted}
 use Rattle.sema_table.proofs.Striding.{Ran}
@@ -53,7 +53,7 @@ pub record Fits (z : Setting) (e : Event) (i n x : ℕ) : Type 0 where
 -- what is known where a row of the seat k runs: a reached world, which the seat may meet, in which the word i has the number n
 pub record Ready (k : ℕ) (v : Known) (b : SemaWorld) (i n : ℕ) : Type 0 where
   pub reached : IsReached (layout v.setting) b
-  pub small : IsSmall (layout v.setting) b
+  pub small : IsSmall (layout v.setting) v.setting.limit b
   pub knows : Knows v.setting k v b
   pub there : k < v.setting.seats
   pub word : (w : Word) → IsThere v.setting w → address v.setting w ≡ i → n ≡ found (root v.setting) b.words w
@@ -61,7 +61,7 @@ pub record Ready (k : ℕ) (v : Known) (b : SemaWorld) (i n : ℕ) : Type 0 wher
   pub rooted : 0 < v.setting.roots
 
 module _ (u : SemaSeat) (world : SemaWorld) (words : List ℕ) (homes : Homes) (i : ℕ) (st : Stands semaphore_rows u.knows.setting u world words homes i)
-    (p : Place) (ok : Begins (length u.knows.setting.starts) u.knows.place p) (bound : added_by u.number u.knows.seen + adding p ≤ 2 ^ 40) where
+    (p : Place) (ok : Begins (length u.knows.setting.starts) u.knows.place p) (bound : spent_by u.number u.knows.seen + spending p ≤ u.knows.setting.limit) where
   abbrev v : Known
   v = u.knows
 
@@ -89,8 +89,8 @@ module _ (u : SemaSeat) (world : SemaWorld) (words : List ℕ) (homes : Homes) (
   reached : IsReached m b
   reached = begun m id (IsReached m) (λ s t step q. more id st.there q step) world v.place p stands ok shown.reached
 
-  small : IsSmall m b
-  small = record { seats = shown.small.seats; starts = shown.small.starts; few = shown.small.few }
+  small : IsSmall m u.knows.setting.limit b
+  small = record { seats = shown.small.seats; starts = shown.small.starts; shares = shown.small.shares; few = shown.small.few }
 
   -- the choice of a place serves nobody
   begun_served : (k : ℕ) → served m b k ≡ served m world k
@@ -162,18 +162,19 @@ module _ (u : SemaSeat) (world : SemaWorld) (words : List ℕ) (homes : Homes) (
     here_is : (b.seats id).place ≡ p
     here_is = ap (λ (y : SeatState). y.place) (put_here world.seats id (record (world.seats id) { place = p }))
 
-    adds : (added_by id t.journal ≤ added_by id b.journal + adding (b.seats id).place)
-        × ((k : ℕ) → k ≢ id → added_by k t.journal ≡ added_by k b.journal)
-    adds = step_adds m b t id st.there invariant step
+    spends : (spent_by id t.journal ≤ spent_by id b.journal + spending (b.seats id).place)
+        × ((k : ℕ) → k ≢ id → spent_by k t.journal ≡ spent_by k b.journal)
+    spends = step_spends m b t id st.there invariant step
 
-    small_after : IsSmall m t
+    small_after : IsSmall m u.knows.setting.limit t
     small_after = record {
       seats = shown.small.seats;
       starts = shown.small.starts;
+      shares = shown.small.shares;
       few = λ k h. dite (ℕ_discrete k id)
-          (λ q. subst (λ y. added_by y t.journal ≤ 2 ^ 40) (sym q) (let a = adds.0 in let c = ap adding here_is in
-          let o = own_adds m world id (sight_by v) viewed.meets in omega arith))
-          (λ ne. let a = adds.1 k ne in let c = shown.small.few k h in omega arith);
+          (λ q. subst (λ y. spent_by y t.journal ≤ u.knows.setting.limit) (sym q) (let a = spends.0 in let c = ap spending here_is in
+          let o = own_seen spent_by spent_own m world id (sight_by v) viewed.meets in omega arith))
+          (λ ne. let a = spends.1 k ne in let c = shown.small.few k h in omega arith);
     }
 
     -- the lists of a root whose lock this seat doesn't hold stay
@@ -220,7 +221,7 @@ module _ (u : SemaSeat) (world : SemaWorld) (words : List ℕ) (homes : Homes) (
     came = let a = the_accounts.counted m b t id st.there invariant step id in
         let o = on_here id (gains (b.seats id).place (t.seats id).place) in let k = knows.takes in omega arith
 
-    came_most : after.knows.taken ≤ 2 ^ 49
+    came_most : after.knows.taken ≤ 2 ^ 62 + 2 ^ 48
     came_most = let a = taken_most z id t reached_after small_after shown.counted st.there in omega (arith, came)
 
     pub knows_after : Knows z id after.knows t
@@ -268,7 +269,7 @@ module _ (u : SemaSeat) (world : SemaWorld) (words : List ℕ) (homes : Homes) (
           most = came_most;
           counted = free_counted z id after.knows t reached_after st.there refl refl came;
           held = λ c h. ap (λ y. y.lists c) (sym lawful.journal.0) ∙ sym (knows.held c h);
-          few = (the_accounts.unwrapped m t reached_after small_after).turns id st.there;
+          few = (the_accounts.unwrapped m u.knows.setting.limit t reached_after small_after).turns id st.there;
           settles = changes_most z t reached_after small_after;
           there = st.there;
         };

@@ -1,24 +1,29 @@
 -- Where a row that ran leads its seat, by what the table says of it.
 use prog.Atomic.{either}
-use Rattle.std.proofs.Common.{◌≡◌, ◌≢◌, ℕ, zero, suc, ◌-◌, ◌+◌, ◌<◌, ◌==◌, cond, Bool, true, false, List, [], ◌∷◌, ◌++◌}
-use Rattle.std.proofs.Common.{refl, ap, ◌∙◌, subst, arith, eq-eqb}
+use Rattle.std.proofs.Common.{◌≡◌, ◌≢◌, ℕ, zero, suc, ◌-◌, ◌+◌, ◌<◌, ◌==◌, cond, Bool, true, false, List}
+use Rattle.std.proofs.Common.{refl, sym, ap, ◌∙◌, subst, arith, eq-eqb}
 use Rattle.std.proofs.Common.{ne_eqb}
-use Rattle.step_table.specs.declared.effect.Effect.{Effect}
-use Rattle.step_table.specs.declared.effect.Effect.TheVariants.{Nothing, Tells, Wakes}
-use Rattle.step_table.specs.declared.entry.Entry.{Entry}
+use Rattle.waiters.specs.declared.wait.WaitId.{WaitId}
+use Rattle.step_table.specs.declared.effect.Effect.TheVariants.{Nothing}
+use Rattle.step_table.specs.declared.word.Word.{Word}
 use Rattle.step_table.specs.declared.place.Place.{Place}
-use Rattle.step_table.specs.Event.{Next, zero_or}
+use Rattle.step_table.specs.Event.{Event, Next, zero_or}
 use Rattle.step_table.specs.Table.{table}
-use Rattle.step_table.specs.World.{seat_after, lists_after}
-use Rattle.step_table.specs.Journal.{Plain, replay, plain_start, effect_of}
-use Rattle.step_table.proofs.Paths.{stride_told}
-use Rattle.step_law_semaphores.specs.SemaPath.{SemaSight, SemaStride, RanSemaRow, SemaDid, plain_before, row_next, entries_of, semaphores}
+use Rattle.step_table.specs.World.{Layout, SemaWorld, seat_after, lists_after}
+use Rattle.step_table.specs.Steps.{IsReached, turn, event_of, finds, turned}
+use Rattle.step_table.specs.Turn.{more}
+use Rattle.step_table.specs.Path.{Deed, runs, RanRow, Did}
+use Rattle.step_table.specs.Journal.{Plain, replay, plain_start}
+use Rattle.step_law_semaphores.specs.SemaPath.{SemaSight, SemaStride, SemaRan, RanSemaRow, SemaDid, plain_before, row_next, entries_of, semaphores}
+use Rattle.step_law_semaphores.proofs.Promises.{the_law}
 use Rattle.step_law_semaphores.proofs.SemaPaths.{the_sema_paths}
 use Rattle.sema_table.specs.Setting.{layout}
 use Rattle.sema_table.specs.Rule.{stands_by, sight_by, lists_by}
 use Rattle.sema_table.specs.Rows.{SemaSeat}
 use Rattle.sema_table.specs.Starts.{begin}
 use Rattle.sema_table.proofs.Striding.{Ran}
+use Rattle.sema_table.proofs.Tellers.{plain_there, stood_there}
+use Rattle.sema_table.proofs.Words.{lists_unwritten}
 
 -- the stride led from u to w, and went on so
 pub record Goes (u : SemaSeat) (p : SemaStride) (next : Next) (w : SemaSeat) : Type 0 where
@@ -26,14 +31,31 @@ pub record Goes (u : SemaSeat) (p : SemaStride) (next : Next) (w : SemaSeat) : T
   pub told : p.told ≡ entries_of next.1
   pub lists : (c : ℕ) → lists_by u.knows.setting w.knows.seen c ≡ lists_after next.1 (plain_before (layout u.knows.setting) p).lists c
 
-replay_append : (x : Plain) (a b : List Entry) → replay x (a ++ b) ≡ replay (replay x a) b
-replay_append x [] b = refl
-replay_append x (e ∷ a) b = replay_append (effect_of e x) a b
+-- the lists that a row leaves are those of the world that it leads to, whose journal tells them
+module _ (m : Layout) (i : ℕ) (v w : SemaSight) (p : SemaStride) (ran : SemaRan m i v p w) (there : i < m.seats) (row : p.deed ≡ runs) where
+  abbrev world : SemaWorld
+  world = ran.world
 
-lists_told : (x : Plain) (effect : Effect) → (replay x (entries_of effect)).lists ≡ lists_after effect x.lists
-lists_told x (Tells e) = refl
-lists_told x Nothing = refl
-lists_told x Wakes = refl
+  abbrev event : Event
+  event = event_of ran.world i
+
+  did : RanRow (semaphores m) world i p.read p.told w
+  did = subst (λ (d : Deed Word). Did (semaphores m) world i d p.read p.told w) row ran.did
+
+  reached : IsReached m (turned m.root world i)
+  reached = more i there ran.meets.met (turn (record { can = did.can; is = refl }))
+
+  next_is : row_next m i p ≡ event.leads (finds m.root world i)
+  next_is = λ j. (table i (stood_there m i v w p ran j) (plain_there m i v w p ran j).lists).leads (did.read_is j)
+
+  lists_left : (c : ℕ) → (replay (plain_start m.starts) w.seen).lists c ≡ lists_after (row_next m i p).1 (plain_before m p).lists c
+  lists_left c =
+      let lawful = the_law.reached m (turned m.root world i) reached in
+      ap (λ (z : SemaSight). (replay (plain_start m.starts) z.seen).lists c) did.leads ∙ ap (λ (x : Plain). x.lists c) (sym lawful.journal.0)
+      ∙ ap (λ (l : ℕ → List WaitId). lists_after (event.leads (finds m.root world i)).1 l c)
+      (lists_unwritten m.root world.words event.word (event.becomes (finds m.root world i))
+      ∙ ap (λ (x : Plain). x.lists) (sym (plain_there m i v w p ran)))
+      ∙ ap (λ (x : Next). lists_after x.1 (plain_before m p).lists c) (sym next_is)
 
 -- what follows the row at this place
 abbrev pub next_by : SemaSeat → Place → SemaStride → ℕ → Next
@@ -45,13 +67,11 @@ led u w place n r =
     let row : RanSemaRow m u.number p (sight_by w.knows) = subst (SemaDid m u.number p (sight_by w.knows)) r.did
     (the_sema_paths.does m u.number from (sight_by w.knows) p r.ran) in
     let same : row_next m u.number p ≡ next_by u place p n = λ i. (table u.number (r.ran.stood i) (plain_before m p).lists).leads (r.read i) in
-    let told : p.told ≡ entries_of (next_by u place p n).1 = row.told ∙ ap (λ (x : Next). entries_of x.1) same in record {
+    record {
       stands = row.leads ∙ (λ i. seat_after (same i).1 (same i).0 (r.ran.stood i));
-      told = told;
-      lists = λ c. ap (λ j. lists_by u.knows.setting j c) (stride_told (semaphores m) u.number from (sight_by w.knows) p r.ran)
-          ∙ ap (λ (x : Plain). x.lists c) (replay_append (plain_start m.starts) p.seen p.told)
-          ∙ ap (λ j. (replay (plain_before m p) j).lists c) told
-          ∙ ap (λ l. l c) (lists_told (plain_before m p) (next_by u place p n).1);
+      told = row.told ∙ ap (λ (x : Next). entries_of x.1) same;
+      lists = λ c. lists_left m u.number from (sight_by w.knows) p r.ran r.also.there r.did c
+          ∙ ap (λ (x : Next). lists_after x.1 (plain_before m p).lists c) same;
     }
 
 at_some : (n : ℕ) (a : Place) (b : ℕ → Place) → 0 < n → zero_or a b n ≡ b (n - 1)

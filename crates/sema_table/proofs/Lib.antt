@@ -1,7 +1,7 @@
 pub mod Words
 pub mod Owned
 pub mod Beginning
-pub mod Adding
+pub mod Spending
 pub mod Bounding
 pub mod Resting
 pub mod Striding
@@ -28,6 +28,7 @@ pub mod Entering
 pub mod Retrying
 pub mod Granting
 pub mod Wakening
+pub mod Leaving
 pub mod GrantingMany
 pub mod PickingMany
 pub mod WakeningMany
@@ -36,7 +37,7 @@ pub mod Reckoning
 pub mod Gathering
 pub mod LookingTogether
 pub mod Lawful
-mod After
+pub mod After
 mod Trial
 mod Tellers
 mod Finding
@@ -45,9 +46,11 @@ mod CallerTries
 mod CallerPosts
 mod CallerWakes
 mod CallerPolls
+mod CallerLeaves
 mod CallerEnters
 mod CallerRetries
 mod CallerAcquires
+mod CallerTimed
 mod CallerLooksMany
 mod CallerWakesMany
 mod CallerEnds

@@ -87,14 +87,14 @@ module _ (z : Setting) where
   }
 
   -- words as they are made are those of the first world, and the roots are empty
-  pub opens : 0 < z.roots → 0 < z.seats → z.seats ≤ 256 → length z.starts ≤ 65536 → All (λ n. n < 2 ^ 32) z.starts
+  pub opens : 0 < z.roots → 0 < z.seats → z.seats ≤ 65536 → z.seats * z.limit ≤ 2 ^ 62 → length z.starts ≤ 65536 → All (λ n. n < 2 ^ 32) z.starts
       → Opens semaphore_rows z (apart z.starts ++ replicate (z.roots + z.roots + z.seats + z.seats + z.seats + z.roots) 0)
       (map some (new_roots z.seats z.seed z.roots))
-  opens rooted seated most counted starts = record {
+  opens rooted seated most shares counted starts = record {
     world = first;
     shows = record {
       reached = none;
-      small = record { seats = most; starts = small_starts z.starts starts; few = λ k h. omega arith };
+      small = record { seats = most; starts = small_starts z.starts starts; shares = shares; few = λ k h. omega arith };
       words = first_words z (z.roots + z.roots + z.seats + z.seats + z.seats + z.roots);
       homes = λ r h free. (
         _,

@@ -13,7 +13,7 @@ use Rattle.step_table.specs.declared.place.Place.TheVariants.{ReleasingMany}
 use Rattle.step_table.specs.World.{SeatState}
 use Rattle.step_table.specs.Event.{by_first}
 use Rattle.step_table.specs.Counting.{counter_at}
-use Rattle.step_law_semaphores.specs.Balances.{added_by}
+use Rattle.sema_table.specs.Changes.{spent_by}
 use Rattle.step_law_semaphores.specs.SemaPath.{SemaPath, placed}
 use Rattle.sema_table.specs.Rows.{SemaView}
 use Rattle.sema_table.specs.Setting.{layout}
@@ -27,10 +27,10 @@ use Rattle.sema_table.proofs.Resting.{not_both}
 use Rattle.sema_table.proofs.Walking.{walked_on, walked_yet, stands_on}
 use Rattle.sema_table.proofs.GrantingMany.{picks, neither}
 
--- waits that leave add nothing
-pub leaves_add : (k i : ℕ) (a : ReleaseMany) (waits : List WaitId) → added_by k (leaves i a waits) ≡ 0
-leaves_add k i a [] = refl
-leaves_add k i a (w ∷ waits) = leaves_add k i a waits
+-- who takes waits out spends nothing
+pub leaves_spend : (k i : ℕ) (a : ReleaseMany) (waits : List WaitId) → spent_by k (leaves i a waits) ≡ 0
+leaves_spend k i a [] = refl
+leaves_spend k i a (w ∷ waits) = leaves_spend k i a waits
 
 busy_either : (a : ReleaseMany) (b : Bool) → is_free (if b then ReleasingMany a M5 else ReleasingMany a M6) ≡ false
 busy_either a true = refl
@@ -109,7 +109,7 @@ pub stands_picking : (z : TableModel) (s t : Token) (a : ReleaseMany) → Stands
     → Walked s (picking s a) t (with_hand s (picking t a) t.me.0.own.knows.hand) (leaves s.me.0.own.number a t.me.0.own.knows.hand) 0
     → Stands z t (picking t a)
 stands_picking z s t a stands x = stands_on z s t (picking s a) (with_hand s (picking t a) t.me.0.own.knows.hand)
-    (leaves s.me.0.own.number a t.me.0.own.knows.hand) 0 stands x (leaves_add s.me.0.own.number s.me.0.own.number a t.me.0.own.knows.hand)
+    (leaves s.me.0.own.number a t.me.0.own.knows.hand) 0 stands x (leaves_spend s.me.0.own.number s.me.0.own.number a t.me.0.own.knows.hand)
     (picking_counter t a ∙ sym (picking_counter s a))
 
 -- all were taken out that can be
@@ -135,9 +135,9 @@ same_after s t u from b told j busy same view x = record {
   table_is = (λ i. record { id = same i; setting = (view i).own.knows.setting }) ∙ x.table_is;
   number_is = ap (λ (v : SemaView). v.own.number) view ∙ x.number_is;
   stands_is = ap (λ (v : SemaView). stands_by v.own.knows) view ∙ x.stands_is;
-  few = subst (λ (v : SemaView). v.own.knows.turn ≤ 2 ^ 48 + 256) (sym view) x.few;
+  few = subst (λ (v : SemaView). v.own.knows.turn ≤ 2 ^ 62 + 2 ^ 16) (sym view) x.few;
   came = ap (λ (v : SemaView). v.own.knows.taken) view ∙ x.came;
-  most = subst (λ (v : SemaView). v.own.knows.taken ≤ 2 ^ 49) (sym view) x.most;
+  most = subst (λ (v : SemaView). v.own.knows.taken ≤ 2 ^ 62 + 2 ^ 48) (sym view) x.most;
   counted = λ free. not_both (is_free b.place) busy free;
   strides = x.strides;
   each = x.each;

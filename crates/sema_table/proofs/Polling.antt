@@ -2,7 +2,8 @@
 use Rattle.std.proofs.Common.{◌≡◌, ◌≢◌, ℕ, ◌+◌, ◌<◌, ◌≤◌, ◌==◌, cond, Bool, [], ◌∷◌, ◌++◌, length, sym, refl, ap}
 use Rattle.std.proofs.Common.{◌∙◌, subst, arith, eq-eqb, ne_eqb, append-nil}
 use Rattle.step_table.specs.declared.place.Acquire.{Acquire}
-use Rattle.step_table.specs.declared.place.AcquireRow.TheVariants.{P, A10}
+use Rattle.step_table.specs.declared.place.AcquireRow.TheVariants.{Parked, A10}
+use Rattle.step_table.specs.declared.place.ParkedRow.TheVariants.{P}
 use Rattle.step_table.specs.declared.place.Place.{Place}
 use Rattle.step_table.specs.declared.place.Place.TheVariants.{Rest, Acquiring}
 use Rattle.step_table.specs.declared.word.Word.{Word}
@@ -37,7 +38,7 @@ use Rattle.sema_table.proofs.Trying.{looked_token, looked_stays, looked_table, l
 module _ (s t : Token) (n : Numbers) (a : Acquire) (turn k : ℕ) (seat : IsSleeping s n a turn)
     (same : t.table_id ≡ s.table_id) (bare : t.me.1 ≡ s.me.1) where
   abbrev parked : Place
-  parked = Acquiring a (P turn)
+  parked = Acquiring a (Parked turn P)
 
   -- nothing was granted
   pub still_seat : Strode here (looks (Grant s.me.0.own.number)) s.me.0.own k t.me.0.own → IsSleeping t n a turn
@@ -102,7 +103,7 @@ module _ (s t : Token) (n : Numbers) (a : Acquire) (turn k : ℕ) (seat : IsSlee
     pub woken_seat : k ≡ 1 → IsWoken t n a
     woken_seat e = let x = woken_walk e in record {
       token_is = token_after s t parked (moved_to s (Acquiring a A10)) [] 0 n n seat.token_is x (bare ∙ seat.token_is.bare) seat.token_is.empty
-          seat.token_is.turns_are (omega arith) refl (omega arith);
+          seat.token_is.turns_are (omega arith) (omega arith) refl (omega arith);
       inside = subst (λ (y : TableModel). a.counter < length y.setting.starts) (sym x.table_is) seat.inside;
       at = ap (λ (q : SeatState). q.place) x.stands_is;
     }
@@ -125,7 +126,7 @@ module _ (s t : Token) (n : Numbers) (a : Acquire) (turn k : ℕ) (seat : IsSlee
     pub handed_seat : k ≢ 1 → IsSeat t counted
     handed_seat ne = let x = handed_walk ne in record {
       token_is = token_after s t parked (moved_to s Rest) [] 1 n counted seat.token_is x (bare ∙ seat.token_is.bare) seat.token_is.empty
-          seat.token_is.turns_are (omega arith) refl refl;
+          seat.token_is.turns_are (omega arith) (omega arith) refl refl;
       free = ap (λ (q : SeatState). is_free q.place) x.stands_is;
       counted = x.counted refl;
     }
@@ -139,7 +140,7 @@ module _ (s t : Token) (n : Numbers) (a : Acquire) (turn k : ℕ) (seat : IsSlee
         ∙ ap (λ l. row.stride.seen ++ l) told ∙ append-nil row.stride.seen ∙ row.ran.seen in
         let unit : HasItsUnit a.counter (wait s.me.0.own.number turn) world.journal
         = (the_law.reached (layout s.me.0.own.knows.setting) world row.ran.meets.met).grants.1 s.me.0.own.number a.counter turn row.also.there
-        (a, refl, ap (λ (y : SeatState). y.place) stood) (sym granted ∙ two) in (
+        (a, refl, P, ap (λ (y : SeatState). y.place) stood) (sym granted ∙ two) in (
           (λ i. record {
             table = x.table_is i;
             number = n.seat;

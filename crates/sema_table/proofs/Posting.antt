@@ -68,7 +68,7 @@ module _ (s t u : Token) (n : Numbers) (c k found : ℕ) (seat : IsSeat s n) (so
   pub done_seat : found ≡ 0 → IsSeat u fewer
   done_seat e = let x = done_walk e in let o = on_here s.me.0.own.number 1 in record {
     token_is = token_after s u (releasing c R1) (moved_to t Rest) (Add c s.me.0.own.number ∷ []) 0 n fewer seat.token_is x bare_after hand_is
-        turns_stay (omega arith) refl (omega arith);
+        turns_stay (omega arith) (omega arith) refl (omega arith);
     free = ap (λ (q : SeatState). is_free q.place) x.stands_is;
     counted = x.counted refl;
   }
@@ -76,7 +76,7 @@ module _ (s t u : Token) (n : Numbers) (c k found : ℕ) (seat : IsSeat s n) (so
   pub owing_seat : 0 < found → c < length s.me.0.own.knows.setting.starts → IsOwing u fewer c
   owing_seat h inside = let x = owes_walk h in let o = on_here s.me.0.own.number 1 in record {
     token_is = token_after s u (releasing c R1) (moved_to t (releasing c R3)) (Add c s.me.0.own.number ∷ []) 0 n fewer seat.token_is x bare_after hand_is
-        turns_stay (omega arith) refl (omega arith);
+        turns_stay (omega arith) (omega arith) refl (omega arith);
     inside = subst (λ (y : TableModel). c < length y.setting.starts) (sym x.table_is) inside;
     at = ap (λ (q : SeatState). q.place) x.stands_is;
   }

@@ -74,7 +74,7 @@ module _ (s t u : Token) (n : Numbers) (a : ReleaseMany) (k found : ℕ) (seat :
   pub done_seat : found ≡ 0 → IsSeat u fewer
   done_seat e = let x = done_walk e in let o = on_here s.me.0.own.number a.units in record {
     token_is = token_after s u (ReleasingMany a M1) (moved_to t Rest) (AddMany a.counter a.units s.me.0.own.number ∷ []) 0 n fewer seat.token_is x bare_after
-        hand_is turns_stay (omega arith) refl (omega arith);
+        hand_is turns_stay (omega arith) (omega arith) refl (omega arith);
     free = ap (λ (q : SeatState). is_free q.place) x.stands_is;
     counted = x.counted refl;
   }
@@ -83,7 +83,7 @@ module _ (s t u : Token) (n : Numbers) (a : ReleaseMany) (k found : ℕ) (seat :
   owing_seat h inside units = let x = owes_walk h in let o = on_here s.me.0.own.number a.units in record {
     midway = record {
       token_is = token_after s u (ReleasingMany a M1) (moved_to t (ReleasingMany a M3)) (AddMany a.counter a.units s.me.0.own.number ∷ [])
-          0 n fewer seat.token_is x bare_after hand_is turns_stay (omega arith) refl (omega arith);
+          0 n fewer seat.token_is x bare_after hand_is turns_stay (omega arith) (omega arith) refl (omega arith);
       inside = subst (λ (y : TableModel). a.counter < length y.setting.starts) (sym x.table_is) inside;
       at = ap (λ (q : SeatState). q.place) x.stands_is;
     };

@@ -1,5 +1,5 @@
 -- Where one view has every seat of the table, and all may begin a call, the counts add up and nothing is left.
-use Rattle.std.proofs.Common.{◌≡◌, ◌≢◌, ◌⊎◌, ℕ, zero, suc, true, ◌+◌, ◌*◌, ◌-◌, ◌<◌, ◌≤◌, List, [], ◌∷◌, length}
+use Rattle.std.proofs.Common.{◌^◌, ◌≡◌, ◌≢◌, ℕ, zero, suc, true, ◌+◌, ◌*◌, ◌<◌, ◌≤◌, List, [], ◌∷◌, length}
 use Rattle.std.proofs.Common.{slice_index, sym, refl, ap, ◌∙◌, subst, inl}
 use Rattle.std.proofs.Common.{inr, arith}
 use mathlib.Core.Logic.{dite}
@@ -36,8 +36,10 @@ use Rattle.sema_table.specs.Places.{is_free}
 use Rattle.sema_table.specs.Rule.{sight_by}
 use Rattle.sema_table.specs.Seats.{Token, SeatModel, seat_of, IsSeat}
 use Rattle.sema_table.specs.Closing.{sum_by, has_added, was_given, IsOfSeat, AreOfSeats, IsClosed}
-use Rattle.sema_table.proofs.Adding.{own_adds}
+use Rattle.sema_table.proofs.Bounding.{all_taken_most}
+use Rattle.sema_table.proofs.Spending.{added_own, own_seen}
 use Rattle.sema_table.proofs.Beginning.{begun}
+use Rattle.sema_table.proofs.Resting.{not_both}
 
 abbrev sum_over : (ℕ → ℕ) → List SemaSeat → ℕ
 sum_over f [] = 0
@@ -99,7 +101,7 @@ module _ (n : ℕ) (gs : List SemaSeat) (apart : AreApart gs) (low : (g : SemaSe
 
 pub seat_is : (t : Token) (n : Numbers) → IsSeat t n → IsOfSeat t.me.0.own.knows.setting t.me.0.own (seat_of t n)
 seat_is t n is =
-    record { number_is = is.token_is.number_is; free = is.free; given = is.token_is.taken_is; left = is.token_is.left_is; seen = refl; went = refl }
+    record { number_is = is.token_is.number_is; free = is.free; given = is.token_is.taken_is; seen = refl; went = refl }
 
 long : (z : Setting) (gs : List SemaSeat) (ss : List SeatModel) → AreOfSeats z gs ss → length gs ≡ length ss
 long z [] [] are = refl
@@ -164,13 +166,7 @@ all_rest m was reached free (suc n) low =
     }
 
 free_unparked : (p : Place) (k c turn : ℕ) (w : SemaWorld) → (w.seats k).place ≡ p → is_free p ≡ true → IsParked w k c turn → ⊥
-free_unparked p k c turn w at free parked = not_free (sym parked.2 ∙ at) free
-  where
-    not_free : {q : Place} → Acquiring parked.0 (Rattle.step_table.specs.declared.place.AcquireRow.TheVariants.P turn) ≡ q → is_free q ≡ true → ⊥
-    not_free e f = absurd (clash (ap is_free e ∙ f))
-      where
-        clash : Rattle.std.proofs.Common.false ≡ true → ⊥
-        clash e = cc
+free_unparked p k c turn w at free parked = not_both (is_free p) (ap is_free (sym at ∙ parked.3)) free
 
 module _ (z : Setting) (s : State Record SemaView) (r : IsKept semaphore_rows z s) (id : ℕ) (v : SemaView) (someones : IsSomeones semaphore_rows v)
     (at : get_elem? s.views id ≡ some v) (seats : List SeatModel) (are : AreOfSeats z (v.own ∷ v.guests) seats) (full : length seats ≡ z.seats) where
@@ -227,10 +223,13 @@ module _ (z : Setting) (s : State Record SemaView) (r : IsKept semaphore_rows z 
       (λ g t e is. let o = sits g e in let a = o.knows.takes in let b = unserved g.number (low g e) in let c = is.given in omega arith))
       ∙ sum_all z.seats all apart low count (λ k. takes k r.world.journal) ∙ sym (the_accounts.taken m r.world r.shows.reached)
 
-  added_all : sum_by (has_added z.limit) seats ≡ added r.world.journal
+  pub given_few : sum_by was_given seats ≤ 2 ^ 62 + 2 ^ 48
+  given_few = let a = given_all in let b = all_taken_most z r.world r.shows.reached r.shows.small r.shows.counted in omega arith
+
+  added_all : sum_by has_added seats ≡ added r.world.journal
   added_all =
-      sym (sum_is z (λ k. added_by k r.world.journal) (has_added z.limit) all seats are
-      (λ g t e is. let o = own_adds m r.world g.number (sight_by g.knows) (sits g e).knows.meets in let l = is.left in omega arith))
+      sym (sum_is z (λ k. added_by k r.world.journal) has_added all seats are
+      (λ g t e is. let o = own_seen added_by added_own m r.world g.number (sight_by g.knows) (sits g e).knows.meets in o ∙ (λ i. added_by (is.number_is i) (is.seen i))))
       ∙ sum_all z.seats all apart low count (λ k. added_by k r.world.journal) ∙ sym (the_accounts.added m r.world r.shows.reached)
 
   lawful : IsLawfulWorld m r.world
@@ -240,14 +239,14 @@ module _ (z : Setting) (s : State Record SemaView) (r : IsKept semaphore_rows z 
   value_is k h = r.shows.words (Counter k) h
 
   balance : total (length z.starts) (λ k. slice_index s.words (8 * k)) + sum_by was_given seats ≡ total (length z.starts)
-      (layout z).starts + sum_by (has_added z.limit) seats
+      (layout z).starts + sum_by has_added seats
   balance = let a = the_accounts.balanced_in_all m r.world r.shows.reached in
       let b = total_same (length z.starts) (λ k. slice_index s.words (8 * k)) r.world.words.numbers value_is in
       let c = given_all in let d = added_all in omega arith
 
   pub is_closed : (values : List ℕ) → length values ≡ length z.starts
       → ((k : ℕ) → k < length z.starts → slice_index values k ≡ slice_index s.words (8 * k))
-      → IsClosed z seats (record { values = values; releases = sum_by (has_added z.limit) seats; acquires = sum_by was_given seats })
+      → IsClosed z seats (record { values = values; releases = sum_by has_added seats; acquires = sum_by was_given seats })
   is_closed values long_values same = record {
     long = long_values;
     world = rested.world;

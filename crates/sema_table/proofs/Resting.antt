@@ -26,4 +26,4 @@ free_counted z k w t reached there at seen all free = ap (takes k) (sym seen) �
     none_served = dite (ℕ_discrete (served (layout z) t k) 0)
         (λ e. e)
         (λ ne. let parked = (the_accounts.served (layout z) t (the_law.invariant (layout z) t reached) k there).1 (omega (arith, ne)) in
-        not_both (is_free w.place) (ap is_free (sym at ∙ parked.2.2)) free)
+        not_both (is_free w.place) (ap is_free (sym at ∙ parked.2.3)) free)

@@ -4,7 +4,8 @@ use Rattle.step_table.specs.declared.effect.Effect.TheVariants.{Nothing, Tells}
 use Rattle.step_table.specs.declared.entry.Entry.{Entry}
 use Rattle.step_table.specs.declared.entry.Entry.TheVariants.{Take, Queue}
 use Rattle.step_table.specs.declared.place.Acquire.{Acquire}
-use Rattle.step_table.specs.declared.place.AcquireRow.TheVariants.{A3, A10, A11, P}
+use Rattle.step_table.specs.declared.place.AcquireRow.TheVariants.{A3, A10, A11, Parked}
+use Rattle.step_table.specs.declared.place.ParkedRow.TheVariants.{P}
 use Rattle.step_table.specs.declared.place.Place.{Place}
 use Rattle.step_table.specs.declared.place.Place.TheVariants.{Rest, Acquiring}
 use Rattle.step_table.specs.World.{SeatState}
@@ -86,7 +87,7 @@ module _ (s t : Token) (n : Numbers) (a : Acquire) (seat : IsWoken s n a)
   pub retried_seat : IsSeat t counted
   retried_seat = record {
     token_is = token_after s t (Acquiring a A10) (moved_to s Rest) took 1 n counted seat.token_is x (bare ∙ seat.token_is.bare) seat.token_is.empty
-        seat.token_is.turns_are (omega arith) refl refl;
+        seat.token_is.turns_are (omega arith) (omega arith) refl refl;
     free = ap (λ (q : SeatState). is_free q.place) x.stands_is;
     counted = x.counted refl;
   }
@@ -115,7 +116,7 @@ module _ (s t : Token) (n : Numbers) (a : Acquire) (seat : IsWoken s n a)
     (x : Walked s (Acquiring a A10) t (moved_to s (Acquiring a A3)) [] 0) (bare : t.me.1 ≡ s.me.1) where
   pub again_token : IsToken t n
   again_token = token_after s t (Acquiring a A10) (moved_to s (Acquiring a A3)) [] 0 n n seat.token_is x (bare ∙ seat.token_is.bare)
-      seat.token_is.empty seat.token_is.turns_are (omega arith) refl (omega arith)
+      seat.token_is.empty seat.token_is.turns_are (omega arith) (omega arith) refl (omega arith)
 
   same_turn : t.me.0.own.knows.turn ≡ s.me.0.own.knows.turn
   same_turn = ap (λ (q : SeatState). q.turn) x.stands_is
@@ -135,7 +136,7 @@ module _ (s t : Token) (n : Numbers) (a : Acquire) (seat : IsWoken s n a)
     seat.at,
     (
       e.0 ∙ (λ i. record { table = x.table_is i; number = n.seat; left = n.left; taken = n.taken; sight = u.sight; strides = u.strides }),
-      e.1 ∙ ap (λ (q : SeatState). record { place = Acquiring a (P q.turn); turn = q.turn + 1; hand = q.hand }) x.stands_is,
+      e.1 ∙ ap (λ (q : SeatState). record { place = Acquiring a (Parked q.turn P); turn = q.turn + 1; hand = q.hand }) x.stands_is,
       calls_after s t n u (Acquiring a A10) (Acquiring a A3) (Queue a.counter (wait n.seat s.me.0.own.knows.turn) a.lifo ∷ []) 0 seat.token_is x
           (subst (λ k. RunsRows (seat_of t n) (Acquiring a A3) u (Queue a.counter (wait n.seat k) a.lifo ∷ [])) same_turn e.2),
       subst (λ k. (before : List Entry) × (u.sight.seen ≡ before ++ Queue a.counter (wait n.seat k) a.lifo ∷ [])) same_turn e.3,

@@ -2,7 +2,8 @@
 use Rattle.std.proofs.Common.{◌≡◌, ℕ, ◌+◌, [], ◌∷◌, ◌++◌, inr, sym, refl, ap, ◌∙◌, subst, append-nil, append_assoc}
 use Rattle.std.specs.List.{All}
 use Rattle.std.proofs.lemmas.List.Elements.{All-nil, All-push, All-append, All-weaker}
-use Rattle.step_table.specs.declared.place.AcquireRow.TheVariants.{P, A10}
+use Rattle.step_table.specs.declared.place.AcquireRow.TheVariants.{Parked, A10}
+use Rattle.step_table.specs.declared.place.ParkedRow.TheVariants.{P}
 use Rattle.step_table.specs.declared.place.Place.{Place}
 use Rattle.step_table.specs.declared.place.Place.TheVariants.{Rest, Acquiring}
 use Rattle.step_table.specs.declared.word.Word.TheVariants.{Grant}
@@ -93,9 +94,9 @@ module _ (s t u : SeatModel) (x : OnlyLooks s t) where
     (
       e.1.0,
       e.1.1,
-      stood (Acquiring e.1.0 (P e.1.1)) e.1.2,
+      stood (Acquiring e.1.0 (Parked e.1.1 P)) e.1.2,
       e.1.3 ∙ ap (λ (q : SeatState). record q { place = Acquiring e.1.0 A10 }) x.stays,
-      (x.call.strides, granted_after (Acquiring e.1.0 (P e.1.1)) 1 e.1.2 e.1.4),
+      (x.call.strides, granted_after (Acquiring e.1.0 (Parked e.1.1 P)) 1 e.1.2 e.1.4),
     ),
   )
 
@@ -106,8 +107,8 @@ module _ (s t u : SeatModel) (x : OnlyLooks s t) where
     (
       e.2.0,
       e.2.1,
-      stood (Acquiring e.2.0 (P e.2.1)) e.2.2,
-      (x.call.strides, granted_after (Acquiring e.2.0 (P e.2.1)) 2 e.2.2 e.2.3),
+      stood (Acquiring e.2.0 (Parked e.2.1 P)) e.2.2,
+      (x.call.strides, granted_after (Acquiring e.2.0 (Parked e.2.1 P)) 2 e.2.2 e.2.3),
       subst (λ i. HasItsUnit e.2.0.counter (wait i e.2.1) u.sight.seen) numbers e.2.4,
     ),
   )

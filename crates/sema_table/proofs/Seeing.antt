@@ -12,7 +12,7 @@ use Rattle.step_table.specs.World.{Layout, SemaWorld}
 use Rattle.step_table.specs.Path.{sight, looks, look_in}
 use Rattle.step_table.proofs.Paths.{meets_sight}
 use Rattle.step_law_semaphores.specs.SemaPath.{semaphores}
-use Rattle.step_law_semaphores.specs.Balances.{added_by}
+use Rattle.sema_table.specs.Changes.{spent_by}
 use Rattle.step_law_semaphores.proofs.Promises.{the_law}
 use Rattle.step_law_semaphores.proofs.Accounts.{the_accounts}
 use Rattle.running_rows.specs.Strides.{here, Looked, RanRow}
@@ -23,7 +23,7 @@ use Rattle.sema_table.specs.Rule.{seeing, lists_by, Knows, Homes, ShowsWorld}
 use Rattle.sema_table.specs.Rows.{Me, SemaSeat, semaphore_rows}
 use Rattle.sema_table.specs.Starts.{begin}
 use Rattle.sema_table.proofs.Words.{shown, counter_lies, lock_lies, waiters_lie, grant_lies, root_root}
-use Rattle.sema_table.proofs.Adding.{adding}
+use Rattle.sema_table.proofs.Spending.{spending}
 use Rattle.sema_table.proofs.Bounding.{taken_most, changes_most}
 use Rattle.sema_table.proofs.Resting.{free_counted}
 use Rattle.sema_table.proofs.Striding.{Strode, ran_here}
@@ -70,7 +70,7 @@ module _ (u : SemaSeat) (world : SemaWorld) (words : List ℕ) (homes : Homes) (
         most = let a = taken_most u.knows.setting u.number world shows.reached shows.small shows.counted st.there in omega (arith, knew.takes);
         counted = free_counted u.knows.setting u.number now.knows world shows.reached st.there refl refl knew.takes;
         held = λ c h. told c ∙ sym (knew.held c h);
-        few = (the_accounts.unwrapped m world shows.reached shows.small).turns u.number st.there;
+        few = (the_accounts.unwrapped m _ world shows.reached shows.small).turns u.number st.there;
         settles = changes_most u.knows.setting world shows.reached shows.small;
         there = st.there;
       };
@@ -119,7 +119,7 @@ module _ (z : Setting) (i : ℕ) where
 
 -- a grant word that is taken: the row ran, or nothing was granted and nothing changed
 module _ (z : Setting) (i : ℕ) (m : Me) (p : Place) (at : m.0.own.knows.place ≡ p)
-    (bound : added_by m.0.own.number m.0.own.knows.seen + adding p ≤ 2 ^ 40)
+    (bound : spent_by m.0.own.number m.0.own.knows.seen + spending p ≤ m.0.own.knows.setting.limit)
     (lies : address m.0.own.knows.setting (Grant m.0.own.number) ≡ i)
     (ready : (w : SemaWorld) (n : ℕ) → Ready m.0.own.number (begin p m.0.own.knows) w i n → 0 < n
     → Stays m.0.own.knows.setting (event_by m.0.own.number (begin p m.0.own.knows) w) i n 0) where

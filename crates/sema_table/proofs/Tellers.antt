@@ -7,7 +7,9 @@ use Rattle.step_table.specs.declared.effect.Effect.TheVariants.{Nothing, Tells, 
 use Rattle.step_table.specs.declared.entry.Entry.{Entry}
 use Rattle.step_table.specs.declared.entry.Entry.TheVariants.{Leave}
 use Rattle.step_table.specs.declared.place.Acquire.{Acquire}
-use Rattle.step_table.specs.declared.place.AcquireRow.TheVariants.{P}
+use Rattle.step_table.specs.declared.place.AcquireRow.TheVariants.{Parked}
+use Rattle.step_table.specs.declared.place.ParkedRow.{ParkedRow}
+use Rattle.step_table.specs.declared.place.ParkedRow.TheVariants.{P, D2, D3, D5}
 use Rattle.step_table.specs.declared.place.Place.{Place}
 use Rattle.step_table.specs.declared.place.Place.TheVariants.{Acquiring}
 use Rattle.step_table.specs.declared.word.Word.{Word}
@@ -123,13 +125,20 @@ module _ (m : Layout) (i : ℕ) (v w : SemaSight) (p : SemaStride) (r : SemaRan 
     pub row_can : IsTrue ((event_at i p.stood (plain_before m p).lists place).can p.read)
     row_can = subst (λ (z : Place). IsTrue ((event_at i p.stood (plain_before m p).lists z).can p.read)) at did.can
 
-  -- a parked seat tells nothing
-  parked_quiet : (a : Acquire) (n : ℕ) → p.stood.place ≡ Acquiring a (P n) → p.told ≡ []
-  parked_quiet a n at = by p.deed (the_sema_paths.does m i v w p r)
+  -- a parked seat lets no wait out
+  parked_keeps : (a : Acquire) (n c k : ℕ) (x : WaitId) (row : ParkedRow) → p.stood.place ≡ Acquiring a (Parked n row) → p.told ≡ Leave c x k ∷ [] → ⊥
+  parked_keeps a n c k x row at told = by p.deed (the_sema_paths.does m i v w p r)
     where
-      by : (d : Deed Word) → SemaDid m i p w d → p.told ≡ []
-      by runs did = did.told ∙ ap (λ (z : Place). entries_of ((event_at i p.stood (plain_before m p).lists z).leads p.read).1) at
-      by (looks word) did = did.told
+      of_row : (q : ParkedRow) → entries_of ((event_at i p.stood (plain_before m p).lists (Acquiring a (Parked n q))).leads p.read).1 ≡ Leave c x k ∷ [] → ⊥
+      of_row P e = cc
+      of_row D2 e = cc
+      of_row D3 e = cc
+      of_row D5 e = cc
+
+      by : (d : Deed Word) → SemaDid m i p w d → ⊥
+      by runs did = of_row row
+          (sym (ap (λ (z : Place). entries_of ((event_at i p.stood (plain_before m p).lists z).leads p.read).1) at) ∙ sym did.told ∙ told)
+      by (looks word) did = let none = sym did.told ∙ told in cc
 
   -- so the first wait that a seat lets out is another's
   pub not_own : (c k : ℕ) (x : WaitId) (l : List WaitId) → p.told ≡ Leave c x k ∷ [] → (plain_before m p).lists c ≡ x ∷ l
@@ -138,5 +147,4 @@ module _ (m : Layout) (i : ℕ) (v w : SemaSight) (p : SemaStride) (r : SemaRan 
       let listed : 0 < times x (r.world.words.lists c) = subst (λ (y : List WaitId). 0 < times x y) (sym first ∙ ap (λ (y : Plain). y.lists c) plain_there)
       (let here = same_here x in omega arith) in
       let parked = (in_law.parked.0 c x listed).1 in
-      let quiet = parked_quiet parked.0 x.turn (ap (λ (z : SeatState). z.place) stood_there ∙ ap (λ k. (r.world.seats k).place) (sym e) ∙ parked.2) in
-      cc
+      parked_keeps parked.0 x.turn c k x parked.2 (ap (λ (z : SeatState). z.place) stood_there ∙ ap (λ k. (r.world.seats k).place) (sym e) ∙ parked.3) told

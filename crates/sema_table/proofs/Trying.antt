@@ -80,7 +80,7 @@ module _ (s t : Token) (n : Numbers) (w : Word) (k : ℕ) (token : IsToken s n) 
 
   pub looked_token : IsToken t n
   looked_token = token_after s t s.me.0.own.knows.place (stands_by s.me.0.own.knows) [] 0 n n token walked (bare ∙ token.bare)
-      token.empty token.turns_are (omega arith) refl (omega arith)
+      token.empty token.turns_are (omega arith) (omega arith) refl (omega arith)
 
   pub looks_at : LooksAt (seat_of s n) w k (seat_of t n)
   looks_at = subst (λ i. LooksAt (record (seat_of s n) { number = i }) w k (record (seat_of t n) { number = i })) token.number_is (record {
@@ -194,7 +194,7 @@ module _ (s t : Token) (n : Numbers) (c k : ℕ) (seat : IsSeat s n) (r : Ran (b
   pub zero_seat : k ≡ 0 → IsSeat t n
   zero_seat e = let x = walked_zero e in record {
     token_is = token_after s t (acquiring c A1) (moved_to s (acquiring c A3)) [] 0 n n seat.token_is x (bare ∙ seat.token_is.bare)
-        seat.token_is.empty seat.token_is.turns_are (omega arith) refl (omega arith);
+        seat.token_is.empty seat.token_is.turns_are (omega arith) (omega arith) refl (omega arith);
     free = ap (λ (q : SeatState). is_free q.place) x.stands_is;
     counted = x.counted refl;
   }
@@ -269,7 +269,7 @@ module _ (s t u : Token) (n : Numbers) (c k found : ℕ) (seat : IsSeat s n) (r 
   pub lost_seat : found ≢ k → IsSeat u n
   lost_seat ne = let x = lost_walk ne in record {
     token_is =
-        token_after s u (acquiring c A1) (moved_to t (acquiring c A1)) [] 0 n n seat.token_is x bare_after hand_is turns_stay (omega arith) refl (omega arith);
+        token_after s u (acquiring c A1) (moved_to t (acquiring c A1)) [] 0 n n seat.token_is x bare_after hand_is turns_stay (omega arith) (omega arith) refl (omega arith);
     free = ap (λ (q : SeatState). is_free q.place) x.stands_is;
     counted = x.counted refl;
   }
@@ -296,7 +296,7 @@ module _ (s t u : Token) (n : Numbers) (c k found : ℕ) (seat : IsSeat s n) (r 
   pub taken_seat : found ≡ k → IsSeat u counted
   taken_seat e = let x = taken_walk e in record {
     token_is = token_after s u (acquiring c A1) (moved_to t Rest) (Take c t.me.0.own.number ∷ []) 1 n counted seat.token_is x bare_after
-        hand_is turns_stay (omega arith) refl refl;
+        hand_is turns_stay (omega arith) (omega arith) refl refl;
     free = ap (λ (q : SeatState). is_free q.place) x.stands_is;
     counted = x.counted refl;
   }

@@ -1,5 +1,5 @@
 -- A release from its root's lock on, to its end.
-use Rattle.std.proofs.Common.{◌≡◌, ℕ, ◌+◌, ◌^◌, ◌<◌, ◌≤◌, if◌then◌else◌, Bool, true, false, List, [], ◌∷◌, ◌++◌}
+use Rattle.std.proofs.Common.{◌≡◌, ℕ, ◌<◌, if◌then◌else◌, Bool, true, false, List, [], ◌∷◌, ◌++◌}
 use Rattle.std.proofs.Common.{drop, Option, Some, None, IfSome}
 use Rattle.std.proofs.Common.{IfNone, sym, refl, ap, ◌∙◌, subst, arith, append-nil}
 use Rattle.waiters.specs.declared.wait.WaitId.{WaitId}
@@ -13,21 +13,19 @@ use Rattle.step_table.specs.declared.word.Word.TheVariants.{Grant}
 use Rattle.step_table.specs.World.{SeatState}
 use Rattle.step_table.specs.Event.{by_first}
 use Rattle.step_table.specs.Counting.{counter_at}
-use Rattle.sema_table.specs.Rows.{HasStored, SemaView}
-use Rattle.sema_table.specs.Setting.{address, layout}
-use Rattle.step_law_semaphores.specs.Balances.{added_by}
-use Rattle.step_law_semaphores.specs.SemaPath.{SemaPath, placed}
+use Rattle.sema_table.specs.Rows.{HasStored}
+use Rattle.sema_table.specs.Setting.{address}
+use Rattle.sema_table.specs.Changes.{spent_by}
 use Rattle.sema_table.specs.declared.seat.Numbers.{Numbers}
 use Rattle.sema_table.specs.declared.answers.Wake.TheVariants.{Nobody, One, Handed}
 use Rattle.sema_table.specs.Places.{is_free}
-use Rattle.sema_table.specs.Rule.{stands_by, sight_by, lists_by}
+use Rattle.sema_table.specs.Rule.{sight_by, lists_by}
 use Rattle.sema_table.specs.Seats.{Token, TableModel, SeatModel, seat_of, IsToken, IsSeat}
 use Rattle.sema_table.specs.AtLock.{IsGranted, GrantsLast}
 use Rattle.sema_table.specs.Walks.{Stands, Walked, Granted, moved_to, taken_out, sought, trying, unlocked, granting, grant_of, taken_for}
 use Rattle.sema_table.specs.Calls.{ComesTo}
 use Rattle.sema_table.specs.Waking.{CallsGrant, Wakes}
-use Rattle.sema_table.proofs.Walking.{walked_on, walked_via, walked_then, stands_on, token_after}
-use Rattle.sema_table.proofs.Resting.{not_both}
+use Rattle.sema_table.proofs.Walking.{walked_same, walked_on, walked_via, walked_then, stands_on, token_after}
 use Rattle.sema_table.proofs.Calling.{calls, calls_grant}
 
 -- nobody waits
@@ -45,7 +43,7 @@ module _ (s t1 t2 t3 : Token) (n : Numbers) (a : Release) (is : IsToken s n) (x1
 
   pub nobody_seat : IsSeat t3 n
   nobody_seat = record {
-    token_is = token_after s t3 (Releasing a R3) (moved_to s Rest) [] 0 n n is ended bare is.empty is.turns_are (omega arith) refl (omega arith);
+    token_is = token_after s t3 (Releasing a R3) (moved_to s Rest) [] 0 n n is ended bare is.empty is.turns_are (omega arith) (omega arith) refl (omega arith);
     free = ap (λ (q : SeatState). is_free q.place) ended.stands_is;
     counted = ended.counted refl;
   }
@@ -100,9 +98,9 @@ module _ (s t1 t3 t4 t5 : Token) (n : Numbers) (a : Release) (w : WaitId) (hande
   settled = walked_via s t3 t4 (Releasing a R3) (carrying s (trying a) w) (λ y. record y { place = granting a handed })
       (Leave a.counter w t1.me.0.own.number ∷ []) (taken_for a w handed) 0 0 x3 x4
 
-  pub none_added : (b : Bool) → added_by s.me.0.own.number (Leave a.counter w t1.me.0.own.number ∷ taken_for a w b) ≡ 0
-  none_added true = refl
-  none_added false = refl
+  pub none_spent : (b : Bool) → spent_by s.me.0.own.number (Leave a.counter w t1.me.0.own.number ∷ taken_for a w b) ≡ 0
+  none_spent true = refl
+  none_spent false = refl
 
   module _ (x5 : Granted t4 (granting a handed) t5) (bare : t5.me.1 ≡ []) where
     abbrev all_ended : Walked s (Releasing a R3) t5 (record { place = Rest; turn = t4.me.0.own.knows.turn; hand = drop 1 t4.me.0.own.knows.hand }) (told ++ [])
@@ -114,14 +112,15 @@ module _ (s t1 t3 t4 t5 : Token) (n : Numbers) (a : Release) (w : WaitId) (hande
     hand_is : t4.me.0.own.knows.hand ≡ w ∷ []
     hand_is = ap (λ (y : SeatState). y.hand) settled.stands_is
 
-    nothing_added : added_by s.me.0.own.number (told ++ []) ≡ 0
-    nothing_added = ap (added_by s.me.0.own.number) (append-nil told) ∙ none_added handed
+    nothing_spent : spent_by s.me.0.own.number (told ++ []) ≡ 0
+    nothing_spent = ap (spent_by s.me.0.own.number) (append-nil told) ∙ none_spent handed
 
     pub granted_seat : IsSeat t5 n
     granted_seat = record {
       token_is = token_after s t5 (Releasing a R3) (record { place = Rest; turn = t4.me.0.own.knows.turn; hand = drop 1 t4.me.0.own.knows.hand }) (told ++ [])
           0 n n is all_ended bare (ap (drop 1) hand_is)
-          (ap (λ (y : SeatState). y.turn) settled.stands_is ∙ is.turns_are) (let q = nothing_added in omega arith) refl (omega arith);
+          (ap (λ (y : SeatState). y.turn) settled.stands_is ∙ is.turns_are) (let q = nothing_spent in omega arith)
+          (let q = nothing_spent in omega arith) refl (omega arith);
       free = ap (λ (q : SeatState). is_free q.place) all_ended.stands_is;
       counted = all_ended.counted refl;
     }
@@ -198,23 +197,9 @@ module _ (z : TableModel) (s t : Token) (a : Release) (before : Stands z s (Rele
 
       none_after : (t.me.0.own.knows.place ≡ Releasing a R6) → (u.table_id ≡ t.table_id) → (u.me.0 ≡ t.me.0)
           → Walked s (Releasing a R4) u (moved_to s (Releasing a R6)) [] 0
-      none_after at same view = record {
-        table_is = (λ i. record { id = same i; setting = (view i).own.knows.setting }) ∙ x.table_is;
-        number_is = ap (λ (v : SemaView). v.own.number) view ∙ x.number_is;
-        stands_is =
-            ap (λ (v : SemaView). stands_by v.own.knows) view ∙ x.stands_is ∙ ap (moved_to s) (sym (ap (λ (y : SeatState). y.place) x.stands_is) ∙ at);
-        few = subst (λ (v : SemaView). v.own.knows.turn ≤ 2 ^ 48 + 256) (sym view) x.few;
-        came = ap (λ (v : SemaView). v.own.knows.taken) view ∙ x.came;
-        most = subst (λ (v : SemaView). v.own.knows.taken ≤ 2 ^ 49) (sym view) x.most;
-        counted = λ free. not_both false refl free;
-        strides = x.strides;
-        each = x.each;
-        path =
-            subst (λ (v : SemaView). SemaPath (layout s.me.0.own.knows.setting) s.me.0.own.number (placed (Releasing a R4) (sight_by s.me.0.own.knows))
-            x.strides (sight_by v.own.knows)) (sym view) x.path;
-        all = ap (λ (v : SemaView). v.own.gone) view ∙ x.all;
-        told_is = x.told_is;
-      }
+      none_after at same view =
+          subst (λ (q : Place). Walked s (Releasing a R4) u (moved_to s q) [] 0) (sym (ap (λ (y : SeatState). y.place) x.stands_is) ∙ at)
+          (walked_same s t u (Releasing a R4) (moved_to s (sought t a)) [] 0 x same view)
 
       pub first_none : (found : Option WaitId)
           → IfNone found ((t.me.0.own.knows.place ≡ Releasing a R6) × (u.table_id ≡ t.table_id) × (u.me.0 ≡ t.me.0))

@@ -12,7 +12,7 @@ use Rattle.step_table.specs.declared.place.Place.TheVariants.{Rest, ReleasingMan
 use Rattle.step_table.specs.World.{Layout, SeatState}
 use Rattle.step_table.specs.Path.{runs}
 use Rattle.step_table.specs.Counting.{wait}
-use Rattle.step_law_semaphores.specs.Balances.{added_by}
+use Rattle.sema_table.specs.Changes.{spent_by}
 use Rattle.step_law_semaphores.specs.SemaPath.{SemaStride, row_event, word_of_deed}
 use Rattle.sema_table.specs.declared.seat.Numbers.{Numbers}
 use Rattle.sema_table.specs.Setting.{layout}
@@ -23,9 +23,9 @@ use Rattle.sema_table.specs.Calls.{TellsIn, ComesTo}
 use Rattle.sema_table.specs.Walks.{Stands, Walked, moved_to}
 use Rattle.sema_table.specs.Many.{leaves, GrantsFirst, GrantsEach, WakesMany}
 use Rattle.sema_table.specs.ManyWalks.{to_grant, with_hand, MayGrant, GrantedFirst, GrantedSome}
-use Rattle.sema_table.proofs.Walking.{walked_on, walked_none, walked_adds, token_after}
+use Rattle.sema_table.proofs.Walking.{walked_on, walked_none, walked_spends, token_after}
 use Rattle.sema_table.proofs.Calling.{path_tells}
-use Rattle.sema_table.proofs.PickingMany.{leaves_add}
+use Rattle.sema_table.proofs.PickingMany.{leaves_spend}
 
 -- the lock was given back
 pub may_grant : (z : TableModel) (s t : Token) (a : ReleaseMany) → Stands z s (ReleasingMany a M6)
@@ -34,7 +34,7 @@ may_grant z s t a stands x = record {
   table_is = x.table_is ∙ stands.table_is;
   inside = stands.inside;
   place_is = ap (λ (q : SeatState). q.place) x.stands_is ∙ ap (to_grant a) (sym (ap (λ (q : SeatState). q.hand) x.stands_is));
-  limited = let d = walked_adds s t (ReleasingMany a M6) (moved_to s (to_grant a s.me.0.own.knows.hand)) [] 0 x in let b = stands.limited in omega arith;
+  limited = let d = walked_spends s t (ReleasingMany a M6) (moved_to s (to_grant a s.me.0.own.knows.hand)) [] 0 x in let b = stands.limited in omega arith;
   few = x.few;
   most = x.most;
   counted = λ free. x.counted (ap (λ (q : SeatState). is_free q.place) (sym x.stands_is) ∙ free);
@@ -131,7 +131,7 @@ module _ (s t : Token) (a : ReleaseMany) (n : ℕ) (x : GrantedUpTo s a n t) (lo
     inside = may.inside;
     place_is = ap (λ (q : SeatState). q.place) x.walked.stands_is ∙ goes_to;
     limited =
-        let d = walked_adds s t (to_grant a s.me.0.own.knows.hand) (with_hand s (to_grant a (drop n s.me.0.own.knows.hand)) (drop n s.me.0.own.knows.hand))
+        let d = walked_spends s t (to_grant a s.me.0.own.knows.hand) (with_hand s (to_grant a (drop n s.me.0.own.knows.hand)) (drop n s.me.0.own.knows.hand))
         [] 0 x.walked in let b = may.limited in omega arith;
     few = x.walked.few;
     most = x.walked.most;
@@ -189,8 +189,8 @@ module _ (s t3 t4 : Token) (n : Numbers) (a : ReleaseMany) (is : IsToken s n)
   whole = walked_on s t3 t4 (ReleasingMany a M3) (with_hand s (to_grant a t3.me.0.own.knows.hand) t3.me.0.own.knows.hand) (with_hand t3 Rest [])
       (leaves s.me.0.own.number a t3.me.0.own.knows.hand) [] 0 0 x y.walked
 
-  nothing_added : added_by s.me.0.own.number (told ++ []) ≡ 0
-  nothing_added = ap (added_by s.me.0.own.number) (append-nil told) ∙ leaves_add s.me.0.own.number s.me.0.own.number a t3.me.0.own.knows.hand
+  nothing_spent : spent_by s.me.0.own.number (told ++ []) ≡ 0
+  nothing_spent = ap (spent_by s.me.0.own.number) (append-nil told) ∙ leaves_spend s.me.0.own.number s.me.0.own.number a t3.me.0.own.knows.hand
 
   turn_is : t3.me.0.own.knows.turn ≡ s.me.0.own.knows.turn
   turn_is = ap (λ (q : SeatState). q.turn) x.stands_is
@@ -198,7 +198,7 @@ module _ (s t3 t4 : Token) (n : Numbers) (a : ReleaseMany) (is : IsToken s n)
   pub woken_seat : t4.me.1 ≡ [] → IsSeat t4 n
   woken_seat bare = record {
     token_is = token_after s t4 (ReleasingMany a M3) (with_hand t3 Rest []) (told ++ []) 0 n n is whole bare refl (turn_is ∙ is.turns_are)
-        (let q = nothing_added in omega arith) refl (omega arith);
+        (let q = nothing_spent in omega arith) (let q = nothing_spent in omega arith) refl (omega arith);
     free = ap (λ (q : SeatState). is_free q.place) whole.stands_is;
     counted = whole.counted refl;
   }

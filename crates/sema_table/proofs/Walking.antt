@@ -10,15 +10,17 @@ use Rattle.step_table.specs.World.{SeatState, seat_after}
 use Rattle.step_table.specs.Counting.{counter_at}
 use Rattle.step_table.specs.Journal.{takes}
 use Rattle.step_table.specs.Path.{Deed, runs, all_told, own_entries}
-use Rattle.step_law_semaphores.specs.Balances.{added_by}
+use Rattle.step_law_semaphores.specs.Balances.{withdrawn_by}
 use Rattle.step_law_semaphores.specs.Served.{gains}
 use Rattle.step_law_semaphores.specs.SemaPath.{SemaSight, SemaStride, SemaPath, placed, semaphores, entries_of}
 use Rattle.step_law_semaphores.proofs.SemaPaths.{the_sema_paths}
+use Rattle.step_law_semaphores.proofs.Telling.{count_append}
 use Rattle.sema_table.specs.declared.view.Setting.{Setting}
 use Rattle.sema_table.specs.Setting.{layout}
+use Rattle.sema_table.specs.Changes.{spent_by}
 use Rattle.sema_table.specs.Places.{is_free}
 use Rattle.sema_table.specs.Rule.{stands_by, sight_by}
-use Rattle.sema_table.specs.Rows.{gains_by}
+use Rattle.sema_table.specs.Rows.{SemaView, gains_by}
 use Rattle.sema_table.specs.Starts.{begin}
 use Rattle.running_rows.specs.Strides.{here}
 use Rattle.sema_table.proofs.Striding.{Strode, Ran, ran_at}
@@ -28,7 +30,7 @@ use Rattle.sema_table.specs.Strides.{IsRow}
 use Rattle.sema_table.specs.Walks.{Stands, Went, Walked, moved_to}
 use Rattle.sema_table.proofs.Leading.{Goes}
 use Rattle.sema_table.proofs.Resting.{not_both}
-use Rattle.sema_table.proofs.Adding.{added_append, own_only}
+use Rattle.sema_table.proofs.Spending.{CountsOwn, withdrawn_own, spent_own, own_only}
 
 pub told_append : (a b : List SemaStride) → all_told (a ++ b) ≡ all_told a ++ all_told b
 told_append [] b = refl
@@ -63,8 +65,8 @@ walked_row s t from n next r g same =
     walked_by s t from runs n (seat_after next.1 next.0 (stands_by s.me.0.own.knows)) (entries_of next.1) (gains from next.0) r refl same g.stands g.told
 
 -- no row
-abbrev pub walked_none : (s : Token) (from : Place) → s.me.0.own.knows.place ≡ from → s.me.0.own.knows.turn ≤ 2 ^ 48 + 256
-    → s.me.0.own.knows.taken ≤ 2 ^ 49 → (is_free s.me.0.own.knows.place ≡ true → takes s.me.0.own.number s.me.0.own.knows.seen
+abbrev pub walked_none : (s : Token) (from : Place) → s.me.0.own.knows.place ≡ from → s.me.0.own.knows.turn ≤ 2 ^ 62 + 2 ^ 16
+    → s.me.0.own.knows.taken ≤ 2 ^ 62 + 2 ^ 48 → (is_free s.me.0.own.knows.place ≡ true → takes s.me.0.own.number s.me.0.own.knows.seen
     ≡ s.me.0.own.knows.taken) → Walked s from s (stands_by s.me.0.own.knows) [] 0
 walked_none s from at few most counted = record {
   table_is = refl;
@@ -106,39 +108,72 @@ walked_on s t u from a b told more j k x y = record {
     stays : record (stands_by t.me.0.own.knows) { place = a.place } ≡ stands_by t.me.0.own.knows
     stays = λ i. record (stands_by t.me.0.own.knows) { place = (sym x.stands_is i).place }
 
--- what was added is what the rows told
-pub walked_adds : {IsOne : SemaStride → Type 0} (s t : Token) (from : Place) (a : SeatState) (told : List Entry) (j : ℕ) → Went IsOne s from t a told j
-    → added_by t.me.0.own.number t.me.0.own.knows.seen ≡ added_by s.me.0.own.number s.me.0.own.knows.seen + added_by s.me.0.own.number told
-walked_adds s t from a told j x =
+-- rows end as well where what they left was only seen again
+pub walked_same : (s t u : Token) (from : Place) (a : SeatState) (told : List Entry) (j : ℕ) → Walked s from t a told j → u.table_id ≡ t.table_id
+    → u.me.0 ≡ t.me.0 → Walked s from u a told j
+walked_same s t u from a told j x same view = record {
+  table_is = (λ i. record { id = same i; setting = (view i).own.knows.setting }) ∙ x.table_is;
+  number_is = ap (λ (v : SemaView). v.own.number) view ∙ x.number_is;
+  stands_is = ap (λ (v : SemaView). stands_by v.own.knows) view ∙ x.stands_is;
+  few = subst (λ (v : SemaView). v.own.knows.turn ≤ 2 ^ 62 + 2 ^ 16) (sym view) x.few;
+  came = ap (λ (v : SemaView). v.own.knows.taken) view ∙ x.came;
+  most = subst (λ (v : SemaView). v.own.knows.taken ≤ 2 ^ 62 + 2 ^ 48) (sym view) x.most;
+  counted = λ free. subst (λ (v : SemaView). takes v.own.number v.own.knows.seen ≡ v.own.knows.taken) (sym view) (x.counted free);
+  strides = x.strides;
+  each = x.each;
+  path = subst (λ (v : SemaView). SemaPath (layout s.me.0.own.knows.setting) s.me.0.own.number (placed from (sight_by s.me.0.own.knows))
+      x.strides (sight_by v.own.knows)) (sym view) x.path;
+  all = ap (λ (v : SemaView). v.own.gone) view ∙ x.all;
+  told_is = x.told_is;
+}
+
+-- what is counted of the seat alone grew by what its rows told
+pub walked_counts : (count : ℕ → List Entry → ℕ) → CountsOwn count → {IsOne : SemaStride → Type 0} (s t : Token) (from : Place) (a : SeatState)
+    (told : List Entry) (j : ℕ) → Went IsOne s from t a told j
+    → count t.me.0.own.number t.me.0.own.knows.seen ≡ count s.me.0.own.number s.me.0.own.knows.seen + count s.me.0.own.number told
+walked_counts count counts s t from a told j x =
     let k : ℕ = s.me.0.own.number in let m = layout s.me.0.own.knows.setting in
     let own = (the_sema_paths.paths m).own k (placed from (sight_by s.me.0.own.knows)) (sight_by t.me.0.own.knows) x.strides x.path in
-    ap (λ i. added_by i t.me.0.own.knows.seen) x.number_is ∙ sym (own_only k t.me.0.own.knows.seen) ∙ ap (added_by k) own
-    ∙ added_append k (own_entries (semaphores m) k s.me.0.own.knows.seen) (own_entries (semaphores m) k (all_told x.strides))
-    ∙ (λ i. own_only k s.me.0.own.knows.seen i + own_only k (x.told_is i) i)
+    ap (λ i. count i t.me.0.own.knows.seen) x.number_is ∙ sym (own_only count counts k t.me.0.own.knows.seen) ∙ ap (count k) own
+    ∙ count_append (count k) (counts k).0 (own_entries (semaphores m) k s.me.0.own.knows.seen) (own_entries (semaphores m) k (all_told x.strides))
+    ∙ (λ i. own_only count counts k s.me.0.own.knows.seen i + own_only count counts k (x.told_is i) i)
+
+-- what rows spent, of the same share
+pub record Spends (s t : Token) (told : List Entry) : Type 0 where
+  pub spent : spent_by t.me.0.own.number t.me.0.own.knows.seen
+      ≡ spent_by s.me.0.own.number s.me.0.own.knows.seen + spent_by s.me.0.own.number told
+  pub limit : t.me.0.own.knows.setting.limit ≡ s.me.0.own.knows.setting.limit
+
+pub walked_spends : {IsOne : SemaStride → Type 0} (s t : Token) (from : Place) (a : SeatState) (told : List Entry) (j : ℕ) → Went IsOne s from t a told j
+    → Spends s t told
+walked_spends s t from a told j x =
+    record { spent = walked_counts spent_by spent_own s t from a told j x; limit = ap (λ (q : TableModel). q.setting.limit) x.table_is }
 
 pub stands_on : (z : TableModel) (s t : Token) (from : Place) (a : SeatState) (told : List Entry) (j : ℕ) → Stands z s from → Walked s from t a told j
-    → added_by s.me.0.own.number told ≡ 0
+    → spent_by s.me.0.own.number told ≡ 0
     → counter_at a.place ≡ counter_at from → Stands z t a.place
 stands_on z s t from a told j x y none same = record {
   table_is = y.table_is ∙ x.table_is;
   inside = let i = x.inside in omega arith;
   place_is = ap (λ (q : SeatState). q.place) y.stands_is;
-  limited = let a = walked_adds s t from a told j y in let b = x.limited in omega arith;
+  limited = let a = walked_spends s t from a told j y in let b = x.limited in omega arith;
   few = y.few;
   most = y.most;
 }
 
--- a token after rows that added so much
+-- a token after rows that spent so much
 pub token_after : {IsOne : SemaStride → Type 0} (s t : Token) (from : Place) (a : SeatState) (told : List Entry) (j : ℕ) (n k : Numbers)
     → IsToken s n → Went IsOne s from t a told j
-    → t.me.1 ≡ [] → a.hand ≡ [] → a.turn ≡ k.turns → k.left + added_by s.me.0.own.number told ≡ n.left → k.seat ≡ n.seat
+    → t.me.1 ≡ [] → a.hand ≡ [] → a.turn ≡ k.turns → k.left + spent_by s.me.0.own.number told ≡ n.left
+    → k.withdrawn ≡ n.withdrawn + withdrawn_by s.me.0.own.number told → k.seat ≡ n.seat
     → k.taken ≡ n.taken + j → IsToken t k
-token_after s t from a told j n k is x bare empty turned less same more = record {
+token_after s t from a told j n k is x bare empty turned less gone same more = record {
   bare = bare;
   number_is = x.number_is ∙ is.number_is ∙ sym same;
   there = let q = ap (λ (y : TableModel). y.setting.seats) x.table_is in let h = is.there in omega arith;
   narrow = let h = is.narrow in omega arith;
-  left_is = let b = walked_adds s t from a told j x in let l = is.left_is in let q = ap (λ (y : TableModel). y.setting.limit) x.table_is in omega arith;
+  left_is = let b = walked_spends s t from a told j x in let l = is.left_is in let q = ap (λ (y : TableModel). y.setting.limit) x.table_is in omega arith;
+  withdrawn_is = let b = walked_counts withdrawn_by withdrawn_own s t from a told j x in let w = is.withdrawn_is in omega arith;
   limited = let l = is.limited in let q = ap (λ (y : TableModel). y.setting.limit) x.table_is in omega arith;
   turns_are = ap (λ (q : SeatState). q.turn) x.stands_is ∙ turned;
   few = let f = x.few in let q = ap (λ (y : SeatState). y.turn) x.stands_is in omega arith;
@@ -147,9 +182,9 @@ token_after s t from a told j n k is x bare empty turned less same more = record
   empty = ap (λ (q : SeatState). q.hand) x.stands_is ∙ empty;
 }
 
--- a seat that may add so many units more has added few
-pub added_few : (s : Token) (n : Numbers) (k : ℕ) → IsToken s n → k ≤ n.left → added_by s.me.0.own.number s.me.0.own.knows.seen + k ≤ 2 ^ 40
-added_few s n k is h = let l = is.left_is in let m = is.limited in omega arith
+-- a seat that may add so many units more has spent little
+pub spent_few : (s : Token) (n : Numbers) (k : ℕ) → IsToken s n → k ≤ n.left → spent_by s.me.0.own.number s.me.0.own.knows.seen + k ≤ s.me.0.own.knows.setting.limit
+spent_few s n k is h = let l = is.left_is in let m = is.limited in omega arith
 
 -- the row at which the seat stands
 abbrev pub ran_from : (s t : Token) (from : Place) (n : ℕ) → s.me.0.own.knows.place ≡ from → Ran here s.me.0.own n t.me.0.own

@@ -6,10 +6,10 @@ use Rattle.std.proofs.Math.Nat.{mod-lt, mod-mod}
 use Rattle.waiters.specs.declared.wait.WaitId.{WaitId}
 use Rattle.step_table.specs.declared.effect.Effect.{Effect}
 use Rattle.step_table.specs.declared.effect.Effect.TheVariants.{Tells}
-use Rattle.step_table.specs.declared.entry.Entry.TheVariants.{Queue, Leave}
+use Rattle.step_table.specs.declared.entry.Entry.TheVariants.{Queue, Leave, Withdraw}
 use Rattle.step_table.specs.declared.word.Word.{Word}
 use Rattle.step_table.specs.declared.word.Word.TheVariants.{Counter, Lock, Waiters, Grant}
-use Rattle.step_table.specs.World.{Words, put, insert_wait, found, written, lists_after}
+use Rattle.step_table.specs.World.{Words, put, insert_wait, without, found, written, lists_after}
 use Rattle.step_table.specs.Counting.{on}
 use Rattle.step_table.proofs.Sums.{put_here, put_else, on_else, total_same}
 use Rattle.sema_root.specs.Treap.{Treap}
@@ -59,21 +59,20 @@ locks_unwritten at g (Waiters c) x r e = refl
 locks_unwritten at g (Grant s) x r e = refl
 locks_unwritten at g (Lock c) x r e = absurd (cc)
 
--- lists that agree at c do so after an effect
+-- lists that agree at c do so after one of them was changed
+put_agree : (to : List WaitId → List WaitId) (d : ℕ) (l k : ℕ → List WaitId) (c : ℕ) → l c ≡ k c → put l d (to (l d)) c ≡ put k d (to (k d)) c
+put_agree to d l k c same = by (ℕ_discrete c d)
+  where
+    by : Dec (c ≡ d) → put l d (to (l d)) c ≡ put k d (to (k d)) c
+    by (yes e) = ap (put l d (to (l d))) e ∙ put_here l d (to (l d)) ∙ ap to (ap l (sym e) ∙ same ∙ ap k e)
+        ∙ sym (put_here k d (to (k d))) ∙ ap (put k d (to (k d))) (sym e)
+    by (no ne) = put_else l d (to (l d)) c ne ∙ same ∙ sym (put_else k d (to (k d)) c ne)
+
+-- and so they do after an effect
 pub listed_agree : (e : Effect) (l k : ℕ → List WaitId) (c : ℕ) → l c ≡ k c → lists_after e l c ≡ lists_after e k c
-listed_agree (Tells (Queue d w lifo)) l k c same = by (ℕ_discrete c d)
-  where
-    by : Dec (c ≡ d) → put l d (insert_wait lifo w (l d)) c ≡ put k d (insert_wait lifo w (k d)) c
-    by (yes e) =
-        ap (put l d (insert_wait lifo w (l d))) e ∙ put_here l d (insert_wait lifo w (l d)) ∙ ap (insert_wait lifo w) (ap l (sym e) ∙ same ∙ ap k e)
-        ∙ sym (put_here k d (insert_wait lifo w (k d))) ∙ ap (put k d (insert_wait lifo w (k d))) (sym e)
-    by (no ne) = put_else l d (insert_wait lifo w (l d)) c ne ∙ same ∙ sym (put_else k d (insert_wait lifo w (k d)) c ne)
-listed_agree (Tells (Leave d w s)) l k c same = by (ℕ_discrete c d)
-  where
-    by : Dec (c ≡ d) → put l d (drop 1 (l d)) c ≡ put k d (drop 1 (k d)) c
-    by (yes e) = ap (put l d (drop 1 (l d))) e ∙ put_here l d (drop 1 (l d)) ∙ ap (drop 1) (ap l (sym e) ∙ same ∙ ap k e)
-        ∙ sym (put_here k d (drop 1 (k d))) ∙ ap (put k d (drop 1 (k d))) (sym e)
-    by (no ne) = put_else l d (drop 1 (l d)) c ne ∙ same ∙ sym (put_else k d (drop 1 (k d)) c ne)
+listed_agree (Tells (Queue d w lifo)) l k c same = put_agree (insert_wait lifo w) d l k c same
+listed_agree (Tells (Leave d w s)) l k c same = put_agree (drop 1) d l k c same
+listed_agree (Tells (Withdraw d w)) l k c same = put_agree (without w.seat) d l k c same
 listed_agree _ l k c same = same
 
 -- a record depends on its root's lists alone

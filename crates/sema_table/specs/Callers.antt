@@ -5,7 +5,8 @@ use Rattle.std.specs.List.{All, filter}
 use Rattle.waiters.specs.declared.wait.WaitId.{WaitId}
 use Rattle.step_table.specs.declared.entry.Entry.{Entry}
 use Rattle.step_table.specs.declared.entry.Entry.TheVariants.{Take, Queue}
-use Rattle.step_table.specs.declared.place.AcquireRow.TheVariants.{P, A10}
+use Rattle.step_table.specs.declared.place.AcquireRow.TheVariants.{Parked, A10}
+use Rattle.step_table.specs.declared.place.ParkedRow.TheVariants.{P}
 use Rattle.step_table.specs.declared.place.Place.TheVariants.{Acquiring}
 use Rattle.step_table.specs.Journal.{plain_start, IsLawful, HasLeft, HasItsUnit}
 use Rattle.step_law_semaphores.specs.SemaPath.{is_own}
@@ -24,13 +25,14 @@ use Rattle.sema_table.specs.Seats.{SeatModel}
 use Rattle.sema_table.specs.Calls.{TellsIn, plain_seen}
 use Rattle.sema_table.specs.Tries.{waits_seen}
 
--- t is the seat s of the same table, after it has added so many units and was given so many. It has told
+-- t is the seat s of the same table, after it has spent so many units, for those that it added and one for
+-- each wait that it withdrew, and was given so many. It has told
 -- these entries, in this order, among what others told, and nothing else that it alone can tell; and what it
 -- has seen is lawful
-pub record IsSeatAfter (s : SeatModel) (added given : ℕ) (told : List Entry) (t : SeatModel) : Type 0 where
+pub record IsSeatAfter (s : SeatModel) (spent given : ℕ) (told : List Entry) (t : SeatModel) : Type 0 where
   pub table : t.table ≡ s.table
   pub number : t.number ≡ s.number
-  pub left : t.left + added ≡ s.left
+  pub left : t.left + spent ≡ s.left
   pub taken : t.taken ≡ s.taken + given
   pub tells : TellsIn s.sight.seen told t.sight.seen
   pub own : filter (is_own s.number) t.sight.seen ≡ filter (is_own s.number) (s.sight.seen ++ told)
@@ -80,7 +82,7 @@ AcquiresUnit s c lifo t =
 -- the seat waits for a unit of c: it sleeps with this wait, or it was woken and has to try
 abbrev pub IsWaitingOn : SeatModel → ℕ → Bool → Option WaitId → Type 0
 IsWaitingOn s c lifo (Some w) =
-    (w.seat ≡ s.number) × (s.sight.stands.place ≡ Acquiring (record { counter = c; lifo = lifo }) (P w.turn))
+    (w.seat ≡ s.number) × (s.sight.stands.place ≡ Acquiring (record { counter = c; lifo = lifo }) (Parked w.turn P))
 IsWaitingOn s c lifo None = s.sight.stands.place ≡ Acquiring (record { counter = c; lifo = lifo }) A10
 
 -- a unit was taken; or there was none, and the seat sleeps, its wait the last that it has seen

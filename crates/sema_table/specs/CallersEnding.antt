@@ -1,9 +1,10 @@
 -- What two seats know that met, and all seats as the table ends.
-use Rattle.std.specs.Prelude.{◌≡◌, ◌≢◌, ℕ, ◌+◌, ◌-◌, ◌<◌, List, [], length, slice_index}
+use Rattle.std.specs.Prelude.{◌≡◌, ◌≢◌, ℕ, ◌+◌, ◌<◌, List, [], length, slice_index}
 use Rattle.std.specs.List.{filter, sum}
 use Rattle.step_table.specs.declared.entry.Entry.{Entry}
 use Rattle.step_table.specs.Journal.{plain_start, replay, IsLawful}
 use Rattle.step_table.specs.Path.{GoesOn}
+use Rattle.step_law_semaphores.specs.Balances.{added_by}
 use Rattle.step_law_semaphores.specs.SemaPath.{is_own}
 use Rattle.running_rows.specs.Rule.{In}
 use Rattle.sema_table.specs.declared.view.Setting.{Setting}
@@ -33,6 +34,6 @@ pub record EndsTable (z : Setting) (seats : List SeatModel) (c : ClosedModel) : 
   pub values : (k : ℕ) → k < length z.starts →
       slice_index c.values k ≡ (replay (plain_start (layout z).starts) journal).numbers k
   pub nobody : (k : ℕ) → (replay (plain_start (layout z).starts) journal).lists k ≡ []
-  pub released : c.releases ≡ sum_by (λ s. z.limit - s.left) seats
+  pub released : c.releases ≡ sum_by (λ s. added_by s.number s.sight.seen) seats
   pub acquired : c.acquires ≡ sum_by (λ s. s.taken) seats
   pub balanced : sum c.values + c.acquires ≡ sum z.starts + c.releases

@@ -1,5 +1,5 @@
 -- What a closed table tells.
-use Rattle.std.specs.Prelude.{◌≡◌, ℕ, true, ◌+◌, ◌-◌, ◌<◌, List, [], ◌∷◌, length, slice_index}
+use Rattle.std.specs.Prelude.{◌≡◌, ℕ, true, ◌+◌, ◌<◌, List, [], ◌∷◌, length, slice_index}
 use Rattle.std.specs.List.{All}
 use Rattle.step_table.specs.World.{SemaWorld}
 use Rattle.step_table.specs.Steps.{IsReached}
@@ -24,8 +24,8 @@ abbrev pub sum_by : (SeatModel → ℕ) → List SeatModel → ℕ
 sum_by f [] = 0
 sum_by f (s ∷ seats) = f s + sum_by f seats
 
-abbrev pub has_added : ℕ → SeatModel → ℕ
-has_added limit s = limit - s.left
+abbrev pub has_added : SeatModel → ℕ
+has_added s = added_by s.number s.sight.seen
 
 abbrev pub was_given : SeatModel → ℕ
 was_given s = s.taken
@@ -35,7 +35,6 @@ pub record IsOfSeat (z : Setting) (g : SemaSeat) (s : SeatModel) : Type 0 where
   pub number_is : g.number ≡ s.number
   pub free : is_free g.knows.place ≡ true
   pub given : g.knows.taken ≡ s.taken
-  pub left : s.left + added_by g.number g.knows.seen ≡ z.limit
   pub seen : g.knows.seen ≡ s.sight.seen
   pub went : g.gone ≡ s.strides
 
@@ -50,7 +49,7 @@ pub record IsGathered (t : TableModel) (seats : List SeatModel) (token : Token) 
     : Type 0 where
   pub own : table_of token ≡ t
   pub all : AreOfSeats t.setting (token.me.0.own ∷ token.me.0.guests) seats
-  pub releases_are : releases ≡ sum_by (has_added t.setting.limit) seats
+  pub releases_are : releases ≡ sum_by has_added seats
   pub acquires_are : acquires ≡ sum_by was_given seats
 
 -- the counters' numbers, in their order, and how many units were added and taken
@@ -90,7 +89,7 @@ pub record IsClosed (z : Setting) (seats : List SeatModel) (c : ClosedModel) : T
   pub long : length c.values ≡ length z.starts
   pub values : (k : ℕ) → k < length z.starts
       → slice_index c.values k ≡ (replay (plain_start (layout z).starts) world.journal).numbers k
-  pub released : c.releases ≡ sum_by (has_added z.limit) seats
+  pub released : c.releases ≡ sum_by has_added seats
   pub added_all : c.releases ≡ added world.journal
   pub acquired : c.acquires ≡ sum_by was_given seats
   pub taken_all : c.acquires ≡ taken world.journal

@@ -13,6 +13,7 @@ pub mod Tries
 pub mod Outcomes
 pub mod AtLock
 pub mod Waking
+pub mod Leaving
 pub mod Whole
 pub mod ManySeats
 pub mod Many
@@ -22,6 +23,8 @@ pub mod Meeting
 pub mod Closing
 pub mod Callers
 pub mod CallersReleasing
+pub mod CallersLeaving
+pub mod CallersTimed
 pub mod CallersEnding
 pub mod Making
 pub mod TaskSeats

@@ -1,5 +1,5 @@
 -- What a table is as it is made, and which settings make none.
-use Rattle.std.specs.Prelude.{◌≡◌, ℕ, ◌+◌, ◌%◌, ◌^◌, ◌<◌, ◌≤◌, ◌⊎◌, List, [], length, map}
+use Rattle.std.specs.Prelude.{◌≡◌, ℕ, ◌+◌, ◌*◌, ◌%◌, ◌^◌, ◌<◌, ◌≤◌, ◌⊎◌, List, [], length, map}
 use Rattle.std.specs.List.{range_with_len}
 use Rattle.step_table.specs.declared.place.Place.TheVariants.{Rest}
 use Rattle.sema_root.specs.Tree.{leaf}
@@ -24,20 +24,24 @@ abbrev pub most_counters : ℕ
 most_counters = 65536
 
 abbrev pub most_seats : ℕ
-most_seats = 256
+most_seats = 65536
 
 abbrev pub most_roots : ℕ
 most_roots = 251
 
 abbrev pub most_releases : ℕ
-most_releases = 2 ^ 40
+most_releases = 2 ^ 54
 
--- the settings are within all four limits
+-- each of so many seats may spend so much, and all together no more than wraps no sum
+abbrev pub MaySpend : ℕ → ℕ → Type 0
+MaySpend seats limit = IsFromOne most_releases limit × (seats * limit ≤ 2 ^ 62)
+
+-- the settings are within all limits
 pub record AreAllowed (k : Settings) : Type 0 where
   pub counters : IsFromOne most_counters (length k.starts.items)
   pub seats : IsFromOne most_seats k.seats
   pub roots : IsFromOne most_roots k.roots
-  pub release_limit : IsFromOne most_releases k.release_limit
+  pub release_limit : MaySpend k.seats k.release_limit
 
 -- the error is the first whose limit isn't kept; there is no memory for a table only where all are
 abbrev pub IsRefused : Settings → SetupError → Type 0
@@ -48,10 +52,10 @@ IsRefused k Roots = IsFromOne most_counters (length k.starts.items) × IsFromOne
 IsRefused k ReleaseLimit =
     IsFromOne most_counters (length k.starts.items) × IsFromOne most_seats k.seats
     × IsFromOne most_roots k.roots
-    × IsOutside most_releases k.release_limit
+    × (MaySpend k.seats k.release_limit → ⊥)
 IsRefused k NoMemory = AreAllowed k
 
--- a seat that has run nothing: it may add all its units, was given none, rests, and has seen nothing
+-- a seat that has run nothing: it may spend all its units, was given none, rests, and has seen nothing
 abbrev pub new_seat : TableModel → ℕ → SeatModel
 new_seat t number =
     record {

@@ -10,10 +10,10 @@ use Rattle.step_table.specs.Event.{by_first}
 use Rattle.step_table.specs.World.{SeatState}
 use Rattle.step_table.specs.Journal.{takes}
 use Rattle.step_table.specs.Path.{runs}
-use Rattle.step_law_semaphores.specs.Balances.{added_by}
 use Rattle.step_law_semaphores.specs.SemaPath.{SemaStride}
 use Rattle.sema_table.specs.Setting.{layout}
 use Rattle.sema_table.specs.Places.{is_free}
+use Rattle.sema_table.specs.Changes.{spent_by}
 use Rattle.sema_table.specs.Seats.{TableModel, Token, table_of}
 use Rattle.sema_table.specs.Walks.{Walked, moved_to, lists_of}
 use Rattle.sema_table.specs.Many.{GrantsEach}
@@ -41,9 +41,9 @@ pub record MayGrant (t : TableModel) (s : Token) (r : ReleaseMany) : Type 0 wher
   pub table_is : table_of s ≡ t
   pub inside : r.counter < length t.setting.starts
   pub place_is : s.me.0.own.knows.place ≡ to_grant r s.me.0.own.knows.hand
-  pub limited : added_by s.me.0.own.number s.me.0.own.knows.seen ≤ 2 ^ 40
-  pub few : s.me.0.own.knows.turn ≤ 2 ^ 48 + 256
-  pub most : s.me.0.own.knows.taken ≤ 2 ^ 49
+  pub limited : spent_by s.me.0.own.number s.me.0.own.knows.seen ≤ s.me.0.own.knows.setting.limit
+  pub few : s.me.0.own.knows.turn ≤ 2 ^ 62 + 2 ^ 16
+  pub most : s.me.0.own.knows.taken ≤ 2 ^ 62 + 2 ^ 48
   pub counted : is_free s.me.0.own.knows.place ≡ true
       → takes s.me.0.own.number s.me.0.own.knows.seen ≡ s.me.0.own.knows.taken
 

@@ -42,11 +42,11 @@ IsHeld v slot y =
 -- begin a call, it has come by all units that it has seen taken for it. A counter has changed only so often
 pub record Beside (k : ℕ) (v : Known) (p : SemaStride) (w : Known) : Type 0 where
   pub came : w.taken ≡ v.taken + gains_by p.deed v.place w.place
-  pub most : w.taken ≤ 2 ^ 49
+  pub most : w.taken ≤ 2 ^ 62 + 2 ^ 48
   pub counted : is_free w.place ≡ true → takes k w.seen ≡ w.taken
   pub held : (c : ℕ) → holds (root v.setting) (root v.setting c) v.place ≡ 1
       → (plain_before (layout v.setting) p).lists c ≡ lists_by v.setting v.seen c
-  pub few : w.turn ≤ 2 ^ 48 + 256
+  pub few : w.turn ≤ 2 ^ 62 + 2 ^ 16
   pub settles : (c : ℕ) → changes c w.seen ≤ most_changes
   pub there : k < v.setting.seats
 

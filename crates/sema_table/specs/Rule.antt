@@ -84,7 +84,7 @@ AtHome z g homes r =
 -- each word is what the reached world has there, and the record of each root whose lock is free is at home
 pub record ShowsWorld (z : Setting) (world : SemaWorld) (ws : List ℕ) (hs : Homes) : Type 0 where
   pub reached : IsReached (layout z) world
-  pub small : IsSmall (layout z) world
+  pub small : IsSmall (layout z) z.limit world
   pub words : (w : Word) → IsThere z w → slice_index ws (address z w) ≡ found (root z) world.words w
   pub homes : (r : ℕ) → r < z.roots → world.words.locks r ≡ 0 → AtHome z world.words hs r
   pub wide : length ws ≡ words_in z

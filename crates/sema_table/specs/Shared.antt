@@ -1,5 +1,5 @@
 -- What a table's numbers say of what it was made with.
-use Rattle.std.specs.Prelude.{◌≡◌, ℕ, ◌^◌, ◌<◌, ◌≤◌, length}
+use Rattle.std.specs.Prelude.{◌≡◌, ℕ, ◌*◌, ◌^◌, ◌<◌, ◌≤◌, length}
 use Rattle.running_rows.specs.Seated.{TableId}
 use Rattle.sema_table.specs.declared.view.Setting.{Setting}
 use Rattle.sema_table.specs.declared.sema_table.SemaTable.TheInside.{Inside}
@@ -13,9 +13,10 @@ pub record IsTable (id : TableId) (z : Setting) (counters roots seats limit : �
   pub seated : seats ≡ z.seats
   pub some : 0 < roots
   pub any : 0 < counters
-  pub few : (0 < seats) × (seats ≤ 256)
+  pub few : (0 < seats) × (seats ≤ 65536)
   pub limited : limit ≡ z.limit
-  pub low : limit ≤ 2 ^ 40
+  pub low : limit ≤ 2 ^ 54
+  pub shares : seats * limit ≤ 2 ^ 62
   pub words : id.words ≡ words_in z
   pub slots : id.slots ≡ z.roots
 

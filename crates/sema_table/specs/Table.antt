@@ -46,11 +46,12 @@ pub record Shows (z : Setting) (s : State Record SemaView) (world : SemaWorld) :
   pub deep : length s.homes ≡ z.roots
 
 -- a world that the steps of the table's seats lead to is lawful, and the table shows it. Its journal names
--- seats and counters that are there, and no seat has added more than 2^40 units
+-- seats and counters that are there, and the units that a seat has added and the waits that it has withdrawn are
+-- together at most its share
 pub record IsLawfulTable (z : Setting) (s : State Record SemaView) : Type 0 where
   pub world : SemaWorld
   pub reached : IsReached (layout z) world
-  pub small : IsSmall (layout z) world
+  pub small : IsSmall (layout z) z.limit world
   pub lawful : IsLawfulWorld (layout z) world
   pub named : All (IsNamed (layout z)) world.journal
   pub shows : Shows z s world

@@ -5,6 +5,7 @@ use Rattle.arrayvec.specs.ArrayVec.{ArrayVec}
 use Rattle.step_table.specs.declared.place.AcquireRow.TheVariants.{A3}
 use Rattle.step_table.specs.declared.place.Place.TheVariants.{Acquiring}
 use Rattle.sema_table.specs.declared.answers.Entered.TheVariants as entered
+use Rattle.sema_table.specs.declared.answers.GaveUp.TheVariants as gave_up
 use Rattle.sema_table.specs.declared.answers.Polled.TheVariants as polled
 use Rattle.sema_table.specs.declared.answers.Posted.TheVariants as posted
 use Rattle.sema_table.specs.declared.answers.Retried.TheVariants as retried
@@ -20,6 +21,8 @@ use Rattle.sema_table.specs.declared.task_answers.TaskEntered.{TaskEntered}
 use Rattle.sema_table.specs.declared.task_answers.TaskEntered.TheVariants as enters
 use Rattle.sema_table.specs.declared.task_answers.TaskPolled.{TaskPolled}
 use Rattle.sema_table.specs.declared.task_answers.TaskPolled.TheVariants as polls
+use Rattle.sema_table.specs.declared.task_answers.TaskGaveUp.{TaskGaveUp}
+use Rattle.sema_table.specs.declared.task_answers.TaskGaveUp.TheVariants as gives
 use Rattle.sema_table.specs.declared.task_answers.TaskRetried.{TaskRetried}
 use Rattle.sema_table.specs.declared.task_answers.TaskRetried.TheVariants as retries
 use Rattle.sema_table.specs.declared.task_seat.TaskStage.{TaskStage}
@@ -30,8 +33,10 @@ use Rattle.sema_table.specs.Outcomes.{IfLost}
 use Rattle.sema_table.specs.Making.{IsMade}
 use Rattle.sema_table.specs.Tries.{IsValue, IsWaiters, IsTried, IsPosted, FindsHeld}
 use Rattle.sema_table.specs.Waking.{acquire_of, IsEntered, IsPolled, TriesWoken, IsWakened, StillOwes}
+use Rattle.sema_table.specs.Leaving.{Leaves, StillParked}
 use Rattle.sema_table.specs.Many.{release_of, IsPostedMany, IsWokenSeats, StillOwesMany}
 use Rattle.sema_table.specs.Callers.{StandsOn, ReadsNumber, CountsWaits, TriesToAcquire, JoinsQueue, PollsGrant, TriesOnce}
+use Rattle.sema_table.specs.CallersLeaving.{GivesUp}
 use Rattle.sema_table.specs.CallersReleasing.{PostsUnit, PostsUnits, WakesFirst, WakesThese}
 use Rattle.sema_table.specs.declared.task_seat.Stage.{Stage}
 use Rattle.sema_table.specs.TaskSeats.{TaskModel, stage_of}
@@ -125,6 +130,21 @@ PollsByTask s (Ok polls.Woken) t =
 PollsByTask s (Ok polls.Handed) t =
     Goes s Sleeping Resting t × IsPolled s.seat (polled.Handed t.seat) × PollsGrant s.seat (polled.Handed t.seat)
 PollsByTask s (Err why) t = Refuses s t (because (s.stage ≢ Sleeping) ⊥ ⊥ ⊥ ⊥ why)
+
+abbrev pub LeavesByTask : TaskModel → Result TaskGaveUp TaskRefused → TaskModel → Type 0
+LeavesByTask s (Ok gives.Left) t =
+    Goes s Sleeping Resting t × Leaves s.seat (gave_up.Left t.seat) × GivesUp s.seat (gave_up.Left t.seat)
+LeavesByTask s (Ok gives.Coming) t =
+    Goes s Sleeping Sleeping t × Leaves s.seat (gave_up.Coming t.seat) × GivesUp s.seat (gave_up.Coming t.seat)
+LeavesByTask s (Ok gives.Woken) t =
+    Goes s Sleeping Woken t × Leaves s.seat (gave_up.Woken t.seat) × GivesUp s.seat (gave_up.Woken t.seat)
+LeavesByTask s (Ok gives.Handed) t =
+    Goes s Sleeping Resting t × Leaves s.seat (gave_up.Handed t.seat) × GivesUp s.seat (gave_up.Handed t.seat)
+LeavesByTask s (Err why) t =
+    because ((t ≡ s) × (s.stage ≢ Sleeping)) ⊥
+    (Goes s Sleeping Sleeping t × StillParked s.seat t.seat × StandsOn s.seat t.seat)
+    (Goes s Sleeping Sleeping t × Leaves s.seat (gave_up.LimitReached t.seat)
+    × GivesUp s.seat (gave_up.LimitReached t.seat)) ⊥ why
 
 abbrev pub RetriesByTask : TaskModel → Result TaskRetried TaskRefused → TaskModel → Type 0
 RetriesByTask s (Ok retries.Taken) t =

@@ -6,7 +6,8 @@ use Rattle.step_table.specs.declared.entry.Entry.{Entry}
 use Rattle.step_table.specs.declared.entry.Entry.TheVariants.{Take, Queue, Leave}
 use Rattle.step_table.specs.declared.place.Acquire.{Acquire}
 use Rattle.step_table.specs.declared.place.Release.{Release}
-use Rattle.step_table.specs.declared.place.AcquireRow.TheVariants.{A3, A10, P}
+use Rattle.step_table.specs.declared.place.AcquireRow.TheVariants.{A3, A10, Parked}
+use Rattle.step_table.specs.declared.place.ParkedRow.TheVariants.{P}
 use Rattle.step_table.specs.declared.place.ReleaseRow.TheVariants.{R3, R9, R10}
 use Rattle.step_table.specs.declared.place.Place.{Place}
 use Rattle.step_table.specs.declared.place.Place.TheVariants.{Rest, Acquiring, Releasing}
@@ -36,7 +37,7 @@ acquire_of c lifo = record { counter = c; lifo = lifo }
 abbrev pub Parks : SeatModel → Acquire → SeatModel → Type 0
 Parks s a t =
     let was = s.sight.stands in
-    t.sight.stands ≡ record { place = Acquiring a (P was.turn); turn = was.turn + 1; hand = was.hand }
+    t.sight.stands ≡ record { place = Acquiring a (Parked was.turn P); turn = was.turn + 1; hand = was.hand }
 
 -- rows ran from this place on. A unit was taken, by the seat for itself; or the seat is parked, and its wait
 -- is queued, at the end that it asked for: the last thing that it has seen
@@ -58,7 +59,7 @@ StillOwes s t = (c : ℕ) × IsAt s (releasing c R3) × FindsHeld s c t
 pub record FindsNoGrant (i : ℕ) (p : SemaStride) : Type 0 where
   pub call : Acquire
   pub turn : ℕ
-  pub parked : p.stood.place ≡ Acquiring call (P turn)
+  pub parked : p.stood.place ≡ Acquiring call (Parked turn P)
   pub did : p.deed ≡ looks (Grant i)
   pub read : p.read ≡ 0
 
@@ -91,15 +92,15 @@ pub record CallsGranted (s : SeatModel) (from : Place) (t : SeatModel) (before :
 -- it was handed a unit by a grant of 2, which was taken for it after its wait had left
 abbrev pub IsPolled : SeatModel → Polled → Type 0
 IsPolled s (Still t) =
-    (a : Acquire) × (turn : ℕ) × IsAt s (Acquiring a (P turn)) × LooksAt s (Grant s.number) 0 t
+    (a : Acquire) × (turn : ℕ) × IsAt s (Acquiring a (Parked turn P)) × LooksAt s (Grant s.number) 0 t
 IsPolled s (Woken t) =
     (t ≡ record s { sight = t.sight; strides = t.strides })
-    × ((a : Acquire) × (turn : ℕ) × IsAt s (Acquiring a (P turn)) × ComesTo s (Acquiring a A10) t
-    × CallsGranted s (Acquiring a (P turn)) t [] 1)
+    × ((a : Acquire) × (turn : ℕ) × IsAt s (Acquiring a (Parked turn P)) × ComesTo s (Acquiring a A10) t
+    × CallsGranted s (Acquiring a (Parked turn P)) t [] 1)
 IsPolled s (Handed t) =
     (t ≡ record s { taken = s.taken + 1; sight = t.sight; strides = t.strides }) × ComesTo s Rest t
-    × ((a : Acquire) × (turn : ℕ) × IsAt s (Acquiring a (P turn))
-    × CallsGranted s (Acquiring a (P turn)) t [] 2
+    × ((a : Acquire) × (turn : ℕ) × IsAt s (Acquiring a (Parked turn P))
+    × CallsGranted s (Acquiring a (Parked turn P)) t [] 2
     × HasItsUnit a.counter (wait s.number turn) t.sight.seen)
 
 -- the seat tried first, as one that was woken

@@ -6,7 +6,8 @@ use Rattle.waiters.specs.declared.wait.WaitId.{WaitId}
 use Rattle.step_table.specs.declared.entry.Entry.{Entry}
 use Rattle.step_table.specs.declared.entry.Entry.TheVariants.{Take}
 use Rattle.step_table.specs.declared.place.Acquire.{Acquire}
-use Rattle.step_table.specs.declared.place.AcquireRow.TheVariants.{P}
+use Rattle.step_table.specs.declared.place.AcquireRow.TheVariants.{Parked}
+use Rattle.step_table.specs.declared.place.ParkedRow.TheVariants.{P, D2}
 use Rattle.step_table.specs.declared.place.Release.{Release}
 use Rattle.step_table.specs.declared.place.ReleaseRow.TheVariants.{R5, R6, R7, R9, R10}
 use Rattle.step_table.specs.declared.place.Place.{Place}
@@ -17,14 +18,13 @@ use Rattle.step_table.specs.World.{SeatState}
 use Rattle.step_table.specs.Counting.{total, on, counter_at}
 use Rattle.step_table.specs.Journal.{takes}
 use Rattle.step_table.specs.Path.{runs, looks, all_told}
-use Rattle.step_law_semaphores.specs.Balances.{added_by}
 use Rattle.step_law_semaphores.specs.SemaPath.{SemaStride, SemaPath, placed}
 use Rattle.sema_root.specs.Treap.{Treap}
 use Rattle.sema_table.specs.declared.view.Record.TheVariants.{Root}
 use Rattle.sema_table.specs.Strides.{IsRow}
 use Rattle.sema_table.specs.Setting.{root, layout}
 use Rattle.sema_table.specs.Places.{Begins, is_free, takes_lock, locked}
-use Rattle.sema_table.specs.Changes.{HasChanged}
+use Rattle.sema_table.specs.Changes.{HasChanged, spent_by}
 use Rattle.sema_table.specs.Rule.{stands_by, sight_by, lists_by, IsRecord}
 use Rattle.running_rows.specs.Strides.{here, Went as Strode}
 use Rattle.sema_table.specs.Rows.{semaphore_rows}
@@ -35,9 +35,13 @@ pub record Stands (t : TableModel) (s : Token) (place : Place) : Type 0 where
   pub table_is : table_of s ≡ t
   pub inside : counter_at place < length t.setting.starts
   pub place_is : s.me.0.own.knows.place ≡ place
-  pub limited : added_by s.me.0.own.number s.me.0.own.knows.seen ≤ 2 ^ 40
-  pub few : s.me.0.own.knows.turn ≤ 2 ^ 48 + 256
-  pub most : s.me.0.own.knows.taken ≤ 2 ^ 49
+  pub limited : spent_by s.me.0.own.number s.me.0.own.knows.seen ≤ s.me.0.own.knows.setting.limit
+  pub few : s.me.0.own.knows.turn ≤ 2 ^ 62 + 2 ^ 16
+  pub most : s.me.0.own.knows.taken ≤ 2 ^ 62 + 2 ^ 48
+
+-- the seat may spend so much more
+abbrev pub CanSpend : Token → ℕ → Type 0
+CanSpend s n = spent_by s.me.0.own.number s.me.0.own.knows.seen + n ≤ s.me.0.own.knows.setting.limit
 
 -- nothing has come of it
 abbrev pub IsSame : Token → Token → Type 0
@@ -48,7 +52,7 @@ pub record Starts (t : TableModel) (s : Token) (place : Place) : Type 0 where
   pub table_is : table_of s ≡ t
   pub inside : counter_at place < length t.setting.starts
   pub begins : Begins (length t.setting.starts) s.me.0.own.knows.place place
-  pub limited : added_by s.me.0.own.number s.me.0.own.knows.seen ≤ 2 ^ 40
+  pub limited : spent_by s.me.0.own.number s.me.0.own.knows.seen ≤ s.me.0.own.knows.setting.limit
   pub bare : s.me.1 ≡ []
   pub takes : takes_lock place ≡ true
 
@@ -60,9 +64,9 @@ pub record Went (IsOne : SemaStride → Type 0) (s : Token) (from : Place) (t : 
   pub table_is : table_of t ≡ table_of s
   pub number_is : t.me.0.own.number ≡ s.me.0.own.number
   pub stands_is : stands_by t.me.0.own.knows ≡ stands
-  pub few : t.me.0.own.knows.turn ≤ 2 ^ 48 + 256
+  pub few : t.me.0.own.knows.turn ≤ 2 ^ 62 + 2 ^ 16
   pub came : t.me.0.own.knows.taken ≡ s.me.0.own.knows.taken + gained
-  pub most : t.me.0.own.knows.taken ≤ 2 ^ 49
+  pub most : t.me.0.own.knows.taken ≤ 2 ^ 62 + 2 ^ 48
   pub counted : is_free stands.place ≡ true
       → takes t.me.0.own.number t.me.0.own.knows.seen ≡ t.me.0.own.knows.taken
   pub strides : List SemaStride
@@ -106,9 +110,14 @@ Edited s c lists t =
     (t.table_id ≡ s.table_id)
     × ((treap : Treap) × (t.me ≡ (s.me.0, (root z c, Root treap) ∷ [])) × IsRecord z (root z c) treap lists)
 
+-- where a seat goes that gives up and has the lock: its wait is in the list of its counter, or not
+abbrev pub sought_own : Token → Acquire → ℕ → Place
+sought_own s a turn = locked s.me.0.own.number (lists_of s) (Acquiring a (Parked turn D2))
+
 -- the row ran that takes the lock, and the record came with it
 abbrev pub Locked : Token → Place → Token → Type 0
-Locked s place t = Walked s place t (moved_to s (locked place)) [] 0 × HasRecord t (counter_at place)
+Locked s place t =
+    Walked s place t (moved_to s (locked s.me.0.own.number (lists_of t) place)) [] 0 × HasRecord t (counter_at place)
 
 -- a look found the lock of the root of c held, and is a stride
 pub record SawHeld (s : Token) (c : ℕ) (t : Token) : Type 0 where
@@ -145,7 +154,7 @@ unlocked s r = by_first s.me.0.own.knows.hand Rest (λ w. trying r)
 -- how a seat stands whose wait was queued
 abbrev pub parked : Token → Acquire → SeatState
 parked s a = record {
-  place = Acquiring a (P s.me.0.own.knows.turn);
+  place = Acquiring a (Parked s.me.0.own.knows.turn P);
   turn = s.me.0.own.knows.turn + 1;
   hand = s.me.0.own.knows.hand;
 }

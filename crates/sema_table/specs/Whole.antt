@@ -3,13 +3,16 @@ use Rattle.std.specs.Prelude.{◌≡◌, ◌⊎◌, Bool, ℕ, zero, suc, ◌+�
 use Rattle.step_table.specs.declared.entry.Entry.{Entry}
 use Rattle.step_table.specs.declared.entry.Entry.TheVariants.{Take, Queue}
 use Rattle.step_table.specs.declared.place.Acquire.{Acquire}
-use Rattle.step_table.specs.declared.place.AcquireRow.TheVariants.{A1, A3, A10, P}
+use Rattle.step_table.specs.declared.place.AcquireRow.TheVariants.{A1, A3, A10, Parked}
+use Rattle.step_table.specs.declared.place.ParkedRow.TheVariants.{P}
 use Rattle.step_table.specs.declared.place.Place.{Place}
 use Rattle.step_table.specs.declared.place.Place.TheVariants.{Rest, Acquiring}
 use Rattle.step_table.specs.Journal.{HasItsUnit}
 use Rattle.step_table.specs.Counting.{wait}
 use Rattle.step_law_semaphores.specs.SemaPath.{SemaStride}
 use Rattle.sema_table.specs.declared.answers.Posted.TheVariants.{Done, Owes}
+use Rattle.sema_table.specs.declared.answers.Polled.{Polled}
+use Rattle.sema_table.specs.declared.answers.Polled.TheVariants as polled
 use Rattle.sema_table.specs.declared.answers.Roused.{Roused}
 use Rattle.sema_table.specs.declared.answers.Roused.TheVariants.{Woken, Handed}
 use Rattle.sema_table.specs.declared.answers.Tried.{Tried}
@@ -19,20 +22,26 @@ use Rattle.sema_table.specs.declared.answers.Wake.TheVariants.{Nobody}
 use Rattle.sema_table.specs.Seats.{SeatModel}
 use Rattle.sema_table.specs.Calls.{RunsRows, IsAt, ComesTo, plain_seen}
 use Rattle.sema_table.specs.Tries.{acquiring, IsPosted}
-use Rattle.sema_table.specs.Waking.{acquire_of, RunsAndSleeps, CallsGranted, IsWakened}
+use Rattle.sema_table.specs.Waking.{acquire_of, OnlyLooks, RunsAndSleeps, CallsGranted, IsWakened}
 
 -- the seat was woken by a grant of 1, and has yet to try; or it was handed a unit by a grant of 2, which was
 -- taken for it after its wait had left
 abbrev pub IsRoused : SeatModel → Roused → Type 0
 IsRoused s (Woken t) =
     (t ≡ record s { sight = t.sight; strides = t.strides })
-    × ((a : Acquire) × (turn : ℕ) × IsAt s (Acquiring a (P turn)) × ComesTo s (Acquiring a A10) t
-    × ((looked : List SemaStride) × CallsGranted s (Acquiring a (P turn)) t looked 1))
+    × ((a : Acquire) × (turn : ℕ) × IsAt s (Acquiring a (Parked turn P)) × ComesTo s (Acquiring a A10) t
+    × ((looked : List SemaStride) × CallsGranted s (Acquiring a (Parked turn P)) t looked 1))
 IsRoused s (Handed t) =
     (t ≡ record s { taken = s.taken + 1; sight = t.sight; strides = t.strides }) × ComesTo s Rest t
-    × ((a : Acquire) × (turn : ℕ) × IsAt s (Acquiring a (P turn))
-    × ((looked : List SemaStride) × CallsGranted s (Acquiring a (P turn)) t looked 2)
+    × ((a : Acquire) × (turn : ℕ) × IsAt s (Acquiring a (Parked turn P))
+    × ((looked : List SemaStride) × CallsGranted s (Acquiring a (Parked turn P)) t looked 2)
     × HasItsUnit a.counter (wait s.number turn) t.sight.seen)
+
+-- the same of a sleep that ends with a time: it looked so until then, and found nothing
+abbrev pub SleepsInTime : SeatModel → Polled → Type 0
+SleepsInTime s (polled.Still t) = OnlyLooks s t
+SleepsInTime s (polled.Woken t) = IsRoused s (Woken t)
+SleepsInTime s (polled.Handed t) = IsRoused s (Handed t)
 
 -- a unit was added, and nobody waited at the root; or somebody did, and the release went on to wake
 abbrev pub IsReleased : SeatModel → ℕ → Bool → SeatModel → Wake → Type 0
@@ -65,14 +74,14 @@ TakesFrom s from a t =
 -- the seat is parked, and its wait is the last that it queued
 abbrev pub ParksLast : SeatModel → Acquire → ℕ → Type 0
 ParksLast s a turn =
-    s.sight.stands ≡ record { place = Acquiring a (P turn); turn = turn + 1; hand = s.sight.stands.hand }
+    s.sight.stands ≡ record { place = Acquiring a (Parked turn P); turn = turn + 1; hand = s.sight.stands.hand }
 
 abbrev pub HasParked : SeatModel → Type 0
 HasParked s = (a : Acquire) × (turn : ℕ) × ParksLast s a turn
 
 -- what became of the parked seat
 abbrev pub TakesAfter : SeatModel → SeatModel → Type 0
-TakesAfter s t = (a : Acquire) (turn : ℕ) → ParksLast s a turn → TakesFrom s (Acquiring a (P turn)) a t
+TakesAfter s t = (a : Acquire) (turn : ℕ) → ParksLast s a turn → TakesFrom s (Acquiring a (Parked turn P)) a t
 
 -- tries ran, and the last took a unit
 abbrev pub TakesAtOnce : SeatModel → ℕ → SeatModel → Type 0

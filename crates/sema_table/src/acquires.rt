@@ -95,7 +95,7 @@ impl SemaTable {
 
     /// Tries until a unit is taken or none is found: whether one was taken. It ends whatever others do.
     #[inline]
-    fn take_at_once(&self, seat: &mut Seat, counter: CounterId) -> bool
+    pub(crate) fn take_at_once(&self, seat: &mut Seat, counter: CounterId) -> bool
         requires { (seat.old.table ≡ self.now) × (counter < length self.now.setting.starts) }
         ensures { MatchBool result (TakesAtOnce seat.old counter seat.new)
             (FindsNone seat.old counter seat.new) }

@@ -66,6 +66,30 @@ pub enum Roused {
     Handed(Seat),
 }
 
+/// What the giving up of a seat came to whose wait is queued.
+pub enum GaveUp {
+    /// Its wait was taken out, and the seat rests.
+    Left(Seat),
+    /// A release has its wait, and the grant is on the way: the seat sleeps on.
+    Coming(Sleeping),
+    /// A grant had come: its wait was woken, and the seat has to try for a unit.
+    Woken(Woken),
+    /// A grant had come, with a unit.
+    Handed(Seat),
+    /// The seat has no unit left to spend: it sleeps on.
+    LimitReached(Sleeping),
+}
+
+/// What an acquire with a time-out came to.
+pub enum Acquired {
+    /// A unit was taken, or handed over.
+    Taken(Seat),
+    /// There was none, and the time is over. The seat may begin a call.
+    TimedOut(Seat),
+    /// The seat has no unit left to spend, which it may need to give up: nothing was done.
+    LimitReached(Seat),
+}
+
 /// Whom a release woke.
 #[derive(Clone, Copy, Drop)]
 pub enum Wake {

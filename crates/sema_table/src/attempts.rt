@@ -8,15 +8,17 @@ ghost use Rattle.sema_table.specs.AtLock.{HasGranted};
 ghost use Rattle.sema_table.specs.Waking.{acquire_of, IsEntered, IsWakened, StillOwes};
 ghost use Rattle.sema_table.specs.Many.{IsWokenSeats, StillOwesMany};
 ghost use Rattle.sema_table.specs.Tries.{FindsHeld};
+ghost use Rattle.sema_table.specs.Leaving.{Leaves, StillParked};
+ghost use Rattle.sema_table.specs.CallersLeaving.{GivesUp};
 ghost use Rattle.sema_table.specs.Callers.{JoinsQueue, StandsOn};
 ghost use Rattle.sema_table.specs.CallersReleasing.{WakesFirst, WakesThese};
 
-use crate::answers::{Entered, Wake};
+use crate::answers::{Entered, GaveUp, Wake};
 use crate::many_seat::OwingMany;
-use crate::seat::{Owing, Seat};
+use crate::seat::{Owing, Seat, Sleeping};
 use crate::sema_table::SemaTable;
 use crate::waking_many::WokenSeats;
-use step_table::{Acquire, AcquireRow, Place, Release};
+use step_table::{Acquire, AcquireRow, ParkedRow, Place, Release};
 use waiters::CounterId;
 
 impl SemaTable {
@@ -142,5 +144,51 @@ impl SemaTable {
         let mut hand = WokenSeats::new();
         let seat = self.wake_some_locked(token, numbers, &call, &mut hand);
         Ok((seat, hand))
+    }
+
+    /// As `leave`; where the root's lock stayed held the seat comes back asleep, as it was.
+    pub fn try_leave(&self, sleeping: Sleeping) -> Result<GaveUp, Sleeping>
+        requires { sleeping.table ≡ self.now }
+        ensures rows { MatchResult result (λ gave_up. Leaves sleeping gave_up)
+            (λ refused. StillParked sleeping refused) }
+        ensures caller { MatchResult result (λ gave_up. GivesUp sleeping gave_up)
+            (λ refused. StandsOn sleeping refused) }
+    {
+        let call = sleeping.call;
+        let tried = self.leave_silently(sleeping);
+        if let Ok(gave_up) = &tried {
+            self.rouse_after(gave_up, call.counter);
+        }
+        tried
+    }
+
+    /// As `try_leave`, and nobody is woken.
+    pub(crate) fn leave_silently(&self, sleeping: Sleeping) -> Result<GaveUp, Sleeping>
+        requires { sleeping.table ≡ self.now }
+        ensures rows { MatchResult result (λ gave_up. Leaves sleeping gave_up)
+            (λ refused. StillParked sleeping refused) }
+        ensures caller { MatchResult result (λ gave_up. GivesUp sleeping gave_up)
+            (λ refused. StandsOn sleeping refused) }
+    {
+        let asleep = match self.look_before(sleeping) {
+            Ok(asleep) => asleep,
+            Err(gave_up) => return Ok(gave_up),
+        };
+        let Sleeping {
+            mut token,
+            numbers,
+            call,
+            turn,
+        } = asleep;
+        let place = Place::Acquiring(call, AcquireRow::Parked(turn, ParkedRow::D2));
+        if !self.try_lock(&mut token, call.counter, &place) {
+            return Err(Sleeping {
+                token,
+                numbers,
+                call,
+                turn,
+            });
+        }
+        Ok(self.leave_locked(token, numbers, &call, turn))
     }
 }

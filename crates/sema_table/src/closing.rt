@@ -27,22 +27,23 @@ fn empty(closed: &mut running_rows::Closed<Record, Global>)
 
 impl SemaTable {
     /// One view of all these seats, and how many units they have added and were given.
-    fn gather(&self, first: Seat, seats: &mut Vec<Seat>) -> (Token, u64, u64)
+    fn gather(&self, first: Seat, seats: &mut Vec<Seat>) -> (Token, u64, u128)
         requires own { (first.table ≡ self.now) × All (λ s. s.table ≡ self.now) seats.old.items }
         requires count { length seats.old.items < self.now.setting.seats }
         ensures { IsGathered self.now (first ∷ seats.old.items) result.0 result.1 result.2 }
     {
         let Seat { mut token, numbers } = first;
-        let mut releases = self.limit - numbers.left;
-        let mut acquires = numbers.taken;
+        let mut releases = self.limit - numbers.left - numbers.withdrawn;
+        // Wider than what it comes to: that this is no more than was there and was added is known in the end.
+        let mut acquires = numbers.taken as u128;
         self.words.seat_alone(&mut token);
         while let Some(seat) = seats.pop() {
             let Seat {
                 token: mut theirs,
                 numbers,
             } = seat;
-            releases += self.limit - numbers.left;
-            acquires += numbers.taken;
+            releases += self.limit - numbers.left - numbers.withdrawn;
+            acquires += numbers.taken as u128;
             self.words.seat_alone(&mut theirs);
             self.words.seat_with(&mut token, theirs);
         }
@@ -67,7 +68,7 @@ impl SemaTable {
             words: closed,
             counters,
             releases,
-            acquires,
+            acquires: acquires as u64,
         }
     }
 }

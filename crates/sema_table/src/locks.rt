@@ -6,7 +6,7 @@ ghost use Rattle.sema_table.specs.Seats.{SeatModel};
 ghost use Rattle.sema_table.specs.AtLock.{IsGranted, HasGranted};
 ghost use Rattle.sema_table.specs.Many.{IsWokenSeats};
 
-use crate::answers::{Entered, Wake};
+use crate::answers::{Entered, GaveUp, Wake};
 use crate::rows::{AtSaid, Token};
 use crate::seat::Seat;
 use crate::sema_table::SemaTable;
@@ -16,7 +16,7 @@ use step_table::Place;
 use waiters::CounterId;
 
 impl SemaTable {
-    /// Takes the lock of a counter's root, by the row at this place (A3, R3 or M3).
+    /// Takes the lock of a counter's root, by the row at this place (A3, D2, R3 or M3).
     pub(crate) fn lock<R: Wait>(&self, rt: &R, token: &mut Token, counter: CounterId, place: &Place)
         requires { Starts self.now token.old place.now × (counter_at place.now ≡ counter) }
         ensures { Locked token.old place.now token.new }
@@ -52,6 +52,15 @@ impl SemaTable {
         match entered {
             Entered::Taken(seat) => self.rouse_at_lock(&seat.token, counter),
             Entered::Asleep(sleeping) => self.rouse_at_lock(&sleeping.token, counter),
+        }
+    }
+
+    /// The same after a seat gave up, where it took the lock.
+    pub(crate) fn rouse_after(&self, gave_up: &GaveUp, counter: CounterId) {
+        match gave_up {
+            GaveUp::Left(seat) => self.rouse_at_lock(&seat.token, counter),
+            GaveUp::Coming(asleep) => self.rouse_at_lock(&asleep.token, counter),
+            GaveUp::Woken(_) | GaveUp::Handed(_) | GaveUp::LimitReached(_) => {}
         }
     }
 

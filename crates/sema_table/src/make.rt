@@ -1,11 +1,12 @@
 //! How a table is made.
+ghost use Rattle.std.specs.Prelude.{◌↔◌, IsTrue};
 ghost use Rattle.std.specs.Prelude.{◌≡◌, ℕ, ◌+◌, ◌^◌, ◌<◌, ◌≤◌, ◌++◌, [], replicate, All, IfOk, OnOk, IfErr};
 ghost use Rattle.sema_table.specs.declared.view.Setting.{Setting};
 ghost use Rattle.sema_table.specs.Setting.{apart};
 ghost use Rattle.running_rows.specs.Rule.{fresh_seat};
 ghost use Rattle.sema_table.specs.Rows.{semaphore_rows};
 ghost use Rattle.sema_table.specs.Seats.{table_of};
-ghost use Rattle.sema_table.specs.Making.{AreAllowed, IsRefused, IsMade, new_root, new_roots};
+ghost use Rattle.sema_table.specs.Making.{AreAllowed, IsRefused, MaySpend, IsMade, new_root, new_roots};
 ghost use Rattle.sema_table.specs.Making as making;
 
 use crate::rows::Token;
@@ -22,11 +23,23 @@ use waiters::NoMemory;
 /// The most counters of a table.
 const MAX_COUNTERS: usize = 65_536;
 /// The most seats.
-const MAX_SEATS: u32 = 256;
+const MAX_SEATS: u32 = 65_536;
 /// The most roots.
 pub(crate) const MAX_ROOTS: u32 = 251;
-/// The most units that each seat may add.
-const MAX_RELEASE_LIMIT: u64 = 1 << 40;
+/// The most units that each seat may spend.
+const MAX_RELEASE_LIMIT: u64 = 1 << 54;
+/// And that all may together: so no number and no sum wraps.
+const MOST_SPENT: u64 = 1 << 62;
+
+/// Whether so many seats may spend so much each.
+fn may_spend(seats: u32, limit: u64) -> bool
+    ensures { IsTrue result ↔ MaySpend seats limit }
+{
+    match u64::from(seats).checked_mul(limit) {
+        Some(all) => limit != 0 && limit <= MAX_RELEASE_LIMIT && all <= MOST_SPENT,
+        None => false,
+    }
+}
 
 /// Whether the settings are within all limits, or else the first that isn't kept.
 fn check(settings: &Settings) -> Result<(), SetupError>
@@ -43,7 +56,7 @@ fn check(settings: &Settings) -> Result<(), SetupError>
     if settings.roots == 0 || settings.roots > MAX_ROOTS {
         return Err(SetupError::Roots);
     }
-    if settings.release_limit == 0 || settings.release_limit > MAX_RELEASE_LIMIT {
+    if !may_spend(settings.seats, settings.release_limit) {
         return Err(SetupError::ReleaseLimit);
     }
     Ok(())
@@ -54,7 +67,7 @@ fn new_seat(token: Token, number: u16, limit: u64) -> Seat
     requires fresh { (z : Setting) × (token.me.0.own ≡ fresh_seat semaphore_rows z number)
         × (token.me.1 ≡ []) × (z.limit ≡ limit)
         × (number < z.seats) }
-    requires limit { limit ≤ 2 ^ 40 }
+    requires limit { limit ≤ 2 ^ 54 }
     ensures { result ≡ making.new_seat (table_of token) number }
 {
     Seat {
@@ -62,6 +75,7 @@ fn new_seat(token: Token, number: u16, limit: u64) -> Seat
         numbers: Numbers {
             seat: u64::from(number),
             left: limit,
+            withdrawn: 0,
             turns: 0,
             taken: 0,
         },
@@ -90,14 +104,14 @@ fn first_words(alloc: Global, settings: &Settings) -> Result<Vec<u64>, AllocErro
 }
 
 /// A root where nobody waits.
-fn empty_root(alloc: Global, seats: u16, seed: u64) -> Result<Record, NoMemory>
+fn empty_root(alloc: Global, seats: u32, seed: u64) -> Result<Record, NoMemory>
     ensures { IfOk result (λ root. root ≡ new_root seats seed) }
 {
-    Ok(Record::Root(TreapRoot::with_room(alloc, seats, seed)?))
+    Ok(Record::Root(TreapRoot::with_room_for(alloc, seats, seed)?))
 }
 
 /// The roots in the order of their numbers. Each draws its tickets from the seed plus its number.
-fn empty_roots(alloc: Global, seats: u16, roots: u32, seed: u64) -> Result<Vec<Record>, NoMemory>
+fn empty_roots(alloc: Global, seats: u32, roots: u32, seed: u64) -> Result<Vec<Record>, NoMemory>
     ensures { IfOk result (λ made. made.items ≡ new_roots seats seed roots) }
 {
     let mut made = Vec::with_capacity(alloc, roots as usize)?;
@@ -112,17 +126,17 @@ fn make(alloc: Global, settings: &Settings) -> Result<(SemaTable, Vec<Seat>), No
     requires { AreAllowed settings.now }
     ensures { IfOk result (λ t. IsMade settings.now t.0 t.1.items) }
 {
-    let seats = settings.seats as u16;
+    let seats = settings.seats;
     let limit = settings.release_limit;
     let numbers = first_words(alloc, settings)?;
     let slots = empty_roots(alloc, seats, settings.roots, settings.seed)?;
-    let mut made = Vec::with_capacity(alloc, usize::from(seats))?;
+    let mut made = Vec::with_capacity(alloc, seats as usize)?;
     let Ok((words, mut first)) = Running::new(alloc, numbers.as_slice(), slots, settings) else {
         return Err(NoMemory);
     };
     for number in 1..seats {
         let token = words.make_seat(&mut first);
-        made.push_reserved(new_seat(token, number, limit));
+        made.push_reserved(new_seat(token, number as u16, limit));
     }
     let Ok(()) = made.insert(0, new_seat(first, 0, limit)) else {
         unreachable!()

@@ -2,7 +2,7 @@
 ghost use Rattle.std.specs.Prelude.{◌≡◌, ◌+◌, ◌<◌, [], ◌∷◌, length, MatchBool};
 ghost use Rattle.step_table.specs.declared.entry.Entry.TheVariants.{Take, Queue};
 ghost use Rattle.step_table.specs.declared.place.Place.TheVariants.{Rest, Acquiring};
-ghost use Rattle.step_table.specs.declared.place.AcquireRow.TheVariants.{A3, A4, A5, A7, A8, A9, P};
+ghost use Rattle.step_table.specs.declared.place.AcquireRow.TheVariants.{A3, A4, A5, A7, A8, A9};
 ghost use Rattle.sema_table.specs.Places.{Begins};
 ghost use Rattle.sema_table.specs.Seats.{Token, IsToken, table_of, seat_of};
 ghost use Rattle.sema_table.specs.AtLock.{HasLocked};

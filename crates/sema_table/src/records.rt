@@ -1,6 +1,6 @@
 //! The record of a root, edited in its slot by the seat that holds the root's lock.
-ghost use Rattle.std.specs.Prelude.{◌≡◌, ◌<◌, drop, length, [], ◌∷◌, IfSome, IfNone};
-ghost use Rattle.step_table.specs.World.{put, insert_wait};
+ghost use Rattle.std.specs.Prelude.{◌≡◌, ◌<◌, drop, length, [], ◌∷◌, IfSome, IfNone, MatchBool};
+ghost use Rattle.step_table.specs.World.{put, insert_wait, stands_in, without};
 ghost use Rattle.sema_table.specs.Seats.{table_of};
 ghost use Rattle.sema_table.specs.Walks.{HasRecord, HasRoom, Edited, lists_of};
 
@@ -10,7 +10,7 @@ use crate::view::Record;
 use running_rows::Running;
 use sema_root::RootStore;
 use step_table::Acquire;
-use waiters::{CounterId, Wait, WaitId};
+use waiters::{CounterId, SeatId, Wait, WaitId};
 
 impl SemaTable {
     /// Puts a wait into the list of the call's counter, at the end that the call asks for.
@@ -44,5 +44,21 @@ impl SemaTable {
         };
         let first = root.dequeue(counter)?;
         Some(first.id)
+    }
+
+    /// Takes the wait of a seat out of the list of a counter, wherever it stands there: whether it was in.
+    pub(crate) fn remove_own(&self, token: &mut Token, counter: CounterId, seat: SeatId) -> bool
+        requires { (table_of token.old ≡ self.now) × HasRecord token.old counter
+            × (counter < length self.now.setting.starts) }
+        ensures found { result ≡ stands_in seat (lists_of token.old counter) }
+        ensures removed { let lists = lists_of token.old in MatchBool result
+            (Edited token.old counter (put lists counter (without seat (lists counter))) token.new)
+            (Edited token.old counter lists token.new) }
+    {
+        let slot = self.root_of(counter);
+        let Record::Root(root) = Running::record_mut(token, &self.words, slot) else {
+            unreachable!()
+        };
+        root.withdraw(counter, seat).is_some()
     }
 }

@@ -1,7 +1,7 @@
 //! A seat between two calls, and what it is in the middle of one.
 ghost use Rattle.std.specs.Prelude.{◌≡◌, ◌+◌, ◌^◌, ◌<◌};
 ghost use Rattle.step_table.specs.Journal.{takes};
-ghost use Rattle.step_law_semaphores.specs.Balances.{added_by};
+ghost use Rattle.step_law_semaphores.specs.Balances.{added_by, withdrawn_by};
 ghost use Rattle.sema_table.specs.Seats.{IsWaitOf};
 
 use crate::rows::Token;
@@ -22,8 +22,10 @@ pub(crate) struct Numbers {
     /// Its own number, as wide as the others: bytes between them that no field has would be copied through
     /// memory.
     pub(crate) seat: u64,
-    /// How many units more it may add.
+    /// How many units more it may spend: a unit that it adds is one, and so is a wait that it withdraws.
     pub(crate) left: u64,
+    /// How many waits it has withdrawn.
+    pub(crate) withdrawn: u64,
     /// How many waits it has queued.
     pub(crate) turns: u64,
     /// How many units it was given.
@@ -111,10 +113,12 @@ impl Seat {
         self.numbers.id()
     }
 
-    /// How many units more the seat may add: its release limit less what the journal tells that it has added.
+    /// How many units more the seat may spend: its release limit less the units that the journal tells it has
+    /// added, and less one for each wait that it has withdrawn.
     pub fn left(&self) -> u64
         ensures left { result ≡ self.now.left }
-        ensures added { result + added_by self.now.number self.now.sight.seen ≡ self.now.table.setting.limit }
+        ensures spent { result + added_by self.now.number self.now.sight.seen
+            + withdrawn_by self.now.number self.now.sight.seen ≡ self.now.table.setting.limit }
     {
         self.numbers.left
     }
@@ -137,6 +141,7 @@ impl Seat {
         let Numbers {
             seat,
             left,
+            withdrawn,
             turns,
             taken,
         } = numbers;
@@ -145,6 +150,7 @@ impl Seat {
             numbers: Numbers {
                 seat,
                 left,
+                withdrawn,
                 turns,
                 taken,
             },

@@ -21,7 +21,7 @@ pub struct SemaTable {
     pub(crate) counters: u32,
     pub(crate) roots: u32,
     pub(crate) seats: u32,
-    /// How many units each seat may add.
+    /// How many units each seat may spend.
     pub(crate) limit: u64,
 }
 
@@ -41,7 +41,7 @@ impl Model for SemaTable {
 /// More than can be lost of the tries on one counter. A try is lost only where units of the counter were added
 /// or taken since it looked; and of these there are fewer, since seats add no more than they may, and nothing
 /// is taken that wasn't there.
-pub(crate) const MOST_TRIES: u64 = 1 << 50;
+pub(crate) const MOST_TRIES: u64 = (1 << 63) + (1 << 33);
 
 /// Where the counter of a number lies. Each has a cache line of its own: two in one line would be fetched
 /// together.

@@ -3,12 +3,13 @@
 pub struct Settings {
     /// The number at which each counter starts: 1 to 65,536 of them.
     pub starts: Vec<u32>,
-    /// How many seats there are: 1 to 256.
+    /// How many seats there are: 1 to 65,536.
     pub seats: u32,
     /// How many roots there are: 1 to 251. Counter `c` is at root `c` modulo that number.
     pub roots: u32,
     /// From what the roots draw their tickets: root `r` from the seed plus `r`, modulo 2^64.
     pub seed: u64,
-    /// How many units each seat may add: 1 to 2^40.
+    /// How many units each seat may spend: 1 to 2^54, and at most 2^62 for all seats together. It spends those
+    /// that it adds, and one for each wait that it takes out of its queue.
     pub release_limit: u64,
 }

@@ -9,11 +9,11 @@ use std::fmt;
 pub enum SetupError {
     /// There are not 1 to 65,536 counters.
     Counters = 1,
-    /// There are not 1 to 256 seats.
+    /// There are not 1 to 65,536 seats.
     Seats = 2,
     /// There are not 1 to 251 roots.
     Roots = 3,
-    /// The release limit is not 1 to 2^40.
+    /// The release limit is not 1 to 2^54, or that of all seats together is above 2^62.
     ReleaseLimit = 4,
     /// Memory was refused.
     NoMemory = 5,

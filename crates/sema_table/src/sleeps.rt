@@ -1,7 +1,7 @@
 //! Sleeping until a grant.
 ghost use Rattle.std.specs.Prelude.{◌≡◌, ◌<◌};
-ghost use Rattle.sema_table.specs.Whole.{IsRoused};
-ghost use Rattle.sema_table.specs.Callers.{SleepsUntilRoused};
+ghost use Rattle.sema_table.specs.Whole.{IsRoused, SleepsInTime};
+ghost use Rattle.sema_table.specs.Callers.{PollsGrant, SleepsUntilRoused};
 ghost use Rattle.sema_table.specs.Walks.{IsSame};
 
 use crate::answers::{Polled, Roused};
@@ -10,6 +10,7 @@ use crate::seat::Sleeping;
 use crate::sema_table::SemaTable;
 use running_rows::{GivesWay, Patience};
 use std::sync::Wait;
+use std::time::{Clock, Duration, Instant};
 
 /// How often a seat looks for its grant before its thread sleeps.
 const PATIENCE: Patience = Patience {
@@ -17,6 +18,14 @@ const PATIENCE: Patience = Patience {
     looks: 2_000,
     gives_way: GivesWay::Never,
 };
+
+/// How much time is left until the deadline: none where the clock can't be read.
+pub(crate) fn time_left<R: Clock>(rt: &R, deadline: Instant) -> Duration {
+    match Instant::now(rt) {
+        Ok(now) => deadline.saturating_duration_since(now),
+        Err(_) => Duration::ZERO,
+    }
+}
 
 impl SemaTable {
     /// Waits until the seat's wait is granted: looks for a while, and then sleeps (Go's `goparkunlock` and
@@ -34,7 +43,7 @@ impl SemaTable {
                 call,
                 turn,
             } = sleeping;
-            self.await_grant(rt, &mut token, numbers.id().number());
+            self.await_grant(rt, &mut token, numbers.id().number(), None);
             let awake = Sleeping {
                 token,
                 numbers,
@@ -50,9 +59,65 @@ impl SemaTable {
         unreachable!()
     }
 
-    /// Returns once something is granted to the seat, and perhaps before.
+    /// The same until the deadline: `Still` says that nothing was granted at a look after it. A clock that
+    /// can't be read ends the sleep.
+    pub fn sleep_until<R: Wait + Clock>(
+        &self,
+        rt: &R,
+        sleeping: Sleeping,
+        deadline: Instant,
+    ) -> Polled
+        requires { sleeping.table ≡ self.now }
+        ensures rows { SleepsInTime sleeping result }
+        ensures caller { PollsGrant sleeping result }
+    {
+        let mut sleeping = sleeping;
+        for _ in rt.forever() {
+            let longest = time_left(rt, deadline);
+            let Sleeping {
+                mut token,
+                numbers,
+                call,
+                turn,
+            } = sleeping;
+            self.await_grant_for(rt, &mut token, numbers.id().number(), longest);
+            let awake = Sleeping {
+                token,
+                numbers,
+                call,
+                turn,
+            };
+            match self.poll(awake) {
+                Polled::Still(still) => {
+                    if longest.is_zero() {
+                        return Polled::Still(still);
+                    }
+                    sleeping = still;
+                }
+                Polled::Woken(woken) => return Polled::Woken(woken),
+                Polled::Handed(seat) => return Polled::Handed(seat),
+            }
+        }
+        unreachable!()
+    }
+
+    /// Returns once something is granted to the seat or so much time is over, and perhaps before; at once
+    /// where it is none.
+    fn await_grant_for<R: Wait>(&self, rt: &R, token: &mut Token, seat: u16, longest: Duration)
+        requires own { token.old.table_id ≡ self.now.id }
+        requires there { seat < self.now.setting.seats }
+        ensures { IsSame token.old token.new }
+    {
+        if longest.is_zero() {
+            return;
+        }
+        self.await_grant(rt, token, seat, Some(longest));
+    }
+
+    /// Returns once something is granted to the seat, and perhaps before; where a longest time is given, once
+    /// that is over too.
     #[tactic(auto, using(crate::proofs::Owned::aside_in))]
-    fn await_grant<R: Wait>(&self, rt: &R, token: &mut Token, seat: u16)
+    fn await_grant<R: Wait>(&self, rt: &R, token: &mut Token, seat: u16, longest: Option<Duration>)
         requires own { token.old.table_id ≡ self.now.id }
         requires there { seat < self.now.setting.seats }
         ensures { IsSame token.old token.new }
@@ -61,6 +126,6 @@ impl SemaTable {
         let asleep = self.asleep_word(seat);
         let misses = self.misses_word(seat);
         self.words
-            .await_grant(rt, token, word, asleep, misses, &PATIENCE);
+            .await_grant(rt, token, word, asleep, misses, &PATIENCE, longest);
     }
 }

@@ -9,7 +9,7 @@ pub enum TaskRefused {
     NoCounter = 2,
     /// The root's lock stayed held.
     Busy = 3,
-    /// The seat may not add so many units.
+    /// The seat may not spend so many units.
     LimitReached = 4,
     /// There are not 1 to 256 units.
     Units = 5,
@@ -41,6 +41,19 @@ pub enum TaskPolled {
     /// The wait was woken, and the seat has to try for a unit.
     Woken,
     /// The wait was woken with a unit.
+    Handed,
+}
+
+/// What the giving up of a seat came to whose wait is queued.
+#[derive(Clone, Copy, Drop)]
+pub enum TaskGaveUp {
+    /// Its wait was taken out, and the seat rests.
+    Left,
+    /// A release has its wait, and the grant is on the way: the seat sleeps on.
+    Coming,
+    /// A grant had come: its wait was woken, and the seat has to try for a unit.
+    Woken,
+    /// A grant had come, with a unit.
     Handed,
 }
 

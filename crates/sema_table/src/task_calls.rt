@@ -2,12 +2,14 @@
 //! is a step or two, changes it where it lies.)
 ghost use Rattle.std.specs.Prelude.{◌≡◌};
 ghost use Rattle.sema_table.specs.Tasks.{PostsManyByTask, EntersByTask, PollsByTask, RetriesByTask};
-ghost use Rattle.sema_table.specs.Tasks.{WakesByTask, WakesSomeByTask};
+ghost use Rattle.sema_table.specs.Tasks.{LeavesByTask, WakesByTask, WakesSomeByTask};
 
-use crate::answers::{Entered, Polled, Retried, Wake};
+use crate::answers::{Entered, GaveUp, Polled, Retried, Wake};
 use crate::many_seat::{OwingMany, PostedMany};
 use crate::seat::{Owing, Seat, Sleeping, Woken};
-use crate::task_answers::{TaskEntered, TaskPolled, TaskPosted, TaskRefused, TaskRetried};
+use crate::task_answers::{
+    TaskEntered, TaskGaveUp, TaskPolled, TaskPosted, TaskRefused, TaskRetried,
+};
 use crate::task_seat::{Stage, TaskSeat};
 use crate::tasks::TaskTable;
 use crate::waking_many::WokenSeats;
@@ -85,6 +87,34 @@ impl TaskTable {
             Polled::Still(asleep) => (TaskSeat::sleeping(asleep), Ok(TaskPolled::Still)),
             Polled::Woken(woken) => (TaskSeat::woken(woken), Ok(TaskPolled::Woken)),
             Polled::Handed(seat) => (TaskSeat::resting(seat), Ok(TaskPolled::Handed)),
+        }
+    }
+
+    /// As [`SemaTable::try_leave`].
+    pub fn leave(&self, seat: TaskSeat) -> (TaskSeat, Result<TaskGaveUp, TaskRefused>)
+        requires { seat.seat.table ≡ self.now }
+        ensures { LeavesByTask seat result.1 result.0 }
+    {
+        let stage = seat.stage;
+        let Stage::Sleeping(call, turn) = stage else {
+            return (seat, Err(TaskRefused::OtherCall));
+        };
+        let TaskSeat { token, numbers, .. } = seat;
+        let asleep = Sleeping {
+            token,
+            numbers,
+            call,
+            turn,
+        };
+        match self.table.leave_silently(asleep) {
+            Ok(GaveUp::Left(seat)) => (TaskSeat::resting(seat), Ok(TaskGaveUp::Left)),
+            Ok(GaveUp::Coming(asleep)) => (TaskSeat::sleeping(asleep), Ok(TaskGaveUp::Coming)),
+            Ok(GaveUp::Woken(woken)) => (TaskSeat::woken(woken), Ok(TaskGaveUp::Woken)),
+            Ok(GaveUp::Handed(seat)) => (TaskSeat::resting(seat), Ok(TaskGaveUp::Handed)),
+            Ok(GaveUp::LimitReached(asleep)) => {
+                (TaskSeat::sleeping(asleep), Err(TaskRefused::LimitReached))
+            }
+            Err(asleep) => (TaskSeat::sleeping(asleep), Err(TaskRefused::Busy)),
         }
     }
 

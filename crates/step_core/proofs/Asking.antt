@@ -8,9 +8,9 @@ use Rattle.step_table.specs.declared.place.Place.TheVariants.{Releasing}
 use Rattle.step_table.specs.declared.refusal.StepRefused.{StepRefused}
 use Rattle.step_table.specs.declared.refusal.StepRefused.TheVariants.{NoSuchSeat}
 use Rattle.step_table.specs.declared.standing.After.{After}
-use Rattle.step_table.specs.declared.standing.After.TheVariants.{NextCall, LooksAgain, Releases}
+use Rattle.step_table.specs.declared.standing.After.TheVariants.{Closes, LooksAgain, Releases}
 use Rattle.step_table.specs.declared.standing.Standing.{Standing}
-use Rattle.step_table.specs.declared.standing.Standing.TheVariants.{Rest, AtCounter, AtList, AtGroup, Failed}
+use Rattle.step_table.specs.declared.standing.Standing.TheVariants.{Rest, AtCounter, AtList, AtGroup, Failed, Left}
 use Rattle.step_rows.specs.Stored.{each}
 use Rattle.step_law_whole.specs.CoreLaw.{IsCallBefore, IsStanding}
 use Rattle.step_table.specs.Core.{CoreLayout, Core}
@@ -27,9 +27,10 @@ unless_none true cause = ((λ t. refl), (λ e. refl))
 unless_none false cause = ((λ f. absurd cc), (λ e. absurd cc))
 
 refused_none : (m : CoreLayout) (s : Core) (i : ℕ) (doing : Standing) → IsTrue (can_run m s i doing) ↔ (refusal_of m s i doing ≡ None)
+refused_none m s i (Left skips) = ((λ f. absurd cc), (λ e. absurd cc))
 refused_none m s i Rest = ((λ f. absurd cc), (λ e. absurd cc))
 refused_none m s i (AtCounter after) = unless_none _ _
-refused_none m s i (AtList l) = unless_none _ _
+refused_none m s i (AtList l ending) = unless_none _ _
 refused_none m s i (AtGroup g row) = ((λ t. refl), (λ e. refl))
 refused_none m s i (Failed misuse) = ((λ f. absurd cc), (λ e. absurd cc))
 
@@ -48,7 +49,7 @@ module _ (m : Moment) (past : HasPast m) (i : ℕ) (there : i < length m.parts.c
   asks = asks_for (change_in m.table) behind law i there
 
   seat_on : (doing : Standing) → IsStanding (layout m.parts) (run_of behind).core i doing → HasSeatOn m.machine i doing
-  seat_on (AtList l) is = (
+  seat_on (AtList l ending) is = (
     let a = law.machine.lists in let h = is.2 in omega arith,
     let h = there in let a = law.machine.seats l is.2 in omega arith,
   )
@@ -61,8 +62,8 @@ module _ (m : Moment) (past : HasPast m) (i : ℕ) (there : i < length m.parts.c
       let groups = law.scenario.limits.groups in omega arith
 
   may_go_on : (after : After) (place : Place) → IsCallBefore (layout m.parts) after place → MayGoOn m.machine after
-  may_go_on NextCall place is = tt
-  may_go_on (LooksAgain g) place is = tt
+  may_go_on (Closes ending) place is = tt
+  may_go_on (LooksAgain g ending) place is = tt
   may_go_on (Releases g more) (Releasing r row) is = has_group g is.2
   may_go_on (Releases g more) _ is = absurd is
 

@@ -1,4 +1,8 @@
 pub mod Costs
+pub mod Once
+pub mod Going
+pub mod Withdrawing
+pub mod Fewness
 pub mod Changing
 pub mod Settling
 pub mod ListRanges
@@ -9,6 +13,7 @@ pub mod Moving
 pub mod Reading
 pub mod Scheduling
 pub mod RunningRows
+pub mod Readying
 pub mod Beginning
 pub mod Worlds
 pub mod KeyErasing
@@ -26,6 +31,7 @@ pub mod Naming
 pub mod NamedFacts
 pub mod NamedKeys
 pub mod Often
+pub mod Skips
 pub mod StandingOnce
 pub mod WaitingOnce
 pub mod NamedLaw

@@ -1,17 +1,22 @@
 -- What the rows of a notify list ask for holds in each world that steps reach: no number is too great for its word, and each
 -- wait has room.
-use Rattle.std.proofs.Common.{◌≡◌, ℕ, ◌<◌, ◌≤◌}
-use Rattle.std.proofs.Common.{List, [], ◌∷◌, length, slice_get, IfSome, refl, ap, subst, arith}
+use Rattle.std.proofs.Common.{◌≡◌, ℕ, ◌+◌, ◌<◌, ◌≤◌}
+use Rattle.std.proofs.Common.{List, [], ◌∷◌, length, slice_get, IfSome, refl, ap, ◌∙◌, subst, arith}
+use Rattle.std.proofs.lemmas.List.{length-map}
 use Rattle.waiters.specs.declared.wait.Wait.{Wait}
-use Rattle.step_table.specs.declared.list_place.AllRow.TheVariants.{L7}
+use Rattle.step_table.specs.declared.list_place.AllRow.TheVariants.{L6, L7}
 use Rattle.step_table.specs.declared.list_place.ListPlace.{ListPlace}
 use Rattle.step_table.specs.declared.list_place.ListPlace.TheVariants.{Waiting, NotifyingAll}
-use Rattle.step_table.specs.declared.list_place.WaitRow.TheVariants.{W2, W4}
+use Rattle.step_table.specs.declared.list_place.WaitRow.TheVariants.{W2, W4, Parked}
+use Rattle.step_table.specs.declared.list_place.ListParkedRow.TheVariants.{E3}
+use Rattle.step_table.specs.Counting.{total}
+use Rattle.step_table.specs.Wrapping.{word_of}
 use Rattle.step_table.specs.ListWorld.{ListWorld}
 use Rattle.step_law_lists.specs.ListLawful.{times}
 use Rattle.step_law_lists.specs.ListInvariant.{HandFits}
-use Rattle.step_law_lists.specs.ListWellFormed.{asleep_on_list, IsWellFormedList}
-use Rattle.step_rows.specs.ListStored.{AsksAt, HasListRow}
+use Rattle.step_law_lists.specs.ListWellFormed.{asleep_on_list, IsWellFormedList, StillReads}
+use Rattle.step_rows.specs.ListStored.{AsksAt, HasListRow, HasGoneRoom, most_gone}
+use Rattle.step_core.specs.State.{may_go}
 use Rattle.step_table.proofs.Sums.{total_has}
 use Rattle.step_law_lists.proofs.ListPlacing.{one_here, waiter_of}
 use Rattle.step_law_lists.proofs.ListSleeping.{room}
@@ -26,9 +31,9 @@ first_held seats [] each = tt
 first_held seats (w ∷ hand) each = each w (let here = one_here w in omega arith)
 
 module _ (first seats i : ℕ) (s : ListWorld) (in_range : i < seats) (inv : IsWellFormedList first seats s) where
-  -- no more are granted than were handed out
-  pub no_more_granted : s.words.numbers.granted ≤ s.words.numbers.handed
-  no_more_granted = inv.words.2
+  -- no more are passed than were handed out
+  pub no_more_passed : s.words.numbers.passed ≤ s.words.numbers.handed
+  no_more_passed = inv.words.2
 
   -- the first wait in the seat's hand is of a seat that is there
   pub waiter_there : IfSome (slice_get (s.seats i).hand 0) (λ w. w.id.seat < seats)
@@ -41,15 +46,30 @@ module _ (first seats i : ℕ) (s : ListWorld) (in_range : i < seats) (inv : IsW
   hand_empty h n is =
       nothing_held (s.seats i).hand (subst (λ p. HandFits p (length (s.seats i).hand)) is (inv.seats_known i in_range).fits)
 
-  module _ (few : s.words.numbers.handed < 9223372036854775808) where
+  -- few tickets are gone, and one more fits where the seat's may go
+  module _ (handed : s.words.numbers.handed ≤ 512)
+      (few : length s.words.numbers.gone + total seats (λ k. may_go (s.seats k).place) ≤ most_gone seats) (limit : seats ≤ 16) where
+    same_long : length s.words.gone ≡ length s.words.numbers.gone
+    same_long = ap (λ l. length l) inv.words.3 ∙ length-map s.words.numbers.gone (word_of first)
+
+    room_at : 0 < may_go (s.seats i).place → HasGoneRoom seats s.words
+    room_at may =
+        let here = total_has seats (λ k. may_go (s.seats k).place) i in_range in
+        let long = same_long in record { words = omega arith; numbers = omega arith }
+
     asks_at : (place : ListPlace) → (s.seats i).place ≡ place → AsksAt seats s.words s.seats (s.seats i) place
-    asks_at (Waiting t W2) is = let le = no_more_granted in omega arith
+    asks_at (Waiting t W2) is = let le = no_more_passed in omega arith
     asks_at (Waiting t W4) is = room seats s inv.placed i in_range (ap (λ p. asleep_on_list p (s.words.grants i)) is)
+    asks_at (Waiting t (Parked (E3 v))) is = room_at (let one : may_go (s.seats i).place ≡ 1 = ap may_go is in omega arith)
+    asks_at (Waiting t (Parked row)) is = tt
+    asks_at (NotifyingAll h (L6 r)) is =
+        let reads = subst (StillReads first s.words) is (inv.seats_known i in_range).reads in
+        let most = reads.2 in omega arith
     asks_at (NotifyingAll h (L7 n)) is = hand_empty h n is
     asks_at _ is = tt
 
     -- all that the seat's row asks for
     pub has_list_row : HasListRow seats s.words s.seats i
     has_list_row =
-        let le = no_more_granted in
-        record { seat = in_range; handed = omega arith; granted = omega arith; waiter = waiter_there; asks = asks_at (s.seats i).place refl }
+        let le = no_more_passed in
+        record { seat = in_range; handed = omega arith; passed = omega arith; waiter = waiter_there; asks = asks_at (s.seats i).place refl }

@@ -5,35 +5,43 @@ use Rattle.std.proofs.Common.{length-set}
 use Rattle.std.proofs.lemmas.List.{length-replicate}
 use Rattle.step_table.specs.declared.call.Call.{Call}
 use Rattle.step_table.specs.declared.call.Call.TheVariants.{Acquire, Release, ReleaseMany, Add, Wait, One, All as NotifyAll, GroupAdd, GroupWait}
+use Rattle.step_table.specs.declared.call.Call.TheVariants.{AcquireOrLeave, WaitOrLeave, GroupWaitOrLeave}
 use Rattle.step_table.specs.declared.parts.Parts.{Parts}
 use Rattle.step_rows.specs.Stored.{IsStoredFor, IsSameSize, each}
 use Rattle.step_table.specs.Core.{Core, first_core, counters_of}
-use Rattle.step_table.specs.CoreSteps.{calls}
+use Rattle.step_table.specs.CoreSteps.{calls, stands}
 use Rattle.step_table.specs.Scenario.{IsCallOn}
 use Rattle.step_table.specs.Run.{Run, layout, call_of, begun, all_begun}
+use Rattle.step_table.specs.World.{put}
 use Rattle.step_law_whole.specs.RunInvariant.{IsSoundRun, IsScenario}
 use Rattle.step_law_alike.specs.declared.variant.Variant.{Variant}
 use Rattle.step_law_alike.specs.ChangedInvariant.{WaitersRaisedIn}
 use Rattle.step_law_alike.proofs.ChangedRaising.{raised_first}
-use Rattle.step_core.specs.State.{WholeMachine, State, IsMachineFor, Becomes, HasBegun, MayBegin, IsSound, IsStarted, core_of, run_with}
+use Rattle.step_core.specs.State.{WholeMachine, State, IsMachineFor, Becomes, HasBegun, MayBegin, IsSound, IsStarted, core_of, run_with, HasLeftOut, FewLeave}
 use Rattle.step_core.specs.WellFormed.{IsSoundBy}
-use Rattle.step_table.proofs.Sums.{put_else}
+use Rattle.step_table.proofs.Sums.{put_else, put_here}
 use Rattle.step_rows.proofs.Storing.{each_set, copies}
 use Rattle.step_core.proofs.Changing.{same_layout}
 use Rattle.step_core.proofs.Ranges.{well_formed_state}
 use Rattle.step_law_whole.proofs.RunSound.{is_started}
+use Rattle.step_core.proofs.Fewness.{few_at_start}
+use Rattle.std.specs.Prelude.{min, slice_index_or}
+use Rattle.step_table.specs.declared.standing.Standing.TheVariants.{Rest}
 
 -- to begin a call tells nothing
 call_journal : (s : Core) (i : ℕ) (call : Call) → (calls s i call).journal ≡ s.journal
 call_journal s i (Acquire c lifo) = refl
+call_journal s i (AcquireOrLeave c lifo how) = refl
 call_journal s i (Release c handoff) = refl
 call_journal s i (ReleaseMany c n) = refl
 call_journal s i (Add l) = refl
 call_journal s i (Wait l) = refl
+call_journal s i (WaitOrLeave l how) = refl
 call_journal s i (One l) = refl
 call_journal s i (NotifyAll l) = refl
 call_journal s i (GroupAdd g d) = refl
 call_journal s i (GroupWait g) = refl
+call_journal s i (GroupWaitOrLeave g skips) = refl
 
 module _ (parts : Parts) (i : ℕ) (h : WholeMachine) (counts : List ℕ) (is : IsMachineFor (layout parts) h) (number : ℕ) (at : number ≡ i)
     (n : ℕ) (counted : n ≡ each 0 counts number) where
@@ -54,10 +62,30 @@ module _ (parts : Parts) (i : ℕ) (h : WholeMachine) (counts : List ℕ) (is : 
         ∙ (λ j. begun (run_with h counts journal) i (call_of parts (at j) (count_is j)));
   }
 
+  -- and so many of its next calls are left out
+  pub leaves_some : (skips x : ℕ) (k : WholeMachine) → x ≡ min (n + skips) (length (slice_index_or parts.calls i [])) → i < length counts
+      → Becomes (λ m s. stands s i Rest) h k → HasLeftOut parts i skips h counts k (set counts number x)
+  leaves_some skips x k least here becomes = record {
+    alike = becomes.alike;
+    count = length-set counts number x;
+    run = λ journal.
+        (λ j. run_with k (set counts (at j) x) journal)
+        ∙ (λ j. record { core = becomes.core (layout parts) is journal j; begun = each_set 0 counts i x here j })
+        ∙ (λ j. record {
+          core = stands (core_of h journal) i Rest;
+          begun = put (each 0 counts) i ((least ∙ ap (λ m. min (m + skips) (length (slice_index_or parts.calls i []))) count_is) j);
+        });
+    few =
+        let there : each 0 (set counts number x) i ≡ x
+        = ap (λ k. each 0 (set counts k x) i) at ∙ (λ j. each_set 0 counts i x here j i) ∙ put_here (each 0 counts) i x in
+        omega (arith, there, least);
+  }
+
   -- a scenario's call may be begun
   may_begin : (call : Call) → i < length parts.calls → IsCallOn parts call → MayBegin h i call
   may_begin (Add l) there on = (let a = is.lists in omega arith, let a = is.seats l on in omega arith)
   may_begin (Wait l) there on = (let a = is.lists in omega arith, let a = is.seats l on in omega arith)
+  may_begin (WaitOrLeave l how) there on = (let a = is.lists in omega arith, let a = is.seats l on in omega arith)
   may_begin (One l) there on = (let a = is.lists in omega arith, let a = is.seats l on in omega arith)
   may_begin (NotifyAll l) there on = (let a = is.lists in omega arith, let a = is.seats l on in omega arith)
   may_begin _ there on = tt
@@ -142,6 +170,7 @@ module _ (parts : Parts) where
       machine = all.machine;
       begun = all.count;
       run = subst (IsSoundRun parts) (sym all.run) (is_started parts scenario);
+      leave = subst (FewLeave parts) (sym all.run) (few_at_start parts);
     }
 
     -- and it is what each table starts from
@@ -154,6 +183,7 @@ module _ (parts : Parts) where
       machine = all.machine;
       begun = all.count;
       run = (well_formed_state first (start_sound scenario starts)).run;
+      leave = subst (FewLeave parts) (sym all.run) (few_at_start parts);
       waiters =
           subst (λ (r : Run). WaitersRaisedIn v (counters_of (layout parts)) r.core.semaphores) (sym all.run) (raised_first v parts);
     }

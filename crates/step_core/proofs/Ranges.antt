@@ -4,7 +4,8 @@ use Rattle.std.proofs.Common.{◌≡◌, ℕ, ◌+◌, ◌^◌, ◌<◌, ◌≤�
 use Rattle.std.proofs.Common.{sym, ap, ◌∙◌, subst, arith}
 use Rattle.waiters.specs.declared.wait.WaitId.{WaitId}
 use Rattle.step_rows.specs.declared.caller.Caller.{Caller}
-use Rattle.step_table.specs.declared.place.AcquireRow.TheVariants.{A7, P}
+use Rattle.step_table.specs.declared.place.AcquireRow.TheVariants.{A7, Parked}
+use Rattle.step_table.specs.declared.place.ParkedRow.TheVariants.{D3}
 use Rattle.step_table.specs.declared.place.Place.{Place}
 use Rattle.step_table.specs.declared.place.ReleaseRow.TheVariants.{R5}
 use Rattle.step_table.specs.declared.place.ManyRow.TheVariants.{M5}
@@ -30,7 +31,7 @@ use Rattle.step_law_semaphores.specs.WellFormed.{IsWellFormedWorld}
 use Rattle.step_core.specs.WellFormed.{IsWellFormed, IsSoundBy}
 use Rattle.step_core.specs.State.{State, IsSound, AsksFor, no_list, run_of}
 use Rattle.step_table.proofs.Sums.{total_rest, total_has}
-use Rattle.step_law_whole.proofs.RunEarly.{all_begun_few, handed_few}
+use Rattle.step_law_whole.proofs.RunEarly.{begun_few, all_begun_few, handed_few}
 use Rattle.step_law_semaphores.proofs.Placing.{same_here}
 use Rattle.step_rows.proofs.Rooting.{root_within}
 use Rattle.step_law_semaphores.proofs.Bounding.{well_formed}
@@ -42,7 +43,8 @@ use Rattle.step_table.proofs.SumsOfSums.{total_most}
 use Rattle.step_law_semaphores.proofs.Resting.{asleep_most}
 
 pub grant_most : (p : Place) (g : ℕ) → IsGrantOf p g → g ≤ 2
-grant_most (Acquiring a (P turn)) g h = h
+grant_most (Acquiring a (Parked turn D3)) g h = omega (arith, h)
+grant_most (Acquiring a (Parked turn row)) g h = h
 grant_most _ g h = omega arith
 
 -- where each term is at most 1 and one is 0, the sum is less than the number of terms
@@ -118,8 +120,8 @@ module _ (v : Variant) (m : State) (sound : IsWellFormed v m) where
     within_at : (p : Place) → caller.place ≡ p → IsWithin rows_of.counters p
     within_at p is = subst (IsWithin rows_of.counters) is (law.seats i).within
 
-    finds_at : (p : Place) → caller.place ≡ p → Finds (each [] h.lists) p
-    finds_at p is = subst (Finds (each [] h.lists)) is (law.finds i here)
+    finds_at : (p : Place) → caller.place ≡ p → Finds i (each [] h.lists) p
+    finds_at p is = subst (Finds i (each [] h.lists)) is (law.finds i here)
 
     may_move : (p : Place) → caller.place ≡ p → MayMove h p
     may_move (Acquiring a A7) is =
@@ -152,7 +154,7 @@ module _ (v : Variant) (m : State) (sound : IsWellFormed v m) where
           seat = omega arith;
           hand = let hands = s.hands in omega arith;
           waiter = first_in_hand hand (length h.grants)
-              (λ w in_it. let parked = (in_a_hand rows_of world law.placed i w there in_it).4 in omega arith);
+              (λ w in_it. let parked = (in_a_hand rows_of world law.placed i w there in_it).5 in omega arith);
           moves = may_move caller.place refl;
         }
 
@@ -162,7 +164,10 @@ module _ (v : Variant) (m : State) (sound : IsWellFormed v m) where
     turn_fits : caller.turn + 1 < 2 ^ 64
     turn_fits =
         let most = few_words.2 i here in
-        let units = few_units in let few = sound.scenario.limits.seats in omega arith
+        let units = few_units in
+        let withdrawn = sound.leave.waits in
+        let begun = all_begun_few m.parts sound.scenario (run_of m) sound.run in
+        let few = sound.scenario.limits.seats in omega arith
 
     -- all that its row asks for of the semaphores
     pub has_row : HasRow m.machine.semaphores i
@@ -177,17 +182,20 @@ module _ (v : Variant) (m : State) (sound : IsWellFormed v m) where
     pub can_step : (l : ℕ) → l < length m.parts.firsts → CanStep (each no_list m.machine.lists l) i
     can_step l there =
         let list : ListWorld = (run_of m).core.lists l in
+        let handed = handed_few m.parts sound.scenario (run_of m) sound.run l in
+        let gone = sound.leave.tickets l in
+        let begun = total_most seats 32 (run_of m).begun (λ k h. begun_few m.parts sound.scenario (run_of m) sound.run k) in
         subst (λ n. HasListRow n list.words list.seats i) (sym (sound.machine.seats l there))
-        (has_list_row ((layout m.parts).firsts l) seats i list here (sound.run.core.lists l)
-        (let few = handed_few m.parts sound.scenario (run_of m) sound.run l in omega arith))
+        (has_list_row ((layout m.parts).firsts l) seats i list here (sound.run.core.lists l (omega arith)) handed (omega arith)
+        (let few = sound.scenario.limits.seats in omega arith))
 
     stands : (doing : Standing) → each Rest m.machine.standing i ≡ doing → IsStanding (layout m.parts) (run_of m).core i doing
     stands doing is = subst (IsStanding (layout m.parts) (run_of m).core i) is (sound.run.core.standing i)
 
     asks_at : (doing : Standing) → each Rest m.machine.standing i ≡ doing → AsksFor m.machine i doing
     asks_at (AtCounter after) is = has_row
-    asks_at (AtList l) is =
-        let there = (stands (AtList l) is).2 in (let are = sound.machine.lists in omega arith, can_step l there)
+    asks_at (AtList l ending) is =
+        let there = (stands (AtList l ending) is).2 in (let are = sound.machine.lists in omega arith, can_step l there)
     asks_at (AtGroup g row) is =
         let there = (stands (AtGroup g row) is).1 in let are = sound.machine.groups in omega arith
     asks_at _ is = tt
@@ -215,11 +223,13 @@ well_formed_state m sound = record {
     begun = sound.run.begun;
     ended = sound.run.ended;
     tickets = sound.run.tickets;
+    skipped = sound.run.skipped;
     words = sound.run.words;
     carried = sound.run.carried;
     units = sound.run.units;
     handed = sound.run.handed;
   };
+  leave = sound.leave;
   waiters = sound.run.core.semaphores.waiters;
 }
 

@@ -1,7 +1,7 @@
 -- What a moment and a world answer of a sound state: what the journal tells, that all is lawful, and at rest where no seat can run.
 use Rattle.std.proofs.Common.{◌≡◌, ℕ, List, [], ◌∷◌, Result, Ok, Err, IfOk, refl, ap, ◌∙◌, arith}
 use Rattle.step_table.specs.declared.entry.Entry.{Entry}
-use Rattle.step_table.specs.declared.entry.Entry.TheVariants.{Add, AddMany, Take, Queue, Leave, Ticket, Grant}
+use Rattle.step_table.specs.declared.entry.Entry.TheVariants.{Add, AddMany, Take, Queue, Leave, Withdraw, Ticket, Grant, Forgo}
 use Rattle.step_table.specs.Journal.{Plain, plain_start, effect_of, replay}
 use Rattle.step_table.specs.Core.{sema_entries}
 use Rattle.step_table.specs.Run.{layout}
@@ -14,11 +14,13 @@ replays_all : (x : Plain) (journal : List Entry) → replay x (sema_entries jour
 replays_all x [] = refl
 replays_all x (Ticket l s ∷ es) = replays_all x es
 replays_all x (Grant l upto s ∷ es) = replays_all x es
+replays_all x (Forgo l n s ∷ es) = replays_all x es
 replays_all x (Add c s ∷ es) = replays_all (effect_of (Add c s) x) es
 replays_all x (AddMany c n s ∷ es) = replays_all (effect_of (AddMany c n s) x) es
 replays_all x (Take c s ∷ es) = replays_all (effect_of (Take c s) x) es
 replays_all x (Queue c w lifo ∷ es) = replays_all (effect_of (Queue c w lifo) x) es
 replays_all x (Leave c w s ∷ es) = replays_all (effect_of (Leave c w s) x) es
+replays_all x (Withdraw c w ∷ es) = replays_all (effect_of (Withdraw c w) x) es
 
 module _ (m : State) (sound : IsSound m) where
   tells : record { numbers = (run_of m).core.semaphores.words.numbers; lists = (run_of m).core.semaphores.words.lists } ≡ told m

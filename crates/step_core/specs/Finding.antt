@@ -9,7 +9,7 @@ use Rattle.step_table.specs.declared.place.ReleaseRow.TheVariants.{R8}
 use Rattle.step_table.specs.declared.place.Place.{Place}
 use Rattle.step_table.specs.declared.place.Place.TheVariants.{Acquiring, Releasing}
 use Rattle.step_table.specs.declared.standing.GroupRow.{GroupRow}
-use Rattle.step_table.specs.declared.standing.GroupRow.TheVariants.{V2}
+use Rattle.step_table.specs.declared.standing.GroupRow.TheVariants.{V2, V5}
 use Rattle.step_table.specs.declared.standing.Standing.{Standing}
 use Rattle.step_table.specs.declared.standing.Standing.TheVariants.{AtCounter, AtList, AtGroup}
 use Rattle.step_table.specs.Group.{same_word}
@@ -30,14 +30,15 @@ found_on_counter (Releasing r (R8 left)) v = exchanged left v
 found_on_counter place v = Number v
 
 abbrev pub found_on_group : GroupRow → GroupWord → WordFound
-found_on_group (V2 seen) w = if same_word seen w then Won else Lost
+found_on_group (V2 ending seen) w = if same_word seen w then Won else Lost
+found_on_group (V5 how seen) w = if same_word seen w then Won else Lost
 found_on_group row w = State w
 
 -- what the row of seat i finds, which does this
 abbrev pub found_doing : CoreLayout → Core → ℕ → Standing → Option WordFound
 found_doing m s i (AtCounter after) =
     Some (found_on_counter (s.semaphores.seats i).place (finds m.root s.semaphores i))
-found_doing m s i (AtList l) = Some (Number (list.finds (s.lists l) i))
+found_doing m s i (AtList l ending) = Some (Number (list.finds (s.lists l) i))
 found_doing m s i (AtGroup g row) = Some (found_on_group row (s.groups g))
 found_doing m s i standing = None
 

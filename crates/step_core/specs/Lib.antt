@@ -1,3 +1,4 @@
+pub mod Skips
 pub mod State
 pub mod WellFormed
 pub mod Stepping

@@ -1,35 +1,49 @@
 -- The machine as it is stored, and the run that it shows.
 use Rattle.std.specs.Prelude.{◌≡◌, ℕ, ◌+◌, ◌^◌, ◌<◌, ◌≤◌, List, [], ◌∷◌, ◌++◌, Option, Some, None, IsTrue}
+use Rattle.std.specs.Prelude.{Bool, true, false}
 use Rattle.std.specs.Prelude.{length, slice_index_or}
 use Rattle.step_table.specs.declared.call.Call.{Call}
-use Rattle.step_table.specs.declared.call.Call.TheVariants.{Add, Wait, One, All}
+use Rattle.step_table.specs.declared.call.Call.TheVariants.{Add, Wait, WaitOrLeave, One, All}
 use Rattle.step_table.specs.declared.entry.Entry.{Entry}
-use Rattle.step_table.specs.declared.entry.Entry.TheVariants.{Ticket, Grant}
+use Rattle.step_table.specs.declared.entry.Entry.TheVariants.{Ticket, Grant, Forgo}
 use Rattle.step_table.specs.declared.group_word.GroupWord.{GroupWord}
 use Rattle.step_table.specs.declared.list_place.ListEffect.{ListEffect}
-use Rattle.step_table.specs.declared.list_place.ListEffect.TheVariants.{HandsOut, Grants}
+use Rattle.step_table.specs.declared.list_place.ListEffect.TheVariants.{HandsOut, Grants, Forgoes}
+use Rattle.step_table.specs.declared.list_place.ListPlace.{ListPlace}
+use Rattle.step_table.specs.declared.list_place.ListPlace.TheVariants.{Waiting}
+use Rattle.step_table.specs.declared.list_place.WaitRow.TheVariants.{E4}
 use Rattle.step_core.specs.declared.turn.Turn.{Turn}
 use Rattle.step_core.specs.declared.turn.Turn.TheVariants as turn
 use Rattle.step_table.specs.declared.refusal.StepRefused.{StepRefused}
 use Rattle.step_table.specs.declared.parts.Parts.{Parts}
 use Rattle.step_table.specs.declared.standing.After.{After}
-use Rattle.step_table.specs.declared.standing.After.TheVariants.{Releases}
+use Rattle.step_table.specs.declared.place.AcquireRow.TheVariants as on_counter
+use Rattle.step_table.specs.declared.place.AcquireRow.TheVariants.{D4}
+use Rattle.step_table.specs.declared.place.ParkedRow.TheVariants.{D2, D3}
+use Rattle.step_table.specs.declared.place.Place.{Place}
+use Rattle.step_table.specs.declared.place.Place.TheVariants.{Acquiring}
+use Rattle.step_table.specs.declared.standing.After.TheVariants.{Closes, LooksAgain, Releases}
+use Rattle.step_table.specs.declared.standing.Ending.{Ending}
+use Rattle.step_table.specs.declared.standing.Ending.TheVariants.{MayGiveUp}
+use Rattle.step_table.specs.declared.standing.GroupRow.TheVariants.{V1, V2}
 use Rattle.step_table.specs.declared.standing.Standing.{Standing}
 use Rattle.step_table.specs.declared.standing.Standing.TheVariants.{Rest, AtCounter, AtList, AtGroup}
+use Rattle.step_table.specs.Counting.{total}
 use Rattle.step_table.specs.Journal.{Plain, plain_start, replay}
 use Rattle.step_rows.specs.Stored.{SemaMachine, IsStoredFor, IsSameSize, HasRow, IsReadyFor, each, root_of}
 use Rattle.step_rows.specs.Stored.{event_in, finds_in}
 use Rattle.step_rows.specs.Stored as sema
 use Rattle.step_table.specs.ListWorld.{ListWorld}
 use Rattle.step_law_lists.specs.ListGrants.{EachGrantsLeast}
+use Rattle.step_law_semaphores.specs.Lawful.{withdrawals}
 use Rattle.step_rows.specs.ListStored.{StoredList, CanStep, IsListReady}
 use Rattle.step_rows.specs.ListStored as list
 use Rattle.step_table.specs.Group.{empty_word}
 use Rattle.step_table.specs.Core.{CoreLayout, Core, sema_entries, list_entries}
-use Rattle.step_table.specs.CoreSteps.{IsCoreEnd, core_turned}
+use Rattle.step_table.specs.CoreSteps.{IsCoreEnd, core_turned, may_give_up, may_give_up_on_list}
 use Rattle.step_law_whole.specs.CoreLaw.{IsCoreAtRest}
 use Rattle.step_law_whole.specs.RunPromises.{IsLawfulRun}
-use Rattle.step_table.specs.Run.{Run, layout, call_of, begun, start, refusal_of, reached, AllRun}
+use Rattle.step_table.specs.Run.{Run, layout, call_of, begun, left_out, continued, start, refusal_of, reached, AllRun}
 use Rattle.step_law_alike.specs.declared.variant.Variant.{Variant}
 use Rattle.step_law_whole.specs.RunInvariant.{IsSoundRun, IsScenario}
 use Rattle.step_law_whole.specs.RunWeight.{most_steps}
@@ -43,7 +57,18 @@ pub record WholeMachine : Type 0 where
 
 -- a list without seats, on which nothing has happened
 abbrev pub no_list : StoredList
-no_list = record { wait = 0; notify = 0; lock = 0; handed = 0; granted = 0; queue = []; seats = [] }
+no_list =
+    record {
+      wait = 0;
+      notify = 0;
+      lock = 0;
+      handed = 0;
+      passed = 0;
+      gone_numbers = [];
+      gone = [];
+      queue = [];
+      seats = [];
+    }
 
 -- the list l, with what this journal tells of it
 abbrev pub list_of : List StoredList → List Entry → ℕ → ListWorld
@@ -99,7 +124,7 @@ HasListSeat h l i = (l < length h.lists) × (i < length (each no_list h.lists l)
 
 -- and it is one of the list that its call is on
 abbrev pub HasSeatOn : WholeMachine → ℕ → Standing → Type 0
-HasSeatOn h i (AtList l) = HasListSeat h l i
+HasSeatOn h i (AtList l ending) = HasListSeat h l i
 HasSeatOn h i _ = Unit {0}
 
 abbrev pub HasSeatAt : WholeMachine → ℕ → Type 0
@@ -113,6 +138,7 @@ HasGroup h g = h.semaphores.stored.own + g < 2 ^ 32
 abbrev pub MayBegin : WholeMachine → ℕ → Call → Type 0
 MayBegin h i (Add l) = HasListSeat h l i
 MayBegin h i (Wait l) = HasListSeat h l i
+MayBegin h i (WaitOrLeave l how) = HasListSeat h l i
 MayBegin h i (One l) = HasListSeat h l i
 MayBegin h i (All l) = HasListSeat h l i
 MayBegin h i _ = Unit {0}
@@ -135,17 +161,35 @@ IsRefusal h i cause =
 -- what the row asks for of a seat that does this
 abbrev pub AsksFor : WholeMachine → ℕ → Standing → Type 0
 AsksFor h i (AtCounter after) = HasRow h.semaphores i
-AsksFor h i (AtList l) = (l < length h.lists) × CanStep (each no_list h.lists l) i
+AsksFor h i (AtList l ending) = (l < length h.lists) × CanStep (each no_list h.lists l) i
 AsksFor h i (AtGroup g row) = g < length h.groups
 AsksFor h i _ = Unit {0}
+
+-- a call, after which this comes, may give up while its seat sleeps
+abbrev pub is_given_up_in_sleep : After → Bool
+is_given_up_in_sleep (Closes (MayGiveUp how)) = true
+is_given_up_in_sleep (LooksAgain g (MayGiveUp how)) = true
+is_given_up_in_sleep after = false
+
+-- seat i sleeps in a call on a counter that may give up, after which this comes
+abbrev pub gives_up_in : WholeMachine → ℕ → After → Bool
+gives_up_in h i after = may_give_up (sema.world_of h.semaphores []) i after
+
+-- it sleeps on the list l in such a call
+abbrev pub gives_up_on_list_in : WholeMachine → ℕ → ℕ → Ending → Bool
+gives_up_on_list_in h l i ending = may_give_up_on_list (list.world_of (each no_list h.lists l) []) i ending
 
 -- this is the row of a seat that does this, and it can run
 abbrev pub IsReadyAt : WholeMachine → ℕ → Standing → Turn → Type 0
 IsReadyAt h i (AtCounter after) (turn.OnCounter next ready) =
     (next ≡ after) × IsReadyFor h.semaphores i ready
-    × IsTrue ((event_in h.semaphores i).can (finds_in h.semaphores i))
-IsReadyAt h i (AtList l) (turn.OnList k ready) =
-    (k ≡ l) × (l < length h.lists) × IsListReady (each no_list h.lists l) i ready
+    × IsTrue ((event_in h.semaphores i).can (finds_in h.semaphores i)) × (gives_up_in h i after ≡ false)
+IsReadyAt h i (AtCounter after) (turn.GivesUp next) = (next ≡ after) × (gives_up_in h i after ≡ true)
+IsReadyAt h i (AtList l ending) (turn.OnList k next ready) =
+    (k ≡ l) × (next ≡ ending) × (l < length h.lists) × IsListReady (each no_list h.lists l) i ready
+    × (gives_up_on_list_in h l i ending ≡ false)
+IsReadyAt h i (AtList l ending) (turn.GivesUpOnList k next) =
+    (k ≡ l) × (next ≡ ending) × (l < length h.lists) × (gives_up_on_list_in h l i ending ≡ true)
 IsReadyAt h i (AtGroup g row) (turn.OnGroup k now) = (k ≡ g) × (now ≡ row) × (g < length h.groups)
 IsReadyAt h i _ _ = ⊥
 
@@ -156,6 +200,7 @@ IsReady h i ready = IsReadyAt h i (each Rest h.standing i) ready
 abbrev pub list_entry : ℕ → ℕ → ListEffect → Option Entry
 list_entry l s (HandsOut t) = Some (Ticket l s)
 list_entry l s (Grants upto) = Some (Grant l upto s)
+list_entry l s (Forgoes w) = Some (Forgo l w.id.turn s)
 list_entry l s _ = None
 
 -- the journal with the entry, if there is one
@@ -181,10 +226,21 @@ pub record HasBegun (parts : Parts) (i : ℕ) (h : WholeMachine) (counts : List 
   pub run : (journal : List Entry)
       → run_with k now journal ≡ begun (run_with h counts journal) i (call_of parts i (each 0 counts i))
 
--- where the seat's call has ended, it has begun the next; else nothing has changed
-abbrev pub GoesOn : Parts → ℕ → WholeMachine → List ℕ → WholeMachine → List ℕ → Standing → Type 0
-GoesOn parts i h counts k now Rest = HasBegun parts i h counts k now
-GoesOn parts i h counts k now _ = (k ≡ h) × (now ≡ counts)
+-- so many of its next calls are left out
+pub record HasLeftOut (parts : Parts) (i skips : ℕ) (h : WholeMachine) (counts : List ℕ) (k : WholeMachine)
+    (now : List ℕ) : Type 0 where
+  pub alike : AreSameSize h k
+  pub count : length now ≡ length counts
+  pub run : (journal : List Entry) → run_with k now journal ≡ left_out parts (run_with h counts journal) i skips
+  pub few : each 0 now i ≤ length (slice_index_or parts.calls i [])
+
+-- where the call of the seat, which does this, has ended, it has begun the next
+pub record GoesOn (parts : Parts) (i : ℕ) (h : WholeMachine) (counts : List ℕ) (k : WholeMachine) (now : List ℕ)
+    (standing : Standing) : Type 0 where
+  pub alike : AreSameSize h k
+  pub count : length now ≡ length counts
+  pub run : (journal : List Entry)
+      → run_with k now journal ≡ continued parts (run_with h counts journal) i standing
 
 -- all that a run has at one moment but its journal, and the change of the step table by which it steps, if
 -- there is one
@@ -234,6 +290,48 @@ abbrev pub HasFewSteps : State → Type 0
 HasFewSteps m = (schedule : List ℕ) → AllRun m.parts schedule → run_of m ≡ reached m.parts schedule
     → length schedule ≤ most_steps m.parts
 
+-- 1 where a seat at this place of a list waits with a ticket that may still go
+abbrev pub may_go : ListPlace → ℕ
+may_go (Waiting t E4) = 0
+may_go (Waiting t row) = 1
+may_go place = 0
+
+-- 1 where a call that ends so may still be given up
+abbrev pub may_be_left : Ending → ℕ
+may_be_left (MayGiveUp how) = 1
+may_be_left _ = 0
+
+-- 1 where the seat, which does this and stands at this place of a counter, may still withdraw its wait
+abbrev pub may_leave : Standing → ℕ
+may_leave (AtCounter (Closes ending)) = may_be_left ending
+may_leave (AtCounter (LooksAgain g ending)) = may_be_left ending
+may_leave _ = 0
+
+abbrev pub may_withdraw : Place → Standing → ℕ
+may_withdraw (Acquiring a (on_counter.Parked turn D2)) doing = 1
+may_withdraw (Acquiring a (on_counter.Parked turn D3)) doing = 1
+may_withdraw (Acquiring a D4) doing = 0
+may_withdraw (Acquiring a row) doing = may_leave doing
+may_withdraw place doing = 0
+
+-- 1 where it is about to wait on a group, and may withdraw that wait
+abbrev pub may_sleep : Standing → ℕ
+may_sleep (AtGroup g (V1 ending)) = may_be_left ending
+may_sleep (AtGroup g (V2 ending w)) = may_be_left ending
+may_sleep _ = 0
+
+-- each call withdraws at most one wait, or lets one ticket of a list go
+pub record FewLeave (parts : Parts) (run : Run) : Type 0 where
+  pub waits :
+      withdrawals run.core.semaphores.journal
+      + total (length parts.calls)
+      (λ k. may_withdraw (run.core.semaphores.seats k).place (run.core.standing k) + may_sleep (run.core.standing k))
+      ≤ total (length parts.calls) run.begun
+  pub tickets : (l : ℕ) →
+      length (run.core.lists l).words.numbers.gone
+      + total (length parts.calls) (λ k. may_go ((run.core.lists l).seats k).place)
+      ≤ total (length parts.calls) run.begun
+
 -- what is true of every run by the step table that is stored
 pub record IsSound (m : State) : Type 0 where
   pub scenario : IsScenario m.parts
@@ -243,6 +341,7 @@ pub record IsSound (m : State) : Type 0 where
   pub machine : IsMachineFor (layout m.parts) m.machine
   pub begun : length m.begun ≡ length m.parts.calls
   pub run : IsSoundRun m.parts (run_of m)
+  pub leave : FewLeave m.parts (run_of m)
 
 -- the run starts: these parts, and the run at its start
 pub record IsStarted (scenario : Parts) (m : State) : Type 0 where
@@ -252,5 +351,7 @@ pub record IsStarted (scenario : Parts) (m : State) : Type 0 where
 -- what the journal tells of a row of seat s
 abbrev pub entry_of : ℕ → Turn → Option Entry
 entry_of s (turn.OnCounter next ready) = sema.entry_of ready.outcome.effect
-entry_of s (turn.OnList l ready) = list_entry l s ready.outcome.effect
+entry_of s (turn.OnList l ending ready) = list_entry l s ready.outcome.effect
+entry_of s (turn.GivesUp after) = None
+entry_of s (turn.GivesUpOnList l ending) = None
 entry_of s (turn.OnGroup g row) = None

@@ -7,7 +7,7 @@ use Rattle.step_table.specs.Core.{counters_of}
 use Rattle.step_table.specs.Run.{layout}
 use Rattle.step_law_whole.specs.RunInvariant.{IsSoundRunOf, IsScenario}
 use Rattle.step_rows.specs.Stored.{IsStoredFor}
-use Rattle.step_core.specs.State.{Moment, State, IsMachineFor, IsSound, run_of, telling}
+use Rattle.step_core.specs.State.{Moment, State, FewLeave, IsMachineFor, IsSound, run_of, telling}
 
 -- form and bounds of a run by the step table with this change
 pub record IsWellFormed (v : Variant) (m : State) : Type 0 where
@@ -18,6 +18,7 @@ pub record IsWellFormed (v : Variant) (m : State) : Type 0 where
   pub machine : IsMachineFor (layout m.parts) m.machine
   pub begun : length m.begun ≡ length m.parts.calls
   pub run : IsSoundRunOf (IsWellFormedCore (layout m.parts)) m.parts (run_of m)
+  pub leave : FewLeave m.parts (run_of m)
   pub waiters : WaitersRaisedIn v (counters_of (layout m.parts)) (run_of m).core.semaphores
 
 -- by the step table the run is sound, by a change of it well formed

@@ -52,8 +52,8 @@ fn on_group(row: GroupRow, word: GroupWord) -> WordFound
     ensures { result ≡ found_on_group row word }
 {
     match row {
-        GroupRow::V2(seen) if seen == word => WordFound::Won,
-        GroupRow::V2(_) => WordFound::Lost,
+        GroupRow::V2(_, seen) | GroupRow::V5(_, seen) if seen == word => WordFound::Won,
+        GroupRow::V2(_, _) | GroupRow::V5(_, _) => WordFound::Lost,
         _ => WordFound::State(word),
     }
 }
@@ -86,7 +86,8 @@ impl WholeMachine {
             Turn::OnCounter(_, ready) => {
                 on_counter(ready.caller.place, self.semaphores.read(&ready.word))
             }
-            Turn::OnList(list, ready) => {
+            Turn::GivesUp(_) | Turn::GivesUpOnList(_, _) => WordFound::Number(0),
+            Turn::OnList(list, _, ready) => {
                 WordFound::Number(self.lists[list.number() as usize].read(&ready.word))
             }
             Turn::OnGroup(group, row) => on_group(*row, self.groups[group.number() as usize]),

@@ -1,8 +1,8 @@
 //! The sleeping layer, semaphores, notify lists and wait groups, as a pure machine of single steps. A
 //! [`Scenario`] gives each seat a list of calls: its parts keep the limits, name what is declared, and take
 //! and spend tickets in turn. Each step runs one row of the step table: one event of one word. The rows are
-//! those of Go's `semacquire1`, `semrelease1`, `notifyList` and `WaitGroup`, and those of a release of many
-//! units.
+//! those of Go's `semacquire1`, `semrelease1`, `notifyList` and `WaitGroup`, those of a release of many units,
+//! and those of a wait that leaves.
 //!
 //! A [`World`] is a scenario's run at one moment with its journal, and a [`Moment`] one without. A
 //! [`WholeMachine`] has the words and seats of both, and knows no scenario. A [`ChangedWorld`] steps by the
@@ -16,6 +16,7 @@ mod following;
 mod found;
 mod group;
 mod laws;
+mod lost;
 mod machine;
 mod moment;
 mod picture;
@@ -45,11 +46,12 @@ pub use step_law_whole::{
 pub use step_outcomes::Outcome;
 pub use step_rows::Caller;
 pub use step_table::{
-    Acquire, AcquireRow, After, AllRow, Call, Effect, Entry, GroupId, GroupNext, GroupRow,
-    GroupWord, Items, ListEffect, ListId, ListPlace, ListWord, MAX_CALLS, MAX_COUNTERS, MAX_GROUPS,
-    MAX_LISTS, MAX_ROOTS, MAX_SEATS, MAX_UNITS, MIN_UNITS, ManyRow, Misuse, OneRow, Parts, Phase,
-    Place, Reach, Release, ReleaseMany, ReleaseRow, Row, RunRefused, ScenarioRefused, Standing,
-    StepRefused, Ticket, WaitRow, Word, less,
+    Acquire, AcquireRow, After, AllRow, Call, Effect, Ending, Entry, GivingUp, GroupId, GroupNext,
+    GroupRow, GroupWord, Items, Late, ListEffect, ListId, ListParkedRow, ListPlace, ListWord,
+    MAX_CALLS, MAX_COUNTERS, MAX_GROUPS, MAX_LISTS, MAX_ROOTS, MAX_SEATS, MAX_SKIPS, MAX_UNITS,
+    MIN_UNITS, ManyRow, Misuse, OneRow, ParkedRow, Parts, Phase, Place, Reach, Release,
+    ReleaseMany, ReleaseRow, Row, RunRefused, ScenarioRefused, Standing, StepRefused, Ticket,
+    WaitRow, Word, less,
 };
 pub use waiters::{CounterId, NoMemory, SeatId, WaitId};
 pub use world::World;

@@ -24,7 +24,8 @@ use std::marker::Model;
 use step_keys::{write_group, write_standing};
 use step_rows::{ListMachine, ListReady, Ready, SemaMachine};
 use step_table::{
-    After, GroupId, GroupWord, ListId, ListPlace, Parts, Place, Release, ReleaseRow, Standing,
+    After, Ending, GroupId, GroupWord, ListId, ListPlace, Parts, Place, Release, ReleaseRow,
+    Standing,
 };
 use waiters::{CounterId, NoMemory, SeatId};
 
@@ -133,23 +134,23 @@ impl WholeMachine {
     }
 
     /// The seat stands at this place of a call on the list.
-    pub(crate) fn at_list(&mut self, seat: SeatId, list: ListId, place: ListPlace)
+    pub(crate) fn at_list(&mut self, seat: SeatId, list: ListId, place: ListPlace, ending: Ending)
         requires seat { HasSeat self.old seat }
         requires list { HasListSeat self.old list seat }
-        ensures { Becomes (λ m s. at_list s seat list place) self.old self.new }
+        ensures { Becomes (λ m s. at_list s seat list place ending) self.old self.new }
     {
         self.move_on_list(seat, list, place);
-        self.stand(seat, Standing::AtList(list));
+        self.stand(seat, Standing::AtList(list, ending));
     }
 
     /// The seat waits on the list with the ticket that it holds.
-    pub(crate) fn wait_on_list(&mut self, seat: SeatId, list: ListId)
+    pub(crate) fn wait_on_list(&mut self, seat: SeatId, list: ListId, ending: Ending)
         requires seat { HasSeat self.old seat }
         requires list { HasListSeat self.old list seat }
-        ensures { Becomes (λ m s. waits_on_list s seat list) self.old self.new }
+        ensures { Becomes (λ m s. waits_on_list s seat list ending) self.old self.new }
     {
         self.wait_with_ticket(seat, list);
-        self.stand(seat, Standing::AtList(list));
+        self.stand(seat, Standing::AtList(list, ending));
     }
 
     /// The counter that is the semaphore of the group.

@@ -2,7 +2,7 @@ ghost use Rattle.std.specs.Prelude.{◌≡◌};
 ghost use Rattle.step_core.specs.State.{entry_of};
 
 use step_rows::{ListReady, Ready, entry_of};
-use step_table::{After, Entry, GroupId, GroupRow, ListEffect, ListId};
+use step_table::{After, Ending, Entry, GroupId, GroupRow, ListEffect, ListId};
 use waiters::SeatId;
 
 /// A row that can run, by the part of the machine that it is on.
@@ -10,7 +10,12 @@ use waiters::SeatId;
 pub(crate) enum Turn {
     /// On a counter, and what comes when the call there ends.
     OnCounter(After, Ready),
-    OnList(ListId, ListReady),
+    /// The seat sleeps on a counter, and gives up.
+    GivesUp(After),
+    /// On a list, and how the call there ends.
+    OnList(ListId, Ending, ListReady),
+    /// The seat sleeps on a list, and gives up.
+    GivesUpOnList(ListId, Ending),
     OnGroup(GroupId, GroupRow),
 }
 
@@ -21,12 +26,13 @@ impl Turn {
     {
         match self {
             Turn::OnCounter(_, ready) => entry_of(&ready.outcome.effect),
-            Turn::OnList(list, ready) => match ready.outcome.effect {
+            Turn::OnList(list, _, ready) => match ready.outcome.effect {
                 ListEffect::HandsOut(_) => Some(Entry::Ticket(*list, seat)),
                 ListEffect::Grants(upto) => Some(Entry::Grant(*list, upto, seat)),
+                ListEffect::Forgoes(wait) => Some(Entry::Forgo(*list, wait.id.turn, seat)),
                 _ => None,
             },
-            Turn::OnGroup(_, _) => None,
+            Turn::GivesUp(_) | Turn::GivesUpOnList(_, _) | Turn::OnGroup(_, _) => None,
         }
     }
 }

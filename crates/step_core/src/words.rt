@@ -83,13 +83,13 @@ impl WholeMachine {
         self.lists[list.number() as usize].handed()
     }
 
-    /// How many tickets of the list are granted.
+    /// How many tickets of the list the notify word has passed: those granted, and those gone before it.
     pub fn granted(&self, list: ListId) -> u64
         requires { list < length self.now.lists }
         ensures { (journal : List Told)
-            → result ≡ ((core_of self.now journal).lists list).words.numbers.granted }
+            → result ≡ ((core_of self.now journal).lists list).words.numbers.passed }
     {
-        self.lists[list.number() as usize].granted()
+        self.lists[list.number() as usize].passed()
     }
 
     /// The state word of the group.

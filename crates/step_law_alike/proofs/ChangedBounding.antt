@@ -2,7 +2,7 @@
 use Rattle.std.proofs.Common.{ℕ, zero, suc, ◌+◌, ◌≤◌, arith}
 use Rattle.step_table.specs.declared.place.Place.{Place}
 use Rattle.step_table.specs.declared.place.Place.TheVariants.{Acquiring}
-use Rattle.step_table.specs.declared.place.AcquireRow.TheVariants.{A7, A8, P}
+use Rattle.step_table.specs.declared.place.AcquireRow.TheVariants.{A7, A8, Parked}
 use Rattle.step_law_alike.specs.declared.variant.Variant.{Variant}
 use Rattle.step_law_alike.specs.declared.variant.Variant.TheVariants.{NoLook, LateCount, PlainLess}
 use Rattle.step_table.specs.World.{Layout, SemaWorld}
@@ -16,8 +16,8 @@ use Rattle.step_law_semaphores.proofs.Bounding.{asleep_or_raises, well_formed_bo
 asleep_or_raises_late : (root : ℕ → ℕ) (r : ℕ) (p : Place) (grant : ℕ) → asleep p grant + raises_late root r p ≤ 1
 asleep_or_raises_late root r (Acquiring a A7) grant = let one = on_most (root a.counter) r 1 in omega arith
 asleep_or_raises_late root r (Acquiring a A8) grant = let one = on_most (root a.counter) r 1 in omega arith
-asleep_or_raises_late root r (Acquiring a (P t)) zero = omega arith
-asleep_or_raises_late root r (Acquiring a (P t)) (suc g) = omega arith
+asleep_or_raises_late root r (Acquiring a (Parked t row)) zero = omega arith
+asleep_or_raises_late root r (Acquiring a (Parked t row)) (suc g) = omega arith
 asleep_or_raises_late root r _ grant = omega arith
 
 asleep_or_raises_in : (v : Variant) (root : ℕ → ℕ) (r : ℕ) (p : Place) (grant : ℕ) → asleep p grant + raises_in v root r p ≤ 1

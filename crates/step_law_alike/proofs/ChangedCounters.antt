@@ -30,8 +30,8 @@ kept_by m s t i in_range inv step = record {
   placed = placed_kept m s t i in_range inv.seats inv.placed step;
   sleepers = sleepers_kept in_range inv.placed inv.seats inv.sleepers step;
   turns = turns_kept in_range inv.seats inv.turns step;
-  seats = seats_kept m s t i in_range inv.placed inv.seats step;
-  finds = finds_kept m s t i in_range inv.locks inv.finds step;
+  seats = seats_kept m s t i in_range inv.placed inv.finds inv.seats step;
+  finds = finds_kept m s t i in_range inv.locks inv.placed inv.finds step;
   replays = replays_kept inv.replays step;
 }
 
@@ -80,7 +80,7 @@ module _ (m : Layout) (s : SemaWorld) (i : ℕ) (here : i < m.seats) (place : Pl
           granted = good.granted (s.words.grants i) known.granted;
         })
         (λ ne. inv.seats k);
-    finds = λ k there. put_at (λ k z. Finds s.words.lists z.place) s.seats i seat k
-        (good.finds s.words.lists (inv.finds i here)) (λ ne. inv.finds k there);
+    finds = λ k there. put_at (λ k z. Finds k s.words.lists z.place) s.seats i seat k
+        (good.finds i s.words.lists (inv.finds i here)) (λ ne. inv.finds k there);
     replays = inv.replays;
   }

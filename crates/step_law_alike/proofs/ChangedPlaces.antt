@@ -16,7 +16,9 @@ use Rattle.step_table.specs.declared.place.Place.TheVariants.{Acquiring}
 use Rattle.step_table.specs.declared.place.Place.TheVariants as on_counter
 use Rattle.step_table.specs.declared.list_place.ListPlace.TheVariants as on_list
 use Rattle.step_table.specs.declared.standing.After.{After}
-use Rattle.step_table.specs.declared.standing.After.TheVariants.{NextCall, LooksAgain, Releases}
+use Rattle.step_table.specs.declared.standing.After.TheVariants.{Closes, LooksAgain, Releases}
+use Rattle.step_table.specs.declared.standing.Ending.{Ending}
+use Rattle.step_table.specs.declared.standing.Ending.TheVariants.{NextCall, MayGiveUp, GaveUp, GivesBack}
 use Rattle.step_law_alike.specs.declared.variant.Variant.{Variant}
 use Rattle.step_law_alike.specs.declared.variant.Variant.TheVariants.{NoLook, LateCount, PlainLess}
 use Rattle.step_law_semaphores.specs.Lawful.{holds, IsGrantOf}
@@ -26,10 +28,11 @@ use Rattle.step_table.specs.ListWorld.{ListWords}
 use Rattle.step_law_lists.specs.ListLawful as lists
 use Rattle.step_law_lists.specs.ListInvariant as list
 use Rattle.step_table.specs.Core.{CoreLayout}
-use Rattle.step_law_whole.specs.CoreLaw.{IsCallBefore}
+use Rattle.step_law_whole.specs.CoreLaw.{IsCallBefore, IsListCallBefore, IsPatient, IsQueuedOn}
 use Rattle.step_law_whole.specs.RunInvariant.{to_add, to_take, has_ticket}
 use Rattle.step_law_alike.specs.Changed.{changed_row, changed_place, changed_wait_row, changed_list_place}
-use Rattle.step_law_lists.specs.ListWellFormed.{StillReads}
+use Rattle.step_law_lists.specs.ListWellFormed.{StillReads, WaitFits}
+use Rattle.step_law_whole.proofs.CoreKeeping.{stays_in}
 
 -- two places between which a change of the table leads
 pub data ChangesTo : Place → Place → Type 0 where
@@ -62,15 +65,19 @@ pub record IsAsGood (p q : Place) : Type 0 where
   pub within : (n : ℕ) → IsWithin n p → IsWithin n q
   pub fits : (n : ℕ) → HandFits p n → HandFits q n
   pub granted : (grant : ℕ) → IsGrantOf p grant → IsGrantOf q grant
-  pub finds : (waits : ℕ → List WaitId) → Finds waits p → Finds waits q
+  pub finds : (k : ℕ) (waits : ℕ → List WaitId) → Finds k waits p → Finds k waits q
   pub call : (m : CoreLayout) (after : After) → IsCallBefore m after p → IsCallBefore m after q
+  pub queued : (m : CoreLayout) (g : ℕ) → IsQueuedOn m g p → IsQueuedOn m g q
   pub rest : p ≡ on_counter.Rest → q ≡ on_counter.Rest
 
-call_at : (m : CoreLayout) (after : After) (a : Acquire) (row next : AcquireRow) → IsCallBefore m after (Acquiring a row)
-    → IsCallBefore m after (Acquiring a next)
-call_at m NextCall a row next is = ((λ e. cc), is.1)
-call_at m (LooksAgain g) a row next is = is
-call_at m (Releases g more) a row next is = is
+call_at : (m : CoreLayout) (after : After) (a : Acquire) (row next : AcquireRow) → (IsPatient row → IsPatient next)
+    → IsCallBefore m after (Acquiring a row) → IsCallBefore m after (Acquiring a next)
+call_at m (Closes NextCall) a row next still is = ((λ e. cc), is.1)
+call_at m (Closes (MayGiveUp how)) a row next still is = is
+call_at m (Closes (GaveUp how)) a row next still is = is
+call_at m (Closes (GivesBack skips)) a row next still is = is
+call_at m (LooksAgain g ending) a row next still is = (is.0, is.1, is.2, stays_in ending row next still is.3)
+call_at m (Releases g more) a row next still is = is
 
 pub as_good : {p q : Place} → ChangesTo p q → IsAsGood p q
 as_good same = record {
@@ -83,8 +90,9 @@ as_good same = record {
   within = λ n is. is;
   fits = λ n is. is;
   granted = λ grant is. is;
-  finds = λ waits is. is;
+  finds = λ k waits is. is;
   call = λ m after is. is;
+  queued = λ m g is. is;
   rest = λ e. e;
 }
 as_good (skips_look {a = a}) = record {
@@ -97,8 +105,9 @@ as_good (skips_look {a = a}) = record {
   within = λ n is. is;
   fits = λ n is. is;
   granted = λ grant is. is;
-  finds = λ waits is. is;
-  call = λ m after is. call_at m after a A5 A7 is;
+  finds = λ k waits is. is;
+  call = λ m after is. call_at m after a A5 A7 (λ still. tt) is;
+  queued = λ m g is. is;
   rest = λ e. cc;
 }
 as_good (looks_first {a = a}) = record {
@@ -111,8 +120,9 @@ as_good (looks_first {a = a}) = record {
   within = λ n is. is;
   fits = λ n is. is;
   granted = λ grant is. is;
-  finds = λ waits is. is;
-  call = λ m after is. call_at m after a A4 A5 is;
+  finds = λ k waits is. is;
+  call = λ m after is. call_at m after a A4 A5 (λ still. tt) is;
+  queued = λ m g is. is;
   rest = λ e. cc;
 }
 as_good (counts_late {a = a}) = record {
@@ -125,8 +135,9 @@ as_good (counts_late {a = a}) = record {
   within = λ n is. is;
   fits = λ n is. is;
   granted = λ grant is. is;
-  finds = λ waits is. is;
-  call = λ m after is. call_at m after a A7 A4 is;
+  finds = λ k waits is. is;
+  call = λ m after is. call_at m after a A7 A4 (λ still. tt) is;
+  queued = λ m g is. is;
   rest = λ e. cc;
 }
 as_good (lowers_none {a = a}) = record {
@@ -139,8 +150,9 @@ as_good (lowers_none {a = a}) = record {
   within = λ n is. is;
   fits = λ n is. is;
   granted = λ grant is. is;
-  finds = λ waits is. is;
-  call = λ m after is. call_at m after a A8 A9 is;
+  finds = λ k waits is. is;
+  call = λ m after is. call_at m after a A8 A9 (λ still. tt) is;
+  queued = λ m g is. is;
   rest = λ e. cc;
 }
 
@@ -177,12 +189,19 @@ pub record IsAsGoodOnList (p q : ListPlace) : Type 0 where
   pub only : (ticket : Option Ticket) → list.TicketFits p ticket → list.TicketFits q ticket
   pub granted : (grant : ℕ) → lists.IsGrantOf p grant → lists.IsGrantOf q grant
   pub reads : (first : ℕ) (g : ListWords) → StillReads first g p → StillReads first g q
-  pub rest : q ≡ on_list.Rest → p ≡ on_list.Rest
+  pub waits : (first : ℕ) (g : ListWords) (k : ℕ) → WaitFits first g k p → WaitFits first g k q
+  pub call : (ending : Ending) → IsListCallBefore ending p → IsListCallBefore ending q
   pub still : p ≡ on_list.Rest → q ≡ on_list.Rest
 
 has_none : (t : Ticket) (row next : WaitRow) (ticket : Option Ticket) → has_ticket (Waiting t row) ticket ≡ has_ticket (Waiting t next) ticket
 has_none t row next Rattle.std.specs.Prelude.None = refl
 has_none t row next (Rattle.std.specs.Prelude.Some u) = refl
+
+wait_call : (t : Ticket) (row next : WaitRow) (ending : Ending) → IsListCallBefore ending (Waiting t row) → IsListCallBefore ending (Waiting t next)
+wait_call t row next NextCall is = λ e. cc
+wait_call t row next (MayGiveUp how) is = tt
+wait_call t row next (GaveUp how) is = tt
+wait_call t row next (GivesBack skips) is = is
 
 pub as_good_on_list : {p q : ListPlace} → ListChangesTo p q → IsAsGoodOnList p q
 as_good_on_list same_place = record {
@@ -194,7 +213,8 @@ as_good_on_list same_place = record {
   only = λ ticket is. is;
   granted = λ grant is. is;
   reads = λ first g is. is;
-  rest = λ e. e;
+  waits = λ first g k is. is;
+  call = λ ending is. is;
   still = λ e. e;
 }
 as_good_on_list (parks {t = t}) = record {
@@ -206,7 +226,8 @@ as_good_on_list (parks {t = t}) = record {
   only = λ ticket is. is;
   granted = λ grant is. is;
   reads = λ first g is. is;
-  rest = λ e. cc;
+  waits = λ first g k is. is;
+  call = λ ending is. wait_call t W3 W4 ending is;
   still = λ e. cc;
 }
 as_good_on_list (returns {t = t}) = record {
@@ -218,6 +239,7 @@ as_good_on_list (returns {t = t}) = record {
   only = λ ticket is. is;
   granted = λ grant is. is;
   reads = λ first g is. is;
-  rest = λ e. cc;
+  waits = λ first g k is. is;
+  call = λ ending is. wait_call t W4 W3 ending is;
   still = λ e. cc;
 }

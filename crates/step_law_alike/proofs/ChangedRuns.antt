@@ -4,7 +4,7 @@ use Rattle.step_table.specs.declared.list_place.ListPlace.{ListPlace}
 use Rattle.step_table.specs.declared.place.Place.{Place}
 use Rattle.step_table.specs.declared.parts.Parts.{Parts}
 use Rattle.step_table.specs.declared.standing.Standing.{Standing}
-use Rattle.step_table.specs.declared.standing.Standing.TheVariants.{Rest, AtCounter, AtList, AtGroup, Failed}
+use Rattle.step_table.specs.declared.standing.Standing.TheVariants.{Rest, AtCounter, AtList, AtGroup, Failed, Left}
 use Rattle.step_law_alike.specs.declared.variant.Variant.{Variant}
 use Rattle.step_table.specs.World.{SeatState, put}
 use Rattle.step_table.specs.Counting.{total}
@@ -20,6 +20,7 @@ use Rattle.step_law_whole.proofs.CoreCalling as calling
 use Rattle.step_law_whole.proofs.CoreKeeping as keeping
 use Rattle.step_law_whole.proofs.RunBeginning.{KeepsRuns}
 use Rattle.step_law_whole.proofs.RunStepping.{is_there, can_run_at, steps_so}
+use Rattle.step_law_whole.proofs.CoreCalling.{left_kept}
 use Rattle.step_law_alike.proofs.ChangedPlaces.{IsAsGood, IsAsGoodOnList, as_good, as_good_on_list, changes, list_changes}
 use Rattle.step_law_alike.proofs.ChangedRaising.{waiters_stepped}
 use Rattle.step_law_alike.proofs.ChangedCore.{well_formed_keep, well_formed_core_first, well_formed_changed, goods, list_goods}
@@ -30,6 +31,7 @@ well_formed_runs parts = record {
   stand = λ s inv. inv.standing;
   known = λ s i there inv. record { seat = inv.semaphores.seats i; finds = inv.semaphores.finds i there };
   called = calling.called (layout parts) (well_formed_keep (layout parts));
+  rests = λ s i skips there inv at. left_kept (layout parts) s i skips inv at;
   kept = keeping.kept (layout parts) (well_formed_keep (layout parts));
 }
 
@@ -56,6 +58,7 @@ module _ (v : Variant) (parts : Parts) (s : Core) (run : Run) (i : ℕ) (there :
         begun = sound.begun;
         ended = sound.ended;
         tickets = sound.tickets;
+        skipped = sound.skipped;
         words = sound.words;
         carried = sound.carried;
         units =
@@ -66,16 +69,17 @@ module _ (v : Variant) (parts : Parts) (s : Core) (run : Run) (i : ℕ) (there :
             let before = sound.units in omega arith;
         handed = sound.handed;
       }
-  runs_changed (AtList l) =
+  runs_changed (AtList l ending) =
       let t : Core = run.core in
       let place : ListPlace = changed_list_place v (s.lists l).words.notify ((s.lists l).seats i).place ((t.lists l).seats i).place in
       let good = as_good_on_list (list_changes v (s.lists l).words.notify ((s.lists l).seats i).place ((t.lists l).seats i).place) in
       let w : ListWorld = list.moved (t.lists l) i place in
       record {
-        core = well_formed_changed v (layout parts) s t i there sound.core (AtList l);
+        core = well_formed_changed v (layout parts) s t i there sound.core (AtList l ending);
         begun = sound.begun;
         ended = sound.ended;
         tickets = λ k j. held t l w i place good k j ∙ sound.tickets k j;
+        skipped = sound.skipped;
         words = sound.words;
         carried = sound.carried;
         units = sound.units;
@@ -97,6 +101,7 @@ module _ (v : Variant) (parts : Parts) (s : Core) (run : Run) (i : ℕ) (there :
           (λ ne. refl)
   runs_changed Rest = sound
   runs_changed (AtGroup g row) = sound
+  runs_changed (Left skips) = sound
   runs_changed (Failed misuse) = sound
 
 -- a step by a changed table keeps form and bounds, and the count of waiter words

@@ -6,10 +6,11 @@ use Rattle.step_table.specs.declared.place.Acquire.{Acquire as AcquireCall}
 use Rattle.step_table.specs.declared.place.Release.{Release as ReleaseCall}
 use Rattle.step_table.specs.declared.place.ReleaseMany.{ReleaseMany as ManyCall}
 use Rattle.step_table.specs.declared.place.AcquireRow.{AcquireRow}
-use Rattle.step_table.specs.declared.place.AcquireRow.TheVariants.{A1, A3, A4, A5, A6}
+use Rattle.step_table.specs.declared.place.AcquireRow.TheVariants.{A1, A3, A4, A5, A6, Parked}
 use Rattle.step_table.specs.declared.place.ReleaseRow.TheVariants.{R1}
 use Rattle.step_table.specs.declared.place.ManyRow.TheVariants.{M1}
 use Rattle.step_table.specs.declared.place.Place.{Place}
+use Rattle.step_table.specs.declared.place.ParkedRow.{ParkedRow}
 use Rattle.step_table.specs.declared.place.Place.TheVariants.{Rest, Acquiring, Releasing, ReleasingMany}
 use Rattle.step_law_alike.specs.declared.variant.Variant.{Variant}
 use Rattle.step_law_alike.specs.declared.variant.Variant.TheVariants.{NoLook, LateCount, PlainLess}
@@ -21,9 +22,9 @@ use Rattle.step_law_alike.specs.Changed.{changed_row, changed_place}
 use Rattle.step_law_alike.specs.ChangedInvariant.{raises_late, raises_in, WaitersRaisedIn}
 use Rattle.step_law_semaphores.specs.WellFormed.{IsWellFormedWorld}
 use Rattle.step_table.proofs.Sums.{put_here, put_else, total_change, total_has, on_here, up, down}
-use Rattle.step_law_semaphores.proofs.Lines.{Line, begin_acquire, a4, a7, a8, r5, m5_more, m5_last, Post, r9, r10, m7_last, m7_more, Step, own, post}
+use Rattle.step_law_semaphores.proofs.Lines.{Line, begin_acquire, a4, a7, a8, r5, m5_more, m5_last, Post, r9, r10, m7_last, m7_more, Step, own, post, d3}
 use Rattle.step_law_semaphores.proofs.Cases.{step_of}
-use Rattle.step_law_semaphores.proofs.Raising.{Raised, rows, one_less, waits_up, lists_below}
+use Rattle.step_law_semaphores.proofs.Raising.{Raised, rows, one_less, waits_up, lists_below, one_out}
 use Rattle.step_table.proofs.Sums as sums
 
 -- the change without a second look, and the plain comparison, lead no seat to where it has raised more or less
@@ -53,6 +54,7 @@ late_rows {m = m} {g = g} (a8 {a = a}) known r =
     let x = m.root a.counter in
     let some = known.own x in let one = on_here x 1 in
     let lowered = down g.waiters x (g.waiters x - 1) r (omega arith) in omega arith
+late_rows {m = m} {i = i} {g = g} (d3 {a = a} {u = u} stands) known r = let left = one_out known a.counter (wait i u) known.within stands r in omega arith
 late_rows (r5 {r = q} {w = w} {l = l} first) known r = let left = one_less known q.counter w l known.within first r in omega arith
 late_rows (m5_more {r = q} {w = w} {l = l} first _ _) known r = let left = one_less known q.counter w l known.within.0 first r in omega arith
 late_rows (m5_last {r = q} {w = w} {l = l} first _) known r = let left = one_less known q.counter w l known.within.0 first r in omega arith
@@ -81,12 +83,15 @@ posts_in PlainLess r10 root r = refl
 posts_in PlainLess m7_last root r = refl
 posts_in PlainLess m7_more root r = refl
 
--- a change leads nobody away from where a call begins, or has ended, and there nothing is raised
+-- a change leads nobody away from where a call begins, waits for the lock, sleeps or has ended, and there nothing is
+-- raised
 pub data Starts : Place → Type 0 where
   at_rest : Starts Rest
   acquires : {a : AcquireCall} → Starts (Acquiring a A1)
   release : {q : ReleaseCall} → Starts (Releasing q R1)
   releases_many : {q : ManyCall} → Starts (ReleasingMany q M1)
+  at_lock : {a : AcquireCall} → Starts (Acquiring a A3)
+  parked : {a : AcquireCall} {u : ℕ} {row : ParkedRow} → Starts (Acquiring a (Parked u row))
 
 row_stays : (v : Variant) (from : AcquireRow) → changed_row v from A1 ≡ A1
 row_stays NoLook A4 = refl
@@ -96,8 +101,26 @@ row_stays LateCount A5 = refl
 row_stays LateCount (A6 left) = refl
 row_stays v from = refl
 
+lock_stays : (v : Variant) (from : AcquireRow) → changed_row v from A3 ≡ A3
+lock_stays NoLook A4 = refl
+lock_stays LateCount A3 = refl
+lock_stays LateCount A4 = refl
+lock_stays LateCount A5 = refl
+lock_stays LateCount (A6 left) = refl
+lock_stays v from = refl
+
+sleep_stays : (v : Variant) (from : AcquireRow) (u : ℕ) (row : ParkedRow) → changed_row v from (Parked u row) ≡ Parked u row
+sleep_stays NoLook A4 u row = refl
+sleep_stays LateCount A3 u row = refl
+sleep_stays LateCount A4 u row = refl
+sleep_stays LateCount A5 u row = refl
+sleep_stays LateCount (A6 left) u row = refl
+sleep_stays v from u row = refl
+
 stays : (v : Variant) (p : Place) {q : Place} → Starts q → changed_place v p q ≡ q
 stays v (Acquiring a from) (acquires {a = b}) = ap (Acquiring b) (row_stays v from)
+stays v (Acquiring a from) (at_lock {a = b}) = ap (Acquiring b) (lock_stays v from)
+stays v (Acquiring a from) (parked {a = b} {u = u} {row = row}) = ap (Acquiring b) (sleep_stays v from u row)
 stays v p starts = refl
 
 pub raised_none : (v : Variant) (root : ℕ → ℕ) (r : ℕ) {q : Place} → Starts q → raises_in v root r q ≡ 0
@@ -135,10 +158,10 @@ module _ (v : Variant) (m : Layout) (i : ℕ) (s : SemaWorld) where
     others = λ k ne. refl;
   }
 
-  -- a seat at rest begins a call
-  pub begins : (u : SemaWorld) → IsHalfway v m i s u → (u.seats i).place ≡ Rest → (place : Place)
+  -- a seat goes by its choice between two such places
+  pub begins : (u : SemaWorld) → IsHalfway v m i s u → {from : Place} → (u.seats i).place ≡ from → Starts from → (place : Place)
       → Starts place → IsHalfway v m i s (moved u i place)
-  begins u half rests place starts =
+  begins u half rests leaves place starts =
       let seat : SeatState = record (u.seats i) { place = place } in
       record {
         words = λ r.
@@ -146,7 +169,7 @@ module _ (v : Variant) (m : Layout) (i : ℕ) (s : SemaWorld) where
             let here = ap (λ (z : SeatState). raises_in v m.root r (changed_place v (s.seats i).place z.place)) (put_here u.seats i seat) in
             let was = ap (λ p. raises_in v m.root r (changed_place v (s.seats i).place p)) rests in
             let none = none_raised v m.root r (s.seats i).place starts in
-            let no = none_raised v m.root r (s.seats i).place at_rest in omega arith);
+            let no = none_raised v m.root r (s.seats i).place leaves in omega arith);
         others = λ k ne. ap (λ (z : SeatState). z.place) (put_else u.seats i seat k ne) ∙ half.others k ne;
       }
 

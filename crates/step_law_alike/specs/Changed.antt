@@ -67,7 +67,7 @@ led_on_list v notify from t i l =
 -- the machine t after a row of seat i, which did this in s
 abbrev pub changed : Variant → Core → Core → ℕ → Standing → Core
 changed v s t i (AtCounter after) = led_on_counter v (s.semaphores.seats i).place t i
-changed v s t i (AtList l) = led_on_list v (s.lists l).words.notify ((s.lists l).seats i).place t i l
+changed v s t i (AtList l ending) = led_on_list v (s.lists l).words.notify ((s.lists l).seats i).place t i l
 changed v s t i _ = t
 
 -- the run after a step of seat i by the changed table

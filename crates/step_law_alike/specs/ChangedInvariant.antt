@@ -11,7 +11,7 @@ use Rattle.step_law_semaphores.specs.Lawful.{raises, waits_of}
 use Rattle.step_table.specs.Core.{CoreLayout, Core, counters_of}
 use Rattle.step_law_whole.specs.CoreLaw.{IsKept}
 use Rattle.step_law_semaphores.specs.WellFormed.{IsWellFormedWorld}
-use Rattle.step_law_lists.specs.ListWellFormed.{IsWellFormedList}
+use Rattle.step_law_lists.specs.ListWellFormed.{IsWellFormedWhileFew}
 
 -- 1 where the seat has raised the waiter word of the root r, and neither queued its wait nor lowered the word
 abbrev pub raises_late : (ℕ → ℕ) → ℕ → Place → ℕ
@@ -31,4 +31,4 @@ WaitersRaisedIn v m s =
 
 abbrev pub IsWellFormedCore : CoreLayout → Core → Type 0
 IsWellFormedCore m s =
-    IsKept (IsWellFormedWorld (counters_of m)) (λ l w. IsWellFormedList (m.firsts l) m.seats w) m s
+    IsKept (IsWellFormedWorld (counters_of m)) (λ l w. IsWellFormedWhileFew (m.firsts l) m.seats w) m s

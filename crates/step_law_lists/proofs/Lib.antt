@@ -1,12 +1,15 @@
 pub mod ListRows
 pub mod ListCases
 pub mod ListLocks
+pub mod ListJournals
 pub mod ListPlacing
 pub mod ListHanding
 pub mod ListWriting
+pub mod ListRising
 pub mod ListReading
 pub mod ListLeaving
 pub mod ListKnowing
+pub mod ListRecalling
 pub mod ListFreshness
 pub mod ListKeeping
 pub mod ListLawfulness
@@ -24,4 +27,5 @@ pub mod ListResting
 pub mod ListReturning
 pub mod ListAccounts
 pub mod ListGranting
+pub mod ListGoing
 pub mod ListPaths

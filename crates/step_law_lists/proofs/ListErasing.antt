@@ -1,5 +1,5 @@
 -- Waits, lists, held tickets and seats without the numbers of their tickets.
-use Rattle.std.proofs.Common.{◌≡◌, ℕ, ◌==◌, if◌then◌else◌, Bool, true, false, List, [], ◌∷◌, ◌++◌, length, suc, Option, Some, None}
+use Rattle.std.proofs.Common.{◌≡◌, ℕ, ◌==◌, ◌||◌, if◌then◌else◌, Bool, true, false, List, [], ◌∷◌, ◌++◌, length, suc, Option, Some, None}
 use Rattle.std.proofs.Common.{refl, ap}
 use Rattle.waiters.specs.declared.wait.Wait.{Wait}
 use Rattle.waiters.specs.Lists.{first_with, without_first}
@@ -7,7 +7,7 @@ use Rattle.step_table.specs.declared.list_place.AllRow.TheVariants.{L6, L7}
 use Rattle.step_table.specs.declared.list_place.ListPlace.{ListPlace}
 use Rattle.step_table.specs.declared.list_place.ListPlace.TheVariants.{NotifyingAll}
 use Rattle.step_table.specs.declared.list_place.Ticket.{Ticket}
-use Rattle.step_table.specs.ListWorld.{ListSeat}
+use Rattle.step_table.specs.ListWorld.{ListSeat, is_queued, without_seat}
 use Rattle.step_table.specs.ListErased.{erased_wait, erased_waits, erased_held, erased_list_place}
 use Rattle.step_law_lists.specs.ListBlind.{erased_list_seat}
 
@@ -43,6 +43,19 @@ without_erased t (w ∷ l) = by (w.ticket == t) (without_erased t l)
   where
     by : (b : Bool) → without_first t (erased_waits l) ≡ erased_waits (without_first t l)
         → (if b then erased_waits l else erased_wait w ∷ without_first t (erased_waits l)) ≡ erased_waits (if b then l else w ∷ without_first t l)
+    by true e = refl
+    by false e = ap (λ z. erased_wait w ∷ z) e
+
+pub queued_erased : (i : ℕ) (l : List Wait) → is_queued i (erased_waits l) ≡ is_queued i l
+queued_erased i [] = refl
+queued_erased i (w ∷ l) = ap (λ b. (w.id.seat == i) || b) (queued_erased i l)
+
+pub seat_erased : (i : ℕ) (l : List Wait) → without_seat i (erased_waits l) ≡ erased_waits (without_seat i l)
+seat_erased i [] = refl
+seat_erased i (w ∷ l) = by (w.id.seat == i) (seat_erased i l)
+  where
+    by : (b : Bool) → without_seat i (erased_waits l) ≡ erased_waits (without_seat i l)
+        → (if b then erased_waits l else erased_wait w ∷ without_seat i (erased_waits l)) ≡ erased_waits (if b then l else w ∷ without_seat i l)
     by true e = refl
     by false e = ap (λ z. erased_wait w ∷ z) e
 

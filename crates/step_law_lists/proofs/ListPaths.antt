@@ -1,12 +1,14 @@
 -- What a path of a seat of a notify list tells by what was seen alone, since every reached world is lawful.
-use Rattle.std.proofs.Common.{◌≡◌, ◌≢◌, ℕ, ◌<◌, ◌≤◌, IsTrue, Some, None, List, ◌∷◌, [], ◌++◌, refl, sym, ap, ◌∙◌, subst}
+use Rattle.std.proofs.Common.{◌≡◌, ◌≢◌, ℕ, ◌<◌, IsTrue, Some, None, List, ◌∷◌, [], ◌++◌, map, refl, sym, ap, ◌∙◌, subst}
 use Rattle.std.proofs.Common.{append-nil, cond, ne_eqb}
 use Rattle.std.proofs.lemmas.List.{append_cancel_left}
 use Rattle.std.proofs.lemmas.List.Elements.{filter-append}
 use Rattle.std.specs.List.{filter}
 use Rattle.step_table.specs.declared.list_place.AllRow.TheVariants.{L1, L2, L3, L4, L5, L6, L7, L8}
 use Rattle.step_table.specs.declared.list_place.ListEffect.{ListEffect}
-use Rattle.step_table.specs.declared.list_place.ListEffect.TheVariants.{HandsOut, Grants}
+use Rattle.step_table.specs.declared.list_place.ListEffect.TheVariants.{HandsOut, Grants, Forgoes}
+use Rattle.step_table.specs.declared.list_place.ListParkedRow.TheVariants.{P, E1, E2, E3, E5}
+use Rattle.step_table.specs.declared.list_place.WaitRow.TheVariants.{W1, W2, W3, W4, E4, Parked}
 use Rattle.step_table.specs.declared.list_place.ListPlace.{ListPlace}
 use Rattle.step_table.specs.declared.list_place.ListPlace.TheVariants.{Rest, Adding, Waiting, NotifyingOne, NotifyingAll}
 use Rattle.step_table.specs.declared.list_place.ListWord.{ListWord}
@@ -15,10 +17,10 @@ use Rattle.step_table.specs.declared.list_place.Ticket.{Ticket}
 use Rattle.step_table.specs.declared.list_place.OneRow.TheVariants.{O1, O2, O3, O4, O5, O6, O7, O8, O9}
 use Rattle.step_table.specs.Wrapping.{word_of}
 use Rattle.step_table.specs.World.{put}
-use Rattle.step_table.specs.ListWorld.{Numbers, ListWords, ListSeat, ListEntry, Took, Granted, ListWorld, found, journal_after, first_list}
+use Rattle.step_table.specs.ListWorld.{Numbers, ListWords, ListSeat, ListEntry, Took, Granted, Forgone, ListWorld, found, journal_after, first_list}
 use Rattle.step_table.specs.ListEvent.{ListNext, ListEvent}
 use Rattle.step_table.specs.ListTable.{list_event_at, list_table}
-use Rattle.step_law_lists.specs.ListLawful.{told, Follows}
+use Rattle.step_law_lists.specs.ListLawful.{told, Follows, IsInReach}
 use Rattle.step_law_lists.specs.ListInvariant.{IsListInvariant}
 use Rattle.step_table.specs.ListSteps.{turn, choose, add, wait, more, ListChoice, ListStep, seat_after, event_of, effect_of, finds, can_turn, turned, moved}
 use Rattle.step_table.specs.ListSteps.{with_ticket, waiting, IsListReached}
@@ -32,19 +34,30 @@ use Rattle.step_table.proofs.Paths.{goes_on_more, goes_on_by, row_ran, are_paths
 pub journal_told : (i : ℕ) (effect : ListEffect) (journal : List ListEntry) → journal_after i effect journal ≡ journal ++ entries_of i effect
 journal_told i (HandsOut t) journal = refl
 journal_told i (Grants upto) journal = refl
+journal_told i (Forgoes w) journal = refl
 journal_told i _ journal = sym (append-nil journal)
 
 -- a seat tells nothing of another's own
 silent : (i j : ℕ) (effect : ListEffect) → j ≢ i → filter (is_own j) (entries_of i effect) ≡ []
 silent i j (HandsOut t) ne = ap (λ b. cond b (Took i ∷ []) []) (ne_eqb i j (λ e. ne (sym e)))
 silent i j (Grants upto) ne = ap (λ b. cond b (Granted upto i ∷ []) []) (ne_eqb i j (λ e. ne (sym e)))
+silent i j (Forgoes w) ne = ap (λ b. cond b (Forgone w.id.turn i ∷ []) []) (ne_eqb i j (λ e. ne (sym e)))
 silent i j _ ne = refl
 
 -- the word of a row is one whatever the words hold
 same_word : (i : ℕ) (seat : ListSeat) (g h : ListWords) (p : ListPlace) → (list_event_at i seat g p).word ≡ (list_event_at i seat h p).word
 same_word i seat g h Rest = refl
 same_word i seat g h Adding = refl
-same_word i seat g h (Waiting t row) = refl
+same_word i seat g h (Waiting t W1) = refl
+same_word i seat g h (Waiting t W2) = refl
+same_word i seat g h (Waiting t W3) = refl
+same_word i seat g h (Waiting t W4) = refl
+same_word i seat g h (Waiting t E4) = refl
+same_word i seat g h (Waiting t (Parked P)) = refl
+same_word i seat g h (Waiting t (Parked E1)) = refl
+same_word i seat g h (Waiting t (Parked E2)) = refl
+same_word i seat g h (Waiting t (Parked (E3 v))) = refl
+same_word i seat g h (Waiting t (Parked E5)) = refl
 same_word i seat g h (NotifyingOne n O1) = refl
 same_word i seat g h (NotifyingOne n (O2 a)) = refl
 same_word i seat g h (NotifyingOne n O3) = refl
@@ -157,9 +170,9 @@ module _ (first seats i : ℕ) (v w : ListSight) (p : ListStride) (r : ListRan f
       by runs did = (turned s i, more i in_range r.meets.met (turn (record { can = did.can; is = refl })), did.leads)
       by (looks x) did = (s, r.meets.met, did.leads)
 
-  module _ (small : seats ≤ 9223372036854775808) where
+  module _ (reach : IsInReach p.seen) where
     inv : IsListInvariant first seats s
-    inv = list_reached first seats s small r.meets.met
+    inv = list_reached first seats s (subst IsInReach r.seen reach) r.meets.met
 
     numbers_are : s.words.numbers ≡ told p.seen
     numbers_are = inv.numbers ∙ ap told (sym r.seen)
@@ -168,7 +181,8 @@ module _ (first seats i : ℕ) (v w : ListSight) (p : ListStride) (r : ListRan f
     are_told = record {
       numbers = numbers_are;
       wait = inv.words.0 ∙ ap (λ (n : Numbers). word_of first n.handed) numbers_are;
-      notify = inv.words.1 ∙ ap (λ (n : Numbers). word_of first n.granted) numbers_are;
+      notify = inv.words.1 ∙ ap (λ (n : Numbers). word_of first n.passed) numbers_are;
+      gone = inv.words.3 ∙ ap (λ (n : Numbers). map (word_of first) n.gone) numbers_are;
     }
 
     -- what is read is found in the word of the stride
@@ -210,7 +224,7 @@ module _ (first seats i : ℕ) (v w : ListSight) (p : ListStride) (r : ListRan f
     pub list_reads_wait : word_of_stride i p ≡ Wait → p.read ≡ word_of first (told_before p).handed
     list_reads_wait on = list_read ∙ ap (found s.words) on ∙ are_told.wait
 
-    pub list_reads_notify : word_of_stride i p ≡ Notify → p.read ≡ word_of first (told_before p).granted
+    pub list_reads_notify : word_of_stride i p ≡ Notify → p.read ≡ word_of first (told_before p).passed
     list_reads_notify on = list_read ∙ ap (found s.words) on ∙ are_told.notify
 
 pub the_list_paths : TheListPaths
@@ -221,9 +235,9 @@ the_list_paths = record {
   waits = list_waits;
   rows = list_rows;
   others = λ first seats s t i j v in_range ne step meets. list_others first seats s i t j v in_range ne step meets;
-  reads_wait = λ first seats i v w p small r. list_reads_wait first seats i v w p r small;
-  reads_notify = λ first seats i v w p small r. list_reads_notify first seats i v w p r small;
-  does = λ first seats i v w p small r. list_does first seats i v w p r small;
-  lawful = λ first seats i v w p small r. list_seen_lawful first seats i v w p r small;
+  reads_wait = λ first seats i v w p reach r. list_reads_wait first seats i v w p r reach;
+  reads_notify = λ first seats i v w p reach r. list_reads_notify first seats i v w p r reach;
+  does = λ first seats i v w p reach r. list_does first seats i v w p r reach;
+  lawful = λ first seats i v w p reach r. list_seen_lawful first seats i v w p r reach;
   ends = λ first seats i v w p in_range r. list_ends first seats i v w p r in_range;
 }

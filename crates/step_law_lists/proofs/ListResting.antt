@@ -6,7 +6,8 @@ use Rattle.step_table.specs.declared.list_place.ListPlace.{ListPlace}
 use Rattle.step_table.specs.declared.list_place.ListPlace.TheVariants.{Waiting, NotifyingOne, NotifyingAll}
 use Rattle.step_table.specs.declared.list_place.OneRow.TheVariants.{O9}
 use Rattle.step_table.specs.declared.list_place.Ticket.{Ticket}
-use Rattle.step_table.specs.declared.list_place.WaitRow.TheVariants.{P}
+use Rattle.step_table.specs.declared.list_place.WaitRow.TheVariants.{Parked}
+use Rattle.step_table.specs.declared.list_place.ListParkedRow.{ListParkedRow}
 use Rattle.step_table.specs.ListWorld.{ListWorld}
 use Rattle.step_table.specs.ListEvent.{waiter}
 use Rattle.step_table.specs.ListSteps.{event_of}
@@ -16,7 +17,7 @@ use Rattle.step_law_lists.specs.ListWellFormed.{asleep_on_list}
 use Rattle.step_table.proofs.Sums.{total_has}
 use Rattle.step_table.proofs.SumsOfSums.{none}
 use Rattle.step_law_lists.proofs.ListPlacing.{one_here, waiter_of}
-use Rattle.step_law_lists.proofs.ListLawfulness.{granted_told}
+use Rattle.step_law_lists.proofs.ListLawfulness.{granted_standing}
 use Rattle.step_law_lists.specs.ListHolders.{StoresGrant}
 use Rattle.step_law_lists.specs.ListPlaces.{GrantsParked, RestsIdle, AllRest, NothingLeft}
 use Rattle.step_law_lists.proofs.ListHolding.{stores_one}
@@ -30,9 +31,9 @@ has_some : (place : ListPlace) (n : ℕ) → Granting place → HandFits place n
 has_some place n (inl e) fits = let one = subst (λ p. HandFits p n) e.1 fits in omega arith
 has_some place n (inr e) fits = subst (λ p. HandFits p n) e.1 fits
 
-apart : (place : ListPlace) (t : Ticket) → Granting place → place ≡ Waiting t P → ⊥
-apart place t (inl e) is = let both = sym e.1 ∙ is in cc
-apart place t (inr e) is = let both = sym e.1 ∙ is in cc
+apart : (place : ListPlace) (t : Ticket) (row : ListParkedRow) → Granting place → place ≡ Waiting t (Parked row) → ⊥
+apart place t row (inl e) is = let both = sym e.1 ∙ is in cc
+apart place t row (inr e) is = let both = sym e.1 ∙ is in cc
 
 no_hand : (l : List Wait) → length l ≡ 0 → l ≡ []
 no_hand [] empty = refl
@@ -50,18 +51,18 @@ module _ (first seats : ℕ) (s : ListWorld) (inv : IsListInvariant first seats 
           let has = ap (times w) is in
           let held = total_has seats (λ k. times w (s.seats k).hand) i there in
           let v = waiter_of seats s w inv.placed (omega arith) in
-          let told_granted = granted_told first seats s inv in
           let below = (inv.seats_known i there).granted w (omega arith) in
           subst (λ k. GrantsParked seats i k s) (sym (to ∙ ap (waiter i) is))
           (record {
             ticket = record { word = w.ticket; number = w.id.turn };
+            row = v.0.0;
             rest = l;
             hand = is;
             there = v.2;
-            other = λ e. apart (s.seats i).place _ granting (ap (λ k. (s.seats k).place) (sym e) ∙ v.0);
-            parked = v.0;
+            other = λ e. apart (s.seats i).place _ v.0.0 granting (ap (λ k. (s.seats k).place) (sym e) ∙ v.0.1);
+            parked = v.0.1;
             unset = v.1;
-            granted = omega arith;
+            granted = granted_standing first seats s inv w (omega arith) below;
           })
 
   pub grants_parked : (i k x : ℕ) → i < seats → StoresGrant (event_of s i) k x → (x ≡ 1) × GrantsParked seats i k s

@@ -4,9 +4,10 @@ use Rattle.step_table.specs.declared.list_place.AllRow.TheVariants.{L1, L2, L3, 
 use Rattle.step_table.specs.declared.list_place.ListPlace.{ListPlace}
 use Rattle.step_table.specs.declared.list_place.ListPlace.TheVariants.{Rest, Adding, Waiting, NotifyingOne, NotifyingAll}
 use Rattle.step_table.specs.declared.list_place.OneRow.TheVariants.{O1, O2, O3, O4, O5, O6, O7, O8, O9}
-use Rattle.step_table.specs.declared.list_place.WaitRow.TheVariants.{W1, W2, W3, W4, P}
+use Rattle.step_table.specs.declared.list_place.WaitRow.TheVariants.{W1, W2, W3, W4, E4, Parked}
+use Rattle.step_table.specs.declared.list_place.ListParkedRow.TheVariants.{P, E1, E2, E3, E5}
 use Rattle.step_table.specs.Wrapping.{less}
-use Rattle.step_table.specs.ListWorld.{ListSeat, ListWorld, found}
+use Rattle.step_table.specs.ListWorld.{ListSeat, ListWorld, found, is_queued}
 use Rattle.step_table.specs.ListEvent.{ListNext, ListEvent}
 use Rattle.step_table.specs.ListTable.{list_event_at}
 use Rattle.step_table.specs.ListSteps.{seat_after, ListTurn}
@@ -39,9 +40,15 @@ done s i Adding at can rest = tt
 done s i (Waiting t W1) at can rest = absurd cc
 done s i (Waiting t W2) at can rest =
     absurd (neither (less t.word s.words.notify) (Waiting t W3) (Waiting t W4) (λ e. cc) (λ e. cc) rest)
-done s i (Waiting t W3) at can rest = inl (sym at)
+done s i (Waiting t W3) at can rest = inl (inl (sym at))
 done s i (Waiting t W4) at can rest = absurd cc
-done s i (Waiting t P) at can rest = inr (sym at, ltb-true 0 (s.words.grants i) can)
+done s i (Waiting t E4) at can rest = inr (sym at)
+done s i (Waiting t (Parked P)) at can rest = inl (inr (sym at, ltb-true 0 (s.words.grants i) can))
+done s i (Waiting t (Parked E1)) at can rest =
+    absurd (neither (is_queued i s.words.queue) (Waiting t (Parked E2)) (Waiting t (Parked E5)) (λ e. cc) (λ e. cc) rest)
+done s i (Waiting t (Parked E2)) at can rest = absurd cc
+done s i (Waiting t (Parked (E3 v))) at can rest = absurd cc
+done s i (Waiting t (Parked E5)) at can rest = absurd cc
 done s i (NotifyingOne h O1) at can rest = absurd cc
 done s i (NotifyingOne h (O2 a)) at can rest =
     one_equal h a (eqb-true a s.words.notify (only_if (a == s.words.notify) (NotifyingOne h O3) (λ e. cc) rest))

@@ -7,7 +7,8 @@ use Rattle.waiters.specs.declared.wait.Wait.{Wait}
 use Rattle.step_table.specs.declared.list_place.ListPlace.{ListPlace}
 use Rattle.step_table.specs.declared.list_place.ListPlace.TheVariants.{Waiting}
 use Rattle.step_table.specs.declared.list_place.Ticket.{Ticket}
-use Rattle.step_table.specs.declared.list_place.WaitRow.TheVariants.{P}
+use Rattle.step_table.specs.declared.list_place.WaitRow.TheVariants.{Parked}
+use Rattle.step_table.specs.declared.list_place.ListParkedRow.{ListParkedRow}
 use Rattle.step_table.specs.Counting.{on, total}
 use Rattle.step_table.specs.ListWorld.{ListWorld}
 use Rattle.step_table.specs.ListTable.{wait_for}
@@ -61,12 +62,12 @@ has_one k (x ∷ l) = by (ℕ_discrete k x.id.seat) (has_one k l)
     by (no apart) (inl none) = inl (let off = on_else k x.id.seat 1 apart in omega arith)
     by (no apart) (inr some) = inr (some.0, (let more = some.1 in omega arith), some.2)
 
-parked_once : (t u : Ticket) → Waiting t P ≡ Waiting u P → t ≡ u
-parked_once t u e = cc
+parked_once : (t u : Ticket) (row other : ListParkedRow) → Waiting t (Parked row) ≡ Waiting u (Parked other) → t ≡ u
+parked_once t u row other e = cc
 
 asleep_most : (place : ListPlace) (grant : ℕ) → asleep_on_list place grant ≤ 1
-asleep_most (Waiting t P) zero = omega arith
-asleep_most (Waiting t P) (suc grant) = omega arith
+asleep_most (Waiting t (Parked row)) zero = omega arith
+asleep_most (Waiting t (Parked row)) (suc grant) = omega arith
 asleep_most _ grant = omega arith
 
 module _ (seats : ℕ) (s : ListWorld) (placed : WaitsPlaced seats s) where
@@ -104,11 +105,11 @@ module _ (seats : ℕ) (s : ListWorld) (placed : WaitsPlaced seats s) where
       by l stand (inl none) = none
       by l stand (inr some) =
           let v = waiter_of seats s some.0 placed (stand some.0 some.1) in
-          let asleep = ap₂ asleep_on_list v.0 v.1 in
+          let asleep = ap₂ asleep_on_list v.0.1 v.1 in
           let here = ap (λ k. asleep_on_list (s.seats k).place (s.words.grants k)) some.2 in absurd (omega arith)
 
-  asleep_one : (k : ℕ) (t : Ticket) → k < seats → (s.seats k).place ≡ Waiting t P → s.words.grants k ≡ 0 → waits_of k ≡ 1
-  asleep_one k t there parked unset =
+  asleep_one : (k : ℕ) (t : Ticket) (row : ListParkedRow) → k < seats → (s.seats k).place ≡ Waiting t (Parked row) → s.words.grants k ≡ 0 → waits_of k ≡ 1
+  asleep_one k t row there parked unset =
       let w = wait_for k t in
       let is = waits_like k (times w) (λ l stand. all_this w l (same l stand)) in
       let sum = single seats (λ j. awaits w j (s.seats j).place (s.words.grants j)) k there
@@ -120,7 +121,7 @@ module _ (seats : ℕ) (s : ListWorld) (placed : WaitsPlaced seats s) where
       same : (l : List Wait) → Stand l → (x : Wait) → 0 < times x l → x.id.seat ≡ k → wait_for k t ≡ x
       same l stand x some at =
           let v = waiter_of seats s x placed (stand x some) in
-          let e = parked_once _ _ (sym parked ∙ ap (λ j. (s.seats j).place) (sym at) ∙ v.0) in
+          let e = parked_once _ _ row v.0.0 (sym parked ∙ ap (λ j. (s.seats j).place) (sym at) ∙ v.0.1) in
           λ j. record { id = record { seat = sym at j; turn = (e j).number }; ticket = (e j).word }
 
   one_each : (k : ℕ) → k < seats → waits_of k ≡ asleep_on_list (s.seats k).place (s.words.grants k)
@@ -131,8 +132,8 @@ module _ (seats : ℕ) (s : ListWorld) (placed : WaitsPlaced seats s) where
       none place grant at is awake = awake_none k (ap₂ asleep_on_list at is ∙ awake)
 
       by : (place : ListPlace) (grant : ℕ) → (s.seats k).place ≡ place → s.words.grants k ≡ grant → waits_of k ≡ asleep_on_list place grant
-      by (Waiting t P) zero at is = asleep_one k t there at is
-      by (Waiting t P) (suc grant) at is = none (Waiting t P) (suc grant) at is refl
+      by (Waiting t (Parked row)) zero at is = asleep_one k t row there at is
+      by (Waiting t (Parked row)) (suc grant) at is = none (Waiting t (Parked row)) (suc grant) at is refl
       by place grant at is = none place grant at is refl
 
   pub counted : ListSleepersCounted seats s

@@ -14,7 +14,7 @@ erased_list_seat seat =
     }
 
 abbrev pub erased_list_words : ListWords → ListWords
-erased_list_words g = record g { numbers = record { handed = 0; granted = 0 }; queue = erased_waits g.queue }
+erased_list_words g = record g { numbers = record { handed = 0; passed = 0; gone = [] }; queue = erased_waits g.queue }
 
 -- a world without its numbers, without what calls have granted, and without the journal, which tells of them
 abbrev pub erased_list : ListWorld → ListWorld

@@ -4,10 +4,10 @@ use Rattle.std.specs.Prelude.{◌≡◌, ◌≢◌, ◌⊎◌, ℕ, ◌<◌, [],
 use Rattle.step_table.specs.declared.list_place.ListWord.TheVariants.{Lock, Grant}
 use Rattle.step_table.specs.Wrapping.{word_of, next_word}
 use Rattle.step_table.specs.EventOf.{store, take_lock, give_lock, take_grant}
-use Rattle.step_table.specs.ListWorld.{ListWords, Took, Granted, ListWorld}
+use Rattle.step_table.specs.ListWorld.{ListWords, Took, Granted, Forgone, ListWorld}
 use Rattle.step_table.specs.ListEvent.{ListNext, ListEvent}
 use Rattle.step_table.specs.ListSteps.{event_of}
-use Rattle.step_law_lists.specs.ListLawful.{holds}
+use Rattle.step_law_lists.specs.ListLawful.{told, counted, holds, IsInReach}
 
 -- the event gives the lock back
 abbrev pub GivesLock : ListEvent → Type 0
@@ -37,12 +37,13 @@ HolderAlone seats s =
     → (holds (s.seats i).place ≡ 1 → HoldsAlone seats i s)
     × (GivesLock (event_of s i) → holds (s.seats i).place ≡ 1)
 
--- from g to h the list, the notify word and the number granted stay, and the lock stays or, where it was
--- free, is taken
+-- from g to h the list, the notify word, the number passed and the gone tickets stay, and the lock stays or, where
+-- it was free, is taken
 pub record LeavesGuarded (g h : ListWords) : Type 0 where
   pub queue : h.queue ≡ g.queue
   pub notify : h.notify ≡ g.notify
-  pub granted : h.numbers.granted ≡ g.numbers.granted
+  pub passed : h.numbers.passed ≡ g.numbers.passed
+  pub gone : h.gone ≡ g.gone
   pub lock : (h.lock ≡ g.lock) ⊎ ((g.lock ≡ 0) × (h.lock ≡ 1))
 
 -- only the holder of the lock changes what it guards
@@ -64,11 +65,16 @@ GrantChanges i event k before after =
     ⊎ (StoresGrant event k 1 × (k ≢ i) × (before ≡ 0) × (after ≡ 1)))
 
 -- how a step of seat i may change the words: the wait word by a ticket that it tells, the notify word to that
--- of the number which it tells is granted, and the lock and grants by its event
+-- of the number that is passed by the grant which it tells, or by its leave, where the journal is in reach, and the
+-- lock and grants by its event
 pub record ChangesWords (first i : ℕ) (s t : ListWorld) : Type 0 where
   pub wait : (t.words.wait ≡ s.words.wait)
       ⊎ ((t.words.wait ≡ next_word s.words.wait) × (t.journal ≡ s.journal ++ Took i ∷ []))
-  pub notify : (t.words.notify ≡ s.words.notify)
-      ⊎ ((upto : ℕ) × (t.words.notify ≡ word_of first upto) × (t.journal ≡ s.journal ++ Granted upto i ∷ []))
+  pub notify : IsInReach t.journal
+      → (t.words.notify ≡ s.words.notify)
+      ⊎ (((upto : ℕ) × (t.words.notify ≡ word_of first (counted (Granted upto i) (told s.journal)).passed)
+      × (t.journal ≡ s.journal ++ Granted upto i ∷ []))
+      ⊎ ((n : ℕ) × (t.words.notify ≡ word_of first (counted (Forgone n i) (told s.journal)).passed)
+      × (t.journal ≡ s.journal ++ Forgone n i ∷ [])))
   pub lock : LockChanges (event_of s i) s.words.lock t.words.lock
   pub grants : (k : ℕ) → GrantChanges i (event_of s i) k (s.words.grants k) (t.words.grants k)

@@ -1,18 +1,18 @@
 -- Paths of a seat of a notify list, and what their strides tell by what was read and seen.
-use Rattle.std.specs.Prelude.{◌≡◌, ◌≢◌, ℕ, ◌<◌, ◌≤◌, Bool, eqb, IsTrue, List, [], ◌∷◌, Some, None, ◌^◌}
+use Rattle.std.specs.Prelude.{◌≡◌, ◌≢◌, ℕ, ◌<◌, Bool, eqb, IsTrue, List, [], ◌∷◌, map, Some, None}
 use Rattle.step_table.specs.declared.list_place.ListEffect.{ListEffect}
-use Rattle.step_table.specs.declared.list_place.ListEffect.TheVariants.{HandsOut, Grants}
+use Rattle.step_table.specs.declared.list_place.ListEffect.TheVariants.{HandsOut, Grants, Forgoes}
 use Rattle.step_table.specs.declared.list_place.ListPlace.{ListPlace}
 use Rattle.step_table.specs.declared.list_place.ListPlace.TheVariants.{Rest, Adding}
 use Rattle.step_table.specs.declared.list_place.ListWord.{ListWord}
 use Rattle.step_table.specs.declared.list_place.ListWord.TheVariants.{Wait, Notify}
 use Rattle.step_table.specs.declared.list_place.Ticket.{Ticket}
 use Rattle.step_table.specs.Wrapping.{word_of}
-use Rattle.step_table.specs.ListWorld.{Numbers, ListWords, ListSeat, ListEntry, Took, Granted, ListWorld}
+use Rattle.step_table.specs.ListWorld.{Numbers, ListWords, ListSeat, ListEntry, Took, Granted, Forgone, ListWorld}
 use Rattle.step_table.specs.ListWorld.{found, first_list}
 use Rattle.step_table.specs.ListEvent.{ListNext}
 use Rattle.step_table.specs.ListTable.{list_table}
-use Rattle.step_law_lists.specs.ListLawful.{told, Follows}
+use Rattle.step_law_lists.specs.ListLawful.{told, Follows, IsInReach}
 use Rattle.step_table.specs.ListSteps.{list_rules, seat_after, effect_of, can_turn, turned, moved}
 use Rattle.step_table.specs.ListSteps.{with_ticket, waiting, ListChoice, ListStep, IsListReached}
 use Rattle.step_table.specs.Path.{Watched, Sight, Deed, runs, looks, Stride, OnlyLooked, sight, Meets, Ran}
@@ -28,6 +28,7 @@ ListStride = Stride ListWord ℕ ListSeat ListEntry
 abbrev pub is_own : ℕ → ListEntry → Bool
 is_own i (Took s) = eqb s i
 is_own i (Granted upto s) = eqb s i
+is_own i (Forgone n s) = eqb s i
 
 -- a list, in the worlds that are reached from the word of its first ticket by so many seats
 abbrev pub notify_list : ℕ → ℕ → Watched ListWorld ListWord ℕ ListNext ListSeat ListEntry
@@ -54,7 +55,7 @@ placed place v = record v { stands = record v.stands { place = place } }
 abbrev pub with_its_ticket : ListSight → ListSight
 with_its_ticket v = record v { stands = with_ticket v.stands v.stands.ticket }
 
--- how many tickets were handed out and granted, as the journal told before the stride
+-- how many tickets were handed out and passed, and which are gone, as the journal told before the stride
 abbrev pub told_before : ListStride → Numbers
 told_before p = told p.seen
 
@@ -74,13 +75,15 @@ word_of_stride i p = word_of_deed i p p.deed
 abbrev pub entries_of : ℕ → ListEffect → List ListEntry
 entries_of i (HandsOut t) = Took i ∷ []
 entries_of i (Grants upto) = Granted upto i ∷ []
+entries_of i (Forgoes w) = Forgone w.id.turn i ∷ []
 entries_of i _ = []
 
--- words that the journal tells: its numbers, and the two words of those
+-- words that the journal tells: its numbers, and the words of those
 pub record AreTold (first : ℕ) (seen : List ListEntry) (g : ListWords) : Type 0 where
   pub numbers : g.numbers ≡ told seen
   pub wait : g.wait ≡ word_of first (told seen).handed
-  pub notify : g.notify ≡ word_of first (told seen).granted
+  pub notify : g.notify ≡ word_of first (told seen).passed
+  pub gone : g.gone ≡ map (word_of first) (told seen).gone
 
 -- what followed the row at which seat i stood, where it found the words g
 abbrev pub row_next : ListWords → ℕ → ListStride → ListNext
@@ -106,8 +109,8 @@ abbrev pub row_stride : ℕ → ℕ → ListWorld → ℕ → ListStride
 row_stride first seats s i = row_in (notify_list first seats) s i (entries_of i (effect_of s i))
 
 -- a seat may begin by its caller's choice, and run the row at which it stands; and whatever another seat
--- does, it may go on. For up to 2^63 seats a stride read of the wait word the word of the number handed out
--- before it, of the notify word that of the number granted, and did what its row does, or nothing; what it
+-- does, it may go on. Where what was seen is in reach, a stride read of the wait word the word of the number
+-- handed out before it, of the notify word that of the number passed, and did what its row does, or nothing; what it
 -- had seen is lawful, and of a seat that is there it ends as the seat sees a reached world
 pub record TheListPaths : Type 0 where
   pub paths : (first seats : ℕ) → ArePaths (notify_list first seats)
@@ -127,15 +130,15 @@ pub record TheListPaths : Type 0 where
   pub others : (first seats : ℕ) (s t : ListWorld) (i j : ℕ) (v : ListSight) → i < seats → j ≢ i
       → ListStep s i t
       → Meets (notify_list first seats) s j v → Meets (notify_list first seats) t j v
-  pub reads_wait : (first seats i : ℕ) (v w : ListSight) (p : ListStride) → seats ≤ 2 ^ 63
+  pub reads_wait : (first seats i : ℕ) (v w : ListSight) (p : ListStride) → IsInReach p.seen
       → ListRan first seats i v p w → word_of_stride i p ≡ Wait
       → p.read ≡ word_of first (told_before p).handed
-  pub reads_notify : (first seats i : ℕ) (v w : ListSight) (p : ListStride) → seats ≤ 2 ^ 63
+  pub reads_notify : (first seats i : ℕ) (v w : ListSight) (p : ListStride) → IsInReach p.seen
       → ListRan first seats i v p w → word_of_stride i p ≡ Notify
-      → p.read ≡ word_of first (told_before p).granted
-  pub does : (first seats i : ℕ) (v w : ListSight) (p : ListStride) → seats ≤ 2 ^ 63
+      → p.read ≡ word_of first (told_before p).passed
+  pub does : (first seats i : ℕ) (v w : ListSight) (p : ListStride) → IsInReach p.seen
       → ListRan first seats i v p w → ListDid first i p w p.deed
-  pub lawful : (first seats i : ℕ) (v w : ListSight) (p : ListStride) → seats ≤ 2 ^ 63
+  pub lawful : (first seats i : ℕ) (v w : ListSight) (p : ListStride) → IsInReach p.seen
       → ListRan first seats i v p w → Follows p.seen
   pub ends : (first seats i : ℕ) (v w : ListSight) (p : ListStride) → i < seats → ListRan first seats i v p w
       → (t : ListWorld) × IsListReached first seats t × (w ≡ sight (notify_list first seats) t i)

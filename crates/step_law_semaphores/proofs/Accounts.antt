@@ -1,7 +1,7 @@
 -- The accounts, all of them.
 use Rattle.step_law_semaphores.specs.Accounts.{TheAccounts}
 use Rattle.step_law_semaphores.proofs.Owning.{named, told}
-use Rattle.step_law_semaphores.proofs.Balancing.{added, taken, balanced, balanced_in_all}
+use Rattle.step_law_semaphores.proofs.Balancing.{added, taken, balanced, balanced_in_all, withdrawn}
 use Rattle.step_law_semaphores.proofs.Holding.{lowered, given, alone, granted, near}
 use Rattle.step_law_semaphores.proofs.Leaving.{left}
 use Rattle.step_law_semaphores.proofs.Changing.{changed}
@@ -15,6 +15,7 @@ the_accounts = record {
   named = named;
   told = told;
   added = added;
+  withdrawn = withdrawn;
   taken = taken;
   balanced = balanced;
   balanced_in_all = balanced_in_all;

@@ -3,7 +3,7 @@ use Rattle.std.proofs.Common.{◌≡◌, ℕ, ◌+◌, ◌-◌, ◌<◌, List, [
 use Rattle.std.specs.List.{All}
 use Rattle.std.proofs.lemmas.List.Elements.{All-head, All-tail}
 use Rattle.step_table.specs.declared.entry.Entry.{Entry}
-use Rattle.step_table.specs.declared.entry.Entry.TheVariants.{Add, AddMany, Take}
+use Rattle.step_table.specs.declared.entry.Entry.TheVariants.{Add, AddMany, Take, Withdraw}
 use Rattle.step_table.specs.World.{Layout, SemaWorld}
 use Rattle.step_table.specs.Steps.{IsReached}
 use Rattle.step_table.specs.Journal.{Plain, plain_start, effect_of, replay, IsDefined, takes, IsLawful}
@@ -15,6 +15,7 @@ use Rattle.step_table.proofs.SumsOfSums.{total_add}
 use Rattle.step_law_semaphores.proofs.Promises as law
 use Rattle.step_law_semaphores.specs.Entries.{IsNamed}
 use Rattle.step_law_semaphores.specs.Balances.{added_by, added_on, taken_on, AddedBySeats, TakenForSeats, Balanced, BalancedInAll}
+use Rattle.step_law_semaphores.specs.Balances.{withdrawn_by, WithdrawnBySeats}
 use Rattle.step_law_semaphores.specs.Balances as sums
 use Rattle.step_law_semaphores.proofs.Owning.{named}
 
@@ -36,6 +37,14 @@ added_counted m (AddMany c n s ∷ j) all =
     let rest : lawful.added j ≡ total m.seats (λ k. added_by k j) = added_counted m j (All-tail (IsNamed m) (AddMany c n s) j all) in
     let one = one_more m.seats s n (λ k. added_by k j) is.1 in omega arith
 added_counted m (e ∷ j) all = added_counted m j (All-tail (IsNamed m) e j all)
+
+withdrawn_counted : (m : Layout) (j : List Entry) → All (IsNamed m) j → lawful.withdrawals j ≡ total m.seats (λ k. withdrawn_by k j)
+withdrawn_counted m [] all = sym (nothing m.seats (λ k. 0) (λ k. refl))
+withdrawn_counted m (Withdraw c w ∷ j) all =
+    let is = All-head (IsNamed m) (Withdraw c w) j all in
+    let rest : lawful.withdrawals j ≡ total m.seats (λ k. withdrawn_by k j) = withdrawn_counted m j (All-tail (IsNamed m) (Withdraw c w) j all) in
+    let one = one_more m.seats w.seat 1 (λ k. withdrawn_by k j) is.1 in omega arith
+withdrawn_counted m (e ∷ j) all = withdrawn_counted m j (All-tail (IsNamed m) e j all)
 
 taken_counted : (m : Layout) (j : List Entry) → All (IsNamed m) j → sums.taken j ≡ total m.seats (λ k. takes k j)
 taken_counted m [] all = sym (nothing m.seats (λ k. 0) (λ k. refl))
@@ -68,6 +77,9 @@ taken_on_counted m (e ∷ j) all = taken_on_counted m j (All-tail (IsNamed m) e 
 
 pub added : (m : Layout) (s : SemaWorld) → IsReached m s → AddedBySeats m s
 added m s reached = added_counted m s.journal (named m s reached)
+
+pub withdrawn : (m : Layout) (s : SemaWorld) → IsReached m s → WithdrawnBySeats m s
+withdrawn m s reached = withdrawn_counted m s.journal (named m s reached)
 
 pub taken : (m : Layout) (s : SemaWorld) → IsReached m s → TakenForSeats m s
 taken m s reached = taken_counted m s.journal (named m s reached)

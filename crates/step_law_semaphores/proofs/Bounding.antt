@@ -3,12 +3,14 @@ use Rattle.std.proofs.Common.{◌≡◌, ℕ, zero, suc, ◌+◌, ◌-◌, ◌<�
 use Rattle.step_table.specs.declared.entry.Entry.{Entry}
 use Rattle.step_table.specs.declared.entry.Entry.TheVariants.{Add, AddMany, Take}
 use Rattle.step_table.specs.declared.place.Place.{Place}
+use Rattle.step_table.specs.declared.place.ParkedRow.{ParkedRow}
 use Rattle.step_table.specs.declared.place.Place.TheVariants.{Acquiring}
-use Rattle.step_table.specs.declared.place.AcquireRow.TheVariants.{A5, A6, A7, A8, P}
+use Rattle.step_table.specs.declared.place.AcquireRow.TheVariants.{A5, A6, A7, A8, Parked}
+use Rattle.step_table.specs.declared.place.ParkedRow.TheVariants.{P}
 use Rattle.step_table.specs.World.{Layout, SemaWorld}
 use Rattle.step_table.specs.Journal.{Plain, plain_start, effect_of, replay}
 use Rattle.step_table.specs.Counting.{on, total}
-use Rattle.step_law_semaphores.specs.Lawful.{waits_of, raises, added, AllBounded}
+use Rattle.step_law_semaphores.specs.Lawful.{waits_of, raises, added, AllBounded, withdrawals}
 use Rattle.step_law_semaphores.specs.Invariant.{asleep, IsInvariant}
 use Rattle.step_law_semaphores.specs.WellFormed.{IsWellFormedWorld}
 use Rattle.step_table.proofs.Sums.{total_le, total_has, put_at, on_most}
@@ -40,8 +42,8 @@ asleep_or_raises root r (Acquiring a A5) grant = let one = on_most (root a.count
 asleep_or_raises root r (Acquiring a (A6 n)) grant = let one = on_most (root a.counter) r 1 in omega arith
 asleep_or_raises root r (Acquiring a A7) grant = let one = on_most (root a.counter) r 1 in omega arith
 asleep_or_raises root r (Acquiring a A8) grant = let one = on_most (root a.counter) r 1 in omega arith
-asleep_or_raises root r (Acquiring a (P t)) zero = omega arith
-asleep_or_raises root r (Acquiring a (P t)) (suc g) = omega arith
+asleep_or_raises root r (Acquiring a (Parked t row)) zero = omega arith
+asleep_or_raises root r (Acquiring a (Parked t row)) (suc g) = omega arith
 asleep_or_raises root r _ grant = omega arith
 
 -- wherever seats raise a waiter word, if none does that sleeps
@@ -68,7 +70,7 @@ well_formed_bounded m s raising apart inv raised = (numbers, (λ r. ((inv.locks 
         (λ c h. on_most (m.root c) r (length (s.words.lists c))) in
         let most = few_waits r in omega arith
 
-    turns : (k : ℕ) → k < m.seats → (s.seats k).turn ≤ added s.journal + m.seats
+    turns : (k : ℕ) → k < m.seats → (s.seats k).turn ≤ added s.journal + withdrawals s.journal + m.seats
     turns k h = let one = total_has m.seats (λ k. (s.seats k).turn) k h in let few = inv.turns in let waits = few_waits 0 in omega arith
 
 -- what is kept by the table is well formed

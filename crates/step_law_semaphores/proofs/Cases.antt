@@ -9,7 +9,8 @@ use Rattle.waiters.specs.declared.wait.WaitId.{WaitId}
 use Rattle.step_table.specs.declared.entry.Entry.TheVariants.{Take, Leave}
 use Rattle.step_table.specs.declared.effect.Effect.{Effect}
 use Rattle.step_table.specs.declared.effect.Effect.TheVariants.{Nothing, Tells, Wakes}
-use Rattle.step_table.specs.declared.place.AcquireRow.TheVariants.{A1, A2, A3, A4, A5, A6, A7, A8, A9, P, A10, A11}
+use Rattle.step_table.specs.declared.place.AcquireRow.TheVariants.{A1, A2, A3, A4, A5, A6, A7, A8, A9, A10, A11, D4, Parked}
+use Rattle.step_table.specs.declared.place.ParkedRow.TheVariants.{P, D2, D3, D5}
 use Rattle.step_table.specs.declared.place.ReleaseRow.TheVariants.{R1, R2, R3, R4, R5, R6, R7, R8, R9, R10}
 use Rattle.step_table.specs.declared.place.ManyRow.TheVariants.{M1, M2, M3, M4, M5, M6, M7}
 use Rattle.step_table.specs.declared.place.Place.{Place}
@@ -17,10 +18,12 @@ use Rattle.step_table.specs.declared.place.Place.TheVariants.{Rest, Acquiring, R
 use Rattle.step_table.specs.declared.word.Word.{Word}
 use Rattle.step_table.specs.declared.word.Word.TheVariants.{Counter, Waiters}
 use Rattle.step_table.specs.World.{Layout, Words, SeatState, SemaWorld, put, found, written, lists_after, journal_after, seat_after}
+use Rattle.step_table.specs.World.{stands_in}
+use Rattle.step_table.specs.Counting.{wait}
 use Rattle.step_table.specs.Event.{Event, Next, zero_or, by_first}
 use Rattle.step_table.specs.ReleaseMany.{after_leave}
 use Rattle.step_table.specs.Table.{event_at}
-use Rattle.step_table.specs.Steps.{Choice, acquire, enter, release, release_many, give_up, give_up_lock, decide, words_after}
+use Rattle.step_table.specs.Steps.{Choice, acquire, enter, release, release_many, give_up, give_up_lock, decide, leave, sleep_on, stay, words_after}
 use Rattle.step_table.specs.Steps as steps
 use Rattle.step_law_semaphores.specs.Lawful.{IsGrantOf}
 use Rattle.step_law_semaphores.specs.Invariant.{HandFits, IsSeat, Finds}
@@ -29,7 +32,7 @@ use Rattle.step_law_semaphores.proofs.Lines.{standing, acquiring, releasing, rel
 use Rattle.step_law_semaphores.proofs.Lines.{decides, end_lock, a1_zero, a1_some, a2_won, a2_lost, a3, a4, a5_zero, a5_some, a6_won, a6_lost, a7, a8, a9, p_one}
 use Rattle.step_law_semaphores.proofs.Lines.{p_two, a10_zero, a10_some, a11_won, a11_lost, r1, r2_zero, r2_some, r3, r4_none, r4_some, r5, r6_none, r6_plain}
 use Rattle.step_law_semaphores.proofs.Lines.{r6_handoff, r7_zero, r7_some, r8_won, r8_lost, begin_many, m1, m2_zero, m2_some, m3, m4_none, m4_some, m5_more}
-use Rattle.step_law_semaphores.proofs.Lines.{m5_last, m6_none, m6_some, Post, r9, r10, m7_last, m7_more, Step, own, post}
+use Rattle.step_law_semaphores.proofs.Lines.{m5_last, m6_none, m6_some, begins_leaving, sleeps_on, stays_queued, d2_queued, d2_gone, d3, d4, d5, Post, r9, r10, m7_last, m7_more, Step, own, post}
 
 -- what is shown in both cases of a test
 by_zero : (Has : Place → Type 0) (n : ℕ) (p : Place) (f : ℕ → Place)
@@ -106,7 +109,7 @@ module _ (m : Layout) (i : ℕ) (g : Words) where
       by (inl e) = subst (Exchanges z c left j won lost) (sym e.0) (line (wins (let found_one_more = e.1 in omega arith)))
       by (inr e) = subst (Exchanges z c left j won lost) (sym e.0) (looked (Counter c) lost (loses (λ found. e.1 (omega arith))))
 
-  runs : (place : Place) (t : ℕ) (hand : List WaitId) → HandFits place (length hand) → IsGrantOf place (g.grants i) → Finds g.lists place
+  runs : (place : Place) (t : ℕ) (hand : List WaitId) → HandFits place (length hand) → IsGrantOf place (g.grants i) → Finds i g.lists place
       → Runs (standing place t hand)
   runs Rest t [] fits granted finds can = cc
   runs (Acquiring a A1) t [] fits granted finds can =
@@ -120,10 +123,24 @@ module _ (m : Layout) (i : ℕ) (g : Words) where
   runs (Acquiring a A7) t [] fits granted finds can = line a7
   runs (Acquiring a A8) t [] fits granted finds can = line a8
   runs (Acquiring a A9) t [] fits granted finds can = line a9
-  runs (Acquiring a (P u)) t [] fits granted finds can =
+  runs (Acquiring a (Parked u P)) t [] fits granted finds can =
       let some : 0 < g.grants i = ltb-true 0 (g.grants i) can in
-      tested (λ q. Case m i g (acquiring a (P u) t) (standing q t []) (record g { grants = put g.grants i 0 }) Nothing)
+      tested (λ q. Case m i g (acquiring a (Parked u P) t) (standing q t []) (record g { grants = put g.grants i 0 }) Nothing)
       (g.grants i) 1 (Acquiring a A10) Rest (λ one. line (p_one one)) (λ not_one. line (p_two (omega arith)))
+  runs (Acquiring a (Parked u D2)) t [] fits granted finds can = by (stands_in i (g.lists a.counter)) refl
+    where
+      free : g.locks (m.root a.counter) ≡ 0
+      free = eqb-true _ 0 can
+
+      by : (b : Bool) → stands_in i (g.lists a.counter) ≡ b
+          → Case m i g (acquiring a (Parked u D2) t)
+          (standing (if b then Acquiring a (Parked u D3) else Acquiring a (Parked u D5)) t [])
+          (record g { locks = put g.locks (m.root a.counter) 1 }) Nothing
+      by true e = line (d2_queued free e)
+      by false e = line (d2_gone free)
+  runs (Acquiring a (Parked u D3)) t [] fits granted finds can = line (d3 finds)
+  runs (Acquiring a D4) t [] fits granted finds can = line d4
+  runs (Acquiring a (Parked u D5)) t [] fits granted finds can = line d5
   runs (Acquiring a A10) t [] fits granted finds can =
       looked_for_zero (Counter a.counter) (Acquiring a A3) (λ left. Acquiring a (A11 left)) a10_zero (λ n e. a10_some e)
   runs (Acquiring a (A11 n)) t [] fits granted finds can = exchanged a.counter n i Rest (Acquiring a A10) a11_won a11_lost
@@ -218,6 +235,9 @@ module _ (m : Layout) (i : ℕ) (g : Words) where
   chosen (give_up a) t [] fits = end_first
   chosen (give_up_lock a) t [] fits = end_lock
   chosen (decide r handoff) t [] fits = decides
+  chosen (leave a turn) t [] fits = begins_leaving
+  chosen (sleep_on a turn) t [] fits = sleeps_on
+  chosen (stay a turn) t [] fits = stays_queued
   chosen _ t hand fits = absurd (omega arith)
 
 case_step : (m : Layout) (s : SemaWorld) (i : ℕ) {q : SeatState} {h : Words} {e : Effect} → Case m i s.words (s.seats i) q h e
@@ -226,7 +246,7 @@ case_step m s i (line x) = own x
 case_step m s i (grant x) = post x
 
 -- each step of the table is one of the cases
-pub step_of : (m : Layout) (s t : SemaWorld) (i : ℕ) → IsSeat m.counters (s.seats i) (s.words.grants i) → Finds s.words.lists (s.seats i).place
+pub step_of : (m : Layout) (s t : SemaWorld) (i : ℕ) → IsSeat m.counters (s.seats i) (s.words.grants i) → Finds i s.words.lists (s.seats i).place
     → steps.Step m s i t → Step m s i t
 step_of m s t i seat some = by
   where

@@ -13,7 +13,7 @@ use Rattle.step_table.specs.Steps as steps
 use Rattle.step_law_semaphores.specs.Invariant.{IsInvariant}
 use Rattle.step_table.proofs.Sums.{put_here, put_else}
 use Rattle.step_law_semaphores.proofs.Lines.{Line, a3, a4, a7, a8, a9, p_one, p_two, r3, r5, r6_none, r6_plain, r6_handoff, m3, m5_more, m5_last}
-use Rattle.step_law_semaphores.proofs.Lines.{m6_none, m6_some, Post, r9, r10, m7_last, m7_more, Step, own, post}
+use Rattle.step_law_semaphores.proofs.Lines.{m6_none, m6_some, Post, r9, r10, m7_last, m7_more, Step, own, post, d2_queued, d2_gone, d3, d4, d5}
 use Rattle.step_law_semaphores.proofs.Placing.{Waiter, waiter_of_post, other_seat}
 use Rattle.step_law_semaphores.specs.Holders.{IsRaising, IsLowering, IsLocking, IsGiving, IsGranting, IsReceiving}
 use Rattle.step_law_semaphores.specs.Holders.{ChangesWaiters, ChangesLock, ChangesGrant, ChangesWords}
@@ -107,6 +107,11 @@ changes_line : {m : Layout} {i : ℕ} {g h : Words} {p q : SeatState} {e : Effec
     → ((r : ℕ) → IsLowering m.root r (table i p g.lists) → 0 < g.waiters r)
     → ((r : ℕ) → IsGiving m.root r (table i p g.lists) → g.locks r ≡ 1) → Changes m i g h p
 changes_line {m = m} {i = i} {g = g} {p = p} (a3 {a = a} free) above held = takes m i g p a.counter g.lists refl free
+changes_line {m = m} {i = i} {g = g} {p = p} (d2_queued {a = a} free _) above held = takes m i g p a.counter g.lists refl free
+changes_line {m = m} {i = i} {g = g} {p = p} (d2_gone {a = a} free) above held = takes m i g p a.counter g.lists refl free
+changes_line {m = m} {i = i} {g = g} {h = h} {p = p} (d3 {a = a} _) above held = lowers m i g p a.counter h.lists refl above
+changes_line {m = m} {i = i} {g = g} {p = p} (d4 {a = a}) above held = gives m i g p a.counter g.lists refl held
+changes_line {m = m} {i = i} {g = g} {p = p} (d5 {a = a}) above held = gives m i g p a.counter g.lists refl held
 changes_line {m = m} {i = i} {g = g} {p = p} (r3 {r = r} free) above held = takes m i g p r.counter g.lists refl free
 changes_line {m = m} {i = i} {g = g} {p = p} (m3 {r = r} free) above held = takes m i g p r.counter g.lists refl free
 changes_line {m = m} {i = i} {g = g} {p = p} (a4 {a = a}) above held = raises m i g p a.counter g.lists refl
@@ -142,7 +147,7 @@ changed_by {m = m} {s = s} {i = i} h inv (post {c = c} {x = x} {w = w} row) =
       waiters = λ r. inl refl;
       locks = λ r. inl refl;
       grants = put_case (GrantFrom i (event_of s i)) s.words.grants w.seat x
-          (inr (inr (is.0, other_seat m s i c x w v row, v.3, is.1))) (λ k. inl refl);
+          (inr (inr (is.0, other_seat m s i c x w v row, v.4, is.1))) (λ k. inl refl);
     }
 
 pub changed : (m : Layout) (s t : SemaWorld) (i : ℕ) → i < m.seats → IsInvariant m s → steps.Step m s i t → ChangesWords m i s t

@@ -5,16 +5,18 @@ use native.Mathlib.Decide.{ℕ_discrete}
 use Rattle.std.proofs.lemmas.Bool.{lt-ltb}
 use Rattle.waiters.specs.declared.wait.WaitId.{WaitId}
 use Rattle.step_table.specs.declared.place.Acquire.{Acquire}
-use Rattle.step_table.specs.declared.place.AcquireRow.TheVariants.{A3, P}
+use Rattle.step_table.specs.declared.place.AcquireRow.TheVariants.{A3, Parked}
+use Rattle.step_table.specs.declared.place.ParkedRow.TheVariants.{P, D2}
 use Rattle.step_table.specs.declared.place.ReleaseRow.TheVariants.{R3, R9, R10}
 use Rattle.step_table.specs.declared.place.ManyRow.TheVariants.{M3}
 use Rattle.step_table.specs.declared.place.Place.{Place}
+use Rattle.step_table.specs.declared.place.ParkedRow.{ParkedRow}
 use Rattle.step_table.specs.declared.place.Place.TheVariants.{Rest, Acquiring, Releasing, ReleasingMany}
 use Rattle.step_table.specs.World.{Layout, SemaWorld, found}
 use Rattle.step_table.specs.Table.{table}
 use Rattle.step_table.specs.Steps.{IsEnd}
 use Rattle.step_table.specs.Counting.{same, total, wait, times, counter_at}
-use Rattle.step_law_semaphores.specs.Lawful.{holds, IsParked}
+use Rattle.step_law_semaphores.specs.Lawful.{holds, Sleeps}
 use Rattle.step_law_semaphores.specs.Invariant.{hands_at, hands, awaits, helps_at, helps, HandFits, IsInvariant}
 use Rattle.step_law_semaphores.specs.Law.{IsAtRest}
 use Rattle.step_table.proofs.Sums.{on_here, total_same, nothing, single}
@@ -39,7 +41,7 @@ module _ (m : Layout) (s : SemaWorld) (inv : IsInvariant m s) (ended : IsEnd m s
 
   -- the seat k is at rest, or asleep
   abbrev Quiet : ℕ → Type 0
-  Quiet k = ((s.seats k).place ≡ Rest) ⊎ ((a : Acquire) × (turn : ℕ) × ((s.seats k).place ≡ Acquiring a (P turn)) × (s.words.grants k ≡ 0))
+  Quiet k = ((s.seats k).place ≡ Rest) ⊎ ((a : Acquire) × (turn : ℕ) × ((s.seats k).place ≡ Acquiring a (Parked turn P)) × (s.words.grants k ≡ 0))
 
   -- or in front of a lock that is held
   abbrev Barred : ℕ → Type 0
@@ -57,11 +59,13 @@ module _ (m : Layout) (s : SemaWorld) (inv : IsInvariant m s) (ended : IsEnd m s
       inr (at_lock k (m.root r.counter) (λ q. ap (holds m.root q) at) (runs k h (Releasing r R3) hand at in_hand))
   rests k h (ReleasingMany r M3) hand at in_hand fits =
       inr (at_lock k (m.root r.counter) (λ q. ap (holds m.root q) at) (runs k h (ReleasingMany r M3) hand at in_hand))
-  rests k h (Acquiring a (P t)) hand at in_hand fits = by (ℕ_discrete (s.words.grants k) 0)
+  rests k h (Acquiring a (Parked t P)) hand at in_hand fits = by (ℕ_discrete (s.words.grants k) 0)
     where
       by : Dec (s.words.grants k ≡ 0) → Quiet k ⊎ Barred k
       by (yes e) = inl (inr (a, t, at, e))
-      by (no ne) = absurd (runs k h (Acquiring a (P t)) hand at in_hand (lt-ltb 0 (s.words.grants k) (omega arith)))
+      by (no ne) = absurd (runs k h (Acquiring a (Parked t P)) hand at in_hand (lt-ltb 0 (s.words.grants k) (omega arith)))
+  rests k h (Acquiring a (Parked t D2)) hand at in_hand fits =
+      inr (at_lock k (m.root a.counter) (λ q. ap (holds m.root q) at) (runs k h (Acquiring a (Parked t D2)) hand at in_hand))
   rests k h (Releasing r R9) [] at in_hand fits = absurd (omega arith)
   rests k h (Releasing r R10) [] at in_hand fits = absurd (omega arith)
   rests k h (Releasing r R9) (w ∷ hand) at in_hand fits = absurd (runs k h (Releasing r R9) (w ∷ hand) at in_hand refl)
@@ -110,7 +114,7 @@ module _ (m : Layout) (s : SemaWorld) (inv : IsInvariant m s) (ended : IsEnd m s
       by (inr at) = ap₂ (λ p g. helps_at c p (s.seats k).hand g) at.2 at.3
 
   -- a sleeper's wait stands in the list of its counter, whose number is 0
-  queued_at : (k turn : ℕ) (a : Acquire) → k < m.seats → (s.seats k).place ≡ Acquiring a (P turn) → s.words.grants k ≡ 0
+  queued_at : (k turn : ℕ) (a : Acquire) → k < m.seats → (s.seats k).place ≡ Acquiring a (Parked turn P) → s.words.grants k ≡ 0
       → (times (wait k turn) (s.words.lists a.counter) ≡ 1) × (s.words.numbers a.counter ≡ 0)
   queued_at k turn a h at ungranted =
       let c = a.counter in
@@ -132,6 +136,6 @@ module _ (m : Layout) (s : SemaWorld) (inv : IsInvariant m s) (ended : IsEnd m s
     where
       by : (k : ℕ) → k < m.seats → Quiet k
           → ((s.seats k).place ≡ Rest)
-          ⊎ ((c turn : ℕ) × IsParked s k c turn × (times (wait k turn) (s.words.lists c) ≡ 1) × (s.words.numbers c ≡ 0))
+          ⊎ ((c turn : ℕ) × Sleeps s k c turn × (times (wait k turn) (s.words.lists c) ≡ 1) × (s.words.numbers c ≡ 0))
       by k h (inl at) = inl at
       by k h (inr at) = let v = queued_at k at.1 at.0 h at.2 at.3 in inr (at.0.counter, at.1, (at.0, refl, at.2), v.0, v.1)

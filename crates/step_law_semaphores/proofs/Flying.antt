@@ -5,18 +5,22 @@ use native.Mathlib.Decide.{ℕ_discrete}
 use Rattle.waiters.specs.declared.wait.WaitId.{WaitId}
 use Rattle.step_table.specs.declared.effect.Effect.{Effect}
 use Rattle.step_table.specs.declared.place.Acquire.{Acquire}
-use Rattle.step_table.specs.declared.place.AcquireRow.TheVariants.{A7, P}
+use Rattle.step_table.specs.declared.place.AcquireRow.TheVariants.{A7, Parked}
+use Rattle.step_table.specs.declared.place.ParkedRow.TheVariants.{P, D2, D3, D5}
 use Rattle.step_table.specs.declared.place.Place.{Place}
+use Rattle.step_table.specs.declared.place.ParkedRow.{ParkedRow}
 use Rattle.step_table.specs.declared.place.Place.TheVariants.{Acquiring}
-use Rattle.step_table.specs.World.{Layout, Words, SeatState, SemaWorld, put, insert_wait}
+use Rattle.step_table.specs.World.{Layout, Words, SeatState, SemaWorld, put, insert_wait, without}
 use Rattle.step_table.specs.Counting.{on, total, wait, IsWithin}
-use Rattle.step_law_semaphores.specs.Lawful.{holds, raises}
+use Rattle.step_law_semaphores.specs.Lawful.{holds, raises, IsGrantOf}
 use Rattle.step_law_semaphores.specs.Invariant.{SeatsKnown, LocksOwned, WaitersRaised, WaitsPlaced, UnitsHelp, commits, helps, helps_at}
 use Rattle.step_table.proofs.Sums.{on_here, on_else, on_add, on_zero, put_here, total_le, total_rest, owned, posted, pick, list_up, list_down, up, up_by, down}
 use Rattle.step_table.proofs.Sums.{length_insert, length_last}
+use Rattle.step_table.proofs.Withdrawing.{length_without}
 use Rattle.step_law_semaphores.proofs.Lines.{Line, begin_acquire, a2_won, a5_zero, a6_won, a7, p_one, p_two, a10_zero, a11_won}
 use Rattle.step_law_semaphores.proofs.Lines.{r1, r2_zero, r4_none, r5, r8_won, m1, m2_zero, m4_none, m5_more, m5_last, m6_none}
 use Rattle.step_law_semaphores.proofs.Lines.{Post, r9, r10, m7_last, m7_more, Step, own, post}
+use Rattle.step_law_semaphores.proofs.Lines.{begins_leaving, sleeps_on, stays_queued, d2_queued, d2_gone, d3, d5}
 use Rattle.step_law_semaphores.proofs.Raising.{lists_below}
 use Rattle.step_law_semaphores.proofs.Placing.{waiter_of_post, other_seat, grants_else}
 
@@ -25,10 +29,11 @@ abbrev Few : Words → ℕ → ℕ → ℕ → Type 0
 Few g d committed helping = 0 < length (g.lists d) + committed → g.numbers d ≤ helping
 
 -- under a waiter word of 0 nobody waits or is committed, and where a seat holds the lock nobody else is committed
-record Known (m : Layout) (g : Words) (p : Place) (committed : ℕ → ℕ) : Type 0 where
+record Known (m : Layout) (g : Words) (p : Place) (grant : ℕ) (committed : ℕ → ℕ) : Type 0 where
   nobody : (c : ℕ) → c < m.counters → g.waiters (m.root c) ≡ 0 → length (g.lists c) + committed c ≡ 0
   alone : (c : ℕ) → 0 < holds m.root (m.root c) p → committed c ≤ commits c p
   within : IsWithin m.counters p
+  granted : IsGrantOf p grant
 
 -- a seat that reads 0 at c may commit itself there, or stop helping there
 reads_zero : (g : Words) (c d committed helping committed_after helping_after : ℕ) → g.numbers c ≡ 0
@@ -55,7 +60,7 @@ taken : (g : Words) (c left d : ℕ) → g.numbers c ≡ suc left → put g.numb
 taken g c left d found = down g.numbers c left d (omega arith)
 
 -- the holder of the lock of c saw nobody there: under a waiter word of 0, or in an empty list
-nobody_there : {m : Layout} {g : Words} {p : Place} (committed : ℕ → ℕ) → Known m g p committed → (c : ℕ) → c < m.counters
+nobody_there : {m : Layout} {g : Words} {p : Place} {grant : ℕ} (committed : ℕ → ℕ) → Known m g p grant committed → (c : ℕ) → c < m.counters
     → ((r : ℕ) → holds m.root r p ≡ on (m.root c) r 1) → commits c p ≡ 0
     → (g.waiters (m.root c) ≡ 0) ⊎ (g.lists c ≡ []) → length (g.lists c) + committed c ≡ 0
 nobody_there committed known c within held uncommitted (inl zero_raised) = known.nobody c within zero_raised
@@ -65,7 +70,7 @@ nobody_there {m = m} {g = g} committed known c within held uncommitted (inr empt
     let alone = known.alone c (omega arith) in
     let none_queued : length (g.lists c) ≡ 0 = ap length empty in omega arith
 
-rows : {m : Layout} {i : ℕ} {g h : Words} {p q : SeatState} {e : Effect} → Line m i g p q h e → (committed : ℕ → ℕ) → Known m g p.place committed
+rows : {m : Layout} {i : ℕ} {g h : Words} {p q : SeatState} {e : Effect} → Line m i g p q h e → (committed : ℕ → ℕ) → Known m g p.place (g.grants i) committed
     → (d helping committed_after helping_after : ℕ) → committed_after + commits d p.place ≡ committed d + commits d q.place
     → helping_after + helps d p (g.grants i) ≡ helping + helps d q (h.grants i) → Few g d (committed d) helping → Few h d committed_after helping_after
 rows (begin_acquire _) committed known d n c' n' commit help before now = let few = before (omega arith) in omega arith
@@ -80,9 +85,33 @@ rows {i = i} {g = g} (a7 {a = a} {t = t}) committed known d n c' n' commit help 
     let longer = list_up length g.lists a.counter (insert_wait a.lifo (wait i t) l) d 1 (length_insert a.lifo (wait i t) l) in
     let few = before (omega arith) in omega arith
 rows (p_one {a = a} {u = u} woken) committed known d n c' n' commit help before now =
-    let helped = ap (helps_at d (Acquiring a (P u)) []) woken in let few = before (omega arith) in omega arith
+    let helped = ap (helps_at d (Acquiring a (Parked u P)) []) woken in let few = before (omega arith) in omega arith
 rows (p_two {a = a} {u = u} served) committed known d n c' n' commit help before now =
-    let helped = ap (helps_at d (Acquiring a (P u)) []) served in let few = before (omega arith) in omega arith
+    let helped = ap (helps_at d (Acquiring a (Parked u P)) []) served in let few = before (omega arith) in omega arith
+rows {i = i} {g = g} (begins_leaving {a = a} {u = u}) committed known d n c' n' commit help before now =
+    let same : helps_at d (Acquiring a (Parked u P)) [] (g.grants i) ≡ helps_at d (Acquiring a (Parked u D2)) [] (g.grants i) = refl in
+    let few = before (omega arith) in omega arith
+rows {i = i} {g = g} (sleeps_on {a = a} {u = u}) committed known d n c' n' commit help before now =
+    let same : helps_at d (Acquiring a (Parked u P)) [] (g.grants i) ≡ helps_at d (Acquiring a (Parked u D2)) [] (g.grants i) = refl in
+    let few = before (omega arith) in omega arith
+rows {i = i} {g = g} (stays_queued {a = a} {u = u}) committed known d n c' n' commit help before now =
+    let same : helps_at d (Acquiring a (Parked u D3)) [] (g.grants i) ≡ helps_at d (Acquiring a (Parked u D5)) [] (g.grants i) = refl in
+    let few = before (omega arith) in omega arith
+rows {i = i} {g = g} (d2_queued {a = a} {u = u} _ _) committed known d n c' n' commit help before now =
+    let same : helps_at d (Acquiring a (Parked u D2)) [] (g.grants i) ≡ helps_at d (Acquiring a (Parked u D3)) [] (g.grants i) = refl in
+    let few = before (omega arith) in omega arith
+rows {i = i} {g = g} (d2_gone {a = a} {u = u} _) committed known d n c' n' commit help before now =
+    let same : helps_at d (Acquiring a (Parked u D2)) [] (g.grants i) ≡ helps_at d (Acquiring a (Parked u D5)) [] (g.grants i) = refl in
+    let few = before (omega arith) in omega arith
+rows {i = i} {g = g} (d3 {a = a} {u = u} stands) committed known d n c' n' commit help before now =
+    let l = g.lists a.counter in
+    let shorter = list_down length g.lists a.counter (without i l) d 1 (length_without (wait i u) l stands) in
+    let none : g.grants i ≡ 0 = let most = known.granted in omega arith in
+    let unhelped : helps_at d (Acquiring a (Parked u D3)) [] (g.grants i) ≡ 0 = ap (helps_at d (Acquiring a (Parked u D3)) []) none in
+    let few = before (omega arith) in omega arith
+rows {i = i} {g = g} (d5 {a = a} {u = u}) committed known d n c' n' commit help before now =
+    let same : helps_at d (Acquiring a (Parked u D5)) [] (g.grants i) ≡ helps_at d (Acquiring a (Parked u P)) [] (g.grants i) = refl in
+    let few = before (omega arith) in omega arith
 rows {g = g} (a10_zero {a = a} none) committed known d n c' n' commit help before now =
     reads_zero g a.counter d (committed d) n c' n' none (omega arith) (omega arith) before now
 rows {g = g} (a11_won {a = a} {n = left} found) committed known d n c' n' commit help before now =
@@ -156,12 +185,12 @@ posts m7_last d = (refl, refl)
 posts m7_more d = (refl, refl)
 
 -- a grant helps as its release did
-grant_helps : {p q : SeatState} {c x : ℕ} {w : WaitId} → Post p q c w x → (d grant : ℕ) (a : Acquire) (t : ℕ) (hand : List WaitId) → a.counter ≡ c
-    → helps d p grant ≡ helps d q grant + helps_at d (Acquiring a (P t)) hand x
-grant_helps r9 d grant a t hand e = refl
-grant_helps r10 d grant a t hand e = let there = ap (λ z. on z d 1) e in omega arith
-grant_helps m7_last d grant a t hand e = let there = ap (λ z. on z d 1) e in omega arith
-grant_helps (m7_more {r = r} {l = l}) d grant a t hand e =
+grant_helps : {p q : SeatState} {c x : ℕ} {w : WaitId} → Post p q c w x → (d grant : ℕ) (a : Acquire) (t : ℕ) (row : ParkedRow) (hand : List WaitId)
+    → a.counter ≡ c → helps d p grant ≡ helps d q grant + helps_at d (Acquiring a (Parked t row)) hand x
+grant_helps r9 d grant a t row hand e = refl
+grant_helps r10 d grant a t row hand e = let there = ap (λ z. on z d 1) e in omega arith
+grant_helps m7_last d grant a t row hand e = let there = ap (λ z. on z d 1) e in omega arith
+grant_helps (m7_more {r = r} {l = l}) d grant a t row hand e =
     let there = ap (λ z. on z d 1) e in
     let both = on_add r.counter d (length l + 1) 1 in
     let all : on r.counter d (suc (suc (length l))) ≡ on r.counter d (length l + 1 + 1) = ap (on r.counter d) (omega arith) in
@@ -174,7 +203,7 @@ units_kept m s t i in_range locks seats waiters placed units = by
     committed : ℕ → ℕ
     committed c = total m.seats (λ k. commits c (s.seats k).place)
 
-    known : Known m s.words (s.seats i).place committed
+    known : Known m s.words (s.seats i).place (s.words.grants i) committed
     known =
         record {
           nobody = λ c within none.
@@ -187,6 +216,7 @@ units_kept m s t i in_range locks seats waiters placed units = by
               (λ k. (committed_holds m.root c (s.seats k).place).0) in
               let owned_once = locks (m.root c) in omega arith;
           within = (seats i).within;
+          granted = (seats i).granted;
         }
 
     by : {u : SemaWorld} → Step m s i u → UnitsHelp m u
@@ -202,10 +232,10 @@ units_kept m s t i in_range locks seats waiters placed units = by
         let waiter = waiter_of_post m s i c x w in_range placed grant in
         let other = other_seat m s i c x w waiter grant in
         let all_commit = owned (λ k seat g. commits d seat.place) m.seats s.seats s.words.grants s.words.grants i q in_range (λ k ne. refl) in
-        let all_help = posted (λ k seat g. helps d seat g) m.seats s.seats s.words.grants i w.seat x q in_range waiter.4 other in
+        let all_help = posted (λ k seat g. helps d seat g) m.seats s.seats s.words.grants i w.seat x q in_range waiter.5 other in
         let none = posts grant d in
         let hand = (s.seats w.seat).hand in
-        let as_before = grant_helps grant d (s.words.grants i) waiter.0 w.turn hand waiter.1 in
-        let slept = ap₂ (λ p g. helps_at d p hand g) waiter.2 waiter.3 in
-        let wakes = ap (λ p. helps_at d p hand x) waiter.2 in
+        let as_before = grant_helps grant d (s.words.grants i) waiter.0 w.turn waiter.2 hand waiter.1 in
+        let slept = ap₂ (λ p g. helps_at d p hand g) waiter.3 waiter.4 in
+        let wakes = ap (λ p. helps_at d p hand x) waiter.3 in
         let few = units d (omega arith) in omega arith

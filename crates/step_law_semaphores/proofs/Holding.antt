@@ -2,10 +2,12 @@
 use Rattle.std.proofs.Common.{◌≡◌, ◌⊎◌, ℕ, ◌<◌, List, [], ◌∷◌, length, refl, sym, ap, ◌∙◌, subst, inl, inr, arith}
 use Rattle.waiters.specs.declared.wait.WaitId.{WaitId}
 use Rattle.step_table.specs.declared.place.Acquire.{Acquire}
-use Rattle.step_table.specs.declared.place.AcquireRow.TheVariants.{A3, A4, A7, A8, A9, P}
+use Rattle.step_table.specs.declared.place.AcquireRow.TheVariants.{A3, A4, A7, A8, A9, Parked, D4}
+use Rattle.step_table.specs.declared.place.ParkedRow.TheVariants.{P, D2, D3, D5}
 use Rattle.step_table.specs.declared.place.ReleaseRow.TheVariants.{R2, R3, R4, R5, R6, R9, R10}
 use Rattle.step_table.specs.declared.place.ManyRow.TheVariants.{M2, M3, M4, M5, M6, M7}
 use Rattle.step_table.specs.declared.place.Place.{Place}
+use Rattle.step_table.specs.declared.place.ParkedRow.{ParkedRow}
 use Rattle.step_table.specs.declared.place.Place.TheVariants.{Rest, Acquiring, Releasing, ReleasingMany}
 use Rattle.step_table.specs.declared.word.Word.TheVariants.{Lock, Waiters, Grant}
 use Rattle.step_table.specs.World.{Layout, SeatState, SemaWorld}
@@ -16,6 +18,7 @@ use Rattle.step_table.specs.Counting.{on, total, wait, counter_at, times, IsWith
 use Rattle.step_law_semaphores.specs.Lawful.{holds, raises}
 use Rattle.step_law_semaphores.specs.Invariant.{HandFits, Finds, IsInvariant}
 use Rattle.step_table.proofs.Sums.{on_here, total_has, total_le, pair}
+use Rattle.step_table.proofs.Withdrawing.{length_without}
 use Rattle.step_law_semaphores.proofs.Promises.{raises_held}
 use Rattle.step_law_semaphores.proofs.Raising.{lists_below}
 use Rattle.step_law_semaphores.proofs.Placing.{same_here, Waiter}
@@ -48,10 +51,13 @@ abbrev MayLower : Layout → (ℕ → List WaitId) → Place → ℕ → Type 0
 MayLower m lists p c = (raises m.root (m.root c) p ≡ 1) ⊎ ((c < m.counters) × (0 < length (lists c)))
 
 lowering : (m : Layout) (i : ℕ) (seat : SeatState) (lists : ℕ → List WaitId) (p : Place) (c : ℕ) → Does i seat lists p (lower (Waiters c) 1)
-    → IsWithin m.counters p → Finds lists p → MayLower m lists p c
+    → IsWithin m.counters p → Finds i lists p → MayLower m lists p c
 lowering m i seat lists (Acquiring a A4) c is within finds = let differs = ap (λ e. e.becomes 0) is.1 in absurd (omega arith)
 lowering m i seat lists (Acquiring a A8) c is within finds =
     inl (raised_here m.root a.counter c (ap (λ e. e.word) is.1))
+lowering m i seat lists (Acquiring a (Parked u D3)) c is within finds =
+    let fewer = length_without (wait i u) (lists a.counter) finds in
+    inr (subst (λ d. (d < m.counters) × (0 < length (lists d))) (same_counter a.counter c (ap (λ e. e.word) is.1)) (within, omega arith))
 lowering m i seat lists (Releasing r R2) c is within finds = let differs = ap (λ e. e.becomes 1) is.1 in absurd (omega arith)
 lowering m i seat lists (Releasing r R4) c is within finds = let differs = ap (λ e. e.becomes 1) is.1 in absurd (omega arith)
 lowering m i seat lists (Releasing r R5) c is within finds =
@@ -81,6 +87,9 @@ giving : (root : ℕ → ℕ) (i : ℕ) (seat : SeatState) (lists : ℕ → List
 giving root i seat lists (Acquiring a A3) c is = let differs = ap (λ e. e.becomes 0) is.1 in absurd (omega arith)
 giving root i seat lists (Acquiring a A7) c is = held_here root a.counter c (ap (λ e. e.word) is.1)
 giving root i seat lists (Acquiring a A9) c is = held_here root a.counter c (ap (λ e. e.word) is.1)
+giving root i seat lists (Acquiring a (Parked u D2)) c is = let differs = ap (λ e. e.becomes 0) is.1 in absurd (omega arith)
+giving root i seat lists (Acquiring a D4) c is = held_here root a.counter c (ap (λ e. e.word) is.1)
+giving root i seat lists (Acquiring a (Parked u D5)) c is = held_here root a.counter c (ap (λ e. e.word) is.1)
 giving root i seat lists (Releasing r R3) c is = let differs = ap (λ e. e.becomes 0) is.1 in absurd (omega arith)
 giving root i seat lists (Releasing r R6) c is = held_here root r.counter c (ap (λ e. e.word) is.1)
 giving root i seat lists (ReleasingMany r M3) c is = let differs = ap (λ e. e.becomes 0) is.1 in absurd (omega arith)
@@ -105,24 +114,24 @@ record MayGrant (i k n : ℕ) (p : Place) (hand : List WaitId) : Type 0 where
   pub some : 0 < length hand
   pub whom : waiter i hand ≡ k
   pub stored : (n ≡ 1) ⊎ (n ≡ 2)
-  pub awake : (a : Acquire) (t : ℕ) → p ≡ Acquiring a (P t) → ⊥
+  pub awake : (a : Acquire) (t : ℕ) (row : ParkedRow) → p ≡ Acquiring a (Parked t row) → ⊥
 
 granting : (i k n : ℕ) (seat : SeatState) (lists : ℕ → List WaitId) (p : Place) → Does i seat lists p (store (Grant k) n)
     → HandFits p (length seat.hand) → MayGrant i k n p seat.hand
 granting i k n seat lists Rest is fits = let never = ap (λ e. e.can 0) is.1 in absurd cc
-granting i k n seat lists (Acquiring a (P t)) is fits = let not_at_zero = ap (λ e. e.can 0) is.1 in absurd cc
+granting i k n seat lists (Acquiring a (Parked t P)) is fits = let not_at_zero = ap (λ e. e.can 0) is.1 in absurd cc
 granting i k n seat lists (Releasing r R9) is fits =
     let two = ap (λ e. e.becomes 0) is.1 in
     let whom = same_seat (waiter i seat.hand) k (ap (λ e. e.word) is.1) in
-    record { some = omega arith; whom = whom; stored = inr (omega arith); awake = λ a t e. cc }
+    record { some = omega arith; whom = whom; stored = inr (omega arith); awake = λ a t row e. cc }
 granting i k n seat lists (Releasing r R10) is fits =
     let one = ap (λ e. e.becomes 0) is.1 in
     let whom = same_seat (waiter i seat.hand) k (ap (λ e. e.word) is.1) in
-    record { some = omega arith; whom = whom; stored = inl (omega arith); awake = λ a t e. cc }
+    record { some = omega arith; whom = whom; stored = inl (omega arith); awake = λ a t row e. cc }
 granting i k n seat lists (ReleasingMany r M7) is fits =
     let one = ap (λ e. e.becomes 0) is.1 in
     let whom = same_seat (waiter i seat.hand) k (ap (λ e. e.word) is.1) in
-    record { some = fits; whom = whom; stored = inl (omega arith); awake = λ a t e. cc }
+    record { some = fits; whom = whom; stored = inl (omega arith); awake = λ a t row e. cc }
 granting i k n seat lists _ is fits = let word = ap (λ e. e.word) is.1 in absurd cc
 
 pub granted : (m : Layout) (s : SemaWorld) → IsInvariant m s → AllGrantParked m s
@@ -135,15 +144,15 @@ granted m s inv i k n h is = by (s.seats i).hand refl (granting i k n (s.seats i
         let one = same_here w in
         let whom : w.seat ≡ k = may.whom in
         let v : Waiter m (counter_at (s.seats i).place) w s = in_a_hand m s inv.placed i w h (omega arith) in
-        let is_parked : (s.seats k).place ≡ Acquiring v.0 (P w.turn) = ap (λ z. (s.seats z).place) (sym whom) ∙ v.2 in
+        let is_parked : (s.seats k).place ≡ Acquiring v.0 (Parked w.turn v.2) = ap (λ z. (s.seats z).place) (sym whom) ∙ v.3 in
         record {
           turn = w.turn;
           rest = l;
           hand = at ∙ ap (λ z. wait z w.turn ∷ l) whom;
-          parked = (v.0, v.1, is_parked);
-          other = λ e. may.awake v.0 w.turn (ap (λ z. (s.seats z).place) (sym e) ∙ is_parked);
-          there = subst (λ z. z < m.seats) whom v.4;
-          unset = ap s.words.grants (sym whom) ∙ v.3;
+          parked = (v.0, v.1, v.2, is_parked);
+          other = λ e. may.awake v.0 w.turn v.2 (ap (λ z. (s.seats z).place) (sym e) ∙ is_parked);
+          there = subst (λ z. z < m.seats) whom v.5;
+          unset = ap s.words.grants (sym whom) ∙ v.4;
           stored = may.stored;
         }
 

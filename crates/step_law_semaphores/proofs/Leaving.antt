@@ -10,7 +10,7 @@ use Rattle.step_law_semaphores.specs.Lawful.{holds}
 use Rattle.step_law_semaphores.specs.Invariant.{IsInvariant}
 use Rattle.step_table.proofs.Sums.{put_here, put_else, on_here}
 use Rattle.step_law_semaphores.proofs.Lines.{Line, a3, a4, a7, a8, a9, r3, r5, r6_none, r6_plain, r6_handoff, m3, m5_more, m5_last}
-use Rattle.step_law_semaphores.proofs.Lines.{m6_none, m6_some, Step, own, post}
+use Rattle.step_law_semaphores.proofs.Lines.{m6_none, m6_some, Step, own, post, d2_queued, d2_gone, d3, d4, d5}
 use Rattle.step_law_semaphores.specs.Holders.{LeavesRoot, LeavesOthers}
 use Rattle.step_law_semaphores.proofs.Reaching.{cases}
 
@@ -62,6 +62,11 @@ left_line {m = m} {i = i} {g = g} (a7 {a = a} {t = t}) r free = record {
 }
 left_line {m = m} {g = g} (a8 {a = a}) r free = counts m g (m.root a.counter) _ r free
 left_line {m = m} {g = g} (a9 {a = a}) r free = gives_lock m g (m.root a.counter) r free
+left_line {m = m} {g = g} (d2_queued {a = a} unheld _) r free = takes_lock m g (m.root a.counter) r unheld
+left_line {m = m} {g = g} (d2_gone {a = a} unheld) r free = takes_lock m g (m.root a.counter) r unheld
+left_line {m = m} {g = g} (d3 {a = a} _) r free = lets_out m g a.counter _ _ r free
+left_line {m = m} {g = g} (d4 {a = a}) r free = gives_lock m g (m.root a.counter) r free
+left_line {m = m} {g = g} (d5 {a = a}) r free = gives_lock m g (m.root a.counter) r free
 left_line {m = m} {g = g} (r3 {r = q} unheld) r free = takes_lock m g (m.root q.counter) r unheld
 left_line {m = m} {g = g} (r5 {r = q} {l = l} _) r free = lets_out m g q.counter _ l r free
 left_line {m = m} {g = g} (r6_none {r = q}) r free = gives_lock m g (m.root q.counter) r free

@@ -1,12 +1,13 @@
 -- The table's outcomes one by one: each has a constructor, with what the seat found. The laws go by these cases.
-use Rattle.std.proofs.Common.{◌≡◌, ℕ, suc, ◌+◌, ◌-◌, ◌<◌, ◌≢◌, ◌⊎◌, Bool, ◌≤◌, List, [], ◌∷◌, ◌++◌, length}
+use Rattle.std.proofs.Common.{◌≡◌, ℕ, suc, ◌+◌, ◌-◌, ◌<◌, ◌≢◌, ◌⊎◌, Bool, ◌≤◌, IsTrue, List, [], ◌∷◌, ◌++◌, length, Some}
 use Rattle.waiters.specs.declared.wait.WaitId.{WaitId}
-use Rattle.step_table.specs.declared.entry.Entry.TheVariants.{Add, AddMany, Take, Queue, Leave}
+use Rattle.step_table.specs.declared.entry.Entry.TheVariants.{Add, AddMany, Take, Queue, Leave, Withdraw}
 use Rattle.step_table.specs.declared.effect.Effect.{Effect}
 use Rattle.step_table.specs.declared.effect.Effect.TheVariants.{Nothing, Tells}
 use Rattle.step_table.specs.declared.place.Acquire.{Acquire}
 use Rattle.step_table.specs.declared.place.AcquireRow.{AcquireRow}
-use Rattle.step_table.specs.declared.place.AcquireRow.TheVariants.{A1, A2, A3, A4, A5, A6, A7, A8, A9, P, A10, A11}
+use Rattle.step_table.specs.declared.place.AcquireRow.TheVariants.{A1, A2, A3, A4, A5, A6, A7, A8, A9, A10, A11, D4, Parked}
+use Rattle.step_table.specs.declared.place.ParkedRow.TheVariants.{P, D2, D3, D5}
 use Rattle.step_table.specs.declared.place.Release.{Release}
 use Rattle.step_table.specs.declared.place.ReleaseRow.{ReleaseRow}
 use Rattle.step_table.specs.declared.place.ReleaseRow.TheVariants.{R1, R2, R3, R4, R5, R6, R7, R8, R9, R10}
@@ -15,7 +16,7 @@ use Rattle.step_table.specs.declared.place.ManyRow.{ManyRow}
 use Rattle.step_table.specs.declared.place.ManyRow.TheVariants.{M1, M2, M3, M4, M5, M6, M7}
 use Rattle.step_table.specs.declared.place.Place.{Place}
 use Rattle.step_table.specs.declared.place.Place.TheVariants.{Rest, Acquiring, Releasing, ReleasingMany}
-use Rattle.step_table.specs.World.{Layout, Words, SeatState, SemaWorld, put, insert_wait, journal_after}
+use Rattle.step_table.specs.World.{Layout, Words, SeatState, SemaWorld, put, insert_wait, wait_of, stands_in, without, journal_after}
 use Rattle.step_table.specs.Counting.{wait}
 
 abbrev pub standing : Place → ℕ → List WaitId → SeatState
@@ -41,6 +42,9 @@ pub data Line (m : Layout) (i : ℕ) (g : Words) : SeatState → SeatState → W
   end_first : {a : Acquire} {t : ℕ} → Line m i g (acquiring a A1 t) (resting t) g Nothing
   decides : {r : Release} {b : Bool} {t : ℕ} → Line m i g (releasing r R3 t []) (releasing (record r { handoff = b }) R3 t []) g Nothing
   end_lock : {a : Acquire} {t : ℕ} → Line m i g (acquiring a A3 t) (resting t) g Nothing
+  begins_leaving : {a : Acquire} {u t : ℕ} → Line m i g (acquiring a (Parked u P) t) (acquiring a (Parked u D2) t) g Nothing
+  sleeps_on : {a : Acquire} {u t : ℕ} → Line m i g (acquiring a (Parked u D2) t) (acquiring a (Parked u P) t) g Nothing
+  stays_queued : {a : Acquire} {u t : ℕ} → Line m i g (acquiring a (Parked u D3) t) (acquiring a (Parked u D5) t) g Nothing
   a1_zero : {a : Acquire} {t : ℕ} → g.numbers a.counter ≡ 0 → Line m i g (acquiring a A1 t) (acquiring a A3 t) g Nothing
   a1_some : {a : Acquire} {t n : ℕ} → g.numbers a.counter ≡ suc n → Line m i g (acquiring a A1 t) (acquiring a (A2 n) t) g Nothing
   a2_won : {a : Acquire} {t n : ℕ} → g.numbers a.counter ≡ suc n
@@ -57,7 +61,7 @@ pub data Line (m : Layout) (i : ℕ) (g : Words) : SeatState → SeatState → W
       → Line m i g (acquiring a (A6 n) t) (acquiring a A8 t) (record g { numbers = put g.numbers a.counter n }) (Tells (Take a.counter i))
   a6_lost : {a : Acquire} {t n : ℕ} → g.numbers a.counter ≢ suc n → Line m i g (acquiring a (A6 n) t) (acquiring a A5 t) g Nothing
   a7 : {a : Acquire} {t : ℕ}
-      → Line m i g (acquiring a A7 t) (acquiring a (P t) (t + 1))
+      → Line m i g (acquiring a A7 t) (acquiring a (Parked t P) (t + 1))
       (record g { locks = put g.locks (m.root a.counter) 0; lists = put g.lists a.counter (insert_wait a.lifo (wait i t) (g.lists a.counter)) })
       (Tells (Queue a.counter (wait i t) a.lifo))
   a8 : {a : Acquire} {t : ℕ}
@@ -65,9 +69,23 @@ pub data Line (m : Layout) (i : ℕ) (g : Words) : SeatState → SeatState → W
       (record g { waiters = put g.waiters (m.root a.counter) (g.waiters (m.root a.counter) - 1) }) Nothing
   a9 : {a : Acquire} {t : ℕ} → Line m i g (acquiring a A9 t) (resting t) (record g { locks = put g.locks (m.root a.counter) 0 }) Nothing
   p_one : {a : Acquire} {u t : ℕ} → g.grants i ≡ 1
-      → Line m i g (acquiring a (P u) t) (acquiring a A10 t) (record g { grants = put g.grants i 0 }) Nothing
+      → Line m i g (acquiring a (Parked u P) t) (acquiring a A10 t) (record g { grants = put g.grants i 0 }) Nothing
   p_two : {a : Acquire} {u t : ℕ} → g.grants i ≡ 2
-      → Line m i g (acquiring a (P u) t) (resting t) (record g { grants = put g.grants i 0 }) Nothing
+      → Line m i g (acquiring a (Parked u P) t) (resting t) (record g { grants = put g.grants i 0 }) Nothing
+  d2_queued : {a : Acquire} {u t : ℕ} → g.locks (m.root a.counter) ≡ 0 → IsTrue (stands_in i (g.lists a.counter))
+      → Line m i g (acquiring a (Parked u D2) t) (acquiring a (Parked u D3) t) (record g { locks = put g.locks (m.root a.counter) 1 }) Nothing
+  d2_gone : {a : Acquire} {u t : ℕ} → g.locks (m.root a.counter) ≡ 0
+      → Line m i g (acquiring a (Parked u D2) t) (acquiring a (Parked u D5) t) (record g { locks = put g.locks (m.root a.counter) 1 }) Nothing
+  d3 : {a : Acquire} {u t : ℕ} → wait_of i (g.lists a.counter) ≡ Some (wait i u)
+      → Line m i g (acquiring a (Parked u D3) t) (acquiring a D4 t)
+      (record g {
+        waiters = put g.waiters (m.root a.counter) (g.waiters (m.root a.counter) - 1);
+        lists = put g.lists a.counter (without i (g.lists a.counter));
+      })
+      (Tells (Withdraw a.counter (wait i u)))
+  d4 : {a : Acquire} {t : ℕ} → Line m i g (acquiring a D4 t) (resting t) (record g { locks = put g.locks (m.root a.counter) 0 }) Nothing
+  d5 : {a : Acquire} {u t : ℕ}
+      → Line m i g (acquiring a (Parked u D5) t) (acquiring a (Parked u P) t) (record g { locks = put g.locks (m.root a.counter) 0 }) Nothing
   a10_zero : {a : Acquire} {t : ℕ} → g.numbers a.counter ≡ 0 → Line m i g (acquiring a A10 t) (acquiring a A3 t) g Nothing
   a10_some : {a : Acquire} {t n : ℕ} → g.numbers a.counter ≡ suc n → Line m i g (acquiring a A10 t) (acquiring a (A11 n) t) g Nothing
   a11_won : {a : Acquire} {t n : ℕ} → g.numbers a.counter ≡ suc n

@@ -8,7 +8,7 @@ use Rattle.step_law_semaphores.specs.Lawful.{holds}
 use Rattle.step_law_semaphores.specs.Invariant.{LocksOwned}
 use Rattle.step_table.proofs.Sums.{on_here, owned, total_has, put_most, up, down}
 use Rattle.step_law_semaphores.proofs.Lines.{Line, begin_acquire, a3, a7, a9, r3, r6_none, r6_plain, r6_handoff, m3, m6_none, m6_some, Post, r9, r10, m7_last}
-use Rattle.step_law_semaphores.proofs.Lines.{m7_more, Step, own, post}
+use Rattle.step_law_semaphores.proofs.Lines.{m7_more, Step, own, post, d2_queued, d2_gone, d4, d5}
 
 -- the locks that a seat holds are held, and each is held at most once
 abbrev Held : Layout → Words → SeatState → Type 0
@@ -35,6 +35,10 @@ rows (begin_acquire _) held r = (refl, (held r).1)
 rows {m = m} {g = g} (a3 {a = a} free) held r = taken g.locks (m.root a.counter) free held r
 rows {m = m} {g = g} (a7 {a = a}) held r = given g.locks (m.root a.counter) held r
 rows {m = m} {g = g} (a9 {a = a}) held r = given g.locks (m.root a.counter) held r
+rows {m = m} {g = g} (d2_queued {a = a} free _) held r = taken g.locks (m.root a.counter) free held r
+rows {m = m} {g = g} (d2_gone {a = a} free) held r = taken g.locks (m.root a.counter) free held r
+rows {m = m} {g = g} (d4 {a = a}) held r = given g.locks (m.root a.counter) held r
+rows {m = m} {g = g} (d5 {a = a}) held r = given g.locks (m.root a.counter) held r
 rows {m = m} {g = g} (r3 {r = q} free) held r = taken g.locks (m.root q.counter) free held r
 rows {m = m} {g = g} (r6_none {r = q}) held r = given g.locks (m.root q.counter) held r
 rows {m = m} {g = g} (r6_plain {r = q}) held r = given g.locks (m.root q.counter) held r

@@ -11,7 +11,7 @@ use Rattle.step_table.specs.Steps.{IsReached}
 use Rattle.step_table.specs.Steps as steps
 use Rattle.step_table.specs.Counting.{times, IsWithin}
 use Rattle.step_law_semaphores.specs.Invariant.{IsInvariant}
-use Rattle.step_law_semaphores.proofs.Lines.{Line, a2_won, a6_won, a7, a11_won, r1, r5, r8_won, m1, m5_more, m5_last, Step, own, post}
+use Rattle.step_law_semaphores.proofs.Lines.{Line, a2_won, a6_won, a7, a11_won, r1, r5, r8_won, m1, m5_more, m5_last, Step, own, post, d3}
 use Rattle.step_law_semaphores.proofs.Placing.{same_here}
 use Rattle.step_law_semaphores.proofs.Parking.{in_a_list, in_a_hand}
 use Rattle.step_law_semaphores.specs.Entries.{IsNamed, IsOwn, TellsOwn}
@@ -34,6 +34,7 @@ own_line (r8_won _) = (refl, refl)
 own_line m1 = (refl, refl, refl)
 own_line (m5_more _ _ _) = (refl, refl)
 own_line (m5_last _ _) = (refl, refl)
+own_line (d3 _) = (refl, refl)
 own_line _ = tt
 
 says : (i : ℕ) (s t : SemaWorld) (e : Effect) → t.journal ≡ journal_after e s.journal → Telling (IsOwn i (s.seats i)) e → TellsOwn i s t
@@ -65,6 +66,7 @@ named_line (m5_more {r = r} {w = w} {l = l} out _ _) h within listed handed =
     (within.0, listed r.counter w (let here = same_here w in let has = ap (times w) out in omega arith), h)
 named_line (m5_last {r = r} {w = w} {l = l} out _) h within listed handed =
     (within.0, listed r.counter w (let here = same_here w in let has = ap (times w) out in omega arith), h)
+named_line (d3 _) h within listed handed = (within, h)
 named_line _ h within listed handed = tt
 
 more : (m : Layout) (e : Effect) (j : List Entry) → Telling (IsNamed m) e → All (IsNamed m) j → All (IsNamed m) (journal_after e j)
@@ -75,8 +77,8 @@ named_step : {m : Layout} {s : SemaWorld} {i : ℕ} {t : SemaWorld} → i < m.se
     → All (IsNamed m) s.journal → All (IsNamed m) t.journal
 named_step {m = m} {s = s} {i = i} h inv (own {e = e} line) before =
     more m e s.journal
-    (named_line line h (inv.seats i).within (λ c w some. (in_a_list m s inv.placed c w some).4)
-    (λ w some. (in_a_hand m s inv.placed i w h some).4)) before
+    (named_line line h (inv.seats i).within (λ c w some. (in_a_list m s inv.placed c w some).5)
+    (λ w some. (in_a_hand m s inv.placed i w h some).5)) before
 named_step h inv (post _) before = before
 
 pub named : (m : Layout) (s : SemaWorld) → IsReached m s → All (IsNamed m) s.journal

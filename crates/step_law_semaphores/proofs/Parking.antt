@@ -2,7 +2,9 @@
 use Rattle.std.proofs.Common.{◌≡◌, ℕ, ◌<◌, List, [], ◌∷◌, refl, sym, ap, ◌∙◌, arith}
 use native.Mathlib.Decide.{ℕ_discrete}
 use Rattle.waiters.specs.declared.wait.WaitId.{WaitId}
-use Rattle.step_table.specs.declared.place.AcquireRow.TheVariants.{P}
+use Rattle.step_table.specs.declared.place.AcquireRow.TheVariants.{Parked}
+use Rattle.step_table.specs.declared.place.ParkedRow.TheVariants.{P}
+use Rattle.step_table.specs.declared.place.ParkedRow.{ParkedRow}
 use Rattle.step_table.specs.declared.place.Place.TheVariants.{Acquiring}
 use Rattle.step_table.specs.World.{Layout, SemaWorld}
 use Rattle.step_table.specs.Counting.{on, wait, times, counter_at}
@@ -14,7 +16,7 @@ use Rattle.step_law_semaphores.proofs.Placing.{Waiter, waiter_of}
 -- a seat is parked on one counter, and for one wait
 pub one_parking : (s : SemaWorld) (k i c d t u : ℕ) → k ≡ i → IsParked s k c t → IsParked s i d u → (c ≡ d) × (t ≡ u)
 one_parking s k i c d t u one p q =
-    let place : Acquiring p.0 (P t) ≡ Acquiring q.0 (P u) = sym p.2 ∙ ap (λ z. (s.seats z).place) one ∙ q.2 in
+    let place : Acquiring p.0 (Parked t p.2) ≡ Acquiring q.0 (Parked u q.2) = sym p.3 ∙ ap (λ z. (s.seats z).place) one ∙ q.3 in
     let acquire : p.0 ≡ q.0 = cc in (sym p.1 ∙ ap (λ a. a.counter) acquire ∙ q.1, cc)
 
 -- in a hand of c a wait counts for c
@@ -58,4 +60,4 @@ module _ (m : Layout) (s : SemaWorld) (placed : WaitsPlaced m s) where
       by (yes none) = none ∙ sym (in_none c (call_of i) w hand none)
       by (no some) =
           let v = in_a_hand i w h (omega arith) in
-          let here = one_parking s k k c (call_of i) turn turn refl parked (v.0, v.1, v.2) in rw here.0 (sym (in_call i w))
+          let here = one_parking s k k c (call_of i) turn turn refl parked (v.0, v.1, v.2, v.3) in rw here.0 (sym (in_call i w))

@@ -5,10 +5,12 @@ use native.Mathlib.Decide.{ℕ_discrete}
 use Rattle.waiters.specs.declared.wait.WaitId.{WaitId}
 use Rattle.step_table.specs.declared.entry.Entry.{Entry}
 use Rattle.step_table.specs.declared.place.Acquire.{Acquire}
-use Rattle.step_table.specs.declared.place.AcquireRow.TheVariants.{A5, A6, A7, A8, P}
+use Rattle.step_table.specs.declared.place.AcquireRow.TheVariants.{A5, A6, A7, A8, Parked}
+use Rattle.step_table.specs.declared.place.ParkedRow.TheVariants.{P, D3}
 use Rattle.step_table.specs.declared.place.ReleaseRow.TheVariants.{R6}
 use Rattle.step_table.specs.declared.place.ManyRow.TheVariants.{M6}
 use Rattle.step_table.specs.declared.place.Place.{Place}
+use Rattle.step_table.specs.declared.place.ParkedRow.{ParkedRow}
 use Rattle.step_table.specs.declared.place.Place.TheVariants.{Acquiring, Releasing, ReleasingMany}
 use Rattle.step_table.specs.World.{Layout, SemaWorld, first_world}
 use Rattle.step_table.specs.Steps.{IsReached}
@@ -17,10 +19,11 @@ use Rattle.step_table.specs.Steps as steps
 use Rattle.step_table.specs.Journal.{HasItsUnit}
 use Rattle.step_table.specs.Counting.{on, same, total, wait, times, granted, counter_at}
 use Rattle.step_law_semaphores.specs.Lawful.{holds, raises, flies, IsParked, IsCommitted}
-use Rattle.step_law_semaphores.specs.Lawful.{WaitersCounted, NoLostWakeUp, ParkedOnce, EachIsParked, IsReleasing, CallsWithin, IsLawfulWorld}
-use Rattle.step_law_semaphores.specs.Invariant.{hands, awaits, helps_at, helps, commits, HandFits, IsInvariant}
+use Rattle.step_law_semaphores.specs.Lawful.{WaitersCounted, NoLostWakeUp, ParkedOnce, EachIsParked, IsReleasing, CallsWithin, IsLawfulWorld, WithdrawsQueued}
+use Rattle.step_law_semaphores.specs.Invariant.{hands, awaits, helps_at, helps, commits, HandFits, IsInvariant, Finds}
 use Rattle.step_law_semaphores.specs.Law.{TheLaw}
 use Rattle.step_table.proofs.Sums.{on_here, on_zero, on_le, nothing, single, total_has, total_le, total_same, total_rest}
+use Rattle.step_table.proofs.Withdrawing.{wait_times}
 use Rattle.step_law_semaphores.proofs.Lines.{Step}
 use Rattle.step_law_semaphores.proofs.Cases.{step_of}
 use Rattle.step_law_semaphores.proofs.Locks.{locks_kept}
@@ -69,8 +72,8 @@ kept_by m s t i in_range inv step = record {
   placed = placed_kept m s t i in_range inv.seats inv.placed step;
   sleepers = sleepers_kept in_range inv.placed inv.seats inv.sleepers step;
   turns = turns_kept in_range inv.seats inv.turns step;
-  seats = seats_kept m s t i in_range inv.placed inv.seats step;
-  finds = finds_kept m s t i in_range inv.locks inv.finds step;
+  seats = seats_kept m s t i in_range inv.placed inv.finds inv.seats step;
+  finds = finds_kept m s t i in_range inv.locks inv.placed inv.finds step;
   replays = replays_kept inv.replays step;
   follows = follows_kept in_range inv.replays inv.seats inv.stories inv.follows step;
   once = once_kept inv.seats inv.turns_new inv.once step;
@@ -90,18 +93,19 @@ raises_held root r _ = omega arith
 
 helps_flies : (c : ℕ) (p : Place) (hand : List WaitId) (grant : ℕ) → HandFits p (length hand)
     → helps_at c p hand grant ≤ flies c p (length hand) grant
-helps_flies c (Acquiring a (P turn)) hand zero fits = omega arith
-helps_flies c (Acquiring a (P turn)) hand (suc zero) fits = omega arith
-helps_flies c (Acquiring a (P turn)) hand (suc (suc g)) fits = omega arith
+helps_flies c (Acquiring a (Parked turn row)) hand zero fits = omega arith
+helps_flies c (Acquiring a (Parked turn row)) hand (suc zero) fits = omega arith
+helps_flies c (Acquiring a (Parked turn row)) hand (suc (suc g)) fits = omega arith
 helps_flies c (Releasing r R6) (w ∷ hand) grant fits = omega arith
 helps_flies c (Releasing r R6) [] grant fits = omega arith
 helps_flies c (ReleasingMany r M6) hand grant fits = on_le r.counter c (length hand) r.units fits
 helps_flies c _ hand grant fits = omega arith
 
-waits_here : (c k turn grant : ℕ) (a : Acquire) → a.counter ≡ c → awaits c (wait k turn) k (Acquiring a (P turn)) grant + granted grant ≡ 1
-waits_here c k turn zero a here =
+waits_here : (c k turn grant : ℕ) (a : Acquire) (row : ParkedRow) → a.counter ≡ c
+    → awaits c (wait k turn) k (Acquiring a (Parked turn row)) grant + granted grant ≡ 1
+waits_here c k turn zero a row here =
     let w = wait k turn in let on_it = on_here c (same w w) in let itself = same_here w in rw here (omega arith)
-waits_here c k turn (suc g) a here = omega arith
+waits_here c k turn (suc g) a row here = omega arith
 
 some_hand : (w : WaitId) (hand : List WaitId) → 0 < times w hand → 0 < length hand
 some_hand w [] some = some
@@ -143,11 +147,11 @@ module _ (m : Layout) (s : SemaWorld) (inv : IsInvariant m s) where
 
   each_is_parked : EachIsParked m s
   each_is_parked = (
-    (λ c w some. let v = in_a_list m s inv.placed c w some in (v.4, (v.0, v.1, v.2))),
+    (λ c w some. let v = in_a_list m s inv.placed c w some in (v.5, (v.0, v.1, v.2, v.3))),
     (λ k w h some.
         let v = in_a_hand m s inv.placed k w h some in
         let its = of_release (s.seats k).place (length (s.seats k).hand) (inv.seats k).fits (some_hand w (s.seats k).hand some) in
-        (v.4, counter_at (s.seats k).place, its, (v.0, v.1, v.2))),
+        (v.5, counter_at (s.seats k).place, its, (v.0, v.1, v.2, v.3))),
   )
 
   parked_once : ParkedOnce m s
@@ -156,8 +160,8 @@ module _ (m : Layout) (s : SemaWorld) (inv : IsInvariant m s) where
         let in_the_hands = total_same m.seats (λ i. times w (s.seats i).hand) (λ i. hands c w (s.seats i)) (in_hands m s inv.placed k c turn parked) in
         let alone = single m.seats (λ i. awaits c w i (s.seats i).place (s.words.grants i)) k h
         (λ i ne. awaits_else c w i (s.seats i).place (s.words.grants i) ne) in
-        let at_place = ap (λ p. awaits c w k p (s.words.grants k)) parked.2 in
-        let awaited = waits_here c k turn (s.words.grants k) parked.0 parked.1 in
+        let at_place = ap (λ p. awaits c w k p (s.words.grants k)) parked.3 in
+        let awaited = waits_here c k turn (s.words.grants k) parked.0 parked.2 parked.1 in
         let placed = inv.placed c w in omega arith),
     (λ d ne. by d ne (ℕ_discrete (times (wait k turn) (s.words.lists d)) 0)),
   )
@@ -166,12 +170,20 @@ module _ (m : Layout) (s : SemaWorld) (inv : IsInvariant m s) where
       by d ne (yes none) = none
       by d ne (no some) =
           let v = in_a_list m s inv.placed d (wait k turn) (omega arith) in
-          absurd (ne (one_parking s k k d c turn turn refl (v.0, v.1, v.2) parked).0)
+          absurd (ne (one_parking s k k d c turn turn refl (v.0, v.1, v.2, v.3) parked).0)
+
+  -- a seat that is about to take its wait out has it queued
+  withdraws_queued : WithdrawsQueued m s
+  withdraws_queued k c turn h at =
+      let w = wait k turn in
+      let stands = wait_times w (s.words.lists at.0.counter) (subst (Finds k s.words.lists) at.2 (inv.finds k h)) in
+      let queued = subst (λ d. 0 < times w (s.words.lists d)) at.1 stands in
+      let sole = (parked_once k c turn h (at.0, at.1, D3, at.2)).0 in omega arith
 
   -- a grant of 2 has its unit
   has_its_unit : (k c turn : ℕ) → k < m.seats → IsParked s k c turn → s.words.grants k ≡ 2 → HasItsUnit c (wait k turn) s.journal
   has_its_unit k c turn h parked two =
-      let story = inv.stories k h in subst (λ c. HasItsUnit c (wait k turn) s.journal) parked.1 (rw (parked.2, two) at story)
+      let story = inv.stories k h in subst (λ c. HasItsUnit c (wait k turn) s.journal) parked.1 (rw (parked.3, two) at story)
 
   calls_within : CallsWithin m s
   calls_within k = (inv.seats k).within
@@ -184,6 +196,7 @@ module _ (m : Layout) (s : SemaWorld) (inv : IsInvariant m s) where
     units = few_units;
     once = parked_once;
     parked = each_is_parked;
+    withdraws = withdraws_queued;
     grants = ((λ k. (inv.seats k).granted), has_its_unit);
     bounded = bounded m s inv;
     within = calls_within;

@@ -1,14 +1,15 @@
 -- A waiter word counts the waits of its root, and the seats that have raised it.
-use Rattle.std.proofs.Common.{◌≡◌, ℕ, ◌+◌, ◌-◌, ◌<◌, ◌≤◌, List, ◌∷◌, length, refl, ap, arith}
+use Rattle.std.proofs.Common.{◌≡◌, ℕ, ◌+◌, ◌-◌, ◌<◌, ◌≤◌, List, ◌∷◌, length, refl, ap, arith, Some}
 use Rattle.waiters.specs.declared.wait.WaitId.{WaitId}
 use Rattle.step_table.specs.declared.effect.Effect.{Effect}
 use Rattle.step_table.specs.declared.place.Place.{Place}
-use Rattle.step_table.specs.World.{Layout, Words, SeatState, SemaWorld, put, insert_wait}
+use Rattle.step_table.specs.World.{Layout, Words, SeatState, SemaWorld, put, insert_wait, without, wait_of}
 use Rattle.step_table.specs.Counting.{on, total, wait, IsWithin}
 use Rattle.step_law_semaphores.specs.Lawful.{raises, waits_of}
 use Rattle.step_law_semaphores.specs.Invariant.{SeatsKnown, WaitersRaised}
 use Rattle.step_table.proofs.Sums.{put_here, put_else, on_here, on_add, total_change, total_has, up, down, length_insert, owned}
-use Rattle.step_law_semaphores.proofs.Lines.{Line, begin_acquire, a4, a7, a8, r5, m5_more, m5_last, Post, r9, r10, m7_last, m7_more, Step, own, post}
+use Rattle.step_table.proofs.Withdrawing.{length_without}
+use Rattle.step_law_semaphores.proofs.Lines.{Line, begin_acquire, a4, a7, a8, r5, m5_more, m5_last, Post, r9, r10, m7_last, m7_more, Step, own, post, d3}
 
 -- how many waits these lists hold for the root r, and that number after the list of c has changed
 abbrev waits : Layout → ℕ → (ℕ → List WaitId) → ℕ
@@ -53,6 +54,19 @@ one_less {m = m} {g = g} known c w l within first r =
     let lowered = down g.waiters x (g.waiters x - 1) r (omega arith) in
     let left = waits_down m r c g.lists l within (omega arith) in omega arith
 
+-- a wait was taken out of the list of c, wherever it stood
+pub one_out : {raised : ℕ → ℕ} {m : Layout} {g : Words} {p : Place} → Raised raised m g p → (c : ℕ) (w : WaitId)
+    → c < m.counters → wait_of w.seat (g.lists c) ≡ Some w
+    → (r : ℕ) → put g.waiters (m.root c) (g.waiters (m.root c) - 1) r + waits m r g.lists
+    ≡ g.waiters r + waits m r (put g.lists c (without w.seat (g.lists c)))
+one_out {m = m} {g = g} known c w within stands r =
+    let x = m.root c in
+    let l = g.lists c in
+    let shorter = length_without w l stands in
+    let some = known.lists c within in
+    let lowered = down g.waiters x (g.waiters x - 1) r (omega arith) in
+    let left = waits_down m r c g.lists (without w.seat l) within shorter in omega arith
+
 pub rows : {m : Layout} {i : ℕ} {g h : Words} {p q : SeatState} {e : Effect} → Line m i g p q h e → Raised (λ r. raises m.root r p.place) m g p.place
     → (r : ℕ) → h.waiters r + waits_of m r g + raises m.root r p.place ≡ g.waiters r + waits_of m r h + raises m.root r q.place
 rows (begin_acquire _) known r = refl
@@ -64,6 +78,7 @@ rows {m = m} {g = g} (a8 {a = a}) known r =
     let x = m.root a.counter in
     let some = known.own x in let one = on_here x 1 in
     let lowered = down g.waiters x (g.waiters x - 1) r (omega arith) in omega arith
+rows {m = m} {i = i} {g = g} (d3 {a = a} {u = u} stands) known r = let left = one_out known a.counter (wait i u) known.within stands r in omega arith
 rows (r5 {r = q} {w = w} {l = l} first) known r = let left = one_less known q.counter w l known.within first r in omega arith
 rows (m5_more {r = q} {w = w} {l = l} first _ _) known r = let left = one_less known q.counter w l known.within.0 first r in omega arith
 rows (m5_last {r = q} {w = w} {l = l} first _) known r = let left = one_less known q.counter w l known.within.0 first r in omega arith

@@ -8,7 +8,7 @@ use Rattle.step_table.specs.declared.effect.Effect.{Effect}
 use Rattle.step_table.specs.declared.effect.Effect.TheVariants.{Nothing, Tells, Wakes}
 use Rattle.waiters.specs.declared.wait.WaitId.{WaitId}
 use Rattle.step_table.specs.declared.entry.Entry.{Entry}
-use Rattle.step_table.specs.declared.entry.Entry.TheVariants.{Add, AddMany, Take, Queue, Leave, Ticket, Grant}
+use Rattle.step_table.specs.declared.entry.Entry.TheVariants.{Add, AddMany, Take, Queue, Leave, Ticket, Grant, Forgo, Withdraw}
 use Rattle.step_table.specs.declared.place.Place.{Place}
 use Rattle.step_table.specs.declared.place.Place.TheVariants.{Acquiring, Releasing, ReleasingMany}
 use Rattle.step_table.specs.declared.word.Word.{Word}
@@ -28,6 +28,7 @@ use Rattle.step_law_semaphores.specs.Entries.{IsOwnAt, TellsOwn}
 use Rattle.step_law_semaphores.proofs.Promises.{the_law, reached}
 use Rattle.step_law_semaphores.proofs.Owning.{told}
 use Rattle.step_table.proofs.Paths.{goes_on_more, goes_on_by, row_ran, are_paths}
+use Rattle.step_table.specs.declared.place.AcquireRow.TheVariants.{Parked}
 
 pub journal_told : (effect : Effect) (journal : List Entry) → journal_after effect journal ≡ journal ++ entries_of effect
 journal_told (Tells e) journal = refl
@@ -58,11 +59,13 @@ not_its : (i j n : ℕ) (hand : List WaitId) (p : Place) (e : Entry) → j ≢ i
 not_its i j n hand p (Take c s) ne own = refl
 not_its i j n hand p (Ticket l s) ne own = refl
 not_its i j n hand p (Grant l upto s) ne own = refl
+not_its i j n hand p (Forgo l k s) ne own = refl
 not_its i j n hand (Acquiring a row) (Queue c w lifo) ne own = ne_eqb w.seat j (λ q. ne (sym q ∙ ap (λ (x : WaitId). x.seat) own.1))
 not_its i j n hand (Releasing r row) (Add c s) ne own = ne_eqb s j (λ q. ne (sym q ∙ own.1))
 not_its i j n hand (Releasing r row) (Leave c w s) ne own = ne_eqb s j (λ q. ne (sym q ∙ own.1))
 not_its i j n hand (ReleasingMany r row) (AddMany c u s) ne own = ne_eqb s j (λ q. ne (sym q ∙ own.2))
 not_its i j n hand (ReleasingMany r row) (Leave c w s) ne own = ne_eqb s j (λ q. ne (sym q ∙ own.1))
+not_its i j n hand (Acquiring a (Parked u row)) (Withdraw c w) ne own = ne_eqb w.seat j (λ q. ne (sym q ∙ ap (λ (x : WaitId). x.seat) own.1))
 not_its i j n hand p e ne own = absurd own
 
 silent : (i j : ℕ) (s t : SemaWorld) → j ≢ i → TellsOwn i s t → filter (is_own j) t.journal ≡ filter (is_own j) s.journal

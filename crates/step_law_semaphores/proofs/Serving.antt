@@ -4,9 +4,11 @@ use native.Mathlib.Decide.{ℕ_discrete}
 use Rattle.waiters.specs.declared.wait.WaitId.{WaitId}
 use Rattle.step_table.specs.declared.effect.Effect.{Effect}
 use Rattle.step_table.specs.declared.place.Acquire.{Acquire}
-use Rattle.step_table.specs.declared.place.AcquireRow.TheVariants.{P}
+use Rattle.step_table.specs.declared.place.AcquireRow.TheVariants.{Parked}
+use Rattle.step_table.specs.declared.place.ParkedRow.TheVariants.{P}
 use Rattle.step_table.specs.declared.place.ReleaseRow.TheVariants.{R9}
 use Rattle.step_table.specs.declared.place.Place.{Place}
+use Rattle.step_table.specs.declared.place.ParkedRow.{ParkedRow}
 use Rattle.step_table.specs.declared.place.Place.TheVariants.{Acquiring, Releasing}
 use Rattle.step_table.specs.World.{Layout, Words, SeatState, SemaWorld, put}
 use Rattle.step_table.specs.Steps as steps
@@ -88,7 +90,7 @@ counted_by {m = m} {s = s} {i = i} h inv (own {q = q} {e = e} line) k =
     let now = ap (λ z. on k i (gains (s.seats i).place z.place)) (put_here s.seats i q) in omega arith
 counted_by {m = m} {s = s} {i = i} h inv (post {c = c} {x = x} {w = w} {q = q} row) k =
     let v : Waiter m c w s = waiter_of_post m s i c x w h inv.placed row in
-    let grant = granted_now s.words.grants w.seat k x v.3 in
+    let grant = granted_now s.words.grants w.seat k x v.4 in
     let units = units_post row k i in
     let handed = units.0 in
     let gained = units.1 in
@@ -112,8 +114,8 @@ carries_most k (Releasing r R9) [] = omega arith
 carries_most k _ hand = omega arith
 
 -- a seat with a grant is parked
-granted_parked : (p : Place) (g : ℕ) → IsGrantOf p g → 0 < g → (a : Acquire) × (t : ℕ) × (p ≡ Acquiring a (P t))
-granted_parked (Acquiring a (P t)) g is some = (a, t, refl)
+granted_parked : (p : Place) (g : ℕ) → IsGrantOf p g → 0 < g → (a : Acquire) × (t : ℕ) × (row : ParkedRow) × (p ≡ Acquiring a (Parked t row))
+granted_parked (Acquiring a (Parked t row)) g is some = (a, t, row, refl)
 granted_parked _ g is some = absurd (omega arith)
 
 -- a grant of 2 is a grant
@@ -129,7 +131,7 @@ module _ (m : Layout) (s : SemaWorld) (inv : IsInvariant m s) where
       let at = carrying k (s.seats i).place (s.seats i).hand some in
       let w = at.0 in
       let v = in_a_hand m s inv.placed i w h at.2 in
-      (w, v.0.counter, at.1, at.2, (v.0, refl, ap (λ z. (s.seats z).place) (sym at.1) ∙ v.2))
+      (w, v.0.counter, at.1, at.2, (v.0, refl, v.2, ap (λ z. (s.seats z).place) (sym at.1) ∙ v.3))
 
   pub served_parked : (k : ℕ) → 0 < served m s k → (c turn : ℕ) × IsParked s k c turn
   served_parked k some = by (ℕ_discrete (carried m s k) 0)
@@ -139,7 +141,7 @@ module _ (m : Layout) (s : SemaWorld) (inv : IsInvariant m s) where
           let two = on_some (s.words.grants k) 2 1 (omega arith) in
           let grant = two.0 in
           let at = granted_parked (s.seats k).place (s.words.grants k) (inv.seats k).granted (omega arith) in
-          (at.0.counter, at.1, (at.0, refl, at.2))
+          (at.0.counter, at.1, (at.0, refl, at.2, at.3))
       by (no ne) =
           let seat = total_some m.seats (λ i. carries k (s.seats i).place (s.seats i).hand) (omega arith) in
           let at = its_wait k seat.0 seat.1 seat.2 in (at.1, at.0.turn, at.4)

@@ -8,10 +8,12 @@ use Rattle.step_table.specs.declared.entry.Entry.TheVariants.{Add, AddMany, Take
 use Rattle.step_table.specs.declared.effect.Effect.{Effect}
 use Rattle.step_table.specs.declared.effect.Effect.TheVariants.{Tells}
 use Rattle.step_table.specs.declared.place.Acquire.{Acquire}
-use Rattle.step_table.specs.declared.place.AcquireRow.TheVariants.{P}
+use Rattle.step_table.specs.declared.place.AcquireRow.TheVariants.{Parked}
+use Rattle.step_table.specs.declared.place.ParkedRow.TheVariants.{P}
 use Rattle.step_table.specs.declared.place.ReleaseRow.TheVariants.{R2, R3, R4, R5, R6, R7, R8, R9, R10}
 use Rattle.step_table.specs.declared.place.ManyRow.TheVariants.{M2, M3, M4, M5, M6, M7}
 use Rattle.step_table.specs.declared.place.Place.{Place}
+use Rattle.step_table.specs.declared.place.ParkedRow.{ParkedRow}
 use Rattle.step_table.specs.declared.place.Place.TheVariants.{Acquiring, Releasing, ReleasingMany}
 use Rattle.step_table.specs.World.{Layout, Words, SeatState, SemaWorld, put, journal_after}
 use Rattle.step_table.specs.Journal.{Budget, spent, budget_from, budget, Owes, takes, HasLeft, HasItsUnit}
@@ -22,6 +24,7 @@ use Rattle.step_table.proofs.Sums.{put_at, on_else, length_last}
 use Rattle.step_law_semaphores.proofs.Lines.{Line, a2_won, a6_won, a7, a11_won, r1, r2_some, r3, r4_some, r5, r6_plain, r6_handoff, r7_zero, r7_some, r8_won}
 use Rattle.step_law_semaphores.proofs.Lines.{r8_lost, decides}
 use Rattle.step_law_semaphores.proofs.Lines.{m1, m2_some, m3, m4_some, m5_more, m5_last, m6_some, Post, r9, r10, m7_last, m7_more, Step, own, post}
+use Rattle.step_law_semaphores.proofs.Lines.{begins_leaving, sleeps_on, stays_queued, d2_queued, d2_gone, d5}
 use Rattle.step_law_semaphores.proofs.Placing.{same_here, grants_else, Waiter, waiter_of_post, one_hand}
 use Rattle.step_law_semaphores.proofs.Parking.{one_parking, call_of, in_call, in_a_hand}
 use Rattle.step_law_semaphores.proofs.Telling.{entries, Counts, count_append}
@@ -158,9 +161,9 @@ story_more k (ReleasingMany r M5) hand g e j unspent spares granted story = (
 )
 story_more k (ReleasingMany r M6) hand g e j unspent spares granted story = all_left_more r.counter hand e j spares story
 story_more k (ReleasingMany r M7) hand g e j unspent spares granted story = all_left_more r.counter hand e j spares story
-story_more k (Acquiring a (P t)) hand (suc zero) e j unspent spares granted story =
+story_more k (Acquiring a (Parked t row)) hand (suc zero) e j unspent spares granted story =
     left_more a.counter (wait k t) e j (granted (omega arith)) story
-story_more k (Acquiring a (P t)) hand (suc (suc g)) e j unspent spares granted story =
+story_more k (Acquiring a (Parked t row)) hand (suc (suc g)) e j unspent spares granted story =
     unit_more a.counter (wait k t) e j (granted (omega arith)) story
 story_more k _ hand g e j unspent spares granted story = tt
 
@@ -173,9 +176,15 @@ all_left_last c i w (x ∷ hand) j all = (left_more c x (Tells (Leave c w i)) j 
 story_row : {m : Layout} {i : ℕ} {g h : Words} {p q : SeatState} {e : Effect} → Line m i g p q h e → (j : List Entry) → IsGrantOf p.place (g.grants i)
     → Story i p.place p.hand (g.grants i) j → Story i q.place q.hand (h.grants i) (journal_after e j)
 story_row {i = i} {g = g} {e = e} (a7 {a = a} {t = t}) j quiet story =
-    subst (λ x. Story i (Acquiring a (P t)) [] x (journal_after e j)) (sym quiet) tt
+    subst (λ x. Story i (Acquiring a (Parked t P)) [] x (journal_after e j)) (sym quiet) tt
 story_row {i = i} (r1 {r = r}) j quiet story = owes_new i r.counter j
 story_row decides j quiet story = story
+story_row begins_leaving j quiet story = story
+story_row sleeps_on j quiet story = story
+story_row stays_queued j quiet story = story
+story_row (d2_queued _ _) j quiet story = story
+story_row (d2_gone _) j quiet story = story
+story_row d5 j quiet story = story
 story_row r2_some j quiet story = story
 story_row (r3 _) j quiet story = story
 story_row (r4_some _) j quiet story = story
@@ -214,9 +223,9 @@ story_row _ j quiet story = tt
 abbrev Taker : ℕ → SeatState → Effect → ℕ → Type 0
 Taker i p e x =
     (takes x (entries e) ≡ 0)
-    ⊎ (((x ≡ i) × ((a : Acquire) (t : ℕ) → p.place ≡ Acquiring a (P t) → ⊥)) ⊎ ((w : WaitId) × (0 < times w p.hand) × (w.seat ≡ x)))
+    ⊎ (((x ≡ i) × ((a : Acquire) (t : ℕ) (row : ParkedRow) → p.place ≡ Acquiring a (Parked t row) → ⊥)) ⊎ ((w : WaitId) × (0 < times w p.hand) × (w.seat ≡ x)))
 
-own_take : (c i x : ℕ) (p : SeatState) → ((a : Acquire) (t : ℕ) → p.place ≡ Acquiring a (P t) → ⊥) → Taker i p (Tells (Take c i)) x
+own_take : (c i x : ℕ) (p : SeatState) → ((a : Acquire) (t : ℕ) (row : ParkedRow) → p.place ≡ Acquiring a (Parked t row) → ⊥) → Taker i p (Tells (Take c i)) x
 own_take c i x p apart = by (ℕ_discrete x i)
   where
     by : Dec (x ≡ i) → Taker i p (Tells (Take c i)) x
@@ -224,9 +233,9 @@ own_take c i x p apart = by (ℕ_discrete x i)
     by (no ne) = inl (let apart = on_else x i 1 ne in omega arith)
 
 taker : {m : Layout} {i : ℕ} {g h : Words} {p q : SeatState} {e : Effect} → Line m i g p q h e → (x : ℕ) → Taker i p e x
-taker {i = i} {p = p} (a2_won {a = a} _) x = own_take a.counter i x p (λ a t q. cc)
-taker {i = i} {p = p} (a6_won {a = a} _) x = own_take a.counter i x p (λ a t q. cc)
-taker {i = i} {p = p} (a11_won {a = a} _) x = own_take a.counter i x p (λ a t q. cc)
+taker {i = i} {p = p} (a2_won {a = a} _) x = own_take a.counter i x p (λ a t row q. cc)
+taker {i = i} {p = p} (a6_won {a = a} _) x = own_take a.counter i x p (λ a t row q. cc)
+taker {i = i} {p = p} (a11_won {a = a} _) x = own_take a.counter i x p (λ a t row q. cc)
 taker {i = i} {p = p} {e = e} (r8_won {w = w} _) x = by (ℕ_discrete x w.seat)
   where
     by : Dec (x ≡ w.seat) → Taker i p e x
@@ -247,12 +256,12 @@ spares_hands {m = m} {i = i} {e = e} s line placed in_range k hk ne w some = by 
 
     by : Taker i (s.seats i) e w.seat → takes w.seat (entries e) ≡ 0
     by (inl none) = none
-    by (inr (inl r)) = absurd (r.1 v.0 w.turn (ap (λ z. (s.seats z).place) (sym r.0) ∙ v.2))
+    by (inr (inl r)) = absurd (r.1 v.0 w.turn v.2 (ap (λ z. (s.seats z).place) (sym r.0) ∙ v.3))
     by (inr (inr r)) =
         let x = r.0 in
         let d = call_of m s placed i in
         let u = in_a_hand m s placed i x in_range r.1 in
-        let one = one_parking s x.seat w.seat d c x.turn w.turn r.2 (u.0, u.1, u.2) (v.0, v.1, v.2) in
+        let one = one_parking s x.seat w.seat d c x.turn w.turn r.2 (u.0, u.1, u.2, u.3) (v.0, v.1, v.2, v.3) in
         let here : 0 < hands c w (s.seats k) = subst (λ n. 0 < n) (sym (in_call m s placed k w)) some in
         let there : 0 < hands d x (s.seats i) = subst (λ n. 0 < n) (sym (in_call m s placed i x)) r.1 in
         let there_too = subst₂ (λ y z. 0 < hands y z (s.seats i)) one.0 (λ j. record { seat = r.2 j; turn = one.1 j }) there in
@@ -267,16 +276,16 @@ spares_granted {m = m} {i = i} {e = e} s line placed in_range k ne some = by (ta
     by (inl none) = none
     by (inr (inl r)) = absurd (ne r.0)
     by (inr (inr r)) =
-        let u = in_a_hand m s placed i r.0 in_range r.1 in let none = u.3 in let its_own = ap s.words.grants r.2 in absurd (omega arith)
+        let u = in_a_hand m s placed i r.0 in_range r.1 in let none = u.4 in let its_own = ap s.words.grants r.2 in absurd (omega arith)
 
 -- the story of the seat whose grant is stored
 post_story : {p q : SeatState} {c x : ℕ} {w : WaitId} → Post p q c w x
-    → (i g : ℕ) (a : Acquire) (hand : List WaitId) (j : List Entry) → a.counter ≡ c
-    → Story i p.place p.hand g j → Story w.seat (Acquiring a (P w.turn)) hand x j
-post_story {w = w} r9 i g a hand j here story = subst (λ c. HasItsUnit c w j) (sym here) story.0
-post_story {w = w} r10 i g a hand j here story = subst (λ c. HasLeft c w j) (sym here) story.0
-post_story {w = w} m7_last i g a hand j here story = subst (λ c. HasLeft c w j) (sym here) story.0
-post_story {w = w} m7_more i g a hand j here story = subst (λ c. HasLeft c w j) (sym here) story.0
+    → (i g : ℕ) (a : Acquire) (row : ParkedRow) (hand : List WaitId) (j : List Entry) → a.counter ≡ c
+    → Story i p.place p.hand g j → Story w.seat (Acquiring a (Parked w.turn row)) hand x j
+post_story {w = w} r9 i g a row hand j here story = subst (λ c. HasItsUnit c w j) (sym here) story.0
+post_story {w = w} r10 i g a row hand j here story = subst (λ c. HasLeft c w j) (sym here) story.0
+post_story {w = w} m7_last i g a row hand j here story = subst (λ c. HasLeft c w j) (sym here) story.0
+post_story {w = w} m7_more i g a row hand j here story = subst (λ c. HasLeft c w j) (sym here) story.0
 
 -- and of the seat that stores it
 own_story : {p q : SeatState} {c x : ℕ} {w : WaitId} → Post p q c w x → (i g after : ℕ) (j : List Entry)
@@ -319,7 +328,7 @@ stories_kept {m = m} {s = s} {i = i} in_range placed seats stories (post {c = c}
     here hk = own_story line i (s.words.grants i) (put s.words.grants w.seat x i) s.journal (stories i in_range)
 
     waiter : Story w.seat (s.seats w.seat).place (s.seats w.seat).hand x s.journal
-    waiter = rw v.2 (post_story line i (s.words.grants i) v.0 (s.seats w.seat).hand s.journal v.1 (stories i in_range))
+    waiter = rw v.3 (post_story line i (s.words.grants i) v.0 v.2 (s.seats w.seat).hand s.journal v.1 (stories i in_range))
 
     Tells_at : ℕ → ℕ → Type 0
     Tells_at k grant = Story k (s.seats k).place (s.seats k).hand grant s.journal

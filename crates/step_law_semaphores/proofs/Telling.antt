@@ -4,16 +4,17 @@ use Rattle.std.proofs.Common.{refl, sym, ap, ◌∙◌, subst, inl, inr, arith}
 use native.Mathlib.Decide.{ℕ_discrete}
 use Rattle.waiters.specs.declared.wait.WaitId.{WaitId}
 use Rattle.step_table.specs.declared.entry.Entry.{Entry}
-use Rattle.step_table.specs.declared.entry.Entry.TheVariants.{Queue, Leave, Take}
+use Rattle.step_table.specs.declared.entry.Entry.TheVariants.{Queue, Leave, Take, Withdraw}
 use Rattle.step_table.specs.declared.effect.Effect.{Effect}
 use Rattle.step_table.specs.declared.effect.Effect.TheVariants.{Tells}
-use Rattle.step_table.specs.World.{Layout, Words, SeatState, SemaWorld, put, insert_wait, journal_after}
-use Rattle.step_table.specs.Journal.{Plain, plain, plain_start, effect_of, replay, IsDefined, IsOwned, Follows, queued, left}
+use Rattle.step_table.specs.World.{Layout, Words, SeatState, SemaWorld, put, insert_wait, journal_after, without}
+use Rattle.step_table.specs.Journal.{Plain, plain, plain_start, effect_of, replay, IsDefined, IsOwned, Follows, queued, left, withdrawn}
 use Rattle.step_table.specs.Counting.{on, same, total, wait, times, IsWithin}
 use Rattle.step_law_semaphores.specs.Invariant.{SeatsKnown, StoriesTold, HandFits, Story, QueuedOnce, TurnsAreNew}
 use Rattle.step_table.proofs.Sums.{on_here, on_else, on_most, put_at, lists_change, times_insert, on_some}
+use Rattle.step_table.proofs.Withdrawing.{times_without, wait_times, without_same}
 use Rattle.step_law_semaphores.proofs.Lines.{Line, a2_won, a6_won, a7, a11_won, r1, r5, r8_won, Step, own, post}
-use Rattle.step_law_semaphores.proofs.Lines.{m1, m5_more, m5_last, Post, r9, r10, m7_last, m7_more}
+use Rattle.step_law_semaphores.proofs.Lines.{m1, m5_more, m5_last, Post, r9, r10, m7_last, m7_more, d3}
 
 -- the entry of an effect, as a journal
 abbrev pub entries : Effect → List Entry
@@ -52,6 +53,8 @@ tells {g = g} (r8_won {r = r} {n = n} e) = taken g r.counter n e
 tells {g = g} (r5 {r = r} {w = w} {l = l} first) = left_out g r.counter w l first
 tells {g = g} (m5_more {r = r} {w = w} {l = l} first _ _) = left_out g r.counter w l first
 tells {g = g} (m5_last {r = r} {w = w} {l = l} first _) = left_out g r.counter w l first
+tells {i = i} {g = g} (d3 {a = a} {u = u} stands) =
+    λ k. record { numbers = g.numbers; lists = put g.lists a.counter (sym (without_same (wait i u) (g.lists a.counter) stands) k) }
 tells _ = refl
 
 pub replays_kept : {m : Layout} {s : SemaWorld} {i : ℕ} {t : SemaWorld} → plain s.words ≡ replay (plain_start m.starts) s.journal → Step m s i t
@@ -100,6 +103,7 @@ may_tell a7 j fits story = (tt, tt)
 may_tell (r5 {l = l} first) j fits story = ((l, first), story)
 may_tell (m5_more {l = l} first _ _) j fits story = ((l, first), (story.0.0, (let owed = story.0.1 in omega arith)))
 may_tell (m5_last {l = l} first _) j fits story = ((l, first), (story.0.0, (let owed = story.0.1 in omega arith)))
+may_tell {i = i} {g = g} (d3 {a = a} {u = u} stands) j fits story = (wait_times (wait i u) (g.lists a.counter) stands, tt)
 may_tell _ j fits story = tt
 
 pub follows_kept : {m : Layout} {s : SemaWorld} {i : ℕ} {t : SemaWorld} → i < m.seats → plain s.words ≡ replay (plain_start m.starts) s.journal
@@ -139,15 +143,23 @@ left_counts w = (refl, by)
     by (Leave c x s) es = omega arith
     by _ es = omega arith
 
+withdrawn_counts : (w : WaitId) → Counts (withdrawn w)
+withdrawn_counts w = (refl, by)
+  where
+    by : (e : Entry) (es : List Entry) → withdrawn w (e ∷ es) ≡ withdrawn w (e ∷ []) + withdrawn w es
+    by (Withdraw c x) es = omega arith
+    by _ es = omega arith
+
 once_less : (m : Layout) (g : Words) (c : ℕ) (x : WaitId) (l : List WaitId) → c < m.counters → g.lists c ≡ x ∷ l → (w : WaitId)
     → total m.counters (λ d. times w (put g.lists c l d)) + same w x ≡ total m.counters (λ d. times w (g.lists d))
 once_less m g c x l within first w =
     let changed = lists_change (times w) m.counters c g.lists l within in
     let removed : times w (g.lists c) ≡ same w x + times w l = ap (times w) first in omega arith
 
--- a row moves a wait into a list when it queues it, and out when it leaves
+-- a row moves a wait into a list when it queues it, and out when it leaves or is withdrawn
 once_row : {m : Layout} {i : ℕ} {g h : Words} {p q : SeatState} {e : Effect} → Line m i g p q h e → IsWithin m.counters p.place → (w : WaitId)
-    → left w (entries e) + total m.counters (λ c. times w (h.lists c)) ≡ total m.counters (λ c. times w (g.lists c)) + queued w (entries e)
+    → left w (entries e) + withdrawn w (entries e) + total m.counters (λ c. times w (h.lists c))
+    ≡ total m.counters (λ c. times w (g.lists c)) + queued w (entries e)
 once_row {m = m} {i = i} {g = g} (a7 {a = a} {t = t}) within w =
     let l = g.lists a.counter in
     let changed = lists_change (times w) m.counters a.counter g.lists (insert_wait a.lifo (wait i t) l) within in
@@ -157,6 +169,10 @@ once_row {m = m} {g = g} (m5_more {r = r} {w = x} {l = l} first _ _) within w =
     let out = once_less m g r.counter x l within.0 first w in omega arith
 once_row {m = m} {g = g} (m5_last {r = r} {w = x} {l = l} first _) within w =
     let out = once_less m g r.counter x l within.0 first w in omega arith
+once_row {m = m} {i = i} {g = g} (d3 {a = a} {u = u} stands) within w =
+    let l = g.lists a.counter in
+    let changed = lists_change (times w) m.counters a.counter g.lists (without i l) within in
+    let removed = times_without w (wait i u) l stands in omega arith
 once_row _ within w = omega arith
 
 same_some : (w x : WaitId) → 0 < same w x → w ≡ x
@@ -185,6 +201,7 @@ once_kept {s = s} {i = i} seats new once (own {e = e} line) w =
     let before = once w in
     let moved = once_row line (seats i).within w in
     let leaves = count_after (left w) (left_counts w) e s.journal in
+    let gone = count_after (withdrawn w) (withdrawn_counts w) e s.journal in
     let queues = count_after (queued w) (queued_counts w) e s.journal in
     let most = new_row line s.journal (new i (s.seats i).turn (omega arith)) w before.1 in (omega arith, omega arith)
 once_kept seats new once (post line) w = once w

@@ -5,7 +5,8 @@ use Rattle.step_table.specs.World.{Layout, SemaWorld}
 use Rattle.step_table.specs.Steps.{Turn, Step, IsReached}
 use Rattle.step_law_semaphores.specs.Invariant.{IsInvariant}
 use Rattle.step_law_semaphores.specs.Entries.{IsNamed, TellsOwn}
-use Rattle.step_law_semaphores.specs.Balances.{AddedBySeats, TakenForSeats, Balanced, BalancedInAll}
+use Rattle.step_law_semaphores.specs.Balances.{AddedBySeats, WithdrawnBySeats, TakenForSeats, Balanced}
+use Rattle.step_law_semaphores.specs.Balances.{BalancedInAll}
 use Rattle.step_law_semaphores.specs.Holders.{LowersSome, GivesHeld, HolderAlone, LeavesOthers}
 use Rattle.step_law_semaphores.specs.Holders.{AllGrantParked}
 use Rattle.step_law_semaphores.specs.Holders.{WaitersNear, ChangesWords}
@@ -19,6 +20,7 @@ pub record TheAccounts : Type 0 where
   pub told : (m : Layout) (s t : SemaWorld) (i : ℕ) → i < m.seats → IsInvariant m s → Step m s i t
       → TellsOwn i s t
   pub added : (m : Layout) (s : SemaWorld) → IsReached m s → AddedBySeats m s
+  pub withdrawn : (m : Layout) (s : SemaWorld) → IsReached m s → WithdrawnBySeats m s
   pub taken : (m : Layout) (s : SemaWorld) → IsReached m s → TakenForSeats m s
   pub balanced : (m : Layout) (s : SemaWorld) → IsInvariant m s → Balanced m s
   pub balanced_in_all : (m : Layout) (s : SemaWorld) → IsReached m s → BalancedInAll m s
@@ -38,4 +40,4 @@ pub record TheAccounts : Type 0 where
   pub turns : (m : Layout) (s : SemaWorld) → IsReached m s → TurnsQueued s
   pub since : (m : Layout) (s : SemaWorld) → IsReached m s → TakesServed m s
   pub cleared : (m : Layout) (s : SemaWorld) → IsInvariant m s → AllRest m s → IsCleared m s
-  pub unwrapped : (m : Layout) (s : SemaWorld) → IsReached m s → IsSmall m s → IsUnwrapped m s
+  pub unwrapped : (m : Layout) (share : ℕ) (s : SemaWorld) → IsReached m s → IsSmall m share s → IsUnwrapped m s

@@ -1,11 +1,11 @@
 -- What was added and what was taken, by seats and by counters.
 use Rattle.std.specs.Prelude.{◌≡◌, ℕ, ◌+◌, List, [], ◌∷◌}
 use Rattle.step_table.specs.declared.entry.Entry.{Entry}
-use Rattle.step_table.specs.declared.entry.Entry.TheVariants.{Add, AddMany, Take}
+use Rattle.step_table.specs.declared.entry.Entry.TheVariants.{Add, AddMany, Take, Withdraw}
 use Rattle.step_table.specs.World.{Layout, SemaWorld}
 use Rattle.step_table.specs.Journal.{takes}
 use Rattle.step_table.specs.Counting.{on, total}
-use Rattle.step_law_semaphores.specs.Lawful.{added}
+use Rattle.step_law_semaphores.specs.Lawful.{added, withdrawals}
 
 -- how many units the seat k has added
 abbrev pub added_by : ℕ → List Entry → ℕ
@@ -33,9 +33,19 @@ taken [] = 0
 taken (Take c s ∷ es) = 1 + taken es
 taken (e ∷ es) = taken es
 
+-- how many waits the seat k has withdrawn
+abbrev pub withdrawn_by : ℕ → List Entry → ℕ
+withdrawn_by k [] = 0
+withdrawn_by k (Withdraw c w ∷ es) = on k w.seat 1 + withdrawn_by k es
+withdrawn_by k (e ∷ es) = withdrawn_by k es
+
 -- what was added is what the seats have added
 abbrev pub AddedBySeats : Layout → SemaWorld → Type 0
 AddedBySeats m s = added s.journal ≡ total m.seats (λ k. added_by k s.journal)
+
+-- what was withdrawn, the seats have withdrawn
+abbrev pub WithdrawnBySeats : Layout → SemaWorld → Type 0
+WithdrawnBySeats m s = withdrawals s.journal ≡ total m.seats (λ k. withdrawn_by k s.journal)
 
 -- what was taken was taken for the seats
 abbrev pub TakenForSeats : Layout → SemaWorld → Type 0

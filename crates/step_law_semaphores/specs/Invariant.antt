@@ -1,17 +1,18 @@
 -- The invariant of the rows: what each row keeps, and from which the lawful world follows.
-use Rattle.std.specs.Prelude.{◌≡◌, ℕ, zero, suc, ◌+◌, ◌-◌, ◌<◌, ◌≤◌, List, [], ◌∷◌, length}
+use Rattle.std.specs.Prelude.{◌≡◌, ℕ, zero, suc, ◌+◌, ◌-◌, ◌<◌, ◌≤◌, Some, List, [], ◌∷◌, length}
 use Rattle.waiters.specs.declared.wait.WaitId.{WaitId}
 use Rattle.step_table.specs.declared.entry.Entry.{Entry}
-use Rattle.step_table.specs.declared.place.AcquireRow.TheVariants.{A7, P, A10, A11}
+use Rattle.step_table.specs.declared.place.AcquireRow.TheVariants.{A7, Parked, A10, A11}
+use Rattle.step_table.specs.declared.place.ParkedRow.TheVariants.{D3}
 use Rattle.step_table.specs.declared.place.ReleaseRow.TheVariants.{R2, R3, R4, R5, R6, R7, R8, R9, R10}
 use Rattle.step_table.specs.declared.place.ManyRow.TheVariants.{M2, M3, M4, M5, M6, M7}
 use Rattle.step_table.specs.declared.place.Place.{Place}
 use Rattle.step_table.specs.declared.place.Place.TheVariants.{Acquiring, Releasing, ReleasingMany}
-use Rattle.step_table.specs.World.{Layout, SeatState, SemaWorld}
-use Rattle.step_table.specs.Journal.{plain, plain_start, replay, Follows, Owes, queued, left, HasLeft}
+use Rattle.step_table.specs.World.{Layout, SeatState, SemaWorld, wait_of}
+use Rattle.step_table.specs.Journal.{plain, plain_start, replay, Follows, Owes, queued, left, withdrawn, HasLeft}
 use Rattle.step_table.specs.Journal.{HasItsUnit}
 use Rattle.step_table.specs.Counting.{on, same, total, wait, times, counter_at, IsWithin}
-use Rattle.step_law_semaphores.specs.Lawful.{holds, raises, waits_of, IsGrantOf, added}
+use Rattle.step_law_semaphores.specs.Lawful.{holds, raises, waits_of, IsGrantOf, added, withdrawals}
 
 -- a lock word counts the seats that hold the lock, of which there is at most one
 abbrev pub LocksOwned : Layout → SemaWorld → Type 0
@@ -31,7 +32,7 @@ commits c _ = 0
 
 -- what flies for c, less the units for which a release has found no wait
 abbrev pub helps_at : ℕ → Place → List WaitId → ℕ → ℕ
-helps_at c (Acquiring a (P turn)) hand (suc zero) = on a.counter c 1
+helps_at c (Acquiring a (Parked turn row)) hand (suc zero) = on a.counter c 1
 helps_at c (Acquiring a A10) hand grant = on a.counter c 1
 helps_at c (Acquiring a (A11 left)) hand grant = on a.counter c 1
 helps_at c (Releasing r R2) hand grant = on r.counter c 1
@@ -69,7 +70,7 @@ hands c w seat = hands_at c w (counter_at seat.place) seat.hand
 
 -- 1 where the seat k is parked on c with the wait w and wasn't granted
 abbrev pub awaits : ℕ → WaitId → ℕ → Place → ℕ → ℕ
-awaits c w k (Acquiring a (P turn)) zero = on a.counter c (same w (wait k turn))
+awaits c w k (Acquiring a (Parked turn row)) zero = on a.counter c (same w (wait k turn))
 awaits c w k _ grant = 0
 
 -- a wait stands in lists and hands as often as a parked seat awaits it
@@ -81,7 +82,7 @@ WaitsPlaced m s =
 
 -- 1 where the seat is parked and wasn't granted
 abbrev pub asleep : Place → ℕ → ℕ
-asleep (Acquiring a (P turn)) zero = 1
+asleep (Acquiring a (Parked turn row)) zero = 1
 asleep _ grant = 0
 
 -- lists and hands hold as many waits as there are sleepers
@@ -102,12 +103,12 @@ owing (ReleasingMany r M4) in_hand = r.units
 owing (ReleasingMany r M5) in_hand = r.units - in_hand
 owing _ in_hand = 0
 
--- there are few turns: each queued wait either stands in a list, or has left for a unit that was added
+-- there are few turns: each queued wait stands in a list, has left for a unit that was added, or was withdrawn
 abbrev pub FewTurns : Layout → SemaWorld → Type 0
 FewTurns m s =
     total m.seats (λ k. (s.seats k).turn) + total m.seats
     (λ k. owing (s.seats k).place (length (s.seats k).hand))
-    ≤ added s.journal + total m.counters (λ c. length (s.words.lists c))
+    ≤ added s.journal + withdrawals s.journal + total m.counters (λ c. length (s.words.lists c))
 
 -- how many waits a seat has in hand
 abbrev pub HandFits : Place → ℕ → Type 0
@@ -131,11 +132,12 @@ pub record IsSeat (counters : ℕ) (seat : SeatState) (grant : ℕ) : Type 0 whe
 abbrev pub SeatsKnown : Layout → SemaWorld → Type 0
 SeatsKnown m s = (k : ℕ) → IsSeat m.counters (s.seats k) (s.words.grants k)
 
--- the seat that is about to take out a wait has one to take
-abbrev pub Finds : (ℕ → List WaitId) → Place → Type 0
-Finds lists (Releasing r R5) = 0 < length (lists r.counter)
-Finds lists (ReleasingMany r M5) = 0 < length (lists r.counter)
-Finds lists _ = Unit {0}
+-- the seat k, where it is about to take out a wait, has one to take; where it is its own, that one
+abbrev pub Finds : ℕ → (ℕ → List WaitId) → Place → Type 0
+Finds k lists (Releasing r R5) = 0 < length (lists r.counter)
+Finds k lists (ReleasingMany r M5) = 0 < length (lists r.counter)
+Finds k lists (Acquiring a (Parked turn D3)) = wait_of k (lists a.counter) ≡ Some (wait k turn)
+Finds k lists _ = Unit {0}
 
 -- each wait in the hand has left c, and no unit was taken for it since
 abbrev pub AllLeft : ℕ → List WaitId → List Entry → Type 0
@@ -164,19 +166,20 @@ Story k (ReleasingMany r M5) hand grant journal =
     Owes k r.counter (r.units - length hand) journal × AllLeft r.counter hand journal
 Story k (ReleasingMany r M6) hand grant journal = AllLeft r.counter hand journal
 Story k (ReleasingMany r M7) hand grant journal = AllLeft r.counter hand journal
-Story k (Acquiring a (P turn)) hand (suc zero) journal = HasLeft a.counter (wait k turn) journal
-Story k (Acquiring a (P turn)) hand (suc (suc grant)) journal = HasItsUnit a.counter (wait k turn) journal
+Story k (Acquiring a (Parked turn row)) hand (suc zero) journal = HasLeft a.counter (wait k turn) journal
+Story k (Acquiring a (Parked turn row)) hand (suc (suc grant)) journal = HasItsUnit a.counter (wait k turn) journal
 Story k _ hand grant journal = Unit {0}
 
 abbrev pub StoriesTold : Layout → SemaWorld → Type 0
 StoriesTold m s =
     (k : ℕ) → k < m.seats → Story k (s.seats k).place (s.seats k).hand (s.words.grants k) s.journal
 
--- a wait is queued as often as it has left and stands in a list, and at most once
+-- a wait is queued as often as it has left, was withdrawn and stands in a list, and at most once
 abbrev pub QueuedOnce : Layout → SemaWorld → Type 0
 QueuedOnce m s =
     (w : WaitId)
-    → (left w s.journal + total m.counters (λ c. times w (s.words.lists c)) ≡ queued w s.journal)
+    → (left w s.journal + withdrawn w s.journal + total m.counters (λ c. times w (s.words.lists c))
+    ≡ queued w s.journal)
     × (queued w s.journal ≤ 1)
 
 -- later turns were not queued
@@ -192,7 +195,7 @@ pub record IsInvariant (m : Layout) (s : SemaWorld) : Type 0 where
   pub sleepers : SleepersCounted m s
   pub turns : FewTurns m s
   pub seats : SeatsKnown m s
-  pub finds : (k : ℕ) → k < m.seats → Finds s.words.lists (s.seats k).place
+  pub finds : (k : ℕ) → k < m.seats → Finds k s.words.lists (s.seats k).place
   pub replays : plain s.words ≡ replay (plain_start m.starts) s.journal
   pub follows : Follows (plain_start m.starts) s.journal
   pub once : QueuedOnce m s

@@ -2,9 +2,12 @@
 use Rattle.std.specs.Prelude.{◌≡◌, ℕ, zero, suc, ◌+◌, ◌<◌, ◌≤◌, ◌≢◌, ◌⊎◌, List, [], ◌∷◌, length}
 use Rattle.waiters.specs.declared.wait.WaitId.{WaitId}
 use Rattle.step_table.specs.declared.entry.Entry.{Entry}
-use Rattle.step_table.specs.declared.entry.Entry.TheVariants.{Add, AddMany}
+use Rattle.step_table.specs.declared.entry.Entry.TheVariants.{Add, AddMany, Withdraw}
 use Rattle.step_table.specs.declared.place.Acquire.{Acquire}
-use Rattle.step_table.specs.declared.place.AcquireRow.TheVariants.{A4, A5, A6, A7, A8, A9, P, A10, A11}
+use Rattle.step_table.specs.declared.place.AcquireRow.TheVariants.{A4, A5, A6, A7, A8, A9, A10, A11, D4}
+use Rattle.step_table.specs.declared.place.AcquireRow.TheVariants.{Parked}
+use Rattle.step_table.specs.declared.place.ParkedRow.{ParkedRow}
+use Rattle.step_table.specs.declared.place.ParkedRow.TheVariants.{P, D3, D5}
 use Rattle.step_table.specs.declared.place.ReleaseRow.TheVariants.{R1, R4, R5, R6, R9}
 use Rattle.step_table.specs.declared.place.ManyRow.TheVariants.{M1, M4, M5, M6, M7}
 use Rattle.step_table.specs.declared.place.Place.{Place}
@@ -21,6 +24,9 @@ holds root r (Acquiring a (A6 left)) = on (root a.counter) r 1
 holds root r (Acquiring a A7) = on (root a.counter) r 1
 holds root r (Acquiring a A8) = on (root a.counter) r 1
 holds root r (Acquiring a A9) = on (root a.counter) r 1
+holds root r (Acquiring a (Parked turn D3)) = on (root a.counter) r 1
+holds root r (Acquiring a (Parked turn D5)) = on (root a.counter) r 1
+holds root r (Acquiring a D4) = on (root a.counter) r 1
 holds root r (Releasing q R4) = on (root q.counter) r 1
 holds root r (Releasing q R5) = on (root q.counter) r 1
 holds root r (Releasing q R6) = on (root q.counter) r 1
@@ -42,7 +48,7 @@ raises root r _ = 0
 -- all its units until it ends or gives the lock back, and then with the waits in its hand; a woken wait flies
 -- until it takes a unit or reads 0
 abbrev pub flies : ℕ → Place → ℕ → ℕ → ℕ
-flies c (Acquiring a (P turn)) in_hand (suc zero) = on a.counter c 1
+flies c (Acquiring a (Parked turn row)) in_hand (suc zero) = on a.counter c 1
 flies c (Acquiring a A10) in_hand grant = on a.counter c 1
 flies c (Acquiring a (A11 left)) in_hand grant = on a.counter c 1
 flies c (Releasing r R1) in_hand grant = 0
@@ -64,9 +70,18 @@ waits_of m r g = total m.counters (λ c. on (m.root c) r (length (g.lists c)))
 abbrev pub in_hand : Layout → SemaWorld → WaitId → ℕ
 in_hand m s w = total m.seats (λ k. times w (s.seats k).hand)
 
--- the seat k is parked on c with its wait of this turn
+-- the seat k is parked on c with its wait of this turn: it sleeps, or is about to give up
 abbrev pub IsParked : SemaWorld → ℕ → ℕ → ℕ → Type 0
-IsParked s k c turn = (a : Acquire) × (a.counter ≡ c) × ((s.seats k).place ≡ Acquiring a (P turn))
+IsParked s k c turn =
+    (a : Acquire) × (a.counter ≡ c) × (row : ParkedRow) × ((s.seats k).place ≡ Acquiring a (Parked turn row))
+
+-- it sleeps: it has not begun to give up, or has found its wait in a hand
+abbrev pub Sleeps : SemaWorld → ℕ → ℕ → ℕ → Type 0
+Sleeps s k c turn = (a : Acquire) × (a.counter ≡ c) × ((s.seats k).place ≡ Acquiring a (Parked turn P))
+
+-- it has found its wait queued, and is about to take it out
+abbrev pub Withdraws : SemaWorld → ℕ → ℕ → ℕ → Type 0
+Withdraws s k c turn = (a : Acquire) × (a.counter ≡ c) × ((s.seats k).place ≡ Acquiring a (Parked turn D3))
 
 -- the seat k has read 0 at c under the lock, and is about to queue its wait
 abbrev pub IsCommitted : SemaWorld → ℕ → ℕ → Type 0
@@ -102,6 +117,11 @@ ParkedOnce m s =
     → (times (wait k turn) (s.words.lists c) + in_hand m s (wait k turn) + granted (s.words.grants k) ≡ 1)
     × ((d : ℕ) → d ≢ c → times (wait k turn) (s.words.lists d) ≡ 0)
 
+-- a wait that its seat is about to take out is queued
+abbrev pub WithdrawsQueued : Layout → SemaWorld → Type 0
+WithdrawsQueued m s =
+    (k c turn : ℕ) → k < m.seats → Withdraws s k c turn → times (wait k turn) (s.words.lists c) ≡ 1
+
 -- the seat's call is a release of c, of one unit or of many
 abbrev pub IsReleasing : Place → ℕ → Type 0
 IsReleasing (Releasing r row) c = r.counter ≡ c
@@ -116,9 +136,14 @@ EachIsParked m s =
     × ((k : ℕ) (w : WaitId) → k < m.seats → 0 < times w (s.seats k).hand
     → (w.seat < m.seats) × (c : ℕ) × IsReleasing (s.seats k).place c × IsParked s w.seat c w.turn)
 
+-- the highest grant that a parked seat may find: one that has found its wait queued finds none
+abbrev pub most_granted : ParkedRow → ℕ
+most_granted D3 = 0
+most_granted row = 2
+
 -- a seat that isn't parked has no grant, and a grant is at most 2
 abbrev pub IsGrantOf : Place → ℕ → Type 0
-IsGrantOf (Acquiring a (P turn)) grant = grant ≤ 2
+IsGrantOf (Acquiring a (Parked turn row)) grant = grant ≤ most_granted row
 IsGrantOf _ grant = grant ≡ 0
 
 -- a grant of 2 has a unit of its own, taken after the wait left
@@ -135,12 +160,18 @@ added (Add c s ∷ es) = 1 + added es
 added (AddMany c n s ∷ es) = n + added es
 added (e ∷ es) = added es
 
+-- how many waits were withdrawn in all
+abbrev pub withdrawals : List Entry → ℕ
+withdrawals [] = 0
+withdrawals (Withdraw c w ∷ es) = 1 + withdrawals es
+withdrawals (e ∷ es) = withdrawals es
+
 -- so no word outgrows its bound
 abbrev pub AllBounded : Layout → SemaWorld → Type 0
 AllBounded m s =
     ((c : ℕ) → s.words.numbers c ≤ m.starts c + added s.journal)
     × ((r : ℕ) → (s.words.locks r ≤ 1) × (s.words.waiters r ≤ m.seats))
-    × ((k : ℕ) → k < m.seats → (s.seats k).turn ≤ added s.journal + m.seats)
+    × ((k : ℕ) → k < m.seats → (s.seats k).turn ≤ added s.journal + withdrawals s.journal + m.seats)
 
 -- each seat is at rest, or its call is on a counter that is there; and a release of many is of 1 to 256 units
 abbrev pub CallsWithin : Layout → SemaWorld → Type 0
@@ -154,6 +185,7 @@ pub record IsLawfulWorld (m : Layout) (s : SemaWorld) : Type 0 where
   pub units : NoLostWakeUp m s
   pub once : ParkedOnce m s
   pub parked : EachIsParked m s
+  pub withdraws : WithdrawsQueued m s
   pub grants : GrantsHeld m s
   pub bounded : AllBounded m s
   pub within : CallsWithin m s

@@ -3,7 +3,7 @@ use Rattle.std.specs.Prelude.{◌≡◌, ◌≢◌, ℕ, ◌<◌, Bool, false, e
 use Rattle.step_table.specs.declared.effect.Effect.{Effect}
 use Rattle.step_table.specs.declared.effect.Effect.TheVariants.{Tells}
 use Rattle.step_table.specs.declared.entry.Entry.{Entry}
-use Rattle.step_table.specs.declared.entry.Entry.TheVariants.{Add, AddMany, Queue, Leave}
+use Rattle.step_table.specs.declared.entry.Entry.TheVariants.{Add, AddMany, Queue, Leave, Withdraw}
 use Rattle.step_table.specs.declared.place.Place.{Place}
 use Rattle.step_table.specs.declared.word.Word.{Word}
 use Rattle.step_table.specs.declared.word.Word.TheVariants.{Counter}
@@ -27,6 +27,7 @@ is_own i (Add c s) = eqb s i
 is_own i (AddMany c n s) = eqb s i
 is_own i (Queue c w lifo) = eqb w.seat i
 is_own i (Leave c w s) = eqb s i
+is_own i (Withdraw c w) = eqb w.seat i
 is_own i _ = false
 
 -- semaphores, in reached worlds

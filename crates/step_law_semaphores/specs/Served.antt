@@ -5,7 +5,7 @@ use Rattle.step_table.specs.declared.entry.Entry.{Entry}
 use Rattle.step_table.specs.declared.entry.Entry.TheVariants.{Queue}
 use Rattle.step_table.specs.declared.place.Acquire.{Acquire}
 use Rattle.step_table.specs.declared.place.AcquireRow.{AcquireRow}
-use Rattle.step_table.specs.declared.place.AcquireRow.TheVariants.{A2, A6, A8, A9, P, A11}
+use Rattle.step_table.specs.declared.place.AcquireRow.TheVariants.{A2, A6, A8, A9, Parked, A11, D4}
 use Rattle.step_table.specs.declared.place.ReleaseRow.TheVariants.{R9}
 use Rattle.step_table.specs.declared.place.Place.{Place}
 use Rattle.step_table.specs.declared.place.Place.TheVariants.{Rest, Acquiring, Releasing}
@@ -33,7 +33,7 @@ served m s k = on (s.words.grants k) 2 1 + carried m s k
 abbrev pub gains : Place → Place → ℕ
 gains (Acquiring a (A2 left)) Rest = 1
 gains (Acquiring a (A6 left)) (Acquiring b A8) = 1
-gains (Acquiring a (P turn)) Rest = 1
+gains (Acquiring a (Parked turn row)) Rest = 1
 gains (Acquiring a (A11 left)) Rest = 1
 gains _ _ = 0
 
@@ -56,17 +56,22 @@ keeps (Acquiring a A8) = 1
 keeps (Acquiring a A9) = 1
 keeps _ = 0
 
+-- 1 where a seat has withdrawn its wait
+abbrev pub has_withdrawn : Place → ℕ
+has_withdrawn (Acquiring a D4) = 1
+has_withdrawn _ = 0
+
 -- 1 where a seat rests
 abbrev pub rests : Place → ℕ
 rests Rest = 1
 rests _ = 0
 
--- a row of an acquire leads to rest exactly where the seat comes by a unit, or has kept one: no acquire ends
--- without
+-- a row of an acquire leads to rest exactly where the seat comes by a unit, has kept one, or has withdrawn its
+-- wait: no acquire ends otherwise
 abbrev pub EndsWithUnit : ℕ → SemaWorld → SemaWorld → Type 0
 EndsWithUnit i s t =
     (a : Acquire) (row : AcquireRow) → (s.seats i).place ≡ Acquiring a row
-    → gains (s.seats i).place (t.seats i).place + keeps (s.seats i).place
+    → gains (s.seats i).place (t.seats i).place + keeps (s.seats i).place + has_withdrawn (s.seats i).place
     ≡ keeps (t.seats i).place + rests (t.seats i).place
 
 -- how many waits of the seat k were queued

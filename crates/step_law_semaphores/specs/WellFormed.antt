@@ -12,5 +12,5 @@ pub record IsWellFormedWorld (m : Layout) (s : SemaWorld) : Type 0 where
   pub sleepers : SleepersCounted m s
   pub turns : FewTurns m s
   pub seats : SeatsKnown m s
-  pub finds : (k : ℕ) → k < m.seats → Finds s.words.lists (s.seats k).place
+  pub finds : (k : ℕ) → k < m.seats → Finds k s.words.lists (s.seats k).place
   pub replays : plain s.words ≡ replay (plain_start m.starts) s.journal

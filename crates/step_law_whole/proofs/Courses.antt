@@ -44,6 +44,17 @@ module _ {World : Type 0} (Row : World → ℕ → World → Type 0) (Chosen : W
   course_keeps Rule kept held (row i in_range before x) rule = kept _ _ i in_range (course_keeps Rule kept held before rule) x
   course_keeps Rule kept held (choice i in_range before x) rule = held _ _ i _ in_range (course_keeps Rule kept held before rule) x
 
+  -- what holds at its end, and before each row and each choice where it holds after it, holds all along the course
+  pub course_within : (Has : World → Type 0) → ((s t : World) (i : ℕ) → Row s i t → Has t → Has s)
+      → ((s t : World) (i cost : ℕ) → Chosen s i cost t → Has t → Has s)
+      → {s t : World} {rows costs : ℕ} → Course Row Chosen seats s rows costs t → Has t
+      → Course (λ s i t. Row s i t × Has s) Chosen seats s rows costs t
+  course_within Has back held none has = none
+  course_within Has back held (row i in_range before x) has =
+      row i in_range (course_within Has back held before (back _ _ i x has)) (x, back _ _ i x has)
+  course_within Has back held (choice i in_range before x) has =
+      choice i in_range (course_within Has back held before (held _ _ i _ x has)) x
+
   module _ (Rule : World → Type 0) (weight : World → ℕ)
       (kept : (s t : World) (i : ℕ) → i < seats → Rule s → Row s i t → Rule t)
       (held : (s t : World) (i cost : ℕ) → i < seats → Rule s → Chosen s i cost t → Rule t)

@@ -5,7 +5,8 @@ use mathlib.Core.Path.{fun_ext}
 use native.Mathlib.Decide.{ℕ_discrete}
 use Rattle.step_table.specs.declared.place.Acquire.{Acquire}
 use Rattle.step_table.specs.declared.place.Release.{Release}
-use Rattle.step_table.specs.declared.place.AcquireRow.TheVariants.{A1, P, A10}
+use Rattle.step_table.specs.declared.place.AcquireRow.TheVariants.{A1, Parked, A10}
+use Rattle.step_table.specs.declared.place.ParkedRow.TheVariants.{P}
 use Rattle.step_table.specs.declared.place.ReleaseRow.TheVariants.{R1, R4}
 use Rattle.step_table.specs.declared.place.Place.{Place}
 use Rattle.step_table.specs.declared.place.Place.TheVariants.{Rest, Acquiring, Releasing}
@@ -100,7 +101,7 @@ parked =
         grants = λ k. 0;
         lists = put (λ c. []) 0 (wait 0 0 ∷ []);
       };
-      seats = put (λ k. idle) 0 (record { place = Acquiring on_it (P 0); turn = 1; hand = [] });
+      seats = put (λ k. idle) 0 (record { place = Acquiring on_it (Parked 0 P); turn = 1; hand = [] });
       journal = Queue 0 (wait 0 0) false ∷ [];
     }
 

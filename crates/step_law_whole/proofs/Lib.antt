@@ -1,7 +1,9 @@
 pub mod CoreJournals
 pub mod CoreRows
+pub mod ListLeads
 pub mod CoreStanding
 pub mod CoreCalling
+pub mod GroupBeside
 pub mod CoreKeeping
 pub mod CoreEnding
 pub mod RunChanges
@@ -9,6 +11,7 @@ pub mod RunUnits
 pub mod RunTickets
 pub mod RunGroups
 pub mod RunRows
+pub mod ListReach
 pub mod RunCalls
 pub mod RunBeginning
 pub mod RunStarting
@@ -18,12 +21,15 @@ pub mod GroupPhases
 pub mod GroupWords
 pub mod GroupSeats
 pub mod GroupUnits
+pub mod LeaverRows
 pub mod GroupCounters
 pub mod GroupAfter
+pub mod GroupLeaving
 pub mod GroupLeads
 pub mod GroupTurns
 pub mod GroupSteps
 pub mod GroupStarts
+pub mod GroupReleasing
 pub mod GroupRuns
 pub mod Naming
 pub mod RunEarly
@@ -37,6 +43,8 @@ pub mod SemaEnding
 pub mod ListWeights
 pub mod ListEnding
 pub mod CoreWeights
+pub mod WaitsFitting
+pub mod GroupFalling
 pub mod CoreFalling
 pub mod WaitsCounting
 pub mod CoreAtEnd

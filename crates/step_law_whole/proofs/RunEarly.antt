@@ -5,27 +5,30 @@ use Rattle.std.proofs.Math.ListN.{get_or-eq_default}
 use native.Mathlib.Decide.{ℕ_discrete}
 use Rattle.step_table.specs.declared.list_place.ListPlace.TheVariants.{Rest, Waiting}
 use Rattle.step_table.specs.declared.list_place.Ticket.{Ticket}
-use Rattle.step_table.specs.declared.list_place.WaitRow.TheVariants.{P}
+use Rattle.step_table.specs.declared.list_place.ListParkedRow.TheVariants.{P}
+use Rattle.step_table.specs.declared.list_place.WaitRow.TheVariants.{Parked}
 use Rattle.step_table.specs.declared.parts.Parts.{Parts}
 use Rattle.step_table.specs.Counting.{total}
-use Rattle.step_table.specs.ListWorld.{ListWorld}
+use Rattle.step_table.specs.ListWorld.{Numbers, ListWorld}
 use Rattle.step_table.specs.ListTable.{wait_for}
-use Rattle.step_law_lists.specs.ListLawful.{told, times, NoneLate}
+use Rattle.step_law_lists.specs.ListLawful.{told, times, NoneLate, IsInReach}
 use Rattle.step_law_lists.specs.ListInvariant.{IsListInvariant}
 use Rattle.step_law_lists.specs.ListLaw.{IsListAtRest}
 use Rattle.step_table.specs.Core.{Core}
 use Rattle.step_table.specs.CoreSteps.{IsCoreEnd}
-use Rattle.step_law_whole.specs.CoreLaw.{IsCoreAtRest}
+use Rattle.step_law_whole.specs.CoreLaw.{AllInReach, IsCoreAtRest}
 use Rattle.step_table.specs.Scenario.{IsScript}
 use Rattle.step_table.specs.Run.{Run, layout}
 use Rattle.step_law_whole.specs.RunInvariant.{calls_of, IsSoundRunOf, IsSoundRun, IsScenario}
 use Rattle.step_law_whole.specs.RunPromises.{IsListQuiet, IsListOfRun, IsLawfulRun}
 use Rattle.step_law_lists.proofs.ListKeeping.{list_reached}
-use Rattle.step_law_lists.proofs.ListLawfulness.{list_lawful, handed_told}
+use Rattle.step_law_lists.proofs.ListLawfulness.{list_lawful}
 use Rattle.step_law_lists.proofs.ListEarly.{list_early}
 use Rattle.step_law_lists.proofs.ListEnding.{list_ends}
 use Rattle.step_law_lists.proofs.ListCalling.{list_calls, list_own, list_closed}
 use Rattle.step_law_lists.proofs.ListGranting.{each_grants, rows_grant}
+use Rattle.step_law_lists.proofs.ListGoing.{each_goes, rows_go}
+use Rattle.step_law_whole.proofs.ListReach.{numbers_told}
 use Rattle.step_law_lists.proofs.ListPromises.{the_list_law}
 use Rattle.step_law_whole.proofs.CoreEnding.{list_at_rest, core_lawful, core_ends}
 use Rattle.step_table.proofs.SumsOfSums.{total_most}
@@ -52,34 +55,39 @@ module _ {IsKeptSo : Core → Type 0} (parts : Parts) (scenario : IsScenario par
   handed_few l = let begun = all_begun_few in let handed = sound.handed l in omega arith
 
 module _ (parts : Parts) (scenario : IsScenario parts) (run : Run) (sound : IsSoundRun parts run) where
-  few_seats : length parts.calls ≤ 9223372036854775808
-  few_seats = let few = scenario.limits.seats in omega arith
-
-  invariant : (l : ℕ) → IsListInvariant ((layout parts).firsts l) (length parts.calls) (run.core.lists l)
-  invariant l = list_reached ((layout parts).firsts l) (length parts.calls) (run.core.lists l) few_seats (sound.core.lists l)
-
   told_few : (l : ℕ) → (told (run.core.lists l).journal).handed ≤ 512
   told_few l =
-      let is = handed_told ((layout parts).firsts l) (length parts.calls) (run.core.lists l) (invariant l) in
+      let is = ap (λ (n : Numbers). n.handed) (numbers_told ((layout parts).firsts l) (length parts.calls) (sound.core.lists l)) in
       let few = handed_few parts scenario run sound l in omega arith
 
-  none_late : (l : ℕ) → NoneLate (length parts.calls) (run.core.lists l)
-  none_late l =
-      list_early ((layout parts).firsts l) (length parts.calls) (run.core.lists l) few_seats (sound.core.lists l)
+  early : (l : ℕ) → NoneLate (length parts.calls) (run.core.lists l) × IsInReach (run.core.lists l).journal
+  early l =
+      list_early ((layout parts).firsts l) (length parts.calls) (run.core.lists l) (sound.core.lists l)
       (let few = told_few l in omega arith)
+
+  none_late : (l : ℕ) → NoneLate (length parts.calls) (run.core.lists l)
+  none_late l = (early l).0
+
+  pub in_reach : AllInReach run.core
+  in_reach l = (early l).1
+
+  pub list_kept_so : (l : ℕ) → IsListInvariant ((layout parts).firsts l) (length parts.calls) (run.core.lists l)
+  list_kept_so l = list_reached ((layout parts).firsts l) (length parts.calls) (run.core.lists l) (in_reach l) (sound.core.lists l)
 
   list_of_run : (l : ℕ) → IsListOfRun ((layout parts).firsts l) (length parts.calls) (run.core.lists l)
   list_of_run l = record {
-    lawful = list_lawful first seats s (invariant l);
+    lawful = list_lawful first seats s (list_kept_so l);
     few = told_few l;
     early = none_late l;
-    queued = (list_lawful first seats s (invariant l)).queued (none_late l);
-    own = list_own first seats s few_seats (invariant l) (none_late l);
-    granted = each_grants first seats few_seats (sound.core.lists l);
-    grants = rows_grant first seats few_seats s (sound.core.lists l);
-    calls = list_calls first seats s few_seats (invariant l);
-    ends = λ ended. quiet (list_ends first seats s (invariant l) ended);
-    closed = list_closed first seats s (invariant l);
+    queued = (list_lawful first seats s (list_kept_so l)).queued (none_late l);
+    own = list_own first seats s (in_reach l) (list_kept_so l) (none_late l);
+    granted = each_grants first seats (in_reach l) (sound.core.lists l);
+    grants = rows_grant first seats s (in_reach l) (sound.core.lists l);
+    gone = each_goes first seats (in_reach l) (sound.core.lists l);
+    goes = rows_go first seats s (in_reach l) (sound.core.lists l);
+    calls = list_calls first seats s (in_reach l) (list_kept_so l);
+    ends = λ ended. quiet (list_ends first seats s (list_kept_so l) ended);
+    closed = list_closed first seats s (list_kept_so l);
   }
     where
       first : ℕ
@@ -92,11 +100,11 @@ module _ (parts : Parts) (scenario : IsScenario parts) (run : Run) (sound : IsSo
       s = run.core.lists l
 
       by : (k : ℕ) → ((s.seats k).place ≡ Rest)
-          ⊎ ((t : Ticket) × ((s.seats k).place ≡ Waiting t P) × (s.words.grants k ≡ 0) × (0 < times (wait_for k t) s.words.queue)
-          × (NoneLate seats s → (told s.journal).granted ≤ t.number))
+          ⊎ ((t : Ticket) × ((s.seats k).place ≡ Waiting t (Parked P)) × (s.words.grants k ≡ 0) × (0 < times (wait_for k t) s.words.queue)
+          × (NoneLate seats s → (told s.journal).passed ≤ t.number))
           → ((s.seats k).place ≡ Rest)
-          ⊎ ((t : Ticket) × ((s.seats k).place ≡ Waiting t P) × (s.words.grants k ≡ 0) × (0 < times (wait_for k t) s.words.queue)
-          × ((told s.journal).granted ≤ t.number))
+          ⊎ ((t : Ticket) × ((s.seats k).place ≡ Waiting t (Parked P)) × (s.words.grants k ≡ 0) × (0 < times (wait_for k t) s.words.queue)
+          × ((told s.journal).passed ≤ t.number))
       by k (inl e) = inl e
       by k (inr e) = inr (e.0, e.1, e.2, e.3, e.4 (none_late l))
 
@@ -105,9 +113,9 @@ module _ (parts : Parts) (scenario : IsScenario parts) (run : Run) (sound : IsSo
 
   pub lawful_run : IsLawfulRun (layout parts) run.core
   lawful_run = record {
-    whole = core_lawful the_list_law.reached (layout parts) run.core few_seats sound.core;
+    whole = core_lawful the_list_law.reached (layout parts) run.core in_reach sound.core;
     lists = list_of_run;
   }
 
   pub run_ends : IsCoreEnd (layout parts) run.core → IsCoreAtRest (layout parts) run.core
-  run_ends = core_ends list_at_rest (layout parts) run.core few_seats sound.core (λ l. let few = told_few l in omega arith)
+  run_ends = core_ends list_at_rest (layout parts) run.core sound.core (λ l. let few = told_few l in omega arith)

@@ -1,37 +1,38 @@
 -- The law of the ends of a scenario's runs.
 use Rattle.std.proofs.Common.{◌≡◌, ◌⊎◌, ℕ, zero, suc, ◌+◌, ◌<◌, ◌≤◌, cond, Bool, true, false, IsTrue, List, [], ◌∷◌, length}
 use Rattle.std.proofs.Common.{drop, slice_get, Option, Some}
-use Rattle.std.proofs.Common.{None, refl, ap, ◌∙◌, inl, inr, lt-ltb, arith}
+use Rattle.std.proofs.Common.{None, refl, ap, ◌∙◌, inl, inr, lt-ltb, arith, min, ◌-◌}
 use Rattle.step_table.specs.declared.call.Call.{Call}
 use Rattle.step_table.specs.declared.parts.Parts.{Parts}
 use Rattle.step_table.specs.declared.refusal.StepRefused.{StepRefused}
 use Rattle.step_table.specs.declared.refusal.StepRefused.TheVariants.{NoSuchSeat}
 use Rattle.step_table.specs.declared.standing.Standing.{Standing}
-use Rattle.step_table.specs.declared.standing.Standing.TheVariants.{Rest, AtCounter, AtList, AtGroup, Failed}
+use Rattle.step_table.specs.declared.standing.Standing.TheVariants.{Rest, AtCounter, AtList, AtGroup, Failed, Left}
 use Rattle.step_table.specs.World.{put}
 use Rattle.step_table.specs.Counting.{total}
 use Rattle.step_table.specs.Core.{Core, first_core}
 use Rattle.step_table.specs.CoreSteps.{can_run, core_turned, IsCoreEnd}
 use Rattle.step_table.specs.Run.{Run, layout, call_of, begun, continued, all_begun, start, stepped, unless, refusal_of, refusal, after_all, reached, AllRunFrom}
-use Rattle.step_table.specs.Run.{AllRun}
+use Rattle.step_table.specs.Run.{AllRun, left_out}
 use Rattle.step_table.proofs.Sums.{put_here, put_else, total_change}
 use Rattle.step_law_whole.specs.CoreLaw.{IsCoreAtRest}
 use Rattle.step_law_whole.specs.RunInvariant.{calls_of, IsSoundRunOf, IsSoundRun, IsScenario}
-use Rattle.step_law_whole.proofs.CoreCalling.{core_at_first, calls_keep}
+use Rattle.step_law_whole.proofs.CoreCalling.{core_at_first, calls_keep, left_keeps}
 use Rattle.step_law_whole.proofs.RunBeginning.{KeepsRuns}
 use Rattle.step_law_whole.proofs.RunStarting.{starts_so}
 use Rattle.step_law_whole.proofs.RunStepping.{can_run_at, is_there, steps_so}
-use Rattle.step_law_whole.proofs.RunEarly.{run_ends}
+use Rattle.step_law_whole.proofs.RunEarly.{in_reach, run_ends}
 use Rattle.step_law_whole.specs.CoreWeight.{call_cost}
 use Rattle.step_law_whole.specs.RunWeight.{calls_cost, most_steps, run_weight}
 use Rattle.step_law_whole.specs.RunEnds.{TheRunEnds}
 use Rattle.step_law_whole.proofs.SeatSums.{scripts_sum}
 use Rattle.step_law_whole.proofs.RunBounding.{bounded}
 use Rattle.step_law_whole.proofs.Courses.{SomeCan, NoneCan, look}
-use Rattle.step_law_whole.proofs.CoreWeights.{calls_raise}
+use Rattle.step_law_whole.proofs.CoreWeights.{calls_raise, stands_weight}
 use Rattle.step_law_whole.proofs.CoreFalling.{core_lowered}
-use Rattle.step_law_whole.proofs.WaitsCounting.{calls_counted, first_counted}
+use Rattle.step_law_whole.proofs.WaitsCounting.{calls_counted, first_counted, left_counted}
 use Rattle.step_law_whole.proofs.CoreAtEnd.{IsEnding, row_ends, starts as core_starts}
+use Rattle.std.proofs.Math.Nat.{le-min}
 
 -- the calls from this one on
 next_cost : (n : ℕ) (script : List Call) (at : ℕ) (call : Call) → slice_get script at ≡ Some call
@@ -63,6 +64,36 @@ module _ (parts : Parts) where
       let now : count i ≡ suc (run.begun i) = (let here = put_here run.begun i (run.begun i + 1) in omega arith) in
       let here = ap (λ n. calls_cost seats (drop n (calls_of parts i))) now in
       let next = next_cost seats (calls_of parts i) (run.begun i) call is in omega arith
+
+  -- to leave some out doesn't either
+  fewer_cost : (n : ℕ) (script : List Call) (at : ℕ) → calls_cost n (drop (suc at) script) ≤ calls_cost n (drop at script)
+  fewer_cost n [] zero = omega arith
+  fewer_cost n [] (suc at) = omega arith
+  fewer_cost n (c ∷ script) zero = omega arith
+  fewer_cost n (c ∷ script) (suc at) = fewer_cost n script at
+
+  later_cost : (n : ℕ) (script : List Call) (at more : ℕ) → calls_cost n (drop (at + more) script) ≤ calls_cost n (drop at script)
+  later_cost n script at zero = let same = ap (λ z. calls_cost n (drop z script)) (let none : at + 0 ≡ at = omega arith in none) in omega arith
+  later_cost n script at (suc more) =
+      let rest : calls_cost n (drop (at + more) script) ≤ calls_cost n (drop at script) = later_cost n script at more in
+      let one = fewer_cost n script (at + more) in
+      let same = ap (λ z. calls_cost n (drop z script)) (let next : at + suc more ≡ suc (at + more) = omega arith in next) in omega arith
+
+  left_weight : (run : Run) (i skips : ℕ) → i < seats → run.begun i ≤ length (calls_of parts i)
+      → run_weight parts (left_out parts run i skips) ≤ run_weight parts run
+  left_weight run i skips in_range few =
+      let stop : ℕ = min (run.begun i + skips) (length (calls_of parts i)) in
+      let least : run.begun i ≤ stop = le-min (omega arith) few in
+      let count : ℕ → ℕ = put run.begun i stop in
+      let core = stands_weight (layout parts) i in_range run.core Rest in
+      let all : rest count + calls_cost seats (drop (run.begun i) (calls_of parts i))
+      ≡ rest run.begun + calls_cost seats (drop (count i) (calls_of parts i))
+      = total_change seats (λ k. calls_cost seats (drop (run.begun k) (calls_of parts k)))
+      (λ k. calls_cost seats (drop (count k) (calls_of parts k))) i in_range
+      (λ k ne. ap (λ n. calls_cost seats (drop n (calls_of parts k))) (put_else run.begun i stop k ne)) in
+      let now : count i ≡ run.begun i + (stop - run.begun i) = (let here = put_here run.begun i stop in omega arith) in
+      let here = ap (λ n. calls_cost seats (drop n (calls_of parts i))) now in
+      let later = later_cost seats (calls_of parts i) (run.begun i) (stop - run.begun i) in omega arith
 
   -- nor does the start
   abbrev idle : Run
@@ -97,11 +128,23 @@ module _ (parts : Parts) where
       known = λ s i there ending. record { seat = ending.0.semaphores.seats i; finds = ending.0.semaphores.finds i there };
       called = λ s i call there ending rests may.
           (calls_keep (layout parts) s i call there ending.0 rests may, calls_counted (layout parts) i there s call rests ending.1);
+      rests = λ s i skips there ending at. (left_keeps (layout parts) s i skips ending.0 at, left_counted (layout parts) i there s skips at ending.1);
       kept = λ s i there ending can. row_ends (layout parts) s i there ending can;
     }
 
-    small : seats ≤ 9223372036854775808
-    small = let few = scenario.limits.seats in omega arith
+    -- what is known of a run for itself
+    plainly : {run : Run} → IsSoundRunOf Ending parts run → IsSoundRun parts run
+    plainly sound = record {
+      core = sound.core.0;
+      begun = sound.begun;
+      ended = sound.ended;
+      tickets = sound.tickets;
+      skipped = sound.skipped;
+      words = sound.words;
+      carried = sound.carried;
+      units = sound.units;
+      handed = sound.handed;
+    }
 
     -- a step lowers the weight
     less : (run : Run) (i : ℕ) → IsSoundRunOf Ending parts run → refusal parts run i ≡ None
@@ -116,14 +159,18 @@ module _ (parts : Parts) where
 
         row : run_weight parts next < run_weight parts run
         row =
-            let falls = core_lowered (layout parts) run.core i there.0 small sound.core.0 sound.core.1
+            let falls = core_lowered (layout parts) run.core i there.0 (in_reach parts scenario run (plainly sound)) sound.core.0 sound.core.1
             (can_run_at (layout parts) run.core i (run.core.standing i) there.1) in omega arith
 
         by : (standing : Standing) → run_weight parts (continued parts next i standing) < run_weight parts run
         by Rest = let begins = begun_weight next i there.0 (call_of parts i (next.begun i)) refl in let falls = row in omega arith
         by (AtCounter after) = row
-        by (AtList l) = row
+        by (AtList l ending) = row
         by (AtGroup g x) = row
+        by (Left skips) =
+            let left = left_weight next i skips there.0 (sound.begun i) in
+            let begins = begun_weight (left_out parts next i skips) i there.0 (call_of parts i ((left_out parts next i skips).begun i)) refl in
+            let falls = row in omega arith
         by (Failed misuse) = row
 
     -- along a schedule
@@ -148,8 +195,9 @@ module _ (parts : Parts) where
     runs_on : (standing : Standing) (s : Core) (i : ℕ) → IsTrue (can_run (layout parts) s i standing) → refusal_of (layout parts) s i standing ≡ None
     runs_on Rest s i can = absurd cc
     runs_on (AtCounter after) s i can = may (can_run (layout parts) s i (AtCounter after)) _ can
-    runs_on (AtList l) s i can = may (can_run (layout parts) s i (AtList l)) _ can
+    runs_on (AtList l ending) s i can = may (can_run (layout parts) s i (AtList l ending)) _ can
     runs_on (AtGroup g row) s i can = refl
+    runs_on (Left skips) s i can = absurd cc
     runs_on (Failed misuse) s i can = absurd cc
 
     free : (run : Run) (i : ℕ) → i < seats → IsTrue (can_run (layout parts) run.core i (run.core.standing i)) → refusal parts run i ≡ None
@@ -185,19 +233,6 @@ module _ (parts : Parts) where
         let steps = few_steps (start parts) schedule (starts_so parts keeps scenario) runs in
         let begins = start_weight seats (omega arith) in
         let idles = idle_weight in omega arith
-
-    -- what is known of a run for itself
-    plainly : {run : Run} → IsSoundRunOf Ending parts run → IsSoundRun parts run
-    plainly sound = record {
-      core = sound.core.0;
-      begun = sound.begun;
-      ended = sound.ended;
-      tickets = sound.tickets;
-      words = sound.words;
-      carried = sound.carried;
-      units = sound.units;
-      handed = sound.handed;
-    }
 
     rests : (run : Run) → IsSoundRunOf Ending parts run → IsCoreEnd (layout parts) run.core → IsCoreAtRest (layout parts) run.core
     rests run sound ended = run_ends parts scenario run (plainly sound) ended

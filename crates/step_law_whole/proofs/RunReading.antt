@@ -1,48 +1,54 @@
 -- A seat that stands at L6 along a schedule ran L5 in its course, and no other row since; and so each step of a schedule grants
 -- the least ungranted ticket alone, or all that were handed out when its L5 read.
-use Rattle.std.proofs.Common.{◌≡◌, ◌≢◌, ℕ, zero, suc, ◌<◌, ◌≤◌, ◌⊎◌, IsTrue, List, [], ◌∷◌, ◌++◌, Option, Some, None}
+use Rattle.std.proofs.Common.{◌≡◌, ◌≢◌, ℕ, zero, suc, ◌<◌, ◌⊎◌, IsTrue, Bool, true, false, ◌&&◌, ◌||◌, if◌then◌else◌, List, [], ◌∷◌, ◌++◌, Option, Some, None}
 use Rattle.std.proofs.Common.{length, refl, sym, ap, ◌∙◌, subst, inl}
 use Rattle.std.proofs.Common.{inr, append_assoc, append-nil, arith}
 use Rattle.std.proofs.lemmas.List.Elements.{All-nil, All-push}
 use native.Mathlib.Decide.{ℕ_discrete}
 use Rattle.step_table.specs.declared.call.Call.{Call}
-use Rattle.step_table.specs.declared.call.Call.TheVariants.{Acquire, Release, ReleaseMany, Add, Wait, One, GroupAdd, GroupWait}
+use Rattle.step_table.specs.declared.call.Call.TheVariants.{Acquire, Release, ReleaseMany, Add, Wait, One, GroupAdd, GroupWait, AcquireOrLeave, WaitOrLeave, GroupWaitOrLeave}
 use Rattle.step_table.specs.declared.call.Call.TheVariants as call
 use Rattle.step_table.specs.declared.list_place.AllRow.TheVariants.{L1, L5, L6}
 use Rattle.step_table.specs.declared.list_place.ListPlace.{ListPlace}
 use Rattle.step_table.specs.declared.list_place.ListPlace.TheVariants.{Adding, NotifyingOne, NotifyingAll}
 use Rattle.step_table.specs.declared.list_place.ListPlace.TheVariants as on_list
+use Rattle.step_table.specs.declared.list_place.ListParkedRow.TheVariants as parked
+use Rattle.step_table.specs.declared.list_place.WaitRow.TheVariants as wait_row
 use Rattle.step_table.specs.declared.list_place.OneRow.TheVariants.{O1}
 use Rattle.step_table.specs.declared.list_place.Reach.{Reach}
 use Rattle.step_table.specs.declared.list_place.Ticket.{Ticket}
 use Rattle.step_table.specs.declared.parts.Parts.{Parts}
+use Rattle.step_table.specs.declared.standing.Ending.{Ending}
+use Rattle.step_table.specs.declared.standing.Ending.TheVariants.{MayGiveUp}
 use Rattle.step_table.specs.declared.standing.Standing.{Standing}
-use Rattle.step_table.specs.declared.standing.Standing.TheVariants.{Rest, AtCounter, AtList, AtGroup, Failed}
+use Rattle.step_table.specs.declared.standing.Standing.TheVariants.{Rest, AtCounter, AtList, AtGroup, Failed, Left}
 use Rattle.step_table.specs.World.{put}
 use Rattle.step_table.specs.ListWorld.{ListSeat, ListWords, ListWorld}
 use Rattle.step_table.specs.ListSteps.{with_ticket}
 use Rattle.step_table.specs.ListSteps as list
 use Rattle.step_law_lists.specs.ListLawful.{told, holds}
 use Rattle.step_table.specs.Core.{CoreLayout, Core, first_core}
-use Rattle.step_table.specs.CoreSteps.{calls, can_run, counter_row, list_row, row_of_standing, core_turned}
+use Rattle.step_table.specs.CoreSteps.{calls, can_run, list_row, row_of_standing, core_turned}
+use Rattle.step_table.specs.CoreSteps.{may_give_up_on_list, gives_up_on_list, on_list_row, is_asleep_on_list, leaving_list}
 use Rattle.step_law_whole.specs.CoreLaw.{IsStanding, IsOffList}
 use Rattle.step_table.specs.Run.{Run, layout, begun, call_of, all_begun, start, continued, stepped, refusal, refusal_of, after_all, reached, AllRunFrom, AllRun}
+use Rattle.step_table.specs.Run.{left_out}
 use Rattle.step_law_whole.specs.RunInvariant.{CarriesWord, IsSoundRun, IsScenario}
 use Rattle.step_law_whole.specs.RunGrants.{IsOnList, told_of, HasReadIn, StepGrants, EachStepGrantsLeast}
 use Rattle.step_table.proofs.Sums.{put_here, put_else, put_at, total_has}
 use Rattle.step_law_whole.proofs.CoreKeeping.{rows_keep}
 use Rattle.step_law_lists.proofs.ListCases.{step_of}
 use Rattle.step_law_lists.proofs.ListGranting.{read_step}
-use Rattle.step_law_lists.proofs.ListKeeping.{list_reached}
 use Rattle.step_law_lists.proofs.ListLawfulness.{handed_told}
 use Rattle.step_law_whole.proofs.RunCalls.{calls_else}
+use Rattle.step_law_whole.proofs.RunEarly.{list_kept_so}
 use Rattle.step_law_whole.proofs.RunChanges.{with_seat}
 use Rattle.step_law_whole.proofs.RunGranting.{step_grants}
 use Rattle.step_law_whole.proofs.RunGroups.{group_lists}
-use Rattle.step_law_whole.proofs.RunRows.{row_is, after_counter_lists}
+use Rattle.step_law_whole.proofs.RunRows.{row_is, at_counter_lists}
 use Rattle.step_law_whole.proofs.RunSound.{is_started, is_stepped}
 use Rattle.step_law_whole.proofs.RunStepping.{can_run_at, is_there}
-use Rattle.step_law_whole.proofs.RunTickets.{after_list_lists}
+use Rattle.step_law_whole.proofs.RunTickets.{AreListsAfter, after_list_lists}
 
 -- a seat put on a list
 seat_else : (s : Core) (i z : ℕ) (seat : ListSeat) (l k : ℕ) → k ≢ i → ((with_seat s i z seat).lists l).seats k ≡ (s.lists l).seats k
@@ -58,37 +64,53 @@ seat_words s i z seat l =
 calls_seats : (s : Core) (i : ℕ) (c : Call) (l k : ℕ) → k ≢ i → ((calls s i c).lists l).seats k ≡ (s.lists l).seats k
 calls_seats s i (Add n) l k ne = seat_else s i n _ l k ne
 calls_seats s i (Wait n) l k ne = seat_else s i n _ l k ne
+calls_seats s i (WaitOrLeave n how) l k ne = seat_else s i n _ l k ne
 calls_seats s i (One n) l k ne = seat_else s i n _ l k ne
 calls_seats s i (call.All n) l k ne = seat_else s i n _ l k ne
 calls_seats s i (Acquire c lifo) l k ne = refl
+calls_seats s i (AcquireOrLeave c lifo how) l k ne = refl
 calls_seats s i (Release c handoff) l k ne = refl
 calls_seats s i (ReleaseMany c n) l k ne = refl
 calls_seats s i (GroupAdd g d) l k ne = refl
 calls_seats s i (GroupWait g) l k ne = refl
+calls_seats s i (GroupWaitOrLeave g skips) l k ne = refl
 
 calls_words : (s : Core) (i : ℕ) (c : Call) (l : ℕ) → ((calls s i c).lists l).words ≡ (s.lists l).words
 calls_words s i (Add n) l = seat_words s i n _ l
 calls_words s i (Wait n) l = seat_words s i n _ l
+calls_words s i (WaitOrLeave n how) l = seat_words s i n _ l
 calls_words s i (One n) l = seat_words s i n _ l
 calls_words s i (call.All n) l = seat_words s i n _ l
 calls_words s i (Acquire c lifo) l = refl
+calls_words s i (AcquireOrLeave c lifo how) l = refl
 calls_words s i (Release c handoff) l = refl
 calls_words s i (ReleaseMany c n) l = refl
 calls_words s i (GroupAdd g d) l = refl
 calls_words s i (GroupWait g) l = refl
+calls_words s i (GroupWaitOrLeave g skips) l = refl
 
 -- the place is none at L6
 abbrev IsNoL6 : ListPlace → Type 0
 IsNoL6 p = (h : ℕ) (r : Reach) → p ≡ NotifyingAll h (L6 r) → ⊥
 
+-- a seat that is off all lists but one, and at no L6 there
+seat_at : (s : Core) (i z : ℕ) → ((l : ℕ) → l ≢ z → IsOffList s i l) → (seat : ListSeat) → IsNoL6 seat.place
+    → (l : ℕ) → IsNoL6 (((with_seat s i z seat).lists l).seats i).place
+seat_at s i z off seat awake l =
+    put_at (λ l w. (h : ℕ) (r : Reach) → (w.seats i).place ≡ NotifyingAll h (L6 r) → ⊥) s.lists z
+    (record (s.lists z) { seats = put (s.lists z).seats i seat }) l
+    (λ h r is. awake h r (ap (λ (z : ListSeat). z.place) (sym (put_here (s.lists z).seats i seat)) ∙ is))
+    (λ far h r is. let rests = off l far in absurd cc)
+
+-- who gives up goes to no L6
+leaves_at : (p : ListPlace) (b : Bool) → is_asleep_on_list p && b ≡ true → IsNoL6 (leaving_list p)
+leaves_at (on_list.Waiting t (wait_row.Parked parked.P)) b may = λ h r is. cc
+leaves_at p b may = absurd cc
+
 -- a seat that is off all lists begins a call at no L6
 module _ (s : Core) (i : ℕ) (off : (l : ℕ) → IsOffList s i l) where
   seat_begins : (z : ℕ) (seat : ListSeat) → IsNoL6 seat.place → (l : ℕ) → IsNoL6 (((with_seat s i z seat).lists l).seats i).place
-  seat_begins z seat awake l =
-      put_at (λ l w. (h : ℕ) (r : Reach) → (w.seats i).place ≡ NotifyingAll h (L6 r) → ⊥) s.lists z
-      (record (s.lists z) { seats = put (s.lists z).seats i seat }) l
-      (λ h r is. awake h r (ap (λ (z : ListSeat). z.place) (sym (put_here (s.lists z).seats i seat)) ∙ is))
-      (λ far h r is. let rests = off l in absurd cc)
+  seat_begins z seat awake l = seat_at s i z (λ l far. off l) seat awake l
 
   waits_begins : (z : ListSeat) (ticket : Option Ticket) → z.place ≡ on_list.Rest → IsNoL6 (with_ticket z ticket).place
   waits_begins z None rests h r is = cc
@@ -102,13 +124,18 @@ module _ (s : Core) (i : ℕ) (off : (l : ℕ) → IsOffList s i l) where
   calls_begin (Wait n) l =
       seat_begins n (with_ticket ((s.lists n).seats i) ((s.lists n).seats i).ticket)
       (waits_begins ((s.lists n).seats i) ((s.lists n).seats i).ticket (off n)) l
+  calls_begin (WaitOrLeave n how) l =
+      seat_begins n (with_ticket ((s.lists n).seats i) ((s.lists n).seats i).ticket)
+      (waits_begins ((s.lists n).seats i) ((s.lists n).seats i).ticket (off n)) l
   calls_begin (One n) l = seat_begins n (record ((s.lists n).seats i) { place = NotifyingOne 0 O1 }) (λ h r is. cc) l
   calls_begin (call.All n) l = seat_begins n (record ((s.lists n).seats i) { place = NotifyingAll 0 L1 }) (λ h r is. cc) l
   calls_begin (Acquire c lifo) l = rests_at l
+  calls_begin (AcquireOrLeave c lifo how) l = rests_at l
   calls_begin (Release c handoff) l = rests_at l
   calls_begin (ReleaseMany c n) l = rests_at l
   calls_begin (GroupAdd g d) l = rests_at l
   calls_begin (GroupWait g) l = rests_at l
+  calls_begin (GroupWaitOrLeave g skips) l = rests_at l
 
 -- a step of seat i of a sound run
 module _ (parts : Parts) (scenario : IsScenario parts) (run : Run) (sound : IsSoundRun parts run) (i : ℕ)
@@ -133,7 +160,7 @@ module _ (parts : Parts) (scenario : IsScenario parts) (run : Run) (sound : IsSo
   turned_else k l p ne on =
       let row = row_is m s i (record { seat = sound.core.semaphores.seats i; finds = sound.core.semaphores.finds i there.0 })
       (sound.core.standing i) sound.words (sound.carried i) can in
-      (sym (row.changes.standing k ne) ∙ on.0, ap (λ (z : ListSeat). z.place) (sym (row.changes.seats l k ne)) ∙ on.1)
+      ((on.0.0, sym (row.changes.standing k ne) ∙ on.0.1), ap (λ (z : ListSeat). z.place) (sym (row.changes.seats l k ne)) ∙ on.1)
 
   -- and where it stands at L6 itself, that was its L5
   abbrev HasReadNow : ℕ → ℕ → Reach → Type 0
@@ -148,60 +175,97 @@ module _ (parts : Parts) (scenario : IsScenario parts) (run : Run) (sound : IsSo
       was_off lists same off is =
           let before = ap (λ (lists : ℕ → ListWorld). ((lists l).seats i).place) same in absurd cc
 
-      on_it : (n : ℕ) → s.standing i ≡ AtList n → IsStanding m s i (AtList n) → IsTrue (list.can_turn (s.lists n) i) → Dec (l ≡ n)
+      on_it : (n : ℕ) (ending : Ending) → s.standing i ≡ AtList n ending → IsStanding m s i (AtList n ending)
+          → IsTrue (list.can_turn (s.lists n) i) → Dec (l ≡ n)
           → ((put s.lists n (list.turned (s.lists n) i) l).seats i).place ≡ NotifyingAll h (L6 r) → HasReadNow l h r
-      on_it n at stand can (yes e) is =
+      on_it n ending at stand can (yes e) is =
           let w : ListWorld = s.lists n in
-          let few : length parts.calls ≤ 9223372036854775808 = (let seats = scenario.limits.seats in omega arith) in
-          let mine = (list_reached (m.firsts n) (length parts.calls) w few (sound.core.lists n)).seats_known i there.0 in
+          let mine = (list_kept_so parts scenario run sound n).seats_known i there.0 in
           let at_n : ((put s.lists n (list.turned w i) n).seats i).place ≡ NotifyingAll h (L6 r)
           = ap (λ l. ((put s.lists n (list.turned w i) l).seats i).place) (sym e) ∙ is in
           let here : ((list.turned w i).seats i).place ≡ NotifyingAll h (L6 r)
           = ap (λ (w : ListWorld). (w.seats i).place) (sym (put_here s.lists n (list.turned w i))) ∙ at_n in
           let read =
           read_step w i (list.turned w i) (step_of w (list.turned w i) i mine.fits mine.only (list.turn (record { can = can; is = refl }))) h r here in
-          ((at ∙ ap AtList (sym e), ap (λ l. ((s.lists l).seats i).place) e ∙ read.0), read.1 ∙ ap (λ l. (s.lists l).words.numbers.handed) (sym e))
-      on_it n at stand can (no ne) is =
+          (((ending, at ∙ ap (λ n. AtList n ending) (sym e)), ap (λ l. ((s.lists l).seats i).place) e ∙ read.0), read.1 ∙ ap (λ l. (s.lists l).words.numbers.handed) (sym e))
+      on_it n ending at stand can (no ne) is =
           let same = ap (λ (w : ListWorld). (w.seats i).place) (put_else s.lists n (list.turned (s.lists n) i) l ne) in
           let off = stand.3 l ne in absurd cc
 
       by : (standing : Standing) → s.standing i ≡ standing → IsStanding m s i standing → IsTrue (can_run m s i standing)
           → (((row_of_standing m s i standing).lists l).seats i).place ≡ NotifyingAll h (L6 r) → HasReadNow l h r
-      by (AtList n) at stand can is =
-          on_it n at stand can (ℕ_discrete l n)
-          (ap (λ (lists : ℕ → ListWorld). ((lists l).seats i).place) (sym (after_list_lists (list_row s i n) i (((list_row s i n).lists n).seats i).place))
-          ∙ is)
+      by (AtList n ending) at stand can is = either (may_give_up_on_list (s.lists n) i ending) refl can is
+        where
+          -- after its row a call has ended, or a notification of one begins
+          landed : (u : Core) → AreListsAfter (list_row s i n) i n u → IsTrue (list.can_turn (s.lists n) i)
+              → ((u.lists l).seats i).place ≡ NotifyingAll h (L6 r) → HasReadNow l h r
+          landed u (inl same) can is =
+              on_it n ending at stand can (ℕ_discrete l n) (ap (λ (lists : ℕ → ListWorld). ((lists l).seats i).place) (sym same) ∙ is)
+          landed u (inr (rests, begins)) can is =
+              absurd (seat_at (list_row s i n) i n
+              (λ l far. ap (λ (w : ListWorld). (w.seats i).place) (put_else s.lists n (list.turned (s.lists n) i) l far) ∙ stand.3 l far)
+              _ (λ h r e. cc) l h r (ap (λ (lists : ℕ → ListWorld). ((lists l).seats i).place) (sym begins) ∙ is))
+
+          either : (b : Bool) → may_give_up_on_list (s.lists n) i ending ≡ b → IsTrue (b || list.can_turn (s.lists n) i)
+              → (((if b then gives_up_on_list s i n ending else on_list_row s i n ending).lists l).seats i).place ≡ NotifyingAll h (L6 r)
+              → HasReadNow l h r
+          either true may can is = absurd (gives ending may l h r is)
+            where
+              gives : (ending : Ending) → may_give_up_on_list (s.lists n) i ending ≡ true
+                  → (l : ℕ) → IsNoL6 (((gives_up_on_list s i n ending).lists l).seats i).place
+              gives (MayGiveUp how) may = seat_at s i n stand.3 _ (leaves_at ((s.lists n).seats i).place _ may)
+              gives _ may = absurd cc
+          either false stays can is =
+              landed (on_list_row s i n ending)
+              (after_list_lists (list_row s i n) i n ending ((s.lists n).seats i).place (((list_row s i n).lists n).seats i).place refl) can is
       by (AtCounter after) at stand can is =
-          let row : Core = counter_row m s i in
-          was_off (row_of_standing m s i (AtCounter after)).lists (after_counter_lists m row i after (row.semaphores.seats i).place) (stand.1 l) is
+          was_off (row_of_standing m s i (AtCounter after)).lists (at_counter_lists m s i after) (stand.1 l) is
       by (AtGroup g row) at stand can is =
           was_off (row_of_standing m s i (AtGroup g row)).lists
-          (group_lists m s i g row sound.words at (subst CarriesWord at (sound.carried i))) (stand.2 l) is
+          (group_lists m s i g row sound.words at (subst CarriesWord at (sound.carried i)) stand.0) (stand.2 l) is
       by Rest at stand can is = absurd cc
+      by (Left skips) at stand can is = absurd cc
       by (Failed misuse) at stand can is = absurd cc
 
   -- the call that it may begin then is none at L6
-  began : (call : Option Call) → t.standing i ≡ Rest → (k l h : ℕ) (r : Reach)
-      → IsOnList (begun (record run { core = t }) i call).core k l (NotifyingAll h (L6 r)) → IsOnList t k l (NotifyingAll h (L6 r))
-  began None rests k l h r on = on
-  began (Some c) rests k l h r on = by (ℕ_discrete k i)
+  began : (u : Run) (call : Option Call) → ((l : ℕ) → IsOffList u.core i l) → (k l h : ℕ) (r : Reach)
+      → IsOnList (begun u i call).core k l (NotifyingAll h (L6 r)) → IsOnList u.core k l (NotifyingAll h (L6 r))
+  began u None off k l h r on = on
+  began u (Some c) off k l h r on = by (ℕ_discrete k i)
     where
-      off : IsStanding m t i Rest
-      off = subst (IsStanding m t i) rests ((rows_keep m s i there.0 sound.core can).standing i)
+      by : Dec (k ≡ i) → IsOnList u.core k l (NotifyingAll h (L6 r))
+      by (yes e) = absurd (none h r (ap (λ k. (((calls u.core i c).lists l).seats k).place) (sym e) ∙ on.1))
+        where
+          none : (h : ℕ) (r : Reach) → (((calls u.core i c).lists l).seats i).place ≡ NotifyingAll h (L6 r) → ⊥
+          none = calls_begin u.core i off c l
+      by (no ne) = ((on.0.0, sym (calls_else u.core i c k ne) ∙ on.0.1), ap (λ (z : ListSeat). z.place) (sym (calls_seats u.core i c l k ne)) ∙ on.1)
+
+  -- how it stands after its row
+  stands_after : (standing : Standing) → t.standing i ≡ standing → IsStanding m t i standing
+  stands_after standing at = subst (IsStanding m t i) at ((rows_keep m s i there.0 sound.core can).standing i)
+
+  -- and where it has given up its call
+  left_went : (skips : ℕ) → t.standing i ≡ Left skips → (k l h : ℕ) (r : Reach)
+      → IsOnList (continued parts (record run { core = t }) i (Left skips)).core k l (NotifyingAll h (L6 r)) → IsOnList t k l (NotifyingAll h (L6 r))
+  left_went skips at k l h r on = by (ℕ_discrete k i)
+    where
+      next : Run
+      next = left_out parts (record run { core = t }) i skips
+
+      there_now : IsOnList next.core k l (NotifyingAll h (L6 r))
+      there_now = began next (call_of parts i (next.begun i)) (stands_after (Left skips) at).1 k l h r on
 
       by : Dec (k ≡ i) → IsOnList t k l (NotifyingAll h (L6 r))
-      by (yes e) = absurd (none h r (ap (λ k. (((calls t i c).lists l).seats k).place) (sym e) ∙ on.1))
-        where
-          none : (h : ℕ) (r : Reach) → (((calls t i c).lists l).seats i).place ≡ NotifyingAll h (L6 r) → ⊥
-          none = calls_begin t i off.1 c l
-      by (no ne) = (sym (calls_else t i c k ne) ∙ on.0, ap (λ (z : ListSeat). z.place) (sym (calls_seats t i c l k ne)) ∙ on.1)
+      by (yes e) = absurd (let rests : Rest ≡ AtList l there_now.0.0 = sym (put_here t.standing i Rest) ∙ ap next.core.standing (sym e) ∙ there_now.0.1 in cc)
+      by (no ne) = ((there_now.0.0, sym (put_else t.standing i Rest k ne) ∙ there_now.0.1), there_now.1)
 
   went_on : (standing : Standing) → t.standing i ≡ standing → (k l h : ℕ) (r : Reach)
       → IsOnList (continued parts (record run { core = t }) i standing).core k l (NotifyingAll h (L6 r)) → IsOnList t k l (NotifyingAll h (L6 r))
-  went_on Rest at k l h r on = began (call_of parts i (run.begun i)) at k l h r on
+  went_on Rest at k l h r on = began (record run { core = t }) (call_of parts i (run.begun i)) (stands_after Rest at).1 k l h r on
   went_on (AtCounter after) at k l h r on = on
-  went_on (AtList n) at k l h r on = on
+  went_on (AtList n ending) at k l h r on = on
   went_on (AtGroup g row) at k l h r on = on
+  went_on (Left skips) at k l h r on = left_went skips at k l h r on
   went_on (Failed misuse) at k l h r on = on
 
   -- after the step, a seat that stands at L6 stood there, or is i, which has just read
@@ -218,8 +282,7 @@ module _ (parts : Parts) (scenario : IsScenario parts) (run : Run) (sound : IsSo
       by (no ne) = inl (ne, turned_else k l (NotifyingAll h (L6 r)) ne after)
       by (yes e) =
           let read = turned_here l h r (ap (λ k. ((t.lists l).seats k).place) (sym e) ∙ after.1) in
-          let few : length parts.calls ≤ 9223372036854775808 = (let seats = scenario.limits.seats in omega arith) in
-          let inv = list_reached (m.firsts l) (length parts.calls) (s.lists l) few (sound.core.lists l) in
+          let inv = list_kept_so parts scenario run sound l in
           inr (
             e,
             read.0,
@@ -245,9 +308,8 @@ start_words parts run (suc n) l = begins_words (all_begun parts run n) n (call_o
 module _ (parts : Parts) (scenario : IsScenario parts) where
   none_at_start : (k l h : ℕ) (r : Reach) → k < length parts.calls → IsOnList (start parts).core k l (NotifyingAll h (L6 r)) → ⊥
   none_at_start k l h r there on =
-      let few : length parts.calls ≤ 9223372036854775808 = (let seats = scenario.limits.seats in omega arith) in
       let s : ListWorld = (start parts).core.lists l in
-      let inv = list_reached ((layout parts).firsts l) (length parts.calls) s few ((is_started parts scenario).core.lists l) in
+      let inv = list_kept_so parts scenario (start parts) (is_started parts scenario) l in
       let free = ap (λ (g : ListWords). g.lock) (start_words parts (record { core = first_core (layout parts); begun = λ s. 0 }) (length parts.calls) l) in
       let held = total_has (length parts.calls) (λ k. holds (s.seats k).place) k there in
       let here = ap holds on.1 in

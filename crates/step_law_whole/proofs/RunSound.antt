@@ -16,6 +16,7 @@ core_keeps parts = record {
   stand = λ s inv. inv.standing;
   known = λ s i there inv. record { seat = inv.semaphores.seats i; finds = inv.semaphores.finds i there };
   called = calling.calls_keep (layout parts);
+  rests = λ s i skips there inv at. calling.left_keeps (layout parts) s i skips inv at;
   kept = keeping.rows_keep (layout parts);
 }
 

@@ -7,12 +7,14 @@ use Rattle.waiters.specs.declared.wait.WaitId.{WaitId}
 use Rattle.step_table.specs.declared.entry.Entry.TheVariants.{Take, Leave}
 use Rattle.step_table.specs.declared.effect.Effect.TheVariants.{Nothing, Tells}
 use Rattle.step_table.specs.declared.place.Acquire.{Acquire}
-use Rattle.step_table.specs.declared.place.AcquireRow.TheVariants.{A1, A2, A3, A4, A5, A6, A7, A8, A9, P, A10, A11}
+use Rattle.step_table.specs.declared.place.AcquireRow.TheVariants.{A1, A2, A3, A4, A5, A6, A7, A8, A9, Parked, A10, A11, D4}
+use Rattle.step_table.specs.declared.place.ParkedRow.TheVariants.{P, D2, D3, D5}
 use Rattle.step_table.specs.declared.place.ReleaseRow.TheVariants.{R1, R2, R3, R4, R5, R6, R7, R8, R9, R10}
 use Rattle.step_table.specs.declared.place.ManyRow.TheVariants.{M1, M2, M3, M4, M5, M6, M7}
 use Rattle.step_table.specs.declared.place.Place.{Place}
+use Rattle.step_table.specs.declared.place.ParkedRow.{ParkedRow}
 use Rattle.step_table.specs.declared.place.Place.TheVariants.{Rest, Acquiring, Releasing, ReleasingMany}
-use Rattle.step_table.specs.World.{Layout, Words, SeatState, put, found, lists_after, seat_after}
+use Rattle.step_table.specs.World.{Layout, Words, SeatState, put, found, lists_after, seat_after, stands_in}
 use Rattle.step_table.specs.Event.{Event, Next, zero_or, by_first, waiter}
 use Rattle.step_table.specs.ReleaseMany.{after_leave}
 use Rattle.step_table.specs.Table.{event_at}
@@ -20,7 +22,7 @@ use Rattle.step_table.specs.Steps.{words_after}
 use Rattle.step_law_semaphores.specs.Lawful.{IsGrantOf}
 use Rattle.step_law_semaphores.specs.Invariant.{HandFits}
 use Rattle.step_table.proofs.Sums.{put_same, put_else, length_last}
-use Rattle.step_law_whole.specs.SemaWeight.{acquire_weight, place_weight, stale_by, stale}
+use Rattle.step_law_whole.specs.SemaWeight.{place_weight, stale_by, stale, asleep_weight}
 
 abbrev pub standing : Place → ℕ → List WaitId → SeatState
 standing place turn hand = record { place = place; turn = turn; hand = hand }
@@ -43,19 +45,26 @@ pub data Falls (n i : ℕ) (g : Words) (p q : SeatState) (h : Words) : Type 0 wh
   alone : h.numbers ≡ g.numbers → ((k : ℕ) → k ≢ i → h.grants k ≡ g.grants k)
       → weighs n q (h.grants i) + stale g.numbers q.place < weighs n p (g.grants i) + stale g.numbers p.place → Falls n i g p q h
   -- it stores the grant x of the first wait in hand
-  wakes : (w : WaitId) (l : List WaitId) (x : ℕ) → p.hand ≡ w ∷ l → ((a : Acquire) (t : ℕ) → p.place ≡ Acquiring a (P t) → ⊥)
+  wakes : (w : WaitId) (l : List WaitId) (x : ℕ) → p.hand ≡ w ∷ l → ((a : Acquire) (t : ℕ) (row : ParkedRow) → p.place ≡ Acquiring a (Parked t row) → ⊥)
       → h.numbers ≡ g.numbers → h.grants ≡ put g.grants w.seat x → stale g.numbers q.place ≡ 0
-      → weighs n q (g.grants i) + acquire_weight n (P w.turn) x < weighs n p (g.grants i) + 2 * n → Falls n i g p q h
+      → weighs n q (g.grants i) + asleep_weight n x < weighs n p (g.grants i) + 2 * n → weighs n q (g.grants i) < weighs n p (g.grants i)
+      → Falls n i g p q h
 
 -- what was read just now is fresh
 fresh : (left v : ℕ) → v ≡ suc left → stale_by left v ≡ 0
 fresh left v e = ap (λ b. cond b 0 2) (eq-eqb v (left + 1) (omega arith))
 
 -- a sleeper that was handed a unit
-handed_one : (n t v : ℕ) → 0 < v → v ≢ 1 → acquire_weight n (P t) v ≡ 1
+handed_one : (n t v : ℕ) → 0 < v → v ≢ 1 → asleep_weight n v ≡ 1
 handed_one n t zero some ne = absurd (omega arith)
 handed_one n t (suc zero) some ne = absurd (ne refl)
 handed_one n t (suc (suc v)) some ne = refl
+
+-- a sleeper weighs something
+asleep_some : (n grant : ℕ) → 0 < n → 0 < asleep_weight n grant
+asleep_some n zero some = omega arith
+asleep_some n (suc zero) some = omega arith
+asleep_some n (suc (suc grant)) some = omega arith
 
 module _ (m : Layout) (n i : ℕ) (some : 0 < n) (g : Words) where
   -- the event at this seat, where it can be, is one of the three
@@ -125,24 +134,36 @@ module _ (m : Layout) (n i : ℕ) (some : 0 < n) (g : Words) where
   falls (Acquiring a (A6 left)) t hand fits room granted can =
       exchanged (standing (Acquiring a (A6 left)) t hand) a.counter left i (Acquiring a A8) (Acquiring a A5) refl (λ numbers. refl) (omega arith) (omega arith)
   falls (Acquiring a A7) t hand fits room granted can =
-      alone refl (λ k ne. refl) (let asleep = ap (acquire_weight n (P t)) granted in omega arith)
+      alone refl (λ k ne. refl) (let asleep = ap (asleep_weight n) granted in omega arith)
   falls (Acquiring a A8) t hand fits room granted can = alone refl (λ k ne. refl) (omega arith)
   falls (Acquiring a A9) t hand fits room granted can = alone refl (λ k ne. refl) (omega arith)
-  falls (Acquiring a (P u)) t hand fits room granted can = by (eqb_tells (g.grants i) 1)
+  falls (Acquiring a (Parked u P)) t hand fits room granted can = by (eqb_tells (g.grants i) 1)
     where
       Woken : Bool → Type 0
       Woken b =
-          Falls n i g (standing (Acquiring a (P u)) t hand) (standing (if b then Acquiring a A10 else Rest) t hand)
+          Falls n i g (standing (Acquiring a (Parked u P)) t hand) (standing (if b then Acquiring a A10 else Rest) t hand)
           (record g { grants = put g.grants i 0 })
 
       by : ((eqb (g.grants i) 1 ≡ true) × (g.grants i ≡ 1)) ⊎ ((eqb (g.grants i) 1 ≡ false) × (g.grants i ≢ 1)) → Woken (g.grants i == 1)
       by (inl e) =
           subst Woken (sym e.0)
-          (alone refl (λ k ne. put_else g.grants i 0 k ne) (let woken = ap (acquire_weight n (P u)) e.1 in omega arith))
+          (alone refl (λ k ne. put_else g.grants i 0 k ne) (let woken = ap (asleep_weight n) e.1 in omega arith))
       by (inr e) =
           subst Woken (sym e.0)
           (alone refl (λ k ne. put_else g.grants i 0 k ne)
           (let served = handed_one n u (g.grants i) (ltb-true 0 (g.grants i) can) e.1 in omega arith))
+  falls (Acquiring a (Parked u D2)) t hand fits room granted can = by (stands_in i (g.lists a.counter))
+    where
+      by : (b : Bool) → Falls n i g (standing (Acquiring a (Parked u D2)) t hand)
+          (standing (if b then Acquiring a (Parked u D3) else Acquiring a (Parked u D5)) t hand)
+          (record g { locks = put g.locks (m.root a.counter) 1 })
+      by true = alone refl (λ k ne. refl) (let some_weight = asleep_some n (g.grants i) some in omega arith)
+      by false = alone refl (λ k ne. refl) (omega arith)
+  falls (Acquiring a (Parked u D3)) t hand fits room granted can =
+      let none : g.grants i ≡ 0 = omega arith in
+      let asleep = ap (asleep_weight n) none in alone refl (λ k ne. refl) (omega arith)
+  falls (Acquiring a D4) t hand fits room granted can = alone refl (λ k ne. refl) (omega arith)
+  falls (Acquiring a (Parked u D5)) t hand fits room granted can = alone refl (λ k ne. refl) (omega arith)
   falls (Acquiring a A10) t hand fits room granted can =
       looked (standing (Acquiring a A10) t hand) a.counter (Acquiring a A3) (λ left. Acquiring a (A11 left)) (omega arith)
       (λ left e. let now = fresh left (g.numbers a.counter) e in omega arith)
@@ -183,9 +204,9 @@ module _ (m : Layout) (n i : ℕ) (some : 0 < n) (g : Words) where
   falls (Releasing r (R8 left)) t hand fits room granted can =
       exchanged (standing (Releasing r (R8 left)) t hand) r.counter left (waiter i hand) (Releasing r R9) (Releasing r R7) refl
       (λ numbers. refl) (omega arith) (omega arith)
-  falls (Releasing r R9) t (w ∷ l) fits room granted can = wakes w l 2 refl (λ a u e. cc) refl refl refl (omega arith)
+  falls (Releasing r R9) t (w ∷ l) fits room granted can = wakes w l 2 refl (λ a u row e. cc) refl refl refl (omega arith) (omega arith)
   falls (Releasing r R9) t [] fits room granted can = absurd (omega arith)
-  falls (Releasing r R10) t (w ∷ l) fits room granted can = wakes w l 1 refl (λ a u e. cc) refl refl refl (omega arith)
+  falls (Releasing r R10) t (w ∷ l) fits room granted can = wakes w l 1 refl (λ a u row e. cc) refl refl refl (omega arith) (omega arith)
   falls (Releasing r R10) t [] fits room granted can = absurd (omega arith)
   falls (ReleasingMany r M1) t hand fits room granted can = pays refl refl (omega arith)
   falls (ReleasingMany r M2) t hand fits room granted can =
@@ -224,5 +245,5 @@ module _ (m : Layout) (n i : ℕ) (some : 0 < n) (g : Words) where
       by : (b : Bool)
           → Falls n i g (standing (ReleasingMany r M7) t (w ∷ l)) (standing (if b then ReleasingMany r M7 else Rest) t l)
           (record g { grants = put g.grants w.seat 1 })
-      by true = wakes w l 1 refl (λ a u e. cc) refl refl refl (omega arith)
-      by false = wakes w l 1 refl (λ a u e. cc) refl refl refl (omega arith)
+      by true = wakes w l 1 refl (λ a u row e. cc) refl refl refl (omega arith) (omega arith)
+      by false = wakes w l 1 refl (λ a u row e. cc) refl refl refl (omega arith) (omega arith)

@@ -1,7 +1,7 @@
 -- What the entries of the one journal name is there.
 use Rattle.std.specs.Prelude.{◌<◌, All}
 use Rattle.step_table.specs.declared.entry.Entry.{Entry}
-use Rattle.step_table.specs.declared.entry.Entry.TheVariants.{Ticket, Grant}
+use Rattle.step_table.specs.declared.entry.Entry.TheVariants.{Ticket, Grant, Forgo}
 use Rattle.step_table.specs.Core.{CoreLayout, counters_of, Core}
 use Rattle.step_law_semaphores.specs.Entries.{IsNamed}
 
@@ -10,6 +10,7 @@ use Rattle.step_law_semaphores.specs.Entries.{IsNamed}
 abbrev pub NamesParts : CoreLayout → Entry → Type 0
 NamesParts m (Ticket l s) = (l < m.lists) × (s < m.seats)
 NamesParts m (Grant l upto s) = (l < m.lists) × (s < m.seats)
+NamesParts m (Forgo l n s) = (l < m.lists) × (s < m.seats)
 NamesParts m e = IsNamed (counters_of m) e
 
 abbrev pub EntriesNamed : CoreLayout → Core → Type 0

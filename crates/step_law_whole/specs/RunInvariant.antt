@@ -2,6 +2,7 @@
 use Rattle.std.specs.Prelude.{◌≡◌, ℕ, ◌+◌, ◌*◌, ◌<◌, ◌≤◌, Bool, true, false, List, [], Option, Some, None}
 use Rattle.std.specs.Prelude.{length, slice_index_or, take, ◌^◌}
 use Rattle.step_table.specs.declared.call.Call.{Call}
+use Rattle.step_table.specs.declared.call.Late.{Late}
 use Rattle.step_table.specs.declared.list_place.ListPlace.{ListPlace}
 use Rattle.step_table.specs.declared.list_place.ListPlace.TheVariants.{Adding}
 use Rattle.step_table.specs.declared.list_place.Ticket.{Ticket}
@@ -11,11 +12,13 @@ use Rattle.step_table.specs.declared.place.ReleaseRow.TheVariants.{R1}
 use Rattle.step_table.specs.declared.place.ManyRow.TheVariants.{M1}
 use Rattle.step_table.specs.declared.parts.Parts.{Parts}
 use Rattle.step_table.specs.declared.standing.After.{After}
-use Rattle.step_table.specs.declared.standing.After.TheVariants.{Releases}
+use Rattle.step_table.specs.declared.standing.After.TheVariants.{Closes, LooksAgain, Releases}
+use Rattle.step_table.specs.declared.standing.Ending.{Ending}
+use Rattle.step_table.specs.declared.standing.Ending.TheVariants.{NextCall, MayGiveUp, GaveUp, GivesBack}
 use Rattle.step_table.specs.declared.standing.GroupRow.{GroupRow}
-use Rattle.step_table.specs.declared.standing.GroupRow.TheVariants.{G1, G2, G3, V2}
+use Rattle.step_table.specs.declared.standing.GroupRow.TheVariants.{G1, G2, G3, V1, V2, V4, V5}
 use Rattle.step_table.specs.declared.standing.Standing.{Standing}
-use Rattle.step_table.specs.declared.standing.Standing.TheVariants.{Rest, AtCounter, AtGroup}
+use Rattle.step_table.specs.declared.standing.Standing.TheVariants.{Rest, AtCounter, AtList, AtGroup, Left}
 use Rattle.step_law_semaphores.specs.Lawful.{added}
 use Rattle.step_table.specs.Counting.{total}
 use Rattle.step_table.specs.ListWorld.{ListSeat}
@@ -23,6 +26,7 @@ use Rattle.step_table.specs.Core.{Core}
 use Rattle.step_law_whole.specs.CoreLaw.{IsCoreInvariant}
 use Rattle.step_table.specs.Scenario.{IsWithinLimits, IsDeclared, KeepsTickets, holds_ticket}
 use Rattle.step_table.specs.Run.{Run, layout}
+use Rattle.step_table.specs.declared.call.Late.TheVariants.{Kept, GivenBack}
 
 -- the calls of seat k
 abbrev pub calls_of : Parts → ℕ → List Call
@@ -34,8 +38,15 @@ to_add (Releasing r R1) = 1
 to_add (ReleasingMany r M1) = r.units
 to_add _ = 0
 
+-- how many units it adds, where it gives back what comes late
+abbrev pub late_adds : Late → ℕ
+late_adds Kept = 0
+late_adds GivenBack = 1
+
 -- how many units its call may add after that
 abbrev pub more_to_add : After → ℕ
+more_to_add (Closes (MayGiveUp how)) = late_adds how.late
+more_to_add (Closes (GaveUp how)) = late_adds how.late
 more_to_add (Releases g more) = more
 more_to_add _ = 0
 
@@ -66,11 +77,43 @@ has_ticket _ (Some t) = true
 abbrev pub holds : ListSeat → Bool
 holds seat = has_ticket seat.place seat.ticket
 
--- the word that the seat carries has a low half of 32 bits
+-- how many calls the seat leaves out if it gives up the call that it is in, or has given it up
+abbrev pub skips_ending : Ending → ℕ
+skips_ending NextCall = 0
+skips_ending (MayGiveUp how) = how.skips
+skips_ending (GaveUp how) = how.skips
+skips_ending (GivesBack skips) = skips
+
+abbrev pub skips_after : After → ℕ
+skips_after (Closes ending) = skips_ending ending
+skips_after (LooksAgain g ending) = skips_ending ending
+skips_after _ = 0
+
+abbrev pub skips_at : GroupRow → ℕ
+skips_at (V1 ending) = skips_ending ending
+skips_at (V2 ending w) = skips_ending ending
+skips_at (V4 how) = how.skips
+skips_at (V5 how w) = how.skips
+skips_at _ = 0
+
+abbrev pub skips_in : Standing → ℕ
+skips_in (AtCounter after) = skips_after after
+skips_in (AtList l ending) = skips_ending ending
+skips_in (AtGroup g row) = skips_at row
+skips_in (Left skips) = skips
+skips_in _ = 0
+
+-- after the calls that it may leave out it holds the tickets that it holds before them
+abbrev pub SkipsFit : List Call → ℕ → Standing → Type 0
+SkipsFit calls begun standing =
+    (l : ℕ) → holds_ticket l (take (begun + skips_in standing) calls) ≡ holds_ticket l (take begun calls)
+
+-- the word that the seat carries has a low half of 32 bits, and counts a wait that it takes out of it
 abbrev pub CarriesWord : Standing → Type 0
 CarriesWord (AtGroup g (G2 w)) = w.waits < 2 ^ 32
 CarriesWord (AtGroup g (G3 w)) = w.waits < 2 ^ 32
-CarriesWord (AtGroup g (V2 w)) = w.waits < 2 ^ 32
+CarriesWord (AtGroup g (V2 ending w)) = w.waits < 2 ^ 32
+CarriesWord (AtGroup g (V5 how w)) = (0 < w.waits) × (w.waits < 2 ^ 32)
 CarriesWord _ = Unit {0}
 
 -- a sound run, whose machine is kept so
@@ -82,6 +125,7 @@ pub record IsSoundRunOf (IsKeptSo : Core → Type 0) (parts : Parts) (run : Run)
   -- it holds the tickets that its calls have left it
   pub tickets : (k l : ℕ)
       → holds ((run.core.lists l).seats k) ≡ holds_ticket l (take (run.begun k) (calls_of parts k))
+  pub skipped : (k : ℕ) → SkipsFit (calls_of parts k) (run.begun k) (run.core.standing k)
   pub words : (g : ℕ) → (run.core.groups g).waits < 2 ^ 32
   pub carried : (k : ℕ) → CarriesWord (run.core.standing k)
   -- each call adds at most 2^32 units, and takes at most one ticket

@@ -9,8 +9,8 @@ use Rattle.step_law_whole.specs.RunPromises.{IsLawfulRun}
 use Rattle.step_law_whole.specs.RunGrants.{EachStepGrantsLeast}
 
 -- each sound run is lawful, and at rest where no seat can run: no ticket is ever late. And each step of a
--- schedule grants the least ungranted ticket alone, or all that were handed out when its L5 read the wait
--- word
+-- schedule grants the least ticket that is neither granted nor gone alone, or all such that were handed out when
+-- its L5 read the wait word
 pub record TheRunLaw : Type 0 where
   pub lawful : (parts : Parts) (run : Run) → IsScenario parts → IsSoundRun parts run
       → IsLawfulRun (layout parts) run.core

@@ -3,20 +3,35 @@
 use Rattle.std.specs.Prelude.{ℕ, zero, suc, ◌+◌, ◌-◌, ◌*◌, min, ◌==◌, if◌then◌else◌, Bool, true, false}
 use Rattle.std.specs.Prelude.{length}
 use Rattle.step_table.specs.declared.place.AcquireRow.{AcquireRow}
-use Rattle.step_table.specs.declared.place.AcquireRow.TheVariants.{A1, A2, A3, A4, A5, A6, A7, A8, A9, P, A10}
-use Rattle.step_table.specs.declared.place.AcquireRow.TheVariants.{A11}
+use Rattle.step_table.specs.declared.place.AcquireRow.TheVariants.{A1, A2, A3, A4, A5, A6, A7, A8, A9, Parked, A10}
+use Rattle.step_table.specs.declared.place.ParkedRow.TheVariants.{P, D2, D3, D5}
+use Rattle.step_table.specs.declared.place.AcquireRow.TheVariants.{A11, D4}
 use Rattle.step_table.specs.declared.place.ReleaseRow.{ReleaseRow}
 use Rattle.step_table.specs.declared.place.ReleaseRow.TheVariants.{R1, R2, R3, R4, R5, R6, R7, R8, R9, R10}
 use Rattle.step_table.specs.declared.place.ManyRow.{ManyRow}
 use Rattle.step_table.specs.declared.place.ManyRow.TheVariants.{M1, M2, M3, M4, M5, M6, M7}
 use Rattle.step_table.specs.declared.place.Place.{Place}
+use Rattle.step_table.specs.declared.place.ParkedRow.{ParkedRow}
 use Rattle.step_table.specs.declared.place.Place.TheVariants.{Rest, Acquiring, Releasing, ReleasingMany}
 use Rattle.step_table.specs.World.{Layout, SemaWorld}
 use Rattle.step_table.specs.Steps.{Choice, moved}
 use Rattle.step_table.specs.Counting.{total}
 
--- of n seats: what a seat weighs at a row of an acquire, with this grant. A sleeper keeps what its exchanges
--- cost the others, so who wakes it pays for the six rows of a round in vain alone
+-- of n seats: what a sleeper weighs, with this grant. It keeps what its exchanges cost the others, so who wakes
+-- it pays for the six rows of a round in vain alone
+abbrev pub asleep_weight : ℕ → ℕ → ℕ
+asleep_weight n zero = 2 * n
+asleep_weight n (suc zero) = 2 * n + 6
+asleep_weight n (suc (suc grant)) = 1
+
+-- the same of one that may give up: where it is about to take its wait out, it keeps nothing for the others
+abbrev pub parked_weight : ℕ → ParkedRow → ℕ → ℕ
+parked_weight n P grant = asleep_weight n grant
+parked_weight n D2 grant = asleep_weight n grant + 2
+parked_weight n D3 grant = asleep_weight n grant - 2 * n + 2
+parked_weight n D5 grant = asleep_weight n grant + 1
+
+-- of n seats: what a seat weighs at a row of an acquire, with this grant
 abbrev pub acquire_weight : ℕ → AcquireRow → ℕ → ℕ
 acquire_weight n A1 grant = 2 * n + 5
 acquire_weight n (A2 left) grant = 2 * n + 4
@@ -27,11 +42,10 @@ acquire_weight n (A6 left) grant = 2 * n + 1
 acquire_weight n A7 grant = 2 * n + 1
 acquire_weight n A8 grant = 2
 acquire_weight n A9 grant = 1
-acquire_weight n (P turn) zero = 2 * n
-acquire_weight n (P turn) (suc zero) = 2 * n + 6
-acquire_weight n (P turn) (suc (suc grant)) = 1
 acquire_weight n A10 grant = 2 * n + 5
 acquire_weight n (A11 left) grant = 2 * n + 4
+acquire_weight n D4 grant = 1
+acquire_weight n (Parked turn row) grant = parked_weight n row grant
 
 -- what a release pays beside, while it may still take the unit for the waiter: that exchange may make all
 -- others stale
@@ -90,7 +104,8 @@ abbrev pub weight : Layout → SemaWorld → ℕ
 weight m s = total m.seats (seat_weight m.seats s)
 
 -- of n seats: what a caller's choice between two places costs. To decide whether a unit is handed over costs
--- what is paid beside for handing it over, and to give up costs nothing
+-- what is paid beside for handing it over, to give up a sleep two rows and the way back, to sleep on beside a wait
+-- that was to be taken out what a sleeper keeps, and all else nothing
 abbrev pub release_cost : ℕ → Bool → ℕ
 release_cost n true = 4 * n + 10
 release_cost n false = 2 * n + 11
@@ -100,6 +115,8 @@ cost n Rest (Acquiring a row) = 2 * n + 5
 cost n Rest (Releasing r row) = release_cost n r.handoff
 cost n Rest (ReleasingMany r row) = 2 * n + 8 * min r.units (n - 1) + 3
 cost n (Releasing q row) (Releasing r other) = 2 * n - 1
+cost n (Acquiring a (Parked turn P)) q = 2
+cost n (Acquiring a (Parked turn D3)) q = 2 * n - 1
 cost n _ _ = 0
 
 -- the caller of seat i chooses, at this cost

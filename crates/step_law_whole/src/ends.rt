@@ -13,9 +13,9 @@ pub fn law_of_the_semaphores_ends()
     ensures { TheSemaEnds }
 {}
 
-/// The ends of one notify list, whose weight doesn't depend on how many seats there are. Rows end, for up to
-/// 2^63 seats, and where they end each sleeper is in the list, its ticket ungranted, unless a seat has looked
-/// at a late one.
+/// The ends of one notify list, whose weight doesn't depend on how many seats there are. While its journal is
+/// in reach rows end, and where they end each sleeper is in the list, its ticket neither granted nor gone,
+/// unless a seat has looked at a late one.
 pub fn law_of_the_lists_ends()
     ensures { TheListEnds }
 {}

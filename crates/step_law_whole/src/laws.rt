@@ -10,8 +10,8 @@ pub fn law_of_the_core()
 {}
 
 /// Each run of a scenario, in which no ticket is ever late: what is promised of it has no premise on late
-/// tickets. And each of its steps that grants tickets grants the least ungranted one alone, or all that were
-/// handed out when its L5 read the wait word.
+/// tickets. And each of its steps that grants tickets grants the least that is neither granted nor gone alone,
+/// or all such that were handed out when its L5 read the wait word.
 pub fn law_of_the_runs()
     ensures { TheRunLaw }
 {}

@@ -1,6 +1,6 @@
 -- What a row of the semaphores does, and on which words.
 use Rattle.std.specs.Prelude.{◌≡◌, ℕ, ◌<◌, Option, MatchOption, IsTrue}
-use Rattle.step_table.specs.declared.entry.Entry.TheVariants.{Queue, Leave}
+use Rattle.step_table.specs.declared.entry.Entry.TheVariants.{Queue, Leave, Withdraw}
 use Rattle.step_table.specs.declared.effect.Effect.{Effect}
 use Rattle.step_table.specs.declared.effect.Effect.TheVariants.{Tells}
 use Rattle.step_table.specs.declared.word.Word.{Word}
@@ -29,4 +29,5 @@ IsWordWithin counters seats (Grant s) = s < seats
 abbrev pub HasRoom : ℕ → Effect → Type 0
 HasRoom counters (Tells (Queue c w lifo)) = c < counters
 HasRoom counters (Tells (Leave c w s)) = c < counters
+HasRoom counters (Tells (Withdraw c w)) = c < counters
 HasRoom counters _ = Unit {0}

@@ -7,14 +7,21 @@ ghost use Rattle.step_table.specs.ListEvent.{waiter};
 use step_table::{ListEffect, ListPlace};
 use waiters::{SeatId, Wait};
 
-/// How many tickets were handed out and granted; the first wait of the list; at `O8` that which it takes out;
-/// the first wait in the seat's hand, and how many it has there.
+/// How many tickets were handed out; the number of the first that is neither granted nor gone, and how many
+/// behind it are gone; the first wait of the list, and how many it has in hand. A row that doesn't look there
+/// finds nothing of the others.
 #[derive(Clone, Copy, Drop)]
 pub struct ListSight {
     pub handed: u64,
-    pub granted: u64,
+    pub passed: u64,
+    pub gone: usize,
     pub queued: Option<Wait>,
+    /// The wait that `O8` takes out.
     pub asked: Option<Wait>,
+    /// Whether the list has a wait of the seat, which looks for it at `E1`.
+    pub waits: bool,
+    /// What `O7` and `E3` leave in the notify word.
+    pub next: u64,
     pub in_hand: Option<Wait>,
     pub held: usize,
 }

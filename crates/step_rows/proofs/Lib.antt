@@ -9,6 +9,7 @@ pub mod Holding
 pub mod Seating
 pub mod Seeing
 pub mod Stepping
+pub mod Gone
 pub mod Handing
 pub mod Noting
 pub mod Opening

@@ -117,16 +117,18 @@ first_word first h = omega arith
 
 pub first_told : (h : Inside) (old : Lists) (first n : ℕ) → first < 2 ^ 64 → AreFresh old h.waits h.seats.items n
     → list_at old h.queue ≡ Some [] → old.room ≡ n
-    → h.wait ≡ first → h.notify ≡ first → h.lock ≡ 0 → h.handed ≡ 0 → h.granted ≡ 0 → moment_of (the_view h) ≡ first_moment first n
-first_told h old first n fits fresh opened room wait notify lock handed granted =
+    → h.wait ≡ first → h.notify ≡ first → h.lock ≡ 0 → h.handed ≡ 0 → h.passed ≡ 0 → h.gone_numbers.items ≡ [] → h.gone.items ≡ []
+    → moment_of (the_view h) ≡ first_moment first n
+first_told h old first n fits fresh opened room wait notify lock handed passed gone_numbers gone =
     told_is h ∙ (λ j. record {
       words = record {
         wait = (wait ∙ first_word first fits) j;
         notify = (notify ∙ first_word first fits) j;
         lock = lock j;
         grants = fun_ext (λ k. no_grant old h.waits h.queue h.seats.items n fresh opened room k (slice_get h.seats.items k) refl) j;
-        numbers = record { handed = handed j; granted = granted j };
+        numbers = record { handed = handed j; passed = passed j; gone = gone_numbers j };
         queue = ap (λ o. unwrap_or o []) (queue_empty old h.waits h.queue h.seats.items n fresh opened room) j;
+        gone = gone j;
       };
       seats = fun_ext (λ k. at_rest old h.waits h.queue h.seats.items n fresh opened room k (slice_get h.seats.items k) refl) j;
       count = fresh.count_is j;

@@ -3,7 +3,8 @@ use Rattle.std.proofs.Common.{ℕ, ◌+◌, ◌==◌, length, Bool, true, false,
 use Rattle.std.proofs.Common.{sym}
 use Rattle.waiters.specs.declared.wait.WaitId.{WaitId}
 use Rattle.step_outcomes.specs.declared.outcome.Outcome.{Outcome}
-use Rattle.step_table.specs.declared.place.AcquireRow.TheVariants.{A2, A6, A7, A11}
+use Rattle.step_table.specs.declared.place.AcquireRow.TheVariants.{A2, A6, A7, A11, Parked}
+use Rattle.step_table.specs.declared.place.ParkedRow.TheVariants.{P}
 use Rattle.step_table.specs.declared.place.ReleaseRow.TheVariants.{R5, R8}
 use Rattle.step_table.specs.declared.place.ManyRow.TheVariants.{M5}
 use Rattle.step_table.specs.declared.place.Place.{Place}
@@ -32,6 +33,8 @@ module _ (h : Stored) where
   moves s seat lists (Acquiring a (A6 left)) n may = either (n == left + 1) _ _ tt tt
   moves s seat lists (Acquiring a (A11 left)) n may = either (n == left + 1) _ _ tt tt
   moves s seat lists (Acquiring a A7) n may = may
+  moves s seat lists (Acquiring a (Parked turn P)) n may = tt
+  moves s seat lists (Acquiring a (Parked turn row)) n may = tt
   moves s seat lists (Acquiring a row) n may = tt
   moves s seat lists (Releasing r (R8 left)) n may = either (n == left + 1) _ _ tt tt
   moves s seat lists (Releasing r R5) n may = by_wait (lists r.counter) _ _ tt (λ w. may)

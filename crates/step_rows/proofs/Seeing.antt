@@ -2,6 +2,8 @@
 use Rattle.std.proofs.Common.{◌≡◌, ℕ, List, Option, refl, ap, ◌∙◌, subst}
 use Rattle.waiters.specs.declared.wait.WaitId.{WaitId}
 use Rattle.step_rows.specs.declared.caller.Caller.{Caller}
+use Rattle.step_table.specs.declared.place.AcquireRow.TheVariants.{A1, Parked}
+use Rattle.step_table.specs.declared.place.ParkedRow.TheVariants.{P}
 use Rattle.step_table.specs.declared.place.Place.{Place}
 use Rattle.step_table.specs.declared.place.Place.TheVariants.{Rest, Acquiring, Releasing, ReleasingMany}
 use Rattle.step_table.specs.declared.place.ReleaseRow.TheVariants.{R1}
@@ -23,6 +25,9 @@ module _ (s : ℕ) (caller : Caller) (hand : List WaitId) (lists : ℕ → List 
 
   same_event : (p : Place) → sees p ≡ is_shown p
   same_event Rest = refl
+  same_event (Acquiring a A1) = refl
+  same_event (Acquiring a (Parked turn P)) = refl
+  same_event (Acquiring a (Parked turn row)) = refl
   same_event (Acquiring a row) = refl
   same_event (Releasing r R1) = refl
   same_event (Releasing r row) = refl

@@ -7,7 +7,7 @@ use native.Mathlib.Decide.{ℕ_discrete, dec_lt}
 use mathlib.Core.Path.{fun_ext}
 use Rattle.waiters.specs.declared.wait.WaitId.{WaitId}
 use Rattle.step_table.specs.declared.entry.Entry.{Entry}
-use Rattle.step_table.specs.declared.entry.Entry.TheVariants.{Queue, Leave}
+use Rattle.step_table.specs.declared.entry.Entry.TheVariants.{Queue, Leave, Withdraw}
 use Rattle.step_table.specs.declared.effect.Effect.TheVariants.{Tells}
 use Rattle.step_table.specs.declared.word.Word.{Word}
 use Rattle.step_table.specs.declared.word.Word.TheVariants.{Counter, Lock, Waiters, Grant}
@@ -197,10 +197,12 @@ lists_alone h n s lists is = record {
 
 -- an entry that neither queues a wait nor takes one out
 pub tells_alone : (h : Stored) (s : ℕ) (e : Entry) → ((c : ℕ) (w : WaitId) (lifo : Bool) → e ≢ Queue c w lifo)
-    → ((c : ℕ) (w : WaitId) (k : ℕ) → e ≢ Leave c w k) → Makes (Tells e) s h h
-tells_alone h s (Queue c w lifo) queues leaves = absurd (queues c w lifo refl)
-tells_alone h s (Leave c w k) queues leaves = absurd (leaves c w k refl)
-tells_alone h s _ queues leaves = moves_nothing h s
+    → ((c : ℕ) (w : WaitId) (k : ℕ) → e ≢ Leave c w k) → ((c : ℕ) (w : WaitId) → e ≢ Withdraw c w)
+    → Makes (Tells e) s h h
+tells_alone h s (Queue c w lifo) queues leaves withdraws = absurd (queues c w lifo refl)
+tells_alone h s (Leave c w k) queues leaves withdraws = absurd (leaves c w k refl)
+tells_alone h s (Withdraw c w) queues leaves withdraws = absurd (withdraws c w refl)
+tells_alone h s _ queues leaves withdraws = moves_nothing h s
 
 -- the element of a place that a list has
 pub get_here : {A : Type 0} (d : A) (l : List A) (i : ℕ) (x : A) → slice_get l i ≡ Some x → (i < length l) × (each d l i ≡ x)

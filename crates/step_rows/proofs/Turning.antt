@@ -1,5 +1,5 @@
 -- What a row of a notify list asks for lets its effect be made; and effect, word and place together are its turn.
-use Rattle.std.proofs.Common.{◌≡◌, ℕ, ◌+◌, Bool, true, false, if◌then◌else◌, List, Option, Some, None, refl, sym, ap, ◌∙◌, subst}
+use Rattle.std.proofs.Common.{◌≡◌, ℕ, ◌+◌, Bool, true, false, if◌then◌else◌, List, Option, Some, None, refl, sym, ap, ◌∙◌, subst, arith}
 use Rattle.std.proofs.Common.{nat_lt}
 use Rattle.std.proofs.lemmas.Bool.{le-ltb}
 use Rattle.waiters.specs.declared.wait.Wait.{Wait}
@@ -12,13 +12,14 @@ use Rattle.step_table.specs.declared.list_place.ListPlace.{ListPlace}
 use Rattle.step_table.specs.declared.list_place.ListPlace.TheVariants.{Rest, Adding, Waiting, NotifyingOne, NotifyingAll}
 use Rattle.step_table.specs.declared.list_place.ListWord.{ListWord}
 use Rattle.step_table.specs.declared.list_place.ListWord.TheVariants as word
-use Rattle.step_table.specs.declared.list_place.OneRow.TheVariants.{O8}
-use Rattle.step_table.specs.declared.list_place.WaitRow.TheVariants.{W2, W4}
+use Rattle.step_table.specs.declared.list_place.OneRow.TheVariants.{O7, O8}
+use Rattle.step_table.specs.declared.list_place.WaitRow.TheVariants.{W2, W4, Parked}
+use Rattle.step_table.specs.declared.list_place.ListParkedRow.TheVariants.{E3}
 use Rattle.step_table.specs.World.{put}
 use Rattle.step_table.specs.ListWorld.{ListSeat, ListEntry, written, ticket_after, hand_after, late_after, journal_after}
 use Rattle.step_table.specs.ListEvent.{ListNext, ListEvent, by_found}
 use Rattle.step_table.specs.ListTable.{list_event_at}
-use Rattle.step_table.specs.ListSteps.{event_of, finds, turned, seat_after, ListTurn}
+use Rattle.step_table.specs.ListSteps.{event_of, finds, turned, words_with, seat_after, ListTurn}
 use Rattle.step_rows.specs.ListStored.{ListMoment, world_at, HasListRow, AsksAt, Allows, made, placed}
 use Rattle.step_outcomes.specs.ListOutcomes.{IsListOutcome}
 use Rattle.step_table.proofs.Sums.{put_here}
@@ -38,16 +39,19 @@ module _ (m : ListMoment) (i : ℕ) (row : HasListRow m.count m.words m.seats i)
   asked Rest a v = tt
   asked Adding a v = row.handed
   asked (Waiting t W4) a v = a
+  asked (Waiting t (Parked (E3 n))) a v = let room = row.passed in (a, omega arith)
+  asked (Waiting t (Parked r)) a v = tt
   asked (Waiting t r) a v = tt
+  asked (NotifyingOne h (O7 t)) a v = let room = row.passed in omega arith
   asked (NotifyingOne h (O8 t)) a v = by_wait (first_with t m.words.queue) _ _ tt (λ w. tt)
   asked (NotifyingOne h r) a v = tt
-  asked (NotifyingAll h (L6 r)) a v = either _ Nothing (Grants r.handed) tt tt
+  asked (NotifyingAll h (L6 r)) a v = either _ Nothing (Grants r.handed) tt a
   asked (NotifyingAll h (L7 n)) a v = a
   asked (NotifyingAll h r) a v = tt
 
-  never_late : (p : ListPlace) → AsksAt m.count m.words m.seats (m.seats i) p → (late : ℕ) → late ≡ late_after p m.words.numbers.granted late
+  never_late : (p : ListPlace) → AsksAt m.count m.words m.seats (m.seats i) p → (late : ℕ) → late ≡ late_after p m.words.numbers.passed late
   never_late (Waiting t W2) a late =
-      let f : nat_lt (t.number + 9223372036854775808) m.words.numbers.granted ≡ false = le-ltb (t.number + 9223372036854775808) m.words.numbers.granted a in
+      let f : nat_lt (t.number + 9223372036854775808) m.words.numbers.passed ≡ false = le-ltb (t.number + 9223372036854775808) m.words.numbers.passed a in
       sym (ap (λ b. if b then 1 else late) f)
   never_late p a late = refl
 
@@ -58,10 +62,10 @@ module _ (m : ListMoment) (i : ℕ) (row : HasListRow m.count m.words m.seats i)
     -- the effect, then the word, then the place
     abbrev run : ListWord → ℕ → ListNext → ListMoment
     run w x next =
-        let n : ListMoment = made m i next.1 in placed (record n { words = written n.words w x }) i next.0
+        let n : ListMoment = made m i next.1 x in placed (record n { words = written n.words w x }) i next.0
 
     words_run : (w : ListWord) (x : ℕ) (next : ListNext)
-        → (run w x next).words ≡ record (written m.words w x) { numbers = (made m i next.1).words.numbers; queue = (made m i next.1).words.queue }
+        → (run w x next).words ≡ words_with m.words w x next
     words_run word.Wait x next = refl
     words_run word.Notify x next = refl
     words_run word.Lock x next = refl

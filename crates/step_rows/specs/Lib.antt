@@ -3,4 +3,5 @@ pub mod Seats
 pub mod Stored
 pub mod ListStored
 pub mod Apart
+pub mod Gone
 pub mod RootWords

@@ -1,18 +1,20 @@
 -- A notify list as it is stored, what its rows see, and what they ask for.
-use Rattle.std.specs.Prelude.{◌≡◌, ◌≢◌, ℕ, ◌+◌, ◌<◌, ◌≤◌, ◌^◌, IsTrue, List}
+use Rattle.std.specs.Prelude.{◌≡◌, ◌≢◌, ℕ, ◌+◌, ◌*◌, ◌<◌, ◌≤◌, ◌^◌, IsTrue, List}
 use Rattle.std.specs.Prelude.{[], Option, Some, None, IfSome, length, slice_get}
 use Rattle.std.specs.Option.{option_map}
 use Rattle.waiters.specs.declared.wait.Wait.{Wait}
 use Rattle.waiters.specs.Lists.{Lists, list_at, IsOpen, waits_at}
-use Rattle.step_table.specs.declared.list_place.AllRow.TheVariants.{L7}
+use Rattle.step_table.specs.declared.list_place.AllRow.TheVariants.{L6, L7}
 use Rattle.step_table.specs.declared.list_place.ListEffect.{ListEffect}
-use Rattle.step_table.specs.declared.list_place.ListEffect.TheVariants.{HandsOut, Queues, TakesAll}
+use Rattle.step_table.specs.declared.list_place.ListEffect.TheVariants.{HandsOut, Grants, Queues}
+use Rattle.step_table.specs.declared.list_place.ListEffect.TheVariants.{TakesAll, Forgoes}
+use Rattle.step_table.specs.declared.list_place.ListParkedRow.TheVariants.{E3}
 use Rattle.step_table.specs.declared.list_place.ListPlace.{ListPlace}
 use Rattle.step_table.specs.declared.list_place.ListPlace.TheVariants.{Rest, Waiting, NotifyingAll}
 use Rattle.step_table.specs.declared.list_place.ListWord.{ListWord}
 use Rattle.step_table.specs.declared.list_place.ListWord.TheVariants.{Lock}
 use Rattle.step_table.specs.declared.list_place.Ticket.{Ticket}
-use Rattle.step_table.specs.declared.list_place.WaitRow.TheVariants.{W2, W4}
+use Rattle.step_table.specs.declared.list_place.WaitRow.TheVariants.{W2, W4, Parked}
 use Rattle.step_rows.specs.declared.ready.ListReady.{ListReady}
 use Rattle.step_rows.specs.declared.list_machine.SeatRecord.{SeatRecord}
 use Rattle.step_table.specs.declared.refusal.StepRefused.{StepRefused}
@@ -20,7 +22,7 @@ use Rattle.step_table.specs.declared.refusal.StepRefused.TheVariants.{LockHeld, 
 use Rattle.step_table.specs.Counting.{total}
 use Rattle.step_table.specs.World.{put}
 use Rattle.step_table.specs.ListWorld.{ListWords, ListSeat, ListEntry, ListWorld, numbers_after}
-use Rattle.step_table.specs.ListWorld.{queue_after, hand_after, ticket_after, journal_after, first_list}
+use Rattle.step_table.specs.ListWorld.{queue_after, gone_after, hand_after, ticket_after, journal_after, first_list}
 use Rattle.step_table.specs.ListSteps.{event_of, finds, effect_of, can_turn, ListTurn}
 use Rattle.step_outcomes.specs.ListOutcomes.{IsListOutcome, HasListWord}
 
@@ -36,7 +38,9 @@ pub record StoredList : Type 0 where
   pub notify : ℕ
   pub lock : ℕ
   pub handed : ℕ
-  pub granted : ℕ
+  pub passed : ℕ
+  pub gone_numbers : List ℕ
+  pub gone : List ℕ
   pub queue : List Wait
   pub seats : List StoredSeat
 
@@ -63,8 +67,9 @@ moment_of l =
         notify = l.notify;
         lock = l.lock;
         grants = λ k. grant_of (slice_get l.seats k);
-        numbers = record { handed = l.handed; granted = l.granted };
+        numbers = record { handed = l.handed; passed = l.passed; gone = l.gone_numbers };
         queue = l.queue;
+        gone = l.gone;
       };
       seats = λ k. seat_of (slice_get l.seats k);
       count = length l.seats;
@@ -110,11 +115,22 @@ pub record AreLists (waits : Lists) (queue : ℕ) (seats : List SeatRecord) : Ty
 abbrev pub waits_in : ℕ → ListWords → (ℕ → ListSeat) → ℕ
 waits_in seats g stand = length g.queue + held seats stand
 
--- what the row at this place asks for: that the ticket isn't late, that its wait fits, or that the hand is
--- empty
+-- how many tickets of so many seats may be gone: one of each call of a scenario
+abbrev pub most_gone : ℕ → ℕ
+most_gone seats = 32 * seats
+
+-- one more fits
+pub record HasGoneRoom (seats : ℕ) (g : ListWords) : Type 0 where
+  pub words : length g.gone < most_gone seats
+  pub numbers : length g.numbers.gone < most_gone seats
+
+-- what the row at this place asks for: that the ticket isn't late, that its wait fits, that a gone ticket fits,
+-- that the number to which it passes fits a word, or that the hand is empty
 abbrev pub AsksAt : ℕ → ListWords → (ℕ → ListSeat) → ListSeat → ListPlace → Type 0
-AsksAt seats g stand seat (Waiting t W2) = g.numbers.granted ≤ t.number + 2 ^ 63
+AsksAt seats g stand seat (Waiting t W2) = g.numbers.passed ≤ t.number + 2 ^ 63
 AsksAt seats g stand seat (Waiting t W4) = waits_in seats g stand < seats
+AsksAt seats g stand seat (Waiting t (Parked (E3 v))) = HasGoneRoom seats g
+AsksAt seats g stand seat (NotifyingAll h (L6 r)) = r.handed + length g.numbers.gone < 2 ^ 64
 AsksAt seats g stand seat (NotifyingAll h (L7 n)) = seat.hand ≡ []
 AsksAt seats g stand seat _ = Unit {0}
 
@@ -122,7 +138,7 @@ AsksAt seats g stand seat _ = Unit {0}
 pub record HasListRow (seats : ℕ) (g : ListWords) (stand : ℕ → ListSeat) (i : ℕ) : Type 0 where
   pub seat : i < seats
   pub handed : g.numbers.handed + 1 < 2 ^ 64
-  pub granted : g.numbers.granted + 1 < 2 ^ 64
+  pub passed : g.numbers.passed + length g.numbers.gone + 2 < 2 ^ 64
   pub waiter : IfSome (slice_get (stand i).hand 0) (λ w. w.id.seat < seats)
   pub asks : AsksAt seats g stand (stand i) (stand i).place
 
@@ -138,13 +154,14 @@ list_refused_by _ = Asleep
 abbrev pub placed : ListMoment → ℕ → ListPlace → ListMoment
 placed l i place = record l { seats = put l.seats i (record (l.seats i) { place = place }) }
 
--- the list after this effect of a row of seat i
-abbrev pub made : ListMoment → ℕ → ListEffect → ListMoment
-made l i effect =
+-- the list after this effect of a row of seat i, which writes x
+abbrev pub made : ListMoment → ℕ → ListEffect → ℕ → ListMoment
+made l i effect x =
     record l {
       words = record l.words {
         numbers = numbers_after effect l.words.numbers;
         queue = queue_after effect l.words.queue;
+        gone = gone_after effect x l.words.gone;
       };
       seats = put l.seats i (record (l.seats i) {
         ticket = ticket_after effect (l.seats i).ticket;
@@ -156,7 +173,10 @@ made l i effect =
 abbrev pub Allows : ListMoment → ℕ → ListEffect → Type 0
 Allows l i (HandsOut t) = l.words.numbers.handed + 1 < 2 ^ 64
 Allows l i (Queues w) = waits_in l.count l.words l.seats < l.count
+Allows l i (Grants upto) = upto + length l.words.numbers.gone < 2 ^ 64
 Allows l i TakesAll = (l.seats i).hand ≡ []
+Allows l i (Forgoes w) =
+    HasGoneRoom l.count l.words × (l.words.numbers.passed + length l.words.numbers.gone + 1 < 2 ^ 64)
 Allows l i _ = Unit {0}
 
 -- seat i has run its row, with this effect: the world with any journal has turned, and the journal tells the

@@ -12,7 +12,8 @@ use Rattle.step_table.specs.declared.effect.Effect.{Effect}
 use Rattle.step_table.specs.declared.effect.Effect.TheVariants.{Tells}
 use Rattle.step_table.specs.declared.refusal.StepRefused.{StepRefused}
 use Rattle.step_table.specs.declared.refusal.StepRefused.TheVariants.{LockHeld, Asleep}
-use Rattle.step_table.specs.declared.place.AcquireRow.TheVariants.{A7}
+use Rattle.step_table.specs.declared.place.AcquireRow.TheVariants.{A7, Parked}
+use Rattle.step_table.specs.declared.place.ParkedRow.TheVariants.{D2}
 use Rattle.step_table.specs.declared.place.ReleaseRow.TheVariants.{R4, R5, R6, R8, R9, R10}
 use Rattle.step_table.specs.declared.place.ManyRow.TheVariants.{M4, M5, M6, M7}
 use Rattle.step_table.specs.declared.place.Place.{Place}
@@ -21,7 +22,7 @@ use Rattle.step_rows.specs.declared.ready.Ready.{Ready}
 use Rattle.step_table.specs.declared.word.Word.{Word}
 use Rattle.step_table.specs.declared.word.Word.TheVariants.{Counter, Lock, Waiters, Grant}
 use Rattle.step_table.specs.World.{Words, SeatState, SemaWorld, root_number, put, found, lists_after}
-use Rattle.step_table.specs.World.{journal_after, turn_after, hand_after}
+use Rattle.step_table.specs.World.{journal_after, turn_after, hand_after, stands_in}
 use Rattle.step_table.specs.Event.{Event}
 use Rattle.step_table.specs.Table.{event_at}
 use Rattle.step_table.specs.Steps.{words_after, event_of, finds, turned, moved}
@@ -154,6 +155,7 @@ first_stored starts groups roots seats =
 
 -- the row of this place looks at its counter's list
 abbrev pub looks_at_list : Place → Bool
+looks_at_list (Acquiring a (Parked turn D2)) = true
 looks_at_list (Releasing r R4) = true
 looks_at_list (Releasing r R5) = true
 looks_at_list (ReleasingMany r M4) = true
@@ -187,6 +189,11 @@ IsListed lists _ first = Unit {0}
 abbrev pub IsQueue : (ℕ → List WaitId) → Place → ℕ → Type 0
 IsQueue lists (ReleasingMany r row) n = length (lists r.counter) ≡ n
 IsQueue lists _ n = Unit {0}
+
+-- whether the list of an acquire's counter has a wait of the seat
+abbrev pub IsInList : ℕ → (ℕ → List WaitId) → Place → Bool → Type 0
+IsInList s lists (Acquiring a row) b = stands_in s (lists a.counter) ≡ b
+IsInList s lists _ b = Unit {0}
 
 -- the wait that an effect puts into a list or a hand fits
 abbrev pub HasSeat : Stored → Effect → Type 0

@@ -7,8 +7,8 @@ ghost use Rattle.waiters.specs.declared.wait.WaitId.{WaitId};
 ghost use Rattle.step_table.specs.World.{turn_after};
 ghost use Rattle.step_table.specs.Table.{event_at};
 ghost use Rattle.step_outcomes.specs.Outcomes.{HasRoom, Does};
-ghost use Rattle.step_rows.specs.Stored.{Stored, HasRowsOf, HasWord, IsListed, IsQueue, seat_of, stored_words};
-ghost use Rattle.step_rows.specs.Stored.{idle};
+ghost use Rattle.step_rows.specs.Stored.{Stored, HasRowsOf, HasWord, IsListed, IsQueue, IsInList, seat_of};
+ghost use Rattle.step_rows.specs.Stored.{stored_words, idle};
 ghost use Rattle.step_rows.specs.Stored.{row_event, row_finds, lets_through, hands_of, hand_seen, lists_seen};
 ghost use Rattle.step_rows.specs.Stored.{HasGuard};
 ghost use Rattle.step_table.specs.Counting.{IsWithin};
@@ -16,7 +16,7 @@ ghost use Rattle.step_table.specs.Counting.{IsWithin};
 use crate::sema_store::SemaStore;
 use std::alloc::{AllocError, Global};
 use step_outcomes::{Outcome, RowSight, acquire, release, release_many};
-use step_table::{AcquireRow, Effect, Entry, ManyRow, Place, ReleaseRow, Word};
+use step_table::{AcquireRow, Effect, Entry, ManyRow, ParkedRow, Place, ReleaseRow, Word};
 use waiters::{CounterId, SeatId, WaitId};
 
 /// Where a seat stands on the semaphores, and how many waits it has queued there.
@@ -49,8 +49,10 @@ impl Caller {
         match self.place {
             Place::Rest => RowGuard::Shut,
             Place::Acquiring(acquire, row) => match row {
-                AcquireRow::A3 => RowGuard::Unlocked(acquire.counter),
-                AcquireRow::P(_) => RowGuard::Granted,
+                AcquireRow::A3 | AcquireRow::Parked(_, ParkedRow::D2) => {
+                    RowGuard::Unlocked(acquire.counter)
+                }
+                AcquireRow::Parked(_, ParkedRow::P) => RowGuard::Granted,
                 _ => RowGuard::Open,
             },
             Place::Releasing(release, row) => match row {
@@ -89,10 +91,15 @@ impl Caller {
             (lists_seen self.now.place (stored_words shared.now).lists) self.now.place result.listed }
         ensures queued { IsQueue
             (lists_seen self.now.place (stored_words shared.now).lists) self.now.place result.queued }
+        ensures in_list { IsInList seat
+            (lists_seen self.now.place (stored_words shared.now).lists) self.now.place result.in_list }
         ensures in_hand { slice_get (hand_seen self.now.place (hands_of shared.now seat)) 0 ≡ result.in_hand }
         ensures held { length (hand_seen self.now.place (hands_of shared.now seat)) ≡ result.held }
     {
         match self.place {
+            Place::Acquiring(acquire, AcquireRow::Parked(_, ParkedRow::D2)) => {
+                RowSight::of_own(shared.holds(acquire.counter, seat))
+            }
             Place::Releasing(release, row) => match row {
                 ReleaseRow::R4 | ReleaseRow::R5 => RowSight::of_list(
                     shared.first(release.counter),
@@ -113,6 +120,7 @@ impl Caller {
                     queued: shared.queued(release.counter),
                     in_hand: shared.in_hand(seat),
                     held: shared.held(seat),
+                    in_list: false,
                 },
                 ManyRow::M6 | ManyRow::M7 => {
                     RowSight::of_hand(shared.in_hand(seat), shared.held(seat))
@@ -132,13 +140,14 @@ impl Caller {
             → length hand ≡ sight.now.held
             → IsListed lists self.now.place sight.now.listed
             → IsQueue lists self.now.place sight.now.queued
+            → IsInList seat lists self.now.place sight.now.in_list
             → Does (event_at seat (seat_of self.now hand) lists self.now.place) found result }
     {
         let turn = self.turn;
         match self.place {
             Place::Rest => None,
             Place::Acquiring(acquire, row) => {
-                acquire::outcome_of(seat, turn, acquire, row, found)
+                acquire::outcome_of(seat, turn, sight, acquire, row, found)
             }
             Place::Releasing(release, row) => {
                 release::outcome_of(seat, sight, release, row, found)

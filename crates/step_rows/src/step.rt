@@ -37,6 +37,7 @@ fn apply_entry(shared: &mut SemaStore, seat: SeatId, entry: &Entry)
             shared.take(seat, wait);
             shared.leave(counter);
         }
+        Entry::Withdraw(counter, wait) => shared.withdraw(counter, wait),
         _ => {}
     }
 }

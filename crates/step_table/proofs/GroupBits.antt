@@ -1,6 +1,6 @@
 -- Words of wait groups are numbers of 64 bits, and each row does to the number what it does to the word.
-use Rattle.std.proofs.Common.{◌≡◌, ℕ, ◌+◌, ◌*◌, ◌/◌, ◌%◌, ◌<◌, ◌==◌, ◌&&◌, if◌then◌else◌, Bool, true, false, ℤ, pos}
-use Rattle.std.proofs.Common.{negsuc, ◌*ℤ◌, refl, sym, ap, ◌∙◌, eqb-true}
+use Rattle.std.proofs.Common.{◌≡◌, ℕ, ◌+◌, ◌-◌, ◌*◌, ◌/◌, ◌%◌, ◌<◌, ◌==◌, ◌&&◌, if◌then◌else◌, Bool, true, false, ℤ, pos}
+use Rattle.std.proofs.Common.{negsuc, ◌*ℤ◌, refl, sym, ap, ◌∙◌, subst, eqb-true}
 use Rattle.std.proofs.Common.{eq-eqb, arith}
 use Rattle.std.specs.Prelude.{FitsSigned}
 use Rattle.std.specs.Int.{w32, w64, cast_signed, cast_unsigned, int_wrapping_add}
@@ -9,8 +9,8 @@ use Rattle.std.specs.Ordering.{int_eq}
 use Rattle.std.proofs.lemmas.Bool.Decides.{Decides-eqb, Decides-int_eq, same_from_decides}
 use Rattle.step_table.specs.declared.group_word.GroupWord.{GroupWord}
 use Rattle.step_table.specs.declared.standing.GroupRow.{GroupRow}
-use Rattle.step_table.specs.declared.standing.GroupRow.TheVariants.{G1, G2, G3, V1, V2, V3}
-use Rattle.step_table.specs.Group.{same_word, plus, one_more, group_row}
+use Rattle.step_table.specs.declared.standing.GroupRow.TheVariants.{G1, G2, G3, V1, V2, V3, V4, V5}
+use Rattle.step_table.specs.Group.{same_word, plus, one_more, one_less, group_row}
 use Rattle.step_table.specs.GroupBits.{bits_of, word_in, IsGroupWord, high, bits_after, ComparesWord, TheGroupWords}
 
 pub same_is : (a b : GroupWord) → same_word a b ≡ true → a ≡ b
@@ -112,13 +112,16 @@ waits w is = by (w.waits == 4294967295) refl
             × (w.waits ≡ 4294967295 → (w.waits == 4294967295) ≡ true) → w.waits < 4294967295
         not_full d = let few = is.1 in let differ : w.waits ≡ 4294967295 → ⊥ = λ q. absurd (let yes = d.1 q in cc) in omega arith
 
+less : (w : GroupWord) → 0 < w.waits → bits_of (one_less w) ≡ bits_of w - 1
+less w some = omega arith
+
 -- rows
 pub kept : (w : GroupWord) (row : GroupRow) → IsGroupWord w → IsGroupWord (group_row row w).0
 kept w (G1 d) is = (fits_back ((cast_unsigned w32 w.counter + cast_unsigned w32 d) % 4294967296) (omega arith), is.1)
 kept w (G2 seen) is = is
 kept w (G3 seen) is = words 0 (omega arith)
-kept w V1 is = is
-kept w (V2 seen) is = by (same_word seen w) (w.waits == 4294967295) refl
+kept w (V1 ending) is = is
+kept w (V2 ending seen) is = by (same_word seen w) (w.waits == 4294967295) refl
   where
     fits : FitsSigned w32 (int_wrapping_add w32 w.counter (pos 1))
     fits = fits_back ((cast_unsigned w32 w.counter + cast_unsigned w32 (pos 1)) % 4294967296) (omega arith)
@@ -132,7 +135,13 @@ kept w (V2 seen) is = by (same_word seen w) (w.waits == 4294967295) refl
     by true true e = (fits, omega arith)
     by true false e = (is.0, room e)
     by false full e = is
-kept w V3 is = is
+kept w (V3 ending) is = is
+kept w (V4 how) is = is
+kept w (V5 how seen) is = by (same_word seen w)
+  where
+    by : (won : Bool) → IsGroupWord (if won then one_less w else w)
+    by true = (is.0, let few = is.1 in omega arith)
+    by false = is
 
 swapped : (a b : ℕ) → (a == b) ≡ (b == a)
 swapped a b =
@@ -142,14 +151,26 @@ pub rows : (w : GroupWord) (row : GroupRow) → IsGroupWord w → ComparesWord r
 rows w (G1 d) is compares = adds w d is
 rows w (G2 seen) is compares = refl
 rows w (G3 seen) is compares = refl
-rows w V1 is compares = refl
-rows w (V2 seen) is compares =
+rows w (V1 ending) is compares = refl
+rows w (V2 ending seen) is compares =
     ap (λ b. bits_of (if b then one_more w else w)) (same seen w compares is ∙ swapped (bits_of seen) (bits_of w)) ∙ by (bits_of w == bits_of seen)
   where
     by : (b : Bool) → bits_of (if b then one_more w else w) ≡ (if b then (bits_of w + 1) % 18446744073709551616 else bits_of w)
     by true = waits w is
     by false = refl
-rows w V3 is compares = refl
+rows w (V3 ending) is compares = refl
+rows w (V4 how) is compares = refl
+rows w (V5 how seen) is compares = by (same_word seen w) refl
+  where
+    by : (b : Bool) → same_word seen w ≡ b
+        → bits_of (if b then one_less w else w) ≡ (if bits_of w == bits_of seen then bits_of w - 1 else bits_of w)
+    by b e =
+        subst (λ t. bits_of (if b then one_less w else w) ≡ (if t then bits_of w - 1 else bits_of w))
+        (sym e ∙ same seen w compares.0 is ∙ swapped (bits_of seen) (bits_of w)) (taken b e)
+      where
+        taken : (b : Bool) → same_word seen w ≡ b → bits_of (if b then one_less w else w) ≡ (if b then bits_of w - 1 else bits_of w)
+        taken true e = less w (subst (λ (x : GroupWord). 0 < x.waits) (same_is seen w e) compares.1)
+        taken false e = refl
 
 pub shown : (n : ℕ) (row : GroupRow) → n < 18446744073709551616 → ComparesWord row
     → word_in (bits_after row n) ≡ (group_row row (word_in n)).0
@@ -168,6 +189,7 @@ the_group_words = record {
   adds = adds;
   highs = highs;
   waits = waits;
+  less = less;
   empty = refl;
   kept = kept;
   rows = rows;

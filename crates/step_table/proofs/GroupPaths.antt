@@ -2,9 +2,9 @@
 use Rattle.std.proofs.Common.{◌≡◌, ℕ, true, false, IsTrue, [], refl, sym, ap, ◌∙◌, subst}
 use Rattle.step_table.specs.declared.group_word.GroupWord.{GroupWord}
 use Rattle.step_table.specs.declared.standing.GroupNext.{GroupNext}
-use Rattle.step_table.specs.declared.standing.GroupNext.TheVariants.{Ends, Goes, Fails, Acquires, Releases}
+use Rattle.step_table.specs.declared.standing.GroupNext.TheVariants.{Ends, Goes, Fails, Acquires, Releases, SleepsOn, Withdraws}
 use Rattle.step_table.specs.declared.standing.GroupRow.{GroupRow}
-use Rattle.step_table.specs.declared.standing.GroupRow.TheVariants.{G1, G2, G3, V1, V2, V3}
+use Rattle.step_table.specs.declared.standing.GroupRow.TheVariants.{G1, G2, G3, V1, V2, V3, V4, V5}
 use Rattle.step_table.specs.Group.{group_row}
 use Rattle.step_table.specs.GroupBits.{IsGroupWord}
 use Rattle.step_table.specs.Path.{Deed, runs, looks, Did}
@@ -20,9 +20,11 @@ row_can : (row : GroupRow) (w : GroupWord) → IsTrue ((next_event (Goes row)).c
 row_can (G1 d) w = search
 row_can (G2 seen) w = search
 row_can (G3 seen) w = search
-row_can V1 w = search
-row_can (V2 seen) w = search
-row_can V3 w = search
+row_can (V1 ending) w = search
+row_can (V2 ending seen) w = search
+row_can (V3 ending) w = search
+row_can (V4 how) w = search
+row_can (V5 how seen) w = search
 
 pub group_rows : (i : ℕ) (row : GroupRow) (w : GroupWord) → IsGroupWord w
     → GroupRan i (going (Goes row)) (ran_row row w) (going (group_row row w).1)
@@ -53,8 +55,10 @@ goes_to_row : (next : GroupNext) (w : GroupWord) → IsTrue ((next_event next).c
 goes_to_row (Goes row) w can = (row, refl)
 goes_to_row Ends w can = absurd (let no : false ≡ true = can in cc)
 goes_to_row (Fails misuse) w can = absurd (let no : false ≡ true = can in cc)
-goes_to_row Acquires w can = absurd (let no : false ≡ true = can in cc)
+goes_to_row (Acquires ending) w can = absurd (let no : false ≡ true = can in cc)
 goes_to_row (Releases n) w can = absurd (let no : false ≡ true = can in cc)
+goes_to_row (SleepsOn how) w can = absurd (let no : false ≡ true = can in cc)
+goes_to_row (Withdraws how) w can = absurd (let no : false ≡ true = can in cc)
 
 pub group_strides : (i : ℕ) (v w : GroupSight) (p : GroupStride) → GroupRan i v p w
     → IsGroupWord p.read × (p.stood ≡ v.stands) × GroupDid p w p.deed

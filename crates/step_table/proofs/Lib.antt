@@ -1,6 +1,8 @@
 pub mod Wrapping
 pub mod Sums
 pub mod SumsOfSums
+pub mod Withdrawing
+pub mod Skipping
 pub mod Turns
 pub mod Paths
 pub mod GroupBits

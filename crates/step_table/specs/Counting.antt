@@ -25,6 +25,11 @@ abbrev pub times : WaitId → List WaitId → ℕ
 times w [] = 0
 times w (x ∷ l) = same w x + times w l
 
+-- how often a number stands in a list of numbers
+abbrev pub among : ℕ → List ℕ → ℕ
+among n [] = 0
+among n (m ∷ l) = on n m 1 + among n l
+
 -- 1 where a grant word isn't 0
 abbrev pub granted : ℕ → ℕ
 granted zero = 0

@@ -2,7 +2,7 @@
 use Rattle.std.specs.Prelude.{List, map}
 use Rattle.waiters.specs.declared.wait.WaitId.{WaitId}
 use Rattle.step_table.specs.declared.place.AcquireRow.{AcquireRow}
-use Rattle.step_table.specs.declared.place.AcquireRow.TheVariants.{P}
+use Rattle.step_table.specs.declared.place.AcquireRow.TheVariants.{Parked}
 use Rattle.step_table.specs.declared.place.Place.{Place}
 use Rattle.step_table.specs.declared.place.Place.TheVariants.{Acquiring}
 
@@ -14,7 +14,7 @@ abbrev pub erased_ids : List WaitId → List WaitId
 erased_ids waits = map erased_id waits
 
 abbrev pub erased_row : AcquireRow → AcquireRow
-erased_row (P turn) = P 0
+erased_row (Parked turn row) = Parked 0 row
 erased_row row = row
 
 abbrev pub erased_place : Place → Place

@@ -1,10 +1,10 @@
 -- The journal's own account of the counters and lists, and when a journal is lawful.
-use Rattle.std.specs.Prelude.{◌≡◌, ℕ, ◌+◌, ◌-◌, ◌<◌, ◌≤◌, List, [], ◌∷◌, ◌++◌, eqb, cond}
+use Rattle.std.specs.Prelude.{◌≡◌, ℕ, ◌+◌, ◌-◌, ◌<◌, ◌≤◌, Bool, ◌&&◌, if◌then◌else◌, List, [], ◌∷◌, ◌++◌, eqb, cond}
 use Rattle.waiters.specs.declared.wait.WaitId.{WaitId}
 use Rattle.step_table.specs.declared.entry.Entry.{Entry}
-use Rattle.step_table.specs.declared.entry.Entry.TheVariants.{Add, AddMany, Take, Queue, Leave}
+use Rattle.step_table.specs.declared.entry.Entry.TheVariants.{Add, AddMany, Take, Queue, Leave, Withdraw}
 use Rattle.step_table.specs.World.{Words, put, listed}
-use Rattle.step_table.specs.Counting.{on, same}
+use Rattle.step_table.specs.Counting.{on, same, times}
 
 -- each counter has a number and a list of waits
 pub record Plain : Type 0 where
@@ -25,17 +25,33 @@ numbered (AddMany c n s) numbers = put numbers c (numbers c + n)
 numbered (Take c s) numbers = put numbers c (numbers c - 1)
 numbered _ numbers = numbers
 
+-- the two are one wait
+abbrev pub is_same : WaitId → WaitId → Bool
+is_same w x = eqb w.seat x.seat && eqb w.turn x.turn
+
+-- the list without this wait, the others in their order
+abbrev pub without_wait : WaitId → List WaitId → List WaitId
+without_wait w [] = []
+without_wait w (x ∷ l) = if is_same x w then l else x ∷ without_wait w l
+
+-- what an entry tells of the lists: one that is withdrawn is that very wait
+abbrev pub told_lists : Entry → (ℕ → List WaitId) → ℕ → List WaitId
+told_lists (Withdraw c w) lists = put lists c (without_wait w (lists c))
+told_lists e lists = listed e lists
+
 abbrev pub effect_of : Entry → Plain → Plain
-effect_of e x = record { numbers = numbered e x.numbers; lists = listed e x.lists }
+effect_of e x = record { numbers = numbered e x.numbers; lists = told_lists e x.lists }
 
 abbrev pub replay : Plain → List Entry → Plain
 replay x [] = x
 replay x (e ∷ es) = replay (effect_of e x) es
 
--- a unit is taken only where there is one, and the wait that leaves is the first
+-- a unit is taken only where there is one, the wait that leaves is the first, and one that is withdrawn is in the
+-- list
 abbrev pub IsDefined : Entry → Plain → Type 0
 IsDefined (Take c s) x = 0 < x.numbers c
 IsDefined (Leave c w s) x = (l : List WaitId) × (x.lists c ≡ w ∷ l)
+IsDefined (Withdraw c w) x = 0 < times w (x.lists c)
 IsDefined _ x = Unit {0}
 
 -- what a seat may still take out: the counter of its last release, and that release's units less the waits
@@ -67,7 +83,7 @@ abbrev pub IsOwned : Entry → List Entry → Type 0
 IsOwned (Leave c w s) before = Owes s c 1 before
 IsOwned _ before = Unit {0}
 
--- how often a wait was queued, and how often it has left
+-- how often a wait was queued, how often it has left for a release, and how often it was withdrawn
 abbrev pub queued : WaitId → List Entry → ℕ
 queued w [] = 0
 queued w (Queue c x lifo ∷ es) = same w x + queued w es
@@ -78,16 +94,21 @@ left w [] = 0
 left w (Leave c x s ∷ es) = same w x + left w es
 left w (e ∷ es) = left w es
 
+abbrev pub withdrawn : WaitId → List Entry → ℕ
+withdrawn w [] = 0
+withdrawn w (Withdraw c x ∷ es) = same w x + withdrawn w es
+withdrawn w (e ∷ es) = withdrawn w es
+
 -- each entry was defined where it stands, and each wait left for a unit of its releaser's own
 abbrev pub Follows : Plain → List Entry → Type 0
 Follows start journal =
     (before after : List Entry) (e : Entry) → journal ≡ before ++ e ∷ after
     → IsDefined e (replay start before) × IsOwned e before
 
--- and no wait was queued twice or left twice
+-- and no wait was queued twice, and none left its list twice: it left for a release, or was withdrawn
 abbrev pub IsLawful : Plain → List Entry → Type 0
 IsLawful start journal =
-    Follows start journal × ((w : WaitId) → (queued w journal ≤ 1) × (left w journal ≤ 1))
+    Follows start journal × ((w : WaitId) → (queued w journal ≤ 1) × (left w journal + withdrawn w journal ≤ 1))
 
 -- how many units were taken for the seat s
 abbrev pub takes : ℕ → List Entry → ℕ

@@ -2,16 +2,17 @@
 use Rattle.std.specs.Prelude.{◌≡◌, ℕ, Bool, Option, Some, None}
 use Rattle.step_table.specs.declared.list_place.AllRow.TheVariants.{L1}
 use Rattle.step_table.specs.declared.list_place.ListEffect.{ListEffect}
+use Rattle.step_table.specs.declared.list_place.ListParkedRow.TheVariants.{P, E1}
 use Rattle.step_table.specs.declared.list_place.ListPlace.{ListPlace}
 use Rattle.step_table.specs.declared.list_place.ListPlace.TheVariants.{Rest, Adding, Waiting, NotifyingOne}
 use Rattle.step_table.specs.declared.list_place.ListPlace.TheVariants.{NotifyingAll}
 use Rattle.step_table.specs.declared.list_place.OneRow.TheVariants.{O1, O3}
 use Rattle.step_table.specs.declared.list_place.Ticket.{Ticket}
-use Rattle.step_table.specs.declared.list_place.WaitRow.TheVariants.{W1}
+use Rattle.step_table.specs.declared.list_place.WaitRow.TheVariants.{W1, Parked}
 use Rattle.step_table.specs.declared.list_place.ListWord.{ListWord}
 use Rattle.step_table.specs.World.{put}
 use Rattle.step_table.specs.ListWorld.{ListWords, ListSeat, ListWorld, found, written, numbers_after}
-use Rattle.step_table.specs.ListWorld.{queue_after, hand_after, ticket_after, late_after, journal_after}
+use Rattle.step_table.specs.ListWorld.{queue_after, gone_after, hand_after, ticket_after, late_after, journal_after}
 use Rattle.step_table.specs.ListWorld.{first_list}
 use Rattle.step_table.specs.ListEvent.{ListNext, ListEvent}
 use Rattle.step_table.specs.ListTable.{list_table}
@@ -19,10 +20,14 @@ use Rattle.step_table.specs.Turn.{Rules, TurnOf, LeadsBy, IsEndOf}
 pub use Rattle.step_table.specs.Turn.{none, more}
 use Rattle.step_table.specs.Turn as turns
 
--- the words, numbers and waits after x was written in this word
+-- the words, numbers, waits and gone tickets after x was written in this word
 abbrev pub words_with : ListWords → ListWord → ℕ → ListNext → ListWords
 words_with g w x next =
-    record (written g w x) { numbers = numbers_after next.1 g.numbers; queue = queue_after next.1 g.queue }
+    record (written g w x) {
+      numbers = numbers_after next.1 g.numbers;
+      queue = queue_after next.1 g.queue;
+      gone = gone_after next.1 x g.gone;
+    }
 
 -- those after an event that found v
 abbrev pub words_after : ListWords → ListEvent → ℕ → ListWords
@@ -35,7 +40,7 @@ seat_after g next seat =
       place = next.0;
       ticket = ticket_after next.1 seat.ticket;
       hand = hand_after next.1 g.queue seat.hand;
-      late = late_after seat.place g.numbers.granted seat.late;
+      late = late_after seat.place g.numbers.passed seat.late;
     }
 
 -- the event of seat i
@@ -82,11 +87,14 @@ with_ticket seat (Some t) = record seat { place = Waiting t W1; ticket = None }
 abbrev pub waiting : ListWorld → ℕ → ListWorld
 waiting s i = record s { seats = put s.seats i (with_ticket (s.seats i) (s.seats i).ticket) }
 
--- what a caller may choose: to notify one or all; and to end after the two looks of a notification of one
+-- what a caller may choose: to notify one or all; to end after the two looks of a notification of one; to give
+-- up a sleep, and, before it has taken the lock, to sleep on
 pub data ListChoice : ListPlace → ListPlace → Type 0 where
   notify_one : ListChoice Rest (NotifyingOne 0 O1)
   notify_all : ListChoice Rest (NotifyingAll 0 L1)
   end_looks : (h : ℕ) → ListChoice (NotifyingOne h O3) Rest
+  leave : (t : Ticket) → ListChoice (Waiting t (Parked P)) (Waiting t (Parked E1))
+  sleep_on : (t : Ticket) → ListChoice (Waiting t (Parked E1)) (Waiting t (Parked P))
 
 -- one step of seat i: a row, or a choice of its caller
 pub data ListStep (s : ListWorld) (i : ℕ) : ListWorld → Type 0 where

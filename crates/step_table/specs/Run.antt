@@ -1,6 +1,6 @@
 -- A scenario's run: each seat makes its calls one after the other, and a schedule says whose row runs next.
 use Rattle.std.specs.Prelude.{◌≡◌, ◌⊎◌, ℕ, zero, suc, ◌+◌, nat_lt, cond, Bool, true, false, List, [], ◌∷◌}
-use Rattle.std.specs.Prelude.{◌++◌, Option, Some, None, length, slice_get, slice_index_or, take}
+use Rattle.std.specs.Prelude.{◌++◌, Option, Some, None, length, min, slice_get, slice_index_or, take}
 use Rattle.step_table.specs.declared.call.Call.{Call}
 use Rattle.step_table.specs.declared.entry.Entry.{Entry}
 use Rattle.step_table.specs.declared.list_place.ListWord.{ListWord}
@@ -11,14 +11,14 @@ use Rattle.step_table.specs.declared.refusal.StepRefused.{StepRefused}
 use Rattle.step_table.specs.declared.refusal.StepRefused.TheVariants.{NoSuchSeat, SeatEnded, LockHeld, Asleep}
 use Rattle.step_table.specs.declared.refusal.StepRefused.TheVariants.{SeatFailed, NoMemory}
 use Rattle.step_table.specs.declared.standing.Standing.{Standing}
-use Rattle.step_table.specs.declared.standing.Standing.TheVariants.{Rest, AtCounter, AtList, AtGroup, Failed}
+use Rattle.step_table.specs.declared.standing.Standing.TheVariants.{Rest, AtCounter, AtList, AtGroup, Left, Failed}
 use Rattle.step_table.specs.declared.word.Word.{Word}
 use Rattle.step_table.specs.declared.word.Word.TheVariants as word
 use Rattle.step_table.specs.World.{root_number, put}
 use Rattle.step_table.specs.Steps.{event_of}
 use Rattle.step_table.specs.ListSteps as list
 use Rattle.step_table.specs.Core.{CoreLayout, Core, first_core}
-use Rattle.step_table.specs.CoreSteps.{calls, can_run, core_turned}
+use Rattle.step_table.specs.CoreSteps.{calls, can_run, core_turned, stands}
 
 -- the machine, and how many of its calls each seat has begun
 pub record Run : Type 0 where
@@ -50,9 +50,19 @@ abbrev pub begun : Run → ℕ → Option Call → Run
 begun run i None = run
 begun run i (Some call) = record { core = calls run.core i call; begun = put run.begun i (run.begun i + 1) }
 
+-- so many of the seat's next calls are left out, of those that there are
+abbrev pub left_out : Parts → Run → ℕ → ℕ → Run
+left_out parts run i skips =
+    record {
+      core = stands run.core i Rest;
+      begun = put run.begun i (min (run.begun i + skips) (length (slice_index_or parts.calls i [])));
+    }
+
 -- where its call has ended, the seat i begins its next one, if it has one
 abbrev pub continued : Parts → Run → ℕ → Standing → Run
 continued parts run i Rest = begun run i (call_of parts i (run.begun i))
+continued parts run i (Left skips) =
+    let next : Run = left_out parts run i skips in begun next i (call_of parts i (next.begun i))
 continued parts run i standing = run
 
 -- each of the first n seats has begun its first call
@@ -90,9 +100,10 @@ abbrev pub refusal_of : CoreLayout → Core → ℕ → Standing → Option Step
 refusal_of m s i Rest = Some SeatEnded
 refusal_of m s i (AtCounter after) =
     unless (can_run m s i (AtCounter after)) (refused_at (event_of s.semaphores i).word)
-refusal_of m s i (AtList l) =
-    unless (can_run m s i (AtList l)) (list_refused_at (list.event_of (s.lists l) i).word)
+refusal_of m s i (AtList l ending) =
+    unless (can_run m s i (AtList l ending)) (list_refused_at (list.event_of (s.lists l) i).word)
 refusal_of m s i (AtGroup g row) = None
+refusal_of m s i (Left skips) = Some SeatEnded
 refusal_of m s i (Failed misuse) = Some SeatFailed
 
 -- why seat i can't step, memory aside: there is no such seat, it has ended or failed, or its row's condition

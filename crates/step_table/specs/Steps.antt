@@ -1,7 +1,8 @@
 -- Steps of the world: rows of the table, and what a caller may begin or give up between them.
 use Rattle.std.specs.Prelude.{ℕ, ◌<◌, ◌≤◌, Bool}
 use Rattle.step_table.specs.declared.place.Acquire.{Acquire}
-use Rattle.step_table.specs.declared.place.AcquireRow.TheVariants.{A1, A3}
+use Rattle.step_table.specs.declared.place.AcquireRow.TheVariants.{A1, A3, Parked}
+use Rattle.step_table.specs.declared.place.ParkedRow.TheVariants.{P, D2, D3, D5}
 use Rattle.step_table.specs.declared.place.Release.{Release}
 use Rattle.step_table.specs.declared.place.ReleaseRow.TheVariants.{R1, R3}
 use Rattle.step_table.specs.declared.place.ReleaseMany.{ReleaseMany}
@@ -58,8 +59,9 @@ abbrev pub moved : SemaWorld → ℕ → Place → SemaWorld
 moved s i place = record s { seats = put s.seats i (record (s.seats i) { place = place }) }
 
 -- what a caller may choose: to begin an acquire, at its first row or at the lock, a release, or a release of
--- 1 to 256 units; to give up an acquire before it has the lock; and, of a release that goes to the lock,
--- whether it hands its unit over
+-- 1 to 256 units; to give up an acquire before it has the lock; of a release that goes to the lock, whether it
+-- hands its unit over; to give up a sleep, to sleep on before it has the lock, and to sleep on after it found
+-- its wait queued
 pub data Choice (counters : ℕ) : Place → Place → Type 0 where
   acquire : (a : Acquire) → a.counter < counters → Choice counters Rest (Acquiring a A1)
   enter : (a : Acquire) → a.counter < counters → Choice counters Rest (Acquiring a A3)
@@ -70,6 +72,9 @@ pub data Choice (counters : ℕ) : Place → Place → Type 0 where
   give_up_lock : (a : Acquire) → Choice counters (Acquiring a A3) Rest
   decide : (r : Release) (handoff : Bool)
       → Choice counters (Releasing r R3) (Releasing (record r { handoff = handoff }) R3)
+  leave : (a : Acquire) (turn : ℕ) → Choice counters (Acquiring a (Parked turn P)) (Acquiring a (Parked turn D2))
+  sleep_on : (a : Acquire) (turn : ℕ) → Choice counters (Acquiring a (Parked turn D2)) (Acquiring a (Parked turn P))
+  stay : (a : Acquire) (turn : ℕ) → Choice counters (Acquiring a (Parked turn D3)) (Acquiring a (Parked turn D5))
 
 -- one step of seat i: a row, or a choice of its caller
 pub data Step (m : Layout) (s : SemaWorld) (i : ℕ) : SemaWorld → Type 0 where

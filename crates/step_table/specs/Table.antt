@@ -14,7 +14,7 @@ use Rattle.step_table.specs.ReleaseMany.{release_many_event}
 -- the event at this place, for the seat s
 abbrev pub event_at : ℕ → SeatState → (ℕ → List WaitId) → Place → Event
 event_at s seat lists Rest = stays (Grant s) (to Rest)
-event_at s seat lists (Acquiring a row) = acquire_event s seat.turn a row
+event_at s seat lists (Acquiring a row) = acquire_event s seat.turn (lists a.counter) a row
 event_at s seat lists (Releasing r row) = release_event s seat.hand (lists r.counter) r row
 event_at s seat lists (ReleasingMany r row) = release_many_event s seat.hand (lists r.counter) r row
 

@@ -1,9 +1,9 @@
 -- The world that the step table speaks of: words, lists, seats and the journal, by their numbers.
 use Rattle.std.specs.Prelude.{ℕ, ◌+◌, ◌-◌, ◌%◌, Bool, true, false, List, [], ◌∷◌, ◌++◌, drop, eqb, cond}
-use Rattle.std.specs.Prelude.{nat_lt}
+use Rattle.std.specs.Prelude.{nat_lt, ◌||◌, if◌then◌else◌, Option, Some, None}
 use Rattle.waiters.specs.declared.wait.WaitId.{WaitId}
 use Rattle.step_table.specs.declared.entry.Entry.{Entry}
-use Rattle.step_table.specs.declared.entry.Entry.TheVariants.{Queue, Leave}
+use Rattle.step_table.specs.declared.entry.Entry.TheVariants.{Queue, Leave, Withdraw}
 use Rattle.step_table.specs.declared.effect.Effect.{Effect}
 use Rattle.step_table.specs.declared.effect.Effect.TheVariants.{Tells, Wakes}
 use Rattle.step_table.specs.declared.place.Place.{Place}
@@ -52,6 +52,20 @@ unfoldable pub insert_wait : Bool → WaitId → List WaitId → List WaitId
 insert_wait true w l = w ∷ l
 insert_wait false w l = l ++ w ∷ []
 
+-- the wait of the seat k that stands in the list. A seat has one at most, and so no row looks at turns
+abbrev pub wait_of : ℕ → List WaitId → Option WaitId
+wait_of k [] = None
+wait_of k (w ∷ l) = if eqb w.seat k then Some w else wait_of k l
+
+abbrev pub stands_in : ℕ → List WaitId → Bool
+stands_in k [] = false
+stands_in k (w ∷ l) = eqb w.seat k || stands_in k l
+
+-- the list without it, the others in their order
+abbrev pub without : ℕ → List WaitId → List WaitId
+without k [] = []
+without k (w ∷ l) = if eqb w.seat k then l else w ∷ without k l
+
 -- the number in a word
 abbrev pub found : (ℕ → ℕ) → Words → Word → ℕ
 found root g (Counter c) = g.numbers c
@@ -70,6 +84,7 @@ written root g (Grant s) x = record g { grants = put g.grants s x }
 abbrev pub listed : Entry → (ℕ → List WaitId) → ℕ → List WaitId
 listed (Queue c w lifo) lists = put lists c (insert_wait lifo w (lists c))
 listed (Leave c w s) lists = put lists c (drop 1 (lists c))
+listed (Withdraw c w) lists = put lists c (without w.seat (lists c))
 listed _ lists = lists
 
 abbrev pub lists_after : Effect → (ℕ → List WaitId) → ℕ → List WaitId

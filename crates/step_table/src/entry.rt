@@ -14,8 +14,12 @@ pub enum Entry {
     Queue(CounterId, WaitId, bool),
     /// The wait, which was the first, left for a release by the seat.
     Leave(CounterId, WaitId, SeatId),
+    /// The wait was taken out, wherever it stood: its seat gave up.
+    Withdraw(CounterId, WaitId),
     /// The seat took the next ticket of the list.
     Ticket(ListId, SeatId),
-    /// The seat granted the first tickets of the list, so many that this many are granted.
+    /// The seat granted the first tickets of the list up to this many, but for the gone ones.
     Grant(ListId, u64, SeatId),
+    /// The ticket of this number is gone: its seat, which had it, gave up its wait on the list.
+    Forgo(ListId, u64, SeatId),
 }

@@ -29,7 +29,7 @@ mod row;
 mod standing;
 mod word;
 
-pub use call::Call;
+pub use call::{Call, GivingUp, Late};
 pub use effect::Effect;
 pub use entry::Entry;
 pub use group_id::GroupId;
@@ -37,16 +37,19 @@ pub use group_word::GroupWord;
 pub use items::Items;
 pub use laws::{law_of_the_group_paths, law_of_the_group_words};
 pub use limits::{
-    MAX_CALLS, MAX_COUNTERS, MAX_GROUPS, MAX_LISTS, MAX_ROOTS, MAX_SEATS, MAX_UNITS, MIN_UNITS,
+    MAX_CALLS, MAX_COUNTERS, MAX_GROUPS, MAX_LISTS, MAX_ROOTS, MAX_SEATS, MAX_SKIPS, MAX_UNITS,
+    MIN_UNITS,
 };
 pub use list_id::ListId;
-pub use list_place::{AllRow, ListEffect, ListPlace, ListWord, OneRow, Reach, Ticket, WaitRow};
+pub use list_place::{
+    AllRow, ListEffect, ListParkedRow, ListPlace, ListWord, OneRow, Reach, Ticket, WaitRow,
+};
 pub use misuse::Misuse;
 pub use order::{less, minus, next_word};
 pub use parts::Parts;
 pub use phase::Phase;
-pub use place::{Acquire, AcquireRow, ManyRow, Place, Release, ReleaseMany, ReleaseRow};
+pub use place::{Acquire, AcquireRow, ManyRow, ParkedRow, Place, Release, ReleaseMany, ReleaseRow};
 pub use refusal::{RunRefused, ScenarioRefused, StepRefused};
 pub use row::Row;
-pub use standing::{After, GroupNext, GroupRow, Standing};
+pub use standing::{After, Ending, GroupNext, GroupRow, Standing};
 pub use word::Word;

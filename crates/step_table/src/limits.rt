@@ -12,6 +12,8 @@ pub const MAX_GROUPS: u32 = 16;
 pub const MAX_SEATS: usize = 16;
 /// The most calls of a seat.
 pub const MAX_CALLS: usize = 32;
+/// The most calls of a seat that are left out where a call is given up.
+pub const MAX_SKIPS: u32 = 31;
 /// The fewest units of a release of many.
 pub const MIN_UNITS: u32 = 1;
 /// The most units of a release of many.

@@ -1,5 +1,5 @@
 ghost use Rattle.std.specs.Prelude.{◌≡◌};
-ghost use Rattle.step_table.specs.Row.{list_row_of, wait_row_name, one_row_name, all_row_name};
+ghost use Rattle.step_table.specs.Row.{list_row_of, wait_row_name, list_parked_row_name, one_row_name, all_row_name};
 
 use crate::row::Row;
 use waiters::{SeatId, Wait};
@@ -20,7 +20,21 @@ pub enum WaitRow {
     W2,
     W3,
     W4,
+    /// It has left: its ticket is gone.
+    E4,
+    /// Its wait is queued, in a hand or granted.
+    Parked(ListParkedRow),
+}
+
+/// A row of a seat that is parked: it looks for its grant, or gives up its sleep. `E3` carries the notify word
+/// that was read.
+#[derive(Clone, Copy, Drop)]
+pub enum ListParkedRow {
     P,
+    E1,
+    E2,
+    E3(u64),
+    E5,
 }
 
 /// A row of a notification of one wait. `O2` carries the wait word, `O5`, `O7` and `O8` the notify word that
@@ -50,7 +64,7 @@ pub struct Reach {
 }
 
 /// A row of a notification of all waits. `L2` carries the wait word, `L5` the notify word that was read,
-/// `L7` how many tickets the call has granted. The waits that it took out are in the seat's hand.
+/// `L7` how many tickets the call has granted: those that it passed but for the gone ones. The waits that it took out are in the seat's hand.
 #[derive(Clone, Copy, Drop)]
 pub enum AllRow {
     L1,
@@ -82,7 +96,7 @@ pub enum ListPlace {
 pub enum ListWord {
     /// The next ticket.
     Wait,
-    /// The first ticket that isn't granted.
+    /// The first ticket that is neither granted nor gone.
     Notify,
     /// The lock word: 0 is free.
     Lock,
@@ -107,6 +121,8 @@ pub enum ListEffect {
     TakesAll,
     /// The first wait in the hand was granted, and leaves the hand.
     Gives,
+    /// The wait's seat has left: its wait goes out of the list, and its ticket is gone, as the journal tells.
+    Forgoes(Wait),
 }
 
 impl ListPlace {
@@ -133,7 +149,22 @@ impl WaitRow {
             WaitRow::W2 => Row::W2,
             WaitRow::W3 => Row::W3,
             WaitRow::W4 => Row::W4,
-            WaitRow::P => Row::P,
+            WaitRow::E4 => Row::E4,
+            WaitRow::Parked(row) => row.name(),
+        }
+    }
+}
+
+impl ListParkedRow {
+    fn name(self) -> Row
+        ensures { result ≡ list_parked_row_name self }
+    {
+        match self {
+            ListParkedRow::P => Row::P,
+            ListParkedRow::E1 => Row::E1,
+            ListParkedRow::E2 => Row::E2,
+            ListParkedRow::E3(_) => Row::E3,
+            ListParkedRow::E5 => Row::E5,
         }
     }
 }

@@ -1,5 +1,6 @@
 ghost use Rattle.std.specs.Prelude.{◌≡◌};
-ghost use Rattle.step_table.specs.Row.{row_of, acquire_row_name, release_row_name, many_row_name};
+ghost use Rattle.step_table.specs.Counting.{counter_at};
+ghost use Rattle.step_table.specs.Row.{row_of, acquire_row_name, parked_row_name, release_row_name, many_row_name};
 
 use crate::row::Row;
 use waiters::CounterId;
@@ -29,7 +30,7 @@ pub struct ReleaseMany {
 }
 
 /// A row of an acquire, with what the seat carries to it. An exchange carries the number that it would leave:
-/// one less than was read. A parked seat carries its wait's turn.
+/// one less than was read.
 #[derive(Clone, Copy, Drop)]
 pub enum AcquireRow {
     A1,
@@ -41,9 +42,20 @@ pub enum AcquireRow {
     A7,
     A8,
     A9,
-    P(u64),
     A10,
     A11(u64),
+    D4,
+    /// Its wait of this turn is queued, in a hand or granted.
+    Parked(u64, ParkedRow),
+}
+
+/// A row of a seat that is parked: it looks for its grant, or gives up its sleep.
+#[derive(Clone, Copy, Drop)]
+pub enum ParkedRow {
+    P,
+    D2,
+    D3,
+    D5,
 }
 
 /// A row of a release, with what the seat carries to it.
@@ -94,6 +106,18 @@ impl Place {
             Place::ReleasingMany(_, row) => Some(row.name()),
         }
     }
+
+    /// The counter of the seat's call, or any where it has none.
+    pub fn counter(&self) -> CounterId
+        ensures { result ≡ counter_at self.now }
+    {
+        match *self {
+            Place::Rest => CounterId::new(0),
+            Place::Acquiring(acquire, _) => acquire.counter,
+            Place::Releasing(release, _) => release.counter,
+            Place::ReleasingMany(release, _) => release.counter,
+        }
+    }
 }
 
 impl AcquireRow {
@@ -110,9 +134,23 @@ impl AcquireRow {
             AcquireRow::A7 => Row::A7,
             AcquireRow::A8 => Row::A8,
             AcquireRow::A9 => Row::A9,
-            AcquireRow::P(_) => Row::P,
             AcquireRow::A10 => Row::A10,
             AcquireRow::A11(_) => Row::A11,
+            AcquireRow::D4 => Row::D4,
+            AcquireRow::Parked(_, row) => row.name(),
+        }
+    }
+}
+
+impl ParkedRow {
+    fn name(self) -> Row
+        ensures { result ≡ parked_row_name self }
+    {
+        match self {
+            ParkedRow::P => Row::P,
+            ParkedRow::D2 => Row::D2,
+            ParkedRow::D3 => Row::D3,
+            ParkedRow::D5 => Row::D5,
         }
     }
 }

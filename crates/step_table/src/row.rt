@@ -18,6 +18,16 @@ pub enum Row {
     A10,
     A11,
     P,
+    D1,
+    D2,
+    D3,
+    D4,
+    D5,
+    E1,
+    E2,
+    E3,
+    E4,
+    E5,
     R1,
     R2,
     R3,
@@ -63,6 +73,8 @@ pub enum Row {
     V1,
     V2,
     V3,
+    V4,
+    V5,
 }
 
 impl Row {
@@ -83,6 +95,16 @@ impl Row {
             Row::A10 => "A10",
             Row::A11 => "A11",
             Row::P => "P",
+            Row::D1 => "D1",
+            Row::D2 => "D2",
+            Row::D3 => "D3",
+            Row::D4 => "D4",
+            Row::D5 => "D5",
+            Row::E1 => "E1",
+            Row::E2 => "E2",
+            Row::E3 => "E3",
+            Row::E4 => "E4",
+            Row::E5 => "E5",
             Row::R1 => "R1",
             Row::R2 => "R2",
             Row::R3 => "R3",
@@ -128,6 +150,8 @@ impl Row {
             Row::V1 => "V1",
             Row::V2 => "V2",
             Row::V3 => "V3",
+            Row::V4 => "V4",
+            Row::V5 => "V5",
         }
     }
 }

@@ -25,7 +25,7 @@ pub record IsMade {T : Type 0} (seats : ℕ) (g : GuardedModel) (made : List (Se
   pub number : g.seats ≡ seats
   pub seats_are : made ≡ map (new_seat g) (range_with_len 0 seats)
 
--- there are not 1 to 256 seats, or there are, and memory was refused
+-- there are not 1 to 65,536 seats, or there are, and memory was refused
 abbrev pub IsRefused : ℕ → SetupError → Type 0
 IsRefused seats Seats = IsOutside most_seats seats
 IsRefused seats NoMemory = IsFromOne most_seats seats

@@ -10,7 +10,7 @@
 //! its model. A guard is a `Locker`, so a `Cond` of `sync_parts` waits with it: the value is at home
 //! meanwhile.
 //!
-//! A guarded value has 1 to 256 seats, and [`Guarded::with_seats`] takes all memory that it ever takes.
+//! A guarded value has 1 to 65,536 seats, and [`Guarded::with_seats`] takes all memory that it ever takes.
 //! `acquire` and `hold` may wait for the lock: they look for a while, and then sleep in the kernel. All other
 //! calls end. A guard that is dropped while it holds the lock keeps the value.
 #![tactic(auto)]

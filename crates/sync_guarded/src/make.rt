@@ -11,7 +11,7 @@ use std::alloc::Global;
 use sync_parts::SetupError;
 
 /// The most seats of a guarded value.
-const MAX_SEATS: u32 = 256;
+const MAX_SEATS: u32 = 65_536;
 
 /// Why no guarded value was made, and the value.
 #[derive(Drop)]
@@ -78,7 +78,7 @@ impl<T> Guarded<T> {
     }
 
     /// A value with so many seats, in the order of their numbers. An error has made nothing, and gives the
-    /// value back: there are not 1 to 256 seats, or memory was refused.
+    /// value back: there are not 1 to 65,536 seats, or memory was refused.
     pub fn with_seats(
         alloc: Global,
         seats: u32,

@@ -5,7 +5,8 @@ use Rattle.step_table.specs.declared.group_word.GroupWord.{GroupWord}
 use Rattle.step_table.specs.declared.misuse.Misuse.{Misuse}
 use Rattle.step_table.specs.declared.standing.GroupRow.TheVariants.{V1, V3}
 use Rattle.step_table.specs.declared.standing.GroupNext.{GroupNext}
-use Rattle.step_table.specs.declared.standing.GroupNext.TheVariants.{Ends, Goes, Fails, Acquires, Releases}
+use Rattle.step_table.specs.declared.standing.GroupNext.TheVariants.{Ends, Goes, Fails, Acquires, Releases, SleepsOn, Withdraws}
+use Rattle.step_table.specs.declared.standing.Ending.TheVariants.{NextCall}
 use Rattle.step_table.specs.Group.{plus, empty_word}
 use Rattle.sema_table.specs.Seats.{SeatModel}
 use Rattle.sync_parts.specs.GroupPlays.{step}
@@ -28,14 +29,18 @@ number_by Ends s t answer x = ap (λ (q : SeatModel). q.number) x.1
 number_by (Fails misuse) s t answer x = ap (λ (q : SeatModel). q.number) x.1
 number_by (Releases n) s t answer x = released_number n s t x.1
 number_by (Goes row) s t answer x = absurd x
-number_by Acquires s t answer x = absurd x
+number_by (Acquires ending) s t answer x = absurd x
+number_by (SleepsOn how) s t answer x = absurd x
+number_by (Withdraws how) s t answer x = absurd x
 
 taken_by : (next : GroupNext) (s t : SeatModel) (answer : Result ℕ Misuse) → Answers next s t answer → t.taken ≡ s.taken
 taken_by Ends s t answer x = ap (λ (q : SeatModel). q.taken) x.1
 taken_by (Fails misuse) s t answer x = ap (λ (q : SeatModel). q.taken) x.1
 taken_by (Releases n) s t answer x = released_taken n s t x.1
 taken_by (Goes row) s t answer x = absurd x
-taken_by Acquires s t answer x = absurd x
+taken_by (Acquires ending) s t answer x = absurd x
+taken_by (SleepsOn how) s t answer x = absurd x
+taken_by (Withdraws how) s t answer x = absurd x
 
 -- an add that answers a misuse has released nothing
 left_refused : (next : GroupNext) (s t : SeatModel) (misuse : Misuse) → Answers next s t (Err misuse) → t.left + 0 ≡ s.left
@@ -43,7 +48,9 @@ left_refused Ends s t misuse x = let e = ap (λ (q : SeatModel). q.left) x.1 in 
 left_refused (Fails other) s t misuse x = let e = ap (λ (q : SeatModel). q.left) x.1 in omega arith
 left_refused (Releases n) s t misuse x = let e = x.0 in absurd (cc)
 left_refused (Goes row) s t misuse x = absurd x
-left_refused Acquires s t misuse x = absurd x
+left_refused (Acquires ending) s t misuse x = absurd x
+left_refused (SleepsOn how) s t misuse x = absurd x
+left_refused (Withdraws how) s t misuse x = absurd x
 
 left_by : (s t : GroupSeatModel) (d : ℤ) (answer : Result ℕ Misuse) → IsAdded s d t answer
     → t.sema.left + released_by answer ≡ s.sema.left
@@ -80,7 +87,7 @@ waits_by s t (Ok done) (inl is) =
     let taken_is = ap (λ (q : SeatModel). q.taken) is.alone in
     record {
       before = is.before;
-      last = step V1 is.word;
+      last = step (V1 NextCall) is.word;
       looked = is.ran.steps_are;
       woken = 0;
       tells = (is.zero, inl refl);
@@ -93,7 +100,7 @@ waits_by s t (Ok done) (inl is) =
     }
 waits_by s t (Ok done) (inr is) = record {
   before = is.before;
-  last = step V3 empty_word;
+  last = step (V3 NextCall) empty_word;
   looked = is.ran.steps_are;
   woken = 1;
   tells = (refl, inr (refl, refl));
@@ -101,7 +108,7 @@ waits_by s t (Ok done) (inr is) = record {
 }
 waits_by s t (Err misuse) (reused, (word, other, is)) = record {
   before = is.before;
-  last = step V3 word;
+  last = step (V3 NextCall) word;
   looked = is.ran.steps_are;
   woken = 1;
   tells = (reused, refl, other);

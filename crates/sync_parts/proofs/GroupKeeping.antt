@@ -6,7 +6,7 @@ use mathlib.Core.Option.{Option}
 use Rattle.running_rows.specs.Table.{keeps}
 use Rattle.step_table.specs.declared.group_word.GroupWord.{GroupWord}
 use Rattle.step_table.specs.declared.standing.GroupRow.{GroupRow}
-use Rattle.step_table.specs.declared.standing.GroupRow.TheVariants.{G1, G2, G3, V1, V2, V3}
+use Rattle.step_table.specs.declared.standing.GroupRow.TheVariants.{G1, G2, G3, V1, V2, V3, V4, V5}
 use Rattle.step_table.specs.declared.standing.GroupNext.{GroupNext}
 use Rattle.step_table.specs.declared.standing.GroupNext.TheVariants.{Goes}
 use Rattle.step_table.specs.Path.{runs, Ran}
@@ -40,9 +40,11 @@ row_can : (row : GroupRow) (w : GroupWord) → IsTrue ((group_event (tt {0}) row
 row_can (G1 d) w = search
 row_can (G2 seen) w = search
 row_can (G3 seen) w = search
-row_can V1 w = search
-row_can (V2 seen) w = search
-row_can V3 w = search
+row_can (V1 ending) w = search
+row_can (V2 ending seen) w = search
+row_can (V3 ending) w = search
+row_can (V4 how) w = search
+row_can (V5 how seen) w = search
 
 -- the row ran, and found this word
 module _ (u : Seated GroupKnown GroupStep) (row : GroupRow) (found : GroupWord) (is : IsGroupWord found) where

@@ -12,9 +12,10 @@ use Rattle.running_rows.specs.Table as atomic
 use Rattle.running_rows.proofs.Lists.{exchanged}
 use Rattle.step_table.specs.declared.group_word.GroupWord.{GroupWord}
 use Rattle.step_table.specs.declared.standing.GroupRow.{GroupRow}
-use Rattle.step_table.specs.declared.standing.GroupRow.TheVariants.{G1, G2, G3, V1, V2, V3}
+use Rattle.step_table.specs.declared.standing.GroupRow.TheVariants.{G1, G2, G3, V1, V2, V3, V4, V5}
 use Rattle.step_table.specs.declared.standing.GroupNext.{GroupNext}
-use Rattle.step_table.specs.declared.standing.GroupNext.TheVariants.{Ends, Goes, Fails, Acquires, Releases}
+use Rattle.step_table.specs.declared.standing.GroupNext.TheVariants.{Ends, Goes, Fails, Acquires, Releases, SleepsOn, Withdraws}
+use Rattle.step_table.specs.declared.standing.Ending.TheVariants.{NextCall}
 use Rattle.step_table.specs.Group.{group_row, plus, same_word}
 use Rattle.step_table.specs.GroupBits.{bits_of, word_in, high, bits_after, IsGroupWord}
 use Rattle.step_table.proofs.GroupBits.{the_group_words}
@@ -42,12 +43,16 @@ load_keeps Ends w = refl
 load_keeps (Goes (G1 d)) w = refl
 load_keeps (Goes (G2 seen)) w = refl
 load_keeps (Goes (G3 seen)) w = refl
-load_keeps (Goes V1) w = refl
-load_keeps (Goes (V2 seen)) w = refl
-load_keeps (Goes V3) w = refl
+load_keeps (Goes (V1 ending)) w = refl
+load_keeps (Goes (V2 ending seen)) w = refl
+load_keeps (Goes (V3 ending)) w = refl
+load_keeps (Goes (V4 how)) w = refl
+load_keeps (Goes (V5 how seen)) w = refl
 load_keeps (Fails misuse) w = refl
-load_keeps Acquires w = refl
+load_keeps (Acquires ending) w = refl
 load_keeps (Releases n) w = refl
+load_keeps (SleepsOn how) w = refl
+load_keeps (Withdraws how) w = refl
 
 pub load_owes : (seats slots : ℕ) (m : Me) → Follows m.0.own.knows.next (load_row m.0.own.knows.next)
     → Owes group_rows seats m 0 (λ n. n) (runs_access group_rows at_load (atomic.step slots 0 0 0 none) m)
@@ -59,19 +64,19 @@ load_owes seats slots m follows =
 standing : (row : GroupRow) (v : GroupKnown) → v.next ≡ Goes row → v ≡ at_row row v
 standing row v e i = record v { next = e i }
 
-pub exchange_owes : (seats slots : ℕ) (m : Me) (seen : GroupWord) (old new : ℕ) → IsGroupWord seen → m.0.own.knows.next ≡ Goes (V2 seen)
+pub exchange_owes : (seats slots : ℕ) (m : Me) (seen : GroupWord) (old new : ℕ) → IsGroupWord seen → m.0.own.knows.next ≡ Goes (V2 NextCall seen)
     → old ≡ bits_of seen → new ≡ (old + 1) % 18446744073709551616
     → Owes group_rows seats m 0 (λ n. either (n == old) new n) (runs_access group_rows (λ st. here) (atomic.step slots 0 old new none) m)
 exchange_owes seats slots m seen old new is at old_is new_is =
-    owes seats m (V2 seen) (subst (λ (k : GroupNext). Follows k (V2 seen)) (sym at) refl) (λ n. either (n == old) new n)
-    (λ n below. ap word_in (exchanged n old new (λ y. y ≡ bits_after (V2 seen) n) (won n) (lost n)) ∙ the_group_words.shown n (V2 seen) below is)
-    here (standing (V2 seen) m.0.own.knows at)
+    owes seats m (V2 NextCall seen) (subst (λ (k : GroupNext). Follows k (V2 NextCall seen)) (sym at) refl) (λ n. either (n == old) new n)
+    (λ n below. ap word_in (exchanged n old new (λ y. y ≡ bits_after (V2 NextCall seen) n) (won n) (lost n)) ∙ the_group_words.shown n (V2 NextCall seen) below is)
+    here (standing (V2 NextCall seen) m.0.own.knows at)
   where
-    won : (n : ℕ) → n ≡ old → new ≡ bits_after (V2 seen) n
+    won : (n : ℕ) → n ≡ old → new ≡ bits_after (V2 NextCall seen) n
     won n e = new_is ∙ ap (λ (k : ℕ). (k + 1) % 18446744073709551616) (sym e)
         ∙ ap (λ (b : Bool). if b then (n + 1) % 18446744073709551616 else n) (sym (eq-eqb n (bits_of seen) (e ∙ old_is)))
 
-    lost : (n : ℕ) → n ≢ old → n ≡ bits_after (V2 seen) n
+    lost : (n : ℕ) → n ≢ old → n ≡ bits_after (V2 NextCall seen) n
     lost n ne = ap (λ (b : Bool). if b then (n + 1) % 18446744073709551616 else n)
         (sym (ne_eqb n (bits_of seen) (λ e. ne (e ∙ sym old_is))))
 

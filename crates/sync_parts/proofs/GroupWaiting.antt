@@ -12,7 +12,8 @@ use Rattle.step_table.specs.declared.group_word.GroupWord.{GroupWord}
 use Rattle.step_table.specs.declared.standing.GroupRow.{GroupRow}
 use Rattle.step_table.specs.declared.standing.GroupRow.TheVariants.{V1, V2, V3}
 use Rattle.step_table.specs.declared.standing.GroupNext.{GroupNext}
-use Rattle.step_table.specs.declared.standing.GroupNext.TheVariants.{Ends, Goes, Fails, Acquires, Releases}
+use Rattle.step_table.specs.declared.standing.GroupNext.TheVariants.{Ends, Goes, Fails, Acquires, Releases, SleepsOn, Withdraws}
+use Rattle.step_table.specs.declared.standing.Ending.TheVariants.{NextCall}
 use Rattle.step_table.specs.Group.{empty_word, group_row, same_word}
 use Rattle.step_table.specs.declared.misuse.Misuse.TheVariants.{Reused}
 use Rattle.step_table.proofs.GroupBits.{same_is, same_itself}
@@ -44,12 +45,14 @@ pub walks_first : (number : ℕ) (row : GroupRow) (word : GroupWord) → IsGroup
 walks_first number row word is = walks_more number row [] row word is refl
 
 -- no call is under way: a wait begins by its first look
-pub free_look : (next : GroupNext) → is_free next ≡ true → (load_row next ≡ V1) × Follows next (load_row next)
+pub free_look : (next : GroupNext) → is_free next ≡ true → (load_row next ≡ V1 NextCall) × Follows next (load_row next)
 free_look Ends e = (refl, tt)
 free_look (Goes row) e = absurd (cc)
 free_look (Fails misuse) e = (refl, tt)
-free_look Acquires e = absurd (cc)
+free_look (Acquires ending) e = absurd (cc)
 free_look (Releases n) e = (refl, tt)
+free_look (SleepsOn how) e = absurd (cc)
+free_look (Withdraws how) e = absurd (cc)
 
 -- a wait is to look, after exchanges that were lost
 pub record LooksOn (s : Token) (first : GroupRow) (t : Token) : Type 0 where
@@ -58,71 +61,71 @@ pub record LooksOn (s : Token) (first : GroupRow) (t : Token) : Type 0 where
   pub number_is : t.me.0.own.number ≡ s.me.0.own.number
   pub seats_is : t.me.0.own.knows.seats ≡ s.me.0.own.knows.seats
   pub steps_are : t.me.0.own.gone ≡ s.me.0.own.gone ++ before
-  pub path : (number : ℕ) → Walks number first before (Goes V1)
-  pub look : load_row t.me.0.own.knows.next ≡ V1
+  pub path : (number : ℕ) → Walks number first before (Goes (V1 NextCall))
+  pub look : load_row t.me.0.own.knows.next ≡ V1 NextCall
 
 -- a wait has found this word, and is to be counted in it
 abbrev pub IsToCount : Token → GroupRow → GroupWord → Token → Type 0
-IsToCount s first word t = (steps : List GroupStep) × Walked s first steps (Goes (V2 word)) t
+IsToCount s first word t = (steps : List GroupStep) × Walked s first steps (Goes (V2 NextCall word)) t
 
 -- what the first look leads to, and what lost exchanges do
-leads_zero : (word : GroupWord) → word.counter ≡ pos 0 → (group_row V1 word).1 ≡ Ends
-leads_zero word zero = ap (λ (b : Bool). if b then Ends else Goes (V2 word)) ((Decides-int_eq word.counter (pos 0)).1 zero)
+leads_zero : (word : GroupWord) → word.counter ≡ pos 0 → (group_row (V1 NextCall) word).1 ≡ Ends
+leads_zero word zero = ap (λ (b : Bool). if b then Ends else Goes (V2 NextCall word)) ((Decides-int_eq word.counter (pos 0)).1 zero)
 
-leads_on : (word : GroupWord) → word.counter ≢ pos 0 → (group_row V1 word).1 ≡ Goes (V2 word)
+leads_on : (word : GroupWord) → word.counter ≢ pos 0 → (group_row (V1 NextCall) word).1 ≡ Goes (V2 NextCall word)
 leads_on word some = by (int_eq word.counter (pos 0)) refl
   where
-    by : (b : Bool) → int_eq word.counter (pos 0) ≡ b → (if b then Ends else Goes (V2 word)) ≡ Goes (V2 word)
+    by : (b : Bool) → int_eq word.counter (pos 0) ≡ b → (if b then Ends else Goes (V2 NextCall word)) ≡ Goes (V2 NextCall word)
     by true e = absurd (some ((Decides-int_eq word.counter (pos 0)).0 e))
     by false e = refl
 
 -- a further look
 module _ (s : Token) (first : GroupRow) (t u : Token) (x : LooksOn s first t) (word : GroupWord) (y : Steps t (load_row t.me.0.own.knows.next) word u) where
-  looked : Steps t V1 word u
+  looked : Steps t (V1 NextCall) word u
   looked = subst (λ (row : GroupRow). Steps t row word u) x.look y
 
-  looks : (next : GroupNext) → (group_row V1 word).1 ≡ next → Walked s first (x.before ++ step V1 word ∷ []) next u
+  looks : (next : GroupNext) → (group_row (V1 NextCall) word).1 ≡ next → Walked s first (x.before ++ step (V1 NextCall) word ∷ []) next u
   looks next leads = record {
     table_is = looked.table_is ∙ x.table_is;
     number_is = ap (λ (m : Me). m.0.own.number) looked.me_is ∙ x.number_is;
     seats_is = ap (λ (m : Me). m.0.own.knows.seats) looked.me_is ∙ x.seats_is;
-    steps_are = ap (λ (m : Me). m.0.own.gone) looked.me_is ∙ ap (λ (l : List GroupStep). l ++ step V1 word ∷ []) x.steps_are
-        ∙ append_assoc s.me.0.own.gone x.before (step V1 word ∷ []);
+    steps_are = ap (λ (m : Me). m.0.own.gone) looked.me_is ∙ ap (λ (l : List GroupStep). l ++ step (V1 NextCall) word ∷ []) x.steps_are
+        ∙ append_assoc s.me.0.own.gone x.before (step (V1 NextCall) word ∷ []);
     next_is = ap (λ (m : Me). m.0.own.knows.next) looked.me_is ∙ leads;
-    path = λ number. subst (λ (k : GroupNext). Walks number first (x.before ++ step V1 word ∷ []) k) leads
-        (walks_more number first x.before V1 word looked.word (x.path number));
+    path = λ number. subst (λ (k : GroupNext). Walks number first (x.before ++ step (V1 NextCall) word ∷ []) k) leads
+        (walks_more number first x.before (V1 NextCall) word looked.word (x.path number));
   }
 
   pub finds_zero : word.counter ≡ pos 0 → FindsZero s first u
   finds_zero zero = (x.before, word, zero, looks Ends (leads_zero word zero))
 
   pub counts : word.counter ≢ pos 0 → IsToCount s first word u
-  counts some = (x.before ++ step V1 word ∷ [], looks (Goes (V2 word)) (leads_on word some))
+  counts some = (x.before ++ step (V1 NextCall) word ∷ [], looks (Goes (V2 NextCall word)) (leads_on word some))
 
 -- an exchange
 module _ (s : Token) (first : GroupRow) (word : GroupWord) (t u : Token) (x : IsToCount s first word t) (found : GroupWord)
-    (y : Steps t (V2 word) found u) where
-  tried : (next : GroupNext) → (group_row (V2 word) found).1 ≡ next → Walked s first (x.0 ++ step (V2 word) found ∷ []) next u
+    (y : Steps t (V2 NextCall word) found u) where
+  tried : (next : GroupNext) → (group_row (V2 NextCall word) found).1 ≡ next → Walked s first (x.0 ++ step (V2 NextCall word) found ∷ []) next u
   tried next leads = record {
     table_is = y.table_is ∙ x.1.table_is;
     number_is = ap (λ (m : Me). m.0.own.number) y.me_is ∙ x.1.number_is;
     seats_is = ap (λ (m : Me). m.0.own.knows.seats) y.me_is ∙ x.1.seats_is;
-    steps_are = ap (λ (m : Me). m.0.own.gone) y.me_is ∙ ap (λ (l : List GroupStep). l ++ step (V2 word) found ∷ []) x.1.steps_are
-        ∙ append_assoc s.me.0.own.gone x.0 (step (V2 word) found ∷ []);
+    steps_are = ap (λ (m : Me). m.0.own.gone) y.me_is ∙ ap (λ (l : List GroupStep). l ++ step (V2 NextCall word) found ∷ []) x.1.steps_are
+        ∙ append_assoc s.me.0.own.gone x.0 (step (V2 NextCall word) found ∷ []);
     next_is = ap (λ (m : Me). m.0.own.knows.next) y.me_is ∙ leads;
-    path = λ number. subst (λ (k : GroupNext). Walks number first (x.0 ++ step (V2 word) found ∷ []) k) leads
-        (walks_more number first x.0 (V2 word) found y.word (x.1.path number));
+    path = λ number. subst (λ (k : GroupNext). Walks number first (x.0 ++ step (V2 NextCall word) found ∷ []) k) leads
+        (walks_more number first x.0 (V2 NextCall word) found y.word (x.1.path number));
   }
 
   pub gets_counted : same_word word found ≡ true → GetsCounted s first u
-  gets_counted won = (x.0 ++ step (V2 word) found ∷ [], tried Acquires (ap (λ (b : Bool). if b then Acquires else Goes V1) won))
+  gets_counted won = (x.0 ++ step (V2 NextCall word) found ∷ [], tried (Acquires NextCall) (ap (λ (b : Bool). if b then Acquires NextCall else Goes (V1 NextCall)) won))
 
-  pub lost : same_word word found ≡ false → Walked s first (x.0 ++ step (V2 word) found ∷ []) (Goes V1) u
-  lost e = tried (Goes V1) (ap (λ (b : Bool). if b then Acquires else Goes V1) e)
+  pub lost : same_word word found ≡ false → Walked s first (x.0 ++ step (V2 NextCall word) found ∷ []) (Goes (V1 NextCall)) u
+  lost e = tried (Goes (V1 NextCall)) (ap (λ (b : Bool). if b then Acquires NextCall else Goes (V1 NextCall)) e)
 
   pub looks_again : same_word word found ≡ false → LooksOn s first u
   looks_again e = record {
-    before = x.0 ++ step (V2 word) found ∷ [];
+    before = x.0 ++ step (V2 NextCall word) found ∷ [];
     table_is = (lost e).table_is;
     number_is = (lost e).number_is;
     seats_is = (lost e).seats_is;
@@ -132,33 +135,33 @@ module _ (s : Token) (first : GroupRow) (word : GroupWord) (t u : Token) (x : Is
   }
 
 -- the first look, by which a wait is to be counted, and what followed
-module _ (s t : Token) (word : GroupWord) (some : word.counter ≢ pos 0) (y : Steps s V1 word t) where
-  begun : (steps : List GroupStep) (next : GroupNext) (u : Token) → Walked t (V2 word) steps next u
-      → Walked s V1 (step V1 word ∷ steps) next u
+module _ (s t : Token) (word : GroupWord) (some : word.counter ≢ pos 0) (y : Steps s (V1 NextCall) word t) where
+  begun : (steps : List GroupStep) (next : GroupNext) (u : Token) → Walked t (V2 NextCall word) steps next u
+      → Walked s (V1 NextCall) (step (V1 NextCall) word ∷ steps) next u
   begun steps next u x = record {
     table_is = x.table_is ∙ y.table_is;
     number_is = x.number_is ∙ ap (λ (m : Me). m.0.own.number) y.me_is;
     seats_is = x.seats_is ∙ ap (λ (m : Me). m.0.own.knows.seats) y.me_is;
-    steps_are = x.steps_are ∙ ap (λ (m : Me). m.0.own.gone ++ steps) y.me_is ∙ append_assoc s.me.0.own.gone (step V1 word ∷ []) steps;
+    steps_are = x.steps_are ∙ ap (λ (m : Me). m.0.own.gone ++ steps) y.me_is ∙ append_assoc s.me.0.own.gone (step (V1 NextCall) word ∷ []) steps;
     next_is = x.next_is;
     path = λ number. (
-      going (Goes (V2 word)),
-      subst (λ (k : GroupNext). GroupRan number (going (Goes V1)) (ran_row V1 word) (going k)) (leads_on word some)
-          (the_group_paths.rows number V1 word y.word),
+      going (Goes (V2 NextCall word)),
+      subst (λ (k : GroupNext). GroupRan number (going (Goes (V1 NextCall))) (ran_row (V1 NextCall) word) (going k)) (leads_on word some)
+          (the_group_paths.rows number (V1 NextCall) word y.word),
       x.path number,
     );
   }
 
-  pub then_counted : (u : Token) → GetsCounted t (V2 word) u → GetsCounted s V1 u
-  then_counted u x = (step V1 word ∷ x.0, begun x.0 Acquires u x.1)
+  pub then_counted : (u : Token) → GetsCounted t (V2 NextCall word) u → GetsCounted s (V1 NextCall) u
+  then_counted u x = (step (V1 NextCall) word ∷ x.0, begun x.0 (Acquires NextCall) u x.1)
 
-  pub then_zero : (u : Token) → FindsZero t (V2 word) u → FindsZero s V1 u
-  then_zero u x = (step V1 word ∷ x.0, x.1, x.2, begun (x.0 ++ step V1 x.1 ∷ []) Ends u x.3)
+  pub then_zero : (u : Token) → FindsZero t (V2 NextCall word) u → FindsZero s (V1 NextCall) u
+  then_zero u x = (step (V1 NextCall) word ∷ x.0, x.1, x.2, begun (x.0 ++ step (V1 NextCall) x.1 ∷ []) Ends u x.3)
 
 -- a wait that found 0 at once
 pub zero_at_once : (s : Token) → is_free s.me.0.own.knows.next ≡ true → (word : GroupWord) → word.counter ≡ pos 0 → (t : Token)
-    → Steps s (load_row s.me.0.own.knows.next) word t → FindsZero s V1 t
-zero_at_once s free word zero t y = finds_zero s V1 s t
+    → Steps s (load_row s.me.0.own.knows.next) word t → FindsZero s (V1 NextCall) t
+zero_at_once s free word zero t y = finds_zero s (V1 NextCall) s t
     record {
       before = [];
       table_is = refl;
@@ -170,11 +173,11 @@ zero_at_once s free word zero t y = finds_zero s V1 s t
     } word y zero
 
 pub first_look : (s : Token) → is_free s.me.0.own.knows.next ≡ true → (word : GroupWord) → (t : Token)
-    → Steps s (load_row s.me.0.own.knows.next) word t → Steps s V1 word t
+    → Steps s (load_row s.me.0.own.knows.next) word t → Steps s (V1 NextCall) word t
 first_look s free word t y = subst (λ (row : GroupRow). Steps s row word t) (free_look s.me.0.own.knows.next free).0 y
 
 -- a wait that found 0 was never counted
-pub uncounted : (s t : Token) (a : SeatModel) → FindsZero s V1 t → IsUncounted (group_seat_of s a) (group_seat_of t a)
+pub uncounted : (s t : Token) (a : SeatModel) → FindsZero s (V1 NextCall) t → IsUncounted (group_seat_of s a) (group_seat_of t a)
 uncounted s t a x = record {
   before = x.0;
   word = x.1;
@@ -198,22 +201,22 @@ acquired_number a b (inl x) = ap (λ (q : SeatModel). q.number) x.0
 acquired_number a b (inr x) = ap (λ (q : SeatModel). q.number) x.2.0 ∙ ap (λ (q : SeatModel). q.number) x.1.0
 
 -- a wait that was counted, acquired, and looked again
-module _ (s u v : Token) (a b : SeatModel) (counted : GetsCounted s V1 u) (acquired : IsAcquired a 0 false b) (word : GroupWord)
+module _ (s u v : Token) (a b : SeatModel) (counted : GetsCounted s (V1 NextCall) u) (acquired : IsAcquired a 0 false b) (word : GroupWord)
     (y : Steps u (load_row u.me.0.own.knows.next) word v) where
-  again : Steps u V3 word v
+  again : Steps u (V3 NextCall) word v
   again = subst (λ (row : GroupRow). Steps u row word v) (ap load_row counted.1.next_is) y
 
-  is_counted : (next : GroupNext) → (group_row V3 word).1 ≡ next → IsCounted (group_seat_of s a) word next (group_seat_of v b)
+  is_counted : (next : GroupNext) → (group_row (V3 NextCall) word).1 ≡ next → IsCounted (group_seat_of s a) word next (group_seat_of v b)
   is_counted next leads = let w = counted.1 in record {
     before = counted.0;
     ran = record {
       group = λ i. record { word = (again.table_is ∙ w.table_is) i; sema = same_table a b acquired i };
-      steps_are = ap (λ (m : Me). m.0.own.gone) again.me_is ∙ ap (λ (l : List GroupStep). l ++ step V3 word ∷ []) w.steps_are
-          ∙ append_assoc s.me.0.own.gone counted.0 (step V3 word ∷ []);
+      steps_are = ap (λ (m : Me). m.0.own.gone) again.me_is ∙ ap (λ (l : List GroupStep). l ++ step (V3 NextCall) word ∷ []) w.steps_are
+          ∙ append_assoc s.me.0.own.gone counted.0 (step (V3 NextCall) word ∷ []);
     };
     path = w.path a.number;
     acquired = acquired;
-    looked = subst (λ (k : GroupNext). Walks a.number V3 (step V3 word ∷ []) k) leads (walks_first a.number V3 word again.word);
+    looked = subst (λ (k : GroupNext). Walks a.number (V3 NextCall) (step (V3 NextCall) word ∷ []) k) leads (walks_first a.number (V3 NextCall) word again.word);
   }
 
   pub waited : same_word word empty_word ≡ true → IsCounted (group_seat_of s a) empty_word Ends (group_seat_of v b)

@@ -1,6 +1,7 @@
 pub mod Uses
 pub mod Calling
 pub mod Locks
+pub mod LocksInTime
 pub mod Turns
 pub mod Meeting
 pub mod GroupKeeping

@@ -9,6 +9,7 @@ use Rattle.step_table.specs.declared.standing.GroupRow.{GroupRow}
 use Rattle.step_table.specs.declared.standing.GroupRow.TheVariants.{G1, V1, V3}
 use Rattle.step_table.specs.declared.standing.GroupNext.{GroupNext}
 use Rattle.step_table.specs.declared.standing.GroupNext.TheVariants.{Ends, Goes, Fails, Acquires, Releases}
+use Rattle.step_table.specs.declared.standing.Ending.TheVariants.{NextCall}
 use Rattle.step_table.specs.Group.{empty_word, plus}
 use Rattle.step_table.specs.GroupPath.{GroupPath, going}
 use Rattle.sema_table.specs.declared.answers.Wake.{Wake}
@@ -34,18 +35,18 @@ pub record IsUncounted (s t : GroupSeatModel) : Type 0 where
   pub before : List GroupStep
   pub word : GroupWord
   pub zero : word.counter ≡ pos 0
-  pub ran : RanSteps s (before ++ step V1 word ∷ []) t
-  pub path : Walks s.sema.number V1 (before ++ step V1 word ∷ []) Ends
+  pub ran : RanSteps s (before ++ step (V1 NextCall) word ∷ []) t
+  pub path : Walks s.sema.number (V1 NextCall) (before ++ step (V1 NextCall) word ∷ []) Ends
   pub alone : t.sema ≡ s.sema
 
 -- V2 was won, and one whole acquire took a unit of the semaphore. Then V3 found this word
 pub record IsCounted (s : GroupSeatModel) (word : GroupWord) (next : GroupNext) (t : GroupSeatModel)
     : Type 0 where
   pub before : List GroupStep
-  pub ran : RanSteps s (before ++ step V3 word ∷ []) t
-  pub path : Walks s.sema.number V1 before Acquires
+  pub ran : RanSteps s (before ++ step (V3 NextCall) word ∷ []) t
+  pub path : Walks s.sema.number (V1 NextCall) before (Acquires NextCall)
   pub acquired : IsAcquired s.sema 0 false t.sema
-  pub looked : Walks s.sema.number V3 (step V3 word ∷ []) next
+  pub looked : Walks s.sema.number (V3 NextCall) (step (V3 NextCall) word ∷ []) next
 
 -- a wait comes back where it found counter 0, uncounted, or counted and then with nobody counted or waiting;
 -- or else the group was used again

@@ -24,7 +24,7 @@ pub record IsGroupMade (seats : ℕ) (g : GroupModel) (made : List GroupSeatMode
   pub setting : g.sema.setting ≡ group_setting seats
   pub seats_are : made ≡ map (seat_on g.word) (new_seats g.sema 0 seats)
 
--- there are not 1 to 256 seats, or there are, and memory was refused
+-- there are not 1 to 65,536 seats, or there are, and memory was refused
 abbrev pub IsGroupRefused : ℕ → SetupError → Type 0
 IsGroupRefused seats Seats = IsOutside most_seats seats
 IsGroupRefused seats NoMemory = IsFromOne most_seats seats

@@ -8,6 +8,7 @@ use Rattle.step_table.specs.declared.standing.GroupRow.{GroupRow}
 use Rattle.step_table.specs.declared.standing.GroupRow.TheVariants.{G1, G2, V1, V3}
 use Rattle.step_table.specs.declared.standing.GroupNext.{GroupNext}
 use Rattle.step_table.specs.declared.standing.GroupNext.TheVariants.{Goes, Acquires}
+use Rattle.step_table.specs.declared.standing.Ending.TheVariants.{NextCall}
 use Rattle.step_table.specs.Group.{group_row}
 use Rattle.step_table.specs.GroupBits.{IsGroupWord}
 use Rattle.running_rows.specs.declared.view.View.{View}
@@ -38,8 +39,8 @@ stepped row found v = record v {
 -- the row that a load is, by what the last row led to
 abbrev pub load_row : GroupNext → GroupRow
 load_row (Goes (G2 seen)) = G2 seen
-load_row Acquires = V3
-load_row _ = V1
+load_row (Acquires ending) = V3 ending
+load_row _ = V1 NextCall
 
 -- the seat goes to this row, by its caller's choice or because it stands there
 abbrev pub at_row : GroupRow → GroupKnown → GroupKnown

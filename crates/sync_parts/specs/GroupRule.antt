@@ -6,7 +6,8 @@ use Rattle.step_table.specs.declared.group_word.GroupWord.{GroupWord}
 use Rattle.step_table.specs.declared.standing.GroupRow.{GroupRow}
 use Rattle.step_table.specs.declared.standing.GroupRow.TheVariants.{G1, V1, V3}
 use Rattle.step_table.specs.declared.standing.GroupNext.{GroupNext}
-use Rattle.step_table.specs.declared.standing.GroupNext.TheVariants.{Ends, Goes, Acquires}
+use Rattle.step_table.specs.declared.standing.GroupNext.TheVariants.{Ends, Goes, Acquires, SleepsOn, Withdraws}
+use Rattle.step_table.specs.declared.standing.Ending.TheVariants.{NextCall}
 use Rattle.step_table.specs.World.{put}
 use Rattle.step_table.specs.Path.{Watched}
 use Rattle.step_table.specs.Group.{empty_word, group_row}
@@ -22,14 +23,16 @@ use Rattle.sync_parts.specs.declared.group_view.GroupStep.{GroupStep}
 -- the first row of an add, and of a wait
 abbrev pub IsFirst : GroupRow → Type 0
 IsFirst (G1 d) = Unit {0}
-IsFirst V1 = Unit {0}
+IsFirst (V1 NextCall) = Unit {0}
 IsFirst _ = ⊥
 
 -- which row may come: the one to which the last row led; after an acquire the last look of a wait; where no
 -- call is under way the first of another
 abbrev pub Follows : GroupNext → GroupRow → Type 0
 Follows (Goes next) row = row ≡ next
-Follows Acquires row = row ≡ V3
+Follows (Acquires ending) row = row ≡ V3 ending
+Follows (SleepsOn how) row = ⊥
+Follows (Withdraws how) row = ⊥
 Follows _ row = IsFirst row
 
 -- rows of calls, one after the other, and what the last of them led to

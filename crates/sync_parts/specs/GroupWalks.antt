@@ -6,6 +6,7 @@ use Rattle.step_table.specs.declared.standing.GroupRow.{GroupRow}
 use Rattle.step_table.specs.declared.standing.GroupRow.TheVariants.{G1, V1}
 use Rattle.step_table.specs.declared.standing.GroupNext.{GroupNext}
 use Rattle.step_table.specs.declared.standing.GroupNext.TheVariants.{Ends, Acquires}
+use Rattle.step_table.specs.declared.standing.Ending.TheVariants.{NextCall}
 use Rattle.step_table.specs.Group.{plus}
 use Rattle.sema_table.specs.Seats.{SeatModel}
 use Rattle.sync_parts.specs.declared.group_view.GroupStep.{GroupStep}
@@ -26,18 +27,18 @@ pub record Walked (s : Token) (row : GroupRow) (steps : List GroupStep) (next : 
 
 -- a wait was counted, from this row on
 abbrev pub GetsCounted : Token → GroupRow → Token → Type 0
-GetsCounted s row t = (steps : List GroupStep) × Walked s row steps Acquires t
+GetsCounted s row t = (steps : List GroupStep) × Walked s row steps (Acquires NextCall) t
 
 -- a wait found counter 0, from this row on
 abbrev pub FindsZero : Token → GroupRow → Token → Type 0
 FindsZero s row t =
     (before : List GroupStep) × (word : GroupWord) × (word.counter ≡ pos 0)
-    × Walked s row (before ++ step V1 word ∷ []) Ends t
+    × Walked s row (before ++ step (V1 NextCall) word ∷ []) Ends t
 
 -- the whole wait, whose first look found this word, which isn't zero
 abbrev pub Waits : Token → SeatModel → GroupWord → GroupSeatModel → Result (Unit {0}) Misuse → Type 0
 Waits t sema word u answer =
-    (s : Token) → word.counter ≢ pos 0 → Steps s V1 word t → IsWaited (group_seat_of s sema) u answer
+    (s : Token) → word.counter ≢ pos 0 → Steps s (V1 NextCall) word t → IsWaited (group_seat_of s sema) u answer
 
 -- the whole add, whichever word its first row found that left this one
 abbrev pub Settles : Token → SeatModel → ℤ → GroupWord → GroupSeatModel → Result ℕ Misuse → Type 0

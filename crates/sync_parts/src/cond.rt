@@ -17,7 +17,7 @@ use std::sync::Wait;
 /// A condition variable. Its calls take `&self` and a seat, so threads share it in an `Arc`.
 #[derive(Drop)]
 pub struct Cond {
-    list: NotifyList,
+    pub(crate) list: NotifyList,
 }
 
 impl Model for Cond {

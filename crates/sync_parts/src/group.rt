@@ -1,6 +1,6 @@
 //! A wait group, and a seat of it.
 ghost use Rattle.std.specs.Prelude.{◌≡◌, ◌+◌};
-ghost use Rattle.step_law_semaphores.specs.Balances.{added_by};
+ghost use Rattle.step_law_semaphores.specs.Balances.{added_by, withdrawn_by};
 
 use crate::group_rows::StateToken;
 use crate::state_word::StateWord;
@@ -45,11 +45,12 @@ impl Model for GroupSeat {
 }
 
 impl GroupSeat {
-    /// How many releases more the seat may make: 2^40 less those that it has made.
+    /// How many releases more the seat may make: 2^40 less those that it has made, and less one for each of its
+    /// waits that it has withdrawn.
     pub fn left(&self) -> u64
         ensures left { result ≡ self.now.sema.left }
         ensures made { result + added_by self.now.sema.number self.now.sema.sight.seen
-            ≡ self.now.sema.table.setting.limit }
+            + withdrawn_by self.now.sema.number self.now.sema.sight.seen ≡ self.now.sema.table.setting.limit }
     {
         self.sema.left()
     }

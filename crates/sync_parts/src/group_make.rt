@@ -17,7 +17,7 @@ use sema_table::{Seat, SemaTable, Settings, SetupError};
 use std::alloc::{AllocError, Global};
 
 /// The most seats of a group.
-const MAX_SEATS: u32 = 256;
+const MAX_SEATS: u32 = 65_536;
 /// How many releases each seat may make.
 const RELEASE_LIMIT: u64 = 1 << 40;
 
@@ -114,7 +114,7 @@ fn make(alloc: Global, seats: u32) -> Result<(WaitGroup, Vec<GroupSeat>), AllocE
 
 impl WaitGroup {
     /// A group with so many seats, in the order of their numbers, in which nobody is counted. An error has
-    /// made nothing: there are not 1 to 256 seats, or memory was refused.
+    /// made nothing: there are not 1 to 65,536 seats, or memory was refused.
     pub fn with_seats(alloc: Global, seats: u32) -> Result<(WaitGroup, Vec<GroupSeat>), SetupError>
         ensures ok { IfOk result (λ t. IsGroupMade seats t.0 t.1.items) }
         ensures own { IfOk result (λ t. All (λ s. s.group ≡ t.0) t.1.items) }

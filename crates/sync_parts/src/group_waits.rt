@@ -2,6 +2,7 @@
 ghost use Rattle.std.specs.Prelude.{◌≡◌, ◌<◌, true, MatchBool, false, length};
 ghost use Rattle.step_table.specs.declared.standing.GroupNext.TheVariants.{Acquires, Goes};
 ghost use Rattle.step_table.specs.declared.standing.GroupRow.TheVariants.{V2};
+ghost use Rattle.step_table.specs.declared.standing.Ending.TheVariants.{NextCall};
 ghost use Rattle.step_table.specs.GroupBits.{IsGroupWord};
 ghost use Rattle.sync_parts.specs.GroupCalls.{IsWaited};
 ghost use Rattle.sync_parts.specs.GroupCallers.{WaitsForZero};
@@ -27,10 +28,10 @@ impl StateWord {
     fn count_unless_zero<R: Wait>(&self, rt: &R, token: &mut StateToken, word: GroupWord) -> bool
         requires own { token.old.table_id ≡ self.now.id }
         requires some { 0 < token.old.me.0.own.knows.seats }
-        requires looked { (token.old.me.0.own.knows.next ≡ Goes (V2 word)) × IsGroupWord word }
+        requires looked { (token.old.me.0.own.knows.next ≡ Goes (V2 NextCall word)) × IsGroupWord word }
         ensures { MatchBool result
-            (GetsCounted token.old (V2 word) token.new)
-            (FindsZero token.old (V2 word) token.new) }
+            (GetsCounted token.old (V2 NextCall word) token.new)
+            (FindsZero token.old (V2 NextCall word) token.new) }
     {
         let mut word = word;
         for _ in rt.forever() {
@@ -79,7 +80,7 @@ impl WaitGroup {
         requires own { (token.table_id ≡ self.now.word) × (sema.table ≡ self.now.sema) }
         requires some { 0 < token.me.0.own.knows.seats }
         requires one { token.me.0.own.number ≡ sema.number }
-        requires looked { (token.me.0.own.knows.next ≡ Goes (V2 word)) × IsGroupWord word }
+        requires looked { (token.me.0.own.knows.next ≡ Goes (V2 NextCall word)) × IsGroupWord word }
         ensures { Waits token sema word result.0 result.1 }
     {
         self.wait_until_zero(rt, token, sema.rebuilt(), word)
@@ -97,7 +98,7 @@ impl WaitGroup {
         requires own { (token.table_id ≡ self.now.word) × (sema.table ≡ self.now.sema) }
         requires some { 0 < token.me.0.own.knows.seats }
         requires one { token.me.0.own.number ≡ sema.number }
-        requires looked { (token.me.0.own.knows.next ≡ Goes (V2 word)) × IsGroupWord word }
+        requires looked { (token.me.0.own.knows.next ≡ Goes (V2 NextCall word)) × IsGroupWord word }
         ensures { Waits token sema word result.0 result.1 }
     {
         let mut token = token;

@@ -6,16 +6,18 @@
 //! microseconds at most before it sleeps, as Go's `sync.Mutex` spins, and doesn't give its processor away. Its
 //! counter is to start at 1 and to be used by such locks alone: then of two locks that meet at most one is held.
 //!
-//! A lock keeps a seat of the table, so there are as many locks as seats, 256 at most, and each unlocks as
-//! often as its seat may release, 2^40 times at most: [`SemaLock::left`] tells how often yet. One that is
-//! dropped while it is held stays locked. No call takes memory, and none answers an error. `acquire` may wait
-//! for another lock's release, and `release` for a root's lock; all other calls end.
+//! A lock keeps a seat of the table, so there are as many locks as seats, 65,536 at most, and each unlocks as
+//! often as its seat may release, 2^54 times at most: [`SemaLock::left`] tells how often yet. One that is
+//! dropped while it is held stays locked. [`SemaLock::try_lock_until`] and [`SemaLock::try_lock_for`] give up
+//! once a time is over, and the lock may then unlock once less. No call takes memory, and none answers an
+//! error. `acquire` may wait for another lock's release, those two for a while and for a root's lock, and
+//! `release` for a root's lock; all other calls end.
 //!
 //! A [`Cond`] is a notify list, after Go's `sync.Cond`. [`Cond::wait`] takes a ticket, unlocks a [`Locker`],
-//! waits with the ticket, and locks it again; [`Cond::signal`] grants the least ticket that isn't granted,
-//! and [`Cond::broadcast`] all. A `Cond` has 1 to 256 seats, and [`Cond::with_seats`] takes all memory that
-//! it ever takes. All its other calls may wait for its list's lock, and `wait` for a grant and for the locker
-//! too.
+//! waits with the ticket, and locks it again; [`Cond::wait_until`] and [`Cond::wait_for`] do so too, and give
+//! the ticket up once a time is over. [`Cond::signal`] grants the least ticket that isn't granted, and
+//! [`Cond::broadcast`] all. A `Cond` has 1 to 256 seats, and [`Cond::with_seats`] takes all memory that it ever
+//! takes. All its other calls may wait for its list's lock, and the waits for a grant and for the locker too.
 //!
 //! A [`WaitGroup`] counts what is still to be done, after Go's `sync.WaitGroup`. [`WaitGroup::add`] adds to
 //! the counter, below 0 too, [`WaitGroup::done`] takes 1 off, and [`WaitGroup::wait`] comes back where the
@@ -27,7 +29,7 @@
 //! for each wait, and any other call nothing. Nobody but the seats that `with_seats` handed out runs a row on
 //! the word.
 //!
-//! A group has 1 to 256 seats, and a seat makes at most 2^40 releases. [`WaitGroup::with_seats`] takes all
+//! A group has 1 to 65,536 seats, and a seat makes at most 2^40 releases. [`WaitGroup::with_seats`] takes all
 //! memory that the group ever takes. A misuse is answered where the step table says: [`Misuse::Negative`]
 //! where an add led below 0, [`Misuse::AddWithWait`] where an add ran beside a wait from 0 up,
 //! [`Misuse::Reused`] where the group was used again before a wait had come back. The word stays as the
@@ -36,6 +38,7 @@
 #![tactic(auto)]
 
 mod cond;
+mod cond_timed;
 mod group;
 mod group_adds;
 mod group_make;
@@ -43,6 +46,7 @@ mod group_rows;
 mod group_view;
 mod group_waits;
 mod laws;
+mod limit;
 mod locker;
 mod locker_call;
 mod sema_lock;
@@ -56,6 +60,7 @@ pub use locker_call::LockerCall;
 pub use notify_list::{
     Busy as ListBusy, Entered as ListEntered, Holding, ListClosed, ListSeat, Notified, NotifiedAll,
     NotifyList, OwingAll, Parked, Polled as ListPolled, SetupError as ListSetupError, Waited,
+    WaitedUntil,
 };
 pub use sema_lock::SemaLock;
 pub use sema_table::{

@@ -1,17 +1,21 @@
 //! A lock over a counter of a table.
-ghost use Rattle.std.specs.Prelude.{◌≡◌, ◌<◌, true, false, length, IsSomeAnd};
+ghost use Rattle.std.specs.Prelude.{◌≡◌, ◌<◌, true, false, length, IsSomeAnd, MatchBool};
 ghost use Rattle.std.specs.Option.{ForSome};
+ghost use Rattle.sema_table.specs.declared.answers.Acquired.TheVariants.{Taken, TimedOut};
 ghost use Rattle.sema_table.specs.Whole.{IsAcquired};
+ghost use Rattle.sema_table.specs.CallersTimed.{AcquiresInTime};
 ghost use Rattle.sync_parts.specs.Lock.{TookLast};
-ghost use Rattle.sync_parts.specs.Locking.{new_lock, HasLocked, HasUnlocked};
+ghost use Rattle.sync_parts.specs.Locking.{new_lock, HasLocked, HasUnlocked, HasLockedInTime, HasTimedOut};
 ghost use Rattle.sync_parts.specs.LockRows.{RunsAcquire, RunsRelease, RunsMeet};
 ghost use Rattle.sync_parts.specs.Exclusion.{HaveMet};
 
+use crate::limit::Limit;
 use crate::locker::Locker;
 use notify_list::{Holding, ListSeat};
-use sema_table::{Seat, SemaTable};
+use sema_table::{Acquired, Seat, SemaTable};
 use std::marker::Model;
 use std::sync::Wait;
+use std::time::{Clock, Duration, Instant};
 use waiters::CounterId;
 
 /// An acquire without lifo, by the seat that lies here. Who was woken for the lock, with others perhaps,
@@ -38,6 +42,53 @@ fn acquire_for<R: Wait>(
     };
     table.spin(counter);
     *place = Some(table.acquire(rt, seat, counter, false));
+}
+
+/// An acquire without lifo until then.
+fn acquire_until<R: Wait + Clock>(
+    rt: &R,
+    table: &SemaTable,
+    seat: Seat,
+    counter: CounterId,
+    limit: Limit,
+) -> Acquired
+    requires { (seat.table ≡ table.now) × (counter < length table.now.setting.starts) }
+    ensures { AcquiresInTime seat counter false result }
+{
+    match limit {
+        Limit::At(deadline) => table.acquire_until(rt, seat, counter, false, deadline),
+        Limit::After(longest) => table.acquire_for(rt, seat, counter, false, longest),
+    }
+}
+
+/// The same by the seat that lies here: whether a unit was taken.
+fn acquire_in_time<R: Wait + Clock>(
+    rt: &R,
+    table: &SemaTable,
+    place: &mut Option<Seat>,
+    counter: CounterId,
+    limit: Limit,
+) -> bool
+    requires there { IsSomeAnd place.old (λ seat. (seat.table ≡ table.now) × (0 < seat.left)) }
+    requires inside { counter < length table.now.setting.starts }
+    ensures { ForSome place.old (λ seat. IsSomeAnd place.new (λ later. MatchBool result
+        (AcquiresInTime seat counter false (Taken later))
+        (AcquiresInTime seat counter false (TimedOut later)))) }
+{
+    let Some(seat) = place.take() else {
+        unreachable!()
+    };
+    match acquire_until(rt, table, seat, counter, limit) {
+        Acquired::Taken(seat) => {
+            *place = Some(seat);
+            true
+        }
+        Acquired::TimedOut(seat) => {
+            *place = Some(seat);
+            false
+        }
+        Acquired::LimitReached(_seat) => unreachable!(),
+    }
 }
 
 /// A lock over a counter, held while its seat has the counter's unit.
@@ -102,6 +153,39 @@ impl<'t> SemaLock<'t> {
         ensures caller { HasLocked self.old self.new }
     {
         self.lock_for(rt, false);
+    }
+
+    /// Locks as `acquire` does, until the deadline: whether it did. Where it sleeps it may give up, and then the
+    /// lock may be released once less: so one that is locked may still be released.
+    pub fn try_lock_until<R: Wait + Clock>(&mut self, rt: &R, deadline: Instant) -> bool
+        requires free { self.old.held ≡ false }
+        requires left { 1 < self.old.seat.left }
+        ensures { MatchBool result (HasLockedInTime self.old self.new) (HasTimedOut self.old self.new) }
+    {
+        self.try_lock_in_time(rt, Limit::At(deadline))
+    }
+
+    /// The same for so long.
+    pub fn try_lock_for<R: Wait + Clock>(&mut self, rt: &R, longest: Duration) -> bool
+        requires free { self.old.held ≡ false }
+        requires left { 1 < self.old.seat.left }
+        ensures { MatchBool result (HasLockedInTime self.old self.new) (HasTimedOut self.old self.new) }
+    {
+        self.try_lock_in_time(rt, Limit::After(longest))
+    }
+
+    fn try_lock_in_time<R: Wait + Clock>(&mut self, rt: &R, limit: Limit) -> bool
+        requires free { self.old.held ≡ false }
+        requires left { 1 < self.old.seat.left }
+        ensures { MatchBool result (HasLockedInTime self.old self.new) (HasTimedOut self.old self.new) }
+    {
+        let took = acquire_in_time(rt, self.table, &mut self.seat, self.counter, limit);
+        let Some(seat) = &self.seat else {
+            unreachable!()
+        };
+        let _ = seat.taken();
+        self.held = took;
+        took
     }
 
     /// Locks, for one who comes, or for one who was woken.

@@ -2,6 +2,7 @@
 ghost use Rattle.std.specs.Prelude.{◌≡◌, ◌<◌, []};
 ghost use Rattle.step_table.specs.declared.standing.GroupNext.TheVariants.{Goes};
 ghost use Rattle.step_table.specs.declared.standing.GroupRow.TheVariants.{G1, G3, V2};
+ghost use Rattle.step_table.specs.declared.standing.Ending.TheVariants.{NextCall};
 ghost use Rattle.step_table.specs.declared.group_word.GroupWord.{GroupWord};
 ghost use Rattle.step_table.specs.Group.{plus, same_word};
 ghost use Rattle.step_table.specs.GroupBits.{bits_of, word_in, IsGroupWord};
@@ -72,11 +73,11 @@ impl StateWord {
 
     /// V2: counts one more wait if the word is still that which was seen.
     pub(crate) fn count_wait(&self, token: &mut StateToken, seen: GroupWord) -> bool
-        requires own { (token.old.table_id ≡ self.now.id) × (token.old.me.0.own.knows.next ≡ Goes (V2 seen))
+        requires own { (token.old.table_id ≡ self.now.id) × (token.old.me.0.own.knows.next ≡ Goes (V2 NextCall seen))
             × IsGroupWord seen }
         requires some { 0 < token.old.me.0.own.knows.seats }
         ensures { (found : GroupWord) × (result ≡ same_word seen found)
-            × Steps token.old (V2 seen) found token.new }
+            × Steps token.old (V2 NextCall seen) found token.new }
     {
         let bits = bits_of(seen);
         self.words

@@ -4,6 +4,7 @@ pub mod CopyLemmas
 pub mod LeftLemmas
 pub mod SlotLemmas
 pub mod OtherLemmas
+pub mod SoughtLemmas
 pub mod StepLemmas
 pub mod WalkLemmas
 pub mod WordLemmas

@@ -1,11 +1,11 @@
 -- Lemmas on one step of an open list of `Lists`: what its chain and its waits come to.
-use Rattle.std.proofs.Common.{◌≡◌, ◌≢◌, ℕ, ◌+◌, ◌-◌, ◌<◌, ◌^◌, List, [], ◌∷◌, ◌++◌, length, Option, Some, None, refl}
+use Rattle.std.proofs.Common.{Bool, ◌≡◌, ◌≢◌, ℕ, ◌+◌, ◌-◌, ◌<◌, ◌^◌, List, [], ◌∷◌, ◌++◌, length, Option, Some, None, refl}
 use Rattle.std.proofs.Common.{sym, ap, ◌∙◌, append-nil, length-append, arith}
 use Rattle.std.proofs.lemmas.List.{map_push, length-map}
 use Rattle.std.specs.Option.{unwrap_or}
 use Rattle.slab.specs.Slab.{Slab, get, ContainsKey, Updates, with_value}
 use Rattle.slab.proofs.SlabLemmas.{Updates-with_value}
-use Rattle.waiters.specs.Lists.{Lists, list_at, waits_at, Changes, first_with, without_first}
+use Rattle.waiters.specs.Lists.{Lists, list_at, waits_at, Changes, first_sought, without_sought}
 use Rattle.waiters.specs.declared.wait.Wait.{Wait}
 use Rattle.waiters.specs.declared.lists.Record.{Record}
 use Rattle.waiters.specs.declared.lists.Chain.{Chain}
@@ -191,13 +191,13 @@ module _ (records : Slab Record) (chains : Slab Chain) (room list_room : ℕ) (o
   pub nil_from_first : chain.first ≡ None → mine.entries ≡ []
   nil_from_first is = nil_from_none records chain.first mine.entries is mine.links.linked
 
-  pub FoundAt-mine : (ticket : ℕ) (place : Place) → Finds records chain ticket (Some place) → FoundAt mine.entries ticket place
-  FoundAt-mine ticket place finds =
+  pub FoundAt-mine : (is : Wait → Bool) (place : Place) → Finds records chain is (Some place) → FoundAt mine.entries is place
+  FoundAt-mine is place finds =
       let same = same_entries records finds.0 mine.entries chain.first finds.1.linked mine.links.linked in
       rw same at finds.2
 
-  pub none_found : (ticket : ℕ) (from : Lists) → from.slots ≡ listed records chains → Finds records chain ticket None
-      → (first_with ticket (waits_at from list) ≡ None) × (list_at from list ≡ Some (without_first ticket (waits_at from list)))
+  pub none_found : (is : Wait → Bool) (from : Lists) → from.slots ≡ listed records chains → Finds records chain is None
+      → (first_sought is (waits_at from list) ≡ None) × (list_at from list ≡ Some (without_sought is (waits_at from list)))
   none_found ticket from was finds =
       let same = same_entries records finds.0 mine.entries chain.first finds.1.linked mine.links.linked in
       let waits = waits_at-open from was in (

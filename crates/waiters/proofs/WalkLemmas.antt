@@ -1,30 +1,29 @@
 -- Lemmas on a walk along a chain.
 use Rattle.std.proofs.Common.{◌≡◌, ◌≢◌, ℕ, ◌+◌, ◌<◌, ◌≤◌, List, [], ◌∷◌, ◌++◌, length, Option, Some, None, refl, sym, ap}
-use Rattle.std.proofs.Common.{◌∙◌, arith, append_assoc, append-nil}
+use Rattle.std.proofs.Common.{Bool, true, false, if◌then◌else◌, ◌∙◌, arith, append_assoc, append-nil}
 use Rattle.std.proofs.Common.{length-append}
 use Rattle.std.proofs.lemmas.List.{map-append}
-use Rattle.std.proofs.lemmas.Bool.Decides.{nat_tests}
 use Rattle.slab.specs.Slab.{Slab, get, ContainsKey}
-use Rattle.waiters.specs.Lists.{first_with, without_first}
+use Rattle.waiters.specs.Lists.{first_sought, without_sought}
 use Rattle.waiters.specs.declared.wait.Wait.{Wait}
 use Rattle.waiters.specs.declared.lists.Record.{Record}
 use Rattle.waiters.specs.declared.lists.Chain.{Chain}
 use Rattle.waiters.specs.Chains.{waits_from, waits_of, Linked, HasLinks, WalkedTo, Finds}
 use Rattle.waiters.proofs.ChainLemmas.{waits_from-Linked, last_key-append}
 
-pub first_with-here : (ticket : ℕ) (wait : Wait) (rest : List Wait) → wait.ticket ≡ ticket → first_with ticket (wait ∷ rest) ≡ Some wait
-first_with-here ticket wait rest same = grind (arith, nat_tests)
+-- a list from a wait on that is sought, or isn't
+module _ (is : Wait → Bool) (wait : Wait) (rest : List Wait) where
+  pub first-here : is wait ≡ true → first_sought is (wait ∷ rest) ≡ Some wait
+  first-here e = ap (λ b. if b then Some wait else first_sought is rest) e
 
-pub first_with-later : (ticket : ℕ) (wait : Wait) (rest : List Wait) → wait.ticket ≢ ticket
-    → first_with ticket (wait ∷ rest) ≡ first_with ticket rest
-first_with-later ticket wait rest differs = grind (arith, nat_tests)
+  pub first-later : is wait ≡ false → first_sought is (wait ∷ rest) ≡ first_sought is rest
+  first-later e = ap (λ b. if b then Some wait else first_sought is rest) e
 
-pub without_first-here : (ticket : ℕ) (wait : Wait) (rest : List Wait) → wait.ticket ≡ ticket → without_first ticket (wait ∷ rest) ≡ rest
-without_first-here ticket wait rest same = grind (arith, nat_tests)
+  pub without-here : is wait ≡ true → without_sought is (wait ∷ rest) ≡ rest
+  without-here e = ap (λ b. if b then rest else wait ∷ without_sought is rest) e
 
-pub without_first-later : (ticket : ℕ) (wait : Wait) (rest : List Wait) → wait.ticket ≢ ticket
-    → without_first ticket (wait ∷ rest) ≡ wait ∷ without_first ticket rest
-without_first-later ticket wait rest differs = grind (arith, nat_tests)
+  pub without-later : is wait ≡ false → without_sought is (wait ∷ rest) ≡ wait ∷ without_sought is rest
+  without-later e = ap (λ b. if b then rest else wait ∷ without_sought is rest) e
 
 module _ (records : Slab Record) where
   pub Linked-from : (here : Option ℕ) (key : ℕ) (rest : List (ℕ × Wait)) → here ≡ Some key
@@ -46,8 +45,8 @@ module _ (records : Slab Record) where
       let value : record { wait = entry.1; next = linked.0 } ≡ found = cc in
       (later, ap (λ e. e ∷ later) (rw (same, ← value) refl), rw (← value) linked.3)
 
-module _ (records : Slab Record) (chain : Chain) (ticket : ℕ) where
-  pub WalkedTo-start : HasLinks records chain → WalkedTo records chain ticket None chain.first
+module _ (records : Slab Record) (chain : Chain) (sought : Wait → Bool) where
+  pub WalkedTo-start : HasLinks records chain → WalkedTo records chain sought None chain.first
   WalkedTo-start has =
       record {
         passed = [];
@@ -59,9 +58,9 @@ module _ (records : Slab Record) (chain : Chain) (ticket : ℕ) where
         without = refl;
       }
 
-  module _ (before : Option ℕ) (key : ℕ) (found : Record) (walked : WalkedTo records chain ticket before (Some key)) where
+  module _ (before : Option ℕ) (key : ℕ) (found : Record) (walked : WalkedTo records chain sought before (Some key)) where
     passing : (later : List (ℕ × Wait)) → walked.rest ≡ (key, found.wait) ∷ later → Linked records found.next later None
-        → found.wait.ticket ≢ ticket → WalkedTo records chain ticket (Some key) found.next
+        → sought found.wait ≡ false → WalkedTo records chain sought (Some key) found.next
     passing later is left differs =
         let more : List (ℕ × Wait) = walked.passed ++ (key, found.wait) ∷ [] in
         let same : walked.passed ++ walked.rest ≡ more ++ later =
@@ -72,23 +71,23 @@ module _ (records : Slab Record) (chain : Chain) (ticket : ℕ) where
           links = rw (← same) walked.links;
           left = left;
           ends = sym (last_key-append walked.passed (key, found.wait) []);
-          first = rw (← same) (walked.first ∙ rw is (first_with-later ticket found.wait (waits_of later) differs));
+          first = rw (← same) (walked.first ∙ rw is (first-later sought found.wait (waits_of later) differs));
           without =
               rw (← same)
               (walked.without ∙ rw (
                 is,
                 map-append (λ entry. entry.1) walked.passed ((key, found.wait) ∷ []),
                 append_assoc (waits_of walked.passed) (found.wait ∷ []),
-              ) (ap (λ waits. waits_of walked.passed ++ waits) (without_first-later ticket found.wait (waits_of later) differs)));
+              ) (ap (λ waits. waits_of walked.passed ++ waits) (without-later sought found.wait (waits_of later) differs)));
         }
 
-    pub WalkedTo-next : get records key ≡ Some found → found.wait.ticket ≢ ticket → WalkedTo records chain ticket (Some key) found.next
+    pub WalkedTo-next : get records key ≡ Some found → sought found.wait ≡ false → WalkedTo records chain sought (Some key) found.next
     WalkedTo-next read differs =
         let step = Linked-next records key found walked.rest walked.left read in
         passing step.0 step.1 step.2 differs
 
-    arriving : (later : List (ℕ × Wait)) → walked.rest ≡ (key, found.wait) ∷ later → found.wait.ticket ≡ ticket
-        → Finds records chain ticket (Some (record { before = before; key = key }))
+    arriving : (later : List (ℕ × Wait)) → walked.rest ≡ (key, found.wait) ∷ later → sought found.wait ≡ true
+        → Finds records chain sought (Some (record { before = before; key = key }))
     arriving later is same = (
       walked.passed ++ walked.rest,
       walked.links,
@@ -101,15 +100,15 @@ module _ (records : Slab Record) (chain : Chain) (ticket : ℕ) where
               splits = ap (λ rest. walked.passed ++ rest) is;
               before = walked.ends;
             };
-        first = walked.first ∙ rw is (first_with-here ticket found.wait (waits_of later) same);
+        first = walked.first ∙ rw is (first-here sought found.wait (waits_of later) same);
         without =
             walked.without ∙ rw (is, map-append (λ entry. entry.1) walked.passed later)
-            (ap (λ waits. waits_of walked.passed ++ waits) (without_first-here ticket found.wait (waits_of later) same));
+            (ap (λ waits. waits_of walked.passed ++ waits) (without-here sought found.wait (waits_of later) same));
       },
     )
 
-    pub WalkedTo-found : get records key ≡ Some found → found.wait.ticket ≡ ticket
-        → Finds records chain ticket (Some (record { before = before; key = key }))
+    pub WalkedTo-found : get records key ≡ Some found → sought found.wait ≡ true
+        → Finds records chain sought (Some (record { before = before; key = key }))
     WalkedTo-found read same =
         let step = Linked-next records key found walked.rest walked.left read in arriving step.0 step.1 same
 
@@ -126,10 +125,10 @@ module _ (records : Slab Record) (chain : Chain) (ticket : ℕ) where
         let next = waits_from-Linked records step.0 chain.len found.next (omega arith) step.2 in
         rw (here, next) (omega arith)
 
-  pub WalkedTo-end : (before : Option ℕ) → WalkedTo records chain ticket before None → Finds records chain ticket None
+  pub WalkedTo-end : (before : Option ℕ) → WalkedTo records chain sought before None → Finds records chain sought None
   WalkedTo-end before walked = ended walked.rest walked.left refl
     where
-      ended : (rest : List (ℕ × Wait)) → Linked records None rest None → walked.rest ≡ rest → Finds records chain ticket None
+      ended : (rest : List (ℕ × Wait)) → Linked records None rest None → walked.rest ≡ rest → Finds records chain sought None
       ended [] left is =
           let whole : walked.passed ++ walked.rest ≡ walked.passed = ap (λ rest. walked.passed ++ rest) is ∙ append-nil walked.passed in (
             walked.passed ++ walked.rest,

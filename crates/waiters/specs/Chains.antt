@@ -1,10 +1,10 @@
 -- How `Lists` keeps its lists: each open key has a chain of records, linked by index. No public clause cites
 -- this.
 use Rattle.std.specs.Prelude.{◌≡◌, ◌+◌, ◌<◌, ◌≤◌, ◌^◌, [], ◌∷◌, ◌++◌, if◌then◌else◌}
-use Rattle.std.specs.Prelude.{ℕ, zero, suc, List, map, drop, length, Option, Some, None, is_none}
+use Rattle.std.specs.Prelude.{ℕ, zero, suc, Bool, List, map, drop, length, Option, Some, None, is_none}
 use Rattle.std.specs.Option.{option_or}
 use Rattle.slab.specs.Slab.{Slab, get, ContainsKey, slab_len, HasRoomFor, Updates, with_value}
-use Rattle.waiters.specs.Lists.{seats_of, first_with, without_first}
+use Rattle.waiters.specs.Lists.{seats_of, first_sought, without_sought}
 use Rattle.waiters.specs.declared.wait.Wait.{Wait}
 use Rattle.waiters.specs.declared.lists.Record.{Record}
 use Rattle.waiters.specs.declared.lists.Chain.{Chain}
@@ -143,32 +143,32 @@ pub record StandsAt (entries : List (ℕ × Wait)) (place : Place) : Type 0 wher
   pub splits : entries ≡ passed ++ (place.key, wait) ∷ rest
   pub before : place.before ≡ last_key passed
 
--- the first record with this ticket has this place
-pub record FoundAt (entries : List (ℕ × Wait)) (ticket : ℕ) (place : Place) : Type 0 where
+-- the first record that is sought has this place
+pub record FoundAt (entries : List (ℕ × Wait)) (is : Wait → Bool) (place : Place) : Type 0 where
   pub stands : StandsAt entries place
-  pub first : first_with ticket (waits_of entries) ≡ Some stands.wait
-  pub without : without_first ticket (waits_of entries) ≡ waits_of (stands.passed ++ stands.rest)
+  pub first : first_sought is (waits_of entries) ≡ Some stands.wait
+  pub without : without_sought is (waits_of entries) ≡ waits_of (stands.passed ++ stands.rest)
 
--- no record has the ticket, or it is found
-abbrev pub Finds : Slab Record → Chain → ℕ → Option Place → Type 0
-Finds records chain ticket None =
+-- no record is sought, or it is found
+abbrev pub Finds : Slab Record → Chain → (Wait → Bool) → Option Place → Type 0
+Finds records chain is None =
     (entries : List (ℕ × Wait)) × Links records chain entries
-    × (first_with ticket (waits_of entries) ≡ None)
-    × (without_first ticket (waits_of entries) ≡ waits_of entries)
-Finds records chain ticket (Some place) =
-    (entries : List (ℕ × Wait)) × Links records chain entries × FoundAt entries ticket place
+    × (first_sought is (waits_of entries) ≡ None)
+    × (without_sought is (waits_of entries) ≡ waits_of entries)
+Finds records chain is (Some place) =
+    (entries : List (ℕ × Wait)) × Links records chain entries × FoundAt entries is place
 
--- a walk for the ticket has passed these records and found none
-pub record WalkedTo (records : Slab Record) (chain : Chain) (ticket : ℕ) (before here : Option ℕ)
+-- a walk for it has passed these records and found none
+pub record WalkedTo (records : Slab Record) (chain : Chain) (is : Wait → Bool) (before here : Option ℕ)
     : Type 0 where
   pub passed : List (ℕ × Wait)
   pub rest : List (ℕ × Wait)
   pub links : Links records chain (passed ++ rest)
   pub left : Linked records here rest None
   pub ends : before ≡ last_key passed
-  pub first : first_with ticket (waits_of (passed ++ rest)) ≡ first_with ticket (waits_of rest)
-  pub without : without_first ticket (waits_of (passed ++ rest)) ≡ waits_of passed
-      ++ without_first ticket (waits_of rest)
+  pub first : first_sought is (waits_of (passed ++ rest)) ≡ first_sought is (waits_of rest)
+  pub without : without_sought is (waits_of (passed ++ rest)) ≡ waits_of passed
+      ++ without_sought is (waits_of rest)
 
 -- the seats of the first records are copied, and the rest of the buffer is as it was
 pub record CopiedTo (records : Slab Record) (waits : List Wait) (old items : List ℕ) (here : Option ℕ)

@@ -1,7 +1,9 @@
 -- What a contract sees of `Lists`: a finite map from open keys to lists of waits, and two numbers of room.
-use Rattle.std.specs.Prelude.{◌≡◌, ◌≢◌, ◌==◌, [], ◌∷◌, ◌++◌, if◌then◌else◌}
+use Rattle.std.specs.Prelude.{◌≡◌, ◌≢◌, ◌==◌, [], ◌∷◌, ◌++◌, if◌then◌else◌, Bool, ◌&&◌}
 use Rattle.std.specs.Prelude.{ℕ, List, map, take, drop, length, Option, Some, None, IsSome, slice_index_or}
 use Rattle.std.specs.Prelude.{unwrap_or}
+use Rattle.waiters.specs.declared.sought.Sought.{Sought}
+use Rattle.waiters.specs.declared.sought.Sought.TheVariants.{Ticket, Seat, Id}
 use Rattle.waiters.specs.declared.wait.Wait.{Wait}
 
 -- the list under each key from 0 on, `None` where none is open; how many more waits and lists fit
@@ -27,16 +29,28 @@ pub record Changes (old new : Lists) (key : ℕ) (list : Option (List Wait)) : T
   pub there : list_at new key ≡ list
   pub elsewhere : (other : ℕ) → other ≢ key → list_at new other ≡ list_at old other
 
--- the first wait with this ticket
-abbrev pub first_with : ℕ → List Wait → Option Wait
-first_with ticket [] = None
-first_with ticket (wait ∷ rest) = if wait.ticket == ticket then Some wait else first_with ticket rest
+-- a wait is one that is sought
+abbrev pub is_sought : Sought → Wait → Bool
+is_sought (Ticket ticket) wait = wait.ticket == ticket
+is_sought (Seat seat) wait = wait.id.seat == seat
+is_sought (Id id) wait = wait.id.seat == id.seat && wait.id.turn == id.turn
 
--- the list without its first wait with this ticket
+-- the first wait that is sought
+abbrev pub first_sought : (Wait → Bool) → List Wait → Option Wait
+first_sought is [] = None
+first_sought is (wait ∷ rest) = if is wait then Some wait else first_sought is rest
+
+-- the list without it
+abbrev pub without_sought : (Wait → Bool) → List Wait → List Wait
+without_sought is [] = []
+without_sought is (wait ∷ rest) = if is wait then rest else wait ∷ without_sought is rest
+
+-- the first wait with this ticket, and the list without it
+abbrev pub first_with : ℕ → List Wait → Option Wait
+first_with ticket = first_sought (is_sought (Ticket ticket))
+
 abbrev pub without_first : ℕ → List Wait → List Wait
-without_first ticket [] = []
-without_first ticket (wait ∷ rest) =
-    if wait.ticket == ticket then rest else wait ∷ without_first ticket rest
+without_first ticket = without_sought (is_sought (Ticket ticket))
 
 -- the seats of the waits, in their order
 abbrev pub seats_of : List Wait → List ℕ

@@ -11,6 +11,7 @@ mod lists;
 mod no_memory;
 mod seat_id;
 pub mod slabs;
+mod sought;
 mod wait;
 
 pub use counter_id::CounterId;
@@ -18,4 +19,5 @@ pub use list_key::ListKey;
 pub use lists::Lists;
 pub use no_memory::NoMemory;
 pub use seat_id::SeatId;
+pub use sought::Sought;
 pub use wait::{Wait, WaitId};

@@ -51,7 +51,7 @@ fn copy_shows(rt: &impl Abort, alloc: Global, world: &World<'_>) {
 /// The words of a key, by hand: the counter's number, its list's length and the seat in it; the words of its
 /// root, whose waiter word is 1; the seat that is parked, and one word for no grant and nothing in hand; the
 /// one before its row of a release; that both are on a counter; how many calls each has begun.
-static KEY: [u64; 15] = [0, 1, 0, 0, 1, 20, 0, 0, 26, 0, 0, 1, 1, 1, 1];
+static KEY: [u64; 15] = [0, 1, 0, 0, 1, 20, 0, 0, 34, 0, 0, 1, 1, 1, 1];
 
 /// The world and a copy of its moment have that key.
 fn have_key(rt: &impl Abort, alloc: Global, world: &World<'_>) {

@@ -37,7 +37,7 @@ fn told(answer: Result<String, AllocError>, expected: &str) -> Attempt {
 
 const NO_LINE: &str =
     "line 2: no line is spelled \"foo\": roots N, counter S, list F, group, seat K: CALLS, settled, \
-                       value C N, no-misuse\n";
+                       value C N, no-misuse, no-lost\n";
 
 #[derive(Drop)]
 struct Explaining;
@@ -54,8 +54,8 @@ impl Call for Explaining {
 
 const NO_ENTRY: &str =
     "line 2: no line is spelled \"takee 0 1\" here: counter N and list F come first, and then add C S, \
-                        add C S many N, take C S, queue C S.T, queue C S.T lifo, leave C S.T R, ticket L S, \
-                        grant L UPTO S, each of a counter or list that is declared; a line feed ends each line\n";
+                        add C S many N, take C S, queue C S.T, queue C S.T lifo, leave C S.T R, withdraw C S.T, \
+                        ticket L S, grant L UPTO S, forgo L N S, each of a counter or list that is declared; a line feed ends each line\n";
 
 #[derive(Drop)]
 struct ExplainingJournal;

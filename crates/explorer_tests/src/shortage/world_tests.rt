@@ -69,7 +69,7 @@ impl Call for Waiting<'_, '_> {
 /// The words of its key, by hand: the counter's number, its list's length and the seat in it; the words of
 /// its root, whose waiter word is 1; the seat that is parked, and one word for no grant and nothing in hand;
 /// the one before its row of a release; that both are on a counter; how many calls each has begun.
-pub(crate) static KEY: [u64; 15] = [0, 1, 0, 0, 1, 20, 0, 0, 26, 0, 0, 1, 1, 1, 1];
+pub(crate) static KEY: [u64; 15] = [0, 1, 0, 0, 1, 20, 0, 0, 34, 0, 0, 1, 1, 1, 1];
 
 /// A world that is asked for its key.
 #[derive(Drop)]

@@ -38,11 +38,25 @@ fn read_entry(text: &[u8], counters: usize, lists: usize) -> Option<JournalEntry
             seat: releaser,
         });
     }
+    if let Some((counter, (seat, turn))) = indexed_two(
+        text,
+        b"withdraw ",
+        counters,
+        b" ",
+        b".",
+        b"\n",
+    ) {
+        let wait = JournalWait { seat, turn };
+        return Some(JournalEntry::Withdraw { counter, wait });
+    }
     if let Some((list, seat)) = indexed(text, b"ticket ", lists, b" ", b"\n") {
         return Some(JournalEntry::Ticket { list, seat });
     }
     if let Some((list, (upto, seat))) = indexed_two(text, b"grant ", lists, b" ", b" ", b"\n") {
         return Some(JournalEntry::Grant { list, upto, seat });
+    }
+    if let Some((list, (number, seat))) = indexed_two(text, b"forgo ", lists, b" ", b" ", b"\n") {
+        return Some(JournalEntry::Forgo { list, number, seat });
     }
     if let Some((counter, (seat, turn))) = indexed_two(
         text, b"queue ", counters, b" ", b".", b" lifo\n",

@@ -70,13 +70,13 @@ fn made(alloc: Global, seats: u32) -> Result<usize, (u32, SetupError)> {
 }
 
 #[test]
-fn a_value_has_1_to_256_seats(rt: HostRuntime) {
+fn a_value_has_1_to_65536_seats(rt: HostRuntime) {
     assert!(rt; made(rt.alloc(), 0) == Err((5, SetupError::Seats)));
-    assert!(rt; made(rt.alloc(), 257) == Err((5, SetupError::Seats)));
+    assert!(rt; made(rt.alloc(), 65_537) == Err((5, SetupError::Seats)));
     assert!(rt;
         matches!(
-            made(rt.alloc(), 256),
-            Ok(256) | Err((5, SetupError::NoMemory))
+            made(rt.alloc(), 65_536),
+            Ok(65_536) | Err((5, SetupError::NoMemory))
         )
     );
 }

@@ -30,7 +30,7 @@ fn stays(rt: &impl Abort, list: &NotifyList, parked: Parked) -> Parked
 }
 
 /// Its wait is granted.
-pub(crate) fn leaves(rt: &impl Abort, list: &NotifyList, parked: Parked) -> ListSeat
+pub(crate) fn wakes(rt: &impl Abort, list: &NotifyList, parked: Parked) -> ListSeat
     requires { parked.list ≡ list.now }
     ensures { result.list ≡ list.now }
 {
@@ -67,7 +67,7 @@ fn grants_one_by_one(rt: &impl Abort, list: &NotifyList, seats: &mut Vec<ListSea
         seat: Some(number),
     };
     holds(rt, list.try_one(&mut notifier) == Ok(Some(granted)));
-    let seat = leaves(rt, list, parked);
+    let seat = wakes(rt, list, parked);
     gives_back(rt, list, seats, seat);
     gives_back(rt, list, seats, notifier);
 }
@@ -90,8 +90,8 @@ fn grants_both(rt: &impl Abort, list: &NotifyList, seats: &mut Vec<ListSeat>)
         rt,
         all.tickets == 2 && all.seats.as_slice() == numbers.as_slice(),
     );
-    let one = leaves(rt, list, one);
-    let other = leaves(rt, list, other);
+    let one = wakes(rt, list, one);
+    let other = wakes(rt, list, other);
     gives_back(rt, list, seats, one);
     gives_back(rt, list, seats, other);
     gives_back(rt, list, seats, notifier);

@@ -2,7 +2,7 @@
 
 ghost use Rattle.std.specs.Prelude.{◌≡◌, All, IfSome};
 
-use crate::lists::attempt_tests::{leaves, parks};
+use crate::lists::attempt_tests::{parks, wakes};
 use crate::lists::crew::{Back, Waiter, join_all};
 use crate::lists::given::{ends_at, holds, last_seat, made};
 use crate::tables::given::is_reached;
@@ -124,7 +124,7 @@ fn sleep_beside<R: Abort + Threads + Wait + Sync>(
             let parked = parks(rt, list, poller, 0);
             let (waiters, sleepers) = hire_all(scope, rt, alloc, list, marks, seats);
             wakes_all(rt, list, marks, sleepers, &mut notifier);
-            let poller = leaves(rt, list, parked);
+            let poller = wakes(rt, list, parked);
             let mut back = join_all(rt, alloc, list, waiters, notifier);
             let _ = back.push(poller);
             back

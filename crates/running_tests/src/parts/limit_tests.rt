@@ -33,19 +33,25 @@ fn of_a_group(alloc: Global, seats: u32) -> Result<usize, u8> {
     }
 }
 
-/// A number of seats, and how many are made, or the refusal by its number.
-static SEATS: [(u32, Result<usize, u8>); 5] = [
-    (0, Err(ListSetupError::Seats as u8)),
-    (257, Err(SetupError::Seats as u8)),
-    (u32::MAX, Err(2)),
-    (1, Ok(1)),
-    (256, Ok(256)),
+/// A number of seats, and how many are made, of a condition variable and of a group, or the refusal by its number.
+static SEATS: [(u32, Result<usize, u8>, Result<usize, u8>); 7] = [
+    (
+        0,
+        Err(ListSetupError::Seats as u8),
+        Err(SetupError::Seats as u8),
+    ),
+    (257, Err(2), Ok(257)),
+    (65_537, Err(2), Err(2)),
+    (u32::MAX, Err(2), Err(2)),
+    (1, Ok(1), Ok(1)),
+    (256, Ok(256), Ok(256)),
+    (65_536, Err(2), Ok(65_536)),
 ];
 
 #[test]
-fn a_condition_variable_and_a_group_have_1_to_256_seats(rt: HostRuntime) {
-    for (seats, expected) in &SEATS {
-        holds(&rt, of_a_cond(rt.alloc(), *seats) == *expected);
-        holds(&rt, of_a_group(rt.alloc(), *seats) == *expected);
+fn a_condition_variable_has_1_to_256_seats_and_a_group_65536(rt: HostRuntime) {
+    for (seats, of_cond, of_group) in &SEATS {
+        holds(&rt, of_a_cond(rt.alloc(), *seats) == *of_cond);
+        holds(&rt, of_a_group(rt.alloc(), *seats) == *of_group);
     }
 }

@@ -9,7 +9,8 @@ use sema_table::{Seat, SemaTable};
 use std::alloc::Global;
 use std::process::Abort;
 use std::sync::Wait;
-use sync_parts::{Cond, Holding, ListSeat, Locker, LockerCall, SemaLock, Waited};
+use std::time::{Clock, Duration, Instant};
+use sync_parts::{Cond, Holding, ListSeat, Locker, LockerCall, SemaLock, Waited, WaitedUntil};
 use waiters::CounterId;
 
 /// It has a seat of the condition variable that waits on it.
@@ -65,7 +66,7 @@ impl<'c, Q: Abort> Locker for Signaller<'c, Q> {
     }
 }
 
-fn waits<R: Abort + Wait>(
+fn waits<R: Abort + Clock + Wait>(
     rt: &R,
     cond: &Cond,
     first: ListSeat,
@@ -82,19 +83,27 @@ fn waits<R: Abort + Wait>(
         calls,
         granted: None,
     };
+    let past = Instant::now(rt).expect(rt, "a clock");
+    let (first, waited) = cond.wait_until(rt, first, &mut locker, past);
+    holds(rt, waited == WaitedUntil::AtOnce);
+    holds(rt, locker.granted == Some(0));
+    let (first, waited) = cond.wait_for(rt, first, &mut locker, Duration::ZERO);
+    holds(rt, waited == WaitedUntil::AtOnce);
+    holds(rt, locker.granted == Some(1));
     let (_first, waited) = cond.wait(rt, first, &mut locker);
     holds(rt, waited == Waited::AtOnce);
-    holds(rt, locker.granted == Some(0));
-    let expected = [LockerCall::Unlocked, LockerCall::Locked];
+    holds(rt, locker.granted == Some(2));
+    let (unlocked, locked) = (LockerCall::Unlocked, LockerCall::Locked);
+    let expected = [unlocked, locked, unlocked, locked, unlocked, locked];
     holds(rt, locker.calls.as_slice() == expected.as_slice());
     holds(rt, locker.held());
 }
 
-/// Room for two calls, asked for once more where memory was refused.
-fn room_for_two(rt: &impl Abort, alloc: Global) -> Vec<LockerCall> {
-    match Vec::with_capacity(alloc, 2) {
+/// Room for six calls, asked for once more where memory was refused.
+fn room_for_six(rt: &impl Abort, alloc: Global) -> Vec<LockerCall> {
+    match Vec::with_capacity(alloc, 6) {
         Ok(calls) => calls,
-        Err(_refused) => Vec::with_capacity(alloc, 2).expect(rt, "memory"),
+        Err(_refused) => Vec::with_capacity(alloc, 6).expect(rt, "memory"),
     }
 }
 
@@ -103,7 +112,7 @@ fn a_locker_signals_as_it_is_unlocked(rt: HostRuntime) {
     let (cond, mut seats) = cond_given::made(&rt, rt.alloc(), 2);
     let second = cond_given::last_own(&rt, &cond, &mut seats);
     let first = cond_given::last_own(&rt, &cond, &mut seats);
-    waits(&rt, &cond, first, second, room_for_two(&rt, rt.alloc()));
+    waits(&rt, &cond, first, second, room_for_six(&rt, rt.alloc()));
 }
 
 /// The lock over a counter is a locker too.

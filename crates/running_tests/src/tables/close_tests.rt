@@ -5,7 +5,7 @@ ghost use Rattle.std.specs.Prelude.{◌≡◌, All};
 use crate::tables::given::{
     Sizes, adds, counter, counts, gives_back, holds, last_seat, made, value,
 };
-use sema_table::{Closed, Seat, SemaTable};
+use sema_table::{Closed, Entered, GaveUp, Seat, SemaTable, Sleeping};
 use std::alloc::Global;
 use std::process::Abort;
 use std::sync::Wait;
@@ -32,7 +32,9 @@ pub(crate) enum Act {
     Takes(u32),
     /// Adds units to a counter.
     Adds(u32, u32),
-    /// Has so many left to add, and was given so many.
+    /// Waits on a counter, where there is no unit, and gives up.
+    Leaves(u32),
+    /// Has so many left to spend, and was given so many.
     Counts(u64, u64),
     /// Meets the one before it, which is the last one then. Both see the same number of counter 0.
     Meets,
@@ -51,6 +53,26 @@ fn meets(rt: &impl Abort, table: &SemaTable, seats: &mut Vec<Seat>, seat: Seat) 
     other
 }
 
+fn gives_up<R: Abort + Wait>(rt: &R, table: &SemaTable, asleep: Sleeping) -> Seat
+    requires { asleep.table ≡ table.now }
+    ensures { result.table ≡ table.now }
+{
+    match table.leave(rt, asleep) {
+        GaveUp::Left(seat) => seat,
+        _other => panic!(rt; "its wait has left"),
+    }
+}
+
+fn leaves<R: Abort + Wait>(rt: &R, table: &SemaTable, seat: Seat, number: u32) -> Seat
+    requires { seat.table ≡ table.now }
+    ensures { result.table ≡ table.now }
+{
+    match table.enter(rt, seat, counter(rt, table, number), false) {
+        Entered::Asleep(asleep) => gives_up(rt, table, asleep),
+        Entered::Taken(_seat) => panic!(rt; "there is a unit"),
+    }
+}
+
 /// The act in a table that has the counters.
 pub(crate) fn acts<R: Abort + Wait>(rt: &R, table: &SemaTable, seats: &mut Vec<Seat>, act: Act)
     requires { All (λ s. s.table ≡ table.now) seats.old.items }
@@ -60,6 +82,7 @@ pub(crate) fn acts<R: Abort + Wait>(rt: &R, table: &SemaTable, seats: &mut Vec<S
     let seat = match act {
         Act::Takes(number) => table.acquire(rt, seat, counter(rt, table, number), false),
         Act::Adds(number, units) => adds(rt, table, seat, number, units),
+        Act::Leaves(number) => leaves(rt, table, seat, number),
         Act::Counts(left, taken) => {
             counts(rt, &seat, left, taken);
             seat
@@ -103,7 +126,16 @@ type Row = (
     &'static [(u32, u64)],
 );
 
-static ROWS: [Row; 4] = [
+/// A wait that is withdrawn is spent, and adds no unit.
+const LEAVE: &[Act] = &[
+    Act::Leaves(0),
+    Act::Counts(9, 0),
+    Act::Adds(0, 2),
+    Act::Counts(7, 0),
+    Act::Takes(0),
+];
+
+static ROWS: [Row; 5] = [
     ((2, 7, 3), &[], (0, 0), &[(0, 7), (1, 7)]),
     (
         (2, 3, 2),
@@ -118,6 +150,7 @@ static ROWS: [Row; 4] = [
         &[(0, 4)],
     ),
     ((1, 0, 2), MEET, (1, 1), &[(0, 0)]),
+    ((1, 0, 2), LEAVE, (2, 1), &[(0, 1)]),
 ];
 
 /// The table of a row, closed after all.

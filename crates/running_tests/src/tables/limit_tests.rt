@@ -5,7 +5,7 @@ use sema_table::{Seat, SemaTable};
 use std::alloc::Global;
 use std::process::Abort;
 
-const MOST_RELEASES: u64 = 1 << 40;
+const MOST_RELEASES: u64 = 1 << 54;
 
 /// So many counters, seats and roots, and a release limit.
 struct Sized(usize, u32, u32, u64);
@@ -30,26 +30,29 @@ fn is_refused(rt: &impl Abort, alloc: Global, row: &Judged) {
     }
 }
 
-static PAST_A_LIMIT: [Judged; 20] = [
+static PAST_A_LIMIT: [Judged; 22] = [
     Judged(Sized(0, 2, 251, 10), 1),
     Judged(Sized(65_537, 2, 251, 10), 1),
     Judged(Sized(1, 0, 251, 10), 2),
-    Judged(Sized(1, 257, 251, 10), 2),
+    Judged(Sized(1, 65_537, 251, 10), 2),
     Judged(Sized(1, 2, 0, 10), 3),
     Judged(Sized(1, 2, 252, 10), 3),
     Judged(Sized(1, 2, 251, 0), 4),
     Judged(Sized(1, 2, 251, MOST_RELEASES + 1), 4),
+    // all seats together may spend no more than 2^62
+    Judged(Sized(1, 257, 251, MOST_RELEASES), 4),
+    Judged(Sized(1, 65_536, 251, (1 << 46) + 1), 4),
     // past two limits the lower number is told
     Judged(Sized(0, 0, 251, 10), 1),
-    Judged(Sized(65_537, 257, 251, 10), 1),
+    Judged(Sized(65_537, 65_537, 251, 10), 1),
     Judged(Sized(0, 2, 0, 10), 1),
     Judged(Sized(65_537, 2, 252, 10), 1),
     Judged(Sized(0, 2, 251, 0), 1),
     Judged(Sized(65_537, 2, 251, MOST_RELEASES + 1), 1),
     Judged(Sized(1, 0, 0, 10), 2),
-    Judged(Sized(1, 257, 252, 10), 2),
+    Judged(Sized(1, 65_537, 252, 10), 2),
     Judged(Sized(1, 0, 251, 0), 2),
-    Judged(Sized(1, 257, 251, MOST_RELEASES + 1), 2),
+    Judged(Sized(1, 65_537, 251, MOST_RELEASES + 1), 2),
     Judged(Sized(1, 2, 0, 0), 3),
     Judged(Sized(1, 2, 252, MOST_RELEASES + 1), 3),
 ];
@@ -84,4 +87,5 @@ fn is_made(rt: &impl Abort, alloc: Global, sized: &Sized) {
 fn the_least_and_the_most_are_made(rt: HostRuntime) {
     is_made(&rt, rt.alloc(), &Sized(1, 1, 1, 1));
     is_made(&rt, rt.alloc(), &Sized(65_536, 256, 251, MOST_RELEASES));
+    is_made(&rt, rt.alloc(), &Sized(1, 65_536, 2, 1 << 46));
 }

@@ -3,11 +3,13 @@
 //! A seat that is amid a call can't be let go: so a call that it can't make now ends the test.
 
 ghost use Rattle.std.specs.Prelude.{◌≡◌, All};
+ghost use Rattle.sema_table.specs.Seats.{SeatModel};
+ghost use Rattle.sema_table.specs.CallersLeaving.{GivesUp};
 
 use crate::tables::given::{counter, last_seat, tried, value, waiters};
 use sema_table::{
-    Entered, Owing, OwingMany, Polled, PostRefused, Posted, PostedMany, Retried, Roused, Seat,
-    SemaTable, Sleeping, Tried, Wake, Woken,
+    Entered, GaveUp, Owing, OwingMany, Polled, PostRefused, Posted, PostedMany, Retried, Roused,
+    Seat, SemaTable, Sleeping, Tried, Wake, Woken,
 };
 use std::process::Abort;
 use std::sync::Wait;
@@ -30,6 +32,8 @@ pub(crate) enum Call {
     TryEnter(bool),
     Poll,
     Sleep,
+    Leave,
+    TryLeave,
     Retry,
     RetryAtOnce,
     Wake(bool),
@@ -46,7 +50,7 @@ pub(crate) enum Told {
     Refused,
     /// The counter's number, or how many wait, or were woken.
     Number(u64),
-    /// How many units the seat may add, and how many it was given.
+    /// How many units the seat may spend, and how many it was given.
     Counts(u64, u64),
     Tried(Tried),
     Taken,
@@ -55,6 +59,10 @@ pub(crate) enum Told {
     Still,
     Woken,
     Handed,
+    Left,
+    /// Its wait has left, and its grant isn't stored yet.
+    Coming,
+    LimitReached,
     Owes,
     WakesNobody,
     Wakes(u16, u64),
@@ -279,6 +287,8 @@ impl<'t> Sleeps<'t> {
         match call {
             Call::Poll => self.polls(),
             Call::Sleep => self.sleeps(rt),
+            Call::Leave => self.leaves(rt),
+            Call::TryLeave => self.tries_to_leave(rt),
             _other => panic!(rt; "it sleeps"),
         }
     }
@@ -298,6 +308,37 @@ impl<'t> Sleeps<'t> {
         match table.sleep(rt, sleeping) {
             Roused::Woken(woken) => woken_up(table, woken),
             Roused::Handed(seat) => at_rest(table, seat, Told::Handed),
+        }
+    }
+
+    fn leaves<R: Wait>(self, rt: &R) -> Played<'t> {
+        let Sleeps { table, sleeping } = self;
+        given_up(table, table.leave(rt, sleeping))
+    }
+
+    fn tries_to_leave(self, rt: &impl Abort) -> Played<'t> {
+        let Sleeps { table, sleeping } = self;
+        match table.try_leave(sleeping) {
+            Ok(gave_up) => given_up(table, gave_up),
+            Err(_sleeping) => panic!(rt; "the lock was held"),
+        }
+    }
+}
+
+/// What the giving up of a seat came to.
+fn given_up<'t>(table: &'t SemaTable, gave_up: GaveUp) -> Played<'t>
+    requires { (s : SeatModel) × (s.table ≡ table.now) × GivesUp s gave_up }
+{
+    match gave_up {
+        GaveUp::Left(seat) => at_rest(table, seat, Told::Left),
+        GaveUp::Coming(sleeping) => (Player::Sleeps(Sleeps { table, sleeping }), Told::Coming),
+        GaveUp::Woken(woken) => woken_up(table, woken),
+        GaveUp::Handed(seat) => at_rest(table, seat, Told::Handed),
+        GaveUp::LimitReached(sleeping) => {
+            (
+                Player::Sleeps(Sleeps { table, sleeping }),
+                Told::LimitReached,
+            )
         }
     }
 }

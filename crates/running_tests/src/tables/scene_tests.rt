@@ -11,16 +11,16 @@ use std::process::Abort;
 use std::sync::Wait;
 
 /// A wait comes in as the last.
-const FIFO: bool = false;
+pub(crate) const FIFO: bool = false;
 /// A wait comes in as the first.
-const LIFO: bool = true;
+pub(crate) const LIFO: bool = true;
 /// A release wakes without a unit.
-const PLAIN: bool = false;
+pub(crate) const PLAIN: bool = false;
 /// A release wakes with a unit, where there is one.
-const HANDOFF: bool = true;
+pub(crate) const HANDOFF: bool = true;
 
 /// The number of a seat, its call on this counter, and what the call tells.
-type Row = (usize, u32, Call, Told);
+pub(crate) type Row = (usize, u32, Call, Told);
 
 /// A try at zero takes nothing.
 const TRIES_AT_ZERO: &[Row] = &[
@@ -273,7 +273,7 @@ const ADDS_PAST_THE_HIGHEST_START: &[Row] = &[
 ];
 
 /// The number at which its counters start, how many counters and roots there are, and its release limit.
-type Scene = (u32, usize, u32, u64, &'static [Row]);
+pub(crate) type Scene = (u32, usize, u32, u64, &'static [Row]);
 
 static SCENES: [Scene; 20] = [
     (0, 1, 1, 10, TRIES_AT_ZERO),
@@ -369,7 +369,7 @@ fn play<R: Abort + Wait>(rt: &R, table: &SemaTable, seats: Vec<Seat>, rows: &[Ro
 }
 
 /// The scene in a new table.
-fn play_in_a_table<R: Abort + Wait>(rt: &R, alloc: Global, scene: &Scene) {
+pub(crate) fn play_in_a_table<R: Abort + Wait>(rt: &R, alloc: Global, scene: &Scene) {
     let (start, counters, roots, release_limit, rows) = *scene;
     let sizes = Sizes {
         counters,

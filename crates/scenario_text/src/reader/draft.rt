@@ -1,16 +1,17 @@
 //! What the lines that were read so far ask for.
 
 ghost use Rattle.std.specs.Prelude.{◌≡◌, ◌<◌, ◌+◌, ◌^◌, map, All, IfOk, OnOk, None};
-ghost use Rattle.scenario_text.specs.Fitting.{FitsChange, FitsCall, FitsLine};
+ghost use Rattle.scenario_text.specs.Fitting.{FitsChange, FitsGivingUp, FitsCall, FitsLine};
 ghost use Rattle.scenario_text.specs.Phrases.{line_of};
 ghost use Rattle.scenario_text.specs.ScenarioText.{change_of as change_value, call_of as call_value};
+ghost use Rattle.scenario_text.specs.ScenarioText.{giving_up_of as giving_up_value};
 ghost use Rattle.scenario_text.specs.ScenarioText.{no_parts, with_line, with_property};
 
-use crate::reader::call::{Change, SpelledCall};
+use crate::reader::call::{Change, SpelledCall, SpelledGivingUp};
 use crate::reader::line::Line;
 use crate::request::Property;
 use std::alloc::{AllocError, Global};
-use step_table::{Call, GroupId, Items, ListId, MAX_ROOTS, Parts};
+use step_table::{Call, GivingUp, GroupId, Items, ListId, MAX_ROOTS, Parts};
 use waiters::CounterId;
 
 /// A request whose property may still be missing.
@@ -30,6 +31,16 @@ fn change_of(change: &Change) -> i32
     }
 }
 
+fn giving_up_of(how: &SpelledGivingUp) -> GivingUp
+    requires { FitsGivingUp how.now }
+    ensures { result ≡ giving_up_value how.now }
+{
+    GivingUp {
+        late: how.late,
+        skips: how.skips() as u32,
+    }
+}
+
 fn call_of(call: &SpelledCall) -> Call
     requires { FitsCall call.now }
     ensures { result ≡ call_value call.now }
@@ -37,6 +48,9 @@ fn call_of(call: &SpelledCall) -> Call
     match call {
         SpelledCall::Acquire(counter) => Call::Acquire(CounterId::new(*counter as u32), false),
         SpelledCall::AcquireLifo(counter) => Call::Acquire(CounterId::new(*counter as u32), true),
+        SpelledCall::AcquireOrLeave(counter, lifo, how) => {
+            Call::AcquireOrLeave(CounterId::new(*counter as u32), *lifo, giving_up_of(how))
+        }
         SpelledCall::Release(counter) => Call::Release(CounterId::new(*counter as u32), false),
         SpelledCall::ReleaseHandoff(counter) => {
             Call::Release(CounterId::new(*counter as u32), true)
@@ -46,12 +60,18 @@ fn call_of(call: &SpelledCall) -> Call
         }
         SpelledCall::Add(list) => Call::Add(ListId::new(*list as u32)),
         SpelledCall::Wait(list) => Call::Wait(ListId::new(*list as u32)),
+        SpelledCall::WaitOrLeave(list, how) => {
+            Call::WaitOrLeave(ListId::new(*list as u32), giving_up_of(how))
+        }
         SpelledCall::One(list) => Call::One(ListId::new(*list as u32)),
         SpelledCall::All(list) => Call::All(ListId::new(*list as u32)),
         SpelledCall::GroupAdd(group, change) => {
             Call::GroupAdd(GroupId::new(*group as u32), change_of(change))
         }
         SpelledCall::GroupWait(group) => Call::GroupWait(GroupId::new(*group as u32)),
+        SpelledCall::GroupWaitOrLeave(group, skips) => {
+            Call::GroupWaitOrLeave(GroupId::new(*group as u32), skips.unwrap_or(0) as u32)
+        }
     }
 }
 
@@ -107,6 +127,7 @@ impl Draft {
                 self.property = Some(Property::Value(counter, *number as u32));
             }
             Line::NoMisuse => self.property = Some(Property::NoMisuse),
+            Line::NoLost => self.property = Some(Property::NoLost),
         }
         Ok(())
     }

@@ -12,7 +12,8 @@ use crate::reader::kind::{LineKind, count, count_later};
 use crate::reader::line::Line;
 use crate::reader::tickets::misuses_ticket;
 use step_table::{
-    MAX_CALLS, MAX_COUNTERS, MAX_GROUPS, MAX_LISTS, MAX_ROOTS, MAX_SEATS, MAX_UNITS, MIN_UNITS,
+    MAX_CALLS, MAX_COUNTERS, MAX_GROUPS, MAX_LISTS, MAX_ROOTS, MAX_SEATS, MAX_SKIPS, MAX_UNITS,
+    MIN_UNITS,
 };
 
 /// The least of the causes 4 to 8 that holds of the line.
@@ -49,7 +50,9 @@ fn is_out_of_turn(before: &[Line], line: &Line) -> bool
     match line {
         Line::Roots(_) => count(before, LineKind::Roots) > 0,
         Line::Seat(number, _) => *number != count(before, LineKind::Seat) as u128,
-        Line::Settled | Line::Value(_, _) | Line::NoMisuse => is_early_property(before),
+        Line::Settled | Line::Value(_, _) | Line::NoMisuse | Line::NoLost => {
+            is_early_property(before)
+        }
         _ => false,
     }
 }
@@ -60,10 +63,23 @@ fn is_misplaced(before: &[Line], line: &Line) -> bool
     count_later(before, LineKind::of(line)) > 0 || is_out_of_turn(before, line)
 }
 
+fn is_wide_skip(skips: Option<u128>) -> bool
+    ensures { result ≡ causes.is_wide_skip skips }
+{
+    match skips {
+        Some(skips) => skips > MAX_SKIPS as u128,
+        None => false,
+    }
+}
+
 fn is_wide(call: &SpelledCall) -> bool
     ensures { result ≡ causes.is_wide call.now }
 {
     match call {
+        SpelledCall::AcquireOrLeave(_, _, how) | SpelledCall::WaitOrLeave(_, how) => {
+            is_wide_skip(how.skips)
+        }
+        SpelledCall::GroupWaitOrLeave(_, skips) => is_wide_skip(*skips),
         SpelledCall::ReleaseMany(_, units) => *units < MIN_UNITS as u128
             || *units > MAX_UNITS as u128,
         SpelledCall::GroupAdd(_, Change::Up(size)) => *size > i32::MAX as u128,
@@ -116,16 +132,18 @@ fn names_missing(before: &[Line], call: &SpelledCall) -> bool
     match call {
         SpelledCall::Acquire(counter)
         | SpelledCall::AcquireLifo(counter)
+        | SpelledCall::AcquireOrLeave(counter, _, _)
         | SpelledCall::Release(counter)
         | SpelledCall::ReleaseHandoff(counter)
         | SpelledCall::ReleaseMany(counter, _) => is_missing(before, LineKind::Counter, *counter),
         SpelledCall::Add(list)
         | SpelledCall::Wait(list)
+        | SpelledCall::WaitOrLeave(list, _)
         | SpelledCall::One(list)
         | SpelledCall::All(list) => is_missing(before, LineKind::NotifyList, *list),
-        SpelledCall::GroupAdd(group, _) | SpelledCall::GroupWait(group) => {
-            is_missing(before, LineKind::Group, *group)
-        }
+        SpelledCall::GroupAdd(group, _)
+        | SpelledCall::GroupWait(group)
+        | SpelledCall::GroupWaitOrLeave(group, _) => is_missing(before, LineKind::Group, *group),
     }
 }
 

@@ -28,7 +28,9 @@ impl LineKind {
             Line::NotifyList(_) => LineKind::NotifyList,
             Line::Group => LineKind::Group,
             Line::Seat(_, _) => LineKind::Seat,
-            Line::Settled | Line::Value(_, _) | Line::NoMisuse => LineKind::Property,
+            Line::Settled | Line::Value(_, _) | Line::NoMisuse | Line::NoLost => {
+                LineKind::Property
+            }
         }
     }
 

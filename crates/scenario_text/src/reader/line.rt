@@ -1,4 +1,4 @@
-//! One line of a scenario's text.
+//! One line of a scenario's text: among the properties, `no-lost` asks that no wake-up is lost.
 
 ghost use Rattle.std.specs.Prelude.{IfOk};
 ghost use Rattle.std.specs.Option.{option_map};
@@ -23,6 +23,7 @@ pub(crate) enum Line {
     Settled,
     Value(u128, u128),
     NoMisuse,
+    NoLost,
 }
 
 /// A seat's number and its calls.
@@ -71,6 +72,9 @@ pub(crate) fn read_line(alloc: Global, text: &str) -> Result<Option<Line>, Alloc
     }
     if text == "no-misuse" {
         return Ok(Some(Line::NoMisuse));
+    }
+    if text == "no-lost" {
+        return Ok(Some(Line::NoLost));
     }
     match read_seat(alloc, text)? {
         Some((name, calls)) => Ok(Some(Line::Seat(name, calls))),

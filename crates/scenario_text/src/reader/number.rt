@@ -1,7 +1,8 @@
 //! Numbers, and the words around them.
 
 ghost use Rattle.std.specs.Prelude.{◌<◌, ◌≤◌};
-ghost use Rattle.scenario_text.specs.Phrases.{ReadsAs, IsNumber, IsKeyed, IsFlagged, IsPair};
+ghost use Rattle.std.specs.Option.{option_map};
+ghost use Rattle.scenario_text.specs.Phrases.{ReadsAs, IsNumber, IsKeyed, IsFlagged, IsNumbered, IsPair};
 
 /// How many digits a number has at most, but for a list's first ticket.
 pub(crate) const DIGITS: usize = 10;
@@ -39,12 +40,20 @@ pub(crate) fn flagged(text: &str, keyword: &str, flag: &str) -> Option<u128>
     keyed(text.strip_suffix(flag)?, keyword, DIGITS)
 }
 
+/// The number behind a keyword, and what stands behind it and a space.
+pub(crate) fn numbered<'text>(text: &'text str, keyword: &str) -> Option<(u128, &'text str)>
+    ensures { ReadsAs (IsNumbered keyword.now text.now) (option_map (λ x. (x.0, x.1.now)) result) }
+{
+    let (first, rest) = text.strip_prefix(keyword)?.split_once(' ')?;
+    let first = short_number(first)?;
+    Some((first, rest))
+}
+
 /// The two numbers behind a keyword, with a space and another word between them.
 pub(crate) fn pair(text: &str, keyword: &str, between: &str) -> Option<(u128, u128)>
     ensures { ReadsAs (IsPair keyword.now between.now text.now) result }
 {
-    let (first, second) = text.strip_prefix(keyword)?.split_once(' ')?;
-    let first = short_number(first)?;
+    let (first, second) = numbered(text, keyword)?;
     let second = keyed(second, between, DIGITS)?;
     Some((first, second))
 }

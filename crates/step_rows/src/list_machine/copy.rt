@@ -3,6 +3,7 @@
 ghost use Rattle.std.specs.Prelude.{◌≡◌, OnOk};
 
 use super::ListMachine;
+use crate::copying::copy_items;
 use waiters::NoMemory;
 
 impl ListMachine {
@@ -23,7 +24,9 @@ impl ListMachine {
         self.notify = other.notify;
         self.lock = other.lock;
         self.handed = other.handed;
-        self.granted = other.granted;
+        self.passed = other.passed;
+        copy_items(&mut self.gone_numbers, &other.gone_numbers)?;
+        copy_items(&mut self.gone, &other.gone)?;
         Ok(())
     }
 }

@@ -23,4 +23,4 @@ returns g c =
     let end : n ≡ c.args.rounds = omega (arith, inv.0, c.loop-round-test.false) in
     let ran = subst (λ (x : SeatModel). HasRun x n s) c.requires.seat inv.1 in
     has_worked t c.args.seat.number c.args.rounds s
-    (subst (λ (k : ℕ). HasRun (new_seat t c.args.seat.number) k s) end ran) c.requires.table.1
+    (subst (λ (k : ℕ). HasRun (new_seat t c.args.seat.number) k s) end ran) c.requires.table.1 _ _ c.left-left.ensures.spent

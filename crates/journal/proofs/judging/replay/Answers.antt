@@ -1,4 +1,4 @@
-use Rattle.std.proofs.Common.{◌≡◌, ℕ, ◌+◌, ◌<◌, List, [], length, get_or, refl, sym, ap, subst, ◌∙◌}
+use Rattle.std.proofs.Common.{◌≡◌, ℕ, ◌+◌, ◌<◌, List, [], length, get_or, take, refl, sym, ap, subst, ◌∙◌}
 use Rattle.std.proofs.lemmas.List.{get_or_default}
 use Rattle.journal.specs.declared.entry.JournalEntry.{JournalEntry}
 use Rattle.journal.specs.declared.entry.JournalEntry.TheVariants.{Add}
@@ -6,7 +6,7 @@ use Rattle.journal.specs.LawfulJournal.{entry_of, entries_of, IsLawfulJournal}
 use Rattle.journal.specs.Account.{Account, account, after, first_broken}
 use Rattle.journal.specs.Shown.{shown}
 use Rattle.journal.proofs.Bounds.{IsBounded, bounded_start, bounded_more}
-use Rattle.journal.proofs.Verdicts.{account_next, lawful_next, told_unlawful, lawful_none, whole_front}
+use Rattle.journal.proofs.Verdicts.{account_next, lawful_next, told_unlawful, lawful_none, whole_front, in_order, told_in_order}
 use Rattle.journal.proofs.judging.replay.Goals as goal
 
 pub loop-place-init : goal.loop-place-init
@@ -16,6 +16,7 @@ loop-place-init c =
     record {
       shows = shows;
       lawful = lawful_none starts;
+      order = in_order (shown c.in_ok-ledger.ledger) (account starts []) shows (told_in_order starts [] (lawful_none starts));
       bounded = subst (IsBounded 0) (sym shows) (bounded_start starts c.requires.starts);
       numbers = rw (c.as_slice.ensures) at c.in_ok-ledger.ensures.numbers;
       queues = rw (c.as_slice.ensures) at c.in_ok-ledger.ensures.queues;
@@ -38,10 +39,14 @@ loop-place-preserved c =
     let lt : i < length c.args.journal.now.entries = rw (c.as_slice-entries.ensures) at c.loop-place-test.true in
     let is = get_or_default c.args.journal.now.entries i (Add 0 0) e lt in
     let shown_is = rw (c.as_slice-entries.ensures) at c.in_ok-enter.ensures.shown in
+    let shows = shown_is ∙ ap (λ (a : Account). after a (entry_of e)) c.loop-place.invariant.shows ∙ sym (account_next c.args.journal.now i e lt is) in
+    let lawful = lawful_next c.args.journal.now i e lt is c.loop-place.invariant.lawful
+    ((rw (c.as_slice-entries.ensures) at c.in_default.ensures) ∙ ap (λ (a : Account). first_broken a (entry_of e)) c.loop-place.invariant.shows) in
     record {
-      shows = shown_is ∙ ap (λ (a : Account). after a (entry_of e)) c.loop-place.invariant.shows ∙ sym (account_next c.args.journal.now i e lt is);
-      lawful = lawful_next c.args.journal.now i e lt is c.loop-place.invariant.lawful
-          ((rw (c.as_slice-entries.ensures) at c.in_default.ensures) ∙ ap (λ (a : Account). first_broken a (entry_of e)) c.loop-place.invariant.shows);
+      shows = shows;
+      lawful = lawful;
+      order = in_order _ (account c.args.journal.now.starts (entries_of (take (i + 1) c.args.journal.now.entries))) shows
+          (told_in_order c.args.journal.now.starts (entries_of (take (i + 1) c.args.journal.now.entries)) lawful);
       bounded =
           subst (IsBounded (i + 1)) (sym shown_is)
           (bounded_more (length c.args.journal.now.starts) c.args.journal.now.lists i _ e (c.requires.entries i (Add 0 0) lt) c.loop-place.invariant.bounded);

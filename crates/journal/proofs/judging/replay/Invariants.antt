@@ -1,4 +1,4 @@
-use Rattle.std.proofs.Common.{◌≡◌, length, take, vec_len}
+use Rattle.std.proofs.Common.{◌≡◌, ℕ, ◌≤◌, length, take, vec_len}
 use Rattle.journal.specs.LawfulJournal.{entries_of, IsLawfulJournal}
 use Rattle.journal.specs.Account.{account}
 use Rattle.journal.specs.Shown.{shown}
@@ -11,6 +11,7 @@ invariant-loop-place l =
     record {
       shows : shown l.ledger ≡ account l.journal.starts (entries_of (take l.place l.journal.entries));
       lawful : IsLawfulJournal l.journal.starts (entries_of (take l.place l.journal.entries));
+      order : (k : ℕ) → ((shown l.ledger).told k).passed ≤ ((shown l.ledger).told k).handed;
       bounded : IsBounded l.place (shown l.ledger);
       numbers : vec_len l.ledger.numbers ≡ length l.journal.starts;
       queues : vec_len l.ledger.queues ≡ length l.journal.starts;

@@ -1,5 +1,5 @@
 use Rattle.std.proofs.Common.{◌≡◌, ℕ, get_or, vec_len}
-use Rattle.journal.specs.Shown.{none_told}
+use Rattle.step_law_lists.specs.ListLawful.{none_told}
 use Rattle.journal.proofs.ledger.no_tickets.Given as goal
 
 abbrev pub invariant-loop : goal.invariant-loop

@@ -71,6 +71,8 @@ new_seat-requires-2 c = let f = c.loop-number.invariant.first in record {
 pub invariant_of-list : goal.invariant_of-list
 invariant_of-list c = let E = c.in-Ok.ensures in let z : Setting = c.args.setting in let key = E.key in record {
   seated = ap (λ (y : Setting). y.seats) (sym key);
+  first_is = ap (λ (y : Setting). y.first) (sym key);
+  fits = c.requires.1;
   some = (let k = c.requires.0 in omega arith);
   few = (let k = c.requires.0 in omega arith);
   words = E.words ∙ ap length (c.as_slice.ensures.value ∙ c.in_ok-starts.ensures) ∙ words_long z ∙ ap words_in (sym key);

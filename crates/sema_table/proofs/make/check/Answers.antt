@@ -6,9 +6,3 @@ returns-then-settings-eq0-clause-err c = search rules
 
 pub returns-then-settings-eq0-2-clause-err : goal.returns-then-settings-eq0-2-clause-err
 returns-then-settings-eq0-2-clause-err c = search rules
-
-pub returns-then-settings-eq0-3-clause-err : goal.returns-then-settings-eq0-3-clause-err
-returns-then-settings-eq0-3-clause-err c = search rules
-
-pub returns-clause-ok : goal.returns-clause-ok
-returns-clause-ok c = search rules

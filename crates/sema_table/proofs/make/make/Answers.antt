@@ -17,7 +17,7 @@ new-requires c = let a = c.requires in let z : Setting = setting_of c.args.setti
     let words = c.as_slice.ensures.value ∙ c.in_ok-numbers.ensures.words in (
       omega arith,
       subst (λ (p : List ℕ × List Record). Opens semaphore_rows z p.0 (map some p.1)) (λ i. (sym words i, sym c.in_ok-slots.ensures i))
-          (opens z (let h = a.roots in omega arith) (let h = a.seats in omega arith) a.seats.1 a.counters.1 c.in_ok-numbers.ensures.starts),
+          (opens z (let h = a.roots in omega arith) (let h = a.seats in omega arith) a.seats.1 a.release_limit.1 a.counters.1 c.in_ok-numbers.ensures.starts),
     )
 
 pub make_seat-token-requires : goal.make_seat-token-requires
@@ -71,7 +71,8 @@ invariant_of-table c = let E = c.in-Ok.ensures in let z : Setting = setting_of c
   any = (let k = c.requires.counters in omega arith);
   few = ((let k = c.requires.seats.0 in omega arith), c.requires.seats.1);
   limited = ap (λ (y : Setting). y.limit) (sym key);
-  low = c.requires.release_limit.1;
+  low = c.requires.release_limit.0.1;
+  shares = c.requires.release_limit.1;
   words = E.words ∙ ap length (c.as_slice.ensures.value ∙ c.in_ok-numbers.ensures.words) ∙ words_long z ∙ ap words_in (sym key);
   slots = E.slots ∙ ap length c.in_ok-slots.ensures ∙ length-map-range_with_len _ 0 z.roots ∙ ap (λ (y : Setting). y.roots) (sym key);
 }

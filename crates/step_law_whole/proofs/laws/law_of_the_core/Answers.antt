@@ -1,6 +1,6 @@
 use Rattle.step_law_lists.proofs.ListPromises.{the_list_law}
-use Rattle.step_law_whole.proofs.CoreCalling.{core_at_first, core_called}
-use Rattle.step_law_whole.proofs.CoreKeeping.{core_kept}
+use Rattle.step_law_whole.proofs.CoreCalling.{core_at_first, calls_keep}
+use Rattle.step_law_whole.proofs.CoreKeeping.{rows_keep}
 use Rattle.step_law_whole.proofs.CoreEnding.{list_at_rest, core_lawful, core_ends}
 use Rattle.step_law_whole.proofs.RunSound.{is_started, is_stepped}
 use Rattle.step_law_whole.proofs.GroupRuns as groups
@@ -9,8 +9,8 @@ use Rattle.step_law_whole.proofs.laws.law_of_the_core.Goals as goal
 pub returns : goal.returns
 returns c = record {
   starts = core_at_first;
-  called = core_called;
-  kept = core_kept;
+  called = calls_keep;
+  kept = rows_keep;
   lawful = core_lawful the_list_law.reached;
   ends = core_ends list_at_rest;
   started = λ parts scenario. is_started parts scenario;

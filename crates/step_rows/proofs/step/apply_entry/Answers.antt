@@ -18,5 +18,11 @@ returns-in-Leave c =
     (then_lists c.args.shared.now c.take.new.self c.leave.new.self _ (listed (Leave c.in-Leave.counter c.in-Leave.wait c.in-Leave.field-2)) c.take.ensures
     (c.leave.ensures c.in-Leave.wait c.in-Leave.field-2))
 
+pub returns-in-Withdraw : goal.returns-in-Withdraw
+returns-in-Withdraw c =
+    subst (λ (e : Entry). Makes (Tells e) c.args.seat c.args.shared.now c.withdraw.new.self) (sym c.in-Withdraw.is)
+    (lists_alone c.args.shared.now c.withdraw.new.self c.args.seat _ c.withdraw.ensures)
+
 pub returns-in_default : goal.returns-in_default
 returns-in_default c = tells_alone c.args.shared.now c.args.seat c.args.entry.now c.in_default.not-Queue c.in_default.not-Leave
+    c.in_default.not-Withdraw

@@ -1,6 +1,6 @@
-use Rattle.std.proofs.Common.{ap, ◌∙◌, subst, rules}
+use Rattle.std.proofs.Common.{ap, ◌∙◌, rules, arith}
 use Rattle.sync_parts.specs.Setting.{Setting}
-use Rattle.sync_parts.specs.TableMaking.{IsFromOne, most_seats, new_seats}
+use Rattle.sync_parts.specs.TableMaking.{new_seats}
 use Rattle.examples.proofs.bounded_queue.BoundedQueue.new.Goals as goal
 
 pub returns-clause-ok : goal.returns-clause-ok
@@ -10,7 +10,7 @@ returns-clause-ok c =
       places_are = ring.0;
       starts = ap (λ (z : Setting). z.starts) made.setting ∙ s.starts;
       own = c.in_ok-table.ensures.own;
-      allowed = subst (IsFromOne most_seats) s.others.0 made.allowed.seats;
+      allowed = (omega (arith, c.if-workers-eq0.false), omega (arith, c.if-workers-gt-MAX_WORKERS.false));
       workers_are = ap (λ (z : Setting). z.seats) made.setting ∙ s.others.0;
       seats_are = made.seats_are ∙ ap (λ n. new_seats c.in_ok-table.table 0 n) s.others.0;
       limit = ap (λ (z : Setting). z.limit) made.setting ∙ s.others.2;

@@ -14,3 +14,6 @@ returns-in-Queue c =
 
 pub returns-in-Grant : goal.returns-in-Grant
 returns-in-Grant c = c.broken_by_grant.ensures c.in-Grant.seat ∙ ap (λ (e : JournalEntry). first_broken (shown c.args.self.now) (entry_of e)) (sym c.in-Grant.is)
+
+pub returns-in-Forgo : goal.returns-in-Forgo
+returns-in-Forgo c = c.broken_by_forgo.ensures c.in-Forgo.seat ∙ ap (λ (e : JournalEntry). first_broken (shown c.args.self.now) (entry_of e)) (sym c.in-Forgo.is)

@@ -29,3 +29,12 @@ returns-in-Grant-clause-shown c = c.grant.ensures.shown c.in-Grant.seat ∙ ap (
 
 pub returns-in-Queue-clause-shown : goal.returns-in-Queue-clause-shown
 returns-in-Queue-clause-shown c = search rules
+
+pub returns-in-Withdraw-clause-shown : goal.returns-in-Withdraw-clause-shown
+returns-in-Withdraw-clause-shown c =
+    c.withdraw.ensures.shown ∙ ap (λ (e : JournalEntry). after (shown c.args.self.now) (entry_of e)) (sym c.in-Withdraw.is)
+
+pub returns-in-Forgo-clause-shown : goal.returns-in-Forgo-clause-shown
+returns-in-Forgo-clause-shown c =
+    on_ok c.forgo.result c.forgo.ensures.shown
+    (λ h. h c.in-Forgo.seat ∙ ap (λ (e : JournalEntry). after (shown c.args.self.now) (entry_of e)) (sym c.in-Forgo.is))

@@ -1,10 +1,9 @@
-use Rattle.std.proofs.Common.{◌+◌, ap}
+use Rattle.std.proofs.Common.{ap, ◌∙◌}
 use Rattle.std.proofs.lemmas.List.{get_or_read_under}
 use Rattle.step_law_lists.specs.ListLawful as list
 use Rattle.step_table.specs.ListWorld.{Took}
-use Rattle.journal.specs.declared.tickets.Tickets.{Tickets}
 use Rattle.step_table.specs.Journal.{spent}
-use Rattle.journal.specs.Shown.{shown, numbers_of}
+use Rattle.journal.specs.Shown.{shown}
 use Rattle.journal.proofs.Shown.{tickets_put}
 use Rattle.journal.proofs.ledger.Ledger.hand_out.Goals as goal
 
@@ -12,9 +11,7 @@ pub returns-clause-shown : goal.returns-clause-shown
 unfolding spent
 returns-clause-shown c = λ seat.
     let old = c.args.self.now.tickets in
-    let none : Tickets = record { handed = 0; granted = 0 } in
-    let read = get_or_read_under old.items c.args.list old.len c.index_mut.result.now none c.index_mut.ensures.value c.requires.list old.ok.0 in
-    let told = tickets_put old.items c.args.list old.len (record { handed = c.index_mut.result.now.handed + 1; granted = c.index_mut.result.now.granted })
-    none (Took seat) c.requires.list old.ok.0
-    (ap (λ (t : Tickets). list.counted (Took seat) (numbers_of t)) read) in
+    let read = get_or_read_under old.items c.args.list old.len c.index_mut.result.now list.none_told c.index_mut.ensures.value c.requires.list old.ok.0 in
+    let told = tickets_put old.items c.args.list old.len c.hand_out.new.self list.none_told (Took seat) c.requires.list old.ok.0
+    (c.hand_out.ensures seat ∙ ap (list.counted (Took seat)) read) in
     (λ i. record (shown c.args.self.now) { told = λ k. told k i })

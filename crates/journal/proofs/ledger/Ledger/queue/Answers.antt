@@ -3,8 +3,7 @@ use Rattle.std.proofs.lemmas.List.{get_or_read_under}
 use Rattle.waiters.specs.declared.wait.WaitId.{WaitId}
 use Rattle.step_table.specs.World.{put, insert_wait}
 use Rattle.journal.specs.LawfulJournal.{wait_of}
-use Rattle.journal.specs.Account.{is_same}
-use Rattle.step_table.specs.Journal.{spent}
+use Rattle.step_table.specs.Journal.{spent, is_same}
 use Rattle.journal.specs.Shown.{shown}
 use Rattle.journal.proofs.Shown.{at_put, or_is}
 use Rattle.journal.proofs.ledger.Ledger.queue.Goals as goal

@@ -1,4 +1,4 @@
-use Rattle.journal.proofs.Forms.{add_reads, add_many_reads, take_reads, queue_reads, queue_lifo_reads, leave_reads, ticket_reads, grant_reads, no_entry}
+use Rattle.journal.proofs.Forms.{add_reads, add_many_reads, take_reads, queue_reads, queue_lifo_reads, leave_reads, withdraw_reads, ticket_reads, grant_reads, forgo_reads, no_entry}
 use Rattle.journal.proofs.reader.spelling.read_entry.Goals as goal
 
 pub returns-in-Some : goal.returns-in-Some
@@ -19,19 +19,27 @@ pub returns-in-Some-indexed-2 : goal.returns-in-Some-indexed-2
 returns-in-Some-indexed-2 c =
     ticket_reads c.args.counters c.args.lists c.args.text.now c.in-Some-indexed-2.list c.in-Some-indexed-2.seat c.in-Some-indexed-2.ensures
 
-pub returns-in-Some-indexed_two-2 : goal.returns-in-Some-indexed_two-2
-returns-in-Some-indexed_two-2 c = grant_reads c.args.counters c.args.lists c.args.text.now c.in-Some-indexed_two-2.list c.in-Some-indexed_two-2.upto
-    c.in-Some-indexed_two-2.seat c.in-Some-indexed_two-2.ensures
-
 pub returns-in-Some-indexed_two-3 : goal.returns-in-Some-indexed_two-3
-returns-in-Some-indexed_two-3 c = queue_lifo_reads c.args.counters c.args.lists c.args.text.now c.in-Some-indexed_two-3.counter c.in-Some-indexed_two-3.seat
-    c.in-Some-indexed_two-3.turn c.in-Some-indexed_two-3.ensures
+returns-in-Some-indexed_two-3 c = grant_reads c.args.counters c.args.lists c.args.text.now c.in-Some-indexed_two-3.list c.in-Some-indexed_two-3.upto
+    c.in-Some-indexed_two-3.seat c.in-Some-indexed_two-3.ensures
+
+pub returns-in-Some-indexed_two-5 : goal.returns-in-Some-indexed_two-5
+returns-in-Some-indexed_two-5 c = queue_lifo_reads c.args.counters c.args.lists c.args.text.now c.in-Some-indexed_two-5.counter c.in-Some-indexed_two-5.seat
+    c.in-Some-indexed_two-5.turn c.in-Some-indexed_two-5.ensures
+
+pub returns-in-Some-indexed_two-6 : goal.returns-in-Some-indexed_two-6
+returns-in-Some-indexed_two-6 c = add_many_reads c.args.counters c.args.lists c.args.text.now c.in-Some-indexed_two-6.counter c.in-Some-indexed_two-6.seat
+    c.in-Some-indexed_two-6.units c.in-Some-indexed_two-6.ensures
+
+pub returns-in-Some-indexed_two-2 : goal.returns-in-Some-indexed_two-2
+returns-in-Some-indexed_two-2 c = withdraw_reads c.args.counters c.args.lists c.args.text.now c.in-Some-indexed_two-2.counter c.in-Some-indexed_two-2.seat
+    c.in-Some-indexed_two-2.turn c.in-Some-indexed_two-2.ensures
 
 pub returns-in-Some-indexed_two-4 : goal.returns-in-Some-indexed_two-4
-returns-in-Some-indexed_two-4 c = add_many_reads c.args.counters c.args.lists c.args.text.now c.in-Some-indexed_two-4.counter c.in-Some-indexed_two-4.seat
-    c.in-Some-indexed_two-4.units c.in-Some-indexed_two-4.ensures
+returns-in-Some-indexed_two-4 c = forgo_reads c.args.counters c.args.lists c.args.text.now c.in-Some-indexed_two-4.list c.in-Some-indexed_two-4.number
+    c.in-Some-indexed_two-4.seat c.in-Some-indexed_two-4.ensures
 
 pub returns : goal.returns
 returns c = no_entry c.args.counters c.args.lists c.args.text.now c.in_default.ensures c.in_default-indexed.ensures c.in_default-indexed_two.ensures
-    c.in_default-indexed_three.ensures c.in_default-indexed-2.ensures c.in_default-indexed_two-2.ensures
-    c.in_default-indexed_two-3.ensures c.in_default-indexed_two-4.ensures
+    c.in_default-indexed_three.ensures c.in_default-indexed_two-2.ensures c.in_default-indexed-2.ensures c.in_default-indexed_two-3.ensures
+    c.in_default-indexed_two-4.ensures c.in_default-indexed_two-5.ensures c.in_default-indexed_two-6.ensures

@@ -1,12 +1,14 @@
-use Rattle.std.proofs.Common.{ℕ, ◌++◌, [], ◌∷◌, true, false, refl, sym, ◌∙◌, arith}
+use Rattle.std.proofs.Common.{◌≡◌, ℕ, ◌<◌, ◌++◌, [], ◌∷◌, length, true, false, refl, sym, ap, ◌∙◌, subst, arith}
+use Rattle.step_table.specs.Wrapping.{word_of}
 use Rattle.step_table.specs.ListTable.{wait_for}
 use Rattle.notify_list.specs.Walks.{Edited}
-use Rattle.notify_list.specs.Seats.{queue_of}
+use Rattle.notify_list.specs.Plays.{Me}
+use Rattle.notify_list.specs.Seats.{ListModel, queue_of, guarded_of, with_queue}
 use Rattle.notify_list.proofs.Owned.{low_word, owned}
 use Rattle.notify_list.proofs.Allowing.{goes_at}
 use Rattle.notify_list.proofs.Recording.{list_edited, gives_plain, gives_edited}
 use Rattle.notify_list.proofs.Queueing.{stands_locked, stands_looked, number_looked, record_looked, has_room, seat_at_once, waited_at_once}
-use Rattle.notify_list.proofs.Queueing.{granted_at_once, seat_parked, queued_it}
+use Rattle.notify_list.proofs.Queueing.{granted_at_once, seat_parked, queued_it, word_known, record_same, list_same, queued_same}
 use Rattle.notify_list.proofs.Answering.{is_sound}
 use Rattle.notify_list.proofs.Callers.{enters_at_once, enters_queued}
 use Rattle.notify_list.proofs.notify_list.NotifyList.enter.Goals as goal
@@ -63,15 +65,22 @@ pub returns-then-less-clause-caller : goal.returns-then-less-clause-caller
 returns-then-less-clause-caller c s may =
     enters_at_once _ _ (is_sound c.return_lock.new.token c.args.number (invariant_of-result c).token_is) (returns-then-less-clause-rows c s may)
 
+pub may_leave-may_leave-requires : goal.may_leave-may_leave-requires
+may_leave-may_leave-requires c =
+    let s = c.requires.0 in let may = c.requires.1 in let n : ℕ = c.args.number in
+    let word : ℕ = c.args.ticket in let H = may.holding in let t = c.args.token in let L = may.locked in
+    let u = c.load-notified.new.token in let v : ℕ = c.load-notified.result in let E = c.load-notified.ensures in
+    ((λ i. record { id = E.own i; setting = E.went.0.same.1 i }) ∙ L.walked.list_is ∙ may.list_is, record_looked s n word H t L u v E.went E.own)
+
 pub insert-requires : goal.insert-requires
 insert-requires c =
-    let x = c.self.inside in let s = c.requires.0 in let may = c.requires.1 in let n : ℕ = c.args.number in
+    let s = c.requires.0 in let may = c.requires.1 in let n : ℕ = c.args.number in
     let word : ℕ = c.args.ticket in let H = may.holding in let t = c.args.token in let L = may.locked in
     let u = c.load-notified.new.token in let v : ℕ = c.load-notified.result in let E = c.load-notified.ensures in
     let at = (λ i. record { id = E.own i; setting = E.went.0.same.1 i }) ∙ L.walked.list_is ∙ may.list_is in
-    let no_it = sym c.less.ensures.less ∙ c.if-less.false in record {
-      seat = (at, record_looked s n word H t L u v E.went E.own);
-      room = has_room s n word H t L u v E.went E.own no_it;
+    let no_it = sym c.less.ensures.less ∙ c.if-less.false in let w = c.may_leave-may_leave.new.token in let same = c.may_leave-may_leave.ensures.same in record {
+      seat = (list_same u w same ∙ at, record_same u w same (record_looked s n word H t L u v E.went E.own));
+      room = subst (λ (m : Me). length m.0.own.knows.queue < m.0.own.knows.setting.seats) (sym same.1) (has_room s n word H t L u v E.went E.own no_it);
     }
 
 pub return_lock-requires-2 : goal.return_lock-requires-2
@@ -80,17 +89,21 @@ return_lock-requires-2 c =
     let word : ℕ = c.args.ticket in let H = may.holding in let t = c.args.token in let L = may.locked in
     let u = c.load-notified.new.token in let v : ℕ = c.load-notified.result in let E = c.load-notified.ensures in
     let at = (λ i. record { id = E.own i; setting = E.went.0.same.1 i }) ∙ L.walked.list_is ∙ may.list_is ∙ sym c.self.view_is in
-    let no_it = sym c.less.ensures.less ∙ c.if-less.false in
-    let I : Edited u ((queue_of u) ++ wait_for u.me.0.own.number H.ticket ∷ []) c.insert.new.token = c.insert.ensures (wait_for u.me.0.own.number H.ticket)
-    (λ i. record { id = record { seat = (number_looked s n word H t L u v E.went E.own ∙ sym c.new-seat.ensures) i; turn = 0 }; ticket = H.word_is i }) in (
+    let no_it = sym c.less.ensures.less ∙ c.if-less.false in let k = wait_for u.me.0.own.number H.ticket in
+    let I : Edited u (with_queue (queue_of u ++ k ∷ []) (guarded_of u)) c.insert.new.token
+    = queued_same u c.may_leave-may_leave.new.token c.insert.new.token k c.may_leave-may_leave.ensures.same (c.insert.ensures k
+    (λ i. record { id = record { seat = (number_looked s n word H t L u v E.went E.own ∙ sym c.new-seat.ensures) i; turn = 0 }; ticket = H.word_is i })) in (
       omega arith,
       (
         owned x c.self.invariant c.insert.new.token (list_edited u c.insert.new.token _ I ∙ at),
         (
           low_word x c.self.invariant 2 (omega arith),
           gives_edited _ u c.insert.new.token _ (stands_looked s n word H t L u v E.went E.own false no_it)
-              ((queue_of u) ++ wait_for u.me.0.own.number H.ticket ∷ []) I refl
-              (λ w same. (record { word = refl; there = tt; can = refl; becomes = refl }, refl)),
+              (with_queue (queue_of u ++ k ∷ []) (guarded_of u)) I refl
+              (λ w same. (
+                record { word = refl; there = tt; can = refl; becomes = refl },
+                (λ i. with_queue ((sym same i).queue ++ k ∷ []) (sym same i)),
+              )),
         ),
       ),
     )
@@ -101,10 +114,16 @@ invariant_of-result-2 c =
     let word : ℕ = c.args.ticket in let H = may.holding in let t = c.args.token in let L = may.locked in
     let u = c.load-notified.new.token in let v : ℕ = c.load-notified.result in let E = c.load-notified.ensures in
     let F = c.return_lock-2.ensures in
-    let no_it = sym c.less.ensures.less ∙ c.if-less.false in
-    let I : Edited u ((queue_of u) ++ wait_for u.me.0.own.number H.ticket ∷ []) c.insert.new.token = c.insert.ensures (wait_for u.me.0.own.number H.ticket)
-    (λ i. record { id = record { seat = (number_looked s n word H t L u v E.went E.own ∙ sym c.new-seat.ensures) i; turn = 0 }; ticket = H.word_is i }) in
+    let at = (λ i. record { id = E.own i; setting = E.went.0.same.1 i }) ∙ L.walked.list_is ∙ may.list_is in
+    let no_it = sym c.less.ensures.less ∙ c.if-less.false in let k = wait_for u.me.0.own.number H.ticket in let M = c.may_leave-may_leave.ensures in
+    let I : Edited u (with_queue (queue_of u ++ k ∷ []) (guarded_of u)) c.insert.new.token
+    = queued_same u c.may_leave-may_leave.new.token c.insert.new.token k M.same (c.insert.ensures k
+    (λ i. record { id = record { seat = (number_looked s n word H t L u v E.went E.own ∙ sym c.new-seat.ensures) i; turn = 0 }; ticket = H.word_is i })) in
+    let known : word ≡ word_of c.args.self.now.setting.first H.ticket.number
+    = word_known s n word H t L u v E.went E.own c.insert.new.token c.return_lock-2.new.token no_it I F.went F.own
+    ∙ ap (λ (l : ListModel). word_of l.setting.first H.ticket.number) at in
     seat_parked s n word H t L u v E.went E.own c.insert.new.token c.return_lock-2.new.token no_it I F.went F.own
+    c.may_leave-may_leave.result M.few (λ e low. M.early H.ticket.number e low known) (λ e. M.late H.ticket.number e known)
 
 pub returns-clause-rows : goal.returns-clause-rows
 returns-clause-rows c s may =
@@ -112,9 +131,10 @@ returns-clause-rows c s may =
     let word : ℕ = c.args.ticket in let H = may.holding in let t = c.args.token in let L = may.locked in
     let u = c.load-notified.new.token in let v : ℕ = c.load-notified.result in let E = c.load-notified.ensures in
     let F = c.return_lock-2.ensures in
-    let no_it = sym c.less.ensures.less ∙ c.if-less.false in
-    let I : Edited u ((queue_of u) ++ wait_for u.me.0.own.number H.ticket ∷ []) c.insert.new.token = c.insert.ensures (wait_for u.me.0.own.number H.ticket)
-    (λ i. record { id = record { seat = (number_looked s n word H t L u v E.went E.own ∙ sym c.new-seat.ensures) i; turn = 0 }; ticket = H.word_is i }) in
+    let no_it = sym c.less.ensures.less ∙ c.if-less.false in let k = wait_for u.me.0.own.number H.ticket in
+    let I : Edited u (with_queue (queue_of u ++ k ∷ []) (guarded_of u)) c.insert.new.token
+    = queued_same u c.may_leave-may_leave.new.token c.insert.new.token k c.may_leave-may_leave.ensures.same (c.insert.ensures k
+    (λ i. record { id = record { seat = (number_looked s n word H t L u v E.went E.own ∙ sym c.new-seat.ensures) i; turn = 0 }; ticket = H.word_is i })) in
     queued_it s n word H t L u v E.went E.own c.insert.new.token c.return_lock-2.new.token no_it I F.went F.own
 
 pub returns-clause-caller : goal.returns-clause-caller

@@ -1,12 +1,14 @@
-use Rattle.std.proofs.Common.{refl, sym, ◌∙◌, subst, arith}
-use Rattle.notify_list.specs.GrantingAll.{ReachedAll}
+use Rattle.std.proofs.Common.{[], refl, sym, ap, ◌∙◌, arith}
+use Rattle.notify_list.specs.Plays.{Me}
+use Rattle.notify_list.specs.Seats.{guarded_of}
+use Rattle.notify_list.proofs.Recording.{list_edited}
 use Rattle.notify_list.proofs.Owned.{low_word, owned}
 use Rattle.notify_list.proofs.Allowing.{goes_at, stores_at}
-use Rattle.notify_list.proofs.Reaching.{stands4, w4, w5, few_granted, reached_all}
+use Rattle.notify_list.proofs.Reaching.{stands4, w4, w5, may_pass_all, few_granted, reached_all}
 use Rattle.notify_list.proofs.notify_list.NotifyList.reach_all.Goals as goal
 
-pub load-notified-requires : goal.load-notified-requires
-load-notified-requires c =
+pub load-requires : goal.load-requires
+load-requires c =
     let x = c.self.inside in let s = c.args.token.now in let l = c.args.self.now in let may = c.requires.1 in let at = may.0.list_is ∙ sym c.self.view_is in (
       omega arith,
       (
@@ -22,8 +24,8 @@ load-notified-requires c =
 pub load-waited-requires : goal.load-waited-requires
 load-waited-requires c =
     let x = c.self.inside in let s = c.args.token.now in let l = c.args.self.now in let may = c.requires.1 in
-    let t = c.load-notified.new.token in let E = c.load-notified.ensures in
-    let R = w4 l s c.requires.0 may t c.load-notified.result E.went E.own in let at = R.list_is ∙ may.0.list_is ∙ sym c.self.view_is in (
+    let t = c.load.new.token in let E = c.load.ensures in
+    let R = w4 l s c.requires.0 may t c.load.result E.went E.own in let at = R.list_is ∙ may.0.list_is ∙ sym c.self.view_is in (
       omega arith,
       (
         owned x c.self.invariant t at,
@@ -35,19 +37,27 @@ load-waited-requires c =
       ),
     )
 
+pub pass_all-granted-requires : goal.pass_all-granted-requires
+pass_all-granted-requires c =
+    let s = c.args.token.now in let l = c.args.self.now in let may = c.requires.1 in
+    let E = c.load.ensures in let F = c.load-waited.ensures in let u = c.load-waited.new.token in
+    (guarded_of u, _, may_pass_all l s c.requires.0 may c.load.new.token c.load.result E.went E.own u c.load-waited.result F.went F.own)
+
 pub store-requires : goal.store-requires
 store-requires c =
     let x = c.self.inside in let s = c.args.token.now in let l = c.args.self.now in let may = c.requires.1 in
-    let t = c.load-notified.new.token in let E = c.load-notified.ensures in
-    let u = c.load-waited.new.token in let F = c.load-waited.ensures in
-    let R = w5 l s c.requires.0 may t c.load-notified.result E.went E.own u c.load-waited.result F.went F.own in
-    let at = R.list_is ∙ may.0.list_is ∙ sym c.self.view_is in (
+    let t = c.load.new.token in let E = c.load.ensures in
+    let u = c.load-waited.new.token in let F = c.load-waited.ensures in let y = c.pass_all-granted.new.token in
+    let R = w5 l s c.requires.0 may t c.load.result E.went E.own u c.load-waited.result F.went F.own in
+    let over = c.pass_all-granted.ensures (guarded_of u) _ (may_pass_all l s c.requires.0 may t c.load.result E.went E.own u c.load-waited.result F.went F.own) in
+    let edit = over.1 [] (λ n. refl) in
+    let at = list_edited u y _ edit ∙ R.list_is ∙ may.0.list_is ∙ sym c.self.view_is in (
       omega arith,
       (
-        owned x c.self.invariant u at,
+        owned x c.self.invariant y at,
         (
           low_word x c.self.invariant 1 (omega arith),
-          stores_at _ u.me 1 _ R.stands_is c.load-waited.result (λ e. absurd (omega arith))
+          stores_at _ y.me 1 _ (ap (λ (m : Me). m.0.own.knows.sight.stands) edit.1.1 ∙ R.stands_is) c.load-waited.result (λ e. absurd (omega arith))
               (λ w k known. record { word = refl; there = tt; can = refl; becomes = refl }),
         ),
       ),
@@ -55,15 +65,16 @@ store-requires c =
 
 pub overflow_cast-result : goal.overflow_cast-result
 overflow_cast-result c =
-    let s = c.args.token.now in let l = c.args.self.now in let may = c.requires.1 in let E = c.load-notified.ensures in
-    let F = c.load-waited.ensures in let G = c.store.ensures in
-    let few = few_granted l s c.requires.0 may c.load-notified.new.token c.load-notified.result E.went E.own c.load-waited.new.token c.load-waited.result
-    F.went F.own c.store.new.token G.went.0 G.went.1 G.own in
-    let is = c.minus.ensures in omega (arith, few, is)
+    let s = c.args.token.now in let l = c.args.self.now in let may = c.requires.1 in let E = c.load.ensures in
+    let F = c.load-waited.ensures in let G = c.store.ensures in let u = c.load-waited.new.token in
+    let over = c.pass_all-granted.ensures (guarded_of u) _ (may_pass_all l s c.requires.0 may c.load.new.token c.load.result E.went E.own u c.load-waited.result F.went F.own) in
+    let few = few_granted l s c.requires.0 may c.load.new.token c.load.result E.went E.own u c.load-waited.result
+    F.went F.own c.pass_all-granted.result c.pass_all-granted.new.token c.store.new.token G.went.0 over G.went.1 G.own in omega (arith, few)
 
 pub returns : goal.returns
 returns c h may =
-    let s = c.args.token.now in let l = c.args.self.now in let E = c.load-notified.ensures in let F = c.load-waited.ensures in let G = c.store.ensures in
-    subst (λ n. ReachedAll s h n c.store.new.token) (sym c.minus.ensures)
-    (reached_all l s h may c.load-notified.new.token c.load-notified.result E.went E.own c.load-waited.new.token c.load-waited.result F.went F.own
-    c.store.new.token G.went.0 G.went.1 G.own)
+    let s = c.args.token.now in let l = c.args.self.now in let E = c.load.ensures in let F = c.load-waited.ensures in let G = c.store.ensures in
+    let u = c.load-waited.new.token in
+    let over = c.pass_all-granted.ensures (guarded_of u) _ (may_pass_all l s h may c.load.new.token c.load.result E.went E.own u c.load-waited.result F.went F.own) in
+    reached_all l s h may c.load.new.token c.load.result E.went E.own u c.load-waited.result F.went F.own
+    c.pass_all-granted.result c.pass_all-granted.new.token c.store.new.token G.went.0 over G.went.1 G.own

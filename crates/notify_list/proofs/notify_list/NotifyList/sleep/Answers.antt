@@ -5,6 +5,7 @@ use Rattle.notify_list.proofs.Owned.{own, low_word, grant_low, owned, aside_in}
 use Rattle.notify_list.proofs.Allowing.{takes_at}
 use Rattle.notify_list.proofs.Parking.{stands_parked, seat_woken, takes_grant, ran_same}
 use Rattle.notify_list.proofs.Answering.{is_sound}
+use Rattle.notify_list.proofs.Callers.{polls_granted}
 use Rattle.notify_list.proofs.notify_list.NotifyList.sleep.Goals as goal
 
 pub take_when_granted-requires : goal.take_when_granted-requires
@@ -55,5 +56,6 @@ returns-clause-took g c =
     (takes_grant s n K c.wake_heirs.new.token _ S.some
     (ran_same s c.take_when_granted.new.token c.wake_heirs.new.token _ S.went c.wake_heirs.ensures) (c.wake_heirs.ensures.0 ∙ S.own))
 
-pub returns-clause-lawful : goal.returns-clause-lawful
-returns-clause-lawful g c = (is_sound c.wake_heirs.new.token c.parked.inside.number (invariant_of-result g c).token_is).lawful
+pub returns-clause-caller : goal.returns-clause-caller
+returns-clause-caller g c = let t = c.wake_heirs.new.token in let n : ℕ = c.parked.inside.number in
+    polls_granted c.args.parked (seat_of t n) (is_sound t n (invariant_of-result g c).token_is) (returns-clause-took g c)

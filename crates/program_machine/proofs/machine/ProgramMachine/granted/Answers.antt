@@ -4,4 +4,4 @@ use Rattle.step_rows.specs.Stored.{each}
 use Rattle.program_machine.proofs.machine.ProgramMachine.granted.Goals as goal
 
 pub returns : goal.returns
-returns c = subst (λ (h : WholeMachine). c.granted.result ≡ (each no_list h.lists c.args.list).granted) c.layer.ensures.layer (c.granted.ensures [])
+returns c = subst (λ (h : WholeMachine). c.granted.result ≡ (each no_list h.lists c.args.list).passed) c.layer.ensures.layer (c.granted.ensures [])

@@ -1,4 +1,4 @@
-use Rattle.std.proofs.Common.{◌≡◌, length, refl, sym, ◌∙◌, arith}
+use Rattle.std.proofs.Common.{length, refl, sym, ◌∙◌, arith}
 use Rattle.std.proofs.lemmas.Option.{slice_get_read, slice_get_past}
 use Rattle.program_rows.proofs.Coming.{comes_else, comes_behind, comes_to, comes_at_last, goes_on}
 use Rattle.program_rows.proofs.seat.Seat.come_from.Goals as goal

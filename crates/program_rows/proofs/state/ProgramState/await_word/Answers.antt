@@ -1,9 +1,9 @@
-use Rattle.std.proofs.Common.{rules, FitsSigned, w64, ◌≡◌, ℕ, pos, true, false, Option, Some, None, cond, refl, sym, ap, ◌∙◌}
+use Rattle.std.proofs.Common.{rules, FitsSigned, w64, ◌≡◌, ℕ, pos, true, false, Some, None, cond, refl, sym, ap, ◌∙◌}
 use Rattle.std.proofs.lemmas.Int.{to_z-of_z}
 use Rattle.program_code.specs.declared.instruction.Instruction.TheVariants as line
 use Rattle.program_steps.specs.Numbers.{holds}
 use Rattle.program_steps.specs.Reading.{value}
-use Rattle.program_steps.specs.Steps.{Did, reading}
+use Rattle.program_steps.specs.Steps.{reading}
 use Rattle.program_steps.specs.World.{ProgramWorld}
 use Rattle.program_rows.specs.Rows.{row_at}
 use Rattle.program_rows.specs.Stored.{seats_of, world_over}

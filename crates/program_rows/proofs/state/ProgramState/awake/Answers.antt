@@ -1,4 +1,4 @@
-use Rattle.std.proofs.Common.{◌≡◌, ℕ, None, Some, eqb, ne_eqb, cond, false, refl, ap, sym, ◌∙◌, subst}
+use Rattle.std.proofs.Common.{◌≡◌, None, Some, eqb, ne_eqb, cond, false, refl, ap, ◌∙◌}
 use Rattle.program_steps.specs.declared.stand.Then.TheVariants.{OnFromNext}
 use Rattle.step_table.specs.World.{put}
 use Rattle.program_rows.specs.declared.seat.Seat.{Seat}

@@ -1,15 +1,10 @@
-use Rattle.std.proofs.Common.{rules, FitsSigned, w64, ◌≡◌, ℕ, ℤ, ◌+ℤ◌, true, false, Option, Some, None, cond, refl, sym, ap, ◌∙◌}
-use Rattle.std.specs.Int.{int_wrapping_add}
-use Rattle.std.specs.Ordering.{int_eq}
+use Rattle.std.proofs.Common.{rules, FitsSigned, w64, ℕ, Some, refl, sym, ◌∙◌}
 use Rattle.std.proofs.lemmas.Int.{to_z-of_z}
 use Rattle.program_code.specs.declared.instruction.Instruction.TheVariants as line
-use Rattle.program_steps.specs.Numbers.{holds}
-use Rattle.program_steps.specs.Reading.{value}
-use Rattle.program_steps.specs.Steps.{Did, reading}
+use Rattle.program_steps.specs.Steps.{reading}
 use Rattle.program_steps.specs.World.{ProgramWorld}
 use Rattle.program_rows.specs.Rows.{row_at}
-use Rattle.program_rows.specs.Stored.{seats_of}
-use Rattle.program_rows.proofs.Storing.{fails, found, on_place, reads_there, word_read, same_size}
+use Rattle.program_rows.proofs.Storing.{fails, on_place, reads_there, word_read}
 use Rattle.program_rows.proofs.state.ProgramState.load.Goals as goal
 
 pub returns-in_default : goal.returns-in_default

@@ -1,7 +1,5 @@
-use Rattle.std.proofs.Common.{◌≡◌, ◌≢◌, Option, Some, None, sym, subst}
-use Rattle.program_code.specs.declared.instruction.Instruction.{Instruction}
+use Rattle.std.proofs.Common.{◌≡◌, None, sym, subst}
 use Rattle.program_code.specs.declared.instruction.Instruction.TheVariants as line
-use Rattle.program_steps.specs.declared.stand.Then.{Then}
 use Rattle.program_rows.specs.Rows.{Does, DoesIfItCan, row_at}
 use Rattle.program_rows.specs.Stored.{world_over}
 use Rattle.program_rows.proofs.state.ProgramState.row_of_line.Goals as goal

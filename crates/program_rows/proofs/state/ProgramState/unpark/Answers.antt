@@ -3,11 +3,11 @@ use Rattle.std.proofs.lemmas.Int.{to_z-of_z}
 use Rattle.program_code.specs.declared.instruction.Instruction.TheVariants as line
 use Rattle.program_steps.specs.declared.stand.Then.TheVariants.{OnFromNext}
 use Rattle.program_steps.specs.Reading.{value}
-use Rattle.program_steps.specs.Steps.{Did, unparked, as_many}
+use Rattle.program_steps.specs.Steps.{unparked, as_many}
 use Rattle.program_steps.specs.World.{ProgramWorld}
 use Rattle.program_rows.specs.Rows.{row_at}
 use Rattle.program_rows.specs.Stored.{seats_of, world_over}
-use Rattle.program_rows.proofs.Storing.{fails, found, on_place}
+use Rattle.program_rows.proofs.Storing.{found, on_place}
 use Rattle.program_rows.proofs.state.ProgramState.unpark.Goals as goal
 
 pub returns : goal.returns

@@ -1,4 +1,4 @@
-use Rattle.std.proofs.Common.{◌≡◌, ◌≤◌, ◌<◌, ℕ, ◌-◌, length, set, subst, sym, arith}
+use Rattle.std.proofs.Common.{◌<◌, ◌-◌, length, set, subst, sym, arith}
 use Rattle.std.proofs.Common.{eq-eqb, ne_eqb}
 use Rattle.program_rows.specs.Stored.{Stored, AreThere}
 use Rattle.program_rows.proofs.Waking.{Waking, starts, passed, wakes, ends_all_woken, ends_all_seen}

@@ -1,5 +1,4 @@
-use Rattle.std.proofs.Common.{◌-◌, ℕ, length}
-use Rattle.program_rows.specs.Stored.{Stored}
+use Rattle.std.proofs.Common.{◌-◌, length}
 use Rattle.program_rows.proofs.Waking.{Waking}
 use Rattle.program_rows.proofs.state.ProgramState.wake.Given as goal
 

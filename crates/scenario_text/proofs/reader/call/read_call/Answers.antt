@@ -1,5 +1,5 @@
 use Rattle.scenario_text.proofs.Calls.{acquire_reads, acquire_lifo_reads, release_reads, release_handoff_reads, release_many_reads, add_reads, wait_reads}
-use Rattle.scenario_text.proofs.Calls.{one_reads, all_reads, group_add_reads, gwait_reads, no_call}
+use Rattle.scenario_text.proofs.Calls.{one_reads, all_reads, group_add_reads, gwait_reads, other_calls}
 use Rattle.scenario_text.proofs.reader.call.read_call.Goals as goal
 
 pub returns-in-Some : goal.returns-in-Some
@@ -37,6 +37,6 @@ pub returns-in-Some-keyed-6 : goal.returns-in-Some-keyed-6
 returns-in-Some-keyed-6 c = gwait_reads c.args.text.now c.in-Some-keyed-6.group c.in-Some-keyed-6.ensures
 
 pub returns : goal.returns
-returns c = no_call c.args.text.now c.in_default.ensures c.in_default-flagged.ensures c.in_default-keyed.ensures c.in_default-flagged-2.ensures
+returns c = other_calls c.args.text.now _ c.in_default.ensures c.in_default-flagged.ensures c.in_default-keyed.ensures c.in_default-flagged-2.ensures
     c.in_default-pair.ensures c.in_default-keyed-2.ensures c.in_default-keyed-3.ensures c.in_default-keyed-4.ensures c.in_default-keyed-5.ensures
-    c.in_default-read_group_add.ensures c.in_default-keyed-6.ensures
+    c.in_default-read_group_add.ensures c.in_default-keyed-6.ensures c.read_call_or_leave.ensures

@@ -23,3 +23,4 @@ returns-in-None c = no_line c.args.text.now c.in_default.ensures c.in_default-ke
     (differs c.eq.result c.args.text.now (codes "group") c.eq.ensures c.if-eq.false)
     (differs c.eq-2.result c.args.text.now (codes "settled") c.eq-2.ensures c.if-eq-2.false)
     (differs c.eq-3.result c.args.text.now (codes "no-misuse") c.eq-3.ensures c.if-eq-3.false)
+    (differs c.eq-4.result c.args.text.now (codes "no-lost") c.eq-4.ensures c.if-eq-4.false)

@@ -1,4 +1,4 @@
-use Rattle.std.proofs.Common.{ℕ, List, length, Some, sym, ap, subst, refl, rules, arith}
+use Rattle.std.proofs.Common.{ℕ, List, Some, sym, subst, refl, rules, arith}
 use Rattle.scenario_text.specs.Phrases.{ReadsAs}
 use Rattle.scenario_text.specs.ScheduleText.{SpellsSeats}
 use Rattle.scenario_text.proofs.Schedules.{SoFar, turn, empty, no_first, no_last, whole}

@@ -4,7 +4,7 @@ use Rattle.sema_root.proofs.treap_root.TreapRootRootStore.count.Goals as goal
 
 pub returns-clause-count : goal.returns-clause-count
 returns-clause-count c =
-    rw (← c.self.view_is) (omega (arith, c.from.ensures, c.room.ensures, shown-total c.self.invariant, c.self.invariant.joined.room))
+    rw (← c.self.view_is) (omega (arith, c.room.ensures, shown-total c.self.invariant, c.self.invariant.joined.room))
 
 pub returns-clause-fits : goal.returns-clause-fits
 returns-clause-fits c = rw (← c.self.view_is) (omega (arith, shown-total c.self.invariant, c.self.invariant.joined.room))

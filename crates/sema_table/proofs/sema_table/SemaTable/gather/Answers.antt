@@ -17,8 +17,8 @@ pub loop-seat-init : goal.loop-seat-init
 loop-seat-init c =
     let s = c.first.inside.token in let n = c.first.inside.numbers in let E = c.seat_alone.ensures in
     let at = own c.self.inside s n c.self.view_is c.first.view_is c.requires.own.0 in
-    let low = c.self.invariant.low in let most = c.first.invariant.token_is.most in
-    none_gathered c.args.self.now c.args.seats.now.items c.seat_alone.new.token (c.self.inside.limit - n.left) n.taken
+    let low = c.self.invariant.limited ∙ ap (λ (t : TableModel). t.setting.limit) c.self.view_is in let most = c.first.invariant.token_is.most in
+    none_gathered c.args.self.now c.args.seats.now.items c.seat_alone.new.token (c.self.inside.limit - n.left - n.withdrawn) n.taken
     ((λ i. record { id = E.own i; setting = (E.alone i).0.own.knows.setting }) ∙ at ∙ c.self.view_is)
     (ap (λ (m : Me). m.0.guests) E.alone) (omega arith) most
 
@@ -59,5 +59,5 @@ loop-seat-preserved c =
     one_gathered c.args.self.now c.args.seats.now.items _ c.loop-seat.seats.items c.pop.new.self.items c.loop-seat.token c.seat_with.new.token
     _ _ c.loop-seat.releases c.loop-seat.acquires c.self.inside.limit c.in-Some.seat o c.seat.inside.numbers
     inv c.in-Some.ensures.items c.seat.view_is c.seat.invariant (at ∙ c.self.view_is)
-    (c.self.invariant.limited ∙ ap (λ (t : TableModel). t.setting.limit) c.self.view_is) c.self.invariant.low c.seat_with.ensures.own
+    (c.self.invariant.limited ∙ ap (λ (t : TableModel). t.setting.limit) c.self.view_is) c.seat_with.ensures.own
     (c.seat_with.ensures.both ∙ (λ i. (sitting c.loop-seat.token.me.0 (c.seat_alone-in-Some.ensures.alone i).0, c.loop-seat.token.me.1)))

@@ -1,5 +1,6 @@
 use Rattle.std.proofs.Common.{◌≡◌, ◌+◌, ◌<◌, ℕ, sym, ap, refl, ◌∙◌, subst, arith, lt-ltb}
-use Rattle.step_table.specs.declared.place.AcquireRow.TheVariants.{P}
+use Rattle.step_table.specs.declared.place.AcquireRow.TheVariants.{Parked}
+use Rattle.step_table.specs.declared.place.ParkedRow.TheVariants.{P}
 use Rattle.step_table.specs.declared.place.Place.TheVariants.{Acquiring}
 use Rattle.step_table.specs.declared.word.Word.TheVariants.{Grant}
 use Rattle.sema_table.specs.declared.seat.Numbers.{Numbers}
@@ -11,7 +12,7 @@ use Rattle.sema_table.proofs.Striding.{slots_are}
 use Rattle.sema_table.proofs.Owned.{own, someones}
 use Rattle.sema_table.proofs.Seeing.{owes_received}
 use Rattle.sema_table.proofs.Trying.{grant_look}
-use Rattle.sema_table.proofs.Walking.{added_few}
+use Rattle.sema_table.proofs.Walking.{spent_few}
 use Rattle.sema_table.proofs.Polling.{still_seat, polled_still, woken_seat, polled_woken, handed_seat, polled_handed}
 use Rattle.sema_table.proofs.CallerPolls.{polls}
 use Rattle.sema_table.proofs.sema_table.SemaTable.poll.Goals as goal
@@ -32,8 +33,8 @@ take_grant-found-requires c =
         (ap (λ (t : TableModel). t.id) at, someones c.self.inside c.self.invariant s at),
         (
           (let low = c.grant_word-word.ensures.low in let e = ap (λ (t : TableModel). t.id.words) c.self.view_is in omega arith),
-          owes_received _ c.grant_word-word.result s.me (Acquiring c.sleeping.inside.call (P c.sleeping.inside.turn)) seat.at
-              (added_few s n 0 seat.token_is (omega arith)) word
+          owes_received _ c.grant_word-word.result s.me (Acquiring c.sleeping.inside.call (Parked c.sleeping.inside.turn P)) seat.at
+              (spent_few s n 0 seat.token_is (omega arith)) word
               (λ b k known some. record { fits = record { word = word; there = known.there; can = lt-ltb 0 k some; becomes = refl }; apart = refl }),
         ),
       ),

@@ -16,7 +16,7 @@ use Rattle.sema_table.proofs.Owned.{someones, word_in}
 use Rattle.sema_table.proofs.Allowing.{owes, owes_here}
 use Rattle.sema_table.proofs.Apart.{run_of, owes_of}
 use Rattle.sema_table.proofs.Stepping.{counter_up}
-use Rattle.sema_table.proofs.Walking.{added_few, walked_adds}
+use Rattle.sema_table.proofs.Walking.{spent_few, walked_spends}
 use Rattle.sema_table.proofs.Posting.{walked_add, done_seat, owing_seat, posted_done, posted_owes}
 use Rattle.sema_table.proofs.CallerPosts.{posts}
 use Rattle.sema_table.proofs.sema_table.SemaTable.post_in_place.Goals as goal
@@ -34,7 +34,7 @@ add-requires c =
           (let w = c.counter_word.ensures.at in let low = word_in c.self.inside s c.self.invariant at (Counter N) inside in omega (arith, w, low)),
           owes_of (λ k. releasing k R1) c.counter_word.result N c.counter_word.ensures.at _ s.me (λ n. (n + 1) % 2 ^ 64)
               (owes c.counter_word.result s.me (releasing N R1) (inr (inl (c.requires.seat.0.free, inside)))
-              (added_few s n 1 c.requires.seat.0.token_is c.requires.some) _ (λ n. (n + 1) % 2 ^ 64)
+              (spent_few s n 1 c.requires.seat.0.token_is c.requires.some) _ (λ n. (n + 1) % 2 ^ 64)
               (λ b y known. record {
                 fits = record {
                   word = sym c.counter_word.ensures.at;
@@ -65,8 +65,8 @@ load-requires c =
         (
           omega arith,
           owes_here _ c.waiter_word-word.result t.me (releasing N R2) (ap (λ (q : SeatState). q.place) walk.stands_is)
-              (let a = walked_adds s t (releasing N R1) (moved_to s (releasing N R2)) (Add N s.me.0.own.number ∷ []) 0 walk in
-              let o = on_here s.me.0.own.number 1 in let b = added_few s n 1 c.requires.seat.0.token_is c.requires.some in
+              (let a = walked_spends s t (releasing N R1) (moved_to s (releasing N R2)) (Add N s.me.0.own.number ∷ []) 0 walk in
+              let o = on_here s.me.0.own.number 1 in let b = spent_few s n 1 c.requires.seat.0.token_is c.requires.some in
               omega arith) (λ n. n)
               (λ b y known. record { fits = record { word = word; there = tt; can = refl; becomes = refl }; apart = refl }),
         ),

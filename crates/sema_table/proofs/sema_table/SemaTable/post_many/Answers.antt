@@ -19,7 +19,7 @@ use Rattle.sema_table.proofs.Owned.{someones, own, counter_in, word_in}
 use Rattle.sema_table.proofs.Allowing.{owes, owes_here}
 use Rattle.sema_table.proofs.Apart.{run_of, owes_of}
 use Rattle.sema_table.proofs.Stepping.{counter_up_by}
-use Rattle.sema_table.proofs.Walking.{added_few, walked_adds}
+use Rattle.sema_table.proofs.Walking.{spent_few, walked_spends}
 use Rattle.sema_table.proofs.PostingMany.{walked_add, done_seat, owing_seat, posted_done, posted_owes}
 use Rattle.sema_table.proofs.CallerPosts.{posts_many}
 use Rattle.sema_table.proofs.sema_table.SemaTable.post_many.Goals as goal
@@ -41,7 +41,7 @@ add-requires c =
           (let w = c.counter_word.ensures.at in let low = word_in c.self.inside s c.self.invariant at (Counter N) inside in omega (arith, w, low)),
           owes_of (λ k. ReleasingMany (record { counter = k; units = A }) M1) c.counter_word.result N c.counter_word.ensures.at _ s.me (λ n. (n + A) % 2 ^ 64)
               (owes c.counter_word.result s.me (ReleasingMany a M1) (inr (inl (c.seat.invariant.free, (inside, one, many))))
-              (added_few s n A c.seat.invariant.token_is c.if-seat-added.false) _ (λ n. (n + A) % 2 ^ 64)
+              (spent_few s n A c.seat.invariant.token_is c.if-seat-added.false) _ (λ n. (n + A) % 2 ^ 64)
               (λ b y known. record {
                 fits = record {
                   word = sym c.counter_word.ensures.at;
@@ -74,8 +74,8 @@ load-requires c =
         (
           omega arith,
           owes_here _ c.waiter_word-word.result t.me (ReleasingMany a M2) (ap (λ (q : SeatState). q.place) walk.stands_is)
-              (let x = walked_adds s t (ReleasingMany a M1) (moved_to s (ReleasingMany a M2)) (AddMany N A s.me.0.own.number ∷ []) 0 walk in
-              let o = on_here s.me.0.own.number A in let b = added_few s n A c.seat.invariant.token_is c.if-seat-added.false in omega arith) (λ n. n)
+              (let x = walked_spends s t (ReleasingMany a M1) (moved_to s (ReleasingMany a M2)) (AddMany N A s.me.0.own.number ∷ []) 0 walk in
+              let o = on_here s.me.0.own.number A in let b = spent_few s n A c.seat.invariant.token_is c.if-seat-added.false in omega arith) (λ n. n)
               (λ b y known. record { fits = record { word = word; there = tt; can = refl; becomes = refl }; apart = refl }),
         ),
       ),

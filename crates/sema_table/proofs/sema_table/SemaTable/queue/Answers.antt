@@ -1,7 +1,8 @@
 use Rattle.std.proofs.Common.{◌≡◌, ℕ, [], ◌∷◌, ◌++◌, sym, ap, refl, ◌∙◌, subst, arith}
 use Rattle.step_table.specs.declared.effect.Effect.TheVariants.{Tells}
 use Rattle.step_table.specs.declared.entry.Entry.TheVariants.{Queue}
-use Rattle.step_table.specs.declared.place.AcquireRow.TheVariants.{A7, P}
+use Rattle.step_table.specs.declared.place.AcquireRow.TheVariants.{A7, Parked}
+use Rattle.step_table.specs.declared.place.ParkedRow.TheVariants.{P}
 use Rattle.step_table.specs.declared.place.Place.TheVariants.{Acquiring}
 use Rattle.step_table.specs.declared.word.Word.TheVariants.{Lock}
 use Rattle.step_table.proofs.Sums.{on_here}
@@ -79,7 +80,7 @@ returns c =
     let X = c.return_lock.ensures.went in let n : ℕ = X.0 in
     let row = ran_from s u (Acquiring a A7) n r.place_is (subst (λ (x : Me). Ran here x.0.own n u.me.0.own) is X.1) in
     let g = led s.me.0.own u.me.0.own (Acquiring a A7) n row in
-    let x = walked_row s u (Acquiring a A7) n (Acquiring a (P v.turn), Tells (Queue a.counter (record { seat = s.me.0.own.number; turn = v.turn }) a.lifo))
+    let x = walked_row s u (Acquiring a A7) n (Acquiring a (Parked v.turn P), Tells (Queue a.counter (record { seat = s.me.0.own.number; turn = v.turn }) a.lifo))
     row g (c.return_lock.ensures.own ∙ E.0) in
     record {
       walked = subst (λ w. Walked s (Acquiring a A7) u (parked s a) (Queue a.counter w a.lifo ∷ []) 0) (sym c.requires.wait) x;

@@ -37,5 +37,5 @@ returns-clause-some c =
     let first = first_of s k c.in-Root.root w R (sym D.first ∙ c.in_ok-first.was) in (
       first ∙ ap (λ (l : List WaitId). w.id ∷ drop 1 l) (sym first),
       edited s c.args.self.now k c.root_of-slot.result q (put (lists_of s) k (drop 1 (lists_of s k))) h.0 c.root_of-slot.ensures h.1
-          (dequeued_record z (root z k) k c.in-Root.root q (lists_of s) w.id tail first R refl inside D.rest c.in_ok-first.ensures.count D.seats D.undrawn),
+          (dequeued_record z (root z k) k c.in-Root.root q (lists_of s) R refl inside c.in_ok-first.ensures.count D.seats D.undrawn w.id tail first D.rest),
     )

@@ -10,7 +10,7 @@ use Rattle.sema_table.proofs.Striding.{slots_are}
 use Rattle.sema_table.proofs.Owned.{someones, word_in}
 use Rattle.sema_table.proofs.Allowing.{owes_here}
 use Rattle.sema_table.proofs.Leading.{exchanged}
-use Rattle.sema_table.proofs.Walking.{walked_adds, walked_yet}
+use Rattle.sema_table.proofs.Walking.{walked_spends, walked_yet}
 use Rattle.sema_table.proofs.Looking.{zero_walked, zero_record, zero_room, some_walked, won_walked, lost_walked, won_record, lost_record, lost_changed}
 use Rattle.sema_table.proofs.sema_table.SemaTable.try_at_lock.Goals as goal
 
@@ -59,7 +59,7 @@ exchange-requires c =
         (
           omega (arith, w, low),
           owes_here _ c.counter_word-word.result u.me (Acquiring a (A6 (n - 1))) (ap (λ (y : SeatState). y.place) x.stands_is)
-              (let b = r.limited in let d = walked_adds s u (Acquiring a A5) (moved_to s (Acquiring a (A6 (n - 1)))) [] 0 x in omega arith)
+              (let b = r.limited in let d = walked_spends s u (Acquiring a A5) (moved_to s (Acquiring a (A6 (n - 1)))) [] 0 x in omega arith)
               (λ y. either (y == n) (n - 1) y)
               (λ b y known. record {
                 fits = record {

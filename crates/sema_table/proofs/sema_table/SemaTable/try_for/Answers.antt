@@ -10,7 +10,7 @@ use Rattle.sema_table.proofs.Striding.{slots_are}
 use Rattle.sema_table.proofs.Owned.{someones, word_in}
 use Rattle.sema_table.proofs.Allowing.{owes_here}
 use Rattle.sema_table.proofs.Leading.{exchanged}
-use Rattle.sema_table.proofs.Walking.{walked_adds, walked_yet}
+use Rattle.sema_table.proofs.Walking.{walked_spends, walked_yet}
 use Rattle.sema_table.proofs.Granting.{zero_for, some_for, won_for, lost_for, changed_for}
 use Rattle.sema_table.proofs.sema_table.SemaTable.try_for.Goals as goal
 
@@ -59,7 +59,7 @@ exchange-requires c =
         (
           omega (arith, w, low),
           owes_here _ c.counter_word-word.result u.me (Releasing a (R8 (n - 1))) (ap (λ (y : SeatState). y.place) x.stands_is)
-              (let b = r.limited in let d = walked_adds s u (Releasing a R7) (moved_to s (Releasing a (R8 (n - 1)))) [] 0 x in omega arith)
+              (let b = r.limited in let d = walked_spends s u (Releasing a R7) (moved_to s (Releasing a (R8 (n - 1)))) [] 0 x in omega arith)
               (λ y. either (y == n) (n - 1) y)
               (λ b y known. record {
                 fits = record {

@@ -14,7 +14,7 @@ use Rattle.sema_table.proofs.Leading.{exchanged}
 use Rattle.step_table.specs.World.{SeatState}
 use Rattle.sema_table.specs.declared.seat.Numbers.{Numbers}
 use Rattle.sema_table.specs.Walks.{moved_to}
-use Rattle.sema_table.proofs.Walking.{added_few, walked_adds}
+use Rattle.sema_table.proofs.Walking.{spent_few, walked_spends}
 use Rattle.sema_table.proofs.Trying.{walked_some, zero_seat, tried_zero, lost_seat, tried_lost, lost_changed, taken_seat, tried_taken}
 use Rattle.sema_table.proofs.CallerTries.{tries}
 use Rattle.sema_table.proofs.sema_table.SemaTable.try_in_place.Goals as goal
@@ -32,7 +32,7 @@ load-found-requires c =
               let low = word_in c.self.inside c.args.token.now c.self.invariant at (Counter N) inside in omega (arith, w, low)),
           owes_of (λ k. acquiring k A1) c.counter_word-word.result N c.counter_word-word.ensures.at _ c.args.token.now.me (λ n. n)
               (owes c.counter_word-word.result c.args.token.now.me (acquiring N A1) (inr (inl (c.requires.seat.0.free, inside)))
-              (added_few c.args.token.now c.args.numbers.now 0 c.requires.seat.0.token_is (omega arith)) _ (λ n. n)
+              (spent_few c.args.token.now c.args.numbers.now 0 c.requires.seat.0.token_is (omega arith)) _ (λ n. n)
               (λ b n known. record { fits = record { word = sym c.counter_word-word.ensures.at; there = inside; can = refl; becomes = refl }; apart = refl })),
         ),
       ),
@@ -74,8 +74,8 @@ exchange-requires c =
           (let w = c.counter_word-word.ensures.at in let low = word_in c.self.inside t c.self.invariant (walk.table_is ∙ at) (Counter N) inside in
               omega (arith, w, low)),
           owes_here _ c.counter_word-word.result t.me (acquiring N (A2 (k - 1))) (ap (λ (q : SeatState). q.place) walk.stands_is)
-              (let a = walked_adds s t (acquiring N A1) (moved_to s (acquiring N (A2 (k - 1)))) [] 0 walk in
-              let b = added_few s n 0 c.requires.seat.0.token_is (omega arith) in omega arith) (λ y. either (y == k) (k - 1) y)
+              (let a = walked_spends s t (acquiring N A1) (moved_to s (acquiring N (A2 (k - 1)))) [] 0 walk in
+              let b = spent_few s n 0 c.requires.seat.0.token_is (omega arith) in omega arith) (λ y. either (y == k) (k - 1) y)
               (λ b y known. record {
                 fits = record { word = sym c.counter_word-word.ensures.at; there = inside; can = refl; becomes = exchanged k y some };
                 apart = refl;

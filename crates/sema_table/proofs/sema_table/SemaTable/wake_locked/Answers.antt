@@ -7,7 +7,7 @@ use Rattle.step_table.specs.declared.place.Place.TheVariants.{Releasing}
 use Rattle.step_table.specs.World.{SeatState}
 use Rattle.sema_table.specs.Walks.{trying, granting, grant_of, taken_for}
 use Rattle.sema_table.proofs.Entering.{stands_at, stands_after}
-use Rattle.sema_table.proofs.Wakening.{nobody_seat, wakes_nobody, carried, carrying, none_added, trying_counter, granting_counter, settled, granted_seat}
+use Rattle.sema_table.proofs.Wakening.{nobody_seat, wakes_nobody, carried, carrying, none_spent, trying_counter, granting_counter, settled, granted_seat}
 use Rattle.sema_table.proofs.Wakening.{same_seat, at_rest, last_granted, grants_last, wakes_one, wakes_handed}
 use Rattle.sema_table.proofs.sema_table.SemaTable.wake_locked.Goals as goal
 
@@ -56,7 +56,7 @@ grant-requires-clause-seat c =
       stands_at c.args.self.now s t4 n (Releasing a R3) (carrying s (granting a b) w)
           (Leave a.counter w t1.me.0.own.number ∷ taken_for a w b) 0 c.requires.1.token_is c.requires.1.table_is
           (subst (λ k. k < length c.args.self.now.setting.starts) (sym (granting_counter a b)) c.requires.1.inside) y
-          (none_added s t1 t3 t4 t4 n a w b c.requires.1.token_is own x c.take_for-handed.ensures.walked b),
+          (none_spent s t1 t3 t4 t4 n a w b c.requires.1.token_is own x c.take_for-handed.ensures.walked b),
       ap (λ (q : SeatState). q.hand) y.stands_is,
     )
 

@@ -12,7 +12,7 @@ use Rattle.sema_table.specs.ManyWalks.{with_hand}
 use Rattle.sema_table.proofs.Walking.{stands_on}
 use Rattle.sema_table.proofs.Entering.{stands_after}
 use Rattle.sema_table.proofs.WakeningMany.{may_grant, hand_stays, unlocked_many, woken_seat, same_seat, at_rest, wakes_seats}
-use Rattle.sema_table.proofs.PickingMany.{leaves_add}
+use Rattle.sema_table.proofs.PickingMany.{leaves_spend}
 use Rattle.sema_table.proofs.sema_table.SemaTable.wake_some_locked.Goals as goal
 
 pub take_waits-requires-clause-seat : goal.take_waits-requires-clause-seat
@@ -32,7 +32,7 @@ unlock_many-requires c =
     c.requires.seat.1.inside c.requires.seat.1.locked.0 refl in (
       stands_on c.args.self.now t1 t2 (ReleasingMany a M4) (with_hand t1 (ReleasingMany a M6) t2.me.0.own.knows.hand)
           (leaves t1.me.0.own.number a t2.me.0.own.knows.hand) 0 locked c.take_waits.ensures.walked
-          (leaves_add t1.me.0.own.number t1.me.0.own.number a t2.me.0.own.knows.hand) refl,
+          (leaves_spend t1.me.0.own.number t1.me.0.own.number a t2.me.0.own.knows.hand) refl,
       c.take_waits.ensures.«record»,
     )
 
@@ -43,7 +43,7 @@ grant_all-requires-clause-seat c =
     c.requires.seat.1.inside c.requires.seat.1.locked.0 refl in
     let full = stands_on c.args.self.now t1 t2 (ReleasingMany a M4) (with_hand t1 (ReleasingMany a M6) t2.me.0.own.knows.hand)
     (leaves t1.me.0.own.number a t2.me.0.own.knows.hand) 0 locked c.take_waits.ensures.walked
-    (leaves_add t1.me.0.own.number t1.me.0.own.number a t2.me.0.own.knows.hand) refl in
+    (leaves_spend t1.me.0.own.number t1.me.0.own.number a t2.me.0.own.knows.hand) refl in
     may_grant c.args.self.now t2 c.unlock_many.new.token a full c.unlock_many.ensures.walked
 
 pub invariant_of-result : goal.invariant_of-result

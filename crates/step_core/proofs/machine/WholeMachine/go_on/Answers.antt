@@ -1,7 +1,7 @@
 use Rattle.step_core.proofs.machine.WholeMachine.go_on.Goals as goal
 
-pub returns-in-NextCall : goal.returns-in-NextCall
-returns-in-NextCall c = rw c.in-NextCall.is c.stand.ensures
+pub returns-in-Closes : goal.returns-in-Closes
+returns-in-Closes c = rw c.in-Closes.is c.close.ensures
 
 pub returns-in-LooksAgain : goal.returns-in-LooksAgain
-returns-in-LooksAgain c = rw c.in-LooksAgain.is c.stand-in-LooksAgain.ensures
+returns-in-LooksAgain c = rw c.in-LooksAgain.is c.look_again.ensures

@@ -15,6 +15,17 @@ invariant_of-self c =
           c.index_mut-record.ensures.value;
     }) _ refl
 
+pub invariant_of-self-2 : goal.invariant_of-self-2
+invariant_of-self-2 c =
+    record_kept c.self.inside _ _ _ _ (record {
+      are = c.self.invariant;
+      same = c.self.view_is;
+      in_range = c.requires;
+      number = c.number.ensures;
+      value =
+          c.index_mut-record.ensures.value;
+    }) _ refl
+
 pub returns-clause-world : goal.returns-clause-world
 returns-clause-world c =
     let reads : Reads c.self.inside c.args.self.now c.args.seat c.number.result c.index_mut-record.result.now

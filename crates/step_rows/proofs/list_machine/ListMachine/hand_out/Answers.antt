@@ -9,9 +9,9 @@ invariant_of-self c = record_kept c.self.inside _ _ _ _
     _ refl
 
 pub returns : goal.returns
-returns c =
-    let reads : Reads c.self.inside c.args.self.now c.args.seat c.number.result c.index_mut.result.now
+returns c = λ x.
+    (let reads : Reads c.self.inside c.args.self.now c.args.seat c.number.result c.index_mut.result.now
     = record { are = c.self.invariant; same = c.self.view_is; in_range = c.requires.seat; number = c.number.ensures; value = c.index_mut.ensures.value } in
-    effected c.self.inside _ _ _ _ reads (HandsOut c.args.ticket)
+    effected c.self.inside _ _ _ _ reads (HandsOut c.args.ticket) x
     (record (with_record c.self.inside _ _ _ _ reads (record c.index_mut.result.now { ticket = Some c.args.ticket })) { handed = c.self.inside.handed + 1 })
-    (put_ticket c.self.inside _ _ _ _ reads c.args.ticket)
+    (put_ticket c.self.inside _ _ _ _ reads c.args.ticket x))

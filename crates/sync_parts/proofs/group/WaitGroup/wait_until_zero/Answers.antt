@@ -1,6 +1,7 @@
 use Rattle.std.proofs.Common.{refl, sym, ap, subst, ◌∙◌, ℕ, false, inl, inr}
 use Rattle.sema_table.specs.Whole.{IsAcquired}
 use Rattle.step_table.specs.declared.standing.GroupRow.TheVariants.{V2}
+use Rattle.step_table.specs.declared.standing.Ending.TheVariants.{NextCall}
 use Rattle.sync_parts.specs.GroupPlays.{Me}
 use Rattle.sync_parts.specs.GroupSeats.{is_free}
 use Rattle.sync_parts.proofs.GroupStepping.{still_some}
@@ -20,7 +21,7 @@ invariant_of-result g c = let found = c.if-not-count_unless_zero.ensures.3 in re
 pub invariant_of-result-then-eq : goal.invariant_of-result-then-eq
 invariant_of-result-then-eq g c = let counted = c.if-not-count_unless_zero.ensures in record {
   some = still_some (ap (λ (m : Me). m.0.own.knows.seats) c.load.ensures.me_is ∙ counted.1.seats_is) c.requires.some;
-  free = free_after c.args.token (V2 c.args.word) c.count_unless_zero.new.token c.load.new.token c.load.result counted c.load.ensures;
+  free = free_after c.args.token (V2 NextCall c.args.word) c.count_unless_zero.new.token c.load.new.token c.load.result counted c.load.ensures;
   number = ap (λ (m : Me). m.0.own.number) c.load.ensures.me_is ∙ counted.1.number_is ∙ c.requires.one
       ∙ sym (acquired_number c.args.sema c.acquire-sema.result
       (subst (λ (k : ℕ). IsAcquired c.args.sema k false c.acquire-sema.result) c.new.ensures c.acquire-sema.ensures.rows));
@@ -29,7 +30,7 @@ invariant_of-result-then-eq g c = let counted = c.if-not-count_unless_zero.ensur
 pub invariant_of-result-2 : goal.invariant_of-result-2
 invariant_of-result-2 g c = let counted = c.if-not-count_unless_zero.ensures in record {
   some = still_some (ap (λ (m : Me). m.0.own.knows.seats) c.load.ensures.me_is ∙ counted.1.seats_is) c.requires.some;
-  free = free_after c.args.token (V2 c.args.word) c.count_unless_zero.new.token c.load.new.token c.load.result counted c.load.ensures;
+  free = free_after c.args.token (V2 NextCall c.args.word) c.count_unless_zero.new.token c.load.new.token c.load.result counted c.load.ensures;
   number = ap (λ (m : Me). m.0.own.number) c.load.ensures.me_is ∙ counted.1.number_is ∙ c.requires.one
       ∙ sym (acquired_number c.args.sema c.acquire-sema.result
       (subst (λ (k : ℕ). IsAcquired c.args.sema k false c.acquire-sema.result) c.new.ensures c.acquire-sema.ensures.rows));

@@ -1,5 +1,6 @@
 use Rattle.std.proofs.Common.{arith, sym, refl, ap, ◌∙◌}
 use Rattle.step_table.specs.declared.standing.GroupRow.TheVariants.{V2}
+use Rattle.step_table.specs.declared.standing.Ending.TheVariants.{NextCall}
 use Rattle.step_table.specs.GroupBits.{word_in}
 use Rattle.running_rows.specs.Strides.{here}
 use Rattle.sync_parts.proofs.GroupStepping.{exchange_owes, won_is, ran_steps}
@@ -19,5 +20,5 @@ pub returns : goal.returns
 returns c = let n = c.exchange.result in let below = c.exchange.type_inv in let told = c.exchange.ensures in (
   word_in n,
   won_is c.args.seen n _ c.requires.own.2 below c.bits_of-bits.ensures,
-  ran_steps c.args.token.now c.exchange.new.token here (V2 c.args.seen) n c.requires.own.1 told.own told.went,
+  ran_steps c.args.token.now c.exchange.new.token here (V2 NextCall c.args.seen) n c.requires.own.1 told.own told.went,
 )

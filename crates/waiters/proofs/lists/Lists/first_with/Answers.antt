@@ -1,5 +1,6 @@
 use Rattle.std.proofs.Common.{ap, sym, ◌∙◌}
 use Rattle.std.specs.Prelude.{Some}
+use Rattle.waiters.specs.Lists.{is_sought}
 use Rattle.waiters.proofs.StepLemmas.{mine, waits_at-open, none_found, FoundAt-mine, ContainsKey-place, wait_found}
 use Rattle.waiters.proofs.OtherLemmas.{ContainsKey-open}
 use Rattle.waiters.proofs.lists.Lists.first_with.Goals as goal
@@ -21,7 +22,7 @@ returns-in_default c =
     let chain = c.index-chain.result.now in
     let was = ap (λ lists. lists.slots) (sym c.self.view_is) in
     let finds = rw c.in_default.is at c.find.ensures in
-    let none = none_found _ _ _ _ c.self.invariant list chain c.index-chain.ensures c.args.ticket c.args.self.now was finds in
+    let none = none_found _ _ _ _ c.self.invariant list chain c.index-chain.ensures (is_sought c.args.sought) c.args.self.now was finds in
     rw (← c.number-list.ensures) (sym none.0)
 
 pub index-requires : goal.index-requires
@@ -29,7 +30,7 @@ index-requires c =
     let list = c.number-list.result in
     let chain = c.index-chain.result.now in
     let finds = rw c.in-Some.is at c.find.ensures in
-    let found = FoundAt-mine _ _ _ _ c.self.invariant list chain c.index-chain.ensures c.args.ticket _ finds in
+    let found = FoundAt-mine _ _ _ _ c.self.invariant list chain c.index-chain.ensures (is_sought c.args.sought) _ finds in
     ContainsKey-place _ _ _ _ c.self.invariant list chain c.index-chain.ensures _ found.stands
 
 pub returns : goal.returns
@@ -37,7 +38,7 @@ returns c =
     let list = c.number-list.result in
     let chain = c.index-chain.result.now in
     let finds = rw c.in-Some.is at c.find.ensures in
-    let found = FoundAt-mine _ _ _ _ c.self.invariant list chain c.index-chain.ensures c.args.ticket _ finds in
+    let found = FoundAt-mine _ _ _ _ c.self.invariant list chain c.index-chain.ensures (is_sought c.args.sought) _ finds in
     let was = ap (λ lists. lists.slots) (sym c.self.view_is) in
     let wait = wait_found _ _ _ _ c.self.invariant list chain c.index-chain.ensures _ found.stands c.index.result.now c.index.ensures in
     let waits = waits_at-open _ _ _ _ c.self.invariant list chain c.index-chain.ensures c.args.self.now was in

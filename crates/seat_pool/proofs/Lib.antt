@@ -1,0 +1,5 @@
+pub mod Sums
+pub mod Keeping
+pub mod Lending
+pub mod Filling
+pub mod Numbered

@@ -1,0 +1,28 @@
+-- What a call by which a sleeping seat gives up is to its caller.
+use Rattle.std.specs.Prelude.{◌≡◌, ◌⊎◌, ℕ, Bool, Some, List, [], ◌∷◌}
+use Rattle.waiters.specs.declared.wait.WaitId.{WaitId}
+use Rattle.step_table.specs.declared.entry.Entry.{Entry}
+use Rattle.step_table.specs.declared.entry.Entry.TheVariants.{Withdraw}
+use Rattle.step_table.specs.Journal.{HasLeft, HasItsUnit}
+use Rattle.sema_table.specs.declared.answers.GaveUp.{GaveUp}
+use Rattle.sema_table.specs.declared.answers.GaveUp.TheVariants.{Left, Coming, Woken, Handed, LimitReached}
+use Rattle.sema_table.specs.declared.answers.Polled.TheVariants as polled
+use Rattle.sema_table.specs.Seats.{SeatModel}
+use Rattle.sema_table.specs.Callers.{IsSeatAfter, StandsOn, IsWaitingOn, PollsGrant}
+
+-- w has left c for a release, and a unit of c was taken for its seat since, or none yet
+abbrev pub WasLetOut : ℕ → WaitId → List Entry → Type 0
+WasLetOut c w journal = HasLeft c w journal ⊎ HasItsUnit c w journal
+
+-- the seat withdrew the wait that was its own; or it sleeps on as before, since its wait had left; or it was
+-- woken or handed a unit, as by a poll; or it sleeps on as before, and has no unit left to spend
+abbrev pub GivesUp : SeatModel → GaveUp → Type 0
+GivesUp s (Left t) =
+    (c : ℕ) × (lifo : Bool) × (w : WaitId) × IsWaitingOn s c lifo (Some w)
+    × IsSeatAfter s 1 0 (Withdraw c w ∷ []) t
+GivesUp s (Coming t) =
+    (c : ℕ) × (lifo : Bool) × (w : WaitId) × IsWaitingOn s c lifo (Some w)
+    × StandsOn s t × WasLetOut c w t.sight.seen
+GivesUp s (Woken t) = PollsGrant s (polled.Woken t)
+GivesUp s (Handed t) = PollsGrant s (polled.Handed t)
+GivesUp s (LimitReached t) = StandsOn s t × (s.left ≡ 0)

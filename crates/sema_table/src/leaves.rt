@@ -1,0 +1,153 @@
+//! A seat whose wait is queued gives up.
+ghost use Rattle.std.specs.Prelude.{◌≡◌, ◌<◌, [], ◌∷◌, MatchBool, MatchResult};
+ghost use Rattle.step_table.specs.declared.entry.Entry.TheVariants.{Withdraw};
+ghost use Rattle.step_table.specs.declared.place.Place.TheVariants.{Rest, Acquiring};
+ghost use Rattle.step_table.specs.declared.place.AcquireRow.TheVariants.{D4, Parked};
+ghost use Rattle.step_table.specs.declared.place.ParkedRow.TheVariants.{P, D2, D3, D5};
+ghost use Rattle.step_table.specs.Counting.{wait};
+ghost use Rattle.sema_table.specs.declared.answers.Polled.TheVariants.{Still};
+ghost use Rattle.sema_table.specs.Seats.{Token, seat_of};
+ghost use Rattle.sema_table.specs.AtLock.{HasLocked};
+ghost use Rattle.sema_table.specs.Waking.{IsPolled};
+ghost use Rattle.sema_table.specs.Walks.{Stands, Holds, HasRecord, Walked, Moves, CanSpend, moved_to, sought_own};
+ghost use Rattle.sema_table.specs.Leaving.{Leaves, LeavesAtLock};
+ghost use Rattle.sema_table.specs.CallersLeaving.{GivesUp};
+
+use crate::answers::{GaveUp, Polled};
+use crate::rows::Token;
+use crate::seat::{Numbers, Seat, Sleeping};
+use crate::sema_table::SemaTable;
+use running_rows::Here;
+use std::sync::Wait;
+use step_table::{Acquire, AcquireRow, ParkedRow, Place};
+use waiters::SeatId;
+
+impl SemaTable {
+    /// Looks once more at the seat's grant word, and where nothing is granted goes to the root's lock and takes
+    /// the seat's wait out of its queue, wherever it stands there. It may wait for that lock, and for nothing
+    /// else.
+    pub fn leave<R: Wait>(&self, rt: &R, sleeping: Sleeping) -> GaveUp
+        requires { sleeping.table ≡ self.now }
+        ensures rows { Leaves sleeping result }
+        ensures caller { GivesUp sleeping result }
+    {
+        match self.look_before(sleeping) {
+            Ok(asleep) => self.leave_at_lock(rt, asleep),
+            Err(gave_up) => gave_up,
+        }
+    }
+
+    /// The look before the lock: the seat, if it may give up. Where it finds a grant the wait is over, and
+    /// there is nothing to give up.
+    pub(crate) fn look_before(&self, sleeping: Sleeping) -> Result<Sleeping, GaveUp>
+        requires { sleeping.table ≡ self.now }
+        ensures { MatchResult result (λ asleep. IsPolled sleeping (Still asleep) × (0 < asleep.left))
+            (λ gave_up. Leaves sleeping gave_up) }
+    {
+        match self.poll(sleeping) {
+            Polled::Still(asleep) => {
+                if asleep.numbers.left == 0 {
+                    return Err(GaveUp::LimitReached(asleep));
+                }
+                Ok(asleep)
+            }
+            Polled::Woken(woken) => Err(GaveUp::Woken(woken)),
+            Polled::Handed(seat) => Err(GaveUp::Handed(seat)),
+        }
+    }
+
+    /// The rows from D2 on.
+    #[inline(never)]
+    fn leave_at_lock<R: Wait>(&self, rt: &R, asleep: Sleeping) -> GaveUp
+        requires { (asleep.table ≡ self.now) × (0 < asleep.left) }
+        ensures { LeavesAtLock asleep result }
+    {
+        let Sleeping {
+            mut token,
+            numbers,
+            call,
+            turn,
+        } = asleep;
+        let place = Place::Acquiring(call, AcquireRow::Parked(turn, ParkedRow::D2));
+        self.lock(rt, &mut token, call.counter, &place);
+        let gave_up = self.leave_locked(token, numbers, &call, turn);
+        self.rouse_after(&gave_up, call.counter);
+        gave_up
+    }
+
+    /// The rows after D2, up to the one that gives the lock back.
+    pub(crate) fn leave_locked(
+        &self,
+        token: Token,
+        numbers: Numbers,
+        call: &Acquire,
+        turn: u64,
+    ) -> GaveUp
+        requires { (s : Token) × HasLocked self.now s numbers (Acquiring call.now (Parked turn D2)) token
+            × (s.me.0.own.knows.place ≡ Acquiring call.now (Parked turn P)) × (0 < numbers.left) }
+        ensures { (s : Token) → HasLocked self.now s numbers (Acquiring call.now (Parked turn D2)) token
+            → s.me.0.own.knows.place ≡ Acquiring call.now (Parked turn P)
+            → LeavesAtLock (seat_of s numbers) result }
+    {
+        let mut token = token;
+        if self.withdraw(&mut token, numbers.id(), call, turn) {
+            self.unlock_left(&mut token, call);
+            let numbers = Numbers {
+                left: numbers.left - 1,
+                withdrawn: numbers.withdrawn + 1,
+                ..numbers
+            };
+            return GaveUp::Left(Seat { token, numbers });
+        }
+        self.unlock_coming(&mut token, call, turn);
+        GaveUp::Coming(Sleeping {
+            token,
+            numbers,
+            call: *call,
+            turn,
+        })
+    }
+
+    /// D3 where the seat's wait is queued, and else nothing: whether it was. Word and list in one hold: while
+    /// the lock is free, the word is the number of waits.
+    fn withdraw(&self, token: &mut Token, seat: SeatId, call: &Acquire, turn: u64) -> bool
+        requires seat { Stands self.now token.old (sought_own token.old call.now turn)
+            × HasRecord token.old call.now.counter
+            × CanSpend token.old 1 }
+        requires own { seat ≡ token.old.me.0.own.number }
+        ensures settled { MatchBool result
+            (Walked token.old (Acquiring call.now (Parked turn D3)) token.new
+            (moved_to token.old (Acquiring call.now D4))
+            (Withdraw call.now.counter (wait token.old.me.0.own.number turn) ∷ []) 0
+            × (token.old.me.0.own.knows.place ≡ Acquiring call.now (Parked turn D3)))
+            ((token.old.me.0.own.knows.place ≡ Acquiring call.now (Parked turn D5))
+            × (token.new.table_id ≡ token.old.table_id) × (token.new.me.0 ≡ token.old.me.0)) }
+        ensures record { HasRecord token.new call.now.counter }
+    {
+        if !self.remove_own(token, call.counter, seat) {
+            return false;
+        }
+        let word = self.waiter_word(call.counter);
+        self.words.subtract::<Here>(token, word, 1);
+        true
+    }
+
+    /// D4.
+    fn unlock_left(&self, token: &mut Token, call: &Acquire)
+        requires { Holds self.now token.old (Acquiring call.now D4) }
+        ensures { Moves token.old (Acquiring call.now D4) token.new Rest × (token.new.me.1 ≡ []) }
+    {
+        let word = self.lock_word(call.counter);
+        self.words.return_lock(token, word);
+    }
+
+    /// D5. Asleep again, and not at rest: the grant would be stored for the seat's next sleep.
+    fn unlock_coming(&self, token: &mut Token, call: &Acquire, turn: u64)
+        requires { Holds self.now token.old (Acquiring call.now (Parked turn D5)) }
+        ensures { Moves token.old (Acquiring call.now (Parked turn D5)) token.new
+            (Acquiring call.now (Parked turn P)) × (token.new.me.1 ≡ []) }
+    {
+        let word = self.lock_word(call.counter);
+        self.words.return_lock(token, word);
+    }
+}

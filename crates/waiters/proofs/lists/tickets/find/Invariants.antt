@@ -1,9 +1,0 @@
-use Rattle.std.proofs.Common.{length}
-use Rattle.waiters.specs.Chains.{WalkedTo, waits_from}
-use Rattle.waiters.proofs.lists.tickets.find.Given as goal
-
-abbrev pub invariant-loop-here : goal.invariant-loop-here
-invariant-loop-here l = WalkedTo l.records l.fn.chain l.ticket l.before l.here
-
-abbrev pub decreases-loop-here : goal.decreases-loop-here
-decreases-loop-here l = length (waits_from l.records l.fn.chain.len l.here)
