@@ -11,12 +11,12 @@ ghost use Rattle.std.specs.Prelude.{◌≡◌, ◌≢◌, ◌==◌, ◌<◌, Mat
 ghost use mathlib.Core.Option.{none, some};
 ghost use prog.Atomic.{either};
 ghost use Rattle.atomic_table.specs.Table.{step};
-ghost use Rattle.running_rows.specs.Strides.{runs_lock, runs_lock_or_look, Took, FoundHeld, runs_unlock};
+ghost use Rattle.running_rows.specs.Strides.{runs_lock, runs_lock_or_look, Took, FoundHeld, runs_unlock, runs_unlock_from};
 ghost use Rattle.running_rows.specs.Rule.{IsSomeones};
 ghost use Rattle.running_rows.specs.Owing.{Owes, IsAside, IsSeen};
 
 use crate::breaks::{BREAKS_END, FIRST_BREAK, make_break};
-use crate::families::{Rows, Start};
+use crate::families::{Here, Rows, Start};
 use crate::plays::{RunsLock, RunsLockOrLook, RunsUnlock, SetsAside};
 use crate::rule::OneWorld;
 use crate::running::Running;
@@ -352,7 +352,23 @@ impl<S, V, T, K, R: Rows<S, V, T, K>> Running<S, View<V, T>, K, OneWorld<R>> {
         ensures went { runs_unlock R.family
             (step self.now.table.shared.table_id.slots word 0 0 none) token.old.me 0 token.new.me }
     {
-        self.table.shared.store::<RunsUnlock<R, K>>(token, word, 0);
+        self.return_lock_from::<Here>(token, word);
+    }
+
+    /// The same at another row than the one at which the seat stands.
+    #[inline]
+    pub fn return_lock_from<A: Start<S, V>>(&self, token: &mut Token<S, V, T>, word: usize)
+        requires own { (token.old.table_id ≡ self.now.table.shared.table_id)
+            × IsSomeones R.family token.old.me.0 }
+        requires word { word < self.now.table.shared.table_id.words }
+        requires owes { Owes R.family (R.family.key self.now.table.shared.key) token.old.me word (λ _. 0)
+            (λ _. runs_unlock_from R.family A.at (step self.now.table.shared.table_id.slots word 0 0 none)
+            token.old.me 0) }
+        ensures own { token.new.table_id ≡ token.old.table_id }
+        ensures went { runs_unlock_from R.family A.at
+            (step self.now.table.shared.table_id.slots word 0 0 none) token.old.me 0 token.new.me }
+    {
+        self.table.shared.store::<RunsUnlock<A, R, K>>(token, word, 0);
     }
 
     /// Wakes one thread that sleeps at a lock which was given back, where one does.
