@@ -368,7 +368,9 @@ impl<S, V, T, K, R: Rows<S, V, T, K>> Running<S, View<V, T>, K, OneWorld<R>> {
         ensures went { runs_unlock_from R.family A.at
             (step self.now.table.shared.table_id.slots word 0 0 none) token.old.me 0 token.new.me }
     {
-        self.table.shared.store::<RunsUnlock<A, R, K>>(token, word, 0);
+        self.table
+            .shared
+            .store::<RunsUnlock<A, R, K>>(token, word, 0);
     }
 
     /// Wakes one thread that sleeps at a lock which was given back, where one does.

@@ -189,8 +189,8 @@ pub lock_seen : {T : Type 0} (seats : ℕ) → IsSeen (guard_rows {T = T}) seats
 lock_seen {T} seats s words homes u st =
     let word = word_told s.at s.word homes st.shows.lies in let has : Bool = is_some u.knows.holds in
     let stands : is_with u.number s.at ≡ has =
-        sym (holds_is u.number (home s.first) s.at s.history st.shows.in_turns) ∙ ap (holds_after false) st.knows.own
-        ∙ holds_by_turns false u.gone ∙ sym st.knows.holds in
+    sym (holds_is u.number (home s.first) s.at s.history st.shows.in_turns) ∙ ap (holds_after false) st.knows.own
+    ∙ holds_by_turns false u.gone ∙ sym st.knows.holds in
     let call : GuardCall T = looked has word.0 in record {
       now = after u call u.knows.holds;
       went = record {
