@@ -1,5 +1,5 @@
 -- A seat that gives up, from its root's lock on, row by row.
-use Rattle.std.proofs.Common.{◌≡◌, ℕ, ◌+◌, ◌-◌, ◌<◌, List, [], ◌∷◌, length, sym, refl, ap, ◌∙◌, subst, arith}
+use Rattle.std.proofs.Common.{◌≡◌, if◌then◌else◌, Bool, true, ℕ, ◌+◌, ◌-◌, ◌<◌, List, [], ◌∷◌, length, sym, refl, ap, ◌∙◌, subst, arith}
 use Rattle.step_table.specs.declared.effect.Effect.TheVariants.{Tells}
 use Rattle.step_table.specs.declared.entry.Entry.{Entry}
 use Rattle.step_table.specs.declared.entry.Entry.TheVariants.{Withdraw}
@@ -8,7 +8,7 @@ use Rattle.step_table.specs.declared.place.AcquireRow.TheVariants.{D4, Parked}
 use Rattle.step_table.specs.declared.place.ParkedRow.TheVariants.{P, D2, D3, D5}
 use Rattle.step_table.specs.declared.place.Place.{Place}
 use Rattle.step_table.specs.declared.place.Place.TheVariants.{Rest, Acquiring}
-use Rattle.step_table.specs.World.{SeatState, put, without}
+use Rattle.step_table.specs.World.{SeatState, put, stands_in, without}
 use Rattle.step_table.specs.Event.{Next}
 use Rattle.step_table.specs.Counting.{wait}
 use Rattle.step_table.proofs.Sums.{on_here}
@@ -26,7 +26,8 @@ use Rattle.sema_table.specs.Starts.{begin}
 use Rattle.sema_table.specs.Seats.{Token, TableModel, table_of, seat_of, IsToken, IsSeat, IsSleeping}
 use Rattle.sema_table.specs.Walks.{Stands, Walked, HasRecord, CanSpend, moved_to, lists_of, sought_own}
 use Rattle.sema_table.specs.Calls.{RunsRows}
-use Rattle.sema_table.specs.Leaving.{LeavesAtLock}
+use Rattle.sema_table.specs.Leavers.{bare_of, IsLeaving}
+use Rattle.sema_table.specs.Leaving.{LeavesAtLock, GoesToLeave}
 use Rattle.sema_table.proofs.Striding.{Ran}
 use Rattle.sema_table.proofs.Leading.{Goes, led}
 use Rattle.sema_table.proofs.Walking.{walked_row, walked_then, walked_same, walked_spends, token_after, spent_few, ran_from}
@@ -78,6 +79,46 @@ module _ (s t1 t2 t3 : Token) (n : Numbers) (a : Acquire) (turn : ℕ) (is : IsT
   found_walk : (p : Place) → t1.me.0.own.knows.place ≡ p → Walked s from t1 (moved_to s p) [] 0
   found_walk p at =
       subst (λ (q : Place). Walked s from t1 (moved_to s q) [] 0) (sym (ap (λ (y : SeatState). y.place) x1.stands_is) ∙ at) x1
+
+  -- where it stands, by whether its wait is queued
+  pub sought_place : (queued : Bool) → queued ≡ stands_in n.seat (lists_of t1 a.counter)
+      → t1.me.0.own.knows.place ≡ (if queued then Acquiring a (Parked turn D3) else Acquiring a (Parked turn D5))
+  sought_place queued found = ap (λ (y : SeatState). y.place) x1.stands_is
+      ∙ ap (λ (b : Bool). if b then Acquiring a (Parked turn D3) else Acquiring a (Parked turn D5))
+      (ap (λ k. stands_in k (lists_of t1 a.counter)) is.number_is ∙ sym found)
+
+  -- it stays there with the lock
+  module _ (at : t1.me.0.own.knows.place ≡ Acquiring a (Parked turn D3)) (same : t2.table_id ≡ t1.table_id) (view : t2.me.0 ≡ t1.me.0) where
+    about : Walked s from t2 (moved_to s (Acquiring a (Parked turn D3))) [] 0
+    about = walked_same s t1 t2 from (moved_to s (Acquiring a (Parked turn D3))) [] 0 (found_walk (Acquiring a (Parked turn D3)) at) same view
+
+    pub leaving_seat : a.counter < length s.me.0.own.knows.setting.starts → HasRecord t2 a.counter → 0 < n.left
+        → stands_in n.seat (lists_of t2 a.counter) ≡ true → IsLeaving t2 n a turn
+    leaving_seat inside has some queued = record {
+      midway = record {
+        token_is = token_after s (bare_of t2) from (moved_to s (Acquiring a (Parked turn D3))) [] 0 n n is
+            (walked_same s t2 (bare_of t2) from (moved_to s (Acquiring a (Parked turn D3))) [] 0 about refl refl) refl is.empty is.turns_are
+            (omega arith) (omega arith) refl (omega arith);
+        inside = subst (λ (z : TableModel). a.counter < length z.setting.starts) (sym about.table_is) inside;
+        at = ap (λ (q : SeatState). q.place) about.stands_is;
+      };
+      has_record = has;
+      some = some;
+      queued = queued;
+    }
+
+    pub leaving_rows : s.me.0.own.knows.place ≡ Acquiring a (Parked turn P) → GoesToLeave (seat_of s n) (seat_of t2 n)
+    leaving_rows parked = (
+      (λ i. record {
+        table = about.table_is i;
+        number = n.seat;
+        left = n.left;
+        taken = n.taken;
+        sight = sight_by t2.me.0.own.knows;
+        strides = t2.me.0.own.gone;
+      }),
+      (a, turn, parked, about.stands_is, calls s t2 n n from (moved_to s (Acquiring a (Parked turn D3))) [] 0 is about),
+    )
 
   -- its wait was queued
   module _ (x2 : Walked t1 (Acquiring a (Parked turn D3)) t2 (moved_to t1 (Acquiring a D4))

@@ -10,12 +10,12 @@ ghost use Rattle.sema_table.specs.Seats.{Token, seat_of};
 ghost use Rattle.sema_table.specs.AtLock.{HasLocked};
 ghost use Rattle.sema_table.specs.Waking.{IsPolled};
 ghost use Rattle.sema_table.specs.Walks.{Stands, Holds, HasRecord, Walked, Moves, CanSpend, moved_to, sought_own};
-ghost use Rattle.sema_table.specs.Leaving.{Leaves, LeavesAtLock};
+ghost use Rattle.sema_table.specs.Leaving.{Leaves, LeavesAtLock, BeginsToLeave, GoesToLeave};
 ghost use Rattle.sema_table.specs.CallersLeaving.{GivesUp};
 
 use crate::answers::{GaveUp, Polled};
 use crate::rows::Token;
-use crate::seat::{Numbers, Seat, Sleeping};
+use crate::seat::{GivingUp, Numbers, Seat, Sleeping};
 use crate::sema_table::SemaTable;
 use running_rows::Here;
 use std::sync::Wait;
@@ -73,6 +73,73 @@ impl SemaTable {
         let gave_up = self.leave_locked(token, numbers, &call, turn);
         self.rouse_after(&gave_up, call.counter);
         gave_up
+    }
+
+    /// The look and the lock of `leave`, for a caller that has to do more before the wait leaves: the seat has
+    /// the lock, if its wait is queued.
+    pub fn begin_leave<R: Wait>(&self, rt: &R, sleeping: Sleeping) -> Result<GivingUp, GaveUp>
+        requires { sleeping.table ≡ self.now }
+        ensures { MatchResult result (λ leaving. BeginsToLeave sleeping leaving)
+            (λ gave_up. Leaves sleeping gave_up) }
+    {
+        match self.look_before(sleeping) {
+            Ok(asleep) => self.go_to_leave(rt, asleep),
+            Err(gave_up) => Err(gave_up),
+        }
+    }
+
+    #[inline(never)]
+    fn go_to_leave<R: Wait>(&self, rt: &R, asleep: Sleeping) -> Result<GivingUp, GaveUp>
+        requires { (asleep.table ≡ self.now) × (0 < asleep.left) }
+        ensures { MatchResult result (λ leaving. GoesToLeave asleep leaving)
+            (λ gave_up. LeavesAtLock asleep gave_up) }
+    {
+        let Sleeping {
+            mut token,
+            numbers,
+            call,
+            turn,
+        } = asleep;
+        let place = Place::Acquiring(call, AcquireRow::Parked(turn, ParkedRow::D2));
+        self.lock(rt, &mut token, call.counter, &place);
+        let begun = self.begin_locked(token, numbers, &call, turn);
+        if let Err(gave_up) = &begun {
+            self.rouse_after(gave_up, call.counter);
+        }
+        begun
+    }
+
+    /// What follows D2: the seat with the lock, or the row that gives it back.
+    fn begin_locked(
+        &self,
+        token: Token,
+        numbers: Numbers,
+        call: &Acquire,
+        turn: u64,
+    ) -> Result<GivingUp, GaveUp>
+        requires { (s : Token) × HasLocked self.now s numbers (Acquiring call.now (Parked turn D2)) token
+            × (s.me.0.own.knows.place ≡ Acquiring call.now (Parked turn P)) × (0 < numbers.left) }
+        ensures { (s : Token) → HasLocked self.now s numbers (Acquiring call.now (Parked turn D2)) token
+            → s.me.0.own.knows.place ≡ Acquiring call.now (Parked turn P)
+            → MatchResult result (λ leaving. GoesToLeave (seat_of s numbers) leaving)
+            (λ gave_up. LeavesAtLock (seat_of s numbers) gave_up) }
+    {
+        let mut token = token;
+        if self.holds_own(&mut token, call.counter, numbers.id()) {
+            return Ok(GivingUp {
+                token,
+                numbers,
+                call: *call,
+                turn,
+            });
+        }
+        self.unlock_coming(&mut token, call, turn);
+        Err(GaveUp::Coming(Sleeping {
+            token,
+            numbers,
+            call: *call,
+            turn,
+        }))
     }
 
     /// The rows after D2, up to the one that gives the lock back.
