@@ -27,7 +27,7 @@ use Rattle.sema_table.specs.Seats.{Token, TableModel, table_of, seat_of, IsToken
 use Rattle.sema_table.specs.Walks.{Stands, Walked, HasRecord, CanSpend, moved_to, lists_of, sought_own}
 use Rattle.sema_table.specs.Calls.{RunsRows}
 use Rattle.sema_table.specs.Leavers.{bare_of, IsLeaving}
-use Rattle.sema_table.specs.Leaving.{LeavesAtLock, GoesToLeave}
+use Rattle.sema_table.specs.Leaving.{LeavesAtLock, GoesToLeave, EndsLeaving}
 use Rattle.sema_table.proofs.Striding.{Ran}
 use Rattle.sema_table.proofs.Leading.{Goes, led}
 use Rattle.sema_table.proofs.Walking.{walked_row, walked_then, walked_same, walked_spends, token_after, spent_few, ran_from}
@@ -212,5 +212,96 @@ module _ (s t1 t2 t3 : Token) (n : Numbers) (a : Acquire) (turn : ℕ) (is : IsT
           turn,
           parked,
           calls s t3 n n from (moved_to s (Acquiring a (Parked turn P))) [] 0 is slept,
+        ),
+      )
+
+-- what was run with the record was run, whatever the record is
+bare_walk : (s t : Token) (from : Place) (a : SeatState) (told : List Entry) (j : ℕ) → Walked s from t a told j → Walked (bare_of s) from t a told j
+bare_walk s t from a told j w = record {
+  table_is = w.table_is;
+  number_is = w.number_is;
+  stands_is = w.stands_is;
+  few = w.few;
+  came = w.came;
+  most = w.most;
+  counted = w.counted;
+  strides = w.strides;
+  each = w.each;
+  path = w.path;
+  all = w.all;
+  told_is = w.told_is;
+}
+
+-- a seat that has begun to leave
+module _ (t : Token) (n : Numbers) (a : Acquire) (turn : ℕ) (is : IsLeaving t n a turn) where
+  abbrev its : IsToken (bare_of t) n
+  its = is.midway.token_is
+
+  pub leaving_sought : t.me.0.own.knows.place ≡ sought_own t a turn
+  leaving_sought = is.midway.at ∙ ap (λ (b : Bool). if b then Acquiring a (Parked turn D3) else Acquiring a (Parked turn D5))
+      (sym is.queued ∙ ap (λ k. stands_in k (lists_of t a.counter)) (sym its.number_is))
+
+  pub leaving_spends : CanSpend t 1
+  leaving_spends = let l = its.left_is in let some = is.some in omega arith
+
+  pub leaving_stands : (z : TableModel) → table_of t ≡ z → Stands z t (sought_own t a turn)
+  leaving_stands z of = record {
+    table_is = of;
+    inside = let same = locked_counter t.me.0.own.number (lists_of t) (Acquiring a (Parked turn D2)) refl in
+        let inside : a.counter < length z.setting.starts = subst (λ (y : TableModel). a.counter < length y.setting.starts) of is.midway.inside in omega arith;
+    place_is = leaving_sought;
+    limited = let l = its.left_is in omega arith;
+    few = let f = its.few in let same = its.turns_are in omega arith;
+    most = let f = its.most in let same = its.taken_is in omega arith;
+  }
+
+  module _ (t2 : Token) (x2 : Walked t (Acquiring a (Parked turn D3)) t2 (moved_to t (Acquiring a D4))
+      (Withdraw a.counter (wait t.me.0.own.number turn) ∷ []) 0) where
+    abbrev tells : List Entry
+    tells = Withdraw a.counter (wait t.me.0.own.number turn) ∷ []
+
+    one_less : withdrawn_by t.me.0.own.number tells ≡ 1
+    one_less = let o = on_here t.me.0.own.number 1 in omega arith
+
+    pub leaving_left : (z : TableModel) → table_of t ≡ z → Stands z t2 (Acquiring a D4)
+    leaving_left z of = stands_spending z (bare_of t) t2 n (Acquiring a (Parked turn D3)) (moved_to t (Acquiring a D4)) tells 0 its of
+        (subst (λ (y : TableModel). a.counter < length y.setting.starts) of is.midway.inside)
+        (bare_walk t t2 (Acquiring a (Parked turn D3)) (moved_to t (Acquiring a D4)) tells 0 x2)
+        (let o = one_less in let some = is.some in omega arith)
+
+    module _ (t3 : Token) (x3 : Walked t2 (Acquiring a D4) t3 (moved_to t2 Rest) [] 0) (bare : t3.me.1 ≡ []) where
+      abbrev less : Numbers
+      less = record n { left = n.left - 1; withdrawn = n.withdrawn + 1 }
+
+      gone : Walked (bare_of t) (Acquiring a (Parked turn D3)) t3 (moved_to t Rest) tells 0
+      gone = bare_walk t t3 (Acquiring a (Parked turn D3)) (moved_to t Rest) tells 0
+          (walked_then t t2 t3 (Acquiring a (Parked turn D3)) (Acquiring a D4) Rest tells [] 0 0 x2 x3)
+
+      pub ended_seat : IsSeat t3 less
+      ended_seat = record {
+        token_is = token_after (bare_of t) t3 (Acquiring a (Parked turn D3)) (moved_to t Rest) tells 0 n less its gone bare its.empty its.turns_are
+            (let o = one_less in let some = is.some in omega arith) (let o = one_less in omega arith) refl (omega arith);
+        free = ap (λ (q : SeatState). is_free q.place) gone.stands_is;
+        counted = gone.counted refl;
+      }
+
+      pub ended_rows : EndsLeaving (seat_of t n) (seat_of t3 less)
+      ended_rows = (
+        is.some,
+        (λ i. record {
+          table = gone.table_is i;
+          number = n.seat;
+          left = n.left - 1;
+          taken = n.taken;
+          sight = sight_by t3.me.0.own.knows;
+          strides = t3.me.0.own.gone;
+        }),
+        gone.stands_is,
+        (
+          a,
+          turn,
+          is.midway.at,
+          subst (λ k. RunsRows (seat_of t n) (Acquiring a (Parked turn D3)) (seat_of t3 less) (Withdraw a.counter (wait k turn) ∷ [])) its.number_is
+              (calls (bare_of t) t3 n less (Acquiring a (Parked turn D3)) (moved_to t Rest) tells 0 its gone),
         ),
       )

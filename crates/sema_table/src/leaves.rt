@@ -10,7 +10,7 @@ ghost use Rattle.sema_table.specs.Seats.{Token, seat_of};
 ghost use Rattle.sema_table.specs.AtLock.{HasLocked};
 ghost use Rattle.sema_table.specs.Waking.{IsPolled};
 ghost use Rattle.sema_table.specs.Walks.{Stands, Holds, HasRecord, Walked, Moves, CanSpend, moved_to, sought_own};
-ghost use Rattle.sema_table.specs.Leaving.{Leaves, LeavesAtLock, BeginsToLeave, GoesToLeave};
+ghost use Rattle.sema_table.specs.Leaving.{Leaves, LeavesAtLock, BeginsToLeave, GoesToLeave, EndsLeaving};
 ghost use Rattle.sema_table.specs.CallersLeaving.{GivesUp};
 
 use crate::answers::{GaveUp, Polled};
@@ -140,6 +140,31 @@ impl SemaTable {
             call: *call,
             turn,
         }))
+    }
+
+    /// Takes the wait of a seat that has begun to leave out of its queue, and gives the lock back.
+    pub fn end_leave(&self, giving_up: GivingUp) -> Seat
+        requires { giving_up.table ≡ self.now }
+        ensures { EndsLeaving giving_up result }
+    {
+        let GivingUp {
+            mut token,
+            numbers,
+            call,
+            turn,
+        } = giving_up;
+        let withdrew = self.withdraw(&mut token, numbers.id(), &call, turn);
+        if !withdrew {
+            unreachable!()
+        }
+        self.unlock_left(&mut token, &call);
+        self.rouse_at_lock(&token, call.counter);
+        let numbers = Numbers {
+            left: numbers.left - 1,
+            withdrawn: numbers.withdrawn + 1,
+            ..numbers
+        };
+        Seat { token, numbers }
     }
 
     /// The rows after D2, up to the one that gives the lock back.
