@@ -27,7 +27,7 @@ use Rattle.sema_table.specs.Seats.{Token, TableModel, table_of, seat_of, IsToken
 use Rattle.sema_table.specs.Walks.{Stands, Walked, HasRecord, CanSpend, moved_to, lists_of, sought_own}
 use Rattle.sema_table.specs.Calls.{RunsRows}
 use Rattle.sema_table.specs.Leavers.{bare_of, IsLeaving}
-use Rattle.sema_table.specs.Leaving.{LeavesAtLock, GoesToLeave, EndsLeaving}
+use Rattle.sema_table.specs.Leaving.{LeavesAtLock, GoesToLeave, EndsLeaving, StaysAsleep}
 use Rattle.sema_table.proofs.Striding.{Ran}
 use Rattle.sema_table.proofs.Leading.{Goes, led}
 use Rattle.sema_table.proofs.Walking.{walked_row, walked_then, walked_same, walked_spends, token_after, spent_few, ran_from}
@@ -305,3 +305,34 @@ module _ (t : Token) (n : Numbers) (a : Acquire) (turn : ℕ) (is : IsLeaving t 
               (calls (bare_of t) t3 n less (Acquiring a (Parked turn D3)) (moved_to t Rest) tells 0 its gone),
         ),
       )
+
+  module _ (t2 : Token) (x2 : Walked t (Acquiring a (Parked turn D5)) t2 (moved_to t (Acquiring a (Parked turn P))) [] 0) (bare : t2.me.1 ≡ []) where
+    back : Walked (bare_of t) (Acquiring a (Parked turn D5)) t2 (moved_to t (Acquiring a (Parked turn P))) [] 0
+    back = bare_walk t t2 (Acquiring a (Parked turn D5)) (moved_to t (Acquiring a (Parked turn P))) [] 0 x2
+
+    pub stayed_seat : IsSleeping t2 n a turn
+    stayed_seat = record {
+      token_is = token_after (bare_of t) t2 (Acquiring a (Parked turn D5)) (moved_to t (Acquiring a (Parked turn P))) [] 0 n n its back bare its.empty
+          its.turns_are (omega arith) (omega arith) refl (omega arith);
+      inside = subst (λ (z : TableModel). a.counter < length z.setting.starts) (sym back.table_is) is.midway.inside;
+      at = ap (λ (q : SeatState). q.place) back.stands_is;
+    }
+
+    pub stayed_rows : StaysAsleep (seat_of t n) (seat_of t2 n)
+    stayed_rows = (
+      (λ i. record {
+        table = back.table_is i;
+        number = n.seat;
+        left = n.left;
+        taken = n.taken;
+        sight = sight_by t2.me.0.own.knows;
+        strides = t2.me.0.own.gone;
+      }),
+      (
+        a,
+        turn,
+        is.midway.at,
+        back.stands_is,
+        calls (bare_of t) t2 n n (Acquiring a (Parked turn D5)) (moved_to t (Acquiring a (Parked turn P))) [] 0 its back,
+      ),
+    )

@@ -10,11 +10,11 @@ ghost use Rattle.sema_table.specs.Seats.{Token, seat_of};
 ghost use Rattle.sema_table.specs.AtLock.{HasLocked};
 ghost use Rattle.sema_table.specs.Waking.{IsPolled};
 ghost use Rattle.sema_table.specs.Walks.{Stands, Holds, HasRecord, Walked, Moves, CanSpend, moved_to, sought_own};
-ghost use Rattle.sema_table.specs.Leaving.{Leaves, LeavesAtLock, BeginsToLeave, GoesToLeave, EndsLeaving};
+ghost use Rattle.sema_table.specs.Leaving.{Leaves, LeavesAtLock, BeginsToLeave, GoesToLeave, EndsLeaving, StaysAsleep};
 ghost use Rattle.sema_table.specs.CallersLeaving.{GivesUp};
 
 use crate::answers::{GaveUp, Polled};
-use crate::rows::Token;
+use crate::rows::{AtStay, Token};
 use crate::seat::{GivingUp, Numbers, Seat, Sleeping};
 use crate::sema_table::SemaTable;
 use running_rows::Here;
@@ -167,6 +167,27 @@ impl SemaTable {
         Seat { token, numbers }
     }
 
+    /// Gives the lock back, and the wait of a seat that has begun to leave stays queued: the seat sleeps on.
+    pub fn stay_asleep(&self, giving_up: GivingUp) -> Sleeping
+        requires { giving_up.table ≡ self.now }
+        ensures { StaysAsleep giving_up result }
+    {
+        let GivingUp {
+            mut token,
+            numbers,
+            call,
+            turn,
+        } = giving_up;
+        self.unlock_staying(&mut token, &call, turn);
+        self.rouse_at_lock(&token, call.counter);
+        Sleeping {
+            token,
+            numbers,
+            call,
+            turn,
+        }
+    }
+
     /// The rows after D2, up to the one that gives the lock back.
     pub(crate) fn leave_locked(
         &self,
@@ -231,6 +252,16 @@ impl SemaTable {
     {
         let word = self.lock_word(call.counter);
         self.words.return_lock(token, word);
+    }
+
+    /// D5 where D3 might be run.
+    fn unlock_staying(&self, token: &mut Token, call: &Acquire, turn: u64)
+        requires { Holds self.now token.old (Acquiring call.now (Parked turn D3)) }
+        ensures { Moves token.old (Acquiring call.now (Parked turn D5)) token.new
+            (Acquiring call.now (Parked turn P)) × (token.new.me.1 ≡ []) }
+    {
+        let word = self.lock_word(call.counter);
+        self.words.return_lock_from::<AtStay>(token, word);
     }
 
     /// D5. Asleep again, and not at rest: the grant would be stored for the seat's next sleep.

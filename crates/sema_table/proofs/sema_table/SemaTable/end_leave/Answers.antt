@@ -46,4 +46,4 @@ returns c =
     let less : Numbers = record g.numbers { left = g.numbers.left - 1; withdrawn = g.numbers.withdrawn + 1 } in
     subst (λ (s : SeatModel). EndsLeaving s (seat_of c.unlock_left.new.token less)) c.giving_up.view_is
     (ended_rows g.token g.numbers g.call g.turn c.giving_up.invariant c.withdraw-withdrew.new.token c.if-not-withdrew.ensures.settled.0
-      c.unlock_left.new.token y.0 y.1)
+    c.unlock_left.new.token y.0 y.1)

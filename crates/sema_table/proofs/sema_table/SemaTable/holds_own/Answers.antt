@@ -39,5 +39,5 @@ returns-clause-has_record c =
     let R = lent_record s k c.root_of-slot.result c.record_mut.result.now c.in-Root.root h.1 c.record_mut.ensures.value c.in-Root.is in
     let e = edited s c.args.self.now k c.root_of-slot.result c.in-Root.root (lists_of s) h.0 c.root_of-slot.ensures h.1 R in
     subst (λ (m : Me). let z = m.0.own.knows.setting in
-        (treap : Treap) × (m.1 ≡ (root z k, Root treap) ∷ []) × IsRecord z (root z k) treap (lists_by z m.0.own.knows.seen))
-        (sym e.1.1) (e.1.0, refl, e.1.2)
+    (treap : Treap) × (m.1 ≡ (root z k, Root treap) ∷ []) × IsRecord z (root z k) treap (lists_by z m.0.own.knows.seen))
+    (sym e.1.1) (e.1.0, refl, e.1.2)
