@@ -15,7 +15,7 @@ ghost use Rattle.sema_table.specs.CallersLeaving.{GivesUp};
 
 use crate::answers::{GaveUp, Polled};
 use crate::rows::{AtStay, Token};
-use crate::seat::{GivingUp, Numbers, Seat, Sleeping};
+use crate::seat::{Leaver, Numbers, Seat, Sleeping};
 use crate::sema_table::SemaTable;
 use running_rows::Here;
 use std::sync::Wait;
@@ -77,7 +77,7 @@ impl SemaTable {
 
     /// The look and the lock of `leave`, for a caller that has to do more before the wait leaves: the seat has
     /// the lock, if its wait is queued.
-    pub fn begin_leave<R: Wait>(&self, rt: &R, sleeping: Sleeping) -> Result<GivingUp, GaveUp>
+    pub fn begin_leave<R: Wait>(&self, rt: &R, sleeping: Sleeping) -> Result<Leaver, GaveUp>
         requires { sleeping.table ≡ self.now }
         ensures { MatchResult result (λ leaving. BeginsToLeave sleeping leaving)
             (λ gave_up. Leaves sleeping gave_up) }
@@ -89,7 +89,7 @@ impl SemaTable {
     }
 
     #[inline(never)]
-    fn go_to_leave<R: Wait>(&self, rt: &R, asleep: Sleeping) -> Result<GivingUp, GaveUp>
+    fn go_to_leave<R: Wait>(&self, rt: &R, asleep: Sleeping) -> Result<Leaver, GaveUp>
         requires { (asleep.table ≡ self.now) × (0 < asleep.left) }
         ensures { MatchResult result (λ leaving. GoesToLeave asleep leaving)
             (λ gave_up. LeavesAtLock asleep gave_up) }
@@ -116,7 +116,7 @@ impl SemaTable {
         numbers: Numbers,
         call: &Acquire,
         turn: u64,
-    ) -> Result<GivingUp, GaveUp>
+    ) -> Result<Leaver, GaveUp>
         requires { (s : Token) × HasLocked self.now s numbers (Acquiring call.now (Parked turn D2)) token
             × (s.me.0.own.knows.place ≡ Acquiring call.now (Parked turn P)) × (0 < numbers.left) }
         ensures { (s : Token) → HasLocked self.now s numbers (Acquiring call.now (Parked turn D2)) token
@@ -126,7 +126,7 @@ impl SemaTable {
     {
         let mut token = token;
         if self.holds_own(&mut token, call.counter, numbers.id()) {
-            return Ok(GivingUp {
+            return Ok(Leaver {
                 token,
                 numbers,
                 call: *call,
@@ -143,11 +143,11 @@ impl SemaTable {
     }
 
     /// Takes the wait of a seat that has begun to leave out of its queue, and gives the lock back.
-    pub fn end_leave(&self, giving_up: GivingUp) -> Seat
+    pub fn end_leave(&self, giving_up: Leaver) -> Seat
         requires { giving_up.table ≡ self.now }
         ensures { EndsLeaving giving_up result }
     {
-        let GivingUp {
+        let Leaver {
             mut token,
             numbers,
             call,
@@ -168,11 +168,11 @@ impl SemaTable {
     }
 
     /// Gives the lock back, and the wait of a seat that has begun to leave stays queued: the seat sleeps on.
-    pub fn stay_asleep(&self, giving_up: GivingUp) -> Sleeping
+    pub fn stay_asleep(&self, giving_up: Leaver) -> Sleeping
         requires { giving_up.table ≡ self.now }
         ensures { StaysAsleep giving_up result }
     {
-        let GivingUp {
+        let Leaver {
             mut token,
             numbers,
             call,

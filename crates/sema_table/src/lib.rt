@@ -73,7 +73,7 @@ pub use answers::{
 pub use closed::Closed;
 pub use laws::law_of_the_table;
 pub use many_seat::{OwingMany, PostedMany};
-pub use seat::{GivingUp, Owing, Seat, Sleeping, Woken};
+pub use seat::{Leaver, Owing, Seat, Sleeping, Woken};
 pub use sema_table::SemaTable;
 pub use settings::Settings;
 pub use setup_error::SetupError;

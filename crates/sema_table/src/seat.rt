@@ -60,7 +60,7 @@ pub struct Sleeping {
 
 /// A seat that gives up and holds its root's lock, in which its wait is queued. It must be spent, by `end_leave`
 /// or `stay_asleep`.
-pub struct GivingUp {
+pub struct Leaver {
     pub(crate) token: Token,
     pub(crate) numbers: Numbers,
     pub(crate) call: Acquire,
@@ -104,7 +104,7 @@ impl Model for Sleeping {
     ghost invariant = { λ s. IsSleeping s.token s.numbers s.call s.turn };
 }
 
-impl Model for GivingUp {
+impl Model for Leaver {
     ghost use Rattle.sema_table.specs.Seats.{SeatModel, seat_of};
     ghost use Rattle.sema_table.specs.Leavers.{IsLeaving};
 
