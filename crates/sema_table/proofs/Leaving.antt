@@ -217,7 +217,7 @@ module _ (s t1 t2 t3 : Token) (n : Numbers) (a : Acquire) (turn : ℕ) (is : IsT
 
 -- what was run with the record was run, whatever the record is
 bare_walk : (s t : Token) (from : Place) (a : SeatState) (told : List Entry) (j : ℕ) → Walked s from t a told j → Walked (bare_of s) from t a told j
-bare_walk s t from a told j w = record {
+bare_walk s t _ a _ j w = record {
   table_is = w.table_is;
   number_is = w.number_is;
   stands_is = w.stands_is;

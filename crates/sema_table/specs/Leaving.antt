@@ -37,6 +37,11 @@ Leaves s (Woken t) = IsPolled s (polled.Woken t)
 Leaves s (Handed t) = IsPolled s (polled.Handed t)
 Leaves s (LimitReached t) = IsPolled s (polled.Still t) × (s.left ≡ 0)
 
+-- no answer of a seat that has withdrawn its wait
+abbrev pub HasStayed : GaveUp → Type 0
+HasStayed (Left t) = ⊥
+HasStayed _ = Unit {0}
+
 -- at the lock, where its wait is queued
 abbrev pub GoesToLeave : SeatModel → SeatModel → Type 0
 GoesToLeave s l =

@@ -10,8 +10,9 @@ ghost use Rattle.sema_table.specs.Seats.{Token, seat_of};
 ghost use Rattle.sema_table.specs.AtLock.{HasLocked};
 ghost use Rattle.sema_table.specs.Waking.{IsPolled};
 ghost use Rattle.sema_table.specs.Walks.{Stands, Holds, HasRecord, Walked, Moves, CanSpend, moved_to, sought_own};
-ghost use Rattle.sema_table.specs.Leaving.{Leaves, LeavesAtLock, BeginsToLeave, GoesToLeave, EndsLeaving, StaysAsleep};
-ghost use Rattle.sema_table.specs.CallersLeaving.{GivesUp};
+ghost use Rattle.sema_table.specs.Leaving.{Leaves, LeavesAtLock, HasStayed, BeginsToLeave, GoesToLeave};
+ghost use Rattle.sema_table.specs.Leaving.{EndsLeaving, StaysAsleep};
+ghost use Rattle.sema_table.specs.CallersLeaving.{GivesUp, BeginsToGiveUp, EndsGivingUp, SleepsAgain};
 
 use crate::answers::{GaveUp, Polled};
 use crate::rows::{AtStay, Token};
@@ -42,7 +43,7 @@ impl SemaTable {
     pub(crate) fn look_before(&self, sleeping: Sleeping) -> Result<Sleeping, GaveUp>
         requires { sleeping.table ≡ self.now }
         ensures { MatchResult result (λ asleep. IsPolled sleeping (Still asleep) × (0 < asleep.left))
-            (λ gave_up. Leaves sleeping gave_up) }
+            (λ gave_up. Leaves sleeping gave_up × HasStayed gave_up) }
     {
         match self.poll(sleeping) {
             Polled::Still(asleep) => {
@@ -79,8 +80,10 @@ impl SemaTable {
     /// the lock, if its wait is queued.
     pub fn begin_leave<R: Wait>(&self, rt: &R, sleeping: Sleeping) -> Result<Leaver, GaveUp>
         requires { sleeping.table ≡ self.now }
-        ensures { MatchResult result (λ leaving. BeginsToLeave sleeping leaving)
-            (λ gave_up. Leaves sleeping gave_up) }
+        ensures rows { MatchResult result (λ leaving. BeginsToLeave sleeping leaving)
+            (λ gave_up. Leaves sleeping gave_up × HasStayed gave_up) }
+        ensures caller { MatchResult result (λ leaving. BeginsToGiveUp sleeping leaving)
+            (λ gave_up. GivesUp sleeping gave_up) }
     {
         match self.look_before(sleeping) {
             Ok(asleep) => self.go_to_leave(rt, asleep),
@@ -92,7 +95,7 @@ impl SemaTable {
     fn go_to_leave<R: Wait>(&self, rt: &R, asleep: Sleeping) -> Result<Leaver, GaveUp>
         requires { (asleep.table ≡ self.now) × (0 < asleep.left) }
         ensures { MatchResult result (λ leaving. GoesToLeave asleep leaving)
-            (λ gave_up. LeavesAtLock asleep gave_up) }
+            (λ gave_up. LeavesAtLock asleep gave_up × HasStayed gave_up) }
     {
         let Sleeping {
             mut token,
@@ -122,7 +125,7 @@ impl SemaTable {
         ensures { (s : Token) → HasLocked self.now s numbers (Acquiring call.now (Parked turn D2)) token
             → s.me.0.own.knows.place ≡ Acquiring call.now (Parked turn P)
             → MatchResult result (λ leaving. GoesToLeave (seat_of s numbers) leaving)
-            (λ gave_up. LeavesAtLock (seat_of s numbers) gave_up) }
+            (λ gave_up. LeavesAtLock (seat_of s numbers) gave_up × HasStayed gave_up) }
     {
         let mut token = token;
         if self.holds_own(&mut token, call.counter, numbers.id()) {
@@ -145,7 +148,8 @@ impl SemaTable {
     /// Takes the wait of a seat that has begun to leave out of its queue, and gives the lock back.
     pub fn end_leave(&self, giving_up: Leaver) -> Seat
         requires { giving_up.table ≡ self.now }
-        ensures { EndsLeaving giving_up result }
+        ensures rows { EndsLeaving giving_up result }
+        ensures caller { EndsGivingUp giving_up result }
     {
         let Leaver {
             mut token,
@@ -170,7 +174,8 @@ impl SemaTable {
     /// Gives the lock back, and the wait of a seat that has begun to leave stays queued: the seat sleeps on.
     pub fn stay_asleep(&self, giving_up: Leaver) -> Sleeping
         requires { giving_up.table ≡ self.now }
-        ensures { StaysAsleep giving_up result }
+        ensures rows { StaysAsleep giving_up result }
+        ensures caller { SleepsAgain giving_up result }
     {
         let Leaver {
             mut token,

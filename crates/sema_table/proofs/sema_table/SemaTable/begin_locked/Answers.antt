@@ -54,4 +54,4 @@ returns c s h parked =
     let t1 = c.args.token in let t2 = c.holds_own.new.token in let n = c.args.numbers in
     let a = c.args.call.now in let e = c.if-holds_own.ensures in let y = c.unlock_coming.ensures in
     let at = sought_place s t1 t2 t2 n a c.args.turn h.token_is h.locked.0 false (e.found ∙ ap (λ k. stands_in k (lists_of t1 a.counter)) c.id.ensures) in
-    coming_rows s t1 t2 c.unlock_coming.new.token n a c.args.turn h.token_is h.locked.0 at e.same.0 e.same.1 y.0 y.1 parked
+    (coming_rows s t1 t2 c.unlock_coming.new.token n a c.args.turn h.token_is h.locked.0 at e.same.0 e.same.1 y.0 y.1 parked, tt)

@@ -8,6 +8,7 @@ use Rattle.sema_table.specs.declared.seat.Numbers.{Numbers}
 use Rattle.sema_table.specs.Seats.{SeatModel, seat_of}
 use Rattle.sema_table.specs.Leaving.{EndsLeaving}
 use Rattle.sema_table.proofs.Leaving.{leaving_stands, leaving_spends, leaving_left, ended_seat, ended_rows}
+use Rattle.sema_table.proofs.CallerLeaves.{ends}
 use Rattle.sema_table.proofs.sema_table.SemaTable.end_leave.Goals as goal
 
 abbrev is_queued : Place → Bool
@@ -40,10 +41,13 @@ invariant_of-result c =
     ended_seat g.token g.numbers g.call g.turn c.giving_up.invariant c.withdraw-withdrew.new.token c.if-not-withdrew.ensures.settled.0
     c.unlock_left.new.token y.0 y.1
 
-pub returns : goal.returns
-returns c =
+pub returns-clause-rows : goal.returns-clause-rows
+returns-clause-rows c =
     let g = c.giving_up.inside in let y = c.unlock_left.ensures in
     let less : Numbers = record g.numbers { left = g.numbers.left - 1; withdrawn = g.numbers.withdrawn + 1 } in
     subst (λ (s : SeatModel). EndsLeaving s (seat_of c.unlock_left.new.token less)) c.giving_up.view_is
     (ended_rows g.token g.numbers g.call g.turn c.giving_up.invariant c.withdraw-withdrew.new.token c.if-not-withdrew.ensures.settled.0
     c.unlock_left.new.token y.0 y.1)
+
+pub returns-clause-caller : goal.returns-clause-caller
+returns-clause-caller c = ends _ _ (returns-clause-rows c)
