@@ -1,7 +1,6 @@
-use Rattle.std.proofs.Common.{◌≡◌, ◌<◌, true, false, length, sym, ap, subst, ◌∙◌}
+use Rattle.std.proofs.Common.{◌<◌, true, false, length, sym, ap, subst, ◌∙◌}
 use Rattle.step_table.specs.World.{stands_in}
 use Rattle.sema_table.specs.Rule.{lists_by}
-use Rattle.sema_table.specs.Rows.{Me}
 use Rattle.sema_table.specs.Seats.{TableModel}
 use Rattle.sema_table.specs.Walks.{lists_of}
 use Rattle.sema_table.proofs.Leaving.{stands_sought, sought_place, leaving_seat, leaving_rows, coming_seat, coming_rows, stands_missed}

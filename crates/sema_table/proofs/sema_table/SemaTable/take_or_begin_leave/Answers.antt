@@ -1,4 +1,4 @@
-use Rattle.std.proofs.Common.{◌≡◌, ◌+◌, [], sym, ◌∙◌, subst, arith}
+use Rattle.std.proofs.Common.{[], sym, ◌∙◌, subst, arith}
 use Rattle.sema_table.specs.Seats.{SeatModel}
 use Rattle.sema_table.specs.declared.answers.GaveUp.TheVariants.{Coming, Woken}
 use Rattle.sema_table.specs.Callers.{IsSeatAfter, StandsOn}
@@ -41,10 +41,10 @@ returns-in-Taken g d s c lifo sleeps =
     tries =
         let on = d.loop.invariant.sleeps s c lifo sleeps in let x = d.loop.sleeping in
         elim d.match-sleep_until.branch [
-          in-Woken w ↦ subst (IsToTry s c lifo) (sym w.woken-is) (woken s c lifo x on w.in-Woken.woken w.in-Woken.ensures.caller)
-        | in-Still+in-Err-Woken w ↦ subst (IsToTry s c lifo) (sym w.woken-is)
-          (woken s c lifo w.in-Still.still (still_sleeps s c lifo x on w.in-Still.still w.in-Still.ensures.caller) w.in-Err-Woken.woken
-          (subst (GivesUp w.in-Still.still) w.in-Err-Woken.field-0-is w.in-Err-Woken.ensures.caller))
+          | in-Woken w ↦ subst (IsToTry s c lifo) (sym w.woken-is) (woken s c lifo x on w.in-Woken.woken w.in-Woken.ensures.caller)
+          | in-Still+in-Err-Woken w ↦ subst (IsToTry s c lifo) (sym w.woken-is)
+              (woken s c lifo w.in-Still.still (still_sleeps s c lifo x on w.in-Still.still w.in-Still.ensures.caller) w.in-Err-Woken.woken
+              (subst (GivesUp w.in-Still.still) w.in-Err-Woken.field-0-is w.in-Err-Woken.ensures.caller))
         ]
 
 pub loop-preserved : goal.loop-preserved
@@ -55,10 +55,10 @@ loop-preserved g d = record {
       let on = d.loop.invariant.sleeps s c lifo sleeps in let x = d.loop.sleeping in
       let tries : IsToTry s c lifo d.match-sleep_until.woken =
       elim d.match-sleep_until.branch [
-        in-Woken w ↦ subst (IsToTry s c lifo) (sym w.woken-is) (woken s c lifo x on w.in-Woken.woken w.in-Woken.ensures.caller)
-      | in-Still+in-Err-Woken w ↦ subst (IsToTry s c lifo) (sym w.woken-is)
-        (woken s c lifo w.in-Still.still (still_sleeps s c lifo x on w.in-Still.still w.in-Still.ensures.caller) w.in-Err-Woken.woken
-        (subst (GivesUp w.in-Still.still) w.in-Err-Woken.field-0-is w.in-Err-Woken.ensures.caller))
+        | in-Woken w ↦ subst (IsToTry s c lifo) (sym w.woken-is) (woken s c lifo x on w.in-Woken.woken w.in-Woken.ensures.caller)
+        | in-Still+in-Err-Woken w ↦ subst (IsToTry s c lifo) (sym w.woken-is)
+            (woken s c lifo w.in-Still.still (still_sleeps s c lifo x on w.in-Still.still w.in-Still.ensures.caller) w.in-Err-Woken.woken
+            (subst (GivesUp w.in-Still.still) w.in-Err-Woken.field-0-is w.in-Err-Woken.ensures.caller))
       ] in
       requeues s c lifo d.match-sleep_until.woken tries d.in-Asleep.again d.in-Asleep.ensures.caller;
 }
@@ -68,9 +68,9 @@ loop-preserved g d = record {
 
     after : IsSeatAfter d.loop.sleeping 0 0 [] d.match-sleep_until.woken
     after = elim d.match-sleep_until.branch [
-        in-Woken w ↦ subst (IsSeatAfter d.loop.sleeping 0 0 []) (sym w.woken-is) w.in-Woken.ensures.caller.4
+      | in-Woken w ↦ subst (IsSeatAfter d.loop.sleeping 0 0 []) (sym w.woken-is) w.in-Woken.ensures.caller.4
       | in-Still+in-Err-Woken w ↦ subst (IsSeatAfter d.loop.sleeping 0 0 []) (sym w.woken-is)
-        (quietly d.loop.sleeping w.in-Still.still w.in-Err-Woken.woken 0 0 [] w.in-Still.ensures.caller.0
-        (since_woken w.in-Still.still w.in-Err-Woken.woken
-        (subst (GivesUp w.in-Still.still) w.in-Err-Woken.field-0-is w.in-Err-Woken.ensures.caller)))
-      ]
+          (quietly d.loop.sleeping w.in-Still.still w.in-Err-Woken.woken 0 0 [] w.in-Still.ensures.caller.0
+          (since_woken w.in-Still.still w.in-Err-Woken.woken
+          (subst (GivesUp w.in-Still.still) w.in-Err-Woken.field-0-is w.in-Err-Woken.ensures.caller)))
+    ]

@@ -1,4 +1,4 @@
-use Rattle.std.proofs.Common.{◌≡◌, ℕ, inr, sym, ap, refl, ◌∙◌, arith}
+use Rattle.std.proofs.Common.{◌≡◌, ℕ, sym, ap, refl, ◌∙◌, arith}
 use Rattle.step_table.specs.declared.effect.Effect.TheVariants.{Nothing}
 use Rattle.step_table.specs.declared.place.AcquireRow.TheVariants.{Parked}
 use Rattle.step_table.specs.declared.place.ParkedRow.TheVariants.{P, D5}
@@ -7,7 +7,7 @@ use Rattle.step_table.specs.declared.word.Word.TheVariants.{Lock}
 use Rattle.step_table.proofs.Sums.{on_here}
 use Rattle.sema_table.specs.Setting.{root, address}
 use Rattle.sema_table.specs.Seats.{TableModel}
-use Rattle.sema_table.proofs.Striding.{slots_are, ran_stay, ran_stayed}
+use Rattle.sema_table.proofs.Striding.{slots_are, ran_stayed}
 use Rattle.sema_table.proofs.Owned.{someones, word_in}
 use Rattle.sema_table.proofs.Allowing.{owes_stay}
 use Rattle.sema_table.proofs.Leading.{led}
