@@ -23,7 +23,7 @@ use Rattle.sema_table.specs.declared.answers.Retried.TheVariants as retried
 use Rattle.sema_table.specs.Seats.{SeatModel}
 use Rattle.sema_table.specs.Callers.{IsSeatAfter, StandsOn, FindsNoUnit, WaitsForUnit, AcquiresUnit, IsWaitingOn, JoinsQueue}
 use Rattle.sema_table.specs.Callers.{TriesAgain, TriesOnce, PollsGrant}
-use Rattle.sema_table.specs.CallersLeaving.{GivesUp, IsLeavingOn, BeginsToGiveUp, EndsGivingUp, SleepsAgain}
+use Rattle.sema_table.specs.CallersLeaving.{GivesUp, IsLeavingOn, BeginsToGiveUp, SleepsAgain}
 use Rattle.sema_table.specs.CallersTimed.{seat_in, QueuesUpTo, SleepsIn, IsToTry, WithdrewLast, WaitsInTime, AcquiresInTime}
 use Rattle.sema_table.specs.CallersTimed.{HoldsLast, GivesUpHolding}
 use Rattle.sema_table.proofs.After.{after_then}
@@ -205,14 +205,8 @@ module _ (s : SeatModel) (c : ℕ) (lifo : Bool) where
             let before = then_told w x u 0 0 [] tries.1.2 found.0 in
             (v, on, then_queued w v u y before (on.0 ∙ after.number ∙ number_is w 0 0 [] u before) after)
 
-  -- a seat that holds the lock takes its wait out, or sleeps on
+  -- a seat that holds the lock, and sleeps on
   module _ (l : SeatModel) (held : HoldsLast s c lifo l) where
-    pub withdraws : (t : SeatModel) → EndsGivingUp l t → WithdrewLast s c lifo t
-    withdraws t (d, flag, v, at, after) =
-        let known = subst (λ (q : ℕ × Bool × WaitId). IsSeatAfter l 1 0 (Withdraw q.0 q.2 ∷ []) t)
-        (one_leave l c d lifo flag held.0 v held.1 at) after in
-        (held.0, then_told held.0 l t 1 0 (Withdraw c held.0 ∷ []) held.2 known)
-
     pub sleeps_again : (t : SeatModel) → SleepsAgain l t → SleepsIn s c lifo t
     sleeps_again t (d, flag, v, at, on, after) =
         let known = subst (λ (q : ℕ × Bool × WaitId). IsWaitingOn t q.0 q.1 (Some q.2)) (one_leave l c d lifo flag held.0 v held.1 at) on in
@@ -251,9 +245,6 @@ pub then_holds : (s u : SeatModel) (c : ℕ) (lifo : Bool) (answer : Result Seat
     → MatchResult answer (λ taken. AcquiresUnit s c lifo taken) (λ leaving. GivesUpHolding s c lifo leaving)
 then_holds s u c lifo (Ok t) found waits = inr (u, found, waits)
 then_holds s u c lifo (Err l) found holds = (u, found, holds)
-
-pub holds_table : (s l : SeatModel) (c : ℕ) (lifo : Bool) → GivesUpHolding s c lifo l → l.table ≡ s.table
-holds_table s l c lifo (u, found, (w, on, (before, all, queued))) = queued.table ∙ found.0.table
 
 -- an acquire without a time
 pub untimed : (s t : SeatModel) (c : ℕ) (lifo : Bool) → AcquiresUnit s c lifo t → AcquiresInTime s c lifo (Taken t)
