@@ -1,14 +1,15 @@
 -- The rows of a wait with a time-out, once it was counted.
 use Rattle.std.proofs.Common.{◌≡◌, ◌≢◌, ◌⊎◌, ℕ, ◌+◌, ◌<◌, ◌==◌, ◌||◌, if◌then◌else◌, Bool, true, false, List, [], ◌∷◌, ◌++◌, pos}
-use Rattle.std.proofs.Common.{sym, refl, ap, ◌∙◌, subst, inl, inr, append_assoc, append-nil}
+use Rattle.std.proofs.Common.{sym, refl, ap, ◌∙◌, subst, inl, inr, append_assoc, append-nil, eq-eqb, ne_eqb}
 use Rattle.std.specs.Prelude.{Result, Ok, Err}
 use Rattle.std.specs.Ordering.{int_eq}
+use Rattle.std.proofs.lemmas.Bool.Decides.{Decides-int_eq}
 use Rattle.step_table.specs.declared.entry.Entry.{Entry}
 use Rattle.step_table.specs.declared.group_word.GroupWord.{GroupWord}
 use Rattle.step_table.specs.declared.misuse.Misuse.{Misuse}
 use Rattle.step_table.specs.declared.misuse.Misuse.TheVariants.{Reused}
 use Rattle.step_table.specs.declared.standing.GroupRow.{GroupRow}
-use Rattle.step_table.specs.declared.standing.GroupRow.TheVariants.{V1, V3, V4, V5}
+use Rattle.step_table.specs.declared.standing.GroupRow.TheVariants.{V1, V2, V3, V4, V5}
 use Rattle.step_table.specs.declared.standing.GroupNext.{GroupNext}
 use Rattle.step_table.specs.declared.standing.GroupNext.TheVariants.{Ends, Goes, Fails, Acquires, SleepsOn, Withdraws}
 use Rattle.step_table.specs.declared.standing.Ending.TheVariants.{NextCall}
@@ -27,7 +28,28 @@ use Rattle.sync_parts.specs.GroupCallers.{IsGroupSeatAfter, WaitsForZeroInTime}
 use Rattle.sync_parts.specs.GroupCalls.{Walks, RanSteps, IsUncounted, IsCountedInTime, IsUncountedAgain, IsWaitedInTime}
 use Rattle.sync_parts.specs.GroupWalks.{Walked, GetsCounted, GetsUncounted, StaysCounted, IsToLookLast, IsToTakeBack}
 use Rattle.sync_parts.proofs.GroupCalling.{waits_by}
-use Rattle.sync_parts.proofs.GroupWaiting.{HasCome, come_by, runs_on, walks_first}
+use Rattle.sync_parts.proofs.GroupWaiting.{HasCome, come_by, runs_on, walks_first, first_look, then_counted}
+
+-- whether V4 ends it: the counter is 0, or nobody waits
+abbrev over_in : GroupWord → Bool
+over_in word = int_eq word.counter (pos 0) || (word.waits == 0)
+
+pub at_zero : (word : GroupWord) → word.counter ≡ pos 0 → over_in word ≡ true
+at_zero word e = ap (λ (b : Bool). b || (word.waits == 0)) ((Decides-int_eq word.counter (pos 0)).1 e)
+
+pub at_none : (word : GroupWord) → word.waits ≡ 0 → over_in word ≡ true
+at_none word e = ap (λ (b : Bool). int_eq word.counter (pos 0) || b) (eq-eqb word.waits 0 e) ∙ by (int_eq word.counter (pos 0))
+  where
+    by : (b : Bool) → (b || true) ≡ true
+    by true = refl
+    by false = refl
+
+pub at_some : (word : GroupWord) → word.counter ≢ pos 0 → word.waits ≢ 0 → over_in word ≡ false
+at_some word some waits = by (int_eq word.counter (pos 0)) refl ∙ ne_eqb word.waits 0 waits
+  where
+    by : (b : Bool) → int_eq word.counter (pos 0) ≡ b → (b || (word.waits == 0)) ≡ (word.waits == 0)
+    by true e = absurd (some ((Decides-int_eq word.counter (pos 0)).0 e))
+    by false e = refl
 
 -- V4, after exchanges that were lost
 module _ (s t u : Token) (steps : List GroupStep) (x : HasCome s (V4 given_up) steps (V4 given_up) t) (word : GroupWord)
@@ -35,18 +57,15 @@ module _ (s t u : Token) (steps : List GroupStep) (x : HasCome s (V4 given_up) s
   abbrev looks : List GroupStep
   looks = steps ++ step (V4 given_up) word ∷ []
 
-  abbrev is_over : Bool
-  is_over = int_eq word.counter (pos 0) || (word.waits == 0)
-
-  looked : (b : Bool) → is_over ≡ b → Walked s (V4 given_up) looks (if b then SleepsOn given_up else Goes (V5 given_up word)) u
+  looked : (b : Bool) → over_in word ≡ b → Walked s (V4 given_up) looks (if b then SleepsOn given_up else Goes (V5 given_up word)) u
   looked b e = runs_on s t u (V4 given_up) (V4 given_up) steps x word y (if b then SleepsOn given_up else Goes (V5 given_up word))
       (ap (λ (o : Bool). if o then SleepsOn given_up else Goes (V5 given_up word)) e)
 
-  pub stays_counted : is_over ≡ true → StaysCounted s u
+  pub stays_counted : over_in word ≡ true → StaysCounted s u
   stays_counted e = (looks, looked true e)
 
   -- and V5
-  module _ (on : is_over ≡ false) (v : Token) (found : GroupWord) (z : Steps u (V5 given_up word) found v) where
+  module _ (on : over_in word ≡ false) (v : Token) (found : GroupWord) (z : Steps u (V5 given_up word) found v) where
     ran : (b : Bool) → same_word word found ≡ b
         → Walked s (V4 given_up) (looks ++ step (V5 given_up word) found ∷ []) (if b then Withdraws given_up else Goes (V4 given_up)) v
     ran b e = runs_on s u v (V4 given_up) (V5 given_up word) looks (come_by (looked false on)) found z
@@ -151,21 +170,33 @@ module _ (s : Token) (a : SeatModel) (t : Token) (b : SeatModel) (x : IsToLookLa
       ),
     )
 
--- a wait that was counted, and never gave up
-pub never_gave_up : (s : Token) (a : SeatModel) (t : Token) (b : SeatModel) → GetsCounted s (V1 NextCall) t → AcquiresUnit a 0 false b
-    → s.me.0.own.number ≡ a.number → IsToLookLast s a t b
-never_gave_up s a t b counted acquired numbers = let w = counted.1 in record {
-  before = counted.0;
-  looks = [];
-  table_is = w.table_is;
-  number_is = w.number_is;
-  seats_is = w.seats_is;
-  steps_are = w.steps_are ∙ ap (λ (l : List GroupStep). s.me.0.own.gone ++ l) (sym (append-nil counted.0));
-  path = w.path;
-  stayed = inl (refl, w.next_is);
-  acquired = acquired;
-  numbers = numbers;
-}
+-- a wait that was counted from its first look on, and acquired or gave up
+module _ (s : Token) (a : SeatModel) (t u : Token) (free : is_free s.me.0.own.knows.next ≡ true) (word : GroupWord)
+    (y : Steps s (load_row s.me.0.own.knows.next) word t) (some : word.counter ≢ pos 0) (rest : GetsCounted t (V2 NextCall word) u)
+    (numbers : s.me.0.own.number ≡ a.number) where
+  whole : GetsCounted s (V1 NextCall) u
+  whole = then_counted s t word some (first_look s free word t y) u rest
+
+  pub never_gave_up : (b : SeatModel) (c : ℕ) → c ≡ 0 → AcquiresUnit a c false b → IsToLookLast s a u b
+  never_gave_up b c zero acquired = let w = whole.1 in record {
+    before = whole.0;
+    looks = [];
+    table_is = w.table_is;
+    number_is = w.number_is;
+    seats_is = w.seats_is;
+    steps_are = w.steps_are ∙ ap (λ (l : List GroupStep). s.me.0.own.gone ++ l) (sym (append-nil whole.0));
+    path = w.path;
+    stayed = inl (refl, w.next_is);
+    acquired = subst (λ (k : ℕ). AcquiresUnit a k false b) zero acquired;
+    numbers = numbers;
+  }
+
+  pub gives_up : (l : SeatModel) (c : ℕ) → c ≡ 0 → GivesUpHolding a c false l → IsToTakeBack s a u l
+  gives_up l c zero holds = record {
+    counted = whole;
+    holds = subst (λ (k : ℕ). GivesUpHolding a k false l) zero holds;
+    numbers = numbers;
+  }
 
 -- a wait that was counted, and gave up
 pub still_counted : (s : Token) (a : SeatModel) (t : Token) (l : SeatModel) → IsToTakeBack s a t l → t.me.0.own.knows.next ≡ Acquires NextCall

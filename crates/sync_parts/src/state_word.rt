@@ -103,9 +103,7 @@ impl StateWord {
             × Steps token.old (V5 given_up seen) found token.new }
     {
         let bits = bits_of(seen);
-        self.words
-            .exchange::<Here>(token, 0, bits, bits.wrapping_sub(1))
-            == bits
+        self.words.exchange::<Here>(token, 0, bits, bits - 1) == bits
     }
 
     /// G3: stores 0. The seat has seen this word twice.
