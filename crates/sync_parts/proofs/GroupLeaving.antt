@@ -1,5 +1,5 @@
 -- The rows of a wait with a time-out, once it was counted.
-use Rattle.std.proofs.Common.{◌≡◌, ◌≢◌, ◌⊎◌, ℕ, ◌+◌, ◌<◌, ◌==◌, ◌||◌, if◌then◌else◌, Bool, true, false, List, [], ◌∷◌, ◌++◌, pos}
+use Rattle.std.proofs.Common.{◌≡◌, ◌≢◌, ◌⊎◌, ℕ, ◌<◌, ◌==◌, ◌||◌, if◌then◌else◌, Bool, true, false, List, [], ◌∷◌, ◌++◌, pos}
 use Rattle.std.proofs.Common.{sym, refl, ap, ◌∙◌, subst, inl, inr, append_assoc, append-nil, eq-eqb, ne_eqb}
 use Rattle.std.specs.Prelude.{Result, Ok, Err}
 use Rattle.std.specs.Ordering.{int_eq}
@@ -25,7 +25,7 @@ use Rattle.sync_parts.specs.GroupRule.{Follows}
 use Rattle.sync_parts.specs.GroupPlays.{Me, Token, Steps, step, load_row, given_up}
 use Rattle.sync_parts.specs.GroupSeats.{GroupSeatModel, is_free, group_seat_of}
 use Rattle.sync_parts.specs.GroupCallers.{IsGroupSeatAfter, WaitsForZeroInTime}
-use Rattle.sync_parts.specs.GroupCalls.{Walks, RanSteps, IsUncounted, IsCountedInTime, IsUncountedAgain, IsWaitedInTime}
+use Rattle.sync_parts.specs.GroupCalls.{Walks, IsCountedInTime, IsWaitedInTime}
 use Rattle.sync_parts.specs.GroupWalks.{Walked, GetsCounted, GetsUncounted, StaysCounted, IsToLookLast, IsToTakeBack}
 use Rattle.sync_parts.proofs.GroupCalling.{waits_by}
 use Rattle.sync_parts.proofs.GroupWaiting.{HasCome, come_by, runs_on, walks_first, first_look, then_counted}

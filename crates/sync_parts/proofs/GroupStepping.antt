@@ -15,7 +15,6 @@ use Rattle.step_table.specs.declared.standing.GroupRow.{GroupRow}
 use Rattle.step_table.specs.declared.standing.GroupRow.TheVariants.{G1, G2, G3, V1, V2, V3, V4, V5}
 use Rattle.step_table.specs.declared.standing.GroupNext.{GroupNext}
 use Rattle.step_table.specs.declared.standing.GroupNext.TheVariants.{Ends, Goes, Fails, Acquires, Releases, SleepsOn, Withdraws}
-use Rattle.step_table.specs.declared.standing.Ending.TheVariants.{NextCall}
 use Rattle.step_table.specs.Group.{group_row, plus, same_word}
 use Rattle.step_table.specs.GroupBits.{bits_of, word_in, high, bits_after, ComparesWord, IsGroupWord}
 use Rattle.step_table.proofs.GroupBits.{the_group_words}

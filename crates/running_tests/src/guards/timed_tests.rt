@@ -5,7 +5,6 @@ use crate::tables::given::holds;
 use std::alloc::Global;
 use std::process::Abort;
 use std::sync::Wait;
-
 use std::time::{Clock, Duration, Instant};
 use sync_guarded::{Guard, Guarded};
 

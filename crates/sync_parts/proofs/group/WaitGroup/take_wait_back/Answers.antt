@@ -1,4 +1,4 @@
-use Rattle.std.proofs.Common.{false, sym, ap, ◌∙◌}
+use Rattle.std.proofs.Common.{false, sym, ◌∙◌}
 use Rattle.sync_parts.proofs.GroupStepping.{still_some}
 use Rattle.sync_parts.proofs.GroupLeaving.{still_counted, acquired_after, held_after, stays_on, free_uncounted, number_uncounted, took_back}
 use Rattle.sync_parts.proofs.group.WaitGroup.take_wait_back.Goals as goal

@@ -26,8 +26,8 @@ pub returns-then-word-eq0 : goal.returns-then-word-eq0
 returns-then-word-eq0 g c = let x = c.loop.invariant in let word = c.load_to_leave-word.result in
     stays_counted c.args.token.now c.loop.token c.load_to_leave-word.new.token x.0 x.1 word c.load_to_leave-word.ensures
     (elim c.then-word-eq0.branch [
-      then-word-eq0-via-then-word-eq0 w ↦ at_zero word (zero_is word.counter c.load_to_leave-word.ensures.word.0 w.if-word-eq0.true)
-    | then-word-eq0-via-else-word-eq0+then-word-eq0-2 w ↦ at_none word w.if-word-eq0-2.true
+      | then-word-eq0-via-then-word-eq0 w ↦ at_zero word (zero_is word.counter c.load_to_leave-word.ensures.word.0 w.if-word-eq0.true)
+      | then-word-eq0-via-else-word-eq0+then-word-eq0-2 w ↦ at_none word w.if-word-eq0-2.true
     ])
 
 pub returns-then-uncount_wait : goal.returns-then-uncount_wait
