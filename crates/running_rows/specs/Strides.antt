@@ -65,10 +65,13 @@ module _ {S V T K : Type 0} (f : Family S V T K) where
   abbrev pub runs_lock_or_look : (Step S → V → V) → Step S → Me S (View V T) → ℕ → Me S (View V T) → Type 0
   runs_lock_or_look at st m n t = (n ≢ 0 → Looked st.word m n t) × (n ≡ 0 → Took (at st) m t)
 
-  -- a row that gives a lock back ran, and the record is at home
+  -- a row that gives a lock back ran, and the record is at home; it began where it stood, or so
+  abbrev pub runs_unlock_from : (Step S → V → V) → Step S → Me S (View V T) → ℕ → Me S (View V T) → Type 0
+  runs_unlock_from at st m x t =
+      (n : ℕ) × (w : Went (at st) runs m.0.own n t.0.own) × f.HasGiven w.stride m.1 × Changed m (rest m.1) t
+
   abbrev pub runs_unlock : Step S → Me S (View V T) → ℕ → Me S (View V T) → Type 0
-  runs_unlock st m x t =
-      (n : ℕ) × (w : Went here runs m.0.own n t.0.own) × f.HasGiven w.stride m.1 × Changed m (rest m.1) t
+  runs_unlock st m x t = runs_unlock_from (λ st. here) st m x t
 
   -- a row ran that stored x at the word
   abbrev pub runs_grant : Step S → Me S (View V T) → ℕ → Me S (View V T) → Type 0

@@ -11,24 +11,33 @@ ghost use Rattle.std.specs.Prelude.{◌≡◌, ◌≢◌, ◌==◌, ◌<◌, Mat
 ghost use mathlib.Core.Option.{none, some};
 ghost use prog.Atomic.{either};
 ghost use Rattle.atomic_table.specs.Table.{step};
-ghost use Rattle.running_rows.specs.Strides.{runs_lock, runs_lock_or_look, Took, FoundHeld, runs_unlock};
+ghost use Rattle.running_rows.specs.Strides.{runs_lock, runs_lock_or_look, Took, FoundHeld, runs_unlock, runs_unlock_from};
 ghost use Rattle.running_rows.specs.Rule.{IsSomeones};
 ghost use Rattle.running_rows.specs.Owing.{Owes, IsAside, IsSeen};
 
 use crate::breaks::{BREAKS_END, FIRST_BREAK, make_break};
-use crate::families::{Rows, Start};
+use crate::families::{Here, Rows, Start};
 use crate::plays::{RunsLock, RunsLockOrLook, RunsUnlock, SetsAside};
 use crate::rule::OneWorld;
 use crate::running::Running;
 use crate::view::{Token, View};
 use std::hint;
 use std::sync::Wait;
+use std::time::{Clock, Duration, Instant};
 
 /// How often a seat looks at a held lock before it sleeps: what is done under a lock takes less, unless its
 /// holder lost its processor.
 const LOOKS: u32 = 100;
 /// How often a seat tries for a lock that it leaves where it stays held, with as many looks between two tries.
 const TRIES: u32 = 10;
+
+/// How much time is left until the deadline: none where there is no deadline, or the clock can't be read.
+fn time_left<C: Clock>(rt: &C, deadline: Option<Instant>) -> Duration {
+    match (deadline, Instant::now(rt)) {
+        (Some(deadline), Ok(now)) => deadline.saturating_duration_since(now),
+        _ => Duration::ZERO,
+    }
+}
 
 impl<S, V, T, K, R: Rows<S, V, T, K>> Running<S, View<V, T>, K, OneWorld<R>> {
     /// The row that takes a lock: it is run once the lock is found free, and what finds it held is no stride.
@@ -60,7 +69,7 @@ impl<S, V, T, K, R: Rows<S, V, T, K>> Running<S, View<V, T>, K, OneWorld<R>> {
             {
                 return;
             }
-            self.await_lock(rt, token, word, sleepers);
+            self.await_lock(rt, token, word, sleepers, None);
         }
         unreachable!()
     }
@@ -97,7 +106,7 @@ impl<S, V, T, K, R: Rows<S, V, T, K>> Running<S, View<V, T>, K, OneWorld<R>> {
             {
                 return;
             }
-            self.await_lock(rt, token, word, sleepers);
+            self.await_lock(rt, token, word, sleepers, None);
         }
         unreachable!()
     }
@@ -238,8 +247,58 @@ impl<S, V, T, K, R: Rows<S, V, T, K>> Running<S, View<V, T>, K, OneWorld<R>> {
         false
     }
 
-    /// Returns once the lock was free, and perhaps before.
-    fn await_lock<W: Wait>(&self, rt: &W, token: &mut Token<S, V, T>, word: usize, sleepers: usize)
+    /// As `take_lock`, until the deadline, or where there is none at once: whether it was taken. A clock that
+    /// can't be read ends the wait.
+    pub fn take_lock_until<A: Start<S, V>, W: Wait + Clock>(
+        &self,
+        rt: &W,
+        token: &mut Token<S, V, T>,
+        word: usize,
+        sleepers: usize,
+        deadline: Option<Instant>,
+    ) -> bool
+        requires own { (token.old.table_id ≡ self.now.table.shared.table_id)
+            × IsSomeones R.family token.old.me.0 }
+        requires words { (word < self.now.table.shared.table_id.words)
+            × (sleepers < self.now.table.shared.table_id.words) }
+        requires aside { IsAside R.family (R.family.key self.now.table.shared.key) sleepers }
+        requires owes { Owes R.family (R.family.key self.now.table.shared.key) token.old.me word
+            (λ n. either (n == 0) 1 n)
+            (runs_lock R.family A.at (step self.now.table.shared.table_id.slots word 0 1 none) token.old.me) }
+        ensures own { token.new.table_id ≡ token.old.table_id }
+        ensures took { MatchBool result (Took R.family
+            (A.at (step self.now.table.shared.table_id.slots word 0 1 none)) token.old.me token.new.me)
+            (token.new.me ≡ token.old.me) }
+    {
+        for _ in rt.forever() {
+            // Before the time is looked at: who was woken was so in place of others that sleep.
+            if self
+                .table
+                .shared
+                .compare_exchange::<RunsLock<A, R, K>>(token, word, 0, 1)
+                == 0
+            {
+                return true;
+            }
+            let longest = time_left(rt, deadline);
+            if longest.is_zero() {
+                return false;
+            }
+            self.await_lock(rt, token, word, sleepers, Some(longest));
+        }
+        unreachable!()
+    }
+
+    /// Returns once the lock was free, and perhaps before; where a longest time is given, once that is over
+    /// too.
+    fn await_lock<W: Wait>(
+        &self,
+        rt: &W,
+        token: &mut Token<S, V, T>,
+        word: usize,
+        sleepers: usize,
+        longest: Option<Duration>,
+    )
         requires own { token.old.table_id ≡ self.now.table.shared.table_id }
         requires words { (word < self.now.table.shared.table_id.words)
             × (sleepers < self.now.table.shared.table_id.words) }
@@ -253,7 +312,10 @@ impl<S, V, T, K, R: Rows<S, V, T, K>> Running<S, View<V, T>, K, OneWorld<R>> {
         // Counted before `park` looks at the lock: who gives it back after that look finds the count, and
         // wakes.
         shared.fetch_add::<SetsAside>(token, sleepers, 1);
-        shared.park(rt, word, 1);
+        match longest {
+            None => shared.park(rt, word, 1),
+            Some(longest) => shared.park_timeout(rt, word, 1, longest),
+        }
         shared.fetch_sub::<SetsAside>(token, sleepers, 1);
     }
 
@@ -290,7 +352,25 @@ impl<S, V, T, K, R: Rows<S, V, T, K>> Running<S, View<V, T>, K, OneWorld<R>> {
         ensures went { runs_unlock R.family
             (step self.now.table.shared.table_id.slots word 0 0 none) token.old.me 0 token.new.me }
     {
-        self.table.shared.store::<RunsUnlock<R, K>>(token, word, 0);
+        self.return_lock_from::<Here>(token, word);
+    }
+
+    /// The same at another row than the one at which the seat stands.
+    #[inline]
+    pub fn return_lock_from<A: Start<S, V>>(&self, token: &mut Token<S, V, T>, word: usize)
+        requires own { (token.old.table_id ≡ self.now.table.shared.table_id)
+            × IsSomeones R.family token.old.me.0 }
+        requires word { word < self.now.table.shared.table_id.words }
+        requires owes { Owes R.family (R.family.key self.now.table.shared.key) token.old.me word (λ _. 0)
+            (λ _. runs_unlock_from R.family A.at (step self.now.table.shared.table_id.slots word 0 0 none)
+            token.old.me 0) }
+        ensures own { token.new.table_id ≡ token.old.table_id }
+        ensures went { runs_unlock_from R.family A.at
+            (step self.now.table.shared.table_id.slots word 0 0 none) token.old.me 0 token.new.me }
+    {
+        self.table
+            .shared
+            .store::<RunsUnlock<A, R, K>>(token, word, 0);
     }
 
     /// Wakes one thread that sleeps at a lock which was given back, where one does.

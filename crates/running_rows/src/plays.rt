@@ -1,5 +1,5 @@
 //! What each kind of step tells its seat.
-ghost use Rattle.running_rows.specs.Strides.{looks_at, runs_access, runs_store, runs_lock, runs_unlock};
+ghost use Rattle.running_rows.specs.Strides.{looks_at, runs_access, runs_store, runs_lock, runs_unlock_from};
 ghost use Rattle.running_rows.specs.Strides.{runs_lock_or_look};
 ghost use Rattle.running_rows.specs.Strides.{runs_grant, runs_take_or_look, runs_take_or_nothing};
 ghost use Rattle.running_rows.specs.Strides.{sets_aside};
@@ -56,12 +56,12 @@ impl<S, V, T, K, A: Start<S, V>, R: Rows<S, V, T, K>> Play<S, View<V, T>>
 }
 
 /// A row that gives a lock back.
-pub(crate) struct RunsUnlock<R, K> {
-    rows: PhantomData<(R, K)>,
+pub(crate) struct RunsUnlock<A, R, K> {
+    rows: PhantomData<(A, R, K)>,
 }
 
-impl<S, V, T, K, R: Rows<S, V, T, K>> Play<S, View<V, T>> for RunsUnlock<R, K> {
-    ghost then = { runs_unlock R.family };
+impl<S, V, T, K, A: Start<S, V>, R: Rows<S, V, T, K>> Play<S, View<V, T>> for RunsUnlock<A, R, K> {
+    ghost then = { runs_unlock_from R.family A.at };
 }
 
 /// A row that stores a grant.

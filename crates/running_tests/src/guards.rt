@@ -6,3 +6,4 @@
 mod call_tests;
 mod store;
 mod store_tests;
+mod timed_tests;

@@ -15,5 +15,6 @@ mod locker_tests;
 mod play;
 mod sleepers;
 mod timed_cond_tests;
+mod timed_group_tests;
 mod timed_lock_tests;
 mod wakers;

@@ -1,6 +1,6 @@
 -- What an atomic step of the code owes, by the kind of its row.
-use Rattle.std.proofs.Common.{◌≡◌, ◌≢◌, ℕ, ◌+◌, ◌^◌, ◌<◌, ◌≤◌, ◌==◌, false, List, [], ◌∷◌, length, set, slice_index}
-use Rattle.std.proofs.Common.{sym, refl, ap, ◌∙◌, subst, inl, arith}
+use Rattle.std.proofs.Common.{◌≡◌, ◌≢◌, ℕ, ◌+◌, ◌<◌, ◌≤◌, ◌==◌, false, List, [], ◌∷◌, length, set, slice_index}
+use Rattle.std.proofs.Common.{sym, refl, ap, ◌∙◌, subst, inl, inr, arith}
 use Rattle.std.proofs.Common.{length-set}
 use mathlib.Core.Option.{none, some}
 use native.Mathlib.Decide.{ℕ_discrete}
@@ -8,7 +8,11 @@ use lib.ListN.{get_elem?}
 use prog.Atomic.{either}
 use Rattle.running_rows.specs.Table.{Act, step, keeps, takes, gives, homes_after, carried_after, Valid, rest}
 use Rattle.running_rows.proofs.Lists.{set_here, set_else, exchanged}
+use Rattle.step_table.specs.declared.place.Acquire.{Acquire}
+use Rattle.step_table.specs.declared.place.AcquireRow.TheVariants.{Parked}
+use Rattle.step_table.specs.declared.place.ParkedRow.TheVariants.{D3, D5}
 use Rattle.step_table.specs.declared.place.Place.{Place}
+use Rattle.step_table.specs.declared.place.Place.TheVariants.{Acquiring}
 use Rattle.step_table.specs.declared.effect.Effect.{Effect}
 use Rattle.step_table.specs.declared.effect.Effect.TheVariants.{Nothing}
 use Rattle.step_table.specs.declared.word.Word.{Word}
@@ -22,7 +26,7 @@ use Rattle.step_table.proofs.Sums.{put_here, put_else}
 use Rattle.step_law_semaphores.specs.Lawful.{holds}
 use Rattle.sema_table.specs.Changes.{spent_by}
 use Rattle.sema_root.specs.Treap.{Treap}
-use Rattle.running_rows.specs.Strides.{here, becomes, RanRow, Changed, runs_grant, runs_unlock}
+use Rattle.running_rows.specs.Strides.{here, becomes, RanRow, Changed, runs_grant, runs_unlock, runs_unlock_from}
 use Rattle.running_rows.specs.Owing.{Stands, Leads, Owes}
 use Rattle.sema_table.specs.declared.view.Known.{Known}
 use Rattle.sema_table.specs.declared.view.Setting.{Setting}
@@ -32,10 +36,10 @@ use Rattle.sema_table.specs.Setting.{root}
 use Rattle.sema_table.specs.Places.{Begins}
 use Rattle.sema_table.specs.Rule.{stands_by, lists_by, IsRecord, Homes, AtHome, ShowsWorld}
 use Rattle.sema_table.specs.Rows.{Me, SemaSeat, HasStored, semaphore_rows}
-use Rattle.sema_table.specs.Starts.{begin}
+use Rattle.sema_table.specs.Starts.{begin, at_stay}
 use Rattle.sema_table.proofs.Words.{low_root, is_lock, locks_unwritten, listed_agree, same_record}
 use Rattle.sema_table.proofs.Spending.{spending}
-use Rattle.sema_table.proofs.Striding.{Ran, ran_here}
+use Rattle.sema_table.proofs.Striding.{Ran, ran_here, ran_stay}
 use Rattle.running_rows.proofs.Telling.{owes_own, tells_more, stays_so}
 use Rattle.sema_table.proofs.Keeping.{Fits, Ready, ready, b, t, after, others, knows_after, shows_after, went, home_stays, lists_are, lists_told, read_is}
 use Rattle.sema_table.proofs.Keeping.{tells_on}
@@ -299,3 +303,20 @@ module _ (z : Setting) (i : ℕ) (m : Me) (p : Place) (at : m.0.own.knows.place 
       tells_more semaphore_rows z m i world words homes x (λ s. Ran (begin p) m.0.own k s.0.own × Changed semaphore_rows m (rest m.1) s)
       (λ s. runs_unlock semaphore_rows (step 0 i x 0 none) m x s)
       (λ s r. (k, ran_here m.0.own s.0.own p k at r.0, tt, r.1)) (owes_unlock i m p (inl at) bound z treap x carried ready world words homes st)
+
+-- a store on the lock word of a seat that may leave, and sleeps on after all
+pub owes_stay : (z : Setting) (i : ℕ) (m : Me) (a : Acquire) (turn : ℕ) → m.0.own.knows.place ≡ Acquiring a (Parked turn D3)
+    → spent_by m.0.own.number m.0.own.knows.seen + spending (Acquiring a (Parked turn D5)) ≤ m.0.own.knows.setting.limit
+    → (treap : Treap) (x : ℕ) → m.1 ≡ (root m.0.own.knows.setting a.counter, Root treap) ∷ []
+    → ((w : SemaWorld) (n : ℕ) → Ready m.0.own.number (begin (Acquiring a (Parked turn D5)) m.0.own.knows) w i n
+    → Gives m.0.own.knows.setting a.counter treap (event_by m.0.own.number (begin (Acquiring a (Parked turn D5)) m.0.own.knows) w)
+    (begin (Acquiring a (Parked turn D5)) m.0.own.knows) i n x)
+    → Owes semaphore_rows z m i (λ _. x) (λ _ s. runs_unlock_from semaphore_rows at_stay (step 0 i x 0 none) m x s)
+owes_stay z i m a turn at bound treap x carried ready world words homes st =
+    let k : ℕ = slice_index words i in let p : Place = Acquiring a (Parked turn D5) in
+    let begins : Begins (length m.0.own.knows.setting.starts) m.0.own.knows.place p =
+    subst (λ q. Begins (length m.0.own.knows.setting.starts) q p) (sym at) (inr (inr (refl, refl))) in
+    tells_more semaphore_rows z m i world words homes x (λ s. Ran (begin p) m.0.own k s.0.own × Changed semaphore_rows m (rest m.1) s)
+    (λ s. runs_unlock_from semaphore_rows at_stay (step 0 i x 0 none) m x s)
+    (λ s r. (k, ran_stay m.0.own s.0.own a turn k (step 0 i x 0 none) at r.0, tt, r.1))
+    (owes_unlock i m p begins bound z treap x carried ready world words homes st)

@@ -3,14 +3,14 @@ use Rattle.std.proofs.Common.{◌≡◌, ℕ, true, List, inl, inr, sym, refl, a
 use mathlib.Core.Path.{fun_ext}
 use native.Mathlib.Decide.{ℕ_discrete}
 use Rattle.step_table.specs.declared.place.AcquireRow.TheVariants.{A1, A3, Parked}
-use Rattle.step_table.specs.declared.place.ParkedRow.TheVariants.{P, D2}
+use Rattle.step_table.specs.declared.place.ParkedRow.TheVariants.{P, D2, D3, D5}
 use Rattle.step_table.specs.declared.place.Acquire.{Acquire}
 use Rattle.step_table.specs.declared.place.ReleaseRow.TheVariants.{R1, R3}
 use Rattle.step_table.specs.declared.place.ManyRow.TheVariants.{M1}
 use Rattle.step_table.specs.declared.place.Place.{Place}
 use Rattle.step_table.specs.declared.place.Place.TheVariants.{Rest, Acquiring, Releasing, ReleasingMany}
 use Rattle.step_table.specs.World.{Layout, SemaWorld, SeatState, put}
-use Rattle.step_table.specs.Steps.{moved, Choice, acquire, enter, release, release_many, give_up, give_up_lock, decide, leave, Step, choose}
+use Rattle.step_table.specs.Steps.{moved, Choice, acquire, enter, release, release_many, give_up, give_up_lock, decide, leave, stay, Step, choose}
 use Rattle.step_table.proofs.Sums.{put_here, put_else, put_same}
 use Rattle.step_law_semaphores.specs.Lawful.{holds}
 use Rattle.step_law_semaphores.specs.Served.{carries}
@@ -36,11 +36,15 @@ decided n (Releasing r R3) (Releasing q R3) d =
     subst (λ k. Choice n (Releasing r R3) (Releasing (record { counter = k; handoff = q.handoff }) R3)) d (decide r q.handoff)
 decided n (Acquiring a (Parked turn P)) (Acquiring b (Parked t D2)) d =
     subst (λ (x : Acquire × ℕ). Choice n (Acquiring a (Parked turn P)) (Acquiring x.0 (Parked x.1 D2))) (λ i. (d.0 i, d.1 i)) (leave a turn)
+decided n (Acquiring a (Parked turn D3)) (Acquiring b (Parked t D5)) d =
+    subst (λ (x : Acquire × ℕ). Choice n (Acquiring a (Parked turn D3)) (Acquiring x.0 (Parked x.1 D5))) (λ i. (d.0 i, d.1 i)) (stay a turn)
 decided n _ _ d = absurd d
 
-decided_holds : (root : ℕ → ℕ) (r : ℕ) (from to : Place) → Decides from to → holds root r to ≡ 0
+decided_holds : (root : ℕ → ℕ) (r : ℕ) (from to : Place) → Decides from to → holds root r to ≡ holds root r from
 decided_holds root r (Releasing _ R3) (Releasing _ R3) d = refl
 decided_holds root r (Acquiring _ (Parked _ P)) (Acquiring _ (Parked _ D2)) d = refl
+decided_holds root r (Acquiring a (Parked _ D3)) (Acquiring b (Parked _ D5)) d =
+    ap (λ (x : Acquire). holds root r (Acquiring x (Parked 0 D5))) (sym d.0)
 decided_holds root r _ _ d = absurd d
 
 put_put : {A : Type 0} (f : ℕ → A) (i : ℕ) (x y : A) → put (put f i x) i y ≡ put f i y
@@ -54,7 +58,7 @@ put_put f i x y = fun_ext (λ k. by k (ℕ_discrete k i))
 pub begins_holds : (n : ℕ) (root : ℕ → ℕ) (r : ℕ) (from to : Place) → Begins n from to → holds root r to ≡ 1 → holds root r from ≡ 1
 begins_holds n root r from to (inl same) h = ap (holds root r) same ∙ h
 begins_holds n root r from to (inr (inl f)) h = let e = first_holds n root r to f.1 in absurd (omega arith)
-begins_holds n root r from to (inr (inr d)) h = let e = decided_holds root r from to d in absurd (omega arith)
+begins_holds n root r from to (inr (inr d)) h = sym (decided_holds root r from to d) ∙ h
 
 first_carries : (n k : ℕ) (hand : List WaitId) (p : Place) → IsFirst n p → carries k p hand ≡ 0
 first_carries n k hand (Acquiring a A1) f = refl
@@ -72,6 +76,7 @@ free_carries k hand _ f = absurd (cc)
 decided_carries : (k : ℕ) (hand : List WaitId) (from to : Place) → Decides from to → carries k to hand ≡ carries k from hand
 decided_carries k hand (Releasing _ R3) (Releasing _ R3) d = refl
 decided_carries k hand (Acquiring _ (Parked _ P)) (Acquiring _ (Parked _ D2)) d = refl
+decided_carries k hand (Acquiring _ (Parked _ D3)) (Acquiring _ (Parked _ D5)) d = refl
 decided_carries k hand _ _ d = absurd d
 
 -- who begins a row carries what it carried

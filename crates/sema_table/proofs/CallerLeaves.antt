@@ -1,6 +1,7 @@
 -- What a call by which a sleeping seat gives up is to its caller.
 use Rattle.std.proofs.Common.{◌≡◌, ◌⊎◌, ℕ, zero, suc, ◌-◌, ◌<◌, ◌≤◌, Bool, true, false, if◌then◌else◌, List, [], ◌∷◌, ◌++◌}
 use Rattle.std.proofs.Common.{◌≢◌, ◌||◌, eqb, length, refl, sym, ap, ◌∙◌, subst, inl, inr, arith, append_assoc}
+use Rattle.std.specs.Prelude.{Result, Ok, Err, MatchResult}
 use Rattle.std.specs.List.{All}
 use Rattle.std.proofs.lemmas.List.Elements.{All-head, All-tail}
 use Rattle.std.proofs.lemmas.Bool.Decides.{eqb_tells}
@@ -34,9 +35,9 @@ use Rattle.sema_table.specs.Setting.{layout}
 use Rattle.sema_table.specs.Seats.{SeatModel}
 use Rattle.sema_table.specs.Strides.{IsRow}
 use Rattle.sema_table.specs.Waking.{IsPolled}
-use Rattle.sema_table.specs.Leaving.{Leaves, LeavesAtLock, StillParked}
+use Rattle.sema_table.specs.Leaving.{Leaves, LeavesAtLock, HasStayed, BeginsToLeave, EndsLeaving, StaysAsleep, StillParked}
 use Rattle.sema_table.specs.Callers.{IsSeatAfter, StandsOn}
-use Rattle.sema_table.specs.CallersLeaving.{WasLetOut, GivesUp}
+use Rattle.sema_table.specs.CallersLeaving.{WasLetOut, GivesUp, BeginsToGiveUp, EndsGivingUp, SleepsAgain}
 use Rattle.sema_table.proofs.After.{there, after_call, after_look, after_then}
 use Rattle.sema_table.proofs.Tellers.{plain_there, stood_there, row_tells, row_leads}
 use Rattle.sema_table.proofs.CallerTries.{both_nil, stands_on}
@@ -259,3 +260,44 @@ pub still_parked : (s t : SeatModel) → StillParked s t → StandsOn s t
 still_parked s t x =
     let looked = polls s (polled.Still x.0) x.1 in let held = stands_on x.0 t x.2.0.counter x.2.3 in
     (after_then s x.0 t 0 0 0 0 [] [] looked.0 held.0, held.1 ∙ looked.1)
+
+-- a seat that goes to the lock, and has it
+pub begins : (s l : SeatModel) → BeginsToLeave s l → BeginsToGiveUp s l
+begins s l (u, still, some, x) =
+    let a = x.1.0 in let turn = x.1.1 in let looked = still.3 in
+    let number : u.number ≡ s.number = ap (λ (z : SeatModel). z.number) looked.same in
+    let at = ap (λ (z : SeatState). z.place) x.1.3 in
+    let call = after_call u l (Acquiring a (Parked turn D2)) (Acquiring a (Parked turn D3)) u.left u.taken x.0 [] x.1.4 at (λ e. cc)
+    0 0 (omega arith) (omega arith) in
+    let after = after_then s u l 0 0 0 0 [] [] (after_look s u (Grant s.number) 0 looked) call in (
+      a.counter,
+      a.lifo,
+      wait s.number turn,
+      (refl, ap (λ (z : SeatState). z.place) (sym looked.stays) ∙ x.1.2),
+      (sym after.number, at),
+      after,
+    )
+
+pub begins_or_not : (s : SeatModel) (answer : Result SeatModel GaveUp)
+    → MatchResult answer (λ leaving. BeginsToLeave s leaving) (λ gave_up. Leaves s gave_up × HasStayed gave_up)
+    → MatchResult answer (λ leaving. BeginsToGiveUp s leaving) (λ gave_up. GivesUp s gave_up)
+begins_or_not s (Ok l) x = begins s l x
+begins_or_not s (Err gave_up) x = leaves s gave_up x.0
+
+-- and takes its wait out, or sleeps on
+pub ends : (l t : SeatModel) → EndsLeaving l t → EndsGivingUp l t
+ends l t (some, same, rests, (a, turn, at, ran)) = (
+  a.counter,
+  a.lifo,
+  wait l.number turn,
+  (refl, at),
+  after_call l t (Acquiring a (Parked turn D3)) Rest (l.left - 1) l.taken same (Withdraw a.counter (wait l.number turn) ∷ []) ran
+      (ap (λ (z : SeatState). z.place) rests) (λ e. cc) 1 0 (omega arith) (omega arith),
+)
+
+pub stays : (l t : SeatModel) → StaysAsleep l t → SleepsAgain l t
+stays l t (same, (a, turn, at, parked, ran)) =
+    let on = ap (λ (z : SeatState). z.place) parked in
+    let after = after_call l t (Acquiring a (Parked turn D5)) (Acquiring a (Parked turn P)) l.left l.taken same [] ran on (λ e. cc)
+    0 0 (omega arith) (omega arith) in
+    (a.counter, a.lifo, wait l.number turn, (refl, at), (sym after.number, on), after)

@@ -1,27 +1,31 @@
 -- What an acquire with a time-out is to its caller.
 use Rattle.std.proofs.Common.{◌≡◌, ℕ, ◌+◌, Bool, false, Some, None, List, [], ◌∷◌, ◌++◌, map, refl, sym, ap, ◌∙◌, subst, inl, inr}
 use Rattle.std.proofs.Common.{arith, append-nil}
+use Rattle.std.specs.Prelude.{Result, Ok, Err, MatchResult}
 use Rattle.std.proofs.lemmas.List.{map-append}
 use Rattle.std.proofs.lemmas.List.Elements.{All-nil, All-cons, All-push}
 use Rattle.waiters.specs.declared.wait.WaitId.{WaitId}
 use Rattle.step_table.specs.declared.entry.Entry.{Entry}
 use Rattle.step_table.specs.declared.entry.Entry.TheVariants.{Take, Queue, Withdraw}
 use Rattle.step_table.specs.declared.place.AcquireRow.TheVariants.{A10, Parked}
-use Rattle.step_table.specs.declared.place.ParkedRow.TheVariants.{P}
+use Rattle.step_table.specs.declared.place.ParkedRow.TheVariants.{P, D3}
 use Rattle.step_table.specs.declared.place.Place.{Place}
 use Rattle.step_table.specs.declared.place.Place.TheVariants.{Acquiring}
 use Rattle.step_table.specs.World.{SeatState}
 use Rattle.step_table.specs.Journal.{HasLeft, HasItsUnit}
 use Rattle.sema_table.specs.declared.answers.Acquired.{Acquired}
 use Rattle.sema_table.specs.declared.answers.Acquired.TheVariants.{Taken, TimedOut, LimitReached}
+use Rattle.sema_table.specs.declared.answers.Entered.{Entered}
 use Rattle.sema_table.specs.declared.answers.Entered.TheVariants as entered
 use Rattle.sema_table.specs.declared.answers.GaveUp.TheVariants as gave_up
 use Rattle.sema_table.specs.declared.answers.Polled.TheVariants as polled
 use Rattle.sema_table.specs.declared.answers.Retried.TheVariants as retried
 use Rattle.sema_table.specs.Seats.{SeatModel}
-use Rattle.sema_table.specs.Callers.{IsSeatAfter, StandsOn, FindsNoUnit, WaitsForUnit, AcquiresUnit, IsWaitingOn, JoinsQueue, TriesOnce, PollsGrant}
-use Rattle.sema_table.specs.CallersLeaving.{GivesUp}
+use Rattle.sema_table.specs.Callers.{IsSeatAfter, StandsOn, FindsNoUnit, WaitsForUnit, AcquiresUnit, IsWaitingOn, JoinsQueue}
+use Rattle.sema_table.specs.Callers.{TriesAgain, TriesOnce, PollsGrant}
+use Rattle.sema_table.specs.CallersLeaving.{GivesUp, IsLeavingOn, BeginsToGiveUp, SleepsAgain}
 use Rattle.sema_table.specs.CallersTimed.{seat_in, QueuesUpTo, SleepsIn, IsToTry, WithdrewLast, WaitsInTime, AcquiresInTime}
+use Rattle.sema_table.specs.CallersTimed.{HoldsLast, GivesUpHolding}
 use Rattle.sema_table.proofs.After.{after_then}
 
 plus_0 : (n : ℕ) → n + 0 ≡ n
@@ -31,7 +35,7 @@ none_plus : (n : ℕ) → 0 + n ≡ n
 none_plus n = omega arith
 
 -- nothing was done since
-quietly : (s u t : SeatModel) (a g : ℕ) (told : List Entry) → IsSeatAfter s a g told u → IsSeatAfter u 0 0 [] t → IsSeatAfter s a g told t
+pub quietly : (s u t : SeatModel) (a g : ℕ) (told : List Entry) → IsSeatAfter s a g told u → IsSeatAfter u 0 0 [] t → IsSeatAfter s a g told t
 quietly s u t a g told x y =
     subst (λ (q : ℕ × ℕ × List Entry). IsSeatAfter s q.0 q.1 q.2 t) (λ i. (plus_0 a i, plus_0 g i, append-nil told i))
     (after_then s u t a 0 g 0 told [] x y)
@@ -49,6 +53,10 @@ abbrev sleep_at : Place → ℕ × Bool × ℕ
 sleep_at (Acquiring a (Parked turn P)) = (a.counter, a.lifo, turn)
 sleep_at _ = (0, false, 0)
 
+abbrev leave_at : Place → ℕ × Bool × ℕ
+leave_at (Acquiring a (Parked turn D3)) = (a.counter, a.lifo, turn)
+leave_at _ = (0, false, 0)
+
 abbrev try_at : Place → ℕ × Bool
 try_at (Acquiring a A10) = (a.counter, a.lifo)
 try_at _ = (0, false)
@@ -58,6 +66,11 @@ one_wait : (t : SeatModel) (c d : ℕ) (lifo flag : Bool) (w x : WaitId) → IsW
     → ◌≡◌ {A = ℕ × Bool × WaitId} (d, flag, x) (c, lifo, w)
 one_wait t c d lifo flag w x on at =
     let q = ap sleep_at (sym at.1 ∙ on.1) in λ i. ((q i).0, (q i).1, record { seat = (at.0 ∙ sym on.0) i; turn = (q i).2 })
+
+one_leave : (t : SeatModel) (c d : ℕ) (lifo flag : Bool) (w x : WaitId) → IsLeavingOn t c lifo w → IsLeavingOn t d flag x
+    → ◌≡◌ {A = ℕ × Bool × WaitId} (d, flag, x) (c, lifo, w)
+one_leave t c d lifo flag w x on at =
+    let q = ap leave_at (sym at.1 ∙ on.1) in λ i. ((q i).0, (q i).1, record { seat = (at.0 ∙ sym on.0) i; turn = (q i).2 })
 
 one_try : (t : SeatModel) (c d : ℕ) (lifo flag : Bool) → IsWaitingOn t c lifo None → IsWaitingOn t d flag None
     → ◌≡◌ {A = ℕ × Bool} (d, flag) (c, lifo)
@@ -134,10 +147,18 @@ module _ (s : SeatModel) (c : ℕ) (lifo : Bool) where
         (one_wait x c d lifo flag sleeps.0 v sleeps.1 at) (try, gone) in
         (known.0, (sleeps.0, known.1, then_told sleeps.0 x y 0 0 [] sleeps.2 after))
 
-    pub handed : (y : SeatModel) → PollsGrant x (polled.Handed y) → WaitsInTime s c lifo (Taken y)
-    handed y (d, flag, v, at, after, unit) =
+    pub came : (y : SeatModel) → PollsGrant x (polled.Handed y) → WaitsForUnit s c lifo y
+    came y (d, flag, v, at, after, unit) =
         let known = subst (λ (q : ℕ × Bool × WaitId). HasItsUnit q.0 q.2 y.sight.seen) (one_wait x c d lifo flag sleeps.0 v sleeps.1 at) unit in
-        inl (came_by sleeps.0 y (then_told sleeps.0 x y 0 1 [] sleeps.2 after) known)
+        came_by sleeps.0 y (then_told sleeps.0 x y 0 1 [] sleeps.2 after) known
+
+    pub handed : (y : SeatModel) → PollsGrant x (polled.Handed y) → WaitsInTime s c lifo (Taken y)
+    handed y z = inl (came y z)
+
+    pub holds : (y : SeatModel) → BeginsToGiveUp x y → HoldsLast s c lifo y
+    holds y (d, flag, v, at, leaving, after) =
+        let known = subst (λ (q : ℕ × Bool × WaitId). IsLeavingOn y q.0 q.1 q.2) (one_wait x c d lifo flag sleeps.0 v sleeps.1 at) leaving in
+        (sleeps.0, known, then_told sleeps.0 x y 0 0 [] sleeps.2 after)
 
     pub left : (y : SeatModel) → GivesUp x (gave_up.Left y) → WithdrewLast s c lifo y
     left y (d, flag, v, at, after) =
@@ -169,6 +190,28 @@ module _ (s : SeatModel) (c : ℕ) (lifo : Bool) where
         let before = then_told w y u 0 0 [] (then_told w x y 0 0 [] tries.1.2 (found_none y z).0) found.0 in
         (v, at, then_queued w v u t before (at.0 ∙ after.number ∙ number_is w 0 0 [] u before) after)
 
+    -- or tries and goes to the lock by one call
+    joins : (y : Entered) → TriesAgain x y → JoinsQueue x c lifo y
+    joins y (d, flag, at, joined) = subst (λ (q : ℕ × Bool). JoinsQueue x q.0 q.1 y) (one_try x c d lifo flag tries.0 at) joined
+
+    pub retakes : (y : SeatModel) → TriesAgain x (entered.Taken y) → WaitsForUnit s c lifo y
+    retakes y z = took_then w x y tries.1.2 (joins (entered.Taken y) z)
+
+    pub requeues : (y : SeatModel) → TriesAgain x (entered.Asleep y) → SleepsIn s c lifo y
+    requeues y z = by (joins (entered.Asleep y) z)
+      where
+        by : JoinsQueue x c lifo (entered.Asleep y) → SleepsIn s c lifo y
+        by (u, found, (v, on, after, last)) =
+            let before = then_told w x u 0 0 [] tries.1.2 found.0 in
+            (v, on, then_queued w v u y before (on.0 ∙ after.number ∙ number_is w 0 0 [] u before) after)
+
+  -- a seat that holds the lock, and sleeps on
+  module _ (l : SeatModel) (held : HoldsLast s c lifo l) where
+    pub sleeps_again : (t : SeatModel) → SleepsAgain l t → SleepsIn s c lifo t
+    sleeps_again t (d, flag, v, at, on, after) =
+        let known = subst (λ (q : ℕ × Bool × WaitId). IsWaitingOn t q.0 q.1 (Some q.2)) (one_leave l c d lifo flag held.0 v held.1 at) on in
+        (held.0, known, then_told held.0 l t 0 0 [] held.2 after)
+
   -- a seat that has withdrawn its wait, and tries
   pub withdrew_took : (x t : SeatModel) → WithdrewLast s c lifo x → IsSeatAfter x 0 1 (Take c x.number ∷ []) t → WaitsInTime s c lifo (Taken t)
   withdrew_took x t (w, q) y =
@@ -195,6 +238,13 @@ pub then_waits : (s u : SeatModel) (c : ℕ) (lifo : Bool) (answer : Acquired) �
 then_waits s u c lifo (Taken t) found waits = inr (u, found, waits)
 then_waits s u c lifo (TimedOut t) found waits = inr (u, found, waits)
 then_waits s u c lifo (LimitReached t) found waits = absurd waits
+
+-- a seat that comes back with the lock, or with a unit
+pub then_holds : (s u : SeatModel) (c : ℕ) (lifo : Bool) (answer : Result SeatModel SeatModel) → FindsNoUnit s c u
+    → MatchResult answer (λ taken. WaitsForUnit u c lifo taken) (λ leaving. HoldsLast u c lifo leaving)
+    → MatchResult answer (λ taken. AcquiresUnit s c lifo taken) (λ leaving. GivesUpHolding s c lifo leaving)
+then_holds s u c lifo (Ok t) found waits = inr (u, found, waits)
+then_holds s u c lifo (Err l) found holds = (u, found, holds)
 
 -- an acquire without a time
 pub untimed : (s t : SeatModel) (c : ℕ) (lifo : Bool) → AcquiresUnit s c lifo t → AcquiresInTime s c lifo (Taken t)

@@ -1,5 +1,5 @@
 -- The row that takes a lock, and what comes of it.
-use Rattle.std.proofs.Common.{◌≡◌, ◌≢◌, ℕ, ◌^◌, ◌≤◌, ◌==◌, Bool, true, false, if◌then◌else◌, List, [], ◌∷◌, length, slice_index, sym, refl, ap, ◌∙◌}
+use Rattle.std.proofs.Common.{◌≡◌, ◌≢◌, ℕ, ◌≤◌, ◌==◌, Bool, true, false, if◌then◌else◌, List, [], ◌∷◌, length, slice_index, sym, refl, ap, ◌∙◌}
 use Rattle.std.proofs.Common.{subst, arith, eq-eqb}
 use prog.Atomic.{either}
 use Rattle.waiters.specs.declared.wait.WaitId.{WaitId}

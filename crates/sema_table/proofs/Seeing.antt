@@ -1,5 +1,5 @@
 -- A look at a word changes nothing, and the seat sees what was told so far.
-use Rattle.std.proofs.Common.{◌≡◌, ℕ, ◌+◌, ◌^◌, ◌<◌, ◌≤◌, List, [], ◌∷◌, ◌++◌, length, slice_index, sym, refl, ap}
+use Rattle.std.proofs.Common.{◌≡◌, ℕ, ◌+◌, ◌<◌, ◌≤◌, List, [], ◌∷◌, ◌++◌, length, slice_index, sym, refl, ap}
 use Rattle.std.proofs.Common.{◌∙◌, subst, inl, arith, get_or-set_other}
 use Rattle.std.proofs.Common.{length-set}
 use lib.Seq.{set-get_or}

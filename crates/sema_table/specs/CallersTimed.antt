@@ -9,6 +9,7 @@ use Rattle.sema_table.specs.declared.answers.Acquired.{Acquired}
 use Rattle.sema_table.specs.declared.answers.Acquired.TheVariants.{Taken, TimedOut, LimitReached}
 use Rattle.sema_table.specs.Seats.{SeatModel}
 use Rattle.sema_table.specs.Callers.{IsSeatAfter, FindsNoUnit, WaitsForUnit, IsWaitingOn}
+use Rattle.sema_table.specs.CallersLeaving.{IsLeavingOn}
 
 -- the seat that comes back, whatever the answer
 abbrev pub seat_in : Acquired → SeatModel
@@ -58,3 +59,11 @@ AcquiresInTime s c lifo (Taken t) =
 AcquiresInTime s c lifo (TimedOut t) =
     FindsNoUnit s c t ⊎ ((u : SeatModel) × FindsNoUnit s c u × WaitsInTime u c lifo (TimedOut t))
 AcquiresInTime s c lifo (LimitReached t) = (t ≡ s) × (s.left ≡ 0)
+
+-- it holds the lock under which the last of its waits is queued
+abbrev pub HoldsLast : SeatModel → ℕ → Bool → SeatModel → Type 0
+HoldsLast s c lifo l = (w : WaitId) × IsLeavingOn l c lifo w × QueuesUpTo s c lifo w 0 0 [] l
+
+-- there was no unit, and the seat waited in vain so far
+abbrev pub GivesUpHolding : SeatModel → ℕ → Bool → SeatModel → Type 0
+GivesUpHolding s c lifo l = (u : SeatModel) × FindsNoUnit s c u × HoldsLast u c lifo l

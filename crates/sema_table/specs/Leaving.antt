@@ -3,7 +3,7 @@ use Rattle.std.specs.Prelude.{◌≡◌, ℕ, ◌-◌, ◌<◌, [], ◌∷◌}
 use Rattle.step_table.specs.declared.entry.Entry.TheVariants.{Withdraw}
 use Rattle.step_table.specs.declared.place.Acquire.{Acquire}
 use Rattle.step_table.specs.declared.place.AcquireRow.TheVariants.{Parked}
-use Rattle.step_table.specs.declared.place.ParkedRow.TheVariants.{P, D2}
+use Rattle.step_table.specs.declared.place.ParkedRow.TheVariants.{P, D2, D3, D5}
 use Rattle.step_table.specs.declared.place.Place.TheVariants.{Rest, Acquiring}
 use Rattle.step_table.specs.Counting.{wait}
 use Rattle.sema_table.specs.declared.answers.GaveUp.{GaveUp}
@@ -36,6 +36,36 @@ Leaves s (Coming t) = (u : SeatModel) × IsPolled s (polled.Still u) × LeavesAt
 Leaves s (Woken t) = IsPolled s (polled.Woken t)
 Leaves s (Handed t) = IsPolled s (polled.Handed t)
 Leaves s (LimitReached t) = IsPolled s (polled.Still t) × (s.left ≡ 0)
+
+-- no answer of a seat that has withdrawn its wait
+abbrev pub HasStayed : GaveUp → Type 0
+HasStayed (Left t) = ⊥
+HasStayed _ = Unit {0}
+
+-- at the lock, where its wait is queued
+abbrev pub GoesToLeave : SeatModel → SeatModel → Type 0
+GoesToLeave s l =
+    (l ≡ record s { sight = l.sight; strides = l.strides })
+    × ((a : Acquire) × (turn : ℕ) × IsAt s (Acquiring a (Parked turn P)) × ComesTo s (Acquiring a (Parked turn D3)) l
+    × RunsRows s (Acquiring a (Parked turn D2)) l [])
+
+-- the same after a look at its grant word, where nothing was
+abbrev pub BeginsToLeave : SeatModel → SeatModel → Type 0
+BeginsToLeave s l = (u : SeatModel) × IsPolled s (polled.Still u) × (0 < u.left) × GoesToLeave u l
+
+-- from there: it told that its own wait was withdrawn, has one unit less to spend, and rests
+abbrev pub EndsLeaving : SeatModel → SeatModel → Type 0
+EndsLeaving l t =
+    (0 < l.left) × (t ≡ record l { left = l.left - 1; sight = t.sight; strides = t.strides }) × ComesTo l Rest t
+    × ((a : Acquire) × (turn : ℕ) × IsAt l (Acquiring a (Parked turn D3))
+    × RunsRows l (Acquiring a (Parked turn D3)) t (Withdraw a.counter (wait l.number turn) ∷ []))
+
+-- or it told nothing, and is parked as it was
+abbrev pub StaysAsleep : SeatModel → SeatModel → Type 0
+StaysAsleep l t =
+    (t ≡ record l { sight = t.sight; strides = t.strides })
+    × ((a : Acquire) × (turn : ℕ) × IsAt l (Acquiring a (Parked turn D3)) × ComesTo l (Acquiring a (Parked turn P)) t
+    × RunsRows l (Acquiring a (Parked turn D5)) t [])
 
 -- nothing but looks: at the grant word, where nothing was, and at the lock, which was held
 abbrev pub StillParked : SeatModel → SeatModel → Type 0

@@ -13,6 +13,7 @@ pub mod Tries
 pub mod Outcomes
 pub mod AtLock
 pub mod Waking
+pub mod Leavers
 pub mod Leaving
 pub mod Whole
 pub mod ManySeats

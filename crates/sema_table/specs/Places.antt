@@ -24,10 +24,12 @@ IsFirst n (Releasing r R1) = r.counter < n
 IsFirst n (ReleasingMany r M1) = (r.counter < n) × (1 ≤ r.units) × (r.units ≤ 256)
 IsFirst n _ = ⊥
 
--- a release that goes to the lock chooses whether to hand its unit over, and a parked seat may give up
+-- a release that goes to the lock chooses whether to hand its unit over; a parked seat may give up, and once it
+-- has the lock sleep on after all
 abbrev pub Decides : Place → Place → Type 0
 Decides (Releasing r R3) (Releasing q R3) = r.counter ≡ q.counter
 Decides (Acquiring a (Parked turn P)) (Acquiring b (Parked t D2)) = (a ≡ b) × (turn ≡ t)
+Decides (Acquiring a (Parked turn D3)) (Acquiring b (Parked t D5)) = (a ≡ b) × (turn ≡ t)
 Decides _ _ = ⊥
 
 -- a seat of a table with n counters may run the row at `to`: it stands there, or comes there by its caller's

@@ -2,7 +2,8 @@
 use Rattle.std.specs.Prelude.{◌/◌, false}
 use mathlib.Core.Option.{Option, some}
 use Rattle.running_rows.specs.Table.{Step}
-use Rattle.step_table.specs.declared.place.AcquireRow.TheVariants.{A1}
+use Rattle.step_table.specs.declared.place.AcquireRow.TheVariants.{A1, Parked}
+use Rattle.step_table.specs.declared.place.ParkedRow.TheVariants.{D3, D5}
 use Rattle.step_table.specs.declared.place.ReleaseRow.TheVariants.{R1}
 use Rattle.step_table.specs.declared.place.ManyRow.TheVariants.{M1}
 use Rattle.step_table.specs.declared.place.Place.{Place}
@@ -24,6 +25,14 @@ at_add st = begin (Releasing (record { counter = st.word / 8; handoff = false })
 
 abbrev pub at_add_many : Step Record → Known → Known
 at_add_many st = begin (ReleasingMany (record { counter = st.word / 8; units = st.first }) M1)
+
+-- a seat that gives up and has the lock sleeps on after all
+abbrev pub stays : Place → Place
+stays (Acquiring a (Parked turn D3)) = Acquiring a (Parked turn D5)
+stays place = place
+
+abbrev pub at_stay : Step Record → Known → Known
+at_stay st v = begin (stays v.place) v
 
 -- the place that a step was told of
 abbrev pub place_told : Option Record → Place

@@ -10,12 +10,13 @@ ghost use Rattle.sema_table.specs.Seats.{Token, seat_of};
 ghost use Rattle.sema_table.specs.AtLock.{HasLocked};
 ghost use Rattle.sema_table.specs.Waking.{IsPolled};
 ghost use Rattle.sema_table.specs.Walks.{Stands, Holds, HasRecord, Walked, Moves, CanSpend, moved_to, sought_own};
-ghost use Rattle.sema_table.specs.Leaving.{Leaves, LeavesAtLock};
-ghost use Rattle.sema_table.specs.CallersLeaving.{GivesUp};
+ghost use Rattle.sema_table.specs.Leaving.{Leaves, LeavesAtLock, HasStayed, BeginsToLeave, GoesToLeave};
+ghost use Rattle.sema_table.specs.Leaving.{EndsLeaving, StaysAsleep};
+ghost use Rattle.sema_table.specs.CallersLeaving.{GivesUp, BeginsToGiveUp, EndsGivingUp, SleepsAgain};
 
 use crate::answers::{GaveUp, Polled};
-use crate::rows::Token;
-use crate::seat::{Numbers, Seat, Sleeping};
+use crate::rows::{AtStay, Token};
+use crate::seat::{Leaver, Numbers, Seat, Sleeping};
 use crate::sema_table::SemaTable;
 use running_rows::Here;
 use std::sync::Wait;
@@ -42,7 +43,7 @@ impl SemaTable {
     pub(crate) fn look_before(&self, sleeping: Sleeping) -> Result<Sleeping, GaveUp>
         requires { sleeping.table ≡ self.now }
         ensures { MatchResult result (λ asleep. IsPolled sleeping (Still asleep) × (0 < asleep.left))
-            (λ gave_up. Leaves sleeping gave_up) }
+            (λ gave_up. Leaves sleeping gave_up × HasStayed gave_up) }
     {
         match self.poll(sleeping) {
             Polled::Still(asleep) => {
@@ -73,6 +74,123 @@ impl SemaTable {
         let gave_up = self.leave_locked(token, numbers, &call, turn);
         self.rouse_after(&gave_up, call.counter);
         gave_up
+    }
+
+    /// The look and the lock of `leave`, for a caller that has to do more before the wait leaves: the seat has
+    /// the lock, if its wait is queued.
+    pub fn begin_leave<R: Wait>(&self, rt: &R, sleeping: Sleeping) -> Result<Leaver, GaveUp>
+        requires { sleeping.table ≡ self.now }
+        ensures rows { MatchResult result (λ leaving. BeginsToLeave sleeping leaving)
+            (λ gave_up. Leaves sleeping gave_up × HasStayed gave_up) }
+        ensures caller { MatchResult result (λ leaving. BeginsToGiveUp sleeping leaving)
+            (λ gave_up. GivesUp sleeping gave_up) }
+    {
+        match self.look_before(sleeping) {
+            Ok(asleep) => self.go_to_leave(rt, asleep),
+            Err(gave_up) => Err(gave_up),
+        }
+    }
+
+    #[inline(never)]
+    fn go_to_leave<R: Wait>(&self, rt: &R, asleep: Sleeping) -> Result<Leaver, GaveUp>
+        requires { (asleep.table ≡ self.now) × (0 < asleep.left) }
+        ensures { MatchResult result (λ leaving. GoesToLeave asleep leaving)
+            (λ gave_up. LeavesAtLock asleep gave_up × HasStayed gave_up) }
+    {
+        let Sleeping {
+            mut token,
+            numbers,
+            call,
+            turn,
+        } = asleep;
+        let place = Place::Acquiring(call, AcquireRow::Parked(turn, ParkedRow::D2));
+        self.lock(rt, &mut token, call.counter, &place);
+        let begun = self.begin_locked(token, numbers, &call, turn);
+        if let Err(gave_up) = &begun {
+            self.rouse_after(gave_up, call.counter);
+        }
+        begun
+    }
+
+    /// What follows D2: the seat with the lock, or the row that gives it back.
+    fn begin_locked(
+        &self,
+        token: Token,
+        numbers: Numbers,
+        call: &Acquire,
+        turn: u64,
+    ) -> Result<Leaver, GaveUp>
+        requires { (s : Token) × HasLocked self.now s numbers (Acquiring call.now (Parked turn D2)) token
+            × (s.me.0.own.knows.place ≡ Acquiring call.now (Parked turn P)) × (0 < numbers.left) }
+        ensures { (s : Token) → HasLocked self.now s numbers (Acquiring call.now (Parked turn D2)) token
+            → s.me.0.own.knows.place ≡ Acquiring call.now (Parked turn P)
+            → MatchResult result (λ leaving. GoesToLeave (seat_of s numbers) leaving)
+            (λ gave_up. LeavesAtLock (seat_of s numbers) gave_up × HasStayed gave_up) }
+    {
+        let mut token = token;
+        if self.holds_own(&mut token, call.counter, numbers.id()) {
+            return Ok(Leaver {
+                token,
+                numbers,
+                call: *call,
+                turn,
+            });
+        }
+        self.unlock_coming(&mut token, call, turn);
+        Err(GaveUp::Coming(Sleeping {
+            token,
+            numbers,
+            call: *call,
+            turn,
+        }))
+    }
+
+    /// Takes the wait of a seat that has begun to leave out of its queue, and gives the lock back.
+    pub fn end_leave(&self, giving_up: Leaver) -> Seat
+        requires { giving_up.table ≡ self.now }
+        ensures rows { EndsLeaving giving_up result }
+        ensures caller { EndsGivingUp giving_up result }
+    {
+        let Leaver {
+            mut token,
+            numbers,
+            call,
+            turn,
+        } = giving_up;
+        let withdrew = self.withdraw(&mut token, numbers.id(), &call, turn);
+        if !withdrew {
+            unreachable!()
+        }
+        self.unlock_left(&mut token, &call);
+        self.rouse_at_lock(&token, call.counter);
+        let numbers = Numbers {
+            left: numbers.left - 1,
+            withdrawn: numbers.withdrawn + 1,
+            ..numbers
+        };
+        Seat { token, numbers }
+    }
+
+    /// Gives the lock back, and the wait of a seat that has begun to leave stays queued: the seat sleeps on.
+    pub fn stay_asleep(&self, giving_up: Leaver) -> Sleeping
+        requires { giving_up.table ≡ self.now }
+        ensures rows { StaysAsleep giving_up result }
+        ensures caller { SleepsAgain giving_up result }
+    {
+        let Leaver {
+            mut token,
+            numbers,
+            call,
+            turn,
+        } = giving_up;
+        self.unlock_staying(&mut token, &call, turn);
+        self.rouse_at_lock(&token, call.counter);
+        Sleeping {
+            token,
+            numbers,
+            call,
+            turn,
+        }
     }
 
     /// The rows after D2, up to the one that gives the lock back.
@@ -139,6 +257,16 @@ impl SemaTable {
     {
         let word = self.lock_word(call.counter);
         self.words.return_lock(token, word);
+    }
+
+    /// D5 where D3 might be run.
+    fn unlock_staying(&self, token: &mut Token, call: &Acquire, turn: u64)
+        requires { Holds self.now token.old (Acquiring call.now (Parked turn D3)) }
+        ensures { Moves token.old (Acquiring call.now (Parked turn D5)) token.new
+            (Acquiring call.now (Parked turn P)) × (token.new.me.1 ≡ []) }
+    {
+        let word = self.lock_word(call.counter);
+        self.words.return_lock_from::<AtStay>(token, word);
     }
 
     /// D5. Asleep again, and not at rest: the grant would be stored for the seat's next sleep.

@@ -9,9 +9,13 @@
 //! a seat that sleeps gives up, and takes its own wait out of the queue; [`SemaTable::acquire_until`] and
 //! [`SemaTable::acquire_for`] do so once a time is over. [`SemaTable::post`] adds a unit, and
 //! [`SemaTable::wake`] takes the first wait out and grants it. [`SemaTable::release_many`] does the same for
-//! many units, and for as many waits; its parts are [`SemaTable::post_many`] and [`SemaTable::wake_some`]. A caller that must not wait, as a scheduler, has [`SemaTable::try_enter`],
-//! [`SemaTable::try_leave`], [`SemaTable::retry_at_once`], [`SemaTable::try_wake`] and
-//! [`SemaTable::try_wake_some`]: where a lock stays held the seat comes back as it was. A [`TaskTable`] is
+//! many units, and for as many waits; its parts are [`SemaTable::post_many`] and [`SemaTable::wake_some`].
+//! Where more is to be done under the lock before a wait leaves, as for a wait group,
+//! [`SemaTable::acquire_or_begin_leave`] hands out the lock in a [`Leaver`]; [`SemaTable::begin_leave`],
+//! [`SemaTable::end_leave`] and [`SemaTable::stay_asleep`] are the parts of that. A caller that must not wait, as
+//! a scheduler, has [`SemaTable::try_enter`], [`SemaTable::try_leave`], [`SemaTable::retry_at_once`],
+//! [`SemaTable::try_wake`] and [`SemaTable::try_wake_some`]: where a lock stays held the seat comes back as it
+//! was. A [`TaskTable`] is
 //! for tasks whose threads somebody else parks: none of its calls waits or calls the kernel, and its seats
 //! are of one type wherever they stand. [`SemaTable::spin`] looks for a unit for a while, as a lock does
 //! before it acquires; it takes none, and nothing is promised of it. By [`SemaTable::meet`] two seats come
@@ -36,6 +40,7 @@ mod answers;
 mod attempts;
 mod closed;
 mod closing;
+mod giving_up;
 mod laws;
 mod leaves;
 mod locks;
@@ -73,7 +78,7 @@ pub use answers::{
 pub use closed::Closed;
 pub use laws::law_of_the_table;
 pub use many_seat::{OwingMany, PostedMany};
-pub use seat::{Owing, Seat, Sleeping, Woken};
+pub use seat::{Leaver, Owing, Seat, Sleeping, Woken};
 pub use sema_table::SemaTable;
 pub use settings::Settings;
 pub use setup_error::SetupError;

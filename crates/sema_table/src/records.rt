@@ -61,4 +61,19 @@ impl SemaTable {
         };
         root.withdraw(counter, seat).is_some()
     }
+
+    /// Whether the wait of a seat is in the list of a counter.
+    pub(crate) fn holds_own(&self, token: &mut Token, counter: CounterId, seat: SeatId) -> bool
+        requires { (table_of token.old ≡ self.now) × HasRecord token.old counter
+            × (counter < length self.now.setting.starts) }
+        ensures found { result ≡ stands_in seat (lists_of token.old counter) }
+        ensures same { (token.new.table_id ≡ token.old.table_id) × (token.new.me.0 ≡ token.old.me.0) }
+        ensures has_record { HasRecord token.new counter }
+    {
+        let slot = self.root_of(counter);
+        let Record::Root(root) = Running::record_mut(token, &self.words, slot) else {
+            unreachable!()
+        };
+        root.holds(counter, seat)
+    }
 }

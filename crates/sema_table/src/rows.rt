@@ -1,6 +1,6 @@
 //! The rows of a table, and where each step begins.
 ghost use Rattle.sema_table.specs.Rows.{semaphore_rows};
-ghost use Rattle.sema_table.specs.Starts.{at_try, at_add, at_add_many, at_said};
+ghost use Rattle.sema_table.specs.Starts.{at_try, at_add, at_add_many, at_stay, at_said};
 
 use crate::settings::Settings;
 use crate::stride::Stride;
@@ -36,6 +36,13 @@ pub struct AtAddMany;
 
 impl Start<Record, Known> for AtAddMany {
     ghost at = { at_add_many };
+}
+
+/// The row that gives the lock back of a seat that sleeps on after all.
+pub struct AtStay;
+
+impl Start<Record, Known> for AtStay {
+    ghost at = { at_stay };
 }
 
 /// The row at the place that the step is told of.

@@ -58,6 +58,15 @@ pub struct Sleeping {
     pub(crate) turn: u64,
 }
 
+/// A seat that gives up and holds its root's lock, in which its wait is queued. It must be spent, by `end_leave`
+/// or `stay_asleep`.
+pub struct Leaver {
+    pub(crate) token: Token,
+    pub(crate) numbers: Numbers,
+    pub(crate) call: Acquire,
+    pub(crate) turn: u64,
+}
+
 /// A seat that was woken without a unit. It must be spent, by `retry`.
 pub struct Woken {
     pub(crate) token: Token,
@@ -93,6 +102,17 @@ impl Model for Sleeping {
     ghost view = { λ s. seat_of s.token s.numbers };
 
     ghost invariant = { λ s. IsSleeping s.token s.numbers s.call s.turn };
+}
+
+impl Model for Leaver {
+    ghost use Rattle.sema_table.specs.Seats.{SeatModel, seat_of};
+    ghost use Rattle.sema_table.specs.Leavers.{IsLeaving};
+
+    ghost Value = { SeatModel };
+
+    ghost view = { λ s. seat_of s.token s.numbers };
+
+    ghost invariant = { λ s. IsLeaving s.token s.numbers s.call s.turn };
 }
 
 impl Model for Woken {

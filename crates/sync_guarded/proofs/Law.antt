@@ -8,9 +8,11 @@ use Rattle.running_rows.specs.History.{SeatStride, strides_of}
 use Rattle.running_rows.specs.Rule.{In, IsSeated, Sits, IsKept}
 use Rattle.sync_guarded.specs.declared.view.GuardKnown.{GuardKnown}
 use Rattle.sync_guarded.specs.declared.view.GuardCall.{GuardCall}
-use Rattle.sync_guarded.specs.Rule.{Place, home, lent, is_with, holds_after, LiesAt, guard_rows}
+use Rattle.sync_guarded.specs.declared.view.GuardDeed.{GuardDeed}
+use Rattle.sync_guarded.specs.declared.view.GuardDeed.TheVariants.{Locked, Unlocked, Looked}
+use Rattle.sync_guarded.specs.Rule.{Place, home, lent, is_with, holds_after, turn_of, turns_of, LiesAt, guard_rows}
 use Rattle.sync_guarded.specs.Law.{WordState, IsSeatAt, IsOfASeat, TheGuard}
-use Rattle.sync_guarded.proofs.Turns.{holds_is, lent_to}
+use Rattle.sync_guarded.proofs.Turns.{holds_is, holds_by_turns, lent_to}
 
 -- a call in the history is one of those of its seat
 in_strides : {T : Type 0} (m : SeatStride (GuardCall T)) (history : List (SeatStride (GuardCall T))) → In m history → In m.stride (strides_of m.seat history)
@@ -23,6 +25,18 @@ in_strides {T} m (n ∷ history) h = by (in_strides m history) (n.seat == m.seat
     by later true e (inr q) = inr (later q)
     by later false e (inl q) = let yes = eq-eqb n.seat m.seat (ap (λ (k : SeatStride (GuardCall T)). k.seat) q) in absurd (cc)
     by later false e (inr q) = later q
+
+-- what a seat locked or unlocked is of all that it did
+of_turns : {T : Type 0} (c : GuardCall T) (calls : List (GuardCall T)) → In c (turns_of calls) → In c calls
+of_turns c [] h = h
+of_turns {T} c (d ∷ calls) h = by d.deed (of_turns c calls) h
+  where
+    by : (deed : GuardDeed) → (In c (turns_of calls) → In c calls) → In c (turn_of deed d (turns_of calls)) → In c (d ∷ calls)
+    by Locked later (inl e) = inl e
+    by Locked later (inr q) = inr (later q)
+    by Unlocked later (inl e) = inl e
+    by Unlocked later (inr q) = inr (later q)
+    by (Looked has held) later q = inr (later q)
 
 abbrev lent_is : {T : Type 0} → Place T → ℕ
 lent_is (home x) = 0
@@ -37,7 +51,7 @@ module _ {T : Type 0} (seats : ℕ) (s : WordState T) (r : IsKept guard_rows sea
 
   -- it holds the lock by its calls just where the value is with it
   has_it : (place : ℕ) (u : Seated (GuardKnown T) (GuardCall T)) → IsSeatAt s place u → holds_after false u.gone ≡ is_with u.number r.world.at
-  has_it place u o = ap (holds_after false) (sym (sits place u o).knows.own) ∙ holds_is u.number (home r.world.first) r.world.at r.world.history r.shows.in_turns
+  has_it place u o = sym (holds_by_turns false u.gone) ∙ ap (holds_after false) (sym (sits place u o).knows.own) ∙ holds_is u.number (home r.world.first) r.world.at r.world.history r.shows.in_turns
 
   one_has_it : (i k : ℕ) → is_with i r.world.at ≡ true → is_with k r.world.at ≡ true → i ≡ k
   one_has_it i k e d = ap lent_is (sym (lent_to i r.world.at e) ∙ lent_to k r.world.at d)
@@ -59,7 +73,7 @@ module _ {T : Type 0} (seats : ℕ) (s : WordState T) (r : IsKept guard_rows sea
           seat = u;
           sits = at;
           number = e;
-          made = subst (In m.stride) ((sits (r.spot m.seat) u at).knows.own) (subst (λ n. In m.stride (strides_of n r.world.history)) (sym e) made_it);
+          made = of_turns m.stride u.gone (subst (In m.stride) ((sits (r.spot m.seat) u at).knows.own) (subst (λ n. In m.stride (strides_of n r.world.history)) (sym e) made_it));
         } in ⊎_elim
         (λ e. of o.0.own (record { view = o.0; at = o.1; someones = o.2; sits = inl refl }) e)
         (λ g. of g.0 (record { view = o.0; at = o.1; someones = o.2; sits = inr g.1 }) g.2)

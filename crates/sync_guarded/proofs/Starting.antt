@@ -12,7 +12,7 @@ use Rattle.sync_guarded.specs.Making.{new_seat}
 
 pub opens : {T : Type 0} (seats : ℕ) (x : T) → 0 < seats → Opens guard_rows seats (0 ∷ 0 ∷ []) (slot.some x ∷ [])
 opens seats x some_seats = record {
-  world = record { word = 0; holds = λ k. false; first = x; at = home x; history = [] };
+  world = record { word = 0; first = x; at = home x; history = [] };
   shows = record { word_is = refl; wide = refl; lies = (refl, refl); in_turns = refl; there = λ m h. absurd h };
   unwritten = refl;
   unmade = λ n low. record { own = refl; holds = refl };

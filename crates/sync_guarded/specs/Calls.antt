@@ -1,8 +1,22 @@
 -- What the calls of a guard promise.
-use Rattle.std.specs.Prelude.{◌≡◌, Some, None, List, [], ◌∷◌, ◌++◌}
+use Rattle.std.specs.Prelude.{◌≡◌, true, false, Some, None, List, [], ◌∷◌, ◌++◌}
+use Rattle.sync_parts.specs.declared.locker_call.LockerCall.{LockerCall}
+use Rattle.sync_parts.specs.declared.locker_call.LockerCall.TheVariants as call
+use Rattle.sync_guarded.specs.declared.view.GuardDeed.{GuardDeed}
+use Rattle.sync_guarded.specs.declared.view.GuardDeed.TheVariants.{Locked, Unlocked, Looked}
 use Rattle.sync_guarded.specs.declared.view.GuardCall.{GuardCall}
-use Rattle.sync_guarded.specs.Rule.{locked, unlocked}
+use Rattle.sync_guarded.specs.Rule.{locked, unlocked, looked}
 use Rattle.sync_guarded.specs.Seats.{SeatModel, GuardModel}
+
+-- what a seat did, as a locker has it: looks are none of its calls
+abbrev pub locker_call : GuardDeed → List LockerCall → List LockerCall
+locker_call Locked calls = call.Locked ∷ calls
+locker_call Unlocked calls = call.Unlocked ∷ calls
+locker_call (Looked has held) calls = calls
+
+abbrev pub locker_calls : {T : Type 0} → List (GuardCall T) → List LockerCall
+locker_calls [] = []
+locker_calls (c ∷ calls) = locker_call c.deed (locker_calls calls)
 
 module _ {T : Type 0} where
   -- the seat after these calls
@@ -18,6 +32,10 @@ module _ {T : Type 0} where
     pub value : T
     pub seat : h.seat ≡ having_called g.seat (locked value ∷ [])
     pub lent : h.lent ≡ Some value
+
+  -- it holds nothing, as before, and its last look found the lock held
+  abbrev pub HasFoundHeld : GuardModel T → GuardModel T → Type 0
+  HasFoundHeld g h = (h.seat ≡ having_called g.seat (looked false true ∷ [])) × (h.lent ≡ g.lent)
 
   -- it unlocked, and gave back the value that was lent to it
   pub record HasUnlocked (g h : GuardModel T) : Type 0 where

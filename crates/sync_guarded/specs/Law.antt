@@ -10,7 +10,7 @@ use Rattle.running_rows.specs.History.{SeatStride, strides_of}
 use Rattle.running_rows.specs.Rule.{In}
 use Rattle.sync_guarded.specs.declared.view.GuardKnown.{GuardKnown}
 use Rattle.sync_guarded.specs.declared.view.GuardCall.{GuardCall}
-use Rattle.sync_guarded.specs.Rule.{Place, home, InTurns, is_with, holds_after, LiesAt}
+use Rattle.sync_guarded.specs.Rule.{Place, home, InTurns, is_with, holds_after, turns_of, LiesAt}
 
 abbrev pub WordState : Type 0 → Type 0
 WordState T = State T (View (GuardKnown T) (GuardCall T))
@@ -44,7 +44,7 @@ pub record IsLawfulGuard {T : Type 0} (s : WordState T) : Type 0 where
   pub lies : LiesAt at (slice_index s.words 0) s.homes
   pub each : (m : SeatStride (GuardCall T)) → In m history → IsOfASeat s m
   pub own : (place : ℕ) (u : Seated (GuardKnown T) (GuardCall T)) → IsSeatAt s place u
-      → (strides_of u.number history ≡ u.gone) × (holds_after false u.gone ≡ is_with u.number at)
+      → (strides_of u.number history ≡ turns_of u.gone) × (holds_after false u.gone ≡ is_with u.number at)
   pub one : (place other : ℕ) (u w : Seated (GuardKnown T) (GuardCall T))
       → IsSeatAt s place u → IsSeatAt s other w
       → holds_after false u.gone ≡ true → holds_after false w.gone ≡ true → u.number ≡ w.number

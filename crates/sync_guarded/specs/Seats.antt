@@ -15,7 +15,7 @@ pub record IsLaid (id : TableId) (seats : ℕ) : Type 0 where
   pub slots : id.slots ≡ 1
   pub some : 0 < seats
 
--- a seat of a guarded value: its number, and all that it has locked and unlocked, with the value of each call
+-- a seat of a guarded value: its number, and all that it did, with the value that moved by it
 pub record SeatModel (T : Type 0) : Type 0 where
   pub guarded : GuardedModel
   pub number : ℕ

@@ -1,14 +1,15 @@
 //! A guard: a seat at a guarded value, which locks, is lent the value, and unlocks.
-ghost use Rattle.std.specs.Prelude.{◌≡◌, true, false};
+ghost use Rattle.std.specs.Prelude.{◌≡◌, true, false, MatchBool};
 ghost use Rattle.std.specs.Fn.{FnOnceReturnsAtMut};
 ghost use Rattle.sync_guarded.specs.Seats.{is_held};
-ghost use Rattle.sync_guarded.specs.Calls.{new_guard, HasLocked, HasUnlocked, HasLent, HasHeld};
+ghost use Rattle.sync_guarded.specs.Calls.{new_guard, HasLocked, HasFoundHeld, HasUnlocked, HasLent, HasHeld};
 
 use crate::guarded::{GuardSeat, Guarded};
 use crate::rows::GuardToken;
 use notify_list::{Holding, ListSeat};
 use std::marker::Model;
 use std::sync::Wait;
+use std::time::{Clock, Duration, Instant};
 use sync_parts::Locker;
 
 /// Who locks a guarded value. While it holds the lock, the value is lent to it, and to nobody else.
@@ -58,6 +59,51 @@ impl<'g, T> Guard<'g, T> {
         let guarded = self.guarded;
         guarded.lock_patiently(rt, &mut self.token);
         self.held = true;
+    }
+
+    /// Locks until a time: whether it did. A time that has passed tries a few times.
+    pub fn try_lock_until<R: Wait + Clock>(&mut self, rt: &R, deadline: Instant) -> bool
+        requires { is_held self.old ≡ false }
+        ensures { MatchBool result (HasLocked self.old self.new) (HasFoundHeld self.old self.new) }
+    {
+        self.try_lock_in_time(rt, Some(deadline))
+    }
+
+    /// The same for so long.
+    pub fn try_lock_for<R: Wait + Clock>(&mut self, rt: &R, longest: Duration) -> bool
+        requires { is_held self.old ≡ false }
+        ensures { MatchBool result (HasLocked self.old self.new) (HasFoundHeld self.old self.new) }
+    {
+        let Ok(now) = Instant::now(rt) else {
+            return self.try_lock();
+        };
+        let Some(deadline) = now.checked_add(longest) else {
+            // No clock reads so late a time.
+            self.acquire(rt);
+            return true;
+        };
+        self.try_lock_in_time(rt, Some(deadline))
+    }
+
+    fn try_lock_in_time<R: Wait + Clock>(&mut self, rt: &R, deadline: Option<Instant>) -> bool
+        requires { is_held self.old ≡ false }
+        ensures { MatchBool result (HasLocked self.old self.new) (HasFoundHeld self.old self.new) }
+    {
+        let guarded = self.guarded;
+        let took = guarded.lock_until(rt, &mut self.token, deadline);
+        self.held = took;
+        took
+    }
+
+    /// Locks where it finds the lock free within some tries: whether it did. It never waits.
+    pub fn try_lock(&mut self) -> bool
+        requires { is_held self.old ≡ false }
+        ensures { MatchBool result (HasLocked self.old self.new) (HasFoundHeld self.old self.new) }
+    {
+        let guarded = self.guarded;
+        let took = guarded.try_lock(&mut self.token);
+        self.held = took;
+        took
     }
 
     /// The same by one whom a wait brings back beside others: breaks of all of them would keep the processors
@@ -114,9 +160,10 @@ impl<'g, T> Guard<'g, T> {
 }
 
 impl<'g, T> Locker for Guard<'g, T> {
-    ghost use Rattle.std.specs.Prelude.{◌-◌, ◌^◌, map};
+    ghost use Rattle.std.specs.Prelude.{◌-◌, ◌^◌};
+    ghost use Rattle.sync_guarded.specs.Calls.{locker_calls};
 
-    ghost calls = { λ g. map (λ c. c.call) g.seat.calls };
+    ghost calls = { λ g. locker_calls g.seat.calls };
 
     ghost is_held = { λ g. is_held g };
 

@@ -11,8 +11,9 @@
 //! meanwhile.
 //!
 //! A guarded value has 1 to 65,536 seats, and [`Guarded::with_seats`] takes all memory that it ever takes.
-//! `acquire` and `hold` may wait for the lock: they look for a while, and then sleep in the kernel. All other
-//! calls end. A guard that is dropped while it holds the lock keeps the value.
+//! `acquire` and `hold` may wait for the lock: they look for a while, and then sleep in the kernel;
+//! [`Guard::try_lock_until`] and [`Guard::try_lock_for`] do so until a time, and [`Guard::try_lock`] doesn't wait.
+//! All other calls end. A guard that is dropped while it holds the lock keeps the value.
 #![tactic(auto)]
 
 mod guard;

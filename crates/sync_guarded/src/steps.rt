@@ -1,13 +1,14 @@
 //! The steps of a guarded value.
-ghost use Rattle.std.specs.Prelude.{true, false};
+ghost use Rattle.std.specs.Prelude.{true, false, MatchBool};
 ghost use Rattle.std.specs.Fn.{FnOnceReturnsAtMut};
 ghost use Rattle.sync_guarded.specs.Seats.{guard_of, IsGuard};
-ghost use Rattle.sync_guarded.specs.Calls.{HasLocked, HasUnlocked, HasLent};
+ghost use Rattle.sync_guarded.specs.Calls.{HasLocked, HasFoundHeld, HasUnlocked, HasLent};
 
 use crate::guarded::{Guarded, LOCK, SLEEPERS, VALUE};
 use crate::rows::GuardToken;
 use running_rows::{Here, Running};
 use std::sync::Wait;
+use std::time::{Clock, Instant};
 
 impl<T> Guarded<T> {
     /// Takes the lock, and the value out of its slot. While another has it, it makes breaks before it sleeps.
@@ -27,6 +28,37 @@ impl<T> Guarded<T> {
         ensures locked { HasLocked (guard_of token.old) (guard_of token.new) }
     {
         self.words.take_lock::<Here, R>(rt, token, LOCK, SLEEPERS);
+    }
+
+    /// The same until the deadline, or where there is none at once; and else a look that found the lock held.
+    pub(crate) fn lock_until<R: Wait + Clock>(
+        &self,
+        rt: &R,
+        token: &mut GuardToken<T>,
+        deadline: Option<Instant>,
+    ) -> bool
+        requires { IsGuard self.now token.old false }
+        ensures own { IsGuard self.now token.new result }
+        ensures tried { MatchBool result (HasLocked (guard_of token.old) (guard_of token.new))
+            (HasFoundHeld (guard_of token.old) (guard_of token.new)) }
+    {
+        if self
+            .words
+            .take_lock_until::<Here, R>(rt, token, LOCK, SLEEPERS, deadline)
+        {
+            return true;
+        }
+        self.try_lock(token)
+    }
+
+    /// The same where the lock is found free within some tries, and else a look that found it held.
+    pub(crate) fn try_lock(&self, token: &mut GuardToken<T>) -> bool
+        requires { IsGuard self.now token.old false }
+        ensures own { IsGuard self.now token.new result }
+        ensures tried { MatchBool result (HasLocked (guard_of token.old) (guard_of token.new))
+            (HasFoundHeld (guard_of token.old) (guard_of token.new)) }
+    {
+        self.words.try_lock::<Here>(token, LOCK)
     }
 
     /// Gives the lock back, and the value with it.

@@ -15,15 +15,14 @@ use Rattle.step_table.specs.declared.standing.GroupRow.{GroupRow}
 use Rattle.step_table.specs.declared.standing.GroupRow.TheVariants.{G1, G2, G3, V1, V2, V3, V4, V5}
 use Rattle.step_table.specs.declared.standing.GroupNext.{GroupNext}
 use Rattle.step_table.specs.declared.standing.GroupNext.TheVariants.{Ends, Goes, Fails, Acquires, Releases, SleepsOn, Withdraws}
-use Rattle.step_table.specs.declared.standing.Ending.TheVariants.{NextCall}
 use Rattle.step_table.specs.Group.{group_row, plus, same_word}
-use Rattle.step_table.specs.GroupBits.{bits_of, word_in, high, bits_after, IsGroupWord}
+use Rattle.step_table.specs.GroupBits.{bits_of, word_in, high, bits_after, ComparesWord, IsGroupWord}
 use Rattle.step_table.proofs.GroupBits.{the_group_words}
 use Rattle.running_rows.specs.Strides.{RanRow, here, runs_access, runs_store}
 use Rattle.running_rows.specs.Owing.{Owes}
 use Rattle.sync_parts.specs.declared.group_view.GroupKnown.{GroupKnown}
 use Rattle.sync_parts.specs.GroupRule.{Follows, group_rows}
-use Rattle.sync_parts.specs.GroupPlays.{Me, Token, Steps, step, stepped, load_row, at_row, at_add, at_load}
+use Rattle.sync_parts.specs.GroupPlays.{Me, Token, Steps, step, stepped, load_row, given_up, at_row, at_add, at_load, at_leave}
 use Rattle.sync_parts.proofs.GroupKeeping.{owes, led}
 
 -- what was added to the high half is d
@@ -60,25 +59,31 @@ load_owes seats slots m follows =
     owes seats m (load_row m.0.own.knows.next) follows (λ n. n) (λ n below. load_keeps m.0.own.knows.next (word_in n))
     (at_load (atomic.step slots 0 0 0 none)) refl
 
+pub leave_owes : (seats slots : ℕ) (m : Me) → Follows m.0.own.knows.next (V4 given_up)
+    → Owes group_rows seats m 0 (λ n. n) (runs_access group_rows at_leave (atomic.step slots 0 0 0 none) m)
+leave_owes seats slots m follows =
+    owes seats m (V4 given_up) follows (λ n. n) (λ n below. refl) (at_leave (atomic.step slots 0 0 0 none)) refl
+
 -- a seat that goes to a row is at it
 standing : (row : GroupRow) (v : GroupKnown) → v.next ≡ Goes row → v ≡ at_row row v
 standing row v e i = record v { next = e i }
 
-pub exchange_owes : (seats slots : ℕ) (m : Me) (seen : GroupWord) (old new : ℕ) → IsGroupWord seen → m.0.own.knows.next ≡ Goes (V2 NextCall seen)
-    → old ≡ bits_of seen → new ≡ (old + 1) % 18446744073709551616
-    → Owes group_rows seats m 0 (λ n. either (n == old) new n) (runs_access group_rows (λ st. here) (atomic.step slots 0 old new none) m)
-exchange_owes seats slots m seen old new is at old_is new_is =
-    owes seats m (V2 NextCall seen) (subst (λ (k : GroupNext). Follows k (V2 NextCall seen)) (sym at) refl) (λ n. either (n == old) new n)
-    (λ n below. ap word_in (exchanged n old new (λ y. y ≡ bits_after (V2 NextCall seen) n) (won n) (lost n)) ∙ the_group_words.shown n (V2 NextCall seen) below is)
-    here (standing (V2 NextCall seen) m.0.own.knows at)
-  where
-    won : (n : ℕ) → n ≡ old → new ≡ bits_after (V2 NextCall seen) n
-    won n e = new_is ∙ ap (λ (k : ℕ). (k + 1) % 18446744073709551616) (sym e)
-        ∙ ap (λ (b : Bool). if b then (n + 1) % 18446744073709551616 else n) (sym (eq-eqb n (bits_of seen) (e ∙ old_is)))
+-- an exchange of this row, for the bits of the word that was seen
+module _ (row : GroupRow) (seen : GroupWord) (change : ℕ → ℕ) (compares : ComparesWord row)
+    (after : (n : ℕ) → bits_after row n ≡ (if n == bits_of seen then change n else n)) where
+  pub exchange_owes : (seats slots : ℕ) (m : Me) (old new : ℕ) → m.0.own.knows.next ≡ Goes row → old ≡ bits_of seen → new ≡ change old
+      → Owes group_rows seats m 0 (λ n. either (n == old) new n) (runs_access group_rows (λ st. here) (atomic.step slots 0 old new none) m)
+  exchange_owes seats slots m old new at old_is new_is =
+      owes seats m row (subst (λ (k : GroupNext). Follows k row) (sym at) refl) (λ n. either (n == old) new n)
+      (λ n below. ap word_in (exchanged n old new (λ y. y ≡ bits_after row n) (won n) (lost n)) ∙ the_group_words.shown n row below compares)
+      here (standing row m.0.own.knows at)
+    where
+      won : (n : ℕ) → n ≡ old → new ≡ bits_after row n
+      won n e = new_is ∙ ap change (sym e)
+          ∙ ap (λ (b : Bool). if b then change n else n) (sym (eq-eqb n (bits_of seen) (e ∙ old_is))) ∙ sym (after n)
 
-    lost : (n : ℕ) → n ≢ old → n ≡ bits_after (V2 NextCall seen) n
-    lost n ne = ap (λ (b : Bool). if b then (n + 1) % 18446744073709551616 else n)
-        (sym (ne_eqb n (bits_of seen) (λ e. ne (e ∙ sym old_is))))
+      lost : (n : ℕ) → n ≢ old → n ≡ bits_after row n
+      lost n ne = ap (λ (b : Bool). if b then change n else n) (sym (ne_eqb n (bits_of seen) (λ e. ne (e ∙ sym old_is)))) ∙ sym (after n)
 
 pub store_owes : (seats slots : ℕ) (m : Me) (seen : GroupWord) → m.0.own.knows.next ≡ Goes (G3 seen)
     → Owes group_rows seats m 0 (λ _. 0) (λ _. runs_store group_rows (λ st. here) (atomic.step slots 0 0 0 none) m 0)

@@ -52,16 +52,46 @@ free_look (Fails misuse) e = (refl, tt)
 free_look (Acquires ending) e = absurd (cc)
 free_look (Releases n) e = (refl, tt)
 free_look (SleepsOn how) e = absurd (cc)
-free_look (Withdraws how) e = absurd (cc)
+free_look (Withdraws how) e = (refl, tt)
+
+-- these rows ran from the first on, and the seat goes to another
+pub record HasCome (s : Token) (first : GroupRow) (steps : List GroupStep) (row : GroupRow) (t : Token) : Type 0 where
+  pub table_is : t.table_id ≡ s.table_id
+  pub number_is : t.me.0.own.number ≡ s.me.0.own.number
+  pub seats_is : t.me.0.own.knows.seats ≡ s.me.0.own.knows.seats
+  pub steps_are : t.me.0.own.gone ≡ s.me.0.own.gone ++ steps
+  pub path : (number : ℕ) → Walks number first steps (Goes row)
+
+pub begins_at : (s : Token) (row : GroupRow) → HasCome s row [] row s
+begins_at s row = record {
+  table_is = refl;
+  number_is = refl;
+  seats_is = refl;
+  steps_are = sym (append-nil s.me.0.own.gone);
+  path = λ number. refl;
+}
+
+pub come_by : {s t : Token} {first row : GroupRow} {steps : List GroupStep} → Walked s first steps (Goes row) t → HasCome s first steps row t
+come_by x = record { table_is = x.table_is; number_is = x.number_is; seats_is = x.seats_is; steps_are = x.steps_are; path = x.path }
+
+-- and runs it
+pub runs_on : (s t u : Token) (first row : GroupRow) (steps : List GroupStep) → HasCome s first steps row t → (found : GroupWord)
+    → Steps t row found u → (next : GroupNext) → (group_row row found).1 ≡ next → Walked s first (steps ++ step row found ∷ []) next u
+runs_on s t u first row steps x found y next leads = record {
+  table_is = y.table_is ∙ x.table_is;
+  number_is = ap (λ (m : Me). m.0.own.number) y.me_is ∙ x.number_is;
+  seats_is = ap (λ (m : Me). m.0.own.knows.seats) y.me_is ∙ x.seats_is;
+  steps_are = ap (λ (m : Me). m.0.own.gone) y.me_is ∙ ap (λ (l : List GroupStep). l ++ step row found ∷ []) x.steps_are
+      ∙ append_assoc s.me.0.own.gone steps (step row found ∷ []);
+  next_is = ap (λ (m : Me). m.0.own.knows.next) y.me_is ∙ leads;
+  path = λ number. subst (λ (k : GroupNext). Walks number first (steps ++ step row found ∷ []) k) leads
+      (walks_more number first steps row found y.word (x.path number));
+}
 
 -- a wait is to look, after exchanges that were lost
 pub record LooksOn (s : Token) (first : GroupRow) (t : Token) : Type 0 where
   pub before : List GroupStep
-  pub table_is : t.table_id ≡ s.table_id
-  pub number_is : t.me.0.own.number ≡ s.me.0.own.number
-  pub seats_is : t.me.0.own.knows.seats ≡ s.me.0.own.knows.seats
-  pub steps_are : t.me.0.own.gone ≡ s.me.0.own.gone ++ before
-  pub path : (number : ℕ) → Walks number first before (Goes (V1 NextCall))
+  pub come : HasCome s first before (V1 NextCall) t
   pub look : load_row t.me.0.own.knows.next ≡ V1 NextCall
 
 -- a wait has found this word, and is to be counted in it
@@ -85,16 +115,7 @@ module _ (s : Token) (first : GroupRow) (t u : Token) (x : LooksOn s first t) (w
   looked = subst (λ (row : GroupRow). Steps t row word u) x.look y
 
   looks : (next : GroupNext) → (group_row (V1 NextCall) word).1 ≡ next → Walked s first (x.before ++ step (V1 NextCall) word ∷ []) next u
-  looks next leads = record {
-    table_is = looked.table_is ∙ x.table_is;
-    number_is = ap (λ (m : Me). m.0.own.number) looked.me_is ∙ x.number_is;
-    seats_is = ap (λ (m : Me). m.0.own.knows.seats) looked.me_is ∙ x.seats_is;
-    steps_are = ap (λ (m : Me). m.0.own.gone) looked.me_is ∙ ap (λ (l : List GroupStep). l ++ step (V1 NextCall) word ∷ []) x.steps_are
-        ∙ append_assoc s.me.0.own.gone x.before (step (V1 NextCall) word ∷ []);
-    next_is = ap (λ (m : Me). m.0.own.knows.next) looked.me_is ∙ leads;
-    path = λ number. subst (λ (k : GroupNext). Walks number first (x.before ++ step (V1 NextCall) word ∷ []) k) leads
-        (walks_more number first x.before (V1 NextCall) word looked.word (x.path number));
-  }
+  looks = runs_on s t u first (V1 NextCall) x.before x.come word looked
 
   pub finds_zero : word.counter ≡ pos 0 → FindsZero s first u
   finds_zero zero = (x.before, word, zero, looks Ends (leads_zero word zero))
@@ -106,16 +127,7 @@ module _ (s : Token) (first : GroupRow) (t u : Token) (x : LooksOn s first t) (w
 module _ (s : Token) (first : GroupRow) (word : GroupWord) (t u : Token) (x : IsToCount s first word t) (found : GroupWord)
     (y : Steps t (V2 NextCall word) found u) where
   tried : (next : GroupNext) → (group_row (V2 NextCall word) found).1 ≡ next → Walked s first (x.0 ++ step (V2 NextCall word) found ∷ []) next u
-  tried next leads = record {
-    table_is = y.table_is ∙ x.1.table_is;
-    number_is = ap (λ (m : Me). m.0.own.number) y.me_is ∙ x.1.number_is;
-    seats_is = ap (λ (m : Me). m.0.own.knows.seats) y.me_is ∙ x.1.seats_is;
-    steps_are = ap (λ (m : Me). m.0.own.gone) y.me_is ∙ ap (λ (l : List GroupStep). l ++ step (V2 NextCall word) found ∷ []) x.1.steps_are
-        ∙ append_assoc s.me.0.own.gone x.0 (step (V2 NextCall word) found ∷ []);
-    next_is = ap (λ (m : Me). m.0.own.knows.next) y.me_is ∙ leads;
-    path = λ number. subst (λ (k : GroupNext). Walks number first (x.0 ++ step (V2 NextCall word) found ∷ []) k) leads
-        (walks_more number first x.0 (V2 NextCall word) found y.word (x.1.path number));
-  }
+  tried = runs_on s t u first (V2 NextCall word) x.0 (come_by x.1) found y
 
   pub gets_counted : same_word word found ≡ true → GetsCounted s first u
   gets_counted won = (x.0 ++ step (V2 NextCall word) found ∷ [], tried (Acquires NextCall) (ap (λ (b : Bool). if b then Acquires NextCall else Goes (V1 NextCall)) won))
@@ -126,11 +138,7 @@ module _ (s : Token) (first : GroupRow) (word : GroupWord) (t u : Token) (x : Is
   pub looks_again : same_word word found ≡ false → LooksOn s first u
   looks_again e = record {
     before = x.0 ++ step (V2 NextCall word) found ∷ [];
-    table_is = (lost e).table_is;
-    number_is = (lost e).number_is;
-    seats_is = (lost e).seats_is;
-    steps_are = (lost e).steps_are;
-    path = (lost e).path;
+    come = come_by (lost e);
     look = ap load_row (lost e).next_is;
   }
 
@@ -162,15 +170,7 @@ module _ (s t : Token) (word : GroupWord) (some : word.counter ≢ pos 0) (y : S
 pub zero_at_once : (s : Token) → is_free s.me.0.own.knows.next ≡ true → (word : GroupWord) → word.counter ≡ pos 0 → (t : Token)
     → Steps s (load_row s.me.0.own.knows.next) word t → FindsZero s (V1 NextCall) t
 zero_at_once s free word zero t y = finds_zero s (V1 NextCall) s t
-    record {
-      before = [];
-      table_is = refl;
-      number_is = refl;
-      seats_is = refl;
-      steps_are = sym (append-nil s.me.0.own.gone);
-      path = λ number. refl;
-      look = (free_look s.me.0.own.knows.next free).0;
-    } word y zero
+    record { before = []; come = begins_at s (V1 NextCall); look = (free_look s.me.0.own.knows.next free).0 } word y zero
 
 pub first_look : (s : Token) → is_free s.me.0.own.knows.next ≡ true → (word : GroupWord) → (t : Token)
     → Steps s (load_row s.me.0.own.knows.next) word t → Steps s (V1 NextCall) word t

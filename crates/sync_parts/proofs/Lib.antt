@@ -11,3 +11,4 @@ pub mod GroupLaw
 pub mod GroupCalling
 pub mod GroupWaiting
 pub mod GroupAdding
+pub mod GroupLeaving

@@ -1,21 +1,23 @@
 -- What the calls of a wait group are to their caller: what the word became, how many waits were released, and
 -- whether the caller's own was.
-use Rattle.std.specs.Prelude.{◌≡◌, ◌≢◌, ◌⊎◌, ℕ, ◌+◌, ◌<◌, if◌then◌else◌, true, false, List, [], ◌∷◌, ◌++◌}
+use Rattle.std.specs.Prelude.{◌≡◌, ◌≢◌, ◌⊎◌, ℕ, ◌+◌, ◌<◌, if◌then◌else◌, Bool, true, false, List, [], ◌∷◌, ◌++◌}
 use Rattle.std.specs.Prelude.{ℤ, pos, int_lt, Result, Ok, Err}
 use Rattle.std.specs.Ordering.{int_eq}
 use Rattle.step_table.specs.declared.group_word.GroupWord.{GroupWord}
 use Rattle.step_table.specs.declared.misuse.Misuse.{Misuse}
 use Rattle.step_table.specs.declared.misuse.Misuse.TheVariants.{Negative, AddWithWait, Reused}
-use Rattle.step_table.specs.declared.standing.GroupRow.TheVariants.{G1}
+use Rattle.step_table.specs.declared.standing.GroupRow.TheVariants.{G1, V5}
 use Rattle.step_table.specs.Group.{empty_word, plus}
 use Rattle.sync_parts.specs.declared.group_view.GroupStep.{GroupStep}
+use Rattle.sync_parts.specs.GroupPlays.{given_up}
 use Rattle.sync_parts.specs.GroupSeats.{GroupSeatModel}
 
--- t is the seat s of the same group, after it has released so many waits, and was released so often
-pub record IsGroupSeatAfter (s : GroupSeatModel) (released woken : ℕ) (t : GroupSeatModel) : Type 0 where
+-- t is the seat s of the same group, after it has spent so much, for the waits that it released and one for each
+-- of its own that it took back, and was released so often
+pub record IsGroupSeatAfter (s : GroupSeatModel) (spent woken : ℕ) (t : GroupSeatModel) : Type 0 where
   pub group : t.group ≡ s.group
   pub number : t.sema.number ≡ s.sema.number
-  pub left : t.sema.left + released ≡ s.sema.left
+  pub left : t.sema.left + spent ≡ s.sema.left
   pub taken : t.sema.taken ≡ s.sema.taken + woken
 
 -- how many wait in a word whose counter is 0
@@ -60,3 +62,18 @@ pub record WaitsForZero (s t : GroupSeatModel) (answer : Result (Unit {0}) Misus
   pub woken : ℕ
   pub tells : TellsOfWait woken last.found answer
   pub after : IsGroupSeatAfter s 0 woken t
+
+-- the seat is counted no more in the word that it found last, whose counter wasn't 0. It wasn't released, and took
+-- its wait back
+pub record TakesWaitBack (s t : GroupSeatModel) : Type 0 where
+  pub before : List GroupStep
+  pub word : GroupWord
+  pub looked : t.steps ≡ s.steps ++ (before ++ record { row = V5 given_up word; found = word } ∷ [])
+  pub some : (word.counter ≢ pos 0) × (0 < word.waits)
+  pub after : IsGroupSeatAfter s 1 0 t
+
+-- the seat comes back as from a wait without a time-out; or the time was over
+abbrev pub WaitsForZeroInTime : GroupSeatModel → GroupSeatModel → Result Bool Misuse → Type 0
+WaitsForZeroInTime s t (Ok true) = WaitsForZero s t (Ok tt)
+WaitsForZeroInTime s t (Ok false) = TakesWaitBack s t
+WaitsForZeroInTime s t (Err misuse) = WaitsForZero s t (Err misuse)

@@ -1,23 +1,27 @@
 -- The rows that the calls of a wait group ran: on the state word, the semaphore's left out, and on the
 -- semaphore.
-use Rattle.std.specs.Prelude.{◌≡◌, ◌≢◌, ◌⊎◌, ℕ, zero, suc, ◌+◌, false, List, [], ◌∷◌, ◌++◌}
+use Rattle.std.specs.Prelude.{◌≡◌, ◌≢◌, ◌⊎◌, ℕ, zero, suc, ◌+◌, ◌<◌, Bool, true, false, List, [], ◌∷◌, ◌++◌}
 use Rattle.std.specs.Prelude.{map, ℤ, pos, MatchResult, Result, Ok, Err, IfOk}
 use Rattle.step_table.specs.declared.group_word.GroupWord.{GroupWord}
 use Rattle.step_table.specs.declared.misuse.Misuse.{Misuse}
 use Rattle.step_table.specs.declared.misuse.Misuse.TheVariants.{Reused}
 use Rattle.step_table.specs.declared.standing.GroupRow.{GroupRow}
-use Rattle.step_table.specs.declared.standing.GroupRow.TheVariants.{G1, V1, V3}
+use Rattle.step_table.specs.declared.standing.GroupRow.TheVariants.{G1, V1, V3, V4, V5}
 use Rattle.step_table.specs.declared.standing.GroupNext.{GroupNext}
 use Rattle.step_table.specs.declared.standing.GroupNext.TheVariants.{Ends, Goes, Fails, Acquires, Releases}
+use Rattle.step_table.specs.declared.standing.GroupNext.TheVariants.{SleepsOn, Withdraws}
 use Rattle.step_table.specs.declared.standing.Ending.TheVariants.{NextCall}
 use Rattle.step_table.specs.Group.{empty_word, plus}
 use Rattle.step_table.specs.GroupPath.{GroupPath, going}
 use Rattle.sema_table.specs.declared.answers.Wake.{Wake}
 use Rattle.sema_table.specs.Seats.{SeatModel}
+use Rattle.sema_table.specs.Callers.{AcquiresUnit}
+use Rattle.sema_table.specs.CallersLeaving.{EndsGivingUp}
+use Rattle.sema_table.specs.CallersTimed.{GivesUpHolding}
 use Rattle.sema_table.specs.Whole.{IsAcquired, IsReleased}
 use Rattle.sync_parts.specs.declared.group_view.GroupStep.{GroupStep}
 use Rattle.sync_parts.specs.GroupRule.{stride_of}
-use Rattle.sync_parts.specs.GroupPlays.{step}
+use Rattle.sync_parts.specs.GroupPlays.{step, given_up}
 use Rattle.sync_parts.specs.GroupSeats.{GroupSeatModel}
 use Rattle.sync_parts.specs.GroupCallers.{waits_at_zero}
 
@@ -56,6 +60,39 @@ IsWaited s t answer =
     (λ done. IsUncounted s t ⊎ IsCounted s empty_word Ends t)
     (λ misuse. (misuse ≡ Reused)
     × ((word : GroupWord) × (word ≢ empty_word) × IsCounted s word (Fails Reused) t))
+
+-- V2 was won, and a unit of the semaphore taken. Before that the seat may have given up, and found the counter at 0
+-- under the lock. Then V3 found this word
+pub record IsCountedInTime (s : GroupSeatModel) (word : GroupWord) (next : GroupNext) (t : GroupSeatModel)
+    : Type 0 where
+  pub before : List GroupStep
+  pub looks : List GroupStep
+  pub ran : RanSteps s ((before ++ looks) ++ step (V3 NextCall) word ∷ []) t
+  pub path : Walks s.sema.number (V1 NextCall) before (Acquires NextCall)
+  pub stayed : (looks ≡ []) ⊎ Walks s.sema.number (V4 given_up) looks (SleepsOn given_up)
+  pub acquired : AcquiresUnit s.sema 0 false t.sema
+  pub looked : Walks s.sema.number (V3 NextCall) (step (V3 NextCall) word ∷ []) next
+
+-- V2 was won, and the seat's wait queued on the semaphore, where there was no unit. Under the lock V4 found this
+-- word, whose counter isn't 0, and V5 was won. Then the wait was taken out of the queue
+pub record IsUncountedAgain (s t : GroupSeatModel) : Type 0 where
+  pub before : List GroupStep
+  pub looks : List GroupStep
+  pub word : GroupWord
+  pub some : (word.counter ≢ pos 0) × (0 < word.waits)
+  pub ran : RanSteps s (before ++ (looks ++ step (V5 given_up word) word ∷ [])) t
+  pub path : Walks s.sema.number (V1 NextCall) before (Acquires NextCall)
+  pub left :
+      Walks s.sema.number (V4 given_up) (looks ++ step (V5 given_up word) word ∷ []) (Withdraws given_up)
+  pub withdrew : (l : SeatModel) × GivesUpHolding s.sema 0 false l × EndsGivingUp l t.sema
+
+-- a wait with a time-out comes back where it found counter 0, as one without; or its time was over, and it is
+-- counted no more; or else the group was used again
+abbrev pub IsWaitedInTime : GroupSeatModel → GroupSeatModel → Result Bool Misuse → Type 0
+IsWaitedInTime s t (Ok true) = IsUncounted s t ⊎ IsCountedInTime s empty_word Ends t
+IsWaitedInTime s t (Ok false) = IsUncountedAgain s t
+IsWaitedInTime s t (Err misuse) =
+    (misuse ≡ Reused) × ((word : GroupWord) × (word ≢ empty_word) × IsCountedInTime s word (Fails Reused) t)
 
 -- so many releases of a unit of the semaphore, without handoff, one after the other
 abbrev pub HasReleased : ℕ → SeatModel → SeatModel → Type 0

@@ -3,11 +3,13 @@ use Rattle.std.specs.Prelude.{◌≡◌, ◌/◌, ◌^◌, [], ◌∷◌, ◌++�
 use Rattle.std.specs.Int.{w32, cast_signed}
 use Rattle.running_rows.specs.Table as atomic
 use Rattle.running_rows.specs.Words as words
+use Rattle.step_table.specs.declared.call.GivingUp.{GivingUp}
+use Rattle.step_table.specs.declared.call.Late.TheVariants.{Kept}
 use Rattle.step_table.specs.declared.group_word.GroupWord.{GroupWord}
 use Rattle.step_table.specs.declared.standing.GroupRow.{GroupRow}
-use Rattle.step_table.specs.declared.standing.GroupRow.TheVariants.{G1, G2, V1, V3}
+use Rattle.step_table.specs.declared.standing.GroupRow.TheVariants.{G1, G2, V1, V3, V4}
 use Rattle.step_table.specs.declared.standing.GroupNext.{GroupNext}
-use Rattle.step_table.specs.declared.standing.GroupNext.TheVariants.{Goes, Acquires}
+use Rattle.step_table.specs.declared.standing.GroupNext.TheVariants.{Goes, Acquires, SleepsOn}
 use Rattle.step_table.specs.declared.standing.Ending.TheVariants.{NextCall}
 use Rattle.step_table.specs.Group.{group_row}
 use Rattle.step_table.specs.GroupBits.{IsGroupWord}
@@ -40,7 +42,12 @@ stepped row found v = record v {
 abbrev pub load_row : GroupNext → GroupRow
 load_row (Goes (G2 seen)) = G2 seen
 load_row (Acquires ending) = V3 ending
+load_row (SleepsOn how) = V3 NextCall
 load_row _ = V1 NextCall
+
+-- how a wait gives up
+abbrev pub given_up : GivingUp
+given_up = record { late = Kept; skips = 0 }
 
 -- the seat goes to this row, by its caller's choice or because it stands there
 abbrev pub at_row : GroupRow → GroupKnown → GroupKnown
@@ -53,6 +60,10 @@ at_add st v = at_row (G1 (cast_signed w32 (st.first / 2 ^ 32))) v
 -- the word was loaded
 abbrev pub at_load : atomic.Step (Unit {0}) → GroupKnown → GroupKnown
 at_load st v = at_row (load_row v.next) v
+
+-- the word was loaded by a seat that gives up
+abbrev pub at_leave : atomic.Step (Unit {0}) → GroupKnown → GroupKnown
+at_leave st v = at_row (V4 given_up) v
 
 -- the row ran, and found this word; nothing else changed
 pub record Steps (s : Token) (row : GroupRow) (found : GroupWord) (t : Token) : Type 0 where

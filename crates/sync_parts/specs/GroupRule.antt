@@ -4,9 +4,10 @@
 use Rattle.std.specs.Prelude.{◌≡◌, ℕ, ◌<◌, false, refl, List, [], ◌∷◌, length, slice_index}
 use Rattle.step_table.specs.declared.group_word.GroupWord.{GroupWord}
 use Rattle.step_table.specs.declared.standing.GroupRow.{GroupRow}
-use Rattle.step_table.specs.declared.standing.GroupRow.TheVariants.{G1, V1, V3}
+use Rattle.step_table.specs.declared.standing.GroupRow.TheVariants.{G1, V1, V3, V4}
 use Rattle.step_table.specs.declared.standing.GroupNext.{GroupNext}
-use Rattle.step_table.specs.declared.standing.GroupNext.TheVariants.{Ends, Goes, Acquires, SleepsOn, Withdraws}
+use Rattle.step_table.specs.declared.standing.GroupNext.TheVariants.{Ends, Goes, Acquires, SleepsOn}
+use Rattle.step_table.specs.declared.standing.Ending.{Ending}
 use Rattle.step_table.specs.declared.standing.Ending.TheVariants.{NextCall}
 use Rattle.step_table.specs.World.{put}
 use Rattle.step_table.specs.Path.{Watched}
@@ -19,6 +20,7 @@ use Rattle.running_rows.specs.History.{SeatStride, strides_of}
 use Rattle.running_rows.specs.Rule.{In}
 use Rattle.sync_parts.specs.declared.group_view.GroupKnown.{GroupKnown}
 use Rattle.sync_parts.specs.declared.group_view.GroupStep.{GroupStep}
+use Rattle.sync_parts.specs.GroupPlays.{given_up}
 
 -- the first row of an add, and of a wait
 abbrev pub IsFirst : GroupRow → Type 0
@@ -26,13 +28,18 @@ IsFirst (G1 d) = Unit {0}
 IsFirst (V1 NextCall) = Unit {0}
 IsFirst _ = ⊥
 
--- which row may come: the one to which the last row led; after an acquire the last look of a wait; where no
--- call is under way the first of another
+-- what comes of an acquire of a wait: its last look, or the first of its seat as that gives up
+abbrev pub ComesOfAcquire : Ending → GroupRow → Type 0
+ComesOfAcquire ending (V3 of) = of ≡ ending
+ComesOfAcquire ending (V4 how) = how ≡ given_up
+ComesOfAcquire ending _ = ⊥
+
+-- which row may come: the one to which the last row led; one that comes of an acquire; where the sleep goes on the
+-- last look of the wait; where no call is under way the first of another
 abbrev pub Follows : GroupNext → GroupRow → Type 0
 Follows (Goes next) row = row ≡ next
-Follows (Acquires ending) row = row ≡ V3 ending
-Follows (SleepsOn how) row = ⊥
-Follows (Withdraws how) row = ⊥
+Follows (Acquires ending) row = ComesOfAcquire ending row
+Follows (SleepsOn how) row = row ≡ V3 NextCall
 Follows _ row = IsFirst row
 
 -- rows of calls, one after the other, and what the last of them led to

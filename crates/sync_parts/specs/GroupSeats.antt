@@ -2,7 +2,7 @@
 use Rattle.std.specs.Prelude.{◌≡◌, ℕ, ◌<◌, Bool, true, false, ◌^◌, List, [], ◌∷◌}
 use Rattle.running_rows.specs.Seated.{TableId}
 use Rattle.step_table.specs.declared.standing.GroupNext.{GroupNext}
-use Rattle.step_table.specs.declared.standing.GroupNext.TheVariants.{Goes, Acquires, SleepsOn, Withdraws}
+use Rattle.step_table.specs.declared.standing.GroupNext.TheVariants.{Goes, Acquires, SleepsOn}
 use Rattle.sema_table.specs.declared.view.Setting.{Setting}
 use Rattle.sema_table.specs.Seats.{TableModel, SeatModel}
 use Rattle.sync_parts.specs.declared.group_view.GroupStep.{GroupStep}
@@ -38,7 +38,6 @@ abbrev pub is_free : GroupNext → Bool
 is_free (Goes row) = false
 is_free (Acquires ending) = false
 is_free (SleepsOn how) = false
-is_free (Withdraws how) = false
 is_free _ = true
 
 -- what a seat keeps between two calls: none is under way, and it has one number on the state word and on the

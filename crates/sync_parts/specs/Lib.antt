@@ -22,6 +22,8 @@ pub use Rattle.sema_table.specs.declared.setup_error.SetupError
 pub use Rattle.sema_table.specs.declared.view.Setting
 pub use Rattle.sema_table.specs.Callers as TableCallers
 pub use Rattle.sema_table.specs.CallersEnding
+pub use Rattle.sema_table.specs.CallersLeaving as TableCallersLeaving
+pub use Rattle.sema_table.specs.CallersTimed as TableCallersTimed
 pub use Rattle.sema_table.specs.CallersReleasing
 pub use Rattle.sema_table.specs.Closing as TableClosing
 pub use Rattle.sema_table.specs.Making as TableMaking

@@ -1,6 +1,6 @@
 //! The rows on the state word, and where each begins.
 ghost use Rattle.sync_parts.specs.GroupRule.{group_rows};
-ghost use Rattle.sync_parts.specs.GroupPlays.{at_add, at_load};
+ghost use Rattle.sync_parts.specs.GroupPlays.{at_add, at_load, at_leave};
 
 use crate::group_view::{GroupKnown, GroupStep};
 use running_rows::{Rows, Start};
@@ -28,4 +28,11 @@ pub struct AtLoad;
 
 impl Start<(), GroupKnown> for AtLoad {
     ghost at = { at_load };
+}
+
+/// V4.
+pub struct AtLeave;
+
+impl Start<(), GroupKnown> for AtLeave {
+    ghost at = { at_leave };
 }

@@ -17,7 +17,7 @@ use step_table::{GroupWord, Misuse};
 use waiters::CounterId;
 
 /// Nobody is counted, and nobody waits.
-const EMPTY: GroupWord = GroupWord {
+pub(crate) const EMPTY: GroupWord = GroupWord {
     counter: 0,
     waits: 0,
 };
@@ -25,7 +25,12 @@ const EMPTY: GroupWord = GroupWord {
 impl StateWord {
     /// V2 for the word that V1 found, and V1 again where V2 is lost, until one of them settles it: whether
     /// the wait is counted.
-    fn count_unless_zero<R: Wait>(&self, rt: &R, token: &mut StateToken, word: GroupWord) -> bool
+    pub(crate) fn count_unless_zero<R: Wait>(
+        &self,
+        rt: &R,
+        token: &mut StateToken,
+        word: GroupWord,
+    ) -> bool
         requires own { token.old.table_id ≡ self.now.id }
         requires some { 0 < token.old.me.0.own.knows.seats }
         requires looked { (token.old.me.0.own.knows.next ≡ Goes (V2 NextCall word)) × IsGroupWord word }

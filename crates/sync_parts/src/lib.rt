@@ -43,6 +43,7 @@ mod group;
 mod group_adds;
 mod group_make;
 mod group_rows;
+mod group_timed;
 mod group_view;
 mod group_waits;
 mod laws;

@@ -1,15 +1,15 @@
 //! The word that all seats of a wait group share.
 ghost use Rattle.std.specs.Prelude.{◌≡◌, ◌<◌, []};
 ghost use Rattle.step_table.specs.declared.standing.GroupNext.TheVariants.{Goes};
-ghost use Rattle.step_table.specs.declared.standing.GroupRow.TheVariants.{G1, G3, V2};
+ghost use Rattle.step_table.specs.declared.standing.GroupRow.TheVariants.{G1, G3, V2, V4, V5};
 ghost use Rattle.step_table.specs.declared.standing.Ending.TheVariants.{NextCall};
 ghost use Rattle.step_table.specs.declared.group_word.GroupWord.{GroupWord};
 ghost use Rattle.step_table.specs.Group.{plus, same_word};
 ghost use Rattle.step_table.specs.GroupBits.{bits_of, word_in, IsGroupWord};
 ghost use Rattle.sync_parts.specs.GroupRule.{Follows};
-ghost use Rattle.sync_parts.specs.GroupPlays.{load_row, Steps};
+ghost use Rattle.sync_parts.specs.GroupPlays.{load_row, given_up, Steps};
 
-use crate::group_rows::{AtAdd, AtLoad, GroupRows, StateToken};
+use crate::group_rows::{AtAdd, AtLeave, AtLoad, GroupRows, StateToken};
 use crate::group_view::{GroupKnown, GroupStep};
 use running_rows::{Here, OneWorld, Running, View};
 use std::marker::Model;
@@ -83,6 +83,27 @@ impl StateWord {
         self.words
             .exchange::<Here>(token, 0, bits, bits.wrapping_add(1))
             == bits
+    }
+
+    /// V4: the word, for a seat that gives up.
+    pub(crate) fn load_to_leave(&self, token: &mut StateToken) -> GroupWord
+        requires own { (token.old.table_id ≡ self.now.id) × Follows token.old.me.0.own.knows.next (V4 given_up) }
+        requires some { 0 < token.old.me.0.own.knows.seats }
+        ensures { Steps token.old (V4 given_up) result token.new }
+    {
+        word_of(self.words.load::<AtLeave>(token, 0))
+    }
+
+    /// V5: counts one wait less if the word is still that which was seen.
+    pub(crate) fn uncount_wait(&self, token: &mut StateToken, seen: GroupWord) -> bool
+        requires own { (token.old.table_id ≡ self.now.id) × (token.old.me.0.own.knows.next ≡ Goes (V5 given_up seen))
+            × IsGroupWord seen × (0 < seen.waits) }
+        requires some { 0 < token.old.me.0.own.knows.seats }
+        ensures { (found : GroupWord) × (result ≡ same_word seen found)
+            × Steps token.old (V5 given_up seen) found token.new }
+    {
+        let bits = bits_of(seen);
+        self.words.exchange::<Here>(token, 0, bits, bits - 1) == bits
     }
 
     /// G3: stores 0. The seat has seen this word twice.

@@ -9,4 +9,4 @@ pub returns-in-Ok-clause-caller : goal.returns-in-Ok-clause-caller
 returns-in-Ok-clause-caller g c = leaves c.args.sleeping c.leave_at_lock.result (returns-in-Ok-clause-rows g c)
 
 pub returns-in-Err-clause-caller : goal.returns-in-Err-clause-caller
-returns-in-Err-clause-caller g c = leaves c.args.sleeping c.in-Err.gave_up c.in-Err.ensures
+returns-in-Err-clause-caller g c = leaves c.args.sleeping c.in-Err.gave_up c.in-Err.ensures.0

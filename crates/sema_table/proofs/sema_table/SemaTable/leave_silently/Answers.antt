@@ -13,7 +13,7 @@ use Rattle.sema_table.proofs.Trying.{held_midway, finds_held}
 use Rattle.sema_table.proofs.sema_table.SemaTable.leave_silently.Goals as goal
 
 pub returns-in-Err-clause-caller : goal.returns-in-Err-clause-caller
-returns-in-Err-clause-caller c = leaves c.args.sleeping c.in-Err.gave_up c.in-Err.ensures
+returns-in-Err-clause-caller c = leaves c.args.sleeping c.in-Err.gave_up c.in-Err.ensures.0
 
 pub invariant_of-result : goal.invariant_of-result
 invariant_of-result c =

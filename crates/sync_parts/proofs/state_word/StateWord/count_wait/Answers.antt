@@ -1,4 +1,4 @@
-use Rattle.std.proofs.Common.{arith, sym, refl, ap, ◌∙◌}
+use Rattle.std.proofs.Common.{◌+◌, ◌%◌, arith, sym, refl, ap, ◌∙◌}
 use Rattle.step_table.specs.declared.standing.GroupRow.TheVariants.{V2}
 use Rattle.step_table.specs.declared.standing.Ending.TheVariants.{NextCall}
 use Rattle.step_table.specs.GroupBits.{word_in}
@@ -12,7 +12,11 @@ exchange-requires c = (
   omega arith,
   (
     (c.requires.own.0 ∙ ap (λ (w : WordModel). w.id) (sym c.self.view_is), c.requires.some),
-    (c.self.invariant.0, exchange_owes _ 0 c.args.token.now.me c.args.seen _ _ c.requires.own.2 c.requires.own.1 c.bits_of-bits.ensures refl),
+    (
+      c.self.invariant.0,
+      exchange_owes (V2 NextCall c.args.seen) c.args.seen (λ n. (n + 1) % 18446744073709551616) c.requires.own.2 (λ n. refl)
+          _ 0 c.args.token.now.me _ _ c.requires.own.1 c.bits_of-bits.ensures refl,
+    ),
   ),
 )
 

@@ -1,0 +1,28 @@
+use Rattle.std.proofs.Common.{◌-◌, arith, sym, refl, ap, ◌∙◌}
+use Rattle.step_table.specs.declared.standing.GroupRow.TheVariants.{V5}
+use Rattle.step_table.specs.GroupBits.{word_in}
+use Rattle.running_rows.specs.Strides.{here}
+use Rattle.sync_parts.specs.GroupPlays.{given_up}
+use Rattle.sync_parts.proofs.GroupStepping.{exchange_owes, won_is, ran_steps}
+use Rattle.sync_parts.specs.GroupSeats.{WordModel}
+use Rattle.sync_parts.proofs.state_word.StateWord.uncount_wait.Goals as goal
+
+pub exchange-requires : goal.exchange-requires
+exchange-requires c = let own = c.requires.own in (
+  omega arith,
+  (
+    (own.0 ∙ ap (λ (w : WordModel). w.id) (sym c.self.view_is), c.requires.some),
+    (
+      c.self.invariant.0,
+      exchange_owes (V5 given_up c.args.seen) c.args.seen (λ n. n - 1) (own.2, own.3) (λ n. refl)
+          _ 0 c.args.token.now.me _ _ own.1 c.bits_of-bits.ensures refl,
+    ),
+  ),
+)
+
+pub returns : goal.returns
+returns c = let n = c.exchange.result in let below = c.exchange.type_inv in let told = c.exchange.ensures in (
+  word_in n,
+  won_is c.args.seen n _ c.requires.own.2 below c.bits_of-bits.ensures,
+  ran_steps c.args.token.now c.exchange.new.token here (V5 given_up c.args.seen) n c.requires.own.1 told.own told.went,
+)
