@@ -154,20 +154,20 @@ impl TreapRoot {
         ensures kept { KeepsTickets self.old.tree self.new.tree }
         ensures undrawn { self.new.tickets ≡ self.old.tickets }
     {
-        if !self.has(counter, meant) {
+        if !self.has(counter, &meant) {
             return None;
         }
         self.take(counter, Which::Of(meant))
     }
 
     // Whether a wait that is sought is in the counter's queue.
-    fn has(&self, counter: CounterId, meant: Sought) -> bool
+    fn has(&self, counter: CounterId, meant: &Sought) -> bool
         ensures is_in { result
-            ≡ is_some (first_sought (is_sought meant) (waits_on (queues_of self.now.tree) counter)) }
+            ≡ is_some (first_sought (is_sought meant.now) (waits_on (queues_of self.now.tree) counter)) }
         ensures map { AreQueues (queues_of self.now.tree) }
     {
         match self.treap.find(counter) {
-            Some(list) => self.lists.first_with(list, meant).is_some(),
+            Some(list) => self.lists.first_with(list, *meant).is_some(),
             None => false,
         }
     }
@@ -244,7 +244,7 @@ impl RootStore for TreapRoot {
             ≡ is_some (first_sought (is_sought (Seat seat)) (waits_on (queues_of self.now.tree) counter)) }
         ensures map { AreQueues (queues_of self.now.tree) }
     {
-        self.has(counter, Sought::Seat(seat))
+        self.has(counter, &Sought::Seat(seat))
     }
 
     fn count(&self) -> usize {

@@ -9,12 +9,12 @@ first_with-requires c = record { «open» = rooted-open c.self.invariant c.args.
 pub returns-in-Some-clause-is_in : goal.returns-in-Some-clause-is_in
 returns-in-Some-clause-is_in c =
     rw (← c.self.view_is) (c.is_some.ensures ∙ ap is_some (c.first_with.ensures
-    ∙ ap (first_sought (is_sought c.args.meant))
+    ∙ ap (first_sought (is_sought c.args.meant.now))
     (sym (rooted-waits c.self.invariant c.args.counter c.in-Some.list (sym c.find.ensures.list ∙ c.in-Some.is)))))
 
 pub returns-in-None-clause-is_in : goal.returns-in-None-clause-is_in
 returns-in-None-clause-is_in c =
-    rw (← c.self.view_is) (ap (λ waits. is_some (first_sought (is_sought c.args.meant) waits))
+    rw (← c.self.view_is) (ap (λ waits. is_some (first_sought (is_sought c.args.meant.now) waits))
     (sym (rooted-nobody c.self.invariant c.args.counter (sym c.find.ensures.list ∙ c.in-None.is))))
 
 pub returns-in-Some-clause-map : goal.returns-in-Some-clause-map
