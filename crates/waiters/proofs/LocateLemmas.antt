@@ -16,8 +16,8 @@ use Rattle.waiters.specs.Whereabouts.{known_of, known_about, Allows, StandsThere
 use Rattle.waiters.proofs.ChainLemmas.{same_entries, Avoids, Owned-split}
 use Rattle.waiters.proofs.WalkLemmas.{first-here, first-later, without-here, without-later}
 use Rattle.waiters.proofs.StepLemmas.{mine}
-use Rattle.waiters.proofs.KnownLemmas.{stands_record}
-use Rattle.waiters.proofs.KnowingLemmas.{before_apart_all}
+use Rattle.waiters.proofs.WhereaboutsLemmas.{stands_record}
+use Rattle.waiters.proofs.WhereaboutsSteps.{before_apart_all}
 
 -- whose wait is sought
 both_true : (a b : Bool) → (a && b) ≡ true → a ≡ true

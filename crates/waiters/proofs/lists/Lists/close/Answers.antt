@@ -2,7 +2,7 @@ use Rattle.std.proofs.Common.{◌≡◌, [], is_some, get_or, Some, None, ap, sy
 use Rattle.slab.specs.Slab.{get}
 use Rattle.waiters.specs.Chains.{waits_in, listed}
 use Rattle.waiters.proofs.OtherLemmas.{list_at-listed, ContainsKey-open, AreChained-step, Changes-step, Keeps-same, HasRoom-more}
-use Rattle.waiters.proofs.KnowingLemmas.{known_closed}
+use Rattle.waiters.proofs.WhereaboutsSteps.{known_closed}
 use Rattle.waiters.proofs.lists.Lists.close.Goals as goal
 
 pub remove-requires : goal.remove-requires

@@ -1,7 +1,7 @@
 use Rattle.std.proofs.Common.{refl, sym, ap, subst, ◌∙◌, arith}
 use Rattle.waiters.specs.Whereabouts.{AreKnown}
 use Rattle.waiters.proofs.CloneLemmas.{SameValues-grown, listed-same, AreChained-copied}
-use Rattle.waiters.proofs.KnowingLemmas.{known_same, known_nothing}
+use Rattle.waiters.proofs.WhereaboutsSteps.{known_same, known_nothing}
 use Rattle.waiters.proofs.lists.Lists.copy_from.Goals as goal
 
 pub invariant_of-self : goal.invariant_of-self

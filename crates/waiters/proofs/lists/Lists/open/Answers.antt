@@ -1,7 +1,7 @@
 use Rattle.std.proofs.Common.{ap, sym, refl, ◌∙◌}
 use Rattle.waiters.proofs.OtherLemmas.{list_at-listed, AreChained-step, Changes-step, Keeps-same, IsSlot-empty, HasRoom-less}
 use Rattle.waiters.specs.Chains.{waits_in}
-use Rattle.waiters.proofs.KnowingLemmas.{known_opened}
+use Rattle.waiters.proofs.WhereaboutsSteps.{known_opened}
 use Rattle.waiters.proofs.lists.Lists.open.Goals as goal
 
 pub invariant_of-self : goal.invariant_of-self

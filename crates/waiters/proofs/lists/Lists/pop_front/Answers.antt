@@ -4,7 +4,7 @@ use Rattle.waiters.specs.Chains.{waits_of}
 use Rattle.waiters.proofs.StepLemmas.{AreChained-unlinked, Changes-unlinked, wait-unlinked, first_waits, waits_at-open, list_at-open, nil_from_first}
 use Rattle.waiters.proofs.StepLemmas.{StandsAt-first, ContainsKey-place, next_there, some_counted}
 use Rattle.waiters.proofs.OtherLemmas.{ContainsKey-open, Changes-same}
-use Rattle.waiters.proofs.KnowingLemmas.{known_unlinked}
+use Rattle.waiters.proofs.WhereaboutsSteps.{known_unlinked}
 use Rattle.waiters.proofs.lists.Lists.pop_front.Goals as goal
 
 pub index-chain-requires : goal.index-chain-requires

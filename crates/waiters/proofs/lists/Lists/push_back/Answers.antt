@@ -1,7 +1,7 @@
 use Rattle.std.proofs.Common.{ap, sym, refl}
 use Rattle.waiters.proofs.StepLemmas.{AreChained-appended, Changes-appended, len_fits, IsThere-last}
 use Rattle.waiters.proofs.OtherLemmas.{ContainsKey-open}
-use Rattle.waiters.proofs.KnowingLemmas.{appended_there, known_appended}
+use Rattle.waiters.proofs.WhereaboutsSteps.{appended_there, known_appended}
 use Rattle.waiters.proofs.lists.Lists.push_back.Goals as goal
 
 pub index-chain-requires : goal.index-chain-requires

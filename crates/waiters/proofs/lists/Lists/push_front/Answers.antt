@@ -1,7 +1,7 @@
 use Rattle.std.proofs.Common.{ap, sym, refl}
 use Rattle.waiters.proofs.StepLemmas.{AreChained-prepended, Changes-prepended, len_fits}
 use Rattle.waiters.proofs.OtherLemmas.{ContainsKey-open}
-use Rattle.waiters.proofs.KnowingLemmas.{prepended_there, first_stays, known_prepended}
+use Rattle.waiters.proofs.WhereaboutsSteps.{prepended_there, first_stays, known_prepended}
 use Rattle.waiters.proofs.lists.Lists.push_front.Goals as goal
 
 pub index-chain-requires : goal.index-chain-requires

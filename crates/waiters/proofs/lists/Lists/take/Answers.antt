@@ -4,7 +4,7 @@ use Rattle.waiters.specs.Lists.{is_sought, without_sought}
 use Rattle.waiters.proofs.StepLemmas.{AreChained-unlinked, Changes-unlinked, wait-unlinked, waits_at-open, none_found, FoundAt-mine, ContainsKey-place}
 use Rattle.waiters.proofs.StepLemmas.{IsThere-before, next_there, before_apart, some_counted}
 use Rattle.waiters.proofs.OtherLemmas.{ContainsKey-open, Changes-same}
-use Rattle.waiters.proofs.KnowingLemmas.{known_unlinked}
+use Rattle.waiters.proofs.WhereaboutsSteps.{known_unlinked}
 use Rattle.waiters.proofs.lists.Lists.take.Goals as goal
 
 pub index-chain-requires : goal.index-chain-requires

@@ -1,5 +1,5 @@
 use Rattle.std.proofs.Common.{arith}
-use Rattle.waiters.proofs.KnowingLemmas.{known_nowhere}
+use Rattle.waiters.proofs.WhereaboutsSteps.{known_nowhere}
 use Rattle.waiters.proofs.OtherLemmas.{HasRoom-empty, AreChained-empty}
 use Rattle.waiters.proofs.lists.Lists.with_seats.Goals as goal
 

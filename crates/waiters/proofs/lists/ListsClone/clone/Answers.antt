@@ -1,7 +1,7 @@
 use Rattle.std.proofs.Common.{ap, sym, subst, ◌∙◌}
 use Rattle.std.proofs.lemmas.List.Elements.{same_from_all_zip}
 use Rattle.waiters.specs.Whereabouts.{AreKnown}
-use Rattle.waiters.proofs.KnowingLemmas.{known_same}
+use Rattle.waiters.proofs.WhereaboutsSteps.{known_same}
 use Rattle.waiters.proofs.CloneLemmas.{SameValues-clone, listed-same, AreChained-same}
 use Rattle.waiters.proofs.lists.ListsClone.clone.Goals as goal
 

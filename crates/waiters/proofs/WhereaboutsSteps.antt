@@ -16,7 +16,7 @@ use Rattle.waiters.proofs.ChainLemmas.{Linked-split, last_key-append, Avoids, Av
 use Rattle.waiters.proofs.StepLemmas.{mine, appended, prepended, unlinked}
 use Rattle.waiters.proofs.OtherLemmas.{waits_in-Links}
 use Rattle.waiters.proofs.CloneLemmas.{same_links}
-use Rattle.waiters.proofs.KnownLemmas.{WaitsBack, Relinks-back, Came, stands_record, known_put, known_left}
+use Rattle.waiters.proofs.WhereaboutsLemmas.{WaitsBack, Relinks-back, Came, stands_record, known_put, known_left}
 
 -- one list split at two records
 two_splits : (P : List (ℕ × Wait)) (k : ℕ × Wait) (R Q : List (ℕ × Wait)) (l : ℕ × Wait) (S : List (ℕ × Wait)) → P ++ k ∷ R ≡ Q ++ l ∷ S → l.0 ≢ k.0
