@@ -308,6 +308,8 @@ static parklot_sem_t first, second;
 static void *meets(void *unused)
 {
     (void)unused;
+    /* Its seat is taken by a try, if there is one: a post takes none, and the next thread would find this one's free. */
+    must(parklot_sem_trywait(&second) != 0, "trywait");
     must(parklot_sem_post(&first) == 0, "post");
     if (parklot_sem_wait(&second) != 0)
         return errno == ENOMEM ? "no seat" : "another error";
