@@ -12,7 +12,7 @@ use Rattle.waiters.specs.declared.lists.whereabouts.Whereabouts.{Whereabouts}
 use Rattle.waiters.specs.declared.lists.whereabouts.Whereabouts.TheVariants.{Nowhere, Only, Anywhere}
 use Rattle.waiters.specs.Lists.{is_sought, first_sought, without_sought}
 use Rattle.waiters.specs.Chains.{Linked, Links, Owned, IsChain, AreChained, Finds, waits_of}
-use Rattle.waiters.specs.Whereabouts.{known_of, known_about, Allows, StandsThere, AreKnown}
+use Rattle.waiters.specs.Whereabouts.{Known, known_of, known_about, Allows, StandsThere, AreKnown}
 use Rattle.waiters.proofs.ChainLemmas.{same_entries, Avoids, Owned-split}
 use Rattle.waiters.proofs.WalkLemmas.{first-here, first-later, without-here, without-later}
 use Rattle.waiters.proofs.StepLemmas.{mine}
@@ -28,10 +28,10 @@ both_true false b e = absurd cc
 abbrev IsOf : Sought → ℕ → Type 0
 IsOf sought seat = (wait : Wait) → is_sought sought wait ≡ true → wait.id.seat ≡ seat
 
-abbrev Known : List Whereabouts → Sought → Whereabouts → Type 0
-Known seats sought w = (seat : ℕ) × (known_of seats seat ≡ w) × IsOf sought seat
+abbrev KnownOf : Known → Sought → Whereabouts → Type 0
+KnownOf seats sought w = (seat : ℕ) × (known_of seats seat ≡ w) × IsOf sought seat
 
-known_seat : (seats : List Whereabouts) (sought : Sought) (w : Whereabouts) → known_about seats sought ≡ w → w ≢ Anywhere → Known seats sought w
+known_seat : (seats : Known) (sought : Sought) (w : Whereabouts) → known_about seats sought ≡ w → w ≢ Anywhere → KnownOf seats sought w
 known_seat seats (Ticket ticket) w e some = absurd (some (sym e))
 known_seat seats (Seat seat) w e some = (seat, e, λ wait is. eqb-true wait.id.seat seat is)
 known_seat seats (Id id) w e some = (
@@ -69,7 +69,7 @@ passes is (e ∷ passed) k rest none here =
       without-later is e.1 (waits_of (passed ++ k ∷ rest)) no ∙ ap (λ l. e.1 ∷ l) later.1,
     )
 
-module _ (records : Slab Record) (chains : Slab Chain) (room list_room : ℕ) (old : AreChained records chains room list_room) (seats : List Whereabouts)
+module _ (records : Slab Record) (chains : Slab Chain) (room list_room : ℕ) (old : AreChained records chains room list_room) (seats : Known)
     (known : AreKnown records chains seats) (sought : Sought) where
   -- a record of a chain that is sought is where one of its seat may be
   may_be : (first : Option ℕ) (front : List (ℕ × Wait)) (e : ℕ × Wait) (back : List (ℕ × Wait)) → Linked records first (front ++ e ∷ back) None

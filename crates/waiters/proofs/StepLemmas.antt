@@ -221,18 +221,6 @@ module _ (records : Slab Record) (chains : Slab Chain) (room list_room : ℕ) (o
         let there = parts.2.2 in
         let same : found ≡ record { wait = stands.wait; next = parts.2.0 } = cc in ap (λ r. r.wait) same
 
-    -- and so is the one after it
-    pub next_there : (found : Record) → get records place.key ≡ Some found → IsThere records found.next
-    next_there found is =
-        let parts = Linked-split records stands.passed chain.first ((place.key, stands.wait) ∷ stands.rest) None whole in
-        let there = parts.2.2 in
-        let same : found ≡ record { wait = stands.wait; next = parts.2.0 } = cc in
-        rw (ap (λ (r : Record). r.next) same) (by parts.2.0 stands.rest parts.2.3)
-      where
-        by : (next : Option ℕ) (rest : List (ℕ × Wait)) → Linked records next rest None → IsThere records next
-        by next [] linked = rw linked tt
-        by next (entry ∷ rest) linked = rw (linked.1, linked.2) refl
-
     pub IsThere-before : IsThere records place.before
     IsThere-before =
         last_there records place.before chain.first None stands.passed ((place.key, stands.wait) ∷ stands.rest) whole stands.before

@@ -12,7 +12,7 @@ use Rattle.waiters.specs.declared.lists.Place.{Place}
 use Rattle.waiters.specs.declared.lists.whereabouts.Whereabouts.{Whereabouts}
 use Rattle.waiters.specs.declared.lists.whereabouts.Whereabouts.TheVariants.{Nowhere, Only, Anywhere}
 use Rattle.waiters.specs.Chains.{Linked, Links, last_key, Owned, AreChained, Relinks}
-use Rattle.waiters.specs.Whereabouts.{known_of, after_put, after_taken, after_moved, Alters, Follows, Learns, Allows, StandsThere, AreKnown}
+use Rattle.waiters.specs.Whereabouts.{Known, known_of, after_put, after_taken, after_moved, Alters, Follows, Learns, Allows, IsFresh, StandsThere, AreKnown}
 use Rattle.waiters.proofs.ChainLemmas.{same_entries, Linked-split, Avoids, Avoids-split, Owned-split}
 use Rattle.waiters.proofs.StepLemmas.{mine, Step}
 
@@ -81,33 +81,17 @@ Came before (Some key) place was =
     ((was.key ≡ key) × (place ≡ record { before = before; key = key })) ⊎ ((was.key ≢ key) × (place ≡ was))
 
 -- after another record came before the one of a key, if there is one
-module _ (records : Slab Record) (old new : List Whereabouts) (before : Option ℕ) where
-  pub allows_followed : (next : Option ℕ) → Follows records old new next before → (seat at : ℕ) → Allows (known_of old seat) at
-      → Allows (known_of new seat) at
+module _ (old new : Known) (before : Option ℕ) where
+  pub allows_followed : (next : Option ℕ) → Follows old new next before → (seat at : ℕ) → Allows (known_of old seat) at → Allows (known_of new seat) at
   allows_followed None same seat at x = subst (λ l. Allows (known_of l seat) at) (sym same) x
-  allows_followed (Some key) (found, read, alters) seat at x = by (cases_eq seat found.wait.id.seat)
-    where
-      by : (seat ≡ found.wait.id.seat) ⊎ (seat ≢ found.wait.id.seat) → Allows (known_of new seat) at
-      by (inl same) = subst (λ w. Allows w at) (ap (after_moved key before) (ap (known_of old) same) ∙ sym alters.there ∙ ap (known_of new) (sym same))
-          (allows_moved key before (known_of old seat) at x)
-      by (inr differs) = subst (λ w. Allows w at) (sym (alters.elsewhere seat differs)) x
+  allows_followed (Some key) moved seat at x =
+      subst (λ w. Allows w at) (sym (moved seat)) (allows_moved key before (known_of old seat) at x)
 
   -- a seat whose one wait is there then had it there before
-  pub stood_before : (next : Option ℕ) → Follows records old new next before → (seat list : ℕ) (place : Place)
-      → known_of new seat ≡ Only list place
-      → ((key : ℕ) (found : Record) (was : Place) → next ≡ Some key → get records key ≡ Some found → known_of old seat ≡ Only list was
-      → was.key ≡ key → seat ≡ found.wait.id.seat)
+  pub stood_before : (next : Option ℕ) → Follows old new next before → (seat list : ℕ) (place : Place) → known_of new seat ≡ Only list place
       → (was : Place) × (known_of old seat ≡ Only list was) × Came before next place was
-  stood_before None same seat list place e own = (place, ap (λ l. known_of l seat) (sym same) ∙ e, refl)
-  stood_before (Some key) (found, read, alters) seat list place e own = by (cases_eq seat found.wait.id.seat)
-    where
-      by : (seat ≡ found.wait.id.seat) ⊎ (seat ≢ found.wait.id.seat)
-          → (was : Place) × (known_of old seat ≡ Only list was) × Came before (Some key) place was
-      by (inl same) = moved_only key before (known_of old seat) list place
-          (ap (after_moved key before) (ap (known_of old) same) ∙ sym alters.there ∙ ap (known_of new) (sym same) ∙ e)
-      by (inr differs) =
-          let was : known_of old seat ≡ Only list place = sym (alters.elsewhere seat differs) ∙ e in
-          (place, was, inr ((λ at. differs (own key found place refl read was at)), refl))
+  stood_before None same seat list place e = (place, ap (λ l. known_of l seat) (sym same) ∙ e, refl)
+  stood_before (Some key) moved seat list place e = moved_only key before (known_of old seat) list place (sym (moved seat) ∙ e)
 
 -- nothing stands twice in a chain
 Avoids-apart : (key : ℕ) (front : List (ℕ × Wait)) (other : ℕ) (wait : Wait) (back : List (ℕ × Wait))
@@ -127,7 +111,15 @@ stands_wait records here there passed key wait rest found linked read =
     let is = stands_record records here there passed key wait rest linked in
     let same : record { wait = wait; next = is.0 } ≡ found = let e = sym is.1 ∙ read in cc in ap (λ (r : Record). r.wait) (sym same)
 
-module _ (records : Slab Record) (chains : Slab Chain) (room list_room : ℕ) (old : AreChained records chains room list_room) (seats : List Whereabouts)
+-- a key that no record has is that of no seat's wait
+pub known_fresh : (records : Slab Record) (chains : Slab Chain) (seats : Known) → AreKnown records chains seats → (key : ℕ) → get records key ≡ None
+    → IsFresh seats key
+known_fresh records chains seats known key vacant seat list place e same =
+    let x = known.stands seat list place e in
+    let r = stands_record records x.chain.first None x.passed place.key x.wait x.rest x.links.linked in
+    let none = sym r.1 ∙ ap (get records) same ∙ vacant in absurd cc
+
+module _ (records : Slab Record) (chains : Slab Chain) (room list_room : ℕ) (old : AreChained records chains room list_room) (seats : Known)
     (known : AreKnown records chains seats) (list : ℕ) (chain : Chain) (is_open : get chains list ≡ Some chain) where
   -- where a seat's wait is in the list, its records are the list's
   entries_are : (seat : ℕ) (place : Place) (x : StandsThere records chains seat list place)
@@ -217,7 +209,7 @@ module _ (records : Slab Record) (chains : Slab Chain) (room list_room : ℕ) (o
               subst (StandsThere later now seat other) (sym is) (elsewhere seat other was differs x)
 
     -- a record of this key was put in before the one that follows
-    module _ (seats2 : List Whereabouts) (key : ℕ) (wait : Wait) (before follow : Option ℕ) (fresh : get records key ≡ None)
+    module _ (seats2 : Known) (key : ℕ) (wait : Wait) (before follow : Option ℕ) (fresh : get records key ≡ None)
         (there : (found : Record) → get later key ≡ Some found → found.wait ≡ wait)
         (back : (at : ℕ) (found : Record) → at ≢ key → get later at ≡ Some found
         → (was : Record) × (get records at ≡ Some was) × (was.wait ≡ found.wait))
@@ -228,24 +220,32 @@ module _ (records : Slab Record) (chains : Slab Chain) (room list_room : ℕ) (o
         → Unit {0} → Came (Some key) follow place was
         → (a : List (ℕ × Wait)) × (b : List (ℕ × Wait)) × (entries ≡ a ++ (place.key, w) ∷ b) × (place.before ≡ last_key a))
         (learns : Learns later seats seats2 list (record { before = before; key = key }) follow) where
-      abbrev seats1 : List Whereabouts
+      abbrev seats1 : Known
       seats1 = learns.2.0
+
+      abbrev noted : Bool
+      noted = learns.2.1.0
 
       abbrev placed : Place
       placed = record { before = before; key = key }
 
-      alters : Alters seats seats1 wait.id.seat (after_put list placed)
-      alters = subst (λ (w : Wait). Alters seats seats1 w.id.seat (after_put list placed)) (there learns.0 learns.1) learns.2.1
+      alters : Alters seats seats1 wait.id.seat (after_put noted list placed)
+      alters = subst (λ (w : Wait). Alters seats seats1 w.id.seat (after_put noted list placed)) (there learns.0 learns.1) learns.2.1.1
 
-      allows_here : (w : Whereabouts) → Allows (after_put list placed w) key
-      allows_here Nowhere = refl
-      allows_here (Only l p) = tt
-      allows_here Anywhere = tt
+      allows_here : (b : Bool) (w : Whereabouts) → Allows (after_put b list placed w) key
+      allows_here true Nowhere = refl
+      allows_here false Nowhere = tt
+      allows_here true (Only l p) = tt
+      allows_here false (Only l p) = tt
+      allows_here true Anywhere = tt
+      allows_here false Anywhere = tt
 
-      allows_still : (w : Whereabouts) (at : ℕ) → Allows w at → Allows (after_put list placed w) at
-      allows_still Nowhere at x = absurd x
-      allows_still (Only l p) at x = tt
-      allows_still Anywhere at x = tt
+      allows_still : (b : Bool) (w : Whereabouts) (at : ℕ) → Allows w at → Allows (after_put b list placed w) at
+      allows_still b Nowhere at x = absurd x
+      allows_still true (Only l p) at x = tt
+      allows_still false (Only l p) at x = tt
+      allows_still true Anywhere at x = tt
+      allows_still false Anywhere at x = tt
 
       allowed_then : (at : ℕ) (found : Record) → get later at ≡ Some found → Allows (known_of seats1 found.wait.id.seat) at
       allowed_then at found read = by (cases_eq at key)
@@ -255,7 +255,7 @@ module _ (records : Slab Record) (chains : Slab Chain) (room list_room : ℕ) (o
               let w = there found (ap (get later) (sym same) ∙ read) in
               subst (λ k. Allows (known_of seats1 found.wait.id.seat) k) (sym same)
               (subst (λ x. Allows x key) (sym alters.there ∙ ap (λ (x : Wait). known_of seats1 x.id.seat) (sym w))
-              (allows_here (known_of seats wait.id.seat)))
+              (allows_here noted (known_of seats wait.id.seat)))
           by (inr differs) = of (cases_eq found.wait.id.seat wait.id.seat)
             where
               was : (r : Record) × (get records at ≡ Some r) × (r.wait ≡ found.wait)
@@ -265,36 +265,22 @@ module _ (records : Slab Record) (chains : Slab Chain) (room list_room : ℕ) (o
               before_then = subst (λ (x : Wait). Allows (known_of seats x.id.seat) at) was.2 (known.allowed at was.0 was.1)
 
               of : (found.wait.id.seat ≡ wait.id.seat) ⊎ (found.wait.id.seat ≢ wait.id.seat) → Allows (known_of seats1 found.wait.id.seat) at
-              of (inl own) = subst (λ x. Allows x at) (ap (after_put list placed) (ap (known_of seats) own) ∙ sym alters.there ∙ ap (known_of seats1) (sym own))
-                  (allows_still (known_of seats found.wait.id.seat) at before_then)
+              of (inl own) = subst (λ x. Allows x at) (ap (after_put noted list placed) (ap (known_of seats) own) ∙ sym alters.there ∙ ap (known_of seats1) (sym own))
+                  (allows_still noted (known_of seats found.wait.id.seat) at before_then)
               of (inr other) = subst (λ x. Allows x at) (sym (alters.elsewhere found.wait.id.seat other)) before_then
 
       -- a seat whose one wait is there then is new there, or had it there before
-      put_only : (w : Whereabouts) (l : ℕ) (p : Place) → after_put list placed w ≡ Only l p → (list ≡ l) × (placed ≡ p)
-      put_only Nowhere l p e = let a : list ≡ l = cc in let b : placed ≡ p = cc in (a, b)
-      put_only (Only m q) l p e = absurd (cc)
-      put_only Anywhere l p e = absurd (cc)
-
-      own_then : (seat l other : ℕ) (found : Record) (was : Place) → follow ≡ Some other → get later other ≡ Some found → known_of seats1 seat ≡ Only l was
-          → was.key ≡ other → seat ≡ found.wait.id.seat
-      own_then seat l other found was is read e at = by (cases_eq seat wait.id.seat)
-        where
-          apart : other ≢ key
-          apart same = let some = follow_there other is in let none = ap (get records) same ∙ fresh in absurd (cc)
-
-          by : (seat ≡ wait.id.seat) ⊎ (seat ≢ wait.id.seat) → seat ≡ found.wait.id.seat
-          by (inl same) =
-              let new = put_only (known_of seats wait.id.seat) l was (sym alters.there ∙ ap (known_of seats1) (sym same) ∙ e) in
-              absurd (apart (sym at ∙ ap (λ (q : Place). q.key) (sym new.1)))
-          by (inr differs) =
-              let x = known.stands seat l was (sym (alters.elsewhere seat differs) ∙ e) in
-              let r = back other found apart read in
-              let w = stands_wait records x.chain.first None x.passed was.key x.wait x.rest r.0 x.links.linked (ap (get records) at ∙ r.1) in
-              sym x.own ∙ ap (λ (y : Wait). y.id.seat) (sym w ∙ r.2)
+      put_only : (b : Bool) (w : Whereabouts) (l : ℕ) (p : Place) → after_put b list placed w ≡ Only l p → (list ≡ l) × (placed ≡ p)
+      put_only true Nowhere l p e = let a : list ≡ l = cc in let b : placed ≡ p = cc in (a, b)
+      put_only false Nowhere l p e = absurd (cc)
+      put_only true (Only m q) l p e = absurd (cc)
+      put_only false (Only m q) l p e = absurd (cc)
+      put_only true Anywhere l p e = absurd (cc)
+      put_only false Anywhere l p e = absurd (cc)
 
       stands_then : (seat l : ℕ) (place : Place) → known_of seats2 seat ≡ Only l place → StandsThere later now seat l place
       stands_then seat l place e =
-          let o = stood_before later seats1 seats2 (Some key) follow learns.2.2 seat l place e (own_then seat l) in by o.0 o.1 o.2 (cases_eq seat wait.id.seat)
+          let o = stood_before seats1 seats2 (Some key) follow learns.2.2 seat l place e in by o.0 o.1 o.2 (cases_eq seat wait.id.seat)
         where
           not_first : (f : Option ℕ) (was : Place) → was.key ≡ key → ((other : ℕ) → f ≡ Some other → ContainsKey records other) → Came (Some key) f place was
               → place ≡ was
@@ -306,7 +292,7 @@ module _ (records : Slab Record) (chains : Slab Chain) (room list_room : ℕ) (o
           by : (was : Place) → known_of seats1 seat ≡ Only l was → Came (Some key) follow place was → (seat ≡ wait.id.seat) ⊎ (seat ≢ wait.id.seat)
               → StandsThere later now seat l place
           by was e1 came (inl same) =
-              let new = put_only (known_of seats wait.id.seat) l was (sym alters.there ∙ ap (known_of seats1) (sym same) ∙ e1) in
+              let new = put_only noted (known_of seats wait.id.seat) l was (sym alters.there ∙ ap (known_of seats1) (sym same) ∙ e1) in
               let is = not_first follow was (ap (λ (q : Place). q.key) (sym new.1)) follow_there came in
               subst (λ k. StandsThere later now seat k place) new.0
               (subst (StandsThere later now seat list) (new.1 ∙ sym is)
@@ -317,12 +303,12 @@ module _ (records : Slab Record) (chains : Slab Chain) (room list_room : ℕ) (o
 
       pub known_put : AreKnown later now seats2
       known_put = record {
-        allowed = λ at found read. allows_followed later seats1 seats2 (Some key) follow learns.2.2 found.wait.id.seat at (allowed_then at found read);
+        allowed = λ at found read. allows_followed seats1 seats2 (Some key) follow learns.2.2 found.wait.id.seat at (allowed_then at found read);
         stands = stands_then;
       }
 
     -- the record at a place was taken out
-    module _ (seats2 : List Whereabouts) (place : Place) (gone : Record) (was_there : get records place.key ≡ Some gone)
+    module _ (seats2 : Known) (place : Place) (gone : Record) (was_there : get records place.key ≡ Some gone)
         (back : (at : ℕ) (found : Record) → get later at ≡ Some found
         → (at ≢ place.key) × ((was : Record) × (get records at ≡ Some was) × (was.wait ≡ found.wait)))
         (next_owned : (other : ℕ) → gone.next ≡ Some other → old.owner other ≡ list)
@@ -330,8 +316,8 @@ module _ (records : Slab Record) (chains : Slab Chain) (room list_room : ℕ) (o
         → passed ++ (was.key, w) ∷ rest ≡ (mine records chains room list_room old list chain is_open).entries → was.before ≡ last_key passed
         → was.key ≢ place.key → Came place.before gone.next to was
         → (a : List (ℕ × Wait)) × (b : List (ℕ × Wait)) × (entries ≡ a ++ (to.key, w) ∷ b) × (to.before ≡ last_key a))
-        (seats1 : List Whereabouts) (alters : Alters seats seats1 gone.wait.id.seat after_taken)
-        (follows : Follows records seats1 seats2 gone.next place.before) where
+        (seats1 : Known) (alters : Alters seats seats1 gone.wait.id.seat after_taken)
+        (follows : Follows seats1 seats2 gone.next place.before) where
       taken_not : (w : Whereabouts) (l : ℕ) (p : Place) → after_taken w ≡ Only l p → ⊥
       taken_not Nowhere l p e = absurd (cc)
       taken_not (Only m q) l p e = absurd (cc)
@@ -365,16 +351,9 @@ module _ (records : Slab Record) (chains : Slab Chain) (room list_room : ℕ) (o
           by (inl same) = absurd (taken_not (known_of seats gone.wait.id.seat) l was (sym alters.there ∙ ap (known_of seats1) (sym same) ∙ e))
           by (inr differs) = (differs, sym (alters.elsewhere seat differs) ∙ e)
 
-      own_left : (seat l other : ℕ) (found : Record) (was : Place) → gone.next ≡ Some other → get records other ≡ Some found
-          → known_of seats1 seat ≡ Only l was → was.key ≡ other → seat ≡ found.wait.id.seat
-      own_left seat l other found was is read e at =
-          let x = known.stands seat l was (had seat l was e).1 in
-          sym x.own ∙ ap (λ (y : Wait). y.id.seat)
-          (sym (stands_wait records x.chain.first None x.passed was.key x.wait x.rest found x.links.linked (ap (get records) at ∙ read)))
-
       stands_left : (seat l : ℕ) (to : Place) → known_of seats2 seat ≡ Only l to → StandsThere later now seat l to
       stands_left seat l to e =
-          let o = stood_before records seats1 seats2 place.before gone.next follows seat l to e (own_left seat l) in
+          let o = stood_before seats1 seats2 place.before gone.next follows seat l to e in
           let h = had seat l o.0 o.1 in let x = known.stands seat l o.0 h.1 in
           still place.before gone.next next_owned (λ k. k ≢ place.key) moves seat l to o.0 x
           (λ same at. h.0 (sym x.own ∙ ap (λ (y : Wait). y.id.seat)
@@ -382,6 +361,6 @@ module _ (records : Slab Record) (chains : Slab Chain) (room list_room : ℕ) (o
 
       pub known_left : AreKnown later now seats2
       known_left = record {
-        allowed = λ at found read. allows_followed records seats1 seats2 place.before gone.next follows found.wait.id.seat at (allowed_left at found read);
+        allowed = λ at found read. allows_followed seats1 seats2 place.before gone.next follows found.wait.id.seat at (allowed_left at found read);
         stands = stands_left;
       }

@@ -1,17 +1,14 @@
 -- What lists know of their seats, after each call.
-use Rattle.std.proofs.Common.{◌≡◌, ◌≢◌, ◌⊎◌, ℕ, ◌+◌, ◌-◌, ◌<◌, ◌≤◌, List, [], ◌∷◌, ◌++◌, get_or, replicate, Option, Some, None}
+use Rattle.std.proofs.Common.{◌≡◌, ◌≢◌, ◌⊎◌, ℕ, ◌+◌, ◌-◌, ◌<◌, List, [], ◌∷◌, ◌++◌, get_or, Option, Some, None}
 use Rattle.std.proofs.Common.{refl, sym, ap, ◌∙◌, subst, inl, inr, arith, append_assoc}
-use Rattle.std.proofs.lemmas.Bool.{cases_lt}
-use Rattle.std.proofs.lemmas.List.{get_or-replicate, get_or_past, length-replicate}
 use Rattle.slab.specs.Slab.{Slab, get, ContainsKey, Updates, with_value, SameValues}
 use Rattle.waiters.specs.declared.wait.Wait.{Wait}
 use Rattle.waiters.specs.declared.lists.Record.{Record}
 use Rattle.waiters.specs.declared.lists.Chain.{Chain}
 use Rattle.waiters.specs.declared.lists.Place.{Place}
-use Rattle.waiters.specs.declared.lists.whereabouts.Whereabouts.{Whereabouts}
-use Rattle.waiters.specs.Chains.{waits_in, waits_of, Linked, last_key, Owned, IsChain, AreChained, Appends, Prepends, Unlinks, StandsAt, IsThere}
-use Rattle.waiters.specs.declared.lists.whereabouts.Whereabouts.TheVariants.{Nowhere, Only, Anywhere}
-use Rattle.waiters.specs.Whereabouts.{known_of, Learns, Forgets, StandsThere, AreKnown}
+use Rattle.waiters.specs.Chains.{waits_in, waits_of, Linked, last_key, Owned, IsChain, AreChained, Appends, Prepends, Unlinks, StandsAt}
+use Rattle.waiters.specs.declared.lists.whereabouts.Whereabouts.TheVariants.{Only, Anywhere}
+use Rattle.waiters.specs.Whereabouts.{Known, known_of, Allows, Learns, Forgets, StandsThere, AreKnown}
 use Rattle.waiters.proofs.ChainLemmas.{Linked-split, last_key-append, Avoids, Avoids-longer, Avoids-shorter, Avoids-split, Owned-split}
 use Rattle.waiters.proofs.StepLemmas.{mine, appended, prepended, unlinked}
 use Rattle.waiters.proofs.OtherLemmas.{waits_in-Links}
@@ -46,14 +43,14 @@ module _ (records : Slab Record) (here : Option ℕ) (front : List (ℕ × Wait)
   pub before_apart_all : Avoids (Some k.0) front
   before_apart_all = Avoids-longer records k.0 (k ∷ back) front here suffix linked
 
-module _ (records : Slab Record) (chains : Slab Chain) (room list_room : ℕ) (old : AreChained records chains room list_room) (seats : List Whereabouts)
+module _ (records : Slab Record) (chains : Slab Chain) (room list_room : ℕ) (old : AreChained records chains room list_room) (seats : Known)
     (known : AreKnown records chains seats) (list : ℕ) (chain : Chain) (is_open : get chains list ≡ Some chain) where
   abbrev own : IsChain records old.owner list chain
   own = mine records chains room list_room old list chain is_open
 
   -- after a push at the end
   module _ (later : Slab Record) (wait : Wait) (longer : Chain) (appends : Appends records later chain wait longer) (some : 0 < room) where
-    pub known_appended : (seats2 : List Whereabouts)
+    pub known_appended : (seats2 : Known)
         → Learns later seats seats2 list (record { before = chain.last; key = appends.key }) None → AreKnown later (with_value chains list longer) seats2
     known_appended seats2 learns =
         known_put records chains room list_room old seats known list chain is_open later longer (own.entries ++ (appends.key, wait) ∷ []) (room - 1)
@@ -95,17 +92,6 @@ module _ (records : Slab Record) (chains : Slab Chain) (room list_room : ℕ) (o
     pub prepended_there : ContainsKey later prepends.key
     prepended_there = rw prepends.added.changed refl
 
-    pub first_stays : IsThere later chain.first
-    first_stays =
-        let links = (prepended records chains room list_room old list chain is_open later wait longer prepends some).links in
-        let is : record { wait = wait; next = links.linked.0 } ≡ record { wait = wait; next = chain.first } =
-        let e = sym links.linked.2 ∙ prepends.added.changed in cc in
-        by chain.first own.entries (subst (λ n. Linked later n own.entries None) (ap (λ (r : Record). r.next) is) links.linked.3)
-      where
-        by : (first : Option ℕ) (entries : List (ℕ × Wait)) → Linked later first entries None → IsThere later first
-        by first [] linked = rw linked tt
-        by first (entry ∷ rest) linked = rw (linked.1, linked.2) refl
-
     first_is : (entries : List (ℕ × Wait)) → Linked records chain.first entries None → Owned old.owner list entries → (other : ℕ) → chain.first ≡ Some other
         → (old.owner other ≡ list) × ContainsKey records other
     first_is [] linked owned other e = absurd (let none = sym linked ∙ e in cc)
@@ -113,7 +99,7 @@ module _ (records : Slab Record) (chains : Slab Chain) (room list_room : ℕ) (o
         let same : entry.0 ≡ other = let both = sym linked.1 ∙ e in cc in
         (ap old.owner (sym same) ∙ owned.0, rw (← same, linked.2) refl)
 
-    pub known_prepended : (seats2 : List Whereabouts)
+    pub known_prepended : (seats2 : Known)
         → Learns later seats seats2 list (record { before = None; key = prepends.key }) chain.first → AreKnown later (with_value chains list longer) seats2
     known_prepended seats2 learns =
         known_put records chains room list_room old seats known list chain is_open later longer ((prepends.key, wait) ∷ own.entries) (room - 1)
@@ -165,7 +151,7 @@ module _ (records : Slab Record) (chains : Slab Chain) (room list_room : ℕ) (o
 
   -- after a record was taken out
   module _ (later : Slab Record) (place : Place) (wait : Wait) (left : Chain) (stands : StandsAt own.entries place)
-      (unlinks : Unlinks records later chain place wait left) (seats2 : List Whereabouts) (forgets : Forgets records seats seats2 place) where
+      (unlinks : Unlinks records later chain place wait left) (seats2 : Known) (forgets : Forgets records seats seats2 place) where
     abbrev gone : Record
     gone = forgets.0
 
@@ -274,7 +260,7 @@ module _ (records : Slab Record) (chains : Slab Chain) (room list_room : ℕ) (o
             by (inr (M, split, is)) = behind to was passed w rest M split is before came
 
 -- where no record changes, and each list with a record keeps its chain
-known_kept : (records : Slab Record) (chains next : Slab Chain) (seats : List Whereabouts) → AreKnown records chains seats
+known_kept : (records : Slab Record) (chains next : Slab Chain) (seats : Known) → AreKnown records chains seats
     → ((seat list : ℕ) (place : Place) (x : StandsThere records chains seat list place) → get next list ≡ Some x.chain) → AreKnown records next seats
 known_kept records chains next seats known keeps = record {
   allowed = known.allowed;
@@ -290,13 +276,13 @@ known_kept records chains next seats known keeps = record {
   };
 }
 
-pub known_opened : (records : Slab Record) (chains next : Slab Chain) (seats : List Whereabouts) (list : ℕ) (chain : Chain) → get chains list ≡ None
+pub known_opened : (records : Slab Record) (chains next : Slab Chain) (seats : Known) (list : ℕ) (chain : Chain) → get chains list ≡ None
     → Updates chains next list (Some chain) → AreKnown records chains seats → AreKnown records next seats
 known_opened records chains next seats list chain vacant updates known = known_kept records chains next seats known
     (λ seat other place x. updates.others other
     (λ same. (let none = sym vacant ∙ ap (get chains) (sym same) ∙ x.is_open in absurd cc)) ∙ x.is_open)
 
-pub known_closed : (records : Slab Record) (chains next : Slab Chain) (seats : List Whereabouts) (list : ℕ) → waits_in records (get chains list) ≡ Some []
+pub known_closed : (records : Slab Record) (chains next : Slab Chain) (seats : Known) (list : ℕ) → waits_in records (get chains list) ≡ Some []
     → Updates chains next list None → AreKnown records chains seats → AreKnown records next seats
 known_closed records chains next seats list empty updates known = known_kept records chains next seats known
     (λ seat other place x. updates.others other (λ same. some x.passed place x.wait x.rest
@@ -308,7 +294,7 @@ known_closed records chains next seats list empty updates known = known_kept rec
     some [] place wait rest e = absurd cc
     some (p ∷ passed) place wait rest e = absurd cc
 
-pub known_same : (records copy : Slab Record) (same : SameValues records copy) (chains next : Slab Chain) → SameValues chains next → (seats : List Whereabouts)
+pub known_same : (records copy : Slab Record) (same : SameValues records copy) (chains next : Slab Chain) → SameValues chains next → (seats : Known)
     → AreKnown records chains seats → AreKnown copy next seats
 known_same records copy same chains next same_chains seats known = record {
   allowed = λ key found read. known.allowed key found (sym (same key) ∙ read);
@@ -328,24 +314,18 @@ known_same records copy same chains next same_chains seats known = record {
   };
 }
 
--- where there is no record, and nothing is known of a seat but that it has none
-pub known_empty : (records : Slab Record) (chains : Slab Chain) (seats : List Whereabouts) → records.slots ≡ []
-    → ((seat list : ℕ) (place : Place) → known_of seats seat ≡ Only list place → ⊥) → AreKnown records chains seats
+-- where there is no record, and no seat has a wait
+pub known_empty : (records : Slab Record) (chains : Slab Chain) (seats : Known) → records.slots ≡ []
+    → ((seat list : ℕ) (place : Place) → known_of seats seat ≢ Only list place) → AreKnown records chains seats
 known_empty records chains seats empty nowhere = record {
   allowed = λ key found read. (let none = sym read ∙ ap (λ l. get_or l key None) empty in absurd cc);
   stands = λ seat list place e. absurd (nowhere seat list place e);
 }
 
 -- of no seat anything is known
-pub known_nothing : (records : Slab Record) (chains : Slab Chain) → AreKnown records chains []
-known_nothing records chains = record { allowed = λ key found read. tt; stands = λ seat list place e. absurd cc }
-
-pub known_nowhere : (records : Slab Record) (chains : Slab Chain) (seats : ℕ) (known : List Whereabouts) → records.slots ≡ [] → known ≡ replicate seats Nowhere
-    → AreKnown records chains known
-known_nowhere records chains seats known empty is =
-    known_empty records chains known empty (λ seat list place e. by seat list place (cases_lt seat seats) (ap (λ l. known_of l seat) (sym is) ∙ e))
-  where
-    by : (seat list : ℕ) (place : Place) → (seat < seats) ⊎ (seats ≤ seat) → known_of (replicate seats Nowhere) seat ≡ Only list place → ⊥
-    by seat list place (inl low) e = let none = sym (get_or-replicate seats seat Nowhere Anywhere low) ∙ e in absurd cc
-    by seat list place (inr past) e =
-        let none = sym (get_or_past (replicate seats Nowhere) seat Anywhere (rw (length-replicate seats Nowhere) past)) ∙ e in absurd cc
+pub known_nothing : (records : Slab Record) (chains : Slab Chain) (seats : Known) → ((seat : ℕ) → known_of seats seat ≡ Anywhere)
+    → AreKnown records chains seats
+known_nothing records chains seats nothing = record {
+  allowed = λ key found read. subst (λ w. Allows w key) (sym (nothing found.wait.id.seat)) tt;
+  stands = λ seat list place e. (let none = sym (nothing seat) ∙ e in absurd cc);
+}

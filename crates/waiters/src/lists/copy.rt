@@ -16,7 +16,7 @@ impl Lists {
         reserve_as(&mut self.chains, &other.chains)?;
         copy_values(&mut self.records, &other.records);
         copy_values(&mut self.chains, &other.chains);
-        self.seats.clear();
+        self.seats.forget_all();
         self.room = other.room;
         self.list_room = other.list_room;
         Ok(())

@@ -5,7 +5,7 @@ ghost use Rattle.waiters.specs.Whereabouts.{IsChainOf, known_about};
 ghost use Rattle.waiters.specs.Lists.{IsOpen, waits_at, Changes, is_sought, first_sought, without_sought};
 ghost use Rattle.waiters.specs.Lists.{first_with, without_first};
 
-use super::whereabouts::{Whereabouts, forget};
+use super::whereabouts::{Seats, Whereabouts};
 use super::{Chain, Lists, Place, Record, unlink};
 use crate::list_key::ListKey;
 use crate::sought::Sought;
@@ -41,7 +41,7 @@ impl Lists {
         let Some(place) = locate(&self.records, &self.seats, list, chain, &sought) else {
             return None;
         };
-        forget(&self.records, &mut self.seats, place);
+        self.seats.forget(&self.records, place);
         let (wait, left) = unlink(&mut self.records, chain, place);
         self.chains[list] = left;
         self.room += 1;
@@ -77,12 +77,12 @@ impl Lists {
 // Where the first wait of the list is that is sought: by what is known of its seat, and else by a walk.
 fn locate(
     records: &Slab<Record>,
-    seats: &Vec<Whereabouts>,
+    seats: &Seats,
     list: usize,
     chain: Chain,
     sought: &Sought,
 ) -> Option<Place>
-    requires { IsChainOf records.now seats.now.items list chain }
+    requires { IsChainOf records.now seats.now list chain }
     ensures { Finds records.now chain (is_sought sought.now) result }
 {
     match about(seats, sought) {
@@ -101,19 +101,15 @@ fn locate(
 }
 
 // What is known of the seat of the wait that is sought.
-fn about(seats: &Vec<Whereabouts>, sought: &Sought) -> Whereabouts
-    ensures { result ≡ known_about seats.now.items sought.now }
+fn about(seats: &Seats, sought: &Sought) -> Whereabouts
+    ensures { result ≡ known_about seats.now sought.now }
 {
     let seat = match *sought {
         Sought::Ticket(_) => return Whereabouts::Anywhere,
         Sought::Seat(seat) => seat,
         Sought::Id(id) => id.seat,
     };
-    let at = usize::from(seat.number());
-    if at < seats.len() {
-        return seats[at];
-    }
-    Whereabouts::Anywhere
+    seats.whereabouts(seat)
 }
 
 // Where the first wait is that is sought, by a walk.

@@ -21,7 +21,7 @@ invariant_of-self c =
     ∙ ap (λ slots. get_or slots c.number.result None) was ∙ ap (λ key. get_or c.args.self.now.slots key None) c.number.ensures ∙ c.requires in (
       AreChained-step records records _ _ _ _ old _ _ removed.updates old.owner _ _ (Keeps-same records old.owner _) tt old.records_fit
           (HasRoom-more _ _ _ old.chains_fit removed.capacity removed.len),
-      known_closed records chains _ c.self.inside.seats.items c.number.result empty removed.updates c.self.invariant.1,
+      known_closed records chains _ c.self.inside.seats c.number.result empty removed.updates c.self.invariant.1,
     )
 
 pub returns-clause-closed : goal.returns-clause-closed

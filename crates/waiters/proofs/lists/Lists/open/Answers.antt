@@ -13,7 +13,7 @@ invariant_of-self c =
     let chains = c.self.inside.chains in (
       AreChained-step records records _ _ _ _ old _ _ inserted.updates old.owner _ _ (Keeps-same records old.owner _) (IsSlot-empty records old.owner _)
           old.records_fit (HasRoom-less _ _ _ old.chains_fit inserted.capacity some inserted.len),
-      known_opened records chains _ c.self.inside.seats.items _ _ inserted.was_vacant inserted.updates c.self.invariant.1,
+      known_opened records chains _ c.self.inside.seats _ _ inserted.was_vacant inserted.updates c.self.invariant.1,
     )
 
 pub returns-clause-opened : goal.returns-clause-opened

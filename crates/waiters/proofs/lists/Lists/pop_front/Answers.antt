@@ -2,7 +2,7 @@ use Rattle.std.proofs.Common.{drop, ap, sym, ◌∙◌, refl}
 use Rattle.std.specs.Prelude.{Some}
 use Rattle.waiters.specs.Chains.{waits_of}
 use Rattle.waiters.proofs.StepLemmas.{AreChained-unlinked, Changes-unlinked, wait-unlinked, first_waits, waits_at-open, list_at-open, nil_from_first}
-use Rattle.waiters.proofs.StepLemmas.{StandsAt-first, ContainsKey-place, next_there, some_counted}
+use Rattle.waiters.proofs.StepLemmas.{StandsAt-first, ContainsKey-place, some_counted}
 use Rattle.waiters.proofs.OtherLemmas.{ContainsKey-open, Changes-same}
 use Rattle.waiters.proofs.WhereaboutsSteps.{known_unlinked}
 use Rattle.waiters.proofs.lists.Lists.pop_front.Goals as goal
@@ -44,19 +44,12 @@ unlink-wait-requires-clause-counted c =
     let stands = StandsAt-first _ _ _ _ c.self.invariant.0 list chain c.index-chain.ensures c.in-Some.key c.in-Some.is in
     some_counted _ _ _ _ c.self.invariant.0 list chain c.index-chain.ensures _ stands
 
-pub forget-requires-clause-there : goal.forget-requires-clause-there
-forget-requires-clause-there c =
+pub forget-requires : goal.forget-requires
+forget-requires c =
     let list = c.number-list.result in
     let chain = c.index-chain.result.now in
     let stands = StandsAt-first _ _ _ _ c.self.invariant.0 list chain c.index-chain.ensures c.in-Some.key c.in-Some.is in
     ContainsKey-place _ _ _ _ c.self.invariant.0 list chain c.index-chain.ensures _ stands
-
-pub forget-requires-clause-next : goal.forget-requires-clause-next
-forget-requires-clause-next c =
-    let list = c.number-list.result in
-    let chain = c.index-chain.result.now in
-    let stands = StandsAt-first _ _ _ _ c.self.invariant.0 list chain c.index-chain.ensures c.in-Some.key c.in-Some.is in
-    next_there _ _ _ _ c.self.invariant.0 list chain c.index-chain.ensures _ stands
 
 pub invariant_of-self : goal.invariant_of-self
 invariant_of-self c =

@@ -1,6 +1,7 @@
 use Rattle.std.proofs.Common.{ap, sym, refl}
 use Rattle.waiters.proofs.StepLemmas.{AreChained-appended, Changes-appended, len_fits, IsThere-last}
 use Rattle.waiters.proofs.OtherLemmas.{ContainsKey-open}
+use Rattle.waiters.proofs.WhereaboutsLemmas.{known_fresh}
 use Rattle.waiters.proofs.WhereaboutsSteps.{appended_there, known_appended}
 use Rattle.waiters.proofs.lists.Lists.push_back.Goals as goal
 
@@ -23,6 +24,11 @@ learn-requires-clause-there c =
     let some = rw (← c.self.view_is) at c.requires.fits in let made = c.append-key.ensures in
     rw made.1 (appended_there _ _ _ _ c.self.invariant.0 _ c.self.invariant.1 c.number-list.result c.index-chain.result.now c.index-chain.ensures
     _ c.args.wait _ made.0 some)
+
+pub learn-requires-clause-fresh : goal.learn-requires-clause-fresh
+learn-requires-clause-fresh c =
+    let made = c.append-key.ensures in
+    rw made.1 (known_fresh _ _ _ c.self.invariant.1 made.0.key made.0.vacant)
 
 pub invariant_of-self : goal.invariant_of-self
 invariant_of-self c =

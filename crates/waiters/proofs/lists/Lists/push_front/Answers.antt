@@ -1,7 +1,8 @@
 use Rattle.std.proofs.Common.{ap, sym, refl}
 use Rattle.waiters.proofs.StepLemmas.{AreChained-prepended, Changes-prepended, len_fits}
 use Rattle.waiters.proofs.OtherLemmas.{ContainsKey-open}
-use Rattle.waiters.proofs.WhereaboutsSteps.{prepended_there, first_stays, known_prepended}
+use Rattle.waiters.proofs.WhereaboutsLemmas.{known_fresh}
+use Rattle.waiters.proofs.WhereaboutsSteps.{prepended_there, known_prepended}
 use Rattle.waiters.proofs.lists.Lists.push_front.Goals as goal
 
 pub index-chain-requires : goal.index-chain-requires
@@ -20,11 +21,10 @@ learn-requires-clause-there c =
     rw made.1 (prepended_there _ _ _ _ c.self.invariant.0 _ c.self.invariant.1 c.number-list.result c.index-chain.result.now c.index-chain.ensures
     _ c.args.wait _ made.0 some)
 
-pub learn-requires-clause-next : goal.learn-requires-clause-next
-learn-requires-clause-next c =
-    let some = rw (← c.self.view_is) at c.requires.fits in
-    first_stays _ _ _ _ c.self.invariant.0 _ c.self.invariant.1 c.number-list.result c.index-chain.result.now c.index-chain.ensures
-    _ c.args.wait _ c.prepend-key.ensures.0 some
+pub learn-requires-clause-fresh : goal.learn-requires-clause-fresh
+learn-requires-clause-fresh c =
+    let made = c.prepend-key.ensures in
+    rw made.1 (known_fresh _ _ _ c.self.invariant.1 made.0.key made.0.vacant)
 
 pub invariant_of-self : goal.invariant_of-self
 invariant_of-self c =

@@ -2,7 +2,7 @@ use Rattle.std.proofs.Common.{ap, sym, ◌∙◌, refl}
 use Rattle.std.specs.Prelude.{Some}
 use Rattle.waiters.specs.Lists.{is_sought, without_sought}
 use Rattle.waiters.proofs.StepLemmas.{AreChained-unlinked, Changes-unlinked, wait-unlinked, waits_at-open, none_found, FoundAt-mine, ContainsKey-place}
-use Rattle.waiters.proofs.StepLemmas.{IsThere-before, next_there, before_apart, some_counted}
+use Rattle.waiters.proofs.StepLemmas.{IsThere-before, before_apart, some_counted}
 use Rattle.waiters.proofs.OtherLemmas.{ContainsKey-open, Changes-same}
 use Rattle.waiters.proofs.WhereaboutsSteps.{known_unlinked}
 use Rattle.waiters.proofs.lists.Lists.take.Goals as goal
@@ -66,21 +66,13 @@ unlink-wait-requires-clause-counted c =
     let found = FoundAt-mine _ _ _ _ c.self.invariant.0 list chain c.index-chain.ensures (is_sought c.args.sought) _ finds in
     some_counted _ _ _ _ c.self.invariant.0 list chain c.index-chain.ensures _ found.stands
 
-pub forget-requires-clause-there : goal.forget-requires-clause-there
-forget-requires-clause-there c =
+pub forget-requires : goal.forget-requires
+forget-requires c =
     let list = c.number-list.result in
     let chain = c.index-chain.result.now in
     let finds = rw c.in-Some.is at c.locate.ensures in
     let found = FoundAt-mine _ _ _ _ c.self.invariant.0 list chain c.index-chain.ensures (is_sought c.args.sought) _ finds in
     ContainsKey-place _ _ _ _ c.self.invariant.0 list chain c.index-chain.ensures _ found.stands
-
-pub forget-requires-clause-next : goal.forget-requires-clause-next
-forget-requires-clause-next c =
-    let list = c.number-list.result in
-    let chain = c.index-chain.result.now in
-    let finds = rw c.in-Some.is at c.locate.ensures in
-    let found = FoundAt-mine _ _ _ _ c.self.invariant.0 list chain c.index-chain.ensures (is_sought c.args.sought) _ finds in
-    next_there _ _ _ _ c.self.invariant.0 list chain c.index-chain.ensures _ found.stands
 
 pub invariant_of-self : goal.invariant_of-self
 invariant_of-self c =

@@ -1,7 +1,5 @@
-use Rattle.std.proofs.Common.{ap, sym, subst, ◌∙◌}
-use Rattle.std.proofs.lemmas.List.Elements.{same_from_all_zip}
-use Rattle.waiters.specs.Whereabouts.{AreKnown}
-use Rattle.waiters.proofs.WhereaboutsSteps.{known_same}
+use Rattle.std.proofs.Common.{ap, ◌∙◌}
+use Rattle.waiters.proofs.WhereaboutsSteps.{known_nothing}
 use Rattle.waiters.proofs.CloneLemmas.{SameValues-clone, listed-same, AreChained-same}
 use Rattle.waiters.proofs.lists.ListsClone.clone.Goals as goal
 
@@ -10,10 +8,7 @@ invariant_of-result c =
     let records = SameValues-clone _ _ _ (λ x y is. is) c.in_ok-copied.ensures.clones in
     let chains = SameValues-clone _ _ _ (λ x y is. is) c.in_ok-copied-2.ensures.clones in (
       AreChained-same _ _ records _ _ chains _ _ c.in_ok-copied.ensures.room c.in_ok-copied-2.ensures.room c.self.invariant.0,
-      subst (AreKnown c.in_ok-copied.field-0 c.in_ok-copied-2.field-0)
-          (sym (same_from_all_zip _ c.self.inside.seats.items c.in_ok-clone.field-0.items c.in_ok-clone.ensures.cases.0 (λ x y is. is)))
-          (known_same c.self.inside.records c.in_ok-copied.field-0 records c.self.inside.chains c.in_ok-copied-2.field-0 chains c.self.inside.seats.items
-          c.self.invariant.1),
+      known_nothing c.in_ok-copied.field-0 c.in_ok-copied-2.field-0 _ c.unknown.ensures,
     )
 
 pub returns : goal.returns
