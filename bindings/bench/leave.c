@@ -65,7 +65,7 @@ static double behind(size_t waits, int turns)
 
 int main(void)
 {
-    static const size_t waits[] = {0, 15, 63, 255, 4095, 65535};
+    static const size_t waits[] = {0, 15, 63, 255, 4095, 65533};
 
     for (size_t at = 0; at < sizeof waits / sizeof *waits; at++) {
         int turns = waits[at] < 1000 ? 20000 : 300;

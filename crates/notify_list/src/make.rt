@@ -54,9 +54,10 @@ fn first_slots(alloc: Global, setting: Setting) -> Result<Vec<Record>, NoMemory>
     ensures { IfOk result (λ slots. (y : Emptied) × (slots.items ≡ y ∷ []) × IsRecord setting y nothing_guarded) }
 {
     let mut slots = Vec::with_capacity(alloc, 1)?;
-    let mut lists = Lists::with_room(alloc, setting.seats as usize, 1)?;
+    let seats = setting.seats as usize;
+    let mut lists = Lists::with_seats(alloc, seats, 1, seats)?;
     let key = lists.open();
-    let live = Live::with_room(alloc, setting.first, setting.seats as usize)?;
+    let live = Live::with_room(alloc, setting.first, seats)?;
     slots.push_reserved(Record {
         lists,
         key,

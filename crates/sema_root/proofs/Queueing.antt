@@ -2,12 +2,11 @@
 use Rattle.std.proofs.Common.{◌≡◌, ℕ, ◌+◌, ◌<◌, Bool, true, false, List, [], ◌∷◌, Option, Some, None, is_some, IsSome, IfNone, OnSome}
 use Rattle.std.proofs.Common.{length}
 use Rattle.std.proofs.Common.{refl, sym, ap, ◌∙◌, subst, arith, length-append, length-drop}
-use Rattle.waiters.specs.declared.sought.Sought.TheVariants.{Seat}
 use Rattle.waiters.specs.declared.wait.Wait.{Wait}
 use Rattle.waiters.specs.Lists.{Lists, list_at, waits_at, is_sought, Changes as ListChanges}
 use Rattle.waiters.proofs.SoughtLemmas.{without-none, without-length}
 use Rattle.sema_root.specs.declared.which.Which.{Which}
-use Rattle.sema_root.specs.declared.which.Which.TheVariants.{First, OfSeat}
+use Rattle.sema_root.specs.declared.which.Which.TheVariants.{First, Of}
 use Rattle.sema_root.specs.Entries.{entry_of, Adds, Removes}
 use Rattle.sema_root.specs.Queues.{waits_on, total, AreQueues, joined_by, Changes}
 use Rattle.sema_root.specs.Takes.{taken_by, left_by, Takes, TakesOut}
@@ -67,19 +66,19 @@ module _ {old : Lists} {entries : List (ℕ × ℕ)} {seats c : ℕ} (joined : A
 -- nobody is meant where nobody waits
 taken_by-nobody : (which : Which) → taken_by which [] ≡ None
 taken_by-nobody First = refl
-taken_by-nobody (OfSeat seat) = refl
+taken_by-nobody (Of sought) = refl
 
 -- the wait that is meant leaves all others: the whole list where there is none
 pub left_by-none : (which : Which) (waits : List Wait) → taken_by which waits ≡ None → left_by which waits ≡ waits
 left_by-none First [] none = refl
 left_by-none First (wait ∷ rest) none = absurd (cc)
-left_by-none (OfSeat seat) waits none = without-none (is_sought (Seat seat)) waits none
+left_by-none (Of sought) waits none = without-none (is_sought sought) waits none
 
 -- and else one wait less
 pub left_by-length : (which : Which) (waits : List Wait) → IsSome (taken_by which waits) → length (left_by which waits) + 1 ≡ length waits
 left_by-length First [] some = absurd (cc)
 left_by-length First (wait ∷ rest) some = omega (arith, length-drop 1 (wait ∷ rest))
-left_by-length (OfSeat seat) waits some = without-length (is_sought (Seat seat)) waits some
+left_by-length (Of sought) waits some = without-length (is_sought sought) waits some
 
 -- so a list gives as much room as it gets shorter
 Takes-room : {old new : Lists} {key : ℕ} {which : Which} {taken : Option Wait} → Takes old new key which taken

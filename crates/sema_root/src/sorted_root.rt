@@ -97,8 +97,12 @@ impl RootStore for SortedRoot {
         self.take(counter, Which::First)
     }
 
-    fn withdraw(&mut self, counter: CounterId, seat: SeatId) -> Option<Wait> {
-        self.take(counter, Which::OfSeat(seat))
+    fn withdraw_seat(&mut self, counter: CounterId, seat: SeatId) -> Option<Wait> {
+        self.take(counter, Which::Of(Sought::Seat(seat)))
+    }
+
+    fn withdraw(&mut self, counter: CounterId, id: WaitId) -> bool {
+        self.take(counter, Which::Of(Sought::Id(id))).is_some()
     }
 
     fn holds(&self, counter: CounterId, seat: SeatId) -> bool {

@@ -1,7 +1,7 @@
 ghost use Rattle.std.specs.Prelude.{◌≡◌, ◌<◌, ◌≤◌, ◌+◌, ℕ, List, drop, length, map, slice_get, IfOk, OnSome};
-ghost use Rattle.std.specs.Prelude.{IfNone, IsTrue, ◌↔◌, is_some};
+ghost use Rattle.std.specs.Prelude.{IfNone, IsTrue, ◌↔◌, is_some, true, false};
 ghost use Rattle.waiters.specs.Lists.{is_sought, first_sought, without_sought};
-ghost use Rattle.waiters.specs.declared.sought.Sought.TheVariants.{Seat};
+ghost use Rattle.waiters.specs.declared.sought.Sought.TheVariants.{Seat, Id};
 ghost use Rattle.waiters.specs.declared.wait.Wait.{Wait};
 ghost use Rattle.sema_root.specs.Queues.{waits_on, total, AreQueues, joined_by, Changes};
 
@@ -36,12 +36,23 @@ pub trait RootStore {
         ensures seats { seats self.new ≡ seats self.old };
 
     /// Takes the wait of a seat out of its counter's queue, if it is in. The others stay in order.
-    fn withdraw(&mut self, counter: CounterId, seat: SeatId) -> Option<Wait>
+    fn withdraw_seat(&mut self, counter: CounterId, seat: SeatId) -> Option<Wait>
         ensures first { result ≡ first_sought (is_sought (Seat seat)) (waits_on (queues self.old) counter) }
         ensures rest { Changes (queues self.old) (queues self.new) counter
             (without_sought (is_sought (Seat seat)) (waits_on (queues self.old) counter)) }
         ensures count { OnSome result (total (queues self.new) + 1 ≡ total (queues self.old)) }
         ensures none { IfNone result (self.new ≡ self.old) }
+        ensures map { AreQueues (queues self.new) }
+        ensures seats { seats self.new ≡ seats self.old };
+
+    /// Takes the wait of this name out of its counter's queue, and closes a queue that it leaves empty: whether it
+    /// was in. The others stay in order.
+    fn withdraw(&mut self, counter: CounterId, id: WaitId) -> bool
+        ensures is_in { result ≡ is_some (first_sought (is_sought (Id id)) (waits_on (queues self.old) counter)) }
+        ensures rest { Changes (queues self.old) (queues self.new) counter
+            (without_sought (is_sought (Id id)) (waits_on (queues self.old) counter)) }
+        ensures count { result ≡ true → total (queues self.new) + 1 ≡ total (queues self.old) }
+        ensures none { result ≡ false → self.new ≡ self.old }
         ensures map { AreQueues (queues self.new) }
         ensures seats { seats self.new ≡ seats self.old };
 

@@ -4,11 +4,12 @@
 //! starts as `seed_from_u64(seed)`, and a word is used for each node and for nothing else. A counter keeps
 //! its node, and so its ticket, while it has waits.
 ghost use Rattle.std.specs.Prelude.{◌≡◌, ◌<◌, ◌+◌, ◌++◌, MatchOption, IfOk, OnOk, OnErr, IfNone, OnSome};
-ghost use Rattle.std.specs.Prelude.{drop, length, slice_get, is_some, IsSome};
+ghost use Rattle.std.specs.Prelude.{drop, length, slice_get, is_some, IsSome, true, false};
 ghost use Rattle.waiters.specs.Lists.{seats_of, is_sought, first_sought, without_sought};
-ghost use Rattle.waiters.specs.declared.sought.Sought.TheVariants.{Seat};
+ghost use Rattle.waiters.specs.declared.sought.Sought.TheVariants.{Seat, Id};
 ghost use Rattle.sema_root.specs.Queues.{waits_on, total, AreQueues, joined_by, Changes};
 ghost use Rattle.sema_root.specs.Rooted.{Comes, IsIn};
+ghost use Rattle.sema_root.specs.declared.which.Which.TheVariants.{Of};
 ghost use Rattle.sema_root.specs.Takes.{taken_by, TakesOut};
 ghost use Rattle.sema_root.specs.Tree.{leaf, top_counter, top_place, top_value, sought, IsTreap};
 ghost use Rattle.sema_root.specs.Treap.{queues_of, KeepsTickets, Draws, tickets_from};
@@ -53,19 +54,28 @@ impl TreapRoot {
         ensures seats { IfOk result (λ made. made.seats ≡ seats) }
         ensures tickets { IfOk result (λ made. made.tickets ≡ tickets_from seed) }
     {
-        TreapRoot::with_room_for(alloc, u32::from(seats), seed)
+        TreapRoot::make(alloc, u32::from(seats), 0, seed)
     }
 
-    /// The same for any number of seats.
+    /// The same for any number of seats, whose waits are withdrawn without a walk.
     pub fn with_room_for(alloc: Global, seats: u32, seed: u64) -> Result<TreapRoot, NoMemory>
         ensures empty { IfOk result (λ made. made.tree ≡ leaf) }
         ensures seats { IfOk result (λ made. made.seats ≡ seats) }
         ensures tickets { IfOk result (λ made. made.tickets ≡ tickets_from seed) }
     {
-        let room = seats as usize;
+        TreapRoot::make(alloc, seats, seats, seed)
+    }
+
+    // A root that knows where the wait of each seat is that is below `known`.
+    fn make(alloc: Global, seats: u32, known: u32, seed: u64) -> Result<TreapRoot, NoMemory>
+        ensures empty { IfOk result (λ made. made.tree ≡ leaf) }
+        ensures seats { IfOk result (λ made. made.seats ≡ seats) }
+        ensures tickets { IfOk result (λ made. made.tickets ≡ tickets_from seed) }
+    {
+        let (room, known) = (seats as usize, known as usize);
         Ok(TreapRoot {
             treap: Treap::with_room(alloc, room)?,
-            lists: Lists::with_room(alloc, room, room)?,
+            lists: Lists::with_seats(alloc, room, room, known)?,
             tickets: Tickets::from_seed(seed),
             seats,
         })
@@ -135,6 +145,32 @@ impl TreapRoot {
         }
         wait
     }
+
+    // Takes the first wait that is sought out of its counter's queue, if it is in.
+    fn take_sought(&mut self, counter: CounterId, meant: Sought) -> Option<Wait>
+        ensures out { TakesOut (queues_of self.old.tree) (queues_of self.new.tree) counter (Of meant) result }
+        ensures none { IfNone result (self.new ≡ self.old) }
+        ensures seats { self.new.seats ≡ self.old.seats }
+        ensures kept { KeepsTickets self.old.tree self.new.tree }
+        ensures undrawn { self.new.tickets ≡ self.old.tickets }
+    {
+        if !self.has(counter, &meant) {
+            return None;
+        }
+        self.take(counter, Which::Of(meant))
+    }
+
+    // Whether a wait that is sought is in the counter's queue.
+    fn has(&self, counter: CounterId, meant: &Sought) -> bool
+        ensures is_in { result
+            ≡ is_some (first_sought (is_sought meant.now) (waits_on (queues_of self.now.tree) counter)) }
+        ensures map { AreQueues (queues_of self.now.tree) }
+    {
+        match self.treap.find(counter) {
+            Some(list) => self.lists.first_with(list, *meant).is_some(),
+            None => false,
+        }
+    }
 }
 
 impl RootStore for TreapRoot {
@@ -171,7 +207,7 @@ impl RootStore for TreapRoot {
         self.take(counter, Which::First)
     }
 
-    fn withdraw(&mut self, counter: CounterId, seat: SeatId) -> Option<Wait>
+    fn withdraw_seat(&mut self, counter: CounterId, seat: SeatId) -> Option<Wait>
         ensures first { result
             ≡ first_sought (is_sought (Seat seat)) (waits_on (queues_of self.old.tree) counter) }
         ensures rest { Changes (queues_of self.old.tree) (queues_of self.new.tree) counter
@@ -184,10 +220,23 @@ impl RootStore for TreapRoot {
         ensures kept { KeepsTickets self.old.tree self.new.tree }
         ensures undrawn { self.new.tickets ≡ self.old.tickets }
     {
-        if !self.holds(counter, seat) {
-            return None;
-        }
-        self.take(counter, Which::OfSeat(seat))
+        self.take_sought(counter, Sought::Seat(seat))
+    }
+
+    fn withdraw(&mut self, counter: CounterId, id: WaitId) -> bool
+        ensures is_in { result
+            ≡ is_some (first_sought (is_sought (Id id)) (waits_on (queues_of self.old.tree) counter)) }
+        ensures rest { Changes (queues_of self.old.tree) (queues_of self.new.tree) counter
+            (without_sought (is_sought (Id id)) (waits_on (queues_of self.old.tree) counter)) }
+        ensures count { result ≡ true
+            → total (queues_of self.new.tree) + 1 ≡ total (queues_of self.old.tree) }
+        ensures none { result ≡ false → self.new ≡ self.old }
+        ensures map { AreQueues (queues_of self.new.tree) }
+        ensures seats { self.new.seats ≡ self.old.seats }
+        ensures kept { KeepsTickets self.old.tree self.new.tree }
+        ensures undrawn { self.new.tickets ≡ self.old.tickets }
+    {
+        self.take_sought(counter, Sought::Id(id)).is_some()
     }
 
     fn holds(&self, counter: CounterId, seat: SeatId) -> bool
@@ -195,10 +244,7 @@ impl RootStore for TreapRoot {
             ≡ is_some (first_sought (is_sought (Seat seat)) (waits_on (queues_of self.now.tree) counter)) }
         ensures map { AreQueues (queues_of self.now.tree) }
     {
-        match self.treap.find(counter) {
-            Some(list) => self.lists.first_with(list, Sought::Seat(seat)).is_some(),
-            None => false,
-        }
+        self.has(counter, &Sought::Seat(seat))
     }
 
     fn count(&self) -> usize {

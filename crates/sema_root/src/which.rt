@@ -1,13 +1,13 @@
 ghost use Rattle.waiters.specs.Lists.{IsOpen};
 ghost use Rattle.sema_root.specs.Takes.{Takes};
 
-use waiters::{ListKey, Lists, SeatId, Sought, Wait};
+use waiters::{ListKey, Lists, Sought, Wait};
 
 /// Which wait of a list is meant.
 #[derive(Clone, Copy, Drop)]
 pub(crate) enum Which {
     First,
-    OfSeat(SeatId),
+    Of(Sought),
 }
 
 /// Takes the wait that is meant out of its list, if it is in. The others stay in order.
@@ -18,6 +18,6 @@ pub(crate) fn take(lists: &mut Lists, list: ListKey, which: Which) -> Option<Wai
 {
     match which {
         Which::First => lists.pop_front(list),
-        Which::OfSeat(seat) => lists.take(list, Sought::Seat(seat)),
+        Which::Of(sought) => lists.take(list, sought),
     }
 }

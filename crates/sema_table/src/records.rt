@@ -59,7 +59,7 @@ impl SemaTable {
         let Record::Root(root) = Running::record_mut(token, &self.words, slot) else {
             unreachable!()
         };
-        root.withdraw(counter, seat).is_some()
+        root.withdraw_seat(counter, seat).is_some()
     }
 
     /// Whether the wait of a seat is in the list of a counter.

@@ -23,8 +23,8 @@ IsNamed m _ = ⊥
 
 -- the entry is one that seat i may tell by its call at this place, with this turn and these waits in hand: on
 -- the call's counter and by itself. An acquire takes a unit for itself, and queues its own turn at the end
--- that it asks for, and withdraws the wait with which it is parked; a release adds its units and takes waits out, and at R8 takes a unit for the seat of the
--- first wait in hand
+-- that it asks for, and withdraws the wait with which it is parked; a release adds its units and takes waits out,
+-- and at R8 takes a unit for the seat of the first wait in hand
 abbrev pub IsOwnAt : ℕ → ℕ → List WaitId → Place → Entry → Type 0
 IsOwnAt i turn hand (Acquiring a row) (Take c s) = (c ≡ a.counter) × (s ≡ i)
 IsOwnAt i turn hand (Acquiring a row) (Queue c w lifo) = (c ≡ a.counter) × (w ≡ wait i turn) × (lifo ≡ a.lifo)

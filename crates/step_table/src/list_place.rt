@@ -64,7 +64,8 @@ pub struct Reach {
 }
 
 /// A row of a notification of all waits. `L2` carries the wait word, `L5` the notify word that was read,
-/// `L7` how many tickets the call has granted: those that it passed but for the gone ones. The waits that it took out are in the seat's hand.
+/// `L7` how many tickets the call has granted: those that it passed but for the gone ones. The waits that it took
+/// out are in the seat's hand.
 #[derive(Clone, Copy, Drop)]
 pub enum AllRow {
     L1,

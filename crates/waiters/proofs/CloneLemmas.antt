@@ -50,7 +50,7 @@ module _ (records copy : Slab Record) (same : SameValues records copy) where
   same_list None = refl
   same_list (Some chain) = ap Some (same_waits chain.len chain.first)
 
-  same_links : (entries : List (ℕ × Wait)) (here there : Option ℕ) → Linked records here entries there → Linked copy here entries there
+  pub same_links : (entries : List (ℕ × Wait)) (here there : Option ℕ) → Linked records here entries there → Linked copy here entries there
   same_links [] here there linked = linked
   same_links (entry ∷ rest) here there linked =
       (linked.0, linked.1, same entry.0 ∙ linked.2, same_links rest linked.0 there linked.3)

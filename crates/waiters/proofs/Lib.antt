@@ -8,3 +8,6 @@ pub mod SoughtLemmas
 pub mod StepLemmas
 pub mod WalkLemmas
 pub mod WordLemmas
+pub mod WhereaboutsLemmas
+pub mod WhereaboutsSteps
+pub mod LocateLemmas

@@ -1,3 +1,4 @@
 pub mod Chains
 pub mod Lists
 pub mod Slabs
+pub mod Whereabouts

@@ -1,9 +1,11 @@
 //! The first wait of a list that is sought: where it is, and how it is taken out.
 ghost use Rattle.std.specs.Prelude.{◌≡◌, ◌+◌, IfNone, OnSome, Some};
 ghost use Rattle.waiters.specs.Chains.{HasLinks, Finds};
+ghost use Rattle.waiters.specs.Whereabouts.{IsChainOf, known_about};
 ghost use Rattle.waiters.specs.Lists.{IsOpen, waits_at, Changes, is_sought, first_sought, without_sought};
 ghost use Rattle.waiters.specs.Lists.{first_with, without_first};
 
+use super::whereabouts::{Seats, Whereabouts};
 use super::{Chain, Lists, Place, Record, unlink};
 use crate::list_key::ListKey;
 use crate::sought::Sought;
@@ -18,7 +20,7 @@ impl Lists {
     {
         let list = key.number();
         let chain = self.chains[list];
-        let Some(place) = find(&self.records, chain, &sought) else {
+        let Some(place) = locate(&self.records, &self.seats, list, chain, &sought) else {
             return None;
         };
         Some(self.records[place.key].wait)
@@ -36,9 +38,10 @@ impl Lists {
     {
         let list = key.number();
         let chain = self.chains[list];
-        let Some(place) = find(&self.records, chain, &sought) else {
+        let Some(place) = locate(&self.records, &self.seats, list, chain, &sought) else {
             return None;
         };
+        self.seats.forget(&self.records, place);
         let (wait, left) = unlink(&mut self.records, chain, place);
         self.chains[list] = left;
         self.room += 1;
@@ -71,7 +74,45 @@ impl Lists {
     }
 }
 
-// Where the first wait is that is sought.
+// Where the first wait of the list is that is sought: by what is known of its seat, and else by a walk.
+fn locate(
+    records: &Slab<Record>,
+    seats: &Seats,
+    list: usize,
+    chain: Chain,
+    sought: &Sought,
+) -> Option<Place>
+    requires { IsChainOf records.now seats.now list chain }
+    ensures { Finds records.now chain (is_sought sought.now) result }
+{
+    match about(seats, sought) {
+        Whereabouts::Nowhere => None,
+        Whereabouts::Only(there, place) => {
+            if there != list {
+                return None;
+            }
+            if !sought.is(&records[place.key].wait) {
+                return None;
+            }
+            Some(place)
+        }
+        Whereabouts::Anywhere => find(records, chain, sought),
+    }
+}
+
+// What is known of the seat of the wait that is sought.
+fn about(seats: &Seats, sought: &Sought) -> Whereabouts
+    ensures { result ≡ known_about seats.now sought.now }
+{
+    let seat = match *sought {
+        Sought::Ticket(_) => return Whereabouts::Anywhere,
+        Sought::Seat(seat) => seat,
+        Sought::Id(id) => id.seat,
+    };
+    seats.whereabouts(seat)
+}
+
+// Where the first wait is that is sought, by a walk.
 fn find(records: &Slab<Record>, chain: Chain, sought: &Sought) -> Option<Place>
     requires { HasLinks records.now chain }
     ensures { Finds records.now chain (is_sought sought.now) result }

@@ -35,22 +35,22 @@ pub returns-clause-found : goal.returns-clause-found
 returns-clause-found c =
     let s = c.args.token.now in let k : ℕ = c.args.counter in let h = c.requires in
     let R = lent_record s k c.root_of-slot.result c.record_mut.result.now c.in-Root.root h.1 c.record_mut.ensures.value c.in-Root.is in
-    c.is_some.ensures ∙ ap is_some c.withdraw.ensures.first
+    c.is_some.ensures ∙ ap is_some c.withdraw_seat.ensures.first
     ∙ found_stands c.args.seat (waits_on (queues_of c.in-Root.root.tree) k) ∙ ap (stands_in c.args.seat) (R.waits k refl)
 
 pub returns-clause-removed : goal.returns-clause-removed
 returns-clause-removed c =
     let s = c.args.token.now in let z : Setting = s.me.0.own.knows.setting in let k : ℕ = c.args.counter in let h = c.requires in
-    let D = c.withdraw.ensures in let i : ℕ = c.args.seat in
-    let q : Treap = c.withdraw.new.self in let was : Treap = c.in-Root.root in
+    let D = c.withdraw_seat.ensures in let i : ℕ = c.args.seat in
+    let q : Treap = c.withdraw_seat.new.self in let was : Treap = c.in-Root.root in
     let R = lent_record s k c.root_of-slot.result c.record_mut.result.now was h.1 c.record_mut.ensures.value c.in-Root.is in
     let inside : k < length z.starts = subst (λ (y : TableModel). k < length y.setting.starts) (sym h.0) h.2 in
     by s c.args.self.now k c.root_of-slot.result i q c.is_some.result
     (λ here. edited s c.args.self.now k c.root_of-slot.result q (put (lists_of s) k (without i (lists_of s k))) h.0 c.root_of-slot.ensures h.1
-    (withdrawn_record z (root z k) k was q (lists_of s) R refl inside (where_some c.withdraw.result _ (sym c.is_some.ensures ∙ here) D.count) D.seats D.undrawn
+    (withdrawn_record z (root z k) k was q (lists_of s) R refl inside (where_some c.withdraw_seat.result _ (sym c.is_some.ensures ∙ here) D.count) D.seats D.undrawn
     i (sym (returns-clause-found c) ∙ here) D.rest))
     (λ out. edited s c.args.self.now k c.root_of-slot.result q (lists_of s) h.0 c.root_of-slot.ensures h.1
-    (subst (λ (y : Treap). IsRecord z (root z k) y (lists_of s)) (sym (where_none c.withdraw.result _ (sym c.is_some.ensures ∙ out) D.none)) R))
+    (subst (λ (y : Treap). IsRecord z (root z k) y (lists_of s)) (sym (where_none c.withdraw_seat.result _ (sym c.is_some.ensures ∙ out) D.none)) R))
   where
     by : (s : _) (t : TableModel) (k slot i : ℕ) (q : Treap) (b : Bool)
         → (b ≡ true → Edited s k (put (lists_of s) k (without i (lists_of s k))) (seat_with s slot (Root q)))

@@ -14,11 +14,11 @@ invariant_of-self c = (
   c.self.invariant.0,
   roots_left
       (record { are = c.self.invariant.1; same = c.self.view_is; within = c.requires; at = c.root_of-at.ensures; found = c.index_mut-root.ensures.value })
-      _ _ _ (sought_left _ _ _ c.withdraw.ensures.first) c.withdraw.ensures.rest c.withdraw.ensures.count c.withdraw.ensures.none c.withdraw.ensures.seats,
+      _ _ _ (sought_left _ _ _ c.withdraw_seat.ensures.first) c.withdraw_seat.ensures.rest c.withdraw_seat.ensures.count c.withdraw_seat.ensures.none c.withdraw_seat.ensures.seats,
 )
 
 pub returns-clause-lists : goal.returns-clause-lists
 returns-clause-lists c = lists_left
     (record { are = c.self.invariant.1; same = c.self.view_is; within = c.requires; at = c.root_of-at.ensures; found = c.index_mut-root.ensures.value })
-    _ _ _ (sought_left _ _ _ c.withdraw.ensures.first) c.withdraw.ensures.rest c.withdraw.ensures.count c.withdraw.ensures.none c.withdraw.ensures.seats
+    _ _ _ (sought_left _ _ _ c.withdraw_seat.ensures.first) c.withdraw_seat.ensures.rest c.withdraw_seat.ensures.count c.withdraw_seat.ensures.none c.withdraw_seat.ensures.seats
     (without c.args.seat) (without_ids c.args.seat _)

@@ -1,6 +1,8 @@
 use Rattle.std.proofs.Common.{ap, sym, refl}
 use Rattle.waiters.proofs.StepLemmas.{AreChained-appended, Changes-appended, len_fits, IsThere-last}
 use Rattle.waiters.proofs.OtherLemmas.{ContainsKey-open}
+use Rattle.waiters.proofs.WhereaboutsLemmas.{known_fresh}
+use Rattle.waiters.proofs.WhereaboutsSteps.{appended_there, known_appended}
 use Rattle.waiters.proofs.lists.Lists.push_back.Goals as goal
 
 pub index-chain-requires : goal.index-chain-requires
@@ -8,22 +10,37 @@ index-chain-requires c =
     let was = ap (λ lists. lists.slots) (sym c.self.view_is) in
     ContainsKey-open c.self.inside.records c.self.inside.chains c.args.self.now _ _ c.number-list.ensures was c.requires.«open»
 
-pub append-requires-clause-last : goal.append-requires-clause-last
-append-requires-clause-last c =
-    IsThere-last _ _ _ _ c.self.invariant c.number-list.result c.index-chain.result.now c.index-chain.ensures
+pub append-key-requires-clause-last : goal.append-key-requires-clause-last
+append-key-requires-clause-last c =
+    IsThere-last _ _ _ _ c.self.invariant.0 c.number-list.result c.index-chain.result.now c.index-chain.ensures
 
-pub append-requires-clause-counted : goal.append-requires-clause-counted
-append-requires-clause-counted c =
+pub append-key-requires-clause-counted : goal.append-key-requires-clause-counted
+append-key-requires-clause-counted c =
     let some = rw (← c.self.view_is) at c.requires.fits in
-    len_fits _ _ _ _ c.self.invariant c.number-list.result c.index-chain.result.now c.index-chain.ensures some
+    len_fits _ _ _ _ c.self.invariant.0 c.number-list.result c.index-chain.result.now c.index-chain.ensures some
+
+pub learn-requires-clause-there : goal.learn-requires-clause-there
+learn-requires-clause-there c =
+    let some = rw (← c.self.view_is) at c.requires.fits in let made = c.append-key.ensures in
+    rw made.1 (appended_there _ _ _ _ c.self.invariant.0 _ c.self.invariant.1 c.number-list.result c.index-chain.result.now c.index-chain.ensures
+    _ c.args.wait _ made.0 some)
+
+pub learn-requires-clause-fresh : goal.learn-requires-clause-fresh
+learn-requires-clause-fresh c =
+    let made = c.append-key.ensures in
+    rw made.1 (known_fresh _ _ _ c.self.invariant.1 made.0.key made.0.vacant)
 
 pub invariant_of-self : goal.invariant_of-self
 invariant_of-self c =
-    let some = rw (← c.self.view_is) at c.requires.fits in
-    AreChained-appended _ _ _ _ c.self.invariant c.number-list.result c.index-chain.result.now c.index-chain.ensures _ c.args.wait _ c.append.ensures some
+    let some = rw (← c.self.view_is) at c.requires.fits in let made = c.append-key.ensures in
+    let list = c.number-list.result in let chain = c.index-chain.result.now in (
+      AreChained-appended _ _ _ _ c.self.invariant.0 list chain c.index-chain.ensures _ c.args.wait _ made.0 some,
+      known_appended _ _ _ _ c.self.invariant.0 _ c.self.invariant.1 list chain c.index-chain.ensures _ c.args.wait _ made.0 some _
+          (rw made.1 at c.learn.ensures),
+    )
 
 pub returns-clause-pushed : goal.returns-clause-pushed
 returns-clause-pushed c =
     let some = rw (← c.self.view_is) at c.requires.fits in
-    rw (← c.number-list.ensures) (Changes-appended _ _ _ _ c.self.invariant c.number-list.result c.index-chain.result.now c.index-chain.ensures _ c.args.wait
-    _ c.append.ensures some c.args.self.now _ (ap (λ lists. lists.slots) (sym c.self.view_is)) refl)
+    rw (← c.number-list.ensures) (Changes-appended _ _ _ _ c.self.invariant.0 c.number-list.result c.index-chain.result.now c.index-chain.ensures _ c.args.wait
+    _ c.append-key.ensures.0 some c.args.self.now _ (ap (λ lists. lists.slots) (sym c.self.view_is)) refl)

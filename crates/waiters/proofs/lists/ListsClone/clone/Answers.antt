@@ -1,12 +1,15 @@
 use Rattle.std.proofs.Common.{ap, ◌∙◌}
+use Rattle.waiters.proofs.WhereaboutsSteps.{known_nothing}
 use Rattle.waiters.proofs.CloneLemmas.{SameValues-clone, listed-same, AreChained-same}
 use Rattle.waiters.proofs.lists.ListsClone.clone.Goals as goal
 
 pub invariant_of-result : goal.invariant_of-result
 invariant_of-result c =
     let records = SameValues-clone _ _ _ (λ x y is. is) c.in_ok-copied.ensures.clones in
-    let chains = SameValues-clone _ _ _ (λ x y is. is) c.in_ok-copied-2.ensures.clones in
-    AreChained-same _ _ records _ _ chains _ _ c.in_ok-copied.ensures.room c.in_ok-copied-2.ensures.room c.self.invariant
+    let chains = SameValues-clone _ _ _ (λ x y is. is) c.in_ok-copied-2.ensures.clones in (
+      AreChained-same _ _ records _ _ chains _ _ c.in_ok-copied.ensures.room c.in_ok-copied-2.ensures.room c.self.invariant.0,
+      known_nothing c.in_ok-copied.field-0 c.in_ok-copied-2.field-0 _ c.unknown.ensures,
+    )
 
 pub returns : goal.returns
 returns c =
