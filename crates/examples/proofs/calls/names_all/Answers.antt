@@ -1,0 +1,4 @@
+use Rattle.examples.proofs.calls.names_all.Goals as goal
+
+pub try_all-requires-clause-room : goal.try_all-requires-clause-room
+try_all-requires-clause-room c = c.requires.few
