@@ -16,17 +16,18 @@ fn all_of_so_many<R: Abort + Wait>(
     seats: &mut Vec<ListSeat>,
     notifier: &mut ListSeat,
     waits: u32,
-    waiting: u32,
+    left: u32,
 )
     requires { (notifier.old.list ≡ list.now) × All (λ s. s.list ≡ list.now) seats.old.items }
     ensures { (notifier.new.list ≡ list.now) × All (λ s. s.list ≡ list.now) seats.new.items }
 {
-    if waits <= waiting {
+    if left == 0 {
         holds(rt, list.all(rt, notifier) == waits);
         return;
     }
-    let parked = parks(rt, list, last_seat(rt, list, seats), u64::from(waiting));
-    all_of_so_many(rt, list, seats, notifier, waits, waiting + 1);
+    let ticket = u64::from(waits.saturating_sub(left));
+    let parked = parks(rt, list, last_seat(rt, list, seats), ticket);
+    all_of_so_many(rt, list, seats, notifier, waits, left - 1);
     let seat = wakes(rt, list, parked);
     gives_back(rt, list, seats, seat);
 }
@@ -37,7 +38,7 @@ static WAITS: [u32; 3] = [256, 257, 1_000];
 fn grants_so_many<R: Abort + Wait>(rt: &R, alloc: Global, waits: u32) {
     let (list, mut seats) = made(rt, alloc, 0, 65_536);
     let mut notifier = last_seat(rt, &list, &mut seats);
-    all_of_so_many(rt, &list, &mut seats, &mut notifier, waits, 0);
+    all_of_so_many(rt, &list, &mut seats, &mut notifier, waits, waits);
     gives_back(rt, &list, &mut seats, notifier);
     ends_at(rt, list, seats, u64::from(waits));
 }
@@ -61,20 +62,32 @@ fn waits_as_a_task(rt: &impl Abort, list: &TaskList, seat: TaskListSeat) -> Task
     seat
 }
 
-/// The last seat of those that aren't parked waits.
-fn parks_one(
+/// So many of the seats wait, the last first.
+fn park(
     rt: &impl Abort,
     list: &TaskList,
     seats: &mut Vec<TaskListSeat>,
     parked: &mut Vec<TaskListSeat>,
+    left: u32,
 )
     requires { All (λ s. s.seat.list ≡ list.now) seats.old.items
         × All (λ s. s.seat.list ≡ list.now) parked.old.items }
     ensures { All (λ s. s.seat.list ≡ list.now) seats.new.items
         × All (λ s. s.seat.list ≡ list.now) parked.new.items }
 {
+    if left == 0 {
+        return;
+    }
     let seat = waits_as_a_task(rt, list, seats.pop().expect(rt, "a seat"));
     parked.push(seat).expect(rt, "room");
+    park(rt, list, seats, parked, left - 1);
+}
+
+/// So many seats are named first, from this number down.
+fn are_named_down(rt: &impl Abort, named: &[u32], waits: usize, first: u64) {
+    for (at, seat) in named.iter().take(waits).enumerate() {
+        holds(rt, u64::from(*seat).wrapping_add(at as u64) == first);
+    }
 }
 
 /// Each of these seats has its grant.
@@ -91,16 +104,12 @@ fn all_are_granted(rt: &impl Abort, list: &TaskList, parked: Vec<TaskListSeat>)
 fn tasks_are_named_in_the_order_of_their_waits(rt: HostRuntime) {
     let (list, mut seats) = TaskList::starting_at(rt.alloc(), 0, 400).expect(&rt, "a list");
     let mut parked = Vec::new(rt.alloc());
-    for _ in 0..300 {
-        parks_one(&rt, &list, &mut seats, &mut parked);
-    }
+    park(&rt, &list, &mut seats, &mut parked, 300);
     let mut woken = [0; 400];
     assert!(&rt; list.seats() as usize <= woken.len());
     let (_notifier, answer) = list.all(seats.pop().expect(&rt, "a seat"), &mut woken);
     let all = answer.expect(&rt, "a lock that was free");
     holds(&rt, all.tickets == 300 && all.waits == 300);
-    for at in 0..300 {
-        holds(&rt, woken[at] == 399 - at as u32);
-    }
+    are_named_down(&rt, &woken, all.waits, 399);
     all_are_granted(&rt, &list, parked);
 }
