@@ -72,9 +72,9 @@ enum parklot_answer {
     PARKLOT_LIMIT = 104,      /* the seat may spend no more: it has used up release_limit units */
     PARKLOT_FULL = 105,       /* parklot_new: a seat isn't empty */
     PARKLOT_UNITS = 106,      /* not 1 to 256 units */
-    PARKLOT_ROOM = 107,       /* room for fewer numbers than 256 */
+    PARKLOT_ROOM = 107,       /* room for too few numbers */
     PARKLOT_COUNTERS = 110,   /* not 1 to 65,536 counters */
-    PARKLOT_SEATS = 111,      /* not 1 to 65536 seats, of a list 256 */
+    PARKLOT_SEATS = 111,      /* not 1 to 65536 seats */
     PARKLOT_ROOTS = 112,      /* not 1 to 251 roots */
     PARKLOT_RELEASE_LIMIT = 113, /* not 1 to 2^54 units, or above 2^62 for all seats */
     PARKLOT_NO_MEMORY = 114

@@ -72,11 +72,11 @@ pub enum Refused {
     Limit,
     /// Not 1 to 256 units.
     Units,
-    /// Room for fewer numbers than 256.
+    /// Room for too few numbers.
     Room,
     /// Not 1 to 65,536 counters.
     Counters,
-    /// Not 1 to 65,536 seats, of a list 1 to 256.
+    /// Not 1 to 65,536 seats.
     Seats,
     /// Not 1 to 251 roots.
     Roots,
@@ -410,7 +410,7 @@ pub enum Notified {
 /// All seats of a new list whose first ticket is this one, in the order of their numbers. The list lives in them, and ends with
 /// the last.
 pub fn list_seats(first: u64, count: usize) -> Result<Vec<ListSeat>, Refused> {
-    if count > 256 {
+    if count > 65_536 {
         return Err(Refused::Seats);
     }
     let mut seats: Vec<ListSeat> = (0..count).map(|_| ListSeat { raw: Raw::EMPTY }).collect();
@@ -497,8 +497,8 @@ impl ListSeat {
         }
     }
 
-    /// Grants all tickets, and writes who was parked to the beginning of `woken`, which has room for 256. A seat that was busy
-    /// calls this again, and goes on.
+    /// Grants all tickets, and writes who was parked to the beginning of `woken`, which has room for all seats of the list. A
+    /// seat that was busy calls this again, and goes on.
     pub fn all(&mut self, woken: &mut [u32]) -> Result<WokeSome, Refused> {
         let mut count = 0;
         // SAFETY: see above; `woken` is a slice with room for as many numbers as it is told, and nothing else is in it.

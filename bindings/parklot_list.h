@@ -22,7 +22,7 @@ struct parklot_list_seat {
     void *cell;
 };
 
-/* Makes a list and all its seats, 1 to 256; seats[n] has number n, and the first ticket is `first`. OK, SEATS, FULL,
+/* Makes a list and all its seats, 1 to 65536; seats[n] has number n, and the first ticket is `first`. OK, SEATS, FULL,
    NO_MEMORY. */
 uint32_t parklot_list_new(uint64_t first, struct parklot_list_seat *seats, size_t count);
 
@@ -48,8 +48,8 @@ uint32_t parklot_list_leave(struct parklot_list_seat *seat);
    was parked, *woken says which seat. NOBODY, GRANTED, ONE, BUSY. */
 uint32_t parklot_list_one(struct parklot_list_seat *seat, uint32_t *woken);
 
-/* Grants all tickets, and writes the numbers of those that were parked, *count of them. There has to be room for 256. BUSY:
-   the seat has begun, and can't do anything else: call it again, and it goes on. DONE, BUSY, ROOM. */
+/* Grants all tickets, and writes the numbers of those that were parked, *count of them. There has to be room for all
+   seats of the list. BUSY: the seat has begun, and can't do anything else: call it again, and it goes on. DONE, BUSY, ROOM. */
 uint32_t parklot_list_all(struct parklot_list_seat *seat, uint32_t *woken, size_t room, uint32_t *count);
 
 /* Whether all tickets are granted: a look at each of the two words. OK. */

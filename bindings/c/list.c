@@ -27,21 +27,21 @@ static void heading(const char *words)
 
 static void refusals(void)
 {
-    static struct parklot_list_seat many[257];
-    uint32_t number, count, woken[256];
+    static struct parklot_list_seat many[65537];
+    uint32_t number, count, woken[SEATS];
     uint64_t ticket;
     bool quiet;
 
     heading("settings that don't fit, and an empty seat");
     SAY(parklot_list_new(0, seats, 0));
-    SAY(parklot_list_new(0, many, 257));
+    SAY(parklot_list_new(0, many, 65537));
     SAY(parklot_list_number(&seats[0], &number));
     SAY(parklot_list_add(&seats[0], &ticket));
     SAY(parklot_list_try_wait(&seats[0]));
     SAY(parklot_list_poll(&seats[0]));
     SAY(parklot_list_leave(&seats[0]));
     SAY(parklot_list_one(&seats[0], &number));
-    SAY(parklot_list_all(&seats[0], woken, 256, &count));
+    SAY(parklot_list_all(&seats[0], woken, SEATS, &count));
     SAY(parklot_list_quiet(&seats[0], &quiet));
     SAY(parklot_list_free(&seats[0]));
 }
@@ -66,7 +66,7 @@ static void is_quiet(void)
 
 static void tickets(void)
 {
-    uint32_t woken = 77, count = 77, names[256];
+    uint32_t woken = 77, count = 77, names[SEATS];
     uint64_t ticket;
 
     heading("a list of 4 seats, whose first ticket is 10");
@@ -102,8 +102,8 @@ static void tickets(void)
     add(1);
     add(2);
     SAY(parklot_list_try_wait(&seats[1]));
-    SAY(parklot_list_all(&seats[3], names, 1, &count));
-    SAY(parklot_list_all(&seats[3], names, 256, &count));
+    SAY(parklot_list_all(&seats[3], names, SEATS - 1, &count));
+    SAY(parklot_list_all(&seats[3], names, SEATS, &count));
     for (uint32_t at = 0; at < count; at++)
         printf("  woken %u\n", (unsigned)names[at]);
     SAY(parklot_list_poll(&seats[0]));
@@ -125,6 +125,32 @@ static void tickets(void)
     for (int at = 0; at < SEATS; at++)
         SAY(parklot_list_free(&seats[at]));
     SAY(parklot_list_free(&seats[0]));
+}
+
+/* As many seats as a list can have: all but one wait, and are named in their order. */
+static void all_of_many(void)
+{
+    enum { MANY = 65536 };
+    static struct parklot_list_seat many[MANY];
+    static uint32_t names[MANY];
+    uint64_t ticket;
+    uint32_t count = 77, in_order = 0;
+
+    heading("a list of 65536 seats");
+    SAY(parklot_list_new(0, many, MANY));
+    for (int at = 1; at < MANY; at++) {
+        expect(PARKLOT_OK, "parklot_list_add", parklot_list_add(&many[at], &ticket));
+        expect(PARKLOT_PARKED, "parklot_list_try_wait", parklot_list_try_wait(&many[at]));
+    }
+    SAY(parklot_list_all(&many[0], names, MANY - 1, &count));
+    SAY(parklot_list_all(&many[0], names, MANY, &count));
+    for (uint32_t at = 0; at < count; at++)
+        in_order += names[at] == at + 1;
+    printf("  woken %u, in their order %u\n", (unsigned)count, (unsigned)in_order);
+    for (int at = 1; at < MANY; at++)
+        expect(PARKLOT_WOKEN, "parklot_list_poll", parklot_list_poll(&many[at]));
+    for (int at = 0; at < MANY; at++)
+        expect(PARKLOT_OK, "parklot_list_free", parklot_list_free(&many[at]));
 }
 
 /* A number that goes round: each thread waits until it is its turn, and tells all. */
@@ -153,9 +179,9 @@ static void wait_for_a_grant(uint32_t me)
 
 static void tell_all(uint32_t me)
 {
-    uint32_t answer, count, woken[256];
+    uint32_t answer, count, woken[SEATS];
 
-    while ((answer = parklot_list_all(&seats[me], woken, 256, &count)) == PARKLOT_BUSY)
+    while ((answer = parklot_list_all(&seats[me], woken, SEATS, &count)) == PARKLOT_BUSY)
         sched_yield();
     must(answer == PARKLOT_DONE, "parklot_list_all", answer);
     for (uint32_t at = 0; at < count; at++)
@@ -202,6 +228,7 @@ int main(void)
 {
     refusals();
     tickets();
+    all_of_many();
     rounds();
     return 0;
 }

@@ -188,12 +188,12 @@ fn list_answers() -> Result<(), Refused> {
     println!("not the call: {:?} {:?}", one.poll(), one.try_wait());
     println!("tickets {:?} {:?}", one.add(), two.add());
     println!("wait: {:?} {:?}", two.try_wait(), one.try_wait());
-    let mut woken = [0; 256];
-    println!("too little room: {:?}", three.all(&mut woken[..255]));
+    let mut woken = [0; 3];
+    println!("too little room: {:?}", three.all(&mut woken[..2]));
     let WokeSome::Done(count) = three.all(&mut woken)? else { panic!("nobody holds the lock") };
     println!("all: {:?}, poll: {:?} {:?}", &woken[..count], one.poll(), two.poll());
     println!("numbers: {:?} {:?} {:?}", one.number(), two.number(), three.number());
-    println!("no list: {:?} {:?}", list_seats(0, 0).err(), list_seats(0, 257).err());
+    println!("no list: {:?} {:?}", list_seats(0, 0).err(), list_seats(0, 65_537).err());
     Ok(())
 }
 

@@ -51,7 +51,7 @@ pub const UNITS: u32 = 106;
 pub const ROOM: u32 = 107;
 /// Not 1 to 65,536 counters.
 pub const COUNTERS: u32 = 110;
-/// Not 1 to 65,536 seats of a table, or not 1 to 256 of a list.
+/// Not 1 to 65,536 seats.
 pub const SEATS: u32 = 111;
 /// Not 1 to 251 roots.
 pub const ROOTS: u32 = 112;

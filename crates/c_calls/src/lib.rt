@@ -3,9 +3,9 @@
 //!
 //! The seat is kept in a cell on the heap, with its share of the table or list, and a caller has a handle of 16
 //! bytes. Each call answers a code ([`codes`]): that of the table's or list's answer, that of its refusal, or
-//! `NO_SEAT` where the handle has none. Making a table of 1 to 65,536 seats or a list of 1 to 256, for one handle
-//! each, takes all memory that is ever taken; `NO_MEMORY`, or the code of the limit that isn't kept, and no handle is touched.
-//! A call that wakes many asks for room for 256 numbers (`ROOM`). No call waits.
+//! `NO_SEAT` where the handle has none. Making a table or a list of 1 to 65,536 seats, for one handle each,
+//! takes all memory that is ever taken; `NO_MEMORY`, or the code of the limit that isn't kept, and no handle is touched.
+//! A call that wakes many asks for room for 256 numbers, on a list for those of all seats (`ROOM`). No call waits.
 #![tactic(auto)]
 
 mod answers;

@@ -1,27 +1,25 @@
 //! A notification of all.
-ghost use Rattle.std.specs.Prelude.{◌≡◌, ◌⊎◌, ◌≤◌, length, IfOk};
-ghost use Rattle.c_calls.specs.Codes.{done, code_of};
+ghost use Rattle.std.specs.Prelude.{◌≡◌, ◌⊎◌, ◌<◌, ◌^◌, IfOk};
+ghost use Rattle.c_calls.specs.Codes.{done, code_of, IsDone};
 ghost use Rattle.c_calls.specs.ListCodes.{refused_code};
-ghost use Rattle.c_calls.specs.Answers.{Answers, Telling, LacksRoom, WritesSeats};
-ghost use Rattle.c_calls.specs.ListAnswers.{NotifiesOrGoesOn, NamesAll};
+ghost use Rattle.c_calls.specs.Answers.{Answers, Telling, WritesOnlyWith, WritesSeats};
+ghost use Rattle.c_calls.specs.ListAnswers.{NotifiesOrGoesOn, CountsAll, LacksSeats};
 
 use crate::codes::{DONE, NO_SEAT, ROOM};
-use crate::numbers::MOST_WOKEN;
+use crate::list_answers;
 use crate::seat_place::ListSeatPlace;
-use crate::{list_answers, numbers};
 use notify_list::{NotifiedAll, TaskRefused, TaskStage};
 
-/// The code of a notification of all; the numbers of the seats that were woken are told.
-fn tell_all(answer: Result<NotifiedAll, TaskRefused>, woken: &mut [u32], count: &mut u32) -> u32
-    requires { 256 ≤ length woken.old }
+/// The code of a notification of all; it is told how many seats were woken.
+fn tell_all(answer: Result<NotifiedAll, TaskRefused>, count: &mut u32) -> u32
+    requires { IfOk answer (λ all. all.waits < 2 ^ 32) }
     ensures code { result ≡ code_of refused_code done answer }
-    ensures told { IfOk answer (NamesAll woken.new count.new) }
-    ensures kept { WritesSeats result woken.old woken.new count.old count.new }
+    ensures told { IfOk answer (CountsAll count.new) }
+    ensures kept { WritesOnlyWith IsDone result count.old count.new }
 {
     match answer {
         Ok(all) => {
-            numbers::write(all.seats.as_slice(), woken);
-            *count = all.seats.len() as u32;
+            *count = all.waits as u32;
             DONE
         }
         Err(why) => list_answers::of_refusal(why),
@@ -31,35 +29,25 @@ fn tell_all(answer: Result<NotifiedAll, TaskRefused>, woken: &mut [u32], count: 
 impl ListSeatPlace {
     /// Grants all tickets, and tells the numbers of the seats that waited with them.
     pub fn all(&mut self, woken: &mut [u32], count: &mut u32) -> u32
-        ensures answer { LacksRoom woken.old self.old.seat result self.new.seat
-            ⊎ Answers refused_code done (Telling (NamesAll woken.new count.new) NotifiesOrGoesOn)
-            self.old.seat result self.new.seat }
-        ensures kept { WritesSeats result woken.old woken.new count.old count.new }
-    {
-        // Looked at before anything is done: a seat that was woken and isn't named is never made ready.
-        if woken.len() < MOST_WOKEN {
-            return ROOM;
-        }
-        self.all_into(woken, count)
-    }
-
-    /// The same, where there is room.
-    fn all_into(&mut self, woken: &mut [u32], count: &mut u32) -> u32
-        requires { 256 ≤ length woken.old }
-        ensures answer { Answers refused_code done
-            (Telling (NamesAll woken.new count.new) NotifiesOrGoesOn)
+        ensures answer { LacksSeats woken.old self.old.seat result self.new.seat
+            ⊎ Answers refused_code done (Telling (CountsAll count.new) (NotifiesOrGoesOn woken.new))
             self.old.seat result self.new.seat }
         ensures kept { WritesSeats result woken.old woken.new count.old count.new }
     {
         let Some(seat) = self.seat.take() else {
             return NO_SEAT;
         };
+        // Looked at before anything is done: a seat that was woken and isn't named is never made ready.
+        if woken.len() < self.home.seats() as usize {
+            self.seat = Some(seat);
+            return ROOM;
+        }
         // A seat that was busy with it has looked already, and goes on at the lock.
         let (seat, answer) = match seat.stage() {
-            TaskStage::OwingAll => self.home.retry_all(seat),
-            _ => self.home.all(seat),
+            TaskStage::OwingAll => self.home.retry_all(seat, woken),
+            _ => self.home.all(seat, woken),
         };
         self.seat = Some(seat);
-        tell_all(answer, woken, count)
+        tell_all(answer, count)
     }
 }

@@ -1,7 +1,7 @@
 //! The numbers of the seats that a call woke, as a caller gets them.
 ghost use Rattle.std.specs.Prelude.{◌≡◌, ◌≤◌, length, take};
 
-/// A call wakes no more seats: a release of many adds no more units, and a list has no more seats.
+/// A release of many wakes no more seats: it adds no more units.
 pub(crate) const MOST_WOKEN: usize = 256;
 
 /// Writes the numbers to the beginning of the room.

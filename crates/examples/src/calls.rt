@@ -1,21 +1,21 @@
 //! Calls of the running parts, made as they have to be.
 //!
 //! What a caller could do wrong and no type can refuse, a call asks in a `requires`: a seat of this very
-//! table, list or group, a counter that is there, 1 to 256 units, a lock that is held or isn't, releases
-//! enough. Here each of these is kept, and in `mutants` each is broken once, and refused. That a seat amid
+//! table, list or group, a counter that is there, 1 to 256 units, room enough, a lock that is held or isn't,
+//! releases enough. Here each of these is kept, and in `mutants` each is broken once, and refused. That a seat amid
 //! a call, or a ticket, can't be let go is a matter of types, and shown in [`spent`](crate::spent).
 //!
 //! The answers in `proofs` name the fact that carries each `requires`. The prover would find it, but where a
 //! call is broken it would search for long before it gave up.
-ghost use Rattle.std.specs.Prelude.{◌≡◌, ◌<◌, true, false, [], length, All, IfSome, IfNone};
+ghost use Rattle.std.specs.Prelude.{◌≡◌, ◌<◌, ◌≤◌, true, false, [], length, All, IfSome, IfNone};
 ghost use Rattle.step_law_lists.specs.ListLawful.{IsGranted};
 ghost use Rattle.sync_parts.specs.ListCalls.{AllGranted};
 ghost use Rattle.sync_parts.specs.ListCallers.{IsSeatAfter};
 
 use std::sync::Wait;
 use sync_parts::{
-    Closed, Cond, CounterId, GroupSeat, Holding, ListSeat, Misuse, NotifyList, PostRefused,
-    PostedMany, Seat, SemaLock, SemaTable, Tried, WaitGroup, Waited,
+    Closed, Cond, CounterId, GroupSeat, Holding, ListSeat, Misuse, NotifiedAll, NotifyList,
+    OwingAll, PostRefused, PostedMany, Seat, SemaLock, SemaTable, Tried, WaitGroup, Waited,
 };
 
 /// Tries to take a unit of each table, with a seat of each.
@@ -38,6 +38,18 @@ pub fn adds_most(table: &SemaTable, seat: Seat) -> Result<PostedMany, (Seat, Pos
     requires { (seat.table ≡ table.now) × (0 < length table.now.setting.starts) }
 {
     table.post_many(seat, CounterId::new(0), 256)
+}
+
+/// Grants all tickets of a list of at most 16 seats, and names the seats that wait.
+pub fn names_all(
+    list: &NotifyList,
+    seat: ListSeat,
+    woken: &mut [u32; 16],
+) -> Result<(ListSeat, NotifiedAll), OwingAll>
+    requires seat { seat.list ≡ list.now }
+    requires few { list.now.setting.seats ≤ 16 }
+{
+    list.try_all(seat, woken)
 }
 
 /// Waits with a ticket of one list, and then notifies one on the next. The ticket is granted then; and where

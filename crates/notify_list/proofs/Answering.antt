@@ -17,7 +17,7 @@ use Rattle.notify_list.proofs.Early.{reach_then}
 
 -- a seat of a list of few, which has seen what is lawful
 pub record IsSound (s : SeatModel) : Type 0 where
-  pub few : s.list.setting.seats ≤ 256
+  pub few : s.list.setting.seats ≤ 65536
   pub lawful : Follows s.sight.seen
 
 -- the seat of a token is so
@@ -29,7 +29,7 @@ is_sound t n is = record {
 }
 
 -- the list of a seat has few seats, where another seat of it is so
-pub few_then : (s t : SeatModel) → t.list ≡ s.list → IsSound t → s.list.setting.seats ≤ 256
+pub few_then : (s t : SeatModel) → t.list ≡ s.list → IsSound t → s.list.setting.seats ≤ 65536
 few_then s t same is = let e = ap (λ (l : ListModel). l.setting.seats) same in let few = is.few in omega arith
 
 -- a call's rows, by which these entries were told

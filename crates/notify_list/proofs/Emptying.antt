@@ -1,8 +1,8 @@
 -- Taking all waits out of the list.
-use Rattle.std.proofs.Common.{◌≡◌, ℕ, ◌+◌, ◌<◌, ◌≤◌, List, [], ◌∷◌, ◌++◌, length, map, drop, slice_get, Option, Some, None, sym}
+use Rattle.std.proofs.Common.{◌≡◌, ℕ, ◌+◌, ◌<◌, ◌≤◌, List, [], ◌∷◌, ◌++◌, length, map, take, set, drop, slice_get, Some, None, sym}
 use Rattle.std.proofs.Common.{refl, ap, ◌∙◌, subst, arith}
-use Rattle.std.proofs.Common.{length-append, append-nil, append_assoc}
-use Rattle.std.proofs.lemmas.List.{map-append}
+use Rattle.std.proofs.Common.{length-append, length-set, append-nil, append_assoc}
+use Rattle.std.proofs.lemmas.List.{map-append, take_more_set}
 use Rattle.running_rows.specs.Table.{rest}
 use Rattle.running_rows.specs.Lent.{seat_with}
 use Rattle.waiters.specs.declared.wait.Wait.{Wait}
@@ -20,7 +20,7 @@ use Rattle.notify_list.specs.Plays.{Me, ListView}
 use Rattle.notify_list.specs.Seats.{ListModel, Token, guarded_of, queue_of, with_queue, setting_of, stands_of}
 use Rattle.notify_list.specs.Walks.{Walked, HasRecord, Edited}
 use Rattle.notify_list.specs.Records.{HasGuarded, FirstOut}
-use Rattle.notify_list.specs.GrantingAll.{MayReach, ReachedAll, MayTake, TakenAll, with_waits}
+use Rattle.notify_list.specs.GrantingAll.{MayReach, ReachedAll, MayTake, TakenAll, MayWake, with_waits}
 use Rattle.notify_list.proofs.Allowing.{GivesBack}
 use Rattle.notify_list.proofs.Leading.{Ran, Led, led, Gave, gave_from}
 use Rattle.notify_list.proofs.Walking.{walked_row}
@@ -79,69 +79,74 @@ first_some s y lists g wait seat h is first change room same = by g.queue refl (
               }),
         )
 
--- of the waits of the list so many were taken out, and their seats are in the hand
-pub record Emptied (s : Token) (t : Token) (seats : List ℕ) : Type 0 where
+-- of the waits of the list so many were taken out, and the room begins with their seats
+pub record Emptied (s t : Token) (room : List ℕ) (count : ℕ) : Type 0 where
   pub gone : List Wait
   pub left : List Wait
   pub parts : queue_of s ≡ gone ++ left
   pub table : t.table_id ≡ s.table_id
   pub view : t.me.0 ≡ s.me.0
   pub has : HasGuarded t (with_queue left (guarded_of s))
-  pub items : seats ≡ map (λ (w : Wait). w.id.seat) gone
-  pub few : length (queue_of s) ≤ 256
+  pub counted : count ≡ length gone
+  pub items : take count room ≡ map (λ (w : Wait). w.id.seat) gone
+  pub fits : length (queue_of s) ≤ length room
 
-pub none_emptied : (s : Token) (seats : List ℕ) → HasRecord s → (setting_of s).seats ≤ 256 → seats ≡ [] → Emptied s s seats
-none_emptied s seats h few none = record {
+pub none_emptied : (s : Token) (room : List ℕ) → HasRecord s → length (queue_of s) ≤ length room → Emptied s s room 0
+none_emptied s room h fits = record {
   gone = [];
   left = queue_of s;
   parts = refl;
   table = refl;
   view = refl;
   has = h;
-  items = none;
-  few = let r = h.2.room in omega arith;
+  counted = refl;
+  items = refl;
+  fits = fits;
 }
 
-pub emptied_few : (s t : Token) (seats : List ℕ) (seat : ℕ) (u : Token) (x : Emptied s t seats) → FirstOut t (with_queue x.left (guarded_of s)) (Some seat) u → length seats < 256
-emptied_few s t seats seat u x out =
-    let a = ap length x.parts in let b = length-append x.gone x.left in let c = ap length out.2 in let d = ap length x.items in
-    let e = length_map x.gone in let f = x.few in omega arith
-  where
-    length_map : (l : List Wait) → length (map (λ (w : Wait). w.id.seat) l) ≡ length l
-    length_map [] = refl
-    length_map (w ∷ l) = ap Rattle.std.proofs.Common.suc (length_map l)
+module _ (s t : Token) (room : List ℕ) (count : ℕ) (u : Token) (x : Emptied s t room count) where
+  pub room_left : (seat : ℕ) → FirstOut t (with_queue x.left (guarded_of s)) (Some seat) u → count < length room
+  room_left seat out =
+      let a = ap length x.parts in let b = length-append x.gone x.left in let c = ap length out.2 in let d = x.counted in let f = x.fits in omega arith
 
-pub one_emptied : (s t : Token) (seats more : List ℕ) (seat : ℕ) (u : Token) (x : Emptied s t seats) → FirstOut t (with_queue x.left (guarded_of s)) (Some seat) u
-    → more ≡ seats ++ seat ∷ [] → Emptied s u more
-one_emptied s t seats more seat u x out added = record {
-  gone = x.gone ++ out.0 ∷ [];
-  left = out.1;
-  parts = x.parts ∙ ap (λ l. x.gone ++ l) out.2 ∙ sym (append_assoc x.gone (out.0 ∷ []) out.1);
-  table = out.4.0 ∙ x.table;
-  view = ap (λ (m : Me). m.0) out.4.1.1 ∙ x.view;
-  has = (
-    out.4.1.0,
-    ap (λ (m : Me). m.1) out.4.1.1,
-    subst (λ (v : ListView). IsRecord v.own.knows.setting out.4.1.0 (with_queue out.1 (guarded_of s))) (sym (ap (λ (m : Me). m.0) out.4.1.1)) out.4.1.2,
-  );
-  items = added ∙ (λ i. x.items i ++ sym out.3 i ∷ []) ∙ sym (map-append (λ (w : Wait). w.id.seat) x.gone (out.0 ∷ []));
-  few = x.few;
-}
+  pub one_emptied : (seat : ℕ) → FirstOut t (with_queue x.left (guarded_of s)) (Some seat) u → Emptied s u (set room count seat) (count + 1)
+  one_emptied seat out = record {
+    gone = x.gone ++ out.0 ∷ [];
+    left = out.1;
+    parts = x.parts ∙ ap (λ l. x.gone ++ l) out.2 ∙ sym (append_assoc x.gone (out.0 ∷ []) out.1);
+    table = out.4.0 ∙ x.table;
+    view = ap (λ (m : Me). m.0) out.4.1.1 ∙ x.view;
+    has = (
+      out.4.1.0,
+      ap (λ (m : Me). m.1) out.4.1.1,
+      subst (λ (v : ListView). IsRecord v.own.knows.setting out.4.1.0 (with_queue out.1 (guarded_of s))) (sym (ap (λ (m : Me). m.0) out.4.1.1)) out.4.1.2,
+    );
+    counted = let a = x.counted in let b = length-append x.gone (out.0 ∷ []) in omega arith;
+    items = take_more_set room count seat (room_left seat out) ∙ (λ i. x.items i ++ sym out.3 i ∷ [])
+        ∙ sym (map-append (λ (w : Wait). w.id.seat) x.gone (out.0 ∷ []));
+    fits = let a = length-set room count seat in let f = x.fits in omega arith;
+  }
 
-pub all_emptied : (s t : Token) (seats : List ℕ) (u : Token) (x : Emptied s t seats) → FirstOut t (with_queue x.left (guarded_of s)) None u → Edited s (with_queue [] (guarded_of s)) u
-all_emptied s t seats u x out = (
-  out.1.0 ∙ x.table,
-  (
-    out.1.1.0,
-    out.1.1.1 ∙ (λ i. (x.view i, (0, out.1.1.0) ∷ [])),
-    subst (λ (v : ListView). IsRecord v.own.knows.setting out.1.1.0 (with_queue [] (guarded_of s))) x.view
-        (subst (λ l. IsRecord (setting_of t) out.1.1.0 (with_queue l (guarded_of s))) out.0 out.1.1.2),
-  ),
-)
+  module _ (out : FirstOut t (with_queue x.left (guarded_of s)) None u) where
+    pub all_emptied : Edited s (with_queue [] (guarded_of s)) u
+    all_emptied = (
+      out.1.0 ∙ x.table,
+      (
+        out.1.1.0,
+        out.1.1.1 ∙ (λ i. (x.view i, (0, out.1.1.0) ∷ [])),
+        subst (λ (v : ListView). IsRecord v.own.knows.setting out.1.1.0 (with_queue [] (guarded_of s))) x.view
+            (subst (λ l. IsRecord (setting_of t) out.1.1.0 (with_queue l (guarded_of s))) out.0 out.1.1.2),
+      ),
+    )
 
-pub all_seats : (s t : Token) (seats : List ℕ) (u : Token) (x : Emptied s t seats) → FirstOut t (with_queue x.left (guarded_of s)) None u
-    → seats ≡ map (λ (w : Wait). w.id.seat) (queue_of s)
-all_seats s t seats u x out = x.items ∙ ap (map (λ (w : Wait). w.id.seat)) (sym (append-nil x.gone) ∙ ap (λ l. x.gone ++ l) (sym out.0) ∙ sym x.parts)
+    gone_all : x.gone ≡ queue_of s
+    gone_all = sym (append-nil x.gone) ∙ ap (λ l. x.gone ++ l) (sym out.0) ∙ sym x.parts
+
+    pub all_counted : count ≡ length (queue_of s)
+    all_counted = x.counted ∙ ap length gone_all
+
+    pub all_seats : take count room ≡ map (λ (w : Wait). w.id.seat) (queue_of s)
+    all_seats = x.items ∙ ap (map (λ (w : Wait). w.id.seat)) gone_all
 
 -- L7
 module _ (l : ListModel) (s : Token) (h n : ℕ) (may : MayTake l s h n) where
@@ -194,3 +199,21 @@ may_take l s v h n may empty R = (
   R.record_is,
   ap (λ (z : ListSeat). z.hand) R.walked.stands_is ∙ empty,
 )
+
+-- and granted, once they are
+pub wakes_after : (l : ListModel) (s : Token) (h n : ℕ) → MayTake l s h n → (t : Token) → TakenAll s h n t → MayWake l t h
+wakes_after l s h n may t T = record {
+  list_is = T.walked.list_is ∙ may.0.list_is;
+  there = let q = ap (λ (z : ListModel). z.setting.seats) T.walked.list_is in let i = T.walked.number_is in let k = may.0.there in omega arith;
+  few = let q = ap (λ (z : ListModel). z.setting.seats) T.walked.list_is in let k = may.0.few in omega arith;
+  at = ap (λ (z : ListSeat). z.place) T.walked.stands_is;
+  lands = T.walked.lands;
+}
+
+-- no more waits are queued than there are seats, so a room for all seats has room for them
+pub queue_fits : (l : ListModel) (s : Token) (h n : ℕ) → MayTake l s h n → length (queue_of s) ≤ l.setting.seats
+queue_fits l s h n may = let q = ap (λ (z : ListModel). z.setting.seats) may.0.list_is in let r = may.1.2.room in omega arith
+
+pub all_fit : (l : ListModel) (s : Token) (h n : ℕ) → MayTake l s h n → (room : List ℕ) → l.setting.seats ≤ length room
+    → length (queue_of s) ≤ length room
+all_fit l s h n may room seats = let f = queue_fits l s h n may in omega arith

@@ -244,7 +244,7 @@ module _ (l : ListModel) (s t : Token) (word : ℕ) (may : MayForgo l s word t) 
     guarded2 : guarded_of u ≡ guarded_of s
     guarded2 = d2.guarded ∙ sym (d2.held refl)
 
-    few2 : (setting_of u).seats ≤ 256
+    few2 : (setting_of u).seats ≤ 65536
     few2 = let e = ap (λ (z : ListModel). z.setting.seats) w2.list_is in let f = may.few in omega arith
 
     there2 : u.me.0.own.number < (setting_of u).seats

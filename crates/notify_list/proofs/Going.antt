@@ -95,7 +95,7 @@ was_parked e2 t row at = (refl, refl, inl (E2, cc, refl))
 was_parked e5 t row at = (refl, refl, inl (E5, cc, refl))
 was_parked _ t row at = absurd cc
 
-module _ (z : Setting) (s : ListWorld) (few_seats : z.seats ≤ 256) (met : IsMet z s) where
+module _ (z : Setting) (s : ListWorld) (few_seats : z.seats ≤ 65536) (met : IsMet z s) where
   inv : IsListInvariant z.first z.seats s
   inv = list_reached z.first z.seats s met.reach met.reached
 
@@ -116,7 +116,7 @@ module _ (z : Setting) (s : ListWorld) (few_seats : z.seats ≤ 256) (met : IsMe
   few_gone = let most = few_rising 0 1152921504606846976 s.words.numbers.gone inv.rising (omega arith) (λ n some. (omega arith, gone_early n some)) in omega arith
 
   -- few tickets are handed out beyond those that are passed
-  pub few_handed : s.words.numbers.handed ≤ s.words.numbers.passed + 256 + 1152921504606846976
+  pub few_handed : s.words.numbers.handed ≤ s.words.numbers.passed + 65536 + 1152921504606846976
   few_handed =
       let most = few z.seats s inv.tickets (λ k there. (inv.seats_known k there).only) (told_gone z.first z.seats s inv) inv.words.2 in
       let gone = few_gone in omega arith
@@ -236,7 +236,7 @@ posted l8_last t row at = cc
 posted l8_more t row at = cc
 
 -- every step leads on to a world that is met, where the seat may leave if it gives up
-pub met_step : (z : Setting) (s t : ListWorld) (i : ℕ) → z.seats ≤ 256 → i < z.seats → IsMet z s → ListStep s i t
+pub met_step : (z : Setting) (s t : ListWorld) (i : ℕ) → z.seats ≤ 65536 → i < z.seats → IsMet z s → ListStep s i t
     → GoesEarly (t.seats i).place (t.seats i).late → IsMet z t
 met_step z s t i few_seats there met listed = by (step_of s t i mine.fits mine.only listed) (more i there met.reached listed)
   where

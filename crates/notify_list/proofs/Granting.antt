@@ -140,7 +140,7 @@ module _ (l : ListModel) (s : Token) (h ticket next : ℕ) (may : MayStore l s h
     pub stands8 : stands_of t ≡ at_place (NotifyingOne h (O8 ticket)) (stands_of t)
     stands8 = λ i. record (stands_of t) { place = ap (λ (a : ListSeat). a.place) w7.stands_is i }
 
-    few8 : (setting_of t).seats ≤ 256
+    few8 : (setting_of t).seats ≤ 65536
     few8 = let e = ap (λ (z : Setting). z.seats) row7.same.1 in let k = may.few in omega arith
 
     -- O8
@@ -235,7 +235,7 @@ module _ (l : ListModel) (s : Token) (h ticket next : ℕ) (may : MayStore l s h
         there9 : u.me.0.own.number < (setting_of u).seats
         there9 = let e = ap (λ (z : Setting). z.seats) setting9 in let i = to9.number_is in let k = may.there in omega arith
 
-        few9 : (setting_of u).seats ≤ 256
+        few9 : (setting_of u).seats ≤ 65536
         few9 = let e = ap (λ (z : Setting). z.seats) setting9 in let k = may.few in omega arith
 
         pub seat_there : w.id.seat < (setting_of s).seats

@@ -47,7 +47,7 @@ pub record RunsIn (k : ℕ) (v : Known) (b : ListWorld) (i n : ℕ) : Type 0 whe
   pub knows : Knows v.setting k v b
   pub there : k < v.setting.seats
   pub word : (w : ListWord) → IsThere v.setting w → address w ≡ i → n ≡ found b.words w
-  pub few : v.setting.seats ≤ 256
+  pub few : v.setting.seats ≤ 65536
 
 -- all that is known of a world that is met
 pub laws_of : (z : Setting) (s : ListWorld) → IsMet z s → ReachedList z.first z.seats s

@@ -97,7 +97,7 @@ abbrev pub Gave : Token → Token → Type 0
 Gave s t = runs_unlock list_rows (step 0 2 0 0 none) s.me 0 t.me
 
 -- it found the lock held. Since the seat was seen, its record may have been edited
-pub gave_from : (s e t : Token) (a : ListSeat) → e.me.0.own ≡ s.me.0.own → stands_of s ≡ a → holds a.place ≡ 1 → (setting_of s).seats ≤ 256
+pub gave_from : (s e t : Token) (a : ListSeat) → e.me.0.own ≡ s.me.0.own → stands_of s ≡ a → holds a.place ≡ 1 → (setting_of s).seats ≤ 65536
     → ((g : ListWords) → (list_table s.me.0.own.number a g).word ≡ Lock) → Gave e t → Ran a s.me.0.own 1 t.me.0.own
 gave_from s e t a same is holding few word given =
     let r : Ran a s.me.0.own given.0 t.me.0.own
@@ -110,7 +110,7 @@ gave_from s e t a same is holding few word given =
 
 -- a grant that was taken was one
 pub woke_from : (s t : Token) (a : ListSeat) (n : ℕ) (ticket : Ticket) → stands_of s ≡ a → a.place ≡ Waiting ticket (Parked P)
-    → (setting_of s).seats ≤ 256 → 0 < n
+    → (setting_of s).seats ≤ 65536 → 0 < n
     → RanRow list_rows here s.me n t.me → Ran a s.me.0.own 1 t.me.0.own
 woke_from s t a n ticket is parked few some row =
     let k : ℕ = s.me.0.own.number in

@@ -115,7 +115,7 @@ module _ (l : ListModel) (s : Token) (n : ℕ) (K : IsParked s n true) where
     pub list1 : list_of t ≡ l
     list1 = (λ j. record { id = table j; setting = row1.same.1 j }) ∙ own
 
-    few1 : (setting_of t).seats ≤ 256
+    few1 : (setting_of t).seats ≤ 65536
     few1 = let e = ap (λ (z : Setting). z.seats) row1.same.1 in let f = K.token_is.few in omega arith
 
     there1 : t.me.0.own.number < (setting_of t).seats
@@ -185,7 +185,7 @@ module _ (l : ListModel) (s : Token) (n : ℕ) (K : IsParked s n true) where
             ((Waiting q.0.1 (Parked E2), F.notified) ∷ (Waiting q.0.1 (Parked (E3 F.notified)), F.notified) ∷ []))
             (λ j. ((stands1 true out.0 j, same_ticket j), number1 j)) F.walked)
 
-        few4 : (setting_of v).seats ≤ 256
+        few4 : (setting_of v).seats ≤ 65536
         few4 = let e = ap (λ (z : ListModel). z.setting.seats) w4.list_is in let f = K.token_is.few in omega arith
 
         pub list4 : list_of v ≡ l

@@ -3,6 +3,7 @@ pub mod Owned
 pub mod Beginning
 pub mod Early
 pub mod LiveTickets
+pub mod LiveReaching
 pub mod LiveTaking
 pub mod Passing
 pub mod Going

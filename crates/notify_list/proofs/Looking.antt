@@ -107,7 +107,7 @@ module _ (s t u : Token) (n waited notified : ℕ) (seat : IsSeat s n) (x : RanR
     holds_none = ap (λ (y : ListSeat). y.ticket) walked.stands_is ∙ seat.holds_none;
   }
 
-  few : (setting_of t).seats ≤ 256
+  few : (setting_of t).seats ≤ 65536
   few = let e = ap (λ (z : Setting). z.seats) r.same.1 in let f = seat.token_is.few in omega arith
 
   pub all_granted : waited ≡ notified → AllGranted (seat_of s n) (seat_of u n)

@@ -73,7 +73,7 @@ module _ (s t u : Token) (n waited notified : ℕ) (seat : IsSeat s n) (x : RanR
       (subst (λ l. GoesOn l (seen_of s)) one.seen_is one.later) in
       let e = ap (λ (x : Numbers). x.handed) laws.invariant.numbers in omega arith
 
-  few : (setting_of t).seats ≤ 256
+  few : (setting_of t).seats ≤ 65536
   few = let e = ap (λ (z : Setting). z.seats) r.same.1 in let f = seat.token_is.few in omega arith
 
   pub quiet : waited ≡ notified → h ≤ (told (seen_of u)).passed

@@ -108,7 +108,7 @@ module _ (s : Token) (n h : ℕ) (seat : IsSeat s n) (at : (stands_of s).place �
         number5 : x.me.0.own.number ≡ s.me.0.own.number
         number5 = (w5 (if waited == ticket then NotifyingOne h O6 else NotifyingOne h (O7 ticket)) refl).number_is
 
-        few5 : (setting_of x).seats ≤ 256
+        few5 : (setting_of x).seats ≤ 65536
         few5 = let e = ap (λ (z : Setting). z.seats) setting5 in let f = seat.token_is.few in omega arith
 
         -- O6, and the end

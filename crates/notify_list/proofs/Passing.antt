@@ -249,7 +249,7 @@ module _ (l : ListModel) (s : Token) (h ticket : ℕ) (may : MayGrant l s h tick
     may_store = record {
       list_is = list_edited s t (one_granted (guarded_of s)) edit.1 ∙ may.list_is;
       there = subst (λ (v : ListView). v.own.number < v.own.knows.setting.seats) (sym own) may.there;
-      few = subst (λ (v : ListView). v.own.knows.setting.seats ≤ 256) (sym own) may.few;
+      few = subst (λ (v : ListView). v.own.knows.setting.seats ≤ 65536) (sym own) may.few;
       empty = ap (λ (v : ListView). v.own.knows.sight.stands.hand) own ∙ may.empty;
       at = ap (λ (v : ListView). v.own.knows.sight.stands.place) own ∙ may.at;
       next_is = edit.0 ∙ ap (λ (v : ListView). word_of v.own.knows.setting.first (one_granted (guarded_by v.own.knows)).passed) (sym own);

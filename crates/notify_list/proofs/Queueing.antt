@@ -54,7 +54,7 @@ queued_same s t u w same E = (
 
 -- a row after which a wait returns finds its ticket granted
 pub granted_by : (ticket : Ticket) (u x : Token) (a : ListSeat) (r : Ran a u.me.0.own 1 x.me.0.own) (d : Led a u.me.0.own 1 x.me.0.own r.stride)
-    → (setting_of u).seats ≤ 256 → r.stride.told ≡ [] → Returns d.world u.me.0.own.number ticket → IsTicketGranted ticket.number (seen_of x)
+    → (setting_of u).seats ≤ 65536 → r.stride.told ≡ [] → Returns d.world u.me.0.own.number ticket → IsTicketGranted ticket.number (seen_of x)
 granted_by ticket u x a r d few none returns =
     let laws = laws_of (setting_of u) d.world d.met in
     let granted = laws.calls.returned u.me.0.own.number ticket r.also.there returns in
@@ -137,7 +137,7 @@ module _ (s : Token) (n word : ℕ) (H : IsHolding s n word) where
       pub number_looked : u.me.0.own.number ≡ n
       number_looked = look.same.0 ∙ w1.number_is ∙ H.token_is.number_is
 
-      few_looked : (setting_of u).seats ≤ 256
+      few_looked : (setting_of u).seats ≤ 65536
       few_looked = let a = ap (λ (z : Setting). z.seats) look.same.1 in
           let b = ap (λ (l : ListModel). l.setting.seats) w1.list_is in let f = H.token_is.few in omega arith
 

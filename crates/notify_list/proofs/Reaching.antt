@@ -176,7 +176,7 @@ module _ (l : ListModel) (s : Token) (h : ℕ) (may : MayReach l s h) where
           laws5 : ReachedList (setting_of u).first (setting_of u).seats w5.lands.world
           laws5 = laws_of (setting_of u) w5.lands.world w5.lands.met
 
-          few5 : (setting_of u).seats ≤ 256
+          few5 : (setting_of u).seats ≤ 65536
           few5 = let e = ap (λ (y : ListModel). y.setting.seats) w5.list_is in let f = may.0.few in omega arith
 
           passed5 : (guarded_of u).passed ≡ w5.lands.world.words.numbers.passed
@@ -245,7 +245,7 @@ module _ (l : ListModel) (s : Token) (h : ℕ) (may : MayReach l s h) where
         none_granted : (told d6.world.journal).passed ≡ d5.world.words.numbers.handed → many ≡ 0
         none_granted same = let c = over.0 in let q = passed6 in omega arith
 
-        pub few_granted : many ≤ 256
+        pub few_granted : many ≤ 65536
         few_granted =
             let few = ap (λ (y : ListModel). y.setting.seats) w5.list_is in let f = may.0.few in let c = over.0 in let q = passed6 in
             let l = ap (λ (y : Numbers). length y.gone) laws6.invariant.numbers in let g = long6 in
@@ -325,5 +325,5 @@ module _ (l : ListModel) (s : Token) (h : ℕ) (may : MayReach l s h) where
               let laws5 = laws_of (setting_of t) d5.world d5.met in ap (λ (y : Numbers). y.handed) (laws5.invariant.numbers ∙ ap told (sym d5.seen_is));
         }
           where
-            few5 : (setting_of t).seats ≤ 256
+            few5 : (setting_of t).seats ≤ 65536
             few5 = let e = ap (λ (y : ListModel). y.setting.seats) w4.list_is in let f = may.0.few in omega arith

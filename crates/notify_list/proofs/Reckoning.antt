@@ -125,7 +125,7 @@ record Rested (z : Setting) (was : ListWorld) (n : ℕ) : Type 0 where
   pub tickets : (k : ℕ) → (world.seats k).ticket ≡ (was.seats k).ticket
   pub others : (k : ℕ) → n ≤ k → world.seats k ≡ was.seats k
 
-all_rest : (z : Setting) (was : ListWorld) → z.seats ≤ 256 → IsMet z was → ((k : ℕ) → k < z.seats → is_free (was.seats k).place ≡ true) → (n : ℕ)
+all_rest : (z : Setting) (was : ListWorld) → z.seats ≤ 65536 → IsMet z was → ((k : ℕ) → k < z.seats → is_free (was.seats k).place ≡ true) → (n : ℕ)
     → n ≤ z.seats → Rested z was n
 all_rest z was few met free zero low =
     record { world = was; met = met; words = refl; journal = refl; rest = λ k h. absurd (omega arith); tickets = λ k. refl; others = λ k h. refl }

@@ -21,7 +21,7 @@ use Rattle.notify_list.specs.Plays.{OneSeat}
 use Rattle.notify_list.specs.Seats.{Token, IsToken, setting_of}
 use Rattle.notify_list.proofs.Keeping.{laws_of}
 
-module _ (u : OneSeat) (L : Lands u.number u.knows) (there : u.number < u.knows.setting.seats) (few : u.knows.setting.seats ≤ 256) where
+module _ (u : OneSeat) (L : Lands u.number u.knows) (there : u.number < u.knows.setting.seats) (few : u.knows.setting.seats ≤ 65536) where
   pub laws_there : ReachedList u.knows.setting.first u.knows.setting.seats L.world
   laws_there = laws_of u.knows.setting L.world L.met
 
@@ -60,7 +60,7 @@ pub there_of : (t : Token) (n : ℕ) → IsToken t n → t.me.0.own.number < (se
 there_of t n is = let a = is.number_is in let b = is.there in omega arith
 
 -- a seat that is about to grant grants another, which is there and wasn't granted
-pub grants_in : (z : Setting) (s : ListWorld) (i : ℕ) (a : ListSeat) (k : ℕ) (next : ListNext) → z.seats ≤ 256
+pub grants_in : (z : Setting) (s : ListWorld) (i : ℕ) (a : ListSeat) (k : ℕ) (next : ListNext) → z.seats ≤ 65536
     → IsMet z s → i < z.seats → s.seats i ≡ a
     → ((g : ListWords) → list_table i a g ≡ store (Grant k) 1 next) → GrantsParked z.seats i k s
 grants_in z s i a k next few met there is e =

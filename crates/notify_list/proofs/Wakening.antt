@@ -150,7 +150,7 @@ pub may_same : (l : ListModel) (s t : Token) (h : ℕ) → MayWake l s h → IsS
 may_same l s t h may same = record {
   list_is = (λ i. record { id = same.0 i; setting = (same.1 i).0.own.knows.setting }) ∙ may.list_is;
   there = subst (λ (m : Me). m.0.own.number < m.0.own.knows.setting.seats) (sym same.1) may.there;
-  few = subst (λ (m : Me). m.0.own.knows.setting.seats ≤ 256) (sym same.1) may.few;
+  few = subst (λ (m : Me). m.0.own.knows.setting.seats ≤ 65536) (sym same.1) may.few;
   at = subst (λ (m : Me). m.0.own.knows.sight.stands.place ≡ if_any m.0.own.knows.sight.stands.hand (NotifyingAll h L8) Rest) (sym same.1) may.at;
   lands = subst (λ (m : Me). Lands m.0.own.number m.0.own.knows) (sym same.1) may.lands;
 }

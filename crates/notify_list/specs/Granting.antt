@@ -19,7 +19,7 @@ use Rattle.notify_list.specs.Notifying.{grants_it, GivesLast}
 pub record MayGrant (l : ListModel) (s : Token) (h ticket : ℕ) : Type 0 where
   pub list_is : list_of s ≡ l
   pub there : s.me.0.own.number < (setting_of s).seats
-  pub few : (setting_of s).seats ≤ 256
+  pub few : (setting_of s).seats ≤ 65536
   pub empty : (stands_of s).hand ≡ []
   pub at : (stands_of s).place ≡ NotifyingOne h (O7 ticket)
   pub lands : Lands s.me.0.own.number s.me.0.own.knows
@@ -37,7 +37,7 @@ one_granted g = record {
 pub record MayStore (l : ListModel) (s : Token) (h ticket next : ℕ) : Type 0 where
   pub list_is : list_of s ≡ l
   pub there : s.me.0.own.number < (setting_of s).seats
-  pub few : (setting_of s).seats ≤ 256
+  pub few : (setting_of s).seats ≤ 65536
   pub empty : (stands_of s).hand ≡ []
   pub at : (stands_of s).place ≡ NotifyingOne h (O7 ticket)
   pub next_is : next ≡ word_of (setting_of s).first (one_granted (guarded_of s)).passed

@@ -34,7 +34,7 @@ pub record LookedForAll (s : Token) (equal : Bool) (t : Token) : Type 0 where
 pub record IsAt (l : ListModel) (s : Token) (place : ListPlace) : Type 0 where
   pub list_is : list_of s ≡ l
   pub there : s.me.0.own.number < (setting_of s).seats
-  pub few : (setting_of s).seats ≤ 256
+  pub few : (setting_of s).seats ≤ 65536
   pub at : (stands_of s).place ≡ place
   pub lands : Lands s.me.0.own.number s.me.0.own.knows
 
@@ -86,3 +86,7 @@ pub record WokenFirst (s : Token) (h : ℕ) (w : Wait) (rest : List Wait) (t : T
 pub record WokenSome (s : Token) (h : ℕ) (woken rest : List Wait) (t : Token) : Type 0 where
   pub walked : Walked s (stands_of s) t (with_waits h rest (stands_of s)) [] (wake_rows h woken)
   pub slots : t.me.1 ≡ s.me.1
+
+-- L7 ran, and L8 for each wait that it took out
+abbrev pub TakenAndWoken : Token → ℕ → ℕ → Token → Type 0
+TakenAndWoken s h n t = (u : Token) × TakenAll s h n u × WokenSome u h (stands_of u).hand [] t

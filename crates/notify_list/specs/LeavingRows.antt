@@ -43,7 +43,7 @@ pub record HasLocked (l : ListModel) (s : Token) (n : ℕ) (t : Token) : Type 0 
 pub record MayForgo (l : ListModel) (s : Token) (word : ℕ) (t : Token) : Type 0 where
   pub list_is : list_of s ≡ l
   pub there : s.me.0.own.number < (setting_of s).seats
-  pub few : (setting_of s).seats ≤ 256
+  pub few : (setting_of s).seats ≤ 65536
   pub ticket : Ticket
   pub at : (stands_of s).place ≡ Waiting ticket (Parked E2)
   pub word_is : ticket.word ≡ word
@@ -56,7 +56,7 @@ pub record MayForgo (l : ListModel) (s : Token) (word : ℕ) (t : Token) : Type 
 pub record MayLetGo (l : ListModel) (s : Token) (ticket : Ticket) (word notified : ℕ) : Type 0 where
   pub list_is : list_of s ≡ l
   pub there : s.me.0.own.number < (setting_of s).seats
-  pub few : (setting_of s).seats ≤ 256
+  pub few : (setting_of s).seats ≤ 65536
   pub at : (stands_of s).place ≡ Waiting ticket (Parked (E3 notified))
   pub word_is : ticket.word ≡ word
   pub lands : Lands s.me.0.own.number s.me.0.own.knows

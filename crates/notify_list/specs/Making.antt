@@ -6,12 +6,12 @@ use Rattle.notify_list.specs.declared.setup_error.SetupError.{SetupError}
 use Rattle.notify_list.specs.declared.setup_error.SetupError.TheVariants.{Seats, NoMemory}
 use Rattle.notify_list.specs.Seats.{ListModel, SeatModel}
 
--- 1 to 256, or not
+-- 1 to 65,536, or not
 abbrev pub AreAllowed : ℕ → Type 0
-AreAllowed seats = (1 ≤ seats) × (seats ≤ 256)
+AreAllowed seats = (1 ≤ seats) × (seats ≤ 65536)
 
 abbrev pub AreOutside : ℕ → Type 0
-AreOutside seats = (seats ≡ 0) ⊎ (256 < seats)
+AreOutside seats = (seats ≡ 0) ⊎ (65536 < seats)
 
 -- there is no memory for a list only where the number of seats is allowed
 abbrev pub IsRefused : ℕ → SetupError → Type 0

@@ -1,6 +1,6 @@
 -- What a notification of all promises.
 use Rattle.std.specs.Prelude.{◌≡◌, ◌≢◌, ◌⊎◌, ℕ, zero, suc, ◌+◌, ◌≤◌, Bool, true, false, List, [], ◌∷◌}
-use Rattle.std.specs.Prelude.{◌++◌, length, map}
+use Rattle.std.specs.Prelude.{◌++◌, length, map, take}
 use Rattle.waiters.specs.declared.wait.Wait.{Wait}
 use Rattle.step_table.specs.declared.list_place.AllRow.TheVariants.{L1, L2, L3, L4, L5, L6, L7, L8}
 use Rattle.step_table.specs.declared.list_place.ListPlace.{ListPlace}
@@ -12,7 +12,7 @@ use Rattle.step_table.specs.Path.{GoesOn, own_entries}
 use Rattle.step_law_lists.specs.ListLawful.{told}
 use Rattle.notify_list.specs.Places.{at_place}
 use Rattle.notify_list.specs.Rule.{watched}
-use Rattle.notify_list.specs.Seats.{SeatModel}
+use Rattle.notify_list.specs.Seats.{ListModel, SeatModel}
 use Rattle.notify_list.specs.Rows.{HasStored}
 use Rattle.notify_list.specs.Setting.{address}
 use Rattle.notify_list.specs.Calls.{Calls, ComesTo, numbers_seen}
@@ -122,3 +122,7 @@ pub record GrantsSeats (seats : List ℕ) (t : SeatModel) : Type 0 where
   pub stride : ListStride
   pub none : grants_seat stride.stood.place ≡ false
   pub stored : StoresGrants seats (before ++ stride ∷ []) t.strides
+
+-- the same of the seats at the beginning of a room, so many, and no more than the list has
+abbrev pub NamesSeats : ListModel → List ℕ → ℕ → SeatModel → Type 0
+NamesSeats l room count t = (count ≤ l.setting.seats) × GrantsSeats (take count room) t

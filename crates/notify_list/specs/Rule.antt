@@ -100,7 +100,7 @@ pub record Shows (z : Setting) (s : ListWorld) (numbers : List ℕ) (homes : Hom
   pub home : s.words.lock ≡ 0 → AtHome z s.words homes
   pub wide : length numbers ≡ words_in z
   pub deep : length homes ≡ 1
-  pub few : z.seats ≤ 256
+  pub few : z.seats ≤ 65536
 
 -- what a seat knows that has run nothing
 abbrev pub fresh : Setting → Known

@@ -66,7 +66,7 @@ pub record IsToken (t : Token) (n : ℕ) : Type 0 where
   pub bare : t.me.1 ≡ []
   pub number_is : t.me.0.own.number ≡ n
   pub there : n < (setting_of t).seats
-  pub few : (setting_of t).seats ≤ 256
+  pub few : (setting_of t).seats ≤ 65536
   pub lands : Lands t.me.0.own.number t.me.0.own.knows
 
 -- a seat that may begin a call, and holds no ticket

@@ -11,7 +11,7 @@ pub record IsList (id : TableId) (z : Setting) (seats first : ℕ) : Type 0 wher
   pub first_is : first ≡ z.first
   pub fits : first < 2 ^ 64
   pub some : 0 < seats
-  pub few : seats ≤ 256
+  pub few : seats ≤ 65536
   pub words : id.words ≡ words_in z
   pub slots : id.slots ≡ 1
 

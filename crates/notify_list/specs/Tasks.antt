@@ -23,7 +23,7 @@ use Rattle.notify_list.specs.Calls.{AllGranted}
 use Rattle.notify_list.specs.Tickets.{IsAdded, HasTicket, HasLooked, FindsHeldAfterLooks}
 use Rattle.notify_list.specs.Waiting.{IsEntered, IsPolled}
 use Rattle.notify_list.specs.Notifying.{NotifiesOne, GrantsLeast, ticket_of, GrantsItsWait}
-use Rattle.notify_list.specs.NotifyingAll.{NotifiesAll, GrantsSome, FindsHeldForAll, EndsAll, GrantsSeats}
+use Rattle.notify_list.specs.NotifyingAll.{NotifiesAll, GrantsSome, FindsHeldForAll, EndsAll, NamesSeats}
 use Rattle.notify_list.specs.Making.{IsMade}
 use Rattle.notify_list.specs.Callers.{GetsTicket, FindsAllGranted, EntersWait, PollsGrant, GivesUp, NotifiesOneTicket}
 use Rattle.notify_list.specs.Callers.{NotifiesAllTickets, EndsNotifyingAll, StandsOn, LeavesOne, LeavesAll}
@@ -107,20 +107,20 @@ NotifiesOneByTask s (Err Busy) t =
 NotifiesOneByTask s (Err OtherCall) t = Refuses s t (s.stage ≢ Resting)
 
 -- where the lock stayed held, the seat has looked at the two words, they differed, and it has to go on
-abbrev pub NotifiesAllByTask : TaskModel → Result NotifiedAll TaskRefused → TaskModel → Type 0
-NotifiesAllByTask s (Ok all) t =
+abbrev pub NotifiesAllByTask : TaskModel → Result NotifiedAll TaskRefused → List ℕ → TaskModel → Type 0
+NotifiesAllByTask s (Ok all) woken t =
     Goes s Resting Resting t × NotifiesAll s.seat all.tickets t.seat × GrantsSome s.seat all.tickets t.seat
-    × AllGranted s.seat t.seat × GrantsSeats all.seats.items t.seat
+    × AllGranted s.seat t.seat × NamesSeats s.seat.list woken all.waits t.seat
     × NotifiesAllTickets s.seat all.tickets t.seat
-NotifiesAllByTask s (Err Busy) t =
+NotifiesAllByTask s (Err Busy) woken t =
     Goes s Resting OwingAll t × FindsHeldForAll s.seat t.seat × LeavesAll s.seat t.seat
-NotifiesAllByTask s (Err OtherCall) t = Refuses s t (s.stage ≢ Resting)
+NotifiesAllByTask s (Err OtherCall) woken t = Refuses s t (s.stage ≢ Resting)
 
-abbrev pub GoesOnByTask : TaskModel → Result NotifiedAll TaskRefused → TaskModel → Type 0
-GoesOnByTask s (Ok all) t =
-    Goes s OwingAll Resting t × EndsAll s.seat all.tickets t.seat × GrantsSeats all.seats.items t.seat
+abbrev pub GoesOnByTask : TaskModel → Result NotifiedAll TaskRefused → List ℕ → TaskModel → Type 0
+GoesOnByTask s (Ok all) woken t =
+    Goes s OwingAll Resting t × EndsAll s.seat all.tickets t.seat × NamesSeats s.seat.list woken all.waits t.seat
     × EndsNotifyingAll s.seat all.tickets t.seat
-GoesOnByTask s (Err why) t =
+GoesOnByTask s (Err why) woken t =
     RefusesOrFinds s t (s.stage ≢ OwingAll)
     (Goes s OwingAll OwingAll t × FindsHeld s.seat t.seat × StandsOn s.seat t.seat) why
 

@@ -32,7 +32,8 @@ impl NotifyList {
         // Given back before the waiter is told: told earlier, it would run into the lock that is still held.
         self.words.return_lock(token, LOCK);
         if let Some(seat) = waiter {
-            self.words.store_grant(token, grant_word(seat), 1);
+            self.words
+                .store_grant(token, grant_word(u32::from(seat)), 1);
         }
         waiter
     }

@@ -27,7 +27,7 @@ use crate::seat::ListSeat;
 const FIRST: usize = 3;
 
 /// The word that names this seat, and 0 for nobody.
-fn name_of(seat: Option<u16>) -> u64 {
+fn name_of(seat: Option<u32>) -> u64 {
     match seat {
         Some(number) => u64::from(number) + 1,
         None => 0,
@@ -35,7 +35,7 @@ fn name_of(seat: Option<u16>) -> u64 {
 }
 
 /// The seat so far behind twice this place.
-fn heir(seats: &[u16], place: usize, behind: usize) -> Option<u16> {
+fn heir(seats: &[u32], place: usize, behind: usize) -> Option<u32> {
     let at = place.checked_mul(2)?.checked_add(behind)?;
     seats.get(at).copied()
 }
@@ -43,7 +43,7 @@ fn heir(seats: &[u16], place: usize, behind: usize) -> Option<u16> {
 impl NotifyList {
     /// Names the heirs of those of these seats whose threads sleep: of the first seat the two behind the first
     /// three, and so on.
-    pub(crate) fn name_heirs(&self, token: &mut Token, seats: &[u16])
+    pub(crate) fn name_heirs(&self, token: &mut Token, seats: &[u32])
         requires { list_of token.old ≡ self.now }
         ensures { IsSame token.old token.new }
     {
@@ -57,18 +57,18 @@ impl NotifyList {
     }
 
     /// Names the heirs of a seat, where its thread sleeps.
-    fn name_both(&self, token: &mut Token, seat: u16, one: Option<u16>, other: Option<u16>)
+    fn name_both(&self, token: &mut Token, seat: u32, one: Option<u32>, other: Option<u32>)
         requires { list_of token.old ≡ self.now }
         ensures { IsSame token.old token.new }
     {
-        if u32::from(seat) < self.seats && self.words.aside(token, self.asleep_word(seat)) != 0 {
+        if seat < self.seats && self.words.aside(token, self.asleep_word(seat)) != 0 {
             self.name(token, self.heir_word(seat), one);
             self.name(token, self.other_heir_word(seat), other);
         }
     }
 
     /// Names a seat in a word, or nobody.
-    fn name(&self, token: &mut Token, word: usize, heir: Option<u16>)
+    fn name(&self, token: &mut Token, word: usize, heir: Option<u32>)
         requires own { list_of token.old ≡ self.now }
         requires aside { (words_shown self.now.setting ≤ word) × (word < self.now.id.words) }
         ensures { IsSame token.old token.new }
@@ -80,7 +80,7 @@ impl NotifyList {
     }
 
     /// Wakes the first of these seats, which are all granted, and those whose names are taken away.
-    pub(crate) fn wake_first(&self, token: &Token, seats: &[u16])
+    pub(crate) fn wake_first(&self, token: &Token, seats: &[u32])
         requires { (gone : List ListStride) × StoresGrants seats.now gone token.now.me.0.own.gone }
     {
         for place in FIRST..seats.len() {
@@ -92,11 +92,11 @@ impl NotifyList {
     }
 
     /// Wakes the seat so far behind the first, unless it is still named.
-    fn wake_unnamed(&self, token: &Token, seats: &[u16], behind: usize) {
+    fn wake_unnamed(&self, token: &Token, seats: &[u32], behind: usize) {
         let (Some(by), Some(at)) = (seats.get(behind / 2), behind.checked_add(FIRST)) else {
             return;
         };
-        if u32::from(*by) >= self.seats {
+        if *by >= self.seats {
             return;
         }
         let word = if behind % 2 == 0 {
@@ -112,7 +112,7 @@ impl NotifyList {
     }
 
     /// Wakes the heirs of a seat that has its grant.
-    pub(crate) fn wake_heirs(&self, token: &mut Token, seat: u16)
+    pub(crate) fn wake_heirs(&self, token: &mut Token, seat: u32)
         requires own { list_of token.old ≡ self.now }
         requires there { seat < self.now.setting.seats }
         ensures { IsSame token.old token.new }
@@ -127,7 +127,7 @@ impl NotifyList {
         ensures { result ≡ seat }
     {
         let ListSeat { mut token, number } = seat;
-        self.wake_heirs(&mut token, number);
+        self.wake_heirs(&mut token, u32::from(number));
         ListSeat { token, number }
     }
 
@@ -147,14 +147,14 @@ impl NotifyList {
     }
 
     fn wake_named(&self, token: &Token, name: u64) {
-        if let Ok(seat) = u16::try_from(name.wrapping_sub(1)) {
+        if let Ok(seat) = u32::try_from(name.wrapping_sub(1)) {
             self.wake_seat(token, seat);
         }
     }
 
     /// Wakes a seat that was granted, where its thread sleeps.
-    pub(crate) fn wake_seat(&self, token: &Token, seat: u16) {
-        if u32::from(seat) < self.seats {
+    pub(crate) fn wake_seat(&self, token: &Token, seat: u32) {
+        if seat < self.seats {
             self.words
                 .wake(token, grant_word(seat), self.asleep_word(seat));
         }

@@ -20,7 +20,7 @@
 //! somebody else parks: none of its calls waits or calls the kernel, and its seats are of one type wherever
 //! they stand.
 //!
-//! A list has 1 to 256 seats. Its tickets are words of 64 bits that wrap: the first is what the list starts
+//! A list has 1 to 65,536 seats. Its tickets are words of 64 bits that wrap: the first is what the list starts
 //! at, and a ticket comes before another where it is up to 2^63 behind. [`NotifyList::starting_at`] refuses
 //! any other number of seats, or answers want of memory, and takes all memory that the list ever takes. After
 //! it no call is refused. A seat is used by one thread at a time, since it is moved or lent. `one`, `all` and

@@ -20,7 +20,7 @@ use std::alloc::{AllocError, Global};
 use waiters::{Lists, NoMemory};
 
 /// The most seats of a list.
-const MAX_SEATS: u32 = 256;
+const MAX_SEATS: u32 = 65_536;
 
 /// A seat that has run nothing.
 fn new_seat(token: Token, number: u16) -> ListSeat
@@ -72,23 +72,23 @@ fn make(alloc: Global, setting: Setting) -> Result<(NotifyList, Vec<ListSeat>), 
     requires { AreAllowed setting.seats × (setting.first < 2 ^ 64) }
     ensures { IfOk result (λ t. IsMade setting.first setting.seats t.0 t.1.items) }
 {
-    let seats = setting.seats as u16;
+    let seats = setting.seats;
     let starts = first_words(alloc, setting)?;
     let slots = first_slots(alloc, setting)?;
-    let mut made = Vec::with_capacity(alloc, usize::from(seats))?;
+    let mut made = Vec::with_capacity(alloc, seats as usize)?;
     let Ok((words, mut first)) = Running::new(alloc, starts.as_slice(), slots, &setting) else {
         return Err(NoMemory);
     };
     for number in 1..seats {
         let token = words.make_seat(&mut first);
-        made.push_reserved(new_seat(token, number));
+        made.push_reserved(new_seat(token, number as u16));
     }
     let Ok(()) = made.insert(0, new_seat(first, 0)) else {
         unreachable!()
     };
     let list = NotifyList {
         words,
-        seats: setting.seats,
+        seats,
         first: setting.first,
     };
     Ok((list, made))
@@ -96,7 +96,7 @@ fn make(alloc: Global, setting: Setting) -> Result<(NotifyList, Vec<ListSeat>), 
 
 impl NotifyList {
     /// A list whose first ticket is this one, and its seats in the order of their numbers. An error has made
-    /// nothing: there are not 1 to 256 seats, or no memory for them.
+    /// nothing: there are not 1 to 65,536 seats, or no memory for them.
     pub fn starting_at(
         alloc: Global,
         first: u64,

@@ -2,8 +2,6 @@
 ghost use Rattle.std.specs.Prelude.{◌≡◌};
 ghost use Rattle.notify_list.specs.Notifying.{ticket_of};
 
-use arrayvec::ArrayVec;
-
 /// A ticket that was granted.
 #[derive(Clone, Copy, PartialEq, Eq, Drop)]
 pub struct Notified {
@@ -13,12 +11,13 @@ pub struct Notified {
 }
 
 /// All tickets that weren't granted were.
-#[derive(Drop)]
+#[derive(Clone, Copy, PartialEq, Eq, Drop)]
 pub struct NotifiedAll {
     /// How many these are.
     pub tickets: u32,
-    /// The seats of their waits that were queued, which were granted too, in the order of their waits.
-    pub seats: ArrayVec<u16, 256>,
+    /// How many of their waits were queued, which were granted too: the caller's room begins with their seats,
+    /// in the order of their waits.
+    pub waits: usize,
 }
 
 /// The ticket that was granted, if one was.

@@ -1,31 +1,31 @@
 //! Notifying all.
-ghost use Rattle.std.specs.Prelude.{◌≡◌, ℕ, ◌<◌, ◌≤◌, map, List, [], ◌∷◌, MatchResult, IfOk};
+ghost use Rattle.std.specs.Prelude.{◌≡◌, ℕ, ◌<◌, ◌≤◌, length, take, map, List, [], ◌∷◌, MatchResult, IfOk, OnErr};
 ghost use Rattle.waiters.specs.declared.wait.Wait.{Wait as Queued};
 ghost use Rattle.step_law_lists.specs.ListPath.{ListStride};
-ghost use Rattle.notify_list.specs.Seats.{Token as Before, stands_of};
+ghost use Rattle.notify_list.specs.Seats.{stands_of, queue_of};
 ghost use Rattle.notify_list.specs.Calls.{AllGranted};
 ghost use Rattle.notify_list.specs.NotifyingAll.{NotifiesAll, GrantsSome, FindsHeldForAll, EndsAll};
-ghost use Rattle.notify_list.specs.NotifyingAll.{GrantsSeats, StoresGrants};
+ghost use Rattle.notify_list.specs.NotifyingAll.{GrantsSeats, NamesSeats, StoresGrants};
 ghost use Rattle.notify_list.specs.Callers.{NotifiesAllTickets, EndsNotifyingAll, StandsOn, LeavesAll};
 ghost use Rattle.notify_list.specs.Meeting.{FindsHeld};
 ghost use Rattle.notify_list.specs.GrantingAll.{MayLook, LookedForAll, MayReach, ReachedAll};
-ghost use Rattle.notify_list.specs.GrantingAll.{MayTake, TakenAll, MayWake, WokenFirst, WokenSome};
+ghost use Rattle.notify_list.specs.GrantingAll.{MayTake, TakenAll, TakenAndWoken, MayWake, WokenFirst, WokenSome};
 
 use crate::notified::NotifiedAll;
 use crate::notify_list::{LOCK, NOTIFY, NotifyList, WAIT, grant_word};
 use crate::rows::{AtAll, Token};
 use crate::seat::{ListSeat, OwingAll};
-use arrayvec::ArrayVec;
 use running_rows::Here;
 use std::sync::Wait;
 
-/// The seats of the waits that a notification of all has taken out. On the stack: after the list is made no
-/// memory is taken.
-pub(crate) type Hand = ArrayVec<u16, 256>;
+/// The most waits whose seats stand on a small piece of the stack.
+const FEW: usize = 256;
+/// The most waits of a list.
+const MOST: usize = 65_536;
 
 impl NotifyList {
     /// Grants all tickets that aren't granted, and wakes their waits (Go's `notifyListNotifyAll`). It answers
-    /// how many it granted.
+    /// how many it granted. Where more than 256 waits are queued it takes 256 KiB of the stack.
     pub fn all<R: Wait>(&self, rt: &R, seat: &mut ListSeat) -> u32
         requires { seat.old.list ≡ self.now }
         ensures rows { NotifiesAll seat.old result seat.new }
@@ -37,79 +37,98 @@ impl NotifyList {
             return 0;
         }
         self.lock(rt, &mut seat.token);
-        let mut hand = Hand::new();
-        let granted = self.grant_tickets(&mut seat.token, &mut hand);
-        self.rouse_at_lock(&seat.token);
-        self.wake_all(&mut seat.token, hand.as_slice());
+        let granted = self.reach_all(&mut seat.token);
+        self.take_and_wake(&mut seat.token);
         granted
     }
 
-    /// The same for a caller that must not wait. Where the list's lock stays held, the seat has looked at the
-    /// two words, they differed, and it has to go on.
-    pub fn try_all(&self, seat: ListSeat) -> Result<(ListSeat, NotifiedAll), OwingAll>
-        requires { seat.list ≡ self.now }
+    /// The same for a caller that must not wait, and has room for the seats of all waits. Where the list's lock
+    /// stays held, the seat has looked at the two words, they differed, and it has to go on.
+    pub fn try_all(
+        &self,
+        seat: ListSeat,
+        woken: &mut [u32],
+    ) -> Result<(ListSeat, NotifiedAll), OwingAll>
+        requires seat { seat.list ≡ self.now }
+        requires room { self.now.setting.seats ≤ length woken.old }
         ensures rows { MatchResult result (λ all. NotifiesAll seat all.1.tickets all.0)
             (λ owing. FindsHeldForAll seat owing) }
         ensures count { IfOk result (λ all. GrantsSome seat all.1.tickets all.0) }
         ensures granted { IfOk result (λ all. AllGranted seat all.0) }
-        ensures seats { IfOk result (λ all. GrantsSeats all.1.seats.items all.0) }
+        ensures seats { IfOk result (λ all. NamesSeats self.now woken.new all.1.waits all.0) }
+        ensures kept { OnErr result (woken.new ≡ woken.old) }
         ensures caller { MatchResult result (λ all. NotifiesAllTickets seat all.1.tickets all.0)
             (λ owing. LeavesAll seat owing) }
     {
-        let tried = self.all_silently(seat);
+        let tried = self.all_silently(seat, woken);
         if let Ok((seat, all)) = &tried {
-            self.wake_each(seat, all.seats.as_slice());
+            self.wake_each(seat, &woken[..all.waits]);
         }
         tried
     }
 
     /// Goes on with a notification of all from the lock on.
-    pub fn retry_all(&self, owing: OwingAll) -> Result<(ListSeat, NotifiedAll), OwingAll>
-        requires { owing.list ≡ self.now }
+    pub fn retry_all(
+        &self,
+        owing: OwingAll,
+        woken: &mut [u32],
+    ) -> Result<(ListSeat, NotifiedAll), OwingAll>
+        requires seat { owing.list ≡ self.now }
+        requires room { self.now.setting.seats ≤ length woken.old }
         ensures rows { MatchResult result (λ all. EndsAll owing all.1.tickets all.0)
             (λ still. FindsHeld owing still) }
-        ensures seats { IfOk result (λ all. GrantsSeats all.1.seats.items all.0) }
+        ensures seats { IfOk result (λ all. NamesSeats self.now woken.new all.1.waits all.0) }
+        ensures kept { OnErr result (woken.new ≡ woken.old) }
         ensures caller { MatchResult result (λ all. EndsNotifyingAll owing all.1.tickets all.0)
             (λ still. StandsOn owing still) }
     {
-        let tried = self.go_on_silently(owing);
+        let tried = self.go_on_silently(owing, woken);
         if let Ok((seat, all)) = &tried {
-            self.wake_each(seat, all.seats.as_slice());
+            self.wake_each(seat, &woken[..all.waits]);
         }
         tried
     }
 
     /// As `try_all`, and nobody is woken.
-    pub(crate) fn all_silently(&self, seat: ListSeat) -> Result<(ListSeat, NotifiedAll), OwingAll>
-        requires { seat.list ≡ self.now }
+    pub(crate) fn all_silently(
+        &self,
+        seat: ListSeat,
+        woken: &mut [u32],
+    ) -> Result<(ListSeat, NotifiedAll), OwingAll>
+        requires seat { seat.list ≡ self.now }
+        requires room { self.now.setting.seats ≤ length woken.old }
         ensures rows { MatchResult result (λ all. NotifiesAll seat all.1.tickets all.0)
             (λ owing. FindsHeldForAll seat owing) }
         ensures count { IfOk result (λ all. GrantsSome seat all.1.tickets all.0) }
         ensures granted { IfOk result (λ all. AllGranted seat all.0) }
-        ensures seats { IfOk result (λ all. GrantsSeats all.1.seats.items all.0) }
+        ensures seats { IfOk result (λ all. NamesSeats self.now woken.new all.1.waits all.0) }
+        ensures kept { OnErr result (woken.new ≡ woken.old) }
         ensures caller { MatchResult result (λ all. NotifiesAllTickets seat all.1.tickets all.0)
             (λ owing. LeavesAll seat owing) }
     {
         let ListSeat { mut token, number } = seat;
         if self.look_for_all(&mut token) {
-            let seats = Hand::new();
-            return Ok((
-                ListSeat { token, number },
-                NotifiedAll { tickets: 0, seats },
-            ));
+            let none = NotifiedAll {
+                tickets: 0,
+                waits: 0,
+            };
+            return Ok((ListSeat { token, number }, none));
         }
-        self.go_on_silently(OwingAll { token, number })
+        self.go_on_silently(OwingAll { token, number }, woken)
     }
 
     /// As `retry_all`, and nobody is woken.
     pub(crate) fn go_on_silently(
         &self,
         owing: OwingAll,
+        woken: &mut [u32],
     ) -> Result<(ListSeat, NotifiedAll), OwingAll>
-        requires { owing.list ≡ self.now }
+        requires seat { owing.list ≡ self.now }
+        requires room { self.now.setting.seats ≤ length woken.old }
         ensures rows { MatchResult result (λ all. EndsAll owing all.1.tickets all.0)
             (λ still. FindsHeld owing still) }
-        ensures seats { IfOk result (λ all. GrantsSeats all.1.seats.items all.0) }
+        ensures seats { IfOk result (λ all. NamesSeats self.now woken.new all.1.waits all.0) }
+        ensures kept { OnErr result (woken.new ≡ woken.old) }
         ensures caller { MatchResult result (λ all. EndsNotifyingAll owing all.1.tickets all.0)
             (λ still. StandsOn owing still) }
     {
@@ -117,10 +136,10 @@ impl NotifyList {
         if !self.try_lock(&mut token) {
             return Err(OwingAll { token, number });
         }
-        let mut seats = Hand::new();
-        let tickets = self.grant_tickets(&mut token, &mut seats);
-        self.grant_seats(&mut token, seats.as_slice());
-        Ok((ListSeat { token, number }, NotifiedAll { tickets, seats }))
+        let tickets = self.reach_all(&mut token);
+        let waits = self.take_all(&mut token, woken);
+        self.grant_seats(&mut token, &woken[..waits]);
+        Ok((ListSeat { token, number }, NotifiedAll { tickets, waits }))
     }
 
     /// L1 and L2: whether the two words were equal.
@@ -130,20 +149,6 @@ impl NotifyList {
     {
         let waited = self.words.load::<AtAll>(token, WAIT);
         waited == self.words.load::<Here>(token, NOTIFY)
-    }
-
-    /// L4 to L7, under the lock, which is given back: all tickets are granted, and all waits taken out. It
-    /// answers how many tickets weren't granted before. Nobody is woken.
-    fn grant_tickets(&self, token: &mut Token, hand: &mut Hand) -> u32
-        requires seat { (h : ℕ) × MayReach self.now token.old h × ((stands_of token.old).hand ≡ []) }
-        requires hand { hand.old.items ≡ [] }
-        ensures taken { (h : ℕ) → MayReach self.now token.old h → (stands_of token.old).hand ≡ []
-            → (v : Before) × ReachedAll token.old h result v × TakenAll v h result token.new }
-        ensures hand { hand.new.items ≡ map (λ w. w.id.seat) (stands_of token.new).hand }
-    {
-        let granted = self.reach_all(token);
-        self.take_all(token, hand);
-        granted
     }
 
     /// L4, L5 and L6: all tickets that are handed out at L5 are granted. It answers how many weren't before.
@@ -159,21 +164,58 @@ impl NotifyList {
         granted as u32
     }
 
-    /// L7: all waits are taken out, and the lock is given back.
-    fn take_all(&self, token: &mut Token, hand: &mut Hand)
-        requires seat { (h : ℕ) × (n : ℕ) × MayTake self.now token.old h n }
-        requires hand { hand.old.items ≡ [] }
-        ensures taken { (h : ℕ) (n : ℕ) → MayTake self.now token.old h n → TakenAll token.old h n token.new }
-        ensures hand { hand.new.items ≡ map (λ w. w.id.seat) (stands_of token.new).hand }
+    /// L7 and L8: all waits are taken out, the lock is given back, and each is granted and woken.
+    fn take_and_wake(&self, token: &mut Token)
+        requires { (h : ℕ) × (n : ℕ) × MayTake self.now token.old h n }
+        ensures { (h n : ℕ) → MayTake self.now token.old h n → TakenAndWoken token.old h n token.new }
     {
-        self.remove_all(token, hand);
+        if self.waits(token) <= FEW {
+            let mut room = [0; FEW];
+            self.wake_within(token, &mut room);
+        } else {
+            self.wake_many(token);
+        }
+    }
+
+    /// The same of any number of waits. Not inlined: the room would be on the stack of each call.
+    #[inline(never)]
+    fn wake_many(&self, token: &mut Token)
+        requires { (h : ℕ) × (n : ℕ) × MayTake self.now token.old h n }
+        ensures { (h n : ℕ) → MayTake self.now token.old h n → TakenAndWoken token.old h n token.new }
+    {
+        let mut room = [0; MOST];
+        self.wake_within(token, &mut room);
+    }
+
+    /// The same, where there is room for the seats of all waits.
+    fn wake_within(&self, token: &mut Token, room: &mut [u32])
+        requires seat { (h : ℕ) × (n : ℕ) × MayTake self.now token.old h n }
+        requires room { length (queue_of token.old) ≤ length room.old }
+        ensures { (h n : ℕ) → MayTake self.now token.old h n → TakenAndWoken token.old h n token.new }
+    {
+        let waits = self.take_all(token, room);
+        self.rouse_at_lock(token);
+        self.wake_all(token, &room[..waits]);
+    }
+
+    /// L7: all waits are taken out, and the lock is given back. The room begins with their seats. It answers how
+    /// many they are.
+    fn take_all(&self, token: &mut Token, room: &mut [u32]) -> usize
+        requires seat { (h : ℕ) × (n : ℕ) × MayTake self.now token.old h n }
+        requires room { length (queue_of token.old) ≤ length room.old }
+        ensures taken { (h n : ℕ) → MayTake self.now token.old h n → TakenAll token.old h n token.new }
+        ensures seats { take result room.new ≡ map (λ w. w.id.seat) (stands_of token.new).hand }
+        ensures count { result ≡ length (queue_of token.old) }
+    {
+        let waits = self.remove_all(token, room);
         // Given back before the first waiter is told: told earlier, it would run into the lock that is still
         // held.
         self.words.return_lock(token, LOCK);
+        waits
     }
 
     /// L8 for each wait in hand, of which these are the seats. The first are woken, and wake the others.
-    fn wake_all(&self, token: &mut Token, seats: &[u16])
+    fn wake_all(&self, token: &mut Token, seats: &[u32])
         requires seat { (h : ℕ) × MayWake self.now token.old h }
         requires seats { seats.now ≡ map (λ w. w.id.seat) (stands_of token.old).hand }
         ensures { (h : ℕ) → MayWake self.now token.old h
@@ -185,7 +227,7 @@ impl NotifyList {
     }
 
     /// L8 for each wait in hand, of which these are the seats. Nobody is woken.
-    fn grant_seats(&self, token: &mut Token, seats: &[u16])
+    fn grant_seats(&self, token: &mut Token, seats: &[u32])
         requires seat { (h : ℕ) × MayWake self.now token.old h }
         requires seats { seats.now ≡ map (λ w. w.id.seat) (stands_of token.old).hand }
         ensures rows { (h : ℕ) → MayWake self.now token.old h
@@ -198,7 +240,7 @@ impl NotifyList {
     }
 
     /// L8: the seat of the first wait in hand is granted.
-    fn grant_first(&self, token: &mut Token, seat: u16)
+    fn grant_first(&self, token: &mut Token, seat: u32)
         requires { (h : ℕ) × (w : Queued) × (rest : List Queued) × MayWake self.now token.old h
             × ((stands_of token.old).hand ≡ w ∷ rest) × (w.id.seat ≡ seat) }
         ensures rows { (h : ℕ) (w : Queued) (rest : List Queued) → MayWake self.now token.old h
@@ -209,7 +251,7 @@ impl NotifyList {
     }
 
     /// Wakes who sleeps at the lock, which was given back, and each of these seats, which are all granted.
-    fn wake_each(&self, seat: &ListSeat, granted: &[u16])
+    fn wake_each(&self, seat: &ListSeat, granted: &[u32])
         requires { GrantsSeats granted.now seat.now }
     {
         self.rouse_at_lock(&seat.token);

@@ -42,7 +42,7 @@ impl Model for NotifyList {
 }
 
 /// Where the grant word of a seat lies.
-pub(crate) fn grant_word(seat: u16) -> usize
+pub(crate) fn grant_word(seat: u32) -> usize
     ensures { result ≡ address (Grant seat) }
 {
     GRANTS + seat as usize
@@ -57,7 +57,7 @@ impl NotifyList {
     }
 
     /// Where the word lies that tells whether a seat's thread sleeps.
-    pub(crate) fn asleep_word(&self, seat: u16) -> usize
+    pub(crate) fn asleep_word(&self, seat: u32) -> usize
         requires { seat < self.now.setting.seats }
         ensures at { result ≡ asleep_address self.now.setting seat }
         ensures low { result < self.now.id.words }
@@ -66,7 +66,7 @@ impl NotifyList {
     }
 
     /// Where the word lies that tells how many waits of late a seat looked for a grant in vain.
-    pub(crate) fn misses_word(&self, seat: u16) -> usize
+    pub(crate) fn misses_word(&self, seat: u32) -> usize
         requires { seat < self.now.setting.seats }
         ensures at { result ≡ misses_address self.now.setting seat }
         ensures low { result < self.now.id.words }
@@ -76,7 +76,7 @@ impl NotifyList {
     }
 
     /// Where the word lies that names the first of the two seats that a seat wakes.
-    pub(crate) fn heir_word(&self, seat: u16) -> usize
+    pub(crate) fn heir_word(&self, seat: u32) -> usize
         requires { seat < self.now.setting.seats }
         ensures at { result ≡ heir_address self.now.setting seat }
         ensures low { result < self.now.id.words }
@@ -86,7 +86,7 @@ impl NotifyList {
     }
 
     /// Where the word lies that names the second.
-    pub(crate) fn other_heir_word(&self, seat: u16) -> usize
+    pub(crate) fn other_heir_word(&self, seat: u32) -> usize
         requires { seat < self.now.setting.seats }
         ensures at { result ≡ other_heir_address self.now.setting seat }
         ensures low { result < self.now.id.words }

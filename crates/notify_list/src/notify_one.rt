@@ -141,8 +141,9 @@ impl NotifyList {
             },
         ) = notified
         {
-            let grant = grant_word(*seat);
-            self.words.rouse(token, grant, self.asleep_word(*seat), 1);
+            let seat = u32::from(*seat);
+            self.words
+                .rouse(token, grant_word(seat), self.asleep_word(seat), 1);
         }
     }
 }

@@ -21,7 +21,9 @@ impl NotifyList {
             may_leave,
         } = parked;
         // Taken in the same step: a grant that stayed would wake the seat's next wait too.
-        let found = self.words.take_grant(&mut token, grant_word(number));
+        let found = self
+            .words
+            .take_grant(&mut token, grant_word(u32::from(number)));
         if found == 0 {
             return Polled::Still(Parked {
                 token,

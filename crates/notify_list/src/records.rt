@@ -1,5 +1,5 @@
 //! The record, edited in its slot by the seat that holds the lock.
-ghost use Rattle.std.specs.Prelude.{◌≡◌, ◌⊎◌, ℕ, ◌<◌, ◌≤◌, ◌^◌, ◌++◌, [], ◌∷◌, length, map, nat_lt, true, false};
+ghost use Rattle.std.specs.Prelude.{◌≡◌, ◌⊎◌, ℕ, ◌<◌, ◌≤◌, ◌^◌, ◌++◌, [], ◌∷◌, length, map, take, nat_lt, true, false};
 ghost use Rattle.waiters.specs.declared.wait.Wait.{Wait as Queued};
 ghost use Rattle.step_table.specs.ListErased.{erased_wait};
 ghost use Rattle.step_table.specs.Wrapping.{word_of};
@@ -10,7 +10,6 @@ ghost use Rattle.notify_list.specs.Walks.{HasRecord, Edited};
 ghost use Rattle.notify_list.specs.Records.{IsOut, HasGuarded, FirstOut, MayPass, PassedOver, MayGo, HasGone};
 ghost use Rattle.notify_list.specs.Records.{MayPassAll, PassedAll, OwnOut};
 
-use crate::notify_all::Hand;
 use crate::notify_list::{NotifyList, RECORD};
 use crate::rows::Token;
 use running_rows::Running;
@@ -57,17 +56,31 @@ impl NotifyList {
         Some(wait.id.seat.number())
     }
 
-    /// Takes all waits out of the list: their seats' numbers, in order.
-    pub(crate) fn remove_all(&self, token: &mut Token, hand: &mut Hand)
-        requires seat { (list_of token.old ≡ self.now) × HasRecord token.old
-            × ((setting_of token.old).seats ≤ 256) }
-        requires hand { hand.old.items ≡ [] }
-        ensures edited { Edited token.old (with_queue [] (guarded_of token.old)) token.new }
-        ensures hand { hand.new.items ≡ map (λ w. w.id.seat) (queue_of token.old) }
+    /// How many waits there are.
+    pub(crate) fn waits(&self, token: &mut Token) -> usize
+        requires { (list_of token.old ≡ self.now) × HasRecord token.old }
+        ensures same { token.new ≡ token.old }
+        ensures count { result ≡ length (queue_of token.old) }
     {
+        let record = Running::record_mut(token, &self.words, RECORD);
+        record.lists.len(record.key)
+    }
+
+    /// Takes all waits out of the list: the room begins with their seats' numbers, in order. It answers how many
+    /// they are.
+    pub(crate) fn remove_all(&self, token: &mut Token, room: &mut [u32]) -> usize
+        requires seat { (list_of token.old ≡ self.now) × HasRecord token.old }
+        requires room { length (queue_of token.old) ≤ length room.old }
+        ensures edited { Edited token.old (with_queue [] (guarded_of token.old)) token.new }
+        ensures count { result ≡ length (queue_of token.old) }
+        ensures seats { take result room.new ≡ map (λ w. w.id.seat) (queue_of token.old) }
+    {
+        let mut count = 0;
         while let Some(seat) = self.remove_first(token) {
-            hand.push(seat);
+            room[count] = u32::from(seat);
+            count += 1;
         }
+        count
     }
 
     /// Takes the seat's own wait out of the list, if it is there: its ticket.

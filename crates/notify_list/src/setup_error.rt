@@ -7,7 +7,7 @@ use std::fmt;
 /// Why a number of seats makes no list, by number. Nothing was made then.
 #[derive(Clone, Copy, Debug, PartialEq, Eq, Drop)]
 pub enum SetupError {
-    /// There are not 1 to 256 seats.
+    /// There are not 1 to 65,536 seats.
     Seats = 2,
     /// Memory was refused.
     NoMemory = 5,

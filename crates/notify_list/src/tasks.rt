@@ -3,7 +3,7 @@
 //! No thread sleeps in the kernel at it, so none of its calls calls the kernel, and none waits: a task whose
 //! seat is parked polls again once its seat was named by the answer of a [`TaskList::one`], a
 //! [`TaskList::all`] or a [`TaskList::retry_all`].
-ghost use Rattle.std.specs.Prelude.{◌≡◌, All, IfOk, IfErr, map};
+ghost use Rattle.std.specs.Prelude.{◌≡◌, ◌≤◌, length, All, IfOk, OnErr, IfErr, map};
 ghost use Rattle.notify_list.specs.declared.task_seat.TaskStage.TheVariants.{Resting};
 ghost use Rattle.notify_list.specs.Making.{IsRefused};
 ghost use Rattle.notify_list.specs.Tasks.{IsMadeForTasks, AddsByTask, LooksByTask, EntersByTask, PollsByTask};
@@ -48,7 +48,7 @@ fn resting_seats(alloc: Global, seats: Vec<ListSeat>) -> Result<Vec<TaskListSeat
 
 impl TaskList {
     /// A list whose first ticket is this one, and its seats in the order of their numbers. An error has made
-    /// nothing: there are not 1 to 256 seats, or no memory for them.
+    /// nothing: there are not 1 to 65,536 seats, or no memory for them.
     pub fn starting_at(
         alloc: Global,
         first: u64,
@@ -186,30 +186,42 @@ impl TaskList {
 
     /// As [`NotifyList::try_all`]. The caller makes the tasks ready whose seats are named. A busy seat owes a
     /// `retry_all`.
-    pub fn all(&self, seat: TaskListSeat) -> (TaskListSeat, Result<NotifiedAll, TaskRefused>)
-        requires { seat.seat.list ≡ self.now }
-        ensures { NotifiesAllByTask seat result.1 result.0 }
+    pub fn all(
+        &self,
+        seat: TaskListSeat,
+        woken: &mut [u32],
+    ) -> (TaskListSeat, Result<NotifiedAll, TaskRefused>)
+        requires seat { seat.seat.list ≡ self.now }
+        requires room { self.now.setting.seats ≤ length woken.old }
+        ensures answer { NotifiesAllByTask seat result.1 woken.new result.0 }
+        ensures kept { OnErr result.1 (woken.new ≡ woken.old) }
     {
         let Stage::Resting = seat.stage else {
             return (seat, Err(TaskRefused::OtherCall));
         };
         let TaskListSeat { token, number, .. } = seat;
-        match self.list.all_silently(ListSeat { token, number }) {
+        match self.list.all_silently(ListSeat { token, number }, woken) {
             Ok((seat, all)) => (TaskListSeat::resting(seat), Ok(all)),
             Err(owing) => (TaskListSeat::owing_all(owing), Err(TaskRefused::Busy)),
         }
     }
 
     /// As [`NotifyList::retry_all`].
-    pub fn retry_all(&self, seat: TaskListSeat) -> (TaskListSeat, Result<NotifiedAll, TaskRefused>)
-        requires { seat.seat.list ≡ self.now }
-        ensures { GoesOnByTask seat result.1 result.0 }
+    pub fn retry_all(
+        &self,
+        seat: TaskListSeat,
+        woken: &mut [u32],
+    ) -> (TaskListSeat, Result<NotifiedAll, TaskRefused>)
+        requires seat { seat.seat.list ≡ self.now }
+        requires room { self.now.setting.seats ≤ length woken.old }
+        ensures answer { GoesOnByTask seat result.1 woken.new result.0 }
+        ensures kept { OnErr result.1 (woken.new ≡ woken.old) }
     {
         let Stage::OwingAll = seat.stage else {
             return (seat, Err(TaskRefused::OtherCall));
         };
         let TaskListSeat { token, number, .. } = seat;
-        match self.list.go_on_silently(OwingAll { token, number }) {
+        match self.list.go_on_silently(OwingAll { token, number }, woken) {
             Ok((seat, all)) => (TaskListSeat::resting(seat), Ok(all)),
             Err(owing) => (TaskListSeat::owing_all(owing), Err(TaskRefused::Busy)),
         }

@@ -153,6 +153,7 @@ impl NotifyList {
         requires there { seat < self.now.setting.seats }
         ensures { IsSame token.old token.new }
     {
+        let seat = u32::from(seat);
         let grant = grant_word(seat);
         let asleep = self.asleep_word(seat);
         let misses = self.misses_word(seat);

@@ -141,12 +141,13 @@ impl NotifyList {
             number,
             may_leave: _,
         } = parked;
-        let grant = grant_word(number);
-        let asleep = self.asleep_word(number);
-        let misses = self.misses_word(number);
+        let seat = u32::from(number);
+        let grant = grant_word(seat);
+        let asleep = self.asleep_word(seat);
+        let misses = self.misses_word(seat);
         self.words
             .take_when_granted(rt, &mut token, grant, asleep, misses, &PATIENCE);
-        self.wake_heirs(&mut token, number);
+        self.wake_heirs(&mut token, seat);
         ListSeat { token, number }
     }
 }

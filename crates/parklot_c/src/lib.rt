@@ -4,8 +4,8 @@
 //!
 //! No export has a `requires`: a handle without a seat, or with one of the other kind, a counter that isn't
 //! there and a call out of turn have a code (`NO_SEAT`, `NO_COUNTER`, `OTHER_CALL`), and nothing is done.
-//! Limits are those of the table and the list: 1 to 65,536 counters, 1 to 65,536 seats (of a list 256), 1 to 251
-//! roots, 1 to 2^54 units that a seat may spend, 2^62 that all may. No call waits, and none calls the kernel.
+//! Limits are those of the table and the list: 1 to 65,536 counters, 1 to 65,536 seats, 1 to 251 roots,
+//! 1 to 2^54 units that a seat may spend, 2^62 that all may. No call waits, and none calls the kernel.
 #![tactic(auto)]
 
 ghost use Rattle.sema_table.specs.Tasks.{TriesByTask, PostsByTask};

@@ -6,9 +6,9 @@ ghost use Rattle.notify_list.specs.declared.task_seat.TaskStage.TheVariants.{Res
 ghost use Rattle.c_calls.specs.Handles.{table_seat, list_seat};
 ghost use Rattle.c_calls.specs.Codes.{told, done, IsOk, IsOne};
 ghost use Rattle.c_calls.specs.ListCodes.{refused_code, entered_code, polled_code, gave_up_code, one_code};
-ghost use Rattle.c_calls.specs.Answers.{Answers, Telling, LacksRoom, TellsNumber, Frees};
+ghost use Rattle.c_calls.specs.Answers.{Answers, Telling, TellsNumber, Frees};
 ghost use Rattle.c_calls.specs.Answers.{WritesOnlyWith, WritesSeats};
-ghost use Rattle.c_calls.specs.ListAnswers.{NotifiesOrGoesOn, NamesGranted, NamesAll};
+ghost use Rattle.c_calls.specs.ListAnswers.{NotifiesOrGoesOn, NamesGranted, CountsAll, LacksSeats};
 ghost use Rattle.c_calls.specs.Deals.{DealsList, DealsToEmpty};
 
 use c_calls::codes::NO_SEAT;
@@ -138,8 +138,8 @@ pub extern "C" fn parklot_list_one(seat: &mut SeatHandle, woken: &mut u32) -> u3
 #[unsafe(no_mangle)]
 pub extern "C" fn parklot_list_all(seat: &mut SeatHandle, woken: &mut [u32], count: &mut u32) -> u32
     ensures other { table_seat seat.new ≡ table_seat seat.old }
-    ensures answer { LacksRoom woken.old (list_seat seat.old) result (list_seat seat.new)
-        ⊎ Answers refused_code done (Telling (NamesAll woken.new count.new) NotifiesOrGoesOn)
+    ensures answer { LacksSeats woken.old (list_seat seat.old) result (list_seat seat.new)
+        ⊎ Answers refused_code done (Telling (CountsAll count.new) (NotifiesOrGoesOn woken.new))
         (list_seat seat.old) result (list_seat seat.new) }
     ensures kept { WritesSeats result woken.old woken.new count.old count.new }
 {

@@ -5,6 +5,7 @@ mod crew;
 mod given;
 mod hurried_crew_tests;
 mod leave_tests;
+mod many_tests;
 mod order_tests;
 mod poller_tests;
 mod thread_tests;

@@ -29,7 +29,7 @@ impl Model for Cond {
 }
 
 impl Cond {
-    /// A condition variable with 1 to 256 seats, in the order of their numbers. An error has made nothing.
+    /// A condition variable with 1 to 65,536 seats, in the order of their numbers. An error has made nothing.
     pub fn with_seats(alloc: Global, seats: u32) -> Result<(Cond, Vec<ListSeat>), SetupError>
         ensures ok { IfOk result (λ c. IsMade 0 seats c.0 c.1.items) }
         ensures own { IfOk result (λ c. All (λ s. s.list ≡ c.0) c.1.items) }

@@ -16,7 +16,7 @@
 //! A [`Cond`] is a notify list, after Go's `sync.Cond`. [`Cond::wait`] takes a ticket, unlocks a [`Locker`],
 //! waits with the ticket, and locks it again; [`Cond::wait_until`] and [`Cond::wait_for`] do so too, and give
 //! the ticket up once a time is over. [`Cond::signal`] grants the least ticket that isn't granted, and
-//! [`Cond::broadcast`] all. A `Cond` has 1 to 256 seats, and [`Cond::with_seats`] takes all memory that it ever
+//! [`Cond::broadcast`] all. A `Cond` has 1 to 65,536 seats, and [`Cond::with_seats`] takes all memory that it ever
 //! takes. All its other calls may wait for its list's lock, and the waits for a grant and for the locker too.
 //!
 //! A [`WaitGroup`] counts what is still to be done, after Go's `sync.WaitGroup`. [`WaitGroup::add`] adds to

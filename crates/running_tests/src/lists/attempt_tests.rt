@@ -79,16 +79,19 @@ fn grants_both(rt: &impl Abort, list: &NotifyList, seats: &mut Vec<ListSeat>)
 {
     let notifier = last_seat(rt, list, seats);
     let (one, other) = (last_seat(rt, list, seats), last_seat(rt, list, seats));
-    let numbers = [one.id().number(), other.id().number()];
+    let (first, second) = (one.id().number(), other.id().number());
     let one = parks(rt, list, one, 2);
     let other = parks(rt, list, other, 3);
-    let (notifier, all) = match list.try_all(notifier) {
+    let mut woken = [0; 3];
+    assert!(rt; list.seats() as usize <= woken.len());
+    let (notifier, all) = match list.try_all(notifier, &mut woken) {
         Ok(done) => done,
         Err(_owing) => panic!(rt; "the lock was held"),
     };
+    holds(rt, all.tickets == 2 && all.waits == 2);
     holds(
         rt,
-        all.tickets == 2 && all.seats.as_slice() == numbers.as_slice(),
+        woken[0] == u32::from(first) && woken[1] == u32::from(second),
     );
     let one = wakes(rt, list, one);
     let other = wakes(rt, list, other);

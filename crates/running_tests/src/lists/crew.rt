@@ -1,7 +1,7 @@
 //! Threads that wait on a list again and again, one for each seat but the last, which notifies. Those of even
 //! numbers poll, and the others sleep.
 
-ghost use Rattle.std.specs.Prelude.{◌≡◌, All, IfSome};
+ghost use Rattle.std.specs.Prelude.{◌≡◌, ◌≤◌, length, All, IfSome};
 
 use crate::lists::given::last_seat;
 use notify_list::{Entered, Holding, ListSeat, NotifyList, OwingAll, Parked, Polled};
@@ -89,13 +89,19 @@ fn waits_on<R: Wait>(rt: &R, list: &NotifyList, seat: ListSeat) -> ListSeat
 }
 
 /// Goes on with a notification of all to its end: how many tickets it granted.
-fn ends_all<R: Wait>(rt: &R, list: &NotifyList, owing: OwingAll) -> (ListSeat, u64)
-    requires { owing.list ≡ list.now }
+fn ends_all<R: Wait>(
+    rt: &R,
+    list: &NotifyList,
+    owing: OwingAll,
+    woken: &mut [u32],
+) -> (ListSeat, u64)
+    requires seat { owing.list ≡ list.now }
+    requires room { list.now.setting.seats ≤ length woken.old }
     ensures { result.0.list ≡ list.now }
 {
     let mut owing = owing;
     for _ in rt.forever() {
-        match list.retry_all(owing) {
+        match list.retry_all(owing, woken) {
             Ok((seat, all)) => return (seat, u64::from(all.tickets)),
             Err(kept) => owing = kept,
         }
@@ -117,10 +123,14 @@ fn granted<R: Wait>(rt: &R, list: &NotifyList, seat: ListSeat, way: Way) -> (Lis
             Err(_busy) => 0,
         },
         Way::TryAll => {
-            return match list.try_all(seat) {
-                Ok((seat, all)) => (seat, u64::from(all.tickets)),
-                Err(owing) => ends_all(rt, list, owing),
-            };
+            let mut woken = [0; 256];
+            if list.seats() as usize <= woken.len() {
+                return match list.try_all(seat, &mut woken) {
+                    Ok((seat, all)) => (seat, u64::from(all.tickets)),
+                    Err(owing) => ends_all(rt, list, owing, &mut woken),
+                };
+            }
+            u64::from(list.all(rt, &mut seat))
         }
     };
     (seat, tickets)

@@ -59,7 +59,7 @@ fn tickets_go_past_their_ends(rt: HostRuntime) {
 
 #[test]
 fn an_unused_list_ends_as_it_began(rt: HostRuntime) {
-    let (list, seats) = made(&rt, rt.alloc(), 7, 256);
+    let (list, seats) = made(&rt, rt.alloc(), 7, 65_536);
     ends_at(&rt, list, seats, 7);
 }
 
@@ -104,5 +104,5 @@ fn is_refused(rt: &impl Abort, alloc: Global, seats: u32) {
 #[test]
 fn numbers_of_seats_past_their_limits_are_refused(rt: HostRuntime) {
     is_refused(&rt, rt.alloc(), 0);
-    is_refused(&rt, rt.alloc(), 257);
+    is_refused(&rt, rt.alloc(), 65_537);
 }

@@ -1,6 +1,6 @@
 use Rattle.std.proofs.Common.{ℕ, vec_capacity, refl, ap, ◌∙◌, arith}
 use Rattle.step_table.specs.Wrapping.{next_word}
-use Rattle.notify_list.proofs.LiveTickets.{kept_more, kept_last, not_yet, there_yet, steps_left, room_left}
+use Rattle.notify_list.proofs.LiveReaching.{kept_more, kept_last, not_yet, there_yet, steps_left, room_left}
 use Rattle.notify_list.proofs.live.Live.reach.Goals as goal
 
 pub push_reserved-requires : goal.push_reserved-requires

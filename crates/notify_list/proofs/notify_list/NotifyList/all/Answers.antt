@@ -1,9 +1,10 @@
-use Rattle.std.proofs.Common.{ℕ, ap, ◌∙◌, subst, rules}
+use Rattle.std.proofs.Common.{ℕ, ap, ◌∙◌, subst}
 use Rattle.notify_list.specs.Seats.{SeatModel, seat_of}
 use Rattle.notify_list.specs.Calls.{AllGranted}
 use Rattle.notify_list.specs.NotifyingAll.{NotifiesAll, GrantsSome, LooksForAll}
 use Rattle.notify_list.proofs.Broadcasting.{quiet_seat, quiet_all, quiet_none, quiet_granted, notifying, looks_for_all, may_lock, may_reach}
-use Rattle.notify_list.proofs.Broadcasting.{empty_locked, may_wake, locked_seat, ends_all}
+use Rattle.notify_list.proofs.Broadcasting.{empty_locked, locked_seat, ends_all}
+use Rattle.notify_list.proofs.Emptying.{may_take}
 use Rattle.notify_list.proofs.Concluding.{whole_all, whole_some, whole_granted}
 use Rattle.notify_list.proofs.Answering.{is_sound}
 use Rattle.notify_list.proofs.CallersNotifying.{notifies_all}
@@ -33,43 +34,44 @@ lock-requires g c =
     let own = ap (λ (y : SeatModel). y.list) c.seat.view_is ∙ c.requires in let x = c.if-look_for_all.ensures in
     may_lock c.args.self.now t n (notifying s t n c.seat.invariant x) (x.walked.list_is ∙ own)
 
-pub grant_tickets-granted-requires-clause-seat : goal.grant_tickets-granted-requires-clause-seat
-grant_tickets-granted-requires-clause-seat g c =
+pub reach_all-granted-requires : goal.reach_all-granted-requires
+reach_all-granted-requires g c =
     let s = c.seat.inside.token in let t = c.look_for_all.new.token in let n : ℕ = c.seat.inside.number in
     let own = ap (λ (y : SeatModel). y.list) c.seat.view_is ∙ c.requires in let x = c.if-look_for_all.ensures in
-    let N = notifying s t n c.seat.invariant x in (
-      N.h,
-      may_reach c.args.self.now t n N (x.walked.list_is ∙ own) c.lock.new.token c.lock.ensures,
-      empty_locked c.args.self.now t n N (x.walked.list_is ∙ own) c.lock.new.token c.lock.ensures,
-    )
+    let N = notifying s t n c.seat.invariant x in
+    (N.h, may_reach c.args.self.now t n N (x.walked.list_is ∙ own) c.lock.new.token c.lock.ensures)
 
-pub wake_all-requires-clause-seat : goal.wake_all-requires-clause-seat
-wake_all-requires-clause-seat g c =
+pub take_and_wake-requires : goal.take_and_wake-requires
+take_and_wake-requires g c =
     let l = c.args.self.now in let s = c.seat.inside.token in let t = c.look_for_all.new.token in let n : ℕ = c.seat.inside.number in
     let own = ap (λ (y : SeatModel). y.list) c.seat.view_is ∙ c.requires in let x = c.if-look_for_all.ensures in
     let N = notifying s t n c.seat.invariant x in let at = x.walked.list_is ∙ own in let u = c.lock.new.token in let L = c.lock.ensures in
-    let T = c.grant_tickets-granted.ensures.taken N.h (may_reach l t n N at u L) (empty_locked l t n N at u L) in
-    (N.h, may_wake l t n N at u L c.grant_tickets-granted.result T.0 T.1 c.grant_tickets-granted.new.token T.2)
+    let k : ℕ = c.reach_all-granted.result in (
+      N.h,
+      k,
+      may_take l u c.reach_all-granted.new.token N.h k (may_reach l t n N at u L) (empty_locked l t n N at u L)
+          (c.reach_all-granted.ensures N.h (may_reach l t n N at u L)),
+    )
 
 pub invariant_of-seat-2 : goal.invariant_of-seat-2
 invariant_of-seat-2 g c =
     let l = c.args.self.now in let s = c.seat.inside.token in let t = c.look_for_all.new.token in let n : ℕ = c.seat.inside.number in
     let own = ap (λ (y : SeatModel). y.list) c.seat.view_is ∙ c.requires in let x = c.if-look_for_all.ensures in
     let N = notifying s t n c.seat.invariant x in let at = x.walked.list_is ∙ own in let u = c.lock.new.token in let L = c.lock.ensures in
-    let k : ℕ = c.grant_tickets-granted.result in let y = c.grant_tickets-granted.new.token in
-    let T = c.grant_tickets-granted.ensures.taken N.h (may_reach l t n N at u L) (empty_locked l t n N at u L) in
-    let W = c.wake_all.ensures N.h (may_wake l t n N at u L k T.0 T.1 y T.2) in
-    locked_seat l t n N at u L k T.0 T.1 y T.2 c.wake_all.new.token W
+    let k : ℕ = c.reach_all-granted.result in let v = c.reach_all-granted.new.token in
+    let R = c.reach_all-granted.ensures N.h (may_reach l t n N at u L) in
+    let T = c.take_and_wake.ensures N.h k (may_take l u v N.h k (may_reach l t n N at u L) (empty_locked l t n N at u L) R) in
+    locked_seat l t n N at u L k v R T.0 T.1 c.take_and_wake.new.token T.2
 
 pub returns : goal.returns
 returns g c =
     let l = c.args.self.now in let s = c.seat.inside.token in let t = c.look_for_all.new.token in let n : ℕ = c.seat.inside.number in
     let own = ap (λ (y : SeatModel). y.list) c.seat.view_is ∙ c.requires in let x = c.if-look_for_all.ensures in
     let N = notifying s t n c.seat.invariant x in let at = x.walked.list_is ∙ own in let u = c.lock.new.token in let L = c.lock.ensures in
-    let k : ℕ = c.grant_tickets-granted.result in let y = c.grant_tickets-granted.new.token in let z = c.wake_all.new.token in
-    let T = c.grant_tickets-granted.ensures.taken N.h (may_reach l t n N at u L) (empty_locked l t n N at u L) in
-    let W = c.wake_all.ensures N.h (may_wake l t n N at u L k T.0 T.1 y T.2) in
-    let ends = ends_all l t n N at u L k T.0 T.1 y T.2 z W in
+    let k : ℕ = c.reach_all-granted.result in let v = c.reach_all-granted.new.token in let z = c.take_and_wake.new.token in
+    let R = c.reach_all-granted.ensures N.h (may_reach l t n N at u L) in
+    let T = c.take_and_wake.ensures N.h k (may_take l u v N.h k (may_reach l t n N at u L) (empty_locked l t n N at u L) R) in
+    let ends = ends_all l t n N at u L k v R T.0 T.1 z T.2 in
     let looked = subst (λ (q : SeatModel). LooksForAll q (seat_of t n)) c.seat.view_is (looks_for_all s t n c.seat.invariant x) in
     let rows = whole_all c.args.seat.now (seat_of t n) looked (seat_of z n) k ends in
     let count = whole_some c.args.seat.now (seat_of t n) looked (seat_of z n) k ends in
@@ -79,6 +81,3 @@ returns g c =
       granted = granted;
       caller = notifies_all c.args.seat.now (seat_of z n) (is_sound z n (invariant_of-seat-2 g c).token_is).lawful k rows count granted;
     }
-
-pub wake_all-requires-clause-seats : goal.wake_all-requires-clause-seats
-wake_all-requires-clause-seats g c = search rules

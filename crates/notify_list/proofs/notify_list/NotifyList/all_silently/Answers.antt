@@ -1,7 +1,7 @@
-use Rattle.std.proofs.Common.{ℕ, List, sym, ap, ◌∙◌, subst}
+use Rattle.std.proofs.Common.{ℕ, ap, ◌∙◌, subst, arith}
 use Rattle.notify_list.specs.Seats.{SeatModel, seat_of}
 use Rattle.notify_list.specs.Calls.{AllGranted}
-use Rattle.notify_list.specs.NotifyingAll.{NotifiesAll, GrantsSome, LooksForAll, GrantsSeats}
+use Rattle.notify_list.specs.NotifyingAll.{NotifiesAll, GrantsSome, LooksForAll}
 use Rattle.notify_list.proofs.Broadcasting.{quiet_seat, quiet_all, quiet_none, quiet_granted, quiet_seats, notifying, looks_for_all}
 use Rattle.notify_list.proofs.Concluding.{tried_all, tried_some, tried_granted, tried_caller}
 use Rattle.notify_list.proofs.Answering.{is_sound}
@@ -9,7 +9,7 @@ use Rattle.notify_list.proofs.CallersNotifying.{notifies_all}
 use Rattle.notify_list.proofs.notify_list.NotifyList.all_silently.Goals as goal
 
 pub look_for_all-requires : goal.look_for_all-requires
-look_for_all-requires c = (ap (λ (y : SeatModel). y.list) c.seat.view_is ∙ c.requires, (c.seat.inside.number, c.seat.invariant))
+look_for_all-requires c = (ap (λ (y : SeatModel). y.list) c.seat.view_is ∙ c.requires.seat, (c.seat.inside.number, c.seat.invariant))
 
 pub invariant_of-result : goal.invariant_of-result
 invariant_of-result c = quiet_seat c.seat.inside.token c.look_for_all.new.token c.seat.inside.number c.seat.invariant c.if-look_for_all.ensures
@@ -32,7 +32,7 @@ returns-then-look_for_all-clause-granted c =
 pub returns-then-look_for_all-clause-seats : goal.returns-then-look_for_all-clause-seats
 returns-then-look_for_all-clause-seats c =
     let s = c.seat.inside.token in let t = c.look_for_all.new.token in let n : ℕ = c.seat.inside.number in
-    subst (λ (l : List ℕ). GrantsSeats l (seat_of t n)) (sym c.new-seats.ensures) (quiet_seats s t n c.seat.invariant c.if-look_for_all.ensures)
+    ((omega arith), quiet_seats s t n c.seat.invariant c.if-look_for_all.ensures)
 
 pub returns-then-look_for_all-clause-caller : goal.returns-then-look_for_all-clause-caller
 returns-then-look_for_all-clause-caller c = let t = c.look_for_all.new.token in let n : ℕ = c.seat.inside.number in

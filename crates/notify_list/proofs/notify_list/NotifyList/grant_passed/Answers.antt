@@ -1,4 +1,4 @@
-use Rattle.std.proofs.Common.{◌≡◌, ℕ, Option, Some, None, refl, sym, ap, ◌∙◌, subst, arith}
+use Rattle.std.proofs.Common.{◌≡◌, ℕ, ◌+◌, Option, Some, None, refl, sym, ap, ◌∙◌, subst, arith}
 use Rattle.step_table.specs.declared.list_place.ListPlace.TheVariants.{NotifyingOne}
 use Rattle.step_table.specs.declared.list_place.OneRow.TheVariants.{O7}
 use Rattle.notify_list.specs.Places.{at_place}
@@ -113,7 +113,7 @@ returns-in-Some-clause-wait c =
         before = S.before;
         stride = S.stride;
         last = S.last;
-        stored = subst (λ i. HasStored S.stride i 1) c.grant_word.ensures S.stored;
+        stored = subst (λ i. HasStored S.stride i 1) (c.grant_word.ensures ∙ ap (λ k. 3 + k) c.from.ensures) S.stored;
       },
     )
 

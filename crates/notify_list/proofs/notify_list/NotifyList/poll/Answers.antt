@@ -1,4 +1,4 @@
-use Rattle.std.proofs.Common.{ℕ, ◌<◌, sym, ap, refl, subst, arith}
+use Rattle.std.proofs.Common.{ℕ, ◌+◌, ◌<◌, sym, ap, refl, ◌∙◌, subst, arith}
 use Rattle.notify_list.specs.declared.waited.Polled.TheVariants.{Still, Granted}
 use Rattle.notify_list.specs.Seats.{ListModel, SeatModel, seat_of}
 use Rattle.notify_list.specs.Waiting.{IsPolled}
@@ -27,13 +27,13 @@ take_grant-found-requires c =
 pub invariant_of-result : goal.invariant_of-result
 invariant_of-result c =
     let s = c.parked.inside.token in let n : ℕ = c.parked.inside.number in let T = c.take_grant-found.ensures in
-    seat_still s n c.parked.invariant c.take_grant-found.new.token c.grant_word.result (sym c.grant_word.ensures) (T.went.0 c.if-found-eq0.true) T.own
+    seat_still s n c.parked.invariant c.take_grant-found.new.token c.grant_word.result (sym (c.grant_word.ensures ∙ ap (λ k. 3 + k) c.from.ensures)) (T.went.0 c.if-found-eq0.true) T.own
 
 pub returns-then-found-eq0-clause-rows : goal.returns-then-found-eq0-clause-rows
 returns-then-found-eq0-clause-rows c =
     let s = c.parked.inside.token in let n : ℕ = c.parked.inside.number in let t = c.take_grant-found.new.token in let T = c.take_grant-found.ensures in
     subst (λ (y : SeatModel). IsPolled y (Still (seat_of t n))) c.parked.view_is
-    (polled_still s n c.parked.invariant t c.grant_word.result (sym c.grant_word.ensures) (T.went.0 c.if-found-eq0.true) T.own)
+    (polled_still s n c.parked.invariant t c.grant_word.result (sym (c.grant_word.ensures ∙ ap (λ k. 3 + k) c.from.ensures)) (T.went.0 c.if-found-eq0.true) T.own)
 
 pub returns-then-found-eq0-clause-caller : goal.returns-then-found-eq0-clause-caller
 returns-then-found-eq0-clause-caller c = let t = c.take_grant-found.new.token in let n : ℕ = c.parked.inside.number in
