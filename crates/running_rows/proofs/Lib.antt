@@ -7,4 +7,5 @@ pub mod Seating
 pub mod Parting
 pub mod LookingAtOnce
 pub mod Together
+pub mod Beds
 pub use Rattle.atomic_table.proofs.Lists

@@ -5,6 +5,7 @@ pub mod Rule
 pub mod Owing
 pub mod Sitting
 pub mod Sleeping
+pub mod Beds
 pub mod Words
 pub use Rattle.atomic_table.specs.Table
 pub use Rattle.atomic_table.specs.Seated
