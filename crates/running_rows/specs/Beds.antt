@@ -1,5 +1,5 @@
 -- Who sleeps in the kernel beside a word, and who owes a call there: what the views of all threads say together.
-use Rattle.std.specs.Prelude.{◌≡◌, ◌≢◌, ℕ, suc, ◌+◌, ◌<◌, ◌≤◌, List, [], ◌∷◌, slice_index, eqb, cond}
+use Rattle.std.specs.Prelude.{◌≡◌, ◌≢◌, ℕ, suc, ◌+◌, ◌<◌, ◌≤◌, Bool, true, false, List, [], ◌∷◌, ◌++◌, slice_index}
 use mathlib.Core.Option.{some}
 use lib.ListN.{get_elem?}
 use Rattle.step_table.specs.Counting.{on, among}
@@ -8,20 +8,17 @@ use Rattle.running_rows.specs.declared.naps.Stand.TheVariants.{Awake, Wants, Cou
 use Rattle.running_rows.specs.declared.naps.Mark.{Mark}
 use Rattle.running_rows.specs.declared.naps.Nap.{Nap}
 
--- where threads sleep: in the kernel at this word, while another, set aside, tells of them. At a lock, which lets
--- sleepers go where it is free, that counts them; at a grant, which lets its one sleeper go where it is stored, it
--- is 1 while the sleeper is there
-pub record Bed : Type 1 where
+-- where threads sleep: in the kernel at this word, while another, set aside, tells of them. At a lock it counts
+-- them; at a grant it is 1 while its one sleeper is there
+pub record Bed : Type 0 where
   pub word : ℕ
   pub aside : ℕ
-  pub lets_go : ℕ → Type 0
+  pub is_lock : Bool
 
--- the numbers of a word at which its sleepers are let go
-abbrev pub free_lock : ℕ → Type 0
-free_lock n = n ≡ 0
-
-abbrev pub stored_grant : ℕ → Type 0
-stored_grant n = n ≢ 0
+-- whether a word of this number lets its sleepers go: a lock that is free, a grant that is stored
+abbrev pub lets_go : Bool → ℕ → Type 0
+lets_go true n = n ≡ 0
+lets_go false n = n ≢ 0
 
 -- 1 where the word aside tells of the thread, where it sleeps, and where it is on its way to the lock, awake
 abbrev pub told_in : ℕ → Stand → ℕ
@@ -56,29 +53,29 @@ owing i v = among i v.owes
 abbrev pub calls : ℕ → Nap → ℕ
 calls i v = among i v.calls
 
--- the last mark at a word
-abbrev pub mark_at : ℕ → List Mark → ℕ
-mark_at i [] = 0
-mark_at i (m ∷ ms) = cond (eqb i m.word) m.calls (mark_at i ms)
+-- each mark at the word i is of at most so many calls
+abbrev pub AreBefore : ℕ → ℕ → List Mark → Type 0
+AreBefore i most [] = Unit {0}
+AreBefore i most (m ∷ ms) = (m.word ≡ i → m.calls ≤ most) × AreBefore i most ms
 
 -- of all threads together
 abbrev pub sum : (Nap → ℕ) → List Nap → ℕ
 sum f [] = 0
 sum f (v ∷ vs) = f v + sum f vs
 
--- of so many calls of the kernel at a bed, which lets sleepers go or doesn't, and how many owe, come and sleep
--- there: where some sleep and are let go, and nobody owes, the kernel was called since this thread stored there
--- last. If moreover nobody is on the way to the lock, this thread hasn't come back since the last call
-pub record IsCalled (called : ℕ) (lets_go : Type 0) (owed come sleep stored back : ℕ) : Type 0 where
-  pub stored_fits : stored ≤ suc called
-  pub back_fits : back ≤ suc called
-  pub since_stored : 0 < sleep → lets_go → owed ≡ 0 → stored ≤ called
-  pub still : 0 < sleep → lets_go → owed ≡ 0 → come ≡ 0 → back ≤ called
+-- of so many calls of the kernel at the word i, whether it lets sleepers go, and how many owe, come and sleep there:
+-- where some sleep and are let go, and nobody owes, the kernel was called since this thread stored there. If
+-- moreover nobody is on the way to the lock, this thread hasn't come back since the last call
+pub record IsCalled (i called : ℕ) (goes : Type 0) (owed come sleep : ℕ) (stored back : List Mark) : Type 0 where
+  pub stored_fits : AreBefore i (suc called) stored
+  pub back_fits : AreBefore i (suc called) back
+  pub since_stored : 0 < sleep → goes → owed ≡ 0 → AreBefore i called stored
+  pub still : 0 < sleep → goes → owed ≡ 0 → come ≡ 0 → AreBefore i called back
 
 abbrev pub IsCalledAt : Bed → List ℕ → List Nap → Nap → Type 0
 IsCalledAt b words naps v =
-    IsCalled (sum (calls b.word) naps) (b.lets_go (slice_index words b.word)) (sum (owing b.word) naps) (sum (coming b.word) naps)
-    (sum (asleep b.word) naps) (mark_at b.word v.stored) (mark_at b.word v.back)
+    IsCalled b.word (sum (calls b.word) naps) (lets_go b.is_lock (slice_index words b.word)) (sum (owing b.word) naps)
+    (sum (coming b.word) naps) (sum (asleep b.word) naps) v.stored v.back
 
 -- the rule of one bed
 pub record IsMade (b : Bed) (words : List ℕ) (naps : List Nap) : Type 0 where
@@ -94,8 +91,16 @@ pub record Rests (v : Nap) : Type 0 where
 -- wake, the kernel was called since each such store. If moreover nobody is on the way to the lock, nobody has come
 -- back since the last call: whom that woke is among those that sleep
 pub record NoneIsLost (b : Bed) (words : List ℕ) (naps : List Nap) : Type 0 where
-  pub since_stored : 0 < sum (asleep b.word) naps → b.lets_go (slice_index words b.word) → sum (owing b.word) naps ≡ 0
-      → (j : ℕ) (v : Nap) → get_elem? naps j ≡ some v → mark_at b.word v.stored ≤ sum (calls b.word) naps
-  pub still : 0 < sum (asleep b.word) naps → b.lets_go (slice_index words b.word) → sum (owing b.word) naps ≡ 0
+  pub since_stored : 0 < sum (asleep b.word) naps → lets_go b.is_lock (slice_index words b.word) → sum (owing b.word) naps ≡ 0
+      → (j : ℕ) (v : Nap) → get_elem? naps j ≡ some v → AreBefore b.word (sum (calls b.word) naps) v.stored
+  pub still : 0 < sum (asleep b.word) naps → lets_go b.is_lock (slice_index words b.word) → sum (owing b.word) naps ≡ 0
       → sum (coming b.word) naps ≡ 0
-      → (j : ℕ) (v : Nap) → get_elem? naps j ≡ some v → mark_at b.word v.back ≤ sum (calls b.word) naps
+      → (j : ℕ) (v : Nap) → get_elem? naps j ≡ some v → AreBefore b.word (sum (calls b.word) naps) v.back
+
+-- a thread that has done nothing
+abbrev pub fresh_nap : Nap
+fresh_nap = record { stand = Awake; owes = []; calls = []; stored = []; back = [] }
+
+-- what two threads that rest have done, as one did it
+abbrev pub joined : Nap → Nap → Nap
+joined v w = record { stand = v.stand; owes = v.owes; calls = v.calls ++ w.calls; stored = v.stored ++ w.stored; back = v.back ++ w.back }
