@@ -7,7 +7,7 @@ use crate::rows::Token;
 use running_rows::Here;
 
 impl NotifyList {
-    /// O7 and O8, and O9 where the ticket's wait is in the list: its seat. Nobody is woken.
+    /// O7 and O8, and O9 where the ticket's wait is in the list: its seat, which is woken.
     pub(crate) fn grant_one(&self, token: &mut Token, ticket: u64) -> Option<u16>
         requires { (h : ℕ) × MayGrant self.now token.old h ticket }
         ensures rows { (h : ℕ) → MayGrant self.now token.old h ticket
@@ -30,10 +30,11 @@ impl NotifyList {
         self.words.store::<Here>(token, NOTIFY, next);
         let waiter = self.remove(token, ticket);
         // Given back before the waiter is told: told earlier, it would run into the lock that is still held.
-        self.words.return_lock(token, LOCK);
+        self.words.give_lock(token, LOCK, self.sleepers_word());
         if let Some(seat) = waiter {
+            let seat = u32::from(seat);
             self.words
-                .store_grant(token, grant_word(u32::from(seat)), 1);
+                .grant(token, grant_word(seat), self.asleep_word(seat), 1);
         }
         waiter
     }

@@ -42,23 +42,6 @@ impl NotifyList {
         ensures caller { MatchResult result (λ gave_up. GivesUp parked gave_up)
             (λ still. StandsOn parked still) }
     {
-        let tried = self.leave_silently(parked);
-        match &tried {
-            Ok(GaveUp::Left(seat)) => self.rouse_at_lock(&seat.token),
-            Ok(GaveUp::Coming(still)) => self.rouse_at_lock(&still.token),
-            _ => {}
-        }
-        tried
-    }
-
-    /// The same, and nobody is woken.
-    pub(crate) fn leave_silently(&self, parked: Parked) -> Result<GaveUp, Parked>
-        requires { parked.list ≡ self.now }
-        ensures rows { MatchResult result (λ gave_up. Leaves parked gave_up)
-            (λ still. StillParked parked still) }
-        ensures caller { MatchResult result (λ gave_up. GivesUp parked gave_up)
-            (λ still. StandsOn parked still) }
-    {
         match self.look_before(parked) {
             Ok(still) => self.try_leave_at_lock(still),
             Err(gave_up) => Ok(gave_up),
@@ -99,9 +82,7 @@ impl NotifyList {
         } = parked;
         self.words
             .take_lock::<AtLeave, R>(rt, &mut token, LOCK, self.sleepers_word());
-        let gave_up = self.leave_locked(token, number);
-        self.rouse_after(&gave_up);
-        gave_up
+        self.leave_locked(token, number)
     }
 
     /// The same, if the lock is found free.
@@ -128,16 +109,6 @@ impl NotifyList {
         })
     }
 
-    /// Wakes one thread that sleeps at the lock, which was given back.
-    fn rouse_after(&self, gave_up: &GaveUp) {
-        match gave_up {
-            GaveUp::Left(seat) | GaveUp::Granted(seat) => self.rouse_at_lock(&seat.token),
-            GaveUp::Coming(parked) | GaveUp::LimitReached(parked) => {
-                self.rouse_at_lock(&parked.token);
-            }
-        }
-    }
-
     /// The rows after E1, up to the one that gives the lock back.
     fn leave_locked(&self, token: Token, number: u16) -> GaveUp
         requires { (s : Before) × HasLocked self.now s number token }
@@ -148,11 +119,11 @@ impl NotifyList {
         let mut token = token;
         if let Some(ticket) = self.remove_own(&mut token, SeatId::new(number)) {
             self.forgo(&mut token, ticket);
-            self.words.return_lock(&mut token, LOCK);
+            self.words.give_lock(&mut token, LOCK, self.sleepers_word());
             return GaveUp::Left(ListSeat { token, number });
         }
         // Asleep again, and not at rest: the grant would be stored for the seat's next sleep.
-        self.words.return_lock(&mut token, LOCK);
+        self.words.give_lock(&mut token, LOCK, self.sleepers_word());
         GaveUp::Coming(Parked {
             token,
             number,

@@ -5,7 +5,7 @@ ghost use Rattle.step_law_lists.specs.ListPath.{ListStride};
 ghost use Rattle.notify_list.specs.Seats.{stands_of, queue_of};
 ghost use Rattle.notify_list.specs.Calls.{AllGranted};
 ghost use Rattle.notify_list.specs.NotifyingAll.{NotifiesAll, GrantsSome, FindsHeldForAll, EndsAll};
-ghost use Rattle.notify_list.specs.NotifyingAll.{GrantsSeats, NamesSeats, StoresGrants};
+ghost use Rattle.notify_list.specs.NotifyingAll.{NamesSeats, StoresGrants};
 ghost use Rattle.notify_list.specs.Callers.{NotifiesAllTickets, EndsNotifyingAll, StandsOn, LeavesAll};
 ghost use Rattle.notify_list.specs.Meeting.{FindsHeld};
 ghost use Rattle.notify_list.specs.GrantingAll.{MayLook, LookedForAll, MayReach, ReachedAll};
@@ -60,52 +60,6 @@ impl NotifyList {
         ensures caller { MatchResult result (λ all. NotifiesAllTickets seat all.1.tickets all.0)
             (λ owing. LeavesAll seat owing) }
     {
-        let tried = self.all_silently(seat, woken);
-        if let Ok((seat, all)) = &tried {
-            self.wake_each(seat, &woken[..all.waits]);
-        }
-        tried
-    }
-
-    /// Goes on with a notification of all from the lock on.
-    pub fn retry_all(
-        &self,
-        owing: OwingAll,
-        woken: &mut [u32],
-    ) -> Result<(ListSeat, NotifiedAll), OwingAll>
-        requires seat { owing.list ≡ self.now }
-        requires room { self.now.setting.seats ≤ length woken.old }
-        ensures rows { MatchResult result (λ all. EndsAll owing all.1.tickets all.0)
-            (λ still. FindsHeld owing still) }
-        ensures seats { IfOk result (λ all. NamesSeats self.now woken.new all.1.waits all.0) }
-        ensures kept { OnErr result (woken.new ≡ woken.old) }
-        ensures caller { MatchResult result (λ all. EndsNotifyingAll owing all.1.tickets all.0)
-            (λ still. StandsOn owing still) }
-    {
-        let tried = self.go_on_silently(owing, woken);
-        if let Ok((seat, all)) = &tried {
-            self.wake_each(seat, &woken[..all.waits]);
-        }
-        tried
-    }
-
-    /// As `try_all`, and nobody is woken.
-    pub(crate) fn all_silently(
-        &self,
-        seat: ListSeat,
-        woken: &mut [u32],
-    ) -> Result<(ListSeat, NotifiedAll), OwingAll>
-        requires seat { seat.list ≡ self.now }
-        requires room { self.now.setting.seats ≤ length woken.old }
-        ensures rows { MatchResult result (λ all. NotifiesAll seat all.1.tickets all.0)
-            (λ owing. FindsHeldForAll seat owing) }
-        ensures count { IfOk result (λ all. GrantsSome seat all.1.tickets all.0) }
-        ensures granted { IfOk result (λ all. AllGranted seat all.0) }
-        ensures seats { IfOk result (λ all. NamesSeats self.now woken.new all.1.waits all.0) }
-        ensures kept { OnErr result (woken.new ≡ woken.old) }
-        ensures caller { MatchResult result (λ all. NotifiesAllTickets seat all.1.tickets all.0)
-            (λ owing. LeavesAll seat owing) }
-    {
         let ListSeat { mut token, number } = seat;
         if self.look_for_all(&mut token) {
             let none = NotifiedAll {
@@ -114,11 +68,11 @@ impl NotifyList {
             };
             return Ok((ListSeat { token, number }, none));
         }
-        self.go_on_silently(OwingAll { token, number }, woken)
+        self.retry_all(OwingAll { token, number }, woken)
     }
 
-    /// As `retry_all`, and nobody is woken.
-    pub(crate) fn go_on_silently(
+    /// Goes on with a notification of all from the lock on.
+    pub fn retry_all(
         &self,
         owing: OwingAll,
         woken: &mut [u32],
@@ -194,7 +148,6 @@ impl NotifyList {
         ensures { (h n : ℕ) → MayTake self.now token.old h n → TakenAndWoken token.old h n token.new }
     {
         let waits = self.take_all(token, room);
-        self.rouse_at_lock(token);
         self.wake_all(token, &room[..waits]);
     }
 
@@ -210,7 +163,7 @@ impl NotifyList {
         let waits = self.remove_all(token, room);
         // Given back before the first waiter is told: told earlier, it would run into the lock that is still
         // held.
-        self.words.return_lock(token, LOCK);
+        self.words.give_lock(token, LOCK, self.sleepers_word());
         waits
     }
 
@@ -222,11 +175,11 @@ impl NotifyList {
             → WokenSome token.old h (stands_of token.old).hand [] token.new }
     {
         self.name_heirs(token, seats);
-        self.grant_seats(token, seats);
+        self.pass_seats(token, seats);
         self.wake_first(token, seats);
     }
 
-    /// L8 for each wait in hand, of which these are the seats. Nobody is woken.
+    /// L8 for each wait in hand, of which these are the seats. Each is woken as it is granted.
     fn grant_seats(&self, token: &mut Token, seats: &[u32])
         requires seat { (h : ℕ) × MayWake self.now token.old h }
         requires seats { seats.now ≡ map (λ w. w.id.seat) (stands_of token.old).hand }
@@ -239,7 +192,7 @@ impl NotifyList {
         }
     }
 
-    /// L8: the seat of the first wait in hand is granted.
+    /// L8: the seat of the first wait in hand is granted, and woken.
     fn grant_first(&self, token: &mut Token, seat: u32)
         requires { (h : ℕ) × (w : Queued) × (rest : List Queued) × MayWake self.now token.old h
             × ((stands_of token.old).hand ≡ w ∷ rest) × (w.id.seat ≡ seat) }
@@ -247,16 +200,31 @@ impl NotifyList {
             → (stands_of token.old).hand ≡ w ∷ rest → WokenFirst token.old h w rest token.new }
         ensures stored { StoresGrants (seat ∷ []) token.old.me.0.own.gone token.new.me.0.own.gone }
     {
-        self.words.store_grant(token, grant_word(seat), 1);
+        self.words
+            .grant(token, grant_word(seat), self.asleep_word(seat), 1);
     }
 
-    /// Wakes who sleeps at the lock, which was given back, and each of these seats, which are all granted.
-    fn wake_each(&self, seat: &ListSeat, granted: &[u32])
-        requires { GrantsSeats granted.now seat.now }
+    /// As `grant_seats`, but nobody is woken: the first seats and their heirs do that.
+    fn pass_seats(&self, token: &mut Token, seats: &[u32])
+        requires seat { (h : ℕ) × MayWake self.now token.old h }
+        requires seats { seats.now ≡ map (λ w. w.id.seat) (stands_of token.old).hand }
+        ensures rows { (h : ℕ) → MayWake self.now token.old h
+            → WokenSome token.old h (stands_of token.old).hand [] token.new }
+        ensures stored { StoresGrants seats.now token.old.me.0.own.gone token.new.me.0.own.gone }
     {
-        self.rouse_at_lock(&seat.token);
-        for number in granted {
-            self.wake_seat(&seat.token, *number);
+        for seat in seats {
+            self.pass_first(token, *seat);
         }
+    }
+
+    /// As `grant_first`, but nobody is woken.
+    fn pass_first(&self, token: &mut Token, seat: u32)
+        requires { (h : ℕ) × (w : Queued) × (rest : List Queued) × MayWake self.now token.old h
+            × ((stands_of token.old).hand ≡ w ∷ rest) × (w.id.seat ≡ seat) }
+        ensures rows { (h : ℕ) (w : Queued) (rest : List Queued) → MayWake self.now token.old h
+            → (stands_of token.old).hand ≡ w ∷ rest → WokenFirst token.old h w rest token.new }
+        ensures stored { StoresGrants (seat ∷ []) token.old.me.0.own.gone token.new.me.0.own.gone }
+    {
+        self.words.pass_grant(token, grant_word(seat), 1);
     }
 }

@@ -12,7 +12,7 @@ ghost use Rattle.notify_list.specs.Granting.{MayNotify, HasGranted};
 ghost use Rattle.notify_list.specs.Callers.{NotifiesOneTicket, LeavesOne};
 
 use crate::notified::{Busy, Notified, ticket_of_answer};
-use crate::notify_list::{LOCK, NOTIFY, NotifyList, WAIT, grant_word};
+use crate::notify_list::{LOCK, NOTIFY, NotifyList, WAIT};
 use crate::rows::Token;
 use crate::seat::ListSeat;
 use running_rows::Here;
@@ -45,34 +45,12 @@ impl NotifyList {
     {
         self.lock(rt, &mut seat.token);
         let notified = self.grant_least(&mut seat.token);
-        self.wake_notified(&seat.token, &notified);
         ticket_of_answer(&notified)
     }
 
     /// The same for a caller that must not wait: where the list's lock stays held, the seat has looked at the
     /// two words, and they differed. It tells whose wait was granted.
     pub fn try_one(&self, seat: &mut ListSeat) -> Result<Option<Notified>, Busy>
-        requires { seat.old.list ≡ self.now }
-        ensures rows { MatchResult result (λ notified. NotifiesOne seat.old (ticket_of notified) seat.new)
-            (λ busy. FindsHeldAfterLooks seat.old seat.new) }
-        ensures some { IfOk result (λ notified.
-            IfSome (ticket_of notified) (λ word. GrantsLeast seat.old word seat.new)) }
-        ensures none { IfOk result (λ notified.
-            IfNone (ticket_of notified) (AllGranted seat.old seat.new)) }
-        ensures wait { IfOk result (λ notified. IfSome notified (λ n. GrantsItsWait n seat.new)) }
-        ensures caller { MatchResult result
-            (λ notified. NotifiesOneTicket seat.old (ticket_of notified) seat.new)
-            (λ busy. LeavesOne seat.old seat.new) }
-    {
-        let tried = self.one_silently(seat);
-        if let Ok(notified) = &tried {
-            self.wake_notified(&seat.token, notified);
-        }
-        tried
-    }
-
-    /// The same, and nobody is woken.
-    pub(crate) fn one_silently(&self, seat: &mut ListSeat) -> Result<Option<Notified>, Busy>
         requires { seat.old.list ≡ self.now }
         ensures rows { MatchResult result (λ notified. NotifiesOne seat.old (ticket_of notified) seat.new)
             (λ busy. FindsHeldAfterLooks seat.old seat.new) }
@@ -109,7 +87,7 @@ impl NotifyList {
         Err(Busy)
     }
 
-    /// The rows from O4 on, under the lock, which is given back. Nobody is woken.
+    /// The rows from O4 on, under the lock, which is given back. The seat that is granted is woken.
     fn grant_least(&self, token: &mut Token) -> Option<Notified>
         requires { (s : Before) × (n : ℕ) × (h : ℕ) × MayNotify self.now s n h token.old }
         ensures rows { (s : Before) (n h : ℕ) → MayNotify self.now s n h token.old
@@ -121,29 +99,10 @@ impl NotifyList {
         // would grant it twice and leave the next one out.
         let ticket = self.words.load::<Here>(token, NOTIFY);
         if self.words.load::<Here>(token, WAIT) == ticket {
-            self.words.return_lock(token, LOCK);
+            self.words.give_lock(token, LOCK, self.sleepers_word());
             return None;
         }
         let seat = self.grant_one(token, ticket);
         Some(Notified { ticket, seat })
-    }
-
-    /// Wakes who sleeps at the lock, which was given back, and the seat that was granted last.
-    fn wake_notified(&self, token: &Token, notified: &Option<Notified>)
-        requires own { list_of token.now ≡ self.now }
-        requires granted { HasGranted self.now notified.now token.now }
-    {
-        self.rouse_at_lock(token);
-        if let Some(
-            Notified {
-                ticket: _,
-                seat: Some(seat),
-            },
-        ) = notified
-        {
-            let seat = u32::from(*seat);
-            self.words
-                .rouse(token, grant_word(seat), self.asleep_word(seat), 1);
-        }
     }
 }

@@ -147,7 +147,7 @@ impl NotifyList {
     }
 
     /// Returns once something is granted to the seat or so much time is over, and perhaps before.
-    #[tactic(auto, using(crate::proofs::Owned::aside_in))]
+    #[tactic(auto, using(crate::proofs::Owned::grant_futex, crate::proofs::Owned::beside))]
     fn await_grant<R: Wait>(&self, rt: &R, token: &mut Token, seat: u16, longest: Duration)
         requires own { list_of token.old ≡ self.now }
         requires there { seat < self.now.setting.seats }

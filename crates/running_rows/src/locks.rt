@@ -11,13 +11,15 @@ ghost use Rattle.std.specs.Prelude.{◌≡◌, ◌≢◌, ◌==◌, ◌<◌, Mat
 ghost use mathlib.Core.Option.{none, some};
 ghost use prog.Atomic.{either};
 ghost use Rattle.atomic_table.specs.Table.{step};
-ghost use Rattle.running_rows.specs.Strides.{runs_lock, runs_lock_or_look, Took, FoundHeld, runs_unlock, runs_unlock_from};
+ghost use Rattle.running_rows.specs.Strides.{runs_lock, runs_lock_or_look, Took, FoundHeld, runs_unlock, runs_unlock_from, unlocks};
 ghost use Rattle.running_rows.specs.Rule.{IsSomeones};
-ghost use Rattle.running_rows.specs.Owing.{Owes, IsAside, IsSeen};
+ghost use Rattle.running_rows.specs.Owing.{Owes, IsLock, IsSeen};
+ghost use Rattle.running_rows.specs.Futex.{lock_at};
+ghost use Rattle.running_rows.specs.Parking.{IsOwing};
 
 use crate::breaks::{BREAKS_END, FIRST_BREAK, make_break};
 use crate::families::{Here, Rows, Start};
-use crate::plays::{RunsLock, RunsLockOrLook, RunsUnlock, SetsAside};
+use crate::plays::{RunsLock, RunsLockOrLook, RunsUnlock};
 use crate::rule::OneWorld;
 use crate::running::Running;
 use crate::view::{Token, View};
@@ -52,7 +54,7 @@ impl<S, V, T, K, R: Rows<S, V, T, K>> Running<S, View<V, T>, K, OneWorld<R>> {
             × IsSomeones R.family token.old.me.0 }
         requires words { (word < self.now.table.shared.table_id.words)
             × (sleepers < self.now.table.shared.table_id.words) }
-        requires aside { IsAside R.family (R.family.key self.now.table.shared.key) sleepers }
+        requires futex { R.family.IsFutex (R.family.key self.now.table.shared.key) (lock_at word sleepers) }
         requires owes { Owes R.family (R.family.key self.now.table.shared.key) token.old.me word
             (λ n. either (n == 0) 1 n)
             (runs_lock R.family A.at (step self.now.table.shared.table_id.slots word 0 1 none) token.old.me) }
@@ -87,7 +89,7 @@ impl<S, V, T, K, R: Rows<S, V, T, K>> Running<S, View<V, T>, K, OneWorld<R>> {
             × IsSomeones R.family token.old.me.0 }
         requires words { (word < self.now.table.shared.table_id.words)
             × (sleepers < self.now.table.shared.table_id.words) }
-        requires aside { IsAside R.family (R.family.key self.now.table.shared.key) sleepers }
+        requires futex { R.family.IsFutex (R.family.key self.now.table.shared.key) (lock_at word sleepers) }
         requires owes { Owes R.family (R.family.key self.now.table.shared.key) token.old.me word
             (λ n. either (n == 0) 1 n)
             (runs_lock R.family A.at (step self.now.table.shared.table_id.slots word 0 1 (some said.now))
@@ -125,7 +127,7 @@ impl<S, V, T, K, R: Rows<S, V, T, K>> Running<S, View<V, T>, K, OneWorld<R>> {
             × IsSomeones R.family token.old.me.0 }
         requires words { (word < self.now.table.shared.table_id.words)
             × (sleepers < self.now.table.shared.table_id.words) }
-        requires aside { IsAside R.family (R.family.key self.now.table.shared.key) sleepers }
+        requires futex { R.family.IsFutex (R.family.key self.now.table.shared.key) (lock_at word sleepers) }
         requires owes { Owes R.family (R.family.key self.now.table.shared.key) token.old.me word
             (λ n. either (n == 0) 1 n)
             (runs_lock R.family A.at (step self.now.table.shared.table_id.slots word 0 1 none) token.old.me) }
@@ -148,6 +150,7 @@ impl<S, V, T, K, R: Rows<S, V, T, K>> Running<S, View<V, T>, K, OneWorld<R>> {
         requires own { (token.old.table_id ≡ self.now.table.shared.table_id)
             × IsSomeones R.family token.old.me.0 }
         requires word { word < self.now.table.shared.table_id.words }
+        requires lock { IsLock R.family (R.family.key self.now.table.shared.key) word }
         requires owes { Owes R.family (R.family.key self.now.table.shared.key) token.old.me word
             (λ n. either (n == 0) 1 n)
             (runs_lock R.family A.at (step self.now.table.shared.table_id.slots word 0 1 none) token.old.me) }
@@ -170,6 +173,7 @@ impl<S, V, T, K, R: Rows<S, V, T, K>> Running<S, View<V, T>, K, OneWorld<R>> {
             × IsSomeones R.family token.old.me.0 }
         requires word { word < self.now.table.shared.table_id.words }
         requires seen { IsSeen R.family (R.family.key self.now.table.shared.key) word }
+        requires lock { IsLock R.family (R.family.key self.now.table.shared.key) word }
         requires owes { Owes R.family (R.family.key self.now.table.shared.key) token.old.me word
             (λ n. either (n == 0) 1 n)
             (runs_lock R.family A.at (step self.now.table.shared.table_id.slots word 0 1 none) token.old.me) }
@@ -206,6 +210,7 @@ impl<S, V, T, K, R: Rows<S, V, T, K>> Running<S, View<V, T>, K, OneWorld<R>> {
             × IsSomeones R.family token.old.me.0 }
         requires word { word < self.now.table.shared.table_id.words }
         requires seen { IsSeen R.family (R.family.key self.now.table.shared.key) word }
+        requires lock { IsLock R.family (R.family.key self.now.table.shared.key) word }
         requires owes { Owes R.family (R.family.key self.now.table.shared.key) token.old.me word
             (λ n. either (n == 0) 1 n)
             (runs_lock R.family A.at (step self.now.table.shared.table_id.slots word 0 1 (some said.now))
@@ -261,7 +266,7 @@ impl<S, V, T, K, R: Rows<S, V, T, K>> Running<S, View<V, T>, K, OneWorld<R>> {
             × IsSomeones R.family token.old.me.0 }
         requires words { (word < self.now.table.shared.table_id.words)
             × (sleepers < self.now.table.shared.table_id.words) }
-        requires aside { IsAside R.family (R.family.key self.now.table.shared.key) sleepers }
+        requires futex { R.family.IsFutex (R.family.key self.now.table.shared.key) (lock_at word sleepers) }
         requires owes { Owes R.family (R.family.key self.now.table.shared.key) token.old.me word
             (λ n. either (n == 0) 1 n)
             (runs_lock R.family A.at (step self.now.table.shared.table_id.slots word 0 1 none) token.old.me) }
@@ -302,21 +307,15 @@ impl<S, V, T, K, R: Rows<S, V, T, K>> Running<S, View<V, T>, K, OneWorld<R>> {
         requires own { token.old.table_id ≡ self.now.table.shared.table_id }
         requires words { (word < self.now.table.shared.table_id.words)
             × (sleepers < self.now.table.shared.table_id.words) }
-        requires aside { IsAside R.family (R.family.key self.now.table.shared.key) sleepers }
+        requires futex { R.family.IsFutex (R.family.key self.now.table.shared.key) (lock_at word sleepers) }
         ensures same { (token.new.table_id ≡ token.old.table_id) × (token.new.me ≡ token.old.me) }
     {
         if self.is_free_soon(token, word) {
             return;
         }
-        let shared = &self.table.shared;
-        // Counted before `park` looks at the lock: who gives it back after that look finds the count, and
-        // wakes.
-        shared.fetch_add::<SetsAside>(token, sleepers, 1);
-        match longest {
-            None => shared.park(rt, word, 1),
-            Some(longest) => shared.park_timeout(rt, word, 1, longest),
-        }
-        shared.fetch_sub::<SetsAside>(token, sleepers, 1);
+        self.begin_sleep(rt, token, sleepers);
+        self.sleep_at_lock(rt, token, word, sleepers, longest);
+        self.end_sleep(token, sleepers);
     }
 
     /// A row that gives a lock back, and with it the record that was taken last; one thread that sleeps at
@@ -327,6 +326,7 @@ impl<S, V, T, K, R: Rows<S, V, T, K>> Running<S, View<V, T>, K, OneWorld<R>> {
             × IsSomeones R.family token.old.me.0 }
         requires words { (word < self.now.table.shared.table_id.words)
             × (sleepers < self.now.table.shared.table_id.words) }
+        requires futex { R.family.IsFutex (R.family.key self.now.table.shared.key) (lock_at word sleepers) }
         requires owes { Owes R.family (R.family.key self.now.table.shared.key) token.old.me word (λ _. 0)
             (λ _. runs_unlock R.family (step self.now.table.shared.table_id.slots word 0 0 none)
             token.old.me 0) }
@@ -334,33 +334,22 @@ impl<S, V, T, K, R: Rows<S, V, T, K>> Running<S, View<V, T>, K, OneWorld<R>> {
         ensures went { runs_unlock R.family
             (step self.now.table.shared.table_id.slots word 0 0 none) token.old.me 0 token.new.me }
     {
-        self.return_lock(token, word);
-        self.rouse_at_lock(token, word, sleepers);
-    }
-
-    /// The same row, and nobody is woken: who sleeps at the lock is for another to wake, by
-    /// [`Running::rouse_at_lock`], or there is nobody who ever sleeps there.
-    #[inline]
-    pub fn return_lock(&self, token: &mut Token<S, V, T>, word: usize)
-        requires own { (token.old.table_id ≡ self.now.table.shared.table_id)
-            × IsSomeones R.family token.old.me.0 }
-        requires word { word < self.now.table.shared.table_id.words }
-        requires owes { Owes R.family (R.family.key self.now.table.shared.key) token.old.me word (λ _. 0)
-            (λ _. runs_unlock R.family (step self.now.table.shared.table_id.slots word 0 0 none)
-            token.old.me 0) }
-        ensures own { token.new.table_id ≡ token.old.table_id }
-        ensures went { runs_unlock R.family
-            (step self.now.table.shared.table_id.slots word 0 0 none) token.old.me 0 token.new.me }
-    {
-        self.return_lock_from::<Here>(token, word);
+        self.give_lock_from::<Here>(token, word, sleepers);
     }
 
     /// The same at another row than the one at which the seat stands.
     #[inline]
-    pub fn return_lock_from<A: Start<S, V>>(&self, token: &mut Token<S, V, T>, word: usize)
+    pub fn give_lock_from<A: Start<S, V>>(
+        &self,
+        token: &mut Token<S, V, T>,
+        word: usize,
+        sleepers: usize,
+    )
         requires own { (token.old.table_id ≡ self.now.table.shared.table_id)
             × IsSomeones R.family token.old.me.0 }
-        requires word { word < self.now.table.shared.table_id.words }
+        requires words { (word < self.now.table.shared.table_id.words)
+            × (sleepers < self.now.table.shared.table_id.words) }
+        requires futex { R.family.IsFutex (R.family.key self.now.table.shared.key) (lock_at word sleepers) }
         requires owes { Owes R.family (R.family.key self.now.table.shared.key) token.old.me word (λ _. 0)
             (λ _. runs_unlock_from R.family A.at (step self.now.table.shared.table_id.slots word 0 0 none)
             token.old.me 0) }
@@ -368,19 +357,28 @@ impl<S, V, T, K, R: Rows<S, V, T, K>> Running<S, View<V, T>, K, OneWorld<R>> {
         ensures went { runs_unlock_from R.family A.at
             (step self.now.table.shared.table_id.slots word 0 0 none) token.old.me 0 token.new.me }
     {
+        self.free::<A>(token, word, sleepers);
+        // Looked at after the lock is free: who was counted later finds it so, and doesn't sleep.
+        self.rouse_at_lock(token, word, sleepers);
+    }
+
+    /// The row alone: the thread owes a look for who sleeps there.
+    #[inline]
+    fn free<A: Start<S, V>>(&self, token: &mut Token<S, V, T>, word: usize, _sleepers: usize)
+        requires own { (token.old.table_id ≡ self.now.table.shared.table_id)
+            × IsSomeones R.family token.old.me.0 }
+        requires word { word < self.now.table.shared.table_id.words }
+        requires futex { R.family.IsFutex (R.family.key self.now.table.shared.key) (lock_at word _sleepers) }
+        requires owes { Owes R.family (R.family.key self.now.table.shared.key) token.old.me word (λ _. 0)
+            (λ _. runs_unlock_from R.family A.at (step self.now.table.shared.table_id.slots word 0 0 none)
+            token.old.me 0) }
+        ensures own { token.new.table_id ≡ token.old.table_id }
+        ensures went { unlocks R.family A.at (step self.now.table.shared.table_id.slots word 0 0 none)
+            token.old.me 0 token.new.me }
+        ensures owing { IsOwing word token.new.me.0.parking }
+    {
         self.table
             .shared
             .store::<RunsUnlock<A, R, K>>(token, word, 0);
-    }
-
-    /// Wakes one thread that sleeps at a lock which was given back, where one does.
-    #[inline]
-    pub fn rouse_at_lock(&self, _token: &Token<S, V, T>, word: usize, sleepers: usize)
-        requires { (word < self.now.table.shared.table_id.words)
-            × (sleepers < self.now.table.shared.table_id.words) }
-    {
-        if self.table.shared.peek(sleepers) != 0 {
-            self.table.shared.wake_one(word);
-        }
     }
 }

@@ -1,10 +1,8 @@
 //! The calls of a caller that has other work: each tries for the root's lock a few times, and where that stays
-//! held leaves it at a look that found it so. None waits. Those that wake nobody are for a table where no
-//! thread ever sleeps in the kernel: they never call it.
-ghost use Rattle.std.specs.Prelude.{◌≡◌, ◌<◌, length, All, IfOk, MatchResult};
+//! held leaves it at a look that found it so. None waits.
+ghost use Rattle.std.specs.Prelude.{◌≡◌, ◌<◌, length, MatchResult};
 ghost use Rattle.step_table.specs.declared.place.Place.TheVariants.{Acquiring};
 ghost use Rattle.step_table.specs.declared.place.AcquireRow.TheVariants.{A3};
-ghost use Rattle.sema_table.specs.AtLock.{HasGranted};
 ghost use Rattle.sema_table.specs.Waking.{acquire_of, IsEntered, IsWakened, StillOwes};
 ghost use Rattle.sema_table.specs.Many.{IsWokenSeats, StillOwesMany};
 ghost use Rattle.sema_table.specs.Tries.{FindsHeld};
@@ -31,25 +29,6 @@ impl SemaTable {
         ensures caller { MatchResult result (λ entered. JoinsQueue seat counter lifo entered)
             (λ refused. StandsOn seat refused) }
     {
-        let entered = self.enter_silently(seat, counter, lifo)?;
-        self.rouse_behind(&entered, counter);
-        Ok(entered)
-    }
-
-    /// As `try_enter`, and nobody is woken.
-    pub(crate) fn enter_silently(
-        &self,
-        seat: Seat,
-        counter: CounterId,
-        lifo: bool,
-    ) -> Result<Entered, Seat>
-        requires { (seat.table ≡ self.now) × (counter < length self.now.setting.starts) }
-        ensures rows { MatchResult result
-            (λ entered. IsEntered seat (acquire_of counter lifo) (Acquiring (acquire_of counter lifo) A3) entered)
-            (λ refused. FindsHeld seat counter refused) }
-        ensures caller { MatchResult result (λ entered. JoinsQueue seat counter lifo entered)
-            (λ refused. StandsOn seat refused) }
-    {
         let Seat { mut token, numbers } = seat;
         let call = Acquire { counter, lifo };
         let place = Place::Acquiring(call, AcquireRow::A3);
@@ -66,23 +45,6 @@ impl SemaTable {
             (λ refused. StillOwes owing refused) }
         ensures caller { MatchResult result (λ done. WakesFirst owing handoff done.0 done.1)
             (λ refused. StandsOn owing refused) }
-    {
-        let counter = owing.counter;
-        let tried = self.wake_silently(owing, handoff);
-        if let Ok((seat, wake)) = &tried {
-            self.rouse_woken(seat, counter, wake);
-        }
-        tried
-    }
-
-    /// As `try_wake`, and nobody is woken.
-    pub(crate) fn wake_silently(&self, owing: Owing, handoff: bool) -> Result<(Seat, Wake), Owing>
-        requires { owing.table ≡ self.now }
-        ensures rows { MatchResult result (λ done. IsWakened owing handoff done.0 done.1)
-            (λ refused. StillOwes owing refused) }
-        ensures caller { MatchResult result (λ done. WakesFirst owing handoff done.0 done.1)
-            (λ refused. StandsOn owing refused) }
-        ensures stored { IfOk result (λ done. HasGranted self.now done.0 done.1) }
     {
         let Owing {
             mut token,
@@ -109,26 +71,6 @@ impl SemaTable {
         ensures caller { MatchResult result (λ done. WakesThese owing done.0 done.1.items)
             (λ refused. StandsOn owing refused) }
     {
-        let call = owing.call;
-        let tried = self.wake_some_silently(owing);
-        if let Ok((seat, woken)) = &tried {
-            self.rouse_each(seat, call.counter, woken.as_slice());
-        }
-        tried
-    }
-
-    /// As `try_wake_some`, and nobody is woken.
-    pub(crate) fn wake_some_silently(
-        &self,
-        owing: OwingMany,
-    ) -> Result<(Seat, WokenSeats), OwingMany>
-        requires { owing.table ≡ self.now }
-        ensures rows { MatchResult result (λ done. IsWokenSeats owing done.0 done.1.items)
-            (λ refused. StillOwesMany owing refused) }
-        ensures caller { MatchResult result (λ done. WakesThese owing done.0 done.1.items)
-            (λ refused. StandsOn owing refused) }
-        ensures there { IfOk result (λ done. All (λ k. k < self.now.setting.seats) done.1.items) }
-    {
         let OwingMany {
             mut token,
             numbers,
@@ -148,22 +90,6 @@ impl SemaTable {
 
     /// As `leave`; where the root's lock stayed held the seat comes back asleep, as it was.
     pub fn try_leave(&self, sleeping: Sleeping) -> Result<GaveUp, Sleeping>
-        requires { sleeping.table ≡ self.now }
-        ensures rows { MatchResult result (λ gave_up. Leaves sleeping gave_up)
-            (λ refused. StillParked sleeping refused) }
-        ensures caller { MatchResult result (λ gave_up. GivesUp sleeping gave_up)
-            (λ refused. StandsOn sleeping refused) }
-    {
-        let call = sleeping.call;
-        let tried = self.leave_silently(sleeping);
-        if let Ok(gave_up) = &tried {
-            self.rouse_after(gave_up, call.counter);
-        }
-        tried
-    }
-
-    /// As `try_leave`, and nobody is woken.
-    pub(crate) fn leave_silently(&self, sleeping: Sleeping) -> Result<GaveUp, Sleeping>
         requires { sleeping.table ≡ self.now }
         ensures rows { MatchResult result (λ gave_up. Leaves sleeping gave_up)
             (λ refused. StillParked sleeping refused) }

@@ -71,9 +71,7 @@ impl SemaTable {
         } = asleep;
         let place = Place::Acquiring(call, AcquireRow::Parked(turn, ParkedRow::D2));
         self.lock(rt, &mut token, call.counter, &place);
-        let gave_up = self.leave_locked(token, numbers, &call, turn);
-        self.rouse_after(&gave_up, call.counter);
-        gave_up
+        self.leave_locked(token, numbers, &call, turn)
     }
 
     /// The look and the lock of `leave`, for a caller that has to do more before the wait leaves: the seat has
@@ -105,11 +103,7 @@ impl SemaTable {
         } = asleep;
         let place = Place::Acquiring(call, AcquireRow::Parked(turn, ParkedRow::D2));
         self.lock(rt, &mut token, call.counter, &place);
-        let begun = self.begin_locked(token, numbers, &call, turn);
-        if let Err(gave_up) = &begun {
-            self.rouse_after(gave_up, call.counter);
-        }
-        begun
+        self.begin_locked(token, numbers, &call, turn)
     }
 
     /// What follows D2: the seat with the lock, or the row that gives it back.
@@ -162,7 +156,6 @@ impl SemaTable {
             unreachable!()
         }
         self.unlock_left(&mut token, &call);
-        self.rouse_at_lock(&token, call.counter);
         let numbers = Numbers {
             left: numbers.left - 1,
             withdrawn: numbers.withdrawn + 1,
@@ -184,7 +177,6 @@ impl SemaTable {
             turn,
         } = giving_up;
         self.unlock_staying(&mut token, &call, turn);
-        self.rouse_at_lock(&token, call.counter);
         Sleeping {
             token,
             numbers,
@@ -256,7 +248,8 @@ impl SemaTable {
         ensures { Moves token.old (Acquiring call.now D4) token.new Rest × (token.new.me.1 ≡ []) }
     {
         let word = self.lock_word(call.counter);
-        self.words.return_lock(token, word);
+        let sleepers = self.sleepers_word(call.counter);
+        self.words.give_lock(token, word, sleepers);
     }
 
     /// D5 where D3 might be run.
@@ -266,7 +259,8 @@ impl SemaTable {
             (Acquiring call.now (Parked turn P)) × (token.new.me.1 ≡ []) }
     {
         let word = self.lock_word(call.counter);
-        self.words.return_lock_from::<AtStay>(token, word);
+        let sleepers = self.sleepers_word(call.counter);
+        self.words.give_lock_from::<AtStay>(token, word, sleepers);
     }
 
     /// D5. Asleep again, and not at rest: the grant would be stored for the seat's next sleep.
@@ -276,6 +270,7 @@ impl SemaTable {
             (Acquiring call.now (Parked turn P)) × (token.new.me.1 ≡ []) }
     {
         let word = self.lock_word(call.counter);
-        self.words.return_lock(token, word);
+        let sleepers = self.sleepers_word(call.counter);
+        self.words.give_lock(token, word, sleepers);
     }
 }

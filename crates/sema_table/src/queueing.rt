@@ -52,9 +52,7 @@ impl SemaTable {
         let mut token = token;
         let place = Place::Acquiring(call, AcquireRow::A3);
         self.lock(rt, &mut token, call.counter, &place);
-        let entered = self.enter_locked(token, numbers, &call);
-        self.rouse_behind(&entered, call.counter);
-        entered
+        self.enter_locked(token, numbers, &call)
     }
 
     /// The rows from A4 on, up to the one that gives the lock back.
@@ -167,7 +165,8 @@ impl SemaTable {
         ensures { Moves token.old (Acquiring call.now A9) token.new Rest × (token.new.me.1 ≡ []) }
     {
         let word = self.lock_word(call.counter);
-        self.words.return_lock(token, word);
+        let sleepers = self.sleepers_word(call.counter);
+        self.words.give_lock(token, word, sleepers);
     }
 
     /// A7. Queued in the hold of the lock in which 0 was read: a release that saw the waiter word waits for
@@ -185,6 +184,7 @@ impl SemaTable {
     {
         self.insert(token, call, wait);
         let word = self.lock_word(call.counter);
-        self.words.return_lock(token, word);
+        let sleepers = self.sleepers_word(call.counter);
+        self.words.give_lock(token, word, sleepers);
     }
 }

@@ -116,7 +116,7 @@ impl SemaTable {
 
     /// Returns once something is granted to the seat, and perhaps before; where a longest time is given, once
     /// that is over too.
-    #[tactic(auto, using(crate::proofs::Owned::aside_in))]
+    #[tactic(auto, using(crate::proofs::Owned::grant_sleeps, crate::proofs::Owned::misses_aside))]
     fn await_grant<R: Wait>(&self, rt: &R, token: &mut Token, seat: u16, longest: Option<Duration>)
         requires own { token.old.table_id ≡ self.now.id }
         requires there { seat < self.now.setting.seats }

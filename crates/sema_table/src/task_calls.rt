@@ -57,10 +57,7 @@ impl TaskTable {
             return (seat, Err(why));
         }
         let TaskSeat { token, numbers, .. } = seat;
-        match self
-            .table
-            .enter_silently(Seat { token, numbers }, counter, lifo)
-        {
+        match self.table.try_enter(Seat { token, numbers }, counter, lifo) {
             Ok(Entered::Taken(seat)) => (TaskSeat::resting(seat), Ok(TaskEntered::Taken)),
             Ok(Entered::Asleep(asleep)) => (TaskSeat::sleeping(asleep), Ok(TaskEntered::Asleep)),
             Err(seat) => (TaskSeat::resting(seat), Err(TaskRefused::Busy)),
@@ -106,7 +103,7 @@ impl TaskTable {
             call,
             turn,
         };
-        match self.table.leave_silently(asleep) {
+        match self.table.try_leave(asleep) {
             Ok(GaveUp::Left(seat)) => (TaskSeat::resting(seat), Ok(TaskGaveUp::Left)),
             Ok(GaveUp::Coming(asleep)) => (TaskSeat::sleeping(asleep), Ok(TaskGaveUp::Coming)),
             Ok(GaveUp::Woken(woken)) => (TaskSeat::woken(woken), Ok(TaskGaveUp::Woken)),
@@ -154,7 +151,7 @@ impl TaskTable {
             numbers,
             counter,
         };
-        match self.table.wake_silently(owing, handoff) {
+        match self.table.try_wake(owing, handoff) {
             Ok((seat, wake)) => (TaskSeat::resting(seat), Ok(wake)),
             Err(owing) => (TaskSeat::owing(owing), Err(TaskRefused::Busy)),
         }
@@ -175,7 +172,7 @@ impl TaskTable {
             numbers,
             call,
         };
-        match self.table.wake_some_silently(owing) {
+        match self.table.try_wake_some(owing) {
             Ok((seat, seats)) => (TaskSeat::resting(seat), Ok(seats)),
             Err(owing) => (TaskSeat::owing_many(owing), Err(TaskRefused::Busy)),
         }

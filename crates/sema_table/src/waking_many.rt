@@ -64,7 +64,6 @@ impl SemaTable {
         self.lock(rt, &mut token, call.counter, &place);
         let mut hand = WokenSeats::new();
         let seat = self.wake_some_locked(token, numbers, call, &mut hand);
-        self.rouse_each(&seat, call.counter, hand.as_slice());
         let woken = hand.len() as u32;
         (seat, woken)
     }
@@ -79,7 +78,7 @@ impl SemaTable {
         self.try_lock(token, call.counter, &place)
     }
 
-    /// The rows from M4 on. The kernel is not called, as by `wake_locked`.
+    /// The rows from M4 on.
     pub(crate) fn wake_some_locked(
         &self,
         token: Token,
@@ -89,9 +88,8 @@ impl SemaTable {
     ) -> Seat
         requires seat { (s : Token) × HasLocked self.now s numbers (ReleasingMany call.now M3) token }
         requires hand { (hand.old.items ≡ []) × HasUnits call.now }
-        ensures wakes { (s : Token) → HasLocked self.now s numbers (ReleasingMany call.now M3) token
+        ensures { (s : Token) → HasLocked self.now s numbers (ReleasingMany call.now M3) token
             → WakesSeats (seat_of s numbers) call.now result hand.new.items }
-        ensures there { All (λ k. k < self.now.setting.seats) hand.new.items }
     {
         let mut token = token;
         self.take_waits(&mut token, call, hand);
@@ -165,7 +163,8 @@ impl SemaTable {
         ensures there { All (λ w. w.seat < self.now.setting.seats) token.new.me.0.own.knows.hand }
     {
         let word = self.lock_word(call.counter);
-        self.words.return_lock(token, word);
+        let sleepers = self.sleepers_word(call.counter);
+        self.words.give_lock(token, word, sleepers);
     }
 
     /// M7 for each wait in hand, of which these are the seats.
@@ -182,7 +181,7 @@ impl SemaTable {
         }
     }
 
-    /// M7: the seat of the first wait in hand is granted.
+    /// M7: the seat of the first wait in hand is granted, and woken where its thread sleeps.
     fn grant_one(&self, token: &mut Token, call: &ReleaseMany, seat: u16)
         requires seat { Stands self.now token.old (ReleasingMany call.now M7)
             × (waiter token.old.me.0.own.number token.old.me.0.own.knows.hand ≡ seat) }
@@ -190,6 +189,7 @@ impl SemaTable {
         ensures { GrantedFirst token.old call.now token.new }
     {
         let word = self.grant_word(seat);
-        self.words.store_grant(token, word, 1);
+        let asleep = self.asleep_word(seat);
+        self.words.grant(token, word, asleep, 1);
     }
 }

@@ -1,7 +1,7 @@
 use Rattle.std.proofs.Common.{◌≡◌, ℕ, refl, sym, ap, ◌∙◌, arith}
 use Rattle.notify_list.specs.Seats.{SeatModel, list_of}
 use Rattle.notify_list.specs.Shared.{list_by}
-use Rattle.notify_list.proofs.Owned.{low_word, owned}
+use Rattle.notify_list.proofs.Owned.{low_word, owned, lock_futex}
 use Rattle.notify_list.proofs.Allowing.{goes_at}
 use Rattle.notify_list.proofs.Recording.{gives_plain}
 use Rattle.notify_list.proofs.Notifying.{stands4, w4, stands6, record5, seat_none, ends_none, may_grant, seat_some, ends_some}
@@ -41,23 +41,27 @@ load-requires c =
       ),
     )
 
-pub return_lock-requires : goal.return_lock-requires
-return_lock-requires c =
+pub give_lock-requires : goal.give_lock-requires
+give_lock-requires c =
     let x = c.self.inside in let s = c.requires.0 in let n : ℕ = c.requires.1 in let h : ℕ = c.requires.2 in let may = c.requires.3 in let t = c.args.token.now in let L = may.locked in
     let u = c.load-ticket.new.token in let E = c.load-ticket.ensures in
     let y = c.load.new.token in let F = c.load.ensures in let equal = c.if-load-ticket.true in
     let at3 = may.at in
     let R = w4 s n h may.seat at3 t L u c.load-ticket.result E.went E.own in
     let at : list_of y ≡ list_by x = (λ i. record { id = F.own i; setting = F.went.0.same.1 i }) ∙ R.list_is
-    ∙ may.list_is ∙ sym c.self.view_is in (
+    ∙ may.list_is ∙ sym c.self.view_is in
+    let futex = lock_futex x c.self.view_is c.sleepers_word.ensures.at c.sleepers_word.ensures.low in (
       omega arith,
       (
         owned x c.self.invariant y at,
         (
-          low_word x c.self.invariant 2 (omega arith),
-          gives_plain _ y _ (stands6 s n h may.seat at3 t L u c.load-ticket.result E.went E.own y c.load.result F.went F.own equal)
-              (record5 s n h may.seat at3 t L u c.load-ticket.result E.went E.own y c.load.result F.went F.own) refl
-              (λ w. (record { word = refl; there = tt; can = refl; becomes = refl }, refl)),
+          (low_word x c.self.invariant 2 (omega arith), futex.0),
+          (
+            futex.1,
+            gives_plain _ y _ (stands6 s n h may.seat at3 t L u c.load-ticket.result E.went E.own y c.load.result F.went F.own equal)
+                (record5 s n h may.seat at3 t L u c.load-ticket.result E.went E.own y c.load.result F.went F.own) refl
+                (λ w. (record { word = refl; there = tt; can = refl; becomes = refl }, refl)),
+          ),
         ),
       ),
     )
@@ -74,10 +78,10 @@ grant_one-seat-requires c =
 pub returns-then-load-ticket-clause-rows : goal.returns-then-load-ticket-clause-rows
 returns-then-load-ticket-clause-rows c s n h may =
     let t = c.args.token.now in let u = c.load-ticket.new.token in let E = c.load-ticket.ensures in
-    let y = c.load.new.token in let F = c.load.ensures in let G = c.return_lock.ensures in let equal = c.if-load-ticket.true in (
-      ends_none s n h may.seat may.at t may.locked u c.load-ticket.result E.went E.own y c.load.result F.went F.own c.return_lock.new.token
+    let y = c.load.new.token in let F = c.load.ensures in let G = c.give_lock.ensures in let equal = c.if-load-ticket.true in (
+      ends_none s n h may.seat may.at t may.locked u c.load-ticket.result E.went E.own y c.load.result F.went F.own c.give_lock.new.token
           equal G.went G.own,
-      seat_none s n h may.seat may.at t may.locked u c.load-ticket.result E.went E.own y c.load.result F.went F.own c.return_lock.new.token
+      seat_none s n h may.seat may.at t may.locked u c.load-ticket.result E.went E.own y c.load.result F.went F.own c.give_lock.new.token
           equal G.went G.own,
     )
 

@@ -4,6 +4,7 @@ use Rattle.notify_list.specs.Leaving.{LeavesAtLock}
 use Rattle.notify_list.specs.LeavingRows.{MayLeave, HasLocked}
 use Rattle.notify_list.specs.Meeting.{FindsHeld}
 use Rattle.notify_list.proofs.Owned.{own, low_word, owned}
+use Rattle.notify_list.proofs.Futexes.{at_lock}
 use Rattle.notify_list.proofs.Answering.{is_sound}
 use Rattle.notify_list.proofs.Leaving.{may_leave_now, leave_owes, saw_held}
 use Rattle.notify_list.proofs.LookingTogether.{word_seen, held_parked, finds_held}
@@ -16,7 +17,7 @@ try_lock-requires c =
       omega arith,
       (
         owned x c.self.invariant s (own x s n c.self.view_is c.parked.view_is c.requires.0),
-        (low_word x c.self.invariant 2 (omega arith), (word_seen _ 2 tt, leave_owes c.args.self.now s n K _)),
+        (low_word x c.self.invariant 2 (omega arith), (word_seen _ 2 tt, (at_lock x.words.table.shared.key, leave_owes c.args.self.now s n K _))),
       ),
     )
 

@@ -1,17 +1,29 @@
-use Rattle.std.proofs.Common.{Option, Result, IfOk, IfSome, MatchResult, ap, ◌∙◌, subst}
-use Rattle.notify_list.specs.declared.notified.Notified.{Notified}
-use Rattle.notify_list.specs.declared.notified.Busy.{Busy}
-use Rattle.notify_list.specs.Seats.{SeatModel}
-use Rattle.notify_list.specs.Tickets.{FindsHeldAfterLooks}
-use Rattle.notify_list.specs.Notifying.{NotifiesOne, ticket_of, GrantsItsWait}
-use Rattle.notify_list.proofs.Signalling.{has_granted}
+use Rattle.std.proofs.Common.{false}
+use Rattle.notify_list.specs.Tickets.{HasLooked}
+use Rattle.notify_list.proofs.Signalling.{quiet_one, place_then, tried_rows, tried_some, tried_none, kept_busy}
+use Rattle.notify_list.proofs.CallersNotifying.{tries_one}
 use Rattle.notify_list.proofs.notify_list.NotifyList.try_one.Goals as goal
 
-pub wake_notified-requires-clause-granted : goal.wake_notified-requires-clause-granted
-wake_notified-requires-clause-granted c =
-    let s = c.args.seat.now in let t = c.one_silently-tried.new.seat in let E = c.one_silently-tried.ensures in
-    let rows = subst (λ (r : Result (Option Notified) Busy). MatchResult r (λ o. NotifiesOne s (ticket_of o) t) (λ busy. FindsHeldAfterLooks s t))
-    c.in-Ok.is E.rows in
-    has_granted c.args.self.now t c.seat.inside.token c.seat.inside.number c.seat.view_is
-    (ap (λ (y : SeatModel). y.list) rows.comes.same ∙ c.requires) c.in-Ok.notified
-    (subst (λ (r : Result (Option Notified) Busy). IfOk r (λ o. IfSome o (λ n. GrantsItsWait n t))) c.in-Ok.is E.wait)
+pub returns-then-quiet-clause-rows : goal.returns-then-quiet-clause-rows
+returns-then-quiet-clause-rows c = quiet_one c.args.seat.now c.quiet-quiet.new.seat c.if-quiet.ensures.looked
+
+pub returns-clause-rows : goal.returns-clause-rows
+returns-clause-rows c = let s = c.args.seat.now in let u = c.quiet-quiet.new.seat in let t = c.try_one_at_lock.new.seat in
+    let x : HasLooked s false u = c.if-quiet.ensures.looked in
+    tried_rows s u t x c.try_one_at_lock.result (c.try_one_at_lock.ensures.rows x.h (place_then s u t x))
+
+pub returns-clause-some : goal.returns-clause-some
+returns-clause-some c = let s = c.args.seat.now in let u = c.quiet-quiet.new.seat in let t = c.try_one_at_lock.new.seat in
+    let x : HasLooked s false u = c.if-quiet.ensures.looked in
+    tried_some s u t x c.try_one_at_lock.result (c.try_one_at_lock.ensures.rows x.h (place_then s u t x))
+
+pub returns-clause-none : goal.returns-clause-none
+returns-clause-none c = let s = c.args.seat.now in let u = c.quiet-quiet.new.seat in let t = c.try_one_at_lock.new.seat in
+    let x : HasLooked s false u = c.if-quiet.ensures.looked in
+    tried_none s u t x c.try_one_at_lock.result (c.try_one_at_lock.ensures.rows x.h (place_then s u t x))
+
+pub returns-clause-caller : goal.returns-clause-caller
+returns-clause-caller c = let s = c.args.seat.now in let u = c.quiet-quiet.new.seat in let t = c.try_one_at_lock.new.seat in
+    let x : HasLooked s false u = c.if-quiet.ensures.looked in
+    tries_one s u t c.try_one_at_lock.ensures.lawful c.if-quiet.ensures.caller c.try_one_at_lock.result (returns-clause-rows c)
+    (kept_busy _ u t c.try_one_at_lock.result (c.try_one_at_lock.ensures.rows x.h (place_then s u t x))) (returns-clause-some c) (returns-clause-none c)
