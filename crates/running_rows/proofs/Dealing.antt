@@ -1,5 +1,5 @@
 -- Both rules are kept by the steps at a futex that are no rows.
-use Rattle.std.proofs.Common.{◌≡◌, ◌≢◌, ℕ, zero, suc, ◌+◌, ◌%◌, ◌<◌, true, false, List, [], ◌∷◌, ◌++◌, length, set, slice_index, slice_set, sym, refl, ap, ◌∙◌, subst, ⊎_elim}
+use Rattle.std.proofs.Common.{◌≡◌, ◌≢◌, ℕ, zero, suc, ◌+◌, ◌%◌, ◌<◌, true, false, List, [], ◌∷◌, ◌++◌, length, set, slice_index, slice_set, sym, refl, ap, ◌∙◌, subst, ⊎_elim, inl, inr}
 use Rattle.std.proofs.Common.{get_or-set_other}
 use Rattle.std.proofs.lemmas.List.{set-get_or}
 use mathlib.Core.Logic.{dite}
@@ -10,15 +10,15 @@ use Rattle.atomic_table.specs.Table.{State, Me, Step, keeps, Allows, Splits, Joi
 use Rattle.atomic_table.proofs.Lists.{at_set, set_again, set_here, set_else}
 use Rattle.running_rows.specs.declared.view.View.{View}
 use Rattle.running_rows.specs.declared.parking.Stage.{Stage}
-use Rattle.running_rows.specs.declared.parking.Stage.TheVariants.{Counted, Asleep, Owes, Overflowed}
+use Rattle.running_rows.specs.declared.parking.Stage.TheVariants.{Counted, Asleep, Wants, Owes, Overflowed}
 use Rattle.running_rows.specs.declared.parking.Parking.{Parking}
 use Rattle.running_rows.specs.Family.{Family}
 use Rattle.running_rows.specs.Futex.{Futex, ShareNoWord, grant_at, lets_go, IsServedYet, fresh_parking, joined}
 use Rattle.running_rows.specs.Rule.{IsSomeones, IsSeated, HasSeat, HasSeats, IsKept, AreFutexes, AreServed, Holds, parkings}
-use Rattle.running_rows.specs.Parking.{dealing, at_stage, done, sleeping, having_called, counts, comes_back, looks_at_lock, looks_at_grant, looks_for_sleepers, calls_kernel, IsOwing, IsCountedIn}
+use Rattle.running_rows.specs.Parking.{dealing, at_stage, but_last, done, fallen_asleep, sleeping, wanting, to_try, StaysCounted, IsAboutToSleep, having_called, counts, comes_back, looks_at_lock, looks_at_grant, looks_for_sleepers, calls_kernel, IsOwing, IsCountedIn}
 use Rattle.running_rows.proofs.Places.{at_low, same_at}
 use Rattle.running_rows.proofs.Serving.{IsSameAt, elsewhere, one_more, joined_served}
-use Rattle.running_rows.proofs.FutexSteps.{is_counted, is_overflowed, comes_from_sleep, falls_asleep, calls_now, owes_no_more, IsOther, other_counted, other_asleep, other_owes, other_overflowed, stage_else, done_else, sleeping_else, called_else}
+use Rattle.running_rows.proofs.FutexSteps.{is_counted, is_overflowed, comes_from_sleep, sleeps_at_grant, sleeps_at_lock, to_try_same, trying_else, calls_now, owes_no_more, IsOther, other_counted, other_asleep, other_owes, other_overflowed, stage_else, done_else, sleeping_else, called_else}
 
 module _ {V T : Type 0} where
   pub parkings_set : (views : List (View V T)) (id : ℕ) (v : View V T) → parkings (set views id v) ≡ set (parkings views) id v.parking
@@ -40,6 +40,27 @@ module _ {V T : Type 0} where
   pub parkings_more : (views : List (View V T)) (v : View V T) → parkings (views ++ v ∷ []) ≡ parkings views ++ v.parking ∷ []
   parkings_more [] v = refl
   parkings_more (x ∷ xs) v = ap (λ (l : List Parking). x.parking ∷ l) (parkings_more xs v)
+
+-- what the last look at a lock leaves a thread that is counted
+module _ {S V T : Type 0} (m t : Me S (View V T)) (st : Step S) (n i : ℕ) (counted : IsAboutToSleep i m.0.parking) where
+  abbrev owing_a_try : Parking
+  owing_a_try = at_stage (Wants st.word) (done m.0.parking)
+
+  -- what is left of the stages once the sleep is over
+  left_over : (g : List Stage → List Stage) → but_last (g (Counted i ∷ counted.0)) ≡ Wants st.word ∷ counted.0
+      → but_last (g m.0.parking.stages) ≡ Wants st.word ∷ but_last m.0.parking.stages
+  left_over g one = ap (λ (ps : List Stage). but_last (g ps)) counted.1 ∙ one ∙ sym (ap (λ (ps : List Stage). Wants st.word ∷ but_last ps) counted.1)
+
+  pub looked_at_lock : looks_at_lock st m n t → StaysCounted i owing_a_try m t
+  looked_at_lock looked = dite (ℕ_discrete n 0)
+      (λ e. subst (StaysCounted i owing_a_try m) (sym (looked.0 e)) (record {
+        counted = (Wants st.word ∷ counted.0, inl (ap (wanting st.word) counted.1));
+        same = λ j. dealing (record m.0.parking { stages = left_over (wanting st.word) refl j }) m;
+      }))
+      (λ ne. subst (StaysCounted i owing_a_try m) (sym (looked.1 ne)) (record {
+        counted = (Wants st.word ∷ counted.0, inr (ap (λ (ps : List Stage). wanting st.word (fallen_asleep ps)) counted.1));
+        same = λ j. dealing (record m.0.parking { stages = left_over (λ ps. wanting st.word (fallen_asleep ps)) refl j }) m;
+      }))
 
 module _ {S V T K : Type 0} (f : Family S V T K) (k : f.Key) where
   -- the views tell of other dealings of one thread
@@ -208,29 +229,33 @@ module _ {S V T K : Type 0} (f : Family S V T K) (k : f.Key) where
             (λ e. done_else x y a m.0.parking (Counted x.sleepers) is_in.0 e (other_counted x y a m.0.parking))
             (λ e. done_else x y a m.0.parking (Asleep x.sleepers) is_in.0 e (other_asleep x y a m.0.parking)) is_in.1
 
-    -- the last look before the kernel's own, by one who is counted, at a word that lets nobody go
-    module _ (rest : List Stage) (counted : m.0.parking.stages ≡ Counted x.sleepers ∷ rest) (s : State S (View V T)) (r : Holds f k s)
-        (at : get_elem? s.views id ≡ some m.0) where
-      sleeps : (lets_go x.is_lock (slice_index s.words x.word) → ⊥)
-          → Holds f k (record {
-            words = slice_set s.words x.word (slice_index s.words x.word);
-            homes = s.homes;
-            views = set s.views id (record m.0 { parking = sleeping m.0.parking });
-          })
-      sleeps held = look_holds x is s r id m at (sleeping m.0.parking) (λ y a. sleeping_else x y a m.0.parking rest counted) x.word
-          (falls_asleep x (r.futexes.two x is) s.words (parkings s.views) id m.0.parking (parkings_at s.views id m.0 at) (r.served x is) rest counted held)
-
+    -- the last look before the kernel's own, by one who is counted
     pub allowed_look_at_lock : x.is_lock ≡ true → (rest : List Stage) → m.0.parking.stages ≡ Counted x.sleepers ∷ rest
         → Allows (Holds f k) slots id m x.word (λ n. n) (looks_at_lock st m)
     allowed_look_at_lock lock rest counted s r sized at below = dite (ℕ_discrete (slice_index s.words x.word) 0)
-        (λ e. (m.0, keeps, tt, unchanged s id x.word m.0 at r, ((λ _. refl), (λ ne. absurd (ne e)))))
-        (λ ne. (
-          record m.0 { parking = sleeping m.0.parking },
+        (λ e. (
+          record m.0 { parking = to_try st.word m.0.parking },
           keeps,
           tt,
-          sleeps rest counted s r at (λ go. ne (subst (λ b. lets_go b (slice_index s.words x.word)) lock go)),
+          look_holds x is s r id m at (to_try st.word m.0.parking) (λ y a. same y) x.word
+              (elsewhere x s.words s.words (parkings s.views) id m.0.parking (to_try st.word m.0.parking) there_is (same x) refl refl (r.served x is)),
+          ((λ _. refl), (λ ne. absurd (ne e))),
+        ))
+        (λ ne. (
+          record m.0 { parking = to_try st.word (sleeping m.0.parking) },
+          keeps,
+          tt,
+          look_holds x is s r id m at (to_try st.word (sleeping m.0.parking)) (λ y a. trying_else x y a m.0.parking st.word rest counted) x.word
+              (sleeps_at_lock x (r.futexes.two x is) s.words (parkings s.views) id m.0.parking there_is (r.served x is) rest counted
+              (λ go. ne (subst (λ b. lets_go b (slice_index s.words x.word)) lock go)) st.word),
           ((λ e. absurd (ne e)), (λ _. refl)),
         ))
+      where
+        there_is : get_elem? (parkings s.views) id ≡ some m.0.parking
+        there_is = parkings_at s.views id m.0 at
+
+        same : (y : Futex) → IsSameAt y m.0.parking (to_try st.word m.0.parking)
+        same y = to_try_same y m.0.parking x.sleepers st.word rest counted
 
     pub allowed_look_at_grant : x.is_lock ≡ false → (rest : List Stage) → m.0.parking.stages ≡ Counted x.sleepers ∷ rest
         → Allows (Holds f k) slots id m x.word (λ n. n) (looks_at_grant st m)
@@ -239,7 +264,9 @@ module _ {S V T K : Type 0} (f : Family S V T K) (k : f.Key) where
           record m.0 { parking = sleeping m.0.parking },
           keeps,
           tt,
-          sleeps rest counted s r at (λ go. subst (λ b. lets_go b (slice_index s.words x.word)) grant go e),
+          look_holds x is s r id m at (sleeping m.0.parking) (λ y a. sleeping_else x y a m.0.parking rest counted) x.word
+              (sleeps_at_grant x (r.futexes.two x is) s.words (parkings s.views) id m.0.parking (parkings_at s.views id m.0 at) (r.served x is) rest counted
+              (λ go. subst (λ b. lets_go b (slice_index s.words x.word)) grant go e)),
           ((λ ne. absurd (ne e)), (λ _. refl)),
         ))
         (λ ne. (m.0, keeps, tt, unchanged s id x.word m.0 at r, ((λ _. refl), (λ e. absurd (ne e)))))

@@ -6,10 +6,10 @@ use lib.ListN.{get_elem?}
 use Rattle.step_table.specs.Counting.{among}
 use Rattle.step_table.proofs.Sums.{on_here, on_else}
 use Rattle.running_rows.specs.declared.parking.Stage.{Stage}
-use Rattle.running_rows.specs.declared.parking.Stage.TheVariants.{Counted, Asleep, Owes, Overflowed}
+use Rattle.running_rows.specs.declared.parking.Stage.TheVariants.{Counted, Asleep, Wants, Owes, Overflowed}
 use Rattle.running_rows.specs.declared.parking.Parking.{Parking}
 use Rattle.running_rows.specs.Futex.{Futex, ShareNoWord, lets_go, counted_in, asleep_in, owing_in, overflowed_in, over, counted, owing, overflowed, calls, passed, paid, sum, IsServed, IsServedYet}
-use Rattle.running_rows.specs.Parking.{at_stage, but_last, done, fallen_asleep, sleeping, called_at, having_called, owing_at, passing_at, paying_at, IsCountedIn}
+use Rattle.running_rows.specs.Parking.{at_stage, but_last, done, fallen_asleep, sleeping, wanting, to_try, standing, called_at, having_called, owing_at, passing_at, paying_at, IsCountedIn}
 use Rattle.running_rows.proofs.Serving.{sum_at, none_counted, IsSameAt, after, as_before, none_left, called_now, left_before, left_was, pays_still}
 
 pub over_last : (f : Stage → ℕ) (ps : List Stage) (p : Stage) (rest : List Stage) → ps ≡ p ∷ rest → over f ps ≡ f p + over f (but_last ps)
@@ -18,6 +18,15 @@ over_last f ps p rest e = let a = ap (over f) e in let b = ap (λ (l : List Stag
 pub over_fallen : (f : Stage → ℕ) (ps : List Stage) (i : ℕ) (rest : List Stage) → ps ≡ Counted i ∷ rest
     → over f (fallen_asleep ps) + f (Counted i) ≡ over f ps + f (Asleep i)
 over_fallen f ps i rest e = let a = ap (over f) e in let b = ap (λ (l : List Stage). over f (fallen_asleep l)) e in omega arith
+
+over_wanting : (f : Stage → ℕ) (ps : List Stage) (i j : ℕ) (rest : List Stage) → ps ≡ Counted i ∷ rest → f (Wants j) ≡ 0
+    → over f (wanting j ps) ≡ over f ps
+over_wanting f ps i j rest e none = let a = ap (over f) e in let b = ap (λ (l : List Stage). over f (wanting j l)) e in omega arith
+
+over_both_now : (f : Stage → ℕ) (ps : List Stage) (i j : ℕ) (rest : List Stage) → ps ≡ Counted i ∷ rest → f (Wants j) ≡ 0
+    → over f (wanting j (fallen_asleep ps)) ≡ over f (fallen_asleep ps)
+over_both_now f ps i j rest e none = let a = ap (λ (l : List Stage). over f (fallen_asleep l)) e in
+    let b = ap (λ (l : List Stage). over f (wanting j (fallen_asleep l))) e in omega arith
 
 -- the word isn't touched by a store in the count, nor the count by one in the word
 module _ (x : Futex) (two : x.word ≢ x.sleepers) (words : List ℕ) (n : ℕ) where
@@ -89,15 +98,27 @@ module _ (x : Futex) (two : x.word ≢ x.sleepers) (words : List ℕ) (threads :
         (λ e. last (Asleep x.sleepers) is_in.0 e (on_here x.sleepers 1) refl refl) is_in.1
 
   -- who is counted falls asleep, where the word lets nobody go
-  pub falls_asleep : (rest : List Stage) → v.stages ≡ Counted x.sleepers ∷ rest → (lets_go x.is_lock (slice_index words x.word) → ⊥)
-      → IsServedYet x words (set threads i (sleeping v))
-  falls_asleep rest is held none =
-      let count = over_fallen (counted_in x.sleepers) v.stages x.sleepers rest is in
-      let over_it = over_fallen (overflowed_in x.sleepers) v.stages x.sleepers rest is in
-      let r = served words (sleeping v) (omega arith) none in
-      none_left x words words threads i v (sleeping v) at r (r.counted ∙ sym (as_before x words words threads i v (sleeping v) at (counted x) (omega arith)))
-      (pays_still x words words threads i v (sleeping v) at r refl refl)
-      (as_before x words words threads i v (sleeping v) at (calls x) refl) (r.stored i v at) (λ left. held left.goes)
+  pub falls_asleep : (ps : List Stage) → over (counted_in x.sleepers) ps ≡ counted x v → over (overflowed_in x.sleepers) ps ≡ overflowed x v
+      → (lets_go x.is_lock (slice_index words x.word) → ⊥) → IsServedYet x words (set threads i (standing ps v))
+  falls_asleep ps count over_it held none =
+      let w = standing ps v in let r = served words w over_it none in
+      none_left x words words threads i v w at r (r.counted ∙ sym (as_before x words words threads i v w at (counted x) count))
+      (pays_still x words words threads i v w at r refl refl)
+      (as_before x words words threads i v w at (calls x) refl) (r.stored i v at) (λ left. held left.goes)
+
+  -- at a grant, and at a lock
+  module _ (rest : List Stage) (is : v.stages ≡ Counted x.sleepers ∷ rest) (held : lets_go x.is_lock (slice_index words x.word) → ⊥) where
+    pub sleeps_at_grant : IsServedYet x words (set threads i (sleeping v))
+    sleeps_at_grant = falls_asleep (fallen_asleep v.stages)
+        (let c = over_fallen (counted_in x.sleepers) v.stages x.sleepers rest is in omega arith)
+        (let c = over_fallen (overflowed_in x.sleepers) v.stages x.sleepers rest is in omega arith) held
+
+    pub sleeps_at_lock : (j : ℕ) → IsServedYet x words (set threads i (to_try j (sleeping v)))
+    sleeps_at_lock j = falls_asleep (wanting j (fallen_asleep v.stages))
+        (over_both_now (counted_in x.sleepers) v.stages x.sleepers j rest is refl
+        ∙ (let c = over_fallen (counted_in x.sleepers) v.stages x.sleepers rest is in omega arith))
+        (over_both_now (overflowed_in x.sleepers) v.stages x.sleepers j rest is refl
+        ∙ (let c = over_fallen (overflowed_in x.sleepers) v.stages x.sleepers rest is in omega arith)) held
 
   -- a store at the word, whatever it stores: the thread owes a look
   pub owes_now : (n : ℕ) → IsServedYet x (slice_set words x.word n) (set threads i (owing_at x.word (suc (sum (calls x) threads)) v))
@@ -169,6 +190,26 @@ module _ (x : Futex) (two : x.word ≢ x.sleepers) (words : List ℕ) (threads :
       (as_before x words words threads i v w at (calls x) refl) (r.stored i v at)
       (λ left. let n = none_counted x (set threads i w) (sym counts ∙ nobody left.goes) in let s = left.asleep in absurd (omega arith))
 
+-- a debt of a try counts nowhere
+module _ (x : Futex) (v : Parking) where
+  stages_same : (ps : List Stage) → ((f : Stage → ℕ) → ((j : ℕ) → f (Wants j) ≡ 0) → over f ps ≡ over f v.stages) → IsSameAt x v (standing ps v)
+  stages_same ps same = record {
+    counted = same (counted_in x.sleepers) (λ j. refl);
+    asleep = same (asleep_in x.sleepers) (λ j. refl);
+    owing = same (owing_in x.word) (λ j. refl);
+    overflowed = same (overflowed_in x.sleepers) (λ j. refl);
+    calls = refl;
+    passed = refl;
+    paid = refl;
+    stored = λ n h. h;
+  }
+
+  pub to_try_same : (i j : ℕ) (rest : List Stage) → v.stages ≡ Counted i ∷ rest → IsSameAt x v (to_try j v)
+  to_try_same i j rest is = stages_same (wanting j v.stages) (λ f none. over_wanting f v.stages i j rest is (none j))
+
+  pub tried_same : (j : ℕ) (rest : List Stage) → v.stages ≡ Wants j ∷ rest → IsSameAt x v (standing rest v)
+  tried_same j rest is = stages_same rest (λ f none. let a = ap (over f) is in let z = none j in omega arith)
+
 -- the steps at x0 are none at another futex
 module _ (x0 x : Futex) (apart : ShareNoWord x x0) (v : Parking) where
   -- a stage at x0
@@ -237,6 +278,18 @@ module _ (x0 x : Futex) (apart : ShareNoWord x x0) (v : Parking) where
         paid = refl;
         stored = λ n h. h;
       }
+
+  pub trying_else : (j : ℕ) (rest : List Stage) → v.stages ≡ Counted x0.sleepers ∷ rest → IsSameAt x v (to_try j (sleeping v))
+  trying_else j rest is = let s = sleeping_else rest is in record {
+    counted = over_both_now (counted_in x.sleepers) v.stages x0.sleepers j rest is refl ∙ s.counted;
+    asleep = over_both_now (asleep_in x.sleepers) v.stages x0.sleepers j rest is refl ∙ s.asleep;
+    owing = over_both_now (owing_in x.word) v.stages x0.sleepers j rest is refl ∙ s.owing;
+    overflowed = over_both_now (overflowed_in x.sleepers) v.stages x0.sleepers j rest is refl ∙ s.overflowed;
+    calls = refl;
+    passed = refl;
+    paid = refl;
+    stored = λ n h. h;
+  }
 
   pub called_else : (rest : List Stage) → v.stages ≡ Owes x0.word ∷ rest → IsSameAt x v (having_called v)
   called_else rest is =

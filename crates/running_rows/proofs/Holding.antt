@@ -9,20 +9,21 @@ use mathlib.Core.Option.{Option, some}
 use lib.ListN.{get_elem?}
 use Rattle.atomic_table.specs.Table.{State, Me, Step, Allows, keeps, stepped, carried_after}
 use Rattle.running_rows.specs.declared.view.View.{View}
+use Rattle.running_rows.specs.declared.parking.Stage.TheVariants.{Wants}
 use Rattle.running_rows.specs.declared.parking.Parking.{Parking}
 use Rattle.running_rows.specs.Family.{Family}
 use Rattle.running_rows.specs.Futex.{Futex, ShareNoWord, lock_at, grant_at, calls, passed, paid, sum, IsServedYet}
-use Rattle.running_rows.specs.Parking.{but_last, dealing, owing_at, passing_at, paying_at, OwesNoMore}
+use Rattle.running_rows.specs.Parking.{at_stage, standing, but_last, dealing, owing_at, passing_at, paying_at, OwesNoMore}
 use Rattle.step_table.specs.Path.{looks}
-use Rattle.running_rows.specs.Strides.{Went, here, Looked, Changed, Owed, runs_lock, runs_lock_or_look, runs_unlock_from, runs_grant, runs_take_or_look, runs_take_or_nothing}
+use Rattle.running_rows.specs.Strides.{Went, here, Looked, Changed, Owed, runs_lock, runs_lock_or_look, tries, runs_unlock_from, runs_grant, runs_take_or_look, runs_take_or_nothing}
 use Rattle.running_rows.specs.Rule.{IsSomeones, AreServed, Holds, parkings}
 use Rattle.running_rows.specs.Owing.{Stands, Leads, Owes, IsSeen, IsAside, IsPlain, IsLock, IsGrant}
 use Rattle.running_rows.proofs.Keeping.{stands, kept}
 use Rattle.running_rows.proofs.History.{looked_on}
 use Rattle.running_rows.proofs.Telling.{tells_more}
-use Rattle.running_rows.proofs.Serving.{IsSameAt, word_same, word_held}
-use Rattle.running_rows.proofs.FutexSteps.{count_kept, owes_now, passes_now, takes_now, owing_else, passing_else, paying_else}
-use Rattle.running_rows.proofs.Dealing.{parkings_at, parkings_kept, served_at, at_word, dealt}
+use Rattle.running_rows.proofs.Serving.{IsSameAt, elsewhere, word_same, word_held}
+use Rattle.running_rows.proofs.FutexSteps.{count_kept, tried_same, owes_now, passes_now, takes_now, owing_else, passing_else, paying_else}
+use Rattle.running_rows.proofs.Dealing.{parkings_at, parkings_set, parkings_kept, served_at, at_word, dealt}
 
 module _ {S V T K : Type 0} (f : Family S V T K) where
   -- what a step told holds whatever its thread did with sleepers, if it stands at the same stages
@@ -103,6 +104,40 @@ module _ {S V T K : Type 0} (f : Family S V T K) (k : f.Key) where
       → IsSomeones f m.0 → Leaves i g → Owes f k m i g (then m) → t ≡ m → Allows (Holds f k) slots id t i g (then t)
   allowed_since slots id i m t g then someones leaves owes same =
       subst (λ q. Allows (Holds f k) slots id q i g (then q)) (sym same) (allowed slots id i m g (then m) someones leaves owes)
+
+  -- who has slept at a lock, and owes it a try, takes it, or finds it held
+  pub allowed_try : (slots id i : ℕ) (m t : Me S (View V T)) (at : Step S → V → V) (st : Step S) → IsSomeones f m.0 → IsLock f k i → i ≡ st.word
+      → Owes f k m i (λ n. either (n == 0) 1 n) (runs_lock f at st m) → t ≡ dealing (at_stage (Wants i) m.0.parking) m
+      → Allows (Holds f k) slots id t i (λ n. either (n == 0) 1 n) (tries f at st t)
+  allowed_try slots id i m t at st someones lock here owes same =
+      subst (λ u. Allows (Holds f k) slots id u i (λ n. either (n == 0) 1 n) (tries f at st u)) (sym same) tried
+    where
+      g : ℕ → ℕ
+      g n = either (n == 0) 1 n
+
+      u : Me S (View V T)
+      u = dealing (at_stage (Wants i) m.0.parking) m
+
+      tried : Allows (Holds f k) slots id u i g (tries f at st u)
+      tried s r sized is_at below =
+          let n = slice_index s.words i in
+          let l = owes r.kept.world s.words s.homes (stands f k s r.kept id u is_at someones i below) in (
+            record m.0 { own = l.own },
+            l.act,
+            l.valid,
+            record {
+              kept = kept f k s r.kept id u is_at someones i (g n) (λ _. Unit {0}) (record {
+                next = l.next; own = l.own; act = l.act; valid = l.valid; shows = l.shows; same = l.same; of_is = l.of_is; knows = l.knows;
+                on = l.on; others = l.others; tells = tt;
+              }) m.0.parking;
+              served = λ x is. subst (IsServedYet x (slice_set s.words i (g n))) (sym (parkings_set s.views id (record m.0 { own = l.own })))
+                  (elsewhere x (slice_set s.words i (g n)) (slice_set s.words i (g n)) (parkings s.views) id u.0.parking m.0.parking
+                  (parkings_at s.views id u.0 is_at) (tried_same x u.0.parking i m.0.parking.stages refl) refl refl (lock_leaves i lock s r x is));
+              futexes = r.futexes;
+            },
+            λ rest e. subst (λ ps. runs_lock f at st (dealing (standing ps m.0.parking) m) n (record m.0 { own = l.own }, carried_after m.1 l.act))
+                (ap but_last e) l.tells,
+          )
 
   -- a look changes no word, and is told as that of the word at the address
   leads_looked : (i : ℕ) (m : Me S (View V T)) → IsSeen f k i → (world : f.World) (words : List ℕ) (homes : List (Option S))

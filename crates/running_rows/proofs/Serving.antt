@@ -5,7 +5,7 @@ use lib.ListN.{get_elem?}
 use Rattle.atomic_table.proofs.Lists.{at_set, at_snoc, set_else}
 use Rattle.step_table.specs.Counting.{among}
 use Rattle.running_rows.specs.declared.parking.Stage.{Stage}
-use Rattle.running_rows.specs.declared.parking.Stage.TheVariants.{Counted, Asleep, Owes, Overflowed}
+use Rattle.running_rows.specs.declared.parking.Stage.TheVariants.{Counted, Asleep, Wants, Owes, Overflowed}
 use Rattle.running_rows.specs.declared.parking.Mark.{Mark}
 use Rattle.running_rows.specs.declared.parking.Parking.{Parking}
 use Rattle.running_rows.specs.Futex.{Futex, lets_go, counted_in, asleep_in, owing_in, overflowed_in, over, counted, asleep, owing, overflowed, calls, passed, amount, paid, sum, AreWithin, IsLeft, IsServed, IsServedYet, fresh_parking, joined}
@@ -33,6 +33,7 @@ asleep_counted : (i : ℕ) (ps : List Stage) → over (asleep_in i) ps ≤ over 
 asleep_counted i [] = omega arith
 asleep_counted i (Counted j ∷ ps) = let r = asleep_counted i ps in omega arith
 asleep_counted i (Asleep j ∷ ps) = let r = asleep_counted i ps in omega arith
+asleep_counted i (Wants j ∷ ps) = let r = asleep_counted i ps in omega arith
 asleep_counted i (Owes j ∷ ps) = let r = asleep_counted i ps in omega arith
 asleep_counted i (Overflowed j ∷ ps) = let r = asleep_counted i ps in omega arith
 

@@ -2,7 +2,7 @@
 use Rattle.std.specs.Prelude.{◌≡◌, ◌≢◌, ◌⊎◌, ℕ, List, [], ◌∷◌}
 use Rattle.atomic_table.specs.Table.{Me, Step}
 use Rattle.running_rows.specs.declared.parking.Stage.{Stage}
-use Rattle.running_rows.specs.declared.parking.Stage.TheVariants.{Counted, Asleep, Owes, Overflowed}
+use Rattle.running_rows.specs.declared.parking.Stage.TheVariants.{Counted, Asleep, Wants, Owes, Overflowed}
 use Rattle.running_rows.specs.declared.parking.Parking.{Parking}
 use Rattle.running_rows.specs.declared.view.View.{View}
 use Rattle.running_rows.specs.Futex.{Futex, lets_go}
@@ -26,6 +26,18 @@ fallen_asleep ps = ps
 
 abbrev pub sleeping : Parking → Parking
 sleeping v = record v { stages = fallen_asleep v.stages }
+
+-- behind its sleep at a lock it owes that a try
+abbrev pub wanting : ℕ → List Stage → List Stage
+wanting i [] = []
+wanting i (p ∷ ps) = p ∷ Wants i ∷ ps
+
+abbrev pub to_try : ℕ → Parking → Parking
+to_try i v = record v { stages = wanting i v.stages }
+
+-- it stands at these stages
+abbrev pub standing : List Stage → Parking → Parking
+standing ps v = record v { stages = ps }
 
 -- who owes a call makes it
 abbrev pub called_at : List Stage → List ℕ → List ℕ
@@ -71,7 +83,8 @@ module _ {S V T : Type 0} where
 
   -- the last look before the kernel's own: a lock that is held, a grant that isn't there
   abbrev pub looks_at_lock : Step S → Me S (View V T) → ℕ → Me S (View V T) → Type 0
-  looks_at_lock st m n t = (n ≡ 0 → t ≡ m) × (n ≢ 0 → Dealt m (sleeping m.0.parking) t)
+  looks_at_lock st m n t =
+      (n ≡ 0 → Dealt m (to_try st.word m.0.parking) t) × (n ≢ 0 → Dealt m (to_try st.word (sleeping m.0.parking)) t)
 
   abbrev pub looks_at_grant : Step S → Me S (View V T) → ℕ → Me S (View V T) → Type 0
   looks_at_grant st m n t = (n ≢ 0 → t ≡ m) × (n ≡ 0 → Dealt m (sleeping m.0.parking) t)
@@ -97,10 +110,10 @@ abbrev pub IsOwing : ℕ → Parking → Type 0
 IsOwing i v = (rest : List Stage) × (v.stages ≡ Owes i ∷ rest)
 
 module _ {S V T : Type 0} where
-  -- it is counted there still, or asleep, and nothing else has changed once that is over
-  pub record StaysCounted (i : ℕ) (m t : Me S (View V T)) : Type 0 where
+  -- it is counted there still, or asleep, and once that is over only its dealings have changed, to these
+  pub record StaysCounted (i : ℕ) (then : Parking) (m t : Me S (View V T)) : Type 0 where
     pub counted : IsCountedIn i t.0.parking
-    pub same : dealing (done t.0.parking) t ≡ dealing (done m.0.parking) m
+    pub same : dealing (done t.0.parking) t ≡ dealing then m
 
   -- the last stage is over, and nothing else has changed but how often it called the kernel
   pub record OwesNoMore (m t : Me S (View V T)) : Type 0 where

@@ -5,7 +5,9 @@ use Rattle.step_table.specs.Path.{Deed, runs, looks, Ran}
 use Rattle.running_rows.specs.declared.view.View.{View}
 use Rattle.running_rows.specs.declared.view.Seated.{Seated}
 use Rattle.running_rows.specs.Family.{Family}
-use Rattle.running_rows.specs.Parking.{back_at, dealing, owing_at}
+use Rattle.running_rows.specs.declared.parking.Stage.{Stage}
+use Rattle.running_rows.specs.declared.parking.Stage.TheVariants.{Wants}
+use Rattle.running_rows.specs.Parking.{back_at, dealing, standing, owing_at}
 
 -- as it stood
 abbrev pub here : {V : Type 0} → V → V
@@ -58,6 +60,11 @@ module _ {S V T K : Type 0} (f : Family S V T K) where
   -- a lock that is held changes nothing
   abbrev pub runs_lock : (Step S → V → V) → Step S → Me S (View V T) → ℕ → Me S (View V T) → Type 0
   runs_lock at st m n t = (n ≢ 0 → t ≡ m) × (n ≡ 0 → Took (at st) m t)
+
+  -- the same by one who has slept there, and owes the lock a try: that is over
+  abbrev pub tries : (Step S → V → V) → Step S → Me S (View V T) → ℕ → Me S (View V T) → Type 0
+  tries at st m n t =
+      (rest : List Stage) → m.0.parking.stages ≡ Wants st.word ∷ rest → runs_lock at st (dealing (standing rest m.0.parking) m) n t
 
   -- a look found the lock held, and is a stride
   abbrev pub FoundHeld : ℕ → Me S (View V T) → Me S (View V T) → Type 0

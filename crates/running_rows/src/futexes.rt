@@ -5,7 +5,7 @@
 //! has to believe stands in two functions: [`Running::park`] sleeps, and [`Running::call_kernel`] wakes. Nothing else
 //! parks; and nothing else wakes, but for [`Running::wake`], which pays no debt.
 ghost use Rattle.std.specs.Prelude.{◌≡◌, ◌<◌, true};
-ghost use Rattle.running_rows.specs.declared.parking.Stage.TheVariants.{Counted};
+ghost use Rattle.running_rows.specs.declared.parking.Stage.TheVariants.{Counted, Wants};
 ghost use Rattle.running_rows.specs.Futex.{Futex, lock_at, grant_at};
 ghost use Rattle.running_rows.specs.Parking.{at_stage, done, IsAboutToSleep, IsCountedIn, StaysCounted, OwesNoMore, IsOwing, MayPark};
 
@@ -38,7 +38,7 @@ impl<S, V, T, K, R: Rows<S, V, T, K>> Running<S, View<V, T>, K, OneWorld<R>> {
         unreachable!()
     }
 
-    /// Sleeps unless the lock is free, and no longer than is said.
+    /// Sleeps unless the lock is free, and no longer than is said. Then the thread owes the lock a try.
     pub(crate) fn sleep_at_lock<W: Wait>(
         &self,
         rt: &W,
@@ -52,7 +52,8 @@ impl<S, V, T, K, R: Rows<S, V, T, K>> Running<S, View<V, T>, K, OneWorld<R>> {
         requires futex { R.family.IsFutex (R.family.key self.now.table.shared.key) (lock_at word sleepers) }
         requires counted { IsAboutToSleep sleepers token.old.me.0.parking }
         ensures own { token.new.table_id ≡ token.old.table_id }
-        ensures counted { StaysCounted sleepers token.old.me token.new.me }
+        ensures counted { StaysCounted sleepers (at_stage (Wants word) (done token.old.me.0.parking))
+            token.old.me token.new.me }
     {
         if self.finds_lock_held(token, word, sleepers) {
             self.park(rt, token, word, 1, longest);
@@ -66,7 +67,8 @@ impl<S, V, T, K, R: Rows<S, V, T, K>> Running<S, View<V, T>, K, OneWorld<R>> {
         requires futex { R.family.IsFutex (R.family.key self.now.table.shared.key) (lock_at word _sleepers) }
         requires counted { IsAboutToSleep _sleepers token.old.me.0.parking }
         ensures own { token.new.table_id ≡ token.old.table_id }
-        ensures counted { StaysCounted _sleepers token.old.me token.new.me }
+        ensures counted { StaysCounted _sleepers (at_stage (Wants word) (done token.old.me.0.parking))
+            token.old.me token.new.me }
         ensures asleep { result ≡ true → MayPark (R.family.IsFutex (R.family.key self.now.table.shared.key)) word 1
             token.new.me.0.parking }
     {
@@ -87,7 +89,7 @@ impl<S, V, T, K, R: Rows<S, V, T, K>> Running<S, View<V, T>, K, OneWorld<R>> {
         requires futex { R.family.IsFutex (R.family.key self.now.table.shared.key) (grant_at word sleepers) }
         requires counted { IsAboutToSleep sleepers token.old.me.0.parking }
         ensures own { token.new.table_id ≡ token.old.table_id }
-        ensures counted { StaysCounted sleepers token.old.me token.new.me }
+        ensures counted { StaysCounted sleepers (done token.old.me.0.parking) token.old.me token.new.me }
     {
         if self.finds_no_grant(token, word, sleepers) {
             self.park(rt, token, word, 0, longest);
@@ -101,7 +103,7 @@ impl<S, V, T, K, R: Rows<S, V, T, K>> Running<S, View<V, T>, K, OneWorld<R>> {
         requires futex { R.family.IsFutex (R.family.key self.now.table.shared.key) (grant_at word _sleepers) }
         requires counted { IsAboutToSleep _sleepers token.old.me.0.parking }
         ensures own { token.new.table_id ≡ token.old.table_id }
-        ensures counted { StaysCounted _sleepers token.old.me token.new.me }
+        ensures counted { StaysCounted _sleepers (done token.old.me.0.parking) token.old.me token.new.me }
         ensures asleep { result ≡ true → MayPark (R.family.IsFutex (R.family.key self.now.table.shared.key)) word 0
             token.new.me.0.parking }
     {

@@ -5,8 +5,8 @@
 //! sleeps; who gives the lock back stores 0 in it, then looks at the count. All four are in one order, the
 //! same for all threads: either the sleeper's look finds the lock free, or it was counted before the giver's
 //! look, which finds it and calls the kernel. So nobody sleeps at a free lock for good, and where nobody
-//! sleeps the kernel isn't called. A thread that comes meanwhile may take the lock first; who was woken looks
-//! again.
+//! sleeps the kernel isn't called. A thread that comes meanwhile may take the lock first; who has slept tries for
+//! the lock before its call ends, since it was woken in place of others.
 ghost use Rattle.std.specs.Prelude.{◌≡◌, ◌≢◌, ◌==◌, ◌<◌, MatchBool};
 ghost use mathlib.Core.Option.{none, some};
 ghost use prog.Atomic.{either};
@@ -15,11 +15,12 @@ ghost use Rattle.running_rows.specs.Strides.{runs_lock, runs_lock_or_look, Took,
 ghost use Rattle.running_rows.specs.Rule.{IsSomeones};
 ghost use Rattle.running_rows.specs.Owing.{Owes, IsLock, IsSeen};
 ghost use Rattle.running_rows.specs.Futex.{lock_at};
-ghost use Rattle.running_rows.specs.Parking.{IsOwing};
+ghost use Rattle.running_rows.specs.declared.parking.Stage.TheVariants.{Wants};
+ghost use Rattle.running_rows.specs.Parking.{at_stage, dealing, IsOwing};
 
 use crate::breaks::{BREAKS_END, FIRST_BREAK, make_break};
 use crate::families::{Here, Rows, Start};
-use crate::plays::{RunsLock, RunsLockOrLook, RunsUnlock};
+use crate::plays::{RunsLock, RunsLockOrLook, RunsTry, RunsUnlock};
 use crate::rule::OneWorld;
 use crate::running::Running;
 use crate::view::{Token, View};
@@ -71,7 +72,9 @@ impl<S, V, T, K, R: Rows<S, V, T, K>> Running<S, View<V, T>, K, OneWorld<R>> {
             {
                 return;
             }
-            self.await_lock(rt, token, word, sleepers, None);
+            if self.try_later::<A, W>(rt, token, word, sleepers, None) {
+                return;
+            }
         }
         unreachable!()
     }
@@ -108,7 +111,9 @@ impl<S, V, T, K, R: Rows<S, V, T, K>> Running<S, View<V, T>, K, OneWorld<R>> {
             {
                 return;
             }
-            self.await_lock(rt, token, word, sleepers, None);
+            if self.try_later_for::<A, W>(rt, token, word, sleepers, said) {
+                return;
+            }
         }
         unreachable!()
     }
@@ -276,7 +281,6 @@ impl<S, V, T, K, R: Rows<S, V, T, K>> Running<S, View<V, T>, K, OneWorld<R>> {
             (token.new.me ≡ token.old.me) }
     {
         for _ in rt.forever() {
-            // Before the time is looked at: who was woken was so in place of others that sleep.
             if self
                 .table
                 .shared
@@ -289,14 +293,82 @@ impl<S, V, T, K, R: Rows<S, V, T, K>> Running<S, View<V, T>, K, OneWorld<R>> {
             if longest.is_zero() {
                 return false;
             }
-            self.await_lock(rt, token, word, sleepers, Some(longest));
+            if self.try_later::<A, W>(rt, token, word, sleepers, Some(longest)) {
+                return true;
+            }
         }
         unreachable!()
     }
 
-    /// Returns once the lock was free, and perhaps before; where a longest time is given, once that is over
-    /// too.
-    fn await_lock<W: Wait>(
+    /// Waits until the lock is free, and perhaps shorter, where a longest time is given at most so long. Who has
+    /// slept tries for it then, since it may have been woken in place of others: whether it was taken.
+    fn try_later<A: Start<S, V>, W: Wait>(
+        &self,
+        rt: &W,
+        token: &mut Token<S, V, T>,
+        word: usize,
+        sleepers: usize,
+        longest: Option<Duration>,
+    ) -> bool
+        requires own { (token.old.table_id ≡ self.now.table.shared.table_id)
+            × IsSomeones R.family token.old.me.0 }
+        requires words { (word < self.now.table.shared.table_id.words)
+            × (sleepers < self.now.table.shared.table_id.words) }
+        requires futex { R.family.IsFutex (R.family.key self.now.table.shared.key) (lock_at word sleepers) }
+        requires owes { Owes R.family (R.family.key self.now.table.shared.key) token.old.me word
+            (λ n. either (n == 0) 1 n)
+            (runs_lock R.family A.at (step self.now.table.shared.table_id.slots word 0 1 none) token.old.me) }
+        ensures own { token.new.table_id ≡ token.old.table_id }
+        ensures took { MatchBool result (Took R.family
+            (A.at (step self.now.table.shared.table_id.slots word 0 1 none)) token.old.me token.new.me)
+            (token.new.me ≡ token.old.me) }
+    {
+        if self.is_free_soon(token, word) {
+            return false;
+        }
+        self.sleep_for_lock(rt, token, word, sleepers, longest);
+        self.table
+            .shared
+            .compare_exchange::<RunsTry<A, R, K>>(token, word, 0, 1)
+            == 0
+    }
+
+    /// The same, at the row that is said, and for as long as it takes.
+    fn try_later_for<A: Start<S, V>, W: Wait>(
+        &self,
+        rt: &W,
+        token: &mut Token<S, V, T>,
+        word: usize,
+        sleepers: usize,
+        said: &S,
+    ) -> bool
+        requires own { (token.old.table_id ≡ self.now.table.shared.table_id)
+            × IsSomeones R.family token.old.me.0 }
+        requires words { (word < self.now.table.shared.table_id.words)
+            × (sleepers < self.now.table.shared.table_id.words) }
+        requires futex { R.family.IsFutex (R.family.key self.now.table.shared.key) (lock_at word sleepers) }
+        requires owes { Owes R.family (R.family.key self.now.table.shared.key) token.old.me word
+            (λ n. either (n == 0) 1 n)
+            (runs_lock R.family A.at (step self.now.table.shared.table_id.slots word 0 1 (some said.now))
+            token.old.me) }
+        ensures own { token.new.table_id ≡ token.old.table_id }
+        ensures took { MatchBool result (Took R.family
+            (A.at (step self.now.table.shared.table_id.slots word 0 1
+            (some said.now))) token.old.me token.new.me)
+            (token.new.me ≡ token.old.me) }
+    {
+        if self.is_free_soon(token, word) {
+            return false;
+        }
+        self.sleep_for_lock(rt, token, word, sleepers, None);
+        self.table
+            .shared
+            .compare_exchange_with::<RunsTry<A, R, K>>(token, word, 0, 1, said)
+            == 0
+    }
+
+    /// Sleeps until the lock was given back, and perhaps shorter: the thread owes it a try.
+    fn sleep_for_lock<W: Wait>(
         &self,
         rt: &W,
         token: &mut Token<S, V, T>,
@@ -308,11 +380,9 @@ impl<S, V, T, K, R: Rows<S, V, T, K>> Running<S, View<V, T>, K, OneWorld<R>> {
         requires words { (word < self.now.table.shared.table_id.words)
             × (sleepers < self.now.table.shared.table_id.words) }
         requires futex { R.family.IsFutex (R.family.key self.now.table.shared.key) (lock_at word sleepers) }
-        ensures same { (token.new.table_id ≡ token.old.table_id) × (token.new.me ≡ token.old.me) }
+        ensures own { token.new.table_id ≡ token.old.table_id }
+        ensures wants { token.new.me ≡ dealing (at_stage (Wants word) token.old.me.0.parking) token.old.me }
     {
-        if self.is_free_soon(token, word) {
-            return;
-        }
         self.begin_sleep(rt, token, sleepers);
         self.sleep_at_lock(rt, token, word, sleepers, longest);
         self.end_sleep(token, sleepers);

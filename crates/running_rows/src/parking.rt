@@ -8,6 +8,8 @@ pub enum Stage {
     /// Counted there, and its last look found nothing that lets it go: it is in the kernel, or on its way there or
     /// back.
     Asleep(u64),
+    /// It sleeps at the lock in this word, or has slept, and owes it a try: it may be woken in place of others.
+    Wants(u64),
     /// It stored in this word what lets a sleeper go, and hasn't looked yet whom to wake.
     Owes(u64),
     /// It found 2^64 - 1 others counted in this word, and goes no further.

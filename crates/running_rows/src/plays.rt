@@ -1,6 +1,6 @@
 //! What each kind of step tells its seat.
 ghost use Rattle.running_rows.specs.Strides.{looks_at, runs_access, runs_store, runs_lock, unlocks, grants};
-ghost use Rattle.running_rows.specs.Strides.{runs_lock_or_look};
+ghost use Rattle.running_rows.specs.Strides.{runs_lock_or_look, tries};
 ghost use Rattle.running_rows.specs.Strides.{runs_grant, runs_take_or_look, runs_take_or_nothing};
 ghost use Rattle.running_rows.specs.Strides.{sets_aside};
 ghost use Rattle.running_rows.specs.Parking.{counts, comes_back, looks_at_lock, looks_at_grant};
@@ -45,6 +45,15 @@ pub(crate) struct RunsLock<A, R, K> {
 
 impl<S, V, T, K, A: Start<S, V>, R: Rows<S, V, T, K>> Play<S, View<V, T>> for RunsLock<A, R, K> {
     ghost then = { runs_lock R.family A.at };
+}
+
+/// The same by a thread that has slept there, and owes the lock a try.
+pub(crate) struct RunsTry<A, R, K> {
+    rows: PhantomData<(A, R, K)>,
+}
+
+impl<S, V, T, K, A: Start<S, V>, R: Rows<S, V, T, K>> Play<S, View<V, T>> for RunsTry<A, R, K> {
+    ghost then = { tries R.family A.at };
 }
 
 /// A row that takes a lock, or a look that finds it held.
