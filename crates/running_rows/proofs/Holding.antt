@@ -127,8 +127,17 @@ module _ {S V T K : Type 0} (f : Family S V T K) (k : f.Key) where
             l.valid,
             record {
               kept = kept f k s r.kept id u is_at someones i (g n) (λ _. Unit {0}) (record {
-                next = l.next; own = l.own; act = l.act; valid = l.valid; shows = l.shows; same = l.same; of_is = l.of_is; knows = l.knows;
-                on = l.on; others = l.others; tells = tt;
+                next = l.next;
+                own = l.own;
+                act = l.act;
+                valid = l.valid;
+                shows = l.shows;
+                same = l.same;
+                of_is = l.of_is;
+                knows = l.knows;
+                on = l.on;
+                others = l.others;
+                tells = tt;
               }) m.0.parking;
               served = λ x is. subst (IsServedYet x (slice_set s.words i (g n))) (sym (parkings_set s.views id (record m.0 { own = l.own })))
                   (elsewhere x (slice_set s.words i (g n)) (slice_set s.words i (g n)) (parkings s.views) id u.0.parking m.0.parking

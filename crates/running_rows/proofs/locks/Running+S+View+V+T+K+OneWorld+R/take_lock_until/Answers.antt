@@ -33,9 +33,17 @@ returns-then-compare_exchange-eq0-clause-took g c =
 pub try_later-requires : goal.try_later-requires
 try_later-requires g c = let same = c.compare_exchange.ensures.2.0 c.if-compare_exchange-eq0.false ∙ c.loop.invariant.1 in (
   search rules,
-  ((c.compare_exchange.ensures.0 ∙ c.loop.invariant.0 ∙ c.requires.own.0, subst (λ m. IsSomeones g.R.Rows.family m.0) (sym same) c.requires.own.1),
-  (c.requires.words, (c.requires.futex, subst (λ m. Owes g.R.Rows.family (g.R.Rows.family.key c.args.self.now.table.shared.key) m c.args.word (λ n. either (n == 0) 1 n)
-      (runs_lock g.R.Rows.family g.A.Start.at (step c.args.self.now.table.shared.table_id.slots c.args.word 0 1 none) m)) (sym same) c.requires.owes))),
+  (
+    (c.compare_exchange.ensures.0 ∙ c.loop.invariant.0 ∙ c.requires.own.0, subst (λ m. IsSomeones g.R.Rows.family m.0) (sym same) c.requires.own.1),
+    (
+      c.requires.words,
+      (
+        c.requires.futex,
+        subst (λ m. Owes g.R.Rows.family (g.R.Rows.family.key c.args.self.now.table.shared.key) m c.args.word (λ n. either (n == 0) 1 n)
+            (runs_lock g.R.Rows.family g.A.Start.at (step c.args.self.now.table.shared.table_id.slots c.args.word 0 1 none) m)) (sym same) c.requires.owes,
+      ),
+    ),
+  ),
 )
 
 pub returns-then-try_later-clause-own : goal.returns-then-try_later-clause-own
