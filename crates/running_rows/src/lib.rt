@@ -15,6 +15,7 @@
 
 mod breaks;
 mod closing;
+mod deadlines;
 mod families;
 mod futexes;
 mod joins;
@@ -33,6 +34,7 @@ mod view;
 
 pub use atomic_table::{Closed, Refused, TableRule};
 pub use breaks::{BREAKS_END, FIRST_BREAK, make_break};
+pub use deadlines::time_left;
 pub use families::{Here, Rows, Start};
 pub use laws::law_of_the_sleepers;
 pub use parking::{Mark, Parking, Stage};

@@ -19,6 +19,7 @@ ghost use Rattle.running_rows.specs.declared.parking.Stage.TheVariants.{Wants};
 ghost use Rattle.running_rows.specs.Parking.{at_stage, dealing, IsOwing};
 
 use crate::breaks::{BREAKS_END, FIRST_BREAK, make_break};
+use crate::deadlines::time_left;
 use crate::families::{Here, Rows, Start};
 use crate::plays::{RunsLock, RunsLockOrLook, RunsTry, RunsUnlock};
 use crate::rule::OneWorld;
@@ -33,14 +34,6 @@ use std::time::{Clock, Duration, Instant};
 const LOOKS: u32 = 100;
 /// How often a seat tries for a lock that it leaves where it stays held, with as many looks between two tries.
 const TRIES: u32 = 10;
-
-/// How much time is left until the deadline: none where there is no deadline, or the clock can't be read.
-fn time_left<C: Clock>(rt: &C, deadline: Option<Instant>) -> Duration {
-    match (deadline, Instant::now(rt)) {
-        (Some(deadline), Ok(now)) => deadline.saturating_duration_since(now),
-        _ => Duration::ZERO,
-    }
-}
 
 impl<S, V, T, K, R: Rows<S, V, T, K>> Running<S, View<V, T>, K, OneWorld<R>> {
     /// The row that takes a lock: it is run once the lock is found free, and what finds it held is no stride.
@@ -289,7 +282,10 @@ impl<S, V, T, K, R: Rows<S, V, T, K>> Running<S, View<V, T>, K, OneWorld<R>> {
             {
                 return true;
             }
-            let longest = time_left(rt, deadline);
+            let longest = match deadline {
+                Some(deadline) => time_left(rt, deadline),
+                None => Duration::ZERO,
+            };
             if longest.is_zero() {
                 return false;
             }
